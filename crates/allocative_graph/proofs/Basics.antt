@@ -1,0 +1,119 @@
+-- Small facts on tests, lists, paths and identities.
+use Rattle.std.proofs.Common.{◌≡◌, ℕ, Bool, true, false, ◌||◌, IsTrue, ◌⊎◌, inl, inr, List, [], ◌∷◌, ◌++◌, map, refl, sym, ap, subst, ◌∙◌, true≢false, Ordering, Less, Equal, Greater}
+use Rattle.std.specs.List.{list_any, AllByRecursion}
+use Rattle.std.specs.Cmp.{IsTotalOrder}
+use Rattle.std.specs.Ordering.{is_eq, ordering_then, nat_cmp}
+use Rattle.std.specs.Cmp.Lexicographic.{slice_cmp, lists_total, nat_list_cmp_total}
+use Rattle.std.specs.FinMap.{IsAntisymmetric, nat_cmp-IsAntisymmetric, slice_cmp-IsAntisymmetric}
+use Rattle.std.proofs.lemmas.Cmp.{on_total, eq_by_cmp_equiv}
+use Rattle.allocative_graph.specs.Path.{Path, path_cmp, is_same_path}
+use Rattle.allocative_graph.specs.Identity.{Identity, identity_cmp, is_same_identity}
+
+-- ---- tests
+pub or_cases : (a b : Bool) → IsTrue (a || b) → IsTrue a ⊎ IsTrue b
+or_cases true b h = inl refl
+or_cases false b h = inr h
+
+pub or_left : (a b : Bool) → IsTrue a → IsTrue (a || b)
+or_left true b h = refl
+or_left false b h = absurd (true≢false (sym h))
+
+pub or_right : (a b : Bool) → IsTrue b → IsTrue (a || b)
+or_right true b h = refl
+or_right false b h = h
+
+pub or_false_left : (a b : Bool) → (a || b) ≡ false → a ≡ false
+or_false_left true b h = absurd (true≢false h)
+or_false_left false b h = refl
+
+pub or_false_right : (a b : Bool) → (a || b) ≡ false → b ≡ false
+or_false_right true b h = absurd (true≢false h)
+or_false_right false b h = h
+
+pub both_ways : (a b : Bool) → (IsTrue a → IsTrue b) → (IsTrue b → IsTrue a) → a ≡ b
+both_ways true b f g = sym (f refl)
+both_ways false true f g = g refl
+both_ways false false f g = refl
+
+pub is_eq-Equal : (r : Ordering) → IsTrue (is_eq r) → r ≡ Equal
+is_eq-Equal Less h = absurd (true≢false (sym h))
+is_eq-Equal Equal h = refl
+is_eq-Equal Greater h = absurd (true≢false (sym h))
+
+-- ---- lists
+pub each-append : {X : Type 0} (P : X → Type 0) (xs ys : List X) → AllByRecursion P xs → AllByRecursion P ys → AllByRecursion P (xs ++ ys)
+each-append P [] ys h g = g
+each-append P (x ∷ xs) ys h g = (h.0, each-append P xs ys h.1 g)
+
+pub each-left : {X : Type 0} (P : X → Type 0) (xs ys : List X) → AllByRecursion P (xs ++ ys) → AllByRecursion P xs
+each-left P [] ys h = tt
+each-left P (x ∷ xs) ys h = (h.0, each-left P xs ys h.1)
+
+pub each-right : {X : Type 0} (P : X → Type 0) (xs ys : List X) → AllByRecursion P (xs ++ ys) → AllByRecursion P ys
+each-right P [] ys h = h
+each-right P (x ∷ xs) ys h = each-right P xs ys h.1
+
+pub each-implies : {X : Type 0} (P Q : X → Type 0) → ((x : X) → P x → Q x) → (xs : List X) → AllByRecursion P xs → AllByRecursion Q xs
+each-implies P Q f [] h = tt
+each-implies P Q f (x ∷ xs) h = (f x h.0, each-implies P Q f xs h.1)
+
+pub each-map : {X Y : Type 0} (P : Y → Type 0) (f : X → Y) (xs : List X) → AllByRecursion P (map f xs) → AllByRecursion (λ x. P (f x)) xs
+each-map P f [] h = tt
+each-map P f (x ∷ xs) h = (h.0, each-map P f xs h.1)
+
+pub each-found : {X : Type 0} (P : X → Type 0) (Q : Type 0) (test : X → Bool) → ((x : X) → P x → IsTrue (test x) → Q) → (xs : List X) → AllByRecursion P xs → IsTrue (list_any test xs) → Q
+each-found P Q test f [] h g = absurd (true≢false (sym g))
+each-found P Q test f (x ∷ xs) h g = elim (or_cases (test x) (list_any test xs) g) [ inl a ↦ f x h.0 a | inr b ↦ each-found P Q test f xs h.1 b ]
+
+-- ---- orders
+pub path_total : IsTotalOrder path_cmp
+path_total = lists_total nat_list_cmp_total
+
+pub path_antisymmetric : IsAntisymmetric path_cmp
+path_antisymmetric = slice_cmp-IsAntisymmetric (slice_cmp-IsAntisymmetric nat_cmp-IsAntisymmetric)
+
+pub same_path : (p q : Path) → IsTrue (is_same_path p q) → p ≡ q
+same_path p q h = path_antisymmetric p q (is_eq-Equal _ h)
+
+pub same_path_itself : (p : Path) → IsTrue (is_same_path p p)
+same_path_itself p = (eq_by_cmp_equiv path_total).refl p
+
+then_equal : (r : Ordering) → ordering_then r Equal ≡ r
+then_equal Less = refl
+then_equal Equal = refl
+then_equal Greater = refl
+
+-- the same order, by lists of two
+as_lists : Identity → Identity → Ordering
+as_lists i j = slice_cmp nat_cmp (i.maker ∷ i.number ∷ []) (j.maker ∷ j.number ∷ [])
+
+one_order : as_lists ≡ identity_cmp
+unfolding as_lists
+one_order = λ k i j. ordering_then (nat_cmp i.maker j.maker) (then_equal (nat_cmp i.number j.number) k)
+
+pub identity_total : IsTotalOrder identity_cmp
+unfolding as_lists
+identity_total = subst IsTotalOrder one_order (on_total (λ (i : Identity). i.maker ∷ i.number ∷ []) nat_list_cmp_total)
+
+first_of_list : List ℕ → ℕ
+first_of_list [] = 0
+first_of_list (x ∷ xs) = x
+
+second_of_list : List ℕ → ℕ
+second_of_list [] = 0
+second_of_list (x ∷ xs) = first_of_list xs
+
+pub identity_antisymmetric : IsAntisymmetric identity_cmp
+unfolding first_of_list second_of_list as_lists
+identity_antisymmetric i j e =
+    let p : ◌≡◌ {A = List ℕ} (i.maker ∷ i.number ∷ []) (j.maker ∷ j.number ∷ []) = slice_cmp-IsAntisymmetric nat_cmp-IsAntisymmetric (i.maker ∷ i.number ∷ []) (j.maker ∷ j.number ∷ []) (ap (λ (f : Identity → Identity → Ordering). f i j) one_order ∙ e) in
+    λ k. record { maker = first_of_list (p k); number = second_of_list (p k) }
+
+pub same_identity : (i j : Identity) → IsTrue (is_same_identity i j) → i ≡ j
+same_identity i j h = identity_antisymmetric i j (is_eq-Equal _ h)
+
+pub same_identity_itself : (i : Identity) → IsTrue (is_same_identity i i)
+same_identity_itself i = (eq_by_cmp_equiv identity_total).refl i
+
+pub same_identity_turned : (i j : Identity) → is_same_identity i j ≡ is_same_identity j i
+same_identity_turned i j = (eq_by_cmp_equiv identity_total).symm i j

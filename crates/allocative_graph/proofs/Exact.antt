@@ -1,0 +1,89 @@
+-- Lines dropped from a text are paths left out of it.
+use Rattle.std.proofs.Common.{◌≡◌, ◌≢◌, ℕ, ◌==◌, Bool, true, false, cond, not, List, [], ◌∷◌, ◌++◌, map, flat_map, filter, refl, ap, sym, ◌∙◌, append_assoc, append-nil, decimal, eqb-true, arith}
+use Rattle.std.specs.List.{AllByRecursion}
+use Rattle.std.specs.Ordering.{eq_by_cmp}
+use Rattle.std.specs.FinMap.{entries}
+use lib.Chars.{codes}
+use Rattle.allocative_graph.specs.Path.{Key, Path, key_cmp}
+use Rattle.allocative_graph.specs.Graph.{Graph, text, line, joined, Lacks, HasPlainKeys}
+use Rattle.allocative_graph.specs.Report.{ends_in, exact_text, lines_from, before_last, after_last, last_key, without_lines}
+use Rattle.allocative_graph.proofs.Text.{Plain, Sized, is_shown, full, body, shown_lines, full_body, body_lacks, decimal_lacks}
+
+differs : (b c : ℕ) → b ≢ c → (b == c) ≡ false
+differs b c h = by (b == c) refl
+  where
+    by : (t : Bool) → (b == c) ≡ t → t ≡ false
+    by true e = absurd (h (eqb-true b c e))
+    by false e = refl
+
+-- ---- the lines
+line_read : (acc a rest : List ℕ) → Lacks 10 a → lines_from acc (a ++ 10 ∷ rest) ≡ (acc ++ a) ∷ lines_from [] rest
+line_read acc [] rest h = λ i. sym (append-nil acc) i ∷ lines_from [] rest
+line_read acc (b ∷ a) rest h = ap (λ t. cond t (acc ∷ lines_from [] (a ++ 10 ∷ rest)) (lines_from (acc ++ b ∷ []) (a ++ 10 ∷ rest))) (differs b 10 h.0) ∙ line_read (acc ++ b ∷ []) a rest h.1 ∙ (λ i. append_assoc acc (b ∷ []) a i ∷ lines_from [] rest)
+
+lines_read : (es : List Sized) → AllByRecursion (λ e. AllByRecursion Plain e.0) es → lines_from [] (flat_map full es) ≡ map body es
+lines_read [] h = refl
+lines_read (e ∷ es) h = ap (lines_from []) (full_body e (flat_map full es)) ∙ line_read [] (body e) (flat_map full es) (body_lacks e h.0) ∙ (λ i. body e ∷ lines_read es h.1 i)
+
+-- ---- the last key
+none_before : (c : ℕ) (best acc d : List ℕ) → Lacks c d → before_last c best acc d ≡ best
+none_before c best acc [] h = refl
+none_before c best acc (b ∷ d) h = ap (λ t. cond t (before_last c acc (acc ++ b ∷ []) d) (before_last c best (acc ++ b ∷ []) d)) (differs b c h.0) ∙ none_before c best (acc ++ b ∷ []) d h.1
+
+same_cond : {A : Type 0} (t : Bool) (x y z : A) → x ≡ z → y ≡ z → cond t x y ≡ z
+same_cond true x y z p q = p
+same_cond false x y z p q = q
+
+before_read : (best acc x d : List ℕ) → Lacks 32 d → before_last 32 best acc (x ++ 32 ∷ d) ≡ acc ++ x
+before_read best acc [] d h = none_before 32 acc (acc ++ 32 ∷ []) d h ∙ sym (append-nil acc)
+before_read best acc (b ∷ x) d h = same_cond (b == 32) _ _ _ (before_read acc (acc ++ b ∷ []) x d h ∙ append_assoc acc (b ∷ []) x) (before_read best (acc ++ b ∷ []) x d h ∙ append_assoc acc (b ∷ []) x)
+
+after_skip : (acc a x : List ℕ) → after_last 59 acc (a ++ 59 ∷ x) ≡ after_last 59 [] x
+after_skip acc [] x = refl
+after_skip acc (b ∷ a) x = same_cond (b == 59) _ _ _ (after_skip [] a x) (after_skip (acc ++ b ∷ []) a x)
+
+after_read : (acc a : List ℕ) → Lacks 59 a → after_last 59 acc a ≡ acc ++ a
+after_read acc [] h = sym (append-nil acc)
+after_read acc (b ∷ a) h = ap (λ t. cond t (after_last 59 [] a) (after_last 59 (acc ++ b ∷ []) a)) (differs b 59 h.0) ∙ after_read (acc ++ b ∷ []) a h.1 ∙ append_assoc acc (b ∷ []) a
+
+last_of : (key k : Key) (p : Path) → AllByRecursion Plain (k ∷ p) → eq_by_cmp key_cmp key (after_last 59 [] (joined (k ∷ p))) ≡ ends_in key (k ∷ p)
+last_of key k [] h = ap (eq_by_cmp key_cmp key) (after_read [] k h.0.0)
+last_of key k (l ∷ p) h = ap (eq_by_cmp key_cmp key) (after_skip [] k (joined (l ∷ p))) ∙ last_of key l p h.1
+
+last_key_of : (key k : Key) (p : Path) (n : ℕ) → AllByRecursion Plain (k ∷ p) → eq_by_cmp key_cmp key (last_key (body (k ∷ p, n))) ≡ ends_in key (k ∷ p)
+last_key_of key k p n h = ap (λ l. eq_by_cmp key_cmp key (after_last 59 [] l)) (before_read [] [] (joined (k ∷ p)) (decimal n) (decimal_lacks 32 n (omega arith))) ∙ last_of key k p h
+
+-- ---- all lines
+drop_each : (key : Key) (es : List Sized) → AllByRecursion (λ e. AllByRecursion Plain e.0) es → flat_map (λ e. cond (ends_in key e.0) [] (line e)) es ≡ flat_map (λ l. cond (eq_by_cmp key_cmp key (last_key l)) [] (l ++ 10 ∷ [])) (map body (filter is_shown es))
+drop_each key [] h = refl
+drop_each key (([], n) ∷ es) h = drop_each key es h.1
+drop_each key ((k ∷ p, n) ∷ es) h = by (n == 0) (drop_each key es h.1)
+  where
+    rest_of : List ℕ
+    rest_of = flat_map (λ l. cond (eq_by_cmp key_cmp key (last_key l)) [] (l ++ 10 ∷ [])) (map body (filter is_shown es))
+
+    by : (z : Bool) → flat_map (λ e. cond (ends_in key e.0) [] (line e)) es ≡ rest_of → cond (ends_in key (k ∷ p)) [] (cond z [] (full (k ∷ p, n))) ++ flat_map (λ e. cond (ends_in key e.0) [] (line e)) es ≡ flat_map (λ l. cond (eq_by_cmp key_cmp key (last_key l)) [] (l ++ 10 ∷ [])) (map body (cond (not z) ((k ∷ p, n) ∷ filter is_shown es) (filter is_shown es)))
+    by true rest = nothing (ends_in key (k ∷ p)) ∙ rest
+      where
+        nothing : (t : Bool) → cond t [] [] ++ flat_map (λ e. cond (ends_in key e.0) [] (line e)) es ≡ flat_map (λ e. cond (ends_in key e.0) [] (line e)) es
+        nothing true = refl
+        nothing false = refl
+    by false rest = (λ i. cond (sym (last_key_of key k p n h.0) i) [] (full (k ∷ p, n)) ++ rest i)
+
+each_kept : (es : List Sized) → AllByRecursion (λ p. AllByRecursion Plain p) (map (λ e. e.0) es) → AllByRecursion (λ e. AllByRecursion Plain e.0) es
+each_kept [] h = tt
+each_kept (e ∷ es) h = (h.0, each_kept es h.1)
+
+each_filtered : (es : List Sized) → AllByRecursion (λ e. AllByRecursion Plain e.0) es → AllByRecursion (λ e. AllByRecursion Plain e.0) (filter is_shown es)
+each_filtered [] h = tt
+each_filtered (e ∷ es) h = by (is_shown e) (each_filtered es h.1)
+  where
+    by : (t : Bool) → AllByRecursion (λ e. AllByRecursion Plain e.0) (filter is_shown es) → AllByRecursion (λ e. AllByRecursion Plain e.0) (cond t (e ∷ filter is_shown es) (filter is_shown es))
+    by true rest = (h.0, rest)
+    by false rest = rest
+
+pub exact_is : (g : Graph) → HasPlainKeys g → exact_text g ≡ without_lines (codes "unused_capacity") (text g)
+exact_is g h =
+    let plain = each_kept (entries g) h in
+    drop_each (codes "unused_capacity") (entries g) plain
+    ∙ ap (flat_map (λ l. cond (eq_by_cmp key_cmp (codes "unused_capacity") (last_key l)) [] (l ++ 10 ∷ []))) (sym (ap (lines_from []) (shown_lines (entries g)) ∙ lines_read (filter is_shown (entries g)) (each_filtered (entries g) plain)))

@@ -1,0 +1,114 @@
+-- One forest and then another: its entries, its contents, and what it fits.
+use Rattle.std.proofs.Common.{◌≡◌, Bool, true, false, ◌||◌, IsTrue, List, [], ◌∷◌, ◌++◌, map, flat_map, refl, ap, sym, ◌∙◌, subst, append_assoc, IsPermutation}
+use Rattle.std.specs.FinSet.{contains, insert, contains-insert}
+use Rattle.std.proofs.lemmas.List.{map-append}
+use Rattle.std.proofs.lemmas.Grind.{flat_map-append}
+use Rattle.std.proofs.lemmas.List.Sorted.{IsPermutation-append_left, IsPermutation-append_right, IsPermutation-append_comm}
+use Rattle.allocative_graph.specs.Path.{Path}
+use Rattle.allocative_graph.specs.Identity.{Identities, Identity, is_same_identity}
+use Rattle.allocative_graph.specs.Forest.{Forest, Empty, Inline, Unique, First, Again, AsInline, AsUnique, AsShared, Bag, own_behind, contents, content_entries, shown, followed_by, insert_all, met_after, Fits}
+use Rattle.allocative_graph.specs.Meaning.{is_among}
+use Rattle.allocative_graph.specs.Collector.{added}
+use Rattle.allocative_graph.proofs.Basics.{or_left, or_right, identity_total, same_identity_itself}
+use Rattle.allocative_graph.proofs.Reach.{Contents, ids, insert_all-append, met-append, among-append}
+
+pub own-following : (p : Path) (f g : Forest) → own_behind p (followed_by f g) ≡ own_behind p f ++ own_behind p g
+own-following p Empty g = refl
+own-following p (Inline k n f after) g = λ i. record { path = p ++ k ∷ []; size = n; mark = AsInline } ∷ (ap (λ b. own_behind (p ++ k ∷ []) f ++ b) (own-following p after g) ∙ sym (append_assoc (own_behind (p ++ k ∷ []) f) (own_behind p after) (own_behind p g))) i
+own-following p (Unique k n f after) g = λ i. record { path = p ++ k ∷ []; size = n; mark = AsUnique } ∷ (ap (λ b. own_behind (p ++ k ∷ []) f ++ b) (own-following p after g) ∙ sym (append_assoc (own_behind (p ++ k ∷ []) f) (own_behind p after) (own_behind p g))) i
+own-following p (First k n j f after) g = λ i. record { path = p ++ k ∷ []; size = n; mark = AsShared j } ∷ own-following p after g i
+own-following p (Again k n j after) g = λ i. record { path = p ++ k ∷ []; size = n; mark = AsShared j } ∷ own-following p after g i
+
+pub contents-following : (f g : Forest) → contents (followed_by f g) ≡ contents f ++ contents g
+contents-following Empty g = refl
+contents-following (Inline k n f after) g = ap (λ b. contents f ++ b) (contents-following after g) ∙ sym (append_assoc (contents f) (contents after) (contents g))
+contents-following (Unique k n f after) g = ap (λ b. contents f ++ b) (contents-following after g) ∙ sym (append_assoc (contents f) (contents after) (contents g))
+contents-following (First k n j f after) g = λ i. (j, own_behind [] f) ∷ (ap (λ b. contents f ++ b) (contents-following after g) ∙ sym (append_assoc (contents f) (contents after) (contents g))) i
+contents-following (Again k n j after) g = contents-following after g
+
+pub shown-following : (f g : Forest) → shown (followed_by f g) ≡ shown f ++ shown g
+shown-following f g = ap (map (λ c. c.0)) (contents-following f g) ∙ map-append (λ c. c.0) (contents f) (contents g)
+
+pub met-following : (s : Identities) (f g : Forest) → met_after s (followed_by f g) ≡ met_after (met_after s f) g
+met-following s f g = ap (insert_all s) (shown-following f g) ∙ insert_all-append s (shown f) (shown g)
+
+pub content_entries-following : (f g : Forest) → content_entries (followed_by f g) ≡ content_entries f ++ content_entries g
+content_entries-following f g = ap (flat_map (λ c. c.1)) (contents-following f g) ∙ flat_map-append (λ c. c.1) (contents f) (contents g)
+
+across : (a b c d : Bag) → IsPermutation ((a ++ b) ++ (c ++ d)) ((a ++ c) ++ (b ++ d))
+across a b c d = subst (λ x. IsPermutation x ((a ++ c) ++ (b ++ d))) (sym (append_assoc a b (c ++ d))) (subst (IsPermutation (a ++ (b ++ (c ++ d)))) (sym (append_assoc a c (b ++ d)))
+    (IsPermutation-append_right a _ _ (subst (λ x. IsPermutation x (c ++ (b ++ d))) (append_assoc b c d) (subst (IsPermutation ((b ++ c) ++ d)) (append_assoc c b d) (IsPermutation-append_left d (b ++ c) (c ++ b) (IsPermutation-append_comm b c))))))
+
+pub added-following : (p : Path) (f g : Forest) → IsPermutation (added p (followed_by f g)) (added p f ++ added p g)
+added-following p f g = subst (λ x. IsPermutation x (added p f ++ added p g)) (λ i. sym (own-following p f g) i ++ sym (content_entries-following f g) i)
+    (across (own_behind p f) (own_behind p g) (content_entries f) (content_entries g))
+
+-- ---- fitting
+pub fits-first : (s : Identities) (f g : Forest) → Fits s (followed_by f g) → Fits s f
+fits-first s Empty g w = tt
+fits-first s (Inline k n f after) g w = (w.0, fits-first (met_after s f) after g w.1)
+fits-first s (Unique k n f after) g w = (w.0, fits-first (met_after s f) after g w.1)
+fits-first s (First k n j f after) g w = (w.0, w.1, fits-first (met_after (insert s j) f) after g w.2)
+fits-first s (Again k n j after) g w = (w.0, fits-first s after g w.1)
+
+pub fits-second : (s : Identities) (f g : Forest) → Fits s (followed_by f g) → Fits (met_after s f) g
+fits-second s Empty g w = w
+fits-second s (Inline k n f after) g w = subst (λ t. Fits t g) (sym (met-append s (contents f) (contents after))) (fits-second (met_after s f) after g w.1)
+fits-second s (Unique k n f after) g w = subst (λ t. Fits t g) (sym (met-append s (contents f) (contents after))) (fits-second (met_after s f) after g w.1)
+fits-second s (First k n j f after) g w = subst (λ t. Fits t g) (sym (met-append (insert s j) (contents f) (contents after))) (fits-second (met_after (insert s j) f) after g w.2)
+fits-second s (Again k n j after) g w = fits-second s after g w.1
+
+pub fits-both : (s : Identities) (f g : Forest) → Fits s f → Fits (met_after s f) g → Fits s (followed_by f g)
+fits-both s Empty g v w = w
+fits-both s (Inline k n f after) g v w = (v.0, fits-both (met_after s f) after g v.1 (subst (λ t. Fits t g) (met-append s (contents f) (contents after)) w))
+fits-both s (Unique k n f after) g v w = (v.0, fits-both (met_after s f) after g v.1 (subst (λ t. Fits t g) (met-append s (contents f) (contents after)) w))
+fits-both s (First k n j f after) g v w = (v.0, v.1, fits-both (met_after (insert s j) f) after g v.2 (subst (λ t. Fits t g) (met-append (insert s j) (contents f) (contents after)) w))
+fits-both s (Again k n j after) g v w = (v.0, fits-both s after g v.1 w)
+
+-- ---- a set with more identities, of which none is shown
+module _ (more : Identity → Bool) where
+  or_turn : (a b c : Bool) → ((a || b) || c) ≡ ((a || c) || b)
+  or_turn true b c = refl
+  or_turn false true true = refl
+  or_turn false true false = refl
+  or_turn false false true = refl
+  or_turn false false false = refl
+
+  or_assoc : (a b c : Bool) → (a || (b || c)) ≡ ((a || b) || c)
+  or_assoc true b c = refl
+  or_assoc false b c = refl
+
+  abbrev pub HasMore : Identities → Identities → Type 0
+  HasMore s t = (i : Identity) → contains t i ≡ (contains s i || more i)
+
+  more-insert : (s t : Identities) (j : Identity) → HasMore s t → HasMore (insert s j) (insert t j)
+  more-insert s t j h i = contains-insert identity_total t j i ∙ ap (λ b. is_same_identity i j || b) (h i) ∙ or_assoc (is_same_identity i j) (contains s i) (more i) ∙ ap (λ b. b || more i) (sym (contains-insert identity_total s j i))
+
+  more-insert_all : (s t : Identities) (is : List Identity) → HasMore s t → HasMore (insert_all s is) (insert_all t is)
+  more-insert_all s t [] h = h
+  more-insert_all s t (i ∷ is) h = more-insert_all (insert s i) (insert t i) is (more-insert s t i h)
+
+  abbrev pub Apart : List Identity → Type 0
+  Apart is = (i : Identity) → IsTrue (is_among i is) → more i ≡ false
+
+  left : (cs ds : Contents) → Apart (ids (cs ++ ds)) → Apart (ids cs)
+  left cs ds a i h = a i (among-append i cs ds ∙ or_left _ (is_among i (ids ds)) h)
+
+  right : (cs ds : Contents) → Apart (ids (cs ++ ds)) → Apart (ids ds)
+  right cs ds a i h = a i (among-append i cs ds ∙ or_right (is_among i (ids cs)) _ h)
+
+  tail : (j : Identity) (is : List Identity) → Apart (j ∷ is) → Apart is
+  tail j is a i h = a i (or_right (is_same_identity i j) _ h)
+
+  pub fits_more : (s t : Identities) (f : Forest) → HasMore s t → Apart (shown f) → Fits s f → Fits t f
+  fits_more s t Empty h a w = tt
+  fits_more s t (Inline k n f after) h a w = (fits_more s t f h (left (contents f) (contents after) a) w.0, fits_more (met_after s f) (met_after t f) after (more-insert_all s t (shown f) h) (right (contents f) (contents after) a) w.1)
+  fits_more s t (Unique k n f after) h a w = (fits_more s t f h (left (contents f) (contents after) a) w.0, fits_more (met_after s f) (met_after t f) after (more-insert_all s t (shown f) h) (right (contents f) (contents after) a) w.1)
+  fits_more s t (First k n j f after) h a w =
+      let b = tail j (ids (contents f ++ contents after)) a in
+      let up = more-insert s t j h in (
+        h j ∙ ap (λ c. c || more j) w.0 ∙ a j (or_left _ (is_among j (ids (contents f ++ contents after))) (same_identity_itself j)),
+        fits_more (insert s j) (insert t j) f up (left (contents f) (contents after) b) w.1,
+        fits_more (met_after (insert s j) f) (met_after (insert t j) f) after (more-insert_all (insert s j) (insert t j) (shown f) up) (right (contents f) (contents after) b) w.2,
+      )
+  fits_more s t (Again k n j after) h a w = (h j ∙ or_left _ (more j) w.0, fits_more s t after h a w.1)

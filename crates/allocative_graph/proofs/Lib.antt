@@ -1,0 +1,30 @@
+pub mod Basics
+pub mod Computed
+pub mod Rows
+pub mod Reach
+pub mod Lookups
+pub mod Order
+pub mod Following
+pub mod Below
+pub mod Closed
+pub mod Merge
+pub mod Text
+pub mod Plus
+pub mod PathOrder
+pub mod Listing
+pub mod Graphs
+pub mod Exact
+pub mod RowSums
+pub mod NodeText
+pub mod NodeSizes
+pub mod ChildOrder
+pub mod ChildSums
+pub mod ChildRows
+pub mod ChildPut
+pub mod ChildLookup
+pub mod ChildMerge
+pub mod ChildClosed
+pub mod OneMeaning
+pub mod ChildMerged
+mod Loans
+mod Walks

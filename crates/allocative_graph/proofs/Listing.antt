@@ -1,0 +1,12 @@
+-- The entries of a map are those of a list in order that answers alike.
+use Rattle.std.proofs.Common.{◌≡◌, T, List, sym, ap, ◌∙◌}
+use Rattle.std.specs.FinMap.{FinMap, get, entries, from_sorted, from_entries, get-from_sorted, get-from_entries, entries-from_sorted, same_map}
+use Rattle.std.specs.FinMap.Entries.{find, is_sorted}
+use Rattle.allocative_graph.specs.Path.{Path, path_cmp}
+use Rattle.allocative_graph.proofs.Basics.{path_total, path_antisymmetric}
+
+pub entries_are : {X : Type 0} (m : FinMap path_cmp X) (es : List (Path × X)) → T (is_sorted path_cmp es) → ((q : Path) → get m q ≡ find path_cmp q es) → entries m ≡ es
+entries_are m es h same = ap entries (same_map path_total path_antisymmetric m (from_sorted es) (λ q. same q ∙ sym (get-from_sorted path_cmp es q h))) ∙ entries-from_sorted path_cmp es h
+
+pub entries-from_entries-sorted : {X : Type 0} (es : List (Path × X)) → T (is_sorted path_cmp es) → entries (from_entries {R = path_cmp} es) ≡ es
+entries-from_entries-sorted es h = entries_are (from_entries es) es h (get-from_entries path_total es)

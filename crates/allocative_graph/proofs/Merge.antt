@@ -1,0 +1,124 @@
+-- Where nothing is reached by both and the sums can be added, the graphs add up.
+use Rattle.std.proofs.Common.{◌≡◌, ℕ, ◌+◌, ◌-◌, ◌≤◌, Bool, true, false, cond, ◌||◌, IsTrue, ◌⊎◌, inl, inr, List, [], ◌∷◌, ◌++◌, map, Option, Some, None, is_some, refl, ap, sym, ◌∙◌, true≢false, arith, unwrap_or}
+use Rattle.std.specs.Option.{option_map}
+use Rattle.std.specs.List.{list_any}
+use Rattle.std.specs.FinMap.{get, entries, keys, empty, get-entries, get-from_entries, contains_key-keys, same_map}
+use Rattle.std.specs.FinMap.Entries.{find}
+use Rattle.std.specs.FinSet as set
+use Rattle.std.proofs.lemmas.List.Folds.{list_any-append}
+use Rattle.allocative_graph.specs.Path.{Key, Path, path_cmp, is_same_path}
+use Rattle.allocative_graph.specs.Identity.{Identity}
+use Rattle.allocative_graph.specs.Forest.{Forest, all, shown, followed_by, met_after}
+use Rattle.allocative_graph.specs.Meaning.{is_among, IsWhole, ReachApart}
+use Rattle.allocative_graph.specs.Sums.{Node, Sums, is_entered_in, add_all, sums_of, below}
+use Rattle.allocative_graph.specs.Graph.{Graph, graph, sizes, remaining, size_at, sum_of, CanBeAdded}
+use Rattle.allocative_graph.proofs.Basics.{path_total, path_antisymmetric, same_path}
+use Rattle.allocative_graph.proofs.Reach.{reaches_exactly, contains-insert_all}
+use Rattle.allocative_graph.proofs.Lookups.{merge, get-add_all, get-sums_of, add_all-permutation, add_all-append}
+use Rattle.allocative_graph.proofs.Below.{below-add_all, below-sums_of}
+use Rattle.allocative_graph.proofs.Closed.{absent_below, not_true}
+use Rattle.allocative_graph.proofs.Following.{fits-both, fits_more, added-following}
+
+-- ---- what a graph has at a path
+find-mapped : {X Y : Type 0} (r : Path → X → Y) (es : List (Path × X)) (q : Path) → find path_cmp q (map (λ e. (e.0, r e.0 e.1)) es) ≡ option_map (r q) (find path_cmp q es)
+find-mapped r [] q = refl
+find-mapped {X} {Y} r (e ∷ es) q = by (is_same_path q e.0) refl (find-mapped r es q)
+  where
+    by : (t : Bool) → is_same_path q e.0 ≡ t → find path_cmp q (map (λ e. (e.0, r e.0 e.1)) es) ≡ option_map (r q) (find path_cmp q es) → cond t (Some (r e.0 e.1)) (find path_cmp q (map (λ e. (e.0, r e.0 e.1)) es)) ≡ option_map (r q) (cond t (Some e.1) (find path_cmp q es))
+    by true h rest = ap (λ p. Some (r p e.1)) (sym (same_path q e.0 h))
+    by false h rest = rest
+
+pub get-graph : (s : Sums) (k : Key) (p : Path) → get (graph s) (k ∷ p) ≡ option_map (remaining s (k ∷ p)) (get s (k ∷ p))
+get-graph s k p = get-from_entries path_total (sizes s) (k ∷ p) ∙ find-mapped (remaining s) (entries s) (k ∷ p) ∙ ap (option_map (remaining s (k ∷ p))) (sym (get-entries s (k ∷ p)))
+
+pub get-graph-root : (s : Sums) → get (graph s) [] ≡ Some 0
+get-graph-root s = get-from_entries path_total (sizes s) []
+
+find-keys : {Y : Type 0} (v : Path → Y) (ks : List Path) (q : Path) → find path_cmp q (map (λ p. (p, v p)) ks) ≡ cond (list_any (is_same_path q) ks) (Some (v q)) None
+find-keys v [] q = refl
+find-keys v (k ∷ ks) q = by (is_same_path q k) refl (find-keys v ks q)
+  where
+    by : (t : Bool) → is_same_path q k ≡ t → find path_cmp q (map (λ p. (p, v p)) ks) ≡ cond (list_any (is_same_path q) ks) (Some (v q)) None → cond t (Some (v k)) (find path_cmp q (map (λ p. (p, v p)) ks)) ≡ cond (t || list_any (is_same_path q) ks) (Some (v q)) None
+    by true h rest = ap (λ p. Some (v p)) (sym (same_path q k h))
+    by false h rest = rest
+
+pub get-sum_of : (g h : Graph) (q : Path) → get (sum_of g h) q ≡ cond (is_some (get g q) || is_some (get h q)) (Some (size_at g q + size_at h q)) None
+get-sum_of g h q = get-from_entries path_total _ q ∙ find-keys (λ p. size_at g p + size_at h p) (keys g ++ keys h) q
+    ∙ ap (λ b. cond b (Some (size_at g q + size_at h q)) None) (list_any-append (is_same_path q) (keys g) (keys h) ∙ (λ i. sym (contains_key-keys g q) i || sym (contains_key-keys h q) i))
+
+-- ---- at one path
+abbrev rest_of : ℕ → Node → ℕ
+rest_of under m = cond m.is_unique m.bytes (m.bytes - under)
+
+abbrev Fit : ℕ → ℕ → Node → Node → Type 0
+Fit a b m n = (m.is_unique ≡ n.is_unique) × (m.is_unique ≡ false → (a ≤ m.bytes) × (b ≤ n.bytes) ⊎ (m.bytes ≤ a) × (n.bytes ≤ b))
+
+differences : (a b m n : ℕ) → (a ≤ m) × (b ≤ n) ⊎ (m ≤ a) × (n ≤ b) → (m - a) + (n - b) ≡ (m + n) - (a + b)
+differences a b m n (inl h) = omega (arith, h.0, h.1)
+differences a b m n (inr h) = omega (arith, h.0, h.1)
+
+two_nodes : (a b m n : ℕ) (u v : Bool) → u ≡ v → (u ≡ false → (a ≤ m) × (b ≤ n) ⊎ (m ≤ a) × (n ≤ b)) → cond u m (m - a) + cond v n (n - b) ≡ cond (u || v) (m + n) ((m + n) - (a + b))
+two_nodes a b m n true true e f = refl
+two_nodes a b m n true false e f = absurd (true≢false e)
+two_nodes a b m n false true e f = absurd (true≢false (sym e))
+two_nodes a b m n false false e f = differences a b m n (f refl)
+
+one_node : (a b m : ℕ) (u : Bool) → b ≡ 0 → cond u m (m - a) + 0 ≡ cond u m (m - (a + b))
+one_node a b m true e = omega arith
+one_node a b m false e = omega (arith, e)
+
+other_node : (a b m : ℕ) (u : Bool) → a ≡ 0 → 0 + cond u m (m - b) ≡ cond u m (m - (a + b))
+other_node a b m true e = omega arith
+other_node a b m false e = omega (arith, e)
+
+at_path : (a b : ℕ) (x y : Option Node) → (x ≡ None → a ≡ 0) → (y ≡ None → b ≡ 0) → ((m n : Node) → x ≡ Some m → y ≡ Some n → Fit a b m n)
+    → cond (is_some (option_map (rest_of a) x) || is_some (option_map (rest_of b) y)) (Some (unwrap_or (option_map (rest_of a) x) 0 + unwrap_or (option_map (rest_of b) y) 0)) None ≡ option_map (rest_of (a + b)) (merge x y)
+at_path a b None None f g h = refl
+at_path a b None (Some n) f g h = ap Some (other_node a b n.bytes n.is_unique (f refl))
+at_path a b (Some m) None f g h = ap Some (one_node a b m.bytes m.is_unique (g refl))
+at_path a b (Some m) (Some n) f g h = let w = h m n refl refl in ap Some (two_nodes a b m.bytes n.bytes m.is_unique n.is_unique w.0 w.1)
+
+no_node : (t : Bool) (n : Node) → ◌≡◌ {A = Option Node} (cond t (Some n) None) None → t ≡ false
+no_node true n e = absurd (true≢false (ap is_some e))
+no_node false n e = refl
+
+absent_sums : (f : Forest) (k : Key) (p : Path) → get (sums_of (all f)) (k ∷ p) ≡ None → below (sums_of (all f)) (k ∷ p) ≡ 0
+absent_sums f k p h = below-sums_of (all f) (k ∷ p) ∙ absent_below f k p (no_node (is_entered_in (all f) (k ∷ p)) _ (sym (get-sums_of (all f) (k ∷ p)) ∙ h))
+
+pub sums_following : (f g : Forest) → sums_of (all (followed_by f g)) ≡ add_all (sums_of (all f)) (all g)
+sums_following f g = add_all-permutation empty _ _ (added-following [] f g) ∙ add_all-append empty (all f) (all g)
+
+pub graphs_add : (f g : Forest) → CanBeAdded (sums_of (all f)) (sums_of (all g)) → sum_of (graph (sums_of (all f))) (graph (sums_of (all g))) ≡ graph (sums_of (all (followed_by f g)))
+graphs_add f g can = same_map path_total path_antisymmetric _ _ each
+  where
+    s : Sums
+    s = sums_of (all f)
+
+    t : Sums
+    t = sums_of (all g)
+
+    combined : Option ℕ → Option ℕ → Option ℕ
+    combined x y = cond (is_some x || is_some y) (Some (unwrap_or x 0 + unwrap_or y 0)) None
+
+    u : Sums
+    u = add_all s (all g)
+
+    below_both : (q : Path) → below s q + below t q ≡ below u q
+    below_both q = ap (λ n. below s q + n) (below-sums_of (all g) q) ∙ sym (below-add_all s (all g) q)
+
+    node_both : (q : Path) → merge (get s q) (get t q) ≡ get u q
+    node_both q = ap (merge (get s q)) (get-sums_of (all g) q) ∙ sym (get-add_all s (all g) q)
+
+    each : (q : Path) → get (sum_of (graph s) (graph t)) q ≡ get (graph (sums_of (all (followed_by f g)))) q
+    each [] = get-sum_of (graph s) (graph t) [] ∙ (λ i. combined (get-graph-root s i) (get-graph-root t i)) ∙ sym (get-graph-root (sums_of (all (followed_by f g))))
+    each (k ∷ p) =
+        get-sum_of (graph s) (graph t) (k ∷ p) ∙ (λ i. combined (get-graph s k p i) (get-graph t k p i))
+        ∙ at_path (below s (k ∷ p)) (below t (k ∷ p)) (get s (k ∷ p)) (get t (k ∷ p)) (absent_sums f k p) (absent_sums g k p) (can (k ∷ p))
+        ∙ (λ i. option_map (rest_of (below_both (k ∷ p) i)) (node_both (k ∷ p) i))
+        ∙ sym (get-graph u k p) ∙ ap (λ x. get (graph x) (k ∷ p)) (sym (sums_following f g))
+
+pub whole_following : (f g : Forest) → IsWhole f → IsWhole g → ReachApart f g → IsWhole (followed_by f g)
+whole_following f g v w apart = fits-both set.empty f g v (fits_more (λ i. is_among i (shown f)) set.empty (met_after set.empty f) g (contains-insert_all set.empty (shown f)) away w)
+  where
+    away : (i : Identity) → IsTrue (is_among i (shown g)) → is_among i (shown f) ≡ false
+    away i h = not_true _ (λ there. apart i ((reaches_exactly f v i).0 there) ((reaches_exactly g w i).0 h))

@@ -1,0 +1,37 @@
+use Rattle.std.proofs.Common.{◌+◌, [], ap, sym, ◌∙◌, arith}
+use Rattle.std.specs.FinMap.{insert}
+use Rattle.allocative_graph.specs.Graph.{total, size_at}
+use Rattle.allocative_graph.proofs.NodeSizes.{total-node, node-insert, size_at-root}
+use Rattle.allocative_graph.proofs.flamegraph.FlameGraph.add_self.Goals as goal
+
+pub overflow_add-self : goal.overflow_add-self
+overflow_add-self c =
+    let n = c.self.inside.node_size in
+    let cs = c.self.inside.children.items in
+    let e = total-node n cs c.self.invariant.sorted in
+    let v = ap total c.self.view_is in
+    omega (arith, e, v, c.total_size.ensures, c.if-size-total_size.false)
+
+pub invariant_of-self : goal.invariant_of-self
+invariant_of-self c =
+    let n = c.self.inside.node_size in
+    let cs = c.self.inside.children.items in
+    let e = total-node n cs c.self.invariant.sorted in
+    let v = ap total c.self.view_is in
+    record {
+      exact = c.self.invariant.exact;
+      fits = omega (arith, e, v, c.total_size.ensures, c.if-size-total_size.false, c.self.invariant.exact);
+      sorted = c.self.invariant.sorted;
+      closed = c.self.invariant.closed;
+    }
+
+pub returns : goal.returns
+returns c =
+    let n = c.self.inside.node_size in
+    let cs = c.self.inside.children.items in
+    let root = ap (λ g. size_at g []) (sym c.self.view_is) ∙ size_at-root n cs c.self.invariant.sorted in (
+      omega (arith, c.total_size.ensures, c.if-size-total_size.false),
+      node-insert n (n + c.args.size) cs c.self.invariant.sorted
+          ∙ ap (λ g. insert g [] (n + c.args.size)) c.self.view_is
+          ∙ ap (λ m. insert c.args.self.now [] (m + c.args.size)) (sym root),
+    )

@@ -1,0 +1,33 @@
+use Rattle.std.proofs.lemmas.List.{take_all}
+use Rattle.allocative_graph.specs.Graph.{joined}
+use Rattle.allocative_graph.proofs.RowSums.{joined-keys}
+use Rattle.std.proofs.Common.{ℕ, List, Bor, sym, ap, ◌∙◌, append_assoc, ◌≡◌, ◌+◌, ◌++◌, [], ◌∷◌, get_or, take, arith}
+use Rattle.std.specs.Prelude.{string_bytes}
+use Rattle.allocative_graph.specs.Parts.{joined_on}
+use Rattle.allocative_graph.proofs.NodeText.{joined_more, texts}
+use Rattle.allocative_graph.proofs.flamegraph.push_path.Goals as goal
+
+pub loop-key-preserved : goal.loop-key-preserved
+unfolding lib.Utf8.encode
+loop-key-preserved c =
+    let ks = c.in-Some.rest.now in
+    let i = c.loop-key.key-index in
+    let e = joined_more (string_bytes c.push_str.new.self) ks i (record { ref_ptr = (0, 0); now = [] }) (omega arith) in
+    let one : string_bytes c.push.new.self ≡ string_bytes c.loop-key.text ++ 59 ∷ [] = c.in_ok-push.ensures.bytes in
+    let two : string_bytes c.push_str-in-loop-key.new.self ≡ string_bytes c.push.new.self ++ (get_or ks i (record { ref_ptr = (0, 0); now = [] })).now = c.in_ok-push_str-2.ensures.bytes in
+    let was : string_bytes c.loop-key.text ≡ string_bytes c.push_str.new.self ++ joined_on (texts (take i ks)) = c.loop-key.invariant in
+    let goes : string_bytes c.push_str-in-loop-key.new.self ≡ string_bytes c.push_str.new.self ++ joined_on (texts (take (i + 1) ks)) = cc in goes
+
+pub returns : goal.returns
+returns c =
+    let ks = c.in-Some.rest.now in
+    let i = c.loop-key.key-index in
+    let start = string_bytes c.args.text.now in
+    let was : string_bytes c.loop-key.text ≡ string_bytes c.push_str.new.self ++ joined_on (texts (take i ks)) = c.loop-key.invariant in
+    let all : take i ks ≡ ks = take_all i ks (omega arith) in
+    let first : string_bytes c.push_str.new.self ≡ start ++ c.in-Some.first.now.now = c.in_ok-push_str.ensures.bytes in
+    was ∙ ap (λ (s : List (Bor (List ℕ))). string_bytes c.push_str.new.self ++ joined_on (texts s)) all
+    ∙ ap (λ s. s ++ joined_on (texts ks)) first
+    ∙ append_assoc start c.in-Some.first.now.now (joined_on (texts ks))
+    ∙ ap (λ s. start ++ s) (sym (joined-keys c.in-Some.first.now.now (texts ks)))
+    ∙ ap (λ (s : List (Bor (List ℕ))). start ++ joined (texts s)) (sym c.in-Some.ensures.cases.0)

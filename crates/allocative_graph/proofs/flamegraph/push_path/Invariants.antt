@@ -1,0 +1,7 @@
+use Rattle.std.proofs.Common.{◌≡◌, ◌++◌, map, take}
+use Rattle.std.specs.Prelude.{string_bytes}
+use Rattle.allocative_graph.specs.Parts.{joined_on}
+use Rattle.allocative_graph.proofs.flamegraph.push_path.Given as goal
+
+abbrev pub invariant-loop-key : goal.invariant-loop-key
+invariant-loop-key l = string_bytes l.text ≡ string_bytes l.initial.text ++ joined_on (map (λ k. k.now) (take l.key-index l.rest))

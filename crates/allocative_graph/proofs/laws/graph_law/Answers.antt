@@ -1,0 +1,7 @@
+-- By the entries of the sums.
+use Rattle.allocative_graph.proofs.Merge.{get-graph, get-graph-root}
+use Rattle.allocative_graph.proofs.Graphs.{graph-tree}
+use Rattle.allocative_graph.proofs.laws.graph_law.Goals as goal
+
+pub returns : goal.returns
+returns c s f k p = record { root = get-graph-root s; paths = get-graph s k p; is_tree = graph-tree f }

@@ -1,0 +1,12 @@
+-- Path by path.
+use Rattle.allocative_graph.proofs.Graphs.{total-sum_of, sum_of-commutes, sum_of-associates, sum_of-default, total-under}
+use Rattle.allocative_graph.proofs.laws.graph_sums_law.Goals as goal
+
+pub returns : goal.returns
+returns c g h i k = record {
+  same_total = total-sum_of g h;
+  commutes = sum_of-commutes g h;
+  associates = sum_of-associates g h i;
+  unchanged = sum_of-default g;
+  under_total = total-under k g;
+}

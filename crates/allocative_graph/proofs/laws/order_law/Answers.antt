@@ -1,0 +1,13 @@
+-- The entries of both are one bag, so their sums are one map.
+use Rattle.std.proofs.Common.{ap}
+use Rattle.allocative_graph.specs.Graph.{graph, text, warnings}
+use Rattle.allocative_graph.proofs.Order.{same_reached, same_sums_of, agree_back}
+use Rattle.allocative_graph.proofs.laws.order_law.Goals as goal
+
+pub returns : goal.returns
+returns c f g v w a = record {
+  reached = λ i. (same_reached f g v w a i, same_reached g f w v (agree_back f g a) i);
+  same_graph = ap graph (same_sums_of f g v w a);
+  same_text = ap (λ s. text (graph s)) (same_sums_of f g v w a);
+  same_warnings = ap warnings (same_sums_of f g v w a);
+}

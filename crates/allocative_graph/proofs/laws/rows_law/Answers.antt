@@ -1,0 +1,6 @@
+-- Each by computing.
+use Rattle.allocative_graph.proofs.Rows.{rows}
+use Rattle.allocative_graph.proofs.laws.rows_law.Goals as goal
+
+pub returns : goal.returns
+returns c = rows

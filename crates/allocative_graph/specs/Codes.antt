@@ -1,0 +1,118 @@
+-- Codes of the values that models have.
+use Rattle.std.specs.Prelude.{◌≡◌, ℕ, zero, suc, Bool, List, refl, ◌⊎◌}
+use Rattle.std.proofs.Common.{inl, inr}
+use Rattle.std.specs.Coded.{Coded, code_by, coded×, coded_ℕ, coded_bool, coded_list, coded⊎}
+use Rattle.std.specs.FinMap as finmap
+use Rattle.std.specs.FinSet as set
+use Rattle.allocative_graph.specs.declared.refusal.Refusal.{Refusal}
+use Rattle.allocative_graph.specs.declared.refusal.Refusal.TheVariants.{Memory, TooLarge, Open}
+use Rattle.allocative_graph.specs.Path.{Path}
+use Rattle.allocative_graph.specs.Identity.{Identity, Identities}
+use Rattle.allocative_graph.specs.Sums.{Node, Sums}
+use Rattle.allocative_graph.specs.Graph.{Graph}
+use Rattle.allocative_graph.specs.Collector.{Live, Holding, Kind, OfGraph, OfHeld, State, Failed, Going}
+use Rattle.allocative_graph.specs.Visits.{Profile}
+
+-- The code of a path.
+abbrev pub path_code : Coded Path
+path_code = coded_list (coded_list coded_ℕ)
+
+-- The code of a graph.
+abbrev pub graph_code : Coded Graph
+graph_code = finmap.code path_code coded_ℕ
+
+-- The code of a profile.
+abbrev pub profile_code : Coded Profile
+profile_code = code_by (Graph × List ℕ) (coded× graph_code (coded_list coded_ℕ)) (λ o. (o.graph, o.warnings)) (λ p. record { graph = p.0; warnings = p.1 }) (λ _. refl)
+
+-- The code of what was entered at a path.
+abbrev pub node_code : Coded Node
+node_code = code_by (ℕ × Bool) (coded× coded_ℕ coded_bool) (λ n. (n.bytes, n.is_unique)) (λ p. record { bytes = p.0; is_unique = p.1 }) (λ _. refl)
+
+-- The code of sums.
+abbrev pub sums_code : Coded Sums
+sums_code = finmap.code path_code node_code
+
+-- The code of an identity.
+abbrev pub identity_code : Coded Identity
+identity_code = code_by (ℕ × ℕ) (coded× coded_ℕ coded_ℕ) (λ i. (i.maker, i.number)) (λ p. record { maker = p.0; number = p.1 }) (λ _. refl)
+
+-- The code of a set of identities.
+abbrev pub identities_code : Coded Identities
+identities_code = set.code identity_code
+
+-- The code of a place: the current path, the paths to go back to, and the visitors out.
+abbrev pub place_code : Coded (Path × (List Path × ℕ))
+place_code = coded× path_code (coded× (coded_list path_code) coded_ℕ)
+
+-- The code of a flame graph's collector.
+abbrev pub live_code : Coded Live
+live_code = code_by ((Sums × Identities) × (Path × (List Path × ℕ))) (coded× (coded× sums_code identities_code) place_code)
+    (λ l. ((l.sums, l.met), (l.here, (l.back, l.open_visitors))))
+    (λ p. record { sums = p.0.0; met = p.0.1; here = p.1.0; back = p.1.1.0; open_visitors = p.1.1.1 }) (λ _. refl)
+
+-- The code of a collector of held bytes.
+abbrev pub holding_code : Coded Holding
+holding_code = code_by (ℕ × (ℕ × Bool)) (coded× coded_ℕ (coded× coded_ℕ coded_bool))
+    (λ h. (h.sum, (h.open_visitors, h.is_in_unique)))
+    (λ p. record { sum = p.0; open_visitors = p.1.0; is_in_unique = p.1.1 }) (λ _. refl)
+
+-- A collector of one of the two kinds, as one of two values.
+abbrev pub of_kind : Kind → Live ⊎ Holding
+of_kind (OfGraph c) = inl c
+of_kind (OfHeld h) = inr h
+
+-- And back.
+abbrev pub to_kind : Live ⊎ Holding → Kind
+to_kind (inl c) = OfGraph c
+to_kind (inr h) = OfHeld h
+
+-- Nothing is lost on the way.
+pub kind_back : (k : Kind) → to_kind (of_kind k) ≡ k
+kind_back (OfGraph c) = refl
+kind_back (OfHeld h) = refl
+
+-- The code of either collector.
+abbrev pub kind_code : Coded Kind
+kind_code = code_by (Live ⊎ Holding) (coded⊎ live_code holding_code) of_kind to_kind kind_back
+
+-- A cause as a number.
+abbrev pub of_refusal : Refusal → ℕ
+of_refusal Memory = 0
+of_refusal TooLarge = 1
+of_refusal Open = 2
+
+-- And back.
+abbrev pub to_refusal : ℕ → Refusal
+to_refusal zero = Memory
+to_refusal (suc zero) = TooLarge
+to_refusal (suc (suc n)) = Open
+
+-- Nothing is lost on the way.
+pub refusal_back : (r : Refusal) → to_refusal (of_refusal r) ≡ r
+refusal_back Memory = refl
+refusal_back TooLarge = refl
+refusal_back Open = refl
+
+-- The code of a refusal.
+abbrev pub refusal_code : Coded Refusal
+refusal_code = code_by ℕ coded_ℕ of_refusal to_refusal refusal_back
+
+-- A state as one of two values.
+abbrev pub of_state : State → Refusal ⊎ Kind
+of_state (Failed r) = inl r
+of_state (Going k) = inr k
+
+-- And back.
+abbrev pub to_state : Refusal ⊎ Kind → State
+to_state (inl r) = Failed r
+to_state (inr k) = Going k
+
+-- Nothing is lost on the way.
+pub state_back : (s : State) → to_state (of_state s) ≡ s
+state_back (Failed r) = refl
+state_back (Going k) = refl
+
+-- The code of a state.
+abbrev pub state_code : Coded State
+state_code = code_by (Refusal ⊎ Kind) (coded⊎ refusal_code kind_code) of_state to_state state_back

@@ -1,0 +1,153 @@
+-- What contracts see of a collector, and what entering, a forest and leaving do to it.
+use Rattle.std.specs.Prelude.{◌≡◌, ℕ, suc, pred, ◌+◌, Bool, false, cond, List, [], ◌∷◌, ◌++◌}
+use Rattle.std.specs.FinMap as finmap
+use Rattle.std.specs.FinSet as set
+use Rattle.allocative_graph.specs.declared.refusal.Refusal.{Refusal}
+use Rattle.allocative_graph.specs.Path.{Key, Path}
+use Rattle.allocative_graph.specs.Identity.{Identity, Identities}
+use Rattle.allocative_graph.specs.Forest.{Forest, Empty, First, Again, Bag, entry_of, own_behind, content_entries, met_after, Fits}
+use Rattle.allocative_graph.specs.Sums.{Sums, add_all}
+use Rattle.allocative_graph.specs.Held.{held, inline_bytes, ShowsNoContent}
+
+-- The collector of a flame graph: the sums of what was entered, the identities met, the current path, the paths to go back to, and the count of visitors that were entered and not left.
+pub record Live : Type 0 where
+  pub sums : Sums
+  pub met : Identities
+  pub here : Path
+  pub back : List Path
+  pub open_visitors : ℕ
+
+-- The collector of held bytes: their sum, the count of visitors that were entered and not left, and whether the current visitor is a unique entry's.
+pub record Holding : Type 0 where
+  pub sum : ℕ
+  pub open_visitors : ℕ
+  pub is_in_unique : Bool
+
+-- One of the two collectors.
+pub data Kind : Type 0 where
+  OfGraph : Live → Kind
+  OfHeld : Holding → Kind
+
+-- What a contract sees of a collector: it has failed, with its first cause, or it is going.
+pub data State : Type 0 where
+  Failed : Refusal → State
+  Going : Kind → State
+
+-- ---- a flame graph's
+-- The entries that f adds where the current path is p: its own behind p, and those of its contents from the root.
+abbrev pub added : Path → Forest → Bag
+added p f = own_behind p f ++ content_entries f
+
+-- c with the forest f at its current path.
+abbrev pub plus_live : Live → Forest → Live
+plus_live c f = record c { sums = add_all c.sums (added c.here f); met = met_after c.met f }
+
+-- A visitor more, at the path p.
+abbrev pub go : Path → Live → Live
+go p c = record c { here = p; back = c.here ∷ c.back; open_visitors = suc c.open_visitors }
+
+-- The path to go back to; the root where there is none.
+abbrev pub last_of : List Path → Path
+last_of [] = []
+last_of (p ∷ ps) = p
+
+-- The paths to go back to after that.
+abbrev pub before_last : List Path → List Path
+before_last [] = []
+before_last (p ∷ ps) = ps
+
+-- A visitor less: one step back.
+abbrev pub leave_live : Live → Live
+leave_live c = record c { here = last_of c.back; back = before_last c.back; open_visitors = pred c.open_visitors }
+
+-- One entry more, unique or inline, and a visitor at it.
+abbrev pub enter_live : Bool → Key → ℕ → Live → Live
+enter_live is_unique k n c = go (c.here ++ k ∷ []) (plus_live c (entry_of is_unique k n Empty))
+
+-- One pointer more to an identity that was not met, and a visitor at its content, which starts at the root.
+abbrev pub enter_first : Key → ℕ → Identity → Live → Live
+enter_first k n i c = go [] (plus_live c (First k n i Empty Empty))
+
+-- One pointer more to an identity that was met.
+abbrev pub enter_again : Key → ℕ → Identity → Live → Live
+enter_again k n i c = plus_live c (Again k n i Empty)
+
+-- ---- that of held bytes
+-- h with the forest f: what f holds and, in a unique entry, the inline entries at its top.
+abbrev pub plus_holding : Holding → Forest → Holding
+plus_holding h f = record h { sum = h.sum + (held f + cond h.is_in_unique (inline_bytes f) 0) }
+
+-- What an entry of n bytes adds: its bytes where it is inline in a unique entry, else nothing.
+abbrev pub held_bytes : Bool → Bool → ℕ → ℕ
+held_bytes is_in_unique is_unique n = cond is_in_unique (cond is_unique 0 n) 0
+
+-- One entry more, and a visitor at it.
+abbrev pub enter_holding : Bool → ℕ → Holding → Holding
+enter_holding is_unique n h = record { sum = h.sum + held_bytes h.is_in_unique is_unique n; open_visitors = suc h.open_visitors; is_in_unique = is_unique }
+
+-- A visitor less; the one outside is a unique entry's, or is not.
+abbrev pub leave_holding : Bool → Holding → Holding
+leave_holding outer h = record { sum = h.sum; open_visitors = pred h.open_visitors; is_in_unique = outer }
+
+-- ---- either
+-- The visitors that were entered and not left.
+abbrev pub visitors : Kind → ℕ
+visitors (OfGraph c) = c.open_visitors
+visitors (OfHeld h) = h.open_visitors
+
+-- What leaving has to restore: whether the current visitor is a unique entry's, where that is not told by a path.
+abbrev pub is_in_unique : Kind → Bool
+is_in_unique (OfGraph c) = false
+is_in_unique (OfHeld h) = h.is_in_unique
+
+-- The collector with the forest f at its current place.
+abbrev pub plus : Kind → Forest → Kind
+plus (OfGraph c) f = OfGraph (plus_live c f)
+plus (OfHeld h) f = OfHeld (plus_holding h f)
+
+-- f can be added: it shows contents exactly where their identities were not met, and none to the collector of held bytes.
+abbrev pub Takes : Kind → Forest → Type 0
+Takes (OfGraph c) f = Fits c.met f
+Takes (OfHeld h) f = ShowsNoContent f
+
+-- One entry more, unique or inline, and a visitor at it.
+abbrev pub enter : Bool → Key → ℕ → Kind → Kind
+enter is_unique k n (OfGraph c) = OfGraph (enter_live is_unique k n c)
+enter is_unique k n (OfHeld h) = OfHeld (enter_holding is_unique n h)
+
+-- A visitor less; the one outside is a unique entry's, or is not.
+abbrev pub leave : Bool → Kind → Kind
+leave outer (OfGraph c) = OfGraph (leave_live c)
+leave outer (OfHeld h) = OfHeld (leave_holding outer h)
+
+-- A root visitor more.
+abbrev pub begin : Kind → Kind
+begin (OfGraph c) = OfGraph (go [] c)
+begin (OfHeld h) = OfHeld (record { sum = h.sum; open_visitors = suc h.open_visitors; is_in_unique = false })
+
+-- No visitor is out.
+abbrev pub IsClosed : Kind → Type 0
+IsClosed k = visitors k ≡ 0
+
+-- The place is the root, with nothing to go back to.
+abbrev pub IsAtRoot : Kind → Type 0
+IsAtRoot (OfGraph c) = (c.here ≡ []) × (c.back ≡ [])
+IsAtRoot (OfHeld h) = h.is_in_unique ≡ false
+
+-- A flame graph's collector of which nothing was asked yet.
+abbrev pub no_entries : Live
+no_entries = record { sums = finmap.empty; met = set.empty; here = []; back = []; open_visitors = 0 }
+
+-- One of held bytes of which nothing was asked yet.
+abbrev pub nothing_held : Holding
+nothing_held = record { sum = 0; open_visitors = 0; is_in_unique = false }
+
+-- A collector that has not failed fails with r; one that has keeps its cause.
+abbrev pub failed_with : Refusal → State → State
+failed_with r (Failed q) = Failed q
+failed_with r (Going k) = Failed r
+
+-- A visitor less, where the collector has not failed.
+abbrev pub left : Bool → State → State
+left outer (Failed r) = Failed r
+left outer (Going k) = Going (leave outer k)

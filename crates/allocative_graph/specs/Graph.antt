@@ -1,0 +1,106 @@
+-- Flame graphs, their text, and the warnings.
+use Rattle.std.specs.Prelude.{◌≡◌, ◌≢◌, ℕ, ◌+◌, ◌-◌, ◌^◌, ◌<◌, ◌≤◌, ◌⊎◌, Bool, true, false, cond, not, ◌&&◌, ◌||◌, List, [], ◌∷◌, ◌++◌, map, flat_map, Some, sum_by, unwrap_or, decimal, nat_lt, ◌==◌, IsTrue}
+use Rattle.std.specs.List.{AllByRecursion}
+use Rattle.std.specs.FinMap.{FinMap, get, insert, entries, from_entries, keys, contains_key}
+use Rattle.allocative_graph.specs.Path.{Key, Path, path_cmp}
+use Rattle.allocative_graph.specs.Sums.{Node, Sums, below}
+use lib.Chars.{codes}
+
+-- A graph is a map from paths to sizes.
+abbrev pub Graph : Type 0
+Graph = FinMap path_cmp ℕ
+
+-- The size at a path; a missing path counts as 0.
+abbrev pub size_at : Graph → Path → ℕ
+size_at g p = unwrap_or (get g p) 0
+
+-- The sum of the sizes of all paths.
+abbrev pub total : Graph → ℕ
+total g = sum_by (λ e. e.1) (entries g)
+
+-- The root alone, with 0.
+abbrev pub default : Graph
+default = from_entries (([], 0) ∷ [])
+
+-- Path by path the sum of both; the paths are those of either.
+abbrev pub sum_of : Graph → Graph → Graph
+sum_of g h = from_entries (map (λ p. (p, size_at g p + size_at h p)) (keys g ++ keys h))
+
+-- The root with 0, and each path of g with k before it.
+abbrev pub under : Key → Graph → Graph
+under k g = from_entries (([], 0) ∷ map (λ e. (k ∷ e.0, e.1)) (entries g))
+
+-- g with n more at the root.
+abbrev pub add_self : ℕ → Graph → Graph
+add_self n g = insert g [] (size_at g [] + n)
+
+-- The root is in g and, with each path, its beginnings.
+pub record IsTree (g : Graph) : Type 0 where
+  pub root : IsTrue (contains_key g [])
+  pub closed : (p : Path) (k : Key) → IsTrue (contains_key g (p ++ k ∷ [])) → IsTrue (contains_key g p)
+
+-- ---- of sums
+-- What p keeps of its bytes: all where it was ever unique, otherwise what those one key below leave, and never less than 0.
+abbrev pub remaining : Sums → Path → Node → ℕ
+remaining s p node = cond node.is_unique node.bytes (node.bytes - below s p)
+
+-- The root with 0, and exactly the paths of s with what remains of their bytes.
+abbrev pub sizes : Sums → List (Path × ℕ)
+sizes s = ([], 0) ∷ map (λ e. (e.0, remaining s e.0 e.1)) (entries s)
+
+-- The graph of the sums.
+abbrev pub graph : Sums → Graph
+graph s = from_entries (sizes s)
+
+-- Each path that both have is unique in both or in neither and, where in neither, its bytes cover those one key below in both, or are no more than those in both.
+abbrev pub CanBeAdded : Sums → Sums → Type 0
+CanBeAdded s t = (p : Path) (m n : Node) → get s p ≡ Some m → get t p ≡ Some n
+    → (m.is_unique ≡ n.is_unique) × (m.is_unique ≡ false → (below s p ≤ m.bytes) × (below t p ≤ n.bytes) ⊎ (m.bytes ≤ below s p) × (n.bytes ≤ below t p))
+
+-- ---- texts
+-- Whether a path is the root's.
+abbrev pub is_root : Path → Bool
+is_root [] = true
+is_root (k ∷ p) = false
+
+-- The keys, with `;` between them.
+abbrev pub joined : Path → List ℕ
+joined [] = []
+joined (k ∷ []) = k
+joined (k ∷ l ∷ p) = k ++ 59 ∷ joined (l ∷ p)
+
+-- The line of a path with a size other than 0: keys, a space, the size in decimal, a line feed. The root has none.
+abbrev pub line : Path × ℕ → List ℕ
+line e = cond (is_root e.0 || (e.1 == 0)) [] (joined e.0 ++ 32 ∷ decimal e.1 ++ 10 ∷ [])
+
+-- The lines of some paths, one after another.
+abbrev pub text_of_entries : List (Path × ℕ) → List ℕ
+text_of_entries es = flat_map line es
+
+-- The text of a graph: its lines in the order of paths.
+abbrev pub text : Graph → List ℕ
+text g = text_of_entries (entries g)
+
+-- The warning of a path, with its own bytes and those one key below.
+abbrev pub warning_line : Path → ℕ → ℕ → List ℕ
+warning_line p bytes under = codes "Incorrect size declaration for node `" ++ joined p ++ codes "`, size of self: " ++ decimal bytes ++ codes ", size of inline children: " ++ decimal under ++ 10 ∷ []
+
+-- The warning that a path of the sums has: one where it is not the root, was never unique and has fewer bytes than stand one key below.
+abbrev pub warning : Sums → Path × Node → List ℕ
+warning s e = cond (not (is_root e.0) && not e.1.is_unique && nat_lt e.1.bytes (below s e.0)) (warning_line e.0 e.1.bytes (below s e.0)) []
+
+-- All warnings, in the order of paths.
+abbrev pub warnings : Sums → List ℕ
+warnings s = flat_map (warning s) (entries s)
+
+-- The byte c does not stand in xs.
+abbrev pub Lacks : ℕ → List ℕ → Type 0
+Lacks c xs = AllByRecursion (λ b. b ≢ c) xs
+
+-- No key of g has a `;` or a line feed.
+abbrev pub HasPlainKeys : Graph → Type 0
+HasPlainKeys g = AllByRecursion (λ p. AllByRecursion (λ k. Lacks 59 k × Lacks 10 k) p) (keys g)
+
+-- The total is a word, as in each graph that code holds.
+abbrev pub HasWords : Graph → Type 0
+HasWords g = total g < 2 ^ 64

@@ -1,0 +1,22 @@
+-- Identities of shared values, and their order.
+use Rattle.std.specs.Prelude.{ℕ, Bool}
+use Rattle.std.specs.declared.cmp.Ordering.{Ordering}
+use Rattle.std.specs.Ordering.{nat_cmp, eq_by_cmp, ordering_then}
+use Rattle.std.specs.FinSet.{FinSet}
+
+-- The word of whoever gave the number, and the number.
+pub record Identity : Type 0 where
+  pub maker : ℕ
+  pub number : ℕ
+
+-- By makers, and by numbers where the makers are one.
+abbrev pub identity_cmp : Identity → Identity → Ordering
+identity_cmp i j = ordering_then (nat_cmp i.maker j.maker) (nat_cmp i.number j.number)
+
+-- Whether two identities are one.
+abbrev pub is_same_identity : Identity → Identity → Bool
+is_same_identity = eq_by_cmp identity_cmp
+
+-- A finite set of identities.
+abbrev pub Identities : Type 0
+Identities = FinSet identity_cmp

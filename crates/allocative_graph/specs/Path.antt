@@ -1,0 +1,39 @@
+-- Keys and paths, and their orders.
+use Rattle.std.specs.Prelude.{◌≡◌, ℕ, Bool, true, false, ◌&&◌, List, [], ◌∷◌, ◌++◌}
+use Rattle.std.specs.declared.cmp.Ordering.TheVariants.{Less}
+use Rattle.std.specs.declared.cmp.Ordering.{Ordering}
+use Rattle.std.specs.Ordering.{nat_cmp, eq_by_cmp}
+use Rattle.std.specs.Cmp.Lexicographic.{slice_cmp}
+
+-- A key is the bytes of its text.
+abbrev pub Key : Type 0
+Key = List ℕ
+
+-- A path is the keys from the root on; the root's own path is empty.
+abbrev pub Path : Type 0
+Path = List Key
+
+-- Keys stand in the order of their bytes.
+abbrev pub key_cmp : Key → Key → Ordering
+key_cmp = slice_cmp nat_cmp
+
+-- A beginning of a path comes before it; otherwise the first keys that differ decide.
+abbrev pub path_cmp : Path → Path → Ordering
+path_cmp = slice_cmp key_cmp
+
+-- Whether two paths are one.
+abbrev pub is_same_path : Path → Path → Bool
+is_same_path = eq_by_cmp path_cmp
+
+-- Whether the second path is the first and one key more.
+abbrev pub is_one_below : Path → Path → Bool
+is_one_below [] [] = false
+is_one_below [] (k ∷ []) = true
+is_one_below [] (k ∷ l ∷ q) = false
+is_one_below (k ∷ p) [] = false
+is_one_below (k ∷ p) (l ∷ q) = eq_by_cmp key_cmp k l && is_one_below p q
+
+-- The first list is a beginning of the second, or the first elements in which they part stand in the order R.
+pub data ComesBefore {X : Type 0} (R : X → X → Ordering) (p q : List X) : Type 0 where
+  longer : (k : X) (rest : List X) → q ≡ p ++ k ∷ rest → ComesBefore R p q
+  parts : (common : List X) (k l : X) (r s : List X) → p ≡ common ++ k ∷ r → q ≡ common ++ l ∷ s → R k l ≡ Less → ComesBefore R p q

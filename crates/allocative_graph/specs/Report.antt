@@ -1,0 +1,53 @@
+-- What a report of roots says.
+use Rattle.std.specs.Prelude.{ℕ, ◌==◌, ◌≡◌, Bool, false, cond, List, [], ◌∷◌, ◌++◌, flat_map}
+use Rattle.std.specs.Ordering.{eq_by_cmp}
+use Rattle.std.specs.FinMap.{entries}
+use lib.Chars.{codes}
+use Rattle.allocative_graph.specs.Path.{Key, Path, key_cmp}
+use Rattle.allocative_graph.specs.Forest.{Forest, all}
+use Rattle.allocative_graph.specs.Meaning.{IsWhole}
+use Rattle.allocative_graph.specs.Sums.{sums_of}
+use Rattle.allocative_graph.specs.Graph.{Graph, graph, text, line, warnings}
+use Rattle.allocative_graph.specs.Shows.{Showing}
+
+-- Whether a path ends in the key.
+abbrev pub ends_in : Key → Path → Bool
+ends_in k [] = false
+ends_in k (l ∷ []) = eq_by_cmp key_cmp k l
+ends_in k (l ∷ m ∷ p) = ends_in k (m ∷ p)
+
+-- The text without the lines of the paths that end in `unused_capacity`.
+abbrev pub exact_text : Graph → List ℕ
+exact_text g = flat_map (λ e. cond (ends_in (codes "unused_capacity") e.0) [] (line e)) (entries g)
+
+-- Some whole showing that the roots may show has this profile, exact or not, and these warnings.
+pub record IsReport (roots : Showing) (exact : Bool) (profile complaints : List ℕ) : Type 0 where
+  pub shown : Forest
+  pub allowed : roots shown
+  pub whole : IsWhole shown
+  pub profile_is : profile ≡ cond exact (exact_text (graph (sums_of (all shown)))) (text (graph (sums_of (all shown))))
+  pub complaints_are : complaints ≡ warnings (sums_of (all shown))
+
+-- ---- the same, of a text alone
+-- The lines, each without its line feed; line is what was read of the first.
+abbrev pub lines_from : List ℕ → List ℕ → List (List ℕ)
+lines_from line [] = []
+lines_from line (b ∷ bs) = cond (b == 10) (line ∷ lines_from [] bs) (lines_from (line ++ b ∷ []) bs)
+
+-- What stands before the last c, where before is what was read and best what stood before the last c so far.
+abbrev pub before_last : ℕ → List ℕ → List ℕ → List ℕ → List ℕ
+before_last c best before [] = best
+before_last c best before (b ∷ bs) = cond (b == c) (before_last c before (before ++ b ∷ []) bs) (before_last c best (before ++ b ∷ []) bs)
+
+-- What stands after the last c, or all, where after is what was read since.
+abbrev pub after_last : ℕ → List ℕ → List ℕ → List ℕ
+after_last c after [] = after
+after_last c after (b ∷ bs) = cond (b == c) (after_last c [] bs) (after_last c (after ++ b ∷ []) bs)
+
+-- The last key of a line: what stands after its last `;` and before its last space.
+abbrev pub last_key : List ℕ → Key
+last_key l = after_last 59 [] (before_last 32 [] [] l)
+
+-- The text without the lines whose last key is k.
+abbrev pub without_lines : Key → List ℕ → List ℕ
+without_lines k t = flat_map (λ l. cond (eq_by_cmp key_cmp k (last_key l)) [] (l ++ 10 ∷ [])) (lines_from [] t)

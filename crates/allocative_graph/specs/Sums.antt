@@ -1,0 +1,69 @@
+-- The sums of a bag of entries, path by path.
+use Rattle.std.specs.Prelude.{ℕ, ◌+◌, Bool, true, false, cond, ◌||◌, [], ◌∷◌, Option, Some, None, sum_by}
+use Rattle.std.specs.List.{list_any}
+use Rattle.std.specs.FinMap.{FinMap, get, insert, entries, empty}
+use Rattle.allocative_graph.specs.Path.{Path, path_cmp, is_same_path, is_one_below}
+use Rattle.allocative_graph.specs.Forest.{Mark, AsInline, AsUnique, AsShared, Entry, Bag}
+
+-- What was entered at a path: the bytes of all its entries, and whether one of them is unique.
+pub record Node : Type 0 where
+  pub bytes : ℕ
+  pub is_unique : Bool
+
+-- What was entered, path by path.
+abbrev pub Sums : Type 0
+Sums = FinMap path_cmp Node
+
+-- Whether a mark is that of a unique entry.
+abbrev pub is_unique_mark : Mark → Bool
+is_unique_mark AsInline = false
+is_unique_mark AsUnique = true
+is_unique_mark (AsShared i) = false
+
+-- ---- of a bag
+-- The bytes that the entries of b have at p.
+abbrev pub bytes_in : Bag → Path → ℕ
+bytes_in b p = sum_by (λ e. cond (is_same_path p e.path) e.size 0) b
+
+-- Whether an entry of b at p is unique.
+abbrev pub is_unique_in : Bag → Path → Bool
+is_unique_in b p = list_any (λ e. cond (is_same_path p e.path) (is_unique_mark e.mark) false) b
+
+-- Whether b has an entry at p.
+abbrev pub is_entered_in : Bag → Path → Bool
+is_entered_in b p = list_any (λ e. is_same_path p e.path) b
+
+-- The bytes that the entries of b have one key below p, whatever their marks.
+abbrev pub below_in : Bag → Path → ℕ
+below_in b p = sum_by (λ e. cond (is_one_below p e.path) e.size 0) b
+
+-- ---- kept as a map
+-- What a path has once new came to it.
+abbrev pub together : Option Node → Node → Node
+together None new = new
+together (Some old) new = record { bytes = old.bytes + new.bytes; is_unique = old.is_unique || new.is_unique }
+
+-- What one entry gives to its path.
+abbrev pub node_of : Entry → Node
+node_of e = record { bytes = e.size; is_unique = is_unique_mark e.mark }
+
+-- The sums s with one entry more.
+abbrev pub add : Sums → Entry → Sums
+add s e = insert s e.path (together (get s e.path) (node_of e))
+
+-- The sums s with the entries of b.
+abbrev pub add_all : Sums → Bag → Sums
+add_all s [] = s
+add_all s (e ∷ b) = add_all (add s e) b
+
+-- The sums of b; `SumsLaw` has their closed form.
+abbrev pub sums_of : Bag → Sums
+sums_of b = add_all empty b
+
+-- All bytes entered.
+abbrev pub entered : Sums → ℕ
+entered s = sum_by (λ e. e.1.bytes) (entries s)
+
+-- The bytes of the paths one key below p.
+abbrev pub below : Sums → Path → ℕ
+below s p = sum_by (λ e. cond (is_one_below p e.0) e.1.bytes 0) (entries s)

@@ -1,0 +1,106 @@
+-- What calls of a collector and of its visitors do, as relations over what it was and what it is.
+use Rattle.std.specs.Prelude.{◌≡◌, ℕ, suc, ◌+◌, ◌<◌, ◌≤◌, ◌^◌, ◌⊎◌, Bool, true, false, List, Option, None, Some, Result, Ok, Err}
+use Rattle.std.specs.FinSet.{contains}
+use Rattle.allocative_graph.specs.declared.refusal.Refusal.{Refusal}
+use Rattle.allocative_graph.specs.declared.refusal.Refusal.TheVariants.{Memory, TooLarge, Open}
+use Rattle.allocative_graph.specs.Path.{Key}
+use Rattle.allocative_graph.specs.Identity.{Identity}
+use Rattle.allocative_graph.specs.Forest.{Forest, Bag, own, all}
+use Rattle.allocative_graph.specs.Meaning.{IsWhole, IsMeaning, ReachesExactly, content_of}
+use Rattle.allocative_graph.specs.Sums.{entered, sums_of}
+use Rattle.allocative_graph.specs.Graph.{Graph, graph, warnings}
+use Rattle.allocative_graph.specs.Collector.{Live, Holding, Kind, OfGraph, OfHeld, State, Failed, Going, held_bytes, enter, enter_first, enter_again, leave, plus, Takes, visitors, is_in_unique, begin, IsClosed, IsAtRoot, failed_with, left}
+use Rattle.allocative_graph.specs.Shows.{Showing}
+
+-- What a visit of a value that may show what p allows does. A failed collector stays as it is. After Err it has failed. After Ok it has failed (a refusal was hidden), or has more visitors out than before (one was forgotten), or has one forest more, which p allows and which it takes.
+pub data Shows (p : Showing) : State → Result Unit Refusal → State → Type 0 where
+  already : {r : Refusal} {result : Result Unit Refusal} → Shows p (Failed r) result (Failed r)
+  refused : {b : Kind} {e r : Refusal} → Shows p (Going b) (Err e) (Failed r)
+  hidden : {b : Kind} {u : Unit} {r : Refusal} → Shows p (Going b) (Ok u) (Failed r)
+  forgotten : {b c : Kind} {u : Unit} → visitors b < visitors c → Shows p (Going b) (Ok u) (Going c)
+  added : {b c : Kind} {u : Unit} → (f : Forest) → p f → Takes b f → c ≡ plus b f → Shows p (Going b) (Ok u) (Going c)
+
+-- s has failed, with the first cause r.
+abbrev pub HasFailed : State → Refusal → Type 0
+HasFailed s r = s ≡ Failed r
+
+-- ---- entering
+-- No bound is passed by an entry of n bytes.
+abbrev pub HasRoom : Bool → ℕ → Kind → Type 0
+HasRoom is_unique n (OfGraph c) = entered c.sums + n < 2 ^ 63
+HasRoom is_unique n (OfHeld h) = (h.sum + held_bytes h.is_in_unique is_unique n < 2 ^ 64) × (suc h.open_visitors < 2 ^ 64)
+
+-- An entry of n bytes is refused with e: a bound would be passed; or none would, and memory was refused, which only a flame graph's collector asks for.
+abbrev pub Refuses : Bool → ℕ → Kind → Refusal → Type 0
+Refuses is_unique n (OfGraph c) e = ((e ≡ TooLarge) × (2 ^ 63 ≤ entered c.sums + n)) ⊎ ((e ≡ Memory) × (entered c.sums + n < 2 ^ 63))
+Refuses is_unique n (OfHeld h) e = (e ≡ TooLarge) × ((2 ^ 64 ≤ h.sum + held_bytes h.is_in_unique is_unique n) ⊎ (2 ^ 64 ≤ suc h.open_visitors))
+
+-- What entering does. A failed collector answers its first cause. Otherwise it is refused exactly as `Refuses` says, and has failed then; or there is one entry more and a visitor at it, and the answer is what leaving has to restore.
+pub data Enters (is_unique : Bool) (k : Key) (n : ℕ) : State → Result Bool Refusal → State → Type 0 where
+  stays_failed : {r : Refusal} → Enters is_unique k n (Failed r) (Err r) (Failed r)
+  is_refused : {b : Kind} {e : Refusal} → Refuses is_unique n b e → Enters is_unique k n (Going b) (Err e) (Failed e)
+  is_entered : {b c : Kind} {outer : Bool} → HasRoom is_unique n b → outer ≡ is_in_unique b → c ≡ enter is_unique k n b → Enters is_unique k n (Going b) (Ok outer) (Going c)
+
+-- The same of an inline entry of a declared size; where there is none it is TooLarge.
+pub data EntersSized (k : Key) : Option ℕ → State → Result Bool Refusal → State → Type 0 where
+  stays_unsized : {r : Refusal} → EntersSized k None (Failed r) (Err r) (Failed r)
+  is_unsized : {b : Kind} {e : Refusal} → e ≡ TooLarge → EntersSized k None (Going b) (Err e) (Failed e)
+  is_sized : {n : ℕ} {s t : State} {result : Result Bool Refusal} → Enters false k n s result t → EntersSized k (Some n) s result t
+
+-- The same of a shared entry. The answer says whether its content is to be shown: exactly where a flame graph's collector had not met the identity. The collector of held bytes stays as it is.
+pub data EntersShared (k : Key) (n : ℕ) (i : Identity) : State → Result Bool Refusal → State → Type 0 where
+  stays_shared : {r : Refusal} → EntersShared k n i (Failed r) (Err r) (Failed r)
+  is_refused_shared : {c : Live} {e : Refusal} → Refuses false n (OfGraph c) e → EntersShared k n i (Going (OfGraph c)) (Err e) (Failed e)
+  goes_past : {h : Holding} → EntersShared k n i (Going (OfHeld h)) (Ok false) (Going (OfHeld h))
+  enters_first : {c d : Live} → entered c.sums + n < 2 ^ 63 → contains c.met i ≡ false → d ≡ enter_first k n i c → EntersShared k n i (Going (OfGraph c)) (Ok true) (Going (OfGraph d))
+  enters_again : {c d : Live} → entered c.sums + n < 2 ^ 63 → contains c.met i ≡ true → d ≡ enter_again k n i c → EntersShared k n i (Going (OfGraph c)) (Ok false) (Going (OfGraph d))
+
+-- What a call answers that makes one entry: Ok only where no bound is passed, and Err as entering does.
+abbrev pub Answers : Bool → ℕ → State → Result Unit Refusal → Type 0
+Answers is_unique n (Failed r) result = result ≡ Err r
+Answers is_unique n (Going b) (Ok u) = HasRoom is_unique n b
+Answers is_unique n (Going b) (Err e) = Refuses is_unique n b e
+
+-- ---- leaving
+-- One visitor is left, outside which the current one is a unique entry's or is not. A failed collector stays as it is.
+pub data Leaves (outer : Bool) : State → State → Type 0 where
+  leaves_failed : {r : Refusal} → Leaves outer (Failed r) (Failed r)
+  leaves_going : {b c : Kind} → c ≡ leave outer b → Leaves outer (Going b) (Going c)
+
+-- ---- root visitors
+-- A root visitor goes out: the first cause; or Open where a visitor is out, and nothing changes.
+abbrev pub Begins : State → Result Unit Refusal → State → Type 0
+Begins (Failed r) (Ok u) t = ⊥
+Begins (Failed r) (Err e) t = (e ≡ r) × (t ≡ Failed r)
+Begins (Going b) (Ok u) t = IsClosed b × IsAtRoot b × (t ≡ Going (begin b))
+Begins (Going b) (Err e) t = (e ≡ Open) × ¬ IsClosed b × (t ≡ Going b)
+
+-- What is answered of a collector of which nothing else is asked: Ok where it has not failed and no visitor is out, else the first cause, or Open.
+abbrev pub Settles : State → Result Unit Refusal → Type 0
+Settles (Failed r) result = result ≡ Err r
+Settles (Going b) (Ok u) = IsClosed b
+Settles (Going b) (Err e) = (e ≡ Open) × ¬ IsClosed b
+
+-- What a visit by a root visitor does, of a value that may show what p allows: Ok exactly where the collector has afterwards neither failed nor a visitor out, and then it has one forest more.
+abbrev pub Runs : Showing → State → Result Unit Refusal → State → Type 0
+Runs p (Failed r) result t = (result ≡ Err r) × (t ≡ Failed r)
+Runs p (Going b) (Ok u) (Failed r) = ⊥
+Runs p (Going b) (Ok u) (Going c) = IsClosed c × (f : Forest) × p f × Takes b f × (c ≡ plus b f)
+Runs p (Going b) (Err e) (Failed r) = e ≡ r
+Runs p (Going b) (Err e) (Going c) = (e ≡ Open) × ¬ IsClosed c
+
+-- ---- whole runs
+-- What a finished run gives: the graph, and the text of the warnings.
+pub record Profile : Type 0 where
+  pub graph : Graph
+  pub warnings : List ℕ
+
+-- The profile is that of some whole showing f which p allows: f reaches exactly the identities whose contents it shows, its own entries have a meaning, and graph and warnings are those of each such meaning.
+pub record IsProfileOf (p : Showing) (o : Profile) : Type 0 where
+  pub shown : Forest
+  pub allowed : p shown
+  pub whole : IsWhole shown
+  pub reaches : ReachesExactly shown
+  pub meaning : IsMeaning (own shown) (content_of shown) (all shown)
+  pub graph_is : (m : Bag) → IsMeaning (own shown) (content_of shown) m → o.graph ≡ graph (sums_of m)
+  pub warnings_are : (m : Bag) → IsMeaning (own shown) (content_of shown) m → o.warnings ≡ warnings (sums_of m)

@@ -1,0 +1,140 @@
+// Keys: a text with its hash.
+ghost use Rattle.std.specs.Prelude.{◌≡◌, List, ℕ, Some, ◌==◌, IfOk};
+ghost use Rattle.std.proofs.Common.{rules};
+ghost use Rattle.std.specs.Cmp.Rules.{comparing, hashing};
+ghost use Rattle.std.specs.Ordering.{nat_cmp};
+ghost use Rattle.std.specs.Cmp.Lexicographic.{pointwise, slice_cmp, nat_list_eq_equiv, nat_list_cmp_total, texts_ties, texts_po};
+ghost use Rattle.std.specs.Cmp.{partial_equiv_from_equiv};
+ghost use Rattle.std.specs.Prelude.{nat_eq};
+ghost use Rattle.std.specs.Hash as fed;
+ghost use Rattle.allocative_graph.specs.Fnv.{fnv};
+
+use crate::static_text::StaticText;
+use std::alloc::AllocError;
+use std::cmp::Ordering;
+use std::hash::{Hash, Hasher};
+use std::marker::Model;
+
+#[derive(Drop)]
+pub struct Key {
+    text: StaticText,
+    hash: u64,
+}
+
+impl Model for Key {
+    ghost use Rattle.std.specs.Prelude.{◌≡◌, List, ℕ};
+    ghost use Rattle.allocative_graph.specs.Fnv.{fnv};
+
+    ghost Value = { List ℕ };
+
+    ghost view = { λ k. k.text };
+
+    ghost invariant = { λ k. k.hash ≡ fnv k.text };
+}
+
+impl Key {
+    // The FNV-1a hash of a text's bytes.
+    pub fn hash_of(text: &str) -> u64
+        ensures { result ≡ fnv text.now }
+    {
+        text.as_bytes()
+            .iter()
+            .fold(0xcbf2_9ce4_8422_2325, |hash: u64, byte| {
+                (hash ^ u64::from(*byte)).wrapping_mul(0x100_0000_01b3)
+            })
+    }
+
+    pub fn new(text: &'static str) -> Key
+        ensures { result ≡ text.now }
+    {
+        let hash = Key::hash_of(text);
+        Key {
+            text: StaticText::new(text),
+            hash,
+        }
+    }
+
+    pub fn new_unchecked(hash: u64, text: &'static str) -> Key
+        requires { hash ≡ fnv text.now }
+        ensures { result ≡ text.now }
+    {
+        Key {
+            text: StaticText::new(text),
+            hash,
+        }
+    }
+
+    /// The same key once more.
+    pub fn again(&self) -> Key
+        ensures { result ≡ self.now }
+    {
+        Key {
+            text: self.text.again(),
+            hash: self.hash,
+        }
+    }
+
+    pub fn as_str(&self) -> &'static str
+        ensures { result.now ≡ self.now }
+    {
+        self.text.as_str()
+    }
+}
+
+impl PartialEq for Key {
+    ghost eq = { pointwise nat_eq };
+
+    ghost laws = { partial_equiv_from_equiv nat_list_eq_equiv };
+
+    fn eq(&self, other: &Key) -> bool {
+        self.as_str() == other.as_str()
+    }
+}
+
+impl Eq for Key {
+    ghost laws = { nat_list_eq_equiv };
+}
+
+impl PartialOrd for Key {
+    ghost partial_cmp = { λ a b. Some (slice_cmp nat_cmp a b) };
+
+    ghost laws = { texts_po };
+
+    fn partial_cmp(&self, other: &Key) -> Option<Ordering> {
+        Some(self.cmp(other))
+    }
+}
+
+impl Ord for Key {
+    ghost cmp = { slice_cmp nat_cmp };
+
+    ghost total = { nat_list_cmp_total };
+
+    ghost matches_partial_cmp = { Prim.search (comparing, rules) };
+
+    ghost matches_eq = { texts_ties };
+
+    fn cmp(&self, other: &Key) -> Ordering {
+        self.as_str().cmp(other.as_str())
+    }
+}
+
+impl Hash for Key {
+    ghost hash_input = { λ k. fed.u64 (fnv k) };
+
+    ghost respects_eq = { Prim.search (hashing, rules) };
+
+    fn hash<H: Hasher>(&self, state: &mut H) {
+        state.write_u64(self.hash);
+    }
+}
+
+impl Clone for Key {
+    ghost is_clone = { λ k c. c ≡ k };
+
+    ghost is_infallible = { λ _. Unit {0} };
+
+    fn clone(&self) -> Result<Key, AllocError> {
+        Ok(self.again())
+    }
+}

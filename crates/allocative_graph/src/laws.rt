@@ -1,0 +1,65 @@
+//! The laws of the definitions. Each is a function without parameters, whose contract is the law.
+ghost use Rattle.allocative_graph.specs.Laws.{OrderLaw, MeaningLaw, MergeLaw, TextLaw, SumsLaw, PlusLaw, SharedLaw, PathOrderLaw, GraphSumsLaw, GraphLaw, ExactLaw};
+ghost use Rattle.allocative_graph.specs.Rows.{Rows};
+
+/// Two whole showings that agree up to order reach the same identities, and have the same graph, text and warnings.
+pub fn order_law()
+    ensures { OrderLaw }
+{}
+
+/// A whole showing shows the contents of exactly the identities that it reaches, and its entries are its own and,
+/// once for each identity reached, those of its content.
+pub fn meaning_law()
+    ensures { MeaningLaw }
+{}
+
+/// Where no identity is reached by both and the sums can be added, the graphs of two whole showings add up.
+pub fn merge_law()
+    ensures { MergeLaw }
+{}
+
+/// Where no key has a `;` or a line feed, graphs with equal texts have equal sizes at each path but the root.
+pub fn text_law()
+    ensures { TextLaw }
+{}
+
+/// Where no key has a `;` or a line feed, dropping the lines whose last key is `unused_capacity` drops the paths that end in it.
+pub fn exact_law()
+    ensures { ExactLaw }
+{}
+
+/// The sums of a bag, in closed form.
+pub fn sums_law()
+    ensures { SumsLaw }
+{}
+
+/// One forest and then another is both in one, and what was entered, was given a forest and was left is the entry
+/// with the forest inside it: in both collectors.
+pub fn plus_law()
+    ensures { PlusLaw }
+{}
+
+/// The same of shared entries: a content starts at the root, and the collector of held bytes stays as it is.
+pub fn shared_law()
+    ensures { SharedLaw }
+{}
+
+/// A beginning of a path comes before it; otherwise the first keys that differ decide, by their bytes.
+pub fn path_order_law()
+    ensures { PathOrderLaw }
+{}
+
+/// Adding graphs is commutative and associative, an empty graph changes nothing, and totals add up.
+pub fn graph_sums_law()
+    ensures { GraphSumsLaw }
+{}
+
+/// The graph of sums has the root with 0 and exactly their paths, each with what remains of its bytes.
+pub fn graph_law()
+    ensures { GraphLaw }
+{}
+
+/// What some showings print, and what some hold.
+pub fn rows_law()
+    ensures { Rows }
+{}

@@ -1,0 +1,39 @@
+//! Why a call refuses.
+use std::alloc::{AllocError, AllocFailed};
+use thiserror::Error;
+
+/// Why a call refused.
+#[derive(Clone, Copy, Debug, PartialEq, Eq, Error)]
+pub enum Refusal {
+    /// A growth of memory was refused, or a caller's own code made this refusal.
+    #[error("out of memory")]
+    Memory,
+    /// A declared size, a product or a sum of sizes passes its bound.
+    #[error("sizes do not fit")]
+    TooLarge,
+    /// A visitor was entered and neither left nor dropped.
+    #[error("a visitor was forgotten")]
+    Open,
+}
+
+impl From<AllocError> for Refusal {
+    ghost use Rattle.allocative_graph.specs.declared.refusal.Refusal.TheVariants.{Memory};
+    ghost use Rattle.std.specs.Prelude.{◌≡◌};
+
+    ghost from_gives = { λ _ r. r ≡ Memory };
+
+    fn from(_refused: AllocError) -> Refusal {
+        Refusal::Memory
+    }
+}
+
+impl<T: Drop> From<AllocFailed<T>> for Refusal {
+    ghost use Rattle.allocative_graph.specs.declared.refusal.Refusal.TheVariants.{Memory};
+    ghost use Rattle.std.specs.Prelude.{◌≡◌};
+
+    ghost from_gives = { λ _ r. r ≡ Memory };
+
+    fn from(_refused: AllocFailed<T>) -> Refusal {
+        Refusal::Memory
+    }
+}
