@@ -6,7 +6,7 @@ use Rattle.allocative_graph.specs.Path.{Key}
 use Rattle.allocative_graph.specs.Identity.{Identity}
 use Rattle.allocative_graph.specs.Forest.{Forest, Empty, entry_of, Inline, Unique, First, Again, AsInline, AsUnique, AsShared, own_behind, contents, followed_by, insert_all}
 use Rattle.allocative_graph.specs.Sums.{add, add_all}
-use Rattle.allocative_graph.specs.Collector.{Live, Holding, Kind, OfGraph, OfHeld, added, plus_live, plus_holding, go, leave_live, leave_holding, enter_live, enter_first, enter_again, enter_holding, held_bytes, plus, Takes, enter, leave, visitors, is_in_unique}
+use Rattle.allocative_graph.specs.Collector.{Live, Holding, Kind, OfGraph, OfHeld, added, plus_live, plus_holding, go, leave_live, leave_holding, enter_live, enter_first, enter_again, enter_holding, held_bytes, plus, Takes, enter, leave, begin, is_graph, visitors, is_in_unique}
 use Rattle.allocative_graph.specs.Held.{held, inline_bytes, ShowsNoContent}
 use Rattle.allocative_graph.proofs.Lookups.{add_all-permutation, add_all-append}
 use Rattle.allocative_graph.proofs.Following.{added-following, met-following, fits-both, fits-first, fits-second}
@@ -175,3 +175,20 @@ visitors-enter u k n (OfHeld h) = refl
 pub visitors-leave : (outer : Bool) (c : Kind) → visitors c ≤ suc (visitors (leave outer c))
 visitors-leave outer (OfGraph c) = pred_less c.open_visitors
 visitors-leave outer (OfHeld h) = pred_less h.open_visitors
+
+-- ---- which of the two it is
+pub is_graph-plus : (c : Kind) (f : Forest) → is_graph (plus c f) ≡ is_graph c
+is_graph-plus (OfGraph c) f = refl
+is_graph-plus (OfHeld h) f = refl
+
+pub is_graph-enter : (u : Bool) (k : Key) (n : ℕ) (c : Kind) → is_graph (enter u k n c) ≡ is_graph c
+is_graph-enter u k n (OfGraph c) = refl
+is_graph-enter u k n (OfHeld h) = refl
+
+pub is_graph-leave : (outer : Bool) (c : Kind) → is_graph (leave outer c) ≡ is_graph c
+is_graph-leave outer (OfGraph c) = refl
+is_graph-leave outer (OfHeld h) = refl
+
+pub is_graph-begin : (c : Kind) → is_graph (begin c) ≡ is_graph c
+is_graph-begin (OfGraph c) = refl
+is_graph-begin (OfHeld h) = refl

@@ -1,5 +1,5 @@
 -- What contracts see of a collector, and what entering, a forest and leaving do to it.
-use Rattle.std.specs.Prelude.{◌≡◌, ℕ, suc, pred, ◌+◌, Bool, false, cond, List, [], ◌∷◌, ◌++◌}
+use Rattle.std.specs.Prelude.{◌≡◌, ℕ, suc, pred, ◌+◌, Bool, true, false, cond, List, [], ◌∷◌, ◌++◌, ⊤}
 use Rattle.std.specs.FinMap as finmap
 use Rattle.std.specs.FinSet as set
 use Rattle.allocative_graph.specs.declared.refusal.Refusal.{Refusal}
@@ -90,6 +90,11 @@ abbrev pub leave_holding : Bool → Holding → Holding
 leave_holding outer h = record { sum = h.sum; open_visitors = pred h.open_visitors; is_in_unique = outer }
 
 -- ---- either
+-- Whether it is a flame graph's.
+abbrev pub is_graph : Kind → Bool
+is_graph (OfGraph c) = true
+is_graph (OfHeld h) = false
+
 -- The visitors that were entered and not left.
 abbrev pub visitors : Kind → ℕ
 visitors (OfGraph c) = c.open_visitors
@@ -120,19 +125,19 @@ abbrev pub leave : Bool → Kind → Kind
 leave outer (OfGraph c) = OfGraph (leave_live c)
 leave outer (OfHeld h) = OfHeld (leave_holding outer h)
 
--- A root visitor more.
+-- A root visitor more. It stands where the collector began.
 abbrev pub begin : Kind → Kind
 begin (OfGraph c) = OfGraph (go [] c)
-begin (OfHeld h) = OfHeld (record { sum = h.sum; open_visitors = suc h.open_visitors; is_in_unique = false })
+begin (OfHeld h) = OfHeld (record h { open_visitors = suc h.open_visitors })
 
 -- No visitor is out.
 abbrev pub IsClosed : Kind → Type 0
 IsClosed k = visitors k ≡ 0
 
--- The place is the root, with nothing to go back to.
+-- The current path is the root's, with nothing to go back to.
 abbrev pub IsAtRoot : Kind → Type 0
 IsAtRoot (OfGraph c) = (c.here ≡ []) × (c.back ≡ [])
-IsAtRoot (OfHeld h) = h.is_in_unique ≡ false
+IsAtRoot (OfHeld h) = ⊤
 
 -- A flame graph's collector of which nothing was asked yet.
 abbrev pub no_entries : Live
@@ -151,3 +156,8 @@ failed_with r (Going k) = Failed r
 abbrev pub left : Bool → State → State
 left outer (Failed r) = Failed r
 left outer (Going k) = Going (leave outer k)
+
+-- A collector that has not failed is a flame graph's.
+abbrev pub IsGraphs : State → Type 0
+IsGraphs (Failed r) = ⊤
+IsGraphs (Going k) = is_graph k ≡ true

@@ -7,9 +7,9 @@ use Rattle.allocative_graph.specs.Path.{Key}
 use Rattle.allocative_graph.specs.Identity.{Identity}
 use Rattle.allocative_graph.specs.Forest.{Forest, Bag, own, all}
 use Rattle.allocative_graph.specs.Meaning.{IsWhole, IsMeaning, ReachesExactly, content_of}
-use Rattle.allocative_graph.specs.Sums.{entered, sums_of}
+use Rattle.allocative_graph.specs.Sums.{Sums, entered, sums_of}
 use Rattle.allocative_graph.specs.Graph.{Graph, graph, warnings}
-use Rattle.allocative_graph.specs.Collector.{Live, Holding, Kind, OfGraph, OfHeld, State, Failed, Going, held_bytes, enter, enter_first, enter_again, leave, plus, Takes, visitors, is_in_unique, begin, IsClosed, IsAtRoot, failed_with, left}
+use Rattle.allocative_graph.specs.Collector.{Live, Holding, Kind, OfGraph, OfHeld, State, Failed, Going, held_bytes, enter, enter_first, enter_again, leave, plus, Takes, is_graph, visitors, is_in_unique, begin, IsClosed, IsAtRoot, failed_with, left}
 use Rattle.allocative_graph.specs.Shows.{Showing}
 
 -- What a visit of a value that may show what p allows does. A failed collector stays as it is. After Err it has failed. After Ok it has failed (a refusal was hidden), or has more visitors out than before (one was forgotten), or has one forest more, which p allows and which it takes.
@@ -17,7 +17,7 @@ pub data Shows (p : Showing) : State → Result Unit Refusal → State → Type 
   already : {r : Refusal} {result : Result Unit Refusal} → Shows p (Failed r) result (Failed r)
   refused : {b : Kind} {e r : Refusal} → Shows p (Going b) (Err e) (Failed r)
   hidden : {b : Kind} {u : Unit} {r : Refusal} → Shows p (Going b) (Ok u) (Failed r)
-  forgotten : {b c : Kind} {u : Unit} → visitors b < visitors c → Shows p (Going b) (Ok u) (Going c)
+  forgotten : {b c : Kind} {u : Unit} → is_graph c ≡ is_graph b → visitors b < visitors c → Shows p (Going b) (Ok u) (Going c)
   added : {b c : Kind} {u : Unit} → (f : Forest) → p f → Takes b f → c ≡ plus b f → Shows p (Going b) (Ok u) (Going c)
 
 -- s has failed, with the first cause r.
@@ -68,11 +68,11 @@ pub data Leaves (outer : Bool) : State → State → Type 0 where
   leaves_going : {b c : Kind} → c ≡ leave outer b → Leaves outer (Going b) (Going c)
 
 -- ---- root visitors
--- A root visitor goes out: the first cause; or Open where a visitor is out, and nothing changes.
-abbrev pub Begins : State → Result Unit Refusal → State → Type 0
-Begins (Failed r) (Ok u) t = ⊥
+-- A root visitor goes out: the first cause; or Open where a visitor is out, and nothing changes; or the answer is what leaving has to restore.
+abbrev pub Begins : State → Result Bool Refusal → State → Type 0
+Begins (Failed r) (Ok outer) t = ⊥
 Begins (Failed r) (Err e) t = (e ≡ r) × (t ≡ Failed r)
-Begins (Going b) (Ok u) t = IsClosed b × IsAtRoot b × (t ≡ Going (begin b))
+Begins (Going b) (Ok outer) t = IsClosed b × IsAtRoot b × (outer ≡ is_in_unique b) × (t ≡ Going (begin b))
 Begins (Going b) (Err e) t = (e ≡ Open) × ¬ IsClosed b × (t ≡ Going b)
 
 -- What is answered of a collector of which nothing else is asked: Ok where it has not failed and no visitor is out, else the first cause, or Open.
@@ -87,13 +87,24 @@ Runs p (Failed r) result t = (result ≡ Err r) × (t ≡ Failed r)
 Runs p (Going b) (Ok u) (Failed r) = ⊥
 Runs p (Going b) (Ok u) (Going c) = IsClosed c × (f : Forest) × p f × Takes b f × (c ≡ plus b f)
 Runs p (Going b) (Err e) (Failed r) = e ≡ r
-Runs p (Going b) (Err e) (Going c) = (e ≡ Open) × ¬ IsClosed c
+Runs p (Going b) (Err e) (Going c) = (e ≡ Open) × ¬ IsClosed c × (is_graph c ≡ is_graph b)
 
 -- ---- whole runs
 -- What a finished run gives: the graph, and the text of the warnings.
 pub record Profile : Type 0 where
   pub graph : Graph
   pub warnings : List ℕ
+
+-- How a flame graph's collector ends: with its first cause; or Open where a visitor is out; or with what p says of its sums, where memory is not refused.
+abbrev pub Ends : {T : Type 0} → (Sums → T → Type 0) → State → Result T Refusal → Type 0
+Ends p (Failed r) result = result ≡ Err r
+Ends p (Going (OfGraph c)) (Ok made) = IsClosed (OfGraph c) × p c.sums made
+Ends p (Going (OfGraph c)) (Err e) = ((e ≡ Open) × ¬ IsClosed (OfGraph c)) ⊎ ((e ≡ Memory) × IsClosed (OfGraph c))
+Ends p (Going (OfHeld h)) result = ⊥
+
+-- Graph and warnings are those of the sums.
+abbrev pub IsProfile : Sums → Profile → Type 0
+IsProfile s o = (o.graph ≡ graph s) × (o.warnings ≡ warnings s)
 
 -- The profile is that of some whole showing f which p allows: f reaches exactly the identities whose contents it shows, its own entries have a meaning, and graph and warnings are those of each such meaning.
 pub record IsProfileOf (p : Showing) (o : Profile) : Type 0 where

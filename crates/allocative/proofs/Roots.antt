@@ -1,0 +1,171 @@
+-- What a visit by a root visitor comes to.
+use Rattle.std.proofs.Common.{◌≡◌, ℕ, suc, ◌+◌, ◌<◌, ◌≤◌, List, [], length, take, get_or, Bool, false, Result, Ok, Err, refl, ap, sym, subst, ◌∙◌, arith}
+use Rattle.allocative_graph.specs.declared.refusal.Refusal.{Refusal}
+use Rattle.allocative_graph.specs.Forest.{Forest, Empty, followed_by, met_after, Fits, own, all}
+use Rattle.allocative_graph.specs.Sums.{add_all, sums_of}
+use Rattle.allocative_graph.specs.Meaning.{IsWhole, IsMeaning, content_of}
+use Rattle.allocative_graph.specs.Graph.{graph, warnings}
+use Rattle.allocative_graph.specs.Held.{held, ShowsNoContent}
+use Rattle.allocative_graph.specs.Collector.{added as added_entries, Live, Holding, Kind, OfGraph, OfHeld, State, Failed, Going, leave, plus, Takes, visitors, is_graph, begin, is_in_unique, IsClosed, IsAtRoot, left, nothing_held, no_entries}
+use Rattle.allocative_graph.specs.Shows.{Showing, Nothing, Both, each_shows}
+use Rattle.allocative_graph.specs.Visits.{Shows, already, refused, hidden, forgotten, added, Leaves, Begins, Settles, Runs, Ends, IsProfile, Profile, IsProfileOf}
+use Rattle.allocative_graph.proofs.Plus.{plus-nothing, plus-following, takes_nothing, takes_both, visitors-plus, visitors-leave, is_graph-plus, is_graph-leave, is_graph-begin}
+use Rattle.allocative.specs.Steps.{IsSum}
+use Rattle.allocative.proofs.Showing.{left_by, each_and_one}
+use Rattle.allocative_graph.proofs.Reach.{all_is_meaning, reaches_exactly}
+use Rattle.allocative_graph.proofs.OneMeaning.{one_sums}
+use Rattle.std.proofs.lemmas.List.{take_more}
+
+visitors-begin : (b : Kind) → IsClosed b → visitors (begin b) ≡ 1
+visitors-begin (OfGraph c) h = ap suc h
+visitors-begin (OfHeld k) h = ap suc h
+
+abbrev IsClosedState : State → Type 0
+IsClosedState (Failed r) = ⊥
+IsClosedState (Going b) = IsClosed b
+
+abbrev IsGoing : State → Type 0
+IsGoing (Failed q) = ⊥
+IsGoing (Going b) = Unit {0}
+
+abbrev kind_or : Kind → State → Kind
+kind_or b (Failed r) = b
+kind_or b (Going c) = c
+
+failed_not_going : (b : Kind) (r : Refusal) → Failed r ≡ Going b → ⊥
+failed_not_going b r e = subst IsGoing (sym e) tt
+
+same_kind : (b c : Kind) → Going b ≡ Going c → b ≡ c
+same_kind b c e = ap (kind_or b) e
+
+-- the root visitor's entries, and its end
+out_of_begin : (b : Kind) (f : Forest) → IsAtRoot b → leave (is_in_unique b) (plus (begin b) f) ≡ plus b f
+out_of_begin (OfGraph c) f h = λ i. OfGraph (record c { sums = add_all c.sums (added_entries (sym h.0 i) f); met = met_after c.met f })
+out_of_begin (OfHeld k) f h = refl
+
+takes_begin : (b : Kind) (f : Forest) → Takes (begin b) f → Takes b f
+takes_begin (OfGraph c) f t = t
+takes_begin (OfHeld k) f t = t
+
+abbrev IsOkay : Result Unit Refusal → Type 0
+IsOkay (Ok u) = Unit {0}
+IsOkay (Err e) = ⊥
+
+abbrev cause_or : Refusal → Result Unit Refusal → Refusal
+cause_or x (Ok u) = x
+cause_or x (Err e) = e
+
+ok_not_err : (x : Refusal) (q r : Result Unit Refusal) → IsOkay q → q ≡ r → r ≡ Err x → ⊥
+ok_not_err x q r h e f = subst IsOkay (e ∙ f) h
+
+ended : (p : Showing) (b : Kind) (x : Refusal) (q : Result Unit Refusal) → Settles (Failed x) q → Runs p (Going b) q (Failed x)
+ended p b x (Ok u) k = absurd (ok_not_err x (Ok u) (Ok u) tt refl k)
+ended p b x (Err e) k = ap (cause_or x) k
+
+run_going : {p : Showing} (b e : Kind) {c : State} {r : Result Unit Refusal} (q : Result Unit Refusal) → IsClosed b → IsAtRoot b → e ≡ begin b → Shows p (Going e) r c → Settles (left (is_in_unique b) c) q → Runs p (Going b) q (left (is_in_unique b) c)
+run_going b e q h here i (refused {r = x}) k = ended _ b x q k
+run_going b e q h here i (hidden {r = x}) k = ended _ b x q k
+run_going b e (Err x) h here i (forgotten {c = c} j l) k = (k.0, k.1, is_graph-leave (is_in_unique b) c ∙ j ∙ ap is_graph i ∙ is_graph-begin b)
+run_going b e (Ok u) h here i (forgotten {c = c} j l) k =
+    let d : visitors e ≡ 1 = ap visitors i ∙ visitors-begin b h in
+    let z : visitors (leave (is_in_unique b) c) ≡ 0 = k in
+    let g = visitors-leave (is_in_unique b) c in
+    absurd (omega (arith, d, z, g, l))
+run_going b e (Err x) h here i (added {c = c} f p t g) k = (k.0, k.1, is_graph-leave (is_in_unique b) c ∙ ap is_graph g ∙ is_graph-plus e f ∙ ap is_graph i ∙ is_graph-begin b)
+run_going b e (Ok u) h here i (added {c = c} f p t g) k =
+    let t' : Takes (begin b) f = subst (λ (x : Kind). Takes x f) i t in
+    let g' : c ≡ plus (begin b) f = rw i at g in
+    (k, f, p, takes_begin b f t', ap (leave (is_in_unique b)) g' ∙ out_of_begin b f here)
+
+-- what a root visitor was, what was shown there, what leaving does, and what is answered then
+pub run_shows : (s : State) (q : Result Unit Refusal) {p : Showing} {t a c d : State} {o w : Bool} {r : Result Unit Refusal} → Begins s (Ok o) t → a ≡ t → Shows p a r c → Leaves w c d → w ≡ o → Settles d q → Runs p s q d
+run_shows (Failed x) q h i v l e k = absurd h
+run_shows (Going b) q {p} {c = c} {r = r} h i v l e k =
+    let d = left_by l ∙ ap (λ (o : Bool). left o c) (e ∙ h.2) in
+    let v' : Shows p (Going (begin b)) r c = subst (λ (z : State). Shows p z r c) (i ∙ h.3) v in
+    let k' : Settles (left (is_in_unique b) c) q = rw d at k in
+    rw d (run_going b (begin b) q h.0 h.1 refl v' k')
+
+pub run_refused : (p : Showing) (s : State) (e : Refusal) (t : State) → Begins s (Err e) t → Runs p s (Err e) t
+run_refused p (Failed r) e t (h, i) = (ap Err h, i)
+run_refused p (Going b) e (Failed r) (h, n, i) = absurd (failed_not_going b r i)
+run_refused p (Going b) e (Going c) (h, n, i) = (h, subst (λ (x : State). IsClosedState x → ⊥) (sym i) n, ap is_graph (same_kind c b i))
+
+-- the sum of a run
+pub held_by_run : (p : Showing) (s t : State) (u : Unit) (n : ℕ) → s ≡ Going (OfHeld nothing_held) → Runs p s (Ok u) t → IsSum t n → (f : Forest) × p f × ShowsNoContent f × (n ≡ held f)
+held_by_run p (Failed r) t u n e h k = absurd (failed_not_going _ r e)
+held_by_run p (Going b) (Failed r) u n e h k = absurd h
+held_by_run p (Going b) (Going c) u n e (z, f, a, t, g) k =
+    let i : b ≡ OfHeld nothing_held = same_kind b _ e in
+    let t' : Takes (OfHeld nothing_held) f = subst (λ (x : Kind). Takes x f) i t in
+    let g' : c ≡ plus (OfHeld nothing_held) f = rw i at g in
+    let k' : n ≡ 0 + (held f + 0) = subst (λ (x : Kind). IsSum (Going x) n) g' k in
+    (f, a, t', omega (arith, k'))
+
+-- ---- one root after another
+pub runs_nothing : (s : State) (u : Unit) → Settles s (Ok u) → Runs Nothing s (Ok u) s
+runs_nothing (Failed r) u h = absurd (ok_not_err r (Ok u) (Ok u) tt refl h)
+runs_nothing (Going b) u h = (h, Empty, refl, takes_nothing b, sym (plus-nothing b))
+
+pub runs_weaker : (p q : Showing) (s : State) (r : Result Unit Refusal) (t : State) → ((f : Forest) → p f → q f) → Runs p s r t → Runs q s r t
+runs_weaker p q (Failed x) r t up h = h
+runs_weaker p q (Going b) (Ok u) (Failed x) up h = h
+runs_weaker p q (Going b) (Ok u) (Going c) up (z, f, a, t, e) = (z, f, up f a, t, e)
+runs_weaker p q (Going b) (Err e) (Failed r) up h = h
+runs_weaker p q (Going b) (Err e) (Going c) up h = h
+
+pub runs_both : (p q : Showing) (s m t : State) (u : Unit) (r : Result Unit Refusal) → Runs p s (Ok u) m → Runs q m r t → Runs (Both p q) s r t
+runs_both p q (Failed x) m t u r g h = absurd (ok_not_err x (Ok u) (Ok u) tt refl g.0)
+runs_both p q (Going b) (Failed x) t u r g h = absurd g
+runs_both p q (Going b) (Going c) (Failed x) u (Ok v) g h = h
+runs_both p q (Going b) (Going c) (Failed x) u (Err e) g h = h
+runs_both p q (Going b) (Going c) (Going d) u (Err e) (z, f, a, t, k) h = (h.0, h.1, h.2 ∙ ap is_graph k ∙ is_graph-plus b f)
+runs_both p q (Going b) (Going c) (Going d) u (Ok v) (z, f, a, t, k) (y, g, b', t', k') =
+    let taken : Takes (plus b f) g = subst (λ (x : Kind). Takes x g) k t' in
+    let is : d ≡ plus (plus b f) g = rw k at k' in
+    (y, followed_by f g, (f, g, a, b', refl), takes_both b f g t taken, is ∙ sym (plus-following b f g))
+
+-- a loop's step, and the answer of a root that is refused
+pub runs_one_more : {T : Type 0} (p : T → Showing) (xs : List T) (i : ℕ) (x : T) (s m t : State) (u v w : Unit) →
+    Runs (each_shows p (take i xs)) s (Ok u) m → Runs (p x) m (Ok v) t → i < length xs → x ≡ get_or xs i x → Runs (each_shows p (take (i + 1) xs)) s (Ok w) t
+runs_one_more p xs i x s m t u v w f g h e =
+    let e' = take_more xs i x h in
+    rw (e', ← e) (runs_weaker _ _ s (Ok w) t (each_and_one p (take i xs) x) (runs_both (each_shows p (take i xs)) (p x) s m t u (Ok w) f g))
+
+pub runs_err : (p q r : Showing) (s m t : State) (u : Unit) (e x : Refusal) → Runs p s (Ok u) m → Runs q m (Err e) t → x ≡ e → Runs r s (Err x) t
+runs_err p q r (Failed y) m t u e x g h i = absurd (ok_not_err y (Ok u) (Ok u) tt refl g.0)
+runs_err p q r (Going b) (Failed y) t u e x g h i = absurd g
+runs_err p q r (Going b) (Going c) (Failed y) u e x g h i = i ∙ h
+runs_err p q r (Going b) (Going c) (Going d) u e x (z, f, a, t, k) h i = (i ∙ h.0, h.1, h.2 ∙ ap is_graph k ∙ is_graph-plus b f)
+
+-- a collector of which nothing can be asked stays as it is
+pub runs_unsettled : (p : Showing) (s : State) (e : Refusal) → Settles s (Err e) → Runs p s (Err e) s
+runs_unsettled p (Failed r) e h = (h, refl)
+runs_unsettled p (Going b) e h = (h.0, h.1, refl)
+
+-- ---- a whole run
+profile_by_sums : (p : Showing) (o : Profile) (f : Forest) → p f → IsWhole f → o.graph ≡ graph (sums_of (all f)) → o.warnings ≡ warnings (sums_of (all f)) → IsProfileOf p o
+profile_by_sums p o f a w g k =
+    let is = all_is_meaning f w in
+    record {
+      shown = f;
+      allowed = a;
+      whole = w;
+      reaches = reaches_exactly f w;
+      meaning = is;
+      graph_is = λ m im. g ∙ ap graph (one_sums (own f) (content_of f) (all f) m is im);
+      warnings_are = λ m im. k ∙ ap warnings (one_sums (own f) (content_of f) (all f) m is im);
+    }
+
+pub profile_by_run : (p : Showing) (s t : State) (u : Unit) (o : Profile) → s ≡ Going (OfGraph no_entries) → Runs p s (Ok u) t → Ends IsProfile t (Ok o) → IsProfileOf p o
+profile_by_run p (Failed r) t u o e h k = absurd (failed_not_going _ r e)
+profile_by_run p (Going b) (Failed r) u o e h k = absurd h
+profile_by_run p (Going b) (Going c) u o e (z, f, a, t, g) k =
+    let i : b ≡ OfGraph no_entries = same_kind b _ e in
+    let t' : Fits no_entries.met f = subst (λ (x : Kind). Takes x f) i t in
+    let g' : c ≡ plus (OfGraph no_entries) f = rw i at g in
+    let k' : Ends IsProfile (Going (plus (OfGraph no_entries) f)) (Ok o) = subst (λ (x : Kind). Ends IsProfile (Going x) (Ok o)) g' k in
+    profile_by_sums p o f a t' k'.1.0 k'.1.1
+
+-- what root visits go by
+pub ruleset running = (run_shows, run_refused, held_by_run, runs_nothing, runs_unsettled, runs_err, profile_by_run)

@@ -1,0 +1,49 @@
+-- The collector's own steps as the relations of visits, whose arguments a search finds.
+use Rattle.std.proofs.Common.{◌≡◌, ℕ, Bool, true, false, None, Result, Ok, Err, refl, sym, subst, ap}
+use Rattle.allocative_graph.specs.declared.refusal.Refusal.{Refusal}
+use Rattle.allocative_graph.specs.declared.refusal.Refusal.TheVariants.{TooLarge}
+use Rattle.allocative_graph.specs.Path.{Key}
+use Rattle.allocative_graph.specs.Identity.{Identity}
+use Rattle.allocative_graph.specs.Collector.{Kind, OfGraph, OfHeld, State, Failed, Going, failed_with, left}
+use Rattle.allocative_graph.specs.Visits.{HasFailed, Enters, stays_failed, is_refused, is_entered, EntersSized, stays_unsized, is_unsized, is_sized, EntersShared, stays_shared, is_refused_shared, goes_past, enters_first, enters_again, Leaves, leaves_failed, leaves_going}
+use Rattle.allocative.specs.Steps.{StepsIn, StepsInShared}
+
+pub enters_by_step : (u : Bool) (k : Key) (n : ℕ) (s : State) (r : Result Bool Refusal) (t : State) → StepsIn u k n s r t → Enters u k n s r t
+enters_by_step u k n (Failed q) r t (e, f) = rw (e, f) stays_failed
+enters_by_step u k n (Going b) (Ok o) t (r, e, f) = rw f (is_entered r e refl)
+enters_by_step u k n (Going b) (Err x) t (r, f) = rw f (is_refused r)
+
+pub shared_by_step : (k : Key) (n : ℕ) (i : Identity) (s : State) (r : Result Bool Refusal) (t : State) → StepsInShared k n i s r t → EntersShared k n i s r t
+shared_by_step k n i (Failed q) r t (e, f) = rw (e, f) stays_shared
+shared_by_step k n i (Going (OfHeld h)) r t (e, f) = rw (e, f) goes_past
+shared_by_step k n i (Going (OfGraph c)) (Ok true) t (r, d, (h, e), f) = rw f (enters_first r h e)
+shared_by_step k n i (Going (OfGraph c)) (Ok false) t (r, d, (h, e), f) = rw f (enters_again r h e)
+shared_by_step k n i (Going (OfGraph c)) (Err e) t (r, f) = rw f (is_refused_shared r)
+
+abbrev cause_or : Refusal → State → Refusal
+cause_or r (Failed q) = q
+cause_or r (Going b) = r
+
+abbrev IsGoing : State → Type 0
+IsGoing (Failed q) = ⊥
+IsGoing (Going b) = Unit {0}
+
+same_cause : (p q : Refusal) → Failed p ≡ Failed q → p ≡ q
+same_cause p q e = ap (cause_or p) e
+
+going_not_failed : (b : Kind) (q : Refusal) → Going b ≡ Failed q → ⊥
+going_not_failed b q e = subst IsGoing e tt
+
+-- with no declared size it is TooLarge
+pub unsized_by_refusal : (k : Key) (s : State) (e : Refusal) (t : State) → t ≡ failed_with TooLarge s → HasFailed t e → EntersSized k None s (Err e) t
+unsized_by_refusal k (Failed q) e (Failed p) h i = rw (sym (same_cause p e i), same_cause p q h) stays_unsized
+unsized_by_refusal k (Going b) e (Failed p) h i = rw (sym (same_cause p e i)) (is_unsized (same_cause p TooLarge h))
+unsized_by_refusal k (Failed q) e (Going b) h i = absurd (going_not_failed b q h)
+unsized_by_refusal k (Going c) e (Going b) h i = absurd (going_not_failed b TooLarge h)
+
+pub leaves_by_left : (o : Bool) (s t : State) → t ≡ left o s → Leaves o s t
+leaves_by_left o (Failed r) t e = rw e leaves_failed
+leaves_by_left o (Going b) t e = rw e (leaves_going refl)
+
+-- what the collector's own calls go by
+pub ruleset steps = (leaves_by_left, is_sized, enters_by_step, shared_by_step, unsized_by_refusal)

@@ -1,0 +1,7 @@
+-- A root visitor, what is shown there, and its end.
+use Rattle.std.proofs.Common.{rules, refl}
+use Rattle.allocative.proofs.Roots.{run_shows}
+use Rattle.allocative.proofs.collector.Collector.visit_one.Goals as goal
+
+pub returns : goal.returns
+returns g c = run_shows _ _ c.in_ok-visitor.ensures.begun refl c.visit_part-told.ensures.shown (search rules) c.visit_part-told.ensures.same_outer c.check.ensures

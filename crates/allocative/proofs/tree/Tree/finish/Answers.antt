@@ -1,0 +1,34 @@
+-- The walk from the root has all places.
+use Rattle.std.proofs.Common.{ℕ, List, [], ◌∷◌, ◌++◌, map, Bor, sym, ap, subst, ◌∙◌}
+use Rattle.std.specs.Prelude.{flat_map}
+use Rattle.std.specs.FinMap.{get, same_map}
+use Rattle.allocative_graph.specs.Path.{Path}
+use Rattle.allocative_graph.specs.Graph.{graph}
+use Rattle.allocative_graph.proofs.Basics.{path_total, path_antisymmetric}
+use Rattle.allocative.specs.Listed.{map_of}
+use Rattle.allocative.specs.Finishing.{warned}
+use Rattle.allocative.specs.Nodes.{shape}
+use Rattle.allocative.specs.Walks.{IsWalk}
+use Rattle.allocative.proofs.Bridge.{IsListing}
+use Rattle.allocative.proofs.Below.{listing}
+use Rattle.allocative.proofs.Whole.{warnings_walk}
+use Rattle.allocative.proofs.tree.Tree.finish.Goals as goal
+
+pub make-requires-clause-within : goal.make-requires-clause-within
+make-requires-clause-within c = (subst IsListing c.self.view_is (listing (map shape c.self.inside.nodes.items) c.self.invariant)).rooted
+
+pub make-requires-clause-keys : goal.make-requires-clause-keys
+make-requires-clause-keys c =
+    let all : IsListing c.args.self.now = subst IsListing c.self.view_is (listing (map shape c.self.inside.nodes.items) c.self.invariant) in
+    ap (map (λ (k : Bor (List ℕ)). k.now)) c.new-keys.ensures.items ∙ sym all.root_path
+
+pub returns-clause-made : goal.returns-clause-made
+returns-clause-made c =
+    let v = c.args.self.now in
+    let all : IsListing v = subst IsListing c.self.view_is (listing (map shape c.self.inside.nodes.items) c.self.invariant) in
+    let made = c.in_ok-graph.ensures.made in
+    let walk : IsWalk v [] (0 ∷ made.others) = subst (λ (p : Path). IsWalk v p (0 ∷ made.others)) all.root_path made.walk in
+    record {
+      graph_is = same_map path_total path_antisymmetric c.in_ok-graph.graph (graph (map_of v)) (λ q. made.graph_is q ∙ ap (λ (p : Path). get (graph (map_of v)) (p ++ q)) all.root_path);
+      warnings_are = made.warnings_are ∙ (ap (λ (l : List ℕ). l ++ flat_map (warned v) (0 ∷ made.others)) c.new-warnings.ensures.bytes ∙ warnings_walk v all made.others walk);
+    }

@@ -1,0 +1,10 @@
+pub mod Steps
+pub mod Kinds
+pub mod Lending
+pub mod Listed
+pub mod Shapes
+pub mod Nodes
+pub mod Walks
+pub mod Finishing
+pub mod Output
+pub mod Places

@@ -1,0 +1,53 @@
+-- The paths that were entered, in the order in which each was entered first, with what was entered there.
+use Rattle.std.specs.Prelude.{◌≡◌, ℕ, ◌+◌, List, [], ◌∷◌, ◌++◌, Bool, false, ◌||◌, if◌then◌else◌, slice_index_or, sum_by, length, ◌<◌, map}
+use Rattle.std.specs.FinMap.{from_entries}
+use Rattle.allocative_graph.specs.Path.{Key, Path, is_same_path}
+use Rattle.allocative_graph.specs.Sums.{Sums, Node}
+
+-- a path, the bytes entered there, and whether it was ever entered as unique
+pub record Sum : Type 0 where
+  pub path : Path
+  pub bytes : ℕ
+  pub unique : Bool
+
+abbrev pub Listed : Type 0
+Listed = List Sum
+
+-- the root, where nothing was entered
+abbrev pub root_sum : Sum
+root_sum = record { path = []; bytes = 0; unique = false }
+
+-- one more entry at a path that was entered before
+abbrev pub raise : ℕ → Bool → Sum → Sum
+raise n u s = record { path = s.path; bytes = s.bytes + n; unique = s.unique || u }
+
+-- one more entry of n bytes at p
+abbrev pub add : Path → ℕ → Bool → Listed → Listed
+add p n u [] = record { path = p; bytes = n; unique = u } ∷ []
+add p n u (s ∷ rest) = if is_same_path s.path p then raise n u s ∷ rest else s ∷ add p n u rest
+
+-- all bytes
+abbrev pub total : Listed → ℕ
+total s = sum_by (λ e. e.bytes) s
+
+abbrev pub path_at : Listed → ℕ → Path
+path_at s i = let e = slice_index_or s i root_sum in e.path
+
+-- n bytes were entered under k at the path of place `at`, and i is the place of that path now
+pub record IsEntered (old new : Listed) (at : ℕ) (k : Key) (n : ℕ) (u : Bool) (i : ℕ) : Type 0 where
+  pub sums : new ≡ add (path_at old at ++ k ∷ []) n u old
+  pub not_root : 0 < i
+  pub within : i < length new
+  pub path : path_at new i ≡ path_at old at ++ k ∷ []
+
+-- ---- as a map
+abbrev pub row : Sum → Path × Node
+row e = (e.path, record { bytes = e.bytes; is_unique = e.unique })
+
+-- all but the root, which stands first
+abbrev pub rows : Listed → List (Path × Node)
+rows [] = []
+rows (r ∷ s) = map row s
+
+abbrev pub map_of : Listed → Sums
+map_of s = from_entries (rows s)

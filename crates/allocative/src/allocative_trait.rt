@@ -1,0 +1,25 @@
+//! The trait of values that show what they hold.
+ghost use Rattle.std.specs.Prelude.{◌≡◌};
+ghost use Rattle.allocative_graph.specs.Forest.{Forest};
+ghost use Rattle.allocative_graph.specs.Visits.{Shows};
+
+use crate::visitor::Visitor;
+use allocative_graph::refusal::Refusal;
+
+/// A value that shows what it holds.
+///
+/// `may_show` says which forests of entries the value may show: it is the meaning that the type gives to its values, and
+/// `visit` is proved to enter one of them.
+pub trait Allocative: Drop {
+    ghost may_show: { Self → Forest → Type 0 };
+
+    /// Enters what the value holds.
+    ///
+    /// After `Err` the collector has failed. After `Ok` it has failed (a refusal was hidden), or has more visitors out than
+    /// before (one was forgotten), or is the old one with one forest more that the value may show. A collector that had
+    /// failed stays as it was. The visitor stands where it stood.
+    fn visit(&self, visitor: &mut Visitor<'_>) -> Result<(), Refusal>
+        ensures same_reference { visitor.new.collector.ghost_name ≡ visitor.old.collector.ghost_name }
+        ensures same_outer { visitor.new.outer_is_unique ≡ visitor.old.outer_is_unique }
+        ensures shown { Shows (may_show self.now) visitor.old.collector.now result visitor.new.collector.now };
+}

@@ -1,0 +1,111 @@
+//! Builders of flame graphs, and what they finish as.
+#![tactic(auto, using(crate::proofs::Roots::running))]
+
+ghost use Rattle.std.specs.Prelude.{◌≡◌, ◌↔◌, IfOk, IfErr, MatchResult, string_bytes};
+ghost use Rattle.allocative_graph.specs.Graph.{text, graph};
+ghost use Rattle.allocative_graph.specs.Collector.{Going, OfGraph, no_entries};
+ghost use Rattle.allocative_graph.specs.Visits.{Runs, Settles, Ends, IsProfile};
+
+use crate::allocative_trait::Allocative;
+use crate::collector::Collector;
+use allocative_graph::flamegraph::FlameGraph;
+use allocative_graph::refusal::Refusal;
+use std::alloc::Global;
+use std::marker::Model;
+
+/// A finished flame graph, and its warnings.
+#[derive(Drop)]
+pub struct FlameGraphOutput {
+    flamegraph: FlameGraph,
+    warnings: String,
+}
+
+impl Model for FlameGraphOutput {
+    ghost use Rattle.std.specs.Prelude.{string_bytes};
+    ghost use Rattle.allocative_graph.specs.Visits.{Profile};
+    ghost use Rattle.allocative_graph.specs.Codes.{profile_code};
+
+    ghost Value = { Profile };
+
+    ghost coded = { profile_code };
+
+    ghost view = { λ o. record { graph = o.flamegraph; warnings = string_bytes o.warnings } };
+}
+
+impl FlameGraphOutput {
+    /// The graph.
+    pub fn flamegraph(&self) -> &FlameGraph
+        ensures { result.now ≡ self.now.graph }
+    {
+        &self.flamegraph
+    }
+
+    /// A copy of the warnings' text. It is refused for want of memory alone.
+    pub fn warnings(&self) -> Result<String, Refusal>
+        ensures { MatchResult result (λ copy. string_bytes copy ≡ self.now.warnings) (λ r. r ≡ Refusal.Memory) }
+    {
+        Ok(self.warnings.clone()?)
+    }
+}
+
+/// Collects what values show, and finishes as their flame graph.
+#[derive(Drop)]
+pub struct FlameGraphBuilder {
+    collector: Collector,
+}
+
+impl Model for FlameGraphBuilder {
+    ghost use Rattle.allocative_graph.specs.Collector.{State, IsGraphs};
+    ghost use Rattle.allocative_graph.specs.Codes.{state_code};
+
+    ghost Value = { State };
+
+    ghost coded = { state_code };
+
+    ghost view = { λ b. b.collector };
+
+    ghost invariant = { λ b. IsGraphs b.collector };
+}
+
+impl FlameGraphBuilder {
+    /// An empty builder. It is refused for want of memory alone.
+    pub fn new(alloc: Global) -> Result<FlameGraphBuilder, Refusal>
+        ensures { MatchResult result (λ b. b ≡ Going (OfGraph no_entries)) (λ r. r ≡ Refusal.Memory) }
+    {
+        Ok(FlameGraphBuilder {
+            collector: Collector::graph(alloc)?,
+        })
+    }
+
+    /// Visits a root by a root visitor. Ok exactly where the builder afterwards has neither failed nor stands open.
+    pub fn visit_root(&mut self, root: &dyn Allocative) -> Result<(), Refusal>
+        ensures { Runs (may_show root.now) self.old result self.new }
+    {
+        self.collector.visit_object(root)
+    }
+
+    /// Ok where the builder has neither failed nor stands open; else its first cause, or Open.
+    pub(crate) fn check(&self) -> Result<(), Refusal>
+        ensures { Settles self.now result }
+    {
+        self.collector.check()
+    }
+
+    /// The graph and the warnings of all that was entered.
+    pub fn finish(self) -> Result<FlameGraphOutput, Refusal>
+        ensures { Ends IsProfile self result }
+    {
+        let made = self.collector.finish()?;
+        Ok(FlameGraphOutput {
+            flamegraph: made.graph,
+            warnings: made.warnings,
+        })
+    }
+
+    /// `finish`, then the text of the graph.
+    pub fn finish_and_write_flame_graph(self) -> Result<String, Refusal>
+        ensures { Ends (λ s t. string_bytes t ≡ text (graph s)) self result }
+    {
+        self.finish()?.flamegraph().write()
+    }
+}

@@ -1,0 +1,271 @@
+//! The collectors: a flame graph's, and that of held bytes.
+#![tactic(auto, using(crate::proofs::Steps::steps))]
+
+ghost use Rattle.std.specs.Prelude.{◌≡◌, ◌+◌, ◌<◌, ◌^◌, true, false, IfOk, IfErr, OnOk, IsTrue, ◌↔◌};
+ghost use Rattle.allocative_graph.specs.Collector.{State, Failed, Going, OfGraph, OfHeld, no_entries, nothing_held, enter, leave, begin, is_in_unique, failed_with, left, IsClosed, IsAtRoot, IsGraphs};
+ghost use Rattle.allocative_graph.specs.Visits.{HasFailed, HasRoom, Refuses, Enters, EntersSized, EntersShared, Begins, Settles, Ends};
+ghost use Rattle.allocative.specs.Steps.{StepsIn, StepsInShared, IsSum};
+ghost use Rattle.allocative.specs.Output.{IsOutput};
+ghost use Rattle.allocative.specs.Kinds.{kind_of};
+
+use crate::graph_collector::GraphCollector;
+use crate::held_collector::HeldCollector;
+use crate::tree::Output;
+use allocative_graph::key::Key;
+use allocative_graph::refusal::Refusal;
+use allocative_graph::shared::Identity;
+use std::alloc::{AllocError, Global};
+use std::marker::Model;
+
+#[derive(Drop)]
+enum Kind {
+    Graph(GraphCollector),
+    Held(HeldCollector),
+}
+
+/// What visitors enter into: the collector of a flame graph, or that of held bytes.
+///
+/// It has failed, with its first cause, or it is going. Visitors lend it on; code that implements `Allocative` reaches
+/// it by `visitor.collector`.
+#[derive(Drop)]
+pub struct Collector {
+    failed: Option<Refusal>,
+    kind: Kind,
+}
+
+impl Model for Collector {
+    ghost use Rattle.allocative_graph.specs.Collector.{State};
+    ghost use Rattle.allocative_graph.specs.Codes.{state_code};
+
+    ghost Value = { State };
+
+    ghost coded = { state_code };
+
+    ghost use Rattle.allocative.specs.Kinds.{kind_of, state_of};
+
+    ghost view = { λ c. state_of c.failed (kind_of c.kind) };
+}
+
+impl Kind {
+    // One entry more, and a visitor at it. Answers what leaving has to restore.
+    fn enter(&mut self, key: Key, size: usize, is_unique: bool) -> Result<bool, Refusal>
+        ensures ok { IfOk result (λ outer. HasRoom is_unique size (kind_of self.old) × (outer ≡ is_in_unique (kind_of self.old)) × (kind_of self.new ≡ enter is_unique key size (kind_of self.old))) }
+        ensures err { IfErr result (Refuses is_unique size (kind_of self.old)) }
+    {
+        match self {
+            Kind::Graph(graph) => {
+                graph.enter(key, size, is_unique)?;
+                Ok(false)
+            }
+            Kind::Held(held) => held.enter(size, is_unique),
+        }
+    }
+
+    // A visitor less.
+    fn leave(&mut self, outer: bool)
+        ensures { kind_of self.new ≡ leave outer (kind_of self.old) }
+    {
+        match self {
+            Kind::Graph(graph) => graph.leave(),
+            Kind::Held(held) => held.leave(outer),
+        }
+    }
+
+    // Whether no visitor is out.
+    fn is_closed(&self) -> bool
+        ensures closed { IsTrue result ↔ IsClosed (kind_of self.now) }
+        ensures at_root { IsTrue result → IsAtRoot (kind_of self.now) }
+    {
+        match self {
+            Kind::Graph(graph) => graph.is_closed(),
+            Kind::Held(held) => held.is_closed(),
+        }
+    }
+
+    // A root visitor more, where no visitor is out. Answers what leaving has to restore.
+    fn begin(&mut self) -> bool
+        requires { IsClosed (kind_of self.old) }
+        ensures outer { result ≡ is_in_unique (kind_of self.old) }
+        ensures begun { kind_of self.new ≡ begin (kind_of self.old) }
+    {
+        match self {
+            Kind::Graph(graph) => {
+                graph.begin();
+                false
+            }
+            Kind::Held(held) => held.begin(),
+        }
+    }
+}
+
+impl Collector {
+    /// The collector of a flame graph. It is refused for want of memory alone.
+    pub(crate) fn graph(alloc: Global) -> Result<Collector, AllocError>
+        ensures { IfOk result (λ c. c ≡ Going (OfGraph no_entries)) }
+    {
+        let graph = GraphCollector::new(alloc)?;
+        Ok(Collector {
+            failed: None,
+            kind: Kind::Graph(graph),
+        })
+    }
+
+    /// The collector of held bytes. It takes no memory.
+    pub(crate) fn held() -> Collector
+        ensures { result ≡ Going (OfHeld nothing_held) }
+    {
+        Collector {
+            failed: None,
+            kind: Kind::Held(HeldCollector::new()),
+        }
+    }
+
+    /// Fails with `refusal`, where it has not failed yet: the first cause.
+    pub(crate) fn refuse(&mut self, refusal: Refusal) -> Refusal
+        ensures after { self.new ≡ failed_with refusal self.old }
+        ensures cause { HasFailed self.new result }
+    {
+        match self.failed {
+            Some(cause) => cause,
+            None => {
+                self.failed = Some(refusal);
+                refusal
+            }
+        }
+    }
+
+    // One entry more, unique or inline.
+    fn step_in(&mut self, key: Key, size: usize, is_unique: bool) -> Result<bool, Refusal>
+        ensures enters { StepsIn is_unique key size self.old result self.new }
+        ensures cause { IfErr result (HasFailed self.new) }
+    {
+        if let Some(cause) = self.failed {
+            return Err(cause);
+        }
+        match self.kind.enter(key, size, is_unique) {
+            Ok(outer) => Ok(outer),
+            Err(refusal) => {
+                self.failed = Some(refusal);
+                Err(refusal)
+            }
+        }
+    }
+
+    // One shared entry more.
+    fn step_in_shared(&mut self, key: Key, size: usize, id: Identity) -> Result<bool, Refusal>
+        ensures enters { StepsInShared key size id self.old result self.new }
+        ensures cause { IfErr result (HasFailed self.new) }
+    {
+        if let Some(cause) = self.failed {
+            return Err(cause);
+        }
+        match &mut self.kind {
+            Kind::Held(_) => Ok(false),
+            Kind::Graph(graph) => match graph.enter_shared(key, size, id) {
+                Ok(is_first) => Ok(is_first),
+                Err(refusal) => {
+                    self.failed = Some(refusal);
+                    Err(refusal)
+                }
+            },
+        }
+    }
+
+    /// One inline entry of `size` bytes, and a visitor at it: what leaving has to restore.
+    pub(crate) fn go_in(&mut self, key: Key, size: usize) -> Result<bool, Refusal>
+        ensures enters { Enters false key size self.old result self.new }
+        ensures cause { IfErr result (HasFailed self.new) }
+    {
+        self.step_in(key, size, false)
+    }
+
+    /// The same as `go_in` with a unique entry.
+    pub(crate) fn go_in_unique(&mut self, key: Key, size: usize) -> Result<bool, Refusal>
+        ensures enters { Enters true key size self.old result self.new }
+        ensures cause { IfErr result (HasFailed self.new) }
+    {
+        self.step_in(key, size, true)
+    }
+
+    /// The same as `go_in` with a declared size; where there is none it is TooLarge.
+    pub(crate) fn go_in_sized(&mut self, key: Key, size: Option<usize>) -> Result<bool, Refusal>
+        ensures enters { EntersSized key size self.old result self.new }
+        ensures cause { IfErr result (HasFailed self.new) }
+    {
+        match size {
+            Some(size) => self.go_in(key, size),
+            None => Err(self.refuse(Refusal::TooLarge)),
+        }
+    }
+
+    /// One pointer of `size` bytes more to the shared value that has the identity `id`.
+    ///
+    /// Answers whether the value's content is to be shown, by the visitor that `content` gives. In a flame graph's collector
+    /// that is where the identity was not met before. In the collector of held bytes it is never so, and nothing is added.
+    /// A collector that has failed answers its first cause; otherwise the call is refused with TooLarge exactly where the
+    /// bound would be passed, which is tested before the identity is looked at, and else with Memory. After a refusal the
+    /// collector has failed.
+    pub fn point_to(&mut self, key: Key, size: usize, id: Identity) -> Result<bool, Refusal>
+        ensures enters { EntersShared key size id self.old result self.new }
+        ensures cause { IfErr result (HasFailed self.new) }
+    {
+        self.step_in_shared(key, size, id)
+    }
+
+    /// A visitor less; the one outside is a unique entry's, or is not.
+    pub(crate) fn leave(&mut self, outer: bool)
+        ensures { self.new ≡ left outer self.old }
+    {
+        if self.failed.is_none() {
+            self.kind.leave(outer);
+        }
+    }
+
+    /// A root visitor more: what leaving has to restore. The first cause where it has failed, and Open where a visitor is out.
+    pub(crate) fn begin(&mut self) -> Result<bool, Refusal>
+        ensures { Begins self.old result self.new }
+    {
+        if let Some(cause) = self.failed {
+            return Err(cause);
+        }
+        if !self.kind.is_closed() {
+            return Err(Refusal::Open);
+        }
+        Ok(self.kind.begin())
+    }
+
+    /// The first cause where it has failed, and Open where a visitor is out.
+    pub(crate) fn check(&self) -> Result<(), Refusal>
+        ensures { Settles self.now result }
+    {
+        if let Some(cause) = self.failed {
+            return Err(cause);
+        }
+        if !self.kind.is_closed() {
+            return Err(Refusal::Open);
+        }
+        Ok(())
+    }
+
+    /// The sum of held bytes.
+    pub(crate) fn sum(&self) -> usize
+        ensures { IsSum self.now result }
+    {
+        match &self.kind {
+            Kind::Graph(_) => 0,
+            Kind::Held(held) => held.sum(),
+        }
+    }
+
+    /// The graph and the warnings of a flame graph's collector.
+    pub(crate) fn finish(&self) -> Result<Output, Refusal>
+        requires { IsGraphs self.now }
+        ensures { Ends IsOutput self.now result }
+    {
+        self.check()?;
+        match &self.kind {
+            Kind::Graph(graph) => graph.finish(),
+            Kind::Held(_) => unreachable!(),
+        }
+    }
+}

@@ -1,0 +1,150 @@
+//! Visitors: places in a collector, under which values enter what they hold.
+#![tactic(auto, using(crate::proofs::Showing::showing))]
+
+ghost use Rattle.std.specs.Prelude.{◌≡◌, IfOk, IfErr, Ok};
+ghost use Rattle.allocative_graph.specs.Collector.{failed_with};
+ghost use Rattle.allocative_graph.specs.Shows.{Inside, Nothing};
+ghost use Rattle.allocative_graph.specs.Visits.{Shows, HasFailed, Enters, Answers, Leaves, Begins};
+ghost use Rattle.allocative.specs.Lending.{LendsEntered, LendsBegun};
+ghost use Rattle.std.specs.Borrow.{sem};
+ghost use Rattle.std.specs.Prelude.{true, false};
+
+use crate::allocative_trait::Allocative;
+use crate::collector::Collector;
+use allocative_graph::key::Key;
+use allocative_graph::refusal::Refusal;
+
+/// A place in a collector. Its end, or `exit`, is one step back.
+pub struct Visitor<'a> {
+    /// The collector, in which code that implements `Allocative` enters.
+    pub collector: &'a mut Collector,
+    // whether the visitor outside is a unique entry's, where the collector keeps no places
+    outer_is_unique: bool,
+}
+
+impl Drop for Visitor<'_> {
+    fn drop(self)
+        ensures { Leaves self.entry.outer_is_unique self.entry.collector.now self.exit.0.now }
+    {
+        let Visitor {
+            collector,
+            outer_is_unique,
+        } = self;
+        collector.leave(outer_is_unique);
+    }
+}
+
+impl Collector {
+    /// Enters inline: one entry of `size` bytes more under the key, and a visitor at it.
+    ///
+    /// A collector that has failed answers its first cause. Otherwise it is refused with TooLarge exactly where a bound would
+    /// be passed, tested before memory is asked for; a flame graph's collector may else be refused with Memory. After a
+    /// refusal the collector has failed.
+    pub fn enter(&mut self, key: Key, size: usize) -> Result<Visitor<'_>, Refusal>
+        ensures* lent { sem 𝓛 (LendsEntered false key size self.entry result) }
+        ensures same_reference { IfOk result (λ v. v.collector.ghost_name ≡ self.entry.ghost_name) }
+        ensures entered { IfOk result (λ v. Enters false key size self.old (Ok v.outer_is_unique) v.collector.now) }
+    {
+        let outer_is_unique = self.go_in(key, size)?;
+        Ok(Visitor {
+            collector: self,
+            outer_is_unique,
+        })
+    }
+
+    /// Enters as unique: the same as `enter` with a unique entry.
+    pub fn enter_unique(&mut self, key: Key, size: usize) -> Result<Visitor<'_>, Refusal>
+        ensures* lent { sem 𝓛 (LendsEntered true key size self.entry result) }
+        ensures same_reference { IfOk result (λ v. v.collector.ghost_name ≡ self.entry.ghost_name) }
+        ensures entered { IfOk result (λ v. Enters true key size self.old (Ok v.outer_is_unique) v.collector.now) }
+    {
+        let outer_is_unique = self.go_in_unique(key, size)?;
+        Ok(Visitor {
+            collector: self,
+            outer_is_unique,
+        })
+    }
+
+    /// A visitor at the content of a shared value, after `point_to` answered that it is to be shown.
+    pub fn content(&mut self) -> Visitor<'_>
+        ensures same_reference { result.collector.ghost_name ≡ self.entry.ghost_name }
+        ensures outer { result.outer_is_unique ≡ false }
+        ensures now { result.collector.now ≡ self.old }
+    {
+        Visitor {
+            collector: self,
+            outer_is_unique: false,
+        }
+    }
+
+    /// A visitor at the root. The first cause where the collector has failed, and Open where a visitor is out.
+    pub(crate) fn root_visitor(&mut self) -> Result<Visitor<'_>, Refusal>
+        ensures* lent { sem 𝓛 (LendsBegun self.entry result) }
+        ensures same_reference { IfOk result (λ v. v.collector.ghost_name ≡ self.entry.ghost_name) }
+        ensures begun { IfOk result (λ v. Begins self.old (Ok v.outer_is_unique) v.collector.now) }
+    {
+        let outer_is_unique = self.begin()?;
+        Ok(Visitor {
+            collector: self,
+            outer_is_unique,
+        })
+    }
+}
+
+impl Visitor<'_> {
+    /// One step back, as the end of its scope.
+    pub fn exit(self)
+        ensures { Leaves self.entry.outer_is_unique self.entry.collector.now self.exit.0.now }
+    {
+        drop(self);
+    }
+
+    /// A collector that has not failed fails with `refusal`. Answers the first cause.
+    pub fn refuse(&mut self, refusal: Refusal) -> Refusal
+        ensures same_reference { self.new.collector.ghost_name ≡ self.old.collector.ghost_name }
+        ensures same_outer { self.new.outer_is_unique ≡ self.old.outer_is_unique }
+        ensures after { self.new.collector.now ≡ failed_with refusal self.old.collector.now }
+        ensures cause { HasFailed self.new.collector.now result }
+    {
+        self.collector.refuse(refusal)
+    }
+
+    /// One inline entry of `size` bytes.
+    pub fn visit_simple(&mut self, key: Key, size: usize) -> Result<(), Refusal>
+        ensures same_reference { self.new.collector.ghost_name ≡ self.old.collector.ghost_name }
+        ensures same_outer { self.new.outer_is_unique ≡ self.old.outer_is_unique }
+        ensures shown { Shows (Inside key size Nothing) self.old.collector.now result self.new.collector.now }
+        ensures exact { Answers false size self.old.collector.now result }
+        ensures cause { IfErr result (HasFailed self.new.collector.now) }
+    {
+        let inner = self.collector.enter(key, size)?;
+        inner.exit();
+        Ok(())
+    }
+
+    // What a part shows. Its Err becomes the collector's first cause.
+    pub(crate) fn visit_part<T: Allocative>(&mut self, part: &T) -> Result<(), Refusal>
+        ensures same_reference { self.new.collector.ghost_name ≡ self.old.collector.ghost_name }
+        ensures same_outer { self.new.outer_is_unique ≡ self.old.outer_is_unique }
+        ensures shown { Shows (T.may_show part.now) self.old.collector.now result self.new.collector.now }
+        ensures cause { IfErr result (HasFailed self.new.collector.now) }
+    {
+        if let Err(refusal) = part.visit(self) {
+            return Err(self.refuse(refusal));
+        }
+        Ok(())
+    }
+
+    // What an object shows: the one call through the `dyn`, whose clauses callers cite.
+    pub(crate) fn visit_object(&mut self, object: &dyn Allocative) -> Result<(), Refusal>
+        ensures same_reference { self.new.collector.ghost_name ≡ self.old.collector.ghost_name }
+        ensures same_outer { self.new.outer_is_unique ≡ self.old.outer_is_unique }
+        ensures shown { Shows (may_show object.now) self.old.collector.now result self.new.collector.now }
+        ensures cause { IfErr result (HasFailed self.new.collector.now) }
+    {
+        if let Err(refusal) = object.visit(self) {
+            return Err(self.refuse(refusal));
+        }
+        Ok(())
+    }
+}
