@@ -4,6 +4,7 @@
 pub mod registry;
 pub mod size_of;
 pub mod tree;
+pub mod visiting;
 pub mod visitor;
 pub mod allocative_trait;
 pub mod builder;

@@ -4,13 +4,14 @@
 ghost use Rattle.std.specs.Prelude.{◌≡◌, IfOk, IfErr, Ok};
 ghost use Rattle.allocative_graph.specs.Collector.{failed_with};
 ghost use Rattle.allocative_graph.specs.Shows.{Inside, Nothing};
-ghost use Rattle.allocative_graph.specs.Visits.{Shows, HasFailed, Enters, Answers, Leaves, Begins};
-ghost use Rattle.allocative.specs.Lending.{LendsEntered, LendsBegun};
+ghost use Rattle.allocative_graph.specs.Visits.{Shows, HasFailed, Enters, EntersSized, Answers, Leaves, Begins};
+ghost use Rattle.allocative.specs.Lending.{LendsEntered, LendsSized, LendsBegun};
 ghost use Rattle.std.specs.Borrow.{sem};
 ghost use Rattle.std.specs.Prelude.{true, false};
 
 use crate::allocative_trait::Allocative;
 use crate::collector::Collector;
+use allocative_described::Described;
 use allocative_graph::key::Key;
 use allocative_graph::refusal::Refusal;
 
@@ -63,6 +64,37 @@ impl Collector {
             collector: self,
             outer_is_unique,
         })
+    }
+
+    /// Enters inline with a declared size: the same as `enter`, and TooLarge where there is no size.
+    pub fn enter_sized(&mut self, key: Key, size: Option<usize>) -> Result<Visitor<'_>, Refusal>
+        ensures* lent { sem 𝓛 (LendsSized key size self.entry result) }
+        ensures same_reference { IfOk result (λ v. v.collector.ghost_name ≡ self.entry.ghost_name) }
+        ensures entered { IfOk result (λ v. EntersSized key size self.old (Ok v.outer_is_unique) v.collector.now) }
+    {
+        let outer_is_unique = self.go_in_sized(key, size)?;
+        Ok(Visitor {
+            collector: self,
+            outer_is_unique,
+        })
+    }
+
+    /// Enters inline with the declared name and size of `T`.
+    pub fn enter_self_sized<T: Described>(&mut self) -> Result<Visitor<'_>, Refusal>
+        ensures* lent { sem 𝓛 (LendsSized T.name T.size self.entry result) }
+        ensures same_reference { IfOk result (λ v. v.collector.ghost_name ≡ self.entry.ghost_name) }
+        ensures entered { IfOk result (λ v. EntersSized T.name T.size self.old (Ok v.outer_is_unique) v.collector.now) }
+    {
+        self.enter_sized(Key::new(T::name()), T::size())
+    }
+
+    /// Enters inline with the declared size of `T`.
+    pub fn enter_field<T: Described>(&mut self, key: Key) -> Result<Visitor<'_>, Refusal>
+        ensures* lent { sem 𝓛 (LendsSized key T.size self.entry result) }
+        ensures same_reference { IfOk result (λ v. v.collector.ghost_name ≡ self.entry.ghost_name) }
+        ensures entered { IfOk result (λ v. EntersSized key T.size self.old (Ok v.outer_is_unique) v.collector.now) }
+    {
+        self.enter_sized(key, T::size())
     }
 
     /// A visitor at the content of a shared value, after `point_to` answered that it is to be shown.

@@ -1,5 +1,5 @@
 -- Which forests a value may show, put together from those of its parts.
-use Rattle.std.specs.Prelude.{◌≡◌, ℕ, ◌*◌, ◌==◌, ◌⊎◌, Bool, true, false, cond, length, List, [], ◌∷◌, Option, None, Some}
+use Rattle.std.specs.Prelude.{◌≡◌, ℕ, ◌*◌, ◌==◌, ◌⊎◌, Bool, true, false, not, ◌&&◌, length, List, [], ◌∷◌, Option, None, Some}
 use Rattle.allocative_graph.specs.Path.{Key}
 use Rattle.allocative_graph.specs.Identity.{Identity}
 use Rattle.allocative_graph.specs.Forest.{Forest, Empty, First, Again, entry_of, followed_by}
@@ -41,3 +41,12 @@ SharedWith k n i p f = ((g : Forest) × p g × (f ≡ First k n i g Empty)) ⊎ 
 abbrev pub each_shows : {T : Type 0} → (T → Showing) → List T → Showing
 each_shows p [] = Nothing
 each_shows p (x ∷ xs) = Both (p x) (each_shows p xs)
+
+-- Whether the items of a slice are shown one by one: where they need a drop and have a size.
+abbrev pub is_shown_each : Bool → ℕ → Bool
+is_shown_each needs_drop size = needs_drop && not (size == 0)
+
+-- A slice of items of a declared name and size: each item's forest where they are shown one by one, else one inline entry with the item's name and all bytes; with no size, no forest.
+abbrev pub slice_shows : {T : Type 0} → Key → Option ℕ → Bool → (T → Showing) → List T → Showing
+slice_shows name None needs_drop p xs = λ f. ⊥
+slice_shows name (Some s) needs_drop p xs = elim (is_shown_each needs_drop s) [ true ↦ each_shows p xs | false ↦ Inside name (s * length xs) Nothing ]

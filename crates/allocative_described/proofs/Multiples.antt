@@ -1,0 +1,52 @@
+-- Rounding up gives the least multiple that is not below.
+use Rattle.std.proofs.Common.{◌≡◌, ℕ, ◌+◌, ◌-◌, ◌*◌, ◌/◌, ◌%◌, ◌<◌, ◌≤◌, inl, inr, arith}
+use Rattle.std.proofs.Math.Nat.{mod-eq_of_lt, mod_self, add-mul}
+use Rattle.std.proofs.lemmas.Bool.{cases_lt}
+use Rattle.std.proofs.lemmas.Nat.{div-add-mod', mod_below, mul-le}
+use Rattle.allocative_described.specs.Sizes.{IsLeastMultiple, up}
+
+-- a multiple of a above q times a is at least one a further
+next_multiple : (q a n k : ℕ) → n ≡ k * a → q * a < n → q * a + a ≤ n
+next_multiple q a n k is above =
+    elim (cases_lt q k) [
+      | inl below ↦ omega (arith, mul-le (q + 1) a k a (omega arith) (omega arith), add-mul q 1 a)
+      | inr beyond ↦ absurd (omega (arith, mul-le k a q a beyond (omega arith)))
+    ]
+
+-- a multiple of a is rounded up to itself
+up_same : (x a : ℕ) → x % a ≡ 0 → up x a ≡ x
+up_same x a none =
+    let whole : a - 0 ≡ a = omega arith in
+    rw (none, whole) (omega (arith, mod_self a))
+
+-- any other number is rounded up to the multiple that follows it
+up_next : (x a : ℕ) → 1 ≤ a → 0 < x % a → up x a ≡ (x / a + 1) * a
+up_next x a positive some =
+    let short : a - x % a < a = omega arith in
+    omega (arith, mod-eq_of_lt short, div-add-mod' x a, mod_below x a positive, add-mul (x / a) 1 a)
+
+least_same : (x a : ℕ) → 1 ≤ a → x % a ≡ 0 → IsLeastMultiple x a (up x a)
+least_same x a positive none =
+    let same = up_same x a none in
+    record {
+      multiple = (x / a, omega (arith, div-add-mod' x a));
+      not_below = omega arith;
+      least = λ n m above. omega arith;
+    }
+
+least_next : (x a : ℕ) → 1 ≤ a → 0 < x % a → IsLeastMultiple x a (up x a)
+least_next x a positive some =
+    let next = up_next x a positive some in
+    let split = div-add-mod' x a in
+    record {
+      multiple = (x / a + 1, next);
+      not_below = omega (arith, mod_below x a positive, add-mul (x / a) 1 a);
+      least = λ n m above. omega (arith, next_multiple (x / a) a n m.0 m.1 (omega arith), add-mul (x / a) 1 a);
+    }
+
+pub least_multiple : (x a : ℕ) → 1 ≤ a → IsLeastMultiple x a (up x a)
+least_multiple x a positive =
+    elim (cases_lt 0 (x % a)) [
+      | inl some ↦ least_next x a positive some
+      | inr none ↦ least_same x a positive (omega arith)
+    ]

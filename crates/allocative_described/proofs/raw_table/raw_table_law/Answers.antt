@@ -1,0 +1,5 @@
+use Rattle.allocative_described.proofs.Buckets.{raw_table_size_same}
+use Rattle.allocative_described.proofs.raw_table.raw_table_law.Goals as goal
+
+pub returns : goal.returns
+returns c = raw_table_size_same

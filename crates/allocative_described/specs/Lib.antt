@@ -1,0 +1,2 @@
+pub mod RawTable
+pub mod Sizes

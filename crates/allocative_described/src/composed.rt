@@ -1,0 +1,287 @@
+//! Types that lay their parts out by a rule: tuples, `Option`, `Result`, arrays and `ManuallyDrop`.
+
+ghost use Rattle.std.specs.Prelude.{Some, false, codes, max, ◌||◌};
+ghost use Rattle.std.proofs.Common.{arith};
+ghost use Rattle.allocative_described.specs.Sizes.{size_sum, size_product, size_max, size_up};
+
+use crate::described::{Described, size_max, size_product, size_sum, size_up};
+use std::mem::ManuallyDrop;
+
+impl<A: Described> Described for (A,) {
+    ghost name = { codes "tuple1" };
+
+    ghost align = { A.align };
+
+    ghost needs_drop = { A.needs_drop };
+
+    ghost size = { size_up A.size A.align };
+
+    ghost align_positive = { A.align_positive };
+
+    fn name() -> &'static str {
+        "tuple1"
+    }
+
+    fn align() -> usize {
+        A::align()
+    }
+
+    fn needs_drop() -> bool {
+        A::needs_drop()
+    }
+
+    fn size() -> Option<usize> {
+        size_up(A::size(), Self::align())
+    }
+}
+
+impl<A: Described, B: Described> Described for (A, B) {
+    ghost name = { codes "tuple2" };
+
+    ghost align = { max A.align B.align };
+
+    ghost needs_drop = { A.needs_drop || B.needs_drop };
+
+    ghost size = { size_up (size_sum A.size B.size) (max A.align B.align) };
+
+    ghost align_positive = { Prim.omega (arith, A.align_positive) };
+
+    fn name() -> &'static str {
+        "tuple2"
+    }
+
+    fn align() -> usize {
+        A::align().max(B::align())
+    }
+
+    fn needs_drop() -> bool {
+        A::needs_drop() || B::needs_drop()
+    }
+
+    fn size() -> Option<usize> {
+        let sum = size_sum(A::size(), B::size());
+        size_up(sum, Self::align())
+    }
+}
+
+impl<A: Described, B: Described, C: Described> Described for (A, B, C) {
+    ghost name = { codes "tuple3" };
+
+    ghost align = { max (max A.align B.align) C.align };
+
+    ghost needs_drop = { A.needs_drop || B.needs_drop || C.needs_drop };
+
+    ghost size = { size_up
+        (size_sum (size_sum A.size B.size) C.size)
+        (max (max A.align B.align) C.align) };
+
+    ghost align_positive = { Prim.omega (arith, A.align_positive) };
+
+    fn name() -> &'static str {
+        "tuple3"
+    }
+
+    fn align() -> usize {
+        A::align().max(B::align()).max(C::align())
+    }
+
+    fn needs_drop() -> bool {
+        A::needs_drop() || B::needs_drop() || C::needs_drop()
+    }
+
+    fn size() -> Option<usize> {
+        let sum = size_sum(A::size(), B::size());
+        let sum = size_sum(sum, C::size());
+        size_up(sum, Self::align())
+    }
+}
+
+impl<A: Described, B: Described, C: Described, D: Described> Described for (A, B, C, D) {
+    ghost name = { codes "tuple4" };
+
+    ghost align = { max (max (max A.align B.align) C.align) D.align };
+
+    ghost needs_drop = { A.needs_drop || B.needs_drop || C.needs_drop || D.needs_drop };
+
+    ghost size = { size_up
+        (size_sum (size_sum (size_sum A.size B.size) C.size) D.size)
+        (max (max (max A.align B.align) C.align) D.align) };
+
+    ghost align_positive = { Prim.omega (arith, A.align_positive) };
+
+    fn name() -> &'static str {
+        "tuple4"
+    }
+
+    fn align() -> usize {
+        A::align().max(B::align()).max(C::align()).max(D::align())
+    }
+
+    fn needs_drop() -> bool {
+        A::needs_drop() || B::needs_drop() || C::needs_drop() || D::needs_drop()
+    }
+
+    fn size() -> Option<usize> {
+        let sum = size_sum(A::size(), B::size());
+        let sum = size_sum(sum, C::size());
+        let sum = size_sum(sum, D::size());
+        size_up(sum, Self::align())
+    }
+}
+
+impl<A: Described, B: Described, C: Described, D: Described, E: Described> Described
+    for (A, B, C, D, E) {
+    ghost name = { codes "tuple5" };
+
+    ghost align = { max (max (max (max A.align B.align) C.align) D.align) E.align };
+
+    ghost needs_drop = { A.needs_drop || B.needs_drop || C.needs_drop || D.needs_drop
+        || E.needs_drop };
+
+    ghost size = { size_up
+        (size_sum (size_sum (size_sum (size_sum A.size B.size) C.size) D.size) E.size)
+        (max (max (max (max A.align B.align) C.align) D.align) E.align) };
+
+    ghost align_positive = { Prim.omega (arith, A.align_positive) };
+
+    fn name() -> &'static str {
+        "tuple5"
+    }
+
+    fn align() -> usize {
+        A::align()
+            .max(B::align())
+            .max(C::align())
+            .max(D::align())
+            .max(E::align())
+    }
+
+    fn needs_drop() -> bool {
+        A::needs_drop() || B::needs_drop() || C::needs_drop() || D::needs_drop() || E::needs_drop()
+    }
+
+    fn size() -> Option<usize> {
+        let sum = size_sum(A::size(), B::size());
+        let sum = size_sum(sum, C::size());
+        let sum = size_sum(sum, D::size());
+        let sum = size_sum(sum, E::size());
+        size_up(sum, Self::align())
+    }
+}
+
+// A byte for the tag, then the part.
+impl<T: Described> Described for Option<T> {
+    ghost name = { codes "Option" };
+
+    ghost align = { T.align };
+
+    ghost needs_drop = { T.needs_drop };
+
+    ghost size = { size_up (size_sum (Some 1) T.size) T.align };
+
+    ghost align_positive = { T.align_positive };
+
+    fn name() -> &'static str {
+        "Option"
+    }
+
+    fn align() -> usize {
+        T::align()
+    }
+
+    fn needs_drop() -> bool {
+        T::needs_drop()
+    }
+
+    fn size() -> Option<usize> {
+        size_up(size_sum(Some(1), T::size()), T::align())
+    }
+}
+
+// A byte for the tag, then room for either part.
+impl<T: Described, E: Described> Described for Result<T, E> {
+    ghost name = { codes "Result" };
+
+    ghost align = { max T.align E.align };
+
+    ghost needs_drop = { T.needs_drop || E.needs_drop };
+
+    ghost size = { size_up (size_sum (Some 1) (size_max T.size E.size)) (max T.align E.align) };
+
+    ghost align_positive = { Prim.omega (arith, T.align_positive) };
+
+    fn name() -> &'static str {
+        "Result"
+    }
+
+    fn align() -> usize {
+        T::align().max(E::align())
+    }
+
+    fn needs_drop() -> bool {
+        T::needs_drop() || E::needs_drop()
+    }
+
+    fn size() -> Option<usize> {
+        let greater = size_max(T::size(), E::size());
+        size_up(size_sum(Some(1), greater), Self::align())
+    }
+}
+
+// N items, one after another.
+impl<T: Described, const N: usize> Described for [T; N] {
+    ghost name = { codes "array" };
+
+    ghost align = { T.align };
+
+    ghost needs_drop = { T.needs_drop };
+
+    ghost size = { size_product (Some N) T.size };
+
+    ghost align_positive = { T.align_positive };
+
+    fn name() -> &'static str {
+        "array"
+    }
+
+    fn align() -> usize {
+        T::align()
+    }
+
+    fn needs_drop() -> bool {
+        T::needs_drop()
+    }
+
+    fn size() -> Option<usize> {
+        size_product(Some(N), T::size())
+    }
+}
+
+// The value alone; it is never dropped by itself.
+impl<V: Described> Described for ManuallyDrop<V> {
+    ghost name = { codes "ManuallyDrop" };
+
+    ghost align = { V.align };
+
+    ghost needs_drop = { false };
+
+    ghost size = { V.size };
+
+    ghost align_positive = { V.align_positive };
+
+    fn name() -> &'static str {
+        "ManuallyDrop"
+    }
+
+    fn align() -> usize {
+        V::align()
+    }
+
+    fn needs_drop() -> bool {
+        false
+    }
+
+    fn size() -> Option<usize> {
+        V::size()
+    }
+}

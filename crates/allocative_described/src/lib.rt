@@ -1,0 +1,21 @@
+//! What types declare of themselves: a name, a size, an alignment, and whether they need a drop.
+//!
+//! The numbers are declarations, by fixed tables and rules, for types of `std` and of the crates
+//! that this one stands on. They say nothing of how a compiler lays a value out. `Described` is the
+//! trait. `raw_table_alloc_size_for_len` answers for the table of a hash map, `shared_inner_size`
+//! for a value behind a shared pointer.
+#![tactic(auto)]
+
+mod atomics;
+mod composed;
+mod described;
+mod non_zero;
+mod numbers;
+mod pack_types;
+mod raw_table;
+mod std_types;
+#[cfg(test)]
+mod tests;
+
+pub use described::{Described, shared_inner_size, up_law};
+pub use raw_table::{raw_table_alloc_size_for_len, raw_table_law};
