@@ -18,7 +18,7 @@ use std::marker::Model;
 
 /// The collector of a flame graph, which has not failed.
 #[derive(Drop)]
-pub struct GraphCollector {
+pub(crate) struct GraphCollector {
     tree: Tree,
     // the node of the current path
     current: usize,
@@ -47,7 +47,7 @@ impl Model for GraphCollector {
 }
 
 impl GraphCollector {
-    pub fn new(alloc: Global) -> Result<GraphCollector, AllocError>
+    pub(crate) fn new(alloc: Global) -> Result<GraphCollector, AllocError>
         ensures { IfOk result (λ c. c ≡ no_entries) }
     {
         let tree = Tree::new(alloc)?;
@@ -62,12 +62,19 @@ impl GraphCollector {
     }
 
     /// One entry more, and a visitor at it.
-    pub fn enter(&mut self, key: Key, size: usize, is_unique: bool) -> Result<(), Refusal>
+    pub(crate) fn enter(&mut self, key: Key, size: usize, is_unique: bool) -> Result<(), Refusal>
         ensures ok { OnOk result ((entered self.old.sums + size < 2 ^ 63) × (self.new ≡ enter_live is_unique key size self.old)) }
         ensures err { IfErr result (Refuses is_unique size (OfGraph self.old)) }
     {
         let here = self.current;
-        let node = add(&mut self.tree, &mut self.entered, here, key, size, is_unique)?;
+        let node = add(
+            &mut self.tree,
+            &mut self.entered,
+            here,
+            key,
+            size,
+            is_unique,
+        )?;
         if self.places.push(here).is_err() {
             return Err(Refusal::Memory);
         }
@@ -76,7 +83,7 @@ impl GraphCollector {
     }
 
     /// One pointer more; where its identity is met for the first time, a visitor at its content. Answers whether it is.
-    pub fn enter_shared(
+    pub(crate) fn enter_shared(
         &mut self,
         key: Key,
         size: usize,
@@ -101,7 +108,7 @@ impl GraphCollector {
     }
 
     /// A visitor less.
-    pub fn leave(&mut self)
+    pub(crate) fn leave(&mut self)
         ensures { self.new ≡ leave_live self.old }
     {
         match self.places.pop() {
@@ -111,7 +118,7 @@ impl GraphCollector {
     }
 
     /// Whether no visitor is out.
-    pub fn is_closed(&self) -> bool
+    pub(crate) fn is_closed(&self) -> bool
         ensures closed { IsTrue result ↔ IsClosed (OfGraph self.now) }
         ensures at_root { IsTrue result → IsAtRoot (OfGraph self.now) }
     {
@@ -119,7 +126,7 @@ impl GraphCollector {
     }
 
     /// A root visitor more, where none is out.
-    pub fn begin(&mut self)
+    pub(crate) fn begin(&mut self)
         requires { IsClosed (OfGraph self.old) }
         ensures { self.new ≡ go [] self.old }
     {
@@ -127,7 +134,7 @@ impl GraphCollector {
     }
 
     /// The graph, and the text of the warnings.
-    pub fn finish(&self) -> Result<Output, Refusal>
+    pub(crate) fn finish(&self) -> Result<Output, Refusal>
         ensures made { IfOk result (IsOutput self.now.sums) }
         ensures err { IfErr result (λ e. e ≡ Refusal.Memory) }
     {

@@ -8,7 +8,7 @@ use std::marker::Model;
 
 /// The collector of held bytes, which has not failed.
 #[derive(Drop)]
-pub struct HeldCollector {
+pub(crate) struct HeldCollector {
     sum: usize,
     // the visitors entered and not left
     visitors: usize,
@@ -29,7 +29,7 @@ impl Model for HeldCollector {
 }
 
 impl HeldCollector {
-    pub fn new() -> HeldCollector
+    pub(crate) fn new() -> HeldCollector
         ensures { result ≡ nothing_held }
     {
         HeldCollector {
@@ -40,7 +40,7 @@ impl HeldCollector {
     }
 
     /// One entry more, and a visitor at it. Answers what leaving has to restore.
-    pub fn enter(&mut self, size: usize, is_unique: bool) -> Result<bool, Refusal>
+    pub(crate) fn enter(&mut self, size: usize, is_unique: bool) -> Result<bool, Refusal>
         ensures ok { IfOk result (λ outer. HasRoom is_unique size (OfHeld self.old) × (outer ≡ self.old.is_in_unique) × (self.new ≡ enter_holding is_unique size self.old)) }
         ensures err { IfErr result (Refuses is_unique size (OfHeld self.old)) }
     {
@@ -61,7 +61,7 @@ impl HeldCollector {
     }
 
     /// A visitor less; the one outside is a unique entry's, or is not.
-    pub fn leave(&mut self, outer: bool)
+    pub(crate) fn leave(&mut self, outer: bool)
         ensures { self.new ≡ leave_holding outer self.old }
     {
         self.visitors = self.visitors.saturating_sub(1);
@@ -69,14 +69,14 @@ impl HeldCollector {
     }
 
     /// Whether no visitor is out.
-    pub fn is_closed(&self) -> bool
+    pub(crate) fn is_closed(&self) -> bool
         ensures { IsTrue result ↔ IsClosed (OfHeld self.now) }
     {
         self.visitors == 0
     }
 
     /// A root visitor more, where none is out. Answers what leaving has to restore.
-    pub fn begin(&mut self) -> bool
+    pub(crate) fn begin(&mut self) -> bool
         requires { IsClosed (OfHeld self.old) }
         ensures outer { result ≡ self.old.is_in_unique }
         ensures begun { self.new ≡ record self.old { open_visitors = suc self.old.open_visitors } }
@@ -86,7 +86,7 @@ impl HeldCollector {
     }
 
     /// The sum of the held bytes.
-    pub fn sum(&self) -> usize
+    pub(crate) fn sum(&self) -> usize
         ensures { result ≡ self.now.sum }
     {
         self.sum

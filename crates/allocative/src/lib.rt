@@ -1,13 +1,28 @@
-//! Collects what values declare of their memory.
+//! Collects what values declare of their memory, and shows it as flame graphs.
+//!
+//! Values that implement `Allocative` are visited; each enters what it holds at a `Visitor`. A `FlameGraphBuilder` collects
+//! the entries and finishes as a `FlameGraph`, whose text `flamegraph.pl` reads, with a list of warnings.
 #![tactic(auto)]
 
-pub mod registry;
-pub mod size_of;
-pub mod tree;
-pub mod visiting;
-pub mod visitor;
 pub mod allocative_trait;
 pub mod builder;
 pub mod collector;
-pub mod graph_collector;
-pub mod held_collector;
+mod graph_collector;
+mod held_collector;
+pub mod impls;
+pub mod registry;
+pub mod size_of;
+mod tree;
+pub mod visiting;
+pub mod visitor;
+
+pub use crate::allocative_trait::Allocative;
+pub use crate::builder::{FlameGraphBuilder, FlameGraphOutput};
+pub use crate::registry::{Registry, profile_roots};
+pub use crate::size_of::{size_of_unique, size_of_unique_allocated_data};
+pub use crate::visitor::Visitor;
+pub use allocative_described::{Described, raw_table_alloc_size_for_len};
+pub use allocative_graph::flamegraph::FlameGraph;
+pub use allocative_graph::key::Key;
+pub use allocative_graph::refusal::Refusal;
+pub use allocative_graph::shared::Identity;

@@ -1,11 +1,14 @@
-//! Runs of a root visitor.
+//! Runs of a root visitor, and the bytes that a value holds on the heap.
 #![tactic(auto, using(crate::proofs::Roots::running))]
 
 ghost use Rattle.std.specs.Prelude.{◌≡◌, ◌+◌, ℕ, Some, IfOk};
+ghost use Rattle.allocative_graph.specs.Forest.{Forest};
+ghost use Rattle.allocative_graph.specs.Held.{held, ShowsNoContent};
 ghost use Rattle.allocative_graph.specs.Visits.{Runs};
 
 use crate::allocative_trait::Allocative;
 use crate::collector::Collector;
+use allocative_described::Described;
 use allocative_graph::refusal::Refusal;
 
 impl Collector {
@@ -28,4 +31,32 @@ impl Collector {
         visitor.exit();
         self.check()
     }
+}
+
+/// The bytes that the root holds on the heap: the sum of the inline entries whose direct parent is a unique entry, with
+/// nothing below a shared entry.
+///
+/// It takes no memory. It is refused with TooLarge where the sum or a declared size does not fit, with Open where a
+/// visitor was forgotten, and else with the first cause of the visit.
+pub fn size_of_unique_allocated_data(root: &dyn Allocative) -> Result<usize, Refusal>
+    ensures { IfOk result (λ s. (f : Forest) × may_show root.now f × ShowsNoContent f × (s ≡ held f)) }
+{
+    let mut collector = Collector::held();
+    collector.visit_object(root)?;
+    Ok(collector.sum())
+}
+
+/// The same plus the declared size of the root. It visits the value itself, and makes no trait object.
+pub fn size_of_unique<T: Allocative + Described>(root: &T) -> Result<usize, Refusal>
+    ensures { IfOk result (λ s. (n : ℕ) × (T.size ≡ Some n) × (f : Forest) × T.may_show root.now f × ShowsNoContent f × (s ≡ held f + n)) }
+{
+    let mut collector = Collector::held();
+    collector.visit_one(root)?;
+    let Some(own) = T::size() else {
+        return Err(Refusal::TooLarge);
+    };
+    let Some(sum) = collector.sum().checked_add(own) else {
+        return Err(Refusal::TooLarge);
+    };
+    Ok(sum)
 }

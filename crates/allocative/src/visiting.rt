@@ -25,7 +25,11 @@ impl Visitor<'_> {
     }
 
     /// One inline entry of the field's declared size, and in it what the field shows.
-    pub fn visit_field<T: Allocative + Described>(&mut self, name: Key, field: &T) -> Result<(), Refusal>
+    pub fn visit_field<T: Allocative + Described>(
+        &mut self,
+        name: Key,
+        field: &T,
+    ) -> Result<(), Refusal>
         ensures same_reference { self.new.collector.ghost_name ≡ self.old.collector.ghost_name }
         ensures same_outer { self.new.outer_is_unique ≡ self.old.outer_is_unique }
         ensures shown { Shows (Field name T.size (T.may_show field.now)) self.old.collector.now result self.new.collector.now }

@@ -29,9 +29,12 @@ abbrev pub InsideUnique : Key → ℕ → Showing → Showing
 InsideUnique = InsideAs true
 
 -- One inline entry of a declared size, with a forest of p inside it; with no size, no forest.
+pub data IsField (k : Key) (p : Showing) : Option ℕ → Forest → Type 0 where
+  sized : {n : ℕ} {f : Forest} → Inside k n p f → IsField k p (Some n) f
+
+-- The same, as a showing.
 abbrev pub Field : Key → Option ℕ → Showing → Showing
-Field k None p f = ⊥
-Field k (Some n) p f = Inside k n p f
+Field k size p = IsField k p size
 
 -- A shared entry: with a forest of p as its content, or without. Which of the two fits is told by the identities met.
 abbrev pub SharedWith : Key → ℕ → Identity → Showing → Showing

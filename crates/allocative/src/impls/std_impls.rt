@@ -1,0 +1,2 @@
+//! What the types of the language and of `std` show.
+mod tuple;
