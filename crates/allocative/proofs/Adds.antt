@@ -10,7 +10,7 @@ bytes : Sum → ℕ
 bytes s = s.bytes
 
 pub total_add : (p : Path) (n : ℕ) (u : Bool) (s : Listed) → total (add p n u s) ≡ total s + n
-total_add p n u [] = omega (arith, sum_by-cons (λ (e : Sum). e.bytes) (record { path = p; bytes = n; unique = u }) [])
+total_add p n u [] = omega (arith, sum_by-cons (λ (e : Sum). e.bytes) (record { path = p; bytes = n; is_unique = u }) [])
 total_add p n u (e ∷ rest) = elim (cases_Bool (is_same_path e.path p)) [
   | inl hit ↦ ap total (cond-true (is_same_path e.path p) _ _ hit) ∙ omega (arith, sum_by-cons (λ (s : Sum). s.bytes) e rest, sum_by-cons (λ (s : Sum). s.bytes) (raise n u e) rest)
   | inr miss ↦ ap total (cond-false (is_same_path e.path p) _ _ miss) ∙ omega (arith, total_add p n u rest, sum_by-cons (λ (s : Sum). s.bytes) e rest, sum_by-cons (λ (s : Sum). s.bytes) e (add p n u rest))
@@ -40,7 +40,7 @@ length_add p n u (e ∷ rest) = cond_both (is_same_path e.path p) _ _ (λ (s : L
 pub add_add : (p : Path) (n : ℕ) (u : Bool) (s : Listed) → add p n u (add p 0 false s) ≡ add p n u s
 add_add p n u [] =
     let start : 0 + n ≡ n = omega arith in
-    cond-true (is_same_path p p) _ _ (same_path-same p p refl) ∙ ap (λ (m : ℕ). record { path = p; bytes = m; unique = u } ∷ []) start
+    cond-true (is_same_path p p) _ _ (same_path-same p p refl) ∙ ap (λ (m : ℕ). record { path = p; bytes = m; is_unique = u } ∷ []) start
 add_add p n u (e ∷ rest) = elim (cases_Bool (is_same_path e.path p)) [
   | inl hit ↦
       ap (add p n u) (cond-true (is_same_path e.path p) _ _ hit)
@@ -57,7 +57,7 @@ add_add p n u (e ∷ rest) = elim (cases_Bool (is_same_path e.path p)) [
     raise_raise : (x : Sum) → raise n u (raise 0 false x) ≡ raise n u x
     raise_raise x =
         let b : x.bytes + 0 + n ≡ x.bytes + n = omega arith in
-        ap (λ (m : ℕ). record { path = x.path; bytes = m; unique = (x.unique || false) || u }) b ∙ ap (λ (m : Bool). record { path = x.path; bytes = x.bytes + n; unique = m }) (or_false x.unique)
+        ap (λ (m : ℕ). record { path = x.path; bytes = m; is_unique = (x.is_unique || false) || u }) b ∙ ap (λ (m : Bool). record { path = x.path; bytes = x.bytes + n; is_unique = m }) (or_false x.is_unique)
 
 -- an entry of nothing, and then one at the place that it gave
 pub entered_twice : (old mid new : Listed) (at : ℕ) (k : Key) (n : ℕ) (u : Bool) (i : ℕ) → IsEntered old mid at k 0 false i → new ≡ add (path_at mid i) n u mid → IsEntered old new at k n u i
@@ -69,3 +69,15 @@ entered_twice old mid new at k n u i first second =
       within = let le = length_add (path_at mid i) n u mid in let same = ap length second in omega (arith, first.within);
       path = ap (λ (s : Listed). path_at s i) second ∙ (path_add (path_at mid i) n u mid i first.within ∙ first.path);
     }
+
+-- ---- at an entry
+module _ {old new : Listed} {at : ℕ} {k : Key} {n : ℕ} {u : Bool} {i : ℕ} (entered : IsEntered old new at k n u i) where
+  pub total_entered : total new ≡ total old + n
+  total_entered = ap total entered.sums ∙ total_add (path_at old at ++ k ∷ []) n u old
+
+  pub length_entered : length old ≤ length new
+  length_entered = let longer = length_add (path_at old at ++ k ∷ []) n u old in let same = ap length entered.sums in omega arith
+
+  -- a path stays at its place
+  pub path_entered : (j : ℕ) → j < length old → path_at new j ≡ path_at old j
+  path_entered j h = ap (λ (s : Listed). path_at s j) entered.sums ∙ path_add (path_at old at ++ k ∷ []) n u old j h

@@ -6,11 +6,11 @@ use Rattle.std.proofs.lemmas.List.Sums.{sum_by-cons, sum_by-set, sum_by-le-sum_b
 use Rattle.std.proofs.lemmas.Cmp.{tied_itself}
 use Rattle.std.proofs.lemmas.Bool.{cond_both}
 use Rattle.allocative_graph.specs.Path.{path_cmp}
-use Rattle.allocative.specs.Listed.{Sum, Listed, root_sum, total, path_at, map_of}
+use Rattle.allocative.specs.Listed.{Sum, Listed, root_sum, total, sum_at, path_at, map_of}
 use Rattle.allocative_graph.specs.Sums.{below}
-use Rattle.allocative.specs.Finishing.{sum_at, size_at}
+use Rattle.allocative.specs.Finishing.{size_at}
 use Rattle.allocative.specs.Walks.{PathsRise}
-use Rattle.allocative.proofs.Orders.{path_total}
+use Rattle.allocative_graph.proofs.Basics.{path_total}
 
 -- different places of a list have at most what the whole list has
 places_le : (xs : List ℕ) (s : Listed) → ((a b : ℕ) → a < b → b < length xs → get_or xs a 0 ≢ get_or xs b 0) → ((a : ℕ) → a < length xs → get_or xs a 0 < length s) → sum_by (λ (i : ℕ). (let e = get_or s i root_sum in e.bytes)) xs ≤ total s
@@ -40,5 +40,5 @@ sizes_le_total s xs rise within =
     let tied : path_cmp (path_at s (get_or xs a 0)) (path_at s (get_or xs b 0)) ≡ Equal = subst (λ (i : ℕ). path_cmp (path_at s (get_or xs a 0)) (path_at s i) ≡ Equal) e (tied_itself path_total (path_at s (get_or xs a 0))) in
     cc) in
     let all = places_le xs s apart within in
-    let each = sum_by-le-sum_by (size_at s) (λ (i : ℕ). (let e = get_or s i root_sum in e.bytes)) xs (λ i. (let e = sum_at s i in cond_both e.unique e.bytes (e.bytes - below (map_of s) e.path) (λ (n : ℕ). n ≤ e.bytes) (λ _. omega arith) (λ _. omega arith))) in
+    let each = sum_by-le-sum_by (size_at s) (λ (i : ℕ). (let e = get_or s i root_sum in e.bytes)) xs (λ i. (let e = sum_at s i in cond_both e.is_unique e.bytes (e.bytes - below (map_of s) e.path) (λ (n : ℕ). n ≤ e.bytes) (λ _. omega arith) (λ _. omega arith))) in
     omega arith

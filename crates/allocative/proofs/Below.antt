@@ -6,12 +6,12 @@ use Rattle.std.specs.Ordering.{eq_by_cmp, is_eq, ordering_then, ordering_reverse
 use Rattle.std.proofs.lemmas.List.Sums.{sum_by-cons}
 use Rattle.std.proofs.lemmas.Bool.{cases_eq, eq-eqb, ne_eqb, lt-ltb, cond-true, cond-false}
 use Rattle.allocative_graph.specs.Path.{Key, Path, key_cmp, path_cmp, is_same_path}
-use Rattle.allocative.specs.Listed.{Sum, root_sum, path_at, map_of}
+use Rattle.allocative.specs.Listed.{Sum, root_sum, sum_at, path_at, map_of}
 use Rattle.allocative.specs.Shapes.{Shape, no_shape, at, paths, sums, key_at, parent_at, bytes_at, below_at, share, IsArena}
 use Rattle.allocative_graph.specs.Path.{is_one_below}
 use Rattle.allocative_graph.specs.Graph.{is_root}
 use Rattle.allocative_graph.specs.Sums.{below}
-use Rattle.allocative.specs.Finishing.{sum_at, size_at, is_short}
+use Rattle.allocative.specs.Finishing.{size_at, is_short}
 use Rattle.allocative.proofs.Bridge.{IsListing, below_listed, not_below_root}
 use Rattle.allocative.proofs.Orders.{key_total, same_path-same, same_path-apart}
 use Rattle.allocative.proofs.Paths.{paths_at, paths_root, distinct}
@@ -88,8 +88,8 @@ module _ (ns : List Shape) (ok : IsArena ns) (i : ℕ) (hi : i < length ns) wher
   pub bytes_is : (let e = sum_at (sums ns) i in e.bytes) ≡ bytes_at ns i
   bytes_is = ap (λ (e : Sum). e.bytes) (get_sums ns i hi)
 
-  pub unique_is : (let e = sum_at (sums ns) i in e.unique) ≡ unique_at ns i
-  unique_is = ap (λ (e : Sum). e.unique) (get_sums ns i hi)
+  pub unique_is : (let e = sum_at (sums ns) i in e.is_unique) ≡ unique_at ns i
+  unique_is = ap (λ (e : Sum). e.is_unique) (get_sums ns i hi)
 
   pub size_is : size_at (sums ns) i ≡ cond (unique_at ns i) (bytes_at ns i) (bytes_at ns i - below_at ns i)
   size_is = λ j. cond (unique_is j) (bytes_is j) (bytes_is j - sym below_is j)

@@ -17,8 +17,8 @@ use Rattle.allocative_graph.proofs.Below.{entered-add}
 use Rattle.allocative_graph.proofs.Computed.{entries-empty}
 use Rattle.allocative_graph.proofs.Graphs.{weights-put}
 use Rattle.allocative_graph.proofs.Merge.{get-graph, get-graph-root}
-use Rattle.allocative.specs.Listed.{Sum, Listed, raise, add, path_at, row, rows, map_of}
-use Rattle.allocative.specs.Finishing.{sum_at, size_at}
+use Rattle.allocative.specs.Listed.{Sum, Listed, raise, add, sum_at, path_at, row, rows, map_of}
+use Rattle.allocative.specs.Finishing.{size_at}
 use Rattle.allocative.proofs.Orders.{same_path-same, same_path-apart}
 
 pub same_turned : (p q : Path) → is_same_path p q ≡ is_same_path q p
@@ -142,7 +142,7 @@ nothing_left false n b e = omega (arith, e)
 pub graph_hit : (s : Listed) → IsListing s → (i : ℕ) → i < length s → get (graph (map_of s)) (path_at s i) ≡ Some (size_at s i)
 graph_hit s ok zero h =
     ap (get (graph (map_of s))) ok.root_path ∙ get-graph-root (map_of s)
-    ∙ ap (λ (n : ℕ). Some n) (sym (let e = sum_at s 0 in nothing_left e.unique e.bytes (bag.below (map_of s) e.path) ok.root_bytes))
+    ∙ ap (λ (n : ℕ). Some n) (sym (let e = sum_at s 0 in nothing_left e.is_unique e.bytes (bag.below (map_of s) e.path) ok.root_bytes))
 graph_hit s ok (suc i) h = by (path_at s (suc i)) refl
   where
     by : (q : Path) → path_at s (suc i) ≡ q → get (graph (map_of s)) (path_at s (suc i)) ≡ Some (size_at s (suc i))

@@ -7,31 +7,32 @@ use Rattle.std.proofs.lemmas.Cmp.{tied_itself}
 use Rattle.std.proofs.lemmas.Bool.{cases_lt}
 use Rattle.allocative_graph.specs.Path.{Key, Path, key_cmp}
 use Rattle.allocative.specs.Listed.{Sum, Listed, root_sum, raise, add, path_at, IsEntered}
-use Rattle.allocative.specs.Shapes.{Shape, no_shape, at, paths, label, sums, kid_at, kids_at, key_at, parent_at, bytes_at, IsArena, IsPlace, IsGap}
+use Rattle.allocative.specs.Shapes.{Shape, no_shape, at, paths, label, sums, children_at, keys_at, key_in, key_at, parent_at, bytes_at, IsArena, IsPlace, IsGap}
 use Rattle.allocative.proofs.Orders.{key_total}
+use Rattle.allocative.proofs.Keys.{length-keys_of, key_in-keys_of}
+use Rattle.allocative.proofs.Walked.{child_path}
 use Rattle.allocative.proofs.Paths.{paths_at, paths_root, paths_set, paths_push, length-paths, distinct}
 use Rattle.allocative.proofs.Labels.{label_set, label_push, get_sums, path_sums, length_sums, add_hit, add_miss, unique_at}
-use Rattle.allocative.proofs.Grown.{leaf, with_kids, grown, length_grown}
+use Rattle.allocative.proofs.Grown.{leaf, with_children, grown, length_grown}
 
 -- at a gap no child has the key
-gap_none : (ks : List (Key × ℕ)) (k : Key) (g : ℕ) → IsGap ks k g → (j : ℕ) → j < length ks → (kid_at ks j).0 ≡ k → ⊥
+gap_none : (ks : List Key) (k : Key) (g : ℕ) → IsGap ks k g → (j : ℕ) → j < length ks → key_in ks j ≡ k → ⊥
 gap_none ks k g gap j h e =
-    let tied : key_cmp (kid_at ks j).0 k ≡ Equal = subst (λ (x : Key). key_cmp (kid_at ks j).0 x ≡ Equal) e (tied_itself key_total (kid_at ks j).0) in
+    let tied : key_cmp (key_in ks j) k ≡ Equal = subst (λ (x : Key). key_cmp (key_in ks j) x ≡ Equal) e (tied_itself key_total (key_in ks j)) in
     elim (cases_lt j g) [
       | inl lt ↦ let less = gap.smaller_before j lt in cc
       | inr ge ↦ let more = gap.greater_after j ge h in cc
     ]
 
 module _ (ns : List Shape) (ok : IsArena ns) (p : ℕ) (hp : p < length ns) (k : Key) where
+  in_children : (a : ℕ) → IsPlace (keys_at ns p) k a → a < length (children_at ns p)
+  in_children a found = omega (arith, length-keys_of ns (children_at ns p), found.in_range)
+
   -- the child found has the path that was looked for
-  pub path_found : (a : ℕ) → IsPlace (kids_at ns p) k a → let kid = kid_at (kids_at ns p) a in (kid.1 < length (sums ns)) × (path_at (sums ns) kid.1 ≡ path_at (sums ns) p ++ k ∷ [])
+  pub path_found : (a : ℕ) → IsPlace (keys_at ns p) k a → let i = get_or (children_at ns p) a 0 in (i < length (sums ns)) × (path_at (sums ns) i ≡ path_at (sums ns) p ++ k ∷ [])
   path_found a found =
-      let i = (kid_at (kids_at ns p) a).1 in
-      let kid = ok.kids p a hp found.in_range in
-      let step = paths_at ns i kid.not_root kid.in_range (ok.parents i kid.not_root kid.in_range) in (
-        omega (arith, length_sums ns, kid.in_range),
-        path_sums ns i kid.in_range ∙ (step ∙ (ap (λ (q : ℕ). get_or (paths ns) q [] ++ key_at ns i ∷ []) kid.parent ∙ (ap (λ (x : Key). get_or (paths ns) p [] ++ x ∷ []) (kid.key ∙ found.has_key) ∙ ap (λ (x : Path). x ++ k ∷ []) (sym (path_sums ns p hp))))),
-      )
+      let there = child_path ns ok p a hp (in_children a found) in
+      (there.1, there.2 ∙ ap (λ (x : Key). path_at (sums ns) p ++ x ∷ []) found.has_key)
 
   -- an entry of nothing changes nothing at a path that stands there
   pub add_nothing : (i : ℕ) → i < length ns → add (path_at (sums ns) i) 0 false (sums ns) ≡ sums ns
@@ -47,22 +48,22 @@ module _ (ns : List Shape) (ok : IsArena ns) (p : ℕ) (hp : p < length ns) (k :
       raise_nothing : (s : Sum) → raise 0 false s ≡ s
       raise_nothing s =
           let b : s.bytes + 0 ≡ s.bytes = omega arith in
-          rw (b, or_false s.unique) refl
+          rw (b, or_false s.is_unique) refl
 
   -- an entry of nothing at a child that is there
-  pub was_entered : (a : ℕ) → IsPlace (kids_at ns p) k a → IsEntered (sums ns) (sums ns) p k 0 false (kid_at (kids_at ns p) a).1
+  pub was_entered : (a : ℕ) → IsPlace (keys_at ns p) k a → IsEntered (sums ns) (sums ns) p k 0 false (get_or (children_at ns p) a 0)
   was_entered a found =
       let at = path_found a found in
-      let kid = ok.kids p a hp found.in_range in
+      let child = ok.children p a hp (in_children a found) in
       record {
-        sums = sym (ap (λ (q : Path). add q 0 false (sums ns)) (sym at.1) ∙ add_nothing (kid_at (kids_at ns p) a).1 kid.in_range);
-        not_root = kid.not_root;
+        sums = sym (ap (λ (q : Path). add q 0 false (sums ns)) (sym at.1) ∙ add_nothing (get_or (children_at ns p) a 0) child.in_range);
+        not_root = child.not_root;
         within = at.0;
         path = at.1;
       }
 
   -- a key in a gap was entered nowhere
-  pub path_new : (g : ℕ) → IsGap (kids_at ns p) k g → (i : ℕ) → i < length (sums ns) → path_at (sums ns) i ≢ path_at (sums ns) p ++ k ∷ []
+  pub path_new : (g : ℕ) → IsGap (keys_at ns p) k g → (i : ℕ) → i < length (sums ns) → path_at (sums ns) i ≢ path_at (sums ns) p ++ k ∷ []
   path_new g gap zero h e = not_nil _ k (sym e ∙ (path_sums ns 0 ok.rooted ∙ paths_root ns))
     where
       not_nil : (x : Path) (k : Key) → x ++ k ∷ [] ≡ [] → ⊥
@@ -75,15 +76,15 @@ module _ (ns : List Shape) (ok : IsArena ns) (p : ℕ) (hp : p < length ns) (k :
       let parts = same_from_push _ _ _ _ (sym step ∙ (sym (path_sums ns (suc i) hi) ∙ (e ∙ ap (λ (x : Path). x ++ k ∷ []) (path_sums ns p hp)))) in
       let same : parent_at ns (suc i) ≡ p = distinct ns ok (parent_at ns (suc i)) p (omega arith) hp parts.0 in
       let at = ok.listed (suc i) (omega arith) hi in
-      let at_p : at.place < length (kids_at ns p) = subst (λ (q : ℕ). at.place < length (kids_at ns q)) same at.in_range in
-      let is_p : kid_at (kids_at ns p) at.place ≡ (key_at ns (suc i), suc i) = subst (λ (q : ℕ). kid_at (kids_at ns q) at.place ≡ (key_at ns (suc i), suc i)) same at.is in
-      gap_none (kids_at ns p) k g gap at.place at_p (ap (λ (x : Key × ℕ). x.0) is_p ∙ parts.1)
+      let at_p : at.place < length (children_at ns p) = subst (λ (q : ℕ). at.place < length (children_at ns q)) same at.in_range in
+      let is_p : get_or (children_at ns p) at.place 0 ≡ suc i = subst (λ (q : ℕ). get_or (children_at ns q) at.place 0 ≡ suc i) same at.is in
+      gap_none (keys_at ns p) k g gap at.place (omega (arith, length-keys_of ns (children_at ns p))) (key_in-keys_of ns (children_at ns p) at.place at_p ∙ (ap (key_at ns) is_p ∙ parts.1))
 
-  module _ (g : ℕ) (gap : IsGap (kids_at ns p) k g) where
+  module _ (g : ℕ) (gap : IsGap (keys_at ns p) k g) where
     paths_grown : paths (grown ns p k g) ≡ paths ns ++ (path_at (sums ns) p ++ k ∷ []) ∷ []
     paths_grown =
         let stood : at (ns ++ leaf p k ∷ []) p ≡ at ns p = get_or_append_left ns _ no_shape p hp in
-        paths_set (ns ++ leaf p k ∷ []) p (with_kids (insert (kids_at ns p) g (k, length ns)) (at ns p)) (ap (λ (m : Shape). m.parent) (sym stood)) (ap (λ (m : Shape). m.key) (sym stood))
+        paths_set (ns ++ leaf p k ∷ []) p (with_children (insert (children_at ns p) g (length ns)) (at ns p)) (ap (λ (m : Shape). m.parent) (sym stood)) (ap (λ (m : Shape). m.key) (sym stood))
         ∙ (paths_push ns (leaf p k) ok.rooted ∙ ap (λ (x : Path). paths ns ++ (x ++ k ∷ []) ∷ []) (sym (path_sums ns p hp)))
 
     -- the new node stands at the end of the sums
@@ -93,12 +94,12 @@ module _ (ns : List Shape) (ok : IsArena ns) (p : ℕ) (hp : p < length ns) (k :
         let P = paths ns ++ Q ∷ [] in
         let longer = ns ++ leaf p k ∷ [] in
         let stood : at longer p ≡ at ns p = get_or_append_left ns _ no_shape p hp in
-        let all : label P longer ≡ sums ns ++ record { path = Q; bytes = 0; unique = false } ∷ [] = label_push (paths ns) ns Q (leaf p k) (length-paths ns) in
-        let here : get_or (label P longer) p root_sum ≡ record { path = get_or P p []; bytes = bytes_at ns p; unique = unique_at ns p } =
+        let all : label P longer ≡ sums ns ++ record { path = Q; bytes = 0; is_unique = false } ∷ [] = label_push (paths ns) ns Q (leaf p k) (length-paths ns) in
+        let here : get_or (label P longer) p root_sum ≡ record { path = get_or P p []; bytes = bytes_at ns p; is_unique = unique_at ns p } =
         ap (λ (s : Listed). get_or s p root_sum) all
         ∙ (get_or_append_left (sums ns) _ root_sum p (omega (arith, length_sums ns))
-        ∙ (get_sums ns p hp ∙ ap (λ (x : Path). record { path = x; bytes = bytes_at ns p; unique = unique_at ns p }) (sym (get_or_append_left (paths ns) _ [] p (omega (arith, length-paths ns)))))) in
-        let written = label_set P longer p (with_kids (insert (kids_at ns p) g (k, length ns)) (at ns p)) in
+        ∙ (get_sums ns p hp ∙ ap (λ (x : Path). record { path = x; bytes = bytes_at ns p; is_unique = unique_at ns p }) (sym (get_or_append_left (paths ns) _ [] p (omega (arith, length-paths ns)))))) in
+        let written = label_set P longer p (with_children (insert (children_at ns p) g (length ns)) (at ns p)) in
         ap (λ (ps : List Path). label ps (grown ns p k g)) paths_grown
         ∙ (written
         ∙ (ap (λ (e : Sum). set (label P longer) p e) (sym here)

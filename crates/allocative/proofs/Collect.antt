@@ -1,5 +1,5 @@
--- A collector's fields after each step.
-use Rattle.std.proofs.Common.{◌≡◌, ℕ, suc, pred, ◌+◌, ◌-◌, ◌^◌, ◌<◌, ◌≤◌, Bool, true, false, cond, not, ◌||◌, List, [], ◌∷◌, ◌++◌, map, reverse, length, get_or, Ordering, Less, Equal, Greater, refl, sym, ap, subst, ◌∙◌, arith, inl, inr, length-append}
+-- The parts of a graph's collector after each step: one entry more, down and back, and the identities met.
+use Rattle.std.proofs.Common.{◌≡◌, ℕ, suc, pred, ◌+◌, ◌-◌, ◌^◌, ◌<◌, Bool, true, false, cond, not, ◌||◌, List, [], ◌∷◌, ◌++◌, map, reverse, length, get_or, Ordering, Less, Equal, Greater, refl, sym, ap, subst, ◌∙◌, arith, inl, inr, length-append}
 use Rattle.std.specs.List.{list_any}
 use Rattle.std.specs.Ordering.{match_ordering}
 use Rattle.std.specs.FinSet.{from_list, contains, insert, same_set, contains-from_list, contains-insert}
@@ -11,11 +11,12 @@ use Rattle.allocative_graph.specs.Path.{Key, Path}
 use Rattle.allocative_graph.specs.Forest.{Mark, AsInline, AsUnique, AsShared}
 use Rattle.allocative_graph.specs.Sums.{Sums, is_unique_mark}
 use Rattle.allocative_graph.specs.Sums as bag
-use Rattle.allocative_graph.specs.Collector.{Live, go, leave_live, last_of, before_last, enter_live, enter_again, enter_first}
+use Rattle.allocative_graph.specs.Collector.{Live, no_entries, go, leave_live, last_of, before_last, enter_live, enter_again, enter_first}
+use Rattle.allocative_graph.proofs.Below.{entered-empty}
 use Rattle.allocative_graph.proofs.Basics.{identity_total, identity_antisymmetric}
-use Rattle.allocative.specs.Listed.{Listed, total, path_at, map_of}
+use Rattle.allocative.specs.Listed.{Listed, root_sum, path_at, map_of}
 use Rattle.allocative.specs.Places.{live, to_root, IsPlaced, AddedAt}
-use Rattle.allocative.proofs.Adds.{total_add, path_add, length_add}
+use Rattle.allocative.proofs.Adds.{total_entered, length_entered, path_entered}
 use Rattle.allocative.proofs.Bridge.{map_of-add, entered-map_of, not_root}
 
 -- ---- the identities
@@ -56,6 +57,22 @@ not_met ks i e = contains-from_list identity_total ks i ∙ false_of _ e
 
 pub was_met : (ks : List Identity) (i : Identity) → false ≡ not (list_any (is_same_identity i) ks) → contains (from_list {R = identity_cmp} ks) i ≡ true
 was_met ks i e = contains-from_list identity_total ks i ∙ true_of _ e
+
+-- ---- the start
+pub placed_new : IsPlaced (root_sum ∷ []) 0 [] 0
+placed_new = record {
+  here = omega arith;
+  back = λ j h. absurd (omega arith);
+  entered_is = sym entered-empty;
+  total_is = refl;
+  bound = omega arith;
+  rooted = omega arith;
+  root_path = refl;
+  outermost = refl;
+}
+
+pub live_new : live (root_sum ∷ []) [] 0 [] false ≡ no_entries
+live_new = refl
 
 -- ---- going down and back
 back_more : (f : ℕ → Path) (places : List ℕ) (current : ℕ) (bottom : List Path) → reverse (map f (places ++ current ∷ [])) ++ bottom ≡ f current ∷ (reverse (map f places) ++ bottom)
@@ -108,24 +125,18 @@ kept_back old new kept (p ∷ ps) all =
     ∙ ap (λ (xs : List Path). path_at old p ∷ xs) (kept_back old new kept ps (λ j h. all (suc j) (omega arith)))
 
 module _ (t new : Listed) (met : List Identity) (current : ℕ) (places : List ℕ) (rooted : Bool) (n : ℕ) (ok : IsPlaced t current places n) (k : Key) (size : ℕ) (u : Bool) (more node : ℕ) (entered : AddedAt t new current k size u n more node) where
-  longer : length t ≤ length new
-  longer = let le = length_add (path_at t current ++ k ∷ []) size u t in let same = ap length entered.is.sums in omega arith
-
-  kept : (i : ℕ) → i < length t → path_at new i ≡ path_at t i
-  kept i h = ap (λ (s : Listed). path_at s i) entered.is.sums ∙ path_add _ size u t i h
-
   pub placed_added : (m : Mark) → is_unique_mark m ≡ u → IsPlaced new current places more
   placed_added m mark = record {
-    here = omega (arith, longer, ok.here);
-    back = λ j h. let old = ok.back j h in omega (arith, longer);
+    here = omega (arith, length_entered entered.is, ok.here);
+    back = λ j h. let old = ok.back j h in omega (arith, length_entered entered.is);
     entered_is =
         let same = ap (λ (s : Listed). bag.entered (map_of s)) entered.is.sums in
         let grown = entered-map_of t (record { path = path_at t current ++ k ∷ []; size = size; mark = m }) u ok.rooted ok.root_path (not_root (path_at t current) k) mark in
         omega (arith, ok.entered_is, entered.count, same, grown);
-    total_is = let total_more = total_add (path_at t current ++ k ∷ []) size u t in let same = ap total entered.is.sums in omega (arith, ok.total_is, entered.count);
+    total_is = omega (arith, ok.total_is, entered.count, total_entered entered.is);
     bound = omega (arith, entered.fits, entered.count);
-    rooted = omega (arith, longer, ok.rooted);
-    root_path = kept 0 ok.rooted ∙ ok.root_path;
+    rooted = omega (arith, length_entered entered.is, ok.rooted);
+    root_path = path_entered entered.is 0 ok.rooted ∙ ok.root_path;
     outermost = ok.outermost;
   }
 
@@ -133,8 +144,8 @@ module _ (t new : Listed) (met : List Identity) (current : ℕ) (places : List �
   live_added m mark = λ i. record {
     sums = (ap map_of entered.is.sums ∙ map_of-add t (record { path = path_at t current ++ k ∷ []; size = size; mark = m }) u ok.rooted ok.root_path (not_root (path_at t current) k) mark) i;
     met = from_list met;
-    here = kept current ok.here i;
-    back = reverse (kept_back t new kept places ok.back i) ++ to_root rooted;
+    here = path_entered entered.is current ok.here i;
+    back = reverse (kept_back t new (path_entered entered.is) places ok.back i) ++ to_root rooted;
     open_visitors = length places + cond rooted 1 0;
   }
 

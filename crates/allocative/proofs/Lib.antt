@@ -1,3 +1,4 @@
+mod Keys
 pub mod Steps
 pub mod Showing
 pub mod Roots

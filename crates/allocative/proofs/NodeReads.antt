@@ -4,15 +4,16 @@ use Rattle.std.specs.List.{insert}
 use Rattle.std.proofs.lemmas.List.{get_or-map, length-map, map-set, map_push, length-set, length_push, get_or_append_left, set-get_or, take-map, take_at}
 use Rattle.allocative.specs.declared.tree.Node.{Node}
 use Rattle.allocative_graph.specs.Path.{Key}
-use Rattle.allocative.specs.Shapes.{Shape, no_shape, at, kids_at, parent_at, below_at}
+use Rattle.allocative.specs.Shapes.{Shape, no_shape, at, children_at, keys_of, key_in, key_at, parent_at, below_at}
 use Rattle.allocative.specs.Nodes.{shape, sums_of, IsTree}
 use Rattle.allocative_graph.specs.Sums.{below}
-use Rattle.allocative.specs.Listed.{Listed, path_at, map_of}
-use Rattle.allocative.specs.Finishing.{sum_at, size_at, is_short}
+use Rattle.allocative.specs.Listed.{Listed, sum_at, path_at, map_of}
+use Rattle.allocative.specs.Finishing.{size_at, is_short}
+use Rattle.allocative.proofs.Keys.{key_in-keys_of}
 use Rattle.allocative.proofs.Below.{size_is, short_is, bytes_is, below_is}
 use Rattle.allocative.proofs.Labels.{length_sums}
 use Rattle.allocative.proofs.Raised.{raise_shape, more_below, raised}
-use Rattle.allocative.proofs.Grown.{leaf, with_kids, grown}
+use Rattle.allocative.proofs.Grown.{leaf, with_children, grown}
 
 pub length_nodes : (items : List Node) → length (sums_of items) ≡ length items
 length_nodes items = length_sums (map shape items) ∙ length-map items shape
@@ -26,14 +27,26 @@ in_shapes items i h = omega (arith, length_sums (map shape items))
 pub shape_read : (items : List Node) (i : ℕ) (n : Node) → i < length items → n ≡ get_or items i n → at (map shape items) i ≡ shape n
 shape_read items i n h read = get_or-map shape items i n no_shape h ∙ ap shape (sym read)
 
-pub kids_read : (items : List Node) (i : ℕ) (n : Node) → i < length items → n ≡ get_or items i n → kids_at (map shape items) i ≡ n.children.items
-kids_read items i n h read = ap (λ (s : Shape). s.kids) (shape_read items i n h read)
+pub children_read : (items : List Node) (i : ℕ) (n : Node) → i < length items → n ≡ get_or items i n → children_at (map shape items) i ≡ n.children.items
+children_read items i n h read = ap (λ (s : Shape). s.children) (shape_read items i n h read)
+
+pub key_read : (items : List Node) (i : ℕ) (n : Node) → i < length items → n ≡ get_or items i n → key_at (map shape items) i ≡ n.key
+key_read items i n h read = ap (λ (s : Shape). s.key) (shape_read items i n h read)
+
+pub key_seen : (items : List Node) (xs : List ℕ) (j : ℕ) → j < length xs → get_or xs j 0 < length items → (n : Node) → n ≡ get_or items (get_or xs j 0) n → key_in (keys_of (map shape items) xs) j ≡ n.key
+key_seen items xs j h within n read = key_in-keys_of (map shape items) xs j h ∙ key_read items (get_or xs j 0) n within read
+
+-- a node's children are nodes
+pub children_in : (items : List Node) → IsTree items → (p : ℕ) → p < length items → (j : ℕ) → j < length (children_at (map shape items) p) → get_or (children_at (map shape items) p) j 0 < length items
+children_in items ok p hp j h =
+    let child = ok.children p j (omega (arith, length-map items shape)) h in
+    omega (arith, child.in_range, length-map items shape)
 
 pub parent_read : (items : List Node) (i : ℕ) (n : Node) → i < length items → n ≡ get_or items i n → parent_at (map shape items) i ≡ n.parent
 parent_read items i n h read = ap (λ (s : Shape). s.parent) (shape_read items i n h read)
 
 abbrev pub raise_node : ℕ → Bool → Node → Node
-raise_node size b n = record n { bytes = n.bytes + size; unique = b }
+raise_node size b n = record n { bytes = n.bytes + size; is_unique = b }
 
 abbrev pub below_node : ℕ → Node → Node
 below_node size n = record n { below = n.below + size }
@@ -46,7 +59,7 @@ below_read items i q n m h apart read =
     ∙ (ap (λ (l : List Shape). at l q) (sym (map-set shape items i n)) ∙ shape_read (set items i n) q m (omega (arith, length-set items i n)) read))
 
 -- the two writes of an entry, seen as shapes
-pub raised_nodes : (items : List Node) (i size : ℕ) (u b : Bool) (n m : Node) → i < length items → n.parent < length items → n.parent ≢ i → n ≡ get_or items i n → b ≡ (n.unique || u) → m ≡ get_or (set items i (raise_node size b n)) n.parent m → map shape (set (set items i (raise_node size b n)) n.parent (below_node size m)) ≡ raised (map shape items) i (parent_at (map shape items) i) size u
+pub raised_nodes : (items : List Node) (i size : ℕ) (u b : Bool) (n m : Node) → i < length items → n.parent < length items → n.parent ≢ i → n ≡ get_or items i n → b ≡ (n.is_unique || u) → m ≡ get_or (set items i (raise_node size b n)) n.parent m → map shape (set (set items i (raise_node size b n)) n.parent (below_node size m)) ≡ raised (map shape items) i (parent_at (map shape items) i) size u
 raised_nodes items i size u b n m hi hq apart read_n mark read_m =
     let ns = map shape items in
     let first : at ns i ≡ shape n = shape_read items i n hi read_n in
@@ -73,15 +86,15 @@ module _ (items longer : List Node) (fresh : Node) (pushed : longer ≡ items ++
       sym (get_or_append_left (map shape items) (shape fresh ∷ []) no_shape p (omega (arith, length-map items shape)))
       ∙ (ap (λ (l : List Shape). at l p) (sym (ap (map shape) pushed ∙ map_push shape items fresh)) ∙ shape_read longer p n (omega (arith, longer_length)) read)
 
-  pub stood_kids : kids_at (map shape items) p ≡ n.children.items
-  stood_kids = ap (λ (s : Shape). s.kids) stood_at
+  pub stood_children : children_at (map shape items) p ≡ n.children.items
+  stood_children = ap (λ (s : Shape). s.children) stood_at
 
-  pub grown_nodes : (k : Key) (g : ℕ) (m : Node) → shape fresh ≡ leaf p k → shape m ≡ with_kids (insert n.children.items g (k, length items)) (shape n) → map shape (set longer p m) ≡ grown (map shape items) p k g
+  pub grown_nodes : (k : Key) (g : ℕ) (m : Node) → shape fresh ≡ leaf p k → shape m ≡ with_children (insert n.children.items g (length items)) (shape n) → map shape (set longer p m) ≡ grown (map shape items) p k g
   grown_nodes k g m fresh_is m_is =
       let ns = map shape items in
       let mapped : map shape longer ≡ ns ++ leaf p k ∷ [] = ap (map shape) pushed ∙ (map_push shape items fresh ∙ ap (λ (s : Shape). ns ++ s ∷ []) fresh_is) in
-      let same : shape m ≡ with_kids (insert (kids_at ns p) g (k, length ns)) (at ns p) =
-      m_is ∙ (ap (λ (s : Shape). with_kids (insert s.kids g (k, length items)) s) (sym stood_at) ∙ ap (λ (l : ℕ). with_kids (insert (kids_at ns p) g (k, l)) (at ns p)) (sym (length-map items shape))) in
+      let same : shape m ≡ with_children (insert (children_at ns p) g (length ns)) (at ns p) =
+      m_is ∙ (ap (λ (s : Shape). with_children (insert s.children g (length items)) s) (sym stood_at) ∙ ap (λ (l : ℕ). with_children (insert (children_at ns p) g l) (at ns p)) (sym (length-map items shape))) in
       map-set shape longer p m ∙ (ap (λ (l : List Shape). set l p (shape m)) mapped ∙ ap (set (ns ++ leaf p k ∷ []) p) same)
 
   -- after a push that is undone
@@ -99,17 +112,17 @@ module _ (items : List Node) (ok : IsTree items) (v : Listed) (view : sums_of it
   stands : i < length items
   stands = in_nodes items i (subst (λ (s : Listed). i < length s) (sym view) h)
 
-  pub size_read : size_at v i ≡ cond n.unique n.bytes (n.bytes - n.below)
+  pub size_read : size_at v i ≡ cond n.is_unique n.bytes (n.bytes - n.below)
   size_read =
       ap (λ (s : Listed). size_at s i) (sym view)
       ∙ (size_is (map shape items) ok i (in_shapes items i (subst (λ (s : Listed). i < length s) (sym view) h))
-      ∙ ap (λ (s : Shape). cond s.unique s.bytes (s.bytes - s.below)) (shape_read items i n stands read))
+      ∙ ap (λ (s : Shape). cond s.is_unique s.bytes (s.bytes - s.below)) (shape_read items i n stands read))
 
-  pub short_read : is_short v i ≡ (ltb 0 i && not n.unique && ltb n.bytes n.below)
+  pub short_read : is_short v i ≡ (ltb 0 i && not n.is_unique && ltb n.bytes n.below)
   short_read =
       ap (λ (s : Listed). is_short s i) (sym view)
       ∙ (short_is (map shape items) ok i (in_shapes items i (subst (λ (s : Listed). i < length s) (sym view) h))
-      ∙ ap (λ (s : Shape). ltb 0 i && not s.unique && ltb s.bytes s.below) (shape_read items i n stands read))
+      ∙ ap (λ (s : Shape). ltb 0 i && not s.is_unique && ltb s.bytes s.below) (shape_read items i n stands read))
 
   pub bytes_read : (let e = sum_at v i in e.bytes) ≡ n.bytes
   bytes_read =

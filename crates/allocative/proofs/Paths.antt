@@ -3,8 +3,9 @@ use Rattle.std.proofs.Common.{◌≡◌, ℕ, zero, suc, ◌+◌, ◌<◌, List,
 use Rattle.std.proofs.lemmas.List.{get_or_append_left, get_or_push, same_from_push, length_push}
 use Rattle.std.proofs.lemmas.Bool.{cases_order}
 use Rattle.allocative_graph.specs.Path.{Key, Path}
-use Rattle.allocative.specs.Shapes.{Shape, path_from, grow, paths, kid_at, kids_at, key_at, parent_at, KeysRise, IsArena}
+use Rattle.allocative.specs.Shapes.{Shape, path_from, grow, paths, children_at, key_at, keys_of, key_in, parent_at, KeysRise, IsArena}
 use Rattle.allocative.proofs.Orders.{key_not_before}
+use Rattle.allocative.proofs.Keys.{length-keys_of, key_in-keys_of}
 
 length-grow : (ps : List Path) (ns : List Shape) → length (grow ps ns) ≡ length ps + length ns
 length-grow ps [] = omega arith
@@ -66,7 +67,7 @@ paths_set (m ∷ ns) zero n p k = refl
 paths_set (m ∷ ns) (suc i) n p k = grow_set ([] ∷ []) ns i n p k
 
 -- a key stands at one place
-one_place : (ks : List (Key × ℕ)) → KeysRise ks → (a b : ℕ) → a < length ks → b < length ks → (kid_at ks a).0 ≡ (kid_at ks b).0 → a ≡ b
+one_place : (ks : List Key) → KeysRise ks → (a b : ℕ) → a < length ks → b < length ks → key_in ks a ≡ key_in ks b → a ≡ b
 one_place ks rise a b ha hb same = elim (cases_order a b) [
   | inl e ↦ e
   | inr (inl lt) ↦ absurd (key_not_before _ _ same (rise a b lt hb))
@@ -87,13 +88,15 @@ module _ (ns : List Shape) (ok : IsArena ns) where
   one_child i j pi hi pj hj parents keys =
       let a = ok.listed i pi hi in
       let b = ok.listed j pj hj in
-      let ks = kids_at ns (parent_at ns i) in
-      let b_in : b.place < length ks = subst (λ (p : ℕ). b.place < length (kids_at ns p)) (sym parents) b.in_range in
-      let b_is : kid_at ks b.place ≡ (key_at ns j, j) = subst (λ (p : ℕ). kid_at (kids_at ns p) b.place ≡ (key_at ns j, j)) (sym parents) b.is in
-      let same : (kid_at ks a.place).0 ≡ (kid_at ks b.place).0 = ap (λ (x : Key × ℕ). x.0) a.is ∙ (keys ∙ sym (ap (λ (x : Key × ℕ). x.0) b_is)) in
+      let xs = children_at ns (parent_at ns i) in
+      let b_in : b.place < length xs = subst (λ (p : ℕ). b.place < length (children_at ns p)) (sym parents) b.in_range in
+      let b_is : get_or xs b.place 0 ≡ j = subst (λ (p : ℕ). get_or (children_at ns p) b.place 0 ≡ j) (sym parents) b.is in
+      let same : key_in (keys_of ns xs) a.place ≡ key_in (keys_of ns xs) b.place =
+      key_in-keys_of ns xs a.place a.in_range ∙ (ap (key_at ns) a.is ∙ (keys ∙ sym (key_in-keys_of ns xs b.place b_in ∙ ap (key_at ns) b_is))) in
       let parent_in : parent_at ns i < length ns = omega (arith, ok.parents i pi hi) in
-      let place : a.place ≡ b.place = one_place ks (ok.rise (parent_at ns i) parent_in) a.place b.place a.in_range b_in same in
-      sym (ap (λ (x : Key × ℕ). x.1) a.is) ∙ (ap (λ (q : ℕ). (kid_at ks q).1) place ∙ ap (λ (x : Key × ℕ). x.1) b_is)
+      let len = length-keys_of ns xs in
+      let place : a.place ≡ b.place = one_place (keys_of ns xs) (ok.rise (parent_at ns i) parent_in) a.place b.place (omega (arith, a.in_range)) (omega arith) same in
+      sym a.is ∙ (ap (λ (q : ℕ). get_or xs q 0) place ∙ b_is)
 
   distinct_below : (n i j : ℕ) → i < n → i < length ns → j < length ns → get_or (paths ns) i [] ≡ get_or (paths ns) j [] → i ≡ j
   distinct_below zero i j lt hi hj e = absurd (omega arith)

@@ -3,14 +3,15 @@ use Rattle.std.proofs.Common.{◌≡◌, ◌≢◌, ℕ, ◌+◌, ◌<◌, ◌�
 use Rattle.std.proofs.lemmas.List.{length-set, set-get_or}
 use Rattle.std.proofs.lemmas.List.Sums.{sum_by-set, sum_by-le-sum_by, get_or-le-sum_by}
 use Rattle.std.proofs.lemmas.Bool.{cases_eq, eq-eqb, ne_eqb}
-use Rattle.allocative_graph.specs.Path.{Key, Path}
+use Rattle.allocative_graph.specs.Path.{Path}
 use Rattle.allocative.specs.Listed.{Sum, Listed, root_sum, raise, add, total, path_at}
-use Rattle.allocative.specs.Shapes.{Shape, no_shape, at, paths, label, sums, kid_at, kids_at, key_at, parent_at, bytes_at, below_at, share, below_of, KeysRise, IsKid, IsArena}
+use Rattle.allocative.specs.Shapes.{Shape, no_shape, at, paths, label, sums, children_at, keys_of, keys_at, key_at, parent_at, bytes_at, below_at, share, below_of, KeysRise, IsChild, IsArena}
+use Rattle.allocative.proofs.Keys.{keys_of-same}
 use Rattle.allocative.proofs.Paths.{paths_set, distinct}
 use Rattle.allocative.proofs.Labels.{label_set, get_sums, path_sums, length_sums, add_hit, total_sums}
 
 abbrev pub raise_shape : ℕ → Bool → Shape → Shape
-raise_shape n u m = record m { bytes = m.bytes + n; unique = m.unique || u }
+raise_shape n u m = record m { bytes = m.bytes + n; is_unique = m.is_unique || u }
 
 abbrev pub more_below : ℕ → Shape → Shape
 more_below n m = record m { below = m.below + n }
@@ -60,8 +61,11 @@ module _ (ns : List Shape) (ok : IsArena ns) (i : ℕ) (pos : 0 < i) (hi : i < l
   key_before : (j : ℕ) → key_at (raised ns i (parent_at ns i) n u) j ≡ key_at ns j
   key_before = as_before (λ m. m.key) (λ m. refl) (λ m. refl)
 
-  kids_before : (j : ℕ) → kids_at (raised ns i (parent_at ns i) n u) j ≡ kids_at ns j
-  kids_before = as_before (λ m. m.kids) (λ m. refl) (λ m. refl)
+  children_before : (j : ℕ) → children_at (raised ns i (parent_at ns i) n u) j ≡ children_at ns j
+  children_before = as_before (λ m. m.children) (λ m. refl) (λ m. refl)
+
+  keys_before : (j : ℕ) → keys_at (raised ns i (parent_at ns i) n u) j ≡ keys_at ns j
+  keys_before j = ap (keys_of (raised ns i (parent_at ns i) n u)) (children_before j) ∙ keys_of-same ns (raised ns i (parent_at ns i) n u) (children_at ns j) (λ a h. key_before (get_or (children_at ns j) a 0))
 
   bytes_other : (j : ℕ) → j ≢ i → bytes_at (raised ns i (parent_at ns i) n u) j ≡ bytes_at ns j
   bytes_other j ni = elim (cases_eq j (parent_at ns i)) [
@@ -111,22 +115,21 @@ module _ (ns : List Shape) (ok : IsArena ns) (i : ℕ) (pos : 0 < i) (hi : i < l
         parents = λ j pj hj. rw (parent_before j) (ok.parents j pj (omega (arith, length_raised)));
         listed = λ j pj hj.
             let old = ok.listed j pj (omega (arith, length_raised)) in
-            let same : kids_at ns (parent_at ns j) ≡ kids_at new (parent_at new j) = sym (ap (kids_at new) (parent_before j) ∙ kids_before (parent_at ns j)) in
+            let same : children_at ns (parent_at ns j) ≡ children_at new (parent_at new j) = sym (ap (children_at new) (parent_before j) ∙ children_before (parent_at ns j)) in
             record {
               place = old.place;
-              in_range = subst (λ (ks : List (Key × ℕ)). old.place < length ks) same old.in_range;
-              is = subst (λ (ks : List (Key × ℕ)). kid_at ks old.place ≡ (key_at new j, j)) same (old.is ∙ ap (λ (x : Key). (x, j)) (sym (key_before j)));
+              in_range = subst (λ (xs : List ℕ). old.place < length xs) same old.in_range;
+              is = subst (λ (xs : List ℕ). get_or xs old.place 0 ≡ j) same old.is;
             };
-        kids = λ p a hp ha.
-            let old = ok.kids p a (omega (arith, length_raised)) (subst (λ (ks : List (Key × ℕ)). a < length ks) (kids_before p) ha) in
-            let is_kid : IsKid new p (kid_at (kids_at ns p) a) = record {
+        children = λ p a hp ha.
+            let old = ok.children p a (omega (arith, length_raised)) (subst (λ (xs : List ℕ). a < length xs) (children_before p) ha) in
+            let is_child : IsChild new p (get_or (children_at ns p) a 0) = record {
               not_root = old.not_root;
               in_range = omega (arith, length_raised, old.in_range);
-              parent = parent_before (kid_at (kids_at ns p) a).1 ∙ old.parent;
-              key = key_before (kid_at (kids_at ns p) a).1 ∙ old.key;
+              parent = parent_before (get_or (children_at ns p) a 0) ∙ old.parent;
             } in
-            subst (λ (ks : List (Key × ℕ)). IsKid new p (kid_at ks a)) (sym (kids_before p)) is_kid;
-        rise = λ p hp. subst KeysRise (sym (kids_before p)) (ok.rise p (omega (arith, length_raised)));
+            subst (λ (xs : List ℕ). IsChild new p (get_or xs a 0)) (sym (children_before p)) is_child;
+        rise = λ p hp. subst KeysRise (sym (keys_before p)) (ok.rise p (omega (arith, length_raised)));
         below = λ p hp.
             let old = ok.below p (omega (arith, length_raised)) in
             elim (cases_eq p (parent_at ns i)) [
@@ -154,12 +157,12 @@ module _ (ns : List Shape) (ok : IsArena ns) (i : ℕ) (pos : 0 < i) (hi : i < l
       let mid = set ns i (raise_shape n u (at ns i)) in
       let q_sum = get_sums ns q parent_in in
       let i_sum = get_sums ns i hi in
-      let new_sum : Sum = record { path = get_or P i []; bytes = bytes_at ns i + n; unique = (let m = at ns i in m.unique || u) } in
+      let new_sum : Sum = record { path = get_or P i []; bytes = bytes_at ns i + n; is_unique = (let m = at ns i in m.is_unique || u) } in
       let one : label P mid ≡ set (sums ns) i new_sum = label_set P ns i (raise_shape n u (at ns i)) in
-      let at_q : get_or (set (sums ns) i new_sum) q root_sum ≡ record { path = get_or P q []; bytes = bytes_at ns q; unique = (let m = at ns q in m.unique) } = get_or-set_other (sums ns) i q _ root_sum apart ∙ q_sum in
+      let at_q : get_or (set (sums ns) i new_sum) q root_sum ≡ record { path = get_or P q []; bytes = bytes_at ns q; is_unique = (let m = at ns q in m.is_unique) } = get_or-set_other (sums ns) i q _ root_sum apart ∙ q_sum in
       let two : label P (set mid q (more_below n (at ns q))) ≡ set (sums ns) i new_sum =
       label_set P mid q (more_below n (at ns q))
-      ∙ (ap (λ (s : Listed). set s q (record { path = get_or P q []; bytes = bytes_at ns q; unique = (let m = at ns q in m.unique) })) one
+      ∙ (ap (λ (s : Listed). set s q (record { path = get_or P q []; bytes = bytes_at ns q; is_unique = (let m = at ns q in m.is_unique) })) one
       ∙ (ap (λ (e : Sum). set (set (sums ns) i new_sum) q e) (sym at_q) ∙ set-get_or (set (sums ns) i new_sum) q root_sum)) in
       let raised_there : raise n u (get_or (sums ns) i root_sum) ≡ new_sum = ap (raise n u) i_sum in
       let first : (j : ℕ) → j < i → path_at (sums ns) j ≢ path_at (sums ns) i = λ j lt e. (let same : j ≡ i = distinct ns ok j i (omega arith) hi (sym (path_sums ns j (omega arith)) ∙ (e ∙ path_sums ns i hi)) in omega arith) in

@@ -8,12 +8,13 @@ use Rattle.std.proofs.lemmas.Cmp.{tied_itself}
 use Rattle.std.proofs.lemmas.Bool.{cases_lt, cases_eq}
 use Rattle.allocative_graph.specs.Path.{Key, Path, key_cmp, path_cmp}
 use Rattle.allocative.specs.Listed.{Listed, path_at}
-use Rattle.allocative.specs.Shapes.{Shape, paths, sums, kid_at, kids_at, key_at, parent_at, KeysRise, IsArena}
+use Rattle.allocative.specs.Shapes.{Shape, paths, sums, key_in, keys_at, children_at, key_at, parent_at, KeysRise, IsArena}
 use Rattle.std.specs.List.{flat_map}
 use Rattle.std.proofs.lemmas.Grind.{flat_map-append}
-use Rattle.allocative.specs.Finishing.{warned}
+use Rattle.allocative.specs.Finishing.{warning_at}
 use Rattle.allocative.specs.Walks.{IsUnder, StandsIn, PathsRise, IsWalk}
 use Rattle.allocative.proofs.Orders.{key_total}
+use Rattle.allocative.proofs.Keys.{length-keys_of, key_in-keys_of}
 use Rattle.allocative.proofs.Paths.{paths_at, paths_root, distinct}
 use Rattle.allocative.proofs.Labels.{length_sums, path_sums}
 
@@ -45,13 +46,13 @@ stands_right xs ys i h =
     }
 
 -- what has been walked: the paths under the first j children of the node p
-pub record IsPart (s : Listed) (p : Path) (ks : List (Key × ℕ)) (j : ℕ) (ys : List ℕ) : Type 0 where
+pub record IsPart (s : Listed) (p : Path) (ks : List Key) (j : ℕ) (ys : List ℕ) : Type 0 where
   pub within : (a : ℕ) → a < length ys → get_or ys a 0 < length s
-  pub under : (a : ℕ) → a < length ys → (b : ℕ) × (b < j) × IsUnder (p ++ (kid_at ks b).0 ∷ []) (path_at s (get_or ys a 0))
-  pub all : (b i : ℕ) → b < j → i < length s → IsUnder (p ++ (kid_at ks b).0 ∷ []) (path_at s i) → StandsIn ys i
+  pub under : (a : ℕ) → a < length ys → (b : ℕ) × (b < j) × IsUnder (p ++ key_in ks b ∷ []) (path_at s (get_or ys a 0))
+  pub all : (b i : ℕ) → b < j → i < length s → IsUnder (p ++ key_in ks b ∷ []) (path_at s i) → StandsIn ys i
   pub rise : PathsRise s ys
 
-pub part_none : (s : Listed) (p : Path) (ks : List (Key × ℕ)) → IsPart s p ks 0 []
+pub part_none : (s : Listed) (p : Path) (ks : List Key) → IsPart s p ks 0 []
 part_none s p ks = record {
   within = λ a h. absurd (omega arith);
   under = λ a h. absurd (omega arith);
@@ -59,7 +60,7 @@ part_none s p ks = record {
   rise = λ a b lt h. absurd (omega arith);
 }
 
-module _ (s : Listed) (p : Path) (ks : List (Key × ℕ)) (j : ℕ) (hj : j < length ks) (rise : KeysRise ks) (ys zs : List ℕ) (part : IsPart s p ks j ys) (walk : IsWalk s (p ++ (kid_at ks j).0 ∷ []) zs) where
+module _ (s : Listed) (p : Path) (ks : List Key) (j : ℕ) (hj : j < length ks) (rise : KeysRise ks) (ys zs : List ℕ) (part : IsPart s p ks j ys) (walk : IsWalk s (p ++ key_in ks j ∷ []) zs) where
   at_left : (a : ℕ) → a < length ys → get_or (ys ++ zs) a 0 ≡ get_or ys a 0
   at_left a h = get_or_append_left ys zs 0 a h
 
@@ -73,11 +74,11 @@ module _ (s : Listed) (p : Path) (ks : List (Key × ℕ)) (j : ℕ) (hj : j < le
   across a b ha hb =
       let one = part.under a ha in
       let two = walk.under b hb in
-      let first : IsUnder (p ++ (kid_at ks one.0).0 ∷ []) (path_at s (get_or ys a 0)) = one.2 in
-      let left : path_at s (get_or ys a 0) ≡ p ++ (kid_at ks one.0).0 ∷ first.rest = first.is ∙ snoc_split p _ _ in
-      let right : path_at s (get_or zs b 0) ≡ p ++ (kid_at ks j).0 ∷ two.rest = two.is ∙ snoc_split p _ _ in
-      let less = keys_decide p (kid_at ks one.0).0 (kid_at ks j).0 first.rest two.rest (rise one.0 j one.1 hj) in
-      subst (λ (x : Path). path_cmp x (path_at s (get_or zs b 0)) ≡ Less) (sym left) (subst (λ (x : Path). path_cmp (p ++ (kid_at ks one.0).0 ∷ first.rest) x ≡ Less) (sym right) less)
+      let first : IsUnder (p ++ key_in ks one.0 ∷ []) (path_at s (get_or ys a 0)) = one.2 in
+      let left : path_at s (get_or ys a 0) ≡ p ++ key_in ks one.0 ∷ first.rest = first.is ∙ snoc_split p _ _ in
+      let right : path_at s (get_or zs b 0) ≡ p ++ key_in ks j ∷ two.rest = two.is ∙ snoc_split p _ _ in
+      let less = keys_decide p (key_in ks one.0) (key_in ks j) first.rest two.rest (rise one.0 j one.1 hj) in
+      subst (λ (x : Path). path_cmp x (path_at s (get_or zs b 0)) ≡ Less) (sym left) (subst (λ (x : Path). path_cmp (p ++ key_in ks one.0 ∷ first.rest) x ≡ Less) (sym right) less)
 
   pub part_more : IsPart s p ks (j + 1) (ys ++ zs)
   part_more = record {
@@ -90,7 +91,7 @@ module _ (s : Listed) (p : Path) (ks : List (Key × ℕ)) (j : ℕ) (hj : j < le
       | inr ge ↦ rw (at_right a ge) (j, omega arith, walk.under (a - length ys) (omega (arith, len)))
     ];
     all = λ b i hb hi under. elim (cases_eq b j) [
-      | inl e ↦ stands_right ys zs i (walk.all i hi (subst (λ (x : ℕ). IsUnder (p ++ (kid_at ks x).0 ∷ []) (path_at s i)) e under))
+      | inl e ↦ stands_right ys zs i (walk.all i hi (subst (λ (x : ℕ). IsUnder (p ++ key_in ks x ∷ []) (path_at s i)) e under))
       | inr ne ↦ stands_left ys zs i (part.all b i (omega arith) hi under)
     ];
     rise = λ a b lt hb. elim (cases_lt a (length ys)) [
@@ -103,19 +104,21 @@ module _ (s : Listed) (p : Path) (ks : List (Key × ℕ)) (j : ℕ) (hj : j < le
   }
 
 module _ (ns : List Shape) (ok : IsArena ns) where
-  pub kid_path : (p j : ℕ) → p < length ns → j < length (kids_at ns p) → let kid = kid_at (kids_at ns p) j in (p < kid.1) × (kid.1 < length (sums ns)) × (path_at (sums ns) kid.1 ≡ path_at (sums ns) p ++ kid.0 ∷ [])
-  kid_path p j hp hj =
-      let i = (kid_at (kids_at ns p) j).1 in
-      let kid = ok.kids p j hp hj in
-      let lt = ok.parents i kid.not_root kid.in_range in
-      let step = paths_at ns i kid.not_root kid.in_range lt in (
-        omega (arith, kid.parent),
-        omega (arith, length_sums ns, kid.in_range),
-        path_sums ns i kid.in_range ∙ (step ∙ (ap (λ (q : ℕ). get_or (paths ns) q [] ++ key_at ns i ∷ []) kid.parent ∙ (ap (λ (x : Key). get_or (paths ns) p [] ++ x ∷ []) kid.key ∙ ap (λ (x : Path). x ++ (kid_at (kids_at ns p) j).0 ∷ []) (sym (path_sums ns p hp))))),
+  -- the path of a node's child
+  pub child_path : (p j : ℕ) → p < length ns → j < length (children_at ns p) → let i = get_or (children_at ns p) j 0 in (p < i) × (i < length (sums ns)) × (path_at (sums ns) i ≡ path_at (sums ns) p ++ key_in (keys_at ns p) j ∷ [])
+  child_path p j hp hj =
+      let i = get_or (children_at ns p) j 0 in
+      let child = ok.children p j hp hj in
+      let lt = ok.parents i child.not_root child.in_range in
+      let step = paths_at ns i child.not_root child.in_range lt in
+      let key : key_at ns i ≡ key_in (keys_at ns p) j = sym (key_in-keys_of ns (children_at ns p) j hj) in (
+        omega (arith, child.parent),
+        omega (arith, length_sums ns, child.in_range),
+        path_sums ns i child.in_range ∙ (step ∙ (ap (λ (q : ℕ). get_or (paths ns) q [] ++ key_at ns i ∷ []) child.parent ∙ (λ k. sym (path_sums ns p hp) k ++ key k ∷ []))),
       )
 
   -- a path that goes on from that of p with k has a child of p under k on its way
-  pub on_way : (n i p : ℕ) → i < n → i < length ns → p < length ns → (k : Key) (q : Path) → path_at (sums ns) i ≡ path_at (sums ns) p ++ k ∷ q → (j : ℕ) × (j < length (kids_at ns p)) × ((kid_at (kids_at ns p) j).0 ≡ k)
+  pub on_way : (n i p : ℕ) → i < n → i < length ns → p < length ns → (k : Key) (q : Path) → path_at (sums ns) i ≡ path_at (sums ns) p ++ k ∷ q → (j : ℕ) × (j < length (keys_at ns p)) × (key_in (keys_at ns p) j ≡ k)
   on_way zero i p lt hi hp k q e = absurd (omega arith)
   on_way (suc n) zero p lt hi hp k q e = absurd (nothing (path_at (sums ns) p) k q (sym e ∙ (path_sums ns 0 ok.rooted ∙ paths_root ns)))
     where
@@ -133,14 +136,14 @@ module _ (ns : List Shape) (ok : IsArena ns) where
       last_of k [] = ([], k, refl)
       last_of k (x ∷ q) = let more = last_of x q in (k ∷ more.0, more.1, ap (λ (y : Path). k ∷ y) more.2)
 
-      split : (n i p : ℕ) → parent_at ns (suc i) < suc i → suc i < length ns → p < length ns → (k : Key) (q : Path) → path_at (sums ns) (parent_at ns (suc i)) ++ key_at ns (suc i) ∷ [] ≡ path_at (sums ns) p ++ k ∷ q → ((q' : Path) → path_at (sums ns) (parent_at ns (suc i)) ≡ path_at (sums ns) p ++ k ∷ q' → (j : ℕ) × (j < length (kids_at ns p)) × ((kid_at (kids_at ns p) j).0 ≡ k)) → (j : ℕ) × (j < length (kids_at ns p)) × ((kid_at (kids_at ns p) j).0 ≡ k)
+      split : (n i p : ℕ) → parent_at ns (suc i) < suc i → suc i < length ns → p < length ns → (k : Key) (q : Path) → path_at (sums ns) (parent_at ns (suc i)) ++ key_at ns (suc i) ∷ [] ≡ path_at (sums ns) p ++ k ∷ q → ((q' : Path) → path_at (sums ns) (parent_at ns (suc i)) ≡ path_at (sums ns) p ++ k ∷ q' → (j : ℕ) × (j < length (keys_at ns p)) × (key_in (keys_at ns p) j ≡ k)) → (j : ℕ) × (j < length (keys_at ns p)) × (key_in (keys_at ns p) j ≡ k)
       split n i p up hi hp k [] e higher =
           let parts = same_from_push _ _ _ _ e in
           let same : parent_at ns (suc i) ≡ p = distinct ns ok (parent_at ns (suc i)) p (omega arith) hp (sym (path_sums ns (parent_at ns (suc i)) (omega arith)) ∙ (parts.0 ∙ path_sums ns p hp)) in
           let found = ok.listed (suc i) (omega arith) hi in
-          let at_p : found.place < length (kids_at ns p) = subst (λ (q : ℕ). found.place < length (kids_at ns q)) same found.in_range in
-          let is_p : kid_at (kids_at ns p) found.place ≡ (key_at ns (suc i), suc i) = subst (λ (q : ℕ). kid_at (kids_at ns q) found.place ≡ (key_at ns (suc i), suc i)) same found.is in
-          (found.place, at_p, ap (λ (x : Key × ℕ). x.0) is_p ∙ parts.1)
+          let at_p : found.place < length (children_at ns p) = subst (λ (q : ℕ). found.place < length (children_at ns q)) same found.in_range in
+          let is_p : get_or (children_at ns p) found.place 0 ≡ suc i = subst (λ (q : ℕ). get_or (children_at ns q) found.place 0 ≡ suc i) same found.is in
+          (found.place, omega (arith, length-keys_of ns (children_at ns p)), key_in-keys_of ns (children_at ns p) found.place at_p ∙ (ap (key_at ns) is_p ∙ parts.1))
       split n i p up hi hp k (x ∷ q) e higher =
           let l = last_of x q in
           let shape : path_at (sums ns) p ++ k ∷ x ∷ q ≡ (path_at (sums ns) p ++ k ∷ l.0) ++ l.1 ∷ [] =
@@ -148,7 +151,7 @@ module _ (ns : List Shape) (ok : IsArena ns) where
           let parts = same_from_push _ _ _ _ (e ∙ shape) in
           higher l.0 parts.0
 
-  pub part_all : (p : ℕ) → p < length ns → (j : ℕ) → j ≡ length (kids_at ns p) → (ys : List ℕ) → IsPart (sums ns) (path_at (sums ns) p) (kids_at ns p) j ys → IsWalk (sums ns) (path_at (sums ns) p) (p ∷ ys)
+  pub part_all : (p : ℕ) → p < length ns → (j : ℕ) → j ≡ length (keys_at ns p) → (ys : List ℕ) → IsPart (sums ns) (path_at (sums ns) p) (keys_at ns p) j ys → IsWalk (sums ns) (path_at (sums ns) p) (p ∷ ys)
   part_all p hp j whole ys part = record {
     within = within;
     under = under;
@@ -167,8 +170,8 @@ module _ (ns : List Shape) (ok : IsArena ns) where
       under zero h = record { rest = []; is = sym (append-nil (path_at (sums ns) p)) }
       under (suc a) h =
           let one = part.under a (omega arith) in
-          let u : IsUnder (path_at (sums ns) p ++ (kid_at (kids_at ns p) one.0).0 ∷ []) (path_at (sums ns) (get_or ys a 0)) = one.2 in
-          record { rest = (kid_at (kids_at ns p) one.0).0 ∷ u.rest; is = u.is ∙ snoc_split _ _ _ }
+          let u : IsUnder (path_at (sums ns) p ++ key_in (keys_at ns p) one.0 ∷ []) (path_at (sums ns) (get_or ys a 0)) = one.2 in
+          record { rest = key_in (keys_at ns p) one.0 ∷ u.rest; is = u.is ∙ snoc_split _ _ _ }
 
       all : (i : ℕ) → i < length (sums ns) → IsUnder (path_at (sums ns) p) (path_at (sums ns) i) → StandsIn (p ∷ ys) i
       all i hi u = by_rest i hi u.rest u.is
@@ -181,7 +184,7 @@ module _ (ns : List Shape) (ok : IsArena ns) where
           by_rest i hi (k ∷ r) e =
               let inside : i < length ns = omega (arith, length_sums ns) in
               let way = on_way (suc i) i p (omega arith) inside hp k r e in
-              let below : IsUnder (path_at (sums ns) p ++ (kid_at (kids_at ns p) way.0).0 ∷ []) (path_at (sums ns) i) =
+              let below : IsUnder (path_at (sums ns) p ++ key_in (keys_at ns p) way.0 ∷ []) (path_at (sums ns) i) =
               record { rest = r; is = e ∙ (ap (λ (x : Key). path_at (sums ns) p ++ x ∷ r) (sym way.2) ∙ sym (snoc_split _ _ _)) } in
               let there = part.all way.0 i (omega (arith, way.1)) hi below in
               record { place = suc there.place; in_range = omega (arith, there.in_range); is = there.is }
@@ -191,9 +194,9 @@ module _ (ns : List Shape) (ok : IsArena ns) where
       rise (suc a) zero lt h = absurd (omega arith)
       rise zero (suc b) lt h =
           let one = part.under b (omega arith) in
-          let u : IsUnder (path_at (sums ns) p ++ (kid_at (kids_at ns p) one.0).0 ∷ []) (path_at (sums ns) (get_or ys b 0)) = one.2 in
-          subst (λ (x : Path). path_cmp (path_at (sums ns) p) x ≡ Less) (sym (u.is ∙ snoc_split _ _ _)) (beginning_before (path_at (sums ns) p) (kid_at (kids_at ns p) one.0).0 u.rest)
+          let u : IsUnder (path_at (sums ns) p ++ key_in (keys_at ns p) one.0 ∷ []) (path_at (sums ns) (get_or ys b 0)) = one.2 in
+          subst (λ (x : Path). path_cmp (path_at (sums ns) p) x ≡ Less) (sym (u.is ∙ snoc_split _ _ _)) (beginning_before (path_at (sums ns) p) (key_in (keys_at ns p) one.0) u.rest)
       rise (suc a) (suc b) lt h = part.rise a b (omega arith) (omega arith)
 
-pub more_warnings : (s : Listed) (old mid new : List ℕ) (ys zs : List ℕ) → mid ≡ old ++ flat_map (warned s) ys → new ≡ mid ++ flat_map (warned s) zs → new ≡ old ++ flat_map (warned s) (ys ++ zs)
-more_warnings s old mid new ys zs first second = second ∙ (ap (λ (l : List ℕ). l ++ flat_map (warned s) zs) first ∙ (append_assoc old (flat_map (warned s) ys) (flat_map (warned s) zs) ∙ ap (λ (l : List ℕ). old ++ l) (sym (flat_map-append (warned s) ys zs))))
+pub more_warnings : (s : Listed) (old mid new : List ℕ) (ys zs : List ℕ) → mid ≡ old ++ flat_map (warning_at s) ys → new ≡ mid ++ flat_map (warning_at s) zs → new ≡ old ++ flat_map (warning_at s) (ys ++ zs)
+more_warnings s old mid new ys zs first second = second ∙ (ap (λ (l : List ℕ). l ++ flat_map (warning_at s) zs) first ∙ (append_assoc old (flat_map (warning_at s) ys) (flat_map (warning_at s) zs) ∙ ap (λ (l : List ℕ). old ++ l) (sym (flat_map-append (warning_at s) ys zs))))

@@ -9,8 +9,8 @@ use Rattle.allocative_graph.specs.Sums.{Sums, Node}
 use Rattle.allocative_graph.specs.Graph.{warning, warnings}
 use Rattle.allocative_graph.proofs.Basics.{same_path}
 use Rattle.allocative_graph.proofs.Listing.{entries_are}
-use Rattle.allocative.specs.Listed.{Listed, path_at, row, map_of}
-use Rattle.allocative.specs.Finishing.{sum_at, warned}
+use Rattle.allocative.specs.Listed.{Listed, sum_at, path_at, row, map_of}
+use Rattle.allocative.specs.Finishing.{warning_at}
 use Rattle.allocative.specs.Walks.{IsWalk, StandsIn}
 use Rattle.allocative.proofs.Bridge.{IsListing, get_at, got}
 use Rattle.allocative.proofs.Orders.{same_path-same}
@@ -79,11 +79,11 @@ module _ (s : Listed) where
     pub entries_walk : entries (map_of s) ≡ map at ys
     entries_walk = entries_are (map_of s) (map at ys) (sorted_from ys (λ a b lt h. walk.rise (suc a) (suc b) (omega arith) (omega arith))) same
 
-    each_warned : (zs : List ℕ) → flat_map (warning (map_of s)) (map at zs) ≡ flat_map (warned s) zs
+    each_warned : (zs : List ℕ) → flat_map (warning (map_of s)) (map at zs) ≡ flat_map (warning_at s) zs
     each_warned [] = refl
-    each_warned (z ∷ zs) = ap (λ (l : List ℕ). warned s z ++ l) (each_warned zs)
+    each_warned (z ∷ zs) = ap (λ (l : List ℕ). warning_at s z ++ l) (each_warned zs)
 
-    pub warnings_walk : flat_map (warned s) (0 ∷ ys) ≡ warnings (map_of s)
+    pub warnings_walk : flat_map (warning_at s) (0 ∷ ys) ≡ warnings (map_of s)
     warnings_walk =
-        ap (λ (p : Path). warning (map_of s) (p, (at 0).1) ++ flat_map (warned s) ys) ok.root_path
+        ap (λ (p : Path). warning (map_of s) (p, (at 0).1) ++ flat_map (warning_at s) ys) ok.root_path
         ∙ sym (ap (flat_map (warning (map_of s))) entries_walk ∙ each_warned ys)

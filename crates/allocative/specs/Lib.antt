@@ -1,4 +1,5 @@
 pub mod Steps
+pub mod Roots
 pub mod Kinds
 pub mod Lending
 pub mod Listed
@@ -6,5 +7,4 @@ pub mod Shapes
 pub mod Nodes
 pub mod Walks
 pub mod Finishing
-pub mod Output
 pub mod Places

@@ -4,36 +4,42 @@ use Rattle.std.specs.FinMap.{from_entries}
 use Rattle.allocative_graph.specs.Path.{Key, Path, is_same_path}
 use Rattle.allocative_graph.specs.Sums.{Sums, Node}
 
--- a path, the bytes entered there, and whether it was ever entered as unique
+-- A path, the bytes entered there, and whether it was ever entered as unique.
 pub record Sum : Type 0 where
   pub path : Path
   pub bytes : ℕ
-  pub unique : Bool
+  pub is_unique : Bool
 
+-- What was entered, path by path; the root stands first, and a place in the list is a node's number.
 abbrev pub Listed : Type 0
 Listed = List Sum
 
--- the root, where nothing was entered
+-- The root, where nothing was entered.
 abbrev pub root_sum : Sum
-root_sum = record { path = []; bytes = 0; unique = false }
+root_sum = record { path = []; bytes = 0; is_unique = false }
 
--- one more entry at a path that was entered before
+-- One more entry at a path that was entered before.
 abbrev pub raise : ℕ → Bool → Sum → Sum
-raise n u s = record { path = s.path; bytes = s.bytes + n; unique = s.unique || u }
+raise n u s = record { path = s.path; bytes = s.bytes + n; is_unique = s.is_unique || u }
 
--- one more entry of n bytes at p
+-- One more entry of n bytes at p.
 abbrev pub add : Path → ℕ → Bool → Listed → Listed
-add p n u [] = record { path = p; bytes = n; unique = u } ∷ []
+add p n u [] = record { path = p; bytes = n; is_unique = u } ∷ []
 add p n u (s ∷ rest) = if is_same_path s.path p then raise n u s ∷ rest else s ∷ add p n u rest
 
--- all bytes
+-- All bytes entered.
 abbrev pub total : Listed → ℕ
 total s = sum_by (λ e. e.bytes) s
 
-abbrev pub path_at : Listed → ℕ → Path
-path_at s i = let e = slice_index_or s i root_sum in e.path
+-- What stands at place i.
+abbrev pub sum_at : Listed → ℕ → Sum
+sum_at s i = slice_index_or s i root_sum
 
--- n bytes were entered under k at the path of place `at`, and i is the place of that path now
+-- The path at place i.
+abbrev pub path_at : Listed → ℕ → Path
+path_at s i = let e = sum_at s i in e.path
+
+-- The n bytes were entered under k at the path of place `at`, and i is the place of that path now.
 pub record IsEntered (old new : Listed) (at : ℕ) (k : Key) (n : ℕ) (u : Bool) (i : ℕ) : Type 0 where
   pub sums : new ≡ add (path_at old at ++ k ∷ []) n u old
   pub not_root : 0 < i
@@ -41,13 +47,15 @@ pub record IsEntered (old new : Listed) (at : ℕ) (k : Key) (n : ℕ) (u : Bool
   pub path : path_at new i ≡ path_at old at ++ k ∷ []
 
 -- ---- as a map
+-- A path with what was entered there.
 abbrev pub row : Sum → Path × Node
-row e = (e.path, record { bytes = e.bytes; is_unique = e.unique })
+row e = (e.path, record { bytes = e.bytes; is_unique = e.is_unique })
 
--- all but the root, which stands first
+-- All but the root, which stands first.
 abbrev pub rows : Listed → List (Path × Node)
 rows [] = []
 rows (r ∷ s) = map row s
 
+-- The list as sums.
 abbrev pub map_of : Listed → Sums
 map_of s = from_entries (rows s)

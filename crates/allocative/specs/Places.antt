@@ -1,5 +1,5 @@
 -- The parts of a graph's collector: a tree, the places of its visitors, and the identities met.
-use Rattle.std.specs.Prelude.{◌≡◌, ℕ, ◌+◌, ◌<◌, ◌≤◌, ◌^◌, ◌⊎◌, Bool, cond, [], ◌∷◌, ◌++◌, List, map, reverse, length, slice_index}
+use Rattle.std.specs.Prelude.{◌≡◌, ℕ, ◌+◌, ◌<◌, ◌^◌, Bool, cond, [], ◌∷◌, ◌++◌, List, map, reverse, length, slice_index, ◌≤◌, ◌⊎◌}
 use Rattle.std.specs.FinSet.{from_list}
 use Rattle.allocative_graph.specs.declared.refusal.Refusal.{Refusal}
 use Rattle.allocative_graph.specs.declared.refusal.Refusal.TheVariants.{Memory, TooLarge}
@@ -34,7 +34,7 @@ pub record IsPlaced (t : Listed) (current : ℕ) (places : List ℕ) (n : ℕ) :
   pub root_path : path_at t 0 ≡ []
   pub outermost : slice_index (places ++ current ∷ []) 0 ≡ 0
 
--- n bytes fit behind the `was` bytes before, and were entered under the place `at`; node is the place of the path.
+-- The n bytes fit beside those that were entered before, and were entered under k at the path of place `at`; node is the place of that path now.
 pub record AddedAt (old new : Listed) (at : ℕ) (k : Key) (n : ℕ) (u : Bool) (was now : ℕ) (node : ℕ) : Type 0 where
   pub fits : was + n < 2 ^ 63
   pub count : now ≡ was + n

@@ -1,4 +1,4 @@
-//! Builders of flame graphs, and what they finish as.
+//! Builders of flame graphs.
 #![tactic(auto, using(crate::proofs::Roots::running))]
 
 ghost use Rattle.std.specs.Prelude.{◌≡◌, ◌↔◌, IfOk, IfErr, MatchResult, string_bytes};
@@ -8,45 +8,10 @@ ghost use Rattle.allocative_graph.specs.Visits.{Runs, Settles, Ends, IsProfile};
 
 use crate::allocative_trait::Allocative;
 use crate::collector::Collector;
-use allocative_graph::flamegraph::FlameGraph;
+use crate::output::FlameGraphOutput;
 use allocative_graph::refusal::Refusal;
 use std::alloc::Global;
 use std::marker::Model;
-
-/// A finished flame graph, and its warnings.
-#[derive(Drop)]
-pub struct FlameGraphOutput {
-    flamegraph: FlameGraph,
-    warnings: String,
-}
-
-impl Model for FlameGraphOutput {
-    ghost use Rattle.std.specs.Prelude.{string_bytes};
-    ghost use Rattle.allocative_graph.specs.Visits.{Profile};
-    ghost use Rattle.allocative_graph.specs.Codes.{profile_code};
-
-    ghost Value = { Profile };
-
-    ghost coded = { profile_code };
-
-    ghost view = { λ o. record { graph = o.flamegraph; warnings = string_bytes o.warnings } };
-}
-
-impl FlameGraphOutput {
-    /// The graph.
-    pub fn flamegraph(&self) -> &FlameGraph
-        ensures { result.now ≡ self.now.graph }
-    {
-        &self.flamegraph
-    }
-
-    /// A copy of the warnings' text. It is refused for want of memory alone.
-    pub fn warnings(&self) -> Result<String, Refusal>
-        ensures { MatchResult result (λ copy. string_bytes copy ≡ self.now.warnings) (λ r. r ≡ Refusal.Memory) }
-    {
-        Ok(self.warnings.clone()?)
-    }
-}
 
 /// Collects what values show, and finishes as their flame graph.
 #[derive(Drop)]
@@ -95,11 +60,7 @@ impl FlameGraphBuilder {
     pub fn finish(self) -> Result<FlameGraphOutput, Refusal>
         ensures { Ends IsProfile self result }
     {
-        let made = self.collector.finish()?;
-        Ok(FlameGraphOutput {
-            flamegraph: made.graph,
-            warnings: made.warnings,
-        })
+        self.collector.finish()
     }
 
     /// `finish`, then the text of the graph.

@@ -3,14 +3,13 @@
 
 ghost use Rattle.std.specs.Prelude.{◌≡◌, ◌+◌, ◌<◌, ◌^◌, true, false, IfOk, IfErr, OnOk, IsTrue, ◌↔◌};
 ghost use Rattle.allocative_graph.specs.Collector.{State, Failed, Going, OfGraph, OfHeld, no_entries, nothing_held, enter, leave, begin, is_in_unique, failed_with, left, IsClosed, IsAtRoot, IsGraphs};
-ghost use Rattle.allocative_graph.specs.Visits.{HasFailed, HasRoom, Refuses, Enters, EntersSized, EntersShared, Begins, Settles, Ends};
+ghost use Rattle.allocative_graph.specs.Visits.{HasFailed, HasRoom, Refuses, Enters, EntersSized, EntersShared, Begins, Settles, Ends, IsProfile};
 ghost use Rattle.allocative.specs.Steps.{StepsIn, StepsInShared, IsSum};
-ghost use Rattle.allocative.specs.Output.{IsOutput};
 ghost use Rattle.allocative.specs.Kinds.{kind_of};
 
 use crate::graph_collector::GraphCollector;
 use crate::held_collector::HeldCollector;
-use crate::tree::Output;
+use crate::output::FlameGraphOutput;
 use allocative_graph::key::Key;
 use allocative_graph::refusal::Refusal;
 use allocative_graph::shared::Identity;
@@ -258,9 +257,9 @@ impl Collector {
     }
 
     /// The graph and the warnings of a flame graph's collector.
-    pub(crate) fn finish(&self) -> Result<Output, Refusal>
+    pub(crate) fn finish(&self) -> Result<FlameGraphOutput, Refusal>
         requires { IsGraphs self.now }
-        ensures { Ends IsOutput self.now result }
+        ensures { Ends IsProfile self.now result }
     {
         self.check()?;
         match &self.kind {

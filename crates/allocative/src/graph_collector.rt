@@ -2,13 +2,13 @@
 ghost use Rattle.std.specs.Prelude.{◌≡◌, ◌+◌, ◌^◌, ◌<◌, [], false, length, IfOk, IfErr, OnOk, OnErr, IsTrue, ◌↔◌};
 ghost use Rattle.allocative_graph.specs.Sums.{entered};
 ghost use Rattle.allocative_graph.specs.Collector.{OfGraph, no_entries, enter_live, leave_live, go, IsClosed, IsAtRoot};
-ghost use Rattle.allocative_graph.specs.Visits.{Refuses};
+ghost use Rattle.allocative_graph.specs.Visits.{Refuses, IsProfile};
 ghost use Rattle.allocative.specs.Listed.{total};
-ghost use Rattle.allocative.specs.Output.{IsOutput};
 ghost use Rattle.allocative.specs.Places.{AddedAt, TellsWhy};
 ghost use Rattle.allocative.specs.Steps.{MeetsAs};
 
-use crate::tree::{Output, Tree};
+use crate::output::FlameGraphOutput;
+use crate::tree::Tree;
 use allocative_graph::key::Key;
 use allocative_graph::refusal::Refusal;
 use allocative_graph::shared::Identity;
@@ -134,8 +134,8 @@ impl GraphCollector {
     }
 
     /// The graph, and the text of the warnings.
-    pub(crate) fn finish(&self) -> Result<Output, Refusal>
-        ensures made { IfOk result (IsOutput self.now.sums) }
+    pub(crate) fn finish(&self) -> Result<FlameGraphOutput, Refusal>
+        ensures made { IfOk result (IsProfile self.now.sums) }
         ensures err { IfErr result (λ e. e ≡ Refusal.Memory) }
     {
         self.tree.finish()

@@ -10,6 +10,7 @@ pub mod collector;
 mod graph_collector;
 mod held_collector;
 pub mod impls;
+pub mod output;
 pub mod registry;
 pub mod size_of;
 mod tree;
@@ -17,7 +18,8 @@ pub mod visiting;
 pub mod visitor;
 
 pub use crate::allocative_trait::Allocative;
-pub use crate::builder::{FlameGraphBuilder, FlameGraphOutput};
+pub use crate::builder::FlameGraphBuilder;
+pub use crate::output::FlameGraphOutput;
 pub use crate::registry::{Registry, profile_roots};
 pub use crate::size_of::{size_of_unique, size_of_unique_allocated_data};
 pub use crate::visitor::Visitor;

@@ -1,12 +1,15 @@
 //! Roots by the list, and whole runs over them.
 #![tactic(auto, using(crate::proofs::Roots::running))]
 
-ghost use Rattle.std.specs.Prelude.{◌≡◌, ◌++◌, ◌∷◌, [], MatchResult, IfOk};
+ghost use Rattle.std.specs.Prelude.{◌≡◌, ◌++◌, ◌∷◌, [], ◌⊎◌, MatchResult, IfOk, IfErr};
+ghost use Rattle.allocative_graph.specs.Collector.{OfGraph, no_entries};
 ghost use Rattle.allocative_graph.specs.Shows.{each_shows};
-ghost use Rattle.allocative_graph.specs.Visits.{Runs, Settles, IsProfileOf};
+ghost use Rattle.allocative.specs.Roots.{roots_of};
+ghost use Rattle.allocative_graph.specs.Visits.{Runs, RefusesRun, IsProfileOf};
 
 use crate::allocative_trait::Allocative;
-use crate::builder::{FlameGraphBuilder, FlameGraphOutput};
+use crate::builder::FlameGraphBuilder;
+use crate::output::FlameGraphOutput;
 use allocative_graph::refusal::Refusal;
 use std::alloc::Global;
 
@@ -17,9 +20,11 @@ pub struct Registry {
 }
 
 impl Registry {
+    ghost use Rattle.allocative.specs.Roots.{roots_of};
+
     /// No roots. It takes no memory.
     pub fn new(alloc: Global) -> Registry
-        ensures { result.roots.items ≡ [] }
+        ensures { roots_of result ≡ [] }
     {
         Registry {
             roots: Vec::new(alloc),
@@ -29,8 +34,8 @@ impl Registry {
     /// Puts a root last. For want of memory the root is handed back, and the list is the old one.
     pub fn register_root(&mut self, root: Box<dyn Allocative>) -> Result<(), Box<dyn Allocative>>
         ensures { MatchResult result
-            (λ _. self.new.roots.items ≡ self.old.roots.items ++ root ∷ [])
-            (λ back. (back ≡ root) × (self.new.roots.items ≡ self.old.roots.items)) }
+            (λ _. roots_of self.new ≡ roots_of self.old ++ root ∷ [])
+            (λ back. (back ≡ root) × (roots_of self.new ≡ roots_of self.old)) }
     {
         match self.roots.push(root) {
             Ok(()) => Ok(()),
@@ -40,16 +45,18 @@ impl Registry {
 
     /// The roots in order.
     pub fn roots(&self) -> &[Box<dyn Allocative>]
-        ensures { result.now ≡ self.now.roots.items }
+        ensures { result.now ≡ roots_of self.now }
     {
         &self.roots
     }
 }
 
 impl FlameGraphBuilder {
+    ghost use Rattle.allocative.specs.Roots.{roots_of};
+
     /// Visits the registry's roots in order, up to the first refusal.
     pub fn visit_global_roots(&mut self, registry: &Registry) -> Result<(), Refusal>
-        ensures { Runs (each_shows (λ b. (⟦<dyn Allocative as Allocative>⟧ b.vtable).may_show b.value) registry.now.roots.items) self.old result self.new }
+        ensures { Runs (each_shows (λ b. (⟦<dyn Allocative as Allocative>⟧ b.vtable).may_show b.value) (roots_of registry.now)) self.old result self.new }
     {
         self.visit_boxes(registry.roots())
     }
@@ -77,7 +84,8 @@ impl FlameGraphBuilder {
 /// for it; each path has its declared bytes less those declared one step below, never below zero, or all where it was ever
 /// unique.
 pub fn profile_roots(registry: &Registry) -> Result<FlameGraphOutput, Refusal>
-    ensures { IfOk result (IsProfileOf (each_shows (λ b. (⟦<dyn Allocative as Allocative>⟧ b.vtable).may_show b.value) registry.now.roots.items)) }
+    ensures profile { IfOk result (IsProfileOf (each_shows (λ b. (⟦<dyn Allocative as Allocative>⟧ b.vtable).may_show b.value) (roots_of registry.now))) }
+    ensures refused { IfErr result (λ e. (e ≡ Refusal.Memory) ⊎ RefusesRun (each_shows (λ b. (⟦<dyn Allocative as Allocative>⟧ b.vtable).may_show b.value) (roots_of registry.now)) (OfGraph no_entries) e) }
 {
     let mut builder = FlameGraphBuilder::new(*registry.roots.allocator())?;
     builder.visit_global_roots(registry)?;

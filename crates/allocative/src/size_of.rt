@@ -1,10 +1,12 @@
 //! Runs of a root visitor, and the bytes that a value holds on the heap.
 #![tactic(auto, using(crate::proofs::Roots::running))]
 
-ghost use Rattle.std.specs.Prelude.{◌≡◌, ◌+◌, ℕ, Some, IfOk};
+ghost use Rattle.std.specs.Prelude.{◌≡◌, ◌+◌, ◌⊎◌, ℕ, Some, IfOk, IfErr};
 ghost use Rattle.allocative_graph.specs.Forest.{Forest};
+ghost use Rattle.allocative_graph.specs.Collector.{OfHeld, nothing_held};
 ghost use Rattle.allocative_graph.specs.Held.{held, ShowsNoContent};
-ghost use Rattle.allocative_graph.specs.Visits.{Runs};
+ghost use Rattle.allocative.specs.Steps.{DoesNotFit};
+ghost use Rattle.allocative_graph.specs.Visits.{Runs, RefusesRun};
 
 use crate::allocative_trait::Allocative;
 use crate::collector::Collector;
@@ -39,7 +41,8 @@ impl Collector {
 /// It takes no memory. It is refused with TooLarge where the sum or a declared size does not fit, with Open where a
 /// visitor was forgotten, and else with the first cause of the visit.
 pub fn size_of_unique_allocated_data(root: &dyn Allocative) -> Result<usize, Refusal>
-    ensures { IfOk result (λ s. (f : Forest) × may_show root.now f × ShowsNoContent f × (s ≡ held f)) }
+    ensures held { IfOk result (λ s. (f : Forest) × may_show root.now f × ShowsNoContent f × (s ≡ held f)) }
+    ensures refused { IfErr result (RefusesRun (may_show root.now) (OfHeld nothing_held)) }
 {
     let mut collector = Collector::held();
     collector.visit_object(root)?;
@@ -48,7 +51,8 @@ pub fn size_of_unique_allocated_data(root: &dyn Allocative) -> Result<usize, Ref
 
 /// The same plus the declared size of the root. It visits the value itself, and makes no trait object.
 pub fn size_of_unique<T: Allocative + Described>(root: &T) -> Result<usize, Refusal>
-    ensures { IfOk result (λ s. (n : ℕ) × (T.size ≡ Some n) × (f : Forest) × T.may_show root.now f × ShowsNoContent f × (s ≡ held f + n)) }
+    ensures held { IfOk result (λ s. (n : ℕ) × (T.size ≡ Some n) × (f : Forest) × T.may_show root.now f × ShowsNoContent f × (s ≡ held f + n)) }
+    ensures refused { IfErr result (λ e. RefusesRun (T.may_show root.now) (OfHeld nothing_held) e ⊎ ((e ≡ Refusal.TooLarge) × (f : Forest) × T.may_show root.now f × ShowsNoContent f × DoesNotFit (held f) T.size)) }
 {
     let mut collector = Collector::held();
     collector.visit_one(root)?;

@@ -1,12 +1,13 @@
-//! The paths entered so far, as an arena of nodes.
-ghost use Rattle.std.specs.Prelude.{◌≡◌, ◌+◌, ◌^◌, ◌<◌, ℕ, [], ◌∷◌, ◌++◌, length, map, string_bytes, IfOk, IfErr, OnOk, OnErr, false};
-ghost use Rattle.allocative_graph.specs.Path.{key_cmp};
+//! The paths that were entered, as an arena of nodes that name one another by number.
+ghost use Rattle.std.specs.Prelude.{◌≡◌, ◌+◌, ◌^◌, ◌<◌, ℕ, [], ◌∷◌, ◌++◌, length, map, slice_index, string_bytes, EachIndex, IfOk, IfErr, OnOk, OnErr, false};
 ghost use Rattle.allocative_graph.specs.Graph.{warning_line};
-ghost use Rattle.allocative.specs.Output.{IsOutput};
+ghost use Rattle.allocative_graph.specs.Visits.{IsProfile};
 ghost use Rattle.allocative.specs.Listed.{root_sum, add, total, path_at, map_of, IsEntered};
 ghost use Rattle.allocative.specs.Finishing.{size_at, is_short, Makes};
-ghost use Rattle.allocative.specs.Shapes.{KeysRise, IsPlace, IsGap};
+ghost use Rattle.allocative.specs.Shapes.{keys_of, KeysRise, IsPlace, IsGap};
+ghost use Rattle.allocative.specs.Nodes.{shape};
 
+use crate::output::FlameGraphOutput;
 use allocative_graph::flamegraph::{FlameGraph, push_path};
 use allocative_graph::key::Key;
 use allocative_graph::refusal::Refusal;
@@ -14,25 +15,24 @@ use std::alloc::{AllocError, Global};
 use std::cmp::Ordering;
 use std::marker::Model;
 
-/// A graph, and the text of its warnings.
-#[derive(Drop)]
-pub struct Output {
-    pub graph: FlameGraph,
-    pub warnings: String,
-}
-
+/// What was entered at one path.
 #[derive(Drop)]
 struct Node {
     key: Key,
     parent: usize,
-    children: Vec<(Key, usize)>,
+    /// The numbers of the nodes one key below, in the order of their keys.
+    children: Vec<usize>,
     bytes: usize,
-    unique: bool,
+    is_unique: bool,
+    /// The bytes of the children.
     below: usize,
 }
 
+/// The paths that were entered, each with its bytes and whether it was ever entered as unique.
+///
+/// A path is named by the number of its node, which is its place in the order of first entries. The root is number 0.
 #[derive(Drop)]
-pub struct Tree {
+pub(crate) struct Tree {
     alloc: Global,
     nodes: Vec<Node>,
 }
@@ -50,7 +50,8 @@ impl Model for Tree {
 }
 
 impl Tree {
-    pub fn new(alloc: Global) -> Result<Tree, AllocError>
+    /// The root alone.
+    pub(crate) fn new(alloc: Global) -> Result<Tree, AllocError>
         ensures { IfOk result (λ t. t ≡ root_sum ∷ []) }
     {
         let mut nodes = Vec::new(alloc);
@@ -59,43 +60,43 @@ impl Tree {
             parent: 0,
             children: Vec::new(alloc),
             bytes: 0,
-            unique: false,
+            is_unique: false,
             below: 0,
         })?;
         Ok(Tree { alloc, nodes })
     }
 
-    /// One entry under the node `at`: the node of its path.
-    pub fn enter(
+    /// Enters `size` bytes under the node `at`, and gives the node of that path.
+    pub(crate) fn enter(
         &mut self,
         at: usize,
         key: Key,
         size: usize,
-        unique: bool,
+        is_unique: bool,
     ) -> Result<usize, AllocError>
         requires within { at < length self.old }
         requires fits { total self.old + size < 2 ^ 63 }
-        ensures entered { IfOk result (IsEntered self.old self.new at key size unique) }
+        ensures entered { IfOk result (IsEntered self.old self.new at key size is_unique) }
         ensures err { OnErr result (self.new ≡ self.old) }
     {
         let node = self.child(at, key)?;
-        self.raise(node, size, unique);
+        self.raise(node, size, is_unique);
         Ok(node)
     }
 
-    /// The graph, and the text of the warnings.
-    pub fn finish(&self) -> Result<Output, Refusal>
-        requires fits { total self.now < 2 ^ 63 }
-        ensures made { IfOk result (IsOutput (map_of self.now)) }
+    /// The graph, and the text of the warnings, in one walk.
+    pub(crate) fn finish(&self) -> Result<FlameGraphOutput, Refusal>
+        requires { total self.now < 2 ^ 63 }
+        ensures made { IfOk result (IsProfile (map_of self.now)) }
         ensures err { IfErr result (λ e. e ≡ Refusal.Memory) }
     {
         let mut keys: Vec<&'static str> = Vec::new(self.alloc);
         let mut warnings = String::new(self.alloc);
         let graph = self.make(0, &mut keys, &mut warnings)?;
-        Ok(Output { graph, warnings })
+        Ok(FlameGraphOutput::new(graph, warnings))
     }
 
-    // The graph of the node `at` and those below it, with their warnings behind the text.
+    /// The graph from the node `at` on, with the warnings behind the text; `keys` is the node's path.
     fn make(
         &self,
         at: usize,
@@ -115,62 +116,61 @@ impl Tree {
         if self.is_short(at) {
             push_warning(keys.as_slice(), node.bytes, node.below, text)?;
         }
-        for child in &node.children {
-            if keys.push(child.0.as_str()).is_err() {
-                return Err(Refusal::Memory);
-            }
-            let below = self.make(child.1, keys, text)?;
-            graph.add_child(child.0.again(), below)?;
+        for &child in &node.children {
+            let key = &self.nodes[child].key;
+            keys.push(key.as_str())?;
+            let below = self.make(child, keys, text)?;
+            graph.add_child(key.again(), below)?;
             let _ = keys.pop();
         }
         Ok(graph)
     }
 
-    // What the graph has at a node.
+    /// The size that the graph has at a node.
     fn size(&self, at: usize) -> usize
         requires { at < length self.now }
         ensures { result ≡ size_at self.now at }
     {
         let node = &self.nodes[at];
-        if node.unique {
+        if node.is_unique {
             node.bytes
         } else {
             node.bytes.saturating_sub(node.below)
         }
     }
 
-    // Whether a node has a warning.
+    /// Whether a node has a warning.
     fn is_short(&self, at: usize) -> bool
         requires { at < length self.now }
         ensures { result ≡ is_short self.now at }
     {
         let node = &self.nodes[at];
-        if at == 0 || node.unique {
+        if at == 0 || node.is_unique {
             false
         } else {
             node.bytes < node.below
         }
     }
 
-    // The node of a key under `at`, made where there is none.
+    /// The child of the node `at` that has the key, made where there is none.
     fn child(&mut self, at: usize, key: Key) -> Result<usize, AllocError>
         requires { at < length self.old }
         ensures entered { IfOk result (IsEntered self.old self.new at key 0 false) }
         ensures err { OnErr result (self.new ≡ self.old) }
     {
-        match find(&self.nodes[at].children, &key) {
-            Ok(place) => Ok(self.nodes[at].children[place].1),
+        match find(&self.nodes, &self.nodes[at].children, &key) {
+            Ok(place) => Ok(self.nodes[at].children[place]),
             Err(place) => {
                 let node = self.nodes.len();
                 self.nodes.push(Node {
-                    key: key.again(),
+                    key,
                     parent: at,
                     children: Vec::new(self.alloc),
                     bytes: 0,
-                    unique: false,
+                    is_unique: false,
                     below: 0,
                 })?;
-                if self.nodes[at].children.insert(place, (key, node)).is_err() {
+                if self.nodes[at].children.insert(place, node).is_err() {
                     let _ = self.nodes.pop();
                     return Err(AllocError);
                 }
@@ -179,23 +179,49 @@ impl Tree {
         }
     }
 
-    // One entry more at a node other than the root.
-    fn raise(&mut self, node: usize, size: usize, unique: bool)
+    /// Enters `size` bytes at a node other than the root.
+    fn raise(&mut self, node: usize, size: usize, is_unique: bool)
         requires not_root { 0 < node }
         requires within { node < length self.old }
         requires fits { total self.old + size < 2 ^ 63 }
-        ensures { self.new ≡ add (path_at self.old node) size unique self.old }
+        ensures { self.new ≡ add (path_at self.old node) size is_unique self.old }
     {
         let entered = &mut self.nodes[node];
         entered.bytes += size;
-        entered.unique = entered.unique || unique;
+        entered.is_unique = entered.is_unique || is_unique;
         let at = entered.parent;
         let parent = &mut self.nodes[at];
         parent.below += size;
     }
 }
 
-// Appends the warning of a path.
+/// Where the key stands among the children, which are in the order of their keys, or where it would go.
+fn find(nodes: &[Node], children: &[usize], key: &Key) -> Result<usize, usize>
+    requires within { EachIndex children.now (λ j. slice_index children.now j < length nodes.now) }
+    requires rise { KeysRise (keys_of (map shape nodes.now) children.now) }
+    ensures found { IfOk result (IsPlace (keys_of (map shape nodes.now) children.now) key.now) }
+    ensures absent { IfErr result (IsGap (keys_of (map shape nodes.now) children.now) key.now) }
+{
+    // Keys that come in order need one comparison each.
+    if let Some(&last) = children.last()
+        && nodes[last].key.cmp(key).is_lt()
+    {
+        return Err(children.len());
+    }
+    let mut low = 0;
+    let mut high = children.len();
+    while low < high {
+        let middle = low + (high - low) / 2;
+        match nodes[children[middle]].key.cmp(key) {
+            Ordering::Less => low = middle + 1,
+            Ordering::Equal => return Ok(middle),
+            Ordering::Greater => high = middle,
+        }
+    }
+    Err(low)
+}
+
+/// Appends the warning of a path.
 fn push_warning(
     keys: &[&str],
     bytes: usize,
@@ -213,15 +239,29 @@ fn push_warning(
     Ok(())
 }
 
-// Where the key is among the children, or where it would go.
-fn find(children: &[(Key, usize)], key: &Key) -> Result<usize, usize>
-    requires { KeysRise children.now }
-    ensures found { IfOk result (IsPlace children.now key.now) }
-    ensures absent { IfErr result (IsGap children.now key.now) }
-{
-    children.binary_search_by(
-        |child: &(Key, usize)| -> Ordering
-            ensures { result ≡ key_cmp child.entry.now.0 key.entry.now }
-        { child.0.cmp(key) },
-    )
+#[cfg(test)]
+mod tests {
+    use super::*;
+    use std::test::Fail;
+
+    #[test]
+    #[tactic(auto, using(crate::proofs::Adds::total_entered, crate::proofs::Adds::length_entered))]
+    fn finishes_in_order_of_paths(rt: HostRuntime) -> Result<(), Fail> {
+        let mut tree = Tree::new(rt.alloc())?;
+        let middle = tree.enter(0, Key::new("b"), 4, false)?;
+        let _ = tree.enter(middle, Key::new("y"), 3, true)?;
+        let _ = tree.enter(0, Key::new("a"), 10, true)?;
+        let last = tree.enter(0, Key::new("c"), 1, false)?;
+        let _ = tree.enter(last, Key::new("z"), 5, false)?;
+        let again = tree.enter(0, Key::new("b"), 2, false)?;
+        assert_eq!(rt; again, middle);
+        let output = tree.finish()?;
+        let text = output.graph.write()?;
+        assert_eq!(rt; text.as_str(), "a 10\nb 3\nb;y 3\nc;z 5\n");
+        assert_eq!(rt;
+            output.warnings.as_str(),
+            "Incorrect size declaration for node `c`, size of self: 1, size of inline children: 5\n"
+        );
+        Ok(())
+    }
 }

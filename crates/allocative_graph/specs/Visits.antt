@@ -95,6 +95,10 @@ pub record Profile : Type 0 where
   pub graph : Graph
   pub warnings : List ℕ
 
+-- A visit by a root visitor of the new collector k is refused with e.
+abbrev pub RefusesRun : Showing → Kind → Refusal → Type 0
+RefusesRun p k e = (t : State) × Runs p (Going k) (Err e) t
+
 -- How a flame graph's collector ends: with its first cause; or Open where a visitor is out; or with what p says of its sums, where memory is not refused.
 abbrev pub Ends : {T : Type 0} → (Sums → T → Type 0) → State → Result T Refusal → Type 0
 Ends p (Failed r) result = result ≡ Err r

@@ -1,6 +1,6 @@
 -- A node's own size and warning, and then what each child gives.
-use Rattle.std.proofs.Common.{◌≡◌, ◌-◌, ◌+◌, ◌<◌, ℕ, List, [], ◌∷◌, ◌++◌, map, length, Bor, arith, sym, ap, subst, ◌∙◌, refl, Err}
-use Rattle.std.specs.Prelude.{string_bytes, IsErrOf, ◌↔◌, ◌^◌, ◌≤◌}
+use Rattle.std.proofs.Common.{◌≡◌, ◌-◌, ◌+◌, ◌<◌, ℕ, List, [], ◌∷◌, ◌++◌, map, length, get_or, Bor, arith, sym, ap, subst, ◌∙◌, refl, Err}
+use Rattle.std.specs.Prelude.{string_bytes, IfErr, IsErrOf, ◌↔◌, ◌^◌, ◌≤◌}
 use Rattle.std.proofs.lemmas.List.{map-append, append-nil}
 use Rattle.std.proofs.lemmas.Bool.{cond-true, cond-false}
 use Rattle.allocative_graph.specs.Path.{Key}
@@ -8,17 +8,18 @@ use Rattle.allocative_graph.specs.Graph.{under, sum_of, warning_line, default, t
 use Rattle.allocative_graph.specs.Sums.{below}
 use Rattle.allocative_graph.specs.Graph.{add_self}
 use Rattle.allocative.specs.declared.tree.Node.{Node}
-use Rattle.allocative.specs.Nodes.{sums_of}
-use Rattle.allocative.specs.Listed.{Listed, path_at, map_of, total as total_listed}
-use Rattle.allocative.specs.Shapes.{kid_at}
-use Rattle.allocative.specs.Finishing.{sum_at, size_at, is_short, warned}
+use Rattle.allocative.specs.Nodes.{shape, sums_of}
+use Rattle.allocative.specs.Listed.{Listed, sum_at, path_at, map_of, total as total_listed}
+use Rattle.allocative.specs.Shapes.{keys_of, key_in}
+use Rattle.allocative.specs.Finishing.{size_at, is_short, warning_at}
+use Rattle.allocative.proofs.Keys.{length-keys_of}
 use Rattle.allocative.proofs.NodeReads.{in_nodes, bytes_read, under_read}
-use Rattle.allocative.proofs.Made.{half_none, half_more, half_total, made_total, made_all, child_read, keys_rise, own_fits, total-default, memory_alone, passed_on}
+use Rattle.allocative.proofs.Made.{half_none, half_more, half_total, made_total, made_all, child_read, child_key, keys_rise, own_fits, total-default, memory_alone, passed_on}
 use Rattle.allocative_graph.proofs.NodeText.{popped}
 use Rattle.allocative_graph.specs.declared.refusal.Refusal.{Refusal}
 use Rattle.allocative_graph.specs.declared.refusal.Refusal.TheVariants.{Memory, TooLarge, Open}
 use Rattle.allocative.proofs.tree.Tree.+make.Goals as goal
-use Rattle.allocative.proofs.tree.Tree.+make.Goals.{then-is_short+in_ok-push_warning, else-is_short, After-child-item}
+use Rattle.allocative.proofs.tree.Tree.+make.Goals.{then-is_short+in_ok-push_warning, else-is_short, After-index}
 
 pub index-node-requires : goal.index-node-requires
 index-node-requires t c =
@@ -27,16 +28,33 @@ index-node-requires t c =
     let within = in_nodes items c.args.at here in
     omega (arith, c.self.inside.nodes.ok.0)
 
--- the child of this turn
-child : (t : ℕ) (c : After-child-item t) → let kid = c.child-item.result in (c.args.at < kid.1) × (kid.1 < length c.args.self.now) × (path_at c.args.self.now kid.1 ≡ path_at c.args.self.now c.args.at ++ (kid_at c.deref-child-items.result.now c.loop-child.child-index).0 ∷ []) × (kid.0 ≡ (kid_at c.deref-child-items.result.now c.loop-child.child-index).0)
-child t c = child_read c.self.inside.nodes.items c.self.invariant c.args.self.now c.self.view_is c.args.at c.requires.within c.index-node.result.now c.index-node.ensures c.deref-child-items.result.now c.deref-child-items.ensures.value c.loop-child.child-index c.loop-child-test.true c.child-item.result c.child-item.is
+pub index-requires : goal.index-requires
+index-requires t c =
+    let items = c.self.inside.nodes.items in
+    let there = child_read items c.self.invariant c.args.self.now c.self.view_is c.args.at c.requires.within c.index-node.result.now c.index-node.ensures c.deref-child-items.result.now c.deref-child-items.ensures.value c.loop-child.child-index c.loop-child-test.true in
+    let in_sums : get_or c.deref-child-items.result.now c.loop-child.child-index 0 < length (sums_of items) = subst (λ (s : Listed). get_or c.deref-child-items.result.now c.loop-child.child-index 0 < length s) (sym c.self.view_is) there.1 in
+    let within = in_nodes items (get_or c.deref-child-items.result.now c.loop-child.child-index 0) in_sums in
+    omega (arith, c.self.inside.nodes.ok.0)
+
+-- the child of this turn, and its key
+abbrev number : (t : ℕ) → After-index t → ℕ
+number t c = get_or c.deref-child-items.result.now c.loop-child.child-index 0
+
+abbrev turn_key : (t : ℕ) → After-index t → Key
+turn_key t c = key_in (keys_of (map shape c.self.inside.nodes.items) c.deref-child-items.result.now) c.loop-child.child-index
+
+child : (t : ℕ) (c : After-index t) → (c.args.at < number t c) × (number t c < length c.args.self.now) × (path_at c.args.self.now (number t c) ≡ path_at c.args.self.now c.args.at ++ turn_key t c ∷ [])
+child t c = child_read c.self.inside.nodes.items c.self.invariant c.args.self.now c.self.view_is c.args.at c.requires.within c.index-node.result.now c.index-node.ensures c.deref-child-items.result.now c.deref-child-items.ensures.value c.loop-child.child-index c.loop-child-test.true
+
+key : (t : ℕ) (c : After-index t) → c.index.result.now.key ≡ turn_key t c
+key t c = child_key c.self.inside.nodes.items c.self.invariant c.args.self.now c.self.view_is c.args.at c.requires.within c.index-node.result.now c.index-node.ensures c.deref-child-items.result.now c.deref-child-items.ensures.value c.loop-child.child-index c.loop-child-test.true c.index.result.now c.index.ensures
 
 pub returns-in_err-add_self-clause-err : goal.returns-in_err-add_self-clause-err
 returns-in_err-add_self-clause-err t c =
     let large : 2 ^ 64 ≤ total c.default-graph.result + c.size.result = c.in_err-add_self.ensures.1 in
     let own : c.size.result ≤ total_listed c.args.self.now = subst (λ (n : ℕ). n ≤ total_listed c.args.self.now) (sym c.size.ensures) (own_fits c.args.self.now c.args.at c.requires.within) in
     let none : total c.default-graph.result ≡ 0 = ap total c.default-graph.ensures ∙ total-default in
-    absurd (omega (arith, large, own, none, c.requires.fits))
+    absurd {A = IfErr c.from_residual.result (λ e. e ≡ Memory)} (omega (arith, large, own, none, c.requires.fits))
 
 pub loop-child-init : goal.loop-child-init
 loop-child-init t c =
@@ -48,7 +66,7 @@ loop-child-init t c =
     let bytes = bytes_read items c.self.invariant v c.self.view_is i c.requires.within n c.index-node.ensures in
     let under = under_read items c.self.invariant v c.self.view_is i c.requires.within n c.index-node.ensures in
     let is : c.add_self.new.self ≡ add_self (size_at v i) default = c.in_ok-add_self.ensures.1 ∙ (λ j. add_self (c.size.ensures j) (c.default-graph.ensures j)) in
-    let written : string_bytes c.if-is_short.text ≡ start ++ warned v i =
+    let written : string_bytes c.if-is_short.text ≡ start ++ warning_at v i =
     elim c.if-is_short.branch [
       | then-is_short+in_ok-push_warning w ↦
           (let keys : map (λ (k : Bor (List ℕ)). k.now) w.as_slice.result.now ≡ path_at v i = ap (map (λ (k : Bor (List ℕ)). k.now)) w.as_slice.ensures.value ∙ c.requires.keys in
@@ -61,27 +79,27 @@ loop-child-init t c =
           ∙ (sym (append-nil start)
           ∙ ap (λ (l : List ℕ). start ++ l) (sym (cond-false (is_short v i) (warning_line (path_at v i) (let e = sum_at v i in e.bytes) (below (map_of v) (path_at v i))) [] (sym w.if-is_short.ensures))))
     ] in
-    (refl, half_none v i c.deref-child-items.result.now start (string_bytes c.if-is_short.text) c.add_self.new.self is written)
+    record { keys = refl; made = half_none v i (keys_of (map shape items) c.deref-child-items.result.now) start (string_bytes c.if-is_short.text) c.add_self.new.self is written }
 
 pub make-requires : goal.make-requires
 make-requires t c =
-    let kid = child t (goal.at.make-requires t c).After-child-item in
+    let here = (goal.at.make-requires t c).After-index in
+    let there = child t here in
     let d : length c.args.self.now - c.args.at ≡ t = c.decreases in
-    let lt : length c.args.self.now - c.child-item.result.1 < t = omega (arith, kid.0, kid.1) in
-    let pushed : c.push.new.self.items ≡ c.loop-child.keys.items ++ c.as_str.result ∷ [] = c.push.ensures.items ∙ cond-true _ _ _ c.if-is_err.ensures.negation in
-    let P = path_at c.args.self.now c.args.at in
-    let keys : map (λ (k : Bor (List ℕ)). k.now) c.push.new.self.items ≡ path_at c.args.self.now c.child-item.result.1 =
+    let lt : length c.args.self.now - number t here < t = omega (arith, there.0, there.1) in
+    let pushed : c.push.new.self.items ≡ c.loop-child.keys.items ++ c.as_str.result ∷ [] = c.in_ok-push.ensures.items in
+    let keys : map (λ (k : Bor (List ℕ)). k.now) c.push.new.self.items ≡ path_at c.args.self.now (number t here) =
     ap (map (λ (k : Bor (List ℕ)). k.now)) pushed
     ∙ (map-append (λ (k : Bor (List ℕ)). k.now) c.loop-child.keys.items (c.as_str.result ∷ [])
-    ∙ ((λ j. (ap (map (λ (k : Bor (List ℕ)). k.now)) c.loop-child.invariant.0 ∙ c.requires.keys) j ++ (c.as_str.ensures ∙ kid.3) j ∷ []) ∙ sym kid.2)) in
-    (lt, (kid.1, (c.requires.fits, keys)))
+    ∙ ((λ j. (ap (map (λ (k : Bor (List ℕ)). k.now)) c.loop-child.invariant.keys ∙ c.requires.keys) j ++ (c.as_str.ensures ∙ key t here) j ∷ []) ∙ sym there.2)) in
+    (lt, (there.1, (c.requires.fits, keys)))
 
 pub returns-in_err-add_child-clause-err : goal.returns-in_err-add_child-clause-err
 returns-in_err-add_child-clause-err t c =
     let v = c.args.self.now in
-    let kid = child t (goal.at.returns-in_err-add_child-clause-err t c).After-child-item in
-    let half = half_total v c.args.at c.deref-child-items.result.now c.loop-child.child-index (string_bytes c.args.text.now) (string_bytes c.loop-child.text) c.loop-child.graph c.requires.within c.loop-child.invariant.1 in
-    let more = made_total v c.child-item.result.1 (string_bytes c.loop-child.text) (string_bytes c.make.new.text) c.in_ok-below.below c.in_ok-below.ensures.made in
+    let here = (goal.at.returns-in_err-add_child-clause-err t c).After-index in
+    let half = half_total v c.args.at (keys_of (map shape c.self.inside.nodes.items) c.deref-child-items.result.now) c.loop-child.child-index (string_bytes c.args.text.now) (string_bytes c.loop-child.text) c.loop-child.graph c.requires.within c.loop-child.invariant.made in
+    let more = made_total v (number t here) (string_bytes c.loop-child.text) (string_bytes c.make.new.text) c.in_ok-below.below c.in_ok-below.ensures.made in
     let is : c.add_child.result ≡ Err c.in_err-add_child.field-0.0 = c.in_err-add_child.was in
     let large : IsErrOf c.add_child.result TooLarge ↔ (2 ^ 64 ≤ total c.loop-child.graph + total c.in_ok-below.below) = c.add_child.ensures.too_large in
     let never : ¬ (IsErrOf c.add_child.result Open) = c.add_child.ensures.never_open in
@@ -94,14 +112,20 @@ returns-in_err-add_child-clause-err t c =
 pub loop-child-preserved : goal.loop-child-preserved
 loop-child-preserved t c =
     let v = c.args.self.now in
-    let kid = child t (goal.at.loop-child-preserved t c).After-child-item in
-    let ks = c.deref-child-items.result.now in
+    let here = (goal.at.loop-child-preserved t c).After-index in
+    let there = child t here in
+    let xs = c.deref-child-items.result.now in
+    let ks = keys_of (map shape c.self.inside.nodes.items) xs in
     let j = c.loop-child.child-index in
-    let pushed : c.push.new.self.items ≡ c.loop-child.keys.items ++ c.as_str.result ∷ [] = c.push.ensures.items ∙ cond-true _ _ _ c.if-is_err.ensures.negation in
-    let keys : c.pop.new.self.items ≡ c.args.keys.now.items = popped c.loop-child.keys.items c.make.new.keys.items c.pop.new.self.items c.as_str.result _ c.pop.ensures.rest c.make.new.keys.ok.0 (c.in_ok-below.ensures.keys ∙ pushed) ∙ c.loop-child.invariant.0 in
-    let rise = keys_rise c.self.inside.nodes.items c.self.invariant v c.self.view_is c.args.at c.requires.within c.index-node.result.now c.index-node.ensures ks c.deref-child-items.ensures.value in
-    let is : c.add_child.new.self ≡ sum_of c.loop-child.graph (under (kid_at ks j).0 c.in_ok-below.below) = c.in_ok-add_child.ensures.sum ∙ ap (λ (k : Key). sum_of c.loop-child.graph (under k c.in_ok-below.below)) (c.again.ensures ∙ kid.3) in
-    (keys, half_more v c.args.at ks j c.loop-child-test.true rise c.child-item.result.1 kid.2 (string_bytes c.args.text.now) (string_bytes c.loop-child.text) (string_bytes c.make.new.text) c.loop-child.graph c.add_child.new.self c.in_ok-below.below c.loop-child.invariant.1 c.in_ok-below.ensures.made is)
+    let pushed : c.push.new.self.items ≡ c.loop-child.keys.items ++ c.as_str.result ∷ [] = c.in_ok-push.ensures.items in
+    let kept : c.pop.new.self.items ≡ c.args.keys.now.items = popped c.loop-child.keys.items c.make.new.keys.items c.pop.new.self.items c.as_str.result _ c.pop.ensures.rest c.make.new.keys.ok.0 (c.in_ok-below.ensures.keys ∙ pushed) ∙ c.loop-child.invariant.keys in
+    let rise = keys_rise c.self.inside.nodes.items c.self.invariant v c.self.view_is c.args.at c.requires.within c.index-node.result.now c.index-node.ensures xs c.deref-child-items.ensures.value in
+    let inside : j < length ks = omega (arith, c.loop-child-test.true, length-keys_of (map shape c.self.inside.nodes.items) xs) in
+    let is : c.add_child.new.self ≡ sum_of c.loop-child.graph (under (key_in ks j) c.in_ok-below.below) = c.in_ok-add_child.ensures.sum ∙ ap (λ (k : Key). sum_of c.loop-child.graph (under k c.in_ok-below.below)) (c.again.ensures ∙ key t here) in
+    record {
+      keys = kept;
+      made = half_more v c.args.at ks j inside rise (number t here) there.2 (string_bytes c.args.text.now) (string_bytes c.loop-child.text) (string_bytes c.make.new.text) c.loop-child.graph c.add_child.new.self c.in_ok-below.below c.loop-child.invariant.made c.in_ok-below.ensures.made is;
+    }
 
 pub returns-clause-made : goal.returns-clause-made
-returns-clause-made t c = made_all c.self.inside.nodes.items c.self.invariant c.args.self.now c.self.view_is c.args.at c.requires.within c.index-node.result.now c.index-node.ensures c.deref-child-items.result.now c.deref-child-items.ensures.value (string_bytes c.args.text.now) (string_bytes c.loop-child.text) c.loop-child.graph c.loop-child.child-index (omega arith) (let ended = c.loop-child.auto.child-index-end in omega arith) c.loop-child.invariant.1
+returns-clause-made t c = made_all c.self.inside.nodes.items c.self.invariant c.args.self.now c.self.view_is c.args.at c.requires.within c.index-node.result.now c.index-node.ensures c.deref-child-items.result.now c.deref-child-items.ensures.value (string_bytes c.args.text.now) (string_bytes c.loop-child.text) c.loop-child.graph c.loop-child.child-index (omega arith) (let ended = c.loop-child.auto.child-index-end in omega arith) c.loop-child.invariant.made

@@ -1,4 +1,5 @@
-use Rattle.std.proofs.Common.{◌≡◌, ℕ, ◌<◌, ◌≤◌, false, List, [], length, map, set, take, ◌-◌, vec_len, arith, sym, ap, subst, ◌∙◌, refl}
+-- The child that was found, the new one, and the push that is undone.
+use Rattle.std.proofs.Common.{◌≡◌, ℕ, ◌<◌, false, List, length, get_or, map, set, take, ◌-◌, vec_len, arith, sym, ap, subst, ◌∙◌, refl}
 use Rattle.std.proofs.lemmas.List.{length-map, get_or_read}
 use Rattle.std.proofs.lemmas.Bool.{cond-true, cond-false}
 use Rattle.std.specs.List.{insert}
@@ -6,12 +7,13 @@ use Rattle.allocative.specs.declared.tree.Node.{Node}
 use Rattle.allocative_graph.specs.Path.{Key}
 use Rattle.allocative.specs.Nodes.{shape, sums_of}
 use Rattle.allocative.specs.Listed.{Listed, IsEntered}
-use Rattle.allocative.specs.Shapes.{kids_at, kid_at, KeysRise, IsPlace, IsGap, sums, IsArena}
-use Rattle.allocative.proofs.NodeReads.{in_nodes, in_shapes, kids_read, stood_kids, grown_nodes, kept_nodes}
+use Rattle.allocative.specs.Shapes.{children_at, keys_of, keys_at, KeysRise, IsPlace, IsGap, sums, IsArena}
+use Rattle.allocative.proofs.NodeReads.{in_nodes, in_shapes, children_in, children_read, stood_children, grown_nodes, kept_nodes}
+use Rattle.allocative.proofs.Keys.{length-keys_of}
 use Rattle.allocative.proofs.Grown.{grown, arena_grown}
 use Rattle.allocative.proofs.Child.{was_entered, now_entered}
 use Rattle.allocative.proofs.tree.Tree.child.Goals as goal
-use Rattle.allocative.proofs.tree.Tree.child.Goals.{Joined-pop, Else-is_err}
+use Rattle.allocative.proofs.tree.Tree.child.Goals.{After-deref-2, Joined-pop, Else-is_err}
 
 pub index-requires : goal.index-requires
 index-requires c =
@@ -20,12 +22,30 @@ index-requires c =
     let within = in_nodes items c.args.at here in
     omega (arith, c.self.inside.nodes.ok.0)
 
-pub find-requires : goal.find-requires
-find-requires c =
+-- the children that are searched, and their keys
+searched : (c : After-deref-2) → c.deref-2.result.now ≡ children_at (map shape c.self.inside.nodes.items) c.args.at
+searched c =
     let items = c.self.inside.nodes.items in
     let here : c.args.at < length (sums_of items) = rw c.self.view_is c.requires in
-    let kids = kids_read items c.args.at c.index.result.now (in_nodes items c.args.at here) c.index.ensures in
-    subst KeysRise (kids ∙ sym c.deref.ensures.value) (c.self.invariant.rise c.args.at (in_shapes items c.args.at here))
+    c.deref-2.ensures.value ∙ sym (children_read items c.args.at c.index.result.now (in_nodes items c.args.at here) c.index.ensures)
+
+searched_keys : (c : After-deref-2) → keys_of (map shape c.deref.result.now) c.deref-2.result.now ≡ keys_at (map shape c.self.inside.nodes.items) c.args.at
+searched_keys c = λ i. keys_of (map shape (c.deref.ensures.value i)) (searched c i)
+
+pub find-requires-clause-within : goal.find-requires-clause-within
+find-requires-clause-within c =
+    let items = c.self.inside.nodes.items in
+    let here : c.args.at < length (sums_of items) = rw c.self.view_is c.requires in
+    let xs = searched (goal.at.find-requires-clause-within c).After-deref-2 in
+    λ j h. subst (λ (ys : List ℕ). get_or ys j 0 < length c.deref.result.now) (sym xs)
+    (subst (λ (l : List Node). get_or (children_at (map shape items) c.args.at) j 0 < length l) (sym c.deref.ensures.value)
+    (children_in items c.self.invariant c.args.at (in_nodes items c.args.at here) j (subst (λ (ys : List ℕ). j < length ys) xs h)))
+
+pub find-requires-clause-rise : goal.find-requires-clause-rise
+find-requires-clause-rise c =
+    let items = c.self.inside.nodes.items in
+    let here : c.args.at < length (sums_of items) = rw c.self.view_is c.requires in
+    subst KeysRise (sym (searched_keys (goal.at.find-requires-clause-rise c).After-deref-2)) (c.self.invariant.rise c.args.at (in_shapes items c.args.at here))
 
 pub index-requires-in-Ok : goal.index-requires-in-Ok
 index-requires-in-Ok c =
@@ -39,10 +59,11 @@ index-requires-in-Ok-2 c =
     let items = c.self.inside.nodes.items in
     let here : c.args.at < length (sums_of items) = rw c.self.view_is c.requires in
     let inside = in_nodes items c.args.at here in
-    let first = kids_read items c.args.at c.index.result.now inside c.index.ensures in
-    let second = kids_read items c.args.at c.index-in-Ok.result.now inside c.index-in-Ok.ensures in
-    let place = subst (λ (ks : List (Key × ℕ)). c.in-Ok.place < length ks) (c.deref.ensures.value ∙ (sym first ∙ second)) c.in-Ok.ensures.found.in_range in
-    omega (arith, c.index-in-Ok.result.now.children.ok.0)
+    let second = children_read items c.args.at c.index-in-Ok.result.now inside c.index-in-Ok.ensures in
+    let found : IsPlace (keys_at (map shape items) c.args.at) c.args.key c.in-Ok.place = subst (λ (ks : List Key). IsPlace ks c.args.key c.in-Ok.place) (searched_keys (goal.at.index-requires-in-Ok-2 c).After-deref-2) c.in-Ok.ensures.found in
+    let len = length-keys_of (map shape items) (children_at (map shape items) c.args.at) in
+    let same = ap length second in
+    omega (arith, found.in_range, c.index-in-Ok.result.now.children.ok.0)
 
 pub index_mut-requires : goal.index_mut-requires
 index_mut-requires c =
@@ -56,10 +77,11 @@ insert-requires c =
     let items = c.self.inside.nodes.items in
     let here : c.args.at < length (sums_of items) = rw c.self.view_is c.requires in
     let inside = in_nodes items c.args.at here in
-    let first = kids_read items c.args.at c.index.result.now inside c.index.ensures in
-    let stood = stood_kids items c.push.new.self.items _ c.in_ok-push-in-Err.ensures.items c.args.at inside c.index_mut.result.now c.index_mut.ensures.value in
-    let place = subst (λ (ks : List (Key × ℕ)). c.in-Err.place ≤ length ks) (c.deref.ensures.value ∙ (sym first ∙ stood)) c.in-Err.ensures.absent.in_range in
-    omega (arith, c.index_mut.result.now.children.ok.0)
+    let stood = stood_children items c.push.new.self.items _ c.in_ok-push-in-Err.ensures.items c.args.at inside c.index_mut.result.now c.index_mut.ensures.value in
+    let gap : IsGap (keys_at (map shape items) c.args.at) c.args.key c.in-Err.place = subst (λ (ks : List Key). IsGap ks c.args.key c.in-Err.place) (searched_keys (goal.at.insert-requires c).After-deref-2) c.in-Err.ensures.absent in
+    let len = length-keys_of (map shape items) (children_at (map shape items) c.args.at) in
+    let same = ap length stood in
+    omega (arith, gap.in_range, c.index_mut.result.now.children.ok.0)
 
 -- the shapes after the push is undone
 kept : (c : Joined-pop) → map shape c.pop.new.self.items ≡ map shape c.self.inside.nodes.items
@@ -67,9 +89,9 @@ kept c =
     let items = c.self.inside.nodes.items in
     let n = c.index_mut.result.now in
     let here : c.args.at < length (sums_of items) = rw c.self.view_is c.requires in
-    let kids : c.insert.new.self.items ≡ n.children.items = c.insert.ensures.items ∙ cond-false _ _ _ c.if-is_err.ensures.negation in
+    let as_before : c.insert.new.self.items ≡ n.children.items = c.insert.ensures.items ∙ cond-false _ _ _ c.if-is_err.ensures.negation in
     let m : Node = record n { children = c.insert.new.self } in
-    let m_is : shape m ≡ shape n = ap (λ (ks : List (Key × ℕ)). record { key = n.key; parent = n.parent; kids = ks; bytes = n.bytes; unique = n.unique; below = n.below }) kids in
+    let m_is : shape m ≡ shape n = ap (λ (xs : List ℕ). record { key = n.key; parent = n.parent; children = xs; bytes = n.bytes; is_unique = n.is_unique; below = n.below }) as_before in
     let rest : c.pop.new.self.items ≡ take (vec_len c.push.new.self - 1) (set c.push.new.self.items c.args.at m) = c.pop.ensures.rest in
     ap (map shape) rest
     ∙ (ap (λ (l : ℕ). map shape (take (l - 1) (set c.push.new.self.items c.args.at m))) c.push.new.self.ok.0
@@ -88,19 +110,15 @@ made c =
     let n = c.index_mut.result.now in
     let here : c.args.at < length (sums_of items) = rw c.self.view_is c.requires in
     let index : c.len-node.result ≡ length items = c.len-node.ensures ∙ c.self.inside.nodes.ok.0 in
-    let kids : c.insert.new.self.items ≡ insert n.children.items c.in-Err.place (c.args.key, length items) =
-    c.insert.ensures.items ∙ (cond-true _ _ _ c.if-is_err.ensures.negation ∙ ap (λ (i : ℕ). insert n.children.items c.in-Err.place (c.args.key, i)) index) in
+    let longer : c.insert.new.self.items ≡ insert n.children.items c.in-Err.place (length items) =
+    c.insert.ensures.items ∙ (cond-true _ _ _ c.if-is_err.ensures.negation ∙ ap (λ (i : ℕ). insert n.children.items c.in-Err.place i) index) in
     grown_nodes items c.push.new.self.items _ c.in_ok-push-in-Err.ensures.items c.args.at (in_nodes items c.args.at here) n c.index_mut.ensures.value c.args.key c.in-Err.place _
-    (rw (c.again.ensures, c.new.ensures.items) refl)
-    (ap (λ (ks : List (Key × ℕ)). record { key = n.key; parent = n.parent; kids = ks; bytes = n.bytes; unique = n.unique; below = n.below }) kids)
+    (rw c.new.ensures.items refl)
+    (ap (λ (xs : List ℕ). record { key = n.key; parent = n.parent; children = xs; bytes = n.bytes; is_unique = n.is_unique; below = n.below }) longer)
 
--- the gap that was found, among the children as shapes
-gap : (c : Else-is_err) → IsGap (kids_at (map shape c.self.inside.nodes.items) c.args.at) c.args.key c.in-Err.place
-gap c =
-    let items = c.self.inside.nodes.items in
-    let here : c.args.at < length (sums_of items) = rw c.self.view_is c.requires in
-    let first = kids_read items c.args.at c.index.result.now (in_nodes items c.args.at here) c.index.ensures in
-    subst (λ (ks : List (Key × ℕ)). IsGap ks c.args.key c.in-Err.place) (c.deref.ensures.value ∙ sym first) c.in-Err.ensures.absent
+-- the gap that was found, among the keys of the children
+gap : (c : Else-is_err) → IsGap (keys_at (map shape c.self.inside.nodes.items) c.args.at) c.args.key c.in-Err.place
+gap c = subst (λ (ks : List Key). IsGap ks c.args.key c.in-Err.place) (searched_keys (goal.at.invariant_of-self-else-is_err c).After-deref-2) c.in-Err.ensures.absent
 
 pub invariant_of-self-else-is_err : goal.invariant_of-self-else-is_err
 invariant_of-self-else-is_err c =
@@ -115,13 +133,14 @@ returns-in-Ok-clause-entered c =
     let here : c.args.at < length (sums_of items) = rw c.self.view_is c.requires in
     let inside = in_nodes items c.args.at here in
     let hp = in_shapes items c.args.at here in
-    let first = kids_read items c.args.at c.index.result.now inside c.index.ensures in
-    let second = kids_read items c.args.at c.index-in-Ok.result.now inside c.index-in-Ok.ensures in
-    let found : IsPlace (kids_at ns c.args.at) c.args.key c.in-Ok.place = subst (λ (ks : List (Key × ℕ)). IsPlace ks c.args.key c.in-Ok.place) (c.deref.ensures.value ∙ sym first) c.in-Ok.ensures.found in
-    let kid : c.index-in-Ok-2.result.now ≡ kid_at (kids_at ns c.args.at) c.in-Ok.place =
-    get_or_read c.index-in-Ok.result.now.children.items c.in-Ok.place _ (subst (λ (ks : List (Key × ℕ)). c.in-Ok.place < length ks) second found.in_range) c.index-in-Ok-2.ensures ([], 0)
-    ∙ ap (λ (ks : List (Key × ℕ)). kid_at ks c.in-Ok.place) (sym second) in
-    rw (← c.self.view_is, kid) (was_entered ns c.self.invariant c.args.at hp c.args.key c.in-Ok.place found)
+    let second = children_read items c.args.at c.index-in-Ok.result.now inside c.index-in-Ok.ensures in
+    let found : IsPlace (keys_at ns c.args.at) c.args.key c.in-Ok.place = subst (λ (ks : List Key). IsPlace ks c.args.key c.in-Ok.place) (searched_keys (goal.at.returns-in-Ok-clause-entered c).After-deref-2) c.in-Ok.ensures.found in
+    let len = length-keys_of ns (children_at ns c.args.at) in
+    let same = ap length second in
+    let is : c.index-in-Ok-2.result.now ≡ get_or (children_at ns c.args.at) c.in-Ok.place 0 =
+    get_or_read c.index-in-Ok.result.now.children.items c.in-Ok.place _ (omega (arith, found.in_range)) c.index-in-Ok-2.ensures 0
+    ∙ ap (λ (xs : List ℕ). get_or xs c.in-Ok.place 0) (sym second) in
+    rw (← c.self.view_is, is) (was_entered ns c.self.invariant c.args.at hp c.args.key c.in-Ok.place found)
 
 pub returns-else-is_err-clause-entered : goal.returns-else-is_err-clause-entered
 returns-else-is_err-clause-entered c =

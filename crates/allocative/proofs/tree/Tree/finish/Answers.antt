@@ -6,7 +6,7 @@ use Rattle.allocative_graph.specs.Path.{Path}
 use Rattle.allocative_graph.specs.Graph.{graph}
 use Rattle.allocative_graph.proofs.Basics.{path_total, path_antisymmetric}
 use Rattle.allocative.specs.Listed.{map_of}
-use Rattle.allocative.specs.Finishing.{warned}
+use Rattle.allocative.specs.Finishing.{warning_at}
 use Rattle.allocative.specs.Nodes.{shape}
 use Rattle.allocative.specs.Walks.{IsWalk}
 use Rattle.allocative.proofs.Bridge.{IsListing}
@@ -27,8 +27,7 @@ returns-clause-made c =
     let v = c.args.self.now in
     let all : IsListing v = subst IsListing c.self.view_is (listing (map shape c.self.inside.nodes.items) c.self.invariant) in
     let made = c.in_ok-graph.ensures.made in
-    let walk : IsWalk v [] (0 ∷ made.others) = subst (λ (p : Path). IsWalk v p (0 ∷ made.others)) all.root_path made.walk in
-    record {
-      graph_is = same_map path_total path_antisymmetric c.in_ok-graph.graph (graph (map_of v)) (λ q. made.graph_is q ∙ ap (λ (p : Path). get (graph (map_of v)) (p ++ q)) all.root_path);
-      warnings_are = made.warnings_are ∙ (ap (λ (l : List ℕ). l ++ flat_map (warned v) (0 ∷ made.others)) c.new-warnings.ensures.bytes ∙ warnings_walk v all made.others walk);
-    }
+    let walk : IsWalk v [] (0 ∷ made.others) = subst (λ (p : Path). IsWalk v p (0 ∷ made.others)) all.root_path made.walk in (
+      c.new.ensures.graph ∙ same_map path_total path_antisymmetric c.in_ok-graph.graph (graph (map_of v)) (λ q. made.graph_is q ∙ ap (λ (p : Path). get (graph (map_of v)) (p ++ q)) all.root_path),
+      c.new.ensures.warnings ∙ made.warnings_are ∙ (ap (λ (l : List ℕ). l ++ flat_map (warning_at v) (0 ∷ made.others)) c.new-warnings.ensures.bytes ∙ warnings_walk v all made.others walk),
+    )

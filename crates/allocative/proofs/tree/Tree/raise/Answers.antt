@@ -1,3 +1,4 @@
+-- The node and its parent after both writes.
 use Rattle.std.proofs.Common.{◌≡◌, ◌+◌, ◌^◌, ◌<◌, ◌||◌, length, map, set, arith, ap, ◌∙◌}
 use Rattle.std.proofs.lemmas.List.{length-map}
 use Rattle.allocative.specs.Nodes.{shape, sums_of}
@@ -6,7 +7,7 @@ use Rattle.allocative.specs.Shapes.{Shape, parent_at, bytes_at, sums}
 use Rattle.allocative.proofs.NodeReads.{in_nodes, in_shapes, shape_read, parent_read, raised_nodes, raise_node, below_node, below_read}
 use Rattle.allocative.proofs.Raised.{raised, arena_raised, sums_raised, bytes_le_total, below_le_total}
 use Rattle.allocative.proofs.tree.Tree.raise.Goals as goal
-use Rattle.allocative.proofs.tree.Tree.raise.Goals.{then-entered, else-entered, After-index_mut-entered, After-index_mut-arg-2-1, After-index_mut-parent}
+use Rattle.allocative.proofs.tree.Tree.raise.Goals.{then-entered, else-entered, After-index_mut-parent}
 
 pub index_mut-entered-requires : goal.index_mut-entered-requires
 index_mut-entered-requires c =
@@ -49,14 +50,14 @@ overflow_add-parent c =
     let bound = below_le_total (map shape items) n.parent in
     omega arith
 
-mark : (c : After-index_mut-parent) → c.if-entered.entered ≡ (c.index_mut-entered.result.now.unique || c.args.unique)
+mark : (c : After-index_mut-parent) → c.if-entered.entered ≡ (c.index_mut-entered.result.now.is_unique || c.args.is_unique)
 mark c = elim c.if-entered.branch [
   | then-entered w ↦ grind arith
   | else-entered w ↦ grind arith
 ]
 
 -- the nodes after both writes
-written : (c : After-index_mut-parent) → map shape (set (set c.self.inside.nodes.items c.args.node (raise_node c.args.size c.if-entered.entered c.index_mut-entered.result.now)) c.index_mut-entered.result.now.parent (below_node c.args.size c.index_mut-parent.result.now)) ≡ raised (map shape c.self.inside.nodes.items) c.args.node (parent_at (map shape c.self.inside.nodes.items) c.args.node) c.args.size c.args.unique
+written : (c : After-index_mut-parent) → map shape (set (set c.self.inside.nodes.items c.args.node (raise_node c.args.size c.if-entered.entered c.index_mut-entered.result.now)) c.index_mut-entered.result.now.parent (below_node c.args.size c.index_mut-parent.result.now)) ≡ raised (map shape c.self.inside.nodes.items) c.args.node (parent_at (map shape c.self.inside.nodes.items) c.args.node) c.args.size c.args.is_unique
 written c =
     let items = c.self.inside.nodes.items in
     let n = c.index_mut-entered.result.now in
@@ -64,17 +65,17 @@ written c =
     let hi = in_nodes items c.args.node here in
     let parent = parent_read items c.args.node n hi c.index_mut-entered.ensures.value in
     let lt = c.self.invariant.parents c.args.node c.requires.not_root (in_shapes items c.args.node here) in
-    raised_nodes items c.args.node c.args.size c.args.unique c.if-entered.entered n c.index_mut-parent.result.now hi (omega arith) (λ e. omega arith) c.index_mut-entered.ensures.value (mark c) c.index_mut-parent.ensures.value
+    raised_nodes items c.args.node c.args.size c.args.is_unique c.if-entered.entered n c.index_mut-parent.result.now hi (omega arith) (λ e. omega arith) c.index_mut-entered.ensures.value (mark c) c.index_mut-parent.ensures.value
 
 pub invariant_of-self : goal.invariant_of-self
 invariant_of-self c =
     let items = c.self.inside.nodes.items in
     let here : c.args.node < length (sums_of items) = rw c.self.view_is c.requires.within in
-    rw (written (goal.at.invariant_of-self c).After-index_mut-parent) (arena_raised (map shape items) c.self.invariant c.args.node c.requires.not_root (in_shapes items c.args.node here) c.args.size c.args.unique)
+    rw (written (goal.at.invariant_of-self c).After-index_mut-parent) (arena_raised (map shape items) c.self.invariant c.args.node c.requires.not_root (in_shapes items c.args.node here) c.args.size c.args.is_unique)
 
 pub returns : goal.returns
 returns c =
     let items = c.self.inside.nodes.items in
     let here : c.args.node < length (sums_of items) = rw c.self.view_is c.requires.within in
-    let entered = sums_raised (map shape items) c.self.invariant c.args.node c.requires.not_root (in_shapes items c.args.node here) c.args.size c.args.unique in
-    ap sums (written (goal.at.returns c).After-index_mut-parent) ∙ (entered ∙ ap (λ (s : Listed). add (path_at s c.args.node) c.args.size c.args.unique s) c.self.view_is)
+    let entered = sums_raised (map shape items) c.self.invariant c.args.node c.requires.not_root (in_shapes items c.args.node here) c.args.size c.args.is_unique in
+    ap sums (written (goal.at.returns c).After-index_mut-parent) ∙ (entered ∙ ap (λ (s : Listed). add (path_at s c.args.node) c.args.size c.args.is_unique s) c.self.view_is)

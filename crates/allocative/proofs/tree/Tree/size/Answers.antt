@@ -1,3 +1,4 @@
+-- The size, from what the node keeps.
 use Rattle.std.proofs.Common.{◌<◌, length, arith}
 use Rattle.allocative.specs.Nodes.{sums_of}
 use Rattle.std.proofs.lemmas.Grind.{common_steps}
