@@ -4,16 +4,17 @@ use Rattle.allocative_graph.specs.declared.refusal.Refusal.{Refusal}
 use Rattle.allocative_graph.specs.Forest.{Forest, Empty, followed_by, met_after, Fits, own, all}
 use Rattle.allocative_graph.specs.Sums.{add_all, sums_of}
 use Rattle.allocative_graph.specs.Meaning.{IsWhole, IsMeaning, content_of}
-use Rattle.allocative_graph.specs.Graph.{graph, warnings}
+use Rattle.allocative_graph.specs.Graph.{Graph, graph, warnings, sum_of}
 use Rattle.allocative_graph.specs.Held.{held, ShowsNoContent}
 use Rattle.allocative_graph.specs.Collector.{added as added_entries, Live, Holding, Kind, OfGraph, OfHeld, State, Failed, Going, leave, plus, Takes, visitors, is_graph, begin, is_in_unique, IsClosed, IsAtRoot, left, nothing_held, no_entries}
 use Rattle.allocative_graph.specs.Shows.{Showing, Nothing, Both, each_shows}
-use Rattle.allocative_graph.specs.Visits.{Shows, already, refused, hidden, forgotten, added, Leaves, Begins, Settles, Runs, Ends, IsProfile, Profile, IsProfileOf}
+use Rattle.allocative_graph.specs.Visits.{Shows, already, refused, hidden, forgotten, added, Leaves, Begins, Settles, Runs, Ends, IsProfile, Profile, IsProfileOf, IsGraphOf, IsSumOfTwo}
 use Rattle.allocative_graph.proofs.Plus.{plus-nothing, plus-following, takes_nothing, takes_both, visitors-plus, visitors-leave, is_graph-plus, is_graph-leave, is_graph-begin}
 use Rattle.allocative.specs.Steps.{IsSum}
 use Rattle.allocative.proofs.Showing.{left_by, each_and_one}
 use Rattle.allocative_graph.proofs.Reach.{all_is_meaning, reaches_exactly}
 use Rattle.allocative_graph.proofs.OneMeaning.{one_sums}
+use Rattle.allocative_graph.proofs.Merge.{whole_following, graphs_add}
 use Rattle.std.proofs.lemmas.List.{take_more}
 
 visitors-begin : (b : Kind) → IsClosed b → visitors (begin b) ≡ 1
@@ -167,5 +168,29 @@ profile_by_run p (Going b) (Going c) u o e (z, f, a, t, g) k =
     let k' : Ends IsProfile (Going (plus (OfGraph no_entries) f)) (Ok o) = subst (λ (x : Kind). Ends IsProfile (Going x) (Ok o)) g' k in
     profile_by_sums p o f a t' k'.1.0 k'.1.1
 
+pub graph_by_run : (p : Showing) (s t : State) (u : Unit) (o : Profile) (g : Graph) → s ≡ Going (OfGraph no_entries) → Runs p s (Ok u) t → Ends IsProfile t (Ok o) → g ≡ o.graph → IsGraphOf p g
+graph_by_run p (Failed r) t u o g e h k i = absurd (failed_not_going _ r e)
+graph_by_run p (Going b) (Failed r) u o g e h k i = absurd h
+graph_by_run p (Going b) (Going c) u o g e (z, f, a, t, m) k i =
+    let j : b ≡ OfGraph no_entries = same_kind b _ e in
+    let t' : Fits no_entries.met f = subst (λ (x : Kind). Takes x f) j t in
+    let m' : c ≡ plus (OfGraph no_entries) f = rw j at m in
+    let k' : Ends IsProfile (Going (plus (OfGraph no_entries) f)) (Ok o) = subst (λ (x : Kind). Ends IsProfile (Going x) (Ok o)) m' k in
+    record { shown = f; allowed = a; whole = t'; is = i ∙ k'.1.0 }
+
+pub sum_of_two : (p q : Showing) (g h m : Graph) → IsGraphOf p g → IsGraphOf q h → m ≡ sum_of g h → IsSumOfTwo p q m
+sum_of_two p q g h m a b e =
+    let is : m ≡ sum_of (graph (sums_of (all a.shown))) (graph (sums_of (all b.shown))) = e ∙ (λ i. sum_of (a.is i) (b.is i)) in
+    record {
+      left = a.shown;
+      right = b.shown;
+      left_allowed = a.allowed;
+      right_allowed = b.allowed;
+      left_whole = a.whole;
+      right_whole = b.whole;
+      is = is;
+      is_one = λ apart can. (whole_following a.shown b.shown a.whole b.whole apart, is ∙ graphs_add a.shown b.shown can);
+    }
+
 -- what root visits go by
-pub ruleset running = (run_shows, run_refused, held_by_run, runs_nothing, runs_unsettled, runs_err, profile_by_run)
+pub ruleset running = (run_shows, run_refused, held_by_run, runs_nothing, runs_unsettled, runs_err, profile_by_run, graph_by_run, sum_of_two)

@@ -1,8 +1,8 @@
 //! Builders of flame graphs.
 #![tactic(auto, using(crate::proofs::Roots::running))]
 
-ghost use Rattle.std.specs.Prelude.{◌≡◌, ◌↔◌, IfOk, IfErr, MatchResult, string_bytes};
-ghost use Rattle.allocative_graph.specs.Graph.{text, graph};
+ghost use Rattle.std.specs.Prelude.{◌<◌, ◌^◌, ◌≡◌, ◌↔◌, IfOk, IfErr, MatchResult, string_bytes};
+ghost use Rattle.allocative_graph.specs.Graph.{text, graph, total};
 ghost use Rattle.allocative_graph.specs.Collector.{Going, OfGraph, no_entries};
 ghost use Rattle.allocative_graph.specs.Visits.{Runs, Settles, Ends, IsProfile};
 
@@ -49,6 +49,13 @@ impl FlameGraphBuilder {
         self.collector.visit_object(root)
     }
 
+    /// The same as `visit_root` of a value whose type is known. It makes no trait object.
+    pub fn visit_value<T: Allocative>(&mut self, root: &T) -> Result<(), Refusal>
+        ensures { Runs (T.may_show root.now) self.old result self.new }
+    {
+        self.collector.visit_one(root)
+    }
+
     /// Ok where the builder has neither failed nor stands open; else its first cause, or Open.
     pub(crate) fn check(&self) -> Result<(), Refusal>
         ensures { Settles self.now result }
@@ -56,9 +63,13 @@ impl FlameGraphBuilder {
         self.collector.check()
     }
 
-    /// The graph and the warnings of all that was entered.
+    /// The graph and the warnings of all that was entered. The graph's total is at most `isize::MAX`.
+    ///
+    /// A builder that has failed answers its first cause, and one where a visitor is out Open. Else the call is refused for
+    /// want of memory alone.
     pub fn finish(self) -> Result<FlameGraphOutput, Refusal>
-        ensures { Ends IsProfile self result }
+        ensures ends { Ends IsProfile self result }
+        ensures total { IfOk result (λ o. total o.graph < 2 ^ 63) }
     {
         self.collector.finish()
     }

@@ -3,6 +3,7 @@
 
 ghost use Rattle.std.specs.Prelude.{◌≡◌, ◌+◌, ◌<◌, ◌^◌, true, false, IfOk, IfErr, OnOk, IsTrue, ◌↔◌};
 ghost use Rattle.allocative_graph.specs.Collector.{State, Failed, Going, OfGraph, OfHeld, no_entries, nothing_held, enter, leave, begin, is_in_unique, failed_with, left, IsClosed, IsAtRoot, IsGraphs};
+ghost use Rattle.allocative_graph.specs.Graph.{total};
 ghost use Rattle.allocative_graph.specs.Visits.{HasFailed, HasRoom, Refuses, Enters, EntersSized, EntersShared, Begins, Settles, Ends, IsProfile};
 ghost use Rattle.allocative.specs.Steps.{StepsIn, StepsInShared, IsSum};
 ghost use Rattle.allocative.specs.Kinds.{kind_of};
@@ -259,7 +260,8 @@ impl Collector {
     /// The graph and the warnings of a flame graph's collector.
     pub(crate) fn finish(&self) -> Result<FlameGraphOutput, Refusal>
         requires { IsGraphs self.now }
-        ensures { Ends IsProfile self.now result }
+        ensures ends { Ends IsProfile self.now result }
+        ensures total { IfOk result (λ o. total o.graph < 2 ^ 63) }
     {
         self.check()?;
         match &self.kind {

@@ -2,6 +2,7 @@
 ghost use Rattle.std.specs.Prelude.{◌≡◌, ◌+◌, ◌^◌, ◌<◌, [], false, length, IfOk, IfErr, OnOk, OnErr, IsTrue, ◌↔◌};
 ghost use Rattle.allocative_graph.specs.Sums.{entered};
 ghost use Rattle.allocative_graph.specs.Collector.{OfGraph, no_entries, enter_live, leave_live, go, IsClosed, IsAtRoot};
+ghost use Rattle.allocative_graph.specs.Graph.{total as graph_total};
 ghost use Rattle.allocative_graph.specs.Visits.{Refuses, IsProfile};
 ghost use Rattle.allocative.specs.Listed.{total};
 ghost use Rattle.allocative.specs.Places.{AddedAt, TellsWhy};
@@ -136,6 +137,7 @@ impl GraphCollector {
     /// The graph, and the text of the warnings.
     pub(crate) fn finish(&self) -> Result<FlameGraphOutput, Refusal>
         ensures made { IfOk result (IsProfile self.now.sums) }
+        ensures total { IfOk result (λ o. graph_total o.graph < 2 ^ 63) }
         ensures err { IfErr result (λ e. e ≡ Refusal.Memory) }
     {
         self.tree.finish()

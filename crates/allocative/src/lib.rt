@@ -14,6 +14,7 @@ pub mod output;
 pub mod registry;
 pub mod size_of;
 mod tree;
+pub mod two;
 pub mod visiting;
 pub mod visitor;
 
@@ -22,6 +23,7 @@ pub use crate::builder::FlameGraphBuilder;
 pub use crate::output::FlameGraphOutput;
 pub use crate::registry::{Registry, profile_roots};
 pub use crate::size_of::{size_of_unique, size_of_unique_allocated_data};
+pub use crate::two::profile_in_two;
 pub use crate::visitor::Visitor;
 pub use allocative_described::{Described, raw_table_alloc_size_for_len};
 pub use allocative_graph::flamegraph::FlameGraph;

@@ -42,6 +42,17 @@ impl FlameGraphOutput {
         &self.flamegraph
     }
 
+    /// The graph by itself; the warnings are let go.
+    pub fn into_flamegraph(self) -> FlameGraph
+        ensures { result ≡ self.graph }
+    {
+        let FlameGraphOutput {
+            flamegraph,
+            warnings: _,
+        } = self;
+        flamegraph
+    }
+
     /// A copy of the warnings' text. It is refused for want of memory alone.
     pub fn warnings(&self) -> Result<String, Refusal>
         ensures { MatchResult result (λ copy. string_bytes copy ≡ self.now.warnings) (λ r. r ≡ Refusal.Memory) }

@@ -1,6 +1,6 @@
 //! The paths that were entered, as an arena of nodes that name one another by number.
 ghost use Rattle.std.specs.Prelude.{◌≡◌, ◌+◌, ◌^◌, ◌<◌, ℕ, [], ◌∷◌, ◌++◌, length, map, slice_index, string_bytes, EachIndex, IfOk, IfErr, OnOk, OnErr, false};
-ghost use Rattle.allocative_graph.specs.Graph.{warning_line};
+ghost use Rattle.allocative_graph.specs.Graph.{warning_line, total as graph_total};
 ghost use Rattle.allocative_graph.specs.Visits.{IsProfile};
 ghost use Rattle.allocative.specs.Listed.{root_sum, add, total, path_at, map_of, IsEntered};
 ghost use Rattle.allocative.specs.Finishing.{size_at, is_short, Makes};
@@ -88,6 +88,7 @@ impl Tree {
     pub(crate) fn finish(&self) -> Result<FlameGraphOutput, Refusal>
         requires { total self.now < 2 ^ 63 }
         ensures made { IfOk result (IsProfile (map_of self.now)) }
+        ensures total { IfOk result (λ o. graph_total o.graph < 2 ^ 63) }
         ensures err { IfErr result (λ e. e ≡ Refusal.Memory) }
     {
         let mut keys: Vec<&'static str> = Vec::new(self.alloc);

@@ -5,11 +5,11 @@ use Rattle.allocative_graph.specs.declared.refusal.Refusal.{Refusal}
 use Rattle.allocative_graph.specs.declared.refusal.Refusal.TheVariants.{Memory, TooLarge, Open}
 use Rattle.allocative_graph.specs.Path.{Key}
 use Rattle.allocative_graph.specs.Identity.{Identity}
-use Rattle.allocative_graph.specs.Forest.{Forest, Bag, own, all}
-use Rattle.allocative_graph.specs.Meaning.{IsWhole, IsMeaning, ReachesExactly, content_of}
+use Rattle.allocative_graph.specs.Forest.{Forest, Bag, own, all, followed_by}
+use Rattle.allocative_graph.specs.Meaning.{IsWhole, IsMeaning, ReachesExactly, ReachApart, content_of}
 use Rattle.allocative_graph.specs.Sums.{Sums, entered, sums_of}
-use Rattle.allocative_graph.specs.Graph.{Graph, graph, warnings}
-use Rattle.allocative_graph.specs.Collector.{Live, Holding, Kind, OfGraph, OfHeld, State, Failed, Going, held_bytes, enter, enter_first, enter_again, leave, plus, Takes, is_graph, visitors, is_in_unique, begin, IsClosed, IsAtRoot, failed_with, left}
+use Rattle.allocative_graph.specs.Graph.{Graph, graph, warnings, sum_of, CanBeAdded}
+use Rattle.allocative_graph.specs.Collector.{Live, Holding, Kind, OfGraph, OfHeld, State, Failed, Going, held_bytes, enter, enter_first, enter_again, leave, plus, Takes, is_graph, visitors, is_in_unique, begin, IsClosed, IsAtRoot, failed_with, left, no_entries}
 use Rattle.allocative_graph.specs.Shows.{Showing}
 
 -- What a visit of a value that may show what p allows does. A failed collector stays as it is. After Err it has failed. After Ok it has failed (a refusal was hidden), or has more visitors out than before (one was forgotten), or has one forest more, which p allows and which it takes.
@@ -119,3 +119,27 @@ pub record IsProfileOf (p : Showing) (o : Profile) : Type 0 where
   pub meaning : IsMeaning (own shown) (content_of shown) (all shown)
   pub graph_is : (m : Bag) → IsMeaning (own shown) (content_of shown) m → o.graph ≡ graph (sums_of m)
   pub warnings_are : (m : Bag) → IsMeaning (own shown) (content_of shown) m → o.warnings ≡ warnings (sums_of m)
+
+-- g is the graph of some whole showing that p allows.
+pub record IsGraphOf (p : Showing) (g : Graph) : Type 0 where
+  pub shown : Forest
+  pub allowed : p shown
+  pub whole : IsWhole shown
+  pub is : g ≡ graph (sums_of (all shown))
+
+-- g is the sum of the graphs of a whole showing that p allows and of one that q allows; and where no identity is reached by both and their sums can be added, it is the graph of the one whole showing that has both.
+pub record IsSumOfTwo (p q : Showing) (g : Graph) : Type 0 where
+  pub left : Forest
+  pub right : Forest
+  pub left_allowed : p left
+  pub right_allowed : q right
+  pub left_whole : IsWhole left
+  pub right_whole : IsWhole right
+  pub is : g ≡ sum_of (graph (sums_of (all left))) (graph (sums_of (all right)))
+  pub is_one : ReachApart left right → CanBeAdded (sums_of (all left)) (sums_of (all right)) → IsWhole (followed_by left right) × (g ≡ graph (sums_of (all (followed_by left right))))
+
+-- Two collections, of what p allows and then of what q allows, are refused with e: the left one is; or it is not, and the right one is; or memory is refused.
+pub data RefusesTwo (p q : Showing) (e : Refusal) : Type 0 where
+  left_is_refused : RefusesRun p (OfGraph no_entries) e → RefusesTwo p q e
+  right_is_refused : (t : State) → Runs p (Going (OfGraph no_entries)) (Ok tt) t → RefusesRun q (OfGraph no_entries) e → RefusesTwo p q e
+  memory_is_refused : e ≡ Memory → RefusesTwo p q e

@@ -1,9 +1,10 @@
 -- The walk from the root has all places.
-use Rattle.std.proofs.Common.{ℕ, List, [], ◌∷◌, ◌++◌, map, Bor, sym, ap, subst, ◌∙◌}
+use Rattle.allocative.proofs.Made.{made_total}
+use Rattle.std.proofs.Common.{arith, ◌<◌, ◌^◌, ℕ, List, [], ◌∷◌, ◌++◌, map, Bor, sym, ap, subst, ◌∙◌}
 use Rattle.std.specs.Prelude.{flat_map}
 use Rattle.std.specs.FinMap.{get, same_map}
 use Rattle.allocative_graph.specs.Path.{Path}
-use Rattle.allocative_graph.specs.Graph.{graph}
+use Rattle.allocative_graph.specs.Graph.{Graph, graph, total}
 use Rattle.allocative_graph.proofs.Basics.{path_total, path_antisymmetric}
 use Rattle.allocative.specs.Listed.{map_of}
 use Rattle.allocative.specs.Finishing.{warning_at}
@@ -31,3 +32,9 @@ returns-clause-made c =
       c.new.ensures.graph ∙ same_map path_total path_antisymmetric c.in_ok-graph.graph (graph (map_of v)) (λ q. made.graph_is q ∙ ap (λ (p : Path). get (graph (map_of v)) (p ++ q)) all.root_path),
       c.new.ensures.warnings ∙ made.warnings_are ∙ (ap (λ (l : List ℕ). l ++ flat_map (warning_at v) (0 ∷ made.others)) c.new-warnings.ensures.bytes ∙ warnings_walk v all made.others walk),
     )
+
+pub returns-clause-total : goal.returns-clause-total
+returns-clause-total c =
+    let most = made_total c.args.self.now 0 _ _ c.in_ok-graph.graph c.in_ok-graph.ensures.made in
+    let small : total c.in_ok-graph.graph < 2 ^ 63 = omega (arith, most, c.requires) in
+    subst (λ (g : Graph). total g < 2 ^ 63) (sym c.new.ensures.graph) small

@@ -1,0 +1,9 @@
+//! Worked examples over the public calls of `allocative`: tests alone.
+#![tactic(auto)]
+
+#[cfg(test)]
+mod entries;
+#[cfg(test)]
+mod roots;
+#[cfg(test)]
+mod shared;

@@ -1,0 +1,64 @@
+// Roots that are visited: each kind of implementation, good and bad.
+ghost use Rattle.std.specs.Prelude.{codes};
+ghost use Rattle.allocative_graph.specs.Shows.{Inside, Nothing};
+
+use allocative::{Allocative, FlameGraphBuilder, Key, Refusal, Registry, Visitor, profile_roots};
+
+// Shows one inline entry.
+#[derive(Drop)]
+pub(crate) struct Leaf {
+    pub(crate) key: Key,
+    pub(crate) size: usize,
+}
+
+impl Allocative for Leaf {
+    ghost may_show = { λ l. Inside l.key l.size Nothing };
+
+    fn visit(&self, visitor: &mut Visitor<'_>) -> Result<(), Refusal> {
+        visitor.visit_simple(self.key.again(), self.size)
+    }
+}
+
+// Shows nothing.
+#[derive(Drop)]
+struct Silent;
+
+impl Allocative for Silent {
+    ghost may_show = { λ _. Nothing };
+
+    fn visit(&self, _visitor: &mut Visitor<'_>) -> Result<(), Refusal> {
+        Ok(())
+    }
+}
+
+const LETTERS: [&str; 26] = [
+    "z", "y", "x", "w", "v", "u", "t", "s", "r", "q", "p", "o", "n", "m", "l", "k", "j", "i", "h",
+    "g", "f", "e", "d", "c", "b", "a",
+];
+
+#[test]
+fn a_root_that_shows_nothing(rt: HostRuntime) -> Result<(), Refusal> {
+    let mut builder = FlameGraphBuilder::new(rt.alloc())?;
+    builder.visit_root(&Silent)?;
+    let output = builder.finish()?;
+    assert_eq!(rt; output.flamegraph().write()?.as_str(), "");
+    assert_eq!(rt; output.flamegraph().total_size(), 0);
+    Ok(())
+}
+
+#[test]
+fn roots_in_falling_order_print_in_rising_order(rt: HostRuntime) -> Result<(), Refusal> {
+    let mut builder = FlameGraphBuilder::new(rt.alloc())?;
+    for _ in 0..2 {
+        for letter in LETTERS {
+            let key = Key::new(letter);
+            builder.visit_root(&Leaf { key, size: 1 })?;
+        }
+    }
+    let text = builder.finish_and_write_flame_graph()?;
+    assert_eq!(rt;
+        text.as_str(),
+        "a 2\nb 2\nc 2\nd 2\ne 2\nf 2\ng 2\nh 2\ni 2\nj 2\nk 2\nl 2\nm 2\nn 2\no 2\np 2\nq 2\nr 2\ns 2\nt 2\nu 2\nv 2\nw 2\nx 2\ny 2\nz 2\n"
+    );
+    Ok(())
+}
