@@ -121,7 +121,7 @@ impl Tree {
             let key = &self.nodes[child].key;
             keys.push(key.as_str())?;
             let below = self.make(child, keys, text)?;
-            graph.add_child(key.again(), below)?;
+            graph.add_child(key.copy(), below)?;
             let _ = keys.pop();
         }
         Ok(graph)

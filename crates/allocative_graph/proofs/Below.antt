@@ -1,9 +1,9 @@
 -- What the paths one key below a path sum to.
-use Rattle.std.proofs.Common.{◌≡◌, ℕ, ◌+◌, Bool, true, false, cond, ◌&&◌, T, List, [], ◌∷◌, ◌++◌, Some, None, refl, ap, sym, ◌∙◌, subst, sum_by, arith, Ordering, Less, Equal, Greater}
+use Rattle.std.proofs.Common.{◌≡◌, ℕ, ◌+◌, Bool, true, false, cond, ◌&&◌, T, List, [], ◌∷◌, Some, None, refl, ap, sym, ◌∙◌, subst, sum_by, arith, Ordering, Less, Equal, Greater}
 use Rattle.std.specs.Ordering.{is_eq, is_lt}
 use Rattle.std.specs.FinMap.{entries, empty, entries_sorted}
 use Rattle.std.specs.FinMap.Entries.{put, find, is_sorted, below_all, by_order}
-use Rattle.std.proofs.lemmas.List.Sums.{sum_by-cons, sum_by-append}
+use Rattle.std.proofs.lemmas.List.Sums.{sum_by-cons}
 use Rattle.allocative_graph.specs.Path.{Path, path_cmp, is_one_below}
 use Rattle.allocative_graph.specs.Forest.{Entry, Bag}
 pub use Rattle.allocative_graph.specs.Sums.{below_in}
@@ -88,6 +88,3 @@ below-add_all s (e ∷ b) p = below-add_all (add s e) b p ∙ ap (λ n. n + belo
 
 pub below-sums_of : (b : Bag) (p : Path) → below (sums_of b) p ≡ below_in b p
 below-sums_of b p = below-add_all empty b p ∙ ap (λ es. below_list es p + below_in b p) entries-empty ∙ (let r : (n : ℕ) → 0 + n ≡ n = λ n. omega arith in r (below_in b p))
-
-pub below_in-append : (b c : Bag) (p : Path) → below_in (b ++ c) p ≡ below_in b p + below_in c p
-below_in-append b c p = sum_by-append (λ e. cond (is_one_below p e.path) e.size 0) b c

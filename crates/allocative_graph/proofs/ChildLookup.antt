@@ -1,21 +1,21 @@
 -- The sizes in a node's graph are its own and those under its children's keys.
-use Rattle.std.proofs.Common.{◌≡◌, ℕ, ◌+◌, Bool, true, false, cond, List, [], ◌∷◌, ◌++◌, Option, Some, None, refl, sym, ap, subst, ◌∙◌, arith}
+use Rattle.std.proofs.Common.{◌≡◌, ℕ, ◌+◌, Bool, true, false, cond, List, [], ◌∷◌, ◌++◌, Option, Some, None, refl, sym, ap, ◌∙◌}
 use Rattle.std.specs.declared.cmp.Ordering.{Ordering}
 use Rattle.std.specs.declared.cmp.Ordering.TheVariants.{Less, Equal, Greater}
 use Rattle.std.specs.Ordering.{eq_by_cmp, is_eq, ordering_then}
 use Rattle.std.specs.List.Sorted.{IsStrictlySortedBy}
-use Rattle.std.specs.FinMap.{FinMap, get, entries, from_entries, same_entries_map, get-from_sorted, get-entries}
+use Rattle.std.specs.FinMap.{get, entries, from_entries, same_entries_map, get-from_sorted, get-entries}
 use Rattle.std.proofs.lemmas.List.{append-nil}
 use Rattle.std.specs.FinMap.Entries.{find}
 use Rattle.allocative_graph.specs.declared.flamegraph.Child.{Child}
 use Rattle.allocative_graph.specs.Graph.{under}
 use Rattle.allocative_graph.specs.Parts.{under_rows, IsSum, IsPartOfSum}
-use Rattle.allocative_graph.specs.Path.{key_cmp, path_cmp}
+use Rattle.allocative_graph.specs.Path.{Key, Path, key_cmp, path_cmp}
 use Rattle.allocative_graph.specs.Node.{node, rows_of}
 use Rattle.allocative_graph.specs.NodeRows.{node_sorted, entries-node}
 use Rattle.allocative_graph.proofs.Listing.{entries-from_entries-sorted}
 use Rattle.allocative_graph.specs.Children.{size_under, AreSum, ArePartOfSum, InOrder}
-use Rattle.allocative_graph.proofs.ChildSums.{lacks-above, lacks-same, under-lacks, Part-from_sum}
+use Rattle.allocative_graph.proofs.ChildSizes.{none_above, part_of_sum}
 
 -- the first, or else the second
 abbrev or_else : Option ℕ → Option ℕ → Option ℕ
@@ -37,14 +37,14 @@ tied Equal r e = refl
 tied Greater r e = absurd (cc)
 
 -- under another key nothing is found
-find-other : (k l : List ℕ) (p : List (List ℕ)) (rs rest : List (List (List ℕ) × ℕ)) → eq_by_cmp key_cmp k l ≡ false
+find-other : (k l : Key) (p : Path) (rs rest : List (Path × ℕ)) → eq_by_cmp key_cmp k l ≡ false
     → find path_cmp (k ∷ p) (under_rows l rs ++ rest) ≡ find path_cmp (k ∷ p) rest
 find-other k l p [] rest e = refl
 find-other k l p (r ∷ rs) rest e =
     ap (λ b. cond b (Some r.1) (find path_cmp (k ∷ p) (under_rows l rs ++ rest))) (not_tied (key_cmp k l) (path_cmp p r.0) e) ∙ find-other k l p rs rest e
 
 -- under the same key it is as without the key
-find-same : (k l : List ℕ) (p : List (List ℕ)) (rs rest : List (List (List ℕ) × ℕ)) → eq_by_cmp key_cmp k l ≡ true
+find-same : (k l : Key) (p : Path) (rs rest : List (Path × ℕ)) → eq_by_cmp key_cmp k l ≡ true
     → find path_cmp (k ∷ p) (under_rows l rs ++ rest) ≡ or_else (find path_cmp p rs) (find path_cmp (k ∷ p) rest)
 find-same k l p [] rest e = refl
 find-same k l p (r ∷ rs) rest e =
@@ -56,7 +56,7 @@ find-same k l p (r ∷ rs) rest e =
     past true x y n = refl
     past false x y n = refl
 
-pub find-rows : (cs : List Child) (k : List ℕ) (p : List (List ℕ)) → InOrder cs → find path_cmp (k ∷ p) (rows_of cs) ≡ size_under cs k p
+pub find-rows : (cs : List Child) (k : Key) (p : Path) → InOrder cs → find path_cmp (k ∷ p) (rows_of cs) ≡ size_under cs k p
 unfolding IsStrictlySortedBy
 find-rows [] k p h = refl
 find-rows (c ∷ cs) k p h = go (eq_by_cmp key_cmp k c.key) refl (find-rows cs k p h.1)
@@ -65,7 +65,7 @@ find-rows (c ∷ cs) k p h = go (eq_by_cmp key_cmp k c.key) refl (find-rows cs k
         → find path_cmp (k ∷ p) (rows_of (c ∷ cs)) ≡ cond (eq_by_cmp key_cmp k c.key) (get c.graph p) (size_under cs k p)
     go true e r =
         find-same k c.key p (entries c.graph) (rows_of cs) e
-        ∙ ap (λ o. or_else (find path_cmp p (entries c.graph)) o) (r ∙ under-lacks cs k p (lacks-same k c.key cs e (lacks-above c.key cs h.0)))
+        ∙ ap (λ o. or_else (find path_cmp p (entries c.graph)) o) (r ∙ none_above k c.key p cs e h.0)
         ∙ or_else-none _
         ∙ sym (get-entries c.graph p)
         ∙ ap (λ b. cond b (get c.graph p) (size_under cs k p)) (sym e)
@@ -75,7 +75,7 @@ find-rows (c ∷ cs) k p h = go (eq_by_cmp key_cmp k c.key) refl (find-rows cs k
 pub get-root : (n : ℕ) (cs : List Child) → InOrder cs → get (node n cs) [] ≡ Some n
 get-root n cs h = get-from_sorted path_cmp (([], n) ∷ rows_of cs) [] (node_sorted n cs h)
 
-pub get-under : (n : ℕ) (cs : List Child) (k : List ℕ) (p : List (List ℕ)) → InOrder cs → get (node n cs) (k ∷ p) ≡ size_under cs k p
+pub get-under : (n : ℕ) (cs : List Child) (k : Key) (p : Path) → InOrder cs → get (node n cs) (k ∷ p) ≡ size_under cs k p
 get-under n cs k p h = get-from_sorted path_cmp (([], n) ∷ rows_of cs) (k ∷ p) (node_sorted n cs h) ∙ find-rows cs k p h
 
 -- nodes add up where their own sizes and their children do
@@ -84,27 +84,11 @@ node_sum m n cs ds es a b c s [] = rw (get-root m cs a, get-root n ds b, get-roo
 node_sum m n cs ds es a b c s (k ∷ p) = rw (get-under m cs k p a, get-under n ds k p b, get-under (m + n) es k p c) (s k p)
 
 pub node_part : (m n : ℕ) (cs ds es : List Child) → InOrder cs → InOrder ds → InOrder es → ArePartOfSum cs ds es → IsPartOfSum (node m cs) (node n ds) (node (m + n) es)
-node_part m n cs ds es a b c s [] = rw (get-root m cs a, get-root n ds b, get-root (m + n) es c) (Part-from_sum (Some m) (Some n) (Some (m + n)) (refl, refl))
+node_part m n cs ds es a b c s [] = rw (get-root m cs a, get-root n ds b, get-root (m + n) es c) (part_of_sum (Some m) (Some n) (Some (m + n)) (refl, refl))
 node_part m n cs ds es a b c s (k ∷ p) = rw (get-under m cs k p a, get-under n ds k p b, get-under (m + n) es k p c) (s k p)
 
-one_in_order : (c : Child) → InOrder (c ∷ [])
-unfolding IsStrictlySortedBy
-one_in_order c = (tt, tt)
-
--- the graph with a key before each path is that of a node with one child
-pub node_of_one : (c : Child) → node 0 (c ∷ []) ≡ under c.key c.graph
-node_of_one c =
-    same_entries_map _ _ (entries-node 0 (c ∷ []) (one_in_order c) ∙ sym (entries-from_entries-sorted (([], 0) ∷ rows_of (c ∷ [])) (node_sorted 0 (c ∷ []) (one_in_order c))))
+-- The graph with a key before each path is that of a node with one child.
+pub node_of_one : (c : Child) → InOrder (c ∷ []) → node 0 (c ∷ []) ≡ under c.key c.graph
+node_of_one c o =
+    same_entries_map _ _ (entries-node 0 (c ∷ []) o ∙ sym (entries-from_entries-sorted (([], 0) ∷ rows_of (c ∷ [])) (node_sorted 0 (c ∷ []) o)))
     ∙ ap (λ rs. from_entries (([], 0) ∷ rs)) (append-nil (under_rows c.key (entries c.graph)))
-
-pub child_sum : (m : ℕ) (cs es : List Child) (c : Child) → InOrder cs → InOrder es → AreSum cs (c ∷ []) es → IsSum (node m cs) (under c.key c.graph) (node m es)
-child_sum m cs es c a b s =
-    let all : IsSum (node m cs) (node 0 (c ∷ [])) (node (m + 0) es) = node_sum m 0 cs (c ∷ []) es a (one_in_order c) b s in
-    let zero_more : m + 0 ≡ m = omega arith in
-    subst (λ k. IsSum (node m cs) (under c.key c.graph) (node k es)) zero_more (subst (λ h. IsSum (node m cs) h (node (m + 0) es)) (node_of_one c) all)
-
-pub child_part : (m : ℕ) (cs es : List Child) (c : Child) → InOrder cs → InOrder es → ArePartOfSum cs (c ∷ []) es → IsPartOfSum (node m cs) (under c.key c.graph) (node m es)
-child_part m cs es c a b s =
-    let all : IsPartOfSum (node m cs) (node 0 (c ∷ [])) (node (m + 0) es) = node_part m 0 cs (c ∷ []) es a (one_in_order c) b s in
-    let zero_more : m + 0 ≡ m = omega arith in
-    subst (λ k. IsPartOfSum (node m cs) (under c.key c.graph) (node k es)) zero_more (subst (λ h. IsPartOfSum (node m cs) h (node (m + 0) es)) (node_of_one c) all)

@@ -1,7 +1,5 @@
--- Children in the order of their keys.
-use Rattle.std.proofs.Common.{◌≡◌, ℕ, zero, suc, ◌+◌, ◌<◌, List, [], ◌∷◌, ◌++◌, take, drop, length, get_or, sym, ap, subst, ◌∙◌, arith}
-use Rattle.std.proofs.lemmas.List.{take_more, map-append, take-append-drop}
-use Rattle.std.proofs.Math.Seq.{drop-cons}
+-- Children in the order of their keys: what order says of the parts of a list.
+use Rattle.std.proofs.Common.{◌≡◌, ℕ, zero, suc, ◌<◌, List, [], ◌∷◌, ◌++◌, length, get_or, ap, ◌∙◌, arith}
 use Rattle.std.specs.List.{AllByRecursion}
 use Rattle.std.specs.List.Sorted.{IsStrictlySortedBy}
 use Rattle.std.specs.declared.cmp.Ordering.TheVariants.{Less, Equal, Greater}
@@ -9,103 +7,77 @@ use Rattle.std.specs.Ordering.{ordering_reverse}
 use Rattle.std.specs.Cmp.Lexicographic.{nat_list_cmp_total}
 use Rattle.std.specs.FinMap.{nat_cmp-IsAntisymmetric, slice_cmp-IsAntisymmetric}
 use Rattle.allocative_graph.specs.declared.flamegraph.Child.{Child}
-use Rattle.allocative_graph.specs.Path.{key_cmp}
-use Rattle.allocative_graph.specs.Node.{keys_of}
-use Rattle.allocative_graph.specs.Children.{InOrder, AllBelow, AllAbove, IsGap}
+use Rattle.allocative_graph.specs.Path.{Key, key_cmp}
+use Rattle.allocative_graph.specs.Graph.{IsTree}
+use Rattle.allocative_graph.specs.Node.{keys_of, AreChildren}
+use Rattle.allocative_graph.specs.Children.{InOrder, AllBelow, AllAbove}
 
-pub key_same : (k l : List ℕ) → key_cmp k l ≡ Equal → k ≡ l
+pub key_same : (k l : Key) → key_cmp k l ≡ Equal → k ≡ l
 key_same = slice_cmp-IsAntisymmetric nat_cmp-IsAntisymmetric
 
-pub key_turn : (k l : List ℕ) → key_cmp k l ≡ Greater → key_cmp l k ≡ Less
+pub key_turn : (k l : Key) → key_cmp k l ≡ Greater → key_cmp l k ≡ Less
 key_turn k l h = nat_list_cmp_total.antisymm l k ∙ ap ordering_reverse h
 
-pub key_trans : (k l m : List ℕ) → key_cmp k l ≡ Less → key_cmp l m ≡ Less → key_cmp k m ≡ Less
+pub key_trans : (k l m : Key) → key_cmp k l ≡ Less → key_cmp l m ≡ Less → key_cmp k m ≡ Less
 key_trans = nat_list_cmp_total.trans
 
-pub all-append : (P : List ℕ → Type 0) (a b : List (List ℕ)) → AllByRecursion P a → AllByRecursion P b → AllByRecursion P (a ++ b)
-all-append P [] b p q = q
-all-append P (k ∷ a) b p q = (p.0, all-append P a b p.1 q)
-
-pub all_weaker : (P Q : List ℕ → Type 0) (a : List (List ℕ)) → ((k : List ℕ) → P k → Q k) → AllByRecursion P a → AllByRecursion Q a
+all_weaker : (P Q : Key → Type 0) (ks : List Key) → ((k : Key) → P k → Q k) → AllByRecursion P ks → AllByRecursion Q ks
 all_weaker P Q [] f p = tt
-all_weaker P Q (k ∷ a) f p = (f k p.0, all_weaker P Q a f p.1)
+all_weaker P Q (k ∷ ks) f p = (f k p.0, all_weaker P Q ks f p.1)
 
--- one more child below k
-pub below_more : (cs : List Child) (i : ℕ) (d : Child) (k : List ℕ) → i < length cs → AllBelow (take i cs) k → key_cmp (get_or cs i d).key k ≡ Less → AllBelow (take (i + 1) cs) k
-below_more cs i d k h p q =
-    rw (take_more cs i d h, map-append (λ (c : Child). c.key) (take i cs) (get_or cs i d ∷ [])) (all-append (λ l. key_cmp l k ≡ Less) (keys_of (take i cs)) _ p (q, tt))
-
-pub in_order-drop : (i : ℕ) (cs : List Child) → InOrder cs → InOrder (drop i cs)
+-- ---- the first child, and those after it
+pub first_below : (c : Child) (cs : List Child) → AreChildren (c ∷ cs) → AllAbove cs c.key
 unfolding IsStrictlySortedBy
-in_order-drop zero cs h = h
-in_order-drop (suc i) [] h = tt
-in_order-drop (suc i) (c ∷ cs) h = in_order-drop i cs h.1
+first_below c cs h = h.sorted.0
 
--- all later children are above k, where the next one is
-above_from : (cs : List Child) (x : Child) (rest : List Child) (k : List ℕ) → cs ≡ x ∷ rest → InOrder cs → key_cmp x.key k ≡ Greater → AllAbove cs k
+pub first_tree : (c : Child) (cs : List Child) → AreChildren (c ∷ cs) → IsTree c.graph
+first_tree c cs h = h.trees.0
+
+pub others : (c : Child) (cs : List Child) → AreChildren (c ∷ cs) → AreChildren cs
 unfolding IsStrictlySortedBy
-above_from cs x rest k e o g =
-    let o2 : InOrder (x ∷ rest) = subst InOrder e o in
-    let l : key_cmp k x.key ≡ Less = key_turn x.key k g in
-    subst (λ s. AllAbove s k) (sym e) (l, all_weaker (λ m. key_cmp x.key m ≡ Less) (λ m. key_cmp k m ≡ Less) (keys_of rest) (λ m q. key_trans k x.key m l q) o2.0)
+others c cs h = record { sorted = h.sorted.1; trees = h.trees.1 }
 
-pub is_gap : (cs : List Child) (k : List ℕ) (i : ℕ) (d : Child) → i < length cs → InOrder cs → AllBelow (take i cs) k → key_cmp (get_or cs i d).key k ≡ Greater → IsGap cs k i
-is_gap cs k i d h o p g = record {
-  within = omega arith;
-  below = p;
-  above = above_from (drop i cs) (get_or cs i d) _ k (drop-cons cs i d h) (in_order-drop i cs o) g;
-}
-
--- ---- a child put in its place
-
-all-insert : (P : List ℕ → Type 0) (a b : List Child) (c : Child) → AllByRecursion P (keys_of (a ++ b)) → P c.key → AllByRecursion P (keys_of (a ++ c ∷ b))
-all-insert P [] b c h q = (q, h)
-all-insert P (x ∷ a) b c h q = (h.0, all-insert P a b c h.1 q)
-
-pub in_order-insert : (a b : List Child) (c : Child) → InOrder (a ++ b) → AllBelow a c.key → AllAbove b c.key → InOrder (a ++ c ∷ b)
+pub no_children : AreChildren []
 unfolding IsStrictlySortedBy
-in_order-insert [] b c h p q = (q, h)
-in_order-insert (x ∷ a) b c h p q = (all-insert (λ l. key_cmp x.key l ≡ Less) a b c h.0 p.0, in_order-insert a b c h.1 p.1 q)
+no_children = record { sorted = tt; trees = tt }
 
-keys-set : (a b : List Child) (x y : Child) → y.key ≡ x.key → keys_of (a ++ y ∷ b) ≡ keys_of (a ++ x ∷ b)
-keys-set [] b x y e = ap (λ k. k ∷ keys_of b) e
-keys-set (z ∷ a) b x y e = ap (λ ks. z.key ∷ ks) (keys-set a b x y e)
+pub one_child : (c : Child) → IsTree c.graph → AreChildren (c ∷ [])
+unfolding IsStrictlySortedBy
+one_child c t = record { sorted = (tt, tt); trees = (t, tt) }
 
-pub in_order-set : (a b : List Child) (x y : Child) → y.key ≡ x.key → InOrder (a ++ x ∷ b) → InOrder (a ++ y ∷ b)
-in_order-set a b x y e h = subst (λ ks. IsStrictlySortedBy key_cmp ks) (sym (keys-set a b x y e)) h
+pub with_first : (c : Child) (cs : List Child) → AllAbove cs c.key → IsTree c.graph → AreChildren cs → AreChildren (c ∷ cs)
+unfolding IsStrictlySortedBy
+with_first c cs above t h = record { sorted = (above, h.sorted); trees = (t, h.trees) }
 
--- ---- what stands before and after a child
+-- What is below the first child is below all.
+pub above_all : (k : Key) (c : Child) (cs : List Child) → key_cmp k c.key ≡ Less → AreChildren (c ∷ cs) → AllAbove (c ∷ cs) k
+above_all k c cs less h = (less, all_weaker (λ l. key_cmp c.key l ≡ Less) (λ l. key_cmp k l ≡ Less) (keys_of cs) (λ l q. key_trans k c.key l less q) (first_below c cs h))
 
-all-at : (P : List ℕ → Type 0) (a b : List Child) (x : Child) → AllByRecursion P (keys_of (a ++ x ∷ b)) → P x.key
+-- ---- a child in the middle
+all-at : (P : Key → Type 0) (a b : List Child) (x : Child) → AllByRecursion P (keys_of (a ++ x ∷ b)) → P x.key
 all-at P [] b x h = h.0
 all-at P (y ∷ a) b x h = all-at P a b x h.1
 
-pub below_of : (a b : List Child) (x : Child) → InOrder (a ++ x ∷ b) → AllBelow a x.key
+-- The first child is below one in the middle.
+pub first_below_one : (c : Child) (a b : List Child) (x : Child) → AreChildren (c ∷ (a ++ x ∷ b)) → key_cmp c.key x.key ≡ Less
+first_below_one c a b x h = all-at (λ l. key_cmp c.key l ≡ Less) a b x (first_below c (a ++ x ∷ b) h)
+
+-- ---- the last child, and neighbors
+-- Where the last is below k, all are.
+pub below_last : (cs : List Child) (k : Key) (n : ℕ) (d : Child) → length cs ≡ suc n → InOrder cs → key_cmp (get_or cs n d).key k ≡ Less → AllBelow cs k
 unfolding IsStrictlySortedBy
-below_of [] b x h = tt
-below_of (y ∷ a) b x h = (all-at (λ l. key_cmp y.key l ≡ Less) a b x h.0, below_of a b x h.1)
+below_last [] k n d len o less = absurd (omega arith)
+below_last (c ∷ []) k zero d len o less = (less, tt)
+below_last (c ∷ []) k (suc n) d len o less = absurd (omega arith)
+below_last (c ∷ e ∷ cs) k zero d len o less = absurd (omega arith)
+below_last (c ∷ e ∷ cs) k (suc n) d len o less =
+    let rest = below_last (e ∷ cs) k n d (omega arith) o.1 less in
+    (key_trans c.key e.key k o.0.0 rest.0, rest)
 
-pub above_of : (a b : List Child) (x : Child) → InOrder (a ++ x ∷ b) → AllAbove b x.key
+-- Each child is below the next one.
+pub neighbors : (cs : List Child) (i : ℕ) (d : Child) → InOrder cs → suc i < length cs → key_cmp (get_or cs i d).key (get_or cs (suc i) d).key ≡ Less
 unfolding IsStrictlySortedBy
-above_of [] b x h = h.0
-above_of (y ∷ a) b x h = above_of a b x h.1
-
-pub in_order-tail : (a b : List Child) → InOrder (a ++ b) → InOrder b
-unfolding IsStrictlySortedBy
-in_order-tail [] b h = h
-in_order-tail (x ∷ a) b h = in_order-tail a b h.1
-
--- all below k are below what is above k
-pub below_greater : (cs : List Child) (k l : List ℕ) → key_cmp k l ≡ Less → AllBelow cs k → AllBelow cs l
-below_greater cs k l h p = all_weaker (λ m. key_cmp m k ≡ Less) (λ m. key_cmp m l ≡ Less) (keys_of cs) (λ m q. key_trans m k l q h) p
-
--- where the last is below k, all are
-pub below_behind : (cs : List Child) (k : List ℕ) (n : ℕ) (d : Child) → length cs ≡ suc n → InOrder cs → key_cmp (get_or cs n d).key k ≡ Less → AllBelow (take (length cs) cs) k
-below_behind cs k n d len o less =
-    let x = get_or cs n d in
-    let within : n < length cs = omega arith in
-    let split : cs ≡ take n cs ++ x ∷ drop (suc n) cs = sym (take-append-drop n cs) ∙ ap (λ s. take n cs ++ s) (drop-cons cs n d within) in
-    let before : AllBelow (take n cs) x.key = below_of (take n cs) (drop (suc n) cs) x (subst InOrder split o) in
-    let more = below_more cs n d k within (below_greater (take n cs) x.key k less before) less in
-    let same : n + 1 ≡ length cs = omega arith in
-    subst (λ m. AllBelow (take m cs) k) same more
+neighbors [] i d o h = absurd (omega arith)
+neighbors (c ∷ []) i d o h = absurd (omega arith)
+neighbors (c ∷ e ∷ cs) zero d o h = o.0.0
+neighbors (c ∷ e ∷ cs) (suc i) d o h = neighbors (e ∷ cs) i d o.1 (omega arith)

@@ -1,79 +1,62 @@
--- What `put` leaves, where the key was found, and where it was not.
-use Rattle.std.proofs.Common.{◌≡◌, ℕ, ◌+◌, ◌≤◌, suc, List, [], ◌∷◌, ◌++◌, take, drop, set, get_or, sym, ap, subst, ◌∙◌, arith, Result, Ok, Err}
-use Rattle.std.specs.Prelude.{OnErr}
+-- A child put among others: added to the one that has its key, or in its place.
+use Rattle.std.proofs.Common.{◌≡◌, ℕ, ◌+◌, ◌≤◌, ◌&&◌, Bool, true, false, suc, List, [], ◌∷◌, ◌++◌, take, drop, set, get_or, refl, sym, ap, subst, ◌∙◌, arith}
 use Rattle.std.proofs.lemmas.List.{take-append-drop}
+use Rattle.std.specs.declared.cmp.Ordering.TheVariants.{Less}
 use Rattle.allocative_graph.specs.declared.flamegraph.Child.{Child}
-use Rattle.allocative_graph.specs.Graph.{total}
-use Rattle.allocative_graph.specs.Parts.{IsSum, IsPartOfSum}
-use Rattle.allocative_graph.specs.Children.{AreSum, ArePartOfSum, InOrder, IsFound, IsGap}
-use Rattle.allocative_graph.proofs.ChildOrder.{in_order-set, in_order-insert}
-use Rattle.allocative_graph.proofs.ChildSums.{lacks-below, lacks-above, set_sum, set_part, insert_sum}
-use Rattle.allocative_graph.specs.Node.{AllClosed}
-use Rattle.allocative_graph.specs.Graph.{IsTree}
-use Rattle.allocative_graph.proofs.ChildClosed.{closed-set}
-use Rattle.allocative_graph.proofs.ChildRows.{weight, weight-split, weight-append, split_at_place, set_at_place}
+use Rattle.allocative_graph.specs.Path.{Key, key_cmp}
+use Rattle.allocative_graph.specs.Graph.{IsTree, total}
+use Rattle.allocative_graph.specs.Node.{weight, AreChildren}
+use Rattle.allocative_graph.specs.Children.{IsFound, IsGap, AllBelow, AllAbove}
+use Rattle.allocative_graph.specs.Merged.{Added, Merged}
+use Rattle.allocative_graph.proofs.ChildOrder.{first_below, first_below_one, first_tree, others}
+use Rattle.allocative_graph.proofs.ChildMerged.{merged_first, merged_second, merged_both, merged_same}
+use Rattle.allocative_graph.proofs.ChildRows.{weight-split, weight-append, split_at_place, set_at_place}
 
--- x stands at i, under the key of c, and y takes its place
-pub record Changed (cs : List Child) (i : ℕ) (c x y : Child) : Type 0 where
-  pub found : IsFound cs c.key i
-  pub there : x ≡ get_or cs i x
-  pub same_key : y.key ≡ x.key
+inserted : (a b : List Child) (c : Child) → AreChildren (a ++ b) → IsTree c.graph → AllBelow a c.key → AllAbove b c.key → Merged true (a ++ b) (c ∷ []) (a ++ c ∷ b)
+inserted [] b c h t below above = merged_second true c b [] b (merged_same b h) t above tt
+inserted (x ∷ a) b c h t below above =
+    merged_first true x (a ++ b) (c ∷ []) (a ++ c ∷ b) (inserted a b c (others x (a ++ b) h) t below.1 above) (first_tree x (a ++ b) h) (first_below x (a ++ b) h) (below.0, tt)
 
-pub changed_at : {ds cs : List Child} {i : ℕ} {c x y : Child} → ds ≡ cs → IsFound ds c.key i → x ≡ get_or cs i x → y.key ≡ x.key → Changed cs i c x y
-changed_at {i = i} {c = c} e f t k = record { found = subst (λ s. IsFound s c.key i) e f; there = t; same_key = k }
+and_true : (b : Bool) → (b && true) ≡ b
+and_true true = refl
+and_true false = refl
 
-module _ (cs : List Child) (i : ℕ) (c x y : Child) (h : Changed cs i c x y) where
-  key_of_x : x.key ≡ c.key
-  key_of_x = ap (λ (z : Child). z.key) h.there ∙ h.found.same x
+changed : (all : Bool) (a b : List Child) (x c y : Child) → AreChildren (a ++ x ∷ b) → c.key ≡ x.key → y.key ≡ x.key → Added all x.graph c.graph y.graph → Merged all (a ++ x ∷ b) (c ∷ []) (a ++ y ∷ b)
+changed all [] b x c y h same_c same_y g =
+    subst (λ (v : Bool). Merged v (x ∷ b) (c ∷ []) (y ∷ b)) (and_true all) (merged_both all true x c y b [] b (merged_same b (others x b h)) same_c same_y g (first_below x b h) tt)
+changed all (z ∷ a) b x c y h same_c same_y g =
+    let rest = others z (a ++ x ∷ b) h in
+    let less : key_cmp z.key c.key ≡ Less = subst (λ (k : Key). key_cmp z.key k ≡ Less) (sym same_c) (first_below_one z a b x h) in
+    merged_first all z (a ++ x ∷ b) (c ∷ []) (a ++ y ∷ b) (changed all a b x c y rest same_c same_y g) (first_tree z (a ++ x ∷ b) h) (first_below z (a ++ x ∷ b) h) (less, tt)
 
+-- ---- the key of c was found at i, where x stands; y takes its place
+module _ (cs : List Child) (i : ℕ) (c x y : Child) (found : IsFound cs c.key i) (there : x ≡ get_or cs i x) where
   was : cs ≡ take i cs ++ x ∷ drop (suc i) cs
-  was = split_at_place cs i x h.found.within ∙ ap (λ z. take i cs ++ z ∷ drop (suc i) cs) (sym h.there)
+  was = split_at_place cs i x found.within ∙ ap (λ z. take i cs ++ z ∷ drop (suc i) cs) (sym there)
 
   now : set cs i y ≡ take i cs ++ y ∷ drop (suc i) cs
-  now = set_at_place cs i y h.found.within
+  now = set_at_place cs i y found.within
 
-  pub changed_order : InOrder cs → InOrder (set cs i y)
-  changed_order o = subst InOrder (sym now) (in_order-set (take i cs) (drop (suc i) cs) x y h.same_key (subst InOrder was o))
+  pub put_at_found : (all : Bool) → AreChildren cs → y.key ≡ x.key → Added all x.graph c.graph y.graph → Merged all cs (c ∷ []) (set cs i y)
+  put_at_found all h same_y g =
+      let same_c : c.key ≡ x.key = sym (found.same x) ∙ ap (λ (z : Child). z.key) (sym there) in
+      subst (λ (X : Type 0). X) (λ j. Merged all (sym was j) (c ∷ []) (sym now j)) (changed all (take i cs) (drop (suc i) cs) x c y (subst AreChildren was h) same_c same_y g)
 
-  pub changed_sum : IsSum x.graph c.graph y.graph → AreSum cs (c ∷ []) (set cs i y)
-  changed_sum s =
-      let l = lacks-below c.key (take i cs) h.found.below in
-      subst (λ es. AreSum cs (c ∷ []) es) (sym now)
-      (subst (λ ds. AreSum ds (c ∷ []) (take i cs ++ y ∷ drop (suc i) cs)) (sym was) (set_sum (take i cs) (drop (suc i) cs) x c y key_of_x h.same_key l s))
-
-  pub changed_part : IsPartOfSum x.graph c.graph y.graph → ArePartOfSum cs (c ∷ []) (set cs i y)
-  changed_part s =
-      let l = lacks-below c.key (take i cs) h.found.below in
-      subst (λ es. ArePartOfSum cs (c ∷ []) es) (sym now)
-      (subst (λ ds. ArePartOfSum ds (c ∷ []) (take i cs ++ y ∷ drop (suc i) cs)) (sym was) (set_part (take i cs) (drop (suc i) cs) x c y key_of_x h.same_key l s))
-
-  pub changed_weight : weight (set cs i y) + total x.graph ≡ weight cs + total y.graph
-  changed_weight =
+  pub weight_at_found : weight (set cs i y) + total x.graph ≡ weight cs + total y.graph
+  weight_at_found =
       omega (arith, ap weight now ∙ weight-split (take i cs) (drop (suc i) cs) y, ap weight was ∙ weight-split (take i cs) (drop (suc i) cs) x)
 
-  pub changed_closed : AllClosed cs → IsTree y.graph → AllClosed (set cs i y)
-  changed_closed a q = closed-set cs i x y was now a q
+  pub weight_of_found : total x.graph ≤ weight cs
+  weight_of_found = omega (arith, ap weight was ∙ weight-split (take i cs) (drop (suc i) cs) x)
 
-  pub weight_of_one : total x.graph ≤ weight cs
-  weight_of_one = omega (arith, ap weight was ∙ weight-split (take i cs) (drop (suc i) cs) x)
-
-module _ (cs : List Child) (i : ℕ) (c : Child) (h : IsGap cs c.key i) where
+-- ---- the key of c was not found, and belongs at i
+module _ (cs : List Child) (i : ℕ) (c : Child) (gap : IsGap cs c.key i) where
   parts : cs ≡ take i cs ++ drop i cs
   parts = sym (take-append-drop i cs)
 
-  pub inserted_order : InOrder cs → InOrder (take i cs ++ c ∷ drop i cs)
-  inserted_order o = in_order-insert (take i cs) (drop i cs) c (subst InOrder parts o) h.below h.above
+  pub put_at_gap : AreChildren cs → IsTree c.graph → Merged true cs (c ∷ []) (take i cs ++ c ∷ drop i cs)
+  put_at_gap h t =
+      subst (λ (ds : List Child). Merged true ds (c ∷ []) (take i cs ++ c ∷ drop i cs)) (sym parts) (inserted (take i cs) (drop i cs) c (subst AreChildren parts h) t gap.below gap.above)
 
-  pub inserted_sum : AreSum cs (c ∷ []) (take i cs ++ c ∷ drop i cs)
-  inserted_sum =
-      subst (λ ds. AreSum ds (c ∷ []) (take i cs ++ c ∷ drop i cs)) (sym parts)
-      (insert_sum (take i cs) (drop i cs) c (lacks-below c.key (take i cs) h.below) (lacks-above c.key (drop i cs) h.above))
-
-  pub inserted_weight : weight (take i cs ++ c ∷ drop i cs) ≡ weight cs + total c.graph
-  inserted_weight =
-      omega (arith, weight-split (take i cs) (drop i cs) c, ap weight parts ∙ weight-append (take i cs) (drop i cs))
-
--- what holds anyway holds at an error
-pub on_err_holds : {A B Q : Type 0} (r : Result A B) → Q → OnErr r Q
-on_err_holds (Ok x) q = tt
-on_err_holds (Err e) q = q
+  pub weight_at_gap : weight (take i cs ++ c ∷ drop i cs) ≡ weight cs + total c.graph
+  weight_at_gap = omega (arith, weight-split (take i cs) (drop i cs) c, ap weight parts ∙ weight-append (take i cs) (drop i cs))

@@ -1,26 +1,32 @@
--- The sizes of children, as they are put in their places.
+-- The sizes below some children, added up.
 use Rattle.std.proofs.Common.{◌≡◌, ℕ, ◌+◌, ◌<◌, suc, List, [], ◌∷◌, ◌++◌, take, drop, set, length, get_or, refl, sym, ap, ◌∙◌, arith}
 use Rattle.std.proofs.lemmas.List.{take-append-drop, set_split}
 use Rattle.std.proofs.Math.Seq.{drop-cons}
 use Rattle.std.specs.FinMap.{entries}
 use Rattle.std.proofs.lemmas.Grind.{flat_map-append}
 use Rattle.allocative_graph.specs.declared.flamegraph.Child.{Child}
+use Rattle.allocative_graph.specs.Path.{Key, Path}
 use Rattle.allocative_graph.specs.Graph.{total}
 use Rattle.allocative_graph.proofs.RowSums.{total-rows}
 use Rattle.allocative_graph.specs.Parts.{sum_of_rows, under_rows}
-use Rattle.allocative_graph.specs.Node.{rows_of, rows_of_child}
-pub use Rattle.allocative_graph.specs.Merged.{weight}
+use Rattle.allocative_graph.specs.Node.{rows_of, rows_of_child, weight}
 
-sum-append : (a b : List (List (List ℕ) × ℕ)) → sum_of_rows (a ++ b) ≡ sum_of_rows a + sum_of_rows b
+sum-append : (a b : List (Path × ℕ)) → sum_of_rows (a ++ b) ≡ sum_of_rows a + sum_of_rows b
 sum-append [] b = omega arith
 sum-append (r ∷ a) b = omega (arith, sum-append a b)
 
-sum-under : (k : List ℕ) (rs : List (List (List ℕ) × ℕ)) → sum_of_rows (under_rows k rs) ≡ sum_of_rows rs
+sum-under : (k : Key) (rs : List (Path × ℕ)) → sum_of_rows (under_rows k rs) ≡ sum_of_rows rs
 sum-under k [] = refl
 sum-under k (r ∷ rs) = ap (λ n. r.1 + n) (sum-under k rs)
 
 pub weight-cons : (c : Child) (cs : List Child) → weight (c ∷ cs) ≡ total c.graph + weight cs
 weight-cons c cs = sum-append (rows_of_child c) (rows_of cs) ∙ ap (λ n. n + weight cs) (sum-under c.key (entries c.graph) ∙ sym (total-rows c.graph))
+
+pub weight-one : (c : Child) → weight (c ∷ []) ≡ total c.graph
+weight-one c = weight-cons c [] ∙ zero_after (total c.graph)
+  where
+    zero_after : (n : ℕ) → n + 0 ≡ n
+    zero_after n = omega arith
 
 pub weight-append : (a b : List Child) → weight (a ++ b) ≡ weight a + weight b
 weight-append a b = ap sum_of_rows (flat_map-append rows_of_child a b) ∙ sum-append (rows_of a) (rows_of b)
@@ -28,7 +34,7 @@ weight-append a b = ap sum_of_rows (flat_map-append rows_of_child a b) ∙ sum-a
 pub weight-split : (a b : List Child) (c : Child) → weight (a ++ c ∷ b) ≡ weight a + (total c.graph + weight b)
 weight-split a b c = weight-append a (c ∷ b) ∙ ap (λ n. weight a + n) (weight-cons c b)
 
--- a list by its parts before and after a place, and with another child there
+-- A list by its parts before and after a place, and with another child there.
 pub split_at_place : (cs : List Child) (i : ℕ) (d : Child) → i < length cs → cs ≡ take i cs ++ get_or cs i d ∷ drop (suc i) cs
 split_at_place cs i d h = sym (take-append-drop i cs) ∙ ap (λ s. take i cs ++ s) (drop-cons cs i d h)
 

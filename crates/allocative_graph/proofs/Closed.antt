@@ -97,10 +97,6 @@ pub not_true : (b : Bool) → (IsTrue b → ⊥) → b ≡ false
 not_true true f = absurd (f refl)
 not_true false f = refl
 
-first_key : Key → Path → Key
-first_key d [] = d
-first_key d (k ∷ p) = k
-
 is_empty : Path → Bool
 is_empty [] = true
 is_empty (k ∷ p) = false

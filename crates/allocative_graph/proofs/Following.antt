@@ -67,13 +67,6 @@ fits-both s (Again k n j after) g v w = (v.0, fits-both s after g v.1 w)
 
 -- ---- a set with more identities, of which none is shown
 module _ (more : Identity → Bool) where
-  or_turn : (a b c : Bool) → ((a || b) || c) ≡ ((a || c) || b)
-  or_turn true b c = refl
-  or_turn false true true = refl
-  or_turn false true false = refl
-  or_turn false false true = refl
-  or_turn false false false = refl
-
   or_assoc : (a b c : Bool) → (a || (b || c)) ≡ ((a || b) || c)
   or_assoc true b c = refl
   or_assoc false b c = refl

@@ -18,12 +18,12 @@ pub mod RowSums
 pub mod NodeText
 pub mod NodeSizes
 pub mod ChildOrder
-pub mod ChildSums
+pub mod ChildSearch
+pub mod ChildSizes
+pub mod NodeAdded
 pub mod ChildRows
 pub mod ChildPut
 pub mod ChildLookup
-pub mod ChildMerge
-pub mod ChildClosed
 pub mod OneMeaning
 pub mod ChildMerged
 mod Loans

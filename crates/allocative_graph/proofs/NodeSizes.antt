@@ -1,23 +1,18 @@
--- What a node's graph has.
-use Rattle.std.proofs.Common.{◌≡◌, ℕ, ◌+◌, List, [], ◌∷◌, refl, sym, ap, ◌∙◌, length, arith}
+-- The sizes of a node's graph: at its root, and in all.
+use Rattle.std.proofs.Common.{◌≡◌, ℕ, ◌+◌, List, [], ◌∷◌, sym, ap, ◌∙◌}
 use Rattle.std.specs.List.Sorted.{IsStrictlySortedBy}
-use Rattle.std.specs.Cmp.{IsTotalOrder}
-use Rattle.std.specs.Cmp.Lexicographic.{nat_list_cmp_total}
-use Rattle.std.proofs.lemmas.Cmp.{lists_total}
-use Rattle.std.specs.FinMap.{entries, empty, insert, entries-insert, entries-from_sorted, same_entries_map, get-from_sorted, len-entries, len-empty}
+use Rattle.std.specs.FinMap.{insert, entries-insert, entries-from_sorted, same_entries_map, get-from_sorted}
 use Rattle.std.specs.FinMap.Entries.{put}
 use Rattle.std.specs.Option.{unwrap_or}
 use Rattle.allocative_graph.specs.declared.flamegraph.Child.{Child}
 use Rattle.allocative_graph.specs.Graph.{size_at, total, default}
+use Rattle.allocative_graph.proofs.Basics.{path_total}
 use Rattle.allocative_graph.proofs.RowSums.{total-rows}
 use Rattle.allocative_graph.proofs.Listing.{entries-from_entries-sorted}
 use Rattle.allocative_graph.specs.Parts.{sum_of_rows}
 use Rattle.allocative_graph.specs.Path.{key_cmp, path_cmp}
 use Rattle.allocative_graph.specs.Node.{node, rows_of, keys_of}
 use Rattle.allocative_graph.specs.NodeRows.{entries-node, node_sorted}
-
-pub path_cmp_total : IsTotalOrder path_cmp
-path_cmp_total = lists_total nat_list_cmp_total
 
 -- a node with no children is the root alone
 pub node-nil : node 0 [] ≡ default
@@ -30,7 +25,7 @@ size_at-root n cs h = ap (λ o. unwrap_or o 0) (get-from_sorted path_cmp (([], n
 -- to change a node's own size is to change the size at its root
 pub node-insert : (n m : ℕ) (cs : List Child) → IsStrictlySortedBy key_cmp (keys_of cs) → node m cs ≡ insert (node n cs) [] m
 node-insert n m cs h =
-    same_entries_map _ _ (entries-node m cs h ∙ sym (entries-insert path_cmp_total (node n cs) [] m ∙ ap (put path_cmp [] m) (entries-node n cs h)))
+    same_entries_map _ _ (entries-node m cs h ∙ sym (entries-insert path_total (node n cs) [] m ∙ ap (put path_cmp [] m) (entries-node n cs h)))
 
 pub total-node : (n : ℕ) (cs : List Child) → IsStrictlySortedBy key_cmp (keys_of cs) → total (node n cs) ≡ n + sum_of_rows (rows_of cs)
 total-node n cs h = total-rows (node n cs) ∙ ap sum_of_rows (entries-node n cs h)

@@ -1,5 +1,5 @@
 -- The order of paths: a beginning comes first; else the first keys that differ decide, by the bytes of their texts.
-use Rattle.std.proofs.Common.{◌≡◌, ℕ, ◌↔◌, IsTrue, List, [], ◌∷◌, ◌++◌, refl, ap, sym, ◌∙◌, subst, true≢false, Ordering, Less, Equal, Greater, nat_cmp}
+use Rattle.std.proofs.Common.{◌≡◌, ℕ, ◌↔◌, List, [], ◌∷◌, ◌++◌, refl, ap, sym, ◌∙◌, subst, true≢false, Ordering, Less, Equal, Greater, nat_cmp}
 use Rattle.std.specs.Ordering.{is_lt, ordering_then}
 use Rattle.std.specs.Cmp.Lexicographic.{slice_cmp, nat_list_cmp_total}
 use Rattle.std.specs.Cmp.{nat_cmp_total}
@@ -9,9 +9,6 @@ use Rattle.allocative_graph.specs.Path.{Key, Path, key_cmp, path_cmp, ComesBefor
 use Rattle.allocative_graph.proofs.Basics.{is_eq-Equal}
 
 module _ {X : Type 0} (R : X → X → Ordering) (same : IsAntisymmetric R) (itself : (x : X) → R x x ≡ Equal) where
-  not_less : (r : Ordering) → r ≡ Less → IsTrue (is_lt r)
-  not_less r e = ap is_lt e
-
   before-cons : (x : X) (p q : List X) → ComesBefore R p q → ComesBefore R (x ∷ p) (x ∷ q)
   before-cons x p q (longer k r e) = longer k r (λ i. x ∷ e i)
   before-cons x p q (parts c k l r s d e h) = parts (x ∷ c) k l r s (λ i. x ∷ d i) (λ i. x ∷ e i) h
@@ -44,9 +41,6 @@ nat_itself x = is_eq-Equal _ ((eq_by_cmp_equiv nat_cmp_total).refl x)
 
 pub key_itself : (k : Key) → key_cmp k k ≡ Equal
 key_itself k = is_eq-Equal _ ((eq_by_cmp_equiv nat_list_cmp_total).refl k)
-
-pub key_antisymmetric : IsAntisymmetric key_cmp
-key_antisymmetric = slice_cmp-IsAntisymmetric nat_cmp-IsAntisymmetric
 
 pub path_order : (p q : Path) → (path_cmp p q ≡ Less) ↔ ComesBefore key_cmp p q
 path_order p q = (to_before key_cmp (slice_cmp-IsAntisymmetric nat_cmp-IsAntisymmetric) key_itself p q, from_before key_cmp (slice_cmp-IsAntisymmetric nat_cmp-IsAntisymmetric) key_itself p q)

@@ -1,12 +1,10 @@
--- Totals by rows, sums that are known path by path, and lines by their keys.
-use Rattle.std.proofs.Common.{◌≡◌, ℕ, ◌+◌, ◌<◌, ◌||◌, Bool, true, false, cond, List, [], ◌∷◌, ◌++◌, Option, Some, None, is_some, refl, sym, ap, ◌∙◌, unwrap_or, sum_by, append_assoc, arith}
+-- Totals by rows, sums that are known path by path, and joined keys.
+use Rattle.std.proofs.Common.{◌≡◌, ℕ, ◌+◌, ◌||◌, cond, List, [], ◌∷◌, ◌++◌, Option, Some, None, is_some, refl, sym, ap, ◌∙◌, unwrap_or, sum_by}
 use Rattle.std.specs.FinMap.{get, entries, same_map}
-use Rattle.std.specs.Prelude.{decimal}
 use Rattle.std.proofs.lemmas.List.{append-nil}
-use Rattle.std.proofs.lemmas.Bool.{ne_eqb}
 use Rattle.std.proofs.lemmas.List.Sums.{sum_by-cons}
 use Rattle.allocative_graph.specs.Path.{Key, Path}
-use Rattle.allocative_graph.specs.Graph.{Graph, total, sum_of, joined, line}
+use Rattle.allocative_graph.specs.Graph.{Graph, total, sum_of, joined}
 use Rattle.allocative_graph.specs.Parts.{sum_of_rows, joined_on, IsSum}
 use Rattle.allocative_graph.proofs.Basics.{path_total, path_antisymmetric}
 use Rattle.allocative_graph.proofs.Graphs.{sizes_together}
@@ -30,6 +28,3 @@ is_sum_of g h r s = same_map path_total path_antisymmetric r (sum_of g h) (λ p.
 pub joined-keys : (k : Key) (ks : Path) → joined (k ∷ ks) ≡ k ++ joined_on ks
 joined-keys k [] = sym (append-nil k)
 joined-keys k (l ∷ ks) = ap (λ t. k ++ 59 ∷ t) (joined-keys l ks)
-
-pub line-keys : (k : Key) (ks : Path) (n : ℕ) → 0 < n → line (k ∷ ks, n) ≡ joined (k ∷ ks) ++ 32 ∷ decimal n ++ 10 ∷ []
-line-keys k ks n h = ap (λ b. cond b [] (joined (k ∷ ks) ++ 32 ∷ decimal n ++ 10 ∷ [])) (ne_eqb n 0 (λ e. omega (arith, e)))

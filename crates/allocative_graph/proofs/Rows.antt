@@ -1,4 +1,4 @@
--- Worked rows.
+-- The worked examples print what they should.
 use Rattle.std.proofs.Common.{refl}
 use Rattle.std.specs.Fmt.{digits}
 use Rattle.std.specs.FinSet.{empty, contains-insert, contains-empty}
@@ -14,14 +14,14 @@ use Rattle.allocative_graph.proofs.Lookups.{get-sums_of}
 use Rattle.allocative_graph.proofs.Basics.{identity_total}
 use Rattle.allocative_graph.proofs.Computed.{text-computed, warnings-computed, text_added}
 
-whole_6 : IsWhole shared_twice
-whole_6 = ((tt, (contains-empty identity_cmp one, (tt, tt), tt)), ((tt, (contains-insert identity_total empty one one, tt)), tt))
+whole_twice : IsWhole shared_twice
+whole_twice = ((tt, (contains-empty identity_cmp one, (tt, tt), tt)), ((tt, (contains-insert identity_total empty one one, tt)), tt))
 
-whole_7 : IsWhole shared_ring
-whole_7 = (contains-empty identity_cmp one, (contains-insert identity_total empty one one, tt), tt)
+whole_ring : IsWhole shared_ring
+whole_ring = (contains-empty identity_cmp one, (contains-insert identity_total empty one one, tt), tt)
 
-cannot : CanBeAdded (sums_of (all part_inline)) (sums_of (all part_unique)) → ⊥
-cannot can = true≢false (sym (can (codes "n" ∷ []) (record { bytes = 8; is_unique = false }) (record { bytes = 8; is_unique = true }) (get-sums_of (all part_inline) (codes "n" ∷ [])) (get-sums_of (all part_unique) (codes "n" ∷ []))).0)
+cannot_be_added : CanBeAdded (sums_of (all part_inline)) (sums_of (all part_unique)) → ⊥
+cannot_be_added can = true≢false (sym (can (codes "n" ∷ []) (record { bytes = 8; is_unique = false }) (record { bytes = 8; is_unique = true }) (get-sums_of (all part_inline) (codes "n" ∷ [])) (get-sums_of (all part_unique) (codes "n" ∷ []))).0)
 
 pub rows : Rows
 unfolding digits
@@ -39,9 +39,9 @@ rows = record {
   map_pair_prints = (text-computed (all map_pair), warnings-computed (all map_pair));
   vec_body_prints = (text-computed (all vec_body), warnings-computed (all vec_body));
   inline_and_unique_added = text_added (all part_inline) (all part_unique);
-  shared_twice_whole = whole_6;
-  shared_ring_whole = whole_7;
+  shared_twice_whole = whole_twice;
+  shared_ring_whole = whole_ring;
   unique_in_unique_held = refl;
   vec_body_held = refl;
-  inline_and_unique_cannot_be_added = cannot;
+  inline_and_unique_cannot_be_added = cannot_be_added;
 }

@@ -1,14 +1,14 @@
 -- The laws of the definitions, as statements.
-use Rattle.std.specs.Prelude.{◌≡◌, ℕ, ◌+◌, ◌-◌, ◌↔◌, Bool, false, true, cond, [], ◌∷◌, ◌++◌, Some, None}
+use Rattle.std.specs.Prelude.{◌≡◌, ℕ, ◌+◌, ◌-◌, ◌↔◌, Bool, false, true, cond, [], ◌∷◌, Some, None}
 use Rattle.std.specs.FinMap.{get}
-use Rattle.std.specs.FinSet.{contains, insert}
+use Rattle.std.specs.FinSet.{contains}
 use Rattle.std.specs.Option.{option_map}
 use Rattle.std.specs.declared.cmp.Ordering.TheVariants.{Less}
 use Rattle.std.specs.Ordering.{nat_cmp}
 use lib.Chars.{codes}
 use Rattle.allocative_graph.specs.Path.{Key, Path, key_cmp, path_cmp, ComesBefore}
 use Rattle.allocative_graph.specs.Identity.{Identity}
-use Rattle.allocative_graph.specs.Forest.{Forest, Empty, Inline, Unique, First, Again, Bag, own, all, followed_by, entry_of, Fits}
+use Rattle.allocative_graph.specs.Forest.{Forest, Empty, First, Again, Bag, own, all, followed_by, entry_of}
 use Rattle.allocative_graph.specs.Meaning.{Reached, IsMeaning, ReachesExactly, content_of, IsWhole, Agree, ReachApart}
 use Rattle.allocative_graph.specs.Sums.{Sums, bytes_in, below_in, is_unique_in, is_entered_in, sums_of, below}
 use Rattle.allocative_graph.specs.Graph.{Graph, graph, total, under, default, IsTree, text, warnings, sum_of, size_at, CanBeAdded, HasPlainKeys, HasWords}

@@ -1,5 +1,6 @@
 pub mod Fnv
 pub mod Static
+pub mod Shared
 pub mod Path
 pub mod Identity
 pub mod Forest

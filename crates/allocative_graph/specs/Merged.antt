@@ -1,21 +1,32 @@
--- What the children of two nodes give.
-use Rattle.std.specs.Prelude.{◌≡◌, ℕ, ◌+◌, ◌≤◌, Bool, true, List}
+-- What adding graphs and merging children leave, also where memory was refused on the way.
+use Rattle.std.specs.Prelude.{◌≡◌, ◌+◌, ◌<◌, ◌≤◌, ◌&&◌, Bool, true, List, ◌∷◌, length}
 use Rattle.allocative_graph.specs.declared.flamegraph.Child.{Child}
-use Rattle.allocative_graph.specs.Path.{Key, Path}
-use Rattle.allocative_graph.specs.Parts.{sum_of_rows}
-use Rattle.allocative_graph.specs.Node.{rows_of, AllClosed}
-use Rattle.allocative_graph.specs.Children.{size_under, AddsUp, AddsUpInPart, InOrder, AllAbove}
+use Rattle.allocative_graph.specs.Path.{Key}
+use Rattle.allocative_graph.specs.Graph.{Graph, IsTree, total}
+use Rattle.allocative_graph.specs.Parts.{IsSum, IsPartOfSum}
+use Rattle.allocative_graph.specs.Node.{rows_of, weight, AreChildren}
+use Rattle.allocative_graph.specs.Children.{AreSum, ArePartOfSum, AllAbove}
 
--- the sizes of all children
-abbrev pub weight : List Child → ℕ
-weight cs = sum_of_rows (rows_of cs)
+-- h was added to g, and r is left: a part of their sum, and where all was added the sum itself.
+pub record Added (all : Bool) (g h r : Graph) : Type 0 where
+  pub tree : IsTree r
+  pub part : IsPartOfSum g h r
+  pub sum : all ≡ true → IsSum g h r
+  pub at_most : total r ≤ total g + total h
 
--- es has the keys of both; each size is as it was or summed, and where all went well summed
-pub record Merged (well : Bool) (cs ds es : List Child) : Type 0 where
-  pub in_order : InOrder es
+-- ds were merged into cs, and es are left: a part of their sum, and where all was added the sum itself.
+pub record Merged (all : Bool) (cs ds es : List Child) : Type 0 where
+  pub children : AreChildren es
   pub above : (k : Key) → AllAbove cs k → AllAbove ds k → AllAbove es k
-  pub closed : AllClosed es
-  pub part : (k : Key) (p : Path) → AddsUpInPart (size_under cs k p) (size_under ds k p) (size_under es k p)
-  pub sum : well ≡ true → (k : Key) (p : Path) → AddsUp (size_under cs k p) (size_under ds k p) (size_under es k p)
-  pub most : weight es ≤ weight cs + weight ds
-  pub exact : well ≡ true → weight es ≡ weight cs + weight ds
+  pub part : ArePartOfSum cs ds es
+  pub sum : all ≡ true → AreSum cs ds es
+  pub at_most : weight es ≤ weight cs + weight ds
+
+-- c is the next child in the merge of cs and ds, of which cs' and ds' are left: it stands before whatever these merge to.
+pub record IsNext (all : Bool) (cs ds : List Child) (c : Child) (cs' ds' : List Child) : Type 0 where
+  pub goes_on : (b : Bool) (es : List Child) → Merged b cs' ds' es → Merged (all && b) cs ds (c ∷ es)
+  pub mine : AreChildren cs'
+  pub theirs : AreChildren ds'
+  pub fewer : length cs' + length ds' < length cs + length ds
+  pub fewer_rows : length (rows_of ds') ≤ length (rows_of ds)
+  pub fits : total c.graph + (weight cs' + weight ds') ≤ weight cs + weight ds

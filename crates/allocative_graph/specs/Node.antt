@@ -2,33 +2,43 @@
 use Rattle.std.specs.Prelude.{◌≡◌, ℕ, ◌+◌, ◌^◌, ◌<◌, List, [], ◌∷◌, map}
 use Rattle.std.specs.List.{flat_map, AllByRecursion}
 use Rattle.std.specs.List.Sorted.{IsStrictlySortedBy}
-use Rattle.std.specs.FinMap.{FinMap, entries, from_sorted}
+use Rattle.std.specs.FinMap.{entries, from_sorted}
 use Rattle.allocative_graph.specs.declared.flamegraph.Child.{Child}
-use Rattle.allocative_graph.specs.Graph.{IsTree}
+use Rattle.allocative_graph.specs.Path.{Key, Path, key_cmp}
+use Rattle.allocative_graph.specs.Graph.{Graph, IsTree}
 use Rattle.allocative_graph.specs.Parts.{under_rows, sum_of_rows}
-use Rattle.allocative_graph.specs.Path.{key_cmp, path_cmp}
 
--- the rows of a child, and of all children
-abbrev pub rows_of_child : Child → List (List (List ℕ) × ℕ)
+-- The rows of a child: each path of its graph behind its key.
+abbrev pub rows_of_child : Child → List (Path × ℕ)
 rows_of_child c = under_rows c.key (entries c.graph)
 
-abbrev pub rows_of : List Child → List (List (List ℕ) × ℕ)
+-- The rows of all children, one child after another.
+abbrev pub rows_of : List Child → List (Path × ℕ)
 rows_of cs = flat_map rows_of_child cs
 
--- the graph of a node with its own size and its children
-abbrev pub node : ℕ → List Child → FinMap path_cmp ℕ
+-- The graph of a node, from its own size and its children.
+abbrev pub node : ℕ → List Child → Graph
 node n cs = from_sorted (([], n) ∷ rows_of cs)
 
-abbrev pub keys_of : List Child → List (List ℕ)
+-- The keys of the children.
+abbrev pub keys_of : List Child → List Key
 keys_of cs = map (λ c. c.key) cs
 
--- each child's graph has its root and all beginnings
-abbrev pub AllClosed : List Child → Type 0
-AllClosed cs = AllByRecursion (λ c. IsTree c.graph) cs
+-- The sum of all sizes below a node with these children.
+abbrev pub weight : List Child → ℕ
+weight cs = sum_of_rows (rows_of cs)
 
--- what holds of a node's children, their cached total and its own size
-pub record IsNode (cs : List Child) (below own : ℕ) : Type 0 where
-  pub exact : below ≡ sum_of_rows (rows_of cs)
-  pub fits : own + below < 2 ^ 64
+-- Each child's graph has its root and, with each path, its beginnings.
+abbrev pub AllTrees : List Child → Type 0
+AllTrees cs = AllByRecursion (λ c. IsTree c.graph) cs
+
+-- What holds of the children of each node: each key is below those after it, and each graph is a tree.
+pub record AreChildren (cs : List Child) : Type 0 where
   pub sorted : IsStrictlySortedBy key_cmp (keys_of cs)
-  pub closed : AllClosed cs
+  pub trees : AllTrees cs
+
+-- What holds of each node: of its children, of the sum that it keeps of their sizes, and of its own size.
+pub record IsNode (cs : List Child) (children_size node_size : ℕ) : Type 0 where
+  pub children : AreChildren cs
+  pub exact : children_size ≡ weight cs
+  pub fits : node_size + children_size < 2 ^ 64

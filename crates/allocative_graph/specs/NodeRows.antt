@@ -1,4 +1,4 @@
--- The rows of a node with sorted children are sorted, so they are the entries of its graph, and each child has fewer.
+-- The rows of a node stand in the order of paths, so they are the entries of its graph, and each child has fewer.
 use Rattle.std.specs.Prelude.{◌≡◌, ℕ, ◌+◌, ◌≤◌, T, Bool, true, false, ◌&&◌, List, [], ◌∷◌, ◌++◌, length}
 use Rattle.std.proofs.Common.{arith, length-append, ap, sym, subst}
 use Rattle.std.proofs.lemmas.List.{length-map}
@@ -13,68 +13,79 @@ use Rattle.std.specs.FinMap.Entries.{is_sorted, below_all}
 use Rattle.allocative_graph.specs.declared.flamegraph.Child.{Child}
 use Rattle.allocative_graph.specs.declared.flamegraph.FlameGraph.TheDeep.{deep-Child}
 use Rattle.allocative_graph.specs.Parts.{under_rows}
-use Rattle.allocative_graph.specs.Path.{key_cmp, path_cmp}
+use Rattle.allocative_graph.specs.Path.{Key, Path, key_cmp, path_cmp}
 use Rattle.allocative_graph.specs.Node.{rows_of, rows_of_child, keys_of, node}
 use denote.Param.Weighed.{most}
 
+-- A list of paths with their sizes.
 abbrev Rows : Type 0
-Rows = List (List (List ℕ) × ℕ)
+Rows = List (Path × ℕ)
 
+-- Two tests that pass pass together.
 both : (a b : Bool) → T a → T b → T (a && b)
 both true b p q = q
 both false b p q = p
 
+-- Where two tests pass together, the first does.
 first : (a b : Bool) → T (a && b) → T a
 first true b p = tt
 first false b p = p
 
+-- And so does the second.
 second : (a b : Bool) → T (a && b) → T b
 second true b p = p
 second false b p = absurd p
 
-below-append : (x : List (List ℕ)) (a b : Rows) → T (below_all path_cmp x a) → T (below_all path_cmp x b) → T (below_all path_cmp x (a ++ b))
+-- A path before the rows of two lists is before those of the joined one.
+below-append : (x : Path) (a b : Rows) → T (below_all path_cmp x a) → T (below_all path_cmp x b) → T (below_all path_cmp x (a ++ b))
 below-append x [] b p q = q
 below-append x (e ∷ a) b p q = both _ _ (first _ _ p) (below-append x a b (second _ _ p) q)
 
--- the root comes before all paths that have a key
-pub root_below-under : (k : List ℕ) (rs : Rows) → T (below_all path_cmp [] (under_rows k rs))
+-- The root comes before all paths that have a key.
+pub root_below-under : (k : Key) (rs : Rows) → T (below_all path_cmp [] (under_rows k rs))
 root_below-under k [] = tt
 root_below-under k (r ∷ rs) = root_below-under k rs
 
+-- It comes before the rows of all children.
 pub root_below : (cs : List Child) → T (below_all path_cmp [] (rows_of cs))
 root_below [] = tt
 root_below (c ∷ cs) = below-append [] (rows_of_child c) (rows_of cs) (root_below-under c.key (entries c.graph)) (root_below cs)
 
--- under one key the paths keep their order
-same_key : (k : List ℕ) (p q : List (List ℕ)) → path_cmp (k ∷ p) (k ∷ q) ≡ path_cmp p q
+-- Under one key paths keep their order.
+same_key : (k : Key) (p q : Path) → path_cmp (k ∷ p) (k ∷ q) ≡ path_cmp p q
 same_key k p q = ap (λ o. ordering_then o (path_cmp p q)) (tied_itself nat_list_cmp_total k)
 
-below-under : (k : List ℕ) (p : List (List ℕ)) (rs : Rows) → T (below_all path_cmp p rs) → T (below_all path_cmp (k ∷ p) (under_rows k rs))
+-- A path before some rows is before them under a key.
+below-under : (k : Key) (p : Path) (rs : Rows) → T (below_all path_cmp p rs) → T (below_all path_cmp (k ∷ p) (under_rows k rs))
 below-under k p [] h = tt
 below-under k p (r ∷ rs) h =
     both _ _ (subst (λ o. T (is_lt o)) (sym (same_key k p r.0)) (first _ _ h)) (below-under k p rs (second _ _ h))
 
-sorted-under : (k : List ℕ) (rs : Rows) → T (is_sorted path_cmp rs) → T (is_sorted path_cmp (under_rows k rs))
+-- Rows in order are in order under a key.
+sorted-under : (k : Key) (rs : Rows) → T (is_sorted path_cmp rs) → T (is_sorted path_cmp (under_rows k rs))
 sorted-under k [] h = tt
 sorted-under k (r ∷ rs) h = both _ _ (below-under k r.0 rs (first _ _ h)) (sorted-under k rs (second _ _ h))
 
--- a path comes before those under a greater key
-below-greater : (k l : List ℕ) (p : List (List ℕ)) (rs : Rows) → key_cmp k l ≡ Less → T (below_all path_cmp (k ∷ p) (under_rows l rs))
+-- A path comes before those under a greater key.
+below-greater : (k l : Key) (p : Path) (rs : Rows) → key_cmp k l ≡ Less → T (below_all path_cmp (k ∷ p) (under_rows l rs))
 below-greater k l p [] h = tt
 below-greater k l p (r ∷ rs) h =
     both _ _ (subst (λ o. T (is_lt (ordering_then o (path_cmp p r.0)))) (sym h) tt) (below-greater k l p rs h)
 
-below-later : (k : List ℕ) (p : List (List ℕ)) (cs : List Child) → AllByRecursion (λ l. key_cmp k l ≡ Less) (keys_of cs) → T (below_all path_cmp (k ∷ p) (rows_of cs))
+-- It comes before the rows of all children with greater keys.
+below-later : (k : Key) (p : Path) (cs : List Child) → AllByRecursion (λ l. key_cmp k l ≡ Less) (keys_of cs) → T (below_all path_cmp (k ∷ p) (rows_of cs))
 below-later k p [] h = tt
 below-later k p (c ∷ cs) h =
     below-append (k ∷ p) (rows_of_child c) (rows_of cs) (below-greater k c.key p (entries c.graph) h.0) (below-later k p cs h.1)
 
-sorted-append : (k : List ℕ) (rs : Rows) (b : Rows) → T (is_sorted path_cmp (under_rows k rs)) → T (is_sorted path_cmp b)
-    → ((p : List (List ℕ)) → T (below_all path_cmp (k ∷ p) b)) → T (is_sorted path_cmp (under_rows k rs ++ b))
-sorted-append k [] b p q h = q
-sorted-append k (r ∷ rs) b p q h =
-    both _ _ (below-append (k ∷ r.0) (under_rows k rs) b (first _ _ p) (h r.0)) (sorted-append k rs b (second _ _ p) q h)
+-- Rows under a key, and then rows that come after these, are in order.
+sorted-append : (k : Key) (rs rest : Rows) → T (is_sorted path_cmp (under_rows k rs)) → T (is_sorted path_cmp rest)
+    → ((p : Path) → T (below_all path_cmp (k ∷ p) rest)) → T (is_sorted path_cmp (under_rows k rs ++ rest))
+sorted-append k [] rest p q h = q
+sorted-append k (r ∷ rs) rest p q h =
+    both _ _ (below-append (k ∷ r.0) (under_rows k rs) rest (first _ _ p) (h r.0)) (sorted-append k rs rest (second _ _ p) q h)
 
+-- The rows of children with rising keys are in order.
 pub rows_sorted : (cs : List Child) → IsStrictlySortedBy key_cmp (keys_of cs) → T (is_sorted path_cmp (rows_of cs))
 unfolding IsStrictlySortedBy
 rows_sorted [] h = tt
@@ -82,18 +93,20 @@ rows_sorted (c ∷ cs) h =
     sorted-append c.key (entries c.graph) (rows_of cs) (sorted-under c.key (entries c.graph) (entries_sorted c.graph)) (rows_sorted cs h.1)
     (λ p. below-later c.key p cs h.0)
 
+-- So are those of a node with such children.
 pub node_sorted : (n : ℕ) (cs : List Child) → IsStrictlySortedBy key_cmp (keys_of cs) → T (is_sorted path_cmp (([], n) ∷ rows_of cs))
 node_sorted n cs h = both _ _ (root_below cs) (rows_sorted cs h)
 
--- the entries of a node
+-- They are the entries of its graph.
 pub entries-node : (n : ℕ) (cs : List Child) → IsStrictlySortedBy key_cmp (keys_of cs) → entries (node n cs) ≡ ([], n) ∷ rows_of cs
 entries-node n cs h = entries-from_sorted path_cmp (([], n) ∷ rows_of cs) (node_sorted n cs h)
 
--- no child is deeper than the node has rows
+-- No child is deeper than there are rows of children.
 most_le-rows : (cs : List Child) → most (λ c. deep-Child c) cs ≤ length (rows_of cs) + 1
 most_le-rows [] = omega arith
 most_le-rows (c ∷ cs) =
-    omega (arith, most_le-rows cs, length-append (rows_of_child c) (rows_of cs), length-map {B = List (List ℕ) × ℕ} (entries c.graph) (λ r. (c.key ∷ r.0, r.1)), len-entries c.graph)
+    omega (arith, most_le-rows cs, length-append (rows_of_child c) (rows_of cs), length-map {B = Path × ℕ} (entries c.graph) (λ r. (c.key ∷ r.0, r.1)), len-entries c.graph)
 
+-- No child is as deep as its node has entries.
 pub most_le-node : (n : ℕ) (cs : List Child) → IsStrictlySortedBy key_cmp (keys_of cs) → most (λ c. deep-Child c) cs ≤ len (node n cs)
 most_le-node n cs h = omega (arith, most_le-rows cs, len-entries (node n cs), ap length (entries-node n cs h))

@@ -1,5 +1,5 @@
--- Worked rows: what some forests print.
-use Rattle.std.specs.Prelude.{◌≡◌, ℕ, List, [], false, zero, suc}
+-- Worked examples: what some forests print.
+use Rattle.std.specs.Prelude.{◌≡◌, ℕ, List, [], zero, suc}
 use lib.Chars.{codes}
 use Rattle.allocative_graph.specs.Identity.{Identity}
 use Rattle.allocative_graph.specs.Forest.{Forest, Empty, Inline, Unique, First, Again, all}
@@ -8,62 +8,80 @@ use Rattle.allocative_graph.specs.Sums.{sums_of}
 use Rattle.allocative_graph.specs.Graph.{graph, text, warnings, sum_of, CanBeAdded}
 use Rattle.allocative_graph.specs.Held.{held}
 
+-- The identity that the shared entries below have.
 abbrev pub one : Identity
 one = record { maker = 0; number = 1 }
 
+-- A pointer that owns one number.
 abbrev pub unique_pointer : Forest
 unique_pointer = Inline (codes "T") 8 (Unique (codes "ptr") 8 (Inline (codes "u8") 3 Empty Empty) Empty) Empty
 
+-- A struct with an inline field and one that owns its bytes.
 abbrev pub unique_field : Forest
 unique_field = Inline (codes "Struct") 10 (Inline (codes "a") 3 Empty (Unique (codes "p") 6 (Inline (codes "x") 13 Empty Empty) Empty)) Empty
 
+-- Two structs that share one value.
 abbrev pub shared_twice : Forest
 shared_twice = Inline (codes "Struct") 10 (Inline (codes "a") 3 Empty (First (codes "p") 6 one (Inline (codes "Shared") 13 Empty Empty) Empty)) (Inline (codes "Struct") 10 (Inline (codes "a") 3 Empty (Again (codes "p") 6 one Empty)) Empty)
 
+-- A shared value that points to itself.
 abbrev pub shared_ring : Forest
 shared_ring = First (codes "p") 8 one (Again (codes "p") 8 one Empty) Empty
 
+-- Two pointers to one identity, of which the first shows `D`.
 abbrev pub first_content : Forest
 first_content = Inline (codes "A") 8 (First (codes "ptr") 8 one (Inline (codes "D") 10 Empty Empty) Empty) (Inline (codes "A") 8 (Again (codes "ptr") 8 one Empty) Empty)
 
+-- The same, where the first shows `E`.
 abbrev pub first_content_turned : Forest
 first_content_turned = Inline (codes "A") 8 (First (codes "ptr") 8 one (Inline (codes "E") 20 Empty Empty) Empty) (Inline (codes "A") 8 (Again (codes "ptr") 8 one Empty) Empty)
 
+-- An entry that declares fewer bytes than those inside it.
 abbrev pub short_of_children : Forest
 short_of_children = Inline (codes "a") 10 (Inline (codes "b") 13 Empty Empty) Empty
 
+-- One path, entered inline and then as unique.
 abbrev pub inline_and_unique : Forest
 inline_and_unique = Inline (codes "n") 8 (Inline (codes "x") 8 Empty Empty) (Unique (codes "n") 8 (Inline (codes "y") 3 Empty Empty) Empty)
 
--- a field of one byte for each of n items
+-- A field of one byte for each of n items.
 abbrev pub byte_fields : ℕ → Forest
 byte_fields zero = Empty
 byte_fields (suc n) = Inline (codes "data") 1 (Inline (codes "u8") 1 Empty Empty) (byte_fields n)
 
+-- A struct with a box of 100 bytes, and one byte more.
 abbrev pub boxed_bytes : Forest
 boxed_bytes = Inline (codes "TestData") 24 (Inline (codes "data") 16 (Inline (codes "Box") 16 (Unique (codes "ptr") 16 (Inline (codes "u8") 100 (byte_fields 100) Empty) Empty) Empty) (Inline (codes "b") 1 (Inline (codes "u8") 1 Empty Empty) Empty)) Empty
 
+-- A shared value with room beside it.
 abbrev pub shared_value : Forest
 shared_value = Inline (codes "Arc") 8 (First (codes "ptr") 8 one (Inline (codes "ArcInner") 128 (Inline (codes "CacheLine") 64 (Inline (codes "0") 1 (Inline (codes "u8") 1 Empty Empty) Empty) Empty) Empty) Empty) Empty
 
+-- A map of one pair.
 abbrev pub map_pair : Forest
 map_pair = Inline (codes "BTreeMap") 24 (Inline (codes "data") 8 (Inline (codes "key") 8 (Inline (codes "u64") 8 Empty Empty) (Inline (codes "value") 8 (Inline (codes "u64") 8 Empty Empty) Empty)) Empty) Empty
 
+-- A full vector of three bytes.
 abbrev pub vec_body : Forest
 vec_body = Unique (codes "ptr") 8 (Inline (codes "capacity") 3 (Inline (codes "u8") 3 Empty (Inline (codes "unused_capacity") 0 Empty Empty)) Empty) Empty
 
+-- One path, entered inline.
 abbrev pub part_inline : Forest
 part_inline = Inline (codes "n") 8 (Inline (codes "x") 8 Empty Empty) Empty
 
+-- The same path, entered as unique.
 abbrev pub part_unique : Forest
 part_unique = Unique (codes "n") 8 (Inline (codes "y") 3 Empty Empty) Empty
 
+-- A unique entry inside another.
 abbrev pub unique_in_unique : Forest
 unique_in_unique = Inline (codes "T") 8 (Unique (codes "p") 8 (Unique (codes "q") 8 (Inline (codes "d") 5 Empty Empty) Empty) Empty) Empty
 
+-- The forest has this text and these warnings.
 abbrev pub Prints : Forest → List ℕ → List ℕ → Type 0
-Prints f t w = (text (graph (sums_of (all f))) ≡ t) × (warnings (sums_of (all f)) ≡ w)
+Prints f lines complaints = (text (graph (sums_of (all f))) ≡ lines) × (warnings (sums_of (all f)) ≡ complaints)
 
+-- What these forests print, which are whole, what some hold, and which cannot be added.
 pub record Rows : Type 0 where
   pub unique_pointer_prints : Prints unique_pointer (codes "T;ptr 8\nT;ptr;u8 3\n") []
   pub unique_field_prints : Prints unique_field (codes "Struct 1\nStruct;a 3\nStruct;p 6\nStruct;p;x 13\n") []

@@ -1,26 +1,44 @@
-// Flame graphs: a map from paths to sizes, kept as a tree with sorted children.
-ghost use Rattle.std.specs.Prelude.{◌≡◌, ◌+◌, ◌^◌, ◌<◌, ◌≤◌, ◌↔◌, ◌++◌, [], ◌∷◌, IfOk, OnOk, string_bytes, MatchResult, map, OnErr, IfErr, IsErrOf, length, take, is_ok};
+//! Flame graphs: maps from paths of keys to sizes.
+ghost use Rattle.std.specs.Prelude.{◌≡◌, ◌+◌, ◌^◌, ◌<◌, ◌≤◌, ◌↔◌, ◌++◌, [], ◌∷◌, IfOk, IfErr, IfSome, IfNone, OnOk, OnErr, IsErrOf, string_bytes, map, length, is_ok};
 ghost use Rattle.std.specs.Vec.{vec_capacity};
 ghost use Rattle.std.specs.FinMap as map;
+ghost use Rattle.allocative_graph.specs.Path.{key_cmp};
 ghost use Rattle.allocative_graph.specs.Graph.{add_self, total, text, default, sum_of, under, text_of_entries, line, joined, IsTree};
-ghost use Rattle.allocative_graph.specs.Parts.{behind, sum_of_rows, IsSum, IsPartOfSum};
-ghost use Rattle.allocative_graph.specs.Node.{rows_of, AllClosed};
-ghost use Rattle.allocative_graph.specs.Children.{AreSum, ArePartOfSum, InOrder, AllBelow, IsFound, IsGap};
-ghost use Rattle.allocative_graph.specs.Merged.{weight, Merged};
+ghost use Rattle.allocative_graph.specs.Parts.{behind, IsPartOfSum};
+ghost use Rattle.allocative_graph.specs.Node.{weight, AreChildren};
+ghost use Rattle.allocative_graph.specs.Children.{front_order, InOrder, IsFound, IsGap};
+ghost use Rattle.allocative_graph.specs.Merged.{Added, Merged, IsNext};
 ghost use Rattle.allocative_graph.specs.declared.flamegraph.Child.{Child};
 
 use crate::key::Key;
 use crate::refusal::Refusal;
 use std::alloc::{AllocError, Global};
 use std::cmp::Ordering;
+use std::collections::VecDeque;
 use std::marker::Model;
 use std::mem;
 
+/// A map from paths of keys to sizes in bytes.
+///
+/// A path is a list of keys, as `Map`, `data`, `key`; the root's is the empty one. The root is always in the map and,
+/// with each path, all beginnings of it. A contract sees the map alone. The total, which is the sum of all sizes, is at
+/// most `usize::MAX`.
+///
+/// ```
+/// let mut data = FlameGraph::default(alloc);
+/// data.add_self(16)?;
+/// let mut graph = FlameGraph::default(alloc);
+/// graph.add_child(Key::new("Map"), data)?;
+/// assert_eq!(rt; graph.write()?.as_str(), "Map 16\n");
+/// ```
 #[cycle(graph)]
 #[derive(Drop)]
 pub struct FlameGraph {
+    // In the order of their keys.
     children: Vec<Child>,
+    // The sum of all sizes below this node.
     children_size: usize,
+    // This node's own size.
     node_size: usize,
 }
 
@@ -52,10 +70,11 @@ impl Model for FlameGraph {
     ghost use Rattle.std.proofs.Common.{arith};
     ghost use Rattle.allocative_graph.specs.NodeRows.{most_le-node};
 
-    ghost size_decreases = { λ a h. omega (arith, most_le-node a.node_size a.children.items h.sorted) };
+    ghost size_decreases = { λ a h. omega (arith, most_le-node a.node_size a.children.items h.children.sorted) };
 }
 
 impl FlameGraph {
+    /// The graph with the root alone, of size 0. It takes no memory; the allocator is kept for what is added later.
     pub fn default(alloc: Global) -> FlameGraph
         ensures { result ≡ default }
     {
@@ -66,14 +85,24 @@ impl FlameGraph {
         }
     }
 
+    /// The sum of the sizes of all paths, the root's own among them.
     pub fn total_size(&self) -> usize
-        ensures { result ≡ total self.now }
+        ensures total { result ≡ total self.now }
+
+        // Callers learn here what holds of every graph.
+        ensures tree { IsTree self.now }
     {
         self.node_size + self.children_size
     }
 
+    /// Adds to the size of the root. It takes no memory.
+    ///
+    /// It answers `TooLarge` exactly where the total would pass `usize::MAX`, and then nothing is changed.
     pub fn add_self(&mut self, size: usize) -> Result<(), Refusal>
-        ensures { MatchResult result (λ _. (total self.old + size < 2 ^ 64) × (self.new ≡ add_self size self.old)) (λ r. (r ≡ Refusal.TooLarge) × (2 ^ 64 ≤ total self.old + size) × (self.new ≡ self.old)) }
+        ensures sum { OnOk result (self.new ≡ add_self size self.old) }
+        ensures too_large { IsErrOf result Refusal.TooLarge ↔ (2 ^ 64 ≤ total self.old + size) }
+        ensures no_other { IfErr result (λ r. r ≡ Refusal.TooLarge) }
+        ensures unchanged { OnErr result (self.new ≡ self.old) }
     {
         if size > usize::MAX - self.total_size() {
             return Err(Refusal::TooLarge);
@@ -82,10 +111,15 @@ impl FlameGraph {
         Ok(())
     }
 
+    /// Adds another graph, path by path; a missing path counts as 0.
+    ///
+    /// It answers `TooLarge` exactly where the two totals together pass `usize::MAX`, and then nothing is changed. After
+    /// `Memory` each path has its old size or the sum's, all old paths are still there, and there is none that the sum
+    /// has not.
     pub fn add(&mut self, other: FlameGraph) -> Result<(), Refusal>
+        ensures sum { OnOk result (self.new ≡ sum_of self.old other) }
         ensures too_large { IsErrOf result Refusal.TooLarge ↔ (2 ^ 64 ≤ total self.old + total other) }
         ensures unchanged { IsErrOf result Refusal.TooLarge → self.new ≡ self.old }
-        ensures sum { OnOk result (self.new ≡ sum_of self.old other) }
         ensures part { IsErrOf result Refusal.Memory → IsPartOfSum self.old other self.new }
         ensures never_open { ¬ (IsErrOf result Refusal.Open) }
     {
@@ -96,57 +130,56 @@ impl FlameGraph {
         Ok(())
     }
 
+    /// Adds another graph with the key put before each of its paths; all other paths stay as they are.
+    ///
+    /// The refusals, and what they leave, are those of [`add`](FlameGraph::add).
     pub fn add_child(&mut self, key: Key, child: FlameGraph) -> Result<(), Refusal>
+        ensures sum { OnOk result (self.new ≡ sum_of self.old (under key child)) }
         ensures too_large { IsErrOf result Refusal.TooLarge ↔ (2 ^ 64 ≤ total self.old + total child) }
         ensures unchanged { IsErrOf result Refusal.TooLarge → self.new ≡ self.old }
-        ensures sum { OnOk result (self.new ≡ sum_of self.old (under key child)) }
         ensures part { IsErrOf result Refusal.Memory → IsPartOfSum self.old (under key child) self.new }
         ensures never_open { ¬ (IsErrOf result Refusal.Open) }
     {
         if child.total_size() > usize::MAX - self.total_size() {
             return Err(Refusal::TooLarge);
         }
-        let from = place_behind(&self.children, &key);
-        put(
+        put_child(
             &mut self.children,
             &mut self.children_size,
-            from,
             Child { key, graph: child },
         )?;
         Ok(())
     }
 
-    // That each graph has its root, and with each path its beginnings.
-    pub fn closed_law(&self)
-        ensures { IsTree self.now }
-    {
-        let _ = &self.children;
-    }
-
-    // `add` once the totals are known to fit.
+    // `add`, where the totals are known to fit.
     #[cycle(merge)]
     fn merge(&mut self, other: FlameGraph) -> Result<(), AllocError>
         requires { total self.old + total other < 2 ^ 64 }
-        ensures sum { OnOk result (IsSum self.old other self.new) }
-        ensures part { OnErr result (IsPartOfSum self.old other self.new) }
-        ensures total { OnOk result (total self.new ≡ total self.old + total other) }
-        ensures total_at_most { total self.new ≤ total self.old + total other }
-        ensures closed { IsTree self.new }
+        ensures { Added (is_ok result) self.old other self.new }
     {
         let FlameGraph {
             children,
             children_size: _,
             node_size,
         } = other;
+        self.node_size += node_size;
+        if children.is_empty() {
+            return Ok(());
+        }
         let alloc = *self.children.allocator();
         let merged = Vec::with_capacity(alloc, self.children.len() + children.len())?;
-        self.node_size += node_size;
         let mine = mem::replace(&mut self.children, merged);
         interleave(mine, children, &mut self.children, &mut self.children_size)
     }
 
+    /// The collapsed stacks that `flamegraph.pl` reads: for each path but the root with a size other than 0 one line,
+    /// its keys joined by `;`, a space, the size in decimal. The lines stand in the order of paths: a node before its
+    /// children, and children by the bytes of their keys.
+    ///
+    /// It answers an error only for want of memory.
     pub fn write(&self) -> Result<String, Refusal>
-        ensures { MatchResult result (λ made. string_bytes made ≡ text self.now) (λ r. r ≡ Refusal.Memory) }
+        ensures text { IfOk result (λ made. string_bytes made ≡ text self.now) }
+        ensures memory { IfErr result (λ r. r ≡ Refusal.Memory) }
     {
         let alloc = *self.children.allocator();
         let mut text = String::new(alloc);
@@ -157,6 +190,7 @@ impl FlameGraph {
         }
     }
 
+    // Appends the lines of all paths, behind some keys.
     fn write_lines(&self, keys: &mut Vec<&'static str>, text: &mut String) -> Result<(), AllocError>
         ensures keys { OnOk result (keys.new.items ≡ keys.old.items) }
         ensures text { OnOk result (string_bytes text.new ≡ string_bytes text.old ++ text_of_entries (behind (map (λ k. k.now) keys.old.items) (map.entries self.now))) }
@@ -176,13 +210,15 @@ impl FlameGraph {
 impl Clone for FlameGraph {
     ghost is_clone = { λ g c. c ≡ g };
 
+    /// The same map once more; an error only for want of memory.
     fn clone(&self) -> Result<FlameGraph, AllocError> {
         let alloc = *self.children.allocator();
         let mut children = Vec::with_capacity(alloc, self.children.len())?;
-        for child in &self.children {
-            let key = child.key.clone()?;
-            let graph = child.graph.clone()?;
-            children.push(Child { key, graph })?;
+        for Child { key, graph } in &self.children {
+            children.push(Child {
+                key: key.copy(),
+                graph: graph.clone()?,
+            })?;
         }
         Ok(FlameGraph {
             children,
@@ -205,7 +241,7 @@ fn push_line(keys: &[&str], size: usize, text: &mut String) -> Result<(), AllocE
     Ok(())
 }
 
-/// Appends the keys, with `;` between them.
+/// Appends the keys to the text, with `;` between them.
 pub fn push_path(keys: &[&str], text: &mut String) -> Result<(), AllocError>
     ensures { OnOk result (string_bytes text.new ≡ string_bytes text.old ++ joined (map (λ k. k.now) keys.now)) }
 {
@@ -220,42 +256,62 @@ pub fn push_path(keys: &[&str], text: &mut String) -> Result<(), AllocError>
     Ok(())
 }
 
-// How many children come before the key, without a search: all, or it isn't known.
-fn place_behind(children: &[Child], key: &Key) -> usize
+// Where the key stands among the children, or else where it belongs. One comparison tells of a key behind the last one,
+// so that children added in order are put at the end without a search.
+fn place_of(children: &[Child], key: &Key) -> Result<usize, usize>
     requires { InOrder children.now }
-    ensures within { result ≤ length children.now }
-    ensures below { AllBelow (take result children.now) key.now }
-{
-    let n = children.len();
-    if n == 0 {
-        return 0;
-    }
-    match children[n - 1].key.cmp(key) {
-        Ordering::Less => n,
-        _ => 0,
-    }
-}
-
-// The place of a key among children in order, from a place on: where it is, or else where it belongs.
-fn place_of(children: &[Child], from: usize, key: &Key) -> Result<usize, usize>
-    requires in_order { InOrder children.now }
-    requires from_within { from ≤ length children.now }
-    requires before { AllBelow (take from children.now) key.now }
     ensures found { IfOk result (IsFound children.now key.now) }
     ensures missing { IfErr result (IsGap children.now key.now) }
 {
-    let mut at = from;
-    while at < children.len() {
-        match children[at].key.cmp(key) {
-            Ordering::Less => at += 1,
-            Ordering::Equal => return Ok(at),
-            Ordering::Greater => return Err(at),
+    if let Some(last) = children.last() {
+        if last.key.cmp(key).is_lt() {
+            return Err(children.len());
         }
     }
-    Err(at)
+    place_by_halving(children, key)
 }
 
-// Puts the children of both into `out`, which has room for all, in order; where both have a key, one is added to the other.
+// The same, by halving.
+fn place_by_halving(children: &[Child], key: &Key) -> Result<usize, usize>
+    requires { InOrder children.now }
+    ensures found { IfOk result (IsFound children.now key.now) }
+    ensures missing { IfErr result (IsGap children.now key.now) }
+{
+    children.binary_search_by(
+        |child: &Child| -> Ordering
+            ensures { result ≡ key_cmp child.entry.now.key key.entry.now }
+        { child.key.cmp(key) },
+    )
+}
+
+// Adds a child: to the one that has its key, or in its place among the others.
+fn put_child(children: &mut Vec<Child>, size: &mut usize, child: Child) -> Result<(), AllocError>
+    requires children { AreChildren children.old.items }
+    requires exact { size.old ≡ weight children.old.items }
+    requires tree { IsTree child.graph }
+    requires fits { size.old + total child.graph < 2 ^ 64 }
+    ensures merged { Merged (is_ok result) children.old.items (child ∷ []) children.new.items }
+    ensures exact { size.new ≡ weight children.new.items }
+{
+    let Child { key, graph } = child;
+    match place_of(children, &key) {
+        Ok(at) => {
+            let here = &mut children[at];
+            let before = here.graph.total_size();
+            let result = here.graph.merge(graph);
+            *size = *size - before + here.graph.total_size();
+            result
+        }
+        Err(at) => {
+            let added = graph.total_size();
+            children.insert(at, Child { key, graph })?;
+            *size += added;
+            Ok(())
+        }
+    }
+}
+
+// Puts the merge of both into `out`, which has room for all. After a refusal it goes on, so that no child is lost.
 #[cycle(merge)]
 fn interleave(
     mine: Vec<Child>,
@@ -265,52 +321,18 @@ fn interleave(
 ) -> Result<(), AllocError>
     requires empty { out.old.items ≡ [] }
     requires room { length mine.items + length theirs.items ≤ vec_capacity out.old }
+    requires mine { AreChildren mine.items }
+    requires theirs { AreChildren theirs.items }
     requires fits { weight mine.items + weight theirs.items < 2 ^ 64 }
-    requires mine { InOrder mine.items × AllClosed mine.items }
-    requires theirs { InOrder theirs.items × AllClosed theirs.items }
     ensures merged { Merged (is_ok result) mine.items theirs.items out.new.items }
-    ensures size { size.new ≡ weight out.new.items }
+    ensures exact { size.new ≡ weight out.new.items }
 {
-    let mut mine = mine.into_iter();
-    let mut theirs = theirs.into_iter();
-    let mut left = mine.next();
-    let mut right = theirs.next();
+    let mut mine = VecDeque::from(mine);
+    let mut theirs = VecDeque::from(theirs);
     let mut result = Ok(());
     *size = 0;
-    loop {
-        let child = match (left, right) {
-            (None, None) => break,
-            (Some(l), None) => {
-                left = mine.next();
-                right = None;
-                l
-            }
-            (None, Some(r)) => {
-                left = None;
-                right = theirs.next();
-                r
-            }
-            (Some(mut l), Some(r)) => match l.key.cmp(&r.key) {
-                Ordering::Less => {
-                    left = mine.next();
-                    right = Some(r);
-                    l
-                }
-                Ordering::Greater => {
-                    left = Some(l);
-                    right = theirs.next();
-                    r
-                }
-                Ordering::Equal => {
-                    if l.graph.merge(r.graph).is_err() {
-                        result = Err(AllocError);
-                    }
-                    left = mine.next();
-                    right = theirs.next();
-                    l
-                }
-            },
-        };
+    while let Some((child, added)) = take_next(&mut mine, &mut theirs) {
+        result = result.and(added);
         *size += child.graph.total_size();
         let Ok(()) = out.push(child) else {
             unreachable!()
@@ -319,44 +341,37 @@ fn interleave(
     result
 }
 
-// Adds a child to children in order, from a place on, and gives its place.
-fn put(
-    children: &mut Vec<Child>,
-    size: &mut usize,
-    from: usize,
-    child: Child,
-) -> Result<usize, AllocError>
-    requires in_order { InOrder children.old.items }
-    requires exact { size.old ≡ sum_of_rows (rows_of children.old.items) }
-    requires fits { size.old + total child.graph < 2 ^ 64 }
-    requires from_within { from ≤ length children.old.items }
-    requires before { AllBelow (take from children.old.items) child.key }
-    requires closed { AllClosed children.old.items }
-    requires child_closed { IsTree child.graph }
-    ensures in_order { InOrder children.new.items }
-    ensures closed { AllClosed children.new.items }
-    ensures exact { size.new ≡ sum_of_rows (rows_of children.new.items) }
-    ensures sum { OnOk result (AreSum children.old.items (child ∷ []) children.new.items) }
-    ensures part { OnErr result (ArePartOfSum children.old.items (child ∷ []) children.new.items) }
-    ensures grown { OnOk result (size.new ≡ size.old + total child.graph) }
-    ensures at_most { size.new ≤ size.old + total child.graph }
-    ensures place { IfOk result (λ i. (i ≤ length children.new.items) × AllBelow (take i children.new.items) child.key) }
+// Takes the next child of the merge off both lists. Where both have its key, one is added to the other.
+#[cycle(merge)]
+fn take_next(
+    mine: &mut VecDeque<Child>,
+    theirs: &mut VecDeque<Child>,
+) -> Option<(Child, Result<(), AllocError>)>
+    requires mine { AreChildren mine.old.items }
+    requires theirs { AreChildren theirs.old.items }
+    requires fits { weight mine.old.items + weight theirs.old.items < 2 ^ 64 }
+    ensures next { IfSome result (λ next. IsNext (is_ok next.1) mine.old.items theirs.old.items next.0 mine.new.items theirs.new.items) }
+    ensures end { IfNone result ((mine.old.items ≡ []) × (theirs.old.items ≡ [])) }
 {
-    let Child { key, graph } = child;
-    match place_of(children, from, &key) {
-        Ok(at) => {
-            let here = &mut children[at];
-            let before = here.graph.total_size();
-            let result = here.graph.merge(graph);
-            *size = *size - before + here.graph.total_size();
-            result?;
-            Ok(at)
+    match fronts(mine, theirs)? {
+        Ordering::Less => Some((mine.pop_front().unwrap(), Ok(()))),
+        Ordering::Greater => Some((theirs.pop_front().unwrap(), Ok(()))),
+        Ordering::Equal => {
+            let mut child = mine.pop_front().unwrap();
+            let added = child.graph.merge(theirs.pop_front().unwrap().graph);
+            Some((child, added))
         }
-        Err(at) => {
-            let added = graph.total_size();
-            children.insert(at, Child { key, graph })?;
-            *size += added;
-            Ok(at)
-        }
+    }
+}
+
+// Which list has the next child: the first, the second, or both.
+fn fronts(mine: &VecDeque<Child>, theirs: &VecDeque<Child>) -> Option<Ordering>
+    ensures { result ≡ front_order mine.now.items theirs.now.items }
+{
+    match (mine.front(), theirs.front()) {
+        (None, None) => None,
+        (Some(_), None) => Some(Ordering::Less),
+        (None, Some(_)) => Some(Ordering::Greater),
+        (Some(left), Some(right)) => Some(left.key.cmp(&right.key)),
     }
 }

@@ -1,4 +1,4 @@
-// Keys: a text with its hash.
+//! Keys: static texts with their hashes.
 ghost use Rattle.std.specs.Prelude.{◌≡◌, List, ℕ, Some, ◌==◌, IfOk};
 ghost use Rattle.std.proofs.Common.{rules};
 ghost use Rattle.std.specs.Cmp.Rules.{comparing, hashing};
@@ -12,9 +12,14 @@ ghost use Rattle.allocative_graph.specs.Fnv.{fnv};
 use crate::static_text::StaticText;
 use std::alloc::AllocError;
 use std::cmp::Ordering;
+use std::fmt;
 use std::hash::{Hash, Hasher};
 use std::marker::Model;
 
+/// The name of an entry: a static text, kept with its 64-bit hash.
+///
+/// Keys are equal where their texts are, and stand in the order of the bytes of their texts. A contract sees the bytes
+/// of the text alone. No call of a key takes memory or refuses.
 #[derive(Drop)]
 pub struct Key {
     text: StaticText,
@@ -33,7 +38,7 @@ impl Model for Key {
 }
 
 impl Key {
-    // The FNV-1a hash of a text's bytes.
+    /// The hash of a text: FNV-1a of 64 bits over its bytes.
     pub fn hash_of(text: &str) -> u64
         ensures { result ≡ fnv text.now }
     {
@@ -44,16 +49,14 @@ impl Key {
             })
     }
 
+    /// The key of a text. [`ident_key!`](crate::ident_key) makes one of an identifier.
     pub fn new(text: &'static str) -> Key
         ensures { result ≡ text.now }
     {
-        let hash = Key::hash_of(text);
-        Key {
-            text: StaticText::new(text),
-            hash,
-        }
+        Key::new_unchecked(Key::hash_of(text), text)
     }
 
+    /// The key of a text whose hash is known, so that it is not computed again.
     pub fn new_unchecked(hash: u64, text: &'static str) -> Key
         requires { hash ≡ fnv text.now }
         ensures { result ≡ text.now }
@@ -64,20 +67,22 @@ impl Key {
         }
     }
 
-    /// The same key once more.
-    pub fn again(&self) -> Key
-        ensures { result ≡ self.now }
-    {
-        Key {
-            text: self.text.again(),
-            hash: self.hash,
-        }
-    }
-
+    /// The text. It lives longer than the key.
     pub fn as_str(&self) -> &'static str
         ensures { result.now ≡ self.now }
     {
         self.text.as_str()
+    }
+
+    /// The same key once more. `clone` answers a `Result`, as each `clone` does, also where it never fails; this call
+    /// is for those who cannot pass an error on.
+    pub fn copy(&self) -> Key
+        ensures { result ≡ self.now }
+    {
+        Key {
+            text: self.text.copy(),
+            hash: self.hash,
+        }
     }
 }
 
@@ -119,6 +124,7 @@ impl Ord for Key {
     }
 }
 
+/// By the 64-bit hash alone.
 impl Hash for Key {
     ghost hash_input = { λ k. fed.u64 (fnv k) };
 
@@ -129,12 +135,28 @@ impl Hash for Key {
     }
 }
 
+/// It never fails, and says so.
 impl Clone for Key {
     ghost is_clone = { λ k c. c ≡ k };
 
     ghost is_infallible = { λ _. Unit {0} };
 
     fn clone(&self) -> Result<Key, AllocError> {
-        Ok(self.again())
+        Ok(self.copy())
     }
+}
+
+/// As the text.
+impl fmt::Debug for Key {
+    fn fmt<W: fmt::Write>(&self, f: &mut fmt::Formatter<W>) -> fmt::Result {
+        self.as_str().fmt(f)
+    }
+}
+
+/// The [`Key`](crate::key::Key) of an identifier's text, as `ident_key!(count)` for the key of `count`.
+#[macro_export]
+macro_rules! ident_key {
+    ($name:ident) => {
+        $crate::key::Key::new(stringify!($name))
+    };
 }

@@ -1,5 +1,7 @@
-//! Flame graphs: keys, a map from paths to sizes with its text, the identities of shared values, and the definitions
-//! and laws on which the whole port of `allocative` stands.
+//! Flame graphs of declared sizes: keys, a map from paths of keys to sizes with its text, the identities of shared
+//! values, and the definitions and laws on which the port of `allocative` stands.
+//!
+//! All sizes are in bytes. What needs memory takes an allocator first and answers a `Result`.
 #![tactic(auto)]
 
 pub mod flamegraph;

@@ -1,4 +1,11 @@
 //! A static text whose type names no lifetime.
+//!
+//! A struct that holds a `&'static str` has a lifetime in its type, and a `&mut` to such a struct, lent to a closure or
+//! kept in another struct, gets no generated proof. So a key, which collectors hold, keeps its text as a pointer and a
+//! length, beside a ghost right to read there for good.
+//!
+//! Proved by hand, in `proofs/static_text`, are the three functions of [`ReadRight`] that make the right, have it twice
+//! and read by it, and that the right can be had twice and be sent to other threads. All else is generated from these.
 ghost use Rattle.std.specs.Prelude.{◌≡◌, ℕ, ◌^◌, ◌<◌, ◌≤◌, List, [], length, IsUtf8};
 ghost use denote.RawPtr.{Ptr};
 ghost use Rattle.allocative_graph.specs.Static.{IsPlaced, static_owns};
@@ -7,33 +14,36 @@ use std::alloc::AllocError;
 use std::marker::Model;
 use std::{slice, str};
 
-// The right to read `items` at `ptr` for good.
+// The right to read `items` at `ptr` for good. It has no field at run time.
 #[derive(Drop)]
-pub(crate) struct Seen {
+pub(crate) struct ReadRight {
     ghost ptr: { Ptr },
     ghost items: { List ℕ },
     ghost placed: { IsPlaced ptr × (length items < 2 ^ 63) },
 }
 
-impl Model for Seen {
+impl Model for ReadRight {
     ghost also_owns = { λ s. static_owns s.ptr s.items };
 
     ghost also_shares = { λ s _ _. static_owns s.ptr s.items };
 }
 
-impl Seen {
-    pub(crate) fn forever(bytes: &'static [u8]) -> (*const u8, Seen)
+impl ReadRight {
+    // The bytes of a `&'static` can be read for good.
+    pub(crate) fn forever(bytes: &'static [u8]) -> (*const u8, ReadRight)
         ensures { (result.1.ptr ≡ result.0) × (result.1.items ≡ bytes.now) }
     {
-        (bytes.as_ptr(), Seen {})
+        (bytes.as_ptr(), ReadRight {})
     }
 
-    pub(crate) fn again(&self) -> Seen
+    // The right once more: who only reads does not take it from another.
+    pub(crate) fn copy(&self) -> ReadRight
         ensures { result ≡ self.now }
     {
-        Seen {}
+        ReadRight {}
     }
 
+    // What stands there.
     #[inline(always)]
     pub(crate) fn read(&self, ptr: *const u8, len: usize) -> &'static [u8]
         requires { (ptr ≡ self.now.ptr) × (len ≡ length self.now.items) }
@@ -43,12 +53,12 @@ impl Seen {
     }
 }
 
-/// A static text. A clause sees its bytes.
+/// A static text. A contract sees its bytes.
 #[derive(Drop)]
 pub struct StaticText {
     at: *const u8,
     len: usize,
-    seen: Seen,
+    right: ReadRight,
 }
 
 impl Model for StaticText {
@@ -56,9 +66,9 @@ impl Model for StaticText {
 
     ghost Value = { List ℕ };
 
-    ghost view = { λ s. s.seen.items };
+    ghost view = { λ s. s.right.items };
 
-    ghost invariant = { λ s. (s.at ≡ s.seen.ptr) × (s.len ≡ length s.seen.items) × IsUtf8 s.seen.items };
+    ghost invariant = { λ s. (s.at ≡ s.right.ptr) × (s.len ≡ length s.right.items) × IsUtf8 s.right.items };
 }
 
 // The pointer owns nothing.
@@ -67,31 +77,33 @@ unsafe impl Send for StaticText {}
 unsafe impl Sync for StaticText {}
 
 impl StaticText {
+    /// The text of a reference.
     pub fn new(text: &'static str) -> StaticText
         ensures { result ≡ text.now }
     {
-        let (at, seen) = Seen::forever(text.as_bytes());
+        let (at, right) = ReadRight::forever(text.as_bytes());
         StaticText {
             at,
             len: text.len(),
-            seen,
+            right,
         }
     }
 
+    /// The text as a reference again.
     pub fn as_str(&self) -> &'static str
         ensures { result.now ≡ self.now }
     {
-        unsafe { str::from_utf8_unchecked(self.seen.read(self.at, self.len)) }
+        unsafe { str::from_utf8_unchecked(self.right.read(self.at, self.len)) }
     }
 
-    /// The same text once more.
-    pub fn again(&self) -> StaticText
+    /// The same text once more; it never fails.
+    pub fn copy(&self) -> StaticText
         ensures { result ≡ self.now }
     {
         StaticText {
             at: self.at,
             len: self.len,
-            seen: self.seen.again(),
+            right: self.right.copy(),
         }
     }
 }
@@ -102,6 +114,6 @@ impl Clone for StaticText {
     ghost is_infallible = { λ _. Unit {0} };
 
     fn clone(&self) -> Result<StaticText, AllocError> {
-        Ok(self.again())
+        Ok(self.copy())
     }
 }

@@ -1,8 +1,11 @@
-// What no clause says: worked rows, and each growth refused in turn.
-use crate::flamegraph::FlameGraph;
+// What no clause says: worked examples, printed texts, and what is left where memory is refused.
+use crate::flamegraph::{FlameGraph, push_path};
+use crate::ident_key;
 use crate::key::Key;
 use crate::refusal::Refusal;
+use crate::shared::{IdArc, IdMaker, IdRc, Identity};
 use std::alloc::Global;
+use std::hash::{DefaultHasher, Hash, Hasher};
 
 // A graph whose root has the size.
 fn own(alloc: Global, size: usize) -> Result<FlameGraph, Refusal> {
@@ -11,7 +14,7 @@ fn own(alloc: Global, size: usize) -> Result<FlameGraph, Refusal> {
     Ok(graph)
 }
 
-// A graph with one child.
+// A graph with one child, whose own size is given.
 fn one(alloc: Global, key: &'static str, size: usize) -> Result<FlameGraph, Refusal> {
     let mut graph = FlameGraph::default(alloc);
     graph.add_child(Key::new(key), own(alloc, size)?)?;
@@ -19,7 +22,16 @@ fn one(alloc: Global, key: &'static str, size: usize) -> Result<FlameGraph, Refu
 }
 
 #[test]
-fn children_add_up(rt: HostRuntime) -> Result<(), Refusal> {
+fn the_root_has_no_line(rt: HostRuntime) -> Result<(), Refusal> {
+    let mut graph = FlameGraph::default(rt.alloc());
+    graph.add_self(5)?;
+    assert_eq!(rt; graph.write()?.as_str(), "");
+    assert_eq!(rt; graph.total_size(), 5);
+    Ok(())
+}
+
+#[test]
+fn children_of_one_key_add_up(rt: HostRuntime) -> Result<(), Refusal> {
     let alloc = rt.alloc();
     let mut graph = FlameGraph::default(alloc);
     graph.add_child(Key::new("a"), own(alloc, 3)?)?;
@@ -39,14 +51,55 @@ fn lines_stand_in_the_order_of_keys(rt: HostRuntime) -> Result<(), Refusal> {
     assert_eq!(rt; graph.total_size(), 3);
     let copy = graph.clone()?;
     assert_eq!(rt; copy.write()?.as_str(), "a;c 2\nb 1\n");
-    let mut other = FlameGraph::default(alloc);
-    let mut a = own(alloc, 3)?;
+    assert_eq!(rt; copy.total_size(), 3);
+    Ok(())
+}
+
+#[test]
+fn keys_and_not_joined_texts_decide(rt: HostRuntime) -> Result<(), Refusal> {
+    let alloc = rt.alloc();
+    let mut graph = FlameGraph::default(alloc);
+    let mut a = own(alloc, 2)?;
     a.add_child(Key::new("x"), own(alloc, 1)?)?;
-    other.add_child(Key::new("a!"), own(alloc, 2)?)?;
-    other.add_child(Key::new("a"), a)?;
-    assert_eq!(rt; other.write()?.as_str(), "a 3\na;x 1\na! 2\n");
+    graph.add_child(Key::new("a!"), own(alloc, 2)?)?;
+    graph.add_child(Key::new("a"), a)?;
+    assert_eq!(rt; graph.write()?.as_str(), "a 2\na;x 1\na! 2\n");
+    Ok(())
+}
+
+#[test]
+fn an_empty_graph_takes_all_of_another(rt: HostRuntime) -> Result<(), Refusal> {
+    let alloc = rt.alloc();
+    let mut graph = FlameGraph::default(alloc);
+    graph.add(one(alloc, "x", 10)?)?;
+    assert_eq!(rt; graph.total_size(), 10);
+    assert_eq!(rt; graph.write()?.as_str(), "x 10\n");
+    Ok(())
+}
+
+#[test]
+fn graphs_add_up_path_by_path(rt: HostRuntime) -> Result<(), Refusal> {
+    let alloc = rt.alloc();
+    let mut graph = FlameGraph::default(alloc);
+    graph.add_child(Key::new("a"), one(alloc, "x", 1)?)?;
+    graph.add_child(Key::new("c"), own(alloc, 2)?)?;
+    let mut other = FlameGraph::default(alloc);
+    other.add_child(Key::new("a"), one(alloc, "x", 4)?)?;
+    other.add_child(Key::new("b"), own(alloc, 8)?)?;
+    other.add_child(Key::new("d"), own(alloc, 16)?)?;
     graph.add(other)?;
-    assert_eq!(rt; graph.write()?.as_str(), "a 3\na;c 2\na;x 1\na! 2\nb 1\n");
+    assert_eq!(rt; graph.write()?.as_str(), "a;x 5\nb 8\nc 2\nd 16\n");
+    Ok(())
+}
+
+#[test]
+fn a_key_with_a_semicolon_looks_like_a_path(rt: HostRuntime) -> Result<(), Refusal> {
+    let alloc = rt.alloc();
+    let joined = one(alloc, "a;b", 1)?;
+    let mut nested = FlameGraph::default(alloc);
+    nested.add_child(Key::new("a"), one(alloc, "b", 1)?)?;
+    assert_eq!(rt; joined.write()?.as_str(), "a;b 1\n");
+    assert_eq!(rt; nested.write()?.as_str(), "a;b 1\n");
     Ok(())
 }
 
@@ -54,16 +107,49 @@ fn lines_stand_in_the_order_of_keys(rt: HostRuntime) -> Result<(), Refusal> {
 fn a_total_past_the_bound_is_refused(rt: HostRuntime) -> Result<(), Refusal> {
     let alloc = rt.alloc();
     let mut graph = own(alloc, usize::MAX)?;
-    assert!(rt; matches!(graph.add_self(1), Err(Refusal::TooLarge)));
-    assert!(rt;
-        matches!(
-            graph.add_child(Key::new("a"), own(alloc, 1)?),
-            Err(Refusal::TooLarge)
-        )
-    );
-    assert!(rt; matches!(graph.add(one(alloc, "a", 1)?), Err(Refusal::TooLarge)));
+    assert_eq!(rt; graph.add_self(1), Err(Refusal::TooLarge));
+    assert_eq!(rt; graph.total_size(), usize::MAX);
+    assert_eq!(rt; graph.add_child(Key::new("a"), own(alloc, 1)?), Err(Refusal::TooLarge));
+    assert_eq!(rt; graph.add(one(alloc, "a", 1)?), Err(Refusal::TooLarge));
     assert_eq!(rt; graph.total_size(), usize::MAX);
     assert_eq!(rt; graph.write()?.as_str(), "");
+    Ok(())
+}
+
+// With ample memory it ends at the sum; where one growth is refused, each size is the old one or the sum's.
+#[test]
+fn after_memory_each_size_is_old_or_summed(rt: HostRuntime) -> Result<(), Refusal> {
+    let alloc = rt.alloc();
+    let mut graph = one(alloc, "a", 1)?;
+    graph.add(one(alloc, "b", 2)?)?;
+    let mut other = one(alloc, "b", 3)?;
+    other.add(one(alloc, "c", 4)?)?;
+    match graph.add(other) {
+        Ok(()) => {
+            assert_eq!(rt; graph.total_size(), 10);
+            assert_eq!(rt; graph.write()?.as_str(), "a 1\nb 5\nc 4\n");
+        }
+        Err(refusal) => {
+            assert_eq!(rt; refusal, Refusal::Memory);
+            let left = graph.write()?;
+            let total = match left.as_str() {
+                "a 1\nb 2\n" => 3,
+                "a 1\nb 5\n" => 6,
+                "a 1\nb 2\nc 4\n" => 7,
+                "a 1\nb 5\nc 4\n" => 10,
+                _ => 0,
+            };
+            assert_eq!(rt; graph.total_size(), total);
+        }
+    }
+    Ok(())
+}
+
+#[test]
+fn a_path_is_joined_by_semicolons(rt: HostRuntime) -> Result<(), Refusal> {
+    let mut text = String::new(rt.alloc());
+    push_path(&["a", "b", "c"], &mut text)?;
+    assert_eq!(rt; text.as_str(), "a;b;c");
     Ok(())
 }
 
@@ -73,19 +159,80 @@ fn hashes_are_fnv(rt: HostRuntime) {
     assert_eq!(rt; Key::hash_of("a"), 0xaf63_dc4c_8601_ec8c);
 }
 
+// What a hasher says of a key.
+fn hashed(key: &Key) -> u64 {
+    let mut hasher = DefaultHasher::new();
+    key.hash(&mut hasher);
+    hasher.finish()
+}
+
 #[test]
-fn after_memory_each_size_is_old_or_summed(rt: HostRuntime) -> Result<(), Refusal> {
+fn an_identifier_is_a_key(rt: HostRuntime) {
+    let key = ident_key!(foo);
+    assert_eq!(rt; key.as_str(), "foo");
+    assert!(rt; key == Key::new("foo"));
+    assert!(rt; key == Key::new_unchecked(Key::hash_of("foo"), "foo"));
+    let mut hasher = DefaultHasher::new();
+    hasher.write_u64(Key::hash_of("foo"));
+    let expected = hasher.finish();
+    assert_eq!(rt; hashed(&key), expected);
+    assert_eq!(rt; hashed(&Key::new("foo")), expected);
+}
+
+#[test]
+fn keys_stand_in_the_order_of_their_bytes(rt: HostRuntime) -> Result<(), Refusal> {
+    let key = Key::new("a");
+    assert!(rt; key < Key::new("a!"));
+    assert!(rt; Key::new("Z") < key);
+    assert!(rt; key.copy() == key);
+    assert!(rt; key.clone()? == key);
+    Ok(())
+}
+
+#[test]
+fn identities_have_a_maker_and_a_number(rt: HostRuntime) {
+    let id = Identity::new(3, 4);
+    assert_eq!(rt; id.maker(), 3);
+    assert_eq!(rt; id.number(), 4);
+    assert_eq!(rt; Identity::from(7), Identity::new(0, 7));
+    assert!(rt; Identity::new(0, 9) < Identity::new(1, 0));
+    assert!(rt; Identity::new(1, 0) < Identity::new(1, 2));
+}
+
+#[test]
+fn a_maker_ends_after_the_greatest_number(rt: HostRuntime) {
+    let mut last = IdMaker::starting_at(0, u64::MAX);
+    assert_eq!(rt; last.fresh(), Some(Identity::new(0, u64::MAX)));
+    assert_eq!(rt; last.fresh(), None);
+    assert_eq!(rt; last.fresh(), None);
+    let mut maker = IdMaker::new(5);
+    assert_eq!(rt; maker.fresh(), Some(Identity::new(5, 0)));
+    assert_eq!(rt; maker.fresh(), Some(Identity::new(5, 1)));
+}
+
+#[test]
+fn shared_values_keep_their_identities(rt: HostRuntime) -> Result<(), Refusal> {
     let alloc = rt.alloc();
-    let mut graph = one(alloc, "a", 1)?;
-    graph.add(one(alloc, "b", 2)?)?;
-    let mut other = one(alloc, "b", 3)?;
-    other.add(one(alloc, "c", 4)?)?;
-    let result = graph.add(other);
-    let total = graph.total_size();
-    match result {
-        Ok(()) => assert_eq!(rt; total, 10),
-        Err(Refusal::Memory) => assert!(rt; total == 3 || total == 6 || total == 7 || total == 10),
-        Err(_) => assert!(rt; false),
-    }
+    let id = Identity::new(1, 2);
+    let single = IdRc::new(alloc, 7u8, id)?;
+    let other = single.clone()?;
+    assert_eq!(rt; other.id(), id);
+    assert_eq!(rt; *other.get(), 7);
+    let threaded = IdArc::new(alloc, 8u8, id)?;
+    let other = threaded.clone()?;
+    assert_eq!(rt; other.id(), id);
+    assert_eq!(rt; *other.get(), 8);
+    Ok(())
+}
+
+#[test]
+fn refusals_say_why(rt: HostRuntime) -> Result<(), Refusal> {
+    let alloc = rt.alloc();
+    let memory = format!(in alloc; "{}", Refusal::Memory)?;
+    assert_eq!(rt; memory.as_str(), "out of memory");
+    let too_large = format!(in alloc; "{}", Refusal::TooLarge)?;
+    assert_eq!(rt; too_large.as_str(), "sizes do not fit");
+    let open = format!(in alloc; "{}", Refusal::Open)?;
+    assert_eq!(rt; open.as_str(), "a visitor was forgotten");
     Ok(())
 }

@@ -15,7 +15,7 @@ impl Allocative for Leaf {
     ghost may_show = { λ l. Inside l.key l.size Nothing };
 
     fn visit(&self, visitor: &mut Visitor<'_>) -> Result<(), Refusal> {
-        visitor.visit_simple(self.key.again(), self.size)
+        visitor.visit_simple(self.key.copy(), self.size)
     }
 }
 

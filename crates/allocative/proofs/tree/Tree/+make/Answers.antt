@@ -51,7 +51,7 @@ key t c = child_key c.self.inside.nodes.items c.self.invariant c.args.self.now c
 
 pub returns-in_err-add_self-clause-err : goal.returns-in_err-add_self-clause-err
 returns-in_err-add_self-clause-err t c =
-    let large : 2 ^ 64 ≤ total c.default-graph.result + c.size.result = c.in_err-add_self.ensures.1 in
+    let large : 2 ^ 64 ≤ total c.default-graph.result + c.size.result = c.in_err-add_self.ensures.too_large.0 (ap (λ (r : Refusal). Err r) c.in_err-add_self.ensures.no_other) in
     let own : c.size.result ≤ total_listed c.args.self.now = subst (λ (n : ℕ). n ≤ total_listed c.args.self.now) (sym c.size.ensures) (own_fits c.args.self.now c.args.at c.requires.within) in
     let none : total c.default-graph.result ≡ 0 = ap total c.default-graph.ensures ∙ total-default in
     absurd {A = IfErr c.from_residual.result (λ e. e ≡ Memory)} (omega (arith, large, own, none, c.requires.fits))
@@ -65,7 +65,7 @@ loop-child-init t c =
     let items = c.self.inside.nodes.items in
     let bytes = bytes_read items c.self.invariant v c.self.view_is i c.requires.within n c.index-node.ensures in
     let under = under_read items c.self.invariant v c.self.view_is i c.requires.within n c.index-node.ensures in
-    let is : c.add_self.new.self ≡ add_self (size_at v i) default = c.in_ok-add_self.ensures.1 ∙ (λ j. add_self (c.size.ensures j) (c.default-graph.ensures j)) in
+    let is : c.add_self.new.self ≡ add_self (size_at v i) default = c.in_ok-add_self.ensures.sum ∙ (λ j. add_self (c.size.ensures j) (c.default-graph.ensures j)) in
     let written : string_bytes c.if-is_short.text ≡ start ++ warning_at v i =
     elim c.if-is_short.branch [
       | then-is_short+in_ok-push_warning w ↦
@@ -121,7 +121,7 @@ loop-child-preserved t c =
     let kept : c.pop.new.self.items ≡ c.args.keys.now.items = popped c.loop-child.keys.items c.make.new.keys.items c.pop.new.self.items c.as_str.result _ c.pop.ensures.rest c.make.new.keys.ok.0 (c.in_ok-below.ensures.keys ∙ pushed) ∙ c.loop-child.invariant.keys in
     let rise = keys_rise c.self.inside.nodes.items c.self.invariant v c.self.view_is c.args.at c.requires.within c.index-node.result.now c.index-node.ensures xs c.deref-child-items.ensures.value in
     let inside : j < length ks = omega (arith, c.loop-child-test.true, length-keys_of (map shape c.self.inside.nodes.items) xs) in
-    let is : c.add_child.new.self ≡ sum_of c.loop-child.graph (under (key_in ks j) c.in_ok-below.below) = c.in_ok-add_child.ensures.sum ∙ ap (λ (k : Key). sum_of c.loop-child.graph (under k c.in_ok-below.below)) (c.again.ensures ∙ key t here) in
+    let is : c.add_child.new.self ≡ sum_of c.loop-child.graph (under (key_in ks j) c.in_ok-below.below) = c.in_ok-add_child.ensures.sum ∙ ap (λ (k : Key). sum_of c.loop-child.graph (under k c.in_ok-below.below)) (c.copy.ensures ∙ key t here) in
     record {
       keys = kept;
       made = half_more v c.args.at ks j inside rise (number t here) there.2 (string_bytes c.args.text.now) (string_bytes c.loop-child.text) (string_bytes c.make.new.text) c.loop-child.graph c.add_child.new.self c.in_ok-below.below c.loop-child.invariant.made c.in_ok-below.ensures.made is;

@@ -53,5 +53,5 @@ returns-clause-text t c =
     was ∙ ap (λ s. s ++ text_of_entries (behind ks (rows_of (take i cs)))) here
     ∙ ap (λ (s : List Child). (start ++ line (ks, n)) ++ text_of_entries (behind ks (rows_of s))) (all ∙ same)
     ∙ node_written ks n (rows_of c.self.inside.children.items) start
-    ∙ ap (λ s. start ++ text_of_entries (behind ks s)) (sym (entries-node n c.self.inside.children.items c.self.invariant.sorted))
+    ∙ ap (λ s. start ++ text_of_entries (behind ks s)) (sym (entries-node n c.self.inside.children.items c.self.invariant.children.sorted))
     ∙ ap (λ g. start ++ text_of_entries (behind ks (entries g))) c.self.view_is

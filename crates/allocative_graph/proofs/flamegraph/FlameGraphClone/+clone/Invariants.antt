@@ -1,5 +1,6 @@
 use Rattle.std.proofs.Common.{◌≡◌, take}
 use Rattle.allocative_graph.proofs.flamegraph.FlameGraphClone.+clone.Given as goal
 
-abbrev pub invariant-loop-child : goal.invariant-loop-child
-invariant-loop-child l = l.children.items ≡ take l.child-index l.child-items
+-- So far the children are copied.
+abbrev pub invariant-loop-key : goal.invariant-loop-key
+invariant-loop-key l = l.children.items ≡ take l.key-index l.key-items

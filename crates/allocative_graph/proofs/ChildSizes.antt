@@ -1,0 +1,50 @@
+-- The sizes below a key, where it stands among the children and where it does not.
+use Rattle.std.proofs.Common.{◌≡◌, ℕ, ◌||◌, inl, inr, Bool, true, false, cond, List, [], ◌∷◌, Option, None, Some, refl, sym, ap, subst, ◌∙◌, arith}
+use Rattle.std.specs.Option.{is_some}
+use Rattle.std.specs.List.{AllByRecursion}
+use Rattle.std.specs.Ordering.{eq_by_cmp, is_eq}
+use Rattle.std.specs.Cmp.{Equal-is}
+use Rattle.std.specs.FinMap.{get}
+use Rattle.allocative_graph.specs.declared.flamegraph.Child.{Child}
+use Rattle.allocative_graph.specs.Path.{Key, Path, key_cmp}
+use Rattle.allocative_graph.specs.Node.{keys_of}
+use Rattle.allocative_graph.specs.Children.{size_under, AddsUp, AddsUpInPart, AllAbove}
+use Rattle.allocative_graph.proofs.ChildOrder.{key_same}
+
+-- The key k is none of theirs.
+abbrev Lacks : Key → List Child → Type 0
+Lacks k cs = AllByRecursion (λ l. eq_by_cmp key_cmp k l ≡ false) (keys_of cs)
+
+lacks-above : (k : Key) (cs : List Child) → AllAbove cs k → Lacks k cs
+lacks-above k [] h = tt
+lacks-above k (c ∷ cs) h = (ap is_eq h.0, lacks-above k cs h.1)
+
+same-is : (k l : Key) → eq_by_cmp key_cmp k l ≡ true → k ≡ l
+same-is k l e = key_same k l ((Equal-is (key_cmp k l)).0 e)
+
+size_under-lacks : (cs : List Child) (k : Key) (p : Path) → Lacks k cs → size_under cs k p ≡ None
+size_under-lacks [] k p h = refl
+size_under-lacks (c ∷ cs) k p h = ap (λ b. cond b (get c.graph p) (size_under cs k p)) h.0 ∙ size_under-lacks cs k p h.1
+
+-- Nothing stands below a key that is below all.
+pub none_above : (k l : Key) (p : Path) (cs : List Child) → eq_by_cmp key_cmp k l ≡ true → AllAbove cs l → size_under cs k p ≡ None
+none_above k l p cs e h = size_under-lacks cs k p (subst (λ m. Lacks m cs) (sym (same-is k l e)) (lacks-above l cs h))
+
+-- ---- sums of sizes
+or_left : (a b : Bool) → a ≡ true → (a || b) ≡ true
+or_left true b e = refl
+or_left false b e = absurd (cc)
+
+pub AddsUp-first : (x : Option ℕ) → AddsUp x None x
+AddsUp-first None = (refl, refl)
+AddsUp-first (Some n) = (omega arith, refl)
+
+pub AddsUp-second : (y : Option ℕ) → AddsUp None y y
+AddsUp-second None = (refl, refl)
+AddsUp-second (Some n) = (omega arith, refl)
+
+pub part_of_sum : (x y z : Option ℕ) → AddsUp x y z → AddsUpInPart x y z
+part_of_sum x y z h = (inr h.0, (λ e. h.1 ∙ or_left (is_some x) (is_some y) e), (λ e. sym h.1 ∙ e))
+
+pub part_of_none : (x y : Option ℕ) → AddsUpInPart x y x
+part_of_none x y = (inl refl, (λ e. e), (λ e. or_left (is_some x) (is_some y) e))

@@ -1,6 +1,0 @@
-use denote.Param.Send.{IsSend, owning_send}
-use Rattle.allocative_graph.proofs.Loans.{static_owns-keyless}
-use Rattle.allocative_graph.specs.contracts.static_text.Seen as C
-
-pub send : IsSend C.the_row
-send = owning_send C.the_type tt (λ s. static_owns-keyless s.ptr s.items) (λ k x w. tt)

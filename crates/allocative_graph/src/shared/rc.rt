@@ -1,0 +1,62 @@
+//! Shared values of one thread.
+ghost use Rattle.std.specs.Prelude.{◌≡◌, IfOk, IfErr};
+
+use super::Identity;
+use crate::refusal::Refusal;
+use std::alloc::{AllocError, Global};
+use std::marker::Model;
+use std::rc::Rc;
+
+/// A value with several owners in one thread, and with an identity that all of them have.
+#[derive(Drop)]
+pub struct IdRc<T: Drop> {
+    pointer: Rc<T>,
+    id: Identity,
+}
+
+impl<T: Drop> Model for IdRc<T> {
+    ghost use Rattle.allocative_graph.specs.Shared as specs;
+
+    ghost Value = { specs.Shared T };
+
+    ghost view = { λ s. record { value = s.pointer.value; id = s.id } };
+}
+
+impl<T: Drop> IdRc<T> {
+    /// Puts the value on the heap, under the identity. It answers an error only for want of memory, and then the value
+    /// is dropped.
+    pub fn new(alloc: Global, value: T, id: Identity) -> Result<IdRc<T>, Refusal>
+        ensures ok { IfOk result (λ shared. shared ≡ record { value = value; id = id }) }
+        ensures memory { IfErr result (λ r. r ≡ Refusal.Memory) }
+    {
+        let pointer = Rc::new(alloc, value)?;
+        Ok(IdRc { pointer, id })
+    }
+
+    /// The identity that it was made with.
+    pub fn id(&self) -> Identity
+        ensures { result ≡ self.now.id }
+    {
+        self.id
+    }
+
+    /// The value that it was made with.
+    pub fn get(&self) -> &T
+        ensures { result.now ≡ self.now.value }
+    {
+        &self.pointer
+    }
+}
+
+impl<T: Drop> Clone for IdRc<T> {
+    ghost is_clone = { λ s c. c ≡ s };
+
+    /// One owner more of the same value, under the same identity.
+    fn clone(&self) -> Result<IdRc<T>, AllocError> {
+        let pointer = self.pointer.clone()?;
+        Ok(IdRc {
+            pointer,
+            id: self.id,
+        })
+    }
+}
