@@ -81,7 +81,7 @@ impl Visitor<'_> {
         let Some(bytes) = size.checked_mul(items.len()) else {
             return Err(self.refuse(Refusal::TooLarge));
         };
-        self.visit_simple(Key::new(T::name()), bytes)
+        self.visit_simple(Key::for_type_name::<T>(), bytes)
     }
 
     // One unique entry of a pointer, and in it what the object shows.

@@ -85,7 +85,7 @@ impl Collector {
         ensures same_reference { IfOk result (λ v. v.collector.ghost_name ≡ self.entry.ghost_name) }
         ensures entered { IfOk result (λ v. EntersSized T.name T.size self.old (Ok v.outer_is_unique) v.collector.now) }
     {
-        self.enter_sized(Key::new(T::name()), T::size())
+        self.enter_sized(Key::for_type_name::<T>(), T::size())
     }
 
     /// Enters inline with the declared size of `T`.

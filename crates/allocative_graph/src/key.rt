@@ -10,6 +10,7 @@ ghost use Rattle.std.specs.Hash as fed;
 ghost use Rattle.allocative_graph.specs.Fnv.{fnv};
 
 use crate::static_text::StaticText;
+use allocative_described::Described;
 use std::alloc::AllocError;
 use std::cmp::Ordering;
 use std::fmt;
@@ -54,6 +55,13 @@ impl Key {
         ensures { result ≡ text.now }
     {
         Key::new_unchecked(Key::hash_of(text), text)
+    }
+
+    /// The key of the declared name of `T`.
+    pub fn for_type_name<T: Described>() -> Key
+        ensures { result ≡ T.name }
+    {
+        Key::new(T::name())
     }
 
     /// The key of a text whose hash is known, so that it is not computed again.

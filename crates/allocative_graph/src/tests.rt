@@ -109,7 +109,10 @@ fn a_total_past_the_bound_is_refused(rt: HostRuntime) -> Result<(), Refusal> {
     let mut graph = own(alloc, usize::MAX)?;
     assert_eq!(rt; graph.add_self(1), Err(Refusal::TooLarge));
     assert_eq!(rt; graph.total_size(), usize::MAX);
-    assert_eq!(rt; graph.add_child(Key::new("a"), own(alloc, 1)?), Err(Refusal::TooLarge));
+    assert_eq!(rt;
+        graph.add_child(Key::new("a"), own(alloc, 1)?),
+        Err(Refusal::TooLarge)
+    );
     assert_eq!(rt; graph.add(one(alloc, "a", 1)?), Err(Refusal::TooLarge));
     assert_eq!(rt; graph.total_size(), usize::MAX);
     assert_eq!(rt; graph.write()?.as_str(), "");

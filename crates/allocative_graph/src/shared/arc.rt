@@ -1,8 +1,10 @@
 //! Shared values of any threads.
-ghost use Rattle.std.specs.Prelude.{◌≡◌, IfOk, IfErr};
+ghost use Rattle.std.specs.Prelude.{◌≡◌, IfOk, IfErr, Some, true, codes};
+ghost use Rattle.std.proofs.Common.{lit≤};
 
 use super::Identity;
 use crate::refusal::Refusal;
+use allocative_described::Described;
 use std::alloc::{AllocError, Global};
 use std::marker::Model;
 use std::sync::Arc;
@@ -58,5 +60,33 @@ impl<T: Drop> Clone for IdArc<T> {
             pointer,
             id: self.id,
         })
+    }
+}
+
+impl<T: Drop> Described for IdArc<T> {
+    ghost name = { codes "Arc" };
+
+    ghost align = { 8 };
+
+    ghost needs_drop = { true };
+
+    ghost size = { Some 8 };
+
+    ghost align_positive = { lit≤ tt };
+
+    fn name() -> &'static str {
+        "Arc"
+    }
+
+    fn align() -> usize {
+        8
+    }
+
+    fn needs_drop() -> bool {
+        true
+    }
+
+    fn size() -> Option<usize> {
+        Some(8)
     }
 }
