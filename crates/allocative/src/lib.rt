@@ -10,3 +10,5 @@ pub mod builder;
 pub mod collector;
 pub mod graph_collector;
 pub mod held_collector;
+#[cfg(test)]
+mod tests;

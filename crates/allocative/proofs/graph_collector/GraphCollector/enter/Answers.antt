@@ -20,8 +20,8 @@ invariant_of-self-2 c =
     let pushed : c.push.new.self.items ≡ i.places.items ++ i.current ∷ [] = c.push.ensures.items ∙ cond-true _ _ _ c.if-is_err.ensures.negation in
     subst (λ (l : List ℕ). IsPlaced c.add.new.tree c.in_ok-node.node l c.add.new.entered) (sym pushed)
     (placed_gone c.add.new.tree i.current i.places.items c.add.new.entered
-        (placed_added i.tree c.add.new.tree i.met.keys i.current i.places.items i.is_rooted i.entered c.self.invariant c.args.key c.args.size c.args.is_unique c.add.new.entered c.in_ok-node.node c.in_ok-node.ensures.ok (mark_of c.args.is_unique) (mark_is c.args.is_unique))
-        c.in_ok-node.node c.in_ok-node.ensures.ok.is.within)
+    (placed_added i.tree c.add.new.tree i.met.keys i.current i.places.items i.is_rooted i.entered c.self.invariant c.args.key c.args.size c.args.is_unique c.add.new.entered c.in_ok-node.node c.in_ok-node.ensures.ok (mark_of c.args.is_unique) (mark_is c.args.is_unique))
+    c.in_ok-node.node c.in_ok-node.ensures.ok.is.within)
 
 pub returns-clause-ok : goal.returns-clause-ok
 returns-clause-ok c =
