@@ -19,3 +19,6 @@ pub mod Graphs
 pub mod Whole
 pub mod Made
 pub mod Collect
+pub mod Nest
+pub mod Lent
+pub mod Nesting

@@ -1,7 +1,11 @@
 pub mod Steps
 pub mod Roots
 pub mod Kinds
+pub mod Shared
 pub mod Lending
+pub mod Nested
+pub mod Built
+pub mod Rooted
 pub mod Listed
 pub mod Shapes
 pub mod Nodes

@@ -1,14 +1,18 @@
 //! Builders of flame graphs.
 #![tactic(auto, using(crate::proofs::Roots::running))]
 
-ghost use Rattle.std.specs.Prelude.{◌<◌, ◌^◌, ◌≡◌, ◌↔◌, IfOk, IfErr, MatchResult, string_bytes};
+ghost use Rattle.std.specs.Prelude.{◌<◌, ◌^◌, ◌≡◌, ◌↔◌, Ok, Err, IfOk, IfErr, MatchResult, string_bytes};
 ghost use Rattle.allocative_graph.specs.Graph.{text, graph, total};
 ghost use Rattle.allocative_graph.specs.Collector.{Going, OfGraph, no_entries};
-ghost use Rattle.allocative_graph.specs.Visits.{Runs, Settles, Ends, IsProfile};
+ghost use Rattle.allocative_graph.specs.Visits.{Runs, Begins, Settles, Ends, IsProfile};
+ghost use Rattle.allocative.specs.Built.{as_graph};
+ghost use Rattle.allocative.specs.Rooted.{LendsBuilt, LendsRoot};
+ghost use Rattle.std.specs.Borrow.{sem};
 
 use crate::allocative_trait::Allocative;
 use crate::collector::Collector;
 use crate::output::FlameGraphOutput;
+use crate::visitor::Visitor;
 use allocative_graph::refusal::Refusal;
 use std::alloc::Global;
 use std::marker::Model;
@@ -19,17 +23,17 @@ pub struct FlameGraphBuilder {
     collector: Collector,
 }
 
+// A root visitor lends the collector, and what stands behind its reference could be exchanged for any other.
 impl Model for FlameGraphBuilder {
-    ghost use Rattle.allocative_graph.specs.Collector.{State, IsGraphs};
+    ghost use Rattle.allocative_graph.specs.Collector.{State};
     ghost use Rattle.allocative_graph.specs.Codes.{state_code};
+    ghost use Rattle.allocative.specs.Built.{as_graph};
 
     ghost Value = { State };
 
     ghost coded = { state_code };
 
-    ghost view = { λ b. b.collector };
-
-    ghost invariant = { λ b. IsGraphs b.collector };
+    ghost view = { λ b. as_graph b.collector };
 }
 
 impl FlameGraphBuilder {
@@ -42,10 +46,34 @@ impl FlameGraphBuilder {
         })
     }
 
+    // The collector, lent.
+    fn lend(&mut self) -> &mut Collector
+        ensures* lent { sem 𝓛 (LendsBuilt self.entry result) }
+        ensures now { self.old ≡ as_graph result.now }
+    {
+        &mut self.collector
+    }
+
+    /// A visitor at the root. It takes no memory.
+    ///
+    /// A builder that has failed answers its first cause, and one where a visitor is out answers Open; then nothing changes.
+    /// Once the visitor is gone, the builder is what it left.
+    ///
+    /// A caller's proof learns the answer and the visitor by the plain clauses, and nothing of the builder afterwards; by
+    /// `visit_root` it does.
+    pub fn root_visitor(&mut self) -> Result<Visitor<'_>, Refusal>
+        ensures* lent { sem 𝓛 (LendsRoot self.entry result) }
+        ensures begun { IfOk result (λ v. Begins self.old (Ok v.outer_is_unique) v.collector.now) }
+        ensures refused { IfErr result (λ e. Settles self.old (Err e)) }
+    {
+        self.lend().graph_root_visitor()
+    }
+
     /// Visits a root by a root visitor. Ok exactly where the builder afterwards has neither failed nor stands open.
     pub fn visit_root(&mut self, root: &dyn Allocative) -> Result<(), Refusal>
         ensures { Runs (may_show root.now) self.old result self.new }
     {
+        self.check()?;
         self.collector.visit_object(root)
     }
 
@@ -53,6 +81,7 @@ impl FlameGraphBuilder {
     pub fn visit_value<T: Allocative>(&mut self, root: &T) -> Result<(), Refusal>
         ensures { Runs (T.may_show root.now) self.old result self.new }
     {
+        self.check()?;
         self.collector.visit_one(root)
     }
 
@@ -60,7 +89,7 @@ impl FlameGraphBuilder {
     pub(crate) fn check(&self) -> Result<(), Refusal>
         ensures { Settles self.now result }
     {
-        self.collector.check()
+        self.collector.check_graph()
     }
 
     /// The graph and the warnings of all that was entered. The graph's total is at most `isize::MAX`.

@@ -2,11 +2,12 @@
 #![tactic(auto, using(crate::proofs::Steps::steps))]
 
 ghost use Rattle.std.specs.Prelude.{◌≡◌, ◌+◌, ◌<◌, ◌^◌, true, false, IfOk, IfErr, OnOk, IsTrue, ◌↔◌};
-ghost use Rattle.allocative_graph.specs.Collector.{State, Failed, Going, OfGraph, OfHeld, no_entries, nothing_held, enter, leave, begin, is_in_unique, failed_with, left, IsClosed, IsAtRoot, IsGraphs};
+ghost use Rattle.allocative_graph.specs.Collector.{State, Failed, Going, OfGraph, OfHeld, no_entries, nothing_held, enter, leave, begin, is_in_unique, failed_with, left, IsClosed, IsAtRoot};
 ghost use Rattle.allocative_graph.specs.Graph.{total};
 ghost use Rattle.allocative_graph.specs.Visits.{HasFailed, HasRoom, Refuses, Enters, EntersSized, EntersShared, Begins, Settles, Ends, IsProfile};
 ghost use Rattle.allocative.specs.Steps.{StepsIn, StepsInShared, IsSum};
 ghost use Rattle.allocative.specs.Kinds.{kind_of};
+ghost use Rattle.allocative.specs.Built.{as_graph};
 
 use crate::graph_collector::GraphCollector;
 use crate::held_collector::HeldCollector;
@@ -247,6 +248,17 @@ impl Collector {
         Ok(())
     }
 
+    /// The same of a flame graph's collector. One of held bytes counts as failed with Open.
+    pub(crate) fn check_graph(&self) -> Result<(), Refusal>
+        ensures { Settles (as_graph self.now) result }
+    {
+        self.check()?;
+        match &self.kind {
+            Kind::Graph(_) => Ok(()),
+            Kind::Held(_) => Err(Refusal::Open),
+        }
+    }
+
     /// The sum of held bytes.
     pub(crate) fn sum(&self) -> usize
         ensures { IsSum self.now result }
@@ -257,16 +269,15 @@ impl Collector {
         }
     }
 
-    /// The graph and the warnings of a flame graph's collector.
+    /// The graph and the warnings of a flame graph's collector. One of held bytes counts as failed with Open.
     pub(crate) fn finish(&self) -> Result<FlameGraphOutput, Refusal>
-        requires { IsGraphs self.now }
-        ensures ends { Ends IsProfile self.now result }
+        ensures ends { Ends IsProfile (as_graph self.now) result }
         ensures total { IfOk result (λ o. total o.graph < 2 ^ 63) }
     {
         self.check()?;
         match &self.kind {
             Kind::Graph(graph) => graph.finish(),
-            Kind::Held(_) => unreachable!(),
+            Kind::Held(_) => Err(Refusal::Open),
         }
     }
 }

@@ -13,6 +13,8 @@ pub mod impls;
 pub mod output;
 pub mod registry;
 pub mod size_of;
+#[cfg(test)]
+mod tests;
 mod tree;
 pub mod two;
 pub mod visiting;

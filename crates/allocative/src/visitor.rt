@@ -1,11 +1,14 @@
 //! Visitors: places in a collector, under which values enter what they hold.
 #![tactic(auto, using(crate::proofs::Showing::showing))]
 
-ghost use Rattle.std.specs.Prelude.{◌≡◌, IfOk, IfErr, Ok};
+ghost use Rattle.std.specs.Prelude.{◌≡◌, IfOk, IfErr, IfSome, Ok, Err};
 ghost use Rattle.allocative_graph.specs.Collector.{failed_with};
 ghost use Rattle.allocative_graph.specs.Shows.{Inside, Nothing};
-ghost use Rattle.allocative_graph.specs.Visits.{Shows, HasFailed, Enters, EntersSized, Answers, Leaves, Begins};
-ghost use Rattle.allocative.specs.Lending.{LendsEntered, LendsSized, LendsBegun};
+ghost use Rattle.allocative_graph.specs.Visits.{Shows, HasFailed, Enters, EntersSized, EntersShared, Answers, Leaves, Begins, Settles};
+ghost use Rattle.allocative.specs.Lending.{LendsEntered, LendsSized, LendsPointed, LendsBegun, LendsBegunGraph};
+ghost use Rattle.allocative.specs.Built.{as_graph};
+ghost use Rattle.allocative.specs.Nested.{LendsCollector, LendsNested, LendsShared};
+ghost use Rattle.allocative.specs.Shared.{AnswersShared, told, turned, answered};
 ghost use Rattle.std.specs.Borrow.{sem};
 ghost use Rattle.std.specs.Prelude.{true, false};
 
@@ -14,6 +17,7 @@ use crate::collector::Collector;
 use allocative_described::Described;
 use allocative_graph::key::Key;
 use allocative_graph::refusal::Refusal;
+use allocative_graph::shared::Identity;
 
 /// A place in a collector. Its end, or `exit`, is one step back.
 pub struct Visitor<'a> {
@@ -45,6 +49,7 @@ impl Collector {
         ensures* lent { sem 𝓛 (LendsEntered false key size self.entry result) }
         ensures same_reference { IfOk result (λ v. v.collector.ghost_name ≡ self.entry.ghost_name) }
         ensures entered { IfOk result (λ v. Enters false key size self.old (Ok v.outer_is_unique) v.collector.now) }
+        ensures refused { IfErr result (λ e. Answers false size self.old (Err e)) }
     {
         let outer_is_unique = self.go_in(key, size)?;
         Ok(Visitor {
@@ -58,6 +63,7 @@ impl Collector {
         ensures* lent { sem 𝓛 (LendsEntered true key size self.entry result) }
         ensures same_reference { IfOk result (λ v. v.collector.ghost_name ≡ self.entry.ghost_name) }
         ensures entered { IfOk result (λ v. Enters true key size self.old (Ok v.outer_is_unique) v.collector.now) }
+        ensures refused { IfErr result (λ e. Answers true size self.old (Err e)) }
     {
         let outer_is_unique = self.go_in_unique(key, size)?;
         Ok(Visitor {
@@ -109,17 +115,122 @@ impl Collector {
         }
     }
 
+    // One pointer more; a visitor at the shared value's content where it is to be shown, and else `Err(None)`.
+    fn enter_content(
+        &mut self,
+        key: Key,
+        size: usize,
+        id: Identity,
+    ) -> Result<Visitor<'_>, Option<Refusal>>
+        ensures* lent { sem 𝓛 (LendsPointed key size id self.entry result) }
+        ensures same_reference { IfOk result (λ v. v.collector.ghost_name ≡ self.entry.ghost_name) }
+        ensures outer { IfOk result (λ v. v.outer_is_unique ≡ false) }
+        ensures entered { IfOk result (λ v. EntersShared key size id self.old (Ok true) v.collector.now) }
+        ensures refused { IfErr result (λ o. AnswersShared key size id self.old (told o)) }
+    {
+        match self.point_to(key, size, id) {
+            Ok(true) => Ok(Visitor {
+                collector: self,
+                outer_is_unique: false,
+            }),
+            Ok(false) => Err(None),
+            Err(refusal) => Err(Some(refusal)),
+        }
+    }
+
     /// A visitor at the root. The first cause where the collector has failed, and Open where a visitor is out.
     pub(crate) fn root_visitor(&mut self) -> Result<Visitor<'_>, Refusal>
         ensures* lent { sem 𝓛 (LendsBegun self.entry result) }
         ensures same_reference { IfOk result (λ v. v.collector.ghost_name ≡ self.entry.ghost_name) }
         ensures begun { IfOk result (λ v. Begins self.old (Ok v.outer_is_unique) v.collector.now) }
+        ensures refused { IfErr result (λ e. Settles self.old (Err e)) }
     {
         let outer_is_unique = self.begin()?;
         Ok(Visitor {
             collector: self,
             outer_is_unique,
         })
+    }
+
+    /// The same of a flame graph's collector. One of held bytes is Open.
+    pub(crate) fn graph_root_visitor(&mut self) -> Result<Visitor<'_>, Refusal>
+        ensures* lent { sem 𝓛 (LendsBegunGraph self.entry result) }
+        ensures same_reference { IfOk result (λ v. v.collector.ghost_name ≡ self.entry.ghost_name) }
+        ensures begun { IfOk result (λ v. Begins (as_graph self.old) (Ok v.outer_is_unique) v.collector.now) }
+        ensures refused { IfErr result (λ e. Settles (as_graph self.old) (Err e)) }
+    {
+        self.check_graph()?;
+        self.root_visitor()
+    }
+}
+
+// The answer of `enter_content` as that of `enter_shared`.
+fn turned_round<'a>(
+    answer: Result<Visitor<'a>, Option<Refusal>>,
+) -> Result<Option<Visitor<'a>>, Refusal>
+    ensures { result ≡ turned answer.entry }
+{
+    match answer {
+        Ok(visitor) => Ok(Some(visitor)),
+        Err(None) => Ok(None),
+        Err(Some(refusal)) => Err(refusal),
+    }
+}
+
+impl Visitor<'_> {
+    // The collector, lent on.
+    fn reborrow(&mut self) -> &mut Collector
+        ensures* lent { sem 𝓛 (LendsCollector self.entry result) }
+        ensures now { result.now ≡ self.old.collector.now }
+    {
+        &mut *self.collector
+    }
+
+    /// Enters inline: one entry of `size` bytes more under the key, and a nested visitor at it.
+    ///
+    /// A collector that has failed answers its first cause. Otherwise it is refused with TooLarge exactly where a bound would
+    /// be passed, tested before memory is asked for; a flame graph's collector may else be refused with Memory. After a
+    /// refusal the collector has failed. After Ok this visitor ends with what the nested one leaves; all else of it stays.
+    ///
+    /// The checker follows the same call of the collector, `visitor.collector.enter`, in a caller that has a contract.
+    pub fn enter(&mut self, key: Key, size: usize) -> Result<Visitor<'_>, Refusal>
+        ensures* lent { sem 𝓛 (LendsNested false key size self.entry result) }
+        ensures entered { IfOk result (λ v. Enters false key size self.old.collector.now (Ok v.outer_is_unique) v.collector.now) }
+        ensures refused { IfErr result (λ e. Answers false size self.old.collector.now (Err e)) }
+    {
+        self.reborrow().enter(key, size)
+    }
+
+    /// Enters as unique: the same as `enter` with a unique entry. The checker follows `visitor.collector.enter_unique`.
+    pub fn enter_unique(&mut self, key: Key, size: usize) -> Result<Visitor<'_>, Refusal>
+        ensures* lent { sem 𝓛 (LendsNested true key size self.entry result) }
+        ensures entered { IfOk result (λ v. Enters true key size self.old.collector.now (Ok v.outer_is_unique) v.collector.now) }
+        ensures refused { IfErr result (λ e. Answers true size self.old.collector.now (Err e)) }
+    {
+        self.reborrow().enter_unique(key, size)
+    }
+
+    /// One pointer of `size` bytes more to the shared value that has the identity `id`.
+    ///
+    /// In a flame graph's collector the answer is a visitor at the value's content, whose paths start anew at the root,
+    /// exactly where the identity was not met before; in the collector of held bytes it is always None, and nothing is added.
+    /// A collector that has failed answers its first cause; otherwise the call is refused with TooLarge exactly where the
+    /// bound would be passed, which is tested before the identity is looked at, and else with Memory. After a refusal the
+    /// collector has failed. After Some this visitor ends with what the content's one leaves; all else of it stays.
+    ///
+    /// The checker follows `visitor.collector.point_to`, and then `visitor.collector.content`.
+    pub fn enter_shared(
+        &mut self,
+        key: Key,
+        size: usize,
+        id: Identity,
+    ) -> Result<Option<Visitor<'_>>, Refusal>
+        ensures* lent { sem 𝓛 (LendsShared key size id self.entry result) }
+        ensures outer { IfOk result (λ o. IfSome o (λ v. v.outer_is_unique ≡ false)) }
+        ensures entered { IfOk result (λ o. IfSome o (λ v. EntersShared key size id self.old.collector.now (Ok true) v.collector.now)) }
+        ensures answer { AnswersShared key size id self.old.collector.now (answered result) }
+    {
+        turned_round(self.reborrow().enter_content(key, size, id))
     }
 }
 

@@ -1,0 +1,51 @@
+-- What a visitor ends as that lends its collector to a nested one.
+use Rattle.std.specs.Prelude.{◌≡◌, ℕ, [], Bool, false, Option, None, Some, Result, Ok, Err, IfErr, OnOk, ⊤}
+use Rattle.std.specs.Borrow.{Fml, GName, MutBor, Lends, follows_so, name_if_ok}
+use mathlib.Core.Option as maybe
+use mir.Syntax.{named}
+use Rattle.allocative_graph.specs.declared.refusal.Refusal.{Refusal}
+use Rattle.allocative_graph.specs.Path.{Key}
+use Rattle.allocative_graph.specs.Identity.{Identity}
+use Rattle.allocative_graph.specs.Collector.{State}
+use Rattle.allocative_graph.specs.Visits.{Enters, EntersShared}
+use Rattle.allocative.specs.declared.visitor.Visitor.{Visitor}
+use Rattle.allocative.specs.contracts.visitor.Visitor as visitor
+use Rattle.allocative.specs.contracts.collector.Collector as collector
+
+-- The visitor with another value behind its reference, and all else unchanged.
+abbrev pub with_state : Visitor → State → Visitor
+with_state v s = record v { collector = record v.collector { now = s } }
+
+-- It ends with the last value behind the reference.
+abbrev pub LendsCollector : MutBor Visitor → MutBor State → Fml
+LendsCollector s r = Lends (visitor.the_row (record { mir = named 1; lft = [] })) collector.the_row s r (with_state s.now)
+
+-- It ends with what the nested visitor leaves behind its reference; where the entry was refused, with what entering says. All else of it is unchanged.
+abbrev pub LendsNested : Bool → Key → ℕ → MutBor Visitor → Result Visitor Refusal → Fml
+LendsNested is_unique k n s r =
+    follows_so (visitor.the_row (record { mir = named 1; lft = [] })) collector.the_row s.ghost_name (name_if_ok (λ v. v.collector.ghost_name) r)
+    (λ w v. OnOk r (v ≡ with_state s.now w))
+    (λ v. IfErr r (λ e. Enters is_unique k n s.now.collector.now (Err e) v.collector.now × (v ≡ with_state s.now v.collector.now)))
+
+-- The name of the reference in the visitor that is given.
+abbrev pub name_in : Result (Option Visitor) Refusal → maybe.Option GName
+name_in (Ok (Some v)) = maybe.some v.collector.ghost_name
+name_in (Ok None) = maybe.none
+name_in (Err e) = maybe.none
+
+-- Where a visitor is given, v is s with what that one leaves behind its reference.
+abbrev pub EndsWith : Visitor → Result (Option Visitor) Refusal → State → Visitor → Type 0
+EndsWith s (Ok (Some x)) w v = v ≡ with_state s w
+EndsWith s (Ok None) w v = ⊤
+EndsWith s (Err e) w v = ⊤
+
+-- Where none is given, v is s with what entering says.
+abbrev pub EndsWithout : Key → ℕ → Identity → Visitor → Result (Option Visitor) Refusal → Visitor → Type 0
+EndsWithout k n i s (Ok (Some x)) v = ⊤
+EndsWithout k n i s (Ok None) v = EntersShared k n i s.collector.now (Ok false) v.collector.now × (v ≡ with_state s v.collector.now)
+EndsWithout k n i s (Err e) v = EntersShared k n i s.collector.now (Err e) v.collector.now × (v ≡ with_state s v.collector.now)
+
+-- The same of a shared value.
+abbrev pub LendsShared : Key → ℕ → Identity → MutBor Visitor → Result (Option Visitor) Refusal → Fml
+LendsShared k n i s r =
+    follows_so (visitor.the_row (record { mir = named 1; lft = [] })) collector.the_row s.ghost_name (name_in r) (EndsWith s.now r) (EndsWithout k n i s.now r)

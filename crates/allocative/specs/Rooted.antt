@@ -1,0 +1,21 @@
+-- What a builder ends as that lends its collector to a root visitor.
+use Rattle.std.specs.Prelude.{◌≡◌, Result, Err, IfErr, OnOk}
+use Rattle.std.specs.Borrow.{Fml, MutBor, Lends, follows_so, name_if_ok}
+use Rattle.allocative_graph.specs.declared.refusal.Refusal.{Refusal}
+use Rattle.allocative_graph.specs.Collector.{State}
+use Rattle.allocative_graph.specs.Visits.{Begins}
+use Rattle.allocative.specs.declared.visitor.Visitor.{Visitor}
+use Rattle.allocative.specs.contracts.builder.FlameGraphBuilder as builder
+use Rattle.allocative.specs.contracts.collector.Collector as collector
+use Rattle.allocative.specs.Built.{as_graph}
+
+-- It ends as the last value behind the reference, as a flame graph's.
+abbrev pub LendsBuilt : MutBor State → MutBor State → Fml
+LendsBuilt s r = Lends builder.the_row collector.the_row s r as_graph
+
+-- It ends as what the root visitor leaves behind its reference, as a flame graph's; where none goes out, as beginning says.
+abbrev pub LendsRoot : MutBor State → Result Visitor Refusal → Fml
+LendsRoot s r =
+    follows_so builder.the_row collector.the_row s.ghost_name (name_if_ok (λ v. v.collector.ghost_name) r)
+    (λ w b. OnOk r (b ≡ as_graph w))
+    (λ b. IfErr r (λ e. Begins s.now (Err e) b))

@@ -1,0 +1,92 @@
+// What no clause says: worked rows of entries made by hand, and visitors that are forgotten.
+ghost use Rattle.allocative_graph.specs.Shows.{Inside, Nothing};
+ghost use lib.Chars.{codes};
+
+use crate::allocative_trait::Allocative;
+use crate::builder::FlameGraphBuilder;
+use crate::visitor::Visitor;
+use allocative_graph::key::Key;
+use allocative_graph::refusal::Refusal;
+use std::mem::{ManuallyDrop, forget};
+
+#[test]
+fn an_entry_is_a_line(rt: HostRuntime) -> Result<(), Refusal> {
+    let mut builder = FlameGraphBuilder::new(rt.alloc())?;
+    let mut root = builder.root_visitor()?;
+    let inner = root.enter(Key::new("a"), 10)?;
+    inner.exit();
+    root.exit();
+    assert_eq!(rt; builder.finish_and_write_flame_graph()?.as_str(), "a 10\n");
+    Ok(())
+}
+
+#[test]
+fn a_unique_entry_keeps_its_bytes(rt: HostRuntime) -> Result<(), Refusal> {
+    let mut builder = FlameGraphBuilder::new(rt.alloc())?;
+    let mut root = builder.root_visitor()?;
+    let mut whole = root.enter(Key::new("T"), 8)?;
+    let mut pointer = whole.enter_unique(Key::new("ptr"), 8)?;
+    pointer.visit_simple(Key::new("u8"), 3)?;
+    pointer.exit();
+    whole.exit();
+    root.exit();
+    assert_eq!(rt;
+        builder.finish_and_write_flame_graph()?.as_str(),
+        "T;ptr 8\nT;ptr;u8 3\n"
+    );
+    Ok(())
+}
+
+#[test]
+fn entries_past_the_bound_are_refused(rt: HostRuntime) -> Result<(), Refusal> {
+    let mut builder = FlameGraphBuilder::new(rt.alloc())?;
+    let mut root = builder.root_visitor()?;
+    root.visit_simple(Key::new("a"), isize::MAX as usize)?;
+    assert!(rt; matches!(root.enter(Key::new("b"), 1), Err(Refusal::TooLarge)));
+    assert!(rt; matches!(root.enter_unique(Key::new("c"), 0), Err(Refusal::TooLarge)));
+    root.exit();
+    assert!(rt; matches!(builder.root_visitor(), Err(Refusal::TooLarge)));
+    assert!(rt; matches!(builder.finish(), Err(Refusal::TooLarge)));
+    Ok(())
+}
+
+#[test]
+fn a_nested_visitor_that_is_forgotten_leaves_the_builder_open(
+    rt: HostRuntime,
+) -> Result<(), Refusal> {
+    let mut builder = FlameGraphBuilder::new(rt.alloc())?;
+    let mut root = builder.root_visitor()?;
+    let inner = root.enter(Key::new("a"), 10)?;
+    let _forgotten = ManuallyDrop::new(inner);
+    root.exit();
+    assert!(rt; matches!(builder.finish(), Err(Refusal::Open)));
+    Ok(())
+}
+
+// One entry.
+#[derive(Drop)]
+struct Leaf {
+    size: usize,
+}
+
+impl Allocative for Leaf {
+    ghost may_show = { λ l. Inside (codes "leaf") l.size Nothing };
+
+    fn visit(&self, visitor: &mut Visitor<'_>) -> Result<(), Refusal> {
+        visitor.visit_simple(Key::new("leaf"), self.size)
+    }
+}
+
+#[test]
+fn a_root_visitor_that_is_forgotten_leaves_the_builder_open(
+    rt: HostRuntime,
+) -> Result<(), Refusal> {
+    let mut builder = FlameGraphBuilder::new(rt.alloc())?;
+    let mut root = builder.root_visitor()?;
+    root.visit_simple(Key::new("a"), 10)?;
+    forget(root);
+    assert!(rt; matches!(builder.root_visitor(), Err(Refusal::Open)));
+    assert!(rt; matches!(builder.visit_root(&Leaf { size: 1 }), Err(Refusal::Open)));
+    assert!(rt; matches!(builder.finish(), Err(Refusal::Open)));
+    Ok(())
+}
