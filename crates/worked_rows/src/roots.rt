@@ -1,6 +1,8 @@
 // Roots that are visited: each kind of implementation, good and bad.
+#![tactic(auto, using(allocative::proofs::Showing::showing))]
+
 ghost use Rattle.std.specs.Prelude.{codes};
-ghost use Rattle.allocative_graph.specs.Shows.{Inside, Nothing};
+ghost use Rattle.allocative.specs.Shows.{Inside, Nothing};
 
 use allocative::{Allocative, FlameGraphBuilder, Key, Refusal, Registry, Visitor, profile_roots};
 

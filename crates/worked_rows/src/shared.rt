@@ -48,33 +48,28 @@ fn a_value_that_points_to_itself_is_shown_once(rt: HostRuntime) -> Result<(), Re
     Ok(())
 }
 
-// Two roots `A 8 {shared ptr 8 ..}`, each with a content of its own.
-fn two_roots(
+// A root `A 8 {shared ptr 8 ..}`.
+fn pointing_root(
     builder: &mut FlameGraphBuilder,
-    first: (Identity, &'static str, usize),
-    second: (Identity, &'static str, usize),
+    id: Identity,
+    content: &'static str,
+    content_size: usize,
 ) -> Result<(), Refusal> {
     let mut root = builder.root_visitor()?;
     let mut outer = root.enter(Key::new("A"), 8)?;
-    point(&mut outer, "ptr", 8, first.0, first.1, first.2)?;
-    outer.exit();
-    root.exit();
-    let mut root = builder.root_visitor()?;
-    let mut outer = root.enter(Key::new("A"), 8)?;
-    point(&mut outer, "ptr", 8, second.0, second.1, second.2)?;
-    outer.exit();
-    root.exit();
-    Ok(())
+    point(&mut outer, "ptr", 8, id, content, content_size)
 }
 
 #[test]
 fn the_content_shown_first_counts(rt: HostRuntime) -> Result<(), Refusal> {
     let one = Identity::from(1);
     let mut builder = FlameGraphBuilder::new(rt.alloc())?;
-    two_roots(&mut builder, (one, "D", 10), (one, "E", 20))?;
+    pointing_root(&mut builder, one, "D", 10)?;
+    pointing_root(&mut builder, one, "E", 20)?;
     assert_eq!(rt; texts(builder)?.0.as_str(), "A;ptr 16\nD 10\n");
     let mut builder = FlameGraphBuilder::new(rt.alloc())?;
-    two_roots(&mut builder, (one, "E", 20), (one, "D", 10))?;
+    pointing_root(&mut builder, one, "E", 20)?;
+    pointing_root(&mut builder, one, "D", 10)?;
     assert_eq!(rt; texts(builder)?.0.as_str(), "A;ptr 16\nE 20\n");
     Ok(())
 }
@@ -84,10 +79,12 @@ fn makers_tell_identities_apart(rt: HostRuntime) -> Result<(), Refusal> {
     let here = Identity::new(0, 1);
     let there = Identity::new(1, 1);
     let mut builder = FlameGraphBuilder::new(rt.alloc())?;
-    two_roots(&mut builder, (here, "D", 10), (there, "E", 20))?;
+    pointing_root(&mut builder, here, "D", 10)?;
+    pointing_root(&mut builder, there, "E", 20)?;
     assert_eq!(rt; texts(builder)?.0.as_str(), "A;ptr 16\nD 10\nE 20\n");
     let mut builder = FlameGraphBuilder::new(rt.alloc())?;
-    two_roots(&mut builder, (there, "E", 20), (here, "D", 10))?;
+    pointing_root(&mut builder, there, "E", 20)?;
+    pointing_root(&mut builder, here, "D", 10)?;
     assert_eq!(rt; texts(builder)?.0.as_str(), "A;ptr 16\nD 10\nE 20\n");
     Ok(())
 }
