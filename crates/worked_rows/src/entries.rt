@@ -206,3 +206,8 @@ fn a_forgotten_visitor_leaves_the_builder_open(rt: HostRuntime) -> Result<(), Re
     assert!(rt; matches!(builder.finish(), Err(Refusal::Open)));
     Ok(())
 }
+
+#[test]
+fn an_identifier_is_a_key(rt: HostRuntime) {
+    assert!(rt; allocative::ident_key!(foo) == Key::new("foo"));
+}
