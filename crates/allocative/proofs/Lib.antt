@@ -1,3 +1,7 @@
+pub mod Making
+pub mod Closures
+pub mod Runs
+pub mod Bodies
 pub mod Steps
 pub mod Showing
 pub mod Roots

@@ -1,15 +1,15 @@
 -- What a visit by a root visitor comes to.
-use Rattle.std.proofs.Common.{◌≡◌, ℕ, suc, ◌+◌, ◌<◌, ◌≤◌, List, [], length, take, get_or, Bool, false, Result, Ok, Err, refl, ap, sym, subst, ◌∙◌, arith}
+use Rattle.std.proofs.Common.{◌≡◌, ℕ, suc, ◌+◌, ◌<◌, List, length, take, get_or, Bool, Result, Ok, Err, refl, ap, sym, subst, ◌∙◌, arith}
 use Rattle.allocative_graph.specs.declared.refusal.Refusal.{Refusal}
 use Rattle.allocative_graph.specs.Forest.{Forest, Empty, followed_by, met_after, Fits, own, all}
 use Rattle.allocative_graph.specs.Sums.{add_all, sums_of}
-use Rattle.allocative_graph.specs.Meaning.{IsWhole, IsMeaning, content_of}
+use Rattle.allocative_graph.specs.Meaning.{IsWhole, content_of}
 use Rattle.allocative_graph.specs.Graph.{graph, warnings}
 use Rattle.allocative_graph.specs.Held.{held, ShowsNoContent}
-use Rattle.allocative_graph.specs.Collector.{added as added_entries, Live, Holding, Kind, OfGraph, OfHeld, State, Failed, Going, leave, plus, Takes, visitors, is_graph, begin, is_in_unique, IsClosed, IsAtRoot, left, nothing_held, no_entries}
+use Rattle.allocative_graph.specs.Collector.{added as added_entries, Kind, OfGraph, OfHeld, State, Failed, Going, leave, plus, Takes, visitors, is_graph, begin, is_in_unique, IsClosed, IsAtRoot, left, nothing_held, no_entries}
 use Rattle.allocative_graph.specs.Shows.{Showing, Nothing, Both, each_shows}
-use Rattle.allocative_graph.specs.Visits.{Shows, already, refused, hidden, forgotten, added, Leaves, Begins, Settles, Runs, Ends, IsProfile, Profile, IsProfileOf}
-use Rattle.allocative_graph.proofs.Plus.{plus-nothing, plus-following, takes_nothing, takes_both, visitors-plus, visitors-leave, is_graph-plus, is_graph-leave, is_graph-begin}
+use Rattle.allocative_graph.specs.Visits.{Shows, refused, hidden, forgotten, added, Leaves, Begins, Settles, Runs, Ends, IsProfile, Profile, IsProfileOf}
+use Rattle.allocative_graph.proofs.Plus.{plus-nothing, plus-following, takes_nothing, takes_both, visitors-leave, is_graph-plus, is_graph-leave, is_graph-begin}
 use Rattle.allocative.specs.Steps.{IsSum}
 use Rattle.allocative.proofs.Showing.{left_by, each_and_one}
 use Rattle.allocative_graph.proofs.Reach.{all_is_meaning, reaches_exactly}

@@ -10,10 +10,14 @@ pub mod collector;
 mod graph_collector;
 mod held_collector;
 pub mod impls;
+mod iterators;
 pub mod registry;
 pub mod size_of;
+mod slices;
 mod tree;
 pub mod visiting;
+#[cfg(test)]
+mod visiting_tests;
 pub mod visitor;
 
 pub use crate::allocative_trait::Allocative;
