@@ -1,4 +1,8 @@
 mod Keys
+pub mod Making
+pub mod Closures
+pub mod Runs
+pub mod Bodies
 pub mod Steps
 pub mod Showing
 pub mod Roots

@@ -1,13 +1,13 @@
 -- How visits compose: one after another, and inside an entry. The rulesets are what implementations go by.
 use Rattle.std.proofs.lemmas.List.{take_more}
 use Rattle.std.proofs.lemmas.Bool.{false≢true}
-use Rattle.std.proofs.Common.{Bool, true, false, inl, inr, length, take, get_or, Option, None, Some, ◌≡◌, ℕ, suc, ◌+◌, ◌<◌, ◌≤◌, List, [], ◌∷◌, ◌++◌, Result, Ok, Err, refl, sym, ◌∙◌, IsErr, ap, subst, arith}
+use Rattle.std.proofs.Common.{Bool, true, false, inl, inr, length, take, get_or, Option, ◌≡◌, ℕ, suc, ◌+◌, ◌<◌, List, [], ◌∷◌, ◌++◌, Result, Ok, Err, refl, sym, ◌∙◌, IsErr, ap, subst, arith}
 use Rattle.std.specs.FinSet.{contains}
 use Rattle.allocative_graph.specs.declared.refusal.Refusal.{Refusal}
 use Rattle.allocative_graph.specs.Path.{Key}
 use Rattle.allocative_graph.specs.Identity.{Identity}
 use Rattle.allocative_graph.specs.Forest.{Forest, Empty, Inline, Unique, First, Again, followed_by, entry_of}
-use Rattle.allocative_graph.specs.Collector.{Live, Kind, OfGraph, OfHeld, State, Failed, Going, enter, enter_first, enter_again, leave, plus, Takes, is_graph, visitors, is_in_unique, failed_with, left}
+use Rattle.allocative_graph.specs.Collector.{Live, Kind, OfGraph, State, Failed, Going, enter, enter_first, leave, plus, Takes, is_graph, visitors, is_in_unique, failed_with, left}
 use Rattle.allocative_graph.specs.Shows.{Showing, Nothing, Both, InsideAs, Inside, InsideUnique, Field, sized, SharedWith, each_shows}
 use Rattle.allocative_graph.specs.Visits.{Shows, already, refused, hidden, forgotten, added, HasFailed, Enters, stays_failed, is_refused, is_entered, EntersSized, stays_unsized, is_unsized, is_sized, EntersShared, stays_shared, is_refused_shared, goes_past, enters_first, enters_again, Answers, Leaves, leaves_failed, leaves_going}
 use Rattle.allocative_graph.proofs.Plus.{plus-nothing, plus-following, takes_nothing, takes_both, inside_entry, takes_entry, inside_first, takes_shared, held_again, visitors-plus, visitors-enter, visitors-leave, is_graph-plus, is_graph-enter, is_graph-leave}
@@ -223,6 +223,16 @@ not_sized stays_unsized = already
 not_sized (is_unsized r) = refused
 not_sized (is_sized g) = not_entered g
 
+-- and its cause
+pub not_entered_cause : {u : Bool} {k : Key} {n : ℕ} {s t : State} {e : Refusal} → Enters u k n s (Err e) t → HasFailed t e
+not_entered_cause stays_failed = refl
+not_entered_cause (is_refused r) = refl
+
+pub not_sized_cause : {k : Key} {y : Option ℕ} {s t : State} {e : Refusal} → EntersSized k y s (Err e) t → HasFailed t e
+not_sized_cause stays_unsized = refl
+not_sized_cause (is_unsized r) = refl
+not_sized_cause (is_sized g) = not_entered_cause g
+
 pub not_shared : {q : Showing} {k : Key} {n : ℕ} {i : Identity} {s t : State} {e : Refusal} → EntersShared k n i s (Err e) t → Shows q s (Err e) t
 not_shared stays_shared = already
 not_shared (is_refused_shared r) = refused
@@ -290,4 +300,7 @@ shows_one_more p xs i x f s h e =
     rw (e', ← e) (shows_weaker (each_and_one p (take i xs) x) (shows_both f s))
 
 -- what implementations go by
-pub ruleset showing = (left_cause, leaves_by_left, shows_nothing, shows_both, shows_both_err, shows_err, inline_shows, unique_shows, field_shows, inline_alone, unique_alone, field_alone, shared_shows, content_shows, again_shows, entry_err, field_err, shared_err, field_err_2, field_shows_2, field_err_3, field_shows_3, field_err_4, field_shows_4, field_err_5, field_shows_5, entry_err_2, inline_shows_2, unique_shows_2, entry_err_3, inline_shows_3, unique_shows_3, not_entered, not_sized, not_shared, shows_refused, shows_refused_err, shows_hidden, shows_forgotten, answers_ok, answers_err)
+pub ruleset showing = (left_cause, leaves_by_left, shows_nothing, shows_both, shows_both_err, shows_err, inline_shows, unique_shows, field_shows, inline_alone, unique_alone, field_alone, shared_shows, content_shows, again_shows, entry_err, field_err, shared_err, field_err_2, field_shows_2, field_err_3, field_shows_3, field_err_4, field_shows_4, field_err_5, field_shows_5, entry_err_2, inline_shows_2, unique_shows_2, entry_err_3, inline_shows_3, unique_shows_3, not_entered, not_sized, not_shared, not_entered_cause, not_sized_cause, shows_refused, shows_refused_err, shows_hidden, shows_forgotten, answers_ok, answers_err)
+
+-- the same for one entry with one part, where the part's clause is long
+pub ruleset one_part = (left_cause, leaves_by_left, inline_shows, unique_shows, field_shows, entry_err, field_err, not_entered, not_sized, not_entered_cause, not_sized_cause)

@@ -1,3 +1,7 @@
+pub mod Making
+pub mod Closures
+pub mod Runs
+pub mod Bodies
 pub mod Steps
 pub mod Roots
 pub mod Kinds
@@ -12,7 +16,6 @@ pub mod Nodes
 pub mod Walks
 pub mod Finishing
 pub mod Places
-
 -- the definitions of the crate below, passed on
 pub use Rattle.allocative_graph.specs.Path
 pub use Rattle.allocative_graph.specs.Identity

@@ -5,7 +5,7 @@ use Rattle.allocative_graph.specs.declared.refusal.Refusal.{Refusal}
 use Rattle.allocative_graph.specs.Path.{Key}
 use Rattle.allocative_graph.specs.Identity.{Identity}
 use Rattle.allocative_graph.specs.Sums.{entered}
-use Rattle.allocative_graph.specs.Collector.{Live, Kind, OfGraph, OfHeld, State, Failed, Going, enter, enter_first, enter_again, is_in_unique}
+use Rattle.allocative_graph.specs.Collector.{Live, OfGraph, OfHeld, State, Failed, Going, enter, enter_first, enter_again, is_in_unique}
 use Rattle.allocative_graph.specs.Visits.{HasRoom, Refuses}
 
 -- One entry is entered, or refused.

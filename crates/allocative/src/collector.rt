@@ -8,6 +8,7 @@ ghost use Rattle.allocative_graph.specs.Visits.{HasFailed, HasRoom, Refuses, Ent
 ghost use Rattle.allocative.specs.Steps.{StepsIn, StepsInShared, IsSum};
 ghost use Rattle.allocative.specs.Kinds.{kind_of};
 ghost use Rattle.allocative.specs.Built.{as_graph};
+ghost use Rattle.allocative.specs.Making.{Makes, Done};
 
 use crate::graph_collector::GraphCollector;
 use crate::held_collector::HeldCollector;
@@ -133,6 +134,16 @@ impl Collector {
                 refusal
             }
         }
+    }
+
+    /// The first cause where it has failed.
+    pub(crate) fn go_on(&self) -> Result<(), Refusal>
+        ensures { Makes Done self.now result self.now }
+    {
+        if let Some(cause) = self.failed {
+            return Err(cause);
+        }
+        Ok(())
     }
 
     // One entry more, unique or inline.

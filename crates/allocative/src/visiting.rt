@@ -1,9 +1,11 @@
 //! What implementations enter by: entries with their parts.
 #![tactic(auto, using(crate::proofs::Showing::showing))]
 
-ghost use Rattle.std.specs.Prelude.{codes, ◌≡◌, ◌≤◌, length, IfErr, Some};
-ghost use Rattle.allocative_graph.specs.Shows.{Inside, InsideUnique, Field, Nothing, each_shows, slice_shows};
-ghost use Rattle.allocative_graph.specs.Visits.{Shows, HasFailed};
+ghost use Rattle.std.specs.Prelude.{codes, ◌≡◌, length, false, IfErr};
+ghost use Rattle.allocative_graph.specs.Shows.{Inside, InsideUnique, Field, Nothing};
+ghost use Rattle.allocative_graph.specs.Visits.{Shows, HasFailed, Answers};
+ghost use Rattle.allocative.specs.Making.{Makes, one};
+ghost use Rattle.allocative.specs.Closures.{KeepsVisitor, CallsInside};
 
 use crate::allocative_trait::Allocative;
 use crate::visitor::Visitor;
@@ -17,11 +19,10 @@ impl Visitor<'_> {
         ensures same_reference { self.new.collector.ghost_name ≡ self.old.collector.ghost_name }
         ensures same_outer { self.new.outer_is_unique ≡ self.old.outer_is_unique }
         ensures shown { Shows (Field T.name T.size Nothing) self.old.collector.now result self.new.collector.now }
+        ensures exact { Makes (one T.name T.size) self.old.collector.now result self.new.collector.now }
         ensures cause { IfErr result (HasFailed self.new.collector.now) }
     {
-        let inner = self.collector.enter_self_sized::<T>()?;
-        inner.exit();
-        Ok(())
+        self.visit_sized(Key::for_type_name::<T>(), T::size())
     }
 
     /// One inline entry of the field's declared size, and in it what the field shows.
@@ -41,47 +42,40 @@ impl Visitor<'_> {
         Ok(())
     }
 
+    /// One inline entry of `size` bytes, and in it what the closure enters.
+    ///
+    /// Where the closure answers Err the collector has failed afterwards: with the closure's refusal, or with the cause
+    /// that it had failed with before.
+    pub fn visit_field_with<F: FnOnce(&mut Visitor<'_>) -> Result<(), Refusal>>(
+        &mut self,
+        name: Key,
+        size: usize,
+        visit: F,
+    ) -> Result<(), Refusal>
+        requires callable { F.IsAlwaysCallable visit }
+        requires keeps { KeepsVisitor F.FnOnce visit }
+        ensures same_reference { self.new.collector.ghost_name ≡ self.old.collector.ghost_name }
+        ensures same_outer { self.new.outer_is_unique ≡ self.old.outer_is_unique }
+        ensures calls { CallsInside F.FnOnce visit name size self.old.collector.now self.new.collector.now result }
+        ensures cause { IfErr result (HasFailed self.new.collector.now) }
+    {
+        let mut inner = self.collector.enter(name, size)?;
+        if let Err(refusal) = visit(&mut inner) {
+            return Err(inner.refuse(refusal));
+        }
+        inner.exit();
+        Ok(())
+    }
+
     /// One inline entry `str` of the text's length in bytes.
     pub fn visit_str(&mut self, text: &str) -> Result<(), Refusal>
         ensures same_reference { self.new.collector.ghost_name ≡ self.old.collector.ghost_name }
         ensures same_outer { self.new.outer_is_unique ≡ self.old.outer_is_unique }
         ensures shown { Shows (Inside (codes "str") (length text.now) Nothing) self.old.collector.now result self.new.collector.now }
+        ensures exact { Answers false (length text.now) self.old.collector.now result }
         ensures cause { IfErr result (HasFailed self.new.collector.now) }
     {
         self.visit_simple(Key::new("str"), text.len())
-    }
-
-    // What each item shows, in order.
-    fn visit_each<T: Allocative>(&mut self, items: &[T]) -> Result<(), Refusal>
-        ensures same_reference { self.new.collector.ghost_name ≡ self.old.collector.ghost_name }
-        ensures same_outer { self.new.outer_is_unique ≡ self.old.outer_is_unique }
-        ensures shown { Shows (each_shows T.may_show items.now) self.old.collector.now result self.new.collector.now }
-        ensures cause { IfErr result (HasFailed self.new.collector.now) }
-    {
-        for item in items {
-            self.visit_part(item)?;
-        }
-        Ok(())
-    }
-
-    /// One inline entry with the item's name and all bytes where the items need no drop or have size 0, else what each
-    /// item shows. TooLarge where the item has no size or the bytes do not fit.
-    pub fn visit_slice<T: Allocative + Described>(&mut self, items: &[T]) -> Result<(), Refusal>
-        ensures same_reference { self.new.collector.ghost_name ≡ self.old.collector.ghost_name }
-        ensures same_outer { self.new.outer_is_unique ≡ self.old.outer_is_unique }
-        ensures shown { Shows (slice_shows T.name T.size T.needs_drop T.may_show items.now) self.old.collector.now result self.new.collector.now }
-        ensures cause { IfErr result (HasFailed self.new.collector.now) }
-    {
-        let Some(size) = T::size() else {
-            return Err(self.refuse(Refusal::TooLarge));
-        };
-        if T::needs_drop() && size != 0 {
-            return self.visit_each(items);
-        }
-        let Some(bytes) = size.checked_mul(items.len()) else {
-            return Err(self.refuse(Refusal::TooLarge));
-        };
-        self.visit_simple(Key::for_type_name::<T>(), bytes)
     }
 
     // One unique entry of a pointer, and in it what the object shows.

@@ -94,6 +94,15 @@ impl Collector {
         self.enter_sized(Key::for_type_name::<T>(), T::size())
     }
 
+    /// Enters inline with the declared name and size of the value's type.
+    pub fn enter_self<T: Described>(&mut self, _this: &T) -> Result<Visitor<'_>, Refusal>
+        ensures* lent { sem 𝓛 (LendsSized T.name T.size self.entry result) }
+        ensures same_reference { IfOk result (λ v. v.collector.ghost_name ≡ self.entry.ghost_name) }
+        ensures entered { IfOk result (λ v. EntersSized T.name T.size self.old (Ok v.outer_is_unique) v.collector.now) }
+    {
+        self.enter_self_sized::<T>()
+    }
+
     /// Enters inline with the declared size of `T`.
     pub fn enter_field<T: Described>(&mut self, key: Key) -> Result<Visitor<'_>, Refusal>
         ensures* lent { sem 𝓛 (LendsSized key T.size self.entry result) }

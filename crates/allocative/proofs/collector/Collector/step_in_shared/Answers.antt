@@ -1,8 +1,8 @@
 -- It is a flame graph's, which met the identity or had met it.
-use Rattle.std.proofs.Common.{◌≡◌, None, Ok, refl, sym, subst, ap}
+use Rattle.std.proofs.Common.{◌≡◌, Ok, subst, ap}
 use Rattle.allocative_graph.specs.Collector.{OfGraph, State, Going}
 use Rattle.allocative.specs.Steps.{StepsInShared}
-use Rattle.allocative.specs.Kinds.{kind_of, state_of}
+use Rattle.allocative.specs.Kinds.{state_of}
 use Rattle.allocative.proofs.collector.Collector.step_in_shared.Goals as goal
 
 pub returns-in-Ok-clause-enters : goal.returns-in-Ok-clause-enters

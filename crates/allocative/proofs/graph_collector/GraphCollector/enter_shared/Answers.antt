@@ -1,9 +1,8 @@
 -- The tree has one entry more, and at an identity not met before the place is the root.
-use Rattle.std.proofs.Common.{◌≡◌, ℕ, ◌++◌, ◌+◌, ◌<◌, ◌^◌, List, [], ◌∷◌, sym, ap, subst, ◌∙◌, refl, Bool, true, false}
+use Rattle.std.proofs.Common.{◌≡◌, ℕ, ◌++◌, ◌+◌, ◌<◌, ◌^◌, List, [], ◌∷◌, sym, subst, ◌∙◌, refl, Bool, true, false}
 use Rattle.std.specs.FinSet.{contains}
 use Rattle.std.specs.Bool.{OnFalse}
 use Rattle.std.proofs.lemmas.Bool.{cond-true, cond-false}
-use Rattle.allocative_graph.specs.Identity.{Identity}
 use Rattle.allocative_graph.specs.Sums.{entered}
 use Rattle.allocative_graph.specs.Collector.{Live, enter_first, enter_again}
 use Rattle.allocative.specs.Places.{live, IsPlaced}

@@ -1,5 +1,5 @@
 -- The root stands alone, and nothing was entered.
-use Rattle.std.proofs.Common.{◌≡◌, ℕ, List, [], ◌∷◌, refl, sym, subst, arith}
+use Rattle.std.proofs.Common.{ℕ, List, [], ◌∷◌, refl, sym, subst, arith}
 use Rattle.allocative_graph.proofs.Below.{entered-empty}
 use Rattle.allocative.specs.Listed.{Listed, root_sum}
 use Rattle.allocative.specs.Places.{IsPlaced}

@@ -1,5 +1,5 @@
 -- One item more.
-use Rattle.std.proofs.Common.{◌∙◌}
+use Rattle.std.proofs.Common.{arith, ◌∙◌}
 use Rattle.allocative.proofs.Showing.{shows_one_more}
 use Rattle.allocative.proofs.visitor.Visitor.visit_each.Goals as goal
 
@@ -9,4 +9,8 @@ loop-item-preserved g c = (
   c.visit_part.ensures.same_outer ∙ c.loop-item.invariant.1,
   shows_one_more g.T.Allocative.may_show c.args.items.now c.loop-item.item-index c.item-item.result
       c.loop-item.invariant.2 c.in_ok-visit_part.ensures.shown c.loop-item-test.true c.item-item.is,
+  λ h. absurd (omega (arith, h, c.loop-item-test.true)),
 )
+
+pub returns-clause-exact : goal.returns-clause-exact
+returns-clause-exact g c = λ h. c.loop-item.invariant.3 h

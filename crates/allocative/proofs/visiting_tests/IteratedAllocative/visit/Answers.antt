@@ -1,0 +1,10 @@
+use Rattle.std.proofs.Common.{◌∙◌, rules}
+use Rattle.std.proofs.lemmas.Iterator.{YieldsList-from_slice}
+use Rattle.allocative_graph.specs.Shows.{slice_shows}
+use Rattle.allocative.proofs.Runs.{shows_list}
+use Rattle.allocative.proofs.visiting_tests.IteratedAllocative.visit.Goals as goal
+
+pub returns-clause-shown : goal.returns-clause-shown
+returns-clause-shown g c =
+    shows_list {q = slice_shows g.T.Described.name g.T.Described.size g.T.Described.needs_drop g.T.Allocative.may_show}
+    (YieldsList-from_slice _ (c.iter.ensures.rest ∙ c.deref.ensures.value)) c.visit_iter.ensures.shown

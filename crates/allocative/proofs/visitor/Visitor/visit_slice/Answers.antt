@@ -1,0 +1,22 @@
+use Rattle.std.proofs.Common.{rules, true, ◌≡◌}
+use Rattle.allocative.proofs.Bodies.{shows_plain, shows_one_by_one}
+use Rattle.allocative.specs.Bodies.{are_shown_each}
+use Rattle.allocative.proofs.Making.{makes_plain, makes_each}
+use Rattle.allocative.proofs.visitor.Visitor.visit_slice.Goals as goal
+
+pub returns-then-are_shown_each-clause-shown : goal.returns-then-are_shown_each-clause-shown
+returns-then-are_shown_each-clause-shown g c =
+    shows_one_by_one g.T.Described.name g.T.Described.size g.T.Described.needs_drop g.T.Allocative.may_show c.args.items.now (search rules) c.visit_each.ensures.shown
+
+pub returns-clause-shown : goal.returns-clause-shown
+returns-clause-shown g c =
+    shows_plain g.T.Described.name g.T.Described.size g.T.Described.needs_drop g.T.Allocative.may_show c.args.items.now (search rules) (search rules)
+
+pub returns-then-are_shown_each-clause-exact : goal.returns-then-are_shown_each-clause-exact
+returns-then-are_shown_each-clause-exact g c = λ h.
+    let e : are_shown_each g.T.Described.needs_drop g.T.Described.size ≡ true = search rules in
+    makes_each g.T.Described.name g.T.Described.size g.T.Described.needs_drop c.args.items.now e (c.visit_each.ensures.exact (h e))
+
+pub returns-clause-exact : goal.returns-clause-exact
+returns-clause-exact g c = λ h.
+    makes_plain g.T.Described.name g.T.Described.size g.T.Described.needs_drop c.args.items.now (search rules) (rw c.for_type_name.ensures at c.visit_counted.ensures.exact)

@@ -1,0 +1,15 @@
+use Rattle.std.proofs.Common.{rules}
+use Rattle.allocative.proofs.Making.{makes_refused, makes_entry, makes_inside_refused}
+use Rattle.allocative.proofs.visitor.Visitor.visit_slice_of.Goals as goal
+
+pub returns-in_err-inner-clause-exact : goal.returns-in_err-inner-clause-exact
+returns-in_err-inner-clause-exact g c = λ h. makes_refused {e = c.in_err-inner.field-0.0} _ c.from_residual.ensures.0 (search rules) (search rules)
+
+pub returns-in_err-visit_data-clause-exact : goal.returns-in_err-visit_data-clause-exact
+returns-in_err-visit_data-clause-exact g c = λ h.
+    makes_inside_refused {w = c.visit_data.new.self.outer_is_unique} {e = c.in_err-visit_data.field-0.0} _ c.from_residual-in_err-visit_data.ensures.0 (search rules)
+    (rw (c.for_type_name.ensures, c.bytes_of-bytes.ensures, h) at c.in_ok-inner.ensures.entered) (c.in_err-visit_data.ensures.exact h) (search rules)
+
+pub returns-clause-exact : goal.returns-clause-exact
+returns-clause-exact g c = λ h.
+    makes_entry {q = c.visit_data.new.self.outer_is_unique} (rw (c.for_type_name.ensures, c.bytes_of-bytes.ensures, h) at c.in_ok-inner.ensures.entered) (c.in_ok-visit_data.ensures.exact h) (search rules) (search rules)

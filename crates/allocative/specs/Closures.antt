@@ -1,0 +1,25 @@
+-- What a closure that visits does to its visitor.
+use Rattle.std.specs.Prelude.{◌≡◌, ℕ, Bool, false, Result, Ok, Err}
+use Rattle.std.specs.Borrow.{MutBor}
+use Rattle.std.specs.Fn.{Once, FnOnceReturnsAtMut}
+use Rattle.allocative_graph.specs.declared.refusal.Refusal.{Refusal}
+use Rattle.allocative_graph.specs.Path.{Key}
+use Rattle.allocative_graph.specs.Collector.{State, failed_with}
+use Rattle.allocative_graph.specs.Shows.{Showing}
+use Rattle.allocative_graph.specs.Visits.{Shows, Enters, Leaves}
+use Rattle.allocative.specs.declared.visitor.Visitor.{Visitor}
+
+module _ {F : Type 0} (g : Once F (MutBor Visitor × Unit {0}) (Result (Unit {0}) Refusal × (MutBor Visitor × Unit {0}))) (f : F) where
+  -- A call hands the visitor back at the collector that it was given, and at its place.
+  abbrev pub KeepsVisitor : Type 0
+  KeepsVisitor = (x y : Visitor) (r : Result (Unit {0}) Refusal) → FnOnceReturnsAtMut g f x r y → (y.collector.ghost_name ≡ x.collector.ghost_name) × (y.outer_is_unique ≡ x.outer_is_unique)
+
+  -- Each call shows what p allows.
+  abbrev pub CallShows : Showing → Type 0
+  CallShows p = (x y : Visitor) (r : Result (Unit {0}) Refusal) → FnOnceReturnsAtMut g f x r y → Shows p x.collector.now r y.collector.now
+
+  -- An inline entry is refused, as entering says; or the closure is called at its visitor, answers Ok, and the visitor is left; or it answers Err with a cause, the collector fails with that cause where it had not failed, and the visitor is left.
+  pub data CallsInside (k : Key) (n : ℕ) (s : State) (t : State) : Result (Unit {0}) Refusal → Type 0 where
+    not_called : {e : Refusal} → Enters false k n s (Err e) t → CallsInside k n s t (Err e)
+    called : {o : Bool} {w : State} {u : Unit} (x y : Visitor) → Enters false k n s (Ok o) w → x.collector.now ≡ w → FnOnceReturnsAtMut g f x (Ok tt) y → Leaves y.outer_is_unique y.collector.now t → y.outer_is_unique ≡ o → CallsInside k n s t (Ok u)
+    refused_inside : {o q : Bool} {w : State} {e : Refusal} (x y : Visitor) (z : State) (cause : Refusal) → Enters false k n s (Ok o) w → x.collector.now ≡ w → FnOnceReturnsAtMut g f x (Err cause) y → z ≡ failed_with cause y.collector.now → Leaves q z t → CallsInside k n s t (Err e)

@@ -1,0 +1,58 @@
+-- What calls that visit no part answer: their entries are made in reading order, each refused as entering says.
+use Rattle.std.specs.Prelude.{◌≡◌, ℕ, ◌-◌, Bool, true, false, List, length, Option, Some, Result, Ok, Err, codes}
+use Rattle.allocative_described.specs.Sizes.{size_product}
+use Rattle.allocative_graph.specs.declared.refusal.Refusal.{Refusal}
+use Rattle.allocative_graph.specs.Path.{Key}
+use Rattle.allocative_graph.specs.Collector.{Kind, State, Failed, Going}
+use Rattle.allocative_graph.specs.Visits.{EntersSized, Leaves}
+use Rattle.allocative.specs.Bodies.{are_shown_each}
+use Rattle.allocative.specs.Runs.{CountsRun}
+
+-- Inline entries to be made: none; or one of a declared size with some inside it, and others after it.
+pub data Plan : Type 0 where
+  Done : Plan
+  Entry : Key → Option ℕ → Plan → Plan → Plan
+
+-- One entry with none inside.
+abbrev pub one : Key → Option ℕ → Plan
+one k size = Entry k size Done Done
+
+-- The entries of a plan, and then those of another.
+abbrev pub followed_by_plan : Plan → Plan → Plan
+followed_by_plan Done q = q
+followed_by_plan (Entry k size inside after) q = Entry k size inside (followed_by_plan after q)
+
+-- What making the entries of a plan in reading order does. A failed collector answers its first cause. Otherwise each entry is refused as `EntersSized` says, and the first refusal is the answer; or it is entered, those inside it are made, it is left, and those after it are made.
+pub data Makes : Plan → State → Result Unit Refusal → State → Type 0 where
+  had_failed : {p : Plan} {r : Refusal} → Makes p (Failed r) (Err r) (Failed r)
+  made_none : {b : Kind} {u : Unit} → Makes Done (Going b) (Ok u) (Going b)
+  made : {k : Key} {size : Option ℕ} {inside after : Plan} {s t c d z : State} {o : Bool} {v : Unit} {r : Result Unit Refusal} → EntersSized k size s (Ok o) t → Makes inside t (Ok v) c → Leaves o c d → Makes after d r z → Makes (Entry k size inside after) s r z
+  entry_refused : {k : Key} {size : Option ℕ} {inside after : Plan} {s t : State} {e : Refusal} → EntersSized k size s (Err e) t → Makes (Entry k size inside after) s (Err e) t
+  inside_refused : {k : Key} {size : Option ℕ} {inside after : Plan} {s t c : State} {o : Bool} {e : Refusal} → EntersSized k size s (Ok o) t → Makes inside t (Err e) c → Makes (Entry k size inside after) s (Err e) c
+
+-- No item of a slice is visited: there is none, or they are not shown one by one.
+abbrev pub VisitsNone : {T : Type 0} → Bool → Option ℕ → List T → Type 0
+VisitsNone needs_drop size xs = are_shown_each needs_drop size ≡ true → length xs ≡ 0
+
+-- The entries of a slice of which no item is visited.
+abbrev pub slice_plan : {T : Type 0} → Key → Option ℕ → Bool → List T → Plan
+slice_plan name size needs_drop xs = elim (are_shown_each needs_drop size) [ true ↦ Done | false ↦ one name (size_product size (Some (length xs))) ]
+
+-- Those of such a slice, and then that of the room that is left of n places.
+abbrev pub room_plan : {T : Type 0} → Key → Option ℕ → Bool → List T → ℕ → Plan
+room_plan name size needs_drop xs n =
+    followed_by_plan (slice_plan name size needs_drop xs) (one (codes "unused_capacity") (size_product size (Some (n - length xs))))
+
+-- Those of the body of a vector of such a slice with room for n items.
+abbrev pub vec_plan : {T : Type 0} → Key → Option ℕ → Bool → List T → ℕ → Plan
+vec_plan name size needs_drop xs n = Entry (codes "capacity") (size_product size (Some n)) (room_plan name size needs_drop xs n) Done
+
+-- What a call over an iterator does: it makes the entries of a plan, or the iterator, at s, may give an item.
+pub data MakesOrGives {S A : Type 0} (steps : S → Option A → S → Type 0) (s : S) (p : Plan) (a : State) (r : Result Unit Refusal) (b : State) : Type 0 where
+  makes : Makes p a r b → MakesOrGives steps s p a r b
+  gives : (x : A) (t : S) → steps s (Some x) t → MakesOrGives steps s p a r b
+
+-- What `visit_iter` does where it visits no item: items that are not shown one by one are counted, and one entry of their bytes is made; else the iterator gives none, and no entry is made.
+pub data MakesRun {S A : Type 0} (steps : S → Option A → S → Type 0) (s : S) (name : Key) (size : Option ℕ) : Bool → State → Result Unit Refusal → State → Type 0 where
+  counted : {a b : State} {r : Result Unit Refusal} (count : Option ℕ) → CountsRun steps s count → Makes (one name (size_product size count)) a r b → MakesRun steps s name size false a r b
+  in_turn : {a b : State} {r : Result Unit Refusal} → MakesOrGives steps s Done a r b → MakesRun steps s name size true a r b

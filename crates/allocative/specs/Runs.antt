@@ -1,0 +1,42 @@
+-- What is shown of the items that an iterator gives.
+use Rattle.std.specs.Prelude.{◌≡◌, ℕ, Bool, List, map, length, Option, codes}
+use Rattle.std.specs.Iterator.{Drains}
+use denote.Ref.{Bor}
+use Rattle.allocative_described.specs.Sizes.{checked}
+use Rattle.allocative_graph.specs.Path.{Key}
+use Rattle.allocative_graph.specs.Forest.{Forest}
+use Rattle.allocative_graph.specs.Shows.{Showing, Both, Field, slice_shows}
+
+-- A forest that q allows for the items of some whole run of an iterator, which starts at s; v tells what an item is seen as.
+pub record IsOfRun {S A B : Type 0} (steps : S → Option A → S → Type 0) (s : S) (v : A → B) (q : List B → Showing) (f : Forest) : Type 0 where
+  pub given : List A
+  pub drained : Drains steps s given
+  pub shown : q (map v given) f
+
+-- A field with its name and declared size, and in it what p says of the value.
+abbrev pub field_of : {T : Type 0} → Key → Option ℕ → (T → Showing) → T → Showing
+field_of name size p x = Field name size (p x)
+
+-- The fields `key` and `value` of a pair.
+abbrev pub pair_shows : {K V : Type 0} → Option ℕ → (K → Showing) → Option ℕ → (V → Showing) → K × V → Showing
+pair_shows key_size p value_size q e = Both (Field (codes "key") key_size (p e.0)) (Field (codes "value") value_size (q e.1))
+
+-- The count of the items of some whole run, or none where it does not fit a word.
+abbrev pub CountsRun : {S A : Type 0} → (S → Option A → S → Type 0) → S → Option ℕ → Type 0
+CountsRun {A = A} steps s n = (xs : List A) × Drains steps s xs × (n ≡ checked (length xs))
+
+-- What an entry of a key and a reference is seen as.
+abbrev pub deref_entry : {T : Type 0} → ℕ × Bor T → ℕ × T
+deref_entry e = (e.0, e.1.now)
+
+-- The value of an entry.
+abbrev pub entry_value : {T : Type 0} → ℕ × T → T
+entry_value e = e.1
+
+-- What p says of the value of an entry.
+abbrev pub value_shows : {T : Type 0} → (T → Showing) → ℕ × T → Showing
+value_shows p e = p e.1
+
+-- The slice of the values of entries, in order.
+abbrev pub values_slice : {T : Type 0} → Key → Option ℕ → Bool → (T → Showing) → List (ℕ × T) → Showing
+values_slice name size needs_drop p es = slice_shows name size needs_drop p (map entry_value es)

@@ -1,0 +1,432 @@
+// What no clause says: the helpers' texts, and that a visit by them can succeed.
+#![tactic(auto, using(crate::proofs::Showing::showing))]
+
+ghost use Rattle.std.specs.Prelude.{codes, true, false, Some, length, string_bytes, ◌≡◌, IfErr};
+ghost use Rattle.std.proofs.Common.{lit≤};
+ghost use Rattle.allocative_graph.specs.Shows.{Inside, InsideUnique, Field, Nothing, Both, each_shows, slice_shows};
+ghost use Rattle.allocative_graph.specs.Visits.{Shows, HasFailed};
+ghost use Rattle.allocative.specs.Bodies.{slice_of, vec_body};
+ghost use Rattle.allocative.specs.Runs.{pair_shows, field_of};
+
+use crate::allocative_trait::Allocative;
+use crate::builder::FlameGraphBuilder;
+use crate::visitor::Visitor;
+use allocative_described::Described;
+use allocative_graph::key::Key;
+use allocative_graph::refusal::Refusal;
+use std::alloc::Global;
+use std::collections::BTreeMap;
+
+// A byte, declared as `u8` is.
+#[derive(Clone, Copy, Debug, PartialEq, Eq, PartialOrd, Ord, Drop)]
+struct Byte(u8);
+
+impl Described for Byte {
+    ghost name = { codes "u8" };
+
+    ghost align = { 1 };
+
+    ghost needs_drop = { false };
+
+    ghost size = { Some 1 };
+
+    ghost align_positive = { lit≤ tt };
+
+    fn name() -> &'static str {
+        "u8"
+    }
+
+    fn align() -> usize {
+        1
+    }
+
+    fn needs_drop() -> bool {
+        false
+    }
+
+    fn size() -> Option<usize> {
+        Some(1)
+    }
+}
+
+impl Allocative for Byte {
+    ghost may_show = { λ _. Field (codes "u8") (Some 1) Nothing };
+
+    fn visit(&self, visitor: &mut Visitor<'_>) -> Result<(), Refusal> {
+        visitor.visit_simple_sized::<Byte>()
+    }
+}
+
+// Declares that it needs no drop.
+#[derive(Drop)]
+struct Pair;
+
+impl Described for Pair {
+    ghost name = { codes "Pair" };
+
+    ghost align = { 1 };
+
+    ghost needs_drop = { false };
+
+    ghost size = { Some 4 };
+
+    ghost align_positive = { lit≤ tt };
+
+    fn name() -> &'static str {
+        "Pair"
+    }
+
+    fn align() -> usize {
+        1
+    }
+
+    fn needs_drop() -> bool {
+        false
+    }
+
+    fn size() -> Option<usize> {
+        Some(4)
+    }
+}
+
+impl Allocative for Pair {
+    ghost may_show = { λ _. Inside (codes "Pair") 4 (Inside (codes "a") 1 Nothing) };
+
+    fn visit(&self, visitor: &mut Visitor<'_>) -> Result<(), Refusal> {
+        let mut inner = visitor.collector.enter(Key::new("Pair"), 4)?;
+        inner.visit_simple(Key::new("a"), 1)?;
+        inner.exit();
+        Ok(())
+    }
+}
+
+// The same, but declares that it needs a drop.
+#[derive(Drop)]
+struct DropPair(Pair);
+
+impl Described for DropPair {
+    ghost name = { codes "Pair" };
+
+    ghost align = { 1 };
+
+    ghost needs_drop = { true };
+
+    ghost size = { Some 4 };
+
+    ghost align_positive = { lit≤ tt };
+
+    fn name() -> &'static str {
+        "Pair"
+    }
+
+    fn align() -> usize {
+        1
+    }
+
+    fn needs_drop() -> bool {
+        true
+    }
+
+    fn size() -> Option<usize> {
+        Some(4)
+    }
+}
+
+impl Allocative for DropPair {
+    ghost may_show = { λ _. Inside (codes "Pair") 4 (Inside (codes "a") 1 Nothing) };
+
+    fn visit(&self, visitor: &mut Visitor<'_>) -> Result<(), Refusal> {
+        self.0.visit(visitor)
+    }
+}
+
+// Shows its items by `visit_slice`.
+#[derive(Drop)]
+struct Slice<T> {
+    items: Vec<T>,
+}
+
+impl<T: Allocative + Described> Allocative for Slice<T> {
+    ghost may_show = { λ s. slice_shows T.name T.size T.needs_drop T.may_show s.items.items };
+
+    fn visit(&self, visitor: &mut Visitor<'_>) -> Result<(), Refusal> {
+        visitor.visit_slice(&self.items)
+    }
+}
+
+// Shows its items by `visit_iter`.
+#[derive(Drop)]
+struct Iterated<T> {
+    items: Vec<T>,
+}
+
+impl<T: Allocative + Described> Allocative for Iterated<T> {
+    ghost may_show = { λ s. slice_shows T.name T.size T.needs_drop T.may_show s.items.items };
+
+    fn visit(&self, visitor: &mut Visitor<'_>) -> Result<(), Refusal> {
+        visitor.visit_iter(self.items.iter())
+    }
+}
+
+// Shows its entries by `visit_generic_map_fields`.
+#[derive(Drop)]
+struct MapFields {
+    entries: BTreeMap<Byte, Byte>,
+}
+
+impl Allocative for MapFields {
+    ghost may_show = { λ m. Inside (codes "data") 8 (each_shows (pair_shows (Some 1) (λ _. Field (codes "u8") (Some 1) Nothing) (Some 1) (λ _. Field (codes "u8") (Some 1) Nothing)) m.entries.entries) };
+
+    fn visit(&self, visitor: &mut Visitor<'_>) -> Result<(), Refusal> {
+        visitor.visit_generic_map_fields(self.entries.iter())
+    }
+}
+
+// Shows its keys by `visit_generic_set_fields`.
+#[derive(Drop)]
+struct SetFields {
+    keys: Vec<Byte>,
+}
+
+impl Allocative for SetFields {
+    ghost may_show = { λ s. Inside (codes "data") 8 (each_shows (field_of (codes "key") (Some 1) (λ _. Field (codes "u8") (Some 1) Nothing)) s.keys.items) };
+
+    fn visit(&self, visitor: &mut Visitor<'_>) -> Result<(), Refusal> {
+        visitor.visit_generic_set_fields(self.keys.iter())
+    }
+}
+
+// Shows a text.
+#[derive(Drop)]
+struct Text {
+    text: String,
+}
+
+impl Allocative for Text {
+    ghost may_show = { λ t. Inside (codes "str") (length (string_bytes t.text)) Nothing };
+
+    fn visit(&self, visitor: &mut Visitor<'_>) -> Result<(), Refusal> {
+        visitor.visit_str(self.text.as_str())
+    }
+}
+
+// Shows a byte as a boxed object.
+#[derive(Drop)]
+struct Boxed {
+    byte: Byte,
+}
+
+impl Allocative for Boxed {
+    ghost may_show = { λ _. Inside (codes "Box") 8 (InsideUnique (codes "ptr") 8 (Field (codes "u8") (Some 1) Nothing)) };
+
+    fn visit(&self, visitor: &mut Visitor<'_>) -> Result<(), Refusal> {
+        visitor.visit_boxed_object(&self.byte)
+    }
+}
+
+// Shows a byte as a field.
+#[derive(Drop)]
+struct WithField {
+    byte: Byte,
+}
+
+impl Allocative for WithField {
+    ghost may_show = { λ _. Field (codes "f") (Some 1) (Field (codes "u8") (Some 1) Nothing) };
+
+    fn visit(&self, visitor: &mut Visitor<'_>) -> Result<(), Refusal> {
+        visitor.visit_field(Key::new("f"), &self.byte)
+    }
+}
+
+// Shows a field by a closure of one step.
+#[derive(Drop)]
+struct WithClosure;
+
+impl Allocative for WithClosure {
+    ghost may_show = { λ _. Inside (codes "f") 4 (Inside (codes "x") 1 Nothing) };
+
+    fn visit(&self, visitor: &mut Visitor<'_>) -> Result<(), Refusal> {
+        visitor.visit_field_with(Key::new("f"), 4, |inner| {
+            inner.visit_simple(Key::new("x"), 1)
+        })
+    }
+}
+
+// Shows a field by a closure of two steps.
+#[derive(Drop)]
+struct WithSteps;
+
+impl Allocative for WithSteps {
+    ghost may_show = { λ _. Inside (codes "f") 8 (Both (Inside (codes "x") 1 Nothing) (Inside (codes "y") 2 Nothing)) };
+
+    fn visit(&self, visitor: &mut Visitor<'_>) -> Result<(), Refusal> {
+        visitor.visit_field_with(Key::new("f"), 8, |inner| {
+            inner.visit_simple(Key::new("x"), 1)?;
+            inner.visit_simple(Key::new("y"), 2)
+        })
+    }
+}
+
+// Enters as the byte and leaves.
+fn visit_as_value(visitor: &mut Visitor<'_>, byte: &Byte) -> Result<(), Refusal>
+    ensures same_reference { visitor.new.collector.ghost_name ≡ visitor.old.collector.ghost_name }
+    ensures same_outer { visitor.new.outer_is_unique ≡ visitor.old.outer_is_unique }
+    ensures shown { Shows (Field (codes "u8") (Some 1) Nothing) visitor.old.collector.now result visitor.new.collector.now }
+    ensures cause { IfErr result (HasFailed visitor.new.collector.now) }
+{
+    let inner = visitor.collector.enter_self(byte)?;
+    inner.exit();
+    Ok(())
+}
+
+// Enters as the byte's type and leaves.
+fn visit_as_type(visitor: &mut Visitor<'_>) -> Result<(), Refusal>
+    ensures same_reference { visitor.new.collector.ghost_name ≡ visitor.old.collector.ghost_name }
+    ensures same_outer { visitor.new.outer_is_unique ≡ visitor.old.outer_is_unique }
+    ensures shown { Shows (Field (codes "u8") (Some 1) Nothing) visitor.old.collector.now result visitor.new.collector.now }
+    ensures cause { IfErr result (HasFailed visitor.new.collector.now) }
+{
+    let inner = visitor.collector.enter_self_sized::<Byte>()?;
+    inner.exit();
+    Ok(())
+}
+
+// Shows one byte three times, by each call that enters a type's own name and size.
+#[derive(Drop)]
+struct Selves {
+    byte: Byte,
+}
+
+impl Allocative for Selves {
+    ghost may_show = { λ _. Both (Field (codes "u8") (Some 1) Nothing) (Both (Field (codes "u8") (Some 1) Nothing) (Field (codes "u8") (Some 1) Nothing)) };
+
+    fn visit(&self, visitor: &mut Visitor<'_>) -> Result<(), Refusal> {
+        visit_as_value(visitor, &self.byte)?;
+        visit_as_type(visitor)?;
+        visitor.visit_simple_sized::<Byte>()
+    }
+}
+
+// Shows a slice by itself.
+#[derive(Drop)]
+struct SliceOf {
+    items: Vec<Byte>,
+}
+
+impl Allocative for SliceOf {
+    ghost may_show = { λ s. slice_of (codes "u8") (Some 1) (λ _. Field (codes "u8") (Some 1) Nothing) s.items.items };
+
+    fn visit(&self, visitor: &mut Visitor<'_>) -> Result<(), Refusal> {
+        visitor.visit_slice_of(&self.items)
+    }
+}
+
+// Shows a buffer with no room left.
+#[derive(Drop)]
+struct Body {
+    items: Vec<Byte>,
+}
+
+impl Allocative for Body {
+    ghost may_show = { λ s. InsideUnique (codes "ptr") 8 (vec_body (codes "u8") (Some 1) false (λ _. Field (codes "u8") (Some 1) Nothing) s.items.items (length s.items.items)) };
+
+    fn visit(&self, visitor: &mut Visitor<'_>) -> Result<(), Refusal> {
+        let mut inner = visitor.collector.enter_unique(Key::new("ptr"), 8)?;
+        inner.visit_vec_like_body(&self.items, self.items.len())?;
+        inner.exit();
+        Ok(())
+    }
+}
+
+// The text of one visit.
+fn text_of(alloc: Global, root: &dyn Allocative) -> Result<String, Refusal> {
+    let mut builder = FlameGraphBuilder::new(alloc)?;
+    builder.visit_root(root)?;
+    builder.finish()?.flamegraph().write()
+}
+
+#[test]
+fn slices_and_iterators_give_one_text(rt: HostRuntime) -> Result<(), Refusal> {
+    let alloc = rt.alloc();
+    let plain = Slice {
+        items: vec![in alloc; Pair, Pair, Pair]?,
+    };
+    assert_eq!(rt; text_of(alloc, &plain)?.as_str(), "Pair 12\n");
+    let each = Slice {
+        items: vec![in alloc; DropPair(Pair), DropPair(Pair), DropPair(Pair)]?,
+    };
+    assert_eq!(rt; text_of(alloc, &each)?.as_str(), "Pair 9\nPair;a 3\n");
+    let plain = Iterated {
+        items: vec![in alloc; Pair, Pair, Pair]?,
+    };
+    assert_eq!(rt; text_of(alloc, &plain)?.as_str(), "Pair 12\n");
+    let each = Iterated {
+        items: vec![in alloc; DropPair(Pair), DropPair(Pair), DropPair(Pair)]?,
+    };
+    assert_eq!(rt; text_of(alloc, &each)?.as_str(), "Pair 9\nPair;a 3\n");
+    let empty: Slice<Byte> = Slice {
+        items: Vec::new(alloc),
+    };
+    assert_eq!(rt; text_of(alloc, &empty)?.as_str(), "");
+    Ok(())
+}
+
+#[test]
+fn maps_and_sets_show_data(rt: HostRuntime) -> Result<(), Refusal> {
+    let alloc = rt.alloc();
+    let mut entries = BTreeMap::new(alloc);
+    entries.insert(Byte(1), Byte(2))?;
+    entries.insert(Byte(3), Byte(4))?;
+    let map = MapFields { entries };
+    assert_eq!(rt;
+        text_of(alloc, &map)?.as_str(),
+        "data 4\ndata;key;u8 2\ndata;value;u8 2\n"
+    );
+    let set = SetFields {
+        keys: vec![in alloc; Byte(1), Byte(2)]?,
+    };
+    assert_eq!(rt; text_of(alloc, &set)?.as_str(), "data 6\ndata;key;u8 2\n");
+    Ok(())
+}
+
+#[test]
+fn texts_boxes_and_fields(rt: HostRuntime) -> Result<(), Refusal> {
+    let alloc = rt.alloc();
+    let six = Text {
+        text: String::from_str(alloc, "abcdef")?,
+    };
+    assert_eq!(rt; text_of(alloc, &six)?.as_str(), "str 6\n");
+    let none = Text {
+        text: String::new(alloc),
+    };
+    assert_eq!(rt; text_of(alloc, &none)?.as_str(), "");
+    let boxed = Boxed { byte: Byte(1) };
+    assert_eq!(rt;
+        text_of(alloc, &boxed)?.as_str(),
+        "Box;ptr 8\nBox;ptr;u8 1\n"
+    );
+    let field = WithField { byte: Byte(1) };
+    assert_eq!(rt; text_of(alloc, &field)?.as_str(), "f;u8 1\n");
+    assert_eq!(rt; text_of(alloc, &WithClosure)?.as_str(), "f 3\nf;x 1\n");
+    assert_eq!(rt; text_of(alloc, &WithSteps)?.as_str(), "f 5\nf;x 1\nf;y 2\n");
+    let selves = Selves { byte: Byte(1) };
+    assert_eq!(rt; text_of(alloc, &selves)?.as_str(), "u8 3\n");
+    Ok(())
+}
+
+#[test]
+fn a_slice_by_itself_and_a_body(rt: HostRuntime) -> Result<(), Refusal> {
+    let alloc = rt.alloc();
+    let slice = SliceOf {
+        items: vec![in alloc; Byte(1), Byte(2), Byte(3)]?,
+    };
+    assert_eq!(rt; text_of(alloc, &slice)?.as_str(), "u8;data;u8 3\n");
+    let body = Body {
+        items: vec![in alloc; Byte(1), Byte(2), Byte(3)]?,
+    };
+    assert_eq!(rt;
+        text_of(alloc, &body)?.as_str(),
+        "ptr 8\nptr;capacity;u8 3\n"
+    );
+    Ok(())
+}
