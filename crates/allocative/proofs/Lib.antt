@@ -5,6 +5,7 @@ pub mod Runs
 pub mod Bodies
 pub mod Steps
 pub mod Showing
+pub mod StdShowing
 pub mod Roots
 pub mod Orders
 pub mod Paths

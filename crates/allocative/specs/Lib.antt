@@ -3,6 +3,7 @@ pub mod Closures
 pub mod Runs
 pub mod Bodies
 pub mod Steps
+pub mod StdShows
 pub mod Roots
 pub mod Kinds
 pub mod Shared

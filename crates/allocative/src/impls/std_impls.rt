@@ -1,2 +1,12 @@
 //! What the types of the language and of `std` show.
+mod collections;
+mod mem;
+mod net;
+mod primitive;
+mod shared;
+mod sync;
+#[cfg(test)]
+mod tests;
+mod time;
 mod tuple;
+mod unsorted;

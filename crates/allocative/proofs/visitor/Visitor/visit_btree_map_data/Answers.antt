@@ -1,0 +1,12 @@
+-- The iterator gives the pairs of the map.
+use Rattle.std.proofs.Common.{codes, false}
+use Rattle.std.proofs.lemmas.Iterator.Consumers.{YieldsList-from_rest}
+use Rattle.allocative_graph.specs.Shows.{each_shows}
+use Rattle.allocative.specs.Runs.{pair_shows}
+use Rattle.allocative.proofs.Runs.{inside_list}
+use Rattle.allocative.proofs.visitor.Visitor.visit_btree_map_data.Goals as goal
+
+pub returns-clause-shown : goal.returns-clause-shown
+returns-clause-shown g c =
+    inside_list false (codes "data") 8 (each_shows (pair_shows g.K.Described.size g.K.Allocative.may_show g.V.Described.size g.V.Allocative.may_show))
+    (YieldsList-from_rest _ c.iter.ensures.rest) c.visit_generic_map_fields.ensures.shown

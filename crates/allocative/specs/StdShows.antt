@@ -1,0 +1,28 @@
+-- What the types of the language and of `std` may show.
+use Rattle.std.specs.Prelude.{ℕ, List, Option, None, Some, Result, Ok, Err, IsPermutation, codes}
+use Rattle.allocative_described.specs.Sizes.{shared_inner_size}
+use Rattle.allocative_graph.specs.Path.{Key}
+use Rattle.allocative_graph.specs.Identity.{Identity}
+use Rattle.allocative_graph.specs.Shows.{Showing, Nothing, Field, SharedWith, each_shows}
+
+-- One inline entry of a declared name and size, with nothing inside it.
+abbrev pub Leaf : Key → ℕ → Showing
+Leaf name n = Field name (Some n) Nothing
+
+-- In the entry of an `Option`: nothing, or its value under `Some`.
+abbrev pub option_inside : {T : Type 0} → Option ℕ → (T → Showing) → Option T → Showing
+option_inside size p None = Nothing
+option_inside size p (Some v) = Field (codes "Some") size (p v)
+
+-- In the entry of a `Result`: its value under `Ok`, or its error under `Err`.
+abbrev pub result_inside : {T E : Type 0} → Option ℕ → Option ℕ → (T → Showing) → (E → Showing) → Result T E → Showing
+result_inside ok_size err_size p q (Ok v) = Field (codes "Ok") ok_size (p v)
+result_inside ok_size err_size p q (Err e) = Field (codes "Err") err_size (q e)
+
+-- What each of some items shows, in any order.
+abbrev pub in_any_order : {T : Type 0} → (T → Showing) → List T → Showing
+in_any_order {T} p xs f = (ys : List T) × IsPermutation xs ys × each_shows p ys f
+
+-- A pointer to a shared value of a declared size and alignment: with an entry of its counts and itself as content, or without content.
+abbrev pub shared_inside : Key → Identity → Option ℕ → ℕ → Showing → Showing
+shared_inside inner_name id size align p = SharedWith (codes "ptr") 8 id (Field inner_name (shared_inner_size size align) p)

@@ -1,0 +1,52 @@
+//! Values that are never dropped by themselves, and types that show nothing.
+#![tactic(auto, using(crate::proofs::Showing::showing))]
+
+ghost use Rattle.std.specs.Prelude.{codes};
+ghost use Rattle.std.specs.Mem.{manually_drop_value};
+ghost use Rattle.allocative_graph.specs.Shows.{Field, Nothing};
+
+use crate::allocative_trait::Allocative;
+use crate::visitor::Visitor;
+use allocative_described::Described;
+use allocative_graph::key::Key;
+use allocative_graph::refusal::Refusal;
+use std::convert::Infallible;
+use std::marker::PhantomData;
+use std::mem::ManuallyDrop;
+
+impl<T: Allocative + Described> Allocative for ManuallyDrop<T> {
+    ghost may_show = { λ slot. Field (codes "ManuallyDrop") T.size (Field (codes "inner") T.size (T.may_show (manually_drop_value slot))) };
+
+    fn visit(&self, visitor: &mut Visitor<'_>) -> Result<(), Refusal> {
+        let mut inner = visitor.collector.enter_self_sized::<ManuallyDrop<T>>()?;
+        inner.visit_field(Key::new("inner"), &**self)?;
+        inner.exit();
+        Ok(())
+    }
+}
+
+// What it points to is no part of it.
+impl<T> Allocative for &'static T {
+    ghost may_show = { λ _. Nothing };
+
+    fn visit(&self, _visitor: &mut Visitor<'_>) -> Result<(), Refusal> {
+        Ok(())
+    }
+}
+
+impl<T> Allocative for PhantomData<T> {
+    ghost may_show = { λ _. Nothing };
+
+    fn visit(&self, _visitor: &mut Visitor<'_>) -> Result<(), Refusal> {
+        Ok(())
+    }
+}
+
+// It has no value.
+impl Allocative for Infallible {
+    ghost may_show = { λ _. Nothing };
+
+    fn visit(&self, _visitor: &mut Visitor<'_>) -> Result<(), Refusal> {
+        match *self {}
+    }
+}

@@ -1,0 +1,34 @@
+//! Addresses: one entry each.
+#![tactic(auto, using(crate::proofs::Showing::showing))]
+
+ghost use Rattle.std.specs.Prelude.{codes};
+ghost use Rattle.allocative.specs.StdShows.{Leaf};
+
+use crate::allocative_trait::Allocative;
+use crate::visitor::Visitor;
+use allocative_graph::refusal::Refusal;
+use std::net::{IpAddr, Ipv4Addr, Ipv6Addr};
+
+impl Allocative for IpAddr {
+    ghost may_show = { λ _. Leaf (codes "IpAddr") 17 };
+
+    fn visit(&self, visitor: &mut Visitor<'_>) -> Result<(), Refusal> {
+        visitor.visit_simple_sized::<IpAddr>()
+    }
+}
+
+impl Allocative for Ipv4Addr {
+    ghost may_show = { λ _. Leaf (codes "Ipv4Addr") 4 };
+
+    fn visit(&self, visitor: &mut Visitor<'_>) -> Result<(), Refusal> {
+        visitor.visit_simple_sized::<Ipv4Addr>()
+    }
+}
+
+impl Allocative for Ipv6Addr {
+    ghost may_show = { λ _. Leaf (codes "Ipv6Addr") 16 };
+
+    fn visit(&self, visitor: &mut Visitor<'_>) -> Result<(), Refusal> {
+        visitor.visit_simple_sized::<Ipv6Addr>()
+    }
+}

@@ -1,0 +1,34 @@
+//! Times and their distances: one entry each.
+#![tactic(auto, using(crate::proofs::Showing::showing))]
+
+ghost use Rattle.std.specs.Prelude.{codes};
+ghost use Rattle.allocative.specs.StdShows.{Leaf};
+
+use crate::allocative_trait::Allocative;
+use crate::visitor::Visitor;
+use allocative_graph::refusal::Refusal;
+use std::time::{Duration, Instant, SystemTime};
+
+impl Allocative for Instant {
+    ghost may_show = { λ _. Leaf (codes "Instant") 16 };
+
+    fn visit(&self, visitor: &mut Visitor<'_>) -> Result<(), Refusal> {
+        visitor.visit_simple_sized::<Instant>()
+    }
+}
+
+impl Allocative for SystemTime {
+    ghost may_show = { λ _. Leaf (codes "SystemTime") 16 };
+
+    fn visit(&self, visitor: &mut Visitor<'_>) -> Result<(), Refusal> {
+        visitor.visit_simple_sized::<SystemTime>()
+    }
+}
+
+impl Allocative for Duration {
+    ghost may_show = { λ _. Leaf (codes "Duration") 16 };
+
+    fn visit(&self, visitor: &mut Visitor<'_>) -> Result<(), Refusal> {
+        visitor.visit_simple_sized::<Duration>()
+    }
+}
