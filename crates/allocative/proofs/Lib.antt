@@ -6,6 +6,8 @@ pub mod Bodies
 pub mod Steps
 pub mod Showing
 pub mod StdShowing
+pub mod Json
+pub mod SlabValues
 pub mod Roots
 pub mod Orders
 pub mod Paths

@@ -4,6 +4,8 @@ pub mod Runs
 pub mod Bodies
 pub mod Steps
 pub mod StdShows
+pub mod JsonShows
+pub mod PackShows
 pub mod Roots
 pub mod Kinds
 pub mod Shared

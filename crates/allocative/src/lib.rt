@@ -26,6 +26,7 @@ pub mod visitor;
 
 pub use crate::allocative_trait::Allocative;
 pub use crate::builder::FlameGraphBuilder;
+pub use crate::impls::pack_impls::json::visit_json_map;
 pub use crate::output::FlameGraphOutput;
 pub use crate::registry::{Registry, profile_roots};
 pub use crate::size_of::{size_of_unique, size_of_unique_allocated_data};

@@ -1,0 +1,9 @@
+//! What the types of the pack's crates show.
+mod either_type;
+mod error;
+mod index_map;
+mod index_set;
+pub mod json;
+mod once_box;
+mod slab_type;
+mod small_vec;

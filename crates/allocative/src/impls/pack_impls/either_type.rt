@@ -1,0 +1,27 @@
+//! `Either`: a field of the side that is there.
+#![tactic(auto, using(crate::proofs::Showing::showing))]
+
+ghost use Rattle.std.specs.Prelude.{codes};
+ghost use Rattle.allocative_graph.specs.Shows.{Field};
+ghost use Rattle.allocative.specs.PackShows.{either_inside};
+
+use crate::allocative_trait::Allocative;
+use crate::visitor::Visitor;
+use allocative_described::Described;
+use allocative_graph::key::Key;
+use allocative_graph::refusal::Refusal;
+use either::{Either, Left, Right};
+
+impl<L: Allocative + Described, R: Allocative + Described> Allocative for Either<L, R> {
+    ghost may_show = { λ e. Field (codes "Either") ⟦<Either<L, R> as Described>⟧.size (either_inside L.size L.may_show R.size R.may_show e) };
+
+    fn visit(&self, visitor: &mut Visitor<'_>) -> Result<(), Refusal> {
+        let mut inner = visitor.collector.enter_self_sized::<Either<L, R>>()?;
+        match self {
+            Left(left) => inner.visit_field(Key::new("Left"), left)?,
+            Right(right) => inner.visit_field(Key::new("Right"), right)?,
+        }
+        inner.exit();
+        Ok(())
+    }
+}
