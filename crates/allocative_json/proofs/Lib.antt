@@ -1,0 +1,4 @@
+pub mod LinesLemmas
+pub mod NumbersLemmas
+pub mod Reports
+pub mod WordsLemmas

@@ -1,0 +1,27 @@
+use Rattle.std.proofs.Common.{map, ◌∙◌, subst, List}
+use Rattle.std.proofs.lemmas.List.{map-append, take_more}
+use Rattle.std.proofs.lemmas.Iterator.{items_from_drains}
+use Rattle.std.proofs.lemmas.Iterator.Consumers.{YieldsList-from_rest}
+use Rattle.std.specs.Map.Iter.{deref_pair}
+use Rattle.serde_json.specs.View.{members_view}
+use Rattle.allocative_json.specs.Numbers.{AddsKeys, members_have}
+use Rattle.allocative_json.proofs.NumbersLemmas.{AddsKeys-item, AddsKeys-member}
+use Rattle.allocative_json.proofs.roots.+numbers.Goals as goal
+
+pub add_items-loop-item-preserved : goal.add_items-loop-item-preserved
+add_items-loop-item-preserved t c = record {
+  keys = rw (take_more _ _ c.item-item.result c.loop-item-test.true, ← c.item-item.is) (AddsKeys-item _ c.item-item.result _ _ _ c.loop-item.invariant.keys c.in_ok-add_numbers.ensures.keys);
+  ordered = λ h. c.add_numbers.ensures.ordered (c.loop-item.invariant.ordered h);
+}
+
+pub add_members-loop-key-preserved : goal.add_members-loop-key-preserved
+add_members-loop-key-preserved t c = record {
+  keys = rw map-append (AddsKeys-member (map deref_pair c.loop-key.yielded) c.in-Some._key.now c.in-Some.member.now _ _ _ c.loop-key.invariant.keys c.in_ok-add_numbers.ensures.keys);
+  ordered = λ h. c.add_numbers.ensures.ordered (c.loop-key.invariant.ordered h);
+}
+
+pub add_members-returns-clause-keys : goal.add_members-returns-clause-keys
+add_members-returns-clause-keys t c =
+    let e = items_from_drains c.loop-key.yielded (c.loop-key._key-iterator, c.loop-key.yielded_by, λ _. (c.next.new.self, c.in-None.ensures.steps)) (YieldsList-from_rest _ (c.into_iter-key-iterator.ensures.into_iter_gives ∙ c.iter-key-items.ensures.rest)) in
+    let Q : List _ → Type 0 = λ ms. AddsKeys (members_have (members_view ms)) c.args.set.now c.loop-key.set in
+    subst Q e c.loop-key.invariant.keys

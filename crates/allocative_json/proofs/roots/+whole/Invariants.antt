@@ -1,0 +1,11 @@
+use Rattle.std.proofs.Common.{◌≡◌, take, map}
+use Rattle.std.specs.Map.Iter.{deref_pair}
+use Rattle.serde_json.specs.View.{items_view, members_view}
+use Rattle.allocative_json.specs.Numbers.{are_whole, have_whole}
+use Rattle.allocative_json.proofs.roots.+whole.Given as goal
+
+abbrev pub invariant-are_whole_items-loop-item : goal.invariant-are_whole_items-loop-item
+invariant-are_whole_items-loop-item l = l.all_whole ≡ are_whole (items_view (take l.item-index l.item-items))
+
+abbrev pub invariant-are_whole_members-loop-key : goal.invariant-are_whole_members-loop-key
+invariant-are_whole_members-loop-key l = l.all_whole ≡ have_whole (members_view (map deref_pair l.yielded))

@@ -1,0 +1,62 @@
+-- The numbers of a JSON document, at any depth.
+use Rattle.std.specs.Prelude.{◌≡◌, ℤ, pos, Bool, true, false, ◌&&◌, ◌||◌}
+use Rattle.std.specs.Ordering.{int_cmp, int_eq}
+use Rattle.std.specs.BTreeSet.{BTreeSet, contains, IsOrdered}
+use Rattle.serde_json.specs.Data.{Num, unsigned, negative, float, Data, null, boolean, number, string, array, object, Items, no_items, item, Members, no_members, member}
+
+-- Whether a number is an i64 or a u64.
+abbrev pub is_whole_number : Num → Bool
+is_whole_number (unsigned n) = true
+is_whole_number (negative z) = true
+is_whole_number (float x) = false
+
+-- Whether each number of a document is an i64 or a u64.
+abbrev mutual
+  pub is_whole : Data → Bool
+  is_whole null = true
+  is_whole (boolean b) = true
+  is_whole (number n) = is_whole_number n
+  is_whole (string s) = true
+  is_whole (array ds) = are_whole ds
+  is_whole (object ms) = have_whole ms
+
+  pub are_whole : Items → Bool
+  are_whole no_items = true
+  are_whole (item d ds) = is_whole d && are_whole ds
+
+  pub have_whole : Members → Bool
+  have_whole no_members = true
+  have_whole (member k d ms) = is_whole d && have_whole ms
+
+-- Whether a number is the whole number k.
+abbrev pub is_number : Num → ℤ → Bool
+is_number (unsigned n) k = int_eq (pos n) k
+is_number (negative z) k = int_eq z k
+is_number (float x) k = false
+
+-- Whether the whole number k stands in a document, at any depth.
+abbrev mutual
+  pub has_number : Data → ℤ → Bool
+  has_number null k = false
+  has_number (boolean b) k = false
+  has_number (number n) k = is_number n k
+  has_number (string s) k = false
+  has_number (array ds) k = items_have ds k
+  has_number (object ms) k = members_have ms k
+
+  pub items_have : Items → ℤ → Bool
+  items_have no_items k = false
+  items_have (item d ds) k = has_number d k || items_have ds k
+
+  pub members_have : Members → ℤ → Bool
+  members_have no_members k = false
+  members_have (member name d ms) k = has_number d k || members_have ms k
+
+-- The new set has what the old one has, and each number that passes the test.
+abbrev pub AddsKeys : (ℤ → Bool) → BTreeSet ℤ → BTreeSet ℤ → Type 0
+AddsKeys test old new = (k : ℤ) → contains int_cmp new k ≡ (test k || contains int_cmp old k)
+
+-- The set has exactly the whole numbers of the document, each once, in order.
+pub record IsIndexOf (d : Data) (s : BTreeSet ℤ) : Type 0 where
+  pub ordered : IsOrdered int_cmp s
+  pub exactly : (k : ℤ) → contains int_cmp s k ≡ has_number d k

@@ -1,0 +1,34 @@
+-- The document that an input is, and why there is none.
+use Rattle.std.specs.Prelude.{◌≡◌, ℕ, ℤ, Bool, true, false, ⊤, List, Option, None, Some, IsUtf8}
+use Rattle.std.specs.BTreeSet.{BTreeSet}
+use Rattle.serde_json.specs.Data.{Data}
+use Rattle.serde_json.specs.Read.{read}
+use Rattle.allocative_json.specs.declared.fault.Fault.{Fault}
+use Rattle.allocative_json.specs.declared.fault.Fault.TheVariants.{Memory, NotJson, NotWhole, TooLarge, Words, Reading, Writing, Open}
+use Rattle.allocative_json.specs.Numbers.{is_whole, IsIndexOf}
+
+-- The input is the text of the document d.
+pub record IsDocument (input : List ℕ) (d : Data) : Type 0 where
+  pub utf8 : IsUtf8 input
+  pub is_read : read input ≡ Some d
+
+-- The same, and each number of d is an i64 or a u64.
+pub record IsWholeDocument (input : List ℕ) (d : Data) : Type 0 where
+  pub document : IsDocument input d
+  pub whole : is_whole d ≡ true
+
+-- The set of the document's numbers, exactly where it is asked for.
+abbrev pub IsIndexIf : Bool → Data → Option (BTreeSet ℤ) → Type 0
+IsIndexIf asked d None = asked ≡ false
+IsIndexIf asked d (Some s) = (asked ≡ true) × IsIndexOf d s
+
+-- The fault may be answered where the roots are read from the input: Memory; NotJson where the input is no document; NotWhole where it is one that has another number.
+abbrev pub RefusesInput : List ℕ → Fault → Type 0
+RefusesInput input Memory = ⊤
+RefusesInput input NotJson = (d : Data) → ¬ IsDocument input d
+RefusesInput input NotWhole = (d : Data) × IsDocument input d × (is_whole d ≡ false)
+RefusesInput input TooLarge = ⊥
+RefusesInput input Words = ⊥
+RefusesInput input Reading = ⊥
+RefusesInput input Writing = ⊥
+RefusesInput input Open = ⊥

@@ -1,0 +1,50 @@
+-- What a whole run comes to.
+use Rattle.std.specs.Prelude.{◌≡◌, ℕ, List, Option, IfSome}
+use Rattle.std.specs.Io.KnownBytes.{Appends}
+use Rattle.allocative_json.specs.declared.fault.Fault.{Fault}
+use Rattle.allocative_json.specs.declared.fault.Fault.TheVariants.{Memory, NotJson, NotWhole, TooLarge, Reading, Writing, Open}
+use Rattle.allocative_json.specs.declared.fault.Fault.TheVariants as fault
+use Rattle.allocative_json.specs.declared.words.Words.{Words}
+use Rattle.allocative_json.specs.Fault.{status_of}
+use Rattle.allocative_json.specs.Profile.{IsRightReport, RefusesReport}
+use Rattle.allocative_json.specs.Words.{Word, AreWords, Asks}
+
+-- The words are taken, all bytes of the reader are read where they are known, and the report of them is right.
+pub record IsReportFor (texts : List Word) (known : Option (List ℕ)) (profile warnings : List ℕ) : Type 0 where
+  pub words : AreWords texts
+  pub asked : Words
+  pub asks : Asks texts asked
+  pub input : List ℕ
+  pub is_read : IfSome known (λ bytes. input ≡ bytes)
+  pub right : IsRightReport input asked.index asked.exact profile warnings
+
+-- A right report stands behind what the two writers held, where that is known.
+pub record EndsWell (texts : List Word) (known out out' err err' : Option (List ℕ)) : Type 0 where
+  pub profile : List ℕ
+  pub warnings : List ℕ
+  pub report : IsReportFor texts known profile warnings
+  pub written : Appends out out' profile
+  pub told : Appends err err' warnings
+
+-- Some report is right for what is read.
+pub record IsReported (texts : List Word) (known : Option (List ℕ)) : Type 0 where
+  pub profile : List ℕ
+  pub warnings : List ℕ
+  pub report : IsReportFor texts known profile warnings
+
+-- The fault may end a run before anything is written: Words exactly where the words are not taken; else one of reading, or of a report of the bytes that were read.
+abbrev pub RefusesRun : List Word → Option (List ℕ) → Fault → Type 0
+RefusesRun texts known fault.Words = ¬ AreWords texts
+RefusesRun texts known Reading = AreWords texts
+RefusesRun texts known Writing = ⊥
+RefusesRun texts known Memory = AreWords texts
+RefusesRun texts known NotJson = AreWords texts × IfSome known (λ bytes. RefusesReport bytes NotJson)
+RefusesRun texts known NotWhole = AreWords texts × IfSome known (λ bytes. RefusesReport bytes NotWhole)
+RefusesRun texts known TooLarge = AreWords texts × IfSome known (λ bytes. RefusesReport bytes TooLarge)
+RefusesRun texts known Open = AreWords texts × IfSome known (λ bytes. RefusesReport bytes Open)
+
+-- The status is that of a fault that may end the run before anything is written.
+pub record EndsIn (texts : List Word) (known : Option (List ℕ)) (status : ℕ) : Type 0 where
+  pub cause : Fault
+  pub is_status : status ≡ status_of cause
+  pub refuses : RefusesRun texts known cause

@@ -1,0 +1,91 @@
+//! Why a run fails.
+ghost use Rattle.std.specs.Prelude.{◌≡◌};
+ghost use Rattle.allocative_json.specs.Fault.{status_of};
+
+use allocative::Refusal;
+use std::alloc::{AllocError, AllocFailed};
+use thiserror::Error;
+
+/// Why a run failed. Its text is the line on standard error, behind the program's name.
+#[derive(Clone, Copy, Debug, PartialEq, Eq, Error)]
+pub enum Fault {
+    /// A growth of memory was refused.
+    #[error("out of memory")]
+    Memory,
+    /// The input is not JSON.
+    #[error("input is not JSON")]
+    NotJson,
+    /// The document has a number that is neither an i64 nor a u64.
+    #[error("a number is not a 64-bit whole number")]
+    NotWhole,
+    /// The declared sizes pass their bound.
+    #[error("sizes do not fit")]
+    TooLarge,
+    /// A word is none of the three, or stands twice.
+    #[error("unknown or repeated word")]
+    Words,
+    /// A read failed.
+    #[error("cannot read input")]
+    Reading,
+    /// A write failed.
+    #[error("cannot write output")]
+    Writing,
+    /// A visitor was entered and neither left nor dropped.
+    #[error("a visitor was forgotten")]
+    Open,
+}
+
+impl Fault {
+    /// The status with which the program ends.
+    pub fn status(self) -> u8
+        ensures { result ≡ status_of self }
+    {
+        match self {
+            Fault::Memory => 1,
+            Fault::NotJson => 2,
+            Fault::NotWhole => 3,
+            Fault::TooLarge => 4,
+            Fault::Words => 5,
+            Fault::Reading => 6,
+            Fault::Writing => 7,
+            Fault::Open => 8,
+        }
+    }
+}
+
+impl From<Refusal> for Fault {
+    ghost use Rattle.std.specs.Prelude.{◌≡◌};
+    ghost use Rattle.allocative_json.specs.Fault.{fault_of};
+
+    ghost from_gives = { λ r f. f ≡ fault_of r };
+
+    fn from(refusal: Refusal) -> Fault {
+        match refusal {
+            Refusal::Memory => Fault::Memory,
+            Refusal::TooLarge => Fault::TooLarge,
+            Refusal::Open => Fault::Open,
+        }
+    }
+}
+
+impl From<AllocError> for Fault {
+    ghost use Rattle.std.specs.Prelude.{◌≡◌};
+    ghost use Rattle.allocative_json.specs.declared.fault.Fault.TheVariants.{Memory};
+
+    ghost from_gives = { λ _ f. f ≡ Memory };
+
+    fn from(_refused: AllocError) -> Fault {
+        Fault::Memory
+    }
+}
+
+impl<T: Drop> From<AllocFailed<T>> for Fault {
+    ghost use Rattle.std.specs.Prelude.{◌≡◌};
+    ghost use Rattle.allocative_json.specs.declared.fault.Fault.TheVariants.{Memory};
+
+    ghost from_gives = { λ _ f. f ≡ Memory };
+
+    fn from(_refused: AllocFailed<T>) -> Fault {
+        Fault::Memory
+    }
+}

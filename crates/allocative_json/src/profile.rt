@@ -1,0 +1,61 @@
+//! Makes the report of a document.
+#![tactic(auto, using(allocative::proofs::Roots::running))]
+
+ghost use Rattle.std.specs.Prelude.{IfOk, IfErr, string_bytes};
+ghost use Rattle.serde_json.specs.View.{view};
+ghost use Rattle.allocative_graph.specs.Visits.{Runs, IsProfileOf};
+ghost use Rattle.allocative_json.specs.Profile.{both_show, IsRightReport, RefusesReport};
+
+use crate::fault::Fault;
+use crate::report;
+use crate::roots::read_roots;
+use crate::texts::Report;
+use allocative::{FlameGraphBuilder, FlameGraphOutput, Refusal};
+use serde_json::Value;
+use std::alloc::Global;
+use std::collections::BTreeSet;
+
+// Visits the document and then the set, where there is one.
+fn visit_roots(
+    builder: &mut FlameGraphBuilder,
+    document: &Value,
+    numbers: &Option<BTreeSet<i128>>,
+) -> Result<(), Refusal>
+    ensures { Runs (both_show (view document.now) numbers.now) builder.old result builder.new }
+{
+    match numbers {
+        Some(numbers) => {
+            builder.visit_value(document)?;
+            builder.visit_value(numbers)
+        }
+        None => builder.visit_value(document),
+    }
+}
+
+// The graph and the warnings of these roots.
+fn profile_of(
+    alloc: Global,
+    document: &Value,
+    numbers: &Option<BTreeSet<i128>>,
+) -> Result<FlameGraphOutput, Refusal>
+    ensures { IfOk result (IsProfileOf (both_show (view document.now) numbers.now)) }
+{
+    let mut builder = FlameGraphBuilder::new(alloc)?;
+    visit_roots(&mut builder, document, numbers)?;
+    builder.finish()
+}
+
+/// The texts that stand for the input: the profile of its document and, with `index`, of the set of its numbers, and the
+/// warnings. With `exact` the profile is without the lines whose last key is `unused_capacity`. The roots are visited by
+/// their own `visit`.
+///
+/// `Fault::NotJson` and `Fault::NotWhole` as from `read_roots`, `Fault::TooLarge` where the declared sizes pass their bound,
+/// and else `Fault::Memory`.
+pub fn profile_json(alloc: Global, input: &[u8], index: bool, exact: bool) -> Result<Report, Fault>
+    ensures ok { IfOk result (λ made. IsRightReport input.now index exact (string_bytes made.profile) (string_bytes made.warnings)) }
+    ensures err { IfErr result (RefusesReport input.now) }
+{
+    let (document, numbers) = read_roots(alloc, input, index)?;
+    let output = profile_of(alloc, &document, &numbers)?;
+    report::report(alloc, &output, exact)
+}

@@ -1,0 +1,112 @@
+//! The whole program, over any reader and two writers.
+ghost use Rattle.std.specs.Prelude.{◌≡◌, ◌≢◌, ◌⊎◌, OnOk, OnErr, IfOk, IfErr, IfSome, IsOkAnd, string_bytes};
+ghost use Rattle.std.specs.Io.KnownBytes.{Appends};
+ghost use Rattle.allocative_json.specs.Fault.{status_of};
+ghost use Rattle.allocative_json.specs.Run.{IsReportFor, IsReported, EndsWell, EndsIn, RefusesRun};
+ghost use Rattle.allocative_json.specs.Words.{words_of};
+
+use crate::fault::Fault;
+use crate::profile::profile_json;
+use crate::texts::Report;
+use crate::words::read_words;
+use std::alloc::Global;
+use std::io::{ErrorKind, Read, Write};
+
+/// All that the reader gives. `Fault::Reading` where a read failed, and else `Fault::Memory`. An interrupted read is taken
+/// again.
+pub fn read_input<R: Read>(alloc: Global, input: &mut R) -> Result<Vec<u8>, Fault>
+    ensures ok { IfOk result (λ bytes. IfSome (R.remaining input.old) (λ known. bytes.items ≡ known)) }
+    ensures err { IfErr result (λ f. (f ≡ Fault.Memory) ⊎ (f ≡ Fault.Reading)) }
+{
+    let mut bytes = Vec::new(alloc);
+    let mut piece = [0u8; 4096];
+    for _ in 0..u64::MAX {
+        match input.read(&mut piece) {
+            Ok(0) => return Ok(bytes),
+            Ok(count) => bytes.extend_from_slice(&piece[..count])?,
+            Err(error) if error.kind() == ErrorKind::Interrupted => {}
+            Err(_) => return Err(Fault::Reading),
+        }
+    }
+    Err(Fault::Reading)
+}
+
+// Writes the whole text.
+fn write_text<W: Write>(output: &mut W, text: &str) -> Result<(), Fault>
+    ensures ok { OnOk result (Appends (W.contents output.old) (W.contents output.new) text.now) }
+    ensures err { IfErr result (λ f. f ≡ Fault.Writing) }
+{
+    if output.write_all(text.as_bytes()).is_err() || output.flush().is_err() {
+        return Err(Fault::Writing);
+    }
+    Ok(())
+}
+
+// Writes the profile, and then the warnings. `Fault::Writing` where a write failed.
+fn write_report<W: Write, E: Write>(
+    made: &Report,
+    output: &mut W,
+    errors: &mut E,
+) -> Result<(), Fault>
+    ensures written { OnOk result (Appends (W.contents output.old) (W.contents output.new) (string_bytes made.now.profile)) }
+    ensures told { OnOk result (Appends (E.contents errors.old) (E.contents errors.new) (string_bytes made.now.warnings)) }
+    ensures err { IfErr result (λ f. f ≡ Fault.Writing) }
+{
+    write_text(output, made.profile.as_str())?;
+    write_text(errors, made.warnings.as_str())
+}
+
+/// Writes the fault's line, and answers its status, also where the line can't be written.
+pub fn tell<E: Write>(errors: &mut E, fault: Fault) -> u8
+    ensures { result ≡ status_of fault }
+{
+    let _unwritten = writeln!(errors, "allocative-json: {fault}");
+    let _unflushed = errors.flush();
+    fault.status()
+}
+
+// Looks at the words, reads the input, and makes the report of it.
+fn make_report<R: Read>(alloc: Global, words: &[String], input: &mut R) -> Result<Report, Fault>
+    ensures ok { IfOk result (λ made. IsReportFor (words_of words.now) (R.remaining input.old) (string_bytes made.profile) (string_bytes made.warnings)) }
+    ensures err { IfErr result (RefusesRun (words_of words.now) (R.remaining input.old)) }
+{
+    let asked = read_words(words)?;
+    let bytes = read_input(alloc, input)?;
+    profile_json(alloc, bytes.as_slice(), asked.index, asked.exact)
+}
+
+/// Ends a run: writes the report that was made, or the line of the fault. Its answer is the status.
+pub fn finish<W: Write, E: Write>(made: Result<Report, Fault>, output: &mut W, errors: &mut E) -> u8
+    ensures written { result ≡ 0 → IsOkAnd made (λ texts. Appends (W.contents output.old) (W.contents output.new) (string_bytes texts.profile) × Appends (E.contents errors.old) (E.contents errors.new) (string_bytes texts.warnings)) }
+    ensures status { IfOk made (λ _. (result ≡ 0) ⊎ (result ≡ 7)) }
+    ensures fault { IfErr made (λ f. result ≡ status_of f) }
+    ensures untouched { OnErr made (output.new ≡ output.old) }
+{
+    match made {
+        Ok(texts) => match write_report(&texts, output, errors) {
+            Ok(()) => 0,
+            Err(fault) => tell(errors, fault),
+        },
+        Err(fault) => tell(errors, fault),
+    }
+}
+
+/// The whole program: its answer is the status.
+///
+/// With status 0 the profile stands on the output and the warnings on the errors. Else the fault's line goes to the errors
+/// and, but for status 7, nothing goes to the output. With the word `registry` it answers as without it.
+pub fn run_json<R: Read, W: Write, E: Write>(
+    alloc: Global,
+    words: &[String],
+    input: &mut R,
+    output: &mut W,
+    errors: &mut E,
+) -> u8
+    ensures well { result ≡ 0 → EndsWell (words_of words.now) (R.remaining input.old) (W.contents output.old) (W.contents output.new) (E.contents errors.old) (E.contents errors.new) }
+    ensures writing { result ≡ 7 → IsReported (words_of words.now) (R.remaining input.old) }
+    ensures fault { result ≢ 0 → result ≢ 7 → EndsIn (words_of words.now) (R.remaining input.old) result }
+    ensures untouched { result ≢ 0 → result ≢ 7 → output.new ≡ output.old }
+{
+    let made = make_report(alloc, words, input);
+    finish(made, output, errors)
+}

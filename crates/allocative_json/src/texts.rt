@@ -1,0 +1,10 @@
+//! The texts that a run makes.
+
+/// The profile and the warnings, as they are written.
+#[derive(Drop)]
+pub struct Report {
+    /// The lines of the flame graph.
+    pub profile: String,
+    /// The warnings, one a line.
+    pub warnings: String,
+}
