@@ -96,7 +96,10 @@ fn shared_entries_are_refused(rt: HostRuntime) -> Result<(), Refusal> {
         }
     }
     let (text, warnings) = finished(&rt, builder)?;
-    assert_eq!(rt; text.as_str(), "Shared 13\nStruct 2\nStruct;a 6\nStruct;p 12\n");
+    assert_eq!(rt;
+        text.as_str(),
+        "Shared 13\nStruct 2\nStruct;a 6\nStruct;p 12\n"
+    );
     assert_eq!(rt; warnings.as_str(), "");
     Ok(())
 }

@@ -84,7 +84,10 @@ fn children_in_a_unique_entry_take_nothing_off(rt: HostRuntime) -> Result<(), Re
     outer.exit();
     root.exit();
     let (text, warnings) = texts(builder)?;
-    assert_eq!(rt; text.as_str(), "Struct 1\nStruct;a 3\nStruct;p 6\nStruct;p;x 13\n");
+    assert_eq!(rt;
+        text.as_str(),
+        "Struct 1\nStruct;a 3\nStruct;p 6\nStruct;p;x 13\n"
+    );
     assert_eq!(rt; warnings.as_str(), "");
     Ok(())
 }
@@ -187,7 +190,10 @@ fn the_bound_itself_fits(rt: HostRuntime) -> Result<(), Refusal> {
     let mut root = builder.root_visitor()?;
     enter_with(&mut root, "a", isize::MAX as usize, "b", 0)?;
     root.exit();
-    assert_eq!(rt; builder.finish_and_write_flame_graph()?.as_str(), "a 9223372036854775807\n");
+    assert_eq!(rt;
+        builder.finish_and_write_flame_graph()?.as_str(),
+        "a 9223372036854775807\n"
+    );
     Ok(())
 }
 

@@ -2,8 +2,14 @@
 #![tactic(auto)]
 
 #[cfg(test)]
+mod bad;
+#[cfg(test)]
 mod entries;
 #[cfg(test)]
 mod roots;
 #[cfg(test)]
 mod shared;
+#[cfg(test)]
+mod two;
+#[cfg(test)]
+mod values;

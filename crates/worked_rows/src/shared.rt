@@ -29,7 +29,10 @@ fn a_second_pointer_counts_and_shows_nothing(rt: HostRuntime) -> Result<(), Refu
         root.exit();
     }
     let (text, warnings) = texts(builder)?;
-    assert_eq!(rt; text.as_str(), "Shared 13\nStruct 2\nStruct;a 6\nStruct;p 12\n");
+    assert_eq!(rt;
+        text.as_str(),
+        "Shared 13\nStruct 2\nStruct;a 6\nStruct;p 12\n"
+    );
     assert_eq!(rt; warnings.as_str(), "");
     Ok(())
 }
@@ -41,7 +44,11 @@ fn a_value_that_points_to_itself_is_shown_once(rt: HostRuntime) -> Result<(), Re
     let Some(mut content) = root.enter_shared(Key::new("p"), 8, Identity::from(1))? else {
         return Err(Refusal::Open);
     };
-    assert!(rt; content.enter_shared(Key::new("p"), 8, Identity::from(1))?.is_none());
+    assert!(rt;
+        content
+            .enter_shared(Key::new("p"), 8, Identity::from(1))?
+            .is_none()
+    );
     content.exit();
     root.exit();
     assert_eq!(rt; texts(builder)?.0.as_str(), "p 16\n");
@@ -134,9 +141,11 @@ fn a_pointer_past_the_bound_is_too_large_though_it_was_met(rt: HostRuntime) -> R
     if let Some(content) = root.enter_shared(Key::new("p"), half, Identity::from(1))? {
         content.exit();
     }
-    assert!(rt; matches!(
-        root.enter_shared(Key::new("p"), half, Identity::from(1)),
-        Err(Refusal::TooLarge)
-    ));
+    assert!(rt;
+        matches!(
+            root.enter_shared(Key::new("p"), half, Identity::from(1)),
+            Err(Refusal::TooLarge)
+        )
+    );
     Ok(())
 }

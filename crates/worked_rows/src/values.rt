@@ -1,0 +1,188 @@
+// Values of std and of test types, visited and held.
+#![tactic(auto, using(allocative::proofs::Showing::showing))]
+
+ghost use Rattle.std.specs.Prelude.{codes, Some, false, ◌≡◌};
+ghost use Rattle.std.proofs.Common.{lit≤};
+ghost use Rattle.allocative.specs.Shows.{Inside, InsideUnique, Field, Nothing};
+ghost use Rattle.allocative.specs.Visits.{Shows};
+
+use crate::entries::texts;
+use allocative::{
+    Allocative, Described, FlameGraphBuilder, IdArc, Identity, Key, Refusal, Registry, Visitor,
+    profile_roots, size_of_unique, size_of_unique_allocated_data,
+};
+use std::collections::BTreeMap;
+use std::test::Fail;
+
+// A value of 64 bytes at an alignment of 64, with one field.
+#[derive(Drop)]
+struct CacheLine(u8);
+
+impl Described for CacheLine {
+    ghost name = { codes "CacheLine" };
+
+    ghost align = { 64 };
+
+    ghost needs_drop = { false };
+
+    ghost size = { Some 64 };
+
+    ghost align_positive = { lit≤ tt };
+
+    fn name() -> &'static str {
+        "CacheLine"
+    }
+
+    fn align() -> usize {
+        64
+    }
+
+    fn needs_drop() -> bool {
+        false
+    }
+
+    fn size() -> Option<usize> {
+        Some(64)
+    }
+}
+
+impl Allocative for CacheLine {
+    ghost may_show = { λ _. Inside (codes "CacheLine") 64 (Field (codes "0") (Some 1) (Field (codes "u8") (Some 1) Nothing)) };
+
+    fn visit(&self, visitor: &mut Visitor<'_>) -> Result<(), Refusal> {
+        let mut inner = visitor.collector.enter(Key::new("CacheLine"), 64)?;
+        inner.visit_field(Key::new("0"), &self.0)?;
+        inner.exit();
+        Ok(())
+    }
+}
+
+#[test]
+fn a_shared_value_stands_beside_its_pointer(rt: HostRuntime) -> Result<(), Refusal> {
+    let mut builder = FlameGraphBuilder::new(rt.alloc())?;
+    let shared = IdArc::new(rt.alloc(), CacheLine(1), Identity::from(1))?;
+    builder.visit_root(&shared)?;
+    let (text, warnings) = texts(builder)?;
+    assert_eq!(rt;
+        text.as_str(),
+        "Arc;ptr 8\nArcInner 64\nArcInner;CacheLine 63\nArcInner;CacheLine;0;u8 1\n"
+    );
+    assert_eq!(rt; warnings.as_str(), "");
+    Ok(())
+}
+
+#[test]
+fn a_map_of_one_pair_warns(rt: HostRuntime) -> Result<(), Fail> {
+    let mut map: BTreeMap<u64, u64> = BTreeMap::new(rt.alloc());
+    map.insert(1, 2)?;
+    let mut builder = FlameGraphBuilder::new(rt.alloc())?;
+    builder.visit_root(&map)?;
+    let (text, warnings) = texts(builder)?;
+    assert_eq!(rt;
+        text.as_str(),
+        "BTreeMap 16\nBTreeMap;data;key;u64 8\nBTreeMap;data;value;u64 8\n"
+    );
+    assert_eq!(rt;
+        warnings.as_str(),
+        "Incorrect size declaration for node `BTreeMap;data`, size of self: 8, size of inline children: 16\n"
+    );
+    Ok(())
+}
+
+// `T 8 {unique p 8 {unique q 8 {d 5}}}`.
+#[derive(Drop)]
+struct Nested;
+
+impl Nested {
+    fn visit_inner(&self, visitor: &mut Visitor<'_>) -> Result<(), Refusal>
+        ensures same_reference { visitor.new.collector.ghost_name ≡ visitor.old.collector.ghost_name }
+        ensures same_outer { visitor.new.outer_is_unique ≡ visitor.old.outer_is_unique }
+        ensures shown { Shows (InsideUnique (codes "q") 8 (Inside (codes "d") 5 Nothing)) visitor.old.collector.now result visitor.new.collector.now }
+    {
+        let mut inner = visitor.collector.enter_unique(Key::new("q"), 8)?;
+        inner.visit_simple(Key::new("d"), 5)?;
+        inner.exit();
+        Ok(())
+    }
+
+    fn visit_outer(&self, visitor: &mut Visitor<'_>) -> Result<(), Refusal>
+        ensures same_reference { visitor.new.collector.ghost_name ≡ visitor.old.collector.ghost_name }
+        ensures same_outer { visitor.new.outer_is_unique ≡ visitor.old.outer_is_unique }
+        ensures shown { Shows (InsideUnique (codes "p") 8 (InsideUnique (codes "q") 8 (Inside (codes "d") 5 Nothing))) visitor.old.collector.now result visitor.new.collector.now }
+    {
+        let mut inner = visitor.collector.enter_unique(Key::new("p"), 8)?;
+        self.visit_inner(&mut inner)?;
+        inner.exit();
+        Ok(())
+    }
+}
+
+impl Allocative for Nested {
+    ghost may_show = { λ _. Inside (codes "T") 8 (InsideUnique (codes "p") 8 (InsideUnique (codes "q") 8 (Inside (codes "d") 5 Nothing))) };
+
+    fn visit(&self, visitor: &mut Visitor<'_>) -> Result<(), Refusal> {
+        let mut inner = visitor.collector.enter(Key::new("T"), 8)?;
+        self.visit_outer(&mut inner)?;
+        inner.exit();
+        Ok(())
+    }
+}
+
+#[test]
+fn a_unique_entry_below_a_unique_one_is_not_held(rt: HostRuntime) -> Result<(), Refusal> {
+    assert_eq!(rt; size_of_unique_allocated_data(&Nested)?, 5);
+    Ok(())
+}
+
+#[test]
+fn a_vector_holds_its_bytes_and_its_room(rt: HostRuntime) -> Result<(), Fail> {
+    let mut bytes: Vec<u8> = Vec::with_capacity(rt.alloc(), 100)?;
+    bytes.push(1)?;
+    bytes.push(2)?;
+    bytes.push(3)?;
+    let capacity = bytes.capacity();
+    assert_eq!(rt; size_of_unique_allocated_data(&bytes)?, capacity);
+    assert_eq!(rt; size_of_unique(&bytes)?, capacity + 24);
+    Ok(())
+}
+
+// Shows `TestGlobalRoot 4 {x 4 {u32 4}}`.
+#[derive(Drop)]
+struct TestGlobalRoot {
+    x: u32,
+}
+
+impl Allocative for TestGlobalRoot {
+    ghost may_show = { λ _. Inside (codes "TestGlobalRoot") 4 (Field (codes "x") (Some 4) (Field (codes "u32") (Some 4) Nothing)) };
+
+    fn visit(&self, visitor: &mut Visitor<'_>) -> Result<(), Refusal> {
+        let mut inner = visitor.collector.enter(Key::new("TestGlobalRoot"), 4)?;
+        inner.visit_field(Key::new("x"), &self.x)?;
+        inner.exit();
+        Ok(())
+    }
+}
+
+#[test]
+fn registered_roots_are_profiled(rt: HostRuntime) -> Result<(), Fail> {
+    let alloc = rt.alloc();
+    let mut registry = Registry::new(alloc);
+    assert!(rt; registry.register_root(Box::new(alloc, 7u32)?).is_ok());
+    let nothing: Option<u32> = None;
+    assert!(rt; registry.register_root(Box::new(alloc, nothing)?).is_ok());
+    assert_eq!(rt; registry.roots().len(), 2);
+    let output = profile_roots(&registry)?;
+    assert_eq!(rt; output.flamegraph().write()?.as_str(), "Option 8\nu32 4\n");
+    let mut registry = Registry::new(alloc);
+    assert!(rt;
+        registry
+            .register_root(Box::new(alloc, TestGlobalRoot { x: 1 })?)
+            .is_ok()
+    );
+    let output = profile_roots(&registry)?;
+    assert_eq!(rt;
+        output.flamegraph().write()?.as_str(),
+        "TestGlobalRoot;x;u32 4\n"
+    );
+    Ok(())
+}
