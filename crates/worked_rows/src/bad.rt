@@ -91,10 +91,6 @@ fn bad_implementations_fail_their_builder(rt: HostRuntime) -> Result<(), Refusal
 #[test]
 fn bad_implementations_hold_nothing(rt: HostRuntime) {
     assert_eq!(rt;
-        size_of_unique_allocated_data(&Hides),
-        Err(Refusal::TooLarge)
-    );
-    assert_eq!(rt;
         size_of_unique_allocated_data(&RefusesTwice),
         Err(Refusal::TooLarge)
     );
