@@ -10,7 +10,6 @@ use crate::visitor::Visitor;
 use allocative_described::Described;
 use allocative_graph::key::Key;
 use allocative_graph::refusal::Refusal;
-use std::convert::Infallible;
 use std::marker::PhantomData;
 use std::mem::ManuallyDrop;
 
@@ -39,14 +38,5 @@ impl<T> Allocative for PhantomData<T> {
 
     fn visit(&self, _visitor: &mut Visitor<'_>) -> Result<(), Refusal> {
         Ok(())
-    }
-}
-
-// It has no value.
-impl Allocative for Infallible {
-    ghost may_show = { λ _. Nothing };
-
-    fn visit(&self, _visitor: &mut Visitor<'_>) -> Result<(), Refusal> {
-        match *self {}
     }
 }
