@@ -257,10 +257,10 @@ mod tests {
         let again = tree.enter(0, Key::new("b"), 2, false)?;
         assert_eq!(rt; again, middle);
         let output = tree.finish()?;
-        let text = output.graph.write()?;
+        let text = output.flamegraph().write()?;
         assert_eq!(rt; text.as_str(), "a 10\nb 3\nb;y 3\nc;z 5\n");
         assert_eq!(rt;
-            output.warnings.as_str(),
+            output.warnings()?.as_str(),
             "Incorrect size declaration for node `c`, size of self: 1, size of inline children: 5\n"
         );
         Ok(())

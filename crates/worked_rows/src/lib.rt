@@ -8,6 +8,8 @@ mod entries;
 #[cfg(test)]
 mod roots;
 #[cfg(test)]
+mod session;
+#[cfg(test)]
 mod shared;
 #[cfg(test)]
 mod two;

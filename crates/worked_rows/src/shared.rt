@@ -149,3 +149,24 @@ fn a_pointer_past_the_bound_is_too_large_though_it_was_met(rt: HostRuntime) -> R
     );
     Ok(())
 }
+
+// A pointer to an identity of a hundred, whose content points to the next one, and so on around.
+fn point_round(visitor: &mut Visitor<'_>, left: u64) -> Result<(), Refusal> {
+    let id = Identity::from(left % 100);
+    if let Some(mut content) = visitor.enter_shared(Key::new("p"), 8, id)?
+        && left > 0
+    {
+        point_round(&mut content, left - 1)?;
+    }
+    Ok(())
+}
+
+#[test]
+fn a_ring_of_a_hundred_is_shown_once(rt: HostRuntime) -> Result<(), Refusal> {
+    let mut builder = FlameGraphBuilder::new(rt.alloc())?;
+    let mut root = builder.root_visitor()?;
+    point_round(&mut root, 1000)?;
+    root.exit();
+    assert_eq!(rt; texts(builder)?.0.as_str(), "p 808\n");
+    Ok(())
+}

@@ -1,5 +1,15 @@
 // Two collections, whose graphs are added.
-use allocative::{IdArc, Identity, Refusal, profile_in_two};
+#![tactic(auto, using(allocative::proofs::Showing::showing))]
+
+ghost use Rattle.std.specs.Prelude.{codes, None, Some, false, ◌≡◌};
+ghost use Rattle.std.proofs.Common.{lit≤};
+ghost use Rattle.worked_rows.specs.Items.{item_shows};
+
+use allocative::{
+    Allocative, Described, FlameGraphBuilder, IdArc, Identity, Key, Refusal, Visitor,
+    profile_in_two,
+};
+use std::alloc::Global;
 
 #[test]
 fn plain_items_add_up(rt: HostRuntime) -> Result<(), Refusal> {
@@ -25,5 +35,117 @@ fn shared_items_add_up(rt: HostRuntime) -> Result<(), Refusal> {
     // The identities are not apart here, so nothing is said of one collection.
     let sum = profile_in_two(alloc, &left, &[again])?;
     assert_eq!(rt; sum.write()?.as_str(), text);
+    Ok(())
+}
+
+// Shows `a size`, or `a size {x inner}`, or refuses.
+#[derive(Drop)]
+struct Item {
+    size: usize,
+    inner: Option<usize>,
+    refuses: bool,
+}
+
+impl Item {
+    fn plain(size: usize) -> Item
+        ensures { result ≡ record { size = size; inner = None; refuses = false } }
+    {
+        Item {
+            size,
+            inner: None,
+            refuses: false,
+        }
+    }
+
+    fn holding(size: usize, inner: usize) -> Item
+        ensures { result ≡ record { size = size; inner = Some inner; refuses = false } }
+    {
+        Item {
+            size,
+            inner: Some(inner),
+            refuses: false,
+        }
+    }
+}
+
+impl Described for Item {
+    ghost name = { codes "Item" };
+
+    ghost align = { 8 };
+
+    ghost needs_drop = { false };
+
+    ghost size = { Some 24 };
+
+    ghost align_positive = { lit≤ tt };
+
+    fn name() -> &'static str {
+        "Item"
+    }
+
+    fn align() -> usize {
+        8
+    }
+
+    fn needs_drop() -> bool {
+        false
+    }
+
+    fn size() -> Option<usize> {
+        Some(24)
+    }
+}
+
+impl Allocative for Item {
+    ghost may_show = { λ item. item_shows item.size item.inner };
+
+    fn visit(&self, visitor: &mut Visitor<'_>) -> Result<(), Refusal> {
+        if self.refuses {
+            return Err(visitor.refuse(Refusal::Memory));
+        }
+        let Some(inner_size) = self.inner else {
+            return visitor.visit_simple(Key::new("a"), self.size);
+        };
+        let mut inner = visitor.collector.enter(Key::new("a"), self.size)?;
+        inner.visit_simple(Key::new("x"), inner_size)?;
+        inner.exit();
+        Ok(())
+    }
+}
+
+// What both texts are: that of two collections, and that of one.
+fn both_texts(alloc: Global, left: Item, right: Item) -> Result<(String, String), Refusal> {
+    let mut builder = FlameGraphBuilder::new(alloc)?;
+    builder.visit_root(&left)?;
+    builder.visit_root(&right)?;
+    let sum = profile_in_two(alloc, &[left], &[right])?;
+    Ok((sum.write()?, builder.finish_and_write_flame_graph()?))
+}
+
+#[test]
+fn sums_that_do_not_add_up(rt: HostRuntime) -> Result<(), Refusal> {
+    // At `a` the left has fewer bytes than below, and the right more.
+    let (sum, one) = both_texts(rt.alloc(), Item::holding(1, 4), Item::plain(5))?;
+    assert_eq!(rt; sum.as_str(), "a 5\na;x 4\n");
+    assert_eq!(rt; one.as_str(), "a 2\na;x 4\n");
+    // Here both have fewer.
+    let (sum, one) = both_texts(rt.alloc(), Item::holding(1, 4), Item::holding(1, 2))?;
+    assert_eq!(rt; sum.as_str(), "a;x 6\n");
+    assert_eq!(rt; one.as_str(), "a;x 6\n");
+    Ok(())
+}
+
+#[test]
+fn a_refusal_of_the_left_comes_first(rt: HostRuntime) -> Result<(), Refusal> {
+    let alloc = rt.alloc();
+    let refusing = [Item {
+        size: 0,
+        inner: None,
+        refuses: true,
+    }];
+    let too_large = profile_in_two(alloc, &[Item::plain(usize::MAX)], &refusing);
+    assert!(rt; matches!(too_large, Err(Refusal::TooLarge)));
+    let memory = profile_in_two(alloc, &[Item::plain(1)], &refusing);
+    assert!(rt; matches!(memory, Err(Refusal::Memory)));
     Ok(())
 }

@@ -1,0 +1,46 @@
+// The first example of use: a type of a user's own, visited and collected.
+#![tactic(auto, using(allocative::proofs::Showing::showing))]
+
+ghost use Rattle.std.specs.Prelude.{codes, Some};
+ghost use Rattle.allocative.specs.Shows.{Inside, Field, Both};
+
+use allocative::{Allocative, FlameGraphBuilder, Key, Refusal, Visitor};
+use std::test::Fail;
+
+#[derive(Drop)]
+struct Session {
+    name: String,
+    scores: Vec<u32>,
+}
+
+impl Allocative for Session {
+    ghost may_show = { λ s. Inside (codes "Session") 48 (Both (Field (codes "name") (Some 24) (⟦<String as Allocative>⟧.may_show s.name)) (Field (codes "scores") (Some 24) (⟦<Vec<u32> as Allocative>⟧.may_show s.scores))) };
+
+    fn visit(&self, visitor: &mut Visitor<'_>) -> Result<(), Refusal> {
+        let mut inner = visitor.collector.enter(Key::new("Session"), 48)?;
+        inner.visit_field(Key::new("name"), &self.name)?;
+        inner.visit_field(Key::new("scores"), &self.scores)?;
+        inner.exit();
+        Ok(())
+    }
+}
+
+#[test]
+fn a_session_with_no_score(rt: HostRuntime) -> Result<(), Fail> {
+    let alloc = rt.alloc();
+    let mut name = String::new(alloc);
+    name.push_str("ab")?;
+    let mut builder = FlameGraphBuilder::new(alloc)?;
+    builder.visit_root(&Session {
+        name,
+        scores: Vec::new(alloc),
+    })?;
+    let output = builder.finish()?;
+    let text = output.flamegraph().write()?;
+    assert!(rt;
+        text.as_str()
+            .starts_with("Session;name;String 16\nSession;name;String;ptr 8\n")
+    );
+    assert_eq!(rt; output.warnings()?.as_str(), "");
+    Ok(())
+}
