@@ -161,6 +161,22 @@ fn once_unique_a_path_stays_unique(rt: HostRuntime) -> Result<(), Refusal> {
 }
 
 #[test]
+fn graphs_of_two_builders_add_up(rt: HostRuntime) -> Result<(), Refusal> {
+    let mut builder = FlameGraphBuilder::new(rt.alloc())?;
+    let mut root = builder.root_visitor()?;
+    enter_with(&mut root, "n", 8, "x", 8)?;
+    root.exit();
+    let mut sum = builder.finish()?.into_flamegraph();
+    let mut builder = FlameGraphBuilder::new(rt.alloc())?;
+    let mut root = builder.root_visitor()?;
+    enter_unique_with(&mut root, "n", 8, "y", 3)?;
+    root.exit();
+    sum.add(builder.finish()?.into_flamegraph())?;
+    assert_eq!(rt; sum.write()?.as_str(), "n 8\nn;x 8\nn;y 3\n");
+    Ok(())
+}
+
+#[test]
 fn a_unique_entry_has_no_warning(rt: HostRuntime) -> Result<(), Refusal> {
     let mut builder = FlameGraphBuilder::new(rt.alloc())?;
     let mut root = builder.root_visitor()?;
