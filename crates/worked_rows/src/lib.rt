@@ -4,6 +4,8 @@
 #[cfg(test)]
 mod bad;
 #[cfg(test)]
+mod boxes;
+#[cfg(test)]
 mod entries;
 #[cfg(test)]
 mod roots;

@@ -1,0 +1,137 @@
+// Boxes in types of a user's own: what they show, and what they hold.
+#![tactic(auto, using(allocative::proofs::Showing::showing))]
+
+ghost use Rattle.std.specs.Prelude.{codes, Some, true};
+ghost use Rattle.std.proofs.Common.{lit≤};
+ghost use Rattle.allocative.specs.Shows.{Inside, Field, Both};
+
+use allocative::{
+    Allocative, Described, FlameGraphBuilder, Key, Refusal, Visitor, size_of_unique,
+    size_of_unique_allocated_data,
+};
+use std::test::Fail;
+
+// A value of 16 bytes, with a byte and a box.
+#[derive(Drop)]
+struct Data {
+    a: u8,
+    b: Box<u32>,
+}
+
+impl Described for Data {
+    ghost name = { codes "Data" };
+
+    ghost align = { 8 };
+
+    ghost needs_drop = { true };
+
+    ghost size = { Some 16 };
+
+    ghost align_positive = { lit≤ tt };
+
+    fn name() -> &'static str {
+        "Data"
+    }
+
+    fn align() -> usize {
+        8
+    }
+
+    fn needs_drop() -> bool {
+        true
+    }
+
+    fn size() -> Option<usize> {
+        Some(16)
+    }
+}
+
+impl Allocative for Data {
+    ghost may_show = { λ d. Inside (codes "Data") 16 (Both (Field (codes "a") (Some 1) (⟦<u8 as Allocative>⟧.may_show d.a)) (Field (codes "b") (Some 8) (⟦<Box<u32> as Allocative>⟧.may_show d.b))) };
+
+    fn visit(&self, visitor: &mut Visitor<'_>) -> Result<(), Refusal> {
+        let mut inner = visitor.collector.enter(Key::new("Data"), 16)?;
+        inner.visit_field(Key::new("a"), &self.a)?;
+        inner.visit_field(Key::new("b"), &self.b)?;
+        inner.exit();
+        Ok(())
+    }
+}
+
+// A value of 8 bytes, a box of the other.
+#[derive(Drop)]
+struct Boxed {
+    data: Box<Data>,
+}
+
+impl Described for Boxed {
+    ghost name = { codes "Boxed" };
+
+    ghost align = { 8 };
+
+    ghost needs_drop = { true };
+
+    ghost size = { Some 8 };
+
+    ghost align_positive = { lit≤ tt };
+
+    fn name() -> &'static str {
+        "Boxed"
+    }
+
+    fn align() -> usize {
+        8
+    }
+
+    fn needs_drop() -> bool {
+        true
+    }
+
+    fn size() -> Option<usize> {
+        Some(8)
+    }
+}
+
+impl Allocative for Boxed {
+    ghost may_show = { λ b. Inside (codes "Boxed") 8 (Field (codes "data") (Some 8) (⟦<Box<Data> as Allocative>⟧.may_show b.data)) };
+
+    fn visit(&self, visitor: &mut Visitor<'_>) -> Result<(), Refusal> {
+        let mut inner = visitor.collector.enter(Key::new("Boxed"), 8)?;
+        inner.visit_field(Key::new("data"), &self.data)?;
+        inner.exit();
+        Ok(())
+    }
+}
+
+#[test]
+fn what_boxes_hold(rt: HostRuntime) -> Result<(), Fail> {
+    let alloc = rt.alloc();
+    let b = Box::new(alloc, 7u32)?;
+    let data = Box::new(alloc, Data { a: 1, b })?;
+    let boxed = Boxed { data };
+    assert_eq!(rt; size_of_unique_allocated_data(&boxed)?, 20);
+    assert_eq!(rt; size_of_unique(&boxed)?, 28);
+    Ok(())
+}
+
+#[test]
+fn bytes_of_a_boxed_slice(rt: HostRuntime) -> Result<(), Refusal> {
+    let mut builder = FlameGraphBuilder::new(rt.alloc())?;
+    let mut root = builder.root_visitor()?;
+    let mut outer = root.enter(Key::new("TestData"), 24)?;
+    let mut data = outer.enter(Key::new("data"), 16)?;
+    let mut boxed = data.enter(Key::new("Box"), 16)?;
+    let mut pointer = boxed.enter_unique(Key::new("ptr"), 16)?;
+    pointer.visit_slice_of(&[0u8; 100])?;
+    pointer.exit();
+    boxed.exit();
+    data.exit();
+    outer.visit_field(Key::new("b"), &1u8)?;
+    outer.exit();
+    root.exit();
+    assert_eq!(rt;
+        builder.finish_and_write_flame_graph()?.as_str(),
+        "TestData 7\nTestData;b;u8 1\nTestData;data;Box;ptr 16\nTestData;data;Box;ptr;u8;data;u8 100\n"
+    );
+    Ok(())
+}
