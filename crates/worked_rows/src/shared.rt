@@ -1,6 +1,7 @@
 // Shared entries made by hand: contents are shown once, and start at the root.
 use crate::entries::texts;
 use allocative::{FlameGraphBuilder, Identity, Key, Refusal, Visitor};
+use std::alloc::Global;
 
 // A shared pointer of 8 bytes, and what its content shows.
 fn point(
@@ -168,5 +169,42 @@ fn a_ring_of_a_hundred_is_shown_once(rt: HostRuntime) -> Result<(), Refusal> {
     point_round(&mut root, 1000)?;
     root.exit();
     assert_eq!(rt; texts(builder)?.0.as_str(), "p 808\n");
+    Ok(())
+}
+
+// A pointer `p` to 1 or `q` to 2, whose content is the other one.
+fn point_across(visitor: &mut Visitor<'_>, is_first: bool, left: u64) -> Result<(), Refusal> {
+    let (key, id) = if is_first { ("p", 1) } else { ("q", 2) };
+    if let Some(mut content) = visitor.enter_shared(Key::new(key), 8, Identity::from(id))?
+        && left > 0
+    {
+        point_across(&mut content, !is_first, left - 1)?;
+    }
+    Ok(())
+}
+
+// Roots that point to 1 or to 2, in that order.
+fn across_text(alloc: Global, roots: &[bool]) -> Result<String, Refusal> {
+    let mut builder = FlameGraphBuilder::new(alloc)?;
+    for &is_first in roots {
+        let mut root = builder.root_visitor()?;
+        point_across(&mut root, is_first, 10)?;
+        root.exit();
+    }
+    builder.finish_and_write_flame_graph()
+}
+
+#[test]
+fn contents_that_point_to_each_other_in_both_orders(rt: HostRuntime) -> Result<(), Refusal> {
+    let alloc = rt.alloc();
+    assert_eq!(rt; across_text(alloc, &[true])?.as_str(), "p 16\nq 8\n");
+    assert_eq!(rt;
+        across_text(alloc, &[true, false])?.as_str(),
+        "p 16\nq 16\n"
+    );
+    assert_eq!(rt;
+        across_text(alloc, &[false, true])?.as_str(),
+        "p 16\nq 16\n"
+    );
     Ok(())
 }
