@@ -3,12 +3,12 @@ use Rattle.std.proofs.Common.{◌≡◌, ℕ, suc, ◌+◌, ◌<◌, List, lengt
 use Rattle.allocative_graph.specs.declared.refusal.Refusal.{Refusal}
 use Rattle.allocative_graph.specs.Forest.{Forest, Empty, followed_by, met_after, Fits, own, all}
 use Rattle.allocative_graph.specs.Sums.{add_all, sums_of}
-use Rattle.allocative_graph.specs.Meaning.{IsWhole, IsMeaning, content_of}
+use Rattle.allocative_graph.specs.Meaning.{IsWhole, content_of}
 use Rattle.allocative_graph.specs.Graph.{Graph, graph, warnings, sum_of}
 use Rattle.allocative_graph.specs.Held.{held, ShowsNoContent}
-use Rattle.allocative_graph.specs.Collector.{added as added_entries, Live, Holding, Kind, OfGraph, OfHeld, State, Failed, Going, leave, plus, Takes, visitors, is_graph, begin, is_in_unique, IsClosed, IsAtRoot, left, nothing_held, no_entries}
+use Rattle.allocative_graph.specs.Collector.{added as added_entries, Kind, OfGraph, OfHeld, State, Failed, Going, leave, plus, Takes, visitors, is_graph, begin, is_in_unique, IsClosed, IsAtRoot, left, nothing_held, no_entries}
 use Rattle.allocative_graph.specs.Shows.{Showing, Nothing, Both, each_shows}
-use Rattle.allocative_graph.specs.Visits.{Shows, already, refused, hidden, forgotten, added, Leaves, Begins, Settles, Runs, Ends, IsProfile, Profile, IsProfileOf, IsGraphOf, IsSumOfTwo}
+use Rattle.allocative_graph.specs.Visits.{Shows, refused, hidden, forgotten, added, Leaves, Begins, Settles, Runs, Ends, IsProfile, Profile, IsProfileOf, IsGraphOf, IsSumOfTwo}
 use Rattle.allocative_graph.proofs.Plus.{plus-nothing, plus-following, takes_nothing, takes_both, visitors-plus, visitors-leave, is_graph-plus, is_graph-leave, is_graph-begin}
 use Rattle.allocative.specs.Steps.{IsSum}
 use Rattle.allocative.proofs.Showing.{left_by, each_and_one}
@@ -59,20 +59,23 @@ cause_or x (Err e) = e
 ok_not_err : (x : Refusal) (q r : Result Unit Refusal) → IsOkay q → q ≡ r → r ≡ Err x → ⊥
 ok_not_err x q r h e f = subst IsOkay (e ∙ f) h
 
-ended : (p : Showing) (b : Kind) (x : Refusal) (q : Result Unit Refusal) → Settles (Failed x) q → Runs p (Going b) q (Failed x)
-ended p b x (Ok u) k = absurd (ok_not_err x (Ok u) (Ok u) tt refl k)
-ended p b x (Err e) k = ap (cause_or x) k
+ended : (p : Showing) (b : Kind) (x : Refusal) (q : Result Unit Refusal) → IsClosed b → Settles (Failed x) q → Runs p (Going b) q (Failed x)
+ended p b x (Ok u) h k = absurd (ok_not_err x (Ok u) (Ok u) tt refl k)
+ended p b x (Err e) h k = (h, ap (cause_or x) k)
+
+closed_before : (b c : Kind) (f : Forest) → c ≡ plus b f → IsClosed c → IsClosed b
+closed_before b c f e h = sym (ap visitors e ∙ visitors-plus b f) ∙ h
 
 run_going : {p : Showing} (b e : Kind) {c : State} {r : Result Unit Refusal} (q : Result Unit Refusal) → IsClosed b → IsAtRoot b → e ≡ begin b → Shows p (Going e) r c → Settles (left (is_in_unique b) c) q → Runs p (Going b) q (left (is_in_unique b) c)
-run_going b e q h here i (refused {r = x}) k = ended _ b x q k
-run_going b e q h here i (hidden {r = x}) k = ended _ b x q k
-run_going b e (Err x) h here i (forgotten {c = c} j l) k = (k.0, k.1, is_graph-leave (is_in_unique b) c ∙ j ∙ ap is_graph i ∙ is_graph-begin b)
+run_going b e q h here i (refused {r = x}) k = ended _ b x q h k
+run_going b e q h here i (hidden {r = x}) k = ended _ b x q h k
+run_going b e (Err x) h here i (forgotten {c = c} j l) k = (k.0, k.1, (λ n. absurd (n h)), is_graph-leave (is_in_unique b) c ∙ j ∙ ap is_graph i ∙ is_graph-begin b)
 run_going b e (Ok u) h here i (forgotten {c = c} j l) k =
     let d : visitors e ≡ 1 = ap visitors i ∙ visitors-begin b h in
     let z : visitors (leave (is_in_unique b) c) ≡ 0 = k in
     let g = visitors-leave (is_in_unique b) c in
     absurd (omega (arith, d, z, g, l))
-run_going b e (Err x) h here i (added {c = c} f p t g) k = (k.0, k.1, is_graph-leave (is_in_unique b) c ∙ ap is_graph g ∙ is_graph-plus e f ∙ ap is_graph i ∙ is_graph-begin b)
+run_going b e (Err x) h here i (added {c = c} f p t g) k = (k.0, k.1, (λ n. absurd (n h)), is_graph-leave (is_in_unique b) c ∙ ap is_graph g ∙ is_graph-plus e f ∙ ap is_graph i ∙ is_graph-begin b)
 run_going b e (Ok u) h here i (added {c = c} f p t g) k =
     let t' : Takes (begin b) f = subst (λ (x : Kind). Takes x f) i t in
     let g' : c ≡ plus (begin b) f = rw i at g in
@@ -90,7 +93,7 @@ run_shows (Going b) q {p} {c = c} {r = r} h i v l e k =
 pub run_refused : (p : Showing) (s : State) (e : Refusal) (t : State) → Begins s (Err e) t → Runs p s (Err e) t
 run_refused p (Failed r) e t (h, i) = (ap Err h, i)
 run_refused p (Going b) e (Failed r) (h, n, i) = absurd (failed_not_going b r i)
-run_refused p (Going b) e (Going c) (h, n, i) = (h, subst (λ (x : State). IsClosedState x → ⊥) (sym i) n, ap is_graph (same_kind c b i))
+run_refused p (Going b) e (Going c) (h, n, i) = (h, subst (λ (x : State). IsClosedState x → ⊥) (sym i) n, (λ m. same_kind c b i), ap is_graph (same_kind c b i))
 
 -- the sum of a run
 pub held_by_run : (p : Showing) (s t : State) (u : Unit) (n : ℕ) → s ≡ Going (OfHeld nothing_held) → Runs p s (Ok u) t → IsSum t n → (f : Forest) × p f × ShowsNoContent f × (n ≡ held f)
@@ -119,8 +122,8 @@ pub runs_both : (p q : Showing) (s m t : State) (u : Unit) (r : Result Unit Refu
 runs_both p q (Failed x) m t u r g h = absurd (ok_not_err x (Ok u) (Ok u) tt refl g.0)
 runs_both p q (Going b) (Failed x) t u r g h = absurd g
 runs_both p q (Going b) (Going c) (Failed x) u (Ok v) g h = h
-runs_both p q (Going b) (Going c) (Failed x) u (Err e) g h = h
-runs_both p q (Going b) (Going c) (Going d) u (Err e) (z, f, a, t, k) h = (h.0, h.1, h.2 ∙ ap is_graph k ∙ is_graph-plus b f)
+runs_both p q (Going b) (Going c) (Failed x) u (Err e) (z, f, a, t, k) h = (closed_before b c f k z, h.1)
+runs_both p q (Going b) (Going c) (Going d) u (Err e) (z, f, a, t, k) h = (h.0, h.1, (λ n. absurd (n (closed_before b c f k z))), h.3 ∙ ap is_graph k ∙ is_graph-plus b f)
 runs_both p q (Going b) (Going c) (Going d) u (Ok v) (z, f, a, t, k) (y, g, b', t', k') =
     let taken : Takes (plus b f) g = subst (λ (x : Kind). Takes x g) k t' in
     let is : d ≡ plus (plus b f) g = rw k at k' in
@@ -136,13 +139,13 @@ runs_one_more p xs i x s m t u v w f g h e =
 pub runs_err : (p q r : Showing) (s m t : State) (u : Unit) (e x : Refusal) → Runs p s (Ok u) m → Runs q m (Err e) t → x ≡ e → Runs r s (Err x) t
 runs_err p q r (Failed y) m t u e x g h i = absurd (ok_not_err y (Ok u) (Ok u) tt refl g.0)
 runs_err p q r (Going b) (Failed y) t u e x g h i = absurd g
-runs_err p q r (Going b) (Going c) (Failed y) u e x g h i = i ∙ h
-runs_err p q r (Going b) (Going c) (Going d) u e x (z, f, a, t, k) h i = (i ∙ h.0, h.1, h.2 ∙ ap is_graph k ∙ is_graph-plus b f)
+runs_err p q r (Going b) (Going c) (Failed y) u e x (z, f, a, t, k) h i = (closed_before b c f k z, i ∙ h.1)
+runs_err p q r (Going b) (Going c) (Going d) u e x (z, f, a, t, k) h i = (i ∙ h.0, h.1, (λ n. absurd (n (closed_before b c f k z))), h.3 ∙ ap is_graph k ∙ is_graph-plus b f)
 
 -- a collector of which nothing can be asked stays as it is
 pub runs_unsettled : (p : Showing) (s : State) (e : Refusal) → Settles s (Err e) → Runs p s (Err e) s
 runs_unsettled p (Failed r) e h = (h, refl)
-runs_unsettled p (Going b) e h = (h.0, h.1, refl)
+runs_unsettled p (Going b) e h = (h.0, h.1, (λ n. refl), refl)
 
 -- ---- a whole run
 profile_by_sums : (p : Showing) (o : Profile) (f : Forest) → p f → IsWhole f → o.graph ≡ graph (sums_of (all f)) → o.warnings ≡ warnings (sums_of (all f)) → IsProfileOf p o

@@ -1,7 +1,7 @@
 -- How visits compose: one after another, and inside an entry. The rulesets are what implementations go by.
 use Rattle.std.proofs.lemmas.List.{take_more}
 use Rattle.std.proofs.lemmas.Bool.{false≢true}
-use Rattle.std.proofs.Common.{Bool, true, false, inl, inr, length, take, get_or, Option, ◌≡◌, ℕ, suc, ◌+◌, ◌<◌, List, [], ◌∷◌, ◌++◌, Result, Ok, Err, refl, sym, ◌∙◌, IsErr, ap, subst, arith}
+use Rattle.std.proofs.Common.{Bool, true, false, inl, inr, length, take, get_or, Option, Some, ◌≡◌, ℕ, suc, ◌+◌, ◌<◌, List, [], ◌∷◌, ◌++◌, Result, Ok, Err, refl, sym, ◌∙◌, IsErr, ap, subst, arith}
 use Rattle.std.specs.FinSet.{contains}
 use Rattle.allocative_graph.specs.declared.refusal.Refusal.{Refusal}
 use Rattle.allocative_graph.specs.Path.{Key}
@@ -10,6 +10,7 @@ use Rattle.allocative_graph.specs.Forest.{Forest, Empty, Inline, Unique, First, 
 use Rattle.allocative_graph.specs.Collector.{Live, Kind, OfGraph, State, Failed, Going, enter, enter_first, leave, plus, Takes, is_graph, visitors, is_in_unique, failed_with, left}
 use Rattle.allocative_graph.specs.Shows.{Showing, Nothing, Both, InsideAs, Inside, InsideUnique, Field, sized, SharedWith, each_shows}
 use Rattle.allocative_graph.specs.Visits.{Shows, already, refused, hidden, forgotten, added, HasFailed, Enters, stays_failed, is_refused, is_entered, EntersSized, stays_unsized, is_unsized, is_sized, EntersShared, stays_shared, is_refused_shared, goes_past, enters_first, enters_again, Answers, Leaves, leaves_failed, leaves_going}
+use Rattle.allocative.specs.Making.{EntersFirst, first_refused, first_entered, KeepsCause, keeps_failed, keeps_going, Plan, Done, Makes, had_failed, made_none, made, entry_refused, inside_refused}
 use Rattle.allocative_graph.proofs.Plus.{plus-nothing, plus-following, takes_nothing, takes_both, inside_entry, takes_entry, inside_first, takes_shared, held_again, visitors-plus, visitors-enter, visitors-leave, is_graph-plus, is_graph-enter, is_graph-leave}
 use Rattle.allocative.proofs.Steps.{leaves_by_left}
 
@@ -259,13 +260,46 @@ shows_forgotten {u} {k = k} {n = n} (is_entered {b = b} r f e) = let d = ap visi
 pub left_cause : {o : Bool} {c d : State} {e : Refusal} → Leaves o c d → HasFailed c e → HasFailed d e
 left_cause {o = o} l h = left_by l ∙ ap (left o) h
 
--- what a call that makes one entry answers
-pub answers_ok : {u : Bool} {k : Key} {n : ℕ} {o : Bool} {s t : State} (v : Unit) → Enters u k n s (Ok o) t → Answers u n s (Ok v)
-answers_ok v (is_entered r f e) = r
-
+-- what a refused entry answers
 pub answers_err : {u : Bool} {k : Key} {n : ℕ} {s t : State} {e : Refusal} → Enters u k n s (Err e) t → Answers u n s (Err e)
 answers_err stays_failed = refl
 answers_err (is_refused r) = r
+
+-- a call that makes an entry of its own first
+pub goes_in_refused : {k : Key} {size : Option ℕ} {s t : State} {e : Refusal} → EntersSized k size s (Err e) t → EntersFirst k size s (Err e) t
+goes_in_refused g = first_refused g
+
+pub goes_in : {k : Key} {size : Option ℕ} {s w t : State} {o : Bool} {r : Result Unit Refusal} → EntersSized k size s (Ok o) w → EntersFirst k size s r t
+goes_in g = first_entered g
+
+pub goes_in_plain_refused : {k : Key} {n : ℕ} {s t : State} {e : Refusal} → Enters false k n s (Err e) t → EntersFirst k (Some n) s (Err e) t
+goes_in_plain_refused g = first_refused (is_sized g)
+
+pub goes_in_plain : {k : Key} {n : ℕ} {s w t : State} {o : Bool} {r : Result Unit Refusal} → Enters false k n s (Ok o) w → EntersFirst k (Some n) s r t
+goes_in_plain g = first_entered (is_sized g)
+
+-- a refused entry, by its cause
+pub refused_as : {k : Key} {size : Option ℕ} {s t : State} {e : Refusal} → EntersSized k size s (Err e) t → HasFailed t e → EntersSized k size s (Err e) (Failed e)
+refused_as {k} {size} {s} {e = e} g h = subst (λ (y : State). EntersSized k size s (Err e) y) h g
+
+-- what was made keeps the cause of a failed collector
+not_sized_failed : {k : Key} {size : Option ℕ} {r e : Refusal} {t : State} → EntersSized k size (Failed r) (Err e) t → KeepsCause (Failed r) (Err e) t
+not_sized_failed stays_unsized = keeps_failed
+not_sized_failed (is_sized stays_failed) = keeps_failed
+
+failed_not_entered : {k : Key} {size : Option ℕ} {r : Refusal} {o : Bool} {t : State} → EntersSized k size (Failed r) (Ok o) t → ⊥
+failed_not_entered (is_sized g) = elim g [ ]
+
+pub makes_keeps : {p : Plan} (s : State) {t : State} {r : Result Unit Refusal} → Makes p s r t → KeepsCause s r t
+makes_keeps (Going b) m = keeps_going
+makes_keeps (Failed r) had_failed = keeps_failed
+makes_keeps (Failed r) (made g i l a) = absurd (failed_not_entered g)
+makes_keeps (Failed r) (entry_refused g) = not_sized_failed g
+makes_keeps (Failed r) (inside_refused g m) = absurd (failed_not_entered g)
+
+-- where a collector went on, it had not failed
+pub kept_after : {s t c : State} {u : Unit} {r : Result Unit Refusal} → Makes Done s (Ok u) t → KeepsCause s r c
+kept_after made_none = keeps_going
 
 -- ---- loops
 followed_by-empty : (f : Forest) → followed_by f Empty ≡ f
@@ -300,7 +334,7 @@ shows_one_more p xs i x f s h e =
     rw (e', ← e) (shows_weaker (each_and_one p (take i xs) x) (shows_both f s))
 
 -- what implementations go by
-pub ruleset showing = (left_cause, leaves_by_left, shows_nothing, shows_both, shows_both_err, shows_err, inline_shows, unique_shows, field_shows, inline_alone, unique_alone, field_alone, shared_shows, content_shows, again_shows, entry_err, field_err, shared_err, field_err_2, field_shows_2, field_err_3, field_shows_3, field_err_4, field_shows_4, field_err_5, field_shows_5, entry_err_2, inline_shows_2, unique_shows_2, entry_err_3, inline_shows_3, unique_shows_3, not_entered, not_sized, not_shared, not_entered_cause, not_sized_cause, shows_refused, shows_refused_err, shows_hidden, shows_forgotten, answers_ok, answers_err)
+pub ruleset showing = (left_cause, leaves_by_left, shows_nothing, shows_both, shows_both_err, shows_err, inline_shows, unique_shows, field_shows, inline_alone, unique_alone, field_alone, shared_shows, content_shows, again_shows, entry_err, field_err, shared_err, field_err_2, field_shows_2, field_err_3, field_shows_3, field_err_4, field_shows_4, field_err_5, field_shows_5, entry_err_2, inline_shows_2, unique_shows_2, entry_err_3, inline_shows_3, unique_shows_3, not_entered, not_sized, not_shared, not_entered_cause, not_sized_cause, shows_refused, shows_refused_err, shows_hidden, shows_forgotten, answers_err, goes_in_refused, goes_in, goes_in_plain_refused, goes_in_plain, refused_as, makes_keeps, kept_after)
 
 -- the same for one entry with one part, where the part's clause is long
-pub ruleset one_part = (left_cause, leaves_by_left, inline_shows, unique_shows, field_shows, entry_err, field_err, not_entered, not_sized, not_entered_cause, not_sized_cause)
+pub ruleset one_part = (left_cause, leaves_by_left, inline_shows, unique_shows, field_shows, entry_err, field_err, not_entered, not_sized, not_entered_cause, not_sized_cause, goes_in_plain_refused, goes_in_plain)

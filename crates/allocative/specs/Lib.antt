@@ -19,6 +19,7 @@ pub mod Nodes
 pub mod Walks
 pub mod Finishing
 pub mod Places
+pub mod SizeOf
 -- the definitions of the crate below, passed on
 pub use Rattle.allocative_graph.specs.Path
 pub use Rattle.allocative_graph.specs.Identity

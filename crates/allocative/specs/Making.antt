@@ -30,6 +30,16 @@ pub data Makes : Plan → State → Result Unit Refusal → State → Type 0 whe
   entry_refused : {k : Key} {size : Option ℕ} {inside after : Plan} {s t : State} {e : Refusal} → EntersSized k size s (Err e) t → Makes (Entry k size inside after) s (Err e) t
   inside_refused : {k : Key} {size : Option ℕ} {inside after : Plan} {s t c : State} {o : Bool} {e : Refusal} → EntersSized k size s (Ok o) t → Makes inside t (Err e) c → Makes (Entry k size inside after) s (Err e) c
 
+-- What a call does that makes an entry of its own before all else: it is refused as entering says, and nothing else is entered; or it is entered, whatever comes then.
+pub data EntersFirst (k : Key) (size : Option ℕ) (s : State) : Result Unit Refusal → State → Type 0 where
+  first_refused : {e : Refusal} {t : State} → EntersSized k size s (Err e) t → EntersFirst k size s (Err e) t
+  first_entered : {o : Bool} {w t : State} {r : Result Unit Refusal} → EntersSized k size s (Ok o) w → EntersFirst k size s r t
+
+-- A failed collector answers its first cause and stays as it is; of another nothing is said.
+pub data KeepsCause : State → Result Unit Refusal → State → Type 0 where
+  keeps_failed : {r : Refusal} → KeepsCause (Failed r) (Err r) (Failed r)
+  keeps_going : {b : Kind} {result : Result Unit Refusal} {t : State} → KeepsCause (Going b) result t
+
 -- No item of a slice is visited: there is none, or they are not shown one by one.
 abbrev pub VisitsNone : {T : Type 0} → Bool → Option ℕ → List T → Type 0
 VisitsNone needs_drop size xs = are_shown_each needs_drop size ≡ true → length xs ≡ 0

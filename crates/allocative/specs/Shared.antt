@@ -27,8 +27,8 @@ turned (Ok v) = Ok (Some v)
 turned (Err None) = Ok None
 turned (Err (Some e)) = Err e
 
--- The answer without the visitor: whether the content is shown, or a refusal.
-abbrev pub answered : Result (Option Visitor) Refusal → Result Bool Refusal
-answered (Ok (Some v)) = Ok true
+-- The answer without what it carries: whether the content is shown, or a refusal.
+abbrev pub answered : {T : Type 0} → Result (Option T) Refusal → Result Bool Refusal
+answered (Ok (Some x)) = Ok true
 answered (Ok None) = Ok false
 answered (Err e) = Err e

@@ -1,5 +1,5 @@
 -- What the collector's own steps do, by cases: the same as the relations of visits say.
-use Rattle.std.specs.Prelude.{◌≡◌, ℕ, ◌+◌, ◌<◌, ◌≤◌, ◌^◌, Option, None, Some, Bool, true, false, Result, Ok, Err}
+use Rattle.std.specs.Prelude.{◌≡◌, ℕ, ◌+◌, ◌<◌, ◌^◌, Bool, true, false, Result, Ok, Err}
 use Rattle.std.specs.FinSet.{contains}
 use Rattle.allocative_graph.specs.declared.refusal.Refusal.{Refusal}
 use Rattle.allocative_graph.specs.Path.{Key}
@@ -31,8 +31,3 @@ abbrev pub IsSum : State → ℕ → Type 0
 IsSum (Failed r) n = Unit {0}
 IsSum (Going (OfGraph c)) n = Unit {0}
 IsSum (Going (OfHeld h)) n = n ≡ h.sum
-
--- The bytes n and a declared size have no sum that fits a word, or there is no size.
-abbrev pub DoesNotFit : ℕ → Option ℕ → Type 0
-DoesNotFit n None = Unit {0}
-DoesNotFit n (Some m) = 2 ^ 64 ≤ n + m

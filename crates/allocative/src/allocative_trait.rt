@@ -10,6 +10,28 @@ use allocative_graph::refusal::Refusal;
 ///
 /// `may_show` says which forests of entries the value may show: it is the meaning that the type gives to its values, and
 /// `visit` is proved to enter one of them.
+///
+/// ```
+/// #[derive(Drop)]
+/// struct Point {
+///     x: u32,
+///     y: u32,
+/// }
+///
+/// impl Allocative for Point {
+///     ghost may_show = { λ p. Inside (codes "Point") 8 (Both
+///         (Field (codes "x") (Some 4) (⟦<u32 as Allocative>⟧.may_show p.x))
+///         (Field (codes "y") (Some 4) (⟦<u32 as Allocative>⟧.may_show p.y))) };
+///
+///     fn visit(&self, visitor: &mut Visitor<'_>) -> Result<(), Refusal> {
+///         let mut inner = visitor.collector.enter(Key::new("Point"), 8)?;
+///         inner.visit_field(Key::new("x"), &self.x)?;
+///         inner.visit_field(Key::new("y"), &self.y)?;
+///         inner.exit();
+///         Ok(())
+///     }
+/// }
+/// ```
 pub trait Allocative: Drop {
     ghost may_show: { Self → Forest → Type 0 };
 

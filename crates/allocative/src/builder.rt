@@ -18,6 +18,14 @@ use std::alloc::Global;
 use std::marker::Model;
 
 /// Collects what values show, and finishes as their flame graph.
+///
+/// ```
+/// let mut builder = FlameGraphBuilder::new(alloc)?;
+/// builder.visit_value(&Some(7u32))?;
+/// let output = builder.finish()?;
+/// assert_eq!(rt; output.flamegraph().write()?.as_str(), "Option 4\nOption;Some;u32 4\n");
+/// assert_eq!(rt; output.warnings()?.as_str(), "");
+/// ```
 #[derive(Drop)]
 pub struct FlameGraphBuilder {
     collector: Collector,
@@ -70,6 +78,9 @@ impl FlameGraphBuilder {
     }
 
     /// Visits a root by a root visitor. Ok exactly where the builder afterwards has neither failed nor stands open.
+    ///
+    /// A builder that has failed answers its first cause, and one where a visitor is out answers Open; then nothing changes.
+    /// Else the answer is the first cause of the visit, or Open where a visitor was forgotten in it.
     pub fn visit_root(&mut self, root: &dyn Allocative) -> Result<(), Refusal>
         ensures { Runs (may_show root.now) self.old result self.new }
     {
@@ -103,7 +114,7 @@ impl FlameGraphBuilder {
         self.collector.finish()
     }
 
-    /// `finish`, then the text of the graph.
+    /// `finish`, then the text of the graph. It is refused as `finish` is.
     pub fn finish_and_write_flame_graph(self) -> Result<String, Refusal>
         ensures { Ends (λ s t. string_bytes t ≡ text (graph s)) self result }
     {

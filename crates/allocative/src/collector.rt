@@ -9,6 +9,7 @@ ghost use Rattle.allocative.specs.Steps.{StepsIn, StepsInShared, IsSum};
 ghost use Rattle.allocative.specs.Kinds.{kind_of};
 ghost use Rattle.allocative.specs.Built.{as_graph};
 ghost use Rattle.allocative.specs.Making.{Makes, Done};
+ghost use Rattle.allocative.specs.Shared.{answered};
 
 use crate::graph_collector::GraphCollector;
 use crate::held_collector::HeldCollector;
@@ -35,6 +36,12 @@ pub struct Collector {
     kind: Kind,
 }
 
+/// That a shared value's content is to be shown, once: the answer of `point_to`, which `content` takes.
+///
+/// It stands for a visitor that was entered. Where it is dropped no visitor leaves, and the builder stands open for good.
+#[derive(Drop)]
+pub struct Content(());
+
 impl Model for Collector {
     ghost use Rattle.allocative_graph.specs.Collector.{State};
     ghost use Rattle.allocative_graph.specs.Codes.{state_code};
@@ -50,8 +57,8 @@ impl Model for Collector {
 
 impl Kind {
     // One entry more, and a visitor at it. Answers what leaving has to restore.
-    fn enter(&mut self, key: Key, size: usize, is_unique: bool) -> Result<bool, Refusal>
-        ensures ok { IfOk result (λ outer. HasRoom is_unique size (kind_of self.old) × (outer ≡ is_in_unique (kind_of self.old)) × (kind_of self.new ≡ enter is_unique key size (kind_of self.old))) }
+    fn enter(&mut self, key: &Key, size: usize, is_unique: bool) -> Result<bool, Refusal>
+        ensures ok { IfOk result (λ outer. HasRoom is_unique size (kind_of self.old) × (outer ≡ is_in_unique (kind_of self.old)) × (kind_of self.new ≡ enter is_unique key.now size (kind_of self.old))) }
         ensures err { IfErr result (Refuses is_unique size (kind_of self.old)) }
     {
         match self {
@@ -147,8 +154,8 @@ impl Collector {
     }
 
     // One entry more, unique or inline.
-    fn step_in(&mut self, key: Key, size: usize, is_unique: bool) -> Result<bool, Refusal>
-        ensures enters { StepsIn is_unique key size self.old result self.new }
+    fn step_in(&mut self, key: &Key, size: usize, is_unique: bool) -> Result<bool, Refusal>
+        ensures enters { StepsIn is_unique key.now size self.old result self.new }
         ensures cause { IfErr result (HasFailed self.new) }
     {
         if let Some(cause) = self.failed {
@@ -164,8 +171,8 @@ impl Collector {
     }
 
     // One shared entry more.
-    fn step_in_shared(&mut self, key: Key, size: usize, id: Identity) -> Result<bool, Refusal>
-        ensures enters { StepsInShared key size id self.old result self.new }
+    fn step_in_shared(&mut self, key: &Key, size: usize, id: Identity) -> Result<bool, Refusal>
+        ensures enters { StepsInShared key.now size id self.old result self.new }
         ensures cause { IfErr result (HasFailed self.new) }
     {
         if let Some(cause) = self.failed {
@@ -188,7 +195,7 @@ impl Collector {
         ensures enters { Enters false key size self.old result self.new }
         ensures cause { IfErr result (HasFailed self.new) }
     {
-        self.step_in(key, size, false)
+        self.step_in(&key, size, false)
     }
 
     /// The same as `go_in` with a unique entry.
@@ -196,7 +203,7 @@ impl Collector {
         ensures enters { Enters true key size self.old result self.new }
         ensures cause { IfErr result (HasFailed self.new) }
     {
-        self.step_in(key, size, true)
+        self.step_in(&key, size, true)
     }
 
     /// The same as `go_in` with a declared size; where there is none it is TooLarge.
@@ -210,18 +217,47 @@ impl Collector {
         }
     }
 
-    /// One pointer of `size` bytes more to the shared value that has the identity `id`.
-    ///
-    /// Answers whether the value's content is to be shown, by the visitor that `content` gives. In a flame graph's collector
-    /// that is where the identity was not met before. In the collector of held bytes it is never so, and nothing is added.
-    /// A collector that has failed answers its first cause; otherwise the call is refused with TooLarge exactly where the
-    /// bound would be passed, which is tested before the identity is looked at, and else with Memory. After a refusal the
-    /// collector has failed.
-    pub fn point_to(&mut self, key: Key, size: usize, id: Identity) -> Result<bool, Refusal>
+    /// One pointer of `size` bytes more to the shared value that has the identity `id`: whether its content is to be shown.
+    pub(crate) fn go_to_shared(
+        &mut self,
+        key: Key,
+        size: usize,
+        id: Identity,
+    ) -> Result<bool, Refusal>
         ensures enters { EntersShared key size id self.old result self.new }
         ensures cause { IfErr result (HasFailed self.new) }
     {
-        self.step_in_shared(key, size, id)
+        self.step_in_shared(&key, size, id)
+    }
+
+    /// One pointer of `size` bytes more to the shared value that has the identity `id`.
+    ///
+    /// The answer is some `Content`, for `content`, where the value's content is to be shown. In a flame graph's collector
+    /// that is exactly where the identity was not met before. In the collector of held bytes it is never so, and nothing is
+    /// added. A collector that has failed answers its first cause; otherwise the call is refused with TooLarge exactly where
+    /// the bound would be passed, which is tested before the identity is looked at, and else with Memory. After a refusal
+    /// the collector has failed.
+    ///
+    /// ```
+    /// if let Some(shown) = visitor.collector.point_to(Key::new("ptr"), 8, self.id())? {
+    ///     let mut content = visitor.collector.content(shown);
+    ///     content.visit_field(Key::new("RcInner"), self.get())?;
+    ///     content.exit();
+    /// }
+    /// ```
+    pub fn point_to(
+        &mut self,
+        key: Key,
+        size: usize,
+        id: Identity,
+    ) -> Result<Option<Content>, Refusal>
+        ensures enters { EntersShared key size id self.old (answered result) self.new }
+        ensures cause { IfErr result (HasFailed self.new) }
+    {
+        if self.go_to_shared(key, size, id)? {
+            return Ok(Some(Content(())));
+        }
+        Ok(None)
     }
 
     /// A visitor less; the one outside is a unique entry's, or is not.

@@ -63,8 +63,8 @@ impl GraphCollector {
     }
 
     /// One entry more, and a visitor at it.
-    pub(crate) fn enter(&mut self, key: Key, size: usize, is_unique: bool) -> Result<(), Refusal>
-        ensures ok { OnOk result ((entered self.old.sums + size < 2 ^ 63) × (self.new ≡ enter_live is_unique key size self.old)) }
+    pub(crate) fn enter(&mut self, key: &Key, size: usize, is_unique: bool) -> Result<(), Refusal>
+        ensures ok { OnOk result ((entered self.old.sums + size < 2 ^ 63) × (self.new ≡ enter_live is_unique key.now size self.old)) }
         ensures err { IfErr result (Refuses is_unique size (OfGraph self.old)) }
     {
         let here = self.current;
@@ -86,11 +86,11 @@ impl GraphCollector {
     /// One pointer more; where its identity is met for the first time, a visitor at its content. Answers whether it is.
     pub(crate) fn enter_shared(
         &mut self,
-        key: Key,
+        key: &Key,
         size: usize,
         id: Identity,
     ) -> Result<bool, Refusal>
-        ensures ok { IfOk result (λ new. (entered self.old.sums + size < 2 ^ 63) × MeetsAs key size id self.old new self.new) }
+        ensures ok { IfOk result (λ new. (entered self.old.sums + size < 2 ^ 63) × MeetsAs key.now size id self.old new self.new) }
         ensures err { IfErr result (Refuses false size (OfGraph self.old)) }
     {
         let here = self.current;
@@ -149,14 +149,14 @@ fn add(
     tree: &mut Tree,
     entered: &mut usize,
     at: usize,
-    key: Key,
+    key: &Key,
     size: usize,
     is_unique: bool,
 ) -> Result<usize, Refusal>
     requires within { at < length tree.old }
     requires count { entered.old ≡ total tree.old }
     requires bound { entered.old < 2 ^ 63 }
-    ensures ok { IfOk result (AddedAt tree.old tree.new at key size is_unique entered.old entered.new) }
+    ensures ok { IfOk result (AddedAt tree.old tree.new at key.now size is_unique entered.old entered.new) }
     ensures err { IfErr result (TellsWhy entered.old size) }
     ensures kept { OnErr result ((tree.new ≡ tree.old) × (entered.new ≡ entered.old)) }
 {

@@ -7,7 +7,7 @@ ghost use Rattle.std.specs.Map.Iter.{deref, deref_pair};
 ghost use Rattle.allocative_graph.specs.Shows.{Inside, Both, each_shows, slice_shows};
 ghost use Rattle.allocative_graph.specs.Visits.{Shows, HasFailed};
 ghost use Rattle.allocative_described.specs.Sizes.{size_sum};
-ghost use Rattle.allocative.specs.Making.{MakesOrGives, MakesRun, Done, one};
+ghost use Rattle.allocative.specs.Making.{MakesOrGives, EntersFirst, KeepsCause, MakesRun, Done, one};
 ghost use Rattle.allocative.specs.Bodies.{are_shown_each, bytes_shown, buffer_entry, buffer_shows};
 ghost use Rattle.allocative.specs.Runs.{IsOfRun, CountsRun, field_of, pair_shows, deref_entry, value_shows, values_slice};
 
@@ -49,6 +49,7 @@ impl Visitor<'_> {
         ensures same_reference { self.new.collector.ghost_name ≡ self.old.collector.ghost_name }
         ensures same_outer { self.new.outer_is_unique ≡ self.old.outer_is_unique }
         ensures shown { Shows (IsOfRun I.next_gives items deref (each_shows T.may_show)) self.old.collector.now result self.new.collector.now }
+        ensures kept { KeepsCause self.old.collector.now result self.new.collector.now }
         ensures exact { MakesOrGives I.next_gives items Done self.old.collector.now result self.new.collector.now }
         ensures cause { IfErr result (HasFailed self.new.collector.now) }
     {
@@ -60,7 +61,9 @@ impl Visitor<'_> {
     }
 
     /// One inline entry with the item's name and the bytes of all items where the items need no drop or have size 0, else
-    /// what each item shows. TooLarge where the item has no size, where the count does not fit, or where the bytes do not.
+    /// what each item shows. A collector that has failed answers its first cause; the entry is TooLarge where the item has no
+    /// size, where the count does not fit, or where the bytes do not, and else refused as `enter` is. The iterator is one that
+    /// can be asked for its next item and that ends.
     pub fn visit_iter<'a, T: Allocative + Described + 'a, I: Iterator<Item = &'a T> + Drop>(
         &mut self,
         items: I,
@@ -70,6 +73,7 @@ impl Visitor<'_> {
         ensures same_reference { self.new.collector.ghost_name ≡ self.old.collector.ghost_name }
         ensures same_outer { self.new.outer_is_unique ≡ self.old.outer_is_unique }
         ensures shown { Shows (IsOfRun I.next_gives items deref (slice_shows T.name T.size T.needs_drop T.may_show)) self.old.collector.now result self.new.collector.now }
+        ensures kept { KeepsCause self.old.collector.now result self.new.collector.now }
         ensures exact { MakesRun I.next_gives items T.name T.size (are_shown_each T.needs_drop T.size) self.old.collector.now result self.new.collector.now }
         ensures cause { IfErr result (HasFailed self.new.collector.now) }
     {
@@ -255,6 +259,9 @@ impl Visitor<'_> {
     }
 
     /// The inline entry `data` of 8 bytes, and in it the fields `key` and `value` for each pair that the iterator gives.
+    ///
+    /// A collector that has failed answers its first cause. The entry is refused as `enter` is, and the fields as
+    /// `visit_field` is. The iterator is one that can be asked for its next item and that ends.
     #[tactic(auto, using(crate::proofs::Showing::one_part))]
     pub fn visit_generic_map_fields<
         'a,
@@ -267,6 +274,7 @@ impl Visitor<'_> {
         ensures same_reference { self.new.collector.ghost_name ≡ self.old.collector.ghost_name }
         ensures same_outer { self.new.outer_is_unique ≡ self.old.outer_is_unique }
         ensures shown { Shows (Inside (codes "data") 8 (IsOfRun I.next_gives entries deref_pair (each_shows (pair_shows K.size K.may_show V.size V.may_show)))) self.old.collector.now result self.new.collector.now }
+        ensures first { EntersFirst (codes "data") (Some 8) self.old.collector.now result self.new.collector.now }
         ensures exact { MakesOrGives I.next_gives entries (one (codes "data") (Some 8)) self.old.collector.now result self.new.collector.now }
         ensures cause { IfErr result (HasFailed self.new.collector.now) }
     {
@@ -276,7 +284,8 @@ impl Visitor<'_> {
         Ok(())
     }
 
-    /// The inline entry `data` of 8 bytes, and in it a field `key` for each key that the iterator gives.
+    /// The inline entry `data` of 8 bytes, and in it a field `key` for each key that the iterator gives. It is refused as
+    /// `visit_generic_map_fields` is.
     #[tactic(auto, using(crate::proofs::Showing::one_part))]
     pub fn visit_generic_set_fields<
         'a,
@@ -288,6 +297,7 @@ impl Visitor<'_> {
         ensures same_reference { self.new.collector.ghost_name ≡ self.old.collector.ghost_name }
         ensures same_outer { self.new.outer_is_unique ≡ self.old.outer_is_unique }
         ensures shown { Shows (Inside (codes "data") 8 (IsOfRun I.next_gives entries deref (each_shows (field_of (codes "key") K.size K.may_show)))) self.old.collector.now result self.new.collector.now }
+        ensures first { EntersFirst (codes "data") (Some 8) self.old.collector.now result self.new.collector.now }
         ensures exact { MakesOrGives I.next_gives entries (one (codes "data") (Some 8)) self.old.collector.now result self.new.collector.now }
         ensures cause { IfErr result (HasFailed self.new.collector.now) }
     {

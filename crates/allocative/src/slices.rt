@@ -5,7 +5,7 @@ ghost use Rattle.std.specs.Prelude.{codes, ◌≡◌, ◌≤◌, ◌++◌, ◌+�
 ghost use Rattle.allocative_described.specs.Sizes.{size_product};
 ghost use Rattle.allocative_graph.specs.Shows.{Inside, InsideUnique, Field, Nothing, Both, each_shows, slice_shows};
 ghost use Rattle.allocative_graph.specs.Visits.{Shows, HasFailed};
-ghost use Rattle.allocative.specs.Making.{Makes, Done, one, VisitsNone, slice_plan, room_plan, vec_plan};
+ghost use Rattle.allocative.specs.Making.{Makes, EntersFirst, KeepsCause, Done, one, VisitsNone, slice_plan, room_plan, vec_plan};
 ghost use Rattle.allocative.specs.Bodies.{are_shown_each, bytes_shown, vec_body, buffer_entry, buffer_shows, cut_shows, text_shows, data_shows, slice_of, table_shows};
 
 use crate::allocative_trait::Allocative;
@@ -76,6 +76,7 @@ impl Visitor<'_> {
         ensures same_reference { self.new.collector.ghost_name ≡ self.old.collector.ghost_name }
         ensures same_outer { self.new.outer_is_unique ≡ self.old.outer_is_unique }
         ensures shown { Shows (each_shows T.may_show items.now) self.old.collector.now result self.new.collector.now }
+        ensures kept { KeepsCause self.old.collector.now result self.new.collector.now }
         ensures exact { length items.now ≡ 0 → Makes Done self.old.collector.now result self.new.collector.now }
         ensures cause { IfErr result (HasFailed self.new.collector.now) }
     {
@@ -87,11 +88,13 @@ impl Visitor<'_> {
     }
 
     /// One inline entry with the item's name and all bytes where the items need no drop or have size 0, else what each
-    /// item shows. TooLarge where the item has no size or the bytes do not fit.
+    /// item shows. A collector that has failed answers its first cause; the entry is TooLarge where the item has no size or the
+    /// bytes do not fit, and else refused as `enter` is.
     pub fn visit_slice<T: Allocative + Described>(&mut self, items: &[T]) -> Result<(), Refusal>
         ensures same_reference { self.new.collector.ghost_name ≡ self.old.collector.ghost_name }
         ensures same_outer { self.new.outer_is_unique ≡ self.old.outer_is_unique }
         ensures shown { Shows (slice_shows T.name T.size T.needs_drop T.may_show items.now) self.old.collector.now result self.new.collector.now }
+        ensures kept { KeepsCause self.old.collector.now result self.new.collector.now }
         ensures exact { VisitsNone T.needs_drop T.size items.now → Makes (slice_plan T.name T.size T.needs_drop items.now) self.old.collector.now result self.new.collector.now }
         ensures cause { IfErr result (HasFailed self.new.collector.now) }
     {
@@ -120,11 +123,13 @@ impl Visitor<'_> {
     }
 
     /// One inline entry with the item's name and the bytes of all items, and in it a field `data` for each item.
-    /// TooLarge where the item has no size or the bytes do not fit.
+    /// A collector that has failed answers its first cause; the entry is TooLarge where the item has no size or the bytes do
+    /// not fit, also with no item, and else refused as `enter` is.
     pub fn visit_slice_of<T: Allocative + Described>(&mut self, items: &[T]) -> Result<(), Refusal>
         ensures same_reference { self.new.collector.ghost_name ≡ self.old.collector.ghost_name }
         ensures same_outer { self.new.outer_is_unique ≡ self.old.outer_is_unique }
         ensures shown { Shows (slice_of T.name T.size T.may_show items.now) self.old.collector.now result self.new.collector.now }
+        ensures first { EntersFirst T.name (size_product T.size (Some (length items.now))) self.old.collector.now result self.new.collector.now }
         ensures exact { length items.now ≡ 0 → Makes (one T.name (size_product T.size (Some 0))) self.old.collector.now result self.new.collector.now }
         ensures cause { IfErr result (HasFailed self.new.collector.now) }
     {
@@ -155,7 +160,10 @@ impl Visitor<'_> {
     }
 
     /// The entry `capacity` of the bytes of `capacity` items, and in it what the slice of the items shows and an entry
-    /// `unused_capacity` of the bytes of the room that is left.
+    /// `unused_capacity` of the bytes of the room that is left. `capacity` is at least the count of the items.
+    ///
+    /// A collector that has failed answers its first cause. Each entry is TooLarge where an item has no size or its bytes do
+    /// not fit, and else refused as `enter` is.
     pub fn visit_vec_like_body<T: Allocative + Described>(
         &mut self,
         items: &[T],
@@ -165,6 +173,7 @@ impl Visitor<'_> {
         ensures same_reference { self.new.collector.ghost_name ≡ self.old.collector.ghost_name }
         ensures same_outer { self.new.outer_is_unique ≡ self.old.outer_is_unique }
         ensures shown { Shows (vec_body T.name T.size T.needs_drop T.may_show items.now capacity) self.old.collector.now result self.new.collector.now }
+        ensures first { EntersFirst (codes "capacity") (size_product T.size (Some capacity)) self.old.collector.now result self.new.collector.now }
         ensures exact { VisitsNone T.needs_drop T.size items.now → Makes (vec_plan T.name T.size T.needs_drop items.now capacity) self.old.collector.now result self.new.collector.now }
         ensures cause { IfErr result (HasFailed self.new.collector.now) }
     {

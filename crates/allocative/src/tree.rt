@@ -70,13 +70,13 @@ impl Tree {
     pub(crate) fn enter(
         &mut self,
         at: usize,
-        key: Key,
+        key: &Key,
         size: usize,
         is_unique: bool,
     ) -> Result<usize, AllocError>
         requires within { at < length self.old }
         requires fits { total self.old + size < 2 ^ 63 }
-        ensures entered { IfOk result (IsEntered self.old self.new at key size is_unique) }
+        ensures entered { IfOk result (IsEntered self.old self.new at key.now size is_unique) }
         ensures err { OnErr result (self.new ≡ self.old) }
     {
         let node = self.child(at, key)?;
@@ -154,17 +154,17 @@ impl Tree {
     }
 
     /// The child of the node `at` that has the key, made where there is none.
-    fn child(&mut self, at: usize, key: Key) -> Result<usize, AllocError>
+    fn child(&mut self, at: usize, key: &Key) -> Result<usize, AllocError>
         requires { at < length self.old }
-        ensures entered { IfOk result (IsEntered self.old self.new at key 0 false) }
+        ensures entered { IfOk result (IsEntered self.old self.new at key.now 0 false) }
         ensures err { OnErr result (self.new ≡ self.old) }
     {
-        match find(&self.nodes, &self.nodes[at].children, &key) {
+        match find(&self.nodes, &self.nodes[at].children, key) {
             Ok(place) => Ok(self.nodes[at].children[place]),
             Err(place) => {
                 let node = self.nodes.len();
                 self.nodes.push(Node {
-                    key,
+                    key: key.copy(),
                     parent: at,
                     children: Vec::new(self.alloc),
                     bytes: 0,
@@ -249,12 +249,12 @@ mod tests {
     #[tactic(auto, using(crate::proofs::Adds::total_entered, crate::proofs::Adds::length_entered))]
     fn finishes_in_order_of_paths(rt: HostRuntime) -> Result<(), Fail> {
         let mut tree = Tree::new(rt.alloc())?;
-        let middle = tree.enter(0, Key::new("b"), 4, false)?;
-        let _ = tree.enter(middle, Key::new("y"), 3, true)?;
-        let _ = tree.enter(0, Key::new("a"), 10, true)?;
-        let last = tree.enter(0, Key::new("c"), 1, false)?;
-        let _ = tree.enter(last, Key::new("z"), 5, false)?;
-        let again = tree.enter(0, Key::new("b"), 2, false)?;
+        let middle = tree.enter(0, &Key::new("b"), 4, false)?;
+        let _ = tree.enter(middle, &Key::new("y"), 3, true)?;
+        let _ = tree.enter(0, &Key::new("a"), 10, true)?;
+        let last = tree.enter(0, &Key::new("c"), 1, false)?;
+        let _ = tree.enter(last, &Key::new("z"), 5, false)?;
+        let again = tree.enter(0, &Key::new("b"), 2, false)?;
         assert_eq!(rt; again, middle);
         let output = tree.finish()?;
         let text = output.flamegraph().write()?;

@@ -1,10 +1,10 @@
 //! What implementations enter by: entries with their parts.
 #![tactic(auto, using(crate::proofs::Showing::showing))]
 
-ghost use Rattle.std.specs.Prelude.{codes, ◌≡◌, length, false, IfErr};
+ghost use Rattle.std.specs.Prelude.{codes, ◌≡◌, length, false, IfErr, Some};
 ghost use Rattle.allocative_graph.specs.Shows.{Inside, InsideUnique, Field, Nothing};
-ghost use Rattle.allocative_graph.specs.Visits.{Shows, HasFailed, Answers};
-ghost use Rattle.allocative.specs.Making.{Makes, one};
+ghost use Rattle.allocative_graph.specs.Visits.{Shows, HasFailed};
+ghost use Rattle.allocative.specs.Making.{Makes, EntersFirst, one};
 ghost use Rattle.allocative.specs.Closures.{KeepsVisitor, CallsInside};
 
 use crate::allocative_trait::Allocative;
@@ -14,7 +14,7 @@ use allocative_graph::key::Key;
 use allocative_graph::refusal::Refusal;
 
 impl Visitor<'_> {
-    /// One inline entry of the declared name and size of `T`; TooLarge where there is no size.
+    /// One inline entry of the declared name and size of `T`; TooLarge where there is no size, and else refused as `enter` is.
     pub fn visit_simple_sized<T: Described>(&mut self) -> Result<(), Refusal>
         ensures same_reference { self.new.collector.ghost_name ≡ self.old.collector.ghost_name }
         ensures same_outer { self.new.outer_is_unique ≡ self.old.outer_is_unique }
@@ -25,7 +25,10 @@ impl Visitor<'_> {
         self.visit_sized(Key::for_type_name::<T>(), T::size())
     }
 
-    /// One inline entry of the field's declared size, and in it what the field shows.
+    /// One inline entry of the field's declared size in bytes, and in it what the field shows.
+    ///
+    /// A collector that has failed answers its first cause. The entry is TooLarge where there is no size, and else refused as
+    /// `enter` is; the field's own refusals come after it.
     pub fn visit_field<T: Allocative + Described>(
         &mut self,
         name: Key,
@@ -34,6 +37,7 @@ impl Visitor<'_> {
         ensures same_reference { self.new.collector.ghost_name ≡ self.old.collector.ghost_name }
         ensures same_outer { self.new.outer_is_unique ≡ self.old.outer_is_unique }
         ensures shown { Shows (Field name T.size (T.may_show field.now)) self.old.collector.now result self.new.collector.now }
+        ensures first { EntersFirst name T.size self.old.collector.now result self.new.collector.now }
         ensures cause { IfErr result (HasFailed self.new.collector.now) }
     {
         let mut inner = self.collector.enter_field::<T>(name)?;
@@ -44,8 +48,9 @@ impl Visitor<'_> {
 
     /// One inline entry of `size` bytes, and in it what the closure enters.
     ///
-    /// Where the closure answers Err the collector has failed afterwards: with the closure's refusal, or with the cause
-    /// that it had failed with before.
+    /// A collector that has failed answers its first cause, and the entry is refused as `enter` is. Where the closure answers
+    /// Err the collector has failed afterwards: with the closure's refusal, or with the cause that it had failed with before.
+    /// The closure hands its visitor back at the place where it got it.
     pub fn visit_field_with<F: FnOnce(&mut Visitor<'_>) -> Result<(), Refusal>>(
         &mut self,
         name: Key,
@@ -67,12 +72,12 @@ impl Visitor<'_> {
         Ok(())
     }
 
-    /// One inline entry `str` of the text's length in bytes.
+    /// One inline entry `str` of the text's length in bytes. It is refused as `enter` is.
     pub fn visit_str(&mut self, text: &str) -> Result<(), Refusal>
         ensures same_reference { self.new.collector.ghost_name ≡ self.old.collector.ghost_name }
         ensures same_outer { self.new.outer_is_unique ≡ self.old.outer_is_unique }
         ensures shown { Shows (Inside (codes "str") (length text.now) Nothing) self.old.collector.now result self.new.collector.now }
-        ensures exact { Answers false (length text.now) self.old.collector.now result }
+        ensures exact { Makes (one (codes "str") (Some (length text.now))) self.old.collector.now result self.new.collector.now }
         ensures cause { IfErr result (HasFailed self.new.collector.now) }
     {
         self.visit_simple(Key::new("str"), text.len())
@@ -91,11 +96,15 @@ impl Visitor<'_> {
         Ok(())
     }
 
-    /// The entries of a box, and in them what the object shows.
+    /// The inline entry `Box` of 8 bytes, in it the unique entry `ptr` of 8 bytes, and in that what the object shows.
+    ///
+    /// A collector that has failed answers its first cause. Each entry is refused as `enter` is; the object's own refusals come
+    /// after them.
     pub fn visit_boxed_object(&mut self, object: &dyn Allocative) -> Result<(), Refusal>
         ensures same_reference { self.new.collector.ghost_name ≡ self.old.collector.ghost_name }
         ensures same_outer { self.new.outer_is_unique ≡ self.old.outer_is_unique }
         ensures shown { Shows (Inside (codes "Box") 8 (InsideUnique (codes "ptr") 8 (may_show object.now))) self.old.collector.now result self.new.collector.now }
+        ensures first { EntersFirst (codes "Box") (Some 8) self.old.collector.now result self.new.collector.now }
         ensures cause { IfErr result (HasFailed self.new.collector.now) }
     {
         let mut inner = self.collector.enter(Key::new("Box"), 8)?;

@@ -16,6 +16,7 @@ use allocative_graph::key::Key;
 use allocative_graph::refusal::Refusal;
 use std::alloc::Global;
 use std::collections::BTreeMap;
+use std::test::Fail;
 
 // A byte, declared as `u8` is.
 #[derive(Clone, Copy, Debug, PartialEq, Eq, PartialOrd, Ord, Drop)]
@@ -338,15 +339,19 @@ impl Allocative for Body {
     }
 }
 
-// The text of one visit.
-fn text_of(alloc: Global, root: &dyn Allocative) -> Result<String, Refusal> {
+// The text of one visit that gives no warning.
+fn text_of(alloc: Global, root: &dyn Allocative) -> Result<String, Fail> {
     let mut builder = FlameGraphBuilder::new(alloc)?;
     builder.visit_root(root)?;
-    builder.finish()?.flamegraph().write()
+    let output = builder.finish()?;
+    if !output.warnings()?.is_empty() {
+        return Err(Fail::new("a warning"));
+    }
+    Ok(output.flamegraph().write()?)
 }
 
 #[test]
-fn slices_and_iterators_give_one_text(rt: HostRuntime) -> Result<(), Refusal> {
+fn slices_and_iterators_give_one_text(rt: HostRuntime) -> Result<(), Fail> {
     let alloc = rt.alloc();
     let plain = Slice {
         items: vec![in alloc; Pair, Pair, Pair]?,
@@ -372,7 +377,7 @@ fn slices_and_iterators_give_one_text(rt: HostRuntime) -> Result<(), Refusal> {
 }
 
 #[test]
-fn maps_and_sets_show_data(rt: HostRuntime) -> Result<(), Refusal> {
+fn maps_and_sets_show_data(rt: HostRuntime) -> Result<(), Fail> {
     let alloc = rt.alloc();
     let mut entries = BTreeMap::new(alloc);
     entries.insert(Byte(1), Byte(2))?;
@@ -390,7 +395,7 @@ fn maps_and_sets_show_data(rt: HostRuntime) -> Result<(), Refusal> {
 }
 
 #[test]
-fn texts_boxes_and_fields(rt: HostRuntime) -> Result<(), Refusal> {
+fn texts_boxes_and_fields(rt: HostRuntime) -> Result<(), Fail> {
     let alloc = rt.alloc();
     let six = Text {
         text: String::from_str(alloc, "abcdef")?,
@@ -415,7 +420,7 @@ fn texts_boxes_and_fields(rt: HostRuntime) -> Result<(), Refusal> {
 }
 
 #[test]
-fn a_slice_by_itself_and_a_body(rt: HostRuntime) -> Result<(), Refusal> {
+fn a_slice_by_itself_and_a_body(rt: HostRuntime) -> Result<(), Fail> {
     let alloc = rt.alloc();
     let slice = SliceOf {
         items: vec![in alloc; Byte(1), Byte(2), Byte(3)]?,

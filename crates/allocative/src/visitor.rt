@@ -1,19 +1,20 @@
 //! Visitors: places in a collector, under which values enter what they hold.
 #![tactic(auto, using(crate::proofs::Showing::showing))]
 
-ghost use Rattle.std.specs.Prelude.{◌≡◌, IfOk, IfErr, IfSome, Ok, Err};
-ghost use Rattle.allocative_graph.specs.Collector.{failed_with};
+ghost use Rattle.std.specs.Prelude.{◌≡◌, IfOk, IfErr, IfSome, Ok, Err, Some};
+ghost use Rattle.allocative_graph.specs.Collector.{Failed, failed_with};
 ghost use Rattle.allocative_graph.specs.Shows.{Inside, Nothing};
 ghost use Rattle.allocative_graph.specs.Visits.{Shows, HasFailed, Enters, EntersSized, EntersShared, Answers, Leaves, Begins, Settles};
 ghost use Rattle.allocative.specs.Lending.{LendsEntered, LendsSized, LendsPointed, LendsBegun, LendsBegunGraph};
 ghost use Rattle.allocative.specs.Built.{as_graph};
+ghost use Rattle.allocative.specs.Making.{Makes, one};
 ghost use Rattle.allocative.specs.Nested.{LendsCollector, LendsNested, LendsShared};
 ghost use Rattle.allocative.specs.Shared.{AnswersShared, told, turned, answered};
 ghost use Rattle.std.specs.Borrow.{sem};
 ghost use Rattle.std.specs.Prelude.{true, false};
 
 use crate::allocative_trait::Allocative;
-use crate::collector::Collector;
+use crate::collector::{Collector, Content};
 use allocative_described::Described;
 use allocative_graph::key::Key;
 use allocative_graph::refusal::Refusal;
@@ -77,6 +78,7 @@ impl Collector {
         ensures* lent { sem 𝓛 (LendsSized key size self.entry result) }
         ensures same_reference { IfOk result (λ v. v.collector.ghost_name ≡ self.entry.ghost_name) }
         ensures entered { IfOk result (λ v. EntersSized key size self.old (Ok v.outer_is_unique) v.collector.now) }
+        ensures refused { IfErr result (λ e. EntersSized key size self.old (Err e) (Failed e)) }
     {
         let outer_is_unique = self.go_in_sized(key, size)?;
         Ok(Visitor {
@@ -85,42 +87,47 @@ impl Collector {
         })
     }
 
-    /// Enters inline with the declared name and size of `T`.
+    /// Enters inline with the declared name and size of `T`: the same as `enter_sized`.
     pub fn enter_self_sized<T: Described>(&mut self) -> Result<Visitor<'_>, Refusal>
         ensures* lent { sem 𝓛 (LendsSized T.name T.size self.entry result) }
         ensures same_reference { IfOk result (λ v. v.collector.ghost_name ≡ self.entry.ghost_name) }
         ensures entered { IfOk result (λ v. EntersSized T.name T.size self.old (Ok v.outer_is_unique) v.collector.now) }
+        ensures refused { IfErr result (λ e. EntersSized T.name T.size self.old (Err e) (Failed e)) }
     {
         self.enter_sized(Key::for_type_name::<T>(), T::size())
     }
 
-    /// Enters inline with the declared name and size of the value's type.
+    /// Enters inline with the declared name and size of the value's type: the same as `enter_sized`.
     pub fn enter_self<T: Described>(&mut self, _this: &T) -> Result<Visitor<'_>, Refusal>
         ensures* lent { sem 𝓛 (LendsSized T.name T.size self.entry result) }
         ensures same_reference { IfOk result (λ v. v.collector.ghost_name ≡ self.entry.ghost_name) }
         ensures entered { IfOk result (λ v. EntersSized T.name T.size self.old (Ok v.outer_is_unique) v.collector.now) }
+        ensures refused { IfErr result (λ e. EntersSized T.name T.size self.old (Err e) (Failed e)) }
     {
         self.enter_self_sized::<T>()
     }
 
-    /// Enters inline with the declared size of `T`.
+    /// Enters inline with the declared size of `T`: the same as `enter_sized`.
     pub fn enter_field<T: Described>(&mut self, key: Key) -> Result<Visitor<'_>, Refusal>
         ensures* lent { sem 𝓛 (LendsSized key T.size self.entry result) }
         ensures same_reference { IfOk result (λ v. v.collector.ghost_name ≡ self.entry.ghost_name) }
         ensures entered { IfOk result (λ v. EntersSized key T.size self.old (Ok v.outer_is_unique) v.collector.now) }
+        ensures refused { IfErr result (λ e. EntersSized key T.size self.old (Err e) (Failed e)) }
     {
         self.enter_sized(key, T::size())
     }
 
-    /// A visitor at the content of a shared value, after `point_to` answered that it is to be shown.
-    pub fn content(&mut self) -> Visitor<'_>
+    /// A visitor at the content of a shared value, which `point_to` answered to be shown. It takes no memory.
+    pub fn content(&mut self, _shown: Content) -> Visitor<'_>
         ensures same_reference { result.collector.ghost_name ≡ self.entry.ghost_name }
         ensures outer { result.outer_is_unique ≡ false }
         ensures now { result.collector.now ≡ self.old }
     {
+        // a flame graph's collector alone shows contents, and it keeps its places itself
+        let outer_is_unique = false;
         Visitor {
             collector: self,
-            outer_is_unique: false,
+            outer_is_unique,
         }
     }
 
@@ -137,7 +144,7 @@ impl Collector {
         ensures entered { IfOk result (λ v. EntersShared key size id self.old (Ok true) v.collector.now) }
         ensures refused { IfErr result (λ o. AnswersShared key size id self.old (told o)) }
     {
-        match self.point_to(key, size, id) {
+        match self.go_to_shared(key, size, id) {
             Ok(true) => Ok(Visitor {
                 collector: self,
                 outer_is_unique: false,
@@ -219,6 +226,23 @@ impl Visitor<'_> {
         self.reborrow().enter_unique(key, size)
     }
 
+    /// Enters inline with the declared name and size of `T`: the same as `enter`, and TooLarge where there is no size. The
+    /// checker follows `visitor.collector.enter_self_sized`.
+    pub fn enter_self_sized<T: Described>(&mut self) -> Result<Visitor<'_>, Refusal>
+        ensures entered { IfOk result (λ v. EntersSized T.name T.size self.old.collector.now (Ok v.outer_is_unique) v.collector.now) }
+        ensures refused { IfErr result (λ e. EntersSized T.name T.size self.old.collector.now (Err e) (Failed e)) }
+    {
+        self.reborrow().enter_self_sized::<T>()
+    }
+
+    /// Enters inline with the declared name and size of the value's type, as `enter_self_sized` does.
+    pub fn enter_self<T: Described>(&mut self, this: &T) -> Result<Visitor<'_>, Refusal>
+        ensures entered { IfOk result (λ v. EntersSized T.name T.size self.old.collector.now (Ok v.outer_is_unique) v.collector.now) }
+        ensures refused { IfErr result (λ e. EntersSized T.name T.size self.old.collector.now (Err e) (Failed e)) }
+    {
+        self.reborrow().enter_self(this)
+    }
+
     /// One pointer of `size` bytes more to the shared value that has the identity `id`.
     ///
     /// In a flame graph's collector the answer is a visitor at the value's content, whose paths start anew at the root,
@@ -244,14 +268,14 @@ impl Visitor<'_> {
 }
 
 impl Visitor<'_> {
-    /// One step back, as the end of its scope.
+    /// One step back, as the end of its scope. It takes no memory and never refuses.
     pub fn exit(self)
         ensures { Leaves self.entry.outer_is_unique self.entry.collector.now self.exit.0.now }
     {
         drop(self);
     }
 
-    /// A collector that has not failed fails with `refusal`. Answers the first cause.
+    /// A collector that has not failed fails with `refusal`; one that has stays as it is. Answers the first cause.
     pub fn refuse(&mut self, refusal: Refusal) -> Refusal
         ensures same_reference { self.new.collector.ghost_name ≡ self.old.collector.ghost_name }
         ensures same_outer { self.new.outer_is_unique ≡ self.old.outer_is_unique }
@@ -261,12 +285,12 @@ impl Visitor<'_> {
         self.collector.refuse(refusal)
     }
 
-    /// One inline entry of `size` bytes.
+    /// One inline entry of `size` bytes. It is refused as `enter` is.
     pub fn visit_simple(&mut self, key: Key, size: usize) -> Result<(), Refusal>
         ensures same_reference { self.new.collector.ghost_name ≡ self.old.collector.ghost_name }
         ensures same_outer { self.new.outer_is_unique ≡ self.old.outer_is_unique }
         ensures shown { Shows (Inside key size Nothing) self.old.collector.now result self.new.collector.now }
-        ensures exact { Answers false size self.old.collector.now result }
+        ensures exact { Makes (one key (Some size)) self.old.collector.now result self.new.collector.now }
         ensures cause { IfErr result (HasFailed self.new.collector.now) }
     {
         let inner = self.collector.enter(key, size)?;

@@ -37,7 +37,7 @@ MergeLaw = (f g : Forest) → IsWhole f → IsWhole g → ReachApart f g → Can
     → IsWhole (followed_by f g) × (sum_of (graph (sums_of (all f))) (graph (sums_of (all g))) ≡ graph (sums_of (all (followed_by f g))))
 
 -- ---- of texts
--- Where no key has a `;` or a line feed, graphs with equal texts have equal sizes at each path but the root.
+-- Where no key has a `;` or a line feed and the totals fit a word, graphs with equal texts have equal sizes at each path but the root.
 abbrev pub TextLaw : Type 0
 TextLaw = (g h : Graph) → HasPlainKeys g → HasPlainKeys h → HasWords g → HasWords h → text g ≡ text h → (k : Key) (p : Path) → size_at g (k ∷ p) ≡ size_at h (k ∷ p)
 

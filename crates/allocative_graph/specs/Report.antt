@@ -20,14 +20,6 @@ ends_in k (l ∷ m ∷ p) = ends_in k (m ∷ p)
 abbrev pub exact_text : Graph → List ℕ
 exact_text g = flat_map (λ e. cond (ends_in (codes "unused_capacity") e.0) [] (line e)) (entries g)
 
--- Some whole showing that the roots may show has this profile, exact or not, and these warnings.
-pub record IsReport (roots : Showing) (exact : Bool) (profile complaints : List ℕ) : Type 0 where
-  pub shown : Forest
-  pub allowed : roots shown
-  pub whole : IsWhole shown
-  pub profile_is : profile ≡ cond exact (exact_text (graph (sums_of (all shown)))) (text (graph (sums_of (all shown))))
-  pub complaints_are : complaints ≡ warnings (sums_of (all shown))
-
 -- ---- the same, of a text alone
 -- The lines, each without its line feed; line is what was read of the first.
 abbrev pub lines_from : List ℕ → List ℕ → List (List ℕ)

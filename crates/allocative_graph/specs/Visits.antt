@@ -81,23 +81,19 @@ Settles (Failed r) result = result ≡ Err r
 Settles (Going b) (Ok u) = IsClosed b
 Settles (Going b) (Err e) = (e ≡ Open) × ¬ IsClosed b
 
--- What a visit by a root visitor does, of a value that may show what p allows: Ok exactly where the collector has afterwards neither failed nor a visitor out, and then it has one forest more.
+-- What a visit by a root visitor does, of a value that may show what p allows. A failed collector answers its first cause and stays as it is. Where a visitor is out the answer is Open, and nothing changes. Else it is Ok exactly where the collector has afterwards neither failed nor a visitor out, and then it has one forest more; it is the cause where it has failed, and Open where a visitor is out.
 abbrev pub Runs : Showing → State → Result Unit Refusal → State → Type 0
 Runs p (Failed r) result t = (result ≡ Err r) × (t ≡ Failed r)
 Runs p (Going b) (Ok u) (Failed r) = ⊥
 Runs p (Going b) (Ok u) (Going c) = IsClosed c × (f : Forest) × p f × Takes b f × (c ≡ plus b f)
-Runs p (Going b) (Err e) (Failed r) = e ≡ r
-Runs p (Going b) (Err e) (Going c) = (e ≡ Open) × ¬ IsClosed c × (is_graph c ≡ is_graph b)
+Runs p (Going b) (Err e) (Failed r) = IsClosed b × (e ≡ r)
+Runs p (Going b) (Err e) (Going c) = (e ≡ Open) × ¬ IsClosed c × (¬ IsClosed b → c ≡ b) × (is_graph c ≡ is_graph b)
 
 -- ---- whole runs
 -- What a finished run gives: the graph, and the text of the warnings.
 pub record Profile : Type 0 where
   pub graph : Graph
   pub warnings : List ℕ
-
--- A visit by a root visitor of the new collector k is refused with e.
-abbrev pub RefusesRun : Showing → Kind → Refusal → Type 0
-RefusesRun p k e = (t : State) × Runs p (Going k) (Err e) t
 
 -- How a flame graph's collector ends: with its first cause; or Open where a visitor is out; or with what p says of its sums, where memory is not refused.
 abbrev pub Ends : {T : Type 0} → (Sums → T → Type 0) → State → Result T Refusal → Type 0
@@ -137,9 +133,3 @@ pub record IsSumOfTwo (p q : Showing) (g : Graph) : Type 0 where
   pub right_whole : IsWhole right
   pub is : g ≡ sum_of (graph (sums_of (all left))) (graph (sums_of (all right)))
   pub is_one : ReachApart left right → CanBeAdded (sums_of (all left)) (sums_of (all right)) → IsWhole (followed_by left right) × (g ≡ graph (sums_of (all (followed_by left right))))
-
--- Two collections, of what p allows and then of what q allows, are refused with e: the left one is; or it is not, and the right one is; or memory is refused.
-pub data RefusesTwo (p q : Showing) (e : Refusal) : Type 0 where
-  left_is_refused : RefusesRun p (OfGraph no_entries) e → RefusesTwo p q e
-  right_is_refused : (t : State) → Runs p (Going (OfGraph no_entries)) (Ok tt) t → RefusesRun q (OfGraph no_entries) e → RefusesTwo p q e
-  memory_is_refused : e ≡ Memory → RefusesTwo p q e

@@ -85,7 +85,7 @@ impl FlameGraph {
         }
     }
 
-    /// The sum of the sizes of all paths, the root's own among them.
+    /// The sum of the sizes of all paths in bytes, the root's own among them.
     pub fn total_size(&self) -> usize
         ensures total { result ≡ total self.now }
 
@@ -95,7 +95,7 @@ impl FlameGraph {
         self.node_size + self.children_size
     }
 
-    /// Adds to the size of the root. It takes no memory.
+    /// Adds bytes to the size of the root. It takes no memory.
     ///
     /// It answers `TooLarge` exactly where the total would pass `usize::MAX`, and then nothing is changed.
     pub fn add_self(&mut self, size: usize) -> Result<(), Refusal>
@@ -115,7 +115,7 @@ impl FlameGraph {
     ///
     /// It answers `TooLarge` exactly where the two totals together pass `usize::MAX`, and then nothing is changed. After
     /// `Memory` each path has its old size or the sum's, all old paths are still there, and there is none that the sum
-    /// has not.
+    /// has not. After a refusal `other` is dropped.
     pub fn add(&mut self, other: FlameGraph) -> Result<(), Refusal>
         ensures sum { OnOk result (self.new ≡ sum_of self.old other) }
         ensures too_large { IsErrOf result Refusal.TooLarge ↔ (2 ^ 64 ≤ total self.old + total other) }
@@ -149,6 +149,23 @@ impl FlameGraph {
             Child { key, graph: child },
         )?;
         Ok(())
+    }
+
+    // The same graph once more where it has the root alone, which takes no memory and no call.
+    #[inline(always)]
+    fn root_alone(&self) -> Option<FlameGraph>
+        ensures { IfSome result (λ root. root ≡ self.now) }
+    {
+        let node_size = self.node_size;
+        if self.children.is_empty() {
+            Some(FlameGraph {
+                children: Vec::new(*self.children.allocator()),
+                children_size: self.children_size,
+                node_size,
+            })
+        } else {
+            None
+        }
     }
 
     // `add`, where the totals are known to fit.
@@ -217,7 +234,10 @@ impl Clone for FlameGraph {
         for Child { key, graph } in &self.children {
             children.push(Child {
                 key: key.copy(),
-                graph: graph.clone()?,
+                graph: match graph.root_alone() {
+                    Some(root) => root,
+                    None => graph.clone()?,
+                },
             })?;
         }
         Ok(FlameGraph {
@@ -241,7 +261,8 @@ fn push_line(keys: &[&str], size: usize, text: &mut String) -> Result<(), AllocE
     Ok(())
 }
 
-/// Appends the keys to the text, with `;` between them.
+/// Appends the keys to the text, with `;` between them. It answers an error only for want of memory; the text may then have
+/// a part of them.
 pub fn push_path(keys: &[&str], text: &mut String) -> Result<(), AllocError>
     ensures { OnOk result (string_bytes text.new ≡ string_bytes text.old ++ joined (map (λ k. k.now) keys.now)) }
 {

@@ -64,7 +64,7 @@ impl Key {
         Key::new(T::name())
     }
 
-    /// The key of a text whose hash is known, so that it is not computed again.
+    /// The key of a text whose hash is known, so that it is not computed again. It asks that the hash is `hash_of(text)`.
     pub fn new_unchecked(hash: u64, text: &'static str) -> Key
         requires { hash ≡ fnv text.now }
         ensures { result ≡ text.now }

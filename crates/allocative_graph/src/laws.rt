@@ -18,7 +18,8 @@ pub fn merge_law()
     ensures { MergeLaw }
 {}
 
-/// Where no key has a `;` or a line feed, graphs with equal texts have equal sizes at each path but the root.
+/// Where no key has a `;` or a line feed, graphs with equal texts have equal sizes at each path but the root. It speaks of
+/// graphs whose totals fit a word, as those of each `FlameGraph` do.
 pub fn text_law()
     ensures { TextLaw }
 {}

@@ -67,6 +67,14 @@ impl From<u64> for Identity {
 /// Gives identities with one maker's word and rising numbers.
 ///
 /// Two makers with one word give the same identities.
+///
+/// ```
+/// let mut maker = IdMaker::new(1);
+/// let Some(id) = maker.fresh() else {
+///     return Err(Refusal::TooLarge);
+/// };
+/// let shared = IdRc::new(alloc, 7u32, id)?;
+/// ```
 #[derive(Drop, Debug)]
 pub struct IdMaker {
     maker: u64,

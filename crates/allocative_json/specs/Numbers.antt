@@ -10,8 +10,8 @@ is_whole_number (unsigned n) = true
 is_whole_number (negative z) = true
 is_whole_number (float x) = false
 
--- Whether each number of a document is an i64 or a u64.
 abbrev mutual
+  -- Whether each number of a document is an i64 or a u64.
   pub is_whole : Data → Bool
   is_whole null = true
   is_whole (boolean b) = true
@@ -20,10 +20,12 @@ abbrev mutual
   is_whole (array ds) = are_whole ds
   is_whole (object ms) = have_whole ms
 
+  -- Whether each number of the items of an array is one.
   pub are_whole : Items → Bool
   are_whole no_items = true
   are_whole (item d ds) = is_whole d && are_whole ds
 
+  -- Whether each number of the members of an object is one.
   pub have_whole : Members → Bool
   have_whole no_members = true
   have_whole (member k d ms) = is_whole d && have_whole ms
@@ -34,8 +36,8 @@ is_number (unsigned n) k = int_eq (pos n) k
 is_number (negative z) k = int_eq z k
 is_number (float x) k = false
 
--- Whether the whole number k stands in a document, at any depth.
 abbrev mutual
+  -- Whether the whole number k stands in a document, at any depth.
   pub has_number : Data → ℤ → Bool
   has_number null k = false
   has_number (boolean b) k = false
@@ -44,10 +46,12 @@ abbrev mutual
   has_number (array ds) k = items_have ds k
   has_number (object ms) k = members_have ms k
 
+  -- Whether it stands in one of the items of an array.
   pub items_have : Items → ℤ → Bool
   items_have no_items k = false
   items_have (item d ds) k = has_number d k || items_have ds k
 
+  -- Whether it stands in the value of one of the members of an object.
   pub members_have : Members → ℤ → Bool
   members_have no_members k = false
   members_have (member name d ms) k = has_number d k || members_have ms k

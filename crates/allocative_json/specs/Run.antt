@@ -19,12 +19,12 @@ pub record IsReportFor (texts : List Word) (known : Option (List ℕ)) (profile 
   pub right : IsRightReport input asked.index asked.exact profile warnings
 
 -- A right report stands behind what the two writers held, where that is known.
-pub record EndsWell (texts : List Word) (known out out' err err' : Option (List ℕ)) : Type 0 where
+pub record EndsWell (texts : List Word) (known output output' errors errors' : Option (List ℕ)) : Type 0 where
   pub profile : List ℕ
   pub warnings : List ℕ
   pub report : IsReportFor texts known profile warnings
-  pub written : Appends out out' profile
-  pub told : Appends err err' warnings
+  pub written : Appends output output' profile
+  pub told : Appends errors errors' warnings
 
 -- Some report is right for what is read.
 pub record IsReported (texts : List Word) (known : Option (List ℕ)) : Type 0 where
@@ -33,18 +33,18 @@ pub record IsReported (texts : List Word) (known : Option (List ℕ)) : Type 0 w
   pub report : IsReportFor texts known profile warnings
 
 -- The fault may end a run before anything is written: Words exactly where the words are not taken; else one of reading, or of a report of the bytes that were read.
-abbrev pub RefusesRun : List Word → Option (List ℕ) → Fault → Type 0
-RefusesRun texts known fault.Words = ¬ AreWords texts
-RefusesRun texts known Reading = AreWords texts
-RefusesRun texts known Writing = ⊥
-RefusesRun texts known Memory = AreWords texts
-RefusesRun texts known NotJson = AreWords texts × IfSome known (λ bytes. RefusesReport bytes NotJson)
-RefusesRun texts known NotWhole = AreWords texts × IfSome known (λ bytes. RefusesReport bytes NotWhole)
-RefusesRun texts known TooLarge = AreWords texts × IfSome known (λ bytes. RefusesReport bytes TooLarge)
-RefusesRun texts known Open = AreWords texts × IfSome known (λ bytes. RefusesReport bytes Open)
+abbrev pub MayEndRun : List Word → Option (List ℕ) → Fault → Type 0
+MayEndRun texts known fault.Words = ¬ AreWords texts
+MayEndRun texts known Reading = AreWords texts
+MayEndRun texts known Writing = ⊥
+MayEndRun texts known Memory = AreWords texts
+MayEndRun texts known NotJson = AreWords texts × IfSome known (λ bytes. RefusesReport bytes NotJson)
+MayEndRun texts known NotWhole = AreWords texts × IfSome known (λ bytes. RefusesReport bytes NotWhole)
+MayEndRun texts known TooLarge = AreWords texts × IfSome known (λ bytes. RefusesReport bytes TooLarge)
+MayEndRun texts known Open = AreWords texts × IfSome known (λ bytes. RefusesReport bytes Open)
 
 -- The status is that of a fault that may end the run before anything is written.
 pub record EndsIn (texts : List Word) (known : Option (List ℕ)) (status : ℕ) : Type 0 where
   pub cause : Fault
   pub is_status : status ≡ status_of cause
-  pub refuses : RefusesRun texts known cause
+  pub refuses : MayEndRun texts known cause

@@ -49,8 +49,9 @@ fn profile_of(
 /// warnings. With `exact` the profile is without the lines whose last key is `unused_capacity`. The roots are visited by
 /// their own `visit`.
 ///
-/// `Fault::NotJson` and `Fault::NotWhole` as from `read_roots`, `Fault::TooLarge` where the declared sizes pass their bound,
-/// and else `Fault::Memory`.
+/// `Fault::NotJson` and `Fault::NotWhole` as from `read_roots`. `Fault::TooLarge` and `Fault::Open` only for a document whose
+/// numbers are whole: the first where the declared sizes pass their bound, the second by no implementation that is here. Else
+/// `Fault::Memory`.
 pub fn profile_json(alloc: Global, input: &[u8], index: bool, exact: bool) -> Result<Report, Fault>
     ensures ok { IfOk result (λ made. IsRightReport input.now index exact (string_bytes made.profile) (string_bytes made.warnings)) }
     ensures err { IfErr result (RefusesReport input.now) }

@@ -2,7 +2,7 @@
 ghost use Rattle.std.specs.Prelude.{◌≡◌, ◌≢◌, ◌⊎◌, OnOk, OnErr, IfOk, IfErr, IfSome, IsOkAnd, string_bytes};
 ghost use Rattle.std.specs.Io.KnownBytes.{Appends};
 ghost use Rattle.allocative_json.specs.Fault.{status_of};
-ghost use Rattle.allocative_json.specs.Run.{IsReportFor, IsReported, EndsWell, EndsIn, RefusesRun};
+ghost use Rattle.allocative_json.specs.Run.{IsReportFor, IsReported, EndsWell, EndsIn, MayEndRun};
 ghost use Rattle.allocative_json.specs.Words.{words_of};
 
 use crate::fault::Fault;
@@ -68,7 +68,7 @@ pub fn tell<E: Write>(errors: &mut E, fault: Fault) -> u8
 // Looks at the words, reads the input, and makes the report of it.
 fn make_report<R: Read>(alloc: Global, words: &[String], input: &mut R) -> Result<Report, Fault>
     ensures ok { IfOk result (λ made. IsReportFor (words_of words.now) (R.remaining input.old) (string_bytes made.profile) (string_bytes made.warnings)) }
-    ensures err { IfErr result (RefusesRun (words_of words.now) (R.remaining input.old)) }
+    ensures err { IfErr result (MayEndRun (words_of words.now) (R.remaining input.old)) }
 {
     let asked = read_words(words)?;
     let bytes = read_input(alloc, input)?;
@@ -93,8 +93,9 @@ pub fn finish<W: Write, E: Write>(made: Result<Report, Fault>, output: &mut W, e
 
 /// The whole program: its answer is the status.
 ///
-/// With status 0 the profile stands on the output and the warnings on the errors. Else the fault's line goes to the errors
-/// and, but for status 7, nothing goes to the output. With the word `registry` it answers as without it.
+/// With status 0 the profile stands on the output and the warnings on the errors; both are made before anything is written, and
+/// the profile is written first. Else the fault's line goes to the errors and, but for status 7, nothing goes to the output; the
+/// status is the fault's also where that line cannot be written. With the word `registry` it answers as without it.
 pub fn run_json<R: Read, W: Write, E: Write>(
     alloc: Global,
     words: &[String],

@@ -1,5 +1,5 @@
 // A builder that was refused memory has failed with it for good.
-use allocative::{FlameGraphBuilder, Identity, Key, Refusal, Visitor};
+use allocative::{FlameGraphBuilder, FlameGraphOutput, Identity, Key, Refusal, Visitor};
 use std::alloc::Global;
 use std::process::Abort;
 
@@ -11,8 +11,13 @@ fn has_failed(rt: &impl Abort, mut builder: FlameGraphBuilder, refusal: Refusal)
     refusal
 }
 
-// The text of a builder and its warnings; on a refusal the builder is spent.
-fn finished(rt: &impl Abort, builder: FlameGraphBuilder) -> Result<(String, String), Refusal> {
+// A builder ends with this text and these warnings; on a refusal it is spent, and an output that was made is unchanged.
+fn ends_with(
+    rt: &impl Abort,
+    builder: FlameGraphBuilder,
+    text: &str,
+    warnings: &str,
+) -> Result<(), Refusal> {
     let output = match builder.finish() {
         Ok(output) => output,
         Err(refusal) => {
@@ -20,22 +25,24 @@ fn finished(rt: &impl Abort, builder: FlameGraphBuilder) -> Result<(String, Stri
             return Err(refusal);
         }
     };
-    let warnings = match output.warnings() {
-        Ok(warnings) => warnings,
-        Err(refusal) => {
-            assert_eq!(rt; refusal, Refusal::Memory);
-            assert!(rt; output.warnings().is_ok());
-            return Err(refusal);
-        }
-    };
-    match output.flamegraph().write() {
-        Ok(text) => Ok((text, warnings)),
-        Err(refusal) => {
-            assert_eq!(rt; refusal, Refusal::Memory);
-            assert!(rt; output.flamegraph().write().is_ok());
-            Err(refusal)
-        }
+    if let Err(refusal) = told(rt, &output, text, warnings) {
+        assert_eq!(rt; refusal, Refusal::Memory);
+        told(rt, &output, text, warnings)?;
+        return Err(refusal);
     }
+    Ok(())
+}
+
+// The output gives this text and these warnings.
+fn told(
+    rt: &impl Abort,
+    output: &FlameGraphOutput,
+    text: &str,
+    warnings: &str,
+) -> Result<(), Refusal> {
+    assert_eq!(rt; output.warnings()?.as_str(), warnings);
+    assert_eq!(rt; output.flamegraph().write()?.as_str(), text);
+    Ok(())
 }
 
 fn new_builder(rt: &impl Abort, alloc: Global) -> Result<FlameGraphBuilder, Refusal> {
@@ -68,10 +75,7 @@ fn entries_are_refused(rt: HostRuntime) -> Result<(), Refusal> {
     if let Err(refusal) = entered {
         return Err(has_failed(&rt, builder, refusal));
     }
-    let (text, warnings) = finished(&rt, builder)?;
-    assert_eq!(rt; text.as_str(), "T;ptr 8\nT;ptr;u8 3\n");
-    assert_eq!(rt; warnings.as_str(), "");
-    Ok(())
+    ends_with(&rt, builder, "T;ptr 8\nT;ptr;u8 3\n", "")
 }
 
 // `Struct 10 {a 3, shared p 6 #1 {Shared 13}}`.
@@ -95,13 +99,12 @@ fn shared_entries_are_refused(rt: HostRuntime) -> Result<(), Refusal> {
             return Err(has_failed(&rt, builder, refusal));
         }
     }
-    let (text, warnings) = finished(&rt, builder)?;
-    assert_eq!(rt;
-        text.as_str(),
-        "Shared 13\nStruct 2\nStruct;a 6\nStruct;p 12\n"
-    );
-    assert_eq!(rt; warnings.as_str(), "");
-    Ok(())
+    ends_with(
+        &rt,
+        builder,
+        "Shared 13\nStruct 2\nStruct;a 6\nStruct;p 12\n",
+        "",
+    )
 }
 
 #[test]
@@ -113,17 +116,33 @@ fn warnings_are_refused(rt: HostRuntime) -> Result<(), Refusal> {
     if let Err(refusal) = entered {
         return Err(has_failed(&rt, builder, refusal));
     }
-    let (text, warnings) = finished(&rt, builder)?;
-    assert_eq!(rt; text.as_str(), "a;b 13\n");
-    assert_eq!(rt;
-        warnings.as_str(),
-        "Incorrect size declaration for node `a`, size of self: 10, size of inline children: 13\n"
-    );
-    Ok(())
+    ends_with(
+        &rt,
+        builder,
+        "a;b 13\n",
+        "Incorrect size declaration for node `a`, size of self: 10, size of inline children: 13\n",
+    )
 }
 
 // `a 10 {b 13}`.
 fn short_entry(root: &mut Visitor<'_>) -> Result<(), Refusal> {
     let mut outer = root.enter(Key::new("a"), 10)?;
     outer.visit_simple(Key::new("b"), 13)
+}
+
+#[test]
+fn a_root_is_refused(rt: HostRuntime) -> Result<(), Refusal> {
+    let mut builder = new_builder(&rt, rt.alloc())?;
+    if let Err(refusal) = builder.visit_root(&Some(7u32)) {
+        assert_eq!(rt; builder.visit_root(&1u8), Err(Refusal::Memory));
+        return Err(has_failed(&rt, builder, refusal));
+    }
+    match builder.finish_and_write_flame_graph() {
+        Ok(text) => assert_eq!(rt; text.as_str(), "Option 4\nOption;Some;u32 4\n"),
+        Err(refusal) => {
+            assert_eq!(rt; refusal, Refusal::Memory);
+            return Err(refusal);
+        }
+    }
+    Ok(())
 }

@@ -1,5 +1,13 @@
 // Registries and whole runs after a refused growth.
-use allocative::{IdArc, IdRc, Identity, Refusal, Registry, profile_in_two, profile_roots};
+#![tactic(auto, using(allocative::proofs::Showing::showing))]
+
+ghost use Rattle.std.specs.Prelude.{codes, Some};
+ghost use Rattle.allocative.specs.Shows.{Inside, Field, Nothing};
+
+use allocative::{
+    Allocative, FlameGraphBuilder, IdArc, IdRc, Identity, Key, Refusal, Registry, Visitor,
+    profile_in_two, profile_roots,
+};
 use std::collections::BTreeMap;
 use std::test::Fail;
 
@@ -28,6 +36,43 @@ fn registering_is_refused(rt: HostRuntime) -> Result<(), Fail> {
             return Err(Fail::from(refusal));
         }
     }
+    Ok(())
+}
+
+// Shows `TestGlobalRoot 4 {x 4 {u32 4}}`.
+#[derive(Drop)]
+struct TestGlobalRoot {
+    x: u32,
+}
+
+impl Allocative for TestGlobalRoot {
+    ghost may_show = { λ _. Inside (codes "TestGlobalRoot") 4 (Field (codes "x") (Some 4) (Field (codes "u32") (Some 4) Nothing)) };
+
+    fn visit(&self, visitor: &mut Visitor<'_>) -> Result<(), Refusal> {
+        let mut inner = visitor.collector.enter(Key::new("TestGlobalRoot"), 4)?;
+        inner.visit_field(Key::new("x"), &self.x)?;
+        inner.exit();
+        Ok(())
+    }
+}
+
+#[test]
+fn global_roots_are_refused(rt: HostRuntime) -> Result<(), Fail> {
+    let alloc = rt.alloc();
+    let mut registry = Registry::new(alloc);
+    let root = Box::new(alloc, TestGlobalRoot { x: 1 })?;
+    if registry.register_root(root).is_err() {
+        return Err(Fail::from(Refusal::Memory));
+    }
+    let mut builder = FlameGraphBuilder::new(alloc)?;
+    if let Err(refusal) = builder.visit_global_roots(&registry) {
+        assert_eq!(rt; refusal, Refusal::Memory);
+        assert_eq!(rt; builder.visit_root(&1u8), Err(Refusal::Memory));
+        assert!(rt; matches!(builder.finish(), Err(Refusal::Memory)));
+        return Err(Fail::from(refusal));
+    }
+    let text = builder.finish_and_write_flame_graph()?;
+    assert_eq!(rt; text.as_str(), "TestGlobalRoot;x;u32 4\n");
     Ok(())
 }
 

@@ -1,11 +1,14 @@
-// Implementations that hide refusals, refuse by themselves, or forget visitors.
+// Implementations that hide refusals, refuse by themselves, forget visitors, or stop in the middle.
 #![tactic(auto, using(allocative::proofs::Showing::showing))]
 
-ghost use Rattle.std.specs.Prelude.{codes, ◌^◌, ◌-◌};
-ghost use Rattle.allocative.specs.Shows.{Inside, Nothing};
+ghost use Rattle.std.specs.Prelude.{codes, ◌≡◌, ◌^◌, ◌-◌};
+ghost use Rattle.allocative.specs.Shows.{Inside, InsideUnique, Field, Both, SharedWith, Nothing};
+ghost use Rattle.allocative.specs.Visits.{Shows};
 
+use crate::huge::Huge;
 use allocative::{
-    Allocative, FlameGraphBuilder, Key, Refusal, Visitor, size_of_unique_allocated_data,
+    Allocative, Described, FlameGraphBuilder, Identity, Key, Refusal, Visitor,
+    size_of_unique_allocated_data,
 };
 use std::alloc::Global;
 use std::mem::ManuallyDrop;
@@ -25,6 +28,21 @@ impl Allocative for Hides {
     }
 }
 
+// The same at an entry without a size, which is too large in each kind of collector.
+#[derive(Drop)]
+struct HidesUnsized;
+
+impl Allocative for HidesUnsized {
+    ghost may_show = { λ _. Field ⟦<Option<Huge> as Described>⟧.name ⟦<Option<Huge> as Described>⟧.size Nothing };
+
+    fn visit(&self, visitor: &mut Visitor<'_>) -> Result<(), Refusal> {
+        if visitor.visit_simple_sized::<Option<Huge>>().is_err() {
+            return Ok(());
+        }
+        Ok(())
+    }
+}
+
 // Refuses by itself and answers Err.
 #[derive(Drop)]
 struct Refuses(Refusal);
@@ -34,6 +52,19 @@ impl Allocative for Refuses {
 
     fn visit(&self, visitor: &mut Visitor<'_>) -> Result<(), Refusal> {
         Err(visitor.refuse(self.0))
+    }
+}
+
+// Refuses by itself and answers Ok.
+#[derive(Drop)]
+struct RefusesInSilence;
+
+impl Allocative for RefusesInSilence {
+    ghost may_show = { λ _ _. ⊥ };
+
+    fn visit(&self, visitor: &mut Visitor<'_>) -> Result<(), Refusal> {
+        let _told = visitor.refuse(Refusal::Open);
+        Ok(())
     }
 }
 
@@ -64,6 +95,125 @@ impl Allocative for Forgets {
     }
 }
 
+// Forgets the visitor of a shared content and answers Ok.
+#[derive(Drop)]
+struct ForgetsContent;
+
+impl Allocative for ForgetsContent {
+    ghost may_show = { λ _. SharedWith (codes "p") 8 (record { maker = 0; number = 1 }) Nothing };
+
+    fn visit(&self, visitor: &mut Visitor<'_>) -> Result<(), Refusal> {
+        if let Some(shown) = visitor
+            .collector
+            .point_to(Key::new("p"), 8, Identity::from(1))?
+        {
+            let content = visitor.collector.content(shown);
+            let _kept = ManuallyDrop::new(content);
+            return Ok(());
+        }
+        Ok(())
+    }
+}
+
+// Forgets a nested visitor, then meets TooLarge.
+#[derive(Drop)]
+struct ForgetsFirst;
+
+impl ForgetsFirst {
+    fn forget_one(&self, visitor: &mut Visitor<'_>) -> Result<(), Refusal>
+        ensures same_reference { visitor.new.collector.ghost_name ≡ visitor.old.collector.ghost_name }
+        ensures same_outer { visitor.new.outer_is_unique ≡ visitor.old.outer_is_unique }
+        ensures shown { Shows Nothing visitor.old.collector.now result visitor.new.collector.now }
+    {
+        let inner = visitor.collector.enter(Key::new("a"), 1)?;
+        let _kept = ManuallyDrop::new(inner);
+        Ok(())
+    }
+}
+
+impl Allocative for ForgetsFirst {
+    ghost may_show = { λ _. Both Nothing (Field ⟦<Option<Huge> as Described>⟧.name ⟦<Option<Huge> as Described>⟧.size Nothing) };
+
+    fn visit(&self, visitor: &mut Visitor<'_>) -> Result<(), Refusal> {
+        self.forget_one(visitor)?;
+        visitor.visit_simple_sized::<Option<Huge>>()
+    }
+}
+
+// `unique p 0 {x room, b 1}`: where `b` does not fit, it stops with the visitor of `p` held.
+#[derive(Drop)]
+struct Stops {
+    room: usize,
+}
+
+impl Stops {
+    fn visit_parts(&self, visitor: &mut Visitor<'_>) -> Result<(), Refusal>
+        ensures same_reference { visitor.new.collector.ghost_name ≡ visitor.old.collector.ghost_name }
+        ensures same_outer { visitor.new.outer_is_unique ≡ visitor.old.outer_is_unique }
+        ensures shown { Shows (Both (Inside (codes "x") self.now.room Nothing) (Inside (codes "b") 1 Nothing)) visitor.old.collector.now result visitor.new.collector.now }
+    {
+        visitor.visit_simple(Key::new("x"), self.room)?;
+        let inner = visitor.collector.enter(Key::new("b"), 1)?;
+        inner.exit();
+        Ok(())
+    }
+}
+
+impl Allocative for Stops {
+    ghost may_show = { λ s. InsideUnique (codes "p") 0 (Both (Inside (codes "x") s.room Nothing) (Inside (codes "b") 1 Nothing)) };
+
+    fn visit(&self, visitor: &mut Visitor<'_>) -> Result<(), Refusal> {
+        let mut outer = visitor.collector.enter_unique(Key::new("p"), 0)?;
+        self.visit_parts(&mut outer)?;
+        outer.exit();
+        Ok(())
+    }
+}
+
+// The same inside an entry of its own: two visitors are held.
+#[derive(Drop)]
+struct StopsInside {
+    part: Stops,
+}
+
+impl Allocative for StopsInside {
+    ghost may_show = { λ s. Inside (codes "T") 0 (⟦<Stops as Allocative>⟧.may_show s.part) };
+
+    fn visit(&self, visitor: &mut Visitor<'_>) -> Result<(), Refusal> {
+        let mut inner = visitor.collector.enter(Key::new("T"), 0)?;
+        self.part.visit(&mut inner)?;
+        inner.exit();
+        Ok(())
+    }
+}
+
+// A closure refuses by its answer alone.
+#[derive(Drop)]
+struct ClosureRefuses;
+
+impl Allocative for ClosureRefuses {
+    ghost may_show = { λ _ _. ⊥ };
+
+    fn visit(&self, visitor: &mut Visitor<'_>) -> Result<(), Refusal> {
+        visitor.visit_field_with(Key::new("f"), 4, |_inner| Err(Refusal::Open))
+    }
+}
+
+// A closure hides TooLarge, and answers another refusal.
+#[derive(Drop)]
+struct ClosureHides;
+
+impl Allocative for ClosureHides {
+    ghost may_show = { λ _ _. ⊥ };
+
+    fn visit(&self, visitor: &mut Visitor<'_>) -> Result<(), Refusal> {
+        visitor.visit_field_with(Key::new("f"), 4, |inner| {
+            let _hidden = inner.visit_simple_sized::<Option<Huge>>();
+            Err(Refusal::Memory)
+        })
+    }
+}
+
 // What `visit_root` and then `finish` answer.
 fn answers(
     alloc: Global,
@@ -74,29 +224,87 @@ fn answers(
     Ok((visited, builder.finish().err()))
 }
 
+const MOST: usize = isize::MAX as usize;
+
 #[test]
-fn bad_implementations_fail_their_builder(rt: HostRuntime) -> Result<(), Refusal> {
+fn hidden_refusals_fail_their_builder(rt: HostRuntime) -> Result<(), Refusal> {
     let alloc = rt.alloc();
     let too_large = (Err(Refusal::TooLarge), Some(Refusal::TooLarge));
     assert!(rt; answers(alloc, &Hides)? == too_large);
-    assert!(rt; answers(alloc, &RefusesTwice)? == too_large);
-    let memory = (Err(Refusal::Memory), Some(Refusal::Memory));
-    assert!(rt; answers(alloc, &Refuses(Refusal::Memory))? == memory);
-    let open = (Err(Refusal::Open), Some(Refusal::Open));
-    assert!(rt; answers(alloc, &Refuses(Refusal::Open))? == open);
-    assert!(rt; answers(alloc, &Forgets)? == open);
+    assert!(rt; answers(alloc, &HidesUnsized)? == too_large);
+    assert!(rt; answers(alloc, &ClosureHides)? == too_large);
+    assert!(rt; answers(alloc, &Stops { room: MOST })? == too_large);
+    let part = Stops { room: MOST };
+    assert!(rt; answers(alloc, &StopsInside { part })? == too_large);
     Ok(())
 }
 
 #[test]
+fn refusals_by_themselves_fail_their_builder(rt: HostRuntime) -> Result<(), Refusal> {
+    let alloc = rt.alloc();
+    let too_large = (Err(Refusal::TooLarge), Some(Refusal::TooLarge));
+    assert!(rt; answers(alloc, &RefusesTwice)? == too_large);
+    let memory = (Err(Refusal::Memory), Some(Refusal::Memory));
+    assert!(rt; answers(alloc, &Refuses(Refusal::Memory))? == memory);
+    let open = (Err(Refusal::Open), Some(Refusal::Open));
+    assert!(rt; answers(alloc, &RefusesInSilence)? == open);
+    assert!(rt; answers(alloc, &ClosureRefuses)? == open);
+    Ok(())
+}
+
+#[test]
+fn the_first_refusal_is_answered_for_good(rt: HostRuntime) -> Result<(), Refusal> {
+    let mut builder = FlameGraphBuilder::new(rt.alloc())?;
+    let mut root = builder.root_visitor()?;
+    assert_eq!(rt; root.refuse(Refusal::TooLarge), Refusal::TooLarge);
+    assert_eq!(rt; root.refuse(Refusal::Memory), Refusal::TooLarge);
+    root.exit();
+    assert!(rt; matches!(builder.finish(), Err(Refusal::TooLarge)));
+    Ok(())
+}
+
+#[test]
+fn a_refusal_of_a_closure_fails_the_builder(rt: HostRuntime) -> Result<(), Refusal> {
+    let mut builder = FlameGraphBuilder::new(rt.alloc())?;
+    let mut root = builder.root_visitor()?;
+    let told = root.visit_field_with(Key::new("f"), 4, |_inner| Err(Refusal::Open));
+    assert_eq!(rt; told, Err(Refusal::Open));
+    assert_eq!(rt; root.visit_simple(Key::new("a"), 1), Err(Refusal::Open));
+    root.exit();
+    assert!(rt; matches!(builder.finish(), Err(Refusal::Open)));
+    Ok(())
+}
+
+#[test]
+fn forgotten_visitors_leave_their_builder_open(rt: HostRuntime) -> Result<(), Refusal> {
+    let alloc = rt.alloc();
+    let open = (Err(Refusal::Open), Some(Refusal::Open));
+    assert!(rt; answers(alloc, &Forgets)? == open);
+    assert!(rt; answers(alloc, &ForgetsContent)? == open);
+    let too_large = (Err(Refusal::TooLarge), Some(Refusal::TooLarge));
+    assert!(rt; answers(alloc, &ForgetsFirst)? == too_large);
+    Ok(())
+}
+
+// The refusal of a root, of which nothing is held.
+fn refusal_of(root: &dyn Allocative) -> Option<Refusal> {
+    size_of_unique_allocated_data(root).err()
+}
+
+#[test]
 fn bad_implementations_hold_nothing(rt: HostRuntime) {
-    assert_eq!(rt;
-        size_of_unique_allocated_data(&RefusesTwice),
-        Err(Refusal::TooLarge)
-    );
-    assert_eq!(rt;
-        size_of_unique_allocated_data(&Refuses(Refusal::Memory)),
-        Err(Refusal::Memory)
-    );
-    assert_eq!(rt; size_of_unique_allocated_data(&Forgets), Err(Refusal::Open));
+    let too_large = Some(Refusal::TooLarge);
+    assert_eq!(rt; refusal_of(&HidesUnsized), too_large);
+    assert_eq!(rt; refusal_of(&RefusesTwice), too_large);
+    assert_eq!(rt; refusal_of(&ClosureHides), too_large);
+    assert_eq!(rt; refusal_of(&ForgetsFirst), too_large);
+    assert_eq!(rt; refusal_of(&Stops { room: usize::MAX }), too_large);
+    let part = Stops { room: usize::MAX };
+    assert_eq!(rt; refusal_of(&StopsInside { part }), too_large);
+    let open = Some(Refusal::Open);
+    assert_eq!(rt; refusal_of(&RefusesInSilence), open);
+    assert_eq!(rt; refusal_of(&ClosureRefuses), open);
+    assert_eq!(rt; refusal_of(&Forgets), open);
+    let memory = Some(Refusal::Memory);
+    assert_eq!(rt; refusal_of(&Refuses(Refusal::Memory)), memory);
 }

@@ -5,6 +5,7 @@ ghost use Rattle.std.specs.Prelude.{codes, Some, true};
 ghost use Rattle.std.proofs.Common.{lit≤};
 ghost use Rattle.allocative.specs.Shows.{Inside, Field, Both};
 
+use crate::entries::assert_text;
 use allocative::{
     Allocative, Described, FlameGraphBuilder, Key, Refusal, Visitor, size_of_unique,
     size_of_unique_allocated_data,
@@ -129,9 +130,9 @@ fn bytes_of_a_boxed_slice(rt: HostRuntime) -> Result<(), Refusal> {
     outer.visit_field(Key::new("b"), &1u8)?;
     outer.exit();
     root.exit();
-    assert_eq!(rt;
-        builder.finish_and_write_flame_graph()?.as_str(),
-        "TestData 7\nTestData;b;u8 1\nTestData;data;Box;ptr 16\nTestData;data;Box;ptr;u8;data;u8 100\n"
-    );
-    Ok(())
+    assert_text(
+        &rt,
+        builder,
+        "TestData 7\nTestData;b;u8 1\nTestData;data;Box;ptr 16\nTestData;data;Box;ptr;u8;data;u8 100\n",
+    )
 }

@@ -2,11 +2,24 @@
 use allocative::{FlameGraphBuilder, FlameGraphOutput, Key, Refusal, Visitor};
 use std::alloc::Global;
 use std::mem;
+use std::process::Abort;
 
 // What a builder has collected: the text of its graph, and its warnings.
 pub(crate) fn texts(builder: FlameGraphBuilder) -> Result<(String, String), Refusal> {
     let output = builder.finish()?;
     Ok((output.flamegraph().write()?, output.warnings()?))
+}
+
+// Asserts that the text of a builder is this one, and that it gives no warning.
+pub(crate) fn assert_text(
+    rt: &impl Abort,
+    builder: FlameGraphBuilder,
+    want: &str,
+) -> Result<(), Refusal> {
+    let (text, warnings) = texts(builder)?;
+    assert_eq!(rt; text.as_str(), want);
+    assert_eq!(rt; warnings.as_str(), "", "at {want}");
+    Ok(())
 }
 
 // `key size {x inner}`.
@@ -125,6 +138,16 @@ fn warnings_stand_in_the_order_of_paths(rt: HostRuntime) -> Result<(), Refusal> 
          Incorrect size declaration for node `b;c`, size of self: 2, size of inline children: 5\n"
     );
     Ok(())
+}
+
+#[test]
+fn keys_and_not_joined_texts_decide(rt: HostRuntime) -> Result<(), Refusal> {
+    let mut builder = FlameGraphBuilder::new(rt.alloc())?;
+    let mut root = builder.root_visitor()?;
+    enter_with(&mut root, "a", 3, "x", 1)?;
+    root.visit_simple(Key::new("a!"), 2)?;
+    root.exit();
+    assert_text(&rt, builder, "a 2\na;x 1\na! 2\n")
 }
 
 #[test]

@@ -8,6 +8,14 @@ mod boxes;
 #[cfg(test)]
 mod entries;
 #[cfg(test)]
+mod held;
+#[cfg(test)]
+mod huge;
+#[cfg(test)]
+mod own_types;
+#[cfg(test)]
+mod room;
+#[cfg(test)]
 mod roots;
 #[cfg(test)]
 mod session;

@@ -4,7 +4,8 @@
 ghost use Rattle.std.specs.Prelude.{codes};
 ghost use Rattle.allocative.specs.Shows.{Inside, Nothing};
 
-use allocative::{Allocative, FlameGraphBuilder, Key, Refusal, Registry, Visitor, profile_roots};
+use allocative::{Allocative, FlameGraphBuilder, Key, Refusal, Visitor};
+use std::alloc::Global;
 
 // Shows one inline entry.
 #[derive(Drop)]
@@ -45,21 +46,36 @@ fn a_root_that_shows_nothing(rt: HostRuntime) -> Result<(), Refusal> {
     let output = builder.finish()?;
     assert_eq!(rt; output.flamegraph().write()?.as_str(), "");
     assert_eq!(rt; output.flamegraph().total_size(), 0);
+    assert_eq!(rt; output.warnings()?.as_str(), "");
+    Ok(())
+}
+
+// The text of the roots `z 1` down to `a 1`, so many times over.
+fn letters_text(alloc: Global, times: usize) -> Result<String, Refusal> {
+    let mut builder = FlameGraphBuilder::new(alloc)?;
+    for _ in 0..times {
+        visit_letters(&mut builder)?;
+    }
+    builder.finish_and_write_flame_graph()
+}
+
+fn visit_letters(builder: &mut FlameGraphBuilder) -> Result<(), Refusal> {
+    for letter in LETTERS {
+        let key = Key::new(letter);
+        builder.visit_root(&Leaf { key, size: 1 })?;
+    }
     Ok(())
 }
 
 #[test]
 fn roots_in_falling_order_print_in_rising_order(rt: HostRuntime) -> Result<(), Refusal> {
-    let mut builder = FlameGraphBuilder::new(rt.alloc())?;
-    for _ in 0..2 {
-        for letter in LETTERS {
-            let key = Key::new(letter);
-            builder.visit_root(&Leaf { key, size: 1 })?;
-        }
-    }
-    let text = builder.finish_and_write_flame_graph()?;
+    let alloc = rt.alloc();
     assert_eq!(rt;
-        text.as_str(),
+        letters_text(alloc, 1)?.as_str(),
+        "a 1\nb 1\nc 1\nd 1\ne 1\nf 1\ng 1\nh 1\ni 1\nj 1\nk 1\nl 1\nm 1\nn 1\no 1\np 1\nq 1\nr 1\ns 1\nt 1\nu 1\nv 1\nw 1\nx 1\ny 1\nz 1\n"
+    );
+    assert_eq!(rt;
+        letters_text(alloc, 2)?.as_str(),
         "a 2\nb 2\nc 2\nd 2\ne 2\nf 2\ng 2\nh 2\ni 2\nj 2\nk 2\nl 2\nm 2\nn 2\no 2\np 2\nq 2\nr 2\ns 2\nt 2\nu 2\nv 2\nw 2\nx 2\ny 2\nz 2\n"
     );
     Ok(())

@@ -1,5 +1,5 @@
 // Shared entries made by hand: contents are shown once, and start at the root.
-use crate::entries::texts;
+use crate::entries::assert_text;
 use allocative::{FlameGraphBuilder, Identity, Key, Refusal, Visitor};
 use std::alloc::Global;
 
@@ -29,13 +29,11 @@ fn a_second_pointer_counts_and_shows_nothing(rt: HostRuntime) -> Result<(), Refu
         outer.exit();
         root.exit();
     }
-    let (text, warnings) = texts(builder)?;
-    assert_eq!(rt;
-        text.as_str(),
-        "Shared 13\nStruct 2\nStruct;a 6\nStruct;p 12\n"
-    );
-    assert_eq!(rt; warnings.as_str(), "");
-    Ok(())
+    assert_text(
+        &rt,
+        builder,
+        "Shared 13\nStruct 2\nStruct;a 6\nStruct;p 12\n",
+    )
 }
 
 #[test]
@@ -52,8 +50,7 @@ fn a_value_that_points_to_itself_is_shown_once(rt: HostRuntime) -> Result<(), Re
     );
     content.exit();
     root.exit();
-    assert_eq!(rt; texts(builder)?.0.as_str(), "p 16\n");
-    Ok(())
+    assert_text(&rt, builder, "p 16\n")
 }
 
 // A root `A 8 {shared ptr 8 ..}`.
@@ -74,12 +71,11 @@ fn the_content_shown_first_counts(rt: HostRuntime) -> Result<(), Refusal> {
     let mut builder = FlameGraphBuilder::new(rt.alloc())?;
     pointing_root(&mut builder, one, "D", 10)?;
     pointing_root(&mut builder, one, "E", 20)?;
-    assert_eq!(rt; texts(builder)?.0.as_str(), "A;ptr 16\nD 10\n");
+    assert_text(&rt, builder, "A;ptr 16\nD 10\n")?;
     let mut builder = FlameGraphBuilder::new(rt.alloc())?;
     pointing_root(&mut builder, one, "E", 20)?;
     pointing_root(&mut builder, one, "D", 10)?;
-    assert_eq!(rt; texts(builder)?.0.as_str(), "A;ptr 16\nE 20\n");
-    Ok(())
+    assert_text(&rt, builder, "A;ptr 16\nE 20\n")
 }
 
 #[test]
@@ -89,12 +85,11 @@ fn makers_tell_identities_apart(rt: HostRuntime) -> Result<(), Refusal> {
     let mut builder = FlameGraphBuilder::new(rt.alloc())?;
     pointing_root(&mut builder, here, "D", 10)?;
     pointing_root(&mut builder, there, "E", 20)?;
-    assert_eq!(rt; texts(builder)?.0.as_str(), "A;ptr 16\nD 10\nE 20\n");
+    assert_text(&rt, builder, "A;ptr 16\nD 10\nE 20\n")?;
     let mut builder = FlameGraphBuilder::new(rt.alloc())?;
     pointing_root(&mut builder, there, "E", 20)?;
     pointing_root(&mut builder, here, "D", 10)?;
-    assert_eq!(rt; texts(builder)?.0.as_str(), "A;ptr 16\nD 10\nE 20\n");
-    Ok(())
+    assert_text(&rt, builder, "A;ptr 16\nD 10\nE 20\n")
 }
 
 // `shared q 8 #2 {C 5}`.
@@ -126,12 +121,11 @@ fn contents_inside_contents_in_both_orders(rt: HostRuntime) -> Result<(), Refusa
     let mut builder = FlameGraphBuilder::new(rt.alloc())?;
     deep_root(&mut builder)?;
     flat_root(&mut builder)?;
-    assert_eq!(rt; texts(builder)?.0.as_str(), text);
+    assert_text(&rt, builder, text)?;
     let mut builder = FlameGraphBuilder::new(rt.alloc())?;
     flat_root(&mut builder)?;
     deep_root(&mut builder)?;
-    assert_eq!(rt; texts(builder)?.0.as_str(), text);
-    Ok(())
+    assert_text(&rt, builder, text)
 }
 
 #[test]
@@ -168,8 +162,7 @@ fn a_ring_of_a_hundred_is_shown_once(rt: HostRuntime) -> Result<(), Refusal> {
     let mut root = builder.root_visitor()?;
     point_round(&mut root, 1000)?;
     root.exit();
-    assert_eq!(rt; texts(builder)?.0.as_str(), "p 808\n");
-    Ok(())
+    assert_text(&rt, builder, "p 808\n")
 }
 
 // A pointer `p` to 1 or `q` to 2, whose content is the other one.
@@ -184,27 +177,20 @@ fn point_across(visitor: &mut Visitor<'_>, is_first: bool, left: u64) -> Result<
 }
 
 // Roots that point to 1 or to 2, in that order.
-fn across_text(alloc: Global, roots: &[bool]) -> Result<String, Refusal> {
+fn across(alloc: Global, roots: &[bool]) -> Result<FlameGraphBuilder, Refusal> {
     let mut builder = FlameGraphBuilder::new(alloc)?;
     for &is_first in roots {
         let mut root = builder.root_visitor()?;
         point_across(&mut root, is_first, 10)?;
         root.exit();
     }
-    builder.finish_and_write_flame_graph()
+    Ok(builder)
 }
 
 #[test]
 fn contents_that_point_to_each_other_in_both_orders(rt: HostRuntime) -> Result<(), Refusal> {
     let alloc = rt.alloc();
-    assert_eq!(rt; across_text(alloc, &[true])?.as_str(), "p 16\nq 8\n");
-    assert_eq!(rt;
-        across_text(alloc, &[true, false])?.as_str(),
-        "p 16\nq 16\n"
-    );
-    assert_eq!(rt;
-        across_text(alloc, &[false, true])?.as_str(),
-        "p 16\nq 16\n"
-    );
-    Ok(())
+    assert_text(&rt, across(alloc, &[true])?, "p 16\nq 8\n")?;
+    assert_text(&rt, across(alloc, &[true, false])?, "p 16\nq 16\n")?;
+    assert_text(&rt, across(alloc, &[false, true])?, "p 16\nq 16\n")
 }

@@ -22,19 +22,30 @@ fn plain_items_add_up(rt: HostRuntime) -> Result<(), Refusal> {
     Ok(())
 }
 
+// The text of one collection of both.
+fn text_of_both(alloc: Global, left: &IdArc<u64>, right: &IdArc<u64>) -> Result<String, Refusal> {
+    let mut builder = FlameGraphBuilder::new(alloc)?;
+    builder.visit_root(left)?;
+    builder.visit_root(right)?;
+    builder.finish_and_write_flame_graph()
+}
+
 #[test]
 fn shared_items_add_up(rt: HostRuntime) -> Result<(), Refusal> {
     let alloc = rt.alloc();
     let text = "Arc;ptr 16\nArcInner 32\nArcInner;u64 16\n";
-    let here = IdArc::new(alloc, 5u64, Identity::new(0, 1))?;
-    let there = IdArc::new(alloc, 6u64, Identity::new(1, 1))?;
-    let again = IdArc::new(alloc, 7u64, Identity::new(0, 1))?;
-    let left = [here];
-    let sum = profile_in_two(alloc, &left, &[there])?;
+    let left = [IdArc::new(alloc, 5u64, Identity::new(0, 1))?];
+    let apart = [IdArc::new(alloc, 6u64, Identity::new(1, 1))?];
+    let sum = profile_in_two(alloc, &left, &apart)?;
     assert_eq!(rt; sum.write()?.as_str(), text);
-    // The identities are not apart here, so nothing is said of one collection.
-    let sum = profile_in_two(alloc, &left, &[again])?;
+    let one = text_of_both(alloc, &left[0], &apart[0])?;
+    assert_eq!(rt; one.as_str(), text);
+    // The identities are not apart here, so one collection shows one content alone.
+    let again = [IdArc::new(alloc, 7u64, Identity::new(0, 1))?];
+    let sum = profile_in_two(alloc, &left, &again)?;
     assert_eq!(rt; sum.write()?.as_str(), text);
+    let one = text_of_both(alloc, &left[0], &again[0])?;
+    assert_eq!(rt; one.as_str(), "Arc;ptr 16\nArcInner 16\nArcInner;u64 8\n");
     Ok(())
 }
 

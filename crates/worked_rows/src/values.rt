@@ -6,7 +6,7 @@ ghost use Rattle.std.proofs.Common.{lit≤};
 ghost use Rattle.allocative.specs.Shows.{Inside, InsideUnique, Field, Nothing};
 ghost use Rattle.allocative.specs.Visits.{Shows};
 
-use crate::entries::texts;
+use crate::entries::{assert_text, texts};
 use allocative::{
     Allocative, Described, FlameGraphBuilder, IdArc, Identity, Key, Refusal, Registry, Visitor,
     profile_roots, size_of_unique, size_of_unique_allocated_data,
@@ -62,13 +62,11 @@ fn a_shared_value_stands_beside_its_pointer(rt: HostRuntime) -> Result<(), Refus
     let mut builder = FlameGraphBuilder::new(rt.alloc())?;
     let shared = IdArc::new(rt.alloc(), CacheLine(1), Identity::from(1))?;
     builder.visit_root(&shared)?;
-    let (text, warnings) = texts(builder)?;
-    assert_eq!(rt;
-        text.as_str(),
-        "Arc;ptr 8\nArcInner 64\nArcInner;CacheLine 63\nArcInner;CacheLine;0;u8 1\n"
-    );
-    assert_eq!(rt; warnings.as_str(), "");
-    Ok(())
+    assert_text(
+        &rt,
+        builder,
+        "Arc;ptr 8\nArcInner 64\nArcInner;CacheLine 63\nArcInner;CacheLine;0;u8 1\n",
+    )
 }
 
 #[test]
@@ -146,6 +144,14 @@ fn a_vector_holds_its_bytes_and_its_room(rt: HostRuntime) -> Result<(), Fail> {
     Ok(())
 }
 
+#[test]
+fn a_reference_shows_nothing(rt: HostRuntime) -> Result<(), Refusal> {
+    let number: &'static u8 = &7;
+    let mut builder = FlameGraphBuilder::new(rt.alloc())?;
+    builder.visit_value(&number)?;
+    assert_text(&rt, builder, "")
+}
+
 // Shows `TestGlobalRoot 4 {x 4 {u32 4}}`.
 #[derive(Drop)]
 struct TestGlobalRoot {
@@ -173,6 +179,7 @@ fn registered_roots_are_profiled(rt: HostRuntime) -> Result<(), Fail> {
     assert_eq!(rt; registry.roots().len(), 2);
     let output = profile_roots(&registry)?;
     assert_eq!(rt; output.flamegraph().write()?.as_str(), "Option 8\nu32 4\n");
+    assert_eq!(rt; output.warnings()?.as_str(), "");
     let mut registry = Registry::new(alloc);
     assert!(rt;
         registry
@@ -184,5 +191,6 @@ fn registered_roots_are_profiled(rt: HostRuntime) -> Result<(), Fail> {
         output.flamegraph().write()?.as_str(),
         "TestGlobalRoot;x;u32 4\n"
     );
+    assert_eq!(rt; output.warnings()?.as_str(), "");
     Ok(())
 }

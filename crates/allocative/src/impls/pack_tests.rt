@@ -41,15 +41,20 @@ fn exact_text(alloc: Global, root: &dyn Allocative) -> Result<String, Fail> {
     Ok(exact)
 }
 
-// What stands in the one line that begins so.
+// What stands in the one line whose last key is `unused_capacity`, which begins so.
 fn amount_at(alloc: Global, root: &dyn Allocative, path: &str) -> Result<usize, Fail> {
     let text = text_of(alloc, root)?;
+    let mut found = None;
     for line in text.lines() {
-        if let Some(amount) = line.strip_prefix(path) {
-            return Ok(amount.trim().parse::<usize>()?);
+        if line.contains(";unused_capacity ") {
+            if found.is_some() {
+                return Err(Fail::new("two lines"));
+            }
+            let amount = line.strip_prefix(path).ok_or("another line")?;
+            found = Some(amount.parse::<usize>()?);
         }
     }
-    Err(Fail::new("no such line"))
+    Ok(found.ok_or("no line")?)
 }
 
 // A map that shows itself by the call for maps.

@@ -2,10 +2,11 @@
 //! `String`.
 #![tactic(auto, using(crate::proofs::Showing::showing))]
 
-ghost use Rattle.std.specs.Prelude.{◌≡◌, ◌*◌, IfErr, codes, string_bytes};
+ghost use Rattle.std.specs.Prelude.{◌≡◌, ◌*◌, IfErr, Some, codes, string_bytes};
 ghost use Rattle.serde_json.specs.View.{view, items_view, members_view};
 ghost use Rattle.allocative_graph.specs.Shows.{Nothing, Both, Inside, InsideUnique};
 ghost use Rattle.allocative_graph.specs.Visits.{Shows, HasFailed};
+ghost use Rattle.allocative.specs.Making.{EntersFirst};
 ghost use Rattle.allocative.specs.JsonShows.{string_shows, number_shows, values_inside, data_inside, items_show, members_show, value_shows, map_shows};
 
 use crate::allocative_trait::Allocative;
@@ -217,12 +218,14 @@ fn visit_object(visitor: &mut Visitor<'_>, map: &Map<String, Value>) -> Result<(
 }
 
 /// What a JSON map shows: one entry `Map`, in it a unique entry `data`, and in that the fields `key` and `value` of each
-/// pair, in the map's order.
+/// pair, in the map's order. A collector that has failed answers its first cause; each entry is refused as
+/// `Visitor::enter` is.
 #[cycle(values)]
 pub fn visit_json_map(visitor: &mut Visitor<'_>, map: &Map<String, Value>) -> Result<(), Refusal>
     ensures same_reference { visitor.new.collector.ghost_name ≡ visitor.old.collector.ghost_name }
     ensures same_outer { visitor.new.outer_is_unique ≡ visitor.old.outer_is_unique }
     ensures shown { Shows (map_shows (members_view map.now.entries)) visitor.old.collector.now result visitor.new.collector.now }
+    ensures first { EntersFirst (codes "Map") (Some 24) visitor.old.collector.now result visitor.new.collector.now }
     ensures cause { IfErr result (HasFailed visitor.new.collector.now) }
 {
     let mut inner = visitor.collector.enter(Key::new("Map"), 24)?;

@@ -45,8 +45,8 @@ impl Visitor<'_> {
         ensures shown { Shows (shared_inside inner_name id T.size T.align (T.may_show value.now)) self.old.collector.now result self.new.collector.now }
         ensures cause { IfErr result (HasFailed self.new.collector.now) }
     {
-        if self.collector.point_to(Key::new("ptr"), 8, id)? {
-            let mut content = self.collector.content();
+        if let Some(shown) = self.collector.point_to(Key::new("ptr"), 8, id)? {
+            let mut content = self.collector.content(shown);
             content.visit_shared_inner(inner_name, value)?;
             content.exit();
             return Ok(());

@@ -19,11 +19,15 @@ use std::sync::atomic::{
 use std::test::Fail;
 use std::time::{Duration, Instant, SystemTime};
 
-// The text of one visit, without the lines whose last key is `unused_capacity`.
+// The text of one visit that gives no warning, without the lines whose last key is `unused_capacity`.
 fn text_of(alloc: Global, root: &dyn Allocative) -> Result<String, Fail> {
     let mut builder = FlameGraphBuilder::new(alloc)?;
     builder.visit_root(root)?;
-    let text = builder.finish_and_write_flame_graph()?;
+    let output = builder.finish()?;
+    if !output.warnings()?.is_empty() {
+        return Err(Fail::new("a warning"));
+    }
+    let text = output.flamegraph().write()?;
     let mut kept = String::new(alloc);
     for line in text.lines() {
         if !line.contains(";unused_capacity ") {

@@ -60,7 +60,7 @@ index-requires-in-Ok-2 c =
     let here : c.args.at < length (sums_of items) = rw c.self.view_is c.requires in
     let inside = in_nodes items c.args.at here in
     let second = children_read items c.args.at c.index-in-Ok.result.now inside c.index-in-Ok.ensures in
-    let found : IsPlace (keys_at (map shape items) c.args.at) c.args.key c.in-Ok.place = subst (λ (ks : List Key). IsPlace ks c.args.key c.in-Ok.place) (searched_keys (goal.at.index-requires-in-Ok-2 c).After-deref-2) c.in-Ok.ensures.found in
+    let found : IsPlace (keys_at (map shape items) c.args.at) c.args.key.now c.in-Ok.place = subst (λ (ks : List Key). IsPlace ks c.args.key.now c.in-Ok.place) (searched_keys (goal.at.index-requires-in-Ok-2 c).After-deref-2) c.in-Ok.ensures.found in
     let len = length-keys_of (map shape items) (children_at (map shape items) c.args.at) in
     let same = ap length second in
     omega (arith, found.in_range, c.index-in-Ok.result.now.children.ok.0)
@@ -78,7 +78,7 @@ insert-requires c =
     let here : c.args.at < length (sums_of items) = rw c.self.view_is c.requires in
     let inside = in_nodes items c.args.at here in
     let stood = stood_children items c.push.new.self.items _ c.in_ok-push-in-Err.ensures.items c.args.at inside c.index_mut.result.now c.index_mut.ensures.value in
-    let gap : IsGap (keys_at (map shape items) c.args.at) c.args.key c.in-Err.place = subst (λ (ks : List Key). IsGap ks c.args.key c.in-Err.place) (searched_keys (goal.at.insert-requires c).After-deref-2) c.in-Err.ensures.absent in
+    let gap : IsGap (keys_at (map shape items) c.args.at) c.args.key.now c.in-Err.place = subst (λ (ks : List Key). IsGap ks c.args.key.now c.in-Err.place) (searched_keys (goal.at.insert-requires c).After-deref-2) c.in-Err.ensures.absent in
     let len = length-keys_of (map shape items) (children_at (map shape items) c.args.at) in
     let same = ap length stood in
     omega (arith, gap.in_range, c.index_mut.result.now.children.ok.0)
@@ -104,7 +104,7 @@ pub returns-then-is_err-clause-err : goal.returns-then-is_err-clause-err
 returns-then-is_err-clause-err c = ap sums (kept c) ∙ c.self.view_is
 
 -- the shapes after both writes
-made : (c : Else-is_err) → let n = c.index_mut.result.now in map shape (set c.push.new.self.items c.args.at (record n { children = c.insert.new.self })) ≡ grown (map shape c.self.inside.nodes.items) c.args.at c.args.key c.in-Err.place
+made : (c : Else-is_err) → let n = c.index_mut.result.now in map shape (set c.push.new.self.items c.args.at (record n { children = c.insert.new.self })) ≡ grown (map shape c.self.inside.nodes.items) c.args.at c.args.key.now c.in-Err.place
 made c =
     let items = c.self.inside.nodes.items in
     let n = c.index_mut.result.now in
@@ -112,19 +112,19 @@ made c =
     let index : c.len-node.result ≡ length items = c.len-node.ensures ∙ c.self.inside.nodes.ok.0 in
     let longer : c.insert.new.self.items ≡ insert n.children.items c.in-Err.place (length items) =
     c.insert.ensures.items ∙ (cond-true _ _ _ c.if-is_err.ensures.negation ∙ ap (λ (i : ℕ). insert n.children.items c.in-Err.place i) index) in
-    grown_nodes items c.push.new.self.items _ c.in_ok-push-in-Err.ensures.items c.args.at (in_nodes items c.args.at here) n c.index_mut.ensures.value c.args.key c.in-Err.place _
-    (rw c.new.ensures.items refl)
+    grown_nodes items c.push.new.self.items _ c.in_ok-push-in-Err.ensures.items c.args.at (in_nodes items c.args.at here) n c.index_mut.ensures.value c.args.key.now c.in-Err.place _
+    (rw (c.new.ensures.items, c.copy.ensures) refl)
     (ap (λ (xs : List ℕ). record { key = n.key; parent = n.parent; children = xs; bytes = n.bytes; is_unique = n.is_unique; below = n.below }) longer)
 
 -- the gap that was found, among the keys of the children
-gap : (c : Else-is_err) → IsGap (keys_at (map shape c.self.inside.nodes.items) c.args.at) c.args.key c.in-Err.place
-gap c = subst (λ (ks : List Key). IsGap ks c.args.key c.in-Err.place) (searched_keys (goal.at.invariant_of-self-else-is_err c).After-deref-2) c.in-Err.ensures.absent
+gap : (c : Else-is_err) → IsGap (keys_at (map shape c.self.inside.nodes.items) c.args.at) c.args.key.now c.in-Err.place
+gap c = subst (λ (ks : List Key). IsGap ks c.args.key.now c.in-Err.place) (searched_keys (goal.at.invariant_of-self-else-is_err c).After-deref-2) c.in-Err.ensures.absent
 
 pub invariant_of-self-else-is_err : goal.invariant_of-self-else-is_err
 invariant_of-self-else-is_err c =
     let items = c.self.inside.nodes.items in
     let here : c.args.at < length (sums_of items) = rw c.self.view_is c.requires in
-    subst IsArena (sym (made c)) (arena_grown (map shape items) c.self.invariant c.args.at (in_shapes items c.args.at here) c.args.key c.in-Err.place (gap c))
+    subst IsArena (sym (made c)) (arena_grown (map shape items) c.self.invariant c.args.at (in_shapes items c.args.at here) c.args.key.now c.in-Err.place (gap c))
 
 pub returns-in-Ok-clause-entered : goal.returns-in-Ok-clause-entered
 returns-in-Ok-clause-entered c =
@@ -134,13 +134,13 @@ returns-in-Ok-clause-entered c =
     let inside = in_nodes items c.args.at here in
     let hp = in_shapes items c.args.at here in
     let second = children_read items c.args.at c.index-in-Ok.result.now inside c.index-in-Ok.ensures in
-    let found : IsPlace (keys_at ns c.args.at) c.args.key c.in-Ok.place = subst (λ (ks : List Key). IsPlace ks c.args.key c.in-Ok.place) (searched_keys (goal.at.returns-in-Ok-clause-entered c).After-deref-2) c.in-Ok.ensures.found in
+    let found : IsPlace (keys_at ns c.args.at) c.args.key.now c.in-Ok.place = subst (λ (ks : List Key). IsPlace ks c.args.key.now c.in-Ok.place) (searched_keys (goal.at.returns-in-Ok-clause-entered c).After-deref-2) c.in-Ok.ensures.found in
     let len = length-keys_of ns (children_at ns c.args.at) in
     let same = ap length second in
     let is : c.index-in-Ok-2.result.now ≡ get_or (children_at ns c.args.at) c.in-Ok.place 0 =
     get_or_read c.index-in-Ok.result.now.children.items c.in-Ok.place _ (omega (arith, found.in_range)) c.index-in-Ok-2.ensures 0
     ∙ ap (λ (xs : List ℕ). get_or xs c.in-Ok.place 0) (sym second) in
-    rw (← c.self.view_is, is) (was_entered ns c.self.invariant c.args.at hp c.args.key c.in-Ok.place found)
+    rw (← c.self.view_is, is) (was_entered ns c.self.invariant c.args.at hp c.args.key.now c.in-Ok.place found)
 
 pub returns-else-is_err-clause-entered : goal.returns-else-is_err-clause-entered
 returns-else-is_err-clause-entered c =
@@ -148,7 +148,7 @@ returns-else-is_err-clause-entered c =
     let ns = map shape items in
     let here : c.args.at < length (sums_of items) = rw c.self.view_is c.requires in
     let index : length ns ≡ c.len-node.result = length-map items shape ∙ sym (c.len-node.ensures ∙ c.self.inside.nodes.ok.0) in
-    let now = now_entered ns c.self.invariant c.args.at (in_shapes items c.args.at here) c.args.key c.in-Err.place (gap c) in
-    let one = subst (λ (s : Listed). IsEntered s (sums (grown ns c.args.at c.args.key c.in-Err.place)) c.args.at c.args.key 0 false (length ns)) c.self.view_is now in
-    let two = subst (λ (i : ℕ). IsEntered c.args.self.now (sums (grown ns c.args.at c.args.key c.in-Err.place)) c.args.at c.args.key 0 false i) index one in
-    subst (λ (s : Listed). IsEntered c.args.self.now s c.args.at c.args.key 0 false c.len-node.result) (sym (ap sums (made c))) two
+    let now = now_entered ns c.self.invariant c.args.at (in_shapes items c.args.at here) c.args.key.now c.in-Err.place (gap c) in
+    let one = subst (λ (s : Listed). IsEntered s (sums (grown ns c.args.at c.args.key.now c.in-Err.place)) c.args.at c.args.key.now 0 false (length ns)) c.self.view_is now in
+    let two = subst (λ (i : ℕ). IsEntered c.args.self.now (sums (grown ns c.args.at c.args.key.now c.in-Err.place)) c.args.at c.args.key.now 0 false i) index one in
+    subst (λ (s : Listed). IsEntered c.args.self.now s c.args.at c.args.key.now 0 false c.len-node.result) (sym (ap sums (made c))) two

@@ -1,0 +1,26 @@
+//! The workloads on the proved crates, in the static library.
+use crate::names::{Names, WIDTH};
+
+macro_rules! workloads {
+    ($($name:ident = $symbol:ident($($argument:ident: $kind:ty),*);)*) => {
+        unsafe extern "C" {
+            $(fn $symbol(texts: *const u8, length: usize, width: usize, $($argument: $kind),*) -> u64;)*
+        }
+
+        $(pub fn $name(names: &Names, $($argument: $kind),*) -> u64 {
+            let texts = names.texts();
+            // The texts stand for good, and are ASCII.
+            unsafe { $symbol(texts.as_ptr(), texts.len(), WIDTH, $($argument),*) }
+        })*
+    };
+}
+
+workloads! {
+    cube = bench_cube(side: usize);
+    wide = bench_wide(count: usize, order: u32);
+    interleaving = bench_interleaving(count: usize);
+    few_paths = bench_few_paths(rounds: usize);
+    tree = bench_tree(side: usize);
+    chain = bench_chain(depth: usize);
+    shared = bench_shared(pointers: usize, identities: usize);
+}

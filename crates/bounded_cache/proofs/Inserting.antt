@@ -1,0 +1,77 @@
+-- What an insertion makes of the entries.
+use Rattle.std.proofs.Common.{◌≡◌, ℕ, ◌+◌, ◌-◌, ◌<◌, ◌≤◌, Bool, true, false, Option, Some, None, [], ◌∷◌, ◌++◌, length, take, drop, nat_eq, refl, sym, ap, ◌∙◌, subst, arith}
+use Rattle.std.specs.Map.{lookup, lookup_entry, remove_entry, values_of}
+use Rattle.std.specs.Option.{option_map, unwrap_or}
+use Rattle.std.specs.Prelude.{All, Result, Ok, Err, IfErr, IsErrAnd}
+use Rattle.std.proofs.lemmas.Bool.{eqb-true}
+use Rattle.std.proofs.lemmas.List.{map-append, take_all}
+use Rattle.std.proofs.lemmas.List.Elements.{All-cons, All-take}
+use Rattle.std.proofs.lemmas.List.Sums.{sum_by-cons}
+use Rattle.std.proofs.lemmas.Map.Entries.{sum_by-remove_entry}
+use Rattle.std.proofs.lemmas.Map.Views.{All-map-remove_entry}
+use Rattle.std.proofs.Math.Seq.{take-append_seam}
+use Rattle.lru.specs.LruCache.{lru_cache, put_entries}
+use Rattle.lru.proofs.CallerLemmas.{Contains-lookup_entry}
+use Rattle.bounded_cache.specs.declared.cache.Kept.{Kept}
+use Rattle.bounded_cache.specs.Entries.{Entries, bytes_of, kept, bounded, KeepsRecent, IsBounded, IsFigure, IsMeasured, Inserts, RefusesInsert}
+use Rattle.bounded_cache.specs.declared.error.CacheError.{CacheError}
+use Rattle.bounded_cache.specs.declared.error.CacheError.TheVariants.{Memory}
+use Rattle.allocative.specs.Forest.{Forest}
+
+module _ {V : Type 0} where
+  -- Nothing is removed where no key passes.
+  none_removed : (test : ℕ → Bool) (es : Entries V) → lookup_entry test es ≡ None → remove_entry test es ≡ es
+  none_removed test [] none = refl
+  none_removed test (e ∷ es) none = (elim (test e.0) as (λ y. test e.0 ≡ y → remove_entry test (e ∷ es) ≡ e ∷ es) [
+    | true ↦ λ t. let none' = rw t at none in absurd cc
+    | false ↦ λ t. let none' = rw t at none in rw (t, none_removed test es none')
+  ]) refl
+
+  -- The pair goes first, and only what the key had goes.
+  pub put_entries-unbounded : (key : ℕ) (k : Kept V) (es : Entries V) (cap : ℕ) → length es < cap → put_entries nat_eq (lru_cache es cap) key k ≡ (key, k) ∷ remove_entry (nat_eq key) es
+  put_entries-unbounded key k es cap fewer = (elim (lookup_entry (nat_eq key) es) as (λ o. lookup_entry (nat_eq key) es ≡ o → put_entries nat_eq (lru_cache es cap) key k ≡ (key, k) ∷ remove_entry (nat_eq key) es) [
+    | None ↦ λ none. rw (none, none_removed (nat_eq key) es none, take_all (cap - 1) es (omega arith)) refl
+    | Some e ↦ λ some. let same : key ≡ e.0 = eqb-true key e.0 (Contains-lookup_entry (nat_eq key) es e some).1 in rw (some, ← same) refl
+  ]) refl
+
+  -- The bytes of what the key had, and those of the others.
+  pub bytes_of-remove_entry : (key : ℕ) (es : Entries V) (had : Option (Kept V)) → had ≡ lookup (nat_eq key) es → bytes_of (remove_entry (nat_eq key) es) + unwrap_or (option_map (λ (k : Kept V). k.bytes) had) 0 ≡ bytes_of es
+  bytes_of-remove_entry key es had is = rw is (sum_by-remove_entry (λ (k : Kept V). k.bytes) (nat_eq key) es)
+
+  -- A list with this first entry.
+  first_and_rest : (e : ℕ × Kept V) (es : Entries V) → take 1 es ≡ e ∷ [] → es ≡ e ∷ drop 1 es
+  first_and_rest e [] is = cc
+  first_and_rest e (x ∷ rest) is = cc
+
+  -- The bytes of a list with this first entry.
+  pub bytes_of-first : (e : ℕ × Kept V) (es : Entries V) → take 1 es ≡ e ∷ [] → e.1.bytes + bytes_of (drop 1 es) ≡ bytes_of es
+  bytes_of-first e es is = let cut = first_and_rest e es is in subst (λ l. e.1.bytes + bytes_of (drop 1 es) ≡ bytes_of l) (sym cut) (sym (sum_by-cons (λ (k : Kept V). k.bytes) e.1 (values_of (drop 1 es))))
+
+module _ {V : Type 0} (size : Option ℕ) (may_show : V → Forest → Type 0) where
+  -- What was put first and what shrinking left are an insertion.
+  pub inserted : (key : ℕ) (v : V) (n bound : ℕ) (es put now : Entries V) → IsFigure size may_show v n → n ≤ bound → put ≡ (key, kept v n) ∷ remove_entry (nat_eq key) es → take 1 now ≡ take 1 put → bytes_of (drop 1 now) ≤ bound - n → KeepsRecent (bound - n) (drop 1 put) (drop 1 now) → Inserts size may_show key v (bounded es bound) (bounded now bound)
+  inserted key v n bound es put now figure fits is first within recent = record {
+    bytes = n;
+    others = drop 1 now;
+    figure = figure;
+    fits = omega arith;
+    recent = let others : drop 1 put ≡ remove_entry (nat_eq key) es = ap (drop 1) is in rw others at recent;
+    is = ap (λ l. bounded l bound) (first_and_rest (key, kept v n) now (first ∙ ap (take 1) is));
+  }
+
+  -- An insertion keeps the bound.
+  pub Inserts-bounded : (key : ℕ) (v : V) (old new : _) → Inserts size may_show key v old new → IsBounded size may_show old → IsBounded size may_show new
+  Inserts-bounded key v old new i h =
+      let P = IsMeasured size may_show in
+      let others : All P (values_of (i.others ++ i.recent.gone)) = subst (λ l. All P (values_of l)) i.recent.parts (All-map-remove_entry (nat_eq key) (λ (e : ℕ × Kept V). e.1) P old.entries h.measured) in
+      let split : values_of (i.others ++ i.recent.gone) ≡ values_of i.others ++ values_of i.recent.gone = map-append (λ (e : ℕ × Kept V). e.1) i.others i.recent.gone in
+      let stay : All P (values_of i.others) = subst (All P) (take-append_seam (values_of i.others) (values_of i.recent.gone)) (All-take P _ _ (subst (All P) split others)) in
+      rw i.is (record {
+        within = rw sum_by-cons i.fits;
+        measured = All-cons P (kept v i.bytes) (values_of i.others) i.figure stay;
+      })
+
+  -- The value is measured and fits, and memory is refused.
+  pub memory_refused : (v : V) (n bound : ℕ) (r : Result Unit CacheError) → IsErrAnd r (λ e. e ≡ Memory) → IsFigure size may_show v n → n ≤ bound → IfErr r (RefusesInsert size may_show v bound)
+  memory_refused v n bound (Ok u) is figure fits = tt
+  memory_refused v n bound (Err e) is figure fits = subst (RefusesInsert size may_show v bound) (sym is) (n, figure, fits)

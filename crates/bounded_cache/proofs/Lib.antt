@@ -1,0 +1,3 @@
+mod Inserting
+mod Shrinking
+mod Using

@@ -1,0 +1,10 @@
+-- What stays true is in `Shrinking`; each round takes an entry away.
+use Rattle.std.proofs.Common.{◌≡◌, length}
+use Rattle.bounded_cache.proofs.Shrinking.{Shrinking}
+use Rattle.bounded_cache.proofs.cache.shrink.Given as goal
+
+abbrev pub invariant-loop-left : goal.invariant-loop-left
+invariant-loop-left g l = Shrinking l.room l.initial.entries.entries l.left l.entries.entries × (l.entries.cap ≡ l.initial.entries.cap)
+
+abbrev pub decreases-loop-left : goal.decreases-loop-left
+decreases-loop-left g l = length l.entries.entries

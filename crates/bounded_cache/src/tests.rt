@@ -1,0 +1,86 @@
+// A value that cannot be measured, and the texts of the errors.
+#![tactic(auto, using(allocative::proofs::Showing::showing))]
+
+ghost use Rattle.std.specs.Prelude.{codes, Some, false};
+ghost use Rattle.std.proofs.Common.{lit≤};
+
+use crate::cache::BoundedCache;
+use crate::error::CacheError;
+use allocative::{Allocative, Described, Refusal, Visitor};
+use std::test::Fail;
+
+// Refuses to be visited.
+#[derive(Drop)]
+struct Refuses(Refusal);
+
+impl Described for Refuses {
+    ghost name = { codes "Refuses" };
+
+    ghost align = { 1 };
+
+    ghost needs_drop = { false };
+
+    ghost size = { Some 1 };
+
+    ghost align_positive = { lit≤ tt };
+
+    fn name() -> &'static str {
+        "Refuses"
+    }
+
+    fn align() -> usize {
+        1
+    }
+
+    fn needs_drop() -> bool {
+        false
+    }
+
+    fn size() -> Option<usize> {
+        Some(1)
+    }
+}
+
+impl Allocative for Refuses {
+    ghost may_show = { λ _ _. ⊥ };
+
+    fn visit(&self, visitor: &mut Visitor<'_>) -> Result<(), Refusal> {
+        Err(visitor.refuse(self.0))
+    }
+}
+
+#[test]
+fn what_is_not_measured_is_not_kept(rt: HostRuntime) -> Result<(), Fail> {
+    let mut cache = BoundedCache::new(rt.alloc(), 8)?;
+    for refusal in [Refusal::Memory, Refusal::TooLarge, Refusal::Open] {
+        assert_eq!(rt;
+            cache.insert(1, Refuses(refusal)),
+            Err(CacheError::NotMeasured(refusal))
+        );
+    }
+    assert!(rt; cache.is_empty());
+    assert_eq!(rt; cache.len(), 0);
+    Ok(())
+}
+
+#[test]
+fn texts_of_the_errors(rt: HostRuntime) -> Result<(), Fail> {
+    let alloc = rt.alloc();
+    for (error, text) in [
+        (
+            CacheError::TooLarge {
+                bytes: 1024,
+                bound: 300,
+            },
+            "1024 bytes do not fit a bound of 300",
+        ),
+        (
+            CacheError::NotMeasured(Refusal::TooLarge),
+            "not measured: sizes do not fit",
+        ),
+        (CacheError::Memory, "out of memory"),
+    ] {
+        assert_eq!(rt; format!(in alloc; "{error}")?.as_str(), text);
+    }
+    Ok(())
+}

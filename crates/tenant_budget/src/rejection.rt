@@ -1,0 +1,48 @@
+//! Why data were not admitted.
+use allocative::Refusal;
+use thiserror::Error;
+
+/// Why data were not admitted. Making one takes no memory.
+#[derive(Clone, Copy, Debug, PartialEq, Eq, Error)]
+pub enum Rejection<'a> {
+    /// The tenant's data would hold more bytes than are allowed.
+    #[error("tenant `{tenant}` asks for {bytes} bytes, of {limit} allowed")]
+    OverBudget {
+        tenant: &'a str,
+        bytes: usize,
+        limit: usize,
+    },
+    /// Measuring the data was refused, or their bytes together do not fit a word.
+    #[error("not measured: {0}")]
+    NotMeasured(Refusal),
+    /// A growth of the ledger's own memory was refused.
+    #[error("out of memory")]
+    NotKept,
+}
+
+impl From<Refusal> for Rejection<'_> {
+    ghost use Rattle.std.specs.Prelude.{◌≡◌};
+    ghost use Rattle.tenant_budget.specs.declared.rejection.Rejection.TheVariants.{NotMeasured};
+
+    ghost from_gives = { λ refusal rejection. rejection ≡ NotMeasured refusal };
+
+    fn from(refusal: Refusal) -> Self {
+        Rejection::NotMeasured(refusal)
+    }
+}
+
+#[cfg(test)]
+mod tests {
+    use super::*;
+    use std::test::Fail;
+
+    #[test]
+    fn the_other_rejections_have_a_text(rt: HostRuntime) -> Result<(), Fail> {
+        let not_measured = Rejection::NotMeasured(Refusal::TooLarge);
+        let text = not_measured.to_string(rt.alloc())?;
+        assert_eq!(rt; text.as_str(), "not measured: sizes do not fit");
+        let text = Rejection::NotKept.to_string(rt.alloc())?;
+        assert_eq!(rt; text.as_str(), "out of memory");
+        Ok(())
+    }
+}

@@ -1,0 +1,137 @@
+// Types of a user's own, by the recipe: an enum, a generic type, one that holds itself, and one with a shared part.
+#![tactic(auto, using(allocative::proofs::Showing::showing))]
+
+ghost use Rattle.std.specs.Prelude.{codes, Some};
+ghost use Rattle.allocative.specs.Shows.{Nothing, Inside, Field};
+
+use allocative::{Allocative, Described, FlameGraphBuilder, IdRc, Identity, Key, Refusal, Visitor};
+use std::test::Fail;
+
+// An enum: a field for the part of each variant that has one.
+#[derive(Drop)]
+enum Event {
+    Stopped,
+    Sent(u64),
+    Named(String),
+}
+
+impl Allocative for Event {
+    ghost use Rattle.worked_rows.specs.declared.own_types.Event.TheVariants.{Stopped, Sent, Named};
+
+    ghost may_show = { λ e. Inside (codes "Event") 32 (elim e [
+      | Stopped ↦ Nothing
+      | Sent n ↦ Field (codes "Sent") (Some 8) (⟦<u64 as Allocative>⟧.may_show n)
+      | Named s ↦ Field (codes "Named") (Some 24) (⟦<String as Allocative>⟧.may_show s)
+    ]) };
+
+    fn visit(&self, visitor: &mut Visitor<'_>) -> Result<(), Refusal> {
+        let mut inner = visitor.collector.enter(Key::new("Event"), 32)?;
+        match self {
+            Event::Stopped => {}
+            Event::Sent(bytes) => inner.visit_field(Key::new("Sent"), bytes)?,
+            Event::Named(name) => inner.visit_field(Key::new("Named"), name)?,
+        }
+        inner.exit();
+        Ok(())
+    }
+}
+
+// A generic type: its part is whatever is `Allocative` and has a declared size.
+#[derive(Drop)]
+struct Wrapped<T> {
+    value: T,
+}
+
+impl<T: Allocative + Described> Allocative for Wrapped<T> {
+    ghost may_show = { λ w. Inside (codes "Wrapped") 16 (Field (codes "value") T.size (T.may_show w.value)) };
+
+    fn visit(&self, visitor: &mut Visitor<'_>) -> Result<(), Refusal> {
+        let mut inner = visitor.collector.enter(Key::new("Wrapped"), 16)?;
+        inner.visit_field(Key::new("value"), &self.value)?;
+        inner.exit();
+        Ok(())
+    }
+}
+
+// A type with a shared part: the part's own implementation shows the pointer and, once, the content.
+#[derive(Drop)]
+struct Handle {
+    table: IdRc<u64>,
+}
+
+impl Allocative for Handle {
+    ghost may_show = { λ h. Inside (codes "Handle") 8 (Field (codes "table") (Some 8) (⟦<IdRc<u64> as Allocative>⟧.may_show h.table)) };
+
+    fn visit(&self, visitor: &mut Visitor<'_>) -> Result<(), Refusal> {
+        let mut inner = visitor.collector.enter(Key::new("Handle"), 8)?;
+        inner.visit_field(Key::new("table"), &self.table)?;
+        inner.exit();
+        Ok(())
+    }
+}
+
+#[test]
+fn an_enum_shows_its_variant(rt: HostRuntime) -> Result<(), Fail> {
+    let mut builder = FlameGraphBuilder::new(rt.alloc())?;
+    builder.visit_value(&Event::Stopped)?;
+    builder.visit_value(&Event::Sent(3))?;
+    let text = builder.finish_and_write_flame_graph()?;
+    assert_eq!(rt; text.as_str(), "Event 56\nEvent;Sent;u64 8\n");
+    Ok(())
+}
+
+#[test]
+fn an_enum_shows_its_text(rt: HostRuntime) -> Result<(), Fail> {
+    let mut name = String::new(rt.alloc());
+    name.push_str("ab")?;
+    let mut builder = FlameGraphBuilder::new(rt.alloc())?;
+    builder.visit_value(&Event::Named(name))?;
+    let text = builder.finish_and_write_flame_graph()?;
+    assert!(rt;
+        text.as_str().starts_with("Event 8\nEvent;Named;String 16\nEvent;Named;String;ptr 8\n")
+    );
+    Ok(())
+}
+
+#[test]
+fn a_generic_type_shows_its_part(rt: HostRuntime) -> Result<(), Fail> {
+    let mut builder = FlameGraphBuilder::new(rt.alloc())?;
+    builder.visit_value(&Wrapped { value: Some(2u16) })?;
+    let text = builder.finish_and_write_flame_graph()?;
+    assert_eq!(rt;
+        text.as_str(),
+        "Wrapped 12\nWrapped;value;Option 2\nWrapped;value;Option;Some;u16 2\n"
+    );
+    Ok(())
+}
+
+#[test]
+fn a_shared_part_counts_once(rt: HostRuntime) -> Result<(), Fail> {
+    let alloc = rt.alloc();
+    let table = IdRc::new(alloc, 5u64, Identity::from(1))?;
+    let first = Handle {
+        table: table.clone()?,
+    };
+    let second = Handle { table };
+    let mut builder = FlameGraphBuilder::new(alloc)?;
+    builder.visit_value(&first)?;
+    builder.visit_value(&second)?;
+    let text = builder.finish_and_write_flame_graph()?;
+    assert_eq!(rt;
+        text.as_str(),
+        "Handle;table;Rc;ptr 16\nRcInner 16\nRcInner;u64 8\n"
+    );
+    Ok(())
+}
+
+#[test]
+fn a_type_declares_its_entry(rt: HostRuntime) -> Result<(), Fail> {
+    let mut builder = FlameGraphBuilder::new(rt.alloc())?;
+    let mut root = builder.root_visitor()?;
+    root.enter_self(&7u8)?.exit();
+    root.enter_self_sized::<u8>()?.exit();
+    root.exit();
+    let text = builder.finish_and_write_flame_graph()?;
+    assert_eq!(rt; text.as_str(), "u8 2\n");
+    Ok(())
+}
