@@ -1,14 +1,10 @@
 -- What a report of roots says.
-use Rattle.std.specs.Prelude.{ℕ, ◌==◌, ◌≡◌, Bool, false, cond, List, [], ◌∷◌, ◌++◌, flat_map}
+use Rattle.std.specs.Prelude.{ℕ, ◌==◌, Bool, false, cond, List, [], ◌∷◌, ◌++◌, flat_map}
 use Rattle.std.specs.Ordering.{eq_by_cmp}
 use Rattle.std.specs.FinMap.{entries}
 use lib.Chars.{codes}
 use Rattle.allocative_graph.specs.Path.{Key, Path, key_cmp}
-use Rattle.allocative_graph.specs.Forest.{Forest, all}
-use Rattle.allocative_graph.specs.Meaning.{IsWhole}
-use Rattle.allocative_graph.specs.Sums.{sums_of}
-use Rattle.allocative_graph.specs.Graph.{Graph, graph, text, line, warnings}
-use Rattle.allocative_graph.specs.Shows.{Showing}
+use Rattle.allocative_graph.specs.Graph.{Graph, line}
 
 -- Whether a path ends in the key.
 abbrev pub ends_in : Key → Path → Bool

@@ -1,4 +1,4 @@
-use Rattle.std.proofs.Common.{◌≤◌, ◌+◌, ◌^◌, ◌∙◌, arith, inr, refl, ap}
+use Rattle.std.proofs.Common.{◌≤◌, ◌+◌, ◌∙◌, arith, refl, ap}
 use Rattle.std.proofs.lemmas.List.Elements.{All-push}
 use Rattle.tenant_budget.specs.declared.entry.Entry.{Entry}
 use Rattle.tenant_budget.specs.Measured.{Declares}
