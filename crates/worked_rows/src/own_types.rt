@@ -1,4 +1,4 @@
-// Types of a user's own, by the recipe: an enum, a generic type, one that holds itself, and one with a shared part.
+// Types of a user's own, by the recipe: an enum, a generic type, and one with a shared part.
 #![tactic(auto, using(allocative::proofs::Showing::showing))]
 
 ghost use Rattle.std.specs.Prelude.{codes, Some};
