@@ -15,13 +15,9 @@ pub mod output;
 pub mod registry;
 pub mod size_of;
 mod slices;
-#[cfg(test)]
-mod tests;
 mod tree;
 pub mod two;
 pub mod visiting;
-#[cfg(test)]
-mod visiting_tests;
 pub mod visitor;
 
 pub use crate::allocative_trait::Allocative;

@@ -239,30 +239,3 @@ fn push_warning(
     )?;
     Ok(())
 }
-
-#[cfg(test)]
-mod tests {
-    use super::*;
-    use std::test::Fail;
-
-    #[test]
-    #[tactic(auto, using(crate::proofs::Adds::total_entered, crate::proofs::Adds::length_entered))]
-    fn finishes_in_order_of_paths(rt: HostRuntime) -> Result<(), Fail> {
-        let mut tree = Tree::new(rt.alloc())?;
-        let middle = tree.enter(0, &Key::new("b"), 4, false)?;
-        let _ = tree.enter(middle, &Key::new("y"), 3, true)?;
-        let _ = tree.enter(0, &Key::new("a"), 10, true)?;
-        let last = tree.enter(0, &Key::new("c"), 1, false)?;
-        let _ = tree.enter(last, &Key::new("z"), 5, false)?;
-        let again = tree.enter(0, &Key::new("b"), 2, false)?;
-        assert_eq!(rt; again, middle);
-        let output = tree.finish()?;
-        let text = output.flamegraph().write()?;
-        assert_eq!(rt; text.as_str(), "a 10\nb 3\nb;y 3\nc;z 5\n");
-        assert_eq!(rt;
-            output.warnings()?.as_str(),
-            "Incorrect size declaration for node `c`, size of self: 1, size of inline children: 5\n"
-        );
-        Ok(())
-    }
-}

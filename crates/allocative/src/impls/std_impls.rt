@@ -5,8 +5,6 @@ mod net;
 mod primitive;
 mod shared;
 mod sync;
-#[cfg(test)]
-mod tests;
 mod time;
 mod tuple;
 mod unsorted;

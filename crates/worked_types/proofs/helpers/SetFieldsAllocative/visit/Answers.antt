@@ -3,7 +3,7 @@ use Rattle.std.proofs.lemmas.Iterator.{YieldsList-from_slice}
 use Rattle.allocative_graph.specs.Shows.{each_shows, Field, Nothing}
 use Rattle.allocative.specs.Runs.{field_of}
 use Rattle.allocative.proofs.Runs.{inside_list}
-use Rattle.allocative.proofs.visiting_tests.SetFieldsAllocative.visit.Goals as goal
+use Rattle.worked_types.proofs.helpers.SetFieldsAllocative.visit.Goals as goal
 
 pub returns-clause-shown : goal.returns-clause-shown
 returns-clause-shown c =

@@ -2,7 +2,7 @@ use Rattle.std.proofs.Common.{◌∙◌, rules}
 use Rattle.std.proofs.lemmas.Iterator.{YieldsList-from_slice}
 use Rattle.allocative_graph.specs.Shows.{slice_shows}
 use Rattle.allocative.proofs.Runs.{shows_list}
-use Rattle.allocative.proofs.visiting_tests.IteratedAllocative.visit.Goals as goal
+use Rattle.worked_types.proofs.helpers.IteratedAllocative.visit.Goals as goal
 
 pub returns-clause-shown : goal.returns-clause-shown
 returns-clause-shown g c =

@@ -1,12 +1,8 @@
-// What no clause says: worked rows of entries made by hand, and visitors that are forgotten.
+// Entries made by hand, and visitors that are forgotten.
 ghost use Rattle.allocative_graph.specs.Shows.{Inside, Nothing};
 ghost use lib.Chars.{codes};
 
-use crate::allocative_trait::Allocative;
-use crate::builder::FlameGraphBuilder;
-use crate::visitor::Visitor;
-use allocative_graph::key::Key;
-use allocative_graph::refusal::Refusal;
+use allocative::{Allocative, FlameGraphBuilder, Key, Refusal, Visitor};
 use std::mem::{ManuallyDrop, forget};
 
 #[test]
@@ -33,6 +29,33 @@ fn a_unique_entry_keeps_its_bytes(rt: HostRuntime) -> Result<(), Refusal> {
     assert_eq!(rt;
         builder.finish_and_write_flame_graph()?.as_str(),
         "T;ptr 8\nT;ptr;u8 3\n"
+    );
+    Ok(())
+}
+
+#[test]
+fn a_graph_stands_in_order_of_paths(rt: HostRuntime) -> Result<(), Refusal> {
+    let mut builder = FlameGraphBuilder::new(rt.alloc())?;
+    let mut root = builder.root_visitor()?;
+    let mut middle = root.enter(Key::new("b"), 4)?;
+    let pointer = middle.enter_unique(Key::new("y"), 3)?;
+    pointer.exit();
+    middle.exit();
+    let pointer = root.enter_unique(Key::new("a"), 10)?;
+    pointer.exit();
+    let mut last = root.enter(Key::new("c"), 1)?;
+    last.visit_simple(Key::new("z"), 5)?;
+    last.exit();
+    root.visit_simple(Key::new("b"), 2)?;
+    root.exit();
+    let output = builder.finish()?;
+    assert_eq!(rt;
+        output.flamegraph().write()?.as_str(),
+        "a 10\nb 3\nb;y 3\nc;z 5\n"
+    );
+    assert_eq!(rt;
+        output.warnings()?.as_str(),
+        "Incorrect size declaration for node `c`, size of self: 1, size of inline children: 5\n"
     );
     Ok(())
 }

@@ -1,13 +1,10 @@
-//! Each type of the pack's crates once at a concrete type: the text of one visit, by worked rows.
+// The text of each type of the pack's crates at a concrete type.
 
 ghost use Rattle.serde_json.specs.View.{members_view};
 ghost use Rattle.allocative.specs.JsonShows.{map_shows};
 
-use crate::allocative_trait::Allocative;
-use crate::builder::FlameGraphBuilder;
-use crate::impls::pack_impls::json::visit_json_map;
-use crate::visitor::Visitor;
-use allocative_graph::refusal::Refusal;
+use crate::texts::{exact_text, text_of};
+use allocative::{Allocative, Refusal, Visitor, visit_json_map};
 use either::Either;
 use indexmap::{IndexMap, IndexSet};
 use once_cell::race::OnceBox;
@@ -16,30 +13,6 @@ use slab::Slab;
 use smallvec::SmallVec;
 use std::alloc::Global;
 use std::test::Fail;
-
-// The text of one visit that gives no warning.
-fn text_of(alloc: Global, root: &dyn Allocative) -> Result<String, Fail> {
-    let mut builder = FlameGraphBuilder::new(alloc)?;
-    builder.visit_root(root)?;
-    let output = builder.finish()?;
-    if !output.warnings()?.is_empty() {
-        return Err(Fail::new("a warning"));
-    }
-    Ok(output.flamegraph().write()?)
-}
-
-// The same without the lines whose last key is `unused_capacity`.
-fn exact_text(alloc: Global, root: &dyn Allocative) -> Result<String, Fail> {
-    let text = text_of(alloc, root)?;
-    let mut exact = String::new(alloc);
-    for line in text.lines() {
-        if !line.contains(";unused_capacity ") {
-            exact.push_str(line)?;
-            exact.push_str("\n")?;
-        }
-    }
-    Ok(exact)
-}
 
 // What stands in the one line whose last key is `unused_capacity`, which begins so.
 fn amount_at(alloc: Global, root: &dyn Allocative, path: &str) -> Result<usize, Fail> {

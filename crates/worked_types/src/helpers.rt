@@ -1,5 +1,5 @@
-// What no clause says: the helpers' texts, and that a visit by them can succeed.
-#![tactic(auto, using(crate::proofs::Showing::showing))]
+// The texts of the helpers, and that a visit by them can succeed.
+#![tactic(auto, using(allocative::proofs::Showing::showing))]
 
 ghost use Rattle.std.specs.Prelude.{codes, true, false, Some, length, string_bytes, ◌≡◌, IfErr};
 ghost use Rattle.std.proofs.Common.{lit≤};
@@ -8,13 +8,8 @@ ghost use Rattle.allocative_graph.specs.Visits.{Shows, HasFailed};
 ghost use Rattle.allocative.specs.Bodies.{slice_of, vec_body};
 ghost use Rattle.allocative.specs.Runs.{pair_shows, field_of};
 
-use crate::allocative_trait::Allocative;
-use crate::builder::FlameGraphBuilder;
-use crate::visitor::Visitor;
-use allocative_described::Described;
-use allocative_graph::key::Key;
-use allocative_graph::refusal::Refusal;
-use std::alloc::Global;
+use crate::texts::text_of;
+use allocative::{Allocative, Described, Key, Refusal, Visitor};
 use std::collections::BTreeMap;
 use std::test::Fail;
 
@@ -337,17 +332,6 @@ impl Allocative for Body {
         inner.exit();
         Ok(())
     }
-}
-
-// The text of one visit that gives no warning.
-fn text_of(alloc: Global, root: &dyn Allocative) -> Result<String, Fail> {
-    let mut builder = FlameGraphBuilder::new(alloc)?;
-    builder.visit_root(root)?;
-    let output = builder.finish()?;
-    if !output.warnings()?.is_empty() {
-        return Err(Fail::new("a warning"));
-    }
-    Ok(output.flamegraph().write()?)
 }
 
 #[test]

@@ -2,7 +2,7 @@ use Rattle.std.proofs.Common.{rules, codes}
 use Rattle.allocative_graph.specs.Shows.{Inside, Both, Nothing}
 use Rattle.allocative.proofs.Closures.{with_shows}
 use Rattle.allocative.proofs.Showing.{showing}
-use Rattle.allocative.proofs.visiting_tests.WithStepsAllocative.visit.Goals as goal
+use Rattle.worked_types.proofs.helpers.WithStepsAllocative.visit.Goals as goal
 
 pub returns-clause-shown : goal.returns-clause-shown
 returns-clause-shown c =

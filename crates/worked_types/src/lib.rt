@@ -1,0 +1,13 @@
+//! The text of each type and of each helper, over the public calls of `allocative`: tests alone.
+#![tactic(auto)]
+
+#[cfg(test)]
+mod helpers;
+#[cfg(test)]
+mod pack_types;
+#[cfg(test)]
+mod std_types;
+#[cfg(test)]
+mod texts;
+#[cfg(test)]
+mod visitors;

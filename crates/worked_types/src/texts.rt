@@ -1,0 +1,28 @@
+// The text of one visit.
+use allocative::{Allocative, FlameGraphBuilder};
+use std::alloc::Global;
+use std::test::Fail;
+
+// The text of one visit that gives no warning.
+pub fn text_of(alloc: Global, root: &dyn Allocative) -> Result<String, Fail> {
+    let mut builder = FlameGraphBuilder::new(alloc)?;
+    builder.visit_root(root)?;
+    let output = builder.finish()?;
+    if !output.warnings()?.is_empty() {
+        return Err(Fail::new("a warning"));
+    }
+    Ok(output.flamegraph().write()?)
+}
+
+// The same without the lines whose last key is `unused_capacity`.
+pub fn exact_text(alloc: Global, root: &dyn Allocative) -> Result<String, Fail> {
+    let text = text_of(alloc, root)?;
+    let mut exact = String::new(alloc);
+    for line in text.lines() {
+        if !line.contains(";unused_capacity ") {
+            exact.push_str(line)?;
+            exact.push_str("\n")?;
+        }
+    }
+    Ok(exact)
+}
