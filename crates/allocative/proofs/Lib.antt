@@ -1,4 +1,3 @@
-mod Keys
 pub mod Making
 pub mod Closures
 pub mod Runs
@@ -9,23 +8,6 @@ pub mod StdShowing
 pub mod Json
 pub mod SlabValues
 pub mod Roots
-pub mod Orders
-pub mod Paths
-pub mod Grown
-pub mod Labels
-pub mod Raised
-pub mod Child
-pub mod Searched
-pub mod NodeReads
-pub mod Adds
-pub mod Bridge
-pub mod Walked
-pub mod Below
-pub mod Bags
-pub mod Graphs
-pub mod Whole
-pub mod Made
-pub mod Collect
 pub mod Nest
 pub mod Lent
 pub mod Nesting

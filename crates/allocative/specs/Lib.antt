@@ -13,12 +13,6 @@ pub mod Lending
 pub mod Nested
 pub mod Built
 pub mod Rooted
-pub mod Listed
-pub mod Shapes
-pub mod Nodes
-pub mod Walks
-pub mod Finishing
-pub mod Places
 pub mod SizeOf
 -- the definitions of the crate below, passed on
 pub use Rattle.allocative_graph.specs.Path

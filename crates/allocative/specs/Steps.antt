@@ -1,23 +1,18 @@
 -- What the collector's own steps do, by cases: the same as the relations of visits say.
 use Rattle.std.specs.Prelude.{◌≡◌, ℕ, ◌+◌, ◌<◌, ◌^◌, Bool, true, false, Result, Ok, Err}
-use Rattle.std.specs.FinSet.{contains}
 use Rattle.allocative_graph.specs.declared.refusal.Refusal.{Refusal}
 use Rattle.allocative_graph.specs.Path.{Key}
 use Rattle.allocative_graph.specs.Identity.{Identity}
 use Rattle.allocative_graph.specs.Sums.{entered}
-use Rattle.allocative_graph.specs.Collector.{Live, OfGraph, OfHeld, State, Failed, Going, enter, enter_first, enter_again, is_in_unique}
+use Rattle.allocative_graph.specs.Collector.{Live, OfGraph, OfHeld, State, Failed, Going, enter, is_in_unique}
 use Rattle.allocative_graph.specs.Visits.{HasRoom, Refuses}
+use Rattle.allocative_collectors.specs.Meets.{MeetsAs}
 
 -- One entry is entered, or refused.
 abbrev pub StepsIn : Bool → Key → ℕ → State → Result Bool Refusal → State → Type 0
 StepsIn u k n (Failed r) result t = (result ≡ Err r) × (t ≡ Failed r)
 StepsIn u k n (Going b) (Ok outer) t = HasRoom u n b × (outer ≡ is_in_unique b) × (t ≡ Going (enter u k n b))
 StepsIn u k n (Going b) (Err e) t = Refuses u n b e × (t ≡ Failed e)
-
--- Whether an identity is new, and what a flame graph's collector is then.
-abbrev pub MeetsAs : Key → ℕ → Identity → Live → Bool → Live → Type 0
-MeetsAs k n i c true d = (contains c.met i ≡ false) × (d ≡ enter_first k n i c)
-MeetsAs k n i c false d = (contains c.met i ≡ true) × (d ≡ enter_again k n i c)
 
 -- One shared entry is entered, or refused.
 abbrev pub StepsInShared : Key → ℕ → Identity → State → Result Bool Refusal → State → Type 0

@@ -11,8 +11,8 @@ ghost use Rattle.std.specs.Borrow.{sem};
 
 use crate::allocative_trait::Allocative;
 use crate::collector::Collector;
-use crate::output::FlameGraphOutput;
 use crate::visitor::Visitor;
+use allocative_collectors::output::FlameGraphOutput;
 use allocative_graph::refusal::Refusal;
 use std::alloc::Global;
 use std::marker::Model;

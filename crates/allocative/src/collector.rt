@@ -11,9 +11,9 @@ ghost use Rattle.allocative.specs.Built.{as_graph};
 ghost use Rattle.allocative.specs.Making.{Makes, Done};
 ghost use Rattle.allocative.specs.Shared.{answered};
 
-use crate::graph_collector::GraphCollector;
-use crate::held_collector::HeldCollector;
-use crate::output::FlameGraphOutput;
+use allocative_collectors::graph_collector::GraphCollector;
+use allocative_collectors::held_collector::HeldCollector;
+use allocative_collectors::output::FlameGraphOutput;
 use allocative_graph::key::Key;
 use allocative_graph::refusal::Refusal;
 use allocative_graph::shared::Identity;

@@ -7,15 +7,11 @@
 pub mod allocative_trait;
 pub mod builder;
 pub mod collector;
-mod graph_collector;
-mod held_collector;
 pub mod impls;
 mod iterators;
-pub mod output;
 pub mod registry;
 pub mod size_of;
 mod slices;
-mod tree;
 pub mod two;
 pub mod visiting;
 pub mod visitor;
@@ -23,11 +19,11 @@ pub mod visitor;
 pub use crate::allocative_trait::Allocative;
 pub use crate::builder::FlameGraphBuilder;
 pub use crate::impls::pack_impls::json::visit_json_map;
-pub use crate::output::FlameGraphOutput;
 pub use crate::registry::{Registry, profile_roots};
 pub use crate::size_of::{size_of_unique, size_of_unique_allocated_data};
 pub use crate::two::profile_in_two;
 pub use crate::visitor::Visitor;
+pub use allocative_collectors::output::FlameGraphOutput;
 pub use allocative_described::{
     Described, raw_table_alloc_size_for_len, raw_table_law, shared_inner_size, up_law,
 };

@@ -8,7 +8,7 @@ ghost use Rattle.allocative_graph.specs.Visits.{Runs, IsProfileOf};
 
 use crate::allocative_trait::Allocative;
 use crate::builder::FlameGraphBuilder;
-use crate::output::FlameGraphOutput;
+use allocative_collectors::output::FlameGraphOutput;
 use allocative_graph::refusal::Refusal;
 use std::alloc::Global;
 

@@ -1,0 +1,208 @@
+-- The listed sums as a map: what it has at each place, and after one more entry.
+use Rattle.std.proofs.Common.{◌≡◌, ◌≢◌, ℕ, zero, suc, ◌+◌, ◌-◌, ◌<◌, Bool, true, false, cond, List, [], ◌∷◌, ◌++◌, map, length, Option, Some, None, refl, sym, ap, ◌∙◌, true≢false, arith, inl, inr, sum_by, unwrap_or}
+use Rattle.std.specs.FinMap.{get, entries, from_entries, get-from_entries, get-entries, entries-insert, entries_sorted}
+use Rattle.std.specs.FinMap.Entries.{find}
+use Rattle.std.specs.Option.{option_map}
+use Rattle.std.proofs.lemmas.Bool.{cases_Bool, cond-true, cond-false}
+use Rattle.std.proofs.lemmas.Cmp.{eq_by_cmp_equiv}
+use Rattle.std.proofs.lemmas.List.Sums.{sum_by-cons}
+use Rattle.allocative_graph.specs.Path.{Key, Path, path_cmp, is_same_path, is_one_below}
+use Rattle.allocative_graph.specs.Forest.{Entry}
+use Rattle.allocative_graph.specs.Sums.{Sums, Node, together, node_of, is_unique_mark, entered}
+use Rattle.allocative_graph.specs.Sums as bag
+use Rattle.allocative_graph.specs.Graph.{graph, remaining}
+use Rattle.allocative_graph.proofs.Basics.{path_total, same_path}
+use Rattle.allocative_graph.proofs.Lookups.{get-add, same_sums}
+use Rattle.allocative_graph.proofs.Below.{entered-add}
+use Rattle.allocative_graph.proofs.Computed.{entries-empty}
+use Rattle.allocative_graph.proofs.Graphs.{weights-put}
+use Rattle.allocative_graph.proofs.Merge.{get-graph, get-graph-root}
+use Rattle.allocative_collectors.specs.Listed.{Sum, Listed, raise, add, sum_at, path_at, row, rows, map_of}
+use Rattle.allocative_collectors.specs.Finishing.{size_at}
+use Rattle.allocative_collectors.proofs.Orders.{same_path-same, same_path-apart}
+
+pub same_turned : (p q : Path) → is_same_path p q ≡ is_same_path q p
+same_turned p q = (eq_by_cmp_equiv path_total).symm p q
+
+pub get-map_of : (s : Listed) (q : Path) → get (map_of s) q ≡ find path_cmp q (rows s)
+get-map_of s q = get-from_entries path_total (rows s) q
+
+-- ---- one more entry
+abbrev new_node : ℕ → Bool → Node
+new_node n u = record { bytes = n; is_unique = u }
+
+find-add : (p q : Path) (n : ℕ) (u : Bool) (s : Listed) → find path_cmp q (map row (add p n u s)) ≡ cond (is_same_path q p) (Some (together (find path_cmp p (map row s)) (new_node n u))) (find path_cmp q (map row s))
+find-add p q n u [] = refl
+find-add p q n u (e ∷ rest) = elim (cases_Bool (is_same_path e.path p)) [
+  | inl hit ↦
+      let e_is : e.path ≡ p = same_path e.path p hit in
+      let seen : is_same_path q e.path ≡ is_same_path q p = ap (is_same_path q) e_is in
+      let itself : is_same_path p e.path ≡ true = same_turned p e.path ∙ hit in
+      ap (λ (s : Listed). find path_cmp q (map row s)) (cond-true (is_same_path e.path p) (raise n u e ∷ rest) (e ∷ add p n u rest) hit)
+      ∙ ap (λ (b : Bool). cond b (Some (together (Some (row e).1) (new_node n u))) (find path_cmp q (map row rest))) seen
+      ∙ both (is_same_path q p) (Some (together (Some (row e).1) (new_node n u))) (Some (row e).1) (find path_cmp q (map row rest))
+      ∙ ap (λ (b : Bool). cond (is_same_path q p) (Some (together (Some (row e).1) (new_node n u))) (cond b (Some (row e).1) (find path_cmp q (map row rest)))) (sym seen)
+      ∙ ap (λ (b : Bool). cond (is_same_path q p) (Some (together (cond b (Some (row e).1) (find path_cmp p (map row rest))) (new_node n u))) (cond (is_same_path q e.path) (Some (row e).1) (find path_cmp q (map row rest)))) (sym itself)
+  | inr miss ↦
+      let other : is_same_path p e.path ≡ false = same_turned p e.path ∙ miss in
+      ap (λ (s : Listed). find path_cmp q (map row s)) (cond-false (is_same_path e.path p) (raise n u e ∷ rest) (e ∷ add p n u rest) miss)
+      ∙ ap (λ (o : Option Node). cond (is_same_path q e.path) (Some (row e).1) o) (find-add p q n u rest)
+      ∙ swapped (is_same_path q e.path) (is_same_path q p) (Some (row e).1) (Some (together (find path_cmp p (map row rest)) (new_node n u))) (find path_cmp q (map row rest))
+      (λ a b. true≢false (sym (same_path-same p e.path (sym (same_path q p b) ∙ same_path q e.path a)) ∙ other))
+      ∙ ap (λ (b : Bool). cond (is_same_path q p) (Some (together (cond b (Some (row e).1) (find path_cmp p (map row rest))) (new_node n u))) (cond (is_same_path q e.path) (Some (row e).1) (find path_cmp q (map row rest)))) (sym other)
+]
+  where
+    both : (b : Bool) (x y z : Option Node) → cond b x z ≡ cond b x (cond b y z)
+    both true x y z = refl
+    both false x y z = refl
+
+    swapped : (a b : Bool) (x y z : Option Node) → (a ≡ true → b ≡ true → ⊥) → cond a x (cond b y z) ≡ cond b y (cond a x z)
+    swapped true true x y z apart = absurd (apart refl refl)
+    swapped true false x y z apart = refl
+    swapped false true x y z apart = refl
+    swapped false false x y z apart = refl
+
+-- an entry below the root is added to the map too
+pub map_of-add : (s : Listed) (e : Entry) (u : Bool) → 0 < length s → path_at s 0 ≡ [] → e.path ≢ [] → is_unique_mark e.mark ≡ u → map_of (add e.path e.size u s) ≡ bag.add (map_of s) e
+map_of-add [] e u h root not_root mark = absurd (omega arith)
+map_of-add (r ∷ s) e u h root not_root mark =
+    ap map_of (cond-false (is_same_path r.path e.path) (raise e.size u r ∷ s) (r ∷ add e.path e.size u s) (same_path-apart r.path e.path (λ w. not_root (sym w ∙ root))))
+    ∙ same_sums _ _ (λ q. get-from_entries path_total (map row (add e.path e.size u s)) q ∙ (find-add e.path q e.size u s
+    ∙ (λ i. cond (is_same_path q e.path) (Some (together (sym (get-from_entries path_total (map row s) e.path) i) (record { bytes = e.size; is_unique = sym mark i }))) (sym (get-from_entries path_total (map row s) q) i))
+    ∙ sym (get-add (map_of (r ∷ s)) e q)))
+
+pub entered-map_of : (s : Listed) (e : Entry) (u : Bool) → 0 < length s → path_at s 0 ≡ [] → e.path ≢ [] → is_unique_mark e.mark ≡ u → entered (map_of (add e.path e.size u s)) ≡ entered (map_of s) + e.size
+entered-map_of s e u h root not_root mark = ap entered (map_of-add s e u h root not_root mark) ∙ entered-add (map_of s) e
+
+is_nil : Path → Bool
+is_nil [] = true
+is_nil (k ∷ p) = false
+
+pub not_nil : (k : Key) (p : Path) → k ∷ p ≢ []
+unfolding is_nil
+not_nil k p e = true≢false (sym (ap is_nil e))
+
+pub not_root : (p : Path) (k : Key) → p ++ k ∷ [] ≢ []
+not_root [] k = not_nil k []
+not_root (l ∷ p) k = not_nil l (p ++ k ∷ [])
+
+-- ---- the places of different paths
+abbrev pub Distinct : Listed → Type 0
+Distinct s = (i j : ℕ) → i < length s → j < length s → path_at s i ≡ path_at s j → i ≡ j
+
+pub record IsListing (s : Listed) : Type 0 where
+  pub rooted : 0 < length s
+  pub root_path : path_at s 0 ≡ []
+  pub root_bytes : (let e = sum_at s 0 in e.bytes) ≡ 0
+  pub apart : Distinct s
+
+find_none : (q : Path) (s : Listed) → ((i : ℕ) → i < length s → path_at s i ≢ q) → find path_cmp q (map row s) ≡ None
+find_none q [] other = refl
+find_none q (e ∷ s) other = cond-false (is_same_path q e.path) _ _ (same_path-apart q e.path (λ w. other 0 (omega arith) (sym w))) ∙ find_none q s (λ i h. other (suc i) (omega arith))
+
+find_at : (s : Listed) → Distinct s → (i : ℕ) → i < length s → find path_cmp (path_at s i) (map row s) ≡ Some (row (sum_at s i)).1
+find_at [] apart i h = absurd (omega arith)
+find_at (e ∷ s) apart zero h = cond-true (is_same_path e.path e.path) _ _ (same_path-same e.path e.path refl)
+find_at (e ∷ s) apart (suc i) h =
+    cond-false (is_same_path (path_at s i) e.path) _ _ (same_path-apart (path_at s i) e.path (λ w. (let same : suc i ≡ 0 = apart (suc i) 0 h (omega arith) w in omega arith)))
+    ∙ find_at s (λ a b ha hb w. (let same : suc a ≡ suc b = apart (suc a) (suc b) (omega arith) (omega arith) w in omega arith)) i (omega arith)
+
+pub found_at : (q : Path) (s : Listed) (v : Node) → find path_cmp q (map row s) ≡ Some v → (i : ℕ) × (i < length s) × (path_at s i ≡ q)
+found_at q [] v w = absurd (is_none w)
+  where
+    is_none : ◌≡◌ {A = Option Node} None (Some v) → ⊥
+    is_none w = true≢false (sym (ap (λ (o : Option Node). elim o as (λ _. Bool) [ Some x ↦ true | None ↦ false ]) w))
+found_at q (e ∷ s) v w = elim (cases_Bool (is_same_path q e.path)) [
+  | inl hit ↦ (0, omega arith, sym (same_path q e.path hit))
+  | inr miss ↦ (let later = found_at q s v (sym (cond-false (is_same_path q e.path) (Some (row e).1) (find path_cmp q (map row s)) miss) ∙ w) in (suc later.0, omega (arith, later.1), later.2))
+]
+
+-- ---- what the map has
+tail_apart : (r e : ℕ) → suc r ≡ suc e → r ≡ e
+tail_apart r e w = omega arith
+
+pub get_at : (s : Listed) → IsListing s → (i : ℕ) → 0 < i → i < length s → get (map_of s) (path_at s i) ≡ Some (row (sum_at s i)).1
+get_at [] ok i pos h = absurd (omega arith)
+get_at (r ∷ s) ok zero pos h = absurd (omega arith)
+get_at (r ∷ s) ok (suc i) pos h = get-map_of (r ∷ s) (path_at s i) ∙ find_at s (λ a b ha hb w. tail_apart a b (ok.apart (suc a) (suc b) (omega arith) (omega arith) w)) i (omega arith)
+
+pub get_none : (s : Listed) → (q : Path) → ((i : ℕ) → i < length s → path_at s i ≢ q) → get (map_of s) q ≡ None
+get_none [] q other = get-map_of [] q
+get_none (r ∷ s) q other = get-map_of (r ∷ s) q ∙ find_none q s (λ i h. other (suc i) (omega arith))
+
+pub got : (s : Listed) (q : Path) (v : Node) → get (map_of s) q ≡ Some v → (i : ℕ) × (0 < i) × (i < length s) × (path_at s i ≡ q)
+got [] q v w = (let a = found_at q [] v (sym (get-map_of [] q) ∙ w) in absurd (omega (arith, a.1)))
+got (r ∷ s) q v w = (let a = found_at q s v (sym (get-map_of (r ∷ s) q) ∙ w) in (suc a.0, omega arith, omega (arith, a.1), a.2))
+
+-- ---- the graph
+nothing_left : (u : Bool) (n b : ℕ) → n ≡ 0 → cond u n (n - b) ≡ 0
+nothing_left true n b e = e
+nothing_left false n b e = omega (arith, e)
+
+pub graph_hit : (s : Listed) → IsListing s → (i : ℕ) → i < length s → get (graph (map_of s)) (path_at s i) ≡ Some (size_at s i)
+graph_hit s ok zero h =
+    ap (get (graph (map_of s))) ok.root_path ∙ get-graph-root (map_of s)
+    ∙ ap (λ (n : ℕ). Some n) (sym (let e = sum_at s 0 in nothing_left e.is_unique e.bytes (bag.below (map_of s) e.path) ok.root_bytes))
+graph_hit s ok (suc i) h = by (path_at s (suc i)) refl
+  where
+    by : (q : Path) → path_at s (suc i) ≡ q → get (graph (map_of s)) (path_at s (suc i)) ≡ Some (size_at s (suc i))
+    by [] w = (let same : suc i ≡ 0 = ok.apart (suc i) 0 h ok.rooted (w ∙ sym ok.root_path) in absurd (omega arith))
+    by (k ∷ q) w =
+        ap (get (graph (map_of s))) w ∙ get-graph (map_of s) k q
+        ∙ ap (λ (p : Path). option_map (remaining (map_of s) p) (get (map_of s) p)) (sym w)
+        ∙ ap (option_map (remaining (map_of s) (path_at s (suc i)))) (get_at s ok (suc i) (omega arith) h)
+
+pub graph_none : (s : Listed) → IsListing s → (q : Path) → ((i : ℕ) → i < length s → path_at s i ≢ q) → get (graph (map_of s)) q ≡ None
+graph_none s ok [] other = absurd (other 0 ok.rooted ok.root_path)
+graph_none s ok (k ∷ q) other = get-graph (map_of s) k q ∙ ap (option_map (remaining (map_of s) (k ∷ q))) (get_none s (k ∷ q) other)
+
+-- ---- sums over the map
+abbrev Apart : List (Path × Node) → Type 0
+Apart [] = Unit {0}
+Apart (e ∷ es) = (find path_cmp e.0 es ≡ None) × Apart es
+
+module _ (weight : Path → Node → ℕ) where
+  abbrev weights : List (Path × Node) → ℕ
+  weights es = sum_by (λ e. weight e.0 e.1) es
+
+  at_start : (n : ℕ) → n ≡ 0 + n
+  at_start n = omega arith
+
+  in_front : (m n : ℕ) → m + n ≡ n + m
+  in_front m n = omega arith
+
+  weights-from_entries : (es : List (Path × Node)) → Apart es → weights (entries (from_entries {R = path_cmp} es)) ≡ weights es
+  weights-from_entries [] h = ap weights (entries-empty)
+  weights-from_entries (e ∷ es) h =
+      let none : find path_cmp e.0 (entries (from_entries {R = path_cmp} es)) ≡ None = sym (get-entries (from_entries es) e.0) ∙ (get-from_entries path_total es e.0 ∙ h.0) in
+      ap weights (entries-insert path_total (from_entries es) e.0 e.1)
+      ∙ weights-put weight e.0 e.1 (weight e.0 e.1) (entries (from_entries es)) (entries_sorted (from_entries es)) (at_start (weight e.0 e.1) ∙ ap (λ (o : Option Node). unwrap_or (option_map (weight e.0) o) 0 + weight e.0 e.1) (sym none))
+      ∙ ap (λ (n : ℕ). n + weight e.0 e.1) (weights-from_entries es h.1)
+      ∙ (in_front (weights es) (weight e.0 e.1) ∙ sym (sum_by-cons (λ e. weight e.0 e.1) e es))
+
+  weights-row : (s : Listed) → weights (map row s) ≡ sum_by (λ e. weight (row e).0 (row e).1) s
+  weights-row [] = refl
+  weights-row (e ∷ s) = sum_by-cons (λ e. weight e.0 e.1) (row e) (map row s) ∙ (ap (λ (n : ℕ). weight (row e).0 (row e).1 + n) (weights-row s) ∙ sym (sum_by-cons (λ e. weight (row e).0 (row e).1) e s))
+
+apart-rows : (s : Listed) → Distinct s → Apart (map row s)
+apart-rows [] apart = tt
+apart-rows (e ∷ s) apart = (
+  find_none e.path s (λ i h w. (let same : suc i ≡ 0 = apart (suc i) 0 (omega arith) (omega arith) w in omega arith)),
+  apart-rows s (λ a b ha hb w. tail_apart a b (apart (suc a) (suc b) (omega arith) (omega arith) w)),
+)
+
+pub not_below_root : (p : Path) → is_one_below p [] ≡ false
+not_below_root [] = refl
+not_below_root (k ∷ p) = refl
+
+-- what the map has below p is what the list has
+pub below_listed : (s : Listed) → IsListing s → (p : Path) → sum_by (λ e. cond (is_one_below p e.path) e.bytes 0) s ≡ bag.below (map_of s) p
+below_listed [] ok p = absurd (omega (arith, ok.rooted))
+below_listed (r ∷ s) ok p =
+    let none : cond (is_one_below p r.path) r.bytes 0 ≡ 0 = ap (λ (q : Path). cond (is_one_below p q) r.bytes 0) ok.root_path ∙ ap (λ (b : Bool). cond b r.bytes 0) (not_below_root p) in
+    let w : Path → Node → ℕ = λ q n. cond (is_one_below p q) n.bytes 0 in
+    let start : (n : ℕ) → 0 + n ≡ n = λ n. omega arith in
+    sum_by-cons (λ (e : Sum). cond (is_one_below p e.path) e.bytes 0) r s
+    ∙ ap (λ (n : ℕ). n + sum_by (λ (e : Sum). cond (is_one_below p e.path) e.bytes 0) s) none
+    ∙ start _
+    ∙ sym (weights-from_entries w (map row s) (apart-rows s (λ a b ha hb q. tail_apart a b (ok.apart (suc a) (suc b) (omega arith) (omega arith) q))) ∙ weights-row w s)

@@ -1,0 +1,14 @@
+-- An entry of nothing, and then one of the bytes.
+use Rattle.std.proofs.Common.{arith}
+use Rattle.allocative_collectors.proofs.Adds.{total_entered, entered_twice}
+use Rattle.allocative_collectors.proofs.tree.Tree.enter.Goals as goal
+
+pub raise-requires-clause-not_root : goal.raise-requires-clause-not_root
+raise-requires-clause-not_root c = c.in_ok-node.ensures.entered.not_root
+
+pub raise-requires-clause-fits : goal.raise-requires-clause-fits
+raise-requires-clause-fits c =
+    omega (arith, c.requires.fits, total_entered c.in_ok-node.ensures.entered)
+
+pub returns-clause-entered : goal.returns-clause-entered
+returns-clause-entered c = entered_twice _ _ _ _ _ _ _ _ c.in_ok-node.ensures.entered c.raise.ensures

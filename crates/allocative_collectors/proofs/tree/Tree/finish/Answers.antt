@@ -1,0 +1,40 @@
+-- The walk from the root has all places.
+use Rattle.allocative_collectors.proofs.Made.{made_total}
+use Rattle.std.proofs.Common.{arith, ◌<◌, ◌^◌, ℕ, List, [], ◌∷◌, ◌++◌, map, Bor, sym, ap, subst, ◌∙◌}
+use Rattle.std.specs.Prelude.{flat_map}
+use Rattle.std.specs.FinMap.{get, same_map}
+use Rattle.allocative_graph.specs.Path.{Path}
+use Rattle.allocative_graph.specs.Graph.{Graph, graph, total}
+use Rattle.allocative_graph.proofs.Basics.{path_total, path_antisymmetric}
+use Rattle.allocative_collectors.specs.Listed.{map_of}
+use Rattle.allocative_collectors.specs.Finishing.{warning_at}
+use Rattle.allocative_collectors.specs.Nodes.{shape}
+use Rattle.allocative_collectors.specs.Walks.{IsWalk}
+use Rattle.allocative_collectors.proofs.Bridge.{IsListing}
+use Rattle.allocative_collectors.proofs.Below.{listing}
+use Rattle.allocative_collectors.proofs.Whole.{warnings_walk}
+use Rattle.allocative_collectors.proofs.tree.Tree.finish.Goals as goal
+
+pub make-requires-clause-within : goal.make-requires-clause-within
+make-requires-clause-within c = (subst IsListing c.self.view_is (listing (map shape c.self.inside.nodes.items) c.self.invariant)).rooted
+
+pub make-requires-clause-keys : goal.make-requires-clause-keys
+make-requires-clause-keys c =
+    let all : IsListing c.args.self.now = subst IsListing c.self.view_is (listing (map shape c.self.inside.nodes.items) c.self.invariant) in
+    ap (map (λ (k : Bor (List ℕ)). k.now)) c.new-keys.ensures.items ∙ sym all.root_path
+
+pub returns-clause-made : goal.returns-clause-made
+returns-clause-made c =
+    let v = c.args.self.now in
+    let all : IsListing v = subst IsListing c.self.view_is (listing (map shape c.self.inside.nodes.items) c.self.invariant) in
+    let made = c.in_ok-graph.ensures.made in
+    let walk : IsWalk v [] (0 ∷ made.others) = subst (λ (p : Path). IsWalk v p (0 ∷ made.others)) all.root_path made.walk in (
+      c.new.ensures.graph ∙ same_map path_total path_antisymmetric c.in_ok-graph.graph (graph (map_of v)) (λ q. made.graph_is q ∙ ap (λ (p : Path). get (graph (map_of v)) (p ++ q)) all.root_path),
+      c.new.ensures.warnings ∙ made.warnings_are ∙ (ap (λ (l : List ℕ). l ++ flat_map (warning_at v) (0 ∷ made.others)) c.new-warnings.ensures.bytes ∙ warnings_walk v all made.others walk),
+    )
+
+pub returns-clause-total : goal.returns-clause-total
+returns-clause-total c =
+    let most = made_total c.args.self.now 0 _ _ c.in_ok-graph.graph c.in_ok-graph.ensures.made in
+    let small : total c.in_ok-graph.graph < 2 ^ 63 = omega (arith, most, c.requires) in
+    subst (λ (g : Graph). total g < 2 ^ 63) (sym c.new.ensures.graph) small

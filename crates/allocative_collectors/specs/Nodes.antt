@@ -1,0 +1,17 @@
+-- The nodes of a tree, as shapes.
+use Rattle.std.specs.Prelude.{List, map}
+use Rattle.allocative_collectors.specs.declared.tree.Node.{Node}
+use Rattle.allocative_collectors.specs.Listed.{Listed}
+use Rattle.allocative_collectors.specs.Shapes.{Shape, sums, IsArena}
+
+-- A node without the memory that it holds.
+abbrev pub shape : Node → Shape
+shape n = record { key = n.key; parent = n.parent; children = n.children.items; bytes = n.bytes; is_unique = n.is_unique; below = n.below }
+
+-- What a tree's nodes stand for.
+abbrev pub sums_of : List Node → Listed
+sums_of ns = sums (map shape ns)
+
+-- The nodes are an arena.
+abbrev pub IsTree : List Node → Type 0
+IsTree ns = IsArena (map shape ns)

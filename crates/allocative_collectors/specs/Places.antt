@@ -1,0 +1,45 @@
+-- The parts of a graph's collector: a tree, the places of its visitors, and the identities met.
+use Rattle.std.specs.Prelude.{◌≡◌, ℕ, ◌+◌, ◌<◌, ◌^◌, Bool, cond, [], ◌∷◌, ◌++◌, List, map, reverse, length, slice_index, ◌≤◌, ◌⊎◌}
+use Rattle.std.specs.FinSet.{from_list}
+use Rattle.allocative_graph.specs.declared.refusal.Refusal.{Refusal}
+use Rattle.allocative_graph.specs.declared.refusal.Refusal.TheVariants.{Memory, TooLarge}
+use Rattle.allocative_graph.specs.Identity.{Identity}
+use Rattle.allocative_graph.specs.Path.{Key, Path}
+use Rattle.allocative_graph.specs.Sums.{entered}
+use Rattle.allocative_graph.specs.Collector.{Live}
+use Rattle.allocative_collectors.specs.Listed.{Listed, path_at, total, map_of, IsEntered}
+
+-- A root visitor goes back to the root.
+abbrev pub to_root : Bool → List Path
+to_root is_rooted = cond is_rooted ([] ∷ []) []
+
+-- What the parts are as a collector: the current place, the places to go back to, the last one last, and whether a root visitor is out below them.
+abbrev pub live : Listed → List Identity → ℕ → List ℕ → Bool → Live
+live t met current places is_rooted = record {
+  sums = map_of t;
+  met = from_list met;
+  here = path_at t current;
+  back = reverse (map (path_at t) places) ++ to_root is_rooted;
+  open_visitors = length places + cond is_rooted 1 0;
+}
+
+-- The places stand in the list, which starts with the root, the outermost one is the root's, and n is the bytes entered.
+pub record IsPlaced (t : Listed) (current : ℕ) (places : List ℕ) (n : ℕ) : Type 0 where
+  pub here : current < length t
+  pub back : (j : ℕ) → j < length places → slice_index places j < length t
+  pub entered_is : n ≡ entered (map_of t)
+  pub total_is : n ≡ total t
+  pub bound : n < 2 ^ 63
+  pub rooted : 0 < length t
+  pub root_path : path_at t 0 ≡ []
+  pub outermost : slice_index (places ++ current ∷ []) 0 ≡ 0
+
+-- The n bytes fit beside those that were entered before, and were entered under k at the path of place `at`; node is the place of that path now.
+pub record AddedAt (old new : Listed) (at : ℕ) (k : Key) (n : ℕ) (u : Bool) (was now : ℕ) (node : ℕ) : Type 0 where
+  pub fits : was + n < 2 ^ 63
+  pub count : now ≡ was + n
+  pub is : IsEntered old new at k n u node
+
+-- n bytes behind the `was` bytes before were refused with e: they pass the bound; or they do not, and memory was refused.
+abbrev pub TellsWhy : ℕ → ℕ → Refusal → Type 0
+TellsWhy was n e = ((e ≡ TooLarge) × (2 ^ 63 ≤ was + n)) ⊎ ((e ≡ Memory) × (was + n < 2 ^ 63))

@@ -1,0 +1,173 @@
+//! What a flame graph's collector keeps: the arena of paths, the identities met, and where its visitors stand.
+ghost use Rattle.std.specs.Prelude.{◌≡◌, ◌+◌, ◌^◌, ◌<◌, [], false, length, IfOk, IfErr, OnOk, OnErr, IsTrue, ◌↔◌};
+ghost use Rattle.allocative_graph.specs.Sums.{entered};
+ghost use Rattle.allocative_graph.specs.Collector.{OfGraph, no_entries, enter_live, leave_live, go, IsClosed, IsAtRoot};
+ghost use Rattle.allocative_graph.specs.Graph.{total as graph_total};
+ghost use Rattle.allocative_graph.specs.Visits.{Refuses, IsProfile};
+ghost use Rattle.allocative_collectors.specs.Listed.{total};
+ghost use Rattle.allocative_collectors.specs.Places.{AddedAt, TellsWhy};
+ghost use Rattle.allocative_collectors.specs.Meets.{MeetsAs};
+
+use crate::output::FlameGraphOutput;
+use crate::tree::Tree;
+use allocative_graph::key::Key;
+use allocative_graph::refusal::Refusal;
+use allocative_graph::shared::Identity;
+use std::alloc::{AllocError, Global};
+use std::collections::BTreeSet;
+use std::marker::Model;
+
+/// The collector of a flame graph, which has not failed. The crate above remembers a refusal, and goes no further with it.
+#[derive(Drop)]
+pub struct GraphCollector {
+    tree: Tree,
+    // the node of the current path
+    current: usize,
+    // the nodes to go back to, the last one last
+    places: Vec<usize>,
+    met: BTreeSet<Identity>,
+    // whether a root visitor is out
+    is_rooted: bool,
+    // the bytes of all entries
+    entered: usize,
+}
+
+impl Model for GraphCollector {
+    ghost use Rattle.allocative_graph.specs.Collector.{Live};
+    ghost use Rattle.allocative_graph.specs.Codes.{live_code};
+
+    ghost Value = { Live };
+
+    ghost coded = { live_code };
+
+    ghost use Rattle.allocative_collectors.specs.Places.{live, IsPlaced};
+
+    ghost view = { λ c. live c.tree c.met.keys c.current c.places.items c.is_rooted };
+
+    ghost invariant = { λ c. IsPlaced c.tree c.current c.places.items c.entered };
+}
+
+impl GraphCollector {
+    /// Nothing entered, at the root, with no visitor out. It is refused for want of memory alone.
+    pub fn new(alloc: Global) -> Result<GraphCollector, AllocError>
+        ensures { IfOk result (λ c. c ≡ no_entries) }
+    {
+        let tree = Tree::new(alloc)?;
+        Ok(GraphCollector {
+            tree,
+            current: 0,
+            places: Vec::new(alloc),
+            met: BTreeSet::new(alloc),
+            is_rooted: false,
+            entered: 0,
+        })
+    }
+
+    /// One entry of `size` bytes more under the key, unique or inline, and a visitor at it.
+    ///
+    /// It is refused with TooLarge exactly where all bytes entered would pass `isize::MAX`, which is tested before memory is asked
+    /// for, and else with Memory. After a refusal nothing is said of what is kept.
+    pub fn enter(&mut self, key: &Key, size: usize, is_unique: bool) -> Result<(), Refusal>
+        ensures ok { OnOk result ((entered self.old.sums + size < 2 ^ 63) × (self.new ≡ enter_live is_unique key.now size self.old)) }
+        ensures err { IfErr result (Refuses is_unique size (OfGraph self.old)) }
+    {
+        let here = self.current;
+        let node = add(
+            &mut self.tree,
+            &mut self.entered,
+            here,
+            key,
+            size,
+            is_unique,
+        )?;
+        if self.places.push(here).is_err() {
+            return Err(Refusal::Memory);
+        }
+        self.current = node;
+        Ok(())
+    }
+
+    /// One inline pointer of `size` bytes more under the key; where its identity is met for the first time, a visitor at its
+    /// content, whose paths start at the root. Answers whether it is. It is refused as `enter` is.
+    pub fn enter_shared(&mut self, key: &Key, size: usize, id: Identity) -> Result<bool, Refusal>
+        ensures ok { IfOk result (λ new. (entered self.old.sums + size < 2 ^ 63) × MeetsAs key.now size id self.old new self.new) }
+        ensures err { IfErr result (Refuses false size (OfGraph self.old)) }
+    {
+        let here = self.current;
+        add(&mut self.tree, &mut self.entered, here, key, size, false)?;
+        match self.met.insert(id) {
+            Ok(true) => {
+                if self.places.push(here).is_err() {
+                    return Err(Refusal::Memory);
+                }
+                self.current = 0;
+                Ok(true)
+            }
+            Ok(false) => Ok(false),
+            Err(_) => Err(Refusal::Memory),
+        }
+    }
+
+    /// A visitor less: back to where the one outside stands. It takes no memory.
+    pub fn leave(&mut self)
+        ensures { self.new ≡ leave_live self.old }
+    {
+        match self.places.pop() {
+            Some(place) => self.current = place,
+            None => self.is_rooted = false,
+        }
+    }
+
+    /// Whether no visitor is out.
+    pub fn is_closed(&self) -> bool
+        ensures closed { IsTrue result ↔ IsClosed (OfGraph self.now) }
+        ensures at_root { IsTrue result → IsAtRoot (OfGraph self.now) }
+    {
+        self.places.is_empty() && !self.is_rooted
+    }
+
+    /// A root visitor more, where no visitor is out.
+    pub fn begin(&mut self)
+        requires { IsClosed (OfGraph self.old) }
+        ensures { self.new ≡ go [] self.old }
+    {
+        self.is_rooted = true;
+    }
+
+    /// The graph of all that was entered, and the text of its warnings. It is refused for want of memory alone.
+    pub fn finish(&self) -> Result<FlameGraphOutput, Refusal>
+        ensures made { IfOk result (IsProfile self.now.sums) }
+        ensures total { IfOk result (λ o. graph_total o.graph < 2 ^ 63) }
+        ensures err { IfErr result (λ e. e ≡ Refusal.Memory) }
+    {
+        self.tree.finish()
+    }
+}
+
+// One entry under the place `at`, where the bytes fit: its node. The bound is tested before memory is asked for.
+fn add(
+    tree: &mut Tree,
+    entered: &mut usize,
+    at: usize,
+    key: &Key,
+    size: usize,
+    is_unique: bool,
+) -> Result<usize, Refusal>
+    requires within { at < length tree.old }
+    requires count { entered.old ≡ total tree.old }
+    requires bound { entered.old < 2 ^ 63 }
+    ensures ok { IfOk result (AddedAt tree.old tree.new at key.now size is_unique entered.old entered.new) }
+    ensures err { IfErr result (TellsWhy entered.old size) }
+    ensures kept { OnErr result ((tree.new ≡ tree.old) × (entered.new ≡ entered.old)) }
+{
+    if size > isize::MAX as usize - *entered {
+        return Err(Refusal::TooLarge);
+    }
+    match tree.enter(at, key, size, is_unique) {
+        Ok(node) => {
+            *entered += size;
+            Ok(node)
+        }
+        Err(_) => Err(Refusal::Memory),
+    }
+}

@@ -1,0 +1,241 @@
+//! The paths that were entered, as an arena of nodes that name one another by number.
+ghost use Rattle.std.specs.Prelude.{◌≡◌, ◌+◌, ◌^◌, ◌<◌, ℕ, [], ◌∷◌, ◌++◌, length, map, slice_index, string_bytes, EachIndex, IfOk, IfErr, OnOk, OnErr, false};
+ghost use Rattle.allocative_graph.specs.Graph.{warning_line, total as graph_total};
+ghost use Rattle.allocative_graph.specs.Visits.{IsProfile};
+ghost use Rattle.allocative_collectors.specs.Listed.{root_sum, add, total, path_at, map_of, IsEntered};
+ghost use Rattle.allocative_collectors.specs.Finishing.{size_at, is_short, Makes};
+ghost use Rattle.allocative_collectors.specs.Shapes.{keys_of, KeysRise, IsPlace, IsGap};
+ghost use Rattle.allocative_collectors.specs.Nodes.{shape};
+
+use crate::output::FlameGraphOutput;
+use allocative_graph::flamegraph::{FlameGraph, push_path};
+use allocative_graph::key::Key;
+use allocative_graph::refusal::Refusal;
+use std::alloc::{AllocError, Global};
+use std::cmp::Ordering;
+use std::marker::Model;
+
+/// What was entered at one path.
+#[derive(Drop)]
+struct Node {
+    key: Key,
+    parent: usize,
+    /// The numbers of the nodes one key below, in the order of their keys.
+    children: Vec<usize>,
+    bytes: usize,
+    is_unique: bool,
+    /// The bytes of the children.
+    below: usize,
+}
+
+/// The paths that were entered, each with its bytes and whether it was ever entered as unique.
+///
+/// A path is named by the number of its node, which is its place in the order of first entries. The root is number 0.
+#[derive(Drop)]
+pub(crate) struct Tree {
+    alloc: Global,
+    nodes: Vec<Node>,
+}
+
+impl Model for Tree {
+    ghost use Rattle.allocative_collectors.specs.Listed.{Listed};
+
+    ghost Value = { Listed };
+
+    ghost use Rattle.allocative_collectors.specs.Nodes.{sums_of, IsTree};
+
+    ghost view = { λ t. sums_of t.nodes.items };
+
+    ghost invariant = { λ t. IsTree t.nodes.items };
+}
+
+impl Tree {
+    /// The root alone.
+    pub(crate) fn new(alloc: Global) -> Result<Tree, AllocError>
+        ensures { IfOk result (λ t. t ≡ root_sum ∷ []) }
+    {
+        let mut nodes = Vec::new(alloc);
+        nodes.push(Node {
+            key: Key::new(""),
+            parent: 0,
+            children: Vec::new(alloc),
+            bytes: 0,
+            is_unique: false,
+            below: 0,
+        })?;
+        Ok(Tree { alloc, nodes })
+    }
+
+    /// Enters `size` bytes under the node `at`, and gives the node of that path.
+    pub(crate) fn enter(
+        &mut self,
+        at: usize,
+        key: &Key,
+        size: usize,
+        is_unique: bool,
+    ) -> Result<usize, AllocError>
+        requires within { at < length self.old }
+        requires fits { total self.old + size < 2 ^ 63 }
+        ensures entered { IfOk result (IsEntered self.old self.new at key.now size is_unique) }
+        ensures err { OnErr result (self.new ≡ self.old) }
+    {
+        let node = self.child(at, key)?;
+        self.raise(node, size, is_unique);
+        Ok(node)
+    }
+
+    /// The graph, and the text of the warnings, in one walk.
+    pub(crate) fn finish(&self) -> Result<FlameGraphOutput, Refusal>
+        requires { total self.now < 2 ^ 63 }
+        ensures made { IfOk result (IsProfile (map_of self.now)) }
+        ensures total { IfOk result (λ o. graph_total o.graph < 2 ^ 63) }
+        ensures err { IfErr result (λ e. e ≡ Refusal.Memory) }
+    {
+        let mut keys: Vec<&'static str> = Vec::new(self.alloc);
+        let mut warnings = String::new(self.alloc);
+        let graph = self.make(0, &mut keys, &mut warnings)?;
+        Ok(FlameGraphOutput::new(graph, warnings))
+    }
+
+    /// The graph from the node `at` on, with the warnings behind the text; `keys` is the node's path.
+    fn make(
+        &self,
+        at: usize,
+        keys: &mut Vec<&'static str>,
+        text: &mut String,
+    ) -> Result<FlameGraph, Refusal>
+        requires within { at < length self.now }
+        requires fits { total self.now < 2 ^ 63 }
+        requires keys { map (λ k. k.now) keys.old.items ≡ path_at self.now at }
+        ensures keys { OnOk result (keys.new.items ≡ keys.old.items) }
+        ensures made { IfOk result (Makes self.now at (string_bytes text.old) (string_bytes text.new)) }
+        ensures err { IfErr result (λ e. e ≡ Refusal.Memory) }
+    {
+        let node = &self.nodes[at];
+        let mut graph = FlameGraph::default(self.alloc);
+        graph.add_self(self.size(at))?;
+        if self.is_short(at) {
+            push_warning(keys.as_slice(), node.bytes, node.below, text)?;
+        }
+        for &child in &node.children {
+            let key = &self.nodes[child].key;
+            keys.push(key.as_str())?;
+            let below = self.make(child, keys, text)?;
+            graph.add_child(key.copy(), below)?;
+            let _ = keys.pop();
+        }
+        Ok(graph)
+    }
+
+    /// The size that the graph has at a node.
+    fn size(&self, at: usize) -> usize
+        requires { at < length self.now }
+        ensures { result ≡ size_at self.now at }
+    {
+        let node = &self.nodes[at];
+        if node.is_unique {
+            node.bytes
+        } else {
+            node.bytes.saturating_sub(node.below)
+        }
+    }
+
+    /// Whether a node has a warning.
+    fn is_short(&self, at: usize) -> bool
+        requires { at < length self.now }
+        ensures { result ≡ is_short self.now at }
+    {
+        let node = &self.nodes[at];
+        if at == 0 || node.is_unique {
+            false
+        } else {
+            node.bytes < node.below
+        }
+    }
+
+    /// The child of the node `at` that has the key, made where there is none.
+    fn child(&mut self, at: usize, key: &Key) -> Result<usize, AllocError>
+        requires { at < length self.old }
+        ensures entered { IfOk result (IsEntered self.old self.new at key.now 0 false) }
+        ensures err { OnErr result (self.new ≡ self.old) }
+    {
+        match find(&self.nodes, &self.nodes[at].children, key) {
+            Ok(place) => Ok(self.nodes[at].children[place]),
+            Err(place) => {
+                let node = self.nodes.len();
+                self.nodes.push(Node {
+                    key: key.copy(),
+                    parent: at,
+                    children: Vec::new(self.alloc),
+                    bytes: 0,
+                    is_unique: false,
+                    below: 0,
+                })?;
+                if self.nodes[at].children.insert(place, node).is_err() {
+                    let _ = self.nodes.pop();
+                    return Err(AllocError);
+                }
+                Ok(node)
+            }
+        }
+    }
+
+    /// Enters `size` bytes at a node other than the root.
+    fn raise(&mut self, node: usize, size: usize, is_unique: bool)
+        requires not_root { 0 < node }
+        requires within { node < length self.old }
+        requires fits { total self.old + size < 2 ^ 63 }
+        ensures { self.new ≡ add (path_at self.old node) size is_unique self.old }
+    {
+        let entered = &mut self.nodes[node];
+        entered.bytes += size;
+        entered.is_unique = entered.is_unique || is_unique;
+        let at = entered.parent;
+        let parent = &mut self.nodes[at];
+        parent.below += size;
+    }
+}
+
+/// Where the key stands among the children, which are in the order of their keys, or where it would go.
+fn find(nodes: &[Node], children: &[usize], key: &Key) -> Result<usize, usize>
+    requires within { EachIndex children.now (λ j. slice_index children.now j < length nodes.now) }
+    requires rise { KeysRise (keys_of (map shape nodes.now) children.now) }
+    ensures found { IfOk result (IsPlace (keys_of (map shape nodes.now) children.now) key.now) }
+    ensures absent { IfErr result (IsGap (keys_of (map shape nodes.now) children.now) key.now) }
+{
+    // Keys that come in order need one comparison each.
+    if let Some(&last) = children.last()
+        && nodes[last].key.cmp(key).is_lt()
+    {
+        return Err(children.len());
+    }
+    let mut low = 0;
+    let mut high = children.len();
+    while low < high {
+        let middle = low + (high - low) / 2;
+        match nodes[children[middle]].key.cmp(key) {
+            Ordering::Less => low = middle + 1,
+            Ordering::Equal => return Ok(middle),
+            Ordering::Greater => high = middle,
+        }
+    }
+    Err(low)
+}
+
+/// Appends the warning of a path.
+fn push_warning(
+    keys: &[&str],
+    bytes: usize,
+    below: usize,
+    text: &mut String,
+) -> Result<(), AllocError>
+    ensures { OnOk result (string_bytes text.new ≡ string_bytes text.old ++ warning_line (map (λ k. k.now) keys.now) bytes below) }
+{
+    text.push_str("Incorrect size declaration for node `")?;
+    push_path(keys, text)?;
+    write!(
+        text,
+        "`, size of self: {bytes}, size of inline children: {below}\n"
+    )?;
+    Ok(())
+}
