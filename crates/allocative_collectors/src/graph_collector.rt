@@ -66,10 +66,11 @@ impl GraphCollector {
     /// One entry of `size` bytes more under the key, unique or inline, and a visitor at it.
     ///
     /// It is refused with TooLarge exactly where all bytes entered would pass `isize::MAX`, which is tested before memory is asked
-    /// for, and else with Memory. After a refusal nothing is said of what is kept.
+    /// for, and else with Memory. TooLarge changes nothing; after Memory the path may be there, and its bytes may be counted.
     pub fn enter(&mut self, key: &Key, size: usize, is_unique: bool) -> Result<(), Refusal>
         ensures ok { OnOk result ((entered self.old.sums + size < 2 ^ 63) × (self.new ≡ enter_live is_unique key.now size self.old)) }
         ensures err { IfErr result (Refuses is_unique size (OfGraph self.old)) }
+        ensures kept { IfErr result (λ e. e ≡ Refusal.TooLarge → self.new ≡ self.old) }
     {
         let here = self.current;
         let node = add(
@@ -92,6 +93,7 @@ impl GraphCollector {
     pub fn enter_shared(&mut self, key: &Key, size: usize, id: Identity) -> Result<bool, Refusal>
         ensures ok { IfOk result (λ new. (entered self.old.sums + size < 2 ^ 63) × MeetsAs key.now size id self.old new self.new) }
         ensures err { IfErr result (Refuses false size (OfGraph self.old)) }
+        ensures kept { IfErr result (λ e. e ≡ Refusal.TooLarge → self.new ≡ self.old) }
     {
         let here = self.current;
         add(&mut self.tree, &mut self.entered, here, key, size, false)?;

@@ -1,5 +1,5 @@
 //! What a collector of held bytes keeps. It takes no memory.
-ghost use Rattle.std.specs.Prelude.{◌≡◌, ◌+◌, ◌^◌, ◌<◌, suc, IfOk, IfErr, IsTrue, ◌↔◌};
+ghost use Rattle.std.specs.Prelude.{◌≡◌, ◌+◌, ◌^◌, ◌<◌, suc, IfOk, IfErr, OnErr, IsTrue, ◌↔◌};
 ghost use Rattle.allocative_graph.specs.Collector.{OfHeld, enter_holding, leave_holding, nothing_held, IsClosed, IsAtRoot};
 ghost use Rattle.allocative_graph.specs.Visits.{HasRoom, Refuses};
 
@@ -43,10 +43,11 @@ impl HeldCollector {
     /// One entry of `size` bytes more, unique or inline, and a visitor at it. Answers what leaving has to restore.
     ///
     /// An inline entry in a unique one is held: it is refused with TooLarge exactly where the sum would pass `usize::MAX`, or the
-    /// count of visitors would.
+    /// count of visitors would. A refusal changes nothing.
     pub fn enter(&mut self, size: usize, is_unique: bool) -> Result<bool, Refusal>
         ensures ok { IfOk result (λ outer. HasRoom is_unique size (OfHeld self.old) × (outer ≡ self.old.is_in_unique) × (self.new ≡ enter_holding is_unique size self.old)) }
         ensures err { IfErr result (Refuses is_unique size (OfHeld self.old)) }
+        ensures kept { OnErr result (self.new ≡ self.old) }
     {
         let outer = self.is_in_unique;
         let held = if outer && !is_unique { size } else { 0 };

@@ -332,21 +332,21 @@ fn put_child(children: &mut Vec<Child>, size: &mut usize, child: Child) -> Resul
     }
 }
 
-// Puts the merge of both into `out`, which has room for all. After a refusal it goes on, so that no child is lost.
+// Puts the merge of both into `children`, which has room for all. After a refusal it goes on, so that no child is lost.
 #[cycle(merge)]
 fn interleave(
     mine: Vec<Child>,
     theirs: Vec<Child>,
-    out: &mut Vec<Child>,
+    children: &mut Vec<Child>,
     size: &mut usize,
 ) -> Result<(), AllocError>
-    requires empty { out.old.items ≡ [] }
-    requires room { length mine.items + length theirs.items ≤ vec_capacity out.old }
+    requires empty { children.old.items ≡ [] }
+    requires room { length mine.items + length theirs.items ≤ vec_capacity children.old }
     requires mine { AreChildren mine.items }
     requires theirs { AreChildren theirs.items }
     requires fits { weight mine.items + weight theirs.items < 2 ^ 64 }
-    ensures merged { Merged (is_ok result) mine.items theirs.items out.new.items }
-    ensures exact { size.new ≡ weight out.new.items }
+    ensures merged { Merged (is_ok result) mine.items theirs.items children.new.items }
+    ensures exact { size.new ≡ weight children.new.items }
 {
     let mut mine = VecDeque::from(mine);
     let mut theirs = VecDeque::from(theirs);
@@ -355,7 +355,7 @@ fn interleave(
     while let Some((child, added)) = take_next(&mut mine, &mut theirs) {
         result = result.and(added);
         *size += child.graph.total_size();
-        let Ok(()) = out.push(child) else {
+        let Ok(()) = children.push(child) else {
             unreachable!()
         };
     }

@@ -9,6 +9,7 @@ use allocative::{Registry, profile_roots};
 use std::alloc::{AllocError, Global};
 use std::io;
 use std::io::{ErrorKind, Read, Write};
+use std::process::Abort;
 use std::test::Fail;
 
 // Gives its bytes one a read, and at one read the error in their place.
@@ -85,6 +86,14 @@ fn words_of(alloc: Global, text: &str) -> Result<Vec<String>, AllocError> {
     Ok(words)
 }
 
+// How a run ended, and what it wrote.
+#[derive(Drop)]
+struct Ran {
+    status: u8,
+    output: Sink,
+    errors: Sink,
+}
+
 // A run with words, an input of which one read may fail, and writers of which one call each may fail.
 fn run(
     alloc: Global,
@@ -92,12 +101,26 @@ fn run(
     input: &mut Source<'_>,
     output_fails_at: u64,
     errors_fails_at: u64,
-) -> Result<(u8, Sink, Sink), AllocError> {
+) -> Result<Ran, AllocError> {
     let words = words_of(alloc, words)?;
     let mut output = Sink::new(alloc, output_fails_at);
     let mut errors = Sink::new(alloc, errors_fails_at);
     let status = run_json(alloc, words.as_slice(), input, &mut output, &mut errors);
-    Ok((status, output, errors))
+    Ok(Ran {
+        status,
+        output,
+        errors,
+    })
+}
+
+// Asserts the status of a run.
+fn assert_status(rt: &impl Abort, ran: &Ran, want: u8, at: &str) {
+    assert_eq!(rt; ran.status, want, "at {at}");
+}
+
+// Asserts what was written.
+fn assert_written(rt: &impl Abort, sink: &Sink, want: &str, at: &str) {
+    assert_eq!(rt; sink.kept.as_slice(), want.as_bytes(), "at {at}");
 }
 
 fn whole(bytes: &[u8]) -> Source<'_> {
@@ -120,57 +143,52 @@ const THREE_NUMBERS: &str =
 
 const FAR_NUMBERS: &str = "[18446744073709551615,-9223372036854775808,18446744073709551615]";
 
+// Words and a document, and the profile and the warnings of a run.
+const DOCUMENTS: [(&str, &str, &str, &str); 10] = [
+    ("", "true", "Value 32\n", ""),
+    ("exact index", "[7,8]", TWO_NUMBERS, SHORT_DATA),
+    ("index exact", "[7,8]", TWO_NUMBERS, SHORT_DATA),
+    ("registry exact index", "[7,8]", TWO_NUMBERS, SHORT_DATA),
+    (
+        "exact",
+        "{\"ab\":1}",
+        "Value 8\nValue;Object;Map 16\nValue;Object;Map;data 8\nValue;Object;Map;data;key;String 16\nValue;Object;Map;data;key;String;ptr 8\nValue;Object;Map;data;key;String;ptr;capacity;u8 2\nValue;Object;Map;data;value;Value 16\nValue;Object;Map;data;value;Value;Number;Number 16\n",
+        "",
+    ),
+    (
+        "exact",
+        "\"\"",
+        "Value 8\nValue;String;String 16\nValue;String;String;ptr 8\n",
+        "",
+    ),
+    (
+        "exact",
+        "{}",
+        "Value 8\nValue;Object;Map 16\nValue;Object;Map;data 8\n",
+        "",
+    ),
+    (
+        "index",
+        "true",
+        "BTreeSet 16\nBTreeSet;data 8\nValue 32\n",
+        "",
+    ),
+    ("exact index", FAR_NUMBERS, THREE_NUMBERS, SHORT_DATA),
+    (
+        "exact",
+        "[true,[3]]",
+        "Value 8\nValue;Array;Vec 16\nValue;Array;Vec;ptr 8\nValue;Array;Vec;ptr;Value 40\nValue;Array;Vec;ptr;Value;Array;Vec 16\nValue;Array;Vec;ptr;Value;Array;Vec;ptr 8\nValue;Array;Vec;ptr;Value;Array;Vec;ptr;Value 16\nValue;Array;Vec;ptr;Value;Array;Vec;ptr;Value;Number;Number 16\n",
+        "",
+    ),
+];
+
 #[test]
 fn documents(rt: HostRuntime) -> Result<(), Fail> {
-    for (words, input, profile, warnings) in [
-        ("", "true", "Value 32\n", ""),
-        ("exact index", "[7,8]", TWO_NUMBERS, SHORT_DATA),
-        ("index exact", "[7,8]", TWO_NUMBERS, SHORT_DATA),
-        ("registry exact index", "[7,8]", TWO_NUMBERS, SHORT_DATA),
-        (
-            "exact",
-            "{\"ab\":1}",
-            "Value 8\nValue;Object;Map 16\nValue;Object;Map;data 8\nValue;Object;Map;data;key;String 16\nValue;Object;Map;data;key;String;ptr 8\nValue;Object;Map;data;key;String;ptr;capacity;u8 2\nValue;Object;Map;data;value;Value 16\nValue;Object;Map;data;value;Value;Number;Number 16\n",
-            "",
-        ),
-        (
-            "exact",
-            "\"\"",
-            "Value 8\nValue;String;String 16\nValue;String;String;ptr 8\n",
-            "",
-        ),
-        (
-            "exact",
-            "{}",
-            "Value 8\nValue;Object;Map 16\nValue;Object;Map;data 8\n",
-            "",
-        ),
-        (
-            "index",
-            "true",
-            "BTreeSet 16\nBTreeSet;data 8\nValue 32\n",
-            "",
-        ),
-        ("exact index", FAR_NUMBERS, THREE_NUMBERS, SHORT_DATA),
-        (
-            "exact",
-            "[true,[3]]",
-            "Value 8\nValue;Array;Vec 16\nValue;Array;Vec;ptr 8\nValue;Array;Vec;ptr;Value 40\nValue;Array;Vec;ptr;Value;Array;Vec 16\nValue;Array;Vec;ptr;Value;Array;Vec;ptr 8\nValue;Array;Vec;ptr;Value;Array;Vec;ptr;Value 16\nValue;Array;Vec;ptr;Value;Array;Vec;ptr;Value;Number;Number 16\n",
-            "",
-        ),
-    ] {
-        let (status, output, errors) = run(rt.alloc(), words, &mut whole(input.as_bytes()), 0, 0)?;
-        assert_eq!(rt; status, 0, "at {words} {input}");
-        assert_eq!(rt;
-            output.kept.as_slice(),
-            profile.as_bytes(),
-            "at {words} {input}"
-        );
-        assert_eq!(rt;
-            errors.kept.as_slice(),
-            warnings.as_bytes(),
-            "at {words} {input}"
-        );
+    for (words, input, profile, warnings) in DOCUMENTS {
+        let ran = run(rt.alloc(), words, &mut whole(input.as_bytes()), 0, 0)?;
+        assert_status(&rt, &ran, 0, input);
+        assert_written(&rt, &ran.output, profile, input);
+        assert_written(&rt, &ran.errors, warnings, input);
     }
     Ok(())
 }
@@ -198,110 +216,133 @@ fn refused_runs(rt: HostRuntime) -> Result<(), Fail> {
         ("exact exact", "true", 5, NOT_WORDS),
         ("exact index exact", "tru", 5, NOT_WORDS),
     ] {
-        let (got, output, errors) = run(rt.alloc(), words, &mut whole(input.as_bytes()), 0, 0)?;
-        assert_eq!(rt; got, status, "at {words} {input}");
-        assert!(rt; output.kept.is_empty(), "at {words} {input}");
-        assert_eq!(rt;
-            errors.kept.as_slice(),
-            line.as_bytes(),
-            "at {words} {input}"
-        );
+        let ran = run(rt.alloc(), words, &mut whole(input.as_bytes()), 0, 0)?;
+        assert_status(&rt, &ran, status, input);
+        assert_written(&rt, &ran.output, "", input);
+        assert_written(&rt, &ran.errors, line, input);
     }
     Ok(())
 }
 
 #[test]
 fn other_inputs(rt: HostRuntime) -> Result<(), Fail> {
-    let (status, _output, errors) = run(rt.alloc(), "", &mut whole(&[0xff]), 0, 0)?;
-    assert_eq!(rt; status, 2);
-    assert_eq!(rt; errors.kept.as_slice(), NOT_JSON.as_bytes());
+    let ran = run(rt.alloc(), "", &mut whole(&[0xff]), 0, 0)?;
+    assert_status(&rt, &ran, 2, "no UTF-8");
+    assert_written(&rt, &ran.errors, NOT_JSON, "no UTF-8");
     let repeated = b"{\"a\":1.5,\"a\":1}";
-    let (status, _output, errors) = run(rt.alloc(), "", &mut whole(repeated), 0, 0)?;
-    assert_eq!(rt; status, 0);
-    assert!(rt; errors.kept.is_empty());
-    for (depth, status) in [(127u32, 0u8), (128, 2)] {
-        let mut nested = Vec::new(rt.alloc());
-        for _ in 0..depth {
-            nested.push(b'[')?;
-        }
-        for _ in 0..depth {
-            nested.push(b']')?;
-        }
-        let (got, _output, _errors) = run(rt.alloc(), "", &mut whole(nested.as_slice()), 0, 0)?;
-        assert_eq!(rt; got, status, "at depth {depth}");
-    }
+    let ran = run(rt.alloc(), "", &mut whole(repeated), 0, 0)?;
+    assert_status(&rt, &ran, 0, "a repeated key");
+    assert_written(&rt, &ran.errors, "", "a repeated key");
     Ok(())
 }
 
-// Five bytes and the end take six reads.
+// So many arrays, each but the innermost with one item.
+fn nested(alloc: Global, depth: u32) -> Result<Vec<u8>, AllocError> {
+    let mut bytes = Vec::new(alloc);
+    for _ in 0..depth {
+        bytes.push(b'[')?;
+    }
+    for _ in 0..depth {
+        bytes.push(b']')?;
+    }
+    Ok(bytes)
+}
+
+#[test]
+fn depth_has_a_bound(rt: HostRuntime) -> Result<(), Fail> {
+    let alloc = rt.alloc();
+    let most = nested(alloc, 127)?;
+    let ran = run(alloc, "", &mut whole(most.as_slice()), 0, 0)?;
+    assert_status(&rt, &ran, 0, "the most arrays");
+    let more = nested(alloc, 128)?;
+    let ran = run(alloc, "", &mut whole(more.as_slice()), 0, 0)?;
+    assert_status(&rt, &ran, 2, "one array more");
+    Ok(())
+}
+
+// A run over `[7,8]` of which one read fails; five bytes and the end take six.
+fn run_with_failed_read(alloc: Global, fails_at: u64, error: ErrorKind) -> Result<Ran, AllocError> {
+    let mut input = whole(b"[7,8]");
+    input.fails_at = fails_at;
+    input.error = error;
+    run(alloc, "exact index", &mut input, 0, 0)
+}
+
 #[test]
 fn reads_that_fail(rt: HostRuntime) -> Result<(), Fail> {
-    for fails_at in 1..8u64 {
-        let fails = fails_at <= 6;
-        let mut input = whole(b"[7,8]");
-        input.fails_at = fails_at;
-        let (status, output, errors) = run(rt.alloc(), "exact index", &mut input, 0, 0)?;
-        assert_eq!(rt; status, if fails { 6 } else { 0 }, "at read {fails_at}");
-        assert_eq!(rt; output.kept.is_empty(), fails, "at read {fails_at}");
-        let line = if fails {
-            "allocative-json: cannot read input\n"
-        } else {
-            SHORT_DATA
-        };
-        assert_eq!(rt;
-            errors.kept.as_slice(),
-            line.as_bytes(),
-            "at read {fails_at}"
+    for fails_at in 1..7u64 {
+        let ran = run_with_failed_read(rt.alloc(), fails_at, ErrorKind::Other)?;
+        let at = format!(in rt.alloc(); "read {fails_at}")?;
+        assert_status(&rt, &ran, 6, at.as_str());
+        assert_written(&rt, &ran.output, "", at.as_str());
+        assert_written(
+            &rt,
+            &ran.errors,
+            "allocative-json: cannot read input\n",
+            at.as_str(),
         );
-        let mut interrupted = whole(b"[7,8]");
-        interrupted.fails_at = fails_at;
-        interrupted.error = ErrorKind::Interrupted;
-        let (status, output, _errors) = run(rt.alloc(), "exact index", &mut interrupted, 0, 0)?;
-        assert_eq!(rt; status, 0, "interrupted at read {fails_at}");
-        assert_eq!(rt; output.kept.as_slice(), TWO_NUMBERS.as_bytes());
     }
     Ok(())
 }
 
 #[test]
-fn writes_that_fail(rt: HostRuntime) -> Result<(), Fail> {
-    let alloc = rt.alloc();
-    let (_status, output, errors) = run(alloc, "exact index", &mut whole(b"[7,8]"), 0, 0)?;
-    assert!(rt; output.calls > 2 && errors.calls > 2);
-    for fails_at in 1..output.calls.saturating_add(2) {
-        let fails = fails_at <= output.calls;
-        let (status, _output, told) = run(alloc, "exact index", &mut whole(b"[7,8]"), fails_at, 0)?;
-        assert_eq!(rt; status, if fails { 7 } else { 0 }, "at write {fails_at}");
-        let line = if fails {
-            "allocative-json: cannot write output\n"
-        } else {
-            SHORT_DATA
-        };
-        assert_eq!(rt;
-            told.kept.as_slice(),
-            line.as_bytes(),
-            "at write {fails_at}"
-        );
+fn reads_that_fail_no_run(rt: HostRuntime) -> Result<(), Fail> {
+    let past_the_end = run_with_failed_read(rt.alloc(), 7, ErrorKind::Other)?;
+    assert_status(&rt, &past_the_end, 0, "read 7");
+    for fails_at in 1..8u64 {
+        let ran = run_with_failed_read(rt.alloc(), fails_at, ErrorKind::Interrupted)?;
+        let at = format!(in rt.alloc(); "interrupted read {fails_at}")?;
+        assert_status(&rt, &ran, 0, at.as_str());
+        assert_written(&rt, &ran.output, TWO_NUMBERS, at.as_str());
     }
-    for fails_at in 1..errors.calls.saturating_add(2) {
-        let fails = fails_at <= errors.calls;
-        let (status, written, _told) = run(
-            alloc,
-            "exact index",
-            &mut whole(b"[7,8]"),
-            0,
-            fails_at,
-        )?;
-        assert_eq!(rt; status, if fails { 7 } else { 0 }, "at write {fails_at}");
-        assert_eq!(rt;
-            written.kept.as_slice(),
-            TWO_NUMBERS.as_bytes(),
-            "at write {fails_at}"
-        );
-    }
-    let (status, _output, _errors) = run(alloc, "", &mut whole(b"tru"), 0, 1)?;
-    assert_eq!(rt; status, 2, "the line is not written");
     Ok(())
+}
+
+// How many calls of the writers a run over `[7,8]` makes, that of the profile first.
+fn calls_of_a_run(alloc: Global) -> Result<(u64, u64), AllocError> {
+    let ran = run(alloc, "exact index", &mut whole(b"[7,8]"), 0, 0)?;
+    Ok((ran.output.calls, ran.errors.calls))
+}
+
+#[test]
+fn writes_of_the_profile_that_fail(rt: HostRuntime) -> Result<(), Fail> {
+    let alloc = rt.alloc();
+    let (calls, _) = calls_of_a_run(alloc)?;
+    assert!(rt; calls > 2);
+    for fails_at in 1..calls.saturating_add(2) {
+        let (status, line) = if fails_at <= calls {
+            (7, "allocative-json: cannot write output\n")
+        } else {
+            (0, SHORT_DATA)
+        };
+        let ran = run(alloc, "exact index", &mut whole(b"[7,8]"), fails_at, 0)?;
+        let at = format!(in alloc; "write {fails_at}")?;
+        assert_status(&rt, &ran, status, at.as_str());
+        assert_written(&rt, &ran.errors, line, at.as_str());
+    }
+    Ok(())
+}
+
+#[test]
+fn writes_of_warnings_that_fail(rt: HostRuntime) -> Result<(), Fail> {
+    let alloc = rt.alloc();
+    let (_, calls) = calls_of_a_run(alloc)?;
+    assert!(rt; calls > 2);
+    for fails_at in 1..calls.saturating_add(2) {
+        let status = if fails_at <= calls { 7 } else { 0 };
+        let ran = run(alloc, "exact index", &mut whole(b"[7,8]"), 0, fails_at)?;
+        let at = format!(in alloc; "write {fails_at}")?;
+        assert_status(&rt, &ran, status, at.as_str());
+        assert_written(&rt, &ran.output, TWO_NUMBERS, at.as_str());
+    }
+    let ran = run(alloc, "", &mut whole(b"tru"), 0, 1)?;
+    assert_status(&rt, &ran, 2, "the line is not written");
+    Ok(())
+}
+
+// Asserts that a text is this one.
+fn assert_same(rt: &impl Abort, text: &str, want: &str) {
+    assert_eq!(rt; text, want);
 }
 
 // The roots are boxed here, as `main` does.
@@ -322,8 +363,8 @@ fn boxed_roots(rt: HostRuntime) -> Result<(), Fail> {
         }
         let output = profile_roots(&registry)?;
         let made = report::report(alloc, &output, true)?;
-        assert_eq!(rt; made.profile.as_str(), profile, "at {input}");
-        assert_eq!(rt; made.warnings.as_str(), warnings, "at {input}");
+        assert_same(&rt, made.profile.as_str(), profile);
+        assert_same(&rt, made.warnings.as_str(), warnings);
     }
     Ok(())
 }
@@ -388,7 +429,7 @@ fn faults(rt: HostRuntime) -> Result<(), Fail> {
     ] {
         assert_eq!(rt; fault.status(), status);
         let text = format!(in rt.alloc(); "{fault}")?;
-        assert_eq!(rt; text.as_str(), line);
+        assert_same(&rt, text.as_str(), line);
     }
     Ok(())
 }

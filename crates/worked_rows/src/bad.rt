@@ -5,13 +5,12 @@ ghost use Rattle.std.specs.Prelude.{codes, ◌≡◌, ◌^◌, ◌-◌};
 ghost use Rattle.allocative.specs.Shows.{Inside, InsideUnique, Field, Both, SharedWith, Nothing};
 ghost use Rattle.allocative.specs.Visits.{Shows};
 
+use crate::held::assert_held;
 use crate::huge::Huge;
-use allocative::{
-    Allocative, Described, FlameGraphBuilder, Identity, Key, Refusal, Visitor,
-    size_of_unique_allocated_data,
-};
+use allocative::{Allocative, Described, FlameGraphBuilder, Identity, Key, Refusal, Visitor};
 use std::alloc::Global;
 use std::mem::ManuallyDrop;
+use std::process::Abort;
 
 // Meets TooLarge at an entry, hides it and answers Ok.
 #[derive(Drop)]
@@ -214,14 +213,17 @@ impl Allocative for ClosureHides {
     }
 }
 
-// What `visit_root` and then `finish` answer.
-fn answers(
+// Asserts that `visit_root` and then `finish` refuse a root with this refusal.
+fn assert_refused(
+    rt: &impl Abort,
     alloc: Global,
     root: &dyn Allocative,
-) -> Result<(Result<(), Refusal>, Option<Refusal>), Refusal> {
+    want: Refusal,
+) -> Result<(), Refusal> {
     let mut builder = FlameGraphBuilder::new(alloc)?;
-    let visited = builder.visit_root(root);
-    Ok((visited, builder.finish().err()))
+    assert_eq!(rt; builder.visit_root(root), Err(want));
+    assert_eq!(rt; builder.finish().err(), Some(want));
+    Ok(())
 }
 
 const MOST: usize = isize::MAX as usize;
@@ -229,27 +231,21 @@ const MOST: usize = isize::MAX as usize;
 #[test]
 fn hidden_refusals_fail_their_builder(rt: HostRuntime) -> Result<(), Refusal> {
     let alloc = rt.alloc();
-    let too_large = (Err(Refusal::TooLarge), Some(Refusal::TooLarge));
-    assert!(rt; answers(alloc, &Hides)? == too_large);
-    assert!(rt; answers(alloc, &HidesUnsized)? == too_large);
-    assert!(rt; answers(alloc, &ClosureHides)? == too_large);
-    assert!(rt; answers(alloc, &Stops { room: MOST })? == too_large);
+    assert_refused(&rt, alloc, &Hides, Refusal::TooLarge)?;
+    assert_refused(&rt, alloc, &HidesUnsized, Refusal::TooLarge)?;
+    assert_refused(&rt, alloc, &ClosureHides, Refusal::TooLarge)?;
+    assert_refused(&rt, alloc, &Stops { room: MOST }, Refusal::TooLarge)?;
     let part = Stops { room: MOST };
-    assert!(rt; answers(alloc, &StopsInside { part })? == too_large);
-    Ok(())
+    assert_refused(&rt, alloc, &StopsInside { part }, Refusal::TooLarge)
 }
 
 #[test]
 fn refusals_by_themselves_fail_their_builder(rt: HostRuntime) -> Result<(), Refusal> {
     let alloc = rt.alloc();
-    let too_large = (Err(Refusal::TooLarge), Some(Refusal::TooLarge));
-    assert!(rt; answers(alloc, &RefusesTwice)? == too_large);
-    let memory = (Err(Refusal::Memory), Some(Refusal::Memory));
-    assert!(rt; answers(alloc, &Refuses(Refusal::Memory))? == memory);
-    let open = (Err(Refusal::Open), Some(Refusal::Open));
-    assert!(rt; answers(alloc, &RefusesInSilence)? == open);
-    assert!(rt; answers(alloc, &ClosureRefuses)? == open);
-    Ok(())
+    assert_refused(&rt, alloc, &RefusesTwice, Refusal::TooLarge)?;
+    assert_refused(&rt, alloc, &Refuses(Refusal::Memory), Refusal::Memory)?;
+    assert_refused(&rt, alloc, &RefusesInSilence, Refusal::Open)?;
+    assert_refused(&rt, alloc, &ClosureRefuses, Refusal::Open)
 }
 
 #[test]
@@ -278,33 +274,24 @@ fn a_refusal_of_a_closure_fails_the_builder(rt: HostRuntime) -> Result<(), Refus
 #[test]
 fn forgotten_visitors_leave_their_builder_open(rt: HostRuntime) -> Result<(), Refusal> {
     let alloc = rt.alloc();
-    let open = (Err(Refusal::Open), Some(Refusal::Open));
-    assert!(rt; answers(alloc, &Forgets)? == open);
-    assert!(rt; answers(alloc, &ForgetsContent)? == open);
-    let too_large = (Err(Refusal::TooLarge), Some(Refusal::TooLarge));
-    assert!(rt; answers(alloc, &ForgetsFirst)? == too_large);
-    Ok(())
-}
-
-// The refusal of a root, of which nothing is held.
-fn refusal_of(root: &dyn Allocative) -> Option<Refusal> {
-    size_of_unique_allocated_data(root).err()
+    assert_refused(&rt, alloc, &Forgets, Refusal::Open)?;
+    assert_refused(&rt, alloc, &ForgetsContent, Refusal::Open)?;
+    assert_refused(&rt, alloc, &ForgetsFirst, Refusal::TooLarge)
 }
 
 #[test]
 fn bad_implementations_hold_nothing(rt: HostRuntime) {
-    let too_large = Some(Refusal::TooLarge);
-    assert_eq!(rt; refusal_of(&HidesUnsized), too_large);
-    assert_eq!(rt; refusal_of(&RefusesTwice), too_large);
-    assert_eq!(rt; refusal_of(&ClosureHides), too_large);
-    assert_eq!(rt; refusal_of(&ForgetsFirst), too_large);
-    assert_eq!(rt; refusal_of(&Stops { room: usize::MAX }), too_large);
+    let too_large = Err(Refusal::TooLarge);
+    assert_held(&rt, &HidesUnsized, too_large);
+    assert_held(&rt, &RefusesTwice, too_large);
+    assert_held(&rt, &ClosureHides, too_large);
+    assert_held(&rt, &ForgetsFirst, too_large);
+    assert_held(&rt, &Stops { room: usize::MAX }, too_large);
     let part = Stops { room: usize::MAX };
-    assert_eq!(rt; refusal_of(&StopsInside { part }), too_large);
-    let open = Some(Refusal::Open);
-    assert_eq!(rt; refusal_of(&RefusesInSilence), open);
-    assert_eq!(rt; refusal_of(&ClosureRefuses), open);
-    assert_eq!(rt; refusal_of(&Forgets), open);
-    let memory = Some(Refusal::Memory);
-    assert_eq!(rt; refusal_of(&Refuses(Refusal::Memory)), memory);
+    assert_held(&rt, &StopsInside { part }, too_large);
+    let open = Err(Refusal::Open);
+    assert_held(&rt, &RefusesInSilence, open);
+    assert_held(&rt, &ClosureRefuses, open);
+    assert_held(&rt, &Forgets, open);
+    assert_held(&rt, &Refuses(Refusal::Memory), Err(Refusal::Memory));
 }

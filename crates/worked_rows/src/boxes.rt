@@ -6,10 +6,8 @@ ghost use Rattle.std.proofs.Common.{lit≤};
 ghost use Rattle.allocative.specs.Shows.{Inside, Field, Both};
 
 use crate::entries::assert_text;
-use allocative::{
-    Allocative, Described, FlameGraphBuilder, Key, Refusal, Visitor, size_of_unique,
-    size_of_unique_allocated_data,
-};
+use crate::held::{assert_held, assert_whole};
+use allocative::{Allocative, Described, FlameGraphBuilder, Key, Refusal, Visitor};
 use std::test::Fail;
 
 // A value of 16 bytes, with a byte and a box.
@@ -110,8 +108,8 @@ fn what_boxes_hold(rt: HostRuntime) -> Result<(), Fail> {
     let b = Box::new(alloc, 7u32)?;
     let data = Box::new(alloc, Data { a: 1, b })?;
     let boxed = Boxed { data };
-    assert_eq!(rt; size_of_unique_allocated_data(&boxed)?, 20);
-    assert_eq!(rt; size_of_unique(&boxed)?, 28);
+    assert_held(&rt, &boxed, Ok(20));
+    assert_whole(&rt, &boxed, Ok(28));
     Ok(())
 }
 

@@ -1,25 +1,31 @@
 // Entries made by hand from a root visitor: inline and unique ones, the bound, and forgotten visitors.
-use allocative::{FlameGraphBuilder, FlameGraphOutput, Key, Refusal, Visitor};
+use allocative::{FlameGraphBuilder, Key, Refusal, Visitor};
 use std::alloc::Global;
 use std::mem;
 use std::process::Abort;
 
-// What a builder has collected: the text of its graph, and its warnings.
-pub(crate) fn texts(builder: FlameGraphBuilder) -> Result<(String, String), Refusal> {
+// Asserts what a builder has collected: the text of its graph, and its warnings.
+pub(crate) fn assert_output(
+    rt: &impl Abort,
+    builder: FlameGraphBuilder,
+    text: &str,
+    warnings: &str,
+) -> Result<(), Refusal> {
     let output = builder.finish()?;
-    Ok((output.flamegraph().write()?, output.warnings()?))
+    let written = output.flamegraph().write()?;
+    let warned = output.warnings()?;
+    assert_eq!(rt; written.as_str(), text);
+    assert_eq!(rt; warned.as_str(), warnings, "at {text}");
+    Ok(())
 }
 
 // Asserts that the text of a builder is this one, and that it gives no warning.
 pub(crate) fn assert_text(
     rt: &impl Abort,
     builder: FlameGraphBuilder,
-    want: &str,
+    text: &str,
 ) -> Result<(), Refusal> {
-    let (text, warnings) = texts(builder)?;
-    assert_eq!(rt; text.as_str(), want);
-    assert_eq!(rt; warnings.as_str(), "", "at {want}");
-    Ok(())
+    assert_output(rt, builder, text, "")
 }
 
 // `key size {x inner}`.
@@ -46,36 +52,32 @@ pub(crate) fn enter_unique_with(
     inner.visit_simple(Key::new(inner_key), inner_size)
 }
 
-fn finished(alloc: Global) -> Result<FlameGraphOutput, Refusal> {
-    FlameGraphBuilder::new(alloc)?.finish()
+// Asserts that a graph has no bytes, and its text by the one call for it no line.
+fn assert_empty(rt: &impl Abort, alloc: Global) -> Result<(), Refusal> {
+    let output = FlameGraphBuilder::new(alloc)?.finish()?;
+    assert_eq!(rt; output.flamegraph().total_size(), 0);
+    let written = FlameGraphBuilder::new(alloc)?.finish_and_write_flame_graph()?;
+    assert_eq!(rt; written.as_str(), "");
+    Ok(())
 }
 
 #[test]
 fn nothing_was_entered(rt: HostRuntime) -> Result<(), Refusal> {
-    let output = finished(rt.alloc())?;
-    assert_eq!(rt; output.flamegraph().write()?.as_str(), "");
-    assert_eq!(rt; output.warnings()?.as_str(), "");
-    assert_eq!(rt; output.flamegraph().total_size(), 0);
-    let written = FlameGraphBuilder::new(rt.alloc())?.finish_and_write_flame_graph()?;
-    assert_eq!(rt; written.as_str(), "");
-    Ok(())
+    let alloc = rt.alloc();
+    assert_text(&rt, FlameGraphBuilder::new(alloc)?, "")?;
+    assert_empty(&rt, alloc)
 }
 
 #[test]
 fn one_entry_and_one_inside_it(rt: HostRuntime) -> Result<(), Refusal> {
     let mut builder = FlameGraphBuilder::new(rt.alloc())?;
     builder.root_visitor()?.visit_simple(Key::new("a"), 10)?;
-    let (text, warnings) = texts(builder)?;
-    assert_eq!(rt; text.as_str(), "a 10\n");
-    assert_eq!(rt; warnings.as_str(), "");
+    assert_text(&rt, builder, "a 10\n")?;
     let mut builder = FlameGraphBuilder::new(rt.alloc())?;
     let mut root = builder.root_visitor()?;
     enter_with(&mut root, "T", 24, "x", 8)?;
     root.exit();
-    let (text, warnings) = texts(builder)?;
-    assert_eq!(rt; text.as_str(), "T 16\nT;x 8\n");
-    assert_eq!(rt; warnings.as_str(), "");
-    Ok(())
+    assert_text(&rt, builder, "T 16\nT;x 8\n")
 }
 
 #[test]
@@ -86,9 +88,7 @@ fn children_in_a_unique_entry_take_nothing_off(rt: HostRuntime) -> Result<(), Re
     enter_unique_with(&mut outer, "ptr", 8, "u8", 3)?;
     outer.exit();
     root.exit();
-    let (text, warnings) = texts(builder)?;
-    assert_eq!(rt; text.as_str(), "T;ptr 8\nT;ptr;u8 3\n");
-    assert_eq!(rt; warnings.as_str(), "");
+    assert_text(&rt, builder, "T;ptr 8\nT;ptr;u8 3\n")?;
     let mut builder = FlameGraphBuilder::new(rt.alloc())?;
     let mut root = builder.root_visitor()?;
     let mut outer = root.enter(Key::new("Struct"), 10)?;
@@ -96,13 +96,11 @@ fn children_in_a_unique_entry_take_nothing_off(rt: HostRuntime) -> Result<(), Re
     enter_unique_with(&mut outer, "p", 6, "x", 13)?;
     outer.exit();
     root.exit();
-    let (text, warnings) = texts(builder)?;
-    assert_eq!(rt;
-        text.as_str(),
-        "Struct 1\nStruct;a 3\nStruct;p 6\nStruct;p;x 13\n"
-    );
-    assert_eq!(rt; warnings.as_str(), "");
-    Ok(())
+    assert_text(
+        &rt,
+        builder,
+        "Struct 1\nStruct;a 3\nStruct;p 6\nStruct;p;x 13\n",
+    )
 }
 
 #[test]
@@ -111,13 +109,12 @@ fn fewer_bytes_than_the_children_warn(rt: HostRuntime) -> Result<(), Refusal> {
     let mut root = builder.root_visitor()?;
     enter_with(&mut root, "a", 10, "b", 13)?;
     root.exit();
-    let (text, warnings) = texts(builder)?;
-    assert_eq!(rt; text.as_str(), "a;b 13\n");
-    assert_eq!(rt;
-        warnings.as_str(),
-        "Incorrect size declaration for node `a`, size of self: 10, size of inline children: 13\n"
-    );
-    Ok(())
+    assert_output(
+        &rt,
+        builder,
+        "a;b 13\n",
+        "Incorrect size declaration for node `a`, size of self: 10, size of inline children: 13\n",
+    )
 }
 
 #[test]
@@ -129,15 +126,14 @@ fn warnings_stand_in_the_order_of_paths(rt: HostRuntime) -> Result<(), Refusal> 
     outer.exit();
     enter_with(&mut root, "a", 1, "x", 4)?;
     root.exit();
-    let (text, warnings) = texts(builder)?;
-    assert_eq!(rt; text.as_str(), "a;x 4\nb;c;d 5\n");
-    assert_eq!(rt;
-        warnings.as_str(),
+    assert_output(
+        &rt,
+        builder,
+        "a;x 4\nb;c;d 5\n",
         "Incorrect size declaration for node `a`, size of self: 1, size of inline children: 4\n\
          Incorrect size declaration for node `b`, size of self: 1, size of inline children: 2\n\
-         Incorrect size declaration for node `b;c`, size of self: 2, size of inline children: 5\n"
-    );
-    Ok(())
+         Incorrect size declaration for node `b;c`, size of self: 2, size of inline children: 5\n",
+    )
 }
 
 #[test]
@@ -157,30 +153,25 @@ fn once_unique_a_path_stays_unique(rt: HostRuntime) -> Result<(), Refusal> {
     enter_with(&mut root, "n", 8, "x", 8)?;
     enter_unique_with(&mut root, "n", 8, "y", 3)?;
     root.exit();
-    let (text, warnings) = texts(builder)?;
-    assert_eq!(rt; text.as_str(), "n 16\nn;x 8\nn;y 3\n");
-    assert_eq!(rt; warnings.as_str(), "");
+    assert_text(&rt, builder, "n 16\nn;x 8\nn;y 3\n")?;
     let mut builder = FlameGraphBuilder::new(rt.alloc())?;
     let mut root = builder.root_visitor()?;
     enter_with(&mut root, "n", 4, "x", 9)?;
     enter_unique_with(&mut root, "n", 1, "y", 1)?;
     root.visit_simple(Key::new("n"), 2)?;
     root.exit();
-    let (text, warnings) = texts(builder)?;
-    assert_eq!(rt; text.as_str(), "n 7\nn;x 9\nn;y 1\n");
-    assert_eq!(rt; warnings.as_str(), "");
+    assert_text(&rt, builder, "n 7\nn;x 9\nn;y 1\n")?;
     let mut builder = FlameGraphBuilder::new(rt.alloc())?;
     let mut root = builder.root_visitor()?;
     enter_with(&mut root, "n", 4, "x", 9)?;
     root.visit_simple(Key::new("n"), 2)?;
     root.exit();
-    let (text, warnings) = texts(builder)?;
-    assert_eq!(rt; text.as_str(), "n;x 9\n");
-    assert_eq!(rt;
-        warnings.as_str(),
-        "Incorrect size declaration for node `n`, size of self: 6, size of inline children: 9\n"
-    );
-    Ok(())
+    assert_output(
+        &rt,
+        builder,
+        "n;x 9\n",
+        "Incorrect size declaration for node `n`, size of self: 6, size of inline children: 9\n",
+    )
 }
 
 #[test]
@@ -205,10 +196,7 @@ fn a_unique_entry_has_no_warning(rt: HostRuntime) -> Result<(), Refusal> {
     let mut root = builder.root_visitor()?;
     enter_unique_with(&mut root, "p", 8, "x", 13)?;
     root.exit();
-    let (text, warnings) = texts(builder)?;
-    assert_eq!(rt; text.as_str(), "p 8\np;x 13\n");
-    assert_eq!(rt; warnings.as_str(), "");
-    Ok(())
+    assert_text(&rt, builder, "p 8\np;x 13\n")
 }
 
 #[test]

@@ -12,6 +12,7 @@ use allocative::{
     Allocative, Described, FlameGraphBuilder, Identity, Key, Refusal, Visitor, size_of_unique,
     size_of_unique_allocated_data,
 };
+use std::process::Abort;
 use std::test::Fail;
 
 // `T 8 {x 5}`.
@@ -96,12 +97,25 @@ impl Allocative for Tells {
     }
 }
 
+// Asserts what the held bytes of a value are, or why it is refused.
+pub(crate) fn assert_held(rt: &impl Abort, root: &dyn Allocative, want: Result<usize, Refusal>) {
+    assert_eq!(rt; size_of_unique_allocated_data(root), want);
+}
+
+// The same with the value's own declared size added.
+pub(crate) fn assert_whole<T: Allocative + Described>(
+    rt: &impl Abort,
+    root: &T,
+    want: Result<usize, Refusal>,
+) {
+    assert_eq!(rt; size_of_unique(root), want);
+}
+
 #[test]
-fn only_entries_right_inside_unique_ones_are_held(rt: HostRuntime) -> Result<(), Refusal> {
-    assert_eq!(rt; size_of_unique_allocated_data(&Plain)?, 0);
-    assert_eq!(rt; size_of_unique_allocated_data(&Points)?, 0);
-    assert_eq!(rt; size_of_unique_allocated_data(&Tells), Err(Refusal::Memory));
-    Ok(())
+fn only_entries_right_inside_unique_ones_are_held(rt: HostRuntime) {
+    assert_held(&rt, &Plain, Ok(0));
+    assert_held(&rt, &Points, Ok(0));
+    assert_held(&rt, &Tells, Err(Refusal::Memory));
 }
 
 // `Box 16 {unique ptr 16 {..}}` of a slice of three numbers.
@@ -213,8 +227,8 @@ fn a_boxed_slice_holds_its_items(rt: HostRuntime) -> Result<(), Fail> {
     let boxed = Boxed {
         data: BoxedSlice { numbers },
     };
-    assert_eq!(rt; size_of_unique_allocated_data(&boxed)?, 12);
-    assert_eq!(rt; size_of_unique(&boxed)?, 28);
+    assert_held(&rt, &boxed, Ok(12));
+    assert_whole(&rt, &boxed, Ok(28));
     Ok(())
 }
 
@@ -268,8 +282,8 @@ fn a_box_holds_its_number(rt: HostRuntime) -> Result<(), Fail> {
     let boxed = BoxedNumber {
         data: Box::new(rt.alloc(), 7u32)?,
     };
-    assert_eq!(rt; size_of_unique_allocated_data(&boxed)?, 4);
-    assert_eq!(rt; size_of_unique(&boxed)?, 12);
+    assert_held(&rt, &boxed, Ok(4));
+    assert_whole(&rt, &boxed, Ok(12));
     Ok(())
 }
 
@@ -295,7 +309,7 @@ fn a_full_buffer_holds_its_bytes(rt: HostRuntime) -> Result<(), Fail> {
     let buffer = Buffer {
         bytes: [1u8, 2, 3].to_vec(rt.alloc())?,
     };
-    assert_eq!(rt; size_of_unique_allocated_data(&buffer)?, 3);
+    assert_held(&rt, &buffer, Ok(3));
     let mut builder = FlameGraphBuilder::new(rt.alloc())?;
     builder.visit_root(&buffer)?;
     Ok(assert_text(&rt, builder, "ptr 8\nptr;capacity;u8 3\n")?)
@@ -374,13 +388,9 @@ impl Allocative for HoldsNone {
 }
 
 #[test]
-fn held_bytes_have_a_bound(rt: HostRuntime) -> Result<(), Refusal> {
-    assert_eq!(rt; size_of_unique_allocated_data(&HoldsMost)?, usize::MAX);
-    assert_eq!(rt; size_of_unique(&HoldsMost), Err(Refusal::TooLarge));
-    assert_eq!(rt;
-        size_of_unique_allocated_data(&HoldsMore),
-        Err(Refusal::TooLarge)
-    );
-    assert_eq!(rt; size_of_unique_allocated_data(&HoldsNone)?, 0);
-    Ok(())
+fn held_bytes_have_a_bound(rt: HostRuntime) {
+    assert_held(&rt, &HoldsMost, Ok(usize::MAX));
+    assert_whole(&rt, &HoldsMost, Err(Refusal::TooLarge));
+    assert_held(&rt, &HoldsMore, Err(Refusal::TooLarge));
+    assert_held(&rt, &HoldsNone, Ok(0));
 }

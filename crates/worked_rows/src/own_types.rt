@@ -4,6 +4,7 @@
 ghost use Rattle.std.specs.Prelude.{codes, Some};
 ghost use Rattle.allocative.specs.Shows.{Nothing, Inside, Field};
 
+use crate::entries::assert_text;
 use allocative::{Allocative, Described, FlameGraphBuilder, IdRc, Identity, Key, Refusal, Visitor};
 use std::test::Fail;
 
@@ -75,9 +76,7 @@ fn an_enum_shows_its_variant(rt: HostRuntime) -> Result<(), Fail> {
     let mut builder = FlameGraphBuilder::new(rt.alloc())?;
     builder.visit_value(&Event::Stopped)?;
     builder.visit_value(&Event::Sent(3))?;
-    let text = builder.finish_and_write_flame_graph()?;
-    assert_eq!(rt; text.as_str(), "Event 56\nEvent;Sent;u64 8\n");
-    Ok(())
+    Ok(assert_text(&rt, builder, "Event 56\nEvent;Sent;u64 8\n")?)
 }
 
 #[test]
@@ -97,12 +96,11 @@ fn an_enum_shows_its_text(rt: HostRuntime) -> Result<(), Fail> {
 fn a_generic_type_shows_its_part(rt: HostRuntime) -> Result<(), Fail> {
     let mut builder = FlameGraphBuilder::new(rt.alloc())?;
     builder.visit_value(&Wrapped { value: Some(2u16) })?;
-    let text = builder.finish_and_write_flame_graph()?;
-    assert_eq!(rt;
-        text.as_str(),
-        "Wrapped 12\nWrapped;value;Option 2\nWrapped;value;Option;Some;u16 2\n"
-    );
-    Ok(())
+    Ok(assert_text(
+        &rt,
+        builder,
+        "Wrapped 12\nWrapped;value;Option 2\nWrapped;value;Option;Some;u16 2\n",
+    )?)
 }
 
 #[test]
@@ -116,12 +114,11 @@ fn a_shared_part_counts_once(rt: HostRuntime) -> Result<(), Fail> {
     let mut builder = FlameGraphBuilder::new(alloc)?;
     builder.visit_value(&first)?;
     builder.visit_value(&second)?;
-    let text = builder.finish_and_write_flame_graph()?;
-    assert_eq!(rt;
-        text.as_str(),
-        "Handle;table;Rc;ptr 16\nRcInner 16\nRcInner;u64 8\n"
-    );
-    Ok(())
+    Ok(assert_text(
+        &rt,
+        builder,
+        "Handle;table;Rc;ptr 16\nRcInner 16\nRcInner;u64 8\n",
+    )?)
 }
 
 #[test]
@@ -131,7 +128,5 @@ fn a_type_declares_its_entry(rt: HostRuntime) -> Result<(), Fail> {
     root.enter_self(&7u8)?.exit();
     root.enter_self_sized::<u8>()?.exit();
     root.exit();
-    let text = builder.finish_and_write_flame_graph()?;
-    assert_eq!(rt; text.as_str(), "u8 2\n");
-    Ok(())
+    Ok(assert_text(&rt, builder, "u8 2\n")?)
 }

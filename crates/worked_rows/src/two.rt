@@ -10,24 +10,46 @@ use allocative::{
     profile_in_two,
 };
 use std::alloc::Global;
+use std::process::Abort;
 
-#[test]
-fn plain_items_add_up(rt: HostRuntime) -> Result<(), Refusal> {
-    let nothing: [u8; 0] = [];
-    let empty = profile_in_two(rt.alloc(), &nothing, &nothing)?;
-    assert_eq!(rt; empty.write()?.as_str(), "");
-    assert_eq!(rt; empty.total_size(), 0);
-    let sum = profile_in_two(rt.alloc(), &[1u8, 2], &[3u8])?;
-    assert_eq!(rt; sum.write()?.as_str(), "u8 3\n");
+// Asserts the text of the sum of two collections.
+fn assert_sum<T: Allocative + Described>(
+    rt: &impl Abort,
+    alloc: Global,
+    left: &[T],
+    right: &[T],
+    want: &str,
+) -> Result<(), Refusal> {
+    let sum = profile_in_two(alloc, left, right)?;
+    let text = sum.write()?;
+    assert_eq!(rt; text.as_str(), want);
     Ok(())
 }
 
-// The text of one collection of both.
-fn text_of_both(alloc: Global, left: &IdArc<u64>, right: &IdArc<u64>) -> Result<String, Refusal> {
+// Asserts the text of one collection of both roots.
+fn assert_one(
+    rt: &impl Abort,
+    alloc: Global,
+    left: &dyn Allocative,
+    right: &dyn Allocative,
+    want: &str,
+) -> Result<(), Refusal> {
     let mut builder = FlameGraphBuilder::new(alloc)?;
     builder.visit_root(left)?;
     builder.visit_root(right)?;
-    builder.finish_and_write_flame_graph()
+    let text = builder.finish_and_write_flame_graph()?;
+    assert_eq!(rt; text.as_str(), want);
+    Ok(())
+}
+
+#[test]
+fn plain_items_add_up(rt: HostRuntime) -> Result<(), Refusal> {
+    let alloc = rt.alloc();
+    let nothing: [u8; 0] = [];
+    let empty = profile_in_two(alloc, &nothing, &nothing)?;
+    assert_eq!(rt; empty.total_size(), 0);
+    assert_sum(&rt, alloc, &nothing, &nothing, "")?;
+    assert_sum(&rt, alloc, &[1u8, 2], &[3u8], "u8 3\n")
 }
 
 #[test]
@@ -36,17 +58,13 @@ fn shared_items_add_up(rt: HostRuntime) -> Result<(), Refusal> {
     let text = "Arc;ptr 16\nArcInner 32\nArcInner;u64 16\n";
     let left = [IdArc::new(alloc, 5u64, Identity::new(0, 1))?];
     let apart = [IdArc::new(alloc, 6u64, Identity::new(1, 1))?];
-    let sum = profile_in_two(alloc, &left, &apart)?;
-    assert_eq!(rt; sum.write()?.as_str(), text);
-    let one = text_of_both(alloc, &left[0], &apart[0])?;
-    assert_eq!(rt; one.as_str(), text);
+    assert_sum(&rt, alloc, &left, &apart, text)?;
+    assert_one(&rt, alloc, &left[0], &apart[0], text)?;
     // The identities are not apart here, so one collection shows one content alone.
     let again = [IdArc::new(alloc, 7u64, Identity::new(0, 1))?];
-    let sum = profile_in_two(alloc, &left, &again)?;
-    assert_eq!(rt; sum.write()?.as_str(), text);
-    let one = text_of_both(alloc, &left[0], &again[0])?;
-    assert_eq!(rt; one.as_str(), "Arc;ptr 16\nArcInner 16\nArcInner;u64 8\n");
-    Ok(())
+    assert_sum(&rt, alloc, &left, &again, text)?;
+    let once = "Arc;ptr 16\nArcInner 16\nArcInner;u64 8\n";
+    assert_one(&rt, alloc, &left[0], &again[0], once)
 }
 
 // Shows `a size`, or `a size {x inner}`, or refuses.
@@ -124,26 +142,18 @@ impl Allocative for Item {
     }
 }
 
-// What both texts are: that of two collections, and that of one.
-fn both_texts(alloc: Global, left: Item, right: Item) -> Result<(String, String), Refusal> {
-    let mut builder = FlameGraphBuilder::new(alloc)?;
-    builder.visit_root(&left)?;
-    builder.visit_root(&right)?;
-    let sum = profile_in_two(alloc, &[left], &[right])?;
-    Ok((sum.write()?, builder.finish_and_write_flame_graph()?))
-}
-
 #[test]
 fn sums_that_do_not_add_up(rt: HostRuntime) -> Result<(), Refusal> {
+    let alloc = rt.alloc();
     // At `a` the left has fewer bytes than below, and the right more.
-    let (sum, one) = both_texts(rt.alloc(), Item::holding(1, 4), Item::plain(5))?;
-    assert_eq!(rt; sum.as_str(), "a 5\na;x 4\n");
-    assert_eq!(rt; one.as_str(), "a 2\na;x 4\n");
+    let short = [Item::holding(1, 4)];
+    let plain = [Item::plain(5)];
+    assert_sum(&rt, alloc, &short, &plain, "a 5\na;x 4\n")?;
+    assert_one(&rt, alloc, &short[0], &plain[0], "a 2\na;x 4\n")?;
     // Here both have fewer.
-    let (sum, one) = both_texts(rt.alloc(), Item::holding(1, 4), Item::holding(1, 2))?;
-    assert_eq!(rt; sum.as_str(), "a;x 6\n");
-    assert_eq!(rt; one.as_str(), "a;x 6\n");
-    Ok(())
+    let shorter = [Item::holding(1, 2)];
+    assert_sum(&rt, alloc, &short, &shorter, "a;x 6\n")?;
+    assert_one(&rt, alloc, &short[0], &shorter[0], "a;x 6\n")
 }
 
 #[test]

@@ -6,12 +6,14 @@ ghost use Rattle.std.proofs.Common.{lit≤};
 ghost use Rattle.allocative.specs.Shows.{Inside, InsideUnique, Field, Nothing};
 ghost use Rattle.allocative.specs.Visits.{Shows};
 
-use crate::entries::{assert_text, texts};
+use crate::entries::{assert_output, assert_text};
+use crate::held::{assert_held, assert_whole};
 use allocative::{
     Allocative, Described, FlameGraphBuilder, IdArc, Identity, Key, Refusal, Registry, Visitor,
-    profile_roots, size_of_unique, size_of_unique_allocated_data,
+    profile_roots,
 };
 use std::collections::BTreeMap;
+use std::process::Abort;
 use std::test::Fail;
 
 // A value of 64 bytes at an alignment of 64, with one field.
@@ -75,16 +77,12 @@ fn a_map_of_one_pair_warns(rt: HostRuntime) -> Result<(), Fail> {
     map.insert(1, 2)?;
     let mut builder = FlameGraphBuilder::new(rt.alloc())?;
     builder.visit_root(&map)?;
-    let (text, warnings) = texts(builder)?;
-    assert_eq!(rt;
-        text.as_str(),
-        "BTreeMap 16\nBTreeMap;data;key;u64 8\nBTreeMap;data;value;u64 8\n"
-    );
-    assert_eq!(rt;
-        warnings.as_str(),
-        "Incorrect size declaration for node `BTreeMap;data`, size of self: 8, size of inline children: 16\n"
-    );
-    Ok(())
+    Ok(assert_output(
+        &rt,
+        builder,
+        "BTreeMap 16\nBTreeMap;data;key;u64 8\nBTreeMap;data;value;u64 8\n",
+        "Incorrect size declaration for node `BTreeMap;data`, size of self: 8, size of inline children: 16\n",
+    )?)
 }
 
 // `T 8 {unique p 8 {unique q 8 {d 5}}}`.
@@ -127,9 +125,8 @@ impl Allocative for Nested {
 }
 
 #[test]
-fn a_unique_entry_below_a_unique_one_is_not_held(rt: HostRuntime) -> Result<(), Refusal> {
-    assert_eq!(rt; size_of_unique_allocated_data(&Nested)?, 5);
-    Ok(())
+fn a_unique_entry_below_a_unique_one_is_not_held(rt: HostRuntime) {
+    assert_held(&rt, &Nested, Ok(5));
 }
 
 #[test]
@@ -139,8 +136,8 @@ fn a_vector_holds_its_bytes_and_its_room(rt: HostRuntime) -> Result<(), Fail> {
     bytes.push(2)?;
     bytes.push(3)?;
     let capacity = bytes.capacity();
-    assert_eq!(rt; size_of_unique_allocated_data(&bytes)?, capacity);
-    assert_eq!(rt; size_of_unique(&bytes)?, capacity + 24);
+    assert_held(&rt, &bytes, Ok(capacity));
+    assert_whole(&rt, &bytes, Ok(capacity + 24));
     Ok(())
 }
 
@@ -169,6 +166,16 @@ impl Allocative for TestGlobalRoot {
     }
 }
 
+// Asserts the text of a registry's profile, and that it gives no warning.
+fn assert_profile(rt: &impl Abort, registry: &Registry, want: &str) -> Result<(), Refusal> {
+    let output = profile_roots(registry)?;
+    let text = output.flamegraph().write()?;
+    let warnings = output.warnings()?;
+    assert_eq!(rt; text.as_str(), want);
+    assert_eq!(rt; warnings.as_str(), "");
+    Ok(())
+}
+
 #[test]
 fn registered_roots_are_profiled(rt: HostRuntime) -> Result<(), Fail> {
     let alloc = rt.alloc();
@@ -177,20 +184,14 @@ fn registered_roots_are_profiled(rt: HostRuntime) -> Result<(), Fail> {
     let nothing: Option<u32> = None;
     assert!(rt; registry.register_root(Box::new(alloc, nothing)?).is_ok());
     assert_eq!(rt; registry.roots().len(), 2);
-    let output = profile_roots(&registry)?;
-    assert_eq!(rt; output.flamegraph().write()?.as_str(), "Option 8\nu32 4\n");
-    assert_eq!(rt; output.warnings()?.as_str(), "");
+    Ok(assert_profile(&rt, &registry, "Option 8\nu32 4\n")?)
+}
+
+#[test]
+fn a_registered_root_shows_its_field(rt: HostRuntime) -> Result<(), Fail> {
+    let alloc = rt.alloc();
     let mut registry = Registry::new(alloc);
-    assert!(rt;
-        registry
-            .register_root(Box::new(alloc, TestGlobalRoot { x: 1 })?)
-            .is_ok()
-    );
-    let output = profile_roots(&registry)?;
-    assert_eq!(rt;
-        output.flamegraph().write()?.as_str(),
-        "TestGlobalRoot;x;u32 4\n"
-    );
-    assert_eq!(rt; output.warnings()?.as_str(), "");
-    Ok(())
+    let root = Box::new(alloc, TestGlobalRoot { x: 1 })?;
+    assert!(rt; registry.register_root(root).is_ok());
+    Ok(assert_profile(&rt, &registry, "TestGlobalRoot;x;u32 4\n")?)
 }

@@ -8,7 +8,7 @@ ghost use Rattle.allocative_graph.specs.Visits.{Shows, HasFailed};
 ghost use Rattle.allocative.specs.Bodies.{slice_of, vec_body};
 ghost use Rattle.allocative.specs.Runs.{pair_shows, field_of};
 
-use crate::texts::text_of;
+use crate::texts::expect_text;
 use allocative::{Allocative, Described, Key, Refusal, Visitor};
 use std::collections::BTreeMap;
 use std::test::Fail;
@@ -340,23 +340,23 @@ fn slices_and_iterators_give_one_text(rt: HostRuntime) -> Result<(), Fail> {
     let plain = Slice {
         items: vec![in alloc; Pair, Pair, Pair]?,
     };
-    assert_eq!(rt; text_of(alloc, &plain)?.as_str(), "Pair 12\n");
+    expect_text(&rt, alloc, &plain, "Pair 12\n")?;
     let each = Slice {
         items: vec![in alloc; DropPair(Pair), DropPair(Pair), DropPair(Pair)]?,
     };
-    assert_eq!(rt; text_of(alloc, &each)?.as_str(), "Pair 9\nPair;a 3\n");
+    expect_text(&rt, alloc, &each, "Pair 9\nPair;a 3\n")?;
     let plain = Iterated {
         items: vec![in alloc; Pair, Pair, Pair]?,
     };
-    assert_eq!(rt; text_of(alloc, &plain)?.as_str(), "Pair 12\n");
+    expect_text(&rt, alloc, &plain, "Pair 12\n")?;
     let each = Iterated {
         items: vec![in alloc; DropPair(Pair), DropPair(Pair), DropPair(Pair)]?,
     };
-    assert_eq!(rt; text_of(alloc, &each)?.as_str(), "Pair 9\nPair;a 3\n");
+    expect_text(&rt, alloc, &each, "Pair 9\nPair;a 3\n")?;
     let empty: Slice<Byte> = Slice {
         items: Vec::new(alloc),
     };
-    assert_eq!(rt; text_of(alloc, &empty)?.as_str(), "");
+    expect_text(&rt, alloc, &empty, "")?;
     Ok(())
 }
 
@@ -367,14 +367,11 @@ fn maps_and_sets_show_data(rt: HostRuntime) -> Result<(), Fail> {
     entries.insert(Byte(1), Byte(2))?;
     entries.insert(Byte(3), Byte(4))?;
     let map = MapFields { entries };
-    assert_eq!(rt;
-        text_of(alloc, &map)?.as_str(),
-        "data 4\ndata;key;u8 2\ndata;value;u8 2\n"
-    );
+    expect_text(&rt, alloc, &map, "data 4\ndata;key;u8 2\ndata;value;u8 2\n")?;
     let set = SetFields {
         keys: vec![in alloc; Byte(1), Byte(2)]?,
     };
-    assert_eq!(rt; text_of(alloc, &set)?.as_str(), "data 6\ndata;key;u8 2\n");
+    expect_text(&rt, alloc, &set, "data 6\ndata;key;u8 2\n")?;
     Ok(())
 }
 
@@ -384,22 +381,19 @@ fn texts_boxes_and_fields(rt: HostRuntime) -> Result<(), Fail> {
     let six = Text {
         text: String::from_str(alloc, "abcdef")?,
     };
-    assert_eq!(rt; text_of(alloc, &six)?.as_str(), "str 6\n");
+    expect_text(&rt, alloc, &six, "str 6\n")?;
     let none = Text {
         text: String::new(alloc),
     };
-    assert_eq!(rt; text_of(alloc, &none)?.as_str(), "");
+    expect_text(&rt, alloc, &none, "")?;
     let boxed = Boxed { byte: Byte(1) };
-    assert_eq!(rt;
-        text_of(alloc, &boxed)?.as_str(),
-        "Box;ptr 8\nBox;ptr;u8 1\n"
-    );
+    expect_text(&rt, alloc, &boxed, "Box;ptr 8\nBox;ptr;u8 1\n")?;
     let field = WithField { byte: Byte(1) };
-    assert_eq!(rt; text_of(alloc, &field)?.as_str(), "f;u8 1\n");
-    assert_eq!(rt; text_of(alloc, &WithClosure)?.as_str(), "f 3\nf;x 1\n");
-    assert_eq!(rt; text_of(alloc, &WithSteps)?.as_str(), "f 5\nf;x 1\nf;y 2\n");
+    expect_text(&rt, alloc, &field, "f;u8 1\n")?;
+    expect_text(&rt, alloc, &WithClosure, "f 3\nf;x 1\n")?;
+    expect_text(&rt, alloc, &WithSteps, "f 5\nf;x 1\nf;y 2\n")?;
     let selves = Selves { byte: Byte(1) };
-    assert_eq!(rt; text_of(alloc, &selves)?.as_str(), "u8 3\n");
+    expect_text(&rt, alloc, &selves, "u8 3\n")?;
     Ok(())
 }
 
@@ -409,13 +403,10 @@ fn a_slice_by_itself_and_a_body(rt: HostRuntime) -> Result<(), Fail> {
     let slice = SliceOf {
         items: vec![in alloc; Byte(1), Byte(2), Byte(3)]?,
     };
-    assert_eq!(rt; text_of(alloc, &slice)?.as_str(), "u8;data;u8 3\n");
+    expect_text(&rt, alloc, &slice, "u8;data;u8 3\n")?;
     let body = Body {
         items: vec![in alloc; Byte(1), Byte(2), Byte(3)]?,
     };
-    assert_eq!(rt;
-        text_of(alloc, &body)?.as_str(),
-        "ptr 8\nptr;capacity;u8 3\n"
-    );
+    expect_text(&rt, alloc, &body, "ptr 8\nptr;capacity;u8 3\n")?;
     Ok(())
 }

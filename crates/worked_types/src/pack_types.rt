@@ -3,7 +3,7 @@
 ghost use Rattle.serde_json.specs.View.{members_view};
 ghost use Rattle.allocative.specs.JsonShows.{map_shows};
 
-use crate::texts::{exact_text, text_of};
+use crate::texts::{expect_exact, expect_text, text_of};
 use allocative::{Allocative, Refusal, Visitor, visit_json_map};
 use either::Either;
 use indexmap::{IndexMap, IndexSet};
@@ -77,7 +77,7 @@ fn json_values_show_their_parts(rt: HostRuntime) -> Result<(), Fail> {
         ),
     ] {
         let value = Value::from_str(alloc, input)?;
-        assert_eq!(rt; exact_text(alloc, &value)?.as_str(), want, "at {input}");
+        expect_exact(&rt, alloc, &value, want)?;
     }
     Ok(())
 }
@@ -87,15 +87,17 @@ fn json_numbers_and_maps_show_themselves(rt: HostRuntime) -> Result<(), Fail> {
     let alloc = rt.alloc();
     let value = Value::from_str(alloc, "7")?;
     let number = value.as_number().ok_or("a number")?;
-    assert_eq!(rt; text_of(alloc, number)?.as_str(), "Number 16\n");
+    expect_text(&rt, alloc, number, "Number 16\n")?;
     let Value::Object(map) = Value::from_str(alloc, "{\"a\":7}")? else {
         return Err(Fail::new("an object"));
     };
     let members = Members { map };
-    assert_eq!(rt;
-        exact_text(alloc, &members)?.as_str(),
-        "Map 16\nMap;data 8\nMap;data;key;String 16\nMap;data;key;String;ptr 8\nMap;data;key;String;ptr;capacity;u8 1\nMap;data;value;Value 16\nMap;data;value;Value;Number;Number 16\n"
-    );
+    expect_exact(
+        &rt,
+        alloc,
+        &members,
+        "Map 16\nMap;data 8\nMap;data;key;String 16\nMap;data;key;String;ptr 8\nMap;data;key;String;ptr;capacity;u8 1\nMap;data;value;Value 16\nMap;data;value;Value;Number;Number 16\n",
+    )?;
     Ok(())
 }
 
@@ -103,12 +105,9 @@ fn json_numbers_and_maps_show_themselves(rt: HostRuntime) -> Result<(), Fail> {
 fn sides_and_errors(rt: HostRuntime) -> Result<(), Fail> {
     let alloc = rt.alloc();
     let right: Either<u8, u64> = Either::Right(1);
-    assert_eq!(rt;
-        text_of(alloc, &right)?.as_str(),
-        "Either 8\nEither;Right;u64 8\n"
-    );
+    expect_text(&rt, alloc, &right, "Either 8\nEither;Right;u64 8\n")?;
     let error = anyhow::Error::msg("refused");
-    assert_eq!(rt; text_of(alloc, &error)?.as_str(), "");
+    expect_text(&rt, alloc, &error, "")?;
     Ok(())
 }
 
@@ -116,12 +115,9 @@ fn sides_and_errors(rt: HostRuntime) -> Result<(), Fail> {
 fn a_cell_shows_its_value_once_set(rt: HostRuntime) -> Result<(), Fail> {
     let alloc = rt.alloc();
     let cell: OnceBox<u64> = OnceBox::new(alloc);
-    assert_eq!(rt; text_of(alloc, &cell)?.as_str(), "OnceBox 8\n");
+    expect_text(&rt, alloc, &cell, "OnceBox 8\n")?;
     assert!(rt; cell.set(Box::new(alloc, 5u64)?).is_ok());
-    assert_eq!(rt;
-        text_of(alloc, &cell)?.as_str(),
-        "OnceBox;ptr 8\nOnceBox;ptr;u64 8\n"
-    );
+    expect_text(&rt, alloc, &cell, "OnceBox;ptr 8\nOnceBox;ptr;u64 8\n")?;
     Ok(())
 }
 
@@ -130,16 +126,15 @@ fn small_vectors_show_their_items(rt: HostRuntime) -> Result<(), Fail> {
     let alloc = rt.alloc();
     let mut items: SmallVec<u64, 2> = SmallVec::new(alloc);
     items.push(1)?;
-    assert_eq!(rt;
-        text_of(alloc, &items)?.as_str(),
-        "SmallVec 16\nSmallVec;data;u64 8\n"
-    );
+    expect_text(&rt, alloc, &items, "SmallVec 16\nSmallVec;data;u64 8\n")?;
     items.push(2)?;
     items.push(3)?;
-    assert_eq!(rt;
-        text_of(alloc, &items)?.as_str(),
-        "SmallVec 16\nSmallVec;ptr 8\nSmallVec;ptr;data;u64 24\n"
-    );
+    expect_text(
+        &rt,
+        alloc,
+        &items,
+        "SmallVec 16\nSmallVec;ptr 8\nSmallVec;ptr;data;u64 24\n",
+    )?;
     Ok(())
 }
 
@@ -149,10 +144,7 @@ fn slabs_show_their_values(rt: HostRuntime) -> Result<(), Fail> {
     let mut two: Slab<u32> = Slab::new(alloc);
     two.insert(1)?;
     two.insert(2)?;
-    assert_eq!(rt;
-        exact_text(alloc, &two)?.as_str(),
-        "Slab 32\nSlab;ptr 8\nSlab;ptr;u32 8\n"
-    );
+    expect_exact(&rt, alloc, &two, "Slab 32\nSlab;ptr 8\nSlab;ptr;u32 8\n")?;
     let mut three: Slab<u8> = Slab::new(alloc);
     for value in [1u8, 2, 3] {
         three.insert(value)?;
@@ -167,15 +159,14 @@ fn slabs_show_their_values(rt: HostRuntime) -> Result<(), Fail> {
 fn index_maps_show_their_pairs(rt: HostRuntime) -> Result<(), Fail> {
     let alloc = rt.alloc();
     let mut one: IndexMap<u64, u64> = IndexMap::new(alloc);
-    assert_eq!(rt;
-        exact_text(alloc, &one)?.as_str(),
-        "IndexMap 64\nIndexMap;data 8\n"
-    );
+    expect_exact(&rt, alloc, &one, "IndexMap 64\nIndexMap;data 8\n")?;
     one.insert(1, 2)?;
-    assert_eq!(rt;
-        exact_text(alloc, &one)?.as_str(),
-        "IndexMap 56\nIndexMap;data 8\nIndexMap;data;key;u64 8\nIndexMap;data;value;u64 8\nIndexMap;raw_table 8\nIndexMap;raw_table;alloc 36\n"
-    );
+    expect_exact(
+        &rt,
+        alloc,
+        &one,
+        "IndexMap 56\nIndexMap;data 8\nIndexMap;data;key;u64 8\nIndexMap;data;value;u64 8\nIndexMap;raw_table 8\nIndexMap;raw_table;alloc 36\n",
+    )?;
     let mut three: IndexMap<u8, u8> = IndexMap::new(alloc);
     for key in [1u8, 2, 3] {
         three.insert(key, 0)?;
@@ -196,10 +187,12 @@ fn index_sets_show_their_values(rt: HostRuntime) -> Result<(), Fail> {
     for value in [1u16, 2, 3, 4, 5] {
         five.insert(value)?;
     }
-    assert_eq!(rt;
-        exact_text(alloc, &five)?.as_str(),
-        "IndexSet 56\nIndexSet;data 8\nIndexSet;data;value;u16 10\nIndexSet;raw_table 8\nIndexSet;raw_table;alloc 72\n"
-    );
+    expect_exact(
+        &rt,
+        alloc,
+        &five,
+        "IndexSet 56\nIndexSet;data 8\nIndexSet;data;value;u16 10\nIndexSet;raw_table 8\nIndexSet;raw_table;alloc 72\n",
+    )?;
     let mut three: IndexSet<u8> = IndexSet::new(alloc);
     for value in [1u8, 2, 3] {
         three.insert(value)?;

@@ -1,6 +1,7 @@
 // The text of one visit.
 use allocative::{Allocative, FlameGraphBuilder};
 use std::alloc::Global;
+use std::process::Abort;
 use std::test::Fail;
 
 // The text of one visit that gives no warning.
@@ -25,4 +26,28 @@ pub fn exact_text(alloc: Global, root: &dyn Allocative) -> Result<String, Fail> 
         }
     }
     Ok(exact)
+}
+
+// Asserts that the text of one visit is this one.
+pub fn expect_text(
+    rt: &impl Abort,
+    alloc: Global,
+    root: &dyn Allocative,
+    want: &str,
+) -> Result<(), Fail> {
+    let text = text_of(alloc, root)?;
+    assert_eq!(rt; text.as_str(), want);
+    Ok(())
+}
+
+// Asserts that the text of one visit, without the lines of unused capacity, is this one.
+pub fn expect_exact(
+    rt: &impl Abort,
+    alloc: Global,
+    root: &dyn Allocative,
+    want: &str,
+) -> Result<(), Fail> {
+    let text = exact_text(alloc, root)?;
+    assert_eq!(rt; text.as_str(), want);
+    Ok(())
 }

@@ -85,7 +85,7 @@ pub FlameGraph::merge-invariant_of-self-2 : goal.FlameGraph::merge-invariant_of-
 FlameGraph::merge-invariant_of-self-2 t c =
     let cs = c.self.inside.children.items in
     let ds = c.other.inside.children.items in
-    let es = c.interleave.new.out.items in
+    let es = c.interleave.new.children.items in
     let mine : c.replace-mine.result.items ≡ cs = ap (λ v. v.items) c.replace-mine.ensures.value in
     let merged : Merged (is_ok c.interleave.result) cs ds es = subst (λ (l : List Child). Merged (is_ok c.interleave.result) l ds es) mine c.interleave.ensures.merged in
     let my_total = total-node c.self.inside.node_size cs c.self.invariant.children.sorted in
@@ -100,7 +100,7 @@ pub FlameGraph::merge-returns : goal.FlameGraph::merge-returns
 FlameGraph::merge-returns t c =
     let cs = c.self.inside.children.items in
     let ds = c.other.inside.children.items in
-    let es = c.interleave.new.out.items in
+    let es = c.interleave.new.children.items in
     let mine : c.replace-mine.result.items ≡ cs = ap (λ v. v.items) c.replace-mine.ensures.value in
     let merged : Merged (is_ok c.interleave.result) cs ds es = subst (λ (l : List Child). Merged (is_ok c.interleave.result) l ds es) mine c.interleave.ensures.merged in
     let added = added_node (is_ok c.interleave.result) c.self.inside.node_size c.other.inside.node_size cs ds es c.self.invariant.children c.other.invariant.children merged in

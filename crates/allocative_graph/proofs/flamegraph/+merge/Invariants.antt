@@ -21,4 +21,4 @@ decreases-interleave-loop-child l = length l.mine.items + length l.theirs.items
 
 -- What is left of both, with its merge behind what is out, is the merge of all.
 abbrev pub invariant-interleave-loop-child : goal.invariant-interleave-loop-child
-invariant-interleave-loop-child l = Going (is_ok l.result) l.fn.mine.items l.fn.theirs.items l.out.items l.mine.items l.theirs.items l.size (vec_capacity l.out)
+invariant-interleave-loop-child l = Going (is_ok l.result) l.fn.mine.items l.fn.theirs.items l.children.items l.mine.items l.theirs.items l.size (vec_capacity l.children)
