@@ -4,6 +4,7 @@ pub mod Runs
 pub mod Bodies
 pub mod Steps
 pub mod Showing
+pub mod Parts
 pub mod StdShowing
 pub mod Json
 pub mod SlabValues

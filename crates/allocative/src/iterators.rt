@@ -1,5 +1,5 @@
 //! What containers of pairs and of keys enter by: the items that an iterator gives.
-#![tactic(auto, using(crate::proofs::Showing::showing))]
+#![tactic(auto, using(crate::proofs::Parts::parts))]
 
 ghost use Rattle.std.specs.Prelude.{codes, ◌≡◌, ◌≤◌, ◌-◌, Some, IfErr};
 ghost use Rattle.std.specs.Iterator.{IsFinite};

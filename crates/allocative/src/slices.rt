@@ -1,5 +1,5 @@
 //! What containers of items in a row enter by: slices, and buffers with room for more.
-#![tactic(auto, using(crate::proofs::Showing::showing))]
+#![tactic(auto, using(crate::proofs::Parts::parts))]
 
 ghost use Rattle.std.specs.Prelude.{codes, ◌≡◌, ◌≤◌, ◌++◌, ◌+◌, ◌-◌, length, IfErr, Some};
 ghost use Rattle.allocative_described.specs.Sizes.{size_product};

@@ -1,5 +1,5 @@
 //! Visitors: places in a collector, under which values enter what they hold.
-#![tactic(auto, using(crate::proofs::Showing::showing))]
+#![tactic(auto, using(crate::proofs::Parts::parts))]
 
 ghost use Rattle.std.specs.Prelude.{◌≡◌, IfOk, IfErr, IfSome, Ok, Err, Some};
 ghost use Rattle.allocative_graph.specs.Collector.{Failed, failed_with};

@@ -1,5 +1,5 @@
 //! `anyhow::Error` shows nothing.
-#![tactic(auto, using(crate::proofs::Showing::showing))]
+#![tactic(auto, using(crate::proofs::Parts::parts))]
 
 ghost use Rattle.allocative_graph.specs.Shows.{Nothing};
 

@@ -1,5 +1,5 @@
 //! `IndexSet`: its values in their order, and its table.
-#![tactic(auto, using(crate::proofs::Showing::showing))]
+#![tactic(auto, using(crate::proofs::Parts::parts))]
 
 ghost use Rattle.std.specs.Prelude.{◌≡◌, IfErr, codes};
 ghost use Rattle.allocative_graph.specs.Shows.{Inside, InsideUnique, Both, each_shows};

@@ -1,6 +1,6 @@
 //! JSON values, their numbers, and their maps. A value is walked by a recursion of its own, with the entries of `Vec` and
 //! `String`.
-#![tactic(auto, using(crate::proofs::Showing::showing))]
+#![tactic(auto, using(crate::proofs::Parts::parts))]
 
 ghost use Rattle.std.specs.Prelude.{◌≡◌, ◌*◌, IfErr, Some, codes, string_bytes};
 ghost use Rattle.serde_json.specs.View.{view, items_view, members_view};

@@ -1,5 +1,5 @@
 //! `OnceBox`: the pointer to its value, once it is set.
-#![tactic(auto, using(crate::proofs::Showing::showing))]
+#![tactic(auto, using(crate::proofs::Parts::parts))]
 
 ghost use Rattle.std.specs.Prelude.{◌≡◌, IfErr, codes};
 ghost use Rattle.allocative_graph.specs.Shows.{Inside, InsideUnique};

@@ -1,5 +1,5 @@
 //! `Slab`: the buffer of its values, by rising key.
-#![tactic(auto, using(crate::proofs::Showing::showing))]
+#![tactic(auto, using(crate::proofs::Parts::parts))]
 
 ghost use Rattle.std.specs.Prelude.{◌≡◌, IfErr, codes};
 ghost use Rattle.allocative_graph.specs.Shows.{Inside};

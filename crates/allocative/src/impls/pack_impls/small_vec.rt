@@ -1,5 +1,5 @@
 //! `SmallVec`: a field for each item, inside a pointer where the items lie in an allocation.
-#![tactic(auto, using(crate::proofs::Showing::showing))]
+#![tactic(auto, using(crate::proofs::Parts::parts))]
 
 ghost use Rattle.std.specs.Prelude.{◌≡◌, IfErr, codes};
 ghost use Rattle.allocative_graph.specs.Shows.{InsideUnique, Field};

@@ -1,5 +1,5 @@
 //! Values that are never dropped by themselves, and types that show nothing.
-#![tactic(auto, using(crate::proofs::Showing::showing))]
+#![tactic(auto, using(crate::proofs::Parts::parts))]
 
 ghost use Rattle.std.specs.Prelude.{codes};
 ghost use Rattle.std.specs.Mem.{manually_drop_value};

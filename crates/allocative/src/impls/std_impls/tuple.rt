@@ -1,5 +1,5 @@
 //! Tuples: an entry of its own for each field, named by its place.
-#![tactic(auto, using(crate::proofs::Showing::showing))]
+#![tactic(auto, using(crate::proofs::Parts::fields))]
 
 ghost use Rattle.std.specs.Prelude.{codes};
 ghost use Rattle.allocative_graph.specs.Shows.{Field, Both};

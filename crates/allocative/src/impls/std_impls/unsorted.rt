@@ -1,5 +1,5 @@
 //! `Option`, `Result`, boxes, arrays and `String`.
-#![tactic(auto, using(crate::proofs::Showing::showing))]
+#![tactic(auto, using(crate::proofs::Parts::parts))]
 
 ghost use Rattle.std.specs.Prelude.{◌≡◌, codes, length, string_bytes, IfErr, Some};
 ghost use Rattle.allocative_graph.specs.Shows.{Field, InsideUnique};
