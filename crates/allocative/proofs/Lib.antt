@@ -4,10 +4,11 @@ pub mod Runs
 pub mod Bodies
 pub mod Steps
 pub mod Showing
+pub mod Meaning
+pub mod ContainerMeaning
+pub mod Levels
 pub mod Parts
-pub mod StdShowing
 pub mod Json
-pub mod SlabValues
 pub mod Roots
 pub mod Nest
 pub mod Lent

@@ -1,8 +1,6 @@
--- What the steps inside this crate go by: an entry with what is shown in it, and no content of a shared value.
-use Rattle.allocative.proofs.Showing.{left_cause, shows_nothing, shows_both, shows_both_err, shows_err, inline_shows, unique_shows, field_shows, inline_alone, unique_alone, field_alone, entry_err, field_err, field_shows_2, field_shows_3, field_shows_4, field_err_2, field_err_3, field_err_4, field_err_5, not_entered, not_sized, not_entered_cause, not_sized_cause, shows_refused, shows_refused_err, answers_err, goes_in_refused, goes_in, goes_in_plain_refused, goes_in_plain, refused_as, makes_keeps, kept_after}
-use Rattle.allocative.proofs.Steps.{leaves_by_left}
+-- What an implementation by parts goes by.
+use Rattle.allocative.proofs.Meaning.{visited_as, entered_as, means_inside, means_unique, means_field, means_both, means_shared, means_same}
+use Rattle.allocative.proofs.ContainerMeaning.{means_buffer, means_cut, means_index_data, means_table, means_spilled, means_inline, means_not_set}
+use Rattle.allocative.proofs.Levels.{means_recursive, means_each, means_unordered}
 
-pub ruleset parts = (left_cause, leaves_by_left, shows_nothing, shows_both, shows_both_err, shows_err, inline_shows, unique_shows, field_shows, inline_alone, unique_alone, field_alone, entry_err, field_err, not_entered, not_sized, not_entered_cause, not_sized_cause, shows_refused, shows_refused_err, answers_err, goes_in_refused, goes_in, goes_in_plain_refused, goes_in_plain, refused_as, makes_keeps, kept_after)
-
--- What tuples go by: an entry that may have no size, and one to five fields in it.
-pub ruleset fields = (left_cause, leaves_by_left, field_shows, field_shows_2, field_shows_3, field_shows_4, field_err, field_err_2, field_err_3, field_err_4, field_err_5, not_sized, not_sized_cause)
+pub ruleset parts = (visited_as, entered_as, means_inside, means_unique, means_field, means_both, means_shared, means_same, means_buffer, means_cut, means_index_data, means_table, means_spilled, means_inline, means_not_set, means_recursive, means_each, means_unordered)

@@ -36,9 +36,12 @@ abbrev pub buffer_shows : Option ℕ → Showing → ℕ → Showing
 buffer_shows size p n = IsBuffer p n size
 
 -- The slice of a list that was cut in two anywhere: that of the front, and then that of the back.
+pub data IsCut {T : Type 0} (name : Key) (size : Option ℕ) (needs_drop : Bool) (p : T → Showing) (xs : List T) : Forest → Type 0 where
+  is_cut : {f : Forest} (front back : List T) → front ++ back ≡ xs → Both (slice_shows name size needs_drop p front) (slice_shows name size needs_drop p back) f → IsCut name size needs_drop p xs f
+
+-- The same, as a showing.
 abbrev pub cut_shows : {T : Type 0} → Key → Option ℕ → Bool → (T → Showing) → List T → Showing
-cut_shows {T} name size needs_drop p xs f =
-    (front : List T) × (back : List T) × (front ++ back ≡ xs) × Both (slice_shows name size needs_drop p front) (slice_shows name size needs_drop p back) f
+cut_shows name size needs_drop p xs = IsCut name size needs_drop p xs
 
 -- The buffer of a text of n bytes, with room for any number of bytes more.
 abbrev pub text_shows : ℕ → Showing

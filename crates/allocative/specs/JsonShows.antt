@@ -1,21 +1,22 @@
 -- What a JSON value may show, over the data that it stands for.
-use Rattle.std.specs.Prelude.{◌≡◌, ◌⊎◌, ℕ, ◌*◌, List, codes, length}
+use Rattle.std.specs.Prelude.{ℕ, suc, List, Some, codes, length, String, string_bytes}
+use Rattle.std.specs.declared.alloc.Global.{Global}
 use Rattle.serde_json.specs.Data.{Data, null, boolean, number, string, array, object, Items, no_items, item, Members, no_members, member}
-use Rattle.allocative_graph.specs.Shows.{Showing, Nothing, Both, Inside, InsideUnique}
-use Rattle.allocative.specs.Bodies.{text_shows}
+use Rattle.allocative_graph.specs.Shows.{Showing, Nothing, Both, Inside, InsideUnique, Field}
+use Rattle.allocative.specs.Bodies.{buffer_shows, text_shows}
 
 -- What a String shows of its text.
 abbrev pub string_shows : List ℕ → Showing
-string_shows s = Inside (codes "String") 24 (text_shows (length s))
+string_shows s = Field (codes "String") (Some 24) (text_shows (length s))
 
 -- What a number shows.
 abbrev pub number_shows : Showing
 number_shows = Inside (codes "Number") 16 Nothing
 
--- What stands in an array's `Vec`, whose items show what p allows: a pointer with some unused amount, or nothing where there is no item.
-abbrev pub values_inside : Items → Showing → Showing
-values_inside ds p f = ((ds ≡ no_items) × Nothing f)
-    ⊎ ((u : ℕ) × InsideUnique (codes "ptr") 8 (Both p (Inside (codes "unused_capacity") (u * 32) Nothing)) f)
+-- How many values an array has.
+abbrev pub items_count : Items → ℕ
+items_count no_items = 0
+items_count (item d ds) = suc (items_count ds)
 
 abbrev mutual
   -- What stands in a value's own entry.
@@ -24,7 +25,7 @@ abbrev mutual
   data_inside (boolean b) = Nothing
   data_inside (number n) = Inside (codes "Number") 16 number_shows
   data_inside (string s) = Inside (codes "String") 24 (string_shows s)
-  data_inside (array ds) = Inside (codes "Array") 24 (Inside (codes "Vec") 24 (values_inside ds (items_show ds)))
+  data_inside (array ds) = Inside (codes "Array") 24 (Field (codes "Vec") (Some 24) (buffer_shows (Some 32) (items_show ds) (items_count ds)))
   data_inside (object ms) = Inside (codes "Object") 24 (Inside (codes "Map") 24 (InsideUnique (codes "data") 8 (members_show ms)))
 
   -- What the items of an array show, in order.
@@ -36,8 +37,12 @@ abbrev mutual
   pub members_show : Members → Showing
   members_show no_members = Nothing
   members_show (member k d ms) = Both
-      (Both (Inside (codes "key") 24 (string_shows k)) (Inside (codes "value") 32 (Inside (codes "Value") 32 (data_inside d))))
+      (Both (Field (codes "key") (Some 24) (string_shows k)) (Field (codes "value") (Some 32) (Inside (codes "Value") 32 (data_inside d))))
       (members_show ms)
+
+-- What one member shows, of a key's text and a value of 32 bytes which shows what p allows.
+abbrev pub member_shows : {V : Type 0} → (V → Showing) → String Global × V → Showing
+member_shows p m = Both (Field (codes "key") (Some 24) (string_shows (string_bytes m.0))) (Field (codes "value") (Some 32) (p m.1))
 
 -- What a value shows.
 abbrev pub value_shows : Data → Showing
@@ -46,7 +51,3 @@ value_shows d = Inside (codes "Value") 32 (data_inside d)
 -- What an object's map shows.
 abbrev pub map_shows : Members → Showing
 map_shows ms = Inside (codes "Map") 24 (InsideUnique (codes "data") 8 (members_show ms))
-
--- What one member shows, of a key and a value.
-abbrev pub member_shows : List ℕ × Data → Showing
-member_shows m = Both (Inside (codes "key") 24 (string_shows m.0)) (Inside (codes "value") 32 (value_shows m.1))

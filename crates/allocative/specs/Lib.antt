@@ -1,3 +1,6 @@
+pub mod Visited
+pub mod Parts
+pub mod Levels
 pub mod Making
 pub mod Closures
 pub mod Runs

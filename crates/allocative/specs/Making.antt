@@ -7,6 +7,7 @@ use Rattle.allocative_graph.specs.Collector.{Kind, State, Failed, Going}
 use Rattle.allocative_graph.specs.Visits.{EntersSized, Leaves}
 use Rattle.allocative.specs.Bodies.{are_shown_each}
 use Rattle.allocative.specs.Runs.{CountsRun}
+use Rattle.allocative.specs.declared.visitor.Visitor.{Visitor}
 
 -- Inline entries to be made: none; or one of a declared size with some inside it, and others after it.
 pub data Plan : Type 0 where
@@ -66,3 +67,24 @@ pub data MakesOrGives {S A : Type 0} (steps : S → Option A → S → Type 0) (
 pub data MakesRun {S A : Type 0} (steps : S → Option A → S → Type 0) (s : S) (name : Key) (size : Option ℕ) : Bool → State → Result Unit Refusal → State → Type 0 where
   counted : {a b : State} {r : Result Unit Refusal} (count : Option ℕ) → CountsRun steps s count → Makes (one name (size_product size count)) a r b → MakesRun steps s name size false a r b
   in_turn : {a b : State} {r : Result Unit Refusal} → MakesOrGives steps s Done a r b → MakesRun steps s name size true a r b
+
+-- ---- of visitors
+-- What making the entries of a plan at a visitor does to its collector.
+abbrev pub MakesPlan : Plan → Visitor → Visitor → Result Unit Refusal → Type 0
+MakesPlan p old new r = Makes p old.collector.now r new.collector.now
+
+-- What a call at a visitor does to its collector that makes an entry of its own before all else.
+abbrev pub MakesFirst : Key → Option ℕ → Visitor → Visitor → Result Unit Refusal → Type 0
+MakesFirst k size old new r = EntersFirst k size old.collector.now r new.collector.now
+
+-- A visitor whose collector had failed answers its first cause, and the collector stays as it is.
+abbrev pub Keeps : Visitor → Visitor → Result Unit Refusal → Type 0
+Keeps old new r = KeepsCause old.collector.now r new.collector.now
+
+-- What a call at a visitor over an iterator does to its collector: it makes the entries of a plan, or the iterator, at s, may give an item.
+abbrev pub MakesPlanOrGives : {S A : Type 0} → (S → Option A → S → Type 0) → S → Plan → Visitor → Visitor → Result Unit Refusal → Type 0
+MakesPlanOrGives steps s p old new r = MakesOrGives steps s p old.collector.now r new.collector.now
+
+-- What `visit_iter` at a visitor does to its collector where it visits no item.
+abbrev pub MakesPlanRun : {S A : Type 0} → (S → Option A → S → Type 0) → S → Key → Option ℕ → Bool → Visitor → Visitor → Result Unit Refusal → Type 0
+MakesPlanRun steps s name size is_each old new r = MakesRun steps s name size is_each old.collector.now r new.collector.now

@@ -1,13 +1,13 @@
 -- What a visitor ends as that lends its collector to a nested one.
-use Rattle.std.specs.Prelude.{◌≡◌, ℕ, [], Bool, false, Option, None, Some, Result, Ok, Err, IfErr, OnOk, ⊤}
+use Rattle.std.specs.Prelude.{◌≡◌, ℕ, [], Bool, true, false, Option, None, Some, Result, Ok, Err, IfErr, OnOk, ⊤}
 use Rattle.std.specs.Borrow.{Fml, GName, MutBor, Lends, follows_so, name_if_ok}
 use mathlib.Core.Option as maybe
 use mir.Syntax.{named}
 use Rattle.allocative_graph.specs.declared.refusal.Refusal.{Refusal}
 use Rattle.allocative_graph.specs.Path.{Key}
 use Rattle.allocative_graph.specs.Identity.{Identity}
-use Rattle.allocative_graph.specs.Collector.{State}
-use Rattle.allocative_graph.specs.Visits.{Enters, EntersShared}
+use Rattle.allocative_graph.specs.Collector.{State, Failed}
+use Rattle.allocative_graph.specs.Visits.{Enters, EntersSized, EntersShared, Answers}
 use Rattle.allocative.specs.declared.visitor.Visitor.{Visitor}
 use Rattle.allocative.specs.contracts.visitor.Visitor as visitor
 use Rattle.allocative.specs.contracts.collector.Collector as collector
@@ -26,6 +26,30 @@ LendsNested is_unique k n s r =
     follows_so (visitor.the_row (record { mir = named 1; lft = [] })) collector.the_row s.ghost_name (name_if_ok (λ v. v.collector.ghost_name) r)
     (λ w v. OnOk r (v ≡ with_state s.now w))
     (λ v. IfErr r (λ e. Enters is_unique k n s.now.collector.now (Err e) v.collector.now × (v ≡ with_state s.now v.collector.now)))
+
+-- The nested visitor v stands at the entry that was entered at s.
+abbrev pub Nests : Bool → Key → ℕ → Visitor → Visitor → Type 0
+Nests is_unique k n s v = Enters is_unique k n s.collector.now (Ok v.outer_is_unique) v.collector.now
+
+-- The nested visitor v stands at the entry of a declared size that was entered at s.
+abbrev pub NestsSized : Key → Option ℕ → Visitor → Visitor → Type 0
+NestsSized k size s v = EntersSized k size s.collector.now (Ok v.outer_is_unique) v.collector.now
+
+-- The visitor v stands at the content of the shared value that was entered at s.
+abbrev pub NestsContent : Key → ℕ → Identity → Visitor → Visitor → Type 0
+NestsContent k n i s v = EntersShared k n i s.collector.now (Ok true) v.collector.now
+
+-- A visitor at a shared value's content is no unique entry's.
+abbrev pub IsContents : Visitor → Type 0
+IsContents v = v.outer_is_unique ≡ false
+
+-- An entry of n bytes at s is refused with e.
+abbrev pub IsRefused : Bool → ℕ → Visitor → Refusal → Type 0
+IsRefused is_unique n s e = Answers is_unique n s.collector.now (Err e)
+
+-- An entry of a declared size at s is refused with e.
+abbrev pub IsRefusedSized : Key → Option ℕ → Visitor → Refusal → Type 0
+IsRefusedSized k size s e = EntersSized k size s.collector.now (Err e) (Failed e)
 
 -- The name of the reference in the visitor that is given.
 abbrev pub name_in : Result (Option Visitor) Refusal → maybe.Option GName

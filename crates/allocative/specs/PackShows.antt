@@ -38,8 +38,12 @@ abbrev pub slab_inside : {T : Type 0} → Key → Option ℕ → Bool → (T →
 slab_inside name size needs_drop p s = buffer_shows size (slice_shows name size needs_drop p (values s)) (slab_len s)
 
 -- The data of a container in order of insertion: what p shows, and some unused amount of items of a declared size.
+pub data IsIndexData (size : Option ℕ) (p : Showing) : Forest → Type 0 where
+  with_unused : (unused : ℕ) {f : Forest} → InsideUnique (codes "data") 8 (Both p (bytes_shown (codes "unused_capacity") size unused)) f → IsIndexData size p f
+
+-- The same, as a showing.
 abbrev pub index_data_shows : Option ℕ → Showing → Showing
-index_data_shows size p f = (u : ℕ) × InsideUnique (codes "data") 8 (Both p (bytes_shown (codes "unused_capacity") size u)) f
+index_data_shows size p = IsIndexData size p
 
 -- What stands in the own entry of an `IndexMap` with keys, values and pairs of declared sizes.
 abbrev pub index_map_inside : {K V : Type 0} → Option ℕ → (K → Showing) → Option ℕ → (V → Showing) → Option ℕ → List (K × V) → Showing

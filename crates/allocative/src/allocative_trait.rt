@@ -1,7 +1,6 @@
 //! The trait of values that show what they hold.
-ghost use Rattle.std.specs.Prelude.{◌≡◌};
 ghost use Rattle.allocative_graph.specs.Forest.{Forest};
-ghost use Rattle.allocative_graph.specs.Visits.{Shows};
+ghost use Rattle.allocative.specs.Visited.{Visited};
 
 use crate::visitor::Visitor;
 use allocative_graph::refusal::Refusal;
@@ -24,11 +23,9 @@ use allocative_graph::refusal::Refusal;
 ///         (Field (codes "y") (Some 4) (⟦<u32 as Allocative>⟧.may_show p.y))) };
 ///
 ///     fn visit(&self, visitor: &mut Visitor<'_>) -> Result<(), Refusal> {
-///         let mut inner = visitor.collector.enter(Key::new("Point"), 8)?;
-///         inner.visit_field(Key::new("x"), &self.x)?;
-///         inner.visit_field(Key::new("y"), &self.y)?;
-///         inner.exit();
-///         Ok(())
+///         let x = Field(Key::new("x"), &self.x);
+///         let y = Field(Key::new("y"), &self.y);
+///         Inside(Key::new("Point"), 8, (x, y)).enter(visitor)
 ///     }
 /// }
 /// ```
@@ -41,7 +38,5 @@ pub trait Allocative: Drop {
     /// before (one was forgotten), or is the old one with one forest more that the value may show. A collector that had
     /// failed stays as it was. The visitor stands where it stood.
     fn visit(&self, visitor: &mut Visitor<'_>) -> Result<(), Refusal>
-        ensures same_reference { visitor.new.collector.ghost_name ≡ visitor.old.collector.ghost_name }
-        ensures same_outer { visitor.new.outer_is_unique ≡ visitor.old.outer_is_unique }
-        ensures shown { Shows (may_show self.now) visitor.old.collector.now result visitor.new.collector.now };
+        ensures { Visited (may_show self.now) visitor.old visitor.new result };
 }

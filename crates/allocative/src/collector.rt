@@ -9,7 +9,6 @@ ghost use Rattle.allocative.specs.Steps.{StepsIn, StepsInShared, IsSum};
 ghost use Rattle.allocative.specs.Kinds.{kind_of};
 ghost use Rattle.allocative.specs.Built.{as_graph};
 ghost use Rattle.allocative.specs.Making.{Makes, Done};
-ghost use Rattle.allocative.specs.Shared.{answered};
 
 use allocative_collectors::graph_collector::GraphCollector;
 use allocative_collectors::held_collector::HeldCollector;
@@ -28,19 +27,12 @@ enum Kind {
 
 /// What visitors enter into: the collector of a flame graph, or that of held bytes.
 ///
-/// It has failed, with its first cause, or it is going. Visitors lend it on; code that implements `Allocative` reaches
-/// it by `visitor.collector`.
+/// It has failed, with its first cause, or it is going. Visitors lend it on.
 #[derive(Drop)]
 pub struct Collector {
     failed: Option<Refusal>,
     kind: Kind,
 }
-
-/// That a shared value's content is to be shown, once: the answer of `point_to`, which `content` takes.
-///
-/// It stands for a visitor that was entered. Where it is dropped no visitor leaves, and the builder stands open for good.
-#[derive(Drop)]
-pub struct Content(());
 
 impl Model for Collector {
     ghost use Rattle.allocative_graph.specs.Collector.{State};
@@ -228,36 +220,6 @@ impl Collector {
         ensures cause { IfErr result (HasFailed self.new) }
     {
         self.step_in_shared(&key, size, id)
-    }
-
-    /// One pointer of `size` bytes more to the shared value that has the identity `id`.
-    ///
-    /// The answer is some `Content`, for `content`, where the value's content is to be shown. In a flame graph's collector
-    /// that is exactly where the identity was not met before. In the collector of held bytes it is never so, and nothing is
-    /// added. A collector that has failed answers its first cause; otherwise the call is refused with TooLarge exactly where
-    /// the bound would be passed, which is tested before the identity is looked at, and else with Memory. After a refusal
-    /// the collector has failed.
-    ///
-    /// ```
-    /// if let Some(shown) = visitor.collector.point_to(Key::new("ptr"), 8, self.id())? {
-    ///     let mut content = visitor.collector.content(shown);
-    ///     content.visit_field(Key::new("RcInner"), self.get())?;
-    ///     content.exit();
-    /// }
-    /// ```
-    pub fn point_to(
-        &mut self,
-        key: Key,
-        size: usize,
-        id: Identity,
-    ) -> Result<Option<Content>, Refusal>
-        ensures enters { EntersShared key size id self.old (answered result) self.new }
-        ensures cause { IfErr result (HasFailed self.new) }
-    {
-        if self.go_to_shared(key, size, id)? {
-            return Ok(Some(Content(())));
-        }
-        Ok(None)
     }
 
     /// A visitor less; the one outside is a unique entry's, or is not.

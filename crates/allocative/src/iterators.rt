@@ -1,17 +1,18 @@
 //! What containers of pairs and of keys enter by: the items that an iterator gives.
-#![tactic(auto, using(crate::proofs::Parts::parts))]
+#![tactic(auto, using(crate::proofs::Showing::showing))]
 
-ghost use Rattle.std.specs.Prelude.{codes, ◌≡◌, ◌≤◌, ◌-◌, Some, IfErr};
+ghost use Rattle.std.specs.Prelude.{codes, ◌≡◌, Some};
 ghost use Rattle.std.specs.Iterator.{IsFinite};
 ghost use Rattle.std.specs.Map.Iter.{deref, deref_pair};
-ghost use Rattle.allocative_graph.specs.Shows.{Inside, Both, each_shows, slice_shows};
-ghost use Rattle.allocative_graph.specs.Visits.{Shows, HasFailed};
+ghost use Rattle.allocative_graph.specs.Shows.{Inside, each_shows, slice_shows};
 ghost use Rattle.allocative_described.specs.Sizes.{size_sum};
-ghost use Rattle.allocative.specs.Making.{MakesOrGives, EntersFirst, KeepsCause, MakesRun, Done, one};
-ghost use Rattle.allocative.specs.Bodies.{are_shown_each, bytes_shown, buffer_entry, buffer_shows};
+ghost use Rattle.allocative.specs.Making.{MakesPlanOrGives, MakesFirst, Keeps, MakesPlanRun, Done, one};
+ghost use Rattle.allocative.specs.Visited.{Entered};
+ghost use Rattle.allocative.specs.Bodies.{are_shown_each};
 ghost use Rattle.allocative.specs.Runs.{IsOfRun, CountsRun, field_of, pair_shows, deref_entry, value_shows, values_slice};
 
 use crate::allocative_trait::Allocative;
+use crate::part::Part;
 use crate::slices::are_shown_each;
 use crate::visitor::Visitor;
 use allocative_described::Described;
@@ -46,16 +47,13 @@ impl Visitor<'_> {
     ) -> Result<(), Refusal>
         requires can { I.can_next items }
         requires ends { IsFinite (I.remaining items) }
-        ensures same_reference { self.new.collector.ghost_name ≡ self.old.collector.ghost_name }
-        ensures same_outer { self.new.outer_is_unique ≡ self.old.outer_is_unique }
-        ensures shown { Shows (IsOfRun I.next_gives items deref (each_shows T.may_show)) self.old.collector.now result self.new.collector.now }
-        ensures kept { KeepsCause self.old.collector.now result self.new.collector.now }
-        ensures exact { MakesOrGives I.next_gives items Done self.old.collector.now result self.new.collector.now }
-        ensures cause { IfErr result (HasFailed self.new.collector.now) }
+        ensures entered { Entered (IsOfRun I.next_gives items deref (each_shows T.may_show)) self.old self.new result }
+        ensures kept { Keeps self.old self.new result }
+        ensures exact { MakesPlanOrGives I.next_gives items Done self.old self.new result }
     {
         self.collector.go_on()?;
         for item in items {
-            self.visit_part(item)?;
+            item.enter(self)?;
         }
         Ok(())
     }
@@ -70,12 +68,9 @@ impl Visitor<'_> {
     ) -> Result<(), Refusal>
         requires can { I.can_next items }
         requires ends { IsFinite (I.remaining items) }
-        ensures same_reference { self.new.collector.ghost_name ≡ self.old.collector.ghost_name }
-        ensures same_outer { self.new.outer_is_unique ≡ self.old.outer_is_unique }
-        ensures shown { Shows (IsOfRun I.next_gives items deref (slice_shows T.name T.size T.needs_drop T.may_show)) self.old.collector.now result self.new.collector.now }
-        ensures kept { KeepsCause self.old.collector.now result self.new.collector.now }
-        ensures exact { MakesRun I.next_gives items T.name T.size (are_shown_each T.needs_drop T.size) self.old.collector.now result self.new.collector.now }
-        ensures cause { IfErr result (HasFailed self.new.collector.now) }
+        ensures entered { Entered (IsOfRun I.next_gives items deref (slice_shows T.name T.size T.needs_drop T.may_show)) self.old self.new result }
+        ensures kept { Keeps self.old self.new result }
+        ensures exact { MakesPlanRun I.next_gives items T.name T.size (are_shown_each T.needs_drop T.size) self.old self.new result }
     {
         if are_shown_each::<T>() {
             return self.visit_items(items);
@@ -91,13 +86,10 @@ impl Visitor<'_> {
     ) -> Result<(), Refusal>
         requires can { I.can_next entries }
         requires ends { IsFinite (I.remaining entries) }
-        ensures same_reference { self.new.collector.ghost_name ≡ self.old.collector.ghost_name }
-        ensures same_outer { self.new.outer_is_unique ≡ self.old.outer_is_unique }
-        ensures shown { Shows (IsOfRun I.next_gives entries deref_entry (each_shows (value_shows T.may_show))) self.old.collector.now result self.new.collector.now }
-        ensures cause { IfErr result (HasFailed self.new.collector.now) }
+        ensures { Entered (IsOfRun I.next_gives entries deref_entry (each_shows (value_shows T.may_show))) self.old self.new result }
     {
         for (_key, value) in entries {
-            self.visit_part(value)?;
+            value.enter(self)?;
         }
         Ok(())
     }
@@ -110,78 +102,13 @@ impl Visitor<'_> {
     >(&mut self, entries: I) -> Result<(), Refusal>
         requires can { I.can_next entries }
         requires ends { IsFinite (I.remaining entries) }
-        ensures same_reference { self.new.collector.ghost_name ≡ self.old.collector.ghost_name }
-        ensures same_outer { self.new.outer_is_unique ≡ self.old.outer_is_unique }
-        ensures shown { Shows (IsOfRun I.next_gives entries deref_entry (values_slice T.name T.size T.needs_drop T.may_show)) self.old.collector.now result self.new.collector.now }
-        ensures cause { IfErr result (HasFailed self.new.collector.now) }
+        ensures { Entered (IsOfRun I.next_gives entries deref_entry (values_slice T.name T.size T.needs_drop T.may_show)) self.old self.new result }
     {
         if are_shown_each::<T>() {
             return self.visit_each_value(entries);
         }
         let count = count_of(entries);
         self.visit_counted::<T>(Key::for_type_name::<T>(), count)
-    }
-
-    // What the slice of the values shows, and an entry of the bytes of the unused places.
-    fn visit_values_with_room<
-        'a,
-        T: Allocative + Described + 'a,
-        I: Iterator<Item = (usize, &'a T)> + Drop,
-    >(&mut self, entries: I, unused: usize) -> Result<(), Refusal>
-        requires can { I.can_next entries }
-        requires ends { IsFinite (I.remaining entries) }
-        ensures same_reference { self.new.collector.ghost_name ≡ self.old.collector.ghost_name }
-        ensures same_outer { self.new.outer_is_unique ≡ self.old.outer_is_unique }
-        ensures shown { Shows (Both (IsOfRun I.next_gives entries deref_entry (values_slice T.name T.size T.needs_drop T.may_show)) (bytes_shown (codes "unused_capacity") T.size unused)) self.old.collector.now result self.new.collector.now }
-        ensures cause { IfErr result (HasFailed self.new.collector.now) }
-    {
-        self.visit_values(entries)?;
-        self.visit_unused::<T>(unused)
-    }
-
-    // The buffer of the values of the entries, with unused places more.
-    fn visit_values_entry<
-        'a,
-        T: Allocative + Described + 'a,
-        I: Iterator<Item = (usize, &'a T)> + Drop,
-    >(&mut self, entries: I, unused: usize) -> Result<(), Refusal>
-        requires can { I.can_next entries }
-        requires ends { IsFinite (I.remaining entries) }
-        ensures same_reference { self.new.collector.ghost_name ≡ self.old.collector.ghost_name }
-        ensures same_outer { self.new.outer_is_unique ≡ self.old.outer_is_unique }
-        ensures shown { Shows (buffer_entry T.size (IsOfRun I.next_gives entries deref_entry (values_slice T.name T.size T.needs_drop T.may_show)) unused) self.old.collector.now result self.new.collector.now }
-        ensures cause { IfErr result (HasFailed self.new.collector.now) }
-    {
-        let mut inner = self.collector.enter_unique(Key::new("ptr"), 8)?;
-        inner.visit_values_with_room(entries, unused)?;
-        inner.exit();
-        Ok(())
-    }
-
-    // What a slab of `count` entries with room for `capacity` of them shows inside its own entry.
-    pub(crate) fn visit_values_buffer<
-        'a,
-        T: Allocative + Described + 'a,
-        I: Iterator<Item = (usize, &'a T)> + Drop,
-    >(&mut self, entries: I, count: usize, capacity: usize) -> Result<(), Refusal>
-        requires can { I.can_next entries }
-        requires ends { IsFinite (I.remaining entries) }
-        requires has_room { count ≤ capacity }
-        ensures same_reference { self.new.collector.ghost_name ≡ self.old.collector.ghost_name }
-        ensures same_outer { self.new.outer_is_unique ≡ self.old.outer_is_unique }
-        ensures shown { Shows (buffer_shows T.size (IsOfRun I.next_gives entries deref_entry (values_slice T.name T.size T.needs_drop T.may_show)) count) self.old.collector.now result self.new.collector.now }
-        ensures cause { IfErr result (HasFailed self.new.collector.now) }
-    {
-        let Some(size) = T::size() else {
-            return Err(self.refuse(Refusal::TooLarge));
-        };
-        if size == 0 {
-            return Ok(());
-        }
-        if capacity == 0 {
-            return Ok(());
-        }
-        self.visit_values_entry(entries, capacity - count)
     }
 
     // A field under the name for each item that the iterator gives, in order.
@@ -192,11 +119,8 @@ impl Visitor<'_> {
     >(&mut self, name: Key, items: I) -> Result<(), Refusal>
         requires can { I.can_next items }
         requires ends { IsFinite (I.remaining items) }
-        ensures same_reference { self.new.collector.ghost_name ≡ self.old.collector.ghost_name }
-        ensures same_outer { self.new.outer_is_unique ≡ self.old.outer_is_unique }
-        ensures shown { Shows (IsOfRun I.next_gives items deref (each_shows (field_of name T.size T.may_show))) self.old.collector.now result self.new.collector.now }
-        ensures exact { MakesOrGives I.next_gives items Done self.old.collector.now result self.new.collector.now }
-        ensures cause { IfErr result (HasFailed self.new.collector.now) }
+        ensures entered { Entered (IsOfRun I.next_gives items deref (each_shows (field_of name T.size T.may_show))) self.old self.new result }
+        ensures exact { MakesPlanOrGives I.next_gives items Done self.old self.new result }
     {
         self.collector.go_on()?;
         for item in items {
@@ -212,11 +136,8 @@ impl Visitor<'_> {
     ) -> Result<(), Refusal>
         requires can { I.can_next keys }
         requires ends { IsFinite (I.remaining keys) }
-        ensures same_reference { self.new.collector.ghost_name ≡ self.old.collector.ghost_name }
-        ensures same_outer { self.new.outer_is_unique ≡ self.old.outer_is_unique }
-        ensures shown { Shows (IsOfRun I.next_gives keys deref (each_shows (field_of (codes "key") K.size K.may_show))) self.old.collector.now result self.new.collector.now }
-        ensures exact { MakesOrGives I.next_gives keys Done self.old.collector.now result self.new.collector.now }
-        ensures cause { IfErr result (HasFailed self.new.collector.now) }
+        ensures entered { Entered (IsOfRun I.next_gives keys deref (each_shows (field_of (codes "key") K.size K.may_show))) self.old self.new result }
+        ensures exact { MakesPlanOrGives I.next_gives keys Done self.old self.new result }
     {
         self.visit_fields(Key::new("key"), keys)
     }
@@ -227,10 +148,7 @@ impl Visitor<'_> {
         key: &K,
         value: &V,
     ) -> Result<(), Refusal>
-        ensures same_reference { self.new.collector.ghost_name ≡ self.old.collector.ghost_name }
-        ensures same_outer { self.new.outer_is_unique ≡ self.old.outer_is_unique }
-        ensures shown { Shows (pair_shows K.size K.may_show V.size V.may_show (key.now, value.now)) self.old.collector.now result self.new.collector.now }
-        ensures cause { IfErr result (HasFailed self.new.collector.now) }
+        ensures { Entered (pair_shows K.size K.may_show V.size V.may_show (key.now, value.now)) self.old self.new result }
     {
         self.visit_field(Key::new("key"), key)?;
         self.visit_field(Key::new("value"), value)
@@ -245,11 +163,8 @@ impl Visitor<'_> {
     >(&mut self, pairs: I) -> Result<(), Refusal>
         requires can { I.can_next pairs }
         requires ends { IsFinite (I.remaining pairs) }
-        ensures same_reference { self.new.collector.ghost_name ≡ self.old.collector.ghost_name }
-        ensures same_outer { self.new.outer_is_unique ≡ self.old.outer_is_unique }
-        ensures shown { Shows (IsOfRun I.next_gives pairs deref_pair (each_shows (pair_shows K.size K.may_show V.size V.may_show))) self.old.collector.now result self.new.collector.now }
-        ensures exact { MakesOrGives I.next_gives pairs Done self.old.collector.now result self.new.collector.now }
-        ensures cause { IfErr result (HasFailed self.new.collector.now) }
+        ensures entered { Entered (IsOfRun I.next_gives pairs deref_pair (each_shows (pair_shows K.size K.may_show V.size V.may_show))) self.old self.new result }
+        ensures exact { MakesPlanOrGives I.next_gives pairs Done self.old self.new result }
     {
         self.collector.go_on()?;
         for (key, value) in pairs {
@@ -271,12 +186,9 @@ impl Visitor<'_> {
     >(&mut self, entries: I) -> Result<(), Refusal>
         requires can { I.can_next entries }
         requires ends { IsFinite (I.remaining entries) }
-        ensures same_reference { self.new.collector.ghost_name ≡ self.old.collector.ghost_name }
-        ensures same_outer { self.new.outer_is_unique ≡ self.old.outer_is_unique }
-        ensures shown { Shows (Inside (codes "data") 8 (IsOfRun I.next_gives entries deref_pair (each_shows (pair_shows K.size K.may_show V.size V.may_show)))) self.old.collector.now result self.new.collector.now }
-        ensures first { EntersFirst (codes "data") (Some 8) self.old.collector.now result self.new.collector.now }
-        ensures exact { MakesOrGives I.next_gives entries (one (codes "data") (Some 8)) self.old.collector.now result self.new.collector.now }
-        ensures cause { IfErr result (HasFailed self.new.collector.now) }
+        ensures entered { Entered (Inside (codes "data") 8 (IsOfRun I.next_gives entries deref_pair (each_shows (pair_shows K.size K.may_show V.size V.may_show)))) self.old self.new result }
+        ensures first { MakesFirst (codes "data") (Some 8) self.old self.new result }
+        ensures exact { MakesPlanOrGives I.next_gives entries (one (codes "data") (Some 8)) self.old self.new result }
     {
         let mut inner = self.collector.enter(Key::new("data"), 8)?;
         inner.visit_pairs(entries)?;
@@ -294,12 +206,9 @@ impl Visitor<'_> {
     >(&mut self, entries: I) -> Result<(), Refusal>
         requires can { I.can_next entries }
         requires ends { IsFinite (I.remaining entries) }
-        ensures same_reference { self.new.collector.ghost_name ≡ self.old.collector.ghost_name }
-        ensures same_outer { self.new.outer_is_unique ≡ self.old.outer_is_unique }
-        ensures shown { Shows (Inside (codes "data") 8 (IsOfRun I.next_gives entries deref (each_shows (field_of (codes "key") K.size K.may_show)))) self.old.collector.now result self.new.collector.now }
-        ensures first { EntersFirst (codes "data") (Some 8) self.old.collector.now result self.new.collector.now }
-        ensures exact { MakesOrGives I.next_gives entries (one (codes "data") (Some 8)) self.old.collector.now result self.new.collector.now }
-        ensures cause { IfErr result (HasFailed self.new.collector.now) }
+        ensures entered { Entered (Inside (codes "data") 8 (IsOfRun I.next_gives entries deref (each_shows (field_of (codes "key") K.size K.may_show)))) self.old self.new result }
+        ensures first { MakesFirst (codes "data") (Some 8) self.old self.new result }
+        ensures exact { MakesPlanOrGives I.next_gives entries (one (codes "data") (Some 8)) self.old self.new result }
     {
         let mut inner = self.collector.enter(Key::new("data"), 8)?;
         inner.visit_keys(entries)?;

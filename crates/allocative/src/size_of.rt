@@ -9,6 +9,7 @@ ghost use Rattle.allocative.specs.SizeOf.{IsSizeOfUnique};
 
 use crate::allocative_trait::Allocative;
 use crate::collector::Collector;
+use crate::part::Part;
 use allocative_described::Described;
 use allocative_graph::refusal::Refusal;
 
@@ -28,7 +29,7 @@ impl Collector {
         ensures { Runs (T.may_show root.now) self.old result self.new }
     {
         let mut visitor = self.root_visitor()?;
-        let _told = visitor.visit_part(root);
+        let _told = root.enter(&mut visitor);
         visitor.exit();
         self.check()
     }

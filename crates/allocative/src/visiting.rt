@@ -1,13 +1,14 @@
 //! What implementations enter by: entries with their parts.
-#![tactic(auto, using(crate::proofs::Parts::parts))]
+#![tactic(auto, using(crate::proofs::Showing::showing))]
 
-ghost use Rattle.std.specs.Prelude.{codes, ◌≡◌, length, false, IfErr, Some};
+ghost use Rattle.std.specs.Prelude.{codes, length, Some};
 ghost use Rattle.allocative_graph.specs.Shows.{Inside, InsideUnique, Field, Nothing};
-ghost use Rattle.allocative_graph.specs.Visits.{Shows, HasFailed};
-ghost use Rattle.allocative.specs.Making.{Makes, EntersFirst, one};
-ghost use Rattle.allocative.specs.Closures.{KeepsVisitor, CallsInside};
+ghost use Rattle.allocative.specs.Making.{MakesPlan, MakesFirst, one};
+ghost use Rattle.allocative.specs.Visited.{Entered};
+ghost use Rattle.allocative.specs.Closures.{KeepsVisitor, CalledInside};
 
 use crate::allocative_trait::Allocative;
+use crate::part::Part;
 use crate::visitor::Visitor;
 use allocative_described::Described;
 use allocative_graph::key::Key;
@@ -16,11 +17,8 @@ use allocative_graph::refusal::Refusal;
 impl Visitor<'_> {
     /// One inline entry of the declared name and size of `T`; TooLarge where there is no size, and else refused as `enter` is.
     pub fn visit_simple_sized<T: Described>(&mut self) -> Result<(), Refusal>
-        ensures same_reference { self.new.collector.ghost_name ≡ self.old.collector.ghost_name }
-        ensures same_outer { self.new.outer_is_unique ≡ self.old.outer_is_unique }
-        ensures shown { Shows (Field T.name T.size Nothing) self.old.collector.now result self.new.collector.now }
-        ensures exact { Makes (one T.name T.size) self.old.collector.now result self.new.collector.now }
-        ensures cause { IfErr result (HasFailed self.new.collector.now) }
+        ensures entered { Entered (Field T.name T.size Nothing) self.old self.new result }
+        ensures exact { MakesPlan (one T.name T.size) self.old self.new result }
     {
         self.visit_sized(Key::for_type_name::<T>(), T::size())
     }
@@ -34,14 +32,11 @@ impl Visitor<'_> {
         name: Key,
         field: &T,
     ) -> Result<(), Refusal>
-        ensures same_reference { self.new.collector.ghost_name ≡ self.old.collector.ghost_name }
-        ensures same_outer { self.new.outer_is_unique ≡ self.old.outer_is_unique }
-        ensures shown { Shows (Field name T.size (T.may_show field.now)) self.old.collector.now result self.new.collector.now }
-        ensures first { EntersFirst name T.size self.old.collector.now result self.new.collector.now }
-        ensures cause { IfErr result (HasFailed self.new.collector.now) }
+        ensures entered { Entered (Field name T.size (T.may_show field.now)) self.old self.new result }
+        ensures first { MakesFirst name T.size self.old self.new result }
     {
-        let mut inner = self.collector.enter_field::<T>(name)?;
-        inner.visit_part(field)?;
+        let mut inner = self.collector.enter_sized(name, T::size())?;
+        field.enter(&mut inner)?;
         inner.exit();
         Ok(())
     }
@@ -59,10 +54,7 @@ impl Visitor<'_> {
     ) -> Result<(), Refusal>
         requires callable { F.IsAlwaysCallable visit }
         requires keeps { KeepsVisitor F.FnOnce visit }
-        ensures same_reference { self.new.collector.ghost_name ≡ self.old.collector.ghost_name }
-        ensures same_outer { self.new.outer_is_unique ≡ self.old.outer_is_unique }
-        ensures calls { CallsInside F.FnOnce visit name size self.old.collector.now self.new.collector.now result }
-        ensures cause { IfErr result (HasFailed self.new.collector.now) }
+        ensures { CalledInside F.FnOnce visit name size self.old self.new result }
     {
         let mut inner = self.collector.enter(name, size)?;
         if let Err(refusal) = visit(&mut inner) {
@@ -74,21 +66,15 @@ impl Visitor<'_> {
 
     /// One inline entry `str` of the text's length in bytes. It is refused as `enter` is.
     pub fn visit_str(&mut self, text: &str) -> Result<(), Refusal>
-        ensures same_reference { self.new.collector.ghost_name ≡ self.old.collector.ghost_name }
-        ensures same_outer { self.new.outer_is_unique ≡ self.old.outer_is_unique }
-        ensures shown { Shows (Inside (codes "str") (length text.now) Nothing) self.old.collector.now result self.new.collector.now }
-        ensures exact { Makes (one (codes "str") (Some (length text.now))) self.old.collector.now result self.new.collector.now }
-        ensures cause { IfErr result (HasFailed self.new.collector.now) }
+        ensures entered { Entered (Inside (codes "str") (length text.now) Nothing) self.old self.new result }
+        ensures exact { MakesPlan (one (codes "str") (Some (length text.now))) self.old self.new result }
     {
         self.visit_simple(Key::new("str"), text.len())
     }
 
     // One unique entry of a pointer, and in it what the object shows.
     fn visit_object_pointer(&mut self, object: &dyn Allocative) -> Result<(), Refusal>
-        ensures same_reference { self.new.collector.ghost_name ≡ self.old.collector.ghost_name }
-        ensures same_outer { self.new.outer_is_unique ≡ self.old.outer_is_unique }
-        ensures shown { Shows (InsideUnique (codes "ptr") 8 (may_show object.now)) self.old.collector.now result self.new.collector.now }
-        ensures cause { IfErr result (HasFailed self.new.collector.now) }
+        ensures { Entered (InsideUnique (codes "ptr") 8 (may_show object.now)) self.old self.new result }
     {
         let mut inner = self.collector.enter_unique(Key::new("ptr"), 8)?;
         inner.visit_object(object)?;
@@ -101,11 +87,8 @@ impl Visitor<'_> {
     /// A collector that has failed answers its first cause. Each entry is refused as `enter` is; the object's own refusals come
     /// after them.
     pub fn visit_boxed_object(&mut self, object: &dyn Allocative) -> Result<(), Refusal>
-        ensures same_reference { self.new.collector.ghost_name ≡ self.old.collector.ghost_name }
-        ensures same_outer { self.new.outer_is_unique ≡ self.old.outer_is_unique }
-        ensures shown { Shows (Inside (codes "Box") 8 (InsideUnique (codes "ptr") 8 (may_show object.now))) self.old.collector.now result self.new.collector.now }
-        ensures first { EntersFirst (codes "Box") (Some 8) self.old.collector.now result self.new.collector.now }
-        ensures cause { IfErr result (HasFailed self.new.collector.now) }
+        ensures entered { Entered (Inside (codes "Box") 8 (InsideUnique (codes "ptr") 8 (may_show object.now))) self.old self.new result }
+        ensures first { MakesFirst (codes "Box") (Some 8) self.old self.new result }
     {
         let mut inner = self.collector.enter(Key::new("Box"), 8)?;
         inner.visit_object_pointer(object)?;

@@ -1,20 +1,20 @@
 //! Visitors: places in a collector, under which values enter what they hold.
-#![tactic(auto, using(crate::proofs::Parts::parts))]
+#![tactic(auto, using(crate::proofs::Showing::showing))]
 
-ghost use Rattle.std.specs.Prelude.{◌≡◌, IfOk, IfErr, IfSome, Ok, Err, Some};
-ghost use Rattle.allocative_graph.specs.Collector.{Failed, failed_with};
+ghost use Rattle.std.specs.Prelude.{◌≡◌, IfOk, IfErr, IfSome, Ok, Err, Some, true, false};
+ghost use Rattle.allocative_graph.specs.Collector.{Failed};
 ghost use Rattle.allocative_graph.specs.Shows.{Inside, Nothing};
-ghost use Rattle.allocative_graph.specs.Visits.{Shows, HasFailed, Enters, EntersSized, EntersShared, Answers, Leaves, Begins, Settles};
+ghost use Rattle.allocative_graph.specs.Visits.{Enters, EntersSized, EntersShared, Answers, Leaves, Begins, Settles};
 ghost use Rattle.allocative.specs.Lending.{LendsEntered, LendsSized, LendsPointed, LendsBegun, LendsBegunGraph};
 ghost use Rattle.allocative.specs.Built.{as_graph};
-ghost use Rattle.allocative.specs.Making.{Makes, one};
-ghost use Rattle.allocative.specs.Nested.{LendsCollector, LendsNested, LendsShared};
+ghost use Rattle.allocative.specs.Making.{MakesPlan, one};
+ghost use Rattle.allocative.specs.Visited.{Entered, Refused, collector_of};
+ghost use Rattle.allocative.specs.Nested.{LendsCollector, LendsNested, LendsShared, Nests, NestsSized, NestsContent, IsContents, IsRefused, IsRefusedSized};
 ghost use Rattle.allocative.specs.Shared.{AnswersShared, told, turned, answered};
 ghost use Rattle.std.specs.Borrow.{sem};
-ghost use Rattle.std.specs.Prelude.{true, false};
 
 use crate::allocative_trait::Allocative;
-use crate::collector::{Collector, Content};
+use crate::collector::Collector;
 use allocative_described::Described;
 use allocative_graph::key::Key;
 use allocative_graph::refusal::Refusal;
@@ -22,8 +22,7 @@ use allocative_graph::shared::Identity;
 
 /// A place in a collector. Its end, or `exit`, is one step back.
 pub struct Visitor<'a> {
-    /// The collector, in which code that implements `Allocative` enters.
-    pub collector: &'a mut Collector,
+    pub(crate) collector: &'a mut Collector,
     // whether the visitor outside is a unique entry's, where the collector keeps no places
     outer_is_unique: bool,
 }
@@ -46,7 +45,7 @@ impl Collector {
     /// A collector that has failed answers its first cause. Otherwise it is refused with TooLarge exactly where a bound would
     /// be passed, tested before memory is asked for; a flame graph's collector may else be refused with Memory. After a
     /// refusal the collector has failed.
-    pub fn enter(&mut self, key: Key, size: usize) -> Result<Visitor<'_>, Refusal>
+    pub(crate) fn enter(&mut self, key: Key, size: usize) -> Result<Visitor<'_>, Refusal>
         ensures* lent { sem 𝓛 (LendsEntered false key size self.entry result) }
         ensures same_reference { IfOk result (λ v. v.collector.ghost_name ≡ self.entry.ghost_name) }
         ensures entered { IfOk result (λ v. Enters false key size self.old (Ok v.outer_is_unique) v.collector.now) }
@@ -60,7 +59,7 @@ impl Collector {
     }
 
     /// Enters as unique: the same as `enter` with a unique entry.
-    pub fn enter_unique(&mut self, key: Key, size: usize) -> Result<Visitor<'_>, Refusal>
+    pub(crate) fn enter_unique(&mut self, key: Key, size: usize) -> Result<Visitor<'_>, Refusal>
         ensures* lent { sem 𝓛 (LendsEntered true key size self.entry result) }
         ensures same_reference { IfOk result (λ v. v.collector.ghost_name ≡ self.entry.ghost_name) }
         ensures entered { IfOk result (λ v. Enters true key size self.old (Ok v.outer_is_unique) v.collector.now) }
@@ -74,7 +73,7 @@ impl Collector {
     }
 
     /// Enters inline with a declared size: the same as `enter`, and TooLarge where there is no size.
-    pub fn enter_sized(&mut self, key: Key, size: Option<usize>) -> Result<Visitor<'_>, Refusal>
+    pub(crate) fn enter_sized(&mut self, key: Key, size: Option<usize>) -> Result<Visitor<'_>, Refusal>
         ensures* lent { sem 𝓛 (LendsSized key size self.entry result) }
         ensures same_reference { IfOk result (λ v. v.collector.ghost_name ≡ self.entry.ghost_name) }
         ensures entered { IfOk result (λ v. EntersSized key size self.old (Ok v.outer_is_unique) v.collector.now) }
@@ -87,38 +86,8 @@ impl Collector {
         })
     }
 
-    /// Enters inline with the declared name and size of `T`: the same as `enter_sized`.
-    pub fn enter_self_sized<T: Described>(&mut self) -> Result<Visitor<'_>, Refusal>
-        ensures* lent { sem 𝓛 (LendsSized T.name T.size self.entry result) }
-        ensures same_reference { IfOk result (λ v. v.collector.ghost_name ≡ self.entry.ghost_name) }
-        ensures entered { IfOk result (λ v. EntersSized T.name T.size self.old (Ok v.outer_is_unique) v.collector.now) }
-        ensures refused { IfErr result (λ e. EntersSized T.name T.size self.old (Err e) (Failed e)) }
-    {
-        self.enter_sized(Key::for_type_name::<T>(), T::size())
-    }
-
-    /// Enters inline with the declared name and size of the value's type: the same as `enter_sized`.
-    pub fn enter_self<T: Described>(&mut self, _this: &T) -> Result<Visitor<'_>, Refusal>
-        ensures* lent { sem 𝓛 (LendsSized T.name T.size self.entry result) }
-        ensures same_reference { IfOk result (λ v. v.collector.ghost_name ≡ self.entry.ghost_name) }
-        ensures entered { IfOk result (λ v. EntersSized T.name T.size self.old (Ok v.outer_is_unique) v.collector.now) }
-        ensures refused { IfErr result (λ e. EntersSized T.name T.size self.old (Err e) (Failed e)) }
-    {
-        self.enter_self_sized::<T>()
-    }
-
-    /// Enters inline with the declared size of `T`: the same as `enter_sized`.
-    pub fn enter_field<T: Described>(&mut self, key: Key) -> Result<Visitor<'_>, Refusal>
-        ensures* lent { sem 𝓛 (LendsSized key T.size self.entry result) }
-        ensures same_reference { IfOk result (λ v. v.collector.ghost_name ≡ self.entry.ghost_name) }
-        ensures entered { IfOk result (λ v. EntersSized key T.size self.old (Ok v.outer_is_unique) v.collector.now) }
-        ensures refused { IfErr result (λ e. EntersSized key T.size self.old (Err e) (Failed e)) }
-    {
-        self.enter_sized(key, T::size())
-    }
-
-    /// A visitor at the content of a shared value, which `point_to` answered to be shown. It takes no memory.
-    pub fn content(&mut self, _shown: Content) -> Visitor<'_>
+    // A visitor at the content of a shared value, which `go_to_shared` said to be shown. It takes no memory.
+    pub(crate) fn content(&mut self) -> Visitor<'_>
         ensures same_reference { result.collector.ghost_name ≡ self.entry.ghost_name }
         ensures outer { result.outer_is_unique ≡ false }
         ensures now { result.collector.now ≡ self.old }
@@ -204,43 +173,45 @@ impl Visitor<'_> {
 
     /// Enters inline: one entry of `size` bytes more under the key, and a nested visitor at it.
     ///
-    /// A collector that has failed answers its first cause. Otherwise it is refused with TooLarge exactly where a bound would
+    /// A collector that has failed returns its first cause. Otherwise it is refused with TooLarge exactly where a bound would
     /// be passed, tested before memory is asked for; a flame graph's collector may else be refused with Memory. After a
     /// refusal the collector has failed. After Ok this visitor ends with what the nested one leaves; all else of it stays.
     ///
-    /// The checker follows the same call of the collector, `visitor.collector.enter`, in a caller that has a contract.
+    /// An implementation of `Allocative` enters a part, as `Inside`, which the checker follows in every caller. After this call a
+    /// caller's proof knows what is returned and the nested visitor, and of this one only what the starred clause says by hand.
     pub fn enter(&mut self, key: Key, size: usize) -> Result<Visitor<'_>, Refusal>
         ensures* lent { sem 𝓛 (LendsNested false key size self.entry result) }
-        ensures entered { IfOk result (λ v. Enters false key size self.old.collector.now (Ok v.outer_is_unique) v.collector.now) }
-        ensures refused { IfErr result (λ e. Answers false size self.old.collector.now (Err e)) }
+        ensures entered { IfOk result (Nests false key size self.old) }
+        ensures refused { IfErr result (IsRefused false size self.old) }
     {
         self.reborrow().enter(key, size)
     }
 
-    /// Enters as unique: the same as `enter` with a unique entry. The checker follows `visitor.collector.enter_unique`.
+    /// Enters as unique: one unique entry of `size` bytes more under the key, and a nested visitor at it. It is refused as `enter` is.
     pub fn enter_unique(&mut self, key: Key, size: usize) -> Result<Visitor<'_>, Refusal>
         ensures* lent { sem 𝓛 (LendsNested true key size self.entry result) }
-        ensures entered { IfOk result (λ v. Enters true key size self.old.collector.now (Ok v.outer_is_unique) v.collector.now) }
-        ensures refused { IfErr result (λ e. Answers true size self.old.collector.now (Err e)) }
+        ensures entered { IfOk result (Nests true key size self.old) }
+        ensures refused { IfErr result (IsRefused true size self.old) }
     {
         self.reborrow().enter_unique(key, size)
     }
 
-    /// Enters inline with the declared name and size of `T`: the same as `enter`, and TooLarge where there is no size. The
-    /// checker follows `visitor.collector.enter_self_sized`.
+    /// Enters inline with the declared name and size of `T`. Where there is no size it is refused with TooLarge, and else as `enter`
+    /// is. After this call a caller's proof knows what is returned and the nested visitor, and nothing of this one.
     pub fn enter_self_sized<T: Described>(&mut self) -> Result<Visitor<'_>, Refusal>
-        ensures entered { IfOk result (λ v. EntersSized T.name T.size self.old.collector.now (Ok v.outer_is_unique) v.collector.now) }
-        ensures refused { IfErr result (λ e. EntersSized T.name T.size self.old.collector.now (Err e) (Failed e)) }
+        ensures entered { IfOk result (NestsSized T.name T.size self.old) }
+        ensures refused { IfErr result (IsRefusedSized T.name T.size self.old) }
     {
-        self.reborrow().enter_self_sized::<T>()
+        self.reborrow()
+            .enter_sized(Key::for_type_name::<T>(), T::size())
     }
 
     /// Enters inline with the declared name and size of the value's type, as `enter_self_sized` does.
-    pub fn enter_self<T: Described>(&mut self, this: &T) -> Result<Visitor<'_>, Refusal>
-        ensures entered { IfOk result (λ v. EntersSized T.name T.size self.old.collector.now (Ok v.outer_is_unique) v.collector.now) }
-        ensures refused { IfErr result (λ e. EntersSized T.name T.size self.old.collector.now (Err e) (Failed e)) }
+    pub fn enter_self<T: Described>(&mut self, _this: &T) -> Result<Visitor<'_>, Refusal>
+        ensures entered { IfOk result (NestsSized T.name T.size self.old) }
+        ensures refused { IfErr result (IsRefusedSized T.name T.size self.old) }
     {
-        self.reborrow().enter_self(this)
+        self.enter_self_sized::<T>()
     }
 
     /// One pointer of `size` bytes more to the shared value that has the identity `id`.
@@ -251,7 +222,7 @@ impl Visitor<'_> {
     /// bound would be passed, which is tested before the identity is looked at, and else with Memory. After a refusal the
     /// collector has failed. After Some this visitor ends with what the content's one leaves; all else of it stays.
     ///
-    /// The checker follows `visitor.collector.point_to`, and then `visitor.collector.content`.
+    /// An implementation of `Allocative` enters the part `Shared`, which the checker follows in every caller.
     pub fn enter_shared(
         &mut self,
         key: Key,
@@ -259,9 +230,9 @@ impl Visitor<'_> {
         id: Identity,
     ) -> Result<Option<Visitor<'_>>, Refusal>
         ensures* lent { sem 𝓛 (LendsShared key size id self.entry result) }
-        ensures outer { IfOk result (λ o. IfSome o (λ v. v.outer_is_unique ≡ false)) }
-        ensures entered { IfOk result (λ o. IfSome o (λ v. EntersShared key size id self.old.collector.now (Ok true) v.collector.now)) }
-        ensures answer { AnswersShared key size id self.old.collector.now (answered result) }
+        ensures outer { IfOk result (λ o. IfSome o IsContents) }
+        ensures entered { IfOk result (λ o. IfSome o (NestsContent key size id self.old)) }
+        ensures answer { AnswersShared key size id (collector_of self.old) (answered result) }
     {
         turned_round(self.reborrow().enter_content(key, size, id))
     }
@@ -277,46 +248,24 @@ impl Visitor<'_> {
 
     /// A collector that has not failed fails with `refusal`; one that has stays as it is. Answers the first cause.
     pub fn refuse(&mut self, refusal: Refusal) -> Refusal
-        ensures same_reference { self.new.collector.ghost_name ≡ self.old.collector.ghost_name }
-        ensures same_outer { self.new.outer_is_unique ≡ self.old.outer_is_unique }
-        ensures after { self.new.collector.now ≡ failed_with refusal self.old.collector.now }
-        ensures cause { HasFailed self.new.collector.now result }
+        ensures { Refused refusal self.old self.new result }
     {
         self.collector.refuse(refusal)
     }
 
     /// One inline entry of `size` bytes. It is refused as `enter` is.
     pub fn visit_simple(&mut self, key: Key, size: usize) -> Result<(), Refusal>
-        ensures same_reference { self.new.collector.ghost_name ≡ self.old.collector.ghost_name }
-        ensures same_outer { self.new.outer_is_unique ≡ self.old.outer_is_unique }
-        ensures shown { Shows (Inside key size Nothing) self.old.collector.now result self.new.collector.now }
-        ensures exact { Makes (one key (Some size)) self.old.collector.now result self.new.collector.now }
-        ensures cause { IfErr result (HasFailed self.new.collector.now) }
+        ensures entered { Entered (Inside key size Nothing) self.old self.new result }
+        ensures exact { MakesPlan (one key (Some size)) self.old self.new result }
     {
         let inner = self.collector.enter(key, size)?;
         inner.exit();
         Ok(())
     }
 
-    // What a part shows. Its Err becomes the collector's first cause.
-    pub(crate) fn visit_part<T: Allocative>(&mut self, part: &T) -> Result<(), Refusal>
-        ensures same_reference { self.new.collector.ghost_name ≡ self.old.collector.ghost_name }
-        ensures same_outer { self.new.outer_is_unique ≡ self.old.outer_is_unique }
-        ensures shown { Shows (T.may_show part.now) self.old.collector.now result self.new.collector.now }
-        ensures cause { IfErr result (HasFailed self.new.collector.now) }
-    {
-        if let Err(refusal) = part.visit(self) {
-            return Err(self.refuse(refusal));
-        }
-        Ok(())
-    }
-
     // What an object shows: the one call through the `dyn`, whose clauses callers cite.
     pub(crate) fn visit_object(&mut self, object: &dyn Allocative) -> Result<(), Refusal>
-        ensures same_reference { self.new.collector.ghost_name ≡ self.old.collector.ghost_name }
-        ensures same_outer { self.new.outer_is_unique ≡ self.old.outer_is_unique }
-        ensures shown { Shows (may_show object.now) self.old.collector.now result self.new.collector.now }
-        ensures cause { IfErr result (HasFailed self.new.collector.now) }
+        ensures { Entered (may_show object.now) self.old self.new result }
     {
         if let Err(refusal) = object.visit(self) {
             return Err(self.refuse(refusal));

@@ -1,7 +1,6 @@
 //! Atomics: each is as large as the number or `bool` that it holds. None is read or written.
 
 ghost use Rattle.std.specs.Prelude.{Some, false, codes};
-ghost use Rattle.std.proofs.Common.{lit≤};
 
 use crate::described::Described;
 use std::sync::atomic::{
@@ -17,8 +16,6 @@ impl Described for AtomicU8 {
     ghost needs_drop = { false };
 
     ghost size = { Some 1 };
-
-    ghost align_positive = { lit≤ tt };
 
     fn name() -> &'static str {
         "AtomicU8"
@@ -46,8 +43,6 @@ impl Described for AtomicU16 {
 
     ghost size = { Some 2 };
 
-    ghost align_positive = { lit≤ tt };
-
     fn name() -> &'static str {
         "AtomicU16"
     }
@@ -73,8 +68,6 @@ impl Described for AtomicU32 {
     ghost needs_drop = { false };
 
     ghost size = { Some 4 };
-
-    ghost align_positive = { lit≤ tt };
 
     fn name() -> &'static str {
         "AtomicU32"
@@ -102,8 +95,6 @@ impl Described for AtomicU64 {
 
     ghost size = { Some 8 };
 
-    ghost align_positive = { lit≤ tt };
-
     fn name() -> &'static str {
         "AtomicU64"
     }
@@ -129,8 +120,6 @@ impl Described for AtomicUsize {
     ghost needs_drop = { false };
 
     ghost size = { Some 8 };
-
-    ghost align_positive = { lit≤ tt };
 
     fn name() -> &'static str {
         "AtomicUsize"
@@ -158,8 +147,6 @@ impl Described for AtomicI8 {
 
     ghost size = { Some 1 };
 
-    ghost align_positive = { lit≤ tt };
-
     fn name() -> &'static str {
         "AtomicI8"
     }
@@ -185,8 +172,6 @@ impl Described for AtomicI16 {
     ghost needs_drop = { false };
 
     ghost size = { Some 2 };
-
-    ghost align_positive = { lit≤ tt };
 
     fn name() -> &'static str {
         "AtomicI16"
@@ -214,8 +199,6 @@ impl Described for AtomicI32 {
 
     ghost size = { Some 4 };
 
-    ghost align_positive = { lit≤ tt };
-
     fn name() -> &'static str {
         "AtomicI32"
     }
@@ -241,8 +224,6 @@ impl Described for AtomicI64 {
     ghost needs_drop = { false };
 
     ghost size = { Some 8 };
-
-    ghost align_positive = { lit≤ tt };
 
     fn name() -> &'static str {
         "AtomicI64"
@@ -270,8 +251,6 @@ impl Described for AtomicIsize {
 
     ghost size = { Some 8 };
 
-    ghost align_positive = { lit≤ tt };
-
     fn name() -> &'static str {
         "AtomicIsize"
     }
@@ -297,8 +276,6 @@ impl Described for AtomicBool {
     ghost needs_drop = { false };
 
     ghost size = { Some 1 };
-
-    ghost align_positive = { lit≤ tt };
 
     fn name() -> &'static str {
         "AtomicBool"

@@ -1,7 +1,6 @@
 //! Types that lay their parts out by a rule: tuples, `Option`, `Result`, arrays and `ManuallyDrop`.
 
 ghost use Rattle.std.specs.Prelude.{Some, false, codes, max, ◌||◌};
-ghost use Rattle.std.proofs.Common.{arith};
 ghost use Rattle.allocative_described.specs.Sizes.{size_sum, size_product, size_max, size_up};
 
 use crate::described::{Described, size_max, size_product, size_sum, size_up};
@@ -15,8 +14,6 @@ impl<A: Described> Described for (A,) {
     ghost needs_drop = { A.needs_drop };
 
     ghost size = { size_up A.size A.align };
-
-    ghost align_positive = { A.align_positive };
 
     fn name() -> &'static str {
         "tuple1"
@@ -43,8 +40,6 @@ impl<A: Described, B: Described> Described for (A, B) {
     ghost needs_drop = { A.needs_drop || B.needs_drop };
 
     ghost size = { size_up (size_sum A.size B.size) (max A.align B.align) };
-
-    ghost align_positive = { Prim.omega (arith, A.align_positive) };
 
     fn name() -> &'static str {
         "tuple2"
@@ -75,8 +70,6 @@ impl<A: Described, B: Described, C: Described> Described for (A, B, C) {
         (size_sum (size_sum A.size B.size) C.size)
         (max (max A.align B.align) C.align) };
 
-    ghost align_positive = { Prim.omega (arith, A.align_positive) };
-
     fn name() -> &'static str {
         "tuple3"
     }
@@ -106,8 +99,6 @@ impl<A: Described, B: Described, C: Described, D: Described> Described for (A, B
     ghost size = { size_up
         (size_sum (size_sum (size_sum A.size B.size) C.size) D.size)
         (max (max (max A.align B.align) C.align) D.align) };
-
-    ghost align_positive = { Prim.omega (arith, A.align_positive) };
 
     fn name() -> &'static str {
         "tuple4"
@@ -141,8 +132,6 @@ impl<A: Described, B: Described, C: Described, D: Described, E: Described> Descr
     ghost size = { size_up
         (size_sum (size_sum (size_sum (size_sum A.size B.size) C.size) D.size) E.size)
         (max (max (max (max A.align B.align) C.align) D.align) E.align) };
-
-    ghost align_positive = { Prim.omega (arith, A.align_positive) };
 
     fn name() -> &'static str {
         "tuple5"
@@ -179,8 +168,6 @@ impl<T: Described> Described for Option<T> {
 
     ghost size = { size_up (size_sum (Some 1) T.size) T.align };
 
-    ghost align_positive = { T.align_positive };
-
     fn name() -> &'static str {
         "Option"
     }
@@ -207,8 +194,6 @@ impl<T: Described, E: Described> Described for Result<T, E> {
     ghost needs_drop = { T.needs_drop || E.needs_drop };
 
     ghost size = { size_up (size_sum (Some 1) (size_max T.size E.size)) (max T.align E.align) };
-
-    ghost align_positive = { Prim.omega (arith, T.align_positive) };
 
     fn name() -> &'static str {
         "Result"
@@ -238,8 +223,6 @@ impl<T: Described, const N: usize> Described for [T; N] {
 
     ghost size = { size_product (Some N) T.size };
 
-    ghost align_positive = { T.align_positive };
-
     fn name() -> &'static str {
         "array"
     }
@@ -266,8 +249,6 @@ impl<V: Described> Described for ManuallyDrop<V> {
     ghost needs_drop = { false };
 
     ghost size = { V.size };
-
-    ghost align_positive = { V.align_positive };
 
     fn name() -> &'static str {
         "ManuallyDrop"

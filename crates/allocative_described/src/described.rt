@@ -35,9 +35,6 @@ pub trait Described {
     /// up in the type's rule passes `usize::MAX`.
     fn size() -> Option<usize>
         ensures { result ≡ size };
-
-    // The law that each implementation proves.
-    ghost align_positive: { 1 ≤ align };
 }
 
 /// A law: rounding a number up to an alignment gives the least multiple of the alignment that is not

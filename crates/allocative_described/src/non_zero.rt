@@ -1,7 +1,6 @@
 //! Numbers that are not zero: each is as large as the number.
 
 ghost use Rattle.std.specs.Prelude.{Some, false, codes};
-ghost use Rattle.std.proofs.Common.{lit≤};
 
 use crate::described::Described;
 use std::num::{
@@ -17,8 +16,6 @@ impl Described for NonZeroU8 {
     ghost needs_drop = { false };
 
     ghost size = { Some 1 };
-
-    ghost align_positive = { lit≤ tt };
 
     fn name() -> &'static str {
         "NonZeroU8"
@@ -46,8 +43,6 @@ impl Described for NonZeroU16 {
 
     ghost size = { Some 2 };
 
-    ghost align_positive = { lit≤ tt };
-
     fn name() -> &'static str {
         "NonZeroU16"
     }
@@ -73,8 +68,6 @@ impl Described for NonZeroU32 {
     ghost needs_drop = { false };
 
     ghost size = { Some 4 };
-
-    ghost align_positive = { lit≤ tt };
 
     fn name() -> &'static str {
         "NonZeroU32"
@@ -102,8 +95,6 @@ impl Described for NonZeroU64 {
 
     ghost size = { Some 8 };
 
-    ghost align_positive = { lit≤ tt };
-
     fn name() -> &'static str {
         "NonZeroU64"
     }
@@ -129,8 +120,6 @@ impl Described for NonZeroUsize {
     ghost needs_drop = { false };
 
     ghost size = { Some 8 };
-
-    ghost align_positive = { lit≤ tt };
 
     fn name() -> &'static str {
         "NonZeroUsize"
@@ -158,8 +147,6 @@ impl Described for NonZeroI8 {
 
     ghost size = { Some 1 };
 
-    ghost align_positive = { lit≤ tt };
-
     fn name() -> &'static str {
         "NonZeroI8"
     }
@@ -185,8 +172,6 @@ impl Described for NonZeroI16 {
     ghost needs_drop = { false };
 
     ghost size = { Some 2 };
-
-    ghost align_positive = { lit≤ tt };
 
     fn name() -> &'static str {
         "NonZeroI16"
@@ -214,8 +199,6 @@ impl Described for NonZeroI32 {
 
     ghost size = { Some 4 };
 
-    ghost align_positive = { lit≤ tt };
-
     fn name() -> &'static str {
         "NonZeroI32"
     }
@@ -242,8 +225,6 @@ impl Described for NonZeroI64 {
 
     ghost size = { Some 8 };
 
-    ghost align_positive = { lit≤ tt };
-
     fn name() -> &'static str {
         "NonZeroI64"
     }
@@ -269,8 +250,6 @@ impl Described for NonZeroIsize {
     ghost needs_drop = { false };
 
     ghost size = { Some 8 };
-
-    ghost align_positive = { lit≤ tt };
 
     fn name() -> &'static str {
         "NonZeroIsize"

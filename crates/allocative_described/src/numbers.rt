@@ -1,7 +1,6 @@
 //! Whole numbers and `bool`: each is as large as its alignment, and has nothing to drop.
 
 ghost use Rattle.std.specs.Prelude.{Some, false, codes};
-ghost use Rattle.std.proofs.Common.{lit≤};
 
 use crate::described::Described;
 
@@ -13,8 +12,6 @@ impl Described for u8 {
     ghost needs_drop = { false };
 
     ghost size = { Some 1 };
-
-    ghost align_positive = { lit≤ tt };
 
     fn name() -> &'static str {
         "u8"
@@ -42,8 +39,6 @@ impl Described for u16 {
 
     ghost size = { Some 2 };
 
-    ghost align_positive = { lit≤ tt };
-
     fn name() -> &'static str {
         "u16"
     }
@@ -69,8 +64,6 @@ impl Described for u32 {
     ghost needs_drop = { false };
 
     ghost size = { Some 4 };
-
-    ghost align_positive = { lit≤ tt };
 
     fn name() -> &'static str {
         "u32"
@@ -98,8 +91,6 @@ impl Described for u64 {
 
     ghost size = { Some 8 };
 
-    ghost align_positive = { lit≤ tt };
-
     fn name() -> &'static str {
         "u64"
     }
@@ -125,8 +116,6 @@ impl Described for u128 {
     ghost needs_drop = { false };
 
     ghost size = { Some 16 };
-
-    ghost align_positive = { lit≤ tt };
 
     fn name() -> &'static str {
         "u128"
@@ -154,8 +143,6 @@ impl Described for usize {
 
     ghost size = { Some 8 };
 
-    ghost align_positive = { lit≤ tt };
-
     fn name() -> &'static str {
         "usize"
     }
@@ -181,8 +168,6 @@ impl Described for i8 {
     ghost needs_drop = { false };
 
     ghost size = { Some 1 };
-
-    ghost align_positive = { lit≤ tt };
 
     fn name() -> &'static str {
         "i8"
@@ -210,8 +195,6 @@ impl Described for i16 {
 
     ghost size = { Some 2 };
 
-    ghost align_positive = { lit≤ tt };
-
     fn name() -> &'static str {
         "i16"
     }
@@ -237,8 +220,6 @@ impl Described for i32 {
     ghost needs_drop = { false };
 
     ghost size = { Some 4 };
-
-    ghost align_positive = { lit≤ tt };
 
     fn name() -> &'static str {
         "i32"
@@ -266,8 +247,6 @@ impl Described for i64 {
 
     ghost size = { Some 8 };
 
-    ghost align_positive = { lit≤ tt };
-
     fn name() -> &'static str {
         "i64"
     }
@@ -293,8 +272,6 @@ impl Described for i128 {
     ghost needs_drop = { false };
 
     ghost size = { Some 16 };
-
-    ghost align_positive = { lit≤ tt };
 
     fn name() -> &'static str {
         "i128"
@@ -322,8 +299,6 @@ impl Described for isize {
 
     ghost size = { Some 8 };
 
-    ghost align_positive = { lit≤ tt };
-
     fn name() -> &'static str {
         "isize"
     }
@@ -349,8 +324,6 @@ impl Described for bool {
     ghost needs_drop = { false };
 
     ghost size = { Some 1 };
-
-    ghost align_positive = { lit≤ tt };
 
     fn name() -> &'static str {
         "bool"

@@ -1,7 +1,6 @@
 //! Types of the crates that this one stands on.
 
 ghost use Rattle.std.specs.Prelude.{Some, true, false, codes, max, ◌||◌};
-ghost use Rattle.std.proofs.Common.{arith, lit≤};
 ghost use Rattle.allocative_described.specs.Sizes.{size_sum, size_product, size_max, size_up};
 
 use crate::described::{Described, size_max, size_product, size_sum, size_up};
@@ -22,8 +21,6 @@ impl<L: Described, R: Described> Described for Either<L, R> {
     ghost needs_drop = { L.needs_drop || R.needs_drop };
 
     ghost size = { size_up (size_sum (Some 1) (size_max L.size R.size)) (max L.align R.align) };
-
-    ghost align_positive = { Prim.omega (arith, L.align_positive) };
 
     fn name() -> &'static str {
         "Either"
@@ -55,8 +52,6 @@ impl<T: Described, const N: usize> Described for SmallVec<T, N> {
         (size_sum (Some 8) (size_max (Some 16) (size_product (Some N) T.size)))
         (max 8 T.align) };
 
-    ghost align_positive = { Prim.omega (arith, T.align_positive) };
-
     fn name() -> &'static str {
         "SmallVec"
     }
@@ -84,8 +79,6 @@ impl<T> Described for OnceBox<T> {
 
     ghost size = { Some 8 };
 
-    ghost align_positive = { lit≤ tt };
-
     fn name() -> &'static str {
         "OnceBox"
     }
@@ -111,8 +104,6 @@ impl<K: Eq + Hash, V> Described for IndexMap<K, V> {
     ghost needs_drop = { true };
 
     ghost size = { Some 72 };
-
-    ghost align_positive = { lit≤ tt };
 
     fn name() -> &'static str {
         "IndexMap"
@@ -140,8 +131,6 @@ impl<K: Eq + Hash> Described for IndexSet<K> {
 
     ghost size = { Some 72 };
 
-    ghost align_positive = { lit≤ tt };
-
     fn name() -> &'static str {
         "IndexSet"
     }
@@ -167,8 +156,6 @@ impl<T> Described for Slab<T> {
     ghost needs_drop = { true };
 
     ghost size = { Some 40 };
-
-    ghost align_positive = { lit≤ tt };
 
     fn name() -> &'static str {
         "Slab"
@@ -196,8 +183,6 @@ impl Described for Value {
 
     ghost size = { Some 32 };
 
-    ghost align_positive = { lit≤ tt };
-
     fn name() -> &'static str {
         "Value"
     }
@@ -224,8 +209,6 @@ impl Described for Number {
 
     ghost size = { Some 16 };
 
-    ghost align_positive = { lit≤ tt };
-
     fn name() -> &'static str {
         "Number"
     }
@@ -251,8 +234,6 @@ impl Described for anyhow::Error {
     ghost needs_drop = { true };
 
     ghost size = { Some 8 };
-
-    ghost align_positive = { lit≤ tt };
 
     fn name() -> &'static str {
         "anyhow::Error"

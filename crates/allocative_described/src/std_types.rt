@@ -2,7 +2,6 @@
 //! types without bytes.
 
 ghost use Rattle.std.specs.Prelude.{Some, true, false, codes};
-ghost use Rattle.std.proofs.Common.{lit≤};
 
 use crate::described::Described;
 use std::collections::{BTreeMap, BTreeSet, HashMap, HashSet, VecDeque};
@@ -20,8 +19,6 @@ impl<T> Described for &'static T {
     ghost needs_drop = { false };
 
     ghost size = { Some 8 };
-
-    ghost align_positive = { lit≤ tt };
 
     fn name() -> &'static str {
         "&"
@@ -49,8 +46,6 @@ impl<T> Described for Box<T> {
 
     ghost size = { Some 8 };
 
-    ghost align_positive = { lit≤ tt };
-
     fn name() -> &'static str {
         "Box"
     }
@@ -76,8 +71,6 @@ impl<T> Described for Vec<T> {
     ghost needs_drop = { true };
 
     ghost size = { Some 24 };
-
-    ghost align_positive = { lit≤ tt };
 
     fn name() -> &'static str {
         "Vec"
@@ -105,8 +98,6 @@ impl Described for String {
 
     ghost size = { Some 24 };
 
-    ghost align_positive = { lit≤ tt };
-
     fn name() -> &'static str {
         "String"
     }
@@ -132,8 +123,6 @@ impl<T> Described for VecDeque<T> {
     ghost needs_drop = { true };
 
     ghost size = { Some 32 };
-
-    ghost align_positive = { lit≤ tt };
 
     fn name() -> &'static str {
         "VecDeque"
@@ -161,8 +150,6 @@ impl<K: Ord, V> Described for BTreeMap<K, V> {
 
     ghost size = { Some 24 };
 
-    ghost align_positive = { lit≤ tt };
-
     fn name() -> &'static str {
         "BTreeMap"
     }
@@ -188,8 +175,6 @@ impl<K: Ord> Described for BTreeSet<K> {
     ghost needs_drop = { true };
 
     ghost size = { Some 24 };
-
-    ghost align_positive = { lit≤ tt };
 
     fn name() -> &'static str {
         "BTreeSet"
@@ -217,8 +202,6 @@ impl<K: Eq + Hash, V> Described for HashMap<K, V> {
 
     ghost size = { Some 48 };
 
-    ghost align_positive = { lit≤ tt };
-
     fn name() -> &'static str {
         "HashMap"
     }
@@ -244,8 +227,6 @@ impl<K: Eq + Hash> Described for HashSet<K> {
     ghost needs_drop = { true };
 
     ghost size = { Some 48 };
-
-    ghost align_positive = { lit≤ tt };
 
     fn name() -> &'static str {
         "HashSet"
@@ -273,8 +254,6 @@ impl Described for IpAddr {
 
     ghost size = { Some 17 };
 
-    ghost align_positive = { lit≤ tt };
-
     fn name() -> &'static str {
         "IpAddr"
     }
@@ -300,8 +279,6 @@ impl Described for Ipv4Addr {
     ghost needs_drop = { false };
 
     ghost size = { Some 4 };
-
-    ghost align_positive = { lit≤ tt };
 
     fn name() -> &'static str {
         "Ipv4Addr"
@@ -329,8 +306,6 @@ impl Described for Ipv6Addr {
 
     ghost size = { Some 16 };
 
-    ghost align_positive = { lit≤ tt };
-
     fn name() -> &'static str {
         "Ipv6Addr"
     }
@@ -356,8 +331,6 @@ impl Described for Duration {
     ghost needs_drop = { false };
 
     ghost size = { Some 16 };
-
-    ghost align_positive = { lit≤ tt };
 
     fn name() -> &'static str {
         "Duration"
@@ -385,8 +358,6 @@ impl Described for Instant {
 
     ghost size = { Some 16 };
 
-    ghost align_positive = { lit≤ tt };
-
     fn name() -> &'static str {
         "Instant"
     }
@@ -412,8 +383,6 @@ impl Described for SystemTime {
     ghost needs_drop = { false };
 
     ghost size = { Some 16 };
-
-    ghost align_positive = { lit≤ tt };
 
     fn name() -> &'static str {
         "SystemTime"
@@ -441,8 +410,6 @@ impl Described for () {
 
     ghost size = { Some 0 };
 
-    ghost align_positive = { lit≤ tt };
-
     fn name() -> &'static str {
         "()"
     }
@@ -469,8 +436,6 @@ impl<T> Described for PhantomData<T> {
 
     ghost size = { Some 0 };
 
-    ghost align_positive = { lit≤ tt };
-
     fn name() -> &'static str {
         "PhantomData"
     }
@@ -496,8 +461,6 @@ impl Described for Infallible {
     ghost needs_drop = { false };
 
     ghost size = { Some 0 };
-
-    ghost align_positive = { lit≤ tt };
 
     fn name() -> &'static str {
         "Infallible"

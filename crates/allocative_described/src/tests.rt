@@ -1,7 +1,6 @@
 //! The tables and the rules at concrete types, and sizes that do not fit.
 
 ghost use Rattle.std.specs.Prelude.{Some, false, codes};
-ghost use Rattle.std.proofs.Common.{lit≤};
 
 use crate::{Described, raw_table_alloc_size_for_len, shared_inner_size};
 use either::Either;
@@ -37,8 +36,6 @@ impl Described for Huge {
 
     ghost size = { Some 18446744073709551615 };
 
-    ghost align_positive = { lit≤ tt };
-
     fn name() -> &'static str {
         "Huge"
     }
@@ -67,8 +64,6 @@ impl Described for CacheLine {
     ghost needs_drop = { false };
 
     ghost size = { Some 64 };
-
-    ghost align_positive = { lit≤ tt };
 
     fn name() -> &'static str {
         "CacheLine"

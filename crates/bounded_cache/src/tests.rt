@@ -2,7 +2,6 @@
 #![tactic(auto, using(allocative::proofs::Showing::showing))]
 
 ghost use Rattle.std.specs.Prelude.{codes, Some, false};
-ghost use Rattle.std.proofs.Common.{lit≤};
 
 use crate::cache::BoundedCache;
 use crate::error::CacheError;
@@ -21,8 +20,6 @@ impl Described for Refuses {
     ghost needs_drop = { false };
 
     ghost size = { Some 1 };
-
-    ghost align_positive = { lit≤ tt };
 
     fn name() -> &'static str {
         "Refuses"

@@ -2,7 +2,6 @@
 #![tactic(auto, using(allocative::proofs::Showing::showing))]
 
 ghost use Rattle.std.specs.Prelude.{codes, Some, true};
-ghost use Rattle.std.proofs.Common.{lit≤};
 ghost use Rattle.allocative.specs.Shows.{Inside, Field, Both};
 
 use crate::entries::assert_text;
@@ -25,8 +24,6 @@ impl Described for Data {
     ghost needs_drop = { true };
 
     ghost size = { Some 16 };
-
-    ghost align_positive = { lit≤ tt };
 
     fn name() -> &'static str {
         "Data"
@@ -71,8 +68,6 @@ impl Described for Boxed {
     ghost needs_drop = { true };
 
     ghost size = { Some 8 };
-
-    ghost align_positive = { lit≤ tt };
 
     fn name() -> &'static str {
         "Boxed"

@@ -2,7 +2,6 @@
 #![tactic(auto, using(allocative::proofs::Showing::showing))]
 
 ghost use Rattle.std.specs.Prelude.{codes, Some, true, false, length, ◌≡◌, ◌^◌, ◌-◌};
-ghost use Rattle.std.proofs.Common.{lit≤};
 ghost use Rattle.allocative.specs.Bodies.{slice_of, vec_body};
 ghost use Rattle.allocative.specs.Shows.{Inside, InsideUnique, Field, SharedWith, Both, Nothing};
 ghost use Rattle.allocative.specs.Visits.{Shows};
@@ -146,8 +145,6 @@ impl Described for BoxedSlice {
 
     ghost size = { Some 16 };
 
-    ghost align_positive = { lit≤ tt };
-
     fn name() -> &'static str {
         "Box"
     }
@@ -190,8 +187,6 @@ impl Described for Boxed {
     ghost needs_drop = { true };
 
     ghost size = { Some 16 };
-
-    ghost align_positive = { lit≤ tt };
 
     fn name() -> &'static str {
         "Boxed"
@@ -246,8 +241,6 @@ impl Described for BoxedNumber {
     ghost needs_drop = { true };
 
     ghost size = { Some 8 };
-
-    ghost align_positive = { lit≤ tt };
 
     fn name() -> &'static str {
         "BoxedNumber"
@@ -327,8 +320,6 @@ impl Described for HoldsMost {
     ghost needs_drop = { false };
 
     ghost size = { Some 1 };
-
-    ghost align_positive = { lit≤ tt };
 
     fn name() -> &'static str {
         "HoldsMost"

@@ -2,7 +2,6 @@
 #![tactic(auto)]
 
 ghost use Rattle.std.specs.Prelude.{codes, Some, false, ◌^◌, ◌-◌};
-ghost use Rattle.std.proofs.Common.{lit≤};
 
 use allocative::{Described, FlameGraphBuilder, Refusal};
 
@@ -16,8 +15,6 @@ impl Described for Huge {
     ghost needs_drop = { false };
 
     ghost size = { Some (2 ^ 64 - 1) };
-
-    ghost align_positive = { lit≤ tt };
 
     fn name() -> &'static str {
         "Huge"

@@ -2,7 +2,6 @@
 #![tactic(auto, using(allocative::proofs::Showing::showing))]
 
 ghost use Rattle.std.specs.Prelude.{codes, None, Some, false, ◌≡◌};
-ghost use Rattle.std.proofs.Common.{lit≤};
 ghost use Rattle.worked_rows.specs.Items.{item_shows};
 
 use allocative::{
@@ -105,8 +104,6 @@ impl Described for Item {
     ghost needs_drop = { false };
 
     ghost size = { Some 24 };
-
-    ghost align_positive = { lit≤ tt };
 
     fn name() -> &'static str {
         "Item"

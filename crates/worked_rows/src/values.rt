@@ -2,7 +2,6 @@
 #![tactic(auto, using(allocative::proofs::Showing::showing))]
 
 ghost use Rattle.std.specs.Prelude.{codes, Some, false, ◌≡◌};
-ghost use Rattle.std.proofs.Common.{lit≤};
 ghost use Rattle.allocative.specs.Shows.{Inside, InsideUnique, Field, Nothing};
 ghost use Rattle.allocative.specs.Visits.{Shows};
 
@@ -28,8 +27,6 @@ impl Described for CacheLine {
     ghost needs_drop = { false };
 
     ghost size = { Some 64 };
-
-    ghost align_positive = { lit≤ tt };
 
     fn name() -> &'static str {
         "CacheLine"

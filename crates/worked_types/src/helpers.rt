@@ -2,7 +2,6 @@
 #![tactic(auto, using(allocative::proofs::Showing::showing))]
 
 ghost use Rattle.std.specs.Prelude.{codes, true, false, Some, length, string_bytes, ◌≡◌, IfErr};
-ghost use Rattle.std.proofs.Common.{lit≤};
 ghost use Rattle.allocative_graph.specs.Shows.{Inside, InsideUnique, Field, Nothing, Both, each_shows, slice_shows};
 ghost use Rattle.allocative_graph.specs.Visits.{Shows, HasFailed};
 ghost use Rattle.allocative.specs.Bodies.{slice_of, vec_body};
@@ -25,8 +24,6 @@ impl Described for Byte {
     ghost needs_drop = { false };
 
     ghost size = { Some 1 };
-
-    ghost align_positive = { lit≤ tt };
 
     fn name() -> &'static str {
         "u8"
@@ -65,8 +62,6 @@ impl Described for Pair {
     ghost needs_drop = { false };
 
     ghost size = { Some 4 };
-
-    ghost align_positive = { lit≤ tt };
 
     fn name() -> &'static str {
         "Pair"
@@ -108,8 +103,6 @@ impl Described for DropPair {
     ghost needs_drop = { true };
 
     ghost size = { Some 4 };
-
-    ghost align_positive = { lit≤ tt };
 
     fn name() -> &'static str {
         "Pair"

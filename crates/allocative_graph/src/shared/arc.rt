@@ -1,6 +1,5 @@
 //! Shared values of any threads.
 ghost use Rattle.std.specs.Prelude.{◌≡◌, IfOk, IfErr, Some, true, codes};
-ghost use Rattle.std.proofs.Common.{lit≤};
 
 use super::Identity;
 use crate::refusal::Refusal;
@@ -71,8 +70,6 @@ impl<T: Drop> Described for IdArc<T> {
     ghost needs_drop = { true };
 
     ghost size = { Some 8 };
-
-    ghost align_positive = { lit≤ tt };
 
     fn name() -> &'static str {
         "Arc"

@@ -2,10 +2,11 @@
 #![tactic(auto, using(crate::proofs::Parts::parts))]
 
 ghost use Rattle.std.specs.Prelude.{codes};
-ghost use Rattle.allocative_graph.specs.Shows.{Field};
+ghost use Rattle.allocative_graph.specs.Shows as shows;
 ghost use Rattle.allocative.specs.PackShows.{either_inside};
 
 use crate::allocative_trait::Allocative;
+use crate::part::{Declared, Field, Part};
 use crate::visitor::Visitor;
 use allocative_described::Described;
 use allocative_graph::key::Key;
@@ -13,15 +14,14 @@ use allocative_graph::refusal::Refusal;
 use either::{Either, Left, Right};
 
 impl<L: Allocative + Described, R: Allocative + Described> Allocative for Either<L, R> {
-    ghost may_show = { λ e. Field (codes "Either") ⟦<Either<L, R> as Described>⟧.size (either_inside L.size L.may_show R.size R.may_show e) };
+    ghost may_show = { λ e. shows.Field (codes "Either") ⟦<Either<L, R> as Described>⟧.size (either_inside L.size L.may_show R.size R.may_show e) };
 
     fn visit(&self, visitor: &mut Visitor<'_>) -> Result<(), Refusal> {
-        let mut inner = visitor.collector.enter_self_sized::<Either<L, R>>()?;
+        let name = Key::for_type_name::<Either<L, R>>();
+        let size = <Either<L, R>>::size();
         match self {
-            Left(left) => inner.visit_field(Key::new("Left"), left)?,
-            Right(right) => inner.visit_field(Key::new("Right"), right)?,
+            Left(left) => Declared(name, size, Field(Key::new("Left"), left)).enter(visitor),
+            Right(right) => Declared(name, size, Field(Key::new("Right"), right)).enter(visitor),
         }
-        inner.exit();
-        Ok(())
     }
 }

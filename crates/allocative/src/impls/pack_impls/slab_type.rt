@@ -1,38 +1,42 @@
 //! `Slab`: the buffer of its values, by rising key.
 #![tactic(auto, using(crate::proofs::Parts::parts))]
 
-ghost use Rattle.std.specs.Prelude.{◌≡◌, IfErr, codes};
-ghost use Rattle.allocative_graph.specs.Shows.{Inside};
-ghost use Rattle.allocative_graph.specs.Visits.{Shows, HasFailed};
+ghost use Rattle.std.specs.Prelude.{codes};
+ghost use Rattle.slab.specs.Slab.{values};
+ghost use Rattle.allocative_graph.specs.Shows as shows;
 ghost use Rattle.allocative.specs.PackShows.{slab_inside};
 
 use crate::allocative_trait::Allocative;
+use crate::containers::Buffer;
+use crate::part::{Inside, Part};
 use crate::visitor::Visitor;
 use allocative_described::Described;
 use allocative_graph::key::Key;
 use allocative_graph::refusal::Refusal;
 use slab::Slab;
 
-// What stands in the slab's own entry.
-fn visit_inside<T: Allocative + Described>(
-    visitor: &mut Visitor<'_>,
-    slab: &Slab<T>,
-) -> Result<(), Refusal>
-    ensures same_reference { visitor.new.collector.ghost_name ≡ visitor.old.collector.ghost_name }
-    ensures same_outer { visitor.new.outer_is_unique ≡ visitor.old.outer_is_unique }
-    ensures shown { Shows (slab_inside T.name T.size T.needs_drop T.may_show slab.now) visitor.old.collector.now result visitor.new.collector.now }
-    ensures cause { IfErr result (HasFailed visitor.new.collector.now) }
-{
-    visitor.visit_values_buffer(slab.iter(), slab.len(), slab.capacity())
+/// The slice of a slab's values, by rising key.
+#[derive(Drop)]
+pub struct Values<'a, T>(pub &'a Slab<T>);
+
+impl<'a, T: Allocative + Described> Part for Values<'a, T> {
+    ghost may_show = { λ s. shows.slice_shows T.name T.size T.needs_drop T.may_show (values s.0.now) };
+
+    fn enter(self, visitor: &mut Visitor<'_>) -> Result<(), Refusal> {
+        visitor.visit_values(self.0.iter())
+    }
 }
 
 impl<T: Allocative + Described> Allocative for Slab<T> {
-    ghost may_show = { λ s. Inside (codes "Slab") 40 (slab_inside T.name T.size T.needs_drop T.may_show s) };
+    ghost may_show = { λ s. shows.Inside (codes "Slab") 40 (slab_inside T.name T.size T.needs_drop T.may_show s) };
 
     fn visit(&self, visitor: &mut Visitor<'_>) -> Result<(), Refusal> {
-        let mut inner = visitor.collector.enter(Key::new("Slab"), 40)?;
-        visit_inside(&mut inner, self)?;
-        inner.exit();
-        Ok(())
+        let buffer = Buffer {
+            items: Values(self),
+            item_size: T::size(),
+            count: self.len(),
+            capacity: self.capacity(),
+        };
+        Inside(Key::new("Slab"), 40, buffer).enter(visitor)
     }
 }

@@ -3,9 +3,10 @@
 
 ghost use Rattle.std.specs.Prelude.{codes};
 ghost use Rattle.std.specs.Mem.{manually_drop_value};
-ghost use Rattle.allocative_graph.specs.Shows.{Field, Nothing};
+ghost use Rattle.allocative_graph.specs.Shows as shows;
 
 use crate::allocative_trait::Allocative;
+use crate::part::{Declared, Field, Part};
 use crate::visitor::Visitor;
 use allocative_described::Described;
 use allocative_graph::key::Key;
@@ -14,29 +15,28 @@ use std::marker::PhantomData;
 use std::mem::ManuallyDrop;
 
 impl<T: Allocative + Described> Allocative for ManuallyDrop<T> {
-    ghost may_show = { λ slot. Field (codes "ManuallyDrop") T.size (Field (codes "inner") T.size (T.may_show (manually_drop_value slot))) };
+    ghost may_show = { λ slot. shows.Field (codes "ManuallyDrop") T.size (shows.Field (codes "inner") T.size (T.may_show (manually_drop_value slot))) };
 
     fn visit(&self, visitor: &mut Visitor<'_>) -> Result<(), Refusal> {
-        let mut inner = visitor.collector.enter_self_sized::<ManuallyDrop<T>>()?;
-        inner.visit_field(Key::new("inner"), &**self)?;
-        inner.exit();
-        Ok(())
+        let inner = Field(Key::new("inner"), &**self);
+        let name = Key::for_type_name::<ManuallyDrop<T>>();
+        Declared(name, <ManuallyDrop<T>>::size(), inner).enter(visitor)
     }
 }
 
 // What it points to is no part of it.
 impl<T> Allocative for &'static T {
-    ghost may_show = { λ _. Nothing };
+    ghost may_show = { λ _. shows.Nothing };
 
-    fn visit(&self, _visitor: &mut Visitor<'_>) -> Result<(), Refusal> {
-        Ok(())
+    fn visit(&self, visitor: &mut Visitor<'_>) -> Result<(), Refusal> {
+        ().enter(visitor)
     }
 }
 
 impl<T> Allocative for PhantomData<T> {
-    ghost may_show = { λ _. Nothing };
+    ghost may_show = { λ _. shows.Nothing };
 
-    fn visit(&self, _visitor: &mut Visitor<'_>) -> Result<(), Refusal> {
-        Ok(())
+    fn visit(&self, visitor: &mut Visitor<'_>) -> Result<(), Refusal> {
+        ().enter(visitor)
     }
 }

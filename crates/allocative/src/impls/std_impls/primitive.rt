@@ -1,5 +1,5 @@
 //! Whole numbers, those that are not zero, `bool` and the unit: one entry each.
-#![tactic(auto, using(crate::proofs::Parts::parts))]
+#![tactic(auto, using(crate::proofs::Meaning::visited))]
 
 ghost use Rattle.std.specs.Prelude.{codes};
 ghost use Rattle.allocative.specs.StdShows.{Leaf};

@@ -4,4 +4,4 @@ use Rattle.allocative.proofs.Roots.{run_shows}
 use Rattle.allocative.proofs.collector.Collector.visit_one.Goals as goal
 
 pub returns : goal.returns
-returns g c = run_shows _ _ c.in_ok-visitor.ensures.begun refl c.visit_part-told.ensures.shown (search rules) c.visit_part-told.ensures.same_outer c.check.ensures
+returns g c = run_shows _ _ c.in_ok-visitor.ensures.begun refl c.enter-told.ensures.shown (search rules) c.enter-told.ensures.same_outer c.check.ensures

@@ -1,12 +1,10 @@
--- The values so far were shown.
-use Rattle.std.proofs.Common.{◌≡◌, Ok, map}
-use Rattle.allocative_graph.specs.Shows.{each_shows}
-use Rattle.allocative_graph.specs.Visits.{Shows}
+-- The items so far were shown.
+use Rattle.std.proofs.Common.{Ok, map}
 use Rattle.allocative.specs.Runs.{deref_entry, value_shows}
+use Rattle.allocative_graph.specs.Shows.{each_shows}
+use Rattle.allocative.specs.Visited.{Entered}
 use Rattle.allocative.proofs.visitor.Visitor.visit_each_value.Given as goal
 
 abbrev pub invariant-loop-key : goal.invariant-loop-key
 invariant-loop-key g l =
-    (l.self.collector.ghost_name ≡ l.fn.self.collector.ghost_name)
-    × (l.self.outer_is_unique ≡ l.fn.self.outer_is_unique)
-    × Shows (each_shows (value_shows g.T.Allocative.may_show) (map deref_entry l.yielded)) l.fn.self.collector.now (Ok tt) l.self.collector.now
+    Entered (each_shows (value_shows g.T.Allocative.may_show) (map deref_entry l.yielded)) l.fn.self l.self (Ok tt)

@@ -1,23 +1,21 @@
 -- One item more, and the end of the run.
-use Rattle.std.proofs.Common.{◌∙◌}
 use Rattle.std.specs.Map.Iter.{deref}
-use Rattle.allocative_graph.specs.Shows.{each_shows}
 use Rattle.allocative.specs.Runs.{field_of}
-use Rattle.allocative.proofs.Runs.{shows_next, shows_run}
+use Rattle.allocative_graph.specs.Shows.{each_shows}
+use Rattle.allocative.proofs.Runs.{entered_next, entered_run}
 use Rattle.allocative.proofs.Making.{not_none, run_gives, run_ends}
 use Rattle.allocative.proofs.visitor.Visitor.visit_fields.Goals as goal
 
 pub loop-item-preserved : goal.loop-item-preserved
 loop-item-preserved g c = (
-  c.visit_field.ensures.same_reference ∙ c.loop-item.invariant.0,
-  c.visit_field.ensures.same_outer ∙ c.loop-item.invariant.1,
-  shows_next deref (field_of c.args.name g.T.Described.size g.T.Allocative.may_show) c.loop-item.yielded c.in-Some.item c.loop-item.invariant.2 (rw c.copy.ensures at c.in_ok-visit_field.ensures.shown),
+  entered_next deref (field_of c.args.name g.T.Described.size g.T.Allocative.may_show) c.loop-item.yielded c.in-Some.item c.loop-item.invariant.0 (rw c.copy.ensures at c.in_ok-visit_field.ensures.entered),
   λ h. not_none c.loop-item.yielded _ h,
 )
 
-pub returns-clause-shown : goal.returns-clause-shown
-returns-clause-shown g c =
-    rw (← c.into_iter-item-iterator.ensures.into_iter_gives) (shows_run deref (each_shows (field_of c.args.name g.T.Described.size g.T.Allocative.may_show)) c.loop-item.yielded (c.next.new.self, (c.loop-item.item-iterator, c.loop-item.yielded_by, c.in-None.ensures.steps)) c.loop-item.invariant.2)
+pub returns-clause-entered : goal.returns-clause-entered
+returns-clause-entered g c =
+    rw (← c.into_iter-item-iterator.ensures.into_iter_gives)
+    (entered_run deref (each_shows (field_of c.args.name g.T.Described.size g.T.Allocative.may_show)) c.loop-item.yielded (c.next.new.self, (c.loop-item.item-iterator, c.loop-item.yielded_by, c.in-None.ensures.steps)) c.loop-item.invariant.0)
 
 pub returns-in_err-visit_field-clause-exact : goal.returns-in_err-visit_field-clause-exact
 returns-in_err-visit_field-clause-exact g c =
@@ -25,4 +23,4 @@ returns-in_err-visit_field-clause-exact g c =
 
 pub returns-clause-exact : goal.returns-clause-exact
 returns-clause-exact g c =
-    rw (← c.into_iter-item-iterator.ensures.into_iter_gives) (run_ends g.I.Iterator.next_gives c.loop-item.item-iterator c.loop-item.yielded c.loop-item.yielded_by c.loop-item.invariant.3)
+    rw (← c.into_iter-item-iterator.ensures.into_iter_gives) (run_ends g.I.Iterator.next_gives c.loop-item.item-iterator c.loop-item.yielded c.loop-item.yielded_by c.loop-item.invariant.1)

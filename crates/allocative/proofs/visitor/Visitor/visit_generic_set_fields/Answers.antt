@@ -1,4 +1,5 @@
 use Rattle.std.proofs.Common.{rules}
+use Rattle.allocative.proofs.Showing.{any_err, entry_err, showing}
 use Rattle.allocative_graph.specs.Visits.{is_sized}
 use Rattle.allocative.proofs.Making.{makes_or_refused, entry_or_gives, entry_or_gives_refused}
 use Rattle.allocative.proofs.visitor.Visitor.visit_generic_set_fields.Goals as goal
@@ -14,3 +15,12 @@ returns-in_err-visit_keys-clause-exact g c =
 pub returns-clause-exact : goal.returns-clause-exact
 returns-clause-exact g c =
     entry_or_gives {q = c.visit_keys.new.self.outer_is_unique} (is_sized (rw c.new.ensures at c.in_ok-inner.ensures.entered)) c.in_ok-visit_keys.ensures.exact (search rules) (search rules)
+
+pub returns-in_err-visit_keys-clause-entered : goal.returns-in_err-visit_keys-clause-entered
+returns-in_err-visit_keys-clause-entered g c = record {
+    same_reference = search rules;
+    same_outer = search rules;
+    shown = any_err _ c.from_residual-in_err-visit_keys.ensures.0
+        (entry_err {w = c.visit_keys.new.self.outer_is_unique} {x = c.in_err-visit_keys.field-0.0} c.in_ok-inner.ensures.entered (search rules) c.in_err-visit_keys.ensures.entered.shown (search rules));
+    cause = search (rules, showing)
+  }

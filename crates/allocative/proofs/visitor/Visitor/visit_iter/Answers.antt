@@ -4,12 +4,12 @@ use Rattle.allocative.proofs.Runs.{items_run, plain_run}
 use Rattle.allocative.proofs.Making.{run_in_turn, run_counted}
 use Rattle.allocative.proofs.visitor.Visitor.visit_iter.Goals as goal
 
-pub returns-then-are_shown_each-clause-shown : goal.returns-then-are_shown_each-clause-shown
-returns-then-are_shown_each-clause-shown g c =
-    items_run deref g.T.Described.name g.T.Described.size g.T.Described.needs_drop g.T.Allocative.may_show (search rules) c.visit_items.ensures.shown
+pub returns-then-are_shown_each-clause-entered : goal.returns-then-are_shown_each-clause-entered
+returns-then-are_shown_each-clause-entered g c =
+    items_run deref g.T.Described.name g.T.Described.size g.T.Described.needs_drop g.T.Allocative.may_show (search rules) c.visit_items.ensures.entered
 
-pub returns-clause-shown : goal.returns-clause-shown
-returns-clause-shown g c =
+pub returns-clause-entered : goal.returns-clause-entered
+returns-clause-entered g c =
     plain_run deref g.T.Described.name g.T.Described.size c.count_of-count.result g.T.Described.needs_drop g.T.Allocative.may_show (search rules) c.count_of-count.ensures (search rules)
 
 pub returns-then-are_shown_each-clause-exact : goal.returns-then-are_shown_each-clause-exact

@@ -1,23 +1,21 @@
 -- One item more, and the end of the run.
-use Rattle.std.proofs.Common.{◌∙◌}
 use Rattle.std.specs.Map.Iter.{deref_pair}
-use Rattle.allocative_graph.specs.Shows.{each_shows}
 use Rattle.allocative.specs.Runs.{pair_shows}
-use Rattle.allocative.proofs.Runs.{shows_next, shows_run}
+use Rattle.allocative_graph.specs.Shows.{each_shows}
+use Rattle.allocative.proofs.Runs.{entered_next, entered_run}
 use Rattle.allocative.proofs.Making.{not_none, run_gives, run_ends}
 use Rattle.allocative.proofs.visitor.Visitor.visit_pairs.Goals as goal
 
 pub loop-key-preserved : goal.loop-key-preserved
 loop-key-preserved g c = (
-  c.visit_pair.ensures.same_reference ∙ c.loop-key.invariant.0,
-  c.visit_pair.ensures.same_outer ∙ c.loop-key.invariant.1,
-  shows_next deref_pair (pair_shows g.K.Described.size g.K.Allocative.may_show g.V.Described.size g.V.Allocative.may_show) c.loop-key.yielded (c.in-Some.key, c.in-Some.value) c.loop-key.invariant.2 c.in_ok-visit_pair.ensures.shown,
+  entered_next deref_pair (pair_shows g.K.Described.size g.K.Allocative.may_show g.V.Described.size g.V.Allocative.may_show) c.loop-key.yielded (c.in-Some.key, c.in-Some.value) c.loop-key.invariant.0 c.in_ok-visit_pair.ensures,
   λ h. not_none c.loop-key.yielded _ h,
 )
 
-pub returns-clause-shown : goal.returns-clause-shown
-returns-clause-shown g c =
-    rw (← c.into_iter-key-iterator.ensures.into_iter_gives) (shows_run deref_pair (each_shows (pair_shows g.K.Described.size g.K.Allocative.may_show g.V.Described.size g.V.Allocative.may_show)) c.loop-key.yielded (c.next.new.self, (c.loop-key.key-iterator, c.loop-key.yielded_by, c.in-None.ensures.steps)) c.loop-key.invariant.2)
+pub returns-clause-entered : goal.returns-clause-entered
+returns-clause-entered g c =
+    rw (← c.into_iter-key-iterator.ensures.into_iter_gives)
+    (entered_run deref_pair (each_shows (pair_shows g.K.Described.size g.K.Allocative.may_show g.V.Described.size g.V.Allocative.may_show)) c.loop-key.yielded (c.next.new.self, (c.loop-key.key-iterator, c.loop-key.yielded_by, c.in-None.ensures.steps)) c.loop-key.invariant.0)
 
 pub returns-in_err-visit_pair-clause-exact : goal.returns-in_err-visit_pair-clause-exact
 returns-in_err-visit_pair-clause-exact g c =
@@ -25,4 +23,4 @@ returns-in_err-visit_pair-clause-exact g c =
 
 pub returns-clause-exact : goal.returns-clause-exact
 returns-clause-exact g c =
-    rw (← c.into_iter-key-iterator.ensures.into_iter_gives) (run_ends g.I.Iterator.next_gives c.loop-key.key-iterator c.loop-key.yielded c.loop-key.yielded_by c.loop-key.invariant.3)
+    rw (← c.into_iter-key-iterator.ensures.into_iter_gives) (run_ends g.I.Iterator.next_gives c.loop-key.key-iterator c.loop-key.yielded c.loop-key.yielded_by c.loop-key.invariant.1)

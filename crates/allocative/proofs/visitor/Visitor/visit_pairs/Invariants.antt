@@ -1,15 +1,13 @@
 -- The items so far were shown.
 use Rattle.std.proofs.Common.{length, ◌≡◌, Ok, map}
 use Rattle.std.specs.Map.Iter.{deref_pair}
-use Rattle.allocative_graph.specs.Shows.{each_shows}
-use Rattle.allocative_graph.specs.Visits.{Shows}
 use Rattle.allocative.specs.Runs.{pair_shows}
-use Rattle.allocative.specs.Making.{Makes, Done}
+use Rattle.allocative_graph.specs.Shows.{each_shows}
+use Rattle.allocative.specs.Visited.{Entered}
+use Rattle.allocative.specs.Making.{MakesPlan, Done}
 use Rattle.allocative.proofs.visitor.Visitor.visit_pairs.Given as goal
 
 abbrev pub invariant-loop-key : goal.invariant-loop-key
 invariant-loop-key g l =
-    (l.self.collector.ghost_name ≡ l.fn.self.collector.ghost_name)
-    × (l.self.outer_is_unique ≡ l.fn.self.outer_is_unique)
-    × Shows (each_shows (pair_shows g.K.Described.size g.K.Allocative.may_show g.V.Described.size g.V.Allocative.may_show) (map deref_pair l.yielded)) l.fn.self.collector.now (Ok tt) l.self.collector.now
-    × (length l.yielded ≡ 0 → Makes Done l.fn.self.collector.now (Ok tt) l.self.collector.now)
+    Entered (each_shows (pair_shows g.K.Described.size g.K.Allocative.may_show g.V.Described.size g.V.Allocative.may_show) (map deref_pair l.yielded)) l.fn.self l.self (Ok tt)
+    × (length l.yielded ≡ 0 → MakesPlan Done l.fn.self l.self (Ok tt))

@@ -1,16 +1,16 @@
 use Rattle.std.proofs.Common.{rules, true, ◌≡◌}
-use Rattle.allocative.proofs.Bodies.{shows_plain, shows_one_by_one}
+use Rattle.allocative.proofs.Bodies.{entered_plain, entered_one_by_one}
 use Rattle.allocative.specs.Bodies.{are_shown_each}
 use Rattle.allocative.proofs.Making.{makes_plain, makes_each}
 use Rattle.allocative.proofs.visitor.Visitor.visit_slice.Goals as goal
 
-pub returns-then-are_shown_each-clause-shown : goal.returns-then-are_shown_each-clause-shown
-returns-then-are_shown_each-clause-shown g c =
-    shows_one_by_one g.T.Described.name g.T.Described.size g.T.Described.needs_drop g.T.Allocative.may_show c.args.items.now (search rules) c.visit_each.ensures.shown
+pub returns-then-are_shown_each-clause-entered : goal.returns-then-are_shown_each-clause-entered
+returns-then-are_shown_each-clause-entered g c =
+    entered_one_by_one g.T.Described.name g.T.Described.size g.T.Described.needs_drop g.T.Allocative.may_show c.args.items.now (search rules) c.visit_each.ensures.entered
 
-pub returns-clause-shown : goal.returns-clause-shown
-returns-clause-shown g c =
-    shows_plain g.T.Described.name g.T.Described.size g.T.Described.needs_drop g.T.Allocative.may_show c.args.items.now (search rules) (search rules)
+pub returns-clause-entered : goal.returns-clause-entered
+returns-clause-entered g c =
+    entered_plain g.T.Described.name g.T.Described.size g.T.Described.needs_drop g.T.Allocative.may_show c.args.items.now (search rules) (search rules)
 
 pub returns-then-are_shown_each-clause-exact : goal.returns-then-are_shown_each-clause-exact
 returns-then-are_shown_each-clause-exact g c = λ h.

@@ -1,6 +1,7 @@
-use Rattle.std.proofs.Common.{rules}
-use Rattle.allocative.proofs.Showing.{one_part}
+-- The value that was there.
+use Rattle.allocative.proofs.Meaning.{visited_as, means_inside}
+use Rattle.allocative.proofs.ContainerMeaning.{means_set}
 use Rattle.allocative.proofs.impls.pack_impls.once_box.OnceBoxAllocative.visit.Goals as goal
 
-pub returns-clause-shown : goal.returns-clause-shown
-returns-clause-shown g c = search (rules, one_part)
+pub returns-in-Some : goal.returns-in-Some
+returns-in-Some g c = visited_as c.enter-in-Some.ensures (means_inside c.new-name.ensures (means_set _ c.new.ensures))

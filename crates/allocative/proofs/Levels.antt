@@ -1,0 +1,112 @@
+-- What a level shows of values of any number of levels is what a value of any number of levels shows.
+use Rattle.std.proofs.Common.{◌≡◌, ℕ, Bool, true, false, codes, zero, suc, ◌+◌, List, [], ◌∷◌, Option, None, Some, refl, arith}
+use Rattle.std.proofs.Math.Nat.{add_comm}
+use Rattle.allocative_graph.specs.Path.{Key}
+use Rattle.allocative_graph.specs.Forest.{Forest}
+use Rattle.allocative_graph.specs.Shows.{Showing, IsField, sized, each_shows, InsideAs, Both}
+use Rattle.allocative.specs.Bodies.{IsBuffer, buffer_shows, bytes_shown, without_size, without_items, with_room}
+use Rattle.allocative.specs.StdShows.{option_inside, in_any_order}
+use Rattle.allocative.specs.Visited.{Means}
+use Rattle.allocative.specs.Levels.{Level, same, child, both, inside, unique, field, buffer, optional, each, unordered, level_shows, levels_shown, IsOfLevels, recursive}
+use Rattle.allocative.proofs.Meaning.{means_same, means_inside, means_unique, means_field, means_both}
+use Rattle.allocative.proofs.ContainerMeaning.{means_buffer}
+
+-- ---- where p allows less than q
+pub means_each : {A : Type 0} {p q : A → Showing} → ((x : A) → Means (p x) (q x)) → (xs : List A) → Means (each_shows p xs) (each_shows q xs)
+means_each m [] = means_same
+means_each m (x ∷ xs) = means_both (m x) (means_each m xs)
+
+pub means_unordered : {A : Type 0} {p q : A → Showing} → ((x : A) → Means (p x) (q x)) → (xs : List A) → Means (in_any_order p xs) (in_any_order q xs)
+means_unordered m xs = record { means = λ f x. (x.0, x.1, (means_each m x.0).means f x.2) }
+
+pub means_optional : {A : Type 0} (y : Option ℕ) {p q : A → Showing} → ((x : A) → Means (p x) (q x)) → (o : Option A) → Means (option_inside y p o) (option_inside y q o)
+means_optional y m None = means_same
+means_optional y m (Some x) = means_field refl refl (m x)
+
+means_level : {T : Type 0} {p q : T → Showing} → ((x : T) → Means (p x) (q x)) → (l : Level T) → Means (level_shows p l) (level_shows q l)
+means_level m (same s) = means_same
+means_level m (child x) = m x
+means_level m (both a b) = means_both (means_level m a) (means_level m b)
+means_level m (inside k n a) = means_inside refl (means_level m a)
+means_level m (unique k n a) = means_unique refl (means_level m a)
+means_level m (field k size a) = means_field refl refl (means_level m a)
+means_level m (buffer size a n) = means_buffer refl refl (means_level m a)
+means_level m (optional size w o) = means_optional size (λ x. means_level m (w x)) o
+means_level m (each w xs) = means_each (λ x. means_level m (w x)) xs
+means_level m (unordered w xs) = means_unordered (λ x. means_level m (w x)) xs
+
+-- ---- more levels allow more
+levels_step : {T : Type 0} (w : T → Level T) (k : ℕ) (x : T) → Means (levels_shown w k x) (levels_shown w (suc k) x)
+levels_step w zero x = record { means = λ f y. absurd y }
+levels_step w (suc k) x = means_level (levels_step w k) (w x)
+
+levels_more : {T : Type 0} (w : T → Level T) (k j : ℕ) (x : T) → Means (levels_shown w k x) (levels_shown w (k + j) x)
+levels_more w k zero x = let e : k + 0 ≡ k = omega arith in rw e means_same
+levels_more w k (suc j) x =
+    let e : k + suc j ≡ suc (k + j) = omega arith in
+    rw e (record { means = λ f y. (levels_step w (k + j) x).means f ((levels_more w k j x).means f y) })
+
+-- ---- one number of levels is enough for all parts
+-- the parts of q, each in some number of levels
+abbrev Found : (ℕ → Showing) → Showing → Type 0
+Found p q = (f : Forest) → q f → (k : ℕ) × p k f
+
+inside_found : (u : Bool) (k : Key) (n : ℕ) {p : ℕ → Showing} {q : Showing} → Found p q → Found (λ i. InsideAs u k n (p i)) (InsideAs u k n q)
+inside_found u k n s f (g, x, e) = let m = s g x in (m.0, (g, m.1, e))
+
+field_found : (k : Key) (y : Option ℕ) {p : ℕ → Showing} {q : Showing} → Found p q → (f : Forest) → IsField k q y f → (i : ℕ) × IsField k (p i) y f
+field_found k y s f (sized {n} x) = let m = inside_found false k n s f x in (m.0, sized m.1)
+
+both_found : {p r : ℕ → Showing} {q s : Showing} → ((k j : ℕ) → Means (p k) (p (k + j))) → ((k j : ℕ) → Means (r k) (r (k + j))) → Found p q → Found r s → Found (λ k. Both (p k) (r k)) (Both q s)
+both_found more_p more_r a b f (g, h, x, y, e) =
+    let m = a g x in
+    let n = b h y in
+    (m.0 + n.0, (g, h, (more_p m.0 n.0).means g m.1, rw (add_comm m.0 n.0) ((more_r n.0 m.0).means h n.1), e))
+
+buffer_found : (y : Option ℕ) (n : ℕ) {p : ℕ → Showing} {q : Showing} → ((k j : ℕ) → Means (p k) (p (k + j))) → Found p q → (f : Forest) → IsBuffer q n y f → (k : ℕ) × IsBuffer (p k) n y f
+buffer_found y n more s f (without_size e) = (0, without_size e)
+buffer_found y n more s f (without_items h e) = (0, without_items h e)
+buffer_found y n {q = q} more found f (with_room {s = z} u l x) =
+    let room = bytes_shown (codes "unused_capacity") (Some z) u in
+    let m = inside_found true (codes "ptr") 8 (both_found {r = λ k. room} {q = q} {s = room} more (λ k j. means_same) found (λ f z. (0, z))) f x in
+    (m.0, with_room u l m.1)
+
+each_found : {A : Type 0} {p : ℕ → A → Showing} {q : A → Showing} → ((k j : ℕ) (x : A) → Means (p k x) (p (k + j) x)) → ((x : A) → Found (λ k. p k x) (q x)) →
+    (xs : List A) → Found (λ k. each_shows (p k) xs) (each_shows q xs)
+each_found more s [] f e = (0, e)
+each_found {p = p} more s (x ∷ xs) f y =
+    both_found {p = λ k. p k x} {r = λ k. each_shows (p k) xs} (λ k j. more k j x) (λ k j. means_each (more k j) xs) (s x) (each_found more s xs) f y
+
+optional_found : {A : Type 0} (y : Option ℕ) {p : ℕ → A → Showing} {q : A → Showing} → ((x : A) → Found (λ k. p k x) (q x)) →
+    (o : Option A) → Found (λ k. option_inside y (p k) o) (option_inside y q o)
+optional_found y s None f e = (0, e)
+optional_found y s (Some x) f e = field_found (codes "Some") y (s x) f e
+
+level_found : {T : Type 0} (w : T → Level T) (l : Level T) → Found (λ k. level_shows (levels_shown w k) l) (level_shows (recursive w) l)
+level_found w (same s) f y = (0, y)
+level_found w (child x) f y = (y.depth, y.shown)
+level_found w (both a b) f y = both_found (λ k j. means_level (levels_more w k j) a) (λ k j. means_level (levels_more w k j) b) (level_found w a) (level_found w b) f y
+level_found w (inside k n a) f y = inside_found false k n (level_found w a) f y
+level_found w (unique k n a) f y = inside_found true k n (level_found w a) f y
+level_found w (field k size a) f y = field_found k size (level_found w a) f y
+level_found w (buffer size a n) f y = buffer_found size n (λ k j. means_level (levels_more w k j) a) (level_found w a) f y
+level_found w (optional size v o) f y = optional_found size (λ x. level_found w (v x)) o f y
+level_found w (each v xs) f y = each_found (λ k j x. means_level (levels_more w k j) (v x)) (λ x. level_found w (v x)) xs f y
+level_found w (unordered v xs) f y =
+    let m = each_found (λ k j x. means_level (levels_more w k j) (v x)) (λ x. level_found w (v x)) y.0 f y.2 in
+    (m.0, (y.0, y.1, m.1))
+
+one_level_more : {T : Type 0} (w : T → Level T) (x : T) (f : Forest) → level_shows (recursive w) (w x) f → recursive w x f
+one_level_more w x f y = let m = level_found w (w x) f y in record { depth = suc m.0; shown = m.1 }
+
+pub means_recursive : {T : Type 0} {w : T → Level T} {x : T} {p : Showing} → Means p (level_shows (recursive w) (w x)) → Means p (recursive w x)
+means_recursive {w = w} {x = x} m = record { means = λ f y. one_level_more w x f (m.means f y) }
+
+-- a value of some levels shows what its first level shows
+opened : {T : Type 0} (w : T → Level T) (x : T) (k : ℕ) (f : Forest) → levels_shown w k x f → level_shows (recursive w) (w x) f
+opened w x zero f y = absurd y
+opened w x (suc k) f y = (means_level (λ z. record { means = λ g v. record { depth = k; shown = v } }) (w x)).means f y
+
+-- and what a value shows is what one of its levels shows
+pub recursive_opens : {T : Type 0} (w : T → Level T) (x : T) → Means (recursive w x) (level_shows (recursive w) (w x))
+recursive_opens w x = record { means = λ f y. opened w x y.depth f y.shown }

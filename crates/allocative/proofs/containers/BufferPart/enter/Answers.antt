@@ -1,0 +1,21 @@
+-- The three cases of a buffer, and an item without a size.
+use Rattle.std.proofs.Common.{arith, ◌≡◌, ◌<◌}
+use Rattle.allocative.proofs.Meaning.{entered_as, entered_none, entered_refused}
+use Rattle.allocative.proofs.Bodies.{means_without_size, means_without_items, means_with_room}
+use Rattle.allocative.proofs.containers.BufferPart.enter.Goals as goal
+
+pub returns-in_default : goal.returns-in_default
+returns-in_default g c = entered_refused c.refuse.ensures
+
+pub returns-then-size-eq0 : goal.returns-then-size-eq0
+returns-then-size-eq0 g c = entered_none _ (means_without_size c.in-Some.is c.if-size-eq0.true)
+
+pub returns-then-self-eq0-2 : goal.returns-then-self-eq0-2
+returns-then-self-eq0-2 g c =
+    let none : c.args.self.count ≡ 0 = omega arith in
+    entered_none _ (means_without_items c.in-Some.is none)
+
+pub returns : goal.returns
+returns g c =
+    let some : 0 < c.in-Some.size = omega arith in
+    entered_as (rw c.new.ensures at c.enter.ensures) (means_with_room _ c.in-Some.is some)

@@ -1,0 +1,8 @@
+-- The iterator gives the items.
+use Rattle.std.proofs.lemmas.Iterator.Consumers.{YieldsList-from_rest}
+use Rattle.allocative.specs.Runs.{field_of}
+use Rattle.allocative.proofs.Runs.{entered_any_order}
+use Rattle.allocative.proofs.containers.FieldEachRefHashSetPart.enter.Goals as goal
+
+pub returns : goal.returns
+returns g c = entered_any_order {p = field_of c.args.self.0 g.T.Described.size g.T.Allocative.may_show} (YieldsList-from_rest _ c.iter.ensures.rest) c.visit_fields.ensures.entered

@@ -1,0 +1,9 @@
+-- The iterator gives the items.
+use Rattle.std.proofs.lemmas.Iterator.Consumers.{YieldsList-from_rest}
+use Rattle.allocative_graph.specs.Shows.{each_shows}
+use Rattle.allocative.specs.Runs.{field_of}
+use Rattle.allocative.proofs.Runs.{entered_list}
+use Rattle.allocative.proofs.containers.FieldEachRefIndexSetPart.enter.Goals as goal
+
+pub returns : goal.returns
+returns g c = entered_list {q = each_shows (field_of c.args.self.0 g.T.Described.size g.T.Allocative.may_show)} (YieldsList-from_rest _ c.iter.ensures.rest) c.visit_fields.ensures.entered

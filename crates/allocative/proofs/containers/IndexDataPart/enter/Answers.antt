@@ -1,0 +1,6 @@
+use Rattle.allocative.specs.PackShows.{with_unused}
+use Rattle.allocative.proofs.Meaning.{entered_as}
+use Rattle.allocative.proofs.containers.IndexDataPart.enter.Goals as goal
+
+pub returns : goal.returns
+returns g c = entered_as (rw c.new.ensures at c.enter.ensures) (record { means = λ f h. with_unused _ h })

@@ -1,0 +1,8 @@
+-- The unused amount is what the capacity leaves.
+use Rattle.std.proofs.Common.{arith, rules}
+use Rattle.allocative.proofs.Meaning.{entered_as}
+use Rattle.allocative.proofs.Bodies.{means_text}
+use Rattle.allocative.proofs.containers.TextPart.enter.Goals as goal
+
+pub returns : goal.returns
+returns c = entered_as c.enter.ensures (means_text c.new-4.ensures c.new-3.ensures c.new.ensures c.new-2.ensures (search rules) (omega arith))

@@ -1,0 +1,22 @@
+-- One member more, and the end of the map.
+use Rattle.std.proofs.lemmas.List.{append-nil}
+use Rattle.std.proofs.Common.{String, Global, [], ◌∷◌, ◌++◌, sym, ap, refl, append_assoc, ◌∙◌}
+use Rattle.allocative.specs.JsonShows.{member_shows}
+use Rattle.allocative.proofs.Meaning.{entered_as, entered_snoc, means_both, means_field, means_same}
+use Rattle.allocative.proofs.impls.pack_impls.json.MembersRefMapStringPart.enter.Goals as goal
+
+pub loop-key-preserved : goal.loop-key-preserved
+loop-key-preserved g c =
+    let l = c.loop-key in
+    let done = l.invariant.0 in
+    let e : String Global × g.row.V.Denot = (c.in-Some.key.now, c.in-Some.value.now) in (
+      done ++ e ∷ [],
+      l.invariant.1 ∙ ap (λ es. done ++ es) c.in-Some.ensures.steps ∙ sym (append_assoc done (e ∷ []) c.next.new.self),
+      entered_snoc (member_shows g.V.Allocative.may_show) done e l.invariant.2
+          (entered_as c.in_ok-enter.ensures (means_both (means_field c.new.ensures refl means_same) (means_field c.new-in-loop-key.ensures refl means_same))),
+    )
+
+pub returns : goal.returns
+returns g c =
+    let all = rw (c.in-None.ensures.steps.0, append-nil) at c.loop-key.invariant.1 in
+    rw all c.loop-key.invariant.2

@@ -1,0 +1,21 @@
+-- The items of an array, and the members of an object, as the data that they stand for.
+use Rattle.std.proofs.Common.{◌≡◌, refl, length, rules}
+use Rattle.serde_json.specs.Data.{array, object}
+use Rattle.serde_json.specs.View.{view, items_view, members_view}
+use Rattle.serde_json.specs.declared.value.Value.{the_lemmas}
+use Rattle.allocative.proofs.Meaning.{visited_as, means_inside, means_unique, means_field}
+use Rattle.allocative.proofs.Json.{means_items, means_members}
+use Rattle.allocative.proofs.impls.pack_impls.json.ValueAllocative.+visit.Goals as goal
+
+pub returns-in-Array : goal.returns-in-Array
+returns-in-Array t c =
+    let e : view c.args.self.now ≡ array (items_view c.in-Array.items.items) = search (rules, the_lemmas) in
+    let n : c.len.result ≡ length c.in-Array.items.items = search rules in
+    rw e (visited_as c.enter-in-Array.ensures
+    (means_inside c.new-name.ensures (means_inside c.new-in-Array-2.ensures (means_field c.new-in-Array.ensures refl (rw n (means_items c.in-Array.items.items))))))
+
+pub returns-in-Object : goal.returns-in-Object
+returns-in-Object t c =
+    let e : view c.args.self.now ≡ object (members_view c.in-Object.map.entries) = search (rules, the_lemmas) in
+    rw e (visited_as c.enter-in-Object.ensures
+    (means_inside c.new-name.ensures (means_inside c.new-in-Object-3.ensures (means_inside c.new-in-Object-2.ensures (means_unique c.new-in-Object.ensures (means_members c.in-Object.map.entries))))))

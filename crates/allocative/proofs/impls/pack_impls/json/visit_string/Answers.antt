@@ -1,6 +1,0 @@
-use Rattle.std.proofs.Common.{rules}
-use Rattle.allocative.proofs.Showing.{one_part}
-use Rattle.allocative.proofs.impls.pack_impls.json.visit_string.Goals as goal
-
-pub returns-clause-shown : goal.returns-clause-shown
-returns-clause-shown c = search (rules, one_part)

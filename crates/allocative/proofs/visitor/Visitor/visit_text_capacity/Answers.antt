@@ -1,6 +1,0 @@
-use Rattle.std.proofs.Common.{rules}
-use Rattle.allocative.proofs.Showing.{showing}
-use Rattle.allocative.proofs.visitor.Visitor.visit_text_capacity.Goals as goal
-
-pub returns-clause-shown : goal.returns-clause-shown
-returns-clause-shown c = search (rules, showing)

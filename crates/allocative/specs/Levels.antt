@@ -1,0 +1,71 @@
+-- What a value of a type that holds itself may show: one level, with the values of the next level named in it.
+use Rattle.std.specs.Prelude.{ℕ, zero, suc, List, length, Option, Some, codes}
+use Rattle.allocative_graph.specs.Path.{Key}
+use Rattle.allocative_graph.specs.Forest.{Forest}
+use Rattle.allocative_graph.specs.Shows.{Showing, Both, Inside, InsideUnique, Field, each_shows}
+use Rattle.allocative.specs.Bodies.{buffer_shows}
+use Rattle.allocative.specs.StdShows.{option_inside, in_any_order}
+
+-- What a value shows, in words: values of T stand in it by name.
+pub data Level (T : Type 0) : Type 1 where
+  same : Showing → Level T
+  child : T → Level T
+  both : Level T → Level T → Level T
+  inside : Key → ℕ → Level T → Level T
+  unique : Key → ℕ → Level T → Level T
+  field : Key → Option ℕ → Level T → Level T
+  buffer : Option ℕ → Level T → ℕ → Level T
+  optional : {A : Type 0} → Option ℕ → (A → Level T) → Option A → Level T
+  each : {A : Type 0} → (A → Level T) → List A → Level T
+  unordered : {A : Type 0} → (A → Level T) → List A → Level T
+
+-- The forests of a level, where p says what the values named in it show.
+abbrev pub level_shows : {T : Type 0} → (T → Showing) → Level T → Showing
+level_shows p (same s) = s
+level_shows p (child x) = p x
+level_shows p (both a b) = Both (level_shows p a) (level_shows p b)
+level_shows p (inside k n a) = Inside k n (level_shows p a)
+level_shows p (unique k n a) = InsideUnique k n (level_shows p a)
+level_shows p (field k size a) = Field k size (level_shows p a)
+level_shows p (buffer size a n) = buffer_shows size (level_shows p a) n
+level_shows p (optional size w o) = option_inside size (λ x. level_shows p (w x)) o
+level_shows p (each w xs) = each_shows (λ x. level_shows p (w x)) xs
+level_shows p (unordered w xs) = in_any_order (λ x. level_shows p (w x)) xs
+
+-- The forests of a value of less than k levels.
+abbrev pub levels_shown : {T : Type 0} → (T → Level T) → ℕ → T → Showing
+levels_shown w zero x = λ f. ⊥
+levels_shown w (suc k) x = level_shows (levels_shown w k) (w x)
+
+-- The forests of a value of any number of levels.
+pub record IsOfLevels {T : Type 0} (w : T → Level T) (x : T) (f : Forest) : Type 0 where
+  pub depth : ℕ
+  pub shown : levels_shown w depth x f
+
+-- The same, as a showing.
+abbrev pub recursive : {T : Type 0} → (T → Level T) → T → Showing
+recursive w x = IsOfLevels w x
+
+-- What a `Vec` shows of its items, which need a drop and have s bytes each, where w says what an item shows.
+abbrev pub vec_of : {T A : Type 0} → ℕ → (A → Level T) → List A → Level T
+vec_of s w xs = field (codes "Vec") (Some 24) (buffer (Some s) (each w xs) (length xs))
+
+-- What a `Box` shows, where a says what its value shows.
+abbrev pub box_of : {T : Type 0} → Level T → Level T
+box_of a = field (codes "Box") (Some 8) (unique (codes "ptr") 8 a)
+
+-- What an `Option` of a declared size shows of its value, which has s bytes, where w says what that shows.
+abbrev pub option_of : {T A : Type 0} → ℕ → ℕ → (A → Level T) → Option A → Level T
+option_of size s w o = field (codes "Option") (Some size) (optional (Some s) w o)
+
+-- What the pairs of a map show: a field for the key, which shows what p allows, and one for the value, which has s bytes.
+abbrev pub pair_of : {T K V : Type 0} → Option ℕ → (K → Showing) → ℕ → (V → Level T) → K × V → Level T
+pair_of key_size p s w e = both (same (Field (codes "key") key_size (p e.0))) (field (codes "value") (Some s) (w e.1))
+
+-- What a `BTreeMap` shows of its entries, in the order of the keys, where w says what an entry shows.
+abbrev pub btree_map_of : {T E : Type 0} → (E → Level T) → List E → Level T
+btree_map_of w es = field (codes "BTreeMap") (Some 24) (inside (codes "data") 8 (each w es))
+
+-- What a `HashMap` shows of its entries, in any order, where w says what an entry shows.
+abbrev pub hash_map_of : {T E : Type 0} → (E → Level T) → List E → Level T
+hash_map_of w es = field (codes "HashMap") (Some 48) (inside (codes "data") 8 (unordered w es))

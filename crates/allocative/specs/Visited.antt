@@ -1,0 +1,36 @@
+-- What a visit does to the visitor that it was given.
+use Rattle.std.specs.Prelude.{◌≡◌, Result, IfErr}
+use Rattle.allocative_graph.specs.declared.refusal.Refusal.{Refusal}
+use Rattle.allocative_graph.specs.Forest.{Forest}
+use Rattle.allocative_graph.specs.Shows.{Showing}
+use Rattle.allocative_graph.specs.Collector.{State, failed_with}
+use Rattle.allocative_graph.specs.Visits.{Shows, HasFailed}
+use Rattle.allocative.specs.declared.visitor.Visitor.{Visitor}
+
+-- The visitor stands where it stood, and its collector was shown what p allows.
+pub record Visited (p : Showing) (old new : Visitor) (r : Result (Unit {0}) Refusal) : Type 0 where
+  pub same_reference : new.collector.ghost_name ≡ old.collector.ghost_name
+  pub same_outer : new.outer_is_unique ≡ old.outer_is_unique
+  pub shown : Shows p old.collector.now r new.collector.now
+
+-- The visitor stands where it stood, its collector was shown what p allows, and an Err is the collector's first cause.
+pub record Entered (p : Showing) (old new : Visitor) (r : Result (Unit {0}) Refusal) : Type 0 where
+  pub same_reference : new.collector.ghost_name ≡ old.collector.ghost_name
+  pub same_outer : new.outer_is_unique ≡ old.outer_is_unique
+  pub shown : Shows p old.collector.now r new.collector.now
+  pub cause : IfErr r (HasFailed new.collector.now)
+
+-- The visitor stands where it stood; its collector has failed with r, where it had not failed, and the answer is its first cause.
+pub record Refused (r : Refusal) (old new : Visitor) (cause : Refusal) : Type 0 where
+  pub same_reference : new.collector.ghost_name ≡ old.collector.ghost_name
+  pub same_outer : new.outer_is_unique ≡ old.outer_is_unique
+  pub after : new.collector.now ≡ failed_with r old.collector.now
+  pub is_cause : HasFailed new.collector.now cause
+
+-- What a visitor's collector is.
+abbrev pub collector_of : Visitor → State
+collector_of v = v.collector.now
+
+-- What p allows, q allows.
+pub record Means (p q : Showing) : Type 0 where
+  pub means : (f : Forest) → p f → q f

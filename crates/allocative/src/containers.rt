@@ -1,0 +1,240 @@
+//! Parts of containers: what their items, pairs, texts and buffers show.
+#![tactic(auto, using(crate::proofs::Parts::parts))]
+
+ghost use Rattle.std.specs.Prelude.{codes, length, string_bytes, ◌++◌};
+ghost use Rattle.allocative_graph.specs.Shows as shows;
+ghost use Rattle.allocative.specs.Bodies.{bytes_shown, buffer_shows, cut_shows, text_shows, table_shows};
+ghost use Rattle.allocative.specs.PackShows.{index_data_shows};
+ghost use Rattle.allocative.specs.Runs.{field_of, pair_shows};
+ghost use Rattle.allocative.specs.StdShows.{in_any_order};
+
+use crate::allocative_trait::Allocative;
+use crate::part::{Declared, Field, Inside, Part, Unique};
+use crate::visitor::Visitor;
+use allocative_described::{Described, raw_table_alloc_size_for_len};
+use allocative_graph::key::Key;
+use allocative_graph::refusal::Refusal;
+use indexmap::{IndexMap, IndexSet};
+use std::collections::{BTreeMap, BTreeSet, HashMap, HashSet};
+use std::hash::Hash;
+
+/// The items of a slice, as `Items(slice)`: one entry with the item's name and all bytes where the items need no drop or have
+/// size 0, else what each item shows. It is refused as `Visitor::visit_slice` is.
+#[derive(Drop)]
+pub struct Items<V>(pub V);
+
+impl<'a, T: Allocative + Described> Part for Items<&'a [T]> {
+    ghost may_show = { λ s. shows.slice_shows T.name T.size T.needs_drop T.may_show s.0.now };
+
+    fn enter(self, visitor: &mut Visitor<'_>) -> Result<(), Refusal> {
+        visitor.visit_slice(self.0)
+    }
+}
+
+/// What each item shows, in order, as `Each(vec)`.
+#[derive(Drop)]
+pub struct Each<V>(pub V);
+
+impl<'a, T: Allocative> Part for Each<&'a Vec<T>> {
+    ghost may_show = { λ s. shows.each_shows T.may_show s.0.now.items };
+
+    #[tactic(auto, using(crate::proofs::Showing::showing))]
+    fn enter(self, visitor: &mut Visitor<'_>) -> Result<(), Refusal> {
+        for item in self.0 {
+            item.enter(visitor)?;
+        }
+        Ok(())
+    }
+}
+
+/// The items of a sequence that lies in two slices, as `Cut(front, back)`. It is refused as `Visitor::visit_slice` is of each.
+#[derive(Drop)]
+pub struct Cut<V>(pub V, pub V);
+
+impl<'a, T: Allocative + Described> Part for Cut<&'a [T]> {
+    ghost may_show = { λ s. cut_shows T.name T.size T.needs_drop T.may_show (s.0.now ++ s.1.now) };
+
+    fn enter(self, visitor: &mut Visitor<'_>) -> Result<(), Refusal> {
+        (Items(self.0), Items(self.1)).enter(visitor)
+    }
+}
+
+/// A field under the key for each item, as `FieldEach(key, items)`. Those of a hashed set stand in any order.
+#[derive(Drop)]
+pub struct FieldEach<V>(pub Key, pub V);
+
+impl<'a, T: Allocative + Described> Part for FieldEach<&'a [T]> {
+    ghost may_show = { λ s. shows.each_shows (field_of s.0 T.size T.may_show) s.1.now };
+
+    #[tactic(auto, using(crate::proofs::Showing::showing))]
+    fn enter(self, visitor: &mut Visitor<'_>) -> Result<(), Refusal> {
+        for item in self.1 {
+            Field(self.0.copy(), item).enter(visitor)?;
+        }
+        Ok(())
+    }
+}
+
+impl<'a, T: Allocative + Described + Ord> Part for FieldEach<&'a BTreeSet<T>> {
+    ghost may_show = { λ s. shows.each_shows (field_of s.0 T.size T.may_show) s.1.now.keys };
+
+    fn enter(self, visitor: &mut Visitor<'_>) -> Result<(), Refusal> {
+        visitor.visit_fields(self.0, self.1.iter())
+    }
+}
+
+impl<'a, T: Allocative + Described + Eq + Hash> Part for FieldEach<&'a HashSet<T>> {
+    ghost may_show = { λ s. in_any_order (field_of s.0 T.size T.may_show) s.1.now.keys };
+
+    fn enter(self, visitor: &mut Visitor<'_>) -> Result<(), Refusal> {
+        visitor.visit_fields(self.0, self.1.iter())
+    }
+}
+
+impl<'a, T: Allocative + Described + Eq + Hash> Part for FieldEach<&'a IndexSet<T>> {
+    ghost may_show = { λ s. shows.each_shows (field_of s.0 T.size T.may_show) s.1.now.keys };
+
+    fn enter(self, visitor: &mut Visitor<'_>) -> Result<(), Refusal> {
+        visitor.visit_fields(self.0, self.1.iter())
+    }
+}
+
+/// The fields `key` and `value` for each pair of a map, as `Pairs(map)`. Those of a hashed map stand in any order.
+#[derive(Drop)]
+pub struct Pairs<V>(pub V);
+
+impl<'a, K: Allocative + Described + Ord, V: Allocative + Described> Part
+    for Pairs<&'a BTreeMap<K, V>> {
+    ghost may_show = { λ m. shows.each_shows (pair_shows K.size K.may_show V.size V.may_show) m.0.now.entries };
+
+    fn enter(self, visitor: &mut Visitor<'_>) -> Result<(), Refusal> {
+        visitor.visit_pairs(self.0.iter())
+    }
+}
+
+impl<'a, K: Allocative + Described + Eq + Hash, V: Allocative + Described> Part
+    for Pairs<&'a HashMap<K, V>> {
+    ghost may_show = { λ m. in_any_order (pair_shows K.size K.may_show V.size V.may_show) m.0.now.entries };
+
+    fn enter(self, visitor: &mut Visitor<'_>) -> Result<(), Refusal> {
+        visitor.visit_pairs(self.0.iter())
+    }
+}
+
+impl<'a, K: Allocative + Described + Eq + Hash, V: Allocative + Described> Part
+    for Pairs<&'a IndexMap<K, V>> {
+    ghost may_show = { λ m. shows.each_shows (pair_shows K.size K.may_show V.size V.may_show) m.0.now.entries };
+
+    fn enter(self, visitor: &mut Visitor<'_>) -> Result<(), Refusal> {
+        visitor.visit_pairs(self.0.iter())
+    }
+}
+
+/// The entry `unused_capacity` of the bytes of so many unused places. Where an item has no size, or the bytes do not fit, it is
+/// refused with TooLarge.
+#[derive(Drop)]
+pub struct Unused {
+    /// The declared size of an item in bytes.
+    pub item_size: Option<usize>,
+    /// The count of the unused places.
+    pub count: usize,
+}
+
+impl Part for Unused {
+    ghost may_show = { λ u. bytes_shown (codes "unused_capacity") u.item_size u.count };
+
+    fn enter(self, visitor: &mut Visitor<'_>) -> Result<(), Refusal> {
+        let bytes = match self.item_size {
+            Some(size) => size.checked_mul(self.count),
+            None => None,
+        };
+        Declared(Key::new("unused_capacity"), bytes, ()).enter(visitor)
+    }
+}
+
+/// The buffer of a container on the heap: nothing where its items have size 0 or it has no room, else a unique entry `ptr` of 8
+/// bytes, and in it the items and the entry of the unused places. Where an item has no size it is refused with TooLarge.
+#[derive(Drop)]
+pub struct Buffer<P> {
+    /// What the items show.
+    pub items: P,
+    /// The declared size of an item in bytes.
+    pub item_size: Option<usize>,
+    /// The count of the items.
+    pub count: usize,
+    /// The count of the items that there is room for.
+    pub capacity: usize,
+}
+
+impl<P: Part> Part for Buffer<P> {
+    ghost may_show = { λ b. buffer_shows b.item_size (P.may_show b.items) b.count };
+
+    fn enter(self, visitor: &mut Visitor<'_>) -> Result<(), Refusal> {
+        let Some(size) = self.item_size else {
+            return Err(visitor.refuse(Refusal::TooLarge));
+        };
+        if size == 0 {
+            return Ok(());
+        }
+        if self.count == 0 && self.capacity == 0 {
+            return Ok(());
+        }
+        let unused = Unused {
+            item_size: self.item_size,
+            count: self.capacity.saturating_sub(self.count),
+        };
+        Unique(Key::new("ptr"), 8, (self.items, unused)).enter(visitor)
+    }
+}
+
+/// The data of a container in order of insertion: a unique entry `data` of 8 bytes, and in it the items and the entry of the
+/// unused places.
+#[derive(Drop)]
+pub struct IndexData<P>(pub P, pub Unused);
+
+impl<P: Part> Part for IndexData<P> {
+    ghost may_show = { λ d. index_data_shows d.1.item_size (P.may_show d.0) };
+
+    fn enter(self, visitor: &mut Visitor<'_>) -> Result<(), Refusal> {
+        Unique(Key::new("data"), 8, (self.0, self.1)).enter(visitor)
+    }
+}
+
+/// The buffer of a text: a unique entry `ptr` of 8 bytes, in it an entry `capacity`, and in that an entry `u8` of the text's bytes
+/// and an entry `unused_capacity`.
+#[derive(Drop)]
+pub struct Text<'a>(pub &'a String);
+
+impl<'a> Part for Text<'a> {
+    ghost may_show = { λ t. text_shows (length (string_bytes t.0.now)) };
+
+    fn enter(self, visitor: &mut Visitor<'_>) -> Result<(), Refusal> {
+        let used = Inside(Key::new("u8"), self.0.len(), ());
+        let room = self.0.capacity() - self.0.len();
+        let unused = Inside(Key::new("unused_capacity"), room, ());
+        let bytes = Inside(Key::new("capacity"), self.0.capacity(), (used, unused));
+        Unique(Key::new("ptr"), 8, bytes).enter(visitor)
+    }
+}
+
+/// The table of the places of so many items: nothing where there is none, else a unique entry `raw_table` of 8 bytes, and in it an
+/// entry `alloc` of the table's bytes.
+#[derive(Drop)]
+pub struct Table(pub usize);
+
+impl Part for Table {
+    ghost may_show = { λ t. table_shows t.0 };
+
+    fn enter(self, visitor: &mut Visitor<'_>) -> Result<(), Refusal> {
+        if self.0 == 0 {
+            return Ok(());
+        }
+        let bytes = raw_table_alloc_size_for_len::<u64>(self.0);
+        Unique(
+            Key::new("raw_table"),
+            8,
+            Declared(Key::new("alloc"), bytes, ()),
+        )
+        .enter(visitor)
+    }
+}

@@ -1,0 +1,207 @@
+//! Parts: what a value shows, as values that enter it.
+//!
+//! An implementation of `Allocative` builds one part that mirrors its `may_show`, and enters it.
+#![tactic(auto, using(crate::proofs::Showing::showing))]
+
+ghost use Rattle.allocative_graph.specs.Forest.{Forest};
+ghost use Rattle.allocative_graph.specs.Shows as shows;
+ghost use Rattle.allocative.specs.Visited.{Entered};
+ghost use Rattle.allocative.specs.Parts.{optional_shows, either_shows};
+
+use crate::allocative_trait::Allocative;
+use crate::visitor::Visitor;
+use allocative_described::Described;
+use allocative_graph::key::Key;
+use allocative_graph::refusal::Refusal;
+use allocative_graph::shared::Identity;
+use either::Either;
+
+/// Something that a value shows.
+///
+/// A reference `&value` is the part of what the value shows, with no entry of its own. `()` is no entry, a tuple is its parts in
+/// order, an `Option` is its part or nothing, and an `Either` is the part that is there.
+pub trait Part: Drop {
+    ghost may_show: { Self → Forest → Type 0 };
+
+    /// Enters it at the visitor.
+    ///
+    /// A collector that has failed returns its first cause. Each entry is refused as `Visitor::enter` says, and after a refusal
+    /// the collector has failed, with the cause that is returned. After `Ok` the collector has one forest more that the part may
+    /// show; or it has failed, or has more visitors out than before, where a value's own visit hid a refusal or forgot a visitor.
+    /// The visitor stands where it stood.
+    fn enter(self, visitor: &mut Visitor<'_>) -> Result<(), Refusal>
+        ensures { Entered (may_show self) visitor.old visitor.new result };
+}
+
+impl Part for () {
+    ghost may_show = { λ _. shows.Nothing };
+
+    fn enter(self, _visitor: &mut Visitor<'_>) -> Result<(), Refusal> {
+        Ok(())
+    }
+}
+
+impl<'a, T: Allocative> Part for &'a T {
+    ghost may_show = { λ v. T.may_show v.now };
+
+    fn enter(self, visitor: &mut Visitor<'_>) -> Result<(), Refusal> {
+        if let Err(refusal) = self.visit(visitor) {
+            return Err(visitor.refuse(refusal));
+        }
+        Ok(())
+    }
+}
+
+/// One inline entry under a key, of a size in bytes, and in it a part.
+#[derive(Drop)]
+pub struct Inside<P>(pub Key, pub usize, pub P);
+
+impl<P: Part> Part for Inside<P> {
+    ghost may_show = { λ e. shows.Inside e.0 e.1 (P.may_show e.2) };
+
+    fn enter(self, visitor: &mut Visitor<'_>) -> Result<(), Refusal> {
+        let mut inner = visitor.collector.enter(self.0, self.1)?;
+        self.2.enter(&mut inner)?;
+        inner.exit();
+        Ok(())
+    }
+}
+
+/// One inline entry under a key, of a declared size in bytes, and in it a part. Where there is no size it is refused with TooLarge.
+#[derive(Drop)]
+pub struct Declared<P>(pub Key, pub Option<usize>, pub P);
+
+impl<P: Part> Part for Declared<P> {
+    ghost may_show = { λ e. shows.Field e.0 e.1 (P.may_show e.2) };
+
+    fn enter(self, visitor: &mut Visitor<'_>) -> Result<(), Refusal> {
+        let mut inner = visitor.collector.enter_sized(self.0, self.1)?;
+        self.2.enter(&mut inner)?;
+        inner.exit();
+        Ok(())
+    }
+}
+
+/// One unique entry under a key, of a size in bytes, and in it a part: a pointer, and what it alone points to.
+#[derive(Drop)]
+pub struct Unique<P>(pub Key, pub usize, pub P);
+
+impl<P: Part> Part for Unique<P> {
+    ghost may_show = { λ e. shows.InsideUnique e.0 e.1 (P.may_show e.2) };
+
+    fn enter(self, visitor: &mut Visitor<'_>) -> Result<(), Refusal> {
+        let mut inner = visitor.collector.enter_unique(self.0, self.1)?;
+        self.2.enter(&mut inner)?;
+        inner.exit();
+        Ok(())
+    }
+}
+
+/// A field of a type that is described, as `Field(key, &value)`: one inline entry of its declared size, and in it what it shows.
+#[derive(Drop)]
+pub struct Field<V>(pub Key, pub V);
+
+impl<'a, T: Allocative + Described> Part for Field<&'a T> {
+    ghost may_show = { λ f. shows.Field f.0 T.size (T.may_show f.1.now) };
+
+    fn enter(self, visitor: &mut Visitor<'_>) -> Result<(), Refusal> {
+        Declared(self.0, T::size(), self.1).enter(visitor)
+    }
+}
+
+/// One entry of a pointer to a shared value, and where the value's identity was not met before a part as its content, the paths
+/// of which start at the root. The collector of held bytes enters neither.
+#[derive(Drop)]
+pub struct Shared<P> {
+    /// The pointer's key.
+    pub key: Key,
+    /// The pointer's bytes.
+    pub size: usize,
+    /// Whose content it is.
+    pub identity: Identity,
+    /// What is shown where the identity was not met.
+    pub content: P,
+}
+
+impl<P: Part> Part for Shared<P> {
+    ghost may_show = { λ s. shows.SharedWith s.key s.size s.identity (P.may_show s.content) };
+
+    fn enter(self, visitor: &mut Visitor<'_>) -> Result<(), Refusal> {
+        let is_first = visitor
+            .collector
+            .go_to_shared(self.key, self.size, self.identity)?;
+        if is_first {
+            let mut content = visitor.collector.content();
+            self.content.enter(&mut content)?;
+            content.exit();
+        }
+        Ok(())
+    }
+}
+
+impl<P: Part> Part for Option<P> {
+    ghost may_show = { λ o. optional_shows P.may_show o };
+
+    fn enter(self, visitor: &mut Visitor<'_>) -> Result<(), Refusal> {
+        match self {
+            None => Ok(()),
+            Some(part) => part.enter(visitor),
+        }
+    }
+}
+
+impl<P: Part, Q: Part> Part for Either<P, Q> {
+    ghost may_show = { λ c. either_shows P.may_show Q.may_show c };
+
+    fn enter(self, visitor: &mut Visitor<'_>) -> Result<(), Refusal> {
+        match self {
+            Either::Left(part) => part.enter(visitor),
+            Either::Right(part) => part.enter(visitor),
+        }
+    }
+}
+
+impl<P: Part> Part for (P,) {
+    ghost may_show = { λ e. P.may_show e.0 };
+
+    fn enter(self, visitor: &mut Visitor<'_>) -> Result<(), Refusal> {
+        self.0.enter(visitor)
+    }
+}
+
+impl<P: Part, Q: Part> Part for (P, Q) {
+    ghost may_show = { λ e. shows.Both (P.may_show e.0) (Q.may_show e.1) };
+
+    fn enter(self, visitor: &mut Visitor<'_>) -> Result<(), Refusal> {
+        let (first, second) = self;
+        first.enter(visitor)?;
+        second.enter(visitor)
+    }
+}
+
+impl<P: Part, Q: Part, R: Part> Part for (P, Q, R) {
+    ghost may_show = { λ e. shows.Both (P.may_show e.0) (shows.Both (Q.may_show e.1) (R.may_show e.2)) };
+
+    fn enter(self, visitor: &mut Visitor<'_>) -> Result<(), Refusal> {
+        let (first, second, third) = self;
+        (first, (second, third)).enter(visitor)
+    }
+}
+
+impl<P: Part, Q: Part, R: Part, S: Part> Part for (P, Q, R, S) {
+    ghost may_show = { λ e. shows.Both (P.may_show e.0) (shows.Both (Q.may_show e.1) (shows.Both (R.may_show e.2) (S.may_show e.3))) };
+
+    fn enter(self, visitor: &mut Visitor<'_>) -> Result<(), Refusal> {
+        let (first, second, third, fourth) = self;
+        (first, (second, third, fourth)).enter(visitor)
+    }
+}
+
+impl<P: Part, Q: Part, R: Part, S: Part, T: Part> Part for (P, Q, R, S, T) {
+    ghost may_show = { λ e. shows.Both (P.may_show e.0) (shows.Both (Q.may_show e.1) (shows.Both (R.may_show e.2) (shows.Both (S.may_show e.3) (T.may_show e.4)))) };
+
+    fn enter(self, visitor: &mut Visitor<'_>) -> Result<(), Refusal> {
+        let (first, second, third, fourth, fifth) = self;
+        (first, (second, third, fourth, fifth)).enter(visitor)
+    }
+}
