@@ -7,8 +7,8 @@
 pub mod allocative_trait;
 pub mod builder;
 pub mod collector;
-pub mod impls;
 mod containers;
+pub mod impls;
 mod iterators;
 pub mod part;
 pub mod registry;
