@@ -26,5 +26,7 @@ pub mod ChildPut
 pub mod ChildLookup
 pub mod OneMeaning
 pub mod ChildMerged
+pub mod Behind
+pub mod ReadRows
 mod Loans
 mod Walks

@@ -2,7 +2,8 @@
 use Rattle.std.specs.Prelude.{◌≡◌, ◌≢◌, ℕ, ◌+◌, ◌-◌, ◌^◌, ◌<◌, ◌≤◌, ◌⊎◌, Bool, true, false, cond, not, ◌&&◌, ◌||◌, List, [], ◌∷◌, ◌++◌, map, flat_map, Some, sum_by, unwrap_or, decimal, nat_lt, ◌==◌, IsTrue}
 use Rattle.std.specs.List.{AllByRecursion}
 use Rattle.std.specs.FinMap.{FinMap, get, insert, entries, from_entries, keys, contains_key}
-use Rattle.allocative_graph.specs.Path.{Key, Path, path_cmp}
+use Rattle.std.specs.Ordering.{eq_by_cmp}
+use Rattle.allocative_graph.specs.Path.{Key, Path, key_cmp, path_cmp}
 use Rattle.allocative_graph.specs.Sums.{Node, Sums, below}
 use lib.Chars.{codes}
 
@@ -17,6 +18,30 @@ size_at g p = unwrap_or (get g p) 0
 -- The sum of the sizes of all paths.
 abbrev pub total : Graph → ℕ
 total g = sum_by (λ e. e.1) (entries g)
+
+-- Whether the first path is a beginning of the second one, or that path itself.
+abbrev pub begins : Path → Path → Bool
+begins [] q = true
+begins (k ∷ p) [] = false
+begins (k ∷ p) (l ∷ q) = eq_by_cmp key_cmp k l && begins p q
+
+-- The bytes of the path p and of all paths below it.
+abbrev pub total_at : Graph → Path → ℕ
+total_at g p = sum_by (λ e. cond (begins p e.0) e.1 0) (entries g)
+
+-- h is what g has at the path p and below it: p is a path of g, and at each path q the size of h, and the bytes of q and all below it, are those of g at p and then q; so at its root h has what g has at p.
+pub record IsBehind (g : Graph) (p : Path) (h : Graph) : Type 0 where
+  pub there : contains_key g p ≡ true
+  pub sizes : (q : Path) → get h q ≡ get g (p ++ q)
+  pub totals : (q : Path) → total_at h q ≡ total_at g (p ++ q)
+  pub same_size : size_at h [] ≡ size_at g p
+  pub same_total : total h ≡ total_at g p
+
+-- g has no path p, none below it, and so no bytes there.
+pub record HasNothing (g : Graph) (p : Path) : Type 0 where
+  pub missing : contains_key g p ≡ false
+  pub below : (q : Path) → contains_key g (p ++ q) ≡ false
+  pub nothing : total_at g p ≡ 0
 
 -- The root alone, with 0.
 abbrev pub default : Graph

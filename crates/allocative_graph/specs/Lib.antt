@@ -20,3 +20,4 @@ pub mod Node
 pub mod NodeRows
 pub mod Children
 pub mod Merged
+pub mod Reads

@@ -18,6 +18,10 @@ use std::collections::VecDeque;
 use std::marker::Model;
 use std::mem;
 
+mod reads;
+
+pub use reads::Row;
+
 /// A map from paths of keys to sizes in bytes.
 ///
 /// A path is a list of keys, as `Map`, `data`, `key`; the root's is the empty one. The root is always in the map and,
@@ -42,11 +46,14 @@ pub struct FlameGraph {
     node_size: usize,
 }
 
+/// A key, and the graph below it.
 #[cycle(graph)]
 #[derive(Drop)]
-struct Child {
-    key: Key,
-    graph: FlameGraph,
+pub struct Child {
+    /// The key below which the graph stands.
+    pub key: Key,
+    /// The graph of what stands below the key; its root is the key's own path.
+    pub graph: FlameGraph,
 }
 
 impl Model for FlameGraph {

@@ -148,6 +148,67 @@ fn after_memory_each_size_is_old_or_summed(rt: HostRuntime) -> Result<(), Refusa
     Ok(())
 }
 
+// The root with 1, `a` with 2, `a;x` with 4 and `b` with 8.
+fn read_sample(alloc: Global) -> Result<FlameGraph, Refusal> {
+    let mut a = own(alloc, 2)?;
+    a.add_child(Key::new("x"), own(alloc, 4)?)?;
+    let mut graph = own(alloc, 1)?;
+    graph.add_child(Key::new("b"), own(alloc, 8)?)?;
+    graph.add_child(Key::new("a"), a)?;
+    Ok(graph)
+}
+
+#[test]
+fn a_path_has_its_figures(rt: HostRuntime) -> Result<(), Refusal> {
+    let graph = read_sample(rt.alloc())?;
+    assert_eq!(rt; graph.self_size(), 1);
+    assert_eq!(rt; graph.size_at(&[]), 1);
+    assert_eq!(rt; graph.total_at(&[]), 15);
+    assert_eq!(rt; graph.size_at(&["a"]), 2);
+    assert_eq!(rt; graph.total_at(&["a"]), 6);
+    assert_eq!(rt; graph.size_at(&["a", "x"]), 4);
+    assert_eq!(rt; graph.size_at(&["x"]), 0);
+    assert_eq!(rt; graph.total_at(&["b", "x"]), 0);
+    Ok(())
+}
+
+#[test]
+fn the_graph_at_a_path_has_what_stands_below_it(rt: HostRuntime) -> Result<(), Refusal> {
+    let graph = read_sample(rt.alloc())?;
+    assert!(rt; graph.get(&["b", "x"]).is_none());
+    let mut found = String::new(rt.alloc());
+    if let Some(a) = graph.get(&["a"]) {
+        found = a.write()?;
+    }
+    assert_eq!(rt; found.as_str(), "x 4\n");
+    Ok(())
+}
+
+#[test]
+fn children_stand_in_the_order_of_keys(rt: HostRuntime) -> Result<(), Refusal> {
+    let graph = read_sample(rt.alloc())?;
+    let mut text = String::new(rt.alloc());
+    for child in graph.children() {
+        let key = child.key.as_str();
+        let total = child.graph.total_size();
+        write!(text, "{key} {total}\n")?;
+    }
+    assert_eq!(rt; text.as_str(), "a 6\nb 8\n");
+    Ok(())
+}
+
+#[test]
+fn rows_stand_in_the_order_of_paths(rt: HostRuntime) -> Result<(), Refusal> {
+    let graph = read_sample(rt.alloc())?;
+    let mut text = String::new(rt.alloc());
+    for row in &graph.rows()? {
+        push_path(row.path.as_slice(), &mut text)?;
+        write!(text, " {} {}\n", row.self_size, row.total_size)?;
+    }
+    assert_eq!(rt; text.as_str(), " 1 15\na 2 6\na;x 4 4\nb 8 8\n");
+    Ok(())
+}
+
 #[test]
 fn a_path_is_joined_by_semicolons(rt: HostRuntime) -> Result<(), Refusal> {
     let mut text = String::new(rt.alloc());
