@@ -118,6 +118,20 @@ warning s e = cond (not (is_root e.0) && not e.1.is_unique && nat_lt e.1.bytes (
 abbrev pub warnings : Sums → List ℕ
 warnings s = flat_map (warning s) (entries s)
 
+-- A path that has a warning, its bytes, and those one key below.
+pub record Warned : Type 0 where
+  pub path : Path
+  pub self_size : ℕ
+  pub children_size : ℕ
+
+-- A path of the sums, with both figures, where it has a warning, and else nothing.
+abbrev pub warned : Sums → Path × Node → List Warned
+warned s e = cond (not (is_root e.0) && not e.1.is_unique && nat_lt e.1.bytes (below s e.0)) (record { path = e.0; self_size = e.1.bytes; children_size = below s e.0 } ∷ []) []
+
+-- The paths that have a warning, in the order of paths.
+abbrev pub warned_paths : Sums → List Warned
+warned_paths s = flat_map (warned s) (entries s)
+
 -- The byte c does not stand in xs.
 abbrev pub Lacks : ℕ → List ℕ → Type 0
 Lacks c xs = AllByRecursion (λ b. b ≢ c) xs

@@ -290,6 +290,20 @@ fn shared_values_keep_their_identities(rt: HostRuntime) -> Result<(), Refusal> {
 }
 
 #[test]
+fn refusals_have_their_numbers(rt: HostRuntime) {
+    assert_eq!(rt; Refusal::Memory as u8, 1);
+    assert_eq!(rt; Refusal::TooLarge as u8, 2);
+    assert_eq!(rt; Refusal::Open as u8, 3);
+}
+
+#[test]
+fn a_key_is_shown_as_its_text(rt: HostRuntime) -> Result<(), Refusal> {
+    let shown = format!(in rt.alloc(); "{:?}", Key::new("count"))?;
+    assert_eq!(rt; shown.as_str(), "\"count\"");
+    Ok(())
+}
+
+#[test]
 fn refusals_say_why(rt: HostRuntime) -> Result<(), Refusal> {
     let alloc = rt.alloc();
     let memory = format!(in alloc; "{}", Refusal::Memory)?;
