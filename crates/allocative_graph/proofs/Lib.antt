@@ -28,5 +28,6 @@ pub mod OneMeaning
 pub mod ChildMerged
 pub mod Behind
 pub mod ReadRows
+pub mod Gathered
 mod Loans
 mod Walks

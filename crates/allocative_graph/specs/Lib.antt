@@ -21,3 +21,4 @@ pub mod NodeRows
 pub mod Children
 pub mod Merged
 pub mod Reads
+pub mod Many

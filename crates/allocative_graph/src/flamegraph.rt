@@ -18,6 +18,7 @@ use std::collections::VecDeque;
 use std::marker::Model;
 use std::mem;
 
+mod many;
 mod reads;
 
 pub use reads::Row;
@@ -138,6 +139,9 @@ impl FlameGraph {
     }
 
     /// Adds another graph with the key put before each of its paths; all other paths stay as they are.
+    ///
+    /// A new key that is not behind all others moves the children behind it, so that many keys out of order cost the square of
+    /// their number: [`add_children`](FlameGraph::add_children) adds many at once.
     ///
     /// The refusals, and what they leave, are those of [`add`](FlameGraph::add).
     pub fn add_child(&mut self, key: Key, child: FlameGraph) -> Result<(), Refusal>

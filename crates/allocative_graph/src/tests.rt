@@ -1,5 +1,5 @@
 // What no clause says: worked examples, printed texts, and what is left where memory is refused.
-use crate::flamegraph::{FlameGraph, push_path};
+use crate::flamegraph::{Child, FlameGraph, push_path};
 use crate::ident_key;
 use crate::key::Key;
 use crate::refusal::Refusal;
@@ -206,6 +206,44 @@ fn rows_stand_in_the_order_of_paths(rt: HostRuntime) -> Result<(), Refusal> {
         write!(text, " {} {}\n", row.self_size, row.total_size)?;
     }
     assert_eq!(rt; text.as_str(), " 1 15\na 2 6\na;x 4 4\nb 8 8\n");
+    Ok(())
+}
+
+#[test]
+fn many_children_are_added_at_once(rt: HostRuntime) -> Result<(), Refusal> {
+    let alloc = rt.alloc();
+    let mut children = Vec::new(alloc);
+    for (key, size) in [("c", 1), ("a", 2), ("c", 4), ("b", 8)] {
+        children.push(Child {
+            key: Key::new(key),
+            graph: own(alloc, size)?,
+        })?;
+    }
+    let mut graph = one(alloc, "b", 16)?;
+    graph.add_children(children)?;
+    assert_eq!(rt; graph.write()?.as_str(), "a 2\nb 24\nc 5\n");
+    assert_eq!(rt; graph.total_size(), 31);
+    Ok(())
+}
+
+#[test]
+fn many_children_past_the_bound_are_refused(rt: HostRuntime) -> Result<(), Refusal> {
+    let alloc = rt.alloc();
+    let mut graph = own(alloc, 1)?;
+    for size in [usize::MAX, usize::MAX - 1] {
+        let mut children = Vec::new(alloc);
+        children.push(Child {
+            key: Key::new("a"),
+            graph: own(alloc, size)?,
+        })?;
+        children.push(Child {
+            key: Key::new("b"),
+            graph: own(alloc, 1)?,
+        })?;
+        assert_eq!(rt; graph.add_children(children), Err(Refusal::TooLarge));
+        assert_eq!(rt; graph.total_size(), 1);
+        assert_eq!(rt; graph.write()?.as_str(), "");
+    }
     Ok(())
 }
 
