@@ -15,6 +15,8 @@ use std::alloc::{AllocError, Global};
 use std::cmp::Ordering;
 use std::marker::Model;
 
+mod warned;
+
 /// What was entered at one path.
 #[derive(Drop)]
 struct Node {
@@ -84,7 +86,7 @@ impl Tree {
         Ok(node)
     }
 
-    /// The graph, and the text of the warnings, in one walk.
+    /// The graph and the text of the warnings, in one walk, and the paths that have a warning, by another where there is one.
     pub(crate) fn finish(&self) -> Result<FlameGraphOutput, Refusal>
         requires { total self.now < 2 ^ 63 }
         ensures made { IfOk result (IsProfile (map_of self.now)) }
@@ -94,7 +96,11 @@ impl Tree {
         let mut keys: Vec<&'static str> = Vec::new(self.alloc);
         let mut warnings = String::new(self.alloc);
         let graph = self.make(0, &mut keys, &mut warnings)?;
-        Ok(FlameGraphOutput::new(graph, warnings))
+        let mut warned = Vec::new(self.alloc);
+        if !warnings.is_empty() {
+            self.push_warned(0, &mut keys, &mut warned)?;
+        }
+        Ok(FlameGraphOutput::new(graph, warnings, warned))
     }
 
     /// The graph from the node `at` on, with the warnings behind the text; `keys` is the node's path.

@@ -18,6 +18,11 @@ use std::collections::VecDeque;
 use std::marker::Model;
 use std::mem;
 
+mod many;
+mod reads;
+
+pub use reads::Row;
+
 /// A map from paths of keys to sizes in bytes.
 ///
 /// A path is a list of keys, as `Map`, `data`, `key`; the root's is the empty one. The root is always in the map and,
@@ -42,11 +47,14 @@ pub struct FlameGraph {
     node_size: usize,
 }
 
+/// A key, and the graph below it.
 #[cycle(graph)]
 #[derive(Drop)]
-struct Child {
-    key: Key,
-    graph: FlameGraph,
+pub struct Child {
+    /// The key below which the graph stands.
+    pub key: Key,
+    /// The graph of what stands below the key; its root is the key's own path.
+    pub graph: FlameGraph,
 }
 
 impl Model for FlameGraph {
@@ -131,6 +139,9 @@ impl FlameGraph {
     }
 
     /// Adds another graph with the key put before each of its paths; all other paths stay as they are.
+    ///
+    /// A new key that is not behind all others moves the children behind it, so that many keys out of order cost the square of
+    /// their number: [`add_children`](FlameGraph::add_children) adds many at once.
     ///
     /// The refusals, and what they leave, are those of [`add`](FlameGraph::add).
     pub fn add_child(&mut self, key: Key, child: FlameGraph) -> Result<(), Refusal>

@@ -25,6 +25,7 @@ profile_weaker p q o up h = record {
   meaning = h.meaning;
   graph_is = h.graph_is;
   warnings_are = h.warnings_are;
+  warned_are = h.warned_are;
 }
 
 roots_by : (index : Bool) (d : Data) (n : Option (BTreeSet ℤ)) → IsIndexIf index d n → (f : Forest) → both_show d n f → roots_show index d f

@@ -25,3 +25,5 @@ mod shared;
 mod two;
 #[cfg(test)]
 mod values;
+#[cfg(test)]
+mod warned;
