@@ -1,5 +1,5 @@
 -- What the walk of `write` has written so far.
-use Rattle.std.proofs.Common.{◌≡◌, ◌≢◌, ℕ, ◌+◌, ◌<◌, Bool, List, [], ◌∷◌, ◌++◌, map, take, length, get_or, Bor, cond, ◌==◌, refl, sym, ap, ◌∙◌, append_assoc}
+use Rattle.std.proofs.Common.{◌≡◌, ◌≢◌, ℕ, ◌+◌, ◌<◌, Bool, List, [], ◌∷◌, ◌++◌, map, take, length, get_or, Bor, cond, ◌==◌, refl, sym, ap, ◌∙◌, append_assoc, arith, ◌-◌, length-append}
 use Rattle.std.proofs.lemmas.List.{take_more, map-append, append-nil}
 use Rattle.std.proofs.lemmas.Grind.{flat_map-append}
 use Rattle.std.proofs.lemmas.Bool.{ne_eqb}
@@ -90,3 +90,9 @@ none_below t n rs is = ap (lines_below t) is
 -- what starts a line is cut off again
 pub cut_back : (t more : List ℕ) (n : ℕ) → n ≡ length t → take n (t ++ more) ≡ t
 cut_back t more n len = ap (λ k. take k (t ++ more)) len ∙ take-append_seam t more
+
+-- what is left after the last key is taken off again
+pub popped : (xs ys zs : List (Bor (List ℕ))) (x : Bor (List ℕ)) (n : ℕ) → zs ≡ take (n - 1) ys → n ≡ length ys → ys ≡ xs ++ x ∷ [] → zs ≡ xs
+popped xs ys zs x n rest len push =
+    let l : n - 1 ≡ length xs = omega (arith, length-append xs (x ∷ []), ap length push) in
+    rest ∙ ap (λ k. take k ys) l ∙ ap (λ s. take (length xs) s) push ∙ take-append_seam xs (x ∷ [])
