@@ -122,7 +122,7 @@ impl Tree {
         ensures err { IfErr result (λ e. e ≡ Refusal.Memory) }
     {
         let node = &self.nodes[at];
-        let mut graph = FlameGraph::default(self.alloc);
+        let mut graph = FlameGraph::with_capacity(self.alloc, node.children.len())?;
         graph.add_self(self.size(at))?;
         if self.is_short(at) {
             push_warning(keys.as_slice(), node.bytes, node.below, text)?;

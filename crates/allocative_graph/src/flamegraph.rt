@@ -87,6 +87,16 @@ impl FlameGraph {
         }
     }
 
+    /// The graph with the root alone, of size 0, and with room for so many children of the root: adding them takes no
+    /// memory again. It answers an error only for want of memory.
+    pub fn with_capacity(alloc: Global, children: usize) -> Result<FlameGraph, AllocError>
+        ensures { IfOk result (λ graph. graph ≡ default) }
+    {
+        let mut graph = FlameGraph::default(alloc);
+        graph.children.reserve_exact(children)?;
+        Ok(graph)
+    }
+
     /// The sum of the sizes of all paths in bytes, the root's own among them.
     pub fn total_size(&self) -> usize
         ensures total { result ≡ total self.now }
