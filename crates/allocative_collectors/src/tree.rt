@@ -21,7 +21,7 @@ struct Node {
     key: Key,
     parent: usize,
     /// The numbers of the nodes one key below, in the order of their keys.
-    children: Vec<usize>,
+    children: Vec<u32>,
     bytes: usize,
     /// The bytes of the children.
     below: usize,
@@ -128,9 +128,9 @@ impl Tree {
             push_warning(keys.as_slice(), node.bytes, node.below, text)?;
         }
         for &child in &node.children {
-            let key = &self.nodes[child].key;
+            let key = &self.nodes[child as usize].key;
             keys.push(key.as_str())?;
-            let below = self.make(child, keys, text)?;
+            let below = self.make(child as usize, keys, text)?;
             graph.add_child(key.copy(), below)?;
             let _ = keys.pop();
         }
@@ -228,9 +228,12 @@ impl Tree {
         ensures err { OnErr result (self.new ≡ self.old) }
     {
         match find(&self.nodes, &self.nodes[at].children, key) {
-            Ok(place) => Ok(self.nodes[at].children[place]),
+            Ok(place) => Ok(self.nodes[at].children[place] as usize),
             Err(place) => {
                 let node = self.nodes.len();
+                let Ok(number) = u32::try_from(node) else {
+                    return Err(AllocError);
+                };
                 self.nodes.push(Node {
                     key: key.copy(),
                     parent: at,
@@ -242,7 +245,7 @@ impl Tree {
                     follower: 0,
                     is_unique: false,
                 })?;
-                if self.nodes[at].children.insert(place, node).is_err() {
+                if self.nodes[at].children.insert(place, number).is_err() {
                     let _ = self.nodes.pop();
                     return Err(AllocError);
                 }
@@ -275,7 +278,7 @@ fn guess(number: usize) -> u32 {
 }
 
 /// Where the key stands among the children, which are in the order of their keys, or where it would go.
-fn find(nodes: &[Node], children: &[usize], key: &Key) -> Result<usize, usize>
+fn find(nodes: &[Node], children: &[u32], key: &Key) -> Result<usize, usize>
     requires within { EachIndex children.now (λ j. slice_index children.now j < length nodes.now) }
     requires rise { KeysRise (keys_of (map shape nodes.now) children.now) }
     ensures found { IfOk result (IsPlace (keys_of (map shape nodes.now) children.now) key.now) }
@@ -283,7 +286,7 @@ fn find(nodes: &[Node], children: &[usize], key: &Key) -> Result<usize, usize>
 {
     // Keys that come in order need one comparison each.
     if let Some(&last) = children.last()
-        && nodes[last].key.cmp(key).is_lt()
+        && nodes[last as usize].key.cmp(key).is_lt()
     {
         return Err(children.len());
     }
@@ -291,7 +294,7 @@ fn find(nodes: &[Node], children: &[usize], key: &Key) -> Result<usize, usize>
     let mut high = children.len();
     while low < high {
         let middle = low + (high - low) / 2;
-        match nodes[children[middle]].key.cmp(key) {
+        match nodes[children[middle] as usize].key.cmp(key) {
             Ordering::Less => low = middle + 1,
             Ordering::Equal => return Ok(middle),
             Ordering::Greater => high = middle,

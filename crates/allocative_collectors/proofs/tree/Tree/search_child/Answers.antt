@@ -109,7 +109,7 @@ made c =
     let items = c.self.inside.nodes.items in
     let n = c.index_mut.result.now in
     let here : c.args.at < length (sums_of items) = rw c.self.view_is c.requires in
-    let index : c.len-node.result ≡ length items = c.len-node.ensures ∙ c.self.inside.nodes.ok.0 in
+    let index : c.in-Ok-try_from.number ≡ length items = c.in-Ok-try_from.ensures.1 ∙ (c.len-node.ensures ∙ c.self.inside.nodes.ok.0) in
     let longer : c.insert.new.self.items ≡ insert n.children.items c.in-Err.place (length items) =
     c.insert.ensures.items ∙ (cond-true _ _ _ c.if-is_err.ensures.negation ∙ ap (λ (i : ℕ). insert n.children.items c.in-Err.place i) index) in
     grown_nodes items c.push.new.self.items _ c.in_ok-push-in-Err.ensures.items c.args.at (in_nodes items c.args.at here) n c.index_mut.ensures.value c.args.key.now c.in-Err.place _
