@@ -14,6 +14,8 @@ mod huge;
 #[cfg(test)]
 mod own_types;
 #[cfg(test)]
+mod repeats;
+#[cfg(test)]
 mod room;
 #[cfg(test)]
 mod roots;
