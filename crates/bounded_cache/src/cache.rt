@@ -4,7 +4,7 @@ ghost use Rattle.std.specs.Borrow.{sem};
 ghost use Rattle.std.specs.List.{IsDistinct};
 ghost use Rattle.std.specs.Map.{remove_entry, keys_of};
 ghost use Rattle.lru.specs.LruCache.{lru_cache};
-ghost use Rattle.bounded_cache.specs.Entries.{bytes_of, KeepsRecent, bounded, IsBounded, Inserts, RefusesInsert, value_at, used, ends_as};
+ghost use Rattle.bounded_cache.specs.Entries.{bytes_of, KeepsRecent, bounded, IsBounded, IsFigure, Inserts, RefusesBytes, RefusesInsert, value_at, used, ends_as};
 
 use crate::error::CacheError;
 use allocative::{Allocative, Described, size_of_unique};
@@ -100,16 +100,27 @@ impl<V: Allocative + Described> BoundedCache<V> {
     /// Measures the value and keeps it under the key, as the most recently used, in place of what the key had. Of the others
     /// the least recently used go, no more than must.
     ///
-    /// `TooLarge` where the value alone passes the bound, `NotMeasured` where `size_of_unique` refuses it, and else `Memory`.
-    /// After an error nothing has changed, and the value is gone.
+    /// `TooLarge` where the value alone passes the bound, `NotMeasured` where `size_of_unique` refuses it, and `Memory` where it
+    /// fits and memory is refused. After an error nothing has changed, and the value is gone.
     pub fn insert(&mut self, key: u64, value: V) -> Result<(), CacheError>
         ensures ok { OnOk result (Inserts V.size V.may_show key value self.old self.new) }
         ensures refused { IfErr result (RefusesInsert V.size V.may_show value self.old.bound) }
         ensures err { OnErr result (self.new ≡ self.old) }
         ensures bounded { IsBounded V.size V.may_show self.new }
     {
-        let bound = self.bound;
         let bytes = size_of_unique(&value)?;
+        self.keep(key, value, bytes)
+    }
+
+    // Keeps a value that declares so many bytes under the key.
+    fn keep(&mut self, key: u64, value: V, bytes: usize) -> Result<(), CacheError>
+        requires { IsFigure V.size V.may_show value bytes }
+        ensures ok { OnOk result (Inserts V.size V.may_show key value self.old self.new) }
+        ensures refused { IfErr result (RefusesBytes bytes self.old.bound) }
+        ensures err { OnErr result (self.new ≡ self.old) }
+        ensures bounded { IsBounded V.size V.may_show self.new }
+    {
+        let bound = self.bound;
         if bytes > bound {
             return Err(CacheError::TooLarge { bytes, bound });
         }
