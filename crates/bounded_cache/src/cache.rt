@@ -1,5 +1,5 @@
 //! A cache bounded by declared bytes. A clause sees it as its `entries`, the most recently used first, and its `bound`.
-ghost use Rattle.std.specs.Prelude.{◌≡◌, ◌+◌, ◌-◌, ◌^◌, ◌≤◌, [], ◌∷◌, length, take, drop, nat_eq, OnOk, OnErr, IfOk, IfErr, option_copied, ◌↔◌, IsTrue, is_some};
+ghost use Rattle.std.specs.Prelude.{◌≡◌, ◌+◌, ◌-◌, ◌^◌, ◌≤◌, [], ◌∷◌, length, take, drop, nat_eq, OnOk, OnErr, IfOk, IfErr, MatchResult, Err, option_copied, ◌↔◌, IsTrue, is_some};
 ghost use Rattle.std.specs.Borrow.{sem};
 ghost use Rattle.std.specs.List.{IsDistinct};
 ghost use Rattle.std.specs.Map.{remove_entry, keys_of};
@@ -7,7 +7,7 @@ ghost use Rattle.lru.specs.LruCache.{lru_cache};
 ghost use Rattle.bounded_cache.specs.Entries.{bytes_of, KeepsRecent, bounded, IsBounded, IsFigure, Inserts, RefusesBytes, RefusesInsert, value_at, used, ends_as};
 
 use crate::error::CacheError;
-use allocative::{Allocative, Described, size_of_unique};
+use allocative::{Allocative, Described, Refusal, size_of_unique};
 use lru::LruCache;
 use std::alloc::{AllocError, Global};
 use std::marker::Model;
@@ -108,19 +108,25 @@ impl<V: Allocative + Described> BoundedCache<V> {
         ensures err { OnErr result (self.new ≡ self.old) }
         ensures bounded { IsBounded V.size V.may_show self.new }
     {
-        let bytes = size_of_unique(&value)?;
-        self.keep(key, value, bytes)
+        let measured = size_of_unique(&value);
+        self.keep(key, value, measured)
     }
 
-    // Keeps a value that declares so many bytes under the key.
-    fn keep(&mut self, key: u64, value: V, bytes: usize) -> Result<(), CacheError>
-        requires { IsFigure V.size V.may_show value bytes }
+    // Keeps the value under the key, where it was measured.
+    fn keep(
+        &mut self,
+        key: u64,
+        value: V,
+        measured: Result<usize, Refusal>,
+    ) -> Result<(), CacheError>
+        requires { IfOk measured (IsFigure V.size V.may_show value) }
         ensures ok { OnOk result (Inserts V.size V.may_show key value self.old self.new) }
-        ensures refused { IfErr result (RefusesBytes bytes self.old.bound) }
+        ensures refused { MatchResult measured (λ bytes. IfErr result (RefusesBytes bytes self.old.bound)) (λ e. result ≡ Err (CacheError.NotMeasured e)) }
         ensures err { OnErr result (self.new ≡ self.old) }
         ensures bounded { IsBounded V.size V.may_show self.new }
     {
         let bound = self.bound;
+        let bytes = measured?;
         if bytes > bound {
             return Err(CacheError::TooLarge { bytes, bound });
         }
