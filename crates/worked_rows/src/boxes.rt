@@ -5,8 +5,8 @@ ghost use Rattle.std.specs.Prelude.{codes, Some, true};
 ghost use Rattle.std.proofs.Common.{lit≤};
 ghost use Rattle.allocative.specs.Shows.{Inside, Field, Both};
 
-use crate::entries::assert_text;
 use crate::held::{assert_held, assert_whole};
+use crate::rows::assert_text;
 use allocative::{Allocative, Described, FlameGraphBuilder, Key, Refusal, Visitor};
 use std::test::Fail;
 

@@ -4,7 +4,7 @@
 ghost use Rattle.std.specs.Prelude.{codes, Some};
 ghost use Rattle.allocative.specs.Shows.{Nothing, Inside, Field};
 
-use crate::entries::assert_text;
+use crate::rows::assert_text;
 use allocative::{Allocative, Described, FlameGraphBuilder, IdRc, Identity, Key, Refusal, Visitor};
 use std::test::Fail;
 

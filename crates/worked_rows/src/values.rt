@@ -6,8 +6,8 @@ ghost use Rattle.std.proofs.Common.{lit≤};
 ghost use Rattle.allocative.specs.Shows.{Inside, InsideUnique, Field, Nothing};
 ghost use Rattle.allocative.specs.Visits.{Shows};
 
-use crate::entries::{assert_output, assert_text};
 use crate::held::{assert_held, assert_whole};
+use crate::rows::{assert_output, assert_text};
 use allocative::{
     Allocative, Described, FlameGraphBuilder, IdArc, Identity, Key, Refusal, Registry, Visitor,
     profile_roots,
