@@ -4,20 +4,24 @@ use allocative::{FlameGraphBuilder, Key, Refusal, Visitor};
 use std::alloc::Global;
 use std::process::Abort;
 
-// Asserts that a graph has no bytes, and its text by the one call for it no line.
-fn assert_empty(rt: &impl Abort, alloc: Global) -> Result<(), Refusal> {
-    let output = FlameGraphBuilder::new(alloc)?.finish()?;
-    assert_eq!(rt; output.flamegraph().total_size(), 0);
-    let written = FlameGraphBuilder::new(alloc)?.finish_and_write_flame_graph()?;
-    assert_eq!(rt; written.as_str(), "");
-    Ok(())
+// All bytes of a builder's graph.
+fn total_of(builder: FlameGraphBuilder) -> Result<usize, Refusal> {
+    Ok(builder.finish()?.flamegraph().total_size())
 }
 
 #[test]
 fn nothing_was_entered(rt: HostRuntime) -> Result<(), Refusal> {
     let alloc = rt.alloc();
     assert_text(&rt, FlameGraphBuilder::new(alloc)?, "")?;
-    assert_empty(&rt, alloc)
+    assert_eq!(rt; total_of(FlameGraphBuilder::new(alloc)?)?, 0);
+    Ok(())
+}
+
+#[test]
+fn one_call_writes_that_nothing_was_entered(rt: HostRuntime) -> Result<(), Refusal> {
+    let written = FlameGraphBuilder::new(rt.alloc())?.finish_and_write_flame_graph()?;
+    assert_eq!(rt; written.as_str(), "");
+    Ok(())
 }
 
 #[test]

@@ -1,5 +1,5 @@
 // Entries as plain rows: what a test enters is one table.
-use allocative::{FlameGraphBuilder, Identity, Key, Refusal, Visitor};
+use allocative::{FlameGraphBuilder, FlameGraphOutput, Identity, Key, Refusal, Visitor};
 use std::alloc::Global;
 use std::process::Abort;
 
@@ -112,6 +112,26 @@ fn entered_twice(
     Ok(builder)
 }
 
+// Asserts the text of a graph.
+fn assert_graph(rt: &impl Abort, output: &FlameGraphOutput, want: &str) -> Result<(), Refusal> {
+    let written = output.flamegraph().write()?;
+    assert_eq!(rt; written.as_str(), want);
+    Ok(())
+}
+
+// Asserts the text of a graph, and the warnings beside it.
+pub(crate) fn assert_collected(
+    rt: &impl Abort,
+    output: &FlameGraphOutput,
+    text: &str,
+    warnings: &str,
+) -> Result<(), Refusal> {
+    assert_graph(rt, output, text)?;
+    let warned = output.warnings()?;
+    assert_eq!(rt; warned.as_str(), warnings);
+    Ok(())
+}
+
 // Asserts what a builder has collected: the text of its graph, and its warnings.
 pub(crate) fn assert_output(
     rt: &impl Abort,
@@ -119,12 +139,7 @@ pub(crate) fn assert_output(
     text: &str,
     warnings: &str,
 ) -> Result<(), Refusal> {
-    let output = builder.finish()?;
-    let written = output.flamegraph().write()?;
-    let warned = output.warnings()?;
-    assert_eq!(rt; written.as_str(), text);
-    assert_eq!(rt; warned.as_str(), warnings, "at {text}");
-    Ok(())
+    assert_collected(rt, &builder.finish()?, text, warnings)
 }
 
 // Asserts that the text of a builder is this one, and that it gives no warning.
