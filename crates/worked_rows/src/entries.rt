@@ -1,6 +1,6 @@
 // Inline and unique entries, and the bound of a builder.
-use crate::rows::{assert_rows, assert_text, assert_warned, entered, inline, unique};
-use allocative::{FlameGraphBuilder, Key, Refusal, Visitor};
+use crate::rows::{Row, assert_rows, assert_text, assert_warned, entered, inline, unique};
+use allocative::{FlameGraph, FlameGraphBuilder, Key, Refusal, Visitor};
 use std::alloc::Global;
 use std::process::Abort;
 
@@ -134,18 +134,16 @@ fn inline_entries_of_one_path_add_up(rt: HostRuntime) -> Result<(), Refusal> {
     )
 }
 
-// The text of the sum of an inline graph and a unique one at the same path.
-fn summed(alloc: Global) -> Result<String, Refusal> {
-    let inlined = entered(alloc, &[inline(0, "n", 8), inline(1, "x", 8)])?;
-    let mut sum = inlined.finish()?.into_flamegraph();
-    let held = entered(alloc, &[unique(0, "n", 8), inline(1, "y", 3)])?;
-    sum.add(held.finish()?.into_flamegraph())?;
-    Ok(sum.write()?)
+fn graph_of(alloc: Global, rows: &[Row]) -> Result<FlameGraph, Refusal> {
+    Ok(entered(alloc, rows)?.finish()?.into_flamegraph())
 }
 
 #[test]
 fn graphs_of_two_builders_add_up(rt: HostRuntime) -> Result<(), Refusal> {
-    assert_eq!(rt; summed(rt.alloc())?.as_str(), "n 8\nn;x 8\nn;y 3\n");
+    let alloc = rt.alloc();
+    let mut sum = graph_of(alloc, &[inline(0, "n", 8), inline(1, "x", 8)])?;
+    sum.add(graph_of(alloc, &[unique(0, "n", 8), inline(1, "y", 3)])?)?;
+    assert_eq!(rt; sum.write()?.as_str(), "n 8\nn;x 8\nn;y 3\n");
     Ok(())
 }
 

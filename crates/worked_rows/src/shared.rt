@@ -1,5 +1,5 @@
 // Pointers to shared values: a content is shown once, and stands at the root.
-use crate::rows::{Row, assert_both, assert_rows, assert_text, inline, shared};
+use crate::rows::{Row, assert_both, assert_rows, assert_text, entered, inline, shared};
 use allocative::{FlameGraphBuilder, Identity, Key, Refusal, Visitor};
 use std::alloc::Global;
 
@@ -96,21 +96,14 @@ fn contents_that_point_to_each_other_in_both_orders(rt: HostRuntime) -> Result<(
     assert_both(&rt, alloc, &from_second, &from_first, "p 16\nq 16\n")
 }
 
-// What a pointer to a value that was met answers, where its bytes pass the bound.
-fn past_the_bound(alloc: Global) -> Result<Option<Refusal>, Refusal> {
-    let half = 4_611_686_018_427_387_904;
-    let mut builder = FlameGraphBuilder::new(alloc)?;
-    let mut root = builder.root_visitor()?;
-    if let Some(content) = root.enter_shared(Key::new("p"), half, Identity::from(1))? {
-        content.exit();
-    }
-    let past = root.enter_shared(Key::new("p"), half, Identity::from(1));
-    Ok(past.err())
-}
-
 #[test]
 fn a_pointer_past_the_bound_is_too_large_though_it_was_met(rt: HostRuntime) -> Result<(), Refusal> {
-    assert_eq!(rt; past_the_bound(rt.alloc())?, Some(Refusal::TooLarge));
+    let alloc = rt.alloc();
+    let (half, id) = (4_611_686_018_427_387_904, Identity::from(1));
+    let text = "p 4611686018427387904\n";
+    assert_rows(&rt, alloc, &[shared(0, "p", half, id)], text)?;
+    let twice = [shared(0, "p", half, id), shared(0, "p", half, id)];
+    assert_eq!(rt; entered(alloc, &twice).err(), Some(Refusal::TooLarge));
     Ok(())
 }
 
