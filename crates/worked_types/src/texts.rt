@@ -19,8 +19,9 @@ pub(crate) fn text_of(alloc: Global, root: &dyn Allocative) -> Result<String, Fa
     Ok(output.flamegraph().write()?)
 }
 
-// A text without the lines whose last key is `unused_capacity`.
-fn without_unused(alloc: Global, text: &str) -> Result<String, Fail> {
+// The same without the lines whose last key is `unused_capacity`.
+fn exact_text(alloc: Global, root: &dyn Allocative) -> Result<String, Fail> {
+    let text = text_of(alloc, root)?;
     let mut exact = String::new(alloc);
     for line in text.lines() {
         if !line.contains(";unused_capacity ") {
@@ -50,7 +51,7 @@ pub(crate) fn expect_exact(
     root: &dyn Allocative,
     want: &str,
 ) -> Result<(), Fail> {
-    let text = without_unused(alloc, text_of(alloc, root)?.as_str())?;
+    let text = exact_text(alloc, root)?;
     assert_eq!(rt; text.as_str(), want);
     Ok(())
 }
