@@ -400,7 +400,7 @@ fn a_set_shows_data(rt: HostRuntime) -> Result<(), Fail> {
 }
 
 #[test]
-fn a_text_shows_its_bytes(rt: HostRuntime) -> Result<(), Fail> {
+fn a_str_shows_its_bytes(rt: HostRuntime) -> Result<(), Fail> {
     let six = Text {
         text: String::from_str(rt.alloc(), "abcdef")?,
     };
@@ -408,7 +408,7 @@ fn a_text_shows_its_bytes(rt: HostRuntime) -> Result<(), Fail> {
 }
 
 #[test]
-fn an_empty_text_shows_no_line(rt: HostRuntime) -> Result<(), Fail> {
+fn an_empty_str_shows_no_line(rt: HostRuntime) -> Result<(), Fail> {
     let none = Text {
         text: String::new(rt.alloc()),
     };
