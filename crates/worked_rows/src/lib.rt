@@ -8,6 +8,8 @@ mod boxes;
 #[cfg(test)]
 mod entries;
 #[cfg(test)]
+mod forgotten;
+#[cfg(test)]
 mod held;
 #[cfg(test)]
 mod huge;
@@ -19,6 +21,8 @@ mod repeats;
 mod room;
 #[cfg(test)]
 mod roots;
+#[cfg(test)]
+mod rows;
 #[cfg(test)]
 mod session;
 #[cfg(test)]
