@@ -30,8 +30,8 @@ impl Tree {
             })?;
         }
         for &child in &node.children {
-            keys.push(self.nodes[child].key.as_str())?;
-            self.push_warned(child, keys, warned)?;
+            keys.push(self.nodes[child as usize].key.as_str())?;
+            self.push_warned(child as usize, keys, warned)?;
             keys.pop();
         }
         Ok(())
