@@ -1,11 +1,9 @@
 -- The root's line, and no line where its size is 0.
 use Rattle.std.proofs.Common.{◌≡◌, ◌++◌, [], ◌∷◌, List, ℕ, sym, ap, ◌∙◌}
 use Rattle.std.proofs.lemmas.List.{append-nil}
-use Rattle.std.proofs.lemmas.Bool.{ne_eqb}
 use Rattle.std.specs.Prelude.{string_bytes}
 use Rattle.std.specs.FinMap.{entries}
-use Rattle.allocative_graph.specs.Path.{Path}
-use Rattle.allocative_graph.specs.Parts.{line_from, lines_from, lines_below}
+use Rattle.allocative_graph.specs.Parts.{line_from}
 use Rattle.allocative_graph.specs.Node.{rows_of}
 use Rattle.allocative_graph.specs.NodeRows.{entries-node}
 use Rattle.allocative_graph.proofs.NodeText.{own_written, line_of_some}
