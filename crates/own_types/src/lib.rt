@@ -1,6 +1,15 @@
 //! Types of a user's own, of many shapes, each with the bytes that it declares.
 #![tactic(auto)]
 
+pub mod chains;
+pub mod chapters;
+pub mod containers;
+pub mod enums;
+pub mod folders;
 pub mod large_structs;
+pub mod links;
+pub mod nodes;
+pub mod pointers;
 pub mod settings;
 pub mod structs;
+pub mod trees;
