@@ -13,3 +13,4 @@ pub mod pointers;
 pub mod settings;
 pub mod structs;
 pub mod trees;
+pub mod wrappers;
