@@ -31,20 +31,21 @@ impl<T: Allocative + Described> Allocative for Shelf<T> {
 
 /// Values by their names, and how many were asked for.
 #[derive(Drop)]
-pub struct Index<K: Eq + Hash, V> {
+pub struct Catalog<K: Eq + Hash, V> {
     pub values: HashMap<K, V>,
     pub asked: u64,
 }
 
-impl<K: Allocative + Described + Eq + Hash, V: Allocative + Described> Allocative for Index<K, V> {
-    ghost may_show = { λ i. Inside (codes "Index") 56 (Both
-        (Field (codes "values") (Some 48) (⟦<HashMap<K, V> as Allocative>⟧.may_show i.values))
-        (Field (codes "asked") (Some 8) (⟦<u64 as Allocative>⟧.may_show i.asked))) };
+impl<K: Allocative + Described + Eq + Hash, V: Allocative + Described> Allocative
+    for Catalog<K, V> {
+    ghost may_show = { λ c. Inside (codes "Catalog") 56 (Both
+        (Field (codes "values") (Some 48) (⟦<HashMap<K, V> as Allocative>⟧.may_show c.values))
+        (Field (codes "asked") (Some 8) (⟦<u64 as Allocative>⟧.may_show c.asked))) };
 
     fn visit(&self, visitor: &mut Visitor<'_>) -> Result<(), Refusal> {
         let values = Field(Key::new("values"), &self.values);
         let asked = Field(Key::new("asked"), &self.asked);
-        Inside(Key::new("Index"), 56, (values, asked)).enter(visitor)
+        Inside(Key::new("Catalog"), 56, (values, asked)).enter(visitor)
     }
 }
 

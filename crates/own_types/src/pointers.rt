@@ -47,3 +47,18 @@ impl<T: Allocative + Described> Allocative for PageLink<T> {
         Inside(Key::new("PageLink"), 16, page).enter(visitor)
     }
 }
+
+/// A page on the left and one on the right, shown with no entry for the fields.
+#[derive(Drop)]
+pub struct Spread<T: Drop> {
+    pub left: PageLink<T>,
+    pub right: PageLink<T>,
+}
+
+impl<T: Allocative + Described> Allocative for Spread<T> {
+    ghost may_show = { λ s. Inside (codes "Spread") 32 (Both (⟦<PageLink<T> as Allocative>⟧.may_show s.left) (⟦<PageLink<T> as Allocative>⟧.may_show s.right)) };
+
+    fn visit(&self, visitor: &mut Visitor<'_>) -> Result<(), Refusal> {
+        Inside(Key::new("Spread"), 32, (&self.left, &self.right)).enter(visitor)
+    }
+}
