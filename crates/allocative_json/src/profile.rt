@@ -10,7 +10,7 @@ use crate::fault::Fault;
 use crate::report;
 use crate::roots::read_roots;
 use crate::texts::Report;
-use allocative::{FlameGraphBuilder, FlameGraphOutput, Refusal};
+use allocative::{FlameGraphBuilder, FlameGraphOutput, Refusal, Registry, profile_roots};
 use serde_json::Value;
 use std::alloc::Global;
 use std::collections::BTreeSet;
@@ -45,6 +45,27 @@ fn profile_of(
     builder.finish()
 }
 
+// Graph and warnings of these roots, which are boxed and walked by a registry.
+fn profile_by_registry(
+    alloc: Global,
+    document: Value,
+    numbers: Option<BTreeSet<i128>>,
+) -> Result<FlameGraphOutput, Refusal>
+    ensures { IfOk result (IsProfileOf (both_show (view document) numbers)) }
+{
+    let mut registry = Registry::new(alloc);
+    if registry.register_root(Box::new(alloc, document)?).is_err() {
+        return Err(Refusal::Memory);
+    }
+    let Some(numbers) = numbers else {
+        return profile_roots(&registry);
+    };
+    if registry.register_root(Box::new(alloc, numbers)?).is_err() {
+        return Err(Refusal::Memory);
+    }
+    profile_roots(&registry)
+}
+
 /// The texts that stand for the input: the profile of its document and, with `index`, of the set of its numbers, and the
 /// warnings. With `exact` the profile is without the lines whose last key is `unused_capacity`. The roots are visited by
 /// their own `visit`.
@@ -58,5 +79,22 @@ pub fn profile_json(alloc: Global, input: &[u8], index: bool, exact: bool) -> Re
 {
     let (document, numbers) = read_roots(alloc, input, index)?;
     let output = profile_of(alloc, &document, &numbers)?;
+    report::report(alloc, &output, exact)
+}
+
+/// The same texts, where the roots are boxed and walked by a registry: `profile_roots` in place of the roots' own `visit`.
+///
+/// The faults are those of `profile_json`.
+pub fn profile_registered(
+    alloc: Global,
+    input: &[u8],
+    index: bool,
+    exact: bool,
+) -> Result<Report, Fault>
+    ensures ok { IfOk result (λ made. IsRightReport input.now index exact (string_bytes made.profile) (string_bytes made.warnings)) }
+    ensures err { IfErr result (RefusesReport input.now) }
+{
+    let (document, numbers) = read_roots(alloc, input, index)?;
+    let output = profile_by_registry(alloc, document, numbers)?;
     report::report(alloc, &output, exact)
 }
