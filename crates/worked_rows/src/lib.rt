@@ -8,6 +8,8 @@ mod boxes;
 #[cfg(test)]
 mod entries;
 #[cfg(test)]
+mod forgotten;
+#[cfg(test)]
 mod held;
 #[cfg(test)]
 mod huge;
@@ -17,6 +19,8 @@ mod own_types;
 mod room;
 #[cfg(test)]
 mod roots;
+#[cfg(test)]
+mod rows;
 #[cfg(test)]
 mod session;
 #[cfg(test)]

@@ -4,7 +4,7 @@
 ghost use Rattle.std.specs.Prelude.{codes};
 ghost use Rattle.allocative.specs.Shows.{Inside, Nothing};
 
-use crate::entries::assert_text;
+use crate::rows::assert_text;
 use allocative::{Allocative, FlameGraphBuilder, Key, Refusal, Visitor};
 use std::alloc::Global;
 
