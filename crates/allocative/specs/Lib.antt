@@ -17,7 +17,9 @@ pub mod Nested
 pub mod Built
 pub mod Rooted
 pub mod SizeOf
--- the definitions of the crate below, passed on
+-- the definitions of the crates below, passed on
+pub use Rattle.allocative_described.specs.Sizes
+pub use Rattle.allocative_described.specs.RawTable
 pub use Rattle.allocative_graph.specs.Path
 pub use Rattle.allocative_graph.specs.Identity
 pub use Rattle.allocative_graph.specs.Forest
@@ -29,3 +31,8 @@ pub use Rattle.allocative_graph.specs.Collector
 pub use Rattle.allocative_graph.specs.Shows
 pub use Rattle.allocative_graph.specs.Visits
 pub use Rattle.allocative_graph.specs.Report
+pub use Rattle.allocative_graph.specs.Reads
+pub use Rattle.allocative_graph.specs.Many
+pub use Rattle.allocative_graph.specs.Laws
+pub use Rattle.allocative_graph.specs.Rows
+pub use Rattle.allocative_graph.specs.declared.refusal.Refusal

@@ -7,7 +7,7 @@
 pub mod allocative_trait;
 pub mod builder;
 pub mod collector;
-mod containers;
+pub mod containers;
 pub mod impls;
 mod iterators;
 pub mod part;
@@ -20,6 +20,7 @@ pub mod visitor;
 
 pub use crate::allocative_trait::Allocative;
 pub use crate::builder::FlameGraphBuilder;
+pub use crate::containers::{Buffer, Each, FieldEach, Items, Pairs, Text, Unused};
 pub use crate::impls::pack_impls::json::visit_json_map;
 pub use crate::part::{Declared, Field, Inside, Part, Shared, Unique};
 pub use crate::registry::{Registry, profile_roots};
@@ -30,9 +31,19 @@ pub use allocative_collectors::output::{FlameGraphOutput, WarnedPath};
 pub use allocative_described::{
     Described, raw_table_alloc_size_for_len, raw_table_law, shared_inner_size, up_law,
 };
-pub use allocative_graph::flamegraph::{Child, FlameGraph, Row};
-pub use allocative_graph::ident_key;
+pub use allocative_graph::flamegraph::{Child, FlameGraph, Row, push_path};
 pub use allocative_graph::key::Key;
-pub use allocative_graph::laws::{merge_law, order_law, text_law};
+pub use allocative_graph::laws::{
+    exact_law, graph_law, graph_sums_law, meaning_law, merge_law, order_law, path_order_law, plus_law,
+    rows_law, shared_law, sums_law, text_law,
+};
 pub use allocative_graph::refusal::Refusal;
 pub use allocative_graph::shared::{IdArc, IdMaker, IdRc, Identity};
+
+/// The [`Key`](crate::Key) of an identifier's text, as `ident_key!(count)` for the key of `count`.
+#[macro_export]
+macro_rules! ident_key {
+    ($name:ident) => {
+        $crate::Key::new(stringify!($name))
+    };
+}
