@@ -1,0 +1,5 @@
+pub mod Escape
+pub mod Figures
+pub mod Rows
+pub mod Boxes
+pub mod Classes
