@@ -9,3 +9,4 @@ mod class;
 pub mod escape;
 mod figures;
 pub mod row;
+mod rows;
