@@ -4,3 +4,6 @@ pub mod Rows
 pub mod Marks
 pub mod Boxes
 pub mod Classes
+pub mod Fixed
+pub mod Page
+pub mod Picture
