@@ -7,3 +7,4 @@ pub mod Classes
 pub mod Fixed
 pub mod Page
 pub mod Picture
+pub mod Laws

@@ -9,6 +9,7 @@ mod class;
 pub mod escape;
 mod figures;
 mod fixed;
+pub mod laws;
 pub mod options;
 pub mod page;
 pub mod picture;
