@@ -15,3 +15,5 @@ pub mod page;
 pub mod picture;
 pub mod row;
 mod rows;
+#[cfg(test)]
+mod tests;
