@@ -30,7 +30,7 @@ svg{font:12px ui-sans-serif,system-ui,"Segoe UI","DejaVu Sans",Helvetica,Arial,s
 .warn{fill:#b3261e}
 .b.warned>rect{fill:#ffd9d4;stroke:#b3261e;stroke-width:2}
 .tool{cursor:pointer;fill:#3b5bdb}
-@media(prefers-color-scheme:dark){.paper{fill:#14171d}svg{fill:#e7eaf0}.sum{fill:#9aa3b2}.b text{fill:#1d2330}.b rect{stroke:#14171d}.root text,.root rect{fill:#1d2330}.root rect{fill:#aab3c2}}
+@media(prefers-color-scheme:dark){.paper{fill:#14171d}svg{fill:#e7eaf0}.sum{fill:#9aa3b2}.tool{fill:#8ea2ff}.b text{fill:#1d2330}.b rect{stroke:#14171d}.root text,.root rect{fill:#1d2330}.root rect{fill:#aab3c2}}
 </style>
 <defs><pattern id="spare" width="6" height="6" patternUnits="userSpaceOnUse" patternTransform="rotate(45)"><rect width="6" height="6" style="fill:#dfe4ea;stroke:none"/><rect width="2.5" height="6" style="fill:#c2cad4;stroke:none"/></pattern></defs>
 <rect class="paper" width="100%" height="100%"/>
