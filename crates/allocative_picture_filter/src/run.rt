@@ -4,7 +4,7 @@ ghost use Rattle.std.specs.Io.KnownBytes.{Appends};
 ghost use Rattle.allocative_picture_filter.specs.Fault.{status_of};
 
 use crate::fault::Fault;
-use crate::forest::Forest;
+use crate::forest::forest_of;
 use crate::stacks::{Line, Side, Unread, push_lines, sort};
 use allocative_picture::options::Options;
 use allocative_picture::page::Subject;
@@ -100,10 +100,7 @@ fn picture_of(
     };
     push_profile(bytes, Side::Later, &mut lines)?;
     sort(&mut lines)?;
-    let mut forest = Forest::new(alloc, is_change)?;
-    for line in &lines {
-        forest.add(line)?;
-    }
+    let forest = forest_of(alloc, is_change, lines.as_slice())?;
     let (before, after) = (forest.was(), forest.is());
     let subject = if is_change {
         Subject::Change { before, after }
