@@ -46,7 +46,7 @@ BoxesLaw = (least all : ℕ) (rs : List Seen) → boxes least all rs ≡ flat_ma
 
 -- Each path of a graph stands once among those whose rows are drawn from.
 abbrev pub OnceLaw : Type 0
-OnceLaw = (g : Graph) (p : Path) → contains_key g p ≡ true → count_by (λ e. is_same_path e.0 p) (entries g) ≡ 1
+OnceLaw = (g : Graph) (p : Path) → contains_key g p ≡ true → count_by (λ e. is_same_path p e.0) (entries g) ≡ 1
 
 -- A path of the sum of two graphs has, with all below it, the bytes that it has in both: so the box of a change is as wide as its bytes before and after together.
 abbrev pub ChangeLaw : Type 0

@@ -1,5 +1,5 @@
 //! The laws of pictures. Each is a function without parameters, whose contract is the law.
-ghost use Rattle.allocative_picture.specs.Laws.{InsideLaw, ApartLaw, ShareLaw, WithinLaw, BoxesLaw, ChangeLaw};
+ghost use Rattle.allocative_picture.specs.Laws.{InsideLaw, ApartLaw, ShareLaw, WithinLaw, BoxesLaw, OnceLaw, ChangeLaw};
 ghost use Rattle.allocative_picture.specs.Escape.{EscapeLaw};
 
 /// The box of a path stands within that of the path without its last key.
@@ -25,6 +25,11 @@ pub fn within_law()
 /// Each row that is wide enough has one box, and no other row has one.
 pub fn boxes_law()
     ensures { BoxesLaw }
+{}
+
+/// Each path of a graph stands once among the paths whose rows are drawn.
+pub fn once_law()
+    ensures { OnceLaw }
 {}
 
 /// No byte of an escaped text is markup, and a reader of the markup finds the text.
