@@ -1,12 +1,12 @@
 -- The parts of a page, row by row and line by line.
-use Rattle.std.proofs.Common.{◌≡◌, ℕ, ◌+◌, ◌*◌, Bool, true, false, cond, List, Bor, [], ◌∷◌, ◌++◌, map, take, length, get_or, refl, sym, ap, ◌∙◌, append_assoc, arith, ◌<◌, length-take}
+use Rattle.std.proofs.Common.{◌≡◌, ℕ, ◌+◌, ◌*◌, List, Bor, [], ◌∷◌, ◌++◌, map, take, length, get_or, refl, sym, ap, ◌∙◌, append_assoc, arith, ◌<◌, length-take}
 use Rattle.std.proofs.lemmas.List.{take_more, map-append, append-nil, length-map}
 use Rattle.std.specs.Prelude.{fold, flat_map}
 use Rattle.std.proofs.lemmas.Grind.{flat_map-append}
 use Rattle.allocative_graph.proofs.NodeText.{texts}
 use Rattle.allocative_picture.specs.declared.row.Row.{Row}
 use Rattle.allocative_picture.specs.Rows.{Seen, seen}
-use Rattle.allocative_picture.specs.Boxes.{is_drawn, box}
+use Rattle.allocative_picture.specs.Boxes.{box}
 use Rattle.allocative_picture.specs.Page.{level_of, levels, boxes, warning_line, warning_lines}
 
 -- What some rows show, and one more.

@@ -1,5 +1,5 @@
 -- Text as markup: what stands for each character.
-use Rattle.std.specs.Prelude.{◌≡◌, ◌≢◌, ℕ, ◌+◌, ◌==◌, ◌||◌, ◌≤◌, Bool, cond, nat_lt, List, [], ◌∷◌, flat_map, ◌++◌, codes, encode_utf8}
+use Rattle.std.specs.Prelude.{◌≢◌, ℕ, ◌==◌, ◌||◌, ◌≤◌, Bool, cond, nat_lt, List, [], ◌∷◌, flat_map, ◌++◌, codes, encode_utf8}
 use Rattle.std.specs.List.{AllByRecursion}
 use Rattle.std.specs.Str.{chars}
 

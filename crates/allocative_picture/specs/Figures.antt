@@ -1,5 +1,5 @@
 -- Figures as texts: bytes in binary units, shares and places in percent.
-use Rattle.std.specs.Prelude.{ℕ, ◌+◌, ◌*◌, ◌/◌, ◌%◌, cond, nat_lt, List, ◌++◌, codes, decimal}
+use Rattle.std.specs.Prelude.{ℕ, ◌*◌, ◌/◌, ◌%◌, cond, nat_lt, List, ◌++◌, codes, decimal}
 
 -- The greatest binary unit that n bytes reach, in bytes.
 abbrev pub unit_bytes : ℕ → ℕ

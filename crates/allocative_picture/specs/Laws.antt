@@ -5,7 +5,7 @@ use Rattle.std.specs.FinMap.{entries, contains_key}
 use Rattle.allocative_graph.specs.Path.{Key, Path, key_cmp, is_same_path}
 use Rattle.allocative_graph.specs.Graph.{Graph, total, total_at, sum_of, size_at}
 use Rattle.allocative_picture.specs.declared.row.Mark.{Mark}
-use Rattle.allocative_picture.specs.Rows.{Seen, row_of, rows_of}
+use Rattle.allocative_picture.specs.Rows.{Seen, row_of}
 use Rattle.allocative_picture.specs.Boxes.{left, right, width, is_drawn, element}
 use Rattle.allocative_picture.specs.Page.{boxes}
 

@@ -1,5 +1,5 @@
 -- What stands round the boxes of a picture.
-use Rattle.std.specs.Prelude.{ℕ, ◌+◌, ◌*◌, Bool, cond, max, List, [], ◌∷◌, ◌++◌, fold, flat_map, codes, decimal}
+use Rattle.std.specs.Prelude.{ℕ, ◌+◌, cond, max, List, [], ◌∷◌, ◌++◌, fold, flat_map, codes, decimal}
 use Rattle.allocative_picture.specs.Escape.{escaped}
 use Rattle.allocative_picture.specs.Figures.{bytes_text}
 use Rattle.allocative_picture.specs.Rows.{Seen}

@@ -1,5 +1,5 @@
 -- What a row shows, and the rows of a flame graph.
-use Rattle.std.specs.Prelude.{ℕ, ◌+◌, Bool, cond, length, List, [], ◌∷◌, ◌++◌, map, sum_by, codes}
+use Rattle.std.specs.Prelude.{ℕ, Bool, cond, length, List, [], ◌∷◌, ◌++◌, map, sum_by, codes}
 use Rattle.std.specs.List.{list_any, starts_with}
 use Rattle.std.specs.Prelude.{nat_eq}
 use Rattle.std.specs.Ordering.{is_lt}

@@ -1,4 +1,4 @@
-use Rattle.std.proofs.Common.{◌≡◌, ◌++◌, flat_map}
+use Rattle.std.proofs.Common.{◌≡◌, flat_map}
 use Rattle.std.specs.Prelude.{string_bytes}
 use Rattle.allocative_picture.specs.Escape.{escaped_char}
 use Rattle.allocative_picture.proofs.escape.escaped.Given as goal

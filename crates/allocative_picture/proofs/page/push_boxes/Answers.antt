@@ -1,11 +1,10 @@
-use Rattle.std.proofs.Common.{◌≡◌, ◌++◌, ℕ, List, [], map, take, ap, sym, ◌∙◌, arith}
+use Rattle.std.proofs.Common.{◌++◌, List, map, ap, sym, ◌∙◌, arith}
 use Rattle.std.proofs.lemmas.List.{take_all, append-nil}
 use Rattle.std.specs.Prelude.{string_bytes}
 use Rattle.allocative_picture.specs.declared.row.Row.{Row}
-use Rattle.allocative_picture.specs.Rows.{Seen, seen}
-use Rattle.allocative_picture.specs.Boxes.{box}
+use Rattle.allocative_picture.specs.Rows.{seen}
 use Rattle.allocative_picture.specs.Page.{boxes}
-use Rattle.allocative_picture.proofs.Pages.{seen_more, boxes-more, boxes-none}
+use Rattle.allocative_picture.proofs.Pages.{boxes-more, boxes-none}
 use Rattle.allocative_picture.proofs.page.push_boxes.Goals as goal
 
 pub loop-row-init : goal.loop-row-init

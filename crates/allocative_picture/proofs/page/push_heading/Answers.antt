@@ -1,5 +1,5 @@
 use Rattle.std.proofs.Common.{◌≡◌, ◌++◌, subst, append_assoc}
-use Rattle.std.specs.Prelude.{string_bytes, codes, decimal}
+use Rattle.std.specs.Prelude.{string_bytes, codes}
 use Rattle.allocative_picture.specs.Page.{heading}
 use Rattle.allocative_picture.proofs.page.push_heading.Goals as goal
 

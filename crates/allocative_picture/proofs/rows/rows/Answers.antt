@@ -1,10 +1,8 @@
-use Rattle.std.proofs.Common.{◌≡◌, ℕ, ◌+◌, ◌<◌, ◌≤◌, List, [], ◌∷◌, ◌++◌, map, take, drop, length, get_or, sym, ap, ◌∙◌, arith}
+use Rattle.std.proofs.Common.{◌≡◌, ℕ, ◌+◌, ◌<◌, List, [], ◌∷◌, ◌++◌, map, take, drop, length, get_or, sym, ap, ◌∙◌, arith}
 use Rattle.std.proofs.lemmas.List.{take_more, take_all, take-append-drop, map-append}
-use Rattle.allocative_graph.specs.Graph.{total}
 use Rattle.allocative_graph.specs.Reads as reads
 use Rattle.allocative_graph.specs.declared.flamegraph.reads.Row as read
-use Rattle.allocative_picture.specs.declared.row.Row.{Row}
-use Rattle.allocative_picture.specs.Rows.{Seen, seen, row_from, rows_of}
+use Rattle.allocative_picture.specs.Rows.{seen, row_from}
 use Rattle.allocative_picture.specs.Marks.{mark_of}
 use Rattle.allocative_picture.proofs.Placing.{rows_from, own_bytes, rows_from-more, own-more, own-within, rows_from-figures}
 use Rattle.allocative_picture.proofs.rows.rows.Goals as goal
