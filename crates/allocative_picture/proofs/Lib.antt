@@ -1,0 +1,5 @@
+pub mod Escaping
+pub mod Placing
+pub mod Pages
+pub mod Geometry
+pub mod Counting

@@ -1,0 +1,110 @@
+-- The bytes before a path are those of the rows before its own.
+use Rattle.std.proofs.Common.{◌≡◌, ℕ, ◌+◌, ◌≤◌, ◌&&◌, Bool, true, false, cond, List, [], ◌∷◌, ◌++◌, map, sum_by, length, refl, sym, ap, subst, ◌∙◌, append_assoc, T, arith}
+use Rattle.std.proofs.lemmas.List.Sums.{sum_by-cons, sum_by-append}
+use Rattle.std.specs.Ordering.{is_lt, ordering_reverse}
+use Rattle.std.specs.declared.cmp.Ordering.{Ordering}
+use Rattle.std.specs.declared.cmp.Ordering.TheVariants.{Less, Equal, Greater}
+use Rattle.std.specs.Cmp.{tied_itself}
+use Rattle.std.specs.FinMap.{entries, entries_sorted}
+use Rattle.std.specs.FinMap.Entries.{is_sorted, below_all}
+use Rattle.allocative_graph.specs.Path.{Path, path_cmp}
+use Rattle.allocative_graph.specs.Graph.{Graph, total, total_at}
+use Rattle.allocative_graph.specs.Reads.{Figures, figures}
+use Rattle.allocative_graph.proofs.Basics.{path_total}
+use Rattle.allocative_picture.specs.declared.row.Mark.{Mark}
+use Rattle.allocative_picture.specs.Rows.{Seen, before_in, row_of, row_from, rows_of}
+
+abbrev Sizes : Type 0
+Sizes = List (Path × ℕ)
+
+both_first : (a b : Bool) → T (a && b) → T a
+both_first true b h = tt
+both_first false b h = absurd h
+
+both_second : (a b : Bool) → T (a && b) → T b
+both_second true b h = h
+both_second false b h = absurd h
+
+is_less : (o : Ordering) → T (is_lt o) → o ≡ Less
+is_less Less h = refl
+is_less Equal h = absurd h
+is_less Greater h = absurd h
+
+-- The bytes of some paths.
+abbrev pub bytes_of : Sizes → ℕ
+bytes_of es = sum_by (λ e. e.1) es
+
+before-cons : (p : Path) (e : Path × ℕ) (es : Sizes) → before_in (e ∷ es) p ≡ cond (is_lt (path_cmp e.0 p)) e.1 0 + before_in es p
+before-cons p e es = sum_by-cons (λ (x : Path × ℕ). cond (is_lt (path_cmp x.0 p)) x.1 0) e es
+
+-- Nothing comes before a path that is below all.
+before-above : (p : Path) (es : Sizes) → T (below_all path_cmp p es) → before_in es p ≡ 0
+before-above p [] h = refl
+before-above p (e ∷ es) h =
+    let turned : path_cmp e.0 p ≡ Greater = path_total.antisymm e.0 p ∙ ap ordering_reverse (is_less (path_cmp p e.0) (both_first (is_lt (path_cmp p e.0)) (below_all path_cmp p es) h)) in
+    before-cons p e es ∙ (λ i. cond (is_lt (turned i)) e.1 0 + before-above p es (both_second (is_lt (path_cmp p e.0)) (below_all path_cmp p es) h) i)
+
+-- What is below all is below one of them.
+below-at : (p : Path) (a c : Sizes) (e : Path × ℕ) → T (below_all path_cmp p (a ++ e ∷ c)) → path_cmp p e.0 ≡ Less
+below-at p [] c e h = is_less (path_cmp p e.0) (both_first (is_lt (path_cmp p e.0)) (below_all path_cmp p c) h)
+below-at p (x ∷ a) c e h = below-at p a c e (both_second (is_lt (path_cmp p x.0)) (below_all path_cmp p (a ++ e ∷ c)) h)
+
+-- The bytes before a path in the middle of rising ones are those of the paths on its left.
+before-middle : (a c : Sizes) (e : Path × ℕ) → T (is_sorted path_cmp (a ++ e ∷ c)) → before_in (a ++ e ∷ c) e.0 ≡ bytes_of a
+before-middle [] c e h =
+    before-cons e.0 e c ∙ (λ i. cond (is_lt (tied_itself path_total e.0 i)) e.1 0 + before-above e.0 c (both_first (below_all path_cmp e.0 c) (is_sorted path_cmp c) h) i)
+before-middle (x ∷ a) c e h =
+    before-cons e.0 x (a ++ e ∷ c)
+    ∙ (λ i. cond (is_lt (below-at x.0 a c e (both_first (below_all path_cmp x.0 (a ++ e ∷ c)) (is_sorted path_cmp (a ++ e ∷ c)) h) i)) x.1 0 + before-middle a c e (both_second (below_all path_cmp x.0 (a ++ e ∷ c)) (is_sorted path_cmp (a ++ e ∷ c)) h) i)
+    ∙ sym (sum_by-cons (λ (y : Path × ℕ). y.1) x a)
+
+-- The rows of some figures, before which some bytes come.
+abbrev pub rows_from : (Path → Mark) → ℕ → List Figures → List Seen
+rows_from M b [] = []
+rows_from M b (f ∷ fs) = row_from M b f ∷ rows_from M (b + f.self_size) fs
+
+-- The bytes of some figures.
+abbrev pub own_bytes : List Figures → ℕ
+own_bytes fs = sum_by (λ f. f.self_size) fs
+
+own-cons : (f : Figures) (fs : List Figures) → own_bytes (f ∷ fs) ≡ f.self_size + own_bytes fs
+own-cons f fs = sum_by-cons (λ (x : Figures). x.self_size) f fs
+
+-- The row of one path more.
+pub rows_from-more : (M : Path → Mark) (b : ℕ) (fs : List Figures) (f : Figures) → rows_from M b (fs ++ f ∷ []) ≡ rows_from M b fs ++ row_from M (b + own_bytes fs) f ∷ []
+rows_from-more M b [] f = ap (λ n. row_from M n f ∷ []) (let e : b ≡ b + 0 = omega arith in e)
+rows_from-more M b (g ∷ fs) f =
+    let e : b + g.self_size + own_bytes fs ≡ b + own_bytes (g ∷ fs) = omega (arith, own-cons g fs) in
+    ap (λ (s : List Seen). row_from M b g ∷ s) (rows_from-more M (b + g.self_size) fs f ∙ ap (λ n. rows_from M (b + g.self_size) fs ++ row_from M n f ∷ []) e)
+
+pub own-more : (fs : List Figures) (f : Figures) → own_bytes (fs ++ f ∷ []) ≡ own_bytes fs + f.self_size
+own-more fs f = omega (arith, sum_by-append (λ (x : Figures). x.self_size) fs (f ∷ []), own-cons f [])
+
+abbrev figure : Graph → Path × ℕ → Figures
+figure g e = record { path = e.0; self_size = e.1; total_size = total_at g e.0 }
+
+placed : (M : Path → Mark) (g : Graph) (a c : Sizes) → entries g ≡ a ++ c → rows_from M (bytes_of a) (map (figure g) c) ≡ map (row_of M g) c
+placed M g a [] e = refl
+placed M g a (x ∷ c) e =
+    let sorted : T (is_sorted path_cmp (a ++ x ∷ c)) = subst (λ (es : Sizes). T (is_sorted path_cmp es)) e (entries_sorted g) in
+    let place : before_in (entries g) x.0 ≡ bytes_of a = ap (λ (es : Sizes). before_in es x.0) e ∙ before-middle a c x sorted in
+    let next : entries g ≡ (a ++ x ∷ []) ++ c = e ∙ sym (append_assoc a (x ∷ []) c) in
+    let more : bytes_of a + x.1 ≡ bytes_of (a ++ x ∷ []) = omega (arith, sum_by-append (λ (y : Path × ℕ). y.1) a (x ∷ []), sum_by-cons (λ (y : Path × ℕ). y.1) x []) in
+    let rest : rows_from M (bytes_of a + x.1) (map (figure g) c) ≡ map (row_of M g) c = ap (λ n. rows_from M n (map (figure g) c)) more ∙ placed M g (a ++ x ∷ []) c next in
+    λ i. record { depth = length x.0; key = (row_of M g x).key; own = x.1; whole = total_at g x.0; before = sym place i; mark = M x.0 } ∷ rest i
+
+-- The rows of the figures of a graph are those of the graph.
+pub rows_from-figures : (M : Path → Mark) (g : Graph) → rows_from M 0 (figures g) ≡ rows_of M g
+unfolding rows_of
+rows_from-figures M g = placed M g [] (entries g) refl
+
+own-figures : (g : Graph) (es : Sizes) → own_bytes (map (figure g) es) ≡ bytes_of es
+own-figures g [] = refl
+own-figures g (e ∷ es) = omega (arith, own-cons (figure g e) (map (figure g) es), own-figures g es, sum_by-cons (λ (y : Path × ℕ). y.1) e es)
+
+own-split : (fs gs : List Figures) → own_bytes fs ≤ own_bytes (fs ++ gs)
+own-split fs gs = omega (arith, sum_by-append (λ (x : Figures). x.self_size) fs gs)
+
+-- Some of the figures of a graph have no more bytes than the graph.
+pub own-within : (g : Graph) (fs gs : List Figures) → fs ++ gs ≡ figures g → own_bytes fs ≤ total g
+own-within g fs gs e = omega (arith, own-split fs gs, ap own_bytes e ∙ own-figures g (entries g))

@@ -1,0 +1,9 @@
+use Rattle.std.proofs.Common.{◌≡◌, ◌++◌, map, take}
+use Rattle.std.specs.Prelude.{string_bytes}
+use Rattle.allocative_picture.specs.Rows.{seen}
+use Rattle.allocative_picture.specs.Page.{boxes}
+use Rattle.allocative_picture.proofs.page.push_boxes.Given as goal
+
+-- So far the boxes of the rows that came are appended.
+abbrev pub invariant-loop-row : goal.invariant-loop-row
+invariant-loop-row l = string_bytes l.text ≡ string_bytes l.initial.text ++ boxes l.least l.all (map seen (take l.row-index l.rows))

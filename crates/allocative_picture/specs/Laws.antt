@@ -1,0 +1,53 @@
+-- The laws of pictures, as statements.
+use Rattle.std.specs.Prelude.{◌≡◌, ℕ, ◌+◌, ◌*◌, ◌<◌, ◌≤◌, true, List, [], ◌∷◌, ◌++◌, filter, flat_map, count_by}
+use Rattle.std.specs.declared.cmp.Ordering.TheVariants.{Less}
+use Rattle.std.specs.FinMap.{entries, contains_key}
+use Rattle.allocative_graph.specs.Path.{Key, Path, key_cmp, is_same_path}
+use Rattle.allocative_graph.specs.Graph.{Graph, total, total_at, sum_of, size_at}
+use Rattle.allocative_picture.specs.declared.row.Mark.{Mark}
+use Rattle.allocative_picture.specs.Rows.{Seen, row_of}
+use Rattle.allocative_picture.specs.Boxes.{left, right, width, is_drawn, element}
+use Rattle.allocative_picture.specs.Page.{boxes}
+
+-- The row of a path of a graph.
+abbrev pub row_at : (Path → Mark) → Graph → Path → Seen
+row_at M g p = row_of M g (p, size_at g p)
+
+-- The second box stands within the first, from left to right.
+pub record IsInside (all : ℕ) (outer inner : Seen) : Type 0 where
+  pub starts : left all outer ≤ left all inner
+  pub ends : right all inner ≤ right all outer
+
+-- The box of each path stands within that of the path without its last key.
+abbrev pub InsideLaw : Type 0
+InsideLaw = (M : Path → Mark) (g : Graph) (p : Path) (k : Key) → IsInside (total g) (row_at M g p) (row_at M g (p ++ k ∷ []))
+
+-- Of two boxes below one path that of the lower key ends where that of the greater one begins, or before.
+abbrev pub ApartLaw : Type 0
+ApartLaw = (M : Path → Mark) (g : Graph) (p : Path) (k l : Key) → key_cmp k l ≡ Less
+    → right (total g) (row_at M g (p ++ k ∷ [])) ≤ left (total g) (row_at M g (p ++ l ∷ []))
+
+-- The width of a box differs from the share of its bytes, in units of a millionth of all, by less than one unit.
+pub record IsShare (all : ℕ) (r : Seen) : Type 0 where
+  pub not_wider : width all r * all < r.whole * 1000000 + all
+  pub not_narrower : r.whole * 1000000 < width all r * all + all
+
+-- Each box is as wide as its bytes' share of all, to less than a unit.
+abbrev pub ShareLaw : Type 0
+ShareLaw = (all : ℕ) (r : Seen) → 0 < all → IsShare all r
+
+-- No box passes the picture's right edge.
+abbrev pub WithinLaw : Type 0
+WithinLaw = (M : Path → Mark) (g : Graph) (p : Path) → 0 < total g → right (total g) (row_at M g p) ≤ 1000000
+
+-- The boxes are the elements of the rows that are wide enough, each once and in the order of paths.
+abbrev pub BoxesLaw : Type 0
+BoxesLaw = (least all : ℕ) (rs : List Seen) → boxes least all rs ≡ flat_map (element all) (filter (is_drawn least all) rs)
+
+-- Each path of a graph stands once among those whose rows are drawn from.
+abbrev pub OnceLaw : Type 0
+OnceLaw = (g : Graph) (p : Path) → contains_key g p ≡ true → count_by (λ e. is_same_path p e.0) (entries g) ≡ 1
+
+-- A path of the sum of two graphs has, with all below it, the bytes that it has in both: so the box of a change is as wide as its bytes before and after together.
+abbrev pub ChangeLaw : Type 0
+ChangeLaw = (g h : Graph) (p : Path) → total_at (sum_of g h) p ≡ total_at g p + total_at h p

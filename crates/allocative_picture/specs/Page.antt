@@ -1,0 +1,58 @@
+-- What stands round the boxes of a picture.
+use Rattle.std.specs.Prelude.{ℕ, ◌+◌, cond, max, List, [], ◌∷◌, ◌++◌, fold, flat_map, codes, decimal}
+use Rattle.allocative_picture.specs.Escape.{escaped}
+use Rattle.allocative_picture.specs.Figures.{bytes_text}
+use Rattle.allocative_picture.specs.Rows.{Seen}
+use Rattle.allocative_picture.specs.Boxes.{is_drawn, both_text, box}
+use Rattle.allocative_picture.specs.Fixed.{tools, legend}
+use Rattle.allocative_picture.specs.declared.page.Subject.{Subject}
+use Rattle.allocative_picture.specs.declared.page.Subject.TheVariants.{Profile, Change}
+
+-- The bytes that the whole width stands for.
+abbrev pub all_of : Subject → ℕ
+all_of (Profile bytes) = bytes
+all_of (Change before after) = before + after
+
+-- The totals of what a picture is of.
+unfoldable pub subject_text : Subject → List ℕ
+subject_text (Profile bytes) = bytes_text bytes ++ codes " declared"
+subject_text (Change before after) = both_text before after
+
+-- How many boxes stand below one another, where n did so before some rows came.
+abbrev pub level_of : ℕ → ℕ → ℕ → Seen → ℕ
+level_of least all n r = cond (is_drawn least all r) (max n (r.depth + 1)) n
+
+-- How many boxes of some rows stand below one another.
+unfoldable pub levels : ℕ → ℕ → List Seen → ℕ
+levels least all rs = fold (level_of least all) 0 rs
+
+-- How a picture of some height begins.
+unfoldable pub opening : ℕ → List ℕ
+opening height = codes "<svg xmlns=\"http://www.w3.org/2000/svg\" width=\"100%\" height=\"" ++ decimal height ++ codes "\" font-size=\"12\">\n"
+
+-- The title above a picture.
+unfoldable pub heading : List ℕ → List ℕ
+heading title = codes "<text class=\"title\" x=\"8\" y=\"22\">" ++ escaped title ++ codes "</text>\n"
+
+-- The totals, and how many paths have a box and how many are too narrow for one.
+unfoldable pub summary : Subject → ℕ → ℕ → List ℕ
+summary s drawn narrow =
+    codes "<text class=\"sum say\" x=\"8\" y=\"42\">" ++ subject_text s ++ codes "; " ++ decimal drawn ++ codes " paths drawn, " ++ decimal narrow ++ codes " too narrow</text>\n"
+
+-- The words that the script makes work, and for a change what its colours say.
+unfoldable pub tools_of : Subject → List ℕ
+tools_of (Profile bytes) = tools
+tools_of (Change before after) = tools ++ legend
+
+-- The boxes of some rows, one after another.
+unfoldable pub boxes : ℕ → ℕ → List Seen → List ℕ
+boxes least all rs = flat_map (box least all) rs
+
+-- A warning, whose line stands at a height.
+unfoldable pub warning_line : ℕ → List ℕ → List ℕ
+warning_line y line = codes "<text class=\"warn\" x=\"8\" y=\"" ++ decimal y ++ codes "\">" ++ escaped line ++ codes "</text>\n"
+
+-- Warnings below one another, the first of which stands at a height.
+abbrev pub warning_lines : ℕ → List (List ℕ) → List ℕ
+warning_lines y [] = []
+warning_lines y (l ∷ ls) = warning_line y l ++ warning_lines (y + 16) ls

@@ -1,0 +1,32 @@
+-- Pictures: the text of an SVG document.
+use Rattle.std.specs.Prelude.{ℕ, ◌+◌, ◌-◌, ◌*◌, List, ◌++◌, length, map, count_by}
+use Rattle.allocative_graph.specs.Graph.{Graph, total, sum_of}
+use Rattle.allocative_picture.specs.Rows.{Seen, rows_of, warned_mark, changed_mark}
+use Rattle.allocative_picture.specs.Boxes.{is_drawn}
+use Rattle.allocative_picture.specs.Fixed.{style, closing}
+use Rattle.allocative_picture.specs.Page.{all_of, levels, opening, heading, summary, tools_of, boxes, warning_lines}
+use Rattle.allocative_picture.specs.declared.options.Options.{Options}
+use Rattle.allocative_picture.specs.declared.page.Subject.{Subject}
+use Rattle.allocative_picture.specs.declared.page.Subject.TheVariants.{Profile, Change}
+
+-- Where the boxes end, in pixels.
+abbrev pub bottom : Subject → Options → List Seen → ℕ
+bottom s o rs = 64 + 18 * levels o.narrowest (all_of s) rs
+
+-- How many rows have a box.
+abbrev pub drawn_of : Subject → Options → List Seen → ℕ
+drawn_of s o rs = count_by (is_drawn o.narrowest (all_of s)) rs
+
+-- The picture of some rows: how it begins, the style, the title, the totals, what the script makes work, the boxes, the warnings and the end.
+unfoldable pub drawing : Subject → Options → List Seen → List ℕ
+drawing s o rs =
+    opening (bottom s o rs + 8 + 16 * length o.warnings.now) ++ style ++ heading o.title.now ++ summary s (drawn_of s o rs) (length rs - drawn_of s o rs) ++ tools_of s
+    ++ boxes o.narrowest (all_of s) rs ++ warning_lines (bottom s o rs + 14) (map (λ l. l.now) o.warnings.now) ++ closing
+
+-- The picture of a flame graph: that of its rows, marked by the warnings.
+abbrev pub profile_drawing : Options → Graph → List ℕ
+profile_drawing o g = drawing (Profile (total g)) o (rows_of (warned_mark o.warnings.now) g)
+
+-- The picture of the change from g to h: that of the rows of their sum, marked by what they were in g.
+abbrev pub change_drawing : Options → Graph → Graph → List ℕ
+change_drawing o g h = drawing (Change (total g) (total h)) o (rows_of (changed_mark g) (sum_of g h))

@@ -1,0 +1,64 @@
+-- What a row shows, and the rows of a flame graph.
+use Rattle.std.specs.Prelude.{ℕ, Bool, cond, length, List, [], ◌∷◌, ◌++◌, map, sum_by, codes}
+use Rattle.std.specs.List.{list_any, starts_with}
+use Rattle.std.specs.Prelude.{nat_eq}
+use Rattle.std.specs.Ordering.{is_lt}
+use Rattle.std.specs.FinMap.{entries}
+use Rattle.std.proofs.Common.{Bor}
+use Rattle.allocative_graph.specs.Path.{Key, Path, path_cmp}
+use Rattle.allocative_graph.specs.Graph.{Graph, total_at, joined}
+use Rattle.allocative_graph.specs.Reads.{Figures}
+use Rattle.allocative_picture.specs.declared.row.Row.{Row}
+use Rattle.allocative_picture.specs.declared.row.Mark.{Mark}
+use Rattle.allocative_picture.specs.declared.row.Mark.TheVariants.{Plain, Warned, Changed}
+
+-- A row, with the text of its key.
+pub record Seen : Type 0 where
+  pub depth : ℕ
+  pub key : Key
+  pub own : ℕ
+  pub whole : ℕ
+  pub before : ℕ
+  pub mark : Mark
+
+-- What a row of code shows.
+abbrev pub seen : Row → Seen
+seen r = record { depth = r.depth; key = r.key.now; own = r.own; whole = r.whole; before = r.before; mark = r.mark }
+
+-- The key that is shown of a path: its last one, and `all` for the root.
+abbrev pub shown_key : Path → Key
+shown_key [] = codes "all"
+shown_key (k ∷ []) = k
+shown_key (k ∷ l ∷ p) = shown_key (l ∷ p)
+
+-- The bytes of all paths of some rows that come before p.
+abbrev pub before_in : List (Path × ℕ) → Path → ℕ
+before_in rs p = sum_by (λ e. cond (is_lt (path_cmp e.0 p)) e.1 0) rs
+
+-- What the row of a path of g with its size shows, where M gives the marks of paths.
+abbrev pub row_of : (Path → Mark) → Graph → Path × ℕ → Seen
+row_of M g e = record { depth = length e.0; key = shown_key e.0; own = e.1; whole = total_at g e.0; before = before_in (entries g) e.0; mark = M e.0 }
+
+-- The rows of g: one for each path, in the order of paths.
+unfoldable pub rows_of : (Path → Mark) → Graph → List Seen
+rows_of M g = map (row_of M g) (entries g)
+
+-- The row of a path with its figures, before which some bytes come.
+abbrev pub row_from : (Path → Mark) → ℕ → Figures → Seen
+row_from M before f = record { depth = length f.path; key = shown_key f.path; own = f.self_size; whole = f.total_size; before = before; mark = M f.path }
+
+-- How the warning of a path begins.
+abbrev pub warning_start : Path → List ℕ
+warning_start p = codes "Incorrect size declaration for node `" ++ joined p ++ codes "`, size of self: "
+
+-- Whether one of some lines is the warning of a path.
+unfoldable pub is_warned : List (Bor (List ℕ)) → Path → Bool
+is_warned lines p = list_any (λ l. starts_with nat_eq l.now (warning_start p)) lines
+
+-- The mark of a path of a profile with some warnings, a line each.
+abbrev pub warned_mark : List (Bor (List ℕ)) → Path → Mark
+warned_mark lines p = cond (is_warned lines p) Warned Plain
+
+-- The mark of a path of a sum of two profiles, of which g is the earlier one.
+abbrev pub changed_mark : Graph → Path → Mark
+changed_mark g p = Changed (total_at g p)

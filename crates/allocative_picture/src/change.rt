@@ -1,0 +1,84 @@
+//! How the bytes of a path changed.
+ghost use Rattle.std.specs.Prelude.{◌≡◌, ◌+◌, ◌-◌, ◌*◌, ◌^◌, ◌<◌, ◌≤◌, ℕ, Some};
+ghost use Rattle.allocative_picture.specs.Boxes.{shade, change_paint, change_text, both_text};
+
+use crate::figures::Size;
+use std::fmt;
+
+/// The bytes of a path in an earlier profile and in a later one, printed as their difference with a sign, as `+1.5 KiB`,
+/// or as `unchanged`.
+#[derive(Clone, Copy)]
+pub(crate) struct Change {
+    pub was: usize,
+    pub is: usize,
+}
+
+/// A change, printed as what a title says of it.
+#[derive(Clone, Copy)]
+pub(crate) struct Comparison(pub Change);
+
+/// A change, printed as the paint of a box: red where bytes grew, blue where they shrank, and nothing where they are equal.
+#[derive(Clone, Copy)]
+pub(crate) struct Paint(pub Change);
+
+// A part of a colour that is as full as the change is of all.
+fn shade(full: u128, change: usize, all: u128) -> u128
+    requires full { full ≤ 236 }
+    requires some { 0 < all }
+    ensures { result ≡ shade full change all }
+{
+    236_u128.saturating_sub((236 - full) * change as u128 / all)
+}
+
+#[tactic(auto, unfolding(crate::specs::Boxes::change_text))]
+impl fmt::Display for Change {
+    ghost output = { λ c. Some (change_text c.was c.is) };
+
+    fn fmt<W: fmt::Write>(&self, f: &mut fmt::Formatter<W>) -> fmt::Result {
+        let Change { was, is } = *self;
+        if was == is {
+            write!(f, "unchanged")
+        } else if was < is {
+            write!(f, "+{}", Size(is - was))
+        } else {
+            write!(f, "-{}", Size(was - is))
+        }
+    }
+}
+
+#[tactic(auto, unfolding(crate::specs::Boxes::both_text))]
+impl fmt::Display for Comparison {
+    ghost output = { λ c. Some (both_text c.0.was c.0.is) };
+
+    fn fmt<W: fmt::Write>(&self, f: &mut fmt::Formatter<W>) -> fmt::Result {
+        let change = self.0;
+        let Change { was, is } = change;
+        let (before, after) = (Size(was), Size(is));
+        write!(f, "{before} before, {after} after")?;
+        write!(f, " ({was} and {is} bytes)\n{change}")
+    }
+}
+
+#[tactic(auto, unfolding(crate::specs::Boxes::change_paint))]
+impl fmt::Display for Paint {
+    ghost output = { λ p. Some (change_paint p.0.was p.0.is) };
+
+    fn fmt<W: fmt::Write>(&self, f: &mut fmt::Formatter<W>) -> fmt::Result {
+        let Change { was, is } = self.0;
+        if was == is {
+            return Ok(());
+        }
+        let all = was as u128 + is as u128;
+        let ((red, green, blue), change) = if was < is {
+            ((214, 40, 40), is - was)
+        } else {
+            ((29, 95, 191), was - is)
+        };
+        let (red, green, blue) = (
+            shade(red, change, all),
+            shade(green, change, all),
+            shade(blue, change, all),
+        );
+        write!(f, " style=\"fill:rgb({red},{green},{blue})\"")
+    }
+}

@@ -1,0 +1,110 @@
+//! The texts that all pictures share.
+ghost use Rattle.std.specs.Prelude.{◌≡◌, ◌++◌, OnOk, string_bytes};
+ghost use Rattle.allocative_picture.specs.Fixed.{style, tools, legend, closing};
+
+use std::alloc::AllocError;
+
+// The style, the pattern of unused capacity, and the paper below all.
+const STYLE: &str = r#"<style>
+svg{font:12px ui-sans-serif,system-ui,"Segoe UI","DejaVu Sans",Helvetica,Arial,sans-serif;fill:#1d2330}
+.paper{fill:#fff}
+.title{font-size:17px;font-weight:600}
+.sum{fill:#5b6472}
+.b{cursor:pointer}
+.b text{pointer-events:none}
+.b .n{fill:#1d2330;fill-opacity:.55}
+.thin>text{display:none}
+.brief .n{display:none}
+.b rect{stroke:#fff;stroke-width:1}
+.b:hover>rect{stroke:#1d2330}
+.b.hit>rect{fill:#8a2be2;fill-opacity:.75}
+.b.hit>text{fill:#fff}
+.b.past>rect{fill-opacity:.45}
+.k0 rect{fill:#f4a259}.k1 rect{fill:#f6bd60}.k2 rect{fill:#f7cf7a}.k3 rect{fill:#ef8f5a}
+.k4 rect{fill:#f28482}.k5 rect{fill:#eab069}.k6 rect{fill:#e9c46a}.k7 rect{fill:#f0a07c}
+.k8 rect{fill:#e8998d}.k9 rect{fill:#f2c078}.k10 rect{fill:#efdc9b}.k11 rect{fill:#f5b78f}
+.root rect{fill:#d9dee7}
+.spare rect{fill:url(#spare)}
+.same rect{fill:#eceff3}
+.full>text,.b.full .n{fill:#fff;fill-opacity:1}
+.warn{fill:#b3261e}
+.b.warned>rect{fill:#ffd9d4;stroke:#b3261e;stroke-width:2}
+.tool{cursor:pointer;fill:#3b5bdb}
+@media(prefers-color-scheme:dark){.paper{fill:#14171d}svg{fill:#e7eaf0}.sum{fill:#9aa3b2}.tool{fill:#8ea2ff}.b text{fill:#1d2330}.b rect{stroke:#14171d}.root text,.root rect{fill:#1d2330}.root rect{fill:#aab3c2}}
+</style>
+<defs><pattern id="spare" width="6" height="6" patternUnits="userSpaceOnUse" patternTransform="rotate(45)"><rect width="6" height="6" style="fill:#dfe4ea;stroke:none"/><rect width="2.5" height="6" style="fill:#c2cad4;stroke:none"/></pattern></defs>
+<rect class="paper" width="100%" height="100%"/>
+"#;
+
+// The words that the script makes work: find, and back to the whole.
+const TOOLS: &str =
+    r#"<svg width="100%" overflow="visible"><text class="tool find" x="100%" dx="-8" y="22" text-anchor="end">Find</text><text class="tool back" x="100%" dx="-48" y="22" text-anchor="end" style="display:none">Whole</text></svg>
+"#;
+
+// What the colours of a change say.
+const LEGEND: &str =
+    r#"<svg width="100%" overflow="visible"><text class="sum" x="100%" dx="-8" y="42" text-anchor="end"><tspan style="fill:#1d5fbf">shrank</tspan><tspan dx="8">same</tspan><tspan dx="8" style="fill:#d62828">grew</tspan></text></svg>
+"#;
+
+// The script and the end. Without the script the picture is whole.
+const CLOSING: &str = r#"<script><![CDATA[
+(function(){
+var svg=document.currentScript.ownerSVGElement,all=[].slice.call(svg.querySelectorAll('.b')),say=svg.querySelector('.say'),back=svg.querySelector('.back'),find=svg.querySelector('.find'),first=say.textContent,was=first;
+function units(b,a){return Math.round(parseFloat(b.getAttribute(a))*1e4)}
+function key(b){return b.querySelector('title').textContent.split('\n')[0]}
+function above(b,z){return b.l<=z.l&&b.r>=z.r&&b.d<z.d}
+function path(z){return all.filter(function(b,i){return i>0&&(b===z||above(b,z))}).map(key).join(';')||'all'}
+function tell(b){return path(b)+'  \u00b7  '+b.querySelector('title').textContent.split('\n').slice(1).join('  \u00b7  ')}
+all.forEach(function(b){b.l=units(b,'x');b.r=b.l+units(b,'width');b.d=+b.getAttribute('y')});
+function zoom(z){
+if(!z)return;
+all.forEach(function(b){var inside=b.l>=z.l&&b.r<=z.r&&b.d>=z.d,over=above(b,z);
+b.style.display=inside||over?'':'none';b.classList.toggle('past',over);
+b.setAttribute('x',over?'0%':(b.l-z.l)/(z.r-z.l)*100+'%');b.setAttribute('width',over?'100%':(b.r-b.l)/(z.r-z.l)*100+'%')});
+back.style.display=z===all[0]?'none':'';fit()}
+function fit(){all.map(function(b){var room=b.getBoundingClientRect().width;b.classList.remove('thin','brief');
+return[b,room<24,b.querySelector('text').getComputedTextLength()+16>room]}).forEach(function(m){m[0].classList.toggle('thin',m[1]);m[0].classList.toggle('brief',m[2])})}
+function mark(q){var n=0,last=0;
+all.forEach(function(b){var hit=q&&key(b).toLowerCase().indexOf(q)>=0;b.classList.toggle('hit',!!hit);if(hit&&b.l>=last){n+=b.r-b.l;last=b.r}});
+was=q?'"'+q+'" and below: '+(n/1e4).toFixed(2)+'% of all':first;say.textContent=was}
+function ask(){var q=prompt('Part of a key','');if(q!==null)mark(q.toLowerCase())}
+svg.addEventListener('click',function(e){var b=e.target.closest('.b');if(b)zoom(b);else if(e.target===back)zoom(all[0]);else if(e.target===find)ask()});
+svg.addEventListener('mouseover',function(e){var b=e.target.closest('.b');say.textContent=b?tell(b):was});
+document.addEventListener('keydown',function(e){if(e.key==='Escape'){zoom(all[0]);mark('')}else if(e.key==='/'){e.preventDefault();ask()}});
+window.addEventListener('resize',fit);fit();
+})();
+]]></script>
+</svg>
+"#;
+
+/// Appends the style, the pattern of unused capacity, and the paper below all.
+#[tactic(auto, unfolding(crate::specs::Fixed::style))]
+pub(crate) fn push_style(text: &mut String) -> Result<(), AllocError>
+    ensures { OnOk result (string_bytes text.new ≡ string_bytes text.old ++ style) }
+{
+    text.push_str(STYLE)
+}
+
+/// Appends the words that the script makes work.
+#[tactic(auto, unfolding(crate::specs::Fixed::tools))]
+pub(crate) fn push_tools(text: &mut String) -> Result<(), AllocError>
+    ensures { OnOk result (string_bytes text.new ≡ string_bytes text.old ++ tools) }
+{
+    text.push_str(TOOLS)
+}
+
+/// Appends what the colours of a change say.
+#[tactic(auto, unfolding(crate::specs::Fixed::legend))]
+pub(crate) fn push_legend(text: &mut String) -> Result<(), AllocError>
+    ensures { OnOk result (string_bytes text.new ≡ string_bytes text.old ++ legend) }
+{
+    text.push_str(LEGEND)
+}
+
+/// Appends the script and the end.
+#[tactic(auto, unfolding(crate::specs::Fixed::closing))]
+pub(crate) fn push_closing(text: &mut String) -> Result<(), AllocError>
+    ensures { OnOk result (string_bytes text.new ≡ string_bytes text.old ++ closing) }
+{
+    text.push_str(CLOSING)
+}

@@ -1,0 +1,19 @@
+//! Pictures of flame graphs: SVG text, with a box for each path that is wide enough to be seen.
+//!
+//! All sizes are in bytes. What needs memory takes an allocator first and answers a `Result`.
+#![tactic(auto)]
+
+mod boxes;
+mod change;
+mod class;
+pub mod escape;
+mod figures;
+mod fixed;
+pub mod laws;
+pub mod options;
+pub mod page;
+pub mod picture;
+pub mod row;
+mod rows;
+#[cfg(test)]
+mod tests;

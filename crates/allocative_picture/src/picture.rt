@@ -1,0 +1,89 @@
+//! The pictures of profiles and of changes.
+ghost use Rattle.std.specs.Prelude.{◌≡◌, ◌+◌, ◌^◌, ◌≤◌, ◌↔◌, IfOk, IfErr, IsErrOf, string_bytes, map};
+ghost use Rattle.allocative_graph.specs.Graph.{total};
+ghost use Rattle.allocative_picture.specs.Rows.{seen};
+ghost use Rattle.allocative_picture.specs.Picture.{drawing, profile_drawing, change_drawing};
+
+use crate::fixed::{push_closing, push_style};
+use crate::options::Options;
+use crate::page::{
+    Subject, drawn, levels, push_boxes, push_heading, push_opening, push_summary, push_tools_of,
+    push_warnings,
+};
+use crate::row::Row;
+use crate::rows::{Marks, rows};
+use allocative_graph::flamegraph::FlameGraph;
+use allocative_graph::refusal::Refusal;
+use std::alloc::{AllocError, Global};
+
+/// The picture of a flame graph, as the text of an SVG document.
+///
+/// The root stands on top, and a path below that of its keys but the last. A box is as wide as the bytes of its path and of all
+/// below it. It answers an error only for want of memory.
+pub fn picture(alloc: Global, graph: &FlameGraph, options: &Options<'_>) -> Result<String, Refusal>
+    ensures text { IfOk result (λ made. string_bytes made ≡ profile_drawing options.now graph.now) }
+    ensures memory { IfErr result (λ r. r ≡ Refusal.Memory) }
+{
+    let subject = Subject::Profile {
+        bytes: graph.total_size(),
+    };
+    let rows = rows(alloc, &Marks::Warnings(options.warnings), graph)?;
+    Ok(draw(alloc, subject, rows.as_slice(), options)?)
+}
+
+/// The picture of the change from one flame graph to another, as the text of an SVG document.
+///
+/// It is the picture of their sum: a box is as wide as its bytes before and after together. It is red where bytes grew and blue
+/// where they shrank, as full as the difference is of the sum.
+///
+/// It answers `TooLarge` exactly where the two totals together pass `usize::MAX`, and otherwise an error only for want of
+/// memory.
+pub fn change_picture(
+    alloc: Global,
+    before: &FlameGraph,
+    after: &FlameGraph,
+    options: &Options<'_>,
+) -> Result<String, Refusal>
+    ensures text { IfOk result (λ made. string_bytes made ≡ change_drawing options.now before.now after.now) }
+    ensures too_large { IsErrOf result Refusal.TooLarge ↔ (2 ^ 64 ≤ total before.now + total after.now) }
+    ensures never_open { ¬ (IsErrOf result Refusal.Open) }
+{
+    let subject = Subject::Change {
+        before: before.total_size(),
+        after: after.total_size(),
+    };
+    if after.total_size() > usize::MAX - before.total_size() {
+        return Err(Refusal::TooLarge);
+    }
+    let mut both = before.clone()?;
+    both.add(after.clone()?)?;
+    let rows = rows(alloc, &Marks::Earlier(before), &both)?;
+    Ok(draw(alloc, subject, rows.as_slice(), options)?)
+}
+
+/// The picture of some rows, as the text of an SVG document. The rows stand in the order of paths, and the totals of the
+/// subject are theirs; where they are not, the picture has boxes that do not fit together.
+///
+/// It answers an error only for want of memory.
+pub fn draw(
+    alloc: Global,
+    subject: Subject,
+    rows: &[Row<'_>],
+    options: &Options<'_>,
+) -> Result<String, AllocError>
+    ensures { IfOk result (λ made. string_bytes made ≡ drawing subject options.now (map seen rows.now)) }
+{
+    let (least, all) = (options.narrowest, subject.all());
+    let drawn = drawn(least, all, rows);
+    let bottom = 64 + 18 * levels(least, all, rows);
+    let mut text = String::new(alloc);
+    push_opening(bottom + 8 + 16 * options.warnings.len() as u128, &mut text)?;
+    push_style(&mut text)?;
+    push_heading(alloc, options.title, &mut text)?;
+    push_summary(subject, drawn, rows.len().saturating_sub(drawn), &mut text)?;
+    push_tools_of(subject, &mut text)?;
+    push_boxes(alloc, least, all, rows, &mut text)?;
+    push_warnings(alloc, bottom + 14, options.warnings, &mut text)?;
+    push_closing(&mut text)?;
+    Ok(text)
+}

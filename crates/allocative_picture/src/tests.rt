@@ -1,0 +1,187 @@
+// What no clause says: whole pictures, as a browser is given them.
+use crate::options::Options;
+use crate::page::Subject;
+use crate::picture::{change_picture, draw, picture};
+use crate::row::{Mark, Row};
+use allocative_graph::flamegraph::FlameGraph;
+use allocative_graph::key::Key;
+use allocative_graph::refusal::Refusal;
+use std::alloc::{AllocError, Global};
+use std::process::Abort;
+
+// A graph whose root has the size.
+fn own(alloc: Global, size: usize) -> Result<FlameGraph, Refusal> {
+    let mut graph = FlameGraph::default(alloc);
+    graph.add_self(size)?;
+    Ok(graph)
+}
+
+// Asserts that a picture has these boxes and no others, a title, a line of totals, and a height.
+fn assert_picture(
+    rt: &impl Abort,
+    text: &str,
+    height: &str,
+    title: &str,
+    totals: &str,
+    boxes: &str,
+) {
+    assert!(rt; text.starts_with(height), "height");
+    assert!(rt; text.contains(title), "title");
+    assert!(rt; text.contains(totals), "totals");
+    assert!(rt; text.contains(boxes), "boxes");
+    assert!(rt; text.ends_with("]]></script>\n</svg>\n"), "end");
+}
+
+const PROFILE_BOXES: &str = "Whole</text></svg>\n\
+<svg class=\"b root\" x=\"0.0000%\" y=\"54\" width=\"100.0000%\" height=\"18\"><title>all\n7 B (7 bytes), 100.00% of all\n0 B (0 bytes) of its own</title><rect width=\"100%\" height=\"100%\" rx=\"2\"/><text x=\"4\" y=\"13\">all<tspan class=\"n\" dx=\"8\">7 B</tspan></text></svg>\n\
+<svg class=\"b k10\" x=\"0.0000%\" y=\"72\" width=\"57.1428%\" height=\"18\"><title>Vec&lt;u8&gt;\u{fffd}\n4 B (4 bytes), 57.14% of all</title><rect width=\"100%\" height=\"100%\" rx=\"2\"/><text x=\"4\" y=\"13\">Vec&lt;u8&gt;\u{fffd}<tspan class=\"n\" dx=\"8\">4 B</tspan></text></svg>\n\
+<svg class=\"b k1\" x=\"57.1428%\" y=\"72\" width=\"42.8572%\" height=\"18\"><title>b\n3 B (3 bytes), 42.85% of all\n1 B (1 bytes) of its own</title><rect width=\"100%\" height=\"100%\" rx=\"2\"/><text x=\"4\" y=\"13\">b<tspan class=\"n\" dx=\"8\">3 B</tspan></text></svg>\n\
+<svg class=\"b k3\" x=\"71.4285%\" y=\"90\" width=\"28.5715%\" height=\"18\"><title>&lt;/title&gt;&lt;script&gt;\n2 B (2 bytes), 28.57% of all</title><rect width=\"100%\" height=\"100%\" rx=\"2\"/><text x=\"4\" y=\"13\">&lt;/title&gt;&lt;script&gt;<tspan class=\"n\" dx=\"8\">2 B</tspan></text></svg>\n<script>";
+
+const CHANGE_BOXES: &str = "grew</tspan></text></svg>\n\
+<svg class=\"b moved\" x=\"0.0000%\" y=\"54\" width=\"100.0000%\" height=\"18\"><title>all\n5 B before, 4 B after (5 and 4 bytes)\n-1 B</title><rect width=\"100%\" height=\"100%\" rx=\"2\" style=\"fill:rgb(213,221,231)\"/><text x=\"4\" y=\"13\">all<tspan class=\"n\" dx=\"8\">-1 B</tspan></text></svg>\n\
+<svg class=\"b moved\" x=\"0.0000%\" y=\"72\" width=\"66.6666%\" height=\"18\"><title>a\n2 B before, 4 B after (2 and 4 bytes)\n+2 B</title><rect width=\"100%\" height=\"100%\" rx=\"2\" style=\"fill:rgb(229,171,171)\"/><text x=\"4\" y=\"13\">a<tspan class=\"n\" dx=\"8\">+2 B</tspan></text></svg>\n\
+<svg class=\"b full\" x=\"66.6666%\" y=\"72\" width=\"33.3334%\" height=\"18\"><title>b\n3 B before, 0 B after (3 and 0 bytes)\n-3 B</title><rect width=\"100%\" height=\"100%\" rx=\"2\" style=\"fill:rgb(29,95,191)\"/><text x=\"4\" y=\"13\">b<tspan class=\"n\" dx=\"8\">-3 B</tspan></text></svg>\n<script>";
+
+const MARKED_BOXES: &str = "Whole</text></svg>\n\
+<svg class=\"b root\" x=\"0.0000%\" y=\"54\" width=\"100.0000%\" height=\"18\"><title>all\n3.0 KiB (3072 bytes), 100.00% of all\n0 B (0 bytes) of its own</title><rect width=\"100%\" height=\"100%\" rx=\"2\"/><text x=\"4\" y=\"13\">all<tspan class=\"n\" dx=\"8\">3.0 KiB</tspan></text></svg>\n\
+<svg class=\"b warned\" x=\"0.0000%\" y=\"72\" width=\"100.0000%\" height=\"18\"><title>Map\n3.0 KiB (3072 bytes), 100.00% of all\n1000 B (1000 bytes) of its own\ndeclared smaller than its parts: see the warnings</title><rect width=\"100%\" height=\"100%\" rx=\"2\"/><text x=\"4\" y=\"13\">Map<tspan class=\"n\" dx=\"8\">3.0 KiB</tspan></text></svg>\n\
+<svg class=\"b spare\" x=\"32.5846%\" y=\"90\" width=\"67.4154%\" height=\"18\"><title>unused_capacity\n2.0 KiB (2071 bytes), 67.41% of all</title><rect width=\"100%\" height=\"100%\" rx=\"2\"/><text x=\"4\" y=\"13\">unused_capacity<tspan class=\"n\" dx=\"8\">2.0 KiB</tspan></text></svg>\n<text class=\"warn\" x=\"8\" y=\"132\">Incorrect size declaration for node `Map`, size of self: 1, size of inline children: 2</text>\n\
+<text class=\"warn\" x=\"8\" y=\"148\">a &lt;line&gt;</text>\n<script>";
+
+#[test]
+fn boxes_stand_by_their_bytes(rt: HostRuntime) -> Result<(), Refusal> {
+    let alloc = rt.alloc();
+    let mut inner = own(alloc, 1)?;
+    inner.add_child(Key::new("</title><script>"), own(alloc, 2)?)?;
+    let mut graph = own(alloc, 0)?;
+    graph.add_child(Key::new("b"), inner)?;
+    graph.add_child(Key::new("Vec<u8>\n"), own(alloc, 4)?)?;
+    let text = picture(alloc, &graph, &Options::default())?;
+    assert_picture(
+        &rt,
+        text.as_str(),
+        "<svg xmlns=\"http://www.w3.org/2000/svg\" width=\"100%\" height=\"126\" font-size=\"12\">\n<style>",
+        "<text class=\"title\" x=\"8\" y=\"22\">Declared bytes</text>\n",
+        "<text class=\"sum say\" x=\"8\" y=\"42\">7 B (7 bytes) declared; 4 paths drawn, 0 too narrow</text>\n",
+        PROFILE_BOXES,
+    );
+    Ok(())
+}
+
+#[test]
+fn what_went_and_what_came_is_drawn(rt: HostRuntime) -> Result<(), Refusal> {
+    let alloc = rt.alloc();
+    let mut before = own(alloc, 0)?;
+    before.add_child(Key::new("a"), own(alloc, 2)?)?;
+    before.add_child(Key::new("b"), own(alloc, 3)?)?;
+    let mut after = own(alloc, 0)?;
+    after.add_child(Key::new("a"), own(alloc, 4)?)?;
+    let text = change_picture(alloc, &before, &after, &Options::default())?;
+    assert_picture(
+        &rt,
+        text.as_str(),
+        "<svg xmlns=\"http://www.w3.org/2000/svg\" width=\"100%\" height=\"108\" font-size=\"12\">\n<style>",
+        "<text class=\"title\" x=\"8\" y=\"22\">Declared bytes</text>\n",
+        "<text class=\"sum say\" x=\"8\" y=\"42\">5 B before, 4 B after (5 and 4 bytes)\n-1 B; 3 paths drawn, 0 too narrow</text>\n",
+        CHANGE_BOXES,
+    );
+    Ok(())
+}
+
+#[test]
+fn warned_and_unused_paths_are_marked(rt: HostRuntime) -> Result<(), Refusal> {
+    let alloc = rt.alloc();
+    let mut map = own(alloc, 1000)?;
+    map.add_child(Key::new("thin"), own(alloc, 1)?)?;
+    map.add_child(Key::new("unused_capacity"), own(alloc, 2071)?)?;
+    let mut graph = own(alloc, 0)?;
+    graph.add_child(Key::new("Map"), map)?;
+    let options = Options {
+        title: "A & B",
+        warnings: &[
+            "Incorrect size declaration for node `Map`, size of self: 1, size of inline children: 2",
+            "a <line>",
+        ],
+        narrowest: 500,
+    };
+    let text = picture(alloc, &graph, &options)?;
+    assert_picture(
+        &rt,
+        text.as_str(),
+        "<svg xmlns=\"http://www.w3.org/2000/svg\" width=\"100%\" height=\"158\" font-size=\"12\">\n<style>",
+        "<text class=\"title\" x=\"8\" y=\"22\">A &amp; B</text>\n",
+        "<text class=\"sum say\" x=\"8\" y=\"42\">3.0 KiB (3072 bytes) declared; 3 paths drawn, 1 too narrow</text>\n",
+        MARKED_BOXES,
+    );
+    Ok(())
+}
+
+#[test]
+fn a_graph_without_bytes_has_no_box(rt: HostRuntime) -> Result<(), Refusal> {
+    let alloc = rt.alloc();
+    let text = picture(alloc, &own(alloc, 0)?, &Options::default())?;
+    assert!(rt;
+        text.as_str()
+            .contains("0 B (0 bytes) declared; 0 paths drawn, 1 too narrow")
+    );
+    assert!(rt; text.as_str().contains("Whole</text></svg>\n<script>"));
+    Ok(())
+}
+
+#[test]
+fn totals_past_a_word_are_refused(rt: HostRuntime) -> Result<(), Refusal> {
+    let alloc = rt.alloc();
+    let (most, one) = (own(alloc, usize::MAX)?, own(alloc, 1)?);
+    let refused = change_picture(alloc, &most, &one, &Options::default()).err();
+    assert!(rt; refused == Some(Refusal::TooLarge));
+    Ok(())
+}
+
+// A row one key below the root.
+fn row<'a>(key: &'a str, before: usize) -> Row<'a> {
+    Row {
+        depth: 1,
+        key,
+        own: 1,
+        whole: 1,
+        before,
+        mark: Mark::Plain,
+    }
+}
+
+#[test]
+fn hostile_keys_stay_text(rt: HostRuntime) -> Result<(), AllocError> {
+    let alloc = rt.alloc();
+    let mut long = String::new(alloc);
+    for _ in 0..10_000 {
+        long.push('x')?;
+    }
+    let rows = [
+        row("<script>alert(1)</script>", 0),
+        row("\"'&", 1),
+        row("]]>", 2),
+        row("\0\u{1b}\u{7f}\u{ffff}", 3),
+        row("", 4),
+        row(long.as_str(), 5),
+    ];
+    let text = draw(
+        alloc,
+        Subject::Profile { bytes: 6 },
+        &rows,
+        &Options::default(),
+    )?;
+    let text = text.as_str();
+    assert!(rt;
+        text.contains(
+            "<title>&lt;script&gt;alert(1)&lt;/script&gt;\n1 B (1 bytes), 16.66% of all</title>"
+        )
+    );
+    assert!(rt; text.contains("<title>&quot;&#39;&amp;\n"));
+    assert!(rt; text.contains("<title>]]&gt;\n"));
+    assert!(rt; text.contains("<title>\u{fffd}\u{fffd}\u{fffd}\u{fffd}\n"));
+    assert!(rt; text.contains("<title>\n1 B"));
+    assert!(rt; text.contains("xxxxx\n1 B"));
+    assert!(rt; !text.contains("<script>alert"));
+    Ok(())
+}
