@@ -1,6 +1,6 @@
 // Structures that come again and again, where what follows a child is not what followed it before.
 use crate::entries::assert_text;
-use allocative::{FlameGraphBuilder, Identity, Key, Refusal, Visitor};
+use allocative::{FlameGraphBuilder, Identity, Inside, Key, Part, Refusal, Shared, Visitor};
 
 // An entry, and one entry in it for each part.
 fn enter_parts(
@@ -19,27 +19,29 @@ fn enter_parts(
 
 // `S 20`, in it a shared pointer, and behind that `q 2`.
 fn enter_shared_between(visitor: &mut Visitor<'_>) -> Result<(), Refusal> {
-    let mut inner = visitor.collector.enter(Key::new("S"), 20)?;
-    if let Some(shown) = inner
-        .collector
-        .point_to(Key::new("p"), 8, Identity::from(1))?
-    {
-        let mut content = inner.collector.content(shown);
-        content.visit_simple(Key::new("C"), 16)?;
-        content.exit();
-    }
-    inner.visit_simple(Key::new("q"), 2)?;
-    inner.exit();
-    Ok(())
+    let pointer = Shared {
+        key: Key::new("p"),
+        size: 8,
+        identity: Identity::from(1),
+        content: Inside(Key::new("C"), 16, ()),
+    };
+    Inside(
+        Key::new("S"),
+        20,
+        (pointer, Inside(Key::new("q"), 2, ())),
+    )
+    .enter(visitor)
 }
 
 // `a 10`, in it `a 4` with `a 1`, and behind that `b 2`.
 fn enter_one_key_at_three_depths(visitor: &mut Visitor<'_>) -> Result<(), Refusal> {
-    let mut outer = visitor.collector.enter(Key::new("a"), 10)?;
-    enter_parts(&mut outer, "a", 4, &[("a", 1)])?;
-    outer.visit_simple(Key::new("b"), 2)?;
-    outer.exit();
-    Ok(())
+    let below = Inside(Key::new("a"), 4, Inside(Key::new("a"), 1, ()));
+    Inside(
+        Key::new("a"),
+        10,
+        (below, Inside(Key::new("b"), 2, ())),
+    )
+    .enter(visitor)
 }
 
 #[test]
