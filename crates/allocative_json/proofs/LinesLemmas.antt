@@ -7,9 +7,9 @@ use Rattle.std.specs.Cmp.Lexicographic.{texts_ties}
 use Rattle.std.proofs.lemmas.Slice.Eq.{bytes_eq-Decides}
 use Rattle.std.proofs.lemmas.List.{take-append-drop}
 use Rattle.std.proofs.lemmas.Str.Pattern.{NoCharPasses-char, drop_at_char, IsSplitOnceResult, split_parts}
-use Rattle.allocative_graph.specs.Path.{Key, key_cmp}
-use Rattle.allocative_graph.specs.Graph.{Lacks}
-use Rattle.allocative_graph.specs.Report.{lines_from, before_last, after_last, last_key, without_lines}
+use Rattle.allocative.specs.Path.{Key, key_cmp}
+use Rattle.allocative.specs.Graph.{Lacks}
+use Rattle.allocative.specs.Report.{lines_from, before_last, after_last, last_key, without_lines}
 
 pub lacks_from : (c : ℕ) (bs : List ℕ) → ((i : ℕ) → i < length bs → get_or bs i 0 ≢ c) → Lacks c bs
 lacks_from c [] h = tt

@@ -4,13 +4,13 @@ use Rattle.std.specs.BTreeSet.{BTreeSet}
 use Rattle.serde_json.specs.Data.{Data}
 use Rattle.serde_json.specs.Read.{read}
 use Rattle.serde_json.proofs.OnLiterals.{serde_json_on_literals}
-use Rattle.allocative_graph.specs.declared.refusal.Refusal.{Refusal}
-use Rattle.allocative_graph.specs.declared.refusal.Refusal.TheVariants as refused
+use Rattle.allocative.specs.Refusal.{Refusal}
+use Rattle.allocative.specs.Refusal.TheVariants as refused
 use Rattle.allocative_json.specs.Fault.{fault_of}
-use Rattle.allocative_graph.specs.Forest.{Forest, Empty, Inline, Unique, First, Again, followed_by}
-use Rattle.allocative_graph.specs.Graph.{text}
-use Rattle.allocative_graph.specs.Shows.{Showing, Both, each_shows}
-use Rattle.allocative_graph.specs.Visits.{Profile, IsProfileOf}
+use Rattle.allocative.specs.Forest.{Forest, Empty, Inline, Unique, First, Again, followed_by}
+use Rattle.allocative.specs.Graph.{text}
+use Rattle.allocative.specs.Shows.{Showing, Both, each_shows}
+use Rattle.allocative.specs.Visits.{Profile, IsProfileOf}
 use Rattle.allocative_json.specs.declared.fault.Fault.{Fault}
 use Rattle.allocative_json.specs.declared.fault.Fault.TheVariants.{Memory, NotJson, NotWhole, TooLarge, Reading, Writing, Open}
 use Rattle.allocative_json.specs.declared.fault.Fault.TheVariants as fault

@@ -1,7 +1,7 @@
 -- What status a fault ends the program with, and which fault a refusal is.
 use Rattle.std.specs.Prelude.{ℕ}
-use Rattle.allocative_graph.specs.declared.refusal.Refusal.{Refusal}
-use Rattle.allocative_graph.specs.declared.refusal.Refusal.TheVariants as refused
+use Rattle.allocative.specs.Refusal.{Refusal}
+use Rattle.allocative.specs.Refusal.TheVariants as refused
 use Rattle.allocative_json.specs.declared.fault.Fault.{Fault}
 use Rattle.allocative_json.specs.declared.fault.Fault.TheVariants.{Memory, NotJson, NotWhole, TooLarge, Words, Reading, Writing, Open}
 

@@ -2,9 +2,9 @@
 use Rattle.std.specs.Prelude.{◌≡◌, ℕ, ℤ, ◌<◌, Bool, true, false, List, length, Option, None, Some, codes}
 use Rattle.std.specs.BTreeSet.{BTreeSet}
 use Rattle.serde_json.specs.Data.{Data}
-use Rattle.allocative_graph.specs.Graph.{text}
-use Rattle.allocative_graph.specs.Shows.{Showing, Nothing, Both, Inside, Field, each_shows}
-use Rattle.allocative_graph.specs.Visits.{Profile, IsProfileOf}
+use Rattle.allocative.specs.Graph.{text}
+use Rattle.allocative.specs.Shows.{Showing, Nothing, Both, Inside, Field, each_shows}
+use Rattle.allocative.specs.Visits.{Profile, IsProfileOf}
 use Rattle.allocative.specs.JsonShows.{value_shows}
 use Rattle.allocative_json.specs.declared.fault.Fault.{Fault}
 use Rattle.allocative_json.specs.declared.fault.Fault.TheVariants.{Memory, NotJson, NotWhole, TooLarge, Words, Reading, Writing, Open}

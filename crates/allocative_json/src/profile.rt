@@ -3,7 +3,7 @@
 
 ghost use Rattle.std.specs.Prelude.{IfOk, IfErr, string_bytes};
 ghost use Rattle.serde_json.specs.View.{view};
-ghost use Rattle.allocative_graph.specs.Visits.{Runs, IsProfileOf};
+ghost use Rattle.allocative.specs.Visits.{Runs, IsProfileOf};
 ghost use Rattle.allocative_json.specs.Profile.{both_show, IsRightReport, RefusesReport};
 
 use crate::fault::Fault;

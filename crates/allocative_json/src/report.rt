@@ -1,7 +1,7 @@
 //! Makes the texts of a run's output.
 ghost use Rattle.std.specs.Prelude.{◌≡◌, [], codes, IfOk, MatchResult, string_bytes};
-ghost use Rattle.allocative_graph.specs.Graph.{text};
-ghost use Rattle.allocative_graph.specs.Report.{before_last, after_last, without_lines};
+ghost use Rattle.allocative.specs.Graph.{text};
+ghost use Rattle.allocative.specs.Report.{before_last, after_last, without_lines};
 ghost use Rattle.allocative_json.specs.Lines.{asked_text};
 
 use crate::fault::Fault;

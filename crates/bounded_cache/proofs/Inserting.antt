@@ -14,7 +14,7 @@ use Rattle.lru.specs.LruCache.{lru_cache, put_entries}
 use Rattle.lru.proofs.CallerLemmas.{Contains-lookup_entry}
 use Rattle.bounded_cache.specs.declared.cache.Kept.{Kept}
 use Rattle.bounded_cache.specs.Entries.{Entries, bytes_of, kept, bounded, KeepsRecent, IsBounded, IsFigure, IsMeasured, Inserts, RefusesBytes, RefusesInsert}
-use Rattle.allocative_graph.specs.declared.refusal.Refusal.{Refusal}
+use Rattle.allocative.specs.Refusal.{Refusal}
 use Rattle.bounded_cache.specs.declared.error.CacheError.{CacheError}
 use Rattle.bounded_cache.specs.declared.error.CacheError.TheVariants.{TooLarge, NotMeasured, Memory}
 use Rattle.allocative.specs.Forest.{Forest}

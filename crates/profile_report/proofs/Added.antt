@@ -6,8 +6,8 @@ use Rattle.std.specs.Str.{bytes_eq}
 use Rattle.std.specs.BTreeMap.{BTreeMap, get_by_text}
 use Rattle.std.specs.Cmp.Lexicographic.{bytes_decides}
 use Rattle.std.proofs.lemmas.List.Sums.{sum_by_push}
-use Rattle.allocative_graph.specs.Graph.{Lacks}
-use Rattle.allocative_graph.proofs.Basics.{each-append}
+use Rattle.allocative.specs.Graph.{Lacks}
+use Rattle.allocative.proofs.Basics.{each-append}
 use Rattle.profile_report.specs.declared.compare.Change.{Change}
 use Rattle.profile_report.specs.declared.compare.CompareError.{CompareError}
 use Rattle.profile_report.specs.declared.compare.CompareError.TheVariants.{Memory, NotAProfile, TooLarge}

@@ -9,9 +9,9 @@ use Rattle.std.proofs.lemmas.Str.Parse.{IsNumeralModel, numerals_by_fold}
 use Rattle.std.proofs.lemmas.Str.Pattern.{NoCharPasses-char, drop_at_char}
 use Rattle.std.proofs.lemmas.List.{take-append-drop}
 use Rattle.std.proofs.lemmas.Grind.{flat_map-append}
-use Rattle.allocative_graph.specs.Graph.{Lacks}
-use Rattle.allocative_graph.proofs.Basics.{each-append}
-use Rattle.allocative_graph.proofs.Text.{first_split, last_split, lacks_not, decimal_lacks}
+use Rattle.allocative.specs.Graph.{Lacks}
+use Rattle.allocative.proofs.Basics.{each-append}
+use Rattle.allocative.proofs.Text.{first_split, last_split, lacks_not, decimal_lacks}
 use Rattle.profile_report.specs.Rows.{Row, line, lines, IsPlain, IsText}
 
 -- ---- numbers

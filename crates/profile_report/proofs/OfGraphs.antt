@@ -6,11 +6,11 @@ use Rattle.std.specs.Cmp.Lexicographic.{bytes_decides}
 use Rattle.std.specs.FinMap.{entries, get-entries, entries_sorted}
 use Rattle.std.specs.FinMap.Entries.{find, is_sorted, below_all}
 use Rattle.std.proofs.lemmas.List.Sums.{sum_by-cons, sum_by-append}
-use Rattle.allocative_graph.specs.Path.{Key, Path, path_cmp, is_same_path}
-use Rattle.allocative_graph.specs.Graph.{Graph, joined, is_root, size_at, Lacks}
-use Rattle.allocative_graph.proofs.Basics.{each-append, same_path, same_path_itself}
-use Rattle.allocative_graph.proofs.Below.{find-below_all}
-use Rattle.allocative_graph.proofs.Text.{Sized, is_shown, full, shown_lines, first_split, lacks_not}
+use Rattle.allocative.specs.Path.{Key, Path, path_cmp, is_same_path}
+use Rattle.allocative.specs.Graph.{Graph, joined, is_root, size_at, Lacks}
+use Rattle.allocative.proofs.Basics.{each-append, same_path, same_path_itself}
+use Rattle.allocative.proofs.Below.{find-below_all}
+use Rattle.allocative.proofs.Text.{Sized, is_shown, full, shown_lines, first_split, lacks_not}
 use Rattle.profile_report.specs.declared.compare.Change.{Change}
 use Rattle.profile_report.specs.declared.compare.CompareError.{CompareError}
 use Rattle.profile_report.specs.declared.compare.CompareError.TheVariants.{Memory, NotAProfile, TooLarge}

@@ -4,8 +4,8 @@ use Rattle.std.specs.List.{AllByRecursion}
 use Rattle.std.specs.Map.{update}
 use Rattle.std.specs.Str.{bytes_eq}
 use Rattle.std.specs.BTreeMap.{BTreeMap, get_by_text}
-use Rattle.allocative_graph.specs.Path.{Key, Path}
-use Rattle.allocative_graph.specs.Graph.{Graph, text, joined, size_at, Lacks, HasPlainKeys, HasWords}
+use Rattle.allocative.specs.Path.{Key, Path}
+use Rattle.allocative.specs.Graph.{Graph, text, joined, size_at, Lacks, HasPlainKeys, HasWords}
 use Rattle.profile_report.specs.declared.compare.Change.{Change}
 use Rattle.profile_report.specs.declared.compare.Side.{Side}
 use Rattle.profile_report.specs.declared.compare.Side.TheVariants.{Earlier, Later}

@@ -3,7 +3,7 @@ ghost use Rattle.std.specs.Prelude.{◌≡◌, ◌≢◌, ℕ, List, ◌∷◌, 
 ghost use Rattle.std.specs.Map.{update};
 ghost use Rattle.std.specs.Str.{bytes_eq};
 ghost use Rattle.std.specs.BTreeMap.{get_by_text};
-ghost use Rattle.allocative_graph.specs.Graph.{Graph};
+ghost use Rattle.allocative.specs.Graph.{Graph};
 ghost use Rattle.profile_report.specs.Compare.{plus, side_of, change_at, AddsRow, RefusesRow, AddsText, NotAdded, ComparesTexts, NotCompared, IsTextOf, ComparesGraphs, report_of};
 
 use std::alloc::{AllocError, Global};

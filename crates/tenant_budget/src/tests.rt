@@ -2,7 +2,7 @@
 #![tactic(auto, using(allocative::proofs::Parts::parts, allocative::proofs::Meaning::entered_refused))]
 
 ghost use Rattle.std.specs.Prelude.{codes, Some, false};
-ghost use Rattle.allocative_graph.specs.Shows.{Nothing};
+ghost use Rattle.allocative.specs.Shows.{Nothing};
 
 use crate::budget::Budget;
 use crate::ledger::Ledger;

@@ -1,7 +1,7 @@
 -- What visits do that refuse by themselves, or hide a refusal.
 use Rattle.std.proofs.Common.{◌≡◌, ◌∙◌, ℕ, Bool, false, Result, Ok, Err, MutBor}
 use Rattle.std.specs.Fn.{Once, FnOnceReturnsAtMut}
-use Rattle.allocative_graph.specs.declared.refusal.Refusal.{Refusal}
+use Rattle.allocative.specs.Refusal.{Refusal}
 use Rattle.allocative.specs.Path.{Key}
 use Rattle.allocative.specs.Collector.{Kind, State, Failed, Going, failed_with, left}
 use Rattle.allocative.specs.Shows.{Showing, Nothing}

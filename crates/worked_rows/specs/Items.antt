@@ -1,6 +1,6 @@
 -- What the items of two collections show.
 use Rattle.std.specs.Prelude.{ℕ, Option, None, Some, codes}
-use Rattle.allocative_graph.specs.Shows.{Showing, Inside, Nothing}
+use Rattle.allocative.specs.Shows.{Showing, Inside, Nothing}
 
 -- One entry, with an entry of an inner size inside it where there is one.
 abbrev pub item_shows : ℕ → Option ℕ → Showing

@@ -2,8 +2,8 @@
 #![tactic(auto, using(allocative::proofs::Showing::showing))]
 
 ghost use Rattle.std.specs.Prelude.{codes, true, false, Some, length, string_bytes, ◌≡◌, IfErr};
-ghost use Rattle.allocative_graph.specs.Shows.{Inside, InsideUnique, Field, Nothing, Both, each_shows, slice_shows};
-ghost use Rattle.allocative_graph.specs.Visits.{Shows, HasFailed};
+ghost use Rattle.allocative.specs.Shows.{Inside, InsideUnique, Field, Nothing, Both, each_shows, slice_shows};
+ghost use Rattle.allocative.specs.Visits.{Shows, HasFailed};
 ghost use Rattle.allocative.specs.Bodies.{slice_of, vec_body};
 ghost use Rattle.allocative.specs.Runs.{pair_shows, field_of};
 

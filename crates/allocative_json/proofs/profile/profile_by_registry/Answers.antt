@@ -3,7 +3,7 @@ use Rattle.std.proofs.lemmas.Grind.{common_steps}
 use denote.Param.Object.{read_made}
 use Rattle.serde_json.specs.View.{view}
 use Rattle.allocative.specs.JsonShows.{value_shows}
-use Rattle.allocative_graph.specs.Shows.{Showing}
+use Rattle.allocative.specs.Shows.{Showing}
 use Rattle.allocative_json.specs.Profile.{index_shows}
 use Rattle.allocative_json.proofs.Reports.{two_roots}
 use Rattle.allocative_json.proofs.profile.profile_by_registry.OwnLists.{own-1}

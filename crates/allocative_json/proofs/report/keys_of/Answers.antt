@@ -1,5 +1,5 @@
 use Rattle.std.proofs.Common.{◌∙◌, ap, sym, Some, None, [], arith}
-use Rattle.allocative_graph.specs.Report.{before_last}
+use Rattle.allocative.specs.Report.{before_last}
 use Rattle.allocative_json.proofs.LinesLemmas.{rsplit_parts, before_none, before_read}
 use Rattle.allocative_json.proofs.report.keys_of.Goals as goal
 

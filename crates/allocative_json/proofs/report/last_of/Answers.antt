@@ -1,5 +1,5 @@
 use Rattle.std.proofs.Common.{◌∙◌, ap, sym, Some, None, [], arith}
-use Rattle.allocative_graph.specs.Report.{after_last}
+use Rattle.allocative.specs.Report.{after_last}
 use Rattle.allocative_json.proofs.LinesLemmas.{rsplit_parts, after_none, after_read}
 use Rattle.allocative_json.proofs.report.last_of.Goals as goal
 

@@ -1,6 +1,6 @@
 use Rattle.std.proofs.Common.{◌≡◌, ◌∙◌, ◌++◌, ◌∷◌, ap, sym, not, true, false, [], codes, string_bytes, rules, arith, append-nil, append_assoc}
 use Rattle.std.specs.Str.{bytes_eq}
-use Rattle.allocative_graph.specs.Report.{last_key, after_last, without_lines}
+use Rattle.allocative.specs.Report.{last_key, after_last, without_lines}
 use Rattle.allocative_json.proofs.LinesLemmas.{line_more, line_none}
 use Rattle.allocative_json.proofs.report.without_unused.Goals as goal
 

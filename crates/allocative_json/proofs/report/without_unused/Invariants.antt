@@ -1,7 +1,7 @@
 use Rattle.std.proofs.Common.{◌≡◌, ◌++◌, codes, string_bytes, length}
 use denote.Text.{Utf8}
 use denote.Shadow.{shadow}
-use Rattle.allocative_graph.specs.Report.{without_lines}
+use Rattle.allocative.specs.Report.{without_lines}
 use Rattle.allocative_json.proofs.report.without_unused.Given as goal
 
 abbrev pub invariant-loop-line : goal.invariant-loop-line

@@ -1,7 +1,7 @@
 use Rattle.std.proofs.Common.{◌≡◌, refl, ◌==◌, sym, subst, List, ℕ, length, None, Some, rules, arith, false, true≢false}
 use Rattle.std.specs.BTreeMap.{get_by_text}
 use Rattle.std.proofs.lemmas.Str.Pattern.{split_parts}
-use Rattle.allocative_graph.specs.Graph.{Lacks}
+use Rattle.allocative.specs.Graph.{Lacks}
 use Rattle.profile_report.specs.Compare.{plus, change_at, NotAdded}
 use Rattle.profile_report.proofs.Lines.{lacks_from, no_line}
 use Rattle.profile_report.proofs.Added.{none_added, one_added, refused_at_row, refused_with}

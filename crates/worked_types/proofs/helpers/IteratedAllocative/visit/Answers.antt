@@ -1,6 +1,6 @@
 use Rattle.std.proofs.Common.{◌∙◌}
 use Rattle.std.proofs.lemmas.Iterator.{YieldsList-from_slice}
-use Rattle.allocative_graph.specs.Shows.{slice_shows}
+use Rattle.allocative.specs.Shows.{slice_shows}
 use Rattle.allocative.proofs.Runs.{shows_list}
 use Rattle.worked_types.proofs.helpers.IteratedAllocative.visit.Goals as goal
 

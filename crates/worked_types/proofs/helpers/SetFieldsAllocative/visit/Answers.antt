@@ -1,6 +1,6 @@
 use Rattle.std.proofs.Common.{◌∙◌, codes, false, Some}
 use Rattle.std.proofs.lemmas.Iterator.{YieldsList-from_slice}
-use Rattle.allocative_graph.specs.Shows.{each_shows, Field, Nothing}
+use Rattle.allocative.specs.Shows.{each_shows, Field, Nothing}
 use Rattle.allocative.specs.Runs.{field_of}
 use Rattle.allocative.proofs.Runs.{inside_list}
 use Rattle.worked_types.proofs.helpers.SetFieldsAllocative.visit.Goals as goal

@@ -1,5 +1,5 @@
 use Rattle.std.proofs.Common.{rules, codes}
-use Rattle.allocative_graph.specs.Shows.{Inside, Nothing}
+use Rattle.allocative.specs.Shows.{Inside, Nothing}
 use Rattle.allocative.proofs.Closures.{with_shows}
 use Rattle.worked_types.proofs.helpers.WithClosureAllocative.visit.Goals as goal
 
