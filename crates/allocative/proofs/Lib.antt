@@ -16,4 +16,4 @@ pub mod Nesting
 -- lemmas of the crate below on graphs and their text, passed on
 pub use Rattle.allocative_graph.proofs.Basics
 pub use Rattle.allocative_graph.proofs.Below
-pub use Rattle.allocative_graph.proofs.Text
+pub use Rattle.allocative_graph.proofs.Text as WrittenText

@@ -11,7 +11,7 @@ use Rattle.std.proofs.lemmas.List.{take-append-drop}
 use Rattle.std.proofs.lemmas.Grind.{flat_map-append}
 use Rattle.allocative.specs.Graph.{Lacks}
 use Rattle.allocative.proofs.Basics.{each-append}
-use Rattle.allocative.proofs.Text.{first_split, last_split, lacks_not, decimal_lacks}
+use Rattle.allocative.proofs.WrittenText.{first_split, last_split, lacks_not, decimal_lacks}
 use Rattle.profile_report.specs.Rows.{Row, line, lines, IsPlain, IsText}
 
 -- ---- numbers

@@ -10,7 +10,7 @@ use Rattle.allocative.specs.Path.{Key, Path, path_cmp, is_same_path}
 use Rattle.allocative.specs.Graph.{Graph, joined, is_root, size_at, Lacks}
 use Rattle.allocative.proofs.Basics.{each-append, same_path, same_path_itself}
 use Rattle.allocative.proofs.Below.{find-below_all}
-use Rattle.allocative.proofs.Text.{Sized, is_shown, full, shown_lines, first_split, lacks_not}
+use Rattle.allocative.proofs.WrittenText.{Sized, is_shown, full, shown_lines, first_split, lacks_not}
 use Rattle.profile_report.specs.declared.compare.Change.{Change}
 use Rattle.profile_report.specs.declared.compare.CompareError.{CompareError}
 use Rattle.profile_report.specs.declared.compare.CompareError.TheVariants.{Memory, NotAProfile, TooLarge}
