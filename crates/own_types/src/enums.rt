@@ -54,9 +54,10 @@ impl Allocative for Request {
         let key = Key::new("Request");
         match self {
             Request::Ping | Request::Stop | Request::Reset => Inside(key, 40, ()).enter(visitor),
-            Request::Count(value) => Inside(key, 40, Field(Key::new("Count"), value)).enter(
-                visitor,
-            ),
+            Request::Count(count) => {
+                let count = Field(Key::new("Count"), count);
+                Inside(key, 40, count).enter(visitor)
+            }
             Request::Find(name) => Inside(key, 40, Field(Key::new("Find"), name)).enter(visitor),
             Request::Drop(names) => Inside(key, 40, Field(Key::new("Drop"), names)).enter(visitor),
             Request::Move(from, to) => {
