@@ -72,7 +72,7 @@ fn profile_by_registry(
 ///
 /// `Fault::NotJson` and `Fault::NotWhole` as from `read_roots`. `Fault::TooLarge` and `Fault::Open` only for a document whose
 /// numbers are whole: the first where the declared sizes pass their bound, the second by no implementation that is here. Else
-/// `Fault::Memory`.
+/// `Fault::Memory`, which no empty input brings about.
 pub fn profile_json(alloc: Global, input: &[u8], index: bool, exact: bool) -> Result<Report, Fault>
     ensures ok { IfOk result (λ made. IsRightReport input.now index exact (string_bytes made.profile) (string_bytes made.warnings)) }
     ensures err { IfErr result (RefusesReport input.now) }
@@ -82,9 +82,11 @@ pub fn profile_json(alloc: Global, input: &[u8], index: bool, exact: bool) -> Re
     report::report(alloc, &output, exact)
 }
 
-/// The same texts, where the roots are boxed and walked by a registry: `profile_roots` in place of the roots' own `visit`.
+/// The texts that stand for the input, made by `profile_roots` over boxed roots: the profile of its document and, with `index`,
+/// of the set of its numbers, and the warnings. With `exact` the profile is without the lines whose last key is
+/// `unused_capacity`.
 ///
-/// The faults are those of `profile_json`.
+/// Each fault comes where it comes from `profile_json`.
 pub fn profile_registered(
     alloc: Global,
     input: &[u8],

@@ -1,5 +1,5 @@
 -- What changed between two profiles.
-use Rattle.std.specs.Prelude.{◌≡◌, ℕ, ◌+◌, ◌==◌, ◌^◌, ◌<◌, ◌≤◌, ◌⊎◌, ⊤, cond, List, ◌++◌, ◌∷◌, [], flat_map, Option, None, Some, String, codes, decimal, string_bytes, unwrap_or}
+use Rattle.std.specs.Prelude.{◌≡◌, ℕ, ◌+◌, ◌==◌, ◌^◌, ◌<◌, ◌≤◌, ◌⊎◌, cond, List, ◌++◌, ◌∷◌, [], flat_map, Option, None, Some, String, codes, decimal, string_bytes, unwrap_or}
 use Rattle.std.specs.List.{AllByRecursion}
 use Rattle.std.specs.Map.{update}
 use Rattle.std.specs.Str.{bytes_eq}

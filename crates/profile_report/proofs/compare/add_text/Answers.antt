@@ -2,9 +2,8 @@ use Rattle.std.proofs.Common.{◌≡◌, refl, ◌==◌, sym, subst, List, ℕ, 
 use Rattle.std.specs.BTreeMap.{get_by_text}
 use Rattle.std.proofs.lemmas.Str.Pattern.{split_parts}
 use Rattle.allocative_graph.specs.Graph.{Lacks}
-use Rattle.profile_report.specs.Rows.{IsText}
 use Rattle.profile_report.specs.Compare.{plus, change_at, NotAdded}
-use Rattle.profile_report.proofs.Lines.{lacks_from, first_line, no_line}
+use Rattle.profile_report.proofs.Lines.{lacks_from, no_line}
 use Rattle.profile_report.proofs.Added.{none_added, one_added, refused_at_row, refused_with}
 use Rattle.profile_report.proofs.compare.add_text.Goals as goal
 
