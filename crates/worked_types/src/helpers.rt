@@ -1,14 +1,15 @@
 // The texts of the helpers, and that a visit by them can succeed.
-#![tactic(auto, using(allocative::proofs::Showing::showing))]
+#![tactic(auto, using(allocative::proofs::Parts::parts))]
 
-ghost use Rattle.std.specs.Prelude.{codes, true, false, Some, length, string_bytes, ◌≡◌, IfErr};
-ghost use Rattle.allocative.specs.Shows.{Inside, InsideUnique, Field, Nothing, Both, each_shows, slice_shows};
-ghost use Rattle.allocative.specs.Visits.{Shows, HasFailed};
+ghost use Rattle.std.specs.Prelude.{codes, true, false, Some, length, string_bytes};
+ghost use Rattle.allocative_graph.specs.Shows as shows;
 ghost use Rattle.allocative.specs.Bodies.{slice_of, vec_body};
 ghost use Rattle.allocative.specs.Runs.{pair_shows, field_of};
 
 use crate::texts::expect_text;
-use allocative::{Allocative, Described, Key, Refusal, Visitor};
+use allocative::{
+    Allocative, Described, FlameGraphBuilder, Inside, Key, Part, Refusal, Unique, Visitor,
+};
 use std::alloc::Global;
 use std::collections::BTreeMap;
 use std::test::Fail;
@@ -44,7 +45,7 @@ impl Described for Byte {
 }
 
 impl Allocative for Byte {
-    ghost may_show = { λ _. Field (codes "u8") (Some 1) Nothing };
+    ghost may_show = { λ _. shows.Field (codes "u8") (Some 1) shows.Nothing };
 
     fn visit(&self, visitor: &mut Visitor<'_>) -> Result<(), Refusal> {
         visitor.visit_simple_sized::<Byte>()
@@ -82,13 +83,11 @@ impl Described for Pair {
 }
 
 impl Allocative for Pair {
-    ghost may_show = { λ _. Inside (codes "Pair") 4 (Inside (codes "a") 1 Nothing) };
+    ghost may_show = { λ _. shows.Inside (codes "Pair") 4 (shows.Inside (codes "a") 1 shows.Nothing) };
 
     fn visit(&self, visitor: &mut Visitor<'_>) -> Result<(), Refusal> {
-        let mut inner = visitor.collector.enter(Key::new("Pair"), 4)?;
-        inner.visit_simple(Key::new("a"), 1)?;
-        inner.exit();
-        Ok(())
+        let a = Inside(Key::new("a"), 1, ());
+        Inside(Key::new("Pair"), 4, a).enter(visitor)
     }
 }
 
@@ -123,7 +122,7 @@ impl Described for DropPair {
 }
 
 impl Allocative for DropPair {
-    ghost may_show = { λ _. Inside (codes "Pair") 4 (Inside (codes "a") 1 Nothing) };
+    ghost may_show = { λ _. shows.Inside (codes "Pair") 4 (shows.Inside (codes "a") 1 shows.Nothing) };
 
     fn visit(&self, visitor: &mut Visitor<'_>) -> Result<(), Refusal> {
         self.0.visit(visitor)
@@ -137,7 +136,7 @@ struct Slice<T> {
 }
 
 impl<T: Allocative + Described> Allocative for Slice<T> {
-    ghost may_show = { λ s. slice_shows T.name T.size T.needs_drop T.may_show s.items.items };
+    ghost may_show = { λ s. shows.slice_shows T.name T.size T.needs_drop T.may_show s.items.items };
 
     fn visit(&self, visitor: &mut Visitor<'_>) -> Result<(), Refusal> {
         visitor.visit_slice(&self.items)
@@ -151,7 +150,7 @@ struct Iterated<T> {
 }
 
 impl<T: Allocative + Described> Allocative for Iterated<T> {
-    ghost may_show = { λ s. slice_shows T.name T.size T.needs_drop T.may_show s.items.items };
+    ghost may_show = { λ s. shows.slice_shows T.name T.size T.needs_drop T.may_show s.items.items };
 
     fn visit(&self, visitor: &mut Visitor<'_>) -> Result<(), Refusal> {
         visitor.visit_iter(self.items.iter())
@@ -165,7 +164,7 @@ struct MapFields {
 }
 
 impl Allocative for MapFields {
-    ghost may_show = { λ m. Inside (codes "data") 8 (each_shows (pair_shows (Some 1) (λ _. Field (codes "u8") (Some 1) Nothing) (Some 1) (λ _. Field (codes "u8") (Some 1) Nothing)) m.entries.entries) };
+    ghost may_show = { λ m. shows.Inside (codes "data") 8 (shows.each_shows (pair_shows (Some 1) (λ _. shows.Field (codes "u8") (Some 1) shows.Nothing) (Some 1) (λ _. shows.Field (codes "u8") (Some 1) shows.Nothing)) m.entries.entries) };
 
     fn visit(&self, visitor: &mut Visitor<'_>) -> Result<(), Refusal> {
         visitor.visit_generic_map_fields(self.entries.iter())
@@ -179,7 +178,7 @@ struct SetFields {
 }
 
 impl Allocative for SetFields {
-    ghost may_show = { λ s. Inside (codes "data") 8 (each_shows (field_of (codes "key") (Some 1) (λ _. Field (codes "u8") (Some 1) Nothing)) s.keys.items) };
+    ghost may_show = { λ s. shows.Inside (codes "data") 8 (shows.each_shows (field_of (codes "key") (Some 1) (λ _. shows.Field (codes "u8") (Some 1) shows.Nothing)) s.keys.items) };
 
     fn visit(&self, visitor: &mut Visitor<'_>) -> Result<(), Refusal> {
         visitor.visit_generic_set_fields(self.keys.iter())
@@ -193,7 +192,7 @@ struct Text {
 }
 
 impl Allocative for Text {
-    ghost may_show = { λ t. Inside (codes "str") (length (string_bytes t.text)) Nothing };
+    ghost may_show = { λ t. shows.Inside (codes "str") (length (string_bytes t.text)) shows.Nothing };
 
     fn visit(&self, visitor: &mut Visitor<'_>) -> Result<(), Refusal> {
         visitor.visit_str(self.text.as_str())
@@ -207,7 +206,7 @@ struct Boxed {
 }
 
 impl Allocative for Boxed {
-    ghost may_show = { λ _. Inside (codes "Box") 8 (InsideUnique (codes "ptr") 8 (Field (codes "u8") (Some 1) Nothing)) };
+    ghost may_show = { λ _. shows.Inside (codes "Box") 8 (shows.InsideUnique (codes "ptr") 8 (shows.Field (codes "u8") (Some 1) shows.Nothing)) };
 
     fn visit(&self, visitor: &mut Visitor<'_>) -> Result<(), Refusal> {
         visitor.visit_boxed_object(&self.byte)
@@ -221,7 +220,7 @@ struct WithField {
 }
 
 impl Allocative for WithField {
-    ghost may_show = { λ _. Field (codes "f") (Some 1) (Field (codes "u8") (Some 1) Nothing) };
+    ghost may_show = { λ _. shows.Field (codes "f") (Some 1) (shows.Field (codes "u8") (Some 1) shows.Nothing) };
 
     fn visit(&self, visitor: &mut Visitor<'_>) -> Result<(), Refusal> {
         visitor.visit_field(Key::new("f"), &self.byte)
@@ -233,7 +232,7 @@ impl Allocative for WithField {
 struct WithClosure;
 
 impl Allocative for WithClosure {
-    ghost may_show = { λ _. Inside (codes "f") 4 (Inside (codes "x") 1 Nothing) };
+    ghost may_show = { λ _. shows.Inside (codes "f") 4 (shows.Inside (codes "x") 1 shows.Nothing) };
 
     fn visit(&self, visitor: &mut Visitor<'_>) -> Result<(), Refusal> {
         visitor.visit_field_with(Key::new("f"), 4, |inner| {
@@ -247,53 +246,13 @@ impl Allocative for WithClosure {
 struct WithSteps;
 
 impl Allocative for WithSteps {
-    ghost may_show = { λ _. Inside (codes "f") 8 (Both (Inside (codes "x") 1 Nothing) (Inside (codes "y") 2 Nothing)) };
+    ghost may_show = { λ _. shows.Inside (codes "f") 8 (shows.Both (shows.Inside (codes "x") 1 shows.Nothing) (shows.Inside (codes "y") 2 shows.Nothing)) };
 
     fn visit(&self, visitor: &mut Visitor<'_>) -> Result<(), Refusal> {
         visitor.visit_field_with(Key::new("f"), 8, |inner| {
             inner.visit_simple(Key::new("x"), 1)?;
             inner.visit_simple(Key::new("y"), 2)
         })
-    }
-}
-
-// Enters as the byte and leaves.
-fn visit_as_value(visitor: &mut Visitor<'_>, byte: &Byte) -> Result<(), Refusal>
-    ensures same_reference { visitor.new.collector.ghost_name ≡ visitor.old.collector.ghost_name }
-    ensures same_outer { visitor.new.outer_is_unique ≡ visitor.old.outer_is_unique }
-    ensures shown { Shows (Field (codes "u8") (Some 1) Nothing) visitor.old.collector.now result visitor.new.collector.now }
-    ensures cause { IfErr result (HasFailed visitor.new.collector.now) }
-{
-    let inner = visitor.collector.enter_self(byte)?;
-    inner.exit();
-    Ok(())
-}
-
-// Enters as the byte's type and leaves.
-fn visit_as_type(visitor: &mut Visitor<'_>) -> Result<(), Refusal>
-    ensures same_reference { visitor.new.collector.ghost_name ≡ visitor.old.collector.ghost_name }
-    ensures same_outer { visitor.new.outer_is_unique ≡ visitor.old.outer_is_unique }
-    ensures shown { Shows (Field (codes "u8") (Some 1) Nothing) visitor.old.collector.now result visitor.new.collector.now }
-    ensures cause { IfErr result (HasFailed visitor.new.collector.now) }
-{
-    let inner = visitor.collector.enter_self_sized::<Byte>()?;
-    inner.exit();
-    Ok(())
-}
-
-// Shows one byte three times, by each call that enters a type's own name and size.
-#[derive(Drop)]
-struct Selves {
-    byte: Byte,
-}
-
-impl Allocative for Selves {
-    ghost may_show = { λ _. Both (Field (codes "u8") (Some 1) Nothing) (Both (Field (codes "u8") (Some 1) Nothing) (Field (codes "u8") (Some 1) Nothing)) };
-
-    fn visit(&self, visitor: &mut Visitor<'_>) -> Result<(), Refusal> {
-        visit_as_value(visitor, &self.byte)?;
-        visit_as_type(visitor)?;
-        visitor.visit_simple_sized::<Byte>()
     }
 }
 
@@ -304,10 +263,22 @@ struct SliceOf {
 }
 
 impl Allocative for SliceOf {
-    ghost may_show = { λ s. slice_of (codes "u8") (Some 1) (λ _. Field (codes "u8") (Some 1) Nothing) s.items.items };
+    ghost may_show = { λ s. slice_of (codes "u8") (Some 1) (λ _. shows.Field (codes "u8") (Some 1) shows.Nothing) s.items.items };
 
     fn visit(&self, visitor: &mut Visitor<'_>) -> Result<(), Refusal> {
         visitor.visit_slice_of(&self.items)
+    }
+}
+
+// The body of a vector of bytes with no room left.
+#[derive(Drop)]
+struct FullBody<'a>(&'a Vec<Byte>);
+
+impl<'a> Part for FullBody<'a> {
+    ghost may_show = { λ b. vec_body (codes "u8") (Some 1) false (λ _. shows.Field (codes "u8") (Some 1) shows.Nothing) b.0.now.items (length b.0.now.items) };
+
+    fn enter(self, visitor: &mut Visitor<'_>) -> Result<(), Refusal> {
+        visitor.visit_vec_like_body(self.0, self.0.len())
     }
 }
 
@@ -318,13 +289,10 @@ struct Body {
 }
 
 impl Allocative for Body {
-    ghost may_show = { λ s. InsideUnique (codes "ptr") 8 (vec_body (codes "u8") (Some 1) false (λ _. Field (codes "u8") (Some 1) Nothing) s.items.items (length s.items.items)) };
+    ghost may_show = { λ s. shows.InsideUnique (codes "ptr") 8 (vec_body (codes "u8") (Some 1) false (λ _. shows.Field (codes "u8") (Some 1) shows.Nothing) s.items.items (length s.items.items)) };
 
     fn visit(&self, visitor: &mut Visitor<'_>) -> Result<(), Refusal> {
-        let mut inner = visitor.collector.enter_unique(Key::new("ptr"), 8)?;
-        inner.visit_vec_like_body(&self.items, self.items.len())?;
-        inner.exit();
-        Ok(())
+        Unique(Key::new("ptr"), 8, FullBody(&self.items)).enter(visitor)
     }
 }
 
@@ -424,10 +392,21 @@ fn closures(rt: HostRuntime) -> Result<(), Fail> {
     expect_text(&rt, alloc, &WithSteps, "f 5\nf;x 1\nf;y 2\n")
 }
 
+// Enters one byte three times, by each call that enters a type's own name and size.
+fn enter_selves(builder: &mut FlameGraphBuilder) -> Result<(), Refusal> {
+    let mut root = builder.root_visitor()?;
+    root.enter_self(&Byte(1))?.exit();
+    root.enter_self_sized::<Byte>()?.exit();
+    root.visit_simple_sized::<Byte>()
+}
+
 #[test]
 fn entries_of_a_declared_type(rt: HostRuntime) -> Result<(), Fail> {
-    let selves = Selves { byte: Byte(1) };
-    expect_text(&rt, rt.alloc(), &selves, "u8 3\n")
+    let mut builder = FlameGraphBuilder::new(rt.alloc())?;
+    enter_selves(&mut builder)?;
+    let text = builder.finish_and_write_flame_graph()?;
+    assert_eq!(rt; text.as_str(), "u8 3\n");
+    Ok(())
 }
 
 fn three_bytes(alloc: Global) -> Result<Vec<Byte>, Fail> {

@@ -1,7 +1,14 @@
+-- What the closure shows stands in the entry.
 use Rattle.std.proofs.Common.{rules, codes}
 use Rattle.allocative.specs.Shows.{Inside, Nothing}
 use Rattle.allocative.proofs.Closures.{with_shows}
 use Rattle.worked_types.proofs.helpers.WithClosureAllocative.visit.Goals as goal
 
-pub returns-clause-shown : goal.returns-clause-shown
-returns-clause-shown c = with_shows _ _ (Inside (codes "x") 1 Nothing) (rw c.new.ensures at c.visit_field_with.ensures.calls) (λ x y r h. search rules)
+pub returns : goal.returns
+returns c =
+    let called = c.visit_field_with.ensures in
+    record {
+      same_reference = called.same_reference;
+      same_outer = called.same_outer;
+      shown = with_shows _ _ (Inside (codes "x") 1 Nothing) (rw c.new.ensures at called.calls) (λ x y r h. search rules);
+    }
