@@ -56,6 +56,3 @@ means_text {u = u} e f g h i j = rw (e, f, g, h, i, j) (record { means = λ x y.
 -- ---- tables
 pub means_no_table : {n : ℕ} → n ≡ 0 → Means Nothing (table_shows n)
 means_no_table e = record { means = λ f h. inl (e, h) }
-
-pub means_some_table : (n : ℕ) (bytes : Option ℕ) → ¬ (n ≡ 0) → IsRawTableSize (Some 8) n bytes → Means (InsideUnique (codes "raw_table") 8 (Field (codes "alloc") bytes Nothing)) (table_shows n)
-means_some_table n bytes some e = record { means = λ f g. inr (omega (arith, some), (bytes, e, g)) }

@@ -27,9 +27,3 @@ members_show-each (e ∷ es) = ap (Both (member_shows (λ v. value_shows (view v
 
 pub means_members : (es : List (String Global × Value)) → Means (each_shows (member_shows (λ v. value_shows (view v))) es) (members_show (members_view es))
 means_members es = rw (members_show-each es) means_same
-
-pub view-Null : view Null ≡ null
-view-Null = search (rules, the_lemmas)
-
-pub view-Bool : (b : _) → view (Bool b) ≡ boolean b
-view-Bool b = search (rules, the_lemmas)

@@ -7,7 +7,7 @@ use Rattle.allocative_graph.specs.Shows.{Showing, IsField, sized, each_shows, In
 use Rattle.allocative.specs.Bodies.{IsBuffer, buffer_shows, bytes_shown, without_size, without_items, with_room}
 use Rattle.allocative.specs.StdShows.{option_inside, in_any_order}
 use Rattle.allocative.specs.Visited.{Means}
-use Rattle.allocative.specs.Levels.{Level, same, child, both, inside, unique, field, buffer, optional, each, unordered, level_shows, levels_shown, IsOfLevels, recursive}
+use Rattle.allocative.specs.Levels.{Level, plain, child, both, inside, unique, field, buffer, optional, each, unordered, level_shows, levels_shown, recursive}
 use Rattle.allocative.proofs.Meaning.{means_same, means_inside, means_unique, means_field, means_both}
 use Rattle.allocative.proofs.ContainerMeaning.{means_buffer}
 
@@ -24,7 +24,7 @@ means_optional y m None = means_same
 means_optional y m (Some x) = means_field refl refl (m x)
 
 means_level : {T : Type 0} {p q : T → Showing} → ((x : T) → Means (p x) (q x)) → (l : Level T) → Means (level_shows p l) (level_shows q l)
-means_level m (same s) = means_same
+means_level m (plain s) = means_same
 means_level m (child x) = m x
 means_level m (both a b) = means_both (means_level m a) (means_level m b)
 means_level m (inside k n a) = means_inside refl (means_level m a)
@@ -83,7 +83,7 @@ optional_found y s None f e = (0, e)
 optional_found y s (Some x) f e = field_found (codes "Some") y (s x) f e
 
 level_found : {T : Type 0} (w : T → Level T) (l : Level T) → Found (λ k. level_shows (levels_shown w k) l) (level_shows (recursive w) l)
-level_found w (same s) f y = (0, y)
+level_found w (plain s) f y = (0, y)
 level_found w (child x) f y = (y.depth, y.shown)
 level_found w (both a b) f y = both_found (λ k j. means_level (levels_more w k j) a) (λ k j. means_level (levels_more w k j) b) (level_found w a) (level_found w b) f y
 level_found w (inside k n a) f y = inside_found false k n (level_found w a) f y
@@ -101,12 +101,3 @@ one_level_more w x f y = let m = level_found w (w x) f y in record { depth = suc
 
 pub means_recursive : {T : Type 0} {w : T → Level T} {x : T} {p : Showing} → Means p (level_shows (recursive w) (w x)) → Means p (recursive w x)
 means_recursive {w = w} {x = x} m = record { means = λ f y. one_level_more w x f (m.means f y) }
-
--- a value of some levels shows what its first level shows
-opened : {T : Type 0} (w : T → Level T) (x : T) (k : ℕ) (f : Forest) → levels_shown w k x f → level_shows (recursive w) (w x) f
-opened w x zero f y = absurd y
-opened w x (suc k) f y = (means_level (λ z. record { means = λ g v. record { depth = k; shown = v } }) (w x)).means f y
-
--- and what a value shows is what one of its levels shows
-pub recursive_opens : {T : Type 0} (w : T → Level T) (x : T) → Means (recursive w x) (level_shows (recursive w) (w x))
-recursive_opens w x = record { means = λ f y. opened w x y.depth f y.shown }

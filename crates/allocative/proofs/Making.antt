@@ -73,10 +73,6 @@ makes_then_refused q (Ok u) h i m = absurd (false≢true h)
 makes_then_refused q (Err x) h i m = then_refused q (rw i at m)
 
 -- a refusal that is passed on
-pub makes_err : {p : Plan} {s t : State} {e : Refusal} (r : Result Unit Refusal) → IsErr r → e ≡ err_or e r → Makes p s (Err e) t → Makes p s r t
-makes_err (Ok u) h i m = absurd (false≢true h)
-makes_err (Err x) h i m = rw i at m
-
 -- ---- slices
 pub makes_plain : {T : Type 0} (name : Key) (size : Option ℕ) (needs_drop : Bool) (xs : List T) {s t : State} {r : Result Unit Refusal} → are_shown_each needs_drop size ≡ false →
     Makes (one name (size_product size (Some (length xs)))) s r t → Makes (slice_plan name size needs_drop xs) s r t

@@ -63,17 +63,17 @@ entered_refused {q = q} {e = e} h = record { same_reference = h.same_reference; 
 pub entered_snoc : {T : Type 0} (p : T → Showing) (xs : List T) (x : T) {a b c : Visitor} {u v w : Unit {0}} →
     Entered (each_shows p xs) a b (Ok u) → Entered (p x) b c (Ok v) → Entered (each_shows p (xs ++ x ∷ [])) a c (Ok w)
 entered_snoc p xs x f s = record {
-    same_reference = s.same_reference ∙ f.same_reference;
-    same_outer = s.same_outer ∙ f.same_outer;
-    shown = shows_snoc p xs x f.shown s.shown;
-    cause = tt
-  }
+  same_reference = s.same_reference ∙ f.same_reference;
+  same_outer = s.same_outer ∙ f.same_outer;
+  shown = shows_snoc p xs x f.shown s.shown;
+  cause = tt;
+}
 
 pub entered_one_more : {T : Type 0} (p : T → Showing) (xs : List T) (i : ℕ) (x : T) {a b c : Visitor} {u v w : Unit {0}} →
     Entered (each_shows p (take i xs)) a b (Ok u) → Entered (p x) b c (Ok v) → i < length xs → x ≡ get_or xs i x → Entered (each_shows p (take (i + 1) xs)) a c (Ok w)
 entered_one_more p xs i x f s h e = record {
-    same_reference = s.same_reference ∙ f.same_reference;
-    same_outer = s.same_outer ∙ f.same_outer;
-    shown = shows_one_more p xs i x f.shown s.shown h e;
-    cause = tt
-  }
+  same_reference = s.same_reference ∙ f.same_reference;
+  same_outer = s.same_outer ∙ f.same_outer;
+  shown = shows_one_more p xs i x f.shown s.shown h e;
+  cause = tt;
+}

@@ -4,7 +4,7 @@ use Rattle.allocative_graph.specs.declared.refusal.Refusal.{Refusal}
 use Rattle.allocative_graph.specs.Forest.{Forest, Empty, followed_by, met_after, Fits, own, all}
 use Rattle.allocative_graph.specs.Sums.{add_all, sums_of}
 use Rattle.allocative_graph.specs.Meaning.{IsWhole, content_of}
-use Rattle.allocative_graph.specs.Graph.{Graph, graph, warnings, sum_of}
+use Rattle.allocative_graph.specs.Graph.{Graph, graph, warnings, warned_paths, sum_of}
 use Rattle.allocative_graph.specs.Held.{held, ShowsNoContent}
 use Rattle.allocative_graph.specs.Collector.{added as added_entries, Kind, OfGraph, OfHeld, State, Failed, Going, leave, plus, Takes, visitors, is_graph, begin, is_in_unique, IsClosed, IsAtRoot, left, nothing_held, no_entries}
 use Rattle.allocative_graph.specs.Shows.{Showing, Nothing, Both, each_shows}
@@ -148,8 +148,8 @@ runs_unsettled p (Failed r) e h = (h, refl)
 runs_unsettled p (Going b) e h = (h.0, h.1, (λ n. refl), refl)
 
 -- ---- a whole run
-profile_by_sums : (p : Showing) (o : Profile) (f : Forest) → p f → IsWhole f → o.graph ≡ graph (sums_of (all f)) → o.warnings ≡ warnings (sums_of (all f)) → IsProfileOf p o
-profile_by_sums p o f a w g k =
+profile_by_sums : (p : Showing) (o : Profile) (f : Forest) → p f → IsWhole f → o.graph ≡ graph (sums_of (all f)) → o.warnings ≡ warnings (sums_of (all f)) → o.warned ≡ warned_paths (sums_of (all f)) → IsProfileOf p o
+profile_by_sums p o f a w g k h =
     let is = all_is_meaning f w in
     record {
       shown = f;
@@ -159,6 +159,7 @@ profile_by_sums p o f a w g k =
       meaning = is;
       graph_is = λ m im. g ∙ ap graph (one_sums (own f) (content_of f) (all f) m is im);
       warnings_are = λ m im. k ∙ ap warnings (one_sums (own f) (content_of f) (all f) m is im);
+      warned_are = λ m im. h ∙ ap warned_paths (one_sums (own f) (content_of f) (all f) m is im);
     }
 
 pub profile_by_run : (p : Showing) (s t : State) (u : Unit) (o : Profile) → s ≡ Going (OfGraph no_entries) → Runs p s (Ok u) t → Ends IsProfile t (Ok o) → IsProfileOf p o
@@ -169,7 +170,7 @@ profile_by_run p (Going b) (Going c) u o e (z, f, a, t, g) k =
     let t' : Fits no_entries.met f = subst (λ (x : Kind). Takes x f) i t in
     let g' : c ≡ plus (OfGraph no_entries) f = rw i at g in
     let k' : Ends IsProfile (Going (plus (OfGraph no_entries) f)) (Ok o) = subst (λ (x : Kind). Ends IsProfile (Going x) (Ok o)) g' k in
-    profile_by_sums p o f a t' k'.1.0 k'.1.1
+    profile_by_sums p o f a t' k'.1.0 k'.1.1 k'.1.2
 
 pub graph_by_run : (p : Showing) (s t : State) (u : Unit) (o : Profile) (g : Graph) → s ≡ Going (OfGraph no_entries) → Runs p s (Ok u) t → Ends IsProfile t (Ok o) → g ≡ o.graph → IsGraphOf p g
 graph_by_run p (Failed r) t u o g e h k i = absurd (failed_not_going _ r e)

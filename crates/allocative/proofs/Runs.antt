@@ -30,11 +30,11 @@ shows_next v p xs x s t = rw map-append (shows_snoc p (map v xs) (v x) s t)
 pub entered_next : {A B : Type 0} (v : A → B) (p : B → Showing) (xs : List A) (x : A) {a b c : Visitor} {u w y : Unit {0}} →
     Entered (each_shows p (map v xs)) a b (Ok u) → Entered (p (v x)) b c (Ok w) → Entered (each_shows p (map v (xs ++ x ∷ []))) a c (Ok y)
 entered_next v p xs x f s = record {
-    same_reference = s.same_reference ∙ f.same_reference;
-    same_outer = s.same_outer ∙ f.same_outer;
-    shown = shows_next v p xs x f.shown s.shown;
-    cause = tt
-  }
+  same_reference = s.same_reference ∙ f.same_reference;
+  same_outer = s.same_outer ∙ f.same_outer;
+  shown = shows_next v p xs x f.shown s.shown;
+  cause = tt;
+}
 
 pub entered_run : {S A B : Type 0} {steps : S → Option A → S → Type 0} {s : S} (v : A → B) (q : List B → Showing) (xs : List A) {a b : Visitor} {r : Result (Unit {0}) Refusal} →
     Drains steps s xs → Entered (q (map v xs)) a b r → Entered (IsOfRun steps s v q) a b r
@@ -55,12 +55,6 @@ pub entered_any_order : {S A B : Type 0} {steps : S → Option A → S → Type 
 entered_any_order {p = p} {all = all} y h = entered_as (entered_list {q = each_shows p} y h) (record { means = λ f x. (all, IsPermutation-refl all, x) })
 
 -- ---- the count of a run
-count_one_more : (n : ℕ) → size_sum (checked n) (Some 1) ≡ checked (n + 1)
-count_one_more n = grind (arith, nat_tests)
-
-pub count_more : {A : Type 0} (xs : List A) (x : A) {n m : Option ℕ} → n ≡ checked (length xs) → m ≡ size_sum n (Some 1) → m ≡ checked (length (xs ++ x ∷ []))
-count_more xs x e i = rw (length-append, i, e) (count_one_more (length xs))
-
 is_counted : (n : ℕ) → (checked n ≡ Some n) ⊎ (checked n ≡ None)
 is_counted n = grind (arith, nat_tests)
 

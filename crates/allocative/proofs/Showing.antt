@@ -150,63 +150,6 @@ pub shared_err : {p q : Showing} {k : Key} {n : ℕ} {i : Identity} {w : Bool} {
     EntersShared k n i s (Ok true) t → a ≡ t → Shows p a (Err z) c → Leaves w c d → Shows q s (Err x) d
 shared_err {p = p} {w = w} {c = c} {z = y} (enters_first {d = d} r f e) i s l = rw (left_by l) (inside_failed w (subst (λ (z : State). Shows p z (Err y) c) i s))
 
--- ---- several parts in one entry, and the last of them refused
-pub field_err_2 : {k : Key} {y : Option ℕ} {p1 p2 r : Showing} {o q : Bool} {s t b1 c d : State} {v1 : Unit} {z x : Refusal} →
-    EntersSized k y s (Ok o) t → Shows p1 t (Ok v1) b1 → Shows p2 b1 (Err z) c → Leaves q c d → Shows r s (Err x) d
-field_err_2 g h1 h2 l = field_err g refl (shows_both h1 h2) l
-
-pub field_shows_2 : {k : Key} {y : Option ℕ} {p1 p2 : Showing} {o q : Bool} {s t b1 c d : State} {v1 w x : Unit} →
-    EntersSized k y s (Ok o) t → Shows p1 t (Ok v1) b1 → Shows p2 b1 (Ok w) c → Leaves q c d → q ≡ o → Shows (Field k y (Both p1 p2)) s (Ok x) d
-field_shows_2 g h1 h2 l e = field_shows g refl (shows_both h1 h2) l e
-
-pub field_err_3 : {k : Key} {y : Option ℕ} {p1 p2 p3 r : Showing} {o q : Bool} {s t b1 b2 c d : State} {v1 v2 : Unit} {z x : Refusal} →
-    EntersSized k y s (Ok o) t → Shows p1 t (Ok v1) b1 → Shows p2 b1 (Ok v2) b2 → Shows p3 b2 (Err z) c → Leaves q c d → Shows r s (Err x) d
-field_err_3 g h1 h2 h3 l = field_err g refl (shows_both h1 (shows_both h2 h3)) l
-
-pub field_shows_3 : {k : Key} {y : Option ℕ} {p1 p2 p3 : Showing} {o q : Bool} {s t b1 b2 c d : State} {v1 v2 w x : Unit} →
-    EntersSized k y s (Ok o) t → Shows p1 t (Ok v1) b1 → Shows p2 b1 (Ok v2) b2 → Shows p3 b2 (Ok w) c → Leaves q c d → q ≡ o → Shows (Field k y (Both p1 (Both p2 p3))) s (Ok x) d
-field_shows_3 g h1 h2 h3 l e = field_shows g refl (shows_both h1 (shows_both h2 h3)) l e
-
-pub field_err_4 : {k : Key} {y : Option ℕ} {p1 p2 p3 p4 r : Showing} {o q : Bool} {s t b1 b2 b3 c d : State} {v1 v2 v3 : Unit} {z x : Refusal} →
-    EntersSized k y s (Ok o) t → Shows p1 t (Ok v1) b1 → Shows p2 b1 (Ok v2) b2 → Shows p3 b2 (Ok v3) b3 → Shows p4 b3 (Err z) c → Leaves q c d → Shows r s (Err x) d
-field_err_4 g h1 h2 h3 h4 l = field_err g refl (shows_both h1 (shows_both h2 (shows_both h3 h4))) l
-
-pub field_shows_4 : {k : Key} {y : Option ℕ} {p1 p2 p3 p4 : Showing} {o q : Bool} {s t b1 b2 b3 c d : State} {v1 v2 v3 w x : Unit} →
-    EntersSized k y s (Ok o) t → Shows p1 t (Ok v1) b1 → Shows p2 b1 (Ok v2) b2 → Shows p3 b2 (Ok v3) b3 → Shows p4 b3 (Ok w) c → Leaves q c d → q ≡ o → Shows (Field k y (Both p1 (Both p2 (Both p3 p4)))) s (Ok x) d
-field_shows_4 g h1 h2 h3 h4 l e = field_shows g refl (shows_both h1 (shows_both h2 (shows_both h3 h4))) l e
-
-pub field_err_5 : {k : Key} {y : Option ℕ} {p1 p2 p3 p4 p5 r : Showing} {o q : Bool} {s t b1 b2 b3 b4 c d : State} {v1 v2 v3 v4 : Unit} {z x : Refusal} →
-    EntersSized k y s (Ok o) t → Shows p1 t (Ok v1) b1 → Shows p2 b1 (Ok v2) b2 → Shows p3 b2 (Ok v3) b3 → Shows p4 b3 (Ok v4) b4 → Shows p5 b4 (Err z) c → Leaves q c d → Shows r s (Err x) d
-field_err_5 g h1 h2 h3 h4 h5 l = field_err g refl (shows_both h1 (shows_both h2 (shows_both h3 (shows_both h4 h5)))) l
-
-pub field_shows_5 : {k : Key} {y : Option ℕ} {p1 p2 p3 p4 p5 : Showing} {o q : Bool} {s t b1 b2 b3 b4 c d : State} {v1 v2 v3 v4 w x : Unit} →
-    EntersSized k y s (Ok o) t → Shows p1 t (Ok v1) b1 → Shows p2 b1 (Ok v2) b2 → Shows p3 b2 (Ok v3) b3 → Shows p4 b3 (Ok v4) b4 → Shows p5 b4 (Ok w) c → Leaves q c d → q ≡ o → Shows (Field k y (Both p1 (Both p2 (Both p3 (Both p4 p5))))) s (Ok x) d
-field_shows_5 g h1 h2 h3 h4 h5 l e = field_shows g refl (shows_both h1 (shows_both h2 (shows_both h3 (shows_both h4 h5)))) l e
-
-pub entry_err_2 : {k : Key} {u : Bool} {n : ℕ} {p1 p2 r : Showing} {o q : Bool} {s t b1 c d : State} {v1 : Unit} {z x : Refusal} →
-    Enters u k n s (Ok o) t → Shows p1 t (Ok v1) b1 → Shows p2 b1 (Err z) c → Leaves q c d → Shows r s (Err x) d
-entry_err_2 g h1 h2 l = entry_err g refl (shows_both h1 h2) l
-
-pub inline_shows_2 : {k : Key} {n : ℕ} {p1 p2 : Showing} {o q : Bool} {s t b1 c d : State} {v1 w x : Unit} →
-    Enters false k n s (Ok o) t → Shows p1 t (Ok v1) b1 → Shows p2 b1 (Ok w) c → Leaves q c d → q ≡ o → Shows (Inside k n (Both p1 p2)) s (Ok x) d
-inline_shows_2 g h1 h2 l e = inline_shows g refl (shows_both h1 h2) l e
-
-pub unique_shows_2 : {k : Key} {n : ℕ} {p1 p2 : Showing} {o q : Bool} {s t b1 c d : State} {v1 w x : Unit} →
-    Enters true k n s (Ok o) t → Shows p1 t (Ok v1) b1 → Shows p2 b1 (Ok w) c → Leaves q c d → q ≡ o → Shows (InsideUnique k n (Both p1 p2)) s (Ok x) d
-unique_shows_2 g h1 h2 l e = unique_shows g refl (shows_both h1 h2) l e
-
-pub entry_err_3 : {k : Key} {u : Bool} {n : ℕ} {p1 p2 p3 r : Showing} {o q : Bool} {s t b1 b2 c d : State} {v1 v2 : Unit} {z x : Refusal} →
-    Enters u k n s (Ok o) t → Shows p1 t (Ok v1) b1 → Shows p2 b1 (Ok v2) b2 → Shows p3 b2 (Err z) c → Leaves q c d → Shows r s (Err x) d
-entry_err_3 g h1 h2 h3 l = entry_err g refl (shows_both h1 (shows_both h2 h3)) l
-
-pub inline_shows_3 : {k : Key} {n : ℕ} {p1 p2 p3 : Showing} {o q : Bool} {s t b1 b2 c d : State} {v1 v2 w x : Unit} →
-    Enters false k n s (Ok o) t → Shows p1 t (Ok v1) b1 → Shows p2 b1 (Ok v2) b2 → Shows p3 b2 (Ok w) c → Leaves q c d → q ≡ o → Shows (Inside k n (Both p1 (Both p2 p3))) s (Ok x) d
-inline_shows_3 g h1 h2 h3 l e = inline_shows g refl (shows_both h1 (shows_both h2 h3)) l e
-
-pub unique_shows_3 : {k : Key} {n : ℕ} {p1 p2 p3 : Showing} {o q : Bool} {s t b1 b2 c d : State} {v1 v2 w x : Unit} →
-    Enters true k n s (Ok o) t → Shows p1 t (Ok v1) b1 → Shows p2 b1 (Ok v2) b2 → Shows p3 b2 (Ok w) c → Leaves q c d → q ≡ o → Shows (InsideUnique k n (Both p1 (Both p2 p3))) s (Ok x) d
-unique_shows_3 g h1 h2 h3 l e = unique_shows g refl (shows_both h1 (shows_both h2 h3)) l e
-
 -- ---- refusals
 -- a result that is some Err
 pub any_err : {p : Showing} {s t : State} {e : Refusal} (r : Result Unit Refusal) → IsErr r → Shows p s (Err e) t → Shows p s r t
@@ -334,7 +277,4 @@ shows_one_more p xs i x f s h e =
     rw (e', ← e) (shows_weaker (each_and_one p (take i xs) x) (shows_both f s))
 
 -- what implementations go by
-pub ruleset showing = (left_cause, leaves_by_left, shows_nothing, shows_both, shows_both_err, shows_err, inline_shows, unique_shows, field_shows, inline_alone, unique_alone, field_alone, shared_shows, content_shows, again_shows, entry_err, field_err, shared_err, field_err_2, field_shows_2, field_err_3, field_shows_3, field_err_4, field_shows_4, field_err_5, field_shows_5, entry_err_2, inline_shows_2, unique_shows_2, entry_err_3, inline_shows_3, unique_shows_3, not_entered, not_sized, not_shared, not_entered_cause, not_sized_cause, shows_refused, shows_refused_err, shows_hidden, shows_forgotten, answers_err, goes_in_refused, goes_in, goes_in_plain_refused, goes_in_plain, refused_as, makes_keeps, kept_after)
-
--- the same for one entry with one part, where the part's clause is long
-pub ruleset one_part = (left_cause, leaves_by_left, inline_shows, unique_shows, field_shows, entry_err, field_err, not_entered, not_sized, not_entered_cause, not_sized_cause, goes_in_plain_refused, goes_in_plain)
+pub ruleset showing = (left_cause, leaves_by_left, shows_nothing, shows_both, shows_both_err, shows_err, inline_shows, unique_shows, field_shows, inline_alone, unique_alone, field_alone, shared_shows, content_shows, again_shows, entry_err, field_err, shared_err, not_entered, not_sized, not_shared, not_entered_cause, not_sized_cause, shows_refused, shows_refused_err, shows_hidden, shows_forgotten, answers_err, goes_in_refused, goes_in, goes_in_plain_refused, goes_in_plain, refused_as, makes_keeps, kept_after)

@@ -6,9 +6,9 @@ use Rattle.allocative_graph.specs.Shows.{Showing, Both, Inside, InsideUnique, Fi
 use Rattle.allocative.specs.Bodies.{buffer_shows}
 use Rattle.allocative.specs.StdShows.{option_inside, in_any_order}
 
--- What a value shows, in words: values of T stand in it by name.
+-- One level of what a value shows, put together from its parts: a value of T below it stands in it as a child, and what names no such value is plain.
 pub data Level (T : Type 0) : Type 1 where
-  same : Showing → Level T
+  plain : Showing → Level T
   child : T → Level T
   both : Level T → Level T → Level T
   inside : Key → ℕ → Level T → Level T
@@ -19,9 +19,9 @@ pub data Level (T : Type 0) : Type 1 where
   each : {A : Type 0} → (A → Level T) → List A → Level T
   unordered : {A : Type 0} → (A → Level T) → List A → Level T
 
--- The forests of a level, where p says what the values named in it show.
+-- The forests of a level, where p says what its children show.
 abbrev pub level_shows : {T : Type 0} → (T → Showing) → Level T → Showing
-level_shows p (same s) = s
+level_shows p (plain s) = s
 level_shows p (child x) = p x
 level_shows p (both a b) = Both (level_shows p a) (level_shows p b)
 level_shows p (inside k n a) = Inside k n (level_shows p a)
@@ -32,7 +32,7 @@ level_shows p (optional size w o) = option_inside size (λ x. level_shows p (w x
 level_shows p (each w xs) = each_shows (λ x. level_shows p (w x)) xs
 level_shows p (unordered w xs) = in_any_order (λ x. level_shows p (w x)) xs
 
--- The forests of a value of less than k levels.
+-- The forests of a value of at most k levels, where w says what one level shows.
 abbrev pub levels_shown : {T : Type 0} → (T → Level T) → ℕ → T → Showing
 levels_shown w zero x = λ f. ⊥
 levels_shown w (suc k) x = level_shows (levels_shown w k) (w x)
@@ -42,11 +42,11 @@ pub record IsOfLevels {T : Type 0} (w : T → Level T) (x : T) (f : Forest) : Ty
   pub depth : ℕ
   pub shown : levels_shown w depth x f
 
--- The same, as a showing.
+-- What a value that holds values of its own type may show, where w says what one level shows.
 abbrev pub recursive : {T : Type 0} → (T → Level T) → T → Showing
 recursive w x = IsOfLevels w x
 
--- What a `Vec` shows of its items, which need a drop and have s bytes each, where w says what an item shows.
+-- What a `Vec` shows of its items, which need a drop and have s bytes each, s not 0, where w says what an item shows.
 abbrev pub vec_of : {T A : Type 0} → ℕ → (A → Level T) → List A → Level T
 vec_of s w xs = field (codes "Vec") (Some 24) (buffer (Some s) (each w xs) (length xs))
 
@@ -60,7 +60,7 @@ option_of size s w o = field (codes "Option") (Some size) (optional (Some s) w o
 
 -- What the pairs of a map show: a field for the key, which shows what p allows, and one for the value, which has s bytes.
 abbrev pub pair_of : {T K V : Type 0} → Option ℕ → (K → Showing) → ℕ → (V → Level T) → K × V → Level T
-pair_of key_size p s w e = both (same (Field (codes "key") key_size (p e.0))) (field (codes "value") (Some s) (w e.1))
+pair_of key_size p s w e = both (plain (Field (codes "key") key_size (p e.0))) (field (codes "value") (Some s) (w e.1))
 
 -- What a `BTreeMap` shows of its entries, in the order of the keys, where w says what an entry shows.
 abbrev pub btree_map_of : {T E : Type 0} → (E → Level T) → List E → Level T

@@ -79,7 +79,8 @@ impl<'a, T: Allocative + Described + Ord> Part for FieldEach<&'a BTreeSet<T>> {
     ghost may_show = { λ s. shows.each_shows (field_of s.0 T.size T.may_show) s.1.now.keys };
 
     fn enter(self, visitor: &mut Visitor<'_>) -> Result<(), Refusal> {
-        visitor.visit_fields(self.0, self.1.iter())
+        let FieldEach(key, set) = self;
+        visitor.visit_fields(key, set.iter())
     }
 }
 
@@ -87,7 +88,8 @@ impl<'a, T: Allocative + Described + Eq + Hash> Part for FieldEach<&'a HashSet<T
     ghost may_show = { λ s. in_any_order (field_of s.0 T.size T.may_show) s.1.now.keys };
 
     fn enter(self, visitor: &mut Visitor<'_>) -> Result<(), Refusal> {
-        visitor.visit_fields(self.0, self.1.iter())
+        let FieldEach(key, hashed) = self;
+        visitor.visit_fields(key, hashed.iter())
     }
 }
 
@@ -95,7 +97,8 @@ impl<'a, T: Allocative + Described + Eq + Hash> Part for FieldEach<&'a IndexSet<
     ghost may_show = { λ s. shows.each_shows (field_of s.0 T.size T.may_show) s.1.now.keys };
 
     fn enter(self, visitor: &mut Visitor<'_>) -> Result<(), Refusal> {
-        visitor.visit_fields(self.0, self.1.iter())
+        let FieldEach(key, indexed) = self;
+        visitor.visit_fields(key, indexed.iter())
     }
 }
 
@@ -108,7 +111,8 @@ impl<'a, K: Allocative + Described + Ord, V: Allocative + Described> Part
     ghost may_show = { λ m. shows.each_shows (pair_shows K.size K.may_show V.size V.may_show) m.0.now.entries };
 
     fn enter(self, visitor: &mut Visitor<'_>) -> Result<(), Refusal> {
-        visitor.visit_pairs(self.0.iter())
+        let Pairs(map) = self;
+        visitor.visit_pairs(map.iter())
     }
 }
 
@@ -117,7 +121,8 @@ impl<'a, K: Allocative + Described + Eq + Hash, V: Allocative + Described> Part
     ghost may_show = { λ m. in_any_order (pair_shows K.size K.may_show V.size V.may_show) m.0.now.entries };
 
     fn enter(self, visitor: &mut Visitor<'_>) -> Result<(), Refusal> {
-        visitor.visit_pairs(self.0.iter())
+        let Pairs(hashed) = self;
+        visitor.visit_pairs(hashed.iter())
     }
 }
 
@@ -126,7 +131,8 @@ impl<'a, K: Allocative + Described + Eq + Hash, V: Allocative + Described> Part
     ghost may_show = { λ m. shows.each_shows (pair_shows K.size K.may_show V.size V.may_show) m.0.now.entries };
 
     fn enter(self, visitor: &mut Visitor<'_>) -> Result<(), Refusal> {
-        visitor.visit_pairs(self.0.iter())
+        let Pairs(indexed) = self;
+        visitor.visit_pairs(indexed.iter())
     }
 }
 

@@ -177,7 +177,6 @@ impl Visitor<'_> {
     ///
     /// A collector that has failed answers its first cause. The entry is refused as `enter` is, and the fields as
     /// `visit_field` is. The iterator is one that can be asked for its next item and that ends.
-    #[tactic(auto, using(crate::proofs::Showing::one_part))]
     pub fn visit_generic_map_fields<
         'a,
         K: Allocative + Described + 'a,
@@ -198,7 +197,6 @@ impl Visitor<'_> {
 
     /// The inline entry `data` of 8 bytes, and in it a field `key` for each key that the iterator gives. It is refused as
     /// `visit_generic_map_fields` is.
-    #[tactic(auto, using(crate::proofs::Showing::one_part))]
     pub fn visit_generic_set_fields<
         'a,
         K: Allocative + Described + 'a,

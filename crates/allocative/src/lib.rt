@@ -7,8 +7,8 @@
 pub mod allocative_trait;
 pub mod builder;
 pub mod collector;
-pub mod impls;
 mod containers;
+pub mod impls;
 mod iterators;
 pub mod part;
 pub mod registry;
@@ -26,11 +26,11 @@ pub use crate::registry::{Registry, profile_roots};
 pub use crate::size_of::{size_of_unique, size_of_unique_allocated_data};
 pub use crate::two::profile_in_two;
 pub use crate::visitor::Visitor;
-pub use allocative_collectors::output::FlameGraphOutput;
+pub use allocative_collectors::output::{FlameGraphOutput, WarnedPath};
 pub use allocative_described::{
     Described, raw_table_alloc_size_for_len, raw_table_law, shared_inner_size, up_law,
 };
-pub use allocative_graph::flamegraph::FlameGraph;
+pub use allocative_graph::flamegraph::{Child, FlameGraph, Row};
 pub use allocative_graph::ident_key;
 pub use allocative_graph::key::Key;
 pub use allocative_graph::laws::{merge_law, order_law, text_law};

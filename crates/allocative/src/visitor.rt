@@ -73,7 +73,11 @@ impl Collector {
     }
 
     /// Enters inline with a declared size: the same as `enter`, and TooLarge where there is no size.
-    pub(crate) fn enter_sized(&mut self, key: Key, size: Option<usize>) -> Result<Visitor<'_>, Refusal>
+    pub(crate) fn enter_sized(
+        &mut self,
+        key: Key,
+        size: Option<usize>,
+    ) -> Result<Visitor<'_>, Refusal>
         ensures* lent { sem 𝓛 (LendsSized key size self.entry result) }
         ensures same_reference { IfOk result (λ v. v.collector.ghost_name ≡ self.entry.ghost_name) }
         ensures entered { IfOk result (λ v. EntersSized key size self.old (Ok v.outer_is_unique) v.collector.now) }

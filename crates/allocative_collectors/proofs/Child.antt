@@ -62,6 +62,18 @@ module _ (ns : List Shape) (ok : IsArena ns) (p : ℕ) (hp : p < length ns) (k :
         path = at.1;
       }
 
+  -- an entry of nothing at a node with this parent and this key
+  pub stands_entered : (i : ℕ) → 0 < i → i < length ns → parent_at ns i ≡ p → key_at ns i ≡ k → IsEntered (sums ns) (sums ns) p k 0 false i
+  stands_entered i pos hi parent key =
+      let listed = ok.listed i pos hi in
+      let there : listed.place < length (children_at ns p) = subst (λ (q : ℕ). listed.place < length (children_at ns q)) parent listed.in_range in
+      let is : get_or (children_at ns p) listed.place 0 ≡ i = subst (λ (q : ℕ). get_or (children_at ns q) listed.place 0 ≡ i) parent listed.is in
+      let found : IsPlace (keys_at ns p) k listed.place = record {
+        in_range = omega (arith, length-keys_of ns (children_at ns p));
+        has_key = key_in-keys_of ns (children_at ns p) listed.place there ∙ (ap (key_at ns) is ∙ key);
+      } in
+      subst (λ (j : ℕ). IsEntered (sums ns) (sums ns) p k 0 false j) is (was_entered listed.place found)
+
   -- a key in a gap was entered nowhere
   pub path_new : (g : ℕ) → IsGap (keys_at ns p) k g → (i : ℕ) → i < length (sums ns) → path_at (sums ns) i ≢ path_at (sums ns) p ++ k ∷ []
   path_new g gap zero h e = not_nil _ k (sym e ∙ (path_sums ns 0 ok.rooted ∙ paths_root ns))

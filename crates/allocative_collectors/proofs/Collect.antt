@@ -1,11 +1,11 @@
 -- The parts of a graph's collector after each step: one entry more, down and back, and the identities met.
-use Rattle.std.proofs.Common.{◌≡◌, ℕ, suc, pred, ◌+◌, ◌-◌, ◌^◌, ◌<◌, Bool, true, false, cond, not, ◌||◌, List, [], ◌∷◌, ◌++◌, map, reverse, length, get_or, Ordering, Less, Equal, Greater, refl, sym, ap, subst, ◌∙◌, arith, inl, inr, length-append}
+use Rattle.std.proofs.Common.{◌≡◌, ℕ, suc, pred, ◌+◌, ◌-◌, ◌^◌, ◌<◌, Bool, true, false, cond, not, ◌||◌, ◌&&◌, ◌==◌, List, [], ◌∷◌, ◌++◌, map, reverse, length, get_or, Ordering, Less, Equal, Greater, refl, sym, ap, subst, ◌∙◌, arith, inl, inr, length-append}
 use Rattle.std.specs.List.{list_any}
-use Rattle.std.specs.Ordering.{match_ordering}
+use Rattle.std.specs.Ordering.{is_eq, nat_cmp, ordering_then}
 use Rattle.std.specs.FinSet.{from_list, contains, insert, same_set, contains-from_list, contains-insert}
-use Rattle.std.specs.BTreeSet.{insert_key}
 use Rattle.std.proofs.lemmas.List.{map-append, reverse-append, get_or_append_left, get_or-append_right}
 use Rattle.std.proofs.lemmas.Bool.{cases_lt}
+use Rattle.std.proofs.lemmas.Bool.Decides.{nat_tests}
 use Rattle.allocative_graph.specs.Identity.{Identity, identity_cmp, is_same_identity}
 use Rattle.allocative_graph.specs.Path.{Key, Path}
 use Rattle.allocative_graph.specs.Forest.{Mark, AsInline, AsUnique, AsShared}
@@ -13,36 +13,40 @@ use Rattle.allocative_graph.specs.Sums.{Sums, is_unique_mark}
 use Rattle.allocative_graph.specs.Sums as bag
 use Rattle.allocative_graph.specs.Collector.{Live, no_entries, go, leave_live, last_of, before_last, enter_live, enter_again, enter_first}
 use Rattle.allocative_graph.proofs.Below.{entered-empty}
-use Rattle.allocative_graph.proofs.Basics.{identity_total, identity_antisymmetric}
+use Rattle.allocative_graph.proofs.Basics.{identity_total, identity_antisymmetric, same_identity_turned}
 use Rattle.allocative_collectors.specs.Listed.{Listed, root_sum, path_at, map_of}
 use Rattle.allocative_collectors.specs.Places.{live, to_root, IsPlaced, AddedAt}
 use Rattle.allocative_collectors.proofs.Adds.{total_entered, length_entered, path_entered}
 use Rattle.allocative_collectors.proofs.Bridge.{map_of-add, entered-map_of, not_root}
 
 -- ---- the identities
-or_same : (a b : Bool) → (a || b) ≡ (a || (a || b))
-or_same true b = refl
-or_same false b = refl
+-- equal in both parts
+abbrev is_equal : Identity → Identity → Bool
+is_equal i j = i.maker == j.maker && i.number == j.number
 
-or_turned : (a b c : Bool) → (a || (b || c)) ≡ (b || (a || c))
-or_turned true true c = refl
-or_turned true false c = refl
-or_turned false b c = refl
+both_equal : (o p : Ordering) → is_eq (ordering_then o p) ≡ (is_eq o && is_eq p)
+both_equal Less p = refl
+both_equal Equal p = refl
+both_equal Greater p = refl
 
-has_key : (ks : List Identity) (k q : Identity) → list_any (is_same_identity q) (insert_key identity_cmp ks k) ≡ (is_same_identity q k || list_any (is_same_identity q) ks)
-has_key [] k q = refl
-has_key (x ∷ xs) k q = by (identity_cmp k x) refl (has_key xs k q)
-  where
-    by : (r : Ordering) → identity_cmp k x ≡ r → list_any (is_same_identity q) (insert_key identity_cmp xs k) ≡ (is_same_identity q k || list_any (is_same_identity q) xs)
-        → list_any (is_same_identity q) (match_ordering r (k ∷ x ∷ xs) (x ∷ xs) (x ∷ insert_key identity_cmp xs k)) ≡ (is_same_identity q k || (is_same_identity q x || list_any (is_same_identity q) xs))
-    by Less e rest = refl
-    by Equal e rest = or_same (is_same_identity q x) (list_any (is_same_identity q) xs) ∙ ap (λ (i : Identity). is_same_identity q i || (is_same_identity q x || list_any (is_same_identity q) xs)) (sym (identity_antisymmetric k x e))
-    by Greater e rest = ap (λ (b : Bool). is_same_identity q x || b) rest ∙ or_turned (is_same_identity q x) (is_same_identity q k) (list_any (is_same_identity q) xs)
+number_equal : (m n : ℕ) → is_eq (nat_cmp m n) ≡ (m == n)
+number_equal m n = grind (arith, nat_tests)
 
-pub met_more : (ks : List Identity) (k : Identity) → from_list {R = identity_cmp} (insert_key identity_cmp ks k) ≡ insert (from_list ks) k
-met_more ks k = same_set identity_total identity_antisymmetric _ _ (λ q.
-    contains-from_list identity_total (insert_key identity_cmp ks k) q ∙ (has_key ks k q
-    ∙ sym (contains-insert identity_total (from_list ks) k q ∙ ap (λ (b : Bool). is_same_identity q k || b) (contains-from_list identity_total ks q))))
+one_identity : (i j : Identity) → is_equal i j ≡ is_same_identity i j
+one_identity i j = sym (both_equal (nat_cmp i.maker j.maker) (nat_cmp i.number j.number) ∙ (λ k. number_equal i.maker j.maker k && number_equal i.number j.number k))
+
+among : (is : List Identity) (q : Identity) → list_any (is_equal q) is ≡ contains (from_list {R = identity_cmp} is) q
+among is q = (λ k. list_any (λ i. one_identity q i k) is) ∙ sym (contains-from_list identity_total is q)
+
+one_more : (t b : Bool) → cond t true b ≡ (t || b)
+one_more true b = refl
+one_more false b = refl
+
+-- the set of the identities after one was inserted
+pub met_more : (old new : List Identity) (i : Identity) → ((q : Identity) → list_any (is_equal q) new ≡ cond (is_equal i q) true (list_any (is_equal q) old)) → from_list {R = identity_cmp} new ≡ insert (from_list old) i
+met_more old new i more = same_set identity_total identity_antisymmetric _ _ (λ q.
+    sym (among new q) ∙ (more q ∙ (one_more (is_equal i q) (list_any (is_equal q) old)
+    ∙ ((λ k. (one_identity i q ∙ same_identity_turned i q) k || among old q k) ∙ sym (contains-insert identity_total (from_list old) i q)))))
 
 false_of : (b : Bool) → true ≡ not b → b ≡ false
 false_of true e = e
@@ -52,11 +56,11 @@ true_of : (b : Bool) → false ≡ not b → b ≡ true
 true_of true e = refl
 true_of false e = e
 
-pub not_met : (ks : List Identity) (i : Identity) → true ≡ not (list_any (is_same_identity i) ks) → contains (from_list {R = identity_cmp} ks) i ≡ false
-not_met ks i e = contains-from_list identity_total ks i ∙ false_of _ e
+pub not_met : (ks : List Identity) (i : Identity) → true ≡ not (list_any (is_equal i) ks) → contains (from_list {R = identity_cmp} ks) i ≡ false
+not_met ks i e = sym (among ks i) ∙ false_of _ e
 
-pub was_met : (ks : List Identity) (i : Identity) → false ≡ not (list_any (is_same_identity i) ks) → contains (from_list {R = identity_cmp} ks) i ≡ true
-was_met ks i e = contains-from_list identity_total ks i ∙ true_of _ e
+pub was_met : (ks : List Identity) (i : Identity) → false ≡ not (list_any (is_equal i) ks) → contains (from_list {R = identity_cmp} ks) i ≡ true
+was_met ks i e = sym (among ks i) ∙ true_of _ e
 
 -- ---- the start
 pub placed_new : IsPlaced (root_sum ∷ []) 0 [] 0
@@ -209,10 +213,10 @@ module _ (t new : Listed) (met : List Identity) (current : ℕ) (places : List �
       ∙ (λ i. go (node_path i) (live_added t new met current places rooted n ok k size u more node entered (mark_of u) (mark_is u) i))
       ∙ enter_is u k size (live t met current places rooted)
 
-  pub gone_first : (i : Identity) → u ≡ false → live new (insert_key identity_cmp met i) 0 (places ++ current ∷ []) rooted ≡ enter_first k size i (live t met current places rooted)
-  gone_first i plain =
-      went new (insert_key identity_cmp met i) current places rooted 0
-      ∙ (λ j. go (root j) (record (live_added t new met current places rooted n ok k size u more node entered (AsShared i) (sym plain) j) { met = met_more met i j }))
+  pub gone_first : (i : Identity) (now : List Identity) → from_list {R = identity_cmp} now ≡ insert (from_list met) i → u ≡ false → live new now 0 (places ++ current ∷ []) rooted ≡ enter_first k size i (live t met current places rooted)
+  gone_first i now one_new plain =
+      went new now current places rooted 0
+      ∙ (λ j. go (root j) (record (live_added t new met current places rooted n ok k size u more node entered (AsShared i) (sym plain) j) { met = one_new j }))
     where
       root : path_at new 0 ≡ []
       root = (placed_added t new met current places rooted n ok k size u more node entered (mark_of u) (mark_is u)).root_path

@@ -16,3 +16,4 @@ pub mod Graphs
 pub mod Whole
 pub mod Made
 pub mod Collect
+pub mod Found

@@ -36,6 +36,11 @@ key_read items i n h read = ap (λ (s : Shape). s.key) (shape_read items i n h r
 pub key_seen : (items : List Node) (xs : List ℕ) (j : ℕ) → j < length xs → get_or xs j 0 < length items → (n : Node) → n ≡ get_or items (get_or xs j 0) n → key_in (keys_of (map shape items) xs) j ≡ n.key
 key_seen items xs j h within n read = key_in-keys_of (map shape items) xs j h ∙ key_read items (get_or xs j 0) n within read
 
+-- a node written over by one of the same shape
+pub same_shapes : (items : List Node) (i : ℕ) (n m : Node) → i < length items → n ≡ get_or items i n → shape m ≡ shape n → map shape (set items i m) ≡ map shape items
+same_shapes items i n m h read same =
+    map-set shape items i m ∙ (ap (set (map shape items) i) (same ∙ sym (shape_read items i n h read)) ∙ set-get_or (map shape items) i no_shape)
+
 -- a node's children are nodes
 pub children_in : (items : List Node) → IsTree items → (p : ℕ) → p < length items → (j : ℕ) → j < length (children_at (map shape items) p) → get_or (children_at (map shape items) p) j 0 < length items
 children_in items ok p hp j h =

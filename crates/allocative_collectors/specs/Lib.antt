@@ -5,3 +5,5 @@ pub mod Walks
 pub mod Finishing
 pub mod Places
 pub mod Meets
+pub mod Warned
+pub mod Warning

@@ -14,7 +14,7 @@ use allocative_graph::key::Key;
 use allocative_graph::refusal::Refusal;
 use allocative_graph::shared::Identity;
 use std::alloc::{AllocError, Global};
-use std::collections::BTreeSet;
+use std::collections::HashSet;
 use std::marker::Model;
 
 /// The collector of a flame graph, which has not failed. The crate above remembers a refusal, and goes no further with it.
@@ -25,7 +25,7 @@ pub struct GraphCollector {
     current: usize,
     // the nodes to go back to, the last one last
     places: Vec<usize>,
-    met: BTreeSet<Identity>,
+    met: HashSet<Identity>,
     // whether a root visitor is out
     is_rooted: bool,
     // the bytes of all entries
@@ -57,7 +57,7 @@ impl GraphCollector {
             tree,
             current: 0,
             places: Vec::new(alloc),
-            met: BTreeSet::new(alloc),
+            met: HashSet::new(alloc),
             is_rooted: false,
             entered: 0,
         })

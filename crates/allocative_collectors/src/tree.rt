@@ -1,5 +1,5 @@
 //! The paths that were entered, as an arena of nodes that name one another by number.
-ghost use Rattle.std.specs.Prelude.{◌≡◌, ◌+◌, ◌^◌, ◌<◌, ℕ, [], ◌∷◌, ◌++◌, length, map, slice_index, string_bytes, EachIndex, IfOk, IfErr, OnOk, OnErr, false};
+ghost use Rattle.std.specs.Prelude.{◌≡◌, ◌+◌, ◌^◌, ◌<◌, ℕ, [], ◌∷◌, ◌++◌, length, map, slice_index, string_bytes, EachIndex, IfOk, IfErr, OnOk, OnErr, IsTrue, false};
 ghost use Rattle.allocative_graph.specs.Graph.{warning_line, total as graph_total};
 ghost use Rattle.allocative_graph.specs.Visits.{IsProfile};
 ghost use Rattle.allocative_collectors.specs.Listed.{root_sum, add, total, path_at, map_of, IsEntered};
@@ -15,17 +15,25 @@ use std::alloc::{AllocError, Global};
 use std::cmp::Ordering;
 use std::marker::Model;
 
+mod warned;
+
 /// What was entered at one path.
 #[derive(Drop)]
 struct Node {
     key: Key,
     parent: usize,
     /// The numbers of the nodes one key below, in the order of their keys.
-    children: Vec<usize>,
+    children: Vec<u32>,
     bytes: usize,
-    is_unique: bool,
     /// The bytes of the children.
     below: usize,
+    /// The child that was entered last.
+    last: u32,
+    /// The child that is expected next; it is tested before it is used.
+    next: u32,
+    /// The child of the same parent that was entered after this one.
+    follower: u32,
+    is_unique: bool,
 }
 
 /// The paths that were entered, each with its bytes and whether it was ever entered as unique.
@@ -60,13 +68,17 @@ impl Tree {
             parent: 0,
             children: Vec::new(alloc),
             bytes: 0,
-            is_unique: false,
             below: 0,
+            last: 0,
+            next: 0,
+            follower: 0,
+            is_unique: false,
         })?;
         Ok(Tree { alloc, nodes })
     }
 
     /// Enters `size` bytes under the node `at`, and gives the node of that path.
+    #[inline]
     pub(crate) fn enter(
         &mut self,
         at: usize,
@@ -84,7 +96,7 @@ impl Tree {
         Ok(node)
     }
 
-    /// The graph, and the text of the warnings, in one walk.
+    /// The graph and the text of the warnings, in one walk, and the paths that have a warning, by another where there is one.
     pub(crate) fn finish(&self) -> Result<FlameGraphOutput, Refusal>
         requires { total self.now < 2 ^ 63 }
         ensures made { IfOk result (IsProfile (map_of self.now)) }
@@ -94,7 +106,11 @@ impl Tree {
         let mut keys: Vec<&'static str> = Vec::new(self.alloc);
         let mut warnings = String::new(self.alloc);
         let graph = self.make(0, &mut keys, &mut warnings)?;
-        Ok(FlameGraphOutput::new(graph, warnings))
+        let mut warned = Vec::new(self.alloc);
+        if !warnings.is_empty() {
+            self.push_warned(0, &mut keys, &mut warned)?;
+        }
+        Ok(FlameGraphOutput::new(graph, warnings, warned))
     }
 
     /// The graph from the node `at` on, with the warnings behind the text; `keys` is the node's path.
@@ -112,15 +128,15 @@ impl Tree {
         ensures err { IfErr result (λ e. e ≡ Refusal.Memory) }
     {
         let node = &self.nodes[at];
-        let mut graph = FlameGraph::default(self.alloc);
+        let mut graph = FlameGraph::with_capacity(self.alloc, node.children.len())?;
         graph.add_self(self.size(at))?;
         if self.is_short(at) {
             push_warning(keys.as_slice(), node.bytes, node.below, text)?;
         }
         for &child in &node.children {
-            let key = &self.nodes[child].key;
+            let key = &self.nodes[child as usize].key;
             keys.push(key.as_str())?;
-            let below = self.make(child, keys, text)?;
+            let below = self.make(child as usize, keys, text)?;
             graph.add_child(key.copy(), below)?;
             let _ = keys.pop();
         }
@@ -154,24 +170,88 @@ impl Tree {
     }
 
     /// The child of the node `at` that has the key, made where there is none.
+    ///
+    /// Entries often come in the order in which they came before: the child that followed the last one is tried first.
+    #[inline]
     fn child(&mut self, at: usize, key: &Key) -> Result<usize, AllocError>
         requires { at < length self.old }
         ensures entered { IfOk result (IsEntered self.old self.new at key.now 0 false) }
         ensures err { OnErr result (self.new ≡ self.old) }
     {
+        let expected = self.nodes[at].next as usize;
+        if self.is_child(at, key, expected) {
+            self.expect_follower(at, expected);
+            return Ok(expected);
+        }
+        let node = self.search_child(at, key)?;
+        self.follow_last(at, node);
+        Ok(node)
+    }
+
+    /// Whether the number is that of the child of the node `at` that has the key.
+    #[inline]
+    fn is_child(&self, at: usize, key: &Key, number: usize) -> bool
+        requires { at < length self.now }
+        ensures { IsTrue result → IsEntered self.now self.now at key.now 0 false number }
+    {
+        match self.nodes.get(number) {
+            Some(node) => number != 0 && node.parent == at && node.key == *key,
+            None => false,
+        }
+    }
+
+    /// The child was entered last, and the one after it is expected next.
+    #[inline]
+    fn expect_follower(&mut self, at: usize, child: usize)
+        requires parent { at < length self.old }
+        requires child { child < length self.old }
+        ensures { self.new ≡ self.old }
+    {
+        let next = self.nodes[child].follower;
+        let node = &mut self.nodes[at];
+        node.last = guess(child);
+        node.next = next;
+    }
+
+    /// The child came after the one that was entered last.
+    fn follow_last(&mut self, at: usize, child: usize)
+        requires parent { at < length self.old }
+        requires child { child < length self.old }
+        ensures { self.new ≡ self.old }
+    {
+        let last = self.nodes[at].last as usize;
+        if last < self.nodes.len() {
+            self.nodes[last].follower = guess(child);
+        }
+        self.expect_follower(at, child);
+    }
+
+    /// The child of the node `at` that has the key, by a search, made where there is none.
+    #[inline(never)]
+    fn search_child(&mut self, at: usize, key: &Key) -> Result<usize, AllocError>
+        requires { at < length self.old }
+        ensures entered { IfOk result (IsEntered self.old self.new at key.now 0 false) }
+        ensures err { OnErr result (self.new ≡ self.old) }
+    {
         match find(&self.nodes, &self.nodes[at].children, key) {
-            Ok(place) => Ok(self.nodes[at].children[place]),
+            Ok(place) => Ok(self.nodes[at].children[place] as usize),
             Err(place) => {
                 let node = self.nodes.len();
+                let Ok(number) = u32::try_from(node) else {
+                    return Err(AllocError);
+                };
                 self.nodes.push(Node {
                     key: key.copy(),
                     parent: at,
                     children: Vec::new(self.alloc),
                     bytes: 0,
-                    is_unique: false,
                     below: 0,
+                    last: 0,
+                    next: 0,
+                    follower: 0,
+                    is_unique: false,
                 })?;
-                if self.nodes[at].children.insert(place, node).is_err() {
+                if self.nodes[at].children.insert(place, number).is_err() {
                     let _ = self.nodes.pop();
                     return Err(AllocError);
                 }
@@ -181,6 +261,7 @@ impl Tree {
     }
 
     /// Enters `size` bytes at a node other than the root.
+    #[inline]
     fn raise(&mut self, node: usize, size: usize, is_unique: bool)
         requires not_root { 0 < node }
         requires within { node < length self.old }
@@ -196,8 +277,14 @@ impl Tree {
     }
 }
 
+/// The number as a guess of a node's number. Where it takes more than 32 bits, the guess is wrong, which costs a search.
+#[inline]
+fn guess(number: usize) -> u32 {
+    u32::try_from(number).unwrap_or(0)
+}
+
 /// Where the key stands among the children, which are in the order of their keys, or where it would go.
-fn find(nodes: &[Node], children: &[usize], key: &Key) -> Result<usize, usize>
+fn find(nodes: &[Node], children: &[u32], key: &Key) -> Result<usize, usize>
     requires within { EachIndex children.now (λ j. slice_index children.now j < length nodes.now) }
     requires rise { KeysRise (keys_of (map shape nodes.now) children.now) }
     ensures found { IfOk result (IsPlace (keys_of (map shape nodes.now) children.now) key.now) }
@@ -205,7 +292,7 @@ fn find(nodes: &[Node], children: &[usize], key: &Key) -> Result<usize, usize>
 {
     // Keys that come in order need one comparison each.
     if let Some(&last) = children.last()
-        && nodes[last].key.cmp(key).is_lt()
+        && nodes[last as usize].key.cmp(key).is_lt()
     {
         return Err(children.len());
     }
@@ -213,7 +300,7 @@ fn find(nodes: &[Node], children: &[usize], key: &Key) -> Result<usize, usize>
     let mut high = children.len();
     while low < high {
         let middle = low + (high - low) / 2;
-        match nodes[children[middle]].key.cmp(key) {
+        match nodes[children[middle] as usize].key.cmp(key) {
             Ordering::Less => low = middle + 1,
             Ordering::Equal => return Ok(middle),
             Ordering::Greater => high = middle,

@@ -12,17 +12,17 @@ use Rattle.allocative_graph.specs.Children.{size_under, AddsUp, AddsUpInPart, Al
 use Rattle.allocative_graph.proofs.ChildOrder.{key_same}
 
 -- The key k is none of theirs.
-abbrev Lacks : Key → List Child → Type 0
+abbrev pub Lacks : Key → List Child → Type 0
 Lacks k cs = AllByRecursion (λ l. eq_by_cmp key_cmp k l ≡ false) (keys_of cs)
 
-lacks-above : (k : Key) (cs : List Child) → AllAbove cs k → Lacks k cs
+pub lacks-above : (k : Key) (cs : List Child) → AllAbove cs k → Lacks k cs
 lacks-above k [] h = tt
 lacks-above k (c ∷ cs) h = (ap is_eq h.0, lacks-above k cs h.1)
 
 same-is : (k l : Key) → eq_by_cmp key_cmp k l ≡ true → k ≡ l
 same-is k l e = key_same k l ((Equal-is (key_cmp k l)).0 e)
 
-size_under-lacks : (cs : List Child) (k : Key) (p : Path) → Lacks k cs → size_under cs k p ≡ None
+pub size_under-lacks : (cs : List Child) (k : Key) (p : Path) → Lacks k cs → size_under cs k p ≡ None
 size_under-lacks [] k p h = refl
 size_under-lacks (c ∷ cs) k p h = ap (λ b. cond b (get c.graph p) (size_under cs k p)) h.0 ∙ size_under-lacks cs k p h.1
 

@@ -8,7 +8,7 @@ use Rattle.std.proofs.lemmas.List.Sums.{sum_by-cons}
 use Rattle.allocative_graph.specs.Path.{Key, Path, key_cmp, path_cmp, is_same_path, is_one_below}
 use Rattle.allocative_graph.specs.Forest.{Forest, all, Bag}
 use Rattle.allocative_graph.specs.Sums.{Node, is_entered_in, bytes_in, is_unique_in, sums_of}
-use Rattle.allocative_graph.specs.Graph.{Graph, graph, remaining, size_at, total, sum_of, under, default, IsTree}
+use Rattle.allocative_graph.specs.Graph.{Graph, graph, remaining, size_at, total_at, begins, total, sum_of, under, default, IsTree}
 use Rattle.allocative_graph.proofs.Basics.{path_total, path_antisymmetric, same_path, each-found}
 use Rattle.allocative_graph.proofs.Below.{find-below_all, below_all-less}
 use Rattle.allocative_graph.proofs.Merge.{get-sum_of, get-graph, get-graph-root}
@@ -108,6 +108,25 @@ sum_of-list g h = same_map path_total path_antisymmetric _ _ (λ q. get-sum_of g
 
 pub total-sum_of : (g h : Graph) → total (sum_of g h) ≡ total g + total h
 total-sum_of g h = ap total (sum_of-list g h) ∙ total-add_list g (entries h)
+
+-- ---- the bytes of a path and of all below it, in a sum
+in_both : (b : Bool) (o : Option ℕ) (n : ℕ) → cond b (unwrap_or o 0 + n) 0 ≡ unwrap_or (option_map (λ x. cond b x 0) o) 0 + cond b n 0
+in_both true None n = refl
+in_both true (Some m) n = refl
+in_both false None n = refl
+in_both false (Some m) n = refl
+
+total_at-add_at : (q : Path) (g : Graph) (e : Path × ℕ) → total_at (add_at g e) q ≡ total_at g q + cond (begins q e.0) e.1 0
+total_at-add_at q g e = ap (sum_by (λ r. cond (begins q r.0) r.1 0)) (entries-insert path_total g e.0 (size_at g e.0 + e.1))
+    ∙ weights-put (λ p n. cond (begins q p) n 0) e.0 (size_at g e.0 + e.1) (cond (begins q e.0) e.1 0) (entries g) (entries_sorted g)
+    (ap (λ o. cond (begins q e.0) (unwrap_or o 0 + e.1) 0) (get-entries g e.0) ∙ in_both (begins q e.0) (find path_cmp e.0 (entries g)) e.1)
+
+total_at-add_list : (q : Path) (g : Graph) (es : List (Path × ℕ)) → total_at (add_list g es) q ≡ total_at g q + sum_by (λ r. cond (begins q r.0) r.1 0) es
+total_at-add_list q g [] = zero_after (total_at g q)
+total_at-add_list q g (e ∷ es) = total_at-add_list q (add_at g e) es ∙ ap (λ n. n + sum_by (λ r. cond (begins q r.0) r.1 0) es) (total_at-add_at q g e) ∙ assoc (total_at g q) (cond (begins q e.0) e.1 0) _ ∙ ap (λ n. total_at g q + n) (sym (sum_by-cons (λ r. cond (begins q r.0) r.1 0) e es))
+
+pub total_at-sum_of : (g h : Graph) (q : Path) → total_at (sum_of g h) q ≡ total_at g q + total_at h q
+total_at-sum_of g h q = ap (λ s. total_at s q) (sum_of-list g h) ∙ total_at-add_list q g (entries h)
 
 -- ---- the sum of graphs, path by path
 swap : (x y : Option ℕ) → sizes_together x y ≡ sizes_together y x

@@ -26,5 +26,8 @@ pub mod ChildPut
 pub mod ChildLookup
 pub mod OneMeaning
 pub mod ChildMerged
+pub mod Behind
+pub mod ReadRows
+pub mod Gathered
 mod Loans
 mod Walks

@@ -1,13 +1,15 @@
 -- What the walk of `write` has written so far.
-use Rattle.std.proofs.Common.{◌≡◌, ℕ, ◌+◌, ◌<◌, List, [], ◌∷◌, ◌++◌, map, take, length, get_or, Bor, refl, sym, ap, ◌∙◌, append_assoc, arith, ◌-◌, length-append}
+use Rattle.std.proofs.Common.{◌≡◌, ◌≢◌, ℕ, ◌+◌, ◌<◌, Bool, List, [], ◌∷◌, ◌++◌, map, take, length, get_or, Bor, cond, ◌==◌, refl, sym, ap, ◌∙◌, append_assoc, arith, ◌-◌, length-append}
 use Rattle.std.proofs.lemmas.List.{take_more, map-append, append-nil}
-use Rattle.std.proofs.Math.Seq.{take-append_seam}
 use Rattle.std.proofs.lemmas.Grind.{flat_map-append}
+use Rattle.std.proofs.lemmas.Bool.{ne_eqb}
+use Rattle.std.proofs.Math.Seq.{take-append_seam}
 use Rattle.allocative_graph.specs.declared.flamegraph.Child.{Child}
-use Rattle.allocative_graph.specs.Graph.{line, text_of_entries}
-use Rattle.allocative_graph.specs.Parts.{joined_on, behind, under_rows}
+use Rattle.allocative_graph.specs.Path.{Key, Path}
+use Rattle.allocative_graph.specs.Parts.{joined_on, under_rows, size_text, line_from, lines_from, line_below, lines_below}
 use Rattle.std.specs.FinMap.{entries}
 use Rattle.allocative_graph.specs.Node.{rows_of, rows_of_child}
+use Rattle.allocative_graph.proofs.RowSums.{joined-keys}
 
 -- the texts of the keys
 abbrev pub texts : List (Bor (List ℕ)) → List (List ℕ)
@@ -23,42 +25,70 @@ joined_more t ks i d h =
     rw (take_more ks i d h, map-append (λ (k : Bor (List ℕ)). k.now) (take i ks) (get_or ks i d ∷ []), joined_on-append (texts (take i ks)) ((get_or ks i d).now ∷ []))
     (simp (append_assoc, append-nil))
 
-pub behind-append : (ks : List (List ℕ)) (a b : List (List (List ℕ) × ℕ)) → behind ks (a ++ b) ≡ behind ks a ++ behind ks b
-behind-append ks [] b = refl
-behind-append ks (r ∷ a) b = ap (λ t. (ks ++ r.0, r.1) ∷ t) (behind-append ks a b)
+-- a key behind the start of a line
+key_moved : (t : List ℕ) (k : Key) (p : Path) (n : ℕ) → line_below t (k ∷ p, n) ≡ line_from (t ++ k) (p, n)
+key_moved t k p n = ap (λ (l : List ℕ). cond (n == 0) [] l) (ap (λ (l : List ℕ). t ++ (l ++ size_text n)) (joined-keys k p) ∙ moved t k (joined_on p) (size_text n))
+  where
+    moved : (t k j r : List ℕ) → t ++ ((k ++ j) ++ r) ≡ (t ++ k) ++ (j ++ r)
+    moved t k j r = simp append_assoc
 
--- to put a key before the paths, and then others, is to put all of them
-pub behind-under : (ks : List (List ℕ)) (k : List ℕ) (rs : List (List (List ℕ) × ℕ)) → behind (ks ++ k ∷ []) rs ≡ behind ks (under_rows k rs)
-behind-under ks k [] = refl
-behind-under ks k (r ∷ rs) = λ i. (append_assoc ks (k ∷ []) r.0 i, r.1) ∷ behind-under ks k rs i
+-- the rows of one child
+pub child_lines : (t : List ℕ) (k : Key) (rs : List (Path × ℕ)) → lines_below t (under_rows k rs) ≡ lines_from (t ++ k) rs
+child_lines t k [] = refl
+child_lines t k (r ∷ rs) = λ i. key_moved t k r.0 r.1 i ++ child_lines t k rs i
+
+-- a `;` behind the keys so far
+semicolon_moved : (t : List ℕ) (k : Key) (p : Path) (n : ℕ) → line_from t (k ∷ p, n) ≡ line_below (t ++ 59 ∷ []) (k ∷ p, n)
+semicolon_moved t k p n = ap (λ (l : List ℕ). cond (n == 0) [] l) (moved t k (joined_on p) (size_text n) ∙ ap (λ (l : List ℕ). (t ++ 59 ∷ []) ++ (l ++ size_text n)) (sym (joined-keys k p)))
+  where
+    moved : (t k j r : List ℕ) → t ++ ((59 ∷ (k ++ j)) ++ r) ≡ (t ++ 59 ∷ []) ++ ((k ++ j) ++ r)
+    moved t k j r = simp append_assoc
+
+under_lines : (t : List ℕ) (k : Key) (rs : List (Path × ℕ)) → lines_from t (under_rows k rs) ≡ lines_below (t ++ 59 ∷ []) (under_rows k rs)
+under_lines t k [] = refl
+under_lines t k (r ∷ rs) = λ i. semicolon_moved t k r.0 r.1 i ++ under_lines t k rs i
+
+-- the rows of all children
+pub rows_lines : (t : List ℕ) (cs : List Child) → lines_from t (rows_of cs) ≡ lines_below (t ++ 59 ∷ []) (rows_of cs)
+rows_lines t [] = refl
+rows_lines t (c ∷ cs) =
+    flat_map-append (line_from t) (rows_of_child c) (rows_of cs)
+    ∙ ((λ i. under_lines t c.key (entries c.graph) i ++ rows_lines t cs i)
+    ∙ sym (flat_map-append (line_below (t ++ 59 ∷ [])) (rows_of_child c) (rows_of cs)))
 
 -- the text after one more child
-pub child_written : (ks : List (List ℕ)) (cs : List Child) (i : ℕ) (d : Child) (t : List ℕ) → i < length cs
-    → (t ++ text_of_entries (behind ks (rows_of (take i cs)))) ++ text_of_entries (behind (ks ++ (get_or cs i d).key ∷ []) (entries (get_or cs i d).graph))
-    ≡ t ++ text_of_entries (behind ks (rows_of (take (i + 1) cs)))
-child_written ks cs i d t h =
+pub child_written : (t : List ℕ) (cs : List Child) (i : ℕ) (d : Child) (before : List ℕ) → i < length cs
+    → (before ++ lines_below t (rows_of (take i cs))) ++ lines_from (t ++ (get_or cs i d).key) (entries (get_or cs i d).graph)
+    ≡ before ++ lines_below t (rows_of (take (i + 1) cs))
+child_written t cs i d before h =
     let c : Child = get_or cs i d in
     let e : rows_of (take (i + 1) cs) ≡ rows_of (take i cs) ++ rows_of_child c =
     ap rows_of (take_more cs i d h) ∙ flat_map-append rows_of_child (take i cs) (c ∷ []) ∙ ap (λ r. rows_of (take i cs) ++ r) (append-nil (rows_of_child c)) in
-    append_assoc t _ _
-    ∙ ap (λ s. t ++ (text_of_entries (behind ks (rows_of (take i cs))) ++ text_of_entries s)) (behind-under ks c.key (entries c.graph))
-    ∙ ap (λ s. t ++ s) (sym (flat_map-append line (behind ks (rows_of (take i cs))) (behind ks (rows_of_child c))))
-    ∙ ap (λ s. t ++ text_of_entries s) (sym (behind-append ks (rows_of (take i cs)) (rows_of_child c)))
-    ∙ ap (λ s. t ++ text_of_entries (behind ks s)) (sym e)
+    append_assoc before _ _
+    ∙ ap (λ s. before ++ (lines_below t (rows_of (take i cs)) ++ s)) (sym (child_lines t c.key (entries c.graph)))
+    ∙ ap (λ s. before ++ s) (sym (flat_map-append (line_below t) (rows_of (take i cs)) (rows_of_child c)))
+    ∙ ap (λ s. before ++ lines_below t s) (sym e)
 
-pub line-zero : (p : List (List ℕ)) → line (p, 0) ≡ []
-line-zero [] = refl
-line-zero (k ∷ p) = refl
+-- the root's line is the path with its size
+pub line_of_some : (t : List ℕ) (n : ℕ) → n ≢ 0 → line_from t ([], n) ≡ t ++ size_text n
+line_of_some t n some = ap (λ (b : Bool). cond b [] (t ++ size_text n)) (ne_eqb n 0 some)
 
--- the text of a node: its own line, and then its children's
-pub node_written : (ks : List (List ℕ)) (n : ℕ) (rs : List (List (List ℕ) × ℕ)) (t : List ℕ)
-    → (t ++ line (ks, n)) ++ text_of_entries (behind ks rs) ≡ t ++ text_of_entries (behind ks (([], n) ∷ rs))
-node_written ks n rs t =
-    append_assoc t _ _ ∙ ap (λ p. t ++ (line (p, n) ++ text_of_entries (behind ks rs))) (sym (append-nil ks))
+-- the text after the root's own line: what is left is the lines below it
+pub own_written : (t before after : List ℕ) (n : ℕ) (cs : List Child) (rs : List (Path × ℕ)) → rs ≡ ([], n) ∷ rows_of cs → after ≡ before ++ line_from t ([], n) → after ++ lines_below (t ++ 59 ∷ []) rs ≡ before ++ lines_from t rs
+own_written t before after n cs rs is wrote =
+    ap (λ l. after ++ lines_below (t ++ 59 ∷ []) l) is
+    ∙ (ap (λ l. l ++ lines_below (t ++ 59 ∷ []) (rows_of cs)) wrote
+    ∙ (append_assoc before (line_from t ([], n)) _
+    ∙ (ap (λ l. before ++ (line_from t ([], n) ++ l)) (sym (rows_lines t cs))
+    ∙ ap (λ l. before ++ lines_from t l) (sym is))))
 
-pub behind-nil : (rs : List (List (List ℕ) × ℕ)) → behind [] rs ≡ rs
-behind-nil [] = refl
-behind-nil (r ∷ rs) = ap (λ t. r ∷ t) (behind-nil rs)
+-- no line stands below a root that is alone
+pub none_below : (t : List ℕ) (n : ℕ) (rs : List (Path × ℕ)) → rs ≡ ([], n) ∷ [] → lines_below t rs ≡ []
+none_below t n rs is = ap (lines_below t) is
+
+-- what starts a line is cut off again
+pub cut_back : (t more : List ℕ) (n : ℕ) → n ≡ length t → take n (t ++ more) ≡ t
+cut_back t more n len = ap (λ k. take k (t ++ more)) len ∙ take-append_seam t more
 
 -- what is left after the last key is taken off again
 pub popped : (xs ys zs : List (Bor (List ℕ))) (x : Bor (List ℕ)) (n : ℕ) → zs ≡ take (n - 1) ys → n ≡ length ys → ys ≡ xs ++ x ∷ [] → zs ≡ xs

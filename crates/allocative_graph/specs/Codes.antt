@@ -9,7 +9,7 @@ use Rattle.allocative_graph.specs.declared.refusal.Refusal.TheVariants.{Memory, 
 use Rattle.allocative_graph.specs.Path.{Path}
 use Rattle.allocative_graph.specs.Identity.{Identity, Identities}
 use Rattle.allocative_graph.specs.Sums.{Node, Sums}
-use Rattle.allocative_graph.specs.Graph.{Graph}
+use Rattle.allocative_graph.specs.Graph.{Graph, Warned}
 use Rattle.allocative_graph.specs.Collector.{Live, Holding, Kind, OfGraph, OfHeld, State, Failed, Going}
 use Rattle.allocative_graph.specs.Visits.{Profile}
 
@@ -21,9 +21,15 @@ path_code = coded_list (coded_list coded_ℕ)
 abbrev pub graph_code : Coded Graph
 graph_code = finmap.code path_code coded_ℕ
 
+-- The code of a path that has a warning.
+abbrev pub warned_code : Coded Warned
+warned_code = code_by (Path × (ℕ × ℕ)) (coded× path_code (coded× coded_ℕ coded_ℕ)) (λ w. (w.path, (w.self_size, w.children_size)))
+    (λ p. record { path = p.0; self_size = p.1.0; children_size = p.1.1 }) (λ _. refl)
+
 -- The code of a profile.
 abbrev pub profile_code : Coded Profile
-profile_code = code_by (Graph × List ℕ) (coded× graph_code (coded_list coded_ℕ)) (λ o. (o.graph, o.warnings)) (λ p. record { graph = p.0; warnings = p.1 }) (λ _. refl)
+profile_code = code_by (Graph × (List ℕ × List Warned)) (coded× graph_code (coded× (coded_list coded_ℕ) (coded_list warned_code)))
+    (λ o. (o.graph, (o.warnings, o.warned))) (λ p. record { graph = p.0; warnings = p.1.0; warned = p.1.1 }) (λ _. refl)
 
 -- The code of what was entered at a path.
 abbrev pub node_code : Coded Node

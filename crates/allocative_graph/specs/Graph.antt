@@ -2,7 +2,8 @@
 use Rattle.std.specs.Prelude.{◌≡◌, ◌≢◌, ℕ, ◌+◌, ◌-◌, ◌^◌, ◌<◌, ◌≤◌, ◌⊎◌, Bool, true, false, cond, not, ◌&&◌, ◌||◌, List, [], ◌∷◌, ◌++◌, map, flat_map, Some, sum_by, unwrap_or, decimal, nat_lt, ◌==◌, IsTrue}
 use Rattle.std.specs.List.{AllByRecursion}
 use Rattle.std.specs.FinMap.{FinMap, get, insert, entries, from_entries, keys, contains_key}
-use Rattle.allocative_graph.specs.Path.{Key, Path, path_cmp}
+use Rattle.std.specs.Ordering.{eq_by_cmp}
+use Rattle.allocative_graph.specs.Path.{Key, Path, key_cmp, path_cmp}
 use Rattle.allocative_graph.specs.Sums.{Node, Sums, below}
 use lib.Chars.{codes}
 
@@ -17,6 +18,30 @@ size_at g p = unwrap_or (get g p) 0
 -- The sum of the sizes of all paths.
 abbrev pub total : Graph → ℕ
 total g = sum_by (λ e. e.1) (entries g)
+
+-- Whether the first path is a beginning of the second one, or that path itself.
+abbrev pub begins : Path → Path → Bool
+begins [] q = true
+begins (k ∷ p) [] = false
+begins (k ∷ p) (l ∷ q) = eq_by_cmp key_cmp k l && begins p q
+
+-- The bytes of the path p and of all paths below it.
+abbrev pub total_at : Graph → Path → ℕ
+total_at g p = sum_by (λ e. cond (begins p e.0) e.1 0) (entries g)
+
+-- h is what g has at the path p and below it: p is a path of g, and at each path q the size of h, and the bytes of q and all below it, are those of g at p and then q; so at its root h has what g has at p.
+pub record IsBehind (g : Graph) (p : Path) (h : Graph) : Type 0 where
+  pub there : contains_key g p ≡ true
+  pub sizes : (q : Path) → get h q ≡ get g (p ++ q)
+  pub totals : (q : Path) → total_at h q ≡ total_at g (p ++ q)
+  pub same_size : size_at h [] ≡ size_at g p
+  pub same_total : total h ≡ total_at g p
+
+-- g has no path p, none below it, and so no bytes there.
+pub record HasNothing (g : Graph) (p : Path) : Type 0 where
+  pub missing : contains_key g p ≡ false
+  pub below : (q : Path) → contains_key g (p ++ q) ≡ false
+  pub nothing : total_at g p ≡ 0
 
 -- The root alone, with 0.
 abbrev pub default : Graph
@@ -92,6 +117,20 @@ warning s e = cond (not (is_root e.0) && not e.1.is_unique && nat_lt e.1.bytes (
 -- All warnings, in the order of paths.
 abbrev pub warnings : Sums → List ℕ
 warnings s = flat_map (warning s) (entries s)
+
+-- A path that has a warning, its bytes, and those one key below.
+pub record Warned : Type 0 where
+  pub path : Path
+  pub self_size : ℕ
+  pub children_size : ℕ
+
+-- A path of the sums, with both figures, where it has a warning, and else nothing.
+abbrev pub warned : Sums → Path × Node → List Warned
+warned s e = cond (not (is_root e.0) && not e.1.is_unique && nat_lt e.1.bytes (below s e.0)) (record { path = e.0; self_size = e.1.bytes; children_size = below s e.0 } ∷ []) []
+
+-- The paths that have a warning, in the order of paths.
+abbrev pub warned_paths : Sums → List Warned
+warned_paths s = flat_map (warned s) (entries s)
 
 -- The byte c does not stand in xs.
 abbrev pub Lacks : ℕ → List ℕ → Type 0

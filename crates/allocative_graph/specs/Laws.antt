@@ -11,17 +11,18 @@ use Rattle.allocative_graph.specs.Identity.{Identity}
 use Rattle.allocative_graph.specs.Forest.{Forest, Empty, First, Again, Bag, own, all, followed_by, entry_of}
 use Rattle.allocative_graph.specs.Meaning.{Reached, IsMeaning, ReachesExactly, content_of, IsWhole, Agree, ReachApart}
 use Rattle.allocative_graph.specs.Sums.{Sums, bytes_in, below_in, is_unique_in, is_entered_in, sums_of, below}
-use Rattle.allocative_graph.specs.Graph.{Graph, graph, total, under, default, IsTree, text, warnings, sum_of, size_at, CanBeAdded, HasPlainKeys, HasWords}
+use Rattle.allocative_graph.specs.Graph.{Graph, graph, total, under, default, IsTree, text, warnings, warned_paths, sum_of, size_at, CanBeAdded, HasPlainKeys, HasWords}
 use Rattle.allocative_graph.specs.Collector.{Live, Holding, Kind, OfGraph, OfHeld, plus, Takes, enter, enter_first, enter_again, leave, is_in_unique}
 use Rattle.allocative_graph.specs.Report.{exact_text, without_lines}
 
 -- ---- of showings
--- Two showings come to the same: they reach the same identities, and have the same graph, text and warnings.
+-- Two showings come to the same: they reach the same identities, and have the same graph, text, warnings and paths that have one.
 pub record SameProfile (f g : Forest) : Type 0 where
   pub reached : (i : Identity) → Reached (own f) (content_of f) i ↔ Reached (own g) (content_of g) i
   pub same_graph : graph (sums_of (all f)) ≡ graph (sums_of (all g))
   pub same_text : text (graph (sums_of (all f))) ≡ text (graph (sums_of (all g)))
   pub same_warnings : warnings (sums_of (all f)) ≡ warnings (sums_of (all g))
+  pub same_warned : warned_paths (sums_of (all f)) ≡ warned_paths (sums_of (all g))
 
 -- Two whole showings that agree come to the same, whatever the order of roots, of entries, and of which pointer met a content first.
 abbrev pub OrderLaw : Type 0

@@ -20,3 +20,5 @@ pub mod Node
 pub mod NodeRows
 pub mod Children
 pub mod Merged
+pub mod Reads
+pub mod Many

@@ -1,8 +1,8 @@
 -- Rows, which are paths with their sizes, and what a graph has of a sum.
-use Rattle.std.specs.Prelude.{◌≡◌, ℕ, ◌+◌, ◌||◌, ◌⊎◌, true, List, [], ◌∷◌, ◌++◌, map}
-use Rattle.std.specs.FinMap.{contains_key}
+use Rattle.std.specs.Prelude.{◌≡◌, ℕ, ◌+◌, ◌||◌, ◌⊎◌, ◌==◌, if◌then◌else◌, true, List, [], ◌∷◌, ◌++◌, map, flat_map, decimal}
+use Rattle.std.specs.FinMap.{contains_key, entries}
 use Rattle.allocative_graph.specs.Path.{Key, Path}
-use Rattle.allocative_graph.specs.Graph.{Graph, size_at}
+use Rattle.allocative_graph.specs.Graph.{Graph, size_at, is_root, joined}
 
 -- The sum of the sizes of some rows.
 abbrev pub sum_of_rows : List (Path × ℕ) → ℕ
@@ -18,9 +18,29 @@ joined_on (k ∷ ks) = (59 ∷ k) ++ joined_on ks
 abbrev pub under_rows : Key → List (Path × ℕ) → List (Path × ℕ)
 under_rows k rs = map (λ r. (k ∷ r.0, r.1)) rs
 
--- The rows with the keys before each path.
-abbrev pub behind : Path → List (Path × ℕ) → List (Path × ℕ)
-behind ks rs = map (λ r. (ks ++ r.0, r.1)) rs
+-- What stands behind the keys in a line: a space, the size, a line feed.
+abbrev pub size_text : ℕ → List ℕ
+size_text n = 32 ∷ (decimal n ++ 10 ∷ [])
+
+-- The line of a path with a size other than 0, where t stands for its first keys: t, the other keys with a `;` before each, the size.
+abbrev pub line_from : List ℕ → Path × ℕ → List ℕ
+line_from t r = if r.1 == 0 then [] else (t ++ (joined_on r.0 ++ size_text r.1))
+
+-- The lines of some paths behind one text.
+abbrev pub lines_from : List ℕ → List (Path × ℕ) → List ℕ
+lines_from t rs = flat_map (line_from t) rs
+
+-- The line of a path with t before it; the root has none.
+abbrev pub line_below : List ℕ → Path × ℕ → List ℕ
+line_below t r = if is_root r.0 || r.1 == 0 then [] else (t ++ (joined r.0 ++ size_text r.1))
+
+-- The lines of some paths, with t before each.
+abbrev pub lines_below : List ℕ → List (Path × ℕ) → List ℕ
+lines_below t rs = flat_map (line_below t) rs
+
+-- The root is the only path.
+abbrev pub HasRootAlone : Graph → Type 0
+HasRootAlone g = (n : ℕ) × (entries g ≡ ([], n) ∷ [])
 
 -- Path by path r is the sum of g and h, and it has the paths of both.
 abbrev pub IsSum : Graph → Graph → Graph → Type 0

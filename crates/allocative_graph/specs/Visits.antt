@@ -8,7 +8,7 @@ use Rattle.allocative_graph.specs.Identity.{Identity}
 use Rattle.allocative_graph.specs.Forest.{Forest, Bag, own, all, followed_by}
 use Rattle.allocative_graph.specs.Meaning.{IsWhole, IsMeaning, ReachesExactly, ReachApart, content_of}
 use Rattle.allocative_graph.specs.Sums.{Sums, entered, sums_of}
-use Rattle.allocative_graph.specs.Graph.{Graph, graph, warnings, sum_of, CanBeAdded}
+use Rattle.allocative_graph.specs.Graph.{Graph, Warned, graph, warnings, warned_paths, sum_of, CanBeAdded}
 use Rattle.allocative_graph.specs.Collector.{Live, Holding, Kind, OfGraph, OfHeld, State, Failed, Going, held_bytes, enter, enter_first, enter_again, leave, plus, Takes, is_graph, visitors, is_in_unique, begin, IsClosed, IsAtRoot}
 use Rattle.allocative_graph.specs.Shows.{Showing}
 
@@ -90,10 +90,11 @@ Runs p (Going b) (Err e) (Failed r) = IsClosed b × (e ≡ r)
 Runs p (Going b) (Err e) (Going c) = (e ≡ Open) × ¬ IsClosed c × (¬ IsClosed b → c ≡ b) × (is_graph c ≡ is_graph b)
 
 -- ---- whole runs
--- What a finished run gives: the graph, and the text of the warnings.
+-- What a finished run gives: the graph, the text of the warnings, and the paths that have one.
 pub record Profile : Type 0 where
   pub graph : Graph
   pub warnings : List ℕ
+  pub warned : List Warned
 
 -- How a flame graph's collector ends: with its first cause; or Open where a visitor is out; or with what p says of its sums, where memory is not refused.
 abbrev pub Ends : {T : Type 0} → (Sums → T → Type 0) → State → Result T Refusal → Type 0
@@ -102,11 +103,11 @@ Ends p (Going (OfGraph c)) (Ok made) = IsClosed (OfGraph c) × p c.sums made
 Ends p (Going (OfGraph c)) (Err e) = ((e ≡ Open) × ¬ IsClosed (OfGraph c)) ⊎ ((e ≡ Memory) × IsClosed (OfGraph c))
 Ends p (Going (OfHeld h)) result = ⊥
 
--- Graph and warnings are those of the sums.
+-- Graph, warnings and the paths that have one are those of the sums.
 abbrev pub IsProfile : Sums → Profile → Type 0
-IsProfile s o = (o.graph ≡ graph s) × (o.warnings ≡ warnings s)
+IsProfile s o = (o.graph ≡ graph s) × (o.warnings ≡ warnings s) × (o.warned ≡ warned_paths s)
 
--- The profile is that of some whole showing f which p allows: f reaches exactly the identities whose contents it shows, its own entries have a meaning, and graph and warnings are those of each such meaning.
+-- The profile is that of some whole showing f which p allows: f reaches exactly the identities whose contents it shows, its own entries have a meaning, and graph, warnings and the paths that have one are those of each such meaning.
 pub record IsProfileOf (p : Showing) (o : Profile) : Type 0 where
   pub shown : Forest
   pub allowed : p shown
@@ -115,6 +116,7 @@ pub record IsProfileOf (p : Showing) (o : Profile) : Type 0 where
   pub meaning : IsMeaning (own shown) (content_of shown) (all shown)
   pub graph_is : (m : Bag) → IsMeaning (own shown) (content_of shown) m → o.graph ≡ graph (sums_of m)
   pub warnings_are : (m : Bag) → IsMeaning (own shown) (content_of shown) m → o.warnings ≡ warnings (sums_of m)
+  pub warned_are : (m : Bag) → IsMeaning (own shown) (content_of shown) m → o.warned ≡ warned_paths (sums_of m)
 
 -- g is the graph of some whole showing that p allows.
 pub record IsGraphOf (p : Showing) (g : Graph) : Type 0 where

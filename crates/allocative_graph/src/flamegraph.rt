@@ -1,10 +1,11 @@
 //! Flame graphs: maps from paths of keys to sizes.
 ghost use Rattle.std.specs.Prelude.{◌≡◌, ◌+◌, ◌^◌, ◌<◌, ◌≤◌, ◌↔◌, ◌++◌, [], ◌∷◌, IfOk, IfErr, IfSome, IfNone, OnOk, OnErr, IsErrOf, string_bytes, map, length, is_ok};
+ghost use Rattle.std.specs.Bool.{OnFalse};
 ghost use Rattle.std.specs.Vec.{vec_capacity};
 ghost use Rattle.std.specs.FinMap as map;
 ghost use Rattle.allocative_graph.specs.Path.{key_cmp};
-ghost use Rattle.allocative_graph.specs.Graph.{add_self, total, text, default, sum_of, under, text_of_entries, line, joined, IsTree};
-ghost use Rattle.allocative_graph.specs.Parts.{behind, IsPartOfSum};
+ghost use Rattle.allocative_graph.specs.Graph.{add_self, total, text, default, sum_of, under, joined, IsTree};
+ghost use Rattle.allocative_graph.specs.Parts.{size_text, lines_from, lines_below, HasRootAlone, IsPartOfSum};
 ghost use Rattle.allocative_graph.specs.Node.{weight, AreChildren};
 ghost use Rattle.allocative_graph.specs.Children.{front_order, InOrder, IsFound, IsGap};
 ghost use Rattle.allocative_graph.specs.Merged.{Added, Merged, IsNext};
@@ -12,11 +13,17 @@ ghost use Rattle.allocative_graph.specs.declared.flamegraph.Child.{Child};
 
 use crate::key::Key;
 use crate::refusal::Refusal;
+use itoa::Buffer;
 use std::alloc::{AllocError, Global};
 use std::cmp::Ordering;
 use std::collections::VecDeque;
 use std::marker::Model;
 use std::mem;
+
+mod many;
+mod reads;
+
+pub use reads::Row;
 
 /// A map from paths of keys to sizes in bytes.
 ///
@@ -42,11 +49,14 @@ pub struct FlameGraph {
     node_size: usize,
 }
 
+/// A key, and the graph below it.
 #[cycle(graph)]
 #[derive(Drop)]
-struct Child {
-    key: Key,
-    graph: FlameGraph,
+pub struct Child {
+    /// The key below which the graph stands.
+    pub key: Key,
+    /// The graph of what stands below the key; its root is the key's own path.
+    pub graph: FlameGraph,
 }
 
 impl Model for FlameGraph {
@@ -83,6 +93,16 @@ impl FlameGraph {
             children_size: 0,
             node_size: 0,
         }
+    }
+
+    /// The graph with the root alone, of size 0, and with room for so many children of the root: adding them takes no
+    /// memory again. It answers an error only for want of memory.
+    pub fn with_capacity(alloc: Global, children: usize) -> Result<FlameGraph, AllocError>
+        ensures { IfOk result (λ graph. graph ≡ default) }
+    {
+        let mut graph = FlameGraph::default(alloc);
+        graph.children.reserve_exact(children)?;
+        Ok(graph)
     }
 
     /// The sum of the sizes of all paths in bytes, the root's own among them.
@@ -131,6 +151,9 @@ impl FlameGraph {
     }
 
     /// Adds another graph with the key put before each of its paths; all other paths stay as they are.
+    ///
+    /// A new key that is not behind all others moves the children behind it, so that many keys out of order cost the square of
+    /// their number: [`add_children`](FlameGraph::add_children) adds many at once.
     ///
     /// The refusals, and what they leave, are those of [`add`](FlameGraph::add).
     pub fn add_child(&mut self, key: Key, child: FlameGraph) -> Result<(), Refusal>
@@ -200,27 +223,46 @@ impl FlameGraph {
     {
         let alloc = *self.children.allocator();
         let mut text = String::new(alloc);
-        let mut keys: Vec<&'static str> = Vec::new(alloc);
-        match self.write_lines(&mut keys, &mut text) {
+        let mut start = String::new(alloc);
+        match self.write_below(&mut start, &mut text) {
             Ok(()) => Ok(text),
             Err(_) => Err(Refusal::Memory),
         }
     }
 
-    // Appends the lines of all paths, behind some keys.
-    fn write_lines(&self, keys: &mut Vec<&'static str>, text: &mut String) -> Result<(), AllocError>
-        ensures keys { OnOk result (keys.new.items ≡ keys.old.items) }
-        ensures text { OnOk result (string_bytes text.new ≡ string_bytes text.old ++ text_of_entries (behind (map (λ k. k.now) keys.old.items) (map.entries self.now))) }
+    // Appends the lines of all paths but the root, each behind what lines start with here.
+    fn write_below(&self, start: &mut String, text: &mut String) -> Result<(), AllocError>
+        ensures start { OnOk result (string_bytes start.new ≡ string_bytes start.old) }
+        ensures text { OnOk result (string_bytes text.new ≡ string_bytes text.old ++ lines_below (string_bytes start.old) (map.entries self.now)) }
     {
-        if self.node_size != 0 {
-            push_line(keys.as_slice(), self.node_size, text)?;
-        }
+        let length = start.len();
         for child in &self.children {
-            keys.push(child.key.as_str())?;
-            child.graph.write_lines(keys, text)?;
-            keys.pop();
+            start.push_str(child.key.as_str())?;
+            child.graph.write_own(start.as_str(), text)?;
+            if child.graph.has_children() {
+                start.push(';')?;
+                child.graph.write_below(start, text)?;
+            }
+            start.truncate(length);
         }
         Ok(())
+    }
+
+    // Appends the root's own line, behind the keys of its path.
+    fn write_own(&self, path: &str, text: &mut String) -> Result<(), AllocError>
+        ensures { OnOk result (string_bytes text.new ++ lines_below (path.now ++ 59 ∷ []) (map.entries self.now) ≡ string_bytes text.old ++ lines_from path.now (map.entries self.now)) }
+    {
+        if self.node_size != 0 {
+            push_line(path, self.node_size, text)?;
+        }
+        Ok(())
+    }
+
+    // Whether there are other paths than the root.
+    fn has_children(&self) -> bool
+        ensures { OnFalse result (HasRootAlone self.now) }
+    {
+        !self.children.is_empty()
     }
 }
 
@@ -248,16 +290,15 @@ impl Clone for FlameGraph {
     }
 }
 
-// Appends the line of a path with a size that is not 0, and nothing for the root.
-fn push_line(keys: &[&str], size: usize, text: &mut String) -> Result<(), AllocError>
-    requires { 0 < size }
-    ensures { OnOk result (string_bytes text.new ≡ string_bytes text.old ++ line (map (λ k. k.now) keys.now, size)) }
+// Appends a path, and behind it the size of its line.
+fn push_line(path: &str, size: usize, text: &mut String) -> Result<(), AllocError>
+    ensures { OnOk result (string_bytes text.new ≡ string_bytes text.old ++ (path.now ++ size_text size)) }
 {
-    if keys.is_empty() {
-        return Ok(());
-    }
-    push_path(keys, text)?;
-    write!(text, " {size}\n")?;
+    let mut digits = Buffer::new();
+    text.push_str(path)?;
+    text.push(' ')?;
+    text.push_str(digits.format(size))?;
+    text.push('\n')?;
     Ok(())
 }
 

@@ -154,7 +154,7 @@ impl Clone for Key {
     }
 }
 
-/// As the text.
+/// The text in quotes, as `str` shows it.
 impl fmt::Debug for Key {
     fn fmt<W: fmt::Write>(&self, f: &mut fmt::Formatter<W>) -> fmt::Result {
         self.as_str().fmt(f)

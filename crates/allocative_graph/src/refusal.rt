@@ -2,18 +2,18 @@
 use std::alloc::{AllocError, AllocFailed};
 use thiserror::Error;
 
-/// Why a call refused.
+/// Why a call refused. `refusal as u8` gives its number, which stays what it is: 1, 2 or 3.
 #[derive(Clone, Copy, Debug, PartialEq, Eq, Error)]
 pub enum Refusal {
     /// A growth of memory was refused, or a caller's own code made this refusal.
     #[error("out of memory")]
-    Memory,
+    Memory = 1,
     /// A declared size, a product or a sum of sizes passes its bound.
     #[error("sizes do not fit")]
-    TooLarge,
+    TooLarge = 2,
     /// A visitor was entered and neither left nor dropped.
     #[error("a visitor was forgotten")]
-    Open,
+    Open = 3,
 }
 
 impl From<AllocError> for Refusal {

@@ -1,5 +1,5 @@
 // What no clause says: worked examples, printed texts, and what is left where memory is refused.
-use crate::flamegraph::{FlameGraph, push_path};
+use crate::flamegraph::{Child, FlameGraph, push_path};
 use crate::ident_key;
 use crate::key::Key;
 use crate::refusal::Refusal;
@@ -148,6 +148,105 @@ fn after_memory_each_size_is_old_or_summed(rt: HostRuntime) -> Result<(), Refusa
     Ok(())
 }
 
+// The root with 1, `a` with 2, `a;x` with 4 and `b` with 8.
+fn read_sample(alloc: Global) -> Result<FlameGraph, Refusal> {
+    let mut a = own(alloc, 2)?;
+    a.add_child(Key::new("x"), own(alloc, 4)?)?;
+    let mut graph = own(alloc, 1)?;
+    graph.add_child(Key::new("b"), own(alloc, 8)?)?;
+    graph.add_child(Key::new("a"), a)?;
+    Ok(graph)
+}
+
+#[test]
+fn a_path_has_its_figures(rt: HostRuntime) -> Result<(), Refusal> {
+    let graph = read_sample(rt.alloc())?;
+    assert_eq!(rt; graph.self_size(), 1);
+    assert_eq!(rt; graph.size_at(&[]), 1);
+    assert_eq!(rt; graph.total_at(&[]), 15);
+    assert_eq!(rt; graph.size_at(&["a"]), 2);
+    assert_eq!(rt; graph.total_at(&["a"]), 6);
+    assert_eq!(rt; graph.size_at(&["a", "x"]), 4);
+    assert_eq!(rt; graph.size_at(&["x"]), 0);
+    assert_eq!(rt; graph.total_at(&["b", "x"]), 0);
+    Ok(())
+}
+
+#[test]
+fn the_graph_at_a_path_has_what_stands_below_it(rt: HostRuntime) -> Result<(), Refusal> {
+    let graph = read_sample(rt.alloc())?;
+    assert!(rt; graph.get(&["b", "x"]).is_none());
+    let mut found = String::new(rt.alloc());
+    if let Some(a) = graph.get(&["a"]) {
+        found = a.write()?;
+    }
+    assert_eq!(rt; found.as_str(), "x 4\n");
+    Ok(())
+}
+
+#[test]
+fn children_stand_in_the_order_of_keys(rt: HostRuntime) -> Result<(), Refusal> {
+    let graph = read_sample(rt.alloc())?;
+    let mut text = String::new(rt.alloc());
+    for child in graph.children() {
+        let key = child.key.as_str();
+        let total = child.graph.total_size();
+        write!(text, "{key} {total}\n")?;
+    }
+    assert_eq!(rt; text.as_str(), "a 6\nb 8\n");
+    Ok(())
+}
+
+#[test]
+fn rows_stand_in_the_order_of_paths(rt: HostRuntime) -> Result<(), Refusal> {
+    let graph = read_sample(rt.alloc())?;
+    let mut text = String::new(rt.alloc());
+    for row in &graph.rows()? {
+        push_path(row.path.as_slice(), &mut text)?;
+        write!(text, " {} {}\n", row.self_size, row.total_size)?;
+    }
+    assert_eq!(rt; text.as_str(), " 1 15\na 2 6\na;x 4 4\nb 8 8\n");
+    Ok(())
+}
+
+#[test]
+fn many_children_are_added_at_once(rt: HostRuntime) -> Result<(), Refusal> {
+    let alloc = rt.alloc();
+    let mut children = Vec::new(alloc);
+    for (key, size) in [("c", 1), ("a", 2), ("c", 4), ("b", 8)] {
+        children.push(Child {
+            key: Key::new(key),
+            graph: own(alloc, size)?,
+        })?;
+    }
+    let mut graph = one(alloc, "b", 16)?;
+    graph.add_children(children)?;
+    assert_eq!(rt; graph.write()?.as_str(), "a 2\nb 24\nc 5\n");
+    assert_eq!(rt; graph.total_size(), 31);
+    Ok(())
+}
+
+#[test]
+fn many_children_past_the_bound_are_refused(rt: HostRuntime) -> Result<(), Refusal> {
+    let alloc = rt.alloc();
+    let mut graph = own(alloc, 1)?;
+    for size in [usize::MAX, usize::MAX - 1] {
+        let mut children = Vec::new(alloc);
+        children.push(Child {
+            key: Key::new("a"),
+            graph: own(alloc, size)?,
+        })?;
+        children.push(Child {
+            key: Key::new("b"),
+            graph: own(alloc, 1)?,
+        })?;
+        assert_eq!(rt; graph.add_children(children), Err(Refusal::TooLarge));
+        assert_eq!(rt; graph.total_size(), 1);
+        assert_eq!(rt; graph.write()?.as_str(), "");
+    }
+    Ok(())
+}
+
 #[test]
 fn a_path_is_joined_by_semicolons(rt: HostRuntime) -> Result<(), Refusal> {
     let mut text = String::new(rt.alloc());
@@ -225,6 +324,20 @@ fn shared_values_keep_their_identities(rt: HostRuntime) -> Result<(), Refusal> {
     let other = threaded.clone()?;
     assert_eq!(rt; other.id(), id);
     assert_eq!(rt; *other.get(), 8);
+    Ok(())
+}
+
+#[test]
+fn refusals_have_their_numbers(rt: HostRuntime) {
+    assert_eq!(rt; Refusal::Memory as u8, 1);
+    assert_eq!(rt; Refusal::TooLarge as u8, 2);
+    assert_eq!(rt; Refusal::Open as u8, 3);
+}
+
+#[test]
+fn a_key_is_shown_as_its_text(rt: HostRuntime) -> Result<(), Refusal> {
+    let shown = format!(in rt.alloc(); "{:?}", Key::new("count"))?;
+    assert_eq!(rt; shown.as_str(), "\"count\"");
     Ok(())
 }
 

@@ -1,5 +1,5 @@
 -- What a document's roots show, and which reports of them are right.
-use Rattle.std.specs.Prelude.{◌≡◌, ℕ, ℤ, Bool, true, false, ⊤, List, Option, None, Some, codes}
+use Rattle.std.specs.Prelude.{◌≡◌, ℕ, ℤ, ◌<◌, Bool, true, false, List, length, Option, None, Some, codes}
 use Rattle.std.specs.BTreeSet.{BTreeSet}
 use Rattle.serde_json.specs.Data.{Data}
 use Rattle.allocative_graph.specs.Graph.{text}
@@ -39,9 +39,9 @@ pub record IsRightReport (input : List ℕ) (index exact : Bool) (profile warnin
   pub profile_is : profile ≡ asked_text exact (text made.graph)
   pub warnings_are : warnings ≡ made.warnings
 
--- The fault may be answered where a report of the input is made: TooLarge and Open only where it is a document whose numbers are whole.
+-- The fault may be answered where a report of the input is made: Memory only where there is input; TooLarge and Open only where it is a document whose numbers are whole.
 abbrev pub RefusesReport : List ℕ → Fault → Type 0
-RefusesReport input Memory = ⊤
+RefusesReport input Memory = 0 < length input
 RefusesReport input NotJson = (d : Data) → ¬ IsDocument input d
 RefusesReport input NotWhole = (d : Data) × IsDocument input d × (is_whole d ≡ false)
 RefusesReport input TooLarge = (d : Data) × IsWholeDocument input d

@@ -1,5 +1,5 @@
 -- The document that an input is, and why there is none.
-use Rattle.std.specs.Prelude.{◌≡◌, ℕ, ℤ, Bool, true, false, ⊤, List, Option, None, Some, IsUtf8}
+use Rattle.std.specs.Prelude.{◌≡◌, ℕ, ℤ, ◌<◌, Bool, true, false, List, length, Option, None, Some, IsUtf8}
 use Rattle.std.specs.BTreeSet.{BTreeSet}
 use Rattle.serde_json.specs.Data.{Data}
 use Rattle.serde_json.specs.Read.{read}
@@ -22,9 +22,9 @@ abbrev pub IsIndexIf : Bool → Data → Option (BTreeSet ℤ) → Type 0
 IsIndexIf asked d None = asked ≡ false
 IsIndexIf asked d (Some s) = (asked ≡ true) × IsIndexOf d s
 
--- The fault may be answered where the roots are read from the input: Memory; NotJson where the input is no document; NotWhole where it is one that has another number.
+-- The fault may be answered where the roots are read from the input: Memory where there is input; NotJson where the input is no document; NotWhole where it is one that has another number.
 abbrev pub RefusesInput : List ℕ → Fault → Type 0
-RefusesInput input Memory = ⊤
+RefusesInput input Memory = 0 < length input
 RefusesInput input NotJson = (d : Data) → ¬ IsDocument input d
 RefusesInput input NotWhole = (d : Data) × IsDocument input d × (is_whole d ≡ false)
 RefusesInput input TooLarge = ⊥

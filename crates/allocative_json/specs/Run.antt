@@ -1,5 +1,5 @@
 -- What a whole run comes to.
-use Rattle.std.specs.Prelude.{◌≡◌, ℕ, List, Option, IfSome}
+use Rattle.std.specs.Prelude.{◌≡◌, ℕ, ◌<◌, ⊤, List, length, Option, IfSome}
 use Rattle.std.specs.Io.KnownBytes.{Appends}
 use Rattle.allocative_json.specs.declared.fault.Fault.{Fault}
 use Rattle.allocative_json.specs.declared.fault.Fault.TheVariants.{Memory, NotJson, NotWhole, TooLarge, Reading, Writing, Open}
@@ -32,12 +32,23 @@ pub record IsReported (texts : List Word) (known : Option (List ℕ)) : Type 0 w
   pub warnings : List ℕ
   pub report : IsReportFor texts known profile warnings
 
+-- The fault may be answered where the input is read: Memory where there is input; or Reading.
+abbrev pub StopsReading : Option (List ℕ) → Fault → Type 0
+StopsReading known Memory = IfSome known (λ bytes. 0 < length bytes)
+StopsReading known Reading = ⊤
+StopsReading known NotJson = ⊥
+StopsReading known NotWhole = ⊥
+StopsReading known TooLarge = ⊥
+StopsReading known fault.Words = ⊥
+StopsReading known Writing = ⊥
+StopsReading known Open = ⊥
+
 -- The fault may end a run before anything is written: Words exactly where the words are not taken; else one of reading, or of a report of the bytes that were read.
 abbrev pub MayEndRun : List Word → Option (List ℕ) → Fault → Type 0
 MayEndRun texts known fault.Words = ¬ AreWords texts
 MayEndRun texts known Reading = AreWords texts
 MayEndRun texts known Writing = ⊥
-MayEndRun texts known Memory = AreWords texts
+MayEndRun texts known Memory = AreWords texts × IfSome known (λ bytes. RefusesReport bytes Memory)
 MayEndRun texts known NotJson = AreWords texts × IfSome known (λ bytes. RefusesReport bytes NotJson)
 MayEndRun texts known NotWhole = AreWords texts × IfSome known (λ bytes. RefusesReport bytes NotWhole)
 MayEndRun texts known TooLarge = AreWords texts × IfSome known (λ bytes. RefusesReport bytes TooLarge)

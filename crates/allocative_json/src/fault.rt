@@ -68,6 +68,22 @@ impl From<Refusal> for Fault {
     }
 }
 
+impl From<serde_json::Error> for Fault {
+    ghost use Rattle.std.specs.Prelude.{◌≡◌};
+    ghost use Rattle.serde_json.specs.Errors.{IsMemory};
+    ghost use Rattle.allocative_json.specs.declared.fault.Fault.TheVariants.{Memory, NotJson};
+
+    ghost from_gives = { λ e f. (IsMemory e → f ≡ Memory) × (¬ IsMemory e → f ≡ NotJson) };
+
+    fn from(error: serde_json::Error) -> Fault {
+        if error.is_memory() {
+            Fault::Memory
+        } else {
+            Fault::NotJson
+        }
+    }
+}
+
 impl From<AllocError> for Fault {
     ghost use Rattle.std.specs.Prelude.{◌≡◌};
     ghost use Rattle.allocative_json.specs.declared.fault.Fault.TheVariants.{Memory};

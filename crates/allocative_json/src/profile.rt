@@ -10,7 +10,7 @@ use crate::fault::Fault;
 use crate::report;
 use crate::roots::read_roots;
 use crate::texts::Report;
-use allocative::{FlameGraphBuilder, FlameGraphOutput, Refusal};
+use allocative::{FlameGraphBuilder, FlameGraphOutput, Refusal, Registry, profile_roots};
 use serde_json::Value;
 use std::alloc::Global;
 use std::collections::BTreeSet;
@@ -45,18 +45,58 @@ fn profile_of(
     builder.finish()
 }
 
+// Graph and warnings of these roots, which are boxed and walked by a registry.
+fn profile_by_registry(
+    alloc: Global,
+    document: Value,
+    numbers: Option<BTreeSet<i128>>,
+) -> Result<FlameGraphOutput, Refusal>
+    ensures { IfOk result (IsProfileOf (both_show (view document) numbers)) }
+{
+    let mut registry = Registry::new(alloc);
+    if registry.register_root(Box::new(alloc, document)?).is_err() {
+        return Err(Refusal::Memory);
+    }
+    let Some(numbers) = numbers else {
+        return profile_roots(&registry);
+    };
+    if registry.register_root(Box::new(alloc, numbers)?).is_err() {
+        return Err(Refusal::Memory);
+    }
+    profile_roots(&registry)
+}
+
 /// The texts that stand for the input: the profile of its document and, with `index`, of the set of its numbers, and the
 /// warnings. With `exact` the profile is without the lines whose last key is `unused_capacity`. The roots are visited by
 /// their own `visit`.
 ///
 /// `Fault::NotJson` and `Fault::NotWhole` as from `read_roots`. `Fault::TooLarge` and `Fault::Open` only for a document whose
 /// numbers are whole: the first where the declared sizes pass their bound, the second by no implementation that is here. Else
-/// `Fault::Memory`.
+/// `Fault::Memory`, which no empty input brings about.
 pub fn profile_json(alloc: Global, input: &[u8], index: bool, exact: bool) -> Result<Report, Fault>
     ensures ok { IfOk result (λ made. IsRightReport input.now index exact (string_bytes made.profile) (string_bytes made.warnings)) }
     ensures err { IfErr result (RefusesReport input.now) }
 {
     let (document, numbers) = read_roots(alloc, input, index)?;
     let output = profile_of(alloc, &document, &numbers)?;
+    report::report(alloc, &output, exact)
+}
+
+/// The texts that stand for the input, made by `profile_roots` over boxed roots: the profile of its document and, with `index`,
+/// of the set of its numbers, and the warnings. With `exact` the profile is without the lines whose last key is
+/// `unused_capacity`.
+///
+/// Each fault comes where it comes from `profile_json`.
+pub fn profile_registered(
+    alloc: Global,
+    input: &[u8],
+    index: bool,
+    exact: bool,
+) -> Result<Report, Fault>
+    ensures ok { IfOk result (λ made. IsRightReport input.now index exact (string_bytes made.profile) (string_bytes made.warnings)) }
+    ensures err { IfErr result (RefusesReport input.now) }
+{
+    let (document, numbers) = read_roots(alloc, input, index)?;
+    let output = profile_by_registry(alloc, document, numbers)?;
     report::report(alloc, &output, exact)
 }

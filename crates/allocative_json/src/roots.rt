@@ -1,5 +1,5 @@
 //! Reads a document and its numbers.
-ghost use Rattle.std.specs.Prelude.{◌≡◌, OnOk, IfOk, IfErr};
+ghost use Rattle.std.specs.Prelude.{◌≡◌, true, false, OnOk, IfOk, IfErr, MatchResult};
 ghost use Rattle.std.specs.Ordering.{int_cmp};
 ghost use Rattle.std.specs.BTreeSet.{IsOrdered};
 ghost use Rattle.serde_json.specs.View.{view, items_view, members_view};
@@ -97,26 +97,34 @@ fn index_of(alloc: Global, document: &Value) -> Result<BTreeSet<i128>, AllocErro
     Ok(set)
 }
 
-// The document that the input is, whatever its numbers.
+// Ok exactly where each number is an i64 or a u64, and else `Fault::NotWhole`.
+fn check_numbers(document: &Value) -> Result<(), Fault>
+    ensures { MatchResult result
+        (λ _. is_whole (view document.now) ≡ true)
+        (λ f. (f ≡ Fault.NotWhole) × (is_whole (view document.now) ≡ false)) }
+{
+    if is_whole_value(document) {
+        Ok(())
+    } else {
+        Err(Fault::NotWhole)
+    }
+}
+
+// The document that the input is, where its numbers are whole.
 fn read_document(alloc: Global, input: &[u8]) -> Result<Value, Fault>
     ensures ok { IfOk result (λ document. IsWholeDocument input.now (view document)) }
     ensures err { IfErr result (RefusesInput input.now) }
 {
-    let document = match Value::from_slice(alloc, input) {
-        Ok(document) => document,
-        Err(error) if error.is_memory() => return Err(Fault::Memory),
-        Err(_) => return Err(Fault::NotJson),
-    };
-    if !is_whole_value(&document) {
-        return Err(Fault::NotWhole);
-    }
+    let document = Value::from_slice(alloc, input)?;
+    check_numbers(&document)?;
     Ok(document)
 }
 
 /// The document that `serde_json` reads from the input and, exactly with `index`, the set of its whole numbers at any depth.
 ///
 /// `Fault::NotJson` where `serde_json` refuses the input for another cause than memory, `Fault::NotWhole` where the document
-/// has a number that is neither an i64 nor a u64, and else `Fault::Memory`.
+/// has a number that is neither an i64 nor a u64, and else `Fault::Memory`, which no empty input brings about.
+#[tactic(auto, using(crate::proofs::Reports::some_input))]
 pub fn read_roots(
     alloc: Global,
     input: &[u8],

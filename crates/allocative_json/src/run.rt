@@ -2,21 +2,22 @@
 ghost use Rattle.std.specs.Prelude.{◌≡◌, ◌≢◌, ◌⊎◌, OnOk, OnErr, IfOk, IfErr, IfSome, IsOkAnd, string_bytes};
 ghost use Rattle.std.specs.Io.KnownBytes.{Appends};
 ghost use Rattle.allocative_json.specs.Fault.{status_of};
-ghost use Rattle.allocative_json.specs.Run.{IsReportFor, IsReported, EndsWell, EndsIn, MayEndRun};
+ghost use Rattle.allocative_json.specs.Profile.{IsRightReport, RefusesReport};
+ghost use Rattle.allocative_json.specs.Run.{StopsReading, IsReportFor, IsReported, EndsWell, EndsIn, MayEndRun};
 ghost use Rattle.allocative_json.specs.Words.{words_of};
 
 use crate::fault::Fault;
-use crate::profile::profile_json;
+use crate::profile::{profile_json, profile_registered};
 use crate::texts::Report;
-use crate::words::read_words;
+use crate::words::{Words, read_words};
 use std::alloc::Global;
 use std::io::{ErrorKind, Read, Write};
 
-/// All that the reader gives. `Fault::Reading` where a read failed, and else `Fault::Memory`. An interrupted read is taken
-/// again.
+/// All that the reader gives. `Fault::Reading` where a read failed, and else `Fault::Memory`, which no empty input brings
+/// about. An interrupted read is taken again.
 pub fn read_input<R: Read>(alloc: Global, input: &mut R) -> Result<Vec<u8>, Fault>
     ensures ok { IfOk result (λ bytes. IfSome (R.remaining input.old) (λ known. bytes.items ≡ known)) }
-    ensures err { IfErr result (λ f. (f ≡ Fault.Memory) ⊎ (f ≡ Fault.Reading)) }
+    ensures err { IfErr result (StopsReading (R.remaining input.old)) }
 {
     let mut bytes = Vec::new(alloc);
     let mut piece = [0u8; 4096];
@@ -65,6 +66,18 @@ pub fn tell<E: Write>(errors: &mut E, fault: Fault) -> u8
     fault.status()
 }
 
+// The report of the input, by a registry or without.
+fn profile_as_asked(alloc: Global, asked: Words, input: &[u8]) -> Result<Report, Fault>
+    ensures ok { IfOk result (λ made. IsRightReport input.now asked.index asked.exact (string_bytes made.profile) (string_bytes made.warnings)) }
+    ensures err { IfErr result (RefusesReport input.now) }
+{
+    if asked.registry {
+        profile_registered(alloc, input, asked.index, asked.exact)
+    } else {
+        profile_json(alloc, input, asked.index, asked.exact)
+    }
+}
+
 // Looks at the words, reads the input, and makes the report of it.
 fn make_report<R: Read>(alloc: Global, words: &[String], input: &mut R) -> Result<Report, Fault>
     ensures ok { IfOk result (λ made. IsReportFor (words_of words.now) (R.remaining input.old) (string_bytes made.profile) (string_bytes made.warnings)) }
@@ -72,7 +85,7 @@ fn make_report<R: Read>(alloc: Global, words: &[String], input: &mut R) -> Resul
 {
     let asked = read_words(words)?;
     let bytes = read_input(alloc, input)?;
-    profile_json(alloc, bytes.as_slice(), asked.index, asked.exact)
+    profile_as_asked(alloc, asked, bytes.as_slice())
 }
 
 /// Ends a run: writes the report that was made, or the line of the fault. Its answer is the status.
@@ -95,7 +108,8 @@ pub fn finish<W: Write, E: Write>(made: Result<Report, Fault>, output: &mut W, e
 ///
 /// With status 0 the profile stands on the output and the warnings on the errors; both are made before anything is written, and
 /// the profile is written first. Else the fault's line goes to the errors and, but for status 7, nothing goes to the output; the
-/// status is the fault's also where that line cannot be written. With the word `registry` it answers as without it.
+/// status is the fault's also where that line cannot be written. With the word `registry` the roots are boxed and walked by a
+/// registry, and the clauses are those without it.
 pub fn run_json<R: Read, W: Write, E: Write>(
     alloc: Global,
     words: &[String],

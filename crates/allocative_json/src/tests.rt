@@ -1,21 +1,20 @@
 //! Rows of documents with the texts that stand for them, and runs whose input or output fails.
 use crate::fault::Fault;
 use crate::profile::profile_json;
-use crate::report;
 use crate::roots::read_roots;
 use crate::run::run_json;
 use crate::words::{Words, read_words};
-use allocative::{Registry, profile_roots};
 use std::alloc::{AllocError, Global};
 use std::io;
 use std::io::{ErrorKind, Read, Write};
 use std::process::Abort;
 use std::test::Fail;
 
-// Gives its bytes one a read, and at one read the error in their place.
+// Gives its bytes, some at a read, and at one read the error in their place.
 #[derive(Drop)]
 struct Source<'a> {
     bytes: &'a [u8],
+    most_at_once: usize,
     reads: u64,
     fails_at: u64,
     error: ErrorKind,
@@ -27,21 +26,18 @@ impl Read for Source<'_> {
         if self.reads == self.fails_at {
             return Err(io::Error::from(self.error));
         }
-        if buf.is_empty() {
-            return Ok(0);
-        }
-        let Some((first, rest)) = self.bytes.split_first() else {
-            return Ok(0);
-        };
-        buf[0] = *first;
+        let count = self.most_at_once.min(buf.len()).min(self.bytes.len());
+        let (first, rest) = self.bytes.split_at(count);
+        buf[..count].copy_from_slice(first);
         self.bytes = rest;
-        Ok(1)
+        Ok(count)
     }
 }
 
-// Keeps what it is given, twenty bytes a write, and fails at one of its writes and flushes.
+// Takes twenty bytes a write, and keeps them once they are flushed. It fails at one of its writes and flushes.
 #[derive(Drop)]
 struct Sink {
+    waiting: Vec<u8>,
     kept: Vec<u8>,
     calls: u64,
     fails_at: u64,
@@ -50,6 +46,7 @@ struct Sink {
 impl Sink {
     fn new(alloc: Global, fails_at: u64) -> Sink {
         Sink {
+            waiting: Vec::new(alloc),
             kept: Vec::new(alloc),
             calls: 0,
             fails_at,
@@ -69,12 +66,15 @@ impl Write for Sink {
     fn write(&mut self, buf: &[u8]) -> io::Result<usize> {
         self.call()?;
         let taken = &buf[..buf.len().min(20)];
-        self.kept.extend_from_slice(taken)?;
+        self.waiting.extend_from_slice(taken)?;
         Ok(taken.len())
     }
 
     fn flush(&mut self) -> io::Result<()> {
-        self.call()
+        self.call()?;
+        self.kept.extend_from_slice(&self.waiting)?;
+        self.waiting.clear();
+        Ok(())
     }
 }
 
@@ -118,14 +118,16 @@ fn assert_status(rt: &impl Abort, ran: &Ran, want: u8, at: &str) {
     assert_eq!(rt; ran.status, want, "at {at}");
 }
 
-// Asserts what was written.
+// Asserts what was written, and that all of it was flushed.
 fn assert_written(rt: &impl Abort, sink: &Sink, want: &str, at: &str) {
+    assert!(rt; sink.waiting.is_empty(), "at {at}");
     assert_eq!(rt; sink.kept.as_slice(), want.as_bytes(), "at {at}");
 }
 
 fn whole(bytes: &[u8]) -> Source<'_> {
     Source {
         bytes,
+        most_at_once: 1,
         reads: 0,
         fails_at: 0,
         error: ErrorKind::Other,
@@ -143,12 +145,11 @@ const THREE_NUMBERS: &str =
 
 const FAR_NUMBERS: &str = "[18446744073709551615,-9223372036854775808,18446744073709551615]";
 
-// Words and a document, and the profile and the warnings of a run.
-const DOCUMENTS: [(&str, &str, &str, &str); 10] = [
+// Words and a document, and the profile and the warnings of a run with these words, and of one with `registry` too.
+const DOCUMENTS: [(&str, &str, &str, &str); 9] = [
     ("", "true", "Value 32\n", ""),
     ("exact index", "[7,8]", TWO_NUMBERS, SHORT_DATA),
     ("index exact", "[7,8]", TWO_NUMBERS, SHORT_DATA),
-    ("registry exact index", "[7,8]", TWO_NUMBERS, SHORT_DATA),
     (
         "exact",
         "{\"ab\":1}",
@@ -189,6 +190,46 @@ fn documents(rt: HostRuntime) -> Result<(), Fail> {
         assert_status(&rt, &ran, 0, input);
         assert_written(&rt, &ran.output, profile, input);
         assert_written(&rt, &ran.errors, warnings, input);
+    }
+    Ok(())
+}
+
+#[test]
+fn documents_by_a_registry(rt: HostRuntime) -> Result<(), Fail> {
+    for (words, input, profile, warnings) in DOCUMENTS {
+        let words = format!(in rt.alloc(); "registry {words}")?;
+        let mut input_bytes = whole(input.as_bytes());
+        let ran = run(rt.alloc(), words.as_str(), &mut input_bytes, 0, 0)?;
+        assert_status(&rt, &ran, 0, input);
+        assert_written(&rt, &ran.output, profile, input);
+        assert_written(&rt, &ran.errors, warnings, input);
+    }
+    Ok(())
+}
+
+// The document `true` behind so many spaces.
+fn behind_spaces(alloc: Global, spaces: u32) -> Result<Vec<u8>, AllocError> {
+    let mut bytes = Vec::new(alloc);
+    for _ in 0..spaces {
+        bytes.push(b' ')?;
+    }
+    bytes.extend_from_slice(b"true")?;
+    Ok(bytes)
+}
+
+#[test]
+fn reads_of_several_lengths(rt: HostRuntime) -> Result<(), Fail> {
+    let alloc = rt.alloc();
+    for spaces in [0u32, 1, 4091, 4092, 4093, 8188, 9000] {
+        let bytes = behind_spaces(alloc, spaces)?;
+        for most_at_once in [1usize, 1000, 4096, 10000] {
+            let mut input = whole(bytes.as_slice());
+            input.most_at_once = most_at_once;
+            let ran = run(alloc, "", &mut input, 0, 0)?;
+            let at = format!(in alloc; "{spaces} spaces, {most_at_once} bytes at once")?;
+            assert_status(&rt, &ran, 0, at.as_str());
+            assert_written(&rt, &ran.output, "Value 32\n", at.as_str());
+        }
     }
     Ok(())
 }
@@ -340,35 +381,6 @@ fn writes_of_warnings_that_fail(rt: HostRuntime) -> Result<(), Fail> {
     Ok(())
 }
 
-// Asserts that a text is this one.
-fn assert_same(rt: &impl Abort, text: &str, want: &str) {
-    assert_eq!(rt; text, want);
-}
-
-// The roots are boxed here, as `main` does.
-#[test]
-fn boxed_roots(rt: HostRuntime) -> Result<(), Fail> {
-    let alloc = rt.alloc();
-    for (input, index, profile, warnings) in [
-        ("true", false, "Value 32\n", ""),
-        ("[7,8]", true, TWO_NUMBERS, SHORT_DATA),
-        (FAR_NUMBERS, true, THREE_NUMBERS, SHORT_DATA),
-    ] {
-        let (document, numbers) = read_roots(alloc, input.as_bytes(), index)?;
-        let mut registry = Registry::new(alloc);
-        assert!(rt; registry.register_root(Box::new(alloc, document)?).is_ok());
-        assert_eq!(rt; numbers.is_some(), index);
-        if let Some(numbers) = numbers {
-            assert!(rt; registry.register_root(Box::new(alloc, numbers)?).is_ok());
-        }
-        let output = profile_roots(&registry)?;
-        let made = report::report(alloc, &output, true)?;
-        assert_same(&rt, made.profile.as_str(), profile);
-        assert_same(&rt, made.warnings.as_str(), warnings);
-    }
-    Ok(())
-}
-
 #[test]
 fn texts_with_unused_room(rt: HostRuntime) -> Result<(), Fail> {
     let alloc = rt.alloc();
@@ -413,6 +425,11 @@ fn lines_of_words(rt: HostRuntime) -> Result<(), Fail> {
         assert_eq!(rt; read_words(words.as_slice()), wanted, "at {line}");
     }
     Ok(())
+}
+
+// Asserts that a text is this one.
+fn assert_same(rt: &impl Abort, text: &str, want: &str) {
+    assert_eq!(rt; text, want);
 }
 
 #[test]

@@ -2,7 +2,7 @@
 use Rattle.std.proofs.Common.{◌≡◌, ℕ, ◌+◌, ◌-◌, ◌<◌, ◌≤◌, Bool, true, false, Option, Some, None, [], ◌∷◌, ◌++◌, length, take, drop, nat_eq, refl, sym, ap, ◌∙◌, subst, arith}
 use Rattle.std.specs.Map.{lookup, lookup_entry, remove_entry, values_of}
 use Rattle.std.specs.Option.{option_map, unwrap_or}
-use Rattle.std.specs.Prelude.{All, Result, Ok, Err, IfErr, IsErrAnd}
+use Rattle.std.specs.Prelude.{All, Result, Ok, Err, IfOk, IfErr, MatchResult}
 use Rattle.std.proofs.lemmas.Bool.{eqb-true}
 use Rattle.std.proofs.lemmas.List.{map-append, take_all}
 use Rattle.std.proofs.lemmas.List.Elements.{All-cons, All-take}
@@ -13,9 +13,10 @@ use Rattle.std.proofs.Math.Seq.{take-append_seam}
 use Rattle.lru.specs.LruCache.{lru_cache, put_entries}
 use Rattle.lru.proofs.CallerLemmas.{Contains-lookup_entry}
 use Rattle.bounded_cache.specs.declared.cache.Kept.{Kept}
-use Rattle.bounded_cache.specs.Entries.{Entries, bytes_of, kept, bounded, KeepsRecent, IsBounded, IsFigure, IsMeasured, Inserts, RefusesInsert}
+use Rattle.bounded_cache.specs.Entries.{Entries, bytes_of, kept, bounded, KeepsRecent, IsBounded, IsFigure, IsMeasured, Inserts, RefusesBytes, RefusesInsert}
+use Rattle.allocative_graph.specs.declared.refusal.Refusal.{Refusal}
 use Rattle.bounded_cache.specs.declared.error.CacheError.{CacheError}
-use Rattle.bounded_cache.specs.declared.error.CacheError.TheVariants.{Memory}
+use Rattle.bounded_cache.specs.declared.error.CacheError.TheVariants.{TooLarge, NotMeasured, Memory}
 use Rattle.allocative.specs.Forest.{Forest}
 
 module _ {V : Type 0} where
@@ -71,7 +72,15 @@ module _ {V : Type 0} (size : Option ℕ) (may_show : V → Forest → Type 0) w
         measured = All-cons P (kept v i.bytes) (values_of i.others) i.figure stay;
       })
 
-  -- The value is measured and fits, and memory is refused.
-  pub memory_refused : (v : V) (n bound : ℕ) (r : Result Unit CacheError) → IsErrAnd r (λ e. e ≡ Memory) → IsFigure size may_show v n → n ≤ bound → IfErr r (RefusesInsert size may_show v bound)
-  memory_refused v n bound (Ok u) is figure fits = tt
-  memory_refused v n bound (Err e) is figure fits = subst (RefusesInsert size may_show v bound) (sym is) (n, figure, fits)
+  -- The figure of a value that was measured.
+  pub figure_of : (v : V) (n : ℕ) (measured : Result ℕ Refusal) → measured ≡ Ok n → IfOk measured (IsFigure size may_show v) → IsFigure size may_show v n
+  figure_of v n measured is h = let P : Result ℕ Refusal → Type 0 = λ r. IfOk r (IsFigure size may_show v) in subst P is h
+
+  -- A value is refused as it is where it was measured, or as measuring it was.
+  pub refused_with : (v : V) (bound : ℕ) (measured : Result ℕ Refusal) (r : Result Unit CacheError) → IfOk measured (IsFigure size may_show v)
+      → MatchResult measured (λ n. IfErr r (RefusesBytes n bound)) (λ e. r ≡ Err (NotMeasured e)) → IfErr r (RefusesInsert size may_show v bound)
+  refused_with v bound (Ok n) (Ok u) figure h = tt
+  refused_with v bound (Ok n) (Err (TooLarge told most)) figure h = (subst (IsFigure size may_show v) (sym h.0) figure, h.1, subst (λ (m : ℕ). bound < m) (sym h.0) h.2)
+  refused_with v bound (Ok n) (Err (NotMeasured e)) figure h = absurd h
+  refused_with v bound (Ok n) (Err Memory) figure h = (n, figure, h)
+  refused_with v bound (Err e) r figure h = let P : Result Unit CacheError → Type 0 = λ x. IfErr x (RefusesInsert size may_show v bound) in subst P (sym h) tt

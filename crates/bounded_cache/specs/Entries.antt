@@ -65,6 +65,13 @@ pub record KeepsRecent {V : Type 0} (room : ℕ) (before after : Entries V) : Ty
   pub parts : before ≡ after ++ gone
   pub needed : IsNeeded room after gone
 
+-- ---- refusals
+-- Why a value of so many bytes does not come into a cache of this bound: they pass the bound; or they fit, and memory is refused.
+abbrev pub RefusesBytes : ℕ → ℕ → CacheError → Type 0
+RefusesBytes bytes bound (TooLarge told most) = (told ≡ bytes) × (most ≡ bound) × (bound < bytes)
+RefusesBytes bytes bound (NotMeasured e) = ⊥
+RefusesBytes bytes bound Memory = bytes ≤ bound
+
 module _ {V : Type 0} (size : Option ℕ) (may_show : V → Forest → Type 0) where
   -- ---- the figures
   -- n is declared bytes of v: those of v itself and of all that v uniquely holds, in a showing that v may make.

@@ -1,13 +1,13 @@
 //! A cache bounded by declared bytes. A clause sees it as its `entries`, the most recently used first, and its `bound`.
-ghost use Rattle.std.specs.Prelude.{◌≡◌, ◌+◌, ◌-◌, ◌^◌, ◌≤◌, [], ◌∷◌, length, take, drop, nat_eq, OnOk, OnErr, IfOk, IfErr, option_copied, ◌↔◌, IsTrue, is_some};
+ghost use Rattle.std.specs.Prelude.{◌≡◌, ◌+◌, ◌-◌, ◌^◌, ◌≤◌, [], ◌∷◌, length, take, drop, nat_eq, OnOk, OnErr, IfOk, IfErr, MatchResult, Err, option_copied, ◌↔◌, IsTrue, is_some};
 ghost use Rattle.std.specs.Borrow.{sem};
 ghost use Rattle.std.specs.List.{IsDistinct};
 ghost use Rattle.std.specs.Map.{remove_entry, keys_of};
 ghost use Rattle.lru.specs.LruCache.{lru_cache};
-ghost use Rattle.bounded_cache.specs.Entries.{bytes_of, KeepsRecent, bounded, IsBounded, Inserts, RefusesInsert, value_at, used, ends_as};
+ghost use Rattle.bounded_cache.specs.Entries.{bytes_of, KeepsRecent, bounded, IsBounded, IsFigure, Inserts, RefusesBytes, RefusesInsert, value_at, used, ends_as};
 
 use crate::error::CacheError;
-use allocative::{Allocative, Described, size_of_unique};
+use allocative::{Allocative, Described, Refusal, size_of_unique};
 use lru::LruCache;
 use std::alloc::{AllocError, Global};
 use std::marker::Model;
@@ -100,16 +100,33 @@ impl<V: Allocative + Described> BoundedCache<V> {
     /// Measures the value and keeps it under the key, as the most recently used, in place of what the key had. Of the others
     /// the least recently used go, no more than must.
     ///
-    /// `TooLarge` where the value alone passes the bound, `NotMeasured` where `size_of_unique` refuses it, and else `Memory`.
-    /// After an error nothing has changed, and the value is gone.
+    /// `TooLarge` where the value alone passes the bound, `NotMeasured` where `size_of_unique` refuses it, and `Memory` where it
+    /// fits and memory is refused. After an error nothing has changed, and the value is gone.
     pub fn insert(&mut self, key: u64, value: V) -> Result<(), CacheError>
         ensures ok { OnOk result (Inserts V.size V.may_show key value self.old self.new) }
         ensures refused { IfErr result (RefusesInsert V.size V.may_show value self.old.bound) }
         ensures err { OnErr result (self.new ≡ self.old) }
         ensures bounded { IsBounded V.size V.may_show self.new }
     {
+        let measured = size_of_unique(&value);
+        self.keep(key, value, measured)
+    }
+
+    // Keeps the value under the key, where it was measured.
+    fn keep(
+        &mut self,
+        key: u64,
+        value: V,
+        measured: Result<usize, Refusal>,
+    ) -> Result<(), CacheError>
+        requires { IfOk measured (IsFigure V.size V.may_show value) }
+        ensures ok { OnOk result (Inserts V.size V.may_show key value self.old self.new) }
+        ensures refused { MatchResult measured (λ bytes. IfErr result (RefusesBytes bytes self.old.bound)) (λ e. result ≡ Err (CacheError.NotMeasured e)) }
+        ensures err { OnErr result (self.new ≡ self.old) }
+        ensures bounded { IsBounded V.size V.may_show self.new }
+    {
         let bound = self.bound;
-        let bytes = size_of_unique(&value)?;
+        let bytes = measured?;
         if bytes > bound {
             return Err(CacheError::TooLarge { bytes, bound });
         }

@@ -19,6 +19,14 @@ lines rs = flat_map line rs
 abbrev pub IsPlain : Row → Type 0
 IsPlain r = AllByRecursion (λ b. b ≢ 10) r.0 × (r.1 < 2 ^ 64)
 
+-- The line, which stands without its line feed, is that of the row, and its bytes are a word.
+abbrev pub IsRowOf : Row → List ℕ → Type 0
+IsRowOf r l = (r.0 ++ 32 ∷ decimal r.1 ≡ l) × (r.1 < 2 ^ 64)
+
+-- The text begins with the line of a plain row.
+abbrev pub BeginsWithRow : List ℕ → Type 0
+BeginsWithRow t = (r : Row) × (rest : List ℕ) × IsPlain r × (line r ++ rest ≡ t)
+
 -- The text is the lines of the rows.
 abbrev pub AreRowsOf : List Row → List ℕ → Type 0
 AreRowsOf rs t = AllByRecursion IsPlain rs × (lines rs ≡ t)

@@ -4,7 +4,7 @@ ghost use Rattle.std.specs.Map.{update};
 ghost use Rattle.std.specs.Str.{bytes_eq};
 ghost use Rattle.std.specs.BTreeMap.{get_by_text};
 ghost use Rattle.allocative_graph.specs.Graph.{Graph};
-ghost use Rattle.profile_report.specs.Compare.{plus, side_of, change_at, AddsText, NotAdded, ComparesTexts, NotCompared, IsTextOf, ComparesGraphs, report_of};
+ghost use Rattle.profile_report.specs.Compare.{plus, side_of, change_at, AddsRow, RefusesRow, AddsText, NotAdded, ComparesTexts, NotCompared, IsTextOf, ComparesGraphs, report_of};
 
 use std::alloc::{AllocError, Global};
 use std::collections::BTreeMap;
@@ -56,7 +56,7 @@ enum Side {
 
 // The change with some bytes more on one side, if they fit.
 fn plus(side: Side, change: Change, size: usize) -> Option<Change>
-    ensures { MatchOption result (2 ^ 64 ≤ side_of side change + size) (λ sum. sum ≡ plus side change size) }
+    ensures { MatchOption result (2 ^ 64 ≤ side_of side change + size) (λ sum. (sum ≡ plus side change size) × (side_of side change + size < 2 ^ 64)) }
 {
     let Change { earlier, later } = change;
     let (earlier, later) = match side {
@@ -104,6 +104,21 @@ fn row_of(line: &str) -> Option<(&str, usize)>
     Some((path, size))
 }
 
+// Adds the bytes of a line on one side.
+fn add_row(changes: &mut Changes, alloc: Global, line: &str, side: Side) -> Result<(), CompareError>
+    ensures ok { OnOk result (AddsRow side line.now changes.old changes.new) }
+    ensures err { IfErr result (RefusesRow side line.now changes.old) }
+{
+    let Some((path, size)) = row_of(line) else {
+        return Err(CompareError::NotAProfile);
+    };
+    let Some(change) = plus(side, change_at(changes, path), size) else {
+        return Err(CompareError::TooLarge);
+    };
+    put(changes, alloc, path, change)?;
+    Ok(())
+}
+
 // Adds the bytes of each line on one side.
 fn add_text(
     changes: &mut Changes,
@@ -116,13 +131,7 @@ fn add_text(
 {
     let mut rest = text;
     while let Some((line, after)) = rest.split_once('\n') {
-        let Some((path, size)) = row_of(line) else {
-            return Err(CompareError::NotAProfile);
-        };
-        let Some(change) = plus(side, change_at(changes, path), size) else {
-            return Err(CompareError::TooLarge);
-        };
-        put(changes, alloc, path, change)?;
+        add_row(changes, alloc, line, side)?;
         rest = after;
     }
     if rest.is_empty() {
@@ -135,7 +144,8 @@ fn add_text(
 /// What changed between two profiles, by their texts: each path whose bytes differ, with its bytes in both, and no other.
 ///
 /// `NotAProfile` comes only where a text is not one line after another, each a path, a space and a number, and `TooLarge`
-/// only where the bytes of one path pass `usize::MAX`. Of the texts of two graphs neither comes.
+/// only where the bytes of one path pass `usize::MAX`. Of the texts of two graphs neither comes. `Memory` comes only where one
+/// of the texts begins with such a line, the later one only where the earlier is all of such lines.
 pub fn compare(alloc: Global, earlier: &str, later: &str) -> Result<Changes, CompareError>
     ensures texts { MatchResult result (ComparesTexts earlier.now later.now) (NotCompared earlier.now later.now) }
     ensures graphs { (g h : Graph) → IsTextOf g earlier.now → IsTextOf h later.now → MatchResult result (ComparesGraphs g h) (λ e. e ≡ CompareError.Memory) }

@@ -1,12 +1,13 @@
 //! The admitted data of all tenants, each within one limit.
 ghost use Rattle.std.specs.Prelude.{◌≡◌, ◌^◌, ◌<◌, ◌≤◌, [], IfOk, IfErr, OnErr};
 ghost use Rattle.tenant_budget.specs.Entries.{bytes_of, AreDeclared, Admits};
-ghost use Rattle.tenant_budget.specs.Rejected.{RejectsMore};
+ghost use Rattle.tenant_budget.specs.Measured.{Declares};
+ghost use Rattle.tenant_budget.specs.Rejected.{RejectsBytes, RejectsMore};
 
 use crate::budget::Budget;
 use crate::entry::Entry;
 use crate::rejection::Rejection;
-use allocative::{Allocative, Described, Refusal, size_of_unique};
+use allocative::{Allocative, Described, size_of_unique};
 use std::alloc::Global;
 use std::marker::Model;
 
@@ -69,17 +70,27 @@ impl<T: Allocative + Described> Ledger<T> {
 
     /// Measures a value and keeps it where the tenant's entries stay within the limit with it. Answers their bytes together.
     ///
-    /// `OverBudget` exactly where they would pass the limit, `NotMeasured` with the refusal of `size_of_unique`, or with
-    /// `TooLarge` where the sum does not fit a word, and `NotKept` for want of memory. The ledger stays then as it was, and
-    /// the value is dropped.
+    /// `TooLarge` where their bytes together do not fit a word, else `OverBudget` where they would pass the limit, `NotMeasured`
+    /// with the refusal of `size_of_unique`, and `NotKept` for want of memory, where all is within the limit. The ledger stays
+    /// then as it was, and the value is dropped.
     pub fn admit<'a>(&mut self, tenant: &'a str, value: T) -> Result<usize, Rejection<'a>>
         ensures admitted { IfOk result (Admits T.size (T.may_show value) tenant.now value self.old self.new) }
         ensures rejected { IfErr result (RejectsMore T.size (T.may_show value) tenant.now (bytes_of tenant.now self.old.entries) self.old.limit) }
         ensures unchanged { OnErr result (self.new ≡ self.old) }
     {
         let bytes = size_of_unique(&value)?;
+        self.keep(tenant, value, bytes)
+    }
+
+    // Keeps a value that declares so many bytes, where the tenant's entries stay within the limit with it.
+    fn keep<'a>(&mut self, tenant: &'a str, value: T, bytes: usize) -> Result<usize, Rejection<'a>>
+        requires { Declares T.size (T.may_show value) bytes }
+        ensures kept { IfOk result (Admits T.size (T.may_show value) tenant.now value self.old self.new) }
+        ensures rejected { IfErr result (RejectsBytes tenant.now (bytes_of tenant.now self.old.entries) bytes self.old.limit) }
+        ensures unchanged { OnErr result (self.new ≡ self.old) }
+    {
         let Some(total) = self.bytes_of(tenant).checked_add(bytes) else {
-            return Err(Rejection::NotMeasured(Refusal::TooLarge));
+            return Err(Rejection::TooLarge);
         };
         self.budget.check(tenant, total)?;
         let Ok(tenant) = String::from_str(*self.entries.allocator(), tenant) else {

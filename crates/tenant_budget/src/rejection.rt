@@ -12,9 +12,12 @@ pub enum Rejection<'a> {
         bytes: usize,
         limit: usize,
     },
-    /// Measuring the data was refused, or their bytes together do not fit a word.
+    /// Measuring the data was refused.
     #[error("not measured: {0}")]
     NotMeasured(Refusal),
+    /// The bytes of the tenant's data together do not fit a word.
+    #[error("sizes do not fit")]
+    TooLarge,
     /// A growth of the ledger's own memory was refused.
     #[error("out of memory")]
     NotKept,
@@ -41,6 +44,8 @@ mod tests {
         let not_measured = Rejection::NotMeasured(Refusal::TooLarge);
         let text = not_measured.to_string(rt.alloc())?;
         assert_eq!(rt; text.as_str(), "not measured: sizes do not fit");
+        let text = Rejection::TooLarge.to_string(rt.alloc())?;
+        assert_eq!(rt; text.as_str(), "sizes do not fit");
         let text = Rejection::NotKept.to_string(rt.alloc())?;
         assert_eq!(rt; text.as_str(), "out of memory");
         Ok(())

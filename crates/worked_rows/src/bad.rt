@@ -248,26 +248,37 @@ fn refusals_by_themselves_fail_their_builder(rt: HostRuntime) -> Result<(), Refu
     assert_refused(&rt, alloc, &ClosureRefuses, Refusal::Open)
 }
 
+// What a visitor answers to a refusal by hand, and to another one after it.
+fn refuse_twice(builder: &mut FlameGraphBuilder) -> Result<[Refusal; 2], Refusal> {
+    let mut root = builder.root_visitor()?;
+    let first = root.refuse(Refusal::TooLarge);
+    let second = root.refuse(Refusal::Memory);
+    Ok([first, second])
+}
+
 #[test]
 fn the_first_refusal_is_answered_for_good(rt: HostRuntime) -> Result<(), Refusal> {
     let mut builder = FlameGraphBuilder::new(rt.alloc())?;
-    let mut root = builder.root_visitor()?;
-    assert_eq!(rt; root.refuse(Refusal::TooLarge), Refusal::TooLarge);
-    assert_eq!(rt; root.refuse(Refusal::Memory), Refusal::TooLarge);
-    root.exit();
-    assert!(rt; matches!(builder.finish(), Err(Refusal::TooLarge)));
+    let told = refuse_twice(&mut builder)?;
+    assert_eq!(rt; told, [Refusal::TooLarge, Refusal::TooLarge]);
+    assert_eq!(rt; builder.finish().err(), Some(Refusal::TooLarge));
     Ok(())
+}
+
+// What a visitor answers to a closure that refuses, and to an entry after it.
+fn refuse_by_closure(builder: &mut FlameGraphBuilder) -> Result<[Option<Refusal>; 2], Refusal> {
+    let mut root = builder.root_visitor()?;
+    let told = root.visit_field_with(Key::new("f"), 4, |_inner| Err(Refusal::Open));
+    let after = root.visit_simple(Key::new("a"), 1);
+    Ok([told.err(), after.err()])
 }
 
 #[test]
 fn a_refusal_of_a_closure_fails_the_builder(rt: HostRuntime) -> Result<(), Refusal> {
+    let open = Some(Refusal::Open);
     let mut builder = FlameGraphBuilder::new(rt.alloc())?;
-    let mut root = builder.root_visitor()?;
-    let told = root.visit_field_with(Key::new("f"), 4, |_inner| Err(Refusal::Open));
-    assert_eq!(rt; told, Err(Refusal::Open));
-    assert_eq!(rt; root.visit_simple(Key::new("a"), 1), Err(Refusal::Open));
-    root.exit();
-    assert!(rt; matches!(builder.finish(), Err(Refusal::Open)));
+    assert_eq!(rt; refuse_by_closure(&mut builder)?, [open, open]);
+    assert_eq!(rt; builder.finish().err(), open);
     Ok(())
 }
 

@@ -4,8 +4,8 @@
 ghost use Rattle.std.specs.Prelude.{codes, Some, true};
 ghost use Rattle.allocative.specs.Shows.{Inside, Field, Both};
 
-use crate::entries::assert_text;
 use crate::held::{assert_held, assert_whole};
+use crate::rows::assert_text;
 use allocative::{Allocative, Described, FlameGraphBuilder, Key, Refusal, Visitor};
 use std::test::Fail;
 
@@ -108,21 +108,31 @@ fn what_boxes_hold(rt: HostRuntime) -> Result<(), Fail> {
     Ok(())
 }
 
+// `unique ptr 16` of a slice of a hundred bytes.
+fn enter_pointer(visitor: &mut Visitor<'_>) -> Result<(), Refusal> {
+    let mut pointer = visitor.enter_unique(Key::new("ptr"), 16)?;
+    pointer.visit_slice_of(&[0u8; 100])
+}
+
+// `data 16 {Box 16 {..}}` of that pointer.
+fn enter_data(visitor: &mut Visitor<'_>) -> Result<(), Refusal> {
+    let mut data = visitor.enter(Key::new("data"), 16)?;
+    let mut boxed = data.enter(Key::new("Box"), 16)?;
+    enter_pointer(&mut boxed)
+}
+
+// `TestData 24` of that data and a byte.
+fn enter_test_data(builder: &mut FlameGraphBuilder) -> Result<(), Refusal> {
+    let mut root = builder.root_visitor()?;
+    let mut outer = root.enter(Key::new("TestData"), 24)?;
+    enter_data(&mut outer)?;
+    outer.visit_field(Key::new("b"), &1u8)
+}
+
 #[test]
 fn bytes_of_a_boxed_slice(rt: HostRuntime) -> Result<(), Refusal> {
     let mut builder = FlameGraphBuilder::new(rt.alloc())?;
-    let mut root = builder.root_visitor()?;
-    let mut outer = root.enter(Key::new("TestData"), 24)?;
-    let mut data = outer.enter(Key::new("data"), 16)?;
-    let mut boxed = data.enter(Key::new("Box"), 16)?;
-    let mut pointer = boxed.enter_unique(Key::new("ptr"), 16)?;
-    pointer.visit_slice_of(&[0u8; 100])?;
-    pointer.exit();
-    boxed.exit();
-    data.exit();
-    outer.visit_field(Key::new("b"), &1u8)?;
-    outer.exit();
-    root.exit();
+    enter_test_data(&mut builder)?;
     assert_text(
         &rt,
         builder,

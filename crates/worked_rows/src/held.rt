@@ -6,7 +6,7 @@ ghost use Rattle.allocative.specs.Bodies.{slice_of, vec_body};
 ghost use Rattle.allocative.specs.Shows.{Inside, InsideUnique, Field, SharedWith, Both, Nothing};
 ghost use Rattle.allocative.specs.Visits.{Shows};
 
-use crate::entries::assert_text;
+use crate::rows::assert_text;
 use allocative::{
     Allocative, Described, FlameGraphBuilder, Identity, Key, Refusal, Visitor, size_of_unique,
     size_of_unique_allocated_data,

@@ -33,17 +33,16 @@ impl Described for Huge {
     }
 }
 
+// What a root visitor answers to a value that has no size.
+fn enter_huge(builder: &mut FlameGraphBuilder) -> Result<Option<Refusal>, Refusal> {
+    let mut root = builder.root_visitor()?;
+    Ok(root.enter_self_sized::<Option<Huge>>().err())
+}
+
 #[test]
 fn what_has_no_size_is_too_large(rt: HostRuntime) -> Result<(), Refusal> {
     let mut builder = FlameGraphBuilder::new(rt.alloc())?;
-    let root = builder.root_visitor()?;
-    assert!(rt;
-        matches!(
-            root.collector.enter_self_sized::<Option<Huge>>(),
-            Err(Refusal::TooLarge)
-        )
-    );
-    root.exit();
-    assert!(rt; matches!(builder.finish(), Err(Refusal::TooLarge)));
+    assert_eq!(rt; enter_huge(&mut builder)?, Some(Refusal::TooLarge));
+    assert_eq!(rt; builder.finish().err(), Some(Refusal::TooLarge));
     Ok(())
 }

@@ -8,15 +8,21 @@ mod boxes;
 #[cfg(test)]
 mod entries;
 #[cfg(test)]
+mod forgotten;
+#[cfg(test)]
 mod held;
 #[cfg(test)]
 mod huge;
 #[cfg(test)]
 mod own_types;
 #[cfg(test)]
+mod repeats;
+#[cfg(test)]
 mod room;
 #[cfg(test)]
 mod roots;
+#[cfg(test)]
+mod rows;
 #[cfg(test)]
 mod session;
 #[cfg(test)]
@@ -25,3 +31,5 @@ mod shared;
 mod two;
 #[cfg(test)]
 mod values;
+#[cfg(test)]
+mod warned;

@@ -4,8 +4,9 @@
 ghost use Rattle.std.specs.Prelude.{codes, Some};
 ghost use Rattle.allocative.specs.Shows.{Nothing, Inside, Field};
 
-use crate::entries::assert_text;
+use crate::rows::assert_text;
 use allocative::{Allocative, Described, FlameGraphBuilder, IdRc, Identity, Key, Refusal, Visitor};
+use std::alloc::Global;
 use std::test::Fail;
 
 // An enum: a field for the part of each variant that has one.
@@ -79,12 +80,14 @@ fn an_enum_shows_its_variant(rt: HostRuntime) -> Result<(), Fail> {
     Ok(assert_text(&rt, builder, "Event 56\nEvent;Sent;u64 8\n")?)
 }
 
+fn named(alloc: Global) -> Result<Event, Fail> {
+    Ok(Event::Named(String::from_str(alloc, "ab")?))
+}
+
 #[test]
 fn an_enum_shows_its_text(rt: HostRuntime) -> Result<(), Fail> {
-    let mut name = String::new(rt.alloc());
-    name.push_str("ab")?;
     let mut builder = FlameGraphBuilder::new(rt.alloc())?;
-    builder.visit_value(&Event::Named(name))?;
+    builder.visit_value(&named(rt.alloc())?)?;
     let text = builder.finish_and_write_flame_graph()?;
     assert!(rt;
         text.as_str().starts_with("Event 8\nEvent;Named;String 16\nEvent;Named;String;ptr 8\n")
@@ -103,17 +106,24 @@ fn a_generic_type_shows_its_part(rt: HostRuntime) -> Result<(), Fail> {
     )?)
 }
 
-#[test]
-fn a_shared_part_counts_once(rt: HostRuntime) -> Result<(), Fail> {
-    let alloc = rt.alloc();
+// Two handles of one table.
+fn two_handles(alloc: Global) -> Result<[Handle; 2], Fail> {
     let table = IdRc::new(alloc, 5u64, Identity::from(1))?;
     let first = Handle {
         table: table.clone()?,
     };
-    let second = Handle { table };
-    let mut builder = FlameGraphBuilder::new(alloc)?;
-    builder.visit_value(&first)?;
-    builder.visit_value(&second)?;
+    Ok([first, Handle { table }])
+}
+
+fn visit_both(builder: &mut FlameGraphBuilder, handles: &[Handle; 2]) -> Result<(), Refusal> {
+    builder.visit_value(&handles[0])?;
+    builder.visit_value(&handles[1])
+}
+
+#[test]
+fn a_shared_part_counts_once(rt: HostRuntime) -> Result<(), Fail> {
+    let mut builder = FlameGraphBuilder::new(rt.alloc())?;
+    visit_both(&mut builder, &two_handles(rt.alloc())?)?;
     Ok(assert_text(
         &rt,
         builder,
@@ -121,12 +131,17 @@ fn a_shared_part_counts_once(rt: HostRuntime) -> Result<(), Fail> {
     )?)
 }
 
-#[test]
-fn a_type_declares_its_entry(rt: HostRuntime) -> Result<(), Fail> {
-    let mut builder = FlameGraphBuilder::new(rt.alloc())?;
+// One entry as the type of a value, and one as the type alone.
+fn enter_declared(builder: &mut FlameGraphBuilder) -> Result<(), Refusal> {
     let mut root = builder.root_visitor()?;
     root.enter_self(&7u8)?.exit();
     root.enter_self_sized::<u8>()?.exit();
-    root.exit();
+    Ok(())
+}
+
+#[test]
+fn a_type_declares_its_entry(rt: HostRuntime) -> Result<(), Fail> {
+    let mut builder = FlameGraphBuilder::new(rt.alloc())?;
+    enter_declared(&mut builder)?;
     Ok(assert_text(&rt, builder, "u8 2\n")?)
 }

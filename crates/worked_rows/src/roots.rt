@@ -4,7 +4,7 @@
 ghost use Rattle.std.specs.Prelude.{codes};
 ghost use Rattle.allocative.specs.Shows.{Inside, Nothing};
 
-use crate::entries::assert_text;
+use crate::rows::assert_text;
 use allocative::{Allocative, FlameGraphBuilder, Key, Refusal, Visitor};
 use std::alloc::Global;
 
@@ -44,7 +44,13 @@ const LETTERS: [&str; 26] = [
 fn a_root_that_shows_nothing(rt: HostRuntime) -> Result<(), Refusal> {
     let mut builder = FlameGraphBuilder::new(rt.alloc())?;
     builder.visit_root(&Silent)?;
-    assert_text(&rt, builder, "")
+    let output = builder.finish()?;
+    assert_eq!(rt; output.flamegraph().total_size(), 0);
+    let text = output.flamegraph().write()?;
+    assert_eq!(rt; text.as_str(), "");
+    let warnings = output.warnings()?;
+    assert_eq!(rt; warnings.as_str(), "");
+    Ok(())
 }
 
 // A builder of the roots `z 1` down to `a 1`, so many times over.

@@ -4,7 +4,8 @@
 ghost use Rattle.std.specs.Prelude.{codes, Some};
 ghost use Rattle.allocative.specs.Shows.{Inside, Field, Both};
 
-use allocative::{Allocative, FlameGraphBuilder, Key, Refusal, Visitor};
+use allocative::{Allocative, FlameGraphBuilder, FlameGraphOutput, Key, Refusal, Visitor};
+use std::alloc::Global;
 use std::test::Fail;
 
 #[derive(Drop)]
@@ -25,22 +26,36 @@ impl Allocative for Session {
     }
 }
 
+fn session_with_no_score(alloc: Global) -> Result<Session, Fail> {
+    Ok(Session {
+        name: String::from_str(alloc, "ab")?,
+        scores: Vec::new(alloc),
+    })
+}
+
+// What one visit of a session collects.
+fn collected(alloc: Global, session: &Session) -> Result<FlameGraphOutput, Refusal> {
+    let mut builder = FlameGraphBuilder::new(alloc)?;
+    builder.visit_root(session)?;
+    builder.finish()
+}
+
 #[test]
 fn a_session_with_no_score(rt: HostRuntime) -> Result<(), Fail> {
-    let alloc = rt.alloc();
-    let mut name = String::new(alloc);
-    name.push_str("ab")?;
-    let mut builder = FlameGraphBuilder::new(alloc)?;
-    builder.visit_root(&Session {
-        name,
-        scores: Vec::new(alloc),
-    })?;
-    let output = builder.finish()?;
+    let session = session_with_no_score(rt.alloc())?;
+    let output = collected(rt.alloc(), &session)?;
     let text = output.flamegraph().write()?;
     assert!(rt;
         text.as_str()
             .starts_with("Session;name;String 16\nSession;name;String;ptr 8\n")
     );
+    Ok(())
+}
+
+#[test]
+fn a_session_gives_no_warning(rt: HostRuntime) -> Result<(), Fail> {
+    let session = session_with_no_score(rt.alloc())?;
+    let output = collected(rt.alloc(), &session)?;
     assert_eq!(rt; output.warnings()?.as_str(), "");
     Ok(())
 }

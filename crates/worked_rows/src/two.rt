@@ -25,6 +25,18 @@ fn assert_sum<T: Allocative + Described>(
     Ok(())
 }
 
+// The text of one collection of both roots.
+fn one_text(
+    alloc: Global,
+    left: &dyn Allocative,
+    right: &dyn Allocative,
+) -> Result<String, Refusal> {
+    let mut builder = FlameGraphBuilder::new(alloc)?;
+    builder.visit_root(left)?;
+    builder.visit_root(right)?;
+    builder.finish_and_write_flame_graph()
+}
+
 // Asserts the text of one collection of both roots.
 fn assert_one(
     rt: &impl Abort,
@@ -33,10 +45,7 @@ fn assert_one(
     right: &dyn Allocative,
     want: &str,
 ) -> Result<(), Refusal> {
-    let mut builder = FlameGraphBuilder::new(alloc)?;
-    builder.visit_root(left)?;
-    builder.visit_root(right)?;
-    let text = builder.finish_and_write_flame_graph()?;
+    let text = one_text(alloc, left, right)?;
     assert_eq!(rt; text.as_str(), want);
     Ok(())
 }

@@ -5,8 +5,8 @@ ghost use Rattle.std.specs.Prelude.{codes, Some, false, ◌≡◌};
 ghost use Rattle.allocative.specs.Shows.{Inside, InsideUnique, Field, Nothing};
 ghost use Rattle.allocative.specs.Visits.{Shows};
 
-use crate::entries::{assert_output, assert_text};
 use crate::held::{assert_held, assert_whole};
+use crate::rows::{assert_collected, assert_output, assert_text};
 use allocative::{
     Allocative, Described, FlameGraphBuilder, IdArc, Identity, Key, Refusal, Registry, Visitor,
     profile_roots,
@@ -165,12 +165,7 @@ impl Allocative for TestGlobalRoot {
 
 // Asserts the text of a registry's profile, and that it gives no warning.
 fn assert_profile(rt: &impl Abort, registry: &Registry, want: &str) -> Result<(), Refusal> {
-    let output = profile_roots(registry)?;
-    let text = output.flamegraph().write()?;
-    let warnings = output.warnings()?;
-    assert_eq!(rt; text.as_str(), want);
-    assert_eq!(rt; warnings.as_str(), "");
-    Ok(())
+    assert_collected(rt, &profile_roots(registry)?, want, "")
 }
 
 #[test]

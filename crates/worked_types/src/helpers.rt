@@ -9,6 +9,7 @@ ghost use Rattle.allocative.specs.Runs.{pair_shows, field_of};
 
 use crate::texts::expect_text;
 use allocative::{Allocative, Described, Key, Refusal, Visitor};
+use std::alloc::Global;
 use std::collections::BTreeMap;
 use std::test::Fail;
 
@@ -327,79 +328,125 @@ impl Allocative for Body {
     }
 }
 
-#[test]
-fn slices_and_iterators_give_one_text(rt: HostRuntime) -> Result<(), Fail> {
-    let alloc = rt.alloc();
-    let plain = Slice {
-        items: vec![in alloc; Pair, Pair, Pair]?,
-    };
-    expect_text(&rt, alloc, &plain, "Pair 12\n")?;
-    let each = Slice {
-        items: vec![in alloc; DropPair(Pair), DropPair(Pair), DropPair(Pair)]?,
-    };
-    expect_text(&rt, alloc, &each, "Pair 9\nPair;a 3\n")?;
-    let plain = Iterated {
-        items: vec![in alloc; Pair, Pair, Pair]?,
-    };
-    expect_text(&rt, alloc, &plain, "Pair 12\n")?;
-    let each = Iterated {
-        items: vec![in alloc; DropPair(Pair), DropPair(Pair), DropPair(Pair)]?,
-    };
-    expect_text(&rt, alloc, &each, "Pair 9\nPair;a 3\n")?;
-    let empty: Slice<Byte> = Slice {
-        items: Vec::new(alloc),
-    };
-    expect_text(&rt, alloc, &empty, "")?;
-    Ok(())
+fn three_pairs(alloc: Global) -> Result<Vec<Pair>, Fail> {
+    Ok(vec![in alloc; Pair, Pair, Pair]?)
+}
+
+fn three_dropped_pairs(alloc: Global) -> Result<Vec<DropPair>, Fail> {
+    Ok(vec![in alloc; DropPair(Pair), DropPair(Pair), DropPair(Pair)]?)
 }
 
 #[test]
-fn maps_and_sets_show_data(rt: HostRuntime) -> Result<(), Fail> {
-    let alloc = rt.alloc();
+fn a_slice_shows_its_size(rt: HostRuntime) -> Result<(), Fail> {
+    let items = three_pairs(rt.alloc())?;
+    expect_text(&rt, rt.alloc(), &Slice { items }, "Pair 12\n")
+}
+
+#[test]
+fn a_slice_shows_each_item_that_needs_a_drop(rt: HostRuntime) -> Result<(), Fail> {
+    let items = three_dropped_pairs(rt.alloc())?;
+    expect_text(&rt, rt.alloc(), &Slice { items }, "Pair 9\nPair;a 3\n")
+}
+
+#[test]
+fn an_empty_slice_shows_nothing(rt: HostRuntime) -> Result<(), Fail> {
+    let empty: Slice<Byte> = Slice {
+        items: Vec::new(rt.alloc()),
+    };
+    expect_text(&rt, rt.alloc(), &empty, "")
+}
+
+#[test]
+fn an_iterator_shows_its_size(rt: HostRuntime) -> Result<(), Fail> {
+    let items = three_pairs(rt.alloc())?;
+    expect_text(&rt, rt.alloc(), &Iterated { items }, "Pair 12\n")
+}
+
+#[test]
+fn an_iterator_shows_each_item_that_needs_a_drop(rt: HostRuntime) -> Result<(), Fail> {
+    let items = three_dropped_pairs(rt.alloc())?;
+    expect_text(&rt, rt.alloc(), &Iterated { items }, "Pair 9\nPair;a 3\n")
+}
+
+fn two_entries(alloc: Global) -> Result<BTreeMap<Byte, Byte>, Fail> {
     let mut entries = BTreeMap::new(alloc);
     entries.insert(Byte(1), Byte(2))?;
     entries.insert(Byte(3), Byte(4))?;
-    let map = MapFields { entries };
-    expect_text(&rt, alloc, &map, "data 4\ndata;key;u8 2\ndata;value;u8 2\n")?;
-    let set = SetFields {
-        keys: vec![in alloc; Byte(1), Byte(2)]?,
-    };
-    expect_text(&rt, alloc, &set, "data 6\ndata;key;u8 2\n")?;
-    Ok(())
+    Ok(entries)
 }
 
 #[test]
-fn texts_boxes_and_fields(rt: HostRuntime) -> Result<(), Fail> {
-    let alloc = rt.alloc();
+fn a_map_shows_data(rt: HostRuntime) -> Result<(), Fail> {
+    let map = MapFields {
+        entries: two_entries(rt.alloc())?,
+    };
+    let text = "data 4\ndata;key;u8 2\ndata;value;u8 2\n";
+    expect_text(&rt, rt.alloc(), &map, text)
+}
+
+#[test]
+fn a_set_shows_data(rt: HostRuntime) -> Result<(), Fail> {
+    let set = SetFields {
+        keys: vec![in rt.alloc(); Byte(1), Byte(2)]?,
+    };
+    expect_text(&rt, rt.alloc(), &set, "data 6\ndata;key;u8 2\n")
+}
+
+#[test]
+fn a_str_shows_its_bytes(rt: HostRuntime) -> Result<(), Fail> {
     let six = Text {
-        text: String::from_str(alloc, "abcdef")?,
+        text: String::from_str(rt.alloc(), "abcdef")?,
     };
-    expect_text(&rt, alloc, &six, "str 6\n")?;
+    expect_text(&rt, rt.alloc(), &six, "str 6\n")
+}
+
+#[test]
+fn an_empty_str_shows_no_line(rt: HostRuntime) -> Result<(), Fail> {
     let none = Text {
-        text: String::new(alloc),
+        text: String::new(rt.alloc()),
     };
-    expect_text(&rt, alloc, &none, "")?;
+    expect_text(&rt, rt.alloc(), &none, "")
+}
+
+#[test]
+fn boxes_and_fields(rt: HostRuntime) -> Result<(), Fail> {
+    let alloc = rt.alloc();
     let boxed = Boxed { byte: Byte(1) };
     expect_text(&rt, alloc, &boxed, "Box;ptr 8\nBox;ptr;u8 1\n")?;
     let field = WithField { byte: Byte(1) };
-    expect_text(&rt, alloc, &field, "f;u8 1\n")?;
-    expect_text(&rt, alloc, &WithClosure, "f 3\nf;x 1\n")?;
-    expect_text(&rt, alloc, &WithSteps, "f 5\nf;x 1\nf;y 2\n")?;
-    let selves = Selves { byte: Byte(1) };
-    expect_text(&rt, alloc, &selves, "u8 3\n")?;
-    Ok(())
+    expect_text(&rt, alloc, &field, "f;u8 1\n")
 }
 
 #[test]
-fn a_slice_by_itself_and_a_body(rt: HostRuntime) -> Result<(), Fail> {
+fn closures(rt: HostRuntime) -> Result<(), Fail> {
     let alloc = rt.alloc();
-    let slice = SliceOf {
-        items: vec![in alloc; Byte(1), Byte(2), Byte(3)]?,
-    };
-    expect_text(&rt, alloc, &slice, "u8;data;u8 3\n")?;
-    let body = Body {
-        items: vec![in alloc; Byte(1), Byte(2), Byte(3)]?,
-    };
-    expect_text(&rt, alloc, &body, "ptr 8\nptr;capacity;u8 3\n")?;
-    Ok(())
+    expect_text(&rt, alloc, &WithClosure, "f 3\nf;x 1\n")?;
+    expect_text(&rt, alloc, &WithSteps, "f 5\nf;x 1\nf;y 2\n")
+}
+
+#[test]
+fn entries_of_a_declared_type(rt: HostRuntime) -> Result<(), Fail> {
+    let selves = Selves { byte: Byte(1) };
+    expect_text(&rt, rt.alloc(), &selves, "u8 3\n")
+}
+
+fn three_bytes(alloc: Global) -> Result<Vec<Byte>, Fail> {
+    Ok(vec![in alloc; Byte(1), Byte(2), Byte(3)]?)
+}
+
+#[test]
+fn a_slice_by_itself(rt: HostRuntime) -> Result<(), Fail> {
+    let items = three_bytes(rt.alloc())?;
+    expect_text(&rt, rt.alloc(), &SliceOf { items }, "u8;data;u8 3\n")
+}
+
+#[test]
+fn a_body(rt: HostRuntime) -> Result<(), Fail> {
+    let items = three_bytes(rt.alloc())?;
+    expect_text(
+        &rt,
+        rt.alloc(),
+        &Body { items },
+        "ptr 8\nptr;capacity;u8 3\n",
+    )
 }

@@ -9,5 +9,3 @@ mod pack_types;
 mod std_types;
 #[cfg(test)]
 mod texts;
-#[cfg(test)]
-mod visitors;

@@ -14,9 +14,8 @@ use smallvec::SmallVec;
 use std::alloc::Global;
 use std::test::Fail;
 
-// What stands in the one line whose last key is `unused_capacity`, which begins so.
-fn amount_at(alloc: Global, root: &dyn Allocative, path: &str) -> Result<usize, Fail> {
-    let text = text_of(alloc, root)?;
+// What stands in the one line of a text whose last key is `unused_capacity`, which begins so.
+fn amount_in(text: &str, path: &str) -> Result<usize, Fail> {
     let mut found = None;
     for line in text.lines() {
         if line.contains(";unused_capacity ") {
@@ -28,6 +27,12 @@ fn amount_at(alloc: Global, root: &dyn Allocative, path: &str) -> Result<usize, 
         }
     }
     Ok(found.ok_or("no line")?)
+}
+
+// The same of the text of one visit.
+fn amount_at(alloc: Global, root: &dyn Allocative, path: &str) -> Result<usize, Fail> {
+    let text = text_of(alloc, root)?;
+    amount_in(text.as_str(), path)
 }
 
 // A map that shows itself by the call for maps.
@@ -83,122 +88,218 @@ fn json_values_show_their_parts(rt: HostRuntime) -> Result<(), Fail> {
 }
 
 #[test]
-fn json_numbers_and_maps_show_themselves(rt: HostRuntime) -> Result<(), Fail> {
-    let alloc = rt.alloc();
-    let value = Value::from_str(alloc, "7")?;
+fn a_json_number_shows_itself(rt: HostRuntime) -> Result<(), Fail> {
+    let value = Value::from_str(rt.alloc(), "7")?;
     let number = value.as_number().ok_or("a number")?;
-    expect_text(&rt, alloc, number, "Number 16\n")?;
-    let Value::Object(map) = Value::from_str(alloc, "{\"a\":7}")? else {
+    expect_text(&rt, rt.alloc(), number, "Number 16\n")
+}
+
+// The members of the object that this text gives.
+fn members_of(alloc: Global, text: &str) -> Result<Members, Fail> {
+    let Value::Object(map) = Value::from_str(alloc, text)? else {
         return Err(Fail::new("an object"));
     };
-    let members = Members { map };
-    expect_exact(
-        &rt,
-        alloc,
-        &members,
-        "Map 16\nMap;data 8\nMap;data;key;String 16\nMap;data;key;String;ptr 8\nMap;data;key;String;ptr;capacity;u8 1\nMap;data;value;Value 16\nMap;data;value;Value;Number;Number 16\n",
-    )?;
-    Ok(())
+    Ok(Members { map })
 }
 
 #[test]
-fn sides_and_errors(rt: HostRuntime) -> Result<(), Fail> {
-    let alloc = rt.alloc();
+fn a_json_map_shows_itself(rt: HostRuntime) -> Result<(), Fail> {
+    let members = members_of(rt.alloc(), "{\"a\":7}")?;
+    expect_exact(
+        &rt,
+        rt.alloc(),
+        &members,
+        "Map 16\nMap;data 8\nMap;data;key;String 16\nMap;data;key;String;ptr 8\nMap;data;key;String;ptr;capacity;u8 1\nMap;data;value;Value 16\nMap;data;value;Value;Number;Number 16\n",
+    )
+}
+
+#[test]
+fn a_side_shows_its_value(rt: HostRuntime) -> Result<(), Fail> {
     let right: Either<u8, u64> = Either::Right(1);
-    expect_text(&rt, alloc, &right, "Either 8\nEither;Right;u64 8\n")?;
+    expect_text(&rt, rt.alloc(), &right, "Either 8\nEither;Right;u64 8\n")
+}
+
+#[test]
+fn an_error_shows_nothing(rt: HostRuntime) -> Result<(), Fail> {
     let error = anyhow::Error::msg("refused");
-    expect_text(&rt, alloc, &error, "")?;
-    Ok(())
+    expect_text(&rt, rt.alloc(), &error, "")
+}
+
+#[test]
+fn a_cell_that_is_not_set_shows_itself(rt: HostRuntime) -> Result<(), Fail> {
+    let cell: OnceBox<u64> = OnceBox::new(rt.alloc());
+    expect_text(&rt, rt.alloc(), &cell, "OnceBox 8\n")
+}
+
+// A cell that is set to 5.
+fn set_cell(alloc: Global) -> Result<OnceBox<u64>, Fail> {
+    let cell: OnceBox<u64> = OnceBox::new(alloc);
+    if cell.set(Box::new(alloc, 5u64)?).is_err() {
+        return Err(Fail::new("a new cell takes a value"));
+    }
+    Ok(cell)
 }
 
 #[test]
 fn a_cell_shows_its_value_once_set(rt: HostRuntime) -> Result<(), Fail> {
-    let alloc = rt.alloc();
-    let cell: OnceBox<u64> = OnceBox::new(alloc);
-    expect_text(&rt, alloc, &cell, "OnceBox 8\n")?;
-    assert!(rt; cell.set(Box::new(alloc, 5u64)?).is_ok());
-    expect_text(&rt, alloc, &cell, "OnceBox;ptr 8\nOnceBox;ptr;u64 8\n")?;
-    Ok(())
+    let cell = set_cell(rt.alloc())?;
+    expect_text(&rt, rt.alloc(), &cell, "OnceBox;ptr 8\nOnceBox;ptr;u64 8\n")
 }
 
 #[test]
-fn small_vectors_show_their_items(rt: HostRuntime) -> Result<(), Fail> {
-    let alloc = rt.alloc();
-    let mut items: SmallVec<u64, 2> = SmallVec::new(alloc);
+fn a_small_vector_shows_what_it_has_in_place(rt: HostRuntime) -> Result<(), Fail> {
+    let mut items: SmallVec<u64, 2> = SmallVec::new(rt.alloc());
     items.push(1)?;
-    expect_text(&rt, alloc, &items, "SmallVec 16\nSmallVec;data;u64 8\n")?;
-    items.push(2)?;
-    items.push(3)?;
     expect_text(
         &rt,
-        alloc,
+        rt.alloc(),
         &items,
-        "SmallVec 16\nSmallVec;ptr 8\nSmallVec;ptr;data;u64 24\n",
-    )?;
-    Ok(())
+        "SmallVec 16\nSmallVec;data;u64 8\n",
+    )
+}
+
+fn three_where_two_have_room(alloc: Global) -> Result<SmallVec<u64, 2>, Fail> {
+    let mut items: SmallVec<u64, 2> = SmallVec::new(alloc);
+    items.push(1)?;
+    items.push(2)?;
+    items.push(3)?;
+    Ok(items)
 }
 
 #[test]
-fn slabs_show_their_values(rt: HostRuntime) -> Result<(), Fail> {
-    let alloc = rt.alloc();
+fn a_small_vector_shows_what_it_has_moved_out(rt: HostRuntime) -> Result<(), Fail> {
+    let items = three_where_two_have_room(rt.alloc())?;
+    expect_text(
+        &rt,
+        rt.alloc(),
+        &items,
+        "SmallVec 16\nSmallVec;ptr 8\nSmallVec;ptr;data;u64 24\n",
+    )
+}
+
+fn slab_of_two(alloc: Global) -> Result<Slab<u32>, Fail> {
     let mut two: Slab<u32> = Slab::new(alloc);
     two.insert(1)?;
     two.insert(2)?;
-    expect_exact(&rt, alloc, &two, "Slab 32\nSlab;ptr 8\nSlab;ptr;u32 8\n")?;
-    let mut three: Slab<u8> = Slab::new(alloc);
-    for value in [1u8, 2, 3] {
-        three.insert(value)?;
-    }
-    three.reserve(100)?;
-    let unused = amount_at(alloc, &three, "Slab;ptr;unused_capacity ")?;
-    assert_eq!(rt; unused, three.capacity() - 3);
-    Ok(())
+    Ok(two)
 }
 
 #[test]
-fn index_maps_show_their_pairs(rt: HostRuntime) -> Result<(), Fail> {
-    let alloc = rt.alloc();
-    let mut one: IndexMap<u64, u64> = IndexMap::new(alloc);
-    expect_exact(&rt, alloc, &one, "IndexMap 64\nIndexMap;data 8\n")?;
-    one.insert(1, 2)?;
+fn a_slab_shows_its_values(rt: HostRuntime) -> Result<(), Fail> {
+    let two = slab_of_two(rt.alloc())?;
     expect_exact(
         &rt,
-        alloc,
-        &one,
-        "IndexMap 56\nIndexMap;data 8\nIndexMap;data;key;u64 8\nIndexMap;data;value;u64 8\nIndexMap;raw_table 8\nIndexMap;raw_table;alloc 36\n",
-    )?;
-    let mut three: IndexMap<u8, u8> = IndexMap::new(alloc);
-    for key in [1u8, 2, 3] {
-        three.insert(key, 0)?;
-    }
+        rt.alloc(),
+        &two,
+        "Slab 32\nSlab;ptr 8\nSlab;ptr;u32 8\n",
+    )
+}
+
+// Three values, and room for a hundred more.
+fn slab_with_room(alloc: Global) -> Result<Slab<u8>, Fail> {
+    let mut three: Slab<u8> = Slab::new(alloc);
+    three.insert(1)?;
+    three.insert(2)?;
+    three.insert(3)?;
     three.reserve(100)?;
-    let unused = amount_at(alloc, &three, "IndexMap;data;unused_capacity ")?;
-    assert_eq!(rt;
-        Some(unused),
-        (three.capacity() - three.len()).checked_mul(2)
-    );
+    Ok(three)
+}
+
+#[test]
+fn a_slab_shows_its_room(rt: HostRuntime) -> Result<(), Fail> {
+    let three = slab_with_room(rt.alloc())?;
+    let unused = amount_at(rt.alloc(), &three, "Slab;ptr;unused_capacity ")?;
+    assert_eq!(rt; Some(unused), three.capacity().checked_sub(3));
     Ok(())
 }
 
 #[test]
-fn index_sets_show_their_values(rt: HostRuntime) -> Result<(), Fail> {
-    let alloc = rt.alloc();
+fn an_index_map_with_no_pair_shows_no_table(rt: HostRuntime) -> Result<(), Fail> {
+    let none: IndexMap<u64, u64> = IndexMap::new(rt.alloc());
+    expect_exact(&rt, rt.alloc(), &none, "IndexMap 64\nIndexMap;data 8\n")
+}
+
+fn map_of_one(alloc: Global) -> Result<IndexMap<u64, u64>, Fail> {
+    let mut one: IndexMap<u64, u64> = IndexMap::new(alloc);
+    one.insert(1, 2)?;
+    Ok(one)
+}
+
+#[test]
+fn an_index_map_shows_its_pairs(rt: HostRuntime) -> Result<(), Fail> {
+    let one = map_of_one(rt.alloc())?;
+    expect_exact(
+        &rt,
+        rt.alloc(),
+        &one,
+        "IndexMap 56\nIndexMap;data 8\nIndexMap;data;key;u64 8\nIndexMap;data;value;u64 8\nIndexMap;raw_table 8\nIndexMap;raw_table;alloc 36\n",
+    )
+}
+
+// Puts three pairs into a map, and makes room for a hundred more.
+fn fill_map(map: &mut IndexMap<u8, u8>) -> Result<(), Fail> {
+    for key in [1u8, 2, 3] {
+        map.insert(key, 0)?;
+    }
+    map.reserve(100)?;
+    Ok(())
+}
+
+// The unused bytes that a map with such room shows, and those that its capacity leaves.
+fn room_of_a_map(alloc: Global) -> Result<(usize, Option<usize>), Fail> {
+    let mut three: IndexMap<u8, u8> = IndexMap::new(alloc);
+    fill_map(&mut three)?;
+    let unused = amount_at(alloc, &three, "IndexMap;data;unused_capacity ")?;
+    let room = three.capacity() - three.len();
+    Ok((unused, room.checked_mul(2)))
+}
+
+#[test]
+fn an_index_map_shows_its_room(rt: HostRuntime) -> Result<(), Fail> {
+    let (unused, room) = room_of_a_map(rt.alloc())?;
+    assert_eq!(rt; Some(unused), room);
+    Ok(())
+}
+
+fn set_of_five(alloc: Global) -> Result<IndexSet<u16>, Fail> {
     let mut five: IndexSet<u16> = IndexSet::new(alloc);
     for value in [1u16, 2, 3, 4, 5] {
         five.insert(value)?;
     }
+    Ok(five)
+}
+
+#[test]
+fn an_index_set_shows_its_values(rt: HostRuntime) -> Result<(), Fail> {
+    let five = set_of_five(rt.alloc())?;
     expect_exact(
         &rt,
-        alloc,
+        rt.alloc(),
         &five,
         "IndexSet 56\nIndexSet;data 8\nIndexSet;data;value;u16 10\nIndexSet;raw_table 8\nIndexSet;raw_table;alloc 72\n",
-    )?;
-    let mut three: IndexSet<u8> = IndexSet::new(alloc);
+    )
+}
+
+// Puts three values into a set, and makes room for a hundred more.
+fn fill_set(set: &mut IndexSet<u8>) -> Result<(), Fail> {
     for value in [1u8, 2, 3] {
-        three.insert(value)?;
+        set.insert(value)?;
     }
-    three.reserve(100)?;
+    set.reserve(100)?;
+    Ok(())
+}
+
+// The unused bytes that a set with such room shows, and those that its capacity leaves.
+fn room_of_a_set(alloc: Global) -> Result<(usize, usize), Fail> {
+    let mut three: IndexSet<u8> = IndexSet::new(alloc);
+    fill_set(&mut three)?;
     let unused = amount_at(alloc, &three, "IndexSet;data;unused_capacity ")?;
-    assert_eq!(rt; unused, three.capacity() - three.len());
+    Ok((unused, three.capacity() - three.len()))
+}
+
+#[test]
+fn an_index_set_shows_its_room(rt: HostRuntime) -> Result<(), Fail> {
+    let (unused, room) = room_of_a_set(rt.alloc())?;
+    assert_eq!(rt; unused, room);
     Ok(())
 }

@@ -3,6 +3,7 @@ use crate::texts::expect_exact;
 use allocative::{
     Allocative, IdArc, IdRc, Identity, size_of_unique, size_of_unique_allocated_data,
 };
+use std::alloc::Global;
 use std::collections::{BTreeMap, BTreeSet, HashMap, HashSet, VecDeque};
 use std::marker::PhantomData;
 use std::mem::ManuallyDrop;
@@ -143,11 +144,14 @@ fn addresses_and_times(rt: HostRuntime) -> Result<(), Fail> {
 
 #[test]
 fn values_without_parts_and_kept_values(rt: HostRuntime) -> Result<(), Fail> {
-    let alloc = rt.alloc();
     let nothing: PhantomData<u8> = PhantomData;
-    expect_exact(&rt, alloc, &nothing, "")?;
+    expect_exact(&rt, rt.alloc(), &nothing, "")?;
     let kept = ManuallyDrop::new(1u16);
-    expect_exact(&rt, alloc, &kept, "ManuallyDrop;inner;u16 2\n")?;
+    expect_exact(&rt, rt.alloc(), &kept, "ManuallyDrop;inner;u16 2\n")
+}
+
+#[test]
+fn a_reference_holds_no_bytes_of_its_own(rt: HostRuntime) -> Result<(), Fail> {
     let number: &'static u8 = &7;
     assert_eq!(rt; size_of_unique(&number)?, 8);
     Ok(())
@@ -186,150 +190,249 @@ fn tuples(rt: HostRuntime) -> Result<(), Fail> {
 }
 
 #[test]
-fn choices_boxes_and_arrays(rt: HostRuntime) -> Result<(), Fail> {
+fn choices_and_arrays(rt: HostRuntime) -> Result<(), Fail> {
     let alloc = rt.alloc();
     let none: Option<u32> = None;
     expect_exact(&rt, alloc, &none, "Option 8\n")?;
     expect_exact(&rt, alloc, &Some(1u32), "Option 4\nOption;Some;u32 4\n")?;
     let error: Result<u8, u16> = Err(1);
     expect_exact(&rt, alloc, &error, "Result 2\nResult;Err;u16 2\n")?;
+    expect_exact(&rt, alloc, &[1u16, 2, 3], "u16;data;u16 6\n")
+}
+
+#[test]
+fn a_box_shows_its_value(rt: HostRuntime) -> Result<(), Fail> {
+    let boxed = Box::new(rt.alloc(), 1u64)?;
+    expect_exact(&rt, rt.alloc(), &boxed, "Box;ptr 8\nBox;ptr;u64 8\n")
+}
+
+#[test]
+fn a_choice_of_a_box_shows_its_value(rt: HostRuntime) -> Result<(), Fail> {
+    let boxed = Some(Box::new(rt.alloc(), 1u8)?);
     expect_exact(
         &rt,
-        alloc,
-        &Box::new(alloc, 1u64)?,
-        "Box;ptr 8\nBox;ptr;u64 8\n",
-    )?;
-    let boxed = Some(Box::new(alloc, 1u8)?);
-    expect_exact(
-        &rt,
-        alloc,
+        rt.alloc(),
         &boxed,
         "Option 8\nOption;Some;Box;ptr 8\nOption;Some;Box;ptr;u8 1\n",
-    )?;
-    expect_exact(&rt, alloc, &[1u16, 2, 3], "u16;data;u16 6\n")?;
-    Ok(())
+    )
 }
 
 #[test]
-fn shared_values(rt: HostRuntime) -> Result<(), Fail> {
-    let alloc = rt.alloc();
-    let number = IdRc::new(alloc, 1u64, Identity::from(7))?;
-    expect_exact(&rt, alloc, &number, "Rc;ptr 8\nRcInner 16\nRcInner;u64 8\n")?;
+fn a_shared_value_stands_beside_its_pointer(rt: HostRuntime) -> Result<(), Fail> {
+    let number = IdRc::new(rt.alloc(), 1u64, Identity::from(7))?;
+    let text = "Rc;ptr 8\nRcInner 16\nRcInner;u64 8\n";
+    expect_exact(&rt, rt.alloc(), &number, text)
+}
+
+fn two_of_one_rc(alloc: Global) -> Result<(IdRc<u8>, IdRc<u8>), Fail> {
     let first = IdRc::new(alloc, 1u8, Identity::from(7))?;
     let second = first.clone()?;
+    Ok((first, second))
+}
+
+#[test]
+fn two_pointers_show_one_content(rt: HostRuntime) -> Result<(), Fail> {
+    let both = two_of_one_rc(rt.alloc())?;
     expect_exact(
         &rt,
-        alloc,
-        &(first, second),
+        rt.alloc(),
+        &both,
         "RcInner 23\nRcInner;u8 1\ntuple2;0;Rc;ptr 8\ntuple2;1;Rc;ptr 8\n",
-    )?;
+    )
+}
+
+fn two_of_one_arc(alloc: Global) -> Result<(IdArc<u8>, IdArc<u8>), Fail> {
     let first = IdArc::new(alloc, 1u8, Identity::from(7))?;
     let second = first.clone()?;
-    expect_exact(
-        &rt,
-        alloc,
-        &(first, second),
-        "ArcInner 23\nArcInner;u8 1\ntuple2;0;Arc;ptr 8\ntuple2;1;Arc;ptr 8\n",
-    )?;
-    Ok(())
+    Ok((first, second))
 }
 
 #[test]
-fn buffers(rt: HostRuntime) -> Result<(), Fail> {
-    let alloc = rt.alloc();
-    let bytes = [1u8, 2, 3].to_vec(alloc)?;
-    expect_exact(&rt, alloc, &bytes, "Vec 16\nVec;ptr 8\nVec;ptr;u8 3\n")?;
+fn two_pointers_for_threads_show_one_content(rt: HostRuntime) -> Result<(), Fail> {
+    let both = two_of_one_arc(rt.alloc())?;
+    expect_exact(
+        &rt,
+        rt.alloc(),
+        &both,
+        "ArcInner 23\nArcInner;u8 1\ntuple2;0;Arc;ptr 8\ntuple2;1;Arc;ptr 8\n",
+    )
+}
+
+#[test]
+fn a_vector_shows_its_items(rt: HostRuntime) -> Result<(), Fail> {
+    let bytes = [1u8, 2, 3].to_vec(rt.alloc())?;
+    let text = "Vec 16\nVec;ptr 8\nVec;ptr;u8 3\n";
+    expect_exact(&rt, rt.alloc(), &bytes, text)
+}
+
+#[test]
+fn a_vector_holds_its_capacity(rt: HostRuntime) -> Result<(), Fail> {
+    let bytes = [1u8, 2, 3].to_vec(rt.alloc())?;
     assert_eq!(rt; size_of_unique_allocated_data(&bytes)?, bytes.capacity());
+    Ok(())
+}
+
+fn deque_of_three(alloc: Global) -> Result<VecDeque<u16>, Fail> {
     let mut deque = VecDeque::new(alloc);
-    deque.push_back(1u16)?;
+    deque.push_back(1)?;
     deque.push_back(2)?;
     deque.push_back(3)?;
+    Ok(deque)
+}
+
+#[test]
+fn a_deque_shows_its_items(rt: HostRuntime) -> Result<(), Fail> {
+    let deque = deque_of_three(rt.alloc())?;
+    let text = "VecDeque 24\nVecDeque;ptr 8\nVecDeque;ptr;u16 6\n";
+    expect_exact(&rt, rt.alloc(), &deque, text)
+}
+
+#[test]
+fn a_text_shows_its_bytes(rt: HostRuntime) -> Result<(), Fail> {
+    let text = String::from_str(rt.alloc(), "ab")?;
     expect_exact(
         &rt,
-        alloc,
-        &deque,
-        "VecDeque 24\nVecDeque;ptr 8\nVecDeque;ptr;u16 6\n",
-    )?;
-    let text = String::from_str(alloc, "ab")?;
-    expect_exact(
-        &rt,
-        alloc,
+        rt.alloc(),
         &text,
         "String 16\nString;ptr 8\nString;ptr;capacity;u8 2\n",
-    )?;
-    Ok(())
+    )
+}
+
+fn hash_set_of_two(alloc: Global) -> Result<HashSet<u32>, Fail> {
+    let mut set = HashSet::new(alloc);
+    set.insert(1)?;
+    set.insert(2)?;
+    Ok(set)
 }
 
 #[test]
-fn maps_and_sets(rt: HostRuntime) -> Result<(), Fail> {
-    let alloc = rt.alloc();
-    let mut set = HashSet::new(alloc);
-    set.insert(1u32)?;
-    set.insert(2)?;
-    expect_exact(&rt, alloc, &set, "HashSet 40\nHashSet;data;key;u32 8\n")?;
-    let mut map = HashMap::new(alloc);
-    map.insert(1u8, 1u8)?;
-    map.insert(2, 2)?;
+fn a_hash_set_shows_its_keys(rt: HostRuntime) -> Result<(), Fail> {
+    let set = hash_set_of_two(rt.alloc())?;
     expect_exact(
         &rt,
-        alloc,
+        rt.alloc(),
+        &set,
+        "HashSet 40\nHashSet;data;key;u32 8\n",
+    )
+}
+
+fn hash_map_of_two(alloc: Global) -> Result<HashMap<u8, u8>, Fail> {
+    let mut map = HashMap::new(alloc);
+    map.insert(1, 1)?;
+    map.insert(2, 2)?;
+    Ok(map)
+}
+
+#[test]
+fn a_hash_map_shows_its_pairs(rt: HostRuntime) -> Result<(), Fail> {
+    let map = hash_map_of_two(rt.alloc())?;
+    expect_exact(
+        &rt,
+        rt.alloc(),
         &map,
         "HashMap 40\nHashMap;data 4\nHashMap;data;key;u8 2\nHashMap;data;value;u8 2\n",
-    )?;
+    )
+}
+
+fn tree_set_of_two(alloc: Global) -> Result<BTreeSet<u32>, Fail> {
     let mut set = BTreeSet::new(alloc);
-    set.insert(1u32)?;
+    set.insert(1)?;
     set.insert(2)?;
-    expect_exact(&rt, alloc, &set, "BTreeSet 16\nBTreeSet;data;key;u32 8\n")?;
-    let mut map = BTreeMap::new(alloc);
-    map.insert(1u8, 1u8)?;
-    map.insert(2, 2)?;
+    Ok(set)
+}
+
+#[test]
+fn a_tree_set_shows_its_keys(rt: HostRuntime) -> Result<(), Fail> {
+    let set = tree_set_of_two(rt.alloc())?;
     expect_exact(
         &rt,
-        alloc,
+        rt.alloc(),
+        &set,
+        "BTreeSet 16\nBTreeSet;data;key;u32 8\n",
+    )
+}
+
+fn tree_map_of_two(alloc: Global) -> Result<BTreeMap<u8, u8>, Fail> {
+    let mut map = BTreeMap::new(alloc);
+    map.insert(1, 1)?;
+    map.insert(2, 2)?;
+    Ok(map)
+}
+
+#[test]
+fn a_tree_map_shows_its_pairs(rt: HostRuntime) -> Result<(), Fail> {
+    let map = tree_map_of_two(rt.alloc())?;
+    expect_exact(
+        &rt,
+        rt.alloc(),
         &map,
         "BTreeMap 16\nBTreeMap;data 4\nBTreeMap;data;key;u8 2\nBTreeMap;data;value;u8 2\n",
-    )?;
-    Ok(())
+    )
 }
 
 #[test]
-fn boxed_objects(rt: HostRuntime) -> Result<(), Fail> {
-    let alloc = rt.alloc();
-    let shared: Box<dyn Allocative> = Box::new(alloc, IdRc::new(alloc, 1u64, Identity::from(7))?)?;
+fn a_boxed_rc(rt: HostRuntime) -> Result<(), Fail> {
+    let object: Box<dyn Allocative> = Box::new(
+        rt.alloc(),
+        IdRc::new(rt.alloc(), 1u64, Identity::from(7))?,
+    )?;
     expect_exact(
         &rt,
-        alloc,
-        &*shared,
+        rt.alloc(),
+        &*object,
         "Rc;ptr 8\nRcInner 16\nRcInner;u64 8\n",
-    )?;
-    let shared: Box<dyn Allocative> = Box::new(alloc, IdArc::new(alloc, 1u64, Identity::from(7))?)?;
-    expect_exact(
-        &rt,
-        alloc,
-        &*shared,
-        "Arc;ptr 8\nArcInner 16\nArcInner;u64 8\n",
-    )?;
-    let none: Option<HashMap<u8, Vec<u8>>> = None;
-    let choice: Box<dyn Allocative> = Box::new(alloc, none)?;
-    expect_exact(&rt, alloc, &*choice, "Option 56\n")?;
-    let kept: Box<dyn Allocative> = Box::new(alloc, ManuallyDrop::new(1u16))?;
-    expect_exact(&rt, alloc, &*kept, "ManuallyDrop;inner;u16 2\n")?;
-    let array: Box<dyn Allocative> = Box::new(alloc, [1u16, 2])?;
-    expect_exact(&rt, alloc, &*array, "u16;data;u16 4\n")?;
-    let tree: Box<dyn Allocative> = Box::new(alloc, BTreeMap::<u8, String>::new(alloc))?;
-    expect_exact(&rt, alloc, &*tree, "BTreeMap 16\nBTreeMap;data 8\n")?;
-    Ok(())
+    )
 }
 
 #[test]
-fn array_of_vectors(rt: HostRuntime) -> Result<(), Fail> {
-    let alloc = rt.alloc();
-    let array = [[1u8].to_vec(alloc)?, [2u8].to_vec(alloc)?];
+fn a_boxed_arc(rt: HostRuntime) -> Result<(), Fail> {
+    let object: Box<dyn Allocative> = Box::new(
+        rt.alloc(),
+        IdArc::new(rt.alloc(), 1u64, Identity::from(7))?,
+    )?;
     expect_exact(
         &rt,
-        alloc,
+        rt.alloc(),
+        &*object,
+        "Arc;ptr 8\nArcInner 16\nArcInner;u64 8\n",
+    )
+}
+
+#[test]
+fn a_boxed_choice(rt: HostRuntime) -> Result<(), Fail> {
+    let none: Option<HashMap<u8, Vec<u8>>> = None;
+    let object: Box<dyn Allocative> = Box::new(rt.alloc(), none)?;
+    expect_exact(&rt, rt.alloc(), &*object, "Option 56\n")
+}
+
+#[test]
+fn a_boxed_kept_value(rt: HostRuntime) -> Result<(), Fail> {
+    let object: Box<dyn Allocative> = Box::new(rt.alloc(), ManuallyDrop::new(1u16))?;
+    expect_exact(&rt, rt.alloc(), &*object, "ManuallyDrop;inner;u16 2\n")
+}
+
+#[test]
+fn a_boxed_array(rt: HostRuntime) -> Result<(), Fail> {
+    let object: Box<dyn Allocative> = Box::new(rt.alloc(), [1u16, 2])?;
+    expect_exact(&rt, rt.alloc(), &*object, "u16;data;u16 4\n")
+}
+
+#[test]
+fn a_boxed_tree_map(rt: HostRuntime) -> Result<(), Fail> {
+    let object: Box<dyn Allocative> = Box::new(
+        rt.alloc(),
+        BTreeMap::<u8, String>::new(rt.alloc()),
+    )?;
+    expect_exact(&rt, rt.alloc(), &*object, "BTreeMap 16\nBTreeMap;data 8\n")
+}
+
+#[test]
+fn an_array_of_vectors(rt: HostRuntime) -> Result<(), Fail> {
+    let array = [[1u8].to_vec(rt.alloc())?, [2u8].to_vec(rt.alloc())?];
+    expect_exact(
+        &rt,
+        rt.alloc(),
         &array,
         "Vec;data;Vec 32\nVec;data;Vec;ptr 16\nVec;data;Vec;ptr;u8 2\n",
-    )?;
-    Ok(())
+    )
 }

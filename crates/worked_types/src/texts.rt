@@ -1,22 +1,26 @@
 // The text of one visit.
-use allocative::{Allocative, FlameGraphBuilder};
+use allocative::{Allocative, FlameGraphBuilder, FlameGraphOutput};
 use std::alloc::Global;
 use std::process::Abort;
 use std::test::Fail;
 
+fn has_warnings(output: &FlameGraphOutput) -> Result<bool, Fail> {
+    Ok(!output.warnings()?.is_empty())
+}
+
 // The text of one visit that gives no warning.
-pub fn text_of(alloc: Global, root: &dyn Allocative) -> Result<String, Fail> {
+pub(crate) fn text_of(alloc: Global, root: &dyn Allocative) -> Result<String, Fail> {
     let mut builder = FlameGraphBuilder::new(alloc)?;
     builder.visit_root(root)?;
     let output = builder.finish()?;
-    if !output.warnings()?.is_empty() {
+    if has_warnings(&output)? {
         return Err(Fail::new("a warning"));
     }
     Ok(output.flamegraph().write()?)
 }
 
 // The same without the lines whose last key is `unused_capacity`.
-pub fn exact_text(alloc: Global, root: &dyn Allocative) -> Result<String, Fail> {
+fn exact_text(alloc: Global, root: &dyn Allocative) -> Result<String, Fail> {
     let text = text_of(alloc, root)?;
     let mut exact = String::new(alloc);
     for line in text.lines() {
@@ -29,7 +33,7 @@ pub fn exact_text(alloc: Global, root: &dyn Allocative) -> Result<String, Fail> 
 }
 
 // Asserts that the text of one visit is this one.
-pub fn expect_text(
+pub(crate) fn expect_text(
     rt: &impl Abort,
     alloc: Global,
     root: &dyn Allocative,
@@ -41,7 +45,7 @@ pub fn expect_text(
 }
 
 // Asserts that the text of one visit, without the lines of unused capacity, is this one.
-pub fn expect_exact(
+pub(crate) fn expect_exact(
     rt: &impl Abort,
     alloc: Global,
     root: &dyn Allocative,

@@ -37,6 +37,11 @@ impl<T: Allocative + Described> Allocative for IdArc<T> {
             identity: self.id(),
             content: Declared(Key::new("ArcInner"), shared_inner_size::<T>(), self.get()),
         };
-        Declared(Key::for_type_name::<IdArc<T>>(), <IdArc<T>>::size(), pointer).enter(visitor)
+        Declared(
+            Key::for_type_name::<IdArc<T>>(),
+            <IdArc<T>>::size(),
+            pointer,
+        )
+        .enter(visitor)
     }
 }

@@ -79,6 +79,11 @@ impl<
         let fourth = Field(Key::new("3"), &self.3);
         let fifth = Field(Key::new("4"), &self.4);
         let name = Key::for_type_name::<(A, B, C, D, E)>();
-        Declared(name, <(A, B, C, D, E)>::size(), (first, second, third, fourth, fifth)).enter(visitor)
+        Declared(
+            name,
+            <(A, B, C, D, E)>::size(),
+            (first, second, third, fourth, fifth),
+        )
+        .enter(visitor)
     }
 }

@@ -1,6 +1,6 @@
 -- The entries of both are one bag, so their sums are one map.
 use Rattle.std.proofs.Common.{ap}
-use Rattle.allocative_graph.specs.Graph.{graph, text, warnings}
+use Rattle.allocative_graph.specs.Graph.{graph, text, warnings, warned_paths}
 use Rattle.allocative_graph.proofs.Order.{same_reached, same_sums_of, agree_back}
 use Rattle.allocative_graph.proofs.laws.order_law.Goals as goal
 
@@ -10,4 +10,5 @@ returns c f g v w a = record {
   same_graph = ap graph (same_sums_of f g v w a);
   same_text = ap (λ s. text (graph s)) (same_sums_of f g v w a);
   same_warnings = ap warnings (same_sums_of f g v w a);
+  same_warned = ap warned_paths (same_sums_of f g v w a);
 }

@@ -6,16 +6,16 @@ use Rattle.allocative.proofs.part.SharedPart.enter.Goals as goal
 
 pub returns-in_err-enter : goal.returns-in_err-enter
 returns-in_err-enter g c = record {
-    same_reference = search rules;
-    same_outer = search rules;
-    shown = any_err {e = Memory} _ c.from_residual-in_err-enter.ensures.0 (shared_err (rw (c.if-is_first.true) at c.in_ok-is_first.ensures.enters) c.content-content.ensures.now c.in_err-enter.ensures.shown c.drop-content.ensures);
-    cause = search (rules, showing)
-  }
+  same_reference = search rules;
+  same_outer = search rules;
+  shown = any_err {e = Memory} _ c.from_residual-in_err-enter.ensures.0 (shared_err (rw (c.if-is_first.true) at c.in_ok-is_first.ensures.enters) c.content-content.ensures.now c.in_err-enter.ensures.shown c.drop-content.ensures);
+  cause = search (rules, showing);
+}
 
 pub returns-in_ok-enter : goal.returns-in_ok-enter
 returns-in_ok-enter g c = record {
-    same_reference = search rules;
-    same_outer = search rules;
-    shown = content_shows c.in_ok-is_first.ensures.enters c.if-is_first.true c.content-content.ensures.now c.in_ok-enter.ensures.shown c.exit.ensures;
-    cause = tt
-  }
+  same_reference = search rules;
+  same_outer = search rules;
+  shown = content_shows c.in_ok-is_first.ensures.enters c.if-is_first.true c.content-content.ensures.now c.in_ok-enter.ensures.shown c.exit.ensures;
+  cause = tt;
+}

@@ -7,11 +7,11 @@ use Rattle.allocative.proofs.visitor.Visitor.visit_field_with.Goals as goal
 
 pub returns-in_err-inner : goal.returns-in_err-inner
 returns-in_err-inner g c = record {
-    same_reference = search rules;
-    same_outer = search rules;
-    calls = not_called_by g.F.FnOnce c.args.visit {e = c.in_err-inner.field-0.0} _ c.from_residual.ensures.0 (search rules) (search rules);
-    cause = search (rules, showing)
-  }
+  same_reference = search rules;
+  same_outer = search rules;
+  calls = not_called_by g.F.FnOnce c.args.visit {e = c.in_err-inner.field-0.0} _ c.from_residual.ensures.0 (search rules) (search rules);
+  cause = search (rules, showing);
+}
 
 pub returns-in-Err : goal.returns-in-Err
 returns-in-Err g c =
@@ -22,7 +22,7 @@ returns-in-Err g c =
       same_reference = search rules;
       same_outer = search rules;
       calls = refused_inside {q = c.refuse.new.self.outer_is_unique} c.in_ok-inner.inner c.visit.new.arg2 c.refuse.new.self.collector.now c.in-Err.refusal c.in_ok-inner.ensures.entered refl q c.refuse.ensures.after (search rules);
-      cause = left_cause {o = c.refuse.new.self.outer_is_unique} {c = c.refuse.new.self.collector.now} (search rules) c.refuse.ensures.is_cause
+      cause = left_cause {o = c.refuse.new.self.outer_is_unique} {c = c.refuse.new.self.collector.now} (search rules) c.refuse.ensures.is_cause;
     }
 
 pub returns : goal.returns
@@ -35,5 +35,5 @@ returns g c =
       same_reference = search rules;
       same_outer = search rules;
       calls = called c.in_ok-inner.inner c.visit.new.arg2 c.in_ok-inner.ensures.entered refl q (search rules) n;
-      cause = tt
+      cause = tt;
     }

@@ -18,9 +18,9 @@ returns-clause-exact g c =
 
 pub returns-in_err-visit_pairs-clause-entered : goal.returns-in_err-visit_pairs-clause-entered
 returns-in_err-visit_pairs-clause-entered g c = record {
-    same_reference = search rules;
-    same_outer = search rules;
-    shown = any_err _ c.from_residual-in_err-visit_pairs.ensures.0
-        (entry_err {w = c.visit_pairs.new.self.outer_is_unique} {x = c.in_err-visit_pairs.field-0.0} c.in_ok-inner.ensures.entered (search rules) c.in_err-visit_pairs.ensures.entered.shown (search rules));
-    cause = search (rules, showing)
-  }
+  same_reference = search rules;
+  same_outer = search rules;
+  shown = any_err _ c.from_residual-in_err-visit_pairs.ensures.0
+      (entry_err {w = c.visit_pairs.new.self.outer_is_unique} {x = c.in_err-visit_pairs.field-0.0} c.in_ok-inner.ensures.entered (search rules) c.in_err-visit_pairs.ensures.entered.shown (search rules));
+  cause = search (rules, showing);
+}

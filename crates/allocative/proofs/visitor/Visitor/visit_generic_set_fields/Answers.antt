@@ -18,9 +18,9 @@ returns-clause-exact g c =
 
 pub returns-in_err-visit_keys-clause-entered : goal.returns-in_err-visit_keys-clause-entered
 returns-in_err-visit_keys-clause-entered g c = record {
-    same_reference = search rules;
-    same_outer = search rules;
-    shown = any_err _ c.from_residual-in_err-visit_keys.ensures.0
-        (entry_err {w = c.visit_keys.new.self.outer_is_unique} {x = c.in_err-visit_keys.field-0.0} c.in_ok-inner.ensures.entered (search rules) c.in_err-visit_keys.ensures.entered.shown (search rules));
-    cause = search (rules, showing)
-  }
+  same_reference = search rules;
+  same_outer = search rules;
+  shown = any_err _ c.from_residual-in_err-visit_keys.ensures.0
+      (entry_err {w = c.visit_keys.new.self.outer_is_unique} {x = c.in_err-visit_keys.field-0.0} c.in_ok-inner.ensures.entered (search rules) c.in_err-visit_keys.ensures.entered.shown (search rules));
+  cause = search (rules, showing);
+}

@@ -17,9 +17,9 @@ returns-clause-exact g c = λ h.
 
 pub returns-in_err-visit_with_room-clause-entered : goal.returns-in_err-visit_with_room-clause-entered
 returns-in_err-visit_with_room-clause-entered g c = record {
-    same_reference = search rules;
-    same_outer = search rules;
-    shown = any_err _ c.from_residual-in_err-visit_with_room.ensures.0
-        (field_err {w = c.visit_with_room.new.self.outer_is_unique} {x = c.in_err-visit_with_room.field-0.0} c.in_ok-inner.ensures.entered (search rules) c.in_err-visit_with_room.ensures.entered.shown (search rules));
-    cause = grind (arith, showing)
-  }
+  same_reference = search rules;
+  same_outer = search rules;
+  shown = any_err _ c.from_residual-in_err-visit_with_room.ensures.0
+      (field_err {w = c.visit_with_room.new.self.outer_is_unique} {x = c.in_err-visit_with_room.field-0.0} c.in_ok-inner.ensures.entered (search rules) c.in_err-visit_with_room.ensures.entered.shown (search rules));
+  cause = grind (arith, showing);
+}

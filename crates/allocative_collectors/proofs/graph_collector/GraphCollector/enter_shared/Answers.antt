@@ -7,7 +7,7 @@ use Rattle.allocative_graph.specs.Sums.{entered}
 use Rattle.allocative_graph.specs.Collector.{Live, enter_first, enter_again}
 use Rattle.allocative_collectors.specs.Places.{live, IsPlaced}
 use Rattle.allocative_collectors.specs.Meets.{MeetsAs}
-use Rattle.allocative_collectors.proofs.Collect.{placed_added, placed_gone, mark_of, fits_map, gone_first, stayed, not_met, was_met}
+use Rattle.allocative_collectors.proofs.Collect.{placed_added, placed_gone, mark_of, fits_map, gone_first, stayed, met_more, not_met, was_met}
 use Rattle.allocative_collectors.proofs.graph_collector.GraphCollector.enter_shared.Goals as goal
 use Rattle.allocative_collectors.proofs.graph_collector.GraphCollector.enter_shared.Goals.{After-insert}
 
@@ -42,8 +42,8 @@ returns-else-is_err-clause-ok c =
     let pushed : c.push.new.self.items ≡ i.places.items ++ i.current ∷ [] = c.push.ensures.items ∙ cond-true _ _ _ c.if-is_err.ensures.negation in
     let new_one : contains (live i.tree i.met.keys i.current i.places.items i.is_rooted).met c.args.id ≡ false = not_met i.met.keys c.args.id (sym c.in-Ok-true.field-0-test ∙ c.in-Ok-true.ensures.added) in
     let now : live c.add.new.tree c.insert.new.self.keys 0 c.push.new.self.items i.is_rooted ≡ enter_first c.args.key.now c.args.size c.args.id (live i.tree i.met.keys i.current i.places.items i.is_rooted) =
-    (λ j. live c.add.new.tree (c.in-Ok-true.ensures.keys j) 0 (pushed j) i.is_rooted)
-    ∙ gone_first i.tree c.add.new.tree i.met.keys i.current i.places.items i.is_rooted i.entered c.self.invariant c.args.key.now c.args.size false c.add.new.entered c.in_ok-add.field-0 c.in_ok-add.ensures.ok c.args.id refl in
+    (λ j. live c.add.new.tree c.insert.new.self.keys 0 (pushed j) i.is_rooted)
+    ∙ gone_first i.tree c.add.new.tree i.met.keys i.current i.places.items i.is_rooted i.entered c.self.invariant c.args.key.now c.args.size false c.add.new.entered c.in_ok-add.field-0 c.in_ok-add.ensures.ok c.args.id c.insert.new.self.keys (met_more i.met.keys c.insert.new.self.keys c.args.id c.in-Ok-true.ensures.updates.0) refl in
     subst (λ (v : Live). (entered v.sums + c.args.size < 2 ^ 63) × MeetsAs c.args.key.now c.args.size c.args.id v true (live c.add.new.tree c.insert.new.self.keys 0 c.push.new.self.items i.is_rooted)) c.self.view_is
     (fits_map i.tree c.add.new.tree i.met.keys i.current i.places.items i.is_rooted i.entered c.self.invariant c.args.key.now c.args.size false c.add.new.entered c.in_ok-add.field-0 c.in_ok-add.ensures.ok, (new_one, now))
 

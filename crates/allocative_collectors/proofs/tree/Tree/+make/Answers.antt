@@ -51,10 +51,10 @@ key t c = child_key c.self.inside.nodes.items c.self.invariant c.args.self.now c
 
 pub returns-in_err-add_self-clause-err : goal.returns-in_err-add_self-clause-err
 returns-in_err-add_self-clause-err t c =
-    let large : 2 ^ 64 ≤ total c.default-graph.result + c.size.result = c.in_err-add_self.ensures.too_large.0 (ap (λ (r : Refusal). Err r) c.in_err-add_self.ensures.no_other) in
+    let large : 2 ^ 64 ≤ total c.in_ok-graph.graph + c.size.result = c.in_err-add_self.ensures.too_large.0 (ap (λ (r : Refusal). Err r) c.in_err-add_self.ensures.no_other) in
     let own : c.size.result ≤ total_listed c.args.self.now = subst (λ (n : ℕ). n ≤ total_listed c.args.self.now) (sym c.size.ensures) (own_fits c.args.self.now c.args.at c.requires.within) in
-    let none : total c.default-graph.result ≡ 0 = ap total c.default-graph.ensures ∙ total-default in
-    absurd {A = IfErr c.from_residual.result (λ e. e ≡ Memory)} (omega (arith, large, own, none, c.requires.fits))
+    let none : total c.in_ok-graph.graph ≡ 0 = ap total c.in_ok-graph.ensures ∙ total-default in
+    absurd {A = IfErr c.from_residual-in_err-add_self.result (λ e. e ≡ Memory)} (omega (arith, large, own, none, c.requires.fits))
 
 pub loop-child-init : goal.loop-child-init
 loop-child-init t c =
@@ -65,7 +65,7 @@ loop-child-init t c =
     let items = c.self.inside.nodes.items in
     let bytes = bytes_read items c.self.invariant v c.self.view_is i c.requires.within n c.index-node.ensures in
     let under = under_read items c.self.invariant v c.self.view_is i c.requires.within n c.index-node.ensures in
-    let is : c.add_self.new.self ≡ add_self (size_at v i) default = c.in_ok-add_self.ensures.sum ∙ (λ j. add_self (c.size.ensures j) (c.default-graph.ensures j)) in
+    let is : c.add_self.new.self ≡ add_self (size_at v i) default = c.in_ok-add_self.ensures.sum ∙ (λ j. add_self (c.size.ensures j) (c.in_ok-graph.ensures j)) in
     let written : string_bytes c.if-is_short.text ≡ start ++ warning_at v i =
     elim c.if-is_short.branch [
       | then-is_short+in_ok-push_warning w ↦

@@ -11,5 +11,5 @@ returns-clause-entered c =
       same_reference = search rules;
       same_outer = search rules;
       shown = inline_shows {q = c.enter-2.new.visitor.outer_is_unique} (rw c.new.ensures at c.in_ok-inner.ensures.entered) (search rules) inside.shown (search rules) (search rules);
-      cause = tt
+      cause = tt;
     }

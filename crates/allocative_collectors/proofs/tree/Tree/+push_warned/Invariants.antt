@@ -1,0 +1,16 @@
+-- The list of keys is as it was, and what was found are the node and its children so far.
+use Rattle.std.proofs.Common.{◌≡◌, ◌-◌, length, map}
+use Rattle.allocative_collectors.specs.Shapes.{keys_of}
+use Rattle.allocative_collectors.specs.Nodes.{shape}
+use Rattle.allocative_collectors.specs.Warned.{seen}
+use Rattle.allocative_collectors.proofs.Found.{HalfFound}
+use Rattle.allocative_collectors.proofs.tree.Tree.+push_warned.Given as goal
+
+abbrev pub decreases-push_warned : goal.decreases-push_warned
+decreases-push_warned l = length l.self.now - l.at
+
+abbrev pub invariant-loop-child : goal.invariant-loop-child
+invariant-loop-child l = record {
+  keys : l.keys.items ≡ l.fn.keys.items;
+  found : HalfFound l.self l.at (keys_of (map shape l.self-inside.nodes.items) l.child-items) l.child-index (map seen l.fn.warned.items) (map seen l.warned.items);
+}

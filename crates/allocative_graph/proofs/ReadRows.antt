@@ -1,0 +1,49 @@
+-- The rows of a node: its own, and then those of its children, one child after another.
+use Rattle.std.proofs.Common.{◌≡◌, ℕ, ◌+◌, ◌<◌, List, [], ◌∷◌, ◌++◌, map, take, length, get_or, refl, sym, ap, ◌∙◌, append_assoc}
+use Rattle.std.proofs.lemmas.List.{take_more, append-nil}
+use Rattle.std.proofs.lemmas.Grind.{flat_map-append}
+use Rattle.std.specs.FinMap.{entries}
+use Rattle.allocative_graph.specs.declared.flamegraph.Child.{Child}
+use Rattle.allocative_graph.specs.Path.{Key, Path}
+use Rattle.allocative_graph.specs.Graph.{total, total_at}
+use Rattle.allocative_graph.specs.Parts.{under_rows}
+use Rattle.allocative_graph.specs.Node.{node, rows_of, rows_of_child}
+use Rattle.allocative_graph.specs.NodeRows.{entries-node}
+use Rattle.allocative_graph.specs.Children.{InOrder}
+use Rattle.allocative_graph.specs.Reads.{Figures, figures_behind}
+use Rattle.allocative_graph.proofs.Behind.{total_at-child}
+
+-- The figures of some paths with their sizes, behind some keys, where t has the bytes of each path and of all below it.
+abbrev pub figured : (Path → ℕ) → Path → List (Path × ℕ) → List Figures
+figured t ks rs = map (λ e. record { path = ks ++ e.0; self_size = e.1; total_size = t e.0 }) rs
+
+-- Those of two lists are those of one and then of the other.
+pub figured-append : (t : Path → ℕ) (ks : Path) (a b : List (Path × ℕ)) → figured t ks (a ++ b) ≡ figured t ks a ++ figured t ks b
+figured-append t ks [] b = refl
+figured-append t ks (r ∷ a) b = ap (λ (fs : List Figures). record { path = ks ++ r.0; self_size = r.1; total_size = t r.0 } ∷ fs) (figured-append t ks a b)
+
+-- A key put before the paths may as well stand last among the keys that they are behind.
+figured-under : (t u : Path → ℕ) (ks : Path) (k : Key) (rs : List (Path × ℕ)) → ((q : Path) → t (k ∷ q) ≡ u q) → figured u (ks ++ k ∷ []) rs ≡ figured t ks (under_rows k rs)
+figured-under t u ks k [] h = refl
+figured-under t u ks k (r ∷ rs) h =
+    λ i. record { path = append_assoc ks (k ∷ []) r.0 i; self_size = r.1; total_size = sym (h r.0) i } ∷ figured-under t u ks k rs h i
+
+-- The rows of one child more.
+pub child_read : (n : ℕ) (cs : List Child) (i : ℕ) (d : Child) (ks : Path) → InOrder cs → i < length cs
+    → figured (total_at (node n cs)) ks (rows_of (take i cs)) ++ figures_behind (ks ++ (get_or cs i d).key ∷ []) (get_or cs i d).graph
+    ≡ figured (total_at (node n cs)) ks (rows_of (take (i + 1) cs))
+child_read n cs i d ks o w =
+    let t : Path → ℕ = total_at (node n cs) in
+    let c : Child = get_or cs i d in
+    let e : rows_of (take (i + 1) cs) ≡ rows_of (take i cs) ++ rows_of_child c =
+    ap rows_of (take_more cs i d w) ∙ flat_map-append rows_of_child (take i cs) (c ∷ []) ∙ ap (λ r. rows_of (take i cs) ++ r) (append-nil (rows_of_child c)) in
+    ap (λ (fs : List Figures). figured t ks (rows_of (take i cs)) ++ fs) (figured-under t (total_at c.graph) ks c.key (entries c.graph) (λ q. total_at-child n cs i d q o w))
+    ∙ sym (figured-append t ks (rows_of (take i cs)) (rows_of_child c))
+    ∙ ap (figured t ks) (sym e)
+
+-- The rows of a node are its own and then those of its children.
+pub node_read : (n : ℕ) (cs : List Child) (ks : Path) → InOrder cs
+    → (record { path = ks; self_size = n; total_size = total (node n cs) } ∷ []) ++ figured (total_at (node n cs)) ks (rows_of cs) ≡ figures_behind ks (node n cs)
+node_read n cs ks o =
+    ap (λ (p : Path). record { path = p; self_size = n; total_size = total (node n cs) } ∷ figured (total_at (node n cs)) ks (rows_of cs)) (sym (append-nil ks))
+    ∙ ap (figured (total_at (node n cs)) ks) (sym (entries-node n cs o))

@@ -1,0 +1,11 @@
+use Rattle.std.proofs.Common.{◌≡◌, ◌++◌, map, take}
+use Rattle.allocative_graph.specs.Graph.{total_at}
+use Rattle.allocative_graph.specs.Node.{rows_of}
+use Rattle.allocative_graph.specs.Reads.{seen}
+use Rattle.allocative_graph.proofs.ReadRows.{figured}
+use Rattle.allocative_graph.proofs.flamegraph.FlameGraph.+push_rows.Given as goal
+
+abbrev pub invariant-loop-child : goal.invariant-loop-child
+invariant-loop-child l =
+    (l.path.items ≡ l.initial.path.items) ×
+    (map seen l.rows.items ≡ map seen l.initial.rows.items ++ figured (total_at l.fn.self) (map (λ k. k.now) l.initial.path.items) (rows_of (take l.child-index l.child-items)))

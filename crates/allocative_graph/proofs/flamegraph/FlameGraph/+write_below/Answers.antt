@@ -1,0 +1,94 @@
+-- What starts a line is cut back to its length, and each child's lines follow those before.
+use Rattle.std.proofs.Common.{◌≡◌, ℕ, ◌++◌, [], ◌∷◌, List, get_or, take, length, arith, ap, sym, subst, ◌∙◌, append_assoc, rules}
+use Rattle.std.proofs.lemmas.List.{take_all, append-nil}
+use Rattle.std.proofs.lemmas.Str.{IsUtf8-append, IsUtf8-from_ascii, IsCharBoundary-at_seam}
+use Rattle.std.specs.Str.{IsUtf8, IsCharBoundary}
+use Rattle.std.specs.Bool.{OnFalse}
+use Rattle.std.specs.Prelude.{string_bytes}
+use Rattle.std.specs.FinMap.{entries}
+use Rattle.allocative_graph.specs.declared.flamegraph.Child.{Child}
+use Rattle.allocative_graph.specs.Parts.{lines_from, lines_below, HasRootAlone}
+use Rattle.allocative_graph.specs.Node.{rows_of}
+use Rattle.allocative_graph.specs.NodeRows.{entries-node}
+use Rattle.allocative_graph.proofs.NodeText.{child_written, none_below, cut_back}
+use Rattle.allocative_graph.proofs.flamegraph.FlameGraph.+write_below.Goals as goal
+use Rattle.allocative_graph.proofs.flamegraph.FlameGraph.+write_below.Goals.{then-has_children+in_ok-push+in_ok-write_below, else-has_children, Joined-has_children}
+
+-- what starts a line with the child's key
+with_key : (t : ℕ) (c : Joined-has_children t) → string_bytes c.push_str.new.self ≡ string_bytes c.args.start.now ++ c.as_str.result.now
+with_key t c = c.in_ok-push_str.ensures.bytes ∙ ap (λ l. l ++ c.as_str.result.now) c.loop-child.invariant.start
+
+-- what starts a line now: what did before, and a text behind it
+longer : (t : ℕ) (c : Joined-has_children t) → (more : List ℕ) × (string_bytes c.if-has_children.start ≡ string_bytes c.args.start.now ++ more) × IsUtf8 more
+unfolding lib.Utf8.encode
+longer t c =
+    let key = c.as_str.result.now in
+    let start = string_bytes c.args.start.now in
+    elim c.if-has_children.branch [
+      | then-has_children+in_ok-push+in_ok-write_below w ↦ (
+        key ++ 59 ∷ [],
+        ap (λ s. string_bytes s) w.start-is ∙ (w.in_ok-write_below.ensures.start ∙ (w.in_ok-push.ensures.bytes ∙ (ap (λ l. l ++ 59 ∷ []) (with_key t c) ∙ append_assoc start key (59 ∷ [])))),
+        IsUtf8-append key (59 ∷ []) c.as_str.utf8 (IsUtf8-from_ascii (59 ∷ []) (search rules)),
+      )
+      | else-has_children w ↦ (key, ap (λ s. string_bytes s) w.start-is ∙ with_key t c, c.as_str.utf8)
+    ]
+
+pub truncate-requires : goal.truncate-requires
+truncate-requires t c =
+    let here = (goal.at.truncate-requires t c).Joined-has_children in
+    let now = longer t here in
+    let len : c.len-length.result ≡ length (string_bytes c.args.start.now) = c.len-length.ensures ∙ c.args.start.now.bytes.ok.0 in
+    let place = IsCharBoundary-at_seam (string_bytes c.if-has_children.start) (string_bytes c.args.start.now) now.0 now.1 now.2 in
+    let at = subst (IsCharBoundary (string_bytes c.if-has_children.start)) (sym len) place in
+    λ _. (at.0, λ _ within. at.1 within)
+
+-- the text with the child's lines
+child_lines : (t : ℕ) (c : Joined-has_children t) → string_bytes c.if-has_children.text ≡ string_bytes c.loop-child.text ++ lines_from (string_bytes c.args.start.now ++ c.child-item.result.key) (entries c.child-item.result.graph)
+unfolding lib.Utf8.encode
+child_lines t c =
+    let es = entries c.child-item.result.graph in
+    let path = c.as_str-in-loop-child.result.now in
+    let own : string_bytes c.write_own.new.text ++ lines_below (path ++ 59 ∷ []) es ≡ string_bytes c.loop-child.text ++ lines_from path es = c.in_ok-write_own.ensures in
+    let path_is : path ≡ string_bytes c.push_str.new.self = c.as_str-in-loop-child.ensures.value in
+    let named : path ≡ string_bytes c.args.start.now ++ c.child-item.result.key = path_is ∙ (with_key t c ∙ ap (λ k. string_bytes c.args.start.now ++ k) c.as_str.ensures) in
+    let written : string_bytes c.if-has_children.text ≡ string_bytes c.write_own.new.text ++ lines_below (path ++ 59 ∷ []) es = elim c.if-has_children.branch [
+      | then-has_children+in_ok-push+in_ok-write_below w ↦
+          ap (λ s. string_bytes s) w.text-is ∙ (w.in_ok-write_below.ensures.text
+          ∙ ap (λ l. string_bytes c.write_own.new.text ++ lines_below l es) (w.in_ok-push.ensures.bytes ∙ ap (λ l. l ++ 59 ∷ []) (sym path_is)))
+      | else-has_children w ↦
+          (let alone = subst (λ b. OnFalse b (HasRootAlone c.child-item.result.graph)) w.if-has_children.false c.has_children.ensures in
+          ap (λ s. string_bytes s) w.text-is ∙ (sym (append-nil (string_bytes c.write_own.new.text))
+          ∙ ap (λ l. string_bytes c.write_own.new.text ++ l) (sym (none_below (path ++ 59 ∷ []) alone.0 es alone.1))))
+    ] in
+    written ∙ (own ∙ ap (λ l. string_bytes c.loop-child.text ++ lines_from l es) named)
+
+pub loop-child-preserved : goal.loop-child-preserved
+loop-child-preserved t c =
+    let here = (goal.at.loop-child-preserved t c).Joined-has_children in
+    let cs = c.deref-child-items.result.now in
+    let i = c.loop-child.child-index in
+    let start = string_bytes c.args.start.now in
+    let now = longer t here in
+    let len : c.len-length.result ≡ length start = c.len-length.ensures ∙ c.args.start.now.bytes.ok.0 in
+    let at : c.child-item.result ≡ get_or cs i c.child-item.result = c.child-item.is in
+    record {
+      start = c.truncate.ensures.bytes ∙ (ap (take c.len-length.result) now.1 ∙ cut_back start now.0 c.len-length.result len);
+      text =
+          child_lines t here
+          ∙ (ap (λ l. l ++ lines_from (start ++ c.child-item.result.key) (entries c.child-item.result.graph)) c.loop-child.invariant.text
+          ∙ (ap (λ (d : Child). (string_bytes c.args.text.now ++ lines_below start (rows_of (take i cs))) ++ lines_from (start ++ d.key) (entries d.graph)) at
+          ∙ child_written start cs i c.child-item.result (string_bytes c.args.text.now) (omega arith)));
+    }
+
+pub returns-clause-text : goal.returns-clause-text
+returns-clause-text t c =
+    let cs = c.deref-child-items.result.now in
+    let i = c.loop-child.child-index in
+    let n = c.self.inside.node_size in
+    let start = string_bytes c.args.start.now in
+    let all : take i cs ≡ cs = take_all i cs (omega arith) in
+    let same : cs ≡ c.self.inside.children.items = c.deref-child-items.ensures.value in
+    c.loop-child.invariant.text
+    ∙ (ap (λ (l : List Child). string_bytes c.args.text.now ++ lines_below start (([], n) ∷ rows_of l)) (all ∙ same)
+    ∙ (ap (λ l. string_bytes c.args.text.now ++ lines_below start l) (sym (entries-node n c.self.inside.children.items c.self.invariant.children.sorted))
+    ∙ ap (λ g. string_bytes c.args.text.now ++ lines_below start (entries g)) c.self.view_is))

@@ -1,0 +1,26 @@
+use Rattle.std.proofs.Common.{◌≡◌, [], List, ap, sym, subst, ◌∙◌}
+use Rattle.allocative_graph.specs.declared.flamegraph.Child.{Child}
+use Rattle.allocative_graph.specs.Graph.{Graph, size_at}
+use Rattle.allocative_graph.specs.Node.{node, AreChildren}
+use Rattle.allocative_graph.specs.Reads.{AllSmaller}
+use Rattle.allocative_graph.proofs.NodeSizes.{size_at-root}
+use Rattle.allocative_graph.proofs.Behind.{smaller_child}
+use Rattle.allocative_graph.proofs.flamegraph.FlameGraph.children.Goals as goal
+
+pub returns-clause-whole : goal.returns-clause-whole
+returns-clause-whole c =
+    let n = c.self.inside.node_size in
+    let cs = c.self.inside.children.items in
+    let own : n ≡ size_at c.args.self.now [] = sym (size_at-root n cs c.self.invariant.children.sorted) ∙ ap (λ g. size_at g []) c.self.view_is in
+    sym c.self.view_is ∙ (λ i. node (own i) (sym c.as_slice.ensures.value i))
+
+pub returns-clause-children : goal.returns-clause-children
+returns-clause-children c = subst AreChildren (sym c.as_slice.ensures.value) c.self.invariant.children
+
+pub returns-clause-smaller : goal.returns-clause-smaller
+returns-clause-smaller c =
+    let n = c.self.inside.node_size in
+    let cs = c.self.inside.children.items in
+    let smaller : AllSmaller cs c.args.self.now =
+    subst (λ (g : Graph). AllSmaller cs g) c.self.view_is (λ i d h. smaller_child n cs i d c.self.invariant.children.sorted h) in
+    subst (λ (s : List Child). AllSmaller s c.args.self.now) (sym c.as_slice.ensures.value) smaller

@@ -1,0 +1,15 @@
+use Rattle.std.proofs.Common.{◌≡◌, [], List, ap, sym, arith, ◌∙◌}
+use Rattle.allocative_graph.specs.declared.flamegraph.Child.{Child}
+use Rattle.allocative_graph.specs.Graph.{default}
+use Rattle.allocative_graph.specs.Many.{sum_of_all}
+use Rattle.allocative_graph.proofs.Behind.{no_items}
+use Rattle.allocative_graph.proofs.Gathered.{all_permuted}
+use Rattle.allocative_graph.proofs.flamegraph.many.gather.Goals as goal
+
+pub returns : goal.returns
+returns c =
+    let none : c.loop-child.waiting.items ≡ [] = no_items c.loop-child.waiting.items (omega (arith, c.in_default.ensures.cases.0, c.loop-child.waiting.ok.0)) in
+    ap (λ (cs : List Child). sum_of_all c.loop-child.graph cs) (sym none)
+    ∙ c.loop-child.invariant
+    ∙ ap (λ (cs : List Child). sum_of_all default cs) c.from-waiting.ensures.0
+    ∙ all_permuted default c.args.children.items c.sort_by.new.self.items c.sort_by.ensures.permutation

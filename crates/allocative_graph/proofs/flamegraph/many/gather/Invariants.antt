@@ -1,0 +1,11 @@
+use Rattle.std.proofs.Common.{◌≡◌, length}
+use Rattle.allocative_graph.specs.Graph.{default}
+use Rattle.allocative_graph.specs.Many.{sum_of_all}
+use Rattle.allocative_graph.proofs.flamegraph.many.gather.Given as goal
+
+-- With those that wait, the graph is that of all.
+abbrev pub invariant-loop-child : goal.invariant-loop-child
+invariant-loop-child l = sum_of_all l.graph l.waiting.items ≡ sum_of_all default l.initial.waiting.items
+
+abbrev pub decreases-loop-child : goal.decreases-loop-child
+decreases-loop-child l = length l.waiting.items

@@ -1,0 +1,66 @@
+//! Many children of a flame graph at once.
+ghost use Rattle.std.specs.Prelude.{◌≡◌, ◌+◌, ◌^◌, ◌<◌, ◌≤◌, ◌↔◌, IfOk, OnOk, IsErrOf};
+ghost use Rattle.std.specs.Option.{SomeIff};
+ghost use Rattle.allocative_graph.specs.Graph.{total, default};
+ghost use Rattle.allocative_graph.specs.Parts.{IsPartOfSum};
+ghost use Rattle.allocative_graph.specs.Many.{sum_of_all, total_of};
+
+use crate::flamegraph::{Child, FlameGraph};
+use crate::refusal::Refusal;
+use std::alloc::{AllocError, Global};
+use std::collections::VecDeque;
+
+impl FlameGraph {
+    /// Adds some children, each as [`add_child`](FlameGraph::add_child) does; children of one key add up. Their order does
+    /// not matter: they are sorted once, and then merged with those that there are.
+    ///
+    /// It answers `TooLarge` exactly where all totals together pass `usize::MAX`, and then nothing is changed. After
+    /// `Memory` each path has its old size or the sum's, all old paths are still there, and there is none that the sum has
+    /// not. After a refusal the children are dropped.
+    pub fn add_children(&mut self, children: Vec<Child>) -> Result<(), Refusal>
+        ensures sum { OnOk result (self.new ≡ sum_of_all self.old children.items) }
+        ensures too_large { IsErrOf result Refusal.TooLarge ↔ (2 ^ 64 ≤ total self.old + total_of children.items) }
+        ensures unchanged { IsErrOf result Refusal.TooLarge → self.new ≡ self.old }
+        ensures part { IsErrOf result Refusal.Memory → IsPartOfSum self.old (sum_of_all default children.items) self.new }
+        ensures never_open { ¬ (IsErrOf result Refusal.Open) }
+    {
+        let Some(added) = total_size_of(children.as_slice()) else {
+            return Err(Refusal::TooLarge);
+        };
+        if added > usize::MAX - self.total_size() {
+            return Err(Refusal::TooLarge);
+        }
+        let alloc = *self.children.allocator();
+        let graph = gather(alloc, children)?;
+        self.add(graph)
+    }
+}
+
+// The totals of some children together, where the sum fits.
+fn total_size_of(children: &[Child]) -> Option<usize>
+    ensures { SomeIff result (total_of children.now < 2 ^ 64) (total_of children.now) }
+{
+    let mut sum: usize = 0;
+    for child in children {
+        sum = sum.checked_add(child.graph.total_size())?;
+    }
+    Some(sum)
+}
+
+// A graph with the children alone. They are added in the order of their keys, so that each goes behind the last one.
+fn gather(alloc: Global, children: Vec<Child>) -> Result<FlameGraph, AllocError>
+    requires { total_of children.items < 2 ^ 64 }
+    ensures { IfOk result (λ graph. graph ≡ sum_of_all default children.items) }
+{
+    let mut sorted = children;
+    sorted.sort_by(|left: &Child, right: &Child| left.key.cmp(&right.key))?;
+    let mut waiting = VecDeque::from(sorted);
+    let mut graph = FlameGraph::default(alloc);
+    while let Some(child) = waiting.pop_front() {
+        // The totals fit, so that memory alone can be refused.
+        if graph.add_child(child.key, child.graph).is_err() {
+            return Err(AllocError);
+        }
+    }
+    Ok(graph)
+}

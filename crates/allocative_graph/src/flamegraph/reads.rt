@@ -1,0 +1,117 @@
+//! Reads of a flame graph: its children, the graph at a path, and the rows of all paths.
+ghost use Rattle.std.specs.Prelude.{◌≡◌, ◌++◌, [], IfOk, IfErr, IfSome, IfNone, OnOk, map};
+ghost use Rattle.allocative_graph.specs.Path.{key_cmp};
+ghost use Rattle.allocative_graph.specs.Graph.{size_at, total_at, IsBehind, HasNothing};
+ghost use Rattle.allocative_graph.specs.Node.{node, AreChildren};
+ghost use Rattle.allocative_graph.specs.Children.{InOrder, IsFound, IsGap};
+ghost use Rattle.allocative_graph.specs.Reads.{AllSmaller, seen, figures, figures_behind};
+
+use crate::flamegraph::{Child, FlameGraph};
+use crate::refusal::Refusal;
+use std::alloc::{AllocError, Global};
+use std::cmp::Ordering;
+
+/// A path of a flame graph, with its figures in bytes.
+#[derive(Drop)]
+pub struct Row {
+    /// The keys from the root on. The root's path is empty.
+    pub path: Vec<&'static str>,
+    /// The bytes of the path itself.
+    pub self_size: usize,
+    /// The bytes of the path and of all paths below it.
+    pub total_size: usize,
+}
+
+impl FlameGraph {
+    /// The size of the root alone, in bytes.
+    pub fn self_size(&self) -> usize
+        ensures { result ≡ size_at self.now [] }
+    {
+        self.node_size
+    }
+
+    /// The children of the root, in the order of their keys. No two have one key. With the root's own size they are the
+    /// whole graph, and each has fewer paths, so a function may call itself for them.
+    pub fn children(&self) -> &[Child]
+        ensures whole { self.now ≡ node (size_at self.now []) result.now }
+        ensures children { AreChildren result.now }
+        ensures smaller { AllSmaller result.now self.now }
+    {
+        self.children.as_slice()
+    }
+
+    /// The graph at a path, whose root is that path; None exactly where the graph has no such path.
+    pub fn get(&self, path: &[&str]) -> Option<&FlameGraph>
+        ensures found { IfSome result (λ found. IsBehind self.now (map (λ k. k.now) path.now) found.now) }
+        ensures missing { IfNone result (HasNothing self.now (map (λ k. k.now) path.now)) }
+    {
+        let children = self.children.as_slice();
+        let Some((key, rest)) = path.split_first() else {
+            return Some(self);
+        };
+        let Ok(place) = place_of_text(children, key) else {
+            return None;
+        };
+        children[place].graph.get(rest)
+    }
+
+    /// The size at a path, in bytes; 0 where the graph has no such path.
+    pub fn size_at(&self, path: &[&str]) -> usize
+        ensures { result ≡ size_at self.now (map (λ k. k.now) path.now) }
+    {
+        self.get(path).map_or(0, FlameGraph::self_size)
+    }
+
+    /// The bytes of a path and of all paths below it; 0 where the graph has no such path.
+    pub fn total_at(&self, path: &[&str]) -> usize
+        ensures { result ≡ total_at self.now (map (λ k. k.now) path.now) }
+    {
+        self.get(path).map_or(0, FlameGraph::total_size)
+    }
+
+    /// All paths with their figures, in the order of paths: the root first, each path before those below it, and the
+    /// paths below one path by their keys.
+    ///
+    /// It answers an error only for want of memory.
+    pub fn rows(&self) -> Result<Vec<Row>, Refusal>
+        ensures rows { IfOk result (λ rows. map seen rows.items ≡ figures self.now) }
+        ensures memory { IfErr result (λ r. r ≡ Refusal.Memory) }
+    {
+        let alloc = *self.children.allocator();
+        let mut path: Vec<&'static str> = Vec::new(alloc);
+        let mut rows = Vec::new(alloc);
+        self.push_rows(&mut path, &mut rows)?;
+        Ok(rows)
+    }
+
+    // Appends the rows of all paths, behind some keys.
+    fn push_rows(&self, path: &mut Vec<&'static str>, rows: &mut Vec<Row>) -> Result<(), AllocError>
+        ensures path { OnOk result (path.new.items ≡ path.old.items) }
+        ensures rows { OnOk result (map seen rows.new.items ≡ map seen rows.old.items ++ figures_behind (map (λ k. k.now) path.old.items) self.now) }
+    {
+        rows.push(Row {
+            path: path.clone()?,
+            self_size: self.node_size,
+            total_size: self.total_size(),
+        })?;
+        for child in &self.children {
+            path.push(child.key.as_str())?;
+            child.graph.push_rows(path, rows)?;
+            path.pop();
+        }
+        Ok(())
+    }
+}
+
+// Where the key of a text stands among the children, or else where it belongs.
+fn place_of_text(children: &[Child], text: &str) -> Result<usize, usize>
+    requires { InOrder children.now }
+    ensures found { IfOk result (IsFound children.now text.now) }
+    ensures missing { IfErr result (IsGap children.now text.now) }
+{
+    children.binary_search_by(
+        |child: &Child| -> Ordering
+            ensures { result ≡ key_cmp child.entry.now.key text.entry.now }
+        { child.key.as_str().cmp(text) },
+    )
+}

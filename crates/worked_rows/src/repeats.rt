@@ -1,0 +1,96 @@
+// Structures that come again and again, where what follows a child is not what followed it before.
+use crate::entries::assert_text;
+use allocative::{FlameGraphBuilder, Identity, Key, Refusal, Visitor};
+
+// An entry, and one entry in it for each part.
+fn enter_parts(
+    visitor: &mut Visitor<'_>,
+    key: &'static str,
+    size: usize,
+    parts: &[(&'static str, usize)],
+) -> Result<(), Refusal> {
+    let mut inner = visitor.enter(Key::new(key), size)?;
+    for (part, bytes) in parts {
+        inner.visit_simple(Key::new(part), *bytes)?;
+    }
+    inner.exit();
+    Ok(())
+}
+
+// `S 20`, in it a shared pointer, and behind that `q 2`.
+fn enter_shared_between(visitor: &mut Visitor<'_>) -> Result<(), Refusal> {
+    let mut inner = visitor.collector.enter(Key::new("S"), 20)?;
+    if let Some(shown) = inner
+        .collector
+        .point_to(Key::new("p"), 8, Identity::from(1))?
+    {
+        let mut content = inner.collector.content(shown);
+        content.visit_simple(Key::new("C"), 16)?;
+        content.exit();
+    }
+    inner.visit_simple(Key::new("q"), 2)?;
+    inner.exit();
+    Ok(())
+}
+
+// `a 10`, in it `a 4` with `a 1`, and behind that `b 2`.
+fn enter_one_key_at_three_depths(visitor: &mut Visitor<'_>) -> Result<(), Refusal> {
+    let mut outer = visitor.collector.enter(Key::new("a"), 10)?;
+    enter_parts(&mut outer, "a", 4, &[("a", 1)])?;
+    outer.visit_simple(Key::new("b"), 2)?;
+    outer.exit();
+    Ok(())
+}
+
+#[test]
+fn fields_come_and_go(rt: HostRuntime) -> Result<(), Refusal> {
+    let mut builder = FlameGraphBuilder::new(rt.alloc())?;
+    let mut root = builder.root_visitor()?;
+    enter_parts(&mut root, "T", 10, &[("a", 1), ("b", 2), ("c", 3)])?;
+    enter_parts(&mut root, "T", 10, &[("a", 1), ("c", 3)])?;
+    enter_parts(&mut root, "T", 10, &[("a", 1), ("b", 2), ("c", 3)])?;
+    root.exit();
+    assert_text(&rt, builder, "T 14\nT;a 3\nT;b 4\nT;c 9\n")
+}
+
+#[test]
+fn fields_come_in_the_other_order(rt: HostRuntime) -> Result<(), Refusal> {
+    let mut builder = FlameGraphBuilder::new(rt.alloc())?;
+    let mut root = builder.root_visitor()?;
+    enter_parts(&mut root, "T", 10, &[("a", 1), ("b", 2), ("c", 3)])?;
+    enter_parts(&mut root, "T", 10, &[("c", 3), ("b", 2), ("a", 1)])?;
+    root.exit();
+    assert_text(&rt, builder, "T 8\nT;a 2\nT;b 4\nT;c 6\n")
+}
+
+#[test]
+fn variants_alternate(rt: HostRuntime) -> Result<(), Refusal> {
+    let mut builder = FlameGraphBuilder::new(rt.alloc())?;
+    let mut root = builder.root_visitor()?;
+    for _ in 0..2 {
+        enter_parts(&mut root, "E", 4, &[("x", 1)])?;
+        enter_parts(&mut root, "E", 4, &[("y", 2)])?;
+    }
+    root.exit();
+    assert_text(&rt, builder, "E 10\nE;x 2\nE;y 4\n")
+}
+
+#[test]
+fn a_content_stands_between_two_fields(rt: HostRuntime) -> Result<(), Refusal> {
+    let mut builder = FlameGraphBuilder::new(rt.alloc())?;
+    let mut root = builder.root_visitor()?;
+    enter_shared_between(&mut root)?;
+    enter_shared_between(&mut root)?;
+    root.exit();
+    assert_text(&rt, builder, "C 16\nS 20\nS;p 16\nS;q 4\n")
+}
+
+#[test]
+fn one_key_stands_at_three_depths(rt: HostRuntime) -> Result<(), Refusal> {
+    let mut builder = FlameGraphBuilder::new(rt.alloc())?;
+    let mut root = builder.root_visitor()?;
+    enter_one_key_at_three_depths(&mut root)?;
+    enter_one_key_at_three_depths(&mut root)?;
+    root.exit();
+    assert_text(&rt, builder, "a 8\na;a 6\na;a;a 2\na;b 4\n")
+}

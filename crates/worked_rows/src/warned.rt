@@ -1,0 +1,60 @@
+// The paths that have a warning, as paths with both figures.
+use crate::entries::enter_with;
+use allocative::{FlameGraphBuilder, FlameGraphOutput, Key, Refusal};
+use std::alloc::Global;
+
+// A run of `b 1 {c 2 {d 5}}` and `a 1 {x 4}`.
+fn short_of_children(alloc: Global) -> Result<FlameGraphOutput, Refusal> {
+    let mut builder = FlameGraphBuilder::new(alloc)?;
+    let mut root = builder.root_visitor()?;
+    let mut outer = root.enter(Key::new("b"), 1)?;
+    enter_with(&mut outer, "c", 2, "d", 5)?;
+    outer.exit();
+    enter_with(&mut root, "a", 1, "x", 4)?;
+    root.exit();
+    builder.finish()
+}
+
+// Each path with a warning, its own bytes, and those one key below.
+fn told(alloc: Global, output: &FlameGraphOutput) -> Result<String, Refusal> {
+    let mut text = String::new(alloc);
+    for warned in output.warned_paths() {
+        for key in &warned.path {
+            write!(text, "{key}/")?;
+        }
+        write!(text, " {} {}\n", warned.self_size, warned.children_size)?;
+    }
+    Ok(text)
+}
+
+#[test]
+fn warned_paths_have_both_figures(rt: HostRuntime) -> Result<(), Refusal> {
+    let output = short_of_children(rt.alloc())?;
+    let text = told(rt.alloc(), &output)?;
+    assert_eq!(rt; text.as_str(), "a/ 1 4\nb/ 1 2\nb/c/ 2 5\n");
+    Ok(())
+}
+
+#[test]
+fn the_text_of_warnings_is_lent(rt: HostRuntime) -> Result<(), Refusal> {
+    let output = short_of_children(rt.alloc())?;
+    assert_eq!(rt;
+        output.warnings_text(),
+        "Incorrect size declaration for node `a`, size of self: 1, size of inline children: 4\n\
+         Incorrect size declaration for node `b`, size of self: 1, size of inline children: 2\n\
+         Incorrect size declaration for node `b;c`, size of self: 2, size of inline children: 5\n"
+    );
+    Ok(())
+}
+
+#[test]
+fn no_warning_names_no_path(rt: HostRuntime) -> Result<(), Refusal> {
+    let mut builder = FlameGraphBuilder::new(rt.alloc())?;
+    let mut root = builder.root_visitor()?;
+    root.visit_simple(Key::new("a"), 3)?;
+    root.exit();
+    let output = builder.finish()?;
+    assert!(rt; output.warned_paths().is_empty());
+    assert_eq!(rt; output.warnings_text(), "");
+    Ok(())
+}

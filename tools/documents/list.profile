@@ -1,0 +1,11 @@
+Value 8
+Value;Array;Vec 16
+Value;Array;Vec;ptr 8
+Value;Array;Vec;ptr;Value 32
+Value;Array;Vec;ptr;Value;Array;Vec 16
+Value;Array;Vec;ptr;Value;Array;Vec;ptr 8
+Value;Array;Vec;ptr;Value;Array;Vec;ptr;Value 16
+Value;Array;Vec;ptr;Value;Array;Vec;ptr;Value;Number;Number 16
+Value;Array;Vec;ptr;Value;Number;Number 16
+Value;Array;Vec;ptr;Value;String;String 16
+Value;Array;Vec;ptr;Value;String;String;ptr 8

@@ -1,0 +1,3 @@
+BTreeSet 16
+BTreeSet;data 8
+Value 32
