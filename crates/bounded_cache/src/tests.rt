@@ -1,5 +1,5 @@
 // A value that cannot be measured, and the texts of the errors.
-#![tactic(auto, using(allocative::proofs::Showing::showing))]
+#![tactic(auto, using(allocative::proofs::Meaning::visited, allocative::proofs::Meaning::entered_refused))]
 
 ghost use Rattle.std.specs.Prelude.{codes, Some, false};
 

@@ -1,10 +1,10 @@
 //! What the service of this example holds.
-#![tactic(auto, using(allocative::proofs::Showing::showing))]
+#![tactic(auto, using(allocative::proofs::Parts::parts))]
 
 ghost use Rattle.std.specs.Prelude.{codes, Some};
-ghost use Rattle.allocative.specs.Shows.{Inside, Field, Both};
+ghost use Rattle.allocative.specs.Shows as shows;
 
-use allocative::{Allocative, Key, Refusal, Visitor};
+use allocative::{Allocative, Field, Inside, Key, Part, Refusal, Visitor};
 
 /// A user who is signed in, perhaps with a basket; 24 bytes.
 #[derive(Drop)]
@@ -23,14 +23,12 @@ impl Session {
 }
 
 impl Allocative for Session {
-    ghost may_show = { λ s. Inside (codes "Session") 24 (Both (Field (codes "user") (Some 4) (⟦<u32 as Allocative>⟧.may_show s.user)) (Field (codes "basket") (Some 16) (⟦<Option<Box<u64>> as Allocative>⟧.may_show s.basket))) };
+    ghost may_show = { λ s. shows.Inside (codes "Session") 24 (shows.Both (shows.Field (codes "user") (Some 4) (⟦<u32 as Allocative>⟧.may_show s.user)) (shows.Field (codes "basket") (Some 16) (⟦<Option<Box<u64>> as Allocative>⟧.may_show s.basket))) };
 
     fn visit(&self, visitor: &mut Visitor<'_>) -> Result<(), Refusal> {
-        let mut inner = visitor.collector.enter(Key::new("Session"), 24)?;
-        inner.visit_field(Key::new("user"), &self.user)?;
-        inner.visit_field(Key::new("basket"), &self.basket)?;
-        inner.exit();
-        Ok(())
+        let user = Field(Key::new("user"), &self.user);
+        let basket = Field(Key::new("basket"), &self.basket);
+        Inside(Key::new("Session"), 24, (user, basket)).enter(visitor)
     }
 }
 
@@ -42,12 +40,10 @@ pub struct Page {
 }
 
 impl Allocative for Page {
-    ghost may_show = { λ p. Inside (codes "Page") 8 (Field (codes "rows") (Some 8) (⟦<Box<[u64; 4]> as Allocative>⟧.may_show p.rows)) };
+    ghost may_show = { λ p. shows.Inside (codes "Page") 8 (shows.Field (codes "rows") (Some 8) (⟦<Box<[u64; 4]> as Allocative>⟧.may_show p.rows)) };
 
     fn visit(&self, visitor: &mut Visitor<'_>) -> Result<(), Refusal> {
-        let mut inner = visitor.collector.enter(Key::new("Page"), 8)?;
-        inner.visit_field(Key::new("rows"), &self.rows)?;
-        inner.exit();
-        Ok(())
+        let rows = Field(Key::new("rows"), &self.rows);
+        Inside(Key::new("Page"), 8, rows).enter(visitor)
     }
 }

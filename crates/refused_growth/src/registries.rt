@@ -1,12 +1,12 @@
 // Registries and whole runs after a refused growth.
-#![tactic(auto, using(allocative::proofs::Showing::showing))]
+#![tactic(auto, using(allocative::proofs::Parts::parts))]
 
 ghost use Rattle.std.specs.Prelude.{codes, Some};
-ghost use Rattle.allocative.specs.Shows.{Inside, Field, Nothing};
+ghost use Rattle.allocative.specs.Shows as shows;
 
 use allocative::{
-    Allocative, FlameGraphBuilder, IdArc, IdRc, Identity, Key, Refusal, Registry, Visitor,
-    profile_in_two, profile_roots,
+    Allocative, Field, FlameGraphBuilder, IdArc, IdRc, Identity, Inside, Key, Part, Refusal,
+    Registry, Visitor, profile_in_two, profile_roots,
 };
 use std::collections::BTreeMap;
 use std::test::Fail;
@@ -46,13 +46,11 @@ struct TestGlobalRoot {
 }
 
 impl Allocative for TestGlobalRoot {
-    ghost may_show = { λ _. Inside (codes "TestGlobalRoot") 4 (Field (codes "x") (Some 4) (Field (codes "u32") (Some 4) Nothing)) };
+    ghost may_show = { λ _. shows.Inside (codes "TestGlobalRoot") 4 (shows.Field (codes "x") (Some 4) (shows.Field (codes "u32") (Some 4) shows.Nothing)) };
 
     fn visit(&self, visitor: &mut Visitor<'_>) -> Result<(), Refusal> {
-        let mut inner = visitor.collector.enter(Key::new("TestGlobalRoot"), 4)?;
-        inner.visit_field(Key::new("x"), &self.x)?;
-        inner.exit();
-        Ok(())
+        let x = Field(Key::new("x"), &self.x);
+        Inside(Key::new("TestGlobalRoot"), 4, x).enter(visitor)
     }
 }
 

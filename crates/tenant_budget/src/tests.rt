@@ -1,15 +1,14 @@
 // Values that are too large, and values that cannot be measured.
-#![tactic(auto, using(allocative::proofs::Showing::showing))]
+#![tactic(auto, using(allocative::proofs::Parts::parts, allocative::proofs::Meaning::entered_refused))]
 
 ghost use Rattle.std.specs.Prelude.{codes, Some, false};
-ghost use Rattle.std.proofs.Common.{lit≤};
 ghost use Rattle.allocative_graph.specs.Shows.{Nothing};
 
 use crate::budget::Budget;
 use crate::ledger::Ledger;
 use crate::rejection::Rejection;
 use crate::{note, numbers};
-use allocative::{Allocative, Described, Refusal, Visitor};
+use allocative::{Allocative, Described, Part, Refusal, Visitor};
 use std::test::Fail;
 
 // Refuses to be visited.
@@ -24,8 +23,6 @@ impl Described for Refuses {
     ghost needs_drop = { false };
 
     ghost size = { Some 1 };
-
-    ghost align_positive = { lit≤ tt };
 
     fn name() -> &'static str {
         "Refuses"
@@ -65,8 +62,6 @@ impl Described for HalfOfAll {
 
     ghost size = { Some 9223372036854775808 };
 
-    ghost align_positive = { lit≤ tt };
-
     fn name() -> &'static str {
         "HalfOfAll"
     }
@@ -87,8 +82,8 @@ impl Described for HalfOfAll {
 impl Allocative for HalfOfAll {
     ghost may_show = { λ _. Nothing };
 
-    fn visit(&self, _visitor: &mut Visitor<'_>) -> Result<(), Refusal> {
-        Ok(())
+    fn visit(&self, visitor: &mut Visitor<'_>) -> Result<(), Refusal> {
+        ().enter(visitor)
     }
 }
 

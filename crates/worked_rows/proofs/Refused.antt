@@ -1,43 +1,73 @@
--- What is left of visits that refuse by themselves, or forget the visitor of a content.
-use Rattle.std.proofs.Common.{◌≡◌, ℕ, suc, Bool, true, false, Result, Ok, Err, MutBor, refl, ap, arith}
+-- What visits do that refuse by themselves, or hide a refusal.
+use Rattle.std.proofs.Common.{◌≡◌, ◌∙◌, ℕ, Bool, false, Result, Ok, Err, MutBor}
 use Rattle.std.specs.Fn.{Once, FnOnceReturnsAtMut}
 use Rattle.allocative_graph.specs.declared.refusal.Refusal.{Refusal}
 use Rattle.allocative.specs.Path.{Key}
-use Rattle.allocative.specs.Identity.{Identity}
-use Rattle.allocative.specs.Collector.{Live, Kind, State, Failed, Going, failed_with, left}
-use Rattle.allocative.specs.Shows.{Showing}
-use Rattle.allocative.specs.Visits.{Shows, refused, forgotten, Enters, is_entered, EntersShared, enters_first, Leaves}
+use Rattle.allocative.specs.Collector.{Kind, State, Failed, Going, failed_with, left}
+use Rattle.allocative.specs.Shows.{Showing, Nothing}
+use Rattle.allocative.specs.Visits.{Shows, refused, Enters, is_entered, Leaves}
 use Rattle.allocative.specs.declared.visitor.Visitor.{Visitor}
-use Rattle.allocative.specs.Closures.{CallsInside, not_called, called, refused_inside}
-use Rattle.allocative.proofs.Showing.{left_by, not_entered}
+use Rattle.allocative.specs.Closures.{CallsInside, not_called, called, refused_inside, CalledInside}
+use Rattle.allocative.specs.Visited.{Visited, Entered, Refused, Means}
+use Rattle.allocative.proofs.Meaning.{visited, entered_refused}
+use Rattle.allocative.proofs.Showing.{left_by, not_entered, shows_weaker, shows_hidden, shows_refused, shows_refused_err, shows_both_err, shows_err}
 
--- a refusal by hand, whatever stands before it
-refused_by : {p : Showing} {b : Kind} {e : Refusal} (x : Refusal) (z : State) → Shows p (Going b) (Err e) (failed_with x z)
-refused_by x (Failed r) = refused
-refused_by x (Going c) = refused
+-- a refusal by hand
+pub refused_by_hand : {p : Showing} {q e : Refusal} {a b : Visitor} → Refused q a b e → Visited p a b (Err e)
+refused_by_hand h = visited (entered_refused h)
 
--- the same before a visitor is left
+-- a refusal by hand that is hidden
+pub refused_in_silence : {p : Showing} {q e : Refusal} {a b : Visitor} {u : Unit {0}} → Refused q a b e → Visited p a b (Ok u)
+refused_in_silence {q = q} {e = e} h = record {
+  same_reference = h.same_reference;
+  same_outer = h.same_outer;
+  shown = shows_hidden {p = Nothing} (shows_refused _ e q _ h.after);
+}
+
+-- a refusal by hand after another one
+pub refused_again : {p : Showing} {q r e x : Refusal} {a b c : Visitor} → Refused q a b e → Refused r b c x → Visited p a c (Err x)
+refused_again {q = q} {r = r} {e = e} f h = record {
+  same_reference = h.same_reference ∙ f.same_reference;
+  same_outer = h.same_outer ∙ f.same_outer;
+  shown = shows_refused_err r (shows_refused _ e q _ f.after) h.after;
+}
+
+-- a refusal by hand after a part
+pub refused_after : {p s : Showing} {q e : Refusal} {a b c : Visitor} {u : Unit {0}} → Entered s a b (Ok u) → Refused q b c e → Visited p a c (Err e)
+refused_after {q = q} {e = e} f h = record {
+  same_reference = h.same_reference ∙ f.same_reference;
+  same_outer = h.same_outer ∙ f.same_outer;
+  shown = shows_both_err f.shown (shows_refused {q = Nothing} _ e q _ h.after);
+}
+
+-- a refusal of a part that comes first
+pub refused_first : {p s : Showing} {e : Refusal} {a b : Visitor} → Entered s a b (Err e) → Visited p a b (Err e)
+refused_first h = record { same_reference = h.same_reference; same_outer = h.same_outer; shown = shows_err h.shown }
+
+-- a part, the refusal of which is hidden
+pub hides : {p s : Showing} {a b : Visitor} {r : Result (Unit {0}) Refusal} {u : Unit {0}} → Entered s a b r → Means s p → Visited p a b (Ok u)
+hides {r = Ok v} h m = record { same_reference = h.same_reference; same_outer = h.same_outer; shown = shows_weaker m.means h.shown }
+hides {r = Err e} h m = record { same_reference = h.same_reference; same_outer = h.same_outer; shown = shows_hidden h.shown }
+
+-- a refusal by hand, and then a visitor is left
 refused_left : {p : Showing} {b : Kind} {e : Refusal} (q : Bool) (x : Refusal) (z : State) → Shows p (Going b) (Err e) (left q (failed_with x z))
 refused_left q x (Failed r) = refused
 refused_left q x (Going c) = refused
-
--- an entry was entered, and then comes a refusal by hand
-pub refused_after : {u : Bool} {p : Showing} {k : Key} {n : ℕ} {o : Bool} {s t w : State} {e : Refusal} (x : Refusal) (z : State) → Enters u k n s (Ok o) t → w ≡ failed_with x z → Shows p s (Err e) w
-refused_after x z (is_entered r f e) i = rw i (refused_by x z)
-
--- the content of a shared value is never left
-pub forgotten_content : {q : Showing} {k : Key} {n : ℕ} {i : Identity} {s t : State} {v : Unit} → EntersShared k n i s (Ok true) t → Shows q s (Ok v) t
-forgotten_content (enters_first {c = c} {d = d} r h e) =
-    let f : d.open_visitors ≡ suc c.open_visitors = ap (λ (x : Live). x.open_visitors) e in
-    forgotten refl (omega (arith, f))
 
 -- an entry was entered, a closure answers Err there, and the visitor is left
 closure_err : {p : Showing} {k : Key} {n : ℕ} {o q : Bool} {s w z t : State} {e : Refusal} (x : Refusal) (y : State) → Enters false k n s (Ok o) w → z ≡ failed_with x y → Leaves q z t → Shows p s (Err e) t
 closure_err {q = q} x y (is_entered r f e) i l = rw (left_by l, i) (refused_left q x y)
 
 module _ {F : Type 0} (g : Once F (MutBor Visitor × Unit {0}) (Result (Unit {0}) Refusal × (MutBor Visitor × Unit {0}))) (f : F) where
-  -- the outcome of a closure that never answers Ok
-  pub closure_refuses : (p : Showing) {k : Key} {n : ℕ} {s t : State} {r : Result (Unit {0}) Refusal} → CallsInside g f k n s t r → ((x y : Visitor) → FnOnceReturnsAtMut g f x (Ok tt) y → ⊥) → Shows p s r t
-  closure_refuses p (not_called w) never = not_entered w
-  closure_refuses p (called x y w i c l o) never = absurd (never x y c)
-  closure_refuses p (refused_inside x y z c w i m e l) never = closure_err c y.collector.now w e l
+  -- what is shown where a closure never answers Ok
+  closure_shows : (p : Showing) {k : Key} {n : ℕ} {s t : State} {r : Result (Unit {0}) Refusal} → CallsInside g f k n s t r → ((x y : Visitor) → FnOnceReturnsAtMut g f x (Ok tt) y → ⊥) → Shows p s r t
+  closure_shows p (not_called w) never = not_entered w
+  closure_shows p (called x y w i c l o) never = absurd (never x y c)
+  closure_shows p (refused_inside x y z c w i m e l) never = closure_err c y.collector.now w e l
+
+  -- a visit by a closure that never answers Ok
+  pub closure_refuses : {p : Showing} {k : Key} {n : ℕ} {a b : Visitor} {r : Result (Unit {0}) Refusal} → CalledInside g f k n a b r → ((x y : Visitor) → FnOnceReturnsAtMut g f x (Ok tt) y → ⊥) → Visited p a b r
+  closure_refuses {p = p} h never = record { same_reference = h.same_reference; same_outer = h.same_outer; shown = closure_shows p h.calls never }
+
+-- what implementations go by that refuse by themselves, or hide a refusal
+pub ruleset refusals = (refused_by_hand, refused_in_silence, refused_again, refused_after, refused_first, hides)

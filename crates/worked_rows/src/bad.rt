@@ -1,15 +1,15 @@
-// Implementations that hide refusals, refuse by themselves, forget visitors, or stop in the middle.
-#![tactic(auto, using(allocative::proofs::Showing::showing))]
+// Implementations that hide refusals, refuse by themselves, or stop in the middle.
+#![tactic(auto, using(allocative::proofs::Parts::parts, crate::proofs::Refused::refusals))]
 
-ghost use Rattle.std.specs.Prelude.{codes, ◌≡◌, ◌^◌, ◌-◌};
-ghost use Rattle.allocative.specs.Shows.{Inside, InsideUnique, Field, Both, SharedWith, Nothing};
-ghost use Rattle.allocative.specs.Visits.{Shows};
+ghost use Rattle.std.specs.Prelude.{codes, ◌^◌, ◌-◌};
+ghost use Rattle.allocative.specs.Shows as shows;
 
-use crate::held::assert_held;
+use crate::held::{assert_held, shared_pointer};
 use crate::huge::Huge;
-use allocative::{Allocative, Described, FlameGraphBuilder, Identity, Key, Refusal, Visitor};
+use allocative::{
+    Allocative, Described, FlameGraphBuilder, Inside, Key, Part, Refusal, Unique, Visitor,
+};
 use std::alloc::Global;
-use std::mem::ManuallyDrop;
 use std::process::Abort;
 
 // Meets TooLarge at an entry, hides it and answers Ok.
@@ -17,12 +17,10 @@ use std::process::Abort;
 struct Hides;
 
 impl Allocative for Hides {
-    ghost may_show = { λ _. Inside (codes "a") (2 ^ 64 - 1) Nothing };
+    ghost may_show = { λ _. shows.Inside (codes "a") (2 ^ 64 - 1) shows.Nothing };
 
     fn visit(&self, visitor: &mut Visitor<'_>) -> Result<(), Refusal> {
-        if visitor.visit_simple(Key::new("a"), usize::MAX).is_err() {
-            return Ok(());
-        }
+        let _hidden = Inside(Key::new("a"), usize::MAX, ()).enter(visitor);
         Ok(())
     }
 }
@@ -32,12 +30,10 @@ impl Allocative for Hides {
 struct HidesUnsized;
 
 impl Allocative for HidesUnsized {
-    ghost may_show = { λ _. Field ⟦<Option<Huge> as Described>⟧.name ⟦<Option<Huge> as Described>⟧.size Nothing };
+    ghost may_show = { λ _. shows.Field ⟦<Option<Huge> as Described>⟧.name ⟦<Option<Huge> as Described>⟧.size shows.Nothing };
 
     fn visit(&self, visitor: &mut Visitor<'_>) -> Result<(), Refusal> {
-        if visitor.visit_simple_sized::<Option<Huge>>().is_err() {
-            return Ok(());
-        }
+        let _hidden = visitor.visit_simple_sized::<Option<Huge>>();
         Ok(())
     }
 }
@@ -80,62 +76,17 @@ impl Allocative for RefusesTwice {
     }
 }
 
-// Forgets a nested visitor and answers Ok.
+// Refuses with Open where the content of a shared value is shown, and else with Memory.
 #[derive(Drop)]
-struct Forgets;
+struct Tells;
 
-impl Allocative for Forgets {
+impl Allocative for Tells {
     ghost may_show = { λ _ _. ⊥ };
 
     fn visit(&self, visitor: &mut Visitor<'_>) -> Result<(), Refusal> {
-        let inner = visitor.collector.enter(Key::new("a"), 1)?;
-        let _kept = ManuallyDrop::new(inner);
-        Ok(())
-    }
-}
-
-// Forgets the visitor of a shared content and answers Ok.
-#[derive(Drop)]
-struct ForgetsContent;
-
-impl Allocative for ForgetsContent {
-    ghost may_show = { λ _. SharedWith (codes "p") 8 (record { maker = 0; number = 1 }) Nothing };
-
-    fn visit(&self, visitor: &mut Visitor<'_>) -> Result<(), Refusal> {
-        if let Some(shown) = visitor
-            .collector
-            .point_to(Key::new("p"), 8, Identity::from(1))?
-        {
-            let content = visitor.collector.content(shown);
-            let _kept = ManuallyDrop::new(content);
-            return Ok(());
-        }
-        Ok(())
-    }
-}
-
-// Forgets a nested visitor, then meets TooLarge.
-#[derive(Drop)]
-struct ForgetsFirst;
-
-impl ForgetsFirst {
-    fn forget_one(&self, visitor: &mut Visitor<'_>) -> Result<(), Refusal>
-        ensures same_reference { visitor.new.collector.ghost_name ≡ visitor.old.collector.ghost_name }
-        ensures same_outer { visitor.new.outer_is_unique ≡ visitor.old.outer_is_unique }
-        ensures shown { Shows Nothing visitor.old.collector.now result visitor.new.collector.now }
-    {
-        let inner = visitor.collector.enter(Key::new("a"), 1)?;
-        let _kept = ManuallyDrop::new(inner);
-        Ok(())
-    }
-}
-
-impl Allocative for ForgetsFirst {
-    ghost may_show = { λ _. Both Nothing (Field ⟦<Option<Huge> as Described>⟧.name ⟦<Option<Huge> as Described>⟧.size Nothing) };
-
-    fn visit(&self, visitor: &mut Visitor<'_>) -> Result<(), Refusal> {
-        self.forget_one(visitor)?;
-        visitor.visit_simple_sized::<Option<Huge>>()
+        let content = Refuses(Refusal::Open);
+        Unique(Key::new("p"), 8, shared_pointer(&content)).enter(visitor)?;
+        Err(visitor.refuse(Refusal::Memory))
     }
 }
 
@@ -145,27 +96,13 @@ struct Stops {
     room: usize,
 }
 
-impl Stops {
-    fn visit_parts(&self, visitor: &mut Visitor<'_>) -> Result<(), Refusal>
-        ensures same_reference { visitor.new.collector.ghost_name ≡ visitor.old.collector.ghost_name }
-        ensures same_outer { visitor.new.outer_is_unique ≡ visitor.old.outer_is_unique }
-        ensures shown { Shows (Both (Inside (codes "x") self.now.room Nothing) (Inside (codes "b") 1 Nothing)) visitor.old.collector.now result visitor.new.collector.now }
-    {
-        visitor.visit_simple(Key::new("x"), self.room)?;
-        let inner = visitor.collector.enter(Key::new("b"), 1)?;
-        inner.exit();
-        Ok(())
-    }
-}
-
 impl Allocative for Stops {
-    ghost may_show = { λ s. InsideUnique (codes "p") 0 (Both (Inside (codes "x") s.room Nothing) (Inside (codes "b") 1 Nothing)) };
+    ghost may_show = { λ s. shows.InsideUnique (codes "p") 0 (shows.Both (shows.Inside (codes "x") s.room shows.Nothing) (shows.Inside (codes "b") 1 shows.Nothing)) };
 
     fn visit(&self, visitor: &mut Visitor<'_>) -> Result<(), Refusal> {
-        let mut outer = visitor.collector.enter_unique(Key::new("p"), 0)?;
-        self.visit_parts(&mut outer)?;
-        outer.exit();
-        Ok(())
+        let x = Inside(Key::new("x"), self.room, ());
+        let b = Inside(Key::new("b"), 1, ());
+        Unique(Key::new("p"), 0, (x, b)).enter(visitor)
     }
 }
 
@@ -176,13 +113,10 @@ struct StopsInside {
 }
 
 impl Allocative for StopsInside {
-    ghost may_show = { λ s. Inside (codes "T") 0 (⟦<Stops as Allocative>⟧.may_show s.part) };
+    ghost may_show = { λ s. shows.Inside (codes "T") 0 (⟦<Stops as Allocative>⟧.may_show s.part) };
 
     fn visit(&self, visitor: &mut Visitor<'_>) -> Result<(), Refusal> {
-        let mut inner = visitor.collector.enter(Key::new("T"), 0)?;
-        self.part.visit(&mut inner)?;
-        inner.exit();
-        Ok(())
+        Inside(Key::new("T"), 0, &self.part).enter(visitor)
     }
 }
 
@@ -243,6 +177,7 @@ fn hidden_refusals_fail_their_builder(rt: HostRuntime) -> Result<(), Refusal> {
 fn refusals_by_themselves_fail_their_builder(rt: HostRuntime) -> Result<(), Refusal> {
     let alloc = rt.alloc();
     assert_refused(&rt, alloc, &RefusesTwice, Refusal::TooLarge)?;
+    assert_refused(&rt, alloc, &Tells, Refusal::Open)?;
     assert_refused(&rt, alloc, &Refuses(Refusal::Memory), Refusal::Memory)?;
     assert_refused(&rt, alloc, &RefusesInSilence, Refusal::Open)?;
     assert_refused(&rt, alloc, &ClosureRefuses, Refusal::Open)
@@ -283,26 +218,17 @@ fn a_refusal_of_a_closure_fails_the_builder(rt: HostRuntime) -> Result<(), Refus
 }
 
 #[test]
-fn forgotten_visitors_leave_their_builder_open(rt: HostRuntime) -> Result<(), Refusal> {
-    let alloc = rt.alloc();
-    assert_refused(&rt, alloc, &Forgets, Refusal::Open)?;
-    assert_refused(&rt, alloc, &ForgetsContent, Refusal::Open)?;
-    assert_refused(&rt, alloc, &ForgetsFirst, Refusal::TooLarge)
-}
-
-#[test]
 fn bad_implementations_hold_nothing(rt: HostRuntime) {
     let too_large = Err(Refusal::TooLarge);
     assert_held(&rt, &HidesUnsized, too_large);
     assert_held(&rt, &RefusesTwice, too_large);
     assert_held(&rt, &ClosureHides, too_large);
-    assert_held(&rt, &ForgetsFirst, too_large);
     assert_held(&rt, &Stops { room: usize::MAX }, too_large);
     let part = Stops { room: usize::MAX };
     assert_held(&rt, &StopsInside { part }, too_large);
     let open = Err(Refusal::Open);
     assert_held(&rt, &RefusesInSilence, open);
     assert_held(&rt, &ClosureRefuses, open);
-    assert_held(&rt, &Forgets, open);
     assert_held(&rt, &Refuses(Refusal::Memory), Err(Refusal::Memory));
+    assert_held(&rt, &Tells, Err(Refusal::Memory));
 }

@@ -1,12 +1,14 @@
 // Boxes in types of a user's own: what they show, and what they hold.
-#![tactic(auto, using(allocative::proofs::Showing::showing))]
+#![tactic(auto, using(allocative::proofs::Parts::parts))]
 
 ghost use Rattle.std.specs.Prelude.{codes, Some, true};
-ghost use Rattle.allocative.specs.Shows.{Inside, Field, Both};
+ghost use Rattle.allocative.specs.Shows as shows;
 
 use crate::held::{assert_held, assert_whole};
 use crate::rows::assert_text;
-use allocative::{Allocative, Described, FlameGraphBuilder, Key, Refusal, Visitor};
+use allocative::{
+    Allocative, Described, Field, FlameGraphBuilder, Inside, Key, Part, Refusal, Visitor,
+};
 use std::test::Fail;
 
 // A value of 16 bytes, with a byte and a box.
@@ -43,14 +45,12 @@ impl Described for Data {
 }
 
 impl Allocative for Data {
-    ghost may_show = { λ d. Inside (codes "Data") 16 (Both (Field (codes "a") (Some 1) (⟦<u8 as Allocative>⟧.may_show d.a)) (Field (codes "b") (Some 8) (⟦<Box<u32> as Allocative>⟧.may_show d.b))) };
+    ghost may_show = { λ d. shows.Inside (codes "Data") 16 (shows.Both (shows.Field (codes "a") (Some 1) (⟦<u8 as Allocative>⟧.may_show d.a)) (shows.Field (codes "b") (Some 8) (⟦<Box<u32> as Allocative>⟧.may_show d.b))) };
 
     fn visit(&self, visitor: &mut Visitor<'_>) -> Result<(), Refusal> {
-        let mut inner = visitor.collector.enter(Key::new("Data"), 16)?;
-        inner.visit_field(Key::new("a"), &self.a)?;
-        inner.visit_field(Key::new("b"), &self.b)?;
-        inner.exit();
-        Ok(())
+        let a = Field(Key::new("a"), &self.a);
+        let b = Field(Key::new("b"), &self.b);
+        Inside(Key::new("Data"), 16, (a, b)).enter(visitor)
     }
 }
 
@@ -87,13 +87,11 @@ impl Described for Boxed {
 }
 
 impl Allocative for Boxed {
-    ghost may_show = { λ b. Inside (codes "Boxed") 8 (Field (codes "data") (Some 8) (⟦<Box<Data> as Allocative>⟧.may_show b.data)) };
+    ghost may_show = { λ b. shows.Inside (codes "Boxed") 8 (shows.Field (codes "data") (Some 8) (⟦<Box<Data> as Allocative>⟧.may_show b.data)) };
 
     fn visit(&self, visitor: &mut Visitor<'_>) -> Result<(), Refusal> {
-        let mut inner = visitor.collector.enter(Key::new("Boxed"), 8)?;
-        inner.visit_field(Key::new("data"), &self.data)?;
-        inner.exit();
-        Ok(())
+        let data = Field(Key::new("data"), &self.data);
+        Inside(Key::new("Boxed"), 8, data).enter(visitor)
     }
 }
 

@@ -1,6 +1,7 @@
 // Visitors that are forgotten, so that they are never left: their builder stands open for good.
+use crate::huge::Huge;
 use crate::roots::Leaf;
-use allocative::{FlameGraphBuilder, Key, Refusal};
+use allocative::{FlameGraphBuilder, Identity, Key, Refusal};
 use std::alloc::Global;
 use std::mem::{ManuallyDrop, forget};
 use std::process::Abort;
@@ -49,6 +50,14 @@ fn forget_below_one_that_is_left(alloc: Global) -> Result<FlameGraphBuilder, Ref
     Ok(builder)
 }
 
+fn forget_content(alloc: Global) -> Result<FlameGraphBuilder, Refusal> {
+    let mut builder = FlameGraphBuilder::new(alloc)?;
+    let mut root = builder.root_visitor()?;
+    forget(root.enter_shared(Key::new("p"), 8, Identity::from(1))?);
+    root.exit();
+    Ok(builder)
+}
+
 #[test]
 fn a_forgotten_root_visitor_leaves_the_builder_open(rt: HostRuntime) -> Result<(), Refusal> {
     let alloc = rt.alloc();
@@ -62,5 +71,22 @@ fn a_forgotten_nested_visitor_leaves_the_builder_open(rt: HostRuntime) -> Result
     let alloc = rt.alloc();
     assert_open(&rt, forget_nested(alloc)?);
     assert_open(&rt, forget_below_one_that_is_left(alloc)?);
+    assert_open(&rt, forget_content(alloc)?);
+    Ok(())
+}
+
+// Forgets a nested visitor, and gives what the outer one answers to a value without a size.
+fn forget_and_enter_huge(builder: &mut FlameGraphBuilder) -> Result<Option<Refusal>, Refusal> {
+    let mut root = builder.root_visitor()?;
+    forget(root.enter(Key::new("a"), 1)?);
+    Ok(root.visit_simple_sized::<Option<Huge>>().err())
+}
+
+#[test]
+fn a_refusal_after_a_forgotten_visitor_is_the_first_cause(rt: HostRuntime) -> Result<(), Refusal> {
+    let too_large = Some(Refusal::TooLarge);
+    let mut builder = FlameGraphBuilder::new(rt.alloc())?;
+    assert_eq!(rt; forget_and_enter_huge(&mut builder)?, too_large);
+    assert_eq!(rt; builder.finish().err(), too_large);
     Ok(())
 }

@@ -1,15 +1,14 @@
 // What the collector of held bytes counts, and its bound.
-#![tactic(auto, using(allocative::proofs::Showing::showing))]
+#![tactic(auto, using(allocative::proofs::Parts::parts))]
 
 ghost use Rattle.std.specs.Prelude.{codes, Some, true, false, length, ◌≡◌, ◌^◌, ◌-◌};
 ghost use Rattle.allocative.specs.Bodies.{slice_of, vec_body};
-ghost use Rattle.allocative.specs.Shows.{Inside, InsideUnique, Field, SharedWith, Both, Nothing};
-ghost use Rattle.allocative.specs.Visits.{Shows};
+ghost use Rattle.allocative.specs.Shows as shows;
 
 use crate::rows::assert_text;
 use allocative::{
-    Allocative, Described, FlameGraphBuilder, Identity, Key, Refusal, Visitor, size_of_unique,
-    size_of_unique_allocated_data,
+    Allocative, Described, Field, FlameGraphBuilder, Identity, Inside, Key, Part, Refusal, Shared,
+    Unique, Visitor, size_of_unique, size_of_unique_allocated_data,
 };
 use std::process::Abort;
 use std::test::Fail;
@@ -19,13 +18,23 @@ use std::test::Fail;
 struct Plain;
 
 impl Allocative for Plain {
-    ghost may_show = { λ _. Inside (codes "T") 8 (Inside (codes "x") 5 Nothing) };
+    ghost may_show = { λ _. shows.Inside (codes "T") 8 (shows.Inside (codes "x") 5 shows.Nothing) };
 
     fn visit(&self, visitor: &mut Visitor<'_>) -> Result<(), Refusal> {
-        let mut inner = visitor.collector.enter(Key::new("T"), 8)?;
-        inner.visit_simple(Key::new("x"), 5)?;
-        inner.exit();
-        Ok(())
+        let x = Inside(Key::new("x"), 5, ());
+        Inside(Key::new("T"), 8, x).enter(visitor)
+    }
+}
+
+// A pointer of 8 bytes to the shared value 1, with a part as its content.
+pub(crate) fn shared_pointer<P: Part>(content: P) -> Shared<P>
+    ensures { result ≡ record { key = codes "q"; size = 8; identity = record { maker = 0; number = 1 }; content = content } }
+{
+    Shared {
+        key: Key::new("q"),
+        size: 8,
+        identity: Identity::from(1),
+        content,
     }
 }
 
@@ -33,66 +42,12 @@ impl Allocative for Plain {
 #[derive(Drop)]
 struct Points;
 
-impl Points {
-    fn visit_shared(&self, visitor: &mut Visitor<'_>) -> Result<(), Refusal>
-        ensures same_reference { visitor.new.collector.ghost_name ≡ visitor.old.collector.ghost_name }
-        ensures same_outer { visitor.new.outer_is_unique ≡ visitor.old.outer_is_unique }
-        ensures shown { Shows (SharedWith (codes "q") 8 (record { maker = 0; number = 1 }) Nothing) visitor.old.collector.now result visitor.new.collector.now }
-    {
-        if let Some(shown) = visitor
-            .collector
-            .point_to(Key::new("q"), 8, Identity::from(1))?
-        {
-            let content = visitor.collector.content(shown);
-            content.exit();
-            return Ok(());
-        }
-        Ok(())
-    }
-
-    fn visit_unique(&self, visitor: &mut Visitor<'_>) -> Result<(), Refusal>
-        ensures same_reference { visitor.new.collector.ghost_name ≡ visitor.old.collector.ghost_name }
-        ensures same_outer { visitor.new.outer_is_unique ≡ visitor.old.outer_is_unique }
-        ensures shown { Shows (InsideUnique (codes "p") 8 (SharedWith (codes "q") 8 (record { maker = 0; number = 1 }) Nothing)) visitor.old.collector.now result visitor.new.collector.now }
-    {
-        let mut inner = visitor.collector.enter_unique(Key::new("p"), 8)?;
-        self.visit_shared(&mut inner)?;
-        inner.exit();
-        Ok(())
-    }
-}
-
 impl Allocative for Points {
-    ghost may_show = { λ _. Inside (codes "T") 8 (InsideUnique (codes "p") 8 (SharedWith (codes "q") 8 (record { maker = 0; number = 1 }) Nothing)) };
+    ghost may_show = { λ _. shows.Inside (codes "T") 8 (shows.InsideUnique (codes "p") 8 (shows.SharedWith (codes "q") 8 (record { maker = 0; number = 1 }) shows.Nothing)) };
 
     fn visit(&self, visitor: &mut Visitor<'_>) -> Result<(), Refusal> {
-        let mut inner = visitor.collector.enter(Key::new("T"), 8)?;
-        self.visit_unique(&mut inner)?;
-        inner.exit();
-        Ok(())
-    }
-}
-
-// Tells what `enter_shared` answers: it refuses with Memory after None, and with Open after a visitor.
-#[derive(Drop)]
-struct Tells;
-
-impl Allocative for Tells {
-    ghost may_show = { λ _ _. ⊥ };
-
-    fn visit(&self, visitor: &mut Visitor<'_>) -> Result<(), Refusal> {
-        let mut inner = visitor.collector.enter_unique(Key::new("p"), 8)?;
-        let is_none = matches!(
-            inner.enter_shared(Key::new("q"), 8, Identity::from(1)),
-            Ok(None)
-        );
-        inner.exit();
-        let refusal = if is_none {
-            Refusal::Memory
-        } else {
-            Refusal::Open
-        };
-        Err(visitor.refuse(refusal))
+        let pointer = Unique(Key::new("p"), 8, shared_pointer(()));
+        Inside(Key::new("T"), 8, pointer).enter(visitor)
     }
 }
 
@@ -114,26 +69,24 @@ pub(crate) fn assert_whole<T: Allocative + Described>(
 fn only_entries_right_inside_unique_ones_are_held(rt: HostRuntime) {
     assert_held(&rt, &Plain, Ok(0));
     assert_held(&rt, &Points, Ok(0));
-    assert_held(&rt, &Tells, Err(Refusal::Memory));
+}
+
+// Numbers as a slice by itself.
+#[derive(Drop)]
+struct SliceOf<'a>(&'a Vec<u32>);
+
+impl<'a> Part for SliceOf<'a> {
+    ghost may_show = { λ s. slice_of (codes "u32") (Some 4) ⟦<u32 as Allocative>⟧.may_show s.0.now.items };
+
+    fn enter(self, visitor: &mut Visitor<'_>) -> Result<(), Refusal> {
+        visitor.visit_slice_of(self.0)
+    }
 }
 
 // `Box 16 {unique ptr 16 {..}}` of a slice of three numbers.
 #[derive(Drop)]
 struct BoxedSlice {
     numbers: Vec<u32>,
-}
-
-impl BoxedSlice {
-    fn visit_pointer(&self, visitor: &mut Visitor<'_>) -> Result<(), Refusal>
-        ensures same_reference { visitor.new.collector.ghost_name ≡ visitor.old.collector.ghost_name }
-        ensures same_outer { visitor.new.outer_is_unique ≡ visitor.old.outer_is_unique }
-        ensures shown { Shows (InsideUnique (codes "ptr") 16 (slice_of (codes "u32") (Some 4) ⟦<u32 as Allocative>⟧.may_show self.now.numbers.items)) visitor.old.collector.now result visitor.new.collector.now }
-    {
-        let mut inner = visitor.collector.enter_unique(Key::new("ptr"), 16)?;
-        inner.visit_slice_of(&self.numbers)?;
-        inner.exit();
-        Ok(())
-    }
 }
 
 impl Described for BoxedSlice {
@@ -163,13 +116,11 @@ impl Described for BoxedSlice {
 }
 
 impl Allocative for BoxedSlice {
-    ghost may_show = { λ b. Inside (codes "Box") 16 (InsideUnique (codes "ptr") 16 (slice_of (codes "u32") (Some 4) ⟦<u32 as Allocative>⟧.may_show b.numbers.items)) };
+    ghost may_show = { λ b. shows.Inside (codes "Box") 16 (shows.InsideUnique (codes "ptr") 16 (slice_of (codes "u32") (Some 4) ⟦<u32 as Allocative>⟧.may_show b.numbers.items)) };
 
     fn visit(&self, visitor: &mut Visitor<'_>) -> Result<(), Refusal> {
-        let mut inner = visitor.collector.enter(Key::new("Box"), 16)?;
-        self.visit_pointer(&mut inner)?;
-        inner.exit();
-        Ok(())
+        let pointer = Unique(Key::new("ptr"), 16, SliceOf(&self.numbers));
+        Inside(Key::new("Box"), 16, pointer).enter(visitor)
     }
 }
 
@@ -206,13 +157,11 @@ impl Described for Boxed {
 }
 
 impl Allocative for Boxed {
-    ghost may_show = { λ b. Inside (codes "Boxed") 16 (Field (codes "data") (Some 16) (⟦<BoxedSlice as Allocative>⟧.may_show b.data)) };
+    ghost may_show = { λ b. shows.Inside (codes "Boxed") 16 (shows.Field (codes "data") (Some 16) (⟦<BoxedSlice as Allocative>⟧.may_show b.data)) };
 
     fn visit(&self, visitor: &mut Visitor<'_>) -> Result<(), Refusal> {
-        let mut inner = visitor.collector.enter(Key::new("Boxed"), 16)?;
-        inner.visit_field(Key::new("data"), &self.data)?;
-        inner.exit();
-        Ok(())
+        let data = Field(Key::new("data"), &self.data);
+        Inside(Key::new("Boxed"), 16, data).enter(visitor)
     }
 }
 
@@ -260,13 +209,11 @@ impl Described for BoxedNumber {
 }
 
 impl Allocative for BoxedNumber {
-    ghost may_show = { λ b. Inside (codes "BoxedNumber") 8 (Field (codes "data") (Some 8) (⟦<Box<u32> as Allocative>⟧.may_show b.data)) };
+    ghost may_show = { λ b. shows.Inside (codes "BoxedNumber") 8 (shows.Field (codes "data") (Some 8) (⟦<Box<u32> as Allocative>⟧.may_show b.data)) };
 
     fn visit(&self, visitor: &mut Visitor<'_>) -> Result<(), Refusal> {
-        let mut inner = visitor.collector.enter(Key::new("BoxedNumber"), 8)?;
-        inner.visit_field(Key::new("data"), &self.data)?;
-        inner.exit();
-        Ok(())
+        let data = Field(Key::new("data"), &self.data);
+        Inside(Key::new("BoxedNumber"), 8, data).enter(visitor)
     }
 }
 
@@ -280,6 +227,18 @@ fn a_box_holds_its_number(rt: HostRuntime) -> Result<(), Fail> {
     Ok(())
 }
 
+// The body of a vector of bytes with no room left.
+#[derive(Drop)]
+struct FullBody<'a>(&'a Vec<u8>);
+
+impl<'a> Part for FullBody<'a> {
+    ghost may_show = { λ b. vec_body (codes "u8") (Some 1) false ⟦<u8 as Allocative>⟧.may_show b.0.now.items (length b.0.now.items) };
+
+    fn enter(self, visitor: &mut Visitor<'_>) -> Result<(), Refusal> {
+        visitor.visit_vec_like_body(self.0, self.0.len())
+    }
+}
+
 // A buffer of bytes with no room left.
 #[derive(Drop)]
 struct Buffer {
@@ -287,13 +246,10 @@ struct Buffer {
 }
 
 impl Allocative for Buffer {
-    ghost may_show = { λ b. InsideUnique (codes "ptr") 8 (vec_body (codes "u8") (Some 1) false ⟦<u8 as Allocative>⟧.may_show b.bytes.items (length b.bytes.items)) };
+    ghost may_show = { λ b. shows.InsideUnique (codes "ptr") 8 (vec_body (codes "u8") (Some 1) false ⟦<u8 as Allocative>⟧.may_show b.bytes.items (length b.bytes.items)) };
 
     fn visit(&self, visitor: &mut Visitor<'_>) -> Result<(), Refusal> {
-        let mut inner = visitor.collector.enter_unique(Key::new("ptr"), 8)?;
-        inner.visit_vec_like_body(&self.bytes, self.bytes.len())?;
-        inner.exit();
-        Ok(())
+        Unique(Key::new("ptr"), 8, FullBody(&self.bytes)).enter(visitor)
     }
 }
 
@@ -339,13 +295,11 @@ impl Described for HoldsMost {
 }
 
 impl Allocative for HoldsMost {
-    ghost may_show = { λ _. InsideUnique (codes "p") 0 (Inside (codes "a") (2 ^ 64 - 1) Nothing) };
+    ghost may_show = { λ _. shows.InsideUnique (codes "p") 0 (shows.Inside (codes "a") (2 ^ 64 - 1) shows.Nothing) };
 
     fn visit(&self, visitor: &mut Visitor<'_>) -> Result<(), Refusal> {
-        let mut inner = visitor.collector.enter_unique(Key::new("p"), 0)?;
-        inner.visit_simple(Key::new("a"), usize::MAX)?;
-        inner.exit();
-        Ok(())
+        let a = Inside(Key::new("a"), usize::MAX, ());
+        Unique(Key::new("p"), 0, a).enter(visitor)
     }
 }
 
@@ -354,14 +308,12 @@ impl Allocative for HoldsMost {
 struct HoldsMore;
 
 impl Allocative for HoldsMore {
-    ghost may_show = { λ _. InsideUnique (codes "p") 0 (Both (Inside (codes "a") (2 ^ 64 - 1) Nothing) (Inside (codes "b") 1 Nothing)) };
+    ghost may_show = { λ _. shows.InsideUnique (codes "p") 0 (shows.Both (shows.Inside (codes "a") (2 ^ 64 - 1) shows.Nothing) (shows.Inside (codes "b") 1 shows.Nothing)) };
 
     fn visit(&self, visitor: &mut Visitor<'_>) -> Result<(), Refusal> {
-        let mut inner = visitor.collector.enter_unique(Key::new("p"), 0)?;
-        inner.visit_simple(Key::new("a"), usize::MAX)?;
-        inner.visit_simple(Key::new("b"), 1)?;
-        inner.exit();
-        Ok(())
+        let a = Inside(Key::new("a"), usize::MAX, ());
+        let b = Inside(Key::new("b"), 1, ());
+        Unique(Key::new("p"), 0, (a, b)).enter(visitor)
     }
 }
 
@@ -370,11 +322,12 @@ impl Allocative for HoldsMore {
 struct HoldsNone;
 
 impl Allocative for HoldsNone {
-    ghost may_show = { λ _. Both (Inside (codes "a") (2 ^ 64 - 1) Nothing) (Inside (codes "b") (2 ^ 64 - 1) Nothing) };
+    ghost may_show = { λ _. shows.Both (shows.Inside (codes "a") (2 ^ 64 - 1) shows.Nothing) (shows.Inside (codes "b") (2 ^ 64 - 1) shows.Nothing) };
 
     fn visit(&self, visitor: &mut Visitor<'_>) -> Result<(), Refusal> {
-        visitor.visit_simple(Key::new("a"), usize::MAX)?;
-        visitor.visit_simple(Key::new("b"), usize::MAX)
+        let a = Inside(Key::new("a"), usize::MAX, ());
+        let b = Inside(Key::new("b"), usize::MAX, ());
+        (a, b).enter(visitor)
     }
 }
 

@@ -1,11 +1,14 @@
 // Types of a user's own, by the recipe: an enum, a generic type, and one with a shared part.
-#![tactic(auto, using(allocative::proofs::Showing::showing))]
+#![tactic(auto, using(allocative::proofs::Parts::parts))]
 
 ghost use Rattle.std.specs.Prelude.{codes, Some};
-ghost use Rattle.allocative.specs.Shows.{Nothing, Inside, Field};
+ghost use Rattle.allocative.specs.Shows as shows;
 
 use crate::rows::assert_text;
-use allocative::{Allocative, Described, FlameGraphBuilder, IdRc, Identity, Key, Refusal, Visitor};
+use allocative::{
+    Allocative, Described, Field, FlameGraphBuilder, IdRc, Identity, Inside, Key, Part, Refusal,
+    Visitor,
+};
 use std::alloc::Global;
 use std::test::Fail;
 
@@ -20,21 +23,19 @@ enum Event {
 impl Allocative for Event {
     ghost use Rattle.worked_rows.specs.declared.own_types.Event.TheVariants.{Stopped, Sent, Named};
 
-    ghost may_show = { λ e. Inside (codes "Event") 32 (elim e [
-      | Stopped ↦ Nothing
-      | Sent n ↦ Field (codes "Sent") (Some 8) (⟦<u64 as Allocative>⟧.may_show n)
-      | Named s ↦ Field (codes "Named") (Some 24) (⟦<String as Allocative>⟧.may_show s)
+    ghost may_show = { λ e. shows.Inside (codes "Event") 32 (elim e [
+      | Stopped ↦ shows.Nothing
+      | Sent n ↦ shows.Field (codes "Sent") (Some 8) (⟦<u64 as Allocative>⟧.may_show n)
+      | Named s ↦ shows.Field (codes "Named") (Some 24) (⟦<String as Allocative>⟧.may_show s)
     ]) };
 
     fn visit(&self, visitor: &mut Visitor<'_>) -> Result<(), Refusal> {
-        let mut inner = visitor.collector.enter(Key::new("Event"), 32)?;
+        let key = Key::new("Event");
         match self {
-            Event::Stopped => {}
-            Event::Sent(bytes) => inner.visit_field(Key::new("Sent"), bytes)?,
-            Event::Named(name) => inner.visit_field(Key::new("Named"), name)?,
+            Event::Stopped => Inside(key, 32, ()).enter(visitor),
+            Event::Sent(bytes) => Inside(key, 32, Field(Key::new("Sent"), bytes)).enter(visitor),
+            Event::Named(name) => Inside(key, 32, Field(Key::new("Named"), name)).enter(visitor),
         }
-        inner.exit();
-        Ok(())
     }
 }
 
@@ -45,13 +46,11 @@ struct Wrapped<T> {
 }
 
 impl<T: Allocative + Described> Allocative for Wrapped<T> {
-    ghost may_show = { λ w. Inside (codes "Wrapped") 16 (Field (codes "value") T.size (T.may_show w.value)) };
+    ghost may_show = { λ w. shows.Inside (codes "Wrapped") 16 (shows.Field (codes "value") T.size (T.may_show w.value)) };
 
     fn visit(&self, visitor: &mut Visitor<'_>) -> Result<(), Refusal> {
-        let mut inner = visitor.collector.enter(Key::new("Wrapped"), 16)?;
-        inner.visit_field(Key::new("value"), &self.value)?;
-        inner.exit();
-        Ok(())
+        let value = Field(Key::new("value"), &self.value);
+        Inside(Key::new("Wrapped"), 16, value).enter(visitor)
     }
 }
 
@@ -62,13 +61,11 @@ struct Handle {
 }
 
 impl Allocative for Handle {
-    ghost may_show = { λ h. Inside (codes "Handle") 8 (Field (codes "table") (Some 8) (⟦<IdRc<u64> as Allocative>⟧.may_show h.table)) };
+    ghost may_show = { λ h. shows.Inside (codes "Handle") 8 (shows.Field (codes "table") (Some 8) (⟦<IdRc<u64> as Allocative>⟧.may_show h.table)) };
 
     fn visit(&self, visitor: &mut Visitor<'_>) -> Result<(), Refusal> {
-        let mut inner = visitor.collector.enter(Key::new("Handle"), 8)?;
-        inner.visit_field(Key::new("table"), &self.table)?;
-        inner.exit();
-        Ok(())
+        let table = Field(Key::new("table"), &self.table);
+        Inside(Key::new("Handle"), 8, table).enter(visitor)
     }
 }
 

@@ -1,11 +1,11 @@
 // Roots that are visited: each kind of implementation, good and bad.
-#![tactic(auto, using(allocative::proofs::Showing::showing))]
+#![tactic(auto, using(allocative::proofs::Parts::parts))]
 
 ghost use Rattle.std.specs.Prelude.{codes};
-ghost use Rattle.allocative.specs.Shows.{Inside, Nothing};
+ghost use Rattle.allocative.specs.Shows as shows;
 
 use crate::rows::assert_text;
-use allocative::{Allocative, FlameGraphBuilder, Key, Refusal, Visitor};
+use allocative::{Allocative, FlameGraphBuilder, Inside, Key, Part, Refusal, Visitor};
 use std::alloc::Global;
 
 // Shows one inline entry.
@@ -16,10 +16,10 @@ pub(crate) struct Leaf {
 }
 
 impl Allocative for Leaf {
-    ghost may_show = { λ l. Inside l.key l.size Nothing };
+    ghost may_show = { λ l. shows.Inside l.key l.size shows.Nothing };
 
     fn visit(&self, visitor: &mut Visitor<'_>) -> Result<(), Refusal> {
-        visitor.visit_simple(self.key.copy(), self.size)
+        Inside(self.key.copy(), self.size, ()).enter(visitor)
     }
 }
 
@@ -28,10 +28,10 @@ impl Allocative for Leaf {
 struct Silent;
 
 impl Allocative for Silent {
-    ghost may_show = { λ _. Nothing };
+    ghost may_show = { λ _. shows.Nothing };
 
-    fn visit(&self, _visitor: &mut Visitor<'_>) -> Result<(), Refusal> {
-        Ok(())
+    fn visit(&self, visitor: &mut Visitor<'_>) -> Result<(), Refusal> {
+        ().enter(visitor)
     }
 }
 

@@ -1,10 +1,12 @@
 // The first example of use: a type of a user's own, visited and collected.
-#![tactic(auto, using(allocative::proofs::Showing::showing))]
+#![tactic(auto, using(allocative::proofs::Parts::parts))]
 
 ghost use Rattle.std.specs.Prelude.{codes, Some};
-ghost use Rattle.allocative.specs.Shows.{Inside, Field, Both};
+ghost use Rattle.allocative.specs.Shows as shows;
 
-use allocative::{Allocative, FlameGraphBuilder, FlameGraphOutput, Key, Refusal, Visitor};
+use allocative::{
+    Allocative, Field, FlameGraphBuilder, FlameGraphOutput, Inside, Key, Part, Refusal, Visitor,
+};
 use std::alloc::Global;
 use std::test::Fail;
 
@@ -15,14 +17,12 @@ struct Session {
 }
 
 impl Allocative for Session {
-    ghost may_show = { λ s. Inside (codes "Session") 48 (Both (Field (codes "name") (Some 24) (⟦<String as Allocative>⟧.may_show s.name)) (Field (codes "scores") (Some 24) (⟦<Vec<u32> as Allocative>⟧.may_show s.scores))) };
+    ghost may_show = { λ s. shows.Inside (codes "Session") 48 (shows.Both (shows.Field (codes "name") (Some 24) (⟦<String as Allocative>⟧.may_show s.name)) (shows.Field (codes "scores") (Some 24) (⟦<Vec<u32> as Allocative>⟧.may_show s.scores))) };
 
     fn visit(&self, visitor: &mut Visitor<'_>) -> Result<(), Refusal> {
-        let mut inner = visitor.collector.enter(Key::new("Session"), 48)?;
-        inner.visit_field(Key::new("name"), &self.name)?;
-        inner.visit_field(Key::new("scores"), &self.scores)?;
-        inner.exit();
-        Ok(())
+        let name = Field(Key::new("name"), &self.name);
+        let scores = Field(Key::new("scores"), &self.scores);
+        Inside(Key::new("Session"), 48, (name, scores)).enter(visitor)
     }
 }
 

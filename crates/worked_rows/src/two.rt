@@ -1,11 +1,11 @@
 // Two collections, whose graphs are added.
-#![tactic(auto, using(allocative::proofs::Showing::showing))]
+#![tactic(auto, using(allocative::proofs::Parts::parts, crate::proofs::Refused::refused_by_hand))]
 
 ghost use Rattle.std.specs.Prelude.{codes, None, Some, false, ◌≡◌};
 ghost use Rattle.worked_rows.specs.Items.{item_shows};
 
 use allocative::{
-    Allocative, Described, FlameGraphBuilder, IdArc, Identity, Key, Refusal, Visitor,
+    Allocative, Described, FlameGraphBuilder, IdArc, Identity, Inside, Key, Part, Refusal, Visitor,
     profile_in_two,
 };
 use std::alloc::Global;
@@ -139,12 +139,10 @@ impl Allocative for Item {
             return Err(visitor.refuse(Refusal::Memory));
         }
         let Some(inner_size) = self.inner else {
-            return visitor.visit_simple(Key::new("a"), self.size);
+            return Inside(Key::new("a"), self.size, ()).enter(visitor);
         };
-        let mut inner = visitor.collector.enter(Key::new("a"), self.size)?;
-        inner.visit_simple(Key::new("x"), inner_size)?;
-        inner.exit();
-        Ok(())
+        let inner = Inside(Key::new("x"), inner_size, ());
+        Inside(Key::new("a"), self.size, inner).enter(visitor)
     }
 }
 

@@ -1,15 +1,14 @@
 // Values of std and of test types, visited and held.
-#![tactic(auto, using(allocative::proofs::Showing::showing))]
+#![tactic(auto, using(allocative::proofs::Parts::parts))]
 
 ghost use Rattle.std.specs.Prelude.{codes, Some, false, ◌≡◌};
-ghost use Rattle.allocative.specs.Shows.{Inside, InsideUnique, Field, Nothing};
-ghost use Rattle.allocative.specs.Visits.{Shows};
+ghost use Rattle.allocative.specs.Shows as shows;
 
 use crate::held::{assert_held, assert_whole};
 use crate::rows::{assert_collected, assert_output, assert_text};
 use allocative::{
-    Allocative, Described, FlameGraphBuilder, IdArc, Identity, Key, Refusal, Registry, Visitor,
-    profile_roots,
+    Allocative, Described, Field, FlameGraphBuilder, IdArc, Identity, Inside, Key, Part, Refusal,
+    Registry, Unique, Visitor, profile_roots,
 };
 use std::collections::BTreeMap;
 use std::process::Abort;
@@ -46,13 +45,11 @@ impl Described for CacheLine {
 }
 
 impl Allocative for CacheLine {
-    ghost may_show = { λ _. Inside (codes "CacheLine") 64 (Field (codes "0") (Some 1) (Field (codes "u8") (Some 1) Nothing)) };
+    ghost may_show = { λ _. shows.Inside (codes "CacheLine") 64 (shows.Field (codes "0") (Some 1) (shows.Field (codes "u8") (Some 1) shows.Nothing)) };
 
     fn visit(&self, visitor: &mut Visitor<'_>) -> Result<(), Refusal> {
-        let mut inner = visitor.collector.enter(Key::new("CacheLine"), 64)?;
-        inner.visit_field(Key::new("0"), &self.0)?;
-        inner.exit();
-        Ok(())
+        let byte = Field(Key::new("0"), &self.0);
+        Inside(Key::new("CacheLine"), 64, byte).enter(visitor)
     }
 }
 
@@ -86,38 +83,13 @@ fn a_map_of_one_pair_warns(rt: HostRuntime) -> Result<(), Fail> {
 #[derive(Drop)]
 struct Nested;
 
-impl Nested {
-    fn visit_inner(&self, visitor: &mut Visitor<'_>) -> Result<(), Refusal>
-        ensures same_reference { visitor.new.collector.ghost_name ≡ visitor.old.collector.ghost_name }
-        ensures same_outer { visitor.new.outer_is_unique ≡ visitor.old.outer_is_unique }
-        ensures shown { Shows (InsideUnique (codes "q") 8 (Inside (codes "d") 5 Nothing)) visitor.old.collector.now result visitor.new.collector.now }
-    {
-        let mut inner = visitor.collector.enter_unique(Key::new("q"), 8)?;
-        inner.visit_simple(Key::new("d"), 5)?;
-        inner.exit();
-        Ok(())
-    }
-
-    fn visit_outer(&self, visitor: &mut Visitor<'_>) -> Result<(), Refusal>
-        ensures same_reference { visitor.new.collector.ghost_name ≡ visitor.old.collector.ghost_name }
-        ensures same_outer { visitor.new.outer_is_unique ≡ visitor.old.outer_is_unique }
-        ensures shown { Shows (InsideUnique (codes "p") 8 (InsideUnique (codes "q") 8 (Inside (codes "d") 5 Nothing))) visitor.old.collector.now result visitor.new.collector.now }
-    {
-        let mut inner = visitor.collector.enter_unique(Key::new("p"), 8)?;
-        self.visit_inner(&mut inner)?;
-        inner.exit();
-        Ok(())
-    }
-}
-
 impl Allocative for Nested {
-    ghost may_show = { λ _. Inside (codes "T") 8 (InsideUnique (codes "p") 8 (InsideUnique (codes "q") 8 (Inside (codes "d") 5 Nothing))) };
+    ghost may_show = { λ _. shows.Inside (codes "T") 8 (shows.InsideUnique (codes "p") 8 (shows.InsideUnique (codes "q") 8 (shows.Inside (codes "d") 5 shows.Nothing))) };
 
     fn visit(&self, visitor: &mut Visitor<'_>) -> Result<(), Refusal> {
-        let mut inner = visitor.collector.enter(Key::new("T"), 8)?;
-        self.visit_outer(&mut inner)?;
-        inner.exit();
-        Ok(())
+        let inner = Unique(Key::new("q"), 8, Inside(Key::new("d"), 5, ()));
+        let outer = Unique(Key::new("p"), 8, inner);
+        Inside(Key::new("T"), 8, outer).enter(visitor)
     }
 }
 
@@ -153,13 +125,11 @@ struct TestGlobalRoot {
 }
 
 impl Allocative for TestGlobalRoot {
-    ghost may_show = { λ _. Inside (codes "TestGlobalRoot") 4 (Field (codes "x") (Some 4) (Field (codes "u32") (Some 4) Nothing)) };
+    ghost may_show = { λ _. shows.Inside (codes "TestGlobalRoot") 4 (shows.Field (codes "x") (Some 4) (shows.Field (codes "u32") (Some 4) shows.Nothing)) };
 
     fn visit(&self, visitor: &mut Visitor<'_>) -> Result<(), Refusal> {
-        let mut inner = visitor.collector.enter(Key::new("TestGlobalRoot"), 4)?;
-        inner.visit_field(Key::new("x"), &self.x)?;
-        inner.exit();
-        Ok(())
+        let x = Field(Key::new("x"), &self.x);
+        Inside(Key::new("TestGlobalRoot"), 4, x).enter(visitor)
     }
 }
 

@@ -3,5 +3,5 @@ use Rattle.std.proofs.Common.{rules}
 use Rattle.worked_rows.proofs.Refused.{closure_refuses}
 use Rattle.worked_rows.proofs.bad.ClosureRefusesAllocative.visit.Goals as goal
 
-pub returns-clause-shown : goal.returns-clause-shown
-returns-clause-shown c = closure_refuses _ _ _ (rw c.new.ensures at c.visit_field_with.ensures.calls) (λ x y h. search rules)
+pub returns : goal.returns
+returns c = closure_refuses _ _ c.visit_field_with.ensures (λ x y h. search rules)

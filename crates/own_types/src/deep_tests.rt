@@ -1,0 +1,190 @@
+// The profiles of values with parts on the heap, with shared parts, and of types that hold themselves.
+use crate::chains::Chain;
+use crate::chapters::{Chapter, Note};
+use crate::folders::{Folder, Index};
+use crate::links::Link;
+use crate::nodes::Node;
+use crate::pointers::{Owners, PageLink, Spread};
+use crate::profiles::{Profile, expect};
+use crate::trees::Tree;
+use crate::wrappers::{Block, Colour, Day, Document, Weather};
+use allocative::{IdRc, Identity, size_of_unique};
+use std::alloc::Global;
+use std::collections::{BTreeMap, HashMap};
+use std::path::PathBuf;
+use std::rc::Rc;
+use std::test::Fail;
+
+#[test]
+fn a_wrapped_array(rt: HostRuntime) -> Result<(), Fail> {
+    let want = Profile::new("Colour;u16;data;u16 6\n", 6);
+    expect(&rt, rt.alloc(), &Colour([1, 2, 3]), &want)
+}
+
+#[test]
+fn four_entries_inside_one_another(rt: HostRuntime) -> Result<(), Fail> {
+    let text = "Block;ptr 8\nBlock;ptr;head 8\nBlock;ptr;head;counts;u64 8\n";
+    expect(
+        &rt,
+        rt.alloc(),
+        &Block { count: 1 },
+        &Profile::holding(text, 24, 16),
+    )
+}
+
+#[test]
+fn a_foreign_part_is_passed_over(rt: HostRuntime) -> Result<(), Fail> {
+    let alloc = rt.alloc();
+    let document = Document {
+        title: String::new(alloc),
+        path: PathBuf::from_str(alloc, "a/b")?,
+        pages: 3,
+    };
+    let text =
+        "Document 36\nDocument;pages;u32 4\nDocument;title;String 16\nDocument;title;String;ptr 8\n";
+    expect(&rt, alloc, &document, &Profile::new(text, 64))
+}
+
+#[test]
+fn a_part_is_shown_by_its_size(rt: HostRuntime) -> Result<(), Fail> {
+    let weather = Weather { warmth: 1, rain: 2 };
+    let day = Day { number: 3, weather };
+    let want = Profile::new("Day 2\nDay;number;u16 2\nDay;weather 8\n", 12);
+    expect(&rt, rt.alloc(), &day, &want)
+}
+
+#[test]
+fn two_owners_of_one_table(rt: HostRuntime) -> Result<(), Fail> {
+    let alloc = rt.alloc();
+    let first = IdRc::new(alloc, Vec::new(alloc), Identity::from(1))?;
+    let second = first.clone()?;
+    let text = "Owners;first;Rc;ptr 8\nOwners;second;Rc;ptr 8\nRcInner 16\nRcInner;Vec 24\n";
+    expect(
+        &rt,
+        alloc,
+        &Owners { first, second },
+        &Profile::new(text, 56),
+    )
+}
+
+#[test]
+fn two_pointers_to_one_page(rt: HostRuntime) -> Result<(), Fail> {
+    let alloc = rt.alloc();
+    let page = Rc::new(alloc, 1u16)?;
+    let left = PageLink {
+        number: 7,
+        page: page.clone()?,
+    };
+    let right = PageLink { number: 7, page };
+    let text = "Page;u16 2\nSpread;PageLink 16\nSpread;PageLink;page 16\n";
+    expect(&rt, alloc, &Spread { left, right }, &Profile::new(text, 34))
+}
+
+fn node(alloc: Global) -> Result<Node, Fail> {
+    let child = Node {
+        label: 2,
+        children: Vec::new(alloc),
+    };
+    Ok(Node {
+        label: 1,
+        children: vec![in alloc; child]?,
+    })
+}
+
+#[test]
+fn a_tree_of_vectors(rt: HostRuntime) -> Result<(), Fail> {
+    let alloc = rt.alloc();
+    let text =
+        "Node 4\nNode;children;Vec 16\nNode;children;Vec;ptr 8\nNode;children;Vec;ptr;Node 4\nNode;children;Vec;ptr;Node;children;Vec 24\nNode;children;Vec;ptr;Node;label;u32 4\nNode;label;u32 4\n";
+    expect(&rt, alloc, &node(alloc)?, &Profile::holding(text, 64, 32))
+}
+
+#[test]
+fn a_tree_and_what_it_holds(rt: HostRuntime) -> Result<(), Fail> {
+    let size = size_of_unique(&node(rt.alloc())?)?;
+    assert_eq!(rt; size, 64);
+    Ok(())
+}
+
+#[test]
+fn a_tree_of_boxes(rt: HostRuntime) -> Result<(), Fail> {
+    let alloc = rt.alloc();
+    let left = Box::new(alloc, Tree::Leaf(1))?;
+    let right = Box::new(alloc, Tree::Leaf(2))?;
+    let text =
+        "Tree 8\nTree;left;Box;ptr 8\nTree;left;Box;ptr;Tree 16\nTree;left;Box;ptr;Tree;Leaf;u64 8\nTree;right;Box;ptr 8\nTree;right;Box;ptr;Tree 16\nTree;right;Box;ptr;Tree;Leaf;u64 8\n";
+    expect(
+        &rt,
+        alloc,
+        &Tree::Fork(left, right),
+        &Profile::holding(text, 72, 48),
+    )
+}
+
+#[test]
+fn a_linked_list(rt: HostRuntime) -> Result<(), Fail> {
+    let alloc = rt.alloc();
+    let last = Link {
+        value: 2,
+        next: None,
+    };
+    let first = Link {
+        value: 1,
+        next: Some(Box::new(alloc, last)?),
+    };
+    let text =
+        "Link 4\nLink;next;Option 8\nLink;next;Option;Some;Box;ptr 8\nLink;next;Option;Some;Box;ptr;Link 4\nLink;next;Option;Some;Box;ptr;Link;next;Option 16\nLink;next;Option;Some;Box;ptr;Link;value;u32 4\nLink;value;u32 4\n";
+    expect(&rt, alloc, &first, &Profile::holding(text, 48, 24))
+}
+
+#[test]
+fn a_chain_without_entries_of_boxes(rt: HostRuntime) -> Result<(), Fail> {
+    let alloc = rt.alloc();
+    let end = Box::new(alloc, Chain::End)?;
+    let chain = Chain::Text(String::new(alloc), end);
+    let text = "Chain;ptr 8\nChain;ptr;Chain 32\nChain;text;String 16\nChain;text;String;ptr 8\n";
+    expect(&rt, alloc, &chain, &Profile::holding(text, 64, 32))
+}
+
+#[test]
+fn two_types_that_hold_each_other(rt: HostRuntime) -> Result<(), Fail> {
+    let alloc = rt.alloc();
+    let note = Note {
+        chapters: Vec::new(alloc),
+        is_long: true,
+    };
+    let chapter = Chapter {
+        number: 1,
+        notes: vec![in alloc; note]?,
+    };
+    let text =
+        "Chapter 4\nChapter;notes;Vec 16\nChapter;notes;Vec;ptr 8\nChapter;notes;Vec;ptr;Note 7\nChapter;notes;Vec;ptr;Note;chapters;Vec 24\nChapter;notes;Vec;ptr;Note;is_long;bool 1\nChapter;number;u32 4\n";
+    expect(&rt, alloc, &chapter, &Profile::holding(text, 64, 32))
+}
+
+#[test]
+fn a_hashed_map_of_its_own_type(rt: HostRuntime) -> Result<(), Fail> {
+    let alloc = rt.alloc();
+    let below = Folder {
+        inner: HashMap::new(alloc),
+    };
+    let mut inner = HashMap::new(alloc);
+    inner.insert(1, below)?;
+    let want = Profile {
+        text: "Folder;inner;HashMap 40\nFolder;inner;HashMap;data;key;u32 4\nFolder;inner;HashMap;data;value;Folder;inner;HashMap 40\nFolder;inner;HashMap;data;value;Folder;inner;HashMap;data 8\n",
+        total: 92,
+        warnings: "Incorrect size declaration for node `Folder;inner;HashMap;data`, size of self: 8, size of inline children: 52\n",
+        held: 0,
+    };
+    expect(&rt, alloc, &Folder { inner }, &want)
+}
+
+#[test]
+fn a_sorted_map_of_its_own_type(rt: HostRuntime) -> Result<(), Fail> {
+    let alloc = rt.alloc();
+    let index = Index {
+        words: BTreeMap::new(alloc),
+    };
+    let text = "Index;words;BTreeMap 16\nIndex;words;BTreeMap;data 8\n";
+    expect(&rt, alloc, &index, &Profile::new(text, 24))
+}

@@ -1,0 +1,88 @@
+//! Enums of up to ten variants.
+#![tactic(auto, using(allocative::proofs::Parts::parts))]
+
+ghost use Rattle.std.specs.Prelude.{codes, Some};
+ghost use Rattle.allocative.specs.Shows.{Nothing, Inside, Field, Both};
+
+use allocative::part::{Field, Inside, Part};
+use allocative::{Allocative, Key, Refusal, Visitor};
+
+/// What a client asks of a store.
+#[derive(Drop)]
+pub enum Request {
+    Ping,
+    Stop,
+    Reset,
+    Count(u64),
+    Find(String),
+    Drop(Vec<u32>),
+    Move(u32, u32),
+    Put(String, u64),
+    Swap(u32, u32, bool),
+    Draw(u16, u16, u16, u16, String),
+}
+
+impl Allocative for Request {
+    ghost use Rattle.own_types.specs.declared.enums.Request.TheVariants.{Ping, Stop, Reset, Count, Find, Drop, Move, Put, Swap, Draw};
+
+    ghost may_show = { λ r. Inside (codes "Request") 40 (elim r [
+      | Ping ↦ Nothing
+      | Stop ↦ Nothing
+      | Reset ↦ Nothing
+      | Count n ↦ Field (codes "Count") (Some 8) (⟦<u64 as Allocative>⟧.may_show n)
+      | Find s ↦ Field (codes "Find") (Some 24) (⟦<String as Allocative>⟧.may_show s)
+      | Drop v ↦ Field (codes "Drop") (Some 24) (⟦<Vec<u32> as Allocative>⟧.may_show v)
+      | Move n m ↦ Both
+          (Field (codes "from") (Some 4) (⟦<u32 as Allocative>⟧.may_show n))
+          (Field (codes "to") (Some 4) (⟦<u32 as Allocative>⟧.may_show m))
+      | Put s n ↦ Both
+          (Field (codes "name") (Some 24) (⟦<String as Allocative>⟧.may_show s))
+          (Field (codes "value") (Some 8) (⟦<u64 as Allocative>⟧.may_show n))
+      | Swap n m b ↦ Both
+          (Field (codes "from") (Some 4) (⟦<u32 as Allocative>⟧.may_show n)) (Both
+          (Field (codes "to") (Some 4) (⟦<u32 as Allocative>⟧.may_show m))
+          (Field (codes "is_deep") (Some 1) (⟦<bool as Allocative>⟧.may_show b)))
+      | Draw a b w h s ↦ Both
+          (Field (codes "left") (Some 2) (⟦<u16 as Allocative>⟧.may_show a)) (Both
+          (Field (codes "top") (Some 2) (⟦<u16 as Allocative>⟧.may_show b)) (Both
+          (Field (codes "width") (Some 2) (⟦<u16 as Allocative>⟧.may_show w)) (Both
+          (Field (codes "height") (Some 2) (⟦<u16 as Allocative>⟧.may_show h))
+          (Field (codes "text") (Some 24) (⟦<String as Allocative>⟧.may_show s)))))
+    ]) };
+
+    fn visit(&self, visitor: &mut Visitor<'_>) -> Result<(), Refusal> {
+        let key = Key::new("Request");
+        match self {
+            Request::Ping | Request::Stop | Request::Reset => Inside(key, 40, ()).enter(visitor),
+            Request::Count(value) => Inside(key, 40, Field(Key::new("Count"), value)).enter(
+                visitor,
+            ),
+            Request::Find(name) => Inside(key, 40, Field(Key::new("Find"), name)).enter(visitor),
+            Request::Drop(names) => Inside(key, 40, Field(Key::new("Drop"), names)).enter(visitor),
+            Request::Move(from, to) => {
+                let from = Field(Key::new("from"), from);
+                let to = Field(Key::new("to"), to);
+                Inside(key, 40, (from, to)).enter(visitor)
+            }
+            Request::Put(name, value) => {
+                let name = Field(Key::new("name"), name);
+                let value = Field(Key::new("value"), value);
+                Inside(key, 40, (name, value)).enter(visitor)
+            }
+            Request::Swap(from, to, is_deep) => {
+                let from = Field(Key::new("from"), from);
+                let to = Field(Key::new("to"), to);
+                let is_deep = Field(Key::new("is_deep"), is_deep);
+                Inside(key, 40, (from, to, is_deep)).enter(visitor)
+            }
+            Request::Draw(left, top, width, height, text) => {
+                let left = Field(Key::new("left"), left);
+                let top = Field(Key::new("top"), top);
+                let width = Field(Key::new("width"), width);
+                let height = Field(Key::new("height"), height);
+                let text = Field(Key::new("text"), text);
+                Inside(key, 40, (left, top, width, height, text)).enter(visitor)
+            }
+        }
+    }
+}

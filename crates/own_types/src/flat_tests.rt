@@ -1,0 +1,204 @@
+// The profiles of structs, enums and containers.
+use crate::containers::{Catalog, Journal, Shelf};
+use crate::enums::Request;
+use crate::large_structs::{Order, Route};
+use crate::profiles::{Profile, expect};
+use crate::settings::Settings;
+use crate::structs::{Meter, Named, Point, Session};
+use indexmap::IndexMap;
+use std::alloc::Global;
+use std::collections::HashMap;
+use std::test::Fail;
+
+#[test]
+fn one_field(rt: HostRuntime) -> Result<(), Fail> {
+    let want = Profile::new("Meter;reading;u64 8\n", 8);
+    expect(&rt, rt.alloc(), &Meter { reading: 5 }, &want)
+}
+
+#[test]
+fn two_fields(rt: HostRuntime) -> Result<(), Fail> {
+    let want = Profile::new("Point;x;u32 4\nPoint;y;u32 4\n", 8);
+    expect(&rt, rt.alloc(), &Point { x: 1, y: 2 }, &want)
+}
+
+#[test]
+fn three_fields_one_of_them_generic(rt: HostRuntime) -> Result<(), Fail> {
+    let alloc = rt.alloc();
+    let named = Named {
+        name: String::from_str(alloc, "ab")?,
+        value: Some(3u16),
+        is_read: true,
+    };
+    let text =
+        "Named 35\nNamed;is_read;bool 1\nNamed;name;String 16\nNamed;name;String;ptr 8\nNamed;name;String;ptr;capacity;u8 2\nNamed;value;Option 2\nNamed;value;Option;Some;u16 2\n";
+    expect(&rt, alloc, &named, &Profile::holding(text, 66, 2))
+}
+
+#[test]
+fn five_fields(rt: HostRuntime) -> Result<(), Fail> {
+    let alloc = rt.alloc();
+    let session = Session {
+        user: String::new(alloc),
+        scores: vec![in alloc; 1, 2]?,
+        limit: Some(9),
+        place: (1, 2),
+        is_open: true,
+    };
+    let text =
+        "Session 7\nSession;is_open;bool 1\nSession;limit;Option 8\nSession;limit;Option;Some;u64 8\nSession;place;tuple2;0;u32 4\nSession;place;tuple2;1;u32 4\nSession;scores;Vec 16\nSession;scores;Vec;ptr 8\nSession;scores;Vec;ptr;u32 8\nSession;user;String 16\nSession;user;String;ptr 8\n";
+    expect(&rt, alloc, &session, &Profile::holding(text, 88, 8))
+}
+
+fn order(alloc: Global) -> Order {
+    Order {
+        number: 1,
+        buyer: String::new(alloc),
+        seller: String::new(alloc),
+        amount: 2,
+        price: 3,
+        note: None,
+        marks: Vec::new(alloc),
+        is_paid: false,
+    }
+}
+
+#[test]
+fn eight_fields(rt: HostRuntime) -> Result<(), Fail> {
+    let alloc = rt.alloc();
+    let text =
+        "Order 11\nOrder;amount;u32 4\nOrder;buyer;String 16\nOrder;buyer;String;ptr 8\nOrder;is_paid;bool 1\nOrder;marks;Vec 24\nOrder;note;Option 32\nOrder;number;u64 8\nOrder;price;u64 8\nOrder;seller;String 16\nOrder;seller;String;ptr 8\n";
+    expect(&rt, alloc, &order(alloc), &Profile::new(text, 136))
+}
+
+fn route(alloc: Global) -> Route<u8> {
+    Route {
+        name: String::new(alloc),
+        first: 1,
+        last: 2,
+        between: None,
+        length: 3,
+        steps: Vec::new(alloc),
+        start: (1, 2),
+        end: (3, 4),
+        height: 5,
+        grade: 6,
+        is_round: true,
+        is_closed: false,
+    }
+}
+
+#[test]
+fn twelve_fields(rt: HostRuntime) -> Result<(), Fail> {
+    let alloc = rt.alloc();
+    let text =
+        "Route 117\nRoute;between;Option 2\nRoute;end;tuple2;0;u16 2\nRoute;end;tuple2;1;u16 2\nRoute;first;u8 1\nRoute;grade;u8 1\nRoute;height;u32 4\nRoute;is_closed;bool 1\nRoute;is_round;bool 1\nRoute;last;u8 1\nRoute;length;u64 8\nRoute;name;String 16\nRoute;name;String;ptr 8\nRoute;start;tuple2;0;u16 2\nRoute;start;tuple2;1;u16 2\nRoute;steps;Vec 24\n";
+    expect(&rt, alloc, &route(alloc), &Profile::new(text, 192))
+}
+
+fn settings(alloc: Global) -> Settings {
+    Settings {
+        name: String::new(alloc),
+        home: String::new(alloc),
+        user: None,
+        words: Vec::new(alloc),
+        ports: Vec::new(alloc),
+        threads: 1,
+        queue: 2,
+        retries: 3,
+        delay: 4,
+        timeout: None,
+        width: 5,
+        height: 6,
+        corner: (7, 8),
+        depth: 9,
+        scale: 10,
+        is_quiet: true,
+        is_verbose: false,
+        is_strict: true,
+        seed: 11,
+        mark: None,
+    }
+}
+
+#[test]
+fn twenty_fields(rt: HostRuntime) -> Result<(), Fail> {
+    let alloc = rt.alloc();
+    let text =
+        "Settings 81\nSettings;corner;tuple2;0;u32 4\nSettings;corner;tuple2;1;u32 4\nSettings;delay;u64 8\nSettings;depth;u8 1\nSettings;height;u32 4\nSettings;home;String 16\nSettings;home;String;ptr 8\nSettings;is_quiet;bool 1\nSettings;is_strict;bool 1\nSettings;is_verbose;bool 1\nSettings;mark;Option 8\nSettings;name;String 16\nSettings;name;String;ptr 8\nSettings;ports;Vec 24\nSettings;queue;u32 4\nSettings;retries;u8 1\nSettings;scale;u16 2\nSettings;seed;u64 8\nSettings;threads;u32 4\nSettings;timeout;Option 16\nSettings;user;Option 32\nSettings;width;u32 4\nSettings;words;Vec 24\n";
+    expect(&rt, alloc, &settings(alloc), &Profile::new(text, 280))
+}
+
+#[test]
+fn a_variant_without_fields(rt: HostRuntime) -> Result<(), Fail> {
+    let want = Profile::new("Request 40\n", 40);
+    expect(&rt, rt.alloc(), &Request::Ping, &want)
+}
+
+#[test]
+fn a_variant_of_one_field(rt: HostRuntime) -> Result<(), Fail> {
+    let want = Profile::new("Request 32\nRequest;Count;u64 8\n", 40);
+    expect(&rt, rt.alloc(), &Request::Count(5), &want)
+}
+
+#[test]
+fn a_variant_of_two_fields(rt: HostRuntime) -> Result<(), Fail> {
+    let want = Profile::new("Request 32\nRequest;from;u32 4\nRequest;to;u32 4\n", 40);
+    expect(&rt, rt.alloc(), &Request::Move(1, 2), &want)
+}
+
+#[test]
+fn a_variant_of_three_fields(rt: HostRuntime) -> Result<(), Fail> {
+    let text = "Request 31\nRequest;from;u32 4\nRequest;is_deep;bool 1\nRequest;to;u32 4\n";
+    let swap = Request::Swap(1, 2, true);
+    expect(&rt, rt.alloc(), &swap, &Profile::new(text, 40))
+}
+
+#[test]
+fn a_variant_of_five_fields(rt: HostRuntime) -> Result<(), Fail> {
+    let alloc = rt.alloc();
+    let draw = Request::Draw(1, 2, 3, 4, String::new(alloc));
+    let text =
+        "Request 8\nRequest;height;u16 2\nRequest;left;u16 2\nRequest;text;String 16\nRequest;text;String;ptr 8\nRequest;top;u16 2\nRequest;width;u16 2\n";
+    expect(&rt, alloc, &draw, &Profile::new(text, 40))
+}
+
+#[test]
+fn a_struct_over_a_vector(rt: HostRuntime) -> Result<(), Fail> {
+    let alloc = rt.alloc();
+    let shelf = Shelf {
+        items: vec![in alloc; 1u16, 2, 3]?,
+        limit: 7,
+    };
+    let text =
+        "Shelf 4\nShelf;items;Vec 16\nShelf;items;Vec;ptr 8\nShelf;items;Vec;ptr;u16 6\nShelf;limit;u32 4\n";
+    expect(&rt, alloc, &shelf, &Profile::holding(text, 38, 6))
+}
+
+#[test]
+fn a_struct_over_a_hashed_map(rt: HostRuntime) -> Result<(), Fail> {
+    let alloc = rt.alloc();
+    let mut values = HashMap::new(alloc);
+    values.insert(1u8, 2u8)?;
+    values.insert(3, 4)?;
+    let text =
+        "Catalog;asked;u64 8\nCatalog;values;HashMap 40\nCatalog;values;HashMap;data 4\nCatalog;values;HashMap;data;key;u8 2\nCatalog;values;HashMap;data;value;u8 2\n";
+    expect(
+        &rt,
+        alloc,
+        &Catalog { values, asked: 5 },
+        &Profile::new(text, 56),
+    )
+}
+
+#[test]
+fn a_struct_over_a_map_in_order_of_insertion(rt: HostRuntime) -> Result<(), Fail> {
+    let alloc = rt.alloc();
+    let journal: Journal<u8, u8> = Journal {
+        pages: IndexMap::new(alloc),
+        is_closed: true,
+    };
+    let text =
+        "Journal 7\nJournal;is_closed;bool 1\nJournal;pages;IndexMap 64\nJournal;pages;IndexMap;data 8\n";
+    expect(&rt, alloc, &journal, &Profile::new(text, 80))
+}

@@ -1,0 +1,84 @@
+//! Wrapped arrays, entries inside entries, and parts that show less than they hold.
+#![tactic(auto, using(allocative::proofs::Parts::parts))]
+
+ghost use Rattle.std.specs.Prelude.{codes, Some};
+ghost use Rattle.allocative.specs.Shows.{Nothing, Inside, InsideUnique, Field, Both};
+
+use allocative::part::{Field, Inside, Part, Unique};
+use allocative::{Allocative, Key, Refusal, Visitor};
+use std::path::PathBuf;
+
+/// A colour, as the amounts of red, green and blue.
+#[derive(Drop)]
+pub struct Colour(pub [u16; 3]);
+
+impl Allocative for Colour {
+    ghost may_show = { λ c. Inside (codes "Colour") 6 (⟦<[u16; 3] as Allocative>⟧.may_show c.0) };
+
+    fn visit(&self, visitor: &mut Visitor<'_>) -> Result<(), Refusal> {
+        Inside(Key::new("Colour"), 6, &self.0).enter(visitor)
+    }
+}
+
+/// A block on the heap: its head, and in the head the count of its bytes.
+#[derive(Drop)]
+pub struct Block {
+    pub count: u64,
+}
+
+impl Allocative for Block {
+    ghost may_show = { λ b. Inside (codes "Block") 8 (InsideUnique (codes "ptr") 8 (Inside (codes "head") 16 (Inside (codes "counts") 8 (⟦<u64 as Allocative>⟧.may_show b.count)))) };
+
+    fn visit(&self, visitor: &mut Visitor<'_>) -> Result<(), Refusal> {
+        let counts = Inside(Key::new("counts"), 8, &self.count);
+        let head = Inside(Key::new("head"), 16, counts);
+        let pointer = Unique(Key::new("ptr"), 8, head);
+        Inside(Key::new("Block"), 8, pointer).enter(visitor)
+    }
+}
+
+/// A document and where it stands. The path is of a foreign type and is passed over.
+#[derive(Drop)]
+pub struct Document {
+    pub title: String,
+    pub path: PathBuf,
+    pub pages: u32,
+}
+
+impl Allocative for Document {
+    ghost may_show = { λ d. Inside (codes "Document") 64 (Both
+        (Field (codes "title") (Some 24) (⟦<String as Allocative>⟧.may_show d.title))
+        (Field (codes "pages") (Some 4) (⟦<u32 as Allocative>⟧.may_show d.pages))) };
+
+    fn visit(&self, visitor: &mut Visitor<'_>) -> Result<(), Refusal> {
+        let title = Field(Key::new("title"), &self.title);
+        let pages = Field(Key::new("pages"), &self.pages);
+        Inside(Key::new("Document"), 64, (title, pages)).enter(visitor)
+    }
+}
+
+/// A day and its weather, which is shown by its size alone.
+#[derive(Drop)]
+pub struct Day {
+    pub number: u16,
+    pub weather: Weather,
+}
+
+/// What the weather was, of a type that shows nothing by itself.
+#[derive(Drop)]
+pub struct Weather {
+    pub warmth: u32,
+    pub rain: u32,
+}
+
+impl Allocative for Day {
+    ghost may_show = { λ d. Inside (codes "Day") 12 (Both
+        (Field (codes "number") (Some 2) (⟦<u16 as Allocative>⟧.may_show d.number))
+        (Inside (codes "weather") 8 Nothing)) };
+
+    fn visit(&self, visitor: &mut Visitor<'_>) -> Result<(), Refusal> {
+        let number = Field(Key::new("number"), &self.number);
+        let weather = Inside(Key::new("weather"), 8, ());
+        Inside(Key::new("Day"), 12, (number, weather)).enter(visitor)
+    }
+}
