@@ -8,9 +8,16 @@ use allocative_graph::refusal::Refusal;
 /// A value that shows what it holds.
 ///
 /// `may_show` says which forests of entries the value may show: it is the meaning that the type gives to its values, and
-/// `visit` is proved to enter one of them.
+/// `visit` is proved to enter one of them: an implementation builds one value of parts that mirrors `may_show`, and enters it.
 ///
 /// ```
+/// #![tactic(auto, using(allocative::proofs::Parts::parts))]
+///
+/// ghost use Rattle.std.specs.Prelude.{codes, Some};
+/// ghost use Rattle.allocative.specs.Shows.{Inside, Field, Both};
+///
+/// use allocative::{Allocative, Field, Inside, Key, Part, Refusal, Visitor};
+///
 /// #[derive(Drop)]
 /// struct Point {
 ///     x: u32,

@@ -25,10 +25,10 @@ pub trait Part: Drop {
 
     /// Enters it at the visitor.
     ///
-    /// A collector that has failed returns its first cause. Each entry is refused as `Visitor::enter` says, and after a refusal
-    /// the collector has failed, with the cause that is returned. After `Ok` the collector has one forest more that the part may
-    /// show; or it has failed, or has more visitors out than before, where a value's own visit hid a refusal or forgot a visitor.
-    /// The visitor stands where it stood.
+    /// Each entry is refused as `Visitor::enter` says. An `Err` is the collector's first cause, and then the collector has failed.
+    /// After `Ok` the collector has one forest more that the part may show; or it has failed, or has more visitors out than
+    /// before, where a value's own visit hid a refusal or forgot a visitor. A collector that had failed stays as it was. The
+    /// visitor stands where it stood.
     fn enter(self, visitor: &mut Visitor<'_>) -> Result<(), Refusal>
         ensures { Entered (may_show self) visitor.old visitor.new result };
 }
