@@ -1,7 +1,7 @@
 -- What an iterator's items show, where the list that it gives is known.
 use Rattle.std.proofs.Common.{Option, List, subst}
 use Rattle.std.proofs.lemmas.Iterator.{YieldsList, items_from_drains}
-use Rattle.allocative_graph.specs.Shows.{Showing}
+use Rattle.allocative.specs.Shows.{Showing}
 use Rattle.allocative.specs.Runs.{IsOfRun}
 use Rattle.allocative.specs.Visited.{Means}
 

@@ -2,7 +2,7 @@
 #![tactic(auto, using(allocative::proofs::Parts::parts))]
 
 ghost use Rattle.std.specs.Prelude.{codes, true, false, Some, length, string_bytes};
-ghost use Rattle.allocative_graph.specs.Shows as shows;
+ghost use Rattle.allocative.specs.Shows as shows;
 ghost use Rattle.allocative.specs.Bodies.{slice_of, vec_body};
 ghost use Rattle.allocative.specs.Runs.{pair_shows, field_of};
 

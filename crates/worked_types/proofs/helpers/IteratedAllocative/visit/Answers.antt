@@ -1,7 +1,7 @@
 -- The iterator gives the items.
 use Rattle.std.proofs.Common.{◌∙◌}
 use Rattle.std.proofs.lemmas.Iterator.{YieldsList-from_slice}
-use Rattle.allocative_graph.specs.Shows.{slice_shows}
+use Rattle.allocative.specs.Shows.{slice_shows}
 use Rattle.allocative.proofs.Meaning.{visited}
 use Rattle.allocative.proofs.Runs.{entered_list}
 use Rattle.worked_types.proofs.helpers.IteratedAllocative.visit.Goals as goal
