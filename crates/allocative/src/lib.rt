@@ -14,6 +14,8 @@ pub mod part;
 pub mod registry;
 pub mod size_of;
 mod slices;
+#[cfg(test)]
+mod tests;
 pub mod two;
 pub mod visiting;
 pub mod visitor;
@@ -34,8 +36,8 @@ pub use allocative_described::{
 pub use allocative_graph::flamegraph::{Child, FlameGraph, Row, push_path};
 pub use allocative_graph::key::Key;
 pub use allocative_graph::laws::{
-    exact_law, graph_law, graph_sums_law, meaning_law, merge_law, order_law, path_order_law, plus_law,
-    rows_law, shared_law, sums_law, text_law,
+    exact_law, graph_law, graph_sums_law, meaning_law, merge_law, order_law, path_order_law,
+    plus_law, rows_law, shared_law, sums_law, text_law,
 };
 pub use allocative_graph::refusal::Refusal;
 pub use allocative_graph::shared::{IdArc, IdMaker, IdRc, Identity};
