@@ -3,19 +3,25 @@ use Rattle.std.proofs.Common.{◌≡◌, ℕ, Option, None, Some, Bool, true, fa
 use Rattle.std.specs.Prelude.{Result, Ok, Err, IfOk, IfErr, IfSome, OnOk, OnErr}
 use Rattle.std.specs.Borrow.{name_if_ok}
 use contract.Lifetimes.{Lfts}
+use denote.Builtin.{usize}
 use denote.RattleType.{RattleType}
+use denote.Param.Laws.{Laws, of_field}
+use denote.Param.Shared.{copy_shared}
+use denote.Struct.Field.{usize-field}
+use denote.Struct.Laws.{usize-laws, usize-copy}
 use denote.Signature.{named_lft}
 use Rattle.allocative_graph.specs.declared.refusal.Refusal.{Refusal}
 use Rattle.allocative_graph.specs.Path.{Key}
-use Rattle.allocative_graph.specs.Collector.{State}
+use Rattle.allocative_graph.specs.Collector.{State, Failed}
 use Rattle.allocative_graph.specs.Identity.{Identity}
-use Rattle.allocative_graph.specs.Visits.{Enters, EntersShared, enters_first, Answers}
+use Rattle.allocative_graph.specs.Visits.{Enters, EntersSized, EntersShared, enters_first, Answers}
 use Rattle.allocative.specs.declared.visitor.Visitor.{Visitor}
 use Rattle.allocative.specs.Nested.{with_state, name_in, EndsWith, EndsWithout}
 use Rattle.allocative.specs.Shared.{AnswersShared, told, turned, answered}
 use Rattle.allocative_graph.specs.contracts.refusal.Refusal as refusal
 use Rattle.std.specs.contracts.option.Option as option
 use Rattle.std.specs.contracts.result.Result as result
+use Rattle.std.proofs.option.Option.TheLaws.{the_row_laws as option_laws}
 use Rattle.allocative.specs.contracts.visitor.Visitor as visitor
 
 -- the lender, whose own lifetime is the second one, and the answer, whose visitor has the first
@@ -49,6 +55,26 @@ entered_by u k n r c d e h = let P : State → Type 0 = λ x. IfOk r (λ v. Ente
 
 pub refused_by : (u : Bool) (n : ℕ) (r : Result Visitor Refusal) (c d : State) → c ≡ d → IfErr r (λ e. Answers u n c (Err e)) → IfErr r (λ e. Answers u n d (Err e))
 refused_by u n r c d e h = let P : State → Type 0 = λ x. IfErr r (λ e. Answers u n x (Err e)) in subst P e h
+
+-- ---- an entry of a declared size
+abbrev pub Size : RattleType
+Size = option.the_row usize
+
+pub size_laws : Laws Size
+size_laws = option_laws usize (of_field usize-field usize-laws refl (copy_shared usize-field usize-copy))
+
+abbrev pub EndsRefusedSized : Key → Option ℕ → Visitor → Result Visitor Refusal → Visitor → Type 0
+EndsRefusedSized k size s r v = IfErr r (λ e. EntersSized k size s.collector.now (Err e) v.collector.now × (v ≡ with_state s v.collector.now))
+
+pub ends_refused_sized : (k : Key) (size : Option ℕ) (s : Visitor) (c : State) → c ≡ s.collector.now → (r : Result Visitor Refusal) (z : State) → OnErr r (IfErr r (λ e. EntersSized k size c (Err e) z)) → EndsRefusedSized k size s r (with_state s z)
+ends_refused_sized k size s c i (Ok v) z h = h
+ends_refused_sized k size s c i (Err e) z h = let P : State → Type 0 = λ x. EntersSized k size x (Err e) z in (subst P i h, refl)
+
+pub entered_sized_by : (k : Key) (size : Option ℕ) (r : Result Visitor Refusal) (c d : State) → c ≡ d → IfOk r (λ v. EntersSized k size c (Ok v.outer_is_unique) v.collector.now) → IfOk r (λ v. EntersSized k size d (Ok v.outer_is_unique) v.collector.now)
+entered_sized_by k size r c d e h = let P : State → Type 0 = λ x. IfOk r (λ v. EntersSized k size x (Ok v.outer_is_unique) v.collector.now) in subst P e h
+
+pub refused_sized_by : (k : Key) (size : Option ℕ) (r : Result Visitor Refusal) (c d : State) → c ≡ d → IfErr r (λ e. EntersSized k size c (Err e) (Failed e)) → IfErr r (λ e. EntersSized k size d (Err e) (Failed e))
+refused_sized_by k size r c d e h = let P : State → Type 0 = λ x. IfErr r (λ e'. EntersSized k size x (Err e') (Failed e')) in subst P e h
 
 -- ---- a shared value
 -- the collector's own answer, and the one that is given

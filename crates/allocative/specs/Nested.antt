@@ -27,6 +27,13 @@ LendsNested is_unique k n s r =
     (λ w v. OnOk r (v ≡ with_state s.now w))
     (λ v. IfErr r (λ e. Enters is_unique k n s.now.collector.now (Err e) v.collector.now × (v ≡ with_state s.now v.collector.now)))
 
+-- It ends with what the nested visitor leaves behind its reference; where the entry of a declared size was refused, with what entering says. All else of it is unchanged.
+abbrev pub LendsNestedSized : Key → Option ℕ → MutBor Visitor → Result Visitor Refusal → Fml
+LendsNestedSized k size s r =
+    follows_so (visitor.the_row (record { mir = named 1; lft = [] })) collector.the_row s.ghost_name (name_if_ok (λ v. v.collector.ghost_name) r)
+    (λ w v. OnOk r (v ≡ with_state s.now w))
+    (λ v. IfErr r (λ e. EntersSized k size s.now.collector.now (Err e) v.collector.now × (v ≡ with_state s.now v.collector.now)))
+
 -- The nested visitor v stands at the entry that was entered at s.
 abbrev pub Nests : Bool → Key → ℕ → Visitor → Visitor → Type 0
 Nests is_unique k n s v = Enters is_unique k n s.collector.now (Ok v.outer_is_unique) v.collector.now

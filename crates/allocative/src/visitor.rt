@@ -9,7 +9,7 @@ ghost use Rattle.allocative.specs.Lending.{LendsEntered, LendsSized, LendsPointe
 ghost use Rattle.allocative.specs.Built.{as_graph};
 ghost use Rattle.allocative.specs.Making.{MakesPlan, one};
 ghost use Rattle.allocative.specs.Visited.{Entered, Refused, collector_of};
-ghost use Rattle.allocative.specs.Nested.{LendsCollector, LendsNested, LendsShared, Nests, NestsSized, NestsContent, IsContents, IsRefused, IsRefusedSized};
+ghost use Rattle.allocative.specs.Nested.{LendsCollector, LendsNested, LendsNestedSized, LendsShared, Nests, NestsSized, NestsContent, IsContents, IsRefused, IsRefusedSized};
 ghost use Rattle.allocative.specs.Shared.{AnswersShared, told, turned, answered};
 ghost use Rattle.std.specs.Borrow.{sem};
 
@@ -198,6 +198,18 @@ impl Visitor<'_> {
         ensures refused { IfErr result (IsRefused true size self.old) }
     {
         self.reborrow().enter_unique(key, size)
+    }
+
+    /// Enters inline with a declared size: one entry of `size` bytes more under the key, and a nested visitor at it.
+    ///
+    /// Where there is no size it is refused with TooLarge, and else as `enter` is. After Ok this visitor ends with what the
+    /// nested one leaves; all else of it stays.
+    pub fn enter_sized(&mut self, key: Key, size: Option<usize>) -> Result<Visitor<'_>, Refusal>
+        ensures* lent { sem 𝓛 (LendsNestedSized key size self.entry result) }
+        ensures entered { IfOk result (NestsSized key size self.old) }
+        ensures refused { IfErr result (IsRefusedSized key size self.old) }
+    {
+        self.reborrow().enter_sized(key, size)
     }
 
     /// Enters inline with the declared name and size of `T`. Where there is no size it is refused with TooLarge, and else as `enter`
