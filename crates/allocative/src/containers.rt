@@ -20,6 +20,10 @@ use std::hash::Hash;
 
 /// The items of a slice, as `Items(slice)`: one entry with the item's name and all bytes where the items need no drop or have
 /// size 0, else what each item shows. It is refused as `Visitor::visit_slice` is.
+///
+/// ```
+/// Unique(Key::new("ptr"), 8, Items(self.rows.as_slice())).enter(visitor)
+/// ```
 #[derive(Drop)]
 pub struct Items<V>(pub V);
 
@@ -32,6 +36,10 @@ impl<'a, T: Allocative + Described> Part for Items<&'a [T]> {
 }
 
 /// What each item shows, in order, as `Each(vec)`.
+///
+/// ```
+/// Inside(Key::new("Rows"), 24, Each(&self.rows)).enter(visitor)
+/// ```
 #[derive(Drop)]
 pub struct Each<V>(pub V);
 
@@ -60,6 +68,10 @@ impl<'a, T: Allocative + Described> Part for Cut<&'a [T]> {
 }
 
 /// A field under the key for each item, as `FieldEach(key, items)`. Those of a hashed set stand in any order.
+///
+/// ```
+/// Inside(Key::new("Tags"), 24, FieldEach(Key::new("tag"), self.tags.as_slice())).enter(visitor)
+/// ```
 #[derive(Drop)]
 pub struct FieldEach<V>(pub Key, pub V);
 
@@ -103,6 +115,10 @@ impl<'a, T: Allocative + Described + Eq + Hash> Part for FieldEach<&'a IndexSet<
 }
 
 /// The fields `key` and `value` for each pair of a map, as `Pairs(map)`. Those of a hashed map stand in any order.
+///
+/// ```
+/// Inside(Key::new("Index"), 24, Pairs(&self.by_name)).enter(visitor)
+/// ```
 #[derive(Drop)]
 pub struct Pairs<V>(pub V);
 
@@ -160,6 +176,16 @@ impl Part for Unused {
 
 /// The buffer of a container on the heap: nothing where its items have size 0 or it has no room, else a unique entry `ptr` of 8
 /// bytes, and in it the items and the entry of the unused places. Where an item has no size it is refused with TooLarge.
+///
+/// ```
+/// let buffer = Buffer {
+///     items: Items(self.rows.as_slice()),
+///     item_size: T::size(),
+///     count: self.rows.len(),
+///     capacity: self.rows.capacity(),
+/// };
+/// Inside(Key::new("Table"), 24, buffer).enter(visitor)
+/// ```
 #[derive(Drop)]
 pub struct Buffer<P> {
     /// What the items show.
@@ -208,6 +234,10 @@ impl<P: Part> Part for IndexData<P> {
 
 /// The buffer of a text: a unique entry `ptr` of 8 bytes, in it an entry `capacity`, and in that an entry `u8` of the text's bytes
 /// and an entry `unused_capacity`.
+///
+/// ```
+/// Inside(Key::new("Name"), 24, Text(&self.name)).enter(visitor)
+/// ```
 #[derive(Drop)]
 pub struct Text<'a>(pub &'a String);
 

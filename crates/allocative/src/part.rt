@@ -53,6 +53,11 @@ impl<'a, T: Allocative> Part for &'a T {
 }
 
 /// One inline entry under a key, of a size in bytes, and in it a part.
+///
+/// ```
+/// let header = Inside(Key::new("header"), 16, ());
+/// Inside(Key::new("Packet"), 48, (header, Field(Key::new("body"), &self.body))).enter(visitor)
+/// ```
 #[derive(Drop)]
 pub struct Inside<P>(pub Key, pub usize, pub P);
 
@@ -68,6 +73,11 @@ impl<P: Part> Part for Inside<P> {
 }
 
 /// One inline entry under a key, of a declared size in bytes, and in it a part. Where there is no size it is refused with TooLarge.
+///
+/// ```
+/// let first = Field(Key::new("first"), &self.first);
+/// Declared(Key::for_type_name::<Pair<T>>(), <Pair<T>>::size(), first).enter(visitor)
+/// ```
 #[derive(Drop)]
 pub struct Declared<P>(pub Key, pub Option<usize>, pub P);
 
@@ -83,6 +93,10 @@ impl<P: Part> Part for Declared<P> {
 }
 
 /// One unique entry under a key, of a size in bytes, and in it a part: a pointer, and what it alone points to.
+///
+/// ```
+/// Inside(Key::new("Handle"), 8, Unique(Key::new("ptr"), 8, &*self.boxed)).enter(visitor)
+/// ```
 #[derive(Drop)]
 pub struct Unique<P>(pub Key, pub usize, pub P);
 
@@ -98,6 +112,12 @@ impl<P: Part> Part for Unique<P> {
 }
 
 /// A field of a type that is described, as `Field(key, &value)`: one inline entry of its declared size, and in it what it shows.
+///
+/// ```
+/// let name = Field(Key::new("name"), &self.name);
+/// let count = Field(Key::new("count"), &self.count);
+/// Inside(Key::new("Item"), 32, (name, count)).enter(visitor)
+/// ```
 #[derive(Drop)]
 pub struct Field<V>(pub Key, pub V);
 
@@ -111,6 +131,16 @@ impl<'a, T: Allocative + Described> Part for Field<&'a T> {
 
 /// One entry of a pointer to a shared value, and where the value's identity was not met before a part as its content, the paths
 /// of which start at the root. The collector of held bytes enters neither.
+///
+/// ```
+/// let pointer = Shared {
+///     key: Key::new("ptr"),
+///     size: 8,
+///     identity: self.table.id(),
+///     content: Field(Key::new("Table"), self.table.get()),
+/// };
+/// Inside(Key::new("Handle"), 8, pointer).enter(visitor)
+/// ```
 #[derive(Drop)]
 pub struct Shared<P> {
     /// The pointer's key.
