@@ -224,6 +224,7 @@ impl Visitor<'_> {
 
     /// Enters inline with the declared name and size of the value's type, as `enter_self_sized` does.
     pub fn enter_self<T: Described>(&mut self, _this: &T) -> Result<Visitor<'_>, Refusal>
+        ensures* lent { sem 𝓛 (LendsNestedSized T.name T.size self.entry result) }
         ensures entered { IfOk result (NestsSized T.name T.size self.old) }
         ensures refused { IfErr result (IsRefusedSized T.name T.size self.old) }
     {
