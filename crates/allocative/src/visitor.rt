@@ -213,17 +213,18 @@ impl Visitor<'_> {
     }
 
     /// Enters inline with the declared name and size of `T`. Where there is no size it is refused with TooLarge, and else as `enter`
-    /// is. After this call a caller's proof knows what is returned and the nested visitor, and nothing of this one.
+    /// is. After Ok this visitor ends with what the nested one leaves; all else of it stays.
     pub fn enter_self_sized<T: Described>(&mut self) -> Result<Visitor<'_>, Refusal>
+        ensures* lent { sem 𝓛 (LendsNestedSized T.name T.size self.entry result) }
         ensures entered { IfOk result (NestsSized T.name T.size self.old) }
         ensures refused { IfErr result (IsRefusedSized T.name T.size self.old) }
     {
-        self.reborrow()
-            .enter_sized(Key::for_type_name::<T>(), T::size())
+        self.enter_sized(Key::for_type_name::<T>(), T::size())
     }
 
     /// Enters inline with the declared name and size of the value's type, as `enter_self_sized` does.
     pub fn enter_self<T: Described>(&mut self, _this: &T) -> Result<Visitor<'_>, Refusal>
+        ensures* lent { sem 𝓛 (LendsNestedSized T.name T.size self.entry result) }
         ensures entered { IfOk result (NestsSized T.name T.size self.old) }
         ensures refused { IfErr result (IsRefusedSized T.name T.size self.old) }
     {

@@ -128,11 +128,12 @@ fn a_shared_part_counts_once(rt: HostRuntime) -> Result<(), Fail> {
     )?)
 }
 
-// One entry as the type of a value, and one as the type alone.
+// One entry as the type of a value, one as the type alone, and one of a size by itself.
 fn enter_declared(builder: &mut FlameGraphBuilder) -> Result<(), Refusal> {
     let mut root = builder.root_visitor()?;
     root.enter_self(&7u8)?.exit();
     root.enter_self_sized::<u8>()?.exit();
+    root.enter_sized(Key::new("table"), Some(5))?.exit();
     Ok(())
 }
 
@@ -140,5 +141,5 @@ fn enter_declared(builder: &mut FlameGraphBuilder) -> Result<(), Refusal> {
 fn a_type_declares_its_entry(rt: HostRuntime) -> Result<(), Fail> {
     let mut builder = FlameGraphBuilder::new(rt.alloc())?;
     enter_declared(&mut builder)?;
-    Ok(assert_text(&rt, builder, "u8 2\n")?)
+    Ok(assert_text(&rt, builder, "table 5\nu8 2\n")?)
 }
