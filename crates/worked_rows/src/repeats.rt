@@ -1,5 +1,5 @@
 // Structures that come again and again, where what follows a child is not what followed it before.
-use crate::entries::assert_text;
+use crate::rows::assert_text;
 use allocative::{FlameGraphBuilder, Identity, Inside, Key, Part, Refusal, Shared, Visitor};
 
 // An entry, and one entry in it for each part.

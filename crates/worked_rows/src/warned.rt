@@ -1,18 +1,18 @@
 // The paths that have a warning, as paths with both figures.
-use crate::entries::enter_with;
+use crate::rows::{entered, inline};
 use allocative::{FlameGraphBuilder, FlameGraphOutput, Key, Refusal};
 use std::alloc::Global;
 
 // A run of `b 1 {c 2 {d 5}}` and `a 1 {x 4}`.
 fn short_of_children(alloc: Global) -> Result<FlameGraphOutput, Refusal> {
-    let mut builder = FlameGraphBuilder::new(alloc)?;
-    let mut root = builder.root_visitor()?;
-    let mut outer = root.enter(Key::new("b"), 1)?;
-    enter_with(&mut outer, "c", 2, "d", 5)?;
-    outer.exit();
-    enter_with(&mut root, "a", 1, "x", 4)?;
-    root.exit();
-    builder.finish()
+    let rows = [
+        inline(0, "b", 1),
+        inline(1, "c", 2),
+        inline(2, "d", 5),
+        inline(0, "a", 1),
+        inline(1, "x", 4),
+    ];
+    entered(alloc, &rows)?.finish()
 }
 
 // Each path with a warning, its own bytes, and those one key below.
