@@ -172,17 +172,10 @@ profile_by_run p (Going b) (Going c) u o e (z, f, a, t, g) k =
     let k' : Ends IsProfile (Going (plus (OfGraph no_entries) f)) (Ok o) = subst (λ (x : Kind). Ends IsProfile (Going x) (Ok o)) g' k in
     profile_by_sums p o f a t' k'.1.0 k'.1.1 k'.1.2
 
-pub graph_by_run : (p : Showing) (s t : State) (u : Unit) (o : Profile) (g : Graph) → s ≡ Going (OfGraph no_entries) → Runs p s (Ok u) t → Ends IsProfile t (Ok o) → g ≡ o.graph → IsGraphOf p g
-graph_by_run p (Failed r) t u o g e h k i = absurd (failed_not_going _ r e)
-graph_by_run p (Going b) (Failed r) u o g e h k i = absurd h
-graph_by_run p (Going b) (Going c) u o g e (z, f, a, t, m) k i =
-    let j : b ≡ OfGraph no_entries = same_kind b _ e in
-    let t' : Fits no_entries.met f = subst (λ (x : Kind). Takes x f) j t in
-    let m' : c ≡ plus (OfGraph no_entries) f = rw j at m in
-    let k' : Ends IsProfile (Going (plus (OfGraph no_entries) f)) (Ok o) = subst (λ (x : Kind). Ends IsProfile (Going x) (Ok o)) m' k in
-    record { shown = f; allowed = a; whole = t'; is = i ∙ k'.1.0 }
+graph_of_profile : (p : Showing) (o : Profile) (g : Graph) → IsProfileOf p o → g ≡ o.graph → IsGraphOf p g
+graph_of_profile p o g h e = record { shown = h.shown; allowed = h.allowed; whole = h.whole; is = e ∙ h.graph_is (all h.shown) h.meaning }
 
-pub sum_of_two : (p q : Showing) (g h m : Graph) → IsGraphOf p g → IsGraphOf q h → m ≡ sum_of g h → IsSumOfTwo p q m
+sum_of_two : (p q : Showing) (g h m : Graph) → IsGraphOf p g → IsGraphOf q h → m ≡ sum_of g h → IsSumOfTwo p q m
 sum_of_two p q g h m a b e =
     let is : m ≡ sum_of (graph (sums_of (all a.shown))) (graph (sums_of (all b.shown))) = e ∙ (λ i. sum_of (a.is i) (b.is i)) in
     record {
@@ -196,5 +189,8 @@ sum_of_two p q g h m a b e =
       is_one = λ apart can. (whole_following a.shown b.shown a.whole b.whole apart, is ∙ graphs_add a.shown b.shown can);
     }
 
+pub sum_of_profiles : (p q : Showing) (o o' : Profile) (m : Graph) → IsProfileOf p o → IsProfileOf q o' → m ≡ sum_of o.graph o'.graph → IsSumOfTwo p q m
+sum_of_profiles p q o o' m h k e = sum_of_two p q o.graph o'.graph m (graph_of_profile p o o.graph h refl) (graph_of_profile q o' o'.graph k refl) e
+
 -- what root visits go by
-pub ruleset running = (run_shows, run_refused, held_by_run, runs_nothing, runs_unsettled, runs_err, profile_by_run, graph_by_run, sum_of_two)
+pub ruleset running = (run_shows, run_refused, held_by_run, runs_nothing, runs_unsettled, runs_err, profile_by_run, sum_of_profiles)

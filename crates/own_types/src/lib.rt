@@ -16,6 +16,9 @@ pub mod nodes;
 pub mod pointers;
 #[cfg(test)]
 mod profiles;
+#[cfg(test)]
+mod service_tests;
+pub mod services;
 pub mod settings;
 pub mod structs;
 pub mod trees;

@@ -1,0 +1,31 @@
+//! Values under a name.
+#![tactic(auto, using(crate::proofs::Parts::parts))]
+
+ghost use Rattle.allocative_graph.specs.Shows as shows;
+
+use crate::allocative_trait::Allocative;
+use crate::part::{Field, Part};
+use crate::visitor::Visitor;
+use allocative_described::Described;
+use allocative_graph::key::Key;
+use allocative_graph::refusal::Refusal;
+
+/// A value under a name: one inline entry with the key, of the value's declared size in bytes, and in it what the value shows.
+///
+/// Roots of one type stand apart so in a graph. The name changes neither the total of a graph nor held bytes, where the value shows
+/// its declared size itself.
+///
+/// ```
+/// let output = profile_value(alloc, &Named(Key::new("open"), 3u32))?;
+/// assert_eq!(rt; output.flamegraph().write()?.as_str(), "open;u32 4\n");
+/// ```
+#[derive(Drop)]
+pub struct Named<T>(pub Key, pub T);
+
+impl<T: Allocative + Described> Allocative for Named<T> {
+    ghost may_show = { λ named. shows.Field named.0 T.size (T.may_show named.1) };
+
+    fn visit(&self, visitor: &mut Visitor<'_>) -> Result<(), Refusal> {
+        Field(self.0.copy(), &self.1).enter(visitor)
+    }
+}

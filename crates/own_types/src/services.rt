@@ -1,0 +1,127 @@
+//! Services that keep their roots in a struct of their own, and are profiled by a method.
+#![tactic(auto, using(allocative::proofs::Parts::parts))]
+
+ghost use Rattle.std.specs.Prelude.{◌≡◌, ◌++◌, ◌∷◌, [], codes, false, IfOk, MatchResult, Some};
+ghost use Rattle.allocative.specs.Shows.{Inside, Field, Both, each_shows};
+ghost use Rattle.allocative.specs.Visits.{IsProfileOf};
+
+use allocative::part::{Field, Inside, Part};
+use allocative::{
+    Allocative, Described, FlameGraphOutput, Key, Named, Refusal, Visitor, profile_value,
+    profile_values,
+};
+use std::alloc::Global;
+use std::mem;
+
+/// What one sensor counted.
+#[derive(Drop)]
+pub struct Sensor {
+    pub count: u64,
+}
+
+impl Described for Sensor {
+    ghost name = { codes "Sensor" };
+
+    ghost align = { 8 };
+
+    ghost needs_drop = { false };
+
+    ghost size = { Some 8 };
+
+    fn name() -> &'static str {
+        "Sensor"
+    }
+
+    fn align() -> usize {
+        8
+    }
+
+    fn needs_drop() -> bool {
+        false
+    }
+
+    fn size() -> Option<usize> {
+        Some(8)
+    }
+}
+
+impl Allocative for Sensor {
+    ghost may_show = { λ s. Inside (codes "Sensor") 8 (Field (codes "count") (Some 8) (⟦<u64 as Allocative>⟧.may_show s.count)) };
+
+    fn visit(&self, visitor: &mut Visitor<'_>) -> Result<(), Refusal> {
+        let count = Field(Key::new("count"), &self.count);
+        Inside(Key::new("Sensor"), 8, count).enter(visitor)
+    }
+}
+
+/// A service that owns its parts, and is one root.
+#[derive(Drop)]
+pub struct Station {
+    pub sensors: Vec<Sensor>,
+    pub log: String,
+}
+
+impl Allocative for Station {
+    ghost may_show = { λ s. Inside (codes "Station") 48 (Both
+        (Field (codes "sensors") (Some 24) (⟦<Vec<Sensor> as Allocative>⟧.may_show s.sensors))
+        (Field (codes "log") (Some 24) (⟦<String as Allocative>⟧.may_show s.log))) };
+
+    fn visit(&self, visitor: &mut Visitor<'_>) -> Result<(), Refusal> {
+        let sensors = Field(Key::new("sensors"), &self.sensors);
+        let log = Field(Key::new("log"), &self.log);
+        Inside(Key::new("Station"), 48, (sensors, log)).enter(visitor)
+    }
+}
+
+impl Station {
+    /// Graph and warnings of the station. It is refused for want of memory, or as a part's own visit is.
+    pub fn profile(&self, alloc: Global) -> Result<FlameGraphOutput, Refusal>
+        ensures { IfOk result (IsProfileOf (⟦<Station as Allocative>⟧.may_show self.now)) }
+    {
+        profile_value(alloc, self)
+    }
+}
+
+/// Sensors by their names, each a root.
+#[derive(Drop)]
+pub struct Sensors {
+    roots: Vec<Named<Sensor>>,
+}
+
+impl Sensors {
+    /// No sensors. It takes no memory.
+    pub fn new(alloc: Global) -> Sensors
+        ensures { result.roots.items ≡ [] }
+    {
+        Sensors {
+            roots: Vec::new(alloc),
+        }
+    }
+
+    /// One sensor more, behind the others. For want of memory it is handed back, and nothing changes.
+    pub fn register(&mut self, sensor: Named<Sensor>) -> Result<(), Named<Sensor>>
+        ensures { MatchResult result
+            (λ _. self.new.roots.items ≡ self.old.roots.items ++ sensor ∷ [])
+            (λ back. (back ≡ sensor) × (self.new.roots.items ≡ self.old.roots.items)) }
+    {
+        match self.roots.push(sensor) {
+            Ok(()) => Ok(()),
+            Err(refused) => Err(refused.value),
+        }
+    }
+
+    /// All sensors, handed back. None is left. It takes no memory.
+    pub fn clear(&mut self) -> Vec<Named<Sensor>>
+        ensures { (result.items ≡ self.old.roots.items) × (self.new.roots.items ≡ []) }
+    {
+        let none = Vec::new(*self.roots.allocator());
+        mem::replace(&mut self.roots, none)
+    }
+
+    /// Graph and warnings of all sensors. It is refused for want of memory, or as a sensor's own visit is.
+    pub fn profile(&self) -> Result<FlameGraphOutput, Refusal>
+        ensures { IfOk result (IsProfileOf (each_shows ⟦<Named<Sensor> as Allocative>⟧.may_show self.now.roots.items)) }
+    {
+        profile_values(*self.roots.allocator(), &self.roots)
+    }
+}
