@@ -1,12 +1,11 @@
 -- What the helpers of slices go by, and the parts of buffers and tables.
-use Rattle.std.proofs.Common.{codes, if◌then◌else◌, Bool, true, false, length, List, ◌++◌, Option, None, Some, ◌≡◌, ℕ, ◌+◌, ◌*◌, ◌<◌, Result, Ok, sym, subst, arith, inl, inr}
+use Rattle.std.proofs.Common.{codes, if◌then◌else◌, Bool, true, false, length, List, Option, None, Some, ◌≡◌, ℕ, ◌+◌, ◌*◌, ◌<◌, Result, inl}
 use Rattle.std.proofs.lemmas.Bool.{false≢true}
 use Rattle.allocative_graph.specs.declared.refusal.Refusal.{Refusal}
-use Rattle.allocative_described.specs.RawTable.{IsRawTableSize}
 use Rattle.allocative_graph.specs.Path.{Key}
 use Rattle.allocative_graph.specs.Forest.{Forest}
-use Rattle.allocative_graph.specs.Shows.{Showing, Nothing, Both, Inside, InsideUnique, Field, IsField, sized, each_shows, slice_shows}
-use Rattle.allocative.specs.Bodies.{are_shown_each, bytes_shown, buffer_entry, without_size, without_items, with_room, buffer_shows, cut_shows, text_shows, table_shows}
+use Rattle.allocative_graph.specs.Shows.{Showing, Nothing, Both, Inside, InsideUnique, IsField, sized, each_shows, slice_shows}
+use Rattle.allocative.specs.Bodies.{are_shown_each, bytes_shown, buffer_entry, without_size, without_items, with_room, buffer_shows, text_shows, table_shows}
 use Rattle.allocative.specs.declared.visitor.Visitor.{Visitor}
 use Rattle.allocative.specs.Visited.{Entered, Means}
 use Rattle.allocative.proofs.Meaning.{entered_as}

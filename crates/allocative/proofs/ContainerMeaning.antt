@@ -1,16 +1,12 @@
 -- How what a container shows is read off its parts.
-use Rattle.std.proofs.Common.{codes, ◌≡◌, ℕ, ◌+◌, ◌<◌, Bool, List, ◌++◌, Option, Some, None, Result, Ok, Err, length, inl, inr, refl, subst, sym, arith}
-use Rattle.either.specs.declared.Either.{Either}
+use Rattle.std.proofs.Common.{codes, ◌≡◌, ℕ, Bool, List, Option}
 use Rattle.smallvec.specs.SmallVec.{SmallVec, IsSpilled}
-use Rattle.allocative_described.specs.RawTable.{IsRawTableSize}
-use Rattle.allocative_graph.specs.declared.refusal.Refusal.{Refusal}
 use Rattle.allocative_graph.specs.Path.{Key}
 use Rattle.allocative_graph.specs.Forest.{Forest}
-use Rattle.allocative_graph.specs.Shows.{Showing, Nothing, Both, Inside, InsideUnique, Field, slice_shows}
-use Rattle.allocative.specs.Bodies.{bytes_shown, buffer_entry, IsBuffer, without_size, without_items, with_room, buffer_shows, cut_shows, text_shows, data_shows, table_shows}
+use Rattle.allocative_graph.specs.Shows.{Showing, Nothing, InsideUnique}
+use Rattle.allocative.specs.Bodies.{IsBuffer, without_size, without_items, with_room, buffer_shows, cut_shows, data_shows, table_shows}
 use Rattle.allocative.specs.PackShows.{once_inside, is_not_set, is_set, small_vec_inside, lies_inline, is_spilled, index_data_shows, IsIndexData, with_unused}
-use Rattle.allocative.specs.declared.visitor.Visitor.{Visitor}
-use Rattle.allocative.specs.Visited.{Visited, Entered, Means}
+use Rattle.allocative.specs.Visited.{Means}
 use Rattle.allocative.proofs.Meaning.{means_same}
 
 -- ---- buffers

@@ -1,8 +1,7 @@
 -- JSON values one after another, as the data that they stand for.
-use Rattle.std.proofs.Common.{String, Global, ◌≡◌, ℕ, suc, ◌+◌, List, [], ◌∷◌, Some, codes, length, refl, ap, rules, arith}
-use Rattle.serde_json.specs.Data.{null, boolean}
+use Rattle.std.proofs.Common.{String, Global, ◌≡◌, List, [], ◌∷◌, Some, length, refl, ap, arith}
 use Rattle.serde_json.specs.View.{view, items_view, members_view}
-use Rattle.serde_json.specs.declared.value.Value.{Value, Null, Bool, the_lemmas}
+use Rattle.serde_json.specs.declared.value.Value.{Value}
 use Rattle.allocative_graph.specs.Shows.{Both, each_shows}
 use Rattle.allocative.specs.Bodies.{buffer_shows}
 use Rattle.allocative.specs.JsonShows.{items_show, items_count, value_shows, member_shows, members_show}

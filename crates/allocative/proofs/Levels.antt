@@ -4,7 +4,7 @@ use Rattle.std.proofs.Math.Nat.{add_comm}
 use Rattle.allocative_graph.specs.Path.{Key}
 use Rattle.allocative_graph.specs.Forest.{Forest}
 use Rattle.allocative_graph.specs.Shows.{Showing, IsField, sized, each_shows, InsideAs, Both}
-use Rattle.allocative.specs.Bodies.{IsBuffer, buffer_shows, bytes_shown, without_size, without_items, with_room}
+use Rattle.allocative.specs.Bodies.{IsBuffer, bytes_shown, without_size, without_items, with_room}
 use Rattle.allocative.specs.StdShows.{option_inside, in_any_order}
 use Rattle.allocative.specs.Visited.{Means}
 use Rattle.allocative.specs.Levels.{Level, plain, child, both, inside, unique, field, buffer, optional, each, unordered, level_shows, levels_shown, recursive}

@@ -6,6 +6,7 @@ pub mod Steps
 pub mod Showing
 pub mod Meaning
 pub mod ContainerMeaning
+pub mod Within
 pub mod Levels
 pub mod Parts
 pub mod Json

@@ -33,7 +33,7 @@ makes_failed (made g i l a) = makes_failed a
 makes_failed (entry_refused g) = not_sized_cause g
 makes_failed (inside_refused g m) = makes_failed m
 
-failed_left : {o : Bool} {c d : State} {e : Refusal} → HasFailed c e → Leaves o c d → d ≡ c
+pub failed_left : {o : Bool} {c d : State} {e : Refusal} → HasFailed c e → Leaves o c d → d ≡ c
 failed_left {o} h l = left_by l ∙ ap (left o) h ∙ sym h
 
 -- ---- one entry
@@ -51,11 +51,6 @@ makes_one {x = x} g l e = makes_entry g (nothing_inside x g) l e
 pub makes_refused : {k : Key} {size : Option ℕ} {inside after : Plan} {s t : State} {e : Refusal} (r : Result Unit Refusal) → IsErr r → e ≡ err_or e r → EntersSized k size s (Err e) t → Makes (Entry k size inside after) s r t
 makes_refused (Ok u) h i g = absurd (false≢true h)
 makes_refused (Err x) h i g = entry_refused (rw i at g)
-
-pub makes_inside_refused : {k : Key} {size : Option ℕ} {inside after : Plan} {s t c d : State} {o w : Bool} {e : Refusal} (r : Result Unit Refusal) → IsErr r → e ≡ err_or e r →
-    EntersSized k size s (Ok o) t → Makes inside t (Err e) c → Leaves w c d → Makes (Entry k size inside after) s r d
-makes_inside_refused (Ok u) h i g m l = absurd (false≢true h)
-makes_inside_refused (Err x) h i g m l = rw (failed_left (makes_failed m) l) (inside_refused g (rw i at m))
 
 -- ---- one plan after another
 pub makes_then : {p q : Plan} {s t d : State} {u : Unit} {r : Result Unit Refusal} → Makes p s (Ok u) t → Makes q t r d → Makes (followed_by_plan p q) s r d
@@ -99,15 +94,6 @@ run_ends steps t (y ∷ ys) h m = gives y h.0 h.1
 
 pub makes_or_refused : {S A : Type 0} {steps : S → Option A → S → Type 0} {x : S} {k : Key} {size : Option ℕ} {inside after : Plan} {s t : State} {e : Refusal} (r : Result Unit Refusal) → IsErr r → e ≡ err_or e r → EntersSized k size s (Err e) t → MakesOrGives steps x (Entry k size inside after) s r t
 makes_or_refused r h i g = makes (makes_refused r h i g)
-
-pub entry_or_gives : {S A : Type 0} {steps : S → Option A → S → Type 0} {x : S} {k : Key} {size : Option ℕ} {s t c d : State} {o q : Bool} {v w : Unit} → EntersSized k size s (Ok o) t → MakesOrGives steps x Done t (Ok v) c → Leaves q c d → q ≡ o → MakesOrGives steps x (one k size) s (Ok w) d
-entry_or_gives g (makes m) l e = makes (makes_entry g m l e)
-entry_or_gives g (gives y t h) l e = gives y t h
-
-pub entry_or_gives_refused : {S A : Type 0} {steps : S → Option A → S → Type 0} {x : S} {k : Key} {size : Option ℕ} {s t c d : State} {o w : Bool} {e : Refusal} (r : Result Unit Refusal) → IsErr r → e ≡ err_or e r →
-    EntersSized k size s (Ok o) t → MakesOrGives steps x Done t (Err e) c → Leaves w c d → MakesOrGives steps x (one k size) s r d
-entry_or_gives_refused r h i g (makes m) l = makes (makes_inside_refused r h i g m l)
-entry_or_gives_refused r h i g (gives y t n) l = gives y t n
 
 pub run_in_turn : {S A : Type 0} {steps : S → Option A → S → Type 0} {s : S} {name : Key} (size : Option ℕ) (needs_drop : Bool) {a b : State} {r : Result Unit Refusal} → are_shown_each needs_drop size ≡ true →
     MakesOrGives steps s Done a r b → MakesRun steps s name size (are_shown_each needs_drop size) a r b

@@ -1,5 +1,5 @@
 -- How a loop over an iterator shows one item more, and what a whole run of it shows.
-use Rattle.std.proofs.Common.{Bool, false, true, ℕ, ◌+◌, length, arith, ◌⊎◌, inl, inr, length-append, List, [], ◌∷◌, ◌++◌, map, ◌≡◌, ◌∙◌, Option, None, Some, Result, Ok, refl, ap, subst}
+use Rattle.std.proofs.Common.{Bool, false, true, ℕ, ◌+◌, length, arith, ◌⊎◌, inl, inr, List, [], ◌∷◌, ◌++◌, map, ◌≡◌, ◌∙◌, Option, None, Some, Result, Ok, refl, ap, subst}
 use Rattle.std.proofs.lemmas.List.{map-append, length-map}
 use Rattle.std.proofs.lemmas.Bool.Decides.{nat_tests}
 use Rattle.std.proofs.lemmas.List.Sorted.{IsPermutation-refl}
@@ -10,17 +10,17 @@ use Rattle.allocative_graph.specs.declared.refusal.Refusal.{Refusal}
 use Rattle.allocative_graph.specs.Path.{Key}
 use Rattle.allocative_graph.specs.Forest.{Forest}
 use Rattle.allocative_graph.specs.Collector.{State}
-use Rattle.allocative_graph.specs.Shows.{Showing, Nothing, InsideAs, Field, each_shows, slice_shows}
+use Rattle.allocative_graph.specs.Shows.{Showing, Nothing, Field, each_shows, slice_shows}
 use Rattle.allocative_graph.specs.Visits.{Shows}
-use Rattle.allocative_described.specs.Sizes.{checked, size_product, size_sum}
+use Rattle.allocative_described.specs.Sizes.{checked, size_product}
 use Rattle.allocative.specs.Bodies.{are_shown_each, bytes_shown}
 use Rattle.allocative.specs.Runs.{IsOfRun, CountsRun, entry_value, value_shows, values_slice}
 use Rattle.allocative.specs.StdShows.{in_any_order}
 use Rattle.allocative.specs.declared.visitor.Visitor.{Visitor}
-use Rattle.allocative.specs.Visited.{Entered, Means}
+use Rattle.allocative.specs.Visited.{Entered}
 use Rattle.allocative.proofs.Meaning.{entered_as}
 use Rattle.allocative.proofs.Bodies.{plain_slice, each_slice, none_of_it}
-use Rattle.allocative.proofs.Showing.{shows_weaker, shows_snoc}
+use Rattle.allocative.proofs.Showing.{shows_snoc}
 
 -- one item more
 pub shows_next : {A B : Type 0} (v : A → B) (p : B → Showing) (xs : List A) (x : A) {a b c : State} {u w y : Unit} →

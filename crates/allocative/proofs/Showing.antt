@@ -75,7 +75,7 @@ out_of u k n b d i w (added {c = c} f q t e) =
     added (entry_of u k n f) (f, q, refl) (takes_entry u k n b f t') (ap (leave (is_in_unique b)) e' ∙ inside_entry u k n b f)
 
 -- what was entered, where the visitor stands, what is shown there, what leaving does, and that what is restored is what was there
-entry_shows : {u : Bool} {p : Showing} {k : Key} {n : ℕ} {o q : Bool} {s t a c d : State} {v x : Unit} →
+pub entry_shows : {u : Bool} {p : Showing} {k : Key} {n : ℕ} {o q : Bool} {s t a c d : State} {v x : Unit} →
     Enters u k n s (Ok o) t → a ≡ t → Shows p a (Ok v) c → Leaves q c d → q ≡ o → Shows (InsideAs u k n p) s (Ok x) d
 entry_shows {u} {p} {k} {n} {c = c} {v = v} {x = x} (is_entered {b = b} {c = d} r f e) i s l q =
     let s' : Shows p (Going d) (Ok v) c = subst (λ (z : State). Shows p z (Ok v) c) i s in

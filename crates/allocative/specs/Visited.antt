@@ -1,10 +1,10 @@
 -- What a visit does to the visitor that it was given.
-use Rattle.std.specs.Prelude.{◌≡◌, Result, IfErr}
+use Rattle.std.specs.Prelude.{◌≡◌, Result, Ok, IfErr}
 use Rattle.allocative_graph.specs.declared.refusal.Refusal.{Refusal}
 use Rattle.allocative_graph.specs.Forest.{Forest}
 use Rattle.allocative_graph.specs.Shows.{Showing}
 use Rattle.allocative_graph.specs.Collector.{State, failed_with}
-use Rattle.allocative_graph.specs.Visits.{Shows, HasFailed}
+use Rattle.allocative_graph.specs.Visits.{Shows, HasFailed, Begins, Leaves}
 use Rattle.allocative.specs.declared.visitor.Visitor.{Visitor}
 
 -- The visitor stands where it stood, and its collector was shown what p allows.
@@ -30,6 +30,14 @@ pub record Refused (r : Refusal) (old new : Visitor) (cause : Refusal) : Type 0 
 -- What a visitor's collector is.
 abbrev pub collector_of : Visitor → State
 collector_of v = v.collector.now
+
+-- The end of the visitor v leaves its collector as t: one step back, with what v remembers.
+abbrev pub Exits : Visitor → State → Type 0
+Exits v t = Leaves v.outer_is_unique v.collector.now t
+
+-- The root visitor v went out at s.
+abbrev pub BeginsAt : State → Visitor → Type 0
+BeginsAt s v = Begins s (Ok v.outer_is_unique) v.collector.now
 
 -- What p allows, q allows.
 pub record Means (p q : Showing) : Type 0 where

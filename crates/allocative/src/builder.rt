@@ -4,9 +4,10 @@
 ghost use Rattle.std.specs.Prelude.{◌<◌, ◌^◌, ◌≡◌, ◌↔◌, Ok, Err, IfOk, IfErr, MatchResult, string_bytes};
 ghost use Rattle.allocative_graph.specs.Graph.{text, graph, total};
 ghost use Rattle.allocative_graph.specs.Collector.{Going, OfGraph, no_entries};
-ghost use Rattle.allocative_graph.specs.Visits.{Runs, Begins, Settles, Ends, IsProfile};
+ghost use Rattle.allocative_graph.specs.Visits.{Runs, Settles, Ends, IsProfile};
 ghost use Rattle.allocative.specs.Built.{as_graph};
 ghost use Rattle.allocative.specs.Rooted.{LendsBuilt, LendsRoot};
+ghost use Rattle.allocative.specs.Visited.{BeginsAt};
 ghost use Rattle.std.specs.Borrow.{sem};
 
 use crate::allocative_trait::Allocative;
@@ -71,7 +72,7 @@ impl FlameGraphBuilder {
     /// `visit_root` it does.
     pub fn root_visitor(&mut self) -> Result<Visitor<'_>, Refusal>
         ensures* lent { sem 𝓛 (LendsRoot self.entry result) }
-        ensures begun { IfOk result (λ v. Begins self.old (Ok v.outer_is_unique) v.collector.now) }
+        ensures begun { IfOk result (BeginsAt self.old) }
         ensures refused { IfErr result (λ e. Settles self.old (Err e)) }
     {
         self.lend().graph_root_visitor()

@@ -189,10 +189,10 @@ impl Visitor<'_> {
         ensures first { MakesFirst (codes "data") (Some 8) self.old self.new result }
         ensures exact { MakesPlanOrGives I.next_gives entries (one (codes "data") (Some 8)) self.old self.new result }
     {
-        let mut inner = self.collector.enter(Key::new("data"), 8)?;
-        inner.visit_pairs(entries)?;
-        inner.exit();
-        Ok(())
+        let outer = self.collector.go_in(Key::new("data"), 8)?;
+        let answer = self.visit_pairs(entries);
+        self.collector.leave(outer);
+        answer
     }
 
     /// The inline entry `data` of 8 bytes, and in it a field `key` for each key that the iterator gives. It is refused as
@@ -208,9 +208,9 @@ impl Visitor<'_> {
         ensures first { MakesFirst (codes "data") (Some 8) self.old self.new result }
         ensures exact { MakesPlanOrGives I.next_gives entries (one (codes "data") (Some 8)) self.old self.new result }
     {
-        let mut inner = self.collector.enter(Key::new("data"), 8)?;
-        inner.visit_keys(entries)?;
-        inner.exit();
-        Ok(())
+        let outer = self.collector.go_in(Key::new("data"), 8)?;
+        let answer = self.visit_keys(entries);
+        self.collector.leave(outer);
+        answer
     }
 }

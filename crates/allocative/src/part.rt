@@ -65,10 +65,10 @@ impl<P: Part> Part for Inside<P> {
     ghost may_show = { λ e. shows.Inside e.0 e.1 (P.may_show e.2) };
 
     fn enter(self, visitor: &mut Visitor<'_>) -> Result<(), Refusal> {
-        let mut inner = visitor.collector.enter(self.0, self.1)?;
-        self.2.enter(&mut inner)?;
-        inner.exit();
-        Ok(())
+        let outer = visitor.collector.go_in(self.0, self.1)?;
+        let answer = self.2.enter(visitor);
+        visitor.collector.leave(outer);
+        answer
     }
 }
 
@@ -85,10 +85,10 @@ impl<P: Part> Part for Declared<P> {
     ghost may_show = { λ e. shows.Field e.0 e.1 (P.may_show e.2) };
 
     fn enter(self, visitor: &mut Visitor<'_>) -> Result<(), Refusal> {
-        let mut inner = visitor.collector.enter_sized(self.0, self.1)?;
-        self.2.enter(&mut inner)?;
-        inner.exit();
-        Ok(())
+        let outer = visitor.collector.go_in_sized(self.0, self.1)?;
+        let answer = self.2.enter(visitor);
+        visitor.collector.leave(outer);
+        answer
     }
 }
 
@@ -104,10 +104,10 @@ impl<P: Part> Part for Unique<P> {
     ghost may_show = { λ e. shows.InsideUnique e.0 e.1 (P.may_show e.2) };
 
     fn enter(self, visitor: &mut Visitor<'_>) -> Result<(), Refusal> {
-        let mut inner = visitor.collector.enter_unique(self.0, self.1)?;
-        self.2.enter(&mut inner)?;
-        inner.exit();
-        Ok(())
+        let outer = visitor.collector.go_in_unique(self.0, self.1)?;
+        let answer = self.2.enter(visitor);
+        visitor.collector.leave(outer);
+        answer
     }
 }
 

@@ -38,8 +38,8 @@ impl Visitor<'_> {
         ensures entered { Entered (Field name size Nothing) self.old self.new result }
         ensures exact { MakesPlan (one name size) self.old self.new result }
     {
-        let inner = self.collector.enter_sized(name, size)?;
-        inner.exit();
+        let outer = self.collector.go_in_sized(name, size)?;
+        self.collector.leave(outer);
         Ok(())
     }
 
@@ -114,12 +114,12 @@ impl Visitor<'_> {
         ensures exact { length items.now ≡ 0 → MakesPlan (one T.name (size_product T.size (Some 0))) self.old self.new result }
     {
         let bytes = bytes_of::<T>(Some(items.len()));
-        let mut inner = self
+        let outer = self
             .collector
-            .enter_sized(Key::for_type_name::<T>(), bytes)?;
-        inner.visit_data(items)?;
-        inner.exit();
-        Ok(())
+            .go_in_sized(Key::for_type_name::<T>(), bytes)?;
+        let answer = self.visit_data(items);
+        self.collector.leave(outer);
+        answer
     }
 
     // What the slice of the items shows, and an entry of the bytes of the room that `capacity` leaves.
@@ -152,9 +152,9 @@ impl Visitor<'_> {
         ensures exact { VisitsNone T.needs_drop T.size items.now → MakesPlan (vec_plan T.name T.size T.needs_drop items.now capacity) self.old self.new result }
     {
         let bytes = bytes_of::<T>(Some(capacity));
-        let mut inner = self.collector.enter_sized(Key::new("capacity"), bytes)?;
-        inner.visit_with_room(items, capacity)?;
-        inner.exit();
-        Ok(())
+        let outer = self.collector.go_in_sized(Key::new("capacity"), bytes)?;
+        let answer = self.visit_with_room(items, capacity);
+        self.collector.leave(outer);
+        answer
     }
 }

@@ -35,10 +35,10 @@ impl Visitor<'_> {
         ensures entered { Entered (Field name T.size (T.may_show field.now)) self.old self.new result }
         ensures first { MakesFirst name T.size self.old self.new result }
     {
-        let mut inner = self.collector.enter_sized(name, T::size())?;
-        field.enter(&mut inner)?;
-        inner.exit();
-        Ok(())
+        let outer = self.collector.go_in_sized(name, T::size())?;
+        let answer = field.enter(self);
+        self.collector.leave(outer);
+        answer
     }
 
     /// One inline entry of `size` bytes, and in it what the closure enters.
@@ -76,10 +76,10 @@ impl Visitor<'_> {
     fn visit_object_pointer(&mut self, object: &dyn Allocative) -> Result<(), Refusal>
         ensures { Entered (InsideUnique (codes "ptr") 8 (may_show object.now)) self.old self.new result }
     {
-        let mut inner = self.collector.enter_unique(Key::new("ptr"), 8)?;
-        inner.visit_object(object)?;
-        inner.exit();
-        Ok(())
+        let outer = self.collector.go_in_unique(Key::new("ptr"), 8)?;
+        let answer = self.visit_object(object);
+        self.collector.leave(outer);
+        answer
     }
 
     /// The inline entry `Box` of 8 bytes, in it the unique entry `ptr` of 8 bytes, and in that what the object shows.
@@ -90,9 +90,9 @@ impl Visitor<'_> {
         ensures entered { Entered (Inside (codes "Box") 8 (InsideUnique (codes "ptr") 8 (may_show object.now))) self.old self.new result }
         ensures first { MakesFirst (codes "Box") (Some 8) self.old self.new result }
     {
-        let mut inner = self.collector.enter(Key::new("Box"), 8)?;
-        inner.visit_object_pointer(object)?;
-        inner.exit();
-        Ok(())
+        let outer = self.collector.go_in(Key::new("Box"), 8)?;
+        let answer = self.visit_object_pointer(object);
+        self.collector.leave(outer);
+        answer
     }
 }

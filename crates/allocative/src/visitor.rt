@@ -4,11 +4,11 @@
 ghost use Rattle.std.specs.Prelude.{◌≡◌, IfOk, IfErr, IfSome, Ok, Err, Some, true, false};
 ghost use Rattle.allocative_graph.specs.Collector.{Failed};
 ghost use Rattle.allocative_graph.specs.Shows.{Inside, Nothing};
-ghost use Rattle.allocative_graph.specs.Visits.{Enters, EntersSized, EntersShared, Answers, Leaves, Begins, Settles};
+ghost use Rattle.allocative_graph.specs.Visits.{Enters, EntersSized, EntersShared, Answers, Settles};
 ghost use Rattle.allocative.specs.Lending.{LendsEntered, LendsSized, LendsPointed, LendsBegun, LendsBegunGraph};
 ghost use Rattle.allocative.specs.Built.{as_graph};
 ghost use Rattle.allocative.specs.Making.{MakesPlan, one};
-ghost use Rattle.allocative.specs.Visited.{Entered, Refused, collector_of};
+ghost use Rattle.allocative.specs.Visited.{Entered, Refused, Exits, BeginsAt, collector_of};
 ghost use Rattle.allocative.specs.Nested.{LendsCollector, LendsNested, LendsNestedSized, LendsShared, Nests, NestsSized, NestsContent, IsContents, IsRefused, IsRefusedSized};
 ghost use Rattle.allocative.specs.Shared.{AnswersShared, told, turned, answered};
 ghost use Rattle.std.specs.Borrow.{sem};
@@ -29,7 +29,7 @@ pub struct Visitor<'a> {
 
 impl Drop for Visitor<'_> {
     fn drop(self)
-        ensures { Leaves self.entry.outer_is_unique self.entry.collector.now self.exit.0.now }
+        ensures { Exits self.entry self.exit.0.now }
     {
         let Visitor {
             collector,
@@ -131,7 +131,7 @@ impl Collector {
     pub(crate) fn root_visitor(&mut self) -> Result<Visitor<'_>, Refusal>
         ensures* lent { sem 𝓛 (LendsBegun self.entry result) }
         ensures same_reference { IfOk result (λ v. v.collector.ghost_name ≡ self.entry.ghost_name) }
-        ensures begun { IfOk result (λ v. Begins self.old (Ok v.outer_is_unique) v.collector.now) }
+        ensures begun { IfOk result (BeginsAt self.old) }
         ensures refused { IfErr result (λ e. Settles self.old (Err e)) }
     {
         let outer_is_unique = self.begin()?;
@@ -145,7 +145,7 @@ impl Collector {
     pub(crate) fn graph_root_visitor(&mut self) -> Result<Visitor<'_>, Refusal>
         ensures* lent { sem 𝓛 (LendsBegunGraph self.entry result) }
         ensures same_reference { IfOk result (λ v. v.collector.ghost_name ≡ self.entry.ghost_name) }
-        ensures begun { IfOk result (λ v. Begins (as_graph self.old) (Ok v.outer_is_unique) v.collector.now) }
+        ensures begun { IfOk result (BeginsAt (as_graph self.old)) }
         ensures refused { IfErr result (λ e. Settles (as_graph self.old) (Err e)) }
     {
         self.check_graph()?;
@@ -258,7 +258,7 @@ impl Visitor<'_> {
 impl Visitor<'_> {
     /// One step back, as the end of its scope. It takes no memory and never refuses.
     pub fn exit(self)
-        ensures { Leaves self.entry.outer_is_unique self.entry.collector.now self.exit.0.now }
+        ensures { Exits self.entry self.exit.0.now }
     {
         drop(self);
     }
@@ -275,8 +275,8 @@ impl Visitor<'_> {
         ensures entered { Entered (Inside key size Nothing) self.old self.new result }
         ensures exact { MakesPlan (one key (Some size)) self.old self.new result }
     {
-        let inner = self.collector.enter(key, size)?;
-        inner.exit();
+        let outer = self.collector.go_in(key, size)?;
+        self.collector.leave(outer);
         Ok(())
     }
 

@@ -84,8 +84,8 @@ pub fn visit_json_map(visitor: &mut Visitor<'_>, map: &Map<String, Value>) -> Re
     ensures entered { Entered (map_shows (members_view map.now.entries)) visitor.old visitor.new result }
     ensures first { MakesFirst (codes "Map") (Some 24) visitor.old visitor.new result }
 {
-    let mut inner = visitor.collector.enter(Key::new("Map"), 24)?;
-    Unique(Key::new("data"), 8, Members(map)).enter(&mut inner)?;
-    inner.exit();
-    Ok(())
+    let outer = visitor.collector.go_in(Key::new("Map"), 24)?;
+    let answer = Unique(Key::new("data"), 8, Members(map)).enter(visitor);
+    visitor.collector.leave(outer);
+    answer
 }

@@ -1,6 +1,14 @@
 -- One item more.
-use Rattle.allocative.proofs.Meaning.{entered_one_more}
+use Rattle.allocative.proofs.Within.{entered_then_refused}
+use Rattle.std.proofs.Common.{rules}
+use Rattle.allocative.proofs.Meaning.{entered_one_more, entered_none, means_same}
 use Rattle.allocative.proofs.containers.EachRefVecPart.enter.Goals as goal
 
 pub loop-item-preserved : goal.loop-item-preserved
 loop-item-preserved g c = entered_one_more g.T.Allocative.may_show _ _ c.item-item.result c.loop-item.invariant c.in_ok-enter.ensures c.loop-item-test.true c.item-item.is
+
+pub loop-item-init : goal.loop-item-init
+loop-item-init g c = entered_none _ means_same
+
+pub returns-in_err-enter : goal.returns-in_err-enter
+returns-in_err-enter g c = entered_then_refused {e = c.in_err-enter.field-0.0} _ c.from_residual.ensures.0 (search rules) c.loop-item.invariant c.in_err-enter.ensures

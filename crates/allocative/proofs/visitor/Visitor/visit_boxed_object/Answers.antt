@@ -1,12 +1,17 @@
 use Rattle.std.proofs.Common.{rules}
-use Rattle.allocative.proofs.Showing.{any_err, entry_err, showing}
+use Rattle.allocative_graph.specs.Visits.{is_sized}
+use Rattle.allocative.proofs.Within.{entered_within, not_within, first_not_within}
+use Rattle.allocative.proofs.Showing.{goes_in_plain}
 use Rattle.allocative.proofs.visitor.Visitor.visit_boxed_object.Goals as goal
 
-pub returns-in_err-visit_object_pointer-clause-entered : goal.returns-in_err-visit_object_pointer-clause-entered
-returns-in_err-visit_object_pointer-clause-entered g c = record {
-  same_reference = search rules;
-  same_outer = search rules;
-  shown = any_err _ c.from_residual-in_err-visit_object_pointer.ensures.0
-      (entry_err {w = c.visit_object_pointer.new.self.outer_is_unique} {x = c.in_err-visit_object_pointer.field-0.0} c.in_ok-inner.ensures.entered (search rules) c.in_err-visit_object_pointer.ensures.shown (search rules));
-  cause = search (rules, showing);
-}
+pub returns-in_err-outer-clause-entered : goal.returns-in_err-outer-clause-entered
+returns-in_err-outer-clause-entered g c = not_within {e = c.in_err-outer.field-0.0} _ c.from_residual.ensures.0 (search rules) (rw c.new.ensures at c.in_err-outer.ensures.enters)
+
+pub returns-in_err-outer-clause-first : goal.returns-in_err-outer-clause-first
+returns-in_err-outer-clause-first g c = first_not_within {e = c.in_err-outer.field-0.0} _ c.from_residual.ensures.0 (search rules) (is_sized (rw c.new.ensures at c.in_err-outer.ensures.enters))
+
+pub returns-clause-entered : goal.returns-clause-entered
+returns-clause-entered g c = entered_within (rw c.new.ensures at c.in_ok-outer.ensures.enters) c.visit_object_pointer-answer.ensures c.leave.ensures
+
+pub returns-clause-first : goal.returns-clause-first
+returns-clause-first g c = goes_in_plain (rw c.new.ensures at c.in_ok-outer.ensures.enters)

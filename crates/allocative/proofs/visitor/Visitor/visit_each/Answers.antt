@@ -1,6 +1,8 @@
 -- One item more.
-use Rattle.std.proofs.Common.{arith}
-use Rattle.allocative.proofs.Meaning.{entered_one_more}
+use Rattle.allocative.proofs.Showing.{kept_after}
+use Rattle.allocative.proofs.Within.{entered_failed, failed_answer, entered_then_refused, kept_failed}
+use Rattle.std.proofs.Common.{arith, rules}
+use Rattle.allocative.proofs.Meaning.{entered_one_more, entered_none, means_same}
 use Rattle.allocative.proofs.visitor.Visitor.visit_each.Goals as goal
 
 pub loop-item-preserved : goal.loop-item-preserved
@@ -11,3 +13,27 @@ loop-item-preserved g c = (
 
 pub returns-clause-exact : goal.returns-clause-exact
 returns-clause-exact g c = λ h. c.loop-item.invariant.1 h
+
+pub returns-in_err-go_on-clause-entered : goal.returns-in_err-go_on-clause-entered
+returns-in_err-go_on-clause-entered g c = entered_failed {e = c.in_err-go_on.field-0.0} _ c.from_residual.ensures.0 (search rules) c.in_err-go_on.ensures
+
+pub returns-in_err-go_on-clause-kept : goal.returns-in_err-go_on-clause-kept
+returns-in_err-go_on-clause-kept g c = kept_failed {e = c.in_err-go_on.field-0.0} _ c.from_residual.ensures.0 (search rules) c.in_err-go_on.ensures
+
+pub returns-in_err-go_on-clause-exact : goal.returns-in_err-go_on-clause-exact
+returns-in_err-go_on-clause-exact g c = λ h. failed_answer {e = c.in_err-go_on.field-0.0} _ c.from_residual.ensures.0 (search rules) c.in_err-go_on.ensures
+
+pub loop-item-init : goal.loop-item-init
+loop-item-init g c = (entered_none _ means_same, λ h. c.in_ok-go_on.ensures)
+
+pub returns-in_err-enter-clause-entered : goal.returns-in_err-enter-clause-entered
+returns-in_err-enter-clause-entered g c = entered_then_refused {e = c.in_err-enter.field-0.0} _ c.from_residual-in_err-enter.ensures.0 (search rules) c.loop-item.invariant.0 c.in_err-enter.ensures
+
+pub returns-in_err-enter-clause-kept : goal.returns-in_err-enter-clause-kept
+returns-in_err-enter-clause-kept g c = kept_after c.in_ok-go_on.ensures
+
+pub returns-clause-kept : goal.returns-clause-kept
+returns-clause-kept g c = kept_after c.in_ok-go_on.ensures
+
+pub returns-in_err-enter-clause-exact : goal.returns-in_err-enter-clause-exact
+returns-in_err-enter-clause-exact g c = λ h. absurd (omega (arith, h, c.loop-item-test.true))

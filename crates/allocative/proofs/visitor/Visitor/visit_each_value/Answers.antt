@@ -1,4 +1,7 @@
 -- One item more, and the end of the run.
+use Rattle.allocative.proofs.Meaning.{entered_none, means_same}
+use Rattle.allocative.proofs.Within.{entered_then_refused}
+use Rattle.std.proofs.Common.{rules}
 use Rattle.allocative.specs.Runs.{deref_entry, value_shows}
 use Rattle.allocative_graph.specs.Shows.{each_shows}
 use Rattle.allocative.proofs.Runs.{entered_next, entered_run}
@@ -11,3 +14,9 @@ pub returns : goal.returns
 returns g c =
     rw (← c.into_iter-key-iterator.ensures.into_iter_gives)
     (entered_run deref_entry (each_shows (value_shows g.T.Allocative.may_show)) c.loop-key.yielded (c.next.new.self, (c.loop-key._key-iterator, c.loop-key.yielded_by, c.in-None.ensures.steps)) c.loop-key.invariant)
+
+pub loop-key-init : goal.loop-key-init
+loop-key-init g c = entered_none _ means_same
+
+pub returns-in_err-enter : goal.returns-in_err-enter
+returns-in_err-enter g c = entered_then_refused {e = c.in_err-enter.field-0.0} _ c.from_residual.ensures.0 (search rules) c.loop-key.invariant c.in_err-enter.ensures

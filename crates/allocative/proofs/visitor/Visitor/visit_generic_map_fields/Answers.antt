@@ -1,26 +1,24 @@
 use Rattle.std.proofs.Common.{rules}
-use Rattle.allocative.proofs.Showing.{any_err, entry_err, showing}
 use Rattle.allocative_graph.specs.Visits.{is_sized}
-use Rattle.allocative.proofs.Making.{makes_or_refused, entry_or_gives, entry_or_gives_refused}
+use Rattle.allocative.proofs.Within.{entered_within, not_within, first_not_within, gives_within}
+use Rattle.allocative.proofs.Showing.{goes_in_plain}
+use Rattle.allocative.proofs.Making.{makes_or_refused}
 use Rattle.allocative.proofs.visitor.Visitor.visit_generic_map_fields.Goals as goal
 
-pub returns-in_err-inner-clause-exact : goal.returns-in_err-inner-clause-exact
-returns-in_err-inner-clause-exact g c = makes_or_refused {e = c.in_err-inner.field-0.0} _ c.from_residual.ensures.0 (search rules) (is_sized (search rules))
+pub returns-in_err-outer-clause-entered : goal.returns-in_err-outer-clause-entered
+returns-in_err-outer-clause-entered g c = not_within {e = c.in_err-outer.field-0.0} _ c.from_residual.ensures.0 (search rules) (rw c.new.ensures at c.in_err-outer.ensures.enters)
 
-pub returns-in_err-visit_pairs-clause-exact : goal.returns-in_err-visit_pairs-clause-exact
-returns-in_err-visit_pairs-clause-exact g c =
-    entry_or_gives_refused {w = c.visit_pairs.new.self.outer_is_unique} {e = c.in_err-visit_pairs.field-0.0} _ c.from_residual-in_err-visit_pairs.ensures.0 (search rules)
-    (is_sized (rw c.new.ensures at c.in_ok-inner.ensures.entered)) c.in_err-visit_pairs.ensures.exact (search rules)
+pub returns-in_err-outer-clause-first : goal.returns-in_err-outer-clause-first
+returns-in_err-outer-clause-first g c = first_not_within {e = c.in_err-outer.field-0.0} _ c.from_residual.ensures.0 (search rules) (is_sized (rw c.new.ensures at c.in_err-outer.ensures.enters))
+
+pub returns-in_err-outer-clause-exact : goal.returns-in_err-outer-clause-exact
+returns-in_err-outer-clause-exact g c = makes_or_refused {e = c.in_err-outer.field-0.0} _ c.from_residual.ensures.0 (search rules) (is_sized (rw c.new.ensures at c.in_err-outer.ensures.enters))
+
+pub returns-clause-entered : goal.returns-clause-entered
+returns-clause-entered g c = entered_within (rw c.new.ensures at c.in_ok-outer.ensures.enters) c.visit_pairs-answer.ensures.entered c.leave.ensures
+
+pub returns-clause-first : goal.returns-clause-first
+returns-clause-first g c = goes_in_plain (rw c.new.ensures at c.in_ok-outer.ensures.enters)
 
 pub returns-clause-exact : goal.returns-clause-exact
-returns-clause-exact g c =
-    entry_or_gives {q = c.visit_pairs.new.self.outer_is_unique} (is_sized (rw c.new.ensures at c.in_ok-inner.ensures.entered)) c.in_ok-visit_pairs.ensures.exact (search rules) (search rules)
-
-pub returns-in_err-visit_pairs-clause-entered : goal.returns-in_err-visit_pairs-clause-entered
-returns-in_err-visit_pairs-clause-entered g c = record {
-  same_reference = search rules;
-  same_outer = search rules;
-  shown = any_err _ c.from_residual-in_err-visit_pairs.ensures.0
-      (entry_err {w = c.visit_pairs.new.self.outer_is_unique} {x = c.in_err-visit_pairs.field-0.0} c.in_ok-inner.ensures.entered (search rules) c.in_err-visit_pairs.ensures.entered.shown (search rules));
-  cause = search (rules, showing);
-}
+returns-clause-exact g c = gives_within (is_sized (rw c.new.ensures at c.in_ok-outer.ensures.enters)) c.visit_pairs-answer.ensures.exact c.leave.ensures

@@ -1,4 +1,8 @@
 -- One item more, and the end of the run.
+use Rattle.allocative.specs.Making.{makes}
+use Rattle.allocative.proofs.Meaning.{entered_none, means_same}
+use Rattle.allocative.proofs.Within.{entered_failed, failed_answer, entered_then_refused}
+use Rattle.std.proofs.Common.{rules}
 use Rattle.std.specs.Map.Iter.{deref_pair}
 use Rattle.allocative.specs.Runs.{pair_shows}
 use Rattle.allocative_graph.specs.Shows.{each_shows}
@@ -24,3 +28,15 @@ returns-in_err-visit_pair-clause-exact g c =
 pub returns-clause-exact : goal.returns-clause-exact
 returns-clause-exact g c =
     rw (← c.into_iter-key-iterator.ensures.into_iter_gives) (run_ends g.I.Iterator.next_gives c.loop-key.key-iterator c.loop-key.yielded c.loop-key.yielded_by c.loop-key.invariant.1)
+
+pub returns-in_err-go_on-clause-entered : goal.returns-in_err-go_on-clause-entered
+returns-in_err-go_on-clause-entered g c = entered_failed {e = c.in_err-go_on.field-0.0} _ c.from_residual.ensures.0 (search rules) c.in_err-go_on.ensures
+
+pub returns-in_err-go_on-clause-exact : goal.returns-in_err-go_on-clause-exact
+returns-in_err-go_on-clause-exact g c = makes (failed_answer {e = c.in_err-go_on.field-0.0} _ c.from_residual.ensures.0 (search rules) c.in_err-go_on.ensures)
+
+pub loop-key-init : goal.loop-key-init
+loop-key-init g c = (entered_none _ means_same, λ h. c.in_ok-go_on.ensures)
+
+pub returns-in_err-visit_pair-clause-entered : goal.returns-in_err-visit_pair-clause-entered
+returns-in_err-visit_pair-clause-entered g c = entered_then_refused {e = c.in_err-visit_pair.field-0.0} _ c.from_residual-in_err-visit_pair.ensures.0 (search rules) c.loop-key.invariant.0 c.in_err-visit_pair.ensures

@@ -1,10 +1,18 @@
-use Rattle.std.proofs.Common.{rules}
+use Rattle.std.proofs.Common.{rules, refl}
 use Rattle.allocative_graph.specs.Visits.{is_sized}
+use Rattle.allocative.proofs.Within.{entered_alone, not_within}
 use Rattle.allocative.proofs.Making.{makes_one, makes_refused}
+use Rattle.allocative.proofs.Steps.{leaves_by_left}
 use Rattle.allocative.proofs.visitor.Visitor.visit_simple.Goals as goal
 
-pub returns-in_err-inner-clause-exact : goal.returns-in_err-inner-clause-exact
-returns-in_err-inner-clause-exact c = makes_refused {e = c.in_err-inner.field-0.0} _ c.from_residual.ensures.0 (search rules) (is_sized (search rules))
+pub returns-in_err-outer-clause-entered : goal.returns-in_err-outer-clause-entered
+returns-in_err-outer-clause-entered c = not_within {e = c.in_err-outer.field-0.0} _ c.from_residual.ensures.0 (search rules) c.in_err-outer.ensures.enters
+
+pub returns-in_err-outer-clause-exact : goal.returns-in_err-outer-clause-exact
+returns-in_err-outer-clause-exact c = makes_refused {e = c.in_err-outer.field-0.0} _ c.from_residual.ensures.0 (search rules) (is_sized c.in_err-outer.ensures.enters)
+
+pub returns-clause-entered : goal.returns-clause-entered
+returns-clause-entered c = entered_alone c.in_ok-outer.ensures.enters c.leave.ensures
 
 pub returns-clause-exact : goal.returns-clause-exact
-returns-clause-exact c = makes_one {q = c.in_ok-inner.inner.outer_is_unique} (is_sized c.in_ok-inner.ensures.entered) (search rules) (search rules)
+returns-clause-exact c = makes_one (is_sized c.in_ok-outer.ensures.enters) (leaves_by_left _ _ _ c.leave.ensures) refl

@@ -1,15 +1,23 @@
 use Rattle.std.proofs.Common.{rules}
-use Rattle.allocative.proofs.Making.{makes_refused, makes_entry, makes_inside_refused}
+use Rattle.allocative.proofs.Within.{entered_within_sized, not_within_sized, first_not_within, makes_within}
+use Rattle.allocative.proofs.Showing.{goes_in}
+use Rattle.allocative.proofs.Making.{makes_refused}
 use Rattle.allocative.proofs.visitor.Visitor.visit_slice_of.Goals as goal
 
-pub returns-in_err-inner-clause-exact : goal.returns-in_err-inner-clause-exact
-returns-in_err-inner-clause-exact g c = λ h. makes_refused {e = c.in_err-inner.field-0.0} _ c.from_residual.ensures.0 (search rules) (search rules)
+pub returns-in_err-outer-clause-entered : goal.returns-in_err-outer-clause-entered
+returns-in_err-outer-clause-entered g c = not_within_sized {e = c.in_err-outer.field-0.0} _ c.from_residual.ensures.0 (search rules) (rw (c.for_type_name.ensures, c.bytes_of-bytes.ensures) at c.in_err-outer.ensures.enters)
 
-pub returns-in_err-visit_data-clause-exact : goal.returns-in_err-visit_data-clause-exact
-returns-in_err-visit_data-clause-exact g c = λ h.
-    makes_inside_refused {w = c.visit_data.new.self.outer_is_unique} {e = c.in_err-visit_data.field-0.0} _ c.from_residual-in_err-visit_data.ensures.0 (search rules)
-    (rw (c.for_type_name.ensures, c.bytes_of-bytes.ensures, h) at c.in_ok-inner.ensures.entered) (c.in_err-visit_data.ensures.exact h) (search rules)
+pub returns-in_err-outer-clause-first : goal.returns-in_err-outer-clause-first
+returns-in_err-outer-clause-first g c = first_not_within {e = c.in_err-outer.field-0.0} _ c.from_residual.ensures.0 (search rules) (rw (c.for_type_name.ensures, c.bytes_of-bytes.ensures) at c.in_err-outer.ensures.enters)
+
+pub returns-in_err-outer-clause-exact : goal.returns-in_err-outer-clause-exact
+returns-in_err-outer-clause-exact g c = λ h. makes_refused {e = c.in_err-outer.field-0.0} _ c.from_residual.ensures.0 (search rules) (rw (c.for_type_name.ensures, c.bytes_of-bytes.ensures, h) at c.in_err-outer.ensures.enters)
+
+pub returns-clause-entered : goal.returns-clause-entered
+returns-clause-entered g c = entered_within_sized (rw (c.for_type_name.ensures, c.bytes_of-bytes.ensures) at c.in_ok-outer.ensures.enters) c.visit_data-answer.ensures.entered c.leave.ensures
+
+pub returns-clause-first : goal.returns-clause-first
+returns-clause-first g c = goes_in (rw (c.for_type_name.ensures, c.bytes_of-bytes.ensures) at c.in_ok-outer.ensures.enters)
 
 pub returns-clause-exact : goal.returns-clause-exact
-returns-clause-exact g c = λ h.
-    makes_entry {q = c.visit_data.new.self.outer_is_unique} (rw (c.for_type_name.ensures, c.bytes_of-bytes.ensures, h) at c.in_ok-inner.ensures.entered) (c.in_ok-visit_data.ensures.exact h) (search rules) (search rules)
+returns-clause-exact g c = λ h. makes_within (rw (c.for_type_name.ensures, c.bytes_of-bytes.ensures, h) at c.in_ok-outer.ensures.enters) (c.visit_data-answer.ensures.exact h) c.leave.ensures

@@ -1,15 +1,22 @@
 -- The members of the map, as the data that they stand for.
 use Rattle.std.proofs.Common.{rules}
-use Rattle.allocative.proofs.Showing.{inline_shows, showing}
+use Rattle.allocative_graph.specs.Visits.{is_sized}
+use Rattle.allocative.proofs.Within.{entered_within, not_within, first_not_within}
+use Rattle.allocative.proofs.Showing.{goes_in_plain}
 use Rattle.allocative.proofs.Meaning.{entered_as, means_unique}
 use Rattle.allocative.proofs.Json.{means_members}
 use Rattle.allocative.proofs.impls.pack_impls.json.visit_json_map.Goals as goal
 
+pub returns-in_err-outer-clause-entered : goal.returns-in_err-outer-clause-entered
+returns-in_err-outer-clause-entered c = not_within {e = c.in_err-outer.field-0.0} _ c.from_residual.ensures.0 (search rules) (rw c.new.ensures at c.in_err-outer.ensures.enters)
+
+pub returns-in_err-outer-clause-first : goal.returns-in_err-outer-clause-first
+returns-in_err-outer-clause-first c = first_not_within {e = c.in_err-outer.field-0.0} _ c.from_residual.ensures.0 (search rules) (is_sized (rw c.new.ensures at c.in_err-outer.ensures.enters))
+
 pub returns-clause-entered : goal.returns-clause-entered
 returns-clause-entered c =
-    let inside = entered_as c.in_ok-enter.ensures (means_unique c.new-2.ensures (means_members c.args.map.now.entries)) in record {
-      same_reference = search rules;
-      same_outer = search rules;
-      shown = inline_shows {q = c.enter-2.new.visitor.outer_is_unique} (rw c.new.ensures at c.in_ok-inner.ensures.entered) (search rules) inside.shown (search rules) (search rules);
-      cause = tt;
-    }
+    entered_within (rw c.new.ensures at c.in_ok-outer.ensures.enters)
+    (entered_as c.enter-answer.ensures (means_unique c.new-2.ensures (means_members c.args.map.now.entries))) c.leave.ensures
+
+pub returns-clause-first : goal.returns-clause-first
+returns-clause-first c = goes_in_plain (rw c.new.ensures at c.in_ok-outer.ensures.enters)
