@@ -3,7 +3,7 @@ ghost use Rattle.std.specs.Prelude.{◌≡◌, ◌+◌, ◌^◌, ◌<◌, ℕ, [
 ghost use Rattle.allocative_graph.specs.Graph.{warning_line, total as graph_total};
 ghost use Rattle.allocative_graph.specs.Visits.{IsProfile};
 ghost use Rattle.allocative_collectors.specs.Listed.{root_sum, add, total, path_at, map_of, IsEntered, IsAbove};
-ghost use Rattle.allocative_collectors.specs.Finishing.{size_at, is_short, Makes};
+ghost use Rattle.allocative_collectors.specs.Finishing.{size_at, is_short, Makes, MakesAlone};
 ghost use Rattle.allocative_collectors.specs.Shapes.{keys_of, KeysRise, IsPlace, IsGap};
 ghost use Rattle.allocative_collectors.specs.Nodes.{shape};
 
@@ -141,6 +141,9 @@ impl Tree {
         ensures made { IfOk result (Makes self.now at (string_bytes text.old) (string_bytes text.new)) }
         ensures err { IfErr result (λ e. e ≡ Refusal.Memory) }
     {
+        if let Some(leaf) = self.leaf(at) {
+            return Ok(leaf);
+        }
         let node = &self.nodes[at];
         let mut graph = FlameGraph::with_capacity(self.alloc, node.children.len())?;
         graph.add_self(self.size(at))?;
@@ -155,6 +158,22 @@ impl Tree {
             let _ = keys.pop();
         }
         Ok(graph)
+    }
+
+    /// The graph from a node on that has no children and no warning; it takes no memory.
+    #[inline(always)]
+    fn leaf(&self, at: usize) -> Option<FlameGraph>
+        requires { at < length self.now }
+        ensures { IfSome result (λ graph. MakesAlone self.now at graph) }
+    {
+        if !self.nodes[at].children.is_empty() || self.is_short(at) {
+            return None;
+        }
+        let mut graph = FlameGraph::default(self.alloc);
+        match graph.add_self(self.size(at)) {
+            Ok(()) => Some(graph),
+            Err(_) => None,
+        }
     }
 
     /// The size that the graph has at a node.
