@@ -49,6 +49,7 @@ impl Model for Collector {
 
 impl Kind {
     // One entry more, and a visitor at it. Answers what leaving has to restore.
+    #[inline(always)]
     fn enter(&mut self, key: &Key, size: usize, is_unique: bool) -> Result<bool, Refusal>
         ensures ok { IfOk result (λ outer. HasRoom is_unique size (kind_of self.old) × (outer ≡ is_in_unique (kind_of self.old)) × (kind_of self.new ≡ enter is_unique key.now size (kind_of self.old))) }
         ensures err { IfErr result (Refuses is_unique size (kind_of self.old)) }
@@ -63,6 +64,7 @@ impl Kind {
     }
 
     // A visitor less.
+    #[inline(always)]
     fn leave(&mut self, outer: bool)
         ensures { kind_of self.new ≡ leave outer (kind_of self.old) }
     {
@@ -146,6 +148,7 @@ impl Collector {
     }
 
     // One entry more, unique or inline.
+    #[inline(always)]
     fn step_in(&mut self, key: &Key, size: usize, is_unique: bool) -> Result<bool, Refusal>
         ensures enters { StepsIn is_unique key.now size self.old result self.new }
         ensures cause { IfErr result (HasFailed self.new) }
@@ -183,6 +186,7 @@ impl Collector {
     }
 
     /// One inline entry of `size` bytes, and a visitor at it: what leaving has to restore.
+    #[inline(always)]
     pub(crate) fn go_in(&mut self, key: Key, size: usize) -> Result<bool, Refusal>
         ensures enters { Enters false key size self.old result self.new }
         ensures cause { IfErr result (HasFailed self.new) }
@@ -191,6 +195,7 @@ impl Collector {
     }
 
     /// The same as `go_in` with a unique entry.
+    #[inline(always)]
     pub(crate) fn go_in_unique(&mut self, key: Key, size: usize) -> Result<bool, Refusal>
         ensures enters { Enters true key size self.old result self.new }
         ensures cause { IfErr result (HasFailed self.new) }
@@ -199,6 +204,7 @@ impl Collector {
     }
 
     /// The same as `go_in` with a declared size; where there is none it is TooLarge.
+    #[inline(always)]
     pub(crate) fn go_in_sized(&mut self, key: Key, size: Option<usize>) -> Result<bool, Refusal>
         ensures enters { EntersSized key size self.old result self.new }
         ensures cause { IfErr result (HasFailed self.new) }
@@ -223,6 +229,7 @@ impl Collector {
     }
 
     /// A visitor less; the one outside is a unique entry's, or is not.
+    #[inline(always)]
     pub(crate) fn leave(&mut self, outer: bool)
         ensures { self.new ≡ left outer self.old }
     {

@@ -165,6 +165,7 @@ pub struct Unused {
 impl Part for Unused {
     ghost may_show = { λ u. bytes_shown (codes "unused_capacity") u.item_size u.count };
 
+    #[inline(always)]
     fn enter(self, visitor: &mut Visitor<'_>) -> Result<(), Refusal> {
         let bytes = match self.item_size {
             Some(size) => size.checked_mul(self.count),

@@ -64,6 +64,7 @@ pub struct Inside<P>(pub Key, pub usize, pub P);
 impl<P: Part> Part for Inside<P> {
     ghost may_show = { λ e. shows.Inside e.0 e.1 (P.may_show e.2) };
 
+    #[inline(always)]
     fn enter(self, visitor: &mut Visitor<'_>) -> Result<(), Refusal> {
         let outer = visitor.collector.go_in(self.0, self.1)?;
         let answer = self.2.enter(visitor);
@@ -84,6 +85,7 @@ pub struct Declared<P>(pub Key, pub Option<usize>, pub P);
 impl<P: Part> Part for Declared<P> {
     ghost may_show = { λ e. shows.Field e.0 e.1 (P.may_show e.2) };
 
+    #[inline(always)]
     fn enter(self, visitor: &mut Visitor<'_>) -> Result<(), Refusal> {
         let outer = visitor.collector.go_in_sized(self.0, self.1)?;
         let answer = self.2.enter(visitor);
@@ -103,6 +105,7 @@ pub struct Unique<P>(pub Key, pub usize, pub P);
 impl<P: Part> Part for Unique<P> {
     ghost may_show = { λ e. shows.InsideUnique e.0 e.1 (P.may_show e.2) };
 
+    #[inline(always)]
     fn enter(self, visitor: &mut Visitor<'_>) -> Result<(), Refusal> {
         let outer = visitor.collector.go_in_unique(self.0, self.1)?;
         let answer = self.2.enter(visitor);
@@ -124,6 +127,7 @@ pub struct Field<V>(pub Key, pub V);
 impl<'a, T: Allocative + Described> Part for Field<&'a T> {
     ghost may_show = { λ f. shows.Field f.0 T.size (T.may_show f.1.now) };
 
+    #[inline(always)]
     fn enter(self, visitor: &mut Visitor<'_>) -> Result<(), Refusal> {
         Declared(self.0, T::size(), self.1).enter(visitor)
     }
@@ -194,6 +198,7 @@ impl<P: Part, Q: Part> Part for Either<P, Q> {
 impl<P: Part> Part for (P,) {
     ghost may_show = { λ e. P.may_show e.0 };
 
+    #[inline(always)]
     fn enter(self, visitor: &mut Visitor<'_>) -> Result<(), Refusal> {
         self.0.enter(visitor)
     }
@@ -202,6 +207,7 @@ impl<P: Part> Part for (P,) {
 impl<P: Part, Q: Part> Part for (P, Q) {
     ghost may_show = { λ e. shows.Both (P.may_show e.0) (Q.may_show e.1) };
 
+    #[inline(always)]
     fn enter(self, visitor: &mut Visitor<'_>) -> Result<(), Refusal> {
         let (first, second) = self;
         first.enter(visitor)?;
@@ -212,6 +218,7 @@ impl<P: Part, Q: Part> Part for (P, Q) {
 impl<P: Part, Q: Part, R: Part> Part for (P, Q, R) {
     ghost may_show = { λ e. shows.Both (P.may_show e.0) (shows.Both (Q.may_show e.1) (R.may_show e.2)) };
 
+    #[inline(always)]
     fn enter(self, visitor: &mut Visitor<'_>) -> Result<(), Refusal> {
         let (first, second, third) = self;
         (first, (second, third)).enter(visitor)
@@ -221,6 +228,7 @@ impl<P: Part, Q: Part, R: Part> Part for (P, Q, R) {
 impl<P: Part, Q: Part, R: Part, S: Part> Part for (P, Q, R, S) {
     ghost may_show = { λ e. shows.Both (P.may_show e.0) (shows.Both (Q.may_show e.1) (shows.Both (R.may_show e.2) (S.may_show e.3))) };
 
+    #[inline(always)]
     fn enter(self, visitor: &mut Visitor<'_>) -> Result<(), Refusal> {
         let (first, second, third, fourth) = self;
         (first, (second, third, fourth)).enter(visitor)
@@ -230,6 +238,7 @@ impl<P: Part, Q: Part, R: Part, S: Part> Part for (P, Q, R, S) {
 impl<P: Part, Q: Part, R: Part, S: Part, T: Part> Part for (P, Q, R, S, T) {
     ghost may_show = { λ e. shows.Both (P.may_show e.0) (shows.Both (Q.may_show e.1) (shows.Both (R.may_show e.2) (shows.Both (S.may_show e.3) (T.may_show e.4)))) };
 
+    #[inline(always)]
     fn enter(self, visitor: &mut Visitor<'_>) -> Result<(), Refusal> {
         let (first, second, third, fourth, fifth) = self;
         (first, (second, third, fourth, fifth)).enter(visitor)

@@ -34,6 +34,7 @@ pub(crate) fn are_shown_each<T: Described>() -> bool
 
 impl Visitor<'_> {
     // One inline entry of a size; TooLarge where there is none.
+    #[inline(always)]
     pub(crate) fn visit_sized(&mut self, name: Key, size: Option<usize>) -> Result<(), Refusal>
         ensures entered { Entered (Field name size Nothing) self.old self.new result }
         ensures exact { MakesPlan (one name size) self.old self.new result }

@@ -16,6 +16,7 @@ use allocative_graph::refusal::Refusal;
 
 impl Visitor<'_> {
     /// One inline entry of the declared name and size of `T`; TooLarge where there is no size, and else refused as `enter` is.
+    #[inline(always)]
     pub fn visit_simple_sized<T: Described>(&mut self) -> Result<(), Refusal>
         ensures entered { Entered (Field T.name T.size Nothing) self.old self.new result }
         ensures exact { MakesPlan (one T.name T.size) self.old self.new result }

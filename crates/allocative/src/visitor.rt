@@ -28,6 +28,7 @@ pub struct Visitor<'a> {
 }
 
 impl Drop for Visitor<'_> {
+    #[inline(always)]
     fn drop(self)
         ensures { Exits self.entry self.exit.0.now }
     {
@@ -45,6 +46,7 @@ impl Collector {
     /// A collector that has failed answers its first cause. Otherwise it is refused with TooLarge exactly where a bound would
     /// be passed, tested before memory is asked for; a flame graph's collector may else be refused with Memory. After a
     /// refusal the collector has failed.
+    #[inline(always)]
     pub(crate) fn enter(&mut self, key: Key, size: usize) -> Result<Visitor<'_>, Refusal>
         ensures* lent { sem 𝓛 (LendsEntered false key size self.entry result) }
         ensures same_reference { IfOk result (λ v. v.collector.ghost_name ≡ self.entry.ghost_name) }
@@ -59,6 +61,7 @@ impl Collector {
     }
 
     /// Enters as unique: the same as `enter` with a unique entry.
+    #[inline(always)]
     pub(crate) fn enter_unique(&mut self, key: Key, size: usize) -> Result<Visitor<'_>, Refusal>
         ensures* lent { sem 𝓛 (LendsEntered true key size self.entry result) }
         ensures same_reference { IfOk result (λ v. v.collector.ghost_name ≡ self.entry.ghost_name) }
@@ -73,6 +76,7 @@ impl Collector {
     }
 
     /// Enters inline with a declared size: the same as `enter`, and TooLarge where there is no size.
+    #[inline(always)]
     pub(crate) fn enter_sized(
         &mut self,
         key: Key,
@@ -257,6 +261,7 @@ impl Visitor<'_> {
 
 impl Visitor<'_> {
     /// One step back, as the end of its scope. It takes no memory and never refuses.
+    #[inline(always)]
     pub fn exit(self)
         ensures { Exits self.entry self.exit.0.now }
     {
@@ -271,6 +276,7 @@ impl Visitor<'_> {
     }
 
     /// One inline entry of `size` bytes. It is refused as `enter` is.
+    #[inline(always)]
     pub fn visit_simple(&mut self, key: Key, size: usize) -> Result<(), Refusal>
         ensures entered { Entered (Inside key size Nothing) self.old self.new result }
         ensures exact { MakesPlan (one key (Some size)) self.old self.new result }

@@ -1,9 +1,9 @@
 -- The parts of a graph's collector after each step: one entry more, down and back, and the identities met.
-use Rattle.std.proofs.Common.{◌≡◌, ℕ, suc, pred, ◌+◌, ◌-◌, ◌^◌, ◌<◌, Bool, true, false, cond, not, ◌||◌, ◌&&◌, ◌==◌, List, [], ◌∷◌, ◌++◌, map, reverse, length, get_or, Ordering, Less, Equal, Greater, refl, sym, ap, subst, ◌∙◌, arith, inl, inr, length-append}
+use Rattle.std.proofs.Common.{◌≡◌, ◌≢◌, ℕ, suc, pred, ◌+◌, ◌-◌, ◌^◌, ◌<◌, ◌≤◌, Bool, true, false, cond, not, ◌||◌, ◌&&◌, ◌==◌, List, [], ◌∷◌, ◌++◌, map, reverse, length, get_or, Ordering, Less, Equal, Greater, refl, sym, ap, subst, ◌∙◌, arith, inl, inr, length-append}
 use Rattle.std.specs.List.{list_any}
 use Rattle.std.specs.Ordering.{is_eq, nat_cmp, ordering_then}
 use Rattle.std.specs.FinSet.{from_list, contains, insert, same_set, contains-from_list, contains-insert}
-use Rattle.std.proofs.lemmas.List.{map-append, reverse-append, get_or_append_left, get_or-append_right}
+use Rattle.std.proofs.lemmas.List.{map-append, reverse-append, length-map, length-reverse, get_or_append_left, get_or-append_right}
 use Rattle.std.proofs.lemmas.Bool.{cases_lt}
 use Rattle.std.proofs.lemmas.Bool.Decides.{nat_tests}
 use Rattle.allocative_graph.specs.Identity.{Identity, identity_cmp, is_same_identity}
@@ -15,7 +15,7 @@ use Rattle.allocative_graph.specs.Collector.{Live, no_entries, go, leave_live, l
 use Rattle.allocative_graph.proofs.Below.{entered-empty}
 use Rattle.allocative_graph.proofs.Basics.{identity_total, identity_antisymmetric, same_identity_turned}
 use Rattle.allocative_collectors.specs.Listed.{Listed, root_sum, path_at, map_of}
-use Rattle.allocative_collectors.specs.Places.{live, to_root, IsPlaced, AddedAt}
+use Rattle.allocative_collectors.specs.Places.{live, to_root, outside, back_from, back_at, IsPlaced, AddedAt}
 use Rattle.allocative_collectors.proofs.Adds.{total_entered, length_entered, path_entered}
 use Rattle.allocative_collectors.proofs.Bridge.{map_of-add, entered-map_of, not_root}
 
@@ -72,54 +72,120 @@ placed_new = record {
   bound = omega arith;
   rooted = omega arith;
   root_path = refl;
-  outermost = refl;
 }
 
 pub live_new : live (root_sum ∷ []) [] 0 [] false ≡ no_entries
 live_new = refl
 
 -- ---- going down and back
-back_more : (f : ℕ → Path) (places : List ℕ) (current : ℕ) (bottom : List Path) → reverse (map f (places ++ current ∷ [])) ++ bottom ≡ f current ∷ (reverse (map f places) ++ bottom)
-back_more f places current bottom = ap (λ (l : List Path). reverse l ++ bottom) (map-append f places (current ∷ [])) ∙ ap (λ (l : List Path). l ++ bottom) (reverse-append (map f places) (f current ∷ []))
+outside_push : (p : Path) (k : Key) → outside (p ++ k ∷ []) ≡ p ∷ outside p
+outside_push [] k = refl
+outside_push (x ∷ p) k = ap (λ (l : List Path). map (λ (q : Path). x ∷ q) l ++ [] ∷ []) (outside_push p k)
 
-module _ (t : Listed) (met : List Identity) (current : ℕ) (places : List ℕ) (rooted : Bool) where
-  pub went : (node : ℕ) → live t met node (places ++ current ∷ []) rooted ≡ go (path_at t node) (live t met current places rooted)
-  went node =
-      let one_more : length (places ++ current ∷ []) + cond rooted 1 0 ≡ suc (length places + cond rooted 1 0) = omega (arith, length-append places (current ∷ [])) in
-      λ i. record {
-        sums = map_of t;
-        met = from_list met;
-        here = path_at t node;
-        back = back_more (path_at t) places current (to_root rooted) i;
-        open_visitors = one_more i;
-      }
+turned : (f : ℕ → Path) (places : List ℕ) (current : ℕ) → reverse (map f (places ++ current ∷ [])) ≡ f current ∷ reverse (map f places)
+turned f places current = ap reverse (map-append f places (current ∷ [])) ∙ reverse-append (map f places) (f current ∷ [])
 
-  pub came_back : (before : List ℕ) (place : ℕ) → places ≡ before ++ place ∷ [] → live t met place before rooted ≡ leave_live (live t met current places rooted)
-  came_back before place is =
-      let one_less : length before + cond rooted 1 0 ≡ pred (length places + cond rooted 1 0) = less (length before) (length places) (cond rooted 1 0) (ap length is ∙ length-append before (place ∷ [])) in
-      let stack : reverse (map (path_at t) places) ++ to_root rooted ≡ path_at t place ∷ (reverse (map (path_at t) before) ++ to_root rooted) =
-      ap (λ (l : List ℕ). reverse (map (path_at t) l) ++ to_root rooted) is ∙ back_more (path_at t) before place (to_root rooted) in
-      λ i. record {
-        sums = map_of t;
-        met = from_list met;
-        here = last_of (sym stack i);
-        back = before_last (sym stack i);
-        open_visitors = one_less i;
-      }
-    where
-      down_one : (m n : ℕ) → n ≡ suc m → m ≡ pred n
-      down_one m n e = ap pred (sym e)
+module _ (t : Listed) (met : List Identity) where
+  module _ (outer inner : ℕ) (before after : List ℕ) (rooted : Bool) (stack : back_at t inner after rooted ≡ path_at t outer ∷ back_at t outer before rooted) where
+    pub went : live t met inner after rooted ≡ go (path_at t inner) (live t met outer before rooted)
+    went = λ i. record { sums = map_of t; met = from_list met; here = path_at t inner; back = stack i; open_visitors = length (stack i) }
 
-      less : (m n r : ℕ) → n ≡ m + 1 → m + r ≡ pred (n + r)
-      less m n r e = down_one (m + r) (n + r) (omega (arith, e))
+    pub came_back : live t met outer before rooted ≡ leave_live (live t met inner after rooted)
+    came_back = λ i. record {
+      sums = map_of t;
+      met = from_list met;
+      here = last_of (sym stack i);
+      back = before_last (sym stack i);
+      open_visitors = pred (length (sym stack i));
+    }
 
--- the root visitor, or none, is left
-pub came_to_root : (t : Listed) (met : List Identity) (current : ℕ) (rooted : Bool) → path_at t 0 ≡ [] → current ≡ 0 → live t met current [] false ≡ leave_live (live t met current [] rooted)
-came_to_root t met current true root at = λ i. record { sums = map_of t; met = from_list met; here = (ap (path_at t) at ∙ root) i; back = []; open_visitors = 0 }
-came_to_root t met current false root at = λ i. record { sums = map_of t; met = from_list met; here = (ap (path_at t) at ∙ root) i; back = []; open_visitors = 0 }
+  -- a node and the one above it
+  pub one_up : (outer inner : ℕ) (places : List ℕ) (rooted : Bool) (k : Key) → path_at t inner ≡ path_at t outer ++ k ∷ [] → back_at t inner places rooted ≡ path_at t outer ∷ back_at t outer places rooted
+  one_up outer inner places rooted k path =
+      let rest = back_from (reverse (map (path_at t) places)) (to_root rooted) in
+      ap (λ (q : Path). outside q ++ rest) path ∙ ap (λ (l : List Path). l ++ rest) (outside_push (path_at t outer) k)
 
-pub at_root : (t : Listed) (met : List Identity) (current : ℕ) → path_at t 0 ≡ [] → current ≡ 0 → live t met current [] true ≡ go [] (live t met current [] false)
-at_root t met current root at = λ i. record { sums = map_of t; met = from_list met; here = (ap (path_at t) at ∙ root) i; back = sym (ap (path_at t) at ∙ root) i ∷ []; open_visitors = 1 }
+  -- a content's root and the place where it was entered
+  pub one_out : (outer inner : ℕ) (before after : List ℕ) (rooted : Bool) → path_at t inner ≡ [] → after ≡ before ++ outer ∷ [] → back_at t inner after rooted ≡ path_at t outer ∷ back_at t outer before rooted
+  one_out outer inner before after rooted root is =
+      ap (λ (q : Path). outside q ++ back_from (reverse (map (path_at t) after)) (to_root rooted)) root
+      ∙ ap (λ (l : List Path). back_from l (to_root rooted)) (ap (λ (l : List ℕ). reverse (map (path_at t) l)) is ∙ turned (path_at t) before outer)
+
+  -- a collector at the path p, with no content entered
+  abbrev alone : Path → Bool → Live
+  alone p rooted = record {
+    sums = map_of t;
+    met = from_list met;
+    here = p;
+    back = outside p ++ to_root rooted;
+    open_visitors = length (outside p ++ to_root rooted);
+  }
+
+  left_alone : (rooted : Bool) → alone [] false ≡ leave_live (alone [] rooted)
+  left_alone true = refl
+  left_alone false = refl
+
+  -- the root visitor, or none, is left
+  pub came_to_root : (current : ℕ) (rooted : Bool) → path_at t current ≡ [] → live t met current [] false ≡ leave_live (live t met current [] rooted)
+  came_to_root current rooted root = (λ i. alone (root i) false) ∙ (left_alone rooted ∙ (λ i. leave_live (alone (sym root i) rooted)))
+
+  pub at_root : (current : ℕ) → path_at t current ≡ [] → live t met current [] true ≡ go [] (live t met current [] false)
+  at_root current root = (λ i. alone (root i) true) ∙ (λ i. go [] (alone (sym root i) false))
+
+-- ---- no visitor is out
+length_outside : (p : Path) → length (outside p) ≡ length p
+length_outside [] = refl
+length_outside (k ∷ p) = omega (arith, length-append (map (λ (q : Path). k ∷ q) (outside p)) ([] ∷ []), length-map (outside p) (λ (q : Path). k ∷ q), length_outside p)
+
+no_keys : (p : Path) → length p ≡ 0 → p ≡ []
+no_keys [] e = refl
+no_keys (k ∷ p) e = absurd (omega arith)
+
+pub no_places : (places : List ℕ) → length places ≡ 0 → places ≡ []
+no_places [] e = refl
+no_places (p ∷ places) e = absurd (omega arith)
+
+not_rooted : (rooted : Bool) → length (to_root rooted) ≡ 0 → rooted ≡ false
+not_rooted true e = absurd (omega arith)
+not_rooted false e = refl
+
+length_from : (ps last : List Path) → length ps + length last ≤ length (back_from ps last)
+length_from [] last = omega arith
+length_from (p ∷ ps) last = omega (arith, length-append (outside p) (back_from ps last), length_from ps last)
+
+pub count_none : (n : ℕ) → (n == 0) ≡ true → n ≡ 0
+count_none n e = grind (arith, nat_tests)
+
+pub none_counted : (n : ℕ) → n ≡ 0 → (n == 0) ≡ true
+none_counted n e = grind (arith, nat_tests)
+
+-- the current place is the root, no content is entered, and no root visitor is out
+pub record IsOut (t : Listed) (current : ℕ) (places : List ℕ) (rooted : Bool) : Type 0 where
+  pub root : path_at t current ≡ []
+  pub no_place : places ≡ []
+  pub no_visitor : rooted ≡ false
+
+module _ (t : Listed) (current : ℕ) (places : List ℕ) (rooted : Bool) where
+  length_back : length (path_at t current) + (length places + length (to_root rooted)) ≤ length (back_at t current places rooted)
+  length_back =
+      let ps = reverse (map (path_at t) places) in
+      let many : length ps ≡ length places = length-reverse (map (path_at t) places) ∙ length-map places (path_at t) in
+      omega (arith, length-append (outside (path_at t current)) (back_from ps (to_root rooted)), length_outside (path_at t current), length_from ps (to_root rooted), many)
+
+  pub not_closed : (outer : ℕ) (k : Key) → path_at t current ≡ path_at t outer ++ k ∷ [] → length (back_at t current places rooted) ≢ 0
+  not_closed outer k path none = let longer = ap length path in omega (arith, length_back, none, length-append (path_at t outer) (k ∷ []))
+
+  pub closed : length (back_at t current places rooted) ≡ 0 → IsOut t current places rooted
+  closed none = record {
+    root = no_keys (path_at t current) (omega (arith, length_back, none));
+    no_place = no_places places (omega (arith, length_back, none));
+    no_visitor = not_rooted rooted (omega (arith, length_back, none));
+  }
+
+  pub nothing_back : IsOut t current places rooted → back_at t current places rooted ≡ []
+  nothing_back o =
+      ap (λ (q : Path). outside q ++ back_from (reverse (map (path_at t) places)) (to_root rooted)) o.root
+      ∙ (ap (λ (l : List ℕ). back_from (reverse (map (path_at t) l)) (to_root rooted)) o.no_place ∙ ap to_root o.no_visitor)
 
 -- ---- one entry more
 kept_back : (old new : Listed) → ((i : ℕ) → i < length old → path_at new i ≡ path_at old i) → (ps : List ℕ) → ((j : ℕ) → j < length ps → get_or ps j 0 < length old) → map (path_at new) ps ≡ map (path_at old) ps
@@ -141,7 +207,6 @@ module _ (t new : Listed) (met : List Identity) (current : ℕ) (places : List �
     bound = omega (arith, entered.fits, entered.count);
     rooted = omega (arith, length_entered entered.is, ok.rooted);
     root_path = path_entered entered.is 0 ok.rooted ∙ ok.root_path;
-    outermost = ok.outermost;
   }
 
   pub live_added : (m : Mark) → is_unique_mark m ≡ u → live new met current places rooted ≡ record (live t met current places rooted) { sums = bag.add (map_of t) (record { path = path_at t current ++ k ∷ []; size = size; mark = m }) }
@@ -149,11 +214,25 @@ module _ (t new : Listed) (met : List Identity) (current : ℕ) (places : List �
     sums = (ap map_of entered.is.sums ∙ map_of-add t (record { path = path_at t current ++ k ∷ []; size = size; mark = m }) u ok.rooted ok.root_path (not_root (path_at t current) k) mark) i;
     met = from_list met;
     here = path_entered entered.is current ok.here i;
-    back = reverse (kept_back t new (path_entered entered.is) places ok.back i) ++ to_root rooted;
-    open_visitors = length places + cond rooted 1 0;
+    back = back i;
+    open_visitors = length (back i);
   }
+    where
+      back : back_at new current places rooted ≡ back_at t current places rooted
+      back = λ i. outside (path_entered entered.is current ok.here i) ++ back_from (reverse (kept_back t new (path_entered entered.is) places ok.back i)) (to_root rooted)
 
 -- ---- the places
+pub placed_at : (t : Listed) (current : ℕ) (places : List ℕ) (n : ℕ) → IsPlaced t current places n → (node : ℕ) → node < length t → IsPlaced t node places n
+placed_at t current places n ok node h = record {
+  here = h;
+  back = ok.back;
+  entered_is = ok.entered_is;
+  total_is = ok.total_is;
+  bound = ok.bound;
+  rooted = ok.rooted;
+  root_path = ok.root_path;
+}
+
 pub placed_gone : (t : Listed) (current : ℕ) (places : List ℕ) (n : ℕ) → IsPlaced t current places n → (node : ℕ) → node < length t → IsPlaced t node (places ++ current ∷ []) n
 placed_gone t current places n ok node h = record {
   here = h;
@@ -169,7 +248,6 @@ placed_gone t current places n ok node h = record {
   bound = ok.bound;
   rooted = ok.rooted;
   root_path = ok.root_path;
-  outermost = get_or_append_left (places ++ current ∷ []) (node ∷ []) 0 0 (omega (arith, length-append places (current ∷ []))) ∙ ok.outermost;
 }
 
 pub placed_back : (t : Listed) (current : ℕ) (places : List ℕ) (n : ℕ) → IsPlaced t current places n → (before : List ℕ) (place : ℕ) → places ≡ before ++ place ∷ [] → IsPlaced t place before n
@@ -185,7 +263,6 @@ placed_back t current places n ok before place is =
       bound = ok.bound;
       rooted = ok.rooted;
       root_path = ok.root_path;
-      outermost = ap (λ (l : List ℕ). get_or l 0 0) (sym is) ∙ (sym (get_or_append_left places (current ∷ []) 0 0 (omega arith)) ∙ ok.outermost);
     }
 
 -- ---- a whole step
@@ -207,15 +284,18 @@ module _ (t new : Listed) (met : List Identity) (current : ℕ) (places : List �
   node_path : path_at new node ≡ path_at t current ++ k ∷ []
   node_path = entered.is.path
 
-  pub gone_down : live new met node (places ++ current ∷ []) rooted ≡ enter_live u k size (live t met current places rooted)
+  same_path : path_at new current ≡ path_at t current
+  same_path = path_entered entered.is current ok.here
+
+  pub gone_down : live new met node places rooted ≡ enter_live u k size (live t met current places rooted)
   gone_down =
-      went new met current places rooted node
+      went new met current node places places rooted (one_up new met current node places rooted k (node_path ∙ ap (λ (q : Path). q ++ k ∷ []) (sym same_path)))
       ∙ (λ i. go (node_path i) (live_added t new met current places rooted n ok k size u more node entered (mark_of u) (mark_is u) i))
       ∙ enter_is u k size (live t met current places rooted)
 
   pub gone_first : (i : Identity) (now : List Identity) → from_list {R = identity_cmp} now ≡ insert (from_list met) i → u ≡ false → live new now 0 (places ++ current ∷ []) rooted ≡ enter_first k size i (live t met current places rooted)
   gone_first i now one_new plain =
-      went new now current places rooted 0
+      went new now current 0 places (places ++ current ∷ []) rooted (one_out new now current 0 places (places ++ current ∷ []) rooted root refl)
       ∙ (λ j. go (root j) (record (live_added t new met current places rooted n ok k size u more node entered (AsShared i) (sym plain) j) { met = one_new j }))
     where
       root : path_at new 0 ≡ []

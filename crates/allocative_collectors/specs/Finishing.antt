@@ -26,3 +26,7 @@ pub record Makes (s : Listed) (i : ℕ) (written written' : List ℕ) (g : Graph
   pub warnings_are : written' ≡ written ++ flat_map (warning_at s) (i ∷ others)
   pub graph_is : (q : Path) → get g q ≡ get (graph (map_of s)) (path_at s i ++ q)
   pub total_is : total g ≡ sum_by (size_at s) (i ∷ others)
+
+-- One walk from place i on made the graph g, and there were no warnings.
+abbrev pub MakesAlone : Listed → ℕ → Graph → Type 0
+MakesAlone s i g = (written : List ℕ) → Makes s i written written g

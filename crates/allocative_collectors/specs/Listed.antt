@@ -46,6 +46,12 @@ pub record IsEntered (old new : Listed) (at : ℕ) (k : Key) (n : ℕ) (u : Bool
   pub within : i < length new
   pub path : path_at new i ≡ path_at old at ++ k ∷ []
 
+-- The path at i is that at p and one key more.
+pub record IsAbove (s : Listed) (i : ℕ) (p : ℕ) : Type 0 where
+  pub key : Key
+  pub within : p < length s
+  pub path : path_at s i ≡ path_at s p ++ key ∷ []
+
 -- ---- as a map
 -- A path with what was entered there.
 abbrev pub row : Sum → Path × Node

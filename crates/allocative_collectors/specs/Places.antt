@@ -13,17 +13,31 @@ use Rattle.allocative_collectors.specs.Listed.{Listed, path_at, total, map_of, I
 abbrev pub to_root : Bool → List Path
 to_root is_rooted = cond is_rooted ([] ∷ []) []
 
--- What the parts are as a collector: the current place, the places to go back to, the last one last, and whether a root visitor is out below them.
+-- The paths outside p, from the next one to the root's.
+abbrev pub outside : Path → List Path
+outside [] = []
+outside (k ∷ p) = map (λ (q : Path). k ∷ q) (outside p) ++ [] ∷ []
+
+-- The paths to go back to from contents that were entered at the paths ps, and behind them the last ones.
+abbrev pub back_from : List Path → List Path → List Path
+back_from [] last = last
+back_from (p ∷ ps) last = p ∷ (outside p ++ back_from ps last)
+
+-- The paths to go back to: those outside the current one, and then those of each content that it stands in.
+abbrev pub back_at : Listed → ℕ → List ℕ → Bool → List Path
+back_at t current places is_rooted = outside (path_at t current) ++ back_from (reverse (map (path_at t) places)) (to_root is_rooted)
+
+-- What the parts are as a collector: the current place, the places where contents were entered, the last one last, and whether a root visitor is out below them.
 abbrev pub live : Listed → List Identity → ℕ → List ℕ → Bool → Live
 live t met current places is_rooted = record {
   sums = map_of t;
   met = from_list met;
   here = path_at t current;
-  back = reverse (map (path_at t) places) ++ to_root is_rooted;
-  open_visitors = length places + cond is_rooted 1 0;
+  back = back_at t current places is_rooted;
+  open_visitors = length (back_at t current places is_rooted);
 }
 
--- The places stand in the list, which starts with the root, the outermost one is the root's, and n is the bytes entered.
+-- The places stand in the list, which starts with the root, and n is the bytes entered.
 pub record IsPlaced (t : Listed) (current : ℕ) (places : List ℕ) (n : ℕ) : Type 0 where
   pub here : current < length t
   pub back : (j : ℕ) → j < length places → slice_index places j < length t
@@ -32,7 +46,6 @@ pub record IsPlaced (t : Listed) (current : ℕ) (places : List ℕ) (n : ℕ) :
   pub bound : n < 2 ^ 63
   pub rooted : 0 < length t
   pub root_path : path_at t 0 ≡ []
-  pub outermost : slice_index (places ++ current ∷ []) 0 ≡ 0
 
 -- The n bytes fit beside those that were entered before, and were entered under k at the path of place `at`; node is the place of that path now.
 pub record AddedAt (old new : Listed) (at : ℕ) (k : Key) (n : ℕ) (u : Bool) (was now : ℕ) (node : ℕ) : Type 0 where

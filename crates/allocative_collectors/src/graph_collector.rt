@@ -23,7 +23,7 @@ pub struct GraphCollector {
     tree: Tree,
     // the node of the current path
     current: usize,
-    // the nodes to go back to, the last one last
+    // the nodes to go back to from the contents that are entered, the last one last
     places: Vec<usize>,
     met: HashSet<Identity>,
     // whether a root visitor is out
@@ -67,13 +67,14 @@ impl GraphCollector {
     ///
     /// It is refused with TooLarge exactly where all bytes entered would pass `isize::MAX`, which is tested before memory is asked
     /// for, and else with Memory. TooLarge changes nothing; after Memory the path may be there, and its bytes may be counted.
+    #[inline(always)]
     pub fn enter(&mut self, key: &Key, size: usize, is_unique: bool) -> Result<(), Refusal>
         ensures ok { OnOk result ((entered self.old.sums + size < 2 ^ 63) × (self.new ≡ enter_live is_unique key.now size self.old)) }
         ensures err { IfErr result (Refuses is_unique size (OfGraph self.old)) }
         ensures kept { IfErr result (λ e. e ≡ Refusal.TooLarge → self.new ≡ self.old) }
     {
         let here = self.current;
-        let node = add(
+        self.current = add(
             &mut self.tree,
             &mut self.entered,
             here,
@@ -81,10 +82,6 @@ impl GraphCollector {
             size,
             is_unique,
         )?;
-        if self.places.push(here).is_err() {
-            return Err(Refusal::Memory);
-        }
-        self.current = node;
         Ok(())
     }
 
@@ -111,7 +108,20 @@ impl GraphCollector {
     }
 
     /// A visitor less: back to where the one outside stands. It takes no memory.
+    #[inline(always)]
     pub fn leave(&mut self)
+        ensures { self.new ≡ leave_live self.old }
+    {
+        match self.tree.parent(self.current) {
+            Some(parent) => self.current = parent,
+            None => self.leave_root(),
+        }
+    }
+
+    // The same at the root: back to where the content was entered, or out of the root visitor.
+    #[inline(never)]
+    fn leave_root(&mut self)
+        requires { self.old.here ≡ [] }
         ensures { self.new ≡ leave_live self.old }
     {
         match self.places.pop() {
@@ -125,7 +135,11 @@ impl GraphCollector {
         ensures closed { IsTrue result ↔ IsClosed (OfGraph self.now) }
         ensures at_root { IsTrue result → IsAtRoot (OfGraph self.now) }
     {
-        self.places.is_empty() && !self.is_rooted
+        match self.tree.parent(self.current) {
+            Some(_) => false,
+            None if self.is_rooted => false,
+            None => self.places.is_empty(),
+        }
     }
 
     /// A root visitor more, where no visitor is out.
@@ -147,6 +161,7 @@ impl GraphCollector {
 }
 
 // One entry under the place `at`, where the bytes fit: its node. The bound is tested before memory is asked for.
+#[inline(always)]
 fn add(
     tree: &mut Tree,
     entered: &mut usize,

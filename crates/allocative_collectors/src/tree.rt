@@ -1,9 +1,9 @@
 //! The paths that were entered, as an arena of nodes that name one another by number.
-ghost use Rattle.std.specs.Prelude.{◌≡◌, ◌+◌, ◌^◌, ◌<◌, ℕ, [], ◌∷◌, ◌++◌, length, map, slice_index, string_bytes, EachIndex, IfOk, IfErr, OnOk, OnErr, IsTrue, false};
+ghost use Rattle.std.specs.Prelude.{◌≡◌, ◌+◌, ◌^◌, ◌<◌, ℕ, [], ◌∷◌, ◌++◌, length, map, slice_index, string_bytes, EachIndex, IfOk, IfErr, IfSome, IfNone, OnOk, OnErr, IsTrue, false};
 ghost use Rattle.allocative_graph.specs.Graph.{warning_line, total as graph_total};
 ghost use Rattle.allocative_graph.specs.Visits.{IsProfile};
-ghost use Rattle.allocative_collectors.specs.Listed.{root_sum, add, total, path_at, map_of, IsEntered};
-ghost use Rattle.allocative_collectors.specs.Finishing.{size_at, is_short, Makes};
+ghost use Rattle.allocative_collectors.specs.Listed.{root_sum, add, total, path_at, map_of, IsEntered, IsAbove};
+ghost use Rattle.allocative_collectors.specs.Finishing.{size_at, is_short, Makes, MakesAlone};
 ghost use Rattle.allocative_collectors.specs.Shapes.{keys_of, KeysRise, IsPlace, IsGap};
 ghost use Rattle.allocative_collectors.specs.Nodes.{shape};
 
@@ -78,7 +78,7 @@ impl Tree {
     }
 
     /// Enters `size` bytes under the node `at`, and gives the node of that path.
-    #[inline]
+    #[inline(always)]
     pub(crate) fn enter(
         &mut self,
         at: usize,
@@ -94,6 +94,20 @@ impl Tree {
         let node = self.child(at, key)?;
         self.raise(node, size, is_unique);
         Ok(node)
+    }
+
+    /// The node one key above, which the root has not.
+    #[inline(always)]
+    pub(crate) fn parent(&self, node: usize) -> Option<usize>
+        requires { node < length self.now }
+        ensures above { IfSome result (IsAbove self.now node) }
+        ensures root { IfNone result (path_at self.now node ≡ []) }
+    {
+        if node == 0 {
+            None
+        } else {
+            Some(self.nodes[node].parent)
+        }
     }
 
     /// The graph and the text of the warnings, in one walk, and the paths that have a warning, by another where there is one.
@@ -127,6 +141,9 @@ impl Tree {
         ensures made { IfOk result (Makes self.now at (string_bytes text.old) (string_bytes text.new)) }
         ensures err { IfErr result (λ e. e ≡ Refusal.Memory) }
     {
+        if let Some(leaf) = self.leaf(at) {
+            return Ok(leaf);
+        }
         let node = &self.nodes[at];
         let mut graph = FlameGraph::with_capacity(self.alloc, node.children.len())?;
         graph.add_self(self.size(at))?;
@@ -141,6 +158,22 @@ impl Tree {
             let _ = keys.pop();
         }
         Ok(graph)
+    }
+
+    /// The graph from a node on that has no children and no warning; it takes no memory.
+    #[inline(always)]
+    fn leaf(&self, at: usize) -> Option<FlameGraph>
+        requires { at < length self.now }
+        ensures { IfSome result (λ graph. MakesAlone self.now at graph) }
+    {
+        if !self.nodes[at].children.is_empty() || self.is_short(at) {
+            return None;
+        }
+        let mut graph = FlameGraph::default(self.alloc);
+        match graph.add_self(self.size(at)) {
+            Ok(()) => Some(graph),
+            Err(_) => None,
+        }
     }
 
     /// The size that the graph has at a node.
@@ -172,7 +205,7 @@ impl Tree {
     /// The child of the node `at` that has the key, made where there is none.
     ///
     /// Entries often come in the order in which they came before: the child that followed the last one is tried first.
-    #[inline]
+    #[inline(always)]
     fn child(&mut self, at: usize, key: &Key) -> Result<usize, AllocError>
         requires { at < length self.old }
         ensures entered { IfOk result (IsEntered self.old self.new at key.now 0 false) }
@@ -189,7 +222,7 @@ impl Tree {
     }
 
     /// Whether the number is that of the child of the node `at` that has the key.
-    #[inline]
+    #[inline(always)]
     fn is_child(&self, at: usize, key: &Key, number: usize) -> bool
         requires { at < length self.now }
         ensures { IsTrue result → IsEntered self.now self.now at key.now 0 false number }
@@ -201,7 +234,7 @@ impl Tree {
     }
 
     /// The child was entered last, and the one after it is expected next.
-    #[inline]
+    #[inline(always)]
     fn expect_follower(&mut self, at: usize, child: usize)
         requires parent { at < length self.old }
         requires child { child < length self.old }
@@ -261,7 +294,7 @@ impl Tree {
     }
 
     /// Enters `size` bytes at a node other than the root.
-    #[inline]
+    #[inline(always)]
     fn raise(&mut self, node: usize, size: usize, is_unique: bool)
         requires not_root { 0 < node }
         requires within { node < length self.old }
@@ -278,7 +311,7 @@ impl Tree {
 }
 
 /// The number as a guess of a node's number. Where it takes more than 32 bits, the guess is wrong, which costs a search.
-#[inline]
+#[inline(always)]
 fn guess(number: usize) -> u32 {
     u32::try_from(number).unwrap_or(0)
 }

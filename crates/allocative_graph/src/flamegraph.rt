@@ -1,6 +1,7 @@
 //! Flame graphs: maps from paths of keys to sizes.
 ghost use Rattle.std.specs.Prelude.{◌≡◌, ◌+◌, ◌^◌, ◌<◌, ◌≤◌, ◌↔◌, ◌++◌, [], ◌∷◌, IfOk, IfErr, IfSome, IfNone, OnOk, OnErr, IsErrOf, string_bytes, map, length, is_ok};
 ghost use Rattle.std.specs.Bool.{OnFalse};
+ghost use Rattle.std.specs.List.{insert};
 ghost use Rattle.std.specs.Vec.{vec_capacity};
 ghost use Rattle.std.specs.FinMap as map;
 ghost use Rattle.allocative_graph.specs.Path.{key_cmp};
@@ -366,11 +367,26 @@ fn put_child(children: &mut Vec<Child>, size: &mut usize, child: Child) -> Resul
         }
         Err(at) => {
             let added = graph.total_size();
-            children.insert(at, Child { key, graph })?;
+            put_at(children, at, Child { key, graph })?;
             *size += added;
             Ok(())
         }
     }
+}
+
+// Puts a child in a place. Behind the last one nothing is moved.
+#[inline(always)]
+fn put_at(children: &mut Vec<Child>, at: usize, child: Child) -> Result<(), AllocError>
+    requires { at ≤ length children.old.items }
+    ensures items { OnOk result (children.new.items ≡ insert children.old.items at child) }
+    ensures refused { OnErr result (children.new.items ≡ children.old.items) }
+{
+    if at == children.len() {
+        children.push(child)?;
+    } else {
+        children.insert(at, child)?;
+    }
+    Ok(())
 }
 
 // Puts the merge of both into `children`, which has room for all. After a refusal it goes on, so that no child is lost.

@@ -37,14 +37,14 @@ returns-in-Ok-clause-exact c =
     let change = weight_at_found c.args.children.now.items c.in-Ok.at c.args.child x y found c.index_mut-here.ensures.value in
     omega (arith, part, change, c.requires.exact, c.total_size-before.ensures.total, c.total_size.ensures.total)
 
-pub returns-in_ok-insert-in-Err-clause-merged : goal.returns-in_ok-insert-in-Err-clause-merged
-returns-in_ok-insert-in-Err-clause-merged c =
+pub returns-in_ok-put_at-in-Err-clause-merged : goal.returns-in_ok-put_at-in-Err-clause-merged
+returns-in_ok-put_at-in-Err-clause-merged c =
     let gap = subst (λ ds. IsGap ds c.args.child.key c.in-Err.at) c.deref.ensures.value c.in-Err.ensures.missing in
-    subst (λ es. Merged true c.args.children.now.items (c.args.child ∷ []) es) (sym c.in_ok-insert-in-Err.ensures.items)
+    subst (λ es. Merged true c.args.children.now.items (c.args.child ∷ []) es) (sym c.in_ok-put_at-in-Err.ensures.items)
     (put_at_gap c.args.children.now.items c.in-Err.at c.args.child gap c.requires.children c.requires.tree)
 
-pub returns-in_ok-insert-in-Err-clause-exact : goal.returns-in_ok-insert-in-Err-clause-exact
-returns-in_ok-insert-in-Err-clause-exact c =
+pub returns-in_ok-put_at-in-Err-clause-exact : goal.returns-in_ok-put_at-in-Err-clause-exact
+returns-in_ok-put_at-in-Err-clause-exact c =
     let gap = subst (λ ds. IsGap ds c.args.child.key c.in-Err.at) c.deref.ensures.value c.in-Err.ensures.missing in
     let more = weight_at_gap c.args.children.now.items c.in-Err.at c.args.child gap in
-    omega (arith, more, ap weight c.in_ok-insert-in-Err.ensures.items, c.requires.exact, c.total_size-added.ensures.total)
+    omega (arith, more, ap weight c.in_ok-put_at-in-Err.ensures.items, c.requires.exact, c.total_size-added.ensures.total)

@@ -6,7 +6,7 @@ use Rattle.allocative_collectors.specs.Places.{IsPlaced}
 use Rattle.allocative_collectors.proofs.graph_collector.GraphCollector.new.Goals as goal
 
 root_alone : IsPlaced (root_sum ∷ []) 0 [] 0
-root_alone = record { here = omega arith; back = λ j h. absurd (omega arith); entered_is = sym entered-empty; total_is = refl; bound = omega arith; rooted = omega arith; root_path = refl; outermost = refl }
+root_alone = record { here = omega arith; back = λ j h. absurd (omega arith); entered_is = sym entered-empty; total_is = refl; bound = omega arith; rooted = omega arith; root_path = refl }
 
 pub invariant_of-result : goal.invariant_of-result
 invariant_of-result c = subst (λ (t : Listed). IsPlaced t 0 c.new-2.result.items 0) (sym c.in_ok-tree.ensures) (subst (λ (l : List ℕ). IsPlaced (root_sum ∷ []) 0 l 0) (sym c.new-2.ensures.items) root_alone)

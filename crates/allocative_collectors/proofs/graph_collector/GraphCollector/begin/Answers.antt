@@ -1,0 +1,14 @@
+-- No visitor is out, so the place is the root.
+use Rattle.std.proofs.Common.{true, [], sym, ap, ◌∙◌}
+use Rattle.allocative_graph.specs.Collector.{Live, go}
+use Rattle.allocative_collectors.specs.Places.{live}
+use Rattle.allocative_collectors.proofs.Collect.{closed, at_root}
+use Rattle.allocative_collectors.proofs.graph_collector.GraphCollector.begin.Goals as goal
+
+pub returns : goal.returns
+returns c =
+    let i = c.self.inside in
+    let out = closed i.tree i.current i.places.items i.is_rooted (ap (λ (v : Live). v.open_visitors) c.self.view_is ∙ c.requires) in
+    (λ j. live i.tree i.met.keys i.current (out.no_place j) true)
+    ∙ (at_root i.tree i.met.keys i.current out.root
+    ∙ ((λ j. go [] (live i.tree i.met.keys i.current (sym out.no_place j) (sym out.no_visitor j))) ∙ ap (go []) c.self.view_is))

@@ -1,0 +1,33 @@
+-- No visitor is out exactly where the place is the root, no content is entered and no root visitor is out.
+use Rattle.std.proofs.Common.{◌≡◌, length, true≢false, sym, ap, ◌∙◌, arith}
+use Rattle.allocative_graph.specs.Collector.{Live}
+use Rattle.allocative_collectors.proofs.Collect.{closed, not_closed, nothing_back, no_places, count_none, none_counted, IsOut}
+use Rattle.allocative_collectors.proofs.graph_collector.GraphCollector.is_closed.Goals as goal
+
+pub returns-in-Some-clause-closed : goal.returns-in-Some-clause-closed
+returns-in-Some-clause-closed c =
+    let i = c.self.inside in
+    let above = c.in-Some.ensures.above in
+    let visitors = ap (λ (v : Live). v.open_visitors) c.self.view_is in (
+      (λ is. absurd (true≢false (sym is))),
+      (λ none. absurd (not_closed i.tree i.current i.places.items i.is_rooted c.in-Some.field-0 above.key above.path (visitors ∙ none))),
+    )
+
+pub returns-in-None-clause-closed : goal.returns-in-None-clause-closed
+returns-in-None-clause-closed c =
+    let i = c.self.inside in
+    let visitors = ap (λ (v : Live). v.open_visitors) c.self.view_is in (
+      (λ is. absurd (true≢false (sym is))),
+      (λ none. let out = closed i.tree i.current i.places.items i.is_rooted (visitors ∙ none) in sym out.no_visitor ∙ c.if-self.true),
+    )
+
+pub returns-in-None-2-clause-closed : goal.returns-in-None-2-clause-closed
+returns-in-None-2-clause-closed c =
+    let i = c.self.inside in
+    let visitors = ap (λ (v : Live). v.open_visitors) c.self.view_is in (
+      (λ is. let empty : length i.places.items ≡ 0 = omega (arith, i.places.ok.0, count_none _ (sym c.is_empty.ensures ∙ is)) in
+          let out : IsOut i.tree i.current i.places.items i.is_rooted = record { root = c.in-None-2.ensures.root; no_place = no_places i.places.items empty; no_visitor = c.if-self.false } in
+          sym visitors ∙ ap length (nothing_back i.tree i.current i.places.items i.is_rooted out)),
+      (λ none. let out = closed i.tree i.current i.places.items i.is_rooted (visitors ∙ none) in
+          let none_there = ap length out.no_place in c.is_empty.ensures ∙ none_counted _ (omega (arith, i.places.ok.0))),
+    )

@@ -1,0 +1,38 @@
+-- A node with no children and no warning gives its own size alone.
+use Rattle.std.proofs.Common.{◌≡◌, ◌<◌, ◌++◌, ℕ, List, [], length, map, refl, sym, ap, ◌∙◌, arith}
+use Rattle.std.proofs.lemmas.List.{append-nil}
+use Rattle.std.proofs.lemmas.Bool.{cond-false}
+use Rattle.allocative_graph.specs.Graph.{add_self, default, warning_line}
+use Rattle.allocative_graph.specs.Sums.{below}
+use Rattle.allocative_collectors.specs.declared.tree.Node.{Node}
+use Rattle.allocative_collectors.specs.Listed.{sum_at, path_at, map_of}
+use Rattle.allocative_collectors.specs.Nodes.{shape, sums_of}
+use Rattle.allocative_collectors.specs.Shapes.{keys_of}
+use Rattle.allocative_collectors.specs.Finishing.{size_at, is_short, warning_at}
+use Rattle.allocative_collectors.proofs.NodeReads.{in_nodes}
+use Rattle.allocative_collectors.proofs.Collect.{count_none}
+use Rattle.allocative_collectors.proofs.Made.{half_none, made_all}
+use Rattle.allocative_collectors.proofs.tree.Tree.leaf.Goals as goal
+
+pub index-requires : goal.index-requires
+index-requires c =
+    let here : c.args.at < length (sums_of c.self.inside.nodes.items) = rw c.self.view_is c.requires in
+    let within = in_nodes c.self.inside.nodes.items c.args.at here in
+    omega (arith, c.self.inside.nodes.ok.0)
+
+pub returns-in-Ok : goal.returns-in-Ok
+returns-in-Ok c =
+    let v = c.args.self.now in
+    let i = c.args.at in
+    let items = c.self.inside.nodes.items in
+    let n : Node = c.index.result.now in
+    let xs = n.children.items in
+    let ks = keys_of (map shape items) xs in
+    let empty : length xs ≡ 0 = omega (arith, n.children.ok.0, count_none _ (sym c.is_empty.ensures ∙ c.if-not-is_empty.false)) in
+    let is : c.add_self.new.self ≡ add_self (size_at v i) default = c.in-Ok.ensures.sum ∙ (λ j. add_self (c.size.ensures j) (c.default-graph.ensures j)) in
+    λ written.
+    let quiet : written ≡ written ++ warning_at v i =
+    sym (append-nil written)
+    ∙ ap (λ (l : List ℕ). written ++ l) (sym (cond-false (is_short v i) (warning_line (path_at v i) (let e = sum_at v i in e.bytes) (below (map_of v) (path_at v i))) [] (sym c.if-is_short.ensures))) in
+    made_all items c.self.invariant v c.self.view_is i c.requires n c.index.ensures xs refl written written c.add_self.new.self 0 (omega (arith, empty)) (omega arith)
+    (half_none v i ks written written c.add_self.new.self is quiet)
