@@ -1,4 +1,3 @@
-pub mod Added
-pub mod Kept
-pub mod Lines
-pub mod OfGraphs
+pub mod Each
+pub mod Most
+pub mod Profiles

@@ -1,2 +1,2 @@
-pub mod Compare
-pub mod Rows
+pub mod Changes
+pub mod History

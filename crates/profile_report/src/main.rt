@@ -1,67 +1,92 @@
-//! Profiles a small service twice, and prints what changed in between.
+//! Profiles a small service as it goes on, and tells after each profile what changed since the one before.
 #![tactic(auto)]
 
-mod compare;
+mod changes;
+mod history;
+mod report;
 mod service;
 #[cfg(test)]
 mod tests;
 
-use allocative::{FlameGraphOutput, Refusal, Registry, profile_roots};
+use allocative::FlameGraph;
+use allocative_picture::options::Options;
+use allocative_picture::picture::change_picture;
 use anyhow::Result;
-use compare::{compare, report};
-use service::{Page, Session};
+use changes::compare;
+use report::report;
+use service::{Page, Service, Session};
 use std::alloc::Global;
 use std::fs;
 use std::rt::Files;
 
 // In the morning two users are signed in, one of them with a basket, and the table has a page.
-fn morning(alloc: Global) -> Result<FlameGraphOutput> {
-    let mut registry = Registry::new(alloc);
+fn begin(alloc: Global, service: &mut Service) -> Result<()> {
     let basket = Box::new(alloc, 250)?;
-    for user in [Session::new(1, None), Session::new(2, Some(basket))] {
-        registry
-            .register_root(Box::new(alloc, user)?)
-            .or(Err(Refusal::Memory))?;
-    }
-    let rows = Box::new(alloc, [1, 2, 3, 4])?;
-    registry
-        .register_root(Box::new(alloc, Page { rows })?)
-        .or(Err(Refusal::Memory))?;
-    Ok(profile_roots(&registry)?)
-}
-
-// In the evening the second has left, the table has two pages, and a counter is new.
-fn evening(alloc: Global) -> Result<FlameGraphOutput> {
-    let mut registry = Registry::new(alloc);
-    registry
-        .register_root(Box::new(alloc, Session::new(1, None))?)
-        .or(Err(Refusal::Memory))?;
-    for page in 0..2 {
-        let rows = Box::new(alloc, [page; 4])?;
-        registry
-            .register_root(Box::new(alloc, Page { rows })?)
-            .or(Err(Refusal::Memory))?;
-    }
-    registry
-        .register_root(Box::new(alloc, 7u64)?)
-        .or(Err(Refusal::Memory))?;
-    Ok(profile_roots(&registry)?)
-}
-
-// Writes the text of a profile to a file, and its warnings to another.
-fn save(rt: &impl Files, output: &FlameGraphOutput, text: &str, warnings: &str) -> Result<()> {
-    fs::write(rt, text, output.flamegraph().write()?.as_str())?;
-    fs::write(rt, warnings, output.warnings()?.as_str())?;
+    service.sign_in(Session::new(1, None))?;
+    service.sign_in(Session::new(2, Some(basket)))?;
+    service.add_page(Page::new(alloc, [1, 2, 3, 4])?)?;
+    service.take_profile(alloc)?;
     Ok(())
+}
+
+// By noon the second has left, and the table has two pages.
+fn go_on(alloc: Global, service: &mut Service) -> Result<()> {
+    service.sign_out(2);
+    service.add_page(Page::new(alloc, [5, 6, 7, 8])?)?;
+    service.take_profile(alloc)?;
+    Ok(())
+}
+
+// In the evening a third user has come with a basket, and the table is empty.
+fn end(alloc: Global, service: &mut Service) -> Result<()> {
+    let basket = Box::new(alloc, 90)?;
+    service.sign_in(Session::new(3, Some(basket)))?;
+    service.drop_pages();
+    service.take_profile(alloc)?;
+    Ok(())
+}
+
+// Prints what changed between two profiles, and draws it into a file.
+fn tell(
+    rt: &(impl Files + Print),
+    alloc: Global,
+    earlier: &FlameGraph,
+    later: &FlameGraph,
+    title: &str,
+    file: &str,
+) -> Result<()> {
+    let changes = compare(alloc, earlier, later)?;
+    let text = report(alloc, changes.as_slice())?;
+    print!(rt; "{title}\n{text}")?;
+    let options = Options {
+        title,
+        ..Options::default()
+    };
+    let picture = change_picture(alloc, earlier, later, &options)?;
+    fs::write(rt, file, picture.as_str())?;
+    Ok(())
+}
+
+// Tells what changed since the profile before the last, where there is one.
+fn tell_last(
+    rt: &(impl Files + Print),
+    alloc: Global,
+    service: &Service,
+    title: &str,
+    file: &str,
+) -> Result<()> {
+    match service.history().last_two() {
+        Some((earlier, later)) => tell(rt, alloc, earlier, later, title, file),
+        None => Ok(()),
+    }
 }
 
 fn main(rt: HostRuntime) -> Result<()> {
     let alloc = rt.alloc();
-    save(&rt, &morning(alloc)?, "morning.folded", "morning.warnings")?;
-    save(&rt, &evening(alloc)?, "evening.folded", "evening.warnings")?;
-    let earlier = fs::read_to_string(&rt, "morning.folded")?;
-    let later = fs::read_to_string(&rt, "evening.folded")?;
-    let changes = compare(alloc, &earlier, &later)?;
-    print!(rt; "{}", report(alloc, &changes)?)?;
-    Ok(())
+    let mut service = Service::new(alloc, 2);
+    begin(alloc, &mut service)?;
+    go_on(alloc, &mut service)?;
+    tell_last(&rt, alloc, &service, "From morning to noon", "noon.svg")?;
+    end(alloc, &mut service)?;
+    tell_last(&rt, alloc, &service, "From noon to evening", "evening.svg")
 }

@@ -1,10 +1,17 @@
-//! What the service of this example holds.
+//! A service that takes a profile of what it holds each time it is asked, and keeps the last of them.
 #![tactic(auto, using(allocative::proofs::Parts::parts))]
 
-ghost use Rattle.std.specs.Prelude.{codes, Some};
+ghost use Rattle.std.specs.Prelude.{◌≡◌, codes, Some, IfOk, OnOk, OnErr};
 ghost use Rattle.allocative.specs.Shows as shows;
+ghost use Rattle.allocative.specs.Visits.{IsProfileOf};
+ghost use Rattle.profile_report.specs.History.{TakesProfile};
 
-use allocative::{Allocative, Field, Inside, Key, Part, Refusal, Visitor};
+use crate::history::History;
+use allocative::{
+    Allocative, Each, Field, FlameGraphBuilder, FlameGraphOutput, Inside, Key, Part, Refusal,
+    Unique, Visitor,
+};
+use std::alloc::{AllocError, Global};
 
 /// A user who is signed in, perhaps with a basket; 24 bytes.
 #[derive(Drop)]
@@ -39,6 +46,14 @@ pub struct Page {
     pub rows: Box<[u64; 4]>,
 }
 
+impl Page {
+    /// A page of these rows. It answers an error only for want of memory.
+    pub fn new(alloc: Global, rows: [u64; 4]) -> Result<Page, AllocError> {
+        let rows = Box::new(alloc, rows)?;
+        Ok(Page { rows })
+    }
+}
+
 impl Allocative for Page {
     ghost may_show = { λ p. shows.Inside (codes "Page") 8 (shows.Field (codes "rows") (Some 8) (⟦<Box<[u64; 4]> as Allocative>⟧.may_show p.rows)) };
 
@@ -46,4 +61,93 @@ impl Allocative for Page {
         let rows = Field(Key::new("rows"), &self.rows);
         Inside(Key::new("Page"), 8, rows).enter(visitor)
     }
+}
+
+/// What the service holds; two lists of 24 bytes, and what stands in them. The room that a list keeps for more is not counted.
+#[derive(Drop)]
+pub struct Held {
+    /// Who is signed in.
+    pub sessions: Vec<Session>,
+    /// The pages of the table.
+    pub pages: Vec<Page>,
+}
+
+impl Allocative for Held {
+    ghost may_show = { λ h. shows.Inside (codes "Service") 48 (shows.Both (shows.InsideUnique (codes "sessions") 24 (shows.each_shows ⟦<Session as Allocative>⟧.may_show h.sessions.items)) (shows.InsideUnique (codes "pages") 24 (shows.each_shows ⟦<Page as Allocative>⟧.may_show h.pages.items))) };
+
+    fn visit(&self, visitor: &mut Visitor<'_>) -> Result<(), Refusal> {
+        let sessions = Unique(Key::new("sessions"), 24, Each(&self.sessions));
+        let pages = Unique(Key::new("pages"), 24, Each(&self.pages));
+        Inside(Key::new("Service"), 48, (sessions, pages)).enter(visitor)
+    }
+}
+
+/// The service: what it holds, and the last profiles of that.
+#[derive(Drop)]
+pub struct Service {
+    held: Held,
+    history: History,
+}
+
+impl Service {
+    /// A service that holds nothing, and keeps so many profiles at most. It takes no memory.
+    pub fn new(alloc: Global, most: usize) -> Service {
+        Service {
+            held: Held {
+                sessions: Vec::new(alloc),
+                pages: Vec::new(alloc),
+            },
+            history: History::new(alloc, most),
+        }
+    }
+
+    /// Takes a user's session in. It answers an error only for want of memory.
+    pub fn sign_in(&mut self, session: Session) -> Result<(), AllocError> {
+        self.held.sessions.push(session)?;
+        Ok(())
+    }
+
+    /// Lets the user's sessions go.
+    pub fn sign_out(&mut self, user: u32) {
+        self.held.sessions.retain(|session| session.user != user);
+    }
+
+    /// Takes a page in. It answers an error only for want of memory.
+    pub fn add_page(&mut self, page: Page) -> Result<(), AllocError> {
+        self.held.pages.push(page)?;
+        Ok(())
+    }
+
+    /// Lets all pages go.
+    pub fn drop_pages(&mut self) {
+        self.held.pages.clear();
+    }
+
+    /// The profiles that are kept.
+    pub fn history(&self) -> &History
+        ensures { result.now ≡ self.now.history }
+    {
+        &self.history
+    }
+
+    /// Takes a profile of what the service holds, and keeps it as the latest. What is held stays as it is, and after an error so does
+    /// the history.
+    pub fn take_profile(&mut self, alloc: Global) -> Result<(), Refusal>
+        ensures taken { OnOk result (TakesProfile (⟦<Held as Allocative>⟧.may_show self.old.held) self.old.history self.new.history) }
+        ensures held { self.new.held ≡ self.old.held }
+        ensures unchanged { OnErr result (self.new.history.profiles.items ≡ self.old.history.profiles.items) }
+    {
+        let profile = profile_of(alloc, &self.held)?;
+        self.history.keep(profile.into_flamegraph())?;
+        Ok(())
+    }
+}
+
+// The profile of what a service holds.
+fn profile_of(alloc: Global, held: &Held) -> Result<FlameGraphOutput, Refusal>
+    ensures { IfOk result (IsProfileOf (⟦<Held as Allocative>⟧.may_show held.now)) }
+{
+    let mut builder = FlameGraphBuilder::new(alloc)?;
+    builder.visit_value(held)?;
+    builder.finish()
 }

@@ -1,51 +1,64 @@
-use crate::compare::{CompareError, compare, report};
+use crate::changes::{Kind, compare, grew_most};
+use crate::history::History;
+use crate::report::report;
+use allocative::{FlameGraph, Key};
+use std::alloc::Global;
 use std::test::Fail;
+
+// The graph whose root has children of these sizes.
+fn graph_of(alloc: Global, sizes: &[(&'static str, usize)]) -> Result<FlameGraph, Fail> {
+    let mut graph = FlameGraph::default(alloc);
+    for (key, size) in sizes {
+        let mut child = FlameGraph::default(alloc);
+        child.add_self(*size)?;
+        graph.add_child(Key::new(key), child)?;
+    }
+    Ok(graph)
+}
 
 #[test]
 fn what_changed(rt: HostRuntime) -> Result<(), Fail> {
     let alloc = rt.alloc();
-    let earlier = "a 1\na;b 5\nc 7\nd 8\n";
-    let later = "a 3\na;b 5\nb c 2\nc 3\nc 1\n";
-    let changes = compare(alloc, earlier, later)?;
+    let earlier = graph_of(alloc, &[("a", 1), ("a;b", 5), ("c", 7), ("d", 8)])?;
+    let later = graph_of(alloc, &[("a", 3), ("a;b", 5), ("b c", 2), ("c", 4)])?;
+    let changes = compare(alloc, &earlier, &later)?;
     assert_eq!(rt;
-        report(alloc, &changes)?.as_str(),
-        "1 -> 3 a\n0 -> 2 b c\n7 -> 4 c\n8 -> 0 d\n"
+        report(alloc, changes.as_slice())?.as_str(),
+        "grew\n1 -> 3 a\nshrank\n7 -> 4 c\ncame\n0 -> 2 b c\nwent\n8 -> 0 d\ngrew most\n1 -> 3 a\n0 -> 2 b c\n"
     );
-    let same = compare(alloc, later, later)?;
-    assert_eq!(rt; report(alloc, &same)?.as_str(), "");
+    let same = compare(alloc, &later, &later)?;
+    assert!(rt; same.is_empty());
     Ok(())
 }
 
 #[test]
-fn texts_that_are_no_profile(rt: HostRuntime) {
+fn those_that_grew_most(rt: HostRuntime) -> Result<(), Fail> {
     let alloc = rt.alloc();
-    for text in [
-        "a 1",
-        "a\n",
-        "\n",
-        "a +1\n",
-        "a 01\n",
-        "a \n",
-        "a -1\n",
-        "a 18446744073709551616\n",
-    ] {
-        assert!(rt;
-            matches!(compare(alloc, text, ""), Err(CompareError::NotAProfile)),
-            "{text}"
-        );
-        assert!(rt;
-            matches!(compare(alloc, "", text), Err(CompareError::NotAProfile)),
-            "{text}"
-        );
-    }
-    assert!(rt; compare(alloc, " 0\n", "a b 18446744073709551615\n").is_ok());
+    let earlier = graph_of(alloc, &[("a", 9), ("b", 1), ("c", 4)])?;
+    let later = graph_of(alloc, &[("a", 1), ("b", 6), ("c", 8), ("d", 3)])?;
+    let changes = compare(alloc, &earlier, &later)?;
+    let top = grew_most(alloc, changes.as_slice(), 2)?;
+    let keys = top.iter().map(|change| change.path[0]);
+    assert!(rt; keys.eq(["b", "c"]));
+    assert!(rt; top[0].is(Kind::Grew) && !top[0].is(Kind::Came));
+    Ok(())
 }
 
 #[test]
-fn sizes_that_do_not_fit(rt: HostRuntime) {
+fn the_last_profiles_are_kept(rt: HostRuntime) -> Result<(), Fail> {
     let alloc = rt.alloc();
-    let passes = "a 1\na 18446744073709551615\n";
-    assert!(rt; matches!(compare(alloc, passes, ""), Err(CompareError::TooLarge)));
-    assert!(rt; matches!(compare(alloc, "", passes), Err(CompareError::TooLarge)));
-    assert!(rt; compare(alloc, "a 1\n", "a 18446744073709551615\n").is_ok());
+    let mut history = History::new(alloc, 2);
+    assert!(rt; history.last_two().is_none());
+    for size in [1, 2, 3] {
+        history.keep(graph_of(alloc, &[("a", size)])?)?;
+    }
+    assert_eq!(rt; history.len(), 2);
+    match history.last_two() {
+        Some((earlier, later)) => {
+            assert_eq!(rt; earlier.size_at(&["a"]), 2);
+            assert_eq!(rt; later.size_at(&["a"]), 3);
+        }
+        None => panic!(rt; "fewer than two are kept"),
+    }
+    Ok(())
 }

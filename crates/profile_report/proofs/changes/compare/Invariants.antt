@@ -1,0 +1,11 @@
+use Rattle.std.proofs.Common.{◌≡◌, ◌++◌, map, length}
+use Rattle.profile_report.specs.Changes.{seen}
+use Rattle.profile_report.proofs.Each.{changes_in}
+use Rattle.profile_report.proofs.changes.compare.Given as goal
+
+-- With those of the rows that are to come the changes are those of all rows.
+abbrev pub invariant-loop-row : goal.invariant-loop-row
+invariant-loop-row l = map seen l.changes.items ++ changes_in l.earlier l.later l.rows.items ≡ changes_in l.earlier l.later l.initial.rows.items
+
+abbrev pub decreases-loop-row : goal.decreases-loop-row
+decreases-loop-row l = length l.rows.items

@@ -1,0 +1,12 @@
+use Rattle.std.proofs.Common.{◌≡◌, map, take}
+use Rattle.std.specs.Prelude.{filter, All}
+use Rattle.profile_report.specs.Changes.{seen, is_grown}
+use Rattle.profile_report.proofs.Most.{IsWord}
+use Rattle.profile_report.proofs.changes.grew_most.Given as goal
+
+-- So far the changes that grew are there, each by a word.
+abbrev pub invariant-loop-change : goal.invariant-loop-change
+invariant-loop-change l = record {
+  grown : map seen l.grown.items ≡ filter is_grown (map seen (take l.change-index l.changes));
+  words : All IsWord l.grown.items;
+}
