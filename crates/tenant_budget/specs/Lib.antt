@@ -1,3 +1,4 @@
 pub mod Measured
-pub mod Entries
+pub mod Holding
+pub mod Accounts
 pub mod Rejected

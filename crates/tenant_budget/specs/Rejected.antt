@@ -1,34 +1,52 @@
 -- Why data are not admitted.
-use Rattle.std.specs.Prelude.{◌≡◌, ℕ, ◌+◌, ◌^◌, ◌<◌, ◌≤◌, ⊤, List, Option}
+use Rattle.std.specs.Prelude.{◌≡◌, ℕ, ◌+◌, ◌^◌, ◌<◌, ◌≤◌, ⊤, List, Option, Some, None, IsSome}
 use Rattle.allocative.specs.Shows.{Showing}
 use Rattle.tenant_budget.specs.declared.rejection.Rejection.{Rejection}
-use Rattle.tenant_budget.specs.declared.rejection.Rejection.TheVariants.{OverBudget, NotMeasured, TooLarge, NotKept}
+use Rattle.tenant_budget.specs.declared.rejection.Rejection.TheVariants.{OverBudget, NotMeasured, TooLarge, NotKept, NoAccount, HasAccount, Taken, NotThere}
 use Rattle.tenant_budget.specs.Measured.{Declares}
+use Rattle.tenant_budget.specs.Holding.{Holding, sum_of, bytes_at}
 
 -- The rejection names the tenant, the bytes that it asks for and the limit, which they pass.
 abbrev pub IsOverBudget : List ℕ → ℕ → ℕ → Rejection → Type 0
 IsOverBudget tenant bytes limit (OverBudget t b l) = (t.now ≡ tenant) × (b ≡ bytes) × (l ≡ limit) × (limit < bytes)
-IsOverBudget tenant bytes limit (NotMeasured e) = ⊥
-IsOverBudget tenant bytes limit TooLarge = ⊥
-IsOverBudget tenant bytes limit NotKept = ⊥
+IsOverBudget tenant bytes limit _ = ⊥
 
 -- A value by itself is rejected: what it declares passes the limit, or measuring it is refused.
 abbrev pub RejectsValue : Option ℕ → Showing → List ℕ → ℕ → Rejection → Type 0
 RejectsValue size p tenant limit (OverBudget t b l) = Declares size p b × (t.now ≡ tenant) × (l ≡ limit) × (limit < b)
 RejectsValue size p tenant limit (NotMeasured e) = ⊤
-RejectsValue size p tenant limit TooLarge = ⊥
-RejectsValue size p tenant limit NotKept = ⊥
+RejectsValue size p tenant limit _ = ⊥
 
--- Some bytes more are rejected beside those that are held already: all together pass the limit; or they pass a word; or they are within the limit, and memory is refused.
-abbrev pub RejectsBytes : List ℕ → ℕ → ℕ → ℕ → Rejection → Type 0
-RejectsBytes tenant before more limit (OverBudget t b l) = (b ≡ before + more) × (t.now ≡ tenant) × (l ≡ limit) × (limit < b)
-RejectsBytes tenant before more limit (NotMeasured e) = ⊥
-RejectsBytes tenant before more limit TooLarge = 2 ^ 64 ≤ before + more
-RejectsBytes tenant before more limit NotKept = before + more ≤ limit
+-- Some bytes are rejected in the place of those that one entry has, among these of all entries: all together pass the limit; or they pass a word; or they are within the limit, and memory is refused.
+abbrev pub RejectsBytes : List ℕ → ℕ → ℕ → ℕ → ℕ → Rejection → Type 0
+RejectsBytes tenant had all bytes limit (OverBudget t b l) = (b + had ≡ all + bytes) × (t.now ≡ tenant) × (l ≡ limit) × (limit < b)
+RejectsBytes tenant had all bytes limit TooLarge = 2 ^ 64 + had ≤ all + bytes
+RejectsBytes tenant had all bytes limit NotKept = all + bytes ≤ limit + had
+RejectsBytes tenant had all bytes limit _ = ⊥
 
--- A value is rejected beside the bytes that are held already: the bytes that it declares are rejected, or measuring it is refused.
-abbrev pub RejectsMore : Option ℕ → Showing → List ℕ → ℕ → ℕ → Rejection → Type 0
-RejectsMore size p tenant before limit (OverBudget t b l) = (more : ℕ) × Declares size p more × RejectsBytes tenant before more limit (OverBudget t b l)
-RejectsMore size p tenant before limit (NotMeasured e) = ⊤
-RejectsMore size p tenant before limit TooLarge = (more : ℕ) × Declares size p more × RejectsBytes tenant before more limit TooLarge
-RejectsMore size p tenant before limit NotKept = (more : ℕ) × Declares size p more × RejectsBytes tenant before more limit NotKept
+-- The bytes are rejected under a number that has none: it has some, which the rejection says with the tenant; or the bytes beside all others are rejected.
+abbrev pub RejectsNew : List ℕ → ℕ → ℕ → Holding → Rejection → Type 0
+RejectsNew tenant number bytes h (Taken t n) = (t.now ≡ tenant) × (n ≡ number) × IsSome (bytes_at number h)
+RejectsNew tenant number bytes h r = (bytes_at number h ≡ None) × RejectsBytes tenant 0 (sum_of h.entries) bytes h.limit r
+
+-- The bytes are rejected in the place of those under a number: it has none, which the rejection says with the tenant; or the bytes beside all others are rejected.
+abbrev pub RejectsChange : List ℕ → ℕ → ℕ → Holding → Rejection → Type 0
+RejectsChange tenant number bytes h (NotThere t n) = (t.now ≡ tenant) × (n ≡ number) × (bytes_at number h ≡ None)
+RejectsChange tenant number bytes h r = (had : ℕ) × (bytes_at number h ≡ Some had) × RejectsBytes tenant had (sum_of h.entries) bytes h.limit r
+
+-- The tenant has no account, which the rejection says, or its account rejects as P says.
+abbrev pub RejectsIn : List ℕ → (Holding → Rejection → Type 0) → Option Holding → Rejection → Type 0
+RejectsIn tenant P None (NoAccount t) = t.now ≡ tenant
+RejectsIn tenant P None _ = ⊥
+RejectsIn tenant P (Some h) r = P h r
+
+-- Measuring the value is refused, or it declares bytes that P rejects.
+abbrev pub RejectsMeasured : Option ℕ → Showing → (ℕ → Rejection → Type 0) → Rejection → Type 0
+RejectsMeasured size p P (NotMeasured e) = ⊤
+RejectsMeasured size p P r = (bytes : ℕ) × Declares size p bytes × P bytes r
+
+-- The tenant has an account already, which the rejection says; or it has none, and memory is refused.
+abbrev pub RejectsOpening : List ℕ → Option Holding → Rejection → Type 0
+RejectsOpening tenant had (HasAccount t) = (t.now ≡ tenant) × IsSome had
+RejectsOpening tenant had NotKept = had ≡ None
+RejectsOpening tenant had _ = ⊥

@@ -1,109 +1,154 @@
-//! The admitted data of all tenants, each within one limit.
-ghost use Rattle.std.specs.Prelude.{◌≡◌, ◌^◌, ◌<◌, ◌≤◌, [], IfOk, IfErr, OnErr};
-ghost use Rattle.tenant_budget.specs.Entries.{bytes_of, AreDeclared, Admits};
+//! The accounts of all tenants.
+ghost use Rattle.std.specs.Prelude.{◌≡◌, ℕ, Some, None, [], IfOk, OnOk, IfErr, OnErr, IfSome, IfNone, IsSomeAnd, MatchOption};
+ghost use Rattle.std.specs.Option.{option_and_then};
+ghost use Rattle.tenant_budget.specs.Accounts.{account_of, accounts_of, ChangesAccount, Enters, Releases, IsUnchanged};
+ghost use Rattle.tenant_budget.specs.Holding.{IsSummed, bytes_at};
 ghost use Rattle.tenant_budget.specs.Measured.{Declares};
-ghost use Rattle.tenant_budget.specs.Rejected.{RejectsBytes, RejectsMore};
+ghost use Rattle.tenant_budget.specs.Rejected.{RejectsIn, RejectsMeasured, RejectsNew, RejectsChange, RejectsOpening};
 
+use crate::account::Account;
 use crate::budget::Budget;
-use crate::entry::Entry;
 use crate::rejection::Rejection;
 use allocative::{Allocative, Described, size_of_unique};
 use std::alloc::Global;
-use std::marker::Model;
+use std::collections::BTreeMap;
 
-/// The admitted data of all tenants. Whatever comes, the bytes of a tenant's entries are together within the limit.
+/// An account for each tenant, by its name.
 #[derive(Drop)]
-pub struct Ledger<T: Allocative + Described> {
-    budget: Budget,
-    entries: Vec<Entry<T>>,
+pub struct Ledger {
+    alloc: Global,
+    accounts: BTreeMap<String, Account>,
 }
 
-impl<T: Allocative + Described> Model for Ledger<T> {
-    ghost use Rattle.tenant_budget.specs.Entries.{Book, IsWithin, AreDeclared};
-
-    ghost Value = { Book T };
-
-    ghost view = { λ l. record { limit = l.budget.limit; entries = l.entries.items } };
-
-    ghost invariant = { λ l. IsWithin l.budget.limit l.entries.items × AreDeclared T.size T.may_show l.entries.items };
-}
-
-// The sum over the tenant's entries.
-#[tactic(auto, unfolding(crate::specs::Entries::bytes_of))]
-fn total_of<T>(entries: &[Entry<T>], tenant: &str) -> usize
-    requires { bytes_of tenant.now entries.now < 2 ^ 64 }
-    ensures { result ≡ bytes_of tenant.now entries.now }
-{
-    entries
-        .iter()
-        .filter(|entry| entry.tenant.as_str() == tenant)
-        .map(|entry| entry.bytes)
-        .sum()
-}
-
-impl<T: Allocative + Described> Ledger<T> {
-    /// A ledger with no entry. It takes no memory.
-    pub fn new(alloc: Global, budget: Budget) -> Ledger<T>
-        ensures { result ≡ record { limit = budget.limit; entries = [] } }
+impl Ledger {
+    /// A ledger with no account. It takes no memory.
+    pub fn new(alloc: Global) -> Ledger
+        ensures { accounts_of result ≡ [] }
     {
         Ledger {
-            budget,
-            entries: Vec::new(alloc),
+            alloc,
+            accounts: BTreeMap::new(alloc),
         }
     }
 
-    /// What was admitted, in order.
-    pub fn entries(&self) -> &[Entry<T>]
-        ensures value { result.now ≡ self.now.entries }
-        ensures declared { AreDeclared T.size T.may_show self.now.entries }
-    {
-        &self.entries
-    }
-
-    /// The bytes of the tenant's entries together, which are never more than the limit.
-    pub fn bytes_of(&self, tenant: &str) -> usize
-        ensures value { result ≡ bytes_of tenant.now self.now.entries }
-        ensures within { result ≤ self.now.limit }
-    {
-        total_of(&self.entries, tenant)
-    }
-
-    /// Measures a value and keeps it where the tenant's entries stay within the limit with it. Answers their bytes together.
+    /// Opens an account with no entry for a tenant.
     ///
-    /// `TooLarge` where their bytes together do not fit a word, else `OverBudget` where they would pass the limit, `NotMeasured`
-    /// with the refusal of `size_of_unique`, and `NotKept` for want of memory, where all is within the limit. The ledger stays
-    /// then as it was, and the value is dropped.
-    pub fn admit<'a>(&mut self, tenant: &'a str, value: T) -> Result<usize, Rejection<'a>>
-        ensures admitted { IfOk result (Admits T.size (T.may_show value) tenant.now value self.old self.new) }
-        ensures rejected { IfErr result (RejectsMore T.size (T.may_show value) tenant.now (bytes_of tenant.now self.old.entries) self.old.limit) }
-        ensures unchanged { OnErr result (self.new ≡ self.old) }
+    /// `HasAccount` exactly where the tenant has one, and else `NotKept` for want of memory. All accounts stay then as they were.
+    pub fn open<'a>(&mut self, tenant: &'a str, budget: Budget) -> Result<(), Rejection<'a>>
+        ensures opened { OnOk result (ChangesAccount tenant.now (record { limit = budget.limit; entries = [] }) self.old self.new) }
+        ensures new { OnOk result (account_of tenant.now self.old ≡ None) }
+        ensures rejected { IfErr result (RejectsOpening tenant.now (account_of tenant.now self.old)) }
+        ensures unchanged { OnErr result (IsUnchanged self.old self.new) }
     {
-        let bytes = size_of_unique(&value)?;
-        self.keep(tenant, value, bytes)
+        if self.accounts.contains_key(tenant) {
+            return Err(Rejection::HasAccount { tenant });
+        }
+        let Ok(name) = String::from_str(self.alloc, tenant) else {
+            return Err(Rejection::NotKept);
+        };
+        let account = Account::new(self.alloc, budget);
+        let Ok(_none) = self.accounts.insert(name, account) else {
+            return Err(Rejection::NotKept);
+        };
+        Ok(())
     }
 
-    // Keeps a value that declares so many bytes, where the tenant's entries stay within the limit with it.
-    fn keep<'a>(&mut self, tenant: &'a str, value: T, bytes: usize) -> Result<usize, Rejection<'a>>
-        requires { Declares T.size (T.may_show value) bytes }
-        ensures kept { IfOk result (Admits T.size (T.may_show value) tenant.now value self.old self.new) }
-        ensures rejected { IfErr result (RejectsBytes tenant.now (bytes_of tenant.now self.old.entries) bytes self.old.limit) }
-        ensures unchanged { OnErr result (self.new ≡ self.old) }
+    /// All accounts, in the order of the tenants' names.
+    pub fn accounts(&self) -> &BTreeMap<String, Account>
+        ensures { result.now.entries ≡ accounts_of self.now }
     {
-        let Some(total) = self.bytes_of(tenant).checked_add(bytes) else {
-            return Err(Rejection::TooLarge);
+        &self.accounts
+    }
+
+    /// The bytes of all that was admitted for the tenant, which are within its limit. None where it has no account.
+    pub fn bytes_of(&self, tenant: &str) -> Option<usize>
+        ensures { MatchOption (account_of tenant.now self.now) (result ≡ None) (λ account. IsSomeAnd result (λ bytes. IsSummed bytes account)) }
+    {
+        let account = self.accounts.get(tenant)?;
+        Some(account.bytes())
+    }
+
+    /// Measures a value of any type and enters its bytes for the tenant, under a number that has none yet. Answers the bytes of
+    /// all that was admitted for the tenant.
+    ///
+    /// `NotMeasured` with the refusal of `size_of_unique`, `NoAccount` where the tenant has none, `Taken` where the number has an
+    /// entry, else `TooLarge` where all bytes together do not fit a word, else `OverBudget` where they would pass the limit, and
+    /// `NotKept` for want of memory. All accounts stay then as they were.
+    pub fn admit<'a, T: Allocative + Described>(
+        &mut self,
+        tenant: &'a str,
+        number: u64,
+        value: &T,
+    ) -> Result<usize, Rejection<'a>>
+        ensures admitted { IfOk result (λ total. (bytes : ℕ) × Declares T.size (T.may_show value.now) bytes × Enters tenant.now number bytes None total self.old self.new) }
+        ensures rejected { IfErr result (RejectsMeasured T.size (T.may_show value.now) (λ bytes. RejectsIn tenant.now (RejectsNew tenant.now number bytes) (account_of tenant.now self.old))) }
+        ensures unchanged { OnErr result (IsUnchanged self.old self.new) }
+    {
+        let bytes = size_of_unique(value)?;
+        self.enter(tenant, number, bytes)
+    }
+
+    // Enters bytes for the tenant, under a number that has none yet.
+    fn enter<'a>(
+        &mut self,
+        tenant: &'a str,
+        number: u64,
+        bytes: usize,
+    ) -> Result<usize, Rejection<'a>>
+        ensures entered { IfOk result (λ total. Enters tenant.now number bytes None total self.old self.new) }
+        ensures rejected { IfErr result (RejectsIn tenant.now (RejectsNew tenant.now number bytes) (account_of tenant.now self.old)) }
+        ensures unchanged { OnErr result (IsUnchanged self.old self.new) }
+    {
+        let Some(account) = self.accounts.get_mut(tenant) else {
+            return Err(Rejection::NoAccount { tenant });
         };
-        self.budget.check(tenant, total)?;
-        let Ok(tenant) = String::from_str(*self.entries.allocator(), tenant) else {
-            return Err(Rejection::NotKept);
+        account.enter(tenant, number, bytes)
+    }
+
+    /// Measures a value again after it has changed, and puts its bytes in the place of those under the number. Answers the bytes
+    /// of all that was admitted for the tenant.
+    ///
+    /// `NotThere` where the number has no entry, and else the rejections of `admit`. All accounts stay then as they were, with
+    /// the bytes that the value declared before.
+    pub fn measure_again<'a, T: Allocative + Described>(
+        &mut self,
+        tenant: &'a str,
+        number: u64,
+        value: &T,
+    ) -> Result<usize, Rejection<'a>>
+        ensures measured { IfOk result (λ total. (bytes : ℕ) × (had : ℕ) × Declares T.size (T.may_show value.now) bytes × Enters tenant.now number bytes (Some had) total self.old self.new) }
+        ensures rejected { IfErr result (RejectsMeasured T.size (T.may_show value.now) (λ bytes. RejectsIn tenant.now (RejectsChange tenant.now number bytes) (account_of tenant.now self.old))) }
+        ensures unchanged { OnErr result (IsUnchanged self.old self.new) }
+    {
+        let bytes = size_of_unique(value)?;
+        self.change(tenant, number, bytes)
+    }
+
+    // Puts bytes in the place of those under the number.
+    fn change<'a>(
+        &mut self,
+        tenant: &'a str,
+        number: u64,
+        bytes: usize,
+    ) -> Result<usize, Rejection<'a>>
+        ensures changed { IfOk result (λ total. (had : ℕ) × Enters tenant.now number bytes (Some had) total self.old self.new) }
+        ensures rejected { IfErr result (RejectsIn tenant.now (RejectsChange tenant.now number bytes) (account_of tenant.now self.old)) }
+        ensures unchanged { OnErr result (IsUnchanged self.old self.new) }
+    {
+        let Some(account) = self.accounts.get_mut(tenant) else {
+            return Err(Rejection::NoAccount { tenant });
         };
-        let entry = Entry {
-            tenant,
-            value,
-            bytes,
-        };
-        let Ok(()) = self.entries.push(entry) else {
-            return Err(Rejection::NotKept);
-        };
-        Ok(total)
+        account.change(tenant, number, bytes)
+    }
+
+    /// Takes the entry under the number off the tenant's bytes, and answers how many that were. None, and nothing has changed,
+    /// where there is no such entry.
+    pub fn release(&mut self, tenant: &str, number: u64) -> Option<usize>
+        ensures value { result ≡ option_and_then (bytes_at number) (account_of tenant.now self.old) }
+        ensures released { IfSome result (λ bytes. Releases tenant.now number bytes self.old self.new) }
+        ensures unchanged { IfNone result (IsUnchanged self.old self.new) }
+    {
+        let account = self.accounts.get_mut(tenant)?;
+        account.release(number)
     }
 }

@@ -1,8 +1,9 @@
-//! Admits the data of some tenants under one limit, and prints what each then holds, or why its data were turned away.
+//! A service bills two tenants by the bytes of their data: it admits values of several types, measures one again that has
+//! grown, and releases one.
 #![tactic(auto)]
 
+mod account;
 mod budget;
-mod entry;
 mod ledger;
 mod rejection;
 
@@ -35,30 +36,45 @@ fn tell(rt: &impl Print, tenant: &str, answer: Result<usize, Rejection<'_>>) -> 
     }
 }
 
+// What is billed to each tenant.
+fn bill(rt: &impl Print, ledger: &Ledger) -> io::Result<()> {
+    for (tenant, account) in ledger.accounts() {
+        let (bytes, limit) = (account.bytes(), account.limit());
+        println!(rt; "{tenant}: {bytes} of {limit} bytes")?;
+        for (number, bytes) in account.entries() {
+            println!(rt; "  entry {number}: {bytes} bytes")?;
+        }
+    }
+    Ok(())
+}
+
 fn main(rt: HostRuntime) -> io::Result<()> {
     let alloc = rt.alloc();
     let budget = Budget { limit: 100 };
     let text = note(alloc, "a note of 20 letters")?;
     tell(&rt, "guest", budget.admit("guest", &text))?;
 
-    let mut ledger = Ledger::new(alloc, budget);
-    tell(&rt, "acme", ledger.admit("acme", numbers(alloc, 10)?))?;
-    tell(&rt, "birch", ledger.admit("birch", numbers(alloc, 19)?))?;
-    tell(&rt, "acme", ledger.admit("acme", numbers(alloc, 8)?))?;
-    tell(&rt, "acme", ledger.admit("acme", numbers(alloc, 3)?))?;
-    tell(&rt, "cedar", ledger.admit("cedar", numbers(alloc, 20)?))?;
-    for entry in ledger.entries() {
-        let count = entry.value.len();
-        println!(rt;
-            "{}: {count} numbers of {} bytes",
-            entry.tenant, entry.bytes
-        )?;
+    let mut ledger = Ledger::new(alloc);
+    for tenant in ["birch", "acme"] {
+        if let Err(rejection) = ledger.open(tenant, budget) {
+            println!(rt; "{rejection}")?;
+        }
     }
-    for tenant in ["acme", "birch", "cedar"] {
-        let bytes = ledger.bytes_of(tenant);
-        println!(rt; "{tenant} holds {bytes} bytes")?;
+    let mut scores = numbers(alloc, 5)?;
+    tell(&rt, "acme", ledger.admit("acme", 1, &text))?;
+    tell(&rt, "acme", ledger.admit("acme", 2, &scores))?;
+    tell(&rt, "birch", ledger.admit("birch", 1, &numbers(alloc, 19)?))?;
+    tell(&rt, "acme", ledger.admit("acme", 2, &text))?;
+    tell(&rt, "cedar", ledger.admit("cedar", 1, &text))?;
+
+    scores = numbers(alloc, 9)?;
+    tell(&rt, "acme", ledger.measure_again("acme", 2, &scores))?;
+    if let Some(bytes) = ledger.release("acme", 1) {
+        println!(rt; "tenant `acme` gives {bytes} bytes back")?;
     }
-    Ok(())
+    tell(&rt, "acme", ledger.measure_again("acme", 2, &scores))?;
+    tell(&rt, "acme", ledger.measure_again("acme", 1, &text))?;
+    bill(&rt, &ledger)
 }
 
 #[cfg(test)]

@@ -21,6 +21,28 @@ pub enum Rejection<'a> {
     /// A growth of the ledger's own memory was refused.
     #[error("out of memory")]
     NotKept,
+    /// The tenant has no account.
+    #[error("tenant `{tenant}` has no account")]
+    NoAccount {
+        tenant: &'a str,
+    },
+    /// The tenant has an account already.
+    #[error("tenant `{tenant}` has an account")]
+    HasAccount {
+        tenant: &'a str,
+    },
+    /// The number has an entry already.
+    #[error("tenant `{tenant}` has an entry {number}")]
+    Taken {
+        tenant: &'a str,
+        number: u64,
+    },
+    /// The number has no entry.
+    #[error("tenant `{tenant}` has no entry {number}")]
+    NotThere {
+        tenant: &'a str,
+        number: u64,
+    },
 }
 
 impl From<Refusal> for Rejection<'_> {
@@ -48,6 +70,8 @@ mod tests {
         assert_eq!(rt; text.as_str(), "sizes do not fit");
         let text = Rejection::NotKept.to_string(rt.alloc())?;
         assert_eq!(rt; text.as_str(), "out of memory");
+        let text = Rejection::HasAccount { tenant: "acme" }.to_string(rt.alloc())?;
+        assert_eq!(rt; text.as_str(), "tenant `acme` has an account");
         Ok(())
     }
 }

@@ -109,39 +109,59 @@ fn a_value_is_held_to_the_limit(rt: HostRuntime) -> Result<(), Fail> {
 #[test]
 fn an_entry_is_held_to_the_limit(rt: HostRuntime) -> Result<(), Fail> {
     let alloc = rt.alloc();
-    let mut ledger = Ledger::new(alloc, Budget { limit: 64 });
+    let mut ledger = Ledger::new(alloc);
+    assert_eq!(rt; ledger.open("acme", Budget { limit: 64 }), Ok(()));
     assert_eq!(rt;
-        ledger.admit("acme", numbers(alloc, 11)?),
+        ledger.admit("acme", 1, &numbers(alloc, 11)?),
         Err(Rejection::OverBudget {
             tenant: "acme",
             bytes: 68,
             limit: 64
         })
     );
-    assert_eq!(rt; ledger.admit("acme", numbers(alloc, 10)?), Ok(64));
+    assert_eq!(rt; ledger.admit("acme", 1, &numbers(alloc, 10)?), Ok(64));
+    assert_eq!(rt; ledger.bytes_of("acme"), Some(64));
+    assert_eq!(rt; ledger.bytes_of("birch"), None);
+    Ok(())
+}
+
+#[test]
+fn an_account_is_opened_once(rt: HostRuntime) -> Result<(), Fail> {
+    let mut ledger = Ledger::new(rt.alloc());
+    assert_eq!(rt; ledger.open("acme", Budget { limit: 64 }), Ok(()));
+    assert_eq!(rt;
+        ledger.open("acme", Budget { limit: 65 }),
+        Err(Rejection::HasAccount { tenant: "acme" })
+    );
     Ok(())
 }
 
 #[test]
 fn what_is_not_measured_is_not_admitted(rt: HostRuntime) -> Result<(), Fail> {
     let budget = Budget { limit: 100 };
-    let mut ledger = Ledger::new(rt.alloc(), budget);
+    let mut ledger = Ledger::new(rt.alloc());
+    assert_eq!(rt; ledger.open("guest", budget), Ok(()));
+    assert_eq!(rt; ledger.admit("guest", 1, &7u8), Ok(1));
     for refusal in [Refusal::Memory, Refusal::TooLarge, Refusal::Open] {
         let want = Err(Rejection::NotMeasured(refusal));
         assert_eq!(rt; budget.admit("guest", &Refuses(refusal)), want);
-        assert_eq!(rt; ledger.admit("guest", Refuses(refusal)), want);
+        assert_eq!(rt; ledger.admit("guest", 2, &Refuses(refusal)), want);
+        assert_eq!(rt; ledger.measure_again("guest", 1, &Refuses(refusal)), want);
     }
-    assert!(rt; ledger.entries().is_empty());
     Ok(())
 }
 
 #[test]
 fn bytes_together_may_not_fit_a_word(rt: HostRuntime) -> Result<(), Fail> {
-    let mut ledger = Ledger::new(rt.alloc(), Budget { limit: usize::MAX });
+    let mut ledger = Ledger::new(rt.alloc());
     let half = 9223372036854775808usize;
-    assert_eq!(rt; ledger.admit("acme", HalfOfAll), Ok(half));
-    assert_eq!(rt; ledger.admit("acme", HalfOfAll), Err(Rejection::TooLarge));
-    assert_eq!(rt; ledger.admit("birch", HalfOfAll), Ok(half));
-    assert_eq!(rt; ledger.bytes_of("acme"), half);
+    for tenant in ["acme", "birch"] {
+        assert_eq!(rt; ledger.open(tenant, Budget { limit: usize::MAX }), Ok(()));
+        assert_eq!(rt; ledger.admit(tenant, 1, &HalfOfAll), Ok(half));
+    }
+    assert_eq!(rt;
+        ledger.admit("acme", 2, &HalfOfAll),
+        Err(Rejection::TooLarge)
+    );
     Ok(())
 }

@@ -1,0 +1,37 @@
+-- What the account of one tenant has.
+use Rattle.std.specs.Prelude.{◌≡◌, ℕ, ◌+◌, ◌≤◌, List, Option, sum_by, unwrap_or}
+use Rattle.std.specs.BTreeMap.{insert_entry, is_at}
+use Rattle.std.specs.Map.{lookup, remove_entry, values_of}
+use Rattle.std.specs.Ordering.{nat_cmp}
+
+-- A limit in bytes, and what was admitted under it: the bytes of each value by its number, in the order of the numbers.
+pub record Holding : Type 0 where
+  pub limit : ℕ
+  pub entries : List (ℕ × ℕ)
+
+-- The sum of the bytes of these entries.
+abbrev pub sum_of : List (ℕ × ℕ) → ℕ
+sum_of entries = sum_by (λ n. n) (values_of entries)
+
+-- The bytes that stand under the number.
+abbrev pub bytes_at : ℕ → Holding → Option ℕ
+bytes_at number h = lookup (is_at (nat_cmp number)) h.entries
+
+-- The account with these bytes under the number, in place of what stood there.
+abbrev pub with_bytes : ℕ → ℕ → Holding → Holding
+with_bytes number bytes h = record { limit = h.limit; entries = insert_entry nat_cmp h.entries number bytes }
+
+-- The account without what stands under the number.
+abbrev pub without : ℕ → Holding → Holding
+without number h = record { limit = h.limit; entries = remove_entry (is_at (nat_cmp number)) h.entries }
+
+-- The sum of the account is exactly that of its entries, and at most its limit.
+abbrev pub IsSummed : ℕ → Holding → Type 0
+IsSummed bytes h = (bytes ≡ sum_of h.entries) × (bytes ≤ h.limit)
+
+-- The bytes stand now under the number, where `had` stood before. All bytes of the account together are `total`, and within its limit.
+pub record Puts (number bytes : ℕ) (had : Option ℕ) (total : ℕ) (old new : Holding) : Type 0 where
+  pub had_bytes : bytes_at number old ≡ had
+  pub is : new ≡ with_bytes number bytes old
+  pub total_is : total + unwrap_or had 0 ≡ sum_of old.entries + bytes
+  pub within : total ≤ old.limit

@@ -1,0 +1,137 @@
+//! The admitted bytes of one tenant, within a limit.
+ghost use Rattle.std.specs.Prelude.{◌≡◌, ℕ, ◌+◌, Some, None, [], IfOk, IfErr, IfNone, OnErr, unwrap_or};
+ghost use Rattle.tenant_budget.specs.Holding.{IsSummed, bytes_at, sum_of, without, Puts};
+ghost use Rattle.tenant_budget.specs.Rejected.{RejectsBytes, RejectsNew, RejectsChange};
+
+use crate::budget::Budget;
+use crate::rejection::Rejection;
+use std::alloc::Global;
+use std::collections::BTreeMap;
+use std::marker::Model;
+
+/// The bytes of each value of one tenant, by its number. Whatever comes, their sum is kept beside them and is within the limit.
+#[derive(Drop)]
+pub struct Account {
+    budget: Budget,
+    bytes: usize,
+    entries: BTreeMap<u64, usize>,
+}
+
+impl Model for Account {
+    ghost use Rattle.tenant_budget.specs.Holding.{Holding, IsSummed};
+
+    ghost Value = { Holding };
+
+    ghost view = { λ a. record { limit = a.budget.limit; entries = a.entries.entries } };
+
+    ghost invariant = { λ a. IsSummed a.bytes (record { limit = a.budget.limit; entries = a.entries.entries }) };
+}
+
+impl Account {
+    /// An account with no entry. It takes no memory.
+    pub fn new(alloc: Global, budget: Budget) -> Account
+        ensures { result ≡ record { limit = budget.limit; entries = [] } }
+    {
+        Account {
+            budget,
+            bytes: 0,
+            entries: BTreeMap::new(alloc),
+        }
+    }
+
+    /// The most bytes that the entries may have together.
+    pub fn limit(&self) -> usize
+        ensures { result ≡ self.now.limit }
+    {
+        self.budget.limit
+    }
+
+    /// The bytes of all entries together.
+    pub fn bytes(&self) -> usize
+        ensures { IsSummed result self.now }
+    {
+        self.bytes
+    }
+
+    /// The bytes of each entry, by its number.
+    pub fn entries(&self) -> &BTreeMap<u64, usize>
+        ensures { result.now.entries ≡ self.now.entries }
+    {
+        &self.entries
+    }
+
+    /// Enters so many bytes under a number that has none yet. Answers the bytes of all entries together.
+    ///
+    /// `Taken` where the number has an entry, else `TooLarge` where their bytes together do not fit a word, else `OverBudget`
+    /// where they would pass the limit, and `NotKept` for want of memory. The account stays then as it was.
+    pub fn enter<'a>(
+        &mut self,
+        tenant: &'a str,
+        number: u64,
+        bytes: usize,
+    ) -> Result<usize, Rejection<'a>>
+        ensures entered { IfOk result (λ total. Puts number bytes None total self.old self.new) }
+        ensures rejected { IfErr result (RejectsNew tenant.now number bytes self.old) }
+        ensures unchanged { OnErr result (self.new ≡ self.old) }
+    {
+        if self.entries.contains_key(&number) {
+            return Err(Rejection::Taken { tenant, number });
+        }
+        self.put(tenant, number, 0, bytes)
+    }
+
+    /// Puts other bytes in the place of those under a number. Answers the bytes of all entries together.
+    ///
+    /// `NotThere` where the number has no entry, and else the rejections of `enter`. The account stays then as it was.
+    pub fn change<'a>(
+        &mut self,
+        tenant: &'a str,
+        number: u64,
+        bytes: usize,
+    ) -> Result<usize, Rejection<'a>>
+        ensures changed { IfOk result (λ total. (had : ℕ) × Puts number bytes (Some had) total self.old self.new) }
+        ensures rejected { IfErr result (RejectsChange tenant.now number bytes self.old) }
+        ensures unchanged { OnErr result (self.new ≡ self.old) }
+    {
+        let Some(had) = self.entries.get(&number).copied() else {
+            return Err(Rejection::NotThere { tenant, number });
+        };
+        self.put(tenant, number, had, bytes)
+    }
+
+    // Puts the bytes under the number, in the place of those that it has.
+    fn put<'a>(
+        &mut self,
+        tenant: &'a str,
+        number: u64,
+        had: usize,
+        bytes: usize,
+    ) -> Result<usize, Rejection<'a>>
+        requires { had ≡ unwrap_or (bytes_at number self.old) 0 }
+        ensures put { IfOk result (λ total. Puts number bytes (bytes_at number self.old) total self.old self.new) }
+        ensures rejected { IfErr result (RejectsBytes tenant.now had (sum_of self.old.entries) bytes self.old.limit) }
+        ensures unchanged { OnErr result (self.new ≡ self.old) }
+    {
+        let Some(total) = (self.bytes - had).checked_add(bytes) else {
+            return Err(Rejection::TooLarge);
+        };
+        self.budget.check(tenant, total)?;
+        let Ok(_had) = self.entries.insert(number, bytes) else {
+            return Err(Rejection::NotKept);
+        };
+        self.bytes = total;
+        Ok(total)
+    }
+
+    /// Takes the entry under the number out, and answers its bytes, or None where there is none.
+    pub fn release(&mut self, number: u64) -> Option<usize>
+        ensures value { result ≡ bytes_at number self.old }
+        ensures without { self.new ≡ without number self.old }
+        ensures unchanged { IfNone result (self.new ≡ self.old) }
+        ensures sum { sum_of self.new.entries + unwrap_or result 0 ≡ sum_of self.old.entries }
+    {
+        let bytes = self.entries.remove(&number)?;
+        self.bytes -= bytes;
+        Some(bytes)
+    }
+}
