@@ -1,6 +1,6 @@
 // The profiles of services.
-use crate::services::{Sensor, Sensors, Station};
-use allocative::{FlameGraphOutput, Key, Named, Refusal};
+use crate::services::{Sensor, Sensors, Station, key_of};
+use allocative::{FlameGraphOutput, Key, Named, Refusal, profile_value};
 use std::alloc::Global;
 use std::process::Abort;
 use std::test::Fail;
@@ -54,4 +54,13 @@ fn cleared_roots_are_handed_back(rt: HostRuntime) -> Result<(), Fail> {
     let back = sensors.clear();
     assert_eq!(rt; back.len(), 2);
     Ok(expect(&rt, &sensors.profile()?, "")?)
+}
+
+#[test]
+fn a_key_of_a_text_that_is_made_at_run_time(rt: HostRuntime) -> Result<(), Fail> {
+    let alloc = rt.alloc();
+    let mut name = String::from_str(alloc, "room ")?;
+    name.push_str("7")?;
+    let output = profile_value(alloc, &Named(key_of(name), Sensor { count: 1 }))?;
+    Ok(expect(&rt, &output, "room 7;Sensor;count;u64 8\n")?)
 }

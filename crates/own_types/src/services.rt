@@ -1,7 +1,7 @@
 //! Services that keep their roots in a struct of their own, and are profiled by a method.
 #![tactic(auto, using(allocative::proofs::Parts::parts))]
 
-ghost use Rattle.std.specs.Prelude.{◌≡◌, ◌++◌, ◌∷◌, [], codes, false, IfOk, MatchResult, Some};
+ghost use Rattle.std.specs.Prelude.{◌≡◌, ◌++◌, ◌∷◌, [], codes, false, string_bytes, IfOk, MatchResult, Some};
 ghost use Rattle.allocative.specs.Shows.{Inside, Field, Both, each_shows};
 ghost use Rattle.allocative.specs.Visits.{IsProfileOf};
 
@@ -124,4 +124,15 @@ impl Sensors {
     {
         profile_values(*self.roots.allocator(), &self.roots)
     }
+}
+
+/// The key of a text that is made at run time. A key's text lasts as long as the program, so the memory of this one is never given
+/// back: a service makes one for each name, and copies it.
+pub fn key_of(text: String) -> Key
+    ensures { result ≡ string_bytes text }
+{
+    let Ok(text) = str::from_utf8(text.into_bytes().leak()) else {
+        unreachable!()
+    };
+    Key::new(text)
 }
