@@ -5,7 +5,7 @@ ghost use Rattle.std.specs.Prelude.{codes, Some};
 ghost use Rattle.allocative.specs.Shows.{Nothing, Inside, Field, Both};
 
 use allocative::part::{Field, Inside, Part};
-use allocative::{Allocative, Key, Refusal, Visitor};
+use allocative::{Allocative, Refusal, Visitor};
 
 /// What a client asks of a store.
 #[derive(Drop)]
@@ -51,37 +51,37 @@ impl Allocative for Request {
     ]) };
 
     fn visit(&self, visitor: &mut Visitor<'_>) -> Result<(), Refusal> {
-        let key = Key::new("Request");
+        let key = "Request";
         match self {
             Request::Ping | Request::Stop | Request::Reset => Inside(key, 40, ()).enter(visitor),
             Request::Count(count) => {
-                let count = Field(Key::new("Count"), count);
+                let count = Field("Count", count);
                 Inside(key, 40, count).enter(visitor)
             }
-            Request::Find(name) => Inside(key, 40, Field(Key::new("Find"), name)).enter(visitor),
-            Request::Drop(names) => Inside(key, 40, Field(Key::new("Drop"), names)).enter(visitor),
+            Request::Find(name) => Inside(key, 40, Field("Find", name)).enter(visitor),
+            Request::Drop(names) => Inside(key, 40, Field("Drop", names)).enter(visitor),
             Request::Move(from, to) => {
-                let from = Field(Key::new("from"), from);
-                let to = Field(Key::new("to"), to);
+                let from = Field("from", from);
+                let to = Field("to", to);
                 Inside(key, 40, (from, to)).enter(visitor)
             }
             Request::Put(name, value) => {
-                let name = Field(Key::new("name"), name);
-                let value = Field(Key::new("value"), value);
+                let name = Field("name", name);
+                let value = Field("value", value);
                 Inside(key, 40, (name, value)).enter(visitor)
             }
             Request::Swap(from, to, is_deep) => {
-                let from = Field(Key::new("from"), from);
-                let to = Field(Key::new("to"), to);
-                let is_deep = Field(Key::new("is_deep"), is_deep);
+                let from = Field("from", from);
+                let to = Field("to", to);
+                let is_deep = Field("is_deep", is_deep);
                 Inside(key, 40, (from, to, is_deep)).enter(visitor)
             }
             Request::Draw(left, top, width, height, text) => {
-                let left = Field(Key::new("left"), left);
-                let top = Field(Key::new("top"), top);
-                let width = Field(Key::new("width"), width);
-                let height = Field(Key::new("height"), height);
-                let text = Field(Key::new("text"), text);
+                let left = Field("left", left);
+                let top = Field("top", top);
+                let width = Field("width", width);
+                let height = Field("height", height);
+                let text = Field("text", text);
                 Inside(key, 40, (left, top, width, height, text)).enter(visitor)
             }
         }

@@ -5,7 +5,7 @@ ghost use Rattle.std.specs.Prelude.{codes, Some};
 ghost use Rattle.allocative.specs.Shows.{Inside, Field, Both};
 
 use allocative::part::{Field, Inside, Part};
-use allocative::{Allocative, Key, Refusal, Visitor};
+use allocative::{Allocative, Refusal, Visitor};
 
 /// What a program is started with.
 #[derive(Drop)]
@@ -61,7 +61,7 @@ impl Allocative for Settings {
 
     fn visit(&self, visitor: &mut Visitor<'_>) -> Result<(), Refusal> {
         let groups = (Names(self), Limits(self), Window(self), Modes(self));
-        Inside(Key::new("Settings"), 280, groups).enter(visitor)
+        Inside("Settings", 280, groups).enter(visitor)
     }
 }
 
@@ -78,11 +78,11 @@ impl<'a> Part for Names<'a> {
         (Field (codes "ports") (Some 24) (⟦<Vec<u16> as Allocative>⟧.may_show g.0.now.ports))))) };
 
     fn enter(self, visitor: &mut Visitor<'_>) -> Result<(), Refusal> {
-        let name = Field(Key::new("name"), &self.0.name);
-        let home = Field(Key::new("home"), &self.0.home);
-        let user = Field(Key::new("user"), &self.0.user);
-        let words = Field(Key::new("words"), &self.0.words);
-        let ports = Field(Key::new("ports"), &self.0.ports);
+        let name = Field("name", &self.0.name);
+        let home = Field("home", &self.0.home);
+        let user = Field("user", &self.0.user);
+        let words = Field("words", &self.0.words);
+        let ports = Field("ports", &self.0.ports);
         (name, home, user, words, ports).enter(visitor)
     }
 }
@@ -100,11 +100,11 @@ impl<'a> Part for Limits<'a> {
         (Field (codes "timeout") (Some 16) (⟦<Option<u64> as Allocative>⟧.may_show g.0.now.timeout))))) };
 
     fn enter(self, visitor: &mut Visitor<'_>) -> Result<(), Refusal> {
-        let threads = Field(Key::new("threads"), &self.0.threads);
-        let queue = Field(Key::new("queue"), &self.0.queue);
-        let retries = Field(Key::new("retries"), &self.0.retries);
-        let delay = Field(Key::new("delay"), &self.0.delay);
-        let timeout = Field(Key::new("timeout"), &self.0.timeout);
+        let threads = Field("threads", &self.0.threads);
+        let queue = Field("queue", &self.0.queue);
+        let retries = Field("retries", &self.0.retries);
+        let delay = Field("delay", &self.0.delay);
+        let timeout = Field("timeout", &self.0.timeout);
         (threads, queue, retries, delay, timeout).enter(visitor)
     }
 }
@@ -122,11 +122,11 @@ impl<'a> Part for Window<'a> {
         (Field (codes "scale") (Some 2) (⟦<u16 as Allocative>⟧.may_show g.0.now.scale))))) };
 
     fn enter(self, visitor: &mut Visitor<'_>) -> Result<(), Refusal> {
-        let width = Field(Key::new("width"), &self.0.width);
-        let height = Field(Key::new("height"), &self.0.height);
-        let corner = Field(Key::new("corner"), &self.0.corner);
-        let depth = Field(Key::new("depth"), &self.0.depth);
-        let scale = Field(Key::new("scale"), &self.0.scale);
+        let width = Field("width", &self.0.width);
+        let height = Field("height", &self.0.height);
+        let corner = Field("corner", &self.0.corner);
+        let depth = Field("depth", &self.0.depth);
+        let scale = Field("scale", &self.0.scale);
         (width, height, corner, depth, scale).enter(visitor)
     }
 }
@@ -144,11 +144,11 @@ impl<'a> Part for Modes<'a> {
         (Field (codes "mark") (Some 8) (⟦<Option<u32> as Allocative>⟧.may_show g.0.now.mark))))) };
 
     fn enter(self, visitor: &mut Visitor<'_>) -> Result<(), Refusal> {
-        let is_quiet = Field(Key::new("is_quiet"), &self.0.is_quiet);
-        let is_verbose = Field(Key::new("is_verbose"), &self.0.is_verbose);
-        let is_strict = Field(Key::new("is_strict"), &self.0.is_strict);
-        let seed = Field(Key::new("seed"), &self.0.seed);
-        let mark = Field(Key::new("mark"), &self.0.mark);
+        let is_quiet = Field("is_quiet", &self.0.is_quiet);
+        let is_verbose = Field("is_verbose", &self.0.is_verbose);
+        let is_strict = Field("is_strict", &self.0.is_strict);
+        let seed = Field("seed", &self.0.seed);
+        let mark = Field("mark", &self.0.mark);
         (is_quiet, is_verbose, is_strict, seed, mark).enter(visitor)
     }
 }

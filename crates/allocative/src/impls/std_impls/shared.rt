@@ -18,10 +18,10 @@ impl<T: Allocative + Described> Allocative for IdRc<T> {
 
     fn visit(&self, visitor: &mut Visitor<'_>) -> Result<(), Refusal> {
         let pointer = Shared {
-            key: Key::new("ptr"),
+            key: "ptr",
             size: 8,
             identity: self.id(),
-            content: Declared(Key::new("RcInner"), shared_inner_size::<T>(), self.get()),
+            content: Declared("RcInner", shared_inner_size::<T>(), self.get()),
         };
         Declared(Key::for_type_name::<IdRc<T>>(), <IdRc<T>>::size(), pointer).enter(visitor)
     }
@@ -32,10 +32,10 @@ impl<T: Allocative + Described> Allocative for IdArc<T> {
 
     fn visit(&self, visitor: &mut Visitor<'_>) -> Result<(), Refusal> {
         let pointer = Shared {
-            key: Key::new("ptr"),
+            key: "ptr",
             size: 8,
             identity: self.id(),
-            content: Declared(Key::new("ArcInner"), shared_inner_size::<T>(), self.get()),
+            content: Declared("ArcInner", shared_inner_size::<T>(), self.get()),
         };
         Declared(
             Key::for_type_name::<IdArc<T>>(),
