@@ -161,7 +161,7 @@ impl<'a, K: IntoKey, T: Allocative + Described> Part for Field<K, &'a T> {
 ///
 /// ```
 /// let pointer = Shared {
-///     key: "ptr",
+///     key: Key::new("ptr"),
 ///     size: 8,
 ///     identity: self.table.id(),
 ///     content: Field("Table", self.table.get()),
@@ -169,9 +169,9 @@ impl<'a, K: IntoKey, T: Allocative + Described> Part for Field<K, &'a T> {
 /// Inside("Handle", 8, pointer).enter(visitor)
 /// ```
 #[derive(Drop)]
-pub struct Shared<K, P> {
+pub struct Shared<P> {
     /// The pointer's key.
-    pub key: K,
+    pub key: Key,
     /// The pointer's bytes.
     pub size: usize,
     /// Whose content it is.
@@ -180,13 +180,13 @@ pub struct Shared<K, P> {
     pub content: P,
 }
 
-impl<K: IntoKey, P: Part> Part for Shared<K, P> {
-    ghost may_show = { λ s. shows.SharedWith (K.key s.key) s.size s.identity (P.may_show s.content) };
+impl<P: Part> Part for Shared<P> {
+    ghost may_show = { λ s. shows.SharedWith s.key s.size s.identity (P.may_show s.content) };
 
     fn enter(self, visitor: &mut Visitor<'_>) -> Result<(), Refusal> {
         let is_first = visitor
             .collector
-            .go_to_shared(self.key.into_key(), self.size, self.identity)?;
+            .go_to_shared(self.key, self.size, self.identity)?;
         if is_first {
             let mut content = visitor.collector.content();
             self.content.enter(&mut content)?;

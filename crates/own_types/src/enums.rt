@@ -18,7 +18,7 @@ pub enum Request {
     Drop(Vec<u32>),
     Move(u32, u32),
     Put(String, u64),
-    Swap(u32, u32, bool),
+    Swap(u32, String, u32),
     Draw(u16, u16, u16, u16, String),
 }
 
@@ -38,10 +38,10 @@ impl Allocative for Request {
       | Put s n ↦ Both
           (Field (codes "name") (Some 24) (⟦<String as Allocative>⟧.may_show s))
           (Field (codes "value") (Some 8) (⟦<u64 as Allocative>⟧.may_show n))
-      | Swap n m b ↦ Both
+      | Swap n s m ↦ Both
           (Field (codes "from") (Some 4) (⟦<u32 as Allocative>⟧.may_show n)) (Both
-          (Field (codes "to") (Some 4) (⟦<u32 as Allocative>⟧.may_show m))
-          (Field (codes "is_deep") (Some 1) (⟦<bool as Allocative>⟧.may_show b)))
+          (Field (codes "by") (Some 24) (⟦<String as Allocative>⟧.may_show s))
+          (Field (codes "to") (Some 4) (⟦<u32 as Allocative>⟧.may_show m)))
       | Draw a b w h s ↦ Both
           (Field (codes "left") (Some 2) (⟦<u16 as Allocative>⟧.may_show a)) (Both
           (Field (codes "top") (Some 2) (⟦<u16 as Allocative>⟧.may_show b)) (Both
@@ -70,11 +70,11 @@ impl Allocative for Request {
                 let value = Field("value", value);
                 Inside(key, 40, (name, value)).enter(visitor)
             }
-            Request::Swap(from, to, is_deep) => {
+            Request::Swap(from, by, to) => {
                 let from = Field("from", from);
+                let by = Field("by", by);
                 let to = Field("to", to);
-                let is_deep = Field("is_deep", is_deep);
-                Inside(key, 40, (from, to, is_deep)).enter(visitor)
+                Inside(key, 40, (from, by, to)).enter(visitor)
             }
             Request::Draw(left, top, width, height, text) => {
                 let left = Field("left", left);

@@ -5,7 +5,7 @@ ghost use Rattle.std.specs.Prelude.{codes, Some};
 ghost use Rattle.allocative.specs.Shows.{Inside, Field, Both, SharedWith};
 
 use allocative::part::{Field, Inside, Part, Shared};
-use allocative::{Allocative, Described, IdRc, Identity, Refusal, Visitor};
+use allocative::{Allocative, Described, IdRc, Identity, Key, Refusal, Visitor};
 use std::rc::Rc;
 
 /// Two owners, who may share one table.
@@ -39,7 +39,7 @@ impl<T: Allocative + Described> Allocative for PageLink<T> {
 
     fn visit(&self, visitor: &mut Visitor<'_>) -> Result<(), Refusal> {
         let page = Shared {
-            key: "page",
+            key: Key::new("page"),
             size: 8,
             identity: Identity::new(0, self.number),
             content: Field("Page", &*self.page),

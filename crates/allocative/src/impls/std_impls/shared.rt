@@ -18,7 +18,7 @@ impl<T: Allocative + Described> Allocative for IdRc<T> {
 
     fn visit(&self, visitor: &mut Visitor<'_>) -> Result<(), Refusal> {
         let pointer = Shared {
-            key: "ptr",
+            key: Key::new("ptr"),
             size: 8,
             identity: self.id(),
             content: Declared("RcInner", shared_inner_size::<T>(), self.get()),
@@ -32,7 +32,7 @@ impl<T: Allocative + Described> Allocative for IdArc<T> {
 
     fn visit(&self, visitor: &mut Visitor<'_>) -> Result<(), Refusal> {
         let pointer = Shared {
-            key: "ptr",
+            key: Key::new("ptr"),
             size: 8,
             identity: self.id(),
             content: Declared("ArcInner", shared_inner_size::<T>(), self.get()),

@@ -16,6 +16,6 @@ pub returns-in_ok-enter : goal.returns-in_ok-enter
 returns-in_ok-enter g c = record {
   same_reference = search rules;
   same_outer = search rules;
-  shown = content_shows (rw c.into_key.ensures at c.in_ok-is_first.ensures.enters) c.if-is_first.true c.content-content.ensures.now c.in_ok-enter.ensures.shown c.exit.ensures;
+  shown = content_shows c.in_ok-is_first.ensures.enters c.if-is_first.true c.content-content.ensures.now c.in_ok-enter.ensures.shown c.exit.ensures;
   cause = tt;
 }
