@@ -48,9 +48,9 @@ pub means_with_room : {p : Showing} {n s : ℕ} {size : Option ℕ} (unused : �
 means_with_room unused e z = rw e (record { means = λ f g. with_room unused z g })
 
 -- ---- texts
-pub means_text : {a b c d : Key} {n l m u : ℕ} → a ≡ codes "ptr" → b ≡ codes "capacity" → c ≡ codes "u8" → d ≡ codes "unused_capacity" → n ≡ l → m ≡ l + u →
-    Means (InsideUnique a 8 (Inside b m (Both (Inside c n Nothing) (Inside d u Nothing)))) (text_shows l)
-means_text {u = u} e f g h i j = rw (e, f, g, h, i, j) (record { means = λ x y. (u, y) })
+pub means_text : {n l m u : ℕ} → n ≡ l → m ≡ l + u →
+    Means (InsideUnique (codes "ptr") 8 (Inside (codes "capacity") m (Both (Inside (codes "u8") n Nothing) (Inside (codes "unused_capacity") u Nothing)))) (text_shows l)
+means_text {u = u} i j = rw (i, j) (record { means = λ x y. (u, y) })
 
 -- ---- tables
 pub means_no_table : {n : ℕ} → n ≡ 0 → Means Nothing (table_shows n)

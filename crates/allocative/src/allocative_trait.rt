@@ -30,9 +30,9 @@ use allocative_graph::refusal::Refusal;
 ///         (Field (codes "y") (Some 4) (⟦<u32 as Allocative>⟧.may_show p.y))) };
 ///
 ///     fn visit(&self, visitor: &mut Visitor<'_>) -> Result<(), Refusal> {
-///         let x = Field(Key::new("x"), &self.x);
-///         let y = Field(Key::new("y"), &self.y);
-///         Inside(Key::new("Point"), 8, (x, y)).enter(visitor)
+///         let x = Field("x", &self.x);
+///         let y = Field("y", &self.y);
+///         Inside("Point", 8, (x, y)).enter(visitor)
 ///     }
 /// }
 /// ```

@@ -9,10 +9,9 @@ ghost use Rattle.allocative.specs.Runs.{field_of, pair_shows};
 ghost use Rattle.allocative.specs.StdShows.{in_any_order};
 
 use crate::allocative_trait::Allocative;
-use crate::part::{Declared, Field, Inside, Part, Unique};
+use crate::part::{Declared, Field, Inside, IntoKey, Part, Unique};
 use crate::visitor::Visitor;
 use allocative_described::{Described, raw_table_alloc_size_for_len};
-use allocative_graph::key::Key;
 use allocative_graph::refusal::Refusal;
 use indexmap::{IndexMap, IndexSet};
 use std::collections::{BTreeMap, BTreeSet, HashMap, HashSet};
@@ -22,7 +21,7 @@ use std::hash::Hash;
 /// size 0, else what each item shows. It is refused as `Visitor::visit_slice` is.
 ///
 /// ```
-/// Unique(Key::new("ptr"), 8, Items(self.rows.as_slice())).enter(visitor)
+/// Unique("ptr", 8, Items(self.rows.as_slice())).enter(visitor)
 /// ```
 #[derive(Drop)]
 pub struct Items<V>(pub V);
@@ -38,7 +37,7 @@ impl<'a, T: Allocative + Described> Part for Items<&'a [T]> {
 /// What each item shows, in order, as `Each(vec)`.
 ///
 /// ```
-/// Inside(Key::new("Rows"), 24, Each(&self.rows)).enter(visitor)
+/// Inside("Rows", 24, Each(&self.rows)).enter(visitor)
 /// ```
 #[derive(Drop)]
 pub struct Each<V>(pub V);
@@ -70,54 +69,56 @@ impl<'a, T: Allocative + Described> Part for Cut<&'a [T]> {
 /// A field under the key for each item, as `FieldEach(key, items)`. Those of a hashed set stand in any order.
 ///
 /// ```
-/// Inside(Key::new("Tags"), 24, FieldEach(Key::new("tag"), self.tags.as_slice())).enter(visitor)
+/// Inside("Tags", 24, FieldEach("tag", self.tags.as_slice())).enter(visitor)
 /// ```
 #[derive(Drop)]
-pub struct FieldEach<V>(pub Key, pub V);
+pub struct FieldEach<K, V>(pub K, pub V);
 
-impl<'a, T: Allocative + Described> Part for FieldEach<&'a [T]> {
-    ghost may_show = { λ s. shows.each_shows (field_of s.0 T.size T.may_show) s.1.now };
+impl<'a, K: IntoKey, T: Allocative + Described> Part for FieldEach<K, &'a [T]> {
+    ghost may_show = { λ s. shows.each_shows (field_of (K.key s.0) T.size T.may_show) s.1.now };
 
     #[tactic(auto, using(crate::proofs::Showing::showing))]
     fn enter(self, visitor: &mut Visitor<'_>) -> Result<(), Refusal> {
-        for item in self.1 {
-            Field(self.0.copy(), item).enter(visitor)?;
+        let FieldEach(key, items) = self;
+        let key = key.into_key();
+        for item in items {
+            Field(key.copy(), item).enter(visitor)?;
         }
         Ok(())
     }
 }
 
-impl<'a, T: Allocative + Described + Ord> Part for FieldEach<&'a BTreeSet<T>> {
-    ghost may_show = { λ s. shows.each_shows (field_of s.0 T.size T.may_show) s.1.now.keys };
+impl<'a, K: IntoKey, T: Allocative + Described + Ord> Part for FieldEach<K, &'a BTreeSet<T>> {
+    ghost may_show = { λ s. shows.each_shows (field_of (K.key s.0) T.size T.may_show) s.1.now.keys };
 
     fn enter(self, visitor: &mut Visitor<'_>) -> Result<(), Refusal> {
         let FieldEach(key, set) = self;
-        visitor.visit_fields(key, set.iter())
+        visitor.visit_fields(key.into_key(), set.iter())
     }
 }
 
-impl<'a, T: Allocative + Described + Eq + Hash> Part for FieldEach<&'a HashSet<T>> {
-    ghost may_show = { λ s. in_any_order (field_of s.0 T.size T.may_show) s.1.now.keys };
+impl<'a, K: IntoKey, T: Allocative + Described + Eq + Hash> Part for FieldEach<K, &'a HashSet<T>> {
+    ghost may_show = { λ s. in_any_order (field_of (K.key s.0) T.size T.may_show) s.1.now.keys };
 
     fn enter(self, visitor: &mut Visitor<'_>) -> Result<(), Refusal> {
         let FieldEach(key, hashed) = self;
-        visitor.visit_fields(key, hashed.iter())
+        visitor.visit_fields(key.into_key(), hashed.iter())
     }
 }
 
-impl<'a, T: Allocative + Described + Eq + Hash> Part for FieldEach<&'a IndexSet<T>> {
-    ghost may_show = { λ s. shows.each_shows (field_of s.0 T.size T.may_show) s.1.now.keys };
+impl<'a, K: IntoKey, T: Allocative + Described + Eq + Hash> Part for FieldEach<K, &'a IndexSet<T>> {
+    ghost may_show = { λ s. shows.each_shows (field_of (K.key s.0) T.size T.may_show) s.1.now.keys };
 
     fn enter(self, visitor: &mut Visitor<'_>) -> Result<(), Refusal> {
         let FieldEach(key, indexed) = self;
-        visitor.visit_fields(key, indexed.iter())
+        visitor.visit_fields(key.into_key(), indexed.iter())
     }
 }
 
 /// The fields `key` and `value` for each pair of a map, as `Pairs(map)`. Those of a hashed map stand in any order.
 ///
 /// ```
-/// Inside(Key::new("Index"), 24, Pairs(&self.by_name)).enter(visitor)
+/// Inside("Index", 24, Pairs(&self.by_name)).enter(visitor)
 /// ```
 #[derive(Drop)]
 pub struct Pairs<V>(pub V);
@@ -171,7 +172,7 @@ impl Part for Unused {
             Some(size) => size.checked_mul(self.count),
             None => None,
         };
-        Declared(Key::new("unused_capacity"), bytes, ()).enter(visitor)
+        Declared("unused_capacity", bytes, ()).enter(visitor)
     }
 }
 
@@ -185,7 +186,7 @@ impl Part for Unused {
 ///     count: self.rows.len(),
 ///     capacity: self.rows.capacity(),
 /// };
-/// Inside(Key::new("Table"), 24, buffer).enter(visitor)
+/// Inside("Table", 24, buffer).enter(visitor)
 /// ```
 #[derive(Drop)]
 pub struct Buffer<P> {
@@ -216,7 +217,7 @@ impl<P: Part> Part for Buffer<P> {
             item_size: self.item_size,
             count: self.capacity.saturating_sub(self.count),
         };
-        Unique(Key::new("ptr"), 8, (self.items, unused)).enter(visitor)
+        Unique("ptr", 8, (self.items, unused)).enter(visitor)
     }
 }
 
@@ -229,7 +230,7 @@ impl<P: Part> Part for IndexData<P> {
     ghost may_show = { λ d. index_data_shows d.1.item_size (P.may_show d.0) };
 
     fn enter(self, visitor: &mut Visitor<'_>) -> Result<(), Refusal> {
-        Unique(Key::new("data"), 8, (self.0, self.1)).enter(visitor)
+        Unique("data", 8, (self.0, self.1)).enter(visitor)
     }
 }
 
@@ -237,7 +238,7 @@ impl<P: Part> Part for IndexData<P> {
 /// and an entry `unused_capacity`.
 ///
 /// ```
-/// Inside(Key::new("Name"), 24, Text(&self.name)).enter(visitor)
+/// Inside("Name", 24, Text(&self.name)).enter(visitor)
 /// ```
 #[derive(Drop)]
 pub struct Text<'a>(pub &'a String);
@@ -246,11 +247,11 @@ impl<'a> Part for Text<'a> {
     ghost may_show = { λ t. text_shows (length (string_bytes t.0.now)) };
 
     fn enter(self, visitor: &mut Visitor<'_>) -> Result<(), Refusal> {
-        let used = Inside(Key::new("u8"), self.0.len(), ());
+        let used = Inside("u8", self.0.len(), ());
         let room = self.0.capacity() - self.0.len();
-        let unused = Inside(Key::new("unused_capacity"), room, ());
-        let bytes = Inside(Key::new("capacity"), self.0.capacity(), (used, unused));
-        Unique(Key::new("ptr"), 8, bytes).enter(visitor)
+        let unused = Inside("unused_capacity", room, ());
+        let bytes = Inside("capacity", self.0.capacity(), (used, unused));
+        Unique("ptr", 8, bytes).enter(visitor)
     }
 }
 
@@ -267,11 +268,6 @@ impl Part for Table {
             return Ok(());
         }
         let bytes = raw_table_alloc_size_for_len::<u64>(self.0);
-        Unique(
-            Key::new("raw_table"),
-            8,
-            Declared(Key::new("alloc"), bytes, ()),
-        )
-        .enter(visitor)
+        Unique("raw_table", 8, Declared("alloc", bytes, ())).enter(visitor)
     }
 }

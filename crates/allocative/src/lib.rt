@@ -27,7 +27,7 @@ pub use crate::builder::FlameGraphBuilder;
 pub use crate::containers::{Buffer, Each, FieldEach, Items, Pairs, Text, Unused};
 pub use crate::impls::pack_impls::json::visit_json_map;
 pub use crate::named::Named;
-pub use crate::part::{Declared, Field, Inside, Part, Shared, Unique};
+pub use crate::part::{Declared, Field, Inside, IntoKey, Part, Shared, Unique};
 pub use crate::profile::{profile_value, profile_values};
 pub use crate::registry::{Registry, profile_roots};
 pub use crate::size_of::{size_of_unique, size_of_unique_allocated_data};

@@ -3,7 +3,9 @@
 //! An implementation of `Allocative` builds one part that mirrors its `may_show`, and enters it.
 #![tactic(auto, using(crate::proofs::Showing::showing))]
 
+ghost use Rattle.std.specs.Prelude.{◌≡◌};
 ghost use Rattle.allocative_graph.specs.Forest.{Forest};
+ghost use Rattle.allocative_graph.specs.Path as path;
 ghost use Rattle.allocative_graph.specs.Shows as shows;
 ghost use Rattle.allocative.specs.Visited.{Entered};
 ghost use Rattle.allocative.specs.Parts.{optional_shows, either_shows};
@@ -15,6 +17,31 @@ use allocative_graph::key::Key;
 use allocative_graph::refusal::Refusal;
 use allocative_graph::shared::Identity;
 use either::Either;
+
+/// What a part takes for its key: a text, as `Field("name", &self.name)`, or a key, as `Inside(Key::for_type_name::<T>(), 8, ())`.
+pub trait IntoKey: Drop {
+    ghost key: { Self → path.Key };
+
+    /// The key of the text, or the key itself.
+    fn into_key(self) -> Key
+        ensures { result ≡ key self };
+}
+
+impl IntoKey for Key {
+    ghost key = { λ k. k };
+
+    fn into_key(self) -> Key {
+        self
+    }
+}
+
+impl IntoKey for &'static str {
+    ghost key = { λ s. s.now };
+
+    fn into_key(self) -> Key {
+        Key::new(self)
+    }
+}
 
 /// Something that a value shows.
 ///
@@ -55,18 +82,18 @@ impl<'a, T: Allocative> Part for &'a T {
 /// One inline entry under a key, of a size in bytes, and in it a part.
 ///
 /// ```
-/// let header = Inside(Key::new("header"), 16, ());
-/// Inside(Key::new("Packet"), 48, (header, Field(Key::new("body"), &self.body))).enter(visitor)
+/// let header = Inside("header", 16, ());
+/// Inside("Packet", 48, (header, Field("body", &self.body))).enter(visitor)
 /// ```
 #[derive(Drop)]
-pub struct Inside<P>(pub Key, pub usize, pub P);
+pub struct Inside<K, P>(pub K, pub usize, pub P);
 
-impl<P: Part> Part for Inside<P> {
-    ghost may_show = { λ e. shows.Inside e.0 e.1 (P.may_show e.2) };
+impl<K: IntoKey, P: Part> Part for Inside<K, P> {
+    ghost may_show = { λ e. shows.Inside (K.key e.0) e.1 (P.may_show e.2) };
 
     #[inline(always)]
     fn enter(self, visitor: &mut Visitor<'_>) -> Result<(), Refusal> {
-        let outer = visitor.collector.go_in(self.0, self.1)?;
+        let outer = visitor.collector.go_in(self.0.into_key(), self.1)?;
         let answer = self.2.enter(visitor);
         visitor.collector.leave(outer);
         answer
@@ -76,18 +103,18 @@ impl<P: Part> Part for Inside<P> {
 /// One inline entry under a key, of a declared size in bytes, and in it a part. Where there is no size it is refused with TooLarge.
 ///
 /// ```
-/// let first = Field(Key::new("first"), &self.first);
+/// let first = Field("first", &self.first);
 /// Declared(Key::for_type_name::<Pair<T>>(), <Pair<T>>::size(), first).enter(visitor)
 /// ```
 #[derive(Drop)]
-pub struct Declared<P>(pub Key, pub Option<usize>, pub P);
+pub struct Declared<K, P>(pub K, pub Option<usize>, pub P);
 
-impl<P: Part> Part for Declared<P> {
-    ghost may_show = { λ e. shows.Field e.0 e.1 (P.may_show e.2) };
+impl<K: IntoKey, P: Part> Part for Declared<K, P> {
+    ghost may_show = { λ e. shows.Field (K.key e.0) e.1 (P.may_show e.2) };
 
     #[inline(always)]
     fn enter(self, visitor: &mut Visitor<'_>) -> Result<(), Refusal> {
-        let outer = visitor.collector.go_in_sized(self.0, self.1)?;
+        let outer = visitor.collector.go_in_sized(self.0.into_key(), self.1)?;
         let answer = self.2.enter(visitor);
         visitor.collector.leave(outer);
         answer
@@ -97,17 +124,17 @@ impl<P: Part> Part for Declared<P> {
 /// One unique entry under a key, of a size in bytes, and in it a part: a pointer, and what it alone points to.
 ///
 /// ```
-/// Inside(Key::new("Handle"), 8, Unique(Key::new("ptr"), 8, &*self.boxed)).enter(visitor)
+/// Inside("Handle", 8, Unique("ptr", 8, &*self.boxed)).enter(visitor)
 /// ```
 #[derive(Drop)]
-pub struct Unique<P>(pub Key, pub usize, pub P);
+pub struct Unique<K, P>(pub K, pub usize, pub P);
 
-impl<P: Part> Part for Unique<P> {
-    ghost may_show = { λ e. shows.InsideUnique e.0 e.1 (P.may_show e.2) };
+impl<K: IntoKey, P: Part> Part for Unique<K, P> {
+    ghost may_show = { λ e. shows.InsideUnique (K.key e.0) e.1 (P.may_show e.2) };
 
     #[inline(always)]
     fn enter(self, visitor: &mut Visitor<'_>) -> Result<(), Refusal> {
-        let outer = visitor.collector.go_in_unique(self.0, self.1)?;
+        let outer = visitor.collector.go_in_unique(self.0.into_key(), self.1)?;
         let answer = self.2.enter(visitor);
         visitor.collector.leave(outer);
         answer
@@ -117,15 +144,15 @@ impl<P: Part> Part for Unique<P> {
 /// A field of a type that is described, as `Field(key, &value)`: one inline entry of its declared size, and in it what it shows.
 ///
 /// ```
-/// let name = Field(Key::new("name"), &self.name);
-/// let count = Field(Key::new("count"), &self.count);
-/// Inside(Key::new("Item"), 32, (name, count)).enter(visitor)
+/// let name = Field("name", &self.name);
+/// let count = Field("count", &self.count);
+/// Inside("Item", 32, (name, count)).enter(visitor)
 /// ```
 #[derive(Drop)]
-pub struct Field<V>(pub Key, pub V);
+pub struct Field<K, V>(pub K, pub V);
 
-impl<'a, T: Allocative + Described> Part for Field<&'a T> {
-    ghost may_show = { λ f. shows.Field f.0 T.size (T.may_show f.1.now) };
+impl<'a, K: IntoKey, T: Allocative + Described> Part for Field<K, &'a T> {
+    ghost may_show = { λ f. shows.Field (K.key f.0) T.size (T.may_show f.1.now) };
 
     #[inline(always)]
     fn enter(self, visitor: &mut Visitor<'_>) -> Result<(), Refusal> {
@@ -141,9 +168,9 @@ impl<'a, T: Allocative + Described> Part for Field<&'a T> {
 ///     key: Key::new("ptr"),
 ///     size: 8,
 ///     identity: self.table.id(),
-///     content: Field(Key::new("Table"), self.table.get()),
+///     content: Field("Table", self.table.get()),
 /// };
-/// Inside(Key::new("Handle"), 8, pointer).enter(visitor)
+/// Inside("Handle", 8, pointer).enter(visitor)
 /// ```
 #[derive(Drop)]
 pub struct Shared<P> {

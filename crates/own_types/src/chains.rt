@@ -6,7 +6,7 @@ ghost use Rattle.allocative.specs.Levels.{recursive};
 ghost use Rattle.own_types.specs.Chains.{chain_level};
 
 use allocative::part::{Field, Inside, Part, Unique};
-use allocative::{Allocative, Key, Refusal, Visitor};
+use allocative::{Allocative, Refusal, Visitor};
 
 /// A text and what follows it, or the end.
 #[derive(Drop)]
@@ -20,11 +20,11 @@ impl Allocative for Chain {
 
     fn visit(&self, visitor: &mut Visitor<'_>) -> Result<(), Refusal> {
         match self {
-            Chain::End => Inside(Key::new("Chain"), 32, ()).enter(visitor),
+            Chain::End => Inside("Chain", 32, ()).enter(visitor),
             Chain::Text(text, next) => {
-                let text = Field(Key::new("text"), text);
-                let next = Unique(Key::new("ptr"), 8, &**next);
-                Inside(Key::new("Chain"), 32, (text, next)).enter(visitor)
+                let text = Field("text", text);
+                let next = Unique("ptr", 8, &**next);
+                Inside("Chain", 32, (text, next)).enter(visitor)
             }
         }
     }

@@ -6,7 +6,7 @@ ghost use Rattle.allocative.specs.Levels.{recursive, level_shows};
 ghost use Rattle.own_types.specs.Chapters.{chapter_level, note_level};
 
 use allocative::part::{Field, Inside, Part};
-use allocative::{Allocative, Described, Key, Refusal, Visitor};
+use allocative::{Allocative, Described, Refusal, Visitor};
 
 /// A chapter, and the notes on it.
 #[cycle(chapters)]
@@ -81,9 +81,9 @@ impl Allocative for Chapter {
 
     #[cycle(chapters)]
     fn visit(&self, visitor: &mut Visitor<'_>) -> Result<(), Refusal> {
-        let number = Field(Key::new("number"), &self.number);
-        let notes = Field(Key::new("notes"), &self.notes);
-        Inside(Key::new("Chapter"), 32, (number, notes)).enter(visitor)
+        let number = Field("number", &self.number);
+        let notes = Field("notes", &self.notes);
+        Inside("Chapter", 32, (number, notes)).enter(visitor)
     }
 }
 
@@ -92,8 +92,8 @@ impl Allocative for Note {
 
     #[cycle(chapters)]
     fn visit(&self, visitor: &mut Visitor<'_>) -> Result<(), Refusal> {
-        let chapters = Field(Key::new("chapters"), &self.chapters);
-        let is_long = Field(Key::new("is_long"), &self.is_long);
-        Inside(Key::new("Note"), 32, (chapters, is_long)).enter(visitor)
+        let chapters = Field("chapters", &self.chapters);
+        let is_long = Field("is_long", &self.is_long);
+        Inside("Note", 32, (chapters, is_long)).enter(visitor)
     }
 }

@@ -5,7 +5,7 @@ ghost use Rattle.std.specs.Prelude.{codes, Some};
 ghost use Rattle.allocative.specs.Shows.{Inside, Field, Both};
 
 use allocative::part::{Field, Inside, Part};
-use allocative::{Allocative, Described, Key, Refusal, Visitor};
+use allocative::{Allocative, Described, Refusal, Visitor};
 use indexmap::IndexMap;
 use std::collections::HashMap;
 use std::hash::Hash;
@@ -23,9 +23,9 @@ impl<T: Allocative + Described> Allocative for Shelf<T> {
         (Field (codes "limit") (Some 4) (⟦<u32 as Allocative>⟧.may_show s.limit))) };
 
     fn visit(&self, visitor: &mut Visitor<'_>) -> Result<(), Refusal> {
-        let items = Field(Key::new("items"), &self.items);
-        let limit = Field(Key::new("limit"), &self.limit);
-        Inside(Key::new("Shelf"), 32, (items, limit)).enter(visitor)
+        let items = Field("items", &self.items);
+        let limit = Field("limit", &self.limit);
+        Inside("Shelf", 32, (items, limit)).enter(visitor)
     }
 }
 
@@ -43,9 +43,9 @@ impl<K: Allocative + Described + Eq + Hash, V: Allocative + Described> Allocativ
         (Field (codes "asked") (Some 8) (⟦<u64 as Allocative>⟧.may_show c.asked))) };
 
     fn visit(&self, visitor: &mut Visitor<'_>) -> Result<(), Refusal> {
-        let values = Field(Key::new("values"), &self.values);
-        let asked = Field(Key::new("asked"), &self.asked);
-        Inside(Key::new("Catalog"), 56, (values, asked)).enter(visitor)
+        let values = Field("values", &self.values);
+        let asked = Field("asked", &self.asked);
+        Inside("Catalog", 56, (values, asked)).enter(visitor)
     }
 }
 
@@ -63,8 +63,8 @@ impl<K: Allocative + Described + Eq + Hash, V: Allocative + Described> Allocativ
         (Field (codes "is_closed") (Some 1) (⟦<bool as Allocative>⟧.may_show j.is_closed))) };
 
     fn visit(&self, visitor: &mut Visitor<'_>) -> Result<(), Refusal> {
-        let pages = Field(Key::new("pages"), &self.pages);
-        let is_closed = Field(Key::new("is_closed"), &self.is_closed);
-        Inside(Key::new("Journal"), 80, (pages, is_closed)).enter(visitor)
+        let pages = Field("pages", &self.pages);
+        let is_closed = Field("is_closed", &self.is_closed);
+        Inside("Journal", 80, (pages, is_closed)).enter(visitor)
     }
 }

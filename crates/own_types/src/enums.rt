@@ -5,7 +5,7 @@ ghost use Rattle.std.specs.Prelude.{codes, Some};
 ghost use Rattle.allocative.specs.Shows.{Nothing, Inside, Field, Both};
 
 use allocative::part::{Field, Inside, Part};
-use allocative::{Allocative, Key, Refusal, Visitor};
+use allocative::{Allocative, Refusal, Visitor};
 
 /// What a client asks of a store.
 #[derive(Drop)]
@@ -18,7 +18,7 @@ pub enum Request {
     Drop(Vec<u32>),
     Move(u32, u32),
     Put(String, u64),
-    Swap(u32, u32, bool),
+    Swap(u32, String, u32),
     Draw(u16, u16, u16, u16, String),
 }
 
@@ -38,10 +38,10 @@ impl Allocative for Request {
       | Put s n ↦ Both
           (Field (codes "name") (Some 24) (⟦<String as Allocative>⟧.may_show s))
           (Field (codes "value") (Some 8) (⟦<u64 as Allocative>⟧.may_show n))
-      | Swap n m b ↦ Both
+      | Swap n s m ↦ Both
           (Field (codes "from") (Some 4) (⟦<u32 as Allocative>⟧.may_show n)) (Both
-          (Field (codes "to") (Some 4) (⟦<u32 as Allocative>⟧.may_show m))
-          (Field (codes "is_deep") (Some 1) (⟦<bool as Allocative>⟧.may_show b)))
+          (Field (codes "by") (Some 24) (⟦<String as Allocative>⟧.may_show s))
+          (Field (codes "to") (Some 4) (⟦<u32 as Allocative>⟧.may_show m)))
       | Draw a b w h s ↦ Both
           (Field (codes "left") (Some 2) (⟦<u16 as Allocative>⟧.may_show a)) (Both
           (Field (codes "top") (Some 2) (⟦<u16 as Allocative>⟧.may_show b)) (Both
@@ -51,37 +51,37 @@ impl Allocative for Request {
     ]) };
 
     fn visit(&self, visitor: &mut Visitor<'_>) -> Result<(), Refusal> {
-        let key = Key::new("Request");
+        let key = "Request";
         match self {
             Request::Ping | Request::Stop | Request::Reset => Inside(key, 40, ()).enter(visitor),
             Request::Count(count) => {
-                let count = Field(Key::new("Count"), count);
+                let count = Field("Count", count);
                 Inside(key, 40, count).enter(visitor)
             }
-            Request::Find(name) => Inside(key, 40, Field(Key::new("Find"), name)).enter(visitor),
-            Request::Drop(names) => Inside(key, 40, Field(Key::new("Drop"), names)).enter(visitor),
+            Request::Find(name) => Inside(key, 40, Field("Find", name)).enter(visitor),
+            Request::Drop(names) => Inside(key, 40, Field("Drop", names)).enter(visitor),
             Request::Move(from, to) => {
-                let from = Field(Key::new("from"), from);
-                let to = Field(Key::new("to"), to);
+                let from = Field("from", from);
+                let to = Field("to", to);
                 Inside(key, 40, (from, to)).enter(visitor)
             }
             Request::Put(name, value) => {
-                let name = Field(Key::new("name"), name);
-                let value = Field(Key::new("value"), value);
+                let name = Field("name", name);
+                let value = Field("value", value);
                 Inside(key, 40, (name, value)).enter(visitor)
             }
-            Request::Swap(from, to, is_deep) => {
-                let from = Field(Key::new("from"), from);
-                let to = Field(Key::new("to"), to);
-                let is_deep = Field(Key::new("is_deep"), is_deep);
-                Inside(key, 40, (from, to, is_deep)).enter(visitor)
+            Request::Swap(from, by, to) => {
+                let from = Field("from", from);
+                let by = Field("by", by);
+                let to = Field("to", to);
+                Inside(key, 40, (from, by, to)).enter(visitor)
             }
             Request::Draw(left, top, width, height, text) => {
-                let left = Field(Key::new("left"), left);
-                let top = Field(Key::new("top"), top);
-                let width = Field(Key::new("width"), width);
-                let height = Field(Key::new("height"), height);
-                let text = Field(Key::new("text"), text);
+                let left = Field("left", left);
+                let top = Field("top", top);
+                let width = Field("width", width);
+                let height = Field("height", height);
+                let text = Field("text", text);
                 Inside(key, 40, (left, top, width, height, text)).enter(visitor)
             }
         }

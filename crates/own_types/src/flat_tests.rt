@@ -149,9 +149,11 @@ fn a_variant_of_two_fields(rt: HostRuntime) -> Result<(), Fail> {
 
 #[test]
 fn a_variant_of_three_fields(rt: HostRuntime) -> Result<(), Fail> {
-    let text = "Request 31\nRequest;from;u32 4\nRequest;is_deep;bool 1\nRequest;to;u32 4\n";
-    let swap = Request::Swap(1, 2, true);
-    expect(&rt, rt.alloc(), &swap, &Profile::new(text, 40))
+    let alloc = rt.alloc();
+    let text =
+        "Request 8\nRequest;by;String 16\nRequest;by;String;ptr 8\nRequest;from;u32 4\nRequest;to;u32 4\n";
+    let swap = Request::Swap(1, String::new(alloc), 2);
+    expect(&rt, alloc, &swap, &Profile::new(text, 40))
 }
 
 #[test]

@@ -10,7 +10,7 @@ ghost use Rattle.own_types.specs.declared.folders.Folder.{out-Folder};
 ghost use Rattle.own_types.specs.declared.folders.Index.{out-Index};
 
 use allocative::part::{Field, Inside, Part};
-use allocative::{Allocative, Described, Key, Refusal, Visitor};
+use allocative::{Allocative, Described, Refusal, Visitor};
 use std::collections::{BTreeMap, HashMap};
 
 /// Folders by their numbers.
@@ -50,8 +50,8 @@ impl Allocative for Folder {
         (field (codes "inner") (Some 48) (hash_map_of (pair_of (Some 4) (λ _. Leaf (codes "u32") 4) 48 child) (out-Folder d).inner.entries))) };
 
     fn visit(&self, visitor: &mut Visitor<'_>) -> Result<(), Refusal> {
-        let inner = Field(Key::new("inner"), &self.inner);
-        Inside(Key::new("Folder"), 48, inner).enter(visitor)
+        let inner = Field("inner", &self.inner);
+        Inside("Folder", 48, inner).enter(visitor)
     }
 }
 
@@ -93,7 +93,7 @@ impl Allocative for Index {
         (out-Index i).words.entries))) };
 
     fn visit(&self, visitor: &mut Visitor<'_>) -> Result<(), Refusal> {
-        let words = Field(Key::new("words"), &self.words);
-        Inside(Key::new("Index"), 24, words).enter(visitor)
+        let words = Field("words", &self.words);
+        Inside("Index", 24, words).enter(visitor)
     }
 }

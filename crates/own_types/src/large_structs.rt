@@ -5,7 +5,7 @@ ghost use Rattle.std.specs.Prelude.{codes, Some};
 ghost use Rattle.allocative.specs.Shows.{Inside, Field, Both};
 
 use allocative::part::{Field, Inside, Part};
-use allocative::{Allocative, Described, Key, Refusal, Visitor};
+use allocative::{Allocative, Described, Refusal, Visitor};
 
 /// A thing that was bought.
 #[derive(Drop)]
@@ -34,17 +34,17 @@ impl Allocative for Order {
         (Field (codes "is_paid") (Some 1) (⟦<bool as Allocative>⟧.may_show o.is_paid))))) };
 
     fn visit(&self, visitor: &mut Visitor<'_>) -> Result<(), Refusal> {
-        let number = Field(Key::new("number"), &self.number);
-        let buyer = Field(Key::new("buyer"), &self.buyer);
-        let seller = Field(Key::new("seller"), &self.seller);
-        let amount = Field(Key::new("amount"), &self.amount);
-        let price = Field(Key::new("price"), &self.price);
+        let number = Field("number", &self.number);
+        let buyer = Field("buyer", &self.buyer);
+        let seller = Field("seller", &self.seller);
+        let amount = Field("amount", &self.amount);
+        let price = Field("price", &self.price);
         let trade = (number, buyer, seller, amount, price);
-        let note = Field(Key::new("note"), &self.note);
-        let marks = Field(Key::new("marks"), &self.marks);
-        let is_paid = Field(Key::new("is_paid"), &self.is_paid);
+        let note = Field("note", &self.note);
+        let marks = Field("marks", &self.marks);
+        let is_paid = Field("is_paid", &self.is_paid);
         let rest = (note, marks, is_paid);
-        Inside(Key::new("Order"), 136, (trade, rest)).enter(visitor)
+        Inside("Order", 136, (trade, rest)).enter(visitor)
     }
 }
 
@@ -84,21 +84,21 @@ impl<T: Allocative + Described> Allocative for Route<T> {
         (Field (codes "is_closed") (Some 1) (⟦<bool as Allocative>⟧.may_show r.is_closed))))))) };
 
     fn visit(&self, visitor: &mut Visitor<'_>) -> Result<(), Refusal> {
-        let name = Field(Key::new("name"), &self.name);
-        let first = Field(Key::new("first"), &self.first);
-        let last = Field(Key::new("last"), &self.last);
-        let between = Field(Key::new("between"), &self.between);
+        let name = Field("name", &self.name);
+        let first = Field("first", &self.first);
+        let last = Field("last", &self.last);
+        let between = Field("between", &self.between);
         let values = (name, first, last, between);
-        let length = Field(Key::new("length"), &self.length);
-        let steps = Field(Key::new("steps"), &self.steps);
-        let start = Field(Key::new("start"), &self.start);
-        let end = Field(Key::new("end"), &self.end);
+        let length = Field("length", &self.length);
+        let steps = Field("steps", &self.steps);
+        let start = Field("start", &self.start);
+        let end = Field("end", &self.end);
         let way = (length, steps, start, end);
-        let height = Field(Key::new("height"), &self.height);
-        let grade = Field(Key::new("grade"), &self.grade);
-        let is_round = Field(Key::new("is_round"), &self.is_round);
-        let is_closed = Field(Key::new("is_closed"), &self.is_closed);
+        let height = Field("height", &self.height);
+        let grade = Field("grade", &self.grade);
+        let is_round = Field("is_round", &self.is_round);
+        let is_closed = Field("is_closed", &self.is_closed);
         let marks = (height, grade, is_round, is_closed);
-        Inside(Key::new("Route"), 192, (values, way, marks)).enter(visitor)
+        Inside("Route", 192, (values, way, marks)).enter(visitor)
     }
 }

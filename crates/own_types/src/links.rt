@@ -8,7 +8,7 @@ ghost use Rattle.allocative.specs.Levels.{recursive, plain, child, both, inside,
 ghost use Rattle.own_types.specs.declared.links.Link.{out-Link};
 
 use allocative::part::{Field, Inside, Part};
-use allocative::{Allocative, Described, Key, Refusal, Visitor};
+use allocative::{Allocative, Described, Refusal, Visitor};
 
 /// A value, and the links after it.
 #[derive(Drop)]
@@ -49,8 +49,8 @@ impl Allocative for Link {
         (field (codes "next") (Some 16) (option_of 16 8 (λ b. box_of (child b.value)) (out-Link l).next)))) };
 
     fn visit(&self, visitor: &mut Visitor<'_>) -> Result<(), Refusal> {
-        let value = Field(Key::new("value"), &self.value);
-        let next = Field(Key::new("next"), &self.next);
-        Inside(Key::new("Link"), 24, (value, next)).enter(visitor)
+        let value = Field("value", &self.value);
+        let next = Field("next", &self.next);
+        Inside("Link", 24, (value, next)).enter(visitor)
     }
 }

@@ -8,7 +8,7 @@ ghost use Rattle.allocative.specs.Levels.{recursive, plain, child, both, inside,
 ghost use Rattle.own_types.specs.declared.nodes.Node.{out-Node};
 
 use allocative::part::{Field, Inside, Part};
-use allocative::{Allocative, Described, Key, Refusal, Visitor};
+use allocative::{Allocative, Described, Refusal, Visitor};
 
 /// A node and those below it.
 #[derive(Drop)]
@@ -49,8 +49,8 @@ impl Allocative for Node {
         (field (codes "children") (Some 24) (vec_of 32 child (out-Node n).children.items)))) };
 
     fn visit(&self, visitor: &mut Visitor<'_>) -> Result<(), Refusal> {
-        let label = Field(Key::new("label"), &self.label);
-        let children = Field(Key::new("children"), &self.children);
-        Inside(Key::new("Node"), 32, (label, children)).enter(visitor)
+        let label = Field("label", &self.label);
+        let children = Field("children", &self.children);
+        Inside("Node", 32, (label, children)).enter(visitor)
     }
 }

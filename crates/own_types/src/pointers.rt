@@ -21,9 +21,9 @@ impl Allocative for Owners {
         (Field (codes "second") (Some 8) (⟦<IdRc<Vec<u64>> as Allocative>⟧.may_show o.second))) };
 
     fn visit(&self, visitor: &mut Visitor<'_>) -> Result<(), Refusal> {
-        let first = Field(Key::new("first"), &self.first);
-        let second = Field(Key::new("second"), &self.second);
-        Inside(Key::new("Owners"), 16, (first, second)).enter(visitor)
+        let first = Field("first", &self.first);
+        let second = Field("second", &self.second);
+        Inside("Owners", 16, (first, second)).enter(visitor)
     }
 }
 
@@ -42,9 +42,9 @@ impl<T: Allocative + Described> Allocative for PageLink<T> {
             key: Key::new("page"),
             size: 8,
             identity: Identity::new(0, self.number),
-            content: Field(Key::new("Page"), &*self.page),
+            content: Field("Page", &*self.page),
         };
-        Inside(Key::new("PageLink"), 16, page).enter(visitor)
+        Inside("PageLink", 16, page).enter(visitor)
     }
 }
 
@@ -59,6 +59,6 @@ impl<T: Allocative + Described> Allocative for Spread<T> {
     ghost may_show = { λ s. Inside (codes "Spread") 32 (Both (⟦<PageLink<T> as Allocative>⟧.may_show s.left) (⟦<PageLink<T> as Allocative>⟧.may_show s.right)) };
 
     fn visit(&self, visitor: &mut Visitor<'_>) -> Result<(), Refusal> {
-        Inside(Key::new("Spread"), 32, (&self.left, &self.right)).enter(visitor)
+        Inside("Spread", 32, (&self.left, &self.right)).enter(visitor)
     }
 }

@@ -1,11 +1,11 @@
-//! A struct of twenty fields: each group of fields is a part of its own, so that each proof stays small.
+//! A struct of twenty fields, whose parts stand in four groups.
 #![tactic(auto, using(allocative::proofs::Parts::parts))]
 
 ghost use Rattle.std.specs.Prelude.{codes, Some};
 ghost use Rattle.allocative.specs.Shows.{Inside, Field, Both};
 
 use allocative::part::{Field, Inside, Part};
-use allocative::{Allocative, Key, Refusal, Visitor};
+use allocative::{Allocative, Refusal, Visitor};
 
 /// What a program is started with.
 #[derive(Drop)]
@@ -60,95 +60,34 @@ impl Allocative for Settings {
         (Field (codes "mark") (Some 8) (⟦<Option<u32> as Allocative>⟧.may_show s.mark))))))))) };
 
     fn visit(&self, visitor: &mut Visitor<'_>) -> Result<(), Refusal> {
-        let groups = (Names(self), Limits(self), Window(self), Modes(self));
-        Inside(Key::new("Settings"), 280, groups).enter(visitor)
-    }
-}
-
-// The fields that say what it is called and what it reads.
-#[derive(Drop)]
-struct Names<'a>(&'a Settings);
-
-impl<'a> Part for Names<'a> {
-    ghost may_show = { λ g. Both
-        (Field (codes "name") (Some 24) (⟦<String as Allocative>⟧.may_show g.0.now.name)) (Both
-        (Field (codes "home") (Some 24) (⟦<String as Allocative>⟧.may_show g.0.now.home)) (Both
-        (Field (codes "user") (Some 32) (⟦<Option<String> as Allocative>⟧.may_show g.0.now.user)) (Both
-        (Field (codes "words") (Some 24) (⟦<Vec<String> as Allocative>⟧.may_show g.0.now.words))
-        (Field (codes "ports") (Some 24) (⟦<Vec<u16> as Allocative>⟧.may_show g.0.now.ports))))) };
-
-    fn enter(self, visitor: &mut Visitor<'_>) -> Result<(), Refusal> {
-        let name = Field(Key::new("name"), &self.0.name);
-        let home = Field(Key::new("home"), &self.0.home);
-        let user = Field(Key::new("user"), &self.0.user);
-        let words = Field(Key::new("words"), &self.0.words);
-        let ports = Field(Key::new("ports"), &self.0.ports);
-        (name, home, user, words, ports).enter(visitor)
-    }
-}
-
-// The fields that say how much it takes.
-#[derive(Drop)]
-struct Limits<'a>(&'a Settings);
-
-impl<'a> Part for Limits<'a> {
-    ghost may_show = { λ g. Both
-        (Field (codes "threads") (Some 4) (⟦<u32 as Allocative>⟧.may_show g.0.now.threads)) (Both
-        (Field (codes "queue") (Some 4) (⟦<u32 as Allocative>⟧.may_show g.0.now.queue)) (Both
-        (Field (codes "retries") (Some 1) (⟦<u8 as Allocative>⟧.may_show g.0.now.retries)) (Both
-        (Field (codes "delay") (Some 8) (⟦<u64 as Allocative>⟧.may_show g.0.now.delay))
-        (Field (codes "timeout") (Some 16) (⟦<Option<u64> as Allocative>⟧.may_show g.0.now.timeout))))) };
-
-    fn enter(self, visitor: &mut Visitor<'_>) -> Result<(), Refusal> {
-        let threads = Field(Key::new("threads"), &self.0.threads);
-        let queue = Field(Key::new("queue"), &self.0.queue);
-        let retries = Field(Key::new("retries"), &self.0.retries);
-        let delay = Field(Key::new("delay"), &self.0.delay);
-        let timeout = Field(Key::new("timeout"), &self.0.timeout);
-        (threads, queue, retries, delay, timeout).enter(visitor)
-    }
-}
-
-// The fields that say where it draws.
-#[derive(Drop)]
-struct Window<'a>(&'a Settings);
-
-impl<'a> Part for Window<'a> {
-    ghost may_show = { λ g. Both
-        (Field (codes "width") (Some 4) (⟦<u32 as Allocative>⟧.may_show g.0.now.width)) (Both
-        (Field (codes "height") (Some 4) (⟦<u32 as Allocative>⟧.may_show g.0.now.height)) (Both
-        (Field (codes "corner") (Some 8) (⟦<(u32, u32) as Allocative>⟧.may_show g.0.now.corner)) (Both
-        (Field (codes "depth") (Some 1) (⟦<u8 as Allocative>⟧.may_show g.0.now.depth))
-        (Field (codes "scale") (Some 2) (⟦<u16 as Allocative>⟧.may_show g.0.now.scale))))) };
-
-    fn enter(self, visitor: &mut Visitor<'_>) -> Result<(), Refusal> {
-        let width = Field(Key::new("width"), &self.0.width);
-        let height = Field(Key::new("height"), &self.0.height);
-        let corner = Field(Key::new("corner"), &self.0.corner);
-        let depth = Field(Key::new("depth"), &self.0.depth);
-        let scale = Field(Key::new("scale"), &self.0.scale);
-        (width, height, corner, depth, scale).enter(visitor)
-    }
-}
-
-// The fields that say how it works.
-#[derive(Drop)]
-struct Modes<'a>(&'a Settings);
-
-impl<'a> Part for Modes<'a> {
-    ghost may_show = { λ g. Both
-        (Field (codes "is_quiet") (Some 1) (⟦<bool as Allocative>⟧.may_show g.0.now.is_quiet)) (Both
-        (Field (codes "is_verbose") (Some 1) (⟦<bool as Allocative>⟧.may_show g.0.now.is_verbose)) (Both
-        (Field (codes "is_strict") (Some 1) (⟦<bool as Allocative>⟧.may_show g.0.now.is_strict)) (Both
-        (Field (codes "seed") (Some 8) (⟦<u64 as Allocative>⟧.may_show g.0.now.seed))
-        (Field (codes "mark") (Some 8) (⟦<Option<u32> as Allocative>⟧.may_show g.0.now.mark))))) };
-
-    fn enter(self, visitor: &mut Visitor<'_>) -> Result<(), Refusal> {
-        let is_quiet = Field(Key::new("is_quiet"), &self.0.is_quiet);
-        let is_verbose = Field(Key::new("is_verbose"), &self.0.is_verbose);
-        let is_strict = Field(Key::new("is_strict"), &self.0.is_strict);
-        let seed = Field(Key::new("seed"), &self.0.seed);
-        let mark = Field(Key::new("mark"), &self.0.mark);
-        (is_quiet, is_verbose, is_strict, seed, mark).enter(visitor)
+        let names = (
+            Field("name", &self.name),
+            Field("home", &self.home),
+            Field("user", &self.user),
+            Field("words", &self.words),
+            Field("ports", &self.ports),
+        );
+        let limits = (
+            Field("threads", &self.threads),
+            Field("queue", &self.queue),
+            Field("retries", &self.retries),
+            Field("delay", &self.delay),
+            Field("timeout", &self.timeout),
+        );
+        let window = (
+            Field("width", &self.width),
+            Field("height", &self.height),
+            Field("corner", &self.corner),
+            Field("depth", &self.depth),
+            Field("scale", &self.scale),
+        );
+        let modes = (
+            Field("is_quiet", &self.is_quiet),
+            Field("is_verbose", &self.is_verbose),
+            Field("is_strict", &self.is_strict),
+            Field("seed", &self.seed),
+            Field("mark", &self.mark),
+        );
+        Inside("Settings", 280, (names, limits, window, modes)).enter(visitor)
     }
 }

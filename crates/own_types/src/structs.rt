@@ -5,7 +5,7 @@ ghost use Rattle.std.specs.Prelude.{codes, Some};
 ghost use Rattle.allocative.specs.Shows.{Inside, Field, Both};
 
 use allocative::part::{Field, Inside, Part};
-use allocative::{Allocative, Described, Key, Refusal, Visitor};
+use allocative::{Allocative, Described, Refusal, Visitor};
 
 /// A count of what passed.
 #[derive(Drop)]
@@ -17,8 +17,8 @@ impl Allocative for Meter {
     ghost may_show = { λ m. Inside (codes "Meter") 8 (Field (codes "reading") (Some 8) (⟦<u64 as Allocative>⟧.may_show m.reading)) };
 
     fn visit(&self, visitor: &mut Visitor<'_>) -> Result<(), Refusal> {
-        let reading = Field(Key::new("reading"), &self.reading);
-        Inside(Key::new("Meter"), 8, reading).enter(visitor)
+        let reading = Field("reading", &self.reading);
+        Inside("Meter", 8, reading).enter(visitor)
     }
 }
 
@@ -35,9 +35,9 @@ impl Allocative for Point {
         (Field (codes "y") (Some 4) (⟦<u32 as Allocative>⟧.may_show p.y))) };
 
     fn visit(&self, visitor: &mut Visitor<'_>) -> Result<(), Refusal> {
-        let x = Field(Key::new("x"), &self.x);
-        let y = Field(Key::new("y"), &self.y);
-        Inside(Key::new("Point"), 8, (x, y)).enter(visitor)
+        let x = Field("x", &self.x);
+        let y = Field("y", &self.y);
+        Inside("Point", 8, (x, y)).enter(visitor)
     }
 }
 
@@ -56,10 +56,10 @@ impl<T: Allocative + Described> Allocative for Named<T> {
         (Field (codes "is_read") (Some 1) (⟦<bool as Allocative>⟧.may_show n.is_read)))) };
 
     fn visit(&self, visitor: &mut Visitor<'_>) -> Result<(), Refusal> {
-        let name = Field(Key::new("name"), &self.name);
-        let value = Field(Key::new("value"), &self.value);
-        let is_read = Field(Key::new("is_read"), &self.is_read);
-        Inside(Key::new("Named"), 64, (name, value, is_read)).enter(visitor)
+        let name = Field("name", &self.name);
+        let value = Field("value", &self.value);
+        let is_read = Field("is_read", &self.is_read);
+        Inside("Named", 64, (name, value, is_read)).enter(visitor)
     }
 }
 
@@ -82,16 +82,11 @@ impl Allocative for Session {
         (Field (codes "is_open") (Some 1) (⟦<bool as Allocative>⟧.may_show s.is_open)))))) };
 
     fn visit(&self, visitor: &mut Visitor<'_>) -> Result<(), Refusal> {
-        let user = Field(Key::new("user"), &self.user);
-        let scores = Field(Key::new("scores"), &self.scores);
-        let limit = Field(Key::new("limit"), &self.limit);
-        let place = Field(Key::new("place"), &self.place);
-        let is_open = Field(Key::new("is_open"), &self.is_open);
-        Inside(
-            Key::new("Session"),
-            80,
-            (user, scores, limit, place, is_open),
-        )
-        .enter(visitor)
+        let user = Field("user", &self.user);
+        let scores = Field("scores", &self.scores);
+        let limit = Field("limit", &self.limit);
+        let place = Field("place", &self.place);
+        let is_open = Field("is_open", &self.is_open);
+        Inside("Session", 80, (user, scores, limit, place, is_open)).enter(visitor)
     }
 }

@@ -6,7 +6,7 @@ ghost use Rattle.allocative.specs.Levels.{recursive};
 ghost use Rattle.own_types.specs.Trees.{tree_level};
 
 use allocative::part::{Field, Inside, Part};
-use allocative::{Allocative, Described, Key, Refusal, Visitor};
+use allocative::{Allocative, Described, Refusal, Visitor};
 
 /// A number, or two trees.
 #[derive(Drop)]
@@ -47,13 +47,13 @@ impl Allocative for Tree {
     fn visit(&self, visitor: &mut Visitor<'_>) -> Result<(), Refusal> {
         match self {
             Tree::Leaf(value) => {
-                let value = Field(Key::new("Leaf"), value);
-                Inside(Key::new("Tree"), 24, value).enter(visitor)
+                let value = Field("Leaf", value);
+                Inside("Tree", 24, value).enter(visitor)
             }
             Tree::Fork(left, right) => {
-                let left = Field(Key::new("left"), left);
-                let right = Field(Key::new("right"), right);
-                Inside(Key::new("Tree"), 24, (left, right)).enter(visitor)
+                let left = Field("left", left);
+                let right = Field("right", right);
+                Inside("Tree", 24, (left, right)).enter(visitor)
             }
         }
     }

@@ -5,7 +5,7 @@ ghost use Rattle.std.specs.Prelude.{codes, Some};
 ghost use Rattle.allocative.specs.Shows.{Nothing, Inside, InsideUnique, Field, Both};
 
 use allocative::part::{Field, Inside, Part, Unique};
-use allocative::{Allocative, Key, Refusal, Visitor};
+use allocative::{Allocative, Refusal, Visitor};
 use std::path::PathBuf;
 
 /// A colour, as the amounts of red, green and blue.
@@ -16,7 +16,7 @@ impl Allocative for Colour {
     ghost may_show = { λ c. Inside (codes "Colour") 6 (⟦<[u16; 3] as Allocative>⟧.may_show c.0) };
 
     fn visit(&self, visitor: &mut Visitor<'_>) -> Result<(), Refusal> {
-        Inside(Key::new("Colour"), 6, &self.0).enter(visitor)
+        Inside("Colour", 6, &self.0).enter(visitor)
     }
 }
 
@@ -30,10 +30,10 @@ impl Allocative for Block {
     ghost may_show = { λ b. Inside (codes "Block") 8 (InsideUnique (codes "ptr") 8 (Inside (codes "head") 16 (Inside (codes "counts") 8 (⟦<u64 as Allocative>⟧.may_show b.count)))) };
 
     fn visit(&self, visitor: &mut Visitor<'_>) -> Result<(), Refusal> {
-        let counts = Inside(Key::new("counts"), 8, &self.count);
-        let head = Inside(Key::new("head"), 16, counts);
-        let pointer = Unique(Key::new("ptr"), 8, head);
-        Inside(Key::new("Block"), 8, pointer).enter(visitor)
+        let counts = Inside("counts", 8, &self.count);
+        let head = Inside("head", 16, counts);
+        let pointer = Unique("ptr", 8, head);
+        Inside("Block", 8, pointer).enter(visitor)
     }
 }
 
@@ -51,9 +51,9 @@ impl Allocative for Document {
         (Field (codes "pages") (Some 4) (⟦<u32 as Allocative>⟧.may_show d.pages))) };
 
     fn visit(&self, visitor: &mut Visitor<'_>) -> Result<(), Refusal> {
-        let title = Field(Key::new("title"), &self.title);
-        let pages = Field(Key::new("pages"), &self.pages);
-        Inside(Key::new("Document"), 64, (title, pages)).enter(visitor)
+        let title = Field("title", &self.title);
+        let pages = Field("pages", &self.pages);
+        Inside("Document", 64, (title, pages)).enter(visitor)
     }
 }
 
@@ -77,8 +77,8 @@ impl Allocative for Day {
         (Inside (codes "weather") 8 Nothing)) };
 
     fn visit(&self, visitor: &mut Visitor<'_>) -> Result<(), Refusal> {
-        let number = Field(Key::new("number"), &self.number);
-        let weather = Inside(Key::new("weather"), 8, ());
-        Inside(Key::new("Day"), 12, (number, weather)).enter(visitor)
+        let number = Field("number", &self.number);
+        let weather = Inside("weather", 8, ());
+        Inside("Day", 12, (number, weather)).enter(visitor)
     }
 }

@@ -8,8 +8,7 @@ ghost use Rattle.profile_report.specs.History.{TakesProfile};
 
 use crate::history::History;
 use allocative::{
-    Allocative, Each, Field, FlameGraphBuilder, FlameGraphOutput, Inside, Key, Part, Refusal,
-    Unique, Visitor,
+    Allocative, Each, Field, Inside, Part, Refusal, Unique, Visitor, profile_value,
 };
 use std::alloc::{AllocError, Global};
 
@@ -33,9 +32,9 @@ impl Allocative for Session {
     ghost may_show = { λ s. shows.Inside (codes "Session") 24 (shows.Both (shows.Field (codes "user") (Some 4) (⟦<u32 as Allocative>⟧.may_show s.user)) (shows.Field (codes "basket") (Some 16) (⟦<Option<Box<u64>> as Allocative>⟧.may_show s.basket))) };
 
     fn visit(&self, visitor: &mut Visitor<'_>) -> Result<(), Refusal> {
-        let user = Field(Key::new("user"), &self.user);
-        let basket = Field(Key::new("basket"), &self.basket);
-        Inside(Key::new("Session"), 24, (user, basket)).enter(visitor)
+        let user = Field("user", &self.user);
+        let basket = Field("basket", &self.basket);
+        Inside("Session", 24, (user, basket)).enter(visitor)
     }
 }
 
@@ -58,8 +57,8 @@ impl Allocative for Page {
     ghost may_show = { λ p. shows.Inside (codes "Page") 8 (shows.Field (codes "rows") (Some 8) (⟦<Box<[u64; 4]> as Allocative>⟧.may_show p.rows)) };
 
     fn visit(&self, visitor: &mut Visitor<'_>) -> Result<(), Refusal> {
-        let rows = Field(Key::new("rows"), &self.rows);
-        Inside(Key::new("Page"), 8, rows).enter(visitor)
+        let rows = Field("rows", &self.rows);
+        Inside("Page", 8, rows).enter(visitor)
     }
 }
 

@@ -20,8 +20,8 @@ impl<L: Allocative + Described, R: Allocative + Described> Allocative for Either
         let name = Key::for_type_name::<Either<L, R>>();
         let size = <Either<L, R>>::size();
         match self {
-            Left(left) => Declared(name, size, Field(Key::new("Left"), left)).enter(visitor),
-            Right(right) => Declared(name, size, Field(Key::new("Right"), right)).enter(visitor),
+            Left(left) => Declared(name, size, Field("Left", left)).enter(visitor),
+            Right(right) => Declared(name, size, Field("Right", right)).enter(visitor),
         }
     }
 }

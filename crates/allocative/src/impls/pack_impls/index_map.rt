@@ -10,7 +10,6 @@ use crate::containers::{IndexData, Pairs, Table, Unused};
 use crate::part::{Inside, Part};
 use crate::visitor::Visitor;
 use allocative_described::Described;
-use allocative_graph::key::Key;
 use allocative_graph::refusal::Refusal;
 use indexmap::IndexMap;
 use std::hash::Hash;
@@ -25,6 +24,6 @@ impl<K: Allocative + Described + Eq + Hash, V: Allocative + Described> Allocativ
             count: self.capacity() - self.len(),
         };
         let data = IndexData(Pairs(self), unused);
-        Inside(Key::new("IndexMap"), 72, (data, Table(self.len()))).enter(visitor)
+        Inside("IndexMap", 72, (data, Table(self.len()))).enter(visitor)
     }
 }

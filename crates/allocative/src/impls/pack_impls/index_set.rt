@@ -10,7 +10,6 @@ use crate::containers::{FieldEach, IndexData, Table, Unused};
 use crate::part::{Inside, Part};
 use crate::visitor::Visitor;
 use allocative_described::Described;
-use allocative_graph::key::Key;
 use allocative_graph::refusal::Refusal;
 use indexmap::IndexSet;
 use std::hash::Hash;
@@ -23,7 +22,7 @@ impl<T: Allocative + Described + Eq + Hash> Allocative for IndexSet<T> {
             item_size: T::size(),
             count: self.capacity() - self.len(),
         };
-        let data = IndexData(FieldEach(Key::new("value"), self), unused);
-        Inside(Key::new("IndexSet"), 72, (data, Table(self.len()))).enter(visitor)
+        let data = IndexData(FieldEach("value", self), unused);
+        Inside("IndexSet", 72, (data, Table(self.len()))).enter(visitor)
     }
 }

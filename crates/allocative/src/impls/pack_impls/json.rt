@@ -20,7 +20,7 @@ impl Allocative for Number {
     ghost may_show = { λ n. number_shows };
 
     fn visit(&self, visitor: &mut Visitor<'_>) -> Result<(), Refusal> {
-        Inside(Key::new("Number"), 16, ()).enter(visitor)
+        Inside("Number", 16, ()).enter(visitor)
     }
 }
 
@@ -34,8 +34,8 @@ impl<'a, V: Allocative> Part for Members<&'a Map<String, V>> {
     #[tactic(auto, using(crate::proofs::Showing::showing))]
     fn enter(self, visitor: &mut Visitor<'_>) -> Result<(), Refusal> {
         for (key, value) in self.0.iter() {
-            let key = Field(Key::new("key"), key);
-            let value = Declared(Key::new("value"), Some(32), value);
+            let key = Field("key", key);
+            let value = Declared("value", Some(32), value);
             (key, value).enter(visitor)?;
         }
         Ok(())
@@ -46,16 +46,14 @@ impl Allocative for Value {
     ghost may_show = { λ v. value_shows (view v) };
 
     fn visit(&self, visitor: &mut Visitor<'_>) -> Result<(), Refusal> {
-        let name = Key::new("Value");
+        let name = "Value";
         match self {
             Value::Null => Inside(name, 32, ()).enter(visitor),
             Value::Bool(_) => Inside(name, 32, ()).enter(visitor),
             Value::Number(number) => {
-                Inside(name, 32, Inside(Key::new("Number"), 16, number)).enter(visitor)
+                Inside(name, 32, Inside("Number", 16, number)).enter(visitor)
             }
-            Value::String(text) => {
-                Inside(name, 32, Inside(Key::new("String"), 24, text)).enter(visitor)
-            }
+            Value::String(text) => { Inside(name, 32, Inside("String", 24, text)).enter(visitor) }
             Value::Array(items) => {
                 let buffer = Buffer {
                     items: Each(items),
@@ -63,13 +61,13 @@ impl Allocative for Value {
                     count: items.len(),
                     capacity: items.capacity(),
                 };
-                let items = Declared(Key::new("Vec"), Some(24), buffer);
-                Inside(name, 32, Inside(Key::new("Array"), 24, items)).enter(visitor)
+                let items = Declared("Vec", Some(24), buffer);
+                Inside(name, 32, Inside("Array", 24, items)).enter(visitor)
             }
             Value::Object(map) => {
-                let data = Unique(Key::new("data"), 8, Members(map));
-                let map = Inside(Key::new("Map"), 24, data);
-                Inside(name, 32, Inside(Key::new("Object"), 24, map)).enter(visitor)
+                let data = Unique("data", 8, Members(map));
+                let map = Inside("Map", 24, data);
+                Inside(name, 32, Inside("Object", 24, map)).enter(visitor)
             }
         }
     }
@@ -85,7 +83,7 @@ pub fn visit_json_map(visitor: &mut Visitor<'_>, map: &Map<String, Value>) -> Re
     ensures first { MakesFirst (codes "Map") (Some 24) visitor.old visitor.new result }
 {
     let outer = visitor.collector.go_in(Key::new("Map"), 24)?;
-    let answer = Unique(Key::new("data"), 8, Members(map)).enter(visitor);
+    let answer = Unique("data", 8, Members(map)).enter(visitor);
     visitor.collector.leave(outer);
     answer
 }

@@ -8,7 +8,6 @@ ghost use Rattle.allocative.specs.PackShows.{once_inside};
 use crate::allocative_trait::Allocative;
 use crate::part::{Inside, Part, Unique};
 use crate::visitor::Visitor;
-use allocative_graph::key::Key;
 use allocative_graph::refusal::Refusal;
 use once_cell::race::OnceBox;
 
@@ -16,10 +15,10 @@ impl<T: Allocative> Allocative for OnceBox<T> {
     ghost may_show = { λ b. shows.Inside (codes "OnceBox") 8 (once_inside T.may_show) };
 
     fn visit(&self, visitor: &mut Visitor<'_>) -> Result<(), Refusal> {
-        let name = Key::new("OnceBox");
+        let name = "OnceBox";
         match self.get() {
             None => Inside(name, 8, ()).enter(visitor),
-            Some(value) => Inside(name, 8, Unique(Key::new("ptr"), 8, value)).enter(visitor),
+            Some(value) => Inside(name, 8, Unique("ptr", 8, value)).enter(visitor),
         }
     }
 }

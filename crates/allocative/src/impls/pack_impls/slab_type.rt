@@ -11,7 +11,6 @@ use crate::containers::Buffer;
 use crate::part::{Inside, Part};
 use crate::visitor::Visitor;
 use allocative_described::Described;
-use allocative_graph::key::Key;
 use allocative_graph::refusal::Refusal;
 use slab::Slab;
 
@@ -37,6 +36,6 @@ impl<T: Allocative + Described> Allocative for Slab<T> {
             count: self.len(),
             capacity: self.capacity(),
         };
-        Inside(Key::new("Slab"), 40, buffer).enter(visitor)
+        Inside("Slab", 40, buffer).enter(visitor)
     }
 }

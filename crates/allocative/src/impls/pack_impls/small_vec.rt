@@ -20,9 +20,9 @@ impl<T: Allocative + Described, const N: usize> Allocative for SmallVec<T, N> {
     fn visit(&self, visitor: &mut Visitor<'_>) -> Result<(), Refusal> {
         let name = Key::for_type_name::<SmallVec<T, N>>();
         let size = <SmallVec<T, N>>::size();
-        let items = FieldEach(Key::new("data"), self.as_slice());
+        let items = FieldEach("data", self.as_slice());
         if self.spilled() {
-            Declared(name, size, Unique(Key::new("ptr"), 8, items)).enter(visitor)
+            Declared(name, size, Unique("ptr", 8, items)).enter(visitor)
         } else {
             Declared(name, size, items).enter(visitor)
         }

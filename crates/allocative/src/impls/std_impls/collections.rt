@@ -51,7 +51,7 @@ impl<K: Allocative + Described + Ord, V: Allocative + Described> Allocative for 
     ghost may_show = { λ m. shows.Field (codes "BTreeMap") (Some 24) (shows.Inside (codes "data") 8 (shows.each_shows (pair_shows K.size K.may_show V.size V.may_show) m.entries)) };
 
     fn visit(&self, visitor: &mut Visitor<'_>) -> Result<(), Refusal> {
-        let pairs = Inside(Key::new("data"), 8, Pairs(self));
+        let pairs = Inside("data", 8, Pairs(self));
         let name = Key::for_type_name::<BTreeMap<K, V>>();
         Declared(name, <BTreeMap<K, V>>::size(), pairs).enter(visitor)
     }
@@ -61,7 +61,7 @@ impl<K: Allocative + Described + Ord> Allocative for BTreeSet<K> {
     ghost may_show = { λ s. shows.Field (codes "BTreeSet") (Some 24) (shows.Inside (codes "data") 8 (shows.each_shows (field_of (codes "key") K.size K.may_show) s.keys)) };
 
     fn visit(&self, visitor: &mut Visitor<'_>) -> Result<(), Refusal> {
-        let keys = Inside(Key::new("data"), 8, FieldEach(Key::new("key"), self));
+        let keys = Inside("data", 8, FieldEach("key", self));
         let name = Key::for_type_name::<BTreeSet<K>>();
         Declared(name, <BTreeSet<K>>::size(), keys).enter(visitor)
     }
@@ -72,7 +72,7 @@ impl<K: Allocative + Described + Eq + Hash, V: Allocative + Described> Allocativ
     ghost may_show = { λ m. shows.Field (codes "HashMap") (Some 48) (shows.Inside (codes "data") 8 (in_any_order (pair_shows K.size K.may_show V.size V.may_show) m.entries)) };
 
     fn visit(&self, visitor: &mut Visitor<'_>) -> Result<(), Refusal> {
-        let pairs = Inside(Key::new("data"), 8, Pairs(self));
+        let pairs = Inside("data", 8, Pairs(self));
         let name = Key::for_type_name::<HashMap<K, V>>();
         Declared(name, <HashMap<K, V>>::size(), pairs).enter(visitor)
     }
@@ -82,7 +82,7 @@ impl<K: Allocative + Described + Eq + Hash> Allocative for HashSet<K> {
     ghost may_show = { λ s. shows.Field (codes "HashSet") (Some 48) (shows.Inside (codes "data") 8 (in_any_order (field_of (codes "key") K.size K.may_show) s.keys)) };
 
     fn visit(&self, visitor: &mut Visitor<'_>) -> Result<(), Refusal> {
-        let keys = Inside(Key::new("data"), 8, FieldEach(Key::new("key"), self));
+        let keys = Inside("data", 8, FieldEach("key", self));
         let name = Key::for_type_name::<HashSet<K>>();
         Declared(name, <HashSet<K>>::size(), keys).enter(visitor)
     }

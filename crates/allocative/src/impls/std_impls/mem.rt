@@ -18,7 +18,7 @@ impl<T: Allocative + Described> Allocative for ManuallyDrop<T> {
     ghost may_show = { λ slot. shows.Field (codes "ManuallyDrop") T.size (shows.Field (codes "inner") T.size (T.may_show (manually_drop_value slot))) };
 
     fn visit(&self, visitor: &mut Visitor<'_>) -> Result<(), Refusal> {
-        let inner = Field(Key::new("inner"), &**self);
+        let inner = Field("inner", &**self);
         let name = Key::for_type_name::<ManuallyDrop<T>>();
         Declared(name, <ManuallyDrop<T>>::size(), inner).enter(visitor)
     }

@@ -21,7 +21,7 @@ impl<T: Allocative + Described> Allocative for IdRc<T> {
             key: Key::new("ptr"),
             size: 8,
             identity: self.id(),
-            content: Declared(Key::new("RcInner"), shared_inner_size::<T>(), self.get()),
+            content: Declared("RcInner", shared_inner_size::<T>(), self.get()),
         };
         Declared(Key::for_type_name::<IdRc<T>>(), <IdRc<T>>::size(), pointer).enter(visitor)
     }
@@ -35,7 +35,7 @@ impl<T: Allocative + Described> Allocative for IdArc<T> {
             key: Key::new("ptr"),
             size: 8,
             identity: self.id(),
-            content: Declared(Key::new("ArcInner"), shared_inner_size::<T>(), self.get()),
+            content: Declared("ArcInner", shared_inner_size::<T>(), self.get()),
         };
         Declared(
             Key::for_type_name::<IdArc<T>>(),

@@ -15,7 +15,7 @@ impl<A: Allocative + Described> Allocative for (A,) {
     ghost may_show = { λ p. shows.Field (codes "tuple1") ⟦<(A,) as Described>⟧.size (shows.Field (codes "0") A.size (A.may_show p.0)) };
 
     fn visit(&self, visitor: &mut Visitor<'_>) -> Result<(), Refusal> {
-        let first = Field(Key::new("0"), &self.0);
+        let first = Field("0", &self.0);
         let name = Key::for_type_name::<(A,)>();
         Declared(name, <(A,)>::size(), first).enter(visitor)
     }
@@ -25,8 +25,8 @@ impl<A: Allocative + Described, B: Allocative + Described> Allocative for (A, B)
     ghost may_show = { λ p. shows.Field (codes "tuple2") ⟦<(A, B) as Described>⟧.size (shows.Both (shows.Field (codes "0") A.size (A.may_show p.0)) (shows.Field (codes "1") B.size (B.may_show p.1))) };
 
     fn visit(&self, visitor: &mut Visitor<'_>) -> Result<(), Refusal> {
-        let first = Field(Key::new("0"), &self.0);
-        let second = Field(Key::new("1"), &self.1);
+        let first = Field("0", &self.0);
+        let second = Field("1", &self.1);
         let name = Key::for_type_name::<(A, B)>();
         Declared(name, <(A, B)>::size(), (first, second)).enter(visitor)
     }
@@ -37,9 +37,9 @@ impl<A: Allocative + Described, B: Allocative + Described, C: Allocative + Descr
     ghost may_show = { λ p. shows.Field (codes "tuple3") ⟦<(A, B, C) as Described>⟧.size (shows.Both (shows.Field (codes "0") A.size (A.may_show p.0)) (shows.Both (shows.Field (codes "1") B.size (B.may_show p.1)) (shows.Field (codes "2") C.size (C.may_show p.2)))) };
 
     fn visit(&self, visitor: &mut Visitor<'_>) -> Result<(), Refusal> {
-        let first = Field(Key::new("0"), &self.0);
-        let second = Field(Key::new("1"), &self.1);
-        let third = Field(Key::new("2"), &self.2);
+        let first = Field("0", &self.0);
+        let second = Field("1", &self.1);
+        let third = Field("2", &self.2);
         let name = Key::for_type_name::<(A, B, C)>();
         Declared(name, <(A, B, C)>::size(), (first, second, third)).enter(visitor)
     }
@@ -54,10 +54,10 @@ impl<
     ghost may_show = { λ p. shows.Field (codes "tuple4") ⟦<(A, B, C, D) as Described>⟧.size (shows.Both (shows.Field (codes "0") A.size (A.may_show p.0)) (shows.Both (shows.Field (codes "1") B.size (B.may_show p.1)) (shows.Both (shows.Field (codes "2") C.size (C.may_show p.2)) (shows.Field (codes "3") D.size (D.may_show p.3))))) };
 
     fn visit(&self, visitor: &mut Visitor<'_>) -> Result<(), Refusal> {
-        let first = Field(Key::new("0"), &self.0);
-        let second = Field(Key::new("1"), &self.1);
-        let third = Field(Key::new("2"), &self.2);
-        let fourth = Field(Key::new("3"), &self.3);
+        let first = Field("0", &self.0);
+        let second = Field("1", &self.1);
+        let third = Field("2", &self.2);
+        let fourth = Field("3", &self.3);
         let name = Key::for_type_name::<(A, B, C, D)>();
         Declared(name, <(A, B, C, D)>::size(), (first, second, third, fourth)).enter(visitor)
     }
@@ -73,11 +73,11 @@ impl<
     ghost may_show = { λ p. shows.Field (codes "tuple5") ⟦<(A, B, C, D, E) as Described>⟧.size (shows.Both (shows.Field (codes "0") A.size (A.may_show p.0)) (shows.Both (shows.Field (codes "1") B.size (B.may_show p.1)) (shows.Both (shows.Field (codes "2") C.size (C.may_show p.2)) (shows.Both (shows.Field (codes "3") D.size (D.may_show p.3)) (shows.Field (codes "4") E.size (E.may_show p.4)))))) };
 
     fn visit(&self, visitor: &mut Visitor<'_>) -> Result<(), Refusal> {
-        let first = Field(Key::new("0"), &self.0);
-        let second = Field(Key::new("1"), &self.1);
-        let third = Field(Key::new("2"), &self.2);
-        let fourth = Field(Key::new("3"), &self.3);
-        let fifth = Field(Key::new("4"), &self.4);
+        let first = Field("0", &self.0);
+        let second = Field("1", &self.1);
+        let third = Field("2", &self.2);
+        let fourth = Field("3", &self.3);
+        let fifth = Field("4", &self.4);
         let name = Key::for_type_name::<(A, B, C, D, E)>();
         Declared(
             name,

@@ -22,7 +22,7 @@ impl<T: Allocative + Described> Allocative for Option<T> {
         let size = <Option<T>>::size();
         match self {
             None => Declared(name, size, ()).enter(visitor),
-            Some(value) => Declared(name, size, Field(Key::new("Some"), value)).enter(visitor),
+            Some(value) => Declared(name, size, Field("Some", value)).enter(visitor),
         }
     }
 }
@@ -34,8 +34,8 @@ impl<T: Allocative + Described, E: Allocative + Described> Allocative for Result
         let name = Key::for_type_name::<Result<T, E>>();
         let size = <Result<T, E>>::size();
         match self {
-            Ok(value) => Declared(name, size, Field(Key::new("Ok"), value)).enter(visitor),
-            Err(error) => Declared(name, size, Field(Key::new("Err"), error)).enter(visitor),
+            Ok(value) => Declared(name, size, Field("Ok", value)).enter(visitor),
+            Err(error) => Declared(name, size, Field("Err", error)).enter(visitor),
         }
     }
 }
@@ -44,7 +44,7 @@ impl<T: Allocative> Allocative for Box<T> {
     ghost may_show = { λ b. shows.Field (codes "Box") (Some 8) (shows.InsideUnique (codes "ptr") 8 (T.may_show b.value)) };
 
     fn visit(&self, visitor: &mut Visitor<'_>) -> Result<(), Refusal> {
-        let pointer = Unique(Key::new("ptr"), 8, &**self);
+        let pointer = Unique("ptr", 8, &**self);
         Declared(Key::for_type_name::<Box<T>>(), <Box<T>>::size(), pointer).enter(visitor)
     }
 }

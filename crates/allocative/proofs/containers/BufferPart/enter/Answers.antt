@@ -18,4 +18,4 @@ returns-then-self-eq0-2 g c =
 pub returns : goal.returns
 returns g c =
     let some : 0 < c.in-Some.size = omega arith in
-    entered_as (rw c.new.ensures at c.enter.ensures) (means_with_room _ c.in-Some.is some)
+    entered_as c.enter.ensures (means_with_room _ c.in-Some.is some)

@@ -3,4 +3,4 @@ use Rattle.allocative.proofs.Meaning.{entered_as}
 use Rattle.allocative.proofs.containers.IndexDataPart.enter.Goals as goal
 
 pub returns : goal.returns
-returns g c = entered_as (rw c.new.ensures at c.enter.ensures) (record { means = λ f h. with_unused _ h })
+returns g c = entered_as c.enter.ensures (record { means = λ f h. with_unused _ h })

@@ -5,4 +5,4 @@ use Rattle.allocative.proofs.Bodies.{means_text}
 use Rattle.allocative.proofs.containers.TextPart.enter.Goals as goal
 
 pub returns : goal.returns
-returns c = entered_as c.enter.ensures (means_text c.new-4.ensures c.new-3.ensures c.new.ensures c.new-2.ensures (search rules) (omega arith))
+returns c = entered_as c.enter.ensures (means_text (search rules) (omega arith))

@@ -1,5 +1,5 @@
 -- The members of the map, as the data that they stand for.
-use Rattle.std.proofs.Common.{rules}
+use Rattle.std.proofs.Common.{rules, refl}
 use Rattle.allocative_graph.specs.Visits.{is_sized}
 use Rattle.allocative.proofs.Within.{entered_within, not_within, first_not_within}
 use Rattle.allocative.proofs.Showing.{goes_in_plain}
@@ -16,7 +16,7 @@ returns-in_err-outer-clause-first c = first_not_within {e = c.in_err-outer.field
 pub returns-clause-entered : goal.returns-clause-entered
 returns-clause-entered c =
     entered_within (rw c.new.ensures at c.in_ok-outer.ensures.enters)
-    (entered_as c.enter-answer.ensures (means_unique c.new-2.ensures (means_members c.args.map.now.entries))) c.leave.ensures
+    (entered_as c.enter-answer.ensures (means_unique refl (means_members c.args.map.now.entries))) c.leave.ensures
 
 pub returns-clause-first : goal.returns-clause-first
 returns-clause-first c = goes_in_plain (rw c.new.ensures at c.in_ok-outer.ensures.enters)

@@ -12,8 +12,7 @@ loop-key-preserved g c =
     let e : String Global × g.row.V.Denot = (c.in-Some.key.now, c.in-Some.value.now) in (
       done ++ e ∷ [],
       l.invariant.1 ∙ ap (λ es. done ++ es) c.in-Some.ensures.steps ∙ sym (append_assoc done (e ∷ []) c.next.new.self),
-      entered_snoc (member_shows g.V.Allocative.may_show) done e l.invariant.2
-          (entered_as c.in_ok-enter.ensures (means_both (means_field c.new.ensures refl means_same) (means_field c.new-in-loop-key.ensures refl means_same))),
+      entered_snoc (member_shows g.V.Allocative.may_show) done e l.invariant.2 c.in_ok-enter.ensures,
     )
 
 pub returns : goal.returns

@@ -12,10 +12,10 @@ returns-in-Array t c =
     let e : view c.args.self.now ≡ array (items_view c.in-Array.items.items) = search (rules, the_lemmas) in
     let n : c.len.result ≡ length c.in-Array.items.items = search rules in
     rw e (visited_as c.enter-in-Array.ensures
-    (means_inside c.new-name.ensures (means_inside c.new-in-Array-2.ensures (means_field c.new-in-Array.ensures refl (rw n (means_items c.in-Array.items.items))))))
+    (means_inside refl (means_inside refl (means_field refl refl (rw n (means_items c.in-Array.items.items))))))
 
 pub returns-in-Object : goal.returns-in-Object
 returns-in-Object t c =
     let e : view c.args.self.now ≡ object (members_view c.in-Object.map.entries) = search (rules, the_lemmas) in
     rw e (visited_as c.enter-in-Object.ensures
-    (means_inside c.new-name.ensures (means_inside c.new-in-Object-3.ensures (means_inside c.new-in-Object-2.ensures (means_unique c.new-in-Object.ensures (means_members c.in-Object.map.entries))))))
+    (means_inside refl (means_inside refl (means_inside refl (means_unique refl (means_members c.in-Object.map.entries))))))
