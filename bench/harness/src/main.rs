@@ -4,6 +4,7 @@ mod names;
 mod ours;
 mod plain;
 mod theirs;
+mod values;
 
 use names::Names;
 use std::env;
@@ -28,11 +29,14 @@ const COLLECTED: &[&str] = &["enter", "finish", "write", "drop"];
 
 macro_rules! workload {
     ($name:expr, $steps:expr, $call:ident($($argument:expr),*)) => {
+        workload!($name, $steps, theirs::$call($($argument),*))
+    };
+    ($name:expr, $steps:expr, $module:ident::$call:ident($($argument:expr),*)) => {
         Workload {
             name: $name,
             steps: $steps,
             ours: Box::new(move |names| ours::$call(names, $($argument),*)),
-            theirs: Box::new(move |names| theirs::$call(names, $($argument),*)),
+            theirs: Box::new(move |names| $module::$call(names, $($argument),*)),
         }
     };
 }
@@ -80,6 +84,41 @@ fn collectors() -> Vec<Workload> {
             "100,000 pointers to 10,007 identities".into(),
             COLLECTED,
             shared(100_000, 10_007)
+        ),
+        workload!(
+            "25,000 entries in one, falling".into(),
+            COLLECTED,
+            wide_entries(25_000, 1)
+        ),
+        workload!(
+            "25,000 entries in one, mixed".into(),
+            COLLECTED,
+            wide_entries(25_000, 2)
+        ),
+    ]
+}
+
+fn values() -> Vec<Workload> {
+    vec![
+        workload!(
+            "vector of 200,000 records".into(),
+            COLLECTED,
+            values::records(200_000)
+        ),
+        workload!(
+            "hashed map of 100,000 texts".into(),
+            COLLECTED,
+            values::map(100_000)
+        ),
+        workload!(
+            "vector of 100,000 vectors".into(),
+            COLLECTED,
+            values::lists(100_000)
+        ),
+        workload!(
+            "tree of boxes, 32,768 leaves".into(),
+            COLLECTED,
+            values::boxes()
         ),
     ]
 }
@@ -183,6 +222,7 @@ fn main() {
     let all = move || {
         print_table("Flame graphs:", &graphs(), &names, only.as_deref());
         print_table("Collectors:", &collectors(), &names, only.as_deref());
+        print_table("Values:", &values(), &names, only.as_deref());
     };
     thread::Builder::new()
         .stack_size(64 << 20)

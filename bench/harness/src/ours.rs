@@ -23,4 +23,24 @@ workloads! {
     tree = bench_tree(side: usize);
     chain = bench_chain(depth: usize);
     shared = bench_shared(pointers: usize, identities: usize);
+    wide_entries = bench_wide_entries(count: usize, order: u32);
+}
+
+macro_rules! values {
+    ($($name:ident = $symbol:ident($($argument:ident: $kind:ty),*);)*) => {
+        unsafe extern "C" {
+            $(fn $symbol($($argument: $kind),*) -> u64;)*
+        }
+
+        $(pub fn $name(_: &Names, $($argument: $kind),*) -> u64 {
+            unsafe { $symbol($($argument),*) }
+        })*
+    };
+}
+
+values! {
+    records = bench_records(count: usize);
+    map = bench_map(count: usize);
+    lists = bench_lists(count: usize);
+    boxes = bench_boxes();
 }

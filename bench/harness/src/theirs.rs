@@ -90,8 +90,8 @@ pub fn interleaving(names: &Names, count: usize) -> u64 {
     hash_of(&graph.write())
 }
 
-// Finishes, writes and lets go.
-fn end(collector: Collector) -> u64 {
+/// Finishes, writes and lets go.
+pub fn end(collector: Collector) -> u64 {
     bench_mark(1);
     let (graph, warnings) = collector.finish();
     bench_mark(2);
@@ -176,6 +176,17 @@ pub fn shared(names: &Names, pointers: usize, identities: usize) -> u64 {
         if let Some(mut content) = root.enter_shared(names.key(0), 8, (0, identity)) {
             content.visit_simple(names.key(1), 16);
         }
+    }
+    drop(root);
+    end(collector)
+}
+
+pub fn wide_entries(names: &Names, count: usize, order: u32) -> u64 {
+    bench_mark(0);
+    let mut collector = Collector::new();
+    let mut root = collector.root_visitor();
+    for at in 0..count {
+        root.visit_simple(names.key(turn(order, at, count)), 1);
     }
     drop(root);
     end(collector)

@@ -107,6 +107,34 @@ fn shared_entries_are_refused(rt: HostRuntime) -> Result<(), Refusal> {
     )
 }
 
+// Children of one node in falling order, and then once more in mixed order.
+fn out_of_order(root: &mut Visitor<'_>) -> Result<(), Refusal> {
+    for key in [
+        "j", "i", "h", "g", "f", "e", "d", "c", "b", "a", "d", "g", "j", "c", "f", "i", "b", "e",
+        "h", "a",
+    ] {
+        root.visit_simple(Key::new(key), 1)?;
+    }
+    Ok(())
+}
+
+#[test]
+fn entries_out_of_order_are_refused(rt: HostRuntime) -> Result<(), Refusal> {
+    let mut builder = new_builder(&rt, rt.alloc())?;
+    let mut root = builder.root_visitor()?;
+    let entered = out_of_order(&mut root);
+    root.exit();
+    if let Err(refusal) = entered {
+        return Err(has_failed(&rt, builder, refusal));
+    }
+    ends_with(
+        &rt,
+        builder,
+        "a 2\nb 2\nc 2\nd 2\ne 2\nf 2\ng 2\nh 2\ni 2\nj 2\n",
+        "",
+    )
+}
+
 #[test]
 fn warnings_are_refused(rt: HostRuntime) -> Result<(), Refusal> {
     let mut builder = new_builder(&rt, rt.alloc())?;

@@ -1,5 +1,5 @@
 // Graphs after a refused growth: unchanged, or part of the sum.
-use allocative::{FlameGraph, Key, Refusal};
+use allocative::{Child, FlameGraph, Key, Refusal};
 use std::alloc::Global;
 
 // A graph with two children of these sizes.
@@ -56,6 +56,53 @@ fn adding_a_child_is_refused(rt: HostRuntime) -> Result<(), Refusal> {
         return Err(refusal);
     }
     assert_eq!(rt; graph.write()?.as_str(), "k;a 1\nk;b 2\n");
+    Ok(())
+}
+
+// Four children out of order, of which two have one key.
+fn many(alloc: Global) -> Result<Vec<Child>, Refusal> {
+    let mut children = Vec::new(alloc);
+    for (key, size) in [("c", 4), ("b", 3), ("a", 1), ("c", 8)] {
+        let mut graph = FlameGraph::default(alloc);
+        graph.add_self(size)?;
+        children.push(Child {
+            key: Key::new(key),
+            graph,
+        })?;
+    }
+    Ok(children)
+}
+
+// The old graph, and those between it and the sum in which some paths have their sums, with their totals.
+const PARTS_OF_MANY: [(&str, usize); 8] = [
+    ("b 2\nd 16\n", 18),
+    ("a 1\nb 2\nd 16\n", 19),
+    ("b 5\nd 16\n", 21),
+    ("a 1\nb 5\nd 16\n", 22),
+    ("b 2\nc 12\nd 16\n", 30),
+    ("a 1\nb 2\nc 12\nd 16\n", 31),
+    ("b 5\nc 12\nd 16\n", 33),
+    ("a 1\nb 5\nc 12\nd 16\n", 34),
+];
+
+#[test]
+fn adding_many_children_is_refused(rt: HostRuntime) -> Result<(), Refusal> {
+    let alloc = rt.alloc();
+    let mut graph = pair(alloc, ("d", 16), ("b", 2))?;
+    let children = many(alloc)?;
+    if let Err(refusal) = graph.add_children(children) {
+        assert_eq!(rt; refusal, Refusal::Memory);
+        let text = graph.write()?;
+        let total = graph.total_size();
+        assert!(rt;
+            PARTS_OF_MANY
+                .iter()
+                .any(|part| part.0 == text.as_str() && part.1 == total)
+        );
+        return Err(refusal);
+    }
+    assert_eq!(rt; graph.write()?.as_str(), "a 1\nb 5\nc 12\nd 16\n");
+    assert_eq!(rt; graph.total_size(), 34);
     Ok(())
 }
 

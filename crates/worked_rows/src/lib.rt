@@ -33,3 +33,5 @@ mod two;
 mod values;
 #[cfg(test)]
 mod warned;
+#[cfg(test)]
+mod wide;
