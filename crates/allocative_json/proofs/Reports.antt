@@ -41,7 +41,7 @@ roots_by true d (Some s) h f g = (s, h.1, g)
 
 pub right_report : (input : List ℕ) (index exact : Bool) (d : Data) (n : Option (BTreeSet ℤ)) (o : Profile) (r : Result Report Fault)
     → IsWholeDocument input d → IsIndexIf index d n → IsProfileOf (both_show d n) o
-    → MatchResult r (λ made. (string_bytes made.profile ≡ asked_text exact (text o.graph)) × (string_bytes made.warnings ≡ o.warnings)) (λ f. f ≡ Memory)
+    → MatchResult r (λ made. (string_bytes made.profile ≡ asked_text exact o.graph) × (string_bytes made.warnings ≡ o.warnings)) (λ f. f ≡ Memory)
     → IfOk r (λ made. IsRightReport input index exact (string_bytes made.profile) (string_bytes made.warnings))
 right_report input index exact d n o (Ok made) is i p h = record {
   document = d;

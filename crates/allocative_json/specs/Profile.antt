@@ -2,7 +2,6 @@
 use Rattle.std.specs.Prelude.{◌≡◌, ℕ, ℤ, ◌<◌, Bool, true, false, List, length, Option, None, Some, codes}
 use Rattle.std.specs.BTreeSet.{BTreeSet}
 use Rattle.serde_json.specs.Data.{Data}
-use Rattle.allocative.specs.Graph.{text}
 use Rattle.allocative.specs.Shows.{Showing, Nothing, Both, Inside, Field, each_shows}
 use Rattle.allocative.specs.Visits.{Profile, IsProfileOf}
 use Rattle.allocative.specs.JsonShows.{value_shows}
@@ -36,7 +35,7 @@ pub record IsRightReport (input : List ℕ) (index exact : Bool) (profile warnin
   pub is_document : IsWholeDocument input document
   pub made : Profile
   pub is_profile : IsProfileOf (roots_show index document) made
-  pub profile_is : profile ≡ asked_text exact (text made.graph)
+  pub profile_is : profile ≡ asked_text exact made.graph
   pub warnings_are : warnings ≡ made.warnings
 
 -- The fault may be answered where a report of the input is made: Memory only where there is input; TooLarge and Open only where it is a document whose numbers are whole.

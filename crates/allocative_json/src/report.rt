@@ -1,63 +1,74 @@
 //! Makes the texts of a run's output.
-ghost use Rattle.std.specs.Prelude.{◌≡◌, [], codes, IfOk, MatchResult, string_bytes};
-ghost use Rattle.allocative.specs.Graph.{text};
-ghost use Rattle.allocative.specs.Report.{before_last, after_last, without_lines};
-ghost use Rattle.allocative_json.specs.Lines.{asked_text};
+ghost use Rattle.std.specs.Prelude.{◌≡◌, ◌++◌, codes, OnOk, IfOk, IfErr, MatchResult, map, string_bytes};
+ghost use Rattle.allocative.specs.Graph.{line};
+ghost use Rattle.allocative.specs.Report.{ends_in, exact_text};
+ghost use Rattle.allocative_json.specs.Lines.{asked_text, row_line};
 
 use crate::fault::Fault;
 use crate::texts::Report;
-use allocative::FlameGraphOutput;
+use allocative::{FlameGraph, FlameGraphOutput, Refusal, Row, push_path};
 use std::alloc::{AllocError, Global};
 
-// What stands before the line's last space.
-fn keys_of(line: &str) -> &str
-    ensures { result.now ≡ before_last 32 [] [] line.now }
+// Whether a path ends in `unused_capacity`.
+fn is_unused(path: &[&str]) -> bool
+    ensures { result ≡ ends_in (codes "unused_capacity") (map (λ k. k.now) path.now) }
 {
-    match line.rsplit_once(' ') {
-        Some((keys, _size)) => keys,
-        None => "",
+    match path.last() {
+        Some(key) => *key == "unused_capacity",
+        None => false,
     }
 }
 
-// What stands after the last `;`, or from the beginning.
-fn last_of(keys: &str) -> &str
-    ensures { result.now ≡ after_last 59 [] keys.now }
+// Appends the line of a path; the root and a path of 0 bytes have none.
+#[tactic(auto, using(crate::proofs::Rows::root_is_empty))]
+fn push_line(path: &[&str], size: usize, text: &mut String) -> Result<(), AllocError>
+    ensures { OnOk result (string_bytes text.new ≡ string_bytes text.old ++ line (map (λ k. k.now) path.now, size)) }
 {
-    match keys.rsplit_once(';') {
-        Some((_path, key)) => key,
-        None => keys,
+    if path.is_empty() || size == 0 {
+        return Ok(());
     }
+    push_path(path, text)?;
+    write!(text, " {size}\n")?;
+    Ok(())
 }
 
-// The text without the lines whose last key is `unused_capacity`.
-fn without_unused(alloc: Global, text: &str) -> Result<String, AllocError>
-    ensures { IfOk result (λ kept. string_bytes kept ≡ without_lines (codes "unused_capacity") text.now) }
+// Appends the line of a row, but for unused capacity.
+fn push_row(row: &Row, text: &mut String) -> Result<(), AllocError>
+    ensures { OnOk result (string_bytes text.new ≡ string_bytes text.old ++ row_line row.now) }
 {
-    let mut kept = String::new(alloc);
-    let mut rest = text;
-    while let Some((line, after)) = rest.split_once('\n') {
-        if last_of(keys_of(line)) != "unused_capacity" {
-            kept.push_str(line)?;
-            kept.push('\n')?;
-        }
-        rest = after;
+    let path = row.path.as_slice();
+    if is_unused(path) {
+        return Ok(());
     }
-    Ok(kept)
+    push_line(path, row.self_size, text)
 }
 
-/// The text of the output's graph and its warnings; with `exact` the text is without the lines whose last key is
+// The text of a graph without the lines of the paths that end in `unused_capacity`.
+fn without_unused(alloc: Global, graph: &FlameGraph) -> Result<String, Refusal>
+    ensures text { IfOk result (λ made. string_bytes made ≡ exact_text graph.now) }
+    ensures memory { IfErr result (λ r. r ≡ Refusal.Memory) }
+{
+    let rows = graph.rows()?;
+    let mut text = String::new(alloc);
+    for row in &rows {
+        push_row(row, &mut text)?;
+    }
+    Ok(text)
+}
+
+/// The text of the output's graph and its warnings; with `exact` the text is without the lines of the paths that end in
 /// `unused_capacity`. It is refused for want of memory alone.
 pub fn report(alloc: Global, output: &FlameGraphOutput, exact: bool) -> Result<Report, Fault>
     ensures { MatchResult result
-        (λ made. (string_bytes made.profile ≡ asked_text exact (text output.now.graph)) × (string_bytes made.warnings ≡ output.now.warnings))
+        (λ made. (string_bytes made.profile ≡ asked_text exact output.now.graph) × (string_bytes made.warnings ≡ output.now.warnings))
         (λ f. f ≡ Fault.Memory) }
 {
-    let text = output.flamegraph().write()?;
+    let graph = output.flamegraph();
     let warnings = output.warnings()?;
     let profile = if exact {
-        without_unused(alloc, text.as_str())?
+        without_unused(alloc, graph)?
     } else {
-        text
+        graph.write()?
     };
     Ok(Report { profile, warnings })
 }

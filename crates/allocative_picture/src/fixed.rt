@@ -26,7 +26,8 @@ svg{font:12px ui-sans-serif,system-ui,"Segoe UI","DejaVu Sans",Helvetica,Arial,s
 .root rect{fill:#d9dee7}
 .spare rect{fill:url(#spare)}
 .same rect{fill:#eceff3}
-.full>text,.b.full .n{fill:#fff;fill-opacity:1}
+.b.full>text,.b.full .n{fill:#fff;fill-opacity:1}
+@media(max-width:760px){.legend{display:none}}
 .warn{fill:#b3261e}
 .b.warned>rect{fill:#ffd9d4;stroke:#b3261e;stroke-width:2}
 .tool{cursor:pointer;fill:#3b5bdb}
@@ -43,7 +44,7 @@ const TOOLS: &str =
 
 // What the colours of a change say.
 const LEGEND: &str =
-    r#"<svg width="100%" overflow="visible"><text class="sum" x="100%" dx="-8" y="42" text-anchor="end"><tspan style="fill:#1d5fbf">shrank</tspan><tspan dx="8">same</tspan><tspan dx="8" style="fill:#d62828">grew</tspan></text></svg>
+    r#"<svg width="100%" overflow="visible"><text class="sum legend" x="100%" dx="-8" y="42" text-anchor="end"><tspan style="fill:#1d5fbf">shrank</tspan><tspan dx="8">same</tspan><tspan dx="8" style="fill:#d62828">grew</tspan></text></svg>
 "#;
 
 // The script and the end. Without the script the picture is whole.

@@ -1,4 +1,7 @@
 //! Lines of collapsed stacks.
+ghost use Rattle.std.specs.Prelude.{IfSome, IfNone};
+ghost use Rattle.allocative_picture_filter.specs.Stacks.{Stack, seen, IsStack};
+
 use std::alloc::AllocError;
 use std::cmp::Ordering;
 
@@ -32,7 +35,10 @@ pub enum Side {
 }
 
 // The line of a text; none where it is no path, a space and a number of bytes that fits. A path has at least one byte.
-fn read_line(line: &str, side: Side) -> Option<Line<'_>> {
+fn read_line(line: &str, side: Side) -> Option<Line<'_>>
+    ensures some { IfSome result (λ read. IsStack side line.now (seen read)) }
+    ensures none { IfNone result ((s : Stack) → ¬ (IsStack side line.now s)) }
+{
     let (path, bytes) = line.rsplit_once(' ')?;
     if path.is_empty() {
         return None;

@@ -7,7 +7,7 @@ use Rattle.std.specs.Ordering.{is_eq, is_lt}
 use Rattle.std.specs.Option.{is_some}
 use Rattle.std.proofs.lemmas.List.{append-nil}
 use Rattle.std.proofs.lemmas.List.Elements.{filter-append}
-use Rattle.std.specs.FinMap.{entries, keys, get, get-entries, entries_sorted}
+use Rattle.std.specs.FinMap.{entries, get, get-entries, entries_sorted}
 use Rattle.std.specs.FinMap.Entries.{find, is_sorted, below_all}
 use Rattle.allocative_graph.proofs.Basics.{path_antisymmetric}
 use Rattle.allocative_graph.proofs.Merge.{get-sum_of}
@@ -120,6 +120,7 @@ has_each g h p = found g h p (entries (sum_of g h)) (entries_sorted (sum_of g h)
   where
     is : is_some (find path_cmp p (entries (sum_of g h))) ≡ (is_some (get g p) || is_some (get h p))
     is = ap is_some (sym (get-entries (sum_of g h) p) ∙ get-sum_of g h p) ∙ there (get g p) (get h p) (size_at g p + size_at h p)
+
     by : (t : Bool) → (is_some (get g p) || is_some (get h p)) ≡ t → cond t (change_of g h p) [] ≡ change_of g h p
     by true e = refl
     by false e = missing g h p (get g p) (get h p) refl refl e

@@ -1,10 +1,10 @@
 -- What stands first in a list by growth.
 use Rattle.std.proofs.Common.{◌≡◌, ℕ, ◌+◌, ◌-◌, ◌^◌, ◌<◌, ◌≤◌, List, [], ◌∷◌, ◌++◌, map, take, drop, length, get_or, min, sym, ap, ◌∙◌, arith}
-use Rattle.std.specs.Prelude.{filter, All, AllPairs}
+use Rattle.std.specs.Prelude.{filter, All}
 use Rattle.std.specs.List.Sorted.{IsPermutation, IsNonDecreasingBy}
 use Rattle.std.proofs.lemmas.List.{map-append, take-append-drop, length-take, length-map, get_or-map, get_or_append_left, get_or-append-add, length-append}
 use Rattle.std.proofs.lemmas.List.Sorted.{All-permutation}
-use Rattle.std.proofs.lemmas.List.Sorted.{length_permutation, IsPermutation-map, IsNonDecreasingBy-take}
+use Rattle.std.proofs.lemmas.List.Sorted.{length_permutation, IsPermutation-map}
 use Rattle.profile_report.specs.declared.changes.Change.{Change}
 use Rattle.profile_report.specs.Changes.{Changed, seen, growth, is_grown, GrewMost}
 
@@ -31,7 +31,7 @@ grew_first n cs ps qs is w moved sorted =
     let words : All IsWord qs = All-permutation IsWord ps qs moved w in
     let parts : map seen qs ≡ map seen (take n qs) ++ map seen (drop n qs) = ap (map seen) (sym (take-append-drop n qs)) ∙ map-append seen (take n qs) (drop n qs) in
     let many : length (map seen (take n qs)) ≡ min n (length (filter is_grown cs)) =
-        length-map (take n qs) seen ∙ length-take n qs ∙ ap (min n) (length_permutation ps qs moved ∙ sym (length-map ps seen) ∙ ap length is) in
+    length-map (take n qs) seen ∙ length-take n qs ∙ ap (min n) (length_permutation ps qs moved ∙ sym (length-map ps seen) ∙ ap length is) in
     record {
       rest = map seen (drop n qs);
       chosen = rw (← is, ← parts) (IsPermutation-map seen ps qs moved);

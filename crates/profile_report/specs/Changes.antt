@@ -1,5 +1,5 @@
 -- What changed between two profiles.
-use Rattle.std.specs.Prelude.{◌≡◌, ℕ, ◌-◌, ◌≤◌, ◌==◌, Bool, ◌&&◌, cond, nat_lt, nat_eq, List, ◌++◌, ◌∷◌, [], length, map, filter, flat_map, min, All, AllPairs, codes, decimal}
+use Rattle.std.specs.Prelude.{◌≡◌, ℕ, ◌-◌, ◌≤◌, ◌==◌, Bool, ◌&&◌, cond, nat_lt, List, ◌++◌, ◌∷◌, [], length, map, filter, flat_map, min, All, AllPairs, codes, decimal}
 use Rattle.std.specs.List.Sorted.{IsPermutation}
 use Rattle.std.specs.FinMap.{keys}
 use Rattle.allocative_graph.specs.Path.{Path, is_same_path}

@@ -101,7 +101,10 @@ fn push_change(
     ensures { OnOk result (map seen changes.new.items ≡ map seen changes.old.items ++ change_of earlier.now later.now (path_of row)) }
 {
     let Row { path, .. } = row;
-    let (before, after) = (earlier.size_at(path.as_slice()), later.size_at(path.as_slice()));
+    let (before, after) = (
+        earlier.size_at(path.as_slice()),
+        later.size_at(path.as_slice()),
+    );
     if before != after {
         changes.push(Change {
             path,
@@ -114,11 +117,7 @@ fn push_change(
 
 /// The changes of the paths that grew most, so many or as many as grew, those that grew most first. A path that came is one that
 /// grew. It answers an error only for want of memory.
-pub fn grew_most(
-    alloc: Global,
-    changes: &[Change],
-    count: usize,
-) -> Result<Vec<Change>, AllocError>
+pub fn grew_most(alloc: Global, changes: &[Change], count: usize) -> Result<Vec<Change>, AllocError>
     ensures { IfOk result (λ top. GrewMost count (map seen changes.now) (map seen top.items)) }
 {
     let mut grown = Vec::new(alloc);
@@ -127,9 +126,11 @@ pub fn grew_most(
             grown.push(change.copy()?)?;
         }
     }
-    grown.sort_by_key(|change: &Change| -> usize
-        ensures { result ≡ 2 ^ 64 - 1 - growth (seen change.entry.now) }
-    { usize::MAX - change.growth() })?;
+    grown.sort_by_key(
+        |change: &Change| -> usize
+            ensures { result ≡ 2 ^ 64 - 1 - growth (seen change.entry.now) }
+        { usize::MAX - change.growth() },
+    )?;
     grown.truncate(count);
     Ok(grown)
 }

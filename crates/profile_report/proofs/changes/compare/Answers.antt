@@ -3,7 +3,7 @@ use Rattle.std.proofs.lemmas.List.{append-nil}
 use Rattle.allocative_graph.specs.declared.flamegraph.reads.Row as read
 use Rattle.allocative_graph.specs.Graph.{Graph, sum_of}
 use Rattle.allocative_graph.specs.Reads as reads
-use Rattle.profile_report.specs.Changes.{Changed, seen, changes_of, HasEach}
+use Rattle.profile_report.specs.Changes.{seen, changes_of, HasEach}
 use Rattle.profile_report.proofs.Each.{changes_in, changes_read, has_each}
 use Rattle.profile_report.proofs.changes.compare.Goals as goal
 

@@ -2,7 +2,6 @@ use Rattle.std.proofs.Common.{◌≡◌, map, take, ap, ◌∙◌, arith, rules}
 use Rattle.std.specs.Prelude.{filter}
 use Rattle.std.proofs.lemmas.List.{take_all}
 use Rattle.std.proofs.lemmas.List.Sorted.{IsNonDecreasingBy-from_sort_by_key}
-use Rattle.profile_report.specs.declared.changes.Change.{Change}
 use Rattle.profile_report.specs.Changes.{seen, is_grown}
 use Rattle.profile_report.proofs.Most.{rank, grew_first}
 use Rattle.profile_report.proofs.changes.grew_most.Goals as goal

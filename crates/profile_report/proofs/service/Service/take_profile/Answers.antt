@@ -1,4 +1,4 @@
-use Rattle.std.proofs.Common.{◌≡◌, ◌∷◌, take, ap, ◌∙◌}
+use Rattle.std.proofs.Common.{◌∷◌, take, ap, ◌∙◌}
 use Rattle.allocative.specs.Graph.{Graph}
 use Rattle.profile_report.proofs.service.Service.take_profile.Goals as goal
 
