@@ -181,6 +181,7 @@ impl<K: Eq + Hash + Drop, V: Allocative + Described> BoundedCache<K, V> {
         ensures value { result ≡ option_map (λ e. (e.0, e.1.value)) (lookup_entry (K.eq key.now) self.old.entries) }
         ensures others { self.new ≡ without (K.eq key.now) self.old }
         ensures unchanged { IfNone result (self.new ≡ self.old) }
+        ensures bounded { IsBounded V.size V.may_show self.new }
     {
         let (key, kept) = self.entries.pop_entry(key)?;
         self.bytes -= kept.bytes;
@@ -204,7 +205,6 @@ impl<K: Eq + Hash + Drop, V: Allocative + Described> BoundedCache<K, V> {
         ensures err { OnErr result (self.new ≡ without (K.eq key.now) self.old) }
         ensures bounded { IsBounded V.size V.may_show self.new }
     {
-        let _ = &self.bytes;
         let Some((key, mut value)) = self.remove(key) else {
             return Ok(false);
         };

@@ -24,7 +24,10 @@ pub enum CacheError {
 /// A value that a cache does not keep, with its key, and why.
 #[derive(Drop)]
 pub struct Refused<K, V> {
+    /// Why it is not kept.
     pub error: CacheError,
+    /// The key that it was to be kept under.
     pub key: K,
+    /// The value itself.
     pub value: V,
 }
