@@ -13,7 +13,8 @@ pub bytes_of-push : {K V : Type 0} (us : Entries K V) (y : K × Kept V) → byte
 bytes_of-push {K} us y = rw (map-append (λ (e : K × Kept _). e.1) us (y ∷ [])) (sum_by_push (λ (k : Kept _). k.bytes) (values_of us) y.1)
 
 module _ {F K V : Type 0} (step : F → K → V → F → Type 0) (went : F) (room : ℕ) (before : Entries K V) where
-  -- The first entry is the old one, the others are the most recently used of the old others, and they have this many bytes. The closure, in the state f, was called once with each that went.
+  -- The first entry is the old one, the others are the most recently used of the old others, and they have this many
+  -- bytes. The closure, in the state f, was called once with each that went.
   pub record Shrinking (left : ℕ) (es : Entries K V) (f : F) : Type 0 where
     pub sum : left ≡ bytes_of (drop 1 es)
     pub first : take 1 es ≡ take 1 before
@@ -22,7 +23,8 @@ module _ {F K V : Type 0} (step : F → K → V → F → Type 0) (went : F) (ro
     pub needed : IsNeeded room (drop 1 es) gone
     pub handed : HandsBack step went gone f
 
-  -- The entry that goes has no more bytes than there are, and the same holds without it, once the closure was called with it.
+  -- The entry that goes has no more bytes than there are, and the same holds without it, once the closure was called
+  -- with it.
   abbrev pub Goes : ℕ → Entries K V → F → K × Kept V → Type 0
   Goes left es f e = (e.1.bytes ≤ left) × ((g : F) → step f e.0 e.1.value g → Shrinking (left - e.1.bytes) (take (length es - 1) es) g)
 

@@ -52,7 +52,8 @@ abbrev pub bounded_code : {K V : Type 0} → Coded K → Coded V → Coded (Boun
 bounded_code {K} {V} k v = code_by (Entries K V × ℕ) (coded× (coded_list (coded× k (kept_code v))) coded_ℕ) (λ c. (c.entries, c.bound)) (λ p. bounded p.0 p.1) (λ _. refl)
 
 -- ---- the order
--- The cache after a use of the key that passes the test: what is kept under it comes first, and the others stay in their order.
+-- The cache after a use of the key that passes the test: what is kept under it comes first, and the others stay in
+-- their order.
 abbrev pub used : {K V : Type 0} → (K → Bool) → Bounded K V → Bounded K V
 used test c = bounded (promoted test c.entries) c.bound
 
@@ -75,7 +76,8 @@ abbrev pub HandsBack : {F K V : Type 0} → (F → K → V → F → Type 0) →
 HandsBack step f [] g = f ≡ g
 HandsBack {F} step f (e ∷ es) g = (h : F) × HandsBack step f es h × step h e.0 e.1.value g
 
--- The entries after are the most recently used of those before. What went had to: beside what stays there is no room for the first of it. The closure was called once with each that went.
+-- The entries after are the most recently used of those before. What went had to: beside what stays there is no room
+-- for the first of it. The closure was called once with each that went.
 pub record KeepsRecent {F K V : Type 0} (step : F → K → V → F → Type 0) (went : F) (room : ℕ) (before after : Entries K V) : Type 0 where
   pub gone : Entries K V
   pub parts : before ≡ after ++ gone
@@ -84,7 +86,8 @@ pub record KeepsRecent {F K V : Type 0} (step : F → K → V → F → Type 0) 
   pub handed : HandsBack step went gone last
 
 -- ---- refusals
--- Why a value of so many bytes does not come into a cache of this bound: they pass the bound; or they fit, and memory is refused.
+-- Why a value of so many bytes does not come into a cache of this bound: they pass the bound; or they fit, and memory
+-- is refused.
 abbrev pub RefusesBytes : ℕ → ℕ → CacheError → Type 0
 RefusesBytes bytes bound (TooLarge told most) = (told ≡ bytes) × (most ≡ bound) × (bound < bytes)
 RefusesBytes bytes bound (NotMeasured e) = ⊥
@@ -100,7 +103,8 @@ module _ {V : Type 0} (size : Option ℕ) (may_show : V → Forest → Type 0) w
   abbrev pub IsMeasured : Kept V → Type 0
   IsMeasured k = IsFigure k.value k.bytes
 
-  -- Why v does not come into a cache of this bound: a figure of it passes the bound; or it was not measured; or it has one that fits, and memory is refused.
+  -- Why v does not come into a cache of this bound: a figure of it passes the bound; or it was not measured; or it has
+  -- one that fits, and memory is refused.
   abbrev pub RefusesInsert : V → ℕ → CacheError → Type 0
   RefusesInsert v bound (TooLarge bytes most) = IsFigure v bytes × (most ≡ bound) × (bound < bytes)
   RefusesInsert v bound (NotMeasured e) = ⊤
@@ -114,7 +118,8 @@ module _ {V : Type 0} (size : Option ℕ) (may_show : V → Forest → Type 0) w
       pub measured : All IsMeasured (values_of c.entries)
 
     module _ {F : Type 0} (eq : K → K → Bool) (step : F → K → V → F → Type 0) where
-      -- v is kept under the key with a figure of it, as the most recently used. What the key had is gone, and of the others the least recently used, as many as had to go for the bound, each handed to the closure once.
+      -- v is kept under the key with a figure of it, as the most recently used. What the key had is gone, and of the
+      -- others the least recently used, as many as had to go for the bound, each handed to the closure once.
       pub record Inserts (went : F) (key : K) (v : V) (old new : Bounded K V) : Type 0 where
         pub bytes : ℕ
         pub others : Entries K V
@@ -123,7 +128,8 @@ module _ {V : Type 0} (size : Option ℕ) (may_show : V → Forest → Type 0) w
         pub recent : KeepsRecent step went (old.bound - bytes) (remove_entry (eq key) old.entries) others
         pub is : new ≡ bounded ((stored_key eq key old.entries, kept v bytes) ∷ others) old.bound
 
-      -- What the key that passes the test had was changed as `changed` says, measured again and kept as an insertion keeps it.
+      -- What the key that passes the test had was changed as `changed` says, measured again and kept as an insertion
+      -- keeps it.
       pub record Changes (went : F) (test : K → Bool) (changed : V → V → Type 0) (old new : Bounded K V) : Type 0 where
         pub key : K
         pub had : Kept V
@@ -132,6 +138,7 @@ module _ {V : Type 0} (size : Option ℕ) (may_show : V → Forest → Type 0) w
         pub changes : changed had.value value
         pub inserts : Inserts went key value (without test old) new
 
-    -- What the key that passes the test had was changed as `changed` says, and is refused with its key, as an insertion refuses it.
+    -- What the key that passes the test had was changed as `changed` says, and is refused with its key, as an insertion
+    -- refuses it.
     abbrev pub RefusesChange : (K → Bool) → (V → V → Type 0) → Bounded K V → Refused K V → Type 0
     RefusesChange test changed old r = (had : Kept V) × (lookup_entry test old.entries ≡ Some (r.key, had)) × changed had.value r.value × RefusesInsert r.value old.bound r.error

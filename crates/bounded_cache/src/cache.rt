@@ -20,8 +20,8 @@ pub struct Kept<V> {
     bytes: usize,
 }
 
-/// Keeps values under keys, with at most so many declared bytes together as its bound says. Where a new value needs room, the
-/// least recently used go, and each that goes is handed back.
+/// Keeps values under keys, with at most so many declared bytes together as its bound says. Where a new value needs
+/// room, the least recently used go, and each that goes is handed back.
 #[derive(Drop)]
 pub struct BoundedCache<K: Eq + Hash, V: Allocative + Described> {
     entries: LruCache<K, Kept<V>>,
@@ -42,8 +42,8 @@ impl<K: Eq + Hash, V: Allocative + Described> Model for BoundedCache<K, V> {
     ghost invariant = { λ c. (c.entries.cap ≡ 2 ^ 64 - 1) × (c.bytes ≡ bytes_of c.entries.entries) × IsBounded V.size V.may_show (bounded c.entries.entries c.bound) };
 }
 
-// Puts the pair first, in place of what the key had, and answers that and its bytes. The others stay: no list is so long that
-// its count would let one go.
+// Puts the pair first, in place of what the key had, and answers that and its bytes. The others stay: no list is so
+// long that its count would let one go.
 fn put<K: Eq + Hash + Drop, V: Drop>(
     entries: &mut LruCache<K, Kept<V>>,
     key: K,
@@ -66,8 +66,8 @@ fn put<K: Eq + Hash + Drop, V: Drop>(
     }
 }
 
-// Lets the least recently used go until all but the first have at most `room` bytes, hands each to the closure, and answers how
-// many bytes they have then. They have `bytes` before.
+// Lets the least recently used go until all but the first have at most `room` bytes, hands each to the closure, and
+// answers how many bytes they have then. They have `bytes` before.
 fn shrink<K: Eq + Hash, V: Drop, F: FnMut(K, V)>(
     entries: &mut LruCache<K, Kept<V>>,
     bytes: usize,
@@ -108,12 +108,12 @@ impl<K: Eq + Hash + Drop, V: Allocative + Described> BoundedCache<K, V> {
         })
     }
 
-    /// Measures the value and keeps it under the key, as the most recently used, in place of what the key had, which is the
-    /// answer. Of the others the least recently used go, no more than must, and each is handed to `went` with its key, the
-    /// least recently used first.
+    /// Measures the value and keeps it under the key, as the most recently used, in place of what the key had, which is
+    /// the answer. Of the others the least recently used go, no more than must, and each is handed to `went` with its
+    /// key, the least recently used first.
     ///
-    /// `TooLarge` where the value alone passes the bound, `NotMeasured` where `size_of_unique` refuses it, and `Memory` where it
-    /// fits and memory is refused. After an error nothing has changed, and key and value come back with it.
+    /// `TooLarge` where the value alone passes the bound, `NotMeasured` where `size_of_unique` refuses it, and `Memory`
+    /// where it fits and memory is refused. After an error nothing has changed, and key and value come back with it.
     pub fn insert<F: FnMut(K, V)>(
         &mut self,
         key: K,
@@ -188,8 +188,8 @@ impl<K: Eq + Hash + Drop, V: Allocative + Described> BoundedCache<K, V> {
         Some((key, kept.value))
     }
 
-    /// Changes the value under the key in place, measures it again and keeps it as `insert` does. False, and nothing has changed,
-    /// where the key has none.
+    /// Changes the value under the key in place, measures it again and keeps it as `insert` does. False, and nothing
+    /// has changed, where the key has none.
     ///
     /// The errors are those of `insert`. After one, key and value have left the cache and come back with it.
     pub fn change<C: FnOnce(&mut V), F: FnMut(K, V)>(
