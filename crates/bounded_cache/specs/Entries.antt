@@ -1,13 +1,15 @@
 -- What a contract sees of a cache, and what its calls do.
-use Rattle.std.specs.Prelude.{◌≡◌, ℕ, ◌+◌, ◌-◌, ◌<◌, ◌≤◌, Option, List, [], ◌∷◌, ◌++◌, All, sum_by, option_map, nat_eq, refl, ⊤}
+use Rattle.std.specs.Prelude.{◌≡◌, ℕ, ◌+◌, ◌-◌, ◌<◌, ◌≤◌, Bool, Option, Some, List, [], ◌∷◌, ◌++◌, All, sum_by, option_map, refl, ⊤}
 use Rattle.std.specs.Borrow.{Fml, RattleType, MutBor, follows_so}
 use Rattle.std.specs.Coded.{Coded, code_by, coded×, coded_list, coded_ℕ}
-use Rattle.std.specs.Map.{lookup, remove_entry, values_of}
+use Rattle.std.specs.Map.{lookup, lookup_entry, remove_entry, values_of}
+use Rattle.std.specs.Option.{option_map_or}
 use mathlib.Core.Option.{none}
 use Rattle.allocative.specs.Forest.{Forest}
 use Rattle.allocative.specs.SizeOf.{IsSizeOfUnique}
 use Rattle.lru.specs.LruCache.{promoted}
 use Rattle.bounded_cache.specs.declared.cache.Kept.{Kept}
+use Rattle.bounded_cache.specs.declared.error.Refused.{Refused}
 use Rattle.bounded_cache.specs.declared.error.CacheError.{CacheError}
 use Rattle.bounded_cache.specs.declared.error.CacheError.TheVariants.{TooLarge, NotMeasured, Memory}
 
@@ -17,24 +19,28 @@ abbrev pub kept : {V : Type 0} → V → ℕ → Kept V
 kept v n = record { value = v; bytes = n }
 
 -- The keys with what is kept under them, the most recently used first.
-abbrev pub Entries : Type 0 → Type 0
-Entries V = List (ℕ × Kept V)
+abbrev pub Entries : Type 0 → Type 0 → Type 0
+Entries K V = List (K × Kept V)
 
 -- The sum of the figures.
-abbrev pub bytes_of : {V : Type 0} → Entries V → ℕ
+abbrev pub bytes_of : {K V : Type 0} → Entries K V → ℕ
 bytes_of es = sum_by (λ k. k.bytes) (values_of es)
 
--- The value that is kept under the key.
-abbrev pub value_at : {V : Type 0} → ℕ → Entries V → Option V
-value_at key es = option_map (λ k. k.value) (lookup (nat_eq key) es)
+-- The value that is kept under the key that passes the test.
+abbrev pub value_at : {K V : Type 0} → (K → Bool) → Entries K V → Option V
+value_at test es = option_map (λ k. k.value) (lookup test es)
+
+-- The key that stands in the list for this one: an equal key that is there already stays.
+abbrev pub stored_key : {K V : Type 0} → (K → K → Bool) → K → Entries K V → K
+stored_key eq key es = option_map_or (λ e. e.0) (lookup_entry (eq key) es) key
 
 -- A cache as contracts see it: its entries, and the bytes that they may have.
-pub record Bounded (V : Type 0) : Type 0 where
-  pub entries : Entries V
+pub record Bounded (K V : Type 0) : Type 0 where
+  pub entries : Entries K V
   pub bound : ℕ
 
 -- The cache of these two.
-abbrev pub bounded : {V : Type 0} → Entries V → ℕ → Bounded V
+abbrev pub bounded : {K V : Type 0} → Entries K V → ℕ → Bounded K V
 bounded es n = record { entries = es; bound = n }
 
 -- A kept value is stored as the pair of its fields.
@@ -42,31 +48,46 @@ abbrev pub kept_code : {V : Type 0} → Coded V → Coded (Kept V)
 kept_code {V} v = code_by (V × ℕ) (coded× v coded_ℕ) (λ k. (k.value, k.bytes)) (λ p. kept p.0 p.1) (λ _. refl)
 
 -- A cache is stored as the pair of its fields.
-abbrev pub bounded_code : {V : Type 0} → Coded V → Coded (Bounded V)
-bounded_code {V} v = code_by (Entries V × ℕ) (coded× (coded_list (coded× coded_ℕ (kept_code v))) coded_ℕ) (λ c. (c.entries, c.bound)) (λ p. bounded p.0 p.1) (λ _. refl)
+abbrev pub bounded_code : {K V : Type 0} → Coded K → Coded V → Coded (Bounded K V)
+bounded_code {K} {V} k v = code_by (Entries K V × ℕ) (coded× (coded_list (coded× k (kept_code v))) coded_ℕ) (λ c. (c.entries, c.bound)) (λ p. bounded p.0 p.1) (λ _. refl)
 
 -- ---- the order
--- The cache after a use of the key: what is kept under it comes first, and the others stay in their order.
-abbrev pub used : {V : Type 0} → ℕ → Bounded V → Bounded V
-used key c = bounded (promoted (nat_eq key) c.entries) c.bound
+-- The cache after a use of the key that passes the test: what is kept under it comes first, and the others stay in
+-- their order.
+abbrev pub used : {K V : Type 0} → (K → Bool) → Bounded K V → Bounded K V
+used test c = bounded (promoted test c.entries) c.bound
+
+-- The cache without what is kept under the key that passes the test.
+abbrev pub without : {K V : Type 0} → (K → Bool) → Bounded K V → Bounded K V
+without test c = bounded (remove_entry test c.entries) c.bound
 
 -- What c borrows is this value, once everything that was lent of it is given back.
 abbrev pub ends_as : (R : RattleType) → MutBor R.Denot → R.Denot → Fml
 ends_as R c end = follows_so R R c.ghost_name none (λ _ _. ⊤) (λ n. n ≡ end)
 
+-- ---- what went
 -- The first of the entries that went has no room beside those that stay; or none went.
-abbrev pub IsNeeded : {V : Type 0} → ℕ → Entries V → Entries V → Type 0
+abbrev pub IsNeeded : {K V : Type 0} → ℕ → Entries K V → Entries K V → Type 0
 IsNeeded room stay [] = ⊤
 IsNeeded room stay (e ∷ more) = room < bytes_of stay + e.1.bytes
 
--- The entries after are the most recently used of those before, and what went had to: beside what stays there is no room for the first of it.
-pub record KeepsRecent {V : Type 0} (room : ℕ) (before after : Entries V) : Type 0 where
-  pub gone : Entries V
+-- Calls took the closure from f to g, exactly one with each of these entries, the last entry first.
+abbrev pub HandsBack : {F K V : Type 0} → (F → K → V → F → Type 0) → F → Entries K V → F → Type 0
+HandsBack step f [] g = f ≡ g
+HandsBack {F} step f (e ∷ es) g = (h : F) × HandsBack step f es h × step h e.0 e.1.value g
+
+-- The entries after are the most recently used of those before. What went had to: beside what stays there is no room
+-- for the first of it. The closure was called once with each that went.
+pub record KeepsRecent {F K V : Type 0} (step : F → K → V → F → Type 0) (went : F) (room : ℕ) (before after : Entries K V) : Type 0 where
+  pub gone : Entries K V
   pub parts : before ≡ after ++ gone
   pub needed : IsNeeded room after gone
+  pub last : F
+  pub handed : HandsBack step went gone last
 
 -- ---- refusals
--- Why a value of so many bytes does not come into a cache of this bound: they pass the bound; or they fit, and memory is refused.
+-- Why a value of so many bytes does not come into a cache of this bound: they pass the bound; or they fit, and memory
+-- is refused.
 abbrev pub RefusesBytes : ℕ → ℕ → CacheError → Type 0
 RefusesBytes bytes bound (TooLarge told most) = (told ≡ bytes) × (most ≡ bound) × (bound < bytes)
 RefusesBytes bytes bound (NotMeasured e) = ⊥
@@ -82,23 +103,42 @@ module _ {V : Type 0} (size : Option ℕ) (may_show : V → Forest → Type 0) w
   abbrev pub IsMeasured : Kept V → Type 0
   IsMeasured k = IsFigure k.value k.bytes
 
-  -- ---- what the cache promises
-  -- The figures together are within the bound, and each is one of its value.
-  pub record IsBounded (c : Bounded V) : Type 0 where
-    pub within : bytes_of c.entries ≤ c.bound
-    pub measured : All IsMeasured (values_of c.entries)
-
-  -- v is kept under the key with a figure of it, as the most recently used. What the key had is gone, and of the others the least recently used, as many as had to go for the bound.
-  pub record Inserts (key : ℕ) (v : V) (old new : Bounded V) : Type 0 where
-    pub bytes : ℕ
-    pub others : Entries V
-    pub figure : IsFigure v bytes
-    pub fits : bytes + bytes_of others ≤ old.bound
-    pub recent : KeepsRecent (old.bound - bytes) (remove_entry (nat_eq key) old.entries) others
-    pub is : new ≡ bounded ((key, kept v bytes) ∷ others) old.bound
-
-  -- Why v does not come into a cache of this bound: a figure of it passes the bound; or it was not measured; or it has one that fits, and memory is refused.
+  -- Why v does not come into a cache of this bound: a figure of it passes the bound; or it was not measured; or it has
+  -- one that fits, and memory is refused.
   abbrev pub RefusesInsert : V → ℕ → CacheError → Type 0
   RefusesInsert v bound (TooLarge bytes most) = IsFigure v bytes × (most ≡ bound) × (bound < bytes)
   RefusesInsert v bound (NotMeasured e) = ⊤
   RefusesInsert v bound Memory = (bytes : ℕ) × IsFigure v bytes × (bytes ≤ bound)
+
+  module _ {K : Type 0} where
+    -- ---- what the cache promises
+    -- The figures together are within the bound, and each is one of its value.
+    pub record IsBounded (c : Bounded K V) : Type 0 where
+      pub within : bytes_of c.entries ≤ c.bound
+      pub measured : All IsMeasured (values_of c.entries)
+
+    module _ {F : Type 0} (eq : K → K → Bool) (step : F → K → V → F → Type 0) where
+      -- v is kept under the key with a figure of it, as the most recently used. What the key had is gone, and of the
+      -- others the least recently used, as many as had to go for the bound, each handed to the closure once.
+      pub record Inserts (went : F) (key : K) (v : V) (old new : Bounded K V) : Type 0 where
+        pub bytes : ℕ
+        pub others : Entries K V
+        pub figure : IsFigure v bytes
+        pub fits : bytes + bytes_of others ≤ old.bound
+        pub recent : KeepsRecent step went (old.bound - bytes) (remove_entry (eq key) old.entries) others
+        pub is : new ≡ bounded ((stored_key eq key old.entries, kept v bytes) ∷ others) old.bound
+
+      -- What the key that passes the test had was changed as `changed` says, measured again and kept as an insertion
+      -- keeps it.
+      pub record Changes (went : F) (test : K → Bool) (changed : V → V → Type 0) (old new : Bounded K V) : Type 0 where
+        pub key : K
+        pub had : Kept V
+        pub value : V
+        pub found : lookup_entry test old.entries ≡ Some (key, had)
+        pub changes : changed had.value value
+        pub inserts : Inserts went key value (without test old) new
+
+    -- What the key that passes the test had was changed as `changed` says, and is refused with its key, as an insertion
+    -- refuses it.
+    abbrev pub RefusesChange : (K → Bool) → (V → V → Type 0) → Bounded K V → Refused K V → Type 0
+    RefusesChange test changed old r = (had : Kept V) × (lookup_entry test old.entries ≡ Some (r.key, had)) × changed had.value r.value × RefusesInsert r.value old.bound r.error

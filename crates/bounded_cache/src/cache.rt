@@ -1,15 +1,16 @@
 //! A cache bounded by declared bytes. A clause sees it as its `entries`, the most recently used first, and its `bound`.
-ghost use Rattle.std.specs.Prelude.{◌≡◌, ◌+◌, ◌-◌, ◌^◌, ◌≤◌, [], ◌∷◌, length, take, drop, nat_eq, OnOk, OnErr, IfOk, IfErr, MatchResult, Err, option_copied, ◌↔◌, IsTrue, is_some};
+ghost use Rattle.std.specs.Prelude.{◌≡◌, ◌+◌, ◌-◌, ◌^◌, ◌≤◌, Some, [], ◌∷◌, length, take, drop, OnOk, OnErr, IfOk, IfErr, IfNone, IfSome, MatchBool, MatchResult, Err, None, option_copied, ◌↔◌, IsTrue, is_some, option_map};
 ghost use Rattle.std.specs.Borrow.{sem};
+ghost use Rattle.std.specs.Fn.{FnOnceReturnsAtMut};
 ghost use Rattle.std.specs.List.{IsDistinct};
-ghost use Rattle.std.specs.Map.{remove_entry, keys_of};
-ghost use Rattle.lru.specs.LruCache.{lru_cache};
-ghost use Rattle.bounded_cache.specs.Entries.{bytes_of, KeepsRecent, bounded, IsBounded, IsFigure, Inserts, RefusesBytes, RefusesInsert, value_at, used, ends_as};
+ghost use Rattle.std.specs.Map.{lookup, lookup_entry, remove_entry, keys_of};
+ghost use Rattle.bounded_cache.specs.Entries.{bytes_of, KeepsRecent, bounded, IsBounded, IsFigure, Inserts, Changes, RefusesBytes, RefusesInsert, RefusesChange, stored_key, value_at, used, without, ends_as};
 
-use crate::error::CacheError;
+use crate::error::{CacheError, Refused};
 use allocative::{Allocative, Described, Refusal, size_of_unique};
 use lru::LruCache;
-use std::alloc::{AllocError, Global};
+use std::alloc::{AllocError, AllocFailed, Global};
+use std::hash::Hash;
 use std::marker::Model;
 
 /// A value, and its declared bytes as they were measured when it came in.
@@ -19,70 +20,80 @@ pub struct Kept<V> {
     bytes: usize,
 }
 
-/// Keeps values under keys that are numbers, with at most so many declared bytes together as its bound says. Where a new value
-/// needs room, the least recently used go.
+/// Keeps values under keys, with at most so many declared bytes together as its bound says. Where a new value needs
+/// room, the least recently used go, and each that goes is handed back.
 #[derive(Drop)]
-pub struct BoundedCache<V: Allocative + Described> {
-    entries: LruCache<u64, Kept<V>>,
+pub struct BoundedCache<K: Eq + Hash, V: Allocative + Described> {
+    entries: LruCache<K, Kept<V>>,
     bytes: usize,
     bound: usize,
 }
 
-impl<V: Allocative + Described> Model for BoundedCache<V> {
+impl<K: Eq + Hash, V: Allocative + Described> Model for BoundedCache<K, V> {
     ghost use Rattle.std.specs.Prelude.{◌≡◌, ◌-◌, ◌^◌};
     ghost use Rattle.bounded_cache.specs.Entries.{Bounded, bounded, bounded_code, bytes_of, IsBounded};
 
-    ghost Value = { Bounded V };
+    ghost Value = { Bounded K V };
 
-    ghost coded = { bounded_code V.code };
+    ghost coded = { bounded_code K.code V.code };
 
     ghost view = { λ c. bounded c.entries.entries c.bound };
 
     ghost invariant = { λ c. (c.entries.cap ≡ 2 ^ 64 - 1) × (c.bytes ≡ bytes_of c.entries.entries) × IsBounded V.size V.may_show (bounded c.entries.entries c.bound) };
 }
 
-// Puts the pair first, in place of what the key had, and answers the bytes of that. The others stay: no list is so long that
-// its count would let one go.
-fn put<V: Drop>(
-    entries: &mut LruCache<u64, Kept<V>>,
-    key: u64,
+// Puts the pair first, in place of what the key had, and answers that and its bytes. The others stay: no list is so
+// long that its count would let one go.
+fn put<K: Eq + Hash + Drop, V: Drop>(
+    entries: &mut LruCache<K, Kept<V>>,
+    key: K,
     kept: Kept<V>,
-) -> Result<usize, AllocError>
+) -> Result<(Option<V>, usize), AllocFailed<(K, Kept<V>)>>
     requires { entries.old.cap ≡ 2 ^ 64 - 1 }
-    ensures first { OnOk result (entries.new.entries ≡ (key, kept) ∷ remove_entry (nat_eq key) entries.old.entries) }
-    ensures bytes { IfOk result (λ n. bytes_of (remove_entry (nat_eq key) entries.old.entries) + n ≡ bytes_of entries.old.entries) }
+    ensures first { OnOk result (entries.new.entries ≡ (stored_key K.eq key entries.old.entries, kept) ∷ remove_entry (K.eq key) entries.old.entries) }
+    ensures had { IfOk result (λ had. had.0 ≡ value_at (K.eq key) entries.old.entries) }
+    ensures bytes { IfOk result (λ had. bytes_of (remove_entry (K.eq key) entries.old.entries) + had.1 ≡ bytes_of entries.old.entries) }
     ensures capacity { entries.new.cap ≡ entries.old.cap }
+    ensures returned { IfErr result (λ failed. failed.value ≡ (key, kept)) }
     ensures err { OnErr result (entries.new ≡ entries.old) }
 {
     let count = entries.len();
     prove!(count < usize::MAX);
-    match entries.put(key, kept)? {
-        Some(old) => Ok(old.bytes),
-        None => Ok(0),
+    match entries.put(key, kept) {
+        Ok(Some(old)) => Ok((Some(old.value), old.bytes)),
+        Ok(None) => Ok((None, 0)),
+        Err(failed) => Err(failed),
     }
 }
 
-// Lets the least recently used go until all but the first have at most `room` bytes, and answers how many they have then. They
-// have `bytes` before.
-fn shrink<V: Drop>(entries: &mut LruCache<u64, Kept<V>>, bytes: usize, room: usize) -> usize
-    requires { bytes ≡ bytes_of (drop 1 entries.old.entries) }
+// Lets the least recently used go until all but the first have at most `room` bytes, hands each to the closure, and
+// answers how many bytes they have then. They have `bytes` before.
+fn shrink<K: Eq + Hash, V: Drop, F: FnMut(K, V)>(
+    entries: &mut LruCache<K, Kept<V>>,
+    bytes: usize,
+    room: usize,
+    mut went: F,
+) -> usize
+    requires callable { F.IsAlwaysCallable went }
+    requires bytes { bytes ≡ bytes_of (drop 1 entries.old.entries) }
     ensures sum { result ≡ bytes_of (drop 1 entries.new.entries) }
     ensures fits { result ≤ room }
     ensures first { take 1 entries.new.entries ≡ take 1 entries.old.entries }
-    ensures recent { KeepsRecent room (drop 1 entries.old.entries) (drop 1 entries.new.entries) }
+    ensures recent { KeepsRecent (λ f k v g. F.step f k v tt g) went room (drop 1 entries.old.entries) (drop 1 entries.new.entries) }
     ensures capacity { entries.new.cap ≡ entries.old.cap }
 {
     let mut left = bytes;
     while left > room {
-        let Some((_key, gone)) = entries.pop_lru() else {
-            break;
+        let Some((key, gone)) = entries.pop_lru() else {
+            return left;
         };
         left -= gone.bytes;
+        went(key, gone.value);
     }
     left
 }
 
-impl<V: Allocative + Described> BoundedCache<V> {
+impl<K: Eq + Hash + Drop, V: Allocative + Described> BoundedCache<K, V> {
     ghost use Rattle.bounded_cache.specs.contracts.cache.BoundedCache.{the_row};
 
     /// A cache that keeps nothing, with a bound in declared bytes. It is refused for want of memory alone.
@@ -97,49 +108,117 @@ impl<V: Allocative + Described> BoundedCache<V> {
         })
     }
 
-    /// Measures the value and keeps it under the key, as the most recently used, in place of what the key had. Of the others
-    /// the least recently used go, no more than must.
+    /// Measures the value and keeps it under the key, as the most recently used, in place of what the key had, which is
+    /// the answer. Of the others the least recently used go, no more than must, and each is handed to `went` with its
+    /// key, the least recently used first.
     ///
-    /// `TooLarge` where the value alone passes the bound, `NotMeasured` where `size_of_unique` refuses it, and `Memory` where it
-    /// fits and memory is refused. After an error nothing has changed, and the value is gone.
-    pub fn insert(&mut self, key: u64, value: V) -> Result<(), CacheError>
-        ensures ok { OnOk result (Inserts V.size V.may_show key value self.old self.new) }
-        ensures refused { IfErr result (RefusesInsert V.size V.may_show value self.old.bound) }
+    /// `TooLarge` where the value alone passes the bound, `NotMeasured` where `size_of_unique` refuses it, and `Memory`
+    /// where it fits and memory is refused. After an error nothing has changed, and key and value come back with it.
+    pub fn insert<F: FnMut(K, V)>(
+        &mut self,
+        key: K,
+        value: V,
+        went: F,
+    ) -> Result<Option<V>, Refused<K, V>>
+        requires { F.IsAlwaysCallable went }
+        ensures ok { OnOk result (Inserts V.size V.may_show K.eq (λ f k v g. F.step f k v tt g) went key value self.old self.new) }
+        ensures had { IfOk result (λ had. had ≡ value_at (K.eq key) self.old.entries) }
+        ensures refused { IfErr result (λ r. RefusesInsert V.size V.may_show value self.old.bound r.error) }
+        ensures returned { IfErr result (λ r. (r.key ≡ key) × (r.value ≡ value)) }
         ensures err { OnErr result (self.new ≡ self.old) }
         ensures bounded { IsBounded V.size V.may_show self.new }
     {
         let measured = size_of_unique(&value);
-        self.keep(key, value, measured)
+        self.keep(key, value, measured, went)
     }
 
     // Keeps the value under the key, where it was measured.
-    fn keep(
+    fn keep<F: FnMut(K, V)>(
         &mut self,
-        key: u64,
+        key: K,
         value: V,
         measured: Result<usize, Refusal>,
-    ) -> Result<(), CacheError>
-        requires { IfOk measured (IsFigure V.size V.may_show value) }
-        ensures ok { OnOk result (Inserts V.size V.may_show key value self.old self.new) }
-        ensures refused { MatchResult measured (λ bytes. IfErr result (RefusesBytes bytes self.old.bound)) (λ e. result ≡ Err (CacheError.NotMeasured e)) }
+        went: F,
+    ) -> Result<Option<V>, Refused<K, V>>
+        requires callable { F.IsAlwaysCallable went }
+        requires measured { IfOk measured (IsFigure V.size V.may_show value) }
+        ensures ok { OnOk result (Inserts V.size V.may_show K.eq (λ f k v g. F.step f k v tt g) went key value self.old self.new) }
+        ensures had { IfOk result (λ had. had ≡ value_at (K.eq key) self.old.entries) }
+        ensures refused { MatchResult measured (λ bytes. IfErr result (λ r. RefusesBytes bytes self.old.bound r.error)) (λ e. result ≡ Err (record { error = CacheError.NotMeasured e; key = key; value = value })) }
+        ensures returned { IfErr result (λ r. (r.key ≡ key) × (r.value ≡ value)) }
         ensures err { OnErr result (self.new ≡ self.old) }
         ensures bounded { IsBounded V.size V.may_show self.new }
     {
         let bound = self.bound;
-        let bytes = measured?;
+        let bytes = match measured {
+            Ok(bytes) => bytes,
+            Err(refusal) => {
+                let error = CacheError::NotMeasured(refusal);
+                return Err(Refused { error, key, value });
+            }
+        };
         if bytes > bound {
-            return Err(CacheError::TooLarge { bytes, bound });
+            let error = CacheError::TooLarge { bytes, bound };
+            return Err(Refused { error, key, value });
         }
-        let replaced = put(&mut self.entries, key, Kept { value, bytes })?;
-        let others = shrink(&mut self.entries, self.bytes - replaced, bound - bytes);
-        self.bytes = bytes + others;
-        Ok(())
+        match put(&mut self.entries, key, Kept { value, bytes }) {
+            Ok((had, replaced)) => {
+                let room = bound - bytes;
+                let others = shrink(&mut self.entries, self.bytes - replaced, room, went);
+                self.bytes = bytes + others;
+                Ok(had)
+            }
+            Err(AllocFailed { value: (key, kept) }) => {
+                let error = CacheError::Memory;
+                let value = kept.value;
+                Err(Refused { error, key, value })
+            }
+        }
+    }
+
+    /// Takes the key and its value out. None, and nothing has changed, where the key has none.
+    pub fn remove(&mut self, key: &K) -> Option<(K, V)>
+        ensures value { result ≡ option_map (λ e. (e.0, e.1.value)) (lookup_entry (K.eq key.now) self.old.entries) }
+        ensures others { self.new ≡ without (K.eq key.now) self.old }
+        ensures unchanged { IfNone result (self.new ≡ self.old) }
+        ensures bounded { IsBounded V.size V.may_show self.new }
+    {
+        let (key, kept) = self.entries.pop_entry(key)?;
+        self.bytes -= kept.bytes;
+        Some((key, kept.value))
+    }
+
+    /// Changes the value under the key in place, measures it again and keeps it as `insert` does. False, and nothing
+    /// has changed, where the key has none.
+    ///
+    /// The errors are those of `insert`. After one, key and value have left the cache and come back with it.
+    pub fn change<C: FnOnce(&mut V), F: FnMut(K, V)>(
+        &mut self,
+        key: &K,
+        change: C,
+        went: F,
+    ) -> Result<bool, Refused<K, V>>
+        requires changes { C.IsAlwaysCallable change }
+        requires callable { F.IsAlwaysCallable went }
+        ensures ok { IfOk result (λ there. MatchBool there (Changes V.size V.may_show K.eq (λ f k v g. F.step f k v tt g) went (K.eq key.now) (λ v w. FnOnceReturnsAtMut C.FnOnce change v tt w) self.old self.new) ((lookup_entry (K.eq key.now) self.old.entries ≡ None) × (self.new ≡ self.old))) }
+        ensures refused { IfErr result (RefusesChange V.size V.may_show (K.eq key.now) (λ v w. FnOnceReturnsAtMut C.FnOnce change v tt w) self.old) }
+        ensures err { OnErr result (self.new ≡ without (K.eq key.now) self.old) }
+        ensures bounded { IsBounded V.size V.may_show self.new }
+    {
+        let Some((key, mut value)) = self.remove(key) else {
+            return Ok(false);
+        };
+        change(&mut value);
+        match self.insert(key, value, went) {
+            Ok(_none) => Ok(true),
+            Err(refused) => Err(refused),
+        }
     }
 
     /// The value under the key, which becomes the most recently used.
-    pub fn get(&mut self, key: &u64) -> Option<&V>
-        ensures* order { sem 𝓛 (ends_as (the_row V.row V.Allocative V.Described) self.entry (used key.now self.old)) }
-        ensures value { option_copied result ≡ value_at key.now self.old.entries }
+    pub fn get(&mut self, key: &K) -> Option<&V>
+        ensures* order { sem 𝓛 (ends_as (the_row K.row V.row (record {}) (record { eq = K.eq }) (record { hash_input = K.hash_input }) V.Allocative V.Described) self.entry (used (K.eq key.now) self.old)) }
+        ensures value { option_copied result ≡ value_at (K.eq key.now) self.old.entries }
     {
         let kept = self.entries.get(key)?;
         Some(&kept.value)
@@ -148,14 +227,14 @@ impl<V: Allocative + Described> BoundedCache<V> {
     /// How many values are kept, each under a key of its own.
     pub fn len(&self) -> usize
         ensures len { result ≡ length self.now.entries }
-        ensures distinct { IsDistinct nat_eq (keys_of self.now.entries) }
+        ensures distinct { IsDistinct K.eq (keys_of self.now.entries) }
     {
         self.entries.len()
     }
 
     /// Whether something is kept under the key. The order stays as it is.
-    pub fn contains(&self, key: &u64) -> bool
-        ensures { result ≡ is_some (value_at key.now self.now.entries) }
+    pub fn contains(&self, key: &K) -> bool
+        ensures { result ≡ is_some (value_at (K.eq key.now) self.now.entries) }
     {
         self.entries.contains(key)
     }

@@ -1,6 +1,5 @@
 //! Why an insertion is refused.
 use allocative::Refusal;
-use std::alloc::AllocError;
 use thiserror::Error;
 
 /// Why a cache did not keep a value.
@@ -22,24 +21,13 @@ pub enum CacheError {
     Memory,
 }
 
-impl From<Refusal> for CacheError {
-    ghost use Rattle.std.specs.Prelude.{◌≡◌};
-    ghost use Rattle.bounded_cache.specs.declared.error.CacheError.TheVariants.{NotMeasured};
-
-    ghost from_gives = { λ r e. e ≡ NotMeasured r };
-
-    fn from(refusal: Refusal) -> CacheError {
-        CacheError::NotMeasured(refusal)
-    }
-}
-
-impl From<AllocError> for CacheError {
-    ghost use Rattle.std.specs.Prelude.{◌≡◌};
-    ghost use Rattle.bounded_cache.specs.declared.error.CacheError.TheVariants.{Memory};
-
-    ghost from_gives = { λ _ e. e ≡ Memory };
-
-    fn from(_refused: AllocError) -> CacheError {
-        CacheError::Memory
-    }
+/// A value that a cache does not keep, with its key, and why.
+#[derive(Drop)]
+pub struct Refused<K, V> {
+    /// Why it is not kept.
+    pub error: CacheError,
+    /// The key that it was to be kept under.
+    pub key: K,
+    /// The value itself.
+    pub value: V,
 }

@@ -1,4 +1,4 @@
-//! A cache bounded by declared bytes, and a run of it: pages come, one is read again, and the least recently used goes.
+//! A cache of pages, bounded by declared bytes: pages come, one is read again, the least recently used goes, one grows.
 #![tactic(auto)]
 
 mod cache;
@@ -6,26 +6,26 @@ mod error;
 
 use anyhow::Result;
 use cache::BoundedCache;
-use either::{Either, Left, Right};
 use std::alloc::{AllocError, Global};
 
-// A page of 100 declared bytes, or one of 1024: 16 for the page itself, and what is in the box.
-type Page = Either<Box<[u8; 84]>, Box<[u8; 1008]>>;
-
-fn small_page(alloc: Global) -> Result<Page, AllocError> {
-    Ok(Left(Box::new(alloc, [0; 84])?))
+/// Where a page stands.
+#[derive(Clone, Copy, Debug, PartialEq, Eq, Hash)]
+pub struct Place {
+    book: u32,
+    page: u32,
 }
 
-fn large_page(alloc: Global) -> Result<Page, AllocError> {
-    Ok(Right(Box::new(alloc, [0; 1008])?))
+// A page of this text's length. It declares 24 bytes, and one for each byte of the text.
+fn page(alloc: Global, length: usize) -> Result<Vec<u8>, AllocError> {
+    Vec::with_capacity(alloc, length)
 }
 
-// What is kept of the pages 1 to 5.
-fn print_kept(rt: &impl Print, cache: &BoundedCache<Page>) -> Result<()> {
+// What is kept of the pages 1 to 5 of the book.
+fn print_kept(rt: &impl Print, cache: &BoundedCache<Place, Vec<u8>>) -> Result<()> {
     print!(rt; "kept:")?;
-    for key in 1..=5 {
-        if cache.contains(&key) {
-            print!(rt; " {key}")?;
+    for page in 1..=5 {
+        if cache.contains(&Place { book: 7, page }) {
+            print!(rt; " {page}")?;
         }
     }
     let bytes = cache.bytes();
@@ -34,11 +34,49 @@ fn print_kept(rt: &impl Print, cache: &BoundedCache<Page>) -> Result<()> {
     Ok(())
 }
 
-// Inserts a page, and prints whether it came in and what is kept then.
-fn insert(rt: &impl Print, cache: &mut BoundedCache<Page>, key: u64, page: Page) -> Result<()> {
-    match cache.insert(key, page) {
-        Ok(()) => println!(rt; "page {key} came in")?,
-        Err(error) => println!(rt; "page {key} was refused: {error}")?,
+// Inserts a page, and prints which went for it, whether it came in and what is kept then.
+fn insert(
+    rt: &impl Print,
+    cache: &mut BoundedCache<Place, Vec<u8>>,
+    page: u32,
+    text: Vec<u8>,
+) -> Result<()> {
+    let mut told = Ok(());
+    let inserted = cache.insert(Place { book: 7, page }, text, |place: Place, _text| {
+        if told.is_ok() {
+            told = println!(rt; "page {} went", place.page);
+        }
+    });
+    told?;
+    match inserted {
+        Ok(_had) => println!(rt; "page {page} came in")?,
+        Err(refused) => println!(rt; "page {page} was refused: {}", refused.error)?,
+    }
+    print_kept(rt, cache)
+}
+
+// Puts another text in the place of a page's, and prints which pages went for it and what is kept then.
+fn grow(
+    rt: &impl Print,
+    cache: &mut BoundedCache<Place, Vec<u8>>,
+    page: u32,
+    text: Vec<u8>,
+) -> Result<()> {
+    let mut told = Ok(());
+    let changed = cache.change(
+        &Place { book: 7, page },
+        |old: &mut Vec<u8>| *old = text,
+        |place: Place, _text| {
+            if told.is_ok() {
+                told = println!(rt; "page {} went", place.page);
+            }
+        },
+    );
+    told?;
+    if let Err(refused) = changed {
+        println!(rt; "page {page} was refused: {}", refused.error)?;
+    } else {
+        println!(rt; "page {page} has grown")?;
     }
     print_kept(rt, cache)
 }
@@ -46,14 +84,19 @@ fn insert(rt: &impl Print, cache: &mut BoundedCache<Page>, key: u64, page: Page)
 fn run<R: Print + AllocGlobal>(rt: &R) -> Result<()> {
     let alloc = rt.alloc();
     let mut cache = BoundedCache::new(alloc, 300)?;
-    for key in 1..=3 {
-        insert(rt, &mut cache, key, small_page(alloc)?)?;
+    for number in 1..=3 {
+        insert(rt, &mut cache, number, page(alloc, 76)?)?;
     }
-    if cache.get(&1).is_some() {
+    if cache.get(&Place { book: 7, page: 1 }).is_some() {
         println!(rt; "page 1 was read")?;
     }
-    insert(rt, &mut cache, 4, small_page(alloc)?)?;
-    insert(rt, &mut cache, 5, large_page(alloc)?)
+    insert(rt, &mut cache, 4, page(alloc, 76)?)?;
+    insert(rt, &mut cache, 5, page(alloc, 1000)?)?;
+    grow(rt, &mut cache, 3, page(alloc, 176)?)?;
+    if cache.remove(&Place { book: 7, page: 4 }).is_some() {
+        println!(rt; "page 4 was taken out")?;
+    }
+    print_kept(rt, &cache)
 }
 
 fn main(rt: HostRuntime) -> Result<()> {

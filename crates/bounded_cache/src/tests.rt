@@ -50,10 +50,13 @@ impl Allocative for Refuses {
 fn what_is_not_measured_is_not_kept(rt: HostRuntime) -> Result<(), Fail> {
     let mut cache = BoundedCache::new(rt.alloc(), 8)?;
     for refusal in [Refusal::Memory, Refusal::TooLarge, Refusal::Open] {
-        assert_eq!(rt;
-            cache.insert(1, Refuses(refusal)),
-            Err(CacheError::NotMeasured(refusal))
-        );
+        match cache.insert(1u64, Refuses(refusal), |_key, _value| ()) {
+            Ok(_had) => assert!(rt; false),
+            Err(refused) => {
+                assert_eq!(rt; refused.error, CacheError::NotMeasured(refusal));
+                assert_eq!(rt; refused.value.0, refusal);
+            }
+        }
     }
     assert!(rt; cache.is_empty());
     assert_eq!(rt; cache.len(), 0);
@@ -79,5 +82,23 @@ fn texts_of_the_errors(rt: HostRuntime) -> Result<(), Fail> {
     ] {
         assert_eq!(rt; format!(in alloc; "{error}")?.as_str(), text);
     }
+    Ok(())
+}
+
+#[test]
+fn a_value_is_changed_and_taken_out(rt: HostRuntime) -> Result<(), Fail> {
+    let mut cache = BoundedCache::new(rt.alloc(), 1)?;
+    assert!(rt; cache.insert('a', 7u8, |_key, _value| ()).is_ok());
+    match cache.change(&'b', |value| *value = 9, |_key, _value| ()) {
+        Ok(there) => assert!(rt; !there),
+        Err(_refused) => assert!(rt; false),
+    }
+    match cache.change(&'a', |value| *value = 9, |_key, _value| ()) {
+        Ok(there) => assert!(rt; there),
+        Err(_refused) => assert!(rt; false),
+    }
+    assert_eq!(rt; cache.get(&'a').copied(), Some(9));
+    assert_eq!(rt; cache.remove(&'a'), Some(('a', 9)));
+    assert_eq!(rt; cache.remove(&'a'), None);
     Ok(())
 }

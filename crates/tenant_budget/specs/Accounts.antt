@@ -22,7 +22,8 @@ pub record ChangesAccount (tenant : List ℕ) (now : Holding) (old new : Ledger)
   pub changed : account_of tenant new ≡ Some now
   pub others : (other : List ℕ) → other ≢ tenant → account_of other new ≡ account_of other old
 
--- The bytes stand now under the number of the tenant's account, where `had` stood before, and all bytes of that account together are `total`.
+-- The bytes stand now under the number of the tenant's account, where `had` stood before, and all bytes of that account
+-- together are `total`.
 pub record Enters (tenant : List ℕ) (number bytes : ℕ) (had : Option ℕ) (total : ℕ) (old new : Ledger) : Type 0 where
   pub before : Holding
   pub after : Holding
@@ -30,7 +31,8 @@ pub record Enters (tenant : List ℕ) (number bytes : ℕ) (had : Option ℕ) (t
   pub puts : Puts number bytes had total before after
   pub change : ChangesAccount tenant after old new
 
--- These bytes stood under the number of the tenant's account, and are gone. The sum of the account is less by just so much.
+-- These bytes stood under the number of the tenant's account, and are gone. The sum of the account is less by just so
+-- much.
 pub record Releases (tenant : List ℕ) (number bytes : ℕ) (old new : Ledger) : Type 0 where
   pub before : Holding
   pub account : account_of tenant old ≡ Some before

@@ -29,7 +29,8 @@ without number h = record { limit = h.limit; entries = remove_entry (is_at (nat_
 abbrev pub IsSummed : ℕ → Holding → Type 0
 IsSummed bytes h = (bytes ≡ sum_of h.entries) × (bytes ≤ h.limit)
 
--- The bytes stand now under the number, where `had` stood before. All bytes of the account together are `total`, and within its limit.
+-- The bytes stand now under the number, where `had` stood before. All bytes of the account together are `total`, and
+-- within its limit.
 pub record Puts (number bytes : ℕ) (had : Option ℕ) (total : ℕ) (old new : Holding) : Type 0 where
   pub had_bytes : bytes_at number old ≡ had
   pub is : new ≡ with_bytes number bytes old

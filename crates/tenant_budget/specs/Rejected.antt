@@ -17,19 +17,22 @@ RejectsValue size p tenant limit (OverBudget t b l) = Declares size p b × (t.no
 RejectsValue size p tenant limit (NotMeasured e) = ⊤
 RejectsValue size p tenant limit _ = ⊥
 
--- Some bytes are rejected in the place of those that one entry has, among these of all entries: all together pass the limit; or they pass a word; or they are within the limit, and memory is refused.
+-- Some bytes are rejected in the place of those that one entry has, among these of all entries: all together pass the
+-- limit; or they pass a word; or they are within the limit, and memory is refused.
 abbrev pub RejectsBytes : List ℕ → ℕ → ℕ → ℕ → ℕ → Rejection → Type 0
 RejectsBytes tenant had all bytes limit (OverBudget t b l) = (b + had ≡ all + bytes) × (t.now ≡ tenant) × (l ≡ limit) × (limit < b)
 RejectsBytes tenant had all bytes limit TooLarge = 2 ^ 64 + had ≤ all + bytes
 RejectsBytes tenant had all bytes limit NotKept = all + bytes ≤ limit + had
 RejectsBytes tenant had all bytes limit _ = ⊥
 
--- The bytes are rejected under a number that has none: it has some, which the rejection says with the tenant; or the bytes beside all others are rejected.
+-- The bytes are rejected under a number that has none: it has some, which the rejection says with the tenant; or the
+-- bytes beside all others are rejected.
 abbrev pub RejectsNew : List ℕ → ℕ → ℕ → Holding → Rejection → Type 0
 RejectsNew tenant number bytes h (Taken t n) = (t.now ≡ tenant) × (n ≡ number) × IsSome (bytes_at number h)
 RejectsNew tenant number bytes h r = (bytes_at number h ≡ None) × RejectsBytes tenant 0 (sum_of h.entries) bytes h.limit r
 
--- The bytes are rejected in the place of those under a number: it has none, which the rejection says with the tenant; or the bytes beside all others are rejected.
+-- The bytes are rejected in the place of those under a number: it has none, which the rejection says with the tenant;
+-- or the bytes beside all others are rejected.
 abbrev pub RejectsChange : List ℕ → ℕ → ℕ → Holding → Rejection → Type 0
 RejectsChange tenant number bytes h (NotThere t n) = (t.now ≡ tenant) × (n ≡ number) × (bytes_at number h ≡ None)
 RejectsChange tenant number bytes h r = (had : ℕ) × (bytes_at number h ≡ Some had) × RejectsBytes tenant had (sum_of h.entries) bytes h.limit r

@@ -9,7 +9,8 @@ use std::alloc::Global;
 use std::collections::BTreeMap;
 use std::marker::Model;
 
-/// The bytes of each value of one tenant, by its number. Whatever comes, their sum is kept beside them and is within the limit.
+/// The bytes of each value of one tenant, by its number. Whatever comes, their sum is kept beside them and is within
+/// the limit.
 #[derive(Drop)]
 pub struct Account {
     budget: Budget,
@@ -62,8 +63,9 @@ impl Account {
 
     /// Enters so many bytes under a number that has none yet. Answers the bytes of all entries together.
     ///
-    /// `Taken` where the number has an entry, else `TooLarge` where their bytes together do not fit a word, else `OverBudget`
-    /// where they would pass the limit, and `NotKept` for want of memory. The account stays then as it was.
+    /// `Taken` where the number has an entry, else `TooLarge` where their bytes together do not fit a word, else
+    /// `OverBudget` where they would pass the limit, and `NotKept` for want of memory. The account stays then as it
+    /// was.
     pub fn enter<'a>(
         &mut self,
         tenant: &'a str,

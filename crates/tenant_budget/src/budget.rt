@@ -31,10 +31,11 @@ impl Budget {
         Ok(bytes)
     }
 
-    /// Measures a value by itself: answers the bytes that it declares, its own size and what it uniquely holds on the heap,
-    /// where they are within the limit.
+    /// Measures a value by itself: answers the bytes that it declares, its own size and what it uniquely holds on the
+    /// heap, where they are within the limit.
     ///
-    /// `OverBudget` exactly where they are more, and `NotMeasured` with the refusal of `size_of_unique`. It takes no memory.
+    /// `OverBudget` exactly where they are more, and `NotMeasured` with the refusal of `size_of_unique`. It takes no
+    /// memory.
     pub fn admit<'a, T: Allocative + Described>(
         &self,
         tenant: &'a str,

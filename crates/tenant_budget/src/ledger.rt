@@ -33,7 +33,8 @@ impl Ledger {
 
     /// Opens an account with no entry for a tenant.
     ///
-    /// `HasAccount` exactly where the tenant has one, and else `NotKept` for want of memory. All accounts stay then as they were.
+    /// `HasAccount` exactly where the tenant has one, and else `NotKept` for want of memory. All accounts stay then as
+    /// they were.
     pub fn open<'a>(&mut self, tenant: &'a str, budget: Budget) -> Result<(), Rejection<'a>>
         ensures opened { OnOk result (ChangesAccount tenant.now (record { limit = budget.limit; entries = [] }) self.old self.new) }
         ensures new { OnOk result (account_of tenant.now self.old ≡ None) }
@@ -68,12 +69,12 @@ impl Ledger {
         Some(account.bytes())
     }
 
-    /// Measures a value of any type and enters its bytes for the tenant, under a number that has none yet. Answers the bytes of
-    /// all that was admitted for the tenant.
+    /// Measures a value of any type and enters its bytes for the tenant, under a number that has none yet. Answers the
+    /// bytes of all that was admitted for the tenant.
     ///
-    /// `NotMeasured` with the refusal of `size_of_unique`, `NoAccount` where the tenant has none, `Taken` where the number has an
-    /// entry, else `TooLarge` where all bytes together do not fit a word, else `OverBudget` where they would pass the limit, and
-    /// `NotKept` for want of memory. All accounts stay then as they were.
+    /// `NotMeasured` with the refusal of `size_of_unique`, `NoAccount` where the tenant has none, `Taken` where the
+    /// number has an entry, else `TooLarge` where all bytes together do not fit a word, else `OverBudget` where they
+    /// would pass the limit, and `NotKept` for want of memory. All accounts stay then as they were.
     pub fn admit<'a, T: Allocative + Described>(
         &mut self,
         tenant: &'a str,
@@ -105,11 +106,11 @@ impl Ledger {
         account.enter(tenant, number, bytes)
     }
 
-    /// Measures a value again after it has changed, and puts its bytes in the place of those under the number. Answers the bytes
-    /// of all that was admitted for the tenant.
+    /// Measures a value again after it has changed, and puts its bytes in the place of those under the number. Answers
+    /// the bytes of all that was admitted for the tenant.
     ///
-    /// `NotThere` where the number has no entry, and else the rejections of `admit`. All accounts stay then as they were, with
-    /// the bytes that the value declared before.
+    /// `NotThere` where the number has no entry, and else the rejections of `admit`. All accounts stay then as they
+    /// were, with the bytes that the value declared before.
     pub fn measure_again<'a, T: Allocative + Described>(
         &mut self,
         tenant: &'a str,
@@ -141,8 +142,8 @@ impl Ledger {
         account.change(tenant, number, bytes)
     }
 
-    /// Takes the entry under the number off the tenant's bytes, and answers how many that were. None, and nothing has changed,
-    /// where there is no such entry.
+    /// Takes the entry under the number off the tenant's bytes, and answers how many that were. None, and nothing has
+    /// changed, where there is no such entry.
     pub fn release(&mut self, tenant: &str, number: u64) -> Option<usize>
         ensures value { result ≡ option_and_then (bytes_at number) (account_of tenant.now self.old) }
         ensures released { IfSome result (λ bytes. Releases tenant.now number bytes self.old self.new) }

@@ -1,5 +1,5 @@
-//! A service bills two tenants by the bytes of their data: it admits values of several types, measures one again that has
-//! grown, and releases one.
+//! A service bills two tenants by the bytes of their data: it admits values of several types, measures one again that
+//! has grown, and releases one.
 #![tactic(auto)]
 
 mod account;
