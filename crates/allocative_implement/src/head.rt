@@ -83,8 +83,8 @@ fn push_angles(out: &mut String, first: &str, rest: &str) -> Result<(), AllocErr
     out.push_str(">")
 }
 
-/// Whom an implementation or a struct is for: a lifetime before the parameters, or nothing, a name, and what stands behind the name,
-/// as the number of a part.
+/// Whom an implementation or a struct is for: a lifetime before the parameters, or nothing, a name, and what stands
+/// behind the name, as the number of a part.
 #[derive(Clone, Copy)]
 pub struct Whom<'a> {
     /// The lifetime, or nothing.

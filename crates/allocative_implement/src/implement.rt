@@ -4,7 +4,7 @@ use crate::head::header_of;
 use crate::items::{Item, Sort, Source, read_source};
 use crate::layout::{Layout, layouts_of, least_size};
 use crate::place::Place;
-use crate::shape::{Scene, is_implemented, trouble_of};
+use crate::shape::{Scene, is_implemented, may_stay_open, shown_fields, trouble_of};
 use crate::tokens::tokens_of;
 use crate::write::{Plan, push_allocative, push_described};
 use std::alloc::{AllocError, Global};
@@ -98,6 +98,31 @@ fn push_unknown(
     Ok(())
 }
 
+// Appends a line for each variant whose goal may stay open.
+fn push_doubts(
+    alloc: Global,
+    notes: &mut String,
+    scene: Scene<'_, '_>,
+    item: &Item<'_>,
+    place: &Place<'_>,
+) -> Result<(), Fault> {
+    if !item.is_enum {
+        return Ok(());
+    }
+    let (file, line, name) = (place.file, item.line, item.name);
+    for body in &item.bodies {
+        let fields = shown_fields(alloc, scene, body, true)?;
+        if may_stay_open(fields.as_slice()) {
+            let variant = body.name;
+            write!(
+                notes,
+                "{file}:{line}: {name}::{variant} may want an answer by hand in proofs/\n"
+            )?;
+        }
+    }
+    Ok(())
+}
+
 // Whether a type has a lifetime: the checker takes no `Described` of such a type.
 fn has_lifetime(item: &Item<'_>) -> bool {
     item.params.iter().any(|param| param.sort == Sort::Lifetime)
@@ -138,7 +163,21 @@ fn write_item(
         push_described(&mut written.text, item, layout, &plan)?;
         written.text.push_str("\n")?;
     }
-    push_allocative(alloc, &mut written.text, scene, item, &plan)
+    push_allocative(alloc, &mut written.text, scene, item, &plan)?;
+    push_doubts(alloc, &mut written.notes, scene, item, place)
+}
+
+// Appends those of some names that a text has, with commas between them.
+fn push_used(out: &mut String, body: &str, names: &[&str]) -> Result<(), AllocError> {
+    let mut comma = "";
+    for name in names {
+        if body.contains(*name) {
+            out.push_str(comma)?;
+            out.push_str(name)?;
+            comma = ", ";
+        }
+    }
+    Ok(())
 }
 
 // Puts what the implementations import before them.
@@ -153,18 +192,24 @@ fn with_head(alloc: Global, place: &Place<'_>, body: &str) -> Result<String, All
         "//! What the types of `{name}` show. `bin/implement` of `allocative` wrote it.\n"
     )?;
     text.push_str("#![tactic(auto, using(allocative::proofs::Parts::parts))]\n\n")?;
-    text.push_str("ghost use Rattle.std.specs.Prelude.{codes, Some, true, false};\n")?;
-    text.push_str("ghost use Rattle.allocative.specs.Shows.{Nothing, Inside, Field, Both};\n\n")?;
-    text.push_str("use super::*;\n")?;
-    text.push_str(
-        "use allocative::{Allocative, Described, Field, Inside, Key, Part, Refusal, Visitor};\n",
+    text.push_str("ghost use Rattle.std.specs.Prelude.{")?;
+    push_used(&mut text, body, &["codes", "Some", "true", "false"])?;
+    text.push_str("};\nghost use Rattle.allocative.specs.Shows.{")?;
+    push_used(&mut text, body, &["Nothing", "Inside", "Field", "Both"])?;
+    text.push_str("};\n\nuse super::*;\nuse allocative::{")?;
+    push_used(
+        &mut text,
+        body,
+        &["Allocative", "Described", "Field", "Inside", "Key"],
     )?;
+    text.push_str(", Part, Refusal, Visitor};\n")?;
     text.push_str(body)?;
     Ok(text)
 }
 
-/// The implementations for the types of a source: those that are named, or those that have none. `Fault::Missing` where a name is not that
-/// of a type, `Fault::Unended` and `Fault::Bracket` where the source cannot be read, and else `Fault::Memory`.
+/// The implementations for the types of a source: those that are named, or those that have none. `Fault::Missing`
+/// where a name is not that of a type, `Fault::Unended` and `Fault::Bracket` where the source cannot be read, and
+/// else `Fault::Memory`.
 pub fn implement(
     alloc: Global,
     place: &Place<'_>,

@@ -267,7 +267,8 @@ fn read_field<'a>(
     })
 }
 
-// The struct or the variant of a name whose fields stand in the brackets at a place; without fields where there are none.
+// The struct or the variant of a name whose fields stand in the brackets at a place; without fields where there are
+// none.
 fn read_body<'a>(
     alloc: Global,
     tokens: &[Token<'a>],
@@ -457,8 +458,9 @@ fn read_implementation<'a>(tokens: &[Token<'a>], at: usize) -> Option<Implementa
         from,
         to: tokens.len(),
     };
-    let place = find(tokens, rest, "for");
-    if place >= find(tokens, rest, "{") {
+    let open = find(tokens, rest, "{");
+    let place = find(tokens, Span { from, to: open }, "for");
+    if place >= open {
         return None;
     }
     Some(Implementation {
@@ -498,8 +500,8 @@ fn item_at<'a>(
     Ok(Some(item))
 }
 
-/// What stands in a source, but for what stands in modules and functions and behind `#[cfg(..)]`. `Fault::Bracket` where the parameters
-/// of a type have no end, and else `Fault::Memory`.
+/// What stands in a source, but for what stands in modules and functions and behind `#[cfg(..)]`. `Fault::Bracket`
+/// where the parameters of a type have no end, and else `Fault::Memory`.
 pub fn read_source<'a>(alloc: Global, tokens: &[Token<'a>]) -> Result<Source<'a>, Fault> {
     let mut items: Vec<Item<'a>> = Vec::new(alloc);
     let mut implementations: Vec<Implementation<'a>> = Vec::new(alloc);

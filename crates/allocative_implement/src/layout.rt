@@ -57,7 +57,8 @@ struct Frame {
     is_borrowed: bool,
 }
 
-/// The least multiple of an alignment that is not below a size; none where it passes `usize::MAX`, or where the alignment is 0.
+/// The least multiple of an alignment that is not below a size; none where it passes `usize::MAX`, or where the
+/// alignment is 0.
 pub fn up(size: usize, align: usize) -> Option<usize> {
     if align == 0 {
         return None;
@@ -284,7 +285,8 @@ impl Frames {
     }
 }
 
-/// What is known of a type that some tokens are, where that is known of the source's own types. The only fault is `Fault::Memory`.
+/// What is known of a type that some tokens are, where that is known of the source's own types. The only fault is
+/// `Fault::Memory`.
 pub fn layout_of_type(
     alloc: Global,
     tokens: &[Token<'_>],
@@ -359,7 +361,8 @@ pub fn layout_of_field(
     }
 }
 
-// What is known of the fields of a struct or a variant together. `least` says that a field of no known size counts nothing.
+// What is known of the fields of a struct or a variant together. `least` says that a field of no known size counts
+// nothing.
 fn row_of(
     alloc: Global,
     tokens: &[Token<'_>],
@@ -415,8 +418,8 @@ pub fn least_size(
     Ok(layout.size.unwrap_or(usize::MAX))
 }
 
-// What is known of a type of the source, where that is known of the others. The size of one with parameters is not, nor is that of one
-// that is described in the source.
+// What is known of a type of the source, where that is known of the others. The size of one with parameters is not,
+// nor is that of one that is described in the source.
 fn layout_of_item(
     alloc: Global,
     tokens: &[Token<'_>],
@@ -487,7 +490,8 @@ fn is_foreign(name: &str) -> bool {
     )
 }
 
-/// Why a field's type in some tokens is not written; none where it is. `own` is the name of the type that has the field.
+/// Why a field's type in some tokens is not written; none where it is. `own` is the name of the type that has the
+/// field.
 pub fn why_not(tokens: &[Token<'_>], span: Span, items: &[Item<'_>], own: &str) -> Option<Why> {
     for at in span.from..span.to {
         let text = text_at(tokens, at);

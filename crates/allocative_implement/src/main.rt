@@ -1,4 +1,5 @@
-//! Reads a source file, and writes the implementations of `Described` and `Allocative` for its types to standard output.
+//! Reads a source file, and writes the implementations of `Described` and `Allocative` for its types to standard
+//! output.
 #![tactic(auto)]
 
 mod cursor;

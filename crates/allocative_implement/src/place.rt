@@ -1,4 +1,5 @@
 //! Where a source stands.
+use crate::text::push_name;
 use std::alloc::AllocError;
 
 /// Where a source stands, by the path of its file.
@@ -51,7 +52,8 @@ impl<'a> Place<'a> {
         last_part(self.file)
     }
 
-    /// Appends the path of what is declared in the module that the file is, as `Rattle.shop.specs.declared.sales.orders`.
+    /// Appends the path of what is declared in the module that the file is, as
+    /// `Rattle.shop.specs.declared.sales.orders`.
     pub fn push_path(&self, out: &mut String) -> Result<(), AllocError> {
         out.push_str("Rattle.")?;
         out.push_str(self.package)?;
@@ -61,7 +63,7 @@ impl<'a> Place<'a> {
         }
         for part in self.module.split('/') {
             out.push_str(".")?;
-            out.push_str(part)?;
+            push_name(out, part)?;
         }
         Ok(())
     }

@@ -9,8 +9,8 @@ use crate::place::place_of;
 use std::alloc::Global;
 use std::io::{ErrorKind, Read, Write};
 
-/// All that the reader gives. `Fault::Reading` where a read failed, and else `Fault::Memory`. An interrupted read is taken
-/// again.
+/// All that the reader gives. `Fault::Reading` where a read failed, and else `Fault::Memory`. An interrupted read is
+/// taken again.
 pub fn read_input<R: Read>(alloc: Global, input: &mut R) -> Result<Vec<u8>, Fault>
     ensures ok { IfOk result (λ bytes. IfSome (R.remaining input.old) (λ known. bytes.items ≡ known)) }
     ensures err { IfErr result (λ f. (f ≡ Fault.Memory) ⊎ (f ≡ Fault.Reading)) }
@@ -90,8 +90,8 @@ fn tell_notes<E: Write>(errors: &mut E, written: &Written) -> u8
 
 /// The whole program but its words: its answer is the status.
 ///
-/// With status 0 the implementations of all types that are asked for stand on the output, and with status 8 those of some. Else the
-/// fault's line goes to the errors and, but for status 7, nothing goes to the output.
+/// With status 0 the implementations of all types that are asked for stand on the output, and with status 8 those of
+/// some. Else the fault's line goes to the errors and, but for status 7, nothing goes to the output.
 pub fn run<R: Read, W: Write, E: Write>(
     alloc: Global,
     file: &str,

@@ -108,6 +108,12 @@ pub fn is_shown(tokens: &[Token<'_>], item: &Item<'_>, param: &Param<'_>) -> boo
     false
 }
 
+/// Whether the goal of a variant with these fields may stay open: so it was seen for some variants of three fields and
+/// more, where a field behind the first has something to drop.
+pub fn may_stay_open(fields: &[ShownField<'_>]) -> bool {
+    fields.len() > 2 && fields.iter().skip(1).any(|field| field.layout.needs_drop)
+}
+
 // Whether a word is one of some tokens.
 fn has_word(tokens: &[Token<'_>], span: Span, word: &str) -> bool {
     for at in span.from..span.to {

@@ -1,4 +1,5 @@
-// What no clause says: which tokens a source has, what is written for a type, why nothing is, and runs whose input or output fails.
+// What no clause says: which tokens a source has, what is written for a type, why nothing is, and runs whose input or
+// output fails.
 use crate::fault::Fault;
 use crate::implement::implement;
 use crate::place::place_of;
@@ -260,6 +261,13 @@ fn a_size_that_is_not_known_is_asked_for(rt: HostRuntime) -> Result<(), Fail> {
     let want =
         "/home/shop/src/sales/orders.rt:1: GreatRow2: write its size in bytes into GREAT_ROW2_SIZE\n";
     let source = "struct GreatRow2<T> { a: T, b: u16 }";
+    assert_notes(&rt, rt.alloc(), source, want)
+}
+
+#[test]
+fn variants_that_may_stay_open_are_told(rt: HostRuntime) -> Result<(), Fail> {
+    let source = "enum E { A(u8, String), B(String, u8, u8), C(u8, u8, String), D(u8, u8, u8) }";
+    let want = "/home/shop/src/sales/orders.rt:1: E::C may want an answer by hand in proofs/\n";
     assert_notes(&rt, rt.alloc(), source, want)
 }
 

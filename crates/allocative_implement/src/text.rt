@@ -23,6 +23,55 @@ pub fn push_label(out: &mut String, label: Label<'_>) -> Result<(), AllocError> 
     }
 }
 
+// Whether the language of clauses keeps a word for itself.
+fn is_reserved(word: &str) -> bool {
+    matches!(
+        word,
+        "data"
+            | "record"
+            | "deriving"
+            | "module"
+            | "where"
+            | "use"
+            | "mod"
+            | "pub"
+            | "package"
+            | "open"
+            | "as"
+            | "unfoldable"
+            | "abbrev"
+            | "axiom"
+            | "unfold"
+            | "unfolding"
+            | "ruleset"
+            | "mutual"
+            | "infix"
+            | "infixl"
+            | "infixr"
+            | "elim"
+            | "let"
+            | "in"
+            | "do"
+            | "Type"
+            | "coe"
+            | "fcoe"
+            | "tcoe"
+            | "hcom"
+            | "com"
+    )
+}
+
+/// Appends a name as clauses write it.
+pub fn push_name(out: &mut String, name: &str) -> Result<(), AllocError> {
+    if is_reserved(name) {
+        out.push_str("«")?;
+        out.push_str(name)?;
+        out.push_str("»")
+    } else {
+        out.push_str(name)
+    }
+}
+
 /// Appends as many spaces.
 pub fn push_spaces(out: &mut String, count: usize) -> Result<(), AllocError> {
     for _ in 0..count {
@@ -49,8 +98,8 @@ fn is_spaced(tokens: &[Token<'_>], at: usize) -> bool {
     is_wordy || is_joined || is_pair(tokens, before, "-", ">")
 }
 
-/// Appends the text of a type or of bounds, laid out on one line. A path from the module or from the one around it is told from the
-/// module inside.
+/// Appends the text of a type or of bounds, laid out on one line. A path from the module or from the one around it is
+/// told from the module inside.
 pub fn push_type(out: &mut String, tokens: &[Token<'_>], span: Span) -> Result<(), AllocError> {
     for at in span.from..span.to {
         let before = at.saturating_sub(1);
@@ -88,8 +137,8 @@ pub fn push_member(
     push_label(out, field.member)
 }
 
-/// Appends the word of a field that is shown, whose value in the relation is called as `push_member` says. `is_param` says whether its
-/// type is a parameter alone.
+/// Appends the word of a field that is shown, whose value in the relation is called as `push_member` says. `is_param`
+/// says whether its type is a parameter alone.
 pub fn push_word(
     out: &mut String,
     scene: Scene<'_, '_>,
@@ -186,8 +235,8 @@ fn label_len(label: Label<'_>) -> usize {
     }
 }
 
-/// Appends the line that makes the part of a field: `owner` stands before the field's name, or is empty where the letter itself is the
-/// value.
+/// Appends the line that makes the part of a field: `owner` stands before the field's name, or is empty where the
+/// letter itself is the value.
 pub fn push_let(
     out: &mut String,
     field: &ShownField<'_>,

@@ -28,7 +28,8 @@ pub struct Token<'a> {
     pub text: &'a str,
     /// Its line, from 1 on.
     pub line: usize,
-    /// Of a bracket that opens, the place of the one that closes it in the list of tokens; of any other token its own place.
+    /// Of a bracket that opens, the place of the one that closes it in the list of tokens; of any other token its own
+    /// place.
     pub close: usize,
 }
 
@@ -304,8 +305,8 @@ fn token_of(kind: Option<Kind>, text: &str, line: usize, place: usize) -> Option
     })
 }
 
-/// The tokens of a source. `Fault::Unended` where a text, a character or a comment has no end, `Fault::Bracket` where a bracket has no
-/// other, and else `Fault::Memory`.
+/// The tokens of a source. `Fault::Unended` where a text, a character or a comment has no end, `Fault::Bracket` where
+/// a bracket has no other, and else `Fault::Memory`.
 pub fn tokens_of<'a>(alloc: Global, source: &'a str) -> Result<Vec<Token<'a>>, Fault> {
     let bytes = source.as_bytes();
     let mut tokens: Vec<Token<'a>> = Vec::new(alloc);

@@ -10,8 +10,8 @@ pub enum Asked {
     Write,
 }
 
-/// What the words ask for: `--help` alone, or a file and names of types. `Fault::Words` where there is no word, or another that begins
-/// with `-`.
+/// What the words ask for: `--help` alone, or a file and names of types. `Fault::Words` where there is no word, or
+/// another that begins with `-`.
 pub fn read_words(words: &[String]) -> Result<Asked, Fault> {
     let Some(first) = words.first() else {
         return Err(Fault::Words);

@@ -5,7 +5,7 @@ use crate::head::{Header, Whom, push_impl, push_part_struct};
 use crate::items::{Body, Item, Shown, Sort, Style};
 use crate::layout::Layout;
 use crate::shape::{MOST_TOGETHER, Scene, ShownField, shown_fields};
-use crate::text::{close_word, letter, open_word, push_let, push_letters, push_word};
+use crate::text::{close_word, letter, open_word, push_let, push_letters, push_name, push_word};
 use std::alloc::{AllocError, Global};
 
 /// What is written of a type besides its name.
@@ -244,15 +244,6 @@ fn push_struct(
     Ok(())
 }
 
-// Appends the name of a variant in the relation.
-fn push_variant(out: &mut String, name: &str) -> Result<(), AllocError> {
-    if name == "Type" {
-        out.push_str("«Type»")
-    } else {
-        out.push_str(name)
-    }
-}
-
 // Appends the import of the variants for clauses.
 fn push_variants_use(out: &mut String, item: &Item<'_>, plan: &Plan) -> Result<(), AllocError> {
     out.push_str("    ghost use ")?;
@@ -262,7 +253,7 @@ fn push_variants_use(out: &mut String, item: &Item<'_>, plan: &Plan) -> Result<(
     out.push_str(".TheVariants.{")?;
     for (number, body) in item.bodies.iter().enumerate() {
         out.push_str(if number > 0 { ", " } else { "" })?;
-        push_variant(out, body.name)?;
+        push_name(out, body.name)?;
     }
     out.push_str("};\n\n")
 }
@@ -370,7 +361,7 @@ fn push_enum(
     for body in &item.bodies {
         let fields = shown_fields(alloc, scene, body, true)?;
         out.push_str("      | ")?;
-        push_variant(out, body.name)?;
+        push_name(out, body.name)?;
         push_binders(out, body)?;
         out.push_str(" ↦ ")?;
         push_words(out, scene, item, fields.as_slice(), "", 10)?;

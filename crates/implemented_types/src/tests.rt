@@ -1,7 +1,7 @@
 // The profiles of values whose implementations `bin/implement` wrote.
 use crate::profiles::{Profile, expect};
 use crate::types::{
-    Found, Mark, Named, Nowhere, OfEight, OfOne, OfTwenty, Point, Request, Route, Table,
+    Found, Mark, Named, Nowhere, OfEight, OfOne, OfTwenty, Point, Request, Route, Sextet, Table,
 };
 use std::alloc::Global;
 use std::collections::{BTreeMap, HashMap};
@@ -72,6 +72,14 @@ fn fields_by_number_passed_over_and_by_size(rt: HostRuntime) -> Result<(), Fail>
     let text =
         "Mark 15\nMark;later;bool 1\nMark;mean 8\nMark;name;String 16\nMark;name;String;ptr 8\nMark;point;Point;0;u32 4\nMark;point;Point;1;u32 4\n";
     expect(&rt, alloc, &mark, &Profile::new(text, 56))
+}
+
+#[test]
+fn six_fields_by_number(rt: HostRuntime) -> Result<(), Fail> {
+    let text =
+        "Sextet 1\nSextet;0;u8 1\nSextet;1;u8 1\nSextet;2;u8 1\nSextet;3;u8 1\nSextet;4;u8 1\nSextet;5;u16 2\n";
+    let want = Profile::new(text, 8);
+    expect(&rt, rt.alloc(), &Sextet(1, 2, 3, 4, 5, 6), &want)
 }
 
 #[test]

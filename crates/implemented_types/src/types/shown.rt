@@ -1027,6 +1027,83 @@ impl Allocative for Point {
     }
 }
 
+impl Described for Sextet {
+    ghost name = { codes "Sextet" };
+
+    ghost align = { 2 };
+
+    ghost needs_drop = { false };
+
+    ghost size = { Some 8 };
+
+    fn name() -> &'static str {
+        "Sextet"
+    }
+
+    fn align() -> usize {
+        2
+    }
+
+    fn needs_drop() -> bool {
+        false
+    }
+
+    fn size() -> Option<usize> {
+        Some(8)
+    }
+}
+
+impl Allocative for Sextet {
+    ghost may_show = { λ x. Inside (codes "Sextet") 8 (Both
+        (Both
+        (Field (codes "0") (Some 1) (⟦<u8 as Allocative>⟧.may_show x.0)) (Both
+        (Field (codes "1") (Some 1) (⟦<u8 as Allocative>⟧.may_show x.1)) (Both
+        (Field (codes "2") (Some 1) (⟦<u8 as Allocative>⟧.may_show x.2)) (Both
+        (Field (codes "3") (Some 1) (⟦<u8 as Allocative>⟧.may_show x.3))
+        (Field (codes "4") (Some 1) (⟦<u8 as Allocative>⟧.may_show x.4))))))
+        (Field (codes "5") (Some 2) (⟦<u16 as Allocative>⟧.may_show x.5))) };
+
+    fn visit(&self, visitor: &mut Visitor<'_>) -> Result<(), Refusal> {
+        let a = SextetPart1(self);
+        let b = SextetPart2(self);
+        let key = Key::new("Sextet");
+        Inside(key, 8, (a, b)).enter(visitor)
+    }
+}
+
+#[derive(Drop)]
+struct SextetPart1<'part>(&'part Sextet);
+
+impl<'part> Part for SextetPart1<'part> {
+    ghost may_show = { λ x. Both
+        (Field (codes "0") (Some 1) (⟦<u8 as Allocative>⟧.may_show x.0.now.0)) (Both
+        (Field (codes "1") (Some 1) (⟦<u8 as Allocative>⟧.may_show x.0.now.1)) (Both
+        (Field (codes "2") (Some 1) (⟦<u8 as Allocative>⟧.may_show x.0.now.2)) (Both
+        (Field (codes "3") (Some 1) (⟦<u8 as Allocative>⟧.may_show x.0.now.3))
+        (Field (codes "4") (Some 1) (⟦<u8 as Allocative>⟧.may_show x.0.now.4))))) };
+
+    fn enter(self, visitor: &mut Visitor<'_>) -> Result<(), Refusal> {
+        let a = Field(Key::new("0"), &self.0.0);
+        let b = Field(Key::new("1"), &self.0.1);
+        let c = Field(Key::new("2"), &self.0.2);
+        let d = Field(Key::new("3"), &self.0.3);
+        let e = Field(Key::new("4"), &self.0.4);
+        (a, b, c, d, e).enter(visitor)
+    }
+}
+
+#[derive(Drop)]
+struct SextetPart2<'part>(&'part Sextet);
+
+impl<'part> Part for SextetPart2<'part> {
+    ghost may_show = { λ x. Field (codes "5") (Some 2) (⟦<u16 as Allocative>⟧.may_show x.0.now.5) };
+
+    fn enter(self, visitor: &mut Visitor<'_>) -> Result<(), Refusal> {
+        let a = Field(Key::new("5"), &self.0.5);
+        a.enter(visitor)
+    }
+}
+
 impl Described for Mark {
     ghost name = { codes "Mark" };
 

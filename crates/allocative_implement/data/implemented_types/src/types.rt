@@ -170,6 +170,10 @@ pub struct Nowhere;
 #[derive(Drop)]
 pub struct Point(pub u32, pub u32);
 
+/// Six numbers, by number.
+#[derive(Drop)]
+pub struct Sextet(pub u8, pub u8, pub u8, pub u8, pub u8, pub u16);
+
 /// A point, and what the source says of its fields in between.
 #[derive(Drop)]
 #[allow(dead_code)]
