@@ -1,0 +1,301 @@
+//! Types of many forms, for which `bin/implement` wrote the module `shown`.
+
+mod shown;
+
+use allocative::{Allocative, Field, Key, Part, Refusal, Visitor};
+use std::collections::{BTreeMap, HashMap};
+use std::hash::Hash;
+
+/// A struct of 1 field.
+#[derive(Drop)]
+pub struct OfOne {
+    pub number: u64,
+}
+
+/// A struct of 2 fields.
+#[derive(Drop)]
+pub struct OfTwo {
+    pub number: u64,
+    pub name: String,
+}
+
+/// A struct of 3 fields.
+#[derive(Drop)]
+pub struct OfThree {
+    pub number: u64,
+    pub name: String,
+    pub count: u32,
+}
+
+/// A struct of 4 fields.
+#[derive(Drop)]
+pub struct OfFour {
+    pub number: u64,
+    pub name: String,
+    pub count: u32,
+    pub marks: Vec<u32>,
+}
+
+/// A struct of 5 fields.
+#[derive(Drop)]
+pub struct OfFive {
+    pub number: u64,
+    pub name: String,
+    pub count: u32,
+    pub marks: Vec<u32>,
+    pub is_open: bool,
+}
+
+/// A struct of 6 fields.
+#[derive(Drop)]
+pub struct OfSix {
+    pub number: u64,
+    pub name: String,
+    pub count: u32,
+    pub marks: Vec<u32>,
+    pub is_open: bool,
+    pub limit: Option<u64>,
+}
+
+/// A struct of 7 fields.
+#[derive(Drop)]
+pub struct OfSeven {
+    pub number: u64,
+    pub name: String,
+    pub count: u32,
+    pub marks: Vec<u32>,
+    pub is_open: bool,
+    pub limit: Option<u64>,
+    pub place: (u32, u32),
+}
+
+/// A struct of 8 fields.
+#[derive(Drop)]
+pub struct OfEight {
+    pub number: u64,
+    pub name: String,
+    pub count: u32,
+    pub marks: Vec<u32>,
+    pub is_open: bool,
+    pub limit: Option<u64>,
+    pub place: (u32, u32),
+    pub width: u16,
+}
+
+/// A struct of 11 fields.
+#[derive(Drop)]
+pub struct OfEleven {
+    pub number: u64,
+    pub name: u32,
+    pub count: u32,
+    pub marks: Vec<u32>,
+    pub is_open: u32,
+    pub limit: u32,
+    pub place: (u32, u32),
+    pub width: u32,
+    pub height: u32,
+    pub depth: String,
+    pub label: u32,
+}
+
+/// A struct of 13 fields.
+#[derive(Drop)]
+pub struct OfThirteen {
+    pub number: u64,
+    pub name: u32,
+    pub count: u32,
+    pub marks: Vec<u32>,
+    pub is_open: u32,
+    pub limit: u32,
+    pub place: (u32, u32),
+    pub width: u32,
+    pub height: u32,
+    pub depth: String,
+    pub label: u32,
+    pub price: u32,
+    pub seller: bool,
+}
+
+/// A struct of 16 fields.
+#[derive(Drop)]
+pub struct OfSixteen {
+    pub number: u64,
+    pub name: u32,
+    pub count: u32,
+    pub marks: Vec<u32>,
+    pub is_open: u32,
+    pub limit: u32,
+    pub place: (u32, u32),
+    pub width: u32,
+    pub height: u32,
+    pub depth: String,
+    pub label: u32,
+    pub price: u32,
+    pub seller: bool,
+    pub is_paid: u32,
+    pub weight: u32,
+    pub colour: u16,
+}
+
+/// A struct of 20 fields.
+#[derive(Drop)]
+pub struct OfTwenty {
+    pub number: u64,
+    pub name: u32,
+    pub count: u32,
+    pub marks: Vec<u32>,
+    pub is_open: u32,
+    pub limit: u32,
+    pub place: (u32, u32),
+    pub width: u32,
+    pub height: u32,
+    pub depth: String,
+    pub label: u32,
+    pub price: u32,
+    pub seller: bool,
+    pub is_paid: u32,
+    pub weight: u32,
+    pub colour: u16,
+    pub first: u32,
+    pub last: u32,
+    pub total: u32,
+    pub is_old: u32,
+}
+
+/// A type with nothing in it.
+#[derive(Drop)]
+pub struct Nowhere;
+
+/// A place on a grid.
+#[derive(Drop)]
+pub struct Point(pub u32, pub u32);
+
+/// Six numbers, by number.
+#[derive(Drop)]
+pub struct Sextet(pub u8, pub u8, pub u8, pub u8, pub u8, pub u16);
+
+/// A point, and what the source says of its fields in between.
+#[derive(Drop)]
+#[allow(dead_code)]
+pub struct Mark {
+    /// Where it is. /* not a comment */
+    pub point: Point, // the type above
+    /* A comment /* in a comment */ with `struct Other { x: f64 }`. */
+    #[allow(dead_code)]
+    pub(crate) name: String,
+    // allocative: skip
+    pub warmth: f64,
+    // allocative: size 8
+    pub mean: f64,
+    later: bool,
+}
+
+impl Mark {
+    /// A mark that stands at a place.
+    pub fn new(point: Point, name: String) -> Mark {
+        Mark {
+            point,
+            name,
+            warmth: 0.5,
+            mean: 1.5,
+            later: '"' == 'a',
+        }
+    }
+
+    /// Whether it comes later.
+    pub fn is_later(&self) -> bool {
+        self.later
+    }
+}
+
+/// What a client asks of a store.
+#[derive(Drop)]
+pub enum Request {
+    /// Nothing.
+    Ping,
+    Find(String),
+    Move(u32, u32),
+    Put {
+        name: String,
+        value: u64,
+    },
+    Mix {
+        first: u32,
+        second: u32,
+        is_deep: bool,
+    },
+    Draw(u16, u16, u16, u16, String),
+    // The second is passed over.
+    Wait(
+        u64,
+        // allocative: skip
+        f64,
+    ),
+    Stop,
+}
+
+/// Values by their names, and the last of them.
+#[derive(Drop)]
+pub struct Table<K, V>
+where
+    K: Eq + Hash,
+{
+    pub values: HashMap<K, V>,
+    pub last: V,
+    pub spare: Option<V>,
+}
+
+/// A value with its name.
+#[derive(Drop)]
+pub enum Named<T> {
+    Nobody,
+    Somebody(String, T),
+}
+
+/// A text that stands elsewhere, and where it was found.
+#[derive(Drop)]
+pub struct Found<'a, const N: usize> {
+    // allocative: skip
+    pub text: &'a str,
+    pub places: [u32; N],
+    pub counts: BTreeMap<u64, Vec<Request>>,
+}
+
+/// More fields than stand in one part, of a type that is known only where it is used.
+#[derive(Drop)]
+pub struct Route<T> {
+    pub name: String,
+    pub first: T,
+    pub last: T,
+    pub between: Option<T>,
+    pub steps: Vec<T>,
+    pub length: u64,
+    pub is_round: bool,
+}
+
+/// What is written by hand is left alone.
+#[derive(Drop)]
+pub struct ByHand {
+    pub count: u64,
+}
+
+impl Allocative for ByHand {
+    ghost use Rattle.std.specs.Prelude.{codes, Some};
+    ghost use Rattle.allocative.specs.Shows.{Field};
+
+    ghost may_show = { λ b. Field (codes "count") (Some 8) (⟦<u64 as Allocative>⟧.may_show b.count) };
+
+    #[tactic(auto, using(allocative::proofs::Parts::parts))]
+    fn visit(&self, visitor: &mut Visitor<'_>) -> Result<(), Refusal> {
+        Field(Key::new("count"), &self.count).enter(visitor)
+    }
+}
+
+/// What stands in a module is left alone.
+pub mod inner {
+    /// A number that nothing shows.
+    #[derive(Drop)]
+    pub struct Hidden {
+        pub number: u64,
+    }
+}

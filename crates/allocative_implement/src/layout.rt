@@ -1,0 +1,518 @@
+//! Declared sizes and alignments.
+use crate::cursor::{Span, is_kind, text_at};
+use crate::fault::{Fault, Why};
+use crate::items::{Body, FieldItem, Item, Shown, Sort, Source};
+use crate::tokens::{Kind, Token};
+use std::alloc::Global;
+
+/// What is known of a type.
+#[derive(Clone, Copy, PartialEq, Eq)]
+pub struct Layout {
+    /// Its declared size in bytes, where it is known.
+    pub size: Option<usize>,
+    /// Its declared alignment in bytes, or 8 where it is not known.
+    pub align: usize,
+    /// Whether it needs a drop, also where that is not known.
+    pub needs_drop: bool,
+}
+
+/// Of a type of which nothing is known.
+pub const UNKNOWN: Layout = Layout {
+    size: None,
+    align: 8,
+    needs_drop: true,
+};
+
+// How a type's layout follows from those of its parts.
+#[derive(Clone, Copy, PartialEq, Eq)]
+enum Rule {
+    // All parts behind one another.
+    Row,
+    // One byte and the largest part.
+    Tagged,
+    // So many times the part.
+    Array,
+    // A small vector.
+    Small,
+    // The part, which is not dropped.
+    Kept,
+    // Its own, whatever the parts are.
+    Own(Layout),
+}
+
+// The parts of a type that came so far.
+#[derive(Clone, Copy)]
+struct Frame {
+    rule: Rule,
+    // The sizes together.
+    sum: Option<usize>,
+    // The greatest size.
+    most: Option<usize>,
+    // The greatest alignment.
+    align: usize,
+    needs_drop: bool,
+    // The last number among the parts.
+    number: Option<usize>,
+    // Whether the part that comes stands behind a `&`.
+    is_borrowed: bool,
+}
+
+/// The least multiple of an alignment that is not below a size; none where it passes `usize::MAX`, or where the
+/// alignment is 0.
+pub fn up(size: usize, align: usize) -> Option<usize> {
+    if align == 0 {
+        return None;
+    }
+    let rest = size % align;
+    if rest == 0 {
+        Some(size)
+    } else {
+        size.checked_add(align.saturating_sub(rest))
+    }
+}
+
+fn plain(size: usize, align: usize) -> Rule {
+    Rule::Own(Layout {
+        size: Some(size),
+        align,
+        needs_drop: false,
+    })
+}
+
+fn owner(size: usize) -> Rule {
+    Rule::Own(Layout {
+        size: Some(size),
+        align: 8,
+        needs_drop: true,
+    })
+}
+
+// The size of a number by its name, also of one that is not 0 or atomic.
+fn number_size(name: &str) -> Option<usize> {
+    let short = match name.strip_prefix("NonZero") {
+        Some(rest) => rest,
+        None => name.strip_prefix("Atomic").unwrap_or(name),
+    };
+    let first = if short == name {
+        ['u', 'i']
+    } else {
+        ['U', 'I']
+    };
+    let bits = match short.strip_prefix(first) {
+        Some(bits) => bits,
+        None => "",
+    };
+    if bits == "8" || name == "bool" || name == "AtomicBool" {
+        Some(1)
+    } else if bits == "16" {
+        Some(2)
+    } else if bits == "32" {
+        Some(4)
+    } else if bits == "64" || bits == "size" {
+        Some(8)
+    } else if bits == "128" {
+        Some(16)
+    } else {
+        None
+    }
+}
+
+// What stands in the tables for a name; none where it is none of them.
+fn rule_of(name: &str) -> Option<Rule> {
+    if let Some(size) = number_size(name) {
+        return Some(plain(size, size));
+    }
+    match name {
+        "Box" | "OnceBox" | "IdRc" | "IdArc" => Some(owner(8)),
+        "Vec" | "String" | "BTreeMap" | "BTreeSet" => Some(owner(24)),
+        "VecDeque" | "Value" => Some(owner(32)),
+        "HashMap" | "HashSet" => Some(owner(48)),
+        "IndexMap" | "IndexSet" => Some(owner(72)),
+        "Slab" => Some(owner(40)),
+        "Number" => Some(plain(16, 8)),
+        "Duration" | "Instant" | "SystemTime" => Some(plain(16, 8)),
+        "IpAddr" => Some(plain(17, 1)),
+        "Ipv4Addr" => Some(plain(4, 1)),
+        "Ipv6Addr" => Some(plain(16, 1)),
+        "PhantomData" | "Infallible" => Some(plain(0, 1)),
+        "f32" | "char" => Some(plain(4, 4)),
+        "f64" => Some(plain(8, 8)),
+        "Option" | "Result" | "Either" => Some(Rule::Tagged),
+        "SmallVec" => Some(Rule::Small),
+        "ManuallyDrop" => Some(Rule::Kept),
+        _ => None,
+    }
+}
+
+// What is known of a type of the source, by its name; none where it is no type of the source.
+fn own_layout(items: &[Item<'_>], known: &[Layout], name: &str) -> Option<Layout> {
+    for (item, layout) in items.iter().zip(known) {
+        if item.name == name {
+            return Some(*layout);
+        }
+    }
+    None
+}
+
+fn new_frame(rule: Rule) -> Frame {
+    Frame {
+        rule,
+        sum: Some(0),
+        most: Some(0),
+        align: 1,
+        needs_drop: false,
+        number: None,
+        is_borrowed: false,
+    }
+}
+
+// The sum of two sizes.
+fn add(a: Option<usize>, b: Option<usize>) -> Option<usize> {
+    a?.checked_add(b?)
+}
+
+// The greater of two sizes.
+fn greater(a: Option<usize>, b: Option<usize>) -> Option<usize> {
+    Some(a?.max(b?))
+}
+
+// A frame with one part more.
+fn with_part(old: Frame, part: Layout) -> Frame {
+    if old.is_borrowed {
+        return old;
+    }
+    Frame {
+        sum: add(old.sum, part.size),
+        most: greater(old.most, part.size),
+        align: old.align.max(part.align),
+        needs_drop: old.needs_drop || part.needs_drop,
+        ..old
+    }
+}
+
+// The size of a small vector of so many items.
+fn small_size(part: Option<usize>, number: Option<usize>, align: usize) -> Option<usize> {
+    let inline = part?.checked_mul(number?)?.max(16);
+    up(inline.checked_add(8)?, align)
+}
+
+// The layout of a type whose parts have all come.
+fn layout_of_frame(frame: Frame) -> Layout {
+    let Frame {
+        rule,
+        sum,
+        most,
+        align,
+        needs_drop,
+        number,
+        ..
+    } = frame;
+    let size = match rule {
+        Rule::Own(layout) => return layout,
+        Rule::Row => sum.and_then(|sum| up(sum, align)),
+        Rule::Tagged => add(most, Some(1)).and_then(|size| up(size, align)),
+        Rule::Array => match (sum, number) {
+            (Some(size), Some(number)) => size.checked_mul(number),
+            _ => None,
+        },
+        Rule::Kept => sum,
+        Rule::Small => small_size(most, number, align.max(8)),
+    };
+    Layout {
+        size,
+        align: if rule == Rule::Small {
+            align.max(8)
+        } else {
+            align
+        },
+        needs_drop: match rule {
+            Rule::Kept => false,
+            Rule::Small => true,
+            _ => needs_drop,
+        },
+    }
+}
+
+// The frames of the types that a token stands in.
+#[derive(Drop)]
+struct Frames {
+    frames: Vec<Frame>,
+}
+
+impl Frames {
+    // Opens a type of parts.
+    fn open(&mut self, rule: Rule) -> Result<(), Fault> {
+        self.frames.push(new_frame(rule))?;
+        Ok(())
+    }
+
+    // Adds a part to the innermost type.
+    fn add(&mut self, part: Layout) {
+        if let Some(top) = self.frames.last_mut() {
+            *top = with_part(*top, part);
+        }
+    }
+
+    // Ends the innermost type, but not the outermost, and adds it to the one around it.
+    fn close(&mut self) {
+        if self.frames.len() < 2 {
+            return;
+        }
+        if let Some(top) = self.frames.pop() {
+            self.add(layout_of_frame(top));
+        }
+    }
+
+    // Keeps a number for the innermost type.
+    fn count(&mut self, number: Option<usize>) {
+        if let Some(top) = self.frames.last_mut() {
+            top.number = number;
+        }
+    }
+
+    // Adds a reference to the innermost type, or ends it.
+    fn borrow(&mut self, is_borrowed: bool) {
+        if is_borrowed {
+            self.add(Layout {
+                size: Some(8),
+                align: 8,
+                needs_drop: false,
+            });
+        }
+        if let Some(top) = self.frames.last_mut() {
+            top.is_borrowed = is_borrowed;
+        }
+    }
+}
+
+/// What is known of a type that some tokens are, where that is known of the source's own types. The only fault is
+/// `Fault::Memory`.
+pub fn layout_of_type(
+    alloc: Global,
+    tokens: &[Token<'_>],
+    span: Span,
+    items: &[Item<'_>],
+    known: &[Layout],
+) -> Result<Layout, Fault> {
+    let mut frames = Frames {
+        frames: Vec::new(alloc),
+    };
+    frames.open(Rule::Row)?;
+    for at in span.from..span.to {
+        let text = text_at(tokens, at);
+        let next = text_at(tokens, at.saturating_add(1));
+        if is_kind(tokens, at, Kind::Literal) {
+            frames.count(text.parse::<usize>().ok());
+        } else if is_kind(tokens, at, Kind::Word) && next != ":" {
+            let rule = match own_layout(items, known, text) {
+                Some(layout) => Rule::Own(layout),
+                None => rule_of(text).unwrap_or(Rule::Own(UNKNOWN)),
+            };
+            if next == "<" {
+                frames.open(rule)?;
+            } else {
+                frames.add(layout_of_frame(new_frame(rule)));
+            }
+        } else if text == "(" {
+            frames.open(Rule::Row)?;
+        } else if text == "[" {
+            frames.open(Rule::Array)?;
+        } else if text == ">" || text == ")" || text == "]" {
+            frames.close();
+        } else if text == "&" || text == "," {
+            frames.borrow(text == "&");
+        }
+    }
+    match frames.frames.last() {
+        Some(whole) => Ok(layout_of_frame(*whole)),
+        None => Ok(UNKNOWN),
+    }
+}
+
+// The alignment that a size alone suggests.
+fn align_of_size(size: usize) -> usize {
+    if size % 8 == 0 {
+        8
+    } else if size % 4 == 0 {
+        4
+    } else if size % 2 == 0 {
+        2
+    } else {
+        1
+    }
+}
+
+/// What is known of a field. The only fault is `Fault::Memory`.
+pub fn layout_of_field(
+    alloc: Global,
+    tokens: &[Token<'_>],
+    field: &FieldItem<'_>,
+    items: &[Item<'_>],
+    known: &[Layout],
+) -> Result<Layout, Fault> {
+    let layout = layout_of_type(alloc, tokens, field.span, items, known)?;
+    match (layout.size, field.shown) {
+        (None, Shown::Size(size)) => Ok(Layout {
+            size: Some(size),
+            align: align_of_size(size),
+            needs_drop: true,
+        }),
+        _ => Ok(layout),
+    }
+}
+
+// What is known of the fields of a struct or a variant together. `least` says that a field of no known size counts
+// nothing.
+fn row_of(
+    alloc: Global,
+    tokens: &[Token<'_>],
+    body: &Body<'_>,
+    items: &[Item<'_>],
+    known: &[Layout],
+    least: bool,
+) -> Result<Layout, Fault> {
+    let mut row = new_frame(Rule::Row);
+    for field in &body.fields {
+        let mut part = layout_of_field(alloc, tokens, field, items, known)?;
+        if least && part.size.is_none() {
+            part.size = Some(0);
+        }
+        row = with_part(row, part);
+    }
+    Ok(Layout {
+        size: row.sum,
+        align: row.align,
+        needs_drop: row.needs_drop,
+    })
+}
+
+// What is known of the parts of a type together.
+fn layout_of_parts(
+    alloc: Global,
+    tokens: &[Token<'_>],
+    item: &Item<'_>,
+    items: &[Item<'_>],
+    known: &[Layout],
+    least: bool,
+) -> Result<Layout, Fault> {
+    let mut all = new_frame(if item.is_enum {
+        Rule::Tagged
+    } else {
+        Rule::Row
+    });
+    for body in &item.bodies {
+        all = with_part(all, row_of(alloc, tokens, body, items, known, least)?);
+    }
+    Ok(layout_of_frame(all))
+}
+
+/// The size of a type of a source as if each field of no known size had none. The only fault is `Fault::Memory`.
+pub fn least_size(
+    alloc: Global,
+    tokens: &[Token<'_>],
+    item: &Item<'_>,
+    items: &[Item<'_>],
+    known: &[Layout],
+) -> Result<usize, Fault> {
+    let layout = layout_of_parts(alloc, tokens, item, items, known, true)?;
+    Ok(layout.size.unwrap_or(usize::MAX))
+}
+
+// What is known of a type of the source, where that is known of the others. The size of one with parameters is not,
+// nor is that of one that is described in the source.
+fn layout_of_item(
+    alloc: Global,
+    tokens: &[Token<'_>],
+    item: &Item<'_>,
+    source: &Source<'_>,
+    known: &[Layout],
+) -> Result<Layout, Fault> {
+    let is_described = source
+        .implementations
+        .iter()
+        .any(|done| done.of == "Described" && done.name == item.name);
+    let has_params = item.params.iter().any(|param| param.sort != Sort::Lifetime);
+    let items = source.items.as_slice();
+    let layout = layout_of_parts(alloc, tokens, item, items, known, false)?;
+    if is_described || has_params {
+        return Ok(Layout {
+            size: None,
+            ..layout
+        });
+    }
+    Ok(layout)
+}
+
+/// What is known of each type of a source, in their order. The only fault is `Fault::Memory`.
+pub fn layouts_of(
+    alloc: Global,
+    tokens: &[Token<'_>],
+    source: &Source<'_>,
+) -> Result<Vec<Layout>, Fault> {
+    let mut known: Vec<Layout> = Vec::new(alloc);
+    for _ in 0..source.items.len() {
+        known.push(UNKNOWN)?;
+    }
+    for _ in 0..source.items.len() {
+        let mut better: Vec<Layout> = Vec::new(alloc);
+        for item in &source.items {
+            let layout = layout_of_item(alloc, tokens, item, source, known.as_slice())?;
+            better.push(layout)?;
+        }
+        let is_same = better.as_slice() == known.as_slice();
+        known = better;
+        if is_same {
+            break;
+        }
+    }
+    Ok(known)
+}
+
+// Whether a name is that of a type that is known not to be `Allocative`.
+fn is_foreign(name: &str) -> bool {
+    matches!(
+        name,
+        "f32"
+            | "f64"
+            | "char"
+            | "str"
+            | "Rc"
+            | "Arc"
+            | "Weak"
+            | "Cell"
+            | "RefCell"
+            | "OnceCell"
+            | "Mutex"
+            | "RwLock"
+            | "PathBuf"
+            | "LinkedList"
+            | "BinaryHeap"
+    )
+}
+
+/// Why a field's type in some tokens is not written; none where it is. `own` is the name of the type that has the
+/// field.
+pub fn why_not(tokens: &[Token<'_>], span: Span, items: &[Item<'_>], own: &str) -> Option<Why> {
+    for at in span.from..span.to {
+        let text = text_at(tokens, at);
+        let next = at.saturating_add(1);
+        if is_kind(tokens, at, Kind::RawWord) {
+            return Some(Why::RawName);
+        } else if is_kind(tokens, at, Kind::Order) {
+            return Some(Why::Order);
+        } else if text == own || text == "Self" {
+            return Some(Why::HoldsItself);
+        } else if text == "!" {
+            return Some(Why::Macro);
+        } else if text == "dyn" || text == "impl" {
+            return Some(Why::Dynamic);
+        } else if text == "&" && text_at(tokens, next) != "'static" {
+            return Some(Why::Borrowed);
+        } else if text == "*" || text == "fn" {
+            return Some(Why::Pointer);
+        } else if is_foreign(text) && !items.iter().any(|item| item.name == text) {
+            return Some(Why::Foreign);
+        }
+    }
+    None
+}

@@ -1,0 +1,112 @@
+//! The whole program, over any reader and two writers.
+ghost use Rattle.std.specs.Prelude.{◌≡◌, ◌≢◌, ◌⊎◌, OnOk, IfOk, IfErr, IfSome};
+ghost use Rattle.std.specs.Io.KnownBytes.{Appends};
+ghost use Rattle.allocative_implement.specs.Fault.{status_of};
+
+use crate::fault::Fault;
+use crate::implement::{Written, implement};
+use crate::place::place_of;
+use std::alloc::Global;
+use std::io::{ErrorKind, Read, Write};
+
+/// All that the reader gives. `Fault::Reading` where a read failed, and else `Fault::Memory`. An interrupted read is
+/// taken again.
+pub fn read_input<R: Read>(alloc: Global, input: &mut R) -> Result<Vec<u8>, Fault>
+    ensures ok { IfOk result (λ bytes. IfSome (R.remaining input.old) (λ known. bytes.items ≡ known)) }
+    ensures err { IfErr result (λ f. (f ≡ Fault.Memory) ⊎ (f ≡ Fault.Reading)) }
+{
+    let mut bytes = Vec::new(alloc);
+    let mut piece = [0u8; 4096];
+    for _ in 0..u64::MAX {
+        match input.read(&mut piece) {
+            Ok(0) => return Ok(bytes),
+            Ok(count) => bytes.extend_from_slice(&piece[..count])?,
+            Err(error) if error.kind() == ErrorKind::Interrupted => {}
+            Err(_) => return Err(Fault::Reading),
+        }
+    }
+    Err(Fault::Reading)
+}
+
+// Writes the whole text.
+fn write_text<W: Write>(output: &mut W, text: &str) -> Result<(), Fault>
+    ensures ok { OnOk result (Appends (W.contents output.old) (W.contents output.new) text.now) }
+    ensures err { IfErr result (λ f. f ≡ Fault.Writing) }
+{
+    if output.write_all(text.as_bytes()).is_err() || output.flush().is_err() {
+        return Err(Fault::Writing);
+    }
+    Ok(())
+}
+
+/// Writes the fault's line, and answers its status, also where the line can't be written.
+pub fn tell<E: Write>(errors: &mut E, fault: Fault) -> u8
+    ensures { result ≡ status_of fault }
+{
+    let _unwritten = writeln!(errors, "implement: {fault}");
+    let _unflushed = errors.flush();
+    fault.status()
+}
+
+/// Writes how the program is used, and answers the status.
+pub fn show_usage<W: Write, E: Write>(output: &mut W, errors: &mut E) -> u8 {
+    let usage =
+        "usage: implement FILE [TYPE..]\n\nWrites the implementations of Described and Allocative for the structs and enums of a source file to standard\noutput: of the types that are named, or of all that have none. The text is that of a module `shown` of the file:\n\n  mkdir -p src/order; implement src/order.rt > src/order/shown.rt\n\nand `mod shown;` in src/order.rt. A comment `// allocative: skip` above a field passes it over, and\n`// allocative: size 8` shows it by that size alone.\n";
+    match write_text(output, usage) {
+        Ok(()) => 0,
+        Err(fault) => tell(errors, fault),
+    }
+}
+
+// Reads the source, and makes the text of it.
+fn make_text<R: Read>(
+    alloc: Global,
+    file: &str,
+    names: &[String],
+    input: &mut R,
+) -> Result<Written, Fault> {
+    let Some(place) = place_of(file) else {
+        return Err(Fault::Place);
+    };
+    let bytes = read_input(alloc, input)?;
+    let Ok(text) = str::from_utf8(bytes.as_slice()) else {
+        return Err(Fault::NotText);
+    };
+    implement(alloc, &place, text, names)
+}
+
+// Writes the notes, and answers the status with which a run ends whose text is written.
+fn tell_notes<E: Write>(errors: &mut E, written: &Written) -> u8
+    ensures { (result ≡ 0) ⊎ (result ≡ status_of Fault.LeftOut) }
+{
+    let _unwritten = errors.write_all(written.notes.as_str().as_bytes());
+    if written.is_whole {
+        let _unflushed = errors.flush();
+        0
+    } else {
+        tell(errors, Fault::LeftOut)
+    }
+}
+
+/// The whole program but its words: its answer is the status.
+///
+/// With status 0 the implementations of all types that are asked for stand on the output, and with status 8 those of
+/// some. Else the fault's line goes to the errors and, but for status 7, nothing goes to the output.
+pub fn run<R: Read, W: Write, E: Write>(
+    alloc: Global,
+    file: &str,
+    names: &[String],
+    input: &mut R,
+    output: &mut W,
+    errors: &mut E,
+) -> u8
+    ensures untouched { result ≢ 0 → result ≢ 7 → result ≢ 8 → output.new ≡ output.old }
+{
+    match make_text(alloc, file, names, input) {
+        Ok(written) => match write_text(output, written.text.as_str()) {
+            Ok(()) => tell_notes(errors, &written),
+            Err(fault) => tell(errors, fault),
+        },
+        Err(fault) => tell(errors, fault),
+    }
+}

@@ -1,0 +1,203 @@
+//! What is shown of a type, and why nothing can be written for it.
+use crate::cursor::{Span, line_at, text_at};
+use crate::fault::{Fault, Trouble, Why};
+use crate::items::{Body, Item, Param, Shown, Source, Style};
+use crate::layout::{Layout, layout_of_field, why_not};
+use crate::tokens::Token;
+use std::alloc::Global;
+
+/// A name, or a number in place of one.
+#[derive(Clone, Copy)]
+pub enum Label<'a> {
+    /// A name.
+    Name(&'a str),
+    /// A number.
+    Number(usize),
+}
+
+/// A field that is shown.
+#[derive(Clone, Copy)]
+pub struct ShownField<'a> {
+    /// The name of the field.
+    pub member: Label<'a>,
+    /// The key of its entry.
+    pub key: Label<'a>,
+    /// The tokens of its type.
+    pub span: Span,
+    /// What is known of its type.
+    pub layout: Layout,
+    /// Its size, where it is shown by that alone.
+    pub size: Option<usize>,
+}
+
+/// A source whose types are known.
+#[derive(Clone, Copy)]
+pub struct Scene<'s, 'a> {
+    /// Its tokens.
+    pub tokens: &'s [Token<'a>],
+    /// Its types.
+    pub items: &'s [Item<'a>],
+    /// What is known of each, in their order.
+    pub known: &'s [Layout],
+}
+
+/// The most fields of a struct, and of a variant.
+pub const MOST_FIELDS: usize = 25;
+/// The most fields of a variant, and of one part of a struct.
+pub const MOST_TOGETHER: usize = 5;
+
+/// Whether a trait is implemented for a name in a source.
+pub fn is_implemented(source: &Source<'_>, of: &str, name: &str) -> bool {
+    source
+        .implementations
+        .iter()
+        .any(|known| known.of == of && known.name == name)
+}
+
+// The key of a field: its name; of the one unnamed field of a variant the variant's name; else its number.
+fn key_of<'a>(body: &Body<'a>, is_enum: bool, member: Label<'a>) -> Label<'a> {
+    if is_enum && body.style == Style::Tuple && body.fields.len() == 1 {
+        Label::Name(body.name)
+    } else {
+        member
+    }
+}
+
+/// The fields of a struct or a variant that are shown, in their order. The only fault is `Fault::Memory`.
+pub fn shown_fields<'a>(
+    alloc: Global,
+    scene: Scene<'_, 'a>,
+    body: &Body<'a>,
+    is_enum: bool,
+) -> Result<Vec<ShownField<'a>>, Fault> {
+    let mut shown: Vec<ShownField<'a>> = Vec::new(alloc);
+    let mut number = 0usize;
+    for field in &body.fields {
+        let member = if body.style == Style::Tuple {
+            Label::Number(number)
+        } else {
+            Label::Name(field.name)
+        };
+        number = number.saturating_add(1);
+        let size = match field.shown {
+            Shown::Nothing => continue,
+            Shown::Size(size) => Some(size),
+            Shown::Whole => None,
+        };
+        let layout = layout_of_field(alloc, scene.tokens, field, scene.items, scene.known)?;
+        shown.push(ShownField {
+            member,
+            key: key_of(body, is_enum, member),
+            span: field.span,
+            layout,
+            size,
+        })?;
+    }
+    Ok(shown)
+}
+
+/// Whether a parameter stands in a field that is shown whole.
+pub fn is_shown(tokens: &[Token<'_>], item: &Item<'_>, param: &Param<'_>) -> bool {
+    for body in &item.bodies {
+        for field in &body.fields {
+            if field.shown == Shown::Whole && has_word(tokens, field.span, param.name) {
+                return true;
+            }
+        }
+    }
+    false
+}
+
+/// Whether the goal of a variant with these fields may stay open: so it was seen for some variants of three fields and
+/// more, where a field behind the first has something to drop.
+pub fn may_stay_open(fields: &[ShownField<'_>]) -> bool {
+    fields.len() > 2 && fields.iter().skip(1).any(|field| field.layout.needs_drop)
+}
+
+// Whether a word is one of some tokens.
+fn has_word(tokens: &[Token<'_>], span: Span, word: &str) -> bool {
+    for at in span.from..span.to {
+        if text_at(tokens, at) == word {
+            return true;
+        }
+    }
+    false
+}
+
+// Whether a type has a name that the written text imports.
+fn is_taken(name: &str) -> bool {
+    matches!(
+        name,
+        "Allocative" | "Described" | "Field" | "Inside" | "Key" | "Part" | "Refusal" | "Visitor"
+    )
+}
+
+// Whether a variant has a name that the written relation uses.
+fn is_word(name: &str) -> bool {
+    matches!(
+        name,
+        "Field" | "Inside" | "Nothing" | "Both" | "Some" | "where" | "deriving"
+    )
+}
+
+// Why a struct or a variant is not written.
+fn body_trouble(scene: Scene<'_, '_>, item: &Item<'_>, body: &Body<'_>) -> Option<Trouble> {
+    let mut count = 0usize;
+    for field in &body.fields {
+        let line = line_at(scene.tokens, field.span.from);
+        if field.shown != Shown::Nothing {
+            count = count.saturating_add(1);
+        }
+        if field.shown == Shown::Whole
+            && let Some(why) = why_not(scene.tokens, field.span, scene.items, item.name)
+        {
+            return Some(Trouble { line, why });
+        }
+    }
+    let most = if item.is_enum {
+        MOST_TOGETHER
+    } else {
+        MOST_FIELDS
+    };
+    let line = item.line;
+    if count > most {
+        Some(Trouble {
+            line,
+            why: Why::Many,
+        })
+    } else if item.is_enum && is_word(body.name) {
+        Some(Trouble {
+            line,
+            why: Why::Taken,
+        })
+    } else {
+        None
+    }
+}
+
+/// Why nothing is written for a type; none where its implementations are written.
+pub fn trouble_of(scene: Scene<'_, '_>, item: &Item<'_>) -> Option<Trouble> {
+    if item.trouble.is_some() {
+        return item.trouble;
+    }
+    let line = item.line;
+    if is_taken(item.name) {
+        return Some(Trouble {
+            line,
+            why: Why::Taken,
+        });
+    }
+    if item.bodies.is_empty() {
+        return Some(Trouble {
+            line,
+            why: Why::Unread,
+        });
+    }
+    for body in &item.bodies {
+        let trouble = body_trouble(scene, item, body);
+        if trouble.is_some() {
+            return trouble;
+        }
+    }
+    None
+}

@@ -1,0 +1,291 @@
+//! Small pieces of the text that is written.
+use crate::cursor::{Span, is_kind, text_at};
+use crate::shape::{Label, Scene, ShownField};
+use crate::tokens::{Kind, Token};
+use std::alloc::AllocError;
+
+// The names of the parts of a value, one letter each.
+const LETTERS: &str = "abcdefghijklmnopqrstuvwxyz";
+
+/// The longest line that `rt fmt` leaves as it is.
+pub const LINE: usize = 100;
+
+/// The name of a part by its number, one letter; after 26 of them `z`.
+pub fn letter(number: usize) -> &'static str {
+    LETTERS.get(number..number.saturating_add(1)).unwrap_or("z")
+}
+
+/// Appends a name or a number.
+pub fn push_label(out: &mut String, label: Label<'_>) -> Result<(), AllocError> {
+    match label {
+        Label::Name(name) => out.push_str(name),
+        Label::Number(number) => write!(out, "{number}"),
+    }
+}
+
+// Whether the language of clauses keeps a word for itself.
+fn is_reserved(word: &str) -> bool {
+    matches!(
+        word,
+        "data"
+            | "record"
+            | "deriving"
+            | "module"
+            | "where"
+            | "use"
+            | "mod"
+            | "pub"
+            | "package"
+            | "open"
+            | "as"
+            | "unfoldable"
+            | "abbrev"
+            | "axiom"
+            | "unfold"
+            | "unfolding"
+            | "ruleset"
+            | "mutual"
+            | "infix"
+            | "infixl"
+            | "infixr"
+            | "elim"
+            | "let"
+            | "in"
+            | "do"
+            | "Type"
+            | "coe"
+            | "fcoe"
+            | "tcoe"
+            | "hcom"
+            | "com"
+    )
+}
+
+/// Appends a name as clauses write it.
+pub fn push_name(out: &mut String, name: &str) -> Result<(), AllocError> {
+    if is_reserved(name) {
+        out.push_str("«")?;
+        out.push_str(name)?;
+        out.push_str("»")
+    } else {
+        out.push_str(name)
+    }
+}
+
+/// Appends as many spaces.
+pub fn push_spaces(out: &mut String, count: usize) -> Result<(), AllocError> {
+    for _ in 0..count {
+        out.push(' ')?;
+    }
+    Ok(())
+}
+
+// Whether a token is the second of a mark of two, as `::` and `->`.
+fn is_pair(tokens: &[Token<'_>], at: usize, first: &str, second: &str) -> bool {
+    text_at(tokens, at) == second && at > 0 && text_at(tokens, at.saturating_sub(1)) == first
+}
+
+// Whether a space stands between a token of a type and the one before it.
+fn is_spaced(tokens: &[Token<'_>], at: usize) -> bool {
+    let before = at.saturating_sub(1);
+    let first = text_at(tokens, before);
+    let second = text_at(tokens, at);
+    if first == ":" {
+        return second != ":" && !is_pair(tokens, before, ":", ":");
+    }
+    let is_wordy = !is_kind(tokens, before, Kind::Mark) && !is_kind(tokens, at, Kind::Mark);
+    let is_joined = matches!(first, "," | ";" | "+" | "=") || matches!(second, "+" | "=" | "-");
+    is_wordy || is_joined || is_pair(tokens, before, "-", ">")
+}
+
+/// Appends the text of a type or of bounds, laid out on one line. A path from the module or from the one around it is
+/// told from the module inside.
+pub fn push_type(out: &mut String, tokens: &[Token<'_>], span: Span) -> Result<(), AllocError> {
+    for at in span.from..span.to {
+        let before = at.saturating_sub(1);
+        let text = text_at(tokens, at);
+        let is_first = text_at(tokens, before) != ":";
+        let next = text_at(tokens, at.saturating_add(1));
+        if at > span.from && is_spaced(tokens, at) {
+            out.push(' ')?;
+        }
+        if text == "," && (next == ">" || at.saturating_add(1) == span.to) {
+            continue;
+        }
+        if text == "self" && is_first {
+            out.push_str("super")?;
+        } else if text == "super" && is_first {
+            out.push_str("super::super")?;
+        } else {
+            out.push_str(text)?;
+        }
+    }
+    Ok(())
+}
+
+/// Appends what a field is called: `owner` and its name, or its letter where `owner` is empty.
+pub fn push_member(
+    out: &mut String,
+    field: &ShownField<'_>,
+    number: usize,
+    owner: &str,
+) -> Result<(), AllocError> {
+    if owner.is_empty() {
+        return out.push_str(letter(number));
+    }
+    out.push_str(owner)?;
+    push_label(out, field.member)
+}
+
+/// Appends the word of a field that is shown, whose value in the relation is called as `push_member` says. `is_param`
+/// says whether its type is a parameter alone.
+pub fn push_word(
+    out: &mut String,
+    scene: Scene<'_, '_>,
+    field: &ShownField<'_>,
+    is_param: bool,
+    number: usize,
+    owner: &str,
+) -> Result<(), AllocError> {
+    if let Some(size) = field.size {
+        out.push_str("Inside (codes \"")?;
+        push_label(out, field.key)?;
+        return write!(out, "\") {size} Nothing");
+    }
+    out.push_str("Field (codes \"")?;
+    push_label(out, field.key)?;
+    out.push_str("\") ")?;
+    if is_param {
+        push_type(out, scene.tokens, field.span)?;
+        out.push_str(".size (")?;
+        push_type(out, scene.tokens, field.span)?;
+        out.push_str(".may_show ")?;
+    } else {
+        match field.layout.size {
+            Some(size) => write!(out, "(Some {size}) ")?,
+            None => {
+                out.push_str("⟦<")?;
+                push_type(out, scene.tokens, field.span)?;
+                out.push_str(" as Described>⟧.size ")?;
+            }
+        }
+        out.push_str("(⟦<")?;
+        push_type(out, scene.tokens, field.span)?;
+        out.push_str(" as Allocative>⟧.may_show ")?;
+    }
+    push_member(out, field, number, owner)?;
+    out.push_str(")")
+}
+
+/// Appends what stands before one of some words that are joined by `Both`: its number and how many there are.
+pub fn open_word(
+    out: &mut String,
+    number: usize,
+    count: usize,
+    indent: usize,
+) -> Result<(), AllocError> {
+    if count < 2 {
+        return Ok(());
+    }
+    if number.saturating_add(1) < count {
+        out.push_str("Both")?;
+    }
+    out.push_str("\n")?;
+    push_spaces(out, indent)?;
+    out.push_str("(")
+}
+
+/// Appends what stands behind one of some words that are joined by `Both`: its number and how many there are.
+pub fn close_word(out: &mut String, number: usize, count: usize) -> Result<(), AllocError> {
+    if count < 2 {
+        return Ok(());
+    }
+    out.push_str(")")?;
+    if number.saturating_add(2) < count {
+        return out.push_str(" (");
+    }
+    if number.saturating_add(1) == count {
+        for _ in 2..count {
+            out.push_str(")")?;
+        }
+    }
+    Ok(())
+}
+
+/// Appends the letters from one number up to another, as a tuple; one letter alone, and `()` for none.
+pub fn push_letters(out: &mut String, from: usize, to: usize) -> Result<(), AllocError> {
+    if to == from.saturating_add(1) {
+        return out.push_str(letter(from));
+    }
+    out.push_str("(")?;
+    for number in from..to {
+        if number > from {
+            out.push_str(", ")?;
+        }
+        out.push_str(letter(number))?;
+    }
+    out.push_str(")")
+}
+
+// How long a label is.
+fn label_len(label: Label<'_>) -> usize {
+    match label {
+        Label::Name(name) => name.len(),
+        Label::Number(_) => 1,
+    }
+}
+
+/// Appends the line that makes the part of a field: `owner` stands before the field's name, or is empty where the
+/// letter itself is the value.
+pub fn push_let(
+    out: &mut String,
+    field: &ShownField<'_>,
+    number: usize,
+    owner: &str,
+    indent: usize,
+) -> Result<(), AllocError> {
+    push_spaces(out, indent)?;
+    write!(out, "let {} = ", letter(number))?;
+    if let Some(size) = field.size {
+        out.push_str("Inside(Key::new(\"")?;
+        push_label(out, field.key)?;
+        return write!(out, "\"), {size}, ());\n");
+    }
+    let member = if owner.is_empty() {
+        1
+    } else {
+        owner.len().saturating_add(label_len(field.member))
+    };
+    let fixed = indent.saturating_add(30);
+    let is_long = fixed
+        .saturating_add(label_len(field.key))
+        .saturating_add(member)
+        > LINE;
+    out.push_str("Field(")?;
+    push_break(out, is_long, indent.saturating_add(4), "")?;
+    out.push_str("Key::new(\"")?;
+    push_label(out, field.key)?;
+    out.push_str("\"),")?;
+    push_break(out, is_long, indent.saturating_add(4), " ")?;
+    push_member(out, field, number, owner)?;
+    if is_long {
+        out.push_str(",")?;
+    }
+    push_break(out, is_long, indent, "")?;
+    out.push_str(");\n")
+}
+
+// Appends a new line with so many spaces, or else a text.
+fn push_break(
+    out: &mut String,
+    is_long: bool,
+    indent: usize,
+    short: &str,
+) -> Result<(), AllocError> {
+    if is_long {
+        out.push_str("\n")?;
+        push_spaces(out, indent)
+    } else {
+        out.push_str(short)
+    }
+}

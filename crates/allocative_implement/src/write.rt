@@ -1,0 +1,400 @@
+//! The implementations of one type.
+use crate::cursor::{Span, text_at};
+use crate::fault::Fault;
+use crate::head::{Header, Whom, push_impl, push_part_struct};
+use crate::items::{Body, Item, Shown, Sort, Style};
+use crate::layout::Layout;
+use crate::shape::{MOST_TOGETHER, Scene, ShownField, shown_fields};
+use crate::text::{close_word, letter, open_word, push_let, push_letters, push_name, push_word};
+use std::alloc::{AllocError, Global};
+
+/// What is written of a type besides its name.
+#[derive(Drop)]
+pub struct Plan {
+    /// Its parameters.
+    pub header: Header,
+    /// Its size: a number, or the name of a constant.
+    pub size: String,
+    /// Whether its size is that constant.
+    pub is_constant: bool,
+    /// The path of what is declared in the module of the type.
+    pub path: String,
+}
+
+// The end of the name of a part of a large struct, by its number from 0 on.
+fn suffix_of(number: usize) -> &'static str {
+    match number {
+        0 => "Part1",
+        1 => "Part2",
+        2 => "Part3",
+        3 => "Part4",
+        _ => "Part5",
+    }
+}
+
+// The part of a large struct, by its number from 0 on.
+fn part_of<'a>(item: &Item<'a>, number: usize) -> Whom<'a> {
+    Whom {
+        lifetime: "'part",
+        name: item.name,
+        suffix: suffix_of(number),
+    }
+}
+
+fn whole<'a>(item: &Item<'a>) -> Whom<'a> {
+    Whom {
+        lifetime: "",
+        name: item.name,
+        suffix: "",
+    }
+}
+
+// Whether some tokens are a parameter of a type alone.
+fn is_param(scene: Scene<'_, '_>, item: &Item<'_>, span: Span) -> bool {
+    let text = text_at(scene.tokens, span.from);
+    span.to == span.from.saturating_add(1)
+        && item
+            .params
+            .iter()
+            .any(|param| param.sort == Sort::Type && param.name == text)
+}
+
+// Appends the import of a constant for clauses, and an empty line where no other import follows.
+fn push_constant_use(out: &mut String, plan: &Plan, is_followed: bool) -> Result<(), AllocError> {
+    if plan.is_constant {
+        out.push_str("    ghost use ")?;
+        out.push_str(plan.path.as_str())?;
+        out.push_str(".shown.TheConstants.{")?;
+        out.push_str(plan.size.as_str())?;
+        out.push_str("};\n")?;
+    }
+    if plan.is_constant && !is_followed {
+        out.push_str("\n")?;
+    }
+    Ok(())
+}
+
+/// Appends the implementation of `Described`.
+pub fn push_described(
+    out: &mut String,
+    item: &Item<'_>,
+    layout: Layout,
+    plan: &Plan,
+) -> Result<(), AllocError> {
+    let name = item.name;
+    let align = layout.align;
+    let needs_drop = layout.needs_drop;
+    let size = plan.size.as_str();
+    push_impl(out, &plan.header, "Described", whole(item))?;
+    push_constant_use(out, plan, false)?;
+    write!(out, "    ghost name = {{ codes \"{name}\" }};\n\n")?;
+    write!(out, "    ghost align = {{ {align} }};\n\n")?;
+    write!(out, "    ghost needs_drop = {{ {needs_drop} }};\n\n")?;
+    write!(out, "    ghost size = {{ Some {size} }};\n\n")?;
+    write!(
+        out,
+        "    fn name() -> &'static str {{\n        \"{name}\"\n    }}\n\n"
+    )?;
+    write!(
+        out,
+        "    fn align() -> usize {{\n        {align}\n    }}\n\n"
+    )?;
+    write!(
+        out,
+        "    fn needs_drop() -> bool {{\n        {needs_drop}\n    }}\n\n"
+    )?;
+    write!(
+        out,
+        "    fn size() -> Option<usize> {{\n        Some({size})\n    }}\n}}\n"
+    )
+}
+
+// Appends the words of some fields, joined by `Both`; `Nothing` for none.
+fn push_words(
+    out: &mut String,
+    scene: Scene<'_, '_>,
+    item: &Item<'_>,
+    fields: &[ShownField<'_>],
+    owner: &str,
+    indent: usize,
+) -> Result<(), AllocError> {
+    if fields.is_empty() {
+        return out.push_str("Nothing");
+    }
+    for (number, field) in fields.iter().enumerate() {
+        let alone = is_param(scene, item, field.span);
+        open_word(out, number, fields.len(), indent)?;
+        push_word(out, scene, field, alone, number, owner)?;
+        close_word(out, number, fields.len())?;
+    }
+    Ok(())
+}
+
+// Appends the words of the fields of a struct, in groups where they are many.
+fn push_groups(
+    out: &mut String,
+    scene: Scene<'_, '_>,
+    item: &Item<'_>,
+    fields: &[ShownField<'_>],
+) -> Result<(), AllocError> {
+    if fields.len() <= MOST_TOGETHER {
+        return push_words(out, scene, item, fields, "x.", 8);
+    }
+    let count = fields.chunks(MOST_TOGETHER).count();
+    for (number, group) in fields.chunks(MOST_TOGETHER).enumerate() {
+        open_word(out, number, count, 8)?;
+        push_words(out, scene, item, group, "x.", 8)?;
+        close_word(out, number, count)?;
+    }
+    Ok(())
+}
+
+// Appends the lines that make the parts of some fields.
+fn push_lets(
+    out: &mut String,
+    fields: &[ShownField<'_>],
+    owner: &str,
+    indent: usize,
+) -> Result<(), AllocError> {
+    for (number, field) in fields.iter().enumerate() {
+        push_let(out, field, number, owner, indent)?;
+    }
+    Ok(())
+}
+
+// Appends the lines that make the parts of the groups of fields, and answers how many parts there are.
+fn push_group_lets(
+    out: &mut String,
+    item: &Item<'_>,
+    fields: &[ShownField<'_>],
+) -> Result<usize, AllocError> {
+    if fields.len() <= MOST_TOGETHER {
+        push_lets(out, fields, "&self.", 8)?;
+        return Ok(fields.len());
+    }
+    let count = fields.chunks(MOST_TOGETHER).count();
+    for number in 0..count {
+        let part = part_of(item, number);
+        let (name, suffix) = (part.name, part.suffix);
+        write!(
+            out,
+            "        let {} = {name}{suffix}(self);\n",
+            letter(number)
+        )?;
+    }
+    Ok(count)
+}
+
+const VISIT: &str = "    fn visit(&self, visitor: &mut Visitor<'_>) -> Result<(), Refusal> {\n";
+
+const ENTER: &str = "    fn enter(self, visitor: &mut Visitor<'_>) -> Result<(), Refusal> {\n";
+
+// Appends the implementation of `Part` for one group of the fields of a large struct.
+fn push_part(
+    out: &mut String,
+    scene: Scene<'_, '_>,
+    item: &Item<'_>,
+    plan: &Plan,
+    number: usize,
+    group: &[ShownField<'_>],
+) -> Result<(), AllocError> {
+    let whom = part_of(item, number);
+    out.push_str("\n")?;
+    push_part_struct(out, &plan.header, whom)?;
+    push_impl(out, &plan.header, "Part", whom)?;
+    out.push_str("    ghost may_show = { λ x. ")?;
+    push_words(out, scene, item, group, "x.0.now.", 8)?;
+    out.push_str(" };\n\n")?;
+    out.push_str(ENTER)?;
+    push_lets(out, group, "&self.0.", 8)?;
+    out.push_str("        ")?;
+    push_letters(out, 0, group.len())?;
+    out.push_str(".enter(visitor)\n    }\n}\n")
+}
+
+// Appends the implementation of `Allocative` for a struct.
+fn push_struct(
+    out: &mut String,
+    scene: Scene<'_, '_>,
+    item: &Item<'_>,
+    plan: &Plan,
+    fields: &[ShownField<'_>],
+) -> Result<(), AllocError> {
+    let name = item.name;
+    let size = plan.size.as_str();
+    push_impl(out, &plan.header, "Allocative", whole(item))?;
+    push_constant_use(out, plan, false)?;
+    write!(
+        out,
+        "    ghost may_show = {{ λ x. Inside (codes \"{name}\") {size} ("
+    )?;
+    push_groups(out, scene, item, fields)?;
+    out.push_str(") };\n\n")?;
+    out.push_str(VISIT)?;
+    let count = push_group_lets(out, item, fields)?;
+    write!(out, "        let key = Key::new(\"{name}\");\n")?;
+    write!(out, "        Inside(key, {size}, ")?;
+    push_letters(out, 0, count)?;
+    out.push_str(").enter(visitor)\n    }\n}\n")?;
+    if fields.len() > MOST_TOGETHER {
+        for (number, group) in fields.chunks(MOST_TOGETHER).enumerate() {
+            push_part(out, scene, item, plan, number, group)?;
+        }
+    }
+    Ok(())
+}
+
+// Appends the import of the variants for clauses.
+fn push_variants_use(out: &mut String, item: &Item<'_>, plan: &Plan) -> Result<(), AllocError> {
+    out.push_str("    ghost use ")?;
+    out.push_str(plan.path.as_str())?;
+    out.push_str(".")?;
+    out.push_str(item.name)?;
+    out.push_str(".TheVariants.{")?;
+    for (number, body) in item.bodies.iter().enumerate() {
+        out.push_str(if number > 0 { ", " } else { "" })?;
+        push_name(out, body.name)?;
+    }
+    out.push_str("};\n\n")
+}
+
+// Appends the names of the fields of a variant in the relation: a letter for each that is shown whole.
+fn push_binders(out: &mut String, body: &Body<'_>) -> Result<(), AllocError> {
+    let mut number = 0usize;
+    for field in &body.fields {
+        out.push_str(" ")?;
+        out.push_str(if field.shown == Shown::Whole {
+            letter(number)
+        } else {
+            "_"
+        })?;
+        if field.shown != Shown::Nothing {
+            number = number.saturating_add(1);
+        }
+    }
+    Ok(())
+}
+
+// Appends the pattern of a variant's fields behind its name.
+fn push_pattern(out: &mut String, body: &Body<'_>, is_long: bool) -> Result<(), AllocError> {
+    if body.style == Style::Unit {
+        return Ok(());
+    }
+    let is_named = body.style == Style::Named;
+    let (open, mark, close) = match (is_named, is_long) {
+        (false, _) => ("(", ", ", ")"),
+        (true, false) => (" { ", ", ", " }"),
+        (true, true) => (
+            " {\n                ",
+            ",\n                ",
+            ",\n            }",
+        ),
+    };
+    out.push_str(open)?;
+    let mut number = 0usize;
+    for (place, field) in body.fields.iter().enumerate() {
+        out.push_str(if place > 0 { mark } else { "" })?;
+        if is_named {
+            out.push_str(field.name)?;
+            out.push_str(": ")?;
+        }
+        out.push_str(if field.shown == Shown::Whole {
+            letter(number)
+        } else {
+            "_"
+        })?;
+        if field.shown != Shown::Nothing {
+            number = number.saturating_add(1);
+        }
+    }
+    out.push_str(close)
+}
+
+// How long the pattern of a variant's named fields is on one line, without its braces.
+fn pattern_len(body: &Body<'_>) -> usize {
+    let mut length = 0usize;
+    for field in &body.fields {
+        length = length.saturating_add(field.name.len()).saturating_add(5);
+    }
+    length.saturating_sub(2)
+}
+
+// Appends the arm of a variant in the code.
+fn push_arm(
+    out: &mut String,
+    item: &Item<'_>,
+    body: &Body<'_>,
+    plan: &Plan,
+    fields: &[ShownField<'_>],
+) -> Result<(), AllocError> {
+    let size = plan.size.as_str();
+    let (name, variant) = (item.name, body.name);
+    write!(out, "            {name}::{variant}")?;
+    push_pattern(out, body, pattern_len(body) > 18)?;
+    if fields.is_empty() {
+        return write!(out, " => Inside(key, {size}, ()).enter(visitor),\n");
+    }
+    out.push_str(" => {\n")?;
+    push_lets(out, fields, "", 16)?;
+    write!(out, "                Inside(key, {size}, ")?;
+    push_letters(out, 0, fields.len())?;
+    out.push_str(").enter(visitor)\n            }\n")
+}
+
+// Appends the implementation of `Allocative` for an enum.
+fn push_enum(
+    alloc: Global,
+    out: &mut String,
+    scene: Scene<'_, '_>,
+    item: &Item<'_>,
+    plan: &Plan,
+) -> Result<(), Fault> {
+    let name = item.name;
+    let size = plan.size.as_str();
+    push_impl(out, &plan.header, "Allocative", whole(item))?;
+    push_constant_use(out, plan, true)?;
+    push_variants_use(out, item, plan)?;
+    write!(
+        out,
+        "    ghost may_show = {{ λ x. Inside (codes \"{name}\") {size} (elim x [\n"
+    )?;
+    for body in &item.bodies {
+        let fields = shown_fields(alloc, scene, body, true)?;
+        out.push_str("      | ")?;
+        push_name(out, body.name)?;
+        push_binders(out, body)?;
+        out.push_str(" ↦ ")?;
+        push_words(out, scene, item, fields.as_slice(), "", 10)?;
+        out.push_str("\n")?;
+    }
+    out.push_str("    ]) };\n\n")?;
+    out.push_str(VISIT)?;
+    write!(
+        out,
+        "        let key = Key::new(\"{name}\");\n        match self {{\n"
+    )?;
+    for body in &item.bodies {
+        let fields = shown_fields(alloc, scene, body, true)?;
+        push_arm(out, item, body, plan, fields.as_slice())?;
+    }
+    out.push_str("        }\n    }\n}\n")?;
+    Ok(())
+}
+
+/// Appends the implementation of `Allocative`. The only fault is `Fault::Memory`.
+pub fn push_allocative(
+    alloc: Global,
+    out: &mut String,
+    scene: Scene<'_, '_>,
+    item: &Item<'_>,
+    plan: &Plan,
+) -> Result<(), Fault> {
+    if item.is_enum {
+        return push_enum(alloc, out, scene, item, plan);
+    }
+    if let Some(body) = item.bodies.first() {
+        let fields = shown_fields(alloc, scene, body, false)?;
+        push_struct(out, scene, item, plan, fields.as_slice())?;
+    }
+    Ok(())
+}

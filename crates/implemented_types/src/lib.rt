@@ -1,0 +1,8 @@
+//! Types whose implementations `bin/implement` wrote, with the texts of their profiles.
+#![tactic(auto)]
+
+#[cfg(test)]
+mod profiles;
+#[cfg(test)]
+mod tests;
+pub mod types;

@@ -1,0 +1,53 @@
+// What a value's visits give, by both collectors.
+use allocative::{Allocative, FlameGraphBuilder, size_of_unique_allocated_data};
+use std::alloc::Global;
+use std::process::Abort;
+use std::test::Fail;
+
+// The text of a value's flame graph with its total, its warnings, and the bytes that the value holds on the heap.
+#[derive(Drop)]
+pub struct Profile {
+    pub text: &'static str,
+    pub total: usize,
+    pub warnings: &'static str,
+    pub held: usize,
+}
+
+impl Profile {
+    // One without warnings, of a value that holds nothing on the heap.
+    pub fn new(text: &'static str, total: usize) -> Profile {
+        Profile {
+            text,
+            total,
+            warnings: "",
+            held: 0,
+        }
+    }
+
+    // One without warnings, of a value that holds so many bytes on the heap.
+    pub fn holding(text: &'static str, total: usize, held: usize) -> Profile {
+        Profile {
+            text,
+            total,
+            warnings: "",
+            held,
+        }
+    }
+}
+
+// Asserts that the value's visits give this profile.
+pub fn expect(
+    rt: &impl Abort,
+    alloc: Global,
+    root: &dyn Allocative,
+    want: &Profile,
+) -> Result<(), Fail> {
+    let mut builder = FlameGraphBuilder::new(alloc)?;
+    builder.visit_root(root)?;
+    let output = builder.finish()?;
+    assert_eq!(rt; output.flamegraph().write()?.as_str(), want.text);
+    assert_eq!(rt; output.flamegraph().total_size(), want.total);
+    assert_eq!(rt; output.warnings()?.as_str(), want.warnings);
+    assert_eq!(rt; size_of_unique_allocated_data(root)?, want.held);
+    Ok(())
+}

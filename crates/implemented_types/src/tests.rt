@@ -1,0 +1,178 @@
+// The profiles of values whose implementations `bin/implement` wrote.
+use crate::profiles::{Profile, expect};
+use crate::types::{
+    Found, Mark, Named, Nowhere, OfEight, OfOne, OfTwenty, Point, Request, Route, Sextet, Table,
+};
+use std::alloc::Global;
+use std::collections::{BTreeMap, HashMap};
+use std::test::Fail;
+
+#[test]
+fn one_field_and_none(rt: HostRuntime) -> Result<(), Fail> {
+    let want = Profile::new("OfOne;number;u64 8\n", 8);
+    expect(&rt, rt.alloc(), &OfOne { number: 5 }, &want)?;
+    expect(&rt, rt.alloc(), &Nowhere, &Profile::new("", 0))
+}
+
+#[test]
+fn eight_fields(rt: HostRuntime) -> Result<(), Fail> {
+    let alloc = rt.alloc();
+    let value = OfEight {
+        number: 1,
+        name: String::new(alloc),
+        count: 2,
+        marks: Vec::new(alloc),
+        is_open: true,
+        limit: None,
+        place: (3, 4),
+        width: 5,
+    };
+    let text =
+        "OfEight 1\nOfEight;count;u32 4\nOfEight;is_open;bool 1\nOfEight;limit;Option 16\nOfEight;marks;Vec 24\nOfEight;name;String 16\nOfEight;name;String;ptr 8\nOfEight;number;u64 8\nOfEight;place;tuple2;0;u32 4\nOfEight;place;tuple2;1;u32 4\nOfEight;width;u16 2\n";
+    expect(&rt, alloc, &value, &Profile::new(text, 88))
+}
+
+fn of_twenty(alloc: Global) -> OfTwenty {
+    OfTwenty {
+        number: 1,
+        name: 2,
+        count: 3,
+        marks: Vec::new(alloc),
+        is_open: 5,
+        limit: 6,
+        place: (7, 7),
+        width: 8,
+        height: 9,
+        depth: String::new(alloc),
+        label: 11,
+        price: 12,
+        seller: true,
+        is_paid: 14,
+        weight: 15,
+        colour: 16,
+        first: 17,
+        last: 18,
+        total: 19,
+        is_old: 20,
+    }
+}
+
+#[test]
+fn twenty_fields(rt: HostRuntime) -> Result<(), Fail> {
+    let alloc = rt.alloc();
+    let text =
+        "OfTwenty 5\nOfTwenty;colour;u16 2\nOfTwenty;count;u32 4\nOfTwenty;depth;String 16\nOfTwenty;depth;String;ptr 8\nOfTwenty;first;u32 4\nOfTwenty;height;u32 4\nOfTwenty;is_old;u32 4\nOfTwenty;is_open;u32 4\nOfTwenty;is_paid;u32 4\nOfTwenty;label;u32 4\nOfTwenty;last;u32 4\nOfTwenty;limit;u32 4\nOfTwenty;marks;Vec 24\nOfTwenty;name;u32 4\nOfTwenty;number;u64 8\nOfTwenty;place;tuple2;0;u32 4\nOfTwenty;place;tuple2;1;u32 4\nOfTwenty;price;u32 4\nOfTwenty;seller;bool 1\nOfTwenty;total;u32 4\nOfTwenty;weight;u32 4\nOfTwenty;width;u32 4\n";
+    expect(&rt, alloc, &of_twenty(alloc), &Profile::new(text, 128))
+}
+
+#[test]
+fn fields_by_number_passed_over_and_by_size(rt: HostRuntime) -> Result<(), Fail> {
+    let alloc = rt.alloc();
+    let mark = Mark::new(Point(1, 2), String::new(alloc));
+    let text =
+        "Mark 15\nMark;later;bool 1\nMark;mean 8\nMark;name;String 16\nMark;name;String;ptr 8\nMark;point;Point;0;u32 4\nMark;point;Point;1;u32 4\n";
+    expect(&rt, alloc, &mark, &Profile::new(text, 56))
+}
+
+#[test]
+fn six_fields_by_number(rt: HostRuntime) -> Result<(), Fail> {
+    let text =
+        "Sextet 1\nSextet;0;u8 1\nSextet;1;u8 1\nSextet;2;u8 1\nSextet;3;u8 1\nSextet;4;u8 1\nSextet;5;u16 2\n";
+    let want = Profile::new(text, 8);
+    expect(&rt, rt.alloc(), &Sextet(1, 2, 3, 4, 5, 6), &want)
+}
+
+#[test]
+fn variants_of_none_and_one(rt: HostRuntime) -> Result<(), Fail> {
+    let alloc = rt.alloc();
+    expect(
+        &rt,
+        alloc,
+        &Request::Ping,
+        &Profile::new("Request 40\n", 40),
+    )?;
+    let find = Request::Find(String::new(alloc));
+    let text = "Request 16\nRequest;Find;String 16\nRequest;Find;String;ptr 8\n";
+    expect(&rt, alloc, &find, &Profile::new(text, 40))?;
+    let text = "Request 32\nRequest;0;u64 8\n";
+    expect(&rt, alloc, &Request::Wait(3, 0.5), &Profile::new(text, 40))
+}
+
+#[test]
+fn variants_of_named_fields(rt: HostRuntime) -> Result<(), Fail> {
+    let alloc = rt.alloc();
+    let put = Request::Put {
+        name: String::new(alloc),
+        value: 3,
+    };
+    let text =
+        "Request 8\nRequest;name;String 16\nRequest;name;String;ptr 8\nRequest;value;u64 8\n";
+    expect(&rt, alloc, &put, &Profile::new(text, 40))?;
+    let mix = Request::Mix {
+        first: 1,
+        second: 2,
+        is_deep: true,
+    };
+    let text = "Request 31\nRequest;first;u32 4\nRequest;is_deep;bool 1\nRequest;second;u32 4\n";
+    expect(&rt, alloc, &mix, &Profile::new(text, 40))
+}
+
+#[test]
+fn a_variant_of_five_fields(rt: HostRuntime) -> Result<(), Fail> {
+    let alloc = rt.alloc();
+    let draw = Request::Draw(1, 2, 3, 4, String::new(alloc));
+    let text =
+        "Request 8\nRequest;0;u16 2\nRequest;1;u16 2\nRequest;2;u16 2\nRequest;3;u16 2\nRequest;4;String 16\nRequest;4;String;ptr 8\n";
+    expect(&rt, alloc, &draw, &Profile::new(text, 40))
+}
+
+#[test]
+fn a_size_that_was_not_written_is_warned_of(rt: HostRuntime) -> Result<(), Fail> {
+    let alloc = rt.alloc();
+    let values: HashMap<u32, u16> = HashMap::new(alloc);
+    let table = Table {
+        values,
+        last: 1,
+        spare: None,
+    };
+    let want = Profile {
+        text: "Table;last;u16 2\nTable;spare;Option 4\nTable;values;HashMap 40\nTable;values;HashMap;data 8\n",
+        total: 54,
+        warnings: "Incorrect size declaration for node `Table`, size of self: 48, size of inline children: 54\n",
+        held: 0,
+    };
+    expect(&rt, alloc, &table, &want)
+}
+
+#[test]
+fn parameters_of_a_large_struct_and_of_an_enum(rt: HostRuntime) -> Result<(), Fail> {
+    let alloc = rt.alloc();
+    let route: Route<u8> = Route {
+        name: String::new(alloc),
+        first: 1,
+        last: 2,
+        between: None,
+        steps: Vec::new(alloc),
+        length: 9,
+        is_round: false,
+    };
+    let text =
+        "Route 3\nRoute;between;Option 2\nRoute;first;u8 1\nRoute;is_round;bool 1\nRoute;last;u8 1\nRoute;length;u64 8\nRoute;name;String 16\nRoute;name;String;ptr 8\nRoute;steps;Vec 24\n";
+    expect(&rt, alloc, &route, &Profile::new(text, 64))?;
+    let named = Named::Somebody(String::new(alloc), 5u16);
+    let text = "Named 6\nNamed;0;String 16\nNamed;0;String;ptr 8\nNamed;1;u16 2\n";
+    expect(&rt, alloc, &named, &Profile::new(text, 32))
+}
+
+#[test]
+fn a_lifetime_and_a_number(rt: HostRuntime) -> Result<(), Fail> {
+    let alloc = rt.alloc();
+    let found = Found {
+        text: "ab",
+        places: [1, 2],
+        counts: BTreeMap::new(alloc),
+    };
+    let text =
+        "Found;counts;BTreeMap 16\nFound;counts;BTreeMap;data 8\nFound;places;u32;data;u32 8\n";
+    expect(&rt, alloc, &found, &Profile::new(text, 32))
+}
