@@ -200,7 +200,7 @@ fn with_head(alloc: Global, place: &Place<'_>, body: &str) -> Result<String, All
     push_used(
         &mut text,
         body,
-        &["Allocative", "Described", "Field", "Inside", "Key"],
+        &["Allocative", "Described", "Field", "Inside"],
     )?;
     text.push_str(", Part, Refusal, Visitor};\n")?;
     text.push_str(body)?;

@@ -247,25 +247,25 @@ pub fn push_let(
     push_spaces(out, indent)?;
     write!(out, "let {} = ", letter(number))?;
     if let Some(size) = field.size {
-        out.push_str("Inside(Key::new(\"")?;
+        out.push_str("Inside(\"")?;
         push_label(out, field.key)?;
-        return write!(out, "\"), {size}, ());\n");
+        return write!(out, "\", {size}, ());\n");
     }
     let member = if owner.is_empty() {
         1
     } else {
         owner.len().saturating_add(label_len(field.member))
     };
-    let fixed = indent.saturating_add(30);
+    let fixed = indent.saturating_add(20);
     let is_long = fixed
         .saturating_add(label_len(field.key))
         .saturating_add(member)
         > LINE;
     out.push_str("Field(")?;
     push_break(out, is_long, indent.saturating_add(4), "")?;
-    out.push_str("Key::new(\"")?;
+    out.push_str("\"")?;
     push_label(out, field.key)?;
-    out.push_str("\"),")?;
+    out.push_str("\",")?;
     push_break(out, is_long, indent.saturating_add(4), " ")?;
     push_member(out, field, number, owner)?;
     if is_long {

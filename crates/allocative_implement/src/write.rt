@@ -232,7 +232,7 @@ fn push_struct(
     out.push_str(") };\n\n")?;
     out.push_str(VISIT)?;
     let count = push_group_lets(out, item, fields)?;
-    write!(out, "        let key = Key::new(\"{name}\");\n")?;
+    write!(out, "        let key = \"{name}\";\n")?;
     write!(out, "        Inside(key, {size}, ")?;
     push_letters(out, 0, count)?;
     out.push_str(").enter(visitor)\n    }\n}\n")?;
@@ -371,7 +371,7 @@ fn push_enum(
     out.push_str(VISIT)?;
     write!(
         out,
-        "        let key = Key::new(\"{name}\");\n        match self {{\n"
+        "        let key = \"{name}\";\n        match self {{\n"
     )?;
     for body in &item.bodies {
         let fields = shown_fields(alloc, scene, body, true)?;

@@ -49,8 +49,8 @@ impl Allocative for Sensor {
     ghost may_show = { λ s. Inside (codes "Sensor") 8 (Field (codes "count") (Some 8) (⟦<u64 as Allocative>⟧.may_show s.count)) };
 
     fn visit(&self, visitor: &mut Visitor<'_>) -> Result<(), Refusal> {
-        let count = Field(Key::new("count"), &self.count);
-        Inside(Key::new("Sensor"), 8, count).enter(visitor)
+        let count = Field("count", &self.count);
+        Inside("Sensor", 8, count).enter(visitor)
     }
 }
 
@@ -67,9 +67,9 @@ impl Allocative for Station {
         (Field (codes "log") (Some 24) (⟦<String as Allocative>⟧.may_show s.log))) };
 
     fn visit(&self, visitor: &mut Visitor<'_>) -> Result<(), Refusal> {
-        let sensors = Field(Key::new("sensors"), &self.sensors);
-        let log = Field(Key::new("log"), &self.log);
-        Inside(Key::new("Station"), 48, (sensors, log)).enter(visitor)
+        let sensors = Field("sensors", &self.sensors);
+        let log = Field("log", &self.log);
+        Inside("Station", 48, (sensors, log)).enter(visitor)
     }
 }
 

@@ -1,3 +1,2 @@
 pub mod Each
 pub mod Most
-pub mod Profiles

@@ -1,15 +1,12 @@
 //! A service that takes a profile of what it holds each time it is asked, and keeps the last of them.
 #![tactic(auto, using(allocative::proofs::Parts::parts))]
 
-ghost use Rattle.std.specs.Prelude.{◌≡◌, codes, Some, IfOk, OnOk, OnErr};
+ghost use Rattle.std.specs.Prelude.{◌≡◌, codes, Some, OnOk, OnErr};
 ghost use Rattle.allocative.specs.Shows as shows;
-ghost use Rattle.allocative.specs.Visits.{IsProfileOf};
 ghost use Rattle.profile_report.specs.History.{TakesProfile};
 
 use crate::history::History;
-use allocative::{
-    Allocative, Each, Field, Inside, Part, Refusal, Unique, Visitor, profile_value,
-};
+use allocative::{Allocative, Each, Field, Inside, Part, Refusal, Unique, Visitor, profile_value};
 use std::alloc::{AllocError, Global};
 
 /// A user who is signed in, perhaps with a basket; 24 bytes.
@@ -75,9 +72,9 @@ impl Allocative for Held {
     ghost may_show = { λ h. shows.Inside (codes "Service") 48 (shows.Both (shows.InsideUnique (codes "sessions") 24 (shows.each_shows ⟦<Session as Allocative>⟧.may_show h.sessions.items)) (shows.InsideUnique (codes "pages") 24 (shows.each_shows ⟦<Page as Allocative>⟧.may_show h.pages.items))) };
 
     fn visit(&self, visitor: &mut Visitor<'_>) -> Result<(), Refusal> {
-        let sessions = Unique(Key::new("sessions"), 24, Each(&self.sessions));
-        let pages = Unique(Key::new("pages"), 24, Each(&self.pages));
-        Inside(Key::new("Service"), 48, (sessions, pages)).enter(visitor)
+        let sessions = Unique("sessions", 24, Each(&self.sessions));
+        let pages = Unique("pages", 24, Each(&self.pages));
+        Inside("Service", 48, (sessions, pages)).enter(visitor)
     }
 }
 
@@ -136,17 +133,8 @@ impl Service {
         ensures held { self.new.held ≡ self.old.held }
         ensures unchanged { OnErr result (self.new.history.profiles.items ≡ self.old.history.profiles.items) }
     {
-        let profile = profile_of(alloc, &self.held)?;
+        let profile = profile_value(alloc, &self.held)?;
         self.history.keep(profile.into_flamegraph())?;
         Ok(())
     }
-}
-
-// The profile of what a service holds.
-fn profile_of(alloc: Global, held: &Held) -> Result<FlameGraphOutput, Refusal>
-    ensures { IfOk result (IsProfileOf (⟦<Held as Allocative>⟧.may_show held.now)) }
-{
-    let mut builder = FlameGraphBuilder::new(alloc)?;
-    builder.visit_value(held)?;
-    builder.finish()
 }

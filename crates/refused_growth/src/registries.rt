@@ -5,8 +5,8 @@ ghost use Rattle.std.specs.Prelude.{codes, Some};
 ghost use Rattle.allocative.specs.Shows as shows;
 
 use allocative::{
-    Allocative, Field, FlameGraphBuilder, IdArc, IdRc, Identity, Inside, Key, Part, Refusal,
-    Registry, Visitor, profile_in_two, profile_roots,
+    Allocative, Field, FlameGraphBuilder, IdArc, IdRc, Identity, Inside, Part, Refusal, Registry,
+    Visitor, profile_in_two, profile_roots,
 };
 use std::collections::BTreeMap;
 use std::test::Fail;
@@ -49,8 +49,8 @@ impl Allocative for TestGlobalRoot {
     ghost may_show = { λ _. shows.Inside (codes "TestGlobalRoot") 4 (shows.Field (codes "x") (Some 4) (shows.Field (codes "u32") (Some 4) shows.Nothing)) };
 
     fn visit(&self, visitor: &mut Visitor<'_>) -> Result<(), Refusal> {
-        let x = Field(Key::new("x"), &self.x);
-        Inside(Key::new("TestGlobalRoot"), 4, x).enter(visitor)
+        let x = Field("x", &self.x);
+        Inside("TestGlobalRoot", 4, x).enter(visitor)
     }
 }
 

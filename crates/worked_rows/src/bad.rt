@@ -20,7 +20,7 @@ impl Allocative for Hides {
     ghost may_show = { λ _. shows.Inside (codes "a") (2 ^ 64 - 1) shows.Nothing };
 
     fn visit(&self, visitor: &mut Visitor<'_>) -> Result<(), Refusal> {
-        let _hidden = Inside(Key::new("a"), usize::MAX, ()).enter(visitor);
+        let _hidden = Inside("a", usize::MAX, ()).enter(visitor);
         Ok(())
     }
 }
@@ -85,7 +85,7 @@ impl Allocative for Tells {
 
     fn visit(&self, visitor: &mut Visitor<'_>) -> Result<(), Refusal> {
         let content = Refuses(Refusal::Open);
-        Unique(Key::new("p"), 8, shared_pointer(&content)).enter(visitor)?;
+        Unique("p", 8, shared_pointer(&content)).enter(visitor)?;
         Err(visitor.refuse(Refusal::Memory))
     }
 }
@@ -100,9 +100,9 @@ impl Allocative for Stops {
     ghost may_show = { λ s. shows.InsideUnique (codes "p") 0 (shows.Both (shows.Inside (codes "x") s.room shows.Nothing) (shows.Inside (codes "b") 1 shows.Nothing)) };
 
     fn visit(&self, visitor: &mut Visitor<'_>) -> Result<(), Refusal> {
-        let x = Inside(Key::new("x"), self.room, ());
-        let b = Inside(Key::new("b"), 1, ());
-        Unique(Key::new("p"), 0, (x, b)).enter(visitor)
+        let x = Inside("x", self.room, ());
+        let b = Inside("b", 1, ());
+        Unique("p", 0, (x, b)).enter(visitor)
     }
 }
 
@@ -116,7 +116,7 @@ impl Allocative for StopsInside {
     ghost may_show = { λ s. shows.Inside (codes "T") 0 (⟦<Stops as Allocative>⟧.may_show s.part) };
 
     fn visit(&self, visitor: &mut Visitor<'_>) -> Result<(), Refusal> {
-        Inside(Key::new("T"), 0, &self.part).enter(visitor)
+        Inside("T", 0, &self.part).enter(visitor)
     }
 }
 

@@ -48,9 +48,9 @@ impl Allocative for Data {
     ghost may_show = { λ d. shows.Inside (codes "Data") 16 (shows.Both (shows.Field (codes "a") (Some 1) (⟦<u8 as Allocative>⟧.may_show d.a)) (shows.Field (codes "b") (Some 8) (⟦<Box<u32> as Allocative>⟧.may_show d.b))) };
 
     fn visit(&self, visitor: &mut Visitor<'_>) -> Result<(), Refusal> {
-        let a = Field(Key::new("a"), &self.a);
-        let b = Field(Key::new("b"), &self.b);
-        Inside(Key::new("Data"), 16, (a, b)).enter(visitor)
+        let a = Field("a", &self.a);
+        let b = Field("b", &self.b);
+        Inside("Data", 16, (a, b)).enter(visitor)
     }
 }
 
@@ -90,8 +90,8 @@ impl Allocative for Boxed {
     ghost may_show = { λ b. shows.Inside (codes "Boxed") 8 (shows.Field (codes "data") (Some 8) (⟦<Box<Data> as Allocative>⟧.may_show b.data)) };
 
     fn visit(&self, visitor: &mut Visitor<'_>) -> Result<(), Refusal> {
-        let data = Field(Key::new("data"), &self.data);
-        Inside(Key::new("Boxed"), 8, data).enter(visitor)
+        let data = Field("data", &self.data);
+        Inside("Boxed", 8, data).enter(visitor)
     }
 }
 

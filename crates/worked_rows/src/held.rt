@@ -21,8 +21,8 @@ impl Allocative for Plain {
     ghost may_show = { λ _. shows.Inside (codes "T") 8 (shows.Inside (codes "x") 5 shows.Nothing) };
 
     fn visit(&self, visitor: &mut Visitor<'_>) -> Result<(), Refusal> {
-        let x = Inside(Key::new("x"), 5, ());
-        Inside(Key::new("T"), 8, x).enter(visitor)
+        let x = Inside("x", 5, ());
+        Inside("T", 8, x).enter(visitor)
     }
 }
 
@@ -46,8 +46,8 @@ impl Allocative for Points {
     ghost may_show = { λ _. shows.Inside (codes "T") 8 (shows.InsideUnique (codes "p") 8 (shows.SharedWith (codes "q") 8 (record { maker = 0; number = 1 }) shows.Nothing)) };
 
     fn visit(&self, visitor: &mut Visitor<'_>) -> Result<(), Refusal> {
-        let pointer = Unique(Key::new("p"), 8, shared_pointer(()));
-        Inside(Key::new("T"), 8, pointer).enter(visitor)
+        let pointer = Unique("p", 8, shared_pointer(()));
+        Inside("T", 8, pointer).enter(visitor)
     }
 }
 
@@ -119,8 +119,8 @@ impl Allocative for BoxedSlice {
     ghost may_show = { λ b. shows.Inside (codes "Box") 16 (shows.InsideUnique (codes "ptr") 16 (slice_of (codes "u32") (Some 4) ⟦<u32 as Allocative>⟧.may_show b.numbers.items)) };
 
     fn visit(&self, visitor: &mut Visitor<'_>) -> Result<(), Refusal> {
-        let pointer = Unique(Key::new("ptr"), 16, SliceOf(&self.numbers));
-        Inside(Key::new("Box"), 16, pointer).enter(visitor)
+        let pointer = Unique("ptr", 16, SliceOf(&self.numbers));
+        Inside("Box", 16, pointer).enter(visitor)
     }
 }
 
@@ -160,8 +160,8 @@ impl Allocative for Boxed {
     ghost may_show = { λ b. shows.Inside (codes "Boxed") 16 (shows.Field (codes "data") (Some 16) (⟦<BoxedSlice as Allocative>⟧.may_show b.data)) };
 
     fn visit(&self, visitor: &mut Visitor<'_>) -> Result<(), Refusal> {
-        let data = Field(Key::new("data"), &self.data);
-        Inside(Key::new("Boxed"), 16, data).enter(visitor)
+        let data = Field("data", &self.data);
+        Inside("Boxed", 16, data).enter(visitor)
     }
 }
 
@@ -212,8 +212,8 @@ impl Allocative for BoxedNumber {
     ghost may_show = { λ b. shows.Inside (codes "BoxedNumber") 8 (shows.Field (codes "data") (Some 8) (⟦<Box<u32> as Allocative>⟧.may_show b.data)) };
 
     fn visit(&self, visitor: &mut Visitor<'_>) -> Result<(), Refusal> {
-        let data = Field(Key::new("data"), &self.data);
-        Inside(Key::new("BoxedNumber"), 8, data).enter(visitor)
+        let data = Field("data", &self.data);
+        Inside("BoxedNumber", 8, data).enter(visitor)
     }
 }
 
@@ -249,7 +249,7 @@ impl Allocative for Buffer {
     ghost may_show = { λ b. shows.InsideUnique (codes "ptr") 8 (vec_body (codes "u8") (Some 1) false ⟦<u8 as Allocative>⟧.may_show b.bytes.items (length b.bytes.items)) };
 
     fn visit(&self, visitor: &mut Visitor<'_>) -> Result<(), Refusal> {
-        Unique(Key::new("ptr"), 8, FullBody(&self.bytes)).enter(visitor)
+        Unique("ptr", 8, FullBody(&self.bytes)).enter(visitor)
     }
 }
 
@@ -298,8 +298,8 @@ impl Allocative for HoldsMost {
     ghost may_show = { λ _. shows.InsideUnique (codes "p") 0 (shows.Inside (codes "a") (2 ^ 64 - 1) shows.Nothing) };
 
     fn visit(&self, visitor: &mut Visitor<'_>) -> Result<(), Refusal> {
-        let a = Inside(Key::new("a"), usize::MAX, ());
-        Unique(Key::new("p"), 0, a).enter(visitor)
+        let a = Inside("a", usize::MAX, ());
+        Unique("p", 0, a).enter(visitor)
     }
 }
 
@@ -311,9 +311,9 @@ impl Allocative for HoldsMore {
     ghost may_show = { λ _. shows.InsideUnique (codes "p") 0 (shows.Both (shows.Inside (codes "a") (2 ^ 64 - 1) shows.Nothing) (shows.Inside (codes "b") 1 shows.Nothing)) };
 
     fn visit(&self, visitor: &mut Visitor<'_>) -> Result<(), Refusal> {
-        let a = Inside(Key::new("a"), usize::MAX, ());
-        let b = Inside(Key::new("b"), 1, ());
-        Unique(Key::new("p"), 0, (a, b)).enter(visitor)
+        let a = Inside("a", usize::MAX, ());
+        let b = Inside("b", 1, ());
+        Unique("p", 0, (a, b)).enter(visitor)
     }
 }
 
@@ -325,8 +325,8 @@ impl Allocative for HoldsNone {
     ghost may_show = { λ _. shows.Both (shows.Inside (codes "a") (2 ^ 64 - 1) shows.Nothing) (shows.Inside (codes "b") (2 ^ 64 - 1) shows.Nothing) };
 
     fn visit(&self, visitor: &mut Visitor<'_>) -> Result<(), Refusal> {
-        let a = Inside(Key::new("a"), usize::MAX, ());
-        let b = Inside(Key::new("b"), usize::MAX, ());
+        let a = Inside("a", usize::MAX, ());
+        let b = Inside("b", usize::MAX, ());
         (a, b).enter(visitor)
     }
 }

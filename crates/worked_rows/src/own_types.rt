@@ -33,8 +33,8 @@ impl Allocative for Event {
         let key = Key::new("Event");
         match self {
             Event::Stopped => Inside(key, 32, ()).enter(visitor),
-            Event::Sent(bytes) => Inside(key, 32, Field(Key::new("Sent"), bytes)).enter(visitor),
-            Event::Named(name) => Inside(key, 32, Field(Key::new("Named"), name)).enter(visitor),
+            Event::Sent(bytes) => Inside(key, 32, Field("Sent", bytes)).enter(visitor),
+            Event::Named(name) => Inside(key, 32, Field("Named", name)).enter(visitor),
         }
     }
 }
@@ -49,8 +49,8 @@ impl<T: Allocative + Described> Allocative for Wrapped<T> {
     ghost may_show = { λ w. shows.Inside (codes "Wrapped") 16 (shows.Field (codes "value") T.size (T.may_show w.value)) };
 
     fn visit(&self, visitor: &mut Visitor<'_>) -> Result<(), Refusal> {
-        let value = Field(Key::new("value"), &self.value);
-        Inside(Key::new("Wrapped"), 16, value).enter(visitor)
+        let value = Field("value", &self.value);
+        Inside("Wrapped", 16, value).enter(visitor)
     }
 }
 
@@ -64,8 +64,8 @@ impl Allocative for Handle {
     ghost may_show = { λ h. shows.Inside (codes "Handle") 8 (shows.Field (codes "table") (Some 8) (⟦<IdRc<u64> as Allocative>⟧.may_show h.table)) };
 
     fn visit(&self, visitor: &mut Visitor<'_>) -> Result<(), Refusal> {
-        let table = Field(Key::new("table"), &self.table);
-        Inside(Key::new("Handle"), 8, table).enter(visitor)
+        let table = Field("table", &self.table);
+        Inside("Handle", 8, table).enter(visitor)
     }
 }
 

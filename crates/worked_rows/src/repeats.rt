@@ -23,15 +23,15 @@ fn enter_shared_between(visitor: &mut Visitor<'_>) -> Result<(), Refusal> {
         key: Key::new("p"),
         size: 8,
         identity: Identity::from(1),
-        content: Inside(Key::new("C"), 16, ()),
+        content: Inside("C", 16, ()),
     };
-    Inside(Key::new("S"), 20, (pointer, Inside(Key::new("q"), 2, ()))).enter(visitor)
+    Inside("S", 20, (pointer, Inside("q", 2, ()))).enter(visitor)
 }
 
 // `a 10`, in it `a 4` with `a 1`, and behind that `b 2`.
 fn enter_one_key_at_three_depths(visitor: &mut Visitor<'_>) -> Result<(), Refusal> {
-    let below = Inside(Key::new("a"), 4, Inside(Key::new("a"), 1, ()));
-    Inside(Key::new("a"), 10, (below, Inside(Key::new("b"), 2, ()))).enter(visitor)
+    let below = Inside("a", 4, Inside("a", 1, ()));
+    Inside("a", 10, (below, Inside("b", 2, ()))).enter(visitor)
 }
 
 #[test]

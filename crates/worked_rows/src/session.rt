@@ -5,7 +5,7 @@ ghost use Rattle.std.specs.Prelude.{codes, Some};
 ghost use Rattle.allocative.specs.Shows as shows;
 
 use allocative::{
-    Allocative, Field, FlameGraphBuilder, FlameGraphOutput, Inside, Key, Part, Refusal, Visitor,
+    Allocative, Field, FlameGraphBuilder, FlameGraphOutput, Inside, Part, Refusal, Visitor,
 };
 use std::alloc::Global;
 use std::test::Fail;
@@ -20,9 +20,9 @@ impl Allocative for Session {
     ghost may_show = { λ s. shows.Inside (codes "Session") 48 (shows.Both (shows.Field (codes "name") (Some 24) (⟦<String as Allocative>⟧.may_show s.name)) (shows.Field (codes "scores") (Some 24) (⟦<Vec<u32> as Allocative>⟧.may_show s.scores))) };
 
     fn visit(&self, visitor: &mut Visitor<'_>) -> Result<(), Refusal> {
-        let name = Field(Key::new("name"), &self.name);
-        let scores = Field(Key::new("scores"), &self.scores);
-        Inside(Key::new("Session"), 48, (name, scores)).enter(visitor)
+        let name = Field("name", &self.name);
+        let scores = Field("scores", &self.scores);
+        Inside("Session", 48, (name, scores)).enter(visitor)
     }
 }
 

@@ -5,7 +5,7 @@ ghost use Rattle.std.specs.Prelude.{codes, None, Some, false, ◌≡◌};
 ghost use Rattle.worked_rows.specs.Items.{item_shows};
 
 use allocative::{
-    Allocative, Described, FlameGraphBuilder, IdArc, Identity, Inside, Key, Part, Refusal, Visitor,
+    Allocative, Described, FlameGraphBuilder, IdArc, Identity, Inside, Part, Refusal, Visitor,
     profile_in_two,
 };
 use std::alloc::Global;
@@ -139,10 +139,10 @@ impl Allocative for Item {
             return Err(visitor.refuse(Refusal::Memory));
         }
         let Some(inner_size) = self.inner else {
-            return Inside(Key::new("a"), self.size, ()).enter(visitor);
+            return Inside("a", self.size, ()).enter(visitor);
         };
-        let inner = Inside(Key::new("x"), inner_size, ());
-        Inside(Key::new("a"), self.size, inner).enter(visitor)
+        let inner = Inside("x", inner_size, ());
+        Inside("a", self.size, inner).enter(visitor)
     }
 }
 

@@ -7,7 +7,7 @@ ghost use Rattle.allocative.specs.Shows as shows;
 use crate::held::{assert_held, assert_whole};
 use crate::rows::{assert_collected, assert_output, assert_text};
 use allocative::{
-    Allocative, Described, Field, FlameGraphBuilder, IdArc, Identity, Inside, Key, Part, Refusal,
+    Allocative, Described, Field, FlameGraphBuilder, IdArc, Identity, Inside, Part, Refusal,
     Registry, Unique, Visitor, profile_roots,
 };
 use std::collections::BTreeMap;
@@ -48,8 +48,8 @@ impl Allocative for CacheLine {
     ghost may_show = { λ _. shows.Inside (codes "CacheLine") 64 (shows.Field (codes "0") (Some 1) (shows.Field (codes "u8") (Some 1) shows.Nothing)) };
 
     fn visit(&self, visitor: &mut Visitor<'_>) -> Result<(), Refusal> {
-        let byte = Field(Key::new("0"), &self.0);
-        Inside(Key::new("CacheLine"), 64, byte).enter(visitor)
+        let byte = Field("0", &self.0);
+        Inside("CacheLine", 64, byte).enter(visitor)
     }
 }
 
@@ -87,9 +87,9 @@ impl Allocative for Nested {
     ghost may_show = { λ _. shows.Inside (codes "T") 8 (shows.InsideUnique (codes "p") 8 (shows.InsideUnique (codes "q") 8 (shows.Inside (codes "d") 5 shows.Nothing))) };
 
     fn visit(&self, visitor: &mut Visitor<'_>) -> Result<(), Refusal> {
-        let inner = Unique(Key::new("q"), 8, Inside(Key::new("d"), 5, ()));
-        let outer = Unique(Key::new("p"), 8, inner);
-        Inside(Key::new("T"), 8, outer).enter(visitor)
+        let inner = Unique("q", 8, Inside("d", 5, ()));
+        let outer = Unique("p", 8, inner);
+        Inside("T", 8, outer).enter(visitor)
     }
 }
 
@@ -128,8 +128,8 @@ impl Allocative for TestGlobalRoot {
     ghost may_show = { λ _. shows.Inside (codes "TestGlobalRoot") 4 (shows.Field (codes "x") (Some 4) (shows.Field (codes "u32") (Some 4) shows.Nothing)) };
 
     fn visit(&self, visitor: &mut Visitor<'_>) -> Result<(), Refusal> {
-        let x = Field(Key::new("x"), &self.x);
-        Inside(Key::new("TestGlobalRoot"), 4, x).enter(visitor)
+        let x = Field("x", &self.x);
+        Inside("TestGlobalRoot", 4, x).enter(visitor)
     }
 }
 

@@ -86,8 +86,8 @@ impl Allocative for Pair {
     ghost may_show = { λ _. shows.Inside (codes "Pair") 4 (shows.Inside (codes "a") 1 shows.Nothing) };
 
     fn visit(&self, visitor: &mut Visitor<'_>) -> Result<(), Refusal> {
-        let a = Inside(Key::new("a"), 1, ());
-        Inside(Key::new("Pair"), 4, a).enter(visitor)
+        let a = Inside("a", 1, ());
+        Inside("Pair", 4, a).enter(visitor)
     }
 }
 
@@ -292,7 +292,7 @@ impl Allocative for Body {
     ghost may_show = { λ s. shows.InsideUnique (codes "ptr") 8 (vec_body (codes "u8") (Some 1) false (λ _. shows.Field (codes "u8") (Some 1) shows.Nothing) s.items.items (length s.items.items)) };
 
     fn visit(&self, visitor: &mut Visitor<'_>) -> Result<(), Refusal> {
-        Unique(Key::new("ptr"), 8, FullBody(&self.items)).enter(visitor)
+        Unique("ptr", 8, FullBody(&self.items)).enter(visitor)
     }
 }
 

@@ -5,7 +5,7 @@ ghost use Rattle.std.specs.Prelude.{codes, Some, true, false};
 ghost use Rattle.allocative.specs.Shows.{Nothing, Inside, Field, Both};
 
 use super::*;
-use allocative::{Allocative, Described, Field, Inside, Key, Part, Refusal, Visitor};
+use allocative::{Allocative, Described, Field, Inside, Part, Refusal, Visitor};
 
 impl Described for OfOne {
     ghost name = { codes "OfOne" };
@@ -37,8 +37,8 @@ impl Allocative for OfOne {
     ghost may_show = { λ x. Inside (codes "OfOne") 8 (Field (codes "number") (Some 8) (⟦<u64 as Allocative>⟧.may_show x.number)) };
 
     fn visit(&self, visitor: &mut Visitor<'_>) -> Result<(), Refusal> {
-        let a = Field(Key::new("number"), &self.number);
-        let key = Key::new("OfOne");
+        let a = Field("number", &self.number);
+        let key = "OfOne";
         Inside(key, 8, a).enter(visitor)
     }
 }
@@ -75,9 +75,9 @@ impl Allocative for OfTwo {
         (Field (codes "name") (Some 24) (⟦<String as Allocative>⟧.may_show x.name))) };
 
     fn visit(&self, visitor: &mut Visitor<'_>) -> Result<(), Refusal> {
-        let a = Field(Key::new("number"), &self.number);
-        let b = Field(Key::new("name"), &self.name);
-        let key = Key::new("OfTwo");
+        let a = Field("number", &self.number);
+        let b = Field("name", &self.name);
+        let key = "OfTwo";
         Inside(key, 32, (a, b)).enter(visitor)
     }
 }
@@ -115,10 +115,10 @@ impl Allocative for OfThree {
         (Field (codes "count") (Some 4) (⟦<u32 as Allocative>⟧.may_show x.count)))) };
 
     fn visit(&self, visitor: &mut Visitor<'_>) -> Result<(), Refusal> {
-        let a = Field(Key::new("number"), &self.number);
-        let b = Field(Key::new("name"), &self.name);
-        let c = Field(Key::new("count"), &self.count);
-        let key = Key::new("OfThree");
+        let a = Field("number", &self.number);
+        let b = Field("name", &self.name);
+        let c = Field("count", &self.count);
+        let key = "OfThree";
         Inside(key, 40, (a, b, c)).enter(visitor)
     }
 }
@@ -157,11 +157,11 @@ impl Allocative for OfFour {
         (Field (codes "marks") (Some 24) (⟦<Vec<u32> as Allocative>⟧.may_show x.marks))))) };
 
     fn visit(&self, visitor: &mut Visitor<'_>) -> Result<(), Refusal> {
-        let a = Field(Key::new("number"), &self.number);
-        let b = Field(Key::new("name"), &self.name);
-        let c = Field(Key::new("count"), &self.count);
-        let d = Field(Key::new("marks"), &self.marks);
-        let key = Key::new("OfFour");
+        let a = Field("number", &self.number);
+        let b = Field("name", &self.name);
+        let c = Field("count", &self.count);
+        let d = Field("marks", &self.marks);
+        let key = "OfFour";
         Inside(key, 64, (a, b, c, d)).enter(visitor)
     }
 }
@@ -201,12 +201,12 @@ impl Allocative for OfFive {
         (Field (codes "is_open") (Some 1) (⟦<bool as Allocative>⟧.may_show x.is_open)))))) };
 
     fn visit(&self, visitor: &mut Visitor<'_>) -> Result<(), Refusal> {
-        let a = Field(Key::new("number"), &self.number);
-        let b = Field(Key::new("name"), &self.name);
-        let c = Field(Key::new("count"), &self.count);
-        let d = Field(Key::new("marks"), &self.marks);
-        let e = Field(Key::new("is_open"), &self.is_open);
-        let key = Key::new("OfFive");
+        let a = Field("number", &self.number);
+        let b = Field("name", &self.name);
+        let c = Field("count", &self.count);
+        let d = Field("marks", &self.marks);
+        let e = Field("is_open", &self.is_open);
+        let key = "OfFive";
         Inside(key, 64, (a, b, c, d, e)).enter(visitor)
     }
 }
@@ -250,7 +250,7 @@ impl Allocative for OfSix {
     fn visit(&self, visitor: &mut Visitor<'_>) -> Result<(), Refusal> {
         let a = OfSixPart1(self);
         let b = OfSixPart2(self);
-        let key = Key::new("OfSix");
+        let key = "OfSix";
         Inside(key, 80, (a, b)).enter(visitor)
     }
 }
@@ -267,11 +267,11 @@ impl<'part> Part for OfSixPart1<'part> {
         (Field (codes "is_open") (Some 1) (⟦<bool as Allocative>⟧.may_show x.0.now.is_open))))) };
 
     fn enter(self, visitor: &mut Visitor<'_>) -> Result<(), Refusal> {
-        let a = Field(Key::new("number"), &self.0.number);
-        let b = Field(Key::new("name"), &self.0.name);
-        let c = Field(Key::new("count"), &self.0.count);
-        let d = Field(Key::new("marks"), &self.0.marks);
-        let e = Field(Key::new("is_open"), &self.0.is_open);
+        let a = Field("number", &self.0.number);
+        let b = Field("name", &self.0.name);
+        let c = Field("count", &self.0.count);
+        let d = Field("marks", &self.0.marks);
+        let e = Field("is_open", &self.0.is_open);
         (a, b, c, d, e).enter(visitor)
     }
 }
@@ -283,7 +283,7 @@ impl<'part> Part for OfSixPart2<'part> {
     ghost may_show = { λ x. Field (codes "limit") (Some 16) (⟦<Option<u64> as Allocative>⟧.may_show x.0.now.limit) };
 
     fn enter(self, visitor: &mut Visitor<'_>) -> Result<(), Refusal> {
-        let a = Field(Key::new("limit"), &self.0.limit);
+        let a = Field("limit", &self.0.limit);
         a.enter(visitor)
     }
 }
@@ -329,7 +329,7 @@ impl Allocative for OfSeven {
     fn visit(&self, visitor: &mut Visitor<'_>) -> Result<(), Refusal> {
         let a = OfSevenPart1(self);
         let b = OfSevenPart2(self);
-        let key = Key::new("OfSeven");
+        let key = "OfSeven";
         Inside(key, 88, (a, b)).enter(visitor)
     }
 }
@@ -346,11 +346,11 @@ impl<'part> Part for OfSevenPart1<'part> {
         (Field (codes "is_open") (Some 1) (⟦<bool as Allocative>⟧.may_show x.0.now.is_open))))) };
 
     fn enter(self, visitor: &mut Visitor<'_>) -> Result<(), Refusal> {
-        let a = Field(Key::new("number"), &self.0.number);
-        let b = Field(Key::new("name"), &self.0.name);
-        let c = Field(Key::new("count"), &self.0.count);
-        let d = Field(Key::new("marks"), &self.0.marks);
-        let e = Field(Key::new("is_open"), &self.0.is_open);
+        let a = Field("number", &self.0.number);
+        let b = Field("name", &self.0.name);
+        let c = Field("count", &self.0.count);
+        let d = Field("marks", &self.0.marks);
+        let e = Field("is_open", &self.0.is_open);
         (a, b, c, d, e).enter(visitor)
     }
 }
@@ -364,8 +364,8 @@ impl<'part> Part for OfSevenPart2<'part> {
         (Field (codes "place") (Some 8) (⟦<(u32, u32) as Allocative>⟧.may_show x.0.now.place)) };
 
     fn enter(self, visitor: &mut Visitor<'_>) -> Result<(), Refusal> {
-        let a = Field(Key::new("limit"), &self.0.limit);
-        let b = Field(Key::new("place"), &self.0.place);
+        let a = Field("limit", &self.0.limit);
+        let b = Field("place", &self.0.place);
         (a, b).enter(visitor)
     }
 }
@@ -412,7 +412,7 @@ impl Allocative for OfEight {
     fn visit(&self, visitor: &mut Visitor<'_>) -> Result<(), Refusal> {
         let a = OfEightPart1(self);
         let b = OfEightPart2(self);
-        let key = Key::new("OfEight");
+        let key = "OfEight";
         Inside(key, 88, (a, b)).enter(visitor)
     }
 }
@@ -429,11 +429,11 @@ impl<'part> Part for OfEightPart1<'part> {
         (Field (codes "is_open") (Some 1) (⟦<bool as Allocative>⟧.may_show x.0.now.is_open))))) };
 
     fn enter(self, visitor: &mut Visitor<'_>) -> Result<(), Refusal> {
-        let a = Field(Key::new("number"), &self.0.number);
-        let b = Field(Key::new("name"), &self.0.name);
-        let c = Field(Key::new("count"), &self.0.count);
-        let d = Field(Key::new("marks"), &self.0.marks);
-        let e = Field(Key::new("is_open"), &self.0.is_open);
+        let a = Field("number", &self.0.number);
+        let b = Field("name", &self.0.name);
+        let c = Field("count", &self.0.count);
+        let d = Field("marks", &self.0.marks);
+        let e = Field("is_open", &self.0.is_open);
         (a, b, c, d, e).enter(visitor)
     }
 }
@@ -448,9 +448,9 @@ impl<'part> Part for OfEightPart2<'part> {
         (Field (codes "width") (Some 2) (⟦<u16 as Allocative>⟧.may_show x.0.now.width))) };
 
     fn enter(self, visitor: &mut Visitor<'_>) -> Result<(), Refusal> {
-        let a = Field(Key::new("limit"), &self.0.limit);
-        let b = Field(Key::new("place"), &self.0.place);
-        let c = Field(Key::new("width"), &self.0.width);
+        let a = Field("limit", &self.0.limit);
+        let b = Field("place", &self.0.place);
+        let c = Field("width", &self.0.width);
         (a, b, c).enter(visitor)
     }
 }
@@ -501,7 +501,7 @@ impl Allocative for OfEleven {
         let a = OfElevenPart1(self);
         let b = OfElevenPart2(self);
         let c = OfElevenPart3(self);
-        let key = Key::new("OfEleven");
+        let key = "OfEleven";
         Inside(key, 96, (a, b, c)).enter(visitor)
     }
 }
@@ -518,11 +518,11 @@ impl<'part> Part for OfElevenPart1<'part> {
         (Field (codes "is_open") (Some 4) (⟦<u32 as Allocative>⟧.may_show x.0.now.is_open))))) };
 
     fn enter(self, visitor: &mut Visitor<'_>) -> Result<(), Refusal> {
-        let a = Field(Key::new("number"), &self.0.number);
-        let b = Field(Key::new("name"), &self.0.name);
-        let c = Field(Key::new("count"), &self.0.count);
-        let d = Field(Key::new("marks"), &self.0.marks);
-        let e = Field(Key::new("is_open"), &self.0.is_open);
+        let a = Field("number", &self.0.number);
+        let b = Field("name", &self.0.name);
+        let c = Field("count", &self.0.count);
+        let d = Field("marks", &self.0.marks);
+        let e = Field("is_open", &self.0.is_open);
         (a, b, c, d, e).enter(visitor)
     }
 }
@@ -539,11 +539,11 @@ impl<'part> Part for OfElevenPart2<'part> {
         (Field (codes "depth") (Some 24) (⟦<String as Allocative>⟧.may_show x.0.now.depth))))) };
 
     fn enter(self, visitor: &mut Visitor<'_>) -> Result<(), Refusal> {
-        let a = Field(Key::new("limit"), &self.0.limit);
-        let b = Field(Key::new("place"), &self.0.place);
-        let c = Field(Key::new("width"), &self.0.width);
-        let d = Field(Key::new("height"), &self.0.height);
-        let e = Field(Key::new("depth"), &self.0.depth);
+        let a = Field("limit", &self.0.limit);
+        let b = Field("place", &self.0.place);
+        let c = Field("width", &self.0.width);
+        let d = Field("height", &self.0.height);
+        let e = Field("depth", &self.0.depth);
         (a, b, c, d, e).enter(visitor)
     }
 }
@@ -555,7 +555,7 @@ impl<'part> Part for OfElevenPart3<'part> {
     ghost may_show = { λ x. Field (codes "label") (Some 4) (⟦<u32 as Allocative>⟧.may_show x.0.now.label) };
 
     fn enter(self, visitor: &mut Visitor<'_>) -> Result<(), Refusal> {
-        let a = Field(Key::new("label"), &self.0.label);
+        let a = Field("label", &self.0.label);
         a.enter(visitor)
     }
 }
@@ -609,7 +609,7 @@ impl Allocative for OfThirteen {
         let a = OfThirteenPart1(self);
         let b = OfThirteenPart2(self);
         let c = OfThirteenPart3(self);
-        let key = Key::new("OfThirteen");
+        let key = "OfThirteen";
         Inside(key, 104, (a, b, c)).enter(visitor)
     }
 }
@@ -626,11 +626,11 @@ impl<'part> Part for OfThirteenPart1<'part> {
         (Field (codes "is_open") (Some 4) (⟦<u32 as Allocative>⟧.may_show x.0.now.is_open))))) };
 
     fn enter(self, visitor: &mut Visitor<'_>) -> Result<(), Refusal> {
-        let a = Field(Key::new("number"), &self.0.number);
-        let b = Field(Key::new("name"), &self.0.name);
-        let c = Field(Key::new("count"), &self.0.count);
-        let d = Field(Key::new("marks"), &self.0.marks);
-        let e = Field(Key::new("is_open"), &self.0.is_open);
+        let a = Field("number", &self.0.number);
+        let b = Field("name", &self.0.name);
+        let c = Field("count", &self.0.count);
+        let d = Field("marks", &self.0.marks);
+        let e = Field("is_open", &self.0.is_open);
         (a, b, c, d, e).enter(visitor)
     }
 }
@@ -647,11 +647,11 @@ impl<'part> Part for OfThirteenPart2<'part> {
         (Field (codes "depth") (Some 24) (⟦<String as Allocative>⟧.may_show x.0.now.depth))))) };
 
     fn enter(self, visitor: &mut Visitor<'_>) -> Result<(), Refusal> {
-        let a = Field(Key::new("limit"), &self.0.limit);
-        let b = Field(Key::new("place"), &self.0.place);
-        let c = Field(Key::new("width"), &self.0.width);
-        let d = Field(Key::new("height"), &self.0.height);
-        let e = Field(Key::new("depth"), &self.0.depth);
+        let a = Field("limit", &self.0.limit);
+        let b = Field("place", &self.0.place);
+        let c = Field("width", &self.0.width);
+        let d = Field("height", &self.0.height);
+        let e = Field("depth", &self.0.depth);
         (a, b, c, d, e).enter(visitor)
     }
 }
@@ -666,9 +666,9 @@ impl<'part> Part for OfThirteenPart3<'part> {
         (Field (codes "seller") (Some 1) (⟦<bool as Allocative>⟧.may_show x.0.now.seller))) };
 
     fn enter(self, visitor: &mut Visitor<'_>) -> Result<(), Refusal> {
-        let a = Field(Key::new("label"), &self.0.label);
-        let b = Field(Key::new("price"), &self.0.price);
-        let c = Field(Key::new("seller"), &self.0.seller);
+        let a = Field("label", &self.0.label);
+        let b = Field("price", &self.0.price);
+        let c = Field("seller", &self.0.seller);
         (a, b, c).enter(visitor)
     }
 }
@@ -726,7 +726,7 @@ impl Allocative for OfSixteen {
         let b = OfSixteenPart2(self);
         let c = OfSixteenPart3(self);
         let d = OfSixteenPart4(self);
-        let key = Key::new("OfSixteen");
+        let key = "OfSixteen";
         Inside(key, 112, (a, b, c, d)).enter(visitor)
     }
 }
@@ -743,11 +743,11 @@ impl<'part> Part for OfSixteenPart1<'part> {
         (Field (codes "is_open") (Some 4) (⟦<u32 as Allocative>⟧.may_show x.0.now.is_open))))) };
 
     fn enter(self, visitor: &mut Visitor<'_>) -> Result<(), Refusal> {
-        let a = Field(Key::new("number"), &self.0.number);
-        let b = Field(Key::new("name"), &self.0.name);
-        let c = Field(Key::new("count"), &self.0.count);
-        let d = Field(Key::new("marks"), &self.0.marks);
-        let e = Field(Key::new("is_open"), &self.0.is_open);
+        let a = Field("number", &self.0.number);
+        let b = Field("name", &self.0.name);
+        let c = Field("count", &self.0.count);
+        let d = Field("marks", &self.0.marks);
+        let e = Field("is_open", &self.0.is_open);
         (a, b, c, d, e).enter(visitor)
     }
 }
@@ -764,11 +764,11 @@ impl<'part> Part for OfSixteenPart2<'part> {
         (Field (codes "depth") (Some 24) (⟦<String as Allocative>⟧.may_show x.0.now.depth))))) };
 
     fn enter(self, visitor: &mut Visitor<'_>) -> Result<(), Refusal> {
-        let a = Field(Key::new("limit"), &self.0.limit);
-        let b = Field(Key::new("place"), &self.0.place);
-        let c = Field(Key::new("width"), &self.0.width);
-        let d = Field(Key::new("height"), &self.0.height);
-        let e = Field(Key::new("depth"), &self.0.depth);
+        let a = Field("limit", &self.0.limit);
+        let b = Field("place", &self.0.place);
+        let c = Field("width", &self.0.width);
+        let d = Field("height", &self.0.height);
+        let e = Field("depth", &self.0.depth);
         (a, b, c, d, e).enter(visitor)
     }
 }
@@ -785,11 +785,11 @@ impl<'part> Part for OfSixteenPart3<'part> {
         (Field (codes "weight") (Some 4) (⟦<u32 as Allocative>⟧.may_show x.0.now.weight))))) };
 
     fn enter(self, visitor: &mut Visitor<'_>) -> Result<(), Refusal> {
-        let a = Field(Key::new("label"), &self.0.label);
-        let b = Field(Key::new("price"), &self.0.price);
-        let c = Field(Key::new("seller"), &self.0.seller);
-        let d = Field(Key::new("is_paid"), &self.0.is_paid);
-        let e = Field(Key::new("weight"), &self.0.weight);
+        let a = Field("label", &self.0.label);
+        let b = Field("price", &self.0.price);
+        let c = Field("seller", &self.0.seller);
+        let d = Field("is_paid", &self.0.is_paid);
+        let e = Field("weight", &self.0.weight);
         (a, b, c, d, e).enter(visitor)
     }
 }
@@ -801,7 +801,7 @@ impl<'part> Part for OfSixteenPart4<'part> {
     ghost may_show = { λ x. Field (codes "colour") (Some 2) (⟦<u16 as Allocative>⟧.may_show x.0.now.colour) };
 
     fn enter(self, visitor: &mut Visitor<'_>) -> Result<(), Refusal> {
-        let a = Field(Key::new("colour"), &self.0.colour);
+        let a = Field("colour", &self.0.colour);
         a.enter(visitor)
     }
 }
@@ -864,7 +864,7 @@ impl Allocative for OfTwenty {
         let b = OfTwentyPart2(self);
         let c = OfTwentyPart3(self);
         let d = OfTwentyPart4(self);
-        let key = Key::new("OfTwenty");
+        let key = "OfTwenty";
         Inside(key, 128, (a, b, c, d)).enter(visitor)
     }
 }
@@ -881,11 +881,11 @@ impl<'part> Part for OfTwentyPart1<'part> {
         (Field (codes "is_open") (Some 4) (⟦<u32 as Allocative>⟧.may_show x.0.now.is_open))))) };
 
     fn enter(self, visitor: &mut Visitor<'_>) -> Result<(), Refusal> {
-        let a = Field(Key::new("number"), &self.0.number);
-        let b = Field(Key::new("name"), &self.0.name);
-        let c = Field(Key::new("count"), &self.0.count);
-        let d = Field(Key::new("marks"), &self.0.marks);
-        let e = Field(Key::new("is_open"), &self.0.is_open);
+        let a = Field("number", &self.0.number);
+        let b = Field("name", &self.0.name);
+        let c = Field("count", &self.0.count);
+        let d = Field("marks", &self.0.marks);
+        let e = Field("is_open", &self.0.is_open);
         (a, b, c, d, e).enter(visitor)
     }
 }
@@ -902,11 +902,11 @@ impl<'part> Part for OfTwentyPart2<'part> {
         (Field (codes "depth") (Some 24) (⟦<String as Allocative>⟧.may_show x.0.now.depth))))) };
 
     fn enter(self, visitor: &mut Visitor<'_>) -> Result<(), Refusal> {
-        let a = Field(Key::new("limit"), &self.0.limit);
-        let b = Field(Key::new("place"), &self.0.place);
-        let c = Field(Key::new("width"), &self.0.width);
-        let d = Field(Key::new("height"), &self.0.height);
-        let e = Field(Key::new("depth"), &self.0.depth);
+        let a = Field("limit", &self.0.limit);
+        let b = Field("place", &self.0.place);
+        let c = Field("width", &self.0.width);
+        let d = Field("height", &self.0.height);
+        let e = Field("depth", &self.0.depth);
         (a, b, c, d, e).enter(visitor)
     }
 }
@@ -923,11 +923,11 @@ impl<'part> Part for OfTwentyPart3<'part> {
         (Field (codes "weight") (Some 4) (⟦<u32 as Allocative>⟧.may_show x.0.now.weight))))) };
 
     fn enter(self, visitor: &mut Visitor<'_>) -> Result<(), Refusal> {
-        let a = Field(Key::new("label"), &self.0.label);
-        let b = Field(Key::new("price"), &self.0.price);
-        let c = Field(Key::new("seller"), &self.0.seller);
-        let d = Field(Key::new("is_paid"), &self.0.is_paid);
-        let e = Field(Key::new("weight"), &self.0.weight);
+        let a = Field("label", &self.0.label);
+        let b = Field("price", &self.0.price);
+        let c = Field("seller", &self.0.seller);
+        let d = Field("is_paid", &self.0.is_paid);
+        let e = Field("weight", &self.0.weight);
         (a, b, c, d, e).enter(visitor)
     }
 }
@@ -944,11 +944,11 @@ impl<'part> Part for OfTwentyPart4<'part> {
         (Field (codes "is_old") (Some 4) (⟦<u32 as Allocative>⟧.may_show x.0.now.is_old))))) };
 
     fn enter(self, visitor: &mut Visitor<'_>) -> Result<(), Refusal> {
-        let a = Field(Key::new("colour"), &self.0.colour);
-        let b = Field(Key::new("first"), &self.0.first);
-        let c = Field(Key::new("last"), &self.0.last);
-        let d = Field(Key::new("total"), &self.0.total);
-        let e = Field(Key::new("is_old"), &self.0.is_old);
+        let a = Field("colour", &self.0.colour);
+        let b = Field("first", &self.0.first);
+        let c = Field("last", &self.0.last);
+        let d = Field("total", &self.0.total);
+        let e = Field("is_old", &self.0.is_old);
         (a, b, c, d, e).enter(visitor)
     }
 }
@@ -983,7 +983,7 @@ impl Allocative for Nowhere {
     ghost may_show = { λ x. Inside (codes "Nowhere") 0 (Nothing) };
 
     fn visit(&self, visitor: &mut Visitor<'_>) -> Result<(), Refusal> {
-        let key = Key::new("Nowhere");
+        let key = "Nowhere";
         Inside(key, 0, ()).enter(visitor)
     }
 }
@@ -1020,9 +1020,9 @@ impl Allocative for Point {
         (Field (codes "1") (Some 4) (⟦<u32 as Allocative>⟧.may_show x.1))) };
 
     fn visit(&self, visitor: &mut Visitor<'_>) -> Result<(), Refusal> {
-        let a = Field(Key::new("0"), &self.0);
-        let b = Field(Key::new("1"), &self.1);
-        let key = Key::new("Point");
+        let a = Field("0", &self.0);
+        let b = Field("1", &self.1);
+        let key = "Point";
         Inside(key, 8, (a, b)).enter(visitor)
     }
 }
@@ -1066,7 +1066,7 @@ impl Allocative for Sextet {
     fn visit(&self, visitor: &mut Visitor<'_>) -> Result<(), Refusal> {
         let a = SextetPart1(self);
         let b = SextetPart2(self);
-        let key = Key::new("Sextet");
+        let key = "Sextet";
         Inside(key, 8, (a, b)).enter(visitor)
     }
 }
@@ -1083,11 +1083,11 @@ impl<'part> Part for SextetPart1<'part> {
         (Field (codes "4") (Some 1) (⟦<u8 as Allocative>⟧.may_show x.0.now.4))))) };
 
     fn enter(self, visitor: &mut Visitor<'_>) -> Result<(), Refusal> {
-        let a = Field(Key::new("0"), &self.0.0);
-        let b = Field(Key::new("1"), &self.0.1);
-        let c = Field(Key::new("2"), &self.0.2);
-        let d = Field(Key::new("3"), &self.0.3);
-        let e = Field(Key::new("4"), &self.0.4);
+        let a = Field("0", &self.0.0);
+        let b = Field("1", &self.0.1);
+        let c = Field("2", &self.0.2);
+        let d = Field("3", &self.0.3);
+        let e = Field("4", &self.0.4);
         (a, b, c, d, e).enter(visitor)
     }
 }
@@ -1099,7 +1099,7 @@ impl<'part> Part for SextetPart2<'part> {
     ghost may_show = { λ x. Field (codes "5") (Some 2) (⟦<u16 as Allocative>⟧.may_show x.0.now.5) };
 
     fn enter(self, visitor: &mut Visitor<'_>) -> Result<(), Refusal> {
-        let a = Field(Key::new("5"), &self.0.5);
+        let a = Field("5", &self.0.5);
         a.enter(visitor)
     }
 }
@@ -1138,11 +1138,11 @@ impl Allocative for Mark {
         (Field (codes "later") (Some 1) (⟦<bool as Allocative>⟧.may_show x.later))))) };
 
     fn visit(&self, visitor: &mut Visitor<'_>) -> Result<(), Refusal> {
-        let a = Field(Key::new("point"), &self.point);
-        let b = Field(Key::new("name"), &self.name);
-        let c = Inside(Key::new("mean"), 8, ());
-        let d = Field(Key::new("later"), &self.later);
-        let key = Key::new("Mark");
+        let a = Field("point", &self.point);
+        let b = Field("name", &self.name);
+        let c = Inside("mean", 8, ());
+        let d = Field("later", &self.later);
+        let key = "Mark";
         Inside(key, 56, (a, b, c, d)).enter(visitor)
     }
 }
@@ -1200,21 +1200,21 @@ impl Allocative for Request {
     ]) };
 
     fn visit(&self, visitor: &mut Visitor<'_>) -> Result<(), Refusal> {
-        let key = Key::new("Request");
+        let key = "Request";
         match self {
             Request::Ping => Inside(key, 40, ()).enter(visitor),
             Request::Find(a) => {
-                let a = Field(Key::new("Find"), a);
+                let a = Field("Find", a);
                 Inside(key, 40, a).enter(visitor)
             }
             Request::Move(a, b) => {
-                let a = Field(Key::new("0"), a);
-                let b = Field(Key::new("1"), b);
+                let a = Field("0", a);
+                let b = Field("1", b);
                 Inside(key, 40, (a, b)).enter(visitor)
             }
             Request::Put { name: a, value: b } => {
-                let a = Field(Key::new("name"), a);
-                let b = Field(Key::new("value"), b);
+                let a = Field("name", a);
+                let b = Field("value", b);
                 Inside(key, 40, (a, b)).enter(visitor)
             }
             Request::Mix {
@@ -1222,21 +1222,21 @@ impl Allocative for Request {
                 second: b,
                 is_deep: c,
             } => {
-                let a = Field(Key::new("first"), a);
-                let b = Field(Key::new("second"), b);
-                let c = Field(Key::new("is_deep"), c);
+                let a = Field("first", a);
+                let b = Field("second", b);
+                let c = Field("is_deep", c);
                 Inside(key, 40, (a, b, c)).enter(visitor)
             }
             Request::Draw(a, b, c, d, e) => {
-                let a = Field(Key::new("0"), a);
-                let b = Field(Key::new("1"), b);
-                let c = Field(Key::new("2"), c);
-                let d = Field(Key::new("3"), d);
-                let e = Field(Key::new("4"), e);
+                let a = Field("0", a);
+                let b = Field("1", b);
+                let c = Field("2", c);
+                let d = Field("3", d);
+                let e = Field("4", e);
                 Inside(key, 40, (a, b, c, d, e)).enter(visitor)
             }
             Request::Wait(a, _) => {
-                let a = Field(Key::new("0"), a);
+                let a = Field("0", a);
                 Inside(key, 40, a).enter(visitor)
             }
             Request::Stop => Inside(key, 40, ()).enter(visitor),
@@ -1290,10 +1290,10 @@ where
         (Field (codes "spare") ⟦<Option<V> as Described>⟧.size (⟦<Option<V> as Allocative>⟧.may_show x.spare)))) };
 
     fn visit(&self, visitor: &mut Visitor<'_>) -> Result<(), Refusal> {
-        let a = Field(Key::new("values"), &self.values);
-        let b = Field(Key::new("last"), &self.last);
-        let c = Field(Key::new("spare"), &self.spare);
-        let key = Key::new("Table");
+        let a = Field("values", &self.values);
+        let b = Field("last", &self.last);
+        let c = Field("spare", &self.spare);
+        let key = "Table";
         Inside(key, TABLE_SIZE, (a, b, c)).enter(visitor)
     }
 }
@@ -1341,12 +1341,12 @@ impl<T: Allocative + Described> Allocative for Named<T> {
     ]) };
 
     fn visit(&self, visitor: &mut Visitor<'_>) -> Result<(), Refusal> {
-        let key = Key::new("Named");
+        let key = "Named";
         match self {
             Named::Nobody => Inside(key, NAMED_SIZE, ()).enter(visitor),
             Named::Somebody(a, b) => {
-                let a = Field(Key::new("0"), a);
-                let b = Field(Key::new("1"), b);
+                let a = Field("0", a);
+                let b = Field("1", b);
                 Inside(key, NAMED_SIZE, (a, b)).enter(visitor)
             }
         }
@@ -1364,9 +1364,9 @@ impl<'a, const N: usize> Allocative for Found<'a, N> {
         (Field (codes "counts") (Some 24) (⟦<BTreeMap<u64, Vec<Request>> as Allocative>⟧.may_show x.counts))) };
 
     fn visit(&self, visitor: &mut Visitor<'_>) -> Result<(), Refusal> {
-        let a = Field(Key::new("places"), &self.places);
-        let b = Field(Key::new("counts"), &self.counts);
-        let key = Key::new("Found");
+        let a = Field("places", &self.places);
+        let b = Field("counts", &self.counts);
+        let key = "Found";
         Inside(key, FOUND_SIZE, (a, b)).enter(visitor)
     }
 }
@@ -1419,7 +1419,7 @@ impl<T: Allocative + Described> Allocative for Route<T> {
     fn visit(&self, visitor: &mut Visitor<'_>) -> Result<(), Refusal> {
         let a = RoutePart1(self);
         let b = RoutePart2(self);
-        let key = Key::new("Route");
+        let key = "Route";
         Inside(key, ROUTE_SIZE, (a, b)).enter(visitor)
     }
 }
@@ -1436,11 +1436,11 @@ impl<'part, T: Allocative + Described> Part for RoutePart1<'part, T> {
         (Field (codes "steps") (Some 24) (⟦<Vec<T> as Allocative>⟧.may_show x.0.now.steps))))) };
 
     fn enter(self, visitor: &mut Visitor<'_>) -> Result<(), Refusal> {
-        let a = Field(Key::new("name"), &self.0.name);
-        let b = Field(Key::new("first"), &self.0.first);
-        let c = Field(Key::new("last"), &self.0.last);
-        let d = Field(Key::new("between"), &self.0.between);
-        let e = Field(Key::new("steps"), &self.0.steps);
+        let a = Field("name", &self.0.name);
+        let b = Field("first", &self.0.first);
+        let c = Field("last", &self.0.last);
+        let d = Field("between", &self.0.between);
+        let e = Field("steps", &self.0.steps);
         (a, b, c, d, e).enter(visitor)
     }
 }
@@ -1454,8 +1454,8 @@ impl<'part, T: Allocative + Described> Part for RoutePart2<'part, T> {
         (Field (codes "is_round") (Some 1) (⟦<bool as Allocative>⟧.may_show x.0.now.is_round)) };
 
     fn enter(self, visitor: &mut Visitor<'_>) -> Result<(), Refusal> {
-        let a = Field(Key::new("length"), &self.0.length);
-        let b = Field(Key::new("is_round"), &self.0.is_round);
+        let a = Field("length", &self.0.length);
+        let b = Field("is_round", &self.0.is_round);
         (a, b).enter(visitor)
     }
 }

@@ -2,7 +2,7 @@
 
 mod shown;
 
-use allocative::{Allocative, Field, Key, Part, Refusal, Visitor};
+use allocative::{Allocative, Field, Part, Refusal, Visitor};
 use std::collections::{BTreeMap, HashMap};
 use std::hash::Hash;
 
@@ -287,7 +287,7 @@ impl Allocative for ByHand {
 
     #[tactic(auto, using(allocative::proofs::Parts::parts))]
     fn visit(&self, visitor: &mut Visitor<'_>) -> Result<(), Refusal> {
-        Field(Key::new("count"), &self.count).enter(visitor)
+        Field("count", &self.count).enter(visitor)
     }
 }
 
