@@ -22,7 +22,7 @@ use either::Either;
 pub trait IntoKey: Drop {
     ghost key: { Self → path.Key };
 
-    /// The key of the text, or the key itself.
+    /// The key of the text, or the key itself. It takes no memory.
     fn into_key(self) -> Key
         ensures { result ≡ key self };
 }

@@ -1,8 +1,8 @@
 -- One member more, and the end of the map.
 use Rattle.std.proofs.lemmas.List.{append-nil}
-use Rattle.std.proofs.Common.{String, Global, [], ◌∷◌, ◌++◌, sym, ap, refl, append_assoc, ◌∙◌}
+use Rattle.std.proofs.Common.{String, Global, [], ◌∷◌, ◌++◌, sym, ap, append_assoc, ◌∙◌}
 use Rattle.allocative.specs.JsonShows.{member_shows}
-use Rattle.allocative.proofs.Meaning.{entered_as, entered_snoc, means_both, means_field, means_same}
+use Rattle.allocative.proofs.Meaning.{entered_snoc}
 use Rattle.allocative.proofs.impls.pack_impls.json.MembersRefMapStringPart.enter.Goals as goal
 
 pub loop-key-preserved : goal.loop-key-preserved
