@@ -11,10 +11,9 @@ use Rattle.allocative_graph.specs.Path.{Key, Path}
 use Rattle.allocative_graph.specs.Forest.{Mark, AsInline, AsUnique, AsShared}
 use Rattle.allocative_graph.specs.Sums.{Sums, is_unique_mark}
 use Rattle.allocative_graph.specs.Sums as bag
-use Rattle.allocative_graph.specs.Collector.{Live, no_entries, go, leave_live, last_of, before_last, enter_live, enter_again, enter_first}
-use Rattle.allocative_graph.proofs.Below.{entered-empty}
+use Rattle.allocative_graph.specs.Collector.{Live, go, leave_live, last_of, before_last, enter_live, enter_again, enter_first}
 use Rattle.allocative_graph.proofs.Basics.{identity_total, identity_antisymmetric, same_identity_turned}
-use Rattle.allocative_collectors.specs.Listed.{Listed, root_sum, path_at, map_of}
+use Rattle.allocative_collectors.specs.Listed.{Listed, path_at, map_of}
 use Rattle.allocative_collectors.specs.Places.{live, to_root, outside, back_from, back_at, IsPlaced, AddedAt}
 use Rattle.allocative_collectors.proofs.Adds.{total_entered, length_entered, path_entered}
 use Rattle.allocative_collectors.proofs.Bridge.{map_of-add, entered-map_of, not_root}
@@ -62,21 +61,6 @@ not_met ks i e = sym (among ks i) ∙ false_of _ e
 pub was_met : (ks : List Identity) (i : Identity) → false ≡ not (list_any (is_equal i) ks) → contains (from_list {R = identity_cmp} ks) i ≡ true
 was_met ks i e = sym (among ks i) ∙ true_of _ e
 
--- ---- the start
-pub placed_new : IsPlaced (root_sum ∷ []) 0 [] 0
-placed_new = record {
-  here = omega arith;
-  back = λ j h. absurd (omega arith);
-  entered_is = sym entered-empty;
-  total_is = refl;
-  bound = omega arith;
-  rooted = omega arith;
-  root_path = refl;
-}
-
-pub live_new : live (root_sum ∷ []) [] 0 [] false ≡ no_entries
-live_new = refl
-
 -- ---- going down and back
 outside_push : (p : Path) (k : Key) → outside (p ++ k ∷ []) ≡ p ∷ outside p
 outside_push [] k = refl
@@ -120,14 +104,6 @@ module _ (t : Listed) (met : List Identity) where
     back = outside p ++ to_root rooted;
     open_visitors = length (outside p ++ to_root rooted);
   }
-
-  left_alone : (rooted : Bool) → alone [] false ≡ leave_live (alone [] rooted)
-  left_alone true = refl
-  left_alone false = refl
-
-  -- the root visitor, or none, is left
-  pub came_to_root : (current : ℕ) (rooted : Bool) → path_at t current ≡ [] → live t met current [] false ≡ leave_live (live t met current [] rooted)
-  came_to_root current rooted root = (λ i. alone (root i) false) ∙ (left_alone rooted ∙ (λ i. leave_live (alone (sym root i) rooted)))
 
   pub at_root : (current : ℕ) → path_at t current ≡ [] → live t met current [] true ≡ go [] (live t met current [] false)
   at_root current root = (λ i. alone (root i) true) ∙ (λ i. go [] (alone (sym root i) false))
@@ -249,21 +225,6 @@ placed_gone t current places n ok node h = record {
   rooted = ok.rooted;
   root_path = ok.root_path;
 }
-
-pub placed_back : (t : Listed) (current : ℕ) (places : List ℕ) (n : ℕ) → IsPlaced t current places n → (before : List ℕ) (place : ℕ) → places ≡ before ++ place ∷ [] → IsPlaced t place before n
-placed_back t current places n ok before place is =
-    let len : length places ≡ length before + 1 = ap length is ∙ length-append before (place ∷ []) in
-    let last : get_or places (length before) 0 ≡ place =
-    ap (λ (l : List ℕ). get_or l (length before) 0) is ∙ (get_or-append_right before (place ∷ []) (length before) (length before) 0 refl (omega arith) ∙ ap (λ (i : ℕ). get_or (place ∷ []) i 0) (let z : length before - length before ≡ 0 = omega arith in z)) in
-    record {
-      here = subst (λ (p : ℕ). p < length t) last (ok.back (length before) (omega arith));
-      back = λ j hj. subst (λ (p : ℕ). p < length t) (ap (λ (l : List ℕ). get_or l j 0) is ∙ get_or_append_left before (place ∷ []) 0 j hj) (ok.back j (omega arith));
-      entered_is = ok.entered_is;
-      total_is = ok.total_is;
-      bound = ok.bound;
-      rooted = ok.rooted;
-      root_path = ok.root_path;
-    }
 
 -- ---- a whole step
 abbrev pub mark_of : Bool → Mark
