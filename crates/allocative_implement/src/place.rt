@@ -47,9 +47,10 @@ pub fn place_of(file: &str) -> Option<Place<'_>> {
 }
 
 impl<'a> Place<'a> {
-    /// The file's name, with its ending.
+    /// The file's name, without its ending.
     pub fn name(&self) -> &'a str {
-        last_part(self.file)
+        let name = last_part(self.file);
+        name.strip_suffix(".rt").unwrap_or(name)
     }
 
     /// Appends the path of what is declared in the module that the file is, as

@@ -1,4 +1,4 @@
-//! What the types of `types.rt` show. `bin/implement` of `allocative` wrote it.
+//! What the types of `types` show. `bin/implement` of `allocative` wrote it.
 #![tactic(auto, using(allocative::proofs::Parts::parts))]
 
 ghost use Rattle.std.specs.Prelude.{codes, Some, true, false};
