@@ -19,5 +19,5 @@ returns-in_err-bytes-clause-none c =
     let parts = rsplit_parts 32 c.args.line.now (Some (c.in_ok-path.path, c.in_ok-path.bytes)) c.in_ok-path.ensures.cases (omega arith) in
     let none : result_ok c.parse.result ≡ None = sym c.ok.ensures.value ∙ c.in_err-bytes.was in
     rw c.from_residual-in_err-bytes.ensures (λ s is.
-        let both = parts_of c.args.side c.args.line.now c.in_ok-path.path.now c.in_ok-path.bytes.now s parts.0 parts.1 is in
-        no_number c.in_ok-path.bytes.now c.parse.result c.parse.ensures.value.0 none (subst IsNumber (sym both.1) is.reads))
+    let both = parts_of c.args.side c.args.line.now c.in_ok-path.path.now c.in_ok-path.bytes.now s parts.0 parts.1 is in
+    no_number c.in_ok-path.bytes.now c.parse.result c.parse.ensures.value.0 none (subst IsNumber (sym both.1) is.reads))
