@@ -7,6 +7,6 @@ returns-clause-taken c =
     let old = c.args.self.now.history in
     record {
       profile = c.in_ok-profile.profile;
-      is_profile = c.in_ok-profile.ensures;
+      is_profile = c.in_ok-profile.ensures.profile;
       kept = c.in_ok-keep.ensures.kept ∙ ap (λ (g : Graph). take old.most (g ∷ old.profiles.items)) c.into_flamegraph.ensures;
     }
