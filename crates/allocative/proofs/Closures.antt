@@ -1,19 +1,37 @@
 -- What a caller of `visit_field_with` makes of the closure's outcome.
-use Rattle.std.proofs.Common.{◌≡◌, ℕ, Result, Ok, Err, MutBor, IsErr, false}
+use Rattle.std.proofs.Common.{◌≡◌, ℕ, Bool, Result, Ok, Err, MutBor, IsErr, false, subst, refl}
 use Rattle.std.specs.Fn.{Once}
 use Rattle.std.proofs.lemmas.Bool.{false≢true}
 use Rattle.allocative_graph.specs.declared.refusal.Refusal.{Refusal}
 use Rattle.allocative_graph.specs.Path.{Key}
-use Rattle.allocative_graph.specs.Collector.{State}
+use Rattle.allocative_graph.specs.Forest.{Forest}
+use Rattle.allocative_graph.specs.Held.{held, ShowsNoContent}
+use Rattle.allocative_graph.specs.Collector.{State, Going, OfHeld, nothing_held, left}
 use Rattle.allocative_graph.specs.Shows.{Showing, Inside}
-use Rattle.allocative_graph.specs.Visits.{Shows, Enters}
+use Rattle.allocative_graph.specs.Visits.{Shows, Enters, Leaves, Settles}
 use Rattle.allocative.specs.declared.visitor.Visitor.{Visitor}
-use Rattle.allocative.specs.Closures.{CallShows, CallsInside, not_called, called, refused_inside}
-use Rattle.allocative.proofs.Showing.{inline_shows, entry_err, not_entered, shows_refused_err}
+use Rattle.allocative.specs.Closures.{CallShows, CallsInside, not_called, called, refused_inside, CalledAtRoot, AnswersSum, after_told}
+use Rattle.allocative.specs.Steps.{IsSum}
+use Rattle.allocative.proofs.Showing.{left_by, inline_shows, entry_err, not_entered, shows_refused_err}
+use Rattle.allocative.proofs.Steps.{leaves_by_left}
+use Rattle.allocative.proofs.Roots.{run_shows, held_by_run}
 
-abbrev pub err_or : Refusal → Result (Unit {0}) Refusal → Refusal
+abbrev pub err_or : {T : Type 0} → Refusal → Result T Refusal → Refusal
 err_or e (Ok u) = e
 err_or e (Err x) = x
+
+-- what is answered once the visitor is left
+pub sum_answered : (o : Bool) (c : State) (n : ℕ) {t : State} {q : Result (Unit {0}) Refusal} → Leaves o c t → Settles t q → q ≡ Ok tt → IsSum t n → AnswersSum (left o c) (Ok n)
+sum_answered o c n {t} l k e s = rw (← left_by l) (subst (Settles t) e k, s)
+
+pub refusal_answered : (o : Bool) (c : State) (e : Refusal) (r : Result ℕ Refusal) {t : State} {q : Result (Unit {0}) Refusal} → IsErr r → e ≡ err_or e r → Leaves o c t → Settles t q → q ≡ Err e → AnswersSum (left o c) r
+refusal_answered o c e (Ok n) h i l k f = absurd (false≢true h)
+refusal_answered o c e (Err x) {t} h i l k f = rw (← left_by l, ← i) (subst (Settles t) f k)
+
+-- what a closure showed, with its refusal as the first cause
+told_shows : {p : Showing} {s c : State} (r : Result (Unit {0}) Refusal) → Shows p s r c → Shows p s r (after_told r c)
+told_shows (Ok u) h = h
+told_shows (Err e) h = shows_refused_err e h refl
 
 module _ {F : Type 0} (g : Once F (MutBor Visitor × Unit {0}) (Result (Unit {0}) Refusal × (MutBor Visitor × Unit {0}))) (f : F) where
   pub not_called_by : {k : Key} {n : ℕ} {s t : State} {e : Refusal} (r : Result (Unit {0}) Refusal) → IsErr r → e ≡ err_or e r → Enters false k n s (Err e) t → CallsInside g f k n s t r
@@ -25,3 +43,12 @@ module _ {F : Type 0} (g : Once F (MutBor Visitor × Unit {0}) (Result (Unit {0}
   with_shows p (not_called w) each = not_entered w
   with_shows p (called x y w i c l o) each = inline_shows w i (each x y _ c) l o
   with_shows p (refused_inside x y z c w i m e l) each = entry_err {y = c} w i (shows_refused_err c (each x y _ m) e) l
+
+  -- the sum of a closure's entries, where each call of it shows one of p
+  pub held_with_shows : (p : Showing) (n : ℕ) → CalledAtRoot g f (Ok n) → CallShows g f p → (t : Forest) × p t × ShowsNoContent t × (n ≡ held t)
+  held_with_shows p n h each =
+      let c = h.called in
+      let shown : Shows p h.before.collector.now c.told h.after.collector.now = rw c.now (told_shows c.told (each h.before c.after c.told c.calls)) in
+      let begun = Going (OfHeld nothing_held) in
+      let end = left h.after.outer_is_unique h.after.collector.now in
+      held_by_run p begun end tt n refl (run_shows begun (Ok tt) h.begun refl shown (leaves_by_left h.after.outer_is_unique h.after.collector.now end refl) c.same_outer h.answers.0) h.answers.1

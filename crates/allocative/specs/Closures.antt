@@ -4,10 +4,22 @@ use Rattle.std.specs.Borrow.{MutBor}
 use Rattle.std.specs.Fn.{Once, FnOnceReturnsAtMut}
 use Rattle.allocative_graph.specs.declared.refusal.Refusal.{Refusal}
 use Rattle.allocative_graph.specs.Path.{Key}
-use Rattle.allocative_graph.specs.Collector.{State, failed_with}
+use Rattle.allocative_graph.specs.Collector.{State, Going, OfHeld, nothing_held, failed_with, left}
 use Rattle.allocative_graph.specs.Shows.{Showing}
-use Rattle.allocative_graph.specs.Visits.{Shows, HasFailed, Enters, Leaves}
+use Rattle.allocative_graph.specs.Visits.{Shows, HasFailed, Enters, Leaves, Settles}
 use Rattle.allocative.specs.declared.visitor.Visitor.{Visitor}
+use Rattle.allocative.specs.Steps.{IsSum}
+use Rattle.allocative.specs.Visited.{BeginsAt}
+
+-- The collector after a closure told this: its own refusal is the first cause where nothing had failed.
+abbrev pub after_told : Result (Unit {0}) Refusal → State → State
+after_told (Ok u) s = s
+after_told (Err e) s = failed_with e s
+
+-- What is answered of a collector of held bytes: their sum where it has not failed and no visitor is out, else the first cause, or Open.
+abbrev pub AnswersSum : State → Result ℕ Refusal → Type 0
+AnswersSum s (Ok n) = Settles s (Ok tt) × IsSum s n
+AnswersSum s (Err e) = Settles s (Err e)
 
 module _ {F : Type 0} (g : Once F (MutBor Visitor × Unit {0}) (Result (Unit {0}) Refusal × (MutBor Visitor × Unit {0}))) (f : F) where
   -- A call hands the visitor back at the collector that it was given, and at its place.
@@ -30,3 +42,20 @@ module _ {F : Type 0} (g : Once F (MutBor Visitor × Unit {0}) (Result (Unit {0}
     pub same_outer : new.outer_is_unique ≡ old.outer_is_unique
     pub calls : CallsInside k n old.collector.now new.collector.now r
     pub cause : IfErr r (HasFailed new.collector.now)
+
+  -- The closure was called at the visitor, which stands where it stood; the closure's own refusal is the first cause where nothing had failed.
+  pub record CalledAt (old new : Visitor) : Type 0 where
+    pub told : Result (Unit {0}) Refusal
+    pub after : Visitor
+    pub calls : FnOnceReturnsAtMut g f old told after
+    pub same_reference : new.collector.ghost_name ≡ old.collector.ghost_name
+    pub same_outer : new.outer_is_unique ≡ old.outer_is_unique
+    pub now : new.collector.now ≡ after_told told after.collector.now
+
+  -- The closure was called at a root visitor of a collector that holds nothing, and the visitor was left; the answer is what is answered of the collector then.
+  pub record CalledAtRoot (answer : Result ℕ Refusal) : Type 0 where
+    pub before : Visitor
+    pub after : Visitor
+    pub begun : BeginsAt (Going (OfHeld nothing_held)) before
+    pub called : CalledAt before after
+    pub answers : AnswersSum (left after.outer_is_unique after.collector.now) answer

@@ -30,7 +30,7 @@ pub use crate::named::Named;
 pub use crate::part::{Declared, Field, Inside, IntoKey, Part, Shared, Unique};
 pub use crate::profile::{profile_value, profile_values};
 pub use crate::registry::{Registry, profile_roots};
-pub use crate::size_of::{size_of_unique, size_of_unique_allocated_data};
+pub use crate::size_of::{size_of_entries, size_of_unique, size_of_unique_allocated_data};
 pub use crate::two::profile_in_two;
 pub use crate::visitor::Visitor;
 pub use allocative_collectors::output::{FlameGraphOutput, WarnedPath};

@@ -17,9 +17,7 @@ use std::alloc::Global;
 /// ```
 /// let mut registry = Registry::new(alloc);
 /// let number: Box<u32> = Box::new(alloc, 7)?;
-/// if registry.register_root(number).is_err() {
-///     return Err(Refusal::Memory);
-/// }
+/// registry.add_root(number)?;
 /// let output = profile_roots(&registry)?;
 /// assert_eq!(rt; output.flamegraph().write()?.as_str(), "u32 4\n");
 /// ```
@@ -38,6 +36,17 @@ impl Registry {
         Registry {
             roots: Vec::new(alloc),
         }
+    }
+
+    /// Puts a root last. It is refused for want of memory alone; then the root is dropped, and the list is the old one.
+    /// `register_root` hands the root back.
+    pub fn add_root(&mut self, root: Box<dyn Allocative>) -> Result<(), Refusal>
+        ensures { MatchResult result
+            (λ _. roots_of self.new ≡ roots_of self.old ++ root ∷ [])
+            (λ refusal. (refusal ≡ Refusal.Memory) × (roots_of self.new ≡ roots_of self.old)) }
+    {
+        self.roots.push(root)?;
+        Ok(())
     }
 
     /// Puts a root last. For want of memory the root is handed back, and the list is the old one.

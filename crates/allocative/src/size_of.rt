@@ -5,11 +5,13 @@ ghost use Rattle.std.specs.Prelude.{◌≡◌, IfOk};
 ghost use Rattle.allocative_graph.specs.Forest.{Forest};
 ghost use Rattle.allocative_graph.specs.Held.{held, ShowsNoContent};
 ghost use Rattle.allocative_graph.specs.Visits.{Runs};
+ghost use Rattle.allocative.specs.Closures.{KeepsVisitor, CalledAt, CalledAtRoot};
 ghost use Rattle.allocative.specs.SizeOf.{IsSizeOfUnique};
 
 use crate::allocative_trait::Allocative;
 use crate::collector::Collector;
 use crate::part::Part;
+use crate::visitor::Visitor;
 use allocative_described::Described;
 use allocative_graph::refusal::Refusal;
 
@@ -32,6 +34,19 @@ impl Collector {
         let _told = root.enter(&mut visitor);
         visitor.exit();
         self.check()
+    }
+}
+
+impl Visitor<'_> {
+    // Calls the closure at this visitor. Its refusal is the first cause where nothing had failed.
+    fn call<F: FnOnce(&mut Visitor<'_>) -> Result<(), Refusal>>(&mut self, enter: F)
+        requires callable { F.IsAlwaysCallable enter }
+        requires keeps { KeepsVisitor F.FnOnce enter }
+        ensures { CalledAt F.FnOnce enter self.old self.new }
+    {
+        if let Err(refusal) = enter(self) {
+            self.refuse(refusal);
+        }
     }
 }
 
@@ -67,4 +82,31 @@ pub fn size_of_unique<T: Allocative + Described>(root: &T) -> Result<usize, Refu
         return Err(Refusal::TooLarge);
     };
     Ok(sum)
+}
+
+/// The bytes that the closure's entries hold on the heap, as `size_of_unique_allocated_data` counts those of a value.
+///
+/// The closure enters what it likes at a root visitor, as the parts of a value that one asks for, and hands the visitor back at
+/// the place where it got it. It takes no memory. It is refused with TooLarge where the sum or a declared size does not fit, and
+/// else with the first cause, which is the closure's refusal where nothing was refused before; with Open where a visitor was
+/// forgotten.
+///
+/// ```
+/// let number: Box<u32> = Box::new(alloc, 7)?;
+/// let held = size_of_entries(|visitor| visitor.visit_field(Key::new("number"), &number))?;
+/// assert_eq!(rt; held, 4); // the number on the heap
+/// ```
+pub fn size_of_entries<F: FnOnce(&mut Visitor<'_>) -> Result<(), Refusal>>(
+    enter: F,
+) -> Result<usize, Refusal>
+    requires callable { F.IsAlwaysCallable enter }
+    requires keeps { KeepsVisitor F.FnOnce enter }
+    ensures { CalledAtRoot F.FnOnce enter result }
+{
+    let mut collector = Collector::held();
+    let mut visitor = collector.root_visitor()?;
+    visitor.call(enter);
+    visitor.exit();
+    collector.check()?;
+    Ok(collector.sum())
 }

@@ -58,10 +58,7 @@ impl Allocative for TestGlobalRoot {
 fn global_roots_are_refused(rt: HostRuntime) -> Result<(), Fail> {
     let alloc = rt.alloc();
     let mut registry = Registry::new(alloc);
-    let root = Box::new(alloc, TestGlobalRoot { x: 1 })?;
-    if registry.register_root(root).is_err() {
-        return Err(Fail::from(Refusal::Memory));
-    }
+    registry.add_root(Box::new(alloc, TestGlobalRoot { x: 1 })?)?;
     let mut builder = FlameGraphBuilder::new(alloc)?;
     if let Err(refusal) = builder.visit_global_roots(&registry) {
         assert_eq!(rt; refusal, Refusal::Memory);
@@ -80,9 +77,7 @@ fn a_map_is_refused(rt: HostRuntime) -> Result<(), Fail> {
     let mut registry = Registry::new(alloc);
     let mut map: BTreeMap<u64, u64> = BTreeMap::new(alloc);
     map.insert(1, 2)?;
-    if registry.register_root(Box::new(alloc, map)?).is_err() {
-        return Err(Fail::from(Refusal::Memory));
-    }
+    registry.add_root(Box::new(alloc, map)?)?;
     match profile_roots(&registry) {
         Ok(output) => {
             assert_eq!(rt;

@@ -8,6 +8,7 @@ use crate::held::{assert_held, shared_pointer};
 use crate::huge::Huge;
 use allocative::{
     Allocative, Described, FlameGraphBuilder, Inside, Key, Part, Refusal, Unique, Visitor,
+    size_of_entries,
 };
 use std::alloc::Global;
 use std::process::Abort;
@@ -231,4 +232,20 @@ fn bad_implementations_hold_nothing(rt: HostRuntime) {
     assert_held(&rt, &ClosureRefuses, open);
     assert_held(&rt, &Refuses(Refusal::Memory), Err(Refusal::Memory));
     assert_held(&rt, &Tells, Err(Refusal::Memory));
+}
+
+// What a closure answers that refuses, and one that hides TooLarge and answers another refusal.
+fn held_by_bad_closures() -> [Result<usize, Refusal>; 2] {
+    let refused = size_of_entries(|_visitor| Err(Refusal::Open));
+    let hidden = size_of_entries(|visitor| {
+        let _hidden = visitor.visit_simple_sized::<Option<Huge>>();
+        Err(Refusal::Memory)
+    });
+    [refused, hidden]
+}
+
+#[test]
+fn the_first_refusal_of_a_closure_is_answered(rt: HostRuntime) {
+    let want = [Err(Refusal::Open), Err(Refusal::TooLarge)];
+    assert_eq!(rt; held_by_bad_closures(), want);
 }

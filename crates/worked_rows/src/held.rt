@@ -8,7 +8,7 @@ ghost use Rattle.allocative.specs.Shows as shows;
 use crate::rows::assert_text;
 use allocative::{
     Allocative, Described, Field, FlameGraphBuilder, Identity, Inside, Key, Part, Refusal, Shared,
-    Unique, Visitor, size_of_unique, size_of_unique_allocated_data,
+    Unique, Visitor, size_of_entries, size_of_unique, size_of_unique_allocated_data,
 };
 use std::process::Abort;
 use std::test::Fail;
@@ -337,4 +337,22 @@ fn held_bytes_have_a_bound(rt: HostRuntime) {
     assert_whole(&rt, &HoldsMost, Err(Refusal::TooLarge));
     assert_held(&rt, &HoldsMore, Err(Refusal::TooLarge));
     assert_held(&rt, &HoldsNone, Ok(0));
+}
+
+// What two unique entries hold, of five bytes and of six.
+fn two_buffers() -> Result<usize, Refusal> {
+    size_of_entries(|visitor| {
+        Unique("p", 8, Inside("a", 5, ())).enter(visitor)?;
+        Unique("q", 8, Inside("b", 6, ())).enter(visitor)
+    })
+}
+
+#[test]
+fn entries_of_a_closure_are_held(rt: HostRuntime) -> Result<(), Fail> {
+    let number = Box::new(rt.alloc(), 7u32)?;
+    let held = size_of_entries(|visitor| visitor.visit_field(Key::new("number"), &number))?;
+    assert_eq!(rt; held, 4);
+    assert_eq!(rt; two_buffers(), Ok(11));
+    assert_eq!(rt; size_of_entries(|_visitor| Ok(())), Ok(0));
+    Ok(())
 }

@@ -153,7 +153,6 @@ fn registered_roots_are_profiled(rt: HostRuntime) -> Result<(), Fail> {
 fn a_registered_root_shows_its_field(rt: HostRuntime) -> Result<(), Fail> {
     let alloc = rt.alloc();
     let mut registry = Registry::new(alloc);
-    let root = Box::new(alloc, TestGlobalRoot { x: 1 })?;
-    assert!(rt; registry.register_root(root).is_ok());
+    registry.add_root(Box::new(alloc, TestGlobalRoot { x: 1 })?)?;
     Ok(assert_profile(&rt, &registry, "TestGlobalRoot;x;u32 4\n")?)
 }
