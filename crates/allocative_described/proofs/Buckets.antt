@@ -1,4 +1,4 @@
--- A length has one number of buckets, and so one raw table size.
+-- A length has one number of buckets, and therefore one raw table size.
 use Rattle.std.proofs.Common.{◌≡◌, ℕ, inl, inr, Option, Some, ap, sym, ◌∙◌, arith}
 use Rattle.std.proofs.lemmas.Bool.{cases_lt}
 use Rattle.allocative_described.specs.Sizes.{checked, size_sum, size_product}

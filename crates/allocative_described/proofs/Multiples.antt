@@ -5,7 +5,7 @@ use Rattle.std.proofs.lemmas.Bool.{cases_lt}
 use Rattle.std.proofs.lemmas.Nat.{div-add-mod', mod_below, mul-le}
 use Rattle.allocative_described.specs.Sizes.{IsLeastMultiple, up}
 
--- a multiple of a above q times a is at least one a further
+-- A multiple of a that is above q times a is above it by at least a.
 next_multiple : (q a n k : ℕ) → n ≡ k * a → q * a < n → q * a + a ≤ n
 next_multiple q a n k is above =
     elim (cases_lt q k) [
@@ -13,13 +13,13 @@ next_multiple q a n k is above =
       | inr beyond ↦ absurd (omega (arith, mul-le k a q a beyond (omega arith)))
     ]
 
--- a multiple of a is rounded up to itself
+-- Rounding up leaves a multiple of a as it is.
 up_same : (x a : ℕ) → x % a ≡ 0 → up x a ≡ x
 up_same x a none =
     let whole : a - 0 ≡ a = omega arith in
     rw (none, whole) (omega (arith, mod_self a))
 
--- any other number is rounded up to the multiple that follows it
+-- Rounding up takes any other number to the next multiple.
 up_next : (x a : ℕ) → 1 ≤ a → 0 < x % a → up x a ≡ (x / a + 1) * a
 up_next x a positive some =
     let short : a - x % a < a = omega arith in

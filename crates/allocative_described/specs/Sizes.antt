@@ -1,51 +1,51 @@
--- Sizes in bytes, and the rules that put the sizes of parts together. `None` stands for a size that does not fit.
+-- Sizes in bytes, and the rules that combine the sizes of parts. `None` stands for a size that does not fit.
 use Rattle.std.specs.Prelude.{◌≡◌, ℕ, ◌+◌, ◌-◌, ◌*◌, ◌%◌, ◌^◌, ◌≤◌, max, nat_lt, if◌then◌else◌, Option, None, Some}
 
--- n is a size where it fits a word of 64 bits, and else there is none
+-- The size n where it fits a word of 64 bits, otherwise None.
 abbrev pub checked : ℕ → Option ℕ
 checked n = if nat_lt n (2 ^ 64) then Some n else None
 
--- m is a multiple of a
+-- m is a multiple of a.
 abbrev pub IsMultiple : ℕ → ℕ → Type 0
 IsMultiple m a = (k : ℕ) × (m ≡ k * a)
 
--- m is the least multiple of a that is not below x
+-- m is the least multiple of a that is not below x.
 pub record IsLeastMultiple (x a m : ℕ) : Type 0 where
   pub multiple : IsMultiple m a
   pub not_below : x ≤ m
   pub least : (n : ℕ) → IsMultiple n a → x ≤ n → m ≤ n
 
--- x, rounded up to a multiple of a
+-- The number x, rounded up to a multiple of a.
 abbrev pub up : ℕ → ℕ → ℕ
 up x a = x + (a - x % a) % a
 
--- for each a from 1 on, `up x a` is the least multiple of a that is not below x
+-- For each a from 1 on, `up x a` is the least multiple of a that is not below x.
 abbrev pub UpLaw : Type 0
 UpLaw = (x a : ℕ) → 1 ≤ a → IsLeastMultiple x a (up x a)
 
--- the sum of two sizes, or none where one of them is none or the sum does not fit
+-- The sum of two sizes. None where one of them is None or the sum does not fit.
 abbrev pub size_sum : Option ℕ → Option ℕ → Option ℕ
 size_sum None t = None
 size_sum (Some m) None = None
 size_sum (Some m) (Some n) = checked (m + n)
 
--- the product of two sizes, or none where one of them is none or the product does not fit
+-- The product of two sizes. None where one of them is None or the product does not fit.
 abbrev pub size_product : Option ℕ → Option ℕ → Option ℕ
 size_product None t = None
 size_product (Some m) None = None
 size_product (Some m) (Some n) = checked (m * n)
 
--- the greater of two sizes, or none where one of them is none
+-- The greater of two sizes. None where one of them is None.
 abbrev pub size_max : Option ℕ → Option ℕ → Option ℕ
 size_max None t = None
 size_max (Some m) None = None
 size_max (Some m) (Some n) = Some (max m n)
 
--- a size rounded up to a multiple of a, or none where the size is none or the multiple does not fit
+-- A size rounded up to a multiple of a. None where the size is None or the multiple does not fit.
 abbrev pub size_up : Option ℕ → ℕ → Option ℕ
 size_up None a = None
 size_up (Some x) a = checked (up x a)
 
--- two counts of 8 bytes each, then a value of size s at its alignment a, rounded up to the greater of 8 and a
+-- Two counts of 8 bytes each, then a value of size s at its alignment a, rounded up to the greater of 8 and a.
 abbrev pub shared_inner_size : Option ℕ → ℕ → Option ℕ
 shared_inner_size s a = size_up (size_sum (size_up (Some 16) a) s) (max 8 a)

@@ -1,4 +1,4 @@
-//! Atomics: each is as large as the number or `bool` that it holds. None is read or written.
+//! Atomics: each is as large as the number or `bool` that it holds. No atomic is read or written.
 
 ghost use Rattle.std.specs.Prelude.{Some, false, codes};
 

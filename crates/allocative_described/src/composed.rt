@@ -240,7 +240,7 @@ impl<T: Described, const N: usize> Described for [T; N] {
     }
 }
 
-// The value alone; it is never dropped by itself.
+// The value alone, which is not dropped automatically.
 impl<V: Described> Described for ManuallyDrop<V> {
     ghost name = { codes "ManuallyDrop" };
 

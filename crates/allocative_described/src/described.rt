@@ -4,18 +4,18 @@ ghost use Rattle.std.specs.Prelude.{◌≡◌, ℕ, ◌≤◌, List, Option, Boo
 ghost use Rattle.allocative_described.specs.Sizes.{UpLaw, shared_inner_size};
 ghost use Rattle.allocative_described.specs.Sizes.{size_sum, size_product, size_max, size_up};
 
-/// What a type declares of itself. Nothing is measured: an implementation says each of the four.
+/// What a type declares about itself. Nothing is measured: each implementation states all four.
 pub trait Described {
     // The bytes of the name.
     ghost name: { List ℕ };
 
-    // In bytes.
+    // The alignment in bytes.
     ghost align: { ℕ };
 
-    // True where a value has something to drop.
+    // Whether a value has something to drop.
     ghost needs_drop: { Bool };
 
-    // In bytes; `None` where it does not fit a word.
+    // The size in bytes, or `None` where it does not fit a word.
     ghost size: { Option ℕ };
 
     /// The type's name, without arguments where the type is generic: each `Vec<T>` is named `Vec`.
@@ -31,8 +31,8 @@ pub trait Described {
     fn needs_drop() -> bool
         ensures { result ≡ needs_drop };
 
-    /// The size in bytes. `None` where the size of a part is, or where a sum, a product or a rounding
-    /// up in the type's rule passes `usize::MAX`.
+    /// The size in bytes. `None` where the size of a part is `None`, or where a sum, a product or a
+    /// rounding up in the type's rule exceeds `usize::MAX`.
     fn size() -> Option<usize>
         ensures { result ≡ size };
 }
@@ -43,8 +43,9 @@ pub fn up_law()
     ensures { UpLaw }
 {}
 
-/// The size in bytes of what a shared pointer points to: two counts of 8 bytes each, then a value of
-/// type `T`. `None` where the size of `T` is, or where a sum or a rounding up passes `usize::MAX`.
+/// The size in bytes of what a shared pointer points to: two counts of 8 bytes each, then a value
+/// of type `T`. `None` where the size of `T` is `None`, or where a sum or a rounding up exceeds
+/// `usize::MAX`.
 pub fn shared_inner_size<T: Described>() -> Option<usize>
     ensures { result ≡ shared_inner_size T.size T.align }
 {
@@ -52,29 +53,30 @@ pub fn shared_inner_size<T: Described>() -> Option<usize>
     size_up(size_sum(value_offset, T::size()), T::align().max(8))
 }
 
-/// The sum of two sizes. `None` where one of them is, or where the sum passes `usize::MAX`.
+/// The sum of two sizes. `None` where one of them is `None`, or where the sum exceeds `usize::MAX`.
 pub(crate) fn size_sum(left: Option<usize>, right: Option<usize>) -> Option<usize>
     ensures { result ≡ size_sum left right }
 {
     left?.checked_add(right?)
 }
 
-/// The product of two sizes. `None` where one of them is, or where the product passes `usize::MAX`.
+/// The product of two sizes. `None` where one of them is `None`, or where the product exceeds
+/// `usize::MAX`.
 pub(crate) fn size_product(left: Option<usize>, right: Option<usize>) -> Option<usize>
     ensures { result ≡ size_product left right }
 {
     left?.checked_mul(right?)
 }
 
-/// The greater of two sizes. `None` where one of them is.
+/// The greater of two sizes. `None` where one of them is `None`.
 pub(crate) fn size_max(left: Option<usize>, right: Option<usize>) -> Option<usize>
     ensures { result ≡ size_max left right }
 {
     Some(left?.max(right?))
 }
 
-/// The least multiple of `align` that is not below `size`. `None` where the size is, or where the
-/// multiple passes `usize::MAX`.
+/// The least multiple of `align` that is not below `size`. `None` where the size is `None`, or
+/// where the multiple exceeds `usize::MAX`.
 pub(crate) fn size_up(size: Option<usize>, align: usize) -> Option<usize>
     requires { 1 ≤ align }
     ensures { result ≡ size_up size align }

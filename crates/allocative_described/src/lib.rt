@@ -1,9 +1,9 @@
-//! What types declare of themselves: a name, a size, an alignment, and whether they need a drop.
+//! What types declare about themselves: a name, a size, an alignment, and whether they need a drop.
 //!
-//! The numbers are declarations, by fixed tables and rules, for types of `std` and of the crates
-//! that this one stands on. They say nothing of how a compiler lays a value out. `Described` is the
-//! trait. `raw_table_alloc_size_for_len` answers for the table of a hash map, `shared_inner_size`
-//! for a value behind a shared pointer.
+//! The numbers are declarations, given by fixed tables and rules, for types of `std` and of the
+//! crates that this one depends on. They say nothing about how a compiler lays a value out.
+//! `Described` is the trait. `raw_table_alloc_size_for_len` returns the size of a hash map's table,
+//! and `shared_inner_size` the size of the value behind a shared pointer.
 #![tactic(auto)]
 
 mod atomics;

@@ -1,4 +1,4 @@
-//! Types of the crates that this one stands on.
+//! Types of the crates that this one depends on.
 
 ghost use Rattle.std.specs.Prelude.{Some, true, false, codes, max, ◌||◌};
 ghost use Rattle.allocative_described.specs.Sizes.{size_sum, size_product, size_max, size_up};

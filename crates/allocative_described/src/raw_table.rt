@@ -1,4 +1,4 @@
-//! The bytes of the table of a hash map.
+//! The size of a hash map's table.
 
 ghost use Rattle.std.specs.Prelude.{◌≡◌, ℕ, ◌≤◌};
 ghost use Rattle.allocative_described.specs.Sizes.{checked};
@@ -7,11 +7,11 @@ ghost use Rattle.allocative_described.specs.RawTable.{IsBucketCount, IsLeastPowe
 
 use crate::described::{Described, size_product, size_sum};
 
-/// The bytes of the table of a hash map with `len` items of type `T`: the size of an item and one
-/// byte more, times the number of buckets. There are no buckets for the length 0, 4 for a length
-/// below 4, and else as many as the least power of two that is not below `len`.
+/// The bytes of the table of a hash map with `len` items of type `T`: the size of an item plus one
+/// byte, times the number of buckets. There are no buckets for the length 0, 4 for a length from 1
+/// to 3, and otherwise the least power of two that is not below `len`.
 ///
-/// `None` where the size of an item is, or where the sum, the power or the product passes
+/// `None` where the size of an item is `None`, or where the sum, the power or the product exceeds
 /// `usize::MAX`.
 pub fn raw_table_alloc_size_for_len<T: Described>(len: usize) -> Option<usize>
     ensures { IsRawTableSize T.size len result }
@@ -19,12 +19,12 @@ pub fn raw_table_alloc_size_for_len<T: Described>(len: usize) -> Option<usize>
     size_product(size_sum(T::size(), Some(1)), bucket_count(len))
 }
 
-/// A law: an item's size and a length have one raw table size.
+/// A law: the size of an item and a length determine the size of the raw table.
 pub fn raw_table_law()
     ensures { RawTableLaw }
 {}
 
-/// How many buckets serve a length. `None` where so many don't fit a word.
+// The number of buckets for a length, or `None` where it does not fit a word.
 fn bucket_count(len: usize) -> Option<usize>
     ensures { (n : ℕ) × IsBucketCount len n × (result ≡ checked n) }
 {
@@ -37,7 +37,7 @@ fn bucket_count(len: usize) -> Option<usize>
     }
 }
 
-/// The least power of two that is not below `number`. `None` where it doesn't fit a word.
+// The least power of two that is not below `number`, or `None` where it does not fit a word.
 fn least_power_of_two(number: usize) -> Option<usize>
     requires { 2 ≤ number }
     ensures { (n : ℕ) × IsLeastPowerOfTwo number n × (result ≡ checked n) }

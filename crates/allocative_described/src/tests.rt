@@ -24,7 +24,7 @@ use std::sync::atomic::{
 };
 use std::time::{Duration, Instant, SystemTime};
 
-// The greatest size that there is.
+// A type of the greatest size.
 struct Huge;
 
 impl Described for Huge {
@@ -53,7 +53,7 @@ impl Described for Huge {
     }
 }
 
-// A type that is aligned more widely than a pointer.
+// A type whose alignment is greater than that of a pointer.
 struct CacheLine;
 
 impl Described for CacheLine {
@@ -82,7 +82,7 @@ impl Described for CacheLine {
     }
 }
 
-// Whether a type declares these four.
+// Whether a type declares this name, size, alignment and need of a drop.
 fn is<T: Described>(name: &str, size: usize, align: usize, needs_drop: bool) -> bool {
     T::name() == name
         && T::size() == Some(size)
