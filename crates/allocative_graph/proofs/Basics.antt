@@ -1,4 +1,4 @@
--- Small facts on tests, lists, paths and identities.
+-- Small facts about tests, lists, paths and identities.
 use Rattle.std.proofs.Common.{◌≡◌, ℕ, Bool, true, false, ◌||◌, IsTrue, ◌⊎◌, inl, inr, List, [], ◌∷◌, ◌++◌, map, refl, sym, ap, subst, ◌∙◌, true≢false, Ordering, Less, Equal, Greater}
 use Rattle.std.specs.List.{list_any, AllByRecursion}
 use Rattle.std.specs.Cmp.{IsTotalOrder}
@@ -83,7 +83,7 @@ then_equal Less = refl
 then_equal Equal = refl
 then_equal Greater = refl
 
--- the same order, by lists of two
+-- The order of identities, as the order of lists of two numbers.
 as_lists : Identity → Identity → Ordering
 as_lists i j = slice_cmp nat_cmp (i.maker ∷ i.number ∷ []) (j.maker ∷ j.number ∷ [])
 

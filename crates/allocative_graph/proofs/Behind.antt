@@ -1,4 +1,5 @@
--- What a graph has at a path and below it, by the children of its root. Crates that walk over children use `rows_of_node` and `smaller_child`.
+-- What a graph has at a path and below it, by the children of its root. Crates that walk over children use
+-- `rows_of_node` and `smaller_child`.
 use Rattle.std.proofs.Common.{sum_by, ◌&&◌, ◌≡◌, ℕ, zero, suc, ◌+◌, ◌<◌, ◌≤◌, true, false, cond, List, [], ◌∷◌, ◌++◌, Option, Some, None, IfSome, IfNone, length, length-append, get_or, take, drop, refl, sym, ap, subst, ◌∙◌, arith}
 use Rattle.std.proofs.lemmas.List.{take-append-drop, length-map}
 use Rattle.std.proofs.lemmas.List.Sums.{sum_by-cons, sum_by-append}
@@ -20,21 +21,21 @@ use Rattle.allocative_graph.specs.Children.{size_under, InOrder, IsFound, IsGap,
 use Rattle.allocative_graph.proofs.ChildSizes.{Lacks, lacks-above, size_under-lacks}
 use Rattle.allocative_graph.proofs.ChildLookup.{get-under}
 
--- A key below k is another than k.
+-- Two keys that are in order differ.
 other_than : (l k : Key) → key_cmp l k ≡ Less → eq_by_cmp key_cmp k l ≡ false
 other_than l k h = ap is_eq (nat_list_cmp_total.antisymm k l ∙ ap ordering_reverse h)
 
--- A key is itself.
+-- A key equals itself.
 same_as_itself : (k : Key) → eq_by_cmp key_cmp k k ≡ true
 same_as_itself k = ap is_eq (tied_itself nat_list_cmp_total k)
 
--- A key that is below all is below that of each child.
+-- A key that is below the keys of all children is below that of each child.
 below_at : (cs : List Child) (i : ℕ) (d : Child) (l : Key) → AllByRecursion (λ k. key_cmp l k ≡ Less) (keys_of cs) → i < length cs → key_cmp l (get_or cs i d).key ≡ Less
 below_at [] i d l h w = absurd (omega arith)
 below_at (c ∷ cs) zero d l h w = h.0
 below_at (c ∷ cs) (suc i) d l h w = below_at cs i d l h.1 (omega arith)
 
--- Below a key that was found stand the sizes of its child.
+-- The sizes below a key that was found are those of its child.
 pub size_under-found : (cs : List Child) (i : ℕ) (d : Child) (k : Key) (p : Path) → InOrder cs → i < length cs → (get_or cs i d).key ≡ k → size_under cs k p ≡ get (get_or cs i d).graph p
 unfolding IsStrictlySortedBy
 size_under-found [] i d k p o w s = absurd (omega arith)
@@ -45,12 +46,12 @@ size_under-found (c ∷ cs) (suc i) d k p o w s =
     let e : eq_by_cmp key_cmp k c.key ≡ false = other_than c.key k (subst (λ l. key_cmp c.key l ≡ Less) s (below_at cs i d c.key o.0 (omega arith))) in
     ap (λ b. cond b (get c.graph p) (size_under cs k p)) e ∙ size_under-found cs i d k p o.1 (omega arith) s
 
--- A key above all is none of theirs.
+-- A key above the keys of all children is none of theirs.
 lacks-below : (k : Key) (cs : List Child) → AllBelow cs k → Lacks k cs
 lacks-below k [] h = tt
 lacks-below k (c ∷ cs) h = (other_than c.key k h.0, lacks-below k cs h.1)
 
--- A key that neither of two lists has is none of both.
+-- A key that is in neither of two lists is not in both joined.
 lacks-append : (k : Key) (a b : List Child) → Lacks k a → Lacks k b → Lacks k (a ++ b)
 lacks-append k [] b h g = g
 lacks-append k (c ∷ a) b h g = (h.0, lacks-append k a b h.1 g)
@@ -59,41 +60,41 @@ lacks-append k (c ∷ a) b h g = (h.0, lacks-append k a b h.1 g)
 gap-lacks : (cs : List Child) (i : ℕ) (k : Key) → IsGap cs k i → Lacks k cs
 gap-lacks cs i k g = subst (Lacks k) (take-append-drop i cs) (lacks-append k (take i cs) (drop i cs) (lacks-below k (take i cs) g.below) (lacks-above k (drop i cs) g.above))
 
--- So no size stands below it.
+-- No size is below a key that was not found.
 pub size_under-gap : (cs : List Child) (i : ℕ) (k : Key) (p : Path) → IsGap cs k i → size_under cs k p ≡ None
 size_under-gap cs i k p g = size_under-lacks cs k p (gap-lacks cs i k g)
 
 -- ---- bytes at a path and below it
--- The sizes of the rows whose paths begin with p, added up.
+-- The sum of the sizes of the rows whose paths begin with p.
 abbrev whole_in : List (Path × ℕ) → Path → ℕ
 whole_in rs p = sum_by (λ e. cond (begins p e.0) e.1 0) rs
 
--- One row more.
+-- The sum for one more row.
 whole-cons : (p : Path) (r : Path × ℕ) (rs : List (Path × ℕ)) → whole_in (r ∷ rs) p ≡ cond (begins p r.0) r.1 0 + whole_in rs p
 whole-cons p r rs = sum_by-cons (λ (e : Path × ℕ). cond (begins p e.0) e.1 0) r rs
 
--- Two lists.
+-- The sum for two lists joined.
 whole-append : (p : Path) (a b : List (Path × ℕ)) → whole_in (a ++ b) p ≡ whole_in a p + whole_in b p
 whole-append p a b = sum_by-append (λ (e : Path × ℕ). cond (begins p e.0) e.1 0) a b
 
--- Under one key.
+-- The sum for rows and a path that start with one key is that without the key.
 whole-same : (k : Key) (p : Path) (rs : List (Path × ℕ)) → whole_in (under_rows k rs) (k ∷ p) ≡ whole_in rs p
 whole-same k p [] = refl
 whole-same k p (r ∷ rs) =
     whole-cons (k ∷ p) (k ∷ r.0, r.1) (under_rows k rs) ∙ (λ i. cond (same_as_itself k i && begins p r.0) r.1 0 + whole-same k p rs i) ∙ sym (whole-cons p r rs)
 
--- Under another key there is nothing.
+-- The sum for rows under another key is 0.
 whole-other : (k l : Key) (p : Path) (rs : List (Path × ℕ)) → eq_by_cmp key_cmp k l ≡ false → whole_in (under_rows l rs) (k ∷ p) ≡ 0
 whole-other k l p [] h = refl
 whole-other k l p (r ∷ rs) h = whole-cons (k ∷ p) (l ∷ r.0, r.1) (under_rows l rs) ∙ (λ i. cond (h i && begins p r.0) r.1 0 + whole-other k l p rs h i)
 
--- Nothing stands below a key that no child has.
+-- Nothing is below a key that no child has.
 whole-lacks : (k : Key) (p : Path) (cs : List Child) → Lacks k cs → whole_in (rows_of cs) (k ∷ p) ≡ 0
 whole-lacks k p [] h = refl
 whole-lacks k p (c ∷ cs) h =
     whole-append (k ∷ p) (rows_of_child c) (rows_of cs) ∙ (λ i. whole-other k c.key p (entries c.graph) h.0 i + whole-lacks k p cs h.1 i)
 
--- Below a key that was found stand the bytes of its child.
+-- The bytes below a key that was found are those of its child.
 whole-found : (cs : List Child) (i : ℕ) (d : Child) (k : Key) (p : Path) → InOrder cs → i < length cs → (get_or cs i d).key ≡ k → whole_in (rows_of cs) (k ∷ p) ≡ whole_in (entries (get_or cs i d).graph) p
 unfolding IsStrictlySortedBy
 whole-found [] i d k p o w s = absurd (omega arith)
@@ -105,7 +106,7 @@ whole-found (c ∷ cs) (suc i) d k p o w s =
     let e : eq_by_cmp key_cmp k c.key ≡ false = other_than c.key k (subst (λ l. key_cmp c.key l ≡ Less) s (below_at cs i d c.key o.0 (omega arith))) in
     whole-append (k ∷ p) (rows_of_child c) (rows_of cs) ∙ omega (arith, whole-other k c.key p (entries c.graph) e, whole-found cs i d k p o.1 (omega arith) s)
 
--- Below a key a node has the bytes of its children.
+-- The bytes of a node below a key are those of its children.
 whole-node : (n : ℕ) (cs : List Child) (k : Key) (p : Path) → InOrder cs → total_at (node n cs) (k ∷ p) ≡ whole_in (rows_of cs) (k ∷ p)
 whole-node n cs k p o = ap (λ rs. whole_in rs (k ∷ p)) (entries-node n cs o) ∙ whole-cons (k ∷ p) ([], n) (rows_of cs) ∙ omega arith
 
@@ -114,20 +115,20 @@ pub total_at-child : (n : ℕ) (cs : List Child) (i : ℕ) (d : Child) (p : Path
 total_at-child n cs i d p o w = whole-node n cs (get_or cs i d).key p o ∙ whole-found cs i d (get_or cs i d).key p o w refl
 
 -- ---- the graph at a path
--- At the root stands the whole graph.
+-- The graph at the root's path is the whole graph.
 pub behind_root : (g : Graph) → IsTree g → IsBehind g [] g
 behind_root g t = record { there = t.root; sizes = λ q. refl; totals = λ q. refl; same_size = refl; same_total = refl }
 
 module _ (n : ℕ) (cs : List Child) (i : ℕ) (d : Child) (k : Key) (o : InOrder cs) (f : IsFound cs k i) where
-  -- A path of the child has the same size behind its key.
+  -- A path of the child has its size in the node, after the child's key.
   at : (q : Path) → get (node n cs) (k ∷ q) ≡ get (get_or cs i d).graph q
   at q = get-under n cs k q o ∙ size_under-found cs i d k q o f.within (f.same d)
 
-  -- And the same bytes in all.
+  -- A path of the child has its bytes, with all below it, in the node, after the child's key.
   whole : (q : Path) → total_at (node n cs) (k ∷ q) ≡ total_at (get_or cs i d).graph q
   whole q = whole-node n cs k q o ∙ whole-found cs i d k q o f.within (f.same d)
 
-  -- What the child has at a path, the node has at its key and that path.
+  -- What the child has at a path, the node has at the child's key followed by that path.
   pub behind_child : (p : Path) (h : Graph) → IsBehind (get_or cs i d).graph p h → IsBehind (node n cs) (k ∷ p) h
   behind_child p h b = record {
     there = ap is_some (at p) ∙ b.there;
@@ -137,7 +138,7 @@ module _ (n : ℕ) (cs : List Child) (i : ℕ) (d : Child) (k : Key) (o : InOrde
     same_total = b.same_total ∙ sym (whole p);
   }
 
-  -- A path that the child lacks, the node lacks behind its key.
+  -- Where the child has nothing at a path, the node has nothing at the child's key followed by that path.
   pub missing_child : (p : Path) → HasNothing (get_or cs i d).graph p → HasNothing (node n cs) (k ∷ p)
   missing_child p m = record {
     missing = ap is_some (at p) ∙ m.missing;
@@ -145,7 +146,7 @@ module _ (n : ℕ) (cs : List Child) (i : ℕ) (d : Child) (k : Key) (o : InOrde
     nothing = whole p ∙ m.nothing;
   }
 
--- A node has nothing behind a key that was not found.
+-- Where a key was not found, the node has nothing at it and below it.
 pub missing_key : (n : ℕ) (cs : List Child) (i : ℕ) (k : Key) (p : Path) → InOrder cs → IsGap cs k i → HasNothing (node n cs) (k ∷ p)
 missing_key n cs i k p o g = record {
   missing = ap is_some (get-under n cs k p o ∙ size_under-gap cs i k p g);
@@ -153,24 +154,24 @@ missing_key n cs i k p o g = record {
   nothing = whole-node n cs k p o ∙ whole-lacks k p cs (gap-lacks cs i k g);
 }
 
--- Nothing is in a list without items.
+-- A list of length 0 is empty.
 pub no_items : {X : Type 0} (s : List X) → 0 ≡ length s → s ≡ []
 no_items [] h = refl
 no_items (x ∷ s) h = absurd (omega arith)
 
--- ---- in terms of an answer
--- What follows of each value follows of the answer.
+-- ---- in terms of what a call returns
+-- Where P implies Q for each value, P of an option's value implies Q of it.
 pub some_implies : {X : Type 0} (P Q : X → Type 0) → ((x : X) → P x → Q x) → (o : Option X) → IfSome o P → IfSome o Q
 some_implies P Q f None h = h
 some_implies P Q f (Some x) h = f x h
 
--- What follows of none follows of the answer.
+-- Where P implies Q, P in the absence of a value implies Q in its absence.
 pub none_implies : {X : Type 0} (P Q : Type 0) → (P → Q) → (o : Option X) → IfNone o P → IfNone o Q
 none_implies P Q f None h = f h
 none_implies P Q f (Some x) h = h
 
 -- ---- for walks over children
--- The paths of a node with their sizes: its own, and then those of its children, one child after another.
+-- The rows of a node: its own, and then those of its children, one child after another.
 pub rows_of_node : (n : ℕ) (cs : List Child) → InOrder cs → entries (node n cs) ≡ ([], n) ∷ rows_of cs
 rows_of_node = entries-node
 

@@ -1,4 +1,4 @@
--- What the paths one key below a path sum to.
+-- The sum of the bytes one key below a path.
 use Rattle.std.proofs.Common.{◌≡◌, ℕ, ◌+◌, Bool, true, false, cond, ◌&&◌, T, List, [], ◌∷◌, Some, None, refl, ap, sym, ◌∙◌, subst, sum_by, arith, Ordering, Less, Equal, Greater}
 use Rattle.std.specs.Ordering.{is_eq, is_lt}
 use Rattle.std.specs.FinMap.{entries, empty, entries_sorted}
@@ -39,7 +39,7 @@ pub find-below_all : {X : Type 0} (k : Path) (es : List (Path × X)) → T (belo
 find-below_all k [] h = refl
 find-below_all k (e ∷ es) h = ap (λ r. cond (is_eq r) (Some e.1) (find path_cmp k es)) (is_lt-Less (path_cmp k e.0) (both_first _ _ h)) ∙ find-below_all k es (both_second (is_lt (path_cmp k e.0)) _ h)
 
--- a sum that adds up at each path
+-- A sum that adds up at each path.
 module _ (counts : Path → Bool) where
   abbrev weight : Path × Node → ℕ
   weight e = cond (counts e.0) e.1.bytes 0

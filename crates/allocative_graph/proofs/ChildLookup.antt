@@ -1,4 +1,4 @@
--- The sizes in a node's graph are its own and those under its children's keys.
+-- The sizes in the graph of a node are its own and those under the keys of its children.
 use Rattle.std.proofs.Common.{◌≡◌, ℕ, ◌+◌, Bool, true, false, cond, List, [], ◌∷◌, ◌++◌, Option, Some, None, refl, sym, ap, ◌∙◌}
 use Rattle.std.specs.declared.cmp.Ordering.{Ordering}
 use Rattle.std.specs.declared.cmp.Ordering.TheVariants.{Less, Equal, Greater}
@@ -17,7 +17,7 @@ use Rattle.allocative_graph.proofs.Listing.{entries-from_entries-sorted}
 use Rattle.allocative_graph.specs.Children.{size_under, AreSum, ArePartOfSum, InOrder}
 use Rattle.allocative_graph.proofs.ChildSizes.{none_above, part_of_sum}
 
--- the first, or else the second
+-- The first option, or the second one where the first is None.
 abbrev or_else : Option ℕ → Option ℕ → Option ℕ
 or_else (Some n) o = Some n
 or_else None o = o
@@ -36,14 +36,14 @@ tied Less r e = absurd (cc)
 tied Equal r e = refl
 tied Greater r e = absurd (cc)
 
--- under another key nothing is found
+-- Under another key nothing is found.
 find-other : (k l : Key) (p : Path) (rs rest : List (Path × ℕ)) → eq_by_cmp key_cmp k l ≡ false
     → find path_cmp (k ∷ p) (under_rows l rs ++ rest) ≡ find path_cmp (k ∷ p) rest
 find-other k l p [] rest e = refl
 find-other k l p (r ∷ rs) rest e =
     ap (λ b. cond b (Some r.1) (find path_cmp (k ∷ p) (under_rows l rs ++ rest))) (not_tied (key_cmp k l) (path_cmp p r.0) e) ∙ find-other k l p rs rest e
 
--- under the same key it is as without the key
+-- Under the key that is looked up, the search is that of the rest of the path.
 find-same : (k l : Key) (p : Path) (rs rest : List (Path × ℕ)) → eq_by_cmp key_cmp k l ≡ true
     → find path_cmp (k ∷ p) (under_rows l rs ++ rest) ≡ or_else (find path_cmp p rs) (find path_cmp (k ∷ p) rest)
 find-same k l p [] rest e = refl
@@ -78,7 +78,7 @@ get-root n cs h = get-from_sorted path_cmp (([], n) ∷ rows_of cs) [] (node_sor
 pub get-under : (n : ℕ) (cs : List Child) (k : Key) (p : Path) → InOrder cs → get (node n cs) (k ∷ p) ≡ size_under cs k p
 get-under n cs k p h = get-from_sorted path_cmp (([], n) ∷ rows_of cs) (k ∷ p) (node_sorted n cs h) ∙ find-rows cs k p h
 
--- nodes add up where their own sizes and their children do
+-- Nodes add up where their own sizes and their children do.
 pub node_sum : (m n : ℕ) (cs ds es : List Child) → InOrder cs → InOrder ds → InOrder es → AreSum cs ds es → IsSum (node m cs) (node n ds) (node (m + n) es)
 node_sum m n cs ds es a b c s [] = rw (get-root m cs a, get-root n ds b, get-root (m + n) es c) (refl, refl)
 node_sum m n cs ds es a b c s (k ∷ p) = rw (get-under m cs k p a, get-under n ds k p b, get-under (m + n) es k p c) (s k p)

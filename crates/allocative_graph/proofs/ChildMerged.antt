@@ -1,4 +1,4 @@
--- Merging children: what the next one adds, and what is there in the end.
+-- Merging children: what the next child adds, and what is there at the end.
 use Rattle.std.proofs.Common.{◌≡◌, ℕ, ◌+◌, ◌<◌, ◌≤◌, ◌^◌, ◌&&◌, Bool, true, false, cond, List, [], ◌∷◌, ◌++◌, length, length-append, append_assoc, Option, Some, None, refl, sym, ap, subst, ◌∙◌, arith, true≢false, Result, Ok, Err}
 use Rattle.std.proofs.lemmas.List.{append-nil, length-map}
 use Rattle.std.specs.Prelude.{is_ok}
@@ -26,7 +26,7 @@ merged_none = record {
   at_most = omega arith;
 }
 
--- Where nothing was added, a part was.
+-- Children that did not change are a part of the sum.
 pub not_merged : (cs ds : List Child) → AreChildren cs → Merged false cs ds cs
 not_merged cs ds h = record {
   children = h;
@@ -98,7 +98,7 @@ merged_both a b c d e cs ds es m same_d same_e g below_cs below_ds = record {
   at_most = omega (arith, m.at_most, g.at_most, weight-cons c cs, weight-cons d ds, weight-cons e es);
 }
 
--- To add no child changes nothing.
+-- Adding no child changes nothing.
 pub merged_same : (cs : List Child) → AreChildren cs → Merged true cs [] cs
 merged_same [] h = merged_none
 merged_same (c ∷ cs) h = merged_first true c cs [] cs (merged_same cs (others c cs h)) (first_tree c cs h) (first_below c cs h) tt
@@ -134,7 +134,7 @@ next_both a c d e cs ds mine theirs same_d same_e g = record {
   fits = omega (arith, g.at_most, weight-cons c cs, weight-cons d ds);
 }
 
--- Where the first key of cs is less than that of ds, its child is next.
+-- Where the first key of cs is less than that of ds, the first child of cs is next.
 pub next_less : (cs ds : List Child) (c : Child) (cs' : List Child) → cs ≡ c ∷ cs' → AreChildren cs → AreChildren ds → front_order cs ds ≡ Some Less → IsNext true cs ds c cs' ds
 next_less cs ds c cs' e mine theirs front =
     subst (λ (l : List Child). IsNext true l ds c cs' ds) (sym e)
@@ -144,7 +144,7 @@ next_less cs ds c cs' e mine theirs front =
     above [] h f = tt
     above (d ∷ ds) h f = above_all c.key d ds (cc) h
 
--- Where it is greater, or where cs has none, the first child of ds is next.
+-- Where it is greater, or where cs has no child, the first child of ds is next.
 pub next_greater : (cs ds : List Child) (d : Child) (ds' : List Child) → ds ≡ d ∷ ds' → AreChildren cs → AreChildren ds → front_order cs ds ≡ Some Greater → IsNext true cs ds d cs ds'
 next_greater cs ds d ds' e mine theirs front =
     subst (λ (l : List Child). IsNext true cs l d cs ds') (sym e)
@@ -176,7 +176,7 @@ module _ (cs ds : List Child) (c d : Child) (cs' ds' : List Child) (e : cs ≡ c
       )
 
 -- ---- the loop of a merge
--- Of cs and ds, cs' and ds' are left; out has the merge of the others, size is what it weighs, and room is enough for all.
+-- Of cs and ds, cs' and ds' remain; out has the merge of the others, size is its weight, and room is enough for all.
 pub record Going (all : Bool) (cs ds out cs' ds' : List Child) (size room : ℕ) : Type 0 where
   pub goes_on : (b : Bool) (es : List Child) → Merged b cs' ds' es → Merged (all && b) cs ds (out ++ es)
   pub mine : AreChildren cs'
@@ -212,7 +212,7 @@ going_next all a cs ds out cs' ds' c cs'' ds'' size room g n =
       has_room = let h = g.has_room in let f = n.fewer in omega arith;
     }
 
--- After the push, in the words of the loop.
+-- The state after the push, in terms of the loop.
 pub going_pushed : {all all' : Bool} {cs ds out out' cs' ds' : List Child} {size size' room room' : ℕ} → Going all cs ds out cs' ds' size room → all' ≡ all → out' ≡ out → size' ≡ size → room ≤ room' → Going all' cs ds out' cs' ds' size' room'
 going_pushed {all = all} {cs = cs} {ds = ds} {out = out} {cs' = cs'} {ds' = ds'} {size = size} {room' = room'} g a o s r =
     let more : Going all cs ds out cs' ds' size room' = record { goes_on = g.goes_on; mine = g.mine; theirs = g.theirs; fewer_rows = g.fewer_rows; fits = g.fits; exact = g.exact; has_room = (let h = g.has_room in omega arith) } in

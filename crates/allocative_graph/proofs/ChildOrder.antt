@@ -1,4 +1,4 @@
--- Children in the order of their keys: what order says of the parts of a list.
+-- Children in the order of their keys: what the order says of the parts of a list.
 use Rattle.std.proofs.Common.{◌≡◌, ℕ, zero, suc, ◌<◌, List, [], ◌∷◌, ◌++◌, length, get_or, ap, ◌∙◌, arith}
 use Rattle.std.specs.List.{AllByRecursion}
 use Rattle.std.specs.List.Sorted.{IsStrictlySortedBy}
@@ -49,7 +49,7 @@ pub with_first : (c : Child) (cs : List Child) → AllAbove cs c.key → IsTree 
 unfolding IsStrictlySortedBy
 with_first c cs above t h = record { sorted = (above, h.sorted); trees = (t, h.trees) }
 
--- What is below the first child is below all.
+-- A key below that of the first child is below those of all.
 pub above_all : (k : Key) (c : Child) (cs : List Child) → key_cmp k c.key ≡ Less → AreChildren (c ∷ cs) → AllAbove (c ∷ cs) k
 above_all k c cs less h = (less, all_weaker (λ l. key_cmp c.key l ≡ Less) (λ l. key_cmp k l ≡ Less) (keys_of cs) (λ l q. key_trans k c.key l less q) (first_below c cs h))
 
@@ -63,7 +63,7 @@ pub first_below_one : (c : Child) (a b : List Child) (x : Child) → AreChildren
 first_below_one c a b x h = all-at (λ l. key_cmp c.key l ≡ Less) a b x (first_below c (a ++ x ∷ b) h)
 
 -- ---- the last child, and neighbors
--- Where the last is below k, all are.
+-- Where the key of the last child is below k, those of all children are.
 pub below_last : (cs : List Child) (k : Key) (n : ℕ) (d : Child) → length cs ≡ suc n → InOrder cs → key_cmp (get_or cs n d).key k ≡ Less → AllBelow cs k
 unfolding IsStrictlySortedBy
 below_last [] k n d len o less = absurd (omega arith)

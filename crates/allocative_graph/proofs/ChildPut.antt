@@ -29,7 +29,7 @@ changed all (z ∷ a) b x c y h same_c same_y g =
     let less : key_cmp z.key c.key ≡ Less = subst (λ (k : Key). key_cmp z.key k ≡ Less) (sym same_c) (first_below_one z a b x h) in
     merged_first all z (a ++ x ∷ b) (c ∷ []) (a ++ y ∷ b) (changed all a b x c y rest same_c same_y g) (first_tree z (a ++ x ∷ b) h) (first_below z (a ++ x ∷ b) h) (less, tt)
 
--- ---- the key of c was found at i, where x stands; y takes its place
+-- ---- the key of c was found at i, where x is; y takes its place
 module _ (cs : List Child) (i : ℕ) (c x y : Child) (found : IsFound cs c.key i) (there : x ≡ get_or cs i x) where
   was : cs ≡ take i cs ++ x ∷ drop (suc i) cs
   was = split_at_place cs i x found.within ∙ ap (λ z. take i cs ++ z ∷ drop (suc i) cs) (sym there)

@@ -34,7 +34,7 @@ weight-append a b = ap sum_of_rows (flat_map-append rows_of_child a b) ∙ sum-a
 pub weight-split : (a b : List Child) (c : Child) → weight (a ++ c ∷ b) ≡ weight a + (total c.graph + weight b)
 weight-split a b c = weight-append a (c ∷ b) ∙ ap (λ n. weight a + n) (weight-cons c b)
 
--- A list by its parts before and after a place, and with another child there.
+-- A list split at a place, and the list with another child at that place.
 pub split_at_place : (cs : List Child) (i : ℕ) (d : Child) → i < length cs → cs ≡ take i cs ++ get_or cs i d ∷ drop (suc i) cs
 split_at_place cs i d h = sym (take-append-drop i cs) ∙ ap (λ s. take i cs ++ s) (drop-cons cs i d h)
 

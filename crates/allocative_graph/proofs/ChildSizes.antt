@@ -1,4 +1,4 @@
--- The sizes below a key, where it stands among the children and where it does not.
+-- The sizes below a key that a child has, and below a key that no child has.
 use Rattle.std.proofs.Common.{◌≡◌, ℕ, ◌||◌, inl, inr, Bool, true, false, cond, List, [], ◌∷◌, Option, None, Some, refl, sym, ap, subst, ◌∙◌, arith}
 use Rattle.std.specs.Option.{is_some}
 use Rattle.std.specs.List.{AllByRecursion}
@@ -11,7 +11,7 @@ use Rattle.allocative_graph.specs.Node.{keys_of}
 use Rattle.allocative_graph.specs.Children.{size_under, AddsUp, AddsUpInPart, AllAbove}
 use Rattle.allocative_graph.proofs.ChildOrder.{key_same}
 
--- The key k is none of theirs.
+-- No child has the key k.
 abbrev pub Lacks : Key → List Child → Type 0
 Lacks k cs = AllByRecursion (λ l. eq_by_cmp key_cmp k l ≡ false) (keys_of cs)
 
@@ -26,7 +26,7 @@ pub size_under-lacks : (cs : List Child) (k : Key) (p : Path) → Lacks k cs →
 size_under-lacks [] k p h = refl
 size_under-lacks (c ∷ cs) k p h = ap (λ b. cond b (get c.graph p) (size_under cs k p)) h.0 ∙ size_under-lacks cs k p h.1
 
--- Nothing stands below a key that is below all.
+-- No size is below a key that is below the keys of all children.
 pub none_above : (k l : Key) (p : Path) (cs : List Child) → eq_by_cmp key_cmp k l ≡ true → AllAbove cs l → size_under cs k p ≡ None
 none_above k l p cs e h = size_under-lacks cs k p (subst (λ m. Lacks m cs) (sym (same-is k l e)) (lacks-above l cs h))
 

@@ -1,4 +1,4 @@
--- A path with an entry one key below it has one itself, or is the root.
+-- A path with an entry one key below it has an entry itself, or is the root.
 use Rattle.std.proofs.Common.{◌≡◌, ◌+◌, Bool, true, false, cond, ◌&&◌, ◌||◌, IsTrue, ◌⊎◌, inl, inr, List, [], ◌∷◌, ◌++◌, flat_map, refl, ap, sym, ◌∙◌, subst, true≢false}
 use Rattle.std.specs.List.{AllByRecursion}
 use Rattle.std.specs.Ordering.{eq_by_cmp}
@@ -105,6 +105,6 @@ pub not_root : (k : Key) (p : Path) → k ∷ p ≡ [] → ⊥
 unfolding is_empty
 not_root k p e = true≢false (sym (ap is_empty e))
 
--- where a path other than the root isn't entered, nothing is below it
+-- Where a path other than the root is not entered, nothing is below it.
 pub absent_below : (f : Forest) (k : Key) (p : Path) → is_entered_in (all f) (k ∷ p) ≡ false → below_in (all f) (k ∷ p) ≡ 0
 absent_below f k p h = below_none (all f) (k ∷ p) (each-implies _ _ (λ e w. not_true _ (λ g. elim (w (k ∷ p) g) [ inl q ↦ not_root k p q | inr q ↦ true≢false (sym q ∙ h) ])) (all f) (closed_all f))

@@ -1,4 +1,4 @@
--- One forest and then another: its entries, its contents, and what it fits.
+-- One forest followed by another: their entries, their contents, and what they fit.
 use Rattle.std.proofs.Common.{◌≡◌, Bool, true, false, ◌||◌, IsTrue, List, [], ◌∷◌, ◌++◌, map, flat_map, refl, ap, sym, ◌∙◌, subst, append_assoc, IsPermutation}
 use Rattle.std.specs.FinSet.{contains, insert, contains-insert}
 use Rattle.std.proofs.lemmas.List.{map-append}

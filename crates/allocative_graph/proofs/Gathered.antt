@@ -1,4 +1,4 @@
--- Some children added, one after another: in which order does not matter.
+-- Adding some children, one after another, has one result in whatever order.
 use Rattle.std.proofs.Common.{◌≡◌, ℕ, ◌+◌, ◌||◌, Bool, true, false, List, [], ◌∷◌, Option, Some, None, refl, sym, ap, ◌∙◌, inl, sum_by, unwrap_or, arith}
 use Rattle.std.specs.Option.{is_some}
 use Rattle.std.specs.List.{list_any}
@@ -37,11 +37,11 @@ or_false : (a : Bool) → a ≡ (a || false)
 or_false true = refl
 or_false false = refl
 
--- The size that a child has at a path, its graph being put behind its key.
+-- The size that a child has at a path, with its key before the paths of its graph.
 abbrev size_in : Path → Child → ℕ
 size_in p c = size_at (under c.key c.graph) p
 
--- Whether it has the path then.
+-- Whether a child has a path, with its key before the paths of its graph.
 abbrev has_path : Path → Child → Bool
 has_path p c = contains_key (under c.key c.graph) p
 
@@ -72,7 +72,7 @@ all_permuted g cs ds h =
     (size_at-all g ds p ∙ ap (λ n. size_at g p + n) (sum_by-IsPermutation (size_in p) cs ds h) ∙ sym (size_at-all g cs p))
     (contains_key-all g ds p ∙ ap (λ b. contains_key g p || b) (sym (list_any-IsPermutation (has_path p) cs ds h)) ∙ sym (contains_key-all g cs p)))
 
--- Nor does it for their totals.
+-- The order of the children does not matter for their total.
 pub total_permuted : (cs ds : List Child) → IsPermutation cs ds → total_of ds ≡ total_of cs
 total_permuted cs ds h = sum_by-IsPermutation (λ (c : Child). total c.graph) cs ds h
 
@@ -97,11 +97,11 @@ all_onto g h [] = refl
 all_onto g h (c ∷ cs) =
     all_onto g (sum_of h (under c.key c.graph)) cs ∙ ap (λ (s : Graph). sum_of_all s cs) (sym (sum_of-associates g h (under c.key c.graph)))
 
--- To add the graph of some children is to add them.
+-- Adding the graph of some children is adding the children.
 pub sum_of-all : (g : Graph) (cs : List Child) → IsTree g → sum_of g (sum_of_all default cs) ≡ sum_of_all g cs
 sum_of-all g cs t = all_onto g default cs ∙ ap (λ (s : Graph). sum_of_all s cs) (sum_of-default g t)
 
--- A graph that did not change has a part of each sum.
+-- A graph that does not change has a part of every sum.
 pub part_unchanged : (g h : Graph) → IsPartOfSum g h g
 part_unchanged g h p = (inl refl, (λ e. e), (λ e. either (contains_key g p) (contains_key h p) e))
   where

@@ -1,4 +1,4 @@
--- The entries of a map are those of a list in order that answers alike.
+-- The entries of a map are those of a sorted list with the map's values.
 use Rattle.std.proofs.Common.{◌≡◌, T, List, sym, ap, ◌∙◌}
 use Rattle.std.specs.FinMap.{FinMap, get, entries, from_sorted, from_entries, get-from_sorted, get-from_entries, entries-from_sorted, same_map}
 use Rattle.std.specs.FinMap.Entries.{find, is_sorted}

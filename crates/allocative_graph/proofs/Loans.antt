@@ -1,4 +1,4 @@
--- What a `ReadRight` owns: it can be had twice, and names no thread. Assumes `Logic`.
+-- What a `ReadRight` owns can be copied, and names no thread. Assumes `Logic`.
 use Rattle.std.proofs.Common.{ℕ, List, []}
 use seplogic.Ra.Ura.{Ura}
 use base.Logic.{ent, sep}

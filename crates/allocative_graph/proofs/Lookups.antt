@@ -8,7 +8,7 @@ use Rattle.allocative_graph.specs.Forest.{Entry, Bag}
 use Rattle.allocative_graph.specs.Sums.{Node, Sums, is_unique_mark, bytes_in, is_unique_in, is_entered_in, together, node_of, add, add_all, sums_of}
 use Rattle.allocative_graph.proofs.Basics.{path_total, path_antisymmetric, same_path}
 
--- what a bag has at a path
+-- What a bag has at a path.
 abbrev pub node_in : Bag → Path → Option Node
 node_in b q = cond (is_entered_in b q) (Some (record { bytes = bytes_in b q; is_unique = is_unique_in b q })) None
 
@@ -55,7 +55,7 @@ zero_after n = omega arith
 assoc : (a b c : ℕ) → (a + b) + c ≡ a + (b + c)
 assoc a b c = omega arith
 
--- a node that is there takes in what the bag has, also where that is nothing
+-- A node that is there is merged with what the bag has there, also where that is nothing.
 merge_there : (m : Node) (b : Bag) (q : Path) → merge (Some m) (node_in b q) ≡ Some (node (m.bytes + bytes_in b q) (m.is_unique || is_unique_in b q))
 merge_there m b q = by (is_entered_in b q) refl
   where

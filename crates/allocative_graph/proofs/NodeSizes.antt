@@ -1,4 +1,4 @@
--- The sizes of a node's graph: at its root, and in all.
+-- The size at the root of a node's graph, and its total.
 use Rattle.std.proofs.Common.{◌≡◌, ℕ, ◌+◌, List, [], ◌∷◌, sym, ap, ◌∙◌}
 use Rattle.std.specs.List.Sorted.{IsStrictlySortedBy}
 use Rattle.std.specs.FinMap.{insert, entries-insert, entries-from_sorted, same_entries_map, get-from_sorted}
@@ -14,15 +14,15 @@ use Rattle.allocative_graph.specs.Path.{key_cmp, path_cmp}
 use Rattle.allocative_graph.specs.Node.{node, rows_of, keys_of}
 use Rattle.allocative_graph.specs.NodeRows.{entries-node, node_sorted}
 
--- a node with no children is the root alone
+-- A node with no children has only the root.
 pub node-nil : node 0 [] ≡ default
 node-nil = same_entries_map _ _ (entries-from_sorted path_cmp (([], 0) ∷ []) tt ∙ sym (entries-from_entries-sorted (([], 0) ∷ []) tt))
 
--- the size at the root is the node's own
+-- The size at the root is the node's own size.
 pub size_at-root : (n : ℕ) (cs : List Child) → IsStrictlySortedBy key_cmp (keys_of cs) → size_at (node n cs) [] ≡ n
 size_at-root n cs h = ap (λ o. unwrap_or o 0) (get-from_sorted path_cmp (([], n) ∷ rows_of cs) [] (node_sorted n cs h))
 
--- to change a node's own size is to change the size at its root
+-- Changing a node's own size is changing the size at its root.
 pub node-insert : (n m : ℕ) (cs : List Child) → IsStrictlySortedBy key_cmp (keys_of cs) → node m cs ≡ insert (node n cs) [] m
 node-insert n m cs h =
     same_entries_map _ _ (entries-node m cs h ∙ sym (entries-insert path_total (node n cs) [] m ∙ ap (put path_cmp [] m) (entries-node n cs h)))

@@ -11,7 +11,7 @@ use Rattle.std.specs.FinMap.{entries}
 use Rattle.allocative_graph.specs.Node.{rows_of, rows_of_child}
 use Rattle.allocative_graph.proofs.RowSums.{joined-keys}
 
--- the texts of the keys
+-- The texts of the keys.
 abbrev pub texts : List (Bor (List ℕ)) → List (List ℕ)
 texts ks = map (λ k. k.now) ks
 
@@ -25,19 +25,19 @@ joined_more t ks i d h =
     rw (take_more ks i d h, map-append (λ (k : Bor (List ℕ)). k.now) (take i ks) (get_or ks i d ∷ []), joined_on-append (texts (take i ks)) ((get_or ks i d).now ∷ []))
     (simp (append_assoc, append-nil))
 
--- a key behind the start of a line
+-- A key can be in the path or in the text before it.
 key_moved : (t : List ℕ) (k : Key) (p : Path) (n : ℕ) → line_below t (k ∷ p, n) ≡ line_from (t ++ k) (p, n)
 key_moved t k p n = ap (λ (l : List ℕ). cond (n == 0) [] l) (ap (λ (l : List ℕ). t ++ (l ++ size_text n)) (joined-keys k p) ∙ moved t k (joined_on p) (size_text n))
   where
     moved : (t k j r : List ℕ) → t ++ ((k ++ j) ++ r) ≡ (t ++ k) ++ (j ++ r)
     moved t k j r = simp append_assoc
 
--- the rows of one child
+-- The lines of one child.
 pub child_lines : (t : List ℕ) (k : Key) (rs : List (Path × ℕ)) → lines_below t (under_rows k rs) ≡ lines_from (t ++ k) rs
 child_lines t k [] = refl
 child_lines t k (r ∷ rs) = λ i. key_moved t k r.0 r.1 i ++ child_lines t k rs i
 
--- a `;` behind the keys so far
+-- A `;` can be before the key or at the end of the text before it.
 semicolon_moved : (t : List ℕ) (k : Key) (p : Path) (n : ℕ) → line_from t (k ∷ p, n) ≡ line_below (t ++ 59 ∷ []) (k ∷ p, n)
 semicolon_moved t k p n = ap (λ (l : List ℕ). cond (n == 0) [] l) (moved t k (joined_on p) (size_text n) ∙ ap (λ (l : List ℕ). (t ++ 59 ∷ []) ++ (l ++ size_text n)) (sym (joined-keys k p)))
   where
@@ -48,7 +48,7 @@ under_lines : (t : List ℕ) (k : Key) (rs : List (Path × ℕ)) → lines_from 
 under_lines t k [] = refl
 under_lines t k (r ∷ rs) = λ i. semicolon_moved t k r.0 r.1 i ++ under_lines t k rs i
 
--- the rows of all children
+-- The lines of all children.
 pub rows_lines : (t : List ℕ) (cs : List Child) → lines_from t (rows_of cs) ≡ lines_below (t ++ 59 ∷ []) (rows_of cs)
 rows_lines t [] = refl
 rows_lines t (c ∷ cs) =
@@ -56,7 +56,7 @@ rows_lines t (c ∷ cs) =
     ∙ ((λ i. under_lines t c.key (entries c.graph) i ++ rows_lines t cs i)
     ∙ sym (flat_map-append (line_below (t ++ 59 ∷ [])) (rows_of_child c) (rows_of cs)))
 
--- the text after one more child
+-- The text after one more child.
 pub child_written : (t : List ℕ) (cs : List Child) (i : ℕ) (d : Child) (before : List ℕ) → i < length cs
     → (before ++ lines_below t (rows_of (take i cs))) ++ lines_from (t ++ (get_or cs i d).key) (entries (get_or cs i d).graph)
     ≡ before ++ lines_below t (rows_of (take (i + 1) cs))
@@ -69,11 +69,11 @@ child_written t cs i d before h =
     ∙ ap (λ s. before ++ s) (sym (flat_map-append (line_below t) (rows_of (take i cs)) (rows_of_child c)))
     ∙ ap (λ s. before ++ lines_below t s) (sym e)
 
--- the root's line is the path with its size
+-- The root's line is the path with its size.
 pub line_of_some : (t : List ℕ) (n : ℕ) → n ≢ 0 → line_from t ([], n) ≡ t ++ size_text n
 line_of_some t n some = ap (λ (b : Bool). cond b [] (t ++ size_text n)) (ne_eqb n 0 some)
 
--- the text after the root's own line: what is left is the lines below it
+-- The text after the root's own line, to which the lines below it are still to be added.
 pub own_written : (t before after : List ℕ) (n : ℕ) (cs : List Child) (rs : List (Path × ℕ)) → rs ≡ ([], n) ∷ rows_of cs → after ≡ before ++ line_from t ([], n) → after ++ lines_below (t ++ 59 ∷ []) rs ≡ before ++ lines_from t rs
 own_written t before after n cs rs is wrote =
     ap (λ l. after ++ lines_below (t ++ 59 ∷ []) l) is
@@ -82,15 +82,15 @@ own_written t before after n cs rs is wrote =
     ∙ (ap (λ l. before ++ (line_from t ([], n) ++ l)) (sym (rows_lines t cs))
     ∙ ap (λ l. before ++ lines_from t l) (sym is))))
 
--- no line stands below a root that is alone
+-- Where the graph has only the root, no line is below it.
 pub none_below : (t : List ℕ) (n : ℕ) (rs : List (Path × ℕ)) → rs ≡ ([], n) ∷ [] → lines_below t rs ≡ []
 none_below t n rs is = ap (lines_below t) is
 
--- what starts a line is cut off again
+-- Cutting back the start of a line returns it.
 pub cut_back : (t more : List ℕ) (n : ℕ) → n ≡ length t → take n (t ++ more) ≡ t
 cut_back t more n len = ap (λ k. take k (t ++ more)) len ∙ take-append_seam t more
 
--- what is left after the last key is taken off again
+-- A key pushed after the others is removed again.
 pub popped : (xs ys zs : List (Bor (List ℕ))) (x : Bor (List ℕ)) (n : ℕ) → zs ≡ take (n - 1) ys → n ≡ length ys → ys ≡ xs ++ x ∷ [] → zs ≡ xs
 popped xs ys zs x n rest len push =
     let l : n - 1 ≡ length xs = omega (arith, length-append xs (x ∷ []), ap length push) in

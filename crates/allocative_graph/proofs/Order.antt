@@ -46,7 +46,7 @@ no_repeat : (s : Identities) (is : List Identity) → Fresh s is → NoRepeat is
 no_repeat s [] h = tt
 no_repeat s (i ∷ is) h = (absent i is (apart_from s i is h.1), no_repeat (insert s i) is h.1)
 
--- the first i goes
+-- The list without its first i.
 abbrev without : Identity → List Identity → List Identity
 without i [] = []
 without i (j ∷ js) = cond (is_same_identity i j) js (j ∷ without i js)

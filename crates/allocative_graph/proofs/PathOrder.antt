@@ -1,4 +1,4 @@
--- The order of paths: a beginning comes first; else the first keys that differ decide, by the bytes of their texts.
+-- The order of paths: a prefix comes first; otherwise the first keys that differ decide, by the bytes of their texts.
 use Rattle.std.proofs.Common.{◌≡◌, ℕ, ◌↔◌, List, [], ◌∷◌, ◌++◌, refl, ap, sym, ◌∙◌, subst, true≢false, Ordering, Less, Equal, Greater, nat_cmp}
 use Rattle.std.specs.Ordering.{is_lt, ordering_then}
 use Rattle.std.specs.Cmp.Lexicographic.{slice_cmp, nat_list_cmp_total}

@@ -33,7 +33,7 @@ module _ (f : Forest) where
     met = insert_all c.met (map (λ c. c.0) (sym contents_alone i));
   }
 
-  -- the content starts at the root
+  -- The content of a shared entry starts at the root.
   inside-first : (c : Live) (k : Key) (n : ℕ) (j : Identity) → leave_live (plus_live (go [] (plus_live c (First k n j Empty Empty))) f) ≡ plus_live c (First k n j f Empty)
   inside-first c k n j = λ i. record c {
     sums = add_all (add c.sums (record { path = c.here ++ k ∷ []; size = n; mark = AsShared j })) (own_behind [] f ++ flat_map (λ c. c.1) (sym contents_alone i));
@@ -99,7 +99,7 @@ no_content-second (Unique k n f after) g w = no_content-second after g w.1
 no_content-second (First k n j f after) g w = absurd w
 no_content-second (Again k n j after) g w = no_content-second after g w
 
--- f stands inside an inline entry, and so not right inside a unique one
+-- The forest f is inside an inline entry, and therefore not directly inside a unique one.
 inline_sum : (u : Bool) (s n h : ℕ) → (s + cond u n 0) + (h + 0) ≡ s + ((h + 0) + cond u (n + 0) 0)
 inline_sum true s n h = omega arith
 inline_sum false s n h = omega arith
@@ -141,7 +141,7 @@ pub takes_second : (c : Kind) (f g : Forest) → Takes c (followed_by f g) → T
 takes_second (OfGraph c) f g w = fits-second c.met f g w
 takes_second (OfHeld h) f g w = no_content-second f g w
 
--- an entry, f inside it, and one step back
+-- An entry with f inside it is entering, adding f and one step back.
 pub inside_entry : (u : Bool) (k : Key) (n : ℕ) (c : Kind) (f : Forest) → leave (is_in_unique c) (plus (enter u k n c) f) ≡ plus c (entry_of u k n f)
 inside_entry true k n (OfGraph c) f = ap OfGraph (inside-unique f c k n)
 inside_entry false k n (OfGraph c) f = ap OfGraph (inside-inline f c k n)
@@ -171,7 +171,7 @@ pub visitors-enter : (u : Bool) (k : Key) (n : ℕ) (c : Kind) → visitors (ent
 visitors-enter u k n (OfGraph c) = refl
 visitors-enter u k n (OfHeld h) = refl
 
--- leaving takes at most one visitor away
+-- Leaving takes at most one open visitor away.
 pub visitors-leave : (outer : Bool) (c : Kind) → visitors c ≤ suc (visitors (leave outer c))
 visitors-leave outer (OfGraph c) = pred_less c.open_visitors
 visitors-leave outer (OfHeld h) = pred_less h.open_visitors

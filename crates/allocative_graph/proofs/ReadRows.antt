@@ -13,16 +13,17 @@ use Rattle.allocative_graph.specs.Children.{InOrder}
 use Rattle.allocative_graph.specs.Reads.{Figures, figures_behind}
 use Rattle.allocative_graph.proofs.Behind.{total_at-child}
 
--- The figures of some paths with their sizes, behind some keys, where t has the bytes of each path and of all below it.
+-- The figures of some paths with their sizes, with some keys before them, where t has the bytes of each path and of all
+-- below it.
 abbrev pub figured : (Path → ℕ) → Path → List (Path × ℕ) → List Figures
 figured t ks rs = map (λ e. record { path = ks ++ e.0; self_size = e.1; total_size = t e.0 }) rs
 
--- Those of two lists are those of one and then of the other.
+-- The figures of two lists joined are those of one followed by those of the other.
 pub figured-append : (t : Path → ℕ) (ks : Path) (a b : List (Path × ℕ)) → figured t ks (a ++ b) ≡ figured t ks a ++ figured t ks b
 figured-append t ks [] b = refl
 figured-append t ks (r ∷ a) b = ap (λ (fs : List Figures). record { path = ks ++ r.0; self_size = r.1; total_size = t r.0 } ∷ fs) (figured-append t ks a b)
 
--- A key put before the paths may as well stand last among the keys that they are behind.
+-- Putting a key before the paths is the same as adding it at the end of the keys before them.
 figured-under : (t u : Path → ℕ) (ks : Path) (k : Key) (rs : List (Path × ℕ)) → ((q : Path) → t (k ∷ q) ≡ u q) → figured u (ks ++ k ∷ []) rs ≡ figured t ks (under_rows k rs)
 figured-under t u ks k [] h = refl
 figured-under t u ks k (r ∷ rs) h =

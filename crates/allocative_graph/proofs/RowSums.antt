@@ -21,7 +21,7 @@ by_parts : (x y z : Option ℕ) → unwrap_or z 0 ≡ unwrap_or x 0 + unwrap_or 
 by_parts x y None e s = ap (λ b. cond b (Some (unwrap_or x 0 + unwrap_or y 0)) None) s
 by_parts x y (Some n) e s = ap Some e ∙ ap (λ b. cond b (Some (unwrap_or x 0 + unwrap_or y 0)) None) s
 
--- a graph that has the sums path by path is the sum
+-- A graph that has the sums path by path is the sum.
 pub is_sum_of : (g h r : Graph) → IsSum g h r → r ≡ sum_of g h
 is_sum_of g h r s = same_map path_total path_antisymmetric r (sum_of g h) (λ p. by_parts (get g p) (get h p) (get r p) (s p).0 (s p).1 ∙ sym (get-sum_of g h p))
 

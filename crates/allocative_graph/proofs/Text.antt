@@ -1,4 +1,5 @@
--- A text tells the sizes: its lines part at the line feeds, a line at its last space, and a path at each `;`.
+-- A text determines the sizes: it splits into lines at the line feeds, a line at its last space, and a path at each
+-- `;`.
 use Rattle.std.proofs.Common.{◌≡◌, ◌≢◌, ℕ, zero, suc, ◌+◌, ◌^◌, ◌<◌, ◌≤◌, ◌/◌, ◌%◌, ◌==◌, Bool, true, false, cond, not, ◌||◌, ◌&&◌, T, IsTrue, ◌⊎◌, inl, inr, List, [], ◌∷◌, ◌++◌, map, flat_map, filter, Some, None, refl, ap, sym, ◌∙◌, subst, true≢false, arith, unwrap_or, append_assoc, decimal, sum_by, nat_lt, eqb-true, if◌then◌else◌}
 use Rattle.std.specs.List.{AllByRecursion}
 use Rattle.std.specs.Fmt.{digits, digits_onto, digit_glyph}

@@ -11,27 +11,27 @@ use Rattle.allocative_graph.specs.declared.flamegraph.Child.{Child}
 use Rattle.allocative_graph.specs.Path.{Key, Path, key_cmp}
 use Rattle.allocative_graph.specs.Node.{keys_of}
 
--- The size at the path p below the child with the key k, if there is one.
+-- The size at the path p below the child with the key k, or None where there is no such path.
 abbrev pub size_under : List Child → Key → Path → Option ℕ
 size_under [] k p = None
 size_under (c ∷ cs) k p = cond (eq_by_cmp key_cmp k c.key) (get c.graph p) (size_under cs k p)
 
--- z is the sum of x and y; it is there where one of them is, and what is missing counts as 0.
+-- z is the sum of x and y. It is there where x or y is, and a missing one counts as 0.
 abbrev pub AddsUp : Option ℕ → Option ℕ → Option ℕ → Type 0
 AddsUp x y z = (unwrap_or z 0 ≡ unwrap_or x 0 + unwrap_or y 0) × (is_some z ≡ (is_some x || is_some y))
 
--- z is x or the sum of x and y; it is there where x is, and only where one of them is.
+-- z is x or the sum of x and y. It is there where x is, and only where x or y is.
 abbrev pub AddsUpInPart : Option ℕ → Option ℕ → Option ℕ → Type 0
 AddsUpInPart x y z =
     ((unwrap_or z 0 ≡ unwrap_or x 0) ⊎ (unwrap_or z 0 ≡ unwrap_or x 0 + unwrap_or y 0))
     × (is_some x ≡ true → is_some z ≡ true)
     × (is_some z ≡ true → (is_some x || is_some y) ≡ true)
 
--- Below each key the sizes of es are the sums of those of cs and ds.
+-- Below each key, the sizes of es are the sums of those of cs and ds.
 abbrev pub AreSum : List Child → List Child → List Child → Type 0
 AreSum cs ds es = (k : Key) (p : Path) → AddsUp (size_under cs k p) (size_under ds k p) (size_under es k p)
 
--- Below each key each size of es is that of cs, or the sum.
+-- Below each key, each size of es is that of cs or the sum of those of cs and ds.
 abbrev pub ArePartOfSum : List Child → List Child → List Child → Type 0
 ArePartOfSum cs ds es = (k : Key) (p : Path) → AddsUpInPart (size_under cs k p) (size_under ds k p) (size_under es k p)
 
@@ -47,18 +47,19 @@ AllBelow cs k = AllByRecursion (λ l. key_cmp l k ≡ Less) (keys_of cs)
 abbrev pub AllAbove : List Child → Key → Type 0
 AllAbove cs k = AllByRecursion (λ l. key_cmp k l ≡ Less) (keys_of cs)
 
--- The key k stands at i.
+-- The key k is at the place i.
 pub record IsFound (cs : List Child) (k : Key) (i : ℕ) : Type 0 where
   pub within : i < length cs
   pub same : (d : Child) → (slice_index_or cs i d).key ≡ k
 
--- The key k is not there, and belongs at i.
+-- The key k is not there, and belongs at the place i.
 pub record IsGap (cs : List Child) (k : Key) (i : ℕ) : Type 0 where
   pub within : i ≤ length cs
   pub below : AllBelow (take i cs) k
   pub above : AllAbove (drop i cs) k
 
--- Which of two lists has the next child in the order of keys: the first (`Less`), the second (`Greater`), or both under one key.
+-- Which of two lists has the next child in the order of keys: the first (`Less`), the second (`Greater`), or both with
+-- one key (`Equal`).
 abbrev pub front_order : List Child → List Child → Option Ordering
 front_order [] [] = None
 front_order [] (d ∷ ds) = Some Greater

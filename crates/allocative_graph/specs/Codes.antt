@@ -1,4 +1,4 @@
--- Codes of the values that models have.
+-- Codes of the values that contracts see.
 use Rattle.std.specs.Prelude.{◌≡◌, ℕ, zero, suc, Bool, List, refl, ◌⊎◌}
 use Rattle.std.proofs.Common.{inl, inr}
 use Rattle.std.specs.Coded.{Coded, code_by, coded×, coded_ℕ, coded_bool, coded_list, coded⊎}
@@ -47,7 +47,7 @@ identity_code = code_by (ℕ × ℕ) (coded× coded_ℕ coded_ℕ) (λ i. (i.mak
 abbrev pub identities_code : Coded Identities
 identities_code = set.code identity_code
 
--- The code of a place: the current path, the paths to go back to, and the visitors out.
+-- The code of a place: the current path, the paths to go back to, and the count of open visitors.
 abbrev pub place_code : Coded (Path × (List Path × ℕ))
 place_code = coded× path_code (coded× (coded_list path_code) coded_ℕ)
 
@@ -63,38 +63,38 @@ holding_code = code_by (ℕ × (ℕ × Bool)) (coded× coded_ℕ (coded× coded_
     (λ h. (h.sum, (h.open_visitors, h.is_in_unique)))
     (λ p. record { sum = p.0; open_visitors = p.1.0; is_in_unique = p.1.1 }) (λ _. refl)
 
--- A collector of one of the two kinds, as one of two values.
+-- One of the two kinds of collector as a sum type.
 abbrev pub of_kind : Kind → Live ⊎ Holding
 of_kind (OfGraph c) = inl c
 of_kind (OfHeld h) = inr h
 
--- And back.
+-- The collector of a value of that sum type.
 abbrev pub to_kind : Live ⊎ Holding → Kind
 to_kind (inl c) = OfGraph c
 to_kind (inr h) = OfHeld h
 
--- Nothing is lost on the way.
+-- Converting a collector to the sum type and back returns it.
 pub kind_back : (k : Kind) → to_kind (of_kind k) ≡ k
 kind_back (OfGraph c) = refl
 kind_back (OfHeld h) = refl
 
--- The code of either collector.
+-- The code of a collector of either kind.
 abbrev pub kind_code : Coded Kind
 kind_code = code_by (Live ⊎ Holding) (coded⊎ live_code holding_code) of_kind to_kind kind_back
 
--- A cause as a number.
+-- A refusal as a number, for its code.
 abbrev pub of_refusal : Refusal → ℕ
 of_refusal Memory = 0
 of_refusal TooLarge = 1
 of_refusal Open = 2
 
--- And back.
+-- The refusal of such a number.
 abbrev pub to_refusal : ℕ → Refusal
 to_refusal zero = Memory
 to_refusal (suc zero) = TooLarge
 to_refusal (suc (suc n)) = Open
 
--- Nothing is lost on the way.
+-- Converting a refusal to its number and back returns it.
 pub refusal_back : (r : Refusal) → to_refusal (of_refusal r) ≡ r
 refusal_back Memory = refl
 refusal_back TooLarge = refl
@@ -104,17 +104,17 @@ refusal_back Open = refl
 abbrev pub refusal_code : Coded Refusal
 refusal_code = code_by ℕ coded_ℕ of_refusal to_refusal refusal_back
 
--- A state as one of two values.
+-- A state as a sum type.
 abbrev pub of_state : State → Refusal ⊎ Kind
 of_state (Failed r) = inl r
 of_state (Going k) = inr k
 
--- And back.
+-- The state of a value of that sum type.
 abbrev pub to_state : Refusal ⊎ Kind → State
 to_state (inl r) = Failed r
 to_state (inr k) = Going k
 
--- Nothing is lost on the way.
+-- Converting a state to the sum type and back returns it.
 pub state_back : (s : State) → to_state (of_state s) ≡ s
 state_back (Failed r) = refl
 state_back (Going k) = refl

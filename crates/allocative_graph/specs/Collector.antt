@@ -1,4 +1,4 @@
--- What contracts see of a collector, and what entering, a forest and leaving do to it.
+-- What contracts see of a collector, and what entering, adding a forest and leaving do to it.
 use Rattle.std.specs.Prelude.{◌≡◌, ℕ, suc, pred, ◌+◌, Bool, true, false, cond, List, [], ◌∷◌, ◌++◌, ⊤}
 use Rattle.std.specs.FinMap as finmap
 use Rattle.std.specs.FinSet as set
@@ -9,7 +9,8 @@ use Rattle.allocative_graph.specs.Forest.{Forest, Empty, First, Again, Bag, entr
 use Rattle.allocative_graph.specs.Sums.{Sums, add_all}
 use Rattle.allocative_graph.specs.Held.{held, inline_bytes, ShowsNoContent}
 
--- The collector of a flame graph: the sums of what was entered, the identities met, the current path, the paths to go back to, and the count of visitors that were entered and not left.
+-- The collector of a flame graph: the sums of what was entered, the identities met, the current path, the paths to go
+-- back to, and the number of open visitors, which were entered and not left.
 pub record Live : Type 0 where
   pub sums : Sums
   pub met : Identities
@@ -17,13 +18,14 @@ pub record Live : Type 0 where
   pub back : List Path
   pub open_visitors : ℕ
 
--- The collector of held bytes: their sum, the count of visitors that were entered and not left, and whether the current visitor is a unique entry's.
+-- The collector of held bytes: their sum, the number of open visitors, which were entered and not left, and whether the
+-- current visitor is that of a unique entry.
 pub record Holding : Type 0 where
   pub sum : ℕ
   pub open_visitors : ℕ
   pub is_in_unique : Bool
 
--- One of the two collectors.
+-- A collector of one of the two kinds.
 pub data Kind : Type 0 where
   OfGraph : Live → Kind
   OfHeld : Holding → Kind
@@ -33,8 +35,8 @@ pub data State : Type 0 where
   Failed : Refusal → State
   Going : Kind → State
 
--- ---- a flame graph's
--- The entries that f adds where the current path is p: its own behind p, and those of its contents from the root.
+-- ---- the collector of a flame graph
+-- The entries that f adds where the current path is p: its own after p, and those of its contents from the root.
 abbrev pub added : Path → Forest → Bag
 added p f = own_behind p f ++ content_entries f
 
@@ -42,7 +44,7 @@ added p f = own_behind p f ++ content_entries f
 abbrev pub plus_live : Live → Forest → Live
 plus_live c f = record c { sums = add_all c.sums (added c.here f); met = met_after c.met f }
 
--- A visitor more, at the path p.
+-- One more visitor, at the path p.
 abbrev pub go : Path → Live → Live
 go p c = record c { here = p; back = c.here ∷ c.back; open_visitors = suc c.open_visitors }
 
@@ -51,56 +53,58 @@ abbrev pub last_of : List Path → Path
 last_of [] = []
 last_of (p ∷ ps) = p
 
--- The paths to go back to after that.
+-- The paths to go back to after the last one.
 abbrev pub before_last : List Path → List Path
 before_last [] = []
 before_last (p ∷ ps) = ps
 
--- A visitor less: one step back.
+-- One visitor less: one step back.
 abbrev pub leave_live : Live → Live
 leave_live c = record c { here = last_of c.back; back = before_last c.back; open_visitors = pred c.open_visitors }
 
--- One entry more, unique or inline, and a visitor at it.
+-- One more entry, unique or inline, and a visitor at it.
 abbrev pub enter_live : Bool → Key → ℕ → Live → Live
 enter_live is_unique k n c = go (c.here ++ k ∷ []) (plus_live c (entry_of is_unique k n Empty))
 
--- One pointer more to an identity that was not met, and a visitor at its content, which starts at the root.
+-- One more pointer to an identity that was not met, and a visitor at its content, which starts at the root.
 abbrev pub enter_first : Key → ℕ → Identity → Live → Live
 enter_first k n i c = go [] (plus_live c (First k n i Empty Empty))
 
--- One pointer more to an identity that was met.
+-- One more pointer to an identity that was met.
 abbrev pub enter_again : Key → ℕ → Identity → Live → Live
 enter_again k n i c = plus_live c (Again k n i Empty)
 
--- ---- that of held bytes
--- h with the forest f: what f holds and, in a unique entry, the inline entries at its top.
+-- ---- the collector of held bytes
+-- h with the forest f added: what f holds and, in a unique entry, the inline entries at its top.
 abbrev pub plus_holding : Holding → Forest → Holding
 plus_holding h f = record h { sum = h.sum + (held f + cond h.is_in_unique (inline_bytes f) 0) }
 
--- What an entry of n bytes adds: its bytes where it is inline in a unique entry, else nothing.
+-- The bytes that an entry of n bytes adds: all of them where it is inline and directly in a unique entry, otherwise
+-- none.
 abbrev pub held_bytes : Bool → Bool → ℕ → ℕ
 held_bytes is_in_unique is_unique n = cond is_in_unique (cond is_unique 0 n) 0
 
--- One entry more, and a visitor at it.
+-- One more entry, and a visitor at it.
 abbrev pub enter_holding : Bool → ℕ → Holding → Holding
 enter_holding is_unique n h = record { sum = h.sum + held_bytes h.is_in_unique is_unique n; open_visitors = suc h.open_visitors; is_in_unique = is_unique }
 
--- A visitor less; the one outside is a unique entry's, or is not.
+-- One visitor less; `outer` says whether the visitor outside it is that of a unique entry.
 abbrev pub leave_holding : Bool → Holding → Holding
 leave_holding outer h = record { sum = h.sum; open_visitors = pred h.open_visitors; is_in_unique = outer }
 
--- ---- either
--- Whether it is a flame graph's.
+-- ---- either collector
+-- Whether the collector is that of a flame graph.
 abbrev pub is_graph : Kind → Bool
 is_graph (OfGraph c) = true
 is_graph (OfHeld h) = false
 
--- The visitors that were entered and not left.
+-- The number of open visitors, which were entered and not left.
 abbrev pub visitors : Kind → ℕ
 visitors (OfGraph c) = c.open_visitors
 visitors (OfHeld h) = h.open_visitors
 
--- What leaving has to restore: whether the current visitor is a unique entry's, where that is not told by a path.
+-- The flag that leaving restores: whether the current visitor is that of a unique entry, in the collector of held
+-- bytes. The collector of a flame graph needs none.
 abbrev pub is_in_unique : Kind → Bool
 is_in_unique (OfGraph c) = false
 is_in_unique (OfHeld h) = h.is_in_unique
@@ -110,27 +114,28 @@ abbrev pub plus : Kind → Forest → Kind
 plus (OfGraph c) f = OfGraph (plus_live c f)
 plus (OfHeld h) f = OfHeld (plus_holding h f)
 
--- f can be added: it shows contents exactly where their identities were not met, and none to the collector of held bytes.
+-- f can be added: for a flame graph, it shows contents exactly where their identities were not met; for held bytes, it
+-- shows no content.
 abbrev pub Takes : Kind → Forest → Type 0
 Takes (OfGraph c) f = Fits c.met f
 Takes (OfHeld h) f = ShowsNoContent f
 
--- One entry more, unique or inline, and a visitor at it.
+-- One more entry, unique or inline, and a visitor at it.
 abbrev pub enter : Bool → Key → ℕ → Kind → Kind
 enter is_unique k n (OfGraph c) = OfGraph (enter_live is_unique k n c)
 enter is_unique k n (OfHeld h) = OfHeld (enter_holding is_unique n h)
 
--- A visitor less; the one outside is a unique entry's, or is not.
+-- One visitor less; `outer` says whether the visitor outside it is that of a unique entry.
 abbrev pub leave : Bool → Kind → Kind
 leave outer (OfGraph c) = OfGraph (leave_live c)
 leave outer (OfHeld h) = OfHeld (leave_holding outer h)
 
--- A root visitor more. It stands where the collector began.
+-- One more visitor, which is a root visitor. It is where the collector began.
 abbrev pub begin : Kind → Kind
 begin (OfGraph c) = OfGraph (go [] c)
 begin (OfHeld h) = OfHeld (record h { open_visitors = suc h.open_visitors })
 
--- No visitor is out.
+-- No visitor is open.
 abbrev pub IsClosed : Kind → Type 0
 IsClosed k = visitors k ≡ 0
 
@@ -139,25 +144,25 @@ abbrev pub IsAtRoot : Kind → Type 0
 IsAtRoot (OfGraph c) = (c.here ≡ []) × (c.back ≡ [])
 IsAtRoot (OfHeld h) = ⊤
 
--- A flame graph's collector of which nothing was asked yet.
+-- The collector of a flame graph before any call.
 abbrev pub no_entries : Live
 no_entries = record { sums = finmap.empty; met = set.empty; here = []; back = []; open_visitors = 0 }
 
--- One of held bytes of which nothing was asked yet.
+-- The collector of held bytes before any call.
 abbrev pub nothing_held : Holding
 nothing_held = record { sum = 0; open_visitors = 0; is_in_unique = false }
 
--- A collector that has not failed fails with r; one that has keeps its cause.
+-- A collector that has not failed fails with r. One that has failed keeps its cause.
 abbrev pub failed_with : Refusal → State → State
 failed_with r (Failed q) = Failed q
 failed_with r (Going k) = Failed r
 
--- A visitor less, where the collector has not failed.
+-- One visitor less, where the collector has not failed.
 abbrev pub left : Bool → State → State
 left outer (Failed r) = Failed r
 left outer (Going k) = Going (leave outer k)
 
--- A collector that has not failed is a flame graph's.
+-- A collector that has not failed is that of a flame graph.
 abbrev pub IsGraphs : State → Type 0
 IsGraphs (Failed r) = ⊤
 IsGraphs (Going k) = is_graph k ≡ true

@@ -4,7 +4,8 @@ use Rattle.std.specs.FinSet.{contains, insert}
 use Rattle.allocative_graph.specs.Path.{Key, Path}
 use Rattle.allocative_graph.specs.Identity.{Identity, Identities}
 
--- A list of entries: its first one, what stands inside that, and the entries after it. `First` is a shared entry that shows its content, `Again` one without.
+-- A list of entries: its first entry, the entries inside that one, and the entries after it. `First` is a shared entry
+-- that shows its content, `Again` a shared entry that does not.
 pub data Forest : Type 0 where
   Empty : Forest
   Inline : Key → ℕ → Forest → Forest → Forest
@@ -24,23 +25,23 @@ followed_by (Again k n i after) g = Again k n i (followed_by after g)
 abbrev pub entry_of : Bool → Key → ℕ → Forest → Forest
 entry_of is_unique k n f = cond is_unique (Unique k n f Empty) (Inline k n f Empty)
 
--- How an entry was entered.
+-- How an entry was entered: inline, unique or shared.
 pub data Mark : Type 0 where
   AsInline : Mark
   AsUnique : Mark
   AsShared : Identity → Mark
 
--- An entry by itself: its path, its bytes and its mark.
+-- An entry by itself: its path, its bytes and how it was entered.
 pub record Entry : Type 0 where
   pub path : Path
   pub size : ℕ
   pub mark : Mark
 
--- A bag is a list of entries of which the order does not count: all that is said of one is the same for each of its orders.
+-- A bag is a list of entries whose order does not count: whatever is stated of a bag holds for each of its orders.
 abbrev pub Bag : Type 0
 Bag = List Entry
 
--- The entries of f behind the path p, without the contents of shared entries.
+-- The entries of f with the path p before theirs, without the contents of shared entries.
 abbrev pub own_behind : Path → Forest → Bag
 own_behind p Empty = []
 own_behind p (Inline k n inside after) = record { path = p ++ k ∷ []; size = n; mark = AsInline } ∷ (own_behind (p ++ k ∷ []) inside ++ own_behind p after)
@@ -64,7 +65,7 @@ contents (Again k n i after) = contents after
 abbrev pub content_entries : Forest → Bag
 content_entries f = flat_map (λ c. c.1) (contents f)
 
--- All entries: the own ones of f, and those of all contents.
+-- All entries: the own entries of f, and those of all contents.
 abbrev pub all : Forest → Bag
 all f = own f ++ content_entries f
 
@@ -72,16 +73,17 @@ all f = own f ++ content_entries f
 abbrev pub shown : Forest → List Identity
 shown f = map (λ c. c.0) (contents f)
 
--- A set of identities, and those of a list.
+-- A set of identities with those of a list added.
 abbrev pub insert_all : Identities → List Identity → Identities
 insert_all s [] = s
 insert_all s (i ∷ is) = insert_all (insert s i) is
 
--- The identities met once f was shown to whoever had met those of s.
+-- The identities met once f is shown, where those of s were met before.
 abbrev pub met_after : Identities → Forest → Identities
 met_after s f = insert_all s (shown f)
 
--- f fits the identities met: a shared entry shows its content exactly where its identity is neither in s nor stood before in reading order.
+-- f fits the identities met: a shared entry shows its content exactly where its identity is not in s and was not met
+-- earlier in reading order.
 abbrev pub Fits : Identities → Forest → Type 0
 Fits s Empty = ⊤
 Fits s (Inline k n inside after) = Fits s inside × Fits (met_after s inside) after

@@ -19,7 +19,7 @@ size_at g p = unwrap_or (get g p) 0
 abbrev pub total : Graph → ℕ
 total g = sum_by (λ e. e.1) (entries g)
 
--- Whether the first path is a beginning of the second one, or that path itself.
+-- Whether the first path is a prefix of the second one or equal to it.
 abbrev pub begins : Path → Path → Bool
 begins [] q = true
 begins (k ∷ p) [] = false
@@ -29,7 +29,8 @@ begins (k ∷ p) (l ∷ q) = eq_by_cmp key_cmp k l && begins p q
 abbrev pub total_at : Graph → Path → ℕ
 total_at g p = sum_by (λ e. cond (begins p e.0) e.1 0) (entries g)
 
--- h is what g has at the path p and below it: p is a path of g, and at each path q the size of h, and the bytes of q and all below it, are those of g at p and then q; so at its root h has what g has at p.
+-- h is what g has at the path p and below it: p is a path of g, and at each path q the size of h, and the bytes of q
+-- and all below it, are those of g at p followed by q. At its root h therefore has what g has at p.
 pub record IsBehind (g : Graph) (p : Path) (h : Graph) : Type 0 where
   pub there : contains_key g p ≡ true
   pub sizes : (q : Path) → get h q ≡ get g (p ++ q)
@@ -37,17 +38,17 @@ pub record IsBehind (g : Graph) (p : Path) (h : Graph) : Type 0 where
   pub same_size : size_at h [] ≡ size_at g p
   pub same_total : total h ≡ total_at g p
 
--- g has no path p, none below it, and so no bytes there.
+-- g has no path p, none below it, and therefore no bytes there.
 pub record HasNothing (g : Graph) (p : Path) : Type 0 where
   pub missing : contains_key g p ≡ false
   pub below : (q : Path) → contains_key g (p ++ q) ≡ false
   pub nothing : total_at g p ≡ 0
 
--- The root alone, with 0.
+-- The graph that has only the root, with 0.
 abbrev pub default : Graph
 default = from_entries (([], 0) ∷ [])
 
--- Path by path the sum of both; the paths are those of either.
+-- The sum of both graphs path by path; its paths are those of either.
 abbrev pub sum_of : Graph → Graph → Graph
 sum_of g h = from_entries (map (λ p. (p, size_at g p + size_at h p)) (keys g ++ keys h))
 
@@ -55,35 +56,37 @@ sum_of g h = from_entries (map (λ p. (p, size_at g p + size_at h p)) (keys g ++
 abbrev pub under : Key → Graph → Graph
 under k g = from_entries (([], 0) ∷ map (λ e. (k ∷ e.0, e.1)) (entries g))
 
--- g with n more at the root.
+-- g with n added to the size of the root.
 abbrev pub add_self : ℕ → Graph → Graph
 add_self n g = insert g [] (size_at g [] + n)
 
--- The root is in g and, with each path, its beginnings.
+-- The root is in g, and with each path so is every prefix of it.
 pub record IsTree (g : Graph) : Type 0 where
   pub root : IsTrue (contains_key g [])
   pub closed : (p : Path) (k : Key) → IsTrue (contains_key g (p ++ k ∷ [])) → IsTrue (contains_key g p)
 
--- ---- of sums
--- What p keeps of its bytes: all where it was ever unique, otherwise what those one key below leave, and never less than 0.
+-- ---- the graph of sums
+-- What the path p keeps of its bytes: all of them where p was ever unique, otherwise those beyond the bytes one key
+-- below p, and never less than 0.
 abbrev pub remaining : Sums → Path → Node → ℕ
 remaining s p node = cond node.is_unique node.bytes (node.bytes - below s p)
 
--- The root with 0, and exactly the paths of s with what remains of their bytes.
+-- The root with 0, and exactly the paths of s, each with what remains of its bytes.
 abbrev pub sizes : Sums → List (Path × ℕ)
 sizes s = ([], 0) ∷ map (λ e. (e.0, remaining s e.0 e.1)) (entries s)
 
--- The graph of the sums.
+-- The graph of the sums s.
 abbrev pub graph : Sums → Graph
 graph s = from_entries (sizes s)
 
--- Each path that both have is unique in both or in neither and, where in neither, its bytes cover those one key below in both, or are no more than those in both.
+-- Each path that both have is unique in both or in neither. Where it is unique in neither, its bytes are at least those
+-- one key below it in both, or at most those one key below it in both.
 abbrev pub CanBeAdded : Sums → Sums → Type 0
 CanBeAdded s t = (p : Path) (m n : Node) → get s p ≡ Some m → get t p ≡ Some n
     → (m.is_unique ≡ n.is_unique) × (m.is_unique ≡ false → (below s p ≤ m.bytes) × (below t p ≤ n.bytes) ⊎ (m.bytes ≤ below s p) × (n.bytes ≤ below t p))
 
 -- ---- texts
--- Whether a path is the root's.
+-- Whether a path is that of the root.
 abbrev pub is_root : Path → Bool
 is_root [] = true
 is_root (k ∷ p) = false
@@ -106,11 +109,12 @@ text_of_entries es = flat_map line es
 abbrev pub text : Graph → List ℕ
 text g = text_of_entries (entries g)
 
--- The warning of a path, with its own bytes and those one key below.
+-- The warning of a path, with its own bytes and those one key below it.
 abbrev pub warning_line : Path → ℕ → ℕ → List ℕ
 warning_line p bytes under = codes "Incorrect size declaration for node `" ++ joined p ++ codes "`, size of self: " ++ decimal bytes ++ codes ", size of inline children: " ++ decimal under ++ 10 ∷ []
 
--- The warning that a path of the sums has: one where it is not the root, was never unique and has fewer bytes than stand one key below.
+-- The warning of a path of the sums: there is one where the path is not the root, was never unique and has fewer bytes
+-- than one key below it.
 abbrev pub warning : Sums → Path × Node → List ℕ
 warning s e = cond (not (is_root e.0) && not e.1.is_unique && nat_lt e.1.bytes (below s e.0)) (warning_line e.0 e.1.bytes (below s e.0)) []
 
@@ -118,13 +122,13 @@ warning s e = cond (not (is_root e.0) && not e.1.is_unique && nat_lt e.1.bytes (
 abbrev pub warnings : Sums → List ℕ
 warnings s = flat_map (warning s) (entries s)
 
--- A path that has a warning, its bytes, and those one key below.
+-- A path that has a warning, with its bytes and those one key below it.
 pub record Warned : Type 0 where
   pub path : Path
   pub self_size : ℕ
   pub children_size : ℕ
 
--- A path of the sums, with both figures, where it has a warning, and else nothing.
+-- A path of the sums with both numbers where it has a warning, otherwise nothing.
 abbrev pub warned : Sums → Path × Node → List Warned
 warned s e = cond (not (is_root e.0) && not e.1.is_unique && nat_lt e.1.bytes (below s e.0)) (record { path = e.0; self_size = e.1.bytes; children_size = below s e.0 } ∷ []) []
 
@@ -132,7 +136,7 @@ warned s e = cond (not (is_root e.0) && not e.1.is_unique && nat_lt e.1.bytes (b
 abbrev pub warned_paths : Sums → List Warned
 warned_paths s = flat_map (warned s) (entries s)
 
--- The byte c does not stand in xs.
+-- The byte c is not in xs.
 abbrev pub Lacks : ℕ → List ℕ → Type 0
 Lacks c xs = AllByRecursion (λ b. b ≢ c) xs
 
@@ -140,6 +144,6 @@ Lacks c xs = AllByRecursion (λ b. b ≢ c) xs
 abbrev pub HasPlainKeys : Graph → Type 0
 HasPlainKeys g = AllByRecursion (λ p. AllByRecursion (λ k. Lacks 59 k × Lacks 10 k) p) (keys g)
 
--- The total is a word, as in each graph that code holds.
+-- The total fits a word, as in each `FlameGraph`.
 abbrev pub HasWords : Graph → Type 0
 HasWords g = total g < 2 ^ 64

@@ -1,4 +1,4 @@
--- What a value holds on the heap: the inline entries right inside unique ones, and nothing below a shared one.
+-- What a value holds on the heap: the inline entries directly inside unique ones, with nothing below a shared one.
 use Rattle.std.specs.Prelude.{ℕ, ◌+◌, ⊤}
 use Rattle.allocative_graph.specs.Forest.{Forest, Empty, Inline, Unique, First, Again}
 

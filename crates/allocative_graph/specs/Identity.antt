@@ -4,16 +4,16 @@ use Rattle.std.specs.declared.cmp.Ordering.{Ordering}
 use Rattle.std.specs.Ordering.{nat_cmp, eq_by_cmp, ordering_then}
 use Rattle.std.specs.FinSet.{FinSet}
 
--- The word of whoever gave the number, and the number.
+-- The maker that gave the number, and the number.
 pub record Identity : Type 0 where
   pub maker : ℕ
   pub number : ℕ
 
--- By makers, and by numbers where the makers are one.
+-- Identities are ordered by their makers, and by their numbers where the makers are equal.
 abbrev pub identity_cmp : Identity → Identity → Ordering
 identity_cmp i j = ordering_then (nat_cmp i.maker j.maker) (nat_cmp i.number j.number)
 
--- Whether two identities are one.
+-- Whether two identities are equal.
 abbrev pub is_same_identity : Identity → Identity → Bool
 is_same_identity = eq_by_cmp identity_cmp
 

@@ -16,7 +16,8 @@ use Rattle.allocative_graph.specs.Collector.{Live, Holding, Kind, OfGraph, OfHel
 use Rattle.allocative_graph.specs.Report.{exact_text, without_lines}
 
 -- ---- of showings
--- Two showings come to the same: they reach the same identities, and have the same graph, text, warnings and paths that have one.
+-- Two showings have the same result: they reach the same identities, and have the same graph, text, warnings and paths
+-- with a warning.
 pub record SameProfile (f g : Forest) : Type 0 where
   pub reached : (i : Identity) → Reached (own f) (content_of f) i ↔ Reached (own g) (content_of g) i
   pub same_graph : graph (sums_of (all f)) ≡ graph (sums_of (all g))
@@ -24,35 +25,41 @@ pub record SameProfile (f g : Forest) : Type 0 where
   pub same_warnings : warnings (sums_of (all f)) ≡ warnings (sums_of (all g))
   pub same_warned : warned_paths (sums_of (all f)) ≡ warned_paths (sums_of (all g))
 
--- Two whole showings that agree come to the same, whatever the order of roots, of entries, and of which pointer met a content first.
+-- Two whole showings that agree have the same result, whatever the order of roots, of entries, and of which pointer met
+-- a content first.
 abbrev pub OrderLaw : Type 0
 OrderLaw = (f g : Forest) → IsWhole f → IsWhole g → Agree f g → SameProfile f g
 
--- A whole showing shows the contents of exactly the identities that it reaches, cycles included, and all its entries are a meaning of its own ones.
+-- A whole showing shows the contents of exactly the identities that it reaches, cycles included, and all its entries
+-- are a meaning of its own ones.
 abbrev pub MeaningLaw : Type 0
 MeaningLaw = (f : Forest) → IsWhole f → ReachesExactly f × IsMeaning (own f) (content_of f) (all f)
 
--- Where no identity is reached by both and the sums can be added, the graphs of two whole showings add up to that of the one that has both.
+-- Where no identity is reached by both and their sums can be added, the graphs of two whole showings add up to the
+-- graph of the showing that has both.
 abbrev pub MergeLaw : Type 0
 MergeLaw = (f g : Forest) → IsWhole f → IsWhole g → ReachApart f g → CanBeAdded (sums_of (all f)) (sums_of (all g))
     → IsWhole (followed_by f g) × (sum_of (graph (sums_of (all f))) (graph (sums_of (all g))) ≡ graph (sums_of (all (followed_by f g))))
 
 -- ---- of texts
--- Where no key has a `;` or a line feed and the totals fit a word, graphs with equal texts have equal sizes at each path but the root.
+-- Where no key has a `;` or a line feed and the totals fit a word, graphs with equal texts have equal sizes at each
+-- path but the root.
 abbrev pub TextLaw : Type 0
 TextLaw = (g h : Graph) → HasPlainKeys g → HasPlainKeys h → HasWords g → HasWords h → text g ≡ text h → (k : Key) (p : Path) → size_at g (k ∷ p) ≡ size_at h (k ∷ p)
 
--- Where no key has a `;` or a line feed, the lines whose last key is `unused_capacity` are those of the paths that end in it.
+-- Where no key has a `;` or a line feed, the lines whose last key is `unused_capacity` are those of the paths that end
+-- in it.
 abbrev pub ExactLaw : Type 0
 ExactLaw = (g : Graph) → HasPlainKeys g → exact_text g ≡ without_lines (codes "unused_capacity") (text g)
 
 -- ---- of sums
--- The sums of a bag have, at exactly the paths of its entries, the sum of the sizes there and whether one of the entries is unique; what stands one key below a path is the sum of the sizes there.
+-- The sums of a bag have, at exactly the paths of its entries, the sum of the sizes there and whether one of the
+-- entries is unique. The bytes one key below a path are the sum of the sizes there.
 abbrev pub SumsLaw : Type 0
 SumsLaw = (b : Bag) (p : Path) → (get (sums_of b) p ≡ cond (is_entered_in b p) (Some (record { bytes = bytes_in b p; is_unique = is_unique_in b p })) None) × (below (sums_of b) p ≡ below_in b p)
 
 -- ---- of the collectors
--- What a collector has after forests, one after another and one inside an entry.
+-- What a collector has after forests, one following another and one inside an entry.
 pub record PlusLaws (c : Kind) (k : Key) (n : ℕ) (f g : Forest) : Type 0 where
   pub nothing : plus c Empty ≡ c
   pub following : plus c (followed_by f g) ≡ plus (plus c f) g
@@ -60,11 +67,12 @@ pub record PlusLaws (c : Kind) (k : Key) (n : ℕ) (f g : Forest) : Type 0 where
   pub inside : (is_unique : Bool) → leave (is_in_unique c) (plus (enter is_unique k n c) f) ≡ plus c (entry_of is_unique k n f)
   pub inside_taken : (is_unique : Bool) → Takes (enter is_unique k n c) f → Takes c (entry_of is_unique k n f)
 
--- One forest and then another is both in one; and what was entered, was given f and was left is the entry with f inside it.
+-- One forest followed by another is both in one, and entering, adding f and leaving is the entry with f inside it.
 abbrev pub PlusLaw : Type 0
 PlusLaw = (c : Kind) (k : Key) (n : ℕ) (f g : Forest) → PlusLaws c k n f g
 
--- What a collector has after shared entries: a content from the root, a pointer alone, and nothing in the collector of held bytes.
+-- What a collector has after shared entries: a content from the root, a pointer alone, and no change in the collector
+-- of held bytes.
 pub record SharedLaws (c : Live) (h : Holding) (k : Key) (n : ℕ) (i : Identity) (f : Forest) : Type 0 where
   pub first : (outer : Bool) → leave outer (plus (OfGraph (enter_first k n i c)) f) ≡ plus (OfGraph c) (First k n i f Empty)
   pub first_taken : contains c.met i ≡ false → Takes (OfGraph (enter_first k n i c)) f → Takes (OfGraph c) (First k n i f Empty)
@@ -72,22 +80,23 @@ pub record SharedLaws (c : Live) (h : Holding) (k : Key) (n : ℕ) (i : Identity
   pub again_taken : contains c.met i ≡ true → Takes (OfGraph c) (Again k n i Empty)
   pub held : plus (OfHeld h) (Again k n i Empty) ≡ OfHeld h
 
--- The same of shared entries.
+-- The laws of shared entries hold for each collector, entry and forest.
 abbrev pub SharedLaw : Type 0
 SharedLaw = (c : Live) (h : Holding) (k : Key) (n : ℕ) (i : Identity) (f : Forest) → SharedLaws c h k n i f
 
 -- ---- of paths
--- A beginning of a path comes before it, and otherwise the first keys that differ decide; keys stand in the same way in the order of their bytes.
+-- A prefix of a path comes before it, and otherwise the first keys that differ decide. Keys are ordered in this way by
+-- their bytes.
 pub record PathOrders (p q : Path) (k l : Key) : Type 0 where
   pub paths : (path_cmp p q ≡ Less) ↔ ComesBefore key_cmp p q
   pub keys : (key_cmp k l ≡ Less) ↔ ComesBefore nat_cmp k l
 
--- The order of paths is that of its definition.
+-- The order of paths is that of its definition, for all paths and keys.
 abbrev pub PathOrderLaw : Type 0
 PathOrderLaw = (p q : Path) (k l : Key) → PathOrders p q k l
 
 -- ---- of graphs
--- What adding graphs comes to, with totals and with what is put under a key.
+-- The laws of adding graphs, with their totals and with a key put before each path.
 pub record GraphSums (g h i : Graph) (k : Key) : Type 0 where
   pub same_total : total (sum_of g h) ≡ total g + total h
   pub commutes : sum_of g h ≡ sum_of h g
@@ -99,12 +108,12 @@ pub record GraphSums (g h i : Graph) (k : Key) : Type 0 where
 abbrev pub GraphSumsLaw : Type 0
 GraphSumsLaw = (g h i : Graph) (k : Key) → GraphSums g h i k
 
--- What the graph of sums has; that of a showing has each beginning of its paths.
+-- What the graph of some sums has. The graph of a showing has each prefix of its paths.
 pub record GraphOf (s : Sums) (f : Forest) (k : Key) (p : Path) : Type 0 where
   pub root : get (graph s) [] ≡ Some 0
   pub paths : get (graph s) (k ∷ p) ≡ option_map (λ m. cond m.is_unique m.bytes (m.bytes - below s (k ∷ p))) (get s (k ∷ p))
   pub is_tree : IsTree (graph (sums_of (all f)))
 
--- The graph of sums has the root with 0 and exactly their paths, each with what remains of its bytes.
+-- The graph of some sums has the root with 0 and exactly the paths of the sums, each with what remains of its bytes.
 abbrev pub GraphLaw : Type 0
 GraphLaw = (s : Sums) (f : Forest) (k : Key) (p : Path) → GraphOf s f k p

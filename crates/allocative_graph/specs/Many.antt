@@ -1,4 +1,4 @@
--- Many children at once.
+-- Adding many children at once.
 use Rattle.std.specs.Prelude.{ℕ, List, [], ◌∷◌, sum_by}
 use Rattle.allocative_graph.specs.declared.flamegraph.Child.{Child}
 use Rattle.allocative_graph.specs.Graph.{Graph, total, sum_of, under}
@@ -8,6 +8,6 @@ abbrev pub sum_of_all : Graph → List Child → Graph
 sum_of_all g [] = g
 sum_of_all g (c ∷ cs) = sum_of_all (sum_of g (under c.key c.graph)) cs
 
--- The totals of some children together.
+-- The sum of the totals of some children.
 abbrev pub total_of : List Child → ℕ
 total_of cs = sum_by (λ c. total c.graph) cs

@@ -19,7 +19,8 @@ has_mark i b = list_any (λ e. is_mark_of i e.mark) b
 abbrev pub is_among : Identity → List Identity → Bool
 is_among i is = list_any (is_same_identity i) is
 
--- The identities reached: the least set that has those to which b points and, with each of its identities, those to which that one's content points.
+-- The identities reached: the least set that has those to which b points and, with each of its identities, those to
+-- which the content of that one points.
 pub data Reached (b : Bag) (content : Identity → Bag) : Identity → Type 0 where
   marked : {i : Identity} → IsTrue (has_mark i b) → Reached b content i
   inside : {i : Identity} (j : Identity) → Reached b content j → IsTrue (has_mark i (content j)) → Reached b content i
@@ -31,7 +32,7 @@ pub record IsMeaning (b : Bag) (content : Identity → Bag) (m : Bag) : Type 0 w
   pub reached : (i : Identity) → IsTrue (is_among i identities) ↔ Reached b content i
   pub is : IsPermutation (b ++ flat_map content identities) m
 
--- The bag that stands first under i, and no entries where i is absent.
+-- The first bag listed for i, or no entries where i is absent.
 abbrev pub content_in : List (Identity × Bag) → Identity → Bag
 content_in [] i = []
 content_in (c ∷ cs) i = cond (is_same_identity i c.0) c.1 (content_in cs i)

@@ -1,4 +1,4 @@
--- What adding graphs and merging children leave, also where memory was refused on the way.
+-- What adding graphs and merging children leave, also where memory runs out on the way.
 use Rattle.std.specs.Prelude.{◌≡◌, ◌+◌, ◌<◌, ◌≤◌, ◌&&◌, Bool, true, List, ◌∷◌, length}
 use Rattle.allocative_graph.specs.declared.flamegraph.Child.{Child}
 use Rattle.allocative_graph.specs.Path.{Key}
@@ -7,14 +7,14 @@ use Rattle.allocative_graph.specs.Parts.{IsSum, IsPartOfSum}
 use Rattle.allocative_graph.specs.Node.{rows_of, weight, AreChildren}
 use Rattle.allocative_graph.specs.Children.{AreSum, ArePartOfSum, AllAbove}
 
--- h was added to g, and r is left: a part of their sum, and where all was added the sum itself.
+-- h was added to g, with the result r: a part of their sum, and where all was added the sum itself.
 pub record Added (all : Bool) (g h r : Graph) : Type 0 where
   pub tree : IsTree r
   pub part : IsPartOfSum g h r
   pub sum : all ≡ true → IsSum g h r
   pub at_most : total r ≤ total g + total h
 
--- ds were merged into cs, and es are left: a part of their sum, and where all was added the sum itself.
+-- ds were merged into cs, with the result es: a part of their sum, and where all was added the sum itself.
 pub record Merged (all : Bool) (cs ds es : List Child) : Type 0 where
   pub children : AreChildren es
   pub above : (k : Key) → AllAbove cs k → AllAbove ds k → AllAbove es k
@@ -22,7 +22,7 @@ pub record Merged (all : Bool) (cs ds es : List Child) : Type 0 where
   pub sum : all ≡ true → AreSum cs ds es
   pub at_most : weight es ≤ weight cs + weight ds
 
--- c is the next child in the merge of cs and ds, of which cs' and ds' are left: it stands before whatever these merge to.
+-- c is the next child in the merge of cs and ds, and cs' and ds' remain: c comes before whatever these merge to.
 pub record IsNext (all : Bool) (cs ds : List Child) (c : Child) (cs' ds' : List Child) : Type 0 where
   pub goes_on : (b : Bool) (es : List Child) → Merged b cs' ds' es → Merged (all && b) cs ds (c ∷ es)
   pub mine : AreChildren cs'

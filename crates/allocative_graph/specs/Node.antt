@@ -1,4 +1,4 @@
--- What a node of a flame graph is seen as, and what holds of it.
+-- What contracts see of a node of a flame graph, and what holds of every node.
 use Rattle.std.specs.Prelude.{◌≡◌, ℕ, ◌+◌, ◌^◌, ◌<◌, List, [], ◌∷◌, map}
 use Rattle.std.specs.List.{flat_map, AllByRecursion}
 use Rattle.std.specs.List.Sorted.{IsStrictlySortedBy}
@@ -8,7 +8,7 @@ use Rattle.allocative_graph.specs.Path.{Key, Path, key_cmp}
 use Rattle.allocative_graph.specs.Graph.{Graph, IsTree}
 use Rattle.allocative_graph.specs.Parts.{under_rows, sum_of_rows}
 
--- The rows of a child: each path of its graph behind its key.
+-- The rows of a child: each path of its graph with its key before it.
 abbrev pub rows_of_child : Child → List (Path × ℕ)
 rows_of_child c = under_rows c.key (entries c.graph)
 
@@ -28,16 +28,16 @@ keys_of cs = map (λ c. c.key) cs
 abbrev pub weight : List Child → ℕ
 weight cs = sum_of_rows (rows_of cs)
 
--- Each child's graph has its root and, with each path, its beginnings.
+-- The graph of each child has its root and, with each path, every prefix of it.
 abbrev pub AllTrees : List Child → Type 0
 AllTrees cs = AllByRecursion (λ c. IsTree c.graph) cs
 
--- What holds of the children of each node: each key is below those after it, and each graph is a tree.
+-- What holds of the children of every node: each key is below those after it, and each graph is a tree.
 pub record AreChildren (cs : List Child) : Type 0 where
   pub sorted : IsStrictlySortedBy key_cmp (keys_of cs)
   pub trees : AllTrees cs
 
--- What holds of each node: of its children, of the sum that it keeps of their sizes, and of its own size.
+-- What holds of every node: its children are in order, it keeps the sum of their sizes, and the total fits a word.
 pub record IsNode (cs : List Child) (children_size node_size : ℕ) : Type 0 where
   pub children : AreChildren cs
   pub exact : children_size ≡ weight cs

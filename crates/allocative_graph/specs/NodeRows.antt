@@ -1,4 +1,4 @@
--- The rows of a node stand in the order of paths, so they are the entries of its graph, and each child has fewer.
+-- The rows of a node are in the order of paths. They are therefore the entries of its graph, and each child has fewer.
 use Rattle.std.specs.Prelude.{◌≡◌, ℕ, ◌+◌, ◌≤◌, T, Bool, true, false, ◌&&◌, List, [], ◌∷◌, ◌++◌, length}
 use Rattle.std.proofs.Common.{arith, length-append, ap, sym, subst}
 use Rattle.std.proofs.lemmas.List.{length-map}
@@ -21,64 +21,64 @@ use denote.Param.Weighed.{most}
 abbrev Rows : Type 0
 Rows = List (Path × ℕ)
 
--- Two tests that pass pass together.
+-- The conjunction of two tests that hold holds.
 both : (a b : Bool) → T a → T b → T (a && b)
 both true b p q = q
 both false b p q = p
 
--- Where two tests pass together, the first does.
+-- Where a conjunction holds, its first test holds.
 first : (a b : Bool) → T (a && b) → T a
 first true b p = tt
 first false b p = p
 
--- And so does the second.
+-- Where a conjunction holds, its second test holds.
 second : (a b : Bool) → T (a && b) → T b
 second true b p = p
 second false b p = absurd p
 
--- A path before the rows of two lists is before those of the joined one.
+-- A path before the rows of two lists is before the rows of both lists joined.
 below-append : (x : Path) (a b : Rows) → T (below_all path_cmp x a) → T (below_all path_cmp x b) → T (below_all path_cmp x (a ++ b))
 below-append x [] b p q = q
 below-append x (e ∷ a) b p q = both _ _ (first _ _ p) (below-append x a b (second _ _ p) q)
 
--- The root comes before all paths that have a key.
+-- The root comes before all paths that start with a key.
 pub root_below-under : (k : Key) (rs : Rows) → T (below_all path_cmp [] (under_rows k rs))
 root_below-under k [] = tt
 root_below-under k (r ∷ rs) = root_below-under k rs
 
--- It comes before the rows of all children.
+-- The root comes before the rows of all children.
 pub root_below : (cs : List Child) → T (below_all path_cmp [] (rows_of cs))
 root_below [] = tt
 root_below (c ∷ cs) = below-append [] (rows_of_child c) (rows_of cs) (root_below-under c.key (entries c.graph)) (root_below cs)
 
--- Under one key paths keep their order.
+-- Paths keep their order when one key is put before them.
 same_key : (k : Key) (p q : Path) → path_cmp (k ∷ p) (k ∷ q) ≡ path_cmp p q
 same_key k p q = ap (λ o. ordering_then o (path_cmp p q)) (tied_itself nat_list_cmp_total k)
 
--- A path before some rows is before them under a key.
+-- A path before some rows is before them when one key is put before all.
 below-under : (k : Key) (p : Path) (rs : Rows) → T (below_all path_cmp p rs) → T (below_all path_cmp (k ∷ p) (under_rows k rs))
 below-under k p [] h = tt
 below-under k p (r ∷ rs) h =
     both _ _ (subst (λ o. T (is_lt o)) (sym (same_key k p r.0)) (first _ _ h)) (below-under k p rs (second _ _ h))
 
--- Rows in order are in order under a key.
+-- Rows in order stay in order when one key is put before them.
 sorted-under : (k : Key) (rs : Rows) → T (is_sorted path_cmp rs) → T (is_sorted path_cmp (under_rows k rs))
 sorted-under k [] h = tt
 sorted-under k (r ∷ rs) h = both _ _ (below-under k r.0 rs (first _ _ h)) (sorted-under k rs (second _ _ h))
 
--- A path comes before those under a greater key.
+-- A path comes before those that start with a greater key.
 below-greater : (k l : Key) (p : Path) (rs : Rows) → key_cmp k l ≡ Less → T (below_all path_cmp (k ∷ p) (under_rows l rs))
 below-greater k l p [] h = tt
 below-greater k l p (r ∷ rs) h =
     both _ _ (subst (λ o. T (is_lt (ordering_then o (path_cmp p r.0)))) (sym h) tt) (below-greater k l p rs h)
 
--- It comes before the rows of all children with greater keys.
+-- A path comes before the rows of all children with greater keys.
 below-later : (k : Key) (p : Path) (cs : List Child) → AllByRecursion (λ l. key_cmp k l ≡ Less) (keys_of cs) → T (below_all path_cmp (k ∷ p) (rows_of cs))
 below-later k p [] h = tt
 below-later k p (c ∷ cs) h =
     below-append (k ∷ p) (rows_of_child c) (rows_of cs) (below-greater k c.key p (entries c.graph) h.0) (below-later k p cs h.1)
 
--- Rows under a key, and then rows that come after these, are in order.
+-- Rows with a key before them, followed by rows that come after these, are in order.
 sorted-append : (k : Key) (rs rest : Rows) → T (is_sorted path_cmp (under_rows k rs)) → T (is_sorted path_cmp rest)
     → ((p : Path) → T (below_all path_cmp (k ∷ p) rest)) → T (is_sorted path_cmp (under_rows k rs ++ rest))
 sorted-append k [] rest p q h = q
@@ -93,11 +93,11 @@ rows_sorted (c ∷ cs) h =
     sorted-append c.key (entries c.graph) (rows_of cs) (sorted-under c.key (entries c.graph) (entries_sorted c.graph)) (rows_sorted cs h.1)
     (λ p. below-later c.key p cs h.0)
 
--- So are those of a node with such children.
+-- The rows of a node whose children have rising keys are in order.
 pub node_sorted : (n : ℕ) (cs : List Child) → IsStrictlySortedBy key_cmp (keys_of cs) → T (is_sorted path_cmp (([], n) ∷ rows_of cs))
 node_sorted n cs h = both _ _ (root_below cs) (rows_sorted cs h)
 
--- They are the entries of its graph.
+-- The rows of a node whose children have rising keys are the entries of its graph.
 pub entries-node : (n : ℕ) (cs : List Child) → IsStrictlySortedBy key_cmp (keys_of cs) → entries (node n cs) ≡ ([], n) ∷ rows_of cs
 entries-node n cs h = entries-from_sorted path_cmp (([], n) ∷ rows_of cs) (node_sorted n cs h)
 

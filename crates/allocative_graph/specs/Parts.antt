@@ -18,15 +18,16 @@ joined_on (k ∷ ks) = (59 ∷ k) ++ joined_on ks
 abbrev pub under_rows : Key → List (Path × ℕ) → List (Path × ℕ)
 under_rows k rs = map (λ r. (k ∷ r.0, r.1)) rs
 
--- What stands behind the keys in a line: a space, the size, a line feed.
+-- The end of a line, after the keys: a space, the size, a line feed.
 abbrev pub size_text : ℕ → List ℕ
 size_text n = 32 ∷ (decimal n ++ 10 ∷ [])
 
--- The line of a path with a size other than 0, where t stands for its first keys: t, the other keys with a `;` before each, the size.
+-- The line of a path with a size other than 0, where t is the text of its first keys: t, the other keys with a `;`
+-- before each, the size.
 abbrev pub line_from : List ℕ → Path × ℕ → List ℕ
 line_from t r = if r.1 == 0 then [] else (t ++ (joined_on r.0 ++ size_text r.1))
 
--- The lines of some paths behind one text.
+-- The lines of some paths, each with t as the text of its first keys.
 abbrev pub lines_from : List ℕ → List (Path × ℕ) → List ℕ
 lines_from t rs = flat_map (line_from t) rs
 
@@ -46,7 +47,7 @@ HasRootAlone g = (n : ℕ) × (entries g ≡ ([], n) ∷ [])
 abbrev pub IsSum : Graph → Graph → Graph → Type 0
 IsSum g h r = (p : Path) → (size_at r p ≡ size_at g p + size_at h p) × (contains_key r p ≡ (contains_key g p || contains_key h p))
 
--- At each path r has the size of g or that of the sum; it has all paths of g, and none that the sum has not.
+-- At each path r has the size of g or that of the sum. It has all paths of g, and none that the sum does not have.
 abbrev pub IsPartOfSum : Graph → Graph → Graph → Type 0
 IsPartOfSum g h r =
     (p : Path)

@@ -13,19 +13,19 @@ Key = List ℕ
 abbrev pub Path : Type 0
 Path = List Key
 
--- Keys stand in the order of their bytes.
+-- Keys are ordered by their bytes.
 abbrev pub key_cmp : Key → Key → Ordering
 key_cmp = slice_cmp nat_cmp
 
--- A beginning of a path comes before it; otherwise the first keys that differ decide.
+-- A prefix of a path comes before it. Otherwise the first keys that differ decide.
 abbrev pub path_cmp : Path → Path → Ordering
 path_cmp = slice_cmp key_cmp
 
--- Whether two paths are one.
+-- Whether two paths are equal.
 abbrev pub is_same_path : Path → Path → Bool
 is_same_path = eq_by_cmp path_cmp
 
--- Whether the second path is the first and one key more.
+-- Whether the second path is the first one with one more key.
 abbrev pub is_one_below : Path → Path → Bool
 is_one_below [] [] = false
 is_one_below [] (k ∷ []) = true
@@ -33,7 +33,7 @@ is_one_below [] (k ∷ l ∷ q) = false
 is_one_below (k ∷ p) [] = false
 is_one_below (k ∷ p) (l ∷ q) = eq_by_cmp key_cmp k l && is_one_below p q
 
--- The first list is a beginning of the second, or the first elements in which they part stand in the order R.
+-- The first list is a proper prefix of the second, or the first elements that differ are in the order R.
 pub data ComesBefore {X : Type 0} (R : X → X → Ordering) (p q : List X) : Type 0 where
   longer : (k : X) (rest : List X) → q ≡ p ++ k ∷ rest → ComesBefore R p q
   parts : (common : List X) (k l : X) (r s : List X) → p ≡ common ++ k ∷ r → q ≡ common ++ l ∷ s → R k l ≡ Less → ComesBefore R p q

@@ -1,4 +1,4 @@
--- What is read of a flame graph.
+-- What is read from a flame graph.
 use Rattle.std.specs.Prelude.{ℕ, ◌<◌, List, ◌++◌, map}
 use Rattle.std.specs.List.{All}
 use Rattle.std.specs.FinMap.{entries, len}
@@ -11,17 +11,17 @@ use Rattle.allocative_graph.specs.Graph.{Graph, total_at}
 abbrev pub AllSmaller : List Child → Graph → Type 0
 AllSmaller cs g = All (λ c. len c.graph < len g) cs
 
--- A path, the bytes of it alone, and the bytes of it and of all paths below it.
+-- A path, its own bytes, and the bytes of it and of all paths below it.
 pub record Figures : Type 0 where
   pub path : Path
   pub self_size : ℕ
   pub total_size : ℕ
 
--- What a row says.
+-- What a contract sees of a row.
 abbrev pub seen : Row → Figures
 seen r = record { path = map (λ k. k.now) r.path.items; self_size = r.self_size; total_size = r.total_size }
 
--- The figures of each path of g, behind some keys, in the order of paths.
+-- The figures of each path of g, with some keys before it, in the order of paths.
 abbrev pub figures_behind : Path → Graph → List Figures
 figures_behind ks g = map (λ e. record { path = ks ++ e.0; self_size = e.1; total_size = total_at g e.0 }) (entries g)
 

@@ -1,4 +1,4 @@
--- What a report of roots says.
+-- The text of a report of roots.
 use Rattle.std.specs.Prelude.{ℕ, ◌==◌, Bool, false, cond, List, [], ◌∷◌, ◌++◌, flat_map}
 use Rattle.std.specs.Ordering.{eq_by_cmp}
 use Rattle.std.specs.FinMap.{entries}
@@ -16,23 +16,23 @@ ends_in k (l ∷ m ∷ p) = ends_in k (m ∷ p)
 abbrev pub exact_text : Graph → List ℕ
 exact_text g = flat_map (λ e. cond (ends_in (codes "unused_capacity") e.0) [] (line e)) (entries g)
 
--- ---- the same, of a text alone
--- The lines, each without its line feed; line is what was read of the first.
+-- ---- the exact text, computed from a text alone
+-- The lines, each without its line feed. `line` is what was read of the first one.
 abbrev pub lines_from : List ℕ → List ℕ → List (List ℕ)
 lines_from line [] = []
 lines_from line (b ∷ bs) = cond (b == 10) (line ∷ lines_from [] bs) (lines_from (line ++ b ∷ []) bs)
 
--- What stands before the last c, where before is what was read and best what stood before the last c so far.
+-- The bytes before the last c. `before` is what was read, and `best` what was read before the last c so far.
 abbrev pub before_last : ℕ → List ℕ → List ℕ → List ℕ → List ℕ
 before_last c best before [] = best
 before_last c best before (b ∷ bs) = cond (b == c) (before_last c before (before ++ b ∷ []) bs) (before_last c best (before ++ b ∷ []) bs)
 
--- What stands after the last c, or all, where after is what was read since.
+-- The bytes after the last c, or all where there is no c. `after` is what was read since the last c so far.
 abbrev pub after_last : ℕ → List ℕ → List ℕ → List ℕ
 after_last c after [] = after
 after_last c after (b ∷ bs) = cond (b == c) (after_last c [] bs) (after_last c (after ++ b ∷ []) bs)
 
--- The last key of a line: what stands after its last `;` and before its last space.
+-- The last key of a line: the bytes after its last `;` and before its last space.
 abbrev pub last_key : List ℕ → Key
 last_key l = after_last 59 [] (before_last 32 [] [] l)
 

@@ -8,7 +8,7 @@ use Rattle.allocative_graph.specs.Sums.{sums_of}
 use Rattle.allocative_graph.specs.Graph.{graph, text, warnings, sum_of, CanBeAdded}
 use Rattle.allocative_graph.specs.Held.{held}
 
--- The identity that the shared entries below have.
+-- The identity of the shared entries in these examples.
 abbrev pub one : Identity
 one = record { maker = 0; number = 1 }
 
@@ -32,7 +32,7 @@ shared_ring = First (codes "p") 8 one (Again (codes "p") 8 one Empty) Empty
 abbrev pub first_content : Forest
 first_content = Inline (codes "A") 8 (First (codes "ptr") 8 one (Inline (codes "D") 10 Empty Empty) Empty) (Inline (codes "A") 8 (Again (codes "ptr") 8 one Empty) Empty)
 
--- The same, where the first shows `E`.
+-- Two pointers to one identity, of which the first shows `E`.
 abbrev pub first_content_turned : Forest
 first_content_turned = Inline (codes "A") 8 (First (codes "ptr") 8 one (Inline (codes "E") 20 Empty Empty) Empty) (Inline (codes "A") 8 (Again (codes "ptr") 8 one Empty) Empty)
 
@@ -53,7 +53,7 @@ byte_fields (suc n) = Inline (codes "data") 1 (Inline (codes "u8") 1 Empty Empty
 abbrev pub boxed_bytes : Forest
 boxed_bytes = Inline (codes "TestData") 24 (Inline (codes "data") 16 (Inline (codes "Box") 16 (Unique (codes "ptr") 16 (Inline (codes "u8") 100 (byte_fields 100) Empty) Empty) Empty) (Inline (codes "b") 1 (Inline (codes "u8") 1 Empty Empty) Empty)) Empty
 
--- A shared value with room beside it.
+-- A shared value in an inner value that has more bytes.
 abbrev pub shared_value : Forest
 shared_value = Inline (codes "Arc") 8 (First (codes "ptr") 8 one (Inline (codes "ArcInner") 128 (Inline (codes "CacheLine") 64 (Inline (codes "0") 1 (Inline (codes "u8") 1 Empty Empty) Empty) Empty) Empty) Empty) Empty
 
@@ -69,7 +69,7 @@ vec_body = Unique (codes "ptr") 8 (Inline (codes "capacity") 3 (Inline (codes "u
 abbrev pub part_inline : Forest
 part_inline = Inline (codes "n") 8 (Inline (codes "x") 8 Empty Empty) Empty
 
--- The same path, entered as unique.
+-- One path, entered as unique.
 abbrev pub part_unique : Forest
 part_unique = Unique (codes "n") 8 (Inline (codes "y") 3 Empty Empty) Empty
 
@@ -77,11 +77,11 @@ part_unique = Unique (codes "n") 8 (Inline (codes "y") 3 Empty Empty) Empty
 abbrev pub unique_in_unique : Forest
 unique_in_unique = Inline (codes "T") 8 (Unique (codes "p") 8 (Unique (codes "q") 8 (Inline (codes "d") 5 Empty Empty) Empty) Empty) Empty
 
--- The forest has this text and these warnings.
+-- The forest f has this text and these warnings.
 abbrev pub Prints : Forest → List ℕ → List ℕ → Type 0
 Prints f lines complaints = (text (graph (sums_of (all f))) ≡ lines) × (warnings (sums_of (all f)) ≡ complaints)
 
--- What these forests print, which are whole, what some hold, and which cannot be added.
+-- What these forests print, which of them are whole, how many bytes some hold, and which cannot be added.
 pub record Rows : Type 0 where
   pub unique_pointer_prints : Prints unique_pointer (codes "T;ptr 8\nT;ptr;u8 3\n") []
   pub unique_field_prints : Prints unique_field (codes "Struct 1\nStruct;a 3\nStruct;p 6\nStruct;p;x 13\n") []

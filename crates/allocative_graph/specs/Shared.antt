@@ -1,13 +1,13 @@
--- Shared values, and who gives them their identities.
+-- Shared values, and the makers of their identities.
 use Rattle.std.specs.Prelude.{ℕ, ◌+◌, ◌-◌, ◌^◌, ◌==◌, cond, Option, Some, None}
 use Rattle.allocative_graph.specs.Identity.{Identity}
 
--- What a maker gives: identities with its word, from the next number on; none is left where there is no next one.
+-- A maker of identities: the maker that its identities have, and the number of the next one, or None after the last.
 pub record Maker : Type 0 where
   pub maker : ℕ
   pub next : Option ℕ
 
--- The number after n, up to the greatest one of 64 bits.
+-- The number after n, or None after the greatest number of 64 bits.
 abbrev pub number_after : ℕ → Option ℕ
 number_after n = cond (n == 2 ^ 64 - 1) None (Some (n + 1))
 

@@ -14,14 +14,14 @@ pub record Node : Type 0 where
 abbrev pub Sums : Type 0
 Sums = FinMap path_cmp Node
 
--- Whether a mark is that of a unique entry.
+-- Whether an entry with this mark is unique.
 abbrev pub is_unique_mark : Mark → Bool
 is_unique_mark AsInline = false
 is_unique_mark AsUnique = true
 is_unique_mark (AsShared i) = false
 
 -- ---- of a bag
--- The bytes that the entries of b have at p.
+-- The bytes of the entries of b at p.
 abbrev pub bytes_in : Bag → Path → ℕ
 bytes_in b p = sum_by (λ e. cond (is_same_path p e.path) e.size 0) b
 
@@ -33,34 +33,34 @@ is_unique_in b p = list_any (λ e. cond (is_same_path p e.path) (is_unique_mark 
 abbrev pub is_entered_in : Bag → Path → Bool
 is_entered_in b p = list_any (λ e. is_same_path p e.path) b
 
--- The bytes that the entries of b have one key below p, whatever their marks.
+-- The bytes of the entries of b one key below p, whatever their marks.
 abbrev pub below_in : Bag → Path → ℕ
 below_in b p = sum_by (λ e. cond (is_one_below p e.path) e.size 0) b
 
 -- ---- kept as a map
--- What a path has once new came to it.
+-- What a path has after more was entered there.
 abbrev pub together : Option Node → Node → Node
 together None new = new
 together (Some old) new = record { bytes = old.bytes + new.bytes; is_unique = old.is_unique || new.is_unique }
 
--- What one entry gives to its path.
+-- What one entry adds to its path.
 abbrev pub node_of : Entry → Node
 node_of e = record { bytes = e.size; is_unique = is_unique_mark e.mark }
 
--- The sums s with one entry more.
+-- The sums s with one more entry.
 abbrev pub add : Sums → Entry → Sums
 add s e = insert s e.path (together (get s e.path) (node_of e))
 
--- The sums s with the entries of b.
+-- The sums s with the entries of b added.
 abbrev pub add_all : Sums → Bag → Sums
 add_all s [] = s
 add_all s (e ∷ b) = add_all (add s e) b
 
--- The sums of b; `SumsLaw` has their closed form.
+-- The sums of b. `SumsLaw` states their closed form.
 abbrev pub sums_of : Bag → Sums
 sums_of b = add_all empty b
 
--- All bytes entered.
+-- The sum of all bytes entered.
 abbrev pub entered : Sums → ℕ
 entered s = sum_by (λ e. e.1.bytes) (entries s)
 

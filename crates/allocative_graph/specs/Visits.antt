@@ -1,4 +1,4 @@
--- What calls of a collector and of its visitors do, as relations over what it was and what it is.
+-- What calls of a collector and of its visitors do, as relations between the collector before and after a call.
 use Rattle.std.specs.Prelude.{◌≡◌, ℕ, suc, ◌+◌, ◌<◌, ◌≤◌, ◌^◌, ◌⊎◌, Bool, true, false, List, Option, None, Some, Result, Ok, Err}
 use Rattle.std.specs.FinSet.{contains}
 use Rattle.allocative_graph.specs.declared.refusal.Refusal.{Refusal}
@@ -12,7 +12,9 @@ use Rattle.allocative_graph.specs.Graph.{Graph, Warned, graph, warnings, warned_
 use Rattle.allocative_graph.specs.Collector.{Live, Holding, Kind, OfGraph, OfHeld, State, Failed, Going, held_bytes, enter, enter_first, enter_again, leave, plus, Takes, is_graph, visitors, is_in_unique, begin, IsClosed, IsAtRoot}
 use Rattle.allocative_graph.specs.Shows.{Showing}
 
--- What a visit of a value that may show what p allows does. A failed collector stays as it is. After Err it has failed. After Ok it has failed (a refusal was hidden), or has more visitors out than before (one was forgotten), or has one forest more, which p allows and which it takes.
+-- What visiting a value does to a collector, where p is what the value may show. A failed collector stays as it is.
+-- After Err it has failed. After Ok it has failed (an error was hidden), or has more open visitors than before (one
+-- was forgotten), or has one more forest, which p allows and the collector takes.
 pub data Shows (p : Showing) : State → Result Unit Refusal → State → Type 0 where
   already : {r : Refusal} {result : Result Unit Refusal} → Shows p (Failed r) result (Failed r)
   refused : {b : Kind} {e r : Refusal} → Shows p (Going b) (Err e) (Failed r)
@@ -25,29 +27,33 @@ abbrev pub HasFailed : State → Refusal → Type 0
 HasFailed s r = s ≡ Failed r
 
 -- ---- entering
--- No bound is passed by an entry of n bytes.
+-- An entry of n bytes exceeds no bound.
 abbrev pub HasRoom : Bool → ℕ → Kind → Type 0
 HasRoom is_unique n (OfGraph c) = entered c.sums + n < 2 ^ 63
 HasRoom is_unique n (OfHeld h) = (h.sum + held_bytes h.is_in_unique is_unique n < 2 ^ 64) × (suc h.open_visitors < 2 ^ 64)
 
--- An entry of n bytes is refused with e: a bound would be passed; or none would, and memory was refused, which only a flame graph's collector asks for.
+-- An entry of n bytes is refused with e. Either e is TooLarge and a bound would be exceeded, or e is Memory and no
+-- bound would be exceeded. Memory is refused only by the collector of a flame graph.
 abbrev pub Refuses : Bool → ℕ → Kind → Refusal → Type 0
 Refuses is_unique n (OfGraph c) e = ((e ≡ TooLarge) × (2 ^ 63 ≤ entered c.sums + n)) ⊎ ((e ≡ Memory) × (entered c.sums + n < 2 ^ 63))
 Refuses is_unique n (OfHeld h) e = (e ≡ TooLarge) × ((2 ^ 64 ≤ h.sum + held_bytes h.is_in_unique is_unique n) ⊎ (2 ^ 64 ≤ suc h.open_visitors))
 
--- What entering does. A failed collector answers its first cause. Otherwise it is refused exactly as `Refuses` says, and has failed then; or there is one entry more and a visitor at it, and the answer is what leaving has to restore.
+-- What entering does. A failed collector returns its first cause. Otherwise the entry is refused exactly as `Refuses`
+-- says, and the collector has failed; or there is one more entry and a visitor at it, and the call returns the flag
+-- that leaving restores.
 pub data Enters (is_unique : Bool) (k : Key) (n : ℕ) : State → Result Bool Refusal → State → Type 0 where
   stays_failed : {r : Refusal} → Enters is_unique k n (Failed r) (Err r) (Failed r)
   is_refused : {b : Kind} {e : Refusal} → Refuses is_unique n b e → Enters is_unique k n (Going b) (Err e) (Failed e)
   is_entered : {b c : Kind} {outer : Bool} → HasRoom is_unique n b → outer ≡ is_in_unique b → c ≡ enter is_unique k n b → Enters is_unique k n (Going b) (Ok outer) (Going c)
 
--- The same of an inline entry of a declared size; where there is none it is TooLarge.
+-- What entering an inline entry of a declared size does. Where there is no size, the call returns TooLarge.
 pub data EntersSized (k : Key) : Option ℕ → State → Result Bool Refusal → State → Type 0 where
   stays_unsized : {r : Refusal} → EntersSized k None (Failed r) (Err r) (Failed r)
   is_unsized : {b : Kind} {e : Refusal} → e ≡ TooLarge → EntersSized k None (Going b) (Err e) (Failed e)
   is_sized : {n : ℕ} {s t : State} {result : Result Bool Refusal} → Enters false k n s result t → EntersSized k (Some n) s result t
 
--- The same of a shared entry. The answer says whether its content is to be shown: exactly where a flame graph's collector had not met the identity. The collector of held bytes stays as it is.
+-- What entering a shared entry does. The call returns whether its content is to be shown: in a flame graph's collector,
+-- exactly where the identity was not met. The collector of held bytes stays as it is.
 pub data EntersShared (k : Key) (n : ℕ) (i : Identity) : State → Result Bool Refusal → State → Type 0 where
   stays_shared : {r : Refusal} → EntersShared k n i (Failed r) (Err r) (Failed r)
   is_refused_shared : {c : Live} {e : Refusal} → Refuses false n (OfGraph c) e → EntersShared k n i (Going (OfGraph c)) (Err e) (Failed e)
@@ -55,33 +61,40 @@ pub data EntersShared (k : Key) (n : ℕ) (i : Identity) : State → Result Bool
   enters_first : {c d : Live} → entered c.sums + n < 2 ^ 63 → contains c.met i ≡ false → d ≡ enter_first k n i c → EntersShared k n i (Going (OfGraph c)) (Ok true) (Going (OfGraph d))
   enters_again : {c d : Live} → entered c.sums + n < 2 ^ 63 → contains c.met i ≡ true → d ≡ enter_again k n i c → EntersShared k n i (Going (OfGraph c)) (Ok false) (Going (OfGraph d))
 
--- What a call answers that makes one entry: Ok only where no bound is passed, and Err as entering does.
+-- What a call that makes one entry returns: Ok only where no bound is exceeded, and Err as entering does.
 abbrev pub Answers : Bool → ℕ → State → Result Unit Refusal → Type 0
 Answers is_unique n (Failed r) result = result ≡ Err r
 Answers is_unique n (Going b) (Ok u) = HasRoom is_unique n b
 Answers is_unique n (Going b) (Err e) = Refuses is_unique n b e
 
 -- ---- leaving
--- One visitor is left, outside which the current one is a unique entry's or is not. A failed collector stays as it is.
+-- One visitor is left; `outer` says whether the visitor outside it is that of a unique entry. A failed collector stays
+-- as it is.
 pub data Leaves (outer : Bool) : State → State → Type 0 where
   leaves_failed : {r : Refusal} → Leaves outer (Failed r) (Failed r)
   leaves_going : {b c : Kind} → c ≡ leave outer b → Leaves outer (Going b) (Going c)
 
 -- ---- root visitors
--- A root visitor goes out: the first cause; or Open where a visitor is out, and nothing changes; or the answer is what leaving has to restore.
+-- A root visitor is opened. The call returns the first cause; or Open where a visitor is open, and nothing changes; or
+-- the flag that leaving restores.
 abbrev pub Begins : State → Result Bool Refusal → State → Type 0
 Begins (Failed r) (Ok outer) t = ⊥
 Begins (Failed r) (Err e) t = (e ≡ r) × (t ≡ Failed r)
 Begins (Going b) (Ok outer) t = IsClosed b × IsAtRoot b × (outer ≡ is_in_unique b) × (t ≡ Going (begin b))
 Begins (Going b) (Err e) t = (e ≡ Open) × ¬ IsClosed b × (t ≡ Going b)
 
--- What is answered of a collector of which nothing else is asked: Ok where it has not failed and no visitor is out, else the first cause, or Open.
+-- What is returned where nothing else is asked of a collector: Ok where it has not failed and no visitor is open,
+-- otherwise the first cause, or Open.
 abbrev pub Settles : State → Result Unit Refusal → Type 0
 Settles (Failed r) result = result ≡ Err r
 Settles (Going b) (Ok u) = IsClosed b
 Settles (Going b) (Err e) = (e ≡ Open) × ¬ IsClosed b
 
--- What a visit by a root visitor does, of a value that may show what p allows. A failed collector answers its first cause and stays as it is. Where a visitor is out the answer is Open, and nothing changes. Else it is Ok exactly where the collector has afterwards neither failed nor a visitor out, and then it has one forest more; it is the cause where it has failed, and Open where a visitor is out.
+-- What visiting a value by a root visitor does to a collector, where p is what the value may show. A failed collector
+-- returns its first cause and stays as it is. Where a visitor is open, the call returns Open and nothing changes.
+-- Otherwise it returns Ok exactly where the collector afterwards has not failed and has no open visitor, and then the
+-- collector has one more forest; it returns the cause where the collector has failed, and Open where a visitor is
+-- open.
 abbrev pub Runs : Showing → State → Result Unit Refusal → State → Type 0
 Runs p (Failed r) result t = (result ≡ Err r) × (t ≡ Failed r)
 Runs p (Going b) (Ok u) (Failed r) = ⊥
@@ -90,24 +103,27 @@ Runs p (Going b) (Err e) (Failed r) = IsClosed b × (e ≡ r)
 Runs p (Going b) (Err e) (Going c) = (e ≡ Open) × ¬ IsClosed c × (¬ IsClosed b → c ≡ b) × (is_graph c ≡ is_graph b)
 
 -- ---- whole runs
--- What a finished run gives: the graph, the text of the warnings, and the paths that have one.
+-- The result of a finished run: the graph, the text of the warnings, and the paths that have one.
 pub record Profile : Type 0 where
   pub graph : Graph
   pub warnings : List ℕ
   pub warned : List Warned
 
--- How a flame graph's collector ends: with its first cause; or Open where a visitor is out; or with what p says of its sums, where memory is not refused.
+-- How the collector of a flame graph ends: with its first cause; with Open where a visitor is open; or with what p says
+-- of its sums, or Memory where memory runs out.
 abbrev pub Ends : {T : Type 0} → (Sums → T → Type 0) → State → Result T Refusal → Type 0
 Ends p (Failed r) result = result ≡ Err r
 Ends p (Going (OfGraph c)) (Ok made) = IsClosed (OfGraph c) × p c.sums made
 Ends p (Going (OfGraph c)) (Err e) = ((e ≡ Open) × ¬ IsClosed (OfGraph c)) ⊎ ((e ≡ Memory) × IsClosed (OfGraph c))
 Ends p (Going (OfHeld h)) result = ⊥
 
--- Graph, warnings and the paths that have one are those of the sums.
+-- The graph, the warnings and the paths that have one are those of the sums.
 abbrev pub IsProfile : Sums → Profile → Type 0
 IsProfile s o = (o.graph ≡ graph s) × (o.warnings ≡ warnings s) × (o.warned ≡ warned_paths s)
 
--- The profile is that of some whole showing f which p allows: f reaches exactly the identities whose contents it shows, its own entries have a meaning, and graph, warnings and the paths that have one are those of each such meaning.
+-- The profile is that of some whole showing f that p allows: f reaches exactly the identities whose contents it shows,
+-- its own entries have a meaning, and the graph, the warnings and the paths that have one are those of every such
+-- meaning.
 pub record IsProfileOf (p : Showing) (o : Profile) : Type 0 where
   pub shown : Forest
   pub allowed : p shown
@@ -125,7 +141,8 @@ pub record IsGraphOf (p : Showing) (g : Graph) : Type 0 where
   pub whole : IsWhole shown
   pub is : g ≡ graph (sums_of (all shown))
 
--- g is the sum of the graphs of a whole showing that p allows and of one that q allows; and where no identity is reached by both and their sums can be added, it is the graph of the one whole showing that has both.
+-- g is the sum of the graphs of a whole showing that p allows and of one that q allows. Where no identity is reached by
+-- both and their sums can be added, g is the graph of the one whole showing that has both.
 pub record IsSumOfTwo (p q : Showing) (g : Graph) : Type 0 where
   pub left : Forest
   pub right : Forest

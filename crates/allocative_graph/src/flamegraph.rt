@@ -28,9 +28,9 @@ pub use reads::Row;
 
 /// A map from paths of keys to sizes in bytes.
 ///
-/// A path is a list of keys, as `Map`, `data`, `key`; the root's is the empty one. The root is always in the map and,
-/// with each path, all beginnings of it. A contract sees the map alone. The total, which is the sum of all sizes, is at
-/// most `usize::MAX`.
+/// A path is a list of keys, as `Map`, `data`, `key`; the root's path is empty. The root is always in the map,
+/// and with each path so is every prefix of it. A contract sees only the map. The total, which is the sum of
+/// all sizes, is at most `usize::MAX`.
 ///
 /// ```
 /// let mut data = FlameGraph::default(alloc);
@@ -42,7 +42,7 @@ pub use reads::Row;
 #[cycle(graph)]
 #[derive(Drop)]
 pub struct FlameGraph {
-    // In the order of their keys.
+    // The children, in the order of their keys.
     children: Vec<Child>,
     // The sum of all sizes below this node.
     children_size: usize,
@@ -50,13 +50,13 @@ pub struct FlameGraph {
     node_size: usize,
 }
 
-/// A key, and the graph below it.
+/// A key and the graph below it.
 #[cycle(graph)]
 #[derive(Drop)]
 pub struct Child {
-    /// The key below which the graph stands.
+    /// The key of the child.
     pub key: Key,
-    /// The graph of what stands below the key; its root is the key's own path.
+    /// The graph of what is below the key; its root is the path of the key itself.
     pub graph: FlameGraph,
 }
 
@@ -85,7 +85,8 @@ impl Model for FlameGraph {
 }
 
 impl FlameGraph {
-    /// The graph with the root alone, of size 0. It takes no memory; the allocator is kept for what is added later.
+    /// The graph that has only the root, with size 0. It allocates nothing; it keeps the
+    /// allocator for what is added later.
     pub fn default(alloc: Global) -> FlameGraph
         ensures { result ≡ default }
     {
@@ -96,8 +97,8 @@ impl FlameGraph {
         }
     }
 
-    /// The graph with the root alone, of size 0, and with room for so many children of the root: adding them takes no
-    /// memory again. It answers an error only for want of memory.
+    /// The graph that has only the root, with size 0, and room for `children` children of the root: adding that
+    /// many allocates nothing for the list of children. It returns an error only when memory runs out.
     pub fn with_capacity(alloc: Global, children: usize) -> Result<FlameGraph, AllocError>
         ensures { IfOk result (λ graph. graph ≡ default) }
     {
@@ -106,19 +107,19 @@ impl FlameGraph {
         Ok(graph)
     }
 
-    /// The sum of the sizes of all paths in bytes, the root's own among them.
+    /// The sum of the sizes of all paths in bytes, including the root's own.
     pub fn total_size(&self) -> usize
         ensures total { result ≡ total self.now }
 
-        // Callers learn here what holds of every graph.
+        // This clause tells callers what holds of every graph.
         ensures tree { IsTree self.now }
     {
         self.node_size + self.children_size
     }
 
-    /// Adds bytes to the size of the root. It takes no memory.
+    /// Adds bytes to the size of the root. It allocates nothing.
     ///
-    /// It answers `TooLarge` exactly where the total would pass `usize::MAX`, and then nothing is changed.
+    /// It returns `TooLarge` exactly where the total would exceed `usize::MAX`, and then changes nothing.
     pub fn add_self(&mut self, size: usize) -> Result<(), Refusal>
         ensures sum { OnOk result (self.new ≡ add_self size self.old) }
         ensures too_large { IsErrOf result Refusal.TooLarge ↔ (2 ^ 64 ≤ total self.old + size) }
@@ -132,11 +133,11 @@ impl FlameGraph {
         Ok(())
     }
 
-    /// Adds another graph, path by path; a missing path counts as 0.
+    /// Adds another graph, path by path. A missing path counts as 0.
     ///
-    /// It answers `TooLarge` exactly where the two totals together pass `usize::MAX`, and then nothing is changed. After
-    /// `Memory` each path has its old size or the sum's, all old paths are still there, and there is none that the sum
-    /// has not. After a refusal `other` is dropped.
+    /// It returns `TooLarge` exactly where the sum of the two totals exceeds `usize::MAX`, and then changes
+    /// nothing. After `Memory` each path has its old size or that of the sum, all old paths are still there,
+    /// and there is no path that the sum does not have. After an error `other` is dropped.
     pub fn add(&mut self, other: FlameGraph) -> Result<(), Refusal>
         ensures sum { OnOk result (self.new ≡ sum_of self.old other) }
         ensures too_large { IsErrOf result Refusal.TooLarge ↔ (2 ^ 64 ≤ total self.old + total other) }
@@ -151,12 +152,12 @@ impl FlameGraph {
         Ok(())
     }
 
-    /// Adds another graph with the key put before each of its paths; all other paths stay as they are.
+    /// Adds another graph with the key put before each of its paths. All other paths stay as they are.
     ///
-    /// A new key that is not behind all others moves the children behind it, so that many keys out of order cost the square of
-    /// their number: [`add_children`](FlameGraph::add_children) adds many at once.
+    /// A new key that does not come last moves the children after it, so adding many keys out of order takes
+    /// time quadratic in their number. [`add_children`](FlameGraph::add_children) adds many at once.
     ///
-    /// The refusals, and what they leave, are those of [`add`](FlameGraph::add).
+    /// The errors, and what they leave, are those of [`add`](FlameGraph::add).
     pub fn add_child(&mut self, key: Key, child: FlameGraph) -> Result<(), Refusal>
         ensures sum { OnOk result (self.new ≡ sum_of self.old (under key child)) }
         ensures too_large { IsErrOf result Refusal.TooLarge ↔ (2 ^ 64 ≤ total self.old + total child) }
@@ -175,7 +176,7 @@ impl FlameGraph {
         Ok(())
     }
 
-    // The same graph once more where it has the root alone, which takes no memory and no call.
+    // A copy of the graph where it has only the root. It allocates nothing and makes no further call.
     #[inline(always)]
     fn root_alone(&self) -> Option<FlameGraph>
         ensures { IfSome result (λ root. root ≡ self.now) }
@@ -192,7 +193,7 @@ impl FlameGraph {
         }
     }
 
-    // `add`, where the totals are known to fit.
+    // Adds another graph where the totals are known to fit.
     #[cycle(merge)]
     fn merge(&mut self, other: FlameGraph) -> Result<(), AllocError>
         requires { total self.old + total other < 2 ^ 64 }
@@ -213,11 +214,11 @@ impl FlameGraph {
         interleave(mine, children, &mut self.children, &mut self.children_size)
     }
 
-    /// The collapsed stacks that `flamegraph.pl` reads: for each path but the root with a size other than 0 one line,
-    /// its keys joined by `;`, a space, the size in decimal. The lines stand in the order of paths: a node before its
-    /// children, and children by the bytes of their keys.
+    /// The collapsed stacks that `flamegraph.pl` reads: one line for each path but the root with a size other
+    /// than 0. A line has the keys joined by `;`, a space, and the size in decimal. The lines are in the order
+    /// of paths: a node comes before its children, and children come in the order of the bytes of their keys.
     ///
-    /// It answers an error only for want of memory.
+    /// It returns an error only when memory runs out.
     pub fn write(&self) -> Result<String, Refusal>
         ensures text { IfOk result (λ made. string_bytes made ≡ text self.now) }
         ensures memory { IfErr result (λ r. r ≡ Refusal.Memory) }
@@ -231,7 +232,7 @@ impl FlameGraph {
         }
     }
 
-    // Appends the lines of all paths but the root, each behind what lines start with here.
+    // Appends the lines of all paths but the root, each after the given start of a line.
     fn write_below(&self, start: &mut String, text: &mut String) -> Result<(), AllocError>
         ensures start { OnOk result (string_bytes start.new ≡ string_bytes start.old) }
         ensures text { OnOk result (string_bytes text.new ≡ string_bytes text.old ++ lines_below (string_bytes start.old) (map.entries self.now)) }
@@ -249,7 +250,7 @@ impl FlameGraph {
         Ok(())
     }
 
-    // Appends the root's own line, behind the keys of its path.
+    // Appends the root's own line after the keys of its path.
     fn write_own(&self, path: &str, text: &mut String) -> Result<(), AllocError>
         ensures { OnOk result (string_bytes text.new ++ lines_below (path.now ++ 59 ∷ []) (map.entries self.now) ≡ string_bytes text.old ++ lines_from path.now (map.entries self.now)) }
     {
@@ -259,7 +260,7 @@ impl FlameGraph {
         Ok(())
     }
 
-    // Whether there are other paths than the root.
+    // Whether there are paths other than the root.
     fn has_children(&self) -> bool
         ensures { OnFalse result (HasRootAlone self.now) }
     {
@@ -270,7 +271,7 @@ impl FlameGraph {
 impl Clone for FlameGraph {
     ghost is_clone = { λ g c. c ≡ g };
 
-    /// The same map once more; an error only for want of memory.
+    /// A copy of the map. It returns an error only when memory runs out.
     fn clone(&self) -> Result<FlameGraph, AllocError> {
         let alloc = *self.children.allocator();
         let mut children = Vec::with_capacity(alloc, self.children.len())?;
@@ -291,7 +292,7 @@ impl Clone for FlameGraph {
     }
 }
 
-// Appends a path, and behind it the size of its line.
+// Appends a path, and then the size that ends its line.
 fn push_line(path: &str, size: usize, text: &mut String) -> Result<(), AllocError>
     ensures { OnOk result (string_bytes text.new ≡ string_bytes text.old ++ (path.now ++ size_text size)) }
 {
@@ -303,8 +304,8 @@ fn push_line(path: &str, size: usize, text: &mut String) -> Result<(), AllocErro
     Ok(())
 }
 
-/// Appends the keys to the text, with `;` between them. It answers an error only for want of memory; the text may then have
-/// a part of them.
+/// Appends the keys to the text, with `;` between them. It returns an error only when memory runs out; the text
+/// may then have some of them.
 pub fn push_path(keys: &[&str], text: &mut String) -> Result<(), AllocError>
     ensures { OnOk result (string_bytes text.new ≡ string_bytes text.old ++ joined (map (λ k. k.now) keys.now)) }
 {
@@ -319,8 +320,8 @@ pub fn push_path(keys: &[&str], text: &mut String) -> Result<(), AllocError>
     Ok(())
 }
 
-// Where the key stands among the children, or else where it belongs. One comparison tells of a key behind the last one,
-// so that children added in order are put at the end without a search.
+// The place of the key among the children, or else the place where it belongs. One comparison recognizes a key
+// after the last one, so that children added in order are put at the end without a search.
 fn place_of(children: &[Child], key: &Key) -> Result<usize, usize>
     requires { InOrder children.now }
     ensures found { IfOk result (IsFound children.now key.now) }
@@ -334,7 +335,7 @@ fn place_of(children: &[Child], key: &Key) -> Result<usize, usize>
     place_by_halving(children, key)
 }
 
-// The same, by halving.
+// The place of the key among the children, or else the place where it belongs, by binary search.
 fn place_by_halving(children: &[Child], key: &Key) -> Result<usize, usize>
     requires { InOrder children.now }
     ensures found { IfOk result (IsFound children.now key.now) }
@@ -347,7 +348,7 @@ fn place_by_halving(children: &[Child], key: &Key) -> Result<usize, usize>
     )
 }
 
-// Adds a child: to the one that has its key, or in its place among the others.
+// Adds a child: to the child with its key, or at its place among the others.
 fn put_child(children: &mut Vec<Child>, size: &mut usize, child: Child) -> Result<(), AllocError>
     requires children { AreChildren children.old.items }
     requires exact { size.old ≡ weight children.old.items }
@@ -374,7 +375,7 @@ fn put_child(children: &mut Vec<Child>, size: &mut usize, child: Child) -> Resul
     }
 }
 
-// Puts a child in a place. Behind the last one nothing is moved.
+// Inserts a child at a place. At the end no child is moved.
 #[inline(always)]
 fn put_at(children: &mut Vec<Child>, at: usize, child: Child) -> Result<(), AllocError>
     requires { at ≤ length children.old.items }
@@ -389,7 +390,8 @@ fn put_at(children: &mut Vec<Child>, at: usize, child: Child) -> Result<(), Allo
     Ok(())
 }
 
-// Puts the merge of both into `children`, which has room for all. After a refusal it goes on, so that no child is lost.
+// Puts the merge of both lists into `children`, which has room for all. After an error it continues,
+// so that no child is lost.
 #[cycle(merge)]
 fn interleave(
     mine: Vec<Child>,
@@ -419,7 +421,7 @@ fn interleave(
     result
 }
 
-// Takes the next child of the merge off both lists. Where both have its key, one is added to the other.
+// Takes the next child of the merge from the lists. Where both have its key, one is added to the other.
 #[cycle(merge)]
 fn take_next(
     mine: &mut VecDeque<Child>,
@@ -442,7 +444,7 @@ fn take_next(
     }
 }
 
-// Which list has the next child: the first, the second, or both.
+// Which list has the next child: the first (`Less`), the second (`Greater`), or both.
 fn fronts(mine: &VecDeque<Child>, theirs: &VecDeque<Child>) -> Option<Ordering>
     ensures { result ≡ front_order mine.now.items theirs.now.items }
 {

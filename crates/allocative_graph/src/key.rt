@@ -19,8 +19,8 @@ use std::marker::Model;
 
 /// The name of an entry: a static text, kept with its 64-bit hash.
 ///
-/// Keys are equal where their texts are, and stand in the order of the bytes of their texts. A contract sees the bytes
-/// of the text alone. No call of a key takes memory or refuses.
+/// Keys are equal where their texts are, and are ordered by the bytes of their texts. A contract sees only the
+/// bytes of the text. No call of a key allocates or fails.
 #[derive(Drop)]
 pub struct Key {
     text: StaticText,
@@ -64,7 +64,8 @@ impl Key {
         Key::new(T::name())
     }
 
-    /// The key of a text whose hash is known, so that it is not computed again. It asks that the hash is `hash_of(text)`.
+    /// The key of a text whose hash is known, so that it is not computed again. It requires that
+    /// the hash is `hash_of(text)`.
     pub fn new_unchecked(hash: u64, text: &'static str) -> Key
         requires { hash ≡ fnv text.now }
         ensures { result ≡ text.now }
@@ -82,8 +83,8 @@ impl Key {
         self.text.as_str()
     }
 
-    /// The same key once more. `clone` answers a `Result`, as each `clone` does, also where it never fails; this call
-    /// is for those who cannot pass an error on.
+    /// A copy of the key. `clone` returns a `Result`, as every `clone` does, even though it never fails; this
+    /// call is for callers that cannot pass an error on.
     pub fn copy(&self) -> Key
         ensures { result ≡ self.now }
     {
@@ -132,7 +133,7 @@ impl Ord for Key {
     }
 }
 
-/// By the 64-bit hash alone.
+/// Keys are hashed by their 64-bit hash alone.
 impl Hash for Key {
     ghost hash_input = { λ k. fed.u64 (fnv k) };
 
@@ -143,7 +144,7 @@ impl Hash for Key {
     }
 }
 
-/// It never fails, and says so.
+/// Cloning a key never fails, as its contract says.
 impl Clone for Key {
     ghost is_clone = { λ k c. c ≡ k };
 
@@ -154,14 +155,14 @@ impl Clone for Key {
     }
 }
 
-/// The text in quotes, as `str` shows it.
+/// The text in quotes, as `str` prints it.
 impl fmt::Debug for Key {
     fn fmt<W: fmt::Write>(&self, f: &mut fmt::Formatter<W>) -> fmt::Result {
         self.as_str().fmt(f)
     }
 }
 
-/// The [`Key`](crate::key::Key) of an identifier's text, as `ident_key!(count)` for the key of `count`.
+/// The [`Key`](crate::key::Key) of an identifier's text: `ident_key!(count)` is the key of `count`.
 #[macro_export]
 macro_rules! ident_key {
     ($name:ident) => {

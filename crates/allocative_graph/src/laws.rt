@@ -7,24 +7,25 @@ pub fn order_law()
     ensures { OrderLaw }
 {}
 
-/// A whole showing shows the contents of exactly the identities that it reaches, and its entries are its own and,
-/// once for each identity reached, those of its content.
+/// A whole showing shows the contents of exactly the identities that it reaches. Its entries are its own and,
+/// once for each identity reached, those of that identity's content.
 pub fn meaning_law()
     ensures { MeaningLaw }
 {}
 
-/// Where no identity is reached by both and the sums can be added, the graphs of two whole showings add up.
+/// Where no identity is reached by both and their sums can be added, the graphs of two whole showings add up.
 pub fn merge_law()
     ensures { MergeLaw }
 {}
 
-/// Where no key has a `;` or a line feed, graphs with equal texts have equal sizes at each path but the root. It speaks of
-/// graphs whose totals fit a word, as those of each `FlameGraph` do.
+/// Where no key has a `;` or a line feed, graphs with equal texts have equal sizes at each path but the root.
+/// The law is about graphs whose totals fit a word, as that of every `FlameGraph` does.
 pub fn text_law()
     ensures { TextLaw }
 {}
 
-/// Where no key has a `;` or a line feed, dropping the lines whose last key is `unused_capacity` drops the paths that end in it.
+/// Where no key has a `;` or a line feed, dropping the lines whose last key is `unused_capacity` drops
+/// the paths that end in it.
 pub fn exact_law()
     ensures { ExactLaw }
 {}
@@ -34,18 +35,18 @@ pub fn sums_law()
     ensures { SumsLaw }
 {}
 
-/// One forest and then another is both in one, and what was entered, was given a forest and was left is the entry
-/// with the forest inside it: in both collectors.
+/// In both collectors, one forest followed by another is both in one, and entering, adding a forest and leaving
+/// is the entry with the forest inside it.
 pub fn plus_law()
     ensures { PlusLaw }
 {}
 
-/// The same of shared entries: a content starts at the root, and the collector of held bytes stays as it is.
+/// How shared entries add up: a content starts at the root, and the collector of held bytes stays as it is.
 pub fn shared_law()
     ensures { SharedLaw }
 {}
 
-/// A beginning of a path comes before it; otherwise the first keys that differ decide, by their bytes.
+/// A prefix of a path comes before it. Otherwise the first keys that differ decide, by their bytes.
 pub fn path_order_law()
     ensures { PathOrderLaw }
 {}
@@ -55,12 +56,13 @@ pub fn graph_sums_law()
     ensures { GraphSumsLaw }
 {}
 
-/// The graph of sums has the root with 0 and exactly their paths, each with what remains of its bytes.
+/// The graph of some sums has the root with 0 and exactly the paths of the sums, each with what remains of its
+/// bytes.
 pub fn graph_law()
     ensures { GraphLaw }
 {}
 
-/// What some showings print, and what some hold.
+/// Worked examples: what some showings print, and how many bytes some hold.
 pub fn rows_law()
     ensures { Rows }
 {}

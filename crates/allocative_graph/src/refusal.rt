@@ -2,16 +2,16 @@
 use std::alloc::{AllocError, AllocFailed};
 use thiserror::Error;
 
-/// Why a call refused. `refusal as u8` gives its number, which stays what it is: 1, 2 or 3.
+/// Why a call refused. `refusal as u8` is its number, which is fixed: 1, 2 or 3.
 #[derive(Clone, Copy, Debug, PartialEq, Eq, Error)]
 pub enum Refusal {
-    /// A growth of memory was refused, or a caller's own code made this refusal.
+    /// Memory ran out, or a caller's own code refused with it.
     #[error("out of memory")]
     Memory = 1,
-    /// A declared size, a product or a sum of sizes passes its bound.
+    /// A declared size, a product or a sum of sizes exceeds its bound.
     #[error("sizes do not fit")]
     TooLarge = 2,
-    /// A visitor was entered and neither left nor dropped.
+    /// A visitor was entered but neither left nor dropped.
     #[error("a visitor was forgotten")]
     Open = 3,
 }

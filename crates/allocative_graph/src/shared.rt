@@ -11,9 +11,10 @@ mod rc;
 pub use arc::IdArc;
 pub use rc::IdRc;
 
-/// Tells shared values apart: two values under one identity count as one.
+/// Tells shared values apart: two values with one identity count as one.
 ///
-/// It has a maker's word and a number. The word sets the numbers of one maker apart from those of another.
+/// It has a maker and a number. The maker, a `u64`, separates the identities of one `IdMaker` from those of
+/// another.
 #[derive(Clone, Copy, PartialEq, Eq, PartialOrd, Ord, Hash, Debug)]
 pub struct Identity {
     maker: u64,
@@ -31,21 +32,21 @@ impl Model for Identity {
 }
 
 impl Identity {
-    /// The number of that maker.
+    /// The identity with that maker and that number.
     pub fn new(maker: u64, number: u64) -> Identity
         ensures { result ≡ record { maker = maker; number = number } }
     {
         Identity { maker, number }
     }
 
-    /// The word of its maker.
+    /// The `u64` of its maker.
     pub fn maker(self) -> u64
         ensures { result ≡ self.maker }
     {
         self.maker
     }
 
-    /// Its number among those of its maker.
+    /// Its number among the identities of its maker.
     pub fn number(self) -> u64
         ensures { result ≡ self.number }
     {
@@ -53,7 +54,7 @@ impl Identity {
     }
 }
 
-/// The number of the maker 0.
+/// A number alone is an identity of the maker 0.
 impl From<u64> for Identity {
     ghost use Rattle.std.specs.Prelude.{◌≡◌};
 
@@ -64,9 +65,9 @@ impl From<u64> for Identity {
     }
 }
 
-/// Gives identities with one maker's word and rising numbers.
+/// Makes identities with one maker and rising numbers.
 ///
-/// Two makers with one word give the same identities.
+/// Two `IdMaker`s with the same maker make the same identities.
 ///
 /// ```
 /// let mut maker = IdMaker::new(1);
@@ -90,14 +91,14 @@ impl Model for IdMaker {
 }
 
 impl IdMaker {
-    /// A maker whose first number is 0.
+    /// A maker whose first identity has the number 0.
     pub fn new(maker: u64) -> IdMaker
         ensures { result ≡ record { maker = maker; next = Some 0 } }
     {
         IdMaker::starting_at(maker, 0)
     }
 
-    /// A maker with that first number.
+    /// A maker whose first identity has the given number.
     pub fn starting_at(maker: u64, first: u64) -> IdMaker
         ensures { result ≡ record { maker = maker; next = Some first } }
     {
@@ -107,8 +108,8 @@ impl IdMaker {
         }
     }
 
-    /// The next identity: each has the number of the one before plus 1. It answers `None` for good once the number
-    /// `u64::MAX` was given.
+    /// The next identity: each has the number of the one before plus 1. Once the number `u64::MAX` was given,
+    /// it always returns `None`.
     pub fn fresh(&mut self) -> Option<Identity>
         ensures identity { result ≡ option_map (λ n. record { maker = self.old.maker; number = n }) self.old.next }
         ensures next { self.new ≡ record self.old { next = option_and_then number_after self.old.next } }

@@ -1,11 +1,12 @@
 //! A static text whose type names no lifetime.
 //!
-//! A struct that holds a `&'static str` has a lifetime in its type, and a `&mut` to such a struct, lent to a closure or
-//! kept in another struct, gets no generated proof. So a key, which collectors hold, keeps its text as a pointer and a
-//! length, beside a ghost right to read there for good.
+//! A struct that holds a `&'static str` has a lifetime in its type. A `&mut` to such a struct, lent to a
+//! closure or kept in another struct, gets no generated proof. A key, which collectors hold, therefore keeps
+//! its text as a pointer and a length, beside a ghost right to read there forever.
 //!
-//! Proved by hand, in `proofs/static_text`, are the three functions of [`ReadRight`] that make the right, have it twice
-//! and read by it, and that the right can be had twice and be sent to other threads. All else is generated from these.
+//! Proved by hand, in `proofs/static_text`, are the three functions of [`ReadRight`] that make the right,
+//! copy it and read by it, and that the right can be copied and sent to other threads. All other proofs
+//! are generated from these.
 ghost use Rattle.std.specs.Prelude.{◌≡◌, ℕ, ◌^◌, ◌<◌, ◌≤◌, List, [], length, IsUtf8};
 ghost use denote.RawPtr.{Ptr};
 ghost use Rattle.allocative_graph.specs.Static.{IsPlaced, static_owns};
@@ -14,7 +15,7 @@ use std::alloc::AllocError;
 use std::marker::Model;
 use std::{slice, str};
 
-// The right to read `items` at `ptr` for good. It has no field at run time.
+/// The right to read `items` at `ptr` forever. It has no field at run time.
 #[derive(Drop)]
 pub(crate) struct ReadRight {
     ghost ptr: { Ptr },
@@ -29,21 +30,21 @@ impl Model for ReadRight {
 }
 
 impl ReadRight {
-    // The bytes of a `&'static` can be read for good.
+    /// The right to read the bytes of a `&'static`, and the pointer to them.
     pub(crate) fn forever(bytes: &'static [u8]) -> (*const u8, ReadRight)
         ensures { (result.1.ptr ≡ result.0) × (result.1.items ≡ bytes.now) }
     {
         (bytes.as_ptr(), ReadRight {})
     }
 
-    // The right once more: who only reads does not take it from another.
+    /// A copy of the right: reading takes nothing away from another reader.
     pub(crate) fn copy(&self) -> ReadRight
         ensures { result ≡ self.now }
     {
         ReadRight {}
     }
 
-    // What stands there.
+    /// The bytes at the pointer.
     #[inline(always)]
     pub(crate) fn read(&self, ptr: *const u8, len: usize) -> &'static [u8]
         requires { (ptr ≡ self.now.ptr) × (len ≡ length self.now.items) }
@@ -53,7 +54,7 @@ impl ReadRight {
     }
 }
 
-/// A static text. A contract sees its bytes.
+/// A static text. A contract sees only its bytes.
 #[derive(Drop)]
 pub struct StaticText {
     at: *const u8,
@@ -96,7 +97,7 @@ impl StaticText {
         unsafe { str::from_utf8_unchecked(self.right.read(self.at, self.len)) }
     }
 
-    /// The same text once more; it never fails.
+    /// A copy of the text. It never fails.
     pub fn copy(&self) -> StaticText
         ensures { result ≡ self.now }
     {

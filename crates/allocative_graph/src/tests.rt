@@ -1,4 +1,4 @@
-// What no clause says: worked examples, printed texts, and what is left where memory is refused.
+//! What no clause says: worked examples, printed texts, and what is left where memory runs out.
 use crate::flamegraph::{Child, FlameGraph, push_path};
 use crate::ident_key;
 use crate::key::Key;
@@ -7,7 +7,7 @@ use crate::shared::{IdArc, IdMaker, IdRc, Identity};
 use std::alloc::Global;
 use std::hash::{DefaultHasher, Hash, Hasher};
 
-// A graph whose root has the size.
+// A graph whose root has the given size.
 fn own(alloc: Global, size: usize) -> Result<FlameGraph, Refusal> {
     let mut graph = FlameGraph::default(alloc);
     graph.add_self(size)?;
@@ -119,7 +119,8 @@ fn a_total_past_the_bound_is_refused(rt: HostRuntime) -> Result<(), Refusal> {
     Ok(())
 }
 
-// With ample memory it ends at the sum; where one growth is refused, each size is the old one or the sum's.
+// With enough memory the result is the sum. Where one growth is refused, each size is the old one or that of
+// the sum.
 #[test]
 fn after_memory_each_size_is_old_or_summed(rt: HostRuntime) -> Result<(), Refusal> {
     let alloc = rt.alloc();
@@ -261,7 +262,7 @@ fn hashes_are_fnv(rt: HostRuntime) {
     assert_eq!(rt; Key::hash_of("a"), 0xaf63_dc4c_8601_ec8c);
 }
 
-// What a hasher says of a key.
+// The hash that a hasher gives a key.
 fn hashed(key: &Key) -> u64 {
     let mut hasher = DefaultHasher::new();
     key.hash(&mut hasher);

@@ -1,4 +1,4 @@
-//! Many children of a flame graph at once.
+//! Adding many children to a flame graph at once.
 ghost use Rattle.std.specs.Prelude.{◌≡◌, ◌+◌, ◌^◌, ◌<◌, ◌≤◌, ◌↔◌, IfOk, OnOk, IsErrOf};
 ghost use Rattle.std.specs.Option.{SomeIff};
 ghost use Rattle.allocative_graph.specs.Graph.{total, default};
@@ -11,12 +11,12 @@ use std::alloc::{AllocError, Global};
 use std::collections::VecDeque;
 
 impl FlameGraph {
-    /// Adds some children, each as [`add_child`](FlameGraph::add_child) does; children of one key add up. Their order does
-    /// not matter: they are sorted once, and then merged with those that there are.
+    /// Adds some children, each as [`add_child`](FlameGraph::add_child) does; children with one key add up.
+    /// Their order does not matter: they are sorted once, and then merged with the children that are there.
     ///
-    /// It answers `TooLarge` exactly where all totals together pass `usize::MAX`, and then nothing is changed. After
-    /// `Memory` each path has its old size or the sum's, all old paths are still there, and there is none that the sum has
-    /// not. After a refusal the children are dropped.
+    /// It returns `TooLarge` exactly where the sum of all totals exceeds `usize::MAX`, and then changes
+    /// nothing. After `Memory` each path has its old size or that of the sum, all old paths are still there,
+    /// and there is no path that the sum does not have. After an error the children are dropped.
     pub fn add_children(&mut self, children: Vec<Child>) -> Result<(), Refusal>
         ensures sum { OnOk result (self.new ≡ sum_of_all self.old children.items) }
         ensures too_large { IsErrOf result Refusal.TooLarge ↔ (2 ^ 64 ≤ total self.old + total_of children.items) }
@@ -36,7 +36,7 @@ impl FlameGraph {
     }
 }
 
-// The totals of some children together, where the sum fits.
+// The sum of the totals of some children, or `None` where it does not fit.
 fn total_size_of(children: &[Child]) -> Option<usize>
     ensures { SomeIff result (total_of children.now < 2 ^ 64) (total_of children.now) }
 {
@@ -47,7 +47,8 @@ fn total_size_of(children: &[Child]) -> Option<usize>
     Some(sum)
 }
 
-// A graph with the children alone. They are added in the order of their keys, so that each goes behind the last one.
+// A graph that has only the children. They are added in the order of their keys, so that each is put at the
+// end.
 fn gather(alloc: Global, children: Vec<Child>) -> Result<FlameGraph, AllocError>
     requires { total_of children.items < 2 ^ 64 }
     ensures { IfOk result (λ graph. graph ≡ sum_of_all default children.items) }
@@ -57,7 +58,7 @@ fn gather(alloc: Global, children: Vec<Child>) -> Result<FlameGraph, AllocError>
     let mut waiting = VecDeque::from(sorted);
     let mut graph = FlameGraph::default(alloc);
     while let Some(child) = waiting.pop_front() {
-        // The totals fit, so that memory alone can be refused.
+        // The totals fit, so the only error is that memory runs out.
         if graph.add_child(child.key, child.graph).is_err() {
             return Err(AllocError);
         }

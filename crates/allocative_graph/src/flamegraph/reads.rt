@@ -1,4 +1,4 @@
-//! Reads of a flame graph: its children, the graph at a path, and the rows of all paths.
+//! Reading a flame graph: its children, the graph at a path, and the rows of all paths.
 ghost use Rattle.std.specs.Prelude.{◌≡◌, ◌++◌, [], IfOk, IfErr, IfSome, IfNone, OnOk, map};
 ghost use Rattle.allocative_graph.specs.Path.{key_cmp};
 ghost use Rattle.allocative_graph.specs.Graph.{size_at, total_at, IsBehind, HasNothing};
@@ -11,7 +11,7 @@ use crate::refusal::Refusal;
 use std::alloc::{AllocError, Global};
 use std::cmp::Ordering;
 
-/// A path of a flame graph, with its figures in bytes.
+/// A path of a flame graph, with its sizes in bytes.
 #[derive(Drop)]
 pub struct Row {
     /// The keys from the root on. The root's path is empty.
@@ -30,8 +30,8 @@ impl FlameGraph {
         self.node_size
     }
 
-    /// The children of the root, in the order of their keys. No two have one key. With the root's own size they are the
-    /// whole graph, and each has fewer paths, so a function may call itself for them.
+    /// The children of the root, in the order of their keys. No two have the same key. Together with the root's
+    /// own size they are the whole graph. Each child has fewer paths, so a function may call itself on it.
     pub fn children(&self) -> &[Child]
         ensures whole { self.now ≡ node (size_at self.now []) result.now }
         ensures children { AreChildren result.now }
@@ -40,7 +40,8 @@ impl FlameGraph {
         self.children.as_slice()
     }
 
-    /// The graph at a path, whose root is that path; None exactly where the graph has no such path.
+    /// The graph at a path, whose root is that path. It returns `None` exactly where the graph has no such
+    /// path.
     pub fn get(&self, path: &[&str]) -> Option<&FlameGraph>
         ensures found { IfSome result (λ found. IsBehind self.now (map (λ k. k.now) path.now) found.now) }
         ensures missing { IfNone result (HasNothing self.now (map (λ k. k.now) path.now)) }
@@ -69,10 +70,10 @@ impl FlameGraph {
         self.get(path).map_or(0, FlameGraph::total_size)
     }
 
-    /// All paths with their figures, in the order of paths: the root first, each path before those below it, and the
-    /// paths below one path by their keys.
+    /// All paths with their sizes, in the order of paths: the root comes first, each path comes before those
+    /// below it, and the paths below one path come in the order of their keys.
     ///
-    /// It answers an error only for want of memory.
+    /// It returns an error only when memory runs out.
     pub fn rows(&self) -> Result<Vec<Row>, Refusal>
         ensures rows { IfOk result (λ rows. map seen rows.items ≡ figures self.now) }
         ensures memory { IfErr result (λ r. r ≡ Refusal.Memory) }
@@ -84,7 +85,7 @@ impl FlameGraph {
         Ok(rows)
     }
 
-    // Appends the rows of all paths, behind some keys.
+    // Appends the rows of all paths, each after the given keys.
     fn push_rows(&self, path: &mut Vec<&'static str>, rows: &mut Vec<Row>) -> Result<(), AllocError>
         ensures path { OnOk result (path.new.items ≡ path.old.items) }
         ensures rows { OnOk result (map seen rows.new.items ≡ map seen rows.old.items ++ figures_behind (map (λ k. k.now) path.old.items) self.now) }
@@ -103,7 +104,7 @@ impl FlameGraph {
     }
 }
 
-// Where the key of a text stands among the children, or else where it belongs.
+// The place of the child whose key has the text, or else the place where it belongs.
 fn place_of_text(children: &[Child], text: &str) -> Result<usize, usize>
     requires { InOrder children.now }
     ensures found { IfOk result (IsFound children.now text.now) }

@@ -1,4 +1,4 @@
-//! Shared values of any threads.
+//! Values shared between threads.
 ghost use Rattle.std.specs.Prelude.{◌≡◌, IfOk, IfErr, Some, true, codes};
 
 use super::Identity;
@@ -8,7 +8,7 @@ use std::alloc::{AllocError, Global};
 use std::marker::Model;
 use std::sync::Arc;
 
-/// A value with several owners, in any threads, and with an identity that all of them have.
+/// A value with several owners, in any threads, and with one identity that all of them have.
 #[derive(Drop)]
 pub struct IdArc<T: Drop> {
     pointer: Arc<T>,
@@ -24,8 +24,8 @@ impl<T: Drop> Model for IdArc<T> {
 }
 
 impl<T: Drop> IdArc<T> {
-    /// Puts the value on the heap, under the identity. It answers an error only for want of memory, and then the value
-    /// is dropped.
+    /// Puts the value on the heap, with the identity. It returns an error only when memory runs out, and
+    /// then the value is dropped.
     pub fn new(alloc: Global, value: T, id: Identity) -> Result<IdArc<T>, Refusal>
         ensures ok { IfOk result (λ shared. shared ≡ record { value = value; id = id }) }
         ensures memory { IfErr result (λ r. r ≡ Refusal.Memory) }
@@ -52,7 +52,7 @@ impl<T: Drop> IdArc<T> {
 impl<T: Drop> Clone for IdArc<T> {
     ghost is_clone = { λ s c. c ≡ s };
 
-    /// One owner more of the same value, under the same identity.
+    /// One more owner of the value, with its identity.
     fn clone(&self) -> Result<IdArc<T>, AllocError> {
         let pointer = self.pointer.clone()?;
         Ok(IdArc {

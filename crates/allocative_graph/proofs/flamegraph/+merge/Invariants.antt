@@ -19,6 +19,6 @@ decreases-take_next l = 3 * length (rows_of l.theirs.now.items) + 1
 abbrev pub decreases-interleave-loop-child : goal.decreases-interleave-loop-child
 decreases-interleave-loop-child l = length l.mine.items + length l.theirs.items
 
--- What is left of both, with its merge behind what is out, is the merge of all.
+-- What remains of both lists, merged and put after what was taken, is the merge of all.
 abbrev pub invariant-interleave-loop-child : goal.invariant-interleave-loop-child
 invariant-interleave-loop-child l = Going (is_ok l.result) l.fn.mine.items l.fn.theirs.items l.children.items l.mine.items l.theirs.items l.size (vec_capacity l.children)

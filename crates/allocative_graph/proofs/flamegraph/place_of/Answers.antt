@@ -1,4 +1,4 @@
--- The last is below the key, so all are.
+-- The last key is below the key, so all keys are.
 use Rattle.std.proofs.Common.{◌≡◌, ◌-◌, ◌<◌, length, suc, sym, subst, ◌∙◌, arith}
 use Rattle.std.specs.declared.cmp.Ordering.TheVariants.{Less}
 use Rattle.allocative_graph.specs.declared.flamegraph.Child.{Child}

@@ -1,4 +1,4 @@
--- Line by line.
+-- The law holds line by line.
 use Rattle.allocative_graph.proofs.Exact.{exact_is}
 use Rattle.allocative_graph.proofs.laws.exact_law.Goals as goal
 

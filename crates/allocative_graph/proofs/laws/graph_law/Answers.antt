@@ -1,4 +1,4 @@
--- By the entries of the sums.
+-- The law follows from the entries of the sums.
 use Rattle.allocative_graph.proofs.Merge.{get-graph, get-graph-root}
 use Rattle.allocative_graph.proofs.Graphs.{graph-tree}
 use Rattle.allocative_graph.proofs.laws.graph_law.Goals as goal

@@ -1,4 +1,4 @@
--- Path by path.
+-- The law holds path by path.
 use Rattle.allocative_graph.proofs.Graphs.{total-sum_of, sum_of-commutes, sum_of-associates, sum_of-default, total-under}
 use Rattle.allocative_graph.proofs.laws.graph_sums_law.Goals as goal
 

@@ -1,4 +1,4 @@
--- Path by path, with nothing below a path that is not entered.
+-- The law holds path by path, since nothing is below a path that is not entered.
 use Rattle.allocative_graph.proofs.Merge.{whole_following, graphs_add}
 use Rattle.allocative_graph.proofs.laws.merge_law.Goals as goal
 

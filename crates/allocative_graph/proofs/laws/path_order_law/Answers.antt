@@ -1,4 +1,4 @@
--- Element by element.
+-- The law holds element by element.
 use Rattle.allocative_graph.proofs.PathOrder.{path_order, key_order}
 use Rattle.allocative_graph.proofs.laws.path_order_law.Goals as goal
 

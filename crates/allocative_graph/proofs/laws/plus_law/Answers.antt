@@ -1,4 +1,4 @@
--- Both collectors, by their parts.
+-- The law holds in each of the two collectors.
 use Rattle.allocative_graph.proofs.Plus.{plus-nothing, plus-following, takes_both, takes_first, takes_second, inside_entry, takes_entry}
 use Rattle.allocative_graph.proofs.laws.plus_law.Goals as goal
 

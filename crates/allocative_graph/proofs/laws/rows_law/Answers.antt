@@ -1,4 +1,4 @@
--- Each by computing.
+-- Each example is computed.
 use Rattle.allocative_graph.proofs.Rows.{rows}
 use Rattle.allocative_graph.proofs.laws.rows_law.Goals as goal
 

@@ -1,4 +1,4 @@
--- Nothing follows the entry.
+-- No entry follows the shared entry.
 use Rattle.std.proofs.Common.{refl}
 use Rattle.allocative_graph.proofs.Plus.{inside_first, takes_shared, held_again}
 use Rattle.allocative_graph.proofs.laws.shared_law.Goals as goal

@@ -1,4 +1,4 @@
--- By the entries in turn.
+-- The law follows from the entries one after another.
 use Rattle.allocative_graph.proofs.Lookups.{get-sums_of}
 use Rattle.allocative_graph.proofs.Below.{below-sums_of}
 use Rattle.allocative_graph.proofs.laws.sums_law.Goals as goal

@@ -1,4 +1,4 @@
--- The text parts into lines, and a line into its keys and its size.
+-- The text splits into lines, and a line into its keys and its size.
 use Rattle.allocative_graph.proofs.Text.{text_tells}
 use Rattle.allocative_graph.proofs.laws.text_law.Goals as goal
 

@@ -1,4 +1,4 @@
--- What starts a line is cut back to its length, and each child's lines follow those before.
+-- The start of a line is cut back to its length, and the lines of each child follow those before.
 use Rattle.std.proofs.Common.{◌≡◌, ℕ, ◌++◌, [], ◌∷◌, List, get_or, take, length, arith, ap, sym, subst, ◌∙◌, append_assoc, rules}
 use Rattle.std.proofs.lemmas.List.{take_all, append-nil}
 use Rattle.std.proofs.lemmas.Str.{IsUtf8-append, IsUtf8-from_ascii, IsCharBoundary-at_seam}
@@ -14,11 +14,11 @@ use Rattle.allocative_graph.proofs.NodeText.{child_written, none_below, cut_back
 use Rattle.allocative_graph.proofs.flamegraph.FlameGraph.+write_below.Goals as goal
 use Rattle.allocative_graph.proofs.flamegraph.FlameGraph.+write_below.Goals.{then-has_children+in_ok-push+in_ok-write_below, else-has_children, Joined-has_children}
 
--- what starts a line with the child's key
+-- The start of a line with the child's key.
 with_key : (t : ℕ) (c : Joined-has_children t) → string_bytes c.push_str.new.self ≡ string_bytes c.args.start.now ++ c.as_str.result.now
 with_key t c = c.in_ok-push_str.ensures.bytes ∙ ap (λ l. l ++ c.as_str.result.now) c.loop-child.invariant.start
 
--- what starts a line now: what did before, and a text behind it
+-- The start of a line now: what it was before, followed by a text.
 longer : (t : ℕ) (c : Joined-has_children t) → (more : List ℕ) × (string_bytes c.if-has_children.start ≡ string_bytes c.args.start.now ++ more) × IsUtf8 more
 unfolding lib.Utf8.encode
 longer t c =
@@ -42,7 +42,7 @@ truncate-requires t c =
     let at = subst (IsCharBoundary (string_bytes c.if-has_children.start)) (sym len) place in
     λ _. (at.0, λ _ within. at.1 within)
 
--- the text with the child's lines
+-- The text with the child's lines.
 child_lines : (t : ℕ) (c : Joined-has_children t) → string_bytes c.if-has_children.text ≡ string_bytes c.loop-child.text ++ lines_from (string_bytes c.args.start.now ++ c.child-item.result.key) (entries c.child-item.result.graph)
 unfolding lib.Utf8.encode
 child_lines t c =

@@ -1,4 +1,4 @@
--- Without children the entries are the root alone.
+-- Without children the only entry is the root's.
 use Rattle.std.proofs.Common.{◌≡◌, ℕ, ◌==◌, not, Bool, true, false, List, [], ◌∷◌, length, sym, ap, ◌∙◌}
 use Rattle.std.specs.Bool.{OnFalse}
 use Rattle.std.specs.FinMap.{entries}

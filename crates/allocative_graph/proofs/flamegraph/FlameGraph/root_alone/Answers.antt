@@ -1,4 +1,4 @@
--- It has no children, as the graph has none.
+-- The copy has no children, as the graph has none.
 use Rattle.std.proofs.Common.{◌≡◌, List, [], sym, subst, ◌∙◌}
 use borrow.Author.Tests.{eqb-true}
 use Rattle.allocative_graph.specs.declared.flamegraph.Child.{Child}

@@ -1,6 +1,6 @@
 use Rattle.std.proofs.Common.{◌≡◌, take}
 use Rattle.allocative_graph.proofs.flamegraph.FlameGraphClone.+clone.Given as goal
 
--- So far the children are copied.
+-- The children so far are copied.
 abbrev pub invariant-loop-key : goal.invariant-loop-key
 invariant-loop-key l = l.children.items ≡ take l.key-index l.key-items

@@ -3,7 +3,7 @@ use Rattle.allocative_graph.specs.Graph.{default}
 use Rattle.allocative_graph.specs.Many.{sum_of_all}
 use Rattle.allocative_graph.proofs.flamegraph.many.gather.Given as goal
 
--- With those that wait, the graph is that of all.
+-- Adding the children that wait to the graph gives the graph of all.
 abbrev pub invariant-loop-child : goal.invariant-loop-child
 invariant-loop-child l = sum_of_all l.graph l.waiting.items ≡ sum_of_all default l.initial.waiting.items
 

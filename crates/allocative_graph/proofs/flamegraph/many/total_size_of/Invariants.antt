@@ -2,6 +2,6 @@ use Rattle.std.proofs.Common.{◌≡◌, ◌<◌, ◌^◌, take}
 use Rattle.allocative_graph.specs.Many.{total_of}
 use Rattle.allocative_graph.proofs.flamegraph.many.total_size_of.Given as goal
 
--- So far the children before this one are counted, and their totals fit.
+-- The children before this one are counted, and their totals fit.
 abbrev pub invariant-loop-child : goal.invariant-loop-child
 invariant-loop-child l = (l.sum ≡ total_of (take l.child-index l.children)) × (l.sum < 2 ^ 64)

@@ -1,4 +1,4 @@
--- What a `ReadRight` owns can be had twice, so a `&` holds it too. Assumes `Logic`.
+-- What a `ReadRight` owns can be copied, so a `&` holds it too. Assumes `Logic`.
 use mathlib.Core.List.{[], ◌∷◌}
 use base.Logic.{sep, wand, snd∗, apply∗}
 use base.Fml.{fbor}

@@ -1,4 +1,4 @@
--- `forever` keeps what a `&'static` slice holds. Assumes `Logic`.
+-- `forever` keeps the right that a `&'static` slice holds. Assumes `Logic`.
 use Rattle.std.proofs.Common.{List, [], ◌∷◌, ◌++◌, length, refl, arith}
 use seplogic.Ra.Ura.{Ura}
 use mir.Syntax.{Fn}

@@ -1,4 +1,4 @@
--- `read` gives what a `ReadRight` holds. Assumes `Logic`.
+-- `read` returns what a `ReadRight` holds. Assumes `Logic`.
 use Rattle.std.proofs.Common.{◌≡◌, ◌^◌, List, [], ◌∷◌, ◌++◌, length, refl, sym, ap, ◌∙◌, arith, ◌*◌}
 use seplogic.Ra.Ura.{Ura}
 use mir.Syntax.{Fn, w64, seq, assign, place, rv_opd, copy, return}
