@@ -1,4 +1,4 @@
--- What the helpers of slices go by, and the parts of buffers and tables.
+-- Lemmas for the helpers of slices, and for the parts of buffers and tables.
 use Rattle.std.proofs.Common.{codes, if◌then◌else◌, Bool, true, false, length, List, Option, None, Some, ◌≡◌, ℕ, ◌+◌, ◌*◌, ◌<◌, Result, inl}
 use Rattle.std.proofs.lemmas.Bool.{false≢true}
 use Rattle.allocative_graph.specs.declared.refusal.Refusal.{Refusal}
@@ -15,7 +15,7 @@ field_of_product : (k : Key) (p : Showing) (m : ℕ) (b : Bool) (f : Forest) →
 field_of_product k p m true f (sized h) = h
 field_of_product k p m false f h = elim h [ ]
 
--- with no size there is no forest
+-- Where there is no size, there is no forest.
 pub none_of_it : {k : Key} {p : Showing} {f : Forest} → IsField k p None f → ⊥
 none_of_it h = elim h [ ]
 

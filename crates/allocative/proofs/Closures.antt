@@ -1,4 +1,4 @@
--- What a caller of `visit_field_with` makes of the closure's outcome.
+-- What a caller of `visit_field_with` learns from the closure's outcome.
 use Rattle.std.proofs.Common.{◌≡◌, ℕ, Result, Ok, Err, MutBor, IsErr, false}
 use Rattle.std.specs.Fn.{Once}
 use Rattle.std.proofs.lemmas.Bool.{false≢true}
@@ -20,7 +20,7 @@ module _ {F : Type 0} (g : Once F (MutBor Visitor × Unit {0}) (Result (Unit {0}
   not_called_by (Ok u) h i w = absurd (false≢true h)
   not_called_by (Err x) h i w = not_called (rw i at w)
 
-  -- an entry with the closure's forest in it, where each call of the closure shows one of p
+  -- The call shows an entry with the closure's forest inside it, where each call of the closure shows one of p.
   pub with_shows : (p : Showing) {k : Key} {n : ℕ} {s t : State} {r : Result (Unit {0}) Refusal} → CallsInside g f k n s t r → CallShows g f p → Shows (Inside k n p) s r t
   with_shows p (not_called w) each = not_entered w
   with_shows p (called x y w i c l o) each = inline_shows w i (each x y _ c) l o

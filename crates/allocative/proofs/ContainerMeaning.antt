@@ -1,4 +1,4 @@
--- How what a container shows is read off its parts.
+-- How the showing of a container follows from its parts.
 use Rattle.std.proofs.Common.{codes, ◌≡◌, ℕ, Bool, List, Option}
 use Rattle.smallvec.specs.SmallVec.{SmallVec, IsSpilled}
 use Rattle.allocative_graph.specs.Path.{Key}
@@ -18,7 +18,7 @@ in_buffer y n m f (with_room u some (g, (h, k, shown, room, i), e)) = with_room 
 pub means_buffer : {y z : Option ℕ} {n l : ℕ} {p q : Showing} → y ≡ z → n ≡ l → Means p q → Means (buffer_shows y p n) (buffer_shows z q l)
 means_buffer {z = z} {l = l} e i m = rw (e, i) (record { means = λ f x. in_buffer z l m f x })
 
--- a list that was cut in two
+-- The slices of a list that was cut in two are those of the list.
 pub means_cut : {T : Type 0} {name : Key} {size : Option ℕ} {needs_drop : Bool} {p : T → Showing} {xs ys : List T} → xs ≡ ys → Means (cut_shows name size needs_drop p xs) (cut_shows name size needs_drop p ys)
 means_cut e = rw e means_same
 

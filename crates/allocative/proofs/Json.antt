@@ -16,7 +16,7 @@ pub items_count-view : (vs : List Value) → items_count (items_view vs) ≡ len
 items_count-view [] = refl
 items_count-view (v ∷ vs) = let e = items_count-view vs in omega (arith, e)
 
--- what the items of an array show, and its members
+-- The items of an array show what its data says, and so do the members of an object.
 pub means_items : (vs : List Value) → Means (buffer_shows (Some 32) (each_shows (λ v. value_shows (view v)) vs) (length vs)) (buffer_shows (Some 32) (items_show (items_view vs)) (items_count (items_view vs)))
 means_items vs = rw (items_show-each vs, items_count-view vs) means_same
 

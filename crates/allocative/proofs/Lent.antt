@@ -1,4 +1,5 @@
--- What the proofs by hand of calls that lend a collector on cite: the steps of a walk, a parameter's one machine value, and what such a call hands on.
+-- What the hand-written proofs of calls that lend a collector cite: the steps of a walk, the one machine value of a
+-- parameter, and what such a call passes on.
 pub use Rattle.std.proofs.Common.{◌≡◌, ℕ, List, [], ◌∷◌, refl, sym, ap, subst, MutBor}
 pub use Rattle.std.proofs.raw_atomic.Walks.{proved, proved_at}
 pub use Rattle.std.proofs.mem.Facts.{says_two, says_three}
@@ -35,13 +36,13 @@ use denote.Triple.Clauses.{Ended, Clauses}
 use denote.Triple.Entry.{Vals}
 use denote.Triple.Walked.{walk_of}
 
--- a value that the machine stores as one word or one struct
+-- A value that the machine stores as one word or one struct is one machine value.
 pub one_value : (vs : List Val) → Lone vs → (v : Val) × (vs ≡ v ∷ [])
 one_value [] h = absurd h
 one_value (v ∷ []) h = (v, refl)
 one_value (v ∷ u ∷ us) h = absurd h
 
--- a walk at the parameters' machine values written out is a walk at those passed
+-- A walk at the parameters' machine values written out is a walk at those passed.
 pub at_values : {M : Type 1} {𝓤 : Ura M} (𝓛 : Logic 𝓤) (T : Ended) (hs : Stays T.signature.params T.kept) (c : Clauses 𝓤 T) (run : Fun 𝓤)
     (y : (walk_of 𝓛 T hs c).Ghost) (us : Vals T.signature y.0.0) → y.0.4 ≡ us →
     ent 𝓤 ((walk_of 𝓛 T hs c).pre ((y.0.0, y.0.1, y.0.2, y.0.3, us), y.1)) (run ((walk_of 𝓛 T hs c).args ((y.0.0, y.0.1, y.0.2, y.0.3, us), y.1)) ((walk_of 𝓛 T hs c).post ((y.0.0, y.0.1, y.0.2, y.0.3, us), y.1))) →

@@ -47,7 +47,7 @@ levels_more w k (suc j) x =
     rw e (record { means = λ f y. (levels_step w (k + j) x).means f ((levels_more w k j x).means f y) })
 
 -- ---- one number of levels is enough for all parts
--- the parts of q, each in some number of levels
+-- The parts of q, each with some number of levels.
 abbrev Found : (ℕ → Showing) → Showing → Type 0
 Found p q = (f : Forest) → q f → (k : ℕ) × p k f
 

@@ -14,7 +14,7 @@ pub mod Roots
 pub mod Nest
 pub mod Lent
 pub mod Nesting
--- lemmas of the crate below on graphs and their text, passed on
+-- Lemmas of the crate below about graphs and their text are exported again.
 pub use Rattle.allocative_graph.proofs.Basics
 pub use Rattle.allocative_graph.proofs.Below
 pub use Rattle.allocative_graph.proofs.Text as WrittenText

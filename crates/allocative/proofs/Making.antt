@@ -67,7 +67,6 @@ pub makes_then_refused : {p : Plan} (q : Plan) {s t : State} {e : Refusal} (r : 
 makes_then_refused q (Ok u) h i m = absurd (false≢true h)
 makes_then_refused q (Err x) h i m = then_refused q (rw i at m)
 
--- a refusal that is passed on
 -- ---- slices
 pub makes_plain : {T : Type 0} (name : Key) (size : Option ℕ) (needs_drop : Bool) (xs : List T) {s t : State} {r : Result Unit Refusal} → are_shown_each needs_drop size ≡ false →
     Makes (one name (size_product size (Some (length xs)))) s r t → Makes (slice_plan name size needs_drop xs) s r t
@@ -78,16 +77,16 @@ pub makes_each : {T : Type 0} (name : Key) (size : Option ℕ) (needs_drop : Boo
 makes_each name size needs_drop xs e m = rw (e, slice_plan) m
 
 -- ---- iterators
--- a list with one item more is not empty
+-- A list with one more item is not empty.
 pub not_none : {A : Type 0} {Q : Type 0} (xs : List A) (x : A) → length (xs ++ x ∷ []) ≡ 0 → Q
 not_none xs x h = absurd (omega (arith, h, length-append xs (x ∷ [])))
 
--- a run that gave an item
+-- A run that gave one more item gives an item.
 pub run_gives : {S A : Type 0} (steps : S → Option A → S → Type 0) {s u : S} (t : S) {x : A} {p : Plan} {a b : State} {r : Result Unit Refusal} (xs : List A) → Yields steps s xs t → steps t (Some x) u → MakesOrGives steps s p a r b
 run_gives steps {u = u} t {x = x} [] e g = gives x u (subst (λ v. steps v (Some x) u) (sym e) g)
 run_gives steps t (y ∷ ys) h g = gives y h.0 h.1
 
--- the end of a run that gave these items
+-- A run that ended either gave an item or makes the entries of the plan.
 pub run_ends : {S A : Type 0} (steps : S → Option A → S → Type 0) {s : S} (t : S) {p : Plan} {a b : State} {r : Result Unit Refusal} (xs : List A) → Yields steps s xs t → (length xs ≡ 0 → Makes p a r b) → MakesOrGives steps s p a r b
 run_ends steps t [] h m = makes (m refl)
 run_ends steps t (y ∷ ys) h m = gives y h.0 h.1

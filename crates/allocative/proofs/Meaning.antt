@@ -1,4 +1,4 @@
--- How a showing is read off the part that enters it, word by word.
+-- How the showing of a value follows from the part that enters it, word by word.
 use Rattle.std.proofs.Common.{◌≡◌, ℕ, Bool, true, false, Option, Result, inl, inr, List, [], ◌∷◌, ◌++◌, take, length, get_or, ◌+◌, ◌<◌, ◌∙◌, Ok, Err, refl}
 use Rattle.allocative_graph.specs.declared.refusal.Refusal.{Refusal}
 use Rattle.allocative_graph.specs.Path.{Key}
@@ -40,26 +40,26 @@ shared_as k n i m f (inr e) = inr e
 pub means_shared : {k j : Key} {n : ℕ} {i l : Identity} {p q : Showing} → k ≡ j → i ≡ l → Means p q → Means (SharedWith k n i p) (SharedWith j n l q)
 means_shared {j = j} {n = n} {l = l} e h m = rw (e, h) (record { means = λ f x. shared_as j n l m f x })
 
--- what was entered, in other words
+-- What was entered as p was entered as q, where p means q.
 pub entered_as : {p q : Showing} {a b : Visitor} {r : Result (Unit {0}) Refusal} → Entered p a b r → Means p q → Entered q a b r
 entered_as h m = record { same_reference = h.same_reference; same_outer = h.same_outer; shown = shows_weaker m.means h.shown; cause = h.cause }
 
--- a part that was entered is a value's visit
+-- A part that was entered is the visit of a value.
 pub visited_as : {p q : Showing} {a b : Visitor} {r : Result (Unit {0}) Refusal} → Entered p a b r → Means p q → Visited q a b r
 visited_as h m = record { same_reference = h.same_reference; same_outer = h.same_outer; shown = shows_weaker m.means h.shown }
 
--- a call that shows just that
+-- Entering a part that shows exactly p is a visit that shows p.
 pub visited : {p : Showing} {a b : Visitor} {r : Result (Unit {0}) Refusal} → Entered p a b r → Visited p a b r
 visited h = record { same_reference = h.same_reference; same_outer = h.same_outer; shown = h.shown }
 
--- a call that enters nothing, and one that refuses by hand
+-- A call that enters nothing, and one that returns an error by hand.
 pub entered_none : {p : Showing} (a : Visitor) → Means Nothing p → Entered p a a (Ok tt)
 entered_none a m = record { same_reference = refl; same_outer = refl; shown = shows_weaker m.means (shows_nothing _ tt); cause = tt }
 
 pub entered_refused : {p : Showing} {q e : Refusal} {a b : Visitor} → Refused q a b e → Entered p a b (Err e)
 entered_refused {q = q} {e = e} h = record { same_reference = h.same_reference; same_outer = h.same_outer; shown = shows_refused _ e q _ h.after; cause = h.is_cause }
 
--- a loop's step
+-- One step of a loop shows one more item.
 pub entered_snoc : {T : Type 0} (p : T → Showing) (xs : List T) (x : T) {a b c : Visitor} {u v w : Unit {0}} →
     Entered (each_shows p xs) a b (Ok u) → Entered (p x) b c (Ok v) → Entered (each_shows p (xs ++ x ∷ [])) a c (Ok w)
 entered_snoc p xs x f s = record {

@@ -1,4 +1,4 @@
--- What a lender ends as whose part is lent on by a call that may give the part back.
+-- How a lender ends whose part is lent further by a call that may return it.
 use mathlib.Core.List.{[], ◌∷◌}
 use mathlib.Core.Option as maybe
 use seplogic.Ra.Ura.{Ura}
@@ -9,7 +9,8 @@ use types.Kit.{‵, ◌$◌, ◌∵◌, !, qed, move, use2, fpick, fpack, done}
 use denote.RattleType.{RattleType}
 use denote.Follow.{follows, follows_so, follows_by, such_by, followed, follows_then}
 
--- the whole is V and ends as F of its part, which is C; P and P₀ say what the part ends as, with a loan and without, and Q and Q₀ follow of the whole
+-- The whole is V and ends as F of its part, which is C. P and P₀ say how the part ends, with a loan and without; Q and
+-- Q₀ follow for the whole.
 module _ {M : Type 1} {𝓤 : Ura M} (𝓛 : Logic 𝓤) (V C : RattleType) (F : C.Denot → V.Denot) (γ γ' : GName)
     (P : C.Denot → C.Denot → Type 0) (P₀ : C.Denot → Type 0) (Q : C.Denot → V.Denot → Type 0) (Q₀ : V.Denot → Type 0)
     (kept : (w z : C.Denot) → P w z → Q w (F z)) (kept₀ : (z : C.Denot) → P₀ z → Q₀ (F z)) where

@@ -1,4 +1,5 @@
--- What the calls that give a nested visitor hand on: the rows of their types, and the facts that a call of the collector says of what was lent.
+-- What the calls that return a nested visitor pass on: the rows of their types, and the facts that a call of the
+-- collector states of what was lent.
 use Rattle.std.proofs.Common.{◌≡◌, ℕ, Option, None, Some, Bool, true, false, refl, sym, ap, subst}
 use Rattle.std.specs.Prelude.{Result, Ok, Err, IfOk, IfErr, IfSome, OnOk, OnErr}
 use Rattle.std.specs.Borrow.{name_if_ok}
@@ -24,7 +25,7 @@ use Rattle.std.specs.contracts.result.Result as result
 use Rattle.std.proofs.option.Option.TheLaws.{the_row_laws as option_laws}
 use Rattle.allocative.specs.contracts.visitor.Visitor as visitor
 
--- the lender, whose own lifetime is the second one, and the answer, whose visitor has the first
+-- The lender, whose own lifetime is the second one, and the result, whose visitor has the first.
 abbrev pub Lender : Lfts 2 → RattleType
 Lender κs = visitor.the_row (named_lft 2 1 tt κs)
 
@@ -34,7 +35,7 @@ Nested κs = visitor.the_row (named_lft 2 0 tt κs)
 abbrev pub Answer : Lfts 2 → RattleType
 Answer κs = result.the_row (Nested κs) refusal.the_row
 
--- what the lender ends as: with a loan, and without
+-- How the lender ends, with a loan and without.
 abbrev pub EndsEntered : Visitor → Result Visitor Refusal → State → Visitor → Type 0
 EndsEntered s r w v = OnOk r (v ≡ with_state s w)
 
@@ -49,7 +50,7 @@ pub ends_refused : (u : Bool) (k : Key) (n : ℕ) (s : Visitor) (c : State) → 
 ends_refused u k n s c i (Ok v) z h = h
 ends_refused u k n s c i (Err e) z h = let P : State → Type 0 = λ x. Enters u k n x (Err e) z in (subst P i h, refl)
 
--- the plain clauses, of the collector as it was
+-- The plain clauses, stated of the collector before the call.
 pub entered_by : (u : Bool) (k : Key) (n : ℕ) (r : Result Visitor Refusal) (c d : State) → c ≡ d → IfOk r (λ v. Enters u k n c (Ok v.outer_is_unique) v.collector.now) → IfOk r (λ v. Enters u k n d (Ok v.outer_is_unique) v.collector.now)
 entered_by u k n r c d e h = let P : State → Type 0 = λ x. IfOk r (λ v. Enters u k n x (Ok v.outer_is_unique) v.collector.now) in subst P e h
 
@@ -77,7 +78,7 @@ pub refused_sized_by : (k : Key) (size : Option ℕ) (r : Result Visitor Refusal
 refused_sized_by k size r c d e h = let P : State → Type 0 = λ x. IfErr r (λ e'. EntersSized k size x (Err e') (Failed e')) in subst P e h
 
 -- ---- a shared value
--- the collector's own answer, and the one that is given
+-- The result of the collector's call, and the result that is returned.
 abbrev pub Try : Type 0
 Try = Result Visitor (Option Refusal)
 

@@ -1,4 +1,4 @@
--- What a visit by a root visitor comes to.
+-- What a visit by a root visitor amounts to.
 use Rattle.std.proofs.Common.{◌≡◌, ℕ, suc, ◌+◌, ◌<◌, List, length, take, get_or, Bool, Result, Ok, Err, refl, ap, sym, subst, ◌∙◌, arith}
 use Rattle.allocative_graph.specs.declared.refusal.Refusal.{Refusal}
 use Rattle.allocative_graph.specs.Forest.{Forest, Empty, followed_by, met_after, Fits, own, all}
@@ -39,7 +39,7 @@ failed_not_going b r e = subst IsGoing (sym e) tt
 same_kind : (b c : Kind) → Going b ≡ Going c → b ≡ c
 same_kind b c e = ap (kind_or b) e
 
--- the root visitor's entries, and its end
+-- The entries of a root visitor, and its end.
 out_of_begin : (b : Kind) (f : Forest) → IsAtRoot b → leave (is_in_unique b) (plus (begin b) f) ≡ plus b f
 out_of_begin (OfGraph c) f h = λ i. OfGraph (record c { sums = add_all c.sums (added_entries (sym h.0 i) f); met = met_after c.met f })
 out_of_begin (OfHeld k) f h = refl
@@ -81,7 +81,7 @@ run_going b e (Ok u) h here i (added {c = c} f p t g) k =
     let g' : c ≡ plus (begin b) f = rw i at g in
     (k, f, p, takes_begin b f t', ap (leave (is_in_unique b)) g' ∙ out_of_begin b f here)
 
--- what a root visitor was, what was shown there, what leaving does, and what is answered then
+-- A root visitor that was opened, what was shown there, leaving, and the result are a run.
 pub run_shows : (s : State) (q : Result Unit Refusal) {p : Showing} {t a c d : State} {o w : Bool} {r : Result Unit Refusal} → Begins s (Ok o) t → a ≡ t → Shows p a r c → Leaves w c d → w ≡ o → Settles d q → Runs p s q d
 run_shows (Failed x) q h i v l e k = absurd h
 run_shows (Going b) q {p} {c = c} {r = r} h i v l e k =
@@ -95,7 +95,7 @@ run_refused p (Failed r) e t (h, i) = (ap Err h, i)
 run_refused p (Going b) e (Failed r) (h, n, i) = absurd (failed_not_going b r i)
 run_refused p (Going b) e (Going c) (h, n, i) = (h, subst (λ (x : State). IsClosedState x → ⊥) (sym i) n, (λ m. same_kind c b i), ap is_graph (same_kind c b i))
 
--- the sum of a run
+-- The sum of a run of held bytes.
 pub held_by_run : (p : Showing) (s t : State) (u : Unit) (n : ℕ) → s ≡ Going (OfHeld nothing_held) → Runs p s (Ok u) t → IsSum t n → (f : Forest) × p f × ShowsNoContent f × (n ≡ held f)
 held_by_run p (Failed r) t u n e h k = absurd (failed_not_going _ r e)
 held_by_run p (Going b) (Failed r) u n e h k = absurd h
@@ -129,7 +129,7 @@ runs_both p q (Going b) (Going c) (Going d) u (Ok v) (z, f, a, t, k) (y, g, b', 
     let is : d ≡ plus (plus b f) g = rw k at k' in
     (y, followed_by f g, (f, g, a, b', refl), takes_both b f g t taken, is ∙ sym (plus-following b f g))
 
--- a loop's step, and the answer of a root that is refused
+-- One step of a loop runs one more root, and a root that is refused ends it.
 pub runs_one_more : {T : Type 0} (p : T → Showing) (xs : List T) (i : ℕ) (x : T) (s m t : State) (u v w : Unit) →
     Runs (each_shows p (take i xs)) s (Ok u) m → Runs (p x) m (Ok v) t → i < length xs → x ≡ get_or xs i x → Runs (each_shows p (take (i + 1) xs)) s (Ok w) t
 runs_one_more p xs i x s m t u v w f g h e =
@@ -142,7 +142,7 @@ runs_err p q r (Going b) (Failed y) t u e x g h i = absurd g
 runs_err p q r (Going b) (Going c) (Failed y) u e x (z, f, a, t, k) h i = (closed_before b c f k z, i ∙ h.1)
 runs_err p q r (Going b) (Going c) (Going d) u e x (z, f, a, t, k) h i = (i ∙ h.0, h.1, (λ n. absurd (n (closed_before b c f k z))), h.3 ∙ ap is_graph k ∙ is_graph-plus b f)
 
--- a collector of which nothing can be asked stays as it is
+-- A collector that has failed or has an open visitor stays as it is.
 pub runs_unsettled : (p : Showing) (s : State) (e : Refusal) → Settles s (Err e) → Runs p s (Err e) s
 runs_unsettled p (Failed r) e h = (h, refl)
 runs_unsettled p (Going b) e h = (h.0, h.1, (λ n. refl), refl)
@@ -192,5 +192,5 @@ sum_of_two p q g h m a b e =
 pub sum_of_profiles : (p q : Showing) (o o' : Profile) (m : Graph) → IsProfileOf p o → IsProfileOf q o' → m ≡ sum_of o.graph o'.graph → IsSumOfTwo p q m
 sum_of_profiles p q o o' m h k e = sum_of_two p q o.graph o'.graph m (graph_of_profile p o o.graph h refl) (graph_of_profile q o' o'.graph k refl) e
 
--- what root visits go by
+-- The rules for visits of roots.
 pub ruleset running = (run_shows, run_refused, held_by_run, runs_nothing, runs_unsettled, runs_err, profile_by_run, sum_of_profiles)

@@ -1,4 +1,4 @@
--- How a loop over an iterator shows one item more, and what a whole run of it shows.
+-- How a loop over an iterator shows one more item, and what a whole run of it shows.
 use Rattle.std.proofs.Common.{Bool, false, true, ℕ, ◌+◌, length, arith, ◌⊎◌, inl, inr, List, [], ◌∷◌, ◌++◌, map, ◌≡◌, ◌∙◌, Option, None, Some, Result, Ok, refl, ap, subst}
 use Rattle.std.proofs.lemmas.List.{map-append, length-map}
 use Rattle.std.proofs.lemmas.Bool.Decides.{nat_tests}
@@ -22,7 +22,7 @@ use Rattle.allocative.proofs.Meaning.{entered_as}
 use Rattle.allocative.proofs.Bodies.{plain_slice, each_slice, none_of_it}
 use Rattle.allocative.proofs.Showing.{shows_snoc}
 
--- one item more
+-- One step of a loop shows one more item.
 pub shows_next : {A B : Type 0} (v : A → B) (p : B → Showing) (xs : List A) (x : A) {a b c : State} {u w y : Unit} →
     Shows (each_shows p (map v xs)) a (Ok u) b → Shows (p (v x)) b (Ok w) c → Shows (each_shows p (map v (xs ++ x ∷ []))) a (Ok y) c
 shows_next v p xs x s t = rw map-append (shows_snoc p (map v xs) (v x) s t)
@@ -62,7 +62,7 @@ none_counted : (name : Key) (size : Option ℕ) (f : Forest) → Field name (siz
 none_counted name None f h = none_of_it h
 none_counted name (Some s) f h = none_of_it h
 
--- bytes that were found from a count are the bytes of the items
+-- Bytes computed from a count are the bytes of the items.
 bytes_counted : (name : Key) (size : Option ℕ) (n : ℕ) (f : Forest) → Field name (size_product size (checked n)) Nothing f → bytes_shown name size n f
 bytes_counted name size n f h = elim (is_counted n) [ inl e ↦ rw e at h | inr e ↦ absurd (none_counted name size f (rw e at h)) ]
 

@@ -1,4 +1,4 @@
--- How visits compose: one after another, and inside an entry. The rulesets are what implementations go by.
+-- How visits compose: one after another, and inside an entry. The rulesets are for implementations.
 use Rattle.std.proofs.lemmas.List.{take_more}
 use Rattle.std.proofs.lemmas.Bool.{false≢true}
 use Rattle.std.proofs.Common.{Bool, true, false, inl, inr, length, take, get_or, Option, Some, ◌≡◌, ℕ, suc, ◌+◌, ◌<◌, List, [], ◌∷◌, ◌++◌, Result, Ok, Err, refl, sym, ◌∙◌, IsErr, ap, subst, arith}
@@ -48,7 +48,7 @@ shows_both (added {b = b} f p t e) (added {c = c} g q s k) =
     let k' : c ≡ plus (plus b f) g = rw e at k in
     added (followed_by f g) (f, g, p, q, refl) (takes_both b f g t s') (k' ∙ sym (plus-following b f g))
 
--- after an Err nothing more is told
+-- After an Err nothing more is stated.
 pub shows_err : {p q : Showing} {a b : State} {e : Refusal} → Shows p a (Err e) b → Shows q a (Err e) b
 shows_err already = already
 shows_err refused = refused
@@ -61,7 +61,7 @@ pub left_by : {o : Bool} {c d : State} → Leaves o c d → d ≡ left o c
 left_by leaves_failed = refl
 left_by (leaves_going e) = ap Going e
 
--- an entry, a visit inside it that answers Ok, and the way out
+-- An entry, a visit inside it that returns Ok, and leaving show the entry with the visit's forest inside it.
 out_of : {p : Showing} (u : Bool) (k : Key) (n : ℕ) (b d : Kind) → d ≡ enter u k n b → {c : State} {v : Unit} (w : Unit) →
     Shows p (Going d) (Ok v) c → Shows (InsideAs u k n p) (Going b) (Ok w) (left (is_in_unique b) c)
 out_of u k n b d i w hidden = hidden
@@ -74,7 +74,8 @@ out_of u k n b d i w (added {c = c} f q t e) =
     let e' : c ≡ plus (enter u k n b) f = rw i at e in
     added (entry_of u k n f) (f, q, refl) (takes_entry u k n b f t') (ap (leave (is_in_unique b)) e' ∙ inside_entry u k n b f)
 
--- what was entered, where the visitor stands, what is shown there, what leaving does, and that what is restored is what was there
+-- An entry shows what is shown inside it, from the entering, the visit and the leaving, where the flag that leaving
+-- restores is the one that entering returned.
 pub entry_shows : {u : Bool} {p : Showing} {k : Key} {n : ℕ} {o q : Bool} {s t a c d : State} {v x : Unit} →
     Enters u k n s (Ok o) t → a ≡ t → Shows p a (Ok v) c → Leaves q c d → q ≡ o → Shows (InsideAs u k n p) s (Ok x) d
 entry_shows {u} {p} {k} {n} {c = c} {v = v} {x = x} (is_entered {b = b} {c = d} r f e) i s l q =
@@ -93,7 +94,7 @@ pub field_shows : {p : Showing} {k : Key} {y : Option ℕ} {o q : Bool} {s t a c
     EntersSized k y s (Ok o) t → a ≡ t → Shows p a (Ok v) c → Leaves q c d → q ≡ o → Shows (Field k y p) s (Ok x) d
 field_shows (is_sized g) i s l q = shows_weaker (λ f h. sized h) (entry_shows g i s l q)
 
--- with nothing inside
+-- An entry with nothing inside it.
 pub inline_alone : {k : Key} {n : ℕ} {o q : Bool} {s t d : State} {x : Unit} →
     Enters false k n s (Ok o) t → Leaves q t d → q ≡ o → Shows (Inside k n Nothing) s (Ok x) d
 inline_alone g l q = inline_shows g refl (shows_nothing _ tt) l q
@@ -125,7 +126,7 @@ shared_shows {p} {k} {n} {i} {q} {c = c} {v = v} {x = x} (enters_first {c = b} {
     let s' : Shows p (Going (OfGraph d)) (Ok v) c = subst (λ (y : State). Shows p y (Ok v) c) z s in
     rw (left_by g) (out_of_first k n i b d h e q x s')
 
--- the same with the answer as it was tested
+-- A shared entry with its content, with the result of entering as it was tested.
 pub content_shows : {p : Showing} {k : Key} {n : ℕ} {i : Identity} {q is_first : Bool} {s t a c d : State} {v x : Unit} →
     EntersShared k n i s (Ok is_first) t → is_first ≡ true → a ≡ t → Shows p a (Ok v) c → Leaves q c d → Shows (SharedWith k n i p) s (Ok x) d
 content_shows g is z s l = shared_shows (rw is at g) z s l
@@ -134,7 +135,7 @@ pub again_shows : {p : Showing} {k : Key} {n : ℕ} {i : Identity} {s t : State}
 again_shows {k = k} {n = n} {i = i} (goes_past {h = h}) = added (Again k n i Empty) (inr refl) tt (sym (held_again k n i h))
 again_shows {k = k} {n = n} {i = i} (enters_again {c = c} r h e) = added (Again k n i Empty) (inr refl) (h, tt) (ap OfGraph e)
 
--- ---- a visit inside an entry that answers Err
+-- ---- a visit inside an entry that returns Err
 inside_failed : {p q : Showing} {b d : Kind} (o : Bool) {c : State} {y x : Refusal} → Shows p (Going d) (Err y) c → Shows q (Going b) (Err x) (left o c)
 inside_failed o refused = refused
 
@@ -151,13 +152,13 @@ pub shared_err : {p q : Showing} {k : Key} {n : ℕ} {i : Identity} {w : Bool} {
 shared_err {p = p} {w = w} {c = c} {z = y} (enters_first {d = d} r f e) i s l = rw (left_by l) (inside_failed w (subst (λ (z : State). Shows p z (Err y) c) i s))
 
 -- ---- refusals
--- a result that is some Err
+-- A result that is some Err.
 pub any_err : {p : Showing} {s t : State} {e : Refusal} (r : Result Unit Refusal) → IsErr r → Shows p s (Err e) t → Shows p s r t
 any_err (Ok u) h w = absurd (false≢true h)
 any_err (Err x) h already = already
 any_err (Err x) h refused = refused
 
--- an entering call that is refused
+-- An entry that is refused shows nothing more.
 pub not_entered : {u : Bool} {q : Showing} {k : Key} {n : ℕ} {s t : State} {e : Refusal} → Enters u k n s (Err e) t → Shows q s (Err e) t
 not_entered stays_failed = already
 not_entered (is_refused r) = refused
@@ -167,7 +168,7 @@ not_sized stays_unsized = already
 not_sized (is_unsized r) = refused
 not_sized (is_sized g) = not_entered g
 
--- and its cause
+-- After an entry that is refused, the collector has failed with the cause.
 pub not_entered_cause : {u : Bool} {k : Key} {n : ℕ} {s t : State} {e : Refusal} → Enters u k n s (Err e) t → HasFailed t e
 not_entered_cause stays_failed = refl
 not_entered_cause (is_refused r) = refl
@@ -181,17 +182,17 @@ pub not_shared : {q : Showing} {k : Key} {n : ℕ} {i : Identity} {s t : State} 
 not_shared stays_shared = already
 not_shared (is_refused_shared r) = refused
 
--- a refusal by hand
+-- An error that is returned by hand.
 pub shows_refused : {q : Showing} (s : State) (e x : Refusal) (t : State) → t ≡ failed_with x s → Shows q s (Err e) t
 shows_refused (Failed r) e x t i = rw i already
 shows_refused (Going b) e x t i = rw i refused
 
--- a visit that answers Err, and then the refusal of its answer
+-- A visit that returns Err, followed by refusing with that error.
 pub shows_refused_err : {p : Showing} {a b c : State} {y x : Refusal} (r : Refusal) → Shows p a (Err y) b → c ≡ failed_with r b → Shows p a (Err x) c
 shows_refused_err r already e = rw e already
 shows_refused_err r refused e = rw e refused
 
--- a refusal that is hidden behind an Ok, and an entry that is never left
+-- An error that is hidden behind an Ok, and an entry that is never left.
 pub shows_hidden : {p q : Showing} {a b : State} {e : Refusal} {u : Unit} → Shows p a (Err e) b → Shows q a (Ok u) b
 shows_hidden already = already
 shows_hidden refused = hidden
@@ -199,16 +200,16 @@ shows_hidden refused = hidden
 pub shows_forgotten : {u : Bool} {q : Showing} {k : Key} {n : ℕ} {o : Bool} {s t : State} {v : Unit} → Enters u k n s (Ok o) t → Shows q s (Ok v) t
 shows_forgotten {u} {k = k} {n = n} (is_entered {b = b} r f e) = let d = ap visitors e ∙ visitors-enter u k n b in forgotten (ap is_graph e ∙ is_graph-enter u k n b) (omega (arith, d))
 
--- leaving keeps the cause
+-- Leaving keeps the cause.
 pub left_cause : {o : Bool} {c d : State} {e : Refusal} → Leaves o c d → HasFailed c e → HasFailed d e
 left_cause {o = o} l h = left_by l ∙ ap (left o) h
 
--- what a refused entry answers
+-- What a refused entry returns.
 pub answers_err : {u : Bool} {k : Key} {n : ℕ} {s t : State} {e : Refusal} → Enters u k n s (Err e) t → Answers u n s (Err e)
 answers_err stays_failed = refl
 answers_err (is_refused r) = r
 
--- a call that makes an entry of its own first
+-- A call that makes an entry of its own first.
 pub goes_in_refused : {k : Key} {size : Option ℕ} {s t : State} {e : Refusal} → EntersSized k size s (Err e) t → EntersFirst k size s (Err e) t
 goes_in_refused g = first_refused g
 
@@ -221,11 +222,11 @@ goes_in_plain_refused g = first_refused (is_sized g)
 pub goes_in_plain : {k : Key} {n : ℕ} {s w t : State} {o : Bool} {r : Result Unit Refusal} → Enters false k n s (Ok o) w → EntersFirst k (Some n) s r t
 goes_in_plain g = first_entered (is_sized g)
 
--- a refused entry, by its cause
+-- A refused entry, with its cause.
 pub refused_as : {k : Key} {size : Option ℕ} {s t : State} {e : Refusal} → EntersSized k size s (Err e) t → HasFailed t e → EntersSized k size s (Err e) (Failed e)
 refused_as {k} {size} {s} {e = e} g h = subst (λ (y : State). EntersSized k size s (Err e) y) h g
 
--- what was made keeps the cause of a failed collector
+-- Making entries keeps the cause of a failed collector.
 not_sized_failed : {k : Key} {size : Option ℕ} {r e : Refusal} {t : State} → EntersSized k size (Failed r) (Err e) t → KeepsCause (Failed r) (Err e) t
 not_sized_failed stays_unsized = keeps_failed
 not_sized_failed (is_sized stays_failed) = keeps_failed
@@ -240,7 +241,7 @@ makes_keeps (Failed r) (made g i l a) = absurd (failed_not_entered g)
 makes_keeps (Failed r) (entry_refused g) = not_sized_failed g
 makes_keeps (Failed r) (inside_refused g m) = absurd (failed_not_entered g)
 
--- where a collector went on, it had not failed
+-- A collector that went on had not failed.
 pub kept_after : {s t c : State} {u : Unit} {r : Result Unit Refusal} → Makes Done s (Ok u) t → KeepsCause s r c
 kept_after made_none = keeps_going
 
@@ -268,7 +269,7 @@ pub shows_snoc : {T : Type 0} (p : T → Showing) (xs : List T) (x : T) {a b c :
     Shows (each_shows p xs) a (Ok u) b → Shows (p x) b (Ok v) c → Shows (each_shows p (xs ++ x ∷ [])) a (Ok w) c
 shows_snoc p xs x f s = shows_weaker (each_and_one p xs x) (shows_both f s)
 
--- a loop's step, by the index of the item
+-- One step of a loop shows one more item, by the index of the item.
 pub shows_one_more : {T : Type 0} (p : T → Showing) (xs : List T) (i : ℕ) (x : T) {a b c : State} {u v w : Unit} →
     Shows (each_shows p (take i xs)) a (Ok u) b → Shows (p x) b (Ok v) c → i < length xs → x ≡ get_or xs i x →
     Shows (each_shows p (take (i + 1) xs)) a (Ok w) c
@@ -276,5 +277,5 @@ shows_one_more p xs i x f s h e =
     let e' = take_more xs i x h in
     rw (e', ← e) (shows_weaker (each_and_one p (take i xs) x) (shows_both f s))
 
--- what implementations go by
+-- The rules for implementations.
 pub ruleset showing = (left_cause, leaves_by_left, shows_nothing, shows_both, shows_both_err, shows_err, inline_shows, unique_shows, field_shows, inline_alone, unique_alone, field_alone, shared_shows, content_shows, again_shows, entry_err, field_err, shared_err, not_entered, not_sized, not_shared, not_entered_cause, not_sized_cause, shows_refused, shows_refused_err, shows_hidden, shows_forgotten, answers_err, goes_in_refused, goes_in, goes_in_plain_refused, goes_in_plain, refused_as, makes_keeps, kept_after)

@@ -1,4 +1,4 @@
--- The collector's own steps as the relations of visits, whose arguments a search finds.
+-- The collector's own steps as the relations of visits, whose arguments are found by search.
 use Rattle.std.proofs.Common.{◌≡◌, ℕ, Bool, true, false, None, Result, Ok, Err, refl, sym, subst, ap}
 use Rattle.allocative_graph.specs.declared.refusal.Refusal.{Refusal}
 use Rattle.allocative_graph.specs.declared.refusal.Refusal.TheVariants.{TooLarge}
@@ -34,7 +34,7 @@ same_cause p q e = ap (cause_or p) e
 going_not_failed : (b : Kind) (q : Refusal) → Going b ≡ Failed q → ⊥
 going_not_failed b q e = subst IsGoing e tt
 
--- with no declared size it is TooLarge
+-- An entry without a declared size is TooLarge.
 pub unsized_by_refusal : (k : Key) (s : State) (e : Refusal) (t : State) → t ≡ failed_with TooLarge s → HasFailed t e → EntersSized k None s (Err e) t
 unsized_by_refusal k (Failed q) e (Failed p) h i = rw (sym (same_cause p e i), same_cause p q h) stays_unsized
 unsized_by_refusal k (Going b) e (Failed p) h i = rw (sym (same_cause p e i)) (is_unsized (same_cause p TooLarge h))
@@ -45,5 +45,5 @@ pub leaves_by_left : (o : Bool) (s t : State) → t ≡ left o s → Leaves o s 
 leaves_by_left o (Failed r) t e = rw e leaves_failed
 leaves_by_left o (Going b) t e = rw e (leaves_going refl)
 
--- what the collector's own calls go by
+-- The rules for the collector's own calls.
 pub ruleset steps = (leaves_by_left, is_sized, enters_by_step, shared_by_step, unsized_by_refusal)

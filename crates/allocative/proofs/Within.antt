@@ -1,4 +1,5 @@
--- One entry with what is entered in it: the collector goes in, the same visitor enters what stands inside, and the collector steps back.
+-- One entry with what is inside it: the collector enters it, the same visitor enters what is inside, and the collector
+-- steps back.
 use Rattle.std.proofs.Common.{◌≡◌, ℕ, Bool, Option, Result, Ok, Err, IsErr, IfErr, refl, ◌∙◌}
 use Rattle.std.proofs.lemmas.Bool.{false≢true}
 use Rattle.allocative_graph.specs.declared.refusal.Refusal.{Refusal}
@@ -39,14 +40,14 @@ pub entered_within_sized : {p : Showing} {k : Key} {size : Option ℕ} {o : Bool
     EntersSized k size a.collector.now (Ok o) t → Entered p (with_state a t) b r → d ≡ left o b.collector.now → Entered (Field k size p) a (with_state b d) r
 entered_within_sized (is_sized g) h e = entered_as (entered_within g h e) (record { means = λ f x. sized x })
 
--- with nothing inside
+-- An entry with nothing inside it.
 pub entered_alone : {u : Bool} {k : Key} {n : ℕ} {o : Bool} {a : Visitor} {t d : State} → Enters u k n a.collector.now (Ok o) t → d ≡ left o t → Entered (InsideAs u k n Nothing) a (with_state a d) (Ok tt)
 entered_alone {a = a} {t = t} g e = entered_within g (entered_none (with_state a t) means_same) e
 
 pub entered_alone_sized : {k : Key} {size : Option ℕ} {o : Bool} {a : Visitor} {t d : State} → EntersSized k size a.collector.now (Ok o) t → d ≡ left o t → Entered (Field k size Nothing) a (with_state a d) (Ok tt)
 entered_alone_sized {a = a} {t = t} g e = entered_within_sized g (entered_none (with_state a t) means_same) e
 
--- an entry that is refused
+-- An entry that is refused.
 pub not_within : {u : Bool} {p : Showing} {k : Key} {n : ℕ} {a : Visitor} {t : State} {e : Refusal} (r : Result Unit Refusal) → IsErr r → e ≡ err_or e r → Enters u k n a.collector.now (Err e) t → Entered p a (with_state a t) r
 not_within (Ok v) h i g = absurd (false≢true h)
 not_within {u = u} {k = k} {n = n} {a = a} {t = t} (Err x) h i g =
@@ -78,7 +79,7 @@ gives_within g (gives y t h) e = gives y t h
 shows_failed : {p : Showing} {s t : State} {e : Refusal} → Makes Done s (Err e) t → Shows p s (Err e) t
 shows_failed had_failed = already
 
--- a collector that had failed, as it is tested first
+-- A collector that had failed, which is tested first.
 pub failed_answer : {s t : State} {e : Refusal} (r : Result Unit Refusal) → IsErr r → e ≡ err_or e r → Makes Done s (Err e) t → Makes Done s r t
 failed_answer (Ok v) h i m = absurd (false≢true h)
 failed_answer (Err x) h i m = rw i at m
@@ -92,7 +93,7 @@ entered_failed {a = a} (Err x) h i m =
     let n : Makes Done a.collector.now (Err x) a.collector.now = rw i at m in
     record { same_reference = refl; same_outer = refl; shown = shows_failed n; cause = makes_failed n }
 
--- an answer that is passed on
+-- A result that is passed on.
 pub entered_passed : {p q : Showing} {a b : Visitor} {e : Refusal} (r : Result Unit Refusal) → IsErr r → e ≡ err_or e r → Entered p a b (Err e) → Entered q a b r
 entered_passed (Ok v) h i s = absurd (false≢true h)
 entered_passed {p = p} {a = a} {b = b} (Err x) h i s =

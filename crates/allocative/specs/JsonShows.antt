@@ -1,4 +1,4 @@
--- What a JSON value may show, over the data that it stands for.
+-- What a JSON value may show, in terms of the data that it stands for.
 use Rattle.std.specs.Prelude.{ℕ, suc, List, Some, codes, length, String, string_bytes}
 use Rattle.std.specs.declared.alloc.Global.{Global}
 use Rattle.serde_json.specs.Data.{Data, null, boolean, number, string, array, object, Items, no_items, item, Members, no_members, member}
@@ -13,13 +13,13 @@ string_shows s = Field (codes "String") (Some 24) (text_shows (length s))
 abbrev pub number_shows : Showing
 number_shows = Inside (codes "Number") 16 Nothing
 
--- How many values an array has.
+-- The number of values of an array.
 abbrev pub items_count : Items → ℕ
 items_count no_items = 0
 items_count (item d ds) = suc (items_count ds)
 
 abbrev mutual
-  -- What stands in a value's own entry.
+  -- What is inside a value's own entry.
   pub data_inside : Data → Showing
   data_inside null = Nothing
   data_inside (boolean b) = Nothing
@@ -40,7 +40,7 @@ abbrev mutual
       (Both (Field (codes "key") (Some 24) (string_shows k)) (Field (codes "value") (Some 32) (Inside (codes "Value") 32 (data_inside d))))
       (members_show ms)
 
--- What one member shows, of a key's text and a value of 32 bytes which shows what p allows.
+-- What one member shows: a field for the text of its key, and one for its value of 32 bytes, which shows what p allows.
 abbrev pub member_shows : {V : Type 0} → (V → Showing) → String Global × V → Showing
 member_shows p m = Both (Field (codes "key") (Some 24) (string_shows (string_bytes m.0))) (Field (codes "value") (Some 32) (p m.1))
 

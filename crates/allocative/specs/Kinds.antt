@@ -1,4 +1,4 @@
--- The collector's fields, as what contracts see.
+-- How contracts see the collector's fields.
 use Rattle.std.specs.Prelude.{Option, None, Some}
 use Rattle.allocative_graph.specs.declared.refusal.Refusal.{Refusal}
 use Rattle.allocative_graph.specs.Collector as model
@@ -6,12 +6,12 @@ use Rattle.allocative_graph.specs.Collector.{OfGraph, OfHeld, State, Failed, Goi
 use Rattle.allocative.specs.declared.collector.Kind.{Kind}
 use Rattle.allocative.specs.declared.collector.Kind.TheVariants.{Graph, Held}
 
--- One of the two collectors.
+-- The kind of collector that a contract sees.
 abbrev pub kind_of : Kind → model.Kind
 kind_of (Graph c) = OfGraph c
 kind_of (Held h) = OfHeld h
 
--- It has failed where there is a cause.
+-- The state that a contract sees: the collector has failed where there is a cause.
 abbrev pub state_of : Option Refusal → model.Kind → State
 state_of None k = Going k
 state_of (Some r) k = Failed r

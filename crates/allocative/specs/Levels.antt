@@ -6,7 +6,8 @@ use Rattle.allocative_graph.specs.Shows.{Showing, Both, Inside, InsideUnique, Fi
 use Rattle.allocative.specs.Bodies.{buffer_shows}
 use Rattle.allocative.specs.StdShows.{option_inside, in_any_order}
 
--- One level of what a value shows, put together from its parts: a value of T below it stands in it as a child, and what names no such value is plain.
+-- One level of what a value shows, built from its parts: a value of T below it is a child in it, and what names no such
+-- value is plain.
 pub data Level (T : Type 0) : Type 1 where
   plain : Showing → Level T
   child : T → Level T
@@ -19,7 +20,7 @@ pub data Level (T : Type 0) : Type 1 where
   each : {A : Type 0} → (A → Level T) → List A → Level T
   unordered : {A : Type 0} → (A → Level T) → List A → Level T
 
--- The forests of a level, where p says what its children show.
+-- The forests of a level, where p gives the forests of its children.
 abbrev pub level_shows : {T : Type 0} → (T → Showing) → Level T → Showing
 level_shows p (plain s) = s
 level_shows p (child x) = p x
@@ -32,7 +33,7 @@ level_shows p (optional size w o) = option_inside size (λ x. level_shows p (w x
 level_shows p (each w xs) = each_shows (λ x. level_shows p (w x)) xs
 level_shows p (unordered w xs) = in_any_order (λ x. level_shows p (w x)) xs
 
--- The forests of a value of at most k levels, where w says what one level shows.
+-- The forests of a value of at most k levels, where w gives one level.
 abbrev pub levels_shown : {T : Type 0} → (T → Level T) → ℕ → T → Showing
 levels_shown w zero x = λ f. ⊥
 levels_shown w (suc k) x = level_shows (levels_shown w k) (w x)
@@ -42,30 +43,32 @@ pub record IsOfLevels {T : Type 0} (w : T → Level T) (x : T) (f : Forest) : Ty
   pub depth : ℕ
   pub shown : levels_shown w depth x f
 
--- What a value that holds values of its own type may show, where w says what one level shows.
+-- What a value that holds values of its own type may show, where w gives one level.
 abbrev pub recursive : {T : Type 0} → (T → Level T) → T → Showing
 recursive w x = IsOfLevels w x
 
--- What a `Vec` shows of its items, which need a drop and have s bytes each, s not 0, where w says what an item shows.
+-- What a `Vec` shows of its items, which need a drop and have s bytes each, s not 0, where w gives the level of an
+-- item.
 abbrev pub vec_of : {T A : Type 0} → ℕ → (A → Level T) → List A → Level T
 vec_of s w xs = field (codes "Vec") (Some 24) (buffer (Some s) (each w xs) (length xs))
 
--- What a `Box` shows, where a says what its value shows.
+-- What a `Box` shows, where a is the level of its value.
 abbrev pub box_of : {T : Type 0} → Level T → Level T
 box_of a = field (codes "Box") (Some 8) (unique (codes "ptr") 8 a)
 
--- What an `Option` of a declared size shows of its value, which has s bytes, where w says what that shows.
+-- What an `Option` of a declared size shows of its value, which has s bytes, where w gives the level of the value.
 abbrev pub option_of : {T A : Type 0} → ℕ → ℕ → (A → Level T) → Option A → Level T
 option_of size s w o = field (codes "Option") (Some size) (optional (Some s) w o)
 
--- What the pairs of a map show: a field for the key, which shows what p allows, and one for the value, which has s bytes.
+-- What a pair of a map shows: a field for the key, which shows what p allows, and one for the value, which has s bytes
+-- and the level that w gives.
 abbrev pub pair_of : {T K V : Type 0} → Option ℕ → (K → Showing) → ℕ → (V → Level T) → K × V → Level T
 pair_of key_size p s w e = both (plain (Field (codes "key") key_size (p e.0))) (field (codes "value") (Some s) (w e.1))
 
--- What a `BTreeMap` shows of its entries, in the order of the keys, where w says what an entry shows.
+-- What a `BTreeMap` shows of its entries, in the order of the keys, where w gives the level of an entry.
 abbrev pub btree_map_of : {T E : Type 0} → (E → Level T) → List E → Level T
 btree_map_of w es = field (codes "BTreeMap") (Some 24) (inside (codes "data") 8 (each w es))
 
--- What a `HashMap` shows of its entries, in any order, where w says what an entry shows.
+-- What a `HashMap` shows of its entries, in any order, where w gives the level of an entry.
 abbrev pub hash_map_of : {T E : Type 0} → (E → Level T) → List E → Level T
 hash_map_of w es = field (codes "HashMap") (Some 48) (inside (codes "data") 8 (unordered w es))

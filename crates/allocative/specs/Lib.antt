@@ -17,7 +17,7 @@ pub mod Nested
 pub mod Built
 pub mod Rooted
 pub mod SizeOf
--- the definitions of the crates below, passed on
+-- The definitions of the crates below are exported again.
 pub use Rattle.allocative_described.specs.Sizes
 pub use Rattle.allocative_described.specs.RawTable
 pub use Rattle.allocative_graph.specs.Path

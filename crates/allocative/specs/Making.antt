@@ -1,4 +1,4 @@
--- What calls that visit no part answer: their entries are made in reading order, each refused as entering says.
+-- What calls that visit no part return: their entries are made in reading order, each refused as entering says.
 use Rattle.std.specs.Prelude.{◌≡◌, ℕ, ◌-◌, Bool, true, false, List, length, Option, Some, Result, Ok, Err, codes}
 use Rattle.allocative_described.specs.Sizes.{size_product}
 use Rattle.allocative_graph.specs.declared.refusal.Refusal.{Refusal}
@@ -9,21 +9,23 @@ use Rattle.allocative.specs.Bodies.{are_shown_each}
 use Rattle.allocative.specs.Runs.{CountsRun}
 use Rattle.allocative.specs.declared.visitor.Visitor.{Visitor}
 
--- Inline entries to be made: none; or one of a declared size with some inside it, and others after it.
+-- Inline entries to be made: none; or one of a declared size, with some inside it and others after it.
 pub data Plan : Type 0 where
   Done : Plan
   Entry : Key → Option ℕ → Plan → Plan → Plan
 
--- One entry with none inside.
+-- One entry with none inside it.
 abbrev pub one : Key → Option ℕ → Plan
 one k size = Entry k size Done Done
 
--- The entries of a plan, and then those of another.
+-- The entries of one plan followed by those of another.
 abbrev pub followed_by_plan : Plan → Plan → Plan
 followed_by_plan Done q = q
 followed_by_plan (Entry k size inside after) q = Entry k size inside (followed_by_plan after q)
 
--- What making the entries of a plan in reading order does. A failed collector answers its first cause. Otherwise each entry is refused as `EntersSized` says, and the first refusal is the answer; or it is entered, those inside it are made, it is left, and those after it are made.
+-- What making the entries of a plan in reading order does. A failed collector returns its first cause. Otherwise each
+-- entry is refused as `EntersSized` says, and the first error is returned; or it is entered, those inside it are made,
+-- it is left, and those after it are made.
 pub data Makes : Plan → State → Result Unit Refusal → State → Type 0 where
   had_failed : {p : Plan} {r : Refusal} → Makes p (Failed r) (Err r) (Failed r)
   made_none : {b : Kind} {u : Unit} → Makes Done (Going b) (Ok u) (Going b)
@@ -31,12 +33,13 @@ pub data Makes : Plan → State → Result Unit Refusal → State → Type 0 whe
   entry_refused : {k : Key} {size : Option ℕ} {inside after : Plan} {s t : State} {e : Refusal} → EntersSized k size s (Err e) t → Makes (Entry k size inside after) s (Err e) t
   inside_refused : {k : Key} {size : Option ℕ} {inside after : Plan} {s t c : State} {o : Bool} {e : Refusal} → EntersSized k size s (Ok o) t → Makes inside t (Err e) c → Makes (Entry k size inside after) s (Err e) c
 
--- What a call does that makes an entry of its own before all else: it is refused as entering says, and nothing else is entered; or it is entered, whatever comes then.
+-- What a call that makes an entry of its own first does: the entry is refused as entering says, and nothing else is
+-- entered; or it is entered, and anything may follow.
 pub data EntersFirst (k : Key) (size : Option ℕ) (s : State) : Result Unit Refusal → State → Type 0 where
   first_refused : {e : Refusal} {t : State} → EntersSized k size s (Err e) t → EntersFirst k size s (Err e) t
   first_entered : {o : Bool} {w t : State} {r : Result Unit Refusal} → EntersSized k size s (Ok o) w → EntersFirst k size s r t
 
--- A failed collector answers its first cause and stays as it is; of another nothing is said.
+-- A failed collector returns its first cause and stays as it is. Nothing is said of one that has not failed.
 pub data KeepsCause : State → Result Unit Refusal → State → Type 0 where
   keeps_failed : {r : Refusal} → KeepsCause (Failed r) (Err r) (Failed r)
   keeps_going : {b : Kind} {result : Result Unit Refusal} {t : State} → KeepsCause (Going b) result t
@@ -49,12 +52,12 @@ VisitsNone needs_drop size xs = are_shown_each needs_drop size ≡ true → leng
 abbrev pub slice_plan : {T : Type 0} → Key → Option ℕ → Bool → List T → Plan
 slice_plan name size needs_drop xs = elim (are_shown_each needs_drop size) [ true ↦ Done | false ↦ one name (size_product size (Some (length xs))) ]
 
--- Those of such a slice, and then that of the room that is left of n places.
+-- The entries of a slice of which no item is visited, followed by that of the room that is left of n places.
 abbrev pub room_plan : {T : Type 0} → Key → Option ℕ → Bool → List T → ℕ → Plan
 room_plan name size needs_drop xs n =
     followed_by_plan (slice_plan name size needs_drop xs) (one (codes "unused_capacity") (size_product size (Some (n - length xs))))
 
--- Those of the body of a vector of such a slice with room for n items.
+-- The entries of the body of a vector with room for n items, where no item of its slice is visited.
 abbrev pub vec_plan : {T : Type 0} → Key → Option ℕ → Bool → List T → ℕ → Plan
 vec_plan name size needs_drop xs n = Entry (codes "capacity") (size_product size (Some n)) (room_plan name size needs_drop xs n) Done
 
@@ -63,7 +66,8 @@ pub data MakesOrGives {S A : Type 0} (steps : S → Option A → S → Type 0) (
   makes : Makes p a r b → MakesOrGives steps s p a r b
   gives : (x : A) (t : S) → steps s (Some x) t → MakesOrGives steps s p a r b
 
--- What `visit_iter` does where it visits no item: items that are not shown one by one are counted, and one entry of their bytes is made; else the iterator gives none, and no entry is made.
+-- What `visit_iter` does where it visits no item. Items that are not shown one by one are counted, and one entry of
+-- their bytes is made. Otherwise the iterator gives none, and no entry is made.
 pub data MakesRun {S A : Type 0} (steps : S → Option A → S → Type 0) (s : S) (name : Key) (size : Option ℕ) : Bool → State → Result Unit Refusal → State → Type 0 where
   counted : {a b : State} {r : Result Unit Refusal} (count : Option ℕ) → CountsRun steps s count → Makes (one name (size_product size count)) a r b → MakesRun steps s name size false a r b
   in_turn : {a b : State} {r : Result Unit Refusal} → MakesOrGives steps s Done a r b → MakesRun steps s name size true a r b
@@ -73,15 +77,16 @@ pub data MakesRun {S A : Type 0} (steps : S → Option A → S → Type 0) (s : 
 abbrev pub MakesPlan : Plan → Visitor → Visitor → Result Unit Refusal → Type 0
 MakesPlan p old new r = Makes p old.collector.now r new.collector.now
 
--- What a call at a visitor does to its collector that makes an entry of its own before all else.
+-- What a call that makes an entry of its own first does to the collector of its visitor.
 abbrev pub MakesFirst : Key → Option ℕ → Visitor → Visitor → Result Unit Refusal → Type 0
 MakesFirst k size old new r = EntersFirst k size old.collector.now r new.collector.now
 
--- A visitor whose collector had failed answers its first cause, and the collector stays as it is.
+-- A visitor whose collector had failed returns its first cause, and the collector stays as it is.
 abbrev pub Keeps : Visitor → Visitor → Result Unit Refusal → Type 0
 Keeps old new r = KeepsCause old.collector.now r new.collector.now
 
--- What a call at a visitor over an iterator does to its collector: it makes the entries of a plan, or the iterator, at s, may give an item.
+-- What a call at a visitor over an iterator does to its collector: it makes the entries of a plan, or the iterator, at
+-- s, may give an item.
 abbrev pub MakesPlanOrGives : {S A : Type 0} → (S → Option A → S → Type 0) → S → Plan → Visitor → Visitor → Result Unit Refusal → Type 0
 MakesPlanOrGives steps s p old new r = MakesOrGives steps s p old.collector.now r new.collector.now
 

@@ -1,4 +1,4 @@
--- What a visitor ends as that lends its collector to a nested one.
+-- How a visitor ends after a nested visitor borrowed its collector.
 use Rattle.std.specs.Prelude.{◌≡◌, ℕ, [], Bool, true, false, Option, None, Some, Result, Ok, Err, IfErr, OnOk, ⊤}
 use Rattle.std.specs.Borrow.{Fml, GName, MutBor, Lends, follows_so, name_if_ok}
 use mathlib.Core.Option as maybe
@@ -12,41 +12,43 @@ use Rattle.allocative.specs.declared.visitor.Visitor.{Visitor}
 use Rattle.allocative.specs.contracts.visitor.Visitor as visitor
 use Rattle.allocative.specs.contracts.collector.Collector as collector
 
--- The visitor with another value behind its reference, and all else unchanged.
+-- The visitor with another collector state, and nothing else changed.
 abbrev pub with_state : Visitor → State → Visitor
 with_state v s = record v { collector = record v.collector { now = s } }
 
--- It ends with the last value behind the reference.
+-- The visitor ends with the last state of its collector.
 abbrev pub LendsCollector : MutBor Visitor → MutBor State → Fml
 LendsCollector s r = Lends (visitor.the_row (record { mir = named 1; lft = [] })) collector.the_row s r (with_state s.now)
 
--- It ends with what the nested visitor leaves behind its reference; where the entry was refused, with what entering says. All else of it is unchanged.
+-- The visitor ends with what the nested visitor leaves of the collector or, where the entry was refused, with what
+-- entering says. Nothing else of it changes.
 abbrev pub LendsNested : Bool → Key → ℕ → MutBor Visitor → Result Visitor Refusal → Fml
 LendsNested is_unique k n s r =
     follows_so (visitor.the_row (record { mir = named 1; lft = [] })) collector.the_row s.ghost_name (name_if_ok (λ v. v.collector.ghost_name) r)
     (λ w v. OnOk r (v ≡ with_state s.now w))
     (λ v. IfErr r (λ e. Enters is_unique k n s.now.collector.now (Err e) v.collector.now × (v ≡ with_state s.now v.collector.now)))
 
--- It ends with what the nested visitor leaves behind its reference; where the entry of a declared size was refused, with what entering says. All else of it is unchanged.
+-- The visitor ends with what the nested visitor leaves of the collector or, where the entry of a declared size was
+-- refused, with what entering says. Nothing else of it changes.
 abbrev pub LendsNestedSized : Key → Option ℕ → MutBor Visitor → Result Visitor Refusal → Fml
 LendsNestedSized k size s r =
     follows_so (visitor.the_row (record { mir = named 1; lft = [] })) collector.the_row s.ghost_name (name_if_ok (λ v. v.collector.ghost_name) r)
     (λ w v. OnOk r (v ≡ with_state s.now w))
     (λ v. IfErr r (λ e. EntersSized k size s.now.collector.now (Err e) v.collector.now × (v ≡ with_state s.now v.collector.now)))
 
--- The nested visitor v stands at the entry that was entered at s.
+-- The nested visitor v is at the entry that was entered at s.
 abbrev pub Nests : Bool → Key → ℕ → Visitor → Visitor → Type 0
 Nests is_unique k n s v = Enters is_unique k n s.collector.now (Ok v.outer_is_unique) v.collector.now
 
--- The nested visitor v stands at the entry of a declared size that was entered at s.
+-- The nested visitor v is at the entry of a declared size that was entered at s.
 abbrev pub NestsSized : Key → Option ℕ → Visitor → Visitor → Type 0
 NestsSized k size s v = EntersSized k size s.collector.now (Ok v.outer_is_unique) v.collector.now
 
--- The visitor v stands at the content of the shared value that was entered at s.
+-- The visitor v is at the content of the shared value that was entered at s.
 abbrev pub NestsContent : Key → ℕ → Identity → Visitor → Visitor → Type 0
 NestsContent k n i s v = EntersShared k n i s.collector.now (Ok true) v.collector.now
 
--- A visitor at a shared value's content is no unique entry's.
+-- A visitor at the content of a shared value keeps the flag false.
 abbrev pub IsContents : Visitor → Type 0
 IsContents v = v.outer_is_unique ≡ false
 
@@ -58,25 +60,26 @@ IsRefused is_unique n s e = Answers is_unique n s.collector.now (Err e)
 abbrev pub IsRefusedSized : Key → Option ℕ → Visitor → Refusal → Type 0
 IsRefusedSized k size s e = EntersSized k size s.collector.now (Err e) (Failed e)
 
--- The name of the reference in the visitor that is given.
+-- The name of the reference in the visitor that is returned.
 abbrev pub name_in : Result (Option Visitor) Refusal → maybe.Option GName
 name_in (Ok (Some v)) = maybe.some v.collector.ghost_name
 name_in (Ok None) = maybe.none
 name_in (Err e) = maybe.none
 
--- Where a visitor is given, v is s with what that one leaves behind its reference.
+-- Where a visitor is returned, v is s with what that visitor leaves of the collector.
 abbrev pub EndsWith : Visitor → Result (Option Visitor) Refusal → State → Visitor → Type 0
 EndsWith s (Ok (Some x)) w v = v ≡ with_state s w
 EndsWith s (Ok None) w v = ⊤
 EndsWith s (Err e) w v = ⊤
 
--- Where none is given, v is s with what entering says.
+-- Where no visitor is returned, v is s with what entering says.
 abbrev pub EndsWithout : Key → ℕ → Identity → Visitor → Result (Option Visitor) Refusal → Visitor → Type 0
 EndsWithout k n i s (Ok (Some x)) v = ⊤
 EndsWithout k n i s (Ok None) v = EntersShared k n i s.collector.now (Ok false) v.collector.now × (v ≡ with_state s v.collector.now)
 EndsWithout k n i s (Err e) v = EntersShared k n i s.collector.now (Err e) v.collector.now × (v ≡ with_state s v.collector.now)
 
--- The same of a shared value.
+-- The visitor ends with what the visitor at a shared value's content leaves of the collector or, where none is
+-- returned, with what entering says. Nothing else of it changes.
 abbrev pub LendsShared : Key → ℕ → Identity → MutBor Visitor → Result (Option Visitor) Refusal → Fml
 LendsShared k n i s r =
     follows_so (visitor.the_row (record { mir = named 1; lft = [] })) collector.the_row s.ghost_name (name_in r) (EndsWith s.now r) (EndsWithout k n i s.now r)

@@ -1,4 +1,4 @@
--- What types of other crates may show, over what contracts see of them.
+-- What types of other crates may show, in terms of what contracts see of them.
 use Rattle.std.specs.Prelude.{ℕ, Bool, List, Option, codes, length}
 use Rattle.either.specs.declared.Either.{Either}
 use Rattle.either.specs.declared.Either.TheVariants.{Left, Right}
@@ -10,45 +10,48 @@ use Rattle.allocative_graph.specs.Shows.{Showing, Nothing, Both, InsideUnique, F
 use Rattle.allocative.specs.Bodies.{bytes_shown, buffer_shows, data_shows, table_shows}
 use Rattle.allocative.specs.Runs.{field_of, pair_shows}
 
--- What stands in the own entry of an `Either` with parts of declared sizes: one field, named by the side that is there.
+-- What is inside the own entry of an `Either` with parts of declared sizes: one field, named by the side that is there.
 abbrev pub either_inside : {L R : Type 0} → Option ℕ → (L → Showing) → Option ℕ → (R → Showing) → Either L R → Showing
 either_inside s p t q (Left x) = Field (codes "Left") s (p x)
 either_inside s p t q (Right y) = Field (codes "Right") t (q y)
 
--- What stands in the own entry of a cell that is set once: nothing, or a pointer to some value.
+-- What is inside the own entry of a cell that is set once: nothing, or a pointer to some value.
 pub data IsOnce {T : Type 0} (p : T → Showing) : Forest → Type 0 where
   is_not_set : {f : Forest} → Nothing f → IsOnce p f
   is_set : (x : T) {f : Forest} → InsideUnique (codes "ptr") 8 (p x) f → IsOnce p f
 
--- The same, as a showing.
+-- The showing of the inside of a cell that is set once.
 abbrev pub once_inside : {T : Type 0} → (T → Showing) → Showing
 once_inside p = IsOnce p
 
--- What stands in the own entry of a small vector with n places of its own and items of a declared size: a field `data` for each item, inside a pointer where the items lie in an allocation.
+-- What is inside the own entry of a small vector with n places of its own and items of a declared size: a field `data`
+-- for each item, inside a pointer where the items are in an allocation.
 pub data IsSmallVec {T : Type 0} (n : ℕ) (size : Option ℕ) (p : T → Showing) (v : SmallVec T) : Forest → Type 0 where
   lies_inline : {f : Forest} → ¬ IsSpilled n v → data_shows size p v.items f → IsSmallVec n size p v f
   is_spilled : {f : Forest} → IsSpilled n v → InsideUnique (codes "ptr") 8 (data_shows size p v.items) f → IsSmallVec n size p v f
 
--- The same, as a showing.
+-- The showing of the inside of a small vector.
 abbrev pub small_vec_inside : {T : Type 0} → ℕ → Option ℕ → (T → Showing) → SmallVec T → Showing
 small_vec_inside n size p v = IsSmallVec n size p v
 
--- What stands in the own entry of a slab with items of a declared name and size: the buffer of its values, by rising key.
+-- What is inside the own entry of a slab with items of a declared name and size: the buffer of its values, in the order
+-- of their keys.
 abbrev pub slab_inside : {T : Type 0} → Key → Option ℕ → Bool → (T → Showing) → Slab T → Showing
 slab_inside name size needs_drop p s = buffer_shows size (slice_shows name size needs_drop p (values s)) (slab_len s)
 
--- The data of a container in order of insertion: what p shows, and some unused amount of items of a declared size.
+-- The data of a container in insertion order: what p shows, and some number of unused places for items of a declared
+-- size.
 pub data IsIndexData (size : Option ℕ) (p : Showing) : Forest → Type 0 where
   with_unused : (unused : ℕ) {f : Forest} → InsideUnique (codes "data") 8 (Both p (bytes_shown (codes "unused_capacity") size unused)) f → IsIndexData size p f
 
--- The same, as a showing.
+-- The showing of the data of a container in insertion order.
 abbrev pub index_data_shows : Option ℕ → Showing → Showing
 index_data_shows size p = IsIndexData size p
 
--- What stands in the own entry of an `IndexMap` with keys, values and pairs of declared sizes.
+-- What is inside the own entry of an `IndexMap` with keys, values and pairs of declared sizes.
 abbrev pub index_map_inside : {K V : Type 0} → Option ℕ → (K → Showing) → Option ℕ → (V → Showing) → Option ℕ → List (K × V) → Showing
 index_map_inside s p t q pair es = Both (index_data_shows pair (each_shows (pair_shows s p t q) es)) (table_shows (length es))
 
--- What stands in the own entry of an `IndexSet` with values of a declared size.
+-- What is inside the own entry of an `IndexSet` with values of a declared size.
 abbrev pub index_set_inside : {T : Type 0} → Option ℕ → (T → Showing) → List T → Showing
 index_set_inside s p xs = Both (index_data_shows s (each_shows (field_of (codes "value") s p) xs)) (table_shows (length xs))

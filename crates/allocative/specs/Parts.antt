@@ -1,4 +1,4 @@
--- What a part shows that may be there or not, and one of two.
+-- What a part that may be absent shows, and what one of two parts shows.
 use Rattle.std.specs.Prelude.{Option, None, Some}
 use Rattle.either.specs.declared.Either.{Either}
 use Rattle.either.specs.declared.Either.TheVariants.{Left, Right}

@@ -1,4 +1,4 @@
--- What a builder ends as that lends its collector to a root visitor.
+-- How a builder ends after a root visitor borrowed its collector.
 use Rattle.std.specs.Prelude.{◌≡◌, Result, Err, IfErr, OnOk}
 use Rattle.std.specs.Borrow.{Fml, MutBor, Lends, follows_so, name_if_ok}
 use Rattle.allocative_graph.specs.declared.refusal.Refusal.{Refusal}
@@ -9,11 +9,12 @@ use Rattle.allocative.specs.contracts.builder.FlameGraphBuilder as builder
 use Rattle.allocative.specs.contracts.collector.Collector as collector
 use Rattle.allocative.specs.Built.{as_graph}
 
--- It ends as the last value behind the reference, as a flame graph's.
+-- The builder ends as the last state of the collector, seen as that of a flame graph.
 abbrev pub LendsBuilt : MutBor State → MutBor State → Fml
 LendsBuilt s r = Lends builder.the_row collector.the_row s r as_graph
 
--- It ends as what the root visitor leaves behind its reference, as a flame graph's; where none goes out, as beginning says.
+-- The builder ends as the collector that the root visitor leaves or, where no visitor is returned, as beginning says.
+-- The collector is seen as that of a flame graph.
 abbrev pub LendsRoot : MutBor State → Result Visitor Refusal → Fml
 LendsRoot s r =
     follows_so builder.the_row collector.the_row s.ghost_name (name_if_ok (λ v. v.collector.ghost_name) r)

@@ -7,13 +7,14 @@ use Rattle.allocative_graph.specs.Path.{Key}
 use Rattle.allocative_graph.specs.Forest.{Forest}
 use Rattle.allocative_graph.specs.Shows.{Showing, Both, Field, slice_shows}
 
--- A forest that q allows for the items of some whole run of an iterator, which starts at s; v tells what an item is seen as.
+-- A forest that q allows for the items of some whole run of an iterator that starts at s; v is what a contract sees of
+-- an item.
 pub record IsOfRun {S A B : Type 0} (steps : S → Option A → S → Type 0) (s : S) (v : A → B) (q : List B → Showing) (f : Forest) : Type 0 where
   pub given : List A
   pub drained : Drains steps s given
   pub shown : q (map v given) f
 
--- A field with its name and declared size, and in it what p says of the value.
+-- A field with its name and declared size, with what p says of the value inside it.
 abbrev pub field_of : {T : Type 0} → Key → Option ℕ → (T → Showing) → T → Showing
 field_of name size p x = Field name size (p x)
 
@@ -21,11 +22,11 @@ field_of name size p x = Field name size (p x)
 abbrev pub pair_shows : {K V : Type 0} → Option ℕ → (K → Showing) → Option ℕ → (V → Showing) → K × V → Showing
 pair_shows key_size p value_size q e = Both (Field (codes "key") key_size (p e.0)) (Field (codes "value") value_size (q e.1))
 
--- The count of the items of some whole run, or none where it does not fit a word.
+-- The number of items of some whole run, or None where it does not fit a word.
 abbrev pub CountsRun : {S A : Type 0} → (S → Option A → S → Type 0) → S → Option ℕ → Type 0
 CountsRun {A = A} steps s n = (xs : List A) × Drains steps s xs × (n ≡ checked (length xs))
 
--- What an entry of a key and a reference is seen as.
+-- What a contract sees of an entry of a key and a reference.
 abbrev pub deref_entry : {T : Type 0} → ℕ × Bor T → ℕ × T
 deref_entry e = (e.0, e.1.now)
 

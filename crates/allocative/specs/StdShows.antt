@@ -9,20 +9,21 @@ use Rattle.allocative_graph.specs.Shows.{Showing, Nothing, Field, SharedWith, ea
 abbrev pub Leaf : Key → ℕ → Showing
 Leaf name n = Field name (Some n) Nothing
 
--- In the entry of an `Option`: nothing, or its value under `Some`.
+-- The inside of the entry of an `Option`: nothing, or its value under `Some`.
 abbrev pub option_inside : {T : Type 0} → Option ℕ → (T → Showing) → Option T → Showing
 option_inside size p None = Nothing
 option_inside size p (Some v) = Field (codes "Some") size (p v)
 
--- In the entry of a `Result`: its value under `Ok`, or its error under `Err`.
+-- The inside of the entry of a `Result`: its value under `Ok`, or its error under `Err`.
 abbrev pub result_inside : {T E : Type 0} → Option ℕ → Option ℕ → (T → Showing) → (E → Showing) → Result T E → Showing
 result_inside ok_size err_size p q (Ok v) = Field (codes "Ok") ok_size (p v)
 result_inside ok_size err_size p q (Err e) = Field (codes "Err") err_size (q e)
 
--- What each of some items shows, in any order.
+-- The forests of some items, in any order.
 abbrev pub in_any_order : {T : Type 0} → (T → Showing) → List T → Showing
 in_any_order {T} p xs f = (ys : List T) × IsPermutation xs ys × each_shows p ys f
 
--- A pointer to a shared value of a declared size and alignment: with an entry of its counts and itself as content, or without content.
+-- A pointer to a shared value of a declared size and alignment. Its content is an entry of the counts and the value, or
+-- it has no content.
 abbrev pub shared_inside : Key → Identity → Option ℕ → ℕ → Showing → Showing
 shared_inside inner_name id size align p = SharedWith (codes "ptr") 8 id (Field inner_name (shared_inner_size size align) p)

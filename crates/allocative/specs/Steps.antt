@@ -1,4 +1,4 @@
--- What the collector's own steps do, by cases: the same as the relations of visits say.
+-- What the collector's own steps do, case by case. They say what the relations of visits say.
 use Rattle.std.specs.Prelude.{◌≡◌, ℕ, ◌+◌, ◌<◌, ◌^◌, Bool, false, Result, Ok, Err}
 use Rattle.allocative_graph.specs.declared.refusal.Refusal.{Refusal}
 use Rattle.allocative_graph.specs.Path.{Key}
@@ -21,7 +21,7 @@ StepsInShared k n i (Going (OfHeld h)) result t = (result ≡ Ok false) × (t �
 StepsInShared k n i (Going (OfGraph c)) (Ok new) t = (entered c.sums + n < 2 ^ 63) × (d : Live) × MeetsAs k n i c new d × (t ≡ Going (OfGraph d))
 StepsInShared k n i (Going (OfGraph c)) (Err e) t = Refuses false n (OfGraph c) e × (t ≡ Failed e)
 
--- s is that of a collector of held bytes with the sum n; nothing is said of another.
+-- n is the sum of a collector of held bytes in the state s. Nothing is said of other states.
 abbrev pub IsSum : State → ℕ → Type 0
 IsSum (Failed r) n = Unit {0}
 IsSum (Going (OfGraph c)) n = Unit {0}

@@ -7,38 +7,39 @@ use Rattle.allocative_graph.specs.Collector.{State, failed_with}
 use Rattle.allocative_graph.specs.Visits.{Shows, HasFailed, Begins, Leaves}
 use Rattle.allocative.specs.declared.visitor.Visitor.{Visitor}
 
--- The visitor stands where it stood, and its collector was shown what p allows.
+-- The visitor stays where it was, and its collector was shown what p allows.
 pub record Visited (p : Showing) (old new : Visitor) (r : Result (Unit {0}) Refusal) : Type 0 where
   pub same_reference : new.collector.ghost_name ≡ old.collector.ghost_name
   pub same_outer : new.outer_is_unique ≡ old.outer_is_unique
   pub shown : Shows p old.collector.now r new.collector.now
 
--- The visitor stands where it stood, its collector was shown what p allows, and an Err is the collector's first cause.
+-- The visitor stays where it was, its collector was shown what p allows, and an Err is the collector's first cause.
 pub record Entered (p : Showing) (old new : Visitor) (r : Result (Unit {0}) Refusal) : Type 0 where
   pub same_reference : new.collector.ghost_name ≡ old.collector.ghost_name
   pub same_outer : new.outer_is_unique ≡ old.outer_is_unique
   pub shown : Shows p old.collector.now r new.collector.now
   pub cause : IfErr r (HasFailed new.collector.now)
 
--- The visitor stands where it stood; its collector has failed with r, where it had not failed, and the answer is its first cause.
+-- The visitor stays where it was; its collector has failed with r unless it had failed before, and the first cause is
+-- returned.
 pub record Refused (r : Refusal) (old new : Visitor) (cause : Refusal) : Type 0 where
   pub same_reference : new.collector.ghost_name ≡ old.collector.ghost_name
   pub same_outer : new.outer_is_unique ≡ old.outer_is_unique
   pub after : new.collector.now ≡ failed_with r old.collector.now
   pub is_cause : HasFailed new.collector.now cause
 
--- What a visitor's collector is.
+-- The state of a visitor's collector.
 abbrev pub collector_of : Visitor → State
 collector_of v = v.collector.now
 
--- The end of the visitor v leaves its collector as t: one step back, with what v remembers.
+-- Dropping the visitor v leaves its collector as t: one step back, with the flag that v keeps.
 abbrev pub Exits : Visitor → State → Type 0
 Exits v t = Leaves v.outer_is_unique v.collector.now t
 
--- The root visitor v went out at s.
+-- The root visitor v was opened at s.
 abbrev pub BeginsAt : State → Visitor → Type 0
 BeginsAt s v = Begins s (Ok v.outer_is_unique) v.collector.now
 
--- What p allows, q allows.
+-- Every forest that p allows, q allows.
 pub record Means (p q : Showing) : Type 0 where
   pub means : (f : Forest) → p f → q f

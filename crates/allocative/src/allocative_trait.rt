@@ -7,8 +7,9 @@ use allocative_graph::refusal::Refusal;
 
 /// A value that shows what it holds.
 ///
-/// `may_show` says which forests of entries the value may show: it is the meaning that the type gives to its values, and
-/// `visit` is proved to enter one of them: an implementation builds one value of parts that mirrors `may_show`, and enters it.
+/// `may_show` says which forests of entries the value may show: it is the meaning that the type gives to its
+/// values. `visit` is proved to enter one of these forests. An implementation builds one value, made of parts,
+/// that mirrors `may_show`, and enters it.
 ///
 /// ```
 /// #![tactic(auto, using(allocative::proofs::Parts::parts))]
@@ -41,9 +42,9 @@ pub trait Allocative: Drop {
 
     /// Enters what the value holds.
     ///
-    /// After `Err` the collector has failed. After `Ok` it has failed (a refusal was hidden), or has more visitors out than
-    /// before (one was forgotten), or is the old one with one forest more that the value may show. A collector that had
-    /// failed stays as it was. The visitor stands where it stood.
+    /// After `Err` the collector has failed. After `Ok` it has failed (an error was hidden), or has more open
+    /// visitors than before (one was forgotten), or has one more forest, which the value may show. A collector
+    /// that had failed stays as it was. The visitor stays where it was.
     fn visit(&self, visitor: &mut Visitor<'_>) -> Result<(), Refusal>
         ensures { Visited (may_show self.now) visitor.old visitor.new result };
 }

@@ -32,7 +32,7 @@ pub struct FlameGraphBuilder {
     collector: Collector,
 }
 
-// A root visitor lends the collector, and what stands behind its reference could be exchanged for any other.
+// A root visitor borrows the collector, and code that holds it could replace the collector by any other.
 impl Model for FlameGraphBuilder {
     ghost use Rattle.allocative_graph.specs.Collector.{State};
     ghost use Rattle.allocative_graph.specs.Codes.{state_code};
@@ -46,7 +46,7 @@ impl Model for FlameGraphBuilder {
 }
 
 impl FlameGraphBuilder {
-    /// An empty builder. It is refused for want of memory alone.
+    /// An empty builder. The only error is that memory runs out.
     pub fn new(alloc: Global) -> Result<FlameGraphBuilder, Refusal>
         ensures { MatchResult result (λ b. b ≡ Going (OfGraph no_entries)) (λ r. r ≡ Refusal.Memory) }
     {
@@ -55,7 +55,7 @@ impl FlameGraphBuilder {
         })
     }
 
-    // The collector, lent.
+    // A mutable borrow of the collector.
     fn lend(&mut self) -> &mut Collector
         ensures* lent { sem 𝓛 (LendsBuilt self.entry result) }
         ensures now { self.old ≡ as_graph result.now }
@@ -63,13 +63,13 @@ impl FlameGraphBuilder {
         &mut self.collector
     }
 
-    /// A visitor at the root. It takes no memory.
+    /// A visitor at the root. It allocates nothing.
     ///
-    /// A builder that has failed answers its first cause, and one where a visitor is out answers Open; then nothing changes.
-    /// Once the visitor is gone, the builder is what it left.
+    /// A builder that has failed returns its first cause, and one with an open visitor returns `Open`; then
+    /// nothing changes. Once the visitor is gone, the builder is what the visitor left.
     ///
-    /// A caller's proof learns the answer and the visitor by the plain clauses, and nothing of the builder afterwards; by
-    /// `visit_root` it does.
+    /// From the plain clauses a caller's proof learns the result and the visitor, but nothing about the builder
+    /// afterwards. From `visit_root` it learns that as well.
     pub fn root_visitor(&mut self) -> Result<Visitor<'_>, Refusal>
         ensures* lent { sem 𝓛 (LendsRoot self.entry result) }
         ensures begun { IfOk result (BeginsAt self.old) }
@@ -78,10 +78,12 @@ impl FlameGraphBuilder {
         self.lend().graph_root_visitor()
     }
 
-    /// Visits a root by a root visitor. Ok exactly where the builder afterwards has neither failed nor stands open.
+    /// Visits a root by a root visitor. It returns `Ok` exactly where the builder afterwards has not
+    /// failed and has no open visitor.
     ///
-    /// A builder that has failed answers its first cause, and one where a visitor is out answers Open; then nothing changes.
-    /// Else the answer is the first cause of the visit, or Open where a visitor was forgotten in it.
+    /// A builder that has failed returns its first cause, and one with an open visitor returns
+    /// `Open`; then nothing changes. Otherwise the error is the first cause of the visit, or `Open`
+    /// where the visit forgot a visitor.
     pub fn visit_root(&mut self, root: &dyn Allocative) -> Result<(), Refusal>
         ensures { Runs (may_show root.now) self.old result self.new }
     {
@@ -89,7 +91,8 @@ impl FlameGraphBuilder {
         self.collector.visit_object(root)
     }
 
-    /// The same as `visit_root` of a value whose type is known. It makes no trait object.
+    /// Visits a root whose type is known, without a trait object. What it returns and changes is what
+    /// `visit_root` does.
     pub fn visit_value<T: Allocative>(&mut self, root: &T) -> Result<(), Refusal>
         ensures { Runs (T.may_show root.now) self.old result self.new }
     {
@@ -97,17 +100,17 @@ impl FlameGraphBuilder {
         self.collector.visit_one(root)
     }
 
-    /// Ok where the builder has neither failed nor stands open; else its first cause, or Open.
+    /// `Ok` where the builder has not failed and has no open visitor, otherwise its first cause, or `Open`.
     pub(crate) fn check(&self) -> Result<(), Refusal>
         ensures { Settles self.now result }
     {
         self.collector.check_graph()
     }
 
-    /// The graph and the warnings of all that was entered. The graph's total is at most `isize::MAX`.
+    /// The graph and the warnings of all that was entered. The total of the graph is at most `isize::MAX`.
     ///
-    /// A builder that has failed answers its first cause, and one where a visitor is out Open. Else the call is refused for
-    /// want of memory alone.
+    /// A builder that has failed returns its first cause, and one with an open visitor returns `Open`.
+    /// Otherwise the only error is that memory runs out.
     pub fn finish(self) -> Result<FlameGraphOutput, Refusal>
         ensures ends { Ends IsProfile self result }
         ensures total { IfOk result (λ o. total o.graph < 2 ^ 63) }
@@ -115,7 +118,7 @@ impl FlameGraphBuilder {
         self.collector.finish()
     }
 
-    /// `finish`, then the text of the graph. It is refused as `finish` is.
+    /// Finishes the builder and returns the text of the graph. The errors are those of `finish`.
     pub fn finish_and_write_flame_graph(self) -> Result<String, Refusal>
         ensures { Ends (λ s t. string_bytes t ≡ text (graph s)) self result }
     {

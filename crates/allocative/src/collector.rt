@@ -1,4 +1,4 @@
-//! The collectors: a flame graph's, and that of held bytes.
+//! The collectors: that of a flame graph, and that of held bytes.
 #![tactic(auto, using(crate::proofs::Steps::steps))]
 
 ghost use Rattle.std.specs.Prelude.{◌≡◌, ◌+◌, ◌<◌, ◌^◌, true, false, IfOk, IfErr, OnOk, IsTrue, ◌↔◌};
@@ -26,8 +26,7 @@ enum Kind {
 }
 
 /// What visitors enter into: the collector of a flame graph, or that of held bytes.
-///
-/// It has failed, with its first cause, or it is going. Visitors lend it on.
+/// It has failed, with its first cause, or it is going. Visitors borrow it from each other.
 #[derive(Drop)]
 pub struct Collector {
     failed: Option<Refusal>,
@@ -48,7 +47,7 @@ impl Model for Collector {
 }
 
 impl Kind {
-    // One entry more, and a visitor at it. Answers what leaving has to restore.
+    // One more entry, and a visitor at it. It returns the flag that `leave` restores.
     #[inline(always)]
     fn enter(&mut self, key: &Key, size: usize, is_unique: bool) -> Result<bool, Refusal>
         ensures ok { IfOk result (λ outer. HasRoom is_unique size (kind_of self.old) × (outer ≡ is_in_unique (kind_of self.old)) × (kind_of self.new ≡ enter is_unique key.now size (kind_of self.old))) }
@@ -63,7 +62,7 @@ impl Kind {
         }
     }
 
-    // A visitor less.
+    // One visitor less.
     #[inline(always)]
     fn leave(&mut self, outer: bool)
         ensures { kind_of self.new ≡ leave outer (kind_of self.old) }
@@ -74,7 +73,7 @@ impl Kind {
         }
     }
 
-    // Whether no visitor is out.
+    // Whether no visitor is open.
     fn is_closed(&self) -> bool
         ensures closed { IsTrue result ↔ IsClosed (kind_of self.now) }
         ensures at_root { IsTrue result → IsAtRoot (kind_of self.now) }
@@ -85,7 +84,7 @@ impl Kind {
         }
     }
 
-    // A root visitor more, where no visitor is out. Answers what leaving has to restore.
+    // One more root visitor, where no visitor is open. It returns the flag that `leave` restores.
     fn begin(&mut self) -> bool
         requires { IsClosed (kind_of self.old) }
         ensures outer { result ≡ is_in_unique (kind_of self.old) }
@@ -102,7 +101,7 @@ impl Kind {
 }
 
 impl Collector {
-    /// The collector of a flame graph. It is refused for want of memory alone.
+    /// The collector of a flame graph. The only error is that memory runs out.
     pub(crate) fn graph(alloc: Global) -> Result<Collector, AllocError>
         ensures { IfOk result (λ c. c ≡ Going (OfGraph no_entries)) }
     {
@@ -113,7 +112,7 @@ impl Collector {
         })
     }
 
-    /// The collector of held bytes. It takes no memory.
+    /// The collector of held bytes. It allocates nothing.
     pub(crate) fn held() -> Collector
         ensures { result ≡ Going (OfHeld nothing_held) }
     {
@@ -123,7 +122,7 @@ impl Collector {
         }
     }
 
-    /// Fails with `refusal`, where it has not failed yet: the first cause.
+    /// Fails with `refusal`, unless it has failed before. It returns the first cause.
     pub(crate) fn refuse(&mut self, refusal: Refusal) -> Refusal
         ensures after { self.new ≡ failed_with refusal self.old }
         ensures cause { HasFailed self.new result }
@@ -137,7 +136,7 @@ impl Collector {
         }
     }
 
-    /// The first cause where it has failed.
+    /// The first cause where the collector has failed, otherwise `Ok`.
     pub(crate) fn go_on(&self) -> Result<(), Refusal>
         ensures { Makes Done self.now result self.now }
     {
@@ -147,7 +146,7 @@ impl Collector {
         Ok(())
     }
 
-    // One entry more, unique or inline.
+    // One more entry, unique or inline. It returns the flag that `leave` restores.
     #[inline(always)]
     fn step_in(&mut self, key: &Key, size: usize, is_unique: bool) -> Result<bool, Refusal>
         ensures enters { StepsIn is_unique key.now size self.old result self.new }
@@ -165,7 +164,7 @@ impl Collector {
         }
     }
 
-    // One shared entry more.
+    // One more shared entry. It returns whether the content is to be shown.
     fn step_in_shared(&mut self, key: &Key, size: usize, id: Identity) -> Result<bool, Refusal>
         ensures enters { StepsInShared key.now size id self.old result self.new }
         ensures cause { IfErr result (HasFailed self.new) }
@@ -185,7 +184,7 @@ impl Collector {
         }
     }
 
-    /// One inline entry of `size` bytes, and a visitor at it: what leaving has to restore.
+    /// One more inline entry of `size` bytes, and a visitor at it. It returns the flag that `leave` restores.
     #[inline(always)]
     pub(crate) fn go_in(&mut self, key: Key, size: usize) -> Result<bool, Refusal>
         ensures enters { Enters false key size self.old result self.new }
@@ -194,7 +193,7 @@ impl Collector {
         self.step_in(&key, size, false)
     }
 
-    /// The same as `go_in` with a unique entry.
+    /// One more unique entry of `size` bytes, and a visitor at it. It returns the flag that `leave` restores.
     #[inline(always)]
     pub(crate) fn go_in_unique(&mut self, key: Key, size: usize) -> Result<bool, Refusal>
         ensures enters { Enters true key size self.old result self.new }
@@ -203,7 +202,8 @@ impl Collector {
         self.step_in(&key, size, true)
     }
 
-    /// The same as `go_in` with a declared size; where there is none it is TooLarge.
+    /// One more inline entry of a declared size, and a visitor at it. It returns the flag that `leave`
+    /// restores, and `TooLarge` where there is no size.
     #[inline(always)]
     pub(crate) fn go_in_sized(&mut self, key: Key, size: Option<usize>) -> Result<bool, Refusal>
         ensures enters { EntersSized key size self.old result self.new }
@@ -215,7 +215,8 @@ impl Collector {
         }
     }
 
-    /// One pointer of `size` bytes more to the shared value that has the identity `id`: whether its content is to be shown.
+    /// One more pointer of `size` bytes to the shared value with the identity `id`. It returns whether
+    /// the content is to be shown.
     pub(crate) fn go_to_shared(
         &mut self,
         key: Key,
@@ -228,7 +229,7 @@ impl Collector {
         self.step_in_shared(&key, size, id)
     }
 
-    /// A visitor less; the one outside is a unique entry's, or is not.
+    /// One visitor less; `outer` says whether the visitor outside it is that of a unique entry.
     #[inline(always)]
     pub(crate) fn leave(&mut self, outer: bool)
         ensures { self.new ≡ left outer self.old }
@@ -238,7 +239,8 @@ impl Collector {
         }
     }
 
-    /// A root visitor more: what leaving has to restore. The first cause where it has failed, and Open where a visitor is out.
+    /// One more root visitor. It returns the flag that `leave` restores, the first cause where the collector
+    /// has failed, or `Open` where a visitor is open.
     pub(crate) fn begin(&mut self) -> Result<bool, Refusal>
         ensures { Begins self.old result self.new }
     {
@@ -251,7 +253,7 @@ impl Collector {
         Ok(self.kind.begin())
     }
 
-    /// The first cause where it has failed, and Open where a visitor is out.
+    /// The first cause where the collector has failed, `Open` where a visitor is open, and otherwise `Ok`.
     pub(crate) fn check(&self) -> Result<(), Refusal>
         ensures { Settles self.now result }
     {
@@ -264,7 +266,8 @@ impl Collector {
         Ok(())
     }
 
-    /// The same of a flame graph's collector. One of held bytes counts as failed with Open.
+    /// Checks the collector of a flame graph: the first cause where it has failed, `Open` where a visitor is
+    /// open, and otherwise `Ok`. A collector of held bytes counts as failed with `Open`.
     pub(crate) fn check_graph(&self) -> Result<(), Refusal>
         ensures { Settles (as_graph self.now) result }
     {
@@ -285,7 +288,8 @@ impl Collector {
         }
     }
 
-    /// The graph and the warnings of a flame graph's collector. One of held bytes counts as failed with Open.
+    /// The graph and the warnings of a flame graph's collector. A collector of held bytes counts as failed with
+    /// `Open`.
     pub(crate) fn finish(&self) -> Result<FlameGraphOutput, Refusal>
         ensures ends { Ends IsProfile (as_graph self.now) result }
         ensures total { IfOk result (λ o. total o.graph < 2 ^ 63) }

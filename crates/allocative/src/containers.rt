@@ -17,8 +17,8 @@ use indexmap::{IndexMap, IndexSet};
 use std::collections::{BTreeMap, BTreeSet, HashMap, HashSet};
 use std::hash::Hash;
 
-/// The items of a slice, as `Items(slice)`: one entry with the item's name and all bytes where the items need no drop or have
-/// size 0, else what each item shows. It is refused as `Visitor::visit_slice` is.
+/// The items of a slice, as `Items(slice)`: one entry with the item's name and all bytes where the items need
+/// no drop or have size 0, otherwise what each item shows. The errors are those of `Visitor::visit_slice`.
 ///
 /// ```
 /// Unique("ptr", 8, Items(self.rows.as_slice())).enter(visitor)
@@ -54,7 +54,8 @@ impl<'a, T: Allocative> Part for Each<&'a Vec<T>> {
     }
 }
 
-/// The items of a sequence that lies in two slices, as `Cut(front, back)`. It is refused as `Visitor::visit_slice` is of each.
+/// The items of a sequence that is in two slices, as `Cut(front, back)`. The errors are those of
+/// `Visitor::visit_slice` for each slice.
 #[derive(Drop)]
 pub struct Cut<V>(pub V, pub V);
 
@@ -66,7 +67,8 @@ impl<'a, T: Allocative + Described> Part for Cut<&'a [T]> {
     }
 }
 
-/// A field under the key for each item, as `FieldEach(key, items)`. Those of a hashed set stand in any order.
+/// A field under the key for each item, as `FieldEach(key, items)`. The fields of a hashed set come in any
+/// order.
 ///
 /// ```
 /// Inside("Tags", 24, FieldEach("tag", self.tags.as_slice())).enter(visitor)
@@ -115,7 +117,8 @@ impl<'a, K: IntoKey, T: Allocative + Described + Eq + Hash> Part for FieldEach<K
     }
 }
 
-/// The fields `key` and `value` for each pair of a map, as `Pairs(map)`. Those of a hashed map stand in any order.
+/// The fields `key` and `value` for each pair of a map, as `Pairs(map)`. The fields of a hashed map come in any
+/// order.
 ///
 /// ```
 /// Inside("Index", 24, Pairs(&self.by_name)).enter(visitor)
@@ -153,13 +156,13 @@ impl<'a, K: Allocative + Described + Eq + Hash, V: Allocative + Described> Part
     }
 }
 
-/// The entry `unused_capacity` of the bytes of so many unused places. Where an item has no size, or the bytes do not fit, it is
-/// refused with TooLarge.
+/// The entry `unused_capacity`, with the bytes of `count` unused places. Where an item has no size, or the
+/// bytes do not fit, `enter` returns `TooLarge`.
 #[derive(Drop)]
 pub struct Unused {
     /// The declared size of an item in bytes.
     pub item_size: Option<usize>,
-    /// The count of the unused places.
+    /// The number of unused places.
     pub count: usize,
 }
 
@@ -176,8 +179,9 @@ impl Part for Unused {
     }
 }
 
-/// The buffer of a container on the heap: nothing where its items have size 0 or it has no room, else a unique entry `ptr` of 8
-/// bytes, and in it the items and the entry of the unused places. Where an item has no size it is refused with TooLarge.
+/// The buffer of a container on the heap: nothing where its items have size 0, or where `count` and `capacity`
+/// are both 0; otherwise a unique entry `ptr` of 8 bytes, with the items and the entry of the unused places
+/// inside it. Where an item has no size, `enter` returns `TooLarge`.
 ///
 /// ```
 /// let buffer = Buffer {
@@ -194,9 +198,9 @@ pub struct Buffer<P> {
     pub items: P,
     /// The declared size of an item in bytes.
     pub item_size: Option<usize>,
-    /// The count of the items.
+    /// The number of items.
     pub count: usize,
-    /// The count of the items that there is room for.
+    /// The number of items that there is room for.
     pub capacity: usize,
 }
 
@@ -221,8 +225,8 @@ impl<P: Part> Part for Buffer<P> {
     }
 }
 
-/// The data of a container in order of insertion: a unique entry `data` of 8 bytes, and in it the items and the entry of the
-/// unused places.
+/// The data of a container in insertion order: a unique entry `data` of 8 bytes, with the items and the entry
+/// of the unused places inside it.
 #[derive(Drop)]
 pub struct IndexData<P>(pub P, pub Unused);
 
@@ -234,8 +238,8 @@ impl<P: Part> Part for IndexData<P> {
     }
 }
 
-/// The buffer of a text: a unique entry `ptr` of 8 bytes, in it an entry `capacity`, and in that an entry `u8` of the text's bytes
-/// and an entry `unused_capacity`.
+/// The buffer of a text: a unique entry `ptr` of 8 bytes, inside it an entry `capacity`, and inside that an
+/// entry `u8` of the text's bytes and an entry `unused_capacity`.
 ///
 /// ```
 /// Inside("Name", 24, Text(&self.name)).enter(visitor)
@@ -255,8 +259,8 @@ impl<'a> Part for Text<'a> {
     }
 }
 
-/// The table of the places of so many items: nothing where there is none, else a unique entry `raw_table` of 8 bytes, and in it an
-/// entry `alloc` of the table's bytes.
+/// The hash table of some number of items: nothing where that is 0, otherwise a unique entry `raw_table` of 8
+/// bytes, with an entry `alloc` of the table's bytes inside it.
 #[derive(Drop)]
 pub struct Table(pub usize);
 

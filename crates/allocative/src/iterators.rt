@@ -1,4 +1,4 @@
-//! What containers of pairs and of keys enter by: the items that an iterator gives.
+//! What containers of pairs and of keys enter: the items that an iterator gives.
 #![tactic(auto, using(crate::proofs::Showing::showing))]
 
 ghost use Rattle.std.specs.Prelude.{codes, ◌≡◌, Some};
@@ -19,14 +19,14 @@ use allocative_described::Described;
 use allocative_graph::key::Key;
 use allocative_graph::refusal::Refusal;
 
-// One more than a count. None where that does not fit.
+// A count plus one, or `None` where it does not fit.
 fn one_more(count: Option<usize>) -> Option<usize>
     ensures { result ≡ size_sum count (Some 1) }
 {
     count?.checked_add(1)
 }
 
-// How many items the iterator gives. None where the count does not fit.
+// The number of items that the iterator gives, or `None` where it does not fit.
 fn count_of<A: Drop, I: Iterator<Item = A> + Drop>(items: I) -> Option<usize>
     requires can { I.can_next items }
     requires ends { IsFinite (I.remaining items) }
@@ -40,7 +40,7 @@ fn count_of<A: Drop, I: Iterator<Item = A> + Drop>(items: I) -> Option<usize>
 }
 
 impl Visitor<'_> {
-    // What each item that the iterator gives shows, in order.
+    /// What each item that the iterator gives shows, in order.
     pub(crate) fn visit_items<'a, T: Allocative + 'a, I: Iterator<Item = &'a T> + Drop>(
         &mut self,
         items: I,
@@ -58,10 +58,12 @@ impl Visitor<'_> {
         Ok(())
     }
 
-    /// One inline entry with the item's name and the bytes of all items where the items need no drop or have size 0, else
-    /// what each item shows. A collector that has failed answers its first cause; the entry is TooLarge where the item has no
-    /// size, where the count does not fit, or where the bytes do not, and else refused as `enter` is. The iterator is one that
-    /// can be asked for its next item and that ends.
+    /// One inline entry with the item's name and the bytes of all items where the items need no drop or have
+    /// size 0, otherwise what each item shows.
+    ///
+    /// A collector that has failed returns its first cause. The entry is `TooLarge` where the item has no size,
+    /// where the count does not fit, or where the bytes do not; its other errors are those of `enter`. The
+    /// iterator is one that can be asked for its next item and that ends.
     pub fn visit_iter<'a, T: Allocative + Described + 'a, I: Iterator<Item = &'a T> + Drop>(
         &mut self,
         items: I,
@@ -94,7 +96,7 @@ impl Visitor<'_> {
         Ok(())
     }
 
-    // The same as `visit_iter` with entries of a key and a value: the slice of the values.
+    /// The slice of the values of the entries that the iterator gives, as `visit_iter` shows a slice of items.
     pub(crate) fn visit_values<
         'a,
         T: Allocative + Described + 'a,
@@ -111,7 +113,7 @@ impl Visitor<'_> {
         self.visit_counted::<T>(Key::for_type_name::<T>(), count)
     }
 
-    // A field under the name for each item that the iterator gives, in order.
+    /// A field under the name for each item that the iterator gives, in order.
     pub(crate) fn visit_fields<
         'a,
         T: Allocative + Described + 'a,
@@ -129,7 +131,7 @@ impl Visitor<'_> {
         Ok(())
     }
 
-    // A field `key` for each key that the iterator gives, in order.
+    /// A field `key` for each key that the iterator gives, in order.
     pub(crate) fn visit_keys<'a, K: Allocative + Described + 'a, I: Iterator<Item = &'a K> + Drop>(
         &mut self,
         keys: I,
@@ -154,7 +156,7 @@ impl Visitor<'_> {
         self.visit_field(Key::new("value"), value)
     }
 
-    // The fields `key` and `value` for each pair that the iterator gives, in order.
+    /// The fields `key` and `value` for each pair that the iterator gives, in order.
     pub(crate) fn visit_pairs<
         'a,
         K: Allocative + Described + 'a,
@@ -173,10 +175,12 @@ impl Visitor<'_> {
         Ok(())
     }
 
-    /// The inline entry `data` of 8 bytes, and in it the fields `key` and `value` for each pair that the iterator gives.
+    /// The inline entry `data` of 8 bytes, with the fields `key` and `value` for each pair that the
+    /// iterator gives inside it.
     ///
-    /// A collector that has failed answers its first cause. The entry is refused as `enter` is, and the fields as
-    /// `visit_field` is. The iterator is one that can be asked for its next item and that ends.
+    /// A collector that has failed returns its first cause. The errors of the entry are those of
+    /// `enter`, and the errors of the fields those of `visit_field`. The iterator is one that can be
+    /// asked for its next item and that ends.
     pub fn visit_generic_map_fields<
         'a,
         K: Allocative + Described + 'a,
@@ -195,8 +199,8 @@ impl Visitor<'_> {
         answer
     }
 
-    /// The inline entry `data` of 8 bytes, and in it a field `key` for each key that the iterator gives. It is refused as
-    /// `visit_generic_map_fields` is.
+    /// The inline entry `data` of 8 bytes, with a field `key` for each key that the iterator gives inside it.
+    /// The errors are those of `visit_generic_map_fields`.
     pub fn visit_generic_set_fields<
         'a,
         K: Allocative + Described + 'a,

@@ -1,7 +1,8 @@
-//! Collects what values declare of their memory, and shows it as flame graphs.
+//! Collects what values declare about their memory, and shows it as flame graphs.
 //!
-//! Values that implement `Allocative` are visited; each enters what it holds at a `Visitor`. A `FlameGraphBuilder` collects
-//! the entries and finishes as a `FlameGraph`, whose text `flamegraph.pl` reads, with a list of warnings.
+//! Values that implement `Allocative` are visited, and each enters what it holds at a `Visitor`. A
+//! `FlameGraphBuilder` collects the entries and finishes as a `FlameGraph`, whose text `flamegraph.pl`
+//! reads, with a list of warnings.
 #![tactic(auto)]
 
 pub mod allocative_trait;
@@ -46,7 +47,7 @@ pub use allocative_graph::laws::{
 pub use allocative_graph::refusal::Refusal;
 pub use allocative_graph::shared::{IdArc, IdMaker, IdRc, Identity};
 
-/// The [`Key`](crate::Key) of an identifier's text, as `ident_key!(count)` for the key of `count`.
+/// The [`Key`](crate::Key) of an identifier's text: `ident_key!(count)` is the key of `count`.
 #[macro_export]
 macro_rules! ident_key {
     ($name:ident) => {

@@ -10,10 +10,11 @@ use allocative_described::Described;
 use allocative_graph::key::Key;
 use allocative_graph::refusal::Refusal;
 
-/// A value under a name: one inline entry with the key, of the value's declared size in bytes, and in it what the value shows.
+/// A value under a name: one inline entry with the key, of the value's declared size in bytes, with what
+/// the value shows inside it.
 ///
-/// Roots of one type stand apart so in a graph. The name changes neither the total of a graph nor held bytes, where the value shows
-/// its declared size itself.
+/// It keeps roots of one type apart in a graph. The name changes neither the total of a graph nor held bytes,
+/// where the value itself shows its declared size.
 ///
 /// ```
 /// let output = profile_value(alloc, &Named(Key::new("open"), 3u32))?;

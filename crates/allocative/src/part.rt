@@ -1,4 +1,4 @@
-//! Parts: what a value shows, as values that enter it.
+//! Parts: values that say what another value shows, and enter it.
 //!
 //! An implementation of `Allocative` builds one part that mirrors its `may_show`, and enters it.
 #![tactic(auto, using(crate::proofs::Showing::showing))]
@@ -18,11 +18,12 @@ use allocative_graph::refusal::Refusal;
 use allocative_graph::shared::Identity;
 use either::Either;
 
-/// What a part takes for its key: a text, as `Field("name", &self.name)`, or a key, as `Inside(Key::for_type_name::<T>(), 8, ())`.
+/// The key that a part takes: a text, as in `Field("name", &self.name)`, or a key, as in
+/// `Inside(Key::for_type_name::<T>(), 8, ())`.
 pub trait IntoKey: Drop {
     ghost key: { Self → path.Key };
 
-    /// The key of the text, or the key itself. It takes no memory.
+    /// The key of the text, or the key itself. It allocates nothing.
     fn into_key(self) -> Key
         ensures { result ≡ key self };
 }
@@ -45,17 +46,18 @@ impl IntoKey for &'static str {
 
 /// Something that a value shows.
 ///
-/// A reference `&value` is the part of what the value shows, with no entry of its own. `()` is no entry, a tuple is its parts in
-/// order, an `Option` is its part or nothing, and an `Either` is the part that is there.
+/// A reference `&value` is the part of what the value shows, with no entry of its own. `()` is no entry, a
+/// tuple is its parts in order, an `Option` is its part or nothing, and an `Either` is the part that is there.
 pub trait Part: Drop {
     ghost may_show: { Self → Forest → Type 0 };
 
-    /// Enters it at the visitor.
+    /// Enters the part at the visitor.
     ///
-    /// Each entry is refused as `Visitor::enter` says. An `Err` is the collector's first cause, and then the collector has failed.
-    /// After `Ok` the collector has one forest more that the part may show; or it has failed, or has more visitors out than
-    /// before, where a value's own visit hid a refusal or forgot a visitor. A collector that had failed stays as it was. The
-    /// visitor stands where it stood.
+    /// The errors of each entry are those of `Visitor::enter`. An `Err` is the collector's first cause, and
+    /// then the collector has failed. After `Ok` the collector has one more forest, which the part may show; or
+    /// a value's own visit hid an error, and the collector has failed; or a value's own visit forgot a visitor,
+    /// and the collector has more open visitors than before. A collector that had failed stays as it was. The
+    /// visitor stays where it was.
     fn enter(self, visitor: &mut Visitor<'_>) -> Result<(), Refusal>
         ensures { Entered (may_show self) visitor.old visitor.new result };
 }
@@ -79,7 +81,7 @@ impl<'a, T: Allocative> Part for &'a T {
     }
 }
 
-/// One inline entry under a key, of a size in bytes, and in it a part.
+/// One inline entry under a key, of a size in bytes, with a part inside it.
 ///
 /// ```
 /// let header = Inside("header", 16, ());
@@ -100,7 +102,8 @@ impl<K: IntoKey, P: Part> Part for Inside<K, P> {
     }
 }
 
-/// One inline entry under a key, of a declared size in bytes, and in it a part. Where there is no size it is refused with TooLarge.
+/// One inline entry under a key, of a declared size in bytes, with a part inside it. Where there is no size,
+/// `enter` returns `TooLarge`.
 ///
 /// ```
 /// let first = Field("first", &self.first);
@@ -121,7 +124,8 @@ impl<K: IntoKey, P: Part> Part for Declared<K, P> {
     }
 }
 
-/// One unique entry under a key, of a size in bytes, and in it a part: a pointer, and what it alone points to.
+/// One unique entry under a key, of a size in bytes, with a part inside it: a pointer, and what only it points
+/// to.
 ///
 /// ```
 /// Inside("Handle", 8, Unique("ptr", 8, &*self.boxed)).enter(visitor)
@@ -141,7 +145,8 @@ impl<K: IntoKey, P: Part> Part for Unique<K, P> {
     }
 }
 
-/// A field of a type that is described, as `Field(key, &value)`: one inline entry of its declared size, and in it what it shows.
+/// A field of a type that is `Described`, as `Field(key, &value)`: one inline entry of its declared size, with
+/// what the field shows inside it.
 ///
 /// ```
 /// let name = Field("name", &self.name);
@@ -160,8 +165,9 @@ impl<'a, K: IntoKey, T: Allocative + Described> Part for Field<K, &'a T> {
     }
 }
 
-/// One entry of a pointer to a shared value, and where the value's identity was not met before a part as its content, the paths
-/// of which start at the root. The collector of held bytes enters neither.
+/// One entry of a pointer to a shared value. Where the value's identity was not met before, a
+/// part is its content, whose paths start at the root. The collector of held bytes enters neither
+/// the pointer nor the content.
 ///
 /// ```
 /// let pointer = Shared {
@@ -178,9 +184,9 @@ pub struct Shared<P> {
     pub key: Key,
     /// The pointer's bytes.
     pub size: usize,
-    /// Whose content it is.
+    /// The identity of the shared value.
     pub identity: Identity,
-    /// What is shown where the identity was not met.
+    /// The content, which is shown where the identity was not met.
     pub content: P,
 }
 

@@ -1,4 +1,4 @@
-//! What containers of items in a row enter by: slices, and buffers with room for more.
+//! What containers of items in a row enter: slices, and buffers with unused room.
 #![tactic(auto, using(crate::proofs::Showing::showing))]
 
 ghost use Rattle.std.specs.Prelude.{codes, ◌≡◌, ◌≤◌, ◌-◌, length, Some};
@@ -15,14 +15,15 @@ use allocative_described::Described;
 use allocative_graph::key::Key;
 use allocative_graph::refusal::Refusal;
 
-// The bytes of `count` items. None where an item has no size, where the count does not fit, or where the bytes do not.
+/// The bytes of `count` items. `None` where an item has no size, where there is no count, or
+/// where the bytes do not fit.
 pub(crate) fn bytes_of<T: Described>(count: Option<usize>) -> Option<usize>
     ensures { result ≡ size_product T.size count }
 {
     T::size()?.checked_mul(count?)
 }
 
-// Whether the items of a slice are shown one by one: where they need a drop and have a size other than 0.
+/// Whether the items of a slice are shown one by one: where they need a drop and have a size other than 0.
 pub(crate) fn are_shown_each<T: Described>() -> bool
     ensures { result ≡ are_shown_each T.needs_drop T.size }
 {
@@ -33,7 +34,7 @@ pub(crate) fn are_shown_each<T: Described>() -> bool
 }
 
 impl Visitor<'_> {
-    // One inline entry of a size; TooLarge where there is none.
+    /// One inline entry of a size. It is `TooLarge` where there is no size.
     #[inline(always)]
     pub(crate) fn visit_sized(&mut self, name: Key, size: Option<usize>) -> Result<(), Refusal>
         ensures entered { Entered (Field name size Nothing) self.old self.new result }
@@ -44,7 +45,7 @@ impl Visitor<'_> {
         Ok(())
     }
 
-    // One inline entry of the bytes of `count` items; TooLarge where there is no count.
+    /// One inline entry of the bytes of `count` items. It is `TooLarge` where `bytes_of` returns `None`.
     pub(crate) fn visit_counted<T: Described>(
         &mut self,
         name: Key,
@@ -56,7 +57,8 @@ impl Visitor<'_> {
         self.visit_sized(name, bytes_of::<T>(count))
     }
 
-    // One inline entry of the bytes of `count` unused places.
+    /// One inline entry of the bytes of `count` unused places. It is `TooLarge` where `bytes_of` returns
+    /// `None`.
     pub(crate) fn visit_unused<T: Described>(&mut self, count: usize) -> Result<(), Refusal>
         ensures entered { Entered (bytes_shown (codes "unused_capacity") T.size count) self.old self.new result }
         ensures exact { MakesPlan (one (codes "unused_capacity") (size_product T.size (Some count))) self.old self.new result }
@@ -77,9 +79,11 @@ impl Visitor<'_> {
         Ok(())
     }
 
-    /// One inline entry with the item's name and all bytes where the items need no drop or have size 0, else what each
-    /// item shows. A collector that has failed answers its first cause; the entry is TooLarge where the item has no size or the
-    /// bytes do not fit, and else refused as `enter` is.
+    /// One inline entry with the item's name and all bytes where the items need no drop or have size 0,
+    /// otherwise what each item shows.
+    ///
+    /// A collector that has failed returns its first cause. The entry is `TooLarge` where the item has no size
+    /// or the bytes do not fit; its other errors are those of `enter`.
     pub fn visit_slice<T: Allocative + Described>(&mut self, items: &[T]) -> Result<(), Refusal>
         ensures entered { Entered (slice_shows T.name T.size T.needs_drop T.may_show items.now) self.old self.new result }
         ensures kept { Keeps self.old self.new result }
@@ -91,7 +95,7 @@ impl Visitor<'_> {
         self.visit_counted::<T>(Key::for_type_name::<T>(), Some(items.len()))
     }
 
-    // A field `data` for each item, in order.
+    /// A field `data` for each item, in order.
     pub(crate) fn visit_data<T: Allocative + Described>(
         &mut self,
         items: &[T],
@@ -106,9 +110,11 @@ impl Visitor<'_> {
         Ok(())
     }
 
-    /// One inline entry with the item's name and the bytes of all items, and in it a field `data` for each item.
-    /// A collector that has failed answers its first cause; the entry is TooLarge where the item has no size or the bytes do
-    /// not fit, also with no item, and else refused as `enter` is.
+    /// One inline entry with the item's name and the bytes of all items, with a field `data` for each item
+    /// inside it.
+    ///
+    /// A collector that has failed returns its first cause. The entry is `TooLarge` where the item has no size,
+    /// even with no items, or where the bytes do not fit; its other errors are those of `enter`.
     pub fn visit_slice_of<T: Allocative + Described>(&mut self, items: &[T]) -> Result<(), Refusal>
         ensures entered { Entered (slice_of T.name T.size T.may_show items.now) self.old self.new result }
         ensures first { MakesFirst T.name (size_product T.size (Some (length items.now))) self.old self.new result }
@@ -123,7 +129,7 @@ impl Visitor<'_> {
         answer
     }
 
-    // What the slice of the items shows, and an entry of the bytes of the room that `capacity` leaves.
+    // What the slice of the items shows, followed by an entry of the bytes of the room that `capacity` leaves.
     fn visit_with_room<T: Allocative + Described>(
         &mut self,
         items: &[T],
@@ -137,11 +143,12 @@ impl Visitor<'_> {
         self.visit_unused::<T>(capacity - items.len())
     }
 
-    /// The entry `capacity` of the bytes of `capacity` items, and in it what the slice of the items shows and an entry
-    /// `unused_capacity` of the bytes of the room that is left. `capacity` is at least the count of the items.
+    /// The entry `capacity` of the bytes of `capacity` items. Inside it are what the slice of the items
+    /// shows and an entry `unused_capacity` of the bytes of the room that is left. `capacity` is at
+    /// least the number of items.
     ///
-    /// A collector that has failed answers its first cause. Each entry is TooLarge where an item has no size or its bytes do
-    /// not fit, and else refused as `enter` is.
+    /// A collector that has failed returns its first cause. Each entry is `TooLarge` where an item has no size
+    /// or its bytes do not fit; its other errors are those of `enter`.
     pub fn visit_vec_like_body<T: Allocative + Described>(
         &mut self,
         items: &[T],

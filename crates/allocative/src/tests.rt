@@ -1,4 +1,5 @@
-//! Implementations that forget a visitor. Parts forget none, so that they can be written inside this crate alone.
+//! Implementations that forget a visitor. Parts forget none, so such implementations can be
+//! written only inside this crate.
 #![tactic(auto, using(crate::proofs::Showing::showing))]
 
 ghost use Rattle.std.specs.Prelude.{codes, None};
@@ -55,7 +56,7 @@ impl Allocative for ForgetsContent {
     }
 }
 
-// Forgets a nested visitor, and then meets TooLarge.
+// Forgets a nested visitor, and then returns `TooLarge`.
 #[derive(Drop)]
 struct ForgetsFirst;
 
@@ -68,7 +69,7 @@ impl Allocative for ForgetsFirst {
     }
 }
 
-// Asserts that the root's visit, and the builder from then on, are refused so.
+// Asserts that visiting the root, and the builder from then on, return this error.
 fn assert_refused(
     rt: &impl Abort,
     alloc: Global,

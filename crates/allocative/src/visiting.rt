@@ -1,4 +1,4 @@
-//! What implementations enter by: entries with their parts.
+//! What implementations enter: entries with their parts.
 #![tactic(auto, using(crate::proofs::Showing::showing))]
 
 ghost use Rattle.std.specs.Prelude.{codes, length, Some};
@@ -15,7 +15,8 @@ use allocative_graph::key::Key;
 use allocative_graph::refusal::Refusal;
 
 impl Visitor<'_> {
-    /// One inline entry of the declared name and size of `T`; TooLarge where there is no size, and else refused as `enter` is.
+    /// One inline entry of the declared name and size of `T`. It is `TooLarge` where there is no size; its
+    /// other errors are those of `enter`.
     #[inline(always)]
     pub fn visit_simple_sized<T: Described>(&mut self) -> Result<(), Refusal>
         ensures entered { Entered (Field T.name T.size Nothing) self.old self.new result }
@@ -24,10 +25,10 @@ impl Visitor<'_> {
         self.visit_sized(Key::for_type_name::<T>(), T::size())
     }
 
-    /// One inline entry of the field's declared size in bytes, and in it what the field shows.
+    /// One inline entry of the field's declared size in bytes, with what the field shows inside it.
     ///
-    /// A collector that has failed answers its first cause. The entry is TooLarge where there is no size, and else refused as
-    /// `enter` is; the field's own refusals come after it.
+    /// A collector that has failed returns its first cause. The entry is `TooLarge` where there is no size; its
+    /// other errors are those of `enter`. The field's own errors come after it.
     pub fn visit_field<T: Allocative + Described>(
         &mut self,
         name: Key,
@@ -42,11 +43,11 @@ impl Visitor<'_> {
         answer
     }
 
-    /// One inline entry of `size` bytes, and in it what the closure enters.
+    /// One inline entry of `size` bytes, with what the closure enters inside it.
     ///
-    /// A collector that has failed answers its first cause, and the entry is refused as `enter` is. Where the closure answers
-    /// Err the collector has failed afterwards: with the closure's refusal, or with the cause that it had failed with before.
-    /// The closure hands its visitor back at the place where it got it.
+    /// A collector that has failed returns its first cause, and the errors of the entry are those of `enter`.
+    /// Where the closure returns `Err`, the collector has failed afterwards: with the closure's error, or with
+    /// the cause that it had failed with before. The closure leaves its visitor where it was.
     pub fn visit_field_with<F: FnOnce(&mut Visitor<'_>) -> Result<(), Refusal>>(
         &mut self,
         name: Key,
@@ -65,7 +66,7 @@ impl Visitor<'_> {
         Ok(())
     }
 
-    /// One inline entry `str` of the text's length in bytes. It is refused as `enter` is.
+    /// One inline entry `str` of the text's length in bytes. The errors are those of `enter`.
     pub fn visit_str(&mut self, text: &str) -> Result<(), Refusal>
         ensures entered { Entered (Inside (codes "str") (length text.now) Nothing) self.old self.new result }
         ensures exact { MakesPlan (one (codes "str") (Some (length text.now))) self.old self.new result }
@@ -73,7 +74,7 @@ impl Visitor<'_> {
         self.visit_simple(Key::new("str"), text.len())
     }
 
-    // One unique entry of a pointer, and in it what the object shows.
+    // One unique entry of a pointer, with what the object shows inside it.
     fn visit_object_pointer(&mut self, object: &dyn Allocative) -> Result<(), Refusal>
         ensures { Entered (InsideUnique (codes "ptr") 8 (may_show object.now)) self.old self.new result }
     {
@@ -83,10 +84,11 @@ impl Visitor<'_> {
         answer
     }
 
-    /// The inline entry `Box` of 8 bytes, in it the unique entry `ptr` of 8 bytes, and in that what the object shows.
+    /// The inline entry `Box` of 8 bytes, inside it the unique entry `ptr` of 8 bytes, and inside
+    /// that what the object shows.
     ///
-    /// A collector that has failed answers its first cause. Each entry is refused as `enter` is; the object's own refusals come
-    /// after them.
+    /// A collector that has failed returns its first cause. The errors of each entry are those of `enter`; the
+    /// object's own errors come after them.
     pub fn visit_boxed_object(&mut self, object: &dyn Allocative) -> Result<(), Refusal>
         ensures entered { Entered (Inside (codes "Box") 8 (InsideUnique (codes "ptr") 8 (may_show object.now))) self.old self.new result }
         ensures first { MakesFirst (codes "Box") (Some 8) self.old self.new result }

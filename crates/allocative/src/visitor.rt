@@ -1,4 +1,4 @@
-//! Visitors: places in a collector, under which values enter what they hold.
+//! Visitors: places in a collector where values enter what they hold.
 #![tactic(auto, using(crate::proofs::Showing::showing))]
 
 ghost use Rattle.std.specs.Prelude.{◌≡◌, IfOk, IfErr, IfSome, Ok, Err, Some, true, false};
@@ -20,10 +20,10 @@ use allocative_graph::key::Key;
 use allocative_graph::refusal::Refusal;
 use allocative_graph::shared::Identity;
 
-/// A place in a collector. Its end, or `exit`, is one step back.
+/// A place in a collector. Dropping it, or calling `exit`, goes one step back.
 pub struct Visitor<'a> {
     pub(crate) collector: &'a mut Collector,
-    // whether the visitor outside is a unique entry's, where the collector keeps no places
+    // Whether the visitor outside is that of a unique entry, where the collector keeps no places.
     outer_is_unique: bool,
 }
 
@@ -41,11 +41,11 @@ impl Drop for Visitor<'_> {
 }
 
 impl Collector {
-    /// Enters inline: one entry of `size` bytes more under the key, and a visitor at it.
+    /// Enters inline: one more entry of `size` bytes under the key, and a visitor at it.
     ///
-    /// A collector that has failed answers its first cause. Otherwise it is refused with TooLarge exactly where a bound would
-    /// be passed, tested before memory is asked for; a flame graph's collector may else be refused with Memory. After a
-    /// refusal the collector has failed.
+    /// A collector that has failed returns its first cause. Otherwise the call returns `TooLarge` exactly where
+    /// a bound would be exceeded, which is tested before anything is allocated. A flame graph's collector may
+    /// otherwise return `Memory`. After an error the collector has failed.
     #[inline(always)]
     pub(crate) fn enter(&mut self, key: Key, size: usize) -> Result<Visitor<'_>, Refusal>
         ensures* lent { sem 𝓛 (LendsEntered false key size self.entry result) }
@@ -60,7 +60,8 @@ impl Collector {
         })
     }
 
-    /// Enters as unique: the same as `enter` with a unique entry.
+    /// Enters as unique: one more unique entry of `size` bytes under the key, and a visitor at it. The
+    /// errors are those of `enter`.
     #[inline(always)]
     pub(crate) fn enter_unique(&mut self, key: Key, size: usize) -> Result<Visitor<'_>, Refusal>
         ensures* lent { sem 𝓛 (LendsEntered true key size self.entry result) }
@@ -75,7 +76,8 @@ impl Collector {
         })
     }
 
-    /// Enters inline with a declared size: the same as `enter`, and TooLarge where there is no size.
+    /// Enters inline with a declared size: one more entry of that size under the key, and a visitor at it. It
+    /// returns `TooLarge` where there is no size; the other errors are those of `enter`.
     #[inline(always)]
     pub(crate) fn enter_sized(
         &mut self,
@@ -94,13 +96,14 @@ impl Collector {
         })
     }
 
-    // A visitor at the content of a shared value, which `go_to_shared` said to be shown. It takes no memory.
+    /// A visitor at the content of a shared value, where `go_to_shared` returned that it is to be
+    /// shown. It allocates nothing.
     pub(crate) fn content(&mut self) -> Visitor<'_>
         ensures same_reference { result.collector.ghost_name ≡ self.entry.ghost_name }
         ensures outer { result.outer_is_unique ≡ false }
         ensures now { result.collector.now ≡ self.old }
     {
-        // a flame graph's collector alone shows contents, and it keeps its places itself
+        // Only a flame graph's collector shows contents, and it keeps its own places.
         let outer_is_unique = false;
         Visitor {
             collector: self,
@@ -108,7 +111,8 @@ impl Collector {
         }
     }
 
-    // One pointer more; a visitor at the shared value's content where it is to be shown, and else `Err(None)`.
+    // One more pointer, and a visitor at the content of the shared value where that is to be
+    // shown, otherwise `Err(None)`.
     fn enter_content(
         &mut self,
         key: Key,
@@ -131,7 +135,8 @@ impl Collector {
         }
     }
 
-    /// A visitor at the root. The first cause where the collector has failed, and Open where a visitor is out.
+    /// A visitor at the root. It returns the first cause where the collector has failed, and
+    /// `Open` where a visitor is open.
     pub(crate) fn root_visitor(&mut self) -> Result<Visitor<'_>, Refusal>
         ensures* lent { sem 𝓛 (LendsBegun self.entry result) }
         ensures same_reference { IfOk result (λ v. v.collector.ghost_name ≡ self.entry.ghost_name) }
@@ -145,7 +150,8 @@ impl Collector {
         })
     }
 
-    /// The same of a flame graph's collector. One of held bytes is Open.
+    /// A visitor at the root of a flame graph's collector. It returns the first cause where the collector has
+    /// failed, and `Open` where a visitor is open or the collector is that of held bytes.
     pub(crate) fn graph_root_visitor(&mut self) -> Result<Visitor<'_>, Refusal>
         ensures* lent { sem 𝓛 (LendsBegunGraph self.entry result) }
         ensures same_reference { IfOk result (λ v. v.collector.ghost_name ≡ self.entry.ghost_name) }
@@ -157,7 +163,7 @@ impl Collector {
     }
 }
 
-// The answer of `enter_content` as that of `enter_shared`.
+// The result of `enter_content` as that of `enter_shared`.
 fn turned_round<'a>(
     answer: Result<Visitor<'a>, Option<Refusal>>,
 ) -> Result<Option<Visitor<'a>>, Refusal>
@@ -171,7 +177,7 @@ fn turned_round<'a>(
 }
 
 impl Visitor<'_> {
-    // The collector, lent on.
+    // A mutable borrow of the collector.
     fn reborrow(&mut self) -> &mut Collector
         ensures* lent { sem 𝓛 (LendsCollector self.entry result) }
         ensures now { result.now ≡ self.old.collector.now }
@@ -179,14 +185,16 @@ impl Visitor<'_> {
         &mut *self.collector
     }
 
-    /// Enters inline: one entry of `size` bytes more under the key, and a nested visitor at it.
+    /// Enters inline: one more entry of `size` bytes under the key, and a nested visitor at it.
     ///
-    /// A collector that has failed returns its first cause. Otherwise it is refused with TooLarge exactly where a bound would
-    /// be passed, tested before memory is asked for; a flame graph's collector may else be refused with Memory. After a
-    /// refusal the collector has failed. After Ok this visitor ends with what the nested one leaves; all else of it stays.
+    /// A collector that has failed returns its first cause. Otherwise the call returns `TooLarge` exactly where
+    /// a bound would be exceeded, which is tested before anything is allocated. A flame graph's collector may
+    /// otherwise return `Memory`. After an error the collector has failed. After `Ok` this visitor ends with
+    /// what the nested one leaves; nothing else of it changes.
     ///
-    /// An implementation of `Allocative` enters a part, as `Inside`, which the checker follows in every caller. After this call a
-    /// caller's proof knows what is returned and the nested visitor, and of this one only what the starred clause says by hand.
+    /// An implementation of `Allocative` enters a part, such as `Inside`, which the checker follows in every
+    /// caller. After this call a caller's proof knows the result and the nested visitor. Of this visitor it
+    /// knows only what the starred clause says, which is used by hand.
     pub fn enter(&mut self, key: Key, size: usize) -> Result<Visitor<'_>, Refusal>
         ensures* lent { sem 𝓛 (LendsNested false key size self.entry result) }
         ensures entered { IfOk result (Nests false key size self.old) }
@@ -195,7 +203,8 @@ impl Visitor<'_> {
         self.reborrow().enter(key, size)
     }
 
-    /// Enters as unique: one unique entry of `size` bytes more under the key, and a nested visitor at it. It is refused as `enter` is.
+    /// Enters as unique: one more unique entry of `size` bytes under the key, and a nested visitor at it. The
+    /// errors are those of `enter`.
     pub fn enter_unique(&mut self, key: Key, size: usize) -> Result<Visitor<'_>, Refusal>
         ensures* lent { sem 𝓛 (LendsNested true key size self.entry result) }
         ensures entered { IfOk result (Nests true key size self.old) }
@@ -204,10 +213,11 @@ impl Visitor<'_> {
         self.reborrow().enter_unique(key, size)
     }
 
-    /// Enters inline with a declared size: one entry of `size` bytes more under the key, and a nested visitor at it.
+    /// Enters inline with a declared size: one more entry of `size` bytes under the key, and a nested visitor
+    /// at it.
     ///
-    /// Where there is no size it is refused with TooLarge, and else as `enter` is. After Ok this visitor ends with what the
-    /// nested one leaves; all else of it stays.
+    /// Where there is no size the call returns `TooLarge`; the other errors are those of `enter`. After `Ok`
+    /// this visitor ends with what the nested one leaves; nothing else of it changes.
     pub fn enter_sized(&mut self, key: Key, size: Option<usize>) -> Result<Visitor<'_>, Refusal>
         ensures* lent { sem 𝓛 (LendsNestedSized key size self.entry result) }
         ensures entered { IfOk result (NestsSized key size self.old) }
@@ -216,8 +226,9 @@ impl Visitor<'_> {
         self.reborrow().enter_sized(key, size)
     }
 
-    /// Enters inline with the declared name and size of `T`. Where there is no size it is refused with TooLarge, and else as `enter`
-    /// is. After Ok this visitor ends with what the nested one leaves; all else of it stays.
+    /// Enters inline with the declared name and size of `T`. Where there is no size the call returns
+    /// `TooLarge`; the other errors are those of `enter`. After `Ok` this visitor ends with what the nested one
+    /// leaves; nothing else of it changes.
     pub fn enter_self_sized<T: Described>(&mut self) -> Result<Visitor<'_>, Refusal>
         ensures* lent { sem 𝓛 (LendsNestedSized T.name T.size self.entry result) }
         ensures entered { IfOk result (NestsSized T.name T.size self.old) }
@@ -235,13 +246,16 @@ impl Visitor<'_> {
         self.enter_self_sized::<T>()
     }
 
-    /// One pointer of `size` bytes more to the shared value that has the identity `id`.
+    /// One more pointer of `size` bytes to the shared value with the identity `id`.
     ///
-    /// In a flame graph's collector the answer is a visitor at the value's content, whose paths start anew at the root,
-    /// exactly where the identity was not met before; in the collector of held bytes it is always None, and nothing is added.
-    /// A collector that has failed answers its first cause; otherwise the call is refused with TooLarge exactly where the
-    /// bound would be passed, which is tested before the identity is looked at, and else with Memory. After a refusal the
-    /// collector has failed. After Some this visitor ends with what the content's one leaves; all else of it stays.
+    /// A flame graph's collector returns a visitor at the value's content, whose paths start at the root,
+    /// exactly where the identity was not met before, and `None` where it was. The collector of held bytes
+    /// always returns `None`, and adds nothing.
+    ///
+    /// A collector that has failed returns its first cause. Otherwise a flame graph's collector returns
+    /// `TooLarge` exactly where the bound would be exceeded, which is tested before the identity is looked up,
+    /// and may otherwise return `Memory`. After an error the collector has failed. After `Some` this visitor
+    /// ends with what the visitor at the content leaves; nothing else of it changes.
     ///
     /// An implementation of `Allocative` enters the part `Shared`, which the checker follows in every caller.
     pub fn enter_shared(
@@ -260,7 +274,7 @@ impl Visitor<'_> {
 }
 
 impl Visitor<'_> {
-    /// One step back, as the end of its scope. It takes no memory and never refuses.
+    /// Goes one step back, as the end of its scope does. It allocates nothing and never fails.
     #[inline(always)]
     pub fn exit(self)
         ensures { Exits self.entry self.exit.0.now }
@@ -268,14 +282,15 @@ impl Visitor<'_> {
         drop(self);
     }
 
-    /// A collector that has not failed fails with `refusal`; one that has stays as it is. Answers the first cause.
+    /// A collector that has not failed fails with `refusal`; one that has failed stays as it is.
+    /// It returns the first cause.
     pub fn refuse(&mut self, refusal: Refusal) -> Refusal
         ensures { Refused refusal self.old self.new result }
     {
         self.collector.refuse(refusal)
     }
 
-    /// One inline entry of `size` bytes. It is refused as `enter` is.
+    /// One inline entry of `size` bytes. The errors are those of `enter`.
     #[inline(always)]
     pub fn visit_simple(&mut self, key: Key, size: usize) -> Result<(), Refusal>
         ensures entered { Entered (Inside key size Nothing) self.old self.new result }
@@ -286,7 +301,7 @@ impl Visitor<'_> {
         Ok(())
     }
 
-    // What an object shows: the one call through the `dyn`, whose clauses callers cite.
+    /// What an object shows. This is the only call through the `dyn`, whose clauses callers cite.
     pub(crate) fn visit_object(&mut self, object: &dyn Allocative) -> Result<(), Refusal>
         ensures { Entered (may_show object.now) self.old self.new result }
     {

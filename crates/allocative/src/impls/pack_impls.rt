@@ -1,4 +1,4 @@
-//! What the types of the pack's crates show.
+//! What the types of the crates that this one depends on show.
 mod either_type;
 mod error;
 mod index_map;

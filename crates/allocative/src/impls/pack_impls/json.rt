@@ -24,7 +24,7 @@ impl Allocative for Number {
     }
 }
 
-// The fields `key` and `value` for each member of an object, whose values have 32 bytes each.
+// The fields `key` and `value` for each member of an object. Each value has 32 bytes.
 #[derive(Drop)]
 struct Members<M>(M);
 
@@ -73,10 +73,10 @@ impl Allocative for Value {
     }
 }
 
-/// What a JSON map shows: one entry `Map`, in it a unique entry `data`, and in that the fields `key` and `value` of each
-/// pair, in the map's order.
+/// What a JSON map shows: one entry `Map`, inside it a unique entry `data`, and inside that the fields `key`
+/// and `value` of each pair, in the map's order.
 ///
-/// A collector that has failed returns its first cause; each entry is refused as `Visitor::enter` is.
+/// A collector that has failed returns its first cause. Each entry's errors are those of `Visitor::enter`.
 #[tactic(auto, using(crate::proofs::Showing::showing))]
 pub fn visit_json_map(visitor: &mut Visitor<'_>, map: &Map<String, Value>) -> Result<(), Refusal>
     ensures entered { Entered (map_shows (members_view map.now.entries)) visitor.old visitor.new result }

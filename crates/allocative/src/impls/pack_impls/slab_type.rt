@@ -1,4 +1,4 @@
-//! `Slab`: the buffer of its values, by rising key.
+//! `Slab`: the buffer of its values, in the order of their keys.
 #![tactic(auto, using(crate::proofs::Parts::parts))]
 
 ghost use Rattle.std.specs.Prelude.{codes};
@@ -14,7 +14,7 @@ use allocative_described::Described;
 use allocative_graph::refusal::Refusal;
 use slab::Slab;
 
-/// The slice of a slab's values, by rising key.
+/// The slice of a slab's values, in the order of their keys.
 #[derive(Drop)]
 pub struct Values<'a, T>(pub &'a Slab<T>);
 

@@ -1,4 +1,4 @@
-//! `SmallVec`: a field for each item, inside a pointer where the items lie in an allocation.
+//! `SmallVec`: a field for each item, inside a pointer where the items are in an allocation.
 #![tactic(auto, using(crate::proofs::Parts::parts))]
 
 ghost use Rattle.std.specs.Prelude.{codes};

@@ -1,4 +1,4 @@
-//! Values that are never dropped by themselves, and types that show nothing.
+//! Values that are not dropped automatically, and types that show nothing.
 #![tactic(auto, using(crate::proofs::Parts::parts))]
 
 ghost use Rattle.std.specs.Prelude.{codes};
@@ -24,7 +24,7 @@ impl<T: Allocative + Described> Allocative for ManuallyDrop<T> {
     }
 }
 
-// What it points to is no part of it.
+// What a reference points to is not part of it.
 impl<T> Allocative for &'static T {
     ghost may_show = { λ _. shows.Nothing };
 

@@ -1,4 +1,4 @@
-//! Whole numbers, those that are not zero, `bool` and the unit: one entry each.
+//! Whole numbers, numbers that are not zero, `bool` and the unit type: one entry each.
 #![tactic(auto, using(crate::proofs::Meaning::visited))]
 
 ghost use Rattle.std.specs.Prelude.{codes};

@@ -1,4 +1,4 @@
-//! Atomics: one entry each, by the declared size; none is read.
+//! Atomics: one entry each, of the declared size. No atomic is read.
 #![tactic(auto, using(crate::proofs::Meaning::visited))]
 
 ghost use Rattle.std.specs.Prelude.{codes};

@@ -1,4 +1,4 @@
-//! Times and their distances: one entry each.
+//! Times and durations: one entry each.
 #![tactic(auto, using(crate::proofs::Meaning::visited))]
 
 ghost use Rattle.std.specs.Prelude.{codes};

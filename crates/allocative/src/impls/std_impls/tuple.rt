@@ -1,4 +1,4 @@
-//! Tuples: an entry of its own for each field, named by its place.
+//! Tuples: one entry for each field, named by its position.
 #![tactic(auto, using(crate::proofs::Parts::parts))]
 
 ghost use Rattle.std.specs.Prelude.{codes};

@@ -1,4 +1,4 @@
--- `root_visitor` by hand: the collector is lent, and a root visitor may hold it.
+-- A hand-written proof of `root_visitor`: the collector is lent, and a root visitor may hold it.
 use Rattle.allocative.proofs.Lent.{◌≡◌, List, [], ◌∷◌, refl, sym, ap, subst, MutBor, proved, says_two, id⊢, ftrue, flft, named, Lfts, fact, tables, ‵, raw, ◌⊛◌, some, later, ◌$◌, ◌∵◌, !, qed, done, move, keep, drop, use1, use2, split, join, fsplit, fjoin, feq_i, feq_l, pick, await, suffices, frame, enter, addr, stop, no_more, and_then, returns, alloc_all, pass_all, free_all, look_at, get, through, sets, lands_as, no, shows, RattleType, MutRef, mut_vals, mut_Tells, plain, named_lft, nothing, heard, peeks, only, calls_at, Lasts, lasts, triple_of, framed, Stays, stay_dropped, Goes-spent_ref, ends_at}
 use Rattle.allocative.proofs.Nest.{nest}
 use Rattle.std.specs.Prelude.{Result, Ok, Err, IfOk, IfErr, OnOk, OnErr}
@@ -29,7 +29,7 @@ use Rattle.allocative.proofs.collector.Collector.graph_root_visitor.Met as h-met
 abbrev Answer : Lfts 1 → RattleType
 Answer κs = result.the_row (visitor.the_row (named_lft 1 0 tt κs)) refusal.the_row
 
--- what the builder ends as: with a loan, and without
+-- How the builder ends, with a loan and without.
 abbrev EndsBegun : Result Visitor Refusal → State → State → Type 0
 EndsBegun r w b = OnOk r (b ≡ as_graph w)
 

@@ -1,4 +1,4 @@
--- One root more.
+-- One more root is visited.
 use Rattle.allocative.proofs.Roots.{runs_one_more}
 use Rattle.allocative.proofs.builder.FlameGraphBuilder.visit_values.Goals as goal
 

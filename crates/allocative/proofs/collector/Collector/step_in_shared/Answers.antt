@@ -1,4 +1,4 @@
--- It is a flame graph's, which met the identity or had met it.
+-- The collector is that of a flame graph, which met the identity now or before.
 use Rattle.std.proofs.Common.{◌≡◌, Ok, subst, ap}
 use Rattle.allocative_graph.specs.Collector.{OfGraph, State, Going}
 use Rattle.allocative.specs.Steps.{StepsInShared}

@@ -1,4 +1,4 @@
--- One item more.
+-- One more item is shown.
 use Rattle.allocative.proofs.Within.{entered_then_refused}
 use Rattle.std.proofs.Common.{rules}
 use Rattle.allocative.specs.Runs.{field_of}

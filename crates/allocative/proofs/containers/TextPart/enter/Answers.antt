@@ -1,4 +1,4 @@
--- The unused amount is what the capacity leaves.
+-- The unused places are what the capacity leaves.
 use Rattle.std.proofs.Common.{arith, rules}
 use Rattle.allocative.proofs.Meaning.{entered_as}
 use Rattle.allocative.proofs.Bodies.{means_text}

@@ -1,4 +1,4 @@
--- A pointer to a value met for the first time: what its content shows, and its refusal.
+-- A pointer to a value met for the first time: what its content shows, and its errors.
 use Rattle.std.proofs.Common.{rules}
 use Rattle.allocative_graph.specs.declared.refusal.Refusal.TheVariants.{Memory}
 use Rattle.allocative.proofs.Showing.{showing, any_err, content_shows, shared_err}

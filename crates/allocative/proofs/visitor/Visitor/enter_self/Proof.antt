@@ -1,4 +1,4 @@
--- `enter_self` by hand: what `enter_self_sized` says of the visitor outside is handed on.
+-- A hand-written proof of `enter_self`: it passes on what `enter_self_sized` states of the visitor outside.
 use Rattle.allocative.proofs.Lent.{[], ◌∷◌, refl, proved, says_two, id⊢, ftrue, flft, named, Lfts, fact, tables, ‵, raw, ◌⊛◌, some, later, ◌$◌, ◌∵◌, !, qed, done, move, keep, drop, use1, split, join, fjoin, pick, await, suffices, frame, enter, addr, stop, no_more, and_then, returns, alloc_all, pass_all, free_all, look_at, get, through, sets, lands_as, yes, no, shows, RattleType, MutRef, mut_vals, mut_Tells, plain, named_lft, nothing, heard, peeks, calls_at, Lasts, lasts, triple_of, framed, Stays, stay_dropped, Goes-dropped, Goes-spent_ref, ends_at}
 use Rattle.allocative.proofs.Nesting.{Answer}
 use Rattle.std.specs.Prelude.{Result, IfOk, IfErr}
@@ -26,7 +26,7 @@ use Rattle.allocative.proofs.visitor.Visitor.enter_self.Code as code
 use Rattle.allocative.specs.contracts.visitor.Visitor.enter_self_sized as h
 use Rattle.allocative.proofs.visitor.Visitor.enter_self_sized.Met as h-met
 
--- the lender, whose own lifetime is the second of four, and the value
+-- The lender, whose own lifetime is the second of four, and the value.
 abbrev Lender : Lfts 4 → RattleType
 Lender κs = visitor.the_row (named_lft 4 1 tt κs)
 

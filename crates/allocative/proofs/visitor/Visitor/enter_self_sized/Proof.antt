@@ -1,4 +1,5 @@
--- `enter_self_sized` by hand: what `enter_sized` says of the visitor outside is handed on, at the declared name and size.
+-- A hand-written proof of `enter_self_sized`: it passes on what `enter_sized` states of the visitor outside, at the
+-- declared name and size.
 use Rattle.allocative.proofs.Lent.{◌≡◌, ℕ, [], ◌∷◌, refl, subst, proved, says_two, id⊢, ftrue, flft, named, Lfts, fact, tables, ‵, raw, ◌⊛◌, some, later, ◌$◌, ◌∵◌, !, qed, done, move, keep, drop, use1, use2, split, join, fjoin, pick, await, rewrite, suffices, frame, enter, addr, stop, no_more, and_then, returns, alloc_all, pass_all, free_all, look_at, get, through, sets, lands_as, no, shows, RattleType, MutRef, mut_vals, mut_Tells, plain, named_lft, nothing, heard, peeks, calls_at, Lasts, lasts, triple_of, framed, Stays, stay_dropped, Goes-spent_ref, ends_at}
 use Rattle.allocative.proofs.Nesting.{Answer, Size, size_laws}
 use Rattle.std.specs.Prelude.{Option, Result, IfOk, IfErr}
@@ -29,7 +30,7 @@ use Rattle.allocative_described.specs.contracts.described.Described.size as m
 use Rattle.allocative.specs.contracts.visitor.Visitor.enter_sized as h
 use Rattle.allocative.proofs.visitor.Visitor.enter_sized.Met as h-met
 
--- the lender, whose own lifetime is the second of three
+-- The lender, whose own lifetime is the second of three.
 abbrev Lender : Lfts 3 → RattleType
 Lender κs = visitor.the_row (named_lft 3 1 tt κs)
 

@@ -1,4 +1,5 @@
--- `enter_shared` by hand: the collector is lent on, a visitor of the content may hold it, and the answer is turned round.
+-- A hand-written proof of `enter_shared`: the collector is lent, a visitor of the content may hold it, and the result
+-- is converted.
 use Rattle.allocative.proofs.Lent.{one_value, at_values, ◌≡◌, List, [], ◌∷◌, refl, sym, ap, subst, MutBor, proved_at, says_three, rewrite, Goes-blank, id⊢, ftrue, flft, named, w64, Val, fact, tables, ‵, raw, ◌⊛◌, some, later, ◌$◌, ◌∵◌, !, qed, done, move, keep, drop, use1, use2, split, join, fsplit, fjoin, feq_i, feq_l, pick, await, suffices, frame, enter, addr, stop, no_more, and_then, returns, alloc_all, pass_all, free_all, look_at, get, through, sets, lands_as, usize, yes, no, shows, uint_vals, uint_Tells, MutRef, mut_vals, mut_Tells, plain, named_lft, nothing, heard, peeks, only, calls_at, Lasts, lasts, triple_of, framed, Stays, stay_dropped, Goes-dropped, Goes-spent_ref, ends_at}
 use Rattle.allocative.proofs.Nest.{nest}
 use Rattle.allocative.proofs.Nesting.{Lender, Try, Given, TryAnswer, SharedAnswer, same_name, ends_with, ends_without, outer_by, content_by, answer_by}

@@ -1,4 +1,4 @@
--- `enter_sized` by hand: the collector is lent on, and a nested visitor may hold it.
+-- A hand-written proof of `enter_sized`: the collector is lent, and a nested visitor may hold it.
 use Rattle.allocative.proofs.Lent.{one_value, at_values, ◌≡◌, List, [], ◌∷◌, refl, ap, subst, MutBor, proved_at, says_two, Goes-blank, id⊢, ftrue, flft, named, Val, fact, tables, ‵, raw, ◌⊛◌, some, later, ◌$◌, ◌∵◌, !, qed, done, move, keep, drop, use1, use2, split, join, fsplit, fjoin, feq_i, feq_l, pick, await, suffices, frame, enter, addr, stop, no_more, and_then, returns, alloc_all, pass_all, free_all, look_at, get, through, sets, lands_as, yes, no, shows, MutRef, mut_vals, mut_Tells, plain, named_lft, nothing, heard, peeks, only, calls_at, Lasts, lasts, triple_of, framed, Stays, stay_dropped, Goes-spent_ref, ends_at}
 use Rattle.allocative.proofs.Nest.{nest}
 use Rattle.allocative.proofs.Nesting.{Lender, Answer, EndsEntered, EndsRefusedSized, ends_entered, ends_refused_sized, entered_sized_by, refused_sized_by, Size, size_laws}

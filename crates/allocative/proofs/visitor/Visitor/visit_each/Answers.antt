@@ -1,4 +1,4 @@
--- One item more.
+-- One more item is shown.
 use Rattle.allocative.proofs.Showing.{kept_after}
 use Rattle.allocative.proofs.Within.{entered_failed, failed_answer, entered_then_refused, kept_failed}
 use Rattle.std.proofs.Common.{arith, rules}

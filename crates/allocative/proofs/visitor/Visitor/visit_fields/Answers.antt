@@ -1,4 +1,4 @@
--- One item more, and the end of the run.
+-- One more item is shown, and the run ends.
 use Rattle.allocative.specs.Making.{makes}
 use Rattle.allocative.proofs.Meaning.{entered_none, means_same}
 use Rattle.allocative.proofs.Within.{entered_failed, failed_answer, entered_then_refused}

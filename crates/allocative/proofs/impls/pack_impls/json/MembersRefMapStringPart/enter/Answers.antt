@@ -1,4 +1,4 @@
--- One member more, and the end of the map.
+-- One more member is shown, and the map ends.
 use Rattle.std.proofs.lemmas.List.{append-nil}
 use Rattle.std.proofs.Common.{String, Global, [], ◌∷◌, ◌++◌, sym, ap, append_assoc, ◌∙◌}
 use Rattle.allocative.specs.JsonShows.{member_shows}
