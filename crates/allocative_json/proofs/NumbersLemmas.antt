@@ -1,4 +1,4 @@
--- The numbers of a document, one item or member further.
+-- The numbers of a document, with one more item or member.
 use Rattle.std.proofs.Common.{◌≡◌, ℤ, Bool, true, false, ◌&&◌, ◌||◌, List, [], ◌∷◌, ◌++◌, refl, sym, ◌∙◌, ap, String, Global}
 use Rattle.std.proofs.Math.Bool.{and_assoc}
 use Rattle.std.specs.BTreeSet.{BTreeSet, contains}

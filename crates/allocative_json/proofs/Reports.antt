@@ -1,4 +1,4 @@
--- How a profile of the roots is a right report, and how its refusals are those of a run.
+-- How a profile of the roots is a right report, and how its errors are those of a run.
 use Rattle.std.proofs.Common.{◌≡◌, ℕ, ◌<◌, ℤ, length, arith, Bool, true, false, List, [], ◌∷◌, Option, None, Some, Result, Ok, Err, IfOk, IfErr, IsErrAnd, IfSome, MatchResult, string_bytes, refl, ap, ◌∙◌, sym, subst, true≢false}
 use Rattle.std.specs.BTreeSet.{BTreeSet}
 use Rattle.serde_json.specs.Data.{Data}
@@ -58,12 +58,12 @@ nothing_read : (d : Data) → read [] ≡ Some d → ⊥
 unfolding serde_json_on_literals
 nothing_read d e = cc
 
--- the text of a document is not empty
+-- The text of a document is not empty.
 pub some_input : (input : List ℕ) (d : Data) → IsWholeDocument input d → 0 < length input
 some_input [] d h = absurd (nothing_read d h.document.is_read)
 some_input (b ∷ bs) d h = omega arith
 
--- a refusal that comes after a document was read
+-- An error that comes after a document was read.
 refused_so : (input : List ℕ) (d : Data) (r : Refusal) → IsWholeDocument input d → RefusesReport input (fault_of r)
 refused_so input d refused.Memory h = some_input input d h
 refused_so input d refused.TooLarge h = (d, h)
@@ -73,7 +73,7 @@ pub refused_profile : {T : Type 0} (input : List ℕ) (d : Data) (refusal : Refu
 refused_profile input d refusal (Ok x) h e = tt
 refused_profile input d refusal (Err f) h e = subst (RefusesReport input) (sym e) (refused_so input d refusal h)
 
--- the texts are refused for want of memory alone
+-- Making the texts fails only when memory runs out.
 pub refused_texts : {T : Type 0} (P : T → Type 0) (input : List ℕ) (d : Data) (r : Result T Fault) → IsWholeDocument input d → MatchResult r P (λ f. f ≡ Memory) → IfErr r (RefusesReport input)
 refused_texts P input d (Ok x) h m = tt
 refused_texts P input d (Err f) h m = subst (RefusesReport input) (sym m) (some_input input d h)
@@ -89,7 +89,7 @@ followed_by-empty (Again k n j a) = ap (Again k n j) (followed_by-empty a)
 two_shown : {T : Type 0} (p : T → Showing) (a b : T) (f : Forest) → each_shows p (a ∷ b ∷ []) f → Both (p a) (p b) f
 two_shown p a b f (g, h, here, (k, none, there, empty, e), d) = (g, k, here, there, d ∙ ap (followed_by g) (e ∙ ap (followed_by k) empty ∙ followed_by-empty k))
 
--- what is profiled of two roots is what both show
+-- What is profiled of two roots is what both show.
 pub two_roots : {T E : Type 0} (p : T → Showing) (roots : List T) (a b : T) (q r : Showing) (x : Result Profile E)
     → roots ≡ a ∷ b ∷ [] → p a ≡ q → p b ≡ r
     → IfOk x (IsProfileOf (each_shows p roots)) → IfOk x (IsProfileOf (Both q r))

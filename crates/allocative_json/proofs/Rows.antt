@@ -13,7 +13,7 @@ use Rattle.allocative.specs.Reads as reads
 use Rattle.allocative_graph.specs.declared.flamegraph.reads.Row as read
 use Rattle.allocative_json.specs.Lines.{exact_line, row_line}
 
--- Whether two keys are one, told in either way.
+-- Both tests of whether two keys are equal agree.
 pub same_test : (k l : Key) → eq_by_cmp key_cmp k l ≡ bytes_eq l k
 same_test k l = sym (texts_ties k l) ∙ by (bytes_eq k l) (bytes_eq l k) refl refl
   where
@@ -27,7 +27,7 @@ same_test k l = sym (texts_ties k l) ∙ by (bytes_eq k l) (bytes_eq l k) refl r
 abbrev texts : List (Bor (List ℕ)) → Path
 texts ks = map (λ k. k.now) ks
 
--- The path of no keys is the root's.
+-- The path without keys is that of the root.
 pub root_is_empty : (ks : List (Bor (List ℕ))) → is_root (map (λ k. k.now) ks) ≡ (length ks == 0)
 root_is_empty [] = refl
 root_is_empty (k ∷ ks) = by (length (k ∷ ks) == 0) refl

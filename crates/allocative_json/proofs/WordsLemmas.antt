@@ -1,4 +1,4 @@
--- Words taken one by one.
+-- Words accepted one after another.
 use Rattle.std.proofs.Common.{◌≡◌, ◌≢◌, ℕ, Bool, true, false, not, ◌&&◌, IsTrue, ◌↔◌, ◌⊎◌, inl, inr, List, [], ◌∷◌, ◌++◌, length, length-append, None, Some, codes, refl, sym, ◌∙◌, ap, subst, true≢false, arith, if◌then◌else◌, Contains}
 use Rattle.std.specs.Str.{bytes_eq}
 use Rattle.std.proofs.lemmas.List.Elements.{All-push, All-contains, Contains-get_or, Contains-append_left, Contains-append_right, Contains-push, Contains-push_cases}
@@ -29,7 +29,7 @@ index_registry : codes "index" ≢ codes "registry"
 unfolding head_of
 index_registry = differ (codes "index") (codes "registry") (λ e. omega (arith, e))
 
--- the word is k, which is not there
+-- The word is k, and k is not there yet.
 abbrev Fresh : Word → Word → Bool → Type 0
 Fresh w k there = (w ≡ k) × (there ≡ false)
 
@@ -49,7 +49,7 @@ there w k u e q = by (bytes_eq w k) u ((bytes_eq-Decides w k).1 q) e
     by true false h e = absurd (true≢false e)
     by false false h e = absurd (true≢false (sym h))
 
--- ---- a word that is taken
+-- ---- a word that is accepted
 record Taken (a : Words) (w : Word) (b : Words) : Type 0 where
   is : (Fresh w (codes "exact") a.exact × (b ≡ record a { exact = true }))
       ⊎ (Fresh w (codes "index") a.index × (b ≡ record a { index = true }))
@@ -88,14 +88,14 @@ refused a w e = by (bytes_eq w (codes "exact") && not a.exact) (bytes_eq w (code
 not_both : (x : Bool) → x ≡ false → IsTrue x → ⊥
 not_both x e h = true≢false (sym h ∙ e)
 
--- a field whose word did not come
+-- A field stays as it is where its word did not come.
 kept : (ws : List Word) (w k : Word) (x : Bool) → w ≢ k → IsTrue x ↔ Contains ws k → IsTrue x ↔ Contains (ws ++ w ∷ []) k
 kept ws w k x h s = (
   (λ t. Contains-append_left ws (w ∷ []) k (s.0 t)),
   λ c. elim (Contains-push_cases ws w k c) [ inl d ↦ s.1 d | inr e ↦ absurd (h e) ],
 )
 
--- a field whose word came
+-- A field is true where its word came.
 came : (ws : List Word) (w k : Word) → w ≡ k → IsTrue true ↔ Contains (ws ++ w ∷ []) k
 came ws w k e = let P : Word → Type 0 = λ v. Contains (ws ++ w ∷ []) v in ((λ _. subst P e (Contains-push ws w)), λ _. refl)
 
@@ -145,7 +145,7 @@ step ws w a b h s t = by t.is
 pub noted_more : (ws : List Word) (w : Word) (a b : Words) → AreWords ws → Asks ws a → noted a w ≡ Some b → AreWords (ws ++ w ∷ []) × Asks (ws ++ w ∷ []) b
 noted_more ws w a b h s e = step ws w a b h s (taken a b w e)
 
--- a word that stands already cannot come again
+-- A word that is there cannot come again.
 twice : (ws rest : List Word) (w : Word) → Contains ws w → AreWords (ws ++ w ∷ rest) → ⊥
 twice ws rest w c h =
     h.once c.0 (length ws) w c.1 (omega (arith, length-append ws (w ∷ rest)))

@@ -1,4 +1,4 @@
--- What status a fault ends the program with, and which fault a refusal is.
+-- The status of each fault, and the fault of each refusal.
 use Rattle.std.specs.Prelude.{ℕ}
 use Rattle.allocative.specs.Refusal.{Refusal}
 use Rattle.allocative.specs.Refusal.TheVariants as refused
@@ -16,7 +16,7 @@ status_of Reading = 6
 status_of Writing = 7
 status_of Open = 8
 
--- The fault of a refusal: the one of its name.
+-- The fault of a refusal: the one with its name.
 abbrev pub fault_of : Refusal → Fault
 fault_of refused.Memory = Memory
 fault_of refused.TooLarge = TooLarge

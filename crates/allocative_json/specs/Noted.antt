@@ -1,10 +1,10 @@
--- Words taken one by one.
+-- Words accepted one after another.
 use Rattle.std.specs.Prelude.{true, not, ◌&&◌, Option, None, Some, codes, if◌then◌else◌}
 use Rattle.std.specs.Str.{bytes_eq}
 use Rattle.allocative_json.specs.declared.words.Words.{Words}
 use Rattle.allocative_json.specs.Words.{Word}
 
--- What is asked for with one word more; none where it is none of the three, or is there already.
+-- What is asked for with one more word, or None where the word is not one of the three or is there already.
 abbrev pub noted : Words → Word → Option Words
 noted a w =
     if bytes_eq w (codes "exact") && not a.exact then Some (record a { exact = true })

@@ -20,12 +20,12 @@ abbrev mutual
   is_whole (array ds) = are_whole ds
   is_whole (object ms) = have_whole ms
 
-  -- Whether each number of the items of an array is one.
+  -- Whether each number of the items of an array is an i64 or a u64.
   pub are_whole : Items → Bool
   are_whole no_items = true
   are_whole (item d ds) = is_whole d && are_whole ds
 
-  -- Whether each number of the members of an object is one.
+  -- Whether each number of the members of an object is an i64 or a u64.
   pub have_whole : Members → Bool
   have_whole no_members = true
   have_whole (member k d ms) = is_whole d && have_whole ms
@@ -37,7 +37,7 @@ is_number (negative z) k = int_eq z k
 is_number (float x) k = false
 
 abbrev mutual
-  -- Whether the whole number k stands in a document, at any depth.
+  -- Whether the whole number k is in a document, at any depth.
   pub has_number : Data → ℤ → Bool
   has_number null k = false
   has_number (boolean b) k = false
@@ -46,17 +46,17 @@ abbrev mutual
   has_number (array ds) k = items_have ds k
   has_number (object ms) k = members_have ms k
 
-  -- Whether it stands in one of the items of an array.
+  -- Whether the whole number k is in one of the items of an array.
   pub items_have : Items → ℤ → Bool
   items_have no_items k = false
   items_have (item d ds) k = has_number d k || items_have ds k
 
-  -- Whether it stands in the value of one of the members of an object.
+  -- Whether the whole number k is in the value of one of the members of an object.
   pub members_have : Members → ℤ → Bool
   members_have no_members k = false
   members_have (member name d ms) k = has_number d k || members_have ms k
 
--- The new set has what the old one has, and each number that passes the test.
+-- The new set has what the old set has, and each number that passes the test.
 abbrev pub AddsKeys : (ℤ → Bool) → BTreeSet ℤ → BTreeSet ℤ → Type 0
 AddsKeys test old new = (k : ℤ) → contains int_cmp new k ≡ (test k || contains int_cmp old k)
 

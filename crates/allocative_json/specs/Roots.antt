@@ -1,4 +1,4 @@
--- The document that an input is, and why there is none.
+-- The document that an input is, and why it is none.
 use Rattle.std.specs.Prelude.{◌≡◌, ℕ, ℤ, ◌<◌, Bool, true, false, List, length, Option, None, Some, IsUtf8}
 use Rattle.std.specs.BTreeSet.{BTreeSet}
 use Rattle.serde_json.specs.Data.{Data}
@@ -12,7 +12,7 @@ pub record IsDocument (input : List ℕ) (d : Data) : Type 0 where
   pub utf8 : IsUtf8 input
   pub is_read : read input ≡ Some d
 
--- The same, and each number of d is an i64 or a u64.
+-- The input is the text of the document d, and each number of d is an i64 or a u64.
 pub record IsWholeDocument (input : List ℕ) (d : Data) : Type 0 where
   pub document : IsDocument input d
   pub whole : is_whole d ≡ true
@@ -22,7 +22,8 @@ abbrev pub IsIndexIf : Bool → Data → Option (BTreeSet ℤ) → Type 0
 IsIndexIf asked d None = asked ≡ false
 IsIndexIf asked d (Some s) = (asked ≡ true) × IsIndexOf d s
 
--- The fault may be answered where the roots are read from the input: Memory where there is input; NotJson where the input is no document; NotWhole where it is one that has another number.
+-- The faults that reading the roots from the input may return: Memory only where the input is not empty; NotJson only
+-- where it is no document; NotWhole only where it is a document with another number.
 abbrev pub RefusesInput : List ℕ → Fault → Type 0
 RefusesInput input Memory = 0 < length input
 RefusesInput input NotJson = (d : Data) → ¬ IsDocument input d

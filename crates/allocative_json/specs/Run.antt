@@ -1,4 +1,4 @@
--- What a whole run comes to.
+-- What a whole run does.
 use Rattle.std.specs.Prelude.{◌≡◌, ℕ, ◌<◌, ⊤, List, length, Option, IfSome}
 use Rattle.std.specs.Io.KnownBytes.{Appends}
 use Rattle.allocative_json.specs.declared.fault.Fault.{Fault}
@@ -9,7 +9,7 @@ use Rattle.allocative_json.specs.Fault.{status_of}
 use Rattle.allocative_json.specs.Profile.{IsRightReport, RefusesReport}
 use Rattle.allocative_json.specs.Words.{Word, AreWords, Asks}
 
--- The words are taken, all bytes of the reader are read where they are known, and the report of them is right.
+-- The words are accepted, all bytes of the reader are read where they are known, and the report of them is right.
 pub record IsReportFor (texts : List Word) (known : Option (List ℕ)) (profile warnings : List ℕ) : Type 0 where
   pub words : AreWords texts
   pub asked : Words
@@ -18,7 +18,7 @@ pub record IsReportFor (texts : List Word) (known : Option (List ℕ)) (profile 
   pub is_read : IfSome known (λ bytes. input ≡ bytes)
   pub right : IsRightReport input asked.index asked.exact profile warnings
 
--- A right report stands behind what the two writers held, where that is known.
+-- A right report follows what the two writers held, where that is known.
 pub record EndsWell (texts : List Word) (known output output' errors errors' : Option (List ℕ)) : Type 0 where
   pub profile : List ℕ
   pub warnings : List ℕ
@@ -32,7 +32,7 @@ pub record IsReported (texts : List Word) (known : Option (List ℕ)) : Type 0 w
   pub warnings : List ℕ
   pub report : IsReportFor texts known profile warnings
 
--- The fault may be answered where the input is read: Memory where there is input; or Reading.
+-- The faults that reading the input may return: Memory only where the input is not empty; or Reading.
 abbrev pub StopsReading : Option (List ℕ) → Fault → Type 0
 StopsReading known Memory = IfSome known (λ bytes. 0 < length bytes)
 StopsReading known Reading = ⊤
@@ -43,7 +43,8 @@ StopsReading known fault.Words = ⊥
 StopsReading known Writing = ⊥
 StopsReading known Open = ⊥
 
--- The fault may end a run before anything is written: Words exactly where the words are not taken; else one of reading, or of a report of the bytes that were read.
+-- The faults that may end a run before anything is written: Words exactly where the words are not accepted; otherwise a
+-- fault of reading, or of a report of the bytes that were read.
 abbrev pub MayEndRun : List Word → Option (List ℕ) → Fault → Type 0
 MayEndRun texts known fault.Words = ¬ AreWords texts
 MayEndRun texts known Reading = AreWords texts

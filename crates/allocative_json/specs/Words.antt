@@ -15,7 +15,7 @@ words_of texts = map string_bytes texts
 abbrev pub IsKnown : Word → Type 0
 IsKnown w = (w ≡ codes "exact") ⊎ (w ≡ codes "index") ⊎ (w ≡ codes "registry")
 
--- Each word is one of the three, and none stands twice.
+-- Each word is one of the three, and none occurs twice.
 pub record AreWords (ws : List Word) : Type 0 where
   pub known : All IsKnown ws
   pub once : AllPairs (λ v w. v ≢ w) ws

@@ -6,10 +6,10 @@ use allocative::Refusal;
 use std::alloc::{AllocError, AllocFailed};
 use thiserror::Error;
 
-/// Why a run failed. Its text is the line on standard error, behind the program's name.
+/// Why a run failed. Its text is the line on standard error, after the program's name.
 #[derive(Clone, Copy, Debug, PartialEq, Eq, Error)]
 pub enum Fault {
-    /// A growth of memory was refused.
+    /// Memory ran out.
     #[error("out of memory")]
     Memory,
     /// The input is not JSON.
@@ -18,10 +18,10 @@ pub enum Fault {
     /// The document has a number that is neither an i64 nor a u64.
     #[error("a number is not a 64-bit whole number")]
     NotWhole,
-    /// The declared sizes pass their bound.
+    /// The declared sizes exceed their bound.
     #[error("sizes do not fit")]
     TooLarge,
-    /// A word is none of the three, or stands twice.
+    /// A word is not one of the three, or occurs twice.
     #[error("unknown or repeated word")]
     Words,
     /// A read failed.
@@ -30,13 +30,13 @@ pub enum Fault {
     /// A write failed.
     #[error("cannot write output")]
     Writing,
-    /// A visitor was entered and neither left nor dropped.
+    /// A visitor was entered but neither left nor dropped.
     #[error("a visitor was forgotten")]
     Open,
 }
 
 impl Fault {
-    /// The status with which the program ends.
+    /// The exit status of the program.
     pub fn status(self) -> u8
         ensures { result ≡ status_of self }
     {

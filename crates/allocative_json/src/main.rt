@@ -1,5 +1,5 @@
-//! Reads a JSON document from standard input, and writes what it declares of its memory: the flame graph to standard output,
-//! in the form that `flamegraph.pl` reads, and the warnings to standard error.
+//! Reads a JSON document from standard input, and writes what it declares about its memory: the flame graph
+//! to standard output, in the form that `flamegraph.pl` reads, and the warnings to standard error.
 #![tactic(auto)]
 
 mod fault;
@@ -17,7 +17,7 @@ use std::io::ErrorKind;
 use std::process::ExitCode;
 use std::rt::Env;
 
-// The words behind the program's name. A word that is not UTF-8 is none of the program's.
+// The words after the program's name. A word that is not UTF-8 is not one of the program's words.
 fn words_of<R: Env + AllocGlobal>(rt: &R) -> Result<Vec<String>, Fault> {
     match env::args(rt) {
         Ok(args) => Ok(args.skip(1).collect(rt.alloc())?),

@@ -15,7 +15,7 @@ use serde_json::Value;
 use std::alloc::Global;
 use std::collections::BTreeSet;
 
-// Visits the document and then the set, where there is one.
+// Visits the document, and then the set where there is one.
 fn visit_roots(
     builder: &mut FlameGraphBuilder,
     document: &Value,
@@ -45,7 +45,7 @@ fn profile_of(
     builder.finish()
 }
 
-// Graph and warnings of these roots, which are boxed and walked by a registry.
+// The graph and the warnings of these roots, which are boxed and visited by a registry.
 fn profile_by_registry(
     alloc: Global,
     document: Value,
@@ -66,13 +66,14 @@ fn profile_by_registry(
     profile_roots(&registry)
 }
 
-/// The texts that stand for the input: the profile of its document and, with `index`, of the set of its numbers, and the
-/// warnings. With `exact` the profile is without the lines whose last key is `unused_capacity`. The roots are visited by
-/// their own `visit`.
+/// The texts for the input: the profile of its document and, with `index`, of the set of its numbers, and the
+/// warnings. With `exact` the profile has no lines whose last key is `unused_capacity`. The roots are visited
+/// by their own `visit`.
 ///
-/// `Fault::NotJson` and `Fault::NotWhole` as from `read_roots`. `Fault::TooLarge` and `Fault::Open` only for a document whose
-/// numbers are whole: the first where the declared sizes pass their bound, the second by no implementation that is here. Else
-/// `Fault::Memory`, which no empty input brings about.
+/// `Fault::NotJson` and `Fault::NotWhole` come as from `read_roots`. `Fault::TooLarge` and `Fault::Open` come
+/// only for a document whose numbers are whole: `TooLarge` where the declared sizes exceed their bound,
+/// `Open` from no implementation used here. Otherwise the error is `Fault::Memory`, which an empty input
+/// never causes.
 pub fn profile_json(alloc: Global, input: &[u8], index: bool, exact: bool) -> Result<Report, Fault>
     ensures ok { IfOk result (λ made. IsRightReport input.now index exact (string_bytes made.profile) (string_bytes made.warnings)) }
     ensures err { IfErr result (RefusesReport input.now) }
@@ -82,11 +83,11 @@ pub fn profile_json(alloc: Global, input: &[u8], index: bool, exact: bool) -> Re
     report::report(alloc, &output, exact)
 }
 
-/// The texts that stand for the input, made by `profile_roots` over boxed roots: the profile of its document and, with `index`,
-/// of the set of its numbers, and the warnings. With `exact` the profile is without the lines whose last key is
-/// `unused_capacity`.
+/// The texts for the input, made by `profile_roots` from boxed roots: the profile of its document and, with
+/// `index`, of the set of its numbers, and the warnings. With `exact` the profile has no lines whose last key
+/// is `unused_capacity`.
 ///
-/// Each fault comes where it comes from `profile_json`.
+/// The errors are those of `profile_json`.
 pub fn profile_registered(
     alloc: Global,
     input: &[u8],

@@ -19,7 +19,7 @@ fn is_unused(path: &[&str]) -> bool
     }
 }
 
-// Appends the line of a path; the root and a path of 0 bytes have none.
+// Appends the line of a path. The root and a path of 0 bytes have none.
 #[tactic(auto, using(crate::proofs::Rows::root_is_empty))]
 fn push_line(path: &[&str], size: usize, text: &mut String) -> Result<(), AllocError>
     ensures { OnOk result (string_bytes text.new ≡ string_bytes text.old ++ line (map (λ k. k.now) path.now, size)) }
@@ -32,7 +32,7 @@ fn push_line(path: &[&str], size: usize, text: &mut String) -> Result<(), AllocE
     Ok(())
 }
 
-// Appends the line of a row, but for unused capacity.
+// Appends the line of a row, unless it is one of unused capacity.
 fn push_row(row: &Row, text: &mut String) -> Result<(), AllocError>
     ensures { OnOk result (string_bytes text.new ≡ string_bytes text.old ++ row_line row.now) }
 {
@@ -56,8 +56,8 @@ fn without_unused(alloc: Global, graph: &FlameGraph) -> Result<String, Refusal>
     Ok(text)
 }
 
-/// The text of the output's graph and its warnings; with `exact` the text is without the lines of the paths that end in
-/// `unused_capacity`. It is refused for want of memory alone.
+/// The text of the output's graph, and its warnings. With `exact` the text has no lines of the paths that end
+/// in `unused_capacity`. The only error is that memory runs out.
 pub fn report(alloc: Global, output: &FlameGraphOutput, exact: bool) -> Result<Report, Fault>
     ensures { MatchResult result
         (λ made. (string_bytes made.profile ≡ asked_text exact output.now.graph) × (string_bytes made.warnings ≡ output.now.warnings))

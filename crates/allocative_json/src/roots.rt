@@ -47,7 +47,7 @@ fn are_whole_members(members: &Map<String, Value>) -> bool
     all_whole
 }
 
-// Puts each whole number of the document into the set.
+// Adds each whole number of the document to the set.
 #[cycle(numbers)]
 fn add_numbers(value: &Value, set: &mut BTreeSet<i128>) -> Result<(), AllocError>
     ensures keys { OnOk result (AddsKeys (has_number (view value.now)) set.old set.new) }
@@ -97,7 +97,7 @@ fn index_of(alloc: Global, document: &Value) -> Result<BTreeSet<i128>, AllocErro
     Ok(set)
 }
 
-// Ok exactly where each number is an i64 or a u64, and else `Fault::NotWhole`.
+// `Ok` exactly where each number is an i64 or a u64, otherwise `Fault::NotWhole`.
 fn check_numbers(document: &Value) -> Result<(), Fault>
     ensures { MatchResult result
         (λ _. is_whole (view document.now) ≡ true)
@@ -110,7 +110,7 @@ fn check_numbers(document: &Value) -> Result<(), Fault>
     }
 }
 
-// The document that the input is, where its numbers are whole.
+// The document of the input, where its numbers are whole.
 fn read_document(alloc: Global, input: &[u8]) -> Result<Value, Fault>
     ensures ok { IfOk result (λ document. IsWholeDocument input.now (view document)) }
     ensures err { IfErr result (RefusesInput input.now) }
@@ -120,10 +120,12 @@ fn read_document(alloc: Global, input: &[u8]) -> Result<Value, Fault>
     Ok(document)
 }
 
-/// The document that `serde_json` reads from the input and, exactly with `index`, the set of its whole numbers at any depth.
+/// The document that `serde_json` reads from the input and, exactly with `index`, the set of its whole
+/// numbers at any depth.
 ///
-/// `Fault::NotJson` where `serde_json` refuses the input for another cause than memory, `Fault::NotWhole` where the document
-/// has a number that is neither an i64 nor a u64, and else `Fault::Memory`, which no empty input brings about.
+/// It returns `Fault::NotJson` where `serde_json` refuses the input for a reason other than memory,
+/// `Fault::NotWhole` where the document has a number that is neither an i64 nor a u64, and otherwise
+/// `Fault::Memory`, which an empty input never causes.
 #[tactic(auto, using(crate::proofs::Reports::some_input))]
 pub fn read_roots(
     alloc: Global,

@@ -1,4 +1,4 @@
-//! Rows of documents with the texts that stand for them, and runs whose input or output fails.
+//! Documents with their texts, and runs whose input or output fails.
 use crate::fault::Fault;
 use crate::profile::profile_json;
 use crate::roots::read_roots;
@@ -10,7 +10,7 @@ use std::io::{ErrorKind, Read, Write};
 use std::process::Abort;
 use std::test::Fail;
 
-// Gives its bytes, some at a read, and at one read the error in their place.
+// Gives its bytes, some at each read, and an error in their place at one read.
 #[derive(Drop)]
 struct Source<'a> {
     bytes: &'a [u8],
@@ -34,7 +34,8 @@ impl Read for Source<'_> {
     }
 }
 
-// Takes twenty bytes a write, and keeps them once they are flushed. It fails at one of its writes and flushes.
+// Takes up to twenty bytes at each write, and keeps them once they are flushed. It fails at one of its writes
+// and flushes.
 #[derive(Drop)]
 struct Sink {
     waiting: Vec<u8>,
@@ -145,7 +146,8 @@ const THREE_NUMBERS: &str =
 
 const FAR_NUMBERS: &str = "[18446744073709551615,-9223372036854775808,18446744073709551615]";
 
-// Words and a document, and the profile and the warnings of a run with these words, and of one with `registry` too.
+// The words and the document of a run, and its profile and warnings. They are the same with the word
+// `registry` added.
 const DOCUMENTS: [(&str, &str, &str, &str); 9] = [
     ("", "true", "Value 32\n", ""),
     ("exact index", "[7,8]", TWO_NUMBERS, SHORT_DATA),
@@ -207,7 +209,7 @@ fn documents_by_a_registry(rt: HostRuntime) -> Result<(), Fail> {
     Ok(())
 }
 
-// The document `true` behind so many spaces.
+// The document `true` after some number of spaces.
 fn behind_spaces(alloc: Global, spaces: u32) -> Result<Vec<u8>, AllocError> {
     let mut bytes = Vec::new(alloc);
     for _ in 0..spaces {
@@ -277,7 +279,7 @@ fn other_inputs(rt: HostRuntime) -> Result<(), Fail> {
     Ok(())
 }
 
-// So many arrays, each but the innermost with one item.
+// Nested arrays of this depth, each but the innermost with one item.
 fn nested(alloc: Global, depth: u32) -> Result<Vec<u8>, AllocError> {
     let mut bytes = Vec::new(alloc);
     for _ in 0..depth {
@@ -301,7 +303,7 @@ fn depth_has_a_bound(rt: HostRuntime) -> Result<(), Fail> {
     Ok(())
 }
 
-// A run over `[7,8]` of which one read fails; five bytes and the end take six.
+// A run over `[7,8]` in which one read fails. Five bytes and the end take six reads.
 fn run_with_failed_read(alloc: Global, fails_at: u64, error: ErrorKind) -> Result<Ran, AllocError> {
     let mut input = whole(b"[7,8]");
     input.fails_at = fails_at;
@@ -339,7 +341,7 @@ fn reads_that_fail_no_run(rt: HostRuntime) -> Result<(), Fail> {
     Ok(())
 }
 
-// How many calls of the writers a run over `[7,8]` makes, that of the profile first.
+// The number of calls of the writers in a run over `[7,8]`: of the output's, then of the errors'.
 fn calls_of_a_run(alloc: Global) -> Result<(u64, u64), AllocError> {
     let ran = run(alloc, "exact index", &mut whole(b"[7,8]"), 0, 0)?;
     Ok((ran.output.calls, ran.errors.calls))
@@ -427,7 +429,7 @@ fn lines_of_words(rt: HostRuntime) -> Result<(), Fail> {
     Ok(())
 }
 
-// Asserts that a text is this one.
+// Asserts that a text is the expected one.
 fn assert_same(rt: &impl Abort, text: &str, want: &str) {
     assert_eq!(rt; text, want);
 }

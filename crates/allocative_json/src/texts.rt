@@ -5,6 +5,6 @@
 pub struct Report {
     /// The lines of the flame graph.
     pub profile: String,
-    /// The warnings, one a line.
+    /// The warnings, one per line.
     pub warnings: String,
 }

@@ -1,4 +1,4 @@
-//! The words that the program takes.
+//! The words that the program accepts.
 ghost use Rattle.std.specs.Prelude.{◌≡◌, ◌⊎◌, codes, IsTrue, ◌↔◌, true, false, IfSome, IfNone, MatchResult, MatchOption};
 ghost use Rattle.allocative_json.specs.Words.{words_of, AreWords, Asks};
 
@@ -11,14 +11,15 @@ pub struct Words {
     pub exact: bool,
     /// Show the set of the document's numbers as a second root.
     pub index: bool,
-    /// Box the roots, and walk them by a registry.
+    /// Box the roots, and visit them by a registry.
     pub registry: bool,
 }
 
 impl Words {
     ghost use Rattle.allocative_json.specs.Noted.{noted};
 
-    // The same and one word more; none where it is none of the three, or is there already.
+    // What is asked for with one more word, or `None` where the word is not one of the three or is there
+    // already.
     fn with(self, word: &str) -> Option<Words>
         ensures { result ≡ noted self word.now }
     {
@@ -44,8 +45,8 @@ impl Words {
     }
 }
 
-/// What the words ask for. Ok exactly where each is one of `exact`, `index` and `registry` and none stands twice, and else
-/// `Fault::Words`. It takes no memory.
+/// What the words ask for. It returns `Ok` exactly where each word is one of `exact`, `index` and `registry`
+/// and none occurs twice, and otherwise `Fault::Words`. It allocates nothing.
 pub fn read_words(words: &[String]) -> Result<Words, Fault>
     ensures { MatchResult result
         (λ asked. AreWords (words_of words.now) × Asks (words_of words.now) asked)
