@@ -29,7 +29,7 @@ impl<T: Allocative + Described> Allocative for Shelf<T> {
     }
 }
 
-/// Values by their names, and how many were asked for.
+/// Values by their names, and the number of requests for them.
 #[derive(Drop)]
 pub struct Catalog<K: Eq + Hash, V> {
     pub values: HashMap<K, V>,

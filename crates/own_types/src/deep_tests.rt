@@ -1,4 +1,4 @@
-// The profiles of values with parts on the heap, with shared parts, and of types that hold themselves.
+//! The profiles of values with parts on the heap, with shared parts, and of types that hold themselves.
 use crate::chains::Chain;
 use crate::chapters::{Chapter, Note};
 use crate::folders::{Folder, Index};

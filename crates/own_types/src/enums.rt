@@ -7,7 +7,7 @@ ghost use Rattle.allocative.specs.Shows.{Nothing, Inside, Field, Both};
 use allocative::part::{Field, Inside, Part};
 use allocative::{Allocative, Refusal, Visitor};
 
-/// What a client asks of a store.
+/// A request of a client to a store.
 #[derive(Drop)]
 pub enum Request {
     Ping,

@@ -1,4 +1,4 @@
-// The profiles of structs, enums and containers.
+//! The profiles of structs, enums and containers.
 use crate::containers::{Catalog, Journal, Shelf};
 use crate::enums::Request;
 use crate::large_structs::{Order, Route};

@@ -1,4 +1,4 @@
-//! Structs of many fields, whose parts stand in groups.
+//! Structs of many fields, whose parts are in groups.
 #![tactic(auto, using(allocative::proofs::Parts::parts))]
 
 ghost use Rattle.std.specs.Prelude.{codes, Some};
@@ -7,7 +7,7 @@ ghost use Rattle.allocative.specs.Shows.{Inside, Field, Both};
 use allocative::part::{Field, Inside, Part};
 use allocative::{Allocative, Described, Refusal, Visitor};
 
-/// A thing that was bought.
+/// A purchase.
 #[derive(Drop)]
 pub struct Order {
     pub number: u64,

@@ -1,4 +1,4 @@
-//! Types of a user's own, of many shapes, each with the bytes that it declares.
+//! Types that a user might write, of many shapes, each with the bytes that it declares.
 #![tactic(auto)]
 
 pub mod chains;

@@ -1,4 +1,4 @@
-//! A tree of a user's own.
+//! A tree of a user's own type.
 #![tactic(auto, using(allocative::proofs::Parts::parts))]
 
 ghost use Rattle.std.specs.Prelude.{codes, Some, true};
@@ -10,7 +10,7 @@ ghost use Rattle.own_types.specs.declared.nodes.Node.{out-Node};
 use allocative::part::{Field, Inside, Part};
 use allocative::{Allocative, Described, Refusal, Visitor};
 
-/// A node and those below it.
+/// A node and the nodes below it.
 #[derive(Drop)]
 pub struct Node {
     pub label: u32,

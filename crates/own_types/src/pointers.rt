@@ -27,7 +27,7 @@ impl Allocative for Owners {
     }
 }
 
-/// A pointer of one's own: pointers of one page number share the page.
+/// A user's own pointer type: pointers with one page number share the page.
 #[derive(Drop)]
 pub struct PageLink<T: Drop> {
     pub number: u64,
@@ -48,7 +48,7 @@ impl<T: Allocative + Described> Allocative for PageLink<T> {
     }
 }
 
-/// A page on the left and one on the right, shown with no entry for the fields.
+/// A page on the left and one on the right, shown without entries for the fields.
 #[derive(Drop)]
 pub struct Spread<T: Drop> {
     pub left: PageLink<T>,

@@ -1,11 +1,11 @@
-// The profiles of services.
+//! The profiles of services.
 use crate::services::{Sensor, Sensors, Station, key_of};
 use allocative::{FlameGraphOutput, Key, Named, Refusal, profile_value};
 use std::alloc::Global;
 use std::process::Abort;
 use std::test::Fail;
 
-// Asserts the text of a profile, and that it gives no warning.
+// Asserts the text of a profile, and that it has no warning.
 fn expect(rt: &impl Abort, output: &FlameGraphOutput, want: &str) -> Result<(), Refusal> {
     assert_eq!(rt; output.flamegraph().write()?.as_str(), want);
     assert_eq!(rt; output.warnings_text(), "");

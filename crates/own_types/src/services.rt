@@ -74,7 +74,8 @@ impl Allocative for Station {
 }
 
 impl Station {
-    /// Graph and warnings of the station. It is refused for want of memory, or as a part's own visit is.
+    /// The graph and the warnings of the station. It fails where memory runs out, or where a part's own visit
+    /// fails.
     pub fn profile(&self, alloc: Global) -> Result<FlameGraphOutput, Refusal>
         ensures { IfOk result (IsProfileOf (⟦<Station as Allocative>⟧.may_show self.now)) }
     {
@@ -89,7 +90,7 @@ pub struct Sensors {
 }
 
 impl Sensors {
-    /// No sensors. It takes no memory.
+    /// A service without sensors. It allocates nothing.
     pub fn new(alloc: Global) -> Sensors
         ensures { result.roots.items ≡ [] }
     {
@@ -98,7 +99,7 @@ impl Sensors {
         }
     }
 
-    /// One sensor more, behind the others. For want of memory it is handed back, and nothing changes.
+    /// Adds a sensor after the others. Where memory runs out, the sensor is returned and nothing changes.
     pub fn register(&mut self, sensor: Named<Sensor>) -> Result<(), Named<Sensor>>
         ensures { MatchResult result
             (λ _. self.new.roots.items ≡ self.old.roots.items ++ sensor ∷ [])
@@ -110,7 +111,7 @@ impl Sensors {
         }
     }
 
-    /// All sensors, handed back. None is left. It takes no memory.
+    /// Removes and returns all sensors. It allocates nothing.
     pub fn clear(&mut self) -> Vec<Named<Sensor>>
         ensures { (result.items ≡ self.old.roots.items) × (self.new.roots.items ≡ []) }
     {
@@ -118,7 +119,8 @@ impl Sensors {
         mem::replace(&mut self.roots, none)
     }
 
-    /// Graph and warnings of all sensors. It is refused for want of memory, or as a sensor's own visit is.
+    /// The graph and the warnings of all sensors. It fails where memory runs out, or where a sensor's own
+    /// visit fails.
     pub fn profile(&self) -> Result<FlameGraphOutput, Refusal>
         ensures { IfOk result (IsProfileOf (each_shows ⟦<Named<Sensor> as Allocative>⟧.may_show self.now.roots.items)) }
     {
@@ -126,8 +128,8 @@ impl Sensors {
     }
 }
 
-/// The key of a text that is made at run time. A key's text lasts as long as the program, so the memory of this one is never given
-/// back: a service makes one for each name, and copies it.
+/// The key of a text that is made at run time. A key's text lasts as long as the program, so the memory of
+/// this text is never freed: a service makes one key for each name, and copies it.
 pub fn key_of(text: String) -> Key
     ensures { result ≡ string_bytes text }
 {

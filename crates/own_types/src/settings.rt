@@ -1,4 +1,4 @@
-//! A struct of twenty fields, whose parts stand in four groups.
+//! A struct of twenty fields, whose parts are in four groups.
 #![tactic(auto, using(allocative::proofs::Parts::parts))]
 
 ghost use Rattle.std.specs.Prelude.{codes, Some};
@@ -7,7 +7,7 @@ ghost use Rattle.allocative.specs.Shows.{Inside, Field, Both};
 use allocative::part::{Field, Inside, Part};
 use allocative::{Allocative, Refusal, Visitor};
 
-/// What a program is started with.
+/// The settings that a program starts with.
 #[derive(Drop)]
 pub struct Settings {
     pub name: String,

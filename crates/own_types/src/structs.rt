@@ -22,7 +22,7 @@ impl Allocative for Meter {
     }
 }
 
-/// A place on a grid.
+/// A point on a grid.
 #[derive(Drop)]
 pub struct Point {
     pub x: u32,
@@ -41,7 +41,7 @@ impl Allocative for Point {
     }
 }
 
-/// A value with its name, and whether someone read it.
+/// A value with its name, and whether someone has read it.
 #[derive(Drop)]
 pub struct Named<T> {
     pub name: String,

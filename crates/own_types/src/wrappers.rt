@@ -20,7 +20,7 @@ impl Allocative for Colour {
     }
 }
 
-/// A block on the heap: its head, and in the head the count of its bytes.
+/// A block on the heap: its header, and inside the header the number of its bytes.
 #[derive(Drop)]
 pub struct Block {
     pub count: u64,
@@ -37,7 +37,7 @@ impl Allocative for Block {
     }
 }
 
-/// A document and where it stands. The path is of a foreign type and is passed over.
+/// A document and where it is stored. The path is of a foreign type and is not shown.
 #[derive(Drop)]
 pub struct Document {
     pub title: String,
@@ -57,14 +57,14 @@ impl Allocative for Document {
     }
 }
 
-/// A day and its weather, which is shown by its size alone.
+/// A day and its weather, which is shown only by its size.
 #[derive(Drop)]
 pub struct Day {
     pub number: u16,
     pub weather: Weather,
 }
 
-/// What the weather was, of a type that shows nothing by itself.
+/// The weather, of a type that shows nothing itself.
 #[derive(Drop)]
 pub struct Weather {
     pub warmth: u32,
