@@ -1,4 +1,4 @@
--- What visits do that refuse by themselves, or hide a refusal.
+-- What visits do that return an error of their own, or hide an error.
 use Rattle.std.proofs.Common.{◌≡◌, ◌∙◌, ℕ, Bool, false, Result, Ok, Err, MutBor}
 use Rattle.std.specs.Fn.{Once, FnOnceReturnsAtMut}
 use Rattle.allocative.specs.Refusal.{Refusal}
@@ -12,11 +12,11 @@ use Rattle.allocative.specs.Visited.{Visited, Entered, Refused, Means}
 use Rattle.allocative.proofs.Meaning.{visited, entered_refused}
 use Rattle.allocative.proofs.Showing.{left_by, not_entered, shows_weaker, shows_hidden, shows_refused, shows_refused_err, shows_both_err, shows_err}
 
--- a refusal by hand
+-- An error that is returned by hand.
 pub refused_by_hand : {p : Showing} {q e : Refusal} {a b : Visitor} → Refused q a b e → Visited p a b (Err e)
 refused_by_hand h = visited (entered_refused h)
 
--- a refusal by hand that is hidden
+-- An error that is made by hand and hidden.
 pub refused_in_silence : {p : Showing} {q e : Refusal} {a b : Visitor} {u : Unit {0}} → Refused q a b e → Visited p a b (Ok u)
 refused_in_silence {q = q} {e = e} h = record {
   same_reference = h.same_reference;
@@ -24,7 +24,7 @@ refused_in_silence {q = q} {e = e} h = record {
   shown = shows_hidden {p = Nothing} (shows_refused _ e q _ h.after);
 }
 
--- a refusal by hand after another one
+-- An error that is made by hand after another one.
 pub refused_again : {p : Showing} {q r e x : Refusal} {a b c : Visitor} → Refused q a b e → Refused r b c x → Visited p a c (Err x)
 refused_again {q = q} {r = r} {e = e} f h = record {
   same_reference = h.same_reference ∙ f.same_reference;
@@ -32,7 +32,7 @@ refused_again {q = q} {r = r} {e = e} f h = record {
   shown = shows_refused_err r (shows_refused _ e q _ f.after) h.after;
 }
 
--- a refusal by hand after a part
+-- An error that is made by hand after a part.
 pub refused_after : {p s : Showing} {q e : Refusal} {a b c : Visitor} {u : Unit {0}} → Entered s a b (Ok u) → Refused q b c e → Visited p a c (Err e)
 refused_after {q = q} {e = e} f h = record {
   same_reference = h.same_reference ∙ f.same_reference;
@@ -40,34 +40,34 @@ refused_after {q = q} {e = e} f h = record {
   shown = shows_both_err f.shown (shows_refused {q = Nothing} _ e q _ h.after);
 }
 
--- a refusal of a part that comes first
+-- An error of a part that comes first.
 pub refused_first : {p s : Showing} {e : Refusal} {a b : Visitor} → Entered s a b (Err e) → Visited p a b (Err e)
 refused_first h = record { same_reference = h.same_reference; same_outer = h.same_outer; shown = shows_err h.shown }
 
--- a part, the refusal of which is hidden
+-- A part whose error is hidden.
 pub hides : {p s : Showing} {a b : Visitor} {r : Result (Unit {0}) Refusal} {u : Unit {0}} → Entered s a b r → Means s p → Visited p a b (Ok u)
 hides {r = Ok v} h m = record { same_reference = h.same_reference; same_outer = h.same_outer; shown = shows_weaker m.means h.shown }
 hides {r = Err e} h m = record { same_reference = h.same_reference; same_outer = h.same_outer; shown = shows_hidden h.shown }
 
--- a refusal by hand, and then a visitor is left
+-- An error that is made by hand, after which a visitor is left.
 refused_left : {p : Showing} {b : Kind} {e : Refusal} (q : Bool) (x : Refusal) (z : State) → Shows p (Going b) (Err e) (left q (failed_with x z))
 refused_left q x (Failed r) = refused
 refused_left q x (Going c) = refused
 
--- an entry was entered, a closure answers Err there, and the visitor is left
+-- An entry was entered, a closure returns Err there, and the visitor is left.
 closure_err : {p : Showing} {k : Key} {n : ℕ} {o q : Bool} {s w z t : State} {e : Refusal} (x : Refusal) (y : State) → Enters false k n s (Ok o) w → z ≡ failed_with x y → Leaves q z t → Shows p s (Err e) t
 closure_err {q = q} x y (is_entered r f e) i l = rw (left_by l, i) (refused_left q x y)
 
 module _ {F : Type 0} (g : Once F (MutBor Visitor × Unit {0}) (Result (Unit {0}) Refusal × (MutBor Visitor × Unit {0}))) (f : F) where
-  -- what is shown where a closure never answers Ok
+  -- What is shown where a closure never returns Ok.
   closure_shows : (p : Showing) {k : Key} {n : ℕ} {s t : State} {r : Result (Unit {0}) Refusal} → CallsInside g f k n s t r → ((x y : Visitor) → FnOnceReturnsAtMut g f x (Ok tt) y → ⊥) → Shows p s r t
   closure_shows p (not_called w) never = not_entered w
   closure_shows p (called x y w i c l o) never = absurd (never x y c)
   closure_shows p (refused_inside x y z c w i m e l) never = closure_err c y.collector.now w e l
 
-  -- a visit by a closure that never answers Ok
+  -- A visit by a closure that never returns Ok.
   pub closure_refuses : {p : Showing} {k : Key} {n : ℕ} {a b : Visitor} {r : Result (Unit {0}) Refusal} → CalledInside g f k n a b r → ((x y : Visitor) → FnOnceReturnsAtMut g f x (Ok tt) y → ⊥) → Visited p a b r
   closure_refuses {p = p} h never = record { same_reference = h.same_reference; same_outer = h.same_outer; shown = closure_shows p h.calls never }
 
--- what implementations go by that refuse by themselves, or hide a refusal
+-- The rules for implementations that return an error of their own, or hide an error.
 pub ruleset refusals = (refused_by_hand, refused_in_silence, refused_again, refused_after, refused_first, hides)

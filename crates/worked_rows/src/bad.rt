@@ -1,4 +1,4 @@
-// Implementations that hide refusals, refuse by themselves, or stop in the middle.
+//! Implementations that hide errors, return errors of their own, or stop in the middle.
 #![tactic(auto, using(allocative::proofs::Parts::parts, crate::proofs::Refused::refusals))]
 
 ghost use Rattle.std.specs.Prelude.{codes, ◌^◌, ◌-◌};
@@ -12,7 +12,7 @@ use allocative::{
 use std::alloc::Global;
 use std::process::Abort;
 
-// Meets TooLarge at an entry, hides it and answers Ok.
+// Meets `TooLarge` at an entry, hides it and returns `Ok`.
 #[derive(Drop)]
 struct Hides;
 
@@ -25,7 +25,7 @@ impl Allocative for Hides {
     }
 }
 
-// The same at an entry without a size, which is too large in each kind of collector.
+// Meets `TooLarge` at an entry without a size, in either collector, hides it and returns `Ok`.
 #[derive(Drop)]
 struct HidesUnsized;
 
@@ -38,7 +38,7 @@ impl Allocative for HidesUnsized {
     }
 }
 
-// Refuses by itself and answers Err.
+// Refuses by hand and returns `Err`.
 #[derive(Drop)]
 struct Refuses(Refusal);
 
@@ -50,7 +50,7 @@ impl Allocative for Refuses {
     }
 }
 
-// Refuses by itself and answers Ok.
+// Refuses by hand and returns `Ok`.
 #[derive(Drop)]
 struct RefusesInSilence;
 
@@ -63,7 +63,7 @@ impl Allocative for RefusesInSilence {
     }
 }
 
-// Refuses twice, and answers what the second refusal answered.
+// Refuses twice by hand, and returns what the second `refuse` returned.
 #[derive(Drop)]
 struct RefusesTwice;
 
@@ -76,7 +76,7 @@ impl Allocative for RefusesTwice {
     }
 }
 
-// Refuses with Open where the content of a shared value is shown, and else with Memory.
+// Refuses by hand: with `Open` where the content of a shared value is shown, otherwise with `Memory`.
 #[derive(Drop)]
 struct Tells;
 
@@ -90,7 +90,7 @@ impl Allocative for Tells {
     }
 }
 
-// `unique p 0 {x room, b 1}`: where `b` does not fit, it stops with the visitor of `p` held.
+// Shows `unique p 0 {x room, b 1}`. Where `b` does not fit, the visit stops inside the entry `p`.
 #[derive(Drop)]
 struct Stops {
     room: usize,
@@ -106,7 +106,7 @@ impl Allocative for Stops {
     }
 }
 
-// The same inside an entry of its own: two visitors are held.
+// Shows `Stops` inside an entry of its own. Where `b` does not fit, the visit stops inside two entries.
 #[derive(Drop)]
 struct StopsInside {
     part: Stops,
@@ -120,7 +120,7 @@ impl Allocative for StopsInside {
     }
 }
 
-// A closure refuses by its answer alone.
+// Shows a field by a closure that only returns an error.
 #[derive(Drop)]
 struct ClosureRefuses;
 
@@ -132,7 +132,7 @@ impl Allocative for ClosureRefuses {
     }
 }
 
-// A closure hides TooLarge, and answers another refusal.
+// Shows a field by a closure that hides `TooLarge` and returns another error.
 #[derive(Drop)]
 struct ClosureHides;
 
@@ -147,7 +147,7 @@ impl Allocative for ClosureHides {
     }
 }
 
-// Asserts that `visit_root` and then `finish` refuse a root with this refusal.
+// Asserts that `visit_root` and then `finish` return this error for a root.
 fn assert_refused(
     rt: &impl Abort,
     alloc: Global,
@@ -183,7 +183,7 @@ fn refusals_by_themselves_fail_their_builder(rt: HostRuntime) -> Result<(), Refu
     assert_refused(&rt, alloc, &ClosureRefuses, Refusal::Open)
 }
 
-// What a visitor answers to a refusal by hand, and to another one after it.
+// What a visitor returns for two refusals by hand, one after the other.
 fn refuse_twice(builder: &mut FlameGraphBuilder) -> Result<[Refusal; 2], Refusal> {
     let mut root = builder.root_visitor()?;
     let first = root.refuse(Refusal::TooLarge);
@@ -200,7 +200,7 @@ fn the_first_refusal_is_answered_for_good(rt: HostRuntime) -> Result<(), Refusal
     Ok(())
 }
 
-// What a visitor answers to a closure that refuses, and to an entry after it.
+// What a visitor returns for a closure that returns an error, and for an entry after it.
 fn refuse_by_closure(builder: &mut FlameGraphBuilder) -> Result<[Option<Refusal>; 2], Refusal> {
     let mut root = builder.root_visitor()?;
     let told = root.visit_field_with(Key::new("f"), 4, |_inner| Err(Refusal::Open));

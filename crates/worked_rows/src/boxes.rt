@@ -1,4 +1,4 @@
-// Boxes in types of a user's own: what they show, and what they hold.
+//! Boxes in types of a user's own: what they show, and what they hold.
 #![tactic(auto, using(allocative::proofs::Parts::parts))]
 
 ghost use Rattle.std.specs.Prelude.{codes, Some, true};
@@ -54,7 +54,7 @@ impl Allocative for Data {
     }
 }
 
-// A value of 8 bytes, a box of the other.
+// A value of 8 bytes: a box of `Data`.
 #[derive(Drop)]
 struct Boxed {
     data: Box<Data>,
@@ -106,20 +106,20 @@ fn what_boxes_hold(rt: HostRuntime) -> Result<(), Fail> {
     Ok(())
 }
 
-// `unique ptr 16` of a slice of a hundred bytes.
+// Enters `unique ptr 16` of a slice of a hundred bytes.
 fn enter_pointer(visitor: &mut Visitor<'_>) -> Result<(), Refusal> {
     let mut pointer = visitor.enter_unique(Key::new("ptr"), 16)?;
     pointer.visit_slice_of(&[0u8; 100])
 }
 
-// `data 16 {Box 16 {..}}` of that pointer.
+// Enters `data 16 {Box 16 {..}}` around that pointer.
 fn enter_data(visitor: &mut Visitor<'_>) -> Result<(), Refusal> {
     let mut data = visitor.enter(Key::new("data"), 16)?;
     let mut boxed = data.enter(Key::new("Box"), 16)?;
     enter_pointer(&mut boxed)
 }
 
-// `TestData 24` of that data and a byte.
+// Enters `TestData 24` with that data and a byte.
 fn enter_test_data(builder: &mut FlameGraphBuilder) -> Result<(), Refusal> {
     let mut root = builder.root_visitor()?;
     let mut outer = root.enter(Key::new("TestData"), 24)?;

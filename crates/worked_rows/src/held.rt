@@ -1,4 +1,4 @@
-// What the collector of held bytes counts, and its bound.
+//! What the collector of held bytes counts, and its bound.
 #![tactic(auto, using(allocative::proofs::Parts::parts))]
 
 ghost use Rattle.std.specs.Prelude.{codes, Some, true, false, length, ◌≡◌, ◌^◌, ◌-◌};
@@ -13,7 +13,7 @@ use allocative::{
 use std::process::Abort;
 use std::test::Fail;
 
-// `T 8 {x 5}`.
+// Shows `T 8 {x 5}`.
 #[derive(Drop)]
 struct Plain;
 
@@ -26,7 +26,7 @@ impl Allocative for Plain {
     }
 }
 
-// A pointer of 8 bytes to the shared value 1, with a part as its content.
+/// A pointer of 8 bytes to the shared value 1, with a part as its content.
 pub(crate) fn shared_pointer<P: Part>(content: P) -> Shared<P>
     ensures { result ≡ record { key = codes "q"; size = 8; identity = record { maker = 0; number = 1 }; content = content } }
 {
@@ -38,7 +38,7 @@ pub(crate) fn shared_pointer<P: Part>(content: P) -> Shared<P>
     }
 }
 
-// `T 8 {unique p 8 {shared q 8 #1}}`.
+// Shows `T 8 {unique p 8 {shared q 8 #1}}`.
 #[derive(Drop)]
 struct Points;
 
@@ -51,12 +51,12 @@ impl Allocative for Points {
     }
 }
 
-// Asserts what the held bytes of a value are, or why it is refused.
+/// Asserts the held bytes of a value, or its error.
 pub(crate) fn assert_held(rt: &impl Abort, root: &dyn Allocative, want: Result<usize, Refusal>) {
     assert_eq!(rt; size_of_unique_allocated_data(root), want);
 }
 
-// The same with the value's own declared size added.
+/// Asserts the held bytes of a value with its own declared size added, or its error.
 pub(crate) fn assert_whole<T: Allocative + Described>(
     rt: &impl Abort,
     root: &T,
@@ -71,7 +71,7 @@ fn only_entries_right_inside_unique_ones_are_held(rt: HostRuntime) {
     assert_held(&rt, &Points, Ok(0));
 }
 
-// Numbers as a slice by itself.
+// Shows numbers as a slice with an entry of its own.
 #[derive(Drop)]
 struct SliceOf<'a>(&'a Vec<u32>);
 
@@ -83,7 +83,7 @@ impl<'a> Part for SliceOf<'a> {
     }
 }
 
-// `Box 16 {unique ptr 16 {..}}` of a slice of three numbers.
+// Shows `Box 16 {unique ptr 16 {..}}` of a slice of three numbers.
 #[derive(Drop)]
 struct BoxedSlice {
     numbers: Vec<u32>,
@@ -124,7 +124,7 @@ impl Allocative for BoxedSlice {
     }
 }
 
-// `Boxed 16 {data 16 {..}}` of a boxed slice.
+// Shows `Boxed 16 {data 16 {..}}` of a boxed slice.
 #[derive(Drop)]
 struct Boxed {
     data: BoxedSlice,
@@ -176,7 +176,7 @@ fn a_boxed_slice_holds_its_items(rt: HostRuntime) -> Result<(), Fail> {
     Ok(())
 }
 
-// A value of 8 bytes, a box of a number.
+// A value of 8 bytes: a box of a number.
 #[derive(Drop)]
 struct BoxedNumber {
     data: Box<u32>,
@@ -227,7 +227,7 @@ fn a_box_holds_its_number(rt: HostRuntime) -> Result<(), Fail> {
     Ok(())
 }
 
-// The body of a vector of bytes with no room left.
+// Shows the body of a vector of bytes with no unused room.
 #[derive(Drop)]
 struct FullBody<'a>(&'a Vec<u8>);
 
@@ -239,7 +239,7 @@ impl<'a> Part for FullBody<'a> {
     }
 }
 
-// A buffer of bytes with no room left.
+// Shows a buffer of bytes with no unused room.
 #[derive(Drop)]
 struct Buffer {
     bytes: Vec<u8>,
@@ -264,7 +264,7 @@ fn a_full_buffer_holds_its_bytes(rt: HostRuntime) -> Result<(), Fail> {
     Ok(assert_text(&rt, builder, "ptr 8\nptr;capacity;u8 3\n")?)
 }
 
-// `unique p 0 {a ..}` of the most bytes that fit, in a value of one byte.
+// Shows `unique p 0 {a ..}` of the most bytes that fit, in a value of one byte.
 #[derive(Drop)]
 struct HoldsMost;
 
@@ -303,7 +303,7 @@ impl Allocative for HoldsMost {
     }
 }
 
-// The same with one byte more inside `p`.
+// Shows `unique p 0 {a .., b 1}`, which has one byte more than fits.
 #[derive(Drop)]
 struct HoldsMore;
 
@@ -317,7 +317,7 @@ impl Allocative for HoldsMore {
     }
 }
 
-// The most bytes twice, with no unique entry outside.
+// Shows the most bytes that fit twice, outside any unique entry.
 #[derive(Drop)]
 struct HoldsNone;
 

@@ -1,4 +1,4 @@
-// A type of the greatest size that there is; an `Option` of it has no size.
+//! A type of the greatest size. An `Option` of it has no size.
 #![tactic(auto)]
 
 ghost use Rattle.std.specs.Prelude.{codes, Some, false, ◌^◌, ◌-◌};
@@ -33,7 +33,7 @@ impl Described for Huge {
     }
 }
 
-// What a root visitor answers to a value that has no size.
+// What a root visitor returns for a value without a size.
 fn enter_huge(builder: &mut FlameGraphBuilder) -> Result<Option<Refusal>, Refusal> {
     let mut root = builder.root_visitor()?;
     Ok(root.enter_self_sized::<Option<Huge>>().err())

@@ -1,4 +1,4 @@
-//! Worked examples over the public calls of `allocative`: tests alone.
+//! Tests of worked examples, with the public calls of `allocative`.
 #![tactic(auto)]
 
 #[cfg(test)]

@@ -1,4 +1,4 @@
-// Types of a user's own, by the recipe: an enum, a generic type, and one with a shared part.
+//! Types of a user's own: an enum, a generic type, and one with a shared part.
 #![tactic(auto, using(allocative::proofs::Parts::parts))]
 
 ghost use Rattle.std.specs.Prelude.{codes, Some};
@@ -128,7 +128,7 @@ fn a_shared_part_counts_once(rt: HostRuntime) -> Result<(), Fail> {
     )?)
 }
 
-// One entry as the type of a value, one as the type alone, and one of a size by itself.
+// Enters one entry by a value, one by its type, and one by a declared size.
 fn enter_declared(builder: &mut FlameGraphBuilder) -> Result<(), Refusal> {
     let mut root = builder.root_visitor()?;
     root.enter_self(&7u8)?.exit();

@@ -1,4 +1,4 @@
-// Roots that are visited: each kind of implementation, good and bad.
+//! Roots that are visited: each kind of implementation, good and bad.
 #![tactic(auto, using(allocative::proofs::Parts::parts))]
 
 ghost use Rattle.std.specs.Prelude.{codes};
@@ -8,7 +8,7 @@ use crate::rows::assert_text;
 use allocative::{Allocative, FlameGraphBuilder, Inside, Key, Part, Refusal, Visitor};
 use std::alloc::Global;
 
-// Shows one inline entry.
+/// Shows one inline entry.
 #[derive(Drop)]
 pub(crate) struct Leaf {
     pub(crate) key: Key,
@@ -53,7 +53,7 @@ fn a_root_that_shows_nothing(rt: HostRuntime) -> Result<(), Refusal> {
     Ok(())
 }
 
-// A builder of the roots `z 1` down to `a 1`, so many times over.
+// A builder of the roots `z 1` down to `a 1`, visited `times` times.
 fn letters(alloc: Global, times: usize) -> Result<FlameGraphBuilder, Refusal> {
     let mut builder = FlameGraphBuilder::new(alloc)?;
     for _ in 0..times {

@@ -1,4 +1,4 @@
-// Entries as plain rows: what a test enters is one table.
+//! Entries as plain rows: what a test enters is one table.
 use allocative::{FlameGraphBuilder, FlameGraphOutput, Identity, Key, Refusal, Visitor};
 use std::alloc::Global;
 use std::process::Abort;
@@ -11,7 +11,8 @@ enum Kind {
     Shared(Identity),
 }
 
-// One entry. The deeper rows right after it stand inside it, or in its content where it is a pointer to a shared value.
+/// One entry. The deeper rows directly after it are inside it, or in its content where it is a pointer to a
+/// shared value.
 #[derive(Clone, Copy)]
 pub(crate) struct Row {
     depth: u8,
@@ -20,7 +21,7 @@ pub(crate) struct Row {
     size: usize,
 }
 
-// An inline entry.
+/// An inline entry.
 pub(crate) fn inline(depth: u8, key: &'static str, size: usize) -> Row {
     Row {
         depth,
@@ -30,7 +31,7 @@ pub(crate) fn inline(depth: u8, key: &'static str, size: usize) -> Row {
     }
 }
 
-// A unique entry.
+/// A unique entry.
 pub(crate) fn unique(depth: u8, key: &'static str, size: usize) -> Row {
     Row {
         depth,
@@ -40,7 +41,7 @@ pub(crate) fn unique(depth: u8, key: &'static str, size: usize) -> Row {
     }
 }
 
-// A pointer to a shared value.
+/// A pointer to a shared value.
 pub(crate) fn shared(depth: u8, key: &'static str, size: usize, id: Identity) -> Row {
     Row {
         depth,
@@ -50,7 +51,7 @@ pub(crate) fn shared(depth: u8, key: &'static str, size: usize, id: Identity) ->
     }
 }
 
-// Enters the rows of this depth, up to the first one that stands further out.
+// Enters the rows of this depth, up to the first one that is less deep.
 #[cycle(rows)]
 fn enter_rows(visitor: &mut Visitor<'_>, rows: &[Row], depth: usize) -> Result<(), Refusal> {
     let Some((row, rest)) = rows.split_first() else {
@@ -65,7 +66,7 @@ fn enter_rows(visitor: &mut Visitor<'_>, rows: &[Row], depth: usize) -> Result<(
     enter_rows(visitor, rest, depth)
 }
 
-// Enters one row, and inside it those of the next rows that are deeper.
+// Enters one row, and inside it the next rows that are deeper.
 #[cycle(rows)]
 fn enter_row(visitor: &mut Visitor<'_>, row: &Row, next: &[Row]) -> Result<(), Refusal> {
     let key = Key::new(row.key);
@@ -88,13 +89,13 @@ fn enter_row(visitor: &mut Visitor<'_>, row: &Row, next: &[Row]) -> Result<(), R
     }
 }
 
-// Enters rows from a root visitor of its own.
+/// Enters rows at a new root visitor.
 pub(crate) fn enter_root(builder: &mut FlameGraphBuilder, rows: &[Row]) -> Result<(), Refusal> {
     let mut root = builder.root_visitor()?;
     enter_rows(&mut root, rows, 0)
 }
 
-// A builder that has these rows.
+/// A builder that has these rows.
 pub(crate) fn entered(alloc: Global, rows: &[Row]) -> Result<FlameGraphBuilder, Refusal> {
     let mut builder = FlameGraphBuilder::new(alloc)?;
     enter_root(&mut builder, rows)?;
@@ -119,7 +120,7 @@ fn assert_graph(rt: &impl Abort, output: &FlameGraphOutput, want: &str) -> Resul
     Ok(())
 }
 
-// Asserts the text of a graph, and the warnings beside it.
+/// Asserts the text of a graph, and its warnings.
 pub(crate) fn assert_collected(
     rt: &impl Abort,
     output: &FlameGraphOutput,
@@ -132,7 +133,7 @@ pub(crate) fn assert_collected(
     Ok(())
 }
 
-// Asserts what a builder has collected: the text of its graph, and its warnings.
+/// Asserts what a builder has collected: the text of its graph, and its warnings.
 pub(crate) fn assert_output(
     rt: &impl Abort,
     builder: FlameGraphBuilder,
@@ -142,7 +143,7 @@ pub(crate) fn assert_output(
     assert_collected(rt, &builder.finish()?, text, warnings)
 }
 
-// Asserts that the text of a builder is this one, and that it gives no warning.
+/// Asserts the text of a builder, and that it has no warning.
 pub(crate) fn assert_text(
     rt: &impl Abort,
     builder: FlameGraphBuilder,
@@ -151,7 +152,7 @@ pub(crate) fn assert_text(
     assert_output(rt, builder, text, "")
 }
 
-// Asserts the text of these rows, and that they give no warning.
+/// Asserts the text of these rows, and that they have no warning.
 pub(crate) fn assert_rows(
     rt: &impl Abort,
     alloc: Global,
@@ -161,7 +162,7 @@ pub(crate) fn assert_rows(
     assert_text(rt, entered(alloc, rows)?, text)
 }
 
-// Asserts the text and the warnings of these rows.
+/// Asserts the text and the warnings of these rows.
 pub(crate) fn assert_warned(
     rt: &impl Abort,
     alloc: Global,
@@ -172,7 +173,7 @@ pub(crate) fn assert_warned(
     assert_output(rt, entered(alloc, rows)?, text, warnings)
 }
 
-// Asserts the text of rows and further ones from a second root visitor, and that they give no warning.
+/// Asserts the text of rows and further ones from a second root visitor, and that they have no warning.
 pub(crate) fn assert_both(
     rt: &impl Abort,
     alloc: Global,

@@ -1,4 +1,4 @@
-// The first example of use: a type of a user's own, visited and collected.
+//! The first example of use: a type of a user's own, visited and collected.
 #![tactic(auto, using(allocative::proofs::Parts::parts))]
 
 ghost use Rattle.std.specs.Prelude.{codes, Some};

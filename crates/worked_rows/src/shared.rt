@@ -1,4 +1,4 @@
-// Pointers to shared values: a content is shown once, and stands at the root.
+//! Pointers to shared values: a content is shown once, and starts at the root.
 use crate::rows::{Row, assert_both, assert_rows, assert_text, entered, inline, shared};
 use allocative::{FlameGraphBuilder, Identity, Key, Refusal, Visitor};
 use std::alloc::Global;
@@ -107,7 +107,7 @@ fn a_pointer_past_the_bound_is_too_large_though_it_was_met(rt: HostRuntime) -> R
     Ok(())
 }
 
-// A pointer to an identity of a hundred, whose content points to the next one, and so on around.
+// Enters a pointer to one of a hundred identities, whose content points to the next one, and so on in a ring.
 fn point_round(visitor: &mut Visitor<'_>, left: u64) -> Result<(), Refusal> {
     let id = Identity::from(left % 100);
     if let Some(mut content) = visitor.enter_shared(Key::new("p"), 8, id)?
@@ -118,7 +118,7 @@ fn point_round(visitor: &mut Visitor<'_>, left: u64) -> Result<(), Refusal> {
     Ok(())
 }
 
-// A builder that went around ten times.
+// A builder with a walk around the ring, which ends at the first identity that was met before.
 fn around(alloc: Global) -> Result<FlameGraphBuilder, Refusal> {
     let mut builder = FlameGraphBuilder::new(alloc)?;
     let mut root = builder.root_visitor()?;

@@ -1,4 +1,4 @@
-// Two collections, whose graphs are added.
+//! Two collections, whose graphs are added.
 #![tactic(auto, using(allocative::proofs::Parts::parts, crate::proofs::Refused::refused_by_hand))]
 
 ghost use Rattle.std.specs.Prelude.{codes, None, Some, false, ◌≡◌};
@@ -68,14 +68,14 @@ fn shared_items_add_up(rt: HostRuntime) -> Result<(), Refusal> {
     let apart = [IdArc::new(alloc, 6u64, Identity::new(1, 1))?];
     assert_sum(&rt, alloc, &left, &apart, text)?;
     assert_one(&rt, alloc, &left[0], &apart[0], text)?;
-    // The identities are not apart here, so one collection shows one content alone.
+    // The two collections share an identity here, so one collection shows only one content.
     let again = [IdArc::new(alloc, 7u64, Identity::new(0, 1))?];
     assert_sum(&rt, alloc, &left, &again, text)?;
     let once = "Arc;ptr 16\nArcInner 16\nArcInner;u64 8\n";
     assert_one(&rt, alloc, &left[0], &again[0], once)
 }
 
-// Shows `a size`, or `a size {x inner}`, or refuses.
+// Shows `a size` or `a size {x inner}`, or returns an error.
 #[derive(Drop)]
 struct Item {
     size: usize,
@@ -149,7 +149,7 @@ impl Allocative for Item {
 #[test]
 fn sums_that_do_not_add_up(rt: HostRuntime) -> Result<(), Refusal> {
     let alloc = rt.alloc();
-    // At `a` the left has fewer bytes than below, and the right more.
+    // At `a` the left one has fewer bytes than are below it, and the right one more.
     let short = [Item::holding(1, 4)];
     let plain = [Item::plain(5)];
     assert_sum(&rt, alloc, &short, &plain, "a 5\na;x 4\n")?;

@@ -1,4 +1,4 @@
-// Values of std and of test types, visited and held.
+//! Values of std and of test types, visited and held.
 #![tactic(auto, using(allocative::proofs::Parts::parts))]
 
 ghost use Rattle.std.specs.Prelude.{codes, Some, false, ◌≡◌};
@@ -14,7 +14,7 @@ use std::collections::BTreeMap;
 use std::process::Abort;
 use std::test::Fail;
 
-// A value of 64 bytes at an alignment of 64, with one field.
+// A value of 64 bytes with an alignment of 64, and one field.
 #[derive(Drop)]
 struct CacheLine(u8);
 
@@ -79,7 +79,7 @@ fn a_map_of_one_pair_warns(rt: HostRuntime) -> Result<(), Fail> {
     )?)
 }
 
-// `T 8 {unique p 8 {unique q 8 {d 5}}}`.
+// Shows `T 8 {unique p 8 {unique q 8 {d 5}}}`.
 #[derive(Drop)]
 struct Nested;
 
@@ -133,7 +133,7 @@ impl Allocative for TestGlobalRoot {
     }
 }
 
-// Asserts the text of a registry's profile, and that it gives no warning.
+// Asserts the text of a registry's profile, and that it has no warning.
 fn assert_profile(rt: &impl Abort, registry: &Registry, want: &str) -> Result<(), Refusal> {
     assert_collected(rt, &profile_roots(registry)?, want, "")
 }

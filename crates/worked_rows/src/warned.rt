@@ -1,9 +1,9 @@
-// The paths that have a warning, as paths with both figures.
+//! The paths that have a warning, each with both numbers.
 use crate::rows::{entered, inline};
 use allocative::{FlameGraphBuilder, FlameGraphOutput, Key, Refusal};
 use std::alloc::Global;
 
-// A run of `b 1 {c 2 {d 5}}` and `a 1 {x 4}`.
+// The output of `b 1 {c 2 {d 5}}` and `a 1 {x 4}`.
 fn short_of_children(alloc: Global) -> Result<FlameGraphOutput, Refusal> {
     let rows = [
         inline(0, "b", 1),
@@ -15,7 +15,7 @@ fn short_of_children(alloc: Global) -> Result<FlameGraphOutput, Refusal> {
     entered(alloc, &rows)?.finish()
 }
 
-// Each path with a warning, its own bytes, and those one key below.
+// Each path with a warning, its own bytes, and those one key below it.
 fn told(alloc: Global, output: &FlameGraphOutput) -> Result<String, Refusal> {
     let mut text = String::new(alloc);
     for warned in output.warned_paths() {

@@ -1,4 +1,4 @@
--- How many rows are left, twice over: a row and what stands inside it come before the rows after it.
+-- Twice the number of rows that are left: a row and what is inside it come before the rows after it.
 use Rattle.std.proofs.Common.{length, ◌+◌, ◌*◌}
 use Rattle.worked_rows.proofs.rows.+rows.Given as goal
 

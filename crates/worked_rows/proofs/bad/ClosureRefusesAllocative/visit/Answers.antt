@@ -1,4 +1,4 @@
--- The closure answers Err.
+-- The closure returns Err.
 use Rattle.std.proofs.Common.{rules}
 use Rattle.worked_rows.proofs.Refused.{closure_refuses}
 use Rattle.worked_rows.proofs.bad.ClosureRefusesAllocative.visit.Goals as goal

@@ -1,4 +1,4 @@
--- The refusal was hidden.
+-- The error was hidden.
 use Rattle.worked_rows.proofs.Refused.{refused_in_silence}
 use Rattle.worked_rows.proofs.bad.RefusesInSilenceAllocative.visit.Goals as goal
 
