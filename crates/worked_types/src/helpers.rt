@@ -1,4 +1,4 @@
-// The texts of the helpers, and that a visit by them can succeed.
+//! The texts of the helpers, and that a visit with them can succeed.
 #![tactic(auto, using(allocative::proofs::Parts::parts))]
 
 ghost use Rattle.std.specs.Prelude.{codes, true, false, Some, length, string_bytes};
@@ -14,7 +14,7 @@ use std::alloc::Global;
 use std::collections::BTreeMap;
 use std::test::Fail;
 
-// A byte, declared as `u8` is.
+// A byte that declares what `u8` declares.
 #[derive(Clone, Copy, Debug, PartialEq, Eq, PartialOrd, Ord, Drop)]
 struct Byte(u8);
 
@@ -52,7 +52,7 @@ impl Allocative for Byte {
     }
 }
 
-// Declares that it needs no drop.
+// A pair that declares that it needs no drop.
 #[derive(Drop)]
 struct Pair;
 
@@ -91,7 +91,7 @@ impl Allocative for Pair {
     }
 }
 
-// The same, but declares that it needs a drop.
+// A pair that declares that it needs a drop.
 #[derive(Drop)]
 struct DropPair(Pair);
 
@@ -256,7 +256,7 @@ impl Allocative for WithSteps {
     }
 }
 
-// Shows a slice by itself.
+// Shows a slice with an entry of its own.
 #[derive(Drop)]
 struct SliceOf {
     items: Vec<Byte>,
@@ -270,7 +270,7 @@ impl Allocative for SliceOf {
     }
 }
 
-// The body of a vector of bytes with no room left.
+// Shows the body of a vector of bytes with no unused room.
 #[derive(Drop)]
 struct FullBody<'a>(&'a Vec<Byte>);
 
@@ -282,7 +282,7 @@ impl<'a> Part for FullBody<'a> {
     }
 }
 
-// Shows a buffer with no room left.
+// Shows a buffer with no unused room.
 #[derive(Drop)]
 struct Body {
     items: Vec<Byte>,

@@ -1,4 +1,4 @@
-//! The text of each type and of each helper, over the public calls of `allocative`: tests alone.
+//! Tests of the text of each type and of each helper, with the public calls of `allocative`.
 #![tactic(auto)]
 
 #[cfg(test)]

@@ -1,4 +1,4 @@
-// The text of each type of the pack's crates at a concrete type.
+//! The text of each type of another crate, at a concrete type.
 
 ghost use Rattle.serde_json.specs.View.{members_view};
 ghost use Rattle.allocative.specs.JsonShows.{map_shows};
@@ -14,7 +14,7 @@ use smallvec::SmallVec;
 use std::alloc::Global;
 use std::test::Fail;
 
-// What stands in the one line of a text whose last key is `unused_capacity`, which begins so.
+// The number in the only line of a text whose last key is `unused_capacity`. The line begins with `path`.
 fn amount_in(text: &str, path: &str) -> Result<usize, Fail> {
     let mut found = None;
     for line in text.lines() {
@@ -29,7 +29,7 @@ fn amount_in(text: &str, path: &str) -> Result<usize, Fail> {
     Ok(found.ok_or("no line")?)
 }
 
-// The same of the text of one visit.
+// The number in the only line of unused capacity in the text of one visit. The line begins with `path`.
 fn amount_at(alloc: Global, root: &dyn Allocative, path: &str) -> Result<usize, Fail> {
     let text = text_of(alloc, root)?;
     amount_in(text.as_str(), path)
@@ -94,7 +94,7 @@ fn a_json_number_shows_itself(rt: HostRuntime) -> Result<(), Fail> {
     expect_text(&rt, rt.alloc(), number, "Number 16\n")
 }
 
-// The members of the object that this text gives.
+// The members of the object in this JSON text.
 fn members_of(alloc: Global, text: &str) -> Result<Members, Fail> {
     let Value::Object(map) = Value::from_str(alloc, text)? else {
         return Err(Fail::new("an object"));
@@ -195,7 +195,7 @@ fn a_slab_shows_its_values(rt: HostRuntime) -> Result<(), Fail> {
     )
 }
 
-// Three values, and room for a hundred more.
+// A slab of three values, with room for a hundred more.
 fn slab_with_room(alloc: Global) -> Result<Slab<u8>, Fail> {
     let mut three: Slab<u8> = Slab::new(alloc);
     three.insert(1)?;
@@ -245,7 +245,7 @@ fn fill_map(map: &mut IndexMap<u8, u8>) -> Result<(), Fail> {
     Ok(())
 }
 
-// The unused bytes that a map with such room shows, and those that its capacity leaves.
+// The unused bytes that a map with that room shows, and those that its capacity leaves.
 fn room_of_a_map(alloc: Global) -> Result<(usize, Option<usize>), Fail> {
     let mut three: IndexMap<u8, u8> = IndexMap::new(alloc);
     fill_map(&mut three)?;
@@ -289,7 +289,7 @@ fn fill_set(set: &mut IndexSet<u8>) -> Result<(), Fail> {
     Ok(())
 }
 
-// The unused bytes that a set with such room shows, and those that its capacity leaves.
+// The unused bytes that a set with that room shows, and those that its capacity leaves.
 fn room_of_a_set(alloc: Global) -> Result<(usize, usize), Fail> {
     let mut three: IndexSet<u8> = IndexSet::new(alloc);
     fill_set(&mut three)?;

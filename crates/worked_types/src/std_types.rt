@@ -1,4 +1,4 @@
-// The text of each type at a concrete type, without the lines of unused capacity.
+//! The text of each type at a concrete type, without the lines of unused capacity.
 use crate::texts::expect_exact;
 use allocative::{
     Allocative, IdArc, IdRc, Identity, size_of_unique, size_of_unique_allocated_data,

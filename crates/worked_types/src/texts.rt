@@ -1,4 +1,4 @@
-// The text of one visit.
+//! The text of one visit.
 use allocative::{Allocative, FlameGraphBuilder, FlameGraphOutput};
 use std::alloc::Global;
 use std::process::Abort;
@@ -8,7 +8,7 @@ fn has_warnings(output: &FlameGraphOutput) -> Result<bool, Fail> {
     Ok(!output.warnings()?.is_empty())
 }
 
-// The text of one visit that gives no warning.
+/// The text of one visit that gives no warning.
 pub(crate) fn text_of(alloc: Global, root: &dyn Allocative) -> Result<String, Fail> {
     let mut builder = FlameGraphBuilder::new(alloc)?;
     builder.visit_root(root)?;
@@ -19,7 +19,7 @@ pub(crate) fn text_of(alloc: Global, root: &dyn Allocative) -> Result<String, Fa
     Ok(output.flamegraph().write()?)
 }
 
-// The same without the lines whose last key is `unused_capacity`.
+// The text of one visit without the lines whose last key is `unused_capacity`.
 fn exact_text(alloc: Global, root: &dyn Allocative) -> Result<String, Fail> {
     let text = text_of(alloc, root)?;
     let mut exact = String::new(alloc);
@@ -32,7 +32,7 @@ fn exact_text(alloc: Global, root: &dyn Allocative) -> Result<String, Fail> {
     Ok(exact)
 }
 
-// Asserts that the text of one visit is this one.
+/// Asserts the text of one visit.
 pub(crate) fn expect_text(
     rt: &impl Abort,
     alloc: Global,
@@ -44,7 +44,7 @@ pub(crate) fn expect_text(
     Ok(())
 }
 
-// Asserts that the text of one visit, without the lines of unused capacity, is this one.
+/// Asserts the text of one visit without the lines of unused capacity.
 pub(crate) fn expect_exact(
     rt: &impl Abort,
     alloc: Global,

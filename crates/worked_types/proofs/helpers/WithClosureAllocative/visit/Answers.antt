@@ -1,4 +1,4 @@
--- What the closure shows stands in the entry.
+-- What the closure shows is inside the entry.
 use Rattle.std.proofs.Common.{rules, codes}
 use Rattle.allocative.specs.Shows.{Inside, Nothing}
 use Rattle.allocative.proofs.Closures.{with_shows}
