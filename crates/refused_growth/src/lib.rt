@@ -1,5 +1,5 @@
-//! Tests that are right with ample memory and with any one growth refused: on a refusal each asserts what it is and what
-//! stands then, and hands it out.
+//! Tests that pass with enough memory and with any one growth refused. After an error each test asserts which
+//! error it is and what is left, and returns it.
 #![tactic(auto)]
 
 #[cfg(test)]

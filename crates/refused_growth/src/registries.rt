@@ -1,4 +1,4 @@
-// Registries and whole runs after a refused growth.
+//! Registries and whole runs after a refused growth.
 #![tactic(auto, using(allocative::proofs::Parts::parts))]
 
 ghost use Rattle.std.specs.Prelude.{codes, Some};
