@@ -17,8 +17,8 @@ are_shown_each needs_drop (Some s) = is_shown_each needs_drop s
 abbrev pub bytes_shown : Key → Option ℕ → ℕ → Showing
 bytes_shown k size n = Field k (size_product size (Some n)) Nothing
 
--- The body of a vector with room for n items: an entry of the bytes of n items, with the slice and an entry of the
--- bytes of the room that is left inside it.
+-- The body of a vector with room for n items: an entry of the bytes of n items. Inside it are the slice and an entry
+-- of the bytes of the room that is left.
 abbrev pub vec_body : {T : Type 0} → Key → Option ℕ → Bool → (T → Showing) → List T → ℕ → Showing
 vec_body name size needs_drop p xs n =
     Field (codes "capacity") (size_product size (Some n)) (Both (slice_shows name size needs_drop p xs) (bytes_shown (codes "unused_capacity") size (n - length xs)))

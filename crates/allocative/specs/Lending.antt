@@ -1,4 +1,4 @@
--- How a collector ends that a visitor borrowed.
+-- How a collector ends after a visitor borrowed it.
 use Rattle.std.specs.Prelude.{ℕ, Option, Result, Err, IfErr, Bool}
 use Rattle.std.specs.Borrow.{Fml, MutBor, RestsIfErr}
 use Rattle.allocative_graph.specs.declared.refusal.Refusal.{Refusal}

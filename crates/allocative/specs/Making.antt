@@ -33,7 +33,7 @@ pub data Makes : Plan → State → Result Unit Refusal → State → Type 0 whe
   entry_refused : {k : Key} {size : Option ℕ} {inside after : Plan} {s t : State} {e : Refusal} → EntersSized k size s (Err e) t → Makes (Entry k size inside after) s (Err e) t
   inside_refused : {k : Key} {size : Option ℕ} {inside after : Plan} {s t c : State} {o : Bool} {e : Refusal} → EntersSized k size s (Ok o) t → Makes inside t (Err e) c → Makes (Entry k size inside after) s (Err e) c
 
--- What a call does that makes an entry of its own first: the entry is refused as entering says, and nothing else is
+-- What a call that makes an entry of its own first does: the entry is refused as entering says, and nothing else is
 -- entered; or it is entered, and anything may follow.
 pub data EntersFirst (k : Key) (size : Option ℕ) (s : State) : Result Unit Refusal → State → Type 0 where
   first_refused : {e : Refusal} {t : State} → EntersSized k size s (Err e) t → EntersFirst k size s (Err e) t
@@ -77,7 +77,7 @@ pub data MakesRun {S A : Type 0} (steps : S → Option A → S → Type 0) (s : 
 abbrev pub MakesPlan : Plan → Visitor → Visitor → Result Unit Refusal → Type 0
 MakesPlan p old new r = Makes p old.collector.now r new.collector.now
 
--- What a call at a visitor does to its collector that makes an entry of its own first.
+-- What a call that makes an entry of its own first does to the collector of its visitor.
 abbrev pub MakesFirst : Key → Option ℕ → Visitor → Visitor → Result Unit Refusal → Type 0
 MakesFirst k size old new r = EntersFirst k size old.collector.now r new.collector.now
 

@@ -1,4 +1,4 @@
--- How a visitor ends whose collector a nested visitor borrowed.
+-- How a visitor ends after a nested visitor borrowed its collector.
 use Rattle.std.specs.Prelude.{◌≡◌, ℕ, [], Bool, true, false, Option, None, Some, Result, Ok, Err, IfErr, OnOk, ⊤}
 use Rattle.std.specs.Borrow.{Fml, GName, MutBor, Lends, follows_so, name_if_ok}
 use mathlib.Core.Option as maybe

@@ -1,4 +1,4 @@
--- How a builder ends whose collector a root visitor borrowed.
+-- How a builder ends after a root visitor borrowed its collector.
 use Rattle.std.specs.Prelude.{◌≡◌, Result, Err, IfErr, OnOk}
 use Rattle.std.specs.Borrow.{Fml, MutBor, Lends, follows_so, name_if_ok}
 use Rattle.allocative_graph.specs.declared.refusal.Refusal.{Refusal}
@@ -13,8 +13,8 @@ use Rattle.allocative.specs.Built.{as_graph}
 abbrev pub LendsBuilt : MutBor State → MutBor State → Fml
 LendsBuilt s r = Lends builder.the_row collector.the_row s r as_graph
 
--- The builder ends as the collector that the root visitor leaves, seen as that of a flame graph or, where no visitor is
--- returned, as beginning says.
+-- The builder ends as the collector that the root visitor leaves or, where no visitor is returned, as beginning says.
+-- The collector is seen as that of a flame graph.
 abbrev pub LendsRoot : MutBor State → Result Visitor Refusal → Fml
 LendsRoot s r =
     follows_so builder.the_row collector.the_row s.ghost_name (name_if_ok (λ v. v.collector.ghost_name) r)

@@ -23,7 +23,7 @@ abbrev pub told : Option Refusal → Result Bool Refusal
 told None = Ok false
 told (Some e) = Err e
 
--- The result with a visitor, without one, or with an error, from the form that has two errors.
+-- The result in the form of `enter_shared`: a visitor, none, or an error.
 abbrev pub turned : Result Visitor (Option Refusal) → Result (Option Visitor) Refusal
 turned (Ok v) = Ok (Some v)
 turned (Err None) = Ok None

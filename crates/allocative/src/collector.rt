@@ -26,8 +26,7 @@ enum Kind {
 }
 
 /// What visitors enter into: the collector of a flame graph, or that of held bytes.
-///
-/// It has failed, with its first cause, or it is going. Visitors borrow it one from another.
+/// It has failed, with its first cause, or it is going. Visitors borrow it from each other.
 #[derive(Drop)]
 pub struct Collector {
     failed: Option<Refusal>,
@@ -240,8 +239,8 @@ impl Collector {
         }
     }
 
-    /// One more root visitor. It returns the flag that `leave` restores; the first cause where the collector
-    /// has failed, and `Open` where a visitor is open.
+    /// One more root visitor. It returns the flag that `leave` restores, the first cause where the collector
+    /// has failed, or `Open` where a visitor is open.
     pub(crate) fn begin(&mut self) -> Result<bool, Refusal>
         ensures { Begins self.old result self.new }
     {

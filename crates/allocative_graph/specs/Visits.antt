@@ -12,9 +12,9 @@ use Rattle.allocative_graph.specs.Graph.{Graph, Warned, graph, warnings, warned_
 use Rattle.allocative_graph.specs.Collector.{Live, Holding, Kind, OfGraph, OfHeld, State, Failed, Going, held_bytes, enter, enter_first, enter_again, leave, plus, Takes, is_graph, visitors, is_in_unique, begin, IsClosed, IsAtRoot}
 use Rattle.allocative_graph.specs.Shows.{Showing}
 
--- What a visit of a value does that may show the forests of p. A failed collector stays as it is. After Err it has
--- failed. After Ok it has failed (an error was hidden), or has more open visitors than before (one was forgotten), or
--- has one more forest, which p allows and the collector takes.
+-- What visiting a value does to a collector, where p is what the value may show. A failed collector stays as it is.
+-- After Err it has failed. After Ok it has failed (an error was hidden), or has more open visitors than before (one
+-- was forgotten), or has one more forest, which p allows and the collector takes.
 pub data Shows (p : Showing) : State → Result Unit Refusal → State → Type 0 where
   already : {r : Refusal} {result : Result Unit Refusal} → Shows p (Failed r) result (Failed r)
   refused : {b : Kind} {e r : Refusal} → Shows p (Going b) (Err e) (Failed r)
@@ -90,10 +90,11 @@ Settles (Failed r) result = result ≡ Err r
 Settles (Going b) (Ok u) = IsClosed b
 Settles (Going b) (Err e) = (e ≡ Open) × ¬ IsClosed b
 
--- What a visit by a root visitor does to a collector, for a value that may show what p allows. A failed collector
+-- What visiting a value by a root visitor does to a collector, where p is what the value may show. A failed collector
 -- returns its first cause and stays as it is. Where a visitor is open, the call returns Open and nothing changes.
--- Otherwise it returns Ok exactly where the collector afterwards has not failed and has no open visitor, and then it
--- has one more forest; it returns the cause where the collector has failed, and Open where a visitor is open.
+-- Otherwise it returns Ok exactly where the collector afterwards has not failed and has no open visitor, and then the
+-- collector has one more forest; it returns the cause where the collector has failed, and Open where a visitor is
+-- open.
 abbrev pub Runs : Showing → State → Result Unit Refusal → State → Type 0
 Runs p (Failed r) result t = (result ≡ Err r) × (t ≡ Failed r)
 Runs p (Going b) (Ok u) (Failed r) = ⊥

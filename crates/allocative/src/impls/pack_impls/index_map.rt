@@ -1,4 +1,4 @@
-//! `IndexMap`: its pairs in insertion order, and its table.
+//! `IndexMap`: its pairs in the order of the map, and its table.
 #![tactic(auto, using(crate::proofs::Parts::parts))]
 
 ghost use Rattle.std.specs.Prelude.{codes};

@@ -1,4 +1,4 @@
-//! `IndexSet`: its values in insertion order, and its table.
+//! `IndexSet`: its values in the order of the set, and its table.
 #![tactic(auto, using(crate::proofs::Parts::parts))]
 
 ghost use Rattle.std.specs.Prelude.{codes};
