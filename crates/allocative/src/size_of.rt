@@ -1,41 +1,17 @@
-//! Runs of a root visitor, and the bytes that a value holds on the heap.
+//! The bytes that values hold on the heap.
 #![tactic(auto, using(crate::proofs::Roots::running))]
 
 ghost use Rattle.std.specs.Prelude.{◌≡◌, IfOk};
 ghost use Rattle.allocative_graph.specs.Forest.{Forest};
 ghost use Rattle.allocative_graph.specs.Held.{held, ShowsNoContent};
-ghost use Rattle.allocative_graph.specs.Visits.{Runs};
 ghost use Rattle.allocative.specs.Closures.{KeepsVisitor, CalledAt, CalledAtRoot};
 ghost use Rattle.allocative.specs.SizeOf.{IsSizeOfUnique};
 
 use crate::allocative_trait::Allocative;
 use crate::collector::Collector;
-use crate::part::Part;
 use crate::visitor::Visitor;
 use allocative_described::Described;
 use allocative_graph::refusal::Refusal;
-
-impl Collector {
-    /// Visits an object by a root visitor. The visit's own answer is let go: the collector knows it.
-    pub(crate) fn visit_object(&mut self, root: &dyn Allocative) -> Result<(), Refusal>
-        ensures { Runs (may_show root.now) self.old result self.new }
-    {
-        let mut visitor = self.root_visitor()?;
-        let _told = visitor.visit_object(root);
-        visitor.exit();
-        self.check()
-    }
-
-    /// The same, where no trait object is made.
-    pub(crate) fn visit_one<T: Allocative>(&mut self, root: &T) -> Result<(), Refusal>
-        ensures { Runs (T.may_show root.now) self.old result self.new }
-    {
-        let mut visitor = self.root_visitor()?;
-        let _told = root.enter(&mut visitor);
-        visitor.exit();
-        self.check()
-    }
-}
 
 impl Visitor<'_> {
     // Calls the closure at this visitor. Its refusal is the first cause where nothing had failed.

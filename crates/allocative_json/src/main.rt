@@ -7,7 +7,6 @@ mod profile;
 mod report;
 mod roots;
 mod run;
-mod texts;
 mod words;
 
 use fault::Fault;

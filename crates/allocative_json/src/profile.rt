@@ -7,9 +7,8 @@ ghost use Rattle.allocative.specs.Visits.{Runs, IsProfileOf};
 ghost use Rattle.allocative_json.specs.Profile.{both_show, IsRightReport, RefusesReport};
 
 use crate::fault::Fault;
-use crate::report;
+use crate::report::{self, Report};
 use crate::roots::read_roots;
-use crate::texts::Report;
 use allocative::{FlameGraphBuilder, FlameGraphOutput, Refusal, Registry, profile_roots};
 use serde_json::Value;
 use std::alloc::Global;

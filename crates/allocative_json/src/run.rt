@@ -8,7 +8,7 @@ ghost use Rattle.allocative_json.specs.Words.{words_of};
 
 use crate::fault::Fault;
 use crate::profile::{profile_json, profile_registered};
-use crate::texts::Report;
+use crate::report::Report;
 use crate::words::{Words, read_words};
 use std::alloc::Global;
 use std::io::{ErrorKind, Read, Write};
