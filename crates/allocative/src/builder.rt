@@ -97,7 +97,7 @@ impl FlameGraphBuilder {
         ensures { Runs (T.may_show root.now) self.old result self.new }
     {
         self.check()?;
-        self.collector.visit_one(root)
+        self.collector.visit_value(root)
     }
 
     /// `Ok` where the builder has not failed and has no open visitor, otherwise its first cause, or `Open`.

@@ -47,7 +47,7 @@ impl Model for Collector {
 }
 
 impl Kind {
-    // One more entry, and a visitor at it. It returns the flag that `leave` restores.
+    // One more entry, and a visitor at it. It returns the flag that `close_entry` restores.
     #[inline(always)]
     fn enter(&mut self, key: &Key, size: usize, is_unique: bool) -> Result<bool, Refusal>
         ensures ok { IfOk result (λ outer. HasRoom is_unique size (kind_of self.old) × (outer ≡ is_in_unique (kind_of self.old)) × (kind_of self.new ≡ enter is_unique key.now size (kind_of self.old))) }
@@ -64,7 +64,7 @@ impl Kind {
 
     // One visitor less.
     #[inline(always)]
-    fn leave(&mut self, outer: bool)
+    fn close_entry(&mut self, outer: bool)
         ensures { kind_of self.new ≡ leave outer (kind_of self.old) }
     {
         match self {
@@ -84,7 +84,7 @@ impl Kind {
         }
     }
 
-    // One more root visitor, where no visitor is open. It returns the flag that `leave` restores.
+    // One more root visitor, where no visitor is open. It returns the flag that `close_entry` restores.
     fn begin(&mut self) -> bool
         requires { IsClosed (kind_of self.old) }
         ensures outer { result ≡ is_in_unique (kind_of self.old) }
@@ -146,9 +146,9 @@ impl Collector {
         Ok(())
     }
 
-    // One more entry, unique or inline. It returns the flag that `leave` restores.
+    // One more entry, unique or inline. It returns the flag that `close_entry` restores.
     #[inline(always)]
-    fn step_in(&mut self, key: &Key, size: usize, is_unique: bool) -> Result<bool, Refusal>
+    fn open_by_cases(&mut self, key: &Key, size: usize, is_unique: bool) -> Result<bool, Refusal>
         ensures enters { StepsIn is_unique key.now size self.old result self.new }
         ensures cause { IfErr result (HasFailed self.new) }
     {
@@ -165,7 +165,12 @@ impl Collector {
     }
 
     // One more shared entry. It returns whether the content is to be shown.
-    fn step_in_shared(&mut self, key: &Key, size: usize, id: Identity) -> Result<bool, Refusal>
+    fn open_shared_by_cases(
+        &mut self,
+        key: &Key,
+        size: usize,
+        id: Identity,
+    ) -> Result<bool, Refusal>
         ensures enters { StepsInShared key.now size id self.old result self.new }
         ensures cause { IfErr result (HasFailed self.new) }
     {
@@ -184,40 +189,40 @@ impl Collector {
         }
     }
 
-    /// One more inline entry of `size` bytes, and a visitor at it. It returns the flag that `leave` restores.
+    /// One more inline entry of `size` bytes, and a visitor at it. It returns the flag that `close_entry` restores.
     #[inline(always)]
-    pub(crate) fn go_in(&mut self, key: Key, size: usize) -> Result<bool, Refusal>
+    pub(crate) fn open_entry(&mut self, key: Key, size: usize) -> Result<bool, Refusal>
         ensures enters { Enters false key size self.old result self.new }
         ensures cause { IfErr result (HasFailed self.new) }
     {
-        self.step_in(&key, size, false)
+        self.open_by_cases(&key, size, false)
     }
 
-    /// One more unique entry of `size` bytes, and a visitor at it. It returns the flag that `leave` restores.
+    /// One more unique entry of `size` bytes, and a visitor at it. It returns the flag that `close_entry` restores.
     #[inline(always)]
-    pub(crate) fn go_in_unique(&mut self, key: Key, size: usize) -> Result<bool, Refusal>
+    pub(crate) fn open_unique(&mut self, key: Key, size: usize) -> Result<bool, Refusal>
         ensures enters { Enters true key size self.old result self.new }
         ensures cause { IfErr result (HasFailed self.new) }
     {
-        self.step_in(&key, size, true)
+        self.open_by_cases(&key, size, true)
     }
 
-    /// One more inline entry of a declared size, and a visitor at it. It returns the flag that `leave`
+    /// One more inline entry of a declared size, and a visitor at it. It returns the flag that `close_entry`
     /// restores, and `TooLarge` where there is no size.
     #[inline(always)]
-    pub(crate) fn go_in_sized(&mut self, key: Key, size: Option<usize>) -> Result<bool, Refusal>
+    pub(crate) fn open_sized(&mut self, key: Key, size: Option<usize>) -> Result<bool, Refusal>
         ensures enters { EntersSized key size self.old result self.new }
         ensures cause { IfErr result (HasFailed self.new) }
     {
         match size {
-            Some(size) => self.go_in(key, size),
+            Some(size) => self.open_entry(key, size),
             None => Err(self.refuse(Refusal::TooLarge)),
         }
     }
 
     /// One more pointer of `size` bytes to the shared value with the identity `id`. It returns whether
     /// the content is to be shown.
-    pub(crate) fn go_to_shared(
+    pub(crate) fn open_shared(
         &mut self,
         key: Key,
         size: usize,
@@ -226,20 +231,20 @@ impl Collector {
         ensures enters { EntersShared key size id self.old result self.new }
         ensures cause { IfErr result (HasFailed self.new) }
     {
-        self.step_in_shared(&key, size, id)
+        self.open_shared_by_cases(&key, size, id)
     }
 
     /// One visitor less; `outer` says whether the visitor outside it is that of a unique entry.
     #[inline(always)]
-    pub(crate) fn leave(&mut self, outer: bool)
+    pub(crate) fn close_entry(&mut self, outer: bool)
         ensures { self.new ≡ left outer self.old }
     {
         if self.failed.is_none() {
-            self.kind.leave(outer);
+            self.kind.close_entry(outer);
         }
     }
 
-    /// One more root visitor. It returns the flag that `leave` restores, the first cause where the collector
+    /// One more root visitor. It returns the flag that `close_entry` restores, the first cause where the collector
     /// has failed, or `Open` where a visitor is open.
     pub(crate) fn begin(&mut self) -> Result<bool, Refusal>
         ensures { Begins self.old result self.new }

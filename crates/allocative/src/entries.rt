@@ -37,9 +37,9 @@ impl Visitor<'_> {
         ensures entered { Entered (Field name T.size (T.may_show field.now)) self.old self.new result }
         ensures first { MakesFirst name T.size self.old self.new result }
     {
-        let outer = self.collector.go_in_sized(name, T::size())?;
+        let outer = self.collector.open_sized(name, T::size())?;
         let answer = field.enter(self);
-        self.collector.leave(outer);
+        self.collector.close_entry(outer);
         answer
     }
 
@@ -78,9 +78,9 @@ impl Visitor<'_> {
     fn visit_object_pointer(&mut self, object: &dyn Allocative) -> Result<(), Refusal>
         ensures { Entered (InsideUnique (codes "ptr") 8 (may_show object.now)) self.old self.new result }
     {
-        let outer = self.collector.go_in_unique(Key::new("ptr"), 8)?;
+        let outer = self.collector.open_unique(Key::new("ptr"), 8)?;
         let answer = self.visit_object(object);
-        self.collector.leave(outer);
+        self.collector.close_entry(outer);
         answer
     }
 
@@ -93,9 +93,9 @@ impl Visitor<'_> {
         ensures entered { Entered (Inside (codes "Box") 8 (InsideUnique (codes "ptr") 8 (may_show object.now))) self.old self.new result }
         ensures first { MakesFirst (codes "Box") (Some 8) self.old self.new result }
     {
-        let outer = self.collector.go_in(Key::new("Box"), 8)?;
+        let outer = self.collector.open_entry(Key::new("Box"), 8)?;
         let answer = self.visit_object_pointer(object);
-        self.collector.leave(outer);
+        self.collector.close_entry(outer);
         answer
     }
 }

@@ -193,9 +193,9 @@ impl Visitor<'_> {
         ensures first { MakesFirst (codes "data") (Some 8) self.old self.new result }
         ensures exact { MakesPlanOrGives I.next_gives entries (one (codes "data") (Some 8)) self.old self.new result }
     {
-        let outer = self.collector.go_in(Key::new("data"), 8)?;
+        let outer = self.collector.open_entry(Key::new("data"), 8)?;
         let answer = self.visit_pairs(entries);
-        self.collector.leave(outer);
+        self.collector.close_entry(outer);
         answer
     }
 
@@ -212,9 +212,9 @@ impl Visitor<'_> {
         ensures first { MakesFirst (codes "data") (Some 8) self.old self.new result }
         ensures exact { MakesPlanOrGives I.next_gives entries (one (codes "data") (Some 8)) self.old self.new result }
     {
-        let outer = self.collector.go_in(Key::new("data"), 8)?;
+        let outer = self.collector.open_entry(Key::new("data"), 8)?;
         let answer = self.visit_keys(entries);
-        self.collector.leave(outer);
+        self.collector.close_entry(outer);
         answer
     }
 }

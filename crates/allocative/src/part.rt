@@ -95,9 +95,9 @@ impl<K: IntoKey, P: Part> Part for Inside<K, P> {
 
     #[inline(always)]
     fn enter(self, visitor: &mut Visitor<'_>) -> Result<(), Refusal> {
-        let outer = visitor.collector.go_in(self.0.into_key(), self.1)?;
+        let outer = visitor.collector.open_entry(self.0.into_key(), self.1)?;
         let answer = self.2.enter(visitor);
-        visitor.collector.leave(outer);
+        visitor.collector.close_entry(outer);
         answer
     }
 }
@@ -117,9 +117,9 @@ impl<K: IntoKey, P: Part> Part for Declared<K, P> {
 
     #[inline(always)]
     fn enter(self, visitor: &mut Visitor<'_>) -> Result<(), Refusal> {
-        let outer = visitor.collector.go_in_sized(self.0.into_key(), self.1)?;
+        let outer = visitor.collector.open_sized(self.0.into_key(), self.1)?;
         let answer = self.2.enter(visitor);
-        visitor.collector.leave(outer);
+        visitor.collector.close_entry(outer);
         answer
     }
 }
@@ -138,9 +138,9 @@ impl<K: IntoKey, P: Part> Part for Unique<K, P> {
 
     #[inline(always)]
     fn enter(self, visitor: &mut Visitor<'_>) -> Result<(), Refusal> {
-        let outer = visitor.collector.go_in_unique(self.0.into_key(), self.1)?;
+        let outer = visitor.collector.open_unique(self.0.into_key(), self.1)?;
         let answer = self.2.enter(visitor);
-        visitor.collector.leave(outer);
+        visitor.collector.close_entry(outer);
         answer
     }
 }
@@ -196,7 +196,7 @@ impl<P: Part> Part for Shared<P> {
     fn enter(self, visitor: &mut Visitor<'_>) -> Result<(), Refusal> {
         let is_first = visitor
             .collector
-            .go_to_shared(self.key, self.size, self.identity)?;
+            .open_shared(self.key, self.size, self.identity)?;
         if is_first {
             let mut content = visitor.collector.content();
             self.content.enter(&mut content)?;

@@ -20,7 +20,7 @@ impl Collector {
     }
 
     /// Visits a value of a known type by a root visitor, with no trait object.
-    pub(crate) fn visit_one<T: Allocative>(&mut self, root: &T) -> Result<(), Refusal>
+    pub(crate) fn visit_value<T: Allocative>(&mut self, root: &T) -> Result<(), Refusal>
         ensures { Runs (T.may_show root.now) self.old result self.new }
     {
         let mut visitor = self.root_visitor()?;

@@ -50,7 +50,7 @@ pub fn size_of_unique<T: Allocative + Described>(root: &T) -> Result<usize, Refu
     ensures held { IfOk result (IsSizeOfUnique T.size (T.may_show root.now)) }
 {
     let mut collector = Collector::held();
-    collector.visit_one(root)?;
+    collector.visit_value(root)?;
     let Some(own) = T::size() else {
         return Err(Refusal::TooLarge);
     };

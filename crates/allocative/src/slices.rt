@@ -40,8 +40,8 @@ impl Visitor<'_> {
         ensures entered { Entered (Field name size Nothing) self.old self.new result }
         ensures exact { MakesPlan (one name size) self.old self.new result }
     {
-        let outer = self.collector.go_in_sized(name, size)?;
-        self.collector.leave(outer);
+        let outer = self.collector.open_sized(name, size)?;
+        self.collector.close_entry(outer);
         Ok(())
     }
 
@@ -121,11 +121,9 @@ impl Visitor<'_> {
         ensures exact { length items.now ≡ 0 → MakesPlan (one T.name (size_product T.size (Some 0))) self.old self.new result }
     {
         let bytes = bytes_of::<T>(Some(items.len()));
-        let outer = self
-            .collector
-            .go_in_sized(Key::for_type_name::<T>(), bytes)?;
+        let outer = self.collector.open_sized(Key::for_type_name::<T>(), bytes)?;
         let answer = self.visit_data(items);
-        self.collector.leave(outer);
+        self.collector.close_entry(outer);
         answer
     }
 
@@ -160,9 +158,9 @@ impl Visitor<'_> {
         ensures exact { VisitsNone T.needs_drop T.size items.now → MakesPlan (vec_plan T.name T.size T.needs_drop items.now capacity) self.old self.new result }
     {
         let bytes = bytes_of::<T>(Some(capacity));
-        let outer = self.collector.go_in_sized(Key::new("capacity"), bytes)?;
+        let outer = self.collector.open_sized(Key::new("capacity"), bytes)?;
         let answer = self.visit_with_room(items, capacity);
-        self.collector.leave(outer);
+        self.collector.close_entry(outer);
         answer
     }
 }

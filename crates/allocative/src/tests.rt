@@ -46,7 +46,7 @@ impl Allocative for ForgetsContent {
     fn visit(&self, visitor: &mut Visitor<'_>) -> Result<(), Refusal> {
         let is_first = visitor
             .collector
-            .go_to_shared(Key::new("p"), 8, Identity::from(1))?;
+            .open_shared(Key::new("p"), 8, Identity::from(1))?;
         if is_first {
             let content = visitor.collector.content();
             let _kept = ManuallyDrop::new(content);

@@ -36,7 +36,7 @@ impl Drop for Visitor<'_> {
             collector,
             outer_is_unique,
         } = self;
-        collector.leave(outer_is_unique);
+        collector.close_entry(outer_is_unique);
     }
 }
 
@@ -53,7 +53,7 @@ impl Collector {
         ensures entered { IfOk result (λ v. Enters false key size self.old (Ok v.outer_is_unique) v.collector.now) }
         ensures refused { IfErr result (λ e. Answers false size self.old (Err e)) }
     {
-        let outer_is_unique = self.go_in(key, size)?;
+        let outer_is_unique = self.open_entry(key, size)?;
         Ok(Visitor {
             collector: self,
             outer_is_unique,
@@ -69,7 +69,7 @@ impl Collector {
         ensures entered { IfOk result (λ v. Enters true key size self.old (Ok v.outer_is_unique) v.collector.now) }
         ensures refused { IfErr result (λ e. Answers true size self.old (Err e)) }
     {
-        let outer_is_unique = self.go_in_unique(key, size)?;
+        let outer_is_unique = self.open_unique(key, size)?;
         Ok(Visitor {
             collector: self,
             outer_is_unique,
@@ -89,14 +89,14 @@ impl Collector {
         ensures entered { IfOk result (λ v. EntersSized key size self.old (Ok v.outer_is_unique) v.collector.now) }
         ensures refused { IfErr result (λ e. EntersSized key size self.old (Err e) (Failed e)) }
     {
-        let outer_is_unique = self.go_in_sized(key, size)?;
+        let outer_is_unique = self.open_sized(key, size)?;
         Ok(Visitor {
             collector: self,
             outer_is_unique,
         })
     }
 
-    /// A visitor at the content of a shared value, where `go_to_shared` returned that it is to be
+    /// A visitor at the content of a shared value, where `open_shared` returned that it is to be
     /// shown. It allocates nothing.
     pub(crate) fn content(&mut self) -> Visitor<'_>
         ensures same_reference { result.collector.ghost_name ≡ self.entry.ghost_name }
@@ -125,7 +125,7 @@ impl Collector {
         ensures entered { IfOk result (λ v. EntersShared key size id self.old (Ok true) v.collector.now) }
         ensures refused { IfErr result (λ o. AnswersShared key size id self.old (told o)) }
     {
-        match self.go_to_shared(key, size, id) {
+        match self.open_shared(key, size, id) {
             Ok(true) => Ok(Visitor {
                 collector: self,
                 outer_is_unique: false,
@@ -296,8 +296,8 @@ impl Visitor<'_> {
         ensures entered { Entered (Inside key size Nothing) self.old self.new result }
         ensures exact { MakesPlan (one key (Some size)) self.old self.new result }
     {
-        let outer = self.collector.go_in(key, size)?;
-        self.collector.leave(outer);
+        let outer = self.collector.open_entry(key, size)?;
+        self.collector.close_entry(outer);
         Ok(())
     }
 

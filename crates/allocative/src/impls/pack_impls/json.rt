@@ -82,8 +82,8 @@ pub fn visit_json_map(visitor: &mut Visitor<'_>, map: &Map<String, Value>) -> Re
     ensures entered { Entered (map_shows (members_view map.now.entries)) visitor.old visitor.new result }
     ensures first { MakesFirst (codes "Map") (Some 24) visitor.old visitor.new result }
 {
-    let outer = visitor.collector.go_in(Key::new("Map"), 24)?;
+    let outer = visitor.collector.open_entry(Key::new("Map"), 24)?;
     let answer = Unique("data", 8, Members(map)).enter(visitor);
-    visitor.collector.leave(outer);
+    visitor.collector.close_entry(outer);
     answer
 }

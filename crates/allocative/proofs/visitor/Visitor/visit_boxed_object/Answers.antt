@@ -11,7 +11,7 @@ pub returns-in_err-outer-clause-first : goal.returns-in_err-outer-clause-first
 returns-in_err-outer-clause-first g c = first_not_within {e = c.in_err-outer.field-0.0} _ c.from_residual.ensures.0 (search rules) (is_sized (rw c.new.ensures at c.in_err-outer.ensures.enters))
 
 pub returns-clause-entered : goal.returns-clause-entered
-returns-clause-entered g c = entered_within (rw c.new.ensures at c.in_ok-outer.ensures.enters) c.visit_object_pointer-answer.ensures c.leave.ensures
+returns-clause-entered g c = entered_within (rw c.new.ensures at c.in_ok-outer.ensures.enters) c.visit_object_pointer-answer.ensures c.close_entry.ensures
 
 pub returns-clause-first : goal.returns-clause-first
 returns-clause-first g c = goes_in_plain (rw c.new.ensures at c.in_ok-outer.ensures.enters)

@@ -10,7 +10,7 @@ pub returns-in_err-outer-clause-first : goal.returns-in_err-outer-clause-first
 returns-in_err-outer-clause-first g c = first_not_within {e = c.in_err-outer.field-0.0} _ c.from_residual.ensures.0 (search rules) (rw c.size.ensures at c.in_err-outer.ensures.enters)
 
 pub returns-clause-entered : goal.returns-clause-entered
-returns-clause-entered g c = entered_within_sized (rw c.size.ensures at c.in_ok-outer.ensures.enters) c.enter-answer.ensures c.leave.ensures
+returns-clause-entered g c = entered_within_sized (rw c.size.ensures at c.in_ok-outer.ensures.enters) c.enter-answer.ensures c.close_entry.ensures
 
 pub returns-clause-first : goal.returns-clause-first
 returns-clause-first g c = goes_in (rw c.size.ensures at c.in_ok-outer.ensures.enters)

@@ -15,10 +15,10 @@ pub returns-in_err-outer-clause-exact : goal.returns-in_err-outer-clause-exact
 returns-in_err-outer-clause-exact g c = makes_or_refused {e = c.in_err-outer.field-0.0} _ c.from_residual.ensures.0 (search rules) (is_sized (rw c.new.ensures at c.in_err-outer.ensures.enters))
 
 pub returns-clause-entered : goal.returns-clause-entered
-returns-clause-entered g c = entered_within (rw c.new.ensures at c.in_ok-outer.ensures.enters) c.visit_keys-answer.ensures.entered c.leave.ensures
+returns-clause-entered g c = entered_within (rw c.new.ensures at c.in_ok-outer.ensures.enters) c.visit_keys-answer.ensures.entered c.close_entry.ensures
 
 pub returns-clause-first : goal.returns-clause-first
 returns-clause-first g c = goes_in_plain (rw c.new.ensures at c.in_ok-outer.ensures.enters)
 
 pub returns-clause-exact : goal.returns-clause-exact
-returns-clause-exact g c = gives_within (is_sized (rw c.new.ensures at c.in_ok-outer.ensures.enters)) c.visit_keys-answer.ensures.exact c.leave.ensures
+returns-clause-exact g c = gives_within (is_sized (rw c.new.ensures at c.in_ok-outer.ensures.enters)) c.visit_keys-answer.ensures.exact c.close_entry.ensures

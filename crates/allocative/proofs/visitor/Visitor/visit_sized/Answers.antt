@@ -11,7 +11,7 @@ pub returns-in_err-outer-clause-exact : goal.returns-in_err-outer-clause-exact
 returns-in_err-outer-clause-exact c = makes_refused {e = c.in_err-outer.field-0.0} _ c.from_residual.ensures.0 (search rules) c.in_err-outer.ensures.enters
 
 pub returns-clause-entered : goal.returns-clause-entered
-returns-clause-entered c = entered_alone_sized c.in_ok-outer.ensures.enters c.leave.ensures
+returns-clause-entered c = entered_alone_sized c.in_ok-outer.ensures.enters c.close_entry.ensures
 
 pub returns-clause-exact : goal.returns-clause-exact
-returns-clause-exact c = makes_one c.in_ok-outer.ensures.enters (leaves_by_left _ _ _ c.leave.ensures) refl
+returns-clause-exact c = makes_one c.in_ok-outer.ensures.enters (leaves_by_left _ _ _ c.close_entry.ensures) refl

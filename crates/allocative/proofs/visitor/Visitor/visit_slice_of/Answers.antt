@@ -14,10 +14,10 @@ pub returns-in_err-outer-clause-exact : goal.returns-in_err-outer-clause-exact
 returns-in_err-outer-clause-exact g c = λ h. makes_refused {e = c.in_err-outer.field-0.0} _ c.from_residual.ensures.0 (search rules) (rw (c.for_type_name.ensures, c.bytes_of-bytes.ensures, h) at c.in_err-outer.ensures.enters)
 
 pub returns-clause-entered : goal.returns-clause-entered
-returns-clause-entered g c = entered_within_sized (rw (c.for_type_name.ensures, c.bytes_of-bytes.ensures) at c.in_ok-outer.ensures.enters) c.visit_data-answer.ensures.entered c.leave.ensures
+returns-clause-entered g c = entered_within_sized (rw (c.for_type_name.ensures, c.bytes_of-bytes.ensures) at c.in_ok-outer.ensures.enters) c.visit_data-answer.ensures.entered c.close_entry.ensures
 
 pub returns-clause-first : goal.returns-clause-first
 returns-clause-first g c = goes_in (rw (c.for_type_name.ensures, c.bytes_of-bytes.ensures) at c.in_ok-outer.ensures.enters)
 
 pub returns-clause-exact : goal.returns-clause-exact
-returns-clause-exact g c = λ h. makes_within (rw (c.for_type_name.ensures, c.bytes_of-bytes.ensures, h) at c.in_ok-outer.ensures.enters) (c.visit_data-answer.ensures.exact h) c.leave.ensures
+returns-clause-exact g c = λ h. makes_within (rw (c.for_type_name.ensures, c.bytes_of-bytes.ensures, h) at c.in_ok-outer.ensures.enters) (c.visit_data-answer.ensures.exact h) c.close_entry.ensures

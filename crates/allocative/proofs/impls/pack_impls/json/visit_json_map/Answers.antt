@@ -16,7 +16,7 @@ returns-in_err-outer-clause-first c = first_not_within {e = c.in_err-outer.field
 pub returns-clause-entered : goal.returns-clause-entered
 returns-clause-entered c =
     entered_within (rw c.new.ensures at c.in_ok-outer.ensures.enters)
-    (entered_as c.enter-answer.ensures (means_unique refl (means_members c.args.map.now.entries))) c.leave.ensures
+    (entered_as c.enter-answer.ensures (means_unique refl (means_members c.args.map.now.entries))) c.close_entry.ensures
 
 pub returns-clause-first : goal.returns-clause-first
 returns-clause-first c = goes_in_plain (rw c.new.ensures at c.in_ok-outer.ensures.enters)

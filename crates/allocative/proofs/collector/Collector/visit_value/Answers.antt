@@ -1,7 +1,7 @@
 -- A root visitor, what is shown there, and its end.
 use Rattle.std.proofs.Common.{rules, refl}
 use Rattle.allocative.proofs.Roots.{run_shows}
-use Rattle.allocative.proofs.collector.Collector.visit_one.Goals as goal
+use Rattle.allocative.proofs.collector.Collector.visit_value.Goals as goal
 
 pub returns : goal.returns
 returns g c = run_shows _ _ c.in_ok-visitor.ensures.begun refl c.enter-told.ensures.shown (search rules) c.enter-told.ensures.same_outer c.check.ensures

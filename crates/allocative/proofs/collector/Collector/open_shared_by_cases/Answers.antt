@@ -3,7 +3,7 @@ use Rattle.std.proofs.Common.{◌≡◌, Ok, subst, ap}
 use Rattle.allocative_graph.specs.Collector.{OfGraph, State, Going}
 use Rattle.allocative.specs.Steps.{StepsInShared}
 use Rattle.allocative.specs.Kinds.{state_of}
-use Rattle.allocative.proofs.collector.Collector.step_in_shared.Goals as goal
+use Rattle.allocative.proofs.collector.Collector.open_shared_by_cases.Goals as goal
 
 pub returns-in-Ok-clause-enters : goal.returns-in-Ok-clause-enters
 returns-in-Ok-clause-enters c =
