@@ -1,8 +1,9 @@
 -- One more member is shown, and the map ends.
 use Rattle.std.proofs.lemmas.List.{append-nil}
-use Rattle.std.proofs.Common.{String, Global, [], ◌∷◌, ◌++◌, sym, ap, append_assoc, ◌∙◌}
+use Rattle.std.proofs.Common.{String, Global, [], ◌∷◌, ◌++◌, sym, ap, append_assoc, ◌∙◌, rules}
 use Rattle.allocative.specs.JsonShows.{member_shows}
 use Rattle.allocative.proofs.Meaning.{entered_snoc}
+use Rattle.allocative.proofs.Within.{entered_then_refused}
 use Rattle.allocative.proofs.impls.pack_impls.json.MembersRefMapStringPart.enter.Goals as goal
 
 pub loop-key-preserved : goal.loop-key-preserved
@@ -19,3 +20,6 @@ pub returns : goal.returns
 returns g c =
     let all = rw (c.in-None.ensures.steps.0, append-nil) at c.loop-key.invariant.1 in
     rw all c.loop-key.invariant.2
+
+pub returns-in_err-enter : goal.returns-in_err-enter
+returns-in_err-enter g c = entered_then_refused {e = c.in_err-enter.field-0.0} _ c.from_residual.ensures.0 (search rules) c.loop-key.invariant.2 c.in_err-enter.ensures
