@@ -35,7 +35,7 @@ pub struct FlameGraphBuilder {
 // A root visitor borrows the collector, and code that holds it could replace the collector by any other.
 impl Model for FlameGraphBuilder {
     ghost use Rattle.allocative_graph.specs.Collector.{State};
-    ghost use Rattle.allocative_graph.specs.Codes.{state_code};
+    ghost use Rattle.allocative_graph.specs.Representation.Codes.{state_code};
     ghost use Rattle.allocative.specs.Built.{as_graph};
 
     ghost Value = { State };

@@ -35,7 +35,7 @@ pub struct Collector {
 
 impl Model for Collector {
     ghost use Rattle.allocative_graph.specs.Collector.{State};
-    ghost use Rattle.allocative_graph.specs.Codes.{state_code};
+    ghost use Rattle.allocative_graph.specs.Representation.Codes.{state_code};
 
     ghost Value = { State };
 

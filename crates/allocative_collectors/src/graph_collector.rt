@@ -34,7 +34,7 @@ pub struct GraphCollector {
 
 impl Model for GraphCollector {
     ghost use Rattle.allocative_graph.specs.Collector.{Live};
-    ghost use Rattle.allocative_graph.specs.Codes.{live_code};
+    ghost use Rattle.allocative_graph.specs.Representation.Codes.{live_code};
 
     ghost Value = { Live };
 

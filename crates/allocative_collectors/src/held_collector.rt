@@ -18,7 +18,7 @@ pub struct HeldCollector {
 
 impl Model for HeldCollector {
     ghost use Rattle.allocative_graph.specs.Collector.{Holding};
-    ghost use Rattle.allocative_graph.specs.Codes.{holding_code};
+    ghost use Rattle.allocative_graph.specs.Representation.Codes.{holding_code};
     ghost use Rattle.std.specs.Prelude.{◌≡◌, false};
 
     ghost Value = { Holding };

@@ -27,7 +27,7 @@ pub struct FlameGraphOutput {
 impl Model for FlameGraphOutput {
     ghost use Rattle.std.specs.Prelude.{string_bytes, map};
     ghost use Rattle.allocative_graph.specs.Visits.{Profile};
-    ghost use Rattle.allocative_graph.specs.Codes.{profile_code};
+    ghost use Rattle.allocative_graph.specs.Representation.Codes.{profile_code};
     ghost use Rattle.allocative_collectors.specs.Warned.{seen};
 
     ghost Value = { Profile };

@@ -9,12 +9,12 @@ use Rattle.std.proofs.lemmas.List.{append-nil}
 use Rattle.std.specs.FinMap.Entries.{find}
 use Rattle.allocative_graph.specs.declared.flamegraph.Child.{Child}
 use Rattle.allocative_graph.specs.Graph.{under}
-use Rattle.allocative_graph.specs.Parts.{under_rows, IsSum, IsPartOfSum}
+use Rattle.allocative_graph.specs.Representation.PathRows.{under_rows, IsSum, IsPartOfSum}
 use Rattle.allocative_graph.specs.Path.{Key, Path, key_cmp, path_cmp}
-use Rattle.allocative_graph.specs.Node.{node, rows_of}
-use Rattle.allocative_graph.specs.NodeRows.{node_sorted, entries-node}
+use Rattle.allocative_graph.specs.Representation.Node.{node, rows_of}
+use Rattle.allocative_graph.specs.Representation.NodeRows.{node_sorted, entries-node}
 use Rattle.allocative_graph.proofs.Listing.{entries-from_entries-sorted}
-use Rattle.allocative_graph.specs.Children.{size_under, AreSum, ArePartOfSum, InOrder}
+use Rattle.allocative_graph.specs.Representation.Children.{size_under, AreSum, ArePartOfSum, InOrder}
 use Rattle.allocative_graph.proofs.ChildSizes.{none_above, part_of_sum}
 
 -- The first option, or the second one where the first is None.

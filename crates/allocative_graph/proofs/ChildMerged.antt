@@ -10,9 +10,9 @@ use Rattle.std.specs.FinMap.{get, len, entries, len-entries}
 use Rattle.allocative_graph.specs.declared.flamegraph.Child.{Child}
 use Rattle.allocative_graph.specs.Path.{Key, Path, key_cmp}
 use Rattle.allocative_graph.specs.Graph.{Graph, IsTree, total}
-use Rattle.allocative_graph.specs.Node.{rows_of, rows_of_child, weight, AreChildren}
-use Rattle.allocative_graph.specs.Children.{size_under, AddsUp, AddsUpInPart, AllAbove, front_order}
-use Rattle.allocative_graph.specs.Merged.{Added, Merged, IsNext}
+use Rattle.allocative_graph.specs.Representation.Node.{rows_of, rows_of_child, weight, AreChildren}
+use Rattle.allocative_graph.specs.Representation.Children.{size_under, AddsUp, AddsUpInPart, AllAbove, front_order}
+use Rattle.allocative_graph.specs.Representation.Merged.{Added, Merged, IsNext}
 use Rattle.allocative_graph.proofs.ChildOrder.{first_below, first_tree, others, with_first, no_children, above_all, key_same, key_turn}
 use Rattle.allocative_graph.proofs.ChildRows.{weight-cons, weight-one, weight-append}
 use Rattle.allocative_graph.proofs.ChildSizes.{none_above, AddsUp-first, AddsUp-second, part_of_sum, part_of_none}

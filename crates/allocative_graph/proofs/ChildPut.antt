@@ -5,9 +5,9 @@ use Rattle.std.specs.declared.cmp.Ordering.TheVariants.{Less}
 use Rattle.allocative_graph.specs.declared.flamegraph.Child.{Child}
 use Rattle.allocative_graph.specs.Path.{Key, key_cmp}
 use Rattle.allocative_graph.specs.Graph.{IsTree, total}
-use Rattle.allocative_graph.specs.Node.{weight, AreChildren}
-use Rattle.allocative_graph.specs.Children.{IsFound, IsGap, AllBelow, AllAbove}
-use Rattle.allocative_graph.specs.Merged.{Added, Merged}
+use Rattle.allocative_graph.specs.Representation.Node.{weight, AreChildren}
+use Rattle.allocative_graph.specs.Representation.Children.{IsFound, IsGap, AllBelow, AllAbove}
+use Rattle.allocative_graph.specs.Representation.Merged.{Added, Merged}
 use Rattle.allocative_graph.proofs.ChildOrder.{first_below, first_below_one, first_tree, others}
 use Rattle.allocative_graph.proofs.ChildMerged.{merged_first, merged_second, merged_both, merged_same}
 use Rattle.allocative_graph.proofs.ChildRows.{weight-split, weight-append, split_at_place, set_at_place}

@@ -9,7 +9,7 @@ use Rattle.std.specs.Ordering.{ordering_index, ordering_reverse, is_lt}
 use Rattle.std.specs.Cmp.Lexicographic.{nat_list_cmp_total}
 use Rattle.allocative_graph.specs.declared.flamegraph.Child.{Child}
 use Rattle.allocative_graph.specs.Path.{Key, key_cmp}
-use Rattle.allocative_graph.specs.Children.{InOrder, AllBelow, AllAbove, IsFound, IsGap}
+use Rattle.allocative_graph.specs.Representation.Children.{InOrder, AllBelow, AllAbove, IsFound, IsGap}
 use Rattle.allocative_graph.proofs.ChildOrder.{key_same, key_turn, below_last, neighbors}
 
 pub less_is : (o : Ordering) → is_lt o ≡ true → o ≡ Less

@@ -5,7 +5,7 @@ use Rattle.std.proofs.lemmas.List.{append-nil}
 use Rattle.std.proofs.lemmas.List.Sums.{sum_by-cons}
 use Rattle.allocative_graph.specs.Path.{Key, Path}
 use Rattle.allocative_graph.specs.Graph.{Graph, total, sum_of, joined}
-use Rattle.allocative_graph.specs.Parts.{sum_of_rows, joined_on, IsSum}
+use Rattle.allocative_graph.specs.Representation.PathRows.{sum_of_rows, joined_on, IsSum}
 use Rattle.allocative_graph.proofs.Basics.{path_total, path_antisymmetric}
 use Rattle.allocative_graph.proofs.Graphs.{sizes_together}
 use Rattle.allocative_graph.proofs.Merge.{get-sum_of}

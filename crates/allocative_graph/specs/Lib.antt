@@ -14,11 +14,6 @@ pub mod Visits
 pub mod Laws
 pub mod Rows
 pub mod Report
-pub mod Codes
-pub mod Parts
-pub mod Node
-pub mod NodeRows
-pub mod Children
-pub mod Merged
 pub mod Reads
 pub mod Many
+pub mod Representation

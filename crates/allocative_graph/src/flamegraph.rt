@@ -6,10 +6,10 @@ ghost use Rattle.std.specs.Vec.{vec_capacity};
 ghost use Rattle.std.specs.FinMap as map;
 ghost use Rattle.allocative_graph.specs.Path.{key_cmp};
 ghost use Rattle.allocative_graph.specs.Graph.{add_self, total, text, default, sum_of, under, joined, IsTree};
-ghost use Rattle.allocative_graph.specs.Parts.{size_text, lines_from, lines_below, HasRootAlone, IsPartOfSum};
-ghost use Rattle.allocative_graph.specs.Node.{weight, AreChildren};
-ghost use Rattle.allocative_graph.specs.Children.{front_order, InOrder, IsFound, IsGap};
-ghost use Rattle.allocative_graph.specs.Merged.{Added, Merged, IsNext};
+ghost use Rattle.allocative_graph.specs.Representation.PathRows.{size_text, lines_from, lines_below, HasRootAlone, IsPartOfSum};
+ghost use Rattle.allocative_graph.specs.Representation.Node.{weight, AreChildren};
+ghost use Rattle.allocative_graph.specs.Representation.Children.{front_order, InOrder, IsFound, IsGap};
+ghost use Rattle.allocative_graph.specs.Representation.Merged.{Added, Merged, IsNext};
 ghost use Rattle.allocative_graph.specs.declared.flamegraph.Child.{Child};
 
 use crate::key::Key;
@@ -70,7 +70,7 @@ impl Model for FlameGraph {
 
     ghost coded = { map.code (coded_list (coded_list coded_ℕ)) coded_ℕ };
 
-    ghost use Rattle.allocative_graph.specs.Node.{node, IsNode};
+    ghost use Rattle.allocative_graph.specs.Representation.Node.{node, IsNode};
 
     ghost view = { λ a. node a.node_size a.children.items };
 
@@ -79,7 +79,7 @@ impl Model for FlameGraph {
     ghost size = { map.len };
 
     ghost use Rattle.std.proofs.Common.{arith};
-    ghost use Rattle.allocative_graph.specs.NodeRows.{most_le-node};
+    ghost use Rattle.allocative_graph.specs.Representation.NodeRows.{most_le-node};
 
     ghost size_decreases = { λ a h. omega (arith, most_le-node a.node_size a.children.items h.children.sorted) };
 }

@@ -2,8 +2,8 @@
 ghost use Rattle.std.specs.Prelude.{◌≡◌, ◌++◌, [], IfOk, IfErr, IfSome, IfNone, OnOk, map};
 ghost use Rattle.allocative_graph.specs.Path.{key_cmp};
 ghost use Rattle.allocative_graph.specs.Graph.{size_at, total_at, IsBehind, HasNothing};
-ghost use Rattle.allocative_graph.specs.Node.{node, AreChildren};
-ghost use Rattle.allocative_graph.specs.Children.{InOrder, IsFound, IsGap};
+ghost use Rattle.allocative_graph.specs.Representation.Node.{node, AreChildren};
+ghost use Rattle.allocative_graph.specs.Representation.Children.{InOrder, IsFound, IsGap};
 ghost use Rattle.allocative_graph.specs.Reads.{AllSmaller, seen, figures, figures_behind};
 
 use crate::flamegraph::{Child, FlameGraph};

@@ -3,7 +3,7 @@ use Rattle.allocative_graph.specs.Graph.{joined}
 use Rattle.allocative_graph.proofs.RowSums.{joined-keys}
 use Rattle.std.proofs.Common.{ℕ, List, Bor, sym, ap, ◌∙◌, append_assoc, ◌≡◌, ◌+◌, ◌++◌, [], ◌∷◌, get_or, take, arith}
 use Rattle.std.specs.Prelude.{string_bytes}
-use Rattle.allocative_graph.specs.Parts.{joined_on}
+use Rattle.allocative_graph.specs.Representation.PathRows.{joined_on}
 use Rattle.allocative_graph.proofs.NodeText.{joined_more, texts}
 use Rattle.allocative_graph.proofs.flamegraph.push_path.Goals as goal
 

@@ -1,9 +1,9 @@
 use Rattle.std.proofs.Common.{true, [], ◌∷◌, sym, ap, subst, refl, arith}
 use Rattle.std.specs.Prelude.{is_ok}
 use Rattle.allocative_graph.specs.declared.flamegraph.Child.{Child}
-use Rattle.allocative_graph.specs.Node.{weight}
-use Rattle.allocative_graph.specs.Children.{IsFound, IsGap}
-use Rattle.allocative_graph.specs.Merged.{Merged}
+use Rattle.allocative_graph.specs.Representation.Node.{weight}
+use Rattle.allocative_graph.specs.Representation.Children.{IsFound, IsGap}
+use Rattle.allocative_graph.specs.Representation.Merged.{Merged}
 use Rattle.allocative_graph.proofs.ChildPut.{put_at_found, weight_at_found, weight_of_found, put_at_gap, weight_at_gap}
 use Rattle.allocative_graph.proofs.flamegraph.put_child.Goals as goal
 

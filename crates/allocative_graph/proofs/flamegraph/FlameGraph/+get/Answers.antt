@@ -1,7 +1,7 @@
 use Rattle.std.proofs.Common.{◌≡◌, Bor, ◌∷◌, sym, ap, subst, ◌∙◌}
 use Rattle.allocative_graph.specs.Graph.{Graph, IsTree, IsBehind, HasNothing}
-use Rattle.allocative_graph.specs.Node.{node}
-use Rattle.allocative_graph.specs.Children.{InOrder, IsFound, IsGap}
+use Rattle.allocative_graph.specs.Representation.Node.{node}
+use Rattle.allocative_graph.specs.Representation.Children.{InOrder, IsFound, IsGap}
 use Rattle.allocative_graph.proofs.NodeAdded.{node_tree}
 use Rattle.allocative_graph.proofs.NodeText.{texts}
 use Rattle.allocative_graph.proofs.Behind.{behind_root, behind_child, missing_child, missing_key, no_items, some_implies, none_implies}

@@ -7,9 +7,9 @@ use Rattle.std.specs.Bool.{OnFalse}
 use Rattle.std.specs.Prelude.{string_bytes}
 use Rattle.std.specs.FinMap.{entries}
 use Rattle.allocative_graph.specs.declared.flamegraph.Child.{Child}
-use Rattle.allocative_graph.specs.Parts.{lines_from, lines_below, HasRootAlone}
-use Rattle.allocative_graph.specs.Node.{rows_of}
-use Rattle.allocative_graph.specs.NodeRows.{entries-node}
+use Rattle.allocative_graph.specs.Representation.PathRows.{lines_from, lines_below, HasRootAlone}
+use Rattle.allocative_graph.specs.Representation.Node.{rows_of}
+use Rattle.allocative_graph.specs.Representation.NodeRows.{entries-node}
 use Rattle.allocative_graph.proofs.NodeText.{child_written, none_below, cut_back}
 use Rattle.allocative_graph.proofs.flamegraph.FlameGraph.+write_below.Goals as goal
 use Rattle.allocative_graph.proofs.flamegraph.FlameGraph.+write_below.Goals.{then-has_children+in_ok-push+in_ok-write_below, else-has_children, Joined-has_children}

@@ -2,7 +2,7 @@
 use Rattle.std.proofs.Common.{◌≡◌, List, [], sym, subst, ◌∙◌}
 use borrow.Author.Tests.{eqb-true}
 use Rattle.allocative_graph.specs.declared.flamegraph.Child.{Child}
-use Rattle.allocative_graph.specs.Node.{IsNode}
+use Rattle.allocative_graph.specs.Representation.Node.{IsNode}
 use Rattle.allocative_graph.proofs.ChildMerged.{none_of_length}
 use Rattle.allocative_graph.proofs.flamegraph.FlameGraph.root_alone.Goals as goal
 

@@ -3,9 +3,9 @@ use Rattle.std.specs.Prelude.{◌≡◌, ◌+◌, ◌<◌, ◌≤◌, ◌&&◌, 
 use Rattle.allocative_graph.specs.declared.flamegraph.Child.{Child}
 use Rattle.allocative_graph.specs.Path.{Key}
 use Rattle.allocative_graph.specs.Graph.{Graph, IsTree, total}
-use Rattle.allocative_graph.specs.Parts.{IsSum, IsPartOfSum}
-use Rattle.allocative_graph.specs.Node.{rows_of, weight, AreChildren}
-use Rattle.allocative_graph.specs.Children.{AreSum, ArePartOfSum, AllAbove}
+use Rattle.allocative_graph.specs.Representation.PathRows.{IsSum, IsPartOfSum}
+use Rattle.allocative_graph.specs.Representation.Node.{rows_of, weight, AreChildren}
+use Rattle.allocative_graph.specs.Representation.Children.{AreSum, ArePartOfSum, AllAbove}
 
 -- h was added to g, with the result r: a part of their sum, and where all was added the sum itself.
 pub record Added (all : Bool) (g h r : Graph) : Type 0 where

@@ -6,7 +6,7 @@ use Rattle.std.specs.FinMap.{entries, from_sorted}
 use Rattle.allocative_graph.specs.declared.flamegraph.Child.{Child}
 use Rattle.allocative_graph.specs.Path.{Key, Path, key_cmp}
 use Rattle.allocative_graph.specs.Graph.{Graph, IsTree}
-use Rattle.allocative_graph.specs.Parts.{under_rows, sum_of_rows}
+use Rattle.allocative_graph.specs.Representation.PathRows.{under_rows, sum_of_rows}
 
 -- The rows of a child: each path of its graph with its key before it.
 abbrev pub rows_of_child : Child → List (Path × ℕ)
