@@ -15,11 +15,11 @@ mod iterators;
 pub mod named;
 pub mod part;
 pub mod profile;
-pub mod profile_in_two;
 pub mod registry;
 mod root_visits;
 pub mod size_of;
 mod slices;
+pub mod sum_of_two;
 #[cfg(test)]
 mod tests;
 pub mod visitor;
@@ -31,9 +31,9 @@ pub use crate::impls::pack_impls::json::visit_json_map;
 pub use crate::named::Named;
 pub use crate::part::{Declared, Field, Inside, IntoKey, Part, Shared, Unique};
 pub use crate::profile::{profile_value, profile_values};
-pub use crate::profile_in_two::profile_in_two;
 pub use crate::registry::{Registry, profile_roots};
 pub use crate::size_of::{size_of_entries, size_of_unique, size_of_unique_allocated_data};
+pub use crate::sum_of_two::profile_in_two;
 pub use crate::visitor::Visitor;
 pub use allocative_collectors::output::{FlameGraphOutput, WarnedPath};
 pub use allocative_described::{
