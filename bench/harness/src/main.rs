@@ -3,6 +3,7 @@ mod marks;
 mod names;
 mod ours;
 mod plain;
+mod stack;
 mod theirs;
 mod values;
 
@@ -213,11 +214,14 @@ fn print_machine() {
     );
 }
 
-/// With a word only the workloads whose names have it.
+/// With the word `stack` what calls take of the stack; with another word only the workloads whose names have it.
 fn main() {
     let only = env::args().nth(1);
     print_machine();
     let names = Names::new(100_000);
+    if only.as_deref() == Some("stack") {
+        return stack::print_table(&names);
+    }
     // A chain of 10,000 calls is deeper than the first thread's stack may be.
     let all = move || {
         print_table("Flame graphs:", &graphs(), &names, only.as_deref());

@@ -1,4 +1,5 @@
 //! How much processor time the steps of a workload took.
+use crate::stack;
 use std::sync::Mutex;
 use std::time::Duration;
 
@@ -35,6 +36,7 @@ fn time_run() -> Duration {
 #[unsafe(no_mangle)]
 pub extern "C" fn bench_mark(step: u32) {
     let now = time_run();
+    stack::mark(step);
     let (begun, least) = &mut *CLOCK.lock().unwrap();
     if let (Some(begun), Some(at)) = (*begun, step.checked_sub(1)) {
         let at = at as usize;

@@ -22,6 +22,7 @@ workloads! {
     few_paths = bench_few_paths(rounds: usize);
     tree = bench_tree(side: usize);
     chain = bench_chain(depth: usize);
+    deep = bench_deep(depth: usize);
     shared = bench_shared(pointers: usize, identities: usize);
     wide_entries = bench_wide_entries(count: usize, order: u32);
 }
@@ -42,5 +43,6 @@ values! {
     records = bench_records(count: usize);
     map = bench_map(count: usize);
     lists = bench_lists(count: usize);
+    links = bench_links(depth: usize);
     boxes = bench_boxes();
 }
