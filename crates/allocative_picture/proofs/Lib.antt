@@ -3,3 +3,4 @@ pub mod Placing
 pub mod Pages
 pub mod Geometry
 pub mod Counting
+pub mod Warnings

@@ -1,9 +1,11 @@
 -- The parts of a page, row by row and line by line.
-use Rattle.std.proofs.Common.{◌≡◌, ℕ, ◌+◌, ◌*◌, List, Bor, [], ◌∷◌, ◌++◌, map, take, length, get_or, refl, sym, ap, ◌∙◌, append_assoc, arith, ◌<◌, length-take}
+use Rattle.std.proofs.Common.{◌≡◌, ℕ, ◌+◌, ◌*◌, List, [], ◌∷◌, ◌++◌, map, take, length, get_or, refl, sym, ap, ◌∙◌, append_assoc, arith, ◌<◌, length-take}
 use Rattle.std.proofs.lemmas.List.{take_more, map-append, append-nil, length-map}
 use Rattle.std.specs.Prelude.{fold, flat_map}
 use Rattle.std.proofs.lemmas.Grind.{flat_map-append}
-use Rattle.allocative_graph.proofs.NodeText.{texts}
+use Rattle.allocative_graph.specs.Graph.{Warned}
+use Rattle.allocative_collectors.specs.Warned as held
+use Rattle.allocative_collectors.specs.declared.output.WarnedPath.{WarnedPath}
 use Rattle.allocative_picture.specs.declared.row.Row.{Row}
 use Rattle.allocative_picture.specs.Rows.{Seen, seen}
 use Rattle.allocative_picture.specs.Boxes.{box}
@@ -45,21 +47,21 @@ pub boxes-none : (least all : ℕ) → boxes least all [] ≡ []
 unfolding boxes
 boxes-none least all = refl
 
--- The warnings with one line more.
-lines-more : (y : ℕ) (ls : List (List ℕ)) (l : List ℕ) → warning_lines y (ls ++ l ∷ []) ≡ warning_lines y ls ++ warning_line (y + 16 * length ls) l
-lines-more y [] l = let e : y ≡ y + 16 * 0 = omega arith in append-nil (warning_line y l) ∙ ap (λ n. warning_line n l) e
-lines-more y (k ∷ ls) l =
-    let e : y + 16 + 16 * length ls ≡ y + 16 * length (k ∷ ls) = omega arith in
-    ap (λ s. warning_line y k ++ s) (lines-more (y + 16) ls l ∙ ap (λ n. warning_lines (y + 16) ls ++ warning_line n l) e)
-    ∙ sym (append_assoc (warning_line y k) (warning_lines (y + 16) ls) (warning_line (y + 16 * length (k ∷ ls)) l))
+-- The warnings with one path more.
+lines-more : (y : ℕ) (ws : List Warned) (w : Warned) → warning_lines y (ws ++ w ∷ []) ≡ warning_lines y ws ++ warning_line (y + 16 * length ws) w
+lines-more y [] w = let e : y ≡ y + 16 * 0 = omega arith in append-nil (warning_line y w) ∙ ap (λ n. warning_line n w) e
+lines-more y (v ∷ ws) w =
+    let e : y + 16 + 16 * length ws ≡ y + 16 * length (v ∷ ws) = omega arith in
+    ap (λ s. warning_line y v ++ s) (lines-more (y + 16) ws w ∙ ap (λ n. warning_lines (y + 16) ws ++ warning_line n w) e)
+    ∙ sym (append_assoc (warning_line y v) (warning_lines (y + 16) ws) (warning_line (y + 16 * length (v ∷ ws)) w))
 
-pub warnings-more : (y : ℕ) (t now then : List ℕ) (ls : List (Bor (List ℕ))) (i : ℕ) (d : Bor (List ℕ)) → i < length ls → now ≡ t ++ warning_lines y (texts (take i ls)) → then ≡ now ++ warning_line (y + 16 * i) (get_or ls i d).now
-    → then ≡ t ++ warning_lines y (texts (take (i + 1) ls))
-warnings-more y t now then ls i d h was is =
-    let l = (get_or ls i d).now in
-    let ts = texts (take i ls) in
-    let taken : length ts ≡ i = length-map {B = List ℕ} (take i ls) (λ (x : Bor (List ℕ)). x.now) ∙ omega (arith, length-take i ls) in
-    is ∙ ap (λ s. s ++ warning_line (y + 16 * i) l) was ∙ append_assoc t (warning_lines y ts) (warning_line (y + 16 * i) l)
-    ∙ ap (λ n. t ++ (warning_lines y ts ++ warning_line (y + 16 * n) l)) (sym taken)
-    ∙ ap (λ s. t ++ s) (sym (lines-more y ts l))
-    ∙ ap (λ (s : List (List ℕ)). t ++ warning_lines y s) (sym (ap texts (take_more ls i d h) ∙ map-append (λ (x : Bor (List ℕ)). x.now) (take i ls) (get_or ls i d ∷ [])))
+pub warnings-more : (y : ℕ) (t now then : List ℕ) (ps : List WarnedPath) (i : ℕ) (p : WarnedPath) → i < length ps → p ≡ get_or ps i p → now ≡ t ++ warning_lines y (map held.seen (take i ps)) → then ≡ now ++ warning_line (y + 16 * i) (held.seen p)
+    → then ≡ t ++ warning_lines y (map held.seen (take (i + 1) ps))
+warnings-more y t now then ps i p h at was is =
+    let w = held.seen p in
+    let ws = map held.seen (take i ps) in
+    let taken : length ws ≡ i = length-map {B = Warned} (take i ps) held.seen ∙ omega (arith, length-take i ps) in
+    is ∙ ap (λ s. s ++ warning_line (y + 16 * i) w) was ∙ append_assoc t (warning_lines y ws) (warning_line (y + 16 * i) w)
+    ∙ ap (λ n. t ++ (warning_lines y ws ++ warning_line (y + 16 * n) w)) (sym taken)
+    ∙ ap (λ s. t ++ s) (sym (lines-more y ws w))
+    ∙ ap (λ (s : List Warned). t ++ warning_lines y s) (sym (ap (map held.seen) (take_more ps i p h) ∙ map-append held.seen (take i ps) (get_or ps i p ∷ []) ∙ ap (λ (x : WarnedPath). map held.seen (take i ps) ++ held.seen x ∷ []) (sym at)))

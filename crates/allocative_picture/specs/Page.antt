@@ -1,5 +1,6 @@
 -- What stands round the boxes of a picture.
 use Rattle.std.specs.Prelude.{ℕ, ◌+◌, cond, max, List, [], ◌∷◌, ◌++◌, fold, flat_map, codes, decimal}
+use Rattle.allocative_graph.specs.Graph.{Warned, joined}
 use Rattle.allocative_picture.specs.Escape.{escaped}
 use Rattle.allocative_picture.specs.Figures.{bytes_text}
 use Rattle.allocative_picture.specs.Rows.{Seen}
@@ -48,11 +49,16 @@ tools_of (Change before after) = tools ++ legend
 unfoldable pub boxes : ℕ → ℕ → List Seen → List ℕ
 boxes least all rs = flat_map (box least all) rs
 
--- A warning, whose line stands at a height.
-unfoldable pub warning_line : ℕ → List ℕ → List ℕ
-warning_line y line = codes "<text class=\"warn\" x=\"8\" y=\"" ++ decimal y ++ codes "\">" ++ escaped line ++ codes "</text>\n"
+-- What the warning of a path says.
+unfoldable pub warning_text : Warned → List ℕ
+warning_text w =
+    codes "Incorrect size declaration for node `" ++ joined w.path ++ codes "`, size of self: " ++ decimal w.self_size ++ codes ", size of inline children: " ++ decimal w.children_size
 
--- Warnings below one another, the first of which stands at a height.
-abbrev pub warning_lines : ℕ → List (List ℕ) → List ℕ
+-- The warning of a path, whose line stands at a height.
+unfoldable pub warning_line : ℕ → Warned → List ℕ
+warning_line y w = codes "<text class=\"warn\" x=\"8\" y=\"" ++ decimal y ++ codes "\">" ++ escaped (warning_text w) ++ codes "</text>\n"
+
+-- The warnings of some paths below one another, the first of which stands at a height.
+abbrev pub warning_lines : ℕ → List Warned → List ℕ
 warning_lines y [] = []
-warning_lines y (l ∷ ls) = warning_line y l ++ warning_lines (y + 16) ls
+warning_lines y (w ∷ ws) = warning_line y w ++ warning_lines (y + 16) ws

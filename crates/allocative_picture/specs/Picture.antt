@@ -1,6 +1,7 @@
 -- Pictures: the text of an SVG document.
 use Rattle.std.specs.Prelude.{ℕ, ◌+◌, ◌-◌, ◌*◌, List, ◌++◌, length, map, count_by}
 use Rattle.allocative_graph.specs.Graph.{Graph, total, sum_of}
+use Rattle.allocative_collectors.specs.Warned as held
 use Rattle.allocative_picture.specs.Rows.{Seen, rows_of, warned_mark, changed_mark}
 use Rattle.allocative_picture.specs.Boxes.{is_drawn}
 use Rattle.allocative_picture.specs.Fixed.{style, closing}
@@ -20,12 +21,12 @@ drawn_of s o rs = count_by (is_drawn o.narrowest (all_of s)) rs
 -- The picture of some rows: how it begins, the style, the title, the totals, what the script makes work, the boxes, the warnings and the end.
 unfoldable pub drawing : Subject → Options → List Seen → List ℕ
 drawing s o rs =
-    opening (bottom s o rs + 8 + 16 * length o.warnings.now) ++ style ++ heading o.title.now ++ summary s (drawn_of s o rs) (length rs - drawn_of s o rs) ++ tools_of s
-    ++ boxes o.narrowest (all_of s) rs ++ warning_lines (bottom s o rs + 14) (map (λ l. l.now) o.warnings.now) ++ closing
+    opening (bottom s o rs + 8 + 16 * length o.warned.now) ++ style ++ heading o.title.now ++ summary s (drawn_of s o rs) (length rs - drawn_of s o rs) ++ tools_of s
+    ++ boxes o.narrowest (all_of s) rs ++ warning_lines (bottom s o rs + 14) (map held.seen o.warned.now) ++ closing
 
--- The picture of a flame graph: that of its rows, marked by the warnings.
+-- The picture of a flame graph: that of its rows, marked by the paths that have a warning.
 abbrev pub profile_drawing : Options → Graph → List ℕ
-profile_drawing o g = drawing (Profile (total g)) o (rows_of (warned_mark o.warnings.now) g)
+profile_drawing o g = drawing (Profile (total g)) o (rows_of (warned_mark (map held.seen o.warned.now)) g)
 
 -- The picture of the change from g to h: that of the rows of their sum, marked by what they were in g.
 abbrev pub change_drawing : Options → Graph → Graph → List ℕ

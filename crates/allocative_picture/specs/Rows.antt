@@ -1,16 +1,15 @@
 -- What a row shows, and the rows of a flame graph.
-use Rattle.std.specs.Prelude.{ℕ, Bool, cond, length, List, [], ◌∷◌, ◌++◌, map, sum_by, codes}
-use Rattle.std.specs.List.{list_any, starts_with}
-use Rattle.std.specs.Prelude.{nat_eq}
+use Rattle.std.specs.Prelude.{ℕ, Bool, cond, length, List, [], ◌∷◌, map, sum_by, codes}
+use Rattle.std.specs.List.{list_any}
 use Rattle.std.specs.Ordering.{is_lt}
 use Rattle.std.specs.FinMap.{entries}
-use Rattle.std.proofs.Common.{Bor}
-use Rattle.allocative_graph.specs.Path.{Key, Path, path_cmp}
-use Rattle.allocative_graph.specs.Graph.{Graph, total_at, joined}
+use Rattle.allocative_graph.specs.Path.{Key, Path, path_cmp, is_same_path}
+use Rattle.allocative_graph.specs.Graph.{Graph, Warned, total_at}
 use Rattle.allocative_graph.specs.Reads.{Figures}
 use Rattle.allocative_picture.specs.declared.row.Row.{Row}
 use Rattle.allocative_picture.specs.declared.row.Mark.{Mark}
-use Rattle.allocative_picture.specs.declared.row.Mark.TheVariants.{Plain, Warned, Changed}
+use Rattle.allocative_picture.specs.declared.row.Mark.TheVariants.{Plain, Changed}
+use Rattle.allocative_picture.specs.declared.row.Mark.TheVariants as mark
 
 -- A row, with the text of its key.
 pub record Seen : Type 0 where
@@ -47,17 +46,13 @@ rows_of M g = map (row_of M g) (entries g)
 abbrev pub row_from : (Path → Mark) → ℕ → Figures → Seen
 row_from M before f = record { depth = length f.path; key = shown_key f.path; own = f.self_size; whole = f.total_size; before = before; mark = M f.path }
 
--- How the warning of a path begins.
-abbrev pub warning_start : Path → List ℕ
-warning_start p = codes "Incorrect size declaration for node `" ++ joined p ++ codes "`, size of self: "
+-- Whether a path is one of those that have a warning.
+unfoldable pub is_warned : List Warned → Path → Bool
+is_warned ws p = list_any (λ w. is_same_path w.path p) ws
 
--- Whether one of some lines is the warning of a path.
-unfoldable pub is_warned : List (Bor (List ℕ)) → Path → Bool
-is_warned lines p = list_any (λ l. starts_with nat_eq l.now (warning_start p)) lines
-
--- The mark of a path of a profile with some warnings, a line each.
-abbrev pub warned_mark : List (Bor (List ℕ)) → Path → Mark
-warned_mark lines p = cond (is_warned lines p) Warned Plain
+-- The mark of a path of a profile whose paths ws have a warning.
+abbrev pub warned_mark : List Warned → Path → Mark
+warned_mark ws p = cond (is_warned ws p) mark.Warned Plain
 
 -- The mark of a path of a sum of two profiles, of which g is the earlier one.
 abbrev pub changed_mark : Graph → Path → Mark

@@ -18,7 +18,7 @@ pub(crate) enum Class {
     Spare,
     /// One of the twelve classes of keys.
     Key(u64),
-    /// A path that a warning names.
+    /// A path that has a warning.
     Warned,
     /// A path that stayed as it was.
     Same,

@@ -1,8 +1,9 @@
 //! What stands round the boxes.
-ghost use Rattle.std.specs.Prelude.{◌≡◌, ◌++◌, ◌+◌, ◌*◌, ◌^◌, ◌<◌, ◌≤◌, Some, OnOk, string_bytes, map, count_by};
+ghost use Rattle.std.specs.Prelude.{◌≡◌, ◌++◌, ◌+◌, ◌*◌, ◌^◌, ◌<◌, ◌≤◌, Some, OnOk, IfOk, string_bytes, map, count_by};
+ghost use Rattle.allocative_collectors.specs.Warned as held;
 ghost use Rattle.allocative_picture.specs.Rows.{seen};
 ghost use Rattle.allocative_picture.specs.Boxes.{is_drawn};
-ghost use Rattle.allocative_picture.specs.Page.{all_of, subject_text, opening, heading, summary, warning_line, warning_lines, level_of, levels, tools_of, boxes};
+ghost use Rattle.allocative_picture.specs.Page.{all_of, subject_text, opening, heading, summary, warning_text, warning_line, warning_lines, level_of, levels, tools_of, boxes};
 
 use crate::boxes::{is_drawn, push_box};
 use crate::change::{Change, Comparison};
@@ -10,6 +11,8 @@ use crate::escape::escaped;
 use crate::figures::Bytes;
 use crate::fixed::{push_legend, push_tools};
 use crate::row::Row;
+use allocative_collectors::output::WarnedPath;
+use allocative_graph::flamegraph::push_path;
 use std::alloc::{AllocError, Global};
 use std::fmt;
 
@@ -158,11 +161,32 @@ pub(crate) fn push_boxes(
     Ok(())
 }
 
-// Appends a warning, whose line stands at a height in pixels.
-fn push_warning(alloc: Global, y: u128, line: &str, text: &mut String) -> Result<(), AllocError>
-    ensures { OnOk result (string_bytes text.new ≡ string_bytes text.old ++ warning_line y line.now) }
+// What the warning of a path says.
+fn warning_text(alloc: Global, warned: &WarnedPath) -> Result<String, AllocError>
+    ensures { IfOk result (λ made. string_bytes made ≡ warning_text (held.seen warned.now)) }
 {
-    let line = escaped(alloc, line)?;
+    let (own, parts) = (warned.self_size, warned.children_size);
+    let mut text = String::new(alloc);
+    text.push_str("Incorrect size declaration for node `")?;
+    push_path(warned.path.as_slice(), &mut text)?;
+    write!(
+        text,
+        "`, size of self: {own}, size of inline children: {parts}"
+    )?;
+    Ok(text)
+}
+
+// Appends the warning of a path, whose line stands at a height in pixels.
+fn push_warning(
+    alloc: Global,
+    y: u128,
+    warned: &WarnedPath,
+    text: &mut String,
+) -> Result<(), AllocError>
+    ensures { OnOk result (string_bytes text.new ≡ string_bytes text.old ++ warning_line y (held.seen warned.now)) }
+{
+    let said = warning_text(alloc, warned)?;
+    let line = escaped(alloc, said.as_str())?;
     write!(
         text,
         "<text class=\"warn\" x=\"8\" y=\"{y}\">{line}</text>\n"
@@ -170,18 +194,18 @@ fn push_warning(alloc: Global, y: u128, line: &str, text: &mut String) -> Result
     Ok(())
 }
 
-/// Appends warnings, the first of which stands at a height in pixels.
+/// Appends the warnings of some paths, the first of which stands at a height in pixels.
 pub(crate) fn push_warnings(
     alloc: Global,
     top: u128,
-    lines: &[&str],
+    warned: &[WarnedPath],
     text: &mut String,
 ) -> Result<(), AllocError>
     requires { top < 2 ^ 80 }
-    ensures { OnOk result (string_bytes text.new ≡ string_bytes text.old ++ warning_lines top (map (λ l. l.now) lines.now)) }
+    ensures { OnOk result (string_bytes text.new ≡ string_bytes text.old ++ warning_lines top (map held.seen warned.now)) }
 {
-    for (index, line) in lines.iter().enumerate() {
-        push_warning(alloc, top + 16 * index as u128, line, text)?;
+    for (index, one) in warned.iter().enumerate() {
+        push_warning(alloc, top + 16 * index as u128, one, text)?;
     }
     Ok(())
 }

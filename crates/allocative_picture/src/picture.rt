@@ -27,7 +27,7 @@ pub fn picture(alloc: Global, graph: &FlameGraph, options: &Options<'_>) -> Resu
     let subject = Subject::Profile {
         bytes: graph.total_size(),
     };
-    let rows = rows(alloc, &Marks::Warnings(options.warnings), graph)?;
+    let rows = rows(alloc, &Marks::Warned(options.warned), graph)?;
     Ok(draw(alloc, subject, rows.as_slice(), options)?)
 }
 
@@ -77,13 +77,13 @@ pub fn draw(
     let drawn = drawn(least, all, rows);
     let bottom = 64 + 18 * levels(least, all, rows);
     let mut text = String::new(alloc);
-    push_opening(bottom + 8 + 16 * options.warnings.len() as u128, &mut text)?;
+    push_opening(bottom + 8 + 16 * options.warned.len() as u128, &mut text)?;
     push_style(&mut text)?;
     push_heading(alloc, options.title, &mut text)?;
     push_summary(subject, drawn, rows.len().saturating_sub(drawn), &mut text)?;
     push_tools_of(subject, &mut text)?;
     push_boxes(alloc, least, all, rows, &mut text)?;
-    push_warnings(alloc, bottom + 14, options.warnings, &mut text)?;
+    push_warnings(alloc, bottom + 14, options.warned, &mut text)?;
     push_closing(&mut text)?;
     Ok(text)
 }

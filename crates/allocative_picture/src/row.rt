@@ -25,7 +25,7 @@ pub struct Row<'a> {
 pub enum Mark {
     /// Nothing.
     Plain,
-    /// A warning names the path: it declares fewer bytes than its parts.
+    /// The path has a warning: it declares fewer bytes than its parts.
     Warned,
     /// The row is one of a sum of two profiles.
     Changed {

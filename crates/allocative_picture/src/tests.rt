@@ -3,6 +3,7 @@ use crate::options::Options;
 use crate::page::Subject;
 use crate::picture::{change_picture, draw, picture};
 use crate::row::{Mark, Row};
+use allocative_collectors::output::WarnedPath;
 use allocative_graph::flamegraph::FlameGraph;
 use allocative_graph::key::Key;
 use allocative_graph::refusal::Refusal;
@@ -14,6 +15,20 @@ fn own(alloc: Global, size: usize) -> Result<FlameGraph, Refusal> {
     let mut graph = FlameGraph::default(alloc);
     graph.add_self(size)?;
     Ok(graph)
+}
+
+// A path that has a warning.
+fn warned_path(
+    alloc: Global,
+    path: &[&'static str],
+    self_size: usize,
+    children_size: usize,
+) -> Result<WarnedPath, AllocError> {
+    Ok(WarnedPath {
+        path: path.to_vec(alloc)?,
+        self_size,
+        children_size,
+    })
 }
 
 // Asserts that a picture has these boxes and no others, a title, a line of totals, and a height.
@@ -47,7 +62,7 @@ const MARKED_BOXES: &str = "Whole</text></svg>\n\
 <svg class=\"b root\" x=\"0.0000%\" y=\"54\" width=\"100.0000%\" height=\"18\"><title>all\n3.0 KiB (3072 bytes), 100.00% of all\n0 B (0 bytes) of its own</title><rect width=\"100%\" height=\"100%\" rx=\"2\"/><text x=\"4\" y=\"13\">all<tspan class=\"n\" dx=\"8\">3.0 KiB</tspan></text></svg>\n\
 <svg class=\"b warned\" x=\"0.0000%\" y=\"72\" width=\"100.0000%\" height=\"18\"><title>Map\n3.0 KiB (3072 bytes), 100.00% of all\n1000 B (1000 bytes) of its own\ndeclared smaller than its parts: see the warnings</title><rect width=\"100%\" height=\"100%\" rx=\"2\"/><text x=\"4\" y=\"13\">Map<tspan class=\"n\" dx=\"8\">3.0 KiB</tspan></text></svg>\n\
 <svg class=\"b spare\" x=\"32.5846%\" y=\"90\" width=\"67.4154%\" height=\"18\"><title>unused_capacity\n2.0 KiB (2071 bytes), 67.41% of all</title><rect width=\"100%\" height=\"100%\" rx=\"2\"/><text x=\"4\" y=\"13\">unused_capacity<tspan class=\"n\" dx=\"8\">2.0 KiB</tspan></text></svg>\n<text class=\"warn\" x=\"8\" y=\"132\">Incorrect size declaration for node `Map`, size of self: 1, size of inline children: 2</text>\n\
-<text class=\"warn\" x=\"8\" y=\"148\">a &lt;line&gt;</text>\n<script>";
+<text class=\"warn\" x=\"8\" y=\"148\">Incorrect size declaration for node `Map;&lt;thin&gt;`, size of self: 30, size of inline children: 400</text>\n<script>";
 
 #[test]
 fn boxes_stand_by_their_bytes(rt: HostRuntime) -> Result<(), Refusal> {
@@ -97,12 +112,13 @@ fn warned_and_unused_paths_are_marked(rt: HostRuntime) -> Result<(), Refusal> {
     map.add_child(Key::new("unused_capacity"), own(alloc, 2071)?)?;
     let mut graph = own(alloc, 0)?;
     graph.add_child(Key::new("Map"), map)?;
+    let warned = [
+        warned_path(alloc, &["Map"], 1, 2)?,
+        warned_path(alloc, &["Map", "<thin>"], 30, 400)?,
+    ];
     let options = Options {
         title: "A & B",
-        warnings: &[
-            "Incorrect size declaration for node `Map`, size of self: 1, size of inline children: 2",
-            "a <line>",
-        ],
+        warned: &warned,
         narrowest: 500,
     };
     let text = picture(alloc, &graph, &options)?;

@@ -1,3 +1,4 @@
 pub mod Fault
 pub mod Forest
 pub mod Stacks
+pub mod Run

@@ -1,7 +1,9 @@
 //! The whole program, over any reader and two writers.
-ghost use Rattle.std.specs.Prelude.{◌≡◌, ◌≢◌, ◌⊎◌, OnOk, OnErr, IfOk, IfErr, IfSome, string_bytes};
+ghost use Rattle.std.specs.Prelude.{◌≡◌, ◌≢◌, ◌⊎◌, ℕ, OnOk, OnErr, IfOk, IfErr, IsErrOf, IfSome, List, map, string_bytes};
 ghost use Rattle.std.specs.Io.KnownBytes.{Appends};
 ghost use Rattle.allocative_picture_filter.specs.Fault.{status_of};
+ghost use Rattle.allocative_picture_filter.specs.Stacks.{seen, Reads, IsFault};
+ghost use Rattle.allocative_picture_filter.specs.Run.{AreOf, ReadsBefore, IsPictureOf, IsFaultBefore, subject_for};
 
 use crate::fault::Fault;
 use crate::forest::forest_of;
@@ -19,6 +21,23 @@ pub enum Earlier {
     None,
     /// There is one: the picture is that of the change.
     Profile(Vec<u8>),
+}
+
+impl Earlier {
+    // Whether there is one.
+    fn is_there(&self) -> bool {
+        matches!(self, Earlier::Profile(_))
+    }
+
+    // What a picture is of that has these bytes of the earlier profile and these of the later one.
+    fn subject(&self, before: usize, after: usize) -> Subject
+        ensures { result ≡ subject_for self.now before after }
+    {
+        match self {
+            Earlier::None => Subject::Profile { bytes: after },
+            Earlier::Profile(_) => Subject::Change { before, after },
+        }
+    }
 }
 
 /// All that the reader gives. `Fault::Reading` where a read failed, and else `Fault::Memory`. An interrupted read is taken
@@ -71,42 +90,62 @@ pub fn show_usage<W: Write, E: Write>(output: &mut W, errors: &mut E) -> u8 {
 }
 
 // Appends the lines of some bytes.
-fn push_profile<'a>(bytes: &'a [u8], side: Side, lines: &mut Vec<Line<'a>>) -> Result<(), Fault> {
+fn push_profile<'a>(bytes: &'a [u8], side: Side, lines: &mut Vec<Line<'a>>) -> Result<(), Fault>
+    ensures ok { OnOk result (Reads side bytes.now lines.old.items lines.new.items) }
+    ensures line { (n : ℕ) → IsErrOf result (Fault.Line n) → (side ≡ Side.Later) × IsFault side bytes.now n }
+    ensures earlier_line { (n : ℕ) → IsErrOf result (Fault.EarlierLine n) → (side ≡ Side.Earlier) × IsFault side bytes.now n }
+{
     let Ok(text) = str::from_utf8(bytes) else {
         return Err(Fault::NotText);
     };
-    match (push_lines(text, side, lines), side) {
-        (Ok(()), _) => Ok(()),
-        (Err(Unread::Memory), _) => Err(Fault::Memory),
-        (Err(Unread::Line(number)), Side::Earlier) => Err(Fault::EarlierLine(number)),
-        (Err(Unread::Line(number)), Side::Later) => Err(Fault::Line(number)),
+    match push_lines(text, side, lines) {
+        Ok(()) => Ok(()),
+        Err(Unread::Memory) => Err(Fault::Memory),
+        Err(Unread::Line(number)) => Err(match side {
+            Side::Earlier => Fault::EarlierLine(number),
+            Side::Later => Fault::Line(number),
+        }),
     }
 }
 
-// The picture of some bytes, and of an earlier profile where there is one.
-fn picture_of(
+// Appends the lines of the earlier profile, where there is one.
+fn push_earlier<'a>(earlier: &'a Earlier, lines: &mut Vec<Line<'a>>) -> Result<(), Fault>
+    ensures ok { OnOk result (ReadsBefore earlier.now lines.old.items lines.new.items) }
+    ensures line { (n : ℕ) → ¬ (IsErrOf result (Fault.Line n)) }
+    ensures earlier_line { (n : ℕ) → IsErrOf result (Fault.EarlierLine n) → IsFaultBefore earlier.now n }
+{
+    match earlier {
+        Earlier::None => Ok(()),
+        Earlier::Profile(before) => push_profile(before.as_slice(), Side::Earlier, lines),
+    }
+}
+
+// The lines of both profiles: those of the earlier one, where there is one, and then the others.
+fn read_both<'a>(
     alloc: Global,
-    title: &str,
-    earlier: &Earlier,
-    bytes: &[u8],
-) -> Result<String, Fault> {
+    earlier: &'a Earlier,
+    bytes: &'a [u8],
+) -> Result<Vec<Line<'a>>, Fault>
+    ensures ok { IfOk result (λ lines. AreOf earlier.now bytes.now (map seen lines.items)) }
+    ensures line { (n : ℕ) → IsErrOf result (Fault.Line n) → IsFault Side.Later bytes.now n }
+    ensures earlier_line { (n : ℕ) → IsErrOf result (Fault.EarlierLine n) → IsFaultBefore earlier.now n }
+{
     let mut lines = Vec::new(alloc);
-    let is_change = match earlier {
-        Earlier::None => false,
-        Earlier::Profile(before) => {
-            push_profile(before.as_slice(), Side::Earlier, &mut lines)?;
-            true
-        }
-    };
+    push_earlier(earlier, &mut lines)?;
     push_profile(bytes, Side::Later, &mut lines)?;
+    Ok(lines)
+}
+
+// The picture of some bytes, and of an earlier profile where there is one.
+fn picture_of(alloc: Global, title: &str, earlier: &Earlier, bytes: &[u8]) -> Result<String, Fault>
+    ensures ok { IfOk result (λ made. IsPictureOf title.now earlier.now bytes.now (string_bytes made)) }
+    ensures line { (n : ℕ) → IsErrOf result (Fault.Line n) → IsFault Side.Later bytes.now n }
+    ensures earlier_line { (n : ℕ) → IsErrOf result (Fault.EarlierLine n) → IsFaultBefore earlier.now n }
+{
+    let mut lines = read_both(alloc, earlier, bytes)?;
     sort(&mut lines)?;
-    let forest = forest_of(alloc, is_change, lines.as_slice())?;
-    let (before, after) = (forest.was(), forest.is());
-    let subject = if is_change {
-        Subject::Change { before, after }
-    } else {
-        Subject::Profile { bytes: after }
-    };
+    let forest = forest_of(alloc, earlier.is_there(), lines.as_slice())?;
+    let subject = earlier.subject(forest.was(), forest.is());
     let options = Options {
         title,
         ..Options::default()
@@ -120,15 +159,19 @@ fn make_picture<R: Read>(
     title: &str,
     earlier: &Earlier,
     input: &mut R,
-) -> Result<String, Fault> {
+) -> Result<String, Fault>
+    ensures ok { IfOk result (λ made. IfSome (R.remaining input.old) (λ known. IsPictureOf title.now earlier.now known (string_bytes made))) }
+    ensures line { (n : ℕ) → IsErrOf result (Fault.Line n) → IfSome (R.remaining input.old) (λ known. IsFault Side.Later known n) }
+    ensures earlier_line { (n : ℕ) → IsErrOf result (Fault.EarlierLine n) → IsFaultBefore earlier.now n }
+{
     let bytes = read_input(alloc, input)?;
     picture_of(alloc, title, earlier, bytes.as_slice())
 }
 
 /// The whole program but its words: its answer is the status.
 ///
-/// With status 0 the picture stands on the output. Else the fault's line goes to the errors and, but for status 7, nothing goes to
-/// the output.
+/// With status 0 the picture of all lines stands on the output. Else the fault's line goes to the errors and, but for status 7, nothing
+/// goes to the output. Status 2 comes only where a line of one of the texts is none.
 pub fn run<R: Read, W: Write, E: Write>(
     alloc: Global,
     title: &str,
@@ -137,6 +180,8 @@ pub fn run<R: Read, W: Write, E: Write>(
     output: &mut W,
     errors: &mut E,
 ) -> u8
+    ensures drawn { result ≡ 0 → IfSome (R.remaining input.old) (λ known. (made : List ℕ) × IsPictureOf title.now earlier.now known made × Appends (W.contents output.old) (W.contents output.new) made) }
+    ensures faulty { result ≡ 2 → IfSome (R.remaining input.old) (λ known. (n : ℕ) × (IsFault Side.Later known n ⊎ IsFaultBefore earlier.now n)) }
     ensures untouched { result ≢ 0 → result ≢ 7 → output.new ≡ output.old }
 {
     match make_picture(alloc, title, earlier, input) {

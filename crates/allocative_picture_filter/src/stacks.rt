@@ -1,6 +1,8 @@
 //! Lines of collapsed stacks.
-ghost use Rattle.std.specs.Prelude.{IfSome, IfNone};
-ghost use Rattle.allocative_picture_filter.specs.Stacks.{Stack, seen, IsStack};
+ghost use Rattle.std.specs.Prelude.{◌≡◌, ℕ, IfSome, IfNone, OnOk, IsErrOf};
+ghost use Rattle.allocative_picture_filter.specs.Stacks.{Stack, seen, IsStack, IsFault, Reads, keys_of, common, IsInOrder};
+ghost use Rattle.allocative_graph.specs.Path.{path_cmp};
+ghost use Rattle.std.specs.List.Sorted.{IsPermutation};
 
 use std::alloc::AllocError;
 use std::cmp::Ordering;
@@ -58,8 +60,12 @@ fn read_line(line: &str, side: Side) -> Option<Line<'_>>
     })
 }
 
-/// Appends the lines of a text. It ends at the first line that is none, and answers its number.
-pub fn push_lines<'a>(text: &'a str, side: Side, lines: &mut Vec<Line<'a>>) -> Result<(), Unread> {
+/// Appends the lines of a text. It ends at the first line that is none, and answers its number; else it answers an error only for want
+/// of memory.
+pub fn push_lines<'a>(text: &'a str, side: Side, lines: &mut Vec<Line<'a>>) -> Result<(), Unread>
+    ensures ok { OnOk result (Reads side text.now lines.old.items lines.new.items) }
+    ensures line { (n : ℕ) → IsErrOf result (Unread.Line n) → IsFault side text.now n }
+{
     let mut number = 0usize;
     for line in text.lines() {
         number = number.saturating_add(1);
@@ -73,18 +79,30 @@ pub fn push_lines<'a>(text: &'a str, side: Side, lines: &mut Vec<Line<'a>>) -> R
     Ok(())
 }
 
-/// Puts lines into the order of paths: key by key, by the bytes of the keys.
-pub fn sort(lines: &mut Vec<Line<'_>>) -> Result<(), AllocError> {
-    lines.sort_by(|a, b| path_order(a.path, b.path))
+/// Puts lines into the order of paths: key by key, by the bytes of the keys. It answers an error only for want of memory, and also then
+/// the lines are those that there were.
+pub fn sort(lines: &mut Vec<Line<'_>>) -> Result<(), AllocError>
+    ensures same { IsPermutation lines.old.items lines.new.items }
+    ensures sorted { OnOk result (IsInOrder lines.new.items) }
+{
+    lines.sort_by(
+        |a: &Line<'_>, b: &Line<'_>| -> Ordering
+            ensures { result ≡ path_cmp (keys_of a.entry.now.path.now) (keys_of b.entry.now.path.now) }
+        { path_order(a.path, b.path) },
+    )
 }
 
 // The order of two paths.
-fn path_order(a: &str, b: &str) -> Ordering {
+fn path_order(a: &str, b: &str) -> Ordering
+    ensures { result ≡ path_cmp (keys_of a.now) (keys_of b.now) }
+{
     a.split(';').cmp(b.split(';'))
 }
 
 /// How many keys two paths have in common, from the first on.
-pub fn keys_in_common(a: &str, b: &str) -> usize {
+pub fn keys_in_common(a: &str, b: &str) -> usize
+    ensures { result ≡ common (keys_of a.now) (keys_of b.now) }
+{
     a.split(';')
         .zip(b.split(';'))
         .take_while(|(a, b)| a == b)

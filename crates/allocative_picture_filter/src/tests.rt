@@ -1,7 +1,6 @@
 // What no clause says: the lines of faults, pictures of lines, and runs whose input or output fails.
 use crate::fault::Fault;
 use crate::run::{Earlier, run};
-use crate::stacks::keys_in_common;
 use crate::words::read_words;
 use std::alloc::{AllocError, Global};
 use std::collections::VecDeque;
@@ -191,13 +190,6 @@ fn a_change_has_both_profiles(rt: HostRuntime) -> Result<(), AllocError> {
         )
     );
     Ok(())
-}
-
-#[test]
-fn keys_are_compared_whole(rt: HostRuntime) {
-    assert_eq!(rt; keys_in_common("a;b;c", "a;b;d"), 2);
-    assert_eq!(rt; keys_in_common("a;b", "a;bc"), 1);
-    assert_eq!(rt; keys_in_common("", "a"), 0);
 }
 
 #[test]

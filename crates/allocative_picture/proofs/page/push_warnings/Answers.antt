@@ -1,7 +1,7 @@
-use Rattle.std.proofs.Common.{arith}
+use Rattle.std.proofs.Common.{arith, rules}
 use Rattle.std.specs.Prelude.{string_bytes}
 use Rattle.allocative_picture.proofs.Pages.{warnings-more}
 use Rattle.allocative_picture.proofs.page.push_warnings.Goals as goal
 
 pub loop-index-preserved : goal.loop-index-preserved
-loop-index-preserved c = warnings-more c.args.top (string_bytes c.args.text.now) _ _ c.args.lines.now c.loop-index.index _ (omega arith) c.loop-index.invariant c.in_ok-push_warning.ensures
+loop-index-preserved c = warnings-more c.args.top (string_bytes c.args.text.now) _ _ c.args.warned.now c.loop-index.index c.index-warned-index.result (omega arith) (search rules) c.loop-index.invariant c.in_ok-push_warning.ensures

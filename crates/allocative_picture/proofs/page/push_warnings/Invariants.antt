@@ -1,8 +1,9 @@
 use Rattle.std.proofs.Common.{◌≡◌, ◌++◌, map, take}
 use Rattle.std.specs.Prelude.{string_bytes}
+use Rattle.allocative_collectors.specs.Warned as held
 use Rattle.allocative_picture.specs.Page.{warning_lines}
 use Rattle.allocative_picture.proofs.page.push_warnings.Given as goal
 
 -- So far the warnings that came are appended.
 abbrev pub invariant-loop-index : goal.invariant-loop-index
-invariant-loop-index l = string_bytes l.text ≡ string_bytes l.initial.text ++ warning_lines l.top (map (λ x. x.now) (take l.index l.lines))
+invariant-loop-index l = string_bytes l.text ≡ string_bytes l.initial.text ++ warning_lines l.top (map held.seen (take l.index l.warned))

@@ -1,6 +1,6 @@
 use Rattle.std.proofs.Common.{◌≡◌, ℕ, ◌+◌, ◌-◌, ◌*◌, ◌++◌, List, [], map, count_by, length, ap, sym, ◌∙◌}
 use Rattle.std.proofs.lemmas.List.{length-map}
-use Rattle.allocative_graph.proofs.NodeText.{texts}
+use Rattle.allocative_collectors.specs.Warned as held
 use Rattle.allocative_picture.specs.Rows.{Seen, seen}
 use Rattle.allocative_picture.specs.Boxes.{is_drawn}
 use Rattle.allocative_picture.specs.Fixed.{style, closing}
@@ -20,7 +20,7 @@ returns c =
     let o = c.args.options.now in
     let s = c.args.subject in
     let rs = map seen c.args.rows.now in
-    let texts_of = texts o.warnings.now in
+    let warned = map held.seen o.warned.now in
     let wrote = chain _ _ _ _ _ _ _ _ _ _ _ _ _ _ _ _ _ c.new-text.ensures.bytes c.in_ok-push_opening.ensures c.in_ok-push_style.ensures c.in_ok-push_heading.ensures c.in_ok-push_summary.ensures c.in_ok-push_tools_of.ensures c.in_ok-push_boxes.ensures c.in_ok-push_warnings.ensures c.in_ok-push_closing.ensures in
     let all = c.all-all.ensures in
     let high : c.levels.result ≡ _ = c.levels.ensures.levels ∙ ap (λ (a : ℕ). levels o.narrowest a rs) all in
@@ -28,4 +28,4 @@ returns c =
     let many : length c.args.rows.now ≡ length rs = sym (length-map {B = Seen} c.args.rows.now seen) in
     let narrow : c.saturating_sub.result ≡ _ = c.saturating_sub.ensures ∙ (λ i. many i - drew i) in
     wrote
-    ∙ (λ i. ((((((opening (64 + 18 * high i + 8 + 16 * length o.warnings.now) ++ style) ++ heading o.title.now) ++ summary s (drew i) (narrow i)) ++ tools_of s) ++ boxes o.narrowest (all i) rs) ++ warning_lines (64 + 18 * high i + 14) texts_of) ++ closing)
+    ∙ (λ i. ((((((opening (64 + 18 * high i + 8 + 16 * length o.warned.now) ++ style) ++ heading o.title.now) ++ summary s (drew i) (narrow i)) ++ tools_of s) ++ boxes o.narrowest (all i) rs) ++ warning_lines (64 + 18 * high i + 14) warned) ++ closing)

@@ -40,8 +40,8 @@ loop-path-preserved c =
     let next : map reads.seen (take (i + 1) ps) ≡ came ++ reads.seen p ∷ [] = one_more ps i p (omega arith) c.path-item.is in
     record {
       rows =
-          ap (map seen) c.in_ok-push.ensures.items ∙ map-append seen c.loop-path.rows.items (c.in_ok-row_from.field-0 ∷ [])
-          ∙ (λ j. c.loop-path.invariant.rows j ++ c.in_ok-row_from.ensures j ∷ [])
+          ap (map seen) c.in_ok-push.ensures.items ∙ map-append seen c.loop-path.rows.items (c.row_from.result ∷ [])
+          ∙ (λ j. c.loop-path.invariant.rows j ++ c.row_from.ensures j ∷ [])
           ∙ ap (λ (n : ℕ). rows_from M 0 came ++ row_from M n (reads.seen p) ∷ []) (c.loop-path.invariant.before ∙ from_zero (own_bytes came))
           ∙ sym (rows_from-more M 0 came (reads.seen p)) ∙ ap (rows_from M 0) (sym next);
       before = ap (λ (n : ℕ). n + p.self_size) c.loop-path.invariant.before ∙ sym (ap own_bytes next ∙ own-more came (reads.seen p));

@@ -1,0 +1,34 @@
+-- Paths that have a warning.
+use Rattle.std.proofs.Common.{◌≡◌, ℕ, Bool, ◌&&◌, ◌||◌, List, Bor, [], ◌∷◌, map, refl, sym, ◌∙◌}
+use Rattle.std.specs.Prelude.{nat_eq}
+use Rattle.std.specs.List.{list_any}
+use Rattle.std.specs.Cmp.Lexicographic.{pointwise}
+use Rattle.std.specs.Ordering.{is_eq, ordering_then}
+use Rattle.std.specs.declared.cmp.Ordering.{Ordering}
+use Rattle.std.specs.declared.cmp.Ordering.TheVariants.{Less, Equal, Greater}
+use Rattle.std.proofs.lemmas.Map.Text.{is_eq-slice_cmp}
+use Rattle.allocative_graph.specs.Path.{key_cmp, path_cmp, is_same_path}
+use Rattle.allocative_graph.proofs.NodeText.{texts}
+use Rattle.allocative_collectors.specs.declared.output.WarnedPath.{WarnedPath}
+use Rattle.allocative_collectors.specs.Warned as held
+
+both : (r s : Ordering) → is_eq (ordering_then r s) ≡ (is_eq r && is_eq s)
+both Less s = refl
+both Equal s = refl
+both Greater s = refl
+
+-- What `==` says of two lists of keys.
+abbrev pub are_equal : List (Bor (List ℕ)) → List (Bor (List ℕ)) → Bool
+are_equal = pointwise (λ x y. pointwise nat_eq x.now y.now)
+
+same_keys : (xs ys : List (Bor (List ℕ))) → are_equal xs ys ≡ is_same_path (texts xs) (texts ys)
+same_keys [] [] = refl
+same_keys [] (y ∷ ys) = refl
+same_keys (x ∷ xs) [] = refl
+same_keys (x ∷ xs) (y ∷ ys) =
+    sym (both (key_cmp x.now y.now) (path_cmp (texts xs) (texts ys)) ∙ (λ i. is_eq-slice_cmp x.now y.now i && sym (same_keys xs ys) i))
+
+-- Whether a path is one of some, as `==` of their keys says.
+pub any_held : (ws : List WarnedPath) (p : List (Bor (List ℕ))) → list_any (λ w. are_equal w.path.items p) ws ≡ list_any (λ w. is_same_path w.path (texts p)) (map held.seen ws)
+any_held [] p = refl
+any_held (w ∷ ws) p = λ i. same_keys w.path.items p i || any_held ws p i

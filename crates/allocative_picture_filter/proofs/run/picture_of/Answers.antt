@@ -1,0 +1,30 @@
+use Rattle.std.proofs.Common.{◌≡◌, map, ap, ◌∙◌, List, refl}
+use Rattle.std.specs.Prelude.{sum_by}
+use Rattle.std.specs.List.Sorted.{IsPermutation}
+use Rattle.allocative_picture.specs.Rows as rows
+use Rattle.allocative_picture.specs.Picture.{drawing}
+use Rattle.allocative_picture_filter.specs.declared.stacks.Line.{Line}
+use Rattle.allocative_picture_filter.specs.Stacks.{Stack, seen}
+use Rattle.allocative_picture_filter.specs.Run.{subject_for}
+use Rattle.allocative_picture_filter.proofs.Texts.{same_bytes}
+use Rattle.allocative_picture_filter.proofs.run.picture_of.Goals as goal
+
+pub returns-clause-ok : goal.returns-clause-ok
+returns-clause-ok c =
+    let lines = c.in_ok-lines.lines.items in
+    let sorted = c.sort.new.lines.items in
+    let slice : c.as_slice.result.now ≡ sorted = c.as_slice.ensures.value in
+    let moved : IsPermutation lines sorted = c.in_ok-sort.ensures.same in
+    let was : c.in_ok-forest.forest.was ≡ sum_by (λ (s : Stack). s.was) (map seen lines) =
+    c.in_ok-forest.ensures.ok.was ∙ ap (λ (ls : List Line). sum_by (λ l. l.was) ls) slice ∙ same_bytes (λ s. s.was) lines sorted moved in
+    let is : c.in_ok-forest.forest.is ≡ sum_by (λ (s : Stack). s.is) (map seen lines) =
+    c.in_ok-forest.ensures.ok.is ∙ ap (λ (ls : List Line). sum_by (λ l. l.is) ls) slice ∙ same_bytes (λ s. s.is) lines sorted moved in
+    let subject = c.subject-subject.ensures ∙ (λ i. subject_for c.args.earlier.now ((c.was.ensures ∙ was) i) ((c.is.ensures ∙ is) i)) in
+    record {
+      stacks = map seen lines;
+      read = c.in_ok-lines.ensures.ok;
+      options = record { title = c.args.title; warned = c.default.result.warned; narrowest = c.default.result.narrowest };
+      titled = refl;
+      rows = map rows.seen c.as_slice-2.result.now;
+      drawn = c.in_ok-draw.ensures ∙ ap (λ s. drawing s (record { title = c.args.title; warned = c.default.result.warned; narrowest = c.default.result.narrowest }) (map rows.seen c.as_slice-2.result.now)) subject;
+    }
