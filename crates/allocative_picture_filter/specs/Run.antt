@@ -1,5 +1,5 @@
 -- What a run draws of two texts, and which line a fault of it names.
-use Rattle.std.specs.Prelude.{◌≡◌, ℕ, List, [], ◌++◌, map, sum_by}
+use Rattle.std.specs.Prelude.{◌≡◌, ℕ, ◌+◌, List, [], ◌++◌, map, sum_by}
 use Rattle.allocative_picture.specs.Rows.{Seen}
 use Rattle.allocative_picture.specs.Picture.{drawing}
 use Rattle.allocative_picture.specs.declared.options.Options.{Options}
@@ -40,11 +40,12 @@ pub record AreOf (before : earlier.Earlier) (text : List ℕ) (stacks : List Sta
   pub later_read : Means side.Later text later
   pub both : stacks ≡ earlier ++ later
 
--- The picture with this title has the bytes of all stacks of both texts.
+-- The picture with this title is one of rows that have, each by itself, the bytes of all stacks of both texts, and its totals are those of the two.
 pub record IsPictureOf (title : List ℕ) (before : earlier.Earlier) (text made : List ℕ) : Type 0 where
   pub stacks : List Stack
   pub read : AreOf before text stacks
   pub options : Options
   pub titled : options.title.now ≡ title
   pub rows : List Seen
+  pub own : sum_by (λ r. r.own) rows ≡ sum_by (λ s. s.was) stacks + sum_by (λ s. s.is) stacks
   pub drawn : made ≡ drawing (subject_for before (sum_by (λ s. s.was) stacks) (sum_by (λ s. s.is) stacks)) options rows

@@ -1,12 +1,13 @@
-use Rattle.std.proofs.Common.{◌≡◌, map, ap, ◌∙◌, List, refl}
+use Rattle.std.proofs.Common.{◌≡◌, ◌+◌, map, ap, ◌∙◌, List, refl}
 use Rattle.std.specs.Prelude.{sum_by}
 use Rattle.std.specs.List.Sorted.{IsPermutation}
 use Rattle.allocative_picture.specs.Rows as rows
 use Rattle.allocative_picture.specs.Picture.{drawing}
 use Rattle.allocative_picture_filter.specs.declared.stacks.Line.{Line}
 use Rattle.allocative_picture_filter.specs.Stacks.{Stack, seen}
+use Rattle.allocative_picture_filter.specs.Forest.{own_bytes}
 use Rattle.allocative_picture_filter.specs.Run.{subject_for}
-use Rattle.allocative_picture_filter.proofs.Texts.{same_bytes}
+use Rattle.allocative_picture_filter.proofs.Texts.{same_bytes, shown_bytes}
 use Rattle.allocative_picture_filter.proofs.run.picture_of.Goals as goal
 
 pub returns-clause-ok : goal.returns-clause-ok
@@ -26,5 +27,6 @@ returns-clause-ok c =
       options = record { title = c.args.title; warned = c.default.result.warned; narrowest = c.default.result.narrowest };
       titled = refl;
       rows = map rows.seen c.as_slice-2.result.now;
+      own = shown_bytes c.as_slice-2.result.now ∙ ap own_bytes c.as_slice-2.ensures.value ∙ c.finish.ensures c.in_ok-forest.ensures.full ∙ (λ i. was i + is i);
       drawn = c.in_ok-draw.ensures ∙ ap (λ s. drawing s (record { title = c.args.title; warned = c.default.result.warned; narrowest = c.default.result.narrowest }) (map rows.seen c.as_slice-2.result.now)) subject;
     }
