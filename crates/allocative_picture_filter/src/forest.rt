@@ -1,6 +1,6 @@
 //! The rows of lines.
 ghost use Rattle.std.specs.Prelude.{◌≡◌, ◌+◌, ◌^◌, ◌<◌, ◌≤◌, ◌⊎◌, ◌↔◌, OnOk, IfOk, IfErr, IsErrOf, sum_by, length};
-ghost use Rattle.allocative_picture_filter.specs.Forest.{IsKept, HasBytes, IsFull, own_bytes};
+ghost use Rattle.allocative_picture_filter.specs.Forest.{IsKept, HasBytes, IsFull, HasRows};
 
 use crate::fault::Fault;
 use crate::stacks::{Line, keys_in_common};
@@ -58,7 +58,9 @@ impl<'a> Forest<'a> {
     }
 
     // The bytes of all lines that came.
-    fn bytes(&self) -> usize {
+    fn bytes(&self) -> usize
+        ensures { self.now.was + self.now.is < 2 ^ 64 → result ≡ self.now.was + self.now.is }
+    {
         self.was.saturating_add(self.is)
     }
 
@@ -86,7 +88,7 @@ impl<'a> Forest<'a> {
 
     /// The rows, all of which know their bytes.
     pub fn finish(mut self) -> Vec<Row<'a>>
-        ensures { IsFull self.entry → own_bytes result.items ≡ self.entry.was + self.entry.is }
+        ensures { IsFull self.entry → HasRows (self.entry.was + self.entry.is) result.items }
     {
         self.close(0);
         let Forest { rows, .. } = self;
@@ -96,8 +98,8 @@ impl<'a> Forest<'a> {
     // Opens the row of a key below the open ones.
     fn open_row(&mut self, key: &'a str) -> Result<(), Fault>
         ensures kept { IsKept self.old self.new }
-        ensures own { own_bytes self.new.rows.items ≡ own_bytes self.old.rows.items }
-        ensures some { OnOk result (0 < length self.new.rows.items) }
+        ensures full { IsFull self.old → IsFull self.new }
+        ensures first { length self.old.rows.items ≡ 0 → self.old.was + self.old.is ≡ 0 → OnOk result (IsFull self.new) }
         ensures memory { IfErr result (λ f. f ≡ Fault.Memory) }
     {
         let before = self.bytes();
