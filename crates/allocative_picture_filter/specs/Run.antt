@@ -1,5 +1,6 @@
 -- What a run draws of two texts, and which line a fault of it names.
-use Rattle.std.specs.Prelude.{◌≡◌, ℕ, List, [], ◌++◌, map, sum_by}
+use Rattle.std.specs.Prelude.{◌≡◌, ℕ, ◌+◌, List, [], ◌∷◌, ◌++◌, map, sum_by}
+use Rattle.std.specs.Bool.{⊤}
 use Rattle.allocative_picture.specs.Rows.{Seen}
 use Rattle.allocative_picture.specs.Picture.{drawing}
 use Rattle.allocative_picture.specs.declared.options.Options.{Options}
@@ -40,11 +41,18 @@ pub record AreOf (before : earlier.Earlier) (text : List ℕ) (stacks : List Sta
   pub later_read : Means side.Later text later
   pub both : stacks ≡ earlier ++ later
 
--- The picture with this title has the bytes of all stacks of both texts.
+-- Before each row that is shown come, behind n others, the bytes of those that stand before it.
+abbrev pub StandBeside : ℕ → List Seen → Type 0
+StandBeside n [] = ⊤
+StandBeside n (r ∷ rs) = (r.before ≡ n) × StandBeside (n + r.own) rs
+
+-- The picture with this title is one of rows that stand beside one another and have, each by itself, the bytes of all stacks of both texts, and its totals are those of the two.
 pub record IsPictureOf (title : List ℕ) (before : earlier.Earlier) (text made : List ℕ) : Type 0 where
   pub stacks : List Stack
   pub read : AreOf before text stacks
   pub options : Options
   pub titled : options.title.now ≡ title
   pub rows : List Seen
+  pub beside : StandBeside 0 rows
+  pub own : sum_by (λ r. r.own) rows ≡ sum_by (λ s. s.was) stacks + sum_by (λ s. s.is) stacks
   pub drawn : made ≡ drawing (subject_for before (sum_by (λ s. s.was) stacks) (sum_by (λ s. s.is) stacks)) options rows

@@ -1,6 +1,6 @@
 //! The rows of lines.
-ghost use Rattle.std.specs.Prelude.{◌≡◌, ◌+◌, ◌^◌, ◌<◌, ◌≤◌, ◌⊎◌, ◌↔◌, OnOk, IfOk, IfErr, IsErrOf, sum_by};
-ghost use Rattle.allocative_picture_filter.specs.Forest.{IsKept, HasBytes};
+ghost use Rattle.std.specs.Prelude.{◌≡◌, ◌+◌, ◌^◌, ◌<◌, ◌≤◌, ◌⊎◌, ◌↔◌, OnOk, IfOk, IfErr, IsErrOf, sum_by, length};
+ghost use Rattle.allocative_picture_filter.specs.Forest.{IsKept, HasBytes, IsFull, HasRows};
 
 use crate::fault::Fault;
 use crate::stacks::{Line, keys_in_common};
@@ -28,6 +28,7 @@ impl<'a> Forest<'a> {
     /// The root alone, without bytes. It answers an error only for want of memory.
     pub fn new(alloc: Global, is_change: bool) -> Result<Forest<'a>, Fault>
         ensures empty { IfOk result (HasBytes 0 0) }
+        ensures full { IfOk result IsFull }
         ensures memory { IfErr result (λ f. f ≡ Fault.Memory) }
     {
         let mut forest = Forest {
@@ -57,7 +58,9 @@ impl<'a> Forest<'a> {
     }
 
     // The bytes of all lines that came.
-    fn bytes(&self) -> usize {
+    fn bytes(&self) -> usize
+        ensures { self.now.was + self.now.is < 2 ^ 64 → result ≡ self.now.was + self.now.is }
+    {
         self.was.saturating_add(self.is)
     }
 
@@ -65,6 +68,7 @@ impl<'a> Forest<'a> {
     /// `usize::MAX`, and else `Fault::Memory`.
     pub fn add(&mut self, line: &Line<'a>) -> Result<(), Fault>
         ensures ok { OnOk result (HasBytes (self.old.was + line.now.was) (self.old.is + line.now.is) self.new) }
+        ensures full { IsFull self.old → OnOk result (IsFull self.new) }
         ensures too_large { IsErrOf result Fault.TooLarge → 2 ^ 64 ≤ self.old.was + line.now.was + (self.old.is + line.now.is) }
         ensures err { IfErr result (λ f. (f ≡ Fault.Memory) ⊎ (f ≡ Fault.TooLarge)) }
     {
@@ -83,7 +87,9 @@ impl<'a> Forest<'a> {
     }
 
     /// The rows, all of which know their bytes.
-    pub fn finish(mut self) -> Vec<Row<'a>> {
+    pub fn finish(mut self) -> Vec<Row<'a>>
+        ensures { IsFull self.entry → HasRows (self.entry.was + self.entry.is) result.items }
+    {
         self.close(0);
         let Forest { rows, .. } = self;
         rows
@@ -92,6 +98,8 @@ impl<'a> Forest<'a> {
     // Opens the row of a key below the open ones.
     fn open_row(&mut self, key: &'a str) -> Result<(), Fault>
         ensures kept { IsKept self.old self.new }
+        ensures full { IsFull self.old → IsFull self.new }
+        ensures first { length self.old.rows.items ≡ 0 → self.old.was + self.old.is ≡ 0 → OnOk result (IsFull self.new) }
         ensures memory { IfErr result (λ f. f ≡ Fault.Memory) }
     {
         let before = self.bytes();
@@ -115,6 +123,7 @@ impl<'a> Forest<'a> {
     // Counts the bytes of a line, whose row is the last one.
     fn count(&mut self, line: &Line<'_>) -> Result<(), Fault>
         ensures ok { OnOk result (HasBytes (self.old.was + line.now.was) (self.old.is + line.now.is) self.new) }
+        ensures full { IsFull self.old → OnOk result (IsFull self.new) }
         ensures too_large { IsErrOf result Fault.TooLarge ↔ (2 ^ 64 ≤ self.old.was + line.now.was + (self.old.is + line.now.is)) }
         ensures err { IfErr result (λ f. f ≡ Fault.TooLarge) }
     {
@@ -134,6 +143,7 @@ impl<'a> Forest<'a> {
     // Closes all rows but the first open ones: their bytes are those that came since they were opened.
     fn close(&mut self, depth: usize)
         ensures kept { IsKept self.old self.new }
+        ensures full { IsFull self.old → IsFull self.new }
     {
         let bytes = self.bytes();
         while self.open.len() > depth {
@@ -160,6 +170,7 @@ pub fn forest_of<'a>(
     lines: &[Line<'a>],
 ) -> Result<Forest<'a>, Fault>
     ensures ok { IfOk result (HasBytes (sum_by (λ l. l.was) lines.now) (sum_by (λ l. l.is) lines.now)) }
+    ensures full { IfOk result IsFull }
     ensures too_large { IsErrOf result Fault.TooLarge → 2 ^ 64 ≤ sum_by (λ l. l.was) lines.now + sum_by (λ l. l.is) lines.now }
     ensures err { IfErr result (λ f. (f ≡ Fault.Memory) ⊎ (f ≡ Fault.TooLarge)) }
 {

@@ -1,12 +1,13 @@
-use Rattle.std.proofs.Common.{◌≡◌, map, ap, ◌∙◌, List, refl}
+use Rattle.std.proofs.Common.{◌≡◌, ◌+◌, map, ap, sym, subst, ◌∙◌, List, refl}
 use Rattle.std.specs.Prelude.{sum_by}
 use Rattle.std.specs.List.Sorted.{IsPermutation}
 use Rattle.allocative_picture.specs.Rows as rows
 use Rattle.allocative_picture.specs.Picture.{drawing}
 use Rattle.allocative_picture_filter.specs.declared.stacks.Line.{Line}
 use Rattle.allocative_picture_filter.specs.Stacks.{Stack, seen}
+use Rattle.allocative_picture_filter.specs.Forest.{own_bytes, AreBeside}
 use Rattle.allocative_picture_filter.specs.Run.{subject_for}
-use Rattle.allocative_picture_filter.proofs.Texts.{same_bytes}
+use Rattle.allocative_picture_filter.proofs.Texts.{same_bytes, shown_bytes, shown_beside}
 use Rattle.allocative_picture_filter.proofs.run.picture_of.Goals as goal
 
 pub returns-clause-ok : goal.returns-clause-ok
@@ -20,11 +21,14 @@ returns-clause-ok c =
     let is : c.in_ok-forest.forest.is ≡ sum_by (λ (s : Stack). s.is) (map seen lines) =
     c.in_ok-forest.ensures.ok.is ∙ ap (λ (ls : List Line). sum_by (λ l. l.is) ls) slice ∙ same_bytes (λ s. s.is) lines sorted moved in
     let subject = c.subject-subject.ensures ∙ (λ i. subject_for c.args.earlier.now ((c.was.ensures ∙ was) i) ((c.is.ensures ∙ is) i)) in
+    let shown = c.finish.ensures c.in_ok-forest.ensures.full in
     record {
       stacks = map seen lines;
       read = c.in_ok-lines.ensures.ok;
       options = record { title = c.args.title; warned = c.default.result.warned; narrowest = c.default.result.narrowest };
       titled = refl;
       rows = map rows.seen c.as_slice-2.result.now;
+      beside = shown_beside 0 c.as_slice-2.result.now (subst (AreBeside 0) (sym c.as_slice-2.ensures.value) shown.beside);
+      own = shown_bytes c.as_slice-2.result.now ∙ ap own_bytes c.as_slice-2.ensures.value ∙ shown.own ∙ (λ i. was i + is i);
       drawn = c.in_ok-draw.ensures ∙ ap (λ s. drawing s (record { title = c.args.title; warned = c.default.result.warned; narrowest = c.default.result.narrowest }) (map rows.seen c.as_slice-2.result.now)) subject;
     }

@@ -1,10 +1,10 @@
 use Rattle.std.proofs.Common.{vec_len}
-use Rattle.allocative_picture_filter.specs.Forest.{IsKept}
+use Rattle.allocative_picture_filter.specs.Forest.{IsKept, IsFull}
 use Rattle.allocative_picture_filter.proofs.forest.Forest.close.Given as goal
 
--- No bytes are counted.
+-- No bytes are counted, and no row has lost any.
 abbrev pub invariant-loop-self : goal.invariant-loop-self
-invariant-loop-self l = IsKept l.initial.self l.self
+invariant-loop-self l = record { kept : IsKept l.initial.self l.self; full : IsFull l.initial.self → IsFull l.self }
 
 -- The rows that are still open.
 abbrev pub decreases-loop-self : goal.decreases-loop-self

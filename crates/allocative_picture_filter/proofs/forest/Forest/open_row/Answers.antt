@@ -1,0 +1,15 @@
+use Rattle.std.proofs.Common.{◌≡◌, ◌+◌, ◌++◌, ◌∷◌, [], length, ap, refl, arith}
+use Rattle.std.proofs.lemmas.List.{length-append}
+use Rattle.allocative_picture.specs.declared.row.Row.{Row}
+use Rattle.allocative_picture_filter.specs.Forest.{HasRows}
+use Rattle.allocative_picture_filter.proofs.Beside.{rows-push}
+use Rattle.allocative_picture_filter.proofs.forest.Forest.open_row.Goals as goal
+
+pub returns-clause-full : goal.returns-clause-full
+returns-clause-full c = λ h.
+    let rs = c.args.self.now.rows.items in
+    record {
+      some = omega (arith, ap length c.in_ok-push-2.ensures.items, length-append {A = Row});
+      fits = h.fits;
+      rows = rw c.in_ok-push-2.ensures.items (rows-push (c.args.self.now.was + c.args.self.now.is) rs _ refl (c.bytes-before.ensures h.fits) h.rows);
+    }
