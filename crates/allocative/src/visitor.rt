@@ -172,6 +172,7 @@ fn turned_round<'a>(
 
 impl Visitor<'_> {
     // The collector, lent on.
+    #[inline(always)]
     fn reborrow(&mut self) -> &mut Collector
         ensures* lent { sem 𝓛 (LendsCollector self.entry result) }
         ensures now { result.now ≡ self.old.collector.now }
@@ -187,6 +188,7 @@ impl Visitor<'_> {
     ///
     /// An implementation of `Allocative` enters a part, as `Inside`, which the checker follows in every caller. After this call a
     /// caller's proof knows what is returned and the nested visitor, and of this one only what the starred clause says by hand.
+    #[inline(always)]
     pub fn enter(&mut self, key: Key, size: usize) -> Result<Visitor<'_>, Refusal>
         ensures* lent { sem 𝓛 (LendsNested false key size self.entry result) }
         ensures entered { IfOk result (Nests false key size self.old) }
@@ -196,6 +198,7 @@ impl Visitor<'_> {
     }
 
     /// Enters as unique: one unique entry of `size` bytes more under the key, and a nested visitor at it. It is refused as `enter` is.
+    #[inline(always)]
     pub fn enter_unique(&mut self, key: Key, size: usize) -> Result<Visitor<'_>, Refusal>
         ensures* lent { sem 𝓛 (LendsNested true key size self.entry result) }
         ensures entered { IfOk result (Nests true key size self.old) }
@@ -208,6 +211,7 @@ impl Visitor<'_> {
     ///
     /// Where there is no size it is refused with TooLarge, and else as `enter` is. After Ok this visitor ends with what the
     /// nested one leaves; all else of it stays.
+    #[inline(always)]
     pub fn enter_sized(&mut self, key: Key, size: Option<usize>) -> Result<Visitor<'_>, Refusal>
         ensures* lent { sem 𝓛 (LendsNestedSized key size self.entry result) }
         ensures entered { IfOk result (NestsSized key size self.old) }
@@ -218,6 +222,7 @@ impl Visitor<'_> {
 
     /// Enters inline with the declared name and size of `T`. Where there is no size it is refused with TooLarge, and else as `enter`
     /// is. After Ok this visitor ends with what the nested one leaves; all else of it stays.
+    #[inline(always)]
     pub fn enter_self_sized<T: Described>(&mut self) -> Result<Visitor<'_>, Refusal>
         ensures* lent { sem 𝓛 (LendsNestedSized T.name T.size self.entry result) }
         ensures entered { IfOk result (NestsSized T.name T.size self.old) }
@@ -227,6 +232,7 @@ impl Visitor<'_> {
     }
 
     /// Enters inline with the declared name and size of the value's type, as `enter_self_sized` does.
+    #[inline(always)]
     pub fn enter_self<T: Described>(&mut self, _this: &T) -> Result<Visitor<'_>, Refusal>
         ensures* lent { sem 𝓛 (LendsNestedSized T.name T.size self.entry result) }
         ensures entered { IfOk result (NestsSized T.name T.size self.old) }
