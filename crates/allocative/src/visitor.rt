@@ -178,6 +178,7 @@ fn turned_round<'a>(
 
 impl Visitor<'_> {
     // A mutable borrow of the collector.
+    #[inline(always)]
     fn reborrow(&mut self) -> &mut Collector
         ensures* lent { sem 𝓛 (LendsCollector self.entry result) }
         ensures now { result.now ≡ self.old.collector.now }
@@ -195,6 +196,7 @@ impl Visitor<'_> {
     /// An implementation of `Allocative` enters a part, such as `Inside`, which the checker follows in every
     /// caller. After this call a caller's proof knows the result and the nested visitor. Of this visitor it
     /// knows only what the starred clause says, which is used by hand.
+    #[inline(always)]
     pub fn enter(&mut self, key: Key, size: usize) -> Result<Visitor<'_>, Refusal>
         ensures* lent { sem 𝓛 (LendsNested false key size self.entry result) }
         ensures entered { IfOk result (Nests false key size self.old) }
@@ -205,6 +207,7 @@ impl Visitor<'_> {
 
     /// Enters as unique: one more unique entry of `size` bytes under the key, and a nested visitor at it. The
     /// errors are those of `enter`.
+    #[inline(always)]
     pub fn enter_unique(&mut self, key: Key, size: usize) -> Result<Visitor<'_>, Refusal>
         ensures* lent { sem 𝓛 (LendsNested true key size self.entry result) }
         ensures entered { IfOk result (Nests true key size self.old) }
@@ -218,6 +221,7 @@ impl Visitor<'_> {
     ///
     /// Where there is no size the call returns `TooLarge`; the other errors are those of `enter`. After `Ok`
     /// this visitor ends with what the nested one leaves; nothing else of it changes.
+    #[inline(always)]
     pub fn enter_sized(&mut self, key: Key, size: Option<usize>) -> Result<Visitor<'_>, Refusal>
         ensures* lent { sem 𝓛 (LendsNestedSized key size self.entry result) }
         ensures entered { IfOk result (NestsSized key size self.old) }
@@ -229,6 +233,7 @@ impl Visitor<'_> {
     /// Enters inline with the declared name and size of `T`. Where there is no size the call returns
     /// `TooLarge`; the other errors are those of `enter`. After `Ok` this visitor ends with what the nested one
     /// leaves; nothing else of it changes.
+    #[inline(always)]
     pub fn enter_self_sized<T: Described>(&mut self) -> Result<Visitor<'_>, Refusal>
         ensures* lent { sem 𝓛 (LendsNestedSized T.name T.size self.entry result) }
         ensures entered { IfOk result (NestsSized T.name T.size self.old) }
@@ -238,6 +243,7 @@ impl Visitor<'_> {
     }
 
     /// Enters inline with the declared name and size of the value's type, as `enter_self_sized` does.
+    #[inline(always)]
     pub fn enter_self<T: Described>(&mut self, _this: &T) -> Result<Visitor<'_>, Refusal>
         ensures* lent { sem 𝓛 (LendsNestedSized T.name T.size self.entry result) }
         ensures entered { IfOk result (NestsSized T.name T.size self.old) }

@@ -11,6 +11,7 @@ use crate::output::FlameGraphOutput;
 use allocative_graph::flamegraph::{FlameGraph, push_path};
 use allocative_graph::key::Key;
 use allocative_graph::refusal::Refusal;
+use smallvec::SmallVec;
 use std::alloc::{AllocError, Global};
 use std::cmp::Ordering;
 use std::marker::Model;
@@ -22,8 +23,8 @@ mod warned;
 struct Node {
     key: Key,
     parent: usize,
-    /// The numbers of the nodes one key below, in the order of their keys.
-    children: Vec<u32>,
+    /// The numbers of the nodes one key below, in the order of their keys; a few lie in the node itself.
+    children: SmallVec<u32, 4>,
     bytes: usize,
     /// The bytes of the children.
     below: usize,
@@ -66,7 +67,7 @@ impl Tree {
         nodes.push(Node {
             key: Key::new(""),
             parent: 0,
-            children: Vec::new(alloc),
+            children: SmallVec::new(alloc),
             bytes: 0,
             below: 0,
             last: 0,
@@ -150,7 +151,7 @@ impl Tree {
         if self.is_short(at) {
             push_warning(keys.as_slice(), node.bytes, node.below, text)?;
         }
-        for &child in &node.children {
+        for &child in node.children.as_slice() {
             let key = &self.nodes[child as usize].key;
             keys.push(key.as_str())?;
             let below = self.make(child as usize, keys, text)?;
@@ -266,8 +267,8 @@ impl Tree {
         ensures entered { IfOk result (IsEntered self.old self.new at key.now 0 false) }
         ensures err { OnErr result (self.new ≡ self.old) }
     {
-        match find(&self.nodes, &self.nodes[at].children, key) {
-            Ok(place) => Ok(self.nodes[at].children[place] as usize),
+        match find(&self.nodes, self.nodes[at].children.as_slice(), key) {
+            Ok(place) => Ok(self.nodes[at].children.as_slice()[place] as usize),
             Err(place) => {
                 let node = self.nodes.len();
                 let Ok(number) = u32::try_from(node) else {
@@ -276,7 +277,7 @@ impl Tree {
                 self.nodes.push(Node {
                     key: key.copy(),
                     parent: at,
-                    children: Vec::new(self.alloc),
+                    children: SmallVec::new(self.alloc),
                     bytes: 0,
                     below: 0,
                     last: 0,

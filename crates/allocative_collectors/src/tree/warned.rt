@@ -29,7 +29,7 @@ impl Tree {
                 children_size: node.below,
             })?;
         }
-        for &child in &node.children {
+        for &child in node.children.as_slice() {
             keys.push(self.nodes[child as usize].key.as_str())?;
             self.push_warned(child as usize, keys, warned)?;
             keys.pop();

@@ -31,23 +31,23 @@ index-node-requires t c =
 pub index-requires : goal.index-requires
 index-requires t c =
     let items = c.self.inside.nodes.items in
-    let there = child_read items c.self.invariant c.args.self.now c.self.view_is c.args.at c.requires.within c.index-node.result.now c.index-node.ensures c.deref-child-items.result.now c.deref-child-items.ensures.value c.loop-child.child-index c.loop-child-test.true in
-    let in_sums : get_or c.deref-child-items.result.now c.loop-child.child-index 0 < length (sums_of items) = subst (λ (s : Listed). get_or c.deref-child-items.result.now c.loop-child.child-index 0 < length s) (sym c.self.view_is) there.1 in
-    let within = in_nodes items (get_or c.deref-child-items.result.now c.loop-child.child-index 0) in_sums in
+    let there = child_read items c.self.invariant c.args.self.now c.self.view_is c.args.at c.requires.within c.index-node.result.now c.index-node.ensures c.as_slice-child-items.result.now c.as_slice-child-items.ensures c.loop-child.child-index c.loop-child-test.true in
+    let in_sums : get_or c.as_slice-child-items.result.now c.loop-child.child-index 0 < length (sums_of items) = subst (λ (s : Listed). get_or c.as_slice-child-items.result.now c.loop-child.child-index 0 < length s) (sym c.self.view_is) there.1 in
+    let within = in_nodes items (get_or c.as_slice-child-items.result.now c.loop-child.child-index 0) in_sums in
     omega (arith, c.self.inside.nodes.ok.0)
 
 -- the child of this turn, and its key
 abbrev number : (t : ℕ) → After-index t → ℕ
-number t c = get_or c.deref-child-items.result.now c.loop-child.child-index 0
+number t c = get_or c.as_slice-child-items.result.now c.loop-child.child-index 0
 
 abbrev turn_key : (t : ℕ) → After-index t → Key
-turn_key t c = key_in (keys_of (map shape c.self.inside.nodes.items) c.deref-child-items.result.now) c.loop-child.child-index
+turn_key t c = key_in (keys_of (map shape c.self.inside.nodes.items) c.as_slice-child-items.result.now) c.loop-child.child-index
 
 child : (t : ℕ) (c : After-index t) → (c.args.at < number t c) × (number t c < length c.args.self.now) × (path_at c.args.self.now (number t c) ≡ path_at c.args.self.now c.args.at ++ turn_key t c ∷ [])
-child t c = child_read c.self.inside.nodes.items c.self.invariant c.args.self.now c.self.view_is c.args.at c.requires.within c.index-node.result.now c.index-node.ensures c.deref-child-items.result.now c.deref-child-items.ensures.value c.loop-child.child-index c.loop-child-test.true
+child t c = child_read c.self.inside.nodes.items c.self.invariant c.args.self.now c.self.view_is c.args.at c.requires.within c.index-node.result.now c.index-node.ensures c.as_slice-child-items.result.now c.as_slice-child-items.ensures c.loop-child.child-index c.loop-child-test.true
 
 key : (t : ℕ) (c : After-index t) → c.index.result.now.key ≡ turn_key t c
-key t c = child_key c.self.inside.nodes.items c.self.invariant c.args.self.now c.self.view_is c.args.at c.requires.within c.index-node.result.now c.index-node.ensures c.deref-child-items.result.now c.deref-child-items.ensures.value c.loop-child.child-index c.loop-child-test.true c.index.result.now c.index.ensures
+key t c = child_key c.self.inside.nodes.items c.self.invariant c.args.self.now c.self.view_is c.args.at c.requires.within c.index-node.result.now c.index-node.ensures c.as_slice-child-items.result.now c.as_slice-child-items.ensures c.loop-child.child-index c.loop-child-test.true c.index.result.now c.index.ensures
 
 pub returns-in_err-add_self-clause-err : goal.returns-in_err-add_self-clause-err
 returns-in_err-add_self-clause-err t c =
@@ -79,7 +79,7 @@ loop-child-init t c =
           ∙ (sym (append-nil start)
           ∙ ap (λ (l : List ℕ). start ++ l) (sym (cond-false (is_short v i) (warning_line (path_at v i) (let e = sum_at v i in e.bytes) (below (map_of v) (path_at v i))) [] (sym w.if-is_short.ensures))))
     ] in
-    record { keys = refl; made = half_none v i (keys_of (map shape items) c.deref-child-items.result.now) start (string_bytes c.if-is_short.text) c.add_self.new.self is written }
+    record { keys = refl; made = half_none v i (keys_of (map shape items) c.as_slice-child-items.result.now) start (string_bytes c.if-is_short.text) c.add_self.new.self is written }
 
 pub make-requires : goal.make-requires
 make-requires t c =
@@ -98,7 +98,7 @@ pub returns-in_err-add_child-clause-err : goal.returns-in_err-add_child-clause-e
 returns-in_err-add_child-clause-err t c =
     let v = c.args.self.now in
     let here = (goal.at.returns-in_err-add_child-clause-err t c).After-index in
-    let half = half_total v c.args.at (keys_of (map shape c.self.inside.nodes.items) c.deref-child-items.result.now) c.loop-child.child-index (string_bytes c.args.text.now) (string_bytes c.loop-child.text) c.loop-child.graph c.requires.within c.loop-child.invariant.made in
+    let half = half_total v c.args.at (keys_of (map shape c.self.inside.nodes.items) c.as_slice-child-items.result.now) c.loop-child.child-index (string_bytes c.args.text.now) (string_bytes c.loop-child.text) c.loop-child.graph c.requires.within c.loop-child.invariant.made in
     let more = made_total v (number t here) (string_bytes c.loop-child.text) (string_bytes c.make.new.text) c.in_ok-below.below c.in_ok-below.ensures.made in
     let is : c.add_child.result ≡ Err c.in_err-add_child.field-0.0 = c.in_err-add_child.was in
     let large : IsErrOf c.add_child.result TooLarge ↔ (2 ^ 64 ≤ total c.loop-child.graph + total c.in_ok-below.below) = c.add_child.ensures.too_large in
@@ -114,12 +114,12 @@ loop-child-preserved t c =
     let v = c.args.self.now in
     let here = (goal.at.loop-child-preserved t c).After-index in
     let there = child t here in
-    let xs = c.deref-child-items.result.now in
+    let xs = c.as_slice-child-items.result.now in
     let ks = keys_of (map shape c.self.inside.nodes.items) xs in
     let j = c.loop-child.child-index in
     let pushed : c.push.new.self.items ≡ c.loop-child.keys.items ++ c.as_str.result ∷ [] = c.in_ok-push.ensures.items in
     let kept : c.pop.new.self.items ≡ c.args.keys.now.items = popped c.loop-child.keys.items c.make.new.keys.items c.pop.new.self.items c.as_str.result _ c.pop.ensures.rest c.make.new.keys.ok.0 (c.in_ok-below.ensures.keys ∙ pushed) ∙ c.loop-child.invariant.keys in
-    let rise = keys_rise c.self.inside.nodes.items c.self.invariant v c.self.view_is c.args.at c.requires.within c.index-node.result.now c.index-node.ensures xs c.deref-child-items.ensures.value in
+    let rise = keys_rise c.self.inside.nodes.items c.self.invariant v c.self.view_is c.args.at c.requires.within c.index-node.result.now c.index-node.ensures xs c.as_slice-child-items.ensures in
     let inside : j < length ks = omega (arith, c.loop-child-test.true, length-keys_of (map shape c.self.inside.nodes.items) xs) in
     let is : c.add_child.new.self ≡ sum_of c.loop-child.graph (under (key_in ks j) c.in_ok-below.below) = c.in_ok-add_child.ensures.sum ∙ ap (λ (k : Key). sum_of c.loop-child.graph (under k c.in_ok-below.below)) (c.copy.ensures ∙ key t here) in
     record {
@@ -128,4 +128,4 @@ loop-child-preserved t c =
     }
 
 pub returns-clause-made : goal.returns-clause-made
-returns-clause-made t c = made_all c.self.inside.nodes.items c.self.invariant c.args.self.now c.self.view_is c.args.at c.requires.within c.index-node.result.now c.index-node.ensures c.deref-child-items.result.now c.deref-child-items.ensures.value (string_bytes c.args.text.now) (string_bytes c.loop-child.text) c.loop-child.graph c.loop-child.child-index (omega arith) (let ended = c.loop-child.auto.child-index-end in omega arith) c.loop-child.invariant.made
+returns-clause-made t c = made_all c.self.inside.nodes.items c.self.invariant c.args.self.now c.self.view_is c.args.at c.requires.within c.index-node.result.now c.index-node.ensures c.as_slice-child-items.result.now c.as_slice-child-items.ensures (string_bytes c.args.text.now) (string_bytes c.loop-child.text) c.loop-child.graph c.loop-child.child-index (omega arith) (let ended = c.loop-child.auto.child-index-end in omega arith) c.loop-child.invariant.made

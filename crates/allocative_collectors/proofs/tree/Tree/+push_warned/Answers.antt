@@ -32,24 +32,24 @@ index-node-requires t c =
 pub index-requires : goal.index-requires
 index-requires t c =
     let items = c.self.inside.nodes.items in
-    let there = child_read items c.self.invariant c.args.self.now c.self.view_is c.args.at c.requires.within c.index-node.result.now c.index-node.ensures c.deref-child-items.result.now c.deref-child-items.ensures.value c.loop-child.child-index c.loop-child-test.true in
-    let in_sums : get_or c.deref-child-items.result.now c.loop-child.child-index 0 < length (sums_of items) = subst (λ (s : Listed). get_or c.deref-child-items.result.now c.loop-child.child-index 0 < length s) (sym c.self.view_is) there.1 in
-    let within = in_nodes items (get_or c.deref-child-items.result.now c.loop-child.child-index 0) in_sums in
+    let there = child_read items c.self.invariant c.args.self.now c.self.view_is c.args.at c.requires.within c.index-node.result.now c.index-node.ensures c.as_slice-child-items.result.now c.as_slice-child-items.ensures c.loop-child.child-index c.loop-child-test.true in
+    let in_sums : get_or c.as_slice-child-items.result.now c.loop-child.child-index 0 < length (sums_of items) = subst (λ (s : Listed). get_or c.as_slice-child-items.result.now c.loop-child.child-index 0 < length s) (sym c.self.view_is) there.1 in
+    let within = in_nodes items (get_or c.as_slice-child-items.result.now c.loop-child.child-index 0) in_sums in
     omega (arith, c.self.inside.nodes.ok.0)
 
 -- The child of this turn.
 abbrev number : (t : ℕ) → After-index t → ℕ
-number t c = get_or c.deref-child-items.result.now c.loop-child.child-index 0
+number t c = get_or c.as_slice-child-items.result.now c.loop-child.child-index 0
 
 -- Its key.
 abbrev turn_key : (t : ℕ) → After-index t → Key
-turn_key t c = key_in (keys_of (map shape c.self.inside.nodes.items) c.deref-child-items.result.now) c.loop-child.child-index
+turn_key t c = key_in (keys_of (map shape c.self.inside.nodes.items) c.as_slice-child-items.result.now) c.loop-child.child-index
 
 child : (t : ℕ) (c : After-index t) → (c.args.at < number t c) × (number t c < length c.args.self.now) × (path_at c.args.self.now (number t c) ≡ path_at c.args.self.now c.args.at ++ turn_key t c ∷ [])
-child t c = child_read c.self.inside.nodes.items c.self.invariant c.args.self.now c.self.view_is c.args.at c.requires.within c.index-node.result.now c.index-node.ensures c.deref-child-items.result.now c.deref-child-items.ensures.value c.loop-child.child-index c.loop-child-test.true
+child t c = child_read c.self.inside.nodes.items c.self.invariant c.args.self.now c.self.view_is c.args.at c.requires.within c.index-node.result.now c.index-node.ensures c.as_slice-child-items.result.now c.as_slice-child-items.ensures c.loop-child.child-index c.loop-child-test.true
 
 key : (t : ℕ) (c : After-index t) → c.index.result.now.key ≡ turn_key t c
-key t c = child_key c.self.inside.nodes.items c.self.invariant c.args.self.now c.self.view_is c.args.at c.requires.within c.index-node.result.now c.index-node.ensures c.deref-child-items.result.now c.deref-child-items.ensures.value c.loop-child.child-index c.loop-child-test.true c.index.result.now c.index.ensures
+key t c = child_key c.self.inside.nodes.items c.self.invariant c.args.self.now c.self.view_is c.args.at c.requires.within c.index-node.result.now c.index-node.ensures c.as_slice-child-items.result.now c.as_slice-child-items.ensures c.loop-child.child-index c.loop-child-test.true c.index.result.now c.index.ensures
 
 pub loop-child-init : goal.loop-child-init
 loop-child-init t c =
@@ -78,7 +78,7 @@ loop-child-init t c =
           ∙ (sym (append-nil start)
           ∙ ap (λ (l : List Warned). start ++ l) (sym (cond-false (is_short v i) own [] (sym w.if-is_short.ensures))))
     ] in
-    record { keys = refl; found = found_none v i (keys_of (map shape items) c.deref-child-items.result.now) start (map seen c.if-is_short.warned.items) found }
+    record { keys = refl; found = found_none v i (keys_of (map shape items) c.as_slice-child-items.result.now) start (map seen c.if-is_short.warned.items) found }
 
 pub push_warned-requires : goal.push_warned-requires
 push_warned-requires t c =
@@ -98,12 +98,12 @@ loop-child-preserved t c =
     let v = c.args.self.now in
     let here = (goal.at.loop-child-preserved t c).After-index in
     let there = child t here in
-    let xs = c.deref-child-items.result.now in
+    let xs = c.as_slice-child-items.result.now in
     let ks = keys_of (map shape c.self.inside.nodes.items) xs in
     let j = c.loop-child.child-index in
     let pushed : c.push-in-loop-child.new.self.items ≡ c.loop-child.keys.items ++ c.as_str.result ∷ [] = c.in_ok-push-2.ensures.items in
     let kept : c.pop.new.self.items ≡ c.args.keys.now.items = popped c.loop-child.keys.items c.push_warned.new.keys.items c.pop.new.self.items c.as_str.result _ c.pop.ensures.rest c.push_warned.new.keys.ok.0 (c.in_ok-push_warned.ensures.keys ∙ pushed) ∙ c.loop-child.invariant.keys in
-    let rise = keys_rise c.self.inside.nodes.items c.self.invariant v c.self.view_is c.args.at c.requires.within c.index-node.result.now c.index-node.ensures xs c.deref-child-items.ensures.value in
+    let rise = keys_rise c.self.inside.nodes.items c.self.invariant v c.self.view_is c.args.at c.requires.within c.index-node.result.now c.index-node.ensures xs c.as_slice-child-items.ensures in
     let inside : j < length ks = omega (arith, c.loop-child-test.true, length-keys_of (map shape c.self.inside.nodes.items) xs) in
     record {
       keys = kept;
@@ -111,4 +111,4 @@ loop-child-preserved t c =
     }
 
 pub returns-clause-warned : goal.returns-clause-warned
-returns-clause-warned t c = found_all c.self.inside.nodes.items c.self.invariant c.args.self.now c.self.view_is c.args.at c.requires.within c.index-node.result.now c.index-node.ensures c.deref-child-items.result.now c.deref-child-items.ensures.value (map seen c.args.warned.now.items) (map seen c.loop-child.warned.items) c.loop-child.child-index (omega arith) (let ended = c.loop-child.auto.child-index-end in omega arith) c.loop-child.invariant.found
+returns-clause-warned t c = found_all c.self.inside.nodes.items c.self.invariant c.args.self.now c.self.view_is c.args.at c.requires.within c.index-node.result.now c.index-node.ensures c.as_slice-child-items.result.now c.as_slice-child-items.ensures (map seen c.args.warned.now.items) (map seen c.loop-child.warned.items) c.loop-child.child-index (omega arith) (let ended = c.loop-child.auto.child-index-end in omega arith) c.loop-child.invariant.found

@@ -28,7 +28,7 @@ returns-in-Ok c =
     let n : Node = c.index.result.now in
     let xs = n.children.items in
     let ks = keys_of (map shape items) xs in
-    let empty : length xs ≡ 0 = omega (arith, n.children.ok.0, count_none _ (sym c.is_empty.ensures ∙ c.if-not-is_empty.false)) in
+    let empty : length xs ≡ 0 = count_none _ (sym c.is_empty.ensures ∙ c.if-not-is_empty.false) in
     let is : c.add_self.new.self ≡ add_self (size_at v i) default = c.in-Ok.ensures.sum ∙ (λ j. add_self (c.size.ensures j) (c.default-graph.ensures j)) in
     λ written.
     let quiet : written ≡ written ++ warning_at v i =

@@ -1,7 +1,8 @@
 -- The child that was found, the new one, and the push that is undone.
-use Rattle.std.proofs.Common.{◌≡◌, ℕ, ◌<◌, false, List, length, get_or, map, set, take, ◌-◌, vec_len, arith, sym, ap, subst, ◌∙◌, refl}
-use Rattle.std.proofs.lemmas.List.{length-map, get_or_read}
-use Rattle.std.proofs.lemmas.Bool.{cond-true, cond-false}
+use Rattle.std.proofs.Common.{◌≡◌, ℕ, ◌<◌, true, false, Result, Ok, Err, List, length, get_or, map, set, take, ◌-◌, vec_len, arith, sym, ap, subst, ◌∙◌, refl}
+use Rattle.std.proofs.lemmas.List.{length-map}
+use Rattle.std.specs.Result.{is_ok, OnOk, OnErr}
+use Rattle.smallvec.specs.SmallVec.{SmallVec}
 use Rattle.std.specs.List.{insert}
 use Rattle.allocative_collectors.specs.declared.tree.Node.{Node}
 use Rattle.allocative_graph.specs.Path.{Key}
@@ -13,7 +14,16 @@ use Rattle.allocative_collectors.proofs.Keys.{length-keys_of}
 use Rattle.allocative_collectors.proofs.Grown.{grown, arena_grown}
 use Rattle.allocative_collectors.proofs.Child.{was_entered, now_entered}
 use Rattle.allocative_collectors.proofs.tree.Tree.search_child.Goals as goal
-use Rattle.allocative_collectors.proofs.tree.Tree.search_child.Goals.{After-deref-2, Joined-pop, Else-is_err}
+use Rattle.allocative_collectors.proofs.tree.Tree.search_child.Goals.{After-as_slice, Joined-pop, Else-is_err}
+
+-- what holds on success, and on failure
+from_ok : {T E : Type 0} (P : Type 0) (r : Result T E) → is_ok r ≡ true → OnOk r P → P
+from_ok P (Ok x) e p = p
+from_ok P (Err x) e p = cc
+
+from_err : {T E : Type 0} (P : Type 0) (r : Result T E) → is_ok r ≡ false → OnErr r P → P
+from_err P (Ok x) e p = cc
+from_err P (Err x) e p = p
 
 pub index-requires : goal.index-requires
 index-requires c =
@@ -23,20 +33,20 @@ index-requires c =
     omega (arith, c.self.inside.nodes.ok.0)
 
 -- the children that are searched, and their keys
-searched : (c : After-deref-2) → c.deref-2.result.now ≡ children_at (map shape c.self.inside.nodes.items) c.args.at
+searched : (c : After-as_slice) → c.as_slice.result.now ≡ children_at (map shape c.self.inside.nodes.items) c.args.at
 searched c =
     let items = c.self.inside.nodes.items in
     let here : c.args.at < length (sums_of items) = rw c.self.view_is c.requires in
-    c.deref-2.ensures.value ∙ sym (children_read items c.args.at c.index.result.now (in_nodes items c.args.at here) c.index.ensures)
+    c.as_slice.ensures ∙ sym (children_read items c.args.at c.index.result.now (in_nodes items c.args.at here) c.index.ensures)
 
-searched_keys : (c : After-deref-2) → keys_of (map shape c.deref.result.now) c.deref-2.result.now ≡ keys_at (map shape c.self.inside.nodes.items) c.args.at
+searched_keys : (c : After-as_slice) → keys_of (map shape c.deref.result.now) c.as_slice.result.now ≡ keys_at (map shape c.self.inside.nodes.items) c.args.at
 searched_keys c = λ i. keys_of (map shape (c.deref.ensures.value i)) (searched c i)
 
 pub find-requires-clause-within : goal.find-requires-clause-within
 find-requires-clause-within c =
     let items = c.self.inside.nodes.items in
     let here : c.args.at < length (sums_of items) = rw c.self.view_is c.requires in
-    let xs = searched (goal.at.find-requires-clause-within c).After-deref-2 in
+    let xs = searched (goal.at.find-requires-clause-within c).After-as_slice in
     λ j h. subst (λ (ys : List ℕ). get_or ys j 0 < length c.deref.result.now) (sym xs)
     (subst (λ (l : List Node). get_or (children_at (map shape items) c.args.at) j 0 < length l) (sym c.deref.ensures.value)
     (children_in items c.self.invariant c.args.at (in_nodes items c.args.at here) j (subst (λ (ys : List ℕ). j < length ys) xs h)))
@@ -45,7 +55,7 @@ pub find-requires-clause-rise : goal.find-requires-clause-rise
 find-requires-clause-rise c =
     let items = c.self.inside.nodes.items in
     let here : c.args.at < length (sums_of items) = rw c.self.view_is c.requires in
-    subst KeysRise (sym (searched_keys (goal.at.find-requires-clause-rise c).After-deref-2)) (c.self.invariant.rise c.args.at (in_shapes items c.args.at here))
+    subst KeysRise (sym (searched_keys (goal.at.find-requires-clause-rise c).After-as_slice)) (c.self.invariant.rise c.args.at (in_shapes items c.args.at here))
 
 pub index-requires-in-Ok : goal.index-requires-in-Ok
 index-requires-in-Ok c =
@@ -54,16 +64,17 @@ index-requires-in-Ok c =
     let within = in_nodes items c.args.at here in
     omega (arith, c.self.inside.nodes.ok.0)
 
-pub index-requires-in-Ok-2 : goal.index-requires-in-Ok-2
-index-requires-in-Ok-2 c =
+pub bounds-as_slice-place : goal.bounds-as_slice-place
+bounds-as_slice-place c =
     let items = c.self.inside.nodes.items in
     let here : c.args.at < length (sums_of items) = rw c.self.view_is c.requires in
     let inside = in_nodes items c.args.at here in
     let second = children_read items c.args.at c.index-in-Ok.result.now inside c.index-in-Ok.ensures in
-    let found : IsPlace (keys_at (map shape items) c.args.at) c.args.key.now c.in-Ok.place = subst (λ (ks : List Key). IsPlace ks c.args.key.now c.in-Ok.place) (searched_keys (goal.at.index-requires-in-Ok-2 c).After-deref-2) c.in-Ok.ensures.found in
+    let found : IsPlace (keys_at (map shape items) c.args.at) c.args.key.now c.in-Ok.place = subst (λ (ks : List Key). IsPlace ks c.args.key.now c.in-Ok.place) (searched_keys (goal.at.bounds-as_slice-place c).After-as_slice) c.in-Ok.ensures.found in
     let len = length-keys_of (map shape items) (children_at (map shape items) c.args.at) in
     let same = ap length second in
-    omega (arith, found.in_range, c.index-in-Ok.result.now.children.ok.0)
+    let slice : length c.as_slice-in-Ok.result.now ≡ length c.index-in-Ok.result.now.children.items = ap length c.as_slice-in-Ok.ensures in
+    omega (arith, found.in_range)
 
 pub index_mut-requires : goal.index_mut-requires
 index_mut-requires c =
@@ -78,10 +89,10 @@ insert-requires c =
     let here : c.args.at < length (sums_of items) = rw c.self.view_is c.requires in
     let inside = in_nodes items c.args.at here in
     let stood = stood_children items c.push.new.self.items _ c.in_ok-push-in-Err.ensures.items c.args.at inside c.index_mut.result.now c.index_mut.ensures.value in
-    let gap : IsGap (keys_at (map shape items) c.args.at) c.args.key.now c.in-Err.place = subst (λ (ks : List Key). IsGap ks c.args.key.now c.in-Err.place) (searched_keys (goal.at.insert-requires c).After-deref-2) c.in-Err.ensures.absent in
+    let gap : IsGap (keys_at (map shape items) c.args.at) c.args.key.now c.in-Err.place = subst (λ (ks : List Key). IsGap ks c.args.key.now c.in-Err.place) (searched_keys (goal.at.insert-requires c).After-as_slice) c.in-Err.ensures.absent in
     let len = length-keys_of (map shape items) (children_at (map shape items) c.args.at) in
     let same = ap length stood in
-    omega (arith, gap.in_range, c.index_mut.result.now.children.ok.0)
+    omega (arith, gap.in_range)
 
 -- the shapes after the push is undone
 kept : (c : Joined-pop) → map shape c.pop.new.self.items ≡ map shape c.self.inside.nodes.items
@@ -89,7 +100,7 @@ kept c =
     let items = c.self.inside.nodes.items in
     let n = c.index_mut.result.now in
     let here : c.args.at < length (sums_of items) = rw c.self.view_is c.requires in
-    let as_before : c.insert.new.self.items ≡ n.children.items = c.insert.ensures.items ∙ cond-false _ _ _ c.if-is_err.ensures.negation in
+    let as_before : c.insert.new.self.items ≡ n.children.items = ap (λ (v : SmallVec ℕ). v.items) (from_err (c.insert.new.self ≡ n.children) c.insert.result c.if-is_err.ensures.negation c.insert.ensures.err) in
     let m : Node = record n { children = c.insert.new.self } in
     let m_is : shape m ≡ shape n = ap (λ (xs : List ℕ). record { key = n.key; parent = n.parent; children = xs; bytes = n.bytes; is_unique = n.is_unique; below = n.below }) as_before in
     let rest : c.pop.new.self.items ≡ take (vec_len c.push.new.self - 1) (set c.push.new.self.items c.args.at m) = c.pop.ensures.rest in
@@ -111,14 +122,14 @@ made c =
     let here : c.args.at < length (sums_of items) = rw c.self.view_is c.requires in
     let index : c.in-Ok-try_from.number ≡ length items = c.in-Ok-try_from.ensures.1 ∙ (c.len-node.ensures ∙ c.self.inside.nodes.ok.0) in
     let longer : c.insert.new.self.items ≡ insert n.children.items c.in-Err.place (length items) =
-    c.insert.ensures.items ∙ (cond-true _ _ _ c.if-is_err.ensures.negation ∙ ap (λ (i : ℕ). insert n.children.items c.in-Err.place i) index) in
+    from_ok (c.insert.new.self.items ≡ insert n.children.items c.in-Err.place c.in-Ok-try_from.number) c.insert.result c.if-is_err.ensures.negation c.insert.ensures.ok ∙ ap (λ (i : ℕ). insert n.children.items c.in-Err.place i) index in
     grown_nodes items c.push.new.self.items _ c.in_ok-push-in-Err.ensures.items c.args.at (in_nodes items c.args.at here) n c.index_mut.ensures.value c.args.key.now c.in-Err.place _
     (rw (c.new.ensures.items, c.copy.ensures) refl)
     (ap (λ (xs : List ℕ). record { key = n.key; parent = n.parent; children = xs; bytes = n.bytes; is_unique = n.is_unique; below = n.below }) longer)
 
 -- the gap that was found, among the keys of the children
 gap : (c : Else-is_err) → IsGap (keys_at (map shape c.self.inside.nodes.items) c.args.at) c.args.key.now c.in-Err.place
-gap c = subst (λ (ks : List Key). IsGap ks c.args.key.now c.in-Err.place) (searched_keys (goal.at.invariant_of-self-else-is_err c).After-deref-2) c.in-Err.ensures.absent
+gap c = subst (λ (ks : List Key). IsGap ks c.args.key.now c.in-Err.place) (searched_keys (goal.at.invariant_of-self-else-is_err c).After-as_slice) c.in-Err.ensures.absent
 
 pub invariant_of-self-else-is_err : goal.invariant_of-self-else-is_err
 invariant_of-self-else-is_err c =
@@ -134,12 +145,10 @@ returns-in-Ok-clause-entered c =
     let inside = in_nodes items c.args.at here in
     let hp = in_shapes items c.args.at here in
     let second = children_read items c.args.at c.index-in-Ok.result.now inside c.index-in-Ok.ensures in
-    let found : IsPlace (keys_at ns c.args.at) c.args.key.now c.in-Ok.place = subst (λ (ks : List Key). IsPlace ks c.args.key.now c.in-Ok.place) (searched_keys (goal.at.returns-in-Ok-clause-entered c).After-deref-2) c.in-Ok.ensures.found in
+    let found : IsPlace (keys_at ns c.args.at) c.args.key.now c.in-Ok.place = subst (λ (ks : List Key). IsPlace ks c.args.key.now c.in-Ok.place) (searched_keys (goal.at.returns-in-Ok-clause-entered c).After-as_slice) c.in-Ok.ensures.found in
     let len = length-keys_of ns (children_at ns c.args.at) in
     let same = ap length second in
-    let is : c.index-in-Ok-2.result.now ≡ get_or (children_at ns c.args.at) c.in-Ok.place 0 =
-    get_or_read c.index-in-Ok.result.now.children.items c.in-Ok.place _ (omega (arith, found.in_range)) c.index-in-Ok-2.ensures 0
-    ∙ ap (λ (xs : List ℕ). get_or xs c.in-Ok.place 0) (sym second) in
+    let is : get_or c.as_slice-in-Ok.result.now c.in-Ok.place 0 ≡ get_or (children_at ns c.args.at) c.in-Ok.place 0 = ap (λ (xs : List ℕ). get_or xs c.in-Ok.place 0) (c.as_slice-in-Ok.ensures ∙ sym second) in
     rw (← c.self.view_is, is) (was_entered ns c.self.invariant c.args.at hp c.args.key.now c.in-Ok.place found)
 
 pub returns-else-is_err-clause-entered : goal.returns-else-is_err-clause-entered
