@@ -17,6 +17,9 @@ pub enum Fault {
     /// A bracket of the source has no other.
     #[error("a bracket in line {0} has no other")]
     Bracket(usize),
+    /// A mark of what the program wrote has no other, or does not stand as it was written.
+    #[error("a mark in line {0} has no other or was changed")]
+    Mark(usize),
     /// The source is not UTF-8.
     #[error("the source is not UTF-8")]
     NotText,
@@ -47,7 +50,7 @@ impl Fault {
     {
         match self {
             Fault::Memory => 1,
-            Fault::Unended(_) | Fault::Bracket(_) => 2,
+            Fault::Unended(_) | Fault::Bracket(_) | Fault::Mark(_) => 2,
             Fault::NotText => 3,
             Fault::Missing => 4,
             Fault::Words | Fault::Place => 5,
@@ -116,6 +119,9 @@ pub enum Why {
     /// A name is one that the written text uses itself.
     #[error("a name that the written text uses itself")]
     Taken,
+    /// Its line goes on behind it, so nothing can be put there.
+    #[error("a line that goes on behind the type")]
+    Line,
     /// It is none of the forms that are read.
     #[error("a form that is not read")]
     Unread,

@@ -44,7 +44,7 @@ fn push_param(
             out.push_str(if has_bounds { " + " } else { "" })?;
         }
     }
-    push_type(out, scene.tokens, param.bounds)
+    push_type(out, scene, param.bounds)
 }
 
 /// The parameters of the implementations for a type. The only fault is `Fault::Memory`.
@@ -59,7 +59,7 @@ pub fn header_of(alloc: Global, scene: Scene<'_, '_>, item: &Item<'_>) -> Result
         push_param(&mut params, scene, item, param)?;
         names.push_str(param.name)?;
     }
-    push_type(&mut bounds, scene.tokens, item.bounds)?;
+    push_type(&mut bounds, scene, item.bounds)?;
     Ok(Header {
         params,
         names,

@@ -1,18 +1,23 @@
 //! The whole text for a source.
+ghost use Rattle.std.specs.Prelude.{◌≡◌, IfOk, string_bytes};
+ghost use Rattle.allocative_implement.specs.Splice.{Keeps};
+
 use crate::fault::Fault;
 use crate::head::header_of;
-use crate::items::{Item, Sort, Source, read_source};
+use crate::items::{Form, Item, Sort, Source, read_source};
 use crate::layout::{Layout, layouts_of, least_size};
 use crate::place::Place;
-use crate::shape::{Scene, is_implemented, may_stay_open, shown_fields, trouble_of};
+use crate::shape::{Scene, line_behind, may_stay_open, shown_fields, trouble_of};
+use crate::splice::{BEGIN, Change, END, spliced};
 use crate::tokens::tokens_of;
 use crate::write::{Plan, push_allocative, push_described};
 use std::alloc::{AllocError, Global};
+use std::collections::BTreeSet;
 
 /// What is written for a source.
 #[derive(Drop)]
 pub struct Written {
-    /// The text of the implementations.
+    /// The text of the module, or the whole new source.
     pub text: String,
     /// The lines for standard error: which types are left out, and which sizes are not known.
     pub notes: String,
@@ -20,18 +25,38 @@ pub struct Written {
     pub is_whole: bool,
 }
 
-// Whether the implementations of a type are asked for: where no type is named, those of each type that has none.
+// What is said of a source besides.
+#[derive(Drop)]
+struct Report {
+    // The lines for standard error.
+    notes: String,
+    // Whether no type that was asked for is left out.
+    is_whole: bool,
+}
+
+// The implementations for a type.
+#[derive(Drop)]
+struct Text {
+    // The line of the type.
+    line: usize,
+    // Where the text is put in place.
+    at: usize,
+    text: String,
+}
+
+// Whether the implementations of a type are asked for: where no type is named, those of each type that has none, and
+// else those of the types that are named and of those whose text is replaced.
 fn is_asked(source: &Source<'_>, names: &[String], item: &Item<'_>) -> bool {
     if names.is_empty() {
-        return !is_implemented(source, "Allocative", item.name);
+        return !source.shown.contains(item.name);
     }
-    names.iter().any(|name| name.as_str() == item.name)
+    source.rewritten.contains(item.name) || names.iter().any(|name| name.as_str() == item.name)
 }
 
 // Whether each name is that of a type of the source.
 fn are_there(source: &Source<'_>, names: &[String]) -> bool {
     for name in names {
-        if !source.items.iter().any(|item| item.name == name.as_str()) {
+        if !source.has(name.as_str()) {
             return false;
         }
     }
@@ -71,39 +96,48 @@ fn plan_of(
         size,
         is_constant: layout.size.is_none(),
         path,
+        form: scene.form,
     })
 }
 
-// Appends the constant for the size of a type that is not known, and the line that says so.
+// Appends the constant for the size of a type that is not known, and the line that says so. A size that was written
+// into it stays.
 fn push_unknown(
     alloc: Global,
-    written: &mut Written,
+    out: &mut String,
+    report: &mut Report,
     scene: Scene<'_, '_>,
     item: &Item<'_>,
     plan: &Plan,
     place: &Place<'_>,
 ) -> Result<(), Fault> {
-    let least = least_size(alloc, scene.tokens, item, scene.items, scene.known)?;
+    let least = least_size(alloc, scene.tokens, item, scene.source, scene.known)?;
     let (name, constant) = (item.name, plan.size.as_str());
     write!(
-        &mut written.text,
+        out,
         "// The size of `{name}` in bytes. What is known of its parts is here; write the size itself.\n"
     )?;
-    write!(&mut written.text, "const {constant}: usize = {least};\n\n")?;
+    if let Some(size) = scene.source.constants.get(constant)
+        && size.parse::<usize>().ok() != Some(least)
+    {
+        write!(out, "const {constant}: usize = {size};\n\n")?;
+        return Ok(());
+    }
+    write!(out, "const {constant}: usize = {least};\n\n")?;
     let (file, line) = (place.file, item.line);
     write!(
-        &mut written.notes,
+        &mut report.notes,
         "{file}:{line}: {name}: write its size in bytes into {constant}\n"
     )?;
     Ok(())
 }
 
 // Appends a line for each variant whose goal may stay open.
-fn push_doubts(
+fn push_doubts<'a>(
     alloc: Global,
     notes: &mut String,
-    scene: Scene<'_, '_>,
-    item: &Item<'_>,
+    scene: Scene<'_, 'a>,
+    item: &Item<'a>,
     place: &Place<'_>,
 ) -> Result<(), Fault> {
     if !item.is_enum {
@@ -112,7 +146,7 @@ fn push_doubts(
     let (file, line, name) = (place.file, item.line, item.name);
     for body in &item.bodies {
         let fields = shown_fields(alloc, scene, body, true)?;
-        if may_stay_open(fields.as_slice()) {
+        if may_stay_open(scene, fields.as_slice()) {
             let variant = body.name;
             write!(
                 notes,
@@ -128,115 +162,254 @@ fn has_lifetime(item: &Item<'_>) -> bool {
     item.params.iter().any(|param| param.sort == Sort::Lifetime)
 }
 
-// Writes the implementations of a type, or why there are none.
-fn write_item(
+// The implementations of a type, where there are any.
+fn text_of<'a>(
     alloc: Global,
-    written: &mut Written,
-    scene: Scene<'_, '_>,
-    source: &Source<'_>,
-    item: &Item<'_>,
+    report: &mut Report,
+    scene: Scene<'_, 'a>,
+    item: &Item<'a>,
     layout: Layout,
     place: &Place<'_>,
-) -> Result<(), Fault> {
+) -> Result<Option<String>, Fault> {
+    let (file, name) = (place.file, item.name);
     if let Some(trouble) = trouble_of(scene, item) {
-        let (file, line, why, name) = (place.file, trouble.line, trouble.why, item.name);
-        written.is_whole = false;
+        let (line, why) = (trouble.line, trouble.why);
+        report.is_whole = false;
         write!(
-            &mut written.notes,
+            &mut report.notes,
             "{file}:{line}: {name} is left out: {why}\n"
         )?;
-        return Ok(());
+        return Ok(None);
     }
+    let mut text = String::new(alloc);
     let plan = plan_of(alloc, scene, item, layout, place)?;
-    written.text.push_str("\n")?;
     if plan.is_constant {
-        push_unknown(alloc, written, scene, item, &plan, place)?;
+        push_unknown(alloc, &mut text, report, scene, item, &plan, place)?;
     }
     if has_lifetime(item) {
-        let (file, line, name) = (place.file, item.line, item.name);
-        let notes = &mut written.notes;
+        let line = item.line;
         write!(
-            notes,
+            &mut report.notes,
             "{file}:{line}: {name} has a lifetime, so Described is left out\n"
         )?;
-    } else if !is_implemented(source, "Described", item.name) {
-        push_described(&mut written.text, item, layout, &plan)?;
-        written.text.push_str("\n")?;
+    } else if !scene.source.described.contains(name) {
+        push_described(&mut text, item, layout, &plan)?;
+        text.push_str("\n")?;
     }
-    push_allocative(alloc, &mut written.text, scene, item, &plan)?;
-    push_doubts(alloc, &mut written.notes, scene, item, place)
+    push_allocative(alloc, &mut text, scene, item, &plan)?;
+    push_doubts(alloc, &mut report.notes, scene, item, place)?;
+    Ok(Some(text))
 }
 
-// Appends those of some names that a text has, with commas between them.
-fn push_used(out: &mut String, body: &str, names: &[&str]) -> Result<(), AllocError> {
-    let mut comma = "";
-    for name in names {
-        if body.contains(*name) {
-            out.push_str(comma)?;
-            out.push_str(name)?;
-            comma = ", ";
+// Whether a word is imported: one that stands in some text, or one that each implementation needs.
+fn is_used(texts: &[Text], word: &str) -> bool {
+    matches!(word, "Part" | "Refusal" | "Visitor")
+        || texts.iter().any(|text| text.text.as_str().contains(word))
+}
+
+// Appends an import of those of some words that are used and not imported already, where there are any.
+fn push_import(
+    out: &mut String,
+    path: &str,
+    words: &[&str],
+    texts: &[Text],
+    imported: Option<&BTreeSet<&str>>,
+) -> Result<(), AllocError> {
+    let mut is_open = false;
+    for word in words {
+        let is_there = match imported {
+            Some(imported) => imported.contains(*word),
+            None => false,
+        };
+        if is_there || !is_used(texts, word) {
+            continue;
         }
+        out.push_str(if is_open { ", " } else { path })?;
+        out.push_str(word)?;
+        is_open = true;
     }
-    Ok(())
+    out.push_str(if is_open { "};\n" } else { "" })
 }
 
-// Puts what the implementations import before them.
-fn with_head(alloc: Global, place: &Place<'_>, body: &str) -> Result<String, AllocError> {
-    let mut text = String::new(alloc);
-    if body.is_empty() {
-        return Ok(text);
+const GENERAL: [&str; 4] = ["codes", "Some", "true", "false"];
+
+const SHOWS: [&str; 4] = ["Nothing", "Inside", "Field", "Both"];
+
+const USED: [&str; 7] = [
+    "Allocative",
+    "Described",
+    "Field",
+    "Inside",
+    "Part",
+    "Refusal",
+    "Visitor",
+];
+
+// Appends what the implementations import, but for what a source imports already.
+fn push_imports(
+    out: &mut String,
+    texts: &[Text],
+    source: Option<&Source<'_>>,
+) -> Result<(), AllocError> {
+    let stated = match source {
+        Some(source) => Some(&source.ghost_imports),
+        None => None,
+    };
+    let before = out.len();
+    let general = "ghost use Rattle.std.specs.Prelude.{";
+    push_import(out, general, GENERAL.as_slice(), texts, stated)?;
+    let shows = "ghost use Rattle.allocative.specs.Shows.{";
+    push_import(out, shows, SHOWS.as_slice(), texts, stated)?;
+    if out.len() > before {
+        out.push_str("\n")?;
+    }
+    let before = out.len();
+    if source.is_none() {
+        out.push_str("use super::*;\n")?;
+    }
+    let used = match source {
+        Some(source) => Some(&source.imports),
+        None => None,
+    };
+    push_import(out, "use allocative::{", USED.as_slice(), texts, used)?;
+    out.push_str(if out.len() > before { "\n" } else { "" })
+}
+
+// The text of the module `shown`.
+fn module_of(alloc: Global, place: &Place<'_>, texts: &[Text]) -> Result<String, AllocError> {
+    let mut out = String::new(alloc);
+    if texts.is_empty() {
+        return Ok(out);
     }
     let name = place.name();
     write!(
-        &mut text,
+        &mut out,
         "//! What the types of `{name}` show. `bin/implement` of `allocative` wrote it.\n"
     )?;
-    text.push_str("#![tactic(auto, using(allocative::proofs::Parts::parts))]\n\n")?;
-    text.push_str("ghost use Rattle.std.specs.Prelude.{")?;
-    push_used(&mut text, body, &["codes", "Some", "true", "false"])?;
-    text.push_str("};\nghost use Rattle.allocative.specs.Shows.{")?;
-    push_used(&mut text, body, &["Nothing", "Inside", "Field", "Both"])?;
-    text.push_str("};\n\nuse super::*;\nuse allocative::{")?;
-    push_used(
-        &mut text,
-        body,
-        &["Allocative", "Described", "Field", "Inside"],
-    )?;
-    text.push_str(", Part, Refusal, Visitor};\n")?;
-    text.push_str(body)?;
-    Ok(text)
+    out.push_str("#![tactic(auto, using(allocative::proofs::Parts::parts))]\n\n")?;
+    push_imports(&mut out, texts, None)?;
+    let mut gap = "";
+    for text in texts {
+        out.push_str(gap)?;
+        out.push_str(text.text.as_str())?;
+        gap = "\n";
+    }
+    Ok(out)
 }
 
-/// The implementations for the types of a source: those that are named, or those that have none. `Fault::Missing`
-/// where a name is not that of a type, `Fault::Unended` and `Fault::Bracket` where the source cannot be read, and
-/// else `Fault::Memory`.
+// Adds the pieces of a source that stand before a place, and answers the number of those that are added then.
+fn push_cuts(
+    changes: &mut Vec<Change>,
+    scene: Scene<'_, '_>,
+    added: usize,
+    before: usize,
+) -> Result<usize, Fault> {
+    for number in added..scene.source.pieces.len() {
+        let Some(piece) = scene.source.pieces.get(number) else {
+            break;
+        };
+        let (Some(first), Some(last)) = (scene.tokens.get(piece.from), scene.tokens.get(piece.to))
+        else {
+            break;
+        };
+        if first.from >= before {
+            return Ok(number);
+        }
+        // The new line before the first mark is part of the piece.
+        changes.push(Change::Cut {
+            line: first.line,
+            from: first.from.saturating_sub(1),
+            to: last.to,
+        })?;
+    }
+    Ok(scene.source.pieces.len())
+}
+
+// What changes in a source: the pieces in it are taken out, and a piece for each text is put in. The first has the
+// imports.
+fn changes_of(alloc: Global, scene: Scene<'_, '_>, texts: &[Text]) -> Result<Vec<Change>, Fault> {
+    let mut changes = Vec::new(alloc);
+    let mut added = 0usize;
+    let mut is_first = true;
+    for text in texts {
+        added = push_cuts(&mut changes, scene, added, text.at)?;
+        let mut piece = String::from_str(alloc, BEGIN)?;
+        if is_first {
+            push_imports(&mut piece, texts, Some(scene.source))?;
+            is_first = false;
+        }
+        piece.push_str(text.text.as_str().trim_end())?;
+        piece.push_str(END)?;
+        let (line, at) = (text.line, text.at);
+        changes.push(Change::Put { line, at, piece })?;
+    }
+    push_cuts(&mut changes, scene, added, usize::MAX)?;
+    Ok(changes)
+}
+
+// The texts for the types of a source that are asked for.
+fn texts_of(
+    alloc: Global,
+    report: &mut Report,
+    scene: Scene<'_, '_>,
+    place: &Place<'_>,
+    names: &[String],
+) -> Result<Vec<Text>, Fault> {
+    let mut texts = Vec::new(alloc);
+    for (item, layout) in scene.source.items.iter().zip(scene.known) {
+        if !is_asked(scene.source, names, item) {
+            continue;
+        }
+        if let Some(text) = text_of(alloc, report, scene, item, *layout, place)? {
+            let at = line_behind(scene, item).unwrap_or(0);
+            let line = item.line;
+            texts.push(Text { line, at, text })?;
+        }
+    }
+    Ok(texts)
+}
+
+/// What is written for a source: the implementations for its types that are named, or for those that have none. In
+/// place, what the program wrote before is replaced, and the rest of the source stays byte for byte. `Fault::Missing`
+/// where a name is not that of a type, `Fault::Unended`, `Fault::Bracket` and `Fault::Mark` where the source cannot be
+/// read, and else `Fault::Memory`.
 pub fn implement(
     alloc: Global,
     place: &Place<'_>,
+    form: Form,
     text: &str,
     names: &[String],
-) -> Result<Written, Fault> {
+) -> Result<Written, Fault>
+    ensures { IfOk result (λ written. form ≡ Form.InPlace → Keeps text.now (string_bytes written.text)) }
+{
     let tokens = tokens_of(alloc, text)?;
-    let source = read_source(alloc, tokens.as_slice())?;
+    let source = read_source(alloc, tokens.as_slice(), form)?;
     if !are_there(&source, names) {
         return Err(Fault::Missing);
     }
     let known = layouts_of(alloc, tokens.as_slice(), &source)?;
     let scene = Scene {
+        text,
         tokens: tokens.as_slice(),
-        items: source.items.as_slice(),
+        source: &source,
         known: known.as_slice(),
+        form,
     };
-    let mut written = Written {
-        text: String::new(alloc),
+    let mut report = Report {
         notes: String::new(alloc),
         is_whole: true,
     };
-    for (item, layout) in source.items.iter().zip(known.as_slice()) {
-        if is_asked(&source, names, item) {
-            write_item(alloc, &mut written, scene, &source, item, *layout, place)?;
+    let texts = texts_of(alloc, &mut report, scene, place, names)?;
+    let new = match form {
+        Form::Module => module_of(alloc, place, texts.as_slice())?,
+        Form::InPlace => {
+            let changes = changes_of(alloc, scene, texts.as_slice())?;
+            spliced(alloc, text, changes.as_slice())?
         }
-    }
-    written.text = with_head(alloc, place, written.text.as_str())?;
-    Ok(written)
+    };
+    Ok(Written {
+        text: new,
+        notes: report.notes,
+        is_whole: report.is_whole,
+    })
 }

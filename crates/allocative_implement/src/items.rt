@@ -5,7 +5,8 @@ use crate::cursor::{
 };
 use crate::fault::{Fault, Trouble, Why};
 use crate::tokens::{Kind, Token};
-use std::alloc::Global;
+use std::alloc::{AllocError, Global};
+use std::collections::{BTreeMap, BTreeSet};
 
 /// What a parameter of a type is.
 #[derive(Clone, Copy, PartialEq, Eq)]
@@ -80,6 +81,8 @@ pub struct Item<'a> {
     pub name: &'a str,
     /// The line of its name.
     pub line: usize,
+    /// The place of its last token.
+    pub end: usize,
     /// Whether it is an enum.
     pub is_enum: bool,
     /// Its parameters.
@@ -92,13 +95,22 @@ pub struct Item<'a> {
     pub trouble: Option<Trouble>,
 }
 
-/// An implementation of a source.
+/// Where the text that is written stands.
+#[derive(Clone, Copy, PartialEq, Eq)]
+pub enum Form {
+    /// In a module `shown` of the source.
+    Module,
+    /// In the source itself, behind the types, between marks.
+    InPlace,
+}
+
+// An implementation of a source.
 #[derive(Clone, Copy)]
-pub struct Implementation<'a> {
-    /// The last word of the trait.
-    pub of: &'a str,
-    /// The last word of the type.
-    pub name: &'a str,
+struct Implementation<'a> {
+    // The last word of the trait.
+    of: &'a str,
+    // The last word of the type.
+    name: &'a str,
 }
 
 /// What was read of a source.
@@ -106,8 +118,99 @@ pub struct Implementation<'a> {
 pub struct Source<'a> {
     /// Its structs, enums and unions, outside modules and functions.
     pub items: Vec<Item<'a>>,
-    /// Its implementations, outside modules and functions.
-    pub implementations: Vec<Implementation<'a>>,
+    /// The place of each name among them: of several that have one name, that of the first.
+    pub places: BTreeMap<&'a str, usize>,
+    /// The types for which it implements `Described`, outside modules, functions and what is written anew.
+    pub described: BTreeSet<&'a str>,
+    /// The types for which it implements `Allocative`, in the same places.
+    pub shown: BTreeSet<&'a str>,
+    /// The types whose implementations of `Allocative` are written anew.
+    pub rewritten: BTreeSet<&'a str>,
+    /// The pieces that the program wrote into it: of each the tokens of its two marks.
+    pub pieces: Vec<Span>,
+    /// The values of the constants in them, as they stand there.
+    pub constants: BTreeMap<&'a str, &'a str>,
+    /// The words of its imports for code.
+    pub imports: BTreeSet<&'a str>,
+    /// The words of its imports for clauses.
+    pub ghost_imports: BTreeSet<&'a str>,
+}
+
+impl<'a> Source<'a> {
+    fn new(alloc: Global) -> Source<'a> {
+        Source {
+            items: Vec::new(alloc),
+            places: BTreeMap::new(alloc),
+            described: BTreeSet::new(alloc),
+            shown: BTreeSet::new(alloc),
+            rewritten: BTreeSet::new(alloc),
+            pieces: Vec::new(alloc),
+            constants: BTreeMap::new(alloc),
+            imports: BTreeSet::new(alloc),
+            ghost_imports: BTreeSet::new(alloc),
+        }
+    }
+
+    /// Whether a name is that of a type.
+    pub fn has(&self, name: &str) -> bool {
+        self.places.contains_key(name)
+    }
+
+    // Adds a type.
+    fn add_item(&mut self, item: Item<'a>) -> Result<(), AllocError> {
+        if !self.has(item.name) {
+            self.places.insert(item.name, self.items.len())?;
+        }
+        self.items.push(item)?;
+        Ok(())
+    }
+
+    // Adds an implementation. `is_anew` says that it is written anew.
+    fn add_implementation(
+        &mut self,
+        done: Implementation<'a>,
+        is_anew: bool,
+    ) -> Result<(), AllocError> {
+        if done.of == "Allocative" && is_anew {
+            self.rewritten.insert(done.name)?;
+        } else if done.of == "Allocative" {
+            self.shown.insert(done.name)?;
+        } else if done.of == "Described" && !is_anew {
+            self.described.insert(done.name)?;
+        }
+        Ok(())
+    }
+
+    // Adds the constant whose `const` stands at a place, where its value is a number.
+    fn add_constant(&mut self, tokens: &[Token<'a>], at: usize) -> Result<(), AllocError> {
+        let value = at.saturating_add(5);
+        let is_alone = text_at(tokens, value.saturating_add(1)) == ";";
+        if is_kind(tokens, value, Kind::Literal) && is_alone {
+            let name = text_at(tokens, at.saturating_add(1));
+            self.constants.insert(name, text_at(tokens, value))?;
+        }
+        Ok(())
+    }
+
+    // Adds the words of the import whose `use` stands at a place.
+    fn add_import(&mut self, tokens: &[Token<'a>], at: usize) -> Result<(), AllocError> {
+        let is_ghost = at > 0 && text_at(tokens, at.saturating_sub(1)) == "ghost";
+        let rest = Span {
+            from: at,
+            to: tokens.len(),
+        };
+        for place in at..find(tokens, rest, ";") {
+            if !is_kind(tokens, place, Kind::Word) {
+                continue;
+            }
+            if is_ghost {
+                self.ghost_imports.insert(text_at(tokens, place))?;
+            } else {
+                self.imports.insert(text_at(tokens, place))?;
+            }
+        }
+        Ok(())
+    }
 }
 
 // Blames a type, where nothing was blamed before.
@@ -221,6 +324,31 @@ fn read_orders(
     (shown, at)
 }
 
+// The field that some tokens from `at` on are, which has a name; none where they are a fact about others.
+fn read_named<'a>(
+    tokens: &[Token<'a>],
+    at: usize,
+    to: usize,
+    shown: Shown,
+    trouble: &mut Option<Trouble>,
+) -> Option<FieldItem<'a>> {
+    let behind_name = at.saturating_add(1);
+    if text_at(tokens, at) == "ghost" && is_kind(tokens, behind_name, Kind::Word) {
+        return None;
+    }
+    if is_kind(tokens, at, Kind::RawWord) {
+        blame(trouble, line_at(tokens, at), Why::RawName);
+    } else if !is_kind(tokens, at, Kind::Word) || text_at(tokens, behind_name) != ":" {
+        blame(trouble, line_at(tokens, at), Why::Unread);
+    }
+    let from = at.saturating_add(2).min(to);
+    Some(FieldItem {
+        name: text_at(tokens, at),
+        span: Span { from, to },
+        shown,
+    })
+}
+
 // The field that some tokens are; none where they are a fact about others.
 fn read_field<'a>(
     tokens: &[Token<'a>],
@@ -230,41 +358,20 @@ fn read_field<'a>(
 ) -> Option<FieldItem<'a>> {
     let (shown, at) = read_orders(tokens, span, trouble);
     let shown = shown.unwrap_or(Shown::Whole);
-    let at = behind_visibility(tokens, at);
-    let line = line_at(tokens, at);
-    if at >= span.to {
+    let from = behind_visibility(tokens, at);
+    let to = span.to;
+    if from >= to {
         blame(trouble, line_at(tokens, span.from), Why::Order);
-        return None;
-    }
-    if style == Style::Tuple {
-        let span = Span {
-            from: at,
-            to: span.to,
-        };
-        return Some(FieldItem {
+        None
+    } else if style == Style::Tuple {
+        Some(FieldItem {
             name: "",
-            span,
+            span: Span { from, to },
             shown,
-        });
+        })
+    } else {
+        read_named(tokens, from, to, shown, trouble)
     }
-    let behind_name = at.saturating_add(1);
-    if text_at(tokens, at) == "ghost" && is_kind(tokens, behind_name, Kind::Word) {
-        return None;
-    }
-    if is_kind(tokens, at, Kind::RawWord) {
-        blame(trouble, line, Why::RawName);
-    } else if !is_kind(tokens, at, Kind::Word) || text_at(tokens, behind_name) != ":" {
-        blame(trouble, line, Why::Unread);
-    }
-    let span = Span {
-        from: at.saturating_add(2).min(span.to),
-        to: span.to,
-    };
-    Some(FieldItem {
-        name: text_at(tokens, at),
-        span,
-        shown,
-    })
 }
 
 // The struct or the variant of a name whose fields stand in the brackets at a place; without fields where there are
@@ -362,6 +469,74 @@ fn read_bounds(tokens: &[Token<'_>], at: usize, end: &str) -> (Span, usize) {
     )
 }
 
+// The parameters of a type whose name stands before a place, and the place behind them. `Fault::Bracket` where they
+// have no end.
+fn read_angles<'a>(
+    alloc: Global,
+    tokens: &[Token<'a>],
+    at: usize,
+) -> Result<(Vec<Param<'a>>, usize), Fault> {
+    if text_at(tokens, at) != "<" {
+        return Ok((Vec::new(alloc), at));
+    }
+    let Some(close) = angle_close(tokens, at) else {
+        return Err(Fault::Bracket(line_at(tokens, at.saturating_sub(1))));
+    };
+    let inside = Span {
+        from: at.saturating_add(1),
+        to: close,
+    };
+    let params = read_params(alloc, tokens, inside)?;
+    Ok((params, close.saturating_add(1)))
+}
+
+// What stands behind the parameters of a type.
+#[derive(Drop)]
+struct Rest<'a> {
+    // Its `where`.
+    bounds: Span,
+    // The struct itself, or the variants of the enum.
+    bodies: Vec<Body<'a>>,
+    // The place of its last token.
+    end: usize,
+}
+
+// What stands at a place behind the parameters of the enum or else the struct of a name.
+fn read_rest<'a>(
+    alloc: Global,
+    tokens: &[Token<'a>],
+    name: &'a str,
+    is_enum: bool,
+    at: usize,
+    trouble: &mut Option<Trouble>,
+) -> Result<Rest<'a>, Fault> {
+    if !is_enum && text_at(tokens, at) == "(" {
+        let mut bodies = Vec::new(alloc);
+        bodies.push(read_body(alloc, tokens, name, at, trouble)?)?;
+        let (bounds, end) = read_bounds(tokens, behind(tokens, at), ";");
+        return Ok(Rest {
+            bounds,
+            bodies,
+            end,
+        });
+    }
+    let (bounds, open) = read_bounds(tokens, at, "{");
+    let end = behind(tokens, open).saturating_sub(1);
+    let bodies = if is_enum {
+        let from = open.saturating_add(1);
+        read_variants(alloc, tokens, Span { from, to: end }, trouble)?
+    } else {
+        let mut bodies = Vec::new(alloc);
+        bodies.push(read_body(alloc, tokens, name, open, trouble)?)?;
+        bodies
+    };
+    Ok(Rest {
+        bounds,
+        bodies,
+        end,
+    })
+}
+
 // The struct or the enum whose keyword stands at a place.
 fn read_item<'a>(alloc: Global, tokens: &[Token<'a>], at: usize) -> Result<Item<'a>, Fault> {
     let mut trouble = None;
@@ -372,43 +547,16 @@ fn read_item<'a>(alloc: Global, tokens: &[Token<'a>], at: usize) -> Result<Item<
     if is_kind(tokens, name_at, Kind::RawWord) {
         blame(&mut trouble, line, Why::RawName);
     }
-    let mut next = at.saturating_add(2);
-    let mut params = Vec::new(alloc);
-    if text_at(tokens, next) == "<" {
-        let Some(close) = angle_close(tokens, next) else {
-            return Err(Fault::Bracket(line));
-        };
-        let inside = Span {
-            from: next.saturating_add(1),
-            to: close,
-        };
-        params = read_params(alloc, tokens, inside)?;
-        next = close.saturating_add(1);
-    }
-    let mut bodies = Vec::new(alloc);
-    let bounds = if is_enum {
-        let (bounds, open) = read_bounds(tokens, next, "{");
-        let inside = Span {
-            from: open.saturating_add(1),
-            to: behind(tokens, open).saturating_sub(1),
-        };
-        bodies = read_variants(alloc, tokens, inside, &mut trouble)?;
-        bounds
-    } else if text_at(tokens, next) == "(" {
-        bodies.push(read_body(alloc, tokens, name, next, &mut trouble)?)?;
-        read_bounds(tokens, behind(tokens, next), ";").0
-    } else {
-        let (bounds, open) = read_bounds(tokens, next, "{");
-        bodies.push(read_body(alloc, tokens, name, open, &mut trouble)?)?;
-        bounds
-    };
+    let (params, next) = read_angles(alloc, tokens, name_at.saturating_add(1))?;
+    let rest = read_rest(alloc, tokens, name, is_enum, next, &mut trouble)?;
     Ok(Item {
         name,
         line,
+        end: rest.end,
         is_enum,
         params,
-        bounds,
-        bodies,
+        bounds: rest.bounds,
+        bodies: rest.bodies,
         trouble,
     })
 }
@@ -420,6 +568,7 @@ fn read_union<'a>(alloc: Global, tokens: &[Token<'a>], at: usize) -> Item<'a> {
     Item {
         name: text_at(tokens, name_at),
         line,
+        end: name_at,
         is_enum: false,
         params: Vec::new(alloc),
         bounds: Span { from: at, to: at },
@@ -500,36 +649,103 @@ fn item_at<'a>(
     Ok(Some(item))
 }
 
-/// What stands in a source, but for what stands in modules and functions and behind `#[cfg(..)]`. `Fault::Bracket`
-/// where the parameters of a type have no end, and else `Fault::Memory`.
-pub fn read_source<'a>(alloc: Global, tokens: &[Token<'a>]) -> Result<Source<'a>, Fault> {
-    let mut items: Vec<Item<'a>> = Vec::new(alloc);
-    let mut implementations: Vec<Implementation<'a>> = Vec::new(alloc);
+// What goes before a place outside modules and functions.
+#[derive(Clone, Copy)]
+struct Before {
+    // The item that begins has `#[cycle(..)]`.
+    is_cycle: bool,
+    // The item that begins has `#[cfg(..)]`.
+    is_left_out: bool,
+    // The mark of the piece around it that the program wrote.
+    mark: Option<usize>,
+}
+
+// Reads a comment to this program, which may be a mark. `Fault::Mark` where a mark has no other.
+fn read_mark<'a>(
+    tokens: &[Token<'a>],
+    at: usize,
+    before: &mut Before,
+    source: &mut Source<'a>,
+) -> Result<(), Fault> {
+    let text = text_at(tokens, at);
+    match before.mark {
+        None if text == "begin" => before.mark = Some(at),
+        Some(from) if text == "end" => {
+            source.pieces.push(Span { from, to: at })?;
+            before.mark = None;
+        }
+        _ if text == "begin" || text == "end" => {
+            return Err(Fault::Mark(line_at(tokens, at)));
+        }
+        _ => {}
+    }
+    Ok(())
+}
+
+// Reads what begins at a place. Of a piece that the program wrote only implementations and constants are read.
+fn read_top<'a>(
+    alloc: Global,
+    tokens: &[Token<'a>],
+    at: usize,
+    form: Form,
+    before: Before,
+    source: &mut Source<'a>,
+) -> Result<(), Fault> {
+    let text = text_at(tokens, at);
+    let is_written = before.mark.is_some();
+    if text == "impl" {
+        if let Some(done) = read_implementation(tokens, at) {
+            source.add_implementation(done, is_written && form == Form::InPlace)?;
+        }
+    } else if is_written && text == "const" {
+        source.add_constant(tokens, at)?;
+    } else if is_written || before.is_left_out {
+        return Ok(());
+    } else if text == "use" {
+        source.add_import(tokens, at)?;
+    } else if let Some(item) = item_at(alloc, tokens, at, before.is_cycle)? {
+        source.add_item(item)?;
+    }
+    Ok(())
+}
+
+/// What stands in a source, but for what stands in modules and functions and behind `#[cfg(..)]`. Where the new text
+/// is put in place, what the program wrote is left out too. `Fault::Bracket` where the parameters of a type have no
+/// end, `Fault::Mark` where a mark has no other, and else `Fault::Memory`.
+pub fn read_source<'a>(
+    alloc: Global,
+    tokens: &[Token<'a>],
+    form: Form,
+) -> Result<Source<'a>, Fault> {
+    let mut source = Source::new(alloc);
+    let mut before = Before {
+        is_cycle: false,
+        is_left_out: false,
+        mark: None,
+    };
     let mut next = 0usize;
-    let mut is_cycle = false;
-    let mut is_left_out = false;
     for at in 0..tokens.len() {
         if at < next {
             continue;
         }
         next = behind(tokens, at);
         let text = text_at(tokens, at);
+        if is_kind(tokens, at, Kind::Order) {
+            read_mark(tokens, at, &mut before, &mut source)?;
+            continue;
+        }
         let attribute = attribute_at(tokens, at);
-        is_cycle = is_cycle || attribute == "cycle";
-        is_left_out = is_left_out || attribute == "cfg";
+        before.is_cycle = before.is_cycle || attribute == "cycle";
+        before.is_left_out = before.is_left_out || attribute == "cfg";
         if text == ";" || text == "{" {
-            is_cycle = false;
-            is_left_out = false;
-        } else if text == "impl" {
-            if let Some(implementation) = read_implementation(tokens, at) {
-                implementations.push(implementation)?;
-            }
-        } else if !is_left_out && let Some(item) = item_at(alloc, tokens, at, is_cycle)? {
-            items.push(item)?;
+            before.is_cycle = false;
+            before.is_left_out = false;
+        } else {
+            read_top(alloc, tokens, at, form, before, &mut source)?;
         }
     }
-    Ok(Source {
-        items,
-        implementations,
-    })
+    match before.mark {
+        Some(at) => Err(Fault::Mark(line_at(tokens, at))),
+        None => Ok(source),
+    }
 }

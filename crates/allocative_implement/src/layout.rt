@@ -145,13 +145,9 @@ fn rule_of(name: &str) -> Option<Rule> {
 }
 
 // What is known of a type of the source, by its name; none where it is no type of the source.
-fn own_layout(items: &[Item<'_>], known: &[Layout], name: &str) -> Option<Layout> {
-    for (item, layout) in items.iter().zip(known) {
-        if item.name == name {
-            return Some(*layout);
-        }
-    }
-    None
+fn own_layout(source: &Source<'_>, known: &[Layout], name: &str) -> Option<Layout> {
+    let place = source.places.get(name)?;
+    known.get(*place).copied()
 }
 
 fn new_frame(rule: Rule) -> Frame {
@@ -291,7 +287,7 @@ pub fn layout_of_type(
     alloc: Global,
     tokens: &[Token<'_>],
     span: Span,
-    items: &[Item<'_>],
+    source: &Source<'_>,
     known: &[Layout],
 ) -> Result<Layout, Fault> {
     let mut frames = Frames {
@@ -304,7 +300,7 @@ pub fn layout_of_type(
         if is_kind(tokens, at, Kind::Literal) {
             frames.count(text.parse::<usize>().ok());
         } else if is_kind(tokens, at, Kind::Word) && next != ":" {
-            let rule = match own_layout(items, known, text) {
+            let rule = match own_layout(source, known, text) {
                 Some(layout) => Rule::Own(layout),
                 None => rule_of(text).unwrap_or(Rule::Own(UNKNOWN)),
             };
@@ -347,10 +343,10 @@ pub fn layout_of_field(
     alloc: Global,
     tokens: &[Token<'_>],
     field: &FieldItem<'_>,
-    items: &[Item<'_>],
+    source: &Source<'_>,
     known: &[Layout],
 ) -> Result<Layout, Fault> {
-    let layout = layout_of_type(alloc, tokens, field.span, items, known)?;
+    let layout = layout_of_type(alloc, tokens, field.span, source, known)?;
     match (layout.size, field.shown) {
         (None, Shown::Size(size)) => Ok(Layout {
             size: Some(size),
@@ -367,13 +363,13 @@ fn row_of(
     alloc: Global,
     tokens: &[Token<'_>],
     body: &Body<'_>,
-    items: &[Item<'_>],
+    source: &Source<'_>,
     known: &[Layout],
     least: bool,
 ) -> Result<Layout, Fault> {
     let mut row = new_frame(Rule::Row);
     for field in &body.fields {
-        let mut part = layout_of_field(alloc, tokens, field, items, known)?;
+        let mut part = layout_of_field(alloc, tokens, field, source, known)?;
         if least && part.size.is_none() {
             part.size = Some(0);
         }
@@ -391,7 +387,7 @@ fn layout_of_parts(
     alloc: Global,
     tokens: &[Token<'_>],
     item: &Item<'_>,
-    items: &[Item<'_>],
+    source: &Source<'_>,
     known: &[Layout],
     least: bool,
 ) -> Result<Layout, Fault> {
@@ -401,7 +397,7 @@ fn layout_of_parts(
         Rule::Row
     });
     for body in &item.bodies {
-        all = with_part(all, row_of(alloc, tokens, body, items, known, least)?);
+        all = with_part(all, row_of(alloc, tokens, body, source, known, least)?);
     }
     Ok(layout_of_frame(all))
 }
@@ -411,10 +407,10 @@ pub fn least_size(
     alloc: Global,
     tokens: &[Token<'_>],
     item: &Item<'_>,
-    items: &[Item<'_>],
+    source: &Source<'_>,
     known: &[Layout],
 ) -> Result<usize, Fault> {
-    let layout = layout_of_parts(alloc, tokens, item, items, known, true)?;
+    let layout = layout_of_parts(alloc, tokens, item, source, known, true)?;
     Ok(layout.size.unwrap_or(usize::MAX))
 }
 
@@ -427,13 +423,9 @@ fn layout_of_item(
     source: &Source<'_>,
     known: &[Layout],
 ) -> Result<Layout, Fault> {
-    let is_described = source
-        .implementations
-        .iter()
-        .any(|done| done.of == "Described" && done.name == item.name);
+    let is_described = source.described.contains(item.name);
     let has_params = item.params.iter().any(|param| param.sort != Sort::Lifetime);
-    let items = source.items.as_slice();
-    let layout = layout_of_parts(alloc, tokens, item, items, known, false)?;
+    let layout = layout_of_parts(alloc, tokens, item, source, known, false)?;
     if is_described || has_params {
         return Ok(Layout {
             size: None,
@@ -443,27 +435,77 @@ fn layout_of_item(
     Ok(layout)
 }
 
-/// What is known of each type of a source, in their order. The only fault is `Fault::Memory`.
+// How far the layout of a type has come.
+#[derive(Clone, Copy, PartialEq, Eq)]
+enum Stage {
+    // Its parts are not asked for yet.
+    New,
+    // Its parts come first.
+    Open,
+    // It is known.
+    Done,
+}
+
+// Adds to the types that wait those in the fields of a type that are new.
+fn push_parts(
+    waiting: &mut Vec<usize>,
+    stages: &[Stage],
+    tokens: &[Token<'_>],
+    item: &Item<'_>,
+    source: &Source<'_>,
+) -> Result<(), Fault> {
+    for body in &item.bodies {
+        for field in &body.fields {
+            for at in field.span.from..field.span.to {
+                if let Some(place) = source.places.get(text_at(tokens, at))
+                    && stages.get(*place) == Some(&Stage::New)
+                {
+                    waiting.push(*place)?;
+                }
+            }
+        }
+    }
+    Ok(())
+}
+
+/// What is known of each type of a source, in their order. A type comes behind those in its fields, so each is looked
+/// at once. The only fault is `Fault::Memory`.
 pub fn layouts_of(
     alloc: Global,
     tokens: &[Token<'_>],
     source: &Source<'_>,
 ) -> Result<Vec<Layout>, Fault> {
+    let count = source.items.len();
     let mut known: Vec<Layout> = Vec::new(alloc);
-    for _ in 0..source.items.len() {
+    let mut stages: Vec<Stage> = Vec::new(alloc);
+    let mut waiting: Vec<usize> = Vec::new(alloc);
+    for place in 0..count {
         known.push(UNKNOWN)?;
+        stages.push(Stage::New)?;
+        waiting.push(place)?;
     }
-    for _ in 0..source.items.len() {
-        let mut better: Vec<Layout> = Vec::new(alloc);
-        for item in &source.items {
-            let layout = layout_of_item(alloc, tokens, item, source, known.as_slice())?;
-            better.push(layout)?;
-        }
-        let is_same = better.as_slice() == known.as_slice();
-        known = better;
-        if is_same {
+    // Each type waits once by itself and once for each word that names it, and is looked at once more.
+    let steps = count.saturating_mul(2).saturating_add(tokens.len());
+    for _ in 0..steps {
+        let Some(place) = waiting.last().copied() else {
             break;
+        };
+        let (Some(item), Some(stage)) = (source.items.get(place), stages.get_mut(place)) else {
+            break;
+        };
+        if *stage == Stage::New {
+            *stage = Stage::Open;
+            push_parts(&mut waiting, stages.as_slice(), tokens, item, source)?;
+            continue;
         }
+        if *stage == Stage::Open {
+            *stage = Stage::Done;
+            let layout = layout_of_item(alloc, tokens, item, source, known.as_slice())?;
+            if let Some(own) = known.get_mut(place) {
+                *own = layout;
+            }
+        }
+        waiting.pop();
     }
     Ok(known)
 }
@@ -492,7 +534,7 @@ fn is_foreign(name: &str) -> bool {
 
 /// Why a field's type in some tokens is not written; none where it is. `own` is the name of the type that has the
 /// field.
-pub fn why_not(tokens: &[Token<'_>], span: Span, items: &[Item<'_>], own: &str) -> Option<Why> {
+pub fn why_not(tokens: &[Token<'_>], span: Span, source: &Source<'_>, own: &str) -> Option<Why> {
     for at in span.from..span.to {
         let text = text_at(tokens, at);
         let next = at.saturating_add(1);
@@ -510,7 +552,7 @@ pub fn why_not(tokens: &[Token<'_>], span: Span, items: &[Item<'_>], own: &str) 
             return Some(Why::Borrowed);
         } else if text == "*" || text == "fn" {
             return Some(Why::Pointer);
-        } else if is_foreign(text) && !items.iter().any(|item| item.name == text) {
+        } else if is_foreign(text) && !source.has(text) {
             return Some(Why::Foreign);
         }
     }

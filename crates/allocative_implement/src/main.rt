@@ -1,5 +1,5 @@
-//! Reads a source file, and writes the implementations of `Described` and `Allocative` for its types to standard
-//! output.
+//! Reads a source file, and writes the implementations of `Described` and `Allocative` for its types: to standard
+//! output, or in place.
 #![tactic(auto)]
 
 mod cursor;
@@ -11,6 +11,7 @@ mod layout;
 mod place;
 mod run;
 mod shape;
+mod splice;
 #[cfg(test)]
 mod tests;
 mod text;
@@ -19,12 +20,13 @@ mod words;
 mod write;
 
 use fault::Fault;
+use items::Form;
 use run::{run, show_usage, tell};
-use std::env;
-use std::fs::File;
+use std::fs::{File, OpenFile};
 use std::io::{ErrorKind, Write};
 use std::process::ExitCode;
 use std::rt::{Env, Files};
+use std::{env, fs, io};
 use words::{Asked, read_words};
 
 // The words behind the program's name. A word that is not UTF-8 is none of the program's.
@@ -36,25 +38,80 @@ fn words_of<R: Env + AllocGlobal>(rt: &R) -> Result<Vec<String>, Fault> {
     }
 }
 
-// Runs the program over the file that the first word names.
-fn run_file<R: Files + AllocGlobal, W: Write, E: Write>(
+// The fault of a file that cannot be opened for reading.
+fn open_fault(error: &io::Error) -> Fault {
+    match error.kind() {
+        ErrorKind::OutOfMemory => Fault::Memory,
+        _ => Fault::Reading,
+    }
+}
+
+// Writes the module of a file to the output.
+fn write_module<R: Files + AllocGlobal, W: Write, E: Write>(
     rt: &R,
-    words: &[String],
+    file: &str,
+    names: &[String],
     output: &mut W,
     errors: &mut E,
 ) -> u8 {
-    let Some((file, names)) = words.split_first() else {
-        return tell(errors, Fault::Words);
+    match File::open(rt, file) {
+        Ok(mut input) => {
+            let form = Form::Module;
+            run(rt.alloc(), form, file, names, &mut input, output, errors)
+        }
+        Err(error) => tell(errors, open_fault(&error)),
+    }
+}
+
+// Gives a new file what the old one may be used for, and puts it in its place.
+fn replace<R: Files>(rt: &R, file: &str, beside: &str, new: &R::File) -> io::Result<()> {
+    fs::set_permissions(rt, beside, fs::metadata(rt, file)?.permissions())?;
+    new.sync_all()?;
+    fs::rename(rt, beside, file)
+}
+
+// Writes the new text of a file beside it and, where all ended well, puts it in the file's place. Else the file stays
+// as it is.
+fn write_in_place<R: Files + AllocGlobal, E: Write>(
+    rt: &R,
+    file: &str,
+    names: &[String],
+    errors: &mut E,
+) -> u8 {
+    let mut input = match File::open(rt, file) {
+        Ok(input) => input,
+        Err(error) => return tell(errors, open_fault(&error)),
     };
-    match File::open(rt, file.as_str()) {
-        Ok(mut input) => run(rt.alloc(), file.as_str(), names, &mut input, output, errors),
-        Err(error) if error.kind() == ErrorKind::OutOfMemory => tell(errors, Fault::Memory),
-        Err(_) => tell(errors, Fault::Reading),
+    let Ok(beside) = format!(in rt.alloc(); "{file}.new") else {
+        return tell(errors, Fault::Memory);
+    };
+    let Ok(mut output) = File::create_new(rt, beside.as_str()) else {
+        return tell(errors, Fault::Writing);
+    };
+    let form = Form::InPlace;
+    let status = run(
+        rt.alloc(),
+        form,
+        file,
+        names,
+        &mut input,
+        &mut output,
+        errors,
+    );
+    let is_replaced = status == 0 && replace(rt, file, beside.as_str(), &output).is_ok();
+    if is_replaced {
+        return 0;
+    }
+    let _left = fs::remove_file(rt, beside.as_str());
+    if status == 0 {
+        tell(errors, Fault::Writing)
+    } else {
+        status
     }
 }
 
 fn main(rt: HostRuntime) -> ExitCode {
-    let mut output = std::io::writer(&rt);
+    let mut output = io::writer(&rt);
     let mut errors = rt.stderr();
     let words = match words_of(&rt) {
         Ok(words) => words,
@@ -62,7 +119,10 @@ fn main(rt: HostRuntime) -> ExitCode {
     };
     let status = match read_words(words.as_slice()) {
         Ok(Asked::Help) => show_usage(&mut output, &mut errors),
-        Ok(Asked::Write) => run_file(&rt, words.as_slice(), &mut output, &mut errors),
+        Ok(Asked::Write { form, file, names }) => match form {
+            Form::Module => write_module(&rt, file, names, &mut output, &mut errors),
+            Form::InPlace => write_in_place(&rt, file, names, &mut errors),
+        },
         Err(fault) => tell(&mut errors, fault),
     };
     ExitCode::from(status)

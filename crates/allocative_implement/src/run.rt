@@ -1,10 +1,12 @@
 //! The whole program, over any reader and two writers.
-ghost use Rattle.std.specs.Prelude.{◌≡◌, ◌≢◌, ◌⊎◌, OnOk, IfOk, IfErr, IfSome};
+ghost use Rattle.std.specs.Prelude.{◌≡◌, ◌≢◌, ◌⊎◌, ◌↔◌, false, if◌then◌else◌, OnOk, IfOk, IfErr, IfSome, IsTrue, string_bytes};
 ghost use Rattle.std.specs.Io.KnownBytes.{Appends};
 ghost use Rattle.allocative_implement.specs.Fault.{status_of};
+ghost use Rattle.allocative_implement.specs.Splice.{Keeps, PutsInPlace};
 
 use crate::fault::Fault;
 use crate::implement::{Written, implement};
+use crate::items::Form;
 use crate::place::place_of;
 use std::alloc::Global;
 use std::io::{ErrorKind, Read, Write};
@@ -51,7 +53,7 @@ pub fn tell<E: Write>(errors: &mut E, fault: Fault) -> u8
 /// Writes how the program is used, and answers the status.
 pub fn show_usage<W: Write, E: Write>(output: &mut W, errors: &mut E) -> u8 {
     let usage =
-        "usage: implement FILE [TYPE..]\n\nWrites the implementations of Described and Allocative for the structs and enums of a source file to standard\noutput: of the types that are named, or of all that have none. The text is that of a module `shown` of the file:\n\n  mkdir -p src/order; implement src/order.rt > src/order/shown.rt\n\nand `mod shown;` in src/order.rt. A comment `// allocative: skip` above a field passes it over, and\n`// allocative: size 8` shows it by that size alone.\n";
+        "usage: implement [--in-place] FILE [TYPE..]\n\nWrites the implementations of Described and Allocative for the structs and enums of a source file to standard\noutput: of the types that are named, or of all that have none. The text is that of a module `shown` of the file:\n\n  mkdir -p src/order; implement src/order.rt > src/order/shown.rt\n\nand `mod shown;` in src/order.rt. With --in-place it puts them behind their types in the file itself, between lines\n`// allocative: begin` and `// allocative: end`, and replaces those that it put there before. A comment `// allocative: skip` above a field passes it over, and\n`// allocative: size 8` shows it by that size alone.\n";
     match write_text(output, usage) {
         Ok(()) => 0,
         Err(fault) => tell(errors, fault),
@@ -61,10 +63,13 @@ pub fn show_usage<W: Write, E: Write>(output: &mut W, errors: &mut E) -> u8 {
 // Reads the source, and makes the text of it.
 fn make_text<R: Read>(
     alloc: Global,
+    form: Form,
     file: &str,
     names: &[String],
     input: &mut R,
-) -> Result<Written, Fault> {
+) -> Result<Written, Fault>
+    ensures in_place { IfOk result (λ written. form ≡ Form.InPlace → IfSome (R.remaining input.old) (λ old. Keeps old (string_bytes written.text))) }
+{
     let Some(place) = place_of(file) else {
         return Err(Fault::Place);
     };
@@ -72,12 +77,12 @@ fn make_text<R: Read>(
     let Ok(text) = str::from_utf8(bytes.as_slice()) else {
         return Err(Fault::NotText);
     };
-    implement(alloc, &place, text, names)
+    implement(alloc, &place, form, text, names)
 }
 
 // Writes the notes, and answers the status with which a run ends whose text is written.
 fn tell_notes<E: Write>(errors: &mut E, written: &Written) -> u8
-    ensures { (result ≡ 0) ⊎ (result ≡ status_of Fault.LeftOut) }
+    ensures { result ≡ (if written.now.is_whole then 0 else status_of Fault.LeftOut) }
 {
     let _unwritten = errors.write_all(written.notes.as_str().as_bytes());
     if written.is_whole {
@@ -88,25 +93,43 @@ fn tell_notes<E: Write>(errors: &mut E, written: &Written) -> u8
     }
 }
 
-/// The whole program but its words: its answer is the status.
+// Whether a text is not written: a new source that leaves out a type.
+fn is_held_back(form: Form, written: &Written) -> bool
+    ensures { IsTrue result ↔ (form ≡ Form.InPlace) × (written.now.is_whole ≡ false) }
+{
+    match form {
+        Form::Module => false,
+        Form::InPlace => !written.is_whole,
+    }
+}
+
+/// The whole program but its words and the files: its answer is the status.
 ///
-/// With status 0 the implementations of all types that are asked for stand on the output, and with status 8 those of
-/// some. Else the fault's line goes to the errors and, but for status 7, nothing goes to the output.
+/// The text of a module goes to the output with status 0, where the implementations of all types that are asked for
+/// stand in it, and with status 8, where those of some do. The new source goes there with status 0 alone: between marks
+/// it differs from the old one, and nowhere else. Else the fault's line goes to the errors and, but for status 7,
+/// nothing goes to the output.
 pub fn run<R: Read, W: Write, E: Write>(
     alloc: Global,
+    form: Form,
     file: &str,
     names: &[String],
     input: &mut R,
     output: &mut W,
     errors: &mut E,
 ) -> u8
-    ensures untouched { result ≢ 0 → result ≢ 7 → result ≢ 8 → output.new ≡ output.old }
+    ensures untouched { result ≢ 0 → result ≢ 7 → (form ≡ Form.InPlace) ⊎ (result ≢ 8) → output.new ≡ output.old }
+    ensures in_place { result ≡ 0 → form ≡ Form.InPlace → IfSome (R.remaining input.old) (PutsInPlace (W.contents output.old) (W.contents output.new)) }
 {
-    match make_text(alloc, file, names, input) {
-        Ok(written) => match write_text(output, written.text.as_str()) {
-            Ok(()) => tell_notes(errors, &written),
-            Err(fault) => tell(errors, fault),
-        },
+    let written = match make_text(alloc, form, file, names, input) {
+        Ok(written) => written,
+        Err(fault) => return tell(errors, fault),
+    };
+    if is_held_back(form, &written) {
+        return tell_notes(errors, &written);
+    }
+    match write_text(output, written.text.as_str()) {
+        Ok(()) => tell_notes(errors, &written),
         Err(fault) => tell(errors, fault),
     }
 }

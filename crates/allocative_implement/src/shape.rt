@@ -1,7 +1,7 @@
 //! What is shown of a type, and why nothing can be written for it.
 use crate::cursor::{Span, line_at, text_at};
 use crate::fault::{Fault, Trouble, Why};
-use crate::items::{Body, Item, Param, Shown, Source, Style};
+use crate::items::{Body, Form, Item, Param, Shown, Source, Style};
 use crate::layout::{Layout, layout_of_field, why_not};
 use crate::tokens::Token;
 use std::alloc::Global;
@@ -33,26 +33,22 @@ pub struct ShownField<'a> {
 /// A source whose types are known.
 #[derive(Clone, Copy)]
 pub struct Scene<'s, 'a> {
+    /// The source itself.
+    pub text: &'s str,
     /// Its tokens.
     pub tokens: &'s [Token<'a>],
-    /// Its types.
-    pub items: &'s [Item<'a>],
-    /// What is known of each, in their order.
+    /// What was read of it.
+    pub source: &'s Source<'a>,
+    /// What is known of each of its types, in their order.
     pub known: &'s [Layout],
+    /// Where the text that is written stands.
+    pub form: Form,
 }
 
 /// The most fields of a struct, and of a variant.
 pub const MOST_FIELDS: usize = 25;
 /// The most fields of a variant, and of one part of a struct.
 pub const MOST_TOGETHER: usize = 5;
-
-/// Whether a trait is implemented for a name in a source.
-pub fn is_implemented(source: &Source<'_>, of: &str, name: &str) -> bool {
-    source
-        .implementations
-        .iter()
-        .any(|known| known.of == of && known.name == name)
-}
 
 // The key of a field: its name; of the one unnamed field of a variant the variant's name; else its number.
 fn key_of<'a>(body: &Body<'a>, is_enum: bool, member: Label<'a>) -> Label<'a> {
@@ -84,7 +80,7 @@ pub fn shown_fields<'a>(
             Shown::Size(size) => Some(size),
             Shown::Whole => None,
         };
-        let layout = layout_of_field(alloc, scene.tokens, field, scene.items, scene.known)?;
+        let layout = layout_of_field(alloc, scene.tokens, field, scene.source, scene.known)?;
         shown.push(ShownField {
             member,
             key: key_of(body, is_enum, member),
@@ -109,9 +105,17 @@ pub fn is_shown(tokens: &[Token<'_>], item: &Item<'_>, param: &Param<'_>) -> boo
 }
 
 /// Whether the goal of a variant with these fields may stay open: so it was seen for some variants of three fields and
-/// more, where a field behind the first has something to drop.
-pub fn may_stay_open(fields: &[ShownField<'_>]) -> bool {
-    fields.len() > 2 && fields.iter().skip(1).any(|field| field.layout.needs_drop)
+/// more, where a field behind the first has something to drop, and for one of two, where the second is of a type of the
+/// source.
+pub fn may_stay_open(scene: Scene<'_, '_>, fields: &[ShownField<'_>]) -> bool {
+    for (number, field) in fields.iter().enumerate() {
+        let is_own = field.size.is_none()
+            && scene.source.has(text_at(scene.tokens, field.span.from));
+        if number > 0 && (is_own || fields.len() > 2 && field.layout.needs_drop) {
+            return true;
+        }
+    }
+    false
 }
 
 // Whether a word is one of some tokens.
@@ -149,7 +153,7 @@ fn body_trouble(scene: Scene<'_, '_>, item: &Item<'_>, body: &Body<'_>) -> Optio
             count = count.saturating_add(1);
         }
         if field.shown == Shown::Whole
-            && let Some(why) = why_not(scene.tokens, field.span, scene.items, item.name)
+            && let Some(why) = why_not(scene.tokens, field.span, scene.source, item.name)
         {
             return Some(Trouble { line, why });
         }
@@ -170,6 +174,26 @@ fn body_trouble(scene: Scene<'_, '_>, item: &Item<'_>, body: &Body<'_>) -> Optio
             line,
             why: Why::Taken,
         })
+    } else {
+        None
+    }
+}
+
+/// The end of the line in which a type ends: there its implementations are put in place. None where the line goes on
+/// behind the type with more than a comment of its own.
+pub fn line_behind(scene: Scene<'_, '_>, item: &Item<'_>) -> Option<usize> {
+    let to = match scene.tokens.get(item.end) {
+        Some(token) => token.to,
+        None => scene.text.len(),
+    };
+    let rest = scene.text.get(to..)?;
+    let line = match rest.split_once('\n') {
+        Some((line, _)) => line,
+        None => rest,
+    };
+    let behind = line.trim_start();
+    if behind.is_empty() || behind.starts_with("//") {
+        Some(to.saturating_add(line.len()))
     } else {
         None
     }
@@ -198,6 +222,12 @@ pub fn trouble_of(scene: Scene<'_, '_>, item: &Item<'_>) -> Option<Trouble> {
         if trouble.is_some() {
             return trouble;
         }
+    }
+    if scene.form == Form::InPlace && line_behind(scene, item).is_none() {
+        return Some(Trouble {
+            line,
+            why: Why::Line,
+        });
     }
     None
 }

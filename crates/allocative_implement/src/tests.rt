@@ -2,6 +2,7 @@
 // output fails.
 use crate::fault::Fault;
 use crate::implement::implement;
+use crate::items::Form;
 use crate::place::place_of;
 use crate::run::run;
 use crate::tokens::{Kind, tokens_of};
@@ -74,6 +75,7 @@ fn assert_run(
     let names = Vec::new(alloc);
     let ended = run(
         alloc,
+        Form::Module,
         file,
         names.as_slice(),
         &mut input,
@@ -90,7 +92,7 @@ fn assert_run(
 fn assert_notes(rt: &impl Abort, alloc: Global, source: &str, want: &str) -> Result<(), Fail> {
     let place = place_of(FILE).ok_or("a place")?;
     let names = Vec::new(alloc);
-    let written = implement(alloc, &place, source, names.as_slice())?;
+    let written = implement(alloc, &place, Form::Module, source, names.as_slice())?;
     assert_eq!(rt; written.notes.as_str(), want);
     Ok(())
 }
@@ -196,6 +198,7 @@ fn reads_and_writes_that_fail_are_told(rt: HostRuntime) -> Result<(), AllocError
     let mut torn = Torn { reads: 0 };
     let status = run(
         alloc,
+        Form::Module,
         FILE,
         names.as_slice(),
         &mut torn,
@@ -209,6 +212,7 @@ fn reads_and_writes_that_fail_are_told(rt: HostRuntime) -> Result<(), AllocError
     let mut input = queue(alloc, b"struct A;")?;
     let status = run(
         alloc,
+        Form::Module,
         FILE,
         names.as_slice(),
         &mut input,
@@ -266,8 +270,10 @@ fn a_size_that_is_not_known_is_asked_for(rt: HostRuntime) -> Result<(), Fail> {
 
 #[test]
 fn variants_that_may_stay_open_are_told(rt: HostRuntime) -> Result<(), Fail> {
-    let source = "enum E { A(u8, String), B(String, u8, u8), C(u8, u8, String), D(u8, u8, u8) }";
-    let want = "/home/shop/src/sales/orders.rt:1: E::C may want an answer by hand in proofs/\n";
+    let source =
+        "enum E { A(u8, String), B(String, u8, u8), C(u8, u8, String), D(u8, u8, u8), F(S, u8), G(u8, S) } struct S { a: u8 }";
+    let want =
+        "/home/shop/src/sales/orders.rt:1: E::C may want an answer by hand in proofs/\n/home/shop/src/sales/orders.rt:1: E::G may want an answer by hand in proofs/\n";
     assert_notes(&rt, rt.alloc(), source, want)
 }
 
@@ -277,10 +283,10 @@ fn a_type_by_name_and_none_that_is_not_there(rt: HostRuntime) -> Result<(), Fail
     let place = place_of(FILE).ok_or("a place")?;
     let source = "struct A; struct B { b: [u16; 3] } impl Allocative for B {} mod m { struct C; }";
     let mut names = Vec::new(alloc);
-    let all = implement(alloc, &place, source, names.as_slice())?;
+    let all = implement(alloc, &place, Form::Module, source, names.as_slice())?;
     assert!(rt; all.text.as_str().contains("for A {") && !all.text.as_str().contains("for B {"));
     names.push(String::from_str(alloc, "B")?)?;
-    let one = implement(alloc, &place, source, names.as_slice())?;
+    let one = implement(alloc, &place, Form::Module, source, names.as_slice())?;
     assert!(rt;
         one.text
             .as_str()
@@ -288,7 +294,7 @@ fn a_type_by_name_and_none_that_is_not_there(rt: HostRuntime) -> Result<(), Fail
     );
     assert!(rt; !one.text.as_str().contains("for A {"));
     names.push(String::from_str(alloc, "C")?)?;
-    let none = implement(alloc, &place, source, names.as_slice());
+    let none = implement(alloc, &place, Form::Module, source, names.as_slice());
     assert!(rt; none.err() == Some(Fault::Missing));
     Ok(())
 }
@@ -302,5 +308,16 @@ fn words_are_read(rt: HostRuntime) -> Result<(), AllocError> {
     assert!(rt; read_words(words.as_slice()).ok() == Some(Asked::Help));
     words.push(String::from_str(alloc, "a.rt")?)?;
     assert!(rt; read_words(words.as_slice()).err() == Some(Fault::Words));
+    let mut words = Vec::new(alloc);
+    words.push(String::from_str(alloc, "--in-place")?)?;
+    assert!(rt; read_words(words.as_slice()).err() == Some(Fault::Words));
+    words.push(String::from_str(alloc, "a.rt")?)?;
+    words.push(String::from_str(alloc, "A")?)?;
+    let want = Asked::Write {
+        form: Form::InPlace,
+        file: "a.rt",
+        names: &words.as_slice()[2..],
+    };
+    assert!(rt; read_words(words.as_slice()).ok() == Some(want));
     Ok(())
 }

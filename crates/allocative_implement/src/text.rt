@@ -1,5 +1,6 @@
 //! Small pieces of the text that is written.
 use crate::cursor::{Span, is_kind, text_at};
+use crate::items::Form;
 use crate::shape::{Label, Scene, ShownField};
 use crate::tokens::{Kind, Token};
 use std::alloc::AllocError;
@@ -98,9 +99,23 @@ fn is_spaced(tokens: &[Token<'_>], at: usize) -> bool {
     is_wordy || is_joined || is_pair(tokens, before, "-", ">")
 }
 
+// What stands for a word that begins a path: from the module inside, the module and the one around it are told by
+// one `super` more.
+fn path_word(form: Form, word: &str) -> &str {
+    if form == Form::InPlace {
+        return word;
+    }
+    match word {
+        "self" => "super",
+        "super" => "super::super",
+        _ => word,
+    }
+}
+
 /// Appends the text of a type or of bounds, laid out on one line. A path from the module or from the one around it is
-/// told from the module inside.
-pub fn push_type(out: &mut String, tokens: &[Token<'_>], span: Span) -> Result<(), AllocError> {
+/// told from where the text stands.
+pub fn push_type(out: &mut String, scene: Scene<'_, '_>, span: Span) -> Result<(), AllocError> {
+    let tokens = scene.tokens;
     for at in span.from..span.to {
         let before = at.saturating_sub(1);
         let text = text_at(tokens, at);
@@ -112,13 +127,11 @@ pub fn push_type(out: &mut String, tokens: &[Token<'_>], span: Span) -> Result<(
         if text == "," && (next == ">" || at.saturating_add(1) == span.to) {
             continue;
         }
-        if text == "self" && is_first {
-            out.push_str("super")?;
-        } else if text == "super" && is_first {
-            out.push_str("super::super")?;
+        out.push_str(if is_first {
+            path_word(scene.form, text)
         } else {
-            out.push_str(text)?;
-        }
+            text
+        })?;
     }
     Ok(())
 }
@@ -156,21 +169,21 @@ pub fn push_word(
     push_label(out, field.key)?;
     out.push_str("\") ")?;
     if is_param {
-        push_type(out, scene.tokens, field.span)?;
+        push_type(out, scene, field.span)?;
         out.push_str(".size (")?;
-        push_type(out, scene.tokens, field.span)?;
+        push_type(out, scene, field.span)?;
         out.push_str(".may_show ")?;
     } else {
         match field.layout.size {
             Some(size) => write!(out, "(Some {size}) ")?,
             None => {
                 out.push_str("⟦<")?;
-                push_type(out, scene.tokens, field.span)?;
+                push_type(out, scene, field.span)?;
                 out.push_str(" as Described>⟧.size ")?;
             }
         }
         out.push_str("(⟦<")?;
-        push_type(out, scene.tokens, field.span)?;
+        push_type(out, scene, field.span)?;
         out.push_str(" as Allocative>⟧.may_show ")?;
     }
     push_member(out, field, number, owner)?;

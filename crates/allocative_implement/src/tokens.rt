@@ -28,6 +28,10 @@ pub struct Token<'a> {
     pub text: &'a str,
     /// Its line, from 1 on.
     pub line: usize,
+    /// The place of its first byte in the source.
+    pub from: usize,
+    /// The place behind its last byte. That of a comment is the end of its line.
+    pub to: usize,
     /// Of a bracket that opens, the place of the one that closes it in the list of tokens; of any other token its own
     /// place.
     pub close: usize,
@@ -44,6 +48,11 @@ fn byte_at(bytes: &[u8], at: usize) -> u8 {
     bytes.get(at).copied().unwrap_or(0)
 }
 
+// The bytes from a place on.
+fn rest_of(bytes: &[u8], at: usize) -> &[u8] {
+    bytes.get(at..).unwrap_or(&[])
+}
+
 fn is_word_byte(byte: u8) -> bool {
     byte.is_ascii_alphanumeric() || byte == b'_' || byte >= 0x80
 }
@@ -51,7 +60,7 @@ fn is_word_byte(byte: u8) -> bool {
 // The place behind the bytes of a word from `at` on.
 fn word_end(bytes: &[u8], at: usize) -> usize {
     let mut end = at;
-    for byte in bytes.iter().skip(at) {
+    for byte in rest_of(bytes, at) {
         if !is_word_byte(*byte) {
             break;
         }
@@ -63,7 +72,7 @@ fn word_end(bytes: &[u8], at: usize) -> usize {
 // The place of the next new line from `at` on, or the end.
 fn line_end(bytes: &[u8], at: usize) -> usize {
     let mut end = at;
-    for byte in bytes.iter().skip(at) {
+    for byte in rest_of(bytes, at) {
         if *byte == b'\n' {
             break;
         }
@@ -75,7 +84,7 @@ fn line_end(bytes: &[u8], at: usize) -> usize {
 // The place behind the white space from `at` on.
 fn space_end(bytes: &[u8], at: usize) -> usize {
     let mut end = at;
-    for byte in bytes.iter().skip(at) {
+    for byte in rest_of(bytes, at) {
         if !byte.is_ascii_whitespace() {
             break;
         }
@@ -87,7 +96,7 @@ fn space_end(bytes: &[u8], at: usize) -> usize {
 // How many `#` stand from `at` on.
 fn hashes_at(bytes: &[u8], at: usize) -> usize {
     let mut count = 0usize;
-    for byte in bytes.iter().skip(at) {
+    for byte in rest_of(bytes, at) {
         if *byte != b'#' {
             break;
         }
@@ -100,7 +109,7 @@ fn hashes_at(bytes: &[u8], at: usize) -> usize {
 fn quoted_end(bytes: &[u8], at: usize, quote: u8) -> Option<usize> {
     let mut end = at;
     let mut is_escaped = false;
-    for byte in bytes.iter().skip(at) {
+    for byte in rest_of(bytes, at) {
         end = end.saturating_add(1);
         if is_escaped {
             is_escaped = false;
@@ -116,7 +125,7 @@ fn quoted_end(bytes: &[u8], at: usize, quote: u8) -> Option<usize> {
 // The place behind a raw text that goes on at `at` and ends by a quote and so many `#`; none where it has no end.
 fn raw_end(bytes: &[u8], at: usize, hashes: usize) -> Option<usize> {
     let mut end = at;
-    for byte in bytes.iter().skip(at) {
+    for byte in rest_of(bytes, at) {
         end = end.saturating_add(1);
         if *byte == b'"' && hashes_at(bytes, end) >= hashes {
             return Some(end.saturating_add(hashes));
@@ -130,7 +139,7 @@ fn comment_end(bytes: &[u8], at: usize) -> Option<usize> {
     let mut depth = 0usize;
     let mut end = at;
     let mut is_second = false;
-    for byte in bytes.iter().skip(at) {
+    for byte in rest_of(bytes, at) {
         end = end.saturating_add(1);
         let next = byte_at(bytes, end);
         if is_second {
@@ -292,8 +301,8 @@ fn lines_in(text: &str) -> usize {
 }
 
 // The token of a piece of the source; none where it is space or a comment that says nothing to this program.
-fn token_of(kind: Option<Kind>, text: &str, line: usize, place: usize) -> Option<Token<'_>> {
-    let (kind, text) = match kind {
+fn token_of(piece: Piece, text: &str, line: usize, from: usize, place: usize) -> Option<Token<'_>> {
+    let (kind, text) = match piece.kind {
         Some(kind) => (kind, text),
         None => (Kind::Order, order_of(text)?),
     };
@@ -301,6 +310,8 @@ fn token_of(kind: Option<Kind>, text: &str, line: usize, place: usize) -> Option
         kind,
         text,
         line,
+        from,
+        to: piece.end,
         close: place,
     })
 }
@@ -322,7 +333,7 @@ pub fn tokens_of<'a>(alloc: Global, source: &'a str) -> Result<Vec<Token<'a>>, F
         let Some(text) = source.get(at..piece.end) else {
             return Err(Fault::Unended(line));
         };
-        if let Some(token) = token_of(piece.kind, text, line, tokens.len()) {
+        if let Some(token) = token_of(piece, text, line, at, tokens.len()) {
             tokens.push(token)?;
         }
         line = line.saturating_add(lines_in(text));

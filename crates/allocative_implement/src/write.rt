@@ -2,7 +2,7 @@
 use crate::cursor::{Span, text_at};
 use crate::fault::Fault;
 use crate::head::{Header, Whom, push_impl, push_part_struct};
-use crate::items::{Body, Item, Shown, Sort, Style};
+use crate::items::{Body, Form, Item, Shown, Sort, Style};
 use crate::layout::Layout;
 use crate::shape::{MOST_TOGETHER, Scene, ShownField, shown_fields};
 use crate::text::{close_word, letter, open_word, push_let, push_letters, push_name, push_word};
@@ -19,6 +19,8 @@ pub struct Plan {
     pub is_constant: bool,
     /// The path of what is declared in the module of the type.
     pub path: String,
+    /// Where the text that is written stands.
+    pub form: Form,
 }
 
 // The end of the name of a part of a large struct, by its number from 0 on.
@@ -64,7 +66,10 @@ fn push_constant_use(out: &mut String, plan: &Plan, is_followed: bool) -> Result
     if plan.is_constant {
         out.push_str("    ghost use ")?;
         out.push_str(plan.path.as_str())?;
-        out.push_str(".shown.TheConstants.{")?;
+        out.push_str(match plan.form {
+            Form::Module => ".shown.TheConstants.{",
+            Form::InPlace => ".TheConstants.{",
+        })?;
         out.push_str(plan.size.as_str())?;
         out.push_str("};\n")?;
     }
@@ -72,6 +77,16 @@ fn push_constant_use(out: &mut String, plan: &Plan, is_followed: bool) -> Result
         out.push_str("\n")?;
     }
     Ok(())
+}
+
+// Appends the line before an implementation that is proved by the meaning of parts. A module has it for all of them.
+fn push_tactic(out: &mut String, plan: &Plan) -> Result<(), AllocError> {
+    match plan.form {
+        Form::Module => Ok(()),
+        Form::InPlace => {
+            out.push_str("#[tactic(auto, using(allocative::proofs::Parts::parts))]\n")
+        }
+    }
 }
 
 /// Appends the implementation of `Described`.
@@ -201,6 +216,7 @@ fn push_part(
     let whom = part_of(item, number);
     out.push_str("\n")?;
     push_part_struct(out, &plan.header, whom)?;
+    push_tactic(out, plan)?;
     push_impl(out, &plan.header, "Part", whom)?;
     out.push_str("    ghost may_show = { λ x. ")?;
     push_words(out, scene, item, group, "x.0.now.", 8)?;
@@ -222,6 +238,7 @@ fn push_struct(
 ) -> Result<(), AllocError> {
     let name = item.name;
     let size = plan.size.as_str();
+    push_tactic(out, plan)?;
     push_impl(out, &plan.header, "Allocative", whole(item))?;
     push_constant_use(out, plan, false)?;
     write!(
@@ -342,15 +359,16 @@ fn push_arm(
 }
 
 // Appends the implementation of `Allocative` for an enum.
-fn push_enum(
+fn push_enum<'a>(
     alloc: Global,
     out: &mut String,
-    scene: Scene<'_, '_>,
-    item: &Item<'_>,
+    scene: Scene<'_, 'a>,
+    item: &Item<'a>,
     plan: &Plan,
 ) -> Result<(), Fault> {
     let name = item.name;
     let size = plan.size.as_str();
+    push_tactic(out, plan)?;
     push_impl(out, &plan.header, "Allocative", whole(item))?;
     push_constant_use(out, plan, true)?;
     push_variants_use(out, item, plan)?;
@@ -382,11 +400,11 @@ fn push_enum(
 }
 
 /// Appends the implementation of `Allocative`. The only fault is `Fault::Memory`.
-pub fn push_allocative(
+pub fn push_allocative<'a>(
     alloc: Global,
     out: &mut String,
-    scene: Scene<'_, '_>,
-    item: &Item<'_>,
+    scene: Scene<'_, 'a>,
+    item: &Item<'a>,
     plan: &Plan,
 ) -> Result<(), Fault> {
     if item.is_enum {

@@ -1,4 +1,5 @@
 // The profiles of values whose implementations `bin/implement` wrote.
+use crate::placed::{Letter, Pair, Parcel, Post};
 use crate::profiles::{Profile, expect};
 use crate::types::{
     Found, Mark, Named, Nowhere, OfEight, OfOne, OfTwenty, Point, Request, Route, Sextet, Table,
@@ -175,4 +176,36 @@ fn a_lifetime_and_a_number(rt: HostRuntime) -> Result<(), Fail> {
     let text =
         "Found;counts;BTreeMap 16\nFound;counts;BTreeMap;data 8\nFound;places;u32;data;u32 8\n";
     expect(&rt, alloc, &found, &Profile::new(text, 32))
+}
+
+#[test]
+fn implementations_in_place(rt: HostRuntime) -> Result<(), Fail> {
+    let alloc = rt.alloc();
+    let pair = Pair {
+        first: 1u32,
+        second: 2u32,
+    };
+    let text = "Pair 8\nPair;first;u32 4\nPair;second;u32 4\n";
+    expect(&rt, alloc, &pair, &Profile::new(text, 16))?;
+    let post = Post::Sent {
+        number: 7,
+        name: String::new(alloc),
+    };
+    let text = "Post 16\nPost;name;String 16\nPost;name;String;ptr 8\nPost;number;u64 8\n";
+    expect(&rt, alloc, &post, &Profile::new(text, 48))?;
+    let parcel = Parcel {
+        number: 1,
+        from: Letter {
+            number: 2,
+            name: String::new(alloc),
+            reads: 3,
+        },
+        count: 4,
+        marks: Vec::new(alloc),
+        is_open: true,
+        limit: None,
+    };
+    let text =
+        "Parcel 3\nParcel;count;u32 4\nParcel;from;Letter 8\nParcel;from;Letter;name;String 16\nParcel;from;Letter;name;String;ptr 8\nParcel;from;Letter;number;u64 8\nParcel;is_open;bool 1\nParcel;limit;Option 16\nParcel;marks;Vec 24\nParcel;number;u64 8\n";
+    expect(&rt, alloc, &parcel, &Profile::new(text, 96))
 }
