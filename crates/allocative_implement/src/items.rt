@@ -192,14 +192,15 @@ impl<'a> Source<'a> {
         Ok(())
     }
 
-    // Adds the words of the import whose `use` stands at a place.
-    fn add_import(&mut self, tokens: &[Token<'a>], at: usize) -> Result<(), AllocError> {
+    // Adds the words of the import whose `use` stands at a place, and answers the place of its end.
+    fn add_import(&mut self, tokens: &[Token<'a>], at: usize) -> Result<usize, AllocError> {
         let is_ghost = at > 0 && text_at(tokens, at.saturating_sub(1)) == "ghost";
         let rest = Span {
             from: at,
             to: tokens.len(),
         };
-        for place in at..find(tokens, rest, ";") {
+        let end = find(tokens, rest, ";");
+        for place in at..end {
             if !is_kind(tokens, place, Kind::Word) {
                 continue;
             }
@@ -209,7 +210,7 @@ impl<'a> Source<'a> {
                 self.imports.insert(text_at(tokens, place))?;
             }
         }
-        Ok(())
+        Ok(end)
     }
 }
 
@@ -597,11 +598,18 @@ fn last_word<'a>(tokens: &[Token<'a>], at: usize) -> &'a str {
     text_at(tokens, last)
 }
 
-// The implementation whose keyword stands at a place; none where it is not of a trait.
-fn read_implementation<'a>(tokens: &[Token<'a>], at: usize) -> Option<Implementation<'a>> {
+// The implementation whose keyword stands at a place, where it is of a trait, and the place of the brace that opens it.
+// `Fault::Bracket` where its parameters have no end.
+fn read_implementation<'a>(
+    tokens: &[Token<'a>],
+    at: usize,
+) -> Result<(Option<Implementation<'a>>, usize), Fault> {
     let mut from = at.saturating_add(1);
     if text_at(tokens, from) == "<" {
-        from = angle_close(tokens, from)?.saturating_add(1);
+        let Some(close) = angle_close(tokens, from) else {
+            return Err(Fault::Bracket(line_at(tokens, at)));
+        };
+        from = close.saturating_add(1);
     }
     let rest = Span {
         from,
@@ -610,12 +618,13 @@ fn read_implementation<'a>(tokens: &[Token<'a>], at: usize) -> Option<Implementa
     let open = find(tokens, rest, "{");
     let place = find(tokens, Span { from, to: open }, "for");
     if place >= open {
-        return None;
+        return Ok((None, open));
     }
-    Some(Implementation {
+    let done = Implementation {
         of: last_word(tokens, from),
         name: last_word(tokens, place.saturating_add(1)),
-    })
+    };
+    Ok((Some(done), open))
 }
 
 // What the attribute says whose bracket opens at a place.
@@ -682,7 +691,8 @@ fn read_mark<'a>(
     Ok(())
 }
 
-// Reads what begins at a place. Of a piece that the program wrote only implementations and constants are read.
+// Reads what begins at a place, and answers the place from which to go on. Of a piece that the program wrote only
+// implementations and constants are read.
 fn read_top<'a>(
     alloc: Global,
     tokens: &[Token<'a>],
@@ -690,23 +700,28 @@ fn read_top<'a>(
     form: Form,
     before: Before,
     source: &mut Source<'a>,
-) -> Result<(), Fault> {
+) -> Result<usize, Fault> {
     let text = text_at(tokens, at);
     let is_written = before.mark.is_some();
     if text == "impl" {
-        if let Some(done) = read_implementation(tokens, at) {
+        let (done, open) = read_implementation(tokens, at)?;
+        if let Some(done) = done {
             source.add_implementation(done, is_written && form == Form::InPlace)?;
         }
-    } else if is_written && text == "const" {
+        return Ok(open);
+    }
+    if is_written && text == "const" {
         source.add_constant(tokens, at)?;
     } else if is_written || before.is_left_out {
-        return Ok(());
+        return Ok(at);
     } else if text == "use" {
-        source.add_import(tokens, at)?;
+        return Ok(source.add_import(tokens, at)?);
     } else if let Some(item) = item_at(alloc, tokens, at, before.is_cycle)? {
+        let end = item.end;
         source.add_item(item)?;
+        return Ok(end);
     }
-    Ok(())
+    Ok(at)
 }
 
 /// What stands in a source, but for what stands in modules and functions and behind `#[cfg(..)]`. Where the new text
@@ -737,12 +752,12 @@ pub fn read_source<'a>(
         let attribute = attribute_at(tokens, at);
         before.is_cycle = before.is_cycle || attribute == "cycle";
         before.is_left_out = before.is_left_out || attribute == "cfg";
-        if text == ";" || text == "{" {
+        let goes_on = read_top(alloc, tokens, at, form, before, &mut source)?;
+        if text == ";" || text == "{" || goes_on > at {
             before.is_cycle = false;
             before.is_left_out = false;
-        } else {
-            read_top(alloc, tokens, at, form, before, &mut source)?;
         }
+        next = next.max(goes_on);
     }
     match before.mark {
         Some(at) => Err(Fault::Mark(line_at(tokens, at))),
