@@ -1,4 +1,4 @@
-use Rattle.std.proofs.Common.{◌≡◌, ◌∙◌, refl, Ok, Err}
+use Rattle.std.proofs.Common.{◌∙◌, refl, Ok, Err}
 use Rattle.std.specs.Fn.{FnOnceReturnsAtMut}
 use Rattle.allocative.proofs.visitor.Visitor.call.Goals as goal
 
