@@ -1,4 +1,4 @@
-use Rattle.std.proofs.Common.{◌≡◌, ◌+◌, ◌<◌, length, get_or, refl, arith}
+use Rattle.std.proofs.Common.{◌≡◌, ◌<◌, length, get_or, refl, arith}
 use Rattle.std.proofs.Math.ListN.{length-set}
 use Rattle.allocative_picture.specs.declared.row.Row.{Row}
 use Rattle.allocative_picture_filter.proofs.Beside.{rows-set}

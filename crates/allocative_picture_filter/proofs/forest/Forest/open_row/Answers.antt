@@ -1,7 +1,6 @@
-use Rattle.std.proofs.Common.{◌≡◌, ◌+◌, ◌++◌, ◌∷◌, [], length, ap, refl, arith}
+use Rattle.std.proofs.Common.{◌+◌, length, ap, refl, arith}
 use Rattle.std.proofs.lemmas.List.{length-append}
 use Rattle.allocative_picture.specs.declared.row.Row.{Row}
-use Rattle.allocative_picture_filter.specs.Forest.{HasRows}
 use Rattle.allocative_picture_filter.proofs.Beside.{rows-push}
 use Rattle.allocative_picture_filter.proofs.forest.Forest.open_row.Goals as goal
 
