@@ -14,7 +14,7 @@ use Rattle.allocative.specs.Visits.{Profile, IsProfileOf}
 use Rattle.allocative_json.specs.declared.fault.Fault.{Fault}
 use Rattle.allocative_json.specs.declared.fault.Fault.TheVariants.{Memory, NotJson, NotWhole, TooLarge, Reading, Writing, Open}
 use Rattle.allocative_json.specs.declared.fault.Fault.TheVariants as fault
-use Rattle.allocative_json.specs.declared.report.Report.{Report}
+use Rattle.allocative_json.specs.declared.printed.Report.{Report}
 use Rattle.allocative_json.specs.Lines.{asked_text}
 use Rattle.allocative_json.specs.Profile.{both_show, roots_show, IsRightReport, RefusesReport}
 use Rattle.allocative_json.specs.Roots.{IsWholeDocument, IsIndexIf}

@@ -3,6 +3,7 @@
 #![tactic(auto)]
 
 mod fault;
+mod printed;
 mod profile;
 mod report;
 mod roots;

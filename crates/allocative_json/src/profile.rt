@@ -7,7 +7,8 @@ ghost use Rattle.allocative.specs.Visits.{Runs, IsProfileOf};
 ghost use Rattle.allocative_json.specs.Profile.{both_show, IsRightReport, RefusesReport};
 
 use crate::fault::Fault;
-use crate::report::{self, Report};
+use crate::printed::Report;
+use crate::report;
 use crate::roots::read_roots;
 use allocative::{FlameGraphBuilder, FlameGraphOutput, Refusal, Registry, profile_roots};
 use serde_json::Value;

@@ -5,17 +5,9 @@ ghost use Rattle.allocative.specs.Report.{ends_in, exact_text};
 ghost use Rattle.allocative_json.specs.Lines.{asked_text, row_line};
 
 use crate::fault::Fault;
+use crate::printed::Report;
 use allocative::{FlameGraph, FlameGraphOutput, Refusal, Row, push_path};
 use std::alloc::{AllocError, Global};
-
-/// The profile and the warnings, as they are written.
-#[derive(Drop)]
-pub struct Report {
-    /// The lines of the flame graph.
-    pub profile: String,
-    /// The warnings, one per line.
-    pub warnings: String,
-}
 
 // Whether a path ends in `unused_capacity`.
 fn is_unused(path: &[&str]) -> bool

@@ -7,8 +7,8 @@ ghost use Rattle.allocative_json.specs.Run.{StopsReading, IsReportFor, IsReporte
 ghost use Rattle.allocative_json.specs.Words.{words_of};
 
 use crate::fault::Fault;
+use crate::printed::Report;
 use crate::profile::{profile_json, profile_registered};
-use crate::report::Report;
 use crate::words::{Words, read_words};
 use std::alloc::Global;
 use std::io::{ErrorKind, Read, Write};
