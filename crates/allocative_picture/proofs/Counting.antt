@@ -1,4 +1,4 @@
--- Which rows have a box, and how often.
+-- Which rows have a box, and how often a path occurs.
 use Rattle.std.proofs.Common.{◌≡◌, ℕ, ◌+◌, ◌&&◌, Bool, true, false, cond, List, [], ◌∷◌, ◌++◌, Some, refl, sym, ap, subst, ◌∙◌, T}
 use Rattle.std.specs.Prelude.{filter, flat_map, count_by}
 use Rattle.std.proofs.lemmas.List.Sums.{sum_by-cons}
@@ -38,7 +38,7 @@ is_less Less h = refl
 is_less Equal h = absurd h
 is_less Greater h = absurd h
 
--- How often a path stands among some.
+-- How often a path occurs in a list of entries.
 abbrev times : Path → List (Path × ℕ) → ℕ
 times p es = count_by (λ e. is_same_path p e.0) es
 
@@ -62,6 +62,6 @@ once p (e ∷ es) h f = go (path_cmp p e.0) refl f (once p es (both_second (belo
         times-cons p e es ∙ (λ i. cond (is_eq (q i)) 1 0 + never p es above i)
     go Greater q g rest = times-cons p e es ∙ (λ i. cond (is_eq (q i)) 1 0 + rest g i)
 
--- A path of a graph stands once among its entries.
+-- A path of a graph occurs once among its entries.
 pub stands_once : (g : Graph) (p : Path) → contains_key g p ≡ true → times p (entries g) ≡ 1
 stands_once g p h = once p (entries g) (entries_sorted g) (ap is_some (sym (get-entries g p)) ∙ h)

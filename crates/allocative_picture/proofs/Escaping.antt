@@ -1,4 +1,4 @@
--- What stands for a character is plain, and is read as the character.
+-- The markup of a character has plain bytes only, and reads as that character.
 use Rattle.std.proofs.Common.{◌≡◌, ◌≢◌, ℕ, ◌<◌, ◌≤◌, ◌||◌, ◌&&◌, Bool, true, false, not, cond, List, [], ◌∷◌, ◌++◌, refl, sym, ap, subst, ◌∙◌, arith}
 use Rattle.std.proofs.lemmas.Bool.{eqb-false}
 use Rattle.std.proofs.lemmas.Bool.Decides.{nat_tests}
@@ -27,7 +27,7 @@ is_same a b e = grind (arith, nat_tests)
 is_other : (a b : ℕ) → (a == b) ≡ false → a ≢ b
 is_other a b e = eqb-false a b e
 
--- The bytes of a character past ASCII are high.
+-- The UTF-8 bytes of a character beyond ASCII are all at least 128.
 encode_high : (c : ℕ) → 128 ≤ c → High (encode_utf8 c)
 unfolding lib.Utf8.encode
 encode_high c h =
@@ -68,7 +68,7 @@ fit c e = go (nat_lt c 32) refl e
     go true s r = absurd (cc)
     go false s r = not_less c 32 s
 
--- What stands for a character, by its cases.
+-- Whatever holds in each case of the definition holds for the markup of a character.
 escaped_cases : (P : List ℕ → Type 0) (c : ℕ) → (c ≡ 38 → P (codes "&amp;")) → (c ≡ 60 → P (codes "&lt;")) → (c ≡ 62 → P (codes "&gt;")) → (c ≡ 34 → P (codes "&quot;")) → (c ≡ 39 → P (codes "&#39;"))
     → (c ≢ 38 → c ≢ 60 → c ≢ 62 → c ≢ 34 → c ≢ 39 → is_unfit c ≡ true → P (encode_utf8 65533)) → (c ≢ 38 → c ≢ 60 → c ≢ 62 → c ≢ 34 → c ≢ 39 → is_unfit c ≡ false → P (encode_utf8 c)) → P (escaped_char c)
 escaped_cases P c f1 f2 f3 f4 f5 f6 f7 =
@@ -107,7 +107,7 @@ high_reads (b ∷ bs) m t h r = itself b (bs ++ m) (bs ++ t) (λ e. omega (arith
 abbrev legible_char : ℕ → List ℕ
 legible_char c = cond (is_unfit c) (encode_utf8 65533) (encode_utf8 c)
 
--- An ASCII character that is fit is shown as itself.
+-- An ASCII character that is not unfit stays itself in the legible text.
 legible_low : (c : ℕ) → is_unfit c ≡ false → c < 128 → legible_char c ≡ c ∷ []
 legible_low c e h = ap (λ b. cond b (encode_utf8 65533) (encode_utf8 c)) e ∙ encode_ascii c h
 

@@ -1,4 +1,4 @@
--- Where boxes stand to each other.
+-- How boxes are placed relative to one another.
 use Rattle.std.proofs.Math.Nat.{mul-div_cancel_left, div-zero}
 use Rattle.std.proofs.Common.{◌≡◌, ℕ, zero, suc, ◌+◌, ◌*◌, ◌<◌, ◌≤◌, ◌&&◌, cond, List, [], ◌∷◌, ◌++◌, sum_by, refl, ap, ◌∙◌, arith}
 use Rattle.std.proofs.lemmas.List.Sums.{sum_by-cons}
@@ -15,18 +15,18 @@ use Rattle.allocative_picture.specs.Rows.{before_in}
 use Rattle.allocative_picture.specs.Boxes.{edge, left, right}
 use Rattle.allocative_picture.specs.Laws.{row_at, IsInside}
 
--- The bytes of a path of some rows and of all paths below it.
+-- The bytes of a path and of all paths below it, among some entries.
 abbrev whole_in : List (Path × ℕ) → Path → ℕ
 whole_in rs p = sum_by (λ e. cond (begins p e.0) e.1 0) rs
 
--- n bytes at q, counted where q comes before p, and where p is a beginning of q
+-- `lower` counts n bytes of the path q where q comes before p, `below` where p is a beginning of q.
 abbrev lower : ℕ → Path → Path → ℕ
 lower n q p = cond (is_lt (path_cmp q p)) n 0
 
 abbrev below : ℕ → Path → Path → ℕ
 below n q p = cond (begins p q) n 0
 
--- the same where the first keys compare as o
+-- `lower_by` and `below_by` count n bytes of q as `lower` and `below` do, where the first keys compare as o.
 abbrev lower_by : Ordering → ℕ → Path → Path → ℕ
 lower_by o n q p = cond (is_lt (ordering_then o (path_cmp q p))) n 0
 
@@ -40,7 +40,7 @@ never_lower : (n : ℕ) (q : Path) → lower n q [] ≡ 0
 never_lower n [] = refl
 never_lower n (l ∷ q) = refl
 
--- a path is not both before another and below it
+-- A path is not both before another path and below it.
 once : (n : ℕ) (q p : Path) → lower n q p + below n q p ≤ n
 once n [] [] = omega arith
 once n (l ∷ q) [] = omega arith
@@ -52,7 +52,7 @@ once n (l ∷ q) (k ∷ p) = omega (arith, below-cons n l k q p, go (key_cmp l k
     go Equal e = e
     go Greater e = omega arith
 
--- what is before a path is before a longer one
+-- What comes before a path also comes before each longer path that begins with it.
 longer : (n : ℕ) (q p r : Path) → lower n q p ≤ lower n q (p ++ r)
 longer n q [] r = omega (arith, never_lower n q)
 longer n [] (k ∷ p) r = omega arith
@@ -63,7 +63,7 @@ longer n (l ∷ q) (k ∷ p) r = go (key_cmp l k) (longer n q p r)
     go Equal e = e
     go Greater e = omega arith
 
--- what is before a longer path or below it is before the path or below it
+-- What comes before a longer path or is below it comes before its beginning or is below that.
 inner : (n : ℕ) (q p r : Path) → lower n q (p ++ r) + below n q (p ++ r) ≤ lower n q p + below n q p
 inner n q [] r = omega (arith, once n q r)
 inner n [] (k ∷ p) r = omega arith
@@ -74,7 +74,7 @@ inner n (l ∷ q) (k ∷ p) r = omega (arith, below-cons n l k q p, below-cons n
     go Equal e = e
     go Greater e = omega arith
 
--- what is before a key or below it is before a greater one
+-- What comes before the path of a key or is below it comes before the path of each greater key.
 beside : (n : ℕ) (q p : Path) (k l : Key) → key_cmp k l ≡ Less → lower n q (p ++ k ∷ []) + below n q (p ++ k ∷ []) ≤ lower n q (p ++ l ∷ [])
 beside n [] [] k l h = omega arith
 beside n (m ∷ q) [] k l h = omega (arith, below-cons n m k q [], go (key_cmp m k) refl)

@@ -11,7 +11,7 @@ use Rattle.allocative_picture.specs.Rows.{Seen, seen}
 use Rattle.allocative_picture.specs.Boxes.{box}
 use Rattle.allocative_picture.specs.Page.{level_of, levels, boxes, warning_line, warning_lines}
 
--- What some rows show, and one more.
+-- What the first i + 1 rows show is what the first i rows show, and then the next row.
 pub seen_more : (rs : List Row) (i : ℕ) (d : Row) → i < length rs → map seen (take (i + 1) rs) ≡ map seen (take i rs) ++ seen (get_or rs i d) ∷ []
 seen_more rs i d h = ap (map seen) (take_more rs i d h) ∙ map-append seen (take i rs) (get_or rs i d ∷ [])
 
@@ -19,7 +19,7 @@ fold-more : (f : ℕ → Seen → ℕ) (n : ℕ) (rs : List Seen) (r : Seen) →
 fold-more f n [] r = refl
 fold-more f n (x ∷ rs) r = fold-more f (f n x) rs r
 
--- The levels with one row more.
+-- The number of levels after one more row.
 pub levels-more : (least all : ℕ) (rs : List Row) (i : ℕ) (d : Row) (n m : ℕ) → i < length rs → n ≡ levels least all (map seen (take i rs)) → m ≡ level_of least all n (seen (get_or rs i d))
     → m ≡ levels least all (map seen (take (i + 1) rs))
 unfolding levels
@@ -31,7 +31,7 @@ pub levels-none : (least all : ℕ) → levels least all [] ≡ 0
 unfolding levels
 levels-none least all = refl
 
--- The boxes with one row more.
+-- The text of the boxes after one more row.
 pub boxes-more : (least all : ℕ) (t now then : List ℕ) (rs : List Row) (i : ℕ) (d : Row) → i < length rs → now ≡ t ++ boxes least all (map seen (take i rs)) → then ≡ now ++ box least all (seen (get_or rs i d))
     → then ≡ t ++ boxes least all (map seen (take (i + 1) rs))
 unfolding boxes
@@ -47,7 +47,7 @@ pub boxes-none : (least all : ℕ) → boxes least all [] ≡ []
 unfolding boxes
 boxes-none least all = refl
 
--- The warnings with one path more.
+-- The text of the warnings after one more path.
 lines-more : (y : ℕ) (ws : List Warned) (w : Warned) → warning_lines y (ws ++ w ∷ []) ≡ warning_lines y ws ++ warning_line (y + 16 * length ws) w
 lines-more y [] w = let e : y ≡ y + 16 * 0 = omega arith in append-nil (warning_line y w) ∙ ap (λ n. warning_line n w) e
 lines-more y (v ∷ ws) w =

@@ -1,4 +1,4 @@
--- The bytes before a path are those of the rows before its own.
+-- The bytes before a path are the own bytes of the rows before its row.
 use Rattle.std.proofs.Common.{◌≡◌, ℕ, ◌+◌, ◌≤◌, ◌&&◌, Bool, true, false, cond, List, [], ◌∷◌, ◌++◌, map, sum_by, length, refl, sym, ap, subst, ◌∙◌, append_assoc, T, arith}
 use Rattle.std.proofs.lemmas.List.Sums.{sum_by-cons, sum_by-append}
 use Rattle.std.specs.Ordering.{is_lt, ordering_reverse}
@@ -30,26 +30,26 @@ is_less Less h = refl
 is_less Equal h = absurd h
 is_less Greater h = absurd h
 
--- The bytes of some paths.
+-- The bytes of some entries together.
 abbrev pub bytes_of : Sizes → ℕ
 bytes_of es = sum_by (λ e. e.1) es
 
 before-cons : (p : Path) (e : Path × ℕ) (es : Sizes) → before_in (e ∷ es) p ≡ cond (is_lt (path_cmp e.0 p)) e.1 0 + before_in es p
 before-cons p e es = sum_by-cons (λ (x : Path × ℕ). cond (is_lt (path_cmp x.0 p)) x.1 0) e es
 
--- Nothing comes before a path that is below all.
+-- No entry comes before a path that is less than all of them.
 before-above : (p : Path) (es : Sizes) → T (below_all path_cmp p es) → before_in es p ≡ 0
 before-above p [] h = refl
 before-above p (e ∷ es) h =
     let turned : path_cmp e.0 p ≡ Greater = path_total.antisymm e.0 p ∙ ap ordering_reverse (is_less (path_cmp p e.0) (both_first (is_lt (path_cmp p e.0)) (below_all path_cmp p es) h)) in
     before-cons p e es ∙ (λ i. cond (is_lt (turned i)) e.1 0 + before-above p es (both_second (is_lt (path_cmp p e.0)) (below_all path_cmp p es) h) i)
 
--- What is below all is below one of them.
+-- A path that is less than all entries is less than each of them.
 below-at : (p : Path) (a c : Sizes) (e : Path × ℕ) → T (below_all path_cmp p (a ++ e ∷ c)) → path_cmp p e.0 ≡ Less
 below-at p [] c e h = is_less (path_cmp p e.0) (both_first (is_lt (path_cmp p e.0)) (below_all path_cmp p c) h)
 below-at p (x ∷ a) c e h = below-at p a c e (both_second (is_lt (path_cmp p x.0)) (below_all path_cmp p (a ++ e ∷ c)) h)
 
--- The bytes before a path in the middle of rising ones are those of the paths on its left.
+-- In a sorted list, the bytes before the path of an entry are those of the entries to its left.
 before-middle : (a c : Sizes) (e : Path × ℕ) → T (is_sorted path_cmp (a ++ e ∷ c)) → before_in (a ++ e ∷ c) e.0 ≡ bytes_of a
 before-middle [] c e h =
     before-cons e.0 e c ∙ (λ i. cond (is_lt (tied_itself path_total e.0 i)) e.1 0 + before-above e.0 c (both_first (below_all path_cmp e.0 c) (is_sorted path_cmp c) h) i)
@@ -58,19 +58,19 @@ before-middle (x ∷ a) c e h =
     ∙ (λ i. cond (is_lt (below-at x.0 a c e (both_first (below_all path_cmp x.0 (a ++ e ∷ c)) (is_sorted path_cmp (a ++ e ∷ c)) h) i)) x.1 0 + before-middle a c e (both_second (below_all path_cmp x.0 (a ++ e ∷ c)) (is_sorted path_cmp (a ++ e ∷ c)) h) i)
     ∙ sym (sum_by-cons (λ (y : Path × ℕ). y.1) x a)
 
--- The rows of some figures, before which some bytes come.
+-- The rows of some figures, where b bytes come before the first.
 abbrev pub rows_from : (Path → Mark) → ℕ → List Figures → List Seen
 rows_from M b [] = []
 rows_from M b (f ∷ fs) = row_from M b f ∷ rows_from M (b + f.self_size) fs
 
--- The bytes of some figures.
+-- The own bytes of some figures together.
 abbrev pub own_bytes : List Figures → ℕ
 own_bytes fs = sum_by (λ f. f.self_size) fs
 
 own-cons : (f : Figures) (fs : List Figures) → own_bytes (f ∷ fs) ≡ f.self_size + own_bytes fs
 own-cons f fs = sum_by-cons (λ (x : Figures). x.self_size) f fs
 
--- The row of one path more.
+-- The rows after one more path.
 pub rows_from-more : (M : Path → Mark) (b : ℕ) (fs : List Figures) (f : Figures) → rows_from M b (fs ++ f ∷ []) ≡ rows_from M b fs ++ row_from M (b + own_bytes fs) f ∷ []
 rows_from-more M b [] f = ap (λ n. row_from M n f ∷ []) (let e : b ≡ b + 0 = omega arith in e)
 rows_from-more M b (g ∷ fs) f =
@@ -93,7 +93,7 @@ placed M g a (x ∷ c) e =
     let rest : rows_from M (bytes_of a + x.1) (map (figure g) c) ≡ map (row_of M g) c = ap (λ n. rows_from M n (map (figure g) c)) more ∙ placed M g (a ++ x ∷ []) c next in
     λ i. record { depth = length x.0; key = (row_of M g x).key; own = x.1; whole = total_at g x.0; before = sym place i; mark = M x.0 } ∷ rest i
 
--- The rows of the figures of a graph are those of the graph.
+-- The rows made from the figures of a graph are the rows of the graph.
 pub rows_from-figures : (M : Path → Mark) (g : Graph) → rows_from M 0 (figures g) ≡ rows_of M g
 unfolding rows_of
 rows_from-figures M g = placed M g [] (entries g) refl
@@ -105,6 +105,6 @@ own-figures g (e ∷ es) = omega (arith, own-cons (figure g e) (map (figure g) e
 own-split : (fs gs : List Figures) → own_bytes fs ≤ own_bytes (fs ++ gs)
 own-split fs gs = omega (arith, sum_by-append (λ (x : Figures). x.self_size) fs gs)
 
--- Some of the figures of a graph have no more bytes than the graph.
+-- The first figures of a graph have together at most the bytes of the graph.
 pub own-within : (g : Graph) (fs gs : List Figures) → fs ++ gs ≡ figures g → own_bytes fs ≤ total g
 own-within g fs gs e = omega (arith, own-split fs gs, ap own_bytes e ∙ own-figures g (entries g))

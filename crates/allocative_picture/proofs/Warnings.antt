@@ -17,7 +17,7 @@ both Less s = refl
 both Equal s = refl
 both Greater s = refl
 
--- What `==` says of two lists of keys.
+-- What `==` returns for two lists of keys.
 abbrev pub are_equal : List (Bor (List ℕ)) → List (Bor (List ℕ)) → Bool
 are_equal = pointwise (λ x y. pointwise nat_eq x.now y.now)
 
@@ -28,7 +28,7 @@ same_keys (x ∷ xs) [] = refl
 same_keys (x ∷ xs) (y ∷ ys) =
     sym (both (key_cmp x.now y.now) (path_cmp (texts xs) (texts ys)) ∙ (λ i. is_eq-slice_cmp x.now y.now i && sym (same_keys xs ys) i))
 
--- Whether a path is one of some, as `==` of their keys says.
+-- Comparing keys by `==` finds a path among the warned paths exactly where it is one of them.
 pub any_held : (ws : List WarnedPath) (p : List (Bor (List ℕ))) → list_any (λ w. are_equal w.path.items p) ws ≡ list_any (λ w. is_same_path w.path (texts p)) (map held.seen ws)
 any_held [] p = refl
 any_held (w ∷ ws) p = λ i. same_keys w.path.items p i || any_held ws p i

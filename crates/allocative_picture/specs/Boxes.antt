@@ -1,4 +1,4 @@
--- The box of a row: where it stands, and its element.
+-- The box of a row: its place and its element.
 use Rattle.std.specs.Prelude.{ℕ, ◌+◌, ◌-◌, ◌*◌, ◌/◌, ◌%◌, ◌==◌, ◌&&◌, Bool, not, cond, nat_lt, length, List, [], ◌++◌, codes, decimal}
 use Rattle.std.specs.Str.{bytes_eq}
 use Rattle.allocative_graph.specs.Path.{Key}
@@ -9,8 +9,9 @@ use Rattle.allocative_picture.specs.Rows.{Seen}
 use Rattle.allocative_picture.specs.declared.row.Mark.{Mark}
 use Rattle.allocative_picture.specs.declared.row.Mark.TheVariants.{Plain, Warned, Changed}
 
--- ---- where a box stands
--- Where some bytes of all stand on a line of a million units, rounded down; 0 where there are no bytes.
+-- ---- where a box is placed
+-- The place of a number of bytes on a line of a million units that stands for all bytes, rounded down. It is 0 where
+-- all is 0.
 abbrev pub edge : ℕ → ℕ → ℕ
 edge all bytes = bytes * 1000000 / all
 
@@ -30,19 +31,24 @@ width all r = right all r - left all r
 abbrev pub upper : Seen → ℕ
 upper r = 54 + 18 * r.depth
 
--- Whether a row has a box: one of some width, and of no fewer units than the least.
+-- Whether a row has a box: its width is neither 0 nor less than the least width.
 abbrev pub is_drawn : ℕ → ℕ → Seen → Bool
 is_drawn least all r = not (width all r == 0) && not (nat_lt (width all r) least)
 
 -- ---- classes
--- Whether a path grew, shrank or stayed as it was, and by more than half of its bytes before and after.
+-- The class of a change: `same`, `full` where the difference is more than half of the bytes before and after together,
+-- and otherwise `moved`.
 unfoldable pub change_class : ℕ → ℕ → List ℕ
-change_class was is = cond (was == is) (codes "same") (cond (nat_lt (was + is) (2 * (is - was + (was - is)))) (codes "full") (codes "moved"))
+change_class was is =
+    cond (was == is) (codes "same")
+    (cond (nat_lt (was + is) (2 * (is - was + (was - is)))) (codes "full") (codes "moved"))
 
--- The class of a path by its key: one of twelve, so that one key has one colour in all pictures.
+-- The class of a path by its depth and its last key: `root`, `spare`, or one of twelve by the hash of the key. So a key
+-- has the same colour in all pictures.
 unfoldable pub key_class : ℕ → Key → List ℕ
 key_class depth k =
-    cond (depth == 0) (codes "root") (cond (bytes_eq k (codes "unused_capacity")) (codes "spare") (codes "k" ++ decimal (fnv k % 12)))
+    cond (depth == 0) (codes "root")
+    (cond (bytes_eq k (codes "unused_capacity")) (codes "spare") (codes "k" ++ decimal (fnv k % 12)))
 
 -- The class of a row's box, by its mark.
 abbrev pub class_by : Mark → Seen → List ℕ
@@ -54,28 +60,33 @@ class_by (Changed was) r = change_class was (r.whole - was)
 unfoldable pub class_text : Seen → List ℕ
 class_text r = class_by r.mark r
 
--- The classes that hide a text: all of it below 24 pixels of a window that is 1000 pixels wide, and the figure where it may not fit beside a key of so many bytes.
+-- The classes that hide texts, in a window of 1000 pixels: both texts in a box below 24 pixels, and otherwise the
+-- figure where it may not fit beside a key of so many bytes.
 unfoldable pub fit_text : ℕ → ℕ → List ℕ
 fit_text units bytes =
     cond (nat_lt units 24000) (codes " thin brief") (cond (nat_lt units (1000 * (8 * bytes + 120))) (codes " brief") [])
 
 -- ---- colours of a change
--- A part of a colour that is as full as the change is of all, and light grey where nothing changed.
+-- One component of a colour. It is 236 where nothing changed, and reaches `full` where `change` is `all`.
 abbrev pub shade : ℕ → ℕ → ℕ → ℕ
 shade full change all = 236 - (236 - full) * change / all
 
--- The parts of such a colour.
+-- The three components of the colour of a change, with commas between them.
 abbrev pub colour_text : ℕ → ℕ → ℕ → ℕ → ℕ → List ℕ
 colour_text red green blue change all =
-    decimal (shade red change all) ++ codes "," ++ decimal (shade green change all) ++ codes "," ++ decimal (shade blue change all)
+    decimal (shade red change all) ++ codes "," ++ decimal (shade green change all) ++ codes ","
+    ++ decimal (shade blue change all)
 
--- The paint of a change: red where bytes grew, blue where they shrank, as full as the difference is of the sum.
+-- The paint of a change: red where bytes grew, blue where they shrank, and the fuller the greater the difference is
+-- relative to the sum. There is none where nothing changed.
 unfoldable pub change_paint : ℕ → ℕ → List ℕ
 change_paint was is =
-    cond (was == is) [] (cond (nat_lt was is) (codes " style=\"fill:rgb(" ++ colour_text 214 40 40 (is - was) (was + is) ++ codes ")\"")
+    cond (was == is) []
+    (cond (nat_lt was is)
+    (codes " style=\"fill:rgb(" ++ colour_text 214 40 40 (is - was) (was + is) ++ codes ")\"")
     (codes " style=\"fill:rgb(" ++ colour_text 29 95 191 (was - is) (was + is) ++ codes ")\""))
 
--- The paint of a row's box, by its mark; nothing where its class has a colour.
+-- The paint of a row's box, by its mark. There is none where the class gives the colour.
 abbrev pub paint_by : Mark → Seen → List ℕ
 paint_by Plain r = []
 paint_by Warned r = []
@@ -86,46 +97,52 @@ unfoldable pub paint_text : Seen → List ℕ
 paint_text r = paint_by r.mark r
 
 -- ---- figures
--- By how much bytes changed, with a sign.
+-- The difference between two numbers of bytes, with a sign.
 unfoldable pub change_text : ℕ → ℕ → List ℕ
-change_text was is = cond (was == is) (codes "unchanged") (cond (nat_lt was is) (codes "+" ++ size_text (is - was)) (codes "-" ++ size_text (was - is)))
+change_text was is =
+    cond (was == is) (codes "unchanged")
+    (cond (nat_lt was is) (codes "+" ++ size_text (is - was)) (codes "-" ++ size_text (was - is)))
 
--- The figure behind the key in a row's box, by its mark.
+-- The figure after the key in a row's box, by its mark.
 abbrev pub figure_by : Mark → Seen → List ℕ
 figure_by Plain r = size_text r.whole
 figure_by Warned r = size_text r.whole
 figure_by (Changed was) r = change_text was (r.whole - was)
 
--- The figure behind the key in a row's box.
+-- The figure after the key in a row's box.
 unfoldable pub figure_text : Seen → List ℕ
 figure_text r = figure_by r.mark r
 
--- The bytes of a path with all below it, their share of all, and its own bytes where they differ.
+-- The bytes of a path and all below it, their share of all, and the path's own bytes where they differ from these.
 unfoldable pub declared_text : ℕ → Seen → List ℕ
-declared_text all r = cond (r.own == r.whole) (part_text r.whole all) (part_text r.whole all ++ codes "\n" ++ bytes_text r.own ++ codes " of its own")
+declared_text all r =
+    cond (r.own == r.whole) (part_text r.whole all)
+    (part_text r.whole all ++ codes "\n" ++ bytes_text r.own ++ codes " of its own")
 
 -- The bytes of a path in the earlier profile and in the later one, and their difference.
 unfoldable pub both_text : ℕ → ℕ → List ℕ
 both_text was is =
-    (size_text was ++ codes " before, " ++ size_text is ++ codes " after") ++ (codes " (" ++ decimal was ++ codes " and " ++ decimal is ++ codes " bytes)\n" ++ change_text was is)
+    (size_text was ++ codes " before, " ++ size_text is ++ codes " after")
+    ++ (codes " (" ++ decimal was ++ codes " and " ++ decimal is ++ codes " bytes)\n" ++ change_text was is)
 
--- What the title of a row's box says behind the key, by its mark.
+-- The title of a row's box after the key, by its mark.
 abbrev pub title_by : ℕ → Mark → Seen → List ℕ
 title_by all Plain r = declared_text all r
 title_by all Warned r = declared_text all r ++ codes "\ndeclared smaller than its parts: see the warnings"
 title_by all (Changed was) r = both_text was (r.whole - was)
 
--- What the title of a row's box says behind the key.
+-- The title of a row's box after the key.
 unfoldable pub title_text : ℕ → Seen → List ℕ
 title_text all r = title_by all r.mark r
 
 -- ---- elements
--- How a box begins: a viewport that cuts its text, from its classes, its left and upper edges and its width.
+-- The beginning of a box: a viewport that clips its text, from its classes, its left and upper edges and its width.
 unfoldable pub frame : List ℕ → List ℕ → List ℕ → ℕ → List ℕ → List ℕ
 frame class fit x y w =
-    codes "<svg class=\"b " ++ class ++ fit ++ codes "\" x=\"" ++ x ++ codes "\" y=\"" ++ decimal y ++ codes "\" width=\"" ++ w ++ codes "\" height=\"18\">"
+    codes "<svg class=\"b " ++ class ++ fit ++ codes "\" x=\"" ++ x ++ codes "\" y=\"" ++ decimal y
+    ++ codes "\" width=\"" ++ w ++ codes "\" height=\"18\">"
 
--- The title: the key as markup, and what is said behind it.
+-- The title element: the key as markup, and the text after it.
 unfoldable pub title : List ℕ → List ℕ → List ℕ
 title key said = codes "<title>" ++ key ++ codes "\n" ++ said ++ codes "</title>"
 
@@ -133,16 +150,19 @@ title key said = codes "<title>" ++ key ++ codes "\n" ++ said ++ codes "</title>
 unfoldable pub face : List ℕ → List ℕ
 face paint = codes "<rect width=\"100%\" height=\"100%\" rx=\"2\"" ++ paint ++ codes "/>"
 
--- The key as markup and the figure as text, and the end of the box.
+-- The label, which is the key as markup and the figure, and the end of the box.
 unfoldable pub label : List ℕ → List ℕ → List ℕ
-label key figure = codes "<text x=\"4\" y=\"13\">" ++ key ++ codes "<tspan class=\"n\" dx=\"8\">" ++ figure ++ codes "</tspan></text></svg>\n"
+label key figure =
+    codes "<text x=\"4\" y=\"13\">" ++ key ++ codes "<tspan class=\"n\" dx=\"8\">" ++ figure
+    ++ codes "</tspan></text></svg>\n"
 
 -- The element of a row's box.
 unfoldable pub element : ℕ → Seen → List ℕ
 element all r =
-    frame (class_text r) (fit_text (width all r) (length r.key)) (place_text (left all r)) (upper r) (place_text (width all r))
+    frame (class_text r) (fit_text (width all r) (length r.key)) (place_text (left all r)) (upper r)
+    (place_text (width all r))
     ++ title (escaped r.key) (title_text all r) ++ face (paint_text r) ++ label (escaped r.key) (figure_text r)
 
--- The box of a row, and nothing where it has none.
+-- The box of a row, or no text where it has none.
 abbrev pub box : ℕ → ℕ → Seen → List ℕ
 box least all r = cond (is_drawn least all r) (element all r) []

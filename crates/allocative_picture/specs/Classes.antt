@@ -15,7 +15,7 @@ class_name Same = codes "same"
 class_name Full = codes "full"
 class_name Moved = codes "moved"
 
--- The classes that hide what does not fit.
+-- The classes that hide the texts that do not fit.
 abbrev pub fit_name : Fit → List ℕ
 fit_name fit.Both = []
 fit_name fit.Key = codes " brief"

@@ -1,27 +1,37 @@
 -- Figures as texts: bytes in binary units, shares and places in percent.
 use Rattle.std.specs.Prelude.{ℕ, ◌*◌, ◌/◌, ◌%◌, cond, nat_lt, List, ◌++◌, codes, decimal}
 
--- The greatest binary unit that n bytes reach, in bytes.
+-- The greatest binary unit, in bytes, that n bytes reach.
 abbrev pub unit_bytes : ℕ → ℕ
 unit_bytes n =
-    cond (nat_lt n 0x400) 1 (cond (nat_lt n 0x100000) 0x400 (cond (nat_lt n 0x40000000) 0x100000 (cond (nat_lt n 0x10000000000) 0x40000000
-    (cond (nat_lt n 0x4000000000000) 0x10000000000 (cond (nat_lt n 0x1000000000000000) 0x4000000000000 0x1000000000000000)))))
+    cond (nat_lt n 0x400) 1
+    (cond (nat_lt n 0x100000) 0x400
+    (cond (nat_lt n 0x40000000) 0x100000
+    (cond (nat_lt n 0x10000000000) 0x40000000
+    (cond (nat_lt n 0x4000000000000) 0x10000000000
+    (cond (nat_lt n 0x1000000000000000) 0x4000000000000 0x1000000000000000)))))
 
--- The name of that unit.
+-- The name of the greatest binary unit that n bytes reach.
 abbrev pub unit_name : ℕ → List ℕ
 unit_name n =
-    cond (nat_lt n 0x400) (codes "B") (cond (nat_lt n 0x100000) (codes "KiB") (cond (nat_lt n 0x40000000) (codes "MiB") (cond (nat_lt n 0x10000000000) (codes "GiB")
-    (cond (nat_lt n 0x4000000000000) (codes "TiB") (cond (nat_lt n 0x1000000000000000) (codes "PiB") (codes "EiB"))))))
+    cond (nat_lt n 0x400) (codes "B")
+    (cond (nat_lt n 0x100000) (codes "KiB")
+    (cond (nat_lt n 0x40000000) (codes "MiB")
+    (cond (nat_lt n 0x10000000000) (codes "GiB")
+    (cond (nat_lt n 0x4000000000000) (codes "TiB")
+    (cond (nat_lt n 0x1000000000000000) (codes "PiB") (codes "EiB"))))))
 
--- The whole units of n bytes, and below 1 KiB nothing, else a point and the tenths, rounded down.
+-- The number of units in n bytes: a whole number below 1 KiB, and otherwise with one decimal, rounded down.
 abbrev pub units_text : ℕ → List ℕ
-units_text n = cond (nat_lt n 0x400) (decimal n) (decimal (n / unit_bytes n) ++ codes "." ++ decimal (n % unit_bytes n * 10 / unit_bytes n))
+units_text n =
+    cond (nat_lt n 0x400) (decimal n)
+    (decimal (n / unit_bytes n) ++ codes "." ++ decimal (n % unit_bytes n * 10 / unit_bytes n))
 
--- Bytes in their greatest unit, as `1.5 KiB`.
+-- Bytes in their greatest binary unit, for example `1.5 KiB`.
 unfoldable pub size_text : ℕ → List ℕ
 size_text n = units_text n ++ codes " " ++ unit_name n
 
--- Bytes in their greatest unit and in full, as `1.5 KiB (1536 bytes)`.
+-- Bytes in their greatest binary unit and in full, for example `1.5 KiB (1536 bytes)`.
 unfoldable pub bytes_text : ℕ → List ℕ
 bytes_text n = size_text n ++ codes " (" ++ decimal n ++ codes " bytes)"
 
@@ -29,15 +39,18 @@ bytes_text n = size_text n ++ codes " (" ++ decimal n ++ codes " bytes)"
 abbrev pub hundredths : ℕ → ℕ → ℕ
 hundredths part all = part * 10000 / all
 
--- A share in percent with two digits, as `12.34%`.
+-- A share in percent with two decimals, for example `12.34%`.
 unfoldable pub share_text : ℕ → ℕ → List ℕ
 share_text part all =
-    decimal (hundredths part all / 100) ++ codes "." ++ decimal (hundredths part all / 10 % 10) ++ decimal (hundredths part all % 10) ++ codes "%"
+    decimal (hundredths part all / 100) ++ codes "." ++ decimal (hundredths part all / 10 % 10)
+    ++ decimal (hundredths part all % 10) ++ codes "%"
 
--- A part of all in bytes, and its share, as `1.5 KiB (1536 bytes), 12.34% of all`.
+-- A part of all in bytes, and its share, for example `1.5 KiB (1536 bytes), 12.34% of all`.
 unfoldable pub part_text : ℕ → ℕ → List ℕ
 part_text part all = bytes_text part ++ codes ", " ++ share_text part all ++ codes " of all"
 
--- Units of a millionth of the width, as `12.3456%`.
+-- Millionths of the width in percent with four decimals, for example `12.3456%`.
 unfoldable pub place_text : ℕ → List ℕ
-place_text u = decimal (u / 10000) ++ codes "." ++ decimal (u / 1000 % 10) ++ decimal (u / 100 % 10) ++ decimal (u / 10 % 10) ++ decimal (u % 10) ++ codes "%"
+place_text u =
+    decimal (u / 10000) ++ codes "." ++ decimal (u / 1000 % 10) ++ decimal (u / 100 % 10) ++ decimal (u / 10 % 10)
+    ++ decimal (u % 10) ++ codes "%"

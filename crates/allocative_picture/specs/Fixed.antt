@@ -1,19 +1,19 @@
--- The texts that all pictures share, as the code has them.
+-- The texts that all pictures share, taken from the constants of the code.
 use Rattle.std.specs.Prelude.{ℕ, List}
 use Rattle.allocative_picture.specs.declared.fixed.TheConstants.{STYLE, TOOLS, LEGEND, CLOSING}
 
--- The style, the pattern of unused capacity, and the paper below all.
+-- The style sheet, the pattern for unused capacity, and the background.
 unfoldable pub style : List ℕ
 style = STYLE.now
 
--- The words that the script makes work.
+-- The labels that the script makes clickable.
 unfoldable pub tools : List ℕ
 tools = TOOLS.now
 
--- What the colours of a change say.
+-- The legend of the colours of a change.
 unfoldable pub legend : List ℕ
 legend = LEGEND.now
 
--- The script and the end.
+-- The script and the end of the document.
 unfoldable pub closing : List ℕ
 closing = CLOSING.now

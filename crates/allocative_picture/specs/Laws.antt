@@ -13,16 +13,17 @@ use Rattle.allocative_picture.specs.Page.{boxes}
 abbrev pub row_at : (Path → Mark) → Graph → Path → Seen
 row_at M g p = row_of M g (p, size_at g p)
 
--- The second box stands within the first, from left to right.
+-- The second box lies within the first, from left to right.
 pub record IsInside (all : ℕ) (outer inner : Seen) : Type 0 where
   pub starts : left all outer ≤ left all inner
   pub ends : right all inner ≤ right all outer
 
--- The box of each path stands within that of the path without its last key.
+-- The box of each path lies within the box of its parent, the path without its last key.
 abbrev pub InsideLaw : Type 0
-InsideLaw = (M : Path → Mark) (g : Graph) (p : Path) (k : Key) → IsInside (total g) (row_at M g p) (row_at M g (p ++ k ∷ []))
+InsideLaw =
+    (M : Path → Mark) (g : Graph) (p : Path) (k : Key) → IsInside (total g) (row_at M g p) (row_at M g (p ++ k ∷ []))
 
--- Of two boxes below one path that of the lower key ends where that of the greater one begins, or before.
+-- Of two boxes with one parent, the box of the lesser key ends at or before the beginning of the other.
 abbrev pub ApartLaw : Type 0
 ApartLaw = (M : Path → Mark) (g : Graph) (p : Path) (k l : Key) → key_cmp k l ≡ Less
     → right (total g) (row_at M g (p ++ k ∷ [])) ≤ left (total g) (row_at M g (p ++ l ∷ []))
@@ -32,22 +33,24 @@ pub record IsShare (all : ℕ) (r : Seen) : Type 0 where
   pub not_wider : width all r * all < r.whole * 1000000 + all
   pub not_narrower : r.whole * 1000000 < width all r * all + all
 
--- Each box is as wide as its bytes' share of all, to less than a unit.
+-- The width of each box is its share of all bytes, to less than one unit.
 abbrev pub ShareLaw : Type 0
 ShareLaw = (all : ℕ) (r : Seen) → 0 < all → IsShare all r
 
--- No box passes the picture's right edge.
+-- No box extends past the right edge of the picture.
 abbrev pub WithinLaw : Type 0
 WithinLaw = (M : Path → Mark) (g : Graph) (p : Path) → 0 < total g → right (total g) (row_at M g p) ≤ 1000000
 
--- The boxes are the elements of the rows that are wide enough, each once and in the order of paths.
+-- The boxes are the elements of the rows that are wide enough, each once and in the order of the rows.
 abbrev pub BoxesLaw : Type 0
-BoxesLaw = (least all : ℕ) (rs : List Seen) → boxes least all rs ≡ flat_map (element all) (filter (is_drawn least all) rs)
+BoxesLaw =
+    (least all : ℕ) (rs : List Seen) → boxes least all rs ≡ flat_map (element all) (filter (is_drawn least all) rs)
 
--- Each path of a graph stands once among those whose rows are drawn from.
+-- Each path of a graph occurs once among the graph's entries, from which the rows are made.
 abbrev pub OnceLaw : Type 0
 OnceLaw = (g : Graph) (p : Path) → contains_key g p ≡ true → count_by (λ e. is_same_path p e.0) (entries g) ≡ 1
 
--- A path of the sum of two graphs has, with all below it, the bytes that it has in both: so the box of a change is as wide as its bytes before and after together.
+-- The bytes of a path and all below it in the sum of two graphs are those in the two graphs together. So the box of a
+-- change is as wide as its bytes before and after together.
 abbrev pub ChangeLaw : Type 0
 ChangeLaw = (g h : Graph) (p : Path) → total_at (sum_of g h) p ≡ total_at g p + total_at h p

@@ -1,4 +1,4 @@
--- Pictures: the text of an SVG document.
+-- Pictures as the text of an SVG document.
 use Rattle.std.specs.Prelude.{ℕ, ◌+◌, ◌-◌, ◌*◌, List, ◌++◌, length, map, count_by}
 use Rattle.allocative_graph.specs.Graph.{Graph, total, sum_of}
 use Rattle.allocative_collectors.specs.Warned as held
@@ -10,7 +10,7 @@ use Rattle.allocative_picture.specs.declared.options.Options.{Options}
 use Rattle.allocative_picture.specs.declared.page.Subject.{Subject}
 use Rattle.allocative_picture.specs.declared.page.Subject.TheVariants.{Profile, Change}
 
--- Where the boxes end, in pixels.
+-- A height in pixels: ten pixels below the lowest box.
 abbrev pub bottom : Subject → Options → List Seen → ℕ
 bottom s o rs = 64 + 18 * levels o.narrowest (all_of s) rs
 
@@ -18,16 +18,18 @@ bottom s o rs = 64 + 18 * levels o.narrowest (all_of s) rs
 abbrev pub drawn_of : Subject → Options → List Seen → ℕ
 drawn_of s o rs = count_by (is_drawn o.narrowest (all_of s)) rs
 
--- The picture of some rows: how it begins, the style, the title, the totals, what the script makes work, the boxes, the warnings and the end.
+-- The picture of some rows: its beginning, the style, the title, the totals, the labels that the script makes
+-- clickable, the boxes, the warnings and the end.
 unfoldable pub drawing : Subject → Options → List Seen → List ℕ
 drawing s o rs =
-    opening (bottom s o rs + 8 + 16 * length o.warned.now) ++ style ++ heading o.title.now ++ summary s (drawn_of s o rs) (length rs - drawn_of s o rs) ++ tools_of s
+    opening (bottom s o rs + 8 + 16 * length o.warned.now) ++ style ++ heading o.title.now
+    ++ summary s (drawn_of s o rs) (length rs - drawn_of s o rs) ++ tools_of s
     ++ boxes o.narrowest (all_of s) rs ++ warning_lines (bottom s o rs + 14) (map held.seen o.warned.now) ++ closing
 
--- The picture of a flame graph: that of its rows, marked by the paths that have a warning.
+-- The picture of a flame graph is drawn from its rows, and marks the paths that have a warning.
 abbrev pub profile_drawing : Options → Graph → List ℕ
 profile_drawing o g = drawing (Profile (total g)) o (rows_of (warned_mark (map held.seen o.warned.now)) g)
 
--- The picture of the change from g to h: that of the rows of their sum, marked by what they were in g.
+-- The picture of the change from g to h is drawn from the rows of their sum, each marked with its bytes in g.
 abbrev pub change_drawing : Options → Graph → Graph → List ℕ
 change_drawing o g h = drawing (Change (total g) (total h)) o (rows_of (changed_mark g) (sum_of g h))

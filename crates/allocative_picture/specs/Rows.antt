@@ -11,7 +11,7 @@ use Rattle.allocative_picture.specs.declared.row.Mark.{Mark}
 use Rattle.allocative_picture.specs.declared.row.Mark.TheVariants.{Plain, Changed}
 use Rattle.allocative_picture.specs.declared.row.Mark.TheVariants as mark
 
--- A row, with the text of its key.
+-- A row whose key is a text, not a borrow.
 pub record Seen : Type 0 where
   pub depth : ℕ
   pub key : Key
@@ -20,21 +20,21 @@ pub record Seen : Type 0 where
   pub before : ℕ
   pub mark : Mark
 
--- What a row of code shows.
+-- What a `Row` of the code shows.
 abbrev pub seen : Row → Seen
 seen r = record { depth = r.depth; key = r.key.now; own = r.own; whole = r.whole; before = r.before; mark = r.mark }
 
--- The key that is shown of a path: its last one, and `all` for the root.
+-- The key that a picture shows for a path: the last one, and `all` for the root.
 abbrev pub shown_key : Path → Key
 shown_key [] = codes "all"
 shown_key (k ∷ []) = k
 shown_key (k ∷ l ∷ p) = shown_key (l ∷ p)
 
--- The bytes of all paths of some rows that come before p.
+-- The bytes of all entries whose path comes before p.
 abbrev pub before_in : List (Path × ℕ) → Path → ℕ
 before_in rs p = sum_by (λ e. cond (is_lt (path_cmp e.0 p)) e.1 0) rs
 
--- What the row of a path of g with its size shows, where M gives the marks of paths.
+-- The row of an entry of g, where M gives the mark of each path.
 abbrev pub row_of : (Path → Mark) → Graph → Path × ℕ → Seen
 row_of M g e = record { depth = length e.0; key = shown_key e.0; own = e.1; whole = total_at g e.0; before = before_in (entries g) e.0; mark = M e.0 }
 
@@ -42,7 +42,7 @@ row_of M g e = record { depth = length e.0; key = shown_key e.0; own = e.1; whol
 unfoldable pub rows_of : (Path → Mark) → Graph → List Seen
 rows_of M g = map (row_of M g) (entries g)
 
--- The row of a path with its figures, before which some bytes come.
+-- The row of a path with its figures, where `before` bytes come before it.
 abbrev pub row_from : (Path → Mark) → ℕ → Figures → Seen
 row_from M before f = record { depth = length f.path; key = shown_key f.path; own = f.self_size; whole = f.total_size; before = before; mark = M f.path }
 
@@ -50,10 +50,10 @@ row_from M before f = record { depth = length f.path; key = shown_key f.path; ow
 unfoldable pub is_warned : List Warned → Path → Bool
 is_warned ws p = list_any (λ w. is_same_path w.path p) ws
 
--- The mark of a path of a profile whose paths ws have a warning.
+-- The mark of a path in a profile where the paths ws have a warning.
 abbrev pub warned_mark : List Warned → Path → Mark
 warned_mark ws p = cond (is_warned ws p) mark.Warned Plain
 
--- The mark of a path of a sum of two profiles, of which g is the earlier one.
+-- The mark of a path in the sum of two profiles, of which g is the earlier one.
 abbrev pub changed_mark : Graph → Path → Mark
 changed_mark g p = Changed (total_at g p)

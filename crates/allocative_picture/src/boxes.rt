@@ -12,7 +12,7 @@ use crate::row::{Mark, Row};
 use std::alloc::{AllocError, Global};
 use std::fmt;
 
-// Where some bytes of all stand on a line of a million units, rounded down.
+/// The place of a number of bytes on a line of a million units that stands for all bytes, rounded down.
 fn edge(all: u128, bytes: u128) -> u128
     requires { bytes < 2 ^ 65 }
     ensures { result ≡ edge all bytes }
@@ -23,14 +23,14 @@ fn edge(all: u128, bytes: u128) -> u128
     bytes * 1_000_000 / all
 }
 
-// The left edge of a row's box.
+/// The left edge of a row's box.
 fn left(all: u128, row: &Row<'_>) -> u128
     ensures { result ≡ left all (seen row.now) }
 {
     edge(all, row.before as u128)
 }
 
-// The width of a row's box.
+/// The width of a row's box.
 fn width(all: u128, row: &Row<'_>) -> u128
     ensures { result ≡ width all (seen row.now) }
 {
@@ -38,7 +38,7 @@ fn width(all: u128, row: &Row<'_>) -> u128
     right.saturating_sub(left(all, row))
 }
 
-/// Whether a row has a box: one of some width, and of no fewer units than the least.
+/// Whether a row has a box: its width is neither 0 nor less than the least width.
 pub(crate) fn is_drawn(least: u32, all: u128, row: &Row<'_>) -> bool
     ensures { result ≡ is_drawn least all (seen row.now) }
 {
@@ -46,7 +46,7 @@ pub(crate) fn is_drawn(least: u32, all: u128, row: &Row<'_>) -> bool
     width != 0 && width >= least as u128
 }
 
-// The bytes of a row and their share of all, printed as what a title says of them.
+/// A row and the bytes of all rows, printed as the row's bytes and their share of all.
 #[derive(Clone, Copy)]
 struct Declared<'a> {
     all: u128,
@@ -68,7 +68,7 @@ impl fmt::Display for Declared<'_> {
     }
 }
 
-// A row, printed as its title behind the key.
+/// A row, printed as the title of its box after the key.
 #[derive(Clone, Copy)]
 struct Title<'a>(Declared<'a>);
 
@@ -93,7 +93,7 @@ impl fmt::Display for Title<'_> {
     }
 }
 
-// A row, printed as the figure behind its key.
+/// A row, printed as the figure after its key.
 #[derive(Clone, Copy)]
 struct Figure<'a>(Row<'a>);
 
@@ -113,7 +113,7 @@ impl fmt::Display for Figure<'_> {
     }
 }
 
-// A row, printed as the paint of its box.
+/// A row, printed as the paint of its box.
 #[derive(Clone, Copy)]
 struct Fill<'a>(Row<'a>);
 
@@ -132,9 +132,11 @@ impl fmt::Display for Fill<'_> {
     }
 }
 
-// Appends the beginning of a row's box, which has some units.
+/// Appends the beginning of a row's box.
 fn push_frame(all: u128, row: &Row<'_>, text: &mut String) -> Result<(), AllocError>
-    ensures { OnOk result (string_bytes text.new ≡ string_bytes text.old ++ frame (class_text (seen row.now)) (fit_text (width all (seen row.now)) (length row.now.key.now)) (place_text (left all (seen row.now))) (upper (seen row.now)) (place_text (width all (seen row.now)))) }
+    ensures { OnOk result (string_bytes text.new ≡ string_bytes text.old
+        ++ frame (class_text (seen row.now)) (fit_text (width all (seen row.now)) (length row.now.key.now))
+        (place_text (left all (seen row.now))) (upper (seen row.now)) (place_text (width all (seen row.now)))) }
 {
     let units = width(all, row);
     let (class, fit) = (Class::of(row), Fit::of(units, row.key.len()));
@@ -150,16 +152,17 @@ fn push_frame(all: u128, row: &Row<'_>, text: &mut String) -> Result<(), AllocEr
     Ok(())
 }
 
-// Appends the title of a row's box; its key is given as markup.
+/// Appends the title of a row's box. The key is given as markup.
 fn push_title(all: u128, row: &Row<'_>, key: &str, text: &mut String) -> Result<(), AllocError>
-    ensures { OnOk result (string_bytes text.new ≡ string_bytes text.old ++ title key.now (title_text all (seen row.now))) }
+    ensures { OnOk result (string_bytes text.new ≡ string_bytes text.old
+        ++ title key.now (title_text all (seen row.now))) }
 {
     let said = Title(Declared { all, row: *row });
     write!(text, "<title>{key}\n{said}</title>")?;
     Ok(())
 }
 
-// Appends the rectangle of a row's box.
+/// Appends the rectangle of a row's box.
 fn push_face(row: &Row<'_>, text: &mut String) -> Result<(), AllocError>
     ensures { OnOk result (string_bytes text.new ≡ string_bytes text.old ++ face (paint_text (seen row.now))) }
 {
@@ -171,9 +174,10 @@ fn push_face(row: &Row<'_>, text: &mut String) -> Result<(), AllocError>
     Ok(())
 }
 
-// Appends the text of a row's box and the end of the box; its key is given as markup.
+/// Appends the label of a row's box and the end of the box. The key is given as markup.
 fn push_label(row: &Row<'_>, key: &str, text: &mut String) -> Result<(), AllocError>
-    ensures { OnOk result (string_bytes text.new ≡ string_bytes text.old ++ label key.now (figure_text (seen row.now))) }
+    ensures { OnOk result (string_bytes text.new ≡ string_bytes text.old
+        ++ label key.now (figure_text (seen row.now))) }
 {
     let figure = Figure(*row);
     write!(
@@ -183,7 +187,7 @@ fn push_label(row: &Row<'_>, key: &str, text: &mut String) -> Result<(), AllocEr
     Ok(())
 }
 
-// Appends the element of a row's box.
+/// Appends the element of a row's box.
 fn push_element(
     alloc: Global,
     all: u128,
@@ -200,7 +204,7 @@ fn push_element(
     Ok(())
 }
 
-/// Appends the box of a row, where it has one. It answers an error only for want of memory.
+/// Appends the box of a row, where it has one. The only error is that memory runs out.
 pub(crate) fn push_box(
     alloc: Global,
     least: u32,

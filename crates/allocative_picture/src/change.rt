@@ -5,23 +5,24 @@ ghost use Rattle.allocative_picture.specs.Boxes.{shade, change_paint, change_tex
 use crate::figures::Size;
 use std::fmt;
 
-/// The bytes of a path in an earlier profile and in a later one, printed as their difference with a sign, as `+1.5 KiB`,
-/// or as `unchanged`.
+/// The bytes of a path in an earlier profile and in a later one. They are printed as their difference with a sign, for
+/// example `+1.5 KiB`, or as `unchanged`.
 #[derive(Clone, Copy)]
 pub(crate) struct Change {
     pub was: usize,
     pub is: usize,
 }
 
-/// A change, printed as what a title says of it.
+/// A change, printed as the title of its box says it.
 #[derive(Clone, Copy)]
 pub(crate) struct Comparison(pub Change);
 
-/// A change, printed as the paint of a box: red where bytes grew, blue where they shrank, and nothing where they are equal.
+/// A change, printed as the paint of its box: red where bytes grew, blue where they shrank, and none where they are
+/// equal.
 #[derive(Clone, Copy)]
 pub(crate) struct Paint(pub Change);
 
-// A part of a colour that is as full as the change is of all.
+/// One component of a colour. It is 236 where nothing changed, and reaches `full` where `change` is `all`.
 fn shade(full: u128, change: usize, all: u128) -> u128
     requires full { full ≤ 236 }
     requires some { 0 < all }

@@ -14,17 +14,17 @@ use std::fmt;
 pub(crate) enum Class {
     /// The root of a profile.
     Root,
-    /// Bytes that are held and not used.
+    /// Unused capacity.
     Spare,
-    /// One of the twelve classes of keys.
+    /// One of the twelve classes of other keys.
     Key(u64),
     /// A path that has a warning.
     Warned,
-    /// A path that stayed as it was.
+    /// A path whose bytes did not change.
     Same,
-    /// A path of which more than half changed.
+    /// A path whose bytes changed by more than half of those before and after together.
     Full,
-    /// A path of which less changed.
+    /// A path whose bytes changed by at most half of those before and after together.
     Moved,
 }
 
@@ -44,7 +44,7 @@ impl Class {
         }
     }
 
-    // The class of a path by its key.
+    /// The class of a path by its depth and its key.
     fn of_key(depth: usize, key: &str) -> Class
         ensures { class_name result ≡ key_class depth key.now }
     {
@@ -57,7 +57,7 @@ impl Class {
         }
     }
 
-    // The class of a path by how its bytes changed.
+    /// The class of a path by how its bytes changed.
     fn of_change(change: Change) -> Class
         ensures { class_name result ≡ change_class change.was change.is }
     {
@@ -90,20 +90,20 @@ impl fmt::Display for Class {
     }
 }
 
-/// Which texts of a box may not fit into it, printed as classes.
+/// Which texts a box shows, printed as the classes that hide the others.
 #[derive(Clone, Copy)]
 pub(crate) enum Fit {
-    /// Key and figure fit.
+    /// The key and the figure.
     Both,
-    /// The key stands alone, and may be cut.
+    /// The key alone, which may be clipped.
     Key,
-    /// There is no room for a text.
+    /// No text.
     Neither,
 }
 
 #[tactic(auto, unfolding(crate::specs::Boxes::fit_text))]
 impl Fit {
-    /// What fits into a box of some units in a window of 1000 pixels, beside a key of some bytes.
+    /// What fits into a box that is so many millionths wide, in a window of 1000 pixels, with a key of so many bytes.
     pub(crate) fn of(units: u128, bytes: usize) -> Fit
         ensures { fit_name result ≡ fit_text units bytes }
     {

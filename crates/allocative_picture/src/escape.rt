@@ -4,7 +4,8 @@ ghost use Rattle.allocative_picture.specs.Escape.{escaped_char, escaped};
 
 use std::alloc::{AllocError, Global};
 
-/// A text as markup: none of its characters is read as anything but text. It answers an error only for want of memory.
+/// The markup of a text. A reader of the markup finds the text, with U+FFFD in place of each ASCII control, U+FFFE and
+/// U+FFFF. The only error is that memory runs out.
 pub fn escaped(alloc: Global, text: &str) -> Result<String, AllocError>
     ensures { IfOk result (λ made. string_bytes made ≡ escaped text.now) }
 {
@@ -15,7 +16,7 @@ pub fn escaped(alloc: Global, text: &str) -> Result<String, AllocError>
     Ok(made)
 }
 
-// Appends what stands for a character.
+/// Appends the markup of a character.
 fn push_escaped_char(c: char, text: &mut String) -> Result<(), AllocError>
     ensures { OnOk result (string_bytes text.new ≡ string_bytes text.old ++ escaped_char c) }
 {

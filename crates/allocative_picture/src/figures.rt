@@ -4,30 +4,30 @@ ghost use Rattle.allocative_picture.specs.Figures.{unit_bytes, unit_name, size_t
 
 use std::fmt;
 
-/// A number of bytes, printed in its greatest binary unit and rounded down to tenths, as `1.5 KiB`.
+/// A number of bytes, printed in its greatest binary unit and rounded down to tenths, for example `1.5 KiB`.
 #[derive(Clone, Copy)]
 pub(crate) struct Size(pub usize);
 
-/// A number of bytes, printed in its greatest binary unit and in full, as `1.5 KiB (1536 bytes)`.
+/// A number of bytes, printed in its greatest binary unit and in full, for example `1.5 KiB (1536 bytes)`.
 #[derive(Clone, Copy)]
 pub(crate) struct Bytes(pub usize);
 
-/// A part of all, printed in percent and rounded down, as `12.34%`.
+/// A part of all, printed in percent and rounded down, for example `12.34%`.
 #[derive(Clone, Copy)]
 pub(crate) struct Share {
     pub part: usize,
     pub all: u128,
 }
 
-/// A part of all, printed in bytes and in percent, as `1.5 KiB (1536 bytes), 12.34% of all`.
+/// A part of all, printed in bytes and in percent, for example `1.5 KiB (1536 bytes), 12.34% of all`.
 #[derive(Clone, Copy)]
 pub(crate) struct Part(pub Share);
 
-/// Millionths of the width, printed as `12.3456%`.
+/// Millionths of the width, printed in percent, for example `12.3456%`.
 #[derive(Clone, Copy)]
 pub(crate) struct Place(pub u128);
 
-// The greatest binary unit that some bytes reach, in bytes.
+/// The greatest binary unit, in bytes, that some bytes reach.
 fn unit_bytes(bytes: usize) -> usize
     ensures { result ≡ unit_bytes bytes }
 {
@@ -42,7 +42,7 @@ fn unit_bytes(bytes: usize) -> usize
     }
 }
 
-// The name of that unit.
+/// The name of the greatest binary unit that some bytes reach.
 fn unit_name(bytes: usize) -> &'static str
     ensures { result.now ≡ unit_name bytes }
 {
@@ -57,7 +57,7 @@ fn unit_name(bytes: usize) -> &'static str
     }
 }
 
-// How much a part is of all, in hundredths of a percent, rounded down, and 0 of nothing.
+/// The share of a part in hundredths of a percent, rounded down. It is 0 where all is 0.
 fn hundredths(part: usize, all: u128) -> u128
     ensures { result ≡ hundredths part all }
 {

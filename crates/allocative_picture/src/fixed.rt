@@ -4,7 +4,7 @@ ghost use Rattle.allocative_picture.specs.Fixed.{style, tools, legend, closing};
 
 use std::alloc::AllocError;
 
-// The style, the pattern of unused capacity, and the paper below all.
+/// The style sheet, the pattern for unused capacity, and the background.
 const STYLE: &str = r#"<style>
 svg{font:12px ui-sans-serif,system-ui,"Segoe UI","DejaVu Sans",Helvetica,Arial,sans-serif;fill:#1d2330}
 .paper{fill:#fff}
@@ -37,17 +37,17 @@ svg{font:12px ui-sans-serif,system-ui,"Segoe UI","DejaVu Sans",Helvetica,Arial,s
 <rect class="paper" width="100%" height="100%"/>
 "#;
 
-// The words that the script makes work: find, and back to the whole.
+/// The labels `Find` and `Whole`, which the script makes clickable.
 const TOOLS: &str =
     r#"<svg width="100%" overflow="visible"><text class="tool find" x="100%" dx="-8" y="22" text-anchor="end">Find</text><text class="tool back" x="100%" dx="-48" y="22" text-anchor="end" style="display:none">Whole</text></svg>
 "#;
 
-// What the colours of a change say.
+/// The legend of the colours of a change.
 const LEGEND: &str =
     r#"<svg width="100%" overflow="visible"><text class="sum legend" x="100%" dx="-8" y="42" text-anchor="end"><tspan style="fill:#1d5fbf">shrank</tspan><tspan dx="8">same</tspan><tspan dx="8" style="fill:#d62828">grew</tspan></text></svg>
 "#;
 
-// The script and the end. Without the script the picture is whole.
+/// The script and the end of the document. A viewer that runs no script shows the same boxes.
 const CLOSING: &str = r#"<script><![CDATA[
 (function(){
 var svg=document.currentScript.ownerSVGElement,all=[].slice.call(svg.querySelectorAll('.b')),say=svg.querySelector('.say'),back=svg.querySelector('.back'),find=svg.querySelector('.find'),first=say.textContent,was=first;
@@ -78,7 +78,7 @@ window.addEventListener('resize',fit);fit();
 </svg>
 "#;
 
-/// Appends the style, the pattern of unused capacity, and the paper below all.
+/// Appends the style sheet, the pattern for unused capacity, and the background.
 #[tactic(auto, unfolding(crate::specs::Fixed::style))]
 pub(crate) fn push_style(text: &mut String) -> Result<(), AllocError>
     ensures { OnOk result (string_bytes text.new ≡ string_bytes text.old ++ style) }
@@ -86,7 +86,7 @@ pub(crate) fn push_style(text: &mut String) -> Result<(), AllocError>
     text.push_str(STYLE)
 }
 
-/// Appends the words that the script makes work.
+/// Appends the labels that the script makes clickable.
 #[tactic(auto, unfolding(crate::specs::Fixed::tools))]
 pub(crate) fn push_tools(text: &mut String) -> Result<(), AllocError>
     ensures { OnOk result (string_bytes text.new ≡ string_bytes text.old ++ tools) }
@@ -94,7 +94,7 @@ pub(crate) fn push_tools(text: &mut String) -> Result<(), AllocError>
     text.push_str(TOOLS)
 }
 
-/// Appends what the colours of a change say.
+/// Appends the legend of the colours of a change.
 #[tactic(auto, unfolding(crate::specs::Fixed::legend))]
 pub(crate) fn push_legend(text: &mut String) -> Result<(), AllocError>
     ensures { OnOk result (string_bytes text.new ≡ string_bytes text.old ++ legend) }
@@ -102,7 +102,7 @@ pub(crate) fn push_legend(text: &mut String) -> Result<(), AllocError>
     text.push_str(LEGEND)
 }
 
-/// Appends the script and the end.
+/// Appends the script and the end of the document.
 #[tactic(auto, unfolding(crate::specs::Fixed::closing))]
 pub(crate) fn push_closing(text: &mut String) -> Result<(), AllocError>
     ensures { OnOk result (string_bytes text.new ≡ string_bytes text.old ++ closing) }

@@ -2,22 +2,22 @@
 ghost use Rattle.allocative_picture.specs.Laws.{InsideLaw, ApartLaw, ShareLaw, WithinLaw, BoxesLaw, OnceLaw, ChangeLaw};
 ghost use Rattle.allocative_picture.specs.Escape.{EscapeLaw};
 
-/// The box of a path stands within that of the path without its last key.
+/// The box of a path lies within the box of its parent, the path without its last key.
 pub fn inside_law()
     ensures { InsideLaw }
 {}
 
-/// Boxes below one path stand beside each other, in the order of their keys.
+/// Boxes with one parent lie beside one another, in the order of their keys.
 pub fn apart_law()
     ensures { ApartLaw }
 {}
 
-/// A box is as wide as its bytes' share of all, to less than one unit.
+/// The width of a box is its share of all bytes, to less than a millionth of the width.
 pub fn share_law()
     ensures { ShareLaw }
 {}
 
-/// No box passes the picture's right edge.
+/// No box extends past the right edge of the picture.
 pub fn within_law()
     ensures { WithinLaw }
 {}
@@ -27,17 +27,18 @@ pub fn boxes_law()
     ensures { BoxesLaw }
 {}
 
-/// Each path of a graph stands once among the paths whose rows are drawn.
+/// Each path of a graph occurs once among the entries from which the rows are made.
 pub fn once_law()
     ensures { OnceLaw }
 {}
 
-/// No byte of an escaped text is markup, and a reader of the markup finds the text.
+/// No byte of an escaped text begins or ends an element, a text or an attribute, and a reader of the markup finds the
+/// text, with U+FFFD in place of unfit characters.
 pub fn escape_law()
     ensures { EscapeLaw }
 {}
 
-/// A path of the sum of two graphs has, with all below it, the bytes that it has in both.
+/// The bytes of a path and all below it in the sum of two graphs are those in the two graphs together.
 pub fn change_law()
     ensures { ChangeLaw }
 {}

@@ -1,6 +1,6 @@
 //! Pictures of flame graphs: SVG text, with a box for each path that is wide enough to be seen.
 //!
-//! All sizes are in bytes. What needs memory takes an allocator first and answers a `Result`.
+//! All sizes are in bytes. A call that allocates takes an allocator first and returns a `Result`.
 #![tactic(auto)]
 
 mod boxes;

@@ -1,23 +1,23 @@
-//! What a caller may choose of a picture.
+//! The options of a picture.
 ghost use Rattle.std.specs.Prelude.{◌≡◌, [], codes};
 
 use allocative_collectors::output::WarnedPath;
 
-/// What a caller may choose of a picture.
+/// The options of a picture.
 #[derive(Clone, Copy)]
 pub struct Options<'a> {
     /// The title above the picture. It may be any text.
     pub title: &'a str,
-    /// The paths that have a warning, as `FlameGraphOutput::warned_paths` answers them. In the picture of a profile the box of such
-    /// a path has a red edge. Below each picture stands a line for each of them, with both its figures.
+    /// The paths that have a warning, as `FlameGraphOutput::warned_paths` returns them. In the picture of a profile the
+    /// box of such a path has a red edge. Each path also has a line below the picture, with both its sizes.
     pub warned: &'a [WarnedPath],
-    /// The width of the narrowest box, in millionths of the width of the picture. A path whose box would be narrower has none.
-    /// A box without width is never drawn.
+    /// The width of the narrowest box, in millionths of the width of the picture. A path has no box where its box would
+    /// be narrower, or would have no width.
     pub narrowest: u32,
 }
 
 impl Options<'_> {
-    /// The title `Declared bytes`, no path with a warning, and boxes of at least a two-thousandth of the width.
+    /// The title `Declared bytes`, no warned paths, and boxes of at least a two-thousandth of the width.
     pub fn default() -> Options<'static>
         ensures title { result.title.now ≡ codes "Declared bytes" }
         ensures warned { result.warned.now ≡ [] }

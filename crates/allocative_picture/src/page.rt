@@ -1,4 +1,4 @@
-//! What stands round the boxes.
+//! The parts of a picture around its boxes.
 ghost use Rattle.std.specs.Prelude.{◌≡◌, ◌++◌, ◌+◌, ◌*◌, ◌^◌, ◌<◌, ◌≤◌, Some, OnOk, IfOk, string_bytes, map, count_by};
 ghost use Rattle.allocative_collectors.specs.Warned as held;
 ghost use Rattle.allocative_picture.specs.Rows.{seen};
@@ -16,19 +16,19 @@ use allocative_graph::flamegraph::push_path;
 use std::alloc::{AllocError, Global};
 use std::fmt;
 
-/// What a picture is of, with its totals in bytes.
+/// The subject of a picture, with its totals in bytes.
 #[derive(Clone, Copy)]
 pub enum Subject {
     /// A profile.
     Profile {
-        /// Its bytes.
+        /// The bytes of the profile.
         bytes: usize,
     },
     /// The change from one profile to another, drawn as their sum.
     Change {
-        /// The bytes of the earlier one.
+        /// The bytes of the earlier profile.
         before: usize,
-        /// The bytes of the later one.
+        /// The bytes of the later profile.
         after: usize,
     },
 }
@@ -63,14 +63,14 @@ impl fmt::Display for Subject {
     }
 }
 
-/// How many of some rows have a box.
+/// The number of rows that have a box.
 pub(crate) fn drawn(least: u32, all: u128, rows: &[Row<'_>]) -> usize
     ensures { result ≡ count_by (is_drawn least all) (map seen rows.now) }
 {
     rows.iter().filter(|row| is_drawn(least, all, row)).count()
 }
 
-// How many boxes stand below one another, where some did so before a row came.
+/// The number of levels of boxes after one more row.
 fn level_of(least: u32, all: u128, levels: u128, row: &Row<'_>) -> u128
     ensures level { result ≡ level_of least all levels (seen row.now) }
     ensures bound { levels ≤ 2 ^ 64 → result ≤ 2 ^ 64 }
@@ -82,7 +82,7 @@ fn level_of(least: u32, all: u128, levels: u128, row: &Row<'_>) -> u128
     }
 }
 
-/// How many boxes stand below one another.
+/// The number of levels of boxes that the rows need.
 pub(crate) fn levels(least: u32, all: u128, rows: &[Row<'_>]) -> u128
     ensures levels { result ≡ levels least all (map seen rows.now) }
     ensures bound { result ≤ 2 ^ 64 }
@@ -94,7 +94,7 @@ pub(crate) fn levels(least: u32, all: u128, rows: &[Row<'_>]) -> u128
     levels
 }
 
-/// Appends the beginning of a picture of some height in pixels.
+/// Appends the beginning of a picture. Its height is in pixels.
 pub(crate) fn push_opening(height: u128, text: &mut String) -> Result<(), AllocError>
     ensures { OnOk result (string_bytes text.new ≡ string_bytes text.old ++ opening height) }
 {
@@ -117,7 +117,8 @@ pub(crate) fn push_heading(alloc: Global, title: &str, text: &mut String) -> Res
     Ok(())
 }
 
-/// Appends the totals of a picture, and how many paths have a box and how many are too narrow for one.
+/// Appends the totals of a picture, the number of paths with a box, and the number of paths that are too narrow for
+/// one.
 pub(crate) fn push_summary(
     subject: Subject,
     drawn: usize,
@@ -133,7 +134,7 @@ pub(crate) fn push_summary(
     Ok(())
 }
 
-/// Appends the words that the script makes work, and for a change what its colours say.
+/// Appends the labels that the script makes clickable and, for a change, the legend of its colours.
 #[tactic(auto, unfolding(crate::specs::Page::tools_of))]
 pub(crate) fn push_tools_of(subject: Subject, text: &mut String) -> Result<(), AllocError>
     ensures { OnOk result (string_bytes text.new ≡ string_bytes text.old ++ tools_of subject) }
@@ -161,7 +162,7 @@ pub(crate) fn push_boxes(
     Ok(())
 }
 
-// What the warning of a path says.
+/// The text of a path's warning.
 fn warning_text(alloc: Global, warned: &WarnedPath) -> Result<String, AllocError>
     ensures { IfOk result (λ made. string_bytes made ≡ warning_text (held.seen warned.now)) }
 {
@@ -176,7 +177,7 @@ fn warning_text(alloc: Global, warned: &WarnedPath) -> Result<String, AllocError
     Ok(text)
 }
 
-// Appends the warning of a path, whose line stands at a height in pixels.
+/// Appends the line of a path's warning, at a height in pixels.
 fn push_warning(
     alloc: Global,
     y: u128,
@@ -194,7 +195,7 @@ fn push_warning(
     Ok(())
 }
 
-/// Appends the warnings of some paths, the first of which stands at a height in pixels.
+/// Appends the lines of the warnings of some paths, with the first at a height in pixels.
 pub(crate) fn push_warnings(
     alloc: Global,
     top: u128,
@@ -202,7 +203,8 @@ pub(crate) fn push_warnings(
     text: &mut String,
 ) -> Result<(), AllocError>
     requires { top < 2 ^ 80 }
-    ensures { OnOk result (string_bytes text.new ≡ string_bytes text.old ++ warning_lines top (map held.seen warned.now)) }
+    ensures { OnOk result (string_bytes text.new ≡ string_bytes text.old
+        ++ warning_lines top (map held.seen warned.now)) }
 {
     for (index, one) in warned.iter().enumerate() {
         push_warning(alloc, top + 16 * index as u128, one, text)?;

@@ -18,8 +18,8 @@ use std::alloc::{AllocError, Global};
 
 /// The picture of a flame graph, as the text of an SVG document.
 ///
-/// The root stands on top, and a path below that of its keys but the last. A box is as wide as the bytes of its path and of all
-/// below it. It answers an error only for want of memory.
+/// The root is at the top, and each path is below its parent. A box is as wide as the bytes of its path and of all
+/// paths below it. The only error is that memory runs out.
 pub fn picture(alloc: Global, graph: &FlameGraph, options: &Options<'_>) -> Result<String, Refusal>
     ensures text { IfOk result (λ made. string_bytes made ≡ profile_drawing options.now graph.now) }
     ensures memory { IfErr result (λ r. r ≡ Refusal.Memory) }
@@ -33,11 +33,11 @@ pub fn picture(alloc: Global, graph: &FlameGraph, options: &Options<'_>) -> Resu
 
 /// The picture of the change from one flame graph to another, as the text of an SVG document.
 ///
-/// It is the picture of their sum: a box is as wide as its bytes before and after together. It is red where bytes grew and blue
-/// where they shrank, as full as the difference is of the sum.
+/// It is the picture of their sum: a box is as wide as its bytes before and after together. It is red where bytes grew
+/// and blue where they shrank, and its colour is the fuller the greater the difference is relative to the sum.
 ///
-/// It answers `TooLarge` exactly where the two totals together pass `usize::MAX`, and otherwise an error only for want of
-/// memory.
+/// It returns `TooLarge` exactly where the two totals together exceed `usize::MAX`. The only other error is that memory
+/// runs out.
 pub fn change_picture(
     alloc: Global,
     before: &FlameGraph,
@@ -61,10 +61,10 @@ pub fn change_picture(
     Ok(draw(alloc, subject, rows.as_slice(), options)?)
 }
 
-/// The picture of some rows, as the text of an SVG document. The rows stand in the order of paths, and the totals of the
-/// subject are theirs; where they are not, the picture has boxes that do not fit together.
+/// The picture of some rows, as the text of an SVG document. The rows are expected in the order of paths, with the
+/// totals of the subject. Otherwise the boxes may not fit together.
 ///
-/// It answers an error only for want of memory.
+/// The only error is that memory runs out.
 pub fn draw(
     alloc: Global,
     subject: Subject,

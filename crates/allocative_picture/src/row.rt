@@ -1,35 +1,35 @@
-//! What a picture is drawn from.
+//! The rows that a picture is drawn from.
 
 /// A path of a profile, as a picture shows it.
 ///
-/// The rows of a profile stand in the order of paths: a path before those below it, and paths side by side by the bytes of
-/// their keys.
+/// The rows of a profile are in the order of paths: a path comes before those below it, and paths with one parent are
+/// ordered by the bytes of their last keys.
 #[derive(Clone, Copy)]
 pub struct Row<'a> {
-    /// How many keys the path has; the root has none.
+    /// The number of keys of the path, which is 0 for the root.
     pub depth: usize,
-    /// The last key of the path, or what the root is called. It may be any text.
+    /// The last key of the path, or the name of the root. It may be any text.
     pub key: &'a str,
     /// The bytes of the path alone.
     pub own: usize,
     /// The bytes of the path and of all paths below it.
     pub whole: usize,
-    /// The bytes of all paths that come before it.
+    /// The own bytes of all paths before it, together.
     pub before: usize,
-    /// What else is known of the path.
+    /// What else is known about the path.
     pub mark: Mark,
 }
 
-/// What is known of a path beside its bytes.
+/// What is known about a path besides its bytes.
 #[derive(Clone, Copy)]
 pub enum Mark {
     /// Nothing.
     Plain,
     /// The path has a warning: it declares fewer bytes than its parts.
     Warned,
-    /// The row is one of a sum of two profiles.
+    /// The row belongs to the sum of two profiles.
     Changed {
-        /// The bytes of the path and of all paths below it in the earlier one.
+        /// The bytes of the path and of all paths below it in the earlier profile.
         was: usize,
     },
 }

@@ -12,17 +12,17 @@ use allocative_graph::flamegraph::FlameGraph;
 use allocative_graph::refusal::Refusal;
 use std::alloc::Global;
 
-/// By what the paths of a flame graph are marked.
+/// What the marks of the paths of a flame graph come from.
 #[derive(Clone, Copy)]
 pub(crate) enum Marks<'a> {
-    /// By the paths that have a warning.
+    /// The paths that have a warning.
     Warned(&'a [WarnedPath]),
-    /// By an earlier graph.
+    /// An earlier graph.
     Earlier(&'a FlameGraph),
 }
 
 impl Marks<'_> {
-    // The mark of a path.
+    /// The mark of a path.
     fn of(&self, path: &[&str]) -> Mark
         ensures { result ≡ mark_of self.now (map (λ k. k.now) path.now) }
     {
@@ -41,14 +41,14 @@ impl Marks<'_> {
     }
 }
 
-// Whether a path is one of those that have a warning.
+/// Whether a path is one of those that have a warning.
 fn is_warned(warned: &[WarnedPath], path: &[&str]) -> bool
     ensures { result ≡ is_warned (map held.seen warned.now) (map (λ k. k.now) path.now) }
 {
     warned.iter().any(|one| one.path.as_slice() == path)
 }
 
-// The key that is shown of a path.
+/// The key that a picture shows for a path.
 fn shown_key(path: &[&'static str]) -> &'static str
     ensures { result.now ≡ shown_key (map (λ k. k.now) path.now) }
 {
@@ -58,7 +58,7 @@ fn shown_key(path: &[&'static str]) -> &'static str
     }
 }
 
-// The row of a path, before which some bytes come.
+/// The row of a path, where `before` bytes come before it.
 fn row_from(marks: &Marks<'_>, before: usize, path: &graphs::Row) -> Row<'static>
     ensures { seen result ≡ row_from (mark_of marks.now) before (reads.seen path.now) }
 {
@@ -73,7 +73,7 @@ fn row_from(marks: &Marks<'_>, before: usize, path: &graphs::Row) -> Row<'static
     }
 }
 
-/// The rows of a flame graph: one for each path, in the order of paths. It answers an error only for want of memory.
+/// The rows of a flame graph: one for each path, in the order of paths. The only error is that memory runs out.
 pub(crate) fn rows(
     alloc: Global,
     marks: &Marks<'_>,

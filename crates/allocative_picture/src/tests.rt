@@ -1,4 +1,4 @@
-// What no clause says: whole pictures, as a browser is given them.
+//! Tests of what no clause says: whole pictures, as a browser gets them.
 use crate::options::Options;
 use crate::page::Subject;
 use crate::picture::{change_picture, draw, picture};
@@ -10,14 +10,14 @@ use allocative_graph::refusal::Refusal;
 use std::alloc::{AllocError, Global};
 use std::process::Abort;
 
-// A graph whose root has the size.
+/// A graph whose root has this size.
 fn own(alloc: Global, size: usize) -> Result<FlameGraph, Refusal> {
     let mut graph = FlameGraph::default(alloc);
     graph.add_self(size)?;
     Ok(graph)
 }
 
-// A path that has a warning.
+/// A path that has a warning.
 fn warned_path(
     alloc: Global,
     path: &[&'static str],
@@ -31,7 +31,7 @@ fn warned_path(
     })
 }
 
-// Asserts that a picture has these boxes and no others, a title, a line of totals, and a height.
+/// Asserts that a picture has this height, this title, this line of totals and exactly these boxes.
 fn assert_picture(
     rt: &impl Abort,
     text: &str,
@@ -154,7 +154,7 @@ fn totals_past_a_word_are_refused(rt: HostRuntime) -> Result<(), Refusal> {
     Ok(())
 }
 
-// A row one key below the root.
+/// A row one level below the root.
 fn row<'a>(key: &'a str, before: usize) -> Row<'a> {
     Row {
         depth: 1,

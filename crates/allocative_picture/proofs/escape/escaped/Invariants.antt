@@ -3,6 +3,6 @@ use Rattle.std.specs.Prelude.{string_bytes}
 use Rattle.allocative_picture.specs.Escape.{escaped_char}
 use Rattle.allocative_picture.proofs.escape.escaped.Given as goal
 
--- So far what stands for the characters that came is appended.
+-- The text is the markup of the characters so far.
 abbrev pub invariant-loop-c : goal.invariant-loop-c
 invariant-loop-c l = string_bytes l.made ≡ flat_map escaped_char l.yielded

@@ -3,6 +3,6 @@ use Rattle.allocative_picture.specs.Rows.{seen}
 use Rattle.allocative_picture.specs.Page.{levels}
 use Rattle.allocative_picture.proofs.page.levels.Given as goal
 
--- So far the levels are those of the rows that came.
+-- The number of levels is that of the rows so far.
 abbrev pub invariant-loop-row : goal.invariant-loop-row
 invariant-loop-row l = record { levels : l.levels ≡ levels l.least l.all (map seen (take l.row-index l.rows)); bound : l.levels ≤ 2 ^ 64 }

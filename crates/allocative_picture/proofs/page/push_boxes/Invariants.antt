@@ -4,6 +4,6 @@ use Rattle.allocative_picture.specs.Rows.{seen}
 use Rattle.allocative_picture.specs.Page.{boxes}
 use Rattle.allocative_picture.proofs.page.push_boxes.Given as goal
 
--- So far the boxes of the rows that came are appended.
+-- The boxes of the rows so far have been appended.
 abbrev pub invariant-loop-row : goal.invariant-loop-row
 invariant-loop-row l = string_bytes l.text ≡ string_bytes l.initial.text ++ boxes l.least l.all (map seen (take l.row-index l.rows))

@@ -4,6 +4,6 @@ use Rattle.allocative_collectors.specs.Warned as held
 use Rattle.allocative_picture.specs.Page.{warning_lines}
 use Rattle.allocative_picture.proofs.page.push_warnings.Given as goal
 
--- So far the warnings that came are appended.
+-- The warnings of the paths so far have been appended.
 abbrev pub invariant-loop-index : goal.invariant-loop-index
 invariant-loop-index l = string_bytes l.text ≡ string_bytes l.initial.text ++ warning_lines l.top (map held.seen (take l.index l.warned))

@@ -5,7 +5,7 @@ use Rattle.allocative_collectors.specs.Warned as held
 use Rattle.allocative_picture.specs.Page.{warning_text}
 use Rattle.allocative_picture.proofs.page.warning_text.Goals as goal
 
--- Texts that were appended one after another.
+-- Four texts, each the one before with more appended, in one equation.
 chain : (t0 t1 t2 t3 a p b m c n : List ℕ) → t0 ≡ [] → t1 ≡ t0 ++ a → t2 ≡ t1 ++ p → t3 ≡ t2 ++ (b ++ (m ++ (c ++ n))) → t3 ≡ a ++ p ++ b ++ m ++ c ++ n
 chain t0 t1 t2 t3 a p b m c n e0 e1 e2 e3 = e3 ∙ ap (λ s. s ++ (b ++ (m ++ (c ++ n)))) (e2 ∙ ap (λ s. s ++ p) (e1 ∙ ap (λ s. s ++ a) e0)) ∙ simp append_assoc
 

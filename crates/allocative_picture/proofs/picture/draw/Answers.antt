@@ -8,7 +8,7 @@ use Rattle.allocative_picture.specs.Page.{levels, opening, heading, summary, too
 use Rattle.allocative_picture.specs.Picture.{drawing}
 use Rattle.allocative_picture.proofs.picture.draw.Goals as goal
 
--- Texts that were appended one after another.
+-- Eight texts appended one after another, in one equation.
 chain : (t0 t1 t2 t3 t4 t5 t6 t7 t8 a b c d e f g h : List ℕ) → t0 ≡ [] → t1 ≡ t0 ++ a → t2 ≡ t1 ++ b → t3 ≡ t2 ++ c → t4 ≡ t3 ++ d → t5 ≡ t4 ++ e → t6 ≡ t5 ++ f → t7 ≡ t6 ++ g → t8 ≡ t7 ++ h
     → t8 ≡ ((((((a ++ b) ++ c) ++ d) ++ e) ++ f) ++ g) ++ h
 chain t0 t1 t2 t3 t4 t5 t6 t7 t8 a b c d e f g h e0 e1 e2 e3 e4 e5 e6 e7 e8 =

@@ -7,12 +7,12 @@ use Rattle.allocative_picture.specs.Marks.{mark_of}
 use Rattle.allocative_picture.proofs.Placing.{rows_from, own_bytes, rows_from-more, own-more, own-within, rows_from-figures}
 use Rattle.allocative_picture.proofs.rows.rows.Goals as goal
 
--- The figures of one path more.
+-- What the first i + 1 paths have is what the first i paths have, and then the next path.
 one_more : (ps : List read.Row) (i : ℕ) (p : read.Row) → i < length ps → p ≡ get_or ps i p → map reads.seen (take (i + 1) ps) ≡ map reads.seen (take i ps) ++ reads.seen p ∷ []
 one_more ps i p h is =
     ap (map reads.seen) (take_more ps i p h) ∙ map-append reads.seen (take i ps) (get_or ps i p ∷ []) ∙ ap (λ (x : read.Row). map reads.seen (take i ps) ++ reads.seen x ∷ []) (sym is)
 
--- The figures of some paths and those of the others are those of all.
+-- What the first paths have, followed by what the others have, is what all have.
 parted : (ps : List read.Row) (i : ℕ) → map reads.seen (take i ps) ++ map reads.seen (drop i ps) ≡ map reads.seen ps
 parted ps i = sym (map-append reads.seen (take i ps) (drop i ps)) ∙ ap (map reads.seen) (take-append-drop i ps)
 

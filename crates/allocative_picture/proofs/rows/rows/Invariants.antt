@@ -5,7 +5,7 @@ use Rattle.allocative_picture.specs.Marks.{mark_of}
 use Rattle.allocative_picture.proofs.Placing.{rows_from, own_bytes}
 use Rattle.allocative_picture.proofs.rows.rows.Given as goal
 
--- So far the rows of the paths that came are there, and their bytes are counted.
+-- The rows are those of the paths so far, and `before` has the own bytes of these paths.
 abbrev pub invariant-loop-path : goal.invariant-loop-path
 invariant-loop-path l = record {
   rows : map seen l.rows.items ≡ rows_from (mark_of l.marks) 0 (map reads.seen (take l.path-index l.path-items));

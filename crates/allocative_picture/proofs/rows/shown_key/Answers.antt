@@ -3,7 +3,7 @@ use Rattle.allocative_graph.proofs.NodeText.{texts}
 use Rattle.allocative_picture.specs.Rows.{shown_key}
 use Rattle.allocative_picture.proofs.rows.shown_key.Goals as goal
 
--- The key that is shown is that of the last place.
+-- The shown key of a path with a key is its last key.
 last_shown : (k : Bor (List ℕ)) (ks : List (Bor (List ℕ))) (d : Bor (List ℕ)) → shown_key (texts (k ∷ ks)) ≡ (get_or (k ∷ ks) (length ks) d).now
 last_shown k [] d = refl
 last_shown k (l ∷ ks) d = last_shown l ks d
