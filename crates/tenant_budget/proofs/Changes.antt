@@ -1,4 +1,4 @@
--- What becomes of a ledger once one of its accounts has changed.
+-- The ledger after one of its accounts has changed.
 use Rattle.std.proofs.Common.{◌≡◌, ◌∙◌, ℕ, ◌+◌, false, List, Option, Some, None, sym, ap, subst, nat_cmp, string_bytes}
 use Rattle.std.specs.BTreeMap.{UpdatesBy, is_at}
 use Rattle.std.specs.Prelude.{IfNone, IfSome, String, unwrap_or}
@@ -16,7 +16,7 @@ use Rattle.tenant_budget.specs.declared.ledger.Ledger.{Ledger}
 use Rattle.tenant_budget.specs.Holding.{Holding, sum_of, bytes_at, without}
 use Rattle.tenant_budget.specs.Accounts.{account_of, accounts_of, ChangesAccount, IsUnchanged, Releases}
 
--- A map of accounts that changes at one name changes this tenant's account, and no other.
+-- Updating the map of accounts under a tenant's name changes the account of this tenant and no other.
 pub changes : (tenant : List ℕ) (now : Holding) (old new : Ledger) → UpdatesBy string_cmp (λ k. slice_cmp nat_cmp tenant (string_bytes k)) old.accounts new.accounts (Some now) → ChangesAccount tenant now old new
 changes tenant now old new h = record {
   changed = h.1;
@@ -25,11 +25,11 @@ changes tenant now old new h = record {
       btree_map_updates_text tenant old.accounts new.accounts (Some now) h other ∙ update_other bytes_eq (λ (q : List ℕ). account_of q old) tenant (Some now) other differs;
 }
 
--- What `get_mut` lent ends as it was, and so does the ledger.
+-- Where the account that `get_mut` lends stays unchanged, so does the ledger.
 pub unchanged : (tenant : List ℕ) (before now : Holding) (old new : Ledger) → account_of tenant old ≡ Some before → accounts_of new ≡ set_value (is_at (λ k. slice_cmp nat_cmp tenant (string_bytes k))) (accounts_of old) now → now ≡ before → IsUnchanged old new
 unchanged tenant before now old new account is same = is ∙ set_value_same _ (accounts_of old) now (account ∙ ap Some (sym same))
 
--- What is released comes off the account of the tenant.
+-- Releasing an entry takes its bytes off the account of the tenant.
 pub released : (tenant : List ℕ) (number : ℕ) (before now : Holding) (old new : Ledger) (r : Option ℕ) → account_of tenant old ≡ Some before → ChangesAccount tenant now old new → r ≡ bytes_at number before → now ≡ without number before → sum_of now.entries + unwrap_or r 0 ≡ sum_of before.entries → IfSome r (λ bytes. Releases tenant number bytes old new)
 released tenant number before now old new None account change had is sum = tt
 released tenant number before now old new (Some bytes) account change had is sum = record {
@@ -40,11 +40,11 @@ released tenant number before now old new (Some bytes) account change had is sum
   change = subst (λ (h : Holding). ChangesAccount tenant h old new) is change;
 }
 
--- A new account is opened under its tenant's name.
+-- Inserting an account under a tenant's name changes the account of this tenant and no other.
 pub opens : (tenant : List ℕ) (name : String Global) (now : Holding) (old new : Ledger) → string_bytes name ≡ tenant → UpdatesBy string_cmp (string_cmp name) old.accounts new.accounts (Some now) → ChangesAccount tenant now old new
 opens tenant name now old new same h = subst (λ (t : List ℕ). ChangesAccount t now old new) same (changes (string_bytes name) now old new h)
 
--- What follows where nothing is answered.
+-- What holds where the result is None may be replaced by what follows from it.
 pub IfNone-weaker : {P Q : Type 0} (r : Option ℕ) → (P → Q) → IfNone r P → IfNone r Q
 IfNone-weaker None f h = f h
 IfNone-weaker (Some n) f h = tt

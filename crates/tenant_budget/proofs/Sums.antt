@@ -1,4 +1,4 @@
--- The sum of an account's entries, after each change of them.
+-- The sum of an account's entries after each change of them.
 use Rattle.std.proofs.Common.{◌≡◌, ℕ, ◌+◌, List, Option, ap, arith, nat_cmp}
 use Rattle.std.specs.BTreeMap.{insert_entry, is_at}
 use Rattle.std.specs.Cmp.{nat_cmp_total}
@@ -9,7 +9,7 @@ use Rattle.std.proofs.lemmas.Iterator.Adapters.{option_map_id}
 use Rattle.std.proofs.lemmas.Map.Entries.{sum_by-insert_entry, sum_by-remove_entry}
 use Rattle.tenant_budget.specs.Holding.{sum_of}
 
--- The bytes that a number has.
+-- The bytes under a number, or 0 where it has no entry.
 abbrev had_at : ℕ → List (ℕ × ℕ) → ℕ
 had_at number entries = unwrap_or (lookup (is_at (nat_cmp number)) entries) 0
 

@@ -1,4 +1,4 @@
--- What a ledger has, and how its calls change it.
+-- What a ledger holds, and how its calls change it.
 use Rattle.std.specs.Prelude.{◌≡◌, ◌≢◌, ℕ, ◌+◌, List, Option, Some, String}
 use Rattle.std.specs.BTreeMap.{get_by_text}
 use Rattle.std.specs.Global.{Global}
@@ -17,13 +17,13 @@ account_of tenant l = get_by_text l.accounts tenant
 abbrev pub IsUnchanged : Ledger → Ledger → Type 0
 IsUnchanged old new = accounts_of new ≡ accounts_of old
 
--- The tenant has this account now, and each other tenant has what it had.
+-- The tenant now has this account, and the accounts of all other tenants are unchanged.
 pub record ChangesAccount (tenant : List ℕ) (now : Holding) (old new : Ledger) : Type 0 where
   pub changed : account_of tenant new ≡ Some now
   pub others : (other : List ℕ) → other ≢ tenant → account_of other new ≡ account_of other old
 
--- The bytes stand now under the number of the tenant's account, where `had` stood before, and all bytes of that account
--- together are `total`.
+-- In the tenant's account, the number now has these bytes in place of `had`, and all bytes of that account together are
+-- `total`.
 pub record Enters (tenant : List ℕ) (number bytes : ℕ) (had : Option ℕ) (total : ℕ) (old new : Ledger) : Type 0 where
   pub before : Holding
   pub after : Holding
@@ -31,8 +31,8 @@ pub record Enters (tenant : List ℕ) (number bytes : ℕ) (had : Option ℕ) (t
   pub puts : Puts number bytes had total before after
   pub change : ChangesAccount tenant after old new
 
--- These bytes stood under the number of the tenant's account, and are gone. The sum of the account is less by just so
--- much.
+-- The number had these bytes in the tenant's account, and its entry is gone. The sum of the account is less by exactly
+-- these bytes.
 pub record Releases (tenant : List ℕ) (number bytes : ℕ) (old new : Ledger) : Type 0 where
   pub before : Holding
   pub account : account_of tenant old ≡ Some before

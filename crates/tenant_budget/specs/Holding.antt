@@ -1,10 +1,10 @@
--- What the account of one tenant has.
+-- What the account of one tenant holds.
 use Rattle.std.specs.Prelude.{◌≡◌, ℕ, ◌+◌, ◌≤◌, List, Option, sum_by, unwrap_or}
 use Rattle.std.specs.BTreeMap.{insert_entry, is_at}
 use Rattle.std.specs.Map.{lookup, remove_entry, values_of}
 use Rattle.std.specs.Ordering.{nat_cmp}
 
--- A limit in bytes, and what was admitted under it: the bytes of each value by its number, in the order of the numbers.
+-- A limit in bytes, and what was admitted under it: the bytes of each value by its number, ordered by number.
 pub record Holding : Type 0 where
   pub limit : ℕ
   pub entries : List (ℕ × ℕ)
@@ -13,24 +13,24 @@ pub record Holding : Type 0 where
 abbrev pub sum_of : List (ℕ × ℕ) → ℕ
 sum_of entries = sum_by (λ n. n) (values_of entries)
 
--- The bytes that stand under the number.
+-- The bytes of the entry under the number.
 abbrev pub bytes_at : ℕ → Holding → Option ℕ
 bytes_at number h = lookup (is_at (nat_cmp number)) h.entries
 
--- The account with these bytes under the number, in place of what stood there.
+-- The account with these bytes under the number, in place of an entry that was there.
 abbrev pub with_bytes : ℕ → ℕ → Holding → Holding
 with_bytes number bytes h = record { limit = h.limit; entries = insert_entry nat_cmp h.entries number bytes }
 
--- The account without what stands under the number.
+-- The account without the entry under the number.
 abbrev pub without : ℕ → Holding → Holding
 without number h = record { limit = h.limit; entries = remove_entry (is_at (nat_cmp number)) h.entries }
 
--- The sum of the account is exactly that of its entries, and at most its limit.
+-- The bytes are exactly the sum of the account's entries, and at most its limit.
 abbrev pub IsSummed : ℕ → Holding → Type 0
 IsSummed bytes h = (bytes ≡ sum_of h.entries) × (bytes ≤ h.limit)
 
--- The bytes stand now under the number, where `had` stood before. All bytes of the account together are `total`, and
--- within its limit.
+-- The number now has these bytes in place of `had`. All bytes of the account together are `total`, which is within its
+-- limit.
 pub record Puts (number bytes : ℕ) (had : Option ℕ) (total : ℕ) (old new : Holding) : Type 0 where
   pub had_bytes : bytes_at number old ≡ had
   pub is : new ≡ with_bytes number bytes old

@@ -1,4 +1,4 @@
--- Why data are not admitted.
+-- Why data is not admitted.
 use Rattle.std.specs.Prelude.{◌≡◌, ℕ, ◌+◌, ◌^◌, ◌<◌, ◌≤◌, ⊤, List, Option, Some, None, IsSome}
 use Rattle.allocative.specs.Shows.{Showing}
 use Rattle.tenant_budget.specs.declared.rejection.Rejection.{Rejection}
@@ -6,49 +6,52 @@ use Rattle.tenant_budget.specs.declared.rejection.Rejection.TheVariants.{OverBud
 use Rattle.tenant_budget.specs.Measured.{Declares}
 use Rattle.tenant_budget.specs.Holding.{Holding, sum_of, bytes_at}
 
--- The rejection names the tenant, the bytes that it asks for and the limit, which they pass.
+-- The rejection names the tenant, the requested bytes and the limit that they exceed.
 abbrev pub IsOverBudget : List ℕ → ℕ → ℕ → Rejection → Type 0
 IsOverBudget tenant bytes limit (OverBudget t b l) = (t.now ≡ tenant) × (b ≡ bytes) × (l ≡ limit) × (limit < bytes)
 IsOverBudget tenant bytes limit _ = ⊥
 
--- A value by itself is rejected: what it declares passes the limit, or measuring it is refused.
+-- A value by itself is rejected: what it declares exceeds the limit, or it could not be measured.
 abbrev pub RejectsValue : Option ℕ → Showing → List ℕ → ℕ → Rejection → Type 0
 RejectsValue size p tenant limit (OverBudget t b l) = Declares size p b × (t.now ≡ tenant) × (l ≡ limit) × (limit < b)
 RejectsValue size p tenant limit (NotMeasured e) = ⊤
 RejectsValue size p tenant limit _ = ⊥
 
--- Some bytes are rejected in the place of those that one entry has, among these of all entries: all together pass the
--- limit; or they pass a word; or they are within the limit, and memory is refused.
+-- Replacing the `had` bytes of one entry by `bytes` is rejected, where all entries have `all`. The new sum exceeds the
+-- limit, or it exceeds a word, or it is within the limit and memory runs out.
 abbrev pub RejectsBytes : List ℕ → ℕ → ℕ → ℕ → ℕ → Rejection → Type 0
-RejectsBytes tenant had all bytes limit (OverBudget t b l) = (b + had ≡ all + bytes) × (t.now ≡ tenant) × (l ≡ limit) × (limit < b)
+RejectsBytes tenant had all bytes limit (OverBudget t b l) =
+    (b + had ≡ all + bytes) × (t.now ≡ tenant) × (l ≡ limit) × (limit < b)
 RejectsBytes tenant had all bytes limit TooLarge = 2 ^ 64 + had ≤ all + bytes
 RejectsBytes tenant had all bytes limit NotKept = all + bytes ≤ limit + had
 RejectsBytes tenant had all bytes limit _ = ⊥
 
--- The bytes are rejected under a number that has none: it has some, which the rejection says with the tenant; or the
--- bytes beside all others are rejected.
+-- A new entry under a number is rejected: the number has an entry, which the rejection names with the tenant, or adding
+-- the bytes to those of all entries is rejected.
 abbrev pub RejectsNew : List ℕ → ℕ → ℕ → Holding → Rejection → Type 0
 RejectsNew tenant number bytes h (Taken t n) = (t.now ≡ tenant) × (n ≡ number) × IsSome (bytes_at number h)
-RejectsNew tenant number bytes h r = (bytes_at number h ≡ None) × RejectsBytes tenant 0 (sum_of h.entries) bytes h.limit r
+RejectsNew tenant number bytes h r =
+    (bytes_at number h ≡ None) × RejectsBytes tenant 0 (sum_of h.entries) bytes h.limit r
 
--- The bytes are rejected in the place of those under a number: it has none, which the rejection says with the tenant;
--- or the bytes beside all others are rejected.
+-- A change of the entry under a number is rejected: the number has no entry, which the rejection names with the tenant,
+-- or replacing the bytes of its entry is rejected.
 abbrev pub RejectsChange : List ℕ → ℕ → ℕ → Holding → Rejection → Type 0
 RejectsChange tenant number bytes h (NotThere t n) = (t.now ≡ tenant) × (n ≡ number) × (bytes_at number h ≡ None)
-RejectsChange tenant number bytes h r = (had : ℕ) × (bytes_at number h ≡ Some had) × RejectsBytes tenant had (sum_of h.entries) bytes h.limit r
+RejectsChange tenant number bytes h r =
+    (had : ℕ) × (bytes_at number h ≡ Some had) × RejectsBytes tenant had (sum_of h.entries) bytes h.limit r
 
--- The tenant has no account, which the rejection says, or its account rejects as P says.
+-- The tenant has no account, as the rejection says, or the rejection of its account is one that P allows.
 abbrev pub RejectsIn : List ℕ → (Holding → Rejection → Type 0) → Option Holding → Rejection → Type 0
 RejectsIn tenant P None (NoAccount t) = t.now ≡ tenant
 RejectsIn tenant P None _ = ⊥
 RejectsIn tenant P (Some h) r = P h r
 
--- Measuring the value is refused, or it declares bytes that P rejects.
+-- The value could not be measured, or it declares bytes with a rejection that P allows.
 abbrev pub RejectsMeasured : Option ℕ → Showing → (ℕ → Rejection → Type 0) → Rejection → Type 0
 RejectsMeasured size p P (NotMeasured e) = ⊤
 RejectsMeasured size p P r = (bytes : ℕ) × Declares size p bytes × P bytes r
 
--- The tenant has an account already, which the rejection says; or it has none, and memory is refused.
+-- The tenant already has an account, as the rejection says, or it has none and memory runs out.
 abbrev pub RejectsOpening : List ℕ → Option Holding → Rejection → Type 0
 RejectsOpening tenant had (HasAccount t) = (t.now ≡ tenant) × IsSome had
 RejectsOpening tenant had NotKept = had ≡ None

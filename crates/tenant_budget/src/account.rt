@@ -9,8 +9,7 @@ use std::alloc::Global;
 use std::collections::BTreeMap;
 use std::marker::Model;
 
-/// The bytes of each value of one tenant, by its number. Whatever comes, their sum is kept beside them and is within
-/// the limit.
+/// The bytes of each value of one tenant, by its number. Their sum is stored beside them, and is never above the limit.
 #[derive(Drop)]
 pub struct Account {
     budget: Budget,
@@ -29,7 +28,7 @@ impl Model for Account {
 }
 
 impl Account {
-    /// An account with no entry. It takes no memory.
+    /// An account with no entry. It allocates nothing.
     pub fn new(alloc: Global, budget: Budget) -> Account
         ensures { result ≡ record { limit = budget.limit; entries = [] } }
     {
@@ -61,11 +60,15 @@ impl Account {
         &self.entries
     }
 
-    /// Enters so many bytes under a number that has none yet. Answers the bytes of all entries together.
+    /// Adds an entry with these bytes under a number that has none. It returns the bytes of all entries together.
     ///
-    /// `Taken` where the number has an entry, else `TooLarge` where their bytes together do not fit a word, else
-    /// `OverBudget` where they would pass the limit, and `NotKept` for want of memory. The account stays then as it
-    /// was.
+    /// It returns an error
+    /// - `Taken` where the number has an entry,
+    /// - otherwise `TooLarge` where the bytes of all entries together do not fit a word,
+    /// - otherwise `OverBudget` where they exceed the limit,
+    /// - otherwise `NotKept` where memory runs out.
+    ///
+    /// After an error the account is unchanged.
     pub fn enter<'a>(
         &mut self,
         tenant: &'a str,
@@ -82,9 +85,10 @@ impl Account {
         self.put(tenant, number, 0, bytes)
     }
 
-    /// Puts other bytes in the place of those under a number. Answers the bytes of all entries together.
+    /// Replaces the bytes of the entry under a number. It returns the bytes of all entries together.
     ///
-    /// `NotThere` where the number has no entry, and else the rejections of `enter`. The account stays then as it was.
+    /// The error is `NotThere` where the number has no entry, and otherwise `TooLarge`, `OverBudget` or `NotKept` as
+    /// for `enter`. After an error the account is unchanged.
     pub fn change<'a>(
         &mut self,
         tenant: &'a str,
@@ -101,7 +105,7 @@ impl Account {
         self.put(tenant, number, had, bytes)
     }
 
-    // Puts the bytes under the number, in the place of those that it has.
+    /// Stores the bytes under the number, in place of the `had` bytes that it has.
     fn put<'a>(
         &mut self,
         tenant: &'a str,
@@ -125,7 +129,7 @@ impl Account {
         Ok(total)
     }
 
-    /// Takes the entry under the number out, and answers its bytes, or None where there is none.
+    /// Removes the entry under the number. It returns the bytes of the entry, or None where there is none.
     pub fn release(&mut self, number: u64) -> Option<usize>
         ensures value { result ≡ bytes_at number self.old }
         ensures without { self.new ≡ without number self.old }

@@ -1,4 +1,4 @@
-//! A limit of bytes and the test against it.
+//! A limit in bytes and the check against it.
 ghost use Rattle.std.specs.Prelude.{◌≡◌, ◌^◌, ◌<◌, ◌≤◌, IfOk, IfErr};
 ghost use Rattle.tenant_budget.specs.Measured.{Declares};
 ghost use Rattle.tenant_budget.specs.Rejected.{IsOverBudget, RejectsValue};
@@ -6,17 +6,17 @@ ghost use Rattle.tenant_budget.specs.Rejected.{IsOverBudget, RejectsValue};
 use crate::rejection::Rejection;
 use allocative::{Allocative, Described, size_of_unique};
 
-/// The most bytes that a tenant's data may hold.
+/// The most bytes that the data of a tenant may hold.
 #[derive(Clone, Copy, Debug, PartialEq, Eq)]
 pub struct Budget {
-    /// In bytes.
+    /// The limit in bytes.
     pub limit: usize,
-    // As each word: sums within the limit fit one.
+    // The limit fits a word, so each sum within it does.
     ghost fits: { limit < 2 ^ 64 },
 }
 
 impl Budget {
-    /// Answers the bytes where they are at most the limit, and else `OverBudget` with them.
+    /// Returns the bytes where they are at most the limit, and otherwise `OverBudget`.
     pub fn check<'a>(&self, tenant: &'a str, bytes: usize) -> Result<usize, Rejection<'a>>
         ensures within { IfOk result (λ checked. (checked ≡ bytes) × (bytes ≤ self.now.limit)) }
         ensures over { IfErr result (IsOverBudget tenant.now bytes self.now.limit) }
@@ -31,17 +31,18 @@ impl Budget {
         Ok(bytes)
     }
 
-    /// Measures a value by itself: answers the bytes that it declares, its own size and what it uniquely holds on the
-    /// heap, where they are within the limit.
+    /// Measures a value by itself. Where the bytes that it declares are within the limit, it returns them: its own size
+    /// and what it uniquely holds on the heap.
     ///
-    /// `OverBudget` exactly where they are more, and `NotMeasured` with the refusal of `size_of_unique`. It takes no
-    /// memory.
+    /// It returns `OverBudget` exactly where they exceed the limit, and `NotMeasured` where `size_of_unique` returns an
+    /// error. It allocates nothing.
     pub fn admit<'a, T: Allocative + Described>(
         &self,
         tenant: &'a str,
         value: &T,
     ) -> Result<usize, Rejection<'a>>
-        ensures admitted { IfOk result (λ bytes. Declares T.size (T.may_show value.now) bytes × (bytes ≤ self.now.limit)) }
+        ensures admitted { IfOk result
+            (λ bytes. Declares T.size (T.may_show value.now) bytes × (bytes ≤ self.now.limit)) }
         ensures rejected { IfErr result (RejectsValue T.size (T.may_show value.now) tenant.now self.now.limit) }
     {
         let bytes = size_of_unique(value)?;

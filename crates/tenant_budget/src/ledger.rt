@@ -21,7 +21,7 @@ pub struct Ledger {
 }
 
 impl Ledger {
-    /// A ledger with no account. It takes no memory.
+    /// A ledger with no account. It allocates nothing.
     pub fn new(alloc: Global) -> Ledger
         ensures { accounts_of result ≡ [] }
     {
@@ -33,10 +33,11 @@ impl Ledger {
 
     /// Opens an account with no entry for a tenant.
     ///
-    /// `HasAccount` exactly where the tenant has one, and else `NotKept` for want of memory. All accounts stay then as
-    /// they were.
+    /// The error is `HasAccount` exactly where the tenant has one, and otherwise `NotKept` where memory runs out. After
+    /// an error all accounts are unchanged.
     pub fn open<'a>(&mut self, tenant: &'a str, budget: Budget) -> Result<(), Rejection<'a>>
-        ensures opened { OnOk result (ChangesAccount tenant.now (record { limit = budget.limit; entries = [] }) self.old self.new) }
+        ensures opened { OnOk result
+            (ChangesAccount tenant.now (record { limit = budget.limit; entries = [] }) self.old self.new) }
         ensures new { OnOk result (account_of tenant.now self.old ≡ None) }
         ensures rejected { IfErr result (RejectsOpening tenant.now (account_of tenant.now self.old)) }
         ensures unchanged { OnErr result (IsUnchanged self.old self.new) }
@@ -61,35 +62,47 @@ impl Ledger {
         &self.accounts
     }
 
-    /// The bytes of all that was admitted for the tenant, which are within its limit. None where it has no account.
+    /// The bytes of all that was admitted for the tenant, which are within its limit. None where the tenant has no
+    /// account.
     pub fn bytes_of(&self, tenant: &str) -> Option<usize>
-        ensures { MatchOption (account_of tenant.now self.now) (result ≡ None) (λ account. IsSomeAnd result (λ bytes. IsSummed bytes account)) }
+        ensures { MatchOption (account_of tenant.now self.now) (result ≡ None)
+            (λ account. IsSomeAnd result (λ bytes. IsSummed bytes account)) }
     {
         let account = self.accounts.get(tenant)?;
         Some(account.bytes())
     }
 
-    /// Measures a value of any type and enters its bytes for the tenant, under a number that has none yet. Answers the
-    /// bytes of all that was admitted for the tenant.
+    /// Measures a value of any type and adds an entry with its bytes for the tenant, under a number that has none. It
+    /// returns the bytes of all entries of the tenant.
     ///
-    /// `NotMeasured` with the refusal of `size_of_unique`, `NoAccount` where the tenant has none, `Taken` where the
-    /// number has an entry, else `TooLarge` where all bytes together do not fit a word, else `OverBudget` where they
-    /// would pass the limit, and `NotKept` for want of memory. All accounts stay then as they were.
+    /// It returns an error
+    /// - `NotMeasured` where `size_of_unique` returns an error,
+    /// - otherwise `NoAccount` where the tenant has no account,
+    /// - otherwise `Taken` where the number has an entry,
+    /// - otherwise `TooLarge` where the bytes of all entries together do not fit a word,
+    /// - otherwise `OverBudget` where they exceed the limit,
+    /// - otherwise `NotKept` where memory runs out.
+    ///
+    /// After an error all accounts are unchanged.
     pub fn admit<'a, T: Allocative + Described>(
         &mut self,
         tenant: &'a str,
         number: u64,
         value: &T,
     ) -> Result<usize, Rejection<'a>>
-        ensures admitted { IfOk result (λ total. (bytes : ℕ) × Declares T.size (T.may_show value.now) bytes × Enters tenant.now number bytes None total self.old self.new) }
-        ensures rejected { IfErr result (RejectsMeasured T.size (T.may_show value.now) (λ bytes. RejectsIn tenant.now (RejectsNew tenant.now number bytes) (account_of tenant.now self.old))) }
+        ensures admitted { IfOk result
+            (λ total. (bytes : ℕ) × Declares T.size (T.may_show value.now) bytes
+            × Enters tenant.now number bytes None total self.old self.new) }
+        ensures rejected { IfErr result
+            (RejectsMeasured T.size (T.may_show value.now)
+            (λ bytes. RejectsIn tenant.now (RejectsNew tenant.now number bytes) (account_of tenant.now self.old))) }
         ensures unchanged { OnErr result (IsUnchanged self.old self.new) }
     {
         let bytes = size_of_unique(value)?;
         self.enter(tenant, number, bytes)
     }
 
-    // Enters bytes for the tenant, under a number that has none yet.
+    /// Adds an entry for the tenant, under a number that has none.
     fn enter<'a>(
         &mut self,
         tenant: &'a str,
@@ -97,7 +110,8 @@ impl Ledger {
         bytes: usize,
     ) -> Result<usize, Rejection<'a>>
         ensures entered { IfOk result (λ total. Enters tenant.now number bytes None total self.old self.new) }
-        ensures rejected { IfErr result (RejectsIn tenant.now (RejectsNew tenant.now number bytes) (account_of tenant.now self.old)) }
+        ensures rejected { IfErr result
+            (RejectsIn tenant.now (RejectsNew tenant.now number bytes) (account_of tenant.now self.old)) }
         ensures unchanged { OnErr result (IsUnchanged self.old self.new) }
     {
         let Some(account) = self.accounts.get_mut(tenant) else {
@@ -106,34 +120,41 @@ impl Ledger {
         account.enter(tenant, number, bytes)
     }
 
-    /// Measures a value again after it has changed, and puts its bytes in the place of those under the number. Answers
-    /// the bytes of all that was admitted for the tenant.
+    /// Measures a value again after it has changed, and replaces the bytes of the entry under the number. It returns
+    /// the bytes of all entries of the tenant.
     ///
-    /// `NotThere` where the number has no entry, and else the rejections of `admit`. All accounts stay then as they
-    /// were, with the bytes that the value declared before.
+    /// The errors are those of `admit`, except that it returns `NotThere` where the number has no entry, and never
+    /// `Taken`. After an error all accounts are unchanged, and the entry has the bytes that the value declared before.
     pub fn measure_again<'a, T: Allocative + Described>(
         &mut self,
         tenant: &'a str,
         number: u64,
         value: &T,
     ) -> Result<usize, Rejection<'a>>
-        ensures measured { IfOk result (λ total. (bytes : ℕ) × (had : ℕ) × Declares T.size (T.may_show value.now) bytes × Enters tenant.now number bytes (Some had) total self.old self.new) }
-        ensures rejected { IfErr result (RejectsMeasured T.size (T.may_show value.now) (λ bytes. RejectsIn tenant.now (RejectsChange tenant.now number bytes) (account_of tenant.now self.old))) }
+        ensures measured { IfOk result
+            (λ total. (bytes : ℕ) × (had : ℕ) × Declares T.size (T.may_show value.now) bytes
+            × Enters tenant.now number bytes (Some had) total self.old self.new) }
+        ensures rejected { IfErr result
+            (RejectsMeasured T.size (T.may_show value.now)
+            (λ bytes. RejectsIn tenant.now (RejectsChange tenant.now number bytes)
+            (account_of tenant.now self.old))) }
         ensures unchanged { OnErr result (IsUnchanged self.old self.new) }
     {
         let bytes = size_of_unique(value)?;
         self.change(tenant, number, bytes)
     }
 
-    // Puts bytes in the place of those under the number.
+    /// Replaces the bytes of the tenant's entry under the number.
     fn change<'a>(
         &mut self,
         tenant: &'a str,
         number: u64,
         bytes: usize,
     ) -> Result<usize, Rejection<'a>>
-        ensures changed { IfOk result (λ total. (had : ℕ) × Enters tenant.now number bytes (Some had) total self.old self.new) }
-        ensures rejected { IfErr result (RejectsIn tenant.now (RejectsChange tenant.now number bytes) (account_of tenant.now self.old)) }
+        ensures changed { IfOk result
+            (λ total. (had : ℕ) × Enters tenant.now number bytes (Some had) total self.old self.new) }
+        ensures rejected { IfErr result
+            (RejectsIn tenant.now (RejectsChange tenant.now number bytes) (account_of tenant.now self.old)) }
         ensures unchanged { OnErr result (IsUnchanged self.old self.new) }
     {
         let Some(account) = self.accounts.get_mut(tenant) else {
@@ -142,8 +163,8 @@ impl Ledger {
         account.change(tenant, number, bytes)
     }
 
-    /// Takes the entry under the number off the tenant's bytes, and answers how many that were. None, and nothing has
-    /// changed, where there is no such entry.
+    /// Removes the tenant's entry under the number. It returns the bytes of the entry. Where there is none, it returns
+    /// None and nothing changes.
     pub fn release(&mut self, tenant: &str, number: u64) -> Option<usize>
         ensures value { result ≡ option_and_then (bytes_at number) (account_of tenant.now self.old) }
         ensures released { IfSome result (λ bytes. Releases tenant.now number bytes self.old self.new) }

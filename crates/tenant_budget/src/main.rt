@@ -13,14 +13,14 @@ use rejection::Rejection;
 use std::alloc::{AllocError, Global};
 use std::io;
 
-// The text with no room for more. It declares 24 bytes, and one for each byte of the text.
+/// The text without spare capacity. It declares 24 bytes, and one for each byte of the text.
 fn note(alloc: Global, text: &str) -> Result<String, AllocError> {
     let mut note = String::with_capacity(alloc, text.len())?;
     note.push_str(text)?;
     Ok(note)
 }
 
-// The whole numbers below the count, with no room for more. They declare 24 bytes, and four for each number.
+/// The whole numbers below the count, without spare capacity. They declare 24 bytes, and four for each number.
 fn numbers(alloc: Global, count: u32) -> Result<Vec<u32>, AllocError> {
     let mut numbers = Vec::with_capacity(alloc, count as usize)?;
     for number in 0..count {
@@ -36,7 +36,7 @@ fn tell(rt: &impl Print, tenant: &str, answer: Result<usize, Rejection<'_>>) -> 
     }
 }
 
-// What is billed to each tenant.
+/// Prints what is billed to each tenant.
 fn bill(rt: &impl Print, ledger: &Ledger) -> io::Result<()> {
     for (tenant, account) in ledger.accounts() {
         let (bytes, limit) = (account.bytes(), account.limit());

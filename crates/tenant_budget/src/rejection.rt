@@ -1,24 +1,24 @@
-//! Why data were not admitted.
+//! Why data is not admitted.
 use allocative::Refusal;
 use thiserror::Error;
 
-/// Why data were not admitted. Making one takes no memory.
+/// Why data is not admitted. Making one allocates nothing.
 #[derive(Clone, Copy, Debug, PartialEq, Eq, Error)]
 pub enum Rejection<'a> {
-    /// The tenant's data would hold more bytes than are allowed.
+    /// The tenant's data would hold more bytes than the limit allows.
     #[error("tenant `{tenant}` asks for {bytes} bytes, of {limit} allowed")]
     OverBudget {
         tenant: &'a str,
         bytes: usize,
         limit: usize,
     },
-    /// Measuring the data was refused.
+    /// The data could not be measured.
     #[error("not measured: {0}")]
     NotMeasured(Refusal),
     /// The bytes of the tenant's data together do not fit a word.
     #[error("sizes do not fit")]
     TooLarge,
-    /// A growth of the ledger's own memory was refused.
+    /// The ledger's own memory could not grow.
     #[error("out of memory")]
     NotKept,
     /// The tenant has no account.
@@ -26,12 +26,12 @@ pub enum Rejection<'a> {
     NoAccount {
         tenant: &'a str,
     },
-    /// The tenant has an account already.
+    /// The tenant already has an account.
     #[error("tenant `{tenant}` has an account")]
     HasAccount {
         tenant: &'a str,
     },
-    /// The number has an entry already.
+    /// The number already has an entry.
     #[error("tenant `{tenant}` has an entry {number}")]
     Taken {
         tenant: &'a str,

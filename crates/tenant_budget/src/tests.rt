@@ -1,4 +1,4 @@
-// Values that are too large, and values that cannot be measured.
+//! Tests with values that are too large, and with values that cannot be measured.
 #![tactic(auto, using(allocative::proofs::Parts::parts, allocative::proofs::Meaning::entered_refused))]
 
 ghost use Rattle.std.specs.Prelude.{codes, Some, false};
@@ -11,7 +11,7 @@ use crate::{note, numbers};
 use allocative::{Allocative, Described, Part, Refusal, Visitor};
 use std::test::Fail;
 
-// Refuses to be visited.
+/// A value whose visit fails.
 #[derive(Drop)]
 struct Refuses(Refusal);
 
@@ -49,7 +49,7 @@ impl Allocative for Refuses {
     }
 }
 
-// Declares so many bytes that two of it do not fit a word.
+/// A value that declares so many bytes that those of two do not fit a word.
 #[derive(Drop)]
 struct HalfOfAll;
 
