@@ -1,4 +1,4 @@
--- What an insertion makes of the entries.
+-- The entries after an insertion.
 use Rattle.std.proofs.Common.{◌≡◌, ℕ, ◌+◌, ◌-◌, ◌<◌, ◌≤◌, Bool, true, false, Option, Some, None, [], ◌∷◌, ◌++◌, length, take, drop, refl, sym, ap, ◌∙◌, subst, arith}
 use Rattle.std.specs.Map.{lookup, lookup_entry, remove_entry, values_of}
 use Rattle.std.specs.Option.{option_map, unwrap_or}
@@ -19,7 +19,7 @@ use Rattle.bounded_cache.specs.declared.error.CacheError.TheVariants.{TooLarge, 
 use Rattle.allocative.specs.Forest.{Forest}
 
 module _ {K V : Type 0} where
-  -- Nothing is removed where no key passes.
+  -- Nothing is removed where no key passes the test.
   pub none_removed : (test : K → Bool) (es : Entries K V) → lookup_entry test es ≡ None → remove_entry test es ≡ es
   none_removed test [] none = refl
   none_removed test (e ∷ es) none = (elim (test e.0) as (λ y. test e.0 ≡ y → remove_entry test (e ∷ es) ≡ e ∷ es) [
@@ -27,29 +27,29 @@ module _ {K V : Type 0} where
     | false ↦ λ t. let none' = rw t at none in rw (t, none_removed test es none')
   ]) refl
 
-  -- The pair goes first, and only what the key had goes.
+  -- Below the capacity, `put` places the pair first and removes only the entry of an equal key.
   pub put_entries-unbounded : (eq : K → K → Bool) (key : K) (k : Kept V) (es : Entries K V) (cap : ℕ) → length es < cap → put_entries eq (lru_cache es cap) key k ≡ (stored_key eq key es, k) ∷ remove_entry (eq key) es
   put_entries-unbounded eq key k es cap fewer = (elim (lookup_entry (eq key) es) as (λ o. lookup_entry (eq key) es ≡ o → put_entries eq (lru_cache es cap) key k ≡ (stored_key eq key es, k) ∷ remove_entry (eq key) es) [
     | None ↦ λ none. rw (none, none_removed (eq key) es none, take_all (cap - 1) es (omega arith)) refl
     | Some e ↦ λ some. rw some refl
   ]) refl
 
-  -- The bytes of what the key had, and those of the others.
+  -- The bytes under a removed key and those of the remaining entries are the bytes of all.
   pub bytes_of-remove_entry : (test : K → Bool) (es : Entries K V) (had : Option (Kept V)) → had ≡ lookup test es → bytes_of (remove_entry test es) + unwrap_or (option_map (λ (k : Kept V). k.bytes) had) 0 ≡ bytes_of es
   bytes_of-remove_entry test es had is = rw is (sum_by-remove_entry (λ (k : Kept V). k.bytes) test es)
 
-  -- A list with this first entry.
+  -- A list is its first entry and the rest.
   first_and_rest : (e : K × Kept V) (es : Entries K V) → take 1 es ≡ e ∷ [] → es ≡ e ∷ drop 1 es
   first_and_rest e [] is = cc
   first_and_rest e (x ∷ rest) is = cc
 
-  -- The bytes of a list with this first entry.
+  -- The bytes of a list are those of its first entry and of the rest.
   pub bytes_of-first : (e : K × Kept V) (es : Entries K V) → take 1 es ≡ e ∷ [] → e.1.bytes + bytes_of (drop 1 es) ≡ bytes_of es
   bytes_of-first e es is = let cut = first_and_rest e es is in subst (λ l. e.1.bytes + bytes_of (drop 1 es) ≡ bytes_of l) (sym cut) (sym (sum_by-cons (λ (k : Kept V). k.bytes) e.1 (values_of (drop 1 es))))
 
 module _ {V : Type 0} (size : Option ℕ) (may_show : V → Forest → Type 0) where
   module _ {F K : Type 0} (eq : K → K → Bool) (step : F → K → V → F → Type 0) where
-    -- What was put first and what shrinking left are an insertion.
+    -- Putting a value first and then shrinking the others is an insertion.
     pub inserted : (went : F) (key : K) (v : V) (n bound : ℕ) (es put now : Entries K V) → IsFigure size may_show v n → n ≤ bound → put ≡ (stored_key eq key es, kept v n) ∷ remove_entry (eq key) es → take 1 now ≡ take 1 put → bytes_of (drop 1 now) ≤ bound - n → KeepsRecent step went (bound - n) (drop 1 put) (drop 1 now) → Inserts size may_show eq step went key v (bounded es bound) (bounded now bound)
     inserted went key v n bound es put now figure fits is first within recent = record {
       bytes = n;
@@ -60,13 +60,14 @@ module _ {V : Type 0} (size : Option ℕ) (may_show : V → Forest → Type 0) w
       is = ap (λ l. bounded l bound) (first_and_rest (stored_key eq key es, kept v n) now (first ∙ ap (take 1) is));
     }
 
-    -- The same, with the bytes of all that is kept then.
+    -- Putting a value first and then shrinking the others is an insertion, and the sum of the bytes is that of all
+    -- entries.
     pub insertion : (went : F) (key : K) (v : V) (n bound rest : ℕ) (es put now : Entries K V) → IsFigure size may_show v n → n ≤ bound → put ≡ (stored_key eq key es, kept v n) ∷ remove_entry (eq key) es → take 1 now ≡ take 1 put → rest ≡ bytes_of (drop 1 now) → rest ≤ bound - n → KeepsRecent step went (bound - n) (drop 1 put) (drop 1 now) → (n + rest ≡ bytes_of now) × Inserts size may_show eq step went key v (bounded es bound) (bounded now bound)
     insertion went key v n bound rest es put now figure fits is first sum within recent =
         let counted = bytes_of-first (stored_key eq key es, kept v n) now (first ∙ ap (take 1) is) in
         (omega (arith, counted, sum), inserted went key v n bound es put now figure fits is first (omega (arith, sum, within)) recent)
 
-    -- An insertion keeps the bound.
+    -- After an insertion the cache is still within its bound.
     pub Inserts-bounded : (went : F) (key : K) (v : V) (old new : _) → Inserts size may_show eq step went key v old new → IsBounded size may_show old → IsBounded size may_show new
     Inserts-bounded went key v old new i h =
         let P = IsMeasured size may_show in
@@ -78,24 +79,24 @@ module _ {V : Type 0} (size : Option ℕ) (may_show : V → Forest → Type 0) w
           measured = All-cons P (kept v i.bytes) (values_of i.others) i.figure stay;
         })
 
-  -- What is left without an entry keeps the bound.
+  -- After an entry is removed the cache is still within its bound.
   pub without-bounded : {K : Type 0} (test : K → Bool) (c : Bounded K V) → IsBounded size may_show c → IsBounded size may_show (without test c)
   without-bounded {K} test c h = record {
     within = let s = sum_by-remove_entry (λ (k : Kept V). k.bytes) test c.entries in omega (arith, s, h.within);
     measured = All-map-remove_entry test (λ (e : K × Kept V). e.1) (IsMeasured size may_show) c.entries h.measured;
   }
 
-  -- The figure of a value that was measured.
+  -- A value that was measured has the figure that was measured.
   pub figure_of : (v : V) (n : ℕ) (measured : Result ℕ Refusal) → measured ≡ Ok n → IfOk measured (IsFigure size may_show v) → IsFigure size may_show v n
   figure_of v n measured is h = let P : Result ℕ Refusal → Type 0 = λ r. IfOk r (IsFigure size may_show v) in subst P is h
 
-  -- Bytes are refused as a value with this figure is.
+  -- A value whose figure is refused is refused.
   refused_figure : (v : V) (n bound : ℕ) (e : CacheError) → IsFigure size may_show v n → RefusesBytes n bound e → RefusesInsert size may_show v bound e
   refused_figure v n bound (TooLarge told most) figure h = (subst (IsFigure size may_show v) (sym h.0) figure, h.1, subst (λ (m : ℕ). bound < m) (sym h.0) h.2)
   refused_figure v n bound (NotMeasured e) figure h = absurd h
   refused_figure v n bound Memory figure h = (n, figure, h)
 
-  -- A value is refused as it is where it was measured, or as measuring it was.
+  -- A value is refused for the bytes that were measured, or because it could not be measured.
   pub refused_with : {K : Type 0} (key : K) (v : V) (bound : ℕ) (measured : Result ℕ Refusal) (r : Result (Option V) (Refused K V)) → IfOk measured (IsFigure size may_show v)
       → MatchResult measured (λ n. IfErr r (λ x. RefusesBytes n bound x.error)) (λ e. r ≡ Err (record { error = NotMeasured e; key = key; value = v })) → IfErr r (λ x. RefusesInsert size may_show v bound x.error)
   refused_with key v bound (Ok n) (Ok had) figure h = tt

@@ -1,4 +1,4 @@
--- What stays true while the least recently used go.
+-- What stays true while the least recently used entries are removed.
 use Rattle.std.proofs.Common.{◌≡◌, ℕ, ◌+◌, ◌-◌, ◌<◌, ◌≤◌, Some, None, [], ◌∷◌, ◌++◌, length, take, drop, sym, ◌∙◌, subst, arith, append_assoc}
 use Rattle.std.proofs.lemmas.List.{map-append}
 use Rattle.std.proofs.lemmas.List.Sums.{sum_by_push}
@@ -8,13 +8,13 @@ use Rattle.lru.proofs.Pairs.{cut_end, last_of_push}
 use Rattle.bounded_cache.specs.declared.cache.Kept.{Kept}
 use Rattle.bounded_cache.specs.Entries.{Entries, bytes_of, IsNeeded, HandsBack, KeepsRecent}
 
--- One entry more at the end.
+-- The bytes of a list with one entry more at its end.
 pub bytes_of-push : {K V : Type 0} (us : Entries K V) (y : K × Kept V) → bytes_of (us ++ y ∷ []) ≡ bytes_of us + y.1.bytes
 bytes_of-push {K} us y = rw (map-append (λ (e : K × Kept _). e.1) us (y ∷ [])) (sum_by_push (λ (k : Kept _). k.bytes) (values_of us) y.1)
 
 module _ {F K V : Type 0} (step : F → K → V → F → Type 0) (went : F) (room : ℕ) (before : Entries K V) where
-  -- The first entry is the old one, the others are the most recently used of the old others, and they have this many
-  -- bytes. The closure, in the state f, was called once with each that went.
+  -- The first entry is unchanged, the others are the most recently used of the old others, and they have `left` bytes.
+  -- The closure, now in the state f, was called once with each removed entry.
   pub record Shrinking (left : ℕ) (es : Entries K V) (f : F) : Type 0 where
     pub sum : left ≡ bytes_of (drop 1 es)
     pub first : take 1 es ≡ take 1 before
@@ -23,8 +23,8 @@ module _ {F K V : Type 0} (step : F → K → V → F → Type 0) (went : F) (ro
     pub needed : IsNeeded room (drop 1 es) gone
     pub handed : HandsBack step went gone f
 
-  -- The entry that goes has no more bytes than there are, and the same holds without it, once the closure was called
-  -- with it.
+  -- The removed entry has at most `left` bytes. After the closure is called with it, `Shrinking` holds for the other
+  -- entries.
   abbrev pub Goes : ℕ → Entries K V → F → K × Kept V → Type 0
   Goes left es f e = (e.1.bytes ≤ left) × ((g : F) → step f e.0 e.1.value g → Shrinking (left - e.1.bytes) (take (length es - 1) es) g)
 
@@ -46,7 +46,7 @@ module _ {F K V : Type 0} (step : F → K → V → F → Type 0) (went : F) (ro
       ) in
       subst (Goes left (h ∷ (us ++ y ∷ [])) f) same at_y
 
-  -- One step.
+  -- Removing the last entry is one step of `Shrinking`.
   pub goes : (left : ℕ) (es : Entries K V) (f : F) (e : K × Kept V) → Shrinking left es f → room < left → last_entry es ≡ Some e → Goes left es f e
   goes left [] f e s more is = absurd (omega (arith, s.sum))
   goes left (h ∷ []) f e s more is = absurd (omega (arith, s.sum))
@@ -54,12 +54,12 @@ module _ {F K V : Type 0} (step : F → K → V → F → Type 0) (went : F) (ro
       let cut = cut_end (x ∷ rest) (omega arith) in
       subst (λ l. Shrinking left (h ∷ l) f → last_entry (h ∷ l) ≡ Some e → Goes left (h ∷ l) f e) (sym cut.2) (λ t same. goes_cut left h cut.0 cut.1 f e t more same) s is
 
-  -- There is an entry to go.
+  -- While there are more bytes than there is room, there is an entry to remove.
   pub never_none : (left : ℕ) (es : Entries K V) (f : F) → Shrinking left es f → room < left → last_entry es ≡ None → ⊥
   never_none left [] f s more is = omega (arith, s.sum)
   never_none left (h ∷ rest) f s more is = let cut = cut_end (h ∷ rest) (omega arith) in let last = last_of_push cut.0 cut.1 in let whole = cut.2 in let some : last_entry (h ∷ rest) ≡ Some cut.1 = subst (λ l. last_entry l ≡ Some cut.1) (sym whole) last.0 in cc
 
-  -- What went so far is what went.
+  -- The remaining entries are the most recently used, and the removed ones had to be removed.
   pub recent : (left : ℕ) (es : Entries K V) (f : F) → Shrinking left es f → KeepsRecent step went room (drop 1 before) (drop 1 es)
   recent left es f s = record {
     gone = s.gone;

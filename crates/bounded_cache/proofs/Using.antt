@@ -15,7 +15,7 @@ use Rattle.bounded_cache.specs.Entries.{Entries, bytes_of, Bounded, used, IsMeas
 use Rattle.bounded_cache.proofs.Inserting.{bytes_of-remove_entry}
 
 module _ {K V : Type 0} (test : K → Bool) (es : Entries K V) where
-  -- The bytes of an entry that is taken out, and those of the others.
+  -- The bytes of a removed entry and those of the remaining entries are the bytes of all.
   pub bytes_of-taken : (e : K × Kept V) → Some e ≡ lookup_entry test es → bytes_of (remove_entry test es) + e.1.bytes ≡ bytes_of es
   bytes_of-taken e is = bytes_of-remove_entry test es (Some e.1) (ap (option_map (λ (f : K × Kept V). f.1)) is ∙ lookup-lookup_entry test es)
 
@@ -36,14 +36,14 @@ module _ {K V : Type 0} (test : K → Bool) (es : Entries K V) where
         rw some (All-cons P e.1 (values_of (remove_entry test es)) it (All-map-remove_entry test (λ (f : K × Kept V). f.1) P es h))
   ]) refl
 
--- The bound is kept.
+-- After a use of a key the cache is still within its bound.
 pub used-bounded : {K V : Type 0} (size : Option ℕ) (may_show : V → Forest → Type 0) (test : K → Bool) (c : Bounded K V) → IsBounded size may_show c → IsBounded size may_show (used test c)
 used-bounded size may_show test c h = record {
   within = rw (bytes_of-promoted test c.entries) h.within;
   measured = All-promoted test c.entries (IsMeasured size may_show) h.measured;
 }
 
--- The entry of what was taken out.
+-- The entry of a key and a value that were found.
 pub taken : {K V : Type 0} (o : Option (K × Kept V)) (key : K) (v : V) → ◌≡◌ {A = Option (K × V)} (Some (key, v)) (option_map (λ e. (e.0, e.1.value)) o) → (had : Kept V) × (o ≡ Some (key, had)) × (had.value ≡ v)
 taken None key v is = absurd cc
 taken {K} {V} (Some e) key v is =

@@ -1,4 +1,4 @@
--- What a contract sees of a cache, and what its calls do.
+-- The model of a cache, and what its calls do.
 use Rattle.std.specs.Prelude.{◌≡◌, ℕ, ◌+◌, ◌-◌, ◌<◌, ◌≤◌, Bool, Option, Some, List, [], ◌∷◌, ◌++◌, All, sum_by, option_map, refl, ⊤}
 use Rattle.std.specs.Borrow.{Fml, RattleType, MutBor, follows_so}
 use Rattle.std.specs.Coded.{Coded, code_by, coded×, coded_list, coded_ℕ}
@@ -14,11 +14,11 @@ use Rattle.bounded_cache.specs.declared.error.CacheError.{CacheError}
 use Rattle.bounded_cache.specs.declared.error.CacheError.TheVariants.{TooLarge, NotMeasured, Memory}
 
 -- ---- a cache
--- A value v with the figure n.
+-- A value v with the figure n, its declared bytes.
 abbrev pub kept : {V : Type 0} → V → ℕ → Kept V
 kept v n = record { value = v; bytes = n }
 
--- The keys with what is kept under them, the most recently used first.
+-- The keys with their kept values, the most recently used first.
 abbrev pub Entries : Type 0 → Type 0 → Type 0
 Entries K V = List (K × Kept V)
 
@@ -26,59 +26,61 @@ Entries K V = List (K × Kept V)
 abbrev pub bytes_of : {K V : Type 0} → Entries K V → ℕ
 bytes_of es = sum_by (λ k. k.bytes) (values_of es)
 
--- The value that is kept under the key that passes the test.
+-- The value under the key that passes the test.
 abbrev pub value_at : {K V : Type 0} → (K → Bool) → Entries K V → Option V
 value_at test es = option_map (λ k. k.value) (lookup test es)
 
--- The key that stands in the list for this one: an equal key that is there already stays.
+-- The key that the list stores for this one: an equal key that is there already, or the key itself.
 abbrev pub stored_key : {K V : Type 0} → (K → K → Bool) → K → Entries K V → K
 stored_key eq key es = option_map_or (λ e. e.0) (lookup_entry (eq key) es) key
 
--- A cache as contracts see it: its entries, and the bytes that they may have.
+-- The model of a cache: its entries, and the bound on their bytes.
 pub record Bounded (K V : Type 0) : Type 0 where
   pub entries : Entries K V
   pub bound : ℕ
 
--- The cache of these two.
+-- The cache with these entries and this bound.
 abbrev pub bounded : {K V : Type 0} → Entries K V → ℕ → Bounded K V
 bounded es n = record { entries = es; bound = n }
 
--- A kept value is stored as the pair of its fields.
+-- A kept value is encoded as the pair of its fields.
 abbrev pub kept_code : {V : Type 0} → Coded V → Coded (Kept V)
 kept_code {V} v = code_by (V × ℕ) (coded× v coded_ℕ) (λ k. (k.value, k.bytes)) (λ p. kept p.0 p.1) (λ _. refl)
 
--- A cache is stored as the pair of its fields.
+-- A cache is encoded as the pair of its fields.
 abbrev pub bounded_code : {K V : Type 0} → Coded K → Coded V → Coded (Bounded K V)
-bounded_code {K} {V} k v = code_by (Entries K V × ℕ) (coded× (coded_list (coded× k (kept_code v))) coded_ℕ) (λ c. (c.entries, c.bound)) (λ p. bounded p.0 p.1) (λ _. refl)
+bounded_code {K} {V} k v =
+    code_by (Entries K V × ℕ) (coded× (coded_list (coded× k (kept_code v))) coded_ℕ) (λ c. (c.entries, c.bound))
+    (λ p. bounded p.0 p.1) (λ _. refl)
 
 -- ---- the order
--- The cache after a use of the key that passes the test: what is kept under it comes first, and the others stay in
--- their order.
+-- The cache after a use of the key that passes the test: its entry comes first, and the others stay in their order.
 abbrev pub used : {K V : Type 0} → (K → Bool) → Bounded K V → Bounded K V
 used test c = bounded (promoted test c.entries) c.bound
 
--- The cache without what is kept under the key that passes the test.
+-- The cache without the entry of the key that passes the test.
 abbrev pub without : {K V : Type 0} → (K → Bool) → Bounded K V → Bounded K V
 without test c = bounded (remove_entry test c.entries) c.bound
 
--- What c borrows is this value, once everything that was lent of it is given back.
+-- What c borrows has this value once everything that was lent from it has been returned.
 abbrev pub ends_as : (R : RattleType) → MutBor R.Denot → R.Denot → Fml
 ends_as R c end = follows_so R R c.ghost_name none (λ _ _. ⊤) (λ n. n ≡ end)
 
--- ---- what went
--- The first of the entries that went has no room beside those that stay; or none went.
+-- ---- evicted entries
+-- The first of the evicted entries has no room beside those that stay, or nothing was evicted.
 abbrev pub IsNeeded : {K V : Type 0} → ℕ → Entries K V → Entries K V → Type 0
 IsNeeded room stay [] = ⊤
 IsNeeded room stay (e ∷ more) = room < bytes_of stay + e.1.bytes
 
--- Calls took the closure from f to g, exactly one with each of these entries, the last entry first.
+-- Calls took the closure from f to g: exactly one with each of these entries, the last entry first.
 abbrev pub HandsBack : {F K V : Type 0} → (F → K → V → F → Type 0) → F → Entries K V → F → Type 0
 HandsBack step f [] g = f ≡ g
 HandsBack {F} step f (e ∷ es) g = (h : F) × HandsBack step f es h × step h e.0 e.1.value g
 
--- The entries after are the most recently used of those before. What went had to: beside what stays there is no room
--- for the first of it. The closure was called once with each that went.
-pub record KeepsRecent {F K V : Type 0} (step : F → K → V → F → Type 0) (went : F) (room : ℕ) (before after : Entries K V) : Type 0 where
+-- The entries after are the most recently used of those before. No fewer could be evicted: the first of the evicted
+-- ones has no room beside those that stay. The closure was called once with each of them.
+pub record KeepsRecent {F K V : Type 0} (step : F → K → V → F → Type 0) (went : F) (room : ℕ)
+    (before after : Entries K V) : Type 0 where
   pub gone : Entries K V
   pub parts : before ≡ after ++ gone
   pub needed : IsNeeded room after gone
@@ -86,8 +88,8 @@ pub record KeepsRecent {F K V : Type 0} (step : F → K → V → F → Type 0) 
   pub handed : HandsBack step went gone last
 
 -- ---- refusals
--- Why a value of so many bytes does not come into a cache of this bound: they pass the bound; or they fit, and memory
--- is refused.
+-- Why a cache with this bound refuses a value of so many bytes: they exceed the bound, or they are within it and memory
+-- runs out.
 abbrev pub RefusesBytes : ℕ → ℕ → CacheError → Type 0
 RefusesBytes bytes bound (TooLarge told most) = (told ≡ bytes) × (most ≡ bound) × (bound < bytes)
 RefusesBytes bytes bound (NotMeasured e) = ⊥
@@ -95,16 +97,16 @@ RefusesBytes bytes bound Memory = bytes ≤ bound
 
 module _ {V : Type 0} (size : Option ℕ) (may_show : V → Forest → Type 0) where
   -- ---- the figures
-  -- n is declared bytes of v: those of v itself and of all that v uniquely holds, in a showing that v may make.
+  -- n is a figure of v: the declared bytes of v itself and of all that v uniquely holds, in a forest that v may show.
   abbrev pub IsFigure : V → ℕ → Type 0
   IsFigure v n = IsSizeOfUnique size (may_show v) n
 
-  -- The figure is one of the value that it stands with.
+  -- The figure of a kept value is one of that value.
   abbrev pub IsMeasured : Kept V → Type 0
   IsMeasured k = IsFigure k.value k.bytes
 
-  -- Why v does not come into a cache of this bound: a figure of it passes the bound; or it was not measured; or it has
-  -- one that fits, and memory is refused.
+  -- Why a cache with this bound refuses v: a figure of v exceeds the bound, or v could not be measured, or a figure of
+  -- v is within the bound and memory runs out.
   abbrev pub RefusesInsert : V → ℕ → CacheError → Type 0
   RefusesInsert v bound (TooLarge bytes most) = IsFigure v bytes × (most ≡ bound) × (bound < bytes)
   RefusesInsert v bound (NotMeasured e) = ⊤
@@ -118,8 +120,9 @@ module _ {V : Type 0} (size : Option ℕ) (may_show : V → Forest → Type 0) w
       pub measured : All IsMeasured (values_of c.entries)
 
     module _ {F : Type 0} (eq : K → K → Bool) (step : F → K → V → F → Type 0) where
-      -- v is kept under the key with a figure of it, as the most recently used. What the key had is gone, and of the
-      -- others the least recently used, as many as had to go for the bound, each handed to the closure once.
+      -- The key now has v with a figure of v, as the most recently used entry. The old entry of the key is gone. Of the
+      -- others the least recently used are evicted, only as many as the bound requires, and the closure was called once
+      -- with each.
       pub record Inserts (went : F) (key : K) (v : V) (old new : Bounded K V) : Type 0 where
         pub bytes : ℕ
         pub others : Entries K V
@@ -128,8 +131,7 @@ module _ {V : Type 0} (size : Option ℕ) (may_show : V → Forest → Type 0) w
         pub recent : KeepsRecent step went (old.bound - bytes) (remove_entry (eq key) old.entries) others
         pub is : new ≡ bounded ((stored_key eq key old.entries, kept v bytes) ∷ others) old.bound
 
-      -- What the key that passes the test had was changed as `changed` says, measured again and kept as an insertion
-      -- keeps it.
+      -- The value of the key that passes the test was changed as `changed` says, measured again and inserted.
       pub record Changes (went : F) (test : K → Bool) (changed : V → V → Type 0) (old new : Bounded K V) : Type 0 where
         pub key : K
         pub had : Kept V
@@ -138,7 +140,8 @@ module _ {V : Type 0} (size : Option ℕ) (may_show : V → Forest → Type 0) w
         pub changes : changed had.value value
         pub inserts : Inserts went key value (without test old) new
 
-    -- What the key that passes the test had was changed as `changed` says, and is refused with its key, as an insertion
-    -- refuses it.
+    -- The value of the key that passes the test was changed as `changed` says, and inserting it again is refused. The
+    -- refusal has the key and the changed value.
     abbrev pub RefusesChange : (K → Bool) → (V → V → Type 0) → Bounded K V → Refused K V → Type 0
-    RefusesChange test changed old r = (had : Kept V) × (lookup_entry test old.entries ≡ Some (r.key, had)) × changed had.value r.value × RefusesInsert r.value old.bound r.error
+    RefusesChange test changed old r = (had : Kept V) × (lookup_entry test old.entries ≡ Some (r.key, had))
+        × changed had.value r.value × RefusesInsert r.value old.bound r.error

@@ -1,4 +1,4 @@
-//! A cache bounded by declared bytes. A clause sees it as its `entries`, the most recently used first, and its `bound`.
+//! A cache bounded by declared bytes. Contracts see it as its `entries`, the most recently used first, and its `bound`.
 ghost use Rattle.std.specs.Prelude.{◌≡◌, ◌+◌, ◌-◌, ◌^◌, ◌≤◌, Some, [], ◌∷◌, length, take, drop, OnOk, OnErr, IfOk, IfErr, IfNone, IfSome, MatchBool, MatchResult, Err, None, option_copied, ◌↔◌, IsTrue, is_some, option_map};
 ghost use Rattle.std.specs.Borrow.{sem};
 ghost use Rattle.std.specs.Fn.{FnOnceReturnsAtMut};
@@ -13,15 +13,15 @@ use std::alloc::{AllocError, AllocFailed, Global};
 use std::hash::Hash;
 use std::marker::Model;
 
-/// A value, and its declared bytes as they were measured when it came in.
+/// A value, and its declared bytes as they were measured when it was inserted.
 #[derive(Drop)]
 pub struct Kept<V> {
     value: V,
     bytes: usize,
 }
 
-/// Keeps values under keys, with at most so many declared bytes together as its bound says. Where a new value needs
-/// room, the least recently used go, and each that goes is handed back.
+/// A map whose values have together at most as many declared bytes as its bound. Where a new value needs room, the
+/// least recently used values are evicted, and each of them is handed back to the caller.
 #[derive(Drop)]
 pub struct BoundedCache<K: Eq + Hash, V: Allocative + Described> {
     entries: LruCache<K, Kept<V>>,
@@ -39,20 +39,23 @@ impl<K: Eq + Hash, V: Allocative + Described> Model for BoundedCache<K, V> {
 
     ghost view = { λ c. bounded c.entries.entries c.bound };
 
-    ghost invariant = { λ c. (c.entries.cap ≡ 2 ^ 64 - 1) × (c.bytes ≡ bytes_of c.entries.entries) × IsBounded V.size V.may_show (bounded c.entries.entries c.bound) };
+    ghost invariant = { λ c. (c.entries.cap ≡ 2 ^ 64 - 1) × (c.bytes ≡ bytes_of c.entries.entries)
+        × IsBounded V.size V.may_show (bounded c.entries.entries c.bound) };
 }
 
-// Puts the pair first, in place of what the key had, and answers that and its bytes. The others stay: no list is so
-// long that its count would let one go.
+/// Puts the pair first, in place of an entry with an equal key. It returns the old value and its bytes. The other
+/// entries stay: a list is never so long that the capacity would evict one.
 fn put<K: Eq + Hash + Drop, V: Drop>(
     entries: &mut LruCache<K, Kept<V>>,
     key: K,
     kept: Kept<V>,
 ) -> Result<(Option<V>, usize), AllocFailed<(K, Kept<V>)>>
     requires { entries.old.cap ≡ 2 ^ 64 - 1 }
-    ensures first { OnOk result (entries.new.entries ≡ (stored_key K.eq key entries.old.entries, kept) ∷ remove_entry (K.eq key) entries.old.entries) }
+    ensures first { OnOk result (entries.new.entries
+        ≡ (stored_key K.eq key entries.old.entries, kept) ∷ remove_entry (K.eq key) entries.old.entries) }
     ensures had { IfOk result (λ had. had.0 ≡ value_at (K.eq key) entries.old.entries) }
-    ensures bytes { IfOk result (λ had. bytes_of (remove_entry (K.eq key) entries.old.entries) + had.1 ≡ bytes_of entries.old.entries) }
+    ensures bytes { IfOk result (λ had. bytes_of (remove_entry (K.eq key) entries.old.entries) + had.1
+        ≡ bytes_of entries.old.entries) }
     ensures capacity { entries.new.cap ≡ entries.old.cap }
     ensures returned { IfErr result (λ failed. failed.value ≡ (key, kept)) }
     ensures err { OnErr result (entries.new ≡ entries.old) }
@@ -66,8 +69,8 @@ fn put<K: Eq + Hash + Drop, V: Drop>(
     }
 }
 
-// Lets the least recently used go until all but the first have at most `room` bytes, hands each to the closure, and
-// answers how many bytes they have then. They have `bytes` before.
+/// Evicts the least recently used entries until all but the first have at most `room` bytes. It passes each evicted
+/// entry to the closure, and returns the bytes of all but the first. On entry these have `bytes` bytes.
 fn shrink<K: Eq + Hash, V: Drop, F: FnMut(K, V)>(
     entries: &mut LruCache<K, Kept<V>>,
     bytes: usize,
@@ -79,7 +82,8 @@ fn shrink<K: Eq + Hash, V: Drop, F: FnMut(K, V)>(
     ensures sum { result ≡ bytes_of (drop 1 entries.new.entries) }
     ensures fits { result ≤ room }
     ensures first { take 1 entries.new.entries ≡ take 1 entries.old.entries }
-    ensures recent { KeepsRecent (λ f k v g. F.step f k v tt g) went room (drop 1 entries.old.entries) (drop 1 entries.new.entries) }
+    ensures recent { KeepsRecent (λ f k v g. F.step f k v tt g) went room (drop 1 entries.old.entries)
+        (drop 1 entries.new.entries) }
     ensures capacity { entries.new.cap ≡ entries.old.cap }
 {
     let mut left = bytes;
@@ -96,7 +100,7 @@ fn shrink<K: Eq + Hash, V: Drop, F: FnMut(K, V)>(
 impl<K: Eq + Hash + Drop, V: Allocative + Described> BoundedCache<K, V> {
     ghost use Rattle.bounded_cache.specs.contracts.cache.BoundedCache.{the_row};
 
-    /// A cache that keeps nothing, with a bound in declared bytes. It is refused for want of memory alone.
+    /// An empty cache with a bound in declared bytes. The only error is that memory runs out.
     pub fn new(alloc: Global, bound: usize) -> Result<Self, AllocError>
         ensures { IfOk result (λ c. c ≡ bounded [] bound) }
     {
@@ -108,12 +112,13 @@ impl<K: Eq + Hash + Drop, V: Allocative + Described> BoundedCache<K, V> {
         })
     }
 
-    /// Measures the value and keeps it under the key, as the most recently used, in place of what the key had, which is
-    /// the answer. Of the others the least recently used go, no more than must, and each is handed to `went` with its
-    /// key, the least recently used first.
+    /// Measures the value and inserts it under the key, as the most recently used. It returns the value that was there
+    /// before. Of the others the least recently used are evicted, no more than necessary. Each is passed to `went` with
+    /// its key, the least recently used first.
     ///
-    /// `TooLarge` where the value alone passes the bound, `NotMeasured` where `size_of_unique` refuses it, and `Memory`
-    /// where it fits and memory is refused. After an error nothing has changed, and key and value come back with it.
+    /// The error is `TooLarge` where the value alone exceeds the bound, `NotMeasured` where `size_of_unique` returns an
+    /// error, and `Memory` where the value is within the bound and memory runs out. The key and the value come with the
+    /// error, and the cache is unchanged.
     pub fn insert<F: FnMut(K, V)>(
         &mut self,
         key: K,
@@ -121,7 +126,8 @@ impl<K: Eq + Hash + Drop, V: Allocative + Described> BoundedCache<K, V> {
         went: F,
     ) -> Result<Option<V>, Refused<K, V>>
         requires { F.IsAlwaysCallable went }
-        ensures ok { OnOk result (Inserts V.size V.may_show K.eq (λ f k v g. F.step f k v tt g) went key value self.old self.new) }
+        ensures ok { OnOk result
+            (Inserts V.size V.may_show K.eq (λ f k v g. F.step f k v tt g) went key value self.old self.new) }
         ensures had { IfOk result (λ had. had ≡ value_at (K.eq key) self.old.entries) }
         ensures refused { IfErr result (λ r. RefusesInsert V.size V.may_show value self.old.bound r.error) }
         ensures returned { IfErr result (λ r. (r.key ≡ key) × (r.value ≡ value)) }
@@ -132,7 +138,7 @@ impl<K: Eq + Hash + Drop, V: Allocative + Described> BoundedCache<K, V> {
         self.keep(key, value, measured, went)
     }
 
-    // Keeps the value under the key, where it was measured.
+    /// Inserts the value under the key, or returns the error of the measurement.
     fn keep<F: FnMut(K, V)>(
         &mut self,
         key: K,
@@ -142,9 +148,12 @@ impl<K: Eq + Hash + Drop, V: Allocative + Described> BoundedCache<K, V> {
     ) -> Result<Option<V>, Refused<K, V>>
         requires callable { F.IsAlwaysCallable went }
         requires measured { IfOk measured (IsFigure V.size V.may_show value) }
-        ensures ok { OnOk result (Inserts V.size V.may_show K.eq (λ f k v g. F.step f k v tt g) went key value self.old self.new) }
+        ensures ok { OnOk result
+            (Inserts V.size V.may_show K.eq (λ f k v g. F.step f k v tt g) went key value self.old self.new) }
         ensures had { IfOk result (λ had. had ≡ value_at (K.eq key) self.old.entries) }
-        ensures refused { MatchResult measured (λ bytes. IfErr result (λ r. RefusesBytes bytes self.old.bound r.error)) (λ e. result ≡ Err (record { error = CacheError.NotMeasured e; key = key; value = value })) }
+        ensures refused { MatchResult measured
+            (λ bytes. IfErr result (λ r. RefusesBytes bytes self.old.bound r.error))
+            (λ e. result ≡ Err (record { error = CacheError.NotMeasured e; key = key; value = value })) }
         ensures returned { IfErr result (λ r. (r.key ≡ key) × (r.value ≡ value)) }
         ensures err { OnErr result (self.new ≡ self.old) }
         ensures bounded { IsBounded V.size V.may_show self.new }
@@ -176,7 +185,7 @@ impl<K: Eq + Hash + Drop, V: Allocative + Described> BoundedCache<K, V> {
         }
     }
 
-    /// Takes the key and its value out. None, and nothing has changed, where the key has none.
+    /// Removes the key and returns it with its value. Where there is no such key, it returns None and nothing changes.
     pub fn remove(&mut self, key: &K) -> Option<(K, V)>
         ensures value { result ≡ option_map (λ e. (e.0, e.1.value)) (lookup_entry (K.eq key.now) self.old.entries) }
         ensures others { self.new ≡ without (K.eq key.now) self.old }
@@ -188,10 +197,11 @@ impl<K: Eq + Hash + Drop, V: Allocative + Described> BoundedCache<K, V> {
         Some((key, kept.value))
     }
 
-    /// Changes the value under the key in place, measures it again and keeps it as `insert` does. False, and nothing
-    /// has changed, where the key has none.
+    /// Changes the value under the key in place, measures it again and inserts it as `insert` does. It returns whether
+    /// the cache has the key. Where it does not, nothing changes.
     ///
-    /// The errors are those of `insert`. After one, key and value have left the cache and come back with it.
+    /// The errors are those of `insert`. After an error the key and the value are no longer in the cache, and come with
+    /// the error.
     pub fn change<C: FnOnce(&mut V), F: FnMut(K, V)>(
         &mut self,
         key: &K,
@@ -200,8 +210,13 @@ impl<K: Eq + Hash + Drop, V: Allocative + Described> BoundedCache<K, V> {
     ) -> Result<bool, Refused<K, V>>
         requires changes { C.IsAlwaysCallable change }
         requires callable { F.IsAlwaysCallable went }
-        ensures ok { IfOk result (λ there. MatchBool there (Changes V.size V.may_show K.eq (λ f k v g. F.step f k v tt g) went (K.eq key.now) (λ v w. FnOnceReturnsAtMut C.FnOnce change v tt w) self.old self.new) ((lookup_entry (K.eq key.now) self.old.entries ≡ None) × (self.new ≡ self.old))) }
-        ensures refused { IfErr result (RefusesChange V.size V.may_show (K.eq key.now) (λ v w. FnOnceReturnsAtMut C.FnOnce change v tt w) self.old) }
+        ensures ok { IfOk result (λ there. MatchBool there
+            (Changes V.size V.may_show K.eq (λ f k v g. F.step f k v tt g) went (K.eq key.now)
+            (λ v w. FnOnceReturnsAtMut C.FnOnce change v tt w) self.old self.new)
+            ((lookup_entry (K.eq key.now) self.old.entries ≡ None) × (self.new ≡ self.old))) }
+        ensures refused { IfErr result
+            (RefusesChange V.size V.may_show (K.eq key.now)
+            (λ v w. FnOnceReturnsAtMut C.FnOnce change v tt w) self.old) }
         ensures err { OnErr result (self.new ≡ without (K.eq key.now) self.old) }
         ensures bounded { IsBounded V.size V.may_show self.new }
     {
@@ -217,14 +232,16 @@ impl<K: Eq + Hash + Drop, V: Allocative + Described> BoundedCache<K, V> {
 
     /// The value under the key, which becomes the most recently used.
     pub fn get(&mut self, key: &K) -> Option<&V>
-        ensures* order { sem 𝓛 (ends_as (the_row K.row V.row (record {}) (record { eq = K.eq }) (record { hash_input = K.hash_input }) V.Allocative V.Described) self.entry (used (K.eq key.now) self.old)) }
+        ensures* order { sem 𝓛 (ends_as
+            (the_row K.row V.row (record {}) (record { eq = K.eq }) (record { hash_input = K.hash_input }) V.Allocative
+            V.Described) self.entry (used (K.eq key.now) self.old)) }
         ensures value { option_copied result ≡ value_at (K.eq key.now) self.old.entries }
     {
         let kept = self.entries.get(key)?;
         Some(&kept.value)
     }
 
-    /// How many values are kept, each under a key of its own.
+    /// The number of values, each under a key of its own.
     pub fn len(&self) -> usize
         ensures len { result ≡ length self.now.entries }
         ensures distinct { IsDistinct K.eq (keys_of self.now.entries) }
@@ -232,21 +249,21 @@ impl<K: Eq + Hash + Drop, V: Allocative + Described> BoundedCache<K, V> {
         self.entries.len()
     }
 
-    /// Whether something is kept under the key. The order stays as it is.
+    /// Whether the cache has a value under the key. The order does not change.
     pub fn contains(&self, key: &K) -> bool
         ensures { result ≡ is_some (value_at (K.eq key.now) self.now.entries) }
     {
         self.entries.contains(key)
     }
 
-    /// Whether nothing is kept.
+    /// Whether the cache is empty.
     pub fn is_empty(&self) -> bool
         ensures { IsTrue result ↔ (self.now.entries ≡ []) }
     {
         self.entries.is_empty()
     }
 
-    /// The declared bytes of what is kept.
+    /// The declared bytes of all values together.
     pub fn bytes(&self) -> usize
         ensures sum { result ≡ bytes_of self.now.entries }
         ensures bounded { IsBounded V.size V.may_show self.now }
@@ -254,7 +271,7 @@ impl<K: Eq + Hash + Drop, V: Allocative + Described> BoundedCache<K, V> {
         self.bytes
     }
 
-    /// The declared bytes that may be kept.
+    /// The most declared bytes that the values may have together.
     pub fn bound(&self) -> usize
         ensures { result ≡ self.now.bound }
     {

@@ -5,7 +5,7 @@ use thiserror::Error;
 /// Why a cache did not keep a value.
 #[derive(Clone, Copy, Debug, PartialEq, Eq, Error)]
 pub enum CacheError {
-    /// The value has more declared bytes than the whole cache may keep.
+    /// The value has more declared bytes than the bound.
     #[error("{bytes} bytes do not fit a bound of {bound}")]
     TooLarge {
         /// The declared bytes of the value.
@@ -16,17 +16,17 @@ pub enum CacheError {
     /// The value could not be measured.
     #[error("not measured: {0}")]
     NotMeasured(Refusal),
-    /// A growth of memory was refused.
+    /// Memory ran out.
     #[error("out of memory")]
     Memory,
 }
 
-/// A value that a cache does not keep, with its key, and why.
+/// A value that a cache does not keep, with its key and the cause.
 #[derive(Drop)]
 pub struct Refused<K, V> {
-    /// Why it is not kept.
+    /// Why the value is not kept.
     pub error: CacheError,
-    /// The key that it was to be kept under.
+    /// The key that the value would have been under.
     pub key: K,
     /// The value itself.
     pub value: V,

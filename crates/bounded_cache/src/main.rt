@@ -1,4 +1,5 @@
-//! A cache of pages, bounded by declared bytes: pages come, one is read again, the least recently used goes, one grows.
+//! A cache of pages, bounded by declared bytes. Pages are inserted, one is read again, the least recently used is
+//! evicted, and one grows.
 #![tactic(auto)]
 
 mod cache;
@@ -8,19 +9,19 @@ use anyhow::Result;
 use cache::BoundedCache;
 use std::alloc::{AllocError, Global};
 
-/// Where a page stands.
+/// The place of a page.
 #[derive(Clone, Copy, Debug, PartialEq, Eq, Hash)]
 pub struct Place {
     book: u32,
     page: u32,
 }
 
-// A page of this text's length. It declares 24 bytes, and one for each byte of the text.
+/// An empty page with capacity for a text of this length. It declares 24 bytes, and one for each byte of the capacity.
 fn page(alloc: Global, length: usize) -> Result<Vec<u8>, AllocError> {
     Vec::with_capacity(alloc, length)
 }
 
-// What is kept of the pages 1 to 5 of the book.
+/// Prints which of the pages 1 to 5 of the book are in the cache, and its bytes.
 fn print_kept(rt: &impl Print, cache: &BoundedCache<Place, Vec<u8>>) -> Result<()> {
     print!(rt; "kept:")?;
     for page in 1..=5 {
@@ -34,7 +35,7 @@ fn print_kept(rt: &impl Print, cache: &BoundedCache<Place, Vec<u8>>) -> Result<(
     Ok(())
 }
 
-// Inserts a page, and prints which went for it, whether it came in and what is kept then.
+/// Inserts a page, and prints which pages it evicts, whether it was inserted and what the cache then has.
 fn insert(
     rt: &impl Print,
     cache: &mut BoundedCache<Place, Vec<u8>>,
@@ -55,7 +56,7 @@ fn insert(
     print_kept(rt, cache)
 }
 
-// Puts another text in the place of a page's, and prints which pages went for it and what is kept then.
+/// Replaces the text of a page, and prints which pages that evicts and what the cache then has.
 fn grow(
     rt: &impl Print,
     cache: &mut BoundedCache<Place, Vec<u8>>,

@@ -1,4 +1,4 @@
-// A value that cannot be measured, and the texts of the errors.
+//! Tests with a value that cannot be measured, of changes and removals, and of the texts of the errors.
 #![tactic(auto, using(allocative::proofs::Meaning::visited, allocative::proofs::Meaning::entered_refused))]
 
 ghost use Rattle.std.specs.Prelude.{codes, Some, false};
@@ -8,7 +8,7 @@ use crate::error::CacheError;
 use allocative::{Allocative, Described, Refusal, Visitor};
 use std::test::Fail;
 
-// Refuses to be visited.
+/// A value whose visit fails.
 #[derive(Drop)]
 struct Refuses(Refusal);
 

@@ -1,4 +1,4 @@
--- The entries after `put`, and the bytes of what the key had.
+-- The entries after `put`, and the bytes that were under the key.
 use Rattle.std.proofs.Common.{ap, ◌∙◌, sym, arith}
 use Rattle.std.specs.Prelude.{option_map}
 use Rattle.bounded_cache.specs.declared.cache.Kept.{Kept}

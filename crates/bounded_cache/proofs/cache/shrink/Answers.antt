@@ -1,4 +1,4 @@
--- Each round is one step of `Shrinking`, and no round finds no entry.
+-- Each round is one step of `Shrinking`, and each round finds an entry.
 use Rattle.std.proofs.Common.{sym, ◌∙◌, of_calls}
 use Rattle.bounded_cache.proofs.Shrinking.{goes, never_none, recent}
 use Rattle.bounded_cache.proofs.cache.shrink.Goals as goal

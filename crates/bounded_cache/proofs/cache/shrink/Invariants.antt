@@ -1,4 +1,4 @@
--- What stays true is in `Shrinking`; each round takes an entry away.
+-- `Shrinking` holds before each round, and each round removes an entry.
 use Rattle.std.proofs.Common.{◌≡◌, length}
 use Rattle.bounded_cache.proofs.Shrinking.{Shrinking}
 use Rattle.bounded_cache.proofs.cache.shrink.Given as goal

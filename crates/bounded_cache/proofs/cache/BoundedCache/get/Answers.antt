@@ -1,4 +1,4 @@
--- The fields after `LruCache::get`.
+-- The fields of the cache after `LruCache::get`.
 use Rattle.std.proofs.Common.{◌∙◌, sym}
 use Rattle.bounded_cache.specs.Entries.{bounded}
 use Rattle.bounded_cache.proofs.Using.{bytes_of-promoted, used-bounded}

@@ -1,4 +1,4 @@
--- Putting first and then shrinking is an insertion, and keeps the bound.
+-- Putting a value first and then shrinking the others is an insertion, and keeps the cache within its bound.
 use Rattle.std.proofs.Common.{arith}
 use Rattle.bounded_cache.proofs.Inserting.{insertion, Inserts-bounded, figure_of}
 use Rattle.bounded_cache.proofs.cache.BoundedCache.keep.Goals as goal

@@ -1,4 +1,4 @@
--- The bytes of what is taken out come off.
+-- The sum of the bytes is less by those of the removed entry.
 use Rattle.std.proofs.Common.{arith, sym}
 use Rattle.bounded_cache.specs.Entries.{bounded}
 use Rattle.bounded_cache.proofs.Inserting.{none_removed, without-bounded}
