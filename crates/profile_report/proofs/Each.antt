@@ -1,4 +1,4 @@
--- The changes of all paths, and that of one.
+-- The changes of all paths, and the change of one path.
 use Rattle.std.proofs.Common.{◌≡◌, ℕ, ◌+◌, ◌==◌, ◌&&◌, ◌||◌, Bool, true, false, cond, List, [], ◌∷◌, ◌++◌, map, None, Some, Option, refl, sym, ap, subst, ◌∙◌, T}
 use Rattle.std.specs.Prelude.{filter, flat_map, unwrap_or}
 use Rattle.std.specs.declared.cmp.Ordering.{Ordering}
@@ -17,7 +17,7 @@ use Rattle.allocative_graph.specs.Reads as reads
 use Rattle.allocative_graph.specs.declared.flamegraph.reads.Row as read
 use Rattle.profile_report.specs.Changes.{Changed, change_of, changes_of, path_of, HasEach}
 
--- The changes of some rows that were read.
+-- The changes of the paths of some rows.
 abbrev pub changes_in : Graph → Graph → List read.Row → List Changed
 changes_in g h rs = flat_map (λ r. change_of g h (path_of r)) rs
 
@@ -29,12 +29,12 @@ by_keys : (g h : Graph) (t : Path → ℕ) (es : List (Path × ℕ)) → flat_ma
 by_keys g h t [] = refl
 by_keys g h t (e ∷ es) = ap (λ cs. change_of g h e.0 ++ cs) (by_keys g h t es)
 
--- The changes of the rows of a sum are those of its paths.
+-- The changes of the rows of a sum are the changes of its paths.
 pub changes_read : (g h : Graph) (rs : List read.Row) → map reads.seen rs ≡ reads.figures (sum_of g h) → changes_in g h rs ≡ changes_of g h
 changes_read g h rs e = by_figures g h rs ∙ ap (flat_map (λ (f : reads.Figures). change_of g h f.path)) e ∙ by_keys g h (total_at (sum_of g h)) (entries (sum_of g h))
 
 -- ---- the change of one path
--- Whether a change is that of a path.
+-- Whether a change is that of the path p.
 abbrev is_of : Path → Changed → Bool
 is_of p c = is_same_path p c.path
 
@@ -62,7 +62,7 @@ dropped p c false s = ap (λ (t : Bool). cond t (c ∷ []) []) s
 change_at : Graph → Graph → Path → Changed
 change_at g h p = record { path = p; earlier = size_at g p; later = size_at h p }
 
--- Of the changes of a path those of another are none.
+-- No change of the path q is one of another path.
 of_another : (g h : Graph) (p q : Path) → is_same_path p q ≡ false → filter (is_of p) (change_of g h q) ≡ []
 unfolding change_at
 of_another g h p q s = dropped p (change_at g h q) (size_at g q == size_at h q) s
@@ -103,7 +103,7 @@ found g h p (e ∷ es) t = go (path_cmp p e.0) refl (found g h p es (both_second
         let other : filter (is_of p) (change_of g h e.0) ≡ [] = of_another g h p e.0 (ap is_eq q) in
         parted g h p e es ∙ (λ i. other i ++ rest i)
 
--- Where neither graph has a path its bytes are 0 in both.
+-- A path that neither graph has is no change, since its bytes are 0 in both.
 missing : (g h : Graph) (p : Path) (x y : Option ℕ) → get g p ≡ x → get h p ≡ y → (is_some x || is_some y) ≡ false → [] ≡ change_of g h p
 missing g h p None None d e n = sym (λ i. cond (unwrap_or (d i) 0 == unwrap_or (e i) 0) [] (record { path = p; earlier = unwrap_or (d i) 0; later = unwrap_or (e i) 0 } ∷ []))
 missing g h p None (Some k) d e n = absurd (cc)
@@ -114,7 +114,7 @@ there None None n = refl
 there None (Some k) n = refl
 there (Some j) y n = refl
 
--- Of each path the changes of two graphs have its change and nothing else.
+-- The changes of two graphs have for each path its change and no other.
 pub has_each : (g h : Graph) → HasEach g h (changes_of g h)
 has_each g h p = found g h p (entries (sum_of g h)) (entries_sorted (sum_of g h)) ∙ ap (λ (t : Bool). cond t (change_of g h p) []) is ∙ by (is_some (get g p) || is_some (get h p)) refl
   where

@@ -1,4 +1,4 @@
--- What stands first in a list by growth.
+-- The first changes of a list that is sorted by growth.
 use Rattle.std.proofs.Common.{◌≡◌, ℕ, ◌+◌, ◌-◌, ◌^◌, ◌<◌, ◌≤◌, List, [], ◌∷◌, ◌++◌, map, take, drop, length, get_or, min, sym, ap, ◌∙◌, arith}
 use Rattle.std.specs.Prelude.{filter, All}
 use Rattle.std.specs.List.Sorted.{IsPermutation, IsNonDecreasingBy}
@@ -8,11 +8,11 @@ use Rattle.std.proofs.lemmas.List.Sorted.{length_permutation, IsPermutation-map}
 use Rattle.profile_report.specs.declared.changes.Change.{Change}
 use Rattle.profile_report.specs.Changes.{Changed, seen, growth, is_grown, GrewMost}
 
--- The growth of a change is a word.
+-- The growth of a change fits a word.
 abbrev pub IsWord : Change → Type 0
 IsWord c = growth (seen c) < 2 ^ 64
 
--- The less, the more a path grew.
+-- A number that is the less the more a path grew.
 abbrev pub rank : Change → ℕ
 rank c = 2 ^ 64 - 1 - growth (seen c)
 
@@ -25,7 +25,7 @@ falls (x ∷ xs) w h i j d e le lt =
     let at_j : growth (get_or (map seen (x ∷ xs)) j e) ≡ growth (seen (get_or (x ∷ xs) j x)) = ap growth (get_or-map seen (x ∷ xs) j x e short) in
     omega (arith, at_i, at_j, h i j x le short, w i x low, w j x short)
 
--- The first of some changes that stand by their growth are those that grew most.
+-- The first n changes of those that grew, sorted by rank, are those that grew most.
 pub grew_first : (n : ℕ) (cs : List Changed) (ps qs : List Change) → map seen ps ≡ filter is_grown cs → All IsWord ps → IsPermutation ps qs → IsNonDecreasingBy rank qs → GrewMost n cs (map seen (take n qs))
 grew_first n cs ps qs is w moved sorted =
     let words : All IsWord qs = All-permutation IsWord ps qs moved w in

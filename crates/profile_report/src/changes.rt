@@ -1,4 +1,4 @@
-//! What changed between two profiles, path by path.
+//! The differences between two profiles, path by path.
 ghost use Rattle.std.specs.Prelude.{◌≡◌, ◌+◌, ◌-◌, ◌^◌, ◌≤◌, ◌↔◌, ◌++◌, OnOk, IfOk, IsErrOf, map};
 ghost use Rattle.allocative.specs.Graph.{total};
 ghost use Rattle.profile_report.specs.Changes.{seen, is_kind, growth, changes_of, change_of, HasEach, GrewMost, path_of};
@@ -7,32 +7,32 @@ use allocative::{FlameGraph, Refusal, Row};
 use std::alloc::{AllocError, Global};
 use std::collections::VecDeque;
 
-/// A path whose own bytes are not the same in two profiles. Where a profile has no such path they are 0.
+/// A path whose own bytes differ between two profiles. A path that a profile does not have counts as 0 bytes there.
 #[derive(Drop)]
 pub struct Change {
-    /// The keys from the root on.
+    /// The keys of the path, from the root on.
     pub path: Vec<&'static str>,
-    /// The bytes in the earlier profile.
+    /// The path's own bytes in the earlier profile.
     pub earlier: usize,
-    /// The bytes in the later one.
+    /// The path's own bytes in the later profile.
     pub later: usize,
 }
 
 /// How a path changed.
 #[derive(Clone, Copy, Debug, PartialEq, Eq)]
 pub enum Kind {
-    /// It has more bytes than before.
+    /// It had bytes, and has more after.
     Grew,
-    /// It has fewer.
+    /// It has bytes, and had more before.
     Shrank,
-    /// It had none before.
+    /// It had no bytes before.
     Came,
-    /// It has none any more.
+    /// It has no bytes after.
     Went,
 }
 
 impl Change {
-    /// Whether the path changed in this way.
+    /// Whether the change is of this kind.
     pub fn is(&self, kind: Kind) -> bool
         ensures { result ≡ is_kind kind (seen self.now) }
     {
@@ -45,7 +45,7 @@ impl Change {
         }
     }
 
-    /// The same once more; an error only for want of memory.
+    /// A copy of the change. The only error is that memory runs out.
     pub fn copy(&self) -> Result<Change, AllocError>
         ensures { IfOk result (λ change. seen change ≡ seen self.now) }
     {
@@ -56,7 +56,7 @@ impl Change {
         })
     }
 
-    /// By how many bytes the path grew; 0 where it shrank.
+    /// The number of bytes by which the path grew, which is 0 where it shrank.
     pub fn growth(&self) -> usize
         ensures { result ≡ growth (seen self.now) }
     {
@@ -64,10 +64,11 @@ impl Change {
     }
 }
 
-/// What changed between two profiles: each path whose bytes differ, with its bytes in both, in the order of paths, and no other.
+/// The changes from one profile to another: exactly the paths whose bytes differ, each with its bytes in both, in the
+/// order of paths.
 ///
-/// It answers `TooLarge` exactly where the two totals together pass `usize::MAX`, which those of two finished profiles do not, and
-/// otherwise an error only for want of memory.
+/// It returns `TooLarge` exactly where the two totals together exceed `usize::MAX`. The totals of two finished profiles
+/// never do. The only other error is that memory runs out.
 pub fn compare(
     alloc: Global,
     earlier: &FlameGraph,
@@ -91,14 +92,15 @@ pub fn compare(
     Ok(changes)
 }
 
-// Appends the change of a row's path, where its bytes differ.
+/// Appends the change of a row's path, where its bytes differ.
 fn push_change(
     earlier: &FlameGraph,
     later: &FlameGraph,
     row: Row,
     changes: &mut Vec<Change>,
 ) -> Result<(), AllocError>
-    ensures { OnOk result (map seen changes.new.items ≡ map seen changes.old.items ++ change_of earlier.now later.now (path_of row)) }
+    ensures { OnOk result (map seen changes.new.items ≡ map seen changes.old.items
+        ++ change_of earlier.now later.now (path_of row)) }
 {
     let Row { path, .. } = row;
     let (before, after) = (
@@ -115,8 +117,8 @@ fn push_change(
     Ok(())
 }
 
-/// The changes of the paths that grew most, so many or as many as grew, those that grew most first. A path that came is one that
-/// grew. It answers an error only for want of memory.
+/// The changes of the paths that grew most, up to a count, the greatest growth first. A path that had no bytes before
+/// counts as grown. The only error is that memory runs out.
 pub fn grew_most(alloc: Global, changes: &[Change], count: usize) -> Result<Vec<Change>, AllocError>
     ensures { IfOk result (λ top. GrewMost count (map seen changes.now) (map seen top.items)) }
 {

@@ -6,17 +6,17 @@ use allocative::FlameGraph;
 use std::alloc::{AllocError, Global};
 use std::collections::VecDeque;
 
-/// The last profiles of a service, the latest first, and no more than it was made for.
+/// The last profiles of a service, the latest first, up to a number that is given to `new`.
 #[derive(Drop)]
 pub struct History {
-    // The profiles that are kept.
+    /// The profiles, the latest first.
     profiles: VecDeque<FlameGraph>,
-    // How many are kept at most.
+    /// The most profiles that are kept.
     most: usize,
 }
 
 impl History {
-    /// The history that keeps so many profiles at most, and has none. It takes no memory.
+    /// An empty history that keeps at most so many profiles. It allocates nothing.
     pub fn new(alloc: Global, most: usize) -> History
         ensures empty { result.profiles.items ≡ [] }
         ensures most { result.most ≡ most }
@@ -27,15 +27,15 @@ impl History {
         }
     }
 
-    /// How many profiles are kept.
+    /// The number of profiles.
     pub fn len(&self) -> usize
         ensures { result ≡ length self.now.profiles.items }
     {
         self.profiles.len()
     }
 
-    /// Keeps a profile, and lets the earliest go where there would be too many. After an error, which comes only for want of memory,
-    /// the history is as it was.
+    /// Adds a profile as the latest, and drops the earliest where there would be too many. The only error is that
+    /// memory runs out, and then the history is unchanged.
     pub fn keep(&mut self, profile: FlameGraph) -> Result<(), AllocError>
         ensures kept { OnOk result (self.new.profiles.items ≡ take self.old.most (profile ∷ self.old.profiles.items)) }
         ensures unchanged { OnErr result (self.new.profiles.items ≡ self.old.profiles.items) }
@@ -46,7 +46,7 @@ impl History {
         Ok(())
     }
 
-    /// The last profile but one, and the last; None exactly where fewer than two are kept.
+    /// The last profile but one, and the last. It is None exactly where there are fewer than two profiles.
     pub fn last_two(&self) -> Option<(&FlameGraph, &FlameGraph)>
         ensures two { IfSome result (λ pair. BeginsWith self.now.profiles.items pair.1.now pair.0.now) }
         ensures fewer { IfNone result (length self.now.profiles.items < 2) }

@@ -1,4 +1,4 @@
-//! Profiles a small service as it goes on, and tells after each profile what changed since the one before.
+//! Takes profiles of a small service while it runs, and reports after each what changed since the one before.
 #![tactic(auto)]
 
 mod changes;
@@ -19,7 +19,7 @@ use std::alloc::Global;
 use std::fs;
 use std::rt::Files;
 
-// In the morning two users are signed in, one of them with a basket, and the table has a page.
+/// In the morning two users sign in, one of them with a basket, and the table gets a page.
 fn begin(alloc: Global, service: &mut Service) -> Result<()> {
     let basket = Box::new(alloc, 250)?;
     service.sign_in(Session::new(1, None))?;
@@ -29,7 +29,7 @@ fn begin(alloc: Global, service: &mut Service) -> Result<()> {
     Ok(())
 }
 
-// By noon the second has left, and the table has two pages.
+/// By noon the second user has signed out, and the table has two pages.
 fn go_on(alloc: Global, service: &mut Service) -> Result<()> {
     service.sign_out(2);
     service.add_page(Page::new(alloc, [5, 6, 7, 8])?)?;
@@ -37,7 +37,7 @@ fn go_on(alloc: Global, service: &mut Service) -> Result<()> {
     Ok(())
 }
 
-// In the evening a third user has come with a basket, and the table is empty.
+/// By the evening a third user has signed in with a basket, and the table is empty.
 fn end(alloc: Global, service: &mut Service) -> Result<()> {
     let basket = Box::new(alloc, 90)?;
     service.sign_in(Session::new(3, Some(basket)))?;
@@ -46,7 +46,7 @@ fn end(alloc: Global, service: &mut Service) -> Result<()> {
     Ok(())
 }
 
-// Prints what changed between two profiles, and draws it into a file.
+/// Prints what changed between two profiles, and writes a picture of it to a file.
 fn tell(
     rt: &(impl Files + Print),
     alloc: Global,
@@ -67,7 +67,7 @@ fn tell(
     Ok(())
 }
 
-// Tells what changed since the profile before the last, where there is one.
+/// Reports what changed between the last two profiles, where there are two.
 fn tell_last(
     rt: &(impl Files + Print),
     alloc: Global,

@@ -6,8 +6,9 @@ use crate::changes::{Change, Kind, grew_most};
 use allocative::push_path;
 use std::alloc::{AllocError, Global};
 
-/// The changes as text: for each kind a heading, and below it a line for each change of that kind, `earlier -> later path`, in the
-/// order in which they are given; then the ten paths that grew most. It answers an error only for want of memory.
+/// The changes as text. Each kind has a heading, and below it a line `earlier -> later path` for each change of that
+/// kind, in the order of `changes`. Then come the up to ten paths that grew most. The only error is that memory runs
+/// out.
 pub fn report(alloc: Global, changes: &[Change]) -> Result<String, AllocError>
     ensures { IfOk result (λ text. Reports (map seen changes.now) (string_bytes text)) }
 {
@@ -20,7 +21,7 @@ pub fn report(alloc: Global, changes: &[Change]) -> Result<String, AllocError>
     Ok(text)
 }
 
-// The line above the changes of a kind.
+/// The heading of the changes of a kind.
 fn heading(kind: Kind) -> &'static str
     ensures { result.now ≡ heading_of kind }
 {
@@ -32,7 +33,7 @@ fn heading(kind: Kind) -> &'static str
     }
 }
 
-// Appends the line of a change.
+/// Appends the line of a change.
 fn push_line(change: &Change, text: &mut String) -> Result<(), AllocError>
     ensures { OnOk result (string_bytes text.new ≡ string_bytes text.old ++ line_of (seen change.now)) }
 {
@@ -43,7 +44,7 @@ fn push_line(change: &Change, text: &mut String) -> Result<(), AllocError>
     Ok(())
 }
 
-// Appends the heading of a kind, and the lines of the changes of that kind.
+/// Appends the heading of a kind, and the lines of the changes of that kind.
 #[tactic(auto, unfolding(crate::specs::Changes::section_of))]
 fn push_section(kind: Kind, changes: &[Change], text: &mut String) -> Result<(), AllocError>
     ensures { OnOk result (string_bytes text.new ≡ string_bytes text.old ++ section_of kind (map seen changes.now)) }
@@ -57,7 +58,7 @@ fn push_section(kind: Kind, changes: &[Change], text: &mut String) -> Result<(),
     Ok(())
 }
 
-// Appends the heading and the lines of the ten changes that grew most.
+/// Appends the heading and the lines of the up to ten changes that grew most.
 fn push_most(alloc: Global, changes: &[Change], text: &mut String) -> Result<(), AllocError>
     ensures { OnOk result (AppendsMost (map seen changes.now) (string_bytes text.old) (string_bytes text.new)) }
 {

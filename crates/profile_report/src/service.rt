@@ -1,4 +1,4 @@
-//! A service that takes a profile of what it holds each time it is asked, and keeps the last of them.
+//! A service that takes a profile of what it holds on request, and keeps the last profiles.
 #![tactic(auto, using(allocative::proofs::Parts::parts))]
 
 ghost use Rattle.std.specs.Prelude.{◌≡◌, codes, Some, OnOk, OnErr};
@@ -9,12 +9,12 @@ use crate::history::History;
 use allocative::{Allocative, Each, Field, Inside, Part, Refusal, Unique, Visitor, profile_value};
 use std::alloc::{AllocError, Global};
 
-/// A user who is signed in, perhaps with a basket; 24 bytes.
+/// A user who is signed in, perhaps with a basket. It declares 24 bytes.
 #[derive(Drop)]
 pub struct Session {
     /// The user's number.
     pub user: u32,
-    /// What the goods in the basket cost.
+    /// The price of the goods in the basket.
     pub basket: Option<Box<u64>>,
 }
 
@@ -26,7 +26,9 @@ impl Session {
 }
 
 impl Allocative for Session {
-    ghost may_show = { λ s. shows.Inside (codes "Session") 24 (shows.Both (shows.Field (codes "user") (Some 4) (⟦<u32 as Allocative>⟧.may_show s.user)) (shows.Field (codes "basket") (Some 16) (⟦<Option<Box<u64>> as Allocative>⟧.may_show s.basket))) };
+    ghost may_show = { λ s. shows.Inside (codes "Session") 24
+        (shows.Both (shows.Field (codes "user") (Some 4) (⟦<u32 as Allocative>⟧.may_show s.user))
+        (shows.Field (codes "basket") (Some 16) (⟦<Option<Box<u64>> as Allocative>⟧.may_show s.basket))) };
 
     fn visit(&self, visitor: &mut Visitor<'_>) -> Result<(), Refusal> {
         let user = Field("user", &self.user);
@@ -35,15 +37,15 @@ impl Allocative for Session {
     }
 }
 
-/// A page of the table; 8 bytes, and four rows on the heap.
+/// A page of the table. It declares 8 bytes, and has four rows on the heap.
 #[derive(Drop)]
 pub struct Page {
-    /// The rows.
+    /// The rows of the page.
     pub rows: Box<[u64; 4]>,
 }
 
 impl Page {
-    /// A page of these rows. It answers an error only for want of memory.
+    /// A page of these rows. The only error is that memory runs out.
     pub fn new(alloc: Global, rows: [u64; 4]) -> Result<Page, AllocError> {
         let rows = Box::new(alloc, rows)?;
         Ok(Page { rows })
@@ -51,7 +53,8 @@ impl Page {
 }
 
 impl Allocative for Page {
-    ghost may_show = { λ p. shows.Inside (codes "Page") 8 (shows.Field (codes "rows") (Some 8) (⟦<Box<[u64; 4]> as Allocative>⟧.may_show p.rows)) };
+    ghost may_show = { λ p. shows.Inside (codes "Page") 8
+        (shows.Field (codes "rows") (Some 8) (⟦<Box<[u64; 4]> as Allocative>⟧.may_show p.rows)) };
 
     fn visit(&self, visitor: &mut Visitor<'_>) -> Result<(), Refusal> {
         let rows = Field("rows", &self.rows);
@@ -59,17 +62,21 @@ impl Allocative for Page {
     }
 }
 
-/// What the service holds; two lists of 24 bytes, and what stands in them. The room that a list keeps for more is not counted.
+/// What the service holds: two lists of 24 bytes each, and their items. Spare capacity of the lists is not counted.
 #[derive(Drop)]
 pub struct Held {
-    /// Who is signed in.
+    /// The sessions of the users who are signed in.
     pub sessions: Vec<Session>,
     /// The pages of the table.
     pub pages: Vec<Page>,
 }
 
 impl Allocative for Held {
-    ghost may_show = { λ h. shows.Inside (codes "Service") 48 (shows.Both (shows.InsideUnique (codes "sessions") 24 (shows.each_shows ⟦<Session as Allocative>⟧.may_show h.sessions.items)) (shows.InsideUnique (codes "pages") 24 (shows.each_shows ⟦<Page as Allocative>⟧.may_show h.pages.items))) };
+    ghost may_show = { λ h. shows.Inside (codes "Service") 48
+        (shows.Both (shows.InsideUnique (codes "sessions") 24
+        (shows.each_shows ⟦<Session as Allocative>⟧.may_show h.sessions.items))
+        (shows.InsideUnique (codes "pages") 24
+        (shows.each_shows ⟦<Page as Allocative>⟧.may_show h.pages.items))) };
 
     fn visit(&self, visitor: &mut Visitor<'_>) -> Result<(), Refusal> {
         let sessions = Unique("sessions", 24, Each(&self.sessions));
@@ -78,7 +85,7 @@ impl Allocative for Held {
     }
 }
 
-/// The service: what it holds, and the last profiles of that.
+/// The service: what it holds, and its last profiles.
 #[derive(Drop)]
 pub struct Service {
     held: Held,
@@ -86,7 +93,7 @@ pub struct Service {
 }
 
 impl Service {
-    /// A service that holds nothing, and keeps so many profiles at most. It takes no memory.
+    /// A service that holds nothing and keeps at most so many profiles. It allocates nothing.
     pub fn new(alloc: Global, most: usize) -> Service {
         Service {
             held: Held {
@@ -97,39 +104,40 @@ impl Service {
         }
     }
 
-    /// Takes a user's session in. It answers an error only for want of memory.
+    /// Adds a user's session. The only error is that memory runs out.
     pub fn sign_in(&mut self, session: Session) -> Result<(), AllocError> {
         self.held.sessions.push(session)?;
         Ok(())
     }
 
-    /// Lets the user's sessions go.
+    /// Removes the user's sessions.
     pub fn sign_out(&mut self, user: u32) {
         self.held.sessions.retain(|session| session.user != user);
     }
 
-    /// Takes a page in. It answers an error only for want of memory.
+    /// Adds a page. The only error is that memory runs out.
     pub fn add_page(&mut self, page: Page) -> Result<(), AllocError> {
         self.held.pages.push(page)?;
         Ok(())
     }
 
-    /// Lets all pages go.
+    /// Removes all pages.
     pub fn drop_pages(&mut self) {
         self.held.pages.clear();
     }
 
-    /// The profiles that are kept.
+    /// The profiles of the service.
     pub fn history(&self) -> &History
         ensures { result.now ≡ self.now.history }
     {
         &self.history
     }
 
-    /// Takes a profile of what the service holds, and keeps it as the latest. What is held stays as it is, and after an error so does
-    /// the history.
+    /// Takes a profile of what the service holds, and keeps it as the latest. What the service holds is unchanged, and
+    /// after an error so is the history.
     pub fn take_profile(&mut self, alloc: Global) -> Result<(), Refusal>
-        ensures taken { OnOk result (TakesProfile (⟦<Held as Allocative>⟧.may_show self.old.held) self.old.history self.new.history) }
+        ensures taken { OnOk result (TakesProfile
+            (⟦<Held as Allocative>⟧.may_show self.old.held) self.old.history self.new.history) }
         ensures held { self.new.held ≡ self.old.held }
         ensures unchanged { OnErr result (self.new.history.profiles.items ≡ self.old.history.profiles.items) }
     {

@@ -5,7 +5,7 @@ use allocative::{FlameGraph, Key};
 use std::alloc::Global;
 use std::test::Fail;
 
-// The graph whose root has children of these sizes.
+/// The graph whose root has children of these sizes.
 fn graph_of(alloc: Global, sizes: &[(&'static str, usize)]) -> Result<FlameGraph, Fail> {
     let mut graph = FlameGraph::default(alloc);
     for (key, size) in sizes {

@@ -3,7 +3,7 @@ use Rattle.profile_report.specs.Changes.{seen}
 use Rattle.profile_report.proofs.Each.{changes_in}
 use Rattle.profile_report.proofs.changes.compare.Given as goal
 
--- With those of the rows that are to come the changes are those of all rows.
+-- The changes so far, followed by those of the remaining rows, are the changes of all rows.
 abbrev pub invariant-loop-row : goal.invariant-loop-row
 invariant-loop-row l = map seen l.changes.items ++ changes_in l.earlier l.later l.rows.items ≡ changes_in l.earlier l.later l.initial.rows.items
 

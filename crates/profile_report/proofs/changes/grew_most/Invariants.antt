@@ -4,7 +4,7 @@ use Rattle.profile_report.specs.Changes.{seen, is_grown}
 use Rattle.profile_report.proofs.Most.{IsWord}
 use Rattle.profile_report.proofs.changes.grew_most.Given as goal
 
--- So far the changes that grew are there, each by a word.
+-- The list has the changes so far that grew, and the growth of each fits a word.
 abbrev pub invariant-loop-change : goal.invariant-loop-change
 invariant-loop-change l = record {
   grown : map seen l.grown.items ≡ filter is_grown (map seen (take l.change-index l.changes));
