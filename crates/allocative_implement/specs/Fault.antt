@@ -1,4 +1,4 @@
--- What status a fault ends the program with.
+-- The status with which each fault ends the program.
 use Rattle.std.specs.Prelude.{ℕ}
 use Rattle.allocative_implement.specs.declared.fault.Fault.{Fault}
 use Rattle.allocative_implement.specs.declared.fault.Fault.TheVariants.{Memory, Unended, Bracket, Mark, NotText, Missing, Words, Place, Reading, Writing, LeftOut}

@@ -1,16 +1,16 @@
-//! Looking at tokens.
+//! Reading tokens by their indices.
 use crate::tokens::{Kind, Token};
 
-/// Some tokens: the first, and the place behind the last.
+/// A range of tokens.
 #[derive(Clone, Copy)]
 pub struct Span {
-    /// The first.
+    /// The index of the first token.
     pub from: usize,
-    /// The place behind the last.
+    /// The index after the last token.
     pub to: usize,
 }
 
-/// The text of a token; an empty one behind the last.
+/// The text of a token, which is empty after the last token.
 pub fn text_at<'a>(tokens: &[Token<'a>], at: usize) -> &'a str {
     match tokens.get(at) {
         Some(token) => token.text,
@@ -18,7 +18,7 @@ pub fn text_at<'a>(tokens: &[Token<'a>], at: usize) -> &'a str {
     }
 }
 
-/// The line of a token; 0 behind the last.
+/// The line of a token, which is 0 after the last token.
 pub fn line_at(tokens: &[Token<'_>], at: usize) -> usize {
     match tokens.get(at) {
         Some(token) => token.line,
@@ -26,7 +26,7 @@ pub fn line_at(tokens: &[Token<'_>], at: usize) -> usize {
     }
 }
 
-/// Whether a token is of a kind.
+/// Whether there is a token of this kind at an index.
 pub fn is_kind(tokens: &[Token<'_>], at: usize, kind: Kind) -> bool {
     match tokens.get(at) {
         Some(token) => token.kind == kind,
@@ -34,7 +34,7 @@ pub fn is_kind(tokens: &[Token<'_>], at: usize, kind: Kind) -> bool {
     }
 }
 
-/// The place behind a token, or behind the brackets that it opens.
+/// The index after a token, or after the pair of brackets that it opens.
 pub fn behind(tokens: &[Token<'_>], at: usize) -> usize {
     let last = match tokens.get(at) {
         Some(token) => token.close,
@@ -43,12 +43,12 @@ pub fn behind(tokens: &[Token<'_>], at: usize) -> usize {
     last.max(at).saturating_add(1)
 }
 
-// Whether a `>` at a place is the end of an arrow.
+/// Whether the `>` at an index ends an arrow.
 fn is_arrow(tokens: &[Token<'_>], at: usize) -> bool {
     at > 0 && text_at(tokens, at.saturating_sub(1)) == "-"
 }
 
-/// The place of the `>` for the `<` at a place; none where there is none.
+/// The index of the `>` that closes the `<` at an index, or None.
 pub fn angle_close(tokens: &[Token<'_>], at: usize) -> Option<usize> {
     let mut depth = 0usize;
     let mut next = at;
@@ -70,7 +70,7 @@ pub fn angle_close(tokens: &[Token<'_>], at: usize) -> Option<usize> {
     None
 }
 
-/// The place of the first token of a text outside brackets and angles, or the end.
+/// The index of the first token with this text outside brackets and angle brackets, or the end of the range.
 pub fn find(tokens: &[Token<'_>], span: Span, text: &str) -> usize {
     let mut depth = 0usize;
     let mut next = span.from;
@@ -91,7 +91,7 @@ pub fn find(tokens: &[Token<'_>], span: Span, text: &str) -> usize {
     span.to
 }
 
-/// The place behind the attributes that stand at a place.
+/// The index after the attributes at an index.
 pub fn behind_attributes(tokens: &[Token<'_>], at: usize) -> usize {
     let mut next = at;
     for _ in 0..tokens.len() {
@@ -103,7 +103,7 @@ pub fn behind_attributes(tokens: &[Token<'_>], at: usize) -> usize {
     next
 }
 
-/// The place behind `pub` and what stands in brackets behind it.
+/// The index after a visibility, which is `pub` alone or with brackets after it.
 pub fn behind_visibility(tokens: &[Token<'_>], at: usize) -> usize {
     if text_at(tokens, at) != "pub" {
         return at;

@@ -1,35 +1,35 @@
-//! Why a run fails, and why nothing is written for a type.
+//! Why a run fails, and why a type is left out.
 ghost use Rattle.std.specs.Prelude.{◌≡◌};
 ghost use Rattle.allocative_implement.specs.Fault.{status_of};
 
 use std::alloc::{AllocError, AllocFailed};
 use thiserror::Error;
 
-/// Why a run failed. Its text is the line on standard error, behind the program's name.
+/// Why a run failed. Its text is the line on standard error after the program's name.
 #[derive(Clone, Copy, Debug, PartialEq, Eq, Error)]
 pub enum Fault {
-    /// A growth of memory was refused.
+    /// Memory ran out.
     #[error("out of memory")]
     Memory,
-    /// A text, a character or a comment of the source has no end.
+    /// A string, a character or a comment of the source has no end.
     #[error("what begins in line {0} has no end")]
     Unended(usize),
-    /// A bracket of the source has no other.
+    /// A bracket of the source has no counterpart.
     #[error("a bracket in line {0} has no other")]
     Bracket(usize),
-    /// A mark of what the program wrote has no other, or does not stand as it was written.
+    /// A mark that the program wrote has no counterpart, or was changed.
     #[error("a mark in line {0} has no other or was changed")]
     Mark(usize),
     /// The source is not UTF-8.
     #[error("the source is not UTF-8")]
     NotText,
-    /// A type that was asked for does not stand in the source.
+    /// The source does not have a type that was asked for.
     #[error("a type that was asked for is none of the source")]
     Missing,
-    /// A word is none that the program takes.
+    /// The arguments are not valid.
     #[error("the words are a source file and names of its types")]
     Words,
-    /// The file does not stand in the folder `src` of a crate.
+    /// The file is not in the folder `src` of a crate.
     #[error("the file does not stand in the folder src of a crate")]
     Place,
     /// A read failed.
@@ -38,7 +38,7 @@ pub enum Fault {
     /// A write failed.
     #[error("cannot write output")]
     Writing,
-    /// For some types nothing was written. The text of the others was.
+    /// Some types were left out. The text for the others was written.
     #[error("some types were left out")]
     LeftOut,
 }
@@ -83,19 +83,19 @@ impl<T: Drop> From<AllocFailed<T>> for Fault {
     }
 }
 
-/// Why nothing is written for a type.
+/// Why a type is left out.
 #[derive(Clone, Copy, Debug, PartialEq, Eq, Error)]
 pub enum Why {
-    /// It is a union.
+    /// The type is a union.
     #[error("a union")]
     Union,
     /// A name begins with `r#`, which Rattle does not have.
     #[error("a raw name")]
     RawName,
-    /// A field's type is written by a macro.
+    /// The type of a field is written by a macro.
     #[error("a type that a macro writes")]
     Macro,
-    /// A field's type has a `dyn` or an `impl`.
+    /// The type of a field has a `dyn` or an `impl`.
     #[error("a type with `dyn` or `impl`")]
     Dynamic,
     /// A field is a reference that is not `&'static`.
@@ -110,28 +110,28 @@ pub enum Why {
     /// The type holds itself.
     #[error("a type that holds itself")]
     HoldsItself,
-    /// A comment to this program is neither `skip` nor `size` and a number, or no field stands below it.
+    /// A comment for this program is neither `skip` nor `size` with a number, or has no field below it.
     #[error("a comment that is not `allocative: skip` or `allocative: size N` above a field")]
     Order,
-    /// It has more fields than are written.
+    /// The type has more shown fields than the program writes.
     #[error("more than 25 fields, or more than five in a variant")]
     Many,
-    /// A name is one that the written text uses itself.
+    /// A name of the type or of a variant is one that the written text itself uses.
     #[error("a name that the written text uses itself")]
     Taken,
-    /// Its line goes on behind it, so nothing can be put there.
+    /// More text follows the type in its last line, so nothing can be placed there.
     #[error("a line that goes on behind the type")]
     Line,
-    /// It is none of the forms that are read.
+    /// The program cannot read the type.
     #[error("a form that is not read")]
     Unread,
 }
 
-/// Why nothing is written for a type, and in which line of the source.
+/// Why a type is left out, and the line of the source that is the cause.
 #[derive(Clone, Copy, Debug, PartialEq, Eq)]
 pub struct Trouble {
-    /// The line, from 1 on.
+    /// The line, counted from 1.
     pub line: usize,
-    /// Why.
+    /// Why the type is left out.
     pub why: Why,
 }

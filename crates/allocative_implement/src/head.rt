@@ -1,4 +1,4 @@
-//! What stands before the braces of an implementation.
+//! The parts of an implementation before its braces.
 use crate::fault::Fault;
 use crate::items::{Item, Param, Sort};
 use crate::shape::{Scene, is_shown};
@@ -8,15 +8,15 @@ use std::alloc::{AllocError, Global};
 /// The parameters of an implementation.
 #[derive(Drop)]
 pub struct Header {
-    /// The parameters with their bounds and a comma behind each but the last.
+    /// The parameters with their bounds, separated by commas.
     pub params: String,
-    /// Their names.
+    /// The names of the parameters.
     pub names: String,
-    /// What stands behind `where`.
+    /// The bounds after `where`.
     pub bounds: String,
 }
 
-// Appends a parameter with its bounds.
+/// Appends a parameter with its bounds.
 fn push_param(
     out: &mut String,
     scene: Scene<'_, '_>,
@@ -67,7 +67,7 @@ pub fn header_of(alloc: Global, scene: Scene<'_, '_>, item: &Item<'_>) -> Result
     })
 }
 
-// Appends a text in angles, where there is one: a text of its own, and one that goes before it, as a lifetime.
+/// Appends one or two texts in angle brackets, or nothing where both are empty.
 fn push_angles(out: &mut String, first: &str, rest: &str) -> Result<(), AllocError> {
     if first.is_empty() && rest.is_empty() {
         return Ok(());
@@ -83,19 +83,19 @@ fn push_angles(out: &mut String, first: &str, rest: &str) -> Result<(), AllocErr
     out.push_str(">")
 }
 
-/// Whom an implementation or a struct is for: a lifetime before the parameters, or nothing, a name, and what stands
-/// behind the name, as the number of a part.
+/// The type that an implementation is for: its name, with a suffix for a part of a large struct, and a lifetime before
+/// its parameters.
 #[derive(Clone, Copy)]
 pub struct Whom<'a> {
-    /// The lifetime, or nothing.
+    /// The lifetime, or an empty text.
     pub lifetime: &'a str,
     /// The name of the type.
     pub name: &'a str,
-    /// What stands behind the name.
+    /// The suffix after the name, or an empty text.
     pub suffix: &'a str,
 }
 
-// Appends the `where` of an implementation, and the brace that opens it.
+/// Appends the `where` of an implementation, and its opening brace.
 fn push_open(out: &mut String, header: &Header, is_long: bool) -> Result<(), AllocError> {
     if header.bounds.is_empty() {
         return out.push_str(" {\n");
@@ -109,7 +109,7 @@ fn push_open(out: &mut String, header: &Header, is_long: bool) -> Result<(), All
     out.push_str(",\n{\n")
 }
 
-/// Appends an implementation up to the brace that opens it.
+/// Appends an implementation up to its opening brace.
 pub fn push_impl(
     out: &mut String,
     header: &Header,
@@ -145,7 +145,7 @@ pub fn push_impl(
     push_open(out, header, is_long)
 }
 
-/// Appends the struct that stands for some fields of a type: it holds a reference to it.
+/// Appends the struct that stands for some fields of a type. It has a reference to a value of the type.
 pub fn push_part_struct(
     out: &mut String,
     header: &Header,

@@ -1,4 +1,4 @@
-//! The whole text for a source.
+//! Writing the whole text for a source.
 ghost use Rattle.std.specs.Prelude.{◌≡◌, IfOk, string_bytes};
 ghost use Rattle.allocative_implement.specs.Splice.{Keeps};
 
@@ -14,38 +14,38 @@ use crate::write::{Plan, push_allocative, push_described};
 use std::alloc::{AllocError, Global};
 use std::collections::BTreeSet;
 
-/// What is written for a source.
+/// The text that is written for a source.
 #[derive(Drop)]
 pub struct Written {
     /// The text of the module, or the whole new source.
     pub text: String,
-    /// The lines for standard error: which types are left out, and which sizes are not known.
+    /// The lines for standard error: which types are left out, and which sizes are unknown.
     pub notes: String,
-    /// Whether no type that was asked for is left out.
+    /// Whether the text has all types that were asked for.
     pub is_whole: bool,
 }
 
-// What is said of a source besides.
+/// The notes on a source.
 #[derive(Drop)]
 struct Report {
-    // The lines for standard error.
+    /// The lines for standard error.
     notes: String,
-    // Whether no type that was asked for is left out.
+    /// Whether the text has all types that were asked for.
     is_whole: bool,
 }
 
-// The implementations for a type.
+/// The implementations for a type.
 #[derive(Drop)]
 struct Text {
-    // The line of the type.
+    /// The line of the type.
     line: usize,
-    // Where the text is put in place.
+    /// The byte position at which the text is placed in the source.
     at: usize,
     text: String,
 }
 
-// Whether the implementations of a type are asked for: where no type is named, those of each type that has none, and
-// else those of the types that are named and of those whose text is replaced.
+/// Whether the implementations of a type are asked for. Where no type is named, these are all types without any.
+/// Otherwise they are the named types and the types whose text is replaced.
 fn is_asked(source: &Source<'_>, names: &[String], item: &Item<'_>) -> bool {
     if names.is_empty() {
         return !source.shown.contains(item.name);
@@ -53,7 +53,7 @@ fn is_asked(source: &Source<'_>, names: &[String], item: &Item<'_>) -> bool {
     source.rewritten.contains(item.name) || names.iter().any(|name| name.as_str() == item.name)
 }
 
-// Whether each name is that of a type of the source.
+/// Whether the source has a type of each name.
 fn are_there(source: &Source<'_>, names: &[String]) -> bool {
     for name in names {
         if !source.has(name.as_str()) {
@@ -63,7 +63,7 @@ fn are_there(source: &Source<'_>, names: &[String]) -> bool {
     true
 }
 
-// Appends the name of a constant for the size of a type: its words in capitals, with `_` between them.
+/// Appends the name of the constant for the size of a type: its words in capitals with `_` between them, and `_SIZE`.
 fn push_constant(out: &mut String, name: &str) -> Result<(), AllocError> {
     let mut was_small = false;
     for letter in name.chars() {
@@ -76,7 +76,7 @@ fn push_constant(out: &mut String, name: &str) -> Result<(), AllocError> {
     out.push_str("_SIZE")
 }
 
-// What is written of a type besides its name.
+/// The parts of the text for a type that follow from the source.
 fn plan_of(
     alloc: Global,
     scene: Scene<'_, '_>,
@@ -100,8 +100,8 @@ fn plan_of(
     })
 }
 
-// Appends the constant for the size of a type that is not known, and the line that says so. A size that was written
-// into it stays.
+/// Appends the constant for the size of a type whose size is unknown, and notes it. A size that the user has written
+/// into the constant is kept.
 fn push_unknown(
     alloc: Global,
     out: &mut String,
@@ -132,7 +132,7 @@ fn push_unknown(
     Ok(())
 }
 
-// Appends a line for each variant whose goal may stay open.
+/// Appends a note for each variant whose goal may stay open.
 fn push_doubts<'a>(
     alloc: Global,
     notes: &mut String,
@@ -157,12 +157,12 @@ fn push_doubts<'a>(
     Ok(())
 }
 
-// Whether a type has a lifetime: the checker takes no `Described` of such a type.
+/// Whether a type has a lifetime. The checker accepts no `Described` of such a type.
 fn has_lifetime(item: &Item<'_>) -> bool {
     item.params.iter().any(|param| param.sort == Sort::Lifetime)
 }
 
-// The implementations of a type, where there are any.
+/// The implementations of a type, or None where the type is left out.
 fn text_of<'a>(
     alloc: Global,
     report: &mut Report,
@@ -201,13 +201,13 @@ fn text_of<'a>(
     Ok(Some(text))
 }
 
-// Whether a word is imported: one that stands in some text, or one that each implementation needs.
+/// Whether a word needs an import: some text contains it, or each implementation needs it.
 fn is_used(texts: &[Text], word: &str) -> bool {
     matches!(word, "Part" | "Refusal" | "Visitor")
         || texts.iter().any(|text| text.text.as_str().contains(word))
 }
 
-// Appends an import of those of some words that are used and not imported already, where there are any.
+/// Appends an import of the words that are used and not yet imported, where there are any.
 fn push_import(
     out: &mut String,
     path: &str,
@@ -245,7 +245,7 @@ const USED: [&str; 7] = [
     "Visitor",
 ];
 
-// Appends what the implementations import, but for what a source imports already.
+/// Appends the imports that the implementations need and the source does not have.
 fn push_imports(
     out: &mut String,
     texts: &[Text],
@@ -275,7 +275,7 @@ fn push_imports(
     out.push_str(if out.len() > before { "\n" } else { "" })
 }
 
-// The text of the module `shown`.
+/// The text of the module `shown`.
 fn module_of(alloc: Global, place: &Place<'_>, texts: &[Text]) -> Result<String, AllocError> {
     let mut out = String::new(alloc);
     if texts.is_empty() {
@@ -297,7 +297,7 @@ fn module_of(alloc: Global, place: &Place<'_>, texts: &[Text]) -> Result<String,
     Ok(out)
 }
 
-// Adds the pieces of a source that stand before a place, and answers the number of those that are added then.
+/// Adds the removal of each piece before a byte position. It returns the number of pieces that have been added.
 fn push_cuts(
     changes: &mut Vec<Change>,
     scene: Scene<'_, '_>,
@@ -315,7 +315,7 @@ fn push_cuts(
         if first.from >= before {
             return Ok(number);
         }
-        // The new line before the first mark is part of the piece.
+        // The line break before the first mark is part of the piece.
         changes.push(Change::Cut {
             line: first.line,
             from: first.from.saturating_sub(1),
@@ -325,8 +325,7 @@ fn push_cuts(
     Ok(scene.source.pieces.len())
 }
 
-// What changes in a source: the pieces in it are taken out, and a piece for each text is put in. The first has the
-// imports.
+/// The changes of a source: its pieces are removed, and a piece is added for each text. The first one has the imports.
 fn changes_of(alloc: Global, scene: Scene<'_, '_>, texts: &[Text]) -> Result<Vec<Change>, Fault> {
     let mut changes = Vec::new(alloc);
     let mut added = 0usize;
@@ -347,7 +346,7 @@ fn changes_of(alloc: Global, scene: Scene<'_, '_>, texts: &[Text]) -> Result<Vec
     Ok(changes)
 }
 
-// The texts for the types of a source that are asked for.
+/// The texts for the types of a source that are asked for.
 fn texts_of(
     alloc: Global,
     report: &mut Report,
@@ -369,10 +368,11 @@ fn texts_of(
     Ok(texts)
 }
 
-/// What is written for a source: the implementations for its types that are named, or for those that have none. In
-/// place, what the program wrote before is replaced, and the rest of the source stays byte for byte. `Fault::Missing`
-/// where a name is not that of a type, `Fault::Unended`, `Fault::Bracket` and `Fault::Mark` where the source cannot be
-/// read, and else `Fault::Memory`.
+/// Writes the implementations for the named types of a source, or for those that have none. In place, it replaces the
+/// pieces that the program wrote before, and keeps the rest of the source byte for byte.
+///
+/// The fault is `Fault::Missing` where the source has no type of a name, `Fault::Unended`, `Fault::Bracket` or
+/// `Fault::Mark` where the source cannot be read, and otherwise `Fault::Memory`.
 pub fn implement(
     alloc: Global,
     place: &Place<'_>,

@@ -1,4 +1,4 @@
-//! The types of a source, and what is implemented for them.
+//! Reading the types of a source and their implementations.
 use crate::cursor::{
     Span, angle_close, behind, behind_attributes, behind_visibility, find, is_kind, line_at,
     text_at,
@@ -8,12 +8,12 @@ use crate::tokens::{Kind, Token};
 use std::alloc::{AllocError, Global};
 use std::collections::{BTreeMap, BTreeSet};
 
-/// What a parameter of a type is.
+/// The sort of a type's parameter.
 #[derive(Clone, Copy, PartialEq, Eq)]
 pub enum Sort {
     /// A lifetime.
     Lifetime,
-    /// A number or a truth value.
+    /// A constant, which is a number or a truth value.
     Const,
     /// A type.
     Type,
@@ -22,20 +22,20 @@ pub enum Sort {
 /// A parameter of a type.
 #[derive(Clone, Copy)]
 pub struct Param<'a> {
-    /// What it is.
+    /// The sort of the parameter.
     pub sort: Sort,
-    /// Its name.
+    /// The name of the parameter.
     pub name: &'a str,
-    /// The tokens of its bounds, or of the type of a number.
+    /// The tokens of its bounds, or of the type of a constant.
     pub bounds: Span,
 }
 
-/// What is shown of a field.
+/// What an implementation shows of a field.
 #[derive(Clone, Copy, PartialEq, Eq)]
 pub enum Shown {
-    /// The field, with all in it.
+    /// The field and all its contents.
     Whole,
-    /// Its size alone, in bytes.
+    /// The size of the field alone, in bytes.
     Size(usize),
     /// Nothing.
     Nothing,
@@ -44,91 +44,91 @@ pub enum Shown {
 /// A field of a struct or of a variant.
 #[derive(Clone, Copy)]
 pub struct FieldItem<'a> {
-    /// Its name; an empty one where it has a number.
+    /// The name of the field, which is empty for a field with a number.
     pub name: &'a str,
     /// The tokens of its type.
     pub span: Span,
-    /// What is shown of it.
+    /// What an implementation shows of the field.
     pub shown: Shown,
 }
 
-/// How the fields of a struct or of a variant are written.
+/// How a struct or a variant writes its fields.
 #[derive(Clone, Copy, PartialEq, Eq)]
 pub enum Style {
-    /// There are none.
+    /// It has no fields.
     Unit,
-    /// By numbers.
+    /// Its fields have numbers.
     Tuple,
-    /// By names.
+    /// Its fields have names.
     Named,
 }
 
 /// A struct, or a variant of an enum.
 #[derive(Drop)]
 pub struct Body<'a> {
-    /// Its name.
+    /// The name of the struct or the variant.
     pub name: &'a str,
-    /// How its fields are written.
+    /// How it writes its fields.
     pub style: Style,
-    /// Its fields, in their order.
+    /// Its fields in their order.
     pub fields: Vec<FieldItem<'a>>,
 }
 
 /// A struct or an enum of a source.
 #[derive(Drop)]
 pub struct Item<'a> {
-    /// Its name.
+    /// The name of the type.
     pub name: &'a str,
     /// The line of its name.
     pub line: usize,
-    /// The place of its last token.
+    /// The index of its last token.
     pub end: usize,
     /// Whether it is an enum.
     pub is_enum: bool,
     /// Its parameters.
     pub params: Vec<Param<'a>>,
-    /// The tokens of its `where`.
+    /// The tokens of its bounds after `where`.
     pub bounds: Span,
     /// The struct itself, or the variants of the enum.
     pub bodies: Vec<Body<'a>>,
-    /// Why nothing can be written for it, where that is known already.
+    /// Why the type is left out, where that is known from reading it.
     pub trouble: Option<Trouble>,
 }
 
-/// Where the text that is written stands.
+/// Where the written text is placed.
 #[derive(Clone, Copy, PartialEq, Eq)]
 pub enum Form {
     /// In a module `shown` of the source.
     Module,
-    /// In the source itself, behind the types, between marks.
+    /// In the source itself, after each type, between marks.
     InPlace,
 }
 
-// An implementation of a source.
+/// An implementation in a source.
 #[derive(Clone, Copy)]
 struct Implementation<'a> {
-    // The last word of the trait.
+    /// The last word of the path of the trait.
     of: &'a str,
-    // The last word of the type.
+    /// The last word of the path of the type.
     name: &'a str,
 }
 
-/// What was read of a source.
+/// The contents of a source.
 #[derive(Drop)]
 pub struct Source<'a> {
-    /// Its structs, enums and unions, outside modules and functions.
+    /// Its structs, enums and unions, without those in modules, in functions or after `#[cfg(..)]`.
     pub items: Vec<Item<'a>>,
-    /// The place of each name among them: of several that have one name, that of the first.
+    /// The index of each type by its name. Of several types with one name it is that of the first.
     pub places: BTreeMap<&'a str, usize>,
-    /// The types for which it implements `Described`, outside modules, functions and what is written anew.
+    /// The types for which it implements `Described`, outside modules, functions and replaced pieces.
     pub described: BTreeSet<&'a str>,
-    /// The types for which it implements `Allocative`, in the same places.
+    /// The types for which it implements `Allocative`, outside modules, functions and replaced pieces.
     pub shown: BTreeSet<&'a str>,
-    /// The types whose implementations of `Allocative` are written anew.
+    /// The types for which it implements `Allocative` in a piece that is replaced.
     pub rewritten: BTreeSet<&'a str>,
-    /// The pieces that the program wrote into it: of each the tokens of its two marks.
+    /// The pieces that the program wrote into it, each as the indices of its two marks.
     pub pieces: Vec<Span>,
-    /// The values of the constants in them, as they stand there.
+    /// The values of the constants in these pieces, as the source has them.
     pub constants: BTreeMap<&'a str, &'a str>,
     /// The words of its imports for code.
     pub imports: BTreeSet<&'a str>,
@@ -151,12 +151,12 @@ impl<'a> Source<'a> {
         }
     }
 
-    /// Whether a name is that of a type.
+    /// Whether the source has a type of this name.
     pub fn has(&self, name: &str) -> bool {
         self.places.contains_key(name)
     }
 
-    // Adds a type.
+    /// Adds a type.
     fn add_item(&mut self, item: Item<'a>) -> Result<(), AllocError> {
         if !self.has(item.name) {
             self.places.insert(item.name, self.items.len())?;
@@ -165,7 +165,7 @@ impl<'a> Source<'a> {
         Ok(())
     }
 
-    // Adds an implementation. `is_anew` says that it is written anew.
+    /// Adds an implementation. `is_anew` tells whether it is in a piece that is replaced.
     fn add_implementation(
         &mut self,
         done: Implementation<'a>,
@@ -181,7 +181,7 @@ impl<'a> Source<'a> {
         Ok(())
     }
 
-    // Adds the constant whose `const` stands at a place, where its value is a number.
+    /// Adds the constant whose `const` is at an index, where its value is a number.
     fn add_constant(&mut self, tokens: &[Token<'a>], at: usize) -> Result<(), AllocError> {
         let value = at.saturating_add(5);
         let is_alone = text_at(tokens, value.saturating_add(1)) == ";";
@@ -192,7 +192,7 @@ impl<'a> Source<'a> {
         Ok(())
     }
 
-    // Adds the words of the import whose `use` stands at a place, and answers the place of its end.
+    /// Adds the words of the import whose `use` is at an index. It returns the index of the end of the import.
     fn add_import(&mut self, tokens: &[Token<'a>], at: usize) -> Result<usize, AllocError> {
         let is_ghost = at > 0 && text_at(tokens, at.saturating_sub(1)) == "ghost";
         let rest = Span {
@@ -214,14 +214,14 @@ impl<'a> Source<'a> {
     }
 }
 
-// Blames a type, where nothing was blamed before.
+/// Records why a type is left out. The first cause is kept.
 fn blame(trouble: &mut Option<Trouble>, line: usize, why: Why) {
     if trouble.is_none() {
         *trouble = Some(Trouble { line, why });
     }
 }
 
-// The pieces of some tokens between commas. The last one is left out where it is empty.
+/// The ranges between the commas of a range of tokens. The last one is omitted where it is empty.
 fn pieces(alloc: Global, tokens: &[Token<'_>], span: Span) -> Result<Vec<Span>, Fault> {
     let mut pieces: Vec<Span> = Vec::new(alloc);
     let mut from = span.from;
@@ -237,7 +237,7 @@ fn pieces(alloc: Global, tokens: &[Token<'_>], span: Span) -> Result<Vec<Span>, 
     Ok(pieces)
 }
 
-// The tokens behind a mark in some tokens, up to another mark; none where the mark is not there.
+/// The tokens of a range after a mark, up to another mark. There are none where the range does not have the first mark.
 fn between(tokens: &[Token<'_>], span: Span, mark: &str, other: &str) -> Span {
     let from = find(tokens, span, mark).saturating_add(1).min(span.to);
     let rest = Span { from, to: span.to };
@@ -247,7 +247,7 @@ fn between(tokens: &[Token<'_>], span: Span, mark: &str, other: &str) -> Span {
     }
 }
 
-// The parameter that some tokens are.
+/// Reads a parameter from a range of tokens.
 fn read_param<'a>(tokens: &[Token<'a>], span: Span) -> Param<'a> {
     let at = behind_attributes(tokens, span.from);
     let bounds = between(tokens, span, ":", "=");
@@ -272,7 +272,7 @@ fn read_param<'a>(tokens: &[Token<'a>], span: Span) -> Param<'a> {
     }
 }
 
-// The parameters that some tokens are.
+/// Reads the parameters of a type from a range of tokens.
 fn read_params<'a>(
     alloc: Global,
     tokens: &[Token<'a>],
@@ -285,7 +285,7 @@ fn read_params<'a>(
     Ok(params)
 }
 
-// What a comment asks for; none where it asks for nothing that is known.
+/// What a comment to this program asks for, or None where that is unknown.
 fn read_order(order: &str) -> Option<Shown> {
     if order == "skip" {
         return Some(Shown::Nothing);
@@ -294,12 +294,12 @@ fn read_order(order: &str) -> Option<Shown> {
     Some(Shown::Size(size.trim().parse::<usize>().ok()?))
 }
 
-// Whether a comment stands behind something else in its line.
+/// Whether a comment follows something else in its line.
 fn is_behind(tokens: &[Token<'_>], at: usize) -> bool {
     at > 0 && line_at(tokens, at.saturating_sub(1)) == line_at(tokens, at)
 }
 
-// What the comments above a field ask for, and the place behind them and behind its attributes.
+/// Reads the comments and the attributes of a field. It returns what the comments ask for, and the index after both.
 fn read_orders(
     tokens: &[Token<'_>],
     span: Span,
@@ -325,7 +325,7 @@ fn read_orders(
     (shown, at)
 }
 
-// The field that some tokens from `at` on are, which has a name; none where they are a fact about others.
+/// Reads a field with a name from the tokens from `at` to `to`. It is None where they are a ghost field.
 fn read_named<'a>(
     tokens: &[Token<'a>],
     at: usize,
@@ -350,7 +350,7 @@ fn read_named<'a>(
     })
 }
 
-// The field that some tokens are; none where they are a fact about others.
+/// Reads a field from a range of tokens. It is None where they are a ghost field, or comments without a field.
 fn read_field<'a>(
     tokens: &[Token<'a>],
     span: Span,
@@ -375,8 +375,8 @@ fn read_field<'a>(
     }
 }
 
-// The struct or the variant of a name whose fields stand in the brackets at a place; without fields where there are
-// none.
+/// Reads the struct or the variant of a name whose fields are in the brackets at an index. Without brackets it has no
+/// fields.
 fn read_body<'a>(
     alloc: Global,
     tokens: &[Token<'a>],
@@ -411,7 +411,7 @@ fn read_body<'a>(
     })
 }
 
-// The variant that some tokens are.
+/// Reads a variant from a range of tokens.
 fn read_variant<'a>(
     alloc: Global,
     tokens: &[Token<'a>],
@@ -437,7 +437,7 @@ fn read_variant<'a>(
     read_body(alloc, tokens, text_at(tokens, at), next, trouble)
 }
 
-// The variants that some tokens are.
+/// Reads the variants of an enum from a range of tokens.
 fn read_variants<'a>(
     alloc: Global,
     tokens: &[Token<'a>],
@@ -451,7 +451,7 @@ fn read_variants<'a>(
     Ok(bodies)
 }
 
-// The bounds that stand at a place behind `where`, and the place of what ends them.
+/// The bounds after the `where` at an index, and the index of the token that ends them.
 fn read_bounds(tokens: &[Token<'_>], at: usize, end: &str) -> (Span, usize) {
     if text_at(tokens, at) != "where" {
         return (Span { from: at, to: at }, at);
@@ -470,8 +470,8 @@ fn read_bounds(tokens: &[Token<'_>], at: usize, end: &str) -> (Span, usize) {
     )
 }
 
-// The parameters of a type whose name stands before a place, and the place behind them. `Fault::Bracket` where they
-// have no end.
+/// Reads the parameters of a type at an index. It returns them and the index after them. The fault is `Fault::Bracket`
+/// where they have no end.
 fn read_angles<'a>(
     alloc: Global,
     tokens: &[Token<'a>],
@@ -491,18 +491,18 @@ fn read_angles<'a>(
     Ok((params, close.saturating_add(1)))
 }
 
-// What stands behind the parameters of a type.
+/// The parts of a type after its parameters.
 #[derive(Drop)]
 struct Rest<'a> {
-    // Its `where`.
+    /// The bounds after `where`.
     bounds: Span,
-    // The struct itself, or the variants of the enum.
+    /// The struct itself, or the variants of the enum.
     bodies: Vec<Body<'a>>,
-    // The place of its last token.
+    /// The index of the last token of the type.
     end: usize,
 }
 
-// What stands at a place behind the parameters of the enum or else the struct of a name.
+/// Reads the parts of an enum or a struct after its parameters.
 fn read_rest<'a>(
     alloc: Global,
     tokens: &[Token<'a>],
@@ -538,7 +538,7 @@ fn read_rest<'a>(
     })
 }
 
-// The struct or the enum whose keyword stands at a place.
+/// Reads the struct or the enum whose keyword is at an index.
 fn read_item<'a>(alloc: Global, tokens: &[Token<'a>], at: usize) -> Result<Item<'a>, Fault> {
     let mut trouble = None;
     let is_enum = text_at(tokens, at) == "enum";
@@ -562,7 +562,7 @@ fn read_item<'a>(alloc: Global, tokens: &[Token<'a>], at: usize) -> Result<Item<
     })
 }
 
-// The union whose keyword stands at a place.
+/// Reads the union whose keyword is at an index.
 fn read_union<'a>(alloc: Global, tokens: &[Token<'a>], at: usize) -> Item<'a> {
     let name_at = at.saturating_add(1);
     let line = line_at(tokens, name_at);
@@ -581,7 +581,7 @@ fn read_union<'a>(alloc: Global, tokens: &[Token<'a>], at: usize) -> Item<'a> {
     }
 }
 
-// The last word of the path that stands at a place.
+/// The last word of the path at an index.
 fn last_word<'a>(tokens: &[Token<'a>], at: usize) -> &'a str {
     let mut last = at;
     let mut is_open = true;
@@ -598,8 +598,8 @@ fn last_word<'a>(tokens: &[Token<'a>], at: usize) -> &'a str {
     text_at(tokens, last)
 }
 
-// The implementation whose keyword stands at a place, where it is of a trait, and the place of the brace that opens it.
-// `Fault::Bracket` where its parameters have no end.
+/// Reads the implementation whose keyword is at an index. It is None where no trait is implemented. It also returns the
+/// index of the opening brace. The fault is `Fault::Bracket` where the parameters have no end.
 fn read_implementation<'a>(
     tokens: &[Token<'a>],
     at: usize,
@@ -627,7 +627,7 @@ fn read_implementation<'a>(
     Ok((Some(done), open))
 }
 
-// What the attribute says whose bracket opens at a place.
+/// The name of the attribute whose bracket opens at an index, or an empty text.
 fn attribute_at<'a>(tokens: &[Token<'a>], at: usize) -> &'a str {
     if text_at(tokens, at) == "[" && at > 0 && text_at(tokens, at.saturating_sub(1)) == "#" {
         text_at(tokens, at.saturating_add(1))
@@ -636,7 +636,7 @@ fn attribute_at<'a>(tokens: &[Token<'a>], at: usize) -> &'a str {
     }
 }
 
-// The item whose keyword stands at a place; none where there is no keyword of an item.
+/// Reads the type whose keyword is at an index, or returns None where there is no such keyword.
 fn item_at<'a>(
     alloc: Global,
     tokens: &[Token<'a>],
@@ -658,18 +658,18 @@ fn item_at<'a>(
     Ok(Some(item))
 }
 
-// What goes before a place outside modules and functions.
+/// What precedes a token outside modules and functions.
 #[derive(Clone, Copy)]
 struct Before {
-    // The item that begins has `#[cycle(..)]`.
+    /// Whether the current item has `#[cycle(..)]`.
     is_cycle: bool,
-    // The item that begins has `#[cfg(..)]`.
+    /// Whether the current item has `#[cfg(..)]`.
     is_left_out: bool,
-    // The mark of the piece around it that the program wrote.
+    /// The index of the mark that began the current piece, inside a piece that the program wrote.
     mark: Option<usize>,
 }
 
-// Reads a comment to this program, which may be a mark. `Fault::Mark` where a mark has no other.
+/// Reads a comment to this program, which may be a mark. The fault is `Fault::Mark` where a mark has no counterpart.
 fn read_mark<'a>(
     tokens: &[Token<'a>],
     at: usize,
@@ -691,8 +691,8 @@ fn read_mark<'a>(
     Ok(())
 }
 
-// Reads what begins at a place, and answers the place from which to go on. Of a piece that the program wrote only
-// implementations and constants are read.
+/// Reads the item at an index, and returns the index from which to continue. In a piece that the program wrote, it
+/// reads only implementations and constants.
 fn read_top<'a>(
     alloc: Global,
     tokens: &[Token<'a>],
@@ -724,9 +724,11 @@ fn read_top<'a>(
     Ok(at)
 }
 
-/// What stands in a source, but for what stands in modules and functions and behind `#[cfg(..)]`. Where the new text
-/// is put in place, what the program wrote is left out too. `Fault::Bracket` where the parameters of a type have no
-/// end, `Fault::Mark` where a mark has no other, and else `Fault::Memory`.
+/// Reads a source, without the contents of modules and functions, and without types and imports after `#[cfg(..)]`. In
+/// place, the implementations in pieces that the program wrote count as rewritten.
+///
+/// The fault is `Fault::Bracket` where the parameters of a type have no end, `Fault::Mark` where a mark has no
+/// counterpart, and otherwise `Fault::Memory`.
 pub fn read_source<'a>(
     alloc: Global,
     tokens: &[Token<'a>],

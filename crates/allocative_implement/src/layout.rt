@@ -5,60 +5,60 @@ use crate::items::{Body, FieldItem, Item, Shown, Sort, Source};
 use crate::tokens::{Kind, Token};
 use std::alloc::Global;
 
-/// What is known of a type.
+/// What is known about the layout of a type.
 #[derive(Clone, Copy, PartialEq, Eq)]
 pub struct Layout {
     /// Its declared size in bytes, where it is known.
     pub size: Option<usize>,
-    /// Its declared alignment in bytes, or 8 where it is not known.
+    /// Its declared alignment in bytes, which is 8 where it is unknown.
     pub align: usize,
-    /// Whether it needs a drop, also where that is not known.
+    /// Whether it needs a drop, which is true where it is unknown.
     pub needs_drop: bool,
 }
 
-/// Of a type of which nothing is known.
+/// The layout of a type about which nothing is known.
 pub const UNKNOWN: Layout = Layout {
     size: None,
     align: 8,
     needs_drop: true,
 };
 
-// How a type's layout follows from those of its parts.
+/// How the layout of a type follows from the layouts of its parts.
 #[derive(Clone, Copy, PartialEq, Eq)]
 enum Rule {
-    // All parts behind one another.
+    /// All parts, one after another.
     Row,
-    // One byte and the largest part.
+    /// One byte and the largest part.
     Tagged,
-    // So many times the part.
+    /// The part, repeated as often as a number says.
     Array,
-    // A small vector.
+    /// A `SmallVec`.
     Small,
-    // The part, which is not dropped.
+    /// The part, which is not dropped.
     Kept,
-    // Its own, whatever the parts are.
+    /// A layout of its own, whatever the parts are.
     Own(Layout),
 }
 
-// The parts of a type that came so far.
+/// The parts of a type that have been read so far.
 #[derive(Clone, Copy)]
 struct Frame {
     rule: Rule,
-    // The sizes together.
+    /// The sum of the sizes.
     sum: Option<usize>,
-    // The greatest size.
+    /// The greatest size.
     most: Option<usize>,
-    // The greatest alignment.
+    /// The greatest alignment.
     align: usize,
     needs_drop: bool,
-    // The last number among the parts.
+    /// The last number among the parts.
     number: Option<usize>,
-    // Whether the part that comes stands behind a `&`.
+    /// Whether the next part follows a `&`.
     is_borrowed: bool,
 }
 
-/// The least multiple of an alignment that is not below a size; none where it passes `usize::MAX`, or where the
-/// alignment is 0.
+/// The least multiple of an alignment that is not below a size. It is None where the multiple exceeds `usize::MAX`, or
+/// where the alignment is 0.
 pub fn up(size: usize, align: usize) -> Option<usize> {
     if align == 0 {
         return None;
@@ -87,7 +87,7 @@ fn owner(size: usize) -> Rule {
     })
 }
 
-// The size of a number by its name, also of one that is not 0 or atomic.
+/// The size of a number type by its name, including the types `NonZero..` and `Atomic..`.
 fn number_size(name: &str) -> Option<usize> {
     let short = match name.strip_prefix("NonZero") {
         Some(rest) => rest,
@@ -117,7 +117,7 @@ fn number_size(name: &str) -> Option<usize> {
     }
 }
 
-// What stands in the tables for a name; none where it is none of them.
+/// The rule for a type by its name, or None for an unknown name.
 fn rule_of(name: &str) -> Option<Rule> {
     if let Some(size) = number_size(name) {
         return Some(plain(size, size));
@@ -144,7 +144,7 @@ fn rule_of(name: &str) -> Option<Rule> {
     }
 }
 
-// What is known of a type of the source, by its name; none where it is no type of the source.
+/// The layout of a type of the source by its name, or None where the source has no such type.
 fn own_layout(source: &Source<'_>, known: &[Layout], name: &str) -> Option<Layout> {
     let place = source.places.get(name)?;
     known.get(*place).copied()
@@ -162,17 +162,17 @@ fn new_frame(rule: Rule) -> Frame {
     }
 }
 
-// The sum of two sizes.
+/// The sum of two sizes.
 fn add(a: Option<usize>, b: Option<usize>) -> Option<usize> {
     a?.checked_add(b?)
 }
 
-// The greater of two sizes.
+/// The greater of two sizes.
 fn greater(a: Option<usize>, b: Option<usize>) -> Option<usize> {
     Some(a?.max(b?))
 }
 
-// A frame with one part more.
+/// A frame with one more part.
 fn with_part(old: Frame, part: Layout) -> Frame {
     if old.is_borrowed {
         return old;
@@ -186,13 +186,13 @@ fn with_part(old: Frame, part: Layout) -> Frame {
     }
 }
 
-// The size of a small vector of so many items.
+/// The size of a `SmallVec` with so many inline items.
 fn small_size(part: Option<usize>, number: Option<usize>, align: usize) -> Option<usize> {
     let inline = part?.checked_mul(number?)?.max(16);
     up(inline.checked_add(8)?, align)
 }
 
-// The layout of a type whose parts have all come.
+/// The layout of a type with all its parts.
 fn layout_of_frame(frame: Frame) -> Layout {
     let Frame {
         rule,
@@ -229,27 +229,27 @@ fn layout_of_frame(frame: Frame) -> Layout {
     }
 }
 
-// The frames of the types that a token stands in.
+/// The frames of the types that surround a token, the innermost last.
 #[derive(Drop)]
 struct Frames {
     frames: Vec<Frame>,
 }
 
 impl Frames {
-    // Opens a type of parts.
+    /// Begins a type with parts.
     fn open(&mut self, rule: Rule) -> Result<(), Fault> {
         self.frames.push(new_frame(rule))?;
         Ok(())
     }
 
-    // Adds a part to the innermost type.
+    /// Adds a part to the innermost type.
     fn add(&mut self, part: Layout) {
         if let Some(top) = self.frames.last_mut() {
             *top = with_part(*top, part);
         }
     }
 
-    // Ends the innermost type, but not the outermost, and adds it to the one around it.
+    /// Ends the innermost type and adds it to the one around it. It keeps the outermost type.
     fn close(&mut self) {
         if self.frames.len() < 2 {
             return;
@@ -259,14 +259,14 @@ impl Frames {
         }
     }
 
-    // Keeps a number for the innermost type.
+    /// Sets the number of the innermost type.
     fn count(&mut self, number: Option<usize>) {
         if let Some(top) = self.frames.last_mut() {
             top.number = number;
         }
     }
 
-    // Adds a reference to the innermost type, or ends it.
+    /// Begins or ends a reference in the innermost type.
     fn borrow(&mut self, is_borrowed: bool) {
         if is_borrowed {
             self.add(Layout {
@@ -281,8 +281,8 @@ impl Frames {
     }
 }
 
-/// What is known of a type that some tokens are, where that is known of the source's own types. The only fault is
-/// `Fault::Memory`.
+/// The layout of the type in a range of tokens, where the layouts of the source's own types are known. The only fault
+/// is `Fault::Memory`.
 pub fn layout_of_type(
     alloc: Global,
     tokens: &[Token<'_>],
@@ -325,7 +325,7 @@ pub fn layout_of_type(
     }
 }
 
-// The alignment that a size alone suggests.
+/// The greatest alignment up to 8 that divides a size.
 fn align_of_size(size: usize) -> usize {
     if size % 8 == 0 {
         8
@@ -338,7 +338,7 @@ fn align_of_size(size: usize) -> usize {
     }
 }
 
-/// What is known of a field. The only fault is `Fault::Memory`.
+/// The layout of a field. The only fault is `Fault::Memory`.
 pub fn layout_of_field(
     alloc: Global,
     tokens: &[Token<'_>],
@@ -357,8 +357,7 @@ pub fn layout_of_field(
     }
 }
 
-// What is known of the fields of a struct or a variant together. `least` says that a field of no known size counts
-// nothing.
+/// The layout of all fields of a struct or a variant. With `least`, a field of unknown size counts as 0 bytes.
 fn row_of(
     alloc: Global,
     tokens: &[Token<'_>],
@@ -382,7 +381,7 @@ fn row_of(
     })
 }
 
-// What is known of the parts of a type together.
+/// The layout that the parts of a type have together.
 fn layout_of_parts(
     alloc: Global,
     tokens: &[Token<'_>],
@@ -402,7 +401,8 @@ fn layout_of_parts(
     Ok(layout_of_frame(all))
 }
 
-/// The size of a type of a source as if each field of no known size had none. The only fault is `Fault::Memory`.
+/// The size of a type of a source, where each field of unknown size counts as 0 bytes. The only fault is
+/// `Fault::Memory`.
 pub fn least_size(
     alloc: Global,
     tokens: &[Token<'_>],
@@ -414,8 +414,8 @@ pub fn least_size(
     Ok(layout.size.unwrap_or(usize::MAX))
 }
 
-// What is known of a type of the source, where that is known of the others. The size of one with parameters is not,
-// nor is that of one that is described in the source.
+/// The layout of a type of the source, where the layouts of the others are known. The size is unknown for a type with
+/// parameters other than lifetimes, and for a type for which the source implements `Described`.
 fn layout_of_item(
     alloc: Global,
     tokens: &[Token<'_>],
@@ -435,18 +435,18 @@ fn layout_of_item(
     Ok(layout)
 }
 
-// How far the layout of a type has come.
+/// The stage of finding the layout of a type.
 #[derive(Clone, Copy, PartialEq, Eq)]
 enum Stage {
-    // Its parts are not asked for yet.
+    /// It has not begun.
     New,
-    // Its parts come first.
+    /// The types of its fields are found first.
     Open,
-    // It is known.
+    /// The layout is known.
     Done,
 }
 
-// Adds to the types that wait those in the fields of a type that are new.
+/// Adds the new types in the fields of a type to the waiting types.
 fn push_parts(
     waiting: &mut Vec<usize>,
     stages: &[Stage],
@@ -468,8 +468,8 @@ fn push_parts(
     Ok(())
 }
 
-/// What is known of each type of a source, in their order. A type comes behind those in its fields, so each is looked
-/// at once. The only fault is `Fault::Memory`.
+/// The layout of each type of a source, in their order. The layouts of the types in the fields of a type are found
+/// before its own. The only fault is `Fault::Memory`.
 pub fn layouts_of(
     alloc: Global,
     tokens: &[Token<'_>],
@@ -484,7 +484,7 @@ pub fn layouts_of(
         stages.push(Stage::New)?;
         waiting.push(place)?;
     }
-    // Each type waits once by itself and once for each word that names it, and is looked at once more.
+    // Each type waits once by itself and once for each word that names it. One more step for each finds its fields.
     let steps = count.saturating_mul(2).saturating_add(tokens.len());
     for _ in 0..steps {
         let Some(place) = waiting.last().copied() else {
@@ -510,7 +510,7 @@ pub fn layouts_of(
     Ok(known)
 }
 
-// Whether a name is that of a type that is known not to be `Allocative`.
+/// Whether a name is that of a type that is known not to be `Allocative`.
 fn is_foreign(name: &str) -> bool {
     matches!(
         name,
@@ -532,8 +532,7 @@ fn is_foreign(name: &str) -> bool {
     )
 }
 
-/// Why a field's type in some tokens is not written; none where it is. `own` is the name of the type that has the
-/// field.
+/// Why the type of a field cannot be written, or None where it can. `own` is the name of the type that has the field.
 pub fn why_not(tokens: &[Token<'_>], span: Span, source: &Source<'_>, own: &str) -> Option<Why> {
     for at in span.from..span.to {
         let text = text_at(tokens, at);

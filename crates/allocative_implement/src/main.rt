@@ -1,5 +1,5 @@
-//! Reads a source file, and writes the implementations of `Described` and `Allocative` for its types: to standard
-//! output, or in place.
+//! Reads a source file and writes the implementations of `Described` and `Allocative` for its types, to standard output
+//! or in place.
 #![tactic(auto)]
 
 mod cursor;
@@ -29,7 +29,7 @@ use std::rt::{Env, Files};
 use std::{env, fs, io};
 use words::{Asked, read_words};
 
-// The words behind the program's name. A word that is not UTF-8 is none of the program's.
+/// The arguments after the program's name. An argument that is not UTF-8 is not valid.
 fn words_of<R: Env + AllocGlobal>(rt: &R) -> Result<Vec<String>, Fault> {
     match env::args(rt) {
         Ok(args) => Ok(args.skip(1).collect(rt.alloc())?),
@@ -38,7 +38,7 @@ fn words_of<R: Env + AllocGlobal>(rt: &R) -> Result<Vec<String>, Fault> {
     }
 }
 
-// The fault of a file that cannot be opened for reading.
+/// The fault where a file cannot be opened for reading.
 fn open_fault(error: &io::Error) -> Fault {
     match error.kind() {
         ErrorKind::OutOfMemory => Fault::Memory,
@@ -46,7 +46,7 @@ fn open_fault(error: &io::Error) -> Fault {
     }
 }
 
-// Writes the module of a file to the output.
+/// Writes the module for a file to the output.
 fn write_module<R: Files + AllocGlobal, W: Write, E: Write>(
     rt: &R,
     file: &str,
@@ -63,15 +63,15 @@ fn write_module<R: Files + AllocGlobal, W: Write, E: Write>(
     }
 }
 
-// Gives a new file what the old one may be used for, and puts it in its place.
+/// Gives the new file the permissions of the old one, and replaces the old one by it.
 fn replace<R: Files>(rt: &R, file: &str, beside: &str, new: &R::File) -> io::Result<()> {
     fs::set_permissions(rt, beside, fs::metadata(rt, file)?.permissions())?;
     new.sync_all()?;
     fs::rename(rt, beside, file)
 }
 
-// Writes the new text of a file beside it and, where all ended well, puts it in the file's place. Else the file stays
-// as it is.
+/// Writes the new text to a file beside the old one, and replaces the old file where the run succeeds. Otherwise the
+/// old file is unchanged.
 fn write_in_place<R: Files + AllocGlobal, E: Write>(
     rt: &R,
     file: &str,

@@ -1,19 +1,19 @@
-//! Where a source stands.
+//! The place of a source in its crate.
 use crate::text::push_name;
 use std::alloc::AllocError;
 
-/// Where a source stands, by the path of its file.
+/// The place of a source in its crate, from the path of its file.
 #[derive(Clone, Copy)]
 pub struct Place<'a> {
-    /// The path.
+    /// The path of the file.
     pub file: &'a str,
-    // The name of the crate.
+    /// The name of the crate.
     package: &'a str,
-    // The path of the file in the crate's folder `src`, without its ending.
+    /// The path of the module in the crate, which is empty for the crate's root.
     module: &'a str,
 }
 
-// The last part of a path.
+/// The last part of a path.
 fn last_part(path: &str) -> &str {
     match path.rsplit_once('/') {
         Some((_, last)) => last,
@@ -21,7 +21,7 @@ fn last_part(path: &str) -> &str {
     }
 }
 
-// The module's path of a file in `src`; an empty one for the root of a crate.
+/// The path of the module for a file in `src`, which is empty for the crate's root.
 fn module_of(path: &str) -> &str {
     let path = path.strip_suffix(".rt").unwrap_or(path);
     let path = path.strip_suffix("/mod").unwrap_or(path);
@@ -32,7 +32,7 @@ fn module_of(path: &str) -> &str {
     }
 }
 
-/// Where a file stands; none where its path names no crate's folder, then `src`, and then the file.
+/// The place of a file, or None where its path does not have a crate's folder with `src` and the file in it.
 pub fn place_of(file: &str) -> Option<Place<'_>> {
     let (before, behind) = file.rsplit_once("/src/")?;
     let package = last_part(before);
@@ -47,13 +47,13 @@ pub fn place_of(file: &str) -> Option<Place<'_>> {
 }
 
 impl<'a> Place<'a> {
-    /// The file's name, without its ending.
+    /// The name of the file without its ending.
     pub fn name(&self) -> &'a str {
         let name = last_part(self.file);
         name.strip_suffix(".rt").unwrap_or(name)
     }
 
-    /// Appends the path of what is declared in the module that the file is, as
+    /// Appends the path of the declarations of the file's module, for example
     /// `Rattle.shop.specs.declared.sales.orders`.
     pub fn push_path(&self, out: &mut String) -> Result<(), AllocError> {
         out.push_str("Rattle.")?;

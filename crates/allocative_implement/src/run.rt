@@ -11,8 +11,8 @@ use crate::place::place_of;
 use std::alloc::Global;
 use std::io::{ErrorKind, Read, Write};
 
-/// All that the reader gives. `Fault::Reading` where a read failed, and else `Fault::Memory`. An interrupted read is
-/// taken again.
+/// Reads all bytes of a reader, and repeats an interrupted read. The fault is `Fault::Reading` where a read failed, and
+/// otherwise `Fault::Memory`.
 pub fn read_input<R: Read>(alloc: Global, input: &mut R) -> Result<Vec<u8>, Fault>
     ensures ok { IfOk result (λ bytes. IfSome (R.remaining input.old) (λ known. bytes.items ≡ known)) }
     ensures err { IfErr result (λ f. (f ≡ Fault.Memory) ⊎ (f ≡ Fault.Reading)) }
@@ -30,7 +30,7 @@ pub fn read_input<R: Read>(alloc: Global, input: &mut R) -> Result<Vec<u8>, Faul
     Err(Fault::Reading)
 }
 
-// Writes the whole text.
+/// Writes the whole text and flushes the writer.
 fn write_text<W: Write>(output: &mut W, text: &str) -> Result<(), Fault>
     ensures ok { OnOk result (Appends (W.contents output.old) (W.contents output.new) text.now) }
     ensures err { IfErr result (λ f. f ≡ Fault.Writing) }
@@ -41,7 +41,7 @@ fn write_text<W: Write>(output: &mut W, text: &str) -> Result<(), Fault>
     Ok(())
 }
 
-/// Writes the fault's line, and answers its status, also where the line can't be written.
+/// Writes the line of a fault. It returns the status of the fault, also where the line cannot be written.
 pub fn tell<E: Write>(errors: &mut E, fault: Fault) -> u8
     ensures { result ≡ status_of fault }
 {
@@ -50,7 +50,7 @@ pub fn tell<E: Write>(errors: &mut E, fault: Fault) -> u8
     fault.status()
 }
 
-/// Writes how the program is used, and answers the status.
+/// Writes how the program is used, and returns the status.
 pub fn show_usage<W: Write, E: Write>(output: &mut W, errors: &mut E) -> u8 {
     let usage =
         "usage: implement [--in-place] FILE [TYPE..]\n\nWrites the implementations of Described and Allocative for the structs and enums of a source file to standard\noutput: of the types that are named, or of all that have none. The text is that of a module `shown` of the file:\n\n  mkdir -p src/order; implement src/order.rt > src/order/shown.rt\n\nand `mod shown;` in src/order.rt. With --in-place it puts them behind their types in the file itself, between lines\n`// allocative: begin` and `// allocative: end`, and replaces those that it put there before. A comment `// allocative: skip` above a field passes it over, and\n`// allocative: size 8` shows it by that size alone.\n";
@@ -60,7 +60,7 @@ pub fn show_usage<W: Write, E: Write>(output: &mut W, errors: &mut E) -> u8 {
     }
 }
 
-// Reads the source, and makes the text of it.
+/// Reads the source and makes the text for it.
 fn make_text<R: Read>(
     alloc: Global,
     form: Form,
@@ -68,7 +68,9 @@ fn make_text<R: Read>(
     names: &[String],
     input: &mut R,
 ) -> Result<Written, Fault>
-    ensures in_place { IfOk result (λ written. form ≡ Form.InPlace → IfSome (R.remaining input.old) (λ old. Keeps old (string_bytes written.text))) }
+    ensures in_place { IfOk result
+        (λ written. form ≡ Form.InPlace
+        → IfSome (R.remaining input.old) (λ old. Keeps old (string_bytes written.text))) }
 {
     let Some(place) = place_of(file) else {
         return Err(Fault::Place);
@@ -80,7 +82,7 @@ fn make_text<R: Read>(
     implement(alloc, &place, form, text, names)
 }
 
-// Writes the notes, and answers the status with which a run ends whose text is written.
+/// Writes the notes. It returns the status of a run whose text has all types that were asked for, or leaves some out.
 fn tell_notes<E: Write>(errors: &mut E, written: &Written) -> u8
     ensures { result ≡ (if written.now.is_whole then 0 else status_of Fault.LeftOut) }
 {
@@ -93,7 +95,7 @@ fn tell_notes<E: Write>(errors: &mut E, written: &Written) -> u8
     }
 }
 
-// Whether a text is not written: a new source that leaves out a type.
+/// Whether the text is not written, which is so for a new source that leaves out a type.
 fn is_held_back(form: Form, written: &Written) -> bool
     ensures { IsTrue result ↔ (form ≡ Form.InPlace) × (written.now.is_whole ≡ false) }
 {
@@ -103,12 +105,12 @@ fn is_held_back(form: Form, written: &Written) -> bool
     }
 }
 
-/// The whole program but its words and the files: its answer is the status.
+/// Runs the whole program, except for its arguments and files, and returns the status.
 ///
-/// The text of a module goes to the output with status 0, where the implementations of all types that are asked for
-/// stand in it, and with status 8, where those of some do. The new source goes there with status 0 alone: between marks
-/// it differs from the old one, and nowhere else. Else the fault's line goes to the errors and, but for status 7,
-/// nothing goes to the output.
+/// The text of a module goes to the output with status 0, where it has all types that were asked for, and with status
+/// 8, where it leaves some out. A new source goes to the output with status 0 alone, and differs from the old one only
+/// in marked pieces. Otherwise the line of the fault goes to the errors and, except with status 7, nothing goes to the
+/// output.
 pub fn run<R: Read, W: Write, E: Write>(
     alloc: Global,
     form: Form,
@@ -119,7 +121,8 @@ pub fn run<R: Read, W: Write, E: Write>(
     errors: &mut E,
 ) -> u8
     ensures untouched { result ≢ 0 → result ≢ 7 → (form ≡ Form.InPlace) ⊎ (result ≢ 8) → output.new ≡ output.old }
-    ensures in_place { result ≡ 0 → form ≡ Form.InPlace → IfSome (R.remaining input.old) (PutsInPlace (W.contents output.old) (W.contents output.new)) }
+    ensures in_place { result ≡ 0 → form ≡ Form.InPlace
+        → IfSome (R.remaining input.old) (PutsInPlace (W.contents output.old) (W.contents output.new)) }
 {
     let written = match make_text(alloc, form, file, names, input) {
         Ok(written) => written,

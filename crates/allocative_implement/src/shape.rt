@@ -1,4 +1,4 @@
-//! What is shown of a type, and why nothing can be written for it.
+//! What is shown of a type, and why a type is left out.
 use crate::cursor::{Span, line_at, text_at};
 use crate::fault::{Fault, Trouble, Why};
 use crate::items::{Body, Form, Item, Param, Shown, Source, Style};
@@ -18,39 +18,40 @@ pub enum Label<'a> {
 /// A field that is shown.
 #[derive(Clone, Copy)]
 pub struct ShownField<'a> {
-    /// The name of the field.
+    /// The name or the number of the field.
     pub member: Label<'a>,
     /// The key of its entry.
     pub key: Label<'a>,
     /// The tokens of its type.
     pub span: Span,
-    /// What is known of its type.
+    /// The layout of its type.
     pub layout: Layout,
-    /// Its size, where it is shown by that alone.
+    /// The size of the field, where only its size is shown.
     pub size: Option<usize>,
 }
 
-/// A source whose types are known.
+/// A source with the layouts of its types.
 #[derive(Clone, Copy)]
 pub struct Scene<'s, 'a> {
-    /// The source itself.
+    /// The text of the source.
     pub text: &'s str,
-    /// Its tokens.
+    /// The tokens of the source.
     pub tokens: &'s [Token<'a>],
-    /// What was read of it.
+    /// The contents of the source.
     pub source: &'s Source<'a>,
-    /// What is known of each of its types, in their order.
+    /// The layout of each of its types, in their order.
     pub known: &'s [Layout],
-    /// Where the text that is written stands.
+    /// Where the written text is placed.
     pub form: Form,
 }
 
-/// The most fields of a struct, and of a variant.
+/// The most shown fields of a struct.
 pub const MOST_FIELDS: usize = 25;
-/// The most fields of a variant, and of one part of a struct.
+/// The most shown fields of a variant, and of one part of a struct.
 pub const MOST_TOGETHER: usize = 5;
 
-// The key of a field: its name; of the one unnamed field of a variant the variant's name; else its number.
+/// The key of a field. It is the variant's name for the only field of a variant without names, and otherwise the name
+/// or the number of the field.
 fn key_of<'a>(body: &Body<'a>, is_enum: bool, member: Label<'a>) -> Label<'a> {
     if is_enum && body.style == Style::Tuple && body.fields.len() == 1 {
         Label::Name(body.name)
@@ -59,7 +60,7 @@ fn key_of<'a>(body: &Body<'a>, is_enum: bool, member: Label<'a>) -> Label<'a> {
     }
 }
 
-/// The fields of a struct or a variant that are shown, in their order. The only fault is `Fault::Memory`.
+/// The shown fields of a struct or a variant, in their order. The only fault is `Fault::Memory`.
 pub fn shown_fields<'a>(
     alloc: Global,
     scene: Scene<'_, 'a>,
@@ -92,7 +93,7 @@ pub fn shown_fields<'a>(
     Ok(shown)
 }
 
-/// Whether a parameter stands in a field that is shown whole.
+/// Whether the type of a field that is shown whole names this parameter.
 pub fn is_shown(tokens: &[Token<'_>], item: &Item<'_>, param: &Param<'_>) -> bool {
     for body in &item.bodies {
         for field in &body.fields {
@@ -104,9 +105,9 @@ pub fn is_shown(tokens: &[Token<'_>], item: &Item<'_>, param: &Param<'_>) -> boo
     false
 }
 
-/// Whether the goal of a variant with these fields may stay open: so it was seen for some variants of three fields and
-/// more, where a field behind the first has something to drop, and for one of two, where the second is of a type of the
-/// source.
+/// Whether the goal of a variant with these fields may stay open. That has been seen for some variants of three or more
+/// fields where a field after the first needs a drop, and of two or more where a field after the first has a type of
+/// the source.
 pub fn may_stay_open(scene: Scene<'_, '_>, fields: &[ShownField<'_>]) -> bool {
     for (number, field) in fields.iter().enumerate() {
         let is_own = field.size.is_none()
@@ -118,7 +119,7 @@ pub fn may_stay_open(scene: Scene<'_, '_>, fields: &[ShownField<'_>]) -> bool {
     false
 }
 
-// Whether a word is one of some tokens.
+/// Whether a range of tokens has a word.
 fn has_word(tokens: &[Token<'_>], span: Span, word: &str) -> bool {
     for at in span.from..span.to {
         if text_at(tokens, at) == word {
@@ -128,7 +129,7 @@ fn has_word(tokens: &[Token<'_>], span: Span, word: &str) -> bool {
     false
 }
 
-// Whether a type has a name that the written text imports.
+/// Whether the written text imports this name, so that no type may have it.
 fn is_taken(name: &str) -> bool {
     matches!(
         name,
@@ -136,7 +137,7 @@ fn is_taken(name: &str) -> bool {
     )
 }
 
-// Whether a variant has a name that the written relation uses.
+/// Whether the written relation uses this name, so that no variant may have it.
 fn is_word(name: &str) -> bool {
     matches!(
         name,
@@ -144,7 +145,7 @@ fn is_word(name: &str) -> bool {
     )
 }
 
-// Why a struct or a variant is not written.
+/// Why a struct or a variant is not written, or None where it is.
 fn body_trouble(scene: Scene<'_, '_>, item: &Item<'_>, body: &Body<'_>) -> Option<Trouble> {
     let mut count = 0usize;
     for field in &body.fields {
@@ -179,8 +180,8 @@ fn body_trouble(scene: Scene<'_, '_>, item: &Item<'_>, body: &Body<'_>) -> Optio
     }
 }
 
-/// The end of the line in which a type ends: there its implementations are put in place. None where the line goes on
-/// behind the type with more than a comment of its own.
+/// The end of the line in which a type ends, where its implementations are placed. It is None where more than a comment
+/// follows the type in that line.
 pub fn line_behind(scene: Scene<'_, '_>, item: &Item<'_>) -> Option<usize> {
     let to = match scene.tokens.get(item.end) {
         Some(token) => token.to,
@@ -199,7 +200,7 @@ pub fn line_behind(scene: Scene<'_, '_>, item: &Item<'_>) -> Option<usize> {
     }
 }
 
-/// Why nothing is written for a type; none where its implementations are written.
+/// Why a type is left out, or None where its implementations are written.
 pub fn trouble_of(scene: Scene<'_, '_>, item: &Item<'_>) -> Option<Trouble> {
     if item.trouble.is_some() {
         return item.trouble;

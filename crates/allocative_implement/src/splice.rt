@@ -1,39 +1,39 @@
-//! Putting written pieces in place in a text.
+//! Splicing written pieces into a text.
 ghost use Rattle.std.specs.Prelude.{ℕ, ◌≤◌, List, length, take, IfOk, OnOk, IsTrue, IfSome, string_bytes};
 ghost use Rattle.allocative_implement.specs.Splice.{IsMarked, IsFirstEnd, Keeps};
 
 use crate::fault::Fault;
 use std::alloc::Global;
 
-/// What a piece begins with that the program wrote.
+/// The mark that begins a piece.
 pub const BEGIN: &str = "\n// allocative: begin\n";
-/// What it ends with.
+/// The mark that ends a piece.
 pub const END: &str = "\n// allocative: end";
 
 /// A change of a text.
 #[derive(Drop)]
 pub enum Change {
-    /// A piece that the program wrote is taken out.
+    /// A piece that the program wrote is removed.
     Cut {
         /// The line of its first mark.
         line: usize,
-        /// Its place.
+        /// The position of its first byte.
         from: usize,
-        /// The place behind it.
+        /// The position after its last byte.
         to: usize,
     },
-    /// A piece is put in.
+    /// A piece is added.
     Put {
         /// The line of the type that it is for.
         line: usize,
-        /// Its place.
+        /// The byte position at which it is added.
         at: usize,
         /// The piece, with its marks.
         piece: String,
     },
 }
 
-// The place where the mark that ends a piece stands first; none where it does not stand in a text.
+/// The first position of the mark that ends a piece, or None where the text does not have it.
 fn first_end(text: &[u8]) -> Option<usize>
     ensures { IfSome result (IsFirstEnd text.now) }
 {
@@ -45,7 +45,7 @@ fn first_end(text: &[u8]) -> Option<usize>
     None
 }
 
-// Whether a piece has its two marks, and the second at its end alone.
+/// Whether a piece begins with the first mark and ends with the second, which does not occur before.
 fn is_marked(piece: &[u8]) -> bool
     ensures { IsTrue result → IsMarked piece.now }
 {
@@ -53,11 +53,13 @@ fn is_marked(piece: &[u8]) -> bool
     piece.starts_with(BEGIN.as_bytes()) && first_end(piece) == Some(end)
 }
 
-// Adds what stands between two places of the old text to the new one. `Fault::Mark` where there are no such places.
+/// Copies the part of the old text between two positions to the new one. The fault is `Fault::Mark` where the old text
+/// has no such part.
 #[tactic(auto, using(crate::proofs::Pieces::keeps_on))]
 fn push_kept(new: &mut String, old: &str, line: usize, from: usize, to: usize) -> Result<(), Fault>
     ensures bound { OnOk result (to ≤ length old.now) }
-    ensures kept { OnOk result (Keeps (take from old.now) (string_bytes new.old) → Keeps (take to old.now) (string_bytes new.new)) }
+    ensures kept { OnOk result (Keeps (take from old.now) (string_bytes new.old)
+        → Keeps (take to old.now) (string_bytes new.new)) }
 {
     let Some(kept) = old.get(from..to) else {
         return Err(Fault::Mark(line));
@@ -66,7 +68,7 @@ fn push_kept(new: &mut String, old: &str, line: usize, from: usize, to: usize) -
     Ok(())
 }
 
-// Passes over a piece between two places of the old text. `Fault::Mark` where it is not marked.
+/// Skips the piece of the old text between two positions. The fault is `Fault::Mark` where it is not marked.
 fn pass_over(old: &str, line: usize, from: usize, to: usize) -> Result<(), Fault>
     ensures { OnOk result ((new : List ℕ) → Keeps (take from old.now) new → Keeps (take to old.now) new) }
 {
@@ -80,7 +82,7 @@ fn pass_over(old: &str, line: usize, from: usize, to: usize) -> Result<(), Fault
     }
 }
 
-// Adds a piece to the new text. `Fault::Mark` where it is not marked.
+/// Adds a piece to the new text. The fault is `Fault::Mark` where it is not marked.
 fn push_piece(new: &mut String, line: usize, piece: &str) -> Result<(), Fault>
     ensures { OnOk result ((old : List ℕ) → Keeps old (string_bytes new.old) → Keeps old (string_bytes new.new)) }
 {
@@ -91,9 +93,10 @@ fn push_piece(new: &mut String, line: usize, piece: &str) -> Result<(), Fault>
     Ok(())
 }
 
-// Goes on from a place of the old text to a change and makes it, and answers the place behind it.
+/// Copies the old text from a position up to a change, and makes the change. It returns the position after the change.
 fn push_change(new: &mut String, old: &str, done: usize, change: &Change) -> Result<usize, Fault>
-    ensures { IfOk result (λ to. Keeps (take done old.now) (string_bytes new.old) → Keeps (take to old.now) (string_bytes new.new)) }
+    ensures { IfOk result (λ to. Keeps (take done old.now) (string_bytes new.old)
+        → Keeps (take to old.now) (string_bytes new.new)) }
 {
     match change {
         Change::Cut { line, from, to } => {
@@ -109,9 +112,11 @@ fn push_change(new: &mut String, old: &str, done: usize, change: &Change) -> Res
     }
 }
 
-/// A text with changes, which stand in the order of their places. Between the changes it stays byte for byte, and what
-/// is taken out and put in is marked. `Fault::Mark` where it is not, or where a place is not behind those before it,
-/// and else `Fault::Memory`.
+/// A text with changes, in the order of their positions. Between the changes it is copied byte for byte, and each piece
+/// that is removed or added is marked.
+///
+/// The fault is `Fault::Mark` where a piece is not marked or a position lies before an earlier one, and otherwise
+/// `Fault::Memory`.
 pub fn spliced(alloc: Global, old: &str, changes: &[Change]) -> Result<String, Fault>
     ensures { IfOk result (λ new. Keeps old.now (string_bytes new)) }
 {

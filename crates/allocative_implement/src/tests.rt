@@ -1,5 +1,5 @@
-// What no clause says: which tokens a source has, what is written for a type, why nothing is, and runs whose input or
-// output fails.
+//! Tests of what no clause says: the tokens of a source, the text for a type, why a type is left out, and runs whose
+//! input or output fails.
 use crate::fault::Fault;
 use crate::implement::implement;
 use crate::items::Form;
@@ -16,7 +16,7 @@ use std::test::Fail;
 
 const FILE: &str = "/home/shop/src/sales/orders.rt";
 
-// A reader that fails in mid-stream.
+/// A reader that fails after its first byte.
 #[derive(Drop)]
 struct Torn {
     reads: u64,
@@ -33,7 +33,7 @@ impl Read for Torn {
     }
 }
 
-// A writer that takes nothing.
+/// A writer whose writes fail.
 #[derive(Drop)]
 struct Full;
 
@@ -55,12 +55,12 @@ fn queue(alloc: Global, bytes: &[u8]) -> Result<VecDeque<u8>, AllocError> {
     Ok(queue)
 }
 
-// Asserts that a queue has the bytes of a text and no others.
+/// Asserts that a queue has exactly the bytes of a text.
 fn assert_bytes(rt: &impl Abort, queue: &VecDeque<u8>, want: &str) {
     assert!(rt; queue.iter().copied().eq(want.bytes()), "{want}");
 }
 
-// Asserts how a run over some bytes ends, and what it tells.
+/// Asserts the status and the errors of a run over some bytes.
 fn assert_run(
     rt: &impl Abort,
     alloc: Global,
@@ -88,7 +88,7 @@ fn assert_run(
     Ok(())
 }
 
-// Asserts the lines for standard error over a source.
+/// Asserts the lines for standard error over a source.
 fn assert_notes(rt: &impl Abort, alloc: Global, source: &str, want: &str) -> Result<(), Fail> {
     let place = place_of(FILE).ok_or("a place")?;
     let names = Vec::new(alloc);
@@ -97,7 +97,7 @@ fn assert_notes(rt: &impl Abort, alloc: Global, source: &str, want: &str) -> Res
     Ok(())
 }
 
-// Asserts the texts of the tokens of a source, with a space behind each.
+/// Asserts the texts of the tokens of a source, with a space after each.
 fn assert_tokens(rt: &impl Abort, alloc: Global, source: &str, want: &str) -> Result<(), Fail> {
     let mut texts = String::new(alloc);
     for token in &tokens_of(alloc, source)? {

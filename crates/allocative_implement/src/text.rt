@@ -1,17 +1,17 @@
-//! Small pieces of the text that is written.
+//! Small pieces of the written text.
 use crate::cursor::{Span, is_kind, text_at};
 use crate::items::Form;
 use crate::shape::{Label, Scene, ShownField};
 use crate::tokens::{Kind, Token};
 use std::alloc::AllocError;
 
-// The names of the parts of a value, one letter each.
+/// The names of the parts of a value, one letter each.
 const LETTERS: &str = "abcdefghijklmnopqrstuvwxyz";
 
-/// The longest line that `rt fmt` leaves as it is.
+/// The longest line that `rt fmt` keeps on one line.
 pub const LINE: usize = 100;
 
-/// The name of a part by its number, one letter; after 26 of them `z`.
+/// The letter of a part by its number, which is `z` after the first 26 parts.
 pub fn letter(number: usize) -> &'static str {
     LETTERS.get(number..number.saturating_add(1)).unwrap_or("z")
 }
@@ -24,7 +24,7 @@ pub fn push_label(out: &mut String, label: Label<'_>) -> Result<(), AllocError> 
     }
 }
 
-// Whether the language of clauses keeps a word for itself.
+/// Whether a word is a keyword of the language of clauses.
 fn is_reserved(word: &str) -> bool {
     matches!(
         word,
@@ -73,7 +73,7 @@ pub fn push_name(out: &mut String, name: &str) -> Result<(), AllocError> {
     }
 }
 
-/// Appends as many spaces.
+/// Appends so many spaces.
 pub fn push_spaces(out: &mut String, count: usize) -> Result<(), AllocError> {
     for _ in 0..count {
         out.push(' ')?;
@@ -81,12 +81,12 @@ pub fn push_spaces(out: &mut String, count: usize) -> Result<(), AllocError> {
     Ok(())
 }
 
-// Whether a token is the second of a mark of two, as `::` and `->`.
+/// Whether a token is the second of a pair such as `::` or `->`.
 fn is_pair(tokens: &[Token<'_>], at: usize, first: &str, second: &str) -> bool {
     text_at(tokens, at) == second && at > 0 && text_at(tokens, at.saturating_sub(1)) == first
 }
 
-// Whether a space stands between a token of a type and the one before it.
+/// Whether there is a space between a token of a type and the one before it.
 fn is_spaced(tokens: &[Token<'_>], at: usize) -> bool {
     let before = at.saturating_sub(1);
     let first = text_at(tokens, before);
@@ -99,8 +99,8 @@ fn is_spaced(tokens: &[Token<'_>], at: usize) -> bool {
     is_wordy || is_joined || is_pair(tokens, before, "-", ">")
 }
 
-// What stands for a word that begins a path: from the module inside, the module and the one around it are told by
-// one `super` more.
+/// The word that begins a path, as the written text needs it. From the module `shown`, paths to the source's module and
+/// to the one around it have one `super` more.
 fn path_word(form: Form, word: &str) -> &str {
     if form == Form::InPlace {
         return word;
@@ -112,8 +112,7 @@ fn path_word(form: Form, word: &str) -> &str {
     }
 }
 
-/// Appends the text of a type or of bounds, laid out on one line. A path from the module or from the one around it is
-/// told from where the text stands.
+/// Appends the text of a type or of bounds on one line, with its paths as the written text needs them.
 pub fn push_type(out: &mut String, scene: Scene<'_, '_>, span: Span) -> Result<(), AllocError> {
     let tokens = scene.tokens;
     for at in span.from..span.to {
@@ -136,7 +135,7 @@ pub fn push_type(out: &mut String, scene: Scene<'_, '_>, span: Span) -> Result<(
     Ok(())
 }
 
-/// Appends what a field is called: `owner` and its name, or its letter where `owner` is empty.
+/// Appends the value of a field: `owner` and the field's name or number, or the field's letter where `owner` is empty.
 pub fn push_member(
     out: &mut String,
     field: &ShownField<'_>,
@@ -150,8 +149,8 @@ pub fn push_member(
     push_label(out, field.member)
 }
 
-/// Appends the word of a field that is shown, whose value in the relation is called as `push_member` says. `is_param`
-/// says whether its type is a parameter alone.
+/// Appends the word of a shown field in the relation, with the value of the field as `push_member` writes it.
+/// `is_param` tells whether the type of the field is a parameter alone.
 pub fn push_word(
     out: &mut String,
     scene: Scene<'_, '_>,
@@ -190,7 +189,7 @@ pub fn push_word(
     out.push_str(")")
 }
 
-/// Appends what stands before one of some words that are joined by `Both`: its number and how many there are.
+/// Appends what precedes one of `count` words that are joined by `Both`, by its number.
 pub fn open_word(
     out: &mut String,
     number: usize,
@@ -208,7 +207,7 @@ pub fn open_word(
     out.push_str("(")
 }
 
-/// Appends what stands behind one of some words that are joined by `Both`: its number and how many there are.
+/// Appends what follows one of `count` words that are joined by `Both`, by its number.
 pub fn close_word(out: &mut String, number: usize, count: usize) -> Result<(), AllocError> {
     if count < 2 {
         return Ok(());
@@ -225,7 +224,7 @@ pub fn close_word(out: &mut String, number: usize, count: usize) -> Result<(), A
     Ok(())
 }
 
-/// Appends the letters from one number up to another, as a tuple; one letter alone, and `()` for none.
+/// Appends the letters of a range of numbers as a tuple: one letter alone without brackets, and `()` for none.
 pub fn push_letters(out: &mut String, from: usize, to: usize) -> Result<(), AllocError> {
     if to == from.saturating_add(1) {
         return out.push_str(letter(from));
@@ -240,7 +239,7 @@ pub fn push_letters(out: &mut String, from: usize, to: usize) -> Result<(), Allo
     out.push_str(")")
 }
 
-// How long a label is.
+/// The length of a label, where a number counts as one digit.
 fn label_len(label: Label<'_>) -> usize {
     match label {
         Label::Name(name) => name.len(),
@@ -248,8 +247,8 @@ fn label_len(label: Label<'_>) -> usize {
     }
 }
 
-/// Appends the line that makes the part of a field: `owner` stands before the field's name, or is empty where the
-/// letter itself is the value.
+/// Appends the line that makes the part of a field. `owner` precedes the name of the field, or is empty where the
+/// letter of the field is its value.
 pub fn push_let(
     out: &mut String,
     field: &ShownField<'_>,
@@ -288,7 +287,7 @@ pub fn push_let(
     out.push_str(");\n")
 }
 
-// Appends a new line with so many spaces, or else a text.
+/// Appends a line break and so many spaces where the line is long, and otherwise a text.
 fn push_break(
     out: &mut String,
     is_long: bool,

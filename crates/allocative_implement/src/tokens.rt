@@ -2,42 +2,42 @@
 use crate::fault::Fault;
 use std::alloc::Global;
 
-/// What a token is.
+/// The kind of a token.
 #[derive(Clone, Copy, Debug, PartialEq, Eq)]
 pub enum Kind {
     /// A name or a keyword.
     Word,
-    /// A name behind `r#`.
+    /// A name after `r#`.
     RawWord,
     /// A lifetime, with its `'`.
     Lifetime,
-    /// A number, a text or a character.
+    /// A number, a string or a character.
     Literal,
-    /// One byte that is none of the others.
+    /// One byte of any other kind.
     Mark,
-    /// A comment to this program: its text is what stands behind `// allocative:`.
+    /// A comment to this program. Its text is what follows `// allocative:`.
     Order,
 }
 
-/// A piece of a source that is neither space nor comment.
+/// A piece of a source that is neither white space nor an ordinary comment.
 #[derive(Clone, Copy)]
 pub struct Token<'a> {
-    /// What it is.
+    /// The kind of the token.
     pub kind: Kind,
-    /// Its text in the source.
+    /// The text of the token.
     pub text: &'a str,
-    /// Its line, from 1 on.
+    /// Its line, counted from 1.
     pub line: usize,
-    /// The place of its first byte in the source.
+    /// The position of its first byte in the source.
     pub from: usize,
-    /// The place behind its last byte. That of a comment is the end of its line.
+    /// The position after its last byte. For a comment this is the end of its line.
     pub to: usize,
-    /// Of a bracket that opens, the place of the one that closes it in the list of tokens; of any other token its own
-    /// place.
+    /// For an opening bracket, the index of the closing bracket in the list of tokens. For any other token, its own
+    /// index.
     pub close: usize,
 }
 
-// A piece of a source: its end, and what it is, where it is a token.
+/// The end of a piece of a source, and its kind where it is a token.
 #[derive(Clone, Copy)]
 struct Piece {
     kind: Option<Kind>,
@@ -48,7 +48,7 @@ fn byte_at(bytes: &[u8], at: usize) -> u8 {
     bytes.get(at).copied().unwrap_or(0)
 }
 
-// The bytes from a place on.
+/// The bytes from a position on.
 fn rest_of(bytes: &[u8], at: usize) -> &[u8] {
     bytes.get(at..).unwrap_or(&[])
 }
@@ -57,7 +57,7 @@ fn is_word_byte(byte: u8) -> bool {
     byte.is_ascii_alphanumeric() || byte == b'_' || byte >= 0x80
 }
 
-// The place behind the bytes of a word from `at` on.
+/// The position after the word that begins at `at`.
 fn word_end(bytes: &[u8], at: usize) -> usize {
     let mut end = at;
     for byte in rest_of(bytes, at) {
@@ -69,7 +69,7 @@ fn word_end(bytes: &[u8], at: usize) -> usize {
     end
 }
 
-// The place of the next new line from `at` on, or the end.
+/// The position of the next line break from `at` on, or the end.
 fn line_end(bytes: &[u8], at: usize) -> usize {
     let mut end = at;
     for byte in rest_of(bytes, at) {
@@ -81,7 +81,7 @@ fn line_end(bytes: &[u8], at: usize) -> usize {
     end
 }
 
-// The place behind the white space from `at` on.
+/// The position after the white space that begins at `at`.
 fn space_end(bytes: &[u8], at: usize) -> usize {
     let mut end = at;
     for byte in rest_of(bytes, at) {
@@ -93,7 +93,7 @@ fn space_end(bytes: &[u8], at: usize) -> usize {
     end
 }
 
-// How many `#` stand from `at` on.
+/// The number of `#` that follow one another from `at` on.
 fn hashes_at(bytes: &[u8], at: usize) -> usize {
     let mut count = 0usize;
     for byte in rest_of(bytes, at) {
@@ -105,7 +105,7 @@ fn hashes_at(bytes: &[u8], at: usize) -> usize {
     count
 }
 
-// The place behind the quote that ends what goes on at `at`; none where it has no end.
+/// The position after the closing quote of a text that continues at `at`, or None where it has no end.
 fn quoted_end(bytes: &[u8], at: usize, quote: u8) -> Option<usize> {
     let mut end = at;
     let mut is_escaped = false;
@@ -122,7 +122,8 @@ fn quoted_end(bytes: &[u8], at: usize, quote: u8) -> Option<usize> {
     None
 }
 
-// The place behind a raw text that goes on at `at` and ends by a quote and so many `#`; none where it has no end.
+/// The position after a raw string that continues at `at` and ends with a quote and so many `#`, or None where it has
+/// no end.
 fn raw_end(bytes: &[u8], at: usize, hashes: usize) -> Option<usize> {
     let mut end = at;
     for byte in rest_of(bytes, at) {
@@ -134,7 +135,7 @@ fn raw_end(bytes: &[u8], at: usize, hashes: usize) -> Option<usize> {
     None
 }
 
-// The place behind the comment that begins by `/*` at `at`; none where it has no end. Comments nest.
+/// The position after the comment that begins with `/*` at `at`, or None where it has no end. Comments nest.
 fn comment_end(bytes: &[u8], at: usize) -> Option<usize> {
     let mut depth = 0usize;
     let mut end = at;
@@ -158,7 +159,7 @@ fn comment_end(bytes: &[u8], at: usize) -> Option<usize> {
     None
 }
 
-// How many bytes the character has that begins with a byte.
+/// The number of bytes of a UTF-8 character with this first byte.
 fn character_len(first: u8) -> usize {
     if first < 0x80 {
         1
@@ -171,7 +172,7 @@ fn character_len(first: u8) -> usize {
     }
 }
 
-// The character or the lifetime that begins with the `'` at `at`.
+/// The character or the lifetime that begins with the `'` at `at`, or None where it has no end.
 fn tick_at(bytes: &[u8], at: usize) -> Option<Piece> {
     let behind = at.saturating_add(1);
     let first = byte_at(bytes, behind);
@@ -195,7 +196,7 @@ fn tick_at(bytes: &[u8], at: usize) -> Option<Piece> {
     })
 }
 
-// Whether a text of a word says that what follows it is a text of its own kind: `b`, `c`, and the same with `r`.
+/// Whether a word is the prefix of a string: `r`, `br` or `cr` of a raw string, and `b` or `c` of any other.
 fn is_prefix(word: &[u8], raw: bool) -> bool {
     if raw {
         word == b"r".as_slice() || word == b"br".as_slice() || word == b"cr".as_slice()
@@ -204,7 +205,7 @@ fn is_prefix(word: &[u8], raw: bool) -> bool {
     }
 }
 
-// The word, the number, or the text with a prefix that begins at `at`.
+/// The word, the number, or the string with a prefix that begins at `at`, or None where it has no end.
 fn word_at(bytes: &[u8], at: usize) -> Option<Piece> {
     let end = word_end(bytes, at);
     let word = bytes.get(at..end).unwrap_or(&[]);
@@ -245,7 +246,7 @@ fn word_at(bytes: &[u8], at: usize) -> Option<Piece> {
     })
 }
 
-// The piece that begins at `at`; none where it has no end.
+/// The piece that begins at `at`, or None where it has no end.
 fn piece_at(bytes: &[u8], at: usize) -> Option<Piece> {
     let first = byte_at(bytes, at);
     let behind = at.saturating_add(1);
@@ -282,14 +283,14 @@ fn piece_at(bytes: &[u8], at: usize) -> Option<Piece> {
     }
 }
 
-// What a comment says to this program: what stands behind `// allocative:`, without the space around it.
+/// The text of a comment to this program, which follows `// allocative:`, without white space around it.
 fn order_of(comment: &str) -> Option<&str> {
     let said = comment.strip_prefix("//")?;
     let order = said.trim().strip_prefix("allocative:")?;
     Some(order.trim())
 }
 
-// How many lines begin in a text.
+/// The number of line breaks in a text.
 fn lines_in(text: &str) -> usize {
     let mut count = 0usize;
     for byte in text.as_bytes() {
@@ -300,7 +301,7 @@ fn lines_in(text: &str) -> usize {
     count
 }
 
-// The token of a piece of the source; none where it is space or a comment that says nothing to this program.
+/// The token of a piece of the source, or None where it is white space or an ordinary comment.
 fn token_of(piece: Piece, text: &str, line: usize, from: usize, place: usize) -> Option<Token<'_>> {
     let (kind, text) = match piece.kind {
         Some(kind) => (kind, text),
@@ -316,8 +317,8 @@ fn token_of(piece: Piece, text: &str, line: usize, from: usize, place: usize) ->
     })
 }
 
-/// The tokens of a source. `Fault::Unended` where a text, a character or a comment has no end, `Fault::Bracket` where
-/// a bracket has no other, and else `Fault::Memory`.
+/// The tokens of a source. The fault is `Fault::Unended` where a string, a character or a comment has no end,
+/// `Fault::Bracket` where a bracket has no counterpart, and otherwise `Fault::Memory`.
 pub fn tokens_of<'a>(alloc: Global, source: &'a str) -> Result<Vec<Token<'a>>, Fault> {
     let bytes = source.as_bytes();
     let mut tokens: Vec<Token<'a>> = Vec::new(alloc);
@@ -343,7 +344,7 @@ pub fn tokens_of<'a>(alloc: Global, source: &'a str) -> Result<Vec<Token<'a>>, F
     Ok(tokens)
 }
 
-// What closes a bracket; an empty text where it is none that opens.
+/// The closing bracket for an opening one, and an empty text for any other token.
 fn closing(open: &str) -> &'static str {
     if open == "(" {
         ")"
@@ -360,7 +361,7 @@ fn is_closing(text: &str) -> bool {
     text == ")" || text == "]" || text == "}"
 }
 
-// Writes down for each bracket that opens where it is closed.
+/// Records for each opening bracket the index of its closing bracket.
 fn close_brackets(alloc: Global, tokens: &mut Vec<Token<'_>>) -> Result<(), Fault> {
     let mut open: Vec<usize> = Vec::new(alloc);
     for place in 0..tokens.len() {

@@ -1,25 +1,25 @@
-//! The words that the program takes.
+//! The arguments of the program.
 use crate::fault::Fault;
 use crate::items::Form;
 
-/// What the words ask for.
+/// What the arguments ask for.
 #[derive(Clone, Copy, PartialEq, Eq)]
 pub enum Asked<'a> {
-    /// To tell how the program is used.
+    /// To print how the program is used.
     Help,
     /// To write implementations.
     Write {
-        /// Where they stand.
+        /// Where the implementations are placed.
         form: Form,
         /// The source file.
         file: &'a str,
-        /// The names of types.
+        /// The names of the types, or none for all types.
         names: &'a [String],
     },
 }
 
-/// What the words ask for: `--help` alone, or a file and names of types, which `--in-place` may precede.
-/// `Fault::Words` where there is no file, or another word begins with `-`.
+/// Reads the arguments: `--help` alone, or a file and names of types, with an optional `--in-place` before them. The
+/// fault is `Fault::Words` where there is no file, or where the file or a name begins with `-`.
 pub fn read_words(words: &[String]) -> Result<Asked<'_>, Fault> {
     let Some((first, rest)) = words.split_first() else {
         return Err(Fault::Words);

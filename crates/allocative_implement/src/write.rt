@@ -1,4 +1,4 @@
-//! The implementations of one type.
+//! Writing the implementations of one type.
 use crate::cursor::{Span, text_at};
 use crate::fault::Fault;
 use crate::head::{Header, Whom, push_impl, push_part_struct};
@@ -8,22 +8,22 @@ use crate::shape::{MOST_TOGETHER, Scene, ShownField, shown_fields};
 use crate::text::{close_word, letter, open_word, push_let, push_letters, push_name, push_word};
 use std::alloc::{AllocError, Global};
 
-/// What is written of a type besides its name.
+/// The parts of the text for a type that follow from the source.
 #[derive(Drop)]
 pub struct Plan {
-    /// Its parameters.
+    /// The parameters of the type.
     pub header: Header,
-    /// Its size: a number, or the name of a constant.
+    /// The size of the type, as a number or as the name of a constant.
     pub size: String,
-    /// Whether its size is that constant.
+    /// Whether the size is the name of a constant.
     pub is_constant: bool,
-    /// The path of what is declared in the module of the type.
+    /// The path of the declarations of the type's module.
     pub path: String,
-    /// Where the text that is written stands.
+    /// Where the written text is placed.
     pub form: Form,
 }
 
-// The end of the name of a part of a large struct, by its number from 0 on.
+/// The suffix of the name of a part of a large struct, by its number, counted from 0.
 fn suffix_of(number: usize) -> &'static str {
     match number {
         0 => "Part1",
@@ -34,7 +34,7 @@ fn suffix_of(number: usize) -> &'static str {
     }
 }
 
-// The part of a large struct, by its number from 0 on.
+/// The part of a large struct, by its number, counted from 0.
 fn part_of<'a>(item: &Item<'a>, number: usize) -> Whom<'a> {
     Whom {
         lifetime: "'part",
@@ -51,7 +51,7 @@ fn whole<'a>(item: &Item<'a>) -> Whom<'a> {
     }
 }
 
-// Whether some tokens are a parameter of a type alone.
+/// Whether a range of tokens is a type parameter alone.
 fn is_param(scene: Scene<'_, '_>, item: &Item<'_>, span: Span) -> bool {
     let text = text_at(scene.tokens, span.from);
     span.to == span.from.saturating_add(1)
@@ -61,7 +61,7 @@ fn is_param(scene: Scene<'_, '_>, item: &Item<'_>, span: Span) -> bool {
             .any(|param| param.sort == Sort::Type && param.name == text)
 }
 
-// Appends the import of a constant for clauses, and an empty line where no other import follows.
+/// Appends the import of a constant for clauses, with an empty line after it where no other import follows.
 fn push_constant_use(out: &mut String, plan: &Plan, is_followed: bool) -> Result<(), AllocError> {
     if plan.is_constant {
         out.push_str("    ghost use ")?;
@@ -79,7 +79,8 @@ fn push_constant_use(out: &mut String, plan: &Plan, is_followed: bool) -> Result
     Ok(())
 }
 
-// Appends the line before an implementation that is proved by the meaning of parts. A module has it for all of them.
+/// Appends the attribute that proves an implementation by the lemmas on parts. A module has one for all
+/// implementations.
 fn push_tactic(out: &mut String, plan: &Plan) -> Result<(), AllocError> {
     match plan.form {
         Form::Module => Ok(()),
@@ -124,7 +125,7 @@ pub fn push_described(
     )
 }
 
-// Appends the words of some fields, joined by `Both`; `Nothing` for none.
+/// Appends the words of some fields, joined by `Both`, or `Nothing` for none.
 fn push_words(
     out: &mut String,
     scene: Scene<'_, '_>,
@@ -145,7 +146,7 @@ fn push_words(
     Ok(())
 }
 
-// Appends the words of the fields of a struct, in groups where they are many.
+/// Appends the words of the fields of a struct, in groups where there are more than five.
 fn push_groups(
     out: &mut String,
     scene: Scene<'_, '_>,
@@ -164,7 +165,7 @@ fn push_groups(
     Ok(())
 }
 
-// Appends the lines that make the parts of some fields.
+/// Appends the lines that make the parts of some fields.
 fn push_lets(
     out: &mut String,
     fields: &[ShownField<'_>],
@@ -177,7 +178,7 @@ fn push_lets(
     Ok(())
 }
 
-// Appends the lines that make the parts of the groups of fields, and answers how many parts there are.
+/// Appends the lines that make the parts of a struct. It returns the number of parts.
 fn push_group_lets(
     out: &mut String,
     item: &Item<'_>,
@@ -204,7 +205,7 @@ const VISIT: &str = "    fn visit(&self, visitor: &mut Visitor<'_>) -> Result<()
 
 const ENTER: &str = "    fn enter(self, visitor: &mut Visitor<'_>) -> Result<(), Refusal> {\n";
 
-// Appends the implementation of `Part` for one group of the fields of a large struct.
+/// Appends the implementation of `Part` for one group of the fields of a large struct.
 fn push_part(
     out: &mut String,
     scene: Scene<'_, '_>,
@@ -228,7 +229,7 @@ fn push_part(
     out.push_str(".enter(visitor)\n    }\n}\n")
 }
 
-// Appends the implementation of `Allocative` for a struct.
+/// Appends the implementation of `Allocative` for a struct.
 fn push_struct(
     out: &mut String,
     scene: Scene<'_, '_>,
@@ -261,7 +262,7 @@ fn push_struct(
     Ok(())
 }
 
-// Appends the import of the variants for clauses.
+/// Appends the import of the variants for clauses.
 fn push_variants_use(out: &mut String, item: &Item<'_>, plan: &Plan) -> Result<(), AllocError> {
     out.push_str("    ghost use ")?;
     out.push_str(plan.path.as_str())?;
@@ -275,7 +276,8 @@ fn push_variants_use(out: &mut String, item: &Item<'_>, plan: &Plan) -> Result<(
     out.push_str("};\n\n")
 }
 
-// Appends the names of the fields of a variant in the relation: a letter for each that is shown whole.
+/// Appends the names of the fields of a variant in the relation: a letter for each field that is shown whole, and `_`
+/// for any other.
 fn push_binders(out: &mut String, body: &Body<'_>) -> Result<(), AllocError> {
     let mut number = 0usize;
     for field in &body.fields {
@@ -292,7 +294,7 @@ fn push_binders(out: &mut String, body: &Body<'_>) -> Result<(), AllocError> {
     Ok(())
 }
 
-// Appends the pattern of a variant's fields behind its name.
+/// Appends the pattern of a variant's fields after its name.
 fn push_pattern(out: &mut String, body: &Body<'_>, is_long: bool) -> Result<(), AllocError> {
     if body.style == Style::Unit {
         return Ok(());
@@ -327,7 +329,7 @@ fn push_pattern(out: &mut String, body: &Body<'_>, is_long: bool) -> Result<(), 
     out.push_str(close)
 }
 
-// How long the pattern of a variant's named fields is on one line, without its braces.
+/// The length of the pattern of a variant's named fields on one line, without its braces.
 fn pattern_len(body: &Body<'_>) -> usize {
     let mut length = 0usize;
     for field in &body.fields {
@@ -336,7 +338,7 @@ fn pattern_len(body: &Body<'_>) -> usize {
     length.saturating_sub(2)
 }
 
-// Appends the arm of a variant in the code.
+/// Appends the match arm of a variant.
 fn push_arm(
     out: &mut String,
     item: &Item<'_>,
@@ -358,7 +360,7 @@ fn push_arm(
     out.push_str(").enter(visitor)\n            }\n")
 }
 
-// Appends the implementation of `Allocative` for an enum.
+/// Appends the implementation of `Allocative` for an enum.
 fn push_enum<'a>(
     alloc: Global,
     out: &mut String,

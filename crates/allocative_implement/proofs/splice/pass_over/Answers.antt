@@ -1,4 +1,4 @@
--- A piece that is passed over is marked.
+-- A piece that is skipped is marked.
 use Rattle.std.proofs.Common.{rules, ◌∙◌, subst, arith}
 use Rattle.allocative_implement.specs.Splice.{IsMarked}
 use Rattle.allocative_implement.proofs.Pieces.{cuts_on}

@@ -1,4 +1,4 @@
--- A piece that is put in is marked.
+-- A piece that is added is marked.
 use Rattle.std.proofs.Common.{rules, string_bytes, subst, sym}
 use Rattle.allocative_implement.specs.Splice.{IsMarked, Keeps}
 use Rattle.allocative_implement.proofs.Pieces.{puts_on}

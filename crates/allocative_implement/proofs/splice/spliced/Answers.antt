@@ -1,4 +1,4 @@
--- The new text begins with nothing.
+-- The new text is empty at first.
 use Rattle.std.proofs.Common.{take, subst, sym}
 use Rattle.allocative_implement.specs.Splice.{Keeps}
 use Rattle.allocative_implement.proofs.Pieces.{keeps_none}
