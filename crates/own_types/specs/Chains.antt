@@ -8,4 +8,8 @@ use Rattle.own_types.specs.declared.chains.Chain.{Chain, End, Text'}
 -- A chain: its text, and the next chain behind its pointer.
 abbrev pub chain_level : Chain → Level Chain
 chain_level End = inside (codes "Chain") 32 (plain Nothing)
-chain_level (Text' text p next) = inside (codes "Chain") 32 (both (plain (Field (codes "text") (Some 24) (Field (codes "String") (Some 24) (text_shows (length (string_bytes text)))))) (unique (codes "ptr") 8 (child next)))
+chain_level (Text' text p next) =
+    inside (codes "Chain") 32 (both
+    (plain (Field (codes "text") (Some 24)
+    (Field (codes "String") (Some 24) (text_shows (length (string_bytes text))))))
+    (unique (codes "ptr") 8 (child next)))

@@ -49,7 +49,7 @@ impl<K: Allocative + Described + Eq + Hash, V: Allocative + Described> Allocativ
     }
 }
 
-/// Values by their names, in the order in which they came.
+/// Values by their names, in the order in which they were added.
 #[derive(Drop)]
 pub struct Journal<K: Eq + Hash, V> {
     pub pages: IndexMap<K, V>,

@@ -47,7 +47,8 @@ impl Described for Folder {
 
 impl Allocative for Folder {
     ghost may_show = { recursive (λ d. inside (codes "Folder") 48
-        (field (codes "inner") (Some 48) (hash_map_of (pair_of (Some 4) (λ _. Leaf (codes "u32") 4) 48 child) (out-Folder d).inner.entries))) };
+        (field (codes "inner") (Some 48)
+        (hash_map_of (pair_of (Some 4) (λ _. Leaf (codes "u32") 4) 48 child) (out-Folder d).inner.entries))) };
 
     fn visit(&self, visitor: &mut Visitor<'_>) -> Result<(), Refusal> {
         let inner = Field("inner", &self.inner);
@@ -89,7 +90,8 @@ impl Described for Index {
 
 impl Allocative for Index {
     ghost may_show = { recursive (λ i. inside (codes "Index") 24 (field (codes "words") (Some 24) (btree_map_of
-        (pair_of (Some 24) (λ s. shows.Field (codes "String") (Some 24) (text_shows (length (string_bytes s)))) 24 child)
+        (pair_of (Some 24) (λ s. shows.Field (codes "String") (Some 24) (text_shows (length (string_bytes s))))
+        24 child)
         (out-Index i).words.entries))) };
 
     fn visit(&self, visitor: &mut Visitor<'_>) -> Result<(), Refusal> {

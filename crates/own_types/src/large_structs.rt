@@ -71,7 +71,8 @@ impl<T: Allocative + Described> Allocative for Route<T> {
         (Field (codes "name") (Some 24) (⟦<String as Allocative>⟧.may_show r.name)) (Both
         (Field (codes "first") T.size (T.may_show r.first)) (Both
         (Field (codes "last") T.size (T.may_show r.last))
-        (Field (codes "between") ⟦<Option<T> as Described>⟧.size (⟦<Option<T> as Allocative>⟧.may_show r.between))))) (Both
+        (Field (codes "between") ⟦<Option<T> as Described>⟧.size (⟦<Option<T> as Allocative>⟧.may_show r.between)))))
+        (Both
         (Both
         (Field (codes "length") (Some 8) (⟦<u64 as Allocative>⟧.may_show r.length)) (Both
         (Field (codes "steps") (Some 24) (⟦<Vec<u32> as Allocative>⟧.may_show r.steps)) (Both

@@ -35,7 +35,9 @@ pub struct PageLink<T: Drop> {
 }
 
 impl<T: Allocative + Described> Allocative for PageLink<T> {
-    ghost may_show = { λ l. Inside (codes "PageLink") 16 (SharedWith (codes "page") 8 (record { maker = 0; number = l.number }) (Field (codes "Page") T.size (T.may_show l.page.value))) };
+    ghost may_show = { λ l. Inside (codes "PageLink") 16
+        (SharedWith (codes "page") 8 (record { maker = 0; number = l.number })
+        (Field (codes "Page") T.size (T.may_show l.page.value))) };
 
     fn visit(&self, visitor: &mut Visitor<'_>) -> Result<(), Refusal> {
         let page = Shared {
@@ -56,7 +58,8 @@ pub struct Spread<T: Drop> {
 }
 
 impl<T: Allocative + Described> Allocative for Spread<T> {
-    ghost may_show = { λ s. Inside (codes "Spread") 32 (Both (⟦<PageLink<T> as Allocative>⟧.may_show s.left) (⟦<PageLink<T> as Allocative>⟧.may_show s.right)) };
+    ghost may_show = { λ s. Inside (codes "Spread") 32
+        (Both (⟦<PageLink<T> as Allocative>⟧.may_show s.left) (⟦<PageLink<T> as Allocative>⟧.may_show s.right)) };
 
     fn visit(&self, visitor: &mut Visitor<'_>) -> Result<(), Refusal> {
         Inside("Spread", 32, (&self.left, &self.right)).enter(visitor)

@@ -1,4 +1,4 @@
-//! What visiting a value gives, in both collectors.
+//! The profile of a value by both collectors.
 use allocative::{Allocative, FlameGraphBuilder, size_of_unique_allocated_data};
 use std::alloc::Global;
 use std::process::Abort;

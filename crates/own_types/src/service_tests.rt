@@ -5,7 +5,7 @@ use std::alloc::Global;
 use std::process::Abort;
 use std::test::Fail;
 
-// Asserts the text of a profile, and that it has no warning.
+/// Asserts the text of a profile, and that it has no warning.
 fn expect(rt: &impl Abort, output: &FlameGraphOutput, want: &str) -> Result<(), Refusal> {
     assert_eq!(rt; output.flamegraph().write()?.as_str(), want);
     assert_eq!(rt; output.warnings_text(), "");

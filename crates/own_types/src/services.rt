@@ -46,7 +46,8 @@ impl Described for Sensor {
 }
 
 impl Allocative for Sensor {
-    ghost may_show = { λ s. Inside (codes "Sensor") 8 (Field (codes "count") (Some 8) (⟦<u64 as Allocative>⟧.may_show s.count)) };
+    ghost may_show = { λ s. Inside (codes "Sensor") 8
+        (Field (codes "count") (Some 8) (⟦<u64 as Allocative>⟧.may_show s.count)) };
 
     fn visit(&self, visitor: &mut Visitor<'_>) -> Result<(), Refusal> {
         let count = Field("count", &self.count);

@@ -14,7 +14,8 @@ pub struct Meter {
 }
 
 impl Allocative for Meter {
-    ghost may_show = { λ m. Inside (codes "Meter") 8 (Field (codes "reading") (Some 8) (⟦<u64 as Allocative>⟧.may_show m.reading)) };
+    ghost may_show = { λ m. Inside (codes "Meter") 8
+        (Field (codes "reading") (Some 8) (⟦<u64 as Allocative>⟧.may_show m.reading)) };
 
     fn visit(&self, visitor: &mut Visitor<'_>) -> Result<(), Refusal> {
         let reading = Field("reading", &self.reading);

@@ -27,7 +27,9 @@ pub struct Block {
 }
 
 impl Allocative for Block {
-    ghost may_show = { λ b. Inside (codes "Block") 8 (InsideUnique (codes "ptr") 8 (Inside (codes "head") 16 (Inside (codes "counts") 8 (⟦<u64 as Allocative>⟧.may_show b.count)))) };
+    ghost may_show = { λ b. Inside (codes "Block") 8
+        (InsideUnique (codes "ptr") 8 (Inside (codes "head") 16
+        (Inside (codes "counts") 8 (⟦<u64 as Allocative>⟧.may_show b.count)))) };
 
     fn visit(&self, visitor: &mut Visitor<'_>) -> Result<(), Refusal> {
         let counts = Inside("counts", 8, &self.count);
