@@ -13,7 +13,7 @@ use allocative::{
 use std::alloc::Global;
 use std::process::Abort;
 
-// Meets `TooLarge` at an entry, hides it and returns `Ok`.
+/// Meets `TooLarge` at an entry, hides it and returns `Ok`.
 #[derive(Drop)]
 struct Hides;
 
@@ -26,12 +26,13 @@ impl Allocative for Hides {
     }
 }
 
-// Meets `TooLarge` at an entry without a size, in either collector, hides it and returns `Ok`.
+/// Meets `TooLarge` at an entry without a size, in either collector, hides it and returns `Ok`.
 #[derive(Drop)]
 struct HidesUnsized;
 
 impl Allocative for HidesUnsized {
-    ghost may_show = { λ _. shows.Field ⟦<Option<Huge> as Described>⟧.name ⟦<Option<Huge> as Described>⟧.size shows.Nothing };
+    ghost may_show = { λ _.
+        shows.Field ⟦<Option<Huge> as Described>⟧.name ⟦<Option<Huge> as Described>⟧.size shows.Nothing };
 
     fn visit(&self, visitor: &mut Visitor<'_>) -> Result<(), Refusal> {
         let _hidden = visitor.visit_simple_sized::<Option<Huge>>();
@@ -39,7 +40,7 @@ impl Allocative for HidesUnsized {
     }
 }
 
-// Refuses by hand and returns `Err`.
+/// Fails by hand and returns `Err`.
 #[derive(Drop)]
 struct Refuses(Refusal);
 
@@ -51,7 +52,7 @@ impl Allocative for Refuses {
     }
 }
 
-// Refuses by hand and returns `Ok`.
+/// Fails by hand and returns `Ok`.
 #[derive(Drop)]
 struct RefusesInSilence;
 
@@ -64,7 +65,7 @@ impl Allocative for RefusesInSilence {
     }
 }
 
-// Refuses twice by hand, and returns what the second `refuse` returned.
+/// Fails twice by hand, and returns what the second `refuse` returned.
 #[derive(Drop)]
 struct RefusesTwice;
 
@@ -77,7 +78,7 @@ impl Allocative for RefusesTwice {
     }
 }
 
-// Refuses by hand: with `Open` where the content of a shared value is shown, otherwise with `Memory`.
+/// Fails by hand, with `Open` where the content of a shared value is shown, and otherwise with `Memory`.
 #[derive(Drop)]
 struct Tells;
 
@@ -91,14 +92,15 @@ impl Allocative for Tells {
     }
 }
 
-// Shows `unique p 0 {x room, b 1}`. Where `b` does not fit, the visit stops inside the entry `p`.
+/// Shows `unique p 0 {x room, b 1}`. Where `b` does not fit, the visit stops inside the entry `p`.
 #[derive(Drop)]
 struct Stops {
     room: usize,
 }
 
 impl Allocative for Stops {
-    ghost may_show = { λ s. shows.InsideUnique (codes "p") 0 (shows.Both (shows.Inside (codes "x") s.room shows.Nothing) (shows.Inside (codes "b") 1 shows.Nothing)) };
+    ghost may_show = { λ s. shows.InsideUnique (codes "p") 0
+        (shows.Both (shows.Inside (codes "x") s.room shows.Nothing) (shows.Inside (codes "b") 1 shows.Nothing)) };
 
     fn visit(&self, visitor: &mut Visitor<'_>) -> Result<(), Refusal> {
         let x = Inside("x", self.room, ());
@@ -107,7 +109,7 @@ impl Allocative for Stops {
     }
 }
 
-// Shows `Stops` inside an entry of its own. Where `b` does not fit, the visit stops inside two entries.
+/// Shows `Stops` inside an entry of its own. Where `b` does not fit, the visit stops inside two entries.
 #[derive(Drop)]
 struct StopsInside {
     part: Stops,
@@ -121,7 +123,7 @@ impl Allocative for StopsInside {
     }
 }
 
-// Shows a field by a closure that only returns an error.
+/// Shows a field by a closure that only returns an error.
 #[derive(Drop)]
 struct ClosureRefuses;
 
@@ -133,7 +135,7 @@ impl Allocative for ClosureRefuses {
     }
 }
 
-// Shows a field by a closure that hides `TooLarge` and returns another error.
+/// Shows a field by a closure that hides `TooLarge` and returns another error.
 #[derive(Drop)]
 struct ClosureHides;
 
@@ -148,7 +150,7 @@ impl Allocative for ClosureHides {
     }
 }
 
-// Asserts that `visit_root` and then `finish` return this error for a root.
+/// Asserts that `visit_root` and then `finish` return this error for a root.
 fn assert_refused(
     rt: &impl Abort,
     alloc: Global,
@@ -184,7 +186,7 @@ fn refusals_by_themselves_fail_their_builder(rt: HostRuntime) -> Result<(), Refu
     assert_refused(&rt, alloc, &ClosureRefuses, Refusal::Open)
 }
 
-// What a visitor returns for two refusals by hand, one after the other.
+/// What a visitor returns for two errors that are made by hand, one after the other.
 fn refuse_twice(builder: &mut FlameGraphBuilder) -> Result<[Refusal; 2], Refusal> {
     let mut root = builder.root_visitor()?;
     let first = root.refuse(Refusal::TooLarge);
@@ -201,7 +203,7 @@ fn the_first_refusal_is_answered_for_good(rt: HostRuntime) -> Result<(), Refusal
     Ok(())
 }
 
-// What a visitor returns for a closure that returns an error, and for an entry after it.
+/// What a visitor returns for a closure that returns an error, and for an entry after it.
 fn refuse_by_closure(builder: &mut FlameGraphBuilder) -> Result<[Option<Refusal>; 2], Refusal> {
     let mut root = builder.root_visitor()?;
     let told = root.visit_field_with(Key::new("f"), 4, |_inner| Err(Refusal::Open));
@@ -234,7 +236,7 @@ fn bad_implementations_hold_nothing(rt: HostRuntime) {
     assert_held(&rt, &Tells, Err(Refusal::Memory));
 }
 
-// What a closure answers that refuses, and one that hides TooLarge and answers another refusal.
+/// What a closure that fails returns, and what one returns that hides `TooLarge` and returns another error.
 fn held_by_bad_closures() -> [Result<usize, Refusal>; 2] {
     let refused = size_of_entries(|_visitor| Err(Refusal::Open));
     let hidden = size_of_entries(|visitor| {

@@ -11,7 +11,7 @@ use allocative::{
 };
 use std::test::Fail;
 
-// A value of 16 bytes, with a byte and a box.
+/// A value of 16 bytes, with a byte and a box.
 #[derive(Drop)]
 struct Data {
     a: u8,
@@ -45,7 +45,9 @@ impl Described for Data {
 }
 
 impl Allocative for Data {
-    ghost may_show = { λ d. shows.Inside (codes "Data") 16 (shows.Both (shows.Field (codes "a") (Some 1) (⟦<u8 as Allocative>⟧.may_show d.a)) (shows.Field (codes "b") (Some 8) (⟦<Box<u32> as Allocative>⟧.may_show d.b))) };
+    ghost may_show = { λ d. shows.Inside (codes "Data") 16
+        (shows.Both (shows.Field (codes "a") (Some 1) (⟦<u8 as Allocative>⟧.may_show d.a))
+        (shows.Field (codes "b") (Some 8) (⟦<Box<u32> as Allocative>⟧.may_show d.b))) };
 
     fn visit(&self, visitor: &mut Visitor<'_>) -> Result<(), Refusal> {
         let a = Field("a", &self.a);
@@ -54,7 +56,7 @@ impl Allocative for Data {
     }
 }
 
-// A value of 8 bytes: a box of `Data`.
+/// A value of 8 bytes: a box of `Data`.
 #[derive(Drop)]
 struct Boxed {
     data: Box<Data>,
@@ -87,7 +89,8 @@ impl Described for Boxed {
 }
 
 impl Allocative for Boxed {
-    ghost may_show = { λ b. shows.Inside (codes "Boxed") 8 (shows.Field (codes "data") (Some 8) (⟦<Box<Data> as Allocative>⟧.may_show b.data)) };
+    ghost may_show = { λ b. shows.Inside (codes "Boxed") 8
+        (shows.Field (codes "data") (Some 8) (⟦<Box<Data> as Allocative>⟧.may_show b.data)) };
 
     fn visit(&self, visitor: &mut Visitor<'_>) -> Result<(), Refusal> {
         let data = Field("data", &self.data);
@@ -106,20 +109,20 @@ fn what_boxes_hold(rt: HostRuntime) -> Result<(), Fail> {
     Ok(())
 }
 
-// Enters `unique ptr 16` of a slice of a hundred bytes.
+/// Enters `unique ptr 16` of a slice of a hundred bytes.
 fn enter_pointer(visitor: &mut Visitor<'_>) -> Result<(), Refusal> {
     let mut pointer = visitor.enter_unique(Key::new("ptr"), 16)?;
     pointer.visit_slice_of(&[0u8; 100])
 }
 
-// Enters `data 16 {Box 16 {..}}` around that pointer.
+/// Enters `data 16 {Box 16 {..}}` around that pointer.
 fn enter_data(visitor: &mut Visitor<'_>) -> Result<(), Refusal> {
     let mut data = visitor.enter(Key::new("data"), 16)?;
     let mut boxed = data.enter(Key::new("Box"), 16)?;
     enter_pointer(&mut boxed)
 }
 
-// Enters `TestData 24` with that data and a byte.
+/// Enters `TestData 24` with that data and a byte.
 fn enter_test_data(builder: &mut FlameGraphBuilder) -> Result<(), Refusal> {
     let mut root = builder.root_visitor()?;
     let mut outer = root.enter(Key::new("TestData"), 24)?;

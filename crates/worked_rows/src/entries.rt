@@ -4,7 +4,7 @@ use allocative::{FlameGraph, FlameGraphBuilder, Key, Refusal, Visitor};
 use std::alloc::Global;
 use std::process::Abort;
 
-// The total of a builder's graph, in bytes.
+/// The total of a builder's graph, in bytes.
 fn total_of(builder: FlameGraphBuilder) -> Result<usize, Refusal> {
     Ok(builder.finish()?.flamegraph().total_size())
 }
@@ -155,7 +155,7 @@ fn a_unique_entry_has_no_warning(rt: HostRuntime) -> Result<(), Refusal> {
 
 const MOST: usize = isize::MAX as usize;
 
-// What a root visitor returns for an entry past the bound, and for one of 0 bytes after it.
+/// What a root visitor returns for an entry past the bound, and for one of 0 bytes after it.
 fn past_the_bound(builder: &mut FlameGraphBuilder) -> Result<[Option<Refusal>; 2], Refusal> {
     let mut root = builder.root_visitor()?;
     root.visit_simple(Key::new("a"), MOST)?;
@@ -164,8 +164,8 @@ fn past_the_bound(builder: &mut FlameGraphBuilder) -> Result<[Option<Refusal>; 2
     Ok([past, after])
 }
 
-// What a root visitor returns for an inline entry past the bound, and for a unique one of 0 bytes after it,
-// where both may have parts.
+/// What a root visitor returns for an inline entry past the bound, and for a unique one of 0 bytes after it,
+/// where both may have parts.
 fn entered_past_the_bound(
     builder: &mut FlameGraphBuilder,
 ) -> Result<[Option<Refusal>; 2], Refusal> {
@@ -176,7 +176,7 @@ fn entered_past_the_bound(
     Ok([past, after])
 }
 
-// Asserts that a builder takes no further root and gives no output, both with this error.
+/// Asserts that a builder takes no further root and gives no output, both with this error.
 fn assert_ended(rt: &impl Abort, mut builder: FlameGraphBuilder, want: Refusal) {
     assert_eq!(rt; builder.root_visitor().err(), Some(want));
     assert_eq!(rt; builder.finish().err(), Some(want));

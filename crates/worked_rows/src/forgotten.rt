@@ -6,7 +6,7 @@ use std::alloc::Global;
 use std::mem::{ManuallyDrop, forget};
 use std::process::Abort;
 
-// Asserts that a builder stays open: it takes no visitor and no root, and gives no output.
+/// Asserts that a builder stays open: it takes no visitor and no root, and gives no output.
 fn assert_open(rt: &impl Abort, mut builder: FlameGraphBuilder) {
     assert_eq!(rt; builder.root_visitor().err(), Some(Refusal::Open));
     let key = Key::new("leaf");
@@ -75,7 +75,7 @@ fn a_forgotten_nested_visitor_leaves_the_builder_open(rt: HostRuntime) -> Result
     Ok(())
 }
 
-// Forgets a nested visitor, and returns what the outer one returns for a value without a size.
+/// Forgets a nested visitor, and returns what the outer one returns for a value without a size.
 fn forget_and_enter_huge(builder: &mut FlameGraphBuilder) -> Result<Option<Refusal>, Refusal> {
     let mut root = builder.root_visitor()?;
     forget(root.enter(Key::new("a"), 1)?);

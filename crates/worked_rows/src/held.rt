@@ -13,7 +13,7 @@ use allocative::{
 use std::process::Abort;
 use std::test::Fail;
 
-// Shows `T 8 {x 5}`.
+/// Shows `T 8 {x 5}`.
 #[derive(Drop)]
 struct Plain;
 
@@ -28,7 +28,8 @@ impl Allocative for Plain {
 
 /// A pointer of 8 bytes to the shared value 1, with a part as its content.
 pub(crate) fn shared_pointer<P: Part>(content: P) -> Shared<P>
-    ensures { result ≡ record { key = codes "q"; size = 8; identity = record { maker = 0; number = 1 }; content = content } }
+    ensures { result
+        ≡ record { key = codes "q"; size = 8; identity = record { maker = 0; number = 1 }; content = content } }
 {
     Shared {
         key: Key::new("q"),
@@ -38,12 +39,14 @@ pub(crate) fn shared_pointer<P: Part>(content: P) -> Shared<P>
     }
 }
 
-// Shows `T 8 {unique p 8 {shared q 8 #1}}`.
+/// Shows `T 8 {unique p 8 {shared q 8 #1}}`.
 #[derive(Drop)]
 struct Points;
 
 impl Allocative for Points {
-    ghost may_show = { λ _. shows.Inside (codes "T") 8 (shows.InsideUnique (codes "p") 8 (shows.SharedWith (codes "q") 8 (record { maker = 0; number = 1 }) shows.Nothing)) };
+    ghost may_show = { λ _. shows.Inside (codes "T") 8
+        (shows.InsideUnique (codes "p") 8
+        (shows.SharedWith (codes "q") 8 (record { maker = 0; number = 1 }) shows.Nothing)) };
 
     fn visit(&self, visitor: &mut Visitor<'_>) -> Result<(), Refusal> {
         let pointer = Unique("p", 8, shared_pointer(()));
@@ -71,7 +74,7 @@ fn only_entries_right_inside_unique_ones_are_held(rt: HostRuntime) {
     assert_held(&rt, &Points, Ok(0));
 }
 
-// Shows numbers as a slice with an entry of its own.
+/// Shows numbers as a slice with an entry of its own.
 #[derive(Drop)]
 struct SliceOf<'a>(&'a Vec<u32>);
 
@@ -83,7 +86,7 @@ impl<'a> Part for SliceOf<'a> {
     }
 }
 
-// Shows `Box 16 {unique ptr 16 {..}}` of a slice of three numbers.
+/// Shows `Box 16 {unique ptr 16 {..}}` of a slice of three numbers.
 #[derive(Drop)]
 struct BoxedSlice {
     numbers: Vec<u32>,
@@ -116,7 +119,9 @@ impl Described for BoxedSlice {
 }
 
 impl Allocative for BoxedSlice {
-    ghost may_show = { λ b. shows.Inside (codes "Box") 16 (shows.InsideUnique (codes "ptr") 16 (slice_of (codes "u32") (Some 4) ⟦<u32 as Allocative>⟧.may_show b.numbers.items)) };
+    ghost may_show = { λ b. shows.Inside (codes "Box") 16
+        (shows.InsideUnique (codes "ptr") 16
+        (slice_of (codes "u32") (Some 4) ⟦<u32 as Allocative>⟧.may_show b.numbers.items)) };
 
     fn visit(&self, visitor: &mut Visitor<'_>) -> Result<(), Refusal> {
         let pointer = Unique("ptr", 16, SliceOf(&self.numbers));
@@ -124,7 +129,7 @@ impl Allocative for BoxedSlice {
     }
 }
 
-// Shows `Boxed 16 {data 16 {..}}` of a boxed slice.
+/// Shows `Boxed 16 {data 16 {..}}` of a boxed slice.
 #[derive(Drop)]
 struct Boxed {
     data: BoxedSlice,
@@ -157,7 +162,8 @@ impl Described for Boxed {
 }
 
 impl Allocative for Boxed {
-    ghost may_show = { λ b. shows.Inside (codes "Boxed") 16 (shows.Field (codes "data") (Some 16) (⟦<BoxedSlice as Allocative>⟧.may_show b.data)) };
+    ghost may_show = { λ b. shows.Inside (codes "Boxed") 16
+        (shows.Field (codes "data") (Some 16) (⟦<BoxedSlice as Allocative>⟧.may_show b.data)) };
 
     fn visit(&self, visitor: &mut Visitor<'_>) -> Result<(), Refusal> {
         let data = Field("data", &self.data);
@@ -176,7 +182,7 @@ fn a_boxed_slice_holds_its_items(rt: HostRuntime) -> Result<(), Fail> {
     Ok(())
 }
 
-// A value of 8 bytes: a box of a number.
+/// A value of 8 bytes: a box of a number.
 #[derive(Drop)]
 struct BoxedNumber {
     data: Box<u32>,
@@ -209,7 +215,8 @@ impl Described for BoxedNumber {
 }
 
 impl Allocative for BoxedNumber {
-    ghost may_show = { λ b. shows.Inside (codes "BoxedNumber") 8 (shows.Field (codes "data") (Some 8) (⟦<Box<u32> as Allocative>⟧.may_show b.data)) };
+    ghost may_show = { λ b. shows.Inside (codes "BoxedNumber") 8
+        (shows.Field (codes "data") (Some 8) (⟦<Box<u32> as Allocative>⟧.may_show b.data)) };
 
     fn visit(&self, visitor: &mut Visitor<'_>) -> Result<(), Refusal> {
         let data = Field("data", &self.data);
@@ -227,26 +234,28 @@ fn a_box_holds_its_number(rt: HostRuntime) -> Result<(), Fail> {
     Ok(())
 }
 
-// Shows the body of a vector of bytes with no unused room.
+/// Shows the body of a vector of bytes with no unused room.
 #[derive(Drop)]
 struct FullBody<'a>(&'a Vec<u8>);
 
 impl<'a> Part for FullBody<'a> {
-    ghost may_show = { λ b. vec_body (codes "u8") (Some 1) false ⟦<u8 as Allocative>⟧.may_show b.0.now.items (length b.0.now.items) };
+    ghost may_show = { λ b. vec_body (codes "u8") (Some 1) false ⟦<u8 as Allocative>⟧.may_show b.0.now.items
+        (length b.0.now.items) };
 
     fn enter(self, visitor: &mut Visitor<'_>) -> Result<(), Refusal> {
         visitor.visit_vec_like_body(self.0, self.0.len())
     }
 }
 
-// Shows a buffer of bytes with no unused room.
+/// Shows a buffer of bytes with no unused room.
 #[derive(Drop)]
 struct Buffer {
     bytes: Vec<u8>,
 }
 
 impl Allocative for Buffer {
-    ghost may_show = { λ b. shows.InsideUnique (codes "ptr") 8 (vec_body (codes "u8") (Some 1) false ⟦<u8 as Allocative>⟧.may_show b.bytes.items (length b.bytes.items)) };
+    ghost may_show = { λ b. shows.InsideUnique (codes "ptr") 8
+        (vec_body (codes "u8") (Some 1) false ⟦<u8 as Allocative>⟧.may_show b.bytes.items (length b.bytes.items)) };
 
     fn visit(&self, visitor: &mut Visitor<'_>) -> Result<(), Refusal> {
         Unique("ptr", 8, FullBody(&self.bytes)).enter(visitor)
@@ -264,7 +273,7 @@ fn a_full_buffer_holds_its_bytes(rt: HostRuntime) -> Result<(), Fail> {
     Ok(assert_text(&rt, builder, "ptr 8\nptr;capacity;u8 3\n")?)
 }
 
-// Shows `unique p 0 {a ..}` of the most bytes that fit, in a value of one byte.
+/// Shows `unique p 0 {a ..}` of the most bytes that fit, in a value of one byte.
 #[derive(Drop)]
 struct HoldsMost;
 
@@ -303,12 +312,13 @@ impl Allocative for HoldsMost {
     }
 }
 
-// Shows `unique p 0 {a .., b 1}`, which has one byte more than fits.
+/// Shows `unique p 0 {a .., b 1}`, which has one byte more than fits.
 #[derive(Drop)]
 struct HoldsMore;
 
 impl Allocative for HoldsMore {
-    ghost may_show = { λ _. shows.InsideUnique (codes "p") 0 (shows.Both (shows.Inside (codes "a") (2 ^ 64 - 1) shows.Nothing) (shows.Inside (codes "b") 1 shows.Nothing)) };
+    ghost may_show = { λ _. shows.InsideUnique (codes "p") 0
+        (shows.Both (shows.Inside (codes "a") (2 ^ 64 - 1) shows.Nothing) (shows.Inside (codes "b") 1 shows.Nothing)) };
 
     fn visit(&self, visitor: &mut Visitor<'_>) -> Result<(), Refusal> {
         let a = Inside("a", usize::MAX, ());
@@ -317,12 +327,13 @@ impl Allocative for HoldsMore {
     }
 }
 
-// Shows the most bytes that fit twice, outside any unique entry.
+/// Shows the most bytes that fit twice, outside any unique entry.
 #[derive(Drop)]
 struct HoldsNone;
 
 impl Allocative for HoldsNone {
-    ghost may_show = { λ _. shows.Both (shows.Inside (codes "a") (2 ^ 64 - 1) shows.Nothing) (shows.Inside (codes "b") (2 ^ 64 - 1) shows.Nothing) };
+    ghost may_show = { λ _. shows.Both (shows.Inside (codes "a") (2 ^ 64 - 1) shows.Nothing)
+        (shows.Inside (codes "b") (2 ^ 64 - 1) shows.Nothing) };
 
     fn visit(&self, visitor: &mut Visitor<'_>) -> Result<(), Refusal> {
         let a = Inside("a", usize::MAX, ());
@@ -339,7 +350,7 @@ fn held_bytes_have_a_bound(rt: HostRuntime) {
     assert_held(&rt, &HoldsNone, Ok(0));
 }
 
-// What two unique entries hold, of five bytes and of six.
+/// What two unique entries hold, of five bytes and of six.
 fn two_buffers() -> Result<usize, Refusal> {
     size_of_entries(|visitor| {
         Unique("p", 8, Inside("a", 5, ())).enter(visitor)?;

@@ -33,7 +33,7 @@ impl Described for Huge {
     }
 }
 
-// What a root visitor returns for a value without a size.
+/// What a root visitor returns for a value without a size.
 fn enter_huge(builder: &mut FlameGraphBuilder) -> Result<Option<Refusal>, Refusal> {
     let mut root = builder.root_visitor()?;
     Ok(root.enter_self_sized::<Option<Huge>>().err())

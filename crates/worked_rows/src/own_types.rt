@@ -12,7 +12,7 @@ use allocative::{
 use std::alloc::Global;
 use std::test::Fail;
 
-// An enum: a field for the part of each variant that has one.
+/// An enum: a field for the part of each variant that has one.
 #[derive(Drop)]
 enum Event {
     Stopped,
@@ -39,14 +39,15 @@ impl Allocative for Event {
     }
 }
 
-// A generic type: its part is whatever is `Allocative` and has a declared size.
+/// A generic type: its part is whatever is `Allocative` and has a declared size.
 #[derive(Drop)]
 struct Wrapped<T> {
     value: T,
 }
 
 impl<T: Allocative + Described> Allocative for Wrapped<T> {
-    ghost may_show = { λ w. shows.Inside (codes "Wrapped") 16 (shows.Field (codes "value") T.size (T.may_show w.value)) };
+    ghost may_show = { λ w. shows.Inside (codes "Wrapped") 16
+        (shows.Field (codes "value") T.size (T.may_show w.value)) };
 
     fn visit(&self, visitor: &mut Visitor<'_>) -> Result<(), Refusal> {
         let value = Field("value", &self.value);
@@ -54,14 +55,15 @@ impl<T: Allocative + Described> Allocative for Wrapped<T> {
     }
 }
 
-// A type with a shared part: the part's own implementation shows the pointer and, once, the content.
+/// A type with a shared part: the part's own implementation shows the pointer and, once, the content.
 #[derive(Drop)]
 struct Handle {
     table: IdRc<u64>,
 }
 
 impl Allocative for Handle {
-    ghost may_show = { λ h. shows.Inside (codes "Handle") 8 (shows.Field (codes "table") (Some 8) (⟦<IdRc<u64> as Allocative>⟧.may_show h.table)) };
+    ghost may_show = { λ h. shows.Inside (codes "Handle") 8
+        (shows.Field (codes "table") (Some 8) (⟦<IdRc<u64> as Allocative>⟧.may_show h.table)) };
 
     fn visit(&self, visitor: &mut Visitor<'_>) -> Result<(), Refusal> {
         let table = Field("table", &self.table);
@@ -103,7 +105,7 @@ fn a_generic_type_shows_its_part(rt: HostRuntime) -> Result<(), Fail> {
     )?)
 }
 
-// Two handles of one table.
+/// Two handles of one table.
 fn two_handles(alloc: Global) -> Result<[Handle; 2], Fail> {
     let table = IdRc::new(alloc, 5u64, Identity::from(1))?;
     let first = Handle {
@@ -128,7 +130,7 @@ fn a_shared_part_counts_once(rt: HostRuntime) -> Result<(), Fail> {
     )?)
 }
 
-// Enters one entry by a value, one by its type, and one by a declared size.
+/// Enters one entry by a value, one by its type, and one by a declared size.
 fn enter_declared(builder: &mut FlameGraphBuilder) -> Result<(), Refusal> {
     let mut root = builder.root_visitor()?;
     root.enter_self(&7u8)?.exit();

@@ -1,8 +1,8 @@
-//! Structs that are shown again and again, where what follows a child is not what followed it before.
+//! Structs that are shown again and again, where a child is followed by another child than before.
 use crate::rows::assert_text;
 use allocative::{FlameGraphBuilder, Identity, Inside, Key, Part, Refusal, Shared, Visitor};
 
-// Enters an entry, with one entry inside it for each part.
+/// Enters an entry, with one entry inside it for each part.
 fn enter_parts(
     visitor: &mut Visitor<'_>,
     key: &'static str,
@@ -17,7 +17,7 @@ fn enter_parts(
     Ok(())
 }
 
-// Enters `S 20`, inside it a shared pointer followed by `q 2`.
+/// Enters `S 20`, inside it a shared pointer followed by `q 2`.
 fn enter_shared_between(visitor: &mut Visitor<'_>) -> Result<(), Refusal> {
     let pointer = Shared {
         key: Key::new("p"),
@@ -28,7 +28,7 @@ fn enter_shared_between(visitor: &mut Visitor<'_>) -> Result<(), Refusal> {
     Inside("S", 20, (pointer, Inside("q", 2, ()))).enter(visitor)
 }
 
-// Enters `a 10`, inside it `a 4` with `a 1`, followed by `b 2`.
+/// Enters `a 10`, inside it `a 4` with `a 1`, followed by `b 2`.
 fn enter_one_key_at_three_depths(visitor: &mut Visitor<'_>) -> Result<(), Refusal> {
     let below = Inside("a", 4, Inside("a", 1, ()));
     Inside("a", 10, (below, Inside("b", 2, ()))).enter(visitor)

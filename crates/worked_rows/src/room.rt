@@ -4,7 +4,7 @@ use std::alloc::Global;
 use std::collections::VecDeque;
 use std::test::Fail;
 
-// The number in the only line of a text whose last key is `unused_capacity`.
+/// The number in the only line of a text whose last key is `unused_capacity`.
 fn unused_in(text: &str) -> Result<usize, Fail> {
     let mut unused = None;
     for line in text.lines() {
@@ -18,7 +18,7 @@ fn unused_in(text: &str) -> Result<usize, Fail> {
     Ok(unused.ok_or("no line")?)
 }
 
-// The number in the only line of unused capacity in the text of one visit.
+/// The number in the only line of unused capacity in the text of one visit.
 fn unused_of(alloc: Global, root: &dyn Allocative) -> Result<usize, Fail> {
     let mut builder = FlameGraphBuilder::new(alloc)?;
     builder.visit_root(root)?;
@@ -26,7 +26,7 @@ fn unused_of(alloc: Global, root: &dyn Allocative) -> Result<usize, Fail> {
     unused_in(text.as_str())
 }
 
-// The unused bytes and the capacity of a buffer of three items with room for a hundred.
+/// The unused bytes and the capacity of a buffer of three items with room for a hundred.
 #[derive(Clone, Copy)]
 struct Room {
     unused: usize,

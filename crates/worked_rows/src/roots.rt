@@ -23,7 +23,7 @@ impl Allocative for Leaf {
     }
 }
 
-// Shows nothing.
+/// Shows nothing.
 #[derive(Drop)]
 struct Silent;
 
@@ -53,7 +53,7 @@ fn a_root_that_shows_nothing(rt: HostRuntime) -> Result<(), Refusal> {
     Ok(())
 }
 
-// A builder of the roots `z 1` down to `a 1`, visited `times` times.
+/// A builder of the roots `z 1` down to `a 1`, visited `times` times.
 fn letters(alloc: Global, times: usize) -> Result<FlameGraphBuilder, Refusal> {
     let mut builder = FlameGraphBuilder::new(alloc)?;
     for _ in 0..times {

@@ -3,7 +3,7 @@ use allocative::{FlameGraphBuilder, FlameGraphOutput, Identity, Key, Refusal, Vi
 use std::alloc::Global;
 use std::process::Abort;
 
-// How an entry is made.
+/// How an entry is made.
 #[derive(Clone, Copy)]
 enum Kind {
     Inline,
@@ -51,7 +51,7 @@ pub(crate) fn shared(depth: u8, key: &'static str, size: usize, id: Identity) ->
     }
 }
 
-// Enters the rows of this depth, up to the first one that is less deep.
+/// Enters the rows of this depth, up to the first one that is less deep.
 #[cycle(rows)]
 fn enter_rows(visitor: &mut Visitor<'_>, rows: &[Row], depth: usize) -> Result<(), Refusal> {
     let Some((row, rest)) = rows.split_first() else {
@@ -66,7 +66,7 @@ fn enter_rows(visitor: &mut Visitor<'_>, rows: &[Row], depth: usize) -> Result<(
     enter_rows(visitor, rest, depth)
 }
 
-// Enters one row, and inside it the next rows that are deeper.
+/// Enters one row, and inside it the next rows that are deeper.
 #[cycle(rows)]
 fn enter_row(visitor: &mut Visitor<'_>, row: &Row, next: &[Row]) -> Result<(), Refusal> {
     let key = Key::new(row.key);
@@ -102,7 +102,7 @@ pub(crate) fn entered(alloc: Global, rows: &[Row]) -> Result<FlameGraphBuilder, 
     Ok(builder)
 }
 
-// A builder that has these rows, and then others from a second root visitor.
+/// A builder that has these rows, and then others from a second root visitor.
 fn entered_twice(
     alloc: Global,
     first: &[Row],
@@ -113,7 +113,7 @@ fn entered_twice(
     Ok(builder)
 }
 
-// Asserts the text of a graph.
+/// Asserts the text of a graph.
 fn assert_graph(rt: &impl Abort, output: &FlameGraphOutput, want: &str) -> Result<(), Refusal> {
     let written = output.flamegraph().write()?;
     assert_eq!(rt; written.as_str(), want);

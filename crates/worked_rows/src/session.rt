@@ -17,7 +17,9 @@ struct Session {
 }
 
 impl Allocative for Session {
-    ghost may_show = { λ s. shows.Inside (codes "Session") 48 (shows.Both (shows.Field (codes "name") (Some 24) (⟦<String as Allocative>⟧.may_show s.name)) (shows.Field (codes "scores") (Some 24) (⟦<Vec<u32> as Allocative>⟧.may_show s.scores))) };
+    ghost may_show = { λ s. shows.Inside (codes "Session") 48 (shows.Both
+        (shows.Field (codes "name") (Some 24) (⟦<String as Allocative>⟧.may_show s.name))
+        (shows.Field (codes "scores") (Some 24) (⟦<Vec<u32> as Allocative>⟧.may_show s.scores))) };
 
     fn visit(&self, visitor: &mut Visitor<'_>) -> Result<(), Refusal> {
         let name = Field("name", &self.name);
@@ -33,7 +35,7 @@ fn session_with_no_score(alloc: Global) -> Result<Session, Fail> {
     })
 }
 
-// What one visit of a session collects.
+/// What one visit of a session collects.
 fn collected(alloc: Global, session: &Session) -> Result<FlameGraphOutput, Refusal> {
     let mut builder = FlameGraphBuilder::new(alloc)?;
     builder.visit_root(session)?;

@@ -26,7 +26,7 @@ fn a_value_that_points_to_itself_is_shown_once(rt: HostRuntime) -> Result<(), Re
     assert_rows(&rt, rt.alloc(), &rows, "p 16\n")
 }
 
-// `A 8` with a pointer of 8 bytes to a value whose content is one entry.
+/// `A 8` with a pointer of 8 bytes to a value whose content is one entry.
 fn pointing(id: Identity, content: &'static str, size: usize) -> [Row; 3] {
     [
         inline(0, "A", 8),
@@ -107,7 +107,7 @@ fn a_pointer_past_the_bound_is_too_large_though_it_was_met(rt: HostRuntime) -> R
     Ok(())
 }
 
-// Enters a pointer to one of a hundred identities, whose content points to the next one, and so on in a ring.
+/// Enters a pointer to one of a hundred identities, whose content points to the next one, and so on in a ring.
 fn point_round(visitor: &mut Visitor<'_>, left: u64) -> Result<(), Refusal> {
     let id = Identity::from(left % 100);
     if let Some(mut content) = visitor.enter_shared(Key::new("p"), 8, id)?
@@ -118,7 +118,7 @@ fn point_round(visitor: &mut Visitor<'_>, left: u64) -> Result<(), Refusal> {
     Ok(())
 }
 
-// A builder with a walk around the ring, which ends at the first identity that was met before.
+/// A builder with a walk around the ring, which ends at the first identity that was met before.
 fn around(alloc: Global) -> Result<FlameGraphBuilder, Refusal> {
     let mut builder = FlameGraphBuilder::new(alloc)?;
     let mut root = builder.root_visitor()?;

@@ -11,7 +11,7 @@ use allocative::{
 use std::alloc::Global;
 use std::process::Abort;
 
-// Asserts the text of the sum of two collections.
+/// Asserts the text of the sum of two collections.
 fn assert_sum<T: Allocative + Described>(
     rt: &impl Abort,
     alloc: Global,
@@ -25,7 +25,7 @@ fn assert_sum<T: Allocative + Described>(
     Ok(())
 }
 
-// The text of one collection of both roots.
+/// The text of one collection of both roots.
 fn one_text(
     alloc: Global,
     left: &dyn Allocative,
@@ -37,7 +37,7 @@ fn one_text(
     builder.finish_and_write_flame_graph()
 }
 
-// Asserts the text of one collection of both roots.
+/// Asserts the text of one collection of both roots.
 fn assert_one(
     rt: &impl Abort,
     alloc: Global,
@@ -75,7 +75,7 @@ fn shared_items_add_up(rt: HostRuntime) -> Result<(), Refusal> {
     assert_one(&rt, alloc, &left[0], &again[0], once)
 }
 
-// Shows `a size` or `a size {x inner}`, or returns an error.
+/// Shows `a size` or `a size {x inner}`, or returns an error.
 #[derive(Drop)]
 struct Item {
     size: usize,
@@ -154,7 +154,7 @@ fn sums_that_do_not_add_up(rt: HostRuntime) -> Result<(), Refusal> {
     let plain = [Item::plain(5)];
     assert_sum(&rt, alloc, &short, &plain, "a 5\na;x 4\n")?;
     assert_one(&rt, alloc, &short[0], &plain[0], "a 2\na;x 4\n")?;
-    // Here both have fewer.
+    // At `a` both have fewer bytes than are below it.
     let shorter = [Item::holding(1, 2)];
     assert_sum(&rt, alloc, &short, &shorter, "a;x 6\n")?;
     assert_one(&rt, alloc, &short[0], &shorter[0], "a;x 6\n")

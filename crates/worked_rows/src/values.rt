@@ -14,7 +14,7 @@ use std::collections::BTreeMap;
 use std::process::Abort;
 use std::test::Fail;
 
-// A value of 64 bytes with an alignment of 64, and one field.
+/// A value of 64 bytes with an alignment of 64, and one field.
 #[derive(Drop)]
 struct CacheLine(u8);
 
@@ -45,7 +45,8 @@ impl Described for CacheLine {
 }
 
 impl Allocative for CacheLine {
-    ghost may_show = { λ _. shows.Inside (codes "CacheLine") 64 (shows.Field (codes "0") (Some 1) (shows.Field (codes "u8") (Some 1) shows.Nothing)) };
+    ghost may_show = { λ _. shows.Inside (codes "CacheLine") 64
+        (shows.Field (codes "0") (Some 1) (shows.Field (codes "u8") (Some 1) shows.Nothing)) };
 
     fn visit(&self, visitor: &mut Visitor<'_>) -> Result<(), Refusal> {
         let byte = Field("0", &self.0);
@@ -79,12 +80,14 @@ fn a_map_of_one_pair_warns(rt: HostRuntime) -> Result<(), Fail> {
     )?)
 }
 
-// Shows `T 8 {unique p 8 {unique q 8 {d 5}}}`.
+/// Shows `T 8 {unique p 8 {unique q 8 {d 5}}}`.
 #[derive(Drop)]
 struct Nested;
 
 impl Allocative for Nested {
-    ghost may_show = { λ _. shows.Inside (codes "T") 8 (shows.InsideUnique (codes "p") 8 (shows.InsideUnique (codes "q") 8 (shows.Inside (codes "d") 5 shows.Nothing))) };
+    ghost may_show = { λ _. shows.Inside (codes "T") 8
+        (shows.InsideUnique (codes "p") 8
+        (shows.InsideUnique (codes "q") 8 (shows.Inside (codes "d") 5 shows.Nothing))) };
 
     fn visit(&self, visitor: &mut Visitor<'_>) -> Result<(), Refusal> {
         let inner = Unique("q", 8, Inside("d", 5, ()));
@@ -118,14 +121,15 @@ fn a_reference_shows_nothing(rt: HostRuntime) -> Result<(), Refusal> {
     assert_text(&rt, builder, "")
 }
 
-// Shows `TestGlobalRoot 4 {x 4 {u32 4}}`.
+/// Shows `TestGlobalRoot 4 {x 4 {u32 4}}`.
 #[derive(Drop)]
 struct TestGlobalRoot {
     x: u32,
 }
 
 impl Allocative for TestGlobalRoot {
-    ghost may_show = { λ _. shows.Inside (codes "TestGlobalRoot") 4 (shows.Field (codes "x") (Some 4) (shows.Field (codes "u32") (Some 4) shows.Nothing)) };
+    ghost may_show = { λ _. shows.Inside (codes "TestGlobalRoot") 4
+        (shows.Field (codes "x") (Some 4) (shows.Field (codes "u32") (Some 4) shows.Nothing)) };
 
     fn visit(&self, visitor: &mut Visitor<'_>) -> Result<(), Refusal> {
         let x = Field("x", &self.x);
@@ -133,7 +137,7 @@ impl Allocative for TestGlobalRoot {
     }
 }
 
-// Asserts the text of a registry's profile, and that it has no warning.
+/// Asserts the text of a registry's profile, and that it has no warning.
 fn assert_profile(rt: &impl Abort, registry: &Registry, want: &str) -> Result<(), Refusal> {
     assert_collected(rt, &profile_roots(registry)?, want, "")
 }

@@ -3,7 +3,7 @@ use crate::rows::{entered, inline};
 use allocative::{FlameGraphBuilder, FlameGraphOutput, Key, Refusal};
 use std::alloc::Global;
 
-// The output of `b 1 {c 2 {d 5}}` and `a 1 {x 4}`.
+/// The output of `b 1 {c 2 {d 5}}` and `a 1 {x 4}`.
 fn short_of_children(alloc: Global) -> Result<FlameGraphOutput, Refusal> {
     let rows = [
         inline(0, "b", 1),
@@ -15,7 +15,7 @@ fn short_of_children(alloc: Global) -> Result<FlameGraphOutput, Refusal> {
     entered(alloc, &rows)?.finish()
 }
 
-// Each path with a warning, its own bytes, and those one key below it.
+/// Each path with a warning, its own bytes, and the bytes of its inline children.
 fn told(alloc: Global, output: &FlameGraphOutput) -> Result<String, Refusal> {
     let mut text = String::new(alloc);
     for warned in output.warned_paths() {

@@ -1,14 +1,14 @@
-//! Nodes with few and with many children, which come in rising, falling and mixed order, one by one and at
-//! once.
+//! Nodes with few and with many children, which are entered in rising, falling and mixed order, one by one and at once.
 use allocative::{Child, FlameGraph, FlameGraphBuilder, Key, Refusal};
 use std::alloc::{AllocError, Global};
 use std::test::Fail;
 
-// In each of the two texts, the pairs of neighbouring letters that start at the first fifty places are all
-// different.
+/// A text in which the pairs of neighbouring letters that start at the first fifty places are all different.
 const LOWER: &str =
     "abcdefghijklmnopqrstuvwxyzacegikmoqsuwybdfhjlnprtvxzabcdefghijklmnopqrstuvwxyzacegikmoqsuwybdfhjlnprtvxz";
 
+/// A text of capitals in which the pairs of neighbouring letters that start at the first fifty places are all
+/// different.
 const UPPER: &str =
     "ABCDEFGHIJKLMNOPQRSTUVWXYZACEGIKMOQSUWYBDFHJLNPRTVXZABCDEFGHIJKLMNOPQRSTUVWXYZACEGIKMOQSUWYBDFHJLNPRTVXZ";
 
@@ -19,7 +19,7 @@ enum Order {
     Mixed,
 }
 
-// One of 5,000 different keys: a part of a text, of at least two letters, that starts at one of fifty places.
+/// One of 5,000 different keys: a part of a text, of at least two letters, that starts at one of fifty places.
 fn key_of(number: usize) -> &'static str {
     let text = if number.is_multiple_of(2) {
         LOWER
@@ -31,7 +31,7 @@ fn key_of(number: usize) -> &'static str {
     text.get(start..end).unwrap_or("")
 }
 
-// The first `count` keys, sorted by their bytes.
+/// The first `count` keys, sorted by their bytes.
 fn sorted_keys(alloc: Global, count: usize) -> Result<Vec<&'static str>, AllocError> {
     let mut keys = Vec::with_capacity(alloc, count)?;
     for number in 0..count {
@@ -41,7 +41,7 @@ fn sorted_keys(alloc: Global, count: usize) -> Result<Vec<&'static str>, AllocEr
     Ok(keys)
 }
 
-// The keys and their sizes in the given order. The least key has size 1.
+/// The keys and their sizes in the given order. The least key has size 1.
 fn children_in(
     alloc: Global,
     keys: &[&'static str],
@@ -59,7 +59,7 @@ fn children_in(
     Ok(children)
 }
 
-// The lines of the children, where each was added `times` times.
+/// The lines of the children, where each was added `times` times.
 fn lines_of(alloc: Global, keys: &[&'static str], times: usize) -> Result<String, Fail> {
     let mut text = String::new(alloc);
     for (place, key) in keys.iter().enumerate() {
@@ -69,7 +69,7 @@ fn lines_of(alloc: Global, keys: &[&'static str], times: usize) -> Result<String
     Ok(text)
 }
 
-// The text of a builder into which the children are entered twice.
+/// The text of a builder into which the children are entered twice.
 fn text_of_entries(alloc: Global, children: &[(&'static str, usize)]) -> Result<String, Refusal> {
     let mut builder = FlameGraphBuilder::new(alloc)?;
     let mut root = builder.root_visitor()?;
@@ -88,7 +88,7 @@ fn leaf(alloc: Global, size: usize) -> Result<FlameGraph, Refusal> {
     Ok(graph)
 }
 
-// The text of a graph to which the children are added one by one.
+/// The text of a graph to which the children are added one by one.
 fn text_one_by_one(alloc: Global, children: &[(&'static str, usize)]) -> Result<String, Refusal> {
     let mut graph = FlameGraph::default(alloc);
     for (key, size) in children {
@@ -97,7 +97,7 @@ fn text_one_by_one(alloc: Global, children: &[(&'static str, usize)]) -> Result<
     graph.write()
 }
 
-// The text of a graph to which the children are added at once, each of them twice.
+/// The text of a graph to which the children are added at once, each of them twice.
 fn text_at_once(alloc: Global, children: &[(&'static str, usize)]) -> Result<String, Refusal> {
     let mut list = Vec::new(alloc);
     for _ in 0..2 {
@@ -113,7 +113,7 @@ fn text_at_once(alloc: Global, children: &[(&'static str, usize)]) -> Result<Str
     graph.write()
 }
 
-// The first text that is wrong: of entries, of a graph made one by one, or of one made at once.
+/// The first text that is wrong: of entries, of a graph made one by one, or of one made at once.
 fn first_wrong(alloc: Global, count: usize, order: Order) -> Result<Option<&'static str>, Fail> {
     let keys = sorted_keys(alloc, count)?;
     let children = children_in(alloc, keys.as_slice(), order)?;
@@ -157,7 +157,7 @@ fn five_thousand_mixed_children(rt: HostRuntime) -> Result<(), Fail> {
     Ok(())
 }
 
-// Two equal keys would make fewer than 5,000 lines, and a wrong `lines_of` would hide that.
+/// Two equal keys would make fewer than 5,000 lines, and a wrong `lines_of` would hide that.
 #[test]
 fn no_two_keys_are_equal(rt: HostRuntime) -> Result<(), Fail> {
     let keys = sorted_keys(rt.alloc(), 5000)?;
