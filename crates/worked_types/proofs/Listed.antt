@@ -1,4 +1,4 @@
--- What the items of an iterator show, where the list that it gives is known.
+-- What the items of an iterator show, where the list of its items is known.
 use Rattle.std.proofs.Common.{Option, List, subst}
 use Rattle.std.proofs.lemmas.Iterator.{YieldsList, items_from_drains}
 use Rattle.allocative.specs.Shows.{Showing}

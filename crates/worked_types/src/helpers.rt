@@ -14,7 +14,7 @@ use std::alloc::Global;
 use std::collections::BTreeMap;
 use std::test::Fail;
 
-// A byte that declares what `u8` declares.
+/// A byte that declares what `u8` declares.
 #[derive(Clone, Copy, Debug, PartialEq, Eq, PartialOrd, Ord, Drop)]
 struct Byte(u8);
 
@@ -52,7 +52,7 @@ impl Allocative for Byte {
     }
 }
 
-// A pair that declares that it needs no drop.
+/// A pair that declares that it needs no drop.
 #[derive(Drop)]
 struct Pair;
 
@@ -91,7 +91,7 @@ impl Allocative for Pair {
     }
 }
 
-// A pair that declares that it needs a drop.
+/// A pair that declares that it needs a drop.
 #[derive(Drop)]
 struct DropPair(Pair);
 
@@ -129,7 +129,7 @@ impl Allocative for DropPair {
     }
 }
 
-// Shows its items by `visit_slice`.
+/// Shows its items by `visit_slice`.
 #[derive(Drop)]
 struct Slice<T> {
     items: Vec<T>,
@@ -143,7 +143,7 @@ impl<T: Allocative + Described> Allocative for Slice<T> {
     }
 }
 
-// Shows its items by `visit_iter`.
+/// Shows its items by `visit_iter`.
 #[derive(Drop)]
 struct Iterated<T> {
     items: Vec<T>,
@@ -157,35 +157,39 @@ impl<T: Allocative + Described> Allocative for Iterated<T> {
     }
 }
 
-// Shows its entries by `visit_generic_map_fields`.
+/// Shows its entries by `visit_generic_map_fields`.
 #[derive(Drop)]
 struct MapFields {
     entries: BTreeMap<Byte, Byte>,
 }
 
 impl Allocative for MapFields {
-    ghost may_show = { λ m. shows.Inside (codes "data") 8 (shows.each_shows (pair_shows (Some 1) (λ _. shows.Field (codes "u8") (Some 1) shows.Nothing) (Some 1) (λ _. shows.Field (codes "u8") (Some 1) shows.Nothing)) m.entries.entries) };
+    ghost may_show = { λ m. shows.Inside (codes "data") 8
+        (shows.each_shows (pair_shows (Some 1) (λ _. shows.Field (codes "u8") (Some 1) shows.Nothing) (Some 1)
+        (λ _. shows.Field (codes "u8") (Some 1) shows.Nothing)) m.entries.entries) };
 
     fn visit(&self, visitor: &mut Visitor<'_>) -> Result<(), Refusal> {
         visitor.visit_generic_map_fields(self.entries.iter())
     }
 }
 
-// Shows its keys by `visit_generic_set_fields`.
+/// Shows its keys by `visit_generic_set_fields`.
 #[derive(Drop)]
 struct SetFields {
     keys: Vec<Byte>,
 }
 
 impl Allocative for SetFields {
-    ghost may_show = { λ s. shows.Inside (codes "data") 8 (shows.each_shows (field_of (codes "key") (Some 1) (λ _. shows.Field (codes "u8") (Some 1) shows.Nothing)) s.keys.items) };
+    ghost may_show = { λ s. shows.Inside (codes "data") 8
+        (shows.each_shows (field_of (codes "key") (Some 1) (λ _. shows.Field (codes "u8") (Some 1) shows.Nothing))
+        s.keys.items) };
 
     fn visit(&self, visitor: &mut Visitor<'_>) -> Result<(), Refusal> {
         visitor.visit_generic_set_fields(self.keys.iter())
     }
 }
 
-// Shows a text.
+/// Shows a text.
 #[derive(Drop)]
 struct Text {
     text: String,
@@ -199,21 +203,22 @@ impl Allocative for Text {
     }
 }
 
-// Shows a byte as a boxed object.
+/// Shows a byte as a boxed object.
 #[derive(Drop)]
 struct Boxed {
     byte: Byte,
 }
 
 impl Allocative for Boxed {
-    ghost may_show = { λ _. shows.Inside (codes "Box") 8 (shows.InsideUnique (codes "ptr") 8 (shows.Field (codes "u8") (Some 1) shows.Nothing)) };
+    ghost may_show = { λ _. shows.Inside (codes "Box") 8
+        (shows.InsideUnique (codes "ptr") 8 (shows.Field (codes "u8") (Some 1) shows.Nothing)) };
 
     fn visit(&self, visitor: &mut Visitor<'_>) -> Result<(), Refusal> {
         visitor.visit_boxed_object(&self.byte)
     }
 }
 
-// Shows a byte as a field.
+/// Shows a byte as a field.
 #[derive(Drop)]
 struct WithField {
     byte: Byte,
@@ -227,7 +232,7 @@ impl Allocative for WithField {
     }
 }
 
-// Shows a field by a closure of one step.
+/// Shows a field by a closure of one step.
 #[derive(Drop)]
 struct WithClosure;
 
@@ -241,12 +246,13 @@ impl Allocative for WithClosure {
     }
 }
 
-// Shows a field by a closure of two steps.
+/// Shows a field by a closure of two steps.
 #[derive(Drop)]
 struct WithSteps;
 
 impl Allocative for WithSteps {
-    ghost may_show = { λ _. shows.Inside (codes "f") 8 (shows.Both (shows.Inside (codes "x") 1 shows.Nothing) (shows.Inside (codes "y") 2 shows.Nothing)) };
+    ghost may_show = { λ _. shows.Inside (codes "f") 8
+        (shows.Both (shows.Inside (codes "x") 1 shows.Nothing) (shows.Inside (codes "y") 2 shows.Nothing)) };
 
     fn visit(&self, visitor: &mut Visitor<'_>) -> Result<(), Refusal> {
         visitor.visit_field_with(Key::new("f"), 8, |inner| {
@@ -256,40 +262,44 @@ impl Allocative for WithSteps {
     }
 }
 
-// Shows a slice with an entry of its own.
+/// Shows a slice with an entry of its own.
 #[derive(Drop)]
 struct SliceOf {
     items: Vec<Byte>,
 }
 
 impl Allocative for SliceOf {
-    ghost may_show = { λ s. slice_of (codes "u8") (Some 1) (λ _. shows.Field (codes "u8") (Some 1) shows.Nothing) s.items.items };
+    ghost may_show = { λ s. slice_of (codes "u8") (Some 1)
+        (λ _. shows.Field (codes "u8") (Some 1) shows.Nothing) s.items.items };
 
     fn visit(&self, visitor: &mut Visitor<'_>) -> Result<(), Refusal> {
         visitor.visit_slice_of(&self.items)
     }
 }
 
-// Shows the body of a vector of bytes with no unused room.
+/// Shows the body of a vector of bytes with no unused room.
 #[derive(Drop)]
 struct FullBody<'a>(&'a Vec<Byte>);
 
 impl<'a> Part for FullBody<'a> {
-    ghost may_show = { λ b. vec_body (codes "u8") (Some 1) false (λ _. shows.Field (codes "u8") (Some 1) shows.Nothing) b.0.now.items (length b.0.now.items) };
+    ghost may_show = { λ b. vec_body (codes "u8") (Some 1) false
+        (λ _. shows.Field (codes "u8") (Some 1) shows.Nothing) b.0.now.items (length b.0.now.items) };
 
     fn enter(self, visitor: &mut Visitor<'_>) -> Result<(), Refusal> {
         visitor.visit_vec_like_body(self.0, self.0.len())
     }
 }
 
-// Shows a buffer with no unused room.
+/// Shows a buffer with no unused room.
 #[derive(Drop)]
 struct Body {
     items: Vec<Byte>,
 }
 
 impl Allocative for Body {
-    ghost may_show = { λ s. shows.InsideUnique (codes "ptr") 8 (vec_body (codes "u8") (Some 1) false (λ _. shows.Field (codes "u8") (Some 1) shows.Nothing) s.items.items (length s.items.items)) };
+    ghost may_show = { λ s. shows.InsideUnique (codes "ptr") 8
+        (vec_body (codes "u8") (Some 1) false (λ _. shows.Field (codes "u8") (Some 1) shows.Nothing) s.items.items
+        (length s.items.items)) };
 
     fn visit(&self, visitor: &mut Visitor<'_>) -> Result<(), Refusal> {
         Unique("ptr", 8, FullBody(&self.items)).enter(visitor)
@@ -392,7 +402,7 @@ fn closures(rt: HostRuntime) -> Result<(), Fail> {
     expect_text(&rt, alloc, &WithSteps, "f 5\nf;x 1\nf;y 2\n")
 }
 
-// Enters one byte three times, by each call that enters a type's own name and size.
+/// Enters one byte three times, by each call that enters a type's own name and size.
 fn enter_selves(builder: &mut FlameGraphBuilder) -> Result<(), Refusal> {
     let mut root = builder.root_visitor()?;
     root.enter_self(&Byte(1))?.exit();

@@ -14,7 +14,7 @@ use smallvec::SmallVec;
 use std::alloc::Global;
 use std::test::Fail;
 
-// The number in the only line of a text whose last key is `unused_capacity`. The line begins with `path`.
+/// The number in the only line of a text whose last key is `unused_capacity`. The line begins with `path`.
 fn amount_in(text: &str, path: &str) -> Result<usize, Fail> {
     let mut found = None;
     for line in text.lines() {
@@ -29,13 +29,13 @@ fn amount_in(text: &str, path: &str) -> Result<usize, Fail> {
     Ok(found.ok_or("no line")?)
 }
 
-// The number in the only line of unused capacity in the text of one visit. The line begins with `path`.
+/// The number in the only line of unused capacity in the text of one visit. The line begins with `path`.
 fn amount_at(alloc: Global, root: &dyn Allocative, path: &str) -> Result<usize, Fail> {
     let text = text_of(alloc, root)?;
     amount_in(text.as_str(), path)
 }
 
-// A map that shows itself by the call for maps.
+/// A map that shows itself by the call for maps.
 #[derive(Drop)]
 struct Members {
     map: Map<String, Value>,
@@ -94,7 +94,7 @@ fn a_json_number_shows_itself(rt: HostRuntime) -> Result<(), Fail> {
     expect_text(&rt, rt.alloc(), number, "Number 16\n")
 }
 
-// The members of the object in this JSON text.
+/// The members of the object in this JSON text.
 fn members_of(alloc: Global, text: &str) -> Result<Members, Fail> {
     let Value::Object(map) = Value::from_str(alloc, text)? else {
         return Err(Fail::new("an object"));
@@ -131,7 +131,7 @@ fn a_cell_that_is_not_set_shows_itself(rt: HostRuntime) -> Result<(), Fail> {
     expect_text(&rt, rt.alloc(), &cell, "OnceBox 8\n")
 }
 
-// A cell that is set to 5.
+/// A cell that is set to 5.
 fn set_cell(alloc: Global) -> Result<OnceBox<u64>, Fail> {
     let cell: OnceBox<u64> = OnceBox::new(alloc);
     if cell.set(Box::new(alloc, 5u64)?).is_err() {
@@ -195,7 +195,7 @@ fn a_slab_shows_its_values(rt: HostRuntime) -> Result<(), Fail> {
     )
 }
 
-// A slab of three values, with room for a hundred more.
+/// A slab of three values, with room for a hundred more.
 fn slab_with_room(alloc: Global) -> Result<Slab<u8>, Fail> {
     let mut three: Slab<u8> = Slab::new(alloc);
     three.insert(1)?;
@@ -236,7 +236,7 @@ fn an_index_map_shows_its_pairs(rt: HostRuntime) -> Result<(), Fail> {
     )
 }
 
-// Puts three pairs into a map, and makes room for a hundred more.
+/// Puts three pairs into a map, and makes room for a hundred more.
 fn fill_map(map: &mut IndexMap<u8, u8>) -> Result<(), Fail> {
     for key in [1u8, 2, 3] {
         map.insert(key, 0)?;
@@ -245,7 +245,7 @@ fn fill_map(map: &mut IndexMap<u8, u8>) -> Result<(), Fail> {
     Ok(())
 }
 
-// The unused bytes that a map with that room shows, and those that its capacity leaves.
+/// The unused bytes that a map with that room shows, and those that its capacity leaves.
 fn room_of_a_map(alloc: Global) -> Result<(usize, Option<usize>), Fail> {
     let mut three: IndexMap<u8, u8> = IndexMap::new(alloc);
     fill_map(&mut three)?;
@@ -280,7 +280,7 @@ fn an_index_set_shows_its_values(rt: HostRuntime) -> Result<(), Fail> {
     )
 }
 
-// Puts three values into a set, and makes room for a hundred more.
+/// Puts three values into a set, and makes room for a hundred more.
 fn fill_set(set: &mut IndexSet<u8>) -> Result<(), Fail> {
     for value in [1u8, 2, 3] {
         set.insert(value)?;
@@ -289,7 +289,7 @@ fn fill_set(set: &mut IndexSet<u8>) -> Result<(), Fail> {
     Ok(())
 }
 
-// The unused bytes that a set with that room shows, and those that its capacity leaves.
+/// The unused bytes that a set with that room shows, and those that its capacity leaves.
 fn room_of_a_set(alloc: Global) -> Result<(usize, usize), Fail> {
     let mut three: IndexSet<u8> = IndexSet::new(alloc);
     fill_set(&mut three)?;

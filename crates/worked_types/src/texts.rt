@@ -19,7 +19,7 @@ pub(crate) fn text_of(alloc: Global, root: &dyn Allocative) -> Result<String, Fa
     Ok(output.flamegraph().write()?)
 }
 
-// The text of one visit without the lines whose last key is `unused_capacity`.
+/// The text of one visit without the lines whose last key is `unused_capacity`.
 fn exact_text(alloc: Global, root: &dyn Allocative) -> Result<String, Fail> {
     let text = text_of(alloc, root)?;
     let mut exact = String::new(alloc);

@@ -1,4 +1,4 @@
--- The iterator gives the items.
+-- The iterator yields the items.
 use Rattle.std.proofs.Common.{◌∙◌}
 use Rattle.std.proofs.lemmas.Iterator.{YieldsList-from_slice}
 use Rattle.allocative.specs.Shows.{slice_shows}

@@ -1,4 +1,4 @@
--- The iterator gives the entries.
+-- The iterator yields the entries.
 use Rattle.std.proofs.Common.{codes, Some, refl}
 use Rattle.std.proofs.lemmas.Iterator.Consumers.{YieldsList-from_rest}
 use Rattle.allocative.specs.Shows.{each_shows, Field, Nothing}

@@ -1,4 +1,4 @@
--- The iterator gives the keys.
+-- The iterator yields the keys.
 use Rattle.std.proofs.Common.{◌∙◌, codes, Some, refl}
 use Rattle.std.proofs.lemmas.Iterator.{YieldsList-from_slice}
 use Rattle.allocative.specs.Shows.{each_shows, Field, Nothing}
