@@ -3,7 +3,7 @@ use allocative::{FlameGraphBuilder, FlameGraphOutput, Identity, Key, Refusal, Vi
 use std::alloc::Global;
 use std::process::Abort;
 
-// Once an entry was refused, the builder returns that error from every call.
+/// Once an entry was refused, the builder returns that error from every call.
 fn has_failed(rt: &impl Abort, mut builder: FlameGraphBuilder, refusal: Refusal) -> Refusal {
     assert_eq!(rt; refusal, Refusal::Memory);
     assert!(rt; matches!(builder.root_visitor(), Err(Refusal::Memory)));
@@ -11,8 +11,8 @@ fn has_failed(rt: &impl Abort, mut builder: FlameGraphBuilder, refusal: Refusal)
     refusal
 }
 
-// Asserts the text and the warnings of a finished builder. After an error the builder is gone, and an output
-// that was made is unchanged.
+/// Asserts the text and the warnings of a finished builder. After an error the builder is gone, and an output
+/// that was made is unchanged.
 fn ends_with(
     rt: &impl Abort,
     builder: FlameGraphBuilder,
@@ -34,7 +34,7 @@ fn ends_with(
     Ok(())
 }
 
-// Asserts the text and the warnings of an output.
+/// Asserts the text and the warnings of an output.
 fn told(
     rt: &impl Abort,
     output: &FlameGraphOutput,
@@ -56,7 +56,7 @@ fn new_builder(rt: &impl Abort, alloc: Global) -> Result<FlameGraphBuilder, Refu
     }
 }
 
-// Enters `T 8 {unique ptr 8 {u8 3}}`. After an error the next entry returns that error again.
+/// Enters `T 8 {unique ptr 8 {u8 3}}`. After an error the next entry returns that error again.
 fn unique_pointer(rt: &impl Abort, root: &mut Visitor<'_>) -> Result<(), Refusal> {
     let mut outer = root.enter(Key::new("T"), 8)?;
     let mut pointer = outer.enter_unique(Key::new("ptr"), 8)?;
@@ -79,7 +79,7 @@ fn entries_are_refused(rt: HostRuntime) -> Result<(), Refusal> {
     ends_with(&rt, builder, "T;ptr 8\nT;ptr;u8 3\n", "")
 }
 
-// Enters `Struct 10 {a 3, shared p 6 #1 {Shared 13}}`.
+/// Enters `Struct 10 {a 3, shared p 6 #1 {Shared 13}}`.
 fn shared_pointer(root: &mut Visitor<'_>) -> Result<(), Refusal> {
     let mut outer = root.enter(Key::new("Struct"), 10)?;
     outer.visit_simple(Key::new("a"), 3)?;
@@ -108,7 +108,7 @@ fn shared_entries_are_refused(rt: HostRuntime) -> Result<(), Refusal> {
     )
 }
 
-// Enters children of one node in falling order, and then once more in mixed order.
+/// Enters children of one node in falling order, and then once more in mixed order.
 fn out_of_order(root: &mut Visitor<'_>) -> Result<(), Refusal> {
     for key in [
         "j", "i", "h", "g", "f", "e", "d", "c", "b", "a", "d", "g", "j", "c", "f", "i", "b", "e",
@@ -153,7 +153,7 @@ fn warnings_are_refused(rt: HostRuntime) -> Result<(), Refusal> {
     )
 }
 
-// Enters `a 10 {b 13}`.
+/// Enters `a 10 {b 13}`.
 fn short_entry(root: &mut Visitor<'_>) -> Result<(), Refusal> {
     let mut outer = root.enter(Key::new("a"), 10)?;
     outer.visit_simple(Key::new("b"), 13)

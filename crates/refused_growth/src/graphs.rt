@@ -2,7 +2,7 @@
 use allocative::{Child, FlameGraph, Key, Refusal};
 use std::alloc::Global;
 
-// A graph with two children of these sizes.
+/// A graph with two children of these sizes.
 fn pair(
     alloc: Global,
     first: (&'static str, usize),
@@ -59,7 +59,7 @@ fn adding_a_child_is_refused(rt: HostRuntime) -> Result<(), Refusal> {
     Ok(())
 }
 
-// Four children out of order, two of them with the same key.
+/// Four children out of order, two of them with the same key.
 fn many(alloc: Global) -> Result<Vec<Child>, Refusal> {
     let mut children = Vec::new(alloc);
     for (key, size) in [("c", 4), ("b", 3), ("a", 1), ("c", 8)] {
@@ -73,8 +73,8 @@ fn many(alloc: Global) -> Result<Vec<Child>, Refusal> {
     Ok(children)
 }
 
-// The graphs in which each path has its old size or that of the sum, from the old graph to the sum, with
-// their totals.
+/// The graphs in which each path has its old size or that of the sum, from the old graph to the sum, with
+/// their totals.
 const PARTS_OF_MANY: [(&str, usize); 8] = [
     ("b 2\nd 16\n", 18),
     ("a 1\nb 2\nd 16\n", 19),

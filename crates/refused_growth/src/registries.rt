@@ -39,14 +39,15 @@ fn registering_is_refused(rt: HostRuntime) -> Result<(), Fail> {
     Ok(())
 }
 
-// Shows `TestGlobalRoot 4 {x 4 {u32 4}}`.
+/// Shows `TestGlobalRoot 4 {x 4 {u32 4}}`.
 #[derive(Drop)]
 struct TestGlobalRoot {
     x: u32,
 }
 
 impl Allocative for TestGlobalRoot {
-    ghost may_show = { λ _. shows.Inside (codes "TestGlobalRoot") 4 (shows.Field (codes "x") (Some 4) (shows.Field (codes "u32") (Some 4) shows.Nothing)) };
+    ghost may_show = { λ _. shows.Inside (codes "TestGlobalRoot") 4
+        (shows.Field (codes "x") (Some 4) (shows.Field (codes "u32") (Some 4) shows.Nothing)) };
 
     fn visit(&self, visitor: &mut Visitor<'_>) -> Result<(), Refusal> {
         let x = Field("x", &self.x);
