@@ -1,10 +1,10 @@
-// What a value's visits give, by both collectors.
+//! The profile of a value by both collectors.
 use allocative::{Allocative, FlameGraphBuilder, size_of_unique_allocated_data};
 use std::alloc::Global;
 use std::process::Abort;
 use std::test::Fail;
 
-// The text of a value's flame graph with its total, its warnings, and the bytes that the value holds on the heap.
+/// The text of a value's flame graph with its total, its warnings, and the bytes that the value holds on the heap.
 #[derive(Drop)]
 pub struct Profile {
     pub text: &'static str,
@@ -14,7 +14,7 @@ pub struct Profile {
 }
 
 impl Profile {
-    // One without warnings, of a value that holds nothing on the heap.
+    /// A profile without warnings, of a value that holds nothing on the heap.
     pub fn new(text: &'static str, total: usize) -> Profile {
         Profile {
             text,
@@ -24,7 +24,7 @@ impl Profile {
         }
     }
 
-    // One without warnings, of a value that holds so many bytes on the heap.
+    /// A profile without warnings, of a value that holds `held` bytes on the heap.
     pub fn holding(text: &'static str, total: usize, held: usize) -> Profile {
         Profile {
             text,
@@ -35,7 +35,7 @@ impl Profile {
     }
 }
 
-// Asserts that the value's visits give this profile.
+/// Asserts that visiting the value gives this profile.
 pub fn expect(
     rt: &impl Abort,
     alloc: Global,

@@ -1,4 +1,4 @@
-// The profiles of values whose implementations `bin/implement` wrote.
+//! Profiles of values whose implementations `bin/implement` wrote.
 use crate::placed::{Letter, Pair, Parcel, Post};
 use crate::profiles::{Profile, expect};
 use crate::types::{
