@@ -1,5 +1,5 @@
-// Preloaded into a built test or program: the Nth growth of memory that it asks for, counted from 1 by FAIL_ALLOC, is
-// refused. Where that growth was asked for, the file named by FAIL_ALLOC_MET is made.
+// Preloaded into a built test or program. It refuses the growth of memory whose number, counted from 1, is FAIL_ALLOC.
+// Where the program asks for that growth, the file named by FAIL_ALLOC_MET is made.
 typedef unsigned long size_t;
 extern void *__libc_malloc(size_t);
 extern void *__libc_realloc(void *, size_t);
