@@ -138,7 +138,7 @@ impl<K: Eq + Hash + Drop, V: Allocative + Described> BoundedCache<K, V> {
         self.keep(key, value, measured, went)
     }
 
-    /// Inserts the value under the key, or returns the error of the measurement.
+    /// Inserts the value under the key, given the result of measuring it.
     fn keep<F: FnMut(K, V)>(
         &mut self,
         key: K,

@@ -124,7 +124,7 @@ impl Ledger {
     /// the bytes of all entries of the tenant.
     ///
     /// The errors are those of `admit`, except that it returns `NotThere` where the number has no entry, and never
-    /// `Taken`. After an error all accounts are unchanged, and the entry has the bytes that the value declared before.
+    /// `Taken`. After an error all accounts are unchanged, so an entry keeps the bytes that its value declared before.
     pub fn measure_again<'a, T: Allocative + Described>(
         &mut self,
         tenant: &'a str,
