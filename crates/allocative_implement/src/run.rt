@@ -82,7 +82,8 @@ fn make_text<R: Read>(
     implement(alloc, &place, form, text, names)
 }
 
-/// Writes the notes. It returns the status of a run whose text has all types that were asked for, or leaves some out.
+/// Writes the notes. It returns 0 where the text has all types that were asked for, and otherwise the status of
+/// `Fault::LeftOut`.
 fn tell_notes<E: Write>(errors: &mut E, written: &Written) -> u8
     ensures { result ≡ (if written.now.is_whole then 0 else status_of Fault.LeftOut) }
 {

@@ -106,7 +106,7 @@ pub fn is_shown(tokens: &[Token<'_>], item: &Item<'_>, param: &Param<'_>) -> boo
 }
 
 /// Whether the goal of a variant with these fields may stay open. That has been seen for some variants of three or more
-/// fields where a field after the first needs a drop, and of two or more where a field after the first has a type of
+/// fields where a field after the first needs a drop, and for one variant of two fields where the second has a type of
 /// the source.
 pub fn may_stay_open(scene: Scene<'_, '_>, fields: &[ShownField<'_>]) -> bool {
     for (number, field) in fields.iter().enumerate() {
