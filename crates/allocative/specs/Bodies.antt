@@ -21,7 +21,8 @@ bytes_shown k size n = Field k (size_product size (Some n)) Nothing
 -- of the bytes of the room that is left.
 abbrev pub vec_body : {T : Type 0} → Key → Option ℕ → Bool → (T → Showing) → List T → ℕ → Showing
 vec_body name size needs_drop p xs n =
-    Field (codes "capacity") (size_product size (Some n)) (Both (slice_shows name size needs_drop p xs) (bytes_shown (codes "unused_capacity") size (n - length xs)))
+    Field (codes "capacity") (size_product size (Some n))
+    (Both (slice_shows name size needs_drop p xs) (bytes_shown (codes "unused_capacity") size (n - length xs)))
 
 -- A buffer on the heap, where p is what its items show: a unique entry of a pointer's bytes, with the items and an
 -- entry of the bytes of the unused places inside it.
@@ -40,8 +41,11 @@ abbrev pub buffer_shows : Option ℕ → Showing → ℕ → Showing
 buffer_shows size p n = IsBuffer p n size
 
 -- The slice of a list that was cut in two anywhere: the slice of the front followed by that of the back.
-pub data IsCut {T : Type 0} (name : Key) (size : Option ℕ) (needs_drop : Bool) (p : T → Showing) (xs : List T) : Forest → Type 0 where
-  is_cut : {f : Forest} (front back : List T) → front ++ back ≡ xs → Both (slice_shows name size needs_drop p front) (slice_shows name size needs_drop p back) f → IsCut name size needs_drop p xs f
+pub data IsCut {T : Type 0} (name : Key) (size : Option ℕ) (needs_drop : Bool) (p : T → Showing) (xs : List T) : Forest
+    → Type 0 where
+  is_cut : {f : Forest} (front back : List T) → front ++ back ≡ xs
+      → Both (slice_shows name size needs_drop p front) (slice_shows name size needs_drop p back) f
+      → IsCut name size needs_drop p xs f
 
 -- The showing of a list that was cut in two anywhere.
 abbrev pub cut_shows : {T : Type 0} → Key → Option ℕ → Bool → (T → Showing) → List T → Showing
@@ -50,7 +54,10 @@ cut_shows name size needs_drop p xs = IsCut name size needs_drop p xs
 -- The buffer of a text of n bytes, with room for any number of bytes more.
 abbrev pub text_shows : ℕ → Showing
 text_shows n f =
-    (unused : ℕ) × InsideUnique (codes "ptr") 8 (Inside (codes "capacity") (n + unused) (Both (Inside (codes "u8") n Nothing) (Inside (codes "unused_capacity") unused Nothing))) f
+    (unused : ℕ)
+    × InsideUnique (codes "ptr") 8
+    (Inside (codes "capacity") (n + unused)
+    (Both (Inside (codes "u8") n Nothing) (Inside (codes "unused_capacity") unused Nothing))) f
 
 -- A field `data` for each item.
 abbrev pub data_shows : {T : Type 0} → Option ℕ → (T → Showing) → List T → Showing
@@ -66,4 +73,6 @@ slice_of name size p xs = Field name (size_product size (Some (length xs))) (dat
 abbrev pub table_shows : ℕ → Showing
 table_shows n f =
     ((n ≡ 0) × Nothing f)
-    ⊎ ((0 < n) × ((bytes : Option ℕ) × IsRawTableSize (Some 8) n bytes × InsideUnique (codes "raw_table") 8 (Field (codes "alloc") bytes Nothing) f))
+    ⊎ ((0 < n)
+    × ((bytes : Option ℕ) × IsRawTableSize (Some 8) n bytes
+    × InsideUnique (codes "raw_table") 8 (Field (codes "alloc") bytes Nothing) f))

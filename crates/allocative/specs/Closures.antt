@@ -16,27 +16,35 @@ abbrev pub after_told : Result (Unit {0}) Refusal → State → State
 after_told (Ok u) s = s
 after_told (Err e) s = failed_with e s
 
--- What is answered of a collector of held bytes: their sum where it has not failed and no visitor is out, else the first cause, or Open.
+-- What is answered of a collector of held bytes: their sum where it has not failed and no visitor is out, else the
+-- first cause, or Open.
 abbrev pub AnswersSum : State → Result ℕ Refusal → Type 0
 AnswersSum s (Ok n) = Settles s (Ok tt) × IsSum s n
 AnswersSum s (Err e) = Settles s (Err e)
 
-module _ {F : Type 0} (g : Once F (MutBor Visitor × Unit {0}) (Result (Unit {0}) Refusal × (MutBor Visitor × Unit {0}))) (f : F) where
+module _ {F : Type 0}
+    (g : Once F (MutBor Visitor × Unit {0}) (Result (Unit {0}) Refusal × (MutBor Visitor × Unit {0}))) (f : F) where
   -- A call returns the visitor with the collector that it was given, and at its place.
   abbrev pub KeepsVisitor : Type 0
-  KeepsVisitor = (x y : Visitor) (r : Result (Unit {0}) Refusal) → FnOnceReturnsAtMut g f x r y → (y.collector.ghost_name ≡ x.collector.ghost_name) × (y.outer_is_unique ≡ x.outer_is_unique)
+  KeepsVisitor = (x y : Visitor) (r : Result (Unit {0}) Refusal) → FnOnceReturnsAtMut g f x r y
+      → (y.collector.ghost_name ≡ x.collector.ghost_name) × (y.outer_is_unique ≡ x.outer_is_unique)
 
   -- Each call shows what p allows.
   abbrev pub CallShows : Showing → Type 0
-  CallShows p = (x y : Visitor) (r : Result (Unit {0}) Refusal) → FnOnceReturnsAtMut g f x r y → Shows p x.collector.now r y.collector.now
+  CallShows p = (x y : Visitor) (r : Result (Unit {0}) Refusal) → FnOnceReturnsAtMut g f x r y
+      → Shows p x.collector.now r y.collector.now
 
   -- The closure's entry is refused as entering says. Or the closure is called at the entry's visitor and returns Ok,
   -- and the visitor is left. Or the closure returns Err with a cause, the collector fails with that cause unless it had
   -- failed before, and the visitor is left.
   pub data CallsInside (k : Key) (n : ℕ) (s : State) (t : State) : Result (Unit {0}) Refusal → Type 0 where
     not_called : {e : Refusal} → Enters false k n s (Err e) t → CallsInside k n s t (Err e)
-    called : {o : Bool} {w : State} {u : Unit} (x y : Visitor) → Enters false k n s (Ok o) w → x.collector.now ≡ w → FnOnceReturnsAtMut g f x (Ok tt) y → Leaves y.outer_is_unique y.collector.now t → y.outer_is_unique ≡ o → CallsInside k n s t (Ok u)
-    refused_inside : {o q : Bool} {w : State} {e : Refusal} (x y : Visitor) (z : State) (cause : Refusal) → Enters false k n s (Ok o) w → x.collector.now ≡ w → FnOnceReturnsAtMut g f x (Err cause) y → z ≡ failed_with cause y.collector.now → Leaves q z t → CallsInside k n s t (Err e)
+    called : {o : Bool} {w : State} {u : Unit} (x y : Visitor) → Enters false k n s (Ok o) w → x.collector.now ≡ w
+        → FnOnceReturnsAtMut g f x (Ok tt) y → Leaves y.outer_is_unique y.collector.now t → y.outer_is_unique ≡ o
+        → CallsInside k n s t (Ok u)
+    refused_inside : {o q : Bool} {w : State} {e : Refusal} (x y : Visitor) (z : State) (cause : Refusal)
+        → Enters false k n s (Ok o) w → x.collector.now ≡ w → FnOnceReturnsAtMut g f x (Err cause) y
+        → z ≡ failed_with cause y.collector.now → Leaves q z t → CallsInside k n s t (Err e)
 
   -- The visitor stays where it was, the closure was called inside an entry as `CallsInside` says, and an Err is the
   -- collector's first cause.
@@ -46,7 +54,8 @@ module _ {F : Type 0} (g : Once F (MutBor Visitor × Unit {0}) (Result (Unit {0}
     pub calls : CallsInside k n old.collector.now new.collector.now r
     pub cause : IfErr r (HasFailed new.collector.now)
 
-  -- The closure was called at the visitor, which stands where it stood; the closure's own refusal is the first cause where nothing had failed.
+  -- The closure was called at the visitor, which stands where it stood; the closure's own refusal is the first cause
+  -- where nothing had failed.
   pub record CalledAt (old new : Visitor) : Type 0 where
     pub told : Result (Unit {0}) Refusal
     pub after : Visitor
@@ -55,7 +64,8 @@ module _ {F : Type 0} (g : Once F (MutBor Visitor × Unit {0}) (Result (Unit {0}
     pub same_outer : new.outer_is_unique ≡ old.outer_is_unique
     pub now : new.collector.now ≡ after_told told after.collector.now
 
-  -- The closure was called at a root visitor of a collector that holds nothing, and the visitor was left; the answer is what is answered of the collector then.
+  -- The closure was called at a root visitor of a collector that holds nothing, and the visitor was left; the answer
+  -- is what is answered of the collector then.
   pub record CalledAtRoot (answer : Result ℕ Refusal) : Type 0 where
     pub before : Visitor
     pub after : Visitor

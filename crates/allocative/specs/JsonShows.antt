@@ -25,8 +25,10 @@ abbrev mutual
   data_inside (boolean b) = Nothing
   data_inside (number n) = Inside (codes "Number") 16 number_shows
   data_inside (string s) = Inside (codes "String") 24 (string_shows s)
-  data_inside (array ds) = Inside (codes "Array") 24 (Field (codes "Vec") (Some 24) (buffer_shows (Some 32) (items_show ds) (items_count ds)))
-  data_inside (object ms) = Inside (codes "Object") 24 (Inside (codes "Map") 24 (InsideUnique (codes "data") 8 (members_show ms)))
+  data_inside (array ds) = Inside (codes "Array") 24
+      (Field (codes "Vec") (Some 24) (buffer_shows (Some 32) (items_show ds) (items_count ds)))
+  data_inside (object ms) =
+      Inside (codes "Object") 24 (Inside (codes "Map") 24 (InsideUnique (codes "data") 8 (members_show ms)))
 
   -- What the items of an array show, in order.
   pub items_show : Items → Showing
@@ -37,12 +39,14 @@ abbrev mutual
   pub members_show : Members → Showing
   members_show no_members = Nothing
   members_show (member k d ms) = Both
-      (Both (Field (codes "key") (Some 24) (string_shows k)) (Field (codes "value") (Some 32) (Inside (codes "Value") 32 (data_inside d))))
+      (Both (Field (codes "key") (Some 24) (string_shows k))
+      (Field (codes "value") (Some 32) (Inside (codes "Value") 32 (data_inside d))))
       (members_show ms)
 
 -- What one member shows: a field for the text of its key, and one for its value of 32 bytes, which shows what p allows.
 abbrev pub member_shows : {V : Type 0} → (V → Showing) → String Global × V → Showing
-member_shows p m = Both (Field (codes "key") (Some 24) (string_shows (string_bytes m.0))) (Field (codes "value") (Some 32) (p m.1))
+member_shows p m =
+    Both (Field (codes "key") (Some 24) (string_shows (string_bytes m.0))) (Field (codes "value") (Some 32) (p m.1))
 
 -- What a value shows.
 abbrev pub value_shows : Data → Showing

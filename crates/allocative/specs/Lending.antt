@@ -13,23 +13,28 @@ use Rattle.allocative.specs.contracts.collector.Collector as collector
 
 -- The collector ends as the visitor leaves it or, where the entry was refused, as entering says.
 abbrev pub LendsEntered : Bool → Key → ℕ → MutBor State → Result Visitor Refusal → Fml
-LendsEntered is_unique k n s r = RestsIfErr collector.the_row s (λ v. v.collector.ghost_name) r (λ t. IfErr r (λ e. Enters is_unique k n s.now (Err e) t))
+LendsEntered is_unique k n s r = RestsIfErr collector.the_row s (λ v. v.collector.ghost_name) r
+    (λ t. IfErr r (λ e. Enters is_unique k n s.now (Err e) t))
 
 -- The collector ends as the visitor at an entry of a declared size leaves it or, where the entry was refused, as
 -- entering says.
 abbrev pub LendsSized : Key → Option ℕ → MutBor State → Result Visitor Refusal → Fml
-LendsSized k size s r = RestsIfErr collector.the_row s (λ v. v.collector.ghost_name) r (λ t. IfErr r (λ e. EntersSized k size s.now (Err e) t))
+LendsSized k size s r = RestsIfErr collector.the_row s (λ v. v.collector.ghost_name) r
+    (λ t. IfErr r (λ e. EntersSized k size s.now (Err e) t))
 
 -- The collector ends as the visitor at the content of a shared value leaves it or, where no visitor is returned, as
 -- entering says.
 abbrev pub LendsPointed : Key → ℕ → Identity → MutBor State → Result Visitor (Option Refusal) → Fml
-LendsPointed k n i s r = RestsIfErr collector.the_row s (λ v. v.collector.ghost_name) r (λ t. IfErr r (λ o. EntersShared k n i s.now (told o) t))
+LendsPointed k n i s r = RestsIfErr collector.the_row s (λ v. v.collector.ghost_name) r
+    (λ t. IfErr r (λ o. EntersShared k n i s.now (told o) t))
 
 -- The collector ends as the root visitor leaves it or, where no visitor is returned, as beginning says.
 abbrev pub LendsBegun : MutBor State → Result Visitor Refusal → Fml
-LendsBegun s r = RestsIfErr collector.the_row s (λ v. v.collector.ghost_name) r (λ t. IfErr r (λ e. Begins s.now (Err e) t))
+LendsBegun s r =
+    RestsIfErr collector.the_row s (λ v. v.collector.ghost_name) r (λ t. IfErr r (λ e. Begins s.now (Err e) t))
 
 -- The collector, seen as that of a flame graph, ends as the root visitor leaves it or, where no visitor is returned, as
 -- beginning says.
 abbrev pub LendsBegunGraph : MutBor State → Result Visitor Refusal → Fml
-LendsBegunGraph s r = RestsIfErr collector.the_row s (λ v. v.collector.ghost_name) r (λ t. IfErr r (λ e. Begins (as_graph s.now) (Err e) (as_graph t)))
+LendsBegunGraph s r = RestsIfErr collector.the_row s (λ v. v.collector.ghost_name) r
+    (λ t. IfErr r (λ e. Begins (as_graph s.now) (Err e) (as_graph t)))

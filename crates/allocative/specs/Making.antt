@@ -30,14 +30,17 @@ pub data Makes : Plan → State → Result Unit Refusal → State → Type 0 whe
   had_failed : {p : Plan} {r : Refusal} → Makes p (Failed r) (Err r) (Failed r)
   made_none : {b : Kind} {u : Unit} → Makes Done (Going b) (Ok u) (Going b)
   made : {k : Key} {size : Option ℕ} {inside after : Plan} {s t c d z : State} {o : Bool} {v : Unit} {r : Result Unit Refusal} → EntersSized k size s (Ok o) t → Makes inside t (Ok v) c → Leaves o c d → Makes after d r z → Makes (Entry k size inside after) s r z
-  entry_refused : {k : Key} {size : Option ℕ} {inside after : Plan} {s t : State} {e : Refusal} → EntersSized k size s (Err e) t → Makes (Entry k size inside after) s (Err e) t
-  inside_refused : {k : Key} {size : Option ℕ} {inside after : Plan} {s t c : State} {o : Bool} {e : Refusal} → EntersSized k size s (Ok o) t → Makes inside t (Err e) c → Makes (Entry k size inside after) s (Err e) c
+  entry_refused : {k : Key} {size : Option ℕ} {inside after : Plan} {s t : State} {e : Refusal}
+      → EntersSized k size s (Err e) t → Makes (Entry k size inside after) s (Err e) t
+  inside_refused : {k : Key} {size : Option ℕ} {inside after : Plan} {s t c : State} {o : Bool} {e : Refusal}
+      → EntersSized k size s (Ok o) t → Makes inside t (Err e) c → Makes (Entry k size inside after) s (Err e) c
 
 -- What a call that makes an entry of its own first does: the entry is refused as entering says, and nothing else is
 -- entered; or it is entered, and anything may follow.
 pub data EntersFirst (k : Key) (size : Option ℕ) (s : State) : Result Unit Refusal → State → Type 0 where
   first_refused : {e : Refusal} {t : State} → EntersSized k size s (Err e) t → EntersFirst k size s (Err e) t
-  first_entered : {o : Bool} {w t : State} {r : Result Unit Refusal} → EntersSized k size s (Ok o) w → EntersFirst k size s r t
+  first_entered : {o : Bool} {w t : State} {r : Result Unit Refusal} → EntersSized k size s (Ok o) w
+      → EntersFirst k size s r t
 
 -- A failed collector returns its first cause and stays as it is. Nothing is said of one that has not failed.
 pub data KeepsCause : State → Result Unit Refusal → State → Type 0 where
@@ -50,27 +53,34 @@ VisitsNone needs_drop size xs = are_shown_each needs_drop size ≡ true → leng
 
 -- The entries of a slice of which no item is visited.
 abbrev pub slice_plan : {T : Type 0} → Key → Option ℕ → Bool → List T → Plan
-slice_plan name size needs_drop xs = elim (are_shown_each needs_drop size) [ true ↦ Done | false ↦ one name (size_product size (Some (length xs))) ]
+slice_plan name size needs_drop xs =
+    elim (are_shown_each needs_drop size) [ true ↦ Done | false ↦ one name (size_product size (Some (length xs))) ]
 
 -- The entries of a slice of which no item is visited, followed by that of the room that is left of n places.
 abbrev pub room_plan : {T : Type 0} → Key → Option ℕ → Bool → List T → ℕ → Plan
 room_plan name size needs_drop xs n =
-    followed_by_plan (slice_plan name size needs_drop xs) (one (codes "unused_capacity") (size_product size (Some (n - length xs))))
+    followed_by_plan (slice_plan name size needs_drop xs)
+    (one (codes "unused_capacity") (size_product size (Some (n - length xs))))
 
 -- The entries of the body of a vector with room for n items, where no item of its slice is visited.
 abbrev pub vec_plan : {T : Type 0} → Key → Option ℕ → Bool → List T → ℕ → Plan
-vec_plan name size needs_drop xs n = Entry (codes "capacity") (size_product size (Some n)) (room_plan name size needs_drop xs n) Done
+vec_plan name size needs_drop xs n =
+    Entry (codes "capacity") (size_product size (Some n)) (room_plan name size needs_drop xs n) Done
 
 -- What a call over an iterator does: it makes the entries of a plan, or the iterator, at s, may give an item.
-pub data MakesOrGives {S A : Type 0} (steps : S → Option A → S → Type 0) (s : S) (p : Plan) (a : State) (r : Result Unit Refusal) (b : State) : Type 0 where
+pub data MakesOrGives {S A : Type 0} (steps : S → Option A → S → Type 0) (s : S) (p : Plan) (a : State)
+    (r : Result Unit Refusal) (b : State) : Type 0 where
   makes : Makes p a r b → MakesOrGives steps s p a r b
   gives : (x : A) (t : S) → steps s (Some x) t → MakesOrGives steps s p a r b
 
 -- What `visit_iter` does where it visits no item. Items that are not shown one by one are counted, and one entry of
 -- their bytes is made. Otherwise the iterator gives none, and no entry is made.
-pub data MakesRun {S A : Type 0} (steps : S → Option A → S → Type 0) (s : S) (name : Key) (size : Option ℕ) : Bool → State → Result Unit Refusal → State → Type 0 where
-  counted : {a b : State} {r : Result Unit Refusal} (count : Option ℕ) → CountsRun steps s count → Makes (one name (size_product size count)) a r b → MakesRun steps s name size false a r b
-  in_turn : {a b : State} {r : Result Unit Refusal} → MakesOrGives steps s Done a r b → MakesRun steps s name size true a r b
+pub data MakesRun {S A : Type 0} (steps : S → Option A → S → Type 0) (s : S) (name : Key) (size : Option ℕ) : Bool
+    → State → Result Unit Refusal → State → Type 0 where
+  counted : {a b : State} {r : Result Unit Refusal} (count : Option ℕ) → CountsRun steps s count
+      → Makes (one name (size_product size count)) a r b → MakesRun steps s name size false a r b
+  in_turn : {a b : State} {r : Result Unit Refusal} → MakesOrGives steps s Done a r b
+      → MakesRun steps s name size true a r b
 
 -- ---- of visitors
 -- What making the entries of a plan at a visitor does to its collector.
@@ -87,9 +97,12 @@ Keeps old new r = KeepsCause old.collector.now r new.collector.now
 
 -- What a call at a visitor over an iterator does to its collector: it makes the entries of a plan, or the iterator, at
 -- s, may give an item.
-abbrev pub MakesPlanOrGives : {S A : Type 0} → (S → Option A → S → Type 0) → S → Plan → Visitor → Visitor → Result Unit Refusal → Type 0
+abbrev pub MakesPlanOrGives : {S A : Type 0} → (S → Option A → S → Type 0) → S → Plan → Visitor → Visitor
+    → Result Unit Refusal → Type 0
 MakesPlanOrGives steps s p old new r = MakesOrGives steps s p old.collector.now r new.collector.now
 
 -- What `visit_iter` at a visitor does to its collector where it visits no item.
-abbrev pub MakesPlanRun : {S A : Type 0} → (S → Option A → S → Type 0) → S → Key → Option ℕ → Bool → Visitor → Visitor → Result Unit Refusal → Type 0
-MakesPlanRun steps s name size is_each old new r = MakesRun steps s name size is_each old.collector.now r new.collector.now
+abbrev pub MakesPlanRun : {S A : Type 0} → (S → Option A → S → Type 0) → S → Key → Option ℕ → Bool → Visitor → Visitor
+    → Result Unit Refusal → Type 0
+MakesPlanRun steps s name size is_each old new r =
+    MakesRun steps s name size is_each old.collector.now r new.collector.now

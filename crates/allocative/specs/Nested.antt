@@ -18,23 +18,30 @@ with_state v s = record v { collector = record v.collector { now = s } }
 
 -- The visitor ends with the last state of its collector.
 abbrev pub LendsCollector : MutBor Visitor → MutBor State → Fml
-LendsCollector s r = Lends (visitor.the_row (record { mir = named 1; lft = [] })) collector.the_row s r (with_state s.now)
+LendsCollector s r =
+    Lends (visitor.the_row (record { mir = named 1; lft = [] })) collector.the_row s r (with_state s.now)
 
 -- The visitor ends with what the nested visitor leaves of the collector or, where the entry was refused, with what
 -- entering says. Nothing else of it changes.
 abbrev pub LendsNested : Bool → Key → ℕ → MutBor Visitor → Result Visitor Refusal → Fml
 LendsNested is_unique k n s r =
-    follows_so (visitor.the_row (record { mir = named 1; lft = [] })) collector.the_row s.ghost_name (name_if_ok (λ v. v.collector.ghost_name) r)
+    follows_so (visitor.the_row (record { mir = named 1; lft = [] })) collector.the_row s.ghost_name
+    (name_if_ok (λ v. v.collector.ghost_name) r)
     (λ w v. OnOk r (v ≡ with_state s.now w))
-    (λ v. IfErr r (λ e. Enters is_unique k n s.now.collector.now (Err e) v.collector.now × (v ≡ with_state s.now v.collector.now)))
+    (λ v. IfErr r
+    (λ e. Enters is_unique k n s.now.collector.now (Err e) v.collector.now
+    × (v ≡ with_state s.now v.collector.now)))
 
 -- The visitor ends with what the nested visitor leaves of the collector or, where the entry of a declared size was
 -- refused, with what entering says. Nothing else of it changes.
 abbrev pub LendsNestedSized : Key → Option ℕ → MutBor Visitor → Result Visitor Refusal → Fml
 LendsNestedSized k size s r =
-    follows_so (visitor.the_row (record { mir = named 1; lft = [] })) collector.the_row s.ghost_name (name_if_ok (λ v. v.collector.ghost_name) r)
+    follows_so (visitor.the_row (record { mir = named 1; lft = [] })) collector.the_row s.ghost_name
+    (name_if_ok (λ v. v.collector.ghost_name) r)
     (λ w v. OnOk r (v ≡ with_state s.now w))
-    (λ v. IfErr r (λ e. EntersSized k size s.now.collector.now (Err e) v.collector.now × (v ≡ with_state s.now v.collector.now)))
+    (λ v. IfErr r
+    (λ e. EntersSized k size s.now.collector.now (Err e) v.collector.now
+    × (v ≡ with_state s.now v.collector.now)))
 
 -- The nested visitor v is at the entry that was entered at s.
 abbrev pub Nests : Bool → Key → ℕ → Visitor → Visitor → Type 0
@@ -75,11 +82,14 @@ EndsWith s (Err e) w v = ⊤
 -- Where no visitor is returned, v is s with what entering says.
 abbrev pub EndsWithout : Key → ℕ → Identity → Visitor → Result (Option Visitor) Refusal → Visitor → Type 0
 EndsWithout k n i s (Ok (Some x)) v = ⊤
-EndsWithout k n i s (Ok None) v = EntersShared k n i s.collector.now (Ok false) v.collector.now × (v ≡ with_state s v.collector.now)
-EndsWithout k n i s (Err e) v = EntersShared k n i s.collector.now (Err e) v.collector.now × (v ≡ with_state s v.collector.now)
+EndsWithout k n i s (Ok None) v = EntersShared k n i s.collector.now (Ok false) v.collector.now
+    × (v ≡ with_state s v.collector.now)
+EndsWithout k n i s (Err e) v = EntersShared k n i s.collector.now (Err e) v.collector.now
+    × (v ≡ with_state s v.collector.now)
 
 -- The visitor ends with what the visitor at a shared value's content leaves of the collector or, where none is
 -- returned, with what entering says. Nothing else of it changes.
 abbrev pub LendsShared : Key → ℕ → Identity → MutBor Visitor → Result (Option Visitor) Refusal → Fml
 LendsShared k n i s r =
-    follows_so (visitor.the_row (record { mir = named 1; lft = [] })) collector.the_row s.ghost_name (name_in r) (EndsWith s.now r) (EndsWithout k n i s.now r)
+    follows_so (visitor.the_row (record { mir = named 1; lft = [] })) collector.the_row s.ghost_name (name_in r)
+    (EndsWith s.now r) (EndsWithout k n i s.now r)

@@ -28,7 +28,8 @@ once_inside p = IsOnce p
 -- for each item, inside a pointer where the items are in an allocation.
 pub data IsSmallVec {T : Type 0} (n : ℕ) (size : Option ℕ) (p : T → Showing) (v : SmallVec T) : Forest → Type 0 where
   lies_inline : {f : Forest} → ¬ IsSpilled n v → data_shows size p v.items f → IsSmallVec n size p v f
-  is_spilled : {f : Forest} → IsSpilled n v → InsideUnique (codes "ptr") 8 (data_shows size p v.items) f → IsSmallVec n size p v f
+  is_spilled : {f : Forest} → IsSpilled n v → InsideUnique (codes "ptr") 8 (data_shows size p v.items) f
+      → IsSmallVec n size p v f
 
 -- The showing of the inside of a small vector.
 abbrev pub small_vec_inside : {T : Type 0} → ℕ → Option ℕ → (T → Showing) → SmallVec T → Showing
@@ -42,16 +43,21 @@ slab_inside name size needs_drop p s = buffer_shows size (slice_shows name size 
 -- The data of a container in insertion order: what p shows, and some number of unused places for items of a declared
 -- size.
 pub data IsIndexData (size : Option ℕ) (p : Showing) : Forest → Type 0 where
-  with_unused : (unused : ℕ) {f : Forest} → InsideUnique (codes "data") 8 (Both p (bytes_shown (codes "unused_capacity") size unused)) f → IsIndexData size p f
+  with_unused : (unused : ℕ) {f : Forest}
+      → InsideUnique (codes "data") 8 (Both p (bytes_shown (codes "unused_capacity") size unused)) f
+      → IsIndexData size p f
 
 -- The showing of the data of a container in insertion order.
 abbrev pub index_data_shows : Option ℕ → Showing → Showing
 index_data_shows size p = IsIndexData size p
 
 -- What is inside the own entry of an `IndexMap` with keys, values and pairs of declared sizes.
-abbrev pub index_map_inside : {K V : Type 0} → Option ℕ → (K → Showing) → Option ℕ → (V → Showing) → Option ℕ → List (K × V) → Showing
-index_map_inside s p t q pair es = Both (index_data_shows pair (each_shows (pair_shows s p t q) es)) (table_shows (length es))
+abbrev pub index_map_inside : {K V : Type 0} → Option ℕ → (K → Showing) → Option ℕ → (V → Showing) → Option ℕ
+    → List (K × V) → Showing
+index_map_inside s p t q pair es =
+    Both (index_data_shows pair (each_shows (pair_shows s p t q) es)) (table_shows (length es))
 
 -- What is inside the own entry of an `IndexSet` with values of a declared size.
 abbrev pub index_set_inside : {T : Type 0} → Option ℕ → (T → Showing) → List T → Showing
-index_set_inside s p xs = Both (index_data_shows s (each_shows (field_of (codes "value") s p) xs)) (table_shows (length xs))
+index_set_inside s p xs =
+    Both (index_data_shows s (each_shows (field_of (codes "value") s p) xs)) (table_shows (length xs))

@@ -9,7 +9,8 @@ use Rattle.allocative_graph.specs.Shows.{Showing, Both, Field, slice_shows}
 
 -- A forest that q allows for the items of some whole run of an iterator that starts at s; v is what a contract sees of
 -- an item.
-pub record IsOfRun {S A B : Type 0} (steps : S → Option A → S → Type 0) (s : S) (v : A → B) (q : List B → Showing) (f : Forest) : Type 0 where
+pub record IsOfRun {S A B : Type 0} (steps : S → Option A → S → Type 0) (s : S) (v : A → B) (q : List B → Showing)
+    (f : Forest) : Type 0 where
   pub given : List A
   pub drained : Drains steps s given
   pub shown : q (map v given) f
@@ -20,7 +21,8 @@ field_of name size p x = Field name size (p x)
 
 -- The fields `key` and `value` of a pair.
 abbrev pub pair_shows : {K V : Type 0} → Option ℕ → (K → Showing) → Option ℕ → (V → Showing) → K × V → Showing
-pair_shows key_size p value_size q e = Both (Field (codes "key") key_size (p e.0)) (Field (codes "value") value_size (q e.1))
+pair_shows key_size p value_size q e =
+    Both (Field (codes "key") key_size (p e.0)) (Field (codes "value") value_size (q e.1))
 
 -- The number of items of some whole run, or None where it does not fit a word.
 abbrev pub CountsRun : {S A : Type 0} → (S → Option A → S → Type 0) → S → Option ℕ → Type 0

@@ -15,7 +15,8 @@ use Rattle.allocative.specs.declared.visitor.Visitor.{Visitor}
 abbrev pub AnswersShared : Key → ℕ → Identity → State → Result Bool Refusal → Type 0
 AnswersShared k n i (Failed r) result = result ≡ Err r
 AnswersShared k n i (Going (OfHeld h)) result = result ≡ Ok false
-AnswersShared k n i (Going (OfGraph c)) (Ok is_first) = (entered c.sums + n < 2 ^ 63) × (contains c.met i ≡ not is_first)
+AnswersShared k n i (Going (OfGraph c)) (Ok is_first) = (entered c.sums + n < 2 ^ 63)
+    × (contains c.met i ≡ not is_first)
 AnswersShared k n i (Going (OfGraph c)) (Err e) = Refuses false n (OfGraph c) e
 
 -- The result where no visitor is returned: nothing is shown, or an error.

@@ -6,4 +6,5 @@ use Rattle.allocative_graph.specs.Shows.{Showing}
 
 -- The bytes of a value: those that it holds, by some forest that p allows, and those of its own declared size.
 abbrev pub IsSizeOfUnique : Option ℕ → Showing → ℕ → Type 0
-IsSizeOfUnique size p bytes = (own : ℕ) × (size ≡ Some own) × (f : Forest) × p f × ShowsNoContent f × (bytes ≡ held f + own)
+IsSizeOfUnique size p bytes = (own : ℕ) × (size ≡ Some own) × (f : Forest) × p f × ShowsNoContent f
+    × (bytes ≡ held f + own)

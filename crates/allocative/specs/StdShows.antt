@@ -26,4 +26,5 @@ in_any_order {T} p xs f = (ys : List T) × IsPermutation xs ys × each_shows p y
 -- A pointer to a shared value of a declared size and alignment. Its content is an entry of the counts and the value, or
 -- it has no content.
 abbrev pub shared_inside : Key → Identity → Option ℕ → ℕ → Showing → Showing
-shared_inside inner_name id size align p = SharedWith (codes "ptr") 8 id (Field inner_name (shared_inner_size size align) p)
+shared_inside inner_name id size align p =
+    SharedWith (codes "ptr") 8 id (Field inner_name (shared_inner_size size align) p)

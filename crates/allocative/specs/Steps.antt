@@ -18,7 +18,8 @@ StepsIn u k n (Going b) (Err e) t = Refuses u n b e × (t ≡ Failed e)
 abbrev pub StepsInShared : Key → ℕ → Identity → State → Result Bool Refusal → State → Type 0
 StepsInShared k n i (Failed r) result t = (result ≡ Err r) × (t ≡ Failed r)
 StepsInShared k n i (Going (OfHeld h)) result t = (result ≡ Ok false) × (t ≡ Going (OfHeld h))
-StepsInShared k n i (Going (OfGraph c)) (Ok new) t = (entered c.sums + n < 2 ^ 63) × (d : Live) × MeetsAs k n i c new d × (t ≡ Going (OfGraph d))
+StepsInShared k n i (Going (OfGraph c)) (Ok new) t = (entered c.sums + n < 2 ^ 63) × (d : Live) × MeetsAs k n i c new d
+    × (t ≡ Going (OfGraph d))
 StepsInShared k n i (Going (OfGraph c)) (Err e) t = Refuses false n (OfGraph c) e × (t ≡ Failed e)
 
 -- n is the sum of a collector of held bytes in the state s. Nothing is said of other states.

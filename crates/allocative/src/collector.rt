@@ -50,7 +50,9 @@ impl Kind {
     // One more entry, and a visitor at it. It returns the flag that `close_entry` restores.
     #[inline(always)]
     fn enter(&mut self, key: &Key, size: usize, is_unique: bool) -> Result<bool, Refusal>
-        ensures ok { IfOk result (λ outer. HasRoom is_unique size (kind_of self.old) × (outer ≡ is_in_unique (kind_of self.old)) × (kind_of self.new ≡ enter is_unique key.now size (kind_of self.old))) }
+        ensures ok { IfOk result
+            (λ outer. HasRoom is_unique size (kind_of self.old) × (outer ≡ is_in_unique (kind_of self.old))
+            × (kind_of self.new ≡ enter is_unique key.now size (kind_of self.old))) }
         ensures err { IfErr result (Refuses is_unique size (kind_of self.old)) }
     {
         match self {

@@ -90,7 +90,8 @@ impl Visitor<'_> {
     /// A collector that has failed returns its first cause. The errors of each entry are those of `enter`; the
     /// object's own errors come after them.
     pub fn visit_boxed_object(&mut self, object: &dyn Allocative) -> Result<(), Refusal>
-        ensures entered { Entered (Inside (codes "Box") 8 (InsideUnique (codes "ptr") 8 (may_show object.now))) self.old self.new result }
+        ensures entered { Entered
+            (Inside (codes "Box") 8 (InsideUnique (codes "ptr") 8 (may_show object.now))) self.old self.new result }
         ensures first { MakesFirst (codes "Box") (Some 8) self.old self.new result }
     {
         let outer = self.collector.open_entry(Key::new("Box"), 8)?;

@@ -70,9 +70,12 @@ impl Visitor<'_> {
     ) -> Result<(), Refusal>
         requires can { I.can_next items }
         requires ends { IsFinite (I.remaining items) }
-        ensures entered { Entered (IsOfRun I.next_gives items deref (slice_shows T.name T.size T.needs_drop T.may_show)) self.old self.new result }
+        ensures entered { Entered
+            (IsOfRun I.next_gives items deref
+            (slice_shows T.name T.size T.needs_drop T.may_show)) self.old self.new result }
         ensures kept { Keeps self.old self.new result }
-        ensures exact { MakesPlanRun I.next_gives items T.name T.size (are_shown_each T.needs_drop T.size) self.old self.new result }
+        ensures exact { MakesPlanRun I.next_gives items T.name T.size
+            (are_shown_each T.needs_drop T.size) self.old self.new result }
     {
         if are_shown_each::<T>() {
             return self.visit_items(items);
@@ -88,7 +91,8 @@ impl Visitor<'_> {
     ) -> Result<(), Refusal>
         requires can { I.can_next entries }
         requires ends { IsFinite (I.remaining entries) }
-        ensures { Entered (IsOfRun I.next_gives entries deref_entry (each_shows (value_shows T.may_show))) self.old self.new result }
+        ensures { Entered
+            (IsOfRun I.next_gives entries deref_entry (each_shows (value_shows T.may_show))) self.old self.new result }
     {
         for (_key, value) in entries {
             value.enter(self)?;
@@ -104,7 +108,9 @@ impl Visitor<'_> {
     >(&mut self, entries: I) -> Result<(), Refusal>
         requires can { I.can_next entries }
         requires ends { IsFinite (I.remaining entries) }
-        ensures { Entered (IsOfRun I.next_gives entries deref_entry (values_slice T.name T.size T.needs_drop T.may_show)) self.old self.new result }
+        ensures { Entered
+            (IsOfRun I.next_gives entries deref_entry
+            (values_slice T.name T.size T.needs_drop T.may_show)) self.old self.new result }
     {
         if are_shown_each::<T>() {
             return self.visit_each_value(entries);
@@ -121,7 +127,8 @@ impl Visitor<'_> {
     >(&mut self, name: Key, items: I) -> Result<(), Refusal>
         requires can { I.can_next items }
         requires ends { IsFinite (I.remaining items) }
-        ensures entered { Entered (IsOfRun I.next_gives items deref (each_shows (field_of name T.size T.may_show))) self.old self.new result }
+        ensures entered { Entered
+            (IsOfRun I.next_gives items deref (each_shows (field_of name T.size T.may_show))) self.old self.new result }
         ensures exact { MakesPlanOrGives I.next_gives items Done self.old self.new result }
     {
         self.collector.go_on()?;
@@ -138,7 +145,9 @@ impl Visitor<'_> {
     ) -> Result<(), Refusal>
         requires can { I.can_next keys }
         requires ends { IsFinite (I.remaining keys) }
-        ensures entered { Entered (IsOfRun I.next_gives keys deref (each_shows (field_of (codes "key") K.size K.may_show))) self.old self.new result }
+        ensures entered { Entered
+            (IsOfRun I.next_gives keys deref
+            (each_shows (field_of (codes "key") K.size K.may_show))) self.old self.new result }
         ensures exact { MakesPlanOrGives I.next_gives keys Done self.old self.new result }
     {
         self.visit_fields(Key::new("key"), keys)
@@ -150,7 +159,8 @@ impl Visitor<'_> {
         key: &K,
         value: &V,
     ) -> Result<(), Refusal>
-        ensures { Entered (pair_shows K.size K.may_show V.size V.may_show (key.now, value.now)) self.old self.new result }
+        ensures { Entered
+            (pair_shows K.size K.may_show V.size V.may_show (key.now, value.now)) self.old self.new result }
     {
         self.visit_field(Key::new("key"), key)?;
         self.visit_field(Key::new("value"), value)
@@ -165,7 +175,9 @@ impl Visitor<'_> {
     >(&mut self, pairs: I) -> Result<(), Refusal>
         requires can { I.can_next pairs }
         requires ends { IsFinite (I.remaining pairs) }
-        ensures entered { Entered (IsOfRun I.next_gives pairs deref_pair (each_shows (pair_shows K.size K.may_show V.size V.may_show))) self.old self.new result }
+        ensures entered { Entered
+            (IsOfRun I.next_gives pairs deref_pair
+            (each_shows (pair_shows K.size K.may_show V.size V.may_show))) self.old self.new result }
         ensures exact { MakesPlanOrGives I.next_gives pairs Done self.old self.new result }
     {
         self.collector.go_on()?;
@@ -189,7 +201,10 @@ impl Visitor<'_> {
     >(&mut self, entries: I) -> Result<(), Refusal>
         requires can { I.can_next entries }
         requires ends { IsFinite (I.remaining entries) }
-        ensures entered { Entered (Inside (codes "data") 8 (IsOfRun I.next_gives entries deref_pair (each_shows (pair_shows K.size K.may_show V.size V.may_show)))) self.old self.new result }
+        ensures entered { Entered
+            (Inside (codes "data") 8
+            (IsOfRun I.next_gives entries deref_pair
+            (each_shows (pair_shows K.size K.may_show V.size V.may_show)))) self.old self.new result }
         ensures first { MakesFirst (codes "data") (Some 8) self.old self.new result }
         ensures exact { MakesPlanOrGives I.next_gives entries (one (codes "data") (Some 8)) self.old self.new result }
     {
@@ -208,7 +223,10 @@ impl Visitor<'_> {
     >(&mut self, entries: I) -> Result<(), Refusal>
         requires can { I.can_next entries }
         requires ends { IsFinite (I.remaining entries) }
-        ensures entered { Entered (Inside (codes "data") 8 (IsOfRun I.next_gives entries deref (each_shows (field_of (codes "key") K.size K.may_show)))) self.old self.new result }
+        ensures entered { Entered
+            (Inside (codes "data") 8
+            (IsOfRun I.next_gives entries deref
+            (each_shows (field_of (codes "key") K.size K.may_show)))) self.old self.new result }
         ensures first { MakesFirst (codes "data") (Some 8) self.old self.new result }
         ensures exact { MakesPlanOrGives I.next_gives entries (one (codes "data") (Some 8)) self.old self.new result }
     {

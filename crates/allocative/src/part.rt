@@ -259,7 +259,8 @@ impl<P: Part, Q: Part, R: Part> Part for (P, Q, R) {
 }
 
 impl<P: Part, Q: Part, R: Part, S: Part> Part for (P, Q, R, S) {
-    ghost may_show = { λ e. shows.Both (P.may_show e.0) (shows.Both (Q.may_show e.1) (shows.Both (R.may_show e.2) (S.may_show e.3))) };
+    ghost may_show = { λ e. shows.Both (P.may_show e.0)
+        (shows.Both (Q.may_show e.1) (shows.Both (R.may_show e.2) (S.may_show e.3))) };
 
     #[inline(always)]
     fn enter(self, visitor: &mut Visitor<'_>) -> Result<(), Refusal> {
@@ -269,7 +270,8 @@ impl<P: Part, Q: Part, R: Part, S: Part> Part for (P, Q, R, S) {
 }
 
 impl<P: Part, Q: Part, R: Part, S: Part, T: Part> Part for (P, Q, R, S, T) {
-    ghost may_show = { λ e. shows.Both (P.may_show e.0) (shows.Both (Q.may_show e.1) (shows.Both (R.may_show e.2) (shows.Both (S.may_show e.3) (T.may_show e.4)))) };
+    ghost may_show = { λ e. shows.Both (P.may_show e.0)
+        (shows.Both (Q.may_show e.1) (shows.Both (R.may_show e.2) (shows.Both (S.may_show e.3) (T.may_show e.4)))) };
 
     #[inline(always)]
     fn enter(self, visitor: &mut Visitor<'_>) -> Result<(), Refusal> {

@@ -27,9 +27,10 @@ impl FlameGraphBuilder {
 
 /// Graph and warnings of one value.
 ///
-/// A struct that owns the parts of a service is profiled so, from a method of its own. The promise is that of `profile_roots`, for
-/// what the value may show. It makes no trait object, so any function may hold the value and pass it on. The graph's total is at
-/// most `isize::MAX` bytes. It is refused for want of memory, or as the value's own visit is.
+/// A struct that owns the parts of a service is profiled so, from a method of its own. The promise is that of
+/// `profile_roots`, for what the value may show. It makes no trait object, so any function may hold the value and
+/// pass it on. The graph's total is at most `isize::MAX` bytes. It is refused for want of memory, or as the value's
+/// own visit is.
 ///
 /// ```
 /// let output = profile_value(alloc, &Some(7u32))?;

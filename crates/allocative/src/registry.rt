@@ -74,7 +74,9 @@ impl FlameGraphBuilder {
 
     /// Visits the registry's roots in order, up to the first refusal, each as `visit_root` does.
     pub fn visit_global_roots(&mut self, registry: &Registry) -> Result<(), Refusal>
-        ensures { Runs (each_shows (λ b. (⟦<dyn Allocative as Allocative>⟧ b.vtable).may_show b.value) (roots_of registry.now)) self.old result self.new }
+        ensures { Runs
+            (each_shows (λ b. (⟦<dyn Allocative as Allocative>⟧ b.vtable).may_show b.value)
+            (roots_of registry.now)) self.old result self.new }
     {
         self.visit_boxes(registry.roots())
     }
@@ -98,12 +100,14 @@ impl FlameGraphBuilder {
 
 /// Graph and warnings of the registry's roots.
 ///
-/// The graph has exactly the paths of the roots' own entries and, once for each identity reached, of the first content shown
-/// for it; each path has its declared bytes less those declared one step below, never below zero, or all where it was ever
-/// unique. The warnings have a line for each path but the root that was never unique and has fewer bytes than stand one key
-/// below. It is refused for want of memory, or as a root's own visit is.
+/// The graph has exactly the paths of the roots' own entries and, once for each identity reached, of the first
+/// content shown for it; each path has its declared bytes less those declared one step below, never below zero, or
+/// all where it was ever unique. The warnings have a line for each path but the root that was never unique and has
+/// fewer bytes than stand one key below. It is refused for want of memory, or as a root's own visit is.
 pub fn profile_roots(registry: &Registry) -> Result<FlameGraphOutput, Refusal>
-    ensures profile { IfOk result (IsProfileOf (each_shows (λ b. (⟦<dyn Allocative as Allocative>⟧ b.vtable).may_show b.value) (roots_of registry.now))) }
+    ensures profile { IfOk result
+        (IsProfileOf
+        (each_shows (λ b. (⟦<dyn Allocative as Allocative>⟧ b.vtable).may_show b.value) (roots_of registry.now))) }
 {
     let mut builder = FlameGraphBuilder::new(*registry.roots.allocator())?;
     builder.visit_global_roots(registry)?;

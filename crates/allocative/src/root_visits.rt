@@ -9,7 +9,8 @@ use crate::part::Part;
 use allocative_graph::refusal::Refusal;
 
 impl Collector {
-    /// Visits an object by a root visitor. What the visit returns is not looked at: the collector keeps the first cause.
+    /// Visits an object by a root visitor. What the visit returns is not looked at: the collector keeps the first
+    /// cause.
     pub(crate) fn visit_object(&mut self, root: &dyn Allocative) -> Result<(), Refusal>
         ensures { Runs (may_show root.now) self.old result self.new }
     {

@@ -30,8 +30,8 @@ impl Visitor<'_> {
 /// nothing below a shared entry.
 ///
 /// It takes no memory. It is refused with TooLarge where the sum or a declared size does not fit, with Open where a
-/// visitor was forgotten, and else with the first cause of the visit. The entries of std's maps and sets are declared inline, so
-/// of them only what the keys and values hold counts.
+/// visitor was forgotten, and else with the first cause of the visit. The entries of std's maps and sets are declared
+/// inline, so of them only what the keys and values hold counts.
 pub fn size_of_unique_allocated_data(root: &dyn Allocative) -> Result<usize, Refusal>
     ensures held { IfOk result (λ s. (f : Forest) × may_show root.now f × ShowsNoContent f × (s ≡ held f)) }
 {
@@ -62,10 +62,10 @@ pub fn size_of_unique<T: Allocative + Described>(root: &T) -> Result<usize, Refu
 
 /// The bytes that the closure's entries hold on the heap, as `size_of_unique_allocated_data` counts those of a value.
 ///
-/// The closure enters what it likes at a root visitor, as the parts of a value that one asks for, and hands the visitor back at
-/// the place where it got it. It takes no memory. It is refused with TooLarge where the sum or a declared size does not fit, and
-/// else with the first cause, which is the closure's refusal where nothing was refused before; with Open where a visitor was
-/// forgotten.
+/// The closure enters what it likes at a root visitor, as the parts of a value that one asks for, and hands the
+/// visitor back at the place where it got it. It takes no memory. It is refused with TooLarge where the sum or a
+/// declared size does not fit, and else with the first cause, which is the closure's refusal where nothing was
+/// refused before; with Open where a visitor was forgotten.
 ///
 /// ```
 /// let number: Box<u32> = Box::new(alloc, 7)?;

@@ -61,7 +61,8 @@ impl Visitor<'_> {
     /// `None`.
     pub(crate) fn visit_unused<T: Described>(&mut self, count: usize) -> Result<(), Refusal>
         ensures entered { Entered (bytes_shown (codes "unused_capacity") T.size count) self.old self.new result }
-        ensures exact { MakesPlan (one (codes "unused_capacity") (size_product T.size (Some count))) self.old self.new result }
+        ensures exact { MakesPlan
+            (one (codes "unused_capacity") (size_product T.size (Some count))) self.old self.new result }
     {
         self.visit_counted::<T>(Key::new("unused_capacity"), Some(count))
     }
@@ -85,9 +86,11 @@ impl Visitor<'_> {
     /// A collector that has failed returns its first cause. The entry is `TooLarge` where the item has no size
     /// or the bytes do not fit; its other errors are those of `enter`.
     pub fn visit_slice<T: Allocative + Described>(&mut self, items: &[T]) -> Result<(), Refusal>
-        ensures entered { Entered (slice_shows T.name T.size T.needs_drop T.may_show items.now) self.old self.new result }
+        ensures entered { Entered
+            (slice_shows T.name T.size T.needs_drop T.may_show items.now) self.old self.new result }
         ensures kept { Keeps self.old self.new result }
-        ensures exact { VisitsNone T.needs_drop T.size items.now → MakesPlan (slice_plan T.name T.size T.needs_drop items.now) self.old self.new result }
+        ensures exact { VisitsNone T.needs_drop T.size items.now
+            → MakesPlan (slice_plan T.name T.size T.needs_drop items.now) self.old self.new result }
     {
         if are_shown_each::<T>() {
             return self.visit_each(items);
@@ -118,7 +121,8 @@ impl Visitor<'_> {
     pub fn visit_slice_of<T: Allocative + Described>(&mut self, items: &[T]) -> Result<(), Refusal>
         ensures entered { Entered (slice_of T.name T.size T.may_show items.now) self.old self.new result }
         ensures first { MakesFirst T.name (size_product T.size (Some (length items.now))) self.old self.new result }
-        ensures exact { length items.now ≡ 0 → MakesPlan (one T.name (size_product T.size (Some 0))) self.old self.new result }
+        ensures exact { length items.now ≡ 0
+            → MakesPlan (one T.name (size_product T.size (Some 0))) self.old self.new result }
     {
         let bytes = bytes_of::<T>(Some(items.len()));
         let outer = self.collector.open_sized(Key::for_type_name::<T>(), bytes)?;
@@ -134,8 +138,11 @@ impl Visitor<'_> {
         capacity: usize,
     ) -> Result<(), Refusal>
         requires { length items.now ≤ capacity }
-        ensures entered { Entered (Both (slice_shows T.name T.size T.needs_drop T.may_show items.now) (bytes_shown (codes "unused_capacity") T.size (capacity - length items.now))) self.old self.new result }
-        ensures exact { VisitsNone T.needs_drop T.size items.now → MakesPlan (room_plan T.name T.size T.needs_drop items.now capacity) self.old self.new result }
+        ensures entered { Entered
+            (Both (slice_shows T.name T.size T.needs_drop T.may_show items.now)
+            (bytes_shown (codes "unused_capacity") T.size (capacity - length items.now))) self.old self.new result }
+        ensures exact { VisitsNone T.needs_drop T.size items.now
+            → MakesPlan (room_plan T.name T.size T.needs_drop items.now capacity) self.old self.new result }
     {
         self.visit_slice(items)?;
         self.visit_unused::<T>(capacity - items.len())
@@ -153,9 +160,11 @@ impl Visitor<'_> {
         capacity: usize,
     ) -> Result<(), Refusal>
         requires { length items.now ≤ capacity }
-        ensures entered { Entered (vec_body T.name T.size T.needs_drop T.may_show items.now capacity) self.old self.new result }
+        ensures entered { Entered
+            (vec_body T.name T.size T.needs_drop T.may_show items.now capacity) self.old self.new result }
         ensures first { MakesFirst (codes "capacity") (size_product T.size (Some capacity)) self.old self.new result }
-        ensures exact { VisitsNone T.needs_drop T.size items.now → MakesPlan (vec_plan T.name T.size T.needs_drop items.now capacity) self.old self.new result }
+        ensures exact { VisitsNone T.needs_drop T.size items.now
+            → MakesPlan (vec_plan T.name T.size T.needs_drop items.now capacity) self.old self.new result }
     {
         let bytes = bytes_of::<T>(Some(capacity));
         let outer = self.collector.open_sized(Key::new("capacity"), bytes)?;

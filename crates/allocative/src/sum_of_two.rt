@@ -12,13 +12,14 @@ use allocative_graph::flamegraph::FlameGraph;
 use allocative_graph::refusal::Refusal;
 use std::alloc::Global;
 
-/// The sum of the graphs of two collections: the left items are collected in a builder of their own, then the right ones,
-/// and the graphs are added.
+/// The sum of the graphs of two collections: the left items are collected in a builder of their own, then the right
+/// ones, and the graphs are added.
 ///
-/// Where no identity is reached by both, and each path that both have is unique in both or, unique in neither, has at least
-/// the bytes below it in both or at most those in both, the sum is the graph of one collection of all items. A refusal of the
-/// left collection comes before one of the right, and both before one of the adding, which is for want of memory alone. Each
-/// item is visited by a root visitor and its own `visit`, and no trait object is made. Warnings are not given.
+/// Where no identity is reached by both, and each path that both have is unique in both or, unique in neither, has at
+/// least the bytes below it in both or at most those in both, the sum is the graph of one collection of all items. A
+/// refusal of the left collection comes before one of the right, and both before one of the adding, which is for want
+/// of memory alone. Each item is visited by a root visitor and its own `visit`, and no trait object is made. Warnings
+/// are not given.
 ///
 /// ```
 /// let graph = profile_in_two::<u8>(alloc, &[1, 2], &[3])?;

@@ -25,4 +25,5 @@ pub record IsRawTableSize (item : Option ℕ) (len : ℕ) (bytes : Option ℕ) :
 
 -- The size of an item and a length determine the size of the raw table.
 abbrev pub RawTableLaw : Type 0
-RawTableLaw = (item : Option ℕ) (len : ℕ) (a b : Option ℕ) → IsRawTableSize item len a → IsRawTableSize item len b → a ≡ b
+RawTableLaw = (item : Option ℕ) (len : ℕ) (a b : Option ℕ) → IsRawTableSize item len a → IsRawTableSize item len b
+    → a ≡ b

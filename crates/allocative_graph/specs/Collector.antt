@@ -86,7 +86,11 @@ held_bytes is_in_unique is_unique n = cond is_in_unique (cond is_unique 0 n) 0
 
 -- One more entry, and a visitor at it.
 abbrev pub enter_holding : Bool → ℕ → Holding → Holding
-enter_holding is_unique n h = record { sum = h.sum + held_bytes h.is_in_unique is_unique n; open_visitors = suc h.open_visitors; is_in_unique = is_unique }
+enter_holding is_unique n h = record {
+  sum = h.sum + held_bytes h.is_in_unique is_unique n;
+  open_visitors = suc h.open_visitors;
+  is_in_unique = is_unique;
+}
 
 -- One visitor less; `outer` says whether the visitor outside it is that of a unique entry.
 abbrev pub leave_holding : Bool → Holding → Holding

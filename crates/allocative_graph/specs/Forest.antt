@@ -44,9 +44,12 @@ Bag = List Entry
 -- The entries of f with the path p before theirs, without the contents of shared entries.
 abbrev pub own_behind : Path → Forest → Bag
 own_behind p Empty = []
-own_behind p (Inline k n inside after) = record { path = p ++ k ∷ []; size = n; mark = AsInline } ∷ (own_behind (p ++ k ∷ []) inside ++ own_behind p after)
-own_behind p (Unique k n inside after) = record { path = p ++ k ∷ []; size = n; mark = AsUnique } ∷ (own_behind (p ++ k ∷ []) inside ++ own_behind p after)
-own_behind p (First k n i inside after) = record { path = p ++ k ∷ []; size = n; mark = AsShared i } ∷ own_behind p after
+own_behind p (Inline k n inside after) =
+    record { path = p ++ k ∷ []; size = n; mark = AsInline } ∷ (own_behind (p ++ k ∷ []) inside ++ own_behind p after)
+own_behind p (Unique k n inside after) =
+    record { path = p ++ k ∷ []; size = n; mark = AsUnique } ∷ (own_behind (p ++ k ∷ []) inside ++ own_behind p after)
+own_behind p (First k n i inside after) =
+    record { path = p ++ k ∷ []; size = n; mark = AsShared i } ∷ own_behind p after
 own_behind p (Again k n i after) = record { path = p ++ k ∷ []; size = n; mark = AsShared i } ∷ own_behind p after
 
 -- The own entries of f, with paths from its top.
@@ -88,5 +91,6 @@ abbrev pub Fits : Identities → Forest → Type 0
 Fits s Empty = ⊤
 Fits s (Inline k n inside after) = Fits s inside × Fits (met_after s inside) after
 Fits s (Unique k n inside after) = Fits s inside × Fits (met_after s inside) after
-Fits s (First k n i inside after) = (contains s i ≡ false) × Fits (insert s i) inside × Fits (met_after (insert s i) inside) after
+Fits s (First k n i inside after) = (contains s i ≡ false) × Fits (insert s i) inside
+    × Fits (met_after (insert s i) inside) after
 Fits s (Again k n i after) = (contains s i ≡ true) × Fits s after

@@ -83,7 +83,9 @@ graph s = from_entries (sizes s)
 -- one key below it in both, or at most those one key below it in both.
 abbrev pub CanBeAdded : Sums → Sums → Type 0
 CanBeAdded s t = (p : Path) (m n : Node) → get s p ≡ Some m → get t p ≡ Some n
-    → (m.is_unique ≡ n.is_unique) × (m.is_unique ≡ false → (below s p ≤ m.bytes) × (below t p ≤ n.bytes) ⊎ (m.bytes ≤ below s p) × (n.bytes ≤ below t p))
+    → (m.is_unique ≡ n.is_unique)
+    × (m.is_unique ≡ false
+    → (below s p ≤ m.bytes) × (below t p ≤ n.bytes) ⊎ (m.bytes ≤ below s p) × (n.bytes ≤ below t p))
 
 -- ---- texts
 -- Whether a path is that of the root.
@@ -111,12 +113,14 @@ text g = text_of_entries (entries g)
 
 -- The warning of a path, with its own bytes and those one key below it.
 abbrev pub warning_line : Path → ℕ → ℕ → List ℕ
-warning_line p bytes under = codes "Incorrect size declaration for node `" ++ joined p ++ codes "`, size of self: " ++ decimal bytes ++ codes ", size of inline children: " ++ decimal under ++ 10 ∷ []
+warning_line p bytes under = codes "Incorrect size declaration for node `" ++ joined p ++ codes "`, size of self: "
+    ++ decimal bytes ++ codes ", size of inline children: " ++ decimal under ++ 10 ∷ []
 
 -- The warning of a path of the sums: there is one where the path is not the root, was never unique and has fewer bytes
 -- than one key below it.
 abbrev pub warning : Sums → Path × Node → List ℕ
-warning s e = cond (not (is_root e.0) && not e.1.is_unique && nat_lt e.1.bytes (below s e.0)) (warning_line e.0 e.1.bytes (below s e.0)) []
+warning s e = cond (not (is_root e.0) && not e.1.is_unique && nat_lt e.1.bytes (below s e.0))
+    (warning_line e.0 e.1.bytes (below s e.0)) []
 
 -- All warnings, in the order of paths.
 abbrev pub warnings : Sums → List ℕ
@@ -130,7 +134,8 @@ pub record Warned : Type 0 where
 
 -- A path of the sums with both numbers where it has a warning, otherwise nothing.
 abbrev pub warned : Sums → Path × Node → List Warned
-warned s e = cond (not (is_root e.0) && not e.1.is_unique && nat_lt e.1.bytes (below s e.0)) (record { path = e.0; self_size = e.1.bytes; children_size = below s e.0 } ∷ []) []
+warned s e = cond (not (is_root e.0) && not e.1.is_unique && nat_lt e.1.bytes (below s e.0))
+    (record { path = e.0; self_size = e.1.bytes; children_size = below s e.0 } ∷ []) []
 
 -- The paths that have a warning, in the order of paths.
 abbrev pub warned_paths : Sums → List Warned

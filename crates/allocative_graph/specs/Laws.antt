@@ -39,13 +39,15 @@ MeaningLaw = (f : Forest) → IsWhole f → ReachesExactly f × IsMeaning (own f
 -- graph of the showing that has both.
 abbrev pub MergeLaw : Type 0
 MergeLaw = (f g : Forest) → IsWhole f → IsWhole g → ReachApart f g → CanBeAdded (sums_of (all f)) (sums_of (all g))
-    → IsWhole (followed_by f g) × (sum_of (graph (sums_of (all f))) (graph (sums_of (all g))) ≡ graph (sums_of (all (followed_by f g))))
+    → IsWhole (followed_by f g)
+    × (sum_of (graph (sums_of (all f))) (graph (sums_of (all g))) ≡ graph (sums_of (all (followed_by f g))))
 
 -- ---- of texts
 -- Where no key has a `;` or a line feed and the totals fit a word, graphs with equal texts have equal sizes at each
 -- path but the root.
 abbrev pub TextLaw : Type 0
-TextLaw = (g h : Graph) → HasPlainKeys g → HasPlainKeys h → HasWords g → HasWords h → text g ≡ text h → (k : Key) (p : Path) → size_at g (k ∷ p) ≡ size_at h (k ∷ p)
+TextLaw = (g h : Graph) → HasPlainKeys g → HasPlainKeys h → HasWords g → HasWords h → text g ≡ text h
+    → (k : Key) (p : Path) → size_at g (k ∷ p) ≡ size_at h (k ∷ p)
 
 -- Where no key has a `;` or a line feed, the lines whose last key is `unused_capacity` are those of the paths that end
 -- in it.
@@ -56,7 +58,10 @@ ExactLaw = (g : Graph) → HasPlainKeys g → exact_text g ≡ without_lines (co
 -- The sums of a bag have, at exactly the paths of its entries, the sum of the sizes there and whether one of the
 -- entries is unique. The bytes one key below a path are the sum of the sizes there.
 abbrev pub SumsLaw : Type 0
-SumsLaw = (b : Bag) (p : Path) → (get (sums_of b) p ≡ cond (is_entered_in b p) (Some (record { bytes = bytes_in b p; is_unique = is_unique_in b p })) None) × (below (sums_of b) p ≡ below_in b p)
+SumsLaw = (b : Bag) (p : Path)
+    → (get (sums_of b) p
+    ≡ cond (is_entered_in b p)
+    (Some (record { bytes = bytes_in b p; is_unique = is_unique_in b p })) None) × (below (sums_of b) p ≡ below_in b p)
 
 -- ---- of the collectors
 -- What a collector has after forests, one following another and one inside an entry.
@@ -64,7 +69,8 @@ pub record PlusLaws (c : Kind) (k : Key) (n : ℕ) (f g : Forest) : Type 0 where
   pub nothing : plus c Empty ≡ c
   pub following : plus c (followed_by f g) ≡ plus (plus c f) g
   pub following_taken : Takes c (followed_by f g) ↔ (Takes c f × Takes (plus c f) g)
-  pub inside : (is_unique : Bool) → leave (is_in_unique c) (plus (enter is_unique k n c) f) ≡ plus c (entry_of is_unique k n f)
+  pub inside : (is_unique : Bool)
+      → leave (is_in_unique c) (plus (enter is_unique k n c) f) ≡ plus c (entry_of is_unique k n f)
   pub inside_taken : (is_unique : Bool) → Takes (enter is_unique k n c) f → Takes c (entry_of is_unique k n f)
 
 -- One forest followed by another is both in one, and entering, adding f and leaving is the entry with f inside it.
@@ -74,8 +80,10 @@ PlusLaw = (c : Kind) (k : Key) (n : ℕ) (f g : Forest) → PlusLaws c k n f g
 -- What a collector has after shared entries: a content from the root, a pointer alone, and no change in the collector
 -- of held bytes.
 pub record SharedLaws (c : Live) (h : Holding) (k : Key) (n : ℕ) (i : Identity) (f : Forest) : Type 0 where
-  pub first : (outer : Bool) → leave outer (plus (OfGraph (enter_first k n i c)) f) ≡ plus (OfGraph c) (First k n i f Empty)
-  pub first_taken : contains c.met i ≡ false → Takes (OfGraph (enter_first k n i c)) f → Takes (OfGraph c) (First k n i f Empty)
+  pub first : (outer : Bool)
+      → leave outer (plus (OfGraph (enter_first k n i c)) f) ≡ plus (OfGraph c) (First k n i f Empty)
+  pub first_taken : contains c.met i ≡ false → Takes (OfGraph (enter_first k n i c)) f
+      → Takes (OfGraph c) (First k n i f Empty)
   pub again : OfGraph (enter_again k n i c) ≡ plus (OfGraph c) (Again k n i Empty)
   pub again_taken : contains c.met i ≡ true → Takes (OfGraph c) (Again k n i Empty)
   pub held : plus (OfHeld h) (Again k n i Empty) ≡ OfHeld h
@@ -111,7 +119,8 @@ GraphSumsLaw = (g h i : Graph) (k : Key) → GraphSums g h i k
 -- What the graph of some sums has. The graph of a showing has each prefix of its paths.
 pub record GraphOf (s : Sums) (f : Forest) (k : Key) (p : Path) : Type 0 where
   pub root : get (graph s) [] ≡ Some 0
-  pub paths : get (graph s) (k ∷ p) ≡ option_map (λ m. cond m.is_unique m.bytes (m.bytes - below s (k ∷ p))) (get s (k ∷ p))
+  pub paths : get (graph s) (k ∷ p)
+      ≡ option_map (λ m. cond m.is_unique m.bytes (m.bytes - below s (k ∷ p))) (get s (k ∷ p))
   pub is_tree : IsTree (graph (sums_of (all f)))
 
 -- The graph of some sums has the root with 0 and exactly the paths of the sums, each with what remains of its bytes.

@@ -36,4 +36,5 @@ is_one_below (k ∷ p) (l ∷ q) = eq_by_cmp key_cmp k l && is_one_below p q
 -- The first list is a proper prefix of the second, or the first elements that differ are in the order R.
 pub data ComesBefore {X : Type 0} (R : X → X → Ordering) (p q : List X) : Type 0 where
   longer : (k : X) (rest : List X) → q ≡ p ++ k ∷ rest → ComesBefore R p q
-  parts : (common : List X) (k l : X) (r s : List X) → p ≡ common ++ k ∷ r → q ≡ common ++ l ∷ s → R k l ≡ Less → ComesBefore R p q
+  parts : (common : List X) (k l : X) (r s : List X) → p ≡ common ++ k ∷ r → q ≡ common ++ l ∷ s → R k l ≡ Less
+      → ComesBefore R p q

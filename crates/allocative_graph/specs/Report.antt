@@ -25,7 +25,8 @@ lines_from line (b ∷ bs) = cond (b == 10) (line ∷ lines_from [] bs) (lines_f
 -- The bytes before the last c. `before` is what was read, and `best` what was read before the last c so far.
 abbrev pub before_last : ℕ → List ℕ → List ℕ → List ℕ → List ℕ
 before_last c best before [] = best
-before_last c best before (b ∷ bs) = cond (b == c) (before_last c before (before ++ b ∷ []) bs) (before_last c best (before ++ b ∷ []) bs)
+before_last c best before (b ∷ bs) =
+    cond (b == c) (before_last c before (before ++ b ∷ []) bs) (before_last c best (before ++ b ∷ []) bs)
 
 -- The bytes after the last c, or all where there is no c. `after` is what was read since the last c so far.
 abbrev pub after_last : ℕ → List ℕ → List ℕ → List ℕ

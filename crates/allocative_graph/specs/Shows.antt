@@ -54,4 +54,5 @@ is_shown_each needs_drop size = needs_drop && not (size == 0)
 -- inline entry with the item's name and all bytes. Where there is no size, there is no forest.
 abbrev pub slice_shows : {T : Type 0} → Key → Option ℕ → Bool → (T → Showing) → List T → Showing
 slice_shows name None needs_drop p xs = λ f. ⊥
-slice_shows name (Some s) needs_drop p xs = elim (is_shown_each needs_drop s) [ true ↦ each_shows p xs | false ↦ Inside name (s * length xs) Nothing ]
+slice_shows name (Some s) needs_drop p xs =
+    elim (is_shown_each needs_drop s) [ true ↦ each_shows p xs | false ↦ Inside name (s * length xs) Nothing ]

@@ -19,7 +19,8 @@ pub data Shows (p : Showing) : State → Result Unit Refusal → State → Type 
   already : {r : Refusal} {result : Result Unit Refusal} → Shows p (Failed r) result (Failed r)
   refused : {b : Kind} {e r : Refusal} → Shows p (Going b) (Err e) (Failed r)
   hidden : {b : Kind} {u : Unit} {r : Refusal} → Shows p (Going b) (Ok u) (Failed r)
-  forgotten : {b c : Kind} {u : Unit} → is_graph c ≡ is_graph b → visitors b < visitors c → Shows p (Going b) (Ok u) (Going c)
+  forgotten : {b c : Kind} {u : Unit} → is_graph c ≡ is_graph b → visitors b < visitors c
+      → Shows p (Going b) (Ok u) (Going c)
   added : {b c : Kind} {u : Unit} → (f : Forest) → p f → Takes b f → c ≡ plus b f → Shows p (Going b) (Ok u) (Going c)
 
 -- s has failed, with the first cause r.
@@ -30,13 +31,16 @@ HasFailed s r = s ≡ Failed r
 -- An entry of n bytes exceeds no bound.
 abbrev pub HasRoom : Bool → ℕ → Kind → Type 0
 HasRoom is_unique n (OfGraph c) = entered c.sums + n < 2 ^ 63
-HasRoom is_unique n (OfHeld h) = (h.sum + held_bytes h.is_in_unique is_unique n < 2 ^ 64) × (suc h.open_visitors < 2 ^ 64)
+HasRoom is_unique n (OfHeld h) = (h.sum + held_bytes h.is_in_unique is_unique n < 2 ^ 64)
+    × (suc h.open_visitors < 2 ^ 64)
 
 -- An entry of n bytes is refused with e. Either e is TooLarge and a bound would be exceeded, or e is Memory and no
 -- bound would be exceeded. Memory is refused only by the collector of a flame graph.
 abbrev pub Refuses : Bool → ℕ → Kind → Refusal → Type 0
-Refuses is_unique n (OfGraph c) e = ((e ≡ TooLarge) × (2 ^ 63 ≤ entered c.sums + n)) ⊎ ((e ≡ Memory) × (entered c.sums + n < 2 ^ 63))
-Refuses is_unique n (OfHeld h) e = (e ≡ TooLarge) × ((2 ^ 64 ≤ h.sum + held_bytes h.is_in_unique is_unique n) ⊎ (2 ^ 64 ≤ suc h.open_visitors))
+Refuses is_unique n (OfGraph c) e = ((e ≡ TooLarge) × (2 ^ 63 ≤ entered c.sums + n))
+    ⊎ ((e ≡ Memory) × (entered c.sums + n < 2 ^ 63))
+Refuses is_unique n (OfHeld h) e = (e ≡ TooLarge)
+    × ((2 ^ 64 ≤ h.sum + held_bytes h.is_in_unique is_unique n) ⊎ (2 ^ 64 ≤ suc h.open_visitors))
 
 -- What entering does. A failed collector returns its first cause. Otherwise the entry is refused exactly as `Refuses`
 -- says, and the collector has failed; or there is one more entry and a visitor at it, and the call returns the flag
@@ -44,22 +48,27 @@ Refuses is_unique n (OfHeld h) e = (e ≡ TooLarge) × ((2 ^ 64 ≤ h.sum + held
 pub data Enters (is_unique : Bool) (k : Key) (n : ℕ) : State → Result Bool Refusal → State → Type 0 where
   stays_failed : {r : Refusal} → Enters is_unique k n (Failed r) (Err r) (Failed r)
   is_refused : {b : Kind} {e : Refusal} → Refuses is_unique n b e → Enters is_unique k n (Going b) (Err e) (Failed e)
-  is_entered : {b c : Kind} {outer : Bool} → HasRoom is_unique n b → outer ≡ is_in_unique b → c ≡ enter is_unique k n b → Enters is_unique k n (Going b) (Ok outer) (Going c)
+  is_entered : {b c : Kind} {outer : Bool} → HasRoom is_unique n b → outer ≡ is_in_unique b → c ≡ enter is_unique k n b
+      → Enters is_unique k n (Going b) (Ok outer) (Going c)
 
 -- What entering an inline entry of a declared size does. Where there is no size, the call returns TooLarge.
 pub data EntersSized (k : Key) : Option ℕ → State → Result Bool Refusal → State → Type 0 where
   stays_unsized : {r : Refusal} → EntersSized k None (Failed r) (Err r) (Failed r)
   is_unsized : {b : Kind} {e : Refusal} → e ≡ TooLarge → EntersSized k None (Going b) (Err e) (Failed e)
-  is_sized : {n : ℕ} {s t : State} {result : Result Bool Refusal} → Enters false k n s result t → EntersSized k (Some n) s result t
+  is_sized : {n : ℕ} {s t : State} {result : Result Bool Refusal} → Enters false k n s result t
+      → EntersSized k (Some n) s result t
 
 -- What entering a shared entry does. The call returns whether its content is to be shown: in a flame graph's collector,
 -- exactly where the identity was not met. The collector of held bytes stays as it is.
 pub data EntersShared (k : Key) (n : ℕ) (i : Identity) : State → Result Bool Refusal → State → Type 0 where
   stays_shared : {r : Refusal} → EntersShared k n i (Failed r) (Err r) (Failed r)
-  is_refused_shared : {c : Live} {e : Refusal} → Refuses false n (OfGraph c) e → EntersShared k n i (Going (OfGraph c)) (Err e) (Failed e)
+  is_refused_shared : {c : Live} {e : Refusal} → Refuses false n (OfGraph c) e
+      → EntersShared k n i (Going (OfGraph c)) (Err e) (Failed e)
   goes_past : {h : Holding} → EntersShared k n i (Going (OfHeld h)) (Ok false) (Going (OfHeld h))
-  enters_first : {c d : Live} → entered c.sums + n < 2 ^ 63 → contains c.met i ≡ false → d ≡ enter_first k n i c → EntersShared k n i (Going (OfGraph c)) (Ok true) (Going (OfGraph d))
-  enters_again : {c d : Live} → entered c.sums + n < 2 ^ 63 → contains c.met i ≡ true → d ≡ enter_again k n i c → EntersShared k n i (Going (OfGraph c)) (Ok false) (Going (OfGraph d))
+  enters_first : {c d : Live} → entered c.sums + n < 2 ^ 63 → contains c.met i ≡ false → d ≡ enter_first k n i c
+      → EntersShared k n i (Going (OfGraph c)) (Ok true) (Going (OfGraph d))
+  enters_again : {c d : Live} → entered c.sums + n < 2 ^ 63 → contains c.met i ≡ true → d ≡ enter_again k n i c
+      → EntersShared k n i (Going (OfGraph c)) (Ok false) (Going (OfGraph d))
 
 -- What a call that makes one entry returns: Ok only where no bound is exceeded, and Err as entering does.
 abbrev pub Answers : Bool → ℕ → State → Result Unit Refusal → Type 0
@@ -151,4 +160,5 @@ pub record IsSumOfTwo (p q : Showing) (g : Graph) : Type 0 where
   pub left_whole : IsWhole left
   pub right_whole : IsWhole right
   pub is : g ≡ sum_of (graph (sums_of (all left))) (graph (sums_of (all right)))
-  pub is_one : ReachApart left right → CanBeAdded (sums_of (all left)) (sums_of (all right)) → IsWhole (followed_by left right) × (g ≡ graph (sums_of (all (followed_by left right))))
+  pub is_one : ReachApart left right → CanBeAdded (sums_of (all left)) (sums_of (all right))
+      → IsWhole (followed_by left right) × (g ≡ graph (sums_of (all (followed_by left right))))

@@ -235,7 +235,9 @@ impl FlameGraph {
     // Appends the lines of all paths but the root, each after the given start of a line.
     fn write_below(&self, start: &mut String, text: &mut String) -> Result<(), AllocError>
         ensures start { OnOk result (string_bytes start.new ≡ string_bytes start.old) }
-        ensures text { OnOk result (string_bytes text.new ≡ string_bytes text.old ++ lines_below (string_bytes start.old) (map.entries self.now)) }
+        ensures text { OnOk result
+            (string_bytes text.new
+            ≡ string_bytes text.old ++ lines_below (string_bytes start.old) (map.entries self.now)) }
     {
         let length = start.len();
         for child in &self.children {
@@ -252,7 +254,9 @@ impl FlameGraph {
 
     // Appends the root's own line after the keys of its path.
     fn write_own(&self, path: &str, text: &mut String) -> Result<(), AllocError>
-        ensures { OnOk result (string_bytes text.new ++ lines_below (path.now ++ 59 ∷ []) (map.entries self.now) ≡ string_bytes text.old ++ lines_from path.now (map.entries self.now)) }
+        ensures { OnOk result
+            (string_bytes text.new ++ lines_below (path.now ++ 59 ∷ []) (map.entries self.now)
+            ≡ string_bytes text.old ++ lines_from path.now (map.entries self.now)) }
     {
         if self.node_size != 0 {
             push_line(path, self.node_size, text)?;
@@ -430,7 +434,8 @@ fn take_next(
     requires mine { AreChildren mine.old.items }
     requires theirs { AreChildren theirs.old.items }
     requires fits { weight mine.old.items + weight theirs.old.items < 2 ^ 64 }
-    ensures next { IfSome result (λ next. IsNext (is_ok next.1) mine.old.items theirs.old.items next.0 mine.new.items theirs.new.items) }
+    ensures next { IfSome result
+        (λ next. IsNext (is_ok next.1) mine.old.items theirs.old.items next.0 mine.new.items theirs.new.items) }
     ensures end { IfNone result ((mine.old.items ≡ []) × (theirs.old.items ≡ [])) }
 {
     match fronts(mine, theirs)? {

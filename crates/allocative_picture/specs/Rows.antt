@@ -36,7 +36,14 @@ before_in rs p = sum_by (λ e. cond (is_lt (path_cmp e.0 p)) e.1 0) rs
 
 -- The row of an entry of g, where M gives the mark of each path.
 abbrev pub row_of : (Path → Mark) → Graph → Path × ℕ → Seen
-row_of M g e = record { depth = length e.0; key = shown_key e.0; own = e.1; whole = total_at g e.0; before = before_in (entries g) e.0; mark = M e.0 }
+row_of M g e = record {
+  depth = length e.0;
+  key = shown_key e.0;
+  own = e.1;
+  whole = total_at g e.0;
+  before = before_in (entries g) e.0;
+  mark = M e.0;
+}
 
 -- The rows of g: one for each path, in the order of paths.
 unfoldable pub rows_of : (Path → Mark) → Graph → List Seen
@@ -44,7 +51,14 @@ rows_of M g = map (row_of M g) (entries g)
 
 -- The row of a path with its figures, where `before` bytes come before it.
 abbrev pub row_from : (Path → Mark) → ℕ → Figures → Seen
-row_from M before f = record { depth = length f.path; key = shown_key f.path; own = f.self_size; whole = f.total_size; before = before; mark = M f.path }
+row_from M before f = record {
+  depth = length f.path;
+  key = shown_key f.path;
+  own = f.self_size;
+  whole = f.total_size;
+  before = before;
+  mark = M f.path;
+}
 
 -- Whether a path is one of those that have a warning.
 unfoldable pub is_warned : List Warned → Path → Bool

@@ -23,17 +23,20 @@ graph_code = finmap.code path_code coded_ℕ
 
 -- The code of a path that has a warning.
 abbrev pub warned_code : Coded Warned
-warned_code = code_by (Path × (ℕ × ℕ)) (coded× path_code (coded× coded_ℕ coded_ℕ)) (λ w. (w.path, (w.self_size, w.children_size)))
+warned_code =
+    code_by (Path × (ℕ × ℕ)) (coded× path_code (coded× coded_ℕ coded_ℕ)) (λ w. (w.path, (w.self_size, w.children_size)))
     (λ p. record { path = p.0; self_size = p.1.0; children_size = p.1.1 }) (λ _. refl)
 
 -- The code of a profile.
 abbrev pub profile_code : Coded Profile
-profile_code = code_by (Graph × (List ℕ × List Warned)) (coded× graph_code (coded× (coded_list coded_ℕ) (coded_list warned_code)))
+profile_code =
+    code_by (Graph × (List ℕ × List Warned)) (coded× graph_code (coded× (coded_list coded_ℕ) (coded_list warned_code)))
     (λ o. (o.graph, (o.warnings, o.warned))) (λ p. record { graph = p.0; warnings = p.1.0; warned = p.1.1 }) (λ _. refl)
 
 -- The code of what was entered at a path.
 abbrev pub node_code : Coded Node
-node_code = code_by (ℕ × Bool) (coded× coded_ℕ coded_bool) (λ n. (n.bytes, n.is_unique)) (λ p. record { bytes = p.0; is_unique = p.1 }) (λ _. refl)
+node_code = code_by (ℕ × Bool) (coded× coded_ℕ coded_bool) (λ n. (n.bytes, n.is_unique))
+    (λ p. record { bytes = p.0; is_unique = p.1 }) (λ _. refl)
 
 -- The code of sums.
 abbrev pub sums_code : Coded Sums
@@ -41,7 +44,8 @@ sums_code = finmap.code path_code node_code
 
 -- The code of an identity.
 abbrev pub identity_code : Coded Identity
-identity_code = code_by (ℕ × ℕ) (coded× coded_ℕ coded_ℕ) (λ i. (i.maker, i.number)) (λ p. record { maker = p.0; number = p.1 }) (λ _. refl)
+identity_code = code_by (ℕ × ℕ) (coded× coded_ℕ coded_ℕ) (λ i. (i.maker, i.number))
+    (λ p. record { maker = p.0; number = p.1 }) (λ _. refl)
 
 -- The code of a set of identities.
 abbrev pub identities_code : Coded Identities
@@ -53,7 +57,8 @@ place_code = coded× path_code (coded× (coded_list path_code) coded_ℕ)
 
 -- The code of a flame graph's collector.
 abbrev pub live_code : Coded Live
-live_code = code_by ((Sums × Identities) × (Path × (List Path × ℕ))) (coded× (coded× sums_code identities_code) place_code)
+live_code =
+    code_by ((Sums × Identities) × (Path × (List Path × ℕ))) (coded× (coded× sums_code identities_code) place_code)
     (λ l. ((l.sums, l.met), (l.here, (l.back, l.open_visitors))))
     (λ p. record { sums = p.0.0; met = p.0.1; here = p.1.0; back = p.1.1.0; open_visitors = p.1.1.1 }) (λ _. refl)
 

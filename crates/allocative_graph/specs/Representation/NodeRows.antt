@@ -37,7 +37,8 @@ second true b p = p
 second false b p = absurd p
 
 -- A path before the rows of two lists is before the rows of both lists joined.
-below-append : (x : Path) (a b : Rows) → T (below_all path_cmp x a) → T (below_all path_cmp x b) → T (below_all path_cmp x (a ++ b))
+below-append : (x : Path) (a b : Rows) → T (below_all path_cmp x a) → T (below_all path_cmp x b)
+    → T (below_all path_cmp x (a ++ b))
 below-append x [] b p q = q
 below-append x (e ∷ a) b p q = both _ _ (first _ _ p) (below-append x a b (second _ _ p) q)
 
@@ -49,14 +50,16 @@ root_below-under k (r ∷ rs) = root_below-under k rs
 -- The root comes before the rows of all children.
 pub root_below : (cs : List Child) → T (below_all path_cmp [] (rows_of cs))
 root_below [] = tt
-root_below (c ∷ cs) = below-append [] (rows_of_child c) (rows_of cs) (root_below-under c.key (entries c.graph)) (root_below cs)
+root_below (c ∷ cs) =
+    below-append [] (rows_of_child c) (rows_of cs) (root_below-under c.key (entries c.graph)) (root_below cs)
 
 -- Paths keep their order when one key is put before them.
 same_key : (k : Key) (p q : Path) → path_cmp (k ∷ p) (k ∷ q) ≡ path_cmp p q
 same_key k p q = ap (λ o. ordering_then o (path_cmp p q)) (tied_itself nat_list_cmp_total k)
 
 -- A path before some rows is before them when one key is put before all.
-below-under : (k : Key) (p : Path) (rs : Rows) → T (below_all path_cmp p rs) → T (below_all path_cmp (k ∷ p) (under_rows k rs))
+below-under : (k : Key) (p : Path) (rs : Rows) → T (below_all path_cmp p rs)
+    → T (below_all path_cmp (k ∷ p) (under_rows k rs))
 below-under k p [] h = tt
 below-under k p (r ∷ rs) h =
     both _ _ (subst (λ o. T (is_lt o)) (sym (same_key k p r.0)) (first _ _ h)) (below-under k p rs (second _ _ h))
@@ -67,46 +70,61 @@ sorted-under k [] h = tt
 sorted-under k (r ∷ rs) h = both _ _ (below-under k r.0 rs (first _ _ h)) (sorted-under k rs (second _ _ h))
 
 -- A path comes before those that start with a greater key.
-below-greater : (k l : Key) (p : Path) (rs : Rows) → key_cmp k l ≡ Less → T (below_all path_cmp (k ∷ p) (under_rows l rs))
+below-greater : (k l : Key) (p : Path) (rs : Rows) → key_cmp k l ≡ Less
+    → T (below_all path_cmp (k ∷ p) (under_rows l rs))
 below-greater k l p [] h = tt
 below-greater k l p (r ∷ rs) h =
     both _ _ (subst (λ o. T (is_lt (ordering_then o (path_cmp p r.0)))) (sym h) tt) (below-greater k l p rs h)
 
 -- A path comes before the rows of all children with greater keys.
-below-later : (k : Key) (p : Path) (cs : List Child) → AllByRecursion (λ l. key_cmp k l ≡ Less) (keys_of cs) → T (below_all path_cmp (k ∷ p) (rows_of cs))
+below-later : (k : Key) (p : Path) (cs : List Child) → AllByRecursion (λ l. key_cmp k l ≡ Less) (keys_of cs)
+    → T (below_all path_cmp (k ∷ p) (rows_of cs))
 below-later k p [] h = tt
 below-later k p (c ∷ cs) h =
-    below-append (k ∷ p) (rows_of_child c) (rows_of cs) (below-greater k c.key p (entries c.graph) h.0) (below-later k p cs h.1)
+    below-append (k ∷ p) (rows_of_child c) (rows_of cs) (below-greater k c.key p (entries c.graph) h.0)
+    (below-later k p cs h.1)
 
 -- Rows with a key before them, followed by rows that come after these, are in order.
 sorted-append : (k : Key) (rs rest : Rows) → T (is_sorted path_cmp (under_rows k rs)) → T (is_sorted path_cmp rest)
     → ((p : Path) → T (below_all path_cmp (k ∷ p) rest)) → T (is_sorted path_cmp (under_rows k rs ++ rest))
 sorted-append k [] rest p q h = q
 sorted-append k (r ∷ rs) rest p q h =
-    both _ _ (below-append (k ∷ r.0) (under_rows k rs) rest (first _ _ p) (h r.0)) (sorted-append k rs rest (second _ _ p) q h)
+    both _ _ (below-append (k ∷ r.0) (under_rows k rs) rest (first _ _ p) (h r.0))
+    (sorted-append k rs rest (second _ _ p) q h)
 
 -- The rows of children with rising keys are in order.
 pub rows_sorted : (cs : List Child) → IsStrictlySortedBy key_cmp (keys_of cs) → T (is_sorted path_cmp (rows_of cs))
 unfolding IsStrictlySortedBy
 rows_sorted [] h = tt
 rows_sorted (c ∷ cs) h =
-    sorted-append c.key (entries c.graph) (rows_of cs) (sorted-under c.key (entries c.graph) (entries_sorted c.graph)) (rows_sorted cs h.1)
+    sorted-append c.key (entries c.graph) (rows_of cs) (sorted-under c.key (entries c.graph) (entries_sorted c.graph))
+    (rows_sorted cs h.1)
     (λ p. below-later c.key p cs h.0)
 
 -- The rows of a node whose children have rising keys are in order.
-pub node_sorted : (n : ℕ) (cs : List Child) → IsStrictlySortedBy key_cmp (keys_of cs) → T (is_sorted path_cmp (([], n) ∷ rows_of cs))
+pub node_sorted : (n : ℕ) (cs : List Child) → IsStrictlySortedBy key_cmp (keys_of cs)
+    → T (is_sorted path_cmp (([], n) ∷ rows_of cs))
 node_sorted n cs h = both _ _ (root_below cs) (rows_sorted cs h)
 
 -- The rows of a node whose children have rising keys are the entries of its graph.
-pub entries-node : (n : ℕ) (cs : List Child) → IsStrictlySortedBy key_cmp (keys_of cs) → entries (node n cs) ≡ ([], n) ∷ rows_of cs
+pub entries-node : (n : ℕ) (cs : List Child) → IsStrictlySortedBy key_cmp (keys_of cs)
+    → entries (node n cs) ≡ ([], n) ∷ rows_of cs
 entries-node n cs h = entries-from_sorted path_cmp (([], n) ∷ rows_of cs) (node_sorted n cs h)
 
 -- No child is deeper than there are rows of children.
 most_le-rows : (cs : List Child) → most (λ c. deep-Child c) cs ≤ length (rows_of cs) + 1
 most_le-rows [] = omega arith
 most_le-rows (c ∷ cs) =
-    omega (arith, most_le-rows cs, length-append (rows_of_child c) (rows_of cs), length-map {B = Path × ℕ} (entries c.graph) (λ r. (c.key ∷ r.0, r.1)), len-entries c.graph)
+    omega (
+      arith,
+      most_le-rows cs,
+      length-append (rows_of_child c) (rows_of cs),
+      length-map {B = Path × ℕ}
+          (entries c.graph) (λ r. (c.key ∷ r.0, r.1)),
+      len-entries c.graph,
+    )
 
 -- No child is as deep as its node has entries.
-pub most_le-node : (n : ℕ) (cs : List Child) → IsStrictlySortedBy key_cmp (keys_of cs) → most (λ c. deep-Child c) cs ≤ len (node n cs)
+pub most_le-node : (n : ℕ) (cs : List Child) → IsStrictlySortedBy key_cmp (keys_of cs)
+    → most (λ c. deep-Child c) cs ≤ len (node n cs)
 most_le-node n cs h = omega (arith, most_le-rows cs, len-entries (node n cs), ap length (entries-node n cs h))

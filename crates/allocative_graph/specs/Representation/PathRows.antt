@@ -45,7 +45,8 @@ HasRootAlone g = (n : ℕ) × (entries g ≡ ([], n) ∷ [])
 
 -- Path by path r is the sum of g and h, and it has the paths of both.
 abbrev pub IsSum : Graph → Graph → Graph → Type 0
-IsSum g h r = (p : Path) → (size_at r p ≡ size_at g p + size_at h p) × (contains_key r p ≡ (contains_key g p || contains_key h p))
+IsSum g h r = (p : Path)
+    → (size_at r p ≡ size_at g p + size_at h p) × (contains_key r p ≡ (contains_key g p || contains_key h p))
 
 -- At each path r has the size of g or that of the sum. It has all paths of g, and none that the sum does not have.
 abbrev pub IsPartOfSum : Graph → Graph → Graph → Type 0

@@ -21,7 +21,8 @@ impl FlameGraph {
         ensures sum { OnOk result (self.new ≡ sum_of_all self.old children.items) }
         ensures too_large { IsErrOf result Refusal.TooLarge ↔ (2 ^ 64 ≤ total self.old + total_of children.items) }
         ensures unchanged { IsErrOf result Refusal.TooLarge → self.new ≡ self.old }
-        ensures part { IsErrOf result Refusal.Memory → IsPartOfSum self.old (sum_of_all default children.items) self.new }
+        ensures part { IsErrOf result Refusal.Memory
+            → IsPartOfSum self.old (sum_of_all default children.items) self.new }
         ensures never_open { ¬ (IsErrOf result Refusal.Open) }
     {
         let Some(added) = total_size_of(children.as_slice()) else {

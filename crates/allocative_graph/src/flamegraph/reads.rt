@@ -88,7 +88,9 @@ impl FlameGraph {
     // Appends the rows of all paths, each after the given keys.
     fn push_rows(&self, path: &mut Vec<&'static str>, rows: &mut Vec<Row>) -> Result<(), AllocError>
         ensures path { OnOk result (path.new.items ≡ path.old.items) }
-        ensures rows { OnOk result (map seen rows.new.items ≡ map seen rows.old.items ++ figures_behind (map (λ k. k.now) path.old.items) self.now) }
+        ensures rows { OnOk result
+            (map seen rows.new.items
+            ≡ map seen rows.old.items ++ figures_behind (map (λ k. k.now) path.old.items) self.now) }
     {
         rows.push(Row {
             path: path.clone()?,

@@ -14,7 +14,8 @@ use allocative_graph::refusal::Refusal;
 use either::{Either, Left, Right};
 
 impl<L: Allocative + Described, R: Allocative + Described> Allocative for Either<L, R> {
-    ghost may_show = { λ e. shows.Field (codes "Either") ⟦<Either<L, R> as Described>⟧.size (either_inside L.size L.may_show R.size R.may_show e) };
+    ghost may_show = { λ e. shows.Field (codes "Either") ⟦<Either<L, R> as Described>⟧.size
+        (either_inside L.size L.may_show R.size R.may_show e) };
 
     fn visit(&self, visitor: &mut Visitor<'_>) -> Result<(), Refusal> {
         let name = Key::for_type_name::<Either<L, R>>();

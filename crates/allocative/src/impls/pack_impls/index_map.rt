@@ -16,7 +16,8 @@ use std::hash::Hash;
 
 impl<K: Allocative + Described + Eq + Hash, V: Allocative + Described> Allocative
     for IndexMap<K, V> {
-    ghost may_show = { λ m. shows.Inside (codes "IndexMap") 72 (index_map_inside K.size K.may_show V.size V.may_show ⟦<(K, V) as Described>⟧.size m.entries) };
+    ghost may_show = { λ m. shows.Inside (codes "IndexMap") 72
+        (index_map_inside K.size K.may_show V.size V.may_show ⟦<(K, V) as Described>⟧.size m.entries) };
 
     fn visit(&self, visitor: &mut Visitor<'_>) -> Result<(), Refusal> {
         let unused = Unused {

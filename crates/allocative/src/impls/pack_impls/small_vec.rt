@@ -15,7 +15,8 @@ use allocative_graph::refusal::Refusal;
 use smallvec::SmallVec;
 
 impl<T: Allocative + Described, const N: usize> Allocative for SmallVec<T, N> {
-    ghost may_show = { λ v. shows.Field (codes "SmallVec") ⟦<SmallVec<T, N> as Described>⟧.size (small_vec_inside N T.size T.may_show v) };
+    ghost may_show = { λ v. shows.Field (codes "SmallVec") ⟦<SmallVec<T, N> as Described>⟧.size
+        (small_vec_inside N T.size T.may_show v) };
 
     fn visit(&self, visitor: &mut Visitor<'_>) -> Result<(), Refusal> {
         let name = Key::for_type_name::<SmallVec<T, N>>();

@@ -18,7 +18,8 @@ use std::collections::{BTreeMap, BTreeSet, HashMap, HashSet, VecDeque};
 use std::hash::Hash;
 
 impl<T: Allocative + Described> Allocative for Vec<T> {
-    ghost may_show = { λ v. shows.Field (codes "Vec") (Some 24) (buffer_shows T.size (shows.slice_shows T.name T.size T.needs_drop T.may_show v.items) (length v.items)) };
+    ghost may_show = { λ v. shows.Field (codes "Vec") (Some 24)
+        (buffer_shows T.size (shows.slice_shows T.name T.size T.needs_drop T.may_show v.items) (length v.items)) };
 
     fn visit(&self, visitor: &mut Visitor<'_>) -> Result<(), Refusal> {
         let buffer = Buffer {
@@ -32,7 +33,8 @@ impl<T: Allocative + Described> Allocative for Vec<T> {
 }
 
 impl<T: Allocative + Described> Allocative for VecDeque<T> {
-    ghost may_show = { λ d. shows.Field (codes "VecDeque") (Some 32) (buffer_shows T.size (cut_shows T.name T.size T.needs_drop T.may_show d.items) (length d.items)) };
+    ghost may_show = { λ d. shows.Field (codes "VecDeque") (Some 32)
+        (buffer_shows T.size (cut_shows T.name T.size T.needs_drop T.may_show d.items) (length d.items)) };
 
     fn visit(&self, visitor: &mut Visitor<'_>) -> Result<(), Refusal> {
         let (front, back) = self.as_slices();
@@ -48,7 +50,8 @@ impl<T: Allocative + Described> Allocative for VecDeque<T> {
 }
 
 impl<K: Allocative + Described + Ord, V: Allocative + Described> Allocative for BTreeMap<K, V> {
-    ghost may_show = { λ m. shows.Field (codes "BTreeMap") (Some 24) (shows.Inside (codes "data") 8 (shows.each_shows (pair_shows K.size K.may_show V.size V.may_show) m.entries)) };
+    ghost may_show = { λ m. shows.Field (codes "BTreeMap") (Some 24)
+        (shows.Inside (codes "data") 8 (shows.each_shows (pair_shows K.size K.may_show V.size V.may_show) m.entries)) };
 
     fn visit(&self, visitor: &mut Visitor<'_>) -> Result<(), Refusal> {
         let pairs = Inside("data", 8, Pairs(self));
@@ -58,7 +61,8 @@ impl<K: Allocative + Described + Ord, V: Allocative + Described> Allocative for 
 }
 
 impl<K: Allocative + Described + Ord> Allocative for BTreeSet<K> {
-    ghost may_show = { λ s. shows.Field (codes "BTreeSet") (Some 24) (shows.Inside (codes "data") 8 (shows.each_shows (field_of (codes "key") K.size K.may_show) s.keys)) };
+    ghost may_show = { λ s. shows.Field (codes "BTreeSet") (Some 24)
+        (shows.Inside (codes "data") 8 (shows.each_shows (field_of (codes "key") K.size K.may_show) s.keys)) };
 
     fn visit(&self, visitor: &mut Visitor<'_>) -> Result<(), Refusal> {
         let keys = Inside("data", 8, FieldEach("key", self));
@@ -69,7 +73,8 @@ impl<K: Allocative + Described + Ord> Allocative for BTreeSet<K> {
 
 impl<K: Allocative + Described + Eq + Hash, V: Allocative + Described> Allocative
     for HashMap<K, V> {
-    ghost may_show = { λ m. shows.Field (codes "HashMap") (Some 48) (shows.Inside (codes "data") 8 (in_any_order (pair_shows K.size K.may_show V.size V.may_show) m.entries)) };
+    ghost may_show = { λ m. shows.Field (codes "HashMap") (Some 48)
+        (shows.Inside (codes "data") 8 (in_any_order (pair_shows K.size K.may_show V.size V.may_show) m.entries)) };
 
     fn visit(&self, visitor: &mut Visitor<'_>) -> Result<(), Refusal> {
         let pairs = Inside("data", 8, Pairs(self));
@@ -79,7 +84,8 @@ impl<K: Allocative + Described + Eq + Hash, V: Allocative + Described> Allocativ
 }
 
 impl<K: Allocative + Described + Eq + Hash> Allocative for HashSet<K> {
-    ghost may_show = { λ s. shows.Field (codes "HashSet") (Some 48) (shows.Inside (codes "data") 8 (in_any_order (field_of (codes "key") K.size K.may_show) s.keys)) };
+    ghost may_show = { λ s. shows.Field (codes "HashSet") (Some 48)
+        (shows.Inside (codes "data") 8 (in_any_order (field_of (codes "key") K.size K.may_show) s.keys)) };
 
     fn visit(&self, visitor: &mut Visitor<'_>) -> Result<(), Refusal> {
         let keys = Inside("data", 8, FieldEach("key", self));

@@ -15,7 +15,8 @@ use std::marker::PhantomData;
 use std::mem::ManuallyDrop;
 
 impl<T: Allocative + Described> Allocative for ManuallyDrop<T> {
-    ghost may_show = { λ slot. shows.Field (codes "ManuallyDrop") T.size (shows.Field (codes "inner") T.size (T.may_show (manually_drop_value slot))) };
+    ghost may_show = { λ slot. shows.Field (codes "ManuallyDrop") T.size
+        (shows.Field (codes "inner") T.size (T.may_show (manually_drop_value slot))) };
 
     fn visit(&self, visitor: &mut Visitor<'_>) -> Result<(), Refusal> {
         let inner = Field("inner", &**self);

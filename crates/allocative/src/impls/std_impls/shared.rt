@@ -14,7 +14,8 @@ use allocative_graph::refusal::Refusal;
 use allocative_graph::shared::{IdArc, IdRc};
 
 impl<T: Allocative + Described> Allocative for IdRc<T> {
-    ghost may_show = { λ s. shows.Field (codes "Rc") (Some 8) (shared_inside (codes "RcInner") s.id T.size T.align (T.may_show s.value)) };
+    ghost may_show = { λ s. shows.Field (codes "Rc") (Some 8)
+        (shared_inside (codes "RcInner") s.id T.size T.align (T.may_show s.value)) };
 
     fn visit(&self, visitor: &mut Visitor<'_>) -> Result<(), Refusal> {
         let pointer = Shared {
@@ -28,7 +29,8 @@ impl<T: Allocative + Described> Allocative for IdRc<T> {
 }
 
 impl<T: Allocative + Described> Allocative for IdArc<T> {
-    ghost may_show = { λ s. shows.Field (codes "Arc") (Some 8) (shared_inside (codes "ArcInner") s.id T.size T.align (T.may_show s.value)) };
+    ghost may_show = { λ s. shows.Field (codes "Arc") (Some 8)
+        (shared_inside (codes "ArcInner") s.id T.size T.align (T.may_show s.value)) };
 
     fn visit(&self, visitor: &mut Visitor<'_>) -> Result<(), Refusal> {
         let pointer = Shared {

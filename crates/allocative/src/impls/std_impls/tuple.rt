@@ -12,7 +12,8 @@ use allocative_graph::key::Key;
 use allocative_graph::refusal::Refusal;
 
 impl<A: Allocative + Described> Allocative for (A,) {
-    ghost may_show = { λ p. shows.Field (codes "tuple1") ⟦<(A,) as Described>⟧.size (shows.Field (codes "0") A.size (A.may_show p.0)) };
+    ghost may_show = { λ p. shows.Field (codes "tuple1") ⟦<(A,) as Described>⟧.size
+        (shows.Field (codes "0") A.size (A.may_show p.0)) };
 
     fn visit(&self, visitor: &mut Visitor<'_>) -> Result<(), Refusal> {
         let first = Field("0", &self.0);
@@ -22,7 +23,9 @@ impl<A: Allocative + Described> Allocative for (A,) {
 }
 
 impl<A: Allocative + Described, B: Allocative + Described> Allocative for (A, B) {
-    ghost may_show = { λ p. shows.Field (codes "tuple2") ⟦<(A, B) as Described>⟧.size (shows.Both (shows.Field (codes "0") A.size (A.may_show p.0)) (shows.Field (codes "1") B.size (B.may_show p.1))) };
+    ghost may_show = { λ p. shows.Field (codes "tuple2") ⟦<(A, B) as Described>⟧.size
+        (shows.Both (shows.Field (codes "0") A.size (A.may_show p.0))
+        (shows.Field (codes "1") B.size (B.may_show p.1))) };
 
     fn visit(&self, visitor: &mut Visitor<'_>) -> Result<(), Refusal> {
         let first = Field("0", &self.0);
@@ -34,7 +37,10 @@ impl<A: Allocative + Described, B: Allocative + Described> Allocative for (A, B)
 
 impl<A: Allocative + Described, B: Allocative + Described, C: Allocative + Described> Allocative
     for (A, B, C) {
-    ghost may_show = { λ p. shows.Field (codes "tuple3") ⟦<(A, B, C) as Described>⟧.size (shows.Both (shows.Field (codes "0") A.size (A.may_show p.0)) (shows.Both (shows.Field (codes "1") B.size (B.may_show p.1)) (shows.Field (codes "2") C.size (C.may_show p.2)))) };
+    ghost may_show = { λ p. shows.Field (codes "tuple3") ⟦<(A, B, C) as Described>⟧.size
+        (shows.Both (shows.Field (codes "0") A.size (A.may_show p.0))
+        (shows.Both (shows.Field (codes "1") B.size (B.may_show p.1))
+        (shows.Field (codes "2") C.size (C.may_show p.2)))) };
 
     fn visit(&self, visitor: &mut Visitor<'_>) -> Result<(), Refusal> {
         let first = Field("0", &self.0);
@@ -51,7 +57,11 @@ impl<
     C: Allocative + Described,
     D: Allocative + Described,
 > Allocative for (A, B, C, D) {
-    ghost may_show = { λ p. shows.Field (codes "tuple4") ⟦<(A, B, C, D) as Described>⟧.size (shows.Both (shows.Field (codes "0") A.size (A.may_show p.0)) (shows.Both (shows.Field (codes "1") B.size (B.may_show p.1)) (shows.Both (shows.Field (codes "2") C.size (C.may_show p.2)) (shows.Field (codes "3") D.size (D.may_show p.3))))) };
+    ghost may_show = { λ p. shows.Field (codes "tuple4") ⟦<(A, B, C, D) as Described>⟧.size
+        (shows.Both (shows.Field (codes "0") A.size (A.may_show p.0))
+        (shows.Both (shows.Field (codes "1") B.size (B.may_show p.1))
+        (shows.Both (shows.Field (codes "2") C.size (C.may_show p.2))
+        (shows.Field (codes "3") D.size (D.may_show p.3))))) };
 
     fn visit(&self, visitor: &mut Visitor<'_>) -> Result<(), Refusal> {
         let first = Field("0", &self.0);
@@ -70,7 +80,12 @@ impl<
     D: Allocative + Described,
     E: Allocative + Described,
 > Allocative for (A, B, C, D, E) {
-    ghost may_show = { λ p. shows.Field (codes "tuple5") ⟦<(A, B, C, D, E) as Described>⟧.size (shows.Both (shows.Field (codes "0") A.size (A.may_show p.0)) (shows.Both (shows.Field (codes "1") B.size (B.may_show p.1)) (shows.Both (shows.Field (codes "2") C.size (C.may_show p.2)) (shows.Both (shows.Field (codes "3") D.size (D.may_show p.3)) (shows.Field (codes "4") E.size (E.may_show p.4)))))) };
+    ghost may_show = { λ p. shows.Field (codes "tuple5") ⟦<(A, B, C, D, E) as Described>⟧.size
+        (shows.Both (shows.Field (codes "0") A.size (A.may_show p.0))
+        (shows.Both (shows.Field (codes "1") B.size (B.may_show p.1))
+        (shows.Both (shows.Field (codes "2") C.size (C.may_show p.2))
+        (shows.Both (shows.Field (codes "3") D.size (D.may_show p.3))
+        (shows.Field (codes "4") E.size (E.may_show p.4)))))) };
 
     fn visit(&self, visitor: &mut Visitor<'_>) -> Result<(), Refusal> {
         let first = Field("0", &self.0);

@@ -15,7 +15,8 @@ use allocative_graph::key::Key;
 use allocative_graph::refusal::Refusal;
 
 impl<T: Allocative + Described> Allocative for Option<T> {
-    ghost may_show = { λ o. shows.Field (codes "Option") ⟦<Option<T> as Described>⟧.size (option_inside T.size T.may_show o) };
+    ghost may_show = { λ o. shows.Field (codes "Option") ⟦<Option<T> as Described>⟧.size
+        (option_inside T.size T.may_show o) };
 
     fn visit(&self, visitor: &mut Visitor<'_>) -> Result<(), Refusal> {
         let name = Key::for_type_name::<Option<T>>();
@@ -28,7 +29,8 @@ impl<T: Allocative + Described> Allocative for Option<T> {
 }
 
 impl<T: Allocative + Described, E: Allocative + Described> Allocative for Result<T, E> {
-    ghost may_show = { λ r. shows.Field (codes "Result") ⟦<Result<T, E> as Described>⟧.size (result_inside T.size E.size T.may_show E.may_show r) };
+    ghost may_show = { λ r. shows.Field (codes "Result") ⟦<Result<T, E> as Described>⟧.size
+        (result_inside T.size E.size T.may_show E.may_show r) };
 
     fn visit(&self, visitor: &mut Visitor<'_>) -> Result<(), Refusal> {
         let name = Key::for_type_name::<Result<T, E>>();
@@ -41,7 +43,8 @@ impl<T: Allocative + Described, E: Allocative + Described> Allocative for Result
 }
 
 impl<T: Allocative> Allocative for Box<T> {
-    ghost may_show = { λ b. shows.Field (codes "Box") (Some 8) (shows.InsideUnique (codes "ptr") 8 (T.may_show b.value)) };
+    ghost may_show = { λ b. shows.Field (codes "Box") (Some 8)
+        (shows.InsideUnique (codes "ptr") 8 (T.may_show b.value)) };
 
     fn visit(&self, visitor: &mut Visitor<'_>) -> Result<(), Refusal> {
         let pointer = Unique("ptr", 8, &**self);
