@@ -1,6 +1,7 @@
 //! The rows of lines.
-ghost use Rattle.std.specs.Prelude.{◌≡◌, ◌+◌, ◌^◌, ◌<◌, ◌≤◌, ◌⊎◌, ◌↔◌, OnOk, IfOk, IfErr, IsErrOf, sum_by, length};
-ghost use Rattle.allocative_picture_filter.specs.Forest.{IsKept, HasBytes, IsFull, HasRows};
+ghost use Rattle.std.specs.Prelude.{◌≡◌, ◌+◌, ◌^◌, ◌<◌, ◌≤◌, ◌⊎◌, ◌↔◌, OnOk, IfOk, IfErr, IsErrOf, [], sum_by, length};
+ghost use Rattle.allocative_picture_filter.specs.Stacks.{IsInOrder, keys_of, common};
+ghost use Rattle.allocative_picture_filter.specs.Forest.{IsKept, HasBytes, IsFull, HasRows, Opens, Closes, Counts, HasOutlines, HasLines, TakesLine, path_of};
 
 use crate::fault::Fault;
 use crate::stacks::{Line, keys_in_common};
@@ -14,8 +15,8 @@ pub struct Forest<'a> {
     rows: Vec<Row<'a>>,
     // The places of the rows of the last path, from the root on.
     open: Vec<usize>,
-    // The path of the last line.
-    last: &'a str,
+    // The path of the last line, where one came.
+    last: Option<&'a str>,
     // The bytes of all lines that came, in the earlier profile.
     was: usize,
     // Those in the later one.
@@ -29,12 +30,15 @@ impl<'a> Forest<'a> {
     pub fn new(alloc: Global, is_change: bool) -> Result<Forest<'a>, Fault>
         ensures empty { IfOk result (HasBytes 0 0) }
         ensures full { IfOk result IsFull }
+        ensures rows { IfOk result (HasLines []) }
         ensures memory { IfErr result (λ f. f ≡ Fault.Memory) }
     {
+        let rows = Vec::new(alloc);
+        let open = Vec::new(alloc);
         let mut forest = Forest {
-            rows: Vec::new(alloc),
-            open: Vec::new(alloc),
-            last: "",
+            rows,
+            open,
+            last: None,
             was: 0,
             is: 0,
             is_change,
@@ -64,31 +68,39 @@ impl<'a> Forest<'a> {
         self.was.saturating_add(self.is)
     }
 
+    // How many keys a path has in common with that of the last line.
+    fn common_with(&self, path: &str) -> usize
+        ensures { result ≡ common (path_of self.now.last) (keys_of path.now) }
+    {
+        match self.last {
+            Some(last) => keys_in_common(last, path),
+            None => 0,
+        }
+    }
+
     /// Adds a line, whose path is not before those of the lines that came. `Fault::TooLarge` only where the bytes of all lines pass
     /// `usize::MAX`, and else `Fault::Memory`.
     pub fn add(&mut self, line: &Line<'a>) -> Result<(), Fault>
         ensures ok { OnOk result (HasBytes (self.old.was + line.now.was) (self.old.is + line.now.is) self.new) }
         ensures full { IsFull self.old → OnOk result (IsFull self.new) }
+        ensures rows { IsFull self.old → OnOk result (TakesLine line.now self.old self.new) }
         ensures too_large { IsErrOf result Fault.TooLarge → 2 ^ 64 ≤ self.old.was + line.now.was + (self.old.is + line.now.is) }
         ensures err { IfErr result (λ f. (f ≡ Fault.Memory) ⊎ (f ≡ Fault.TooLarge)) }
     {
-        let is_first = self.rows.len() < 2;
-        let common = if is_first {
-            0
-        } else {
-            keys_in_common(self.last, line.path)
-        };
+        let common = self.common_with(line.path);
         self.close(common.saturating_add(1));
         for key in line.path.split(';').skip(common) {
             self.open_row(key)?;
         }
-        self.last = line.path;
-        self.count(line)
+        self.count(line)?;
+        self.last = Some(line.path);
+        Ok(())
     }
 
     /// The rows, all of which know their bytes.
     pub fn finish(mut self) -> Vec<Row<'a>>
-        ensures { IsFull self.entry → HasRows (self.entry.was + self.entry.is) result.items }
+        ensures full { IsFull self.entry → HasRows (self.entry.was + self.entry.is) result.items }
+        ensures rows { HasOutlines self.entry result.items }
     {
         self.close(0);
         let Forest { rows, .. } = self;
@@ -99,6 +111,7 @@ impl<'a> Forest<'a> {
     fn open_row(&mut self, key: &'a str) -> Result<(), Fault>
         ensures kept { IsKept self.old self.new }
         ensures full { IsFull self.old → IsFull self.new }
+        ensures rows { OnOk result (Opens key.now self.old self.new) }
         ensures first { length self.old.rows.items ≡ 0 → self.old.was + self.old.is ≡ 0 → OnOk result (IsFull self.new) }
         ensures memory { IfErr result (λ f. f ≡ Fault.Memory) }
     {
@@ -108,9 +121,10 @@ impl<'a> Forest<'a> {
         } else {
             Mark::Plain
         };
+        let depth = self.open.len();
         self.open.push(self.rows.len())?;
         self.rows.push(Row {
-            depth: self.open.len().saturating_sub(1),
+            depth,
             key,
             own: 0,
             whole: 0,
@@ -124,6 +138,7 @@ impl<'a> Forest<'a> {
     fn count(&mut self, line: &Line<'_>) -> Result<(), Fault>
         ensures ok { OnOk result (HasBytes (self.old.was + line.now.was) (self.old.is + line.now.is) self.new) }
         ensures full { IsFull self.old → OnOk result (IsFull self.new) }
+        ensures rows { IsFull self.old → OnOk result (Counts (line.now.was + line.now.is) self.old self.new) }
         ensures too_large { IsErrOf result Fault.TooLarge ↔ (2 ^ 64 ≤ self.old.was + line.now.was + (self.old.is + line.now.is)) }
         ensures err { IfErr result (λ f. f ≡ Fault.TooLarge) }
     {
@@ -144,6 +159,7 @@ impl<'a> Forest<'a> {
     fn close(&mut self, depth: usize)
         ensures kept { IsKept self.old self.new }
         ensures full { IsFull self.old → IsFull self.new }
+        ensures rows { Closes depth self.old self.new }
     {
         let bytes = self.bytes();
         while self.open.len() > depth {
@@ -171,6 +187,7 @@ pub fn forest_of<'a>(
 ) -> Result<Forest<'a>, Fault>
     ensures ok { IfOk result (HasBytes (sum_by (λ l. l.was) lines.now) (sum_by (λ l. l.is) lines.now)) }
     ensures full { IfOk result IsFull }
+    ensures rows { IsInOrder lines.now → IfOk result (HasLines lines.now) }
     ensures too_large { IsErrOf result Fault.TooLarge → 2 ^ 64 ≤ sum_by (λ l. l.was) lines.now + sum_by (λ l. l.is) lines.now }
     ensures err { IfErr result (λ f. (f ≡ Fault.Memory) ⊎ (f ≡ Fault.TooLarge)) }
 {
