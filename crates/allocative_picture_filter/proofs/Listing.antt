@@ -49,7 +49,7 @@ implied a true x y f e = refl
 implied true false x y f e = absurd (true≢false (sym (f refl)))
 implied false false x y f e = e
 
-cond_zero : (b : Bool) → cond b 0 0 ≡ 0
+cond_zero : (b : Bool) → ◌≡◌ {A = ℕ} (cond b 0 0) 0
 cond_zero true = refl
 cond_zero false = refl
 

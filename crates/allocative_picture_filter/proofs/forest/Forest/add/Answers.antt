@@ -33,7 +33,7 @@ returns-clause-rows c = λ full ls h next.
     let deep : c.saturating_add.result ≡ common p q + 1 =
     omega (arith, same, (common-le p q).0, h.opened, c.args.self.now.open.ok.1, c.args.self.now.open.small) in
     let front = YieldsList-from_str_split 59 c.args.line.now.path.now (lit< tt) c.split.ensures.text c.split.ensures.has_more c.split.ensures.pattern in
-    let road = YieldsList-from_skip c.common_with-common.result (YieldsList-at c.skip.ensures.source front) c.skip.ensures.count in
-    let end = YieldsList-end road c.loop-key.yielded _ c.loop-key.yielded_by _ _ c.in-None.is c.next.ensures.steps in
+    let road = YieldsList-from_skip c.common_with-common.result (YieldsList-at c.skip-key-items.ensures.source front) c.skip-key-items.ensures.count in
+    let end = YieldsList-end (YieldsList-at c.into_iter-key-iterator.ensures.into_iter_gives road) c.loop-key.yielded _ c.loop-key.yielded_by _ _ c.in-None.is c.next.ensures.steps in
     lines-more ls c.args.line.now c.args.self.now c.close.new.self c.loop-key.self c.count.new.self _ c.saturating_add.result c.loop-key.yielded h next deep c.close.ensures.rows
     c.loop-key.invariant.rows (end.0 ∙ ap (λ n. drop n q) same) (c.in_ok-count.ensures.rows (c.loop-key.invariant.full (c.close.ensures.full full))) refl refl refl
