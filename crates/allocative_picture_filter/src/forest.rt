@@ -1,4 +1,4 @@
-//! The rows of lines.
+//! The rows of a picture, made of lines that are sorted by path.
 ghost use Rattle.std.specs.Prelude.{◌≡◌, ◌+◌, ◌^◌, ◌<◌, ◌≤◌, ◌⊎◌, ◌↔◌, OnOk, IfOk, IfErr, IsErrOf, [], sum_by, length};
 ghost use Rattle.allocative_picture_filter.specs.Stacks.{IsInOrder, keys_of, common};
 ghost use Rattle.allocative_picture_filter.specs.Forest.{IsKept, HasBytes, IsFull, HasRows, Opens, Closes, Counts, HasOutlines, HasLines, TakesLine, path_of};
@@ -8,25 +8,25 @@ use crate::stacks::{Line, keys_in_common};
 use allocative_picture::row::{Mark, Row};
 use std::alloc::Global;
 
-/// The rows of lines that came in the order of paths.
+/// The rows of the lines that were added so far, in the order of their paths.
 #[derive(Drop)]
 pub struct Forest<'a> {
-    /// The rows, in the order of paths. Of those that are open the bytes below are not known yet.
+    // The rows, in the order of paths. The bytes below an open row are not known yet.
     rows: Vec<Row<'a>>,
-    // The places of the rows of the last path, from the root on.
+    // The indices of the open rows: those of the last path, from the root on.
     open: Vec<usize>,
-    // The path of the last line, where one came.
+    // The path of the last line, where one was added.
     last: Option<&'a str>,
-    // The bytes of all lines that came, in the earlier profile.
+    // The bytes of all lines in the earlier profile.
     was: usize,
-    // Those in the later one.
+    // The bytes of all lines in the later profile.
     is: usize,
     // Whether there is an earlier profile.
     is_change: bool,
 }
 
 impl<'a> Forest<'a> {
-    /// The root alone, without bytes. It answers an error only for want of memory.
+    /// Makes a forest that has only the root, without bytes. The only error is that memory runs out.
     pub fn new(alloc: Global, is_change: bool) -> Result<Forest<'a>, Fault>
         ensures empty { IfOk result (HasBytes 0 0) }
         ensures full { IfOk result IsFull }
@@ -47,28 +47,28 @@ impl<'a> Forest<'a> {
         Ok(forest)
     }
 
-    /// The bytes of all lines that came, in the earlier profile.
+    /// Returns the bytes of all lines in the earlier profile.
     pub fn was(&self) -> usize
         ensures { result ≡ self.now.was }
     {
         self.was
     }
 
-    /// The bytes of all lines that came, in the later profile.
+    /// Returns the bytes of all lines in the later profile.
     pub fn is(&self) -> usize
         ensures { result ≡ self.now.is }
     {
         self.is
     }
 
-    // The bytes of all lines that came.
+    // Returns the bytes of all lines in both profiles.
     fn bytes(&self) -> usize
         ensures { self.now.was + self.now.is < 2 ^ 64 → result ≡ self.now.was + self.now.is }
     {
         self.was.saturating_add(self.is)
     }
 
-    // How many keys a path has in common with that of the last line.
+    // The number of keys that a path has in common with that of the last line, from the first on.
     fn common_with(&self, path: &str) -> usize
         ensures { result ≡ common (path_of self.now.last) (keys_of path.now) }
     {
@@ -78,8 +78,8 @@ impl<'a> Forest<'a> {
         }
     }
 
-    /// Adds a line, whose path is not before those of the lines that came. `Fault::TooLarge` only where the bytes of all lines pass
-    /// `usize::MAX`, and else `Fault::Memory`.
+    /// Adds a line, whose path does not come before that of any line added so far. It fails with `Fault::TooLarge` only
+    /// if the bytes of all lines exceed `usize::MAX`. The only other error is `Fault::Memory`.
     pub fn add(&mut self, line: &Line<'a>) -> Result<(), Fault>
         ensures ok { OnOk result (HasBytes (self.old.was + line.now.was) (self.old.is + line.now.is) self.new) }
         ensures full { IsFull self.old → OnOk result (IsFull self.new) }
@@ -97,7 +97,7 @@ impl<'a> Forest<'a> {
         Ok(())
     }
 
-    /// The rows, all of which know their bytes.
+    /// Closes all rows, and returns them.
     pub fn finish(mut self) -> Vec<Row<'a>>
         ensures full { IsFull self.entry → HasRows (self.entry.was + self.entry.is) result.items }
         ensures rows { HasOutlines self.entry result.items }
@@ -107,7 +107,7 @@ impl<'a> Forest<'a> {
         rows
     }
 
-    // Opens the row of a key below the open ones.
+    // Adds the row of a key one level below the last open row, and opens it.
     fn open_row(&mut self, key: &'a str) -> Result<(), Fault>
         ensures kept { IsKept self.old self.new }
         ensures full { IsFull self.old → IsFull self.new }
@@ -134,7 +134,7 @@ impl<'a> Forest<'a> {
         Ok(())
     }
 
-    // Counts the bytes of a line, whose row is the last one.
+    // Adds the bytes of a line to the totals and to the last row.
     fn count(&mut self, line: &Line<'_>) -> Result<(), Fault>
         ensures ok { OnOk result (HasBytes (self.old.was + line.now.was) (self.old.is + line.now.is) self.new) }
         ensures full { IsFull self.old → OnOk result (IsFull self.new) }
@@ -155,7 +155,8 @@ impl<'a> Forest<'a> {
         Ok(())
     }
 
-    // Closes all rows but the first open ones: their bytes are those that came since they were opened.
+    // Closes all open rows but the first `depth`. A row has, with all below it, the bytes that were added since it was
+    // opened.
     fn close(&mut self, depth: usize)
         ensures kept { IsKept self.old self.new }
         ensures full { IsFull self.old → IsFull self.new }
@@ -178,8 +179,8 @@ impl<'a> Forest<'a> {
     }
 }
 
-/// The rows of lines that stand in the order of paths, with all bytes of both profiles. `Fault::TooLarge` only where the bytes of all
-/// lines pass `usize::MAX`, and else `Fault::Memory`.
+/// Adds lines that are sorted by path. It fails with `Fault::TooLarge` only if the bytes of all lines exceed
+/// `usize::MAX`. The only other error is `Fault::Memory`.
 pub fn forest_of<'a>(
     alloc: Global,
     is_change: bool,
