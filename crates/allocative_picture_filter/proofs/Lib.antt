@@ -2,3 +2,6 @@ pub mod Lines
 pub mod Texts
 pub mod Faults
 pub mod Beside
+pub mod Listing
+pub mod Outlines
+pub mod Taken

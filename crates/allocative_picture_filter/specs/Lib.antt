@@ -1,4 +1,5 @@
 pub mod Fault
-pub mod Forest
 pub mod Stacks
+pub mod Rows
+pub mod Forest
 pub mod Run

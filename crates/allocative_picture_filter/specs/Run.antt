@@ -1,6 +1,7 @@
 -- What a run draws of two texts, and which line a fault of it names.
 use Rattle.std.specs.Prelude.{◌≡◌, ℕ, ◌+◌, List, [], ◌∷◌, ◌++◌, map, sum_by}
 use Rattle.std.specs.Bool.{⊤}
+use Rattle.allocative_graph.specs.Graph.{Graph}
 use Rattle.allocative_picture.specs.Rows.{Seen}
 use Rattle.allocative_picture.specs.Picture.{drawing}
 use Rattle.allocative_picture.specs.declared.options.Options.{Options}
@@ -11,6 +12,7 @@ use Rattle.allocative_picture_filter.specs.declared.run.Earlier.TheVariants.{Non
 use Rattle.allocative_picture_filter.specs.declared.stacks.Line.{Line}
 use Rattle.allocative_picture_filter.specs.declared.stacks.Side.TheVariants as side
 use Rattle.allocative_picture_filter.specs.Stacks.{Stack, seen, Means, IsFault}
+use Rattle.allocative_picture_filter.specs.Rows.{IsGraphOf, AreRowsOf}
 
 -- The stacks of the earlier profile: none where there is none, and else those of its text.
 abbrev pub MeansBefore : earlier.Earlier → List Stack → Type 0
@@ -46,13 +48,17 @@ abbrev pub StandBeside : ℕ → List Seen → Type 0
 StandBeside n [] = ⊤
 StandBeside n (r ∷ rs) = (r.before ≡ n) × StandBeside (n + r.own) rs
 
--- The picture with this title is one of rows that stand beside one another and have, each by itself, the bytes of all stacks of both texts, and its totals are those of the two.
+-- The picture with this title is that of the graph that all stacks of both texts add up to: its rows are those of the graph, stand beside
+-- one another and have all bytes between them, and its totals are those of the two texts.
 pub record IsPictureOf (title : List ℕ) (before : earlier.Earlier) (text made : List ℕ) : Type 0 where
   pub stacks : List Stack
   pub read : AreOf before text stacks
   pub options : Options
   pub titled : options.title.now ≡ title
+  pub graph : Graph
+  pub added : IsGraphOf stacks graph
   pub rows : List Seen
+  pub listed : AreRowsOf graph rows
   pub beside : StandBeside 0 rows
   pub own : sum_by (λ r. r.own) rows ≡ sum_by (λ s. s.was) stacks + sum_by (λ s. s.is) stacks
   pub drawn : made ≡ drawing (subject_for before (sum_by (λ s. s.was) stacks) (sum_by (λ s. s.is) stacks)) options rows

@@ -5,25 +5,25 @@ ghost use Rattle.allocative_picture_filter.specs.Fault.{status_of};
 use std::alloc::{AllocError, AllocFailed};
 use thiserror::Error;
 
-/// Why a run failed. Its text is the line on standard error, behind the program's name.
+/// Why a run failed. Its text is the line on standard error, after the program's name.
 #[derive(Clone, Copy, Debug, PartialEq, Eq, Error)]
 pub enum Fault {
-    /// A growth of memory was refused.
+    /// Memory ran out.
     #[error("out of memory")]
     Memory,
-    /// A line of the input is no path, a space and a number of bytes.
+    /// This line of the input is not a path, a space and a number of bytes.
     #[error("line {0} of the input is not a path, a space and a number of bytes")]
     Line(usize),
-    /// A line of the earlier profile is no path, a space and a number of bytes.
+    /// This line of the earlier profile is not a path, a space and a number of bytes.
     #[error("line {0} of the earlier profile is not a path, a space and a number of bytes")]
     EarlierLine(usize),
     /// A text is not UTF-8.
     #[error("a text is not UTF-8")]
     NotText,
-    /// The sizes of all lines together pass their bound.
+    /// The bytes of all lines together exceed `usize::MAX`.
     #[error("sizes do not fit")]
     TooLarge,
-    /// A word is none that the program takes.
+    /// An argument is unknown, repeated or incomplete.
     #[error("unknown or repeated word")]
     Words,
     /// A read failed.
@@ -35,7 +35,7 @@ pub enum Fault {
 }
 
 impl Fault {
-    /// The status with which the program ends.
+    /// Returns the status with which the program ends.
     pub fn status(self) -> u8
         ensures { result ≡ status_of self }
     {

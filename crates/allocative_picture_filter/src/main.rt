@@ -1,5 +1,5 @@
-//! Reads collapsed stacks from standard input and writes their picture, as SVG, to standard output. A word that names a file gives
-//! an earlier profile, and the picture is then that of the change.
+//! Reads collapsed stacks from standard input and writes their picture, as SVG, to standard output. An argument may
+//! name the file of an earlier profile, and the picture then shows the change.
 #![tactic(auto)]
 
 mod fault;
@@ -20,7 +20,7 @@ use std::process::ExitCode;
 use std::rt::{Env, Files};
 use words::{Words, read_words};
 
-// The words behind the program's name. A word that is not UTF-8 is none of the program's.
+// Returns the arguments of the program. One that is not UTF-8 is refused.
 fn words_of<R: Env + AllocGlobal>(rt: &R) -> Result<Vec<String>, Fault> {
     match env::args(rt) {
         Ok(args) => Ok(args.skip(1).collect(rt.alloc())?),
@@ -29,7 +29,7 @@ fn words_of<R: Env + AllocGlobal>(rt: &R) -> Result<Vec<String>, Fault> {
     }
 }
 
-// The bytes of a file.
+// Reads all bytes of a file.
 fn read_file<R: Files + AllocGlobal>(rt: &R, path: &str) -> Result<Vec<u8>, Fault> {
     match File::open(rt, path) {
         Ok(mut file) => read_input(rt.alloc(), &mut file),
@@ -38,7 +38,7 @@ fn read_file<R: Files + AllocGlobal>(rt: &R, path: &str) -> Result<Vec<u8>, Faul
     }
 }
 
-// The earlier profile that the words ask for.
+// Reads the earlier profile that the arguments name, if they name one.
 fn read_earlier<R: Files + AllocGlobal>(rt: &R, words: &Words<'_>) -> Result<Earlier, Fault> {
     match words.earlier {
         Some(path) => Ok(Earlier::Profile(read_file(rt, path)?)),

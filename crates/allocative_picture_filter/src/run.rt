@@ -14,22 +14,22 @@ use allocative_picture::picture::draw;
 use std::alloc::Global;
 use std::io::{ErrorKind, Read, Write};
 
-/// The earlier profile, where there is one, as its bytes.
+/// The bytes of the earlier profile, if there is one.
 #[derive(Drop)]
 pub enum Earlier {
-    /// There is none: the picture is that of a profile.
+    /// There is no earlier profile: the picture shows one profile.
     None,
-    /// There is one: the picture is that of the change.
+    /// There is one: the picture shows the change from it.
     Profile(Vec<u8>),
 }
 
 impl Earlier {
-    // Whether there is one.
+    // Returns whether there is one.
     fn is_there(&self) -> bool {
         matches!(self, Earlier::Profile(_))
     }
 
-    // What a picture is of that has these bytes of the earlier profile and these of the later one.
+    // Returns what the picture shows, with the bytes of the earlier profile and of the later one.
     fn subject(&self, before: usize, after: usize) -> Subject
         ensures { result ≡ subject_for self.now before after }
     {
@@ -40,8 +40,8 @@ impl Earlier {
     }
 }
 
-/// All that the reader gives. `Fault::Reading` where a read failed, and else `Fault::Memory`. An interrupted read is taken
-/// again.
+/// Reads all bytes of a reader. It fails with `Fault::Reading` if a read fails. The only other error is
+/// `Fault::Memory`. An interrupted read is repeated.
 pub fn read_input<R: Read>(alloc: Global, input: &mut R) -> Result<Vec<u8>, Fault>
     ensures ok { IfOk result (λ bytes. IfSome (R.remaining input.old) (λ known. bytes.items ≡ known)) }
     ensures err { IfErr result (λ f. (f ≡ Fault.Memory) ⊎ (f ≡ Fault.Reading)) }
@@ -70,7 +70,7 @@ fn write_text<W: Write>(output: &mut W, text: &str) -> Result<(), Fault>
     Ok(())
 }
 
-/// Writes the fault's line, and answers its status, also where the line can't be written.
+/// Writes the line of a fault, and returns its status. A line that cannot be written does not change the status.
 pub fn tell<E: Write>(errors: &mut E, fault: Fault) -> u8
     ensures { result ≡ status_of fault }
 {
@@ -79,7 +79,7 @@ pub fn tell<E: Write>(errors: &mut E, fault: Fault) -> u8
     fault.status()
 }
 
-/// Writes how the program is used, and answers the status.
+/// Writes how the program is used, and returns the status.
 pub fn show_usage<W: Write, E: Write>(output: &mut W, errors: &mut E) -> u8 {
     let usage =
         "usage: allocative-picture [--title TEXT] [EARLIER]\n\nReads collapsed stacks from standard input, lines of keys joined by `;`, a space and a number of bytes, and\nwrites their picture to standard output. With a file of earlier stacks the picture is that of the change.\n";
@@ -89,7 +89,7 @@ pub fn show_usage<W: Write, E: Write>(output: &mut W, errors: &mut E) -> u8 {
     }
 }
 
-// Appends the lines of some bytes.
+// Appends the lines of a profile.
 fn push_profile<'a>(bytes: &'a [u8], side: Side, lines: &mut Vec<Line<'a>>) -> Result<(), Fault>
     ensures ok { OnOk result (Reads side bytes.now lines.old.items lines.new.items) }
     ensures line { (n : ℕ) → IsErrOf result (Fault.Line n) → (side ≡ Side.Later) × IsFault side bytes.now n }
@@ -108,7 +108,7 @@ fn push_profile<'a>(bytes: &'a [u8], side: Side, lines: &mut Vec<Line<'a>>) -> R
     }
 }
 
-// Appends the lines of the earlier profile, where there is one.
+// Appends the lines of the earlier profile, if there is one.
 fn push_earlier<'a>(earlier: &'a Earlier, lines: &mut Vec<Line<'a>>) -> Result<(), Fault>
     ensures ok { OnOk result (ReadsBefore earlier.now lines.old.items lines.new.items) }
     ensures line { (n : ℕ) → ¬ (IsErrOf result (Fault.Line n)) }
@@ -120,7 +120,7 @@ fn push_earlier<'a>(earlier: &'a Earlier, lines: &mut Vec<Line<'a>>) -> Result<(
     }
 }
 
-// The lines of both profiles: those of the earlier one, where there is one, and then the others.
+// Reads the lines of both profiles: those of the earlier one first, if there is one.
 fn read_both<'a>(
     alloc: Global,
     earlier: &'a Earlier,
@@ -136,7 +136,7 @@ fn read_both<'a>(
     Ok(lines)
 }
 
-// The picture of some bytes, and of an earlier profile where there is one.
+// Makes the picture of a profile, or of the change from an earlier one.
 fn picture_of(alloc: Global, title: &str, earlier: &Earlier, bytes: &[u8]) -> Result<String, Fault>
     ensures ok { IfOk result (λ made. IsPictureOf title.now earlier.now bytes.now (string_bytes made)) }
     ensures line { (n : ℕ) → IsErrOf result (Fault.Line n) → IsFault Side.Later bytes.now n }
@@ -168,10 +168,11 @@ fn make_picture<R: Read>(
     picture_of(alloc, title, earlier, bytes.as_slice())
 }
 
-/// The whole program but its words: its answer is the status.
+/// Runs the program but for reading its arguments, and returns the status.
 ///
-/// With status 0 the picture of all lines stands on the output. Else the fault's line goes to the errors and, but for status 7, nothing
-/// goes to the output. Status 2 comes only where a line of one of the texts is none.
+/// With status 0 the picture of all lines is on the output. With any other status the line of the fault goes to the
+/// errors, and nothing goes to the output, except for status 7. Status 2 says that a line of one of the texts is not a
+/// path, a space and a number of bytes.
 pub fn run<R: Read, W: Write, E: Write>(
     alloc: Global,
     title: &str,

@@ -18,25 +18,26 @@ pub struct Line<'a> {
     pub is: usize,
 }
 
-/// A line that is no path, a space and a number of bytes: its number, from 1 on; or a growth of memory that was refused.
+/// Why a text is not read: memory ran out, or a line is not a path, a space and a number of bytes.
 #[derive(Clone, Copy, Debug, PartialEq, Eq)]
 pub enum Unread {
-    /// A growth of memory was refused.
+    /// Memory ran out.
     Memory,
-    /// The line of this number is none.
+    /// The number of the first such line. Lines are counted from 1.
     Line(usize),
 }
 
-/// From which profile lines are read.
+/// The profile from which lines are read.
 #[derive(Clone, Copy)]
 pub enum Side {
-    /// The earlier one.
+    /// The earlier profile.
     Earlier,
-    /// The later one.
+    /// The later profile.
     Later,
 }
 
-// The line of a text; none where it is no path, a space and a number of bytes that fits. A path has at least one byte.
+// Reads one line. It returns `None` unless the line is a path, a space and a number of bytes that fits. A path has at
+// least one byte.
 fn read_line(line: &str, side: Side) -> Option<Line<'_>>
     ensures some { IfSome result (λ read. IsStack side line.now (seen read)) }
     ensures none { IfNone result ((s : Stack) → ¬ (IsStack side line.now s)) }
@@ -60,8 +61,8 @@ fn read_line(line: &str, side: Side) -> Option<Line<'_>>
     })
 }
 
-/// Appends the lines of a text. It ends at the first line that is none, and answers its number; else it answers an error only for want
-/// of memory.
+/// Appends the lines of a text. It stops at the first line that is not a path, a space and a number of bytes, and
+/// returns the number of that line. The only other error is that memory runs out.
 pub fn push_lines<'a>(text: &'a str, side: Side, lines: &mut Vec<Line<'a>>) -> Result<(), Unread>
     ensures ok { OnOk result (Reads side text.now lines.old.items lines.new.items) }
     ensures line { (n : ℕ) → IsErrOf result (Unread.Line n) → IsFault side text.now n }
@@ -79,8 +80,8 @@ pub fn push_lines<'a>(text: &'a str, side: Side, lines: &mut Vec<Line<'a>>) -> R
     Ok(())
 }
 
-/// Puts lines into the order of paths: key by key, by the bytes of the keys. It answers an error only for want of memory, and also then
-/// the lines are those that there were.
+/// Sorts lines by their paths: key by key, by the bytes of the keys. The only error is that memory runs out, and then
+/// too no line is lost.
 pub fn sort(lines: &mut Vec<Line<'_>>) -> Result<(), AllocError>
     ensures same { IsPermutation lines.old.items lines.new.items }
     ensures sorted { OnOk result (IsInOrder lines.new.items) }
@@ -92,14 +93,14 @@ pub fn sort(lines: &mut Vec<Line<'_>>) -> Result<(), AllocError>
     )
 }
 
-// The order of two paths.
+// Compares two paths.
 fn path_order(a: &str, b: &str) -> Ordering
     ensures { result ≡ path_cmp (keys_of a.now) (keys_of b.now) }
 {
     a.split(';').cmp(b.split(';'))
 }
 
-/// How many keys two paths have in common, from the first on.
+/// Returns how many keys two paths have in common, from the first on.
 pub fn keys_in_common(a: &str, b: &str) -> usize
     ensures { result ≡ common (keys_of a.now) (keys_of b.now) }
 {

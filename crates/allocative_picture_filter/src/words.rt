@@ -1,19 +1,20 @@
-//! The words that the program takes.
+//! The arguments of the program.
 use crate::fault::Fault;
 
-/// What the program is asked for.
+/// What the arguments ask for.
 #[derive(Clone, Copy)]
 pub struct Words<'a> {
-    /// Tell how the program is used, and do nothing else.
+    /// Whether to print the usage and do nothing else.
     pub help: bool,
     /// The title of the picture.
     pub title: &'a str,
-    /// The file of the earlier profile.
+    /// The file of the earlier profile, if one is named.
     pub earlier: Option<&'a str>,
 }
 
-/// What the words ask for: `--help`, `--title` and the word behind it, and one word that names a file. `Fault::Words` where a word
-/// begins with `-` and is no other, where `--title` is the last one, and where a second file is named. The last `--title` counts.
+/// Reads the arguments: `--help`, `--title` followed by a text, and one file name. It fails with `Fault::Words` if
+/// another argument begins with `-`, if no text follows `--title`, or if a second file is named. Of several titles the
+/// last one counts.
 pub fn read_words(words: &[String]) -> Result<Words<'_>, Fault> {
     let mut asked = Words {
         help: false,

@@ -2,6 +2,7 @@ use Rattle.std.proofs.Common.{◌+◌, length, ap, refl, arith}
 use Rattle.std.proofs.lemmas.List.{length-append}
 use Rattle.allocative_picture.specs.declared.row.Row.{Row}
 use Rattle.allocative_picture_filter.proofs.Beside.{rows-push}
+use Rattle.allocative_picture_filter.proofs.Outlines.{outlines-push}
 use Rattle.allocative_picture_filter.proofs.forest.Forest.open_row.Goals as goal
 
 pub returns-clause-full : goal.returns-clause-full
@@ -12,3 +13,10 @@ returns-clause-full c = λ h.
       fits = h.fits;
       rows = rw c.in_ok-push-2.ensures.items (rows-push (c.args.self.now.was + c.args.self.now.is) rs _ refl (c.bytes-before.ensures h.fits) h.rows);
     }
+
+pub returns-clause-rows : goal.returns-clause-rows
+returns-clause-rows c = record {
+  rows = outlines-push c.args.self.now.rows.items _ _ _ c.in_ok-push-2.ensures.items c.len-depth.ensures;
+  opened = omega (arith, c.in_ok-push.ensures.len);
+  last = refl;
+}
