@@ -6,7 +6,7 @@ use allocative::Refusal;
 use std::alloc::{AllocError, AllocFailed};
 use thiserror::Error;
 
-/// Why a run failed. Its text is the line on standard error, after the program's name.
+/// Why a run failed. `Display` writes the message for standard error, without the program's name.
 #[derive(Clone, Copy, Debug, PartialEq, Eq, Error)]
 pub enum Fault {
     /// Memory ran out.
@@ -21,7 +21,7 @@ pub enum Fault {
     /// The declared sizes exceed their bound.
     #[error("sizes do not fit")]
     TooLarge,
-    /// A word is not one of the three, or occurs twice.
+    /// A word is unknown or repeated.
     #[error("unknown or repeated word")]
     Words,
     /// A read failed.

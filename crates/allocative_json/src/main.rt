@@ -17,7 +17,7 @@ use std::io::ErrorKind;
 use std::process::ExitCode;
 use std::rt::Env;
 
-// The words after the program's name. A word that is not UTF-8 is not one of the program's words.
+// The words after the program's name. A word that is not UTF-8 is unknown.
 fn words_of<R: Env + AllocGlobal>(rt: &R) -> Result<Vec<String>, Fault> {
     match env::args(rt) {
         Ok(args) => Ok(args.skip(1).collect(rt.alloc())?),

@@ -14,6 +14,7 @@ use allocative::{FlameGraphBuilder, FlameGraphOutput, Refusal, Registry, profile
 use serde_json::Value;
 use std::alloc::Global;
 use std::collections::BTreeSet;
+use std::mem;
 
 // Visits the document, and then the set where there is one.
 fn visit_roots(
@@ -70,16 +71,20 @@ fn profile_by_registry(
 /// warnings. With `exact` the profile has no lines whose last key is `unused_capacity`. The roots are visited
 /// by their own `visit`.
 ///
-/// `Fault::NotJson` and `Fault::NotWhole` come as from `read_roots`. `Fault::TooLarge` and `Fault::Open` come
-/// only for a document whose numbers are whole: `TooLarge` where the declared sizes exceed their bound,
-/// `Open` from no implementation used here. Otherwise the error is `Fault::Memory`, which an empty input
-/// never causes.
+/// It returns `Fault::NotJson` and `Fault::NotWhole` where `read_roots` does. It returns `Fault::TooLarge` where
+/// the declared sizes exceed their bound, and `Fault::Open` where a visitor is forgotten, which no implementation
+/// used here does. Both occur only for a document whose numbers are whole. Otherwise the error is
+/// `Fault::Memory`, which an empty input never causes.
+///
+/// The document stays in memory until the process ends.
 pub fn profile_json(alloc: Global, input: &[u8], index: bool, exact: bool) -> Result<Report, Fault>
     ensures ok { IfOk result (λ made. IsRightReport input.now index exact (string_bytes made.profile) (string_bytes made.warnings)) }
     ensures err { IfErr result (RefusesReport input.now) }
 {
     let (document, numbers) = read_roots(alloc, input, index)?;
     let output = profile_of(alloc, &document, &numbers)?;
+    // The process is about to end, which frees the document faster than a drop of each value.
+    mem::forget((document, numbers));
     report::report(alloc, &output, exact)
 }
 

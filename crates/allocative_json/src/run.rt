@@ -13,8 +13,8 @@ use crate::words::{Words, read_words};
 use std::alloc::Global;
 use std::io::{ErrorKind, Read, Write};
 
-/// All that the reader gives. It returns `Fault::Reading` where a read failed, and otherwise `Fault::Memory`,
-/// which an empty input never causes. An interrupted read is repeated.
+/// Reads to the end of the input. It returns `Fault::Reading` where a read fails, and `Fault::Memory` where memory
+/// runs out, which an empty input never causes. An interrupted read is repeated.
 pub fn read_input<R: Read>(alloc: Global, input: &mut R) -> Result<Vec<u8>, Fault>
     ensures ok { IfOk result (λ bytes. IfSome (R.remaining input.old) (λ known. bytes.items ≡ known)) }
     ensures err { IfErr result (StopsReading (R.remaining input.old)) }
@@ -32,7 +32,7 @@ pub fn read_input<R: Read>(alloc: Global, input: &mut R) -> Result<Vec<u8>, Faul
     Err(Fault::Reading)
 }
 
-// Writes the whole text.
+// Writes and flushes the whole text.
 fn write_text<W: Write>(output: &mut W, text: &str) -> Result<(), Fault>
     ensures ok { OnOk result (Appends (W.contents output.old) (W.contents output.new) text.now) }
     ensures err { IfErr result (λ f. f ≡ Fault.Writing) }
@@ -43,7 +43,7 @@ fn write_text<W: Write>(output: &mut W, text: &str) -> Result<(), Fault>
     Ok(())
 }
 
-// Writes the profile, and then the warnings. It returns `Fault::Writing` where a write failed.
+// Writes the profile, and then the warnings. It returns `Fault::Writing` where a write fails.
 fn write_report<W: Write, E: Write>(
     made: &Report,
     output: &mut W,
@@ -57,7 +57,7 @@ fn write_report<W: Write, E: Write>(
     write_text(errors, made.warnings.as_str())
 }
 
-/// Writes the line of the fault and returns its status, even where the line cannot be written.
+/// Writes the message of the fault and returns its status, even where the message cannot be written.
 pub fn tell<E: Write>(errors: &mut E, fault: Fault) -> u8
     ensures { result ≡ status_of fault }
 {
@@ -66,7 +66,7 @@ pub fn tell<E: Write>(errors: &mut E, fault: Fault) -> u8
     fault.status()
 }
 
-// The report of the input, by a registry or without one.
+// Makes the report of the input, with a registry where it is asked for.
 fn profile_as_asked(alloc: Global, asked: Words, input: &[u8]) -> Result<Report, Fault>
     ensures ok { IfOk result (λ made. IsRightReport input.now asked.index asked.exact (string_bytes made.profile) (string_bytes made.warnings)) }
     ensures err { IfErr result (RefusesReport input.now) }
@@ -78,7 +78,7 @@ fn profile_as_asked(alloc: Global, asked: Words, input: &[u8]) -> Result<Report,
     }
 }
 
-// Checks the words, reads the input, and makes the report of it.
+// Parses the words, reads the input, and makes its report.
 fn make_report<R: Read>(alloc: Global, words: &[String], input: &mut R) -> Result<Report, Fault>
     ensures ok { IfOk result (λ made. IsReportFor (words_of words.now) (R.remaining input.old) (string_bytes made.profile) (string_bytes made.warnings)) }
     ensures err { IfErr result (MayEndRun (words_of words.now) (R.remaining input.old)) }
@@ -88,7 +88,7 @@ fn make_report<R: Read>(alloc: Global, words: &[String], input: &mut R) -> Resul
     profile_as_asked(alloc, asked, bytes.as_slice())
 }
 
-/// Ends a run: writes the report that was made, or the line of the fault. It returns the status.
+/// Writes the report that was made, or the message of the fault, and returns the status.
 pub fn finish<W: Write, E: Write>(made: Result<Report, Fault>, output: &mut W, errors: &mut E) -> u8
     ensures written { result ≡ 0 → IsOkAnd made (λ texts. Appends (W.contents output.old) (W.contents output.new) (string_bytes texts.profile) × Appends (E.contents errors.old) (E.contents errors.new) (string_bytes texts.warnings)) }
     ensures status { IfOk made (λ _. (result ≡ 0) ⊎ (result ≡ 7)) }
@@ -107,10 +107,10 @@ pub fn finish<W: Write, E: Write>(made: Result<Report, Fault>, output: &mut W, e
 /// Runs the whole program and returns its status.
 ///
 /// With status 0 the profile is on the output and the warnings are on the errors. Both are made before
-/// anything is written, and the profile is written first. Otherwise the line of the fault is written to the
+/// anything is written, and the profile is written first. Otherwise the message of the fault is written to the
 /// errors and, except with status 7, nothing is written to the output. The status is that of the fault even
-/// where the line cannot be written. With the word `registry` the roots are boxed and visited by a registry,
-/// and the same clauses hold.
+/// where the message cannot be written. With the word `registry` the roots are boxed and visited by a
+/// registry, and the same clauses hold.
 pub fn run_json<R: Read, W: Write, E: Write>(
     alloc: Global,
     words: &[String],

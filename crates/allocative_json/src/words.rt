@@ -18,8 +18,7 @@ pub struct Words {
 impl Words {
     ghost use Rattle.allocative_json.specs.Noted.{noted};
 
-    // What is asked for with one more word, or `None` where the word is not one of the three or is there
-    // already.
+    // What is asked for with one more word, or `None` where the word is unknown or repeated.
     fn with(self, word: &str) -> Option<Words>
         ensures { result ≡ noted self word.now }
     {
@@ -45,8 +44,8 @@ impl Words {
     }
 }
 
-/// What the words ask for. It returns `Ok` exactly where each word is one of `exact`, `index` and `registry`
-/// and none occurs twice, and otherwise `Fault::Words`. It allocates nothing.
+/// Parses the words. It returns `Ok` exactly where each word is `exact`, `index` or `registry` and none is
+/// repeated, and otherwise `Fault::Words`. It allocates nothing.
 pub fn read_words(words: &[String]) -> Result<Words, Fault>
     ensures { MatchResult result
         (λ asked. AreWords (words_of words.now) × Asks (words_of words.now) asked)
