@@ -1,4 +1,4 @@
--- What one more entry keeps.
+-- What one more entry leaves as it was.
 use Rattle.std.proofs.Common.{◌≡◌, ℕ, zero, suc, ◌+◌, ◌<◌, ◌≤◌, Bool, true, false, ◌||◌, [], ◌∷◌, ◌++◌, length, refl, sym, ap, ◌∙◌, arith, inl, inr}
 use Rattle.std.proofs.lemmas.List.Sums.{sum_by-cons}
 use Rattle.std.proofs.lemmas.Bool.{cond-true, cond-false, cases_Bool, cond_both}
@@ -16,7 +16,7 @@ total_add p n u (e ∷ rest) = elim (cases_Bool (is_same_path e.path p)) [
   | inr miss ↦ ap total (cond-false (is_same_path e.path p) _ _ miss) ∙ omega (arith, total_add p n u rest, sum_by-cons (λ (s : Sum). s.bytes) e rest, sum_by-cons (λ (s : Sum). s.bytes) e (add p n u rest))
 ]
 
--- the paths that stood there stand where they stood
+-- each path that was listed before keeps its place
 pub path_add : (p : Path) (n : ℕ) (u : Bool) (s : Listed) (i : ℕ) → i < length s → path_at (add p n u s) i ≡ path_at s i
 path_add p n u [] i h = absurd (omega arith)
 path_add p n u (e ∷ rest) i h = elim (cases_Bool (is_same_path e.path p)) [
@@ -36,7 +36,7 @@ pub length_add : (p : Path) (n : ℕ) (u : Bool) (s : Listed) → length s ≤ l
 length_add p n u [] = omega arith
 length_add p n u (e ∷ rest) = cond_both (is_same_path e.path p) _ _ (λ (s : Listed). suc (length rest) ≤ length s) (λ _. omega arith) (λ _. omega (arith, length_add p n u rest))
 
--- an entry of nothing first changes nothing
+-- an entry of 0 bytes before another one changes nothing
 pub add_add : (p : Path) (n : ℕ) (u : Bool) (s : Listed) → add p n u (add p 0 false s) ≡ add p n u s
 add_add p n u [] =
     let start : 0 + n ≡ n = omega arith in
@@ -59,7 +59,7 @@ add_add p n u (e ∷ rest) = elim (cases_Bool (is_same_path e.path p)) [
         let b : x.bytes + 0 + n ≡ x.bytes + n = omega arith in
         ap (λ (m : ℕ). record { path = x.path; bytes = m; is_unique = (x.is_unique || false) || u }) b ∙ ap (λ (m : Bool). record { path = x.path; bytes = x.bytes + n; is_unique = m }) (or_false x.is_unique)
 
--- an entry of nothing, and then one at the place that it gave
+-- an entry of 0 bytes, and then one at the place of the first
 pub entered_twice : (old mid new : Listed) (at : ℕ) (k : Key) (n : ℕ) (u : Bool) (i : ℕ) → IsEntered old mid at k 0 false i → new ≡ add (path_at mid i) n u mid → IsEntered old new at k n u i
 entered_twice old mid new at k n u i first second =
     let q : Path = path_at old at ++ k ∷ [] in
@@ -78,6 +78,6 @@ module _ {old new : Listed} {at : ℕ} {k : Key} {n : ℕ} {u : Bool} {i : ℕ} 
   pub length_entered : length old ≤ length new
   length_entered = let longer = length_add (path_at old at ++ k ∷ []) n u old in let same = ap length entered.sums in omega arith
 
-  -- a path stays at its place
+  -- a path keeps its place
   pub path_entered : (j : ℕ) → j < length old → path_at new j ≡ path_at old j
   path_entered j h = ap (λ (s : Listed). path_at s j) entered.sums ∙ path_add (path_at old at ++ k ∷ []) n u old j h

@@ -12,7 +12,7 @@ use Rattle.allocative_collectors.specs.Finishing.{size_at}
 use Rattle.allocative_collectors.specs.Walks.{PathsRise}
 use Rattle.allocative_graph.proofs.Basics.{path_total}
 
--- different places of a list have at most what the whole list has
+-- different places of a list have at most the bytes of the whole list
 places_le : (xs : List ℕ) (s : Listed) → ((a b : ℕ) → a < b → b < length xs → get_or xs a 0 ≢ get_or xs b 0) → ((a : ℕ) → a < length xs → get_or xs a 0 < length s) → sum_by (λ (i : ℕ). (let e = get_or s i root_sum in e.bytes)) xs ≤ total s
 places_le [] s apart within = omega arith
 places_le (x ∷ xs) s apart within =

@@ -1,4 +1,4 @@
--- What an arena keeps as below is what the sums have one key below.
+-- The bytes that a node stores as those of its children are those of the sums one key below.
 use Rattle.std.proofs.Common.{◌≡◌, ◌≢◌, ℕ, zero, suc, ◌-◌, ◌<◌, Bool, true, false, not, ◌&&◌, List, [], ◌∷◌, ◌++◌, length, get_or, sum_by, refl, sym, ap, ◌∙◌, arith, inl, inr, cond, eqb, ltb}
 use Rattle.std.specs.declared.cmp.Ordering.{Ordering}
 use Rattle.std.specs.declared.cmp.Ordering.TheVariants.{Less, Equal, Greater}
@@ -17,7 +17,7 @@ use Rattle.allocative_collectors.proofs.Orders.{key_total, same_path-same, same_
 use Rattle.allocative_collectors.proofs.Paths.{paths_at, paths_root, distinct}
 use Rattle.allocative_collectors.proofs.Labels.{length_sums, path_sums, get_sums, unique_at}
 
--- two sums agree where their terms do
+-- two sums are equal where their terms are
 same_sum : {X Y : Type 0} (f : X → ℕ) (g : Y → ℕ) (d : X) (e : Y) (xs : List X) (ys : List Y) → length xs ≡ length ys → ((i : ℕ) → i < length xs → f (get_or xs i d) ≡ g (get_or ys i e)) → sum_by f xs ≡ sum_by g ys
 same_sum f g d e [] [] l same = refl
 same_sum f g d e [] (y ∷ ys) l same = absurd (omega arith)

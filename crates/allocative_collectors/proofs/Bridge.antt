@@ -195,7 +195,7 @@ pub not_below_root : (p : Path) → is_one_below p [] ≡ false
 not_below_root [] = refl
 not_below_root (k ∷ p) = refl
 
--- what the map has below p is what the list has
+-- the map and the list have the same bytes below p
 pub below_listed : (s : Listed) → IsListing s → (p : Path) → sum_by (λ e. cond (is_one_below p e.path) e.bytes 0) s ≡ bag.below (map_of s) p
 below_listed [] ok p = absurd (omega (arith, ok.rooted))
 below_listed (r ∷ s) ok p =

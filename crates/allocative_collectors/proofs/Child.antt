@@ -34,7 +34,7 @@ module _ (ns : List Shape) (ok : IsArena ns) (p : ℕ) (hp : p < length ns) (k :
       let there = child_path ns ok p a hp (in_children a found) in
       (there.1, there.2 ∙ ap (λ (x : Key). path_at (sums ns) p ++ x ∷ []) found.has_key)
 
-  -- an entry of nothing changes nothing at a path that stands there
+  -- an entry of 0 bytes at a path that was entered before changes nothing
   pub add_nothing : (i : ℕ) → i < length ns → add (path_at (sums ns) i) 0 false (sums ns) ≡ sums ns
   add_nothing i hi =
       let first : (j : ℕ) → j < i → path_at (sums ns) j ≢ path_at (sums ns) i = λ j lt e. (let same : j ≡ i = distinct ns ok j i (omega arith) hi (sym (path_sums ns j (omega arith)) ∙ (e ∙ path_sums ns i hi)) in omega arith) in
@@ -50,7 +50,7 @@ module _ (ns : List Shape) (ok : IsArena ns) (p : ℕ) (hp : p < length ns) (k :
           let b : s.bytes + 0 ≡ s.bytes = omega arith in
           rw (b, or_false s.is_unique) refl
 
-  -- an entry of nothing at a child that is there
+  -- an entry of 0 bytes at a child that is there
   pub was_entered : (a : ℕ) → IsPlace (keys_at ns p) k a → IsEntered (sums ns) (sums ns) p k 0 false (get_or (children_at ns p) a 0)
   was_entered a found =
       let at = path_found a found in
@@ -62,7 +62,7 @@ module _ (ns : List Shape) (ok : IsArena ns) (p : ℕ) (hp : p < length ns) (k :
         path = at.1;
       }
 
-  -- an entry of nothing at a node with this parent and this key
+  -- an entry of 0 bytes at a node with this parent and this key
   pub stands_entered : (i : ℕ) → 0 < i → i < length ns → parent_at ns i ≡ p → key_at ns i ≡ k → IsEntered (sums ns) (sums ns) p k 0 false i
   stands_entered i pos hi parent key =
       let listed = ok.listed i pos hi in
@@ -74,7 +74,7 @@ module _ (ns : List Shape) (ok : IsArena ns) (p : ℕ) (hp : p < length ns) (k :
       } in
       subst (λ (j : ℕ). IsEntered (sums ns) (sums ns) p k 0 false j) is (was_entered listed.place found)
 
-  -- a key in a gap was entered nowhere
+  -- the path of a key in a gap was not entered before
   pub path_new : (g : ℕ) → IsGap (keys_at ns p) k g → (i : ℕ) → i < length (sums ns) → path_at (sums ns) i ≢ path_at (sums ns) p ++ k ∷ []
   path_new g gap zero h e = not_nil _ k (sym e ∙ (path_sums ns 0 ok.rooted ∙ paths_root ns))
     where
@@ -99,7 +99,7 @@ module _ (ns : List Shape) (ok : IsArena ns) (p : ℕ) (hp : p < length ns) (k :
         paths_set (ns ++ leaf p k ∷ []) p (with_children (insert (children_at ns p) g (length ns)) (at ns p)) (ap (λ (m : Shape). m.parent) (sym stood)) (ap (λ (m : Shape). m.key) (sym stood))
         ∙ (paths_push ns (leaf p k) ok.rooted ∙ ap (λ (x : Path). paths ns ++ (x ++ k ∷ []) ∷ []) (sym (path_sums ns p hp)))
 
-    -- the new node stands at the end of the sums
+    -- the new node is at the end of the sums
     pub sums_grown : sums (grown ns p k g) ≡ add (path_at (sums ns) p ++ k ∷ []) 0 false (sums ns)
     sums_grown =
         let Q = path_at (sums ns) p ++ k ∷ [] in
@@ -126,6 +126,6 @@ module _ (ns : List Shape) (ok : IsArena ns) (p : ℕ) (hp : p < length ns) (k :
           path_sums (grown ns p k g) (length ns) (omega arith) ∙ (ap (λ (ps : List Path). get_or ps (length ns) []) paths_grown ∙ get_or_push (paths ns) _ [] (length ns) (length-paths ns)),
         )
 
-    -- an entry of nothing at a new child
+    -- an entry of 0 bytes at a new child
     pub now_entered : IsEntered (sums ns) (sums (grown ns p k g)) p k 0 false (length ns)
     now_entered = record { sums = sums_grown; not_root = ok.rooted; within = path_grown.0; path = path_grown.1 }

@@ -1,4 +1,4 @@
--- The parts of a graph's collector after each step: one entry more, down and back, and the identities met.
+-- The parts of a flame graph's collector after each step: an entry, a visitor that is entered or left, an identity that is met.
 use Rattle.std.proofs.Common.{◌≡◌, ◌≢◌, ℕ, suc, pred, ◌+◌, ◌-◌, ◌^◌, ◌<◌, ◌≤◌, Bool, true, false, cond, not, ◌||◌, ◌&&◌, ◌==◌, List, [], ◌∷◌, ◌++◌, map, reverse, length, get_or, Ordering, Less, Equal, Greater, refl, sym, ap, subst, ◌∙◌, arith, inl, inr, length-append}
 use Rattle.std.specs.List.{list_any}
 use Rattle.std.specs.Ordering.{is_eq, nat_cmp, ordering_then}
@@ -95,7 +95,7 @@ module _ (t : Listed) (met : List Identity) where
       ap (λ (q : Path). outside q ++ back_from (reverse (map (path_at t) after)) (to_root rooted)) root
       ∙ ap (λ (l : List Path). back_from l (to_root rooted)) (ap (λ (l : List ℕ). reverse (map (path_at t) l)) is ∙ turned (path_at t) before outer)
 
-  -- a collector at the path p, with no content entered
+  -- a collector at the path p, with no open content
   abbrev alone : Path → Bool → Live
   alone p rooted = record {
     sums = map_of t;
@@ -108,7 +108,7 @@ module _ (t : Listed) (met : List Identity) where
   pub at_root : (current : ℕ) → path_at t current ≡ [] → live t met current [] true ≡ go [] (live t met current [] false)
   at_root current root = (λ i. alone (root i) true) ∙ (λ i. go [] (alone (sym root i) false))
 
--- ---- no visitor is out
+-- ---- no visitor is open
 length_outside : (p : Path) → length (outside p) ≡ length p
 length_outside [] = refl
 length_outside (k ∷ p) = omega (arith, length-append (map (λ (q : Path). k ∷ q) (outside p)) ([] ∷ []), length-map (outside p) (λ (q : Path). k ∷ q), length_outside p)
@@ -135,7 +135,7 @@ count_none n e = grind (arith, nat_tests)
 pub none_counted : (n : ℕ) → n ≡ 0 → (n == 0) ≡ true
 none_counted n e = grind (arith, nat_tests)
 
--- the current place is the root, no content is entered, and no root visitor is out
+-- the current place is the root, and no content and no root visitor is open
 pub record IsOut (t : Listed) (current : ℕ) (places : List ℕ) (rooted : Bool) : Type 0 where
   pub root : path_at t current ≡ []
   pub no_place : places ≡ []
@@ -163,7 +163,7 @@ module _ (t : Listed) (current : ℕ) (places : List ℕ) (rooted : Bool) where
       ap (λ (q : Path). outside q ++ back_from (reverse (map (path_at t) places)) (to_root rooted)) o.root
       ∙ (ap (λ (l : List ℕ). back_from (reverse (map (path_at t) l)) (to_root rooted)) o.no_place ∙ ap to_root o.no_visitor)
 
--- ---- one entry more
+-- ---- one more entry
 kept_back : (old new : Listed) → ((i : ℕ) → i < length old → path_at new i ≡ path_at old i) → (ps : List ℕ) → ((j : ℕ) → j < length ps → get_or ps j 0 < length old) → map (path_at new) ps ≡ map (path_at old) ps
 kept_back old new kept [] all = refl
 kept_back old new kept (p ∷ ps) all =

@@ -19,7 +19,7 @@ use Rattle.allocative_collectors.proofs.NodeReads.{in_nodes, in_shapes, children
 use Rattle.allocative_collectors.proofs.Walked.{IsPart, part_none, part_more, part_all}
 use Rattle.allocative_collectors.proofs.Whole.{entries_walk}
 
--- The node itself, if it has a warning, and what its first j children gave.
+-- The node itself where it has a warning, and what was found below its first j children.
 pub record HalfFound (s : Listed) (i : ℕ) (ks : List Key) (j : ℕ) (w w' : List Warned) : Type 0 where
   pub ys : List ℕ
   pub part : IsPart s (path_at s i) ks j ys
@@ -40,7 +40,7 @@ both_found s old mid new ys zs first second =
     ∙ (ap (λ (l : List Warned). l ++ flat_map (warned_at s) zs) first
     ∙ (append_assoc old (flat_map (warned_at s) ys) (flat_map (warned_at s) zs) ∙ ap (λ (l : List Warned). old ++ l) (sym (flat_map-append (warned_at s) ys zs))))
 
--- One child more.
+-- One more child.
 pub found_more : (s : Listed) (i : ℕ) (ks : List Key) (j : ℕ) → j < length ks → KeysRise ks → (m : ℕ) → path_at s m ≡ path_at s i ++ key_in ks j ∷ []
     → (w w' w'' : List Warned) → HalfFound s i ks j w w' → Finds s m w' w'' → HalfFound s i ks (j + 1) w w''
 found_more s i ks j hj rise m there w w' w'' half child =

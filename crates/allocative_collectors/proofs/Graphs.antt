@@ -21,7 +21,7 @@ use Rattle.allocative_collectors.proofs.Orders.{key_total, key_same, key_not_bef
 use Rattle.allocative_collectors.proofs.Labels.{length_sums}
 use Rattle.allocative_collectors.proofs.Walked.{on_way}
 
--- a graph as what it finds at each path
+-- a graph as the function from paths to sizes
 abbrev pub Finds : Type 0
 Finds = Path → Option ℕ
 
@@ -47,7 +47,7 @@ together_both None (Some n) = ap (λ (m : ℕ). Some m) (let r : (n : ℕ) → 0
 together_both (Some m) None = ap (λ (m : ℕ). Some m) (let r : (n : ℕ) → n + 0 ≡ n = λ n. omega arith in r m)
 together_both (Some m) (Some n) = refl
 
--- what a child more gives
+-- what one more child adds
 pub grown : (g h c : Graph) (k : Key) → h ≡ sum_of g (under k c) → (q : Path) → get h q ≡ both (get g q) (put_under k (λ r. get c r) q)
 grown g h c k is q = ap (λ (x : Graph). get x q) is ∙ (get-sum_of g (under k c) q ∙ (ap (sizes_together (get g q)) (placed q) ∙ together_both (get g q) (put_under k (λ r. get c r) q)))
   where
@@ -97,7 +97,7 @@ among ks k (suc j) = elim (among ks k j) [
   ]
 ]
 
--- f finds the node's own size, and what is under its first j children
+-- f has the node's own size, and the paths under its first j children
 pub record HasPart (s : Listed) (p : Path) (own : ℕ) (ks : List Key) (j : ℕ) (f : Finds) : Type 0 where
   pub root : f [] ≡ Some own
   pub done : (a : ℕ) → a < j → (r : Path) → f (key_in ks a ∷ r) ≡ graph_at s (p ++ key_in ks a ∷ r)

@@ -1,4 +1,4 @@
--- An arena with one more node, which nothing was entered at yet.
+-- An arena with one more node, which has no entry yet.
 use Rattle.std.proofs.Common.{◌≡◌, ◌≢◌, ℕ, zero, suc, ◌+◌, ◌-◌, ◌<◌, ◌≤◌, false, List, [], ◌∷◌, ◌++◌, length, get_or, set, refl, sym, ap, subst, ◌∙◌, arith, inl, inr, get_or-set_same, get_or-set_other}
 use Rattle.std.specs.List.{insert}
 use Rattle.std.specs.declared.cmp.Ordering.TheVariants.{Less}
@@ -12,18 +12,18 @@ use Rattle.allocative_collectors.specs.Shapes.{Shape, no_shape, at, children_at,
 use Rattle.allocative_collectors.proofs.Orders.{key_total}
 use Rattle.allocative_collectors.proofs.Keys.{length-keys_of, keys_of-same, keys_of-insert, insert_below, insert_here, insert_above}
 
--- a node with nothing in it
+-- a node with no bytes and no children
 abbrev pub leaf : ℕ → Key → Shape
 leaf p k = record { key = k; parent = p; children = []; bytes = 0; is_unique = false; below = 0 }
 
 abbrev pub with_children : List ℕ → Shape → Shape
 with_children xs n = record n { children = xs }
 
--- the arena with a new node under p, whose key k goes at place g among the children
+-- the arena with a new node under p, whose key k is put at place g among the children
 abbrev pub grown : List Shape → ℕ → Key → ℕ → List Shape
 grown ns p k g = set (ns ++ leaf p k ∷ []) p (with_children (insert (children_at ns p) g (length ns)) (at ns p))
 
--- no node's parent is p
+-- p is the parent of no node
 pub below_none : (p : ℕ) (ns : List Shape) → ((i : ℕ) → i < length ns → parent_at ns i ≢ p) → below_of p ns ≡ 0
 below_none p [] none = refl
 below_none p (n ∷ ns) none =
@@ -40,7 +40,7 @@ number_cases xs g n within P new old j h =
       | inr (inr gt) ↦ subst P (sym (insert_above xs g n 0 within j gt)) (old (j - 1) (omega arith))
     ]
 
--- a key put into its gap leaves the keys rising
+-- keys stay in order when a key is put into its gap
 module _ (ks : List Key) (k : Key) (g : ℕ) (gap : IsGap ks k g) where
   key_below : (j : ℕ) → j < g → key_in (insert ks g k) j ≡ key_in ks j
   key_below = insert_below ks g k [] gap.in_range
@@ -82,7 +82,7 @@ module _ (ns : List Shape) (ok : IsArena ns) (p : ℕ) (hp : p < length ns) (k :
   at_leaf : at (grown ns p k g) (length ns) ≡ leaf p k
   at_leaf = get_or-set_other (ns ++ leaf p k ∷ []) p (length ns) _ no_shape (omega arith) ∙ get_or_push ns (leaf p k) no_shape (length ns) refl
 
-  -- what doesn't read the children is as before
+  -- what does not depend on the children is unchanged
   as_before : {X : Type 0} (f : Shape → X) → f (with_children (insert (children_at ns p) g (length ns)) (at ns p)) ≡ f (at ns p) → (i : ℕ) → i < length ns → f (at (grown ns p k g) i) ≡ f (at ns i)
   as_before f same i h = elim (cases_eq i p) [
     | inl e ↦ rw e (ap f at_parent ∙ same)
@@ -110,7 +110,7 @@ module _ (ns : List Shape) (ok : IsArena ns) (p : ℕ) (hp : p < length ns) (k :
   children_leaf : children_at (grown ns p k g) (length ns) ≡ []
   children_leaf = ap (λ (n : Shape). n.children) at_leaf
 
-  -- the keys of the children that there were
+  -- the keys of the children before
   keys_stood : (q : ℕ) → q < length ns → keys_of (grown ns p k g) (children_at ns q) ≡ keys_at ns q
   keys_stood q hq = keys_of-same ns (grown ns p k g) (children_at ns q) (λ j h. key_before (get_or (children_at ns q) j 0) (ok.children q j hq h).in_range)
 
@@ -140,7 +140,7 @@ module _ (ns : List Shape) (ok : IsArena ns) (p : ℕ) (hp : p < length ns) (k :
     parent = ap (λ (n : Shape). n.parent) at_leaf;
   }
 
-  -- where a child of p stands now
+  -- the place of a child of p
   moved : (a : ℕ) → a < length (children_at ns p) → (b : ℕ) × (b < length (children_at (grown ns p k g) p)) × (get_or (children_at (grown ns p k g) p) b 0 ≡ get_or (children_at ns p) a 0)
   moved a h =
       let len = length-insert (children_at ns p) g (length ns) gap_within in

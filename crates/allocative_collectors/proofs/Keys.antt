@@ -19,7 +19,7 @@ keys_of-same ns ms (x ∷ xs) same = λ i. same 0 (omega arith) i ∷ keys_of-sa
 pub keys_of-insert : (ns : List Shape) (xs : List ℕ) (g i : ℕ) → keys_of ns (insert xs g i) ≡ insert (keys_of ns xs) g (key_at ns i)
 keys_of-insert ns xs g i = map-append (key_at ns) (take g xs) (i ∷ drop g xs) ∙ (λ j. sym (take-map (key_at ns) g xs) j ++ key_at ns i ∷ sym (drop-map (key_at ns) g xs) j)
 
--- what stands where after x was put at place g
+-- the items after x was put at place g
 module _ {X : Type 0} (xs : List X) (g : ℕ) (x d : X) (within : g ≤ length xs) where
   pub insert_below : (j : ℕ) → j < g → get_or (insert xs g x) j d ≡ get_or xs j d
   insert_below j h = get_or-insert_below xs g x d j h within

@@ -18,7 +18,7 @@ add_miss q n u (e ∷ rest) none =
     cond-false (is_same_path e.path q) _ _ (same_path-apart e.path q (none 0 (omega arith)))
     ∙ ap (λ (t : Listed). e ∷ t) (add_miss q n u rest (λ i h. none (suc i) (omega arith)))
 
--- at the first place of its path, an entry raises what stands there
+-- an entry is added to what is at the first place of its path
 pub add_hit : (q : Path) (n : ℕ) (u : Bool) (s : Listed) (i : ℕ) → i < length s → path_at s i ≡ q → ((j : ℕ) → j < i → path_at s j ≢ q) → add q n u s ≡ set s i (raise n u (get_or s i root_sum))
 add_hit q n u [] i h is first = absurd (omega arith)
 add_hit q n u (e ∷ rest) zero h is first = cond-true (is_same_path e.path q) _ _ (same_path-same e.path q is)

@@ -23,7 +23,7 @@ use Rattle.allocative_collectors.proofs.Graphs.{HasPart, part_start, part_step, 
 use Rattle.allocative_collectors.proofs.Bags.{sizes_le_total}
 use Rattle.allocative_collectors.proofs.NodeReads.{in_nodes, in_shapes, children_read, key_read}
 
--- the node's own size and warning, and what its first j children gave
+-- the node's own size and warning, and the graphs and warnings of its first j children
 pub record HalfMade (s : Listed) (i : ℕ) (ks : List Key) (j : ℕ) (w w' : List ℕ) (g : Graph) : Type 0 where
   pub ys : List ℕ
   pub part : IsPart s (path_at s i) ks j ys

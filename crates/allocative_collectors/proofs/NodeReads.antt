@@ -36,7 +36,7 @@ key_read items i n h read = ap (λ (s : Shape). s.key) (shape_read items i n h r
 pub key_seen : (items : List Node) (xs : List ℕ) (j : ℕ) → j < length xs → get_or xs j 0 < length items → (n : Node) → n ≡ get_or items (get_or xs j 0) n → key_in (keys_of (map shape items) xs) j ≡ n.key
 key_seen items xs j h within n read = key_in-keys_of (map shape items) xs j h ∙ key_read items (get_or xs j 0) n within read
 
--- a node written over by one of the same shape
+-- a node replaced by one of the same shape
 pub same_shapes : (items : List Node) (i : ℕ) (n m : Node) → i < length items → n ≡ get_or items i n → shape m ≡ shape n → map shape (set items i m) ≡ map shape items
 same_shapes items i n m h read same =
     map-set shape items i m ∙ (ap (set (map shape items) i) (same ∙ sym (shape_read items i n h read)) ∙ set-get_or (map shape items) i no_shape)
@@ -56,7 +56,7 @@ raise_node size b n = record n { bytes = n.bytes + size; is_unique = b }
 abbrev pub below_node : ℕ → Node → Node
 below_node size n = record n { below = n.below + size }
 
--- what stands below a node that wasn't written
+-- what is below a node that was not written
 pub below_read : (items : List Node) (i q : ℕ) (n m : Node) → q < length items → q ≢ i → m ≡ get_or (set items i n) q m → below_at (map shape items) q ≡ m.below
 below_read items i q n m h apart read =
     ap (λ (s : Shape). s.below)

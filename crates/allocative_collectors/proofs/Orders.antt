@@ -20,7 +20,7 @@ same_path-same p q e = rw (← e) (same_path_itself p)
 pub same_path-apart : (p q : Path) → (p ≡ q → ⊥) → is_same_path p q ≡ false
 same_path-apart p q ne = false_from_ne_true _ (λ e. ne (same_path p q e))
 
--- a key isn't before itself
+-- a key is not before itself
 pub key_not_before : (k l : Key) → k ≡ l → key_cmp k l ≡ Less → ⊥
 key_not_before k l e less =
     let tied : key_cmp k k ≡ Equal = tied_itself key_total k in

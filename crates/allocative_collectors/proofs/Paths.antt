@@ -42,7 +42,7 @@ pub paths_root : (ns : List Shape) → get_or (paths ns) 0 [] ≡ []
 paths_root [] = refl
 paths_root (n ∷ ns) = grow_before ([] ∷ []) ns 0 (omega arith)
 
--- another node's path goes on from its parent's
+-- the path of another node is its parent's with one more key
 pub paths_at : (ns : List Shape) (i : ℕ) → 0 < i → i < length ns → parent_at ns i < i → get_or (paths ns) i [] ≡ get_or (paths ns) (parent_at ns i) [] ++ key_at ns i ∷ []
 paths_at [] i pos h lt = absurd (omega arith)
 paths_at (n ∷ ns) zero pos h lt = absurd (omega arith)
@@ -66,7 +66,7 @@ paths_set [] i n p k = refl
 paths_set (m ∷ ns) zero n p k = refl
 paths_set (m ∷ ns) (suc i) n p k = grow_set ([] ∷ []) ns i n p k
 
--- a key stands at one place
+-- a key is at one place
 one_place : (ks : List Key) → KeysRise ks → (a b : ℕ) → a < length ks → b < length ks → key_in ks a ≡ key_in ks b → a ≡ b
 one_place ks rise a b ha hb same = elim (cases_order a b) [
   | inl e ↦ e
@@ -79,7 +79,7 @@ not_nil [] k e = cc
 not_nil (x ∷ p) k e = cc
 
 module _ (ns : List Shape) (ok : IsArena ns) where
-  -- a node that isn't the root hasn't the root's path
+  -- a node other than the root does not have the root's path
   pub not_root_path : (i : ℕ) → 0 < i → i < length ns → get_or (paths ns) i [] ≡ [] → ⊥
   not_root_path i pos h e = not_nil _ _ (sym (paths_at ns i pos h (ok.parents i pos h)) ∙ e)
 

@@ -20,7 +20,7 @@ more_below n m = record m { below = m.below + n }
 abbrev pub raised : List Shape → ℕ → ℕ → ℕ → Bool → List Shape
 raised ns i q n u = set (set ns i (raise_shape n u (at ns i))) q (more_below n (at ns q))
 
--- what is entered below a node is within all
+-- the bytes below a node are at most all bytes
 pub below_le_total : (ns : List Shape) (q : ℕ) → below_of q ns ≤ total (sums ns)
 below_le_total ns q = rw (total_sums ns) (sum_by-le-sum_by (share q) (λ (n : Shape). n.bytes) ns (λ n. grind arith))
 
@@ -45,7 +45,7 @@ module _ (ns : List Shape) (ok : IsArena ns) (i : ℕ) (pos : 0 < i) (hi : i < l
   at_other : (j : ℕ) → j ≢ i → j ≢ parent_at ns i → at (raised ns i (parent_at ns i) n u) j ≡ at ns j
   at_other j ni np = get_or-set_other (set ns i (raise_shape n u (at ns i))) (parent_at ns i) j _ no_shape np ∙ get_or-set_other ns i j _ no_shape ni
 
-  -- what reads neither the bytes, nor the mark, nor what is below is as before
+  -- what depends neither on the bytes, nor on the mark, nor on the bytes below is unchanged
   as_before : {X : Type 0} (f : Shape → X) → ((m : Shape) → f (raise_shape n u m) ≡ f m) → ((m : Shape) → f (more_below n m) ≡ f m) → (j : ℕ) → f (at (raised ns i (parent_at ns i) n u) j) ≡ f (at ns j)
   as_before f up down j = elim (cases_eq j i) [
     | inl e ↦ rw e (ap f at_raised ∙ up (at ns i))
@@ -148,7 +148,7 @@ module _ (ns : List Shape) (ok : IsArena ns) (i : ℕ) (pos : 0 < i) (hi : i < l
       paths_set mid (parent_at ns i) (more_below n (at ns (parent_at ns i))) (ap (λ (m : Shape). m.parent) (sym stood)) (ap (λ (m : Shape). m.key) (sym stood))
       ∙ paths_set ns i (raise_shape n u (at ns i)) refl refl
 
-  -- the sums are raised at the node's path
+  -- the bytes are added at the node's path
   pub sums_raised : sums (raised ns i (parent_at ns i) n u) ≡ add (path_at (sums ns) i) n u (sums ns)
   sums_raised =
       let P = paths ns in

@@ -18,7 +18,7 @@ use Rattle.allocative_collectors.proofs.Keys.{length-keys_of, key_in-keys_of}
 use Rattle.allocative_collectors.proofs.Paths.{paths_at, paths_root, distinct}
 use Rattle.allocative_collectors.proofs.Labels.{length_sums, path_sums}
 
--- a common beginning decides nothing
+-- two paths with a common beginning compare as the rest of both
 after_common : (p x y : Path) → path_cmp (p ++ x) (p ++ y) ≡ path_cmp x y
 after_common [] x y = refl
 after_common (k ∷ p) x y = ap (λ (o : Ordering). ordering_then o (path_cmp (p ++ x) (p ++ y))) (tied_itself key_total k) ∙ after_common p x y
@@ -45,7 +45,7 @@ stands_right xs ys i h =
       is = get_or-append_right xs ys (length xs) (length xs + h.place) 0 refl (omega arith) ∙ (ap (λ (j : ℕ). get_or ys j 0) index ∙ h.is);
     }
 
--- what has been walked: the paths under the first j children of the node p
+-- the paths that were walked: those under the first j children of the node p
 pub record IsPart (s : Listed) (p : Path) (ks : List Key) (j : ℕ) (ys : List ℕ) : Type 0 where
   pub within : (a : ℕ) → a < length ys → get_or ys a 0 < length s
   pub under : (a : ℕ) → a < length ys → (b : ℕ) × (b < j) × IsUnder (p ++ key_in ks b ∷ []) (path_at s (get_or ys a 0))
@@ -117,7 +117,7 @@ module _ (ns : List Shape) (ok : IsArena ns) where
         path_sums ns i child.in_range ∙ (step ∙ (ap (λ (q : ℕ). get_or (paths ns) q [] ++ key_at ns i ∷ []) child.parent ∙ (λ k. sym (path_sums ns p hp) k ++ key k ∷ []))),
       )
 
-  -- a path that goes on from that of p with k has a child of p under k on its way
+  -- a path below that of p with k has a child of p with the key k above it or at it
   pub on_way : (n i p : ℕ) → i < n → i < length ns → p < length ns → (k : Key) (q : Path) → path_at (sums ns) i ≡ path_at (sums ns) p ++ k ∷ q → (j : ℕ) × (j < length (keys_at ns p)) × (key_in (keys_at ns p) j ≡ k)
   on_way zero i p lt hi hp k q e = absurd (omega arith)
   on_way (suc n) zero p lt hi hp k q e = absurd (nothing (path_at (sums ns) p) k q (sym e ∙ (path_sums ns 0 ok.rooted ∙ paths_root ns)))

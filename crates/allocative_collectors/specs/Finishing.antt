@@ -19,7 +19,7 @@ is_short s i = let e = sum_at s i in not (is_root e.path) && not e.is_unique && 
 abbrev pub warning_at : Listed → ℕ → List ℕ
 warning_at s i = warning (map_of s) (row (sum_at s i))
 
--- One walk from place i on made the graph g, and wrote its warnings behind those that there were.
+-- A walk of the paths from that of place i on made the graph g. It appended their warnings to `written`.
 pub record Makes (s : Listed) (i : ℕ) (written written' : List ℕ) (g : Graph) : Type 0 where
   pub others : List ℕ
   pub walk : IsWalk s (path_at s i) (i ∷ others)
@@ -27,6 +27,6 @@ pub record Makes (s : Listed) (i : ℕ) (written written' : List ℕ) (g : Graph
   pub graph_is : (q : Path) → get g q ≡ get (graph (map_of s)) (path_at s i ++ q)
   pub total_is : total g ≡ sum_by (size_at s) (i ∷ others)
 
--- One walk from place i on made the graph g, and there were no warnings.
+-- A walk of the paths from that of place i on made the graph g, and none of them has a warning.
 abbrev pub MakesAlone : Listed → ℕ → Graph → Type 0
 MakesAlone s i g = (written : List ℕ) → Makes s i written written g

@@ -1,4 +1,4 @@
--- The paths that were entered, in the order in which each was entered first, with what was entered there.
+-- The paths that were entered, in the order of their first entries, with what was entered at each.
 use Rattle.std.specs.Prelude.{◌≡◌, ℕ, ◌+◌, List, [], ◌∷◌, ◌++◌, Bool, false, ◌||◌, if◌then◌else◌, slice_index_or, sum_by, length, ◌<◌, map}
 use Rattle.std.specs.FinMap.{from_entries}
 use Rattle.allocative_graph.specs.Path.{Key, Path, is_same_path}
@@ -10,28 +10,28 @@ pub record Sum : Type 0 where
   pub bytes : ℕ
   pub is_unique : Bool
 
--- What was entered, path by path; the root stands first, and a place in the list is a node's number.
+-- What was entered, path by path. The root comes first, and a place in the list is the number of a node.
 abbrev pub Listed : Type 0
 Listed = List Sum
 
--- The root, where nothing was entered.
+-- The root before any entry.
 abbrev pub root_sum : Sum
 root_sum = record { path = []; bytes = 0; is_unique = false }
 
--- One more entry at a path that was entered before.
+-- What a path has after one more entry of n bytes, which is unique where u is true.
 abbrev pub raise : ℕ → Bool → Sum → Sum
 raise n u s = record { path = s.path; bytes = s.bytes + n; is_unique = s.is_unique || u }
 
--- One more entry of n bytes at p.
+-- The list with one more entry of n bytes at p.
 abbrev pub add : Path → ℕ → Bool → Listed → Listed
 add p n u [] = record { path = p; bytes = n; is_unique = u } ∷ []
 add p n u (s ∷ rest) = if is_same_path s.path p then raise n u s ∷ rest else s ∷ add p n u rest
 
--- All bytes entered.
+-- The bytes of all entries.
 abbrev pub total : Listed → ℕ
 total s = sum_by (λ e. e.bytes) s
 
--- What stands at place i.
+-- What was entered at place i.
 abbrev pub sum_at : Listed → ℕ → Sum
 sum_at s i = slice_index_or s i root_sum
 
@@ -39,14 +39,14 @@ sum_at s i = slice_index_or s i root_sum
 abbrev pub path_at : Listed → ℕ → Path
 path_at s i = let e = sum_at s i in e.path
 
--- The n bytes were entered under k at the path of place `at`, and i is the place of that path now.
+-- `new` is `old` with one more entry of n bytes under k at the path of place `at`, and i is the place of the entry.
 pub record IsEntered (old new : Listed) (at : ℕ) (k : Key) (n : ℕ) (u : Bool) (i : ℕ) : Type 0 where
   pub sums : new ≡ add (path_at old at ++ k ∷ []) n u old
   pub not_root : 0 < i
   pub within : i < length new
   pub path : path_at new i ≡ path_at old at ++ k ∷ []
 
--- The path at i is that at p and one key more.
+-- The path at i is the path at p with one more key.
 pub record IsAbove (s : Listed) (i : ℕ) (p : ℕ) : Type 0 where
   pub key : Key
   pub within : p < length s
@@ -57,11 +57,11 @@ pub record IsAbove (s : Listed) (i : ℕ) (p : ℕ) : Type 0 where
 abbrev pub row : Sum → Path × Node
 row e = (e.path, record { bytes = e.bytes; is_unique = e.is_unique })
 
--- All but the root, which stands first.
+-- The rows of all paths but the root, which comes first.
 abbrev pub rows : Listed → List (Path × Node)
 rows [] = []
 rows (r ∷ s) = map row s
 
--- The list as sums.
+-- The list as a map from paths to what was entered there.
 abbrev pub map_of : Listed → Sums
 map_of s = from_entries (rows s)

@@ -6,9 +6,16 @@ use Rattle.allocative_collectors.specs.Shapes.{Shape, sums, IsArena}
 
 -- A node without the memory that it holds.
 abbrev pub shape : Node → Shape
-shape n = record { key = n.key; parent = n.parent; children = n.children.items; bytes = n.bytes; is_unique = n.is_unique; below = n.below }
+shape n = record {
+  key = n.key;
+  parent = n.parent;
+  children = n.children.items;
+  bytes = n.bytes;
+  is_unique = n.is_unique;
+  below = n.below;
+}
 
--- What a tree's nodes stand for.
+-- The sums that a tree's nodes stand for.
 abbrev pub sums_of : List Node → Listed
 sums_of ns = sums (map shape ns)
 

@@ -1,4 +1,4 @@
--- The parts of a graph's collector: a tree, the places of its visitors, and the identities met.
+-- A flame graph's collector as its parts: a tree, the identities met, and the places of its visitors.
 use Rattle.std.specs.Prelude.{◌≡◌, ℕ, ◌+◌, ◌<◌, ◌^◌, Bool, cond, [], ◌∷◌, ◌++◌, List, map, reverse, length, slice_index, ◌≤◌, ◌⊎◌}
 use Rattle.std.specs.FinSet.{from_list}
 use Rattle.allocative_graph.specs.declared.refusal.Refusal.{Refusal}
@@ -9,25 +9,27 @@ use Rattle.allocative_graph.specs.Sums.{entered}
 use Rattle.allocative_graph.specs.Collector.{Live}
 use Rattle.allocative_collectors.specs.Listed.{Listed, path_at, total, map_of, IsEntered}
 
--- A root visitor goes back to the root.
+-- The path that a root visitor goes back to, where one is open.
 abbrev pub to_root : Bool → List Path
 to_root is_rooted = cond is_rooted ([] ∷ []) []
 
--- The paths outside p, from the next one to the root's.
+-- The paths above p, from the nearest one to the root.
 abbrev pub outside : Path → List Path
 outside [] = []
 outside (k ∷ p) = map (λ (q : Path). k ∷ q) (outside p) ++ [] ∷ []
 
--- The paths to go back to from contents that were entered at the paths ps, and behind them the last ones.
+-- The paths to go back to from contents that were entered at the paths ps, followed by the paths `last`.
 abbrev pub back_from : List Path → List Path → List Path
 back_from [] last = last
 back_from (p ∷ ps) last = p ∷ (outside p ++ back_from ps last)
 
--- The paths to go back to: those outside the current one, and then those of each content that it stands in.
+-- The paths to go back to: those above the current one, then those of each open content.
 abbrev pub back_at : Listed → ℕ → List ℕ → Bool → List Path
-back_at t current places is_rooted = outside (path_at t current) ++ back_from (reverse (map (path_at t) places)) (to_root is_rooted)
+back_at t current places is_rooted =
+    outside (path_at t current) ++ back_from (reverse (map (path_at t) places)) (to_root is_rooted)
 
--- What the parts are as a collector: the current place, the places where contents were entered, the last one last, and whether a root visitor is out below them.
+-- The collector that the parts stand for: the tree, the identities met, the current place, the places where the open
+-- contents were entered, with the innermost last, and whether a root visitor is open.
 abbrev pub live : Listed → List Identity → ℕ → List ℕ → Bool → Live
 live t met current places is_rooted = record {
   sums = map_of t;
@@ -37,7 +39,7 @@ live t met current places is_rooted = record {
   open_visitors = length (back_at t current places is_rooted);
 }
 
--- The places stand in the list, which starts with the root, and n is the bytes entered.
+-- The places are those of the list, which begins with the root. The bytes of all entries are n, which is below 2^63.
 pub record IsPlaced (t : Listed) (current : ℕ) (places : List ℕ) (n : ℕ) : Type 0 where
   pub here : current < length t
   pub back : (j : ℕ) → j < length places → slice_index places j < length t
@@ -47,12 +49,14 @@ pub record IsPlaced (t : Listed) (current : ℕ) (places : List ℕ) (n : ℕ) :
   pub rooted : 0 < length t
   pub root_path : path_at t 0 ≡ []
 
--- The n bytes fit beside those that were entered before, and were entered under k at the path of place `at`; node is the place of that path now.
+-- The bytes of all entries stay below 2^63: they were `was`, and are `now` with one more entry of n bytes under k at
+-- the path of place `at`. The place of the entry is `node`.
 pub record AddedAt (old new : Listed) (at : ℕ) (k : Key) (n : ℕ) (u : Bool) (was now : ℕ) (node : ℕ) : Type 0 where
   pub fits : was + n < 2 ^ 63
   pub count : now ≡ was + n
   pub is : IsEntered old new at k n u node
 
--- n bytes behind the `was` bytes before were refused with e: they pass the bound; or they do not, and memory was refused.
+-- An entry of n bytes, after `was` bytes, is refused with e. Either e is TooLarge and the bound would be exceeded, or e
+-- is Memory and the bound would not be exceeded.
 abbrev pub TellsWhy : ℕ → ℕ → Refusal → Type 0
 TellsWhy was n e = ((e ≡ TooLarge) × (2 ^ 63 ≤ was + n)) ⊎ ((e ≡ Memory) × (was + n < 2 ^ 63))

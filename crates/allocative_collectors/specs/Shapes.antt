@@ -1,10 +1,11 @@
--- An arena of nodes, without the memory that its vectors hold.
+-- An arena of nodes, as plain values.
 use Rattle.std.specs.Prelude.{◌≡◌, ℕ, ◌<◌, ◌≤◌, List, [], ◌∷◌, ◌++◌, Bool, false, ◌==◌, if◌then◌else◌, slice_index, slice_index_or, sum_by, length, map}
 use Rattle.std.specs.declared.cmp.Ordering.TheVariants.{Less, Greater}
 use Rattle.allocative_graph.specs.Path.{Key, Path, key_cmp}
 use Rattle.allocative_collectors.specs.Listed.{Listed}
 
--- A node: its key, its parent's number, its children's numbers, the bytes entered at it, whether it was ever entered as unique, and the bytes entered at its children.
+-- A node: its key, the number of its parent, the numbers of its children, the bytes entered at it, whether it was ever
+-- entered as unique, and the bytes entered at its children.
 pub record Shape : Type 0 where
   pub key : Key
   pub parent : ℕ
@@ -13,25 +14,25 @@ pub record Shape : Type 0 where
   pub is_unique : Bool
   pub below : ℕ
 
--- A node with nothing in it, which stands for one that is not there.
+-- The node that stands for a missing one.
 abbrev pub no_shape : Shape
 no_shape = record { key = []; parent = 0; children = []; bytes = 0; is_unique = false; below = 0 }
 
--- The node of a number.
+-- The node with the number i.
 abbrev pub at : List Shape → ℕ → Shape
 at ns i = slice_index_or ns i no_shape
 
 -- ---- the paths
--- The path of a node, from those of the nodes before it.
+-- The path of a node, where ps are the paths of the nodes before it.
 abbrev pub path_from : List Path → Shape → Path
 path_from ps n = slice_index_or ps n.parent [] ++ n.key ∷ []
 
--- The paths ps and, behind them, those of the nodes ns.
+-- The paths ps, followed by those of the nodes ns.
 abbrev pub grow : List Path → List Shape → List Path
 grow ps [] = ps
 grow ps (n ∷ ns) = grow (ps ++ path_from ps n ∷ []) ns
 
--- The paths of the nodes: the first is the root, and each other one goes on from its parent's.
+-- The paths of the nodes: the first is the root, and each other one is its parent's with one more key.
 abbrev pub paths : List Shape → List Path
 paths [] = []
 paths (n ∷ ns) = grow ([] ∷ []) ns
@@ -42,7 +43,7 @@ label [] ns = []
 label (p ∷ ps) [] = []
 label (p ∷ ps) (n ∷ ns) = record { path = p; bytes = n.bytes; is_unique = n.is_unique } ∷ label ps ns
 
--- What the nodes stand for.
+-- The sums that the nodes stand for.
 abbrev pub sums : List Shape → Listed
 sums ns = label (paths ns) ns
 
@@ -51,19 +52,19 @@ sums ns = label (paths ns) ns
 abbrev pub key_at : List Shape → ℕ → Key
 key_at ns i = let n = at ns i in n.key
 
--- The number of its parent.
+-- The number of the parent of node i.
 abbrev pub parent_at : List Shape → ℕ → ℕ
 parent_at ns i = let n = at ns i in n.parent
 
--- The numbers of its children.
+-- The numbers of the children of node i.
 abbrev pub children_at : List Shape → ℕ → List ℕ
 children_at ns i = let n = at ns i in n.children
 
--- The bytes entered at it.
+-- The bytes entered at node i.
 abbrev pub bytes_at : List Shape → ℕ → ℕ
 bytes_at ns i = let n = at ns i in n.bytes
 
--- The bytes that it keeps as entered at its children.
+-- The bytes that node i stores as those entered at its children.
 abbrev pub below_at : List Shape → ℕ → ℕ
 below_at ns i = let n = at ns i in n.below
 
@@ -75,7 +76,7 @@ keys_of ns xs = map (key_at ns) xs
 abbrev pub keys_at : List Shape → ℕ → List Key
 keys_at ns p = keys_of ns (children_at ns p)
 
--- The bytes of n where its parent is p.
+-- The bytes of the node n where its parent is p, otherwise 0.
 abbrev pub share : ℕ → Shape → ℕ
 share p n = if n.parent == p then n.bytes else 0
 
@@ -104,24 +105,26 @@ pub record IsChild (ns : List Shape) (p i : ℕ) : Type 0 where
   pub in_range : i < length ns
   pub parent : parent_at ns i ≡ p
 
--- The root stands first and has no bytes; each other node stands behind its parent and is listed there; children are listed by rising keys; and each node keeps the bytes of its children.
+-- The root comes first and has no bytes. Each other node comes after its parent and is one of its children. Children
+-- are in the order of their keys, and each node stores the bytes of its children.
 pub record IsArena (ns : List Shape) : Type 0 where
   pub rooted : 0 < length ns
   pub root_empty : bytes_at ns 0 ≡ 0
   pub root_parent : parent_at ns 0 ≡ 0
   pub parents : (i : ℕ) → 0 < i → i < length ns → parent_at ns i < i
   pub listed : (i : ℕ) → 0 < i → i < length ns → IsListed ns i
-  pub children : (p j : ℕ) → p < length ns → j < length (children_at ns p) → IsChild ns p (slice_index (children_at ns p) j)
+  pub children : (p j : ℕ) → p < length ns → j < length (children_at ns p)
+      → IsChild ns p (slice_index (children_at ns p) j)
   pub rise : (p : ℕ) → p < length ns → KeysRise (keys_at ns p)
   pub below : (p : ℕ) → p < length ns → below_at ns p ≡ below_of p ns
 
 -- ---- a search
--- The key stands at place i.
+-- The key k is at place i.
 pub record IsPlace (ks : List Key) (k : Key) (i : ℕ) : Type 0 where
   pub in_range : i < length ks
   pub has_key : key_in ks i ≡ k
 
--- The key would go at place i: smaller keys stand before it, and greater keys from it on.
+-- The key k is missing, and belongs at place i: the keys before that place are smaller, those from it on are greater.
 pub record IsGap (ks : List Key) (k : Key) (i : ℕ) : Type 0 where
   pub in_range : i ≤ length ks
   pub smaller_before : (j : ℕ) → j < i → key_cmp (key_in ks j) k ≡ Less

@@ -1,4 +1,4 @@
-//! What a flame graph's collector keeps: the arena of paths, the identities met, and where its visitors stand.
+//! The state of a flame graph's collector: the arena of paths, the identities met, and where its visitors are.
 ghost use Rattle.std.specs.Prelude.{◌≡◌, ◌+◌, ◌^◌, ◌<◌, [], false, length, IfOk, IfErr, OnOk, OnErr, IsTrue, ◌↔◌};
 ghost use Rattle.allocative_graph.specs.Sums.{entered};
 ghost use Rattle.allocative_graph.specs.Collector.{OfGraph, no_entries, enter_live, leave_live, go, IsClosed, IsAtRoot};
@@ -17,18 +17,19 @@ use std::alloc::{AllocError, Global};
 use std::collections::HashSet;
 use std::marker::Model;
 
-/// The collector of a flame graph, which has not failed. The crate above remembers a refusal, and goes no further with it.
+/// The collector of a flame graph, which has not failed. The crate above stores the first refusal, and does not use the
+/// collector after it.
 #[derive(Drop)]
 pub struct GraphCollector {
     tree: Tree,
-    // the node of the current path
+    // The node of the current path.
     current: usize,
-    // the nodes to go back to from the contents that are entered, the last one last
+    // For each open content, the node that was current when it was entered. The innermost content comes last.
     places: Vec<usize>,
     met: HashSet<Identity>,
-    // whether a root visitor is out
+    // Whether a root visitor is open.
     is_rooted: bool,
-    // the bytes of all entries
+    // The bytes of all entries.
     entered: usize,
 }
 
@@ -48,7 +49,7 @@ impl Model for GraphCollector {
 }
 
 impl GraphCollector {
-    /// Nothing entered, at the root, with no visitor out. It is refused for want of memory alone.
+    /// A collector with no entries and no open visitor, at the root. The only error is that memory runs out.
     pub fn new(alloc: Global) -> Result<GraphCollector, AllocError>
         ensures { IfOk result (λ c. c ≡ no_entries) }
     {
@@ -63,13 +64,14 @@ impl GraphCollector {
         })
     }
 
-    /// One entry of `size` bytes more under the key, unique or inline, and a visitor at it.
+    /// One more entry of `size` bytes under the key, unique or inline, and a visitor at it.
     ///
-    /// It is refused with TooLarge exactly where all bytes entered would pass `isize::MAX`, which is tested before memory is asked
-    /// for, and else with Memory. TooLarge changes nothing; after Memory the path may be there, and its bytes may be counted.
+    /// It returns `TooLarge` exactly where the bytes of all entries would exceed `isize::MAX`, and otherwise fails only
+    /// with `Memory`. The bound is tested before memory is allocated. `TooLarge` changes nothing.
     #[inline(always)]
     pub fn enter(&mut self, key: &Key, size: usize, is_unique: bool) -> Result<(), Refusal>
-        ensures ok { OnOk result ((entered self.old.sums + size < 2 ^ 63) × (self.new ≡ enter_live is_unique key.now size self.old)) }
+        ensures ok { OnOk result ((entered self.old.sums + size < 2 ^ 63)
+            × (self.new ≡ enter_live is_unique key.now size self.old)) }
         ensures err { IfErr result (Refuses is_unique size (OfGraph self.old)) }
         ensures kept { IfErr result (λ e. e ≡ Refusal.TooLarge → self.new ≡ self.old) }
     {
@@ -85,10 +87,14 @@ impl GraphCollector {
         Ok(())
     }
 
-    /// One inline pointer of `size` bytes more under the key; where its identity is met for the first time, a visitor at its
-    /// content, whose paths start at the root. Answers whether it is. It is refused as `enter` is.
+    /// One more inline entry of `size` bytes under the key: a pointer to the content with the identity `id`.
+    ///
+    /// It returns whether the identity is met for the first time. Then a visitor is open at the content, whose paths
+    /// start at the root. The errors are those of `enter`. `TooLarge` changes nothing. After `Memory` the entry may
+    /// have been counted.
     pub fn enter_shared(&mut self, key: &Key, size: usize, id: Identity) -> Result<bool, Refusal>
-        ensures ok { IfOk result (λ new. (entered self.old.sums + size < 2 ^ 63) × MeetsAs key.now size id self.old new self.new) }
+        ensures ok { IfOk result (λ new. (entered self.old.sums + size < 2 ^ 63)
+            × MeetsAs key.now size id self.old new self.new) }
         ensures err { IfErr result (Refuses false size (OfGraph self.old)) }
         ensures kept { IfErr result (λ e. e ≡ Refusal.TooLarge → self.new ≡ self.old) }
     {
@@ -107,7 +113,7 @@ impl GraphCollector {
         }
     }
 
-    /// A visitor less: back to where the one outside stands. It takes no memory.
+    /// One visitor less: back to where the visitor outside it is. It allocates nothing.
     #[inline(always)]
     pub fn leave(&mut self)
         ensures { self.new ≡ leave_live self.old }
@@ -118,7 +124,7 @@ impl GraphCollector {
         }
     }
 
-    // The same at the root: back to where the content was entered, or out of the root visitor.
+    // Leaves a visitor at the root: back to where its content was entered, or the root visitor is closed.
     #[inline(never)]
     fn leave_root(&mut self)
         requires { self.old.here ≡ [] }
@@ -130,7 +136,7 @@ impl GraphCollector {
         }
     }
 
-    /// Whether no visitor is out.
+    /// Whether no visitor is open.
     pub fn is_closed(&self) -> bool
         ensures closed { IsTrue result ↔ IsClosed (OfGraph self.now) }
         ensures at_root { IsTrue result → IsAtRoot (OfGraph self.now) }
@@ -142,7 +148,7 @@ impl GraphCollector {
         }
     }
 
-    /// A root visitor more, where no visitor is out.
+    /// One more root visitor, where no visitor is open.
     pub fn begin(&mut self)
         requires { IsClosed (OfGraph self.old) }
         ensures { self.new ≡ go [] self.old }
@@ -150,7 +156,7 @@ impl GraphCollector {
         self.is_rooted = true;
     }
 
-    /// The graph of all that was entered, and the text of its warnings. It is refused for want of memory alone.
+    /// The graph of all entries, with the warnings. The only error is that memory runs out.
     pub fn finish(&self) -> Result<FlameGraphOutput, Refusal>
         ensures made { IfOk result (IsProfile self.now.sums) }
         ensures total { IfOk result (λ o. graph_total o.graph < 2 ^ 63) }
@@ -160,7 +166,8 @@ impl GraphCollector {
     }
 }
 
-// One entry under the place `at`, where the bytes fit: its node. The bound is tested before memory is asked for.
+// One more entry under the node `at`, where the bytes fit. It returns the entry's node. The bound is tested before
+// memory is allocated.
 #[inline(always)]
 fn add(
     tree: &mut Tree,

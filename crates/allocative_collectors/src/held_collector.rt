@@ -1,4 +1,4 @@
-//! What a collector of held bytes keeps. It takes no memory.
+//! The state of a collector of held bytes. It allocates nothing.
 ghost use Rattle.std.specs.Prelude.{◌≡◌, ◌+◌, ◌^◌, ◌<◌, suc, IfOk, IfErr, OnErr, IsTrue, ◌↔◌};
 ghost use Rattle.allocative_graph.specs.Collector.{OfHeld, enter_holding, leave_holding, nothing_held, IsClosed, IsAtRoot};
 ghost use Rattle.allocative_graph.specs.Visits.{HasRoom, Refuses};
@@ -10,9 +10,9 @@ use std::marker::Model;
 #[derive(Drop)]
 pub struct HeldCollector {
     sum: usize,
-    // the visitors entered and not left
+    // The number of open visitors.
     visitors: usize,
-    // whether the current visitor is a unique entry's
+    // Whether the current visitor is that of a unique entry.
     is_in_unique: bool,
 }
 
@@ -29,7 +29,7 @@ impl Model for HeldCollector {
 }
 
 impl HeldCollector {
-    /// Nothing held, and no visitor out.
+    /// A collector that holds nothing, with no open visitor.
     pub fn new() -> HeldCollector
         ensures { result ≡ nothing_held }
     {
@@ -40,12 +40,15 @@ impl HeldCollector {
         }
     }
 
-    /// One entry of `size` bytes more, unique or inline, and a visitor at it. Answers what leaving has to restore.
+    /// One more entry of `size` bytes, unique or inline, and a visitor at it. It returns the flag that `leave`
+    /// restores.
     ///
-    /// An inline entry in a unique one is held: it is refused with TooLarge exactly where the sum would pass `usize::MAX`, or the
-    /// count of visitors would. A refusal changes nothing.
+    /// The bytes are held where an inline entry is directly in a unique one. It returns `TooLarge` exactly where the
+    /// sum or the number of visitors would exceed `usize::MAX`, and then nothing is changed.
     pub fn enter(&mut self, size: usize, is_unique: bool) -> Result<bool, Refusal>
-        ensures ok { IfOk result (λ outer. HasRoom is_unique size (OfHeld self.old) × (outer ≡ self.old.is_in_unique) × (self.new ≡ enter_holding is_unique size self.old)) }
+        ensures ok { IfOk result (λ outer. HasRoom is_unique size (OfHeld self.old)
+            × (outer ≡ self.old.is_in_unique)
+            × (self.new ≡ enter_holding is_unique size self.old)) }
         ensures err { IfErr result (Refuses is_unique size (OfHeld self.old)) }
         ensures kept { OnErr result (self.new ≡ self.old) }
     {
@@ -65,7 +68,7 @@ impl HeldCollector {
         Ok(outer)
     }
 
-    /// A visitor less; the one outside is a unique entry's, or is not.
+    /// One visitor less. `outer` says whether the visitor outside it is that of a unique entry.
     pub fn leave(&mut self, outer: bool)
         ensures { self.new ≡ leave_holding outer self.old }
     {
@@ -73,14 +76,14 @@ impl HeldCollector {
         self.is_in_unique = outer;
     }
 
-    /// Whether no visitor is out.
+    /// Whether no visitor is open.
     pub fn is_closed(&self) -> bool
         ensures { IsTrue result ↔ IsClosed (OfHeld self.now) }
     {
         self.visitors == 0
     }
 
-    /// A root visitor more, where none is out. Answers what leaving has to restore.
+    /// One more root visitor, where no visitor is open. It returns the flag that `leave` restores.
     pub fn begin(&mut self) -> bool
         requires { IsClosed (OfHeld self.old) }
         ensures outer { result ≡ self.old.is_in_unique }

@@ -1,8 +1,8 @@
-//! What the two collectors keep: a flame graph's the arena of paths, the identities met and where its visitors stand, and
-//! that of held bytes its sum; and the graph and the warnings that the first finishes as.
+//! The states of the two collectors, and the output of the first: its graph and its warnings.
 //!
-//! `allocative` puts both under one type, which remembers the first refusal, and gives `FlameGraphOutput` again: its users need
-//! not name this crate. All sizes are in bytes.
+//! The collector of a flame graph has the arena of paths, the identities met and where its visitors are. The collector
+//! of held bytes has their sum. `allocative` makes one type of both, which stores the first refusal, and re-exports
+//! `FlameGraphOutput`, so its users need not name this crate. All sizes are in bytes.
 #![tactic(auto)]
 
 pub mod graph_collector;

@@ -1,4 +1,4 @@
-//! What a builder finishes as.
+//! What a finished collector returns: a flame graph and its warnings.
 ghost use Rattle.std.specs.Prelude.{◌≡◌, MatchResult, string_bytes, map};
 
 use allocative_graph::flamegraph::FlameGraph;
@@ -34,7 +34,11 @@ impl Model for FlameGraphOutput {
 
     ghost coded = { profile_code };
 
-    ghost view = { λ o. record { graph = o.flamegraph; warnings = string_bytes o.warnings; warned = map seen o.warned.items } };
+    ghost view = { λ o. record {
+      graph = o.flamegraph;
+      warnings = string_bytes o.warnings;
+      warned = map seen o.warned.items;
+    } };
 }
 
 impl FlameGraphOutput {
@@ -63,7 +67,7 @@ impl FlameGraphOutput {
         &self.flamegraph
     }
 
-    /// The graph by itself; the warnings are let go.
+    /// The graph alone. The warnings are dropped.
     pub fn into_flamegraph(self) -> FlameGraph
         ensures { result ≡ self.graph }
     {
@@ -75,21 +79,22 @@ impl FlameGraphOutput {
         flamegraph
     }
 
-    /// A copy of the warnings' text. It is refused for want of memory alone.
+    /// A copy of the warnings' text. The only error is that memory runs out.
     pub fn warnings(&self) -> Result<String, Refusal>
         ensures { MatchResult result (λ copy. string_bytes copy ≡ self.now.warnings) (λ r. r ≡ Refusal.Memory) }
     {
         Ok(self.warnings.clone()?)
     }
 
-    /// The warnings' text, a line for each path that has one. It takes no memory.
+    /// The warnings' text: one line for each path that has a warning. It allocates nothing.
     pub fn warnings_text(&self) -> &str
         ensures { result.now ≡ self.now.warnings }
     {
         self.warnings.as_str()
     }
 
-    /// The paths that have a warning, in the order of paths, as the lines of the warnings stand. It takes no memory.
+    /// The paths that have a warning, in the order of paths, which is that of the lines of the text. It allocates
+    /// nothing.
     pub fn warned_paths(&self) -> &[WarnedPath]
         ensures { map seen result.now ≡ self.now.warned }
     {

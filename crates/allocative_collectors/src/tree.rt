@@ -1,4 +1,4 @@
-//! The paths that were entered, as an arena of nodes that name one another by number.
+//! The paths that were entered, as an arena of nodes that refer to one another by number.
 ghost use Rattle.std.specs.Prelude.{◌≡◌, ◌+◌, ◌^◌, ◌<◌, ℕ, [], ◌∷◌, ◌++◌, length, map, slice_index, string_bytes, EachIndex, IfOk, IfErr, IfSome, IfNone, OnOk, OnErr, IsTrue, false};
 ghost use Rattle.allocative_graph.specs.Graph.{warning_line, total as graph_total};
 ghost use Rattle.allocative_graph.specs.Visits.{IsProfile};
@@ -23,14 +23,14 @@ mod warned;
 struct Node {
     key: Key,
     parent: usize,
-    /// The numbers of the nodes one key below, in the order of their keys; a few lie in the node itself.
+    /// The numbers of the nodes one key below, in the order of their keys. Up to four are stored in the node itself.
     children: SmallVec<u32, 4>,
     bytes: usize,
     /// The bytes of the children.
     below: usize,
     /// The child that was entered last.
     last: u32,
-    /// The child that is expected next; it is tested before it is used.
+    /// The child that is expected next. It is a guess, and is tested before it is used.
     next: u32,
     /// The child of the same parent that was entered after this one.
     follower: u32,
@@ -59,7 +59,7 @@ impl Model for Tree {
 }
 
 impl Tree {
-    /// The root alone.
+    /// A tree that has only the root. The only error is that memory runs out.
     pub(crate) fn new(alloc: Global) -> Result<Tree, AllocError>
         ensures { IfOk result (λ t. t ≡ root_sum ∷ []) }
     {
@@ -78,7 +78,7 @@ impl Tree {
         Ok(Tree { alloc, nodes })
     }
 
-    /// Enters `size` bytes under the node `at`, and gives the node of that path.
+    /// Enters `size` bytes under the key at the node `at`, and returns the node of that path.
     #[inline(always)]
     pub(crate) fn enter(
         &mut self,
@@ -97,7 +97,7 @@ impl Tree {
         Ok(node)
     }
 
-    /// The node one key above, which the root has not.
+    /// The node one key above, or None for the root.
     #[inline(always)]
     pub(crate) fn parent(&self, node: usize) -> Option<usize>
         requires { node < length self.now }
@@ -111,7 +111,9 @@ impl Tree {
         }
     }
 
-    /// The graph and the text of the warnings, in one walk, and the paths that have a warning, by another where there is one.
+    /// The graph, the text of the warnings, and the paths that have one.
+    ///
+    /// One walk makes the graph and the text. Where the text is not empty, a second walk lists the paths.
     pub(crate) fn finish(&self) -> Result<FlameGraphOutput, Refusal>
         requires { total self.now < 2 ^ 63 }
         ensures made { IfOk result (IsProfile (map_of self.now)) }
@@ -128,7 +130,7 @@ impl Tree {
         Ok(FlameGraphOutput::new(graph, warnings, warned))
     }
 
-    /// The graph from the node `at` on, with the warnings behind the text; `keys` is the node's path.
+    /// The graph of the node `at` and all below it. Their warnings are appended to `text`; `keys` is the node's path.
     fn make(
         &self,
         at: usize,
@@ -161,7 +163,7 @@ impl Tree {
         Ok(graph)
     }
 
-    /// The graph from a node on that has no children and no warning; it takes no memory.
+    /// The graph of a node that has no children and no warning. It allocates nothing.
     #[inline(always)]
     fn leaf(&self, at: usize) -> Option<FlameGraph>
         requires { at < length self.now }
@@ -177,7 +179,7 @@ impl Tree {
         }
     }
 
-    /// The size that the graph has at a node.
+    /// The size that the graph has at the path of a node.
     fn size(&self, at: usize) -> usize
         requires { at < length self.now }
         ensures { result ≡ size_at self.now at }
@@ -203,9 +205,9 @@ impl Tree {
         }
     }
 
-    /// The child of the node `at` that has the key, made where there is none.
+    /// The child of the node `at` that has the key. It is made where there is none.
     ///
-    /// Entries often come in the order in which they came before: the child that followed the last one is tried first.
+    /// Entries often come in the same order as before, so the child that followed the last one is tried first.
     #[inline(always)]
     fn child(&mut self, at: usize, key: &Key) -> Result<usize, AllocError>
         requires { at < length self.old }
@@ -222,7 +224,7 @@ impl Tree {
         Ok(node)
     }
 
-    /// Whether the number is that of the child of the node `at` that has the key.
+    /// Whether the node `number` is the child of the node `at` that has the key.
     #[inline(always)]
     fn is_child(&self, at: usize, key: &Key, number: usize) -> bool
         requires { at < length self.now }
@@ -234,7 +236,7 @@ impl Tree {
         }
     }
 
-    /// The child was entered last, and the one after it is expected next.
+    /// Stores that `child` was entered last, and that the one that followed it before is expected next.
     #[inline(always)]
     fn expect_follower(&mut self, at: usize, child: usize)
         requires parent { at < length self.old }
@@ -247,7 +249,7 @@ impl Tree {
         node.next = next;
     }
 
-    /// The child came after the one that was entered last.
+    /// Stores that `child` followed the one that was entered last.
     fn follow_last(&mut self, at: usize, child: usize)
         requires parent { at < length self.old }
         requires child { child < length self.old }
@@ -260,7 +262,7 @@ impl Tree {
         self.expect_follower(at, child);
     }
 
-    /// The child of the node `at` that has the key, by a search, made where there is none.
+    /// The child of the node `at` that has the key, found by a search. It is made where there is none.
     #[inline(never)]
     fn search_child(&mut self, at: usize, key: &Key) -> Result<usize, AllocError>
         requires { at < length self.old }
@@ -311,20 +313,21 @@ impl Tree {
     }
 }
 
-/// The number as a guess of a node's number. Where it takes more than 32 bits, the guess is wrong, which costs a search.
+/// The number of a node, as a guess. Where the number takes more than 32 bits, the guess is wrong, and a search is
+/// made.
 #[inline(always)]
 fn guess(number: usize) -> u32 {
     u32::try_from(number).unwrap_or(0)
 }
 
-/// Where the key stands among the children, which are in the order of their keys, or where it would go.
+/// The place of the key among the children, which are in the order of their keys, or the place where it belongs.
 fn find(nodes: &[Node], children: &[u32], key: &Key) -> Result<usize, usize>
     requires within { EachIndex children.now (λ j. slice_index children.now j < length nodes.now) }
     requires rise { KeysRise (keys_of (map shape nodes.now) children.now) }
     ensures found { IfOk result (IsPlace (keys_of (map shape nodes.now) children.now) key.now) }
     ensures absent { IfErr result (IsGap (keys_of (map shape nodes.now) children.now) key.now) }
 {
-    // Keys that come in order need one comparison each.
+    // A key that comes in order needs one comparison.
     if let Some(&last) = children.last()
         && nodes[last as usize].key.cmp(key).is_lt()
     {
@@ -343,14 +346,15 @@ fn find(nodes: &[Node], children: &[u32], key: &Key) -> Result<usize, usize>
     Err(low)
 }
 
-/// Appends the warning of a path.
+/// Appends the warning of the path `keys`, with its own bytes and those one key below.
 fn push_warning(
     keys: &[&str],
     bytes: usize,
     below: usize,
     text: &mut String,
 ) -> Result<(), AllocError>
-    ensures { OnOk result (string_bytes text.new ≡ string_bytes text.old ++ warning_line (map (λ k. k.now) keys.now) bytes below) }
+    ensures { OnOk result (string_bytes text.new ≡
+        string_bytes text.old ++ warning_line (map (λ k. k.now) keys.now) bytes below) }
 {
     text.push_str("Incorrect size declaration for node `")?;
     push_path(keys, text)?;

@@ -9,7 +9,7 @@ use crate::tree::Tree;
 use std::alloc::AllocError;
 
 impl Tree {
-    /// Appends the paths from the node `at` on that have a warning; `keys` is the node's path.
+    /// Appends the paths that have a warning, of the node `at` and all below it. `keys` is the node's path.
     pub(super) fn push_warned(
         &self,
         at: usize,

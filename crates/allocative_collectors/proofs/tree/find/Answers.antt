@@ -1,4 +1,4 @@
--- What the key at the last child, and then the one at the middle, says of the others.
+-- What the key of the last child, and then the one in the middle, says of the others.
 use Rattle.std.proofs.Common.{◌≡◌, ◌+◌, ◌-◌, ◌/◌, ◌<◌, ℕ, true, length, get_or, map, refl, arith, sym, ap, ◌∙◌}
 use Rattle.std.specs.declared.cmp.Ordering.TheVariants.{Less, Equal, Greater}
 use Rattle.std.specs.declared.cmp.Ordering.{Ordering}

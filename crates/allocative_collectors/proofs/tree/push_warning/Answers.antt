@@ -1,4 +1,4 @@
--- The pieces, one behind the other.
+-- The pieces of the text, one after another.
 use Rattle.std.proofs.Common.{◌≡◌, ℕ, List, Bor, ◌++◌, [], ◌∷◌, map, ap, ◌∙◌, append_assoc}
 use Rattle.std.specs.Prelude.{string_bytes, decimal}
 use lib.Chars.{codes}

@@ -1,4 +1,4 @@
--- No visitor is out, so the place is the root.
+-- No visitor is open, so the place is the root.
 use Rattle.std.proofs.Common.{true, [], sym, ap, ◌∙◌}
 use Rattle.allocative_graph.specs.Collector.{Live, go}
 use Rattle.allocative_collectors.specs.Places.{live}

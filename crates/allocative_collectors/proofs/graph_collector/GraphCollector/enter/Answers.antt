@@ -1,4 +1,4 @@
--- The tree has one entry more, and the place is there.
+-- The tree has one more entry, and the current place is that of the entry.
 use Rattle.std.proofs.Common.{◌≡◌, ◌+◌, ◌<◌, ◌^◌, subst}
 use Rattle.allocative_graph.specs.Sums.{entered}
 use Rattle.allocative_graph.specs.Collector.{Live, enter_live}

@@ -1,4 +1,4 @@
--- The tree has one entry more, and at an identity not met before the place is the root.
+-- The tree has one more entry. Where the identity was not met before, the current place is the root.
 use Rattle.std.proofs.Common.{◌≡◌, ℕ, ◌++◌, ◌+◌, ◌<◌, ◌^◌, List, [], ◌∷◌, sym, subst, ◌∙◌, refl, Bool, true, false}
 use Rattle.std.specs.FinSet.{contains}
 use Rattle.std.specs.Bool.{OnFalse}

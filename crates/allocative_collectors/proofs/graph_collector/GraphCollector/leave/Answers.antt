@@ -1,4 +1,4 @@
--- The place is one key above.
+-- The current place is one key above.
 use Rattle.std.proofs.Common.{ap, ◌∙◌}
 use Rattle.allocative_graph.specs.Collector.{leave_live}
 use Rattle.allocative_collectors.proofs.Collect.{came_back, one_up}

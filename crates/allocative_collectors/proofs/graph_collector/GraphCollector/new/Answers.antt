@@ -1,4 +1,4 @@
--- The root stands alone, and nothing was entered.
+-- The tree has only the root, with no entry.
 use Rattle.std.proofs.Common.{ℕ, List, [], ◌∷◌, refl, sym, subst, arith}
 use Rattle.allocative_graph.proofs.Below.{entered-empty}
 use Rattle.allocative_collectors.specs.Listed.{Listed, root_sum}

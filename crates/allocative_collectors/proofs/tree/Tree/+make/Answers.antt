@@ -1,4 +1,4 @@
--- A node's own size and warning, and then what each child gives.
+-- A node's own size and warning, and then the graph and the warnings of each child.
 use Rattle.std.proofs.Common.{◌≡◌, ◌-◌, ◌+◌, ◌<◌, ℕ, List, [], ◌∷◌, ◌++◌, map, length, get_or, Bor, arith, sym, ap, subst, ◌∙◌, refl, Err}
 use Rattle.std.specs.Prelude.{string_bytes, IfErr, IsErrOf, ◌↔◌, ◌^◌, ◌≤◌}
 use Rattle.std.proofs.lemmas.List.{map-append, append-nil}

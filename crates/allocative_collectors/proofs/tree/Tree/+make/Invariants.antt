@@ -1,4 +1,4 @@
--- The list of keys is as it was, and the graph has the node and its children so far.
+-- The list of keys is unchanged, and the graph has the node and its children so far.
 use Rattle.std.proofs.Common.{◌≡◌, ◌-◌, length, map}
 use Rattle.std.specs.Prelude.{string_bytes}
 use Rattle.allocative_collectors.specs.Shapes.{keys_of}

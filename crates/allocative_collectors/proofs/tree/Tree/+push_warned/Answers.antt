@@ -1,4 +1,4 @@
--- The node itself, if it has a warning, and then what each child gives.
+-- The node itself where it has a warning, and then what is found below each child.
 use Rattle.std.proofs.Common.{◌≡◌, ◌-◌, ◌<◌, ℕ, List, [], ◌∷◌, ◌++◌, map, length, get_or, Bor, arith, Vec, sym, ap, subst, ◌∙◌, refl, Global}
 use Rattle.std.proofs.lemmas.List.{map-append, append-nil}
 use Rattle.std.proofs.lemmas.List.Elements.{same_from_all_zip}

@@ -1,4 +1,4 @@
--- The list of keys is as it was, and what was found are the node and its children so far.
+-- The list of keys is unchanged, and the paths found are those of the node and its children so far.
 use Rattle.std.proofs.Common.{◌≡◌, ◌-◌, length, map}
 use Rattle.allocative_collectors.specs.Shapes.{keys_of}
 use Rattle.allocative_collectors.specs.Nodes.{shape}

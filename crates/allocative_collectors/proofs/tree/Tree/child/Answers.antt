@@ -1,4 +1,4 @@
--- The number of the node is one of the arena's.
+-- The number is that of a node of the arena.
 use Rattle.std.proofs.Common.{◌<◌, length, arith}
 use Rattle.allocative_collectors.specs.Nodes.{sums_of}
 use Rattle.allocative_collectors.proofs.NodeReads.{in_nodes}

@@ -1,4 +1,4 @@
--- An entry of nothing, and then one of the bytes.
+-- An entry of 0 bytes, and then one of all bytes.
 use Rattle.std.proofs.Common.{arith}
 use Rattle.allocative_collectors.proofs.Adds.{total_entered, entered_twice}
 use Rattle.allocative_collectors.proofs.tree.Tree.enter.Goals as goal

@@ -1,4 +1,4 @@
--- What is expected changes no shape.
+-- A write of guesses changes no shape.
 use Rattle.std.proofs.Common.{◌≡◌, ◌<◌, length, map, set, arith, sym, ap, subst, ◌∙◌, refl}
 use Rattle.allocative_collectors.specs.Nodes.{shape, sums_of}
 use Rattle.allocative_collectors.specs.Shapes.{sums, IsArena}

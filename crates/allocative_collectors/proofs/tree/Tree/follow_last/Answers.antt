@@ -1,4 +1,4 @@
--- What follows the last child changes no shape.
+-- A write of guesses changes no shape.
 use Rattle.std.proofs.Common.{◌≡◌, ◌<◌, length, map, set, arith, sym, ap, subst, ◌∙◌, refl}
 use Rattle.allocative_collectors.specs.Listed.{Listed}
 use Rattle.allocative_collectors.specs.Nodes.{shape, sums_of}
@@ -22,7 +22,7 @@ kept c =
 pub invariant_of-self : goal.invariant_of-self
 invariant_of-self c = subst IsArena (sym (kept (goal.at.invariant_of-self c).After-index_mut)) c.self.invariant
 
--- the sums are as they were
+-- the sums are unchanged
 same : (c : Joined-last-len) → c.if-last-len.self ≡ c.args.self.now
 same c = elim c.if-last-len.branch [
   | then-last-len w ↦

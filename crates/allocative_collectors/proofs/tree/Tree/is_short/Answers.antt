@@ -1,4 +1,4 @@
--- The test, from what the node keeps.
+-- The test, from the fields of the node.
 use Rattle.std.proofs.Common.{◌<◌, length, arith}
 use Rattle.std.proofs.lemmas.Grind.{common_steps}
 use Rattle.std.proofs.lemmas.Bool.Decides.{nat_tests}

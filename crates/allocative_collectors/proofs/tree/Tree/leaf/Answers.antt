@@ -1,4 +1,4 @@
--- A node with no children and no warning gives its own size alone.
+-- The graph of a node with no children and no warning has its own size alone.
 use Rattle.std.proofs.Common.{◌≡◌, ◌<◌, ◌++◌, ℕ, List, [], length, map, refl, sym, ap, ◌∙◌, arith}
 use Rattle.std.proofs.lemmas.List.{append-nil}
 use Rattle.std.proofs.lemmas.Bool.{cond-false}

@@ -1,4 +1,4 @@
--- What a node's number and its parent's say of its path.
+-- The path of a node from its number and that of its parent.
 use Rattle.std.proofs.Common.{◌≡◌, ◌≢◌, ◌<◌, [], ◌∷◌, ◌++◌, length, map, arith, sym, ap, subst, ◌∙◌}
 use Rattle.allocative_graph.specs.Path.{Path}
 use Rattle.allocative_collectors.specs.Listed.{Listed, path_at, IsAbove}

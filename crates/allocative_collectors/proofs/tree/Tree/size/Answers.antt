@@ -1,4 +1,4 @@
--- The size, from what the node keeps.
+-- The size, from the fields of the node.
 use Rattle.std.proofs.Common.{◌<◌, length, arith}
 use Rattle.allocative_collectors.specs.Nodes.{sums_of}
 use Rattle.std.proofs.lemmas.Grind.{common_steps}
