@@ -78,7 +78,8 @@ fn profile_by_registry(
 ///
 /// The document stays in memory until the process ends.
 pub fn profile_json(alloc: Global, input: &[u8], index: bool, exact: bool) -> Result<Report, Fault>
-    ensures ok { IfOk result (λ made. IsRightReport input.now index exact (string_bytes made.profile) (string_bytes made.warnings)) }
+    ensures ok { IfOk result
+        (λ made. IsRightReport input.now index exact (string_bytes made.profile) (string_bytes made.warnings)) }
     ensures err { IfErr result (RefusesReport input.now) }
 {
     let (document, numbers) = read_roots(alloc, input, index)?;
@@ -99,7 +100,8 @@ pub fn profile_registered(
     index: bool,
     exact: bool,
 ) -> Result<Report, Fault>
-    ensures ok { IfOk result (λ made. IsRightReport input.now index exact (string_bytes made.profile) (string_bytes made.warnings)) }
+    ensures ok { IfOk result
+        (λ made. IsRightReport input.now index exact (string_bytes made.profile) (string_bytes made.warnings)) }
     ensures err { IfErr result (RefusesReport input.now) }
 {
     let (document, numbers) = read_roots(alloc, input, index)?;

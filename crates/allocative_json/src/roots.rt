@@ -132,7 +132,8 @@ pub fn read_roots(
     input: &[u8],
     index: bool,
 ) -> Result<(Value, Option<BTreeSet<i128>>), Fault>
-    ensures ok { IfOk result (λ roots. IsWholeDocument input.now (view roots.0) × IsIndexIf index (view roots.0) roots.1) }
+    ensures ok { IfOk result
+        (λ roots. IsWholeDocument input.now (view roots.0) × IsIndexIf index (view roots.0) roots.1) }
     ensures err { IfErr result (RefusesInput input.now) }
 {
     let document = read_document(alloc, input)?;

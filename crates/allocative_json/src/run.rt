@@ -49,8 +49,10 @@ fn write_report<W: Write, E: Write>(
     output: &mut W,
     errors: &mut E,
 ) -> Result<(), Fault>
-    ensures written { OnOk result (Appends (W.contents output.old) (W.contents output.new) (string_bytes made.now.profile)) }
-    ensures told { OnOk result (Appends (E.contents errors.old) (E.contents errors.new) (string_bytes made.now.warnings)) }
+    ensures written { OnOk result
+        (Appends (W.contents output.old) (W.contents output.new) (string_bytes made.now.profile)) }
+    ensures told { OnOk result
+        (Appends (E.contents errors.old) (E.contents errors.new) (string_bytes made.now.warnings)) }
     ensures err { IfErr result (λ f. f ≡ Fault.Writing) }
 {
     write_text(output, made.profile.as_str())?;
@@ -68,7 +70,9 @@ pub fn tell<E: Write>(errors: &mut E, fault: Fault) -> u8
 
 // Makes the report of the input, with a registry where it is asked for.
 fn profile_as_asked(alloc: Global, asked: Words, input: &[u8]) -> Result<Report, Fault>
-    ensures ok { IfOk result (λ made. IsRightReport input.now asked.index asked.exact (string_bytes made.profile) (string_bytes made.warnings)) }
+    ensures ok { IfOk result
+        (λ made. IsRightReport input.now asked.index asked.exact (string_bytes made.profile)
+        (string_bytes made.warnings)) }
     ensures err { IfErr result (RefusesReport input.now) }
 {
     if asked.registry {
@@ -80,7 +84,9 @@ fn profile_as_asked(alloc: Global, asked: Words, input: &[u8]) -> Result<Report,
 
 // Parses the words, reads the input, and makes its report.
 fn make_report<R: Read>(alloc: Global, words: &[String], input: &mut R) -> Result<Report, Fault>
-    ensures ok { IfOk result (λ made. IsReportFor (words_of words.now) (R.remaining input.old) (string_bytes made.profile) (string_bytes made.warnings)) }
+    ensures ok { IfOk result
+        (λ made. IsReportFor (words_of words.now) (R.remaining input.old) (string_bytes made.profile)
+        (string_bytes made.warnings)) }
     ensures err { IfErr result (MayEndRun (words_of words.now) (R.remaining input.old)) }
 {
     let asked = read_words(words)?;
@@ -90,7 +96,10 @@ fn make_report<R: Read>(alloc: Global, words: &[String], input: &mut R) -> Resul
 
 /// Writes the report that was made, or the message of the fault, and returns the status.
 pub fn finish<W: Write, E: Write>(made: Result<Report, Fault>, output: &mut W, errors: &mut E) -> u8
-    ensures written { result ≡ 0 → IsOkAnd made (λ texts. Appends (W.contents output.old) (W.contents output.new) (string_bytes texts.profile) × Appends (E.contents errors.old) (E.contents errors.new) (string_bytes texts.warnings)) }
+    ensures written { result ≡ 0
+        → IsOkAnd made
+        (λ texts. Appends (W.contents output.old) (W.contents output.new) (string_bytes texts.profile)
+        × Appends (E.contents errors.old) (E.contents errors.new) (string_bytes texts.warnings)) }
     ensures status { IfOk made (λ _. (result ≡ 0) ⊎ (result ≡ 7)) }
     ensures fault { IfErr made (λ f. result ≡ status_of f) }
     ensures untouched { OnErr made (output.new ≡ output.old) }
@@ -118,7 +127,9 @@ pub fn run_json<R: Read, W: Write, E: Write>(
     output: &mut W,
     errors: &mut E,
 ) -> u8
-    ensures well { result ≡ 0 → EndsWell (words_of words.now) (R.remaining input.old) (W.contents output.old) (W.contents output.new) (E.contents errors.old) (E.contents errors.new) }
+    ensures well { result ≡ 0
+        → EndsWell (words_of words.now) (R.remaining input.old) (W.contents output.old) (W.contents output.new)
+        (E.contents errors.old) (E.contents errors.new) }
     ensures writing { result ≡ 7 → IsReported (words_of words.now) (R.remaining input.old) }
     ensures fault { result ≢ 0 → result ≢ 7 → EndsIn (words_of words.now) (R.remaining input.old) result }
     ensures untouched { result ≢ 0 → result ≢ 7 → output.new ≡ output.old }

@@ -54,7 +54,8 @@ HasOutlines f rs = outlines rs ≡ outlines f.rows.items
 
 -- A row of the key k came below those that are open, and is open. No line came.
 pub record Opens (k : Key) (old new : Forest) : Type 0 where
-  pub rows : outlines new.rows.items ≡ outlines old.rows.items ++ record { depth = vec_len old.open; key = k; own = 0 } ∷ []
+  pub rows : outlines new.rows.items
+      ≡ outlines old.rows.items ++ record { depth = vec_len old.open; key = k; own = 0 } ∷ []
   pub opened : vec_len new.open ≡ vec_len old.open + 1
   pub last : new.last ≡ old.last
 
@@ -123,4 +124,5 @@ pub record HasLines (ls : List Line) (f : Forest) : Type 0 where
 
 -- Where the line l is not before the last one, the forest with it has the rows of all of them.
 abbrev pub TakesLine : Line → Forest → Forest → Type 0
-TakesLine l old new = (ls : List Line) → HasLines ls old → is_lt (path_cmp (keys_of l.path.now) (path_of old.last)) ≡ false → HasLines (ls ++ l ∷ []) new
+TakesLine l old new = (ls : List Line) → HasLines ls old
+    → is_lt (path_cmp (keys_of l.path.now) (path_of old.last)) ≡ false → HasLines (ls ++ l ∷ []) new

@@ -48,8 +48,8 @@ abbrev pub StandBeside : ℕ → List Seen → Type 0
 StandBeside n [] = ⊤
 StandBeside n (r ∷ rs) = (r.before ≡ n) × StandBeside (n + r.own) rs
 
--- The picture with this title is that of the graph that all stacks of both texts add up to: its rows are those of the graph, stand beside
--- one another and have all bytes between them, and its totals are those of the two texts.
+-- The picture with this title is that of the graph that all stacks of both texts add up to: its rows are those of the
+-- graph, stand beside one another and have all bytes between them, and its totals are those of the two texts.
 pub record IsPictureOf (title : List ℕ) (before : earlier.Earlier) (text made : List ℕ) : Type 0 where
   pub stacks : List Stack
   pub read : AreOf before text stacks

@@ -84,7 +84,8 @@ impl<'a> Forest<'a> {
         ensures ok { OnOk result (HasBytes (self.old.was + line.now.was) (self.old.is + line.now.is) self.new) }
         ensures full { IsFull self.old → OnOk result (IsFull self.new) }
         ensures rows { IsFull self.old → OnOk result (TakesLine line.now self.old self.new) }
-        ensures too_large { IsErrOf result Fault.TooLarge → 2 ^ 64 ≤ self.old.was + line.now.was + (self.old.is + line.now.is) }
+        ensures too_large { IsErrOf result Fault.TooLarge
+            → 2 ^ 64 ≤ self.old.was + line.now.was + (self.old.is + line.now.is) }
         ensures err { IfErr result (λ f. (f ≡ Fault.Memory) ⊎ (f ≡ Fault.TooLarge)) }
     {
         let common = self.common_with(line.path);
@@ -112,7 +113,8 @@ impl<'a> Forest<'a> {
         ensures kept { IsKept self.old self.new }
         ensures full { IsFull self.old → IsFull self.new }
         ensures rows { OnOk result (Opens key.now self.old self.new) }
-        ensures first { length self.old.rows.items ≡ 0 → self.old.was + self.old.is ≡ 0 → OnOk result (IsFull self.new) }
+        ensures first { length self.old.rows.items ≡ 0 → self.old.was + self.old.is ≡ 0
+            → OnOk result (IsFull self.new) }
         ensures memory { IfErr result (λ f. f ≡ Fault.Memory) }
     {
         let before = self.bytes();
@@ -139,7 +141,8 @@ impl<'a> Forest<'a> {
         ensures ok { OnOk result (HasBytes (self.old.was + line.now.was) (self.old.is + line.now.is) self.new) }
         ensures full { IsFull self.old → OnOk result (IsFull self.new) }
         ensures rows { IsFull self.old → OnOk result (Counts (line.now.was + line.now.is) self.old self.new) }
-        ensures too_large { IsErrOf result Fault.TooLarge ↔ (2 ^ 64 ≤ self.old.was + line.now.was + (self.old.is + line.now.is)) }
+        ensures too_large { IsErrOf result Fault.TooLarge ↔
+            (2 ^ 64 ≤ self.old.was + line.now.was + (self.old.is + line.now.is)) }
         ensures err { IfErr result (λ f. f ≡ Fault.TooLarge) }
     {
         let was = self.was as u128 + line.was as u128;
@@ -189,7 +192,8 @@ pub fn forest_of<'a>(
     ensures ok { IfOk result (HasBytes (sum_by (λ l. l.was) lines.now) (sum_by (λ l. l.is) lines.now)) }
     ensures full { IfOk result IsFull }
     ensures rows { IsInOrder lines.now → IfOk result (HasLines lines.now) }
-    ensures too_large { IsErrOf result Fault.TooLarge → 2 ^ 64 ≤ sum_by (λ l. l.was) lines.now + sum_by (λ l. l.is) lines.now }
+    ensures too_large { IsErrOf result Fault.TooLarge
+        → 2 ^ 64 ≤ sum_by (λ l. l.was) lines.now + sum_by (λ l. l.is) lines.now }
     ensures err { IfErr result (λ f. (f ≡ Fault.Memory) ⊎ (f ≡ Fault.TooLarge)) }
 {
     let mut forest = Forest::new(alloc, is_change)?;

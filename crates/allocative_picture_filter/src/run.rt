@@ -93,7 +93,8 @@ pub fn show_usage<W: Write, E: Write>(output: &mut W, errors: &mut E) -> u8 {
 fn push_profile<'a>(bytes: &'a [u8], side: Side, lines: &mut Vec<Line<'a>>) -> Result<(), Fault>
     ensures ok { OnOk result (Reads side bytes.now lines.old.items lines.new.items) }
     ensures line { (n : ℕ) → IsErrOf result (Fault.Line n) → (side ≡ Side.Later) × IsFault side bytes.now n }
-    ensures earlier_line { (n : ℕ) → IsErrOf result (Fault.EarlierLine n) → (side ≡ Side.Earlier) × IsFault side bytes.now n }
+    ensures earlier_line { (n : ℕ) → IsErrOf result (Fault.EarlierLine n)
+        → (side ≡ Side.Earlier) × IsFault side bytes.now n }
 {
     let Ok(text) = str::from_utf8(bytes) else {
         return Err(Fault::NotText);
@@ -160,8 +161,11 @@ fn make_picture<R: Read>(
     earlier: &Earlier,
     input: &mut R,
 ) -> Result<String, Fault>
-    ensures ok { IfOk result (λ made. IfSome (R.remaining input.old) (λ known. IsPictureOf title.now earlier.now known (string_bytes made))) }
-    ensures line { (n : ℕ) → IsErrOf result (Fault.Line n) → IfSome (R.remaining input.old) (λ known. IsFault Side.Later known n) }
+    ensures ok { IfOk result
+        (λ made. IfSome (R.remaining input.old)
+        (λ known. IsPictureOf title.now earlier.now known (string_bytes made))) }
+    ensures line { (n : ℕ) → IsErrOf result (Fault.Line n)
+        → IfSome (R.remaining input.old) (λ known. IsFault Side.Later known n) }
     ensures earlier_line { (n : ℕ) → IsErrOf result (Fault.EarlierLine n) → IsFaultBefore earlier.now n }
 {
     let bytes = read_input(alloc, input)?;
@@ -181,8 +185,13 @@ pub fn run<R: Read, W: Write, E: Write>(
     output: &mut W,
     errors: &mut E,
 ) -> u8
-    ensures drawn { result ≡ 0 → IfSome (R.remaining input.old) (λ known. (made : List ℕ) × IsPictureOf title.now earlier.now known made × Appends (W.contents output.old) (W.contents output.new) made) }
-    ensures faulty { result ≡ 2 → IfSome (R.remaining input.old) (λ known. (n : ℕ) × (IsFault Side.Later known n ⊎ IsFaultBefore earlier.now n)) }
+    ensures drawn { result ≡ 0
+        → IfSome (R.remaining input.old)
+        (λ known. (made : List ℕ) × IsPictureOf title.now earlier.now known made
+        × Appends (W.contents output.old) (W.contents output.new) made) }
+    ensures faulty { result ≡ 2
+        → IfSome (R.remaining input.old)
+        (λ known. (n : ℕ) × (IsFault Side.Later known n ⊎ IsFaultBefore earlier.now n)) }
     ensures untouched { result ≢ 0 → result ≢ 7 → output.new ≡ output.old }
 {
     match make_picture(alloc, title, earlier, input) {
