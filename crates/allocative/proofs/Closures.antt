@@ -11,7 +11,7 @@ use Rattle.allocative_graph.specs.Shows.{Showing, Inside}
 use Rattle.allocative_graph.specs.Visits.{Shows, Enters, Leaves, Settles}
 use Rattle.allocative.specs.declared.visitor.Visitor.{Visitor}
 use Rattle.allocative.specs.Closures.{CallShows, CallsInside, not_called, called, refused_inside, CalledAtRoot, AnswersSum, after_told}
-use Rattle.allocative.specs.Steps.{IsSum}
+use Rattle.allocative.specs.Steps.{IsHeldSum}
 use Rattle.allocative.proofs.Showing.{left_by, inline_shows, entry_err, not_entered, shows_refused_err}
 use Rattle.allocative.proofs.Steps.{leaves_by_left}
 use Rattle.allocative.proofs.Roots.{run_shows, held_by_run}
@@ -21,7 +21,7 @@ err_or e (Ok u) = e
 err_or e (Err x) = x
 
 -- what is answered once the visitor is left
-pub sum_answered : (o : Bool) (c : State) (n : ℕ) {t : State} {q : Result (Unit {0}) Refusal} → Leaves o c t → Settles t q → q ≡ Ok tt → IsSum t n → AnswersSum (left o c) (Ok n)
+pub sum_answered : (o : Bool) (c : State) (n : ℕ) {t : State} {q : Result (Unit {0}) Refusal} → Leaves o c t → Settles t q → q ≡ Ok tt → IsHeldSum t n → AnswersSum (left o c) (Ok n)
 sum_answered o c n {t} l k e s = rw (← left_by l) (subst (Settles t) e k, s)
 
 pub refusal_answered : (o : Bool) (c : State) (e : Refusal) (r : Result ℕ Refusal) {t : State} {q : Result (Unit {0}) Refusal} → IsErr r → e ≡ err_or e r → Leaves o c t → Settles t q → q ≡ Err e → AnswersSum (left o c) r

@@ -10,7 +10,7 @@ use Rattle.allocative_graph.specs.Collector.{added as added_entries, Kind, OfGra
 use Rattle.allocative_graph.specs.Shows.{Showing, Nothing, Both, each_shows}
 use Rattle.allocative_graph.specs.Visits.{Shows, refused, hidden, forgotten, added, Leaves, Begins, Settles, Runs, Ends, IsProfile, Profile, IsProfileOf, IsGraphOf, IsSumOfTwo}
 use Rattle.allocative_graph.proofs.Plus.{plus-nothing, plus-following, takes_nothing, takes_both, visitors-plus, visitors-leave, is_graph-plus, is_graph-leave, is_graph-begin}
-use Rattle.allocative.specs.Steps.{IsSum}
+use Rattle.allocative.specs.Steps.{IsHeldSum}
 use Rattle.allocative.proofs.Showing.{left_by, each_and_one}
 use Rattle.allocative_graph.proofs.Reach.{all_is_meaning, reaches_exactly}
 use Rattle.allocative_graph.proofs.OneMeaning.{one_sums}
@@ -96,14 +96,14 @@ run_refused p (Going b) e (Failed r) (h, n, i) = absurd (failed_not_going b r i)
 run_refused p (Going b) e (Going c) (h, n, i) = (h, subst (λ (x : State). IsClosedState x → ⊥) (sym i) n, (λ m. same_kind c b i), ap is_graph (same_kind c b i))
 
 -- The sum of a run of held bytes.
-pub held_by_run : (p : Showing) (s t : State) (u : Unit) (n : ℕ) → s ≡ Going (OfHeld nothing_held) → Runs p s (Ok u) t → IsSum t n → (f : Forest) × p f × ShowsNoContent f × (n ≡ held f)
+pub held_by_run : (p : Showing) (s t : State) (u : Unit) (n : ℕ) → s ≡ Going (OfHeld nothing_held) → Runs p s (Ok u) t → IsHeldSum t n → (f : Forest) × p f × ShowsNoContent f × (n ≡ held f)
 held_by_run p (Failed r) t u n e h k = absurd (failed_not_going _ r e)
 held_by_run p (Going b) (Failed r) u n e h k = absurd h
 held_by_run p (Going b) (Going c) u n e (z, f, a, t, g) k =
     let i : b ≡ OfHeld nothing_held = same_kind b _ e in
     let t' : Takes (OfHeld nothing_held) f = subst (λ (x : Kind). Takes x f) i t in
     let g' : c ≡ plus (OfHeld nothing_held) f = rw i at g in
-    let k' : n ≡ 0 + (held f + 0) = subst (λ (x : Kind). IsSum (Going x) n) g' k in
+    let k' : n ≡ 0 + (held f + 0) = subst (λ (x : Kind). IsHeldSum (Going x) n) g' k in
     (f, a, t', omega (arith, k'))
 
 -- ---- one root after another

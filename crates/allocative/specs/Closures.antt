@@ -8,7 +8,7 @@ use Rattle.allocative_graph.specs.Collector.{State, Going, OfHeld, nothing_held,
 use Rattle.allocative_graph.specs.Shows.{Showing}
 use Rattle.allocative_graph.specs.Visits.{Shows, HasFailed, Enters, Leaves, Settles}
 use Rattle.allocative.specs.declared.visitor.Visitor.{Visitor}
-use Rattle.allocative.specs.Steps.{IsSum}
+use Rattle.allocative.specs.Steps.{IsHeldSum}
 use Rattle.allocative.specs.Visited.{BeginsAt}
 
 -- The collector after a closure told this: its own refusal is the first cause where nothing had failed.
@@ -19,7 +19,7 @@ after_told (Err e) s = failed_with e s
 -- What is answered of a collector of held bytes: their sum where it has not failed and no visitor is out, else the
 -- first cause, or Open.
 abbrev pub AnswersSum : State → Result ℕ Refusal → Type 0
-AnswersSum s (Ok n) = Settles s (Ok tt) × IsSum s n
+AnswersSum s (Ok n) = Settles s (Ok tt) × IsHeldSum s n
 AnswersSum s (Err e) = Settles s (Err e)
 
 module _ {F : Type 0}

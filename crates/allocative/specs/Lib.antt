@@ -34,5 +34,5 @@ pub use Rattle.allocative_graph.specs.Report
 pub use Rattle.allocative_graph.specs.Reads
 pub use Rattle.allocative_graph.specs.Many
 pub use Rattle.allocative_graph.specs.Laws
-pub use Rattle.allocative_graph.specs.Rows
+pub use Rattle.allocative_graph.specs.WorkedExamples
 pub use Rattle.allocative_graph.specs.declared.refusal.Refusal

@@ -23,7 +23,7 @@ StepsInShared k n i (Going (OfGraph c)) (Ok new) t = (entered c.sums + n < 2 ^ 6
 StepsInShared k n i (Going (OfGraph c)) (Err e) t = Refuses false n (OfGraph c) e × (t ≡ Failed e)
 
 -- n is the sum of a collector of held bytes in the state s. Nothing is said of other states.
-abbrev pub IsSum : State → ℕ → Type 0
-IsSum (Failed r) n = Unit {0}
-IsSum (Going (OfGraph c)) n = Unit {0}
-IsSum (Going (OfHeld h)) n = n ≡ h.sum
+abbrev pub IsHeldSum : State → ℕ → Type 0
+IsHeldSum (Failed r) n = Unit {0}
+IsHeldSum (Going (OfGraph c)) n = Unit {0}
+IsHeldSum (Going (OfHeld h)) n = n ≡ h.sum

@@ -5,7 +5,7 @@ ghost use Rattle.std.specs.Prelude.{◌≡◌, ◌+◌, ◌<◌, ◌^◌, true, 
 ghost use Rattle.allocative_graph.specs.Collector.{State, Failed, Going, OfGraph, OfHeld, no_entries, nothing_held, enter, leave, begin, is_in_unique, failed_with, left, IsClosed, IsAtRoot};
 ghost use Rattle.allocative_graph.specs.Graph.{total};
 ghost use Rattle.allocative_graph.specs.Visits.{HasFailed, HasRoom, Refuses, Enters, EntersSized, EntersShared, Begins, Settles, Ends, IsProfile};
-ghost use Rattle.allocative.specs.Steps.{StepsIn, StepsInShared, IsSum};
+ghost use Rattle.allocative.specs.Steps.{StepsIn, StepsInShared, IsHeldSum};
 ghost use Rattle.allocative.specs.Kinds.{kind_of};
 ghost use Rattle.allocative.specs.Built.{as_graph};
 ghost use Rattle.allocative.specs.Making.{Makes, Done};
@@ -287,7 +287,7 @@ impl Collector {
 
     /// The sum of held bytes.
     pub(crate) fn sum(&self) -> usize
-        ensures { IsSum self.now result }
+        ensures { IsHeldSum self.now result }
     {
         match &self.kind {
             Kind::Graph(_) => 0,

@@ -8,7 +8,7 @@ use Rattle.std.proofs.lemmas.Bool.{cond_both}
 use Rattle.allocative_graph.specs.Path.{path_cmp}
 use Rattle.allocative_collectors.specs.Listed.{Sum, Listed, root_sum, total, sum_at, path_at, map_of}
 use Rattle.allocative_graph.specs.Sums.{below}
-use Rattle.allocative_collectors.specs.Finishing.{size_at}
+use Rattle.allocative_collectors.specs.Finishing.{size_at_place}
 use Rattle.allocative_collectors.specs.Walks.{PathsRise}
 use Rattle.allocative_graph.proofs.Basics.{path_total}
 
@@ -33,12 +33,12 @@ places_le (x ∷ xs) s apart within =
         omega (arith, sum_by-cons f y ys, sum_by-cons g y ys)
 
 -- sizes at rising paths are within the total
-pub sizes_le_total : (s : Listed) (xs : List ℕ) → PathsRise s xs → ((a : ℕ) → a < length xs → get_or xs a 0 < length s) → sum_by (size_at s) xs ≤ total s
+pub sizes_le_total : (s : Listed) (xs : List ℕ) → PathsRise s xs → ((a : ℕ) → a < length xs → get_or xs a 0 < length s) → sum_by (size_at_place s) xs ≤ total s
 sizes_le_total s xs rise within =
     let apart : (a b : ℕ) → a < b → b < length xs → get_or xs a 0 ≢ get_or xs b 0 = λ a b lt h e.
     (let less = rise a b lt h in
     let tied : path_cmp (path_at s (get_or xs a 0)) (path_at s (get_or xs b 0)) ≡ Equal = subst (λ (i : ℕ). path_cmp (path_at s (get_or xs a 0)) (path_at s i) ≡ Equal) e (tied_itself path_total (path_at s (get_or xs a 0))) in
     cc) in
     let all = places_le xs s apart within in
-    let each = sum_by-le-sum_by (size_at s) (λ (i : ℕ). (let e = get_or s i root_sum in e.bytes)) xs (λ i. (let e = sum_at s i in cond_both e.is_unique e.bytes (e.bytes - below (map_of s) e.path) (λ (n : ℕ). n ≤ e.bytes) (λ _. omega arith) (λ _. omega arith))) in
+    let each = sum_by-le-sum_by (size_at_place s) (λ (i : ℕ). (let e = get_or s i root_sum in e.bytes)) xs (λ i. (let e = sum_at s i in cond_both e.is_unique e.bytes (e.bytes - below (map_of s) e.path) (λ (n : ℕ). n ≤ e.bytes) (λ _. omega arith) (λ _. omega arith))) in
     omega arith

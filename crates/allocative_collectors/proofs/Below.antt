@@ -11,7 +11,7 @@ use Rattle.allocative_collectors.specs.Shapes.{Shape, no_shape, at, paths, sums,
 use Rattle.allocative_graph.specs.Path.{is_one_below}
 use Rattle.allocative_graph.specs.Graph.{is_root}
 use Rattle.allocative_graph.specs.Sums.{below}
-use Rattle.allocative_collectors.specs.Finishing.{size_at, is_short}
+use Rattle.allocative_collectors.specs.Finishing.{size_at_place, is_short}
 use Rattle.allocative_collectors.proofs.Bridge.{IsListing, below_listed, not_below_root}
 use Rattle.allocative_collectors.proofs.Orders.{key_total, same_path-same, same_path-apart}
 use Rattle.allocative_collectors.proofs.Paths.{paths_at, paths_root, distinct}
@@ -91,7 +91,7 @@ module _ (ns : List Shape) (ok : IsArena ns) (i : ℕ) (hi : i < length ns) wher
   pub unique_is : (let e = sum_at (sums ns) i in e.is_unique) ≡ unique_at ns i
   unique_is = ap (λ (e : Sum). e.is_unique) (get_sums ns i hi)
 
-  pub size_is : size_at (sums ns) i ≡ cond (unique_at ns i) (bytes_at ns i) (bytes_at ns i - below_at ns i)
+  pub size_is : size_at_place (sums ns) i ≡ cond (unique_at ns i) (bytes_at ns i) (bytes_at ns i - below_at ns i)
   size_is = λ j. cond (unique_is j) (bytes_is j) (bytes_is j - sym below_is j)
 
   -- the root alone has the empty path

@@ -18,7 +18,7 @@ use Rattle.allocative_graph.proofs.Computed.{entries-empty}
 use Rattle.allocative_graph.proofs.Graphs.{weights-put}
 use Rattle.allocative_graph.proofs.Merge.{get-graph, get-graph-root}
 use Rattle.allocative_collectors.specs.Listed.{Sum, Listed, raise, add, sum_at, path_at, row, rows, map_of}
-use Rattle.allocative_collectors.specs.Finishing.{size_at}
+use Rattle.allocative_collectors.specs.Finishing.{size_at_place}
 use Rattle.allocative_collectors.proofs.Orders.{same_path-same, same_path-apart}
 
 pub same_turned : (p q : Path) → is_same_path p q ≡ is_same_path q p
@@ -139,13 +139,13 @@ nothing_left : (u : Bool) (n b : ℕ) → n ≡ 0 → cond u n (n - b) ≡ 0
 nothing_left true n b e = e
 nothing_left false n b e = omega (arith, e)
 
-pub graph_hit : (s : Listed) → IsListing s → (i : ℕ) → i < length s → get (graph (map_of s)) (path_at s i) ≡ Some (size_at s i)
+pub graph_hit : (s : Listed) → IsListing s → (i : ℕ) → i < length s → get (graph (map_of s)) (path_at s i) ≡ Some (size_at_place s i)
 graph_hit s ok zero h =
     ap (get (graph (map_of s))) ok.root_path ∙ get-graph-root (map_of s)
     ∙ ap (λ (n : ℕ). Some n) (sym (let e = sum_at s 0 in nothing_left e.is_unique e.bytes (bag.below (map_of s) e.path) ok.root_bytes))
 graph_hit s ok (suc i) h = by (path_at s (suc i)) refl
   where
-    by : (q : Path) → path_at s (suc i) ≡ q → get (graph (map_of s)) (path_at s (suc i)) ≡ Some (size_at s (suc i))
+    by : (q : Path) → path_at s (suc i) ≡ q → get (graph (map_of s)) (path_at s (suc i)) ≡ Some (size_at_place s (suc i))
     by [] w = (let same : suc i ≡ 0 = ok.apart (suc i) 0 h ok.rooted (w ∙ sym ok.root_path) in absurd (omega arith))
     by (k ∷ q) w =
         ap (get (graph (map_of s))) w ∙ get-graph (map_of s) k q

@@ -7,7 +7,7 @@ use Rattle.std.proofs.lemmas.Cmp.{tied_itself}
 use Rattle.std.proofs.lemmas.Bool.{cases_lt}
 use Rattle.allocative_graph.specs.Path.{Key, Path, key_cmp}
 use Rattle.allocative_collectors.specs.Listed.{Sum, Listed, root_sum, raise, add, path_at, IsEntered}
-use Rattle.allocative_collectors.specs.Shapes.{Shape, no_shape, at, paths, label, sums, children_at, keys_at, key_in, key_at, parent_at, bytes_at, IsArena, IsPlace, IsGap}
+use Rattle.allocative_collectors.specs.Shapes.{Shape, no_shape, at, paths, label, sums, children_at, keys_at, key_in, key_at, parent_at, bytes_at, IsArena, IsPlace, IsKeyGap}
 use Rattle.allocative_collectors.proofs.Orders.{key_total}
 use Rattle.allocative_collectors.proofs.Keys.{length-keys_of, key_in-keys_of}
 use Rattle.allocative_collectors.proofs.Walked.{child_path}
@@ -16,7 +16,7 @@ use Rattle.allocative_collectors.proofs.Labels.{label_set, label_push, get_sums,
 use Rattle.allocative_collectors.proofs.Grown.{leaf, with_children, grown, length_grown}
 
 -- at a gap no child has the key
-gap_none : (ks : List Key) (k : Key) (g : ℕ) → IsGap ks k g → (j : ℕ) → j < length ks → key_in ks j ≡ k → ⊥
+gap_none : (ks : List Key) (k : Key) (g : ℕ) → IsKeyGap ks k g → (j : ℕ) → j < length ks → key_in ks j ≡ k → ⊥
 gap_none ks k g gap j h e =
     let tied : key_cmp (key_in ks j) k ≡ Equal = subst (λ (x : Key). key_cmp (key_in ks j) x ≡ Equal) e (tied_itself key_total (key_in ks j)) in
     elim (cases_lt j g) [
@@ -75,7 +75,7 @@ module _ (ns : List Shape) (ok : IsArena ns) (p : ℕ) (hp : p < length ns) (k :
       subst (λ (j : ℕ). IsEntered (sums ns) (sums ns) p k 0 false j) is (was_entered listed.place found)
 
   -- the path of a key in a gap was not entered before
-  pub path_new : (g : ℕ) → IsGap (keys_at ns p) k g → (i : ℕ) → i < length (sums ns) → path_at (sums ns) i ≢ path_at (sums ns) p ++ k ∷ []
+  pub path_new : (g : ℕ) → IsKeyGap (keys_at ns p) k g → (i : ℕ) → i < length (sums ns) → path_at (sums ns) i ≢ path_at (sums ns) p ++ k ∷ []
   path_new g gap zero h e = not_nil _ k (sym e ∙ (path_sums ns 0 ok.rooted ∙ paths_root ns))
     where
       not_nil : (x : Path) (k : Key) → x ++ k ∷ [] ≡ [] → ⊥
@@ -92,7 +92,7 @@ module _ (ns : List Shape) (ok : IsArena ns) (p : ℕ) (hp : p < length ns) (k :
       let is_p : get_or (children_at ns p) at.place 0 ≡ suc i = subst (λ (q : ℕ). get_or (children_at ns q) at.place 0 ≡ suc i) same at.is in
       gap_none (keys_at ns p) k g gap at.place (omega (arith, length-keys_of ns (children_at ns p))) (key_in-keys_of ns (children_at ns p) at.place at_p ∙ (ap (key_at ns) is_p ∙ parts.1))
 
-  module _ (g : ℕ) (gap : IsGap (keys_at ns p) k g) where
+  module _ (g : ℕ) (gap : IsKeyGap (keys_at ns p) k g) where
     paths_grown : paths (grown ns p k g) ≡ paths ns ++ (path_at (sums ns) p ++ k ∷ []) ∷ []
     paths_grown =
         let stood : at (ns ++ leaf p k ∷ []) p ≡ at ns p = get_or_append_left ns _ no_shape p hp in

@@ -11,7 +11,7 @@ use Rattle.allocative_graph.specs.Path.{Key, Path}
 use Rattle.allocative_graph.specs.Forest.{Mark, AsInline, AsUnique, AsShared}
 use Rattle.allocative_graph.specs.Sums.{Sums, is_unique_mark}
 use Rattle.allocative_graph.specs.Sums as bag
-use Rattle.allocative_graph.specs.Collector.{Live, go, leave_live, last_of, before_last, enter_live, enter_again, enter_first}
+use Rattle.allocative_graph.specs.Collector.{Live, go, leave_live, last_of, without_last, enter_live, enter_again, enter_first}
 use Rattle.allocative_graph.proofs.Basics.{identity_total, identity_antisymmetric, same_identity_turned}
 use Rattle.allocative_collectors.specs.Listed.{Listed, path_at, map_of}
 use Rattle.allocative_collectors.specs.Places.{live, to_root, outside, back_from, back_at, IsPlaced, AddedAt}
@@ -79,7 +79,7 @@ module _ (t : Listed) (met : List Identity) where
       sums = map_of t;
       met = from_list met;
       here = last_of (sym stack i);
-      back = before_last (sym stack i);
+      back = without_last (sym stack i);
       open_visitors = pred (length (sym stack i));
     }
 

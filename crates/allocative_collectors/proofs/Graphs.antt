@@ -7,7 +7,7 @@ use Rattle.std.proofs.lemmas.Bool.{cases_eq, cases_Bool, cond-true, cond-false, 
 use Rattle.allocative_graph.specs.Path.{Key, Path, key_cmp, is_same_path}
 use Rattle.allocative_collectors.specs.Listed.{Listed, path_at, map_of}
 use Rattle.allocative_collectors.specs.Shapes.{Shape, key_in, keys_at, sums, KeysRise, IsArena}
-use Rattle.allocative_collectors.specs.Finishing.{size_at}
+use Rattle.allocative_collectors.specs.Finishing.{size_at_place}
 use Rattle.allocative_graph.specs.Graph.{Graph, graph, sum_of, under, default}
 use Rattle.allocative_graph.specs.Graph as graphs
 use Rattle.allocative_graph.specs.Graph.{add_self}
@@ -123,7 +123,7 @@ part_step s p own ks j hj rise f f' c part child is =
       rest = λ k differs r. other k (λ e. differs j (omega arith) (sym e)) r ∙ part.rest k (λ a h. differs a (omega arith)) r;
     }
 
-pub graph_all : (ns : List Shape) → IsArena ns → (p : ℕ) → p < length ns → (j : ℕ) → j ≡ length (keys_at ns p) → (f : Finds) → HasPart (sums ns) (path_at (sums ns) p) (size_at (sums ns) p) (keys_at ns p) j f → (q : Path) → f q ≡ graph_at (sums ns) (path_at (sums ns) p ++ q)
+pub graph_all : (ns : List Shape) → IsArena ns → (p : ℕ) → p < length ns → (j : ℕ) → j ≡ length (keys_at ns p) → (f : Finds) → HasPart (sums ns) (path_at (sums ns) p) (size_at_place (sums ns) p) (keys_at ns p) j f → (q : Path) → f q ≡ graph_at (sums ns) (path_at (sums ns) p ++ q)
 graph_all ns ok p hp j whole f part [] =
     part.root ∙ sym (ap (graph_at (sums ns)) (append-nil (path_at (sums ns) p)) ∙ graph_hit (sums ns) (listing ns ok) p (omega (arith, length_sums ns)))
 graph_all ns ok p hp j whole f part (k ∷ r) =

@@ -8,7 +8,7 @@ use Rattle.std.proofs.lemmas.List.Sums.{sum_by_push, sum_by-set, sum_by-cons}
 use Rattle.std.proofs.lemmas.Bool.{cases_order, cases_eq, ne_eqb}
 use Rattle.std.specs.Ordering.{ordering_reverse}
 use Rattle.allocative_graph.specs.Path.{Key, key_cmp}
-use Rattle.allocative_collectors.specs.Shapes.{Shape, no_shape, at, children_at, keys_of, keys_at, key_in, key_at, parent_at, bytes_at, below_at, share, below_of, KeysRise, IsListed, IsChild, IsArena, IsGap}
+use Rattle.allocative_collectors.specs.Shapes.{Shape, no_shape, at, children_at, keys_of, keys_at, key_in, key_at, parent_at, bytes_at, below_at, share, below_of, KeysRise, IsListed, IsChild, IsArena, IsKeyGap}
 use Rattle.allocative_collectors.proofs.Orders.{key_total}
 use Rattle.allocative_collectors.proofs.Keys.{length-keys_of, keys_of-same, keys_of-insert, insert_below, insert_here, insert_above}
 
@@ -41,7 +41,7 @@ number_cases xs g n within P new old j h =
     ]
 
 -- keys stay in order when a key is put into its gap
-module _ (ks : List Key) (k : Key) (g : ℕ) (gap : IsGap ks k g) where
+module _ (ks : List Key) (k : Key) (g : ℕ) (gap : IsKeyGap ks k g) where
   key_below : (j : ℕ) → j < g → key_in (insert ks g k) j ≡ key_in ks j
   key_below = insert_below ks g k [] gap.in_range
 
@@ -69,7 +69,7 @@ module _ (ks : List Key) (k : Key) (g : ℕ) (gap : IsGap ks k g) where
         ])
       ]
 
-module _ (ns : List Shape) (ok : IsArena ns) (p : ℕ) (hp : p < length ns) (k : Key) (g : ℕ) (gap : IsGap (keys_at ns p) k g) where
+module _ (ns : List Shape) (ok : IsArena ns) (p : ℕ) (hp : p < length ns) (k : Key) (g : ℕ) (gap : IsKeyGap (keys_at ns p) k g) where
   pub length_grown : length (grown ns p k g) ≡ length ns + 1
   length_grown = omega (arith, length-set (ns ++ leaf p k ∷ []) p (with_children (insert (children_at ns p) g (length ns)) (at ns p)), length_push ns (leaf p k))
 

@@ -15,7 +15,7 @@ use Rattle.allocative_collectors.specs.declared.tree.Node.{Node}
 use Rattle.allocative_collectors.specs.Nodes.{shape, sums_of, IsTree}
 use Rattle.allocative_collectors.specs.Listed.{Listed, path_at, total as total_listed}
 use Rattle.allocative_collectors.specs.Shapes.{key_in, children_at, keys_of, keys_at, KeysRise}
-use Rattle.allocative_collectors.specs.Finishing.{size_at, warning_at, Makes}
+use Rattle.allocative_collectors.specs.Finishing.{size_at_place, warning_at, Makes}
 use Rattle.allocative_collectors.specs.Walks.{IsWalk, IsUnder, PathsRise}
 use Rattle.allocative_collectors.proofs.Keys.{length-keys_of, key_in-keys_of}
 use Rattle.allocative_collectors.proofs.Walked.{IsPart, part_none, part_more, part_all, child_path, more_warnings, beginning_before}
@@ -28,8 +28,8 @@ pub record HalfMade (s : Listed) (i : ℕ) (ks : List Key) (j : ℕ) (w w' : Lis
   pub ys : List ℕ
   pub part : IsPart s (path_at s i) ks j ys
   pub warnings_are : w' ≡ w ++ flat_map (warning_at s) (i ∷ ys)
-  pub has : HasPart s (path_at s i) (size_at s i) ks j (λ q. get g q)
-  pub total_is : total g ≡ sum_by (size_at s) (i ∷ ys)
+  pub has : HasPart s (path_at s i) (size_at_place s i) ks j (λ q. get g q)
+  pub total_is : total g ≡ sum_by (size_at_place s) (i ∷ ys)
 
 start : (n : ℕ) → 0 + n ≡ n + 0
 start n = omega arith
@@ -43,13 +43,13 @@ total-default = ap (sum_by (λ e. e.1)) (entries-from_entries-sorted (([], 0) �
 pub total-alone : (n : ℕ) → total (add_self n default) ≡ n
 total-alone n = total-add_at default ([], n) ∙ (ap (λ (m : ℕ). m + n) total-default ∙ zero_start n)
 
-pub half_none : (s : Listed) (i : ℕ) (ks : List Key) (w w' : List ℕ) (g : Graph) → g ≡ add_self (size_at s i) default → w' ≡ w ++ warning_at s i → HalfMade s i ks 0 w w' g
+pub half_none : (s : Listed) (i : ℕ) (ks : List Key) (w w' : List ℕ) (g : Graph) → g ≡ add_self (size_at_place s i) default → w' ≡ w ++ warning_at s i → HalfMade s i ks 0 w w' g
 half_none s i ks w w' g is written = record {
   ys = [];
   part = part_none s (path_at s i) ks;
   warnings_are = written ∙ ap (λ (l : List ℕ). w ++ l) (sym (append-nil (warning_at s i)));
-  has = part_start s (path_at s i) (size_at s i) ks (λ q. get g q) (started g (size_at s i) is);
-  total_is = ap total is ∙ (total-alone (size_at s i) ∙ (sym (zero_start (size_at s i))));
+  has = part_start s (path_at s i) (size_at_place s i) ks (λ q. get g q) (started g (size_at_place s i) is);
+  total_is = ap total is ∙ (total-alone (size_at_place s i) ∙ (sym (zero_start (size_at_place s i))));
 }
 
 sums_more : (f : ℕ → ℕ) (i : ℕ) (ys zs : List ℕ) → sum_by f (i ∷ ys) + sum_by f zs ≡ sum_by f (i ∷ (ys ++ zs))
@@ -63,11 +63,11 @@ module _ (s : Listed) (i : ℕ) (ks : List Key) (j : ℕ) (hj : j < length ks) (
         ys = half.ys ++ m ∷ child.others;
         part = part_more s (path_at s i) ks j hj rise half.ys (m ∷ child.others) half.part walk;
         warnings_are = more_warnings s w w' w'' (i ∷ half.ys) (m ∷ child.others) half.warnings_are child.warnings_are;
-        has = part_step s (path_at s i) (size_at s i) ks j hj rise (λ q. get g q) (λ q. get h q) (λ q. get c q) half.has
+        has = part_step s (path_at s i) (size_at_place s i) ks j hj rise (λ q. get g q) (λ q. get h q) (λ q. get c q) half.has
             (λ q. child.graph_is q ∙ ap (λ (p : Path). graph_at s (p ++ q)) there) (grown g h c (key_in ks j) is);
         total_is =
             ap total is ∙ (total-sum_of g (under (key_in ks j) c) ∙ (ap (λ (n : ℕ). total g + n) (total-under (key_in ks j) c)
-            ∙ ((λ k. half.total_is k + child.total_is k) ∙ sums_more (size_at s) i half.ys (m ∷ child.others))));
+            ∙ ((λ k. half.total_is k + child.total_is k) ∙ sums_more (size_at_place s) i half.ys (m ∷ child.others))));
       }
 
 -- ---- totals
@@ -90,10 +90,10 @@ half_total s i ks j w w' g hi half =
     within hi half zero h = hi
     within hi half (suc a) h = half.part.within a (omega arith)
 
-pub own_fits : (s : Listed) (i : ℕ) → i < length s → size_at s i ≤ total_listed s
+pub own_fits : (s : Listed) (i : ℕ) → i < length s → size_at_place s i ≤ total_listed s
 own_fits s i hi =
-    let alone = total-alone (size_at s i) in
-    let most = half_total s i [] 0 [] ([] ++ warning_at s i) (add_self (size_at s i) default) hi (half_none s i [] [] ([] ++ warning_at s i) (add_self (size_at s i) default) refl refl) in
+    let alone = total-alone (size_at_place s i) in
+    let most = half_total s i [] 0 [] ([] ++ warning_at s i) (add_self (size_at_place s i) default) hi (half_none s i [] [] ([] ++ warning_at s i) (add_self (size_at_place s i) default) refl refl) in
     omega (arith, alone, most)
 
 pub made_total : (s : Listed) (i : ℕ) (w w' : List ℕ) (g : Graph) → Makes s i w w' g → total g ≤ total_listed s

@@ -8,7 +8,7 @@ use Rattle.allocative_collectors.specs.Shapes.{Shape, no_shape, at, children_at,
 use Rattle.allocative_collectors.specs.Nodes.{shape, sums_of, IsTree}
 use Rattle.allocative_graph.specs.Sums.{below}
 use Rattle.allocative_collectors.specs.Listed.{Listed, sum_at, path_at, map_of}
-use Rattle.allocative_collectors.specs.Finishing.{size_at, is_short}
+use Rattle.allocative_collectors.specs.Finishing.{size_at_place, is_short}
 use Rattle.allocative_collectors.proofs.Keys.{key_in-keys_of}
 use Rattle.allocative_collectors.proofs.Below.{size_is, short_is, bytes_is, below_is}
 use Rattle.allocative_collectors.proofs.Labels.{length_sums}
@@ -117,9 +117,9 @@ module _ (items : List Node) (ok : IsTree items) (v : Listed) (view : sums_of it
   stands : i < length items
   stands = in_nodes items i (subst (λ (s : Listed). i < length s) (sym view) h)
 
-  pub size_read : size_at v i ≡ cond n.is_unique n.bytes (n.bytes - n.below)
+  pub size_read : size_at_place v i ≡ cond n.is_unique n.bytes (n.bytes - n.below)
   size_read =
-      ap (λ (s : Listed). size_at s i) (sym view)
+      ap (λ (s : Listed). size_at_place s i) (sym view)
       ∙ (size_is (map shape items) ok i (in_shapes items i (subst (λ (s : Listed). i < length s) (sym view) h))
       ∙ ap (λ (s : Shape). cond s.is_unique s.bytes (s.bytes - s.below)) (shape_read items i n stands read))
 

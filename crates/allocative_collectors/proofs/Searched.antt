@@ -4,7 +4,7 @@ use Rattle.std.specs.declared.cmp.Ordering.TheVariants.{Less, Equal, Greater}
 use Rattle.std.specs.Ordering.{ordering_reverse}
 use Rattle.std.proofs.lemmas.Bool.{cases_eq}
 use Rattle.allocative_graph.specs.Path.{Key, key_cmp}
-use Rattle.allocative_collectors.specs.Shapes.{key_in, KeysRise, IsPlace, IsGap}
+use Rattle.allocative_collectors.specs.Shapes.{key_in, KeysRise, IsPlace, IsKeyGap}
 use Rattle.allocative_collectors.proofs.Orders.{key_total, key_same}
 
 -- the keys before place low are smaller than k, and those from place high on are greater
@@ -56,7 +56,7 @@ module _ (ks : List Key) (rise : KeysRise ks) (k : Key) where
   }
 
   -- all keys are smaller where the last one is
-  pub gap_behind : (n m : ℕ) → n ≡ length ks → m + 1 ≡ n → key_cmp (key_in ks m) k ≡ Less → IsGap ks k n
+  pub gap_behind : (n m : ℕ) → n ≡ length ks → m + 1 ≡ n → key_cmp (key_in ks m) k ≡ Less → IsKeyGap ks k n
   gap_behind n m all last less = record {
     in_range = omega arith;
     smaller_before = λ j h. smaller_up_to m (omega arith) less j (omega arith);
@@ -64,7 +64,7 @@ module _ (ks : List Key) (rise : KeysRise ks) (k : Key) where
   }
 
 -- nothing is left between
-pub gap_between : (ks : List Key) (k : Key) (low high : ℕ) → IsBetween ks k low high → high ≤ low → IsGap ks k low
+pub gap_between : (ks : List Key) (k : Key) (low high : ℕ) → IsBetween ks k low high → high ≤ low → IsKeyGap ks k low
 gap_between ks k low high was done = record {
   in_range = omega (arith, was.ordered, was.within);
   smaller_before = was.smaller_before;

@@ -8,8 +8,8 @@ use Rattle.allocative_collectors.specs.Listed.{Listed, sum_at, path_at, row, map
 use Rattle.allocative_collectors.specs.Walks.{IsWalk}
 
 -- The size that the graph has at place i.
-abbrev pub size_at : Listed → ℕ → ℕ
-size_at s i = let e = sum_at s i in remaining (map_of s) e.path (row e).1
+abbrev pub size_at_place : Listed → ℕ → ℕ
+size_at_place s i = let e = sum_at s i in remaining (map_of s) e.path (row e).1
 
 -- Whether place i has a warning.
 abbrev pub is_short : Listed → ℕ → Bool
@@ -25,7 +25,7 @@ pub record Makes (s : Listed) (i : ℕ) (written written' : List ℕ) (g : Graph
   pub walk : IsWalk s (path_at s i) (i ∷ others)
   pub warnings_are : written' ≡ written ++ flat_map (warning_at s) (i ∷ others)
   pub graph_is : (q : Path) → get g q ≡ get (graph (map_of s)) (path_at s i ++ q)
-  pub total_is : total g ≡ sum_by (size_at s) (i ∷ others)
+  pub total_is : total g ≡ sum_by (size_at_place s) (i ∷ others)
 
 -- A walk of the paths from that of place i on made the graph g, and none of them has a warning.
 abbrev pub MakesAlone : Listed → ℕ → Graph → Type 0

@@ -125,7 +125,7 @@ pub record IsPlace (ks : List Key) (k : Key) (i : ℕ) : Type 0 where
   pub has_key : key_in ks i ≡ k
 
 -- The key k is missing, and belongs at place i: the keys before that place are smaller, those from it on are greater.
-pub record IsGap (ks : List Key) (k : Key) (i : ℕ) : Type 0 where
+pub record IsKeyGap (ks : List Key) (k : Key) (i : ℕ) : Type 0 where
   pub in_range : i ≤ length ks
   pub smaller_before : (j : ℕ) → j < i → key_cmp (key_in ks j) k ≡ Less
   pub greater_after : (j : ℕ) → i ≤ j → j < length ks → key_cmp (key_in ks j) k ≡ Greater

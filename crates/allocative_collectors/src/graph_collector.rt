@@ -67,13 +67,13 @@ impl GraphCollector {
     /// One more entry of `size` bytes under the key, unique or inline, and a visitor at it.
     ///
     /// It returns `TooLarge` exactly where the bytes of all entries would exceed `isize::MAX`, and otherwise fails only
-    /// with `Memory`. The bound is tested before memory is allocated. `TooLarge` changes nothing.
+    /// with `Memory`. The bound is tested before memory is allocated. An error changes nothing.
     #[inline(always)]
     pub fn enter(&mut self, key: &Key, size: usize, is_unique: bool) -> Result<(), Refusal>
         ensures ok { OnOk result ((entered self.old.sums + size < 2 ^ 63)
             × (self.new ≡ enter_live is_unique key.now size self.old)) }
         ensures err { IfErr result (Refuses is_unique size (OfGraph self.old)) }
-        ensures kept { IfErr result (λ e. e ≡ Refusal.TooLarge → self.new ≡ self.old) }
+        ensures kept { OnErr result (self.new ≡ self.old) }
     {
         let here = self.current;
         self.current = add(

@@ -3,8 +3,8 @@ ghost use Rattle.std.specs.Prelude.{◌≡◌, ◌+◌, ◌^◌, ◌<◌, ℕ, [
 ghost use Rattle.allocative_graph.specs.Graph.{warning_line, total as graph_total};
 ghost use Rattle.allocative_graph.specs.Visits.{IsProfile};
 ghost use Rattle.allocative_collectors.specs.Listed.{root_sum, add, total, path_at, map_of, IsEntered, IsAbove};
-ghost use Rattle.allocative_collectors.specs.Finishing.{size_at, is_short, Makes, MakesAlone};
-ghost use Rattle.allocative_collectors.specs.Shapes.{keys_of, KeysRise, IsPlace, IsGap};
+ghost use Rattle.allocative_collectors.specs.Finishing.{size_at_place, is_short, Makes, MakesAlone};
+ghost use Rattle.allocative_collectors.specs.Shapes.{keys_of, KeysRise, IsPlace, IsKeyGap};
 ghost use Rattle.allocative_collectors.specs.Nodes.{shape};
 
 use crate::output::FlameGraphOutput;
@@ -182,7 +182,7 @@ impl Tree {
     /// The size that the graph has at the path of a node.
     fn size(&self, at: usize) -> usize
         requires { at < length self.now }
-        ensures { result ≡ size_at self.now at }
+        ensures { result ≡ size_at_place self.now at }
     {
         let node = &self.nodes[at];
         if node.is_unique {
@@ -325,7 +325,7 @@ fn find(nodes: &[Node], children: &[u32], key: &Key) -> Result<usize, usize>
     requires within { EachIndex children.now (λ j. slice_index children.now j < length nodes.now) }
     requires rise { KeysRise (keys_of (map shape nodes.now) children.now) }
     ensures found { IfOk result (IsPlace (keys_of (map shape nodes.now) children.now) key.now) }
-    ensures absent { IfErr result (IsGap (keys_of (map shape nodes.now) children.now) key.now) }
+    ensures absent { IfErr result (IsKeyGap (keys_of (map shape nodes.now) children.now) key.now) }
 {
     // A key that comes in order needs one comparison.
     if let Some(&last) = children.last()

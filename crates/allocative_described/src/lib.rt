@@ -6,11 +6,7 @@
 //! and `shared_inner_size` the size of the value behind a shared pointer.
 #![tactic(auto)]
 
-mod atomics;
-mod composed;
 mod described;
-mod non_zero;
-mod numbers;
 mod pack_types;
 mod raw_table;
 mod std_types;

@@ -17,7 +17,7 @@ use Rattle.allocative_graph.specs.Graph.{Graph, IsTree, IsBehind, HasNothing, be
 use Rattle.allocative_graph.specs.Representation.PathRows.{under_rows}
 use Rattle.allocative_graph.specs.Representation.Node.{node, rows_of, rows_of_child, keys_of}
 use Rattle.allocative_graph.specs.Representation.NodeRows.{entries-node}
-use Rattle.allocative_graph.specs.Representation.Children.{size_under, InOrder, IsFound, IsGap, AllBelow, AllAbove}
+use Rattle.allocative_graph.specs.Representation.Children.{size_under, InOrder, IsFound, IsChildGap, AllBelow, AllAbove}
 use Rattle.allocative_graph.proofs.ChildSizes.{Lacks, lacks-above, size_under-lacks}
 use Rattle.allocative_graph.proofs.ChildLookup.{get-under}
 
@@ -57,11 +57,11 @@ lacks-append k [] b h g = g
 lacks-append k (c ∷ a) b h g = (h.0, lacks-append k a b h.1 g)
 
 -- A key that was not found is none of theirs.
-gap-lacks : (cs : List Child) (i : ℕ) (k : Key) → IsGap cs k i → Lacks k cs
+gap-lacks : (cs : List Child) (i : ℕ) (k : Key) → IsChildGap cs k i → Lacks k cs
 gap-lacks cs i k g = subst (Lacks k) (take-append-drop i cs) (lacks-append k (take i cs) (drop i cs) (lacks-below k (take i cs) g.below) (lacks-above k (drop i cs) g.above))
 
 -- No size is below a key that was not found.
-pub size_under-gap : (cs : List Child) (i : ℕ) (k : Key) (p : Path) → IsGap cs k i → size_under cs k p ≡ None
+pub size_under-gap : (cs : List Child) (i : ℕ) (k : Key) (p : Path) → IsChildGap cs k i → size_under cs k p ≡ None
 size_under-gap cs i k p g = size_under-lacks cs k p (gap-lacks cs i k g)
 
 -- ---- bytes at a path and below it
@@ -147,7 +147,7 @@ module _ (n : ℕ) (cs : List Child) (i : ℕ) (d : Child) (k : Key) (o : InOrde
   }
 
 -- Where a key was not found, the node has nothing at it and below it.
-pub missing_key : (n : ℕ) (cs : List Child) (i : ℕ) (k : Key) (p : Path) → InOrder cs → IsGap cs k i → HasNothing (node n cs) (k ∷ p)
+pub missing_key : (n : ℕ) (cs : List Child) (i : ℕ) (k : Key) (p : Path) → InOrder cs → IsChildGap cs k i → HasNothing (node n cs) (k ∷ p)
 missing_key n cs i k p o g = record {
   missing = ap is_some (get-under n cs k p o ∙ size_under-gap cs i k p g);
   below = λ q. ap is_some (get-under n cs k (p ++ q) o ∙ size_under-gap cs i k (p ++ q) g);

@@ -9,7 +9,7 @@ use Rattle.std.proofs.lemmas.List.{append-nil}
 use Rattle.std.specs.FinMap.Entries.{find}
 use Rattle.allocative_graph.specs.declared.flamegraph.Child.{Child}
 use Rattle.allocative_graph.specs.Graph.{under}
-use Rattle.allocative_graph.specs.Representation.PathRows.{under_rows, IsSum, IsPartOfSum}
+use Rattle.allocative_graph.specs.Representation.PathRows.{under_rows, IsSumByPath, IsPartOfSum}
 use Rattle.allocative_graph.specs.Path.{Key, Path, key_cmp, path_cmp}
 use Rattle.allocative_graph.specs.Representation.Node.{node, rows_of}
 use Rattle.allocative_graph.specs.Representation.NodeRows.{node_sorted, entries-node}
@@ -79,7 +79,7 @@ pub get-under : (n : ℕ) (cs : List Child) (k : Key) (p : Path) → InOrder cs 
 get-under n cs k p h = get-from_sorted path_cmp (([], n) ∷ rows_of cs) (k ∷ p) (node_sorted n cs h) ∙ find-rows cs k p h
 
 -- Nodes add up where their own sizes and their children do.
-pub node_sum : (m n : ℕ) (cs ds es : List Child) → InOrder cs → InOrder ds → InOrder es → AreSum cs ds es → IsSum (node m cs) (node n ds) (node (m + n) es)
+pub node_sum : (m n : ℕ) (cs ds es : List Child) → InOrder cs → InOrder ds → InOrder es → AreSum cs ds es → IsSumByPath (node m cs) (node n ds) (node (m + n) es)
 node_sum m n cs ds es a b c s [] = rw (get-root m cs a, get-root n ds b, get-root (m + n) es c) (refl, refl)
 node_sum m n cs ds es a b c s (k ∷ p) = rw (get-under m cs k p a, get-under n ds k p b, get-under (m + n) es k p c) (s k p)
 

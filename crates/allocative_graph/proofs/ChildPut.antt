@@ -6,7 +6,7 @@ use Rattle.allocative_graph.specs.declared.flamegraph.Child.{Child}
 use Rattle.allocative_graph.specs.Path.{Key, key_cmp}
 use Rattle.allocative_graph.specs.Graph.{IsTree, total}
 use Rattle.allocative_graph.specs.Representation.Node.{weight, AreChildren}
-use Rattle.allocative_graph.specs.Representation.Children.{IsFound, IsGap, AllBelow, AllAbove}
+use Rattle.allocative_graph.specs.Representation.Children.{IsFound, IsChildGap, AllBelow, AllAbove}
 use Rattle.allocative_graph.specs.Representation.Merged.{Added, Merged}
 use Rattle.allocative_graph.proofs.ChildOrder.{first_below, first_below_one, first_tree, others}
 use Rattle.allocative_graph.proofs.ChildMerged.{merged_first, merged_second, merged_both, merged_same}
@@ -50,7 +50,7 @@ module _ (cs : List Child) (i : ℕ) (c x y : Child) (found : IsFound cs c.key i
   weight_of_found = omega (arith, ap weight was ∙ weight-split (take i cs) (drop (suc i) cs) x)
 
 -- ---- the key of c was not found, and belongs at i
-module _ (cs : List Child) (i : ℕ) (c : Child) (gap : IsGap cs c.key i) where
+module _ (cs : List Child) (i : ℕ) (c : Child) (gap : IsChildGap cs c.key i) where
   parts : cs ≡ take i cs ++ drop i cs
   parts = sym (take-append-drop i cs)
 

@@ -9,7 +9,7 @@ use Rattle.std.specs.Ordering.{ordering_index, ordering_reverse, is_lt}
 use Rattle.std.specs.Cmp.Lexicographic.{nat_list_cmp_total}
 use Rattle.allocative_graph.specs.declared.flamegraph.Child.{Child}
 use Rattle.allocative_graph.specs.Path.{Key, key_cmp}
-use Rattle.allocative_graph.specs.Representation.Children.{InOrder, AllBelow, AllAbove, IsFound, IsGap}
+use Rattle.allocative_graph.specs.Representation.Children.{InOrder, AllBelow, AllAbove, IsFound, IsChildGap}
 use Rattle.allocative_graph.proofs.ChildOrder.{key_same, key_turn, below_last, neighbors}
 
 pub less_is : (o : Ordering) → is_lt o ≡ true → o ≡ Less
@@ -37,7 +37,7 @@ module _ (cs : List Child) (o : InOrder cs) (k : Key) where
   comparisons_rise : IsNonDecreasingBy (λ (c : Child). ordering_index (key_cmp c.key k)) cs
   comparisons_rise = searchable_from_sorted nat_list_cmp_total (λ (c : Child). c.key) cs k sorted
 
-  pub searched : (r : Result ℕ ℕ) → IsSearchInRange r (length cs) → IsBinarySearchResult (λ (c : Child). key_cmp c.key k) cs r → record { found : IfOk r (IsFound cs k); missing : IfErr r (IsGap cs k) }
+  pub searched : (r : Result ℕ ℕ) → IsSearchInRange r (length cs) → IsBinarySearchResult (λ (c : Child). key_cmp c.key k) cs r → record { found : IfOk r (IsFound cs k); missing : IfErr r (IsChildGap cs k) }
   searched (Ok i) in_range equal = record { found = record { within = in_range; same = λ d. key_same _ _ (equal d) }; missing = tt }
   searched (Err i) in_range parted = record {
     found = tt;
@@ -49,7 +49,7 @@ module _ (cs : List Child) (o : InOrder cs) (k : Key) where
   }
 
   -- A key above the last one belongs at the end.
-  pub behind_last : (n : ℕ) (d : Child) → length cs ≡ suc n → key_cmp (get_or cs n d).key k ≡ Less → IsGap cs k (length cs)
+  pub behind_last : (n : ℕ) (d : Child) → length cs ≡ suc n → key_cmp (get_or cs n d).key k ≡ Less → IsChildGap cs k (length cs)
   behind_last n d len less = record {
     within = omega arith;
     below = subst (λ (s : List Child). AllBelow s k) (sym (take_all (length cs) cs (omega arith))) (below_last cs k n d len o less);

@@ -1,6 +1,6 @@
 pub mod Basics
 pub mod Computed
-pub mod Rows
+pub mod WorkedExamples
 pub mod Reach
 pub mod Lookups
 pub mod Order

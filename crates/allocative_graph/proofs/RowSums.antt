@@ -5,7 +5,7 @@ use Rattle.std.proofs.lemmas.List.{append-nil}
 use Rattle.std.proofs.lemmas.List.Sums.{sum_by-cons}
 use Rattle.allocative_graph.specs.Path.{Key, Path}
 use Rattle.allocative_graph.specs.Graph.{Graph, total, sum_of, joined}
-use Rattle.allocative_graph.specs.Representation.PathRows.{sum_of_rows, joined_on, IsSum}
+use Rattle.allocative_graph.specs.Representation.PathRows.{sum_of_rows, joined_on, IsSumByPath}
 use Rattle.allocative_graph.proofs.Basics.{path_total, path_antisymmetric}
 use Rattle.allocative_graph.proofs.Graphs.{sizes_together}
 use Rattle.allocative_graph.proofs.Merge.{get-sum_of}
@@ -22,7 +22,7 @@ by_parts x y None e s = ap (λ b. cond b (Some (unwrap_or x 0 + unwrap_or y 0)) 
 by_parts x y (Some n) e s = ap Some e ∙ ap (λ b. cond b (Some (unwrap_or x 0 + unwrap_or y 0)) None) s
 
 -- A graph that has the sums path by path is the sum.
-pub is_sum_of : (g h r : Graph) → IsSum g h r → r ≡ sum_of g h
+pub is_sum_of : (g h r : Graph) → IsSumByPath g h r → r ≡ sum_of g h
 is_sum_of g h r s = same_map path_total path_antisymmetric r (sum_of g h) (λ p. by_parts (get g p) (get h p) (get r p) (s p).0 (s p).1 ∙ sym (get-sum_of g h p))
 
 pub joined-keys : (k : Key) (ks : Path) → joined (k ∷ ks) ≡ k ++ joined_on ks

@@ -54,13 +54,13 @@ last_of [] = []
 last_of (p ∷ ps) = p
 
 -- The paths to go back to after the last one.
-abbrev pub before_last : List Path → List Path
-before_last [] = []
-before_last (p ∷ ps) = ps
+abbrev pub without_last : List Path → List Path
+without_last [] = []
+without_last (p ∷ ps) = ps
 
 -- One visitor less: one step back.
 abbrev pub leave_live : Live → Live
-leave_live c = record c { here = last_of c.back; back = before_last c.back; open_visitors = pred c.open_visitors }
+leave_live c = record c { here = last_of c.back; back = without_last c.back; open_visitors = pred c.open_visitors }
 
 -- One more entry, unique or inline, and a visitor at it.
 abbrev pub enter_live : Bool → Key → ℕ → Live → Live

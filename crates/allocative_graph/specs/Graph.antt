@@ -4,6 +4,7 @@ use Rattle.std.specs.List.{AllByRecursion}
 use Rattle.std.specs.FinMap.{FinMap, get, insert, entries, from_entries, keys, contains_key}
 use Rattle.std.specs.Ordering.{eq_by_cmp}
 use Rattle.allocative_graph.specs.Path.{Key, Path, key_cmp, path_cmp}
+use Rattle.allocative_graph.specs.Format.{semicolon, space, newline}
 use Rattle.allocative_graph.specs.Sums.{Node, Sums, below}
 use lib.Chars.{codes}
 
@@ -97,11 +98,11 @@ is_root (k ∷ p) = false
 abbrev pub joined : Path → List ℕ
 joined [] = []
 joined (k ∷ []) = k
-joined (k ∷ l ∷ p) = k ++ 59 ∷ joined (l ∷ p)
+joined (k ∷ l ∷ p) = k ++ semicolon ∷ joined (l ∷ p)
 
 -- The line of a path with a size other than 0: keys, a space, the size in decimal, a line feed. The root has none.
 abbrev pub line : Path × ℕ → List ℕ
-line e = cond (is_root e.0 || (e.1 == 0)) [] (joined e.0 ++ 32 ∷ decimal e.1 ++ 10 ∷ [])
+line e = cond (is_root e.0 || (e.1 == 0)) [] (joined e.0 ++ space ∷ decimal e.1 ++ newline ∷ [])
 
 -- The lines of some paths, one after another.
 abbrev pub text_of_entries : List (Path × ℕ) → List ℕ
@@ -114,7 +115,7 @@ text g = text_of_entries (entries g)
 -- The warning of a path, with its own bytes and those one key below it.
 abbrev pub warning_line : Path → ℕ → ℕ → List ℕ
 warning_line p bytes under = codes "Incorrect size declaration for node `" ++ joined p ++ codes "`, size of self: "
-    ++ decimal bytes ++ codes ", size of inline children: " ++ decimal under ++ 10 ∷ []
+    ++ decimal bytes ++ codes ", size of inline children: " ++ decimal under ++ newline ∷ []
 
 -- The warning of a path of the sums: there is one where the path is not the root, was never unique and has fewer bytes
 -- than one key below it.
@@ -147,7 +148,7 @@ Lacks c xs = AllByRecursion (λ b. b ≢ c) xs
 
 -- No key of g has a `;` or a line feed.
 abbrev pub HasPlainKeys : Graph → Type 0
-HasPlainKeys g = AllByRecursion (λ p. AllByRecursion (λ k. Lacks 59 k × Lacks 10 k) p) (keys g)
+HasPlainKeys g = AllByRecursion (λ p. AllByRecursion (λ k. Lacks semicolon k × Lacks newline k) p) (keys g)
 
 -- The total fits a word, as in each `FlameGraph`.
 abbrev pub HasWords : Graph → Type 0

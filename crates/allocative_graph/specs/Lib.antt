@@ -2,6 +2,7 @@ pub mod Fnv
 pub mod Static
 pub mod Shared
 pub mod Path
+pub mod Format
 pub mod Identity
 pub mod Forest
 pub mod Meaning
@@ -12,7 +13,7 @@ pub mod Collector
 pub mod Shows
 pub mod Visits
 pub mod Laws
-pub mod Rows
+pub mod WorkedExamples
 pub mod Report
 pub mod Reads
 pub mod Many

@@ -5,10 +5,11 @@ ghost use Rattle.std.specs.List.{insert};
 ghost use Rattle.std.specs.Vec.{vec_capacity};
 ghost use Rattle.std.specs.FinMap as map;
 ghost use Rattle.allocative_graph.specs.Path.{key_cmp};
+ghost use Rattle.allocative_graph.specs.Format.{semicolon};
 ghost use Rattle.allocative_graph.specs.Graph.{add_self, total, text, default, sum_of, under, joined, IsTree};
 ghost use Rattle.allocative_graph.specs.Representation.PathRows.{size_text, lines_from, lines_below, HasRootAlone, IsPartOfSum};
 ghost use Rattle.allocative_graph.specs.Representation.Node.{weight, AreChildren};
-ghost use Rattle.allocative_graph.specs.Representation.Children.{front_order, InOrder, IsFound, IsGap};
+ghost use Rattle.allocative_graph.specs.Representation.Children.{front_order, InOrder, IsFound, IsChildGap};
 ghost use Rattle.allocative_graph.specs.Representation.Merged.{Added, Merged, IsNext};
 ghost use Rattle.allocative_graph.specs.declared.flamegraph.Child.{Child};
 
@@ -255,7 +256,7 @@ impl FlameGraph {
     // Appends the root's own line after the keys of its path.
     fn write_own(&self, path: &str, text: &mut String) -> Result<(), AllocError>
         ensures { OnOk result
-            (string_bytes text.new ++ lines_below (path.now ++ 59 ∷ []) (map.entries self.now)
+            (string_bytes text.new ++ lines_below (path.now ++ semicolon ∷ []) (map.entries self.now)
             ≡ string_bytes text.old ++ lines_from path.now (map.entries self.now)) }
     {
         if self.node_size != 0 {
@@ -329,7 +330,7 @@ pub fn push_path(keys: &[&str], text: &mut String) -> Result<(), AllocError>
 fn place_of(children: &[Child], key: &Key) -> Result<usize, usize>
     requires { InOrder children.now }
     ensures found { IfOk result (IsFound children.now key.now) }
-    ensures missing { IfErr result (IsGap children.now key.now) }
+    ensures missing { IfErr result (IsChildGap children.now key.now) }
 {
     if let Some(last) = children.last() {
         if last.key.cmp(key).is_lt() {
@@ -343,7 +344,7 @@ fn place_of(children: &[Child], key: &Key) -> Result<usize, usize>
 fn place_by_halving(children: &[Child], key: &Key) -> Result<usize, usize>
     requires { InOrder children.now }
     ensures found { IfOk result (IsFound children.now key.now) }
-    ensures missing { IfErr result (IsGap children.now key.now) }
+    ensures missing { IfErr result (IsChildGap children.now key.now) }
 {
     children.binary_search_by(
         |child: &Child| -> Ordering

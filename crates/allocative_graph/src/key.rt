@@ -1,4 +1,4 @@
-//! Keys: static texts with their hashes.
+//! Keys: static texts.
 ghost use Rattle.std.specs.Prelude.{◌≡◌, List, ℕ, Some, ◌==◌, IfOk};
 ghost use Rattle.std.proofs.Common.{rules};
 ghost use Rattle.std.specs.Cmp.Rules.{comparing, hashing};
@@ -17,25 +17,21 @@ use std::fmt;
 use std::hash::{Hash, Hasher};
 use std::marker::Model;
 
-/// The name of an entry: a static text, kept with its 64-bit hash.
+/// The name of an entry: a static text.
 ///
 /// Keys are equal where their texts are, and are ordered by the bytes of their texts. A contract sees only the
 /// bytes of the text. No call of a key allocates or fails.
 #[derive(Drop)]
 pub struct Key {
     text: StaticText,
-    hash: u64,
 }
 
 impl Model for Key {
-    ghost use Rattle.std.specs.Prelude.{◌≡◌, List, ℕ};
-    ghost use Rattle.allocative_graph.specs.Fnv.{fnv};
+    ghost use Rattle.std.specs.Prelude.{List, ℕ};
 
     ghost Value = { List ℕ };
 
     ghost view = { λ k. k.text };
-
-    ghost invariant = { λ k. k.hash ≡ fnv k.text };
 }
 
 impl Key {
@@ -54,7 +50,9 @@ impl Key {
     pub fn new(text: &'static str) -> Key
         ensures { result ≡ text.now }
     {
-        Key::new_unchecked(Key::hash_of(text), text)
+        Key {
+            text: StaticText::new(text),
+        }
     }
 
     /// The key of the declared name of `T`.
@@ -64,16 +62,12 @@ impl Key {
         Key::new(T::name())
     }
 
-    /// The key of a text whose hash is known, so that it is not computed again. It requires that
-    /// the hash is `hash_of(text)`.
-    pub fn new_unchecked(hash: u64, text: &'static str) -> Key
-        requires { hash ≡ fnv text.now }
+    /// The key of a text whose hash is known. It requires that the hash is `hash_of(text)`. The key does not keep it.
+    pub fn new_unchecked(_hash: u64, text: &'static str) -> Key
+        requires { _hash ≡ fnv text.now }
         ensures { result ≡ text.now }
     {
-        Key {
-            text: StaticText::new(text),
-            hash,
-        }
+        Key::new(text)
     }
 
     /// The text. It lives longer than the key.
@@ -90,7 +84,6 @@ impl Key {
     {
         Key {
             text: self.text.copy(),
-            hash: self.hash,
         }
     }
 }
@@ -133,14 +126,14 @@ impl Ord for Key {
     }
 }
 
-/// Keys are hashed by their 64-bit hash alone.
+/// A key feeds a hasher the 64-bit hash of its text, and nothing else.
 impl Hash for Key {
     ghost hash_input = { λ k. fed.u64 (fnv k) };
 
     ghost respects_eq = { Prim.search (hashing, rules) };
 
     fn hash<H: Hasher>(&self, state: &mut H) {
-        state.write_u64(self.hash);
+        state.write_u64(Key::hash_of(self.as_str()));
     }
 }
 

@@ -1,6 +1,6 @@
 //! The laws of the definitions. Each is a function without parameters, whose contract is the law.
 ghost use Rattle.allocative_graph.specs.Laws.{OrderLaw, MeaningLaw, MergeLaw, TextLaw, SumsLaw, PlusLaw, SharedLaw, PathOrderLaw, GraphSumsLaw, GraphLaw, ExactLaw};
-ghost use Rattle.allocative_graph.specs.Rows.{Rows};
+ghost use Rattle.allocative_graph.specs.WorkedExamples.{WorkedExamples};
 
 /// Two whole showings that agree up to order reach the same identities, and have the same graph, text and warnings.
 pub fn order_law()
@@ -64,5 +64,5 @@ pub fn graph_law()
 
 /// Worked examples: what some showings print, and how many bytes some hold.
 pub fn rows_law()
-    ensures { Rows }
+    ensures { WorkedExamples }
 {}

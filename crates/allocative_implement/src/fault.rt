@@ -27,8 +27,8 @@ pub enum Fault {
     #[error("a type that was asked for is none of the source")]
     Missing,
     /// The arguments are not valid.
-    #[error("the words are a source file and names of its types")]
-    Words,
+    #[error("the arguments are a source file and names of its types")]
+    Arguments,
     /// The file is not in the folder `src` of a crate.
     #[error("the file does not stand in the folder src of a crate")]
     Place,
@@ -38,7 +38,7 @@ pub enum Fault {
     /// A write failed.
     #[error("cannot write output")]
     Writing,
-    /// Some types were left out. The text for the others was written.
+    /// Some types were left out. In a module the others are written, and in place nothing is.
     #[error("some types were left out")]
     LeftOut,
 }
@@ -53,7 +53,7 @@ impl Fault {
             Fault::Unended(_) | Fault::Bracket(_) | Fault::Mark(_) => 2,
             Fault::NotText => 3,
             Fault::Missing => 4,
-            Fault::Words | Fault::Place => 5,
+            Fault::Arguments | Fault::Place => 5,
             Fault::Reading => 6,
             Fault::Writing => 7,
             Fault::LeftOut => 8,

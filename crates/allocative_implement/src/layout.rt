@@ -529,6 +529,7 @@ fn is_foreign(name: &str) -> bool {
             | "PathBuf"
             | "LinkedList"
             | "BinaryHeap"
+            | "Infallible"
     )
 }
 

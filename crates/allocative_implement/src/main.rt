@@ -2,6 +2,7 @@
 //! or in place.
 #![tactic(auto)]
 
+mod arguments;
 mod cursor;
 mod fault;
 mod head;
@@ -16,9 +17,9 @@ mod splice;
 mod tests;
 mod text;
 mod tokens;
-mod words;
 mod write;
 
+use arguments::{Asked, read_arguments};
 use fault::Fault;
 use items::Form;
 use run::{run, show_usage, tell};
@@ -27,14 +28,13 @@ use std::io::{ErrorKind, Write};
 use std::process::ExitCode;
 use std::rt::{Env, Files};
 use std::{env, fs, io};
-use words::{Asked, read_words};
 
 /// The arguments after the program's name. An argument that is not UTF-8 is not valid.
-fn words_of<R: Env + AllocGlobal>(rt: &R) -> Result<Vec<String>, Fault> {
+fn arguments_of<R: Env + AllocGlobal>(rt: &R) -> Result<Vec<String>, Fault> {
     match env::args(rt) {
         Ok(args) => Ok(args.skip(1).collect(rt.alloc())?),
         Err(error) if error.kind() == ErrorKind::OutOfMemory => Err(Fault::Memory),
-        Err(_) => Err(Fault::Words),
+        Err(_) => Err(Fault::Arguments),
     }
 }
 
@@ -113,11 +113,11 @@ fn write_in_place<R: Files + AllocGlobal, E: Write>(
 fn main(rt: HostRuntime) -> ExitCode {
     let mut output = io::writer(&rt);
     let mut errors = rt.stderr();
-    let words = match words_of(&rt) {
-        Ok(words) => words,
+    let arguments = match arguments_of(&rt) {
+        Ok(arguments) => arguments,
         Err(fault) => return ExitCode::from(tell(&mut errors, fault)),
     };
-    let status = match read_words(words.as_slice()) {
+    let status = match read_arguments(arguments.as_slice()) {
         Ok(Asked::Help) => show_usage(&mut output, &mut errors),
         Ok(Asked::Write { form, file, names }) => match form {
             Form::Module => write_module(&rt, file, names, &mut output, &mut errors),

@@ -133,7 +133,16 @@ fn has_word(tokens: &[Token<'_>], span: Span, word: &str) -> bool {
 fn is_taken(name: &str) -> bool {
     matches!(
         name,
-        "Allocative" | "Described" | "Field" | "Inside" | "Key" | "Part" | "Refusal" | "Visitor"
+        "Allocative"
+            | "Described"
+            | "Field"
+            | "Inside"
+            | "Key"
+            | "Option"
+            | "Part"
+            | "Refusal"
+            | "Result"
+            | "Visitor"
     )
 }
 

@@ -1,12 +1,12 @@
 //! Tests of what no clause says: the tokens of a source, the text for a type, why a type is left out, and runs whose
 //! input or output fails.
+use crate::arguments::{Asked, read_arguments};
 use crate::fault::Fault;
 use crate::implement::implement;
 use crate::items::Form;
 use crate::place::place_of;
 use crate::run::run;
 use crate::tokens::{Kind, tokens_of};
-use crate::words::{Asked, read_words};
 use std::alloc::{AllocError, Global};
 use std::collections::VecDeque;
 use std::io;
@@ -302,22 +302,22 @@ fn a_type_by_name_and_none_that_is_not_there(rt: HostRuntime) -> Result<(), Fail
 #[test]
 fn words_are_read(rt: HostRuntime) -> Result<(), AllocError> {
     let alloc = rt.alloc();
-    let mut words = Vec::new(alloc);
-    assert!(rt; read_words(words.as_slice()).err() == Some(Fault::Words));
-    words.push(String::from_str(alloc, "--help")?)?;
-    assert!(rt; read_words(words.as_slice()).ok() == Some(Asked::Help));
-    words.push(String::from_str(alloc, "a.rt")?)?;
-    assert!(rt; read_words(words.as_slice()).err() == Some(Fault::Words));
-    let mut words = Vec::new(alloc);
-    words.push(String::from_str(alloc, "--in-place")?)?;
-    assert!(rt; read_words(words.as_slice()).err() == Some(Fault::Words));
-    words.push(String::from_str(alloc, "a.rt")?)?;
-    words.push(String::from_str(alloc, "A")?)?;
+    let mut arguments = Vec::new(alloc);
+    assert!(rt; read_arguments(arguments.as_slice()).err() == Some(Fault::Arguments));
+    arguments.push(String::from_str(alloc, "--help")?)?;
+    assert!(rt; read_arguments(arguments.as_slice()).ok() == Some(Asked::Help));
+    arguments.push(String::from_str(alloc, "a.rt")?)?;
+    assert!(rt; read_arguments(arguments.as_slice()).err() == Some(Fault::Arguments));
+    let mut arguments = Vec::new(alloc);
+    arguments.push(String::from_str(alloc, "--in-place")?)?;
+    assert!(rt; read_arguments(arguments.as_slice()).err() == Some(Fault::Arguments));
+    arguments.push(String::from_str(alloc, "a.rt")?)?;
+    arguments.push(String::from_str(alloc, "A")?)?;
     let want = Asked::Write {
         form: Form::InPlace,
         file: "a.rt",
-        names: &words.as_slice()[2..],
+        names: &arguments.as_slice()[2..],
     };
-    assert!(rt; read_words(words.as_slice()).ok() == Some(want));
+    assert!(rt; read_arguments(arguments.as_slice()).ok() == Some(want));
     Ok(())
 }

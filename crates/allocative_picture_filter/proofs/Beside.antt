@@ -1,5 +1,5 @@
 -- Rows that stand beside one another.
-use Rattle.std.proofs.Common.{◌≡◌, ℕ, zero, suc, ◌+◌, ◌<◌, ◌≤◌, List, [], ◌∷◌, ◌++◌, length, get_or, ap, sym, ◌∙◌, subst, arith}
+use Rattle.std.proofs.Common.{◌≡◌, ℕ, zero, suc, ◌+◌, ◌<◌, ◌≤◌, List, [], ◌∷◌, ◌++◌, length, get_or, ap, sym, ◌∙◌, arith}
 use Rattle.std.proofs.Math.ListN.{set}
 use Rattle.std.specs.Prelude.{fold}
 use Rattle.std.proofs.lemmas.List.Sums.{sum_by-append, sum_by-set, get_or-le-sum_by}
@@ -10,12 +10,6 @@ use Rattle.allocative_picture_filter.specs.Forest.{AreBeside, HasRows}
 pub beside-push : (n : ℕ) (rs : List Row) (r : Row) → AreBeside n rs → r.before ≡ fold (λ a x. a + x.own) n rs → AreBeside n (rs ++ r ∷ [])
 beside-push n [] r h e = (e, tt)
 beside-push n (x ∷ rs) r h e = (h.0, beside-push (n + x.own) rs r h.1 e)
-
--- A row that changes neither its bytes nor where it stands.
-pub beside-set : (n : ℕ) (rs : List Row) (i : ℕ) (r d : Row) → i < length rs → r.own ≡ (get_or rs i d).own → r.before ≡ (get_or rs i d).before → AreBeside n rs → AreBeside n (set rs i r)
-beside-set n [] i r d lt own before h = absurd (omega (arith, lt))
-beside-set n (x ∷ rs) zero r d lt own before h = (before ∙ h.0, subst (λ (k : ℕ). AreBeside (n + k) rs) (sym own) h.1)
-beside-set n (x ∷ rs) (suc i) r d lt own before h = (h.0, beside-set (n + x.own) rs i r d (omega (arith, lt)) own before h.1)
 
 -- The last row with other bytes.
 pub beside-last : (n : ℕ) (rs : List Row) (i : ℕ) (r d : Row) → i + 1 ≡ length rs → r.before ≡ (get_or rs i d).before → AreBeside n rs → AreBeside n (set rs i r)
@@ -31,15 +25,6 @@ rows-push n rs r own before h = record {
   own = omega (arith, sum_by-append (λ (x : Row). x.own) rs (r ∷ []), h.own, own);
   beside = beside-push 0 rs r h.beside (before ∙ sym h.own);
 }
-
--- A row that keeps its bytes.
-pub rows-set : (n : ℕ) (rs : List Row) (i : ℕ) (new r : Row) → i < length rs → r ≡ get_or rs i r → new.own ≡ r.own → new.before ≡ r.before → HasRows n rs → HasRows n (set rs i new)
-rows-set n rs i new r lt at own before h =
-    let e : r.own ≡ (get_or rs i r).own = ap (λ (x : Row). x.own) at in
-    record {
-      own = omega (arith, sum_by-set (λ (x : Row). x.own) rs i new r lt, h.own, own, e);
-      beside = beside-set 0 rs i new r lt (own ∙ e) (before ∙ ap (λ (x : Row). x.before) at) h.beside;
-    }
 
 -- The last row with more bytes.
 pub rows-last : (n more : ℕ) (rs : List Row) (i : ℕ) (new r : Row) → i + 1 ≡ length rs → r ≡ get_or rs i r → new.own ≡ r.own + more → new.before ≡ r.before → HasRows n rs → HasRows (n + more) (set rs i new)

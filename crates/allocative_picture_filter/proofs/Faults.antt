@@ -1,7 +1,7 @@
 -- Faults and their status.
 use Rattle.std.proofs.Common.{◌≡◌, ℕ, ◌⊎◌, inl, inr, refl, arith, Option, None, Some, Result, Ok, Err}
 use Rattle.allocative_picture_filter.specs.declared.fault.Fault.{Fault}
-use Rattle.allocative_picture_filter.specs.declared.fault.Fault.TheVariants.{Memory, Line, EarlierLine, NotText, TooLarge, Words, Reading, Writing}
+use Rattle.allocative_picture_filter.specs.declared.fault.Fault.TheVariants.{Memory, Line, EarlierLine, NotText, TooLarge, Arguments, Reading, Writing}
 use Rattle.std.specs.Prelude.{IfSome, OnOk}
 use Rattle.allocative_picture_filter.specs.Fault.{status_of}
 
@@ -12,7 +12,7 @@ which_line (Line n) e = (n, inl refl)
 which_line (EarlierLine n) e = (n, inr refl)
 which_line NotText e = absurd (omega (arith, e))
 which_line TooLarge e = absurd (omega (arith, e))
-which_line Words e = absurd (omega (arith, e))
+which_line Arguments e = absurd (omega (arith, e))
 which_line Reading e = absurd (omega (arith, e))
 which_line Writing e = absurd (omega (arith, e))
 

@@ -4,4 +4,7 @@ pub mod Faults
 pub mod Beside
 pub mod Listing
 pub mod Outlines
+pub mod Wholes
+pub mod Places
 pub mod Taken
+pub mod Drawn

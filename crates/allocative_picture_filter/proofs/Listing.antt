@@ -7,7 +7,7 @@ use Rattle.std.specs.Ordering.{is_eq, is_lt, ordering_then, ordering_reverse}
 use Rattle.std.specs.Cmp.Lexicographic.{nat_list_cmp_total}
 use Rattle.std.specs.FinMap.{entries, nat_cmp-IsAntisymmetric, slice_cmp-IsAntisymmetric, from_sorted, get-from_sorted, entries-from_sorted}
 use Rattle.std.specs.FinMap.Entries.{find, is_sorted, below_all}
-use Rattle.std.proofs.lemmas.List.{append-nil}
+use Rattle.std.proofs.lemmas.List.{append-nil, take-append-drop}
 use Rattle.std.proofs.lemmas.List.Sums.{sum_by-cons, sum_by-append, sum_by_push}
 use Rattle.std.proofs.lemmas.List.Folds.{list_any-append}
 use Rattle.std.proofs.lemmas.List.Sorted.{sum_by-IsPermutation, list_any-IsPermutation}
@@ -18,14 +18,14 @@ use Rattle.allocative_graph.proofs.Basics.{same_path}
 use Rattle.allocative_graph.proofs.Below.{below_all-less}
 use Rattle.allocative_graph.proofs.PathOrder.{key_itself, path_order}
 use Rattle.allocative_picture_filter.specs.Stacks.{Stack, keys_of, common}
-use Rattle.allocative_picture_filter.specs.Rows.{Outline, outline_of, bytes_at, is_path_of, IsGraphOf}
-use Rattle.allocative_picture_filter.specs.Forest.{last_more, Rise, last_path, own_at, is_listed, IsListing}
+use Rattle.allocative_picture_filter.specs.Rows.{bytes_at, is_path_of, IsGraphOf}
+use Rattle.allocative_picture_filter.specs.Forest.{Outline, outline_of, last_more, whole_at, Rise, last_path, own_at, is_listed, IsListing}
 
 abbrev Sizes : Type 0
 Sizes = List (Path × ℕ)
 
 -- ---- tests
-or_false : (a : Bool) → (a || false) ≡ a
+pub or_false : (a : Bool) → (a || false) ≡ a
 or_false true = refl
 or_false false = refl
 
@@ -61,15 +61,15 @@ both_of : (a b : Bool) → T a → T b → T (a && b)
 both_of true b h g = g
 both_of false b h g = absurd h
 
-both_first : (a b : Bool) → T (a && b) → T a
+pub both_first : (a b : Bool) → T (a && b) → T a
 both_first true b h = tt
 both_first false b h = absurd h
 
-both_second : (a b : Bool) → T (a && b) → T b
+pub both_second : (a b : Bool) → T (a && b) → T b
 both_second true b h = h
 both_second false b h = absurd h
 
-less_is : (r : Ordering) → T (is_lt r) → r ≡ Less
+pub less_is : (r : Ordering) → T (is_lt r) → r ≡ Less
 less_is Less h = refl
 less_is Equal h = absurd h
 less_is Greater h = absurd h
@@ -78,7 +78,7 @@ less_lt : (r : Ordering) → r ≡ Less → T (is_lt r)
 less_lt r e = subst (λ o. T (is_lt o)) (sym e) tt
 
 -- ---- beginnings of paths
-begins-push : (q p : Path) (k : Key) → begins q (p ++ k ∷ []) ≡ (begins q p || is_same_path q (p ++ k ∷ []))
+pub begins-push : (q p : Path) (k : Key) → begins q (p ++ k ∷ []) ≡ (begins q p || is_same_path q (p ++ k ∷ []))
 begins-push [] p k = refl
 begins-push (a ∷ []) [] k = by (key_cmp a k)
   where
@@ -163,11 +163,15 @@ key_paths-push p [] k = ap (λ (q : Path). (q ++ k ∷ [], 0) ∷ []) (sym (appe
 key_paths-push p (j ∷ ks) k =
     ap (λ (es : Sizes). (p ++ j ∷ [], 0) ∷ es) (key_paths-push (p ++ j ∷ []) ks k ∙ ap (λ (q : Path). key_paths (p ++ j ∷ []) ks ++ (q ++ k ∷ [], 0) ∷ []) (append_assoc p (j ∷ []) ks))
 
-own-key_paths : (q p ks : Path) → own_at (key_paths p ks) q ≡ 0
-own-key_paths q p [] = refl
-own-key_paths q p (k ∷ ks) =
-    sum_by-cons (λ (e : Path × ℕ). cond (is_same_path q e.0) e.1 0) (p ++ k ∷ [], 0) (key_paths (p ++ k ∷ []) ks)
-    ∙ (λ i. cond_zero (is_same_path q (p ++ k ∷ [])) i + own-key_paths q (p ++ k ∷ []) ks i)
+-- The bytes of the paths that pass a test.
+abbrev bytes_where : (Path → Bool) → Sizes → ℕ
+bytes_where t es = sum_by (λ e. cond (t e.0) e.1 0) es
+
+bytes-key_paths : (t : Path → Bool) (p ks : Path) → bytes_where t (key_paths p ks) ≡ 0
+bytes-key_paths t p [] = refl
+bytes-key_paths t p (k ∷ ks) =
+    sum_by-cons (λ (e : Path × ℕ). cond (t e.0) e.1 0) (p ++ k ∷ [], 0) (key_paths (p ++ k ∷ []) ks)
+    ∙ (λ i. cond_zero (t (p ++ k ∷ [])) i + bytes-key_paths t (p ++ k ∷ []) ks i)
 
 rise-below : (p ks : Path) → Rise p (key_paths p ks)
 rise-below p [] = tt
@@ -190,20 +194,20 @@ record Leads (p q : Path) (es : Sizes) : Type 0 where
   rise : Rise p es
   last : last_path p es ≡ q
   listed : (r : Path) → (begins r p || is_listed es r) ≡ (begins r p || begins r q)
-  bytes : (r : Path) → own_at es r ≡ 0
+  bytes : (t : Path → Bool) → bytes_where t es ≡ 0
 
 leads : (p q : Path) (c : ℕ) → Meets p q c → Leads p q (key_paths (take c p) (drop c q))
 leads p q c (ends d n) = subst (λ (ks : Path). Leads p q (key_paths (take c p) ks)) (sym n) (record {
   rise = tt;
   last = sym d;
   listed = λ r. implied (begins r q) (begins r p) false (begins r q) (λ h. ap (begins r) (sym d) ∙ h) (or_false (begins r q));
-  bytes = λ r. refl;
+  bytes = λ t. refl;
 })
 leads p q c (goes_on k ks d t l) = subst (λ (js : Path). Leads p q (key_paths (take c p) js)) (sym d) (record {
   rise = (l, rise-below (take c p ++ k ∷ []) ks);
   last = last-below (take c p ++ k ∷ []) ks ∙ append_assoc (take c p) (k ∷ []) ks ∙ t;
   listed = λ r. implied (begins r (take c p)) (begins r p) (is_listed (key_paths (take c p) (k ∷ ks)) r) (begins r q) (begins-take r p c) (listed-key_paths r (take c p) (k ∷ ks) ∙ ap (begins r) t);
-  bytes = λ r. own-key_paths r (take c p) (k ∷ ks);
+  bytes = λ t. bytes-key_paths t (take c p) (k ∷ ks);
 })
 
 -- ---- one list behind another
@@ -242,11 +246,11 @@ listed-more : (m : ℕ) (q : Path) (es : Sizes) → is_listed (more_rest m es) q
 listed-more m q [] = refl
 listed-more m q (e ∷ es) = ap (λ b. is_same_path q e.0 || b) (listed-more m q es)
 
-own-more : (m : ℕ) (q p : Path) (n : ℕ) (es : Sizes) → own_at ((p, more_first m n es) ∷ more_rest m es) q ≡ own_at ((p, n) ∷ es) q + cond (is_same_path q (last_path p es)) m 0
-own-more m q p n [] = omega (arith, cond_plus (is_same_path q p) n m)
-own-more m q p n (e ∷ es) =
-    let own = λ (e : Path × ℕ). cond (is_same_path q e.0) e.1 0 in
-    omega (arith, sum_by-cons own (p, n) ((e.0, more_first m e.1 es) ∷ more_rest m es), sum_by-cons own (p, n) (e ∷ es), own-more m q e.0 e.1 es)
+bytes-more : (m : ℕ) (t : Path → Bool) (p : Path) (n : ℕ) (es : Sizes) → bytes_where t ((p, more_first m n es) ∷ more_rest m es) ≡ bytes_where t ((p, n) ∷ es) + cond (t (last_path p es)) m 0
+bytes-more m t p n [] = omega (arith, cond_plus (t p) n m)
+bytes-more m t p n (e ∷ es) =
+    let one = λ (e : Path × ℕ). cond (t e.0) e.1 0 in
+    omega (arith, sum_by-cons one (p, n) ((e.0, more_first m e.1 es) ∷ more_rest m es), sum_by-cons one (p, n) (e ∷ es), bytes-more m t e.0 e.1 es)
 
 -- ---- the listing of lines
 pub listing-none : IsListing [] [] 0 []
@@ -254,6 +258,7 @@ listing-none = record {
   rise = tt;
   last = refl;
   sizes = λ q. omega (arith, cond_zero (is_same_path q []));
+  totals = λ q. omega (arith, cond_zero (begins q []));
   paths = paths;
   above = above;
 }
@@ -281,12 +286,13 @@ listed_step ss p q own m below new h way r =
 last_step : (ss : List Stack) (p q : Path) (own : ℕ) (below new : Sizes) → IsListing ss p own below → Leads p q new → last_path [] (below ++ new) ≡ q
 last_step ss p q own below new h way = last-append [] below new ∙ ap (λ (r : Path). last_path r new) h.last ∙ way.last
 
-own_step : (ss : List Stack) (p q : Path) (own m : ℕ) (below new : Sizes) → IsListing ss p own below → Leads p q new → (r : Path)
-    → own_at (([], more_first m own (below ++ new)) ∷ more_rest m (below ++ new)) r ≡ bytes_at ss r + cond (is_same_path r q) m 0
-own_step ss p q own m below new h way r =
-    let both : own_at (([], own) ∷ (below ++ new)) r ≡ bytes_at ss r =
-    omega (arith, sum_by-append (λ (e : Path × ℕ). cond (is_same_path r e.0) e.1 0) (([], own) ∷ below) new, h.sizes r, way.bytes r) in
-    own-more m r [] own (below ++ new) ∙ (λ i. both i + cond (is_same_path r (last_step ss p q own below new h way i)) m 0)
+-- The listed paths that pass the test t, which have n bytes together, have m more where the last one passes it.
+bytes_step : (ss : List Stack) (p q : Path) (own m : ℕ) (below new : Sizes) → IsListing ss p own below → Leads p q new → (t : Path → Bool) (n : ℕ) → bytes_where t (([], own) ∷ below) ≡ n
+    → bytes_where t (([], more_first m own (below ++ new)) ∷ more_rest m (below ++ new)) ≡ n + cond (t q) m 0
+bytes_step ss p q own m below new h way t n has =
+    let both : bytes_where t (([], own) ∷ (below ++ new)) ≡ n =
+    omega (arith, sum_by-append (λ (e : Path × ℕ). cond (t e.0) e.1 0) (([], own) ∷ below) new, has, way.bytes t) in
+    bytes-more m t [] own (below ++ new) ∙ (λ i. both i + cond (t (last_step ss p q own below new h way i)) m 0)
 
 pub listing-more : (ss : List Stack) (p : Path) (own : ℕ) (below : Sizes) → IsListing ss p own below → (s : Stack) → is_lt (path_cmp (keys_of s.path) p) ≡ false
     → IsListing (ss ++ s ∷ []) (keys_of s.path) (more_first (s.was + s.is) own (with_keys p (keys_of s.path) below)) (more_rest (s.was + s.is) (with_keys p (keys_of s.path) below))
@@ -297,10 +303,12 @@ listing-more ss p own below h s next =
     let way : Leads p q new = leads p q (common p q) (meets p q next) in
     let test = λ (r : Path) (t : Stack). begins r (keys_of t.path) in
     let listed = listed_step ss p q own m below new h way in
+    let step = bytes_step ss p q own m below new h way in
     record {
       rise = rise-more m [] (below ++ new) (rise-append [] below new h.rise (subst (λ (r : Path). Rise r new) (sym h.last) way.rise));
       last = last-more m [] (below ++ new) ∙ last_step ss p q own below new h way;
-      sizes = λ r. own_step ss p q own m below new h way r ∙ sym (sum_by_push (λ (t : Stack). cond (is_same_path r (keys_of t.path)) (t.was + t.is) 0) ss s);
+      sizes = λ r. step (is_same_path r) (bytes_at ss r) (h.sizes r) ∙ sym (sum_by_push (λ (t : Stack). cond (is_same_path r (keys_of t.path)) (t.was + t.is) 0) ss s);
+      totals = λ r. step (begins r) (whole_at ss r) (h.totals r) ∙ sym (sum_by_push (λ (t : Stack). cond (begins r (keys_of t.path)) (t.was + t.is) 0) ss s);
       paths = λ r.
           listed r
           ∙ ap (λ b. b || begins r q) (h.paths r)
@@ -309,6 +317,11 @@ listing-more ss p own below h s next =
       above = λ r b. listed r ∙ or_true (is_listed (([], own) ∷ below) r) (begins r q) b;
     }
 
+-- ---- a path and the keys behind those that both have
+joins : (p q : Path) (c : ℕ) → Meets p q c → take c p ++ drop c q ≡ q
+joins p q c (ends d n) = ap (λ (r : Path). take c r ++ drop c q) (sym d) ∙ take-append-drop c q
+joins p q c (goes_on k ks d t l) = ap (λ (r : Path). take c p ++ r) d ∙ t
+
 -- ---- the graph of a listing
 sorted_rise : (p : Path) (n : ℕ) (es : Sizes) → Rise p es → T (is_sorted path_cmp ((p, n) ∷ es))
 sorted_rise p n [] h = tt
@@ -316,6 +329,17 @@ sorted_rise p n (e ∷ es) h =
     let rest : T (is_sorted path_cmp (e ∷ es)) = sorted_rise e.0 e.1 es h.1 in
     let above : T (below_all path_cmp p es) = below_all-less p e.0 es h.0 (both_first (below_all path_cmp e.0 es) (is_sorted path_cmp es) rest) in
     both_of (below_all path_cmp p (e ∷ es)) (is_sorted path_cmp (e ∷ es)) (both_of (is_lt (path_cmp p e.0)) (below_all path_cmp p es) (less_lt (path_cmp p e.0) h.0) above) rest
+
+-- The listed paths with those of a stack rise.
+pub listing-sorted : (ss : List Stack) (p : Path) (own : ℕ) (below : Sizes) → IsListing ss p own below → (q : Path) → is_lt (path_cmp q p) ≡ false → T (is_sorted path_cmp (([], own) ∷ with_keys p q below))
+listing-sorted ss p own below h q next =
+    let new = key_paths (take (common p q) p) (drop (common p q) q) in
+    let way : Leads p q new = leads p q (common p q) (meets p q next) in
+    sorted_rise [] own (below ++ new) (rise-append [] below new h.rise (subst (λ (r : Path). Rise r new) (sym h.last) way.rise))
+
+-- The keys that two paths have in common, and the others of the second one, are the second one.
+pub common-drop : (p q : Path) → is_lt (path_cmp q p) ≡ false → take (common p q) p ++ drop (common p q) q ≡ q
+common-drop p q next = joins p q (common p q) (meets p q next)
 
 own-below : (q : Path) (es : Sizes) → T (below_all path_cmp q es) → own_at es q ≡ 0
 own-below q [] h = refl

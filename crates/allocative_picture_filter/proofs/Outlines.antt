@@ -1,23 +1,12 @@
 -- What rows say of their paths, where the rows change.
-use Rattle.std.proofs.Common.{◌≡◌, ℕ, zero, suc, ◌+◌, ◌<◌, List, [], ◌∷◌, ◌++◌, map, length, get_or, refl, sym, ap, ◌∙◌, length-append, arith}
+use Rattle.std.proofs.Common.{◌≡◌, ℕ, zero, suc, ◌+◌, List, [], ◌∷◌, ◌++◌, map, length, get_or, refl, sym, ap, ◌∙◌, length-append, arith}
 use Rattle.std.proofs.Math.ListN.{set}
 use Rattle.std.proofs.lemmas.List.{map-append}
 use Rattle.allocative_graph.specs.Path.{Key, Path}
 use Rattle.allocative_picture.specs.Rows as picture
 use Rattle.allocative_picture.specs.Rows.{shown_key}
 use Rattle.allocative_picture.specs.declared.row.Row.{Row}
-use Rattle.allocative_picture_filter.specs.Rows.{Outline, outline, outline_of}
-use Rattle.allocative_picture_filter.specs.Forest.{outlines, last_more}
-
--- A row that says what it said.
-pub outlines-set : (rs : List Row) (i : ℕ) (new r : Row) → i < length rs → r ≡ get_or rs i r → new.depth ≡ r.depth → new.key ≡ r.key → new.own ≡ r.own → outlines (set rs i new) ≡ outlines rs
-outlines-set [] i new r lt at depth key own = absurd (omega (arith, lt))
-outlines-set (x ∷ rs) zero new r lt at depth key own =
-    let d : new.depth ≡ x.depth = depth ∙ ap (λ (y : Row). y.depth) at in
-    let k = key ∙ ap (λ (y : Row). y.key) at in
-    let o : new.own ≡ x.own = own ∙ ap (λ (y : Row). y.own) at in
-    λ i. record { depth = d i; key = (k i).now; own = o i } ∷ outlines rs
-outlines-set (x ∷ rs) (suc i) new r lt at depth key own = ap (λ (os : List Outline). outline (picture.seen x) ∷ os) (outlines-set rs i new r (omega (arith, lt)) at depth key own)
+use Rattle.allocative_picture_filter.specs.Forest.{Outline, outline, outline_of, outlines, last_more}
 
 -- The last row with m bytes more.
 pub outlines-last : (rs : List Row) (i : ℕ) (new r : Row) (m : ℕ) → i + 1 ≡ length rs → r ≡ get_or rs i r → new.depth ≡ r.depth → new.key ≡ r.key → new.own ≡ r.own + m
@@ -32,11 +21,6 @@ outlines-last (x ∷ []) (suc i) new r m last at depth key own = absurd (omega (
 outlines-last (x ∷ y ∷ rs) zero new r m last at depth key own = absurd (omega (arith, last))
 outlines-last (x ∷ y ∷ rs) (suc i) new r m last at depth key own =
     ap (λ (os : List Outline). outline (picture.seen x) ∷ os) (outlines-last (y ∷ rs) i new r m (omega (arith, last)) at depth key own)
-
--- What rows show says of their paths what they say.
-pub outlines-shown : (rs : List Row) → map outline (map picture.seen rs) ≡ outlines rs
-outlines-shown [] = refl
-outlines-shown (r ∷ rs) = ap (λ (os : List Outline). outline (picture.seen r) ∷ os) (outlines-shown rs)
 
 shown_key-push : (p : Path) (k : Key) → shown_key (p ++ k ∷ []) ≡ k
 shown_key-push [] k = refl

@@ -8,10 +8,6 @@ use Rattle.std.specs.Str.Lines.{lines, lines_of_parts}
 use Rattle.std.proofs.lemmas.List.{take-append-drop, map-append, append-nil, length-map}
 use Rattle.std.proofs.lemmas.List.Splits.{length-slice_split}
 use Rattle.std.proofs.lemmas.List.Sums.{count_by-le-length}
-use Rattle.allocative_picture.specs.Rows as rows
-use Rattle.allocative_picture.specs.declared.row.Row.{Row}
-use Rattle.allocative_picture_filter.specs.Forest.{own_bytes, AreBeside}
-use Rattle.allocative_picture_filter.specs.Run.{StandBeside}
 use Rattle.allocative_picture_filter.specs.declared.stacks.Line.{Line}
 use Rattle.allocative_picture_filter.specs.declared.stacks.Side.{Side}
 use Rattle.allocative_picture_filter.specs.Stacks.{Stack, seen, IsStack, AreStacks, IsFault, Reads}
@@ -87,12 +83,3 @@ fold-map f g n (x ∷ xs) = fold-map f g (n + f (g x)) xs
 -- Bytes of lines that were put into another order are those of the stacks.
 pub same_bytes : (f : Stack → ℕ) (ls sorted : List Line) → IsPermutation ls sorted → sum_by (λ l. f (seen l)) sorted ≡ sum_by f (map seen ls)
 same_bytes f ls sorted moved = sum_by-IsPermutation (λ l. f (seen l)) ls sorted moved ∙ sym (fold-map f seen 0 ls)
-
--- What rows show stands beside one another where they do.
-pub shown_beside : (n : ℕ) (rs : List Row) → AreBeside n rs → StandBeside n (map rows.seen rs)
-shown_beside n [] h = tt
-shown_beside n (r ∷ rs) h = (h.0, shown_beside (n + r.own) rs h.1)
-
--- What rows show has their bytes.
-pub shown_bytes : (rs : List Row) → sum_by (λ r. r.own) (map rows.seen rs) ≡ own_bytes rs
-shown_bytes rs = fold-map (λ (r : rows.Seen). r.own) rows.seen 0 rs

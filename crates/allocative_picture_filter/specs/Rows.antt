@@ -1,10 +1,9 @@
 -- The graph that stacks add up to, and its rows.
-use Rattle.std.specs.Prelude.{◌≡◌, ℕ, ◌+◌, Bool, cond, ◌||◌, List, map, length, Some, None, sum_by}
+use Rattle.std.specs.Prelude.{◌≡◌, ℕ, ◌+◌, Bool, cond, ◌||◌, List, Some, None, sum_by}
 use Rattle.std.specs.List.{list_any}
-use Rattle.std.specs.FinMap.{get, entries}
-use Rattle.allocative_graph.specs.Path.{Key, Path, is_same_path}
+use Rattle.std.specs.FinMap.{get}
+use Rattle.allocative_graph.specs.Path.{Path, is_same_path}
 use Rattle.allocative_graph.specs.Graph.{Graph, begins, is_root}
-use Rattle.allocative_picture.specs.Rows.{Seen, shown_key}
 use Rattle.allocative_picture_filter.specs.Stacks.{Stack, keys_of}
 
 -- The bytes of the stacks with the path p, in both profiles.
@@ -19,20 +18,6 @@ is_path_of ss p = is_root p || list_any (λ s. begins p (keys_of s.path)) ss
 abbrev pub IsGraphOf : List Stack → Graph → Type 0
 IsGraphOf ss g = (p : Path) → get g p ≡ cond (is_path_of ss p) (Some (bytes_at ss p)) None
 
--- What a row says of its path: how many keys it has, which key is shown, and its own bytes.
-pub record Outline : Type 0 where
-  pub depth : ℕ
-  pub key : Key
-  pub own : ℕ
-
--- What a row that is shown says of its path.
-abbrev pub outline : Seen → Outline
-outline r = record { depth = r.depth; key = r.key; own = r.own }
-
--- What is to be said of a path with its bytes.
-abbrev pub outline_of : Path × ℕ → Outline
-outline_of e = record { depth = length e.0; key = shown_key e.0; own = e.1 }
-
--- There is one row for each path of the graph, in the order of paths, and it says what is to be said of it.
-abbrev pub AreRowsOf : Graph → List Seen → Type 0
-AreRowsOf g rows = map outline rows ≡ map outline_of (entries g)
+-- The bytes that the earlier profile has at the path p and below it.
+abbrev pub was_at : List Stack → Path → ℕ
+was_at ss p = sum_by (λ s. cond (begins p (keys_of s.path)) s.was 0) ss

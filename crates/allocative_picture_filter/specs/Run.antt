@@ -1,8 +1,10 @@
 -- What a run draws of two texts, and which line a fault of it names.
-use Rattle.std.specs.Prelude.{◌≡◌, ℕ, ◌+◌, List, [], ◌∷◌, ◌++◌, map, sum_by}
-use Rattle.std.specs.Bool.{⊤}
+use Rattle.std.specs.Prelude.{◌≡◌, ℕ, Bool, true, false, List, ◌++◌, [], map, sum_by}
+use Rattle.allocative_graph.specs.Path.{Path}
 use Rattle.allocative_graph.specs.Graph.{Graph}
-use Rattle.allocative_picture.specs.Rows.{Seen}
+use Rattle.allocative_picture.specs.Rows.{rows_of}
+use Rattle.allocative_picture.specs.declared.row.Mark.{Mark}
+use Rattle.allocative_picture.specs.declared.row.Mark.TheVariants.{Plain, Changed}
 use Rattle.allocative_picture.specs.Picture.{drawing}
 use Rattle.allocative_picture.specs.declared.options.Options.{Options}
 use Rattle.allocative_picture.specs.declared.page.Subject as subject
@@ -12,7 +14,7 @@ use Rattle.allocative_picture_filter.specs.declared.run.Earlier.TheVariants.{Non
 use Rattle.allocative_picture_filter.specs.declared.stacks.Line.{Line}
 use Rattle.allocative_picture_filter.specs.declared.stacks.Side.TheVariants as side
 use Rattle.allocative_picture_filter.specs.Stacks.{Stack, seen, Means, IsFault}
-use Rattle.allocative_picture_filter.specs.Rows.{IsGraphOf, AreRowsOf}
+use Rattle.allocative_picture_filter.specs.Rows.{IsGraphOf, was_at}
 
 -- The stacks of the earlier profile: none where there is none, and else those of its text.
 abbrev pub MeansBefore : earlier.Earlier → List Stack → Type 0
@@ -23,6 +25,11 @@ MeansBefore (Profile bytes) ss = Means side.Earlier bytes.items ss
 abbrev pub IsFaultBefore : earlier.Earlier → ℕ → Type 0
 IsFaultBefore None n = ⊥
 IsFaultBefore (Profile bytes) n = IsFault side.Earlier bytes.items n
+
+-- Whether there is an earlier profile.
+abbrev pub is_there : earlier.Earlier → Bool
+is_there None = false
+is_there (Profile bytes) = true
 
 -- What a picture is of: a profile, or a change where there is an earlier one.
 abbrev pub subject_for : earlier.Earlier → ℕ → ℕ → subject.Subject
@@ -43,13 +50,13 @@ pub record AreOf (before : earlier.Earlier) (text : List ℕ) (stacks : List Sta
   pub later_read : Means side.Later text later
   pub both : stacks ≡ earlier ++ later
 
--- Before each row that is shown come, behind n others, the bytes of those that stand before it.
-abbrev pub StandBeside : ℕ → List Seen → Type 0
-StandBeside n [] = ⊤
-StandBeside n (r ∷ rs) = (r.before ≡ n) × StandBeside (n + r.own) rs
+-- The mark of the path p: nothing where there is no earlier profile, and else the bytes that it has at p and below it.
+abbrev pub mark_for : earlier.Earlier → List Stack → Path → Mark
+mark_for None ss p = Plain
+mark_for (Profile bytes) ss p = Changed (was_at ss p)
 
--- The picture with this title is that of the graph that all stacks of both texts add up to: its rows are those of the
--- graph, stand beside one another and have all bytes between them, and its totals are those of the two texts.
+-- The picture with this title is that of the graph that all stacks of both texts add up to. Its rows are those of the
+-- graph, as in the picture of a flame graph, and its totals are those of the two texts.
 pub record IsPictureOf (title : List ℕ) (before : earlier.Earlier) (text made : List ℕ) : Type 0 where
   pub stacks : List Stack
   pub read : AreOf before text stacks
@@ -57,8 +64,5 @@ pub record IsPictureOf (title : List ℕ) (before : earlier.Earlier) (text made 
   pub titled : options.title.now ≡ title
   pub graph : Graph
   pub added : IsGraphOf stacks graph
-  pub rows : List Seen
-  pub listed : AreRowsOf graph rows
-  pub beside : StandBeside 0 rows
-  pub own : sum_by (λ r. r.own) rows ≡ sum_by (λ s. s.was) stacks + sum_by (λ s. s.is) stacks
-  pub drawn : made ≡ drawing (subject_for before (sum_by (λ s. s.was) stacks) (sum_by (λ s. s.is) stacks)) options rows
+  pub drawn : made ≡ drawing (subject_for before (sum_by (λ s. s.was) stacks) (sum_by (λ s. s.is) stacks)) options
+      (rows_of (mark_for before stacks) graph)

@@ -8,6 +8,7 @@ use Rattle.std.specs.List.Sorted.{IsSortedBy}
 use Rattle.std.specs.Ordering.{is_lt}
 use Rattle.std.specs.Str.{bytes_eq}
 use Rattle.allocative_graph.specs.Path.{Path, path_cmp}
+use Rattle.allocative_graph.specs.Format.{semicolon, space}
 use Rattle.std.specs.Str.Parse.{IsNumeral, digits_value, without_leading_plus}
 use Rattle.allocative_picture_filter.specs.declared.stacks.Line.{Line}
 use Rattle.allocative_picture_filter.specs.declared.stacks.Side.{Side}
@@ -30,7 +31,7 @@ stack_on Later p n = record { path = p; was = 0; is = n }
 
 -- The keys of a path, which stand between its `;`.
 abbrev pub keys_of : List ℕ → Path
-keys_of p = slice_split (λ b. b == 59) p
+keys_of p = slice_split (λ b. b == semicolon) p
 
 -- How many keys two paths have in common, from the first on.
 abbrev pub common : Path → Path → ℕ
@@ -52,7 +53,7 @@ number_of bs = digits_value 10 (without_leading_plus bs)
 pub record IsStack (side : Side) (line : List ℕ) (s : Stack) : Type 0 where
   pub path : List ℕ
   pub number : List ℕ
-  pub parts : line ≡ path ++ 32 ∷ number
+  pub parts : line ≡ path ++ space ∷ number
   pub some : 0 < length path
   pub reads : IsNumber number
   pub is : s ≡ stack_on side path (number_of number)

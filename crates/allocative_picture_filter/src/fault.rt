@@ -25,7 +25,7 @@ pub enum Fault {
     TooLarge,
     /// An argument is unknown, repeated or incomplete.
     #[error("unknown or repeated word")]
-    Words,
+    Arguments,
     /// A read failed.
     #[error("cannot read input")]
     Reading,
@@ -44,7 +44,7 @@ impl Fault {
             Fault::Line(_) | Fault::EarlierLine(_) => 2,
             Fault::NotText => 3,
             Fault::TooLarge => 4,
-            Fault::Words => 5,
+            Fault::Arguments => 5,
             Fault::Reading => 6,
             Fault::Writing => 7,
         }

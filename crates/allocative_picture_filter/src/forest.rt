@@ -1,7 +1,7 @@
 //! The rows of a picture, made of lines that are sorted by path.
 ghost use Rattle.std.specs.Prelude.{◌≡◌, ◌+◌, ◌^◌, ◌<◌, ◌≤◌, ◌⊎◌, ◌↔◌, OnOk, IfOk, IfErr, IsErrOf, [], sum_by, length};
 ghost use Rattle.allocative_picture_filter.specs.Stacks.{IsInOrder, keys_of, common};
-ghost use Rattle.allocative_picture_filter.specs.Forest.{IsKept, HasBytes, IsFull, HasRows, Opens, Closes, Counts, HasOutlines, HasLines, TakesLine, path_of};
+ghost use Rattle.allocative_picture_filter.specs.Forest.{IsKept, HasBytes, IsFull, Opens, Counts, HasLines, TakesLine, path_of, unmarked, more_mark, row_with, change_all};
 
 use crate::fault::Fault;
 use crate::stacks::{Line, keys_in_common};
@@ -11,9 +11,9 @@ use std::alloc::Global;
 /// The rows of the lines that were added so far, in the order of their paths.
 #[derive(Drop)]
 pub struct Forest<'a> {
-    // The rows, in the order of paths. The bytes below an open row are not known yet.
+    // The rows, in the order of paths. Each has the bytes of the lines that were added.
     rows: Vec<Row<'a>>,
-    // The indices of the open rows: those of the last path, from the root on.
+    // The indices of the open rows: that of the last path, and before it those of all its beginnings, from the root on.
     open: Vec<usize>,
     // The path of the last line, where one was added.
     last: Option<&'a str>,
@@ -31,6 +31,7 @@ impl<'a> Forest<'a> {
         ensures empty { IfOk result (HasBytes 0 0) }
         ensures full { IfOk result IsFull }
         ensures rows { IfOk result (HasLines []) }
+        ensures change { IfOk result (λ f. f.is_change ≡ is_change) }
         ensures memory { IfErr result (λ f. f ≡ Fault.Memory) }
     {
         let rows = Vec::new(alloc);
@@ -84,12 +85,13 @@ impl<'a> Forest<'a> {
         ensures ok { OnOk result (HasBytes (self.old.was + line.now.was) (self.old.is + line.now.is) self.new) }
         ensures full { IsFull self.old → OnOk result (IsFull self.new) }
         ensures rows { IsFull self.old → OnOk result (TakesLine line.now self.old self.new) }
+        ensures change { OnOk result (self.new.is_change ≡ self.old.is_change) }
         ensures too_large { IsErrOf result Fault.TooLarge
             → 2 ^ 64 ≤ self.old.was + line.now.was + (self.old.is + line.now.is) }
         ensures err { IfErr result (λ f. (f ≡ Fault.Memory) ⊎ (f ≡ Fault.TooLarge)) }
     {
         let common = self.common_with(line.path);
-        self.close(common.saturating_add(1));
+        self.open.truncate(common.saturating_add(1));
         for key in line.path.split(';').skip(common) {
             self.open_row(key)?;
         }
@@ -98,12 +100,10 @@ impl<'a> Forest<'a> {
         Ok(())
     }
 
-    /// Closes all rows, and returns them.
-    pub fn finish(mut self) -> Vec<Row<'a>>
-        ensures full { IsFull self.entry → HasRows (self.entry.was + self.entry.is) result.items }
-        ensures rows { HasOutlines self.entry result.items }
+    /// Returns the rows.
+    pub fn finish(self) -> Vec<Row<'a>>
+        ensures { result ≡ self.entry.rows }
     {
-        self.close(0);
         let Forest { rows, .. } = self;
         rows
     }
@@ -118,11 +118,7 @@ impl<'a> Forest<'a> {
         ensures memory { IfErr result (λ f. f ≡ Fault.Memory) }
     {
         let before = self.bytes();
-        let mark = if self.is_change {
-            Mark::Changed { was: self.was }
-        } else {
-            Mark::Plain
-        };
+        let mark = unmarked(self.is_change);
         let depth = self.open.len();
         self.open.push(self.rows.len())?;
         self.rows.push(Row {
@@ -136,11 +132,12 @@ impl<'a> Forest<'a> {
         Ok(())
     }
 
-    // Adds the bytes of a line to the totals and to the last row.
+    // Adds the bytes of a line to the totals, to the last row, and to each open row with all below it.
     fn count(&mut self, line: &Line<'_>) -> Result<(), Fault>
         ensures ok { OnOk result (HasBytes (self.old.was + line.now.was) (self.old.is + line.now.is) self.new) }
         ensures full { IsFull self.old → OnOk result (IsFull self.new) }
-        ensures rows { IsFull self.old → OnOk result (Counts (line.now.was + line.now.is) self.old self.new) }
+        ensures rows { IsFull self.old → OnOk result (Counts line.now self.old self.new) }
+        ensures change { OnOk result (self.new.is_change ≡ self.old.is_change) }
         ensures too_large { IsErrOf result Fault.TooLarge ↔
             (2 ^ 64 ≤ self.old.was + line.now.was + (self.old.is + line.now.is)) }
         ensures err { IfErr result (λ f. f ≡ Fault.TooLarge) }
@@ -152,32 +149,53 @@ impl<'a> Forest<'a> {
         }
         self.was = was as usize;
         self.is = is as usize;
+        count_in_all(&mut self.rows, self.open.as_slice(), line);
         if let Some(row) = self.rows.last_mut() {
             row.own = row.own.saturating_add(line.was).saturating_add(line.is);
         }
         Ok(())
     }
+}
 
-    // Closes all open rows but the first `depth`. A row has, with all below it, the bytes that were added since it was
-    // opened.
-    fn close(&mut self, depth: usize)
-        ensures kept { IsKept self.old self.new }
-        ensures full { IsFull self.old → IsFull self.new }
-        ensures rows { Closes depth self.old self.new }
-    {
-        let bytes = self.bytes();
-        while self.open.len() > depth {
-            let Some(place) = self.open.pop() else {
-                return;
-            };
-            if let Some(row) = self.rows.get_mut(place) {
-                row.whole = bytes.saturating_sub(row.before);
-                if let Mark::Changed { was } = row.mark {
-                    row.mark = Mark::Changed {
-                        was: self.was.saturating_sub(was),
-                    };
-                }
-            }
+// Returns the mark of a row without bytes.
+fn unmarked(is_change: bool) -> Mark
+    ensures { result ≡ unmarked is_change }
+{
+    if is_change {
+        Mark::Changed { was: 0 }
+    } else {
+        Mark::Plain
+    }
+}
+
+// Returns a mark with more bytes of the earlier profile.
+fn more_mark(mark: Mark, bytes: usize) -> Mark
+    ensures { result ≡ more_mark bytes mark }
+{
+    match mark {
+        Mark::Changed { was } => Mark::Changed {
+            was: was.saturating_add(bytes),
+        },
+        Mark::Plain => Mark::Plain,
+        Mark::Warned => Mark::Warned,
+    }
+}
+
+// Adds the bytes of a line to those that a row has with all below it.
+fn count_in(row: &mut Row<'_>, line: &Line<'_>)
+    ensures { row.new ≡ row_with line.now row.old }
+{
+    row.whole = row.whole.saturating_add(line.was).saturating_add(line.is);
+    row.mark = more_mark(row.mark, line.was);
+}
+
+// Adds the bytes of a line to those that the row at each of the places has with all below it.
+fn count_in_all(rows: &mut Vec<Row<'_>>, places: &[usize], line: &Line<'_>)
+    ensures { rows.new.items ≡ change_all (row_with line.now) places.now rows.old.items }
+{
+    for place in places {
+        if let Some(row) = rows.get_mut(*place) {
+            count_in(row, line);
         }
     }
 }
@@ -192,6 +210,7 @@ pub fn forest_of<'a>(
     ensures ok { IfOk result (HasBytes (sum_by (λ l. l.was) lines.now) (sum_by (λ l. l.is) lines.now)) }
     ensures full { IfOk result IsFull }
     ensures rows { IsInOrder lines.now → IfOk result (HasLines lines.now) }
+    ensures change { IfOk result (λ f. f.is_change ≡ is_change) }
     ensures too_large { IsErrOf result Fault.TooLarge
         → 2 ^ 64 ≤ sum_by (λ l. l.was) lines.now + sum_by (λ l. l.is) lines.now }
     ensures err { IfErr result (λ f. (f ≡ Fault.Memory) ⊎ (f ≡ Fault.TooLarge)) }

@@ -2,14 +2,15 @@
 //! name the file of an earlier profile, and the picture then shows the change.
 #![tactic(auto)]
 
+mod arguments;
 mod fault;
 mod forest;
 mod run;
 mod stacks;
 #[cfg(test)]
 mod tests;
-mod words;
 
+use arguments::{Arguments, read_arguments};
 use fault::Fault;
 use run::{Earlier, read_input, run, show_usage, tell};
 use std::alloc::Global;
@@ -18,14 +19,13 @@ use std::fs::File;
 use std::io::ErrorKind;
 use std::process::ExitCode;
 use std::rt::{Env, Files};
-use words::{Words, read_words};
 
 // Returns the arguments of the program. One that is not UTF-8 is refused.
-fn words_of<R: Env + AllocGlobal>(rt: &R) -> Result<Vec<String>, Fault> {
+fn arguments_of<R: Env + AllocGlobal>(rt: &R) -> Result<Vec<String>, Fault> {
     match env::args(rt) {
         Ok(args) => Ok(args.skip(1).collect(rt.alloc())?),
         Err(error) if error.kind() == ErrorKind::OutOfMemory => Err(Fault::Memory),
-        Err(_) => Err(Fault::Words),
+        Err(_) => Err(Fault::Arguments),
     }
 }
 
@@ -39,8 +39,11 @@ fn read_file<R: Files + AllocGlobal>(rt: &R, path: &str) -> Result<Vec<u8>, Faul
 }
 
 // Reads the earlier profile that the arguments name, if they name one.
-fn read_earlier<R: Files + AllocGlobal>(rt: &R, words: &Words<'_>) -> Result<Earlier, Fault> {
-    match words.earlier {
+fn read_earlier<R: Files + AllocGlobal>(
+    rt: &R,
+    arguments: &Arguments<'_>,
+) -> Result<Earlier, Fault> {
+    match arguments.earlier {
         Some(path) => Ok(Earlier::Profile(read_file(rt, path)?)),
         None => Ok(Earlier::None),
     }
@@ -51,11 +54,11 @@ fn main(rt: HostRuntime) -> ExitCode {
     let mut input = rt.reader();
     let mut output = std::io::writer(&rt);
     let mut errors = rt.stderr();
-    let words = match words_of(&rt) {
-        Ok(words) => words,
+    let arguments = match arguments_of(&rt) {
+        Ok(arguments) => arguments,
         Err(fault) => return ExitCode::from(tell(&mut errors, fault)),
     };
-    let asked = match read_words(words.as_slice()) {
+    let asked = match read_arguments(arguments.as_slice()) {
         Ok(asked) => asked,
         Err(fault) => return ExitCode::from(tell(&mut errors, fault)),
     };

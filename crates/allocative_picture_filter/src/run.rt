@@ -3,7 +3,7 @@ ghost use Rattle.std.specs.Prelude.{◌≡◌, ◌≢◌, ◌⊎◌, ℕ, OnOk, 
 ghost use Rattle.std.specs.Io.KnownBytes.{Appends};
 ghost use Rattle.allocative_picture_filter.specs.Fault.{status_of};
 ghost use Rattle.allocative_picture_filter.specs.Stacks.{seen, Reads, IsFault};
-ghost use Rattle.allocative_picture_filter.specs.Run.{AreOf, ReadsBefore, IsPictureOf, IsFaultBefore, subject_for};
+ghost use Rattle.allocative_picture_filter.specs.Run.{AreOf, ReadsBefore, IsPictureOf, IsFaultBefore, is_there, subject_for};
 
 use crate::fault::Fault;
 use crate::forest::forest_of;
@@ -25,7 +25,9 @@ pub enum Earlier {
 
 impl Earlier {
     // Returns whether there is one.
-    fn is_there(&self) -> bool {
+    fn is_there(&self) -> bool
+        ensures { result ≡ is_there self.now }
+    {
         matches!(self, Earlier::Profile(_))
     }
 

@@ -1,7 +1,7 @@
 // What no clause says: the lines of faults, pictures of lines, and runs whose input or output fails.
+use crate::arguments::read_arguments;
 use crate::fault::Fault;
 use crate::run::{Earlier, run};
-use crate::words::read_words;
 use std::alloc::{AllocError, Global};
 use std::collections::VecDeque;
 use std::io;
@@ -193,19 +193,19 @@ fn a_change_has_both_profiles(rt: HostRuntime) -> Result<(), AllocError> {
 }
 
 #[test]
-fn words_are_read(rt: HostRuntime) -> Result<(), AllocError> {
+fn arguments_are_read(rt: HostRuntime) -> Result<(), AllocError> {
     let alloc = rt.alloc();
-    let mut words = Vec::new(alloc);
-    for word in ["--title", "--help", "old.folded"] {
-        words.push(String::from_str(alloc, word)?)?;
+    let mut arguments = Vec::new(alloc);
+    for argument in ["--title", "--help", "old.folded"] {
+        arguments.push(String::from_str(alloc, argument)?)?;
     }
-    let asked = read_words(words.as_slice());
+    let asked = read_arguments(arguments.as_slice());
     assert!(rt;
         asked.is_ok_and(|asked| asked.title == "--help"
             && !asked.help
             && asked.earlier == Some("old.folded"))
     );
-    words.push(String::from_str(alloc, "new.folded")?)?;
-    assert!(rt; read_words(words.as_slice()).err() == Some(Fault::Words));
+    arguments.push(String::from_str(alloc, "new.folded")?)?;
+    assert!(rt; read_arguments(arguments.as_slice()).err() == Some(Fault::Arguments));
     Ok(())
 }

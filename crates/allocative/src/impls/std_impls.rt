@@ -1,10 +1,12 @@
 //! What the types of the language and of `std` show.
+mod choice;
 mod collections;
 mod mem;
 mod net;
+mod pointer;
 mod primitive;
 mod shared;
 mod sync;
+mod text;
 mod time;
 mod tuple;
-mod unsorted;

@@ -53,7 +53,7 @@ pub record IsFound (cs : List Child) (k : Key) (i : ℕ) : Type 0 where
   pub same : (d : Child) → (slice_index_or cs i d).key ≡ k
 
 -- The key k is not there, and belongs at the place i.
-pub record IsGap (cs : List Child) (k : Key) (i : ℕ) : Type 0 where
+pub record IsChildGap (cs : List Child) (k : Key) (i : ℕ) : Type 0 where
   pub within : i ≤ length cs
   pub below : AllBelow (take i cs) k
   pub above : AllAbove (drop i cs) k

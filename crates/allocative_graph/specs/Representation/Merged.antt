@@ -3,7 +3,7 @@ use Rattle.std.specs.Prelude.{◌≡◌, ◌+◌, ◌<◌, ◌≤◌, ◌&&◌, 
 use Rattle.allocative_graph.specs.declared.flamegraph.Child.{Child}
 use Rattle.allocative_graph.specs.Path.{Key}
 use Rattle.allocative_graph.specs.Graph.{Graph, IsTree, total}
-use Rattle.allocative_graph.specs.Representation.PathRows.{IsSum, IsPartOfSum}
+use Rattle.allocative_graph.specs.Representation.PathRows.{IsSumByPath, IsPartOfSum}
 use Rattle.allocative_graph.specs.Representation.Node.{rows_of, weight, AreChildren}
 use Rattle.allocative_graph.specs.Representation.Children.{AreSum, ArePartOfSum, AllAbove}
 
@@ -11,7 +11,7 @@ use Rattle.allocative_graph.specs.Representation.Children.{AreSum, ArePartOfSum,
 pub record Added (all : Bool) (g h r : Graph) : Type 0 where
   pub tree : IsTree r
   pub part : IsPartOfSum g h r
-  pub sum : all ≡ true → IsSum g h r
+  pub sum : all ≡ true → IsSumByPath g h r
   pub at_most : total r ≤ total g + total h
 
 -- ds were merged into cs, with the result es: a part of their sum, and where all was added the sum itself.

@@ -2,6 +2,7 @@
 use Rattle.std.specs.Prelude.{◌≡◌, ℕ, ◌+◌, ◌||◌, ◌⊎◌, ◌==◌, if◌then◌else◌, true, List, [], ◌∷◌, ◌++◌, map, flat_map, decimal}
 use Rattle.std.specs.FinMap.{contains_key, entries}
 use Rattle.allocative_graph.specs.Path.{Key, Path}
+use Rattle.allocative_graph.specs.Format.{semicolon, space, newline}
 use Rattle.allocative_graph.specs.Graph.{Graph, size_at, is_root, joined}
 
 -- The sum of the sizes of some rows.
@@ -12,7 +13,7 @@ sum_of_rows (r ∷ rs) = r.1 + sum_of_rows rs
 -- The keys, with a `;` before each.
 abbrev pub joined_on : Path → List ℕ
 joined_on [] = []
-joined_on (k ∷ ks) = (59 ∷ k) ++ joined_on ks
+joined_on (k ∷ ks) = (semicolon ∷ k) ++ joined_on ks
 
 -- The rows with the key before each path.
 abbrev pub under_rows : Key → List (Path × ℕ) → List (Path × ℕ)
@@ -20,7 +21,7 @@ under_rows k rs = map (λ r. (k ∷ r.0, r.1)) rs
 
 -- The end of a line, after the keys: a space, the size, a line feed.
 abbrev pub size_text : ℕ → List ℕ
-size_text n = 32 ∷ (decimal n ++ 10 ∷ [])
+size_text n = space ∷ (decimal n ++ newline ∷ [])
 
 -- The line of a path with a size other than 0, where t is the text of its first keys: t, the other keys with a `;`
 -- before each, the size.
@@ -44,8 +45,8 @@ abbrev pub HasRootAlone : Graph → Type 0
 HasRootAlone g = (n : ℕ) × (entries g ≡ ([], n) ∷ [])
 
 -- Path by path r is the sum of g and h, and it has the paths of both.
-abbrev pub IsSum : Graph → Graph → Graph → Type 0
-IsSum g h r = (p : Path)
+abbrev pub IsSumByPath : Graph → Graph → Graph → Type 0
+IsSumByPath g h r = (p : Path)
     → (size_at r p ≡ size_at g p + size_at h p) × (contains_key r p ≡ (contains_key g p || contains_key h p))
 
 -- At each path r has the size of g or that of the sum. It has all paths of g, and none that the sum does not have.

@@ -3,7 +3,7 @@ ghost use Rattle.std.specs.Prelude.{◌≡◌, ◌++◌, [], IfOk, IfErr, IfSome
 ghost use Rattle.allocative_graph.specs.Path.{key_cmp};
 ghost use Rattle.allocative_graph.specs.Graph.{size_at, total_at, IsBehind, HasNothing};
 ghost use Rattle.allocative_graph.specs.Representation.Node.{node, AreChildren};
-ghost use Rattle.allocative_graph.specs.Representation.Children.{InOrder, IsFound, IsGap};
+ghost use Rattle.allocative_graph.specs.Representation.Children.{InOrder, IsFound, IsChildGap};
 ghost use Rattle.allocative_graph.specs.Reads.{AllSmaller, seen, figures, figures_behind};
 
 use crate::flamegraph::{Child, FlameGraph};
@@ -110,7 +110,7 @@ impl FlameGraph {
 fn place_of_text(children: &[Child], text: &str) -> Result<usize, usize>
     requires { InOrder children.now }
     ensures found { IfOk result (IsFound children.now text.now) }
-    ensures missing { IfErr result (IsGap children.now text.now) }
+    ensures missing { IfErr result (IsChildGap children.now text.now) }
 {
     children.binary_search_by(
         |child: &Child| -> Ordering

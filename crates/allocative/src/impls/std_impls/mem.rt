@@ -1,4 +1,4 @@
-//! Values that are not dropped automatically, and types that show nothing.
+//! `ManuallyDrop` and `PhantomData`.
 #![tactic(auto, using(crate::proofs::Parts::parts))]
 
 ghost use Rattle.std.specs.Prelude.{codes};
@@ -22,15 +22,6 @@ impl<T: Allocative + Described> Allocative for ManuallyDrop<T> {
         let inner = Field("inner", &**self);
         let name = Key::for_type_name::<ManuallyDrop<T>>();
         Declared(name, <ManuallyDrop<T>>::size(), inner).enter(visitor)
-    }
-}
-
-// What a reference points to is not part of it.
-impl<T> Allocative for &'static T {
-    ghost may_show = { λ _. shows.Nothing };
-
-    fn visit(&self, visitor: &mut Visitor<'_>) -> Result<(), Refusal> {
-        ().enter(visitor)
     }
 }
 

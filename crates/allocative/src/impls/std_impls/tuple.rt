@@ -1,8 +1,9 @@
-//! Tuples: one entry for each field, named by its position.
+//! Tuples, with one entry for each field, named by its position, and arrays.
 #![tactic(auto, using(crate::proofs::Parts::parts))]
 
 ghost use Rattle.std.specs.Prelude.{codes};
 ghost use Rattle.allocative_graph.specs.Shows as shows;
+ghost use Rattle.allocative.specs.Bodies.{slice_of};
 
 use crate::allocative_trait::Allocative;
 use crate::part::{Declared, Field, Part};
@@ -100,5 +101,13 @@ impl<
             (first, second, third, fourth, fifth),
         )
         .enter(visitor)
+    }
+}
+
+impl<T: Allocative + Described, const N: usize> Allocative for [T; N] {
+    ghost may_show = { slice_of T.name T.size T.may_show };
+
+    fn visit(&self, visitor: &mut Visitor<'_>) -> Result<(), Refusal> {
+        visitor.visit_slice_of(self)
     }
 }

@@ -2,7 +2,7 @@ use Rattle.std.proofs.Common.{true, [], ◌∷◌, sym, ap, subst, refl, arith}
 use Rattle.std.specs.Prelude.{is_ok}
 use Rattle.allocative_graph.specs.declared.flamegraph.Child.{Child}
 use Rattle.allocative_graph.specs.Representation.Node.{weight}
-use Rattle.allocative_graph.specs.Representation.Children.{IsFound, IsGap}
+use Rattle.allocative_graph.specs.Representation.Children.{IsFound, IsChildGap}
 use Rattle.allocative_graph.specs.Representation.Merged.{Merged}
 use Rattle.allocative_graph.proofs.ChildPut.{put_at_found, weight_at_found, weight_of_found, put_at_gap, weight_at_gap}
 use Rattle.allocative_graph.proofs.flamegraph.put_child.Goals as goal
@@ -39,12 +39,12 @@ returns-in-Ok-clause-exact c =
 
 pub returns-in_ok-put_at-in-Err-clause-merged : goal.returns-in_ok-put_at-in-Err-clause-merged
 returns-in_ok-put_at-in-Err-clause-merged c =
-    let gap = subst (λ ds. IsGap ds c.args.child.key c.in-Err.at) c.deref.ensures.value c.in-Err.ensures.missing in
+    let gap = subst (λ ds. IsChildGap ds c.args.child.key c.in-Err.at) c.deref.ensures.value c.in-Err.ensures.missing in
     subst (λ es. Merged true c.args.children.now.items (c.args.child ∷ []) es) (sym c.in_ok-put_at-in-Err.ensures.items)
     (put_at_gap c.args.children.now.items c.in-Err.at c.args.child gap c.requires.children c.requires.tree)
 
 pub returns-in_ok-put_at-in-Err-clause-exact : goal.returns-in_ok-put_at-in-Err-clause-exact
 returns-in_ok-put_at-in-Err-clause-exact c =
-    let gap = subst (λ ds. IsGap ds c.args.child.key c.in-Err.at) c.deref.ensures.value c.in-Err.ensures.missing in
+    let gap = subst (λ ds. IsChildGap ds c.args.child.key c.in-Err.at) c.deref.ensures.value c.in-Err.ensures.missing in
     let more = weight_at_gap c.args.children.now.items c.in-Err.at c.args.child gap in
     omega (arith, more, ap weight c.in_ok-put_at-in-Err.ensures.items, c.requires.exact, c.total_size-added.ensures.total)

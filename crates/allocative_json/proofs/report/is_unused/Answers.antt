@@ -1,4 +1,4 @@
-use Rattle.std.proofs.Common.{◌≡◌, ◌-◌, Bor, List, ℕ, get_or, length, refl, sym, ap, ◌∙◌, codes, rules}
+use Rattle.std.proofs.Common.{◌≡◌, ◌-◌, Bor, List, ℕ, get_or, length, refl, sym, ap, ◌∙◌, codes}
 use Rattle.std.specs.Ordering.{eq_by_cmp}
 use Rattle.allocative.specs.Path.{key_cmp}
 use Rattle.allocative_json.proofs.Rows.{ends_in_last, same_test}

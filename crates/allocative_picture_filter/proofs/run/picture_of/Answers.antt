@@ -1,17 +1,17 @@
-use Rattle.std.proofs.Common.{◌≡◌, ◌+◌, map, ap, sym, subst, ◌∙◌, List, refl}
+use Rattle.std.proofs.Common.{◌≡◌, Bool, map, ap, sym, subst, ◌∙◌, List, refl}
 use Rattle.std.specs.Prelude.{sum_by}
 use Rattle.std.specs.List.Sorted.{IsPermutation}
 use Rattle.std.proofs.lemmas.List.Sorted.{IsPermutation-map}
 use Rattle.allocative_picture.specs.Rows as rows
 use Rattle.allocative_picture.specs.Picture.{drawing}
+use Rattle.allocative_picture.specs.declared.options.Options.{Options}
 use Rattle.allocative_picture_filter.specs.declared.stacks.Line.{Line}
 use Rattle.allocative_picture_filter.specs.Stacks.{Stack, seen, IsInOrder}
-use Rattle.allocative_picture_filter.specs.Rows.{outline_of}
-use Rattle.allocative_picture_filter.specs.Forest.{own_bytes, AreBeside, outlines}
-use Rattle.allocative_picture_filter.specs.Run.{subject_for}
-use Rattle.allocative_picture_filter.proofs.Listing.{graph_of, graph_is, entries_of}
-use Rattle.allocative_picture_filter.proofs.Outlines.{outlines-shown}
-use Rattle.allocative_picture_filter.proofs.Texts.{same_bytes, shown_bytes, shown_beside}
+use Rattle.allocative_picture_filter.specs.Forest.{mark_at}
+use Rattle.allocative_picture_filter.specs.Run.{subject_for, mark_for}
+use Rattle.allocative_picture_filter.proofs.Listing.{graph_of, graph_is}
+use Rattle.allocative_picture_filter.proofs.Drawn.{forest_shown, same_mark}
+use Rattle.allocative_picture_filter.proofs.Texts.{same_bytes}
 use Rattle.allocative_picture_filter.proofs.run.picture_of.Goals as goal
 
 pub returns-clause-ok : goal.returns-clause-ok
@@ -25,25 +25,19 @@ returns-clause-ok c =
     let is : c.in_ok-forest.forest.is ≡ sum_by (λ (s : Stack). s.is) (map seen lines) =
     c.in_ok-forest.ensures.ok.is ∙ ap (λ (ls : List Line). sum_by (λ l. l.is) ls) slice ∙ same_bytes (λ s. s.is) lines sorted moved in
     let subject = c.subject-subject.ensures ∙ (λ i. subject_for c.args.earlier.now ((c.was.ensures ∙ was) i) ((c.is.ensures ∙ is) i)) in
-    let shown = c.finish.ensures.full c.in_ok-forest.ensures.full in
     let given = c.as_slice.result.now in
     let has = c.in_ok-forest.ensures.rows (subst IsInOrder (sym slice) c.in_ok-sort.ensures.sorted) in
     let turned : IsPermutation (map seen lines) (map seen given) = IsPermutation-map seen lines given (subst (λ (ls : List Line). IsPermutation lines ls) (sym slice) moved) in
+    let options : Options = record { title = c.args.title; warned = c.default.result.warned; narrowest = c.default.result.narrowest } in
+    let given_rows : c.as_slice-2.result.now ≡ c.in_ok-forest.forest.rows.items = c.as_slice-2.ensures.value ∙ ap (λ v. v.items) c.finish.ensures in
+    let shown = forest_shown given c.in_ok-forest.forest (mark_for c.args.earlier.now (map seen lines)) has c.in_ok-forest.ensures.full.rows.beside
+    (λ q. ap (λ (b : Bool). mark_at b (map seen given) q) (c.in_ok-forest.ensures.change ∙ c.is_there.ensures) ∙ same_mark c.args.earlier.now (map seen lines) (map seen given) turned q) in
     record {
       stacks = map seen lines;
       read = c.in_ok-lines.ensures.ok;
-      options = record { title = c.args.title; warned = c.default.result.warned; narrowest = c.default.result.narrowest };
+      options = options;
       titled = refl;
       graph = graph_of has.own has.below;
       added = graph_is (map seen lines) (map seen given) _ has.own has.below turned has.listing;
-      rows = map rows.seen c.as_slice-2.result.now;
-      listed =
-          outlines-shown c.as_slice-2.result.now
-          ∙ ap outlines c.as_slice-2.ensures.value
-          ∙ c.finish.ensures.rows
-          ∙ has.rows
-          ∙ ap (map outline_of) (sym (entries_of (map seen given) _ has.own has.below has.listing));
-      beside = shown_beside 0 c.as_slice-2.result.now (subst (AreBeside 0) (sym c.as_slice-2.ensures.value) shown.beside);
-      own = shown_bytes c.as_slice-2.result.now ∙ ap own_bytes c.as_slice-2.ensures.value ∙ shown.own ∙ (λ i. was i + is i);
-      drawn = c.in_ok-draw.ensures ∙ ap (λ s. drawing s (record { title = c.args.title; warned = c.default.result.warned; narrowest = c.default.result.narrowest }) (map rows.seen c.as_slice-2.result.now)) subject;
+      drawn = c.in_ok-draw.ensures ∙ (λ i. drawing (subject i) options ((ap (map rows.seen) given_rows ∙ shown) i));
     }

@@ -11,7 +11,7 @@ use Rattle.allocative_collectors.specs.declared.tree.Node.{Node}
 use Rattle.allocative_collectors.specs.Nodes.{shape, sums_of}
 use Rattle.allocative_collectors.specs.Listed.{Listed, sum_at, path_at, map_of, total as total_listed}
 use Rattle.allocative_collectors.specs.Shapes.{keys_of, key_in}
-use Rattle.allocative_collectors.specs.Finishing.{size_at, is_short, warning_at}
+use Rattle.allocative_collectors.specs.Finishing.{size_at_place, is_short, warning_at}
 use Rattle.allocative_collectors.proofs.Keys.{length-keys_of}
 use Rattle.allocative_collectors.proofs.NodeReads.{in_nodes, bytes_read, under_read}
 use Rattle.allocative_collectors.proofs.Made.{half_none, half_more, half_total, made_total, made_all, child_read, child_key, keys_rise, own_fits, total-default, memory_alone, passed_on}
@@ -65,7 +65,7 @@ loop-child-init t c =
     let items = c.self.inside.nodes.items in
     let bytes = bytes_read items c.self.invariant v c.self.view_is i c.requires.within n c.index-node.ensures in
     let under = under_read items c.self.invariant v c.self.view_is i c.requires.within n c.index-node.ensures in
-    let is : c.add_self.new.self ≡ add_self (size_at v i) default = c.in_ok-add_self.ensures.sum ∙ (λ j. add_self (c.size.ensures j) (c.in_ok-graph.ensures j)) in
+    let is : c.add_self.new.self ≡ add_self (size_at_place v i) default = c.in_ok-add_self.ensures.sum ∙ (λ j. add_self (c.size.ensures j) (c.in_ok-graph.ensures j)) in
     let written : string_bytes c.if-is_short.text ≡ start ++ warning_at v i =
     elim c.if-is_short.branch [
       | then-is_short+in_ok-push_warning w ↦

@@ -8,7 +8,7 @@ use Rattle.allocative_collectors.specs.declared.tree.Node.{Node}
 use Rattle.allocative_collectors.specs.Listed.{sum_at, path_at, map_of}
 use Rattle.allocative_collectors.specs.Nodes.{shape, sums_of}
 use Rattle.allocative_collectors.specs.Shapes.{keys_of}
-use Rattle.allocative_collectors.specs.Finishing.{size_at, is_short, warning_at}
+use Rattle.allocative_collectors.specs.Finishing.{size_at_place, is_short, warning_at}
 use Rattle.allocative_collectors.proofs.NodeReads.{in_nodes}
 use Rattle.allocative_collectors.proofs.Collect.{count_none}
 use Rattle.allocative_collectors.proofs.Made.{half_none, made_all}
@@ -29,7 +29,7 @@ returns-in-Ok c =
     let xs = n.children.items in
     let ks = keys_of (map shape items) xs in
     let empty : length xs ≡ 0 = count_none _ (sym c.is_empty.ensures ∙ c.if-not-is_empty.false) in
-    let is : c.add_self.new.self ≡ add_self (size_at v i) default = c.in-Ok.ensures.sum ∙ (λ j. add_self (c.size.ensures j) (c.default-graph.ensures j)) in
+    let is : c.add_self.new.self ≡ add_self (size_at_place v i) default = c.in-Ok.ensures.sum ∙ (λ j. add_self (c.size.ensures j) (c.default-graph.ensures j)) in
     λ written.
     let quiet : written ≡ written ++ warning_at v i =
     sym (append-nil written)

@@ -8,7 +8,7 @@ use Rattle.allocative_collectors.specs.declared.tree.Node.{Node}
 use Rattle.allocative_graph.specs.Path.{Key}
 use Rattle.allocative_collectors.specs.Nodes.{shape, sums_of}
 use Rattle.allocative_collectors.specs.Listed.{Listed, IsEntered}
-use Rattle.allocative_collectors.specs.Shapes.{children_at, keys_of, keys_at, KeysRise, IsPlace, IsGap, sums, IsArena}
+use Rattle.allocative_collectors.specs.Shapes.{children_at, keys_of, keys_at, KeysRise, IsPlace, IsKeyGap, sums, IsArena}
 use Rattle.allocative_collectors.proofs.NodeReads.{in_nodes, in_shapes, children_in, children_read, stood_children, grown_nodes, kept_nodes}
 use Rattle.allocative_collectors.proofs.Keys.{length-keys_of}
 use Rattle.allocative_collectors.proofs.Grown.{grown, arena_grown}
@@ -89,7 +89,7 @@ insert-requires c =
     let here : c.args.at < length (sums_of items) = rw c.self.view_is c.requires in
     let inside = in_nodes items c.args.at here in
     let stood = stood_children items c.push.new.self.items _ c.in_ok-push-in-Err.ensures.items c.args.at inside c.index_mut.result.now c.index_mut.ensures.value in
-    let gap : IsGap (keys_at (map shape items) c.args.at) c.args.key.now c.in-Err.place = subst (λ (ks : List Key). IsGap ks c.args.key.now c.in-Err.place) (searched_keys (goal.at.insert-requires c).After-as_slice) c.in-Err.ensures.absent in
+    let gap : IsKeyGap (keys_at (map shape items) c.args.at) c.args.key.now c.in-Err.place = subst (λ (ks : List Key). IsKeyGap ks c.args.key.now c.in-Err.place) (searched_keys (goal.at.insert-requires c).After-as_slice) c.in-Err.ensures.absent in
     let len = length-keys_of (map shape items) (children_at (map shape items) c.args.at) in
     let same = ap length stood in
     omega (arith, gap.in_range)
@@ -128,8 +128,8 @@ made c =
     (ap (λ (xs : List ℕ). record { key = n.key; parent = n.parent; children = xs; bytes = n.bytes; is_unique = n.is_unique; below = n.below }) longer)
 
 -- the gap that was found, among the keys of the children
-gap : (c : Else-is_err) → IsGap (keys_at (map shape c.self.inside.nodes.items) c.args.at) c.args.key.now c.in-Err.place
-gap c = subst (λ (ks : List Key). IsGap ks c.args.key.now c.in-Err.place) (searched_keys (goal.at.invariant_of-self-else-is_err c).After-as_slice) c.in-Err.ensures.absent
+gap : (c : Else-is_err) → IsKeyGap (keys_at (map shape c.self.inside.nodes.items) c.args.at) c.args.key.now c.in-Err.place
+gap c = subst (λ (ks : List Key). IsKeyGap ks c.args.key.now c.in-Err.place) (searched_keys (goal.at.invariant_of-self-else-is_err c).After-as_slice) c.in-Err.ensures.absent
 
 pub invariant_of-self-else-is_err : goal.invariant_of-self-else-is_err
 invariant_of-self-else-is_err c =

@@ -1,7 +1,7 @@
 use Rattle.std.proofs.Common.{◌≡◌, Bor, ◌∷◌, sym, ap, subst, ◌∙◌}
 use Rattle.allocative_graph.specs.Graph.{Graph, IsTree, IsBehind, HasNothing}
 use Rattle.allocative_graph.specs.Representation.Node.{node}
-use Rattle.allocative_graph.specs.Representation.Children.{InOrder, IsFound, IsGap}
+use Rattle.allocative_graph.specs.Representation.Children.{InOrder, IsFound, IsChildGap}
 use Rattle.allocative_graph.proofs.NodeAdded.{node_tree}
 use Rattle.allocative_graph.proofs.NodeText.{texts}
 use Rattle.allocative_graph.proofs.Behind.{behind_root, behind_child, missing_child, missing_key, no_items, some_implies, none_implies}
@@ -14,7 +14,7 @@ returns-in_default-clause-found t c =
 
 pub returns-in_default-place_of_text-clause-missing : goal.returns-in_default-place_of_text-clause-missing
 returns-in_default-place_of_text-clause-missing t c =
-    let gap = subst (λ cs. IsGap cs c.in-Some.key.now.now c.in_default-place_of_text.field-0) c.as_slice-children.ensures.value c.in_default-place_of_text.ensures.missing in
+    let gap = subst (λ cs. IsChildGap cs c.in-Some.key.now.now c.in_default-place_of_text.field-0) c.as_slice-children.ensures.value c.in_default-place_of_text.ensures.missing in
     let none = missing_key c.self.inside.node_size c.self.inside.children.items c.in_default-place_of_text.field-0 c.in-Some.key.now.now (texts c.in-Some.rest.now) c.self.invariant.children.sorted gap in
     subst (λ p. HasNothing c.args.self.now (texts p)) (sym c.in-Some.ensures.cases.0) (subst (λ g. HasNothing g (texts (c.in-Some.key.now ∷ c.in-Some.rest.now))) c.self.view_is none)
 

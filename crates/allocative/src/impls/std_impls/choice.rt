@@ -1,0 +1,41 @@
+//! Types that are one of several: `Option` and `Result`.
+#![tactic(auto, using(crate::proofs::Parts::parts))]
+
+ghost use Rattle.std.specs.Prelude.{codes};
+ghost use Rattle.allocative_graph.specs.Shows as shows;
+ghost use Rattle.allocative.specs.StdShows.{option_inside, result_inside};
+
+use crate::allocative_trait::Allocative;
+use crate::part::{Declared, Field, Part};
+use crate::visitor::Visitor;
+use allocative_described::Described;
+use allocative_graph::key::Key;
+use allocative_graph::refusal::Refusal;
+
+impl<T: Allocative + Described> Allocative for Option<T> {
+    ghost may_show = { λ o. shows.Field (codes "Option") ⟦<Option<T> as Described>⟧.size
+        (option_inside T.size T.may_show o) };
+
+    fn visit(&self, visitor: &mut Visitor<'_>) -> Result<(), Refusal> {
+        let name = Key::for_type_name::<Option<T>>();
+        let size = <Option<T>>::size();
+        match self {
+            None => Declared(name, size, ()).enter(visitor),
+            Some(value) => Declared(name, size, Field("Some", value)).enter(visitor),
+        }
+    }
+}
+
+impl<T: Allocative + Described, E: Allocative + Described> Allocative for Result<T, E> {
+    ghost may_show = { λ r. shows.Field (codes "Result") ⟦<Result<T, E> as Described>⟧.size
+        (result_inside T.size E.size T.may_show E.may_show r) };
+
+    fn visit(&self, visitor: &mut Visitor<'_>) -> Result<(), Refusal> {
+        let name = Key::for_type_name::<Result<T, E>>();
+        let size = <Result<T, E>>::size();
+        match self {
+            Ok(value) => Declared(name, size, Field("Ok", value)).enter(visitor),
+            Err(error) => Declared(name, size, Field("Err", error)).enter(visitor),
+        }
+    }
+}

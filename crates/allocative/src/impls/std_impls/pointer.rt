@@ -1,0 +1,31 @@
+//! Boxes and references.
+#![tactic(auto, using(crate::proofs::Parts::parts))]
+
+ghost use Rattle.std.specs.Prelude.{codes, Some};
+ghost use Rattle.allocative_graph.specs.Shows as shows;
+
+use crate::allocative_trait::Allocative;
+use crate::part::{Declared, Part, Unique};
+use crate::visitor::Visitor;
+use allocative_described::Described;
+use allocative_graph::key::Key;
+use allocative_graph::refusal::Refusal;
+
+impl<T: Allocative> Allocative for Box<T> {
+    ghost may_show = { λ b. shows.Field (codes "Box") (Some 8)
+        (shows.InsideUnique (codes "ptr") 8 (T.may_show b.value)) };
+
+    fn visit(&self, visitor: &mut Visitor<'_>) -> Result<(), Refusal> {
+        let pointer = Unique("ptr", 8, &**self);
+        Declared(Key::for_type_name::<Box<T>>(), <Box<T>>::size(), pointer).enter(visitor)
+    }
+}
+
+// What a reference points to is not part of it.
+impl<T> Allocative for &'static T {
+    ghost may_show = { λ _. shows.Nothing };
+
+    fn visit(&self, visitor: &mut Visitor<'_>) -> Result<(), Refusal> {
+        ().enter(visitor)
+    }
+}

@@ -1,0 +1,22 @@
+//! `String`.
+#![tactic(auto, using(crate::proofs::Parts::parts))]
+
+ghost use Rattle.std.specs.Prelude.{codes, length, string_bytes, Some};
+ghost use Rattle.allocative_graph.specs.Shows as shows;
+ghost use Rattle.allocative.specs.Bodies.{text_shows};
+
+use crate::allocative_trait::Allocative;
+use crate::containers::Text;
+use crate::part::{Declared, Part};
+use crate::visitor::Visitor;
+use allocative_described::Described;
+use allocative_graph::key::Key;
+use allocative_graph::refusal::Refusal;
+
+impl Allocative for String {
+    ghost may_show = { λ s. shows.Field (codes "String") (Some 24) (text_shows (length (string_bytes s))) };
+
+    fn visit(&self, visitor: &mut Visitor<'_>) -> Result<(), Refusal> {
+        Declared(Key::for_type_name::<String>(), <String>::size(), Text(self)).enter(visitor)
+    }
+}
