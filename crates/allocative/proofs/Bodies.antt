@@ -1,14 +1,14 @@
 -- Lemmas for the helpers of slices, and for the parts of buffers and tables.
-use Rattle.std.proofs.Common.{codes, if◌then◌else◌, Bool, true, false, length, List, Option, None, Some, ◌≡◌, ℕ, ◌+◌, ◌*◌, ◌<◌, Result, inl}
+use Rattle.std.proofs.Common.{codes, if◌then◌else◌, Bool, true, false, length, List, Option, None, Some, ◌≡◌, ℕ, ◌+◌, ◌-◌, ◌*◌, ◌<◌, ◌≤◌, Result, inl, subst, arith}
 use Rattle.std.proofs.lemmas.Bool.{false≢true}
 use Rattle.allocative_graph.specs.declared.refusal.Refusal.{Refusal}
 use Rattle.allocative_graph.specs.Path.{Key}
 use Rattle.allocative_graph.specs.Forest.{Forest}
 use Rattle.allocative_graph.specs.Shows.{Showing, Nothing, Both, Inside, InsideUnique, IsField, sized, each_shows, slice_shows}
-use Rattle.allocative.specs.Bodies.{are_shown_each, bytes_shown, buffer_entry, without_size, without_items, with_room, buffer_shows, text_shows, table_shows}
+use Rattle.allocative.specs.Bodies.{are_shown_each, bytes_shown, buffer_entry, without_size, without_room, with_room, buffer_shows, some_buffer_shows, text_shows, some_text_shows, table_shows}
 use Rattle.allocative.specs.declared.visitor.Visitor.{Visitor}
 use Rattle.allocative.specs.Visited.{Entered, Means}
-use Rattle.allocative.proofs.Meaning.{entered_as}
+use Rattle.allocative.proofs.Meaning.{entered_as, means_same}
 
 -- ---- slices
 field_of_product : (k : Key) (p : Showing) (m : ℕ) (b : Bool) (f : Forest) → IsField k p (if b then Some m else None) f → Inside k m p f
@@ -38,19 +38,31 @@ pub entered_one_by_one : {T : Type 0} (name : Key) (size : Option ℕ) (needs_dr
 entered_one_by_one name size needs_drop p xs e s = entered_as s (record { means = each_slice name size needs_drop p xs e })
 
 -- ---- buffers
-pub means_without_size : {p : Showing} {n s : ℕ} {size : Option ℕ} → size ≡ Some s → s ≡ 0 → Means Nothing (buffer_shows size p n)
+pub means_without_size : {p : Showing} {n c s : ℕ} {size : Option ℕ} → size ≡ Some s → s ≡ 0 → Means Nothing (buffer_shows size p n c)
 means_without_size e z = rw (e, z) (record { means = λ f h. without_size h })
 
-pub means_without_items : {p : Showing} {n s : ℕ} {size : Option ℕ} → size ≡ Some s → n ≡ 0 → Means Nothing (buffer_shows size p n)
-means_without_items e z = rw e (record { means = λ f h. without_items z h })
+pub means_without_room : {p : Showing} {n c s : ℕ} {size : Option ℕ} → size ≡ Some s → n ≡ 0 → c ≡ 0 → Means Nothing (buffer_shows size p n c)
+means_without_room e z y = rw e (record { means = λ f h. without_room z y h })
 
-pub means_with_room : {p : Showing} {n s : ℕ} {size : Option ℕ} (unused : ℕ) → size ≡ Some s → 0 < s → Means (buffer_entry size p unused) (buffer_shows size p n)
-means_with_room unused e z = rw e (record { means = λ f g. with_room unused z g })
+pub means_with_room : {p : Showing} {n c s u : ℕ} {size : Option ℕ} → size ≡ Some s → 0 < s → 0 < n + c → u ≡ c - n → Means (buffer_entry size p u) (buffer_shows size p n c)
+means_with_room e z y i = rw (e, i) (record { means = λ f g. with_room z y g })
+
+-- A buffer with room for c items is one with room for some number of items.
+pub means_some_buffer : {size : Option ℕ} {p : Showing} {n c : ℕ} → n ≤ c → Means (buffer_shows size p n c) (some_buffer_shows size p n)
+means_some_buffer {size} {p} {n} {c} h =
+    let e : c ≡ n + (c - n) = omega (arith, h) in
+    record { means = λ f x. (c - n, subst (λ (m : ℕ). buffer_shows size p n m f) e x) }
 
 -- ---- texts
-pub means_text : {n l m u : ℕ} → n ≡ l → m ≡ l + u →
-    Means (InsideUnique (codes "ptr") 8 (Inside (codes "capacity") m (Both (Inside (codes "u8") n Nothing) (Inside (codes "unused_capacity") u Nothing)))) (text_shows l)
-means_text {u = u} i j = rw (i, j) (record { means = λ x y. (u, y) })
+pub means_text : {n l m c u : ℕ} → n ≡ l → m ≡ c → u ≡ c - l →
+    Means (InsideUnique (codes "ptr") 8 (Inside (codes "capacity") m (Both (Inside (codes "u8") n Nothing) (Inside (codes "unused_capacity") u Nothing)))) (text_shows l c)
+means_text i j k = rw (i, j, k) means_same
+
+-- A text with room for c bytes is one with room for some number of bytes.
+pub means_some_text : {n c : ℕ} → n ≤ c → Means (text_shows n c) (some_text_shows n)
+means_some_text {n} {c} h =
+    let e : c ≡ n + (c - n) = omega (arith, h) in
+    record { means = λ f x. (c - n, subst (λ (m : ℕ). text_shows n m f) e x) }
 
 -- ---- tables
 pub means_no_table : {n : ℕ} → n ≡ 0 → Means Nothing (table_shows n)

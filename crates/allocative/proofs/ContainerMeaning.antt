@@ -1,33 +1,30 @@
 -- How the showing of a container follows from its parts.
-use Rattle.std.proofs.Common.{codes, ◌≡◌, ℕ, Bool, List, Option}
+use Rattle.std.proofs.Common.{codes, ◌≡◌, ℕ, Bool, List, Option, refl}
 use Rattle.smallvec.specs.SmallVec.{SmallVec, IsSpilled}
 use Rattle.allocative_graph.specs.Path.{Key}
 use Rattle.allocative_graph.specs.Forest.{Forest}
 use Rattle.allocative_graph.specs.Shows.{Showing, Nothing, InsideUnique}
-use Rattle.allocative.specs.Bodies.{IsBuffer, without_size, without_items, with_room, buffer_shows, cut_shows, data_shows, table_shows}
-use Rattle.allocative.specs.PackShows.{once_inside, is_not_set, is_set, small_vec_inside, lies_inline, is_spilled, index_data_shows, IsIndexData, with_unused}
+use Rattle.allocative.specs.Bodies.{IsBuffer, without_size, without_room, with_room, buffer_shows, cut_shows, data_shows, table_shows}
+use Rattle.allocative.specs.PackShows.{once_inside, is_not_set, is_set, small_vec_inside, lies_inline, is_spilled, index_data_shows}
 use Rattle.allocative.specs.Visited.{Means}
-use Rattle.allocative.proofs.Meaning.{means_same}
+use Rattle.allocative.proofs.Meaning.{means_same, means_unique, means_both}
 
 -- ---- buffers
-in_buffer : {p q : Showing} (y : Option ℕ) (n : ℕ) → Means p q → (f : Forest) → IsBuffer p n y f → IsBuffer q n y f
-in_buffer y n m f (without_size e) = without_size e
-in_buffer y n m f (without_items z e) = without_items z e
-in_buffer y n m f (with_room u some (g, (h, k, shown, room, i), e)) = with_room u some (g, (h, k, m.means h shown, room, i), e)
+in_buffer : {p q : Showing} (y : Option ℕ) (n c : ℕ) → Means p q → (f : Forest) → IsBuffer p n c y f → IsBuffer q n c y f
+in_buffer y n c m f (without_size e) = without_size e
+in_buffer y n c m f (without_room z r e) = without_room z r e
+in_buffer y n c m f (with_room some room (g, (h, k, shown, unused, i), e)) = with_room some room (g, (h, k, m.means h shown, unused, i), e)
 
-pub means_buffer : {y z : Option ℕ} {n l : ℕ} {p q : Showing} → y ≡ z → n ≡ l → Means p q → Means (buffer_shows y p n) (buffer_shows z q l)
-means_buffer {z = z} {l = l} e i m = rw (e, i) (record { means = λ f x. in_buffer z l m f x })
+pub means_buffer : {y z : Option ℕ} {n l c d : ℕ} {p q : Showing} → y ≡ z → n ≡ l → c ≡ d → Means p q → Means (buffer_shows y p n c) (buffer_shows z q l d)
+means_buffer {z = z} {l = l} {d = d} e i j m = rw (e, i, j) (record { means = λ f x. in_buffer z l d m f x })
 
 -- The slices of a list that was cut in two are those of the list.
 pub means_cut : {T : Type 0} {name : Key} {size : Option ℕ} {needs_drop : Bool} {p : T → Showing} {xs ys : List T} → xs ≡ ys → Means (cut_shows name size needs_drop p xs) (cut_shows name size needs_drop p ys)
 means_cut e = rw e means_same
 
 -- ---- containers in order of insertion
-in_index_data : {p q : Showing} (y : Option ℕ) → Means p q → (f : Forest) → IsIndexData y p f → IsIndexData y q f
-in_index_data y m f (with_unused u (g, (h, k, shown, room, i), e)) = with_unused u (g, (h, k, m.means h shown, room, i), e)
-
-pub means_index_data : {y z : Option ℕ} {p q : Showing} → y ≡ z → Means p q → Means (index_data_shows y p) (index_data_shows z q)
-means_index_data {z = z} i m = rw i (record { means = λ f x. in_index_data z m f x })
+pub means_index_data : {y z : Option ℕ} {u w : ℕ} {p q : Showing} → y ≡ z → u ≡ w → Means p q → Means (index_data_shows y p u) (index_data_shows z q w)
+means_index_data e i m = rw (e, i) (means_unique refl (means_both m means_same))
 
 pub means_table : {n l : ℕ} → n ≡ l → Means (table_shows n) (table_shows l)
 means_table e = rw e means_same

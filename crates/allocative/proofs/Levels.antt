@@ -1,10 +1,10 @@
 -- What a level shows of values of any number of levels is what a value of any number of levels shows.
-use Rattle.std.proofs.Common.{◌≡◌, ℕ, Bool, true, false, codes, zero, suc, ◌+◌, List, [], ◌∷◌, Option, None, Some, refl, arith}
+use Rattle.std.proofs.Common.{◌≡◌, ℕ, Bool, true, false, codes, zero, suc, ◌+◌, ◌-◌, List, [], ◌∷◌, Option, None, Some, refl, arith}
 use Rattle.std.proofs.Math.Nat.{add_comm}
 use Rattle.allocative_graph.specs.Path.{Key}
 use Rattle.allocative_graph.specs.Forest.{Forest}
 use Rattle.allocative_graph.specs.Shows.{Showing, IsField, sized, each_shows, InsideAs, Both}
-use Rattle.allocative.specs.Bodies.{IsBuffer, bytes_shown, without_size, without_items, with_room}
+use Rattle.allocative.specs.Bodies.{IsBuffer, bytes_shown, without_size, without_room, with_room}
 use Rattle.allocative.specs.StdShows.{option_inside, in_any_order}
 use Rattle.allocative.specs.Visited.{Means}
 use Rattle.allocative.specs.Levels.{Level, plain, child, both, inside, unique, field, buffer, optional, each, unordered, level_shows, levels_shown, recursive}
@@ -30,7 +30,7 @@ means_level m (both a b) = means_both (means_level m a) (means_level m b)
 means_level m (inside k n a) = means_inside refl (means_level m a)
 means_level m (unique k n a) = means_unique refl (means_level m a)
 means_level m (field k size a) = means_field refl refl (means_level m a)
-means_level m (buffer size a n) = means_buffer refl refl (means_level m a)
+means_level m (buffer size a n capacity) = means_buffer refl refl refl (means_level m a)
 means_level m (optional size w o) = means_optional size (λ x. means_level m (w x)) o
 means_level m (each w xs) = means_each (λ x. means_level m (w x)) xs
 means_level m (unordered w xs) = means_unordered (λ x. means_level m (w x)) xs
@@ -63,13 +63,13 @@ both_found more_p more_r a b f (g, h, x, y, e) =
     let n = b h y in
     (m.0 + n.0, (g, h, (more_p m.0 n.0).means g m.1, rw (add_comm m.0 n.0) ((more_r n.0 m.0).means h n.1), e))
 
-buffer_found : (y : Option ℕ) (n : ℕ) {p : ℕ → Showing} {q : Showing} → ((k j : ℕ) → Means (p k) (p (k + j))) → Found p q → (f : Forest) → IsBuffer q n y f → (k : ℕ) × IsBuffer (p k) n y f
-buffer_found y n more s f (without_size e) = (0, without_size e)
-buffer_found y n more s f (without_items h e) = (0, without_items h e)
-buffer_found y n {q = q} more found f (with_room {s = z} u l x) =
-    let room = bytes_shown (codes "unused_capacity") (Some z) u in
-    let m = inside_found true (codes "ptr") 8 (both_found {r = λ k. room} {q = q} {s = room} more (λ k j. means_same) found (λ f z. (0, z))) f x in
-    (m.0, with_room u l m.1)
+buffer_found : (y : Option ℕ) (n c : ℕ) {p : ℕ → Showing} {q : Showing} → ((k j : ℕ) → Means (p k) (p (k + j))) → Found p q → (f : Forest) → IsBuffer q n c y f → (k : ℕ) × IsBuffer (p k) n c y f
+buffer_found y n c more s f (without_size e) = (0, without_size e)
+buffer_found y n c more s f (without_room h r e) = (0, without_room h r e)
+buffer_found y n c {q = q} more found f (with_room {s = z} l h x) =
+    let unused = bytes_shown (codes "unused_capacity") (Some z) (c - n) in
+    let m = inside_found true (codes "ptr") 8 (both_found {r = λ k. unused} {q = q} {s = unused} more (λ k j. means_same) found (λ f z. (0, z))) f x in
+    (m.0, with_room l h m.1)
 
 each_found : {A : Type 0} {p : ℕ → A → Showing} {q : A → Showing} → ((k j : ℕ) (x : A) → Means (p k x) (p (k + j) x)) → ((x : A) → Found (λ k. p k x) (q x)) →
     (xs : List A) → Found (λ k. each_shows (p k) xs) (each_shows q xs)
@@ -89,7 +89,7 @@ level_found w (both a b) f y = both_found (λ k j. means_level (levels_more w k 
 level_found w (inside k n a) f y = inside_found false k n (level_found w a) f y
 level_found w (unique k n a) f y = inside_found true k n (level_found w a) f y
 level_found w (field k size a) f y = field_found k size (level_found w a) f y
-level_found w (buffer size a n) f y = buffer_found size n (λ k j. means_level (levels_more w k j) a) (level_found w a) f y
+level_found w (buffer size a n c) f y = buffer_found size n c (λ k j. means_level (levels_more w k j) a) (level_found w a) f y
 level_found w (optional size v o) f y = optional_found size (λ x. level_found w (v x)) o f y
 level_found w (each v xs) f y = each_found (λ k j x. means_level (levels_more w k j) (v x)) (λ x. level_found w (v x)) xs f y
 level_found w (unordered v xs) f y =

@@ -29,16 +29,23 @@ vec_body name size needs_drop p xs n =
 abbrev pub buffer_entry : Option ℕ → Showing → ℕ → Showing
 buffer_entry size p unused = InsideUnique (codes "ptr") 8 (Both p (bytes_shown (codes "unused_capacity") size unused))
 
--- What a container shows of the buffer of its n items of a declared size: no entry where the items have size 0; a
--- buffer or no entry where there are no items; otherwise a buffer. Where there is no size, there is no forest.
-pub data IsBuffer (p : Showing) (n : ℕ) : Option ℕ → Forest → Type 0 where
-  without_size : {f : Forest} → f ≡ Empty → IsBuffer p n (Some 0) f
-  without_items : {s : ℕ} {f : Forest} → n ≡ 0 → f ≡ Empty → IsBuffer p n (Some s) f
-  with_room : {s : ℕ} {f : Forest} (unused : ℕ) → 0 < s → buffer_entry (Some s) p unused f → IsBuffer p n (Some s) f
+-- What a container shows of the buffer of its n items of a declared size, with room for `capacity` items: no entry where
+-- the items have size 0, or where there is neither an item nor room for one; otherwise a buffer, whose unused places are
+-- those that no item takes. Where there is no size, there is no forest.
+pub data IsBuffer (p : Showing) (n capacity : ℕ) : Option ℕ → Forest → Type 0 where
+  without_size : {f : Forest} → f ≡ Empty → IsBuffer p n capacity (Some 0) f
+  without_room : {s : ℕ} {f : Forest} → n ≡ 0 → capacity ≡ 0 → f ≡ Empty → IsBuffer p n capacity (Some s) f
+  with_room : {s : ℕ} {f : Forest} → 0 < s → 0 < n + capacity → buffer_entry (Some s) p (capacity - n) f
+      → IsBuffer p n capacity (Some s) f
 
--- The showing of the buffer of n items of a declared size.
-abbrev pub buffer_shows : Option ℕ → Showing → ℕ → Showing
-buffer_shows size p n = IsBuffer p n size
+-- The showing of the buffer of n items of a declared size, with room for `capacity` items.
+abbrev pub buffer_shows : Option ℕ → Showing → ℕ → ℕ → Showing
+buffer_shows size p n capacity = IsBuffer p n capacity size
+
+-- The showing of the buffer of n items of a declared size, with room for any number of items more: of a value whose
+-- capacity contracts do not see.
+abbrev pub some_buffer_shows : Option ℕ → Showing → ℕ → Showing
+some_buffer_shows size p n f = (unused : ℕ) × buffer_shows size p n (n + unused) f
 
 -- The slice of a list that was cut in two anywhere: the slice of the front followed by that of the back.
 pub data IsCut {T : Type 0} (name : Key) (size : Option ℕ) (needs_drop : Bool) (p : T → Showing) (xs : List T) : Forest
@@ -51,13 +58,17 @@ pub data IsCut {T : Type 0} (name : Key) (size : Option ℕ) (needs_drop : Bool)
 abbrev pub cut_shows : {T : Type 0} → Key → Option ℕ → Bool → (T → Showing) → List T → Showing
 cut_shows name size needs_drop p xs = IsCut name size needs_drop p xs
 
--- The buffer of a text of n bytes, with room for any number of bytes more.
-abbrev pub text_shows : ℕ → Showing
-text_shows n f =
-    (unused : ℕ)
-    × InsideUnique (codes "ptr") 8
-    (Inside (codes "capacity") (n + unused)
-    (Both (Inside (codes "u8") n Nothing) (Inside (codes "unused_capacity") unused Nothing))) f
+-- The buffer of a text of n bytes, with room for `capacity` bytes.
+abbrev pub text_shows : ℕ → ℕ → Showing
+text_shows n capacity =
+    InsideUnique (codes "ptr") 8
+    (Inside (codes "capacity") capacity
+    (Both (Inside (codes "u8") n Nothing) (Inside (codes "unused_capacity") (capacity - n) Nothing)))
+
+-- The buffer of a text of n bytes, with room for any number of bytes more: of a value whose capacity contracts do not
+-- see.
+abbrev pub some_text_shows : ℕ → Showing
+some_text_shows n f = (unused : ℕ) × text_shows n (n + unused) f
 
 -- A field `data` for each item.
 abbrev pub data_shows : {T : Type 0} → Option ℕ → (T → Showing) → List T → Showing

@@ -3,11 +3,11 @@ use Rattle.std.specs.Prelude.{ℕ, suc, List, Some, codes, length, String, strin
 use Rattle.std.specs.declared.alloc.Global.{Global}
 use Rattle.serde_json.specs.Data.{Data, null, boolean, number, string, array, object, Items, no_items, item, Members, no_members, member}
 use Rattle.allocative_graph.specs.Shows.{Showing, Nothing, Both, Inside, InsideUnique, Field}
-use Rattle.allocative.specs.Bodies.{buffer_shows, text_shows}
+use Rattle.allocative.specs.Bodies.{some_buffer_shows, some_text_shows}
 
--- What a String shows of its text.
+-- What a String shows of its text. The data has no capacities.
 abbrev pub string_shows : List ℕ → Showing
-string_shows s = Field (codes "String") (Some 24) (text_shows (length s))
+string_shows s = Field (codes "String") (Some 24) (some_text_shows (length s))
 
 -- What a number shows.
 abbrev pub number_shows : Showing
@@ -26,7 +26,7 @@ abbrev mutual
   data_inside (number n) = Inside (codes "Number") 16 number_shows
   data_inside (string s) = Inside (codes "String") 24 (string_shows s)
   data_inside (array ds) = Inside (codes "Array") 24
-      (Field (codes "Vec") (Some 24) (buffer_shows (Some 32) (items_show ds) (items_count ds)))
+      (Field (codes "Vec") (Some 24) (some_buffer_shows (Some 32) (items_show ds) (items_count ds)))
   data_inside (object ms) =
       Inside (codes "Object") 24 (Inside (codes "Map") 24 (InsideUnique (codes "data") 8 (members_show ms)))
 

@@ -1,5 +1,6 @@
 -- What a value of a type that holds itself may show: one level, with the values of the next level named in it.
-use Rattle.std.specs.Prelude.{ℕ, zero, suc, List, length, Option, Some, codes}
+use Rattle.std.specs.Prelude.{ℕ, zero, suc, List, length, Option, Some, codes, vec_items, vec_capacity}
+use Rattle.std.specs.Global.{Vec}
 use Rattle.allocative_graph.specs.Path.{Key}
 use Rattle.allocative_graph.specs.Forest.{Forest}
 use Rattle.allocative_graph.specs.Shows.{Showing, Both, Inside, InsideUnique, Field, each_shows}
@@ -15,7 +16,7 @@ pub data Level (T : Type 0) : Type 1 where
   inside : Key → ℕ → Level T → Level T
   unique : Key → ℕ → Level T → Level T
   field : Key → Option ℕ → Level T → Level T
-  buffer : Option ℕ → Level T → ℕ → Level T
+  buffer : Option ℕ → Level T → ℕ → ℕ → Level T
   optional : {A : Type 0} → Option ℕ → (A → Level T) → Option A → Level T
   each : {A : Type 0} → (A → Level T) → List A → Level T
   unordered : {A : Type 0} → (A → Level T) → List A → Level T
@@ -28,7 +29,7 @@ level_shows p (both a b) = Both (level_shows p a) (level_shows p b)
 level_shows p (inside k n a) = Inside k n (level_shows p a)
 level_shows p (unique k n a) = InsideUnique k n (level_shows p a)
 level_shows p (field k size a) = Field k size (level_shows p a)
-level_shows p (buffer size a n) = buffer_shows size (level_shows p a) n
+level_shows p (buffer size a n capacity) = buffer_shows size (level_shows p a) n capacity
 level_shows p (optional size w o) = option_inside size (λ x. level_shows p (w x)) o
 level_shows p (each w xs) = each_shows (λ x. level_shows p (w x)) xs
 level_shows p (unordered w xs) = in_any_order (λ x. level_shows p (w x)) xs
@@ -49,8 +50,9 @@ recursive w x = IsOfLevels w x
 
 -- What a `Vec` shows of its items, which need a drop and have s bytes each, s not 0, where w gives the level of an
 -- item.
-abbrev pub vec_of : {T A : Type 0} → ℕ → (A → Level T) → List A → Level T
-vec_of s w xs = field (codes "Vec") (Some 24) (buffer (Some s) (each w xs) (length xs))
+abbrev pub vec_of : {T A : Type 0} → ℕ → (A → Level T) → Vec A → Level T
+vec_of s w v =
+    field (codes "Vec") (Some 24) (buffer (Some s) (each w (vec_items v)) (length (vec_items v)) (vec_capacity v))
 
 -- What a `Box` shows, where a is the level of its value.
 abbrev pub box_of : {T : Type 0} → Level T → Level T

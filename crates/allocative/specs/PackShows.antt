@@ -38,26 +38,22 @@ small_vec_inside n size p v = IsSmallVec n size p v
 -- What is inside the own entry of a slab with items of a declared name and size: the buffer of its values, in the order
 -- of their keys.
 abbrev pub slab_inside : {T : Type 0} → Key → Option ℕ → Bool → (T → Showing) → Slab T → Showing
-slab_inside name size needs_drop p s = buffer_shows size (slice_shows name size needs_drop p (values s)) (slab_len s)
+slab_inside name size needs_drop p s =
+    buffer_shows size (slice_shows name size needs_drop p (values s)) (slab_len s) s.capacity
 
--- The data of a container in insertion order: what p shows, and some number of unused places for items of a declared
--- size.
-pub data IsIndexData (size : Option ℕ) (p : Showing) : Forest → Type 0 where
-  with_unused : (unused : ℕ) {f : Forest}
-      → InsideUnique (codes "data") 8 (Both p (bytes_shown (codes "unused_capacity") size unused)) f
-      → IsIndexData size p f
+-- The data of a container in insertion order: a unique entry with what p shows, and the entry of the bytes of so many
+-- unused places for items of a declared size.
+abbrev pub index_data_shows : Option ℕ → Showing → ℕ → Showing
+index_data_shows size p unused =
+    InsideUnique (codes "data") 8 (Both p (bytes_shown (codes "unused_capacity") size unused))
 
--- The showing of the data of a container in insertion order.
-abbrev pub index_data_shows : Option ℕ → Showing → Showing
-index_data_shows size p = IsIndexData size p
-
--- What is inside the own entry of an `IndexMap` with keys, values and pairs of declared sizes.
+-- What is inside the own entry of an `IndexMap` with keys, values and pairs of declared sizes, and so many unused places.
 abbrev pub index_map_inside : {K V : Type 0} → Option ℕ → (K → Showing) → Option ℕ → (V → Showing) → Option ℕ
-    → List (K × V) → Showing
-index_map_inside s p t q pair es =
-    Both (index_data_shows pair (each_shows (pair_shows s p t q) es)) (table_shows (length es))
+    → List (K × V) → ℕ → Showing
+index_map_inside s p t q pair es unused =
+    Both (index_data_shows pair (each_shows (pair_shows s p t q) es) unused) (table_shows (length es))
 
--- What is inside the own entry of an `IndexSet` with values of a declared size.
-abbrev pub index_set_inside : {T : Type 0} → Option ℕ → (T → Showing) → List T → Showing
-index_set_inside s p xs =
-    Both (index_data_shows s (each_shows (field_of (codes "value") s p) xs)) (table_shows (length xs))
+-- What is inside the own entry of an `IndexSet` with values of a declared size, and so many unused places.
+abbrev pub index_set_inside : {T : Type 0} → Option ℕ → (T → Showing) → List T → ℕ → Showing
+index_set_inside s p xs unused =
+    Both (index_data_shows s (each_shows (field_of (codes "value") s p) xs) unused) (table_shows (length xs))

@@ -1,7 +1,7 @@
 //! Parts of containers: what their items, pairs, texts and buffers show.
 #![tactic(auto, using(crate::proofs::Parts::parts))]
 
-ghost use Rattle.std.specs.Prelude.{codes, length, string_bytes, ◌++◌};
+ghost use Rattle.std.specs.Prelude.{codes, length, string_bytes, string_capacity, ◌++◌};
 ghost use Rattle.allocative_graph.specs.Shows as shows;
 ghost use Rattle.allocative.specs.Bodies.{bytes_shown, buffer_shows, cut_shows, text_shows, table_shows};
 ghost use Rattle.allocative.specs.PackShows.{index_data_shows};
@@ -205,7 +205,7 @@ pub struct Buffer<P> {
 }
 
 impl<P: Part> Part for Buffer<P> {
-    ghost may_show = { λ b. buffer_shows b.item_size (P.may_show b.items) b.count };
+    ghost may_show = { λ b. buffer_shows b.item_size (P.may_show b.items) b.count b.capacity };
 
     fn enter(self, visitor: &mut Visitor<'_>) -> Result<(), Refusal> {
         let Some(size) = self.item_size else {
@@ -231,7 +231,7 @@ impl<P: Part> Part for Buffer<P> {
 pub struct IndexData<P>(pub P, pub Unused);
 
 impl<P: Part> Part for IndexData<P> {
-    ghost may_show = { λ d. index_data_shows d.1.item_size (P.may_show d.0) };
+    ghost may_show = { λ d. index_data_shows d.1.item_size (P.may_show d.0) d.1.count };
 
     fn enter(self, visitor: &mut Visitor<'_>) -> Result<(), Refusal> {
         Unique("data", 8, (self.0, self.1)).enter(visitor)
@@ -248,7 +248,7 @@ impl<P: Part> Part for IndexData<P> {
 pub struct Text<'a>(pub &'a String);
 
 impl<'a> Part for Text<'a> {
-    ghost may_show = { λ t. text_shows (length (string_bytes t.0.now)) };
+    ghost may_show = { λ t. text_shows (length (string_bytes t.0.now)) (string_capacity t.0.now) };
 
     fn enter(self, visitor: &mut Visitor<'_>) -> Result<(), Refusal> {
         let used = Inside("u8", self.0.len(), ());

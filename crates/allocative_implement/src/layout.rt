@@ -279,6 +279,35 @@ impl Frames {
             top.is_borrowed = is_borrowed;
         }
     }
+
+    /// Begins a type by its name, where it has parameters, and otherwise adds its layout.
+    fn name(&mut self, rule: Rule, has_parameters: bool) -> Result<(), Fault> {
+        if has_parameters {
+            return self.open(rule);
+        }
+        self.add(layout_of_frame(new_frame(rule)));
+        Ok(())
+    }
+
+    /// Takes a mark between types.
+    fn mark(&mut self, mark: &str) -> Result<(), Fault> {
+        match mark {
+            "(" => self.open(Rule::Row)?,
+            "[" => self.open(Rule::Array)?,
+            ">" | ")" | "]" => self.close(),
+            "&" | "," => self.borrow(mark == "&"),
+            _ => {}
+        }
+        Ok(())
+    }
+}
+
+/// The rule for the layout of a type by its name.
+fn rule_of_name(source: &Source<'_>, known: &[Layout], name: &str) -> Rule {
+    match own_layout(source, known, name) {
+        Some(layout) => Rule::Own(layout),
+        None => rule_of(name).unwrap_or(Rule::Own(UNKNOWN)),
+    }
 }
 
 /// The layout of the type in a range of tokens, where the layouts of the source's own types are known. The only fault
@@ -300,23 +329,9 @@ pub fn layout_of_type(
         if is_kind(tokens, at, Kind::Literal) {
             frames.count(text.parse::<usize>().ok());
         } else if is_kind(tokens, at, Kind::Word) && next != ":" {
-            let rule = match own_layout(source, known, text) {
-                Some(layout) => Rule::Own(layout),
-                None => rule_of(text).unwrap_or(Rule::Own(UNKNOWN)),
-            };
-            if next == "<" {
-                frames.open(rule)?;
-            } else {
-                frames.add(layout_of_frame(new_frame(rule)));
-            }
-        } else if text == "(" {
-            frames.open(Rule::Row)?;
-        } else if text == "[" {
-            frames.open(Rule::Array)?;
-        } else if text == ">" || text == ")" || text == "]" {
-            frames.close();
-        } else if text == "&" || text == "," {
-            frames.borrow(text == "&");
+            frames.name(rule_of_name(source, known, text), next == "<")?;
+        } else {
+            frames.mark(text)?;
         }
     }
     match frames.frames.last() {

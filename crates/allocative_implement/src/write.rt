@@ -229,8 +229,8 @@ fn push_part(
     out.push_str(".enter(visitor)\n    }\n}\n")
 }
 
-/// Appends the implementation of `Allocative` for a struct.
-fn push_struct(
+/// Appends what a struct may show.
+fn push_struct_meaning(
     out: &mut String,
     scene: Scene<'_, '_>,
     item: &Item<'_>,
@@ -239,25 +239,52 @@ fn push_struct(
 ) -> Result<(), AllocError> {
     let name = item.name;
     let size = plan.size.as_str();
-    push_tactic(out, plan)?;
-    push_impl(out, &plan.header, "Allocative", whole(item))?;
-    push_constant_use(out, plan, false)?;
     write!(
         out,
         "    ghost may_show = {{ λ x. Inside (codes \"{name}\") {size} ("
     )?;
     push_groups(out, scene, item, fields)?;
-    out.push_str(") };\n\n")?;
+    out.push_str(") };\n\n")
+}
+
+/// Appends the visit of a struct.
+fn push_struct_visit(
+    out: &mut String,
+    item: &Item<'_>,
+    plan: &Plan,
+    fields: &[ShownField<'_>],
+) -> Result<(), AllocError> {
+    let name = item.name;
+    let size = plan.size.as_str();
     out.push_str(VISIT)?;
     let count = push_group_lets(out, item, fields)?;
-    write!(out, "        let key = \"{name}\";\n")?;
-    write!(out, "        Inside(key, {size}, ")?;
+    write!(
+        out,
+        "        let key = \"{name}\";\n        Inside(key, {size}, "
+    )?;
     push_letters(out, 0, count)?;
-    out.push_str(").enter(visitor)\n    }\n}\n")?;
-    if fields.len() > MOST_TOGETHER {
-        for (number, group) in fields.chunks(MOST_TOGETHER).enumerate() {
-            push_part(out, scene, item, plan, number, group)?;
-        }
+    out.push_str(").enter(visitor)\n    }\n}\n")
+}
+
+/// Appends the implementation of `Allocative` for a struct, and those of `Part` for the groups of its fields where it
+/// is large.
+fn push_struct(
+    out: &mut String,
+    scene: Scene<'_, '_>,
+    item: &Item<'_>,
+    plan: &Plan,
+    fields: &[ShownField<'_>],
+) -> Result<(), AllocError> {
+    push_tactic(out, plan)?;
+    push_impl(out, &plan.header, "Allocative", whole(item))?;
+    push_constant_use(out, plan, false)?;
+    push_struct_meaning(out, scene, item, plan, fields)?;
+    push_struct_visit(out, item, plan, fields)?;
+    if fields.len() <= MOST_TOGETHER {
+        return Ok(());
+    }
+    for (number, group) in fields.chunks(MOST_TOGETHER).enumerate() {
+        push_part(out, scene, item, plan, number, group)?;
     }
     Ok(())
 }
@@ -360,8 +387,8 @@ fn push_arm(
     out.push_str(").enter(visitor)\n            }\n")
 }
 
-/// Appends the implementation of `Allocative` for an enum.
-fn push_enum<'a>(
+/// Appends what an enum may show, by variants.
+fn push_enum_meaning<'a>(
     alloc: Global,
     out: &mut String,
     scene: Scene<'_, 'a>,
@@ -370,10 +397,6 @@ fn push_enum<'a>(
 ) -> Result<(), Fault> {
     let name = item.name;
     let size = plan.size.as_str();
-    push_tactic(out, plan)?;
-    push_impl(out, &plan.header, "Allocative", whole(item))?;
-    push_constant_use(out, plan, true)?;
-    push_variants_use(out, item, plan)?;
     write!(
         out,
         "    ghost may_show = {{ λ x. Inside (codes \"{name}\") {size} (elim x [\n"
@@ -388,6 +411,18 @@ fn push_enum<'a>(
         out.push_str("\n")?;
     }
     out.push_str("    ]) };\n\n")?;
+    Ok(())
+}
+
+/// Appends the visit of an enum.
+fn push_enum_visit<'a>(
+    alloc: Global,
+    out: &mut String,
+    scene: Scene<'_, 'a>,
+    item: &Item<'a>,
+    plan: &Plan,
+) -> Result<(), Fault> {
+    let name = item.name;
     out.push_str(VISIT)?;
     write!(
         out,
@@ -399,6 +434,22 @@ fn push_enum<'a>(
     }
     out.push_str("        }\n    }\n}\n")?;
     Ok(())
+}
+
+/// Appends the implementation of `Allocative` for an enum.
+fn push_enum<'a>(
+    alloc: Global,
+    out: &mut String,
+    scene: Scene<'_, 'a>,
+    item: &Item<'a>,
+    plan: &Plan,
+) -> Result<(), Fault> {
+    push_tactic(out, plan)?;
+    push_impl(out, &plan.header, "Allocative", whole(item))?;
+    push_constant_use(out, plan, true)?;
+    push_variants_use(out, item, plan)?;
+    push_enum_meaning(alloc, out, scene, item, plan)?;
+    push_enum_visit(alloc, out, scene, item, plan)
 }
 
 /// Appends the implementation of `Allocative`. The only fault is `Fault::Memory`.

@@ -1,7 +1,7 @@
 //! Types that hold themselves in maps.
 #![tactic(auto, using(allocative::proofs::Parts::parts))]
 
-ghost use Rattle.std.specs.Prelude.{codes, Some, true, length, string_bytes};
+ghost use Rattle.std.specs.Prelude.{codes, Some, true, length, string_bytes, string_capacity};
 ghost use Rattle.allocative.specs.Shows as shows;
 ghost use Rattle.allocative.specs.Bodies.{text_shows};
 ghost use Rattle.allocative.specs.StdShows.{Leaf};
@@ -90,7 +90,7 @@ impl Described for Index {
 
 impl Allocative for Index {
     ghost may_show = { recursive (λ i. inside (codes "Index") 24 (field (codes "words") (Some 24) (btree_map_of
-        (pair_of (Some 24) (λ s. shows.Field (codes "String") (Some 24) (text_shows (length (string_bytes s))))
+        (pair_of (Some 24) (λ s. shows.Field (codes "String") (Some 24) (text_shows (length (string_bytes s)) (string_capacity s)))
         24 child)
         (out-Index i).words.entries))) };
 

@@ -46,7 +46,7 @@ impl Described for Node {
 impl Allocative for Node {
     ghost may_show = { recursive (λ n. inside (codes "Node") 32 (both
         (plain (shows.Field (codes "label") (Some 4) (Leaf (codes "u32") 4)))
-        (field (codes "children") (Some 24) (vec_of 32 child (out-Node n).children.items)))) };
+        (field (codes "children") (Some 24) (vec_of 32 child (out-Node n).children)))) };
 
     fn visit(&self, visitor: &mut Visitor<'_>) -> Result<(), Refusal> {
         let label = Field("label", &self.label);

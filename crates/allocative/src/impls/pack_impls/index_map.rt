@@ -2,6 +2,7 @@
 #![tactic(auto, using(crate::proofs::Parts::parts))]
 
 ghost use Rattle.std.specs.Prelude.{codes};
+ghost use Rattle.indexmap.specs.IndexMap.{spare};
 ghost use Rattle.allocative_graph.specs.Shows as shows;
 ghost use Rattle.allocative.specs.PackShows.{index_map_inside};
 
@@ -17,7 +18,7 @@ use std::hash::Hash;
 impl<K: Allocative + Described + Eq + Hash, V: Allocative + Described> Allocative
     for IndexMap<K, V> {
     ghost may_show = { λ m. shows.Inside (codes "IndexMap") 72
-        (index_map_inside K.size K.may_show V.size V.may_show ⟦<(K, V) as Described>⟧.size m.entries) };
+        (index_map_inside K.size K.may_show V.size V.may_show ⟦<(K, V) as Described>⟧.size m.entries (spare m)) };
 
     fn visit(&self, visitor: &mut Visitor<'_>) -> Result<(), Refusal> {
         let unused = Unused {

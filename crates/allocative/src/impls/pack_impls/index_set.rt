@@ -2,6 +2,7 @@
 #![tactic(auto, using(crate::proofs::Parts::parts))]
 
 ghost use Rattle.std.specs.Prelude.{codes};
+ghost use Rattle.indexmap.specs.IndexSet.{spare};
 ghost use Rattle.allocative_graph.specs.Shows as shows;
 ghost use Rattle.allocative.specs.PackShows.{index_set_inside};
 
@@ -15,7 +16,7 @@ use indexmap::IndexSet;
 use std::hash::Hash;
 
 impl<T: Allocative + Described + Eq + Hash> Allocative for IndexSet<T> {
-    ghost may_show = { λ s. shows.Inside (codes "IndexSet") 72 (index_set_inside T.size T.may_show s.keys) };
+    ghost may_show = { λ s. shows.Inside (codes "IndexSet") 72 (index_set_inside T.size T.may_show s.keys (spare s)) };
 
     fn visit(&self, visitor: &mut Visitor<'_>) -> Result<(), Refusal> {
         let unused = Unused {

@@ -1,7 +1,8 @@
 //! Vectors, deques, and maps and sets of `std`.
 #![tactic(auto, using(crate::proofs::Parts::parts))]
 
-ghost use Rattle.std.specs.Prelude.{codes, length, Some};
+ghost use Rattle.std.specs.Prelude.{codes, length, vec_capacity, Some};
+ghost use Rattle.std.specs.VecDeque.{deque_capacity};
 ghost use Rattle.allocative_graph.specs.Shows as shows;
 ghost use Rattle.allocative.specs.Bodies.{buffer_shows, cut_shows};
 ghost use Rattle.allocative.specs.Runs.{field_of, pair_shows};
@@ -19,7 +20,8 @@ use std::hash::Hash;
 
 impl<T: Allocative + Described> Allocative for Vec<T> {
     ghost may_show = { λ v. shows.Field (codes "Vec") (Some 24)
-        (buffer_shows T.size (shows.slice_shows T.name T.size T.needs_drop T.may_show v.items) (length v.items)) };
+        (buffer_shows T.size (shows.slice_shows T.name T.size T.needs_drop T.may_show v.items) (length v.items)
+        (vec_capacity v)) };
 
     fn visit(&self, visitor: &mut Visitor<'_>) -> Result<(), Refusal> {
         let buffer = Buffer {
@@ -34,7 +36,8 @@ impl<T: Allocative + Described> Allocative for Vec<T> {
 
 impl<T: Allocative + Described> Allocative for VecDeque<T> {
     ghost may_show = { λ d. shows.Field (codes "VecDeque") (Some 32)
-        (buffer_shows T.size (cut_shows T.name T.size T.needs_drop T.may_show d.items) (length d.items)) };
+        (buffer_shows T.size (cut_shows T.name T.size T.needs_drop T.may_show d.items) (length d.items)
+        (deque_capacity d)) };
 
     fn visit(&self, visitor: &mut Visitor<'_>) -> Result<(), Refusal> {
         let (front, back) = self.as_slices();

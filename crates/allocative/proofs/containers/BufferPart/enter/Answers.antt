@@ -1,7 +1,7 @@
 -- The three cases of a buffer, and an item without a size.
-use Rattle.std.proofs.Common.{arith, ◌≡◌, ◌<◌}
+use Rattle.std.proofs.Common.{arith, rules, ◌≡◌, ◌+◌, ◌<◌}
 use Rattle.allocative.proofs.Meaning.{entered_as, entered_none, entered_refused}
-use Rattle.allocative.proofs.Bodies.{means_without_size, means_without_items, means_with_room}
+use Rattle.allocative.proofs.Bodies.{means_without_size, means_without_room, means_with_room}
 use Rattle.allocative.proofs.containers.BufferPart.enter.Goals as goal
 
 pub returns-in_default : goal.returns-in_default
@@ -13,9 +13,11 @@ returns-then-size-eq0 g c = entered_none _ (means_without_size c.in-Some.is c.if
 pub returns-then-self-eq0-2 : goal.returns-then-self-eq0-2
 returns-then-self-eq0-2 g c =
     let none : c.args.self.count ≡ 0 = omega arith in
-    entered_none _ (means_without_items c.in-Some.is none)
+    let full : c.args.self.capacity ≡ 0 = omega arith in
+    entered_none _ (means_without_room c.in-Some.is none full)
 
 pub returns : goal.returns
 returns g c =
     let some : 0 < c.in-Some.size = omega arith in
-    entered_as c.enter.ensures (means_with_room _ c.in-Some.is some)
+    let room : 0 < c.args.self.count + c.args.self.capacity = omega arith in
+    entered_as c.enter.ensures (means_with_room c.in-Some.is some room (search rules))

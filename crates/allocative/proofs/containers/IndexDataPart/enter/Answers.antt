@@ -1,6 +1,0 @@
-use Rattle.allocative.specs.PackShows.{with_unused}
-use Rattle.allocative.proofs.Meaning.{entered_as}
-use Rattle.allocative.proofs.containers.IndexDataPart.enter.Goals as goal
-
-pub returns : goal.returns
-returns g c = entered_as c.enter.ensures (record { means = λ f h. with_unused _ h })
