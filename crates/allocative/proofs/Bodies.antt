@@ -5,10 +5,10 @@ use Rattle.allocative_graph.specs.declared.refusal.Refusal.{Refusal}
 use Rattle.allocative_graph.specs.Path.{Key}
 use Rattle.allocative_graph.specs.Forest.{Forest}
 use Rattle.allocative_graph.specs.Shows.{Showing, Nothing, Both, Inside, InsideUnique, IsField, sized, each_shows, slice_shows}
-use Rattle.allocative.specs.Bodies.{are_shown_each, bytes_shown, buffer_entry, without_size, without_room, with_room, buffer_shows, some_buffer_shows, text_shows, some_text_shows, table_shows}
+use Rattle.allocative.specs.Bodies.{are_shown_each, bytes_shown, buffer_entry, without_size, without_room, with_room, buffer_shows, some_buffer_shows, is_text, text_shows, some_text_shows, table_shows}
 use Rattle.allocative.specs.declared.visitor.Visitor.{Visitor}
 use Rattle.allocative.specs.Visited.{Entered, Means}
-use Rattle.allocative.proofs.Meaning.{entered_as, means_same}
+use Rattle.allocative.proofs.Meaning.{entered_as}
 
 -- ---- slices
 field_of_product : (k : Key) (p : Showing) (m : ℕ) (b : Bool) (f : Forest) → IsField k p (if b then Some m else None) f → Inside k m p f
@@ -56,7 +56,7 @@ means_some_buffer {size} {p} {n} {c} h =
 -- ---- texts
 pub means_text : {n l m c u : ℕ} → n ≡ l → m ≡ c → u ≡ c - l →
     Means (InsideUnique (codes "ptr") 8 (Inside (codes "capacity") m (Both (Inside (codes "u8") n Nothing) (Inside (codes "unused_capacity") u Nothing)))) (text_shows l c)
-means_text i j k = rw (i, j, k) means_same
+means_text i j k = rw (i, j, k) (record { means = λ f x. is_text x })
 
 -- A text with room for c bytes is one with room for some number of bytes.
 pub means_some_text : {n c : ℕ} → n ≤ c → Means (text_shows n c) (some_text_shows n)

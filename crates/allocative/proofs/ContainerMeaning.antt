@@ -1,13 +1,13 @@
 -- How the showing of a container follows from its parts.
-use Rattle.std.proofs.Common.{codes, ◌≡◌, ℕ, Bool, List, Option, refl}
+use Rattle.std.proofs.Common.{codes, ◌≡◌, ℕ, Bool, List, Option}
 use Rattle.smallvec.specs.SmallVec.{SmallVec, IsSpilled}
 use Rattle.allocative_graph.specs.Path.{Key}
 use Rattle.allocative_graph.specs.Forest.{Forest}
 use Rattle.allocative_graph.specs.Shows.{Showing, Nothing, InsideUnique}
 use Rattle.allocative.specs.Bodies.{IsBuffer, without_size, without_room, with_room, buffer_shows, cut_shows, data_shows, table_shows}
-use Rattle.allocative.specs.PackShows.{once_inside, is_not_set, is_set, small_vec_inside, lies_inline, is_spilled, index_data_shows}
+use Rattle.allocative.specs.PackShows.{once_inside, is_not_set, is_set, small_vec_inside, lies_inline, is_spilled, index_data_shows, IsIndexData, is_index_data}
 use Rattle.allocative.specs.Visited.{Means}
-use Rattle.allocative.proofs.Meaning.{means_same, means_unique, means_both}
+use Rattle.allocative.proofs.Meaning.{means_same}
 
 -- ---- buffers
 in_buffer : {p q : Showing} (y : Option ℕ) (n c : ℕ) → Means p q → (f : Forest) → IsBuffer p n c y f → IsBuffer q n c y f
@@ -23,8 +23,11 @@ pub means_cut : {T : Type 0} {name : Key} {size : Option ℕ} {needs_drop : Bool
 means_cut e = rw e means_same
 
 -- ---- containers in order of insertion
+in_index_data : {p q : Showing} (y : Option ℕ) (u : ℕ) → Means p q → (f : Forest) → IsIndexData y p u f → IsIndexData y q u f
+in_index_data y u m f (is_index_data (g, (h, k, shown, unused, i), e)) = is_index_data (g, (h, k, m.means h shown, unused, i), e)
+
 pub means_index_data : {y z : Option ℕ} {u w : ℕ} {p q : Showing} → y ≡ z → u ≡ w → Means p q → Means (index_data_shows y p u) (index_data_shows z q w)
-means_index_data e i m = rw (e, i) (means_unique refl (means_both m means_same))
+means_index_data {z = z} {w = w} e i m = rw (e, i) (record { means = λ f x. in_index_data z w m f x })
 
 pub means_table : {n l : ℕ} → n ≡ l → Means (table_shows n) (table_shows l)
 means_table e = rw e means_same

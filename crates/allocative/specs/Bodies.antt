@@ -29,9 +29,9 @@ vec_body name size needs_drop p xs n =
 abbrev pub buffer_entry : Option ℕ → Showing → ℕ → Showing
 buffer_entry size p unused = InsideUnique (codes "ptr") 8 (Both p (bytes_shown (codes "unused_capacity") size unused))
 
--- What a container shows of the buffer of its n items of a declared size, with room for `capacity` items: no entry where
--- the items have size 0, or where there is neither an item nor room for one; otherwise a buffer, whose unused places are
--- those that no item takes. Where there is no size, there is no forest.
+-- What a container shows of the buffer of its n items of a declared size, with room for `capacity` items: no entry
+-- where the items have size 0, or where there is neither an item nor room for one; otherwise a buffer, whose unused
+-- places are those that no item takes. Where there is no size, there is no forest.
 pub data IsBuffer (p : Showing) (n capacity : ℕ) : Option ℕ → Forest → Type 0 where
   without_size : {f : Forest} → f ≡ Empty → IsBuffer p n capacity (Some 0) f
   without_room : {s : ℕ} {f : Forest} → n ≡ 0 → capacity ≡ 0 → f ≡ Empty → IsBuffer p n capacity (Some s) f
@@ -58,12 +58,17 @@ pub data IsCut {T : Type 0} (name : Key) (size : Option ℕ) (needs_drop : Bool)
 abbrev pub cut_shows : {T : Type 0} → Key → Option ℕ → Bool → (T → Showing) → List T → Showing
 cut_shows name size needs_drop p xs = IsCut name size needs_drop p xs
 
--- The buffer of a text of n bytes, with room for `capacity` bytes.
+-- What a text of n bytes shows of its buffer, with room for `capacity` bytes: a unique entry of a pointer's bytes,
+-- inside it an entry of the capacity, and inside that one of the text's bytes and one of the bytes that are left.
+pub data IsText (n capacity : ℕ) : Forest → Type 0 where
+  is_text : {f : Forest}
+      → InsideUnique (codes "ptr") 8 (Inside (codes "capacity") capacity
+      (Both (Inside (codes "u8") n Nothing) (Inside (codes "unused_capacity") (capacity - n) Nothing))) f
+      → IsText n capacity f
+
+-- The showing of the buffer of a text of n bytes, with room for `capacity` bytes.
 abbrev pub text_shows : ℕ → ℕ → Showing
-text_shows n capacity =
-    InsideUnique (codes "ptr") 8
-    (Inside (codes "capacity") capacity
-    (Both (Inside (codes "u8") n Nothing) (Inside (codes "unused_capacity") (capacity - n) Nothing)))
+text_shows n capacity = IsText n capacity
 
 -- The buffer of a text of n bytes, with room for any number of bytes more: of a value whose capacity contracts do not
 -- see.

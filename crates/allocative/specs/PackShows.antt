@@ -43,9 +43,14 @@ slab_inside name size needs_drop p s =
 
 -- The data of a container in insertion order: a unique entry with what p shows, and the entry of the bytes of so many
 -- unused places for items of a declared size.
+pub data IsIndexData (size : Option ℕ) (p : Showing) (unused : ℕ) : Forest → Type 0 where
+  is_index_data : {f : Forest}
+      → InsideUnique (codes "data") 8 (Both p (bytes_shown (codes "unused_capacity") size unused)) f
+      → IsIndexData size p unused f
+
+-- The showing of the data of a container in insertion order.
 abbrev pub index_data_shows : Option ℕ → Showing → ℕ → Showing
-index_data_shows size p unused =
-    InsideUnique (codes "data") 8 (Both p (bytes_shown (codes "unused_capacity") size unused))
+index_data_shows size p unused = IsIndexData size p unused
 
 -- What is inside the own entry of an `IndexMap` with keys, values and pairs of declared sizes, and so many unused places.
 abbrev pub index_map_inside : {K V : Type 0} → Option ℕ → (K → Showing) → Option ℕ → (V → Showing) → Option ℕ

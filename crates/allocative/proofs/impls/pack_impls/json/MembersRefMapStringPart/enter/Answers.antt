@@ -15,7 +15,7 @@ loop-key-preserved g c =
       done ++ e ∷ [],
       l.invariant.1 ∙ ap (λ es. done ++ es) c.in-Some.ensures.steps ∙ sym (append_assoc done (e ∷ []) c.next.new.self),
       entered_snoc (member_shows g.V.Allocative.may_show) done e l.invariant.2
-      (entered_as c.in_ok-enter.ensures (means_both (means_field refl refl (means_string e.0)) means_same)),
+          (entered_as c.in_ok-enter.ensures (means_both (means_field refl refl (means_string e.0)) means_same)),
     )
 
 pub returns : goal.returns
