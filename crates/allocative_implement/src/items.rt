@@ -451,8 +451,8 @@ fn read_variants<'a>(
     Ok(bodies)
 }
 
-/// The bounds after the `where` at an index, and the index of the token that ends them.
-fn read_bounds(tokens: &[Token<'_>], at: usize, end: &str) -> (Span, usize) {
+/// The bounds after the `where` at an index, and the index of the token that ends them, which is a `{` or a `;`.
+fn read_bounds(tokens: &[Token<'_>], at: usize) -> (Span, usize) {
     if text_at(tokens, at) != "where" {
         return (Span { from: at, to: at }, at);
     }
@@ -460,14 +460,10 @@ fn read_bounds(tokens: &[Token<'_>], at: usize, end: &str) -> (Span, usize) {
         from: at.saturating_add(1),
         to: tokens.len(),
     };
-    let to = find(tokens, rest, end);
-    (
-        Span {
-            from: rest.from,
-            to,
-        },
-        to,
-    )
+    let open = find(tokens, rest, "{");
+    let before = Span { to: open, ..rest };
+    let to = find(tokens, before, ";");
+    (Span { to, ..rest }, to)
 }
 
 /// Reads the parameters of a type at an index. It returns them and the index after them. The fault is `Fault::Bracket`
@@ -514,14 +510,14 @@ fn read_rest<'a>(
     if !is_enum && text_at(tokens, at) == "(" {
         let mut bodies = Vec::new(alloc);
         bodies.push(read_body(alloc, tokens, name, at, trouble)?)?;
-        let (bounds, end) = read_bounds(tokens, behind(tokens, at), ";");
+        let (bounds, end) = read_bounds(tokens, behind(tokens, at));
         return Ok(Rest {
             bounds,
             bodies,
             end,
         });
     }
-    let (bounds, open) = read_bounds(tokens, at, "{");
+    let (bounds, open) = read_bounds(tokens, at);
     let end = behind(tokens, open).saturating_sub(1);
     let bodies = if is_enum {
         let from = open.saturating_add(1);

@@ -300,7 +300,16 @@ fn a_type_by_name_and_none_that_is_not_there(rt: HostRuntime) -> Result<(), Fail
 }
 
 #[test]
-fn words_are_read(rt: HostRuntime) -> Result<(), AllocError> {
+fn a_unit_struct_with_bounds_ends_at_its_semicolon(rt: HostRuntime) -> Result<(), Fail> {
+    let place = place_of(FILE).ok_or("a place")?;
+    let source = "struct A<const N: usize> where [u8; N]: Sized; struct B { b: u16 }";
+    let made = implement(rt.alloc(), &place, Form::Module, source, &[])?;
+    assert!(rt; made.text.as_str().contains("for B {"));
+    Ok(())
+}
+
+#[test]
+fn arguments_are_read(rt: HostRuntime) -> Result<(), AllocError> {
     let alloc = rt.alloc();
     let mut arguments = Vec::new(alloc);
     assert!(rt; read_arguments(arguments.as_slice()).err() == Some(Fault::Arguments));
