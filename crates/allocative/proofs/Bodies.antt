@@ -1,13 +1,21 @@
 -- Lemmas for the helpers of slices, and for the parts of buffers and tables.
-use Rattle.std.proofs.Common.{codes, if◌then◌else◌, Bool, true, false, length, List, Option, None, Some, ◌≡◌, ℕ, ◌+◌, ◌-◌, ◌*◌, ◌<◌, ◌≤◌, Result, inl, subst, arith}
+use Rattle.std.proofs.Common.{codes, if◌then◌else◌, Bool, true, false, length, List, Option, None, Some, ◌≡◌, ℕ, ◌+◌, ◌-◌, ◌*◌, ◌<◌, ◌≤◌, ◌^◌, Result, inl, inr, subst, arith}
 use Rattle.std.proofs.lemmas.Bool.{false≢true}
+use Rattle.std.proofs.lemmas.Bool.Decides.{nat_tests}
+use Rattle.allocative_described.specs.Sizes.{checked}
+use Rattle.allocative_described.specs.RawTable.{IsRawTableSize}
+use Rattle.allocative_described.proofs.Buckets.{raw_table_size_same}
 use Rattle.allocative_graph.specs.declared.refusal.Refusal.{Refusal}
 use Rattle.allocative_graph.specs.Path.{Key}
 use Rattle.allocative_graph.specs.Forest.{Forest}
-use Rattle.allocative_graph.specs.Shows.{Showing, Nothing, Both, Inside, InsideUnique, IsField, sized, each_shows, slice_shows}
+use Rattle.allocative_graph.specs.Collector.{Kind}
+use Rattle.allocative_graph.specs.Shows.{Showing, Nothing, Both, Inside, InsideUnique, Field, IsField, sized, each_shows, slice_shows}
 use Rattle.allocative.specs.Bodies.{are_shown_each, bytes_shown, buffer_entry, without_size, without_room, with_room, buffer_shows, some_buffer_shows, is_text, text_shows, some_text_shows, table_shows}
+use Rattle.allocative.specs.Exact.{IsDeclared, CanTake}
 use Rattle.allocative.specs.declared.visitor.Visitor.{Visitor}
 use Rattle.allocative.specs.Visited.{Entered, Means}
+use Rattle.allocative.proofs.Exact.{declared_nothing, declared_entry, entry_fits, rightly_as}
+use Rattle.allocative.proofs.Showing.{shows_weaker}
 use Rattle.allocative.proofs.Meaning.{entered_as}
 
 -- ---- slices
@@ -24,46 +32,99 @@ pub plain_slice : {T : Type 0} (name : Key) (size : Option ℕ) (needs_drop : Bo
 plain_slice name None needs_drop p xs e f h = none_of_it h
 plain_slice name (Some s) needs_drop p xs e f h = rw (e, slice_shows) (field_of_product name Nothing (s * length xs) _ f h)
 
-pub entered_plain : {T : Type 0} (name : Key) (size : Option ℕ) (needs_drop : Bool) (p : T → Showing) (xs : List T) {a b : Visitor} {r : Result (Unit {0}) Refusal} →
-    are_shown_each needs_drop size ≡ false → Entered (bytes_shown name size (length xs)) a b r → Entered (slice_shows name size needs_drop p xs) a b r
-entered_plain name size needs_drop p xs e s = entered_as s (record { means = plain_slice name size needs_drop p xs e })
+-- Bytes that fit a word are those that are computed.
+checked_fits : (n : ℕ) → n < 2 ^ 64 → checked n ≡ Some n
+checked_fits n h = grind (arith, nat_tests, h)
+
+entry_declared : (k : Key) (m : ℕ) (size : Option ℕ) → size ≡ Some m → IsDeclared (Field k size Nothing)
+entry_declared k m size e = rw e (let d = declared_entry false k m declared_nothing in (d.0, sized d.1, d.2))
+
+plain_declared : {T : Type 0} (name : Key) (size : Option ℕ) (needs_drop : Bool) (p : T → Showing) (xs : List T) → are_shown_each needs_drop size ≡ false →
+    (b : Kind) → CanTake b (slice_shows name size needs_drop p xs) → IsDeclared (bytes_shown name size (length xs))
+plain_declared name None needs_drop p xs e b (d, room) = absurd d.1
+plain_declared name (Some s) needs_drop p xs e b w =
+    let w' : CanTake b (Inside name (s * length xs) Nothing) = rw (e, slice_shows) at w in
+    entry_declared name (s * length xs) (checked (s * length xs)) (checked_fits (s * length xs) (entry_fits false name (s * length xs) b w'))
+
+pub entered_plain : {T : Type 0} {x : Bool} (name : Key) (size : Option ℕ) (needs_drop : Bool) (p : T → Showing) (xs : List T) {a b : Visitor} {r : Result (Unit {0}) Refusal} →
+    are_shown_each needs_drop size ≡ false → Entered x (bytes_shown name size (length xs)) a b r → Entered x (slice_shows name size needs_drop p xs) a b r
+entered_plain name size needs_drop p xs e s = record {
+  same_reference = s.same_reference;
+  same_outer = s.same_outer;
+  shown = shows_weaker (plain_slice name size needs_drop p xs e) s.shown;
+  cause = s.cause;
+  rightly = λ i. rightly_as (plain_slice name size needs_drop p xs e) (plain_declared name size needs_drop p xs e) (s.rightly i);
+}
 
 pub each_slice : {T : Type 0} (name : Key) (size : Option ℕ) (needs_drop : Bool) (p : T → Showing) (xs : List T) → are_shown_each needs_drop size ≡ true →
     (f : Forest) → each_shows p xs f → slice_shows name size needs_drop p xs f
 each_slice name None needs_drop p xs e f h = absurd (false≢true e)
 each_slice name (Some s) needs_drop p xs e f h = rw (e, slice_shows) h
 
-pub entered_one_by_one : {T : Type 0} (name : Key) (size : Option ℕ) (needs_drop : Bool) (p : T → Showing) (xs : List T) {a b : Visitor} {r : Result (Unit {0}) Refusal} →
-    are_shown_each needs_drop size ≡ true → Entered (each_shows p xs) a b r → Entered (slice_shows name size needs_drop p xs) a b r
-entered_one_by_one name size needs_drop p xs e s = entered_as s (record { means = each_slice name size needs_drop p xs e })
+each_declared : {T : Type 0} (name : Key) (size : Option ℕ) (needs_drop : Bool) (p : T → Showing) (xs : List T) → are_shown_each needs_drop size ≡ true →
+    IsDeclared (slice_shows name size needs_drop p xs) → IsDeclared (each_shows p xs)
+each_declared name None needs_drop p xs e d = absurd (false≢true e)
+each_declared name (Some s) needs_drop p xs e d = rw (e, slice_shows) at d
+
+pub entered_one_by_one : {T : Type 0} {x : Bool} (name : Key) (size : Option ℕ) (needs_drop : Bool) (p : T → Showing) (xs : List T) {a b : Visitor} {r : Result (Unit {0}) Refusal} →
+    are_shown_each needs_drop size ≡ true → Entered x (each_shows p xs) a b r → Entered x (slice_shows name size needs_drop p xs) a b r
+entered_one_by_one name size needs_drop p xs e s =
+    entered_as s (record { means = each_slice name size needs_drop p xs e; declared = λ i d. each_declared name size needs_drop p xs e d })
 
 -- ---- buffers
-pub means_without_size : {p : Showing} {n c s : ℕ} {size : Option ℕ} → size ≡ Some s → s ≡ 0 → Means Nothing (buffer_shows size p n c)
-means_without_size e z = rw (e, z) (record { means = λ f h. without_size h })
+pub means_without_size : {x : Bool} {p : Showing} {n c s : ℕ} {size : Option ℕ} → size ≡ Some s → s ≡ 0 → Means x Nothing (buffer_shows size p n c)
+means_without_size e z = rw (e, z) (record { means = λ f h. without_size h; declared = λ i d. declared_nothing })
 
-pub means_without_room : {p : Showing} {n c s : ℕ} {size : Option ℕ} → size ≡ Some s → n ≡ 0 → c ≡ 0 → Means Nothing (buffer_shows size p n c)
-means_without_room e z y = rw e (record { means = λ f h. without_room z y h })
+pub means_without_room : {x : Bool} {p : Showing} {n c s : ℕ} {size : Option ℕ} → size ≡ Some s → n ≡ 0 → c ≡ 0 → Means x Nothing (buffer_shows size p n c)
+means_without_room e z y = rw e (record { means = λ f h. without_room z y h; declared = λ i d. declared_nothing })
 
-pub means_with_room : {p : Showing} {n c s u : ℕ} {size : Option ℕ} → size ≡ Some s → 0 < s → 0 < n + c → u ≡ c - n → Means (buffer_entry size p u) (buffer_shows size p n c)
-means_with_room e z y i = rw (e, i) (record { means = λ f g. with_room z y g })
+-- Where there is room, a buffer is declared only as its entry.
+room_declared : {p : Showing} {n c s : ℕ} → 0 < s → 0 < n + c → IsDeclared (buffer_shows (Some s) p n c) → IsDeclared (buffer_entry (Some s) p (c - n))
+room_declared h l (f, without_size e, d) = absurd (omega (arith, h))
+room_declared h l (f, without_room y z e, d) = absurd (omega (arith, l, y, z))
+room_declared h l (f, with_room y z x, d) = (f, x, d)
+
+pub means_with_room : {x : Bool} {p : Showing} {n c s u : ℕ} {size : Option ℕ} → size ≡ Some s → 0 < s → 0 < n + c → u ≡ c - n → Means x (buffer_entry size p u) (buffer_shows size p n c)
+means_with_room e z y i = rw (e, i) (record { means = λ f g. with_room z y g; declared = λ j d. room_declared z y d })
+
+-- Items without a size have no buffer.
+pub no_buffer : {p : Showing} {n c : ℕ} {size : Option ℕ} → size ≡ None → IsDeclared (buffer_shows size p n c) → ⊥
+no_buffer {p} {n} {c} e d = in_none (subst (λ (y : Option ℕ). IsDeclared (buffer_shows y p n c)) e d)
+  where
+    in_none : IsDeclared (buffer_shows None p n c) → ⊥
+    in_none (f, x, s) = elim x [ ]
 
 -- A buffer with room for c items is one with room for some number of items.
-pub means_some_buffer : {size : Option ℕ} {p : Showing} {n c : ℕ} → n ≤ c → Means (buffer_shows size p n c) (some_buffer_shows size p n)
+pub means_some_buffer : {size : Option ℕ} {p : Showing} {n c : ℕ} → n ≤ c → Means false (buffer_shows size p n c) (some_buffer_shows size p n)
 means_some_buffer {size} {p} {n} {c} h =
     let e : c ≡ n + (c - n) = omega (arith, h) in
-    record { means = λ f x. (c - n, subst (λ (m : ℕ). buffer_shows size p n m f) e x) }
+    record { means = λ f x. (c - n, subst (λ (m : ℕ). buffer_shows size p n m f) e x); declared = λ i d. absurd (false≢true i) }
 
 -- ---- texts
-pub means_text : {n l m c u : ℕ} → n ≡ l → m ≡ c → u ≡ c - l →
-    Means (InsideUnique (codes "ptr") 8 (Inside (codes "capacity") m (Both (Inside (codes "u8") n Nothing) (Inside (codes "unused_capacity") u Nothing)))) (text_shows l c)
-means_text i j k = rw (i, j, k) (record { means = λ f x. is_text x })
+pub means_text : {x : Bool} {n l m c u : ℕ} → n ≡ l → m ≡ c → u ≡ c - l →
+    Means x (InsideUnique (codes "ptr") 8 (Inside (codes "capacity") m (Both (Inside (codes "u8") n Nothing) (Inside (codes "unused_capacity") u Nothing)))) (text_shows l c)
+means_text i j k = rw (i, j, k) (record { means = λ f x. is_text x; declared = λ h d. text_declared d })
+  where
+    text_declared : {l c : ℕ} → IsDeclared (text_shows l c) →
+        IsDeclared (InsideUnique (codes "ptr") 8 (Inside (codes "capacity") c (Both (Inside (codes "u8") l Nothing) (Inside (codes "unused_capacity") (c - l) Nothing))))
+    text_declared (f, is_text x, s) = (f, x, s)
 
 -- A text with room for c bytes is one with room for some number of bytes.
-pub means_some_text : {n c : ℕ} → n ≤ c → Means (text_shows n c) (some_text_shows n)
+pub means_some_text : {n c : ℕ} → n ≤ c → Means false (text_shows n c) (some_text_shows n)
 means_some_text {n} {c} h =
     let e : c ≡ n + (c - n) = omega (arith, h) in
-    record { means = λ f x. (c - n, subst (λ (m : ℕ). text_shows n m f) e x) }
+    record { means = λ f x. (c - n, subst (λ (m : ℕ). text_shows n m f) e x); declared = λ i d. absurd (false≢true i) }
 
 -- ---- tables
-pub means_no_table : {n : ℕ} → n ≡ 0 → Means Nothing (table_shows n)
-means_no_table e = record { means = λ f h. inl (e, h) }
+pub means_no_table : {x : Bool} {n : ℕ} → n ≡ 0 → Means x Nothing (table_shows n)
+means_no_table e = record { means = λ f h. inl (e, h); declared = λ i d. declared_nothing }
+
+-- The table of some items is declared only with its one size.
+table_declared : {n : ℕ} {bytes : Option ℕ} → 0 < n → IsRawTableSize (Some 8) n bytes → IsDeclared (table_shows n) → IsDeclared (InsideUnique (codes "raw_table") 8 (Field (codes "alloc") bytes Nothing))
+table_declared h is (f, inl (none, x), s) = absurd (omega (arith, h, none))
+table_declared {n} {bytes} h is (f, inr (some, (b, of, x)), s) =
+    let e : b ≡ bytes = raw_table_size_same (Some 8) n b bytes of is in
+    (f, subst (λ (y : Option ℕ). InsideUnique (codes "raw_table") 8 (Field (codes "alloc") y Nothing) f) e x, s)
+
+pub means_some_table : {x : Bool} {n : ℕ} {bytes : Option ℕ} → 0 < n → IsRawTableSize (Some 8) n bytes → Means x (InsideUnique (codes "raw_table") 8 (Field (codes "alloc") bytes Nothing)) (table_shows n)
+means_some_table {bytes = bytes} h is = record { means = λ f x. inr (h, (bytes, is, x)); declared = λ i d. table_declared h is d }

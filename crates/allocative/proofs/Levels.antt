@@ -1,29 +1,34 @@
 -- What a level shows of values of any number of levels is what a value of any number of levels shows.
 use Rattle.std.proofs.Common.{◌≡◌, ℕ, Bool, true, false, codes, zero, suc, ◌+◌, ◌-◌, List, [], ◌∷◌, Option, None, Some, refl, arith}
 use Rattle.std.proofs.Math.Nat.{add_comm}
+use Rattle.std.proofs.lemmas.Bool.{false≢true}
 use Rattle.allocative_graph.specs.Path.{Key}
 use Rattle.allocative_graph.specs.Forest.{Forest}
 use Rattle.allocative_graph.specs.Shows.{Showing, IsField, sized, each_shows, InsideAs, Both}
 use Rattle.allocative.specs.Bodies.{IsBuffer, bytes_shown, without_size, without_room, with_room}
 use Rattle.allocative.specs.StdShows.{option_inside, in_any_order}
+use Rattle.allocative.specs.Exact.{IsDeclared, ShowsContents}
 use Rattle.allocative.specs.Visited.{Means}
 use Rattle.allocative.specs.Levels.{Level, plain, child, both, inside, unique, field, buffer, optional, each, unordered, level_shows, levels_shown, recursive}
 use Rattle.allocative.proofs.Meaning.{means_same, means_inside, means_unique, means_field, means_both}
 use Rattle.allocative.proofs.ContainerMeaning.{means_buffer}
 
 -- ---- where p allows less than q
-pub means_each : {A : Type 0} {p q : A → Showing} → ((x : A) → Means (p x) (q x)) → (xs : List A) → Means (each_shows p xs) (each_shows q xs)
+pub means_each : {A : Type 0} {e : Bool} {p q : A → Showing} → ((x : A) → Means e (p x) (q x)) → (xs : List A) → Means e (each_shows p xs) (each_shows q xs)
 means_each m [] = means_same
 means_each m (x ∷ xs) = means_both (m x) (means_each m xs)
 
-pub means_unordered : {A : Type 0} {p q : A → Showing} → ((x : A) → Means (p x) (q x)) → (xs : List A) → Means (in_any_order p xs) (in_any_order q xs)
-means_unordered m xs = record { means = λ f x. (x.0, x.1, (means_each m x.0).means f x.2) }
+pub means_unordered : {A : Type 0} {e : Bool} {p q : A → Showing} → ((x : A) → Means e (p x) (q x)) → (xs : List A) → Means e (in_any_order p xs) (in_any_order q xs)
+means_unordered m xs = record {
+  means = λ f x. (x.0, x.1, (means_each m x.0).means f x.2);
+  declared = λ h d. let y = (means_each m d.1.0).declared h (d.0, d.1.2, d.2) in (y.0, (d.1.0, d.1.1, y.1), y.2);
+}
 
-pub means_optional : {A : Type 0} (y : Option ℕ) {p q : A → Showing} → ((x : A) → Means (p x) (q x)) → (o : Option A) → Means (option_inside y p o) (option_inside y q o)
+pub means_optional : {A : Type 0} {e : Bool} (y : Option ℕ) {p q : A → Showing} → ((x : A) → Means e (p x) (q x)) → (o : Option A) → Means e (option_inside y p o) (option_inside y q o)
 means_optional y m None = means_same
 means_optional y m (Some x) = means_field refl refl (m x)
 
-means_level : {T : Type 0} {p q : T → Showing} → ((x : T) → Means (p x) (q x)) → (l : Level T) → Means (level_shows p l) (level_shows q l)
+means_level : {T : Type 0} {e : Bool} {p q : T → Showing} → ((x : T) → Means e (p x) (q x)) → (l : Level T) → Means e (level_shows p l) (level_shows q l)
 means_level m (plain s) = means_same
 means_level m (child x) = m x
 means_level m (both a b) = means_both (means_level m a) (means_level m b)
@@ -36,15 +41,15 @@ means_level m (each w xs) = means_each (λ x. means_level m (w x)) xs
 means_level m (unordered w xs) = means_unordered (λ x. means_level m (w x)) xs
 
 -- ---- more levels allow more
-levels_step : {T : Type 0} (w : T → Level T) (k : ℕ) (x : T) → Means (levels_shown w k x) (levels_shown w (suc k) x)
-levels_step w zero x = record { means = λ f y. absurd y }
+levels_step : {T : Type 0} (w : T → Level T) (k : ℕ) (x : T) → Means false (levels_shown w k x) (levels_shown w (suc k) x)
+levels_step w zero x = record { means = λ f y. absurd y; declared = λ h d. absurd (false≢true h) }
 levels_step w (suc k) x = means_level (levels_step w k) (w x)
 
-levels_more : {T : Type 0} (w : T → Level T) (k j : ℕ) (x : T) → Means (levels_shown w k x) (levels_shown w (k + j) x)
+levels_more : {T : Type 0} (w : T → Level T) (k j : ℕ) (x : T) → Means false (levels_shown w k x) (levels_shown w (k + j) x)
 levels_more w k zero x = let e : k + 0 ≡ k = omega arith in rw e means_same
 levels_more w k (suc j) x =
     let e : k + suc j ≡ suc (k + j) = omega arith in
-    rw e (record { means = λ f y. (levels_step w (k + j) x).means f ((levels_more w k j x).means f y) })
+    rw e (record { means = λ f y. (levels_step w (k + j) x).means f ((levels_more w k j x).means f y); declared = λ h d. absurd (false≢true h) })
 
 -- ---- one number of levels is enough for all parts
 -- The parts of q, each with some number of levels.
@@ -57,13 +62,13 @@ inside_found u k n s f (g, x, e) = let m = s g x in (m.0, (g, m.1, e))
 field_found : (k : Key) (y : Option ℕ) {p : ℕ → Showing} {q : Showing} → Found p q → (f : Forest) → IsField k q y f → (i : ℕ) × IsField k (p i) y f
 field_found k y s f (sized {n} x) = let m = inside_found false k n s f x in (m.0, sized m.1)
 
-both_found : {p r : ℕ → Showing} {q s : Showing} → ((k j : ℕ) → Means (p k) (p (k + j))) → ((k j : ℕ) → Means (r k) (r (k + j))) → Found p q → Found r s → Found (λ k. Both (p k) (r k)) (Both q s)
+both_found : {p r : ℕ → Showing} {q s : Showing} → ((k j : ℕ) → Means false (p k) (p (k + j))) → ((k j : ℕ) → Means false (r k) (r (k + j))) → Found p q → Found r s → Found (λ k. Both (p k) (r k)) (Both q s)
 both_found more_p more_r a b f (g, h, x, y, e) =
     let m = a g x in
     let n = b h y in
     (m.0 + n.0, (g, h, (more_p m.0 n.0).means g m.1, rw (add_comm m.0 n.0) ((more_r n.0 m.0).means h n.1), e))
 
-buffer_found : (y : Option ℕ) (n c : ℕ) {p : ℕ → Showing} {q : Showing} → ((k j : ℕ) → Means (p k) (p (k + j))) → Found p q → (f : Forest) → IsBuffer q n c y f → (k : ℕ) × IsBuffer (p k) n c y f
+buffer_found : (y : Option ℕ) (n c : ℕ) {p : ℕ → Showing} {q : Showing} → ((k j : ℕ) → Means false (p k) (p (k + j))) → Found p q → (f : Forest) → IsBuffer q n c y f → (k : ℕ) × IsBuffer (p k) n c y f
 buffer_found y n c more s f (without_size e) = (0, without_size e)
 buffer_found y n c more s f (without_room h r e) = (0, without_room h r e)
 buffer_found y n c {q = q} more found f (with_room {s = z} l h x) =
@@ -71,7 +76,7 @@ buffer_found y n c {q = q} more found f (with_room {s = z} l h x) =
     let m = inside_found true (codes "ptr") 8 (both_found {r = λ k. unused} {q = q} {s = unused} more (λ k j. means_same) found (λ f z. (0, z))) f x in
     (m.0, with_room l h m.1)
 
-each_found : {A : Type 0} {p : ℕ → A → Showing} {q : A → Showing} → ((k j : ℕ) (x : A) → Means (p k x) (p (k + j) x)) → ((x : A) → Found (λ k. p k x) (q x)) →
+each_found : {A : Type 0} {p : ℕ → A → Showing} {q : A → Showing} → ((k j : ℕ) (x : A) → Means false (p k x) (p (k + j) x)) → ((x : A) → Found (λ k. p k x) (q x)) →
     (xs : List A) → Found (λ k. each_shows (p k) xs) (each_shows q xs)
 each_found more s [] f e = (0, e)
 each_found {p = p} more s (x ∷ xs) f y =
@@ -99,5 +104,15 @@ level_found w (unordered v xs) f y =
 one_level_more : {T : Type 0} (w : T → Level T) (x : T) (f : Forest) → level_shows (recursive w) (w x) f → recursive w x f
 one_level_more w x f y = let m = level_found w (w x) f y in record { depth = suc m.0; shown = m.1 }
 
-pub means_recursive : {T : Type 0} {w : T → Level T} {x : T} {p : Showing} → Means p (level_shows (recursive w) (w x)) → Means p (recursive w x)
-means_recursive {w = w} {x = x} m = record { means = λ f y. one_level_more w x f (m.means f y) }
+-- What has a number of levels has one level more than its parts.
+one_level : {T : Type 0} (w : T → Level T) (x : T) → IsDeclared (recursive w x) → IsDeclared (level_shows (recursive w) (w x))
+one_level w x (f, y, s) = by_depth y.depth f y.shown s
+  where
+    by_depth : (k : ℕ) (f : Forest) → levels_shown w k x f → ShowsContents f → IsDeclared (level_shows (recursive w) (w x))
+    by_depth zero f z c = absurd z
+    by_depth (suc k) f z c =
+        let up : (v : _) → Means false (levels_shown w k v) (recursive w v) = λ v. record { means = λ g h. record { depth = k; shown = h }; declared = λ h d. absurd (false≢true h) } in
+        (f, (means_level up (w x)).means f z, c)
+
+pub means_recursive : {T : Type 0} {e : Bool} {w : T → Level T} {x : T} {p : Showing} → Means e p (level_shows (recursive w) (w x)) → Means e p (recursive w x)
+means_recursive {w = w} {x = x} m = record { means = λ f y. one_level_more w x f (m.means f y); declared = λ h d. m.declared h (one_level w x d) }

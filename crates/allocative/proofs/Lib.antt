@@ -3,6 +3,7 @@ pub mod Closures
 pub mod Runs
 pub mod Bodies
 pub mod Steps
+pub mod Exact
 pub mod Showing
 pub mod Meaning
 pub mod ContainerMeaning
@@ -11,6 +12,7 @@ pub mod Levels
 pub mod Parts
 pub mod Json
 pub mod Roots
+pub mod RefusedRoots
 pub mod Nest
 pub mod Lent
 pub mod Nesting

@@ -1,79 +1,176 @@
 -- How the showing of a value follows from the part that enters it, word by word.
-use Rattle.std.proofs.Common.{◌≡◌, ℕ, Bool, true, false, Option, Result, inl, inr, List, [], ◌∷◌, ◌++◌, take, length, get_or, ◌+◌, ◌<◌, ◌∙◌, Ok, Err, refl}
+use Rattle.std.proofs.Common.{◌≡◌, ℕ, Bool, true, false, ◌&&◌, IsTrue, Option, Some, None, Result, inl, inr, List, [], ◌∷◌, ◌++◌, take, length, get_or, ◌+◌, ◌<◌, ◌∙◌, Ok, Err, refl}
+use Rattle.std.proofs.lemmas.Bool.{false≢true}
+use Rattle.std.proofs.lemmas.List.{take_more}
 use Rattle.allocative_graph.specs.declared.refusal.Refusal.{Refusal}
+use Rattle.allocative_graph.specs.declared.refusal.Refusal.TheVariants.{TooLarge}
 use Rattle.allocative_graph.specs.Path.{Key}
 use Rattle.allocative_graph.specs.Identity.{Identity}
 use Rattle.allocative_graph.specs.Forest.{Forest}
 use Rattle.allocative_graph.specs.Shows.{Showing, Nothing, Both, InsideAs, Inside, InsideUnique, Field, IsField, sized, SharedWith, each_shows}
+use Rattle.allocative.specs.Exact.{IsDeclared}
 use Rattle.allocative.specs.declared.visitor.Visitor.{Visitor}
-use Rattle.allocative.specs.Visited.{Visited, Entered, Refused, Means}
-use Rattle.allocative.proofs.Showing.{shows_weaker, shows_nothing, shows_refused, shows_snoc, shows_one_more}
+use Rattle.allocative.specs.Visited.{Visited, Entered, Refused, Means, OnlyIf}
+use Rattle.allocative.proofs.Exact.{declared_first, declared_second, declared_both, declared_inside, declared_entry, declared_content, declared_shared, rightly_nothing, rightly_weaker, rightly_snoc, rightly_refused, rightly_undeclared, inexact}
+use Rattle.allocative.proofs.Showing.{shows_weaker, shows_nothing, shows_refused, shows_refused_err, shows_snoc}
 
-pub means_same : {p : Showing} → Means p p
-means_same = record { means = λ f x. x }
+-- ---- which visits are exact
+pub exact_never : {e : Bool} → OnlyIf false e
+exact_never = record { follows = λ h. absurd (false≢true h) }
 
-inside_as : (u : Bool) (k : Key) (n : ℕ) {p q : Showing} → Means p q → (f : Forest) → InsideAs u k n p f → InsideAs u k n q f
-inside_as u k n m f (g, x, e) = (g, m.means g x, e)
+pub exact_same : {e : Bool} → OnlyIf e e
+exact_same = record { follows = λ h. h }
 
-pub means_inside : {k j : Key} {n : ℕ} {p q : Showing} → k ≡ j → Means p q → Means (Inside k n p) (Inside j n q)
-means_inside {j = j} {n = n} e m = rw e (record { means = λ f x. inside_as false j n m f x })
+pub exact_always : {e : Bool} → OnlyIf e true
+exact_always = record { follows = λ h. refl }
 
-pub means_unique : {k j : Key} {n : ℕ} {p q : Showing} → k ≡ j → Means p q → Means (InsideUnique k n p) (InsideUnique j n q)
-means_unique {j = j} {n = n} e m = rw e (record { means = λ f x. inside_as true j n m f x })
+first_of : (d e : Bool) → IsTrue (d && e) → IsTrue d
+first_of true e h = refl
+first_of false e h = h
 
-in_field : (k : Key) (y : Option ℕ) {p q : Showing} → Means p q → (f : Forest) → IsField k p y f → IsField k q y f
-in_field k y m f (sized {n} x) = sized (inside_as false k n m f x)
+second_of : (d e : Bool) → IsTrue (d && e) → IsTrue e
+second_of true e h = h
+second_of false e h = absurd (false≢true h)
 
-pub means_field : {k j : Key} {y z : Option ℕ} {p q : Showing} → k ≡ j → y ≡ z → Means p q → Means (Field k y p) (Field j z q)
-means_field {j = j} {z = z} e h m = rw (e, h) (record { means = λ f x. in_field j z m f x })
+both_of : (d e : Bool) → IsTrue d → IsTrue e → IsTrue (d && e)
+both_of true e h l = l
+both_of false e h l = h
 
-both_as : {p q r s : Showing} → Means p q → Means r s → (f : Forest) → Both p r f → Both q s f
-both_as m l f (g, h, a, b, e) = (g, h, m.means g a, l.means h b, e)
+pub exact_both : {c d e : Bool} → OnlyIf c d → OnlyIf c e → OnlyIf c (d && e)
+exact_both {d = d} {e = e} l r = record { follows = λ h. both_of d e (l.follows h) (r.follows h) }
 
-pub means_both : {p q r s : Showing} → Means p q → Means r s → Means (Both p r) (Both q s)
-means_both m l = record { means = λ f x. both_as m l f x }
+pub exact_first : {c d : Bool} (e : Bool) → OnlyIf d c → OnlyIf (d && e) c
+exact_first {d = d} e l = record { follows = λ h. l.follows (first_of d e h) }
 
-shared_as : (k : Key) (n : ℕ) (i : Identity) {p q : Showing} → Means p q → (f : Forest) → SharedWith k n i p f → SharedWith k n i q f
-shared_as k n i m f (inl (g, x, e)) = inl (g, m.means g x, e)
+pub exact_second : {c e : Bool} (d : Bool) → OnlyIf e c → OnlyIf (d && e) c
+exact_second {e = e} d r = record { follows = λ h. r.follows (second_of d e h) }
+
+-- ---- what a part means
+pub means_same : {x : Bool} {p : Showing} → Means x p p
+means_same = record { means = λ f a. a; declared = λ h d. d }
+
+inside_as : (u : Bool) (k : Key) (n : ℕ) {x : Bool} {p q : Showing} → Means x p q → Means x (InsideAs u k n p) (InsideAs u k n q)
+inside_as u k n m = record {
+  means = λ f a. (a.0, m.means a.0 a.1, a.2);
+  declared = λ h d. declared_entry u k n (m.declared h (declared_inside u k n d));
+}
+
+pub means_inside : {x : Bool} {k j : Key} {n : ℕ} {p q : Showing} → k ≡ j → Means x p q → Means x (Inside k n p) (Inside j n q)
+means_inside {j = j} {n = n} e m = rw e (inside_as false j n m)
+
+pub means_unique : {x : Bool} {k j : Key} {n : ℕ} {p q : Showing} → k ≡ j → Means x p q → Means x (InsideUnique k n p) (InsideUnique j n q)
+means_unique {j = j} {n = n} e m = rw e (inside_as true j n m)
+
+in_field : (k : Key) (y : Option ℕ) {x : Bool} {p q : Showing} → Means x p q → (f : Forest) → IsField k p y f → IsField k q y f
+in_field k y m f (sized {n} a) = sized ((inside_as false k n m).means f a)
+
+field_declared : (k : Key) (y : Option ℕ) {p q : Showing} → (IsDeclared q → IsDeclared p) → IsDeclared (Field k y q) → IsDeclared (Field k y p)
+field_declared k (Some n) up (f, sized a, s) =
+    let d = declared_entry false k n (up (declared_inside false k n (f, a, s))) in
+    (d.0, sized d.1, d.2)
+field_declared k None up (f, a, s) = elim a [ ]
+
+pub means_field : {x : Bool} {k j : Key} {y z : Option ℕ} {p q : Showing} → k ≡ j → y ≡ z → Means x p q → Means x (Field k y p) (Field j z q)
+means_field {j = j} {z = z} e h m = rw (e, h) (record { means = λ f a. in_field j z m f a; declared = λ i d. field_declared j z (m.declared i) d })
+
+pub means_both : {x : Bool} {p q r s : Showing} → Means x p q → Means x r s → Means x (Both p r) (Both q s)
+means_both m l = record {
+  means = λ f a. (a.0, a.1, m.means a.0 a.2, l.means a.1 a.3, a.4);
+  declared = λ h d. declared_both (m.declared h (declared_first d)) (l.declared h (declared_second d));
+}
+
+shared_as : (k : Key) (n : ℕ) (i : Identity) {x : Bool} {p q : Showing} → Means x p q → (f : Forest) → SharedWith k n i p f → SharedWith k n i q f
+shared_as k n i m f (inl (g, a, e)) = inl (g, m.means g a, e)
 shared_as k n i m f (inr e) = inr e
 
-pub means_shared : {k j : Key} {n : ℕ} {i l : Identity} {p q : Showing} → k ≡ j → i ≡ l → Means p q → Means (SharedWith k n i p) (SharedWith j n l q)
-means_shared {j = j} {n = n} {l = l} e h m = rw (e, h) (record { means = λ f x. shared_as j n l m f x })
+pub means_shared : {x : Bool} {k j : Key} {n : ℕ} {i l : Identity} {p q : Showing} → k ≡ j → i ≡ l → Means x p q → Means x (SharedWith k n i p) (SharedWith j n l q)
+means_shared {j = j} {n = n} {l = l} e h m = rw (e, h) (record {
+  means = λ f a. shared_as j n l m f a;
+  declared = λ i d. declared_shared j n l (m.declared i (declared_content j n l d));
+})
 
--- What was entered as p was entered as q, where p means q.
-pub entered_as : {p q : Showing} {a b : Visitor} {r : Result (Unit {0}) Refusal} → Entered p a b r → Means p q → Entered q a b r
-entered_as h m = record { same_reference = h.same_reference; same_outer = h.same_outer; shown = shows_weaker m.means h.shown; cause = h.cause }
+-- What was entered as p was entered as q, where p means q and q is exact only where p is.
+pub entered_if : {d e : Bool} {p q : Showing} {a b : Visitor} {r : Result (Unit {0}) Refusal} → Entered e p a b r → OnlyIf d e → Means d p q → Entered d q a b r
+entered_if h o m = record {
+  same_reference = h.same_reference;
+  same_outer = h.same_outer;
+  shown = shows_weaker m.means h.shown;
+  cause = h.cause;
+  rightly = λ i. rightly_weaker m.means (m.declared i) (h.rightly (o.follows i));
+}
 
--- A part that was entered is the visit of a value.
-pub visited_as : {p q : Showing} {a b : Visitor} {r : Result (Unit {0}) Refusal} → Entered p a b r → Means p q → Visited q a b r
-visited_as h m = record { same_reference = h.same_reference; same_outer = h.same_outer; shown = shows_weaker m.means h.shown }
+pub entered_as : {d : Bool} {p q : Showing} {a b : Visitor} {r : Result (Unit {0}) Refusal} → Entered d p a b r → Means d p q → Entered d q a b r
+entered_as h m = entered_if h exact_same m
+
+-- What was entered need not be exact.
+pub entered_loosely : {e : Bool} {p : Showing} {a b : Visitor} {r : Result (Unit {0}) Refusal} → Entered e p a b r → Entered false p a b r
+entered_loosely h = entered_if h exact_never means_same
+
+-- A part that was entered is the visit of a value, exact where the part is.
+pub visited_as : {d : Bool} {p q : Showing} {a b : Visitor} {r : Result (Unit {0}) Refusal} → Entered d p a b r → Means d p q → Visited d q a b r
+visited_as h m =
+    let w = entered_as h m in
+    record { same_reference = w.same_reference; same_outer = w.same_outer; shown = w.shown; rightly = w.rightly }
+
+-- An exact part is the visit of a value that need not be. Search needs the two flags as they are.
+pub visited_of_exact : {p q : Showing} {a b : Visitor} {r : Result (Unit {0}) Refusal} → Entered true p a b r → Means false p q → Visited false q a b r
+visited_of_exact h m = visited_as (entered_loosely h) m
+
+-- The visit of a value that is exact only where the part is.
+pub visited_if : {d e : Bool} {p q : Showing} {a b : Visitor} {r : Result (Unit {0}) Refusal} → Entered e p a b r → OnlyIf d e → Means d p q → Visited d q a b r
+visited_if h o m = visited_as (entered_if h o means_same) m
 
 -- Entering a part that shows exactly p is a visit that shows p.
-pub visited : {p : Showing} {a b : Visitor} {r : Result (Unit {0}) Refusal} → Entered p a b r → Visited p a b r
-visited h = record { same_reference = h.same_reference; same_outer = h.same_outer; shown = h.shown }
+pub visited : {x : Bool} {p : Showing} {a b : Visitor} {r : Result (Unit {0}) Refusal} → Entered x p a b r → Visited x p a b r
+visited h = record { same_reference = h.same_reference; same_outer = h.same_outer; shown = h.shown; rightly = h.rightly }
 
 -- A call that enters nothing, and one that returns an error by hand.
-pub entered_none : {p : Showing} (a : Visitor) → Means Nothing p → Entered p a a (Ok tt)
-entered_none a m = record { same_reference = refl; same_outer = refl; shown = shows_weaker m.means (shows_nothing _ tt); cause = tt }
+pub entered_none : {x : Bool} {p : Showing} (a : Visitor) → Means x Nothing p → Entered x p a a (Ok tt)
+entered_none a m = record {
+  same_reference = refl;
+  same_outer = refl;
+  shown = shows_weaker m.means (shows_nothing _ tt);
+  cause = tt;
+  rightly = λ i. rightly_weaker m.means (m.declared i) (rightly_nothing _ tt);
+}
 
-pub entered_refused : {p : Showing} {q e : Refusal} {a b : Visitor} → Refused q a b e → Entered p a b (Err e)
-entered_refused {q = q} {e = e} h = record { same_reference = h.same_reference; same_outer = h.same_outer; shown = shows_refused _ e q _ h.after; cause = h.is_cause }
+-- An error that is returned by hand, which need not be one that must be.
+pub entered_refused : {p : Showing} {q e : Refusal} {a b : Visitor} → Refused q a b e → Entered false p a b (Err e)
+entered_refused {q = q} {e = e} h = record { same_reference = h.same_reference; same_outer = h.same_outer; shown = shows_refused _ e q _ h.after; cause = h.is_cause; rightly = inexact }
+
+-- A value's own refusal is the collector's first cause.
+pub value_refused : {x : Bool} {p : Showing} {y e : Refusal} {a b c : Visitor} → Visited x p a b (Err y) → Refused y b c e → Entered x p a c (Err e)
+value_refused {y = y} {e = e} {c = c} h k = record {
+  same_reference = k.same_reference ∙ h.same_reference;
+  same_outer = k.same_outer ∙ h.same_outer;
+  shown = shows_refused_err y h.shown k.after;
+  cause = k.is_cause;
+  rightly = λ i. rightly_refused c.collector.now e (h.rightly i) k.after k.is_cause;
+}
+
+-- A part that is declared nowhere is refused as TooLarge.
+pub undeclared_refused : {x : Bool} {p : Showing} {e : Refusal} {a b : Visitor} → (IsDeclared p → ⊥) → Refused TooLarge a b e → Entered x p a b (Err e)
+undeclared_refused {e = e} {a = a} {b = b} n h = record {
+  same_reference = h.same_reference;
+  same_outer = h.same_outer;
+  shown = shows_refused _ e TooLarge _ h.after;
+  cause = h.is_cause;
+  rightly = λ i. rightly_undeclared a.collector.now b.collector.now e n h.after h.is_cause;
+}
 
 -- One step of a loop shows one more item.
-pub entered_snoc : {T : Type 0} (p : T → Showing) (xs : List T) (x : T) {a b c : Visitor} {u v w : Unit {0}} →
-    Entered (each_shows p xs) a b (Ok u) → Entered (p x) b c (Ok v) → Entered (each_shows p (xs ++ x ∷ [])) a c (Ok w)
+pub entered_snoc : {T : Type 0} {d : Bool} (p : T → Showing) (xs : List T) (x : T) {a b c : Visitor} {u v w : Unit {0}} →
+    Entered d (each_shows p xs) a b (Ok u) → Entered d (p x) b c (Ok v) → Entered d (each_shows p (xs ++ x ∷ [])) a c (Ok w)
 entered_snoc p xs x f s = record {
   same_reference = s.same_reference ∙ f.same_reference;
   same_outer = s.same_outer ∙ f.same_outer;
   shown = shows_snoc p xs x f.shown s.shown;
   cause = tt;
+  rightly = λ i. rightly_snoc p xs x (f.rightly i) (s.rightly i);
 }
 
-pub entered_one_more : {T : Type 0} (p : T → Showing) (xs : List T) (i : ℕ) (x : T) {a b c : Visitor} {u v w : Unit {0}} →
-    Entered (each_shows p (take i xs)) a b (Ok u) → Entered (p x) b c (Ok v) → i < length xs → x ≡ get_or xs i x → Entered (each_shows p (take (i + 1) xs)) a c (Ok w)
-entered_one_more p xs i x f s h e = record {
-  same_reference = s.same_reference ∙ f.same_reference;
-  same_outer = s.same_outer ∙ f.same_outer;
-  shown = shows_one_more p xs i x f.shown s.shown h e;
-  cause = tt;
-}
+pub entered_one_more : {T : Type 0} {d : Bool} (p : T → Showing) (xs : List T) (i : ℕ) (x : T) {a b c : Visitor} {u v w : Unit {0}} →
+    Entered d (each_shows p (take i xs)) a b (Ok u) → Entered d (p x) b c (Ok v) → i < length xs → x ≡ get_or xs i x → Entered d (each_shows p (take (i + 1) xs)) a c (Ok w)
+entered_one_more p xs i x f s h e =
+    let e' = take_more xs i x h in
+    rw (e', ← e) (entered_snoc p (take i xs) x f s)

@@ -1,6 +1,6 @@
 -- The lemmas for implementations by parts.
-use Rattle.allocative.proofs.Meaning.{visited_as, entered_as, means_inside, means_unique, means_field, means_both, means_shared, means_same}
+use Rattle.allocative.proofs.Meaning.{visited_as, visited_of_exact, entered_loosely, entered_as, means_inside, means_unique, means_field, means_both, means_shared, means_same}
 use Rattle.allocative.proofs.ContainerMeaning.{means_buffer, means_cut, means_index_data, means_table, means_spilled, means_inline, means_not_set}
 use Rattle.allocative.proofs.Levels.{means_recursive, means_each, means_unordered}
 
-pub ruleset parts = (visited_as, entered_as, means_inside, means_unique, means_field, means_both, means_shared, means_same, means_buffer, means_cut, means_index_data, means_table, means_spilled, means_inline, means_not_set, means_recursive, means_each, means_unordered)
+pub ruleset parts = (visited_as, visited_of_exact, entered_loosely, entered_as, means_inside, means_unique, means_field, means_both, means_shared, means_same, means_buffer, means_cut, means_index_data, means_table, means_spilled, means_inline, means_not_set, means_recursive, means_each, means_unordered)

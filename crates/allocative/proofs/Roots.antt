@@ -1,6 +1,7 @@
 -- What a visit by a root visitor amounts to.
-use Rattle.std.proofs.Common.{◌≡◌, ℕ, suc, ◌+◌, ◌<◌, List, length, take, get_or, Bool, Result, Ok, Err, refl, ap, sym, subst, ◌∙◌, arith}
+use Rattle.std.proofs.Common.{◌≡◌, ℕ, suc, ◌+◌, ◌<◌, inl, inr, List, length, take, get_or, Bool, IsTrue, Result, Ok, Err, refl, ap, sym, subst, ◌∙◌, arith}
 use Rattle.allocative_graph.specs.declared.refusal.Refusal.{Refusal}
+use Rattle.allocative_graph.specs.declared.refusal.Refusal.TheVariants.{Memory}
 use Rattle.allocative_graph.specs.Forest.{Forest, Empty, followed_by, met_after, Fits, own, all}
 use Rattle.allocative_graph.specs.Sums.{add_all, sums_of}
 use Rattle.allocative_graph.specs.Meaning.{IsWhole, content_of}
@@ -11,6 +12,8 @@ use Rattle.allocative_graph.specs.Shows.{Showing, Nothing, Both, each_shows}
 use Rattle.allocative_graph.specs.Visits.{Shows, refused, hidden, forgotten, added, Leaves, Begins, Settles, Runs, Ends, IsProfile, Profile, IsProfileOf, IsGraphOf, IsSumOfTwo}
 use Rattle.allocative_graph.proofs.Plus.{plus-nothing, plus-following, takes_nothing, takes_both, visitors-plus, visitors-leave, is_graph-plus, is_graph-leave, is_graph-begin}
 use Rattle.allocative.specs.Steps.{IsHeldSum}
+use Rattle.allocative.specs.Exact.{MayRefuse, MayRefuseProfile, RefusesRightly, has_added, has_refused, RunsRightly}
+use Rattle.allocative.specs.Built.{as_graph}
 use Rattle.allocative.proofs.Showing.{left_by, each_and_one}
 use Rattle.allocative_graph.proofs.Reach.{all_is_meaning, reaches_exactly}
 use Rattle.allocative_graph.proofs.OneMeaning.{one_sums}
@@ -94,6 +97,46 @@ pub run_refused : (p : Showing) (s : State) (e : Refusal) (t : State) → Begins
 run_refused p (Failed r) e t (h, i) = (ap Err h, i)
 run_refused p (Going b) e (Failed r) (h, n, i) = absurd (failed_not_going b r i)
 run_refused p (Going b) e (Going c) (h, n, i) = (h, subst (λ (x : State). IsClosedState x → ⊥) (sym i) n, (λ m. same_kind c b i), ap is_graph (same_kind c b i))
+
+-- An exact visit that was opened by a root visitor leaves its collector closed, or failed with what it returned.
+rightly_going : {p : Showing} (b e : Kind) {c : State} {r : Result Unit Refusal} (q : Refusal) → IsClosed b → IsAtRoot b → e ≡ begin b → RefusesRightly p (Going e) r c → Settles (left (is_in_unique b) c) (Err q) → (left (is_in_unique b) c ≡ Failed q) × MayRefuse p (begin b) q
+rightly_going {p} b e q h here i (has_added {c = c} f x t g) k =
+    let g' : c ≡ plus (begin b) f = rw i at g in
+    let same : leave (is_in_unique b) c ≡ plus b f = ap (leave (is_in_unique b)) g' ∙ out_of_begin b f here in
+    absurd (k.1 (ap visitors same ∙ visitors-plus b f ∙ h))
+rightly_going {p} b e q h here i (has_refused {e = y} m) k =
+    let is : q ≡ y = ap (cause_or q) k in
+    (ap Failed (sym is), subst (MayRefuse p (begin b)) (sym is) (subst (λ (z : Kind). MayRefuse p z y) i m))
+
+-- A root visitor that was opened, an exact visit there, leaving, and the result refuse only where they must.
+pub run_rightly : (s : State) (q : Result Unit Refusal) {x : Bool} {p : Showing} {t a c d : State} {o w : Bool} {r : Result Unit Refusal} → Begins s (Ok o) t → a ≡ t → (IsTrue x → RefusesRightly p a r c) → Leaves w c d → w ≡ o → Settles d q → RunsRightly x p s q d
+run_rightly (Failed z) q h i v l e k = tt
+run_rightly (Going b) (Ok u) h i v l e k = tt
+run_rightly (Going b) (Err z) {p} {c = c} {d = d} {r = r} h i v l e k = λ exact closed.
+    let g : d ≡ left (is_in_unique b) c = left_by l ∙ ap (λ (o : Bool). left o c) (e ∙ h.2) in
+    let v' : RefusesRightly p (Going (begin b)) r c = subst (λ (y : State). RefusesRightly p y r c) (i ∙ h.3) (v exact) in
+    let k' : Settles (left (is_in_unique b) c) (Err z) = rw g at k in
+    rw g (rightly_going b (begin b) z closed h.1 refl v' k')
+
+-- Where no root visitor is opened, a visitor is open or the collector had failed.
+pub run_rightly_refused : (x : Bool) (p : Showing) (s : State) (e : Refusal) (t : State) → Begins s (Err e) t → RunsRightly x p s (Err e) t
+run_rightly_refused x p (Failed r) e t h = tt
+run_rightly_refused x p (Going b) e t h = λ exact closed. absurd (h.1 closed)
+
+pub run_rightly_unsettled : (x : Bool) (p : Showing) (s : State) (e : Refusal) → Settles s (Err e) → RunsRightly x p s (Err e) s
+run_rightly_unsettled x p (Failed r) e h = tt
+run_rightly_unsettled x p (Going b) e h = λ exact closed. absurd (h.1 closed)
+
+pub rightly_ok : (x : Bool) (p : Showing) (s : State) (u : Unit) (t : State) → RunsRightly x p s (Ok u) t
+rightly_ok x p (Failed r) u t = tt
+rightly_ok x p (Going b) u t = tt
+
+-- A collector refuses as rightly where it is seen as that of a flame graph.
+pub run_rightly_as_graph : (x : Bool) (p : Showing) (s : State) (r : Result Unit Refusal) (t : State) → RunsRightly x p s r t → RunsRightly x p (as_graph s) r (as_graph t)
+run_rightly_as_graph x p (Failed q) r t h = tt
+run_rightly_as_graph x p (Going (OfGraph c)) (Ok u) t h = tt
+run_rightly_as_graph x p (Going (OfGraph c)) (Err e) t h = λ exact closed. let m = h exact closed in (ap as_graph m.0, m.1)
+run_rightly_as_graph x p (Going (OfHeld k)) r t h = tt
 
 -- The sum of a run of held bytes.
 pub held_by_run : (p : Showing) (s t : State) (u : Unit) (n : ℕ) → s ≡ Going (OfHeld nothing_held) → Runs p s (Ok u) t → IsHeldSum t n → (f : Forest) × p f × ShowsNoContent f × (n ≡ held f)
@@ -192,5 +235,21 @@ sum_of_two p q g h m a b e =
 pub sum_of_profiles : (p q : Showing) (o o' : Profile) (m : Graph) → IsProfileOf p o → IsProfileOf q o' → m ≡ sum_of o.graph o'.graph → IsSumOfTwo p q m
 sum_of_profiles p q o o' m h k e = sum_of_two p q o.graph o'.graph m (graph_of_profile p o o.graph h refl) (graph_of_profile q o' o'.graph k refl) e
 
+-- ---- why the profile of an exact value is refused
+pub profile_not_begun : (x : Bool) (p : Showing) (e : Refusal) → e ≡ Memory → MayRefuseProfile x p e
+profile_not_begun x p e i = λ h. subst (MayRefuse p (begin (OfGraph no_entries))) (sym i) refl
+
+pub profile_not_run : (x : Bool) (p : Showing) (s : State) (e : Refusal) (t : State) → s ≡ Going (OfGraph no_entries) → RunsRightly x p s (Err e) t → MayRefuseProfile x p e
+profile_not_run x p s e t i r = λ h. (subst (λ (z : State). RunsRightly x p z (Err e) t) i r h refl).1
+
+ended_by_memory : (p : Showing) (t : State) (u : Unit) (e : Refusal) → Runs p (Going (OfGraph no_entries)) (Ok u) t → Ends IsProfile t (Err e) → e ≡ Memory
+ended_by_memory p (Failed r) u e h k = absurd h
+ended_by_memory p (Going (OfGraph c)) u e h (inl (i, n)) = absurd (n h.0)
+ended_by_memory p (Going (OfGraph c)) u e h (inr (i, n)) = i
+ended_by_memory p (Going (OfHeld c)) u e h k = absurd k
+
+pub profile_not_finished : (x : Bool) (p : Showing) (s t : State) (u : Unit) (e : Refusal) → s ≡ Going (OfGraph no_entries) → Runs p s (Ok u) t → Ends IsProfile t (Err e) → MayRefuseProfile x p e
+profile_not_finished x p s t u e i h k = profile_not_begun x p e (ended_by_memory p t u e (subst (λ (z : State). Runs p z (Ok u) t) i h) k)
+
 -- The rules for visits of roots.
-pub ruleset running = (run_shows, run_refused, held_by_run, runs_nothing, runs_unsettled, runs_err, profile_by_run, sum_of_profiles)
+pub ruleset running = (run_shows, run_refused, held_by_run, runs_nothing, runs_unsettled, runs_err, run_rightly_refused, run_rightly_unsettled, run_rightly_as_graph, rightly_ok, profile_by_run, sum_of_profiles, profile_not_begun, profile_not_run, profile_not_finished)

@@ -1,58 +1,118 @@
 -- How a loop over an iterator shows one more item, and what a whole run of it shows.
-use Rattle.std.proofs.Common.{Bool, false, true, ℕ, ◌+◌, length, arith, ◌⊎◌, inl, inr, List, [], ◌∷◌, ◌++◌, map, ◌≡◌, ◌∙◌, Option, None, Some, Result, Ok, refl, ap, subst}
+use Rattle.std.proofs.Common.{Bool, false, true, ℕ, ◌+◌, length, arith, ◌⊎◌, inl, inr, List, [], ◌∷◌, ◌++◌, map, ◌≡◌, Option, None, Some, Result, Ok, Err, IsErr, refl, sym, ap, subst}
 use Rattle.std.proofs.lemmas.List.{map-append, length-map}
+use Rattle.std.proofs.lemmas.List.Elements.{All-nil, All-cons, All-head, All-tail}
+use Rattle.std.proofs.lemmas.Bool.{false≢true}
 use Rattle.std.proofs.lemmas.Bool.Decides.{nat_tests}
-use Rattle.std.proofs.lemmas.List.Sorted.{IsPermutation-refl}
+use Rattle.std.proofs.lemmas.List.Sorted.{IsPermutation-refl, IsPermutation-sym, All-permutation}
 use Rattle.std.proofs.lemmas.Iterator.{YieldsList, items_from_drains}
-use Rattle.std.specs.Iterator.{Drains}
+use Rattle.std.specs.Iterator.{Drains, Yields, AlwaysYields}
+use Rattle.std.specs.List.{All}
 use Rattle.slab.specs.Slab.{Slab, entries_from, entries, values}
 use Rattle.allocative_graph.specs.declared.refusal.Refusal.{Refusal}
 use Rattle.allocative_graph.specs.Path.{Key}
 use Rattle.allocative_graph.specs.Forest.{Forest}
-use Rattle.allocative_graph.specs.Collector.{State}
-use Rattle.allocative_graph.specs.Shows.{Showing, Nothing, Field, each_shows, slice_shows}
-use Rattle.allocative_graph.specs.Visits.{Shows}
+use Rattle.allocative_graph.specs.Collector.{State, left}
+use Rattle.allocative_graph.specs.Shows.{Showing, Nothing, InsideAs, Field, each_shows, slice_shows}
+use Rattle.allocative_graph.specs.Visits.{Enters}
 use Rattle.allocative_described.specs.Sizes.{checked, size_product}
 use Rattle.allocative.specs.Bodies.{are_shown_each, bytes_shown}
-use Rattle.allocative.specs.Runs.{IsOfRun, CountsRun, entry_value, value_shows, values_slice}
+use Rattle.allocative.specs.Runs.{RefusesAlong, IsOfRun, CountsRun, entry_value, value_shows, values_slice}
 use Rattle.allocative.specs.StdShows.{in_any_order}
 use Rattle.allocative.specs.declared.visitor.Visitor.{Visitor}
-use Rattle.allocative.specs.Visited.{Entered}
-use Rattle.allocative.proofs.Meaning.{entered_as}
+use Rattle.allocative.specs.Exact.{IsDeclared}
+use Rattle.allocative.specs.Nested.{with_state}
+use Rattle.allocative.specs.Visited.{Entered, Means}
+use Rattle.allocative.proofs.Meaning.{entered_if, entered_as, entered_snoc, exact_never}
+use Rattle.allocative.proofs.Closures.{err_or}
+use Rattle.allocative.proofs.Exact.{declared_nothing, declared_first, declared_second, declared_both, rightly_within}
+use Rattle.allocative.proofs.Within.{item_refused}
 use Rattle.allocative.proofs.Bodies.{plain_slice, each_slice, none_of_it}
-use Rattle.allocative.proofs.Showing.{shows_snoc}
+use Rattle.allocative.proofs.Showing.{shows_weaker}
 
 -- One step of a loop shows one more item.
-pub shows_next : {A B : Type 0} (v : A → B) (p : B → Showing) (xs : List A) (x : A) {a b c : State} {u w y : Unit} →
-    Shows (each_shows p (map v xs)) a (Ok u) b → Shows (p (v x)) b (Ok w) c → Shows (each_shows p (map v (xs ++ x ∷ []))) a (Ok y) c
-shows_next v p xs x s t = rw map-append (shows_snoc p (map v xs) (v x) s t)
+pub entered_next : {A B : Type 0} {e : Bool} (v : A → B) (p : B → Showing) (xs : List A) (x : A) {a b c : Visitor} {u w y : Unit {0}} →
+    Entered e (each_shows p (map v xs)) a b (Ok u) → Entered e (p (v x)) b c (Ok w) → Entered e (each_shows p (map v (xs ++ x ∷ []))) a c (Ok y)
+entered_next v p xs x f s = rw map-append (entered_snoc p (map v xs) (v x) f s)
 
-pub entered_next : {A B : Type 0} (v : A → B) (p : B → Showing) (xs : List A) (x : A) {a b c : Visitor} {u w y : Unit {0}} →
-    Entered (each_shows p (map v xs)) a b (Ok u) → Entered (p (v x)) b c (Ok w) → Entered (each_shows p (map v (xs ++ x ∷ []))) a c (Ok y)
-entered_next v p xs x f s = record {
-  same_reference = s.same_reference ∙ f.same_reference;
-  same_outer = s.same_outer ∙ f.same_outer;
-  shown = shows_next v p xs x f.shown s.shown;
-  cause = tt;
-}
+-- What is not exact is only allowed.
+loosely : {p q : Showing} → ((f : Forest) → p f → q f) → Means false p q
+loosely up = record { means = up; declared = λ i d. absurd (false≢true i) }
 
-pub entered_run : {S A B : Type 0} {steps : S → Option A → S → Type 0} {s : S} (v : A → B) (q : List B → Showing) (xs : List A) {a b : Visitor} {r : Result (Unit {0}) Refusal} →
-    Drains steps s xs → Entered (q (map v xs)) a b r → Entered (IsOfRun steps s v q) a b r
-entered_run v q xs d h = entered_as h (record { means = λ f g. record { given = xs; drained = d; shown = g } })
+pub entered_run : {S A B : Type 0} {e : Bool} {steps : S → Option A → S → Type 0} {s : S} (v : A → B) (q : List B → Showing) (xs : List A) {a b : Visitor} {r : Result (Unit {0}) Refusal} →
+    Drains steps s xs → Entered e (q (map v xs)) a b r → Entered false (IsOfRun steps s v q) a b r
+entered_run v q xs d h = entered_if h exact_never (loosely (λ f g. record { given = xs; drained = d; shown = g }))
 
--- ---- for callers: where the run is known
 of_list : {S A B : Type 0} {steps : S → Option A → S → Type 0} {s : S} {v : A → B} {q : List B → Showing} {all : List B} → YieldsList steps v s all → (f : Forest) → IsOfRun steps s v q f → q all f
 of_list {q = q} y f o =
     let e = items_from_drains o.given (o.drained.1.0, o.drained.1.1, λ _. (o.drained.0, o.drained.1.2)) y in
     subst (λ ys. q ys f) e o.shown
 
-pub entered_list : {S A B : Type 0} {steps : S → Option A → S → Type 0} {s : S} {v : A → B} {q : List B → Showing} {all : List B} {a b : Visitor} {r : Result (Unit {0}) Refusal} →
-    YieldsList steps v s all → Entered (IsOfRun steps s v q) a b r → Entered (q all) a b r
-entered_list {q = q} y h = entered_as h (record { means = of_list {q = q} y })
+-- What was entered for each list of items that the iterator may give.
+pub along_all : {S A B : Type 0} {e : Bool} {steps : S → Option A → S → Type 0} {s : S} {v : A → B} {q : List B → Showing} {a b : Visitor} {r : Result (Unit {0}) Refusal} →
+    ((ys : List B) → AlwaysYields steps v s ys → Entered e (q ys) a b r) → RefusesAlong e steps s v q a b r
+along_all h = record { along = λ i ys y. (h ys y).rightly i }
 
-pub entered_any_order : {S A B : Type 0} {steps : S → Option A → S → Type 0} {s : S} {v : A → B} {p : B → Showing} {all : List B} {a b : Visitor} {r : Result (Unit {0}) Refusal} →
-    YieldsList steps v s all → Entered (IsOfRun steps s v (each_shows p)) a b r → Entered (in_any_order p all) a b r
-entered_any_order {p = p} {all = all} y h = entered_as (entered_list {q = each_shows p} y h) (record { means = λ f x. (all, IsPermutation-refl all, x) })
+-- The items of a whole run are those that every run gives.
+pub along_run : {S A B : Type 0} {e : Bool} {steps : S → Option A → S → Type 0} {s : S} (v : A → B) (q : List B → Showing) (xs : List A) {a b : Visitor} {r : Result (Unit {0}) Refusal} →
+    Drains steps s xs → Entered e (q (map v xs)) a b r → RefusesAlong e steps s v q a b r
+along_run {e = e} {steps = steps} {s = s} v q xs {a = a} {b = b} {r = r} d h = along_all (λ ys y.
+    let yields : YieldsList steps v s ys = record { runs = y } in
+    let is : map v xs ≡ ys = items_from_drains xs (d.1.0, d.1.1, λ _. (d.0, d.1.2)) yields in
+    subst (λ zs. Entered e (q zs) a b r) is h)
+
+-- The items so far and the next one begin the list that every run gives.
+begins : {S A B : Type 0} (steps : S → Option A → S → Type 0) (v : A → B) (s : S) {u : S} (t : S) {x : A} (xs : List A) (ys : List B) → Yields steps s xs t → steps t (Some x) u → AlwaysYields steps v s ys →
+    (rest : List B) × (map v xs ++ v x ∷ rest ≡ ys)
+begins steps v s {u = u} t {x = x} [] [] e g y = absurd (y x u (subst (λ z. steps z (Some x) u) (sym e) g))
+begins steps v s {u = u} t {x = x} [] (z ∷ zs) e g y = (zs, ap (λ w. w ∷ zs) (y.1 x u (subst (λ w. steps w (Some x) u) (sym e) g)).0)
+begins steps v s t (w ∷ xs) [] h g y = absurd (y w h.0 h.1)
+begins steps v s t (w ∷ xs) (z ∷ zs) h g y =
+    let next = y.1 w h.0 h.1 in
+    let more = begins steps v h.0 t xs zs h.2 g next.1 in
+    (more.0, (λ i. next.0 i ∷ more.1 i))
+
+pub along_refused : {S A B : Type 0} {d : Bool} (steps : S → Option A → S → Type 0) {s u : S} (t : S) (v : A → B) (p : B → Showing) {x : A} (xs : List A) {a b c : Visitor} {w : Unit {0}} {e : Refusal} (r : Result (Unit {0}) Refusal) → IsErr r → e ≡ err_or e r →
+    Yields steps s xs t → steps t (Some x) u → Entered d (each_shows p (map v xs)) a b (Ok w) → Entered d (p (v x)) b c (Err e) → RefusesAlong d steps s v (each_shows p) a c r
+along_refused steps {s = s} t v p {x = x} xs r h i g n f z = along_all (λ ys y.
+    let split = begins steps v s t xs ys g n y in
+    item_refused p (map v xs) (v x) split.0 r h i f z split.1)
+
+-- What is entered inside an entry.
+pub along_within : {S A B : Type 0} {u e : Bool} {steps : S → Option A → S → Type 0} {s : S} {v : A → B} {q : List B → Showing} {k : Key} {n : ℕ} {o : Bool} {a b : Visitor} {t d : State} {r : Result (Unit {0}) Refusal} →
+    Enters u k n a.collector.now (Ok o) t → RefusesAlong e steps s v q (with_state a t) b r → d ≡ left o b.collector.now → RefusesAlong e steps s v (λ ys. InsideAs u k n (q ys)) a (with_state b d) r
+along_within g h e = record { along = λ i ys y. rightly_within g (h.along i ys y) e }
+
+-- ---- for callers: where the run is known
+pub entered_list : {S A B : Type 0} {d e : Bool} {steps : S → Option A → S → Type 0} {s : S} {v : A → B} {q : List B → Showing} {all : List B} {a b : Visitor} {r : Result (Unit {0}) Refusal} →
+    YieldsList steps v s all → Entered e (IsOfRun steps s v q) a b r → RefusesAlong d steps s v q a b r → Entered d (q all) a b r
+entered_list {q = q} {all = all} y h k = record {
+  same_reference = h.same_reference;
+  same_outer = h.same_outer;
+  shown = shows_weaker (of_list {q = q} y) h.shown;
+  cause = h.cause;
+  rightly = λ i. k.along i all y.runs;
+}
+
+pub list_entered : {S A B : Type 0} {e : Bool} {steps : S → Option A → S → Type 0} {s : S} {v : A → B} {q : List B → Showing} {all : List B} {a b : Visitor} {r : Result (Unit {0}) Refusal} →
+    YieldsList steps v s all → Entered e (IsOfRun steps s v q) a b r → Entered false (q all) a b r
+list_entered {q = q} y h = entered_if h exact_never (loosely (of_list {q = q} y))
+
+any_order_declared : {B : Type 0} (p : B → Showing) (xs : List B) → IsDeclared (in_any_order p xs) → IsDeclared (each_shows p xs)
+any_order_declared p xs (f, (ys, same, x), s) = each_from xs (All-permutation (λ y. IsDeclared (p y)) ys xs (IsPermutation-sym xs ys same) (all_from ys (f, x, s)))
+  where
+    all_from : (zs : List _) → IsDeclared (each_shows p zs) → All (λ y. IsDeclared (p y)) zs
+    all_from [] d = All-nil (λ y. IsDeclared (p y))
+    all_from (z ∷ zs) d = All-cons (λ y. IsDeclared (p y)) z zs (declared_first d) (all_from zs (declared_second d))
+
+    each_from : (zs : List _) → All (λ y. IsDeclared (p y)) zs → IsDeclared (each_shows p zs)
+    each_from [] h = declared_nothing
+    each_from (z ∷ zs) h = declared_both (All-head (λ y. IsDeclared (p y)) z zs h) (each_from zs (All-tail (λ y. IsDeclared (p y)) z zs h))
+
+pub entered_any_order : {S A B : Type 0} {d e : Bool} {steps : S → Option A → S → Type 0} {s : S} {v : A → B} {p : B → Showing} {all : List B} {a b : Visitor} {r : Result (Unit {0}) Refusal} →
+    YieldsList steps v s all → Entered e (IsOfRun steps s v (each_shows p)) a b r → RefusesAlong d steps s v (each_shows p) a b r → Entered d (in_any_order p all) a b r
+entered_any_order {p = p} {all = all} y h k =
+    entered_as (entered_list {q = each_shows p} y h k) (record { means = λ f x. (all, IsPermutation-refl all, x); declared = λ i d. any_order_declared p all d })
 
 -- ---- the count of a run
 is_counted : (n : ℕ) → (checked n ≡ Some n) ⊎ (checked n ≡ None)
@@ -66,12 +126,12 @@ none_counted name (Some s) f h = none_of_it h
 bytes_counted : (name : Key) (size : Option ℕ) (n : ℕ) (f : Forest) → Field name (size_product size (checked n)) Nothing f → bytes_shown name size n f
 bytes_counted name size n f h = elim (is_counted n) [ inl e ↦ rw e at h | inr e ↦ absurd (none_counted name size f (rw e at h)) ]
 
-pub plain_run : {S A T : Type 0} {steps : S → Option A → S → Type 0} {s : S} (v : A → T) (name : Key) (size count : Option ℕ) (needs_drop : Bool) (p : T → Showing) {a b : Visitor} {r : Result (Unit {0}) Refusal} →
-    are_shown_each needs_drop size ≡ false → CountsRun steps s count → Entered (Field name (size_product size count) Nothing) a b r → Entered (IsOfRun steps s v (slice_shows name size needs_drop p)) a b r
+pub plain_run : {S A T : Type 0} {e : Bool} {steps : S → Option A → S → Type 0} {s : S} (v : A → T) (name : Key) (size count : Option ℕ) (needs_drop : Bool) (p : T → Showing) {a b : Visitor} {r : Result (Unit {0}) Refusal} →
+    are_shown_each needs_drop size ≡ false → CountsRun steps s count → Entered e (Field name (size_product size count) Nothing) a b r → Entered false (IsOfRun steps s v (slice_shows name size needs_drop p)) a b r
 plain_run v name size count needs_drop p e (xs, d, i) h =
     let h' = rw i at h in
     let up = λ (f : Forest) (g : Field name (size_product size (checked (length xs))) Nothing f). plain_slice name size needs_drop p (map v xs) e f (rw length-map (bytes_counted name size (length xs) f g)) in
-    entered_run v (slice_shows name size needs_drop p) xs d (entered_as h' (record { means = up }))
+    entered_run v (slice_shows name size needs_drop p) xs d (entered_if h' exact_never (loosely (up)))
 
 -- ---- entries of a key and a value
 of_values : {T : Type 0} (p : T → Showing) (es : List (ℕ × T)) (f : Forest) → each_shows (value_shows p) es f → each_shows p (map entry_value es) f
@@ -83,25 +143,25 @@ of_values_run : {S A T : Type 0} {steps : S → Option A → S → Type 0} {s : 
 of_values_run v name size needs_drop p e f o =
     record { given = o.given; drained = o.drained; shown = each_slice name size needs_drop p (map entry_value (map v o.given)) e f (of_values p (map v o.given) f o.shown) }
 
-pub values_run : {S A T : Type 0} {steps : S → Option A → S → Type 0} {s : S} (v : A → ℕ × T) (name : Key) (size : Option ℕ) (needs_drop : Bool) (p : T → Showing) {a b : Visitor} {r : Result (Unit {0}) Refusal} →
-    are_shown_each needs_drop size ≡ true → Entered (IsOfRun steps s v (each_shows (value_shows p))) a b r → Entered (IsOfRun steps s v (values_slice name size needs_drop p)) a b r
-values_run v name size needs_drop p e h = entered_as h (record { means = of_values_run v name size needs_drop p e })
+pub values_run : {S A T : Type 0} {e : Bool} {steps : S → Option A → S → Type 0} {s : S} (v : A → ℕ × T) (name : Key) (size : Option ℕ) (needs_drop : Bool) (p : T → Showing) {a b : Visitor} {r : Result (Unit {0}) Refusal} →
+    are_shown_each needs_drop size ≡ true → Entered e (IsOfRun steps s v (each_shows (value_shows p))) a b r → Entered false (IsOfRun steps s v (values_slice name size needs_drop p)) a b r
+values_run v name size needs_drop p e h = entered_if h exact_never (loosely (of_values_run v name size needs_drop p e))
 
-pub plain_values_run : {S A T : Type 0} {steps : S → Option A → S → Type 0} {s : S} (v : A → ℕ × T) (name : Key) (size count : Option ℕ) (needs_drop : Bool) (p : T → Showing) {a b : Visitor} {r : Result (Unit {0}) Refusal} →
-    are_shown_each needs_drop size ≡ false → CountsRun steps s count → Entered (Field name (size_product size count) Nothing) a b r → Entered (IsOfRun steps s v (values_slice name size needs_drop p)) a b r
+pub plain_values_run : {S A T : Type 0} {e : Bool} {steps : S → Option A → S → Type 0} {s : S} (v : A → ℕ × T) (name : Key) (size count : Option ℕ) (needs_drop : Bool) (p : T → Showing) {a b : Visitor} {r : Result (Unit {0}) Refusal} →
+    are_shown_each needs_drop size ≡ false → CountsRun steps s count → Entered e (Field name (size_product size count) Nothing) a b r → Entered false (IsOfRun steps s v (values_slice name size needs_drop p)) a b r
 plain_values_run v name size count needs_drop p e (xs, d, i) h =
     let h' = rw i at h in
     let up = λ (f : Forest) (g : Field name (size_product size (checked (length xs))) Nothing f). plain_slice name size needs_drop p (map entry_value (map v xs)) e f (rw (length-map, length-map) (bytes_counted name size (length xs) f g)) in
-    entered_run v (values_slice name size needs_drop p) xs d (entered_as h' (record { means = up }))
+    entered_run v (values_slice name size needs_drop p) xs d (entered_if h' exact_never (loosely (up)))
 
 each_run : {S A T : Type 0} {steps : S → Option A → S → Type 0} {s : S} (v : A → T) (name : Key) (size : Option ℕ) (needs_drop : Bool) (p : T → Showing) → are_shown_each needs_drop size ≡ true →
     (f : Forest) → IsOfRun steps s v (each_shows p) f → IsOfRun steps s v (slice_shows name size needs_drop p) f
 each_run v name size needs_drop p e f o =
     record { given = o.given; drained = o.drained; shown = each_slice name size needs_drop p (map v o.given) e f o.shown }
 
-pub items_run : {S A T : Type 0} {steps : S → Option A → S → Type 0} {s : S} (v : A → T) (name : Key) (size : Option ℕ) (needs_drop : Bool) (p : T → Showing) {a b : Visitor} {r : Result (Unit {0}) Refusal} →
-    are_shown_each needs_drop size ≡ true → Entered (IsOfRun steps s v (each_shows p)) a b r → Entered (IsOfRun steps s v (slice_shows name size needs_drop p)) a b r
-items_run v name size needs_drop p e h = entered_as h (record { means = each_run v name size needs_drop p e })
+pub items_run : {S A T : Type 0} {e : Bool} {steps : S → Option A → S → Type 0} {s : S} (v : A → T) (name : Key) (size : Option ℕ) (needs_drop : Bool) (p : T → Showing) {a b : Visitor} {r : Result (Unit {0}) Refusal} →
+    are_shown_each needs_drop size ≡ true → Entered e (IsOfRun steps s v (each_shows p)) a b r → Entered false (IsOfRun steps s v (slice_shows name size needs_drop p)) a b r
+items_run v name size needs_drop p e h = entered_if h exact_never (loosely (each_run v name size needs_drop p e))
 
 -- ---- a slab's values
 values_from : {T : Type 0} (key capacity vacant : ℕ) (slots : List (Option T)) → map entry_value (entries_from key slots) ≡ values (record { slots = slots; vacant_key = vacant; capacity = capacity })
@@ -118,6 +178,6 @@ slice_of_run {v = v} name size needs_drop p slab y f o =
     let shown = of_list {q = values_slice name size needs_drop p} y f o in
     subst (λ xs. slice_shows name size needs_drop p xs f) (values_of slab) shown
 
-pub entered_slab : {S A T : Type 0} {steps : S → Option A → S → Type 0} {s : S} {v : A → ℕ × T} (name : Key) (size : Option ℕ) (needs_drop : Bool) (p : T → Showing) (slab : Slab T) {a b : Visitor} {r : Result (Unit {0}) Refusal} →
-    YieldsList steps v s (entries slab) → Entered (IsOfRun steps s v (values_slice name size needs_drop p)) a b r → Entered (slice_shows name size needs_drop p (values slab)) a b r
-entered_slab name size needs_drop p slab y h = entered_as h (record { means = slice_of_run name size needs_drop p slab y })
+pub entered_slab : {S A T : Type 0} {e : Bool} {steps : S → Option A → S → Type 0} {s : S} {v : A → ℕ × T} (name : Key) (size : Option ℕ) (needs_drop : Bool) (p : T → Showing) (slab : Slab T) {a b : Visitor} {r : Result (Unit {0}) Refusal} →
+    YieldsList steps v s (entries slab) → Entered e (IsOfRun steps s v (values_slice name size needs_drop p)) a b r → Entered false (slice_shows name size needs_drop p (values slab)) a b r
+entered_slab name size needs_drop p slab y h = entered_if h exact_never (loosely (slice_of_run name size needs_drop p slab y))

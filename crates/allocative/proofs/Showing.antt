@@ -1,17 +1,17 @@
 -- How visits compose: one after another, and inside an entry. The rulesets are for implementations.
-use Rattle.std.proofs.lemmas.List.{take_more}
 use Rattle.std.proofs.lemmas.Bool.{false≢true}
-use Rattle.std.proofs.Common.{Bool, true, false, inl, inr, length, take, get_or, Option, Some, ◌≡◌, ℕ, suc, ◌+◌, ◌<◌, List, [], ◌∷◌, ◌++◌, Result, Ok, Err, refl, sym, ◌∙◌, IsErr, ap, subst, arith}
+use Rattle.std.proofs.Common.{Bool, true, false, inl, inr, Option, Some, ◌≡◌, ℕ, suc, List, [], ◌∷◌, ◌++◌, Result, Ok, Err, refl, sym, ◌∙◌, IsErr, ap, subst, arith}
 use Rattle.std.specs.FinSet.{contains}
 use Rattle.allocative_graph.specs.declared.refusal.Refusal.{Refusal}
 use Rattle.allocative_graph.specs.Path.{Key}
 use Rattle.allocative_graph.specs.Identity.{Identity}
-use Rattle.allocative_graph.specs.Forest.{Forest, Empty, Inline, Unique, First, Again, followed_by, entry_of}
+use Rattle.allocative_graph.specs.Forest.{Forest, Empty, First, Again, followed_by, entry_of}
 use Rattle.allocative_graph.specs.Collector.{Live, Kind, OfGraph, State, Failed, Going, enter, enter_first, leave, plus, Takes, is_graph, visitors, is_in_unique, failed_with, left}
 use Rattle.allocative_graph.specs.Shows.{Showing, Nothing, Both, InsideAs, Inside, InsideUnique, Field, sized, SharedWith, each_shows}
 use Rattle.allocative_graph.specs.Visits.{Shows, already, refused, hidden, forgotten, added, HasFailed, Enters, stays_failed, is_refused, is_entered, EntersSized, stays_unsized, is_unsized, is_sized, EntersShared, stays_shared, is_refused_shared, goes_past, enters_first, enters_again, Answers, Leaves, leaves_failed, leaves_going}
 use Rattle.allocative.specs.Making.{EntersFirst, first_refused, first_entered, KeepsCause, keeps_failed, keeps_going, Plan, Done, Makes, had_failed, made_none, made, entry_refused, inside_refused}
 use Rattle.allocative_graph.proofs.Plus.{plus-nothing, plus-following, takes_nothing, takes_both, inside_entry, takes_entry, inside_first, takes_shared, held_again, visitors-plus, visitors-enter, visitors-leave, is_graph-plus, is_graph-enter, is_graph-leave}
+use Rattle.allocative.proofs.Exact.{inexact, followed_by-empty, followed_by_assoc}
 use Rattle.allocative.proofs.Steps.{leaves_by_left}
 
 -- ---- one after another
@@ -246,20 +246,6 @@ pub kept_after : {s t c : State} {u : Unit} {r : Result Unit Refusal} → Makes 
 kept_after made_none = keeps_going
 
 -- ---- loops
-followed_by-empty : (f : Forest) → followed_by f Empty ≡ f
-followed_by-empty Empty = refl
-followed_by-empty (Inline k n i a) = ap (Inline k n i) (followed_by-empty a)
-followed_by-empty (Unique k n i a) = ap (Unique k n i) (followed_by-empty a)
-followed_by-empty (First k n j i a) = ap (First k n j i) (followed_by-empty a)
-followed_by-empty (Again k n j a) = ap (Again k n j) (followed_by-empty a)
-
-followed_by_assoc : (f g h : Forest) → followed_by (followed_by f g) h ≡ followed_by f (followed_by g h)
-followed_by_assoc Empty g h = refl
-followed_by_assoc (Inline k n i a) g h = ap (Inline k n i) (followed_by_assoc a g h)
-followed_by_assoc (Unique k n i a) g h = ap (Unique k n i) (followed_by_assoc a g h)
-followed_by_assoc (First k n j i a) g h = ap (First k n j i) (followed_by_assoc a g h)
-followed_by_assoc (Again k n j a) g h = ap (Again k n j) (followed_by_assoc a g h)
-
 pub each_and_one : {T : Type 0} (p : T → Showing) (xs : List T) (x : T) (f : Forest) → Both (each_shows p xs) (p x) f → each_shows p (xs ++ x ∷ []) f
 each_and_one p [] x f (g, h, none, here, e) = (h, Empty, here, refl, e ∙ (rw none (sym (followed_by-empty h))))
 each_and_one p (y ∷ ys) x f (g, h, (g1, g2, p1, rest, e1), here, e) =
@@ -269,13 +255,5 @@ pub shows_snoc : {T : Type 0} (p : T → Showing) (xs : List T) (x : T) {a b c :
     Shows (each_shows p xs) a (Ok u) b → Shows (p x) b (Ok v) c → Shows (each_shows p (xs ++ x ∷ [])) a (Ok w) c
 shows_snoc p xs x f s = shows_weaker (each_and_one p xs x) (shows_both f s)
 
--- One step of a loop shows one more item, by the index of the item.
-pub shows_one_more : {T : Type 0} (p : T → Showing) (xs : List T) (i : ℕ) (x : T) {a b c : State} {u v w : Unit} →
-    Shows (each_shows p (take i xs)) a (Ok u) b → Shows (p x) b (Ok v) c → i < length xs → x ≡ get_or xs i x →
-    Shows (each_shows p (take (i + 1) xs)) a (Ok w) c
-shows_one_more p xs i x f s h e =
-    let e' = take_more xs i x h in
-    rw (e', ← e) (shows_weaker (each_and_one p (take i xs) x) (shows_both f s))
-
 -- The rules for implementations.
-pub ruleset showing = (left_cause, leaves_by_left, shows_nothing, shows_both, shows_both_err, shows_err, inline_shows, unique_shows, field_shows, inline_alone, unique_alone, field_alone, shared_shows, content_shows, again_shows, entry_err, field_err, shared_err, not_entered, not_sized, not_shared, not_entered_cause, not_sized_cause, shows_refused, shows_refused_err, shows_hidden, shows_forgotten, answers_err, goes_in_refused, goes_in, goes_in_plain_refused, goes_in_plain, refused_as, makes_keeps, kept_after)
+pub ruleset showing = (left_cause, leaves_by_left, shows_nothing, shows_both, shows_both_err, shows_err, inline_shows, unique_shows, field_shows, inline_alone, unique_alone, field_alone, shared_shows, content_shows, again_shows, entry_err, field_err, shared_err, not_entered, not_sized, not_shared, not_entered_cause, not_sized_cause, shows_refused, shows_refused_err, shows_hidden, shows_forgotten, answers_err, goes_in_refused, goes_in, goes_in_plain_refused, goes_in_plain, refused_as, makes_keeps, kept_after, inexact)

@@ -1,20 +1,25 @@
 -- One entry with what is inside it: the collector enters it, the same visitor enters what is inside, and the collector
 -- steps back.
-use Rattle.std.proofs.Common.{◌≡◌, ℕ, Bool, Option, Result, Ok, Err, IsErr, IfErr, refl, ◌∙◌}
+use Rattle.std.proofs.Common.{◌≡◌, ℕ, ◌+◌, ◌<◌, Bool, true, false, List, ◌∷◌, ◌++◌, take, drop, length, get_or, Option, Result, Ok, Err, IsErr, IfErr, refl, sym, ◌∙◌, ap, subst}
 use Rattle.std.proofs.lemmas.Bool.{false≢true}
+use Rattle.std.proofs.lemmas.List.{drop_more, take-append-drop}
 use Rattle.allocative_graph.specs.declared.refusal.Refusal.{Refusal}
 use Rattle.allocative_graph.specs.Path.{Key}
+use Rattle.allocative_graph.specs.Identity.{Identity}
 use Rattle.allocative_graph.specs.Collector.{State, left}
-use Rattle.allocative_graph.specs.Shows.{Showing, Nothing, Both, InsideAs, Field, sized}
-use Rattle.allocative_graph.specs.Visits.{Shows, already, HasFailed, Enters, EntersSized, is_sized}
+use Rattle.allocative_graph.specs.Shows.{Showing, Nothing, Both, InsideAs, Field, sized, SharedWith, each_shows}
+use Rattle.allocative_graph.specs.Visits.{Shows, already, HasFailed, Enters, EntersSized, is_sized, EntersShared, Leaves}
 use Rattle.allocative.specs.Making.{Plan, Done, Entry, Makes, had_failed, inside_refused, KeepsCause, EntersFirst, first_refused, MakesOrGives, makes, gives, one}
 use Rattle.allocative.specs.declared.visitor.Visitor.{Visitor}
 use Rattle.allocative.specs.Nested.{with_state}
-use Rattle.allocative.specs.Visited.{Entered}
+use Rattle.allocative.specs.Exact as refuses
+use Rattle.allocative.specs.Exact.{RefusesRightly}
+use Rattle.allocative.specs.Visited.{Entered, OnlyIf}
 use Rattle.allocative.proofs.Closures.{err_or}
 use Rattle.allocative.proofs.Making.{makes_entry, makes_failed, failed_left}
+use Rattle.allocative.proofs.Exact.{rightly_within, rightly_not_within, rightly_not_sized, rightly_first, rightly_both, rightly_item, in_sized, rightly_content, rightly_not_shared, rightly_again, inexact}
 use Rattle.allocative.proofs.Meaning.{entered_as, entered_none, means_same}
-use Rattle.allocative.proofs.Showing.{shows_both, shows_err, makes_keeps, entry_shows, entry_err, left_cause, not_entered, not_entered_cause, not_sized, not_sized_cause}
+use Rattle.allocative.proofs.Showing.{shows_both, shows_both_err, shows_err, makes_keeps, entry_shows, entry_err, left_cause, left_by, not_shared, again_shows, not_entered, not_entered_cause, not_sized, not_sized_cause}
 use Rattle.allocative.proofs.Steps.{leaves_by_left}
 
 -- ---- what is shown
@@ -27,38 +32,41 @@ cause_within : (o : Bool) (c d : State) (r : Result Unit Refusal) → IfErr r (H
 cause_within o c d (Ok v) h e = tt
 cause_within o c d (Err x) h e = left_cause (leaves_by_left o c d e) h
 
-pub entered_within : {u : Bool} {p : Showing} {k : Key} {n : ℕ} {o : Bool} {a b : Visitor} {t d : State} {r : Result Unit Refusal} →
-    Enters u k n a.collector.now (Ok o) t → Entered p (with_state a t) b r → d ≡ left o b.collector.now → Entered (InsideAs u k n p) a (with_state b d) r
+pub entered_within : {u x : Bool} {p : Showing} {k : Key} {n : ℕ} {o : Bool} {a b : Visitor} {t d : State} {r : Result Unit Refusal} →
+    Enters u k n a.collector.now (Ok o) t → Entered x p (with_state a t) b r → d ≡ left o b.collector.now → Entered x (InsideAs u k n p) a (with_state b d) r
 entered_within {o = o} {b = b} {d = d} {r = r} g h e = record {
   same_reference = h.same_reference;
   same_outer = h.same_outer;
   shown = within g h.shown e;
   cause = cause_within o b.collector.now d r h.cause e;
+  rightly = λ i. rightly_within g (h.rightly i) e;
 }
 
-pub entered_within_sized : {p : Showing} {k : Key} {size : Option ℕ} {o : Bool} {a b : Visitor} {t d : State} {r : Result Unit Refusal} →
-    EntersSized k size a.collector.now (Ok o) t → Entered p (with_state a t) b r → d ≡ left o b.collector.now → Entered (Field k size p) a (with_state b d) r
-entered_within_sized (is_sized g) h e = entered_as (entered_within g h e) (record { means = λ f x. sized x })
+pub entered_within_sized : {x : Bool} {p : Showing} {k : Key} {size : Option ℕ} {o : Bool} {a b : Visitor} {t d : State} {r : Result Unit Refusal} →
+    EntersSized k size a.collector.now (Ok o) t → Entered x p (with_state a t) b r → d ≡ left o b.collector.now → Entered x (Field k size p) a (with_state b d) r
+entered_within_sized (is_sized g) h e = entered_as (entered_within g h e) (record { means = λ f x. sized x; declared = λ i d. in_sized d })
 
 -- An entry with nothing inside it.
-pub entered_alone : {u : Bool} {k : Key} {n : ℕ} {o : Bool} {a : Visitor} {t d : State} → Enters u k n a.collector.now (Ok o) t → d ≡ left o t → Entered (InsideAs u k n Nothing) a (with_state a d) (Ok tt)
+pub entered_alone : {u x : Bool} {k : Key} {n : ℕ} {o : Bool} {a : Visitor} {t d : State} → Enters u k n a.collector.now (Ok o) t → d ≡ left o t → Entered x (InsideAs u k n Nothing) a (with_state a d) (Ok tt)
 entered_alone {a = a} {t = t} g e = entered_within g (entered_none (with_state a t) means_same) e
 
-pub entered_alone_sized : {k : Key} {size : Option ℕ} {o : Bool} {a : Visitor} {t d : State} → EntersSized k size a.collector.now (Ok o) t → d ≡ left o t → Entered (Field k size Nothing) a (with_state a d) (Ok tt)
+pub entered_alone_sized : {x : Bool} {k : Key} {size : Option ℕ} {o : Bool} {a : Visitor} {t d : State} → EntersSized k size a.collector.now (Ok o) t → d ≡ left o t → Entered x (Field k size Nothing) a (with_state a d) (Ok tt)
 entered_alone_sized {a = a} {t = t} g e = entered_within_sized g (entered_none (with_state a t) means_same) e
 
 -- An entry that is refused.
-pub not_within : {u : Bool} {p : Showing} {k : Key} {n : ℕ} {a : Visitor} {t : State} {e : Refusal} (r : Result Unit Refusal) → IsErr r → e ≡ err_or e r → Enters u k n a.collector.now (Err e) t → Entered p a (with_state a t) r
+pub not_within : {u x : Bool} {p : Showing} {k : Key} {n : ℕ} {a : Visitor} {t : State} {e : Refusal} (r : Result Unit Refusal) → IsErr r → e ≡ err_or e r → Enters u k n a.collector.now (Err e) t →
+    Entered x (InsideAs u k n p) a (with_state a t) r
 not_within (Ok v) h i g = absurd (false≢true h)
 not_within {u = u} {k = k} {n = n} {a = a} {t = t} (Err x) h i g =
     let j : Enters u k n a.collector.now (Err x) t = rw i at g in
-    record { same_reference = refl; same_outer = refl; shown = not_entered j; cause = not_entered_cause j }
+    record { same_reference = refl; same_outer = refl; shown = not_entered j; cause = not_entered_cause j; rightly = λ y. rightly_not_within j }
 
-pub not_within_sized : {p : Showing} {k : Key} {size : Option ℕ} {a : Visitor} {t : State} {e : Refusal} (r : Result Unit Refusal) → IsErr r → e ≡ err_or e r → EntersSized k size a.collector.now (Err e) t → Entered p a (with_state a t) r
+pub not_within_sized : {x : Bool} {p : Showing} {k : Key} {size : Option ℕ} {a : Visitor} {t : State} {e : Refusal} (r : Result Unit Refusal) → IsErr r → e ≡ err_or e r → EntersSized k size a.collector.now (Err e) t →
+    Entered x (Field k size p) a (with_state a t) r
 not_within_sized (Ok v) h i g = absurd (false≢true h)
 not_within_sized {k = k} {size = size} {a = a} {t = t} (Err x) h i g =
     let j : EntersSized k size a.collector.now (Err x) t = rw i at g in
-    record { same_reference = refl; same_outer = refl; shown = not_sized j; cause = not_sized_cause j }
+    record { same_reference = refl; same_outer = refl; shown = not_sized j; cause = not_sized_cause j; rightly = λ y. rightly_not_sized j }
 
 -- ---- the entry that is made first
 pub first_not_within : {k : Key} {size : Option ℕ} {s t : State} {e : Refusal} (r : Result Unit Refusal) → IsErr r → e ≡ err_or e r → EntersSized k size s (Err e) t → EntersFirst k size s r t
@@ -87,21 +95,99 @@ failed_answer (Err x) h i m = rw i at m
 pub kept_failed : {s t : State} {e : Refusal} (r : Result Unit Refusal) → IsErr r → e ≡ err_or e r → Makes Done s (Err e) t → KeepsCause s r t
 kept_failed {s = s} r h i m = makes_keeps s (failed_answer r h i m)
 
-pub entered_failed : {p : Showing} {a : Visitor} {e : Refusal} (r : Result Unit Refusal) → IsErr r → e ≡ err_or e r → Makes Done a.collector.now (Err e) a.collector.now → Entered p a a r
+-- Nothing is asked of a collector that had failed.
+rightly_failed : {p : Showing} {s t : State} {e : Refusal} {r : Result Unit Refusal} → Makes Done s (Err e) t → RefusesRightly p s r t
+rightly_failed had_failed = refuses.had_failed
+
+pub entered_failed : {x : Bool} {p : Showing} {a : Visitor} {e : Refusal} (r : Result Unit Refusal) → IsErr r → e ≡ err_or e r → Makes Done a.collector.now (Err e) a.collector.now → Entered x p a a r
 entered_failed (Ok v) h i m = absurd (false≢true h)
 entered_failed {a = a} (Err x) h i m =
     let n : Makes Done a.collector.now (Err x) a.collector.now = rw i at m in
-    record { same_reference = refl; same_outer = refl; shown = shows_failed n; cause = makes_failed n }
+    record { same_reference = refl; same_outer = refl; shown = shows_failed n; cause = makes_failed n; rightly = λ y. rightly_failed n }
 
--- A result that is passed on.
-pub entered_passed : {p q : Showing} {a b : Visitor} {e : Refusal} (r : Result Unit Refusal) → IsErr r → e ≡ err_or e r → Entered p a b (Err e) → Entered q a b r
-entered_passed (Ok v) h i s = absurd (false≢true h)
-entered_passed {p = p} {a = a} {b = b} (Err x) h i s =
-    let z : Entered p a b (Err x) = rw i at s in
-    record { same_reference = z.same_reference; same_outer = z.same_outer; shown = shows_err z.shown; cause = z.cause }
+-- An error that is passed on, of the first part or of the second.
+pub entered_passed : {d x : Bool} {p q : Showing} {a b : Visitor} {e : Refusal} (r : Result Unit Refusal) → IsErr r → e ≡ err_or e r → OnlyIf x d → Entered d p a b (Err e) → Entered x (Both p q) a b r
+entered_passed (Ok v) h i o s = absurd (false≢true h)
+entered_passed {d = d} {p = p} {a = a} {b = b} (Err x) h i o s =
+    let z : Entered d p a b (Err x) = rw i at s in
+    record {
+      same_reference = z.same_reference;
+      same_outer = z.same_outer;
+      shown = shows_err z.shown;
+      cause = z.cause;
+      rightly = λ y. rightly_first (z.rightly (o.follows y));
+    }
 
-pub entered_both : {p q : Showing} {a b c : Visitor} {u : Unit} {r : Result Unit Refusal} → Entered p a b (Ok u) → Entered q b c r → Entered (Both p q) a c r
-entered_both f s = record { same_reference = s.same_reference ∙ f.same_reference; same_outer = s.same_outer ∙ f.same_outer; shown = shows_both f.shown s.shown; cause = s.cause }
+pub entered_both : {d e x : Bool} {p q : Showing} {a b c : Visitor} {u : Unit} {r : Result Unit Refusal} → OnlyIf x d → OnlyIf x e → Entered d p a b (Ok u) → Entered e q b c r → Entered x (Both p q) a c r
+entered_both o w f s = record {
+  same_reference = s.same_reference ∙ f.same_reference;
+  same_outer = s.same_outer ∙ f.same_outer;
+  shown = shows_both f.shown s.shown;
+  cause = s.cause;
+  rightly = λ i. rightly_both (f.rightly (o.follows i)) (s.rightly (w.follows i));
+}
 
-pub entered_then_refused : {p q w : Showing} {a b c : Visitor} {u : Unit} {e : Refusal} (r : Result Unit Refusal) → IsErr r → e ≡ err_or e r → Entered p a b (Ok u) → Entered q b c (Err e) → Entered w a c r
-entered_then_refused r h i f s = entered_passed r h i (entered_both f s)
+-- An item that is refused, after the items before it.
+pub item_refused : {T : Type 0} {d : Bool} (p : T → Showing) (front : List T) (x : T) (back : List T) {xs : List T} {a b c : Visitor} {u : Unit} {e : Refusal} (r : Result Unit Refusal) → IsErr r → e ≡ err_or e r →
+    Entered d (each_shows p front) a b (Ok u) → Entered d (p x) b c (Err e) → front ++ x ∷ back ≡ xs → Entered d (each_shows p xs) a c r
+item_refused p front x back (Ok v) h i f s j = absurd (false≢true h)
+item_refused {d = d} p front x back {b = b} {c = c} (Err y) h i f s j =
+    let z : Entered d (p x) b c (Err y) = rw i at s in
+    rw (← j) (record {
+      same_reference = z.same_reference ∙ f.same_reference;
+      same_outer = z.same_outer ∙ f.same_outer;
+      shown = shows_both_err f.shown z.shown;
+      cause = z.cause;
+      rightly = λ k. rightly_item p front x back (f.rightly k) (z.rightly k);
+    })
+
+-- The list is the items before the one with this index, that item, and those after it.
+pub around_item : {T : Type 0} (xs : List T) (i : ℕ) (x : T) → i < length xs → x ≡ get_or xs i x → take i xs ++ x ∷ drop (i + 1) xs ≡ xs
+around_item xs i x l e = (λ k. take i xs ++ e k ∷ drop (i + 1) xs) ∙ ap (λ ys. take i xs ++ ys) (sym (drop_more xs i x l)) ∙ take-append-drop i xs
+
+-- The item with this index, where the items before it were entered.
+pub indexed_refused : {T : Type 0} {d : Bool} (p : T → Showing) (xs : List T) (i : ℕ) (x : T) {a b c : Visitor} {u : Unit} {e : Refusal} (r : Result Unit Refusal) → IsErr r → e ≡ err_or e r →
+    Entered d (each_shows p (take i xs)) a b (Ok u) → Entered d (p x) b c (Err e) → i < length xs → x ≡ get_or xs i x → Entered d (each_shows p xs) a c r
+indexed_refused p xs i x r h j f s l e = item_refused p (take i xs) x (drop (i + 1) xs) r h j f s (around_item xs i x l e)
+
+-- ---- the content of a shared entry
+any_unit : {p : Showing} {s t : State} {u v : Unit} → RefusesRightly p s (Ok u) t → RefusesRightly p s (Ok v) t
+any_unit refuses.had_failed = refuses.had_failed
+any_unit (refuses.has_added f x t e) = refuses.has_added f x t e
+
+pub content_added : {p : Showing} {k : Key} {n : ℕ} {i : Identity} {q is_first : Bool} {s t a c d : State} {v x : Unit} →
+    EntersShared k n i s (Ok is_first) t → is_first ≡ true → a ≡ t → RefusesRightly p a (Ok v) c → Leaves q c d → RefusesRightly (SharedWith k n i p) s (Ok x) d
+content_added {p} {q = q} {c = c} {v = v} g is z h l = any_unit (rightly_content q g is (subst (λ (y : State). RefusesRightly p y (Ok v) c) z h) (left_by l))
+
+pub content_refused : {p : Showing} {k : Key} {n : ℕ} {i : Identity} {q is_first : Bool} {s t a c d : State} {e : Refusal} (r : Result Unit Refusal) → IsErr r → e ≡ err_or e r →
+    EntersShared k n i s (Ok is_first) t → is_first ≡ true → a ≡ t → RefusesRightly p a (Err e) c → Leaves q c d → RefusesRightly (SharedWith k n i p) s r d
+content_refused (Ok v) j m g is z h l = absurd (false≢true j)
+content_refused {p} {q = q} {c = c} (Err y) j m g is z h l =
+    let h' : RefusesRightly p _ (Err y) c = rw m at h in
+    rightly_content q g is (subst (λ (y' : State). RefusesRightly p y' (Err y) c) z h') (left_by l)
+
+pub pointer_refused : {x : Bool} {p : Showing} {k : Key} {n : ℕ} {i : Identity} {a : Visitor} {t : State} {e : Refusal} (r : Result Unit Refusal) → IsErr r → e ≡ err_or e r → EntersShared k n i a.collector.now (Err e) t → HasFailed t e →
+    Entered x (SharedWith k n i p) a (with_state a t) r
+pointer_refused (Ok v) h i g c = absurd (false≢true h)
+pointer_refused {k = k} {n = n} {i = l} {a = a} {t = t} (Err x) h j g c =
+    let g' : EntersShared k n l a.collector.now (Err x) t = rw j at g in
+    record { same_reference = refl; same_outer = refl; shown = not_shared g'; cause = rw j at c; rightly = λ y. rightly_not_shared g' }
+
+pub pointer_again : {x is_first : Bool} {p : Showing} {k : Key} {n : ℕ} {i : Identity} {a : Visitor} {t : State} {u : Unit} → EntersShared k n i a.collector.now (Ok is_first) t → is_first ≡ false → Entered x (SharedWith k n i p) a (with_state a t) (Ok u)
+pointer_again {k = k} {n = n} {i = l} {a = a} {t = t} g is =
+    let g' : EntersShared k n l a.collector.now (Ok false) t = rw is at g in
+    record { same_reference = refl; same_outer = refl; shown = again_shows g'; cause = tt; rightly = λ y. rightly_again g' }
+
+-- ---- items that are not all known
+-- After an item that is refused.
+pub entered_then_refused : {d y : Bool} {p q w : Showing} {a b c : Visitor} {u : Unit} {e : Refusal} (r : Result Unit Refusal) → IsErr r → e ≡ err_or e r → Entered d p a b (Ok u) → Entered y q b c (Err e) → Entered false w a c r
+entered_then_refused (Ok v) h i f s = absurd (false≢true h)
+entered_then_refused {y = y} {q = q} {b = b} {c = c} (Err x) h i f s =
+    let z : Entered y q b c (Err x) = rw i at s in
+    record {
+      same_reference = z.same_reference ∙ f.same_reference;
+      same_outer = z.same_outer ∙ f.same_outer;
+      shown = shows_both_err f.shown z.shown;
+      cause = z.cause;
+      rightly = inexact;
+    }

@@ -1,3 +1,4 @@
+pub mod Exact
 pub mod Visited
 pub mod Parts
 pub mod Levels

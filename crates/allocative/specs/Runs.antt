@@ -1,11 +1,14 @@
 -- What is shown of the items that an iterator gives.
-use Rattle.std.specs.Prelude.{◌≡◌, ℕ, Bool, List, map, length, Option, codes}
-use Rattle.std.specs.Iterator.{Drains}
+use Rattle.std.specs.Prelude.{◌≡◌, ℕ, Bool, IsTrue, List, map, length, Option, Result, codes}
+use Rattle.std.specs.Iterator.{Drains, AlwaysYields}
 use denote.Ref.{Bor}
 use Rattle.allocative_described.specs.Sizes.{checked}
+use Rattle.allocative_graph.specs.declared.refusal.Refusal.{Refusal}
 use Rattle.allocative_graph.specs.Path.{Key}
 use Rattle.allocative_graph.specs.Forest.{Forest}
 use Rattle.allocative_graph.specs.Shows.{Showing, Both, Field, slice_shows}
+use Rattle.allocative.specs.Exact.{RefusesRightly}
+use Rattle.allocative.specs.declared.visitor.Visitor.{Visitor}
 
 -- A forest that q allows for the items of some whole run of an iterator that starts at s; v is what a contract sees of
 -- an item.
@@ -14,6 +17,13 @@ pub record IsOfRun {S A B : Type 0} (steps : S → Option A → S → Type 0) (s
   pub given : List A
   pub drained : Drains steps s given
   pub shown : q (map v given) f
+
+-- Where every run of an iterator that starts at s gives items that v takes to the same list, an exact visit of the
+-- forests that q allows for that list refuses only where it must.
+pub record RefusesAlong {S A B : Type 0} (is_exact : Bool) (steps : S → Option A → S → Type 0) (s : S) (v : A → B)
+    (q : List B → Showing) (old new : Visitor) (r : Result (Unit {0}) Refusal) : Type 0 where
+  pub along : IsTrue is_exact → (ys : List B) → AlwaysYields steps v s ys
+      → RefusesRightly (q ys) old.collector.now r new.collector.now
 
 -- A field with its name and declared size, with what p says of the value inside it.
 abbrev pub field_of : {T : Type 0} → Key → Option ℕ → (T → Showing) → T → Showing

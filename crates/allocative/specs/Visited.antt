@@ -1,24 +1,28 @@
 -- What a visit does to the visitor that it was given.
-use Rattle.std.specs.Prelude.{◌≡◌, Result, Ok, IfErr}
+use Rattle.std.specs.Prelude.{◌≡◌, Bool, IsTrue, Result, Ok, IfErr}
 use Rattle.allocative_graph.specs.declared.refusal.Refusal.{Refusal}
 use Rattle.allocative_graph.specs.Forest.{Forest}
 use Rattle.allocative_graph.specs.Shows.{Showing}
 use Rattle.allocative_graph.specs.Collector.{State, failed_with}
 use Rattle.allocative_graph.specs.Visits.{Shows, HasFailed, Begins, Leaves}
 use Rattle.allocative.specs.declared.visitor.Visitor.{Visitor}
+use Rattle.allocative.specs.Exact.{IsDeclared, RefusesRightly}
 
--- The visitor stays where it was, and its collector was shown what p allows.
-pub record Visited (p : Showing) (old new : Visitor) (r : Result (Unit {0}) Refusal) : Type 0 where
+-- The visitor stays where it was, and its collector was shown what p allows. An exact visit refuses only where it must.
+pub record Visited (is_exact : Bool) (p : Showing) (old new : Visitor) (r : Result (Unit {0}) Refusal) : Type 0 where
   pub same_reference : new.collector.ghost_name ≡ old.collector.ghost_name
   pub same_outer : new.outer_is_unique ≡ old.outer_is_unique
   pub shown : Shows p old.collector.now r new.collector.now
+  pub rightly : IsTrue is_exact → RefusesRightly p old.collector.now r new.collector.now
 
--- The visitor stays where it was, its collector was shown what p allows, and an Err is the collector's first cause.
-pub record Entered (p : Showing) (old new : Visitor) (r : Result (Unit {0}) Refusal) : Type 0 where
+-- The visitor stays where it was, its collector was shown what p allows, and an Err is the collector's first cause. What
+-- is exact refuses only where it must.
+pub record Entered (is_exact : Bool) (p : Showing) (old new : Visitor) (r : Result (Unit {0}) Refusal) : Type 0 where
   pub same_reference : new.collector.ghost_name ≡ old.collector.ghost_name
   pub same_outer : new.outer_is_unique ≡ old.outer_is_unique
   pub shown : Shows p old.collector.now r new.collector.now
   pub cause : IfErr r (HasFailed new.collector.now)
+  pub rightly : IsTrue is_exact → RefusesRightly p old.collector.now r new.collector.now
 
 -- The visitor stays where it was; its collector has failed with r unless it had failed before, and the first cause is
 -- returned.
@@ -40,6 +44,11 @@ Exits v t = Leaves v.outer_is_unique v.collector.now t
 abbrev pub BeginsAt : State → Visitor → Type 0
 BeginsAt s v = Begins s (Ok v.outer_is_unique) v.collector.now
 
--- Every forest that p allows, q allows.
-pub record Means (p q : Showing) : Type 0 where
+-- Every forest that p allows, q allows. For an exact visit, p is also declared where q is.
+pub record Means (is_exact : Bool) (p q : Showing) : Type 0 where
   pub means : (f : Forest) → p f → q f
+  pub declared : IsTrue is_exact → IsDeclared q → IsDeclared p
+
+-- The first visit is exact only where the second is.
+pub record OnlyIf (is_exact is_exact' : Bool) : Type 0 where
+  pub follows : IsTrue is_exact → IsTrue is_exact'

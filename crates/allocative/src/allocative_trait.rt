@@ -1,4 +1,5 @@
 //! The trait of values that show what they hold.
+ghost use Rattle.std.specs.Prelude.{Bool, false};
 ghost use Rattle.allocative_graph.specs.Forest.{Forest};
 ghost use Rattle.allocative.specs.Visited.{Visited};
 
@@ -40,11 +41,16 @@ use allocative_graph::refusal::Refusal;
 pub trait Allocative: Drop {
     ghost may_show: { Self → Forest → Type 0 };
 
+    /// Whether each visit refuses only where it must: with `TooLarge` only where the collector cannot take all that
+    /// the value may show, with `Memory` only in a flame graph, and never with `Open`. A type whose parts are exact
+    /// states `true`. One with a parameter states the flags of its parts, joined in their order.
+    ghost is_exact: { Bool } = { false };
+
     /// Enters what the value holds.
     ///
     /// After `Err` the collector has failed. After `Ok` it has failed (an error was hidden), or has more open
     /// visitors than before (one was forgotten), or has one more forest, which the value may show. A collector
     /// that had failed stays as it was. The visitor stays where it was.
     fn visit(&self, visitor: &mut Visitor<'_>) -> Result<(), Refusal>
-        ensures { Visited (may_show self.now) visitor.old visitor.new result };
+        ensures { Visited is_exact (may_show self.now) visitor.old visitor.new result };
 }

@@ -6,6 +6,7 @@ ghost use Rattle.allocative_graph.specs.Graph.{text, graph, total};
 ghost use Rattle.allocative_graph.specs.Collector.{Going, OfGraph, no_entries};
 ghost use Rattle.allocative_graph.specs.Visits.{Runs, Settles, Ends, IsProfile};
 ghost use Rattle.allocative.specs.Built.{as_graph};
+ghost use Rattle.allocative.specs.Exact.{RunsRightly};
 ghost use Rattle.allocative.specs.Rooted.{LendsBuilt, LendsRoot};
 ghost use Rattle.allocative.specs.Visited.{BeginsAt};
 ghost use Rattle.std.specs.Borrow.{sem};
@@ -84,17 +85,23 @@ impl FlameGraphBuilder {
     /// A builder that has failed returns its first cause, and one with an open visitor returns
     /// `Open`; then nothing changes. Otherwise the error is the first cause of the visit, or `Open`
     /// where the visit forgot a visitor.
+    ///
+    /// A builder that has not failed and has no open visitor refuses a root of an exact type only with `Memory`, or
+    /// with `TooLarge` where not all that the root may show can be added.
     pub fn visit_root(&mut self, root: &dyn Allocative) -> Result<(), Refusal>
-        ensures { Runs (may_show root.now) self.old result self.new }
+        ensures runs { Runs (may_show root.now) self.old result self.new }
+        ensures rightly { RunsRightly (⟦<dyn Allocative as Allocative>⟧ root.now.0).is_exact
+            (may_show root.now) self.old result self.new }
     {
         self.check()?;
         self.collector.visit_object(root)
     }
 
-    /// Visits a root whose type is known, without a trait object. What it returns and changes is what
-    /// `visit_root` does.
+    /// Visits a root whose type is known, without a trait object. What it returns and changes, and what a root of an
+    /// exact type is refused for, is as in `visit_root`.
     pub fn visit_value<T: Allocative>(&mut self, root: &T) -> Result<(), Refusal>
-        ensures { Runs (T.may_show root.now) self.old result self.new }
+        ensures runs { Runs (T.may_show root.now) self.old result self.new }
+        ensures rightly { RunsRightly T.is_exact (T.may_show root.now) self.old result self.new }
     {
         self.check()?;
         self.collector.visit_value(root)

@@ -1,7 +1,7 @@
 //! Parts of containers: what their items, pairs, texts and buffers show.
 #![tactic(auto, using(crate::proofs::Parts::parts))]
 
-ghost use Rattle.std.specs.Prelude.{codes, length, string_bytes, string_capacity, ◌++◌};
+ghost use Rattle.std.specs.Prelude.{true, ◌&&◌, codes, length, string_bytes, string_capacity, ◌++◌};
 ghost use Rattle.allocative_graph.specs.Shows as shows;
 ghost use Rattle.allocative.specs.Bodies.{bytes_shown, buffer_shows, cut_shows, text_shows, table_shows};
 ghost use Rattle.allocative.specs.PackShows.{index_data_shows};
@@ -29,6 +29,8 @@ pub struct Items<V>(pub V);
 impl<'a, T: Allocative + Described> Part for Items<&'a [T]> {
     ghost may_show = { λ s. shows.slice_shows T.name T.size T.needs_drop T.may_show s.0.now };
 
+    ghost is_exact = { T.is_exact };
+
     fn enter(self, visitor: &mut Visitor<'_>) -> Result<(), Refusal> {
         visitor.visit_slice(self.0)
     }
@@ -44,6 +46,8 @@ pub struct Each<V>(pub V);
 
 impl<'a, T: Allocative> Part for Each<&'a Vec<T>> {
     ghost may_show = { λ s. shows.each_shows T.may_show s.0.now.items };
+
+    ghost is_exact = { T.is_exact };
 
     #[tactic(auto, using(crate::proofs::Showing::showing))]
     fn enter(self, visitor: &mut Visitor<'_>) -> Result<(), Refusal> {
@@ -62,6 +66,8 @@ pub struct Cut<V>(pub V, pub V);
 impl<'a, T: Allocative + Described> Part for Cut<&'a [T]> {
     ghost may_show = { λ s. cut_shows T.name T.size T.needs_drop T.may_show (s.0.now ++ s.1.now) };
 
+    ghost is_exact = { T.is_exact };
+
     fn enter(self, visitor: &mut Visitor<'_>) -> Result<(), Refusal> {
         (Items(self.0), Items(self.1)).enter(visitor)
     }
@@ -79,6 +85,8 @@ pub struct FieldEach<K, V>(pub K, pub V);
 impl<'a, K: IntoKey, T: Allocative + Described> Part for FieldEach<K, &'a [T]> {
     ghost may_show = { λ s. shows.each_shows (field_of (K.key s.0) T.size T.may_show) s.1.now };
 
+    ghost is_exact = { T.is_exact };
+
     #[tactic(auto, using(crate::proofs::Showing::showing))]
     fn enter(self, visitor: &mut Visitor<'_>) -> Result<(), Refusal> {
         let FieldEach(key, items) = self;
@@ -93,6 +101,8 @@ impl<'a, K: IntoKey, T: Allocative + Described> Part for FieldEach<K, &'a [T]> {
 impl<'a, K: IntoKey, T: Allocative + Described + Ord> Part for FieldEach<K, &'a BTreeSet<T>> {
     ghost may_show = { λ s. shows.each_shows (field_of (K.key s.0) T.size T.may_show) s.1.now.keys };
 
+    ghost is_exact = { T.is_exact };
+
     fn enter(self, visitor: &mut Visitor<'_>) -> Result<(), Refusal> {
         let FieldEach(key, set) = self;
         visitor.visit_fields(key.into_key(), set.iter())
@@ -102,6 +112,8 @@ impl<'a, K: IntoKey, T: Allocative + Described + Ord> Part for FieldEach<K, &'a 
 impl<'a, K: IntoKey, T: Allocative + Described + Eq + Hash> Part for FieldEach<K, &'a HashSet<T>> {
     ghost may_show = { λ s. in_any_order (field_of (K.key s.0) T.size T.may_show) s.1.now.keys };
 
+    ghost is_exact = { T.is_exact };
+
     fn enter(self, visitor: &mut Visitor<'_>) -> Result<(), Refusal> {
         let FieldEach(key, hashed) = self;
         visitor.visit_fields(key.into_key(), hashed.iter())
@@ -110,6 +122,8 @@ impl<'a, K: IntoKey, T: Allocative + Described + Eq + Hash> Part for FieldEach<K
 
 impl<'a, K: IntoKey, T: Allocative + Described + Eq + Hash> Part for FieldEach<K, &'a IndexSet<T>> {
     ghost may_show = { λ s. shows.each_shows (field_of (K.key s.0) T.size T.may_show) s.1.now.keys };
+
+    ghost is_exact = { T.is_exact };
 
     fn enter(self, visitor: &mut Visitor<'_>) -> Result<(), Refusal> {
         let FieldEach(key, indexed) = self;
@@ -130,6 +144,8 @@ impl<'a, K: Allocative + Described + Ord, V: Allocative + Described> Part
     for Pairs<&'a BTreeMap<K, V>> {
     ghost may_show = { λ m. shows.each_shows (pair_shows K.size K.may_show V.size V.may_show) m.0.now.entries };
 
+    ghost is_exact = { K.is_exact && V.is_exact };
+
     fn enter(self, visitor: &mut Visitor<'_>) -> Result<(), Refusal> {
         let Pairs(map) = self;
         visitor.visit_pairs(map.iter())
@@ -140,6 +156,8 @@ impl<'a, K: Allocative + Described + Eq + Hash, V: Allocative + Described> Part
     for Pairs<&'a HashMap<K, V>> {
     ghost may_show = { λ m. in_any_order (pair_shows K.size K.may_show V.size V.may_show) m.0.now.entries };
 
+    ghost is_exact = { K.is_exact && V.is_exact };
+
     fn enter(self, visitor: &mut Visitor<'_>) -> Result<(), Refusal> {
         let Pairs(hashed) = self;
         visitor.visit_pairs(hashed.iter())
@@ -149,6 +167,8 @@ impl<'a, K: Allocative + Described + Eq + Hash, V: Allocative + Described> Part
 impl<'a, K: Allocative + Described + Eq + Hash, V: Allocative + Described> Part
     for Pairs<&'a IndexMap<K, V>> {
     ghost may_show = { λ m. shows.each_shows (pair_shows K.size K.may_show V.size V.may_show) m.0.now.entries };
+
+    ghost is_exact = { K.is_exact && V.is_exact };
 
     fn enter(self, visitor: &mut Visitor<'_>) -> Result<(), Refusal> {
         let Pairs(indexed) = self;
@@ -168,6 +188,8 @@ pub struct Unused {
 
 impl Part for Unused {
     ghost may_show = { λ u. bytes_shown (codes "unused_capacity") u.item_size u.count };
+
+    ghost is_exact = { true };
 
     #[inline(always)]
     fn enter(self, visitor: &mut Visitor<'_>) -> Result<(), Refusal> {
@@ -207,6 +229,8 @@ pub struct Buffer<P> {
 impl<P: Part> Part for Buffer<P> {
     ghost may_show = { λ b. buffer_shows b.item_size (P.may_show b.items) b.count b.capacity };
 
+    ghost is_exact = { P.is_exact };
+
     fn enter(self, visitor: &mut Visitor<'_>) -> Result<(), Refusal> {
         let Some(size) = self.item_size else {
             return Err(visitor.refuse(Refusal::TooLarge));
@@ -233,6 +257,8 @@ pub struct IndexData<P>(pub P, pub Unused);
 impl<P: Part> Part for IndexData<P> {
     ghost may_show = { λ d. index_data_shows d.1.item_size (P.may_show d.0) d.1.count };
 
+    ghost is_exact = { P.is_exact };
+
     fn enter(self, visitor: &mut Visitor<'_>) -> Result<(), Refusal> {
         Unique("data", 8, (self.0, self.1)).enter(visitor)
     }
@@ -250,6 +276,8 @@ pub struct Text<'a>(pub &'a String);
 impl<'a> Part for Text<'a> {
     ghost may_show = { λ t. text_shows (length (string_bytes t.0.now)) (string_capacity t.0.now) };
 
+    ghost is_exact = { true };
+
     fn enter(self, visitor: &mut Visitor<'_>) -> Result<(), Refusal> {
         let used = Inside("u8", self.0.len(), ());
         let room = self.0.capacity() - self.0.len();
@@ -266,6 +294,8 @@ pub struct Table(pub usize);
 
 impl Part for Table {
     ghost may_show = { λ t. table_shows t.0 };
+
+    ghost is_exact = { true };
 
     fn enter(self, visitor: &mut Visitor<'_>) -> Result<(), Refusal> {
         if self.0 == 0 {

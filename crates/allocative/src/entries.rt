@@ -1,7 +1,7 @@
 //! What implementations enter: entries with their parts.
 #![tactic(auto, using(crate::proofs::Showing::showing))]
 
-ghost use Rattle.std.specs.Prelude.{codes, length, Some};
+ghost use Rattle.std.specs.Prelude.{true, false, codes, length, Some};
 ghost use Rattle.allocative_graph.specs.Shows.{Inside, InsideUnique, Field, Nothing};
 ghost use Rattle.allocative.specs.Making.{MakesPlan, MakesFirst, one};
 ghost use Rattle.allocative.specs.Visited.{Entered};
@@ -19,7 +19,7 @@ impl Visitor<'_> {
     /// other errors are those of `enter`.
     #[inline(always)]
     pub fn visit_simple_sized<T: Described>(&mut self) -> Result<(), Refusal>
-        ensures entered { Entered (Field T.name T.size Nothing) self.old self.new result }
+        ensures entered { Entered true (Field T.name T.size Nothing) self.old self.new result }
         ensures exact { MakesPlan (one T.name T.size) self.old self.new result }
     {
         self.visit_sized(Key::for_type_name::<T>(), T::size())
@@ -34,7 +34,7 @@ impl Visitor<'_> {
         name: Key,
         field: &T,
     ) -> Result<(), Refusal>
-        ensures entered { Entered (Field name T.size (T.may_show field.now)) self.old self.new result }
+        ensures entered { Entered T.is_exact (Field name T.size (T.may_show field.now)) self.old self.new result }
         ensures first { MakesFirst name T.size self.old self.new result }
     {
         let outer = self.collector.open_sized(name, T::size())?;
@@ -68,7 +68,7 @@ impl Visitor<'_> {
 
     /// One inline entry `str` of the text's length in bytes. The errors are those of `enter`.
     pub fn visit_str(&mut self, text: &str) -> Result<(), Refusal>
-        ensures entered { Entered (Inside (codes "str") (length text.now) Nothing) self.old self.new result }
+        ensures entered { Entered true (Inside (codes "str") (length text.now) Nothing) self.old self.new result }
         ensures exact { MakesPlan (one (codes "str") (Some (length text.now))) self.old self.new result }
     {
         self.visit_simple(Key::new("str"), text.len())
@@ -76,7 +76,8 @@ impl Visitor<'_> {
 
     // One unique entry of a pointer, with what the object shows inside it.
     fn visit_object_pointer(&mut self, object: &dyn Allocative) -> Result<(), Refusal>
-        ensures { Entered (InsideUnique (codes "ptr") 8 (may_show object.now)) self.old self.new result }
+        ensures { Entered (⟦<dyn Allocative as Allocative>⟧ object.now.0).is_exact
+            (InsideUnique (codes "ptr") 8 (may_show object.now)) self.old self.new result }
     {
         let outer = self.collector.open_unique(Key::new("ptr"), 8)?;
         let answer = self.visit_object(object);
@@ -88,9 +89,9 @@ impl Visitor<'_> {
     /// that what the object shows.
     ///
     /// A collector that has failed returns its first cause. The errors of each entry are those of `enter`; the
-    /// object's own errors come after them.
+    /// object's own errors come after them. It is exact where the type of the object is.
     pub fn visit_boxed_object(&mut self, object: &dyn Allocative) -> Result<(), Refusal>
-        ensures entered { Entered
+        ensures entered { Entered (⟦<dyn Allocative as Allocative>⟧ object.now.0).is_exact
             (Inside (codes "Box") 8 (InsideUnique (codes "ptr") 8 (may_show object.now))) self.old self.new result }
         ensures first { MakesFirst (codes "Box") (Some 8) self.old self.new result }
     {

@@ -1,7 +1,7 @@
 //! What containers of pairs and of keys enter: the items that an iterator gives.
 #![tactic(auto, using(crate::proofs::Showing::showing))]
 
-ghost use Rattle.std.specs.Prelude.{codes, ◌≡◌, Some};
+ghost use Rattle.std.specs.Prelude.{false, ◌&&◌, codes, ◌≡◌, Some};
 ghost use Rattle.std.specs.Iterator.{IsFinite};
 ghost use Rattle.std.specs.Map.Iter.{deref, deref_pair};
 ghost use Rattle.allocative_graph.specs.Shows.{Inside, each_shows, slice_shows};
@@ -9,7 +9,7 @@ ghost use Rattle.allocative_described.specs.Sizes.{size_sum};
 ghost use Rattle.allocative.specs.Making.{MakesPlanOrGives, MakesFirst, Keeps, MakesPlanRun, Done, one};
 ghost use Rattle.allocative.specs.Visited.{Entered};
 ghost use Rattle.allocative.specs.Bodies.{are_shown_each};
-ghost use Rattle.allocative.specs.Runs.{IsOfRun, CountsRun, field_of, pair_shows, deref_entry, value_shows, values_slice};
+ghost use Rattle.allocative.specs.Runs.{IsOfRun, RefusesAlong, CountsRun, field_of, pair_shows, deref_entry, value_shows, values_slice};
 
 use crate::allocative_trait::Allocative;
 use crate::part::Part;
@@ -47,7 +47,9 @@ impl Visitor<'_> {
     ) -> Result<(), Refusal>
         requires can { I.can_next items }
         requires ends { IsFinite (I.remaining items) }
-        ensures entered { Entered (IsOfRun I.next_gives items deref (each_shows T.may_show)) self.old self.new result }
+        ensures entered { Entered false (IsOfRun I.next_gives items deref (each_shows T.may_show)) self.old self.new result }
+        ensures rightly { RefusesAlong T.is_exact
+            I.next_gives items deref (each_shows T.may_show) self.old self.new result }
         ensures kept { Keeps self.old self.new result }
         ensures exact { MakesPlanOrGives I.next_gives items Done self.old self.new result }
     {
@@ -70,7 +72,7 @@ impl Visitor<'_> {
     ) -> Result<(), Refusal>
         requires can { I.can_next items }
         requires ends { IsFinite (I.remaining items) }
-        ensures entered { Entered
+        ensures entered { Entered false
             (IsOfRun I.next_gives items deref
             (slice_shows T.name T.size T.needs_drop T.may_show)) self.old self.new result }
         ensures kept { Keeps self.old self.new result }
@@ -91,7 +93,7 @@ impl Visitor<'_> {
     ) -> Result<(), Refusal>
         requires can { I.can_next entries }
         requires ends { IsFinite (I.remaining entries) }
-        ensures { Entered
+        ensures { Entered false
             (IsOfRun I.next_gives entries deref_entry (each_shows (value_shows T.may_show))) self.old self.new result }
     {
         for (_key, value) in entries {
@@ -108,7 +110,7 @@ impl Visitor<'_> {
     >(&mut self, entries: I) -> Result<(), Refusal>
         requires can { I.can_next entries }
         requires ends { IsFinite (I.remaining entries) }
-        ensures { Entered
+        ensures { Entered false
             (IsOfRun I.next_gives entries deref_entry
             (values_slice T.name T.size T.needs_drop T.may_show)) self.old self.new result }
     {
@@ -127,8 +129,10 @@ impl Visitor<'_> {
     >(&mut self, name: Key, items: I) -> Result<(), Refusal>
         requires can { I.can_next items }
         requires ends { IsFinite (I.remaining items) }
-        ensures entered { Entered
+        ensures entered { Entered false
             (IsOfRun I.next_gives items deref (each_shows (field_of name T.size T.may_show))) self.old self.new result }
+        ensures rightly { RefusesAlong T.is_exact
+            I.next_gives items deref (each_shows (field_of name T.size T.may_show)) self.old self.new result }
         ensures exact { MakesPlanOrGives I.next_gives items Done self.old self.new result }
     {
         self.collector.go_on()?;
@@ -145,9 +149,11 @@ impl Visitor<'_> {
     ) -> Result<(), Refusal>
         requires can { I.can_next keys }
         requires ends { IsFinite (I.remaining keys) }
-        ensures entered { Entered
+        ensures entered { Entered false
             (IsOfRun I.next_gives keys deref
             (each_shows (field_of (codes "key") K.size K.may_show))) self.old self.new result }
+        ensures rightly { RefusesAlong K.is_exact
+            I.next_gives keys deref (each_shows (field_of (codes "key") K.size K.may_show)) self.old self.new result }
         ensures exact { MakesPlanOrGives I.next_gives keys Done self.old self.new result }
     {
         self.visit_fields(Key::new("key"), keys)
@@ -159,7 +165,7 @@ impl Visitor<'_> {
         key: &K,
         value: &V,
     ) -> Result<(), Refusal>
-        ensures { Entered
+        ensures { Entered (K.is_exact && V.is_exact)
             (pair_shows K.size K.may_show V.size V.may_show (key.now, value.now)) self.old self.new result }
     {
         self.visit_field(Key::new("key"), key)?;
@@ -175,9 +181,11 @@ impl Visitor<'_> {
     >(&mut self, pairs: I) -> Result<(), Refusal>
         requires can { I.can_next pairs }
         requires ends { IsFinite (I.remaining pairs) }
-        ensures entered { Entered
+        ensures entered { Entered false
             (IsOfRun I.next_gives pairs deref_pair
             (each_shows (pair_shows K.size K.may_show V.size V.may_show))) self.old self.new result }
+        ensures rightly { RefusesAlong (K.is_exact && V.is_exact) I.next_gives pairs deref_pair
+            (each_shows (pair_shows K.size K.may_show V.size V.may_show)) self.old self.new result }
         ensures exact { MakesPlanOrGives I.next_gives pairs Done self.old self.new result }
     {
         self.collector.go_on()?;
@@ -201,10 +209,13 @@ impl Visitor<'_> {
     >(&mut self, entries: I) -> Result<(), Refusal>
         requires can { I.can_next entries }
         requires ends { IsFinite (I.remaining entries) }
-        ensures entered { Entered
+        ensures entered { Entered false
             (Inside (codes "data") 8
             (IsOfRun I.next_gives entries deref_pair
             (each_shows (pair_shows K.size K.may_show V.size V.may_show)))) self.old self.new result }
+        ensures rightly { RefusesAlong (K.is_exact && V.is_exact) I.next_gives entries deref_pair
+            (λ es. Inside (codes "data") 8
+            (each_shows (pair_shows K.size K.may_show V.size V.may_show) es)) self.old self.new result }
         ensures first { MakesFirst (codes "data") (Some 8) self.old self.new result }
         ensures exact { MakesPlanOrGives I.next_gives entries (one (codes "data") (Some 8)) self.old self.new result }
     {
@@ -223,10 +234,13 @@ impl Visitor<'_> {
     >(&mut self, entries: I) -> Result<(), Refusal>
         requires can { I.can_next entries }
         requires ends { IsFinite (I.remaining entries) }
-        ensures entered { Entered
+        ensures entered { Entered false
             (Inside (codes "data") 8
             (IsOfRun I.next_gives entries deref
             (each_shows (field_of (codes "key") K.size K.may_show)))) self.old self.new result }
+        ensures rightly { RefusesAlong K.is_exact I.next_gives entries deref
+            (λ ks. Inside (codes "data") 8
+            (each_shows (field_of (codes "key") K.size K.may_show) ks)) self.old self.new result }
         ensures first { MakesFirst (codes "data") (Some 8) self.old self.new result }
         ensures exact { MakesPlanOrGives I.next_gives entries (one (codes "data") (Some 8)) self.old self.new result }
     {

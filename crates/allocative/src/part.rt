@@ -3,7 +3,7 @@
 //! An implementation of `Allocative` builds one part that mirrors its `may_show`, and enters it.
 #![tactic(auto, using(crate::proofs::Showing::showing))]
 
-ghost use Rattle.std.specs.Prelude.{◌≡◌};
+ghost use Rattle.std.specs.Prelude.{◌≡◌, Bool, true, false, ◌&&◌};
 ghost use Rattle.allocative_graph.specs.Forest.{Forest};
 ghost use Rattle.allocative_graph.specs.Path as path;
 ghost use Rattle.allocative_graph.specs.Shows as shows;
@@ -51,6 +51,10 @@ impl IntoKey for &'static str {
 pub trait Part: Drop {
     ghost may_show: { Self → Forest → Type 0 };
 
+    /// Whether entering refuses only where it must, as `Allocative` says of visits. The parts of this crate are exact
+    /// where the parts and values in them are.
+    ghost is_exact: { Bool } = { false };
+
     /// Enters the part at the visitor.
     ///
     /// The errors of each entry are those of `Visitor::enter`. An `Err` is the collector's first cause, and
@@ -59,11 +63,13 @@ pub trait Part: Drop {
     /// and the collector has more open visitors than before. A collector that had failed stays as it was. The
     /// visitor stays where it was.
     fn enter(self, visitor: &mut Visitor<'_>) -> Result<(), Refusal>
-        ensures { Entered (may_show self) visitor.old visitor.new result };
+        ensures { Entered is_exact (may_show self) visitor.old visitor.new result };
 }
 
 impl Part for () {
     ghost may_show = { λ _. shows.Nothing };
+
+    ghost is_exact = { true };
 
     fn enter(self, _visitor: &mut Visitor<'_>) -> Result<(), Refusal> {
         Ok(())
@@ -72,6 +78,8 @@ impl Part for () {
 
 impl<'a, T: Allocative> Part for &'a T {
     ghost may_show = { λ v. T.may_show v.now };
+
+    ghost is_exact = { T.is_exact };
 
     fn enter(self, visitor: &mut Visitor<'_>) -> Result<(), Refusal> {
         if let Err(refusal) = self.visit(visitor) {
@@ -92,6 +100,8 @@ pub struct Inside<K, P>(pub K, pub usize, pub P);
 
 impl<K: IntoKey, P: Part> Part for Inside<K, P> {
     ghost may_show = { λ e. shows.Inside (K.key e.0) e.1 (P.may_show e.2) };
+
+    ghost is_exact = { P.is_exact };
 
     #[inline(always)]
     fn enter(self, visitor: &mut Visitor<'_>) -> Result<(), Refusal> {
@@ -115,6 +125,8 @@ pub struct Declared<K, P>(pub K, pub Option<usize>, pub P);
 impl<K: IntoKey, P: Part> Part for Declared<K, P> {
     ghost may_show = { λ e. shows.Field (K.key e.0) e.1 (P.may_show e.2) };
 
+    ghost is_exact = { P.is_exact };
+
     #[inline(always)]
     fn enter(self, visitor: &mut Visitor<'_>) -> Result<(), Refusal> {
         let outer = visitor.collector.open_sized(self.0.into_key(), self.1)?;
@@ -135,6 +147,8 @@ pub struct Unique<K, P>(pub K, pub usize, pub P);
 
 impl<K: IntoKey, P: Part> Part for Unique<K, P> {
     ghost may_show = { λ e. shows.InsideUnique (K.key e.0) e.1 (P.may_show e.2) };
+
+    ghost is_exact = { P.is_exact };
 
     #[inline(always)]
     fn enter(self, visitor: &mut Visitor<'_>) -> Result<(), Refusal> {
@@ -158,6 +172,8 @@ pub struct Field<K, V>(pub K, pub V);
 
 impl<'a, K: IntoKey, T: Allocative + Described> Part for Field<K, &'a T> {
     ghost may_show = { λ f. shows.Field (K.key f.0) T.size (T.may_show f.1.now) };
+
+    ghost is_exact = { T.is_exact };
 
     #[inline(always)]
     fn enter(self, visitor: &mut Visitor<'_>) -> Result<(), Refusal> {
@@ -193,6 +209,8 @@ pub struct Shared<P> {
 impl<P: Part> Part for Shared<P> {
     ghost may_show = { λ s. shows.SharedWith s.key s.size s.identity (P.may_show s.content) };
 
+    ghost is_exact = { P.is_exact };
+
     fn enter(self, visitor: &mut Visitor<'_>) -> Result<(), Refusal> {
         let is_first = visitor
             .collector
@@ -209,6 +227,8 @@ impl<P: Part> Part for Shared<P> {
 impl<P: Part> Part for Option<P> {
     ghost may_show = { λ o. optional_shows P.may_show o };
 
+    ghost is_exact = { P.is_exact };
+
     fn enter(self, visitor: &mut Visitor<'_>) -> Result<(), Refusal> {
         match self {
             None => Ok(()),
@@ -219,6 +239,8 @@ impl<P: Part> Part for Option<P> {
 
 impl<P: Part, Q: Part> Part for Either<P, Q> {
     ghost may_show = { λ c. either_shows P.may_show Q.may_show c };
+
+    ghost is_exact = { P.is_exact && Q.is_exact };
 
     fn enter(self, visitor: &mut Visitor<'_>) -> Result<(), Refusal> {
         match self {
@@ -231,6 +253,8 @@ impl<P: Part, Q: Part> Part for Either<P, Q> {
 impl<P: Part> Part for (P,) {
     ghost may_show = { λ e. P.may_show e.0 };
 
+    ghost is_exact = { P.is_exact };
+
     #[inline(always)]
     fn enter(self, visitor: &mut Visitor<'_>) -> Result<(), Refusal> {
         self.0.enter(visitor)
@@ -239,6 +263,8 @@ impl<P: Part> Part for (P,) {
 
 impl<P: Part, Q: Part> Part for (P, Q) {
     ghost may_show = { λ e. shows.Both (P.may_show e.0) (Q.may_show e.1) };
+
+    ghost is_exact = { P.is_exact && Q.is_exact };
 
     #[inline(always)]
     fn enter(self, visitor: &mut Visitor<'_>) -> Result<(), Refusal> {
@@ -251,6 +277,8 @@ impl<P: Part, Q: Part> Part for (P, Q) {
 impl<P: Part, Q: Part, R: Part> Part for (P, Q, R) {
     ghost may_show = { λ e. shows.Both (P.may_show e.0) (shows.Both (Q.may_show e.1) (R.may_show e.2)) };
 
+    ghost is_exact = { P.is_exact && (Q.is_exact && R.is_exact) };
+
     #[inline(always)]
     fn enter(self, visitor: &mut Visitor<'_>) -> Result<(), Refusal> {
         let (first, second, third) = self;
@@ -262,6 +290,8 @@ impl<P: Part, Q: Part, R: Part, S: Part> Part for (P, Q, R, S) {
     ghost may_show = { λ e. shows.Both (P.may_show e.0)
         (shows.Both (Q.may_show e.1) (shows.Both (R.may_show e.2) (S.may_show e.3))) };
 
+    ghost is_exact = { P.is_exact && (Q.is_exact && (R.is_exact && S.is_exact)) };
+
     #[inline(always)]
     fn enter(self, visitor: &mut Visitor<'_>) -> Result<(), Refusal> {
         let (first, second, third, fourth) = self;
@@ -272,6 +302,8 @@ impl<P: Part, Q: Part, R: Part, S: Part> Part for (P, Q, R, S) {
 impl<P: Part, Q: Part, R: Part, S: Part, T: Part> Part for (P, Q, R, S, T) {
     ghost may_show = { λ e. shows.Both (P.may_show e.0)
         (shows.Both (Q.may_show e.1) (shows.Both (R.may_show e.2) (shows.Both (S.may_show e.3) (T.may_show e.4)))) };
+
+    ghost is_exact = { P.is_exact && (Q.is_exact && (R.is_exact && (S.is_exact && T.is_exact))) };
 
     #[inline(always)]
     fn enter(self, visitor: &mut Visitor<'_>) -> Result<(), Refusal> {

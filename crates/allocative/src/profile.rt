@@ -1,10 +1,11 @@
 //! Whole runs over roots whose types are known.
 #![tactic(auto, using(crate::proofs::Roots::running))]
 
-ghost use Rattle.std.specs.Prelude.{◌<◌, ◌^◌, IfOk};
+ghost use Rattle.std.specs.Prelude.{◌<◌, ◌^◌, IfOk, IfErr};
 ghost use Rattle.allocative_graph.specs.Graph.{total};
 ghost use Rattle.allocative_graph.specs.Shows.{each_shows};
 ghost use Rattle.allocative_graph.specs.Visits.{Runs, IsProfileOf};
+ghost use Rattle.allocative.specs.Exact.{MayRefuseProfile, RunsRightly};
 
 use crate::allocative_trait::Allocative;
 use crate::builder::FlameGraphBuilder;
@@ -14,8 +15,12 @@ use std::alloc::Global;
 
 impl FlameGraphBuilder {
     /// Visits roots of one type in order, up to the first refusal, each as `visit_value` does.
+    ///
+    /// A builder that has not failed and has no open visitor refuses roots of an exact type only with `Memory`, or with
+    /// `TooLarge` where not all that the roots may show together can be added.
     pub fn visit_values<T: Allocative>(&mut self, roots: &[T]) -> Result<(), Refusal>
-        ensures { Runs (each_shows T.may_show roots.now) self.old result self.new }
+        ensures runs { Runs (each_shows T.may_show roots.now) self.old result self.new }
+        ensures rightly { RunsRightly T.is_exact (each_shows T.may_show roots.now) self.old result self.new }
     {
         self.check()?;
         for root in roots {
@@ -30,7 +35,8 @@ impl FlameGraphBuilder {
 /// A struct that owns the parts of a service is profiled so, from a method of its own. The promise is that of
 /// `profile_roots`, for what the value may show. It makes no trait object, so any function may hold the value and
 /// pass it on. The graph's total is at most `isize::MAX` bytes. It is refused for want of memory, or as the value's
-/// own visit is.
+/// own visit is. A value of an exact type is refused only with `Memory`, or with `TooLarge` where a flame graph cannot
+/// take all that the value may show.
 ///
 /// ```
 /// let output = profile_value(alloc, &Some(7u32))?;
@@ -38,6 +44,7 @@ impl FlameGraphBuilder {
 /// ```
 pub fn profile_value<T: Allocative>(alloc: Global, root: &T) -> Result<FlameGraphOutput, Refusal>
     ensures profile { IfOk result (IsProfileOf (T.may_show root.now)) }
+    ensures refused { IfErr result (MayRefuseProfile T.is_exact (T.may_show root.now)) }
     ensures total { IfOk result (λ o. total o.graph < 2 ^ 63) }
 {
     let mut builder = FlameGraphBuilder::new(alloc)?;
@@ -57,6 +64,7 @@ pub fn profile_values<T: Allocative>(
     roots: &[T],
 ) -> Result<FlameGraphOutput, Refusal>
     ensures profile { IfOk result (IsProfileOf (each_shows T.may_show roots.now)) }
+    ensures refused { IfErr result (MayRefuseProfile T.is_exact (each_shows T.may_show roots.now)) }
     ensures total { IfOk result (λ o. total o.graph < 2 ^ 63) }
 {
     let mut builder = FlameGraphBuilder::new(alloc)?;

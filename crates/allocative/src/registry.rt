@@ -1,10 +1,12 @@
 //! Roots by the list, and whole runs over them.
 #![tactic(auto, using(crate::proofs::Roots::running))]
 
-ghost use Rattle.std.specs.Prelude.{◌≡◌, ◌++◌, ◌∷◌, [], MatchResult, IfOk};
+ghost use Rattle.std.specs.Prelude.{◌≡◌, ◌++◌, ◌∷◌, [], MatchResult, IfOk, IfErr};
 ghost use Rattle.allocative_graph.specs.Shows.{each_shows};
 ghost use Rattle.allocative.specs.Roots.{roots_of};
 ghost use Rattle.allocative_graph.specs.Visits.{Runs, IsProfileOf};
+ghost use Rattle.allocative.specs.Exact.{MayRefuseProfile, RunsRightly};
+ghost use Rattle.std.specs.List.{list_all};
 
 use crate::allocative_trait::Allocative;
 use crate::builder::FlameGraphBuilder;
@@ -73,8 +75,15 @@ impl FlameGraphBuilder {
     ghost use Rattle.allocative.specs.Roots.{roots_of};
 
     /// Visits the registry's roots in order, up to the first refusal, each as `visit_root` does.
+    ///
+    /// Where the types of all roots are exact, a builder that has not failed and has no open visitor refuses them only
+    /// with `Memory`, or with `TooLarge` where not all that the roots may show together can be added.
     pub fn visit_global_roots(&mut self, registry: &Registry) -> Result<(), Refusal>
-        ensures { Runs
+        ensures runs { Runs
+            (each_shows (λ b. (⟦<dyn Allocative as Allocative>⟧ b.vtable).may_show b.value)
+            (roots_of registry.now)) self.old result self.new }
+        ensures rightly { RunsRightly
+            (list_all (λ b. (⟦<dyn Allocative as Allocative>⟧ b.vtable).is_exact) (roots_of registry.now))
             (each_shows (λ b. (⟦<dyn Allocative as Allocative>⟧ b.vtable).may_show b.value)
             (roots_of registry.now)) self.old result self.new }
     {
@@ -82,7 +91,10 @@ impl FlameGraphBuilder {
     }
 
     fn visit_boxes(&mut self, roots: &[Box<dyn Allocative>]) -> Result<(), Refusal>
-        ensures { Runs (each_shows (λ b. may_show b) roots.now) self.old result self.new }
+        ensures runs { Runs (each_shows (λ b. may_show b) roots.now) self.old result self.new }
+        ensures rightly { RunsRightly
+            (list_all (λ b. (⟦<dyn Allocative as Allocative>⟧ b.vtable).is_exact) roots.now)
+            (each_shows (λ b. may_show b) roots.now) self.old result self.new }
     {
         self.check()?;
         for root in roots {
@@ -92,7 +104,9 @@ impl FlameGraphBuilder {
     }
 
     fn visit_box(&mut self, root: &Box<dyn Allocative>) -> Result<(), Refusal>
-        ensures { Runs (may_show root.now) self.old result self.new }
+        ensures runs { Runs (may_show root.now) self.old result self.new }
+        ensures rightly { RunsRightly (⟦<dyn Allocative as Allocative>⟧ root.now.vtable).is_exact
+            (may_show root.now) self.old result self.new }
     {
         self.visit_root(&**root)
     }
@@ -103,10 +117,15 @@ impl FlameGraphBuilder {
 /// The graph has exactly the paths of the roots' own entries and, once for each identity reached, of the first
 /// content shown for it; each path has its declared bytes less those declared one step below, never below zero, or
 /// all where it was ever unique. The warnings have a line for each path but the root that was never unique and has
-/// fewer bytes than stand one key below. It is refused for want of memory, or as a root's own visit is.
+/// fewer bytes than stand one key below. It is refused for want of memory, or as a root's own visit is. Where the types
+/// of all roots are exact, it is refused only with `Memory`, or with `TooLarge` where a flame graph cannot take all that
+/// the roots may show together.
 pub fn profile_roots(registry: &Registry) -> Result<FlameGraphOutput, Refusal>
     ensures profile { IfOk result
         (IsProfileOf
+        (each_shows (λ b. (⟦<dyn Allocative as Allocative>⟧ b.vtable).may_show b.value) (roots_of registry.now))) }
+    ensures refused { IfErr result
+        (MayRefuseProfile (list_all (λ b. (⟦<dyn Allocative as Allocative>⟧ b.vtable).is_exact) (roots_of registry.now))
         (each_shows (λ b. (⟦<dyn Allocative as Allocative>⟧ b.vtable).may_show b.value) (roots_of registry.now))) }
 {
     let mut builder = FlameGraphBuilder::new(*registry.roots.allocator())?;

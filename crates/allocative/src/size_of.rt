@@ -1,11 +1,11 @@
 //! The bytes that values hold on the heap.
 #![tactic(auto, using(crate::proofs::Roots::running))]
 
-ghost use Rattle.std.specs.Prelude.{◌≡◌, IfOk};
+ghost use Rattle.std.specs.Prelude.{◌≡◌, IfOk, IfErr};
 ghost use Rattle.allocative_graph.specs.Forest.{Forest};
 ghost use Rattle.allocative_graph.specs.Held.{held, ShowsNoContent};
 ghost use Rattle.allocative.specs.Closures.{KeepsVisitor, CalledAt, CalledAtRoot};
-ghost use Rattle.allocative.specs.SizeOf.{IsSizeOfUnique};
+ghost use Rattle.allocative.specs.SizeOf.{IsSizeOfUnique, MayRefuseHeld, MayRefuseSize};
 
 use crate::allocative_trait::Allocative;
 use crate::collector::Collector;
@@ -32,8 +32,13 @@ impl Visitor<'_> {
 /// It takes no memory. It is refused with TooLarge where the sum or a declared size does not fit, with Open where a
 /// visitor was forgotten, and else with the first cause of the visit. The entries of std's maps and sets are declared
 /// inline, so of them only what the keys and values hold counts.
+///
+/// An object of an exact type is refused with TooLarge alone: where what it may show asks for a declared size that is
+/// not there, or where some of what it may show does not fit.
 pub fn size_of_unique_allocated_data(root: &dyn Allocative) -> Result<usize, Refusal>
     ensures held { IfOk result (λ s. (f : Forest) × may_show root.now f × ShowsNoContent f × (s ≡ held f)) }
+    ensures refused { IfErr result
+        (MayRefuseHeld (⟦<dyn Allocative as Allocative>⟧ root.now.0).is_exact (may_show root.now)) }
 {
     let mut collector = Collector::held();
     collector.visit_object(root)?;
@@ -42,12 +47,17 @@ pub fn size_of_unique_allocated_data(root: &dyn Allocative) -> Result<usize, Ref
 
 /// The same plus the declared size of the root. It visits the value itself, and makes no trait object.
 ///
+/// An exact type is refused with TooLarge alone: where it has no declared size, where what the value may show asks for
+/// a declared size that is not there, or where some of what it may show does not fit, by itself or together with the
+/// declared size of the root.
+///
 /// ```
 /// let number: Box<u32> = Box::new(alloc, 7)?;
 /// assert_eq!(rt; size_of_unique(&number)?, 12); // a pointer of 8 bytes, and 4 on the heap
 /// ```
 pub fn size_of_unique<T: Allocative + Described>(root: &T) -> Result<usize, Refusal>
     ensures held { IfOk result (IsSizeOfUnique T.size (T.may_show root.now)) }
+    ensures refused { IfErr result (MayRefuseSize T.is_exact T.size (T.may_show root.now)) }
 {
     let mut collector = Collector::held();
     collector.visit_value(root)?;

@@ -1,7 +1,7 @@
 //! What containers of items in a row enter: slices, and buffers with unused room.
 #![tactic(auto, using(crate::proofs::Showing::showing))]
 
-ghost use Rattle.std.specs.Prelude.{codes, ◌≡◌, ◌≤◌, ◌-◌, length, Some};
+ghost use Rattle.std.specs.Prelude.{true, codes, ◌≡◌, ◌≤◌, ◌-◌, length, Some};
 ghost use Rattle.allocative_described.specs.Sizes.{size_product};
 ghost use Rattle.allocative_graph.specs.Shows.{Field, Nothing, Both, each_shows, slice_shows};
 ghost use Rattle.allocative.specs.Making.{MakesPlan, MakesFirst, Keeps, Done, one, VisitsNone, slice_plan, room_plan, vec_plan};
@@ -37,7 +37,7 @@ impl Visitor<'_> {
     /// One inline entry of a size. It is `TooLarge` where there is no size.
     #[inline(always)]
     pub(crate) fn visit_sized(&mut self, name: Key, size: Option<usize>) -> Result<(), Refusal>
-        ensures entered { Entered (Field name size Nothing) self.old self.new result }
+        ensures entered { Entered true (Field name size Nothing) self.old self.new result }
         ensures exact { MakesPlan (one name size) self.old self.new result }
     {
         let outer = self.collector.open_sized(name, size)?;
@@ -51,7 +51,7 @@ impl Visitor<'_> {
         name: Key,
         count: Option<usize>,
     ) -> Result<(), Refusal>
-        ensures entered { Entered (Field name (size_product T.size count) Nothing) self.old self.new result }
+        ensures entered { Entered true (Field name (size_product T.size count) Nothing) self.old self.new result }
         ensures exact { MakesPlan (one name (size_product T.size count)) self.old self.new result }
     {
         self.visit_sized(name, bytes_of::<T>(count))
@@ -60,7 +60,7 @@ impl Visitor<'_> {
     /// One inline entry of the bytes of `count` unused places. It is `TooLarge` where `bytes_of` returns
     /// `None`.
     pub(crate) fn visit_unused<T: Described>(&mut self, count: usize) -> Result<(), Refusal>
-        ensures entered { Entered (bytes_shown (codes "unused_capacity") T.size count) self.old self.new result }
+        ensures entered { Entered true (bytes_shown (codes "unused_capacity") T.size count) self.old self.new result }
         ensures exact { MakesPlan
             (one (codes "unused_capacity") (size_product T.size (Some count))) self.old self.new result }
     {
@@ -69,7 +69,7 @@ impl Visitor<'_> {
 
     // What each item shows, in order.
     fn visit_each<T: Allocative>(&mut self, items: &[T]) -> Result<(), Refusal>
-        ensures entered { Entered (each_shows T.may_show items.now) self.old self.new result }
+        ensures entered { Entered T.is_exact (each_shows T.may_show items.now) self.old self.new result }
         ensures kept { Keeps self.old self.new result }
         ensures exact { length items.now ≡ 0 → MakesPlan Done self.old self.new result }
     {
@@ -86,7 +86,7 @@ impl Visitor<'_> {
     /// A collector that has failed returns its first cause. The entry is `TooLarge` where the item has no size
     /// or the bytes do not fit; its other errors are those of `enter`.
     pub fn visit_slice<T: Allocative + Described>(&mut self, items: &[T]) -> Result<(), Refusal>
-        ensures entered { Entered
+        ensures entered { Entered T.is_exact
             (slice_shows T.name T.size T.needs_drop T.may_show items.now) self.old self.new result }
         ensures kept { Keeps self.old self.new result }
         ensures exact { VisitsNone T.needs_drop T.size items.now
@@ -103,7 +103,7 @@ impl Visitor<'_> {
         &mut self,
         items: &[T],
     ) -> Result<(), Refusal>
-        ensures entered { Entered (data_shows T.size T.may_show items.now) self.old self.new result }
+        ensures entered { Entered T.is_exact (data_shows T.size T.may_show items.now) self.old self.new result }
         ensures exact { length items.now ≡ 0 → MakesPlan Done self.old self.new result }
     {
         self.collector.go_on()?;
@@ -119,7 +119,7 @@ impl Visitor<'_> {
     /// A collector that has failed returns its first cause. The entry is `TooLarge` where the item has no size,
     /// even with no items, or where the bytes do not fit; its other errors are those of `enter`.
     pub fn visit_slice_of<T: Allocative + Described>(&mut self, items: &[T]) -> Result<(), Refusal>
-        ensures entered { Entered (slice_of T.name T.size T.may_show items.now) self.old self.new result }
+        ensures entered { Entered T.is_exact (slice_of T.name T.size T.may_show items.now) self.old self.new result }
         ensures first { MakesFirst T.name (size_product T.size (Some (length items.now))) self.old self.new result }
         ensures exact { length items.now ≡ 0
             → MakesPlan (one T.name (size_product T.size (Some 0))) self.old self.new result }
@@ -138,7 +138,7 @@ impl Visitor<'_> {
         capacity: usize,
     ) -> Result<(), Refusal>
         requires { length items.now ≤ capacity }
-        ensures entered { Entered
+        ensures entered { Entered T.is_exact
             (Both (slice_shows T.name T.size T.needs_drop T.may_show items.now)
             (bytes_shown (codes "unused_capacity") T.size (capacity - length items.now))) self.old self.new result }
         ensures exact { VisitsNone T.needs_drop T.size items.now
@@ -160,7 +160,7 @@ impl Visitor<'_> {
         capacity: usize,
     ) -> Result<(), Refusal>
         requires { length items.now ≤ capacity }
-        ensures entered { Entered
+        ensures entered { Entered T.is_exact
             (vec_body T.name T.size T.needs_drop T.may_show items.now capacity) self.old self.new result }
         ensures first { MakesFirst (codes "capacity") (size_product T.size (Some capacity)) self.old self.new result }
         ensures exact { VisitsNone T.needs_drop T.size items.now

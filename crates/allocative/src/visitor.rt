@@ -299,7 +299,7 @@ impl Visitor<'_> {
     /// One inline entry of `size` bytes. The errors are those of `enter`.
     #[inline(always)]
     pub fn visit_simple(&mut self, key: Key, size: usize) -> Result<(), Refusal>
-        ensures entered { Entered (Inside key size Nothing) self.old self.new result }
+        ensures entered { Entered true (Inside key size Nothing) self.old self.new result }
         ensures exact { MakesPlan (one key (Some size)) self.old self.new result }
     {
         let outer = self.collector.open_entry(key, size)?;
@@ -307,9 +307,11 @@ impl Visitor<'_> {
         Ok(())
     }
 
-    /// What an object shows. This is the only call through the `dyn`, whose clauses callers cite.
+    /// What an object shows. This is the only call through the `dyn`, whose clauses callers cite. It is exact where the
+    /// type of the object is.
     pub(crate) fn visit_object(&mut self, object: &dyn Allocative) -> Result<(), Refusal>
-        ensures { Entered (may_show object.now) self.old self.new result }
+        ensures { Entered (⟦<dyn Allocative as Allocative>⟧ object.now.0).is_exact
+            (may_show object.now) self.old self.new result }
     {
         if let Err(refusal) = object.visit(self) {
             return Err(self.refuse(refusal));

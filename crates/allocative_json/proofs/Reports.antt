@@ -99,6 +99,18 @@ two_roots p roots a b q r (Ok o) is first last h =
     let R : Showing → Type 0 = λ s. IsProfileOf (Both q s) o in
     subst R last (subst Q first (profile_weaker (each_shows p (a ∷ b ∷ [])) (Both (p a) (p b)) o (two_shown p a b) (subst P is h)))
 
+one_shown : {T : Type 0} (p : T → Showing) (a : T) (f : Forest) → each_shows p (a ∷ []) f → p a f
+one_shown p a f (g, h, here, none, e) = subst (p a) (sym (e ∙ ap (followed_by g) none ∙ followed_by-empty g)) here
+
+-- What is profiled of one root is what it shows.
+pub one_root : {T E : Type 0} (p : T → Showing) (roots : List T) (a : T) (q : Showing) (x : Result Profile E)
+    → roots ≡ a ∷ [] → p a ≡ q → IfOk x (IsProfileOf (each_shows p roots)) → IfOk x (IsProfileOf q)
+one_root p roots a q (Err e) is same h = tt
+one_root p roots a q (Ok o) is same h =
+    let P : List _ → Type 0 = λ l. IsProfileOf (each_shows p l) o in
+    let Q : Showing → Type 0 = λ s. IsProfileOf s o in
+    subst Q same (profile_weaker (each_shows p (a ∷ [])) (p a) o (one_shown p a) (subst P is h))
+
 -- ---- refusals
 read_so : (known : Option (List ℕ)) (input : List ℕ) (P : List ℕ → Type 0) → IfSome known (λ bytes. input ≡ bytes) → P input → IfSome known P
 read_so None input P e h = tt

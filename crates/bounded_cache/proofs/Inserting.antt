@@ -12,6 +12,7 @@ use Rattle.std.proofs.Math.Seq.{take-append_seam}
 use Rattle.lru.specs.LruCache.{lru_cache, put_entries}
 use Rattle.bounded_cache.specs.declared.cache.Kept.{Kept}
 use Rattle.bounded_cache.specs.Entries.{Entries, bytes_of, kept, Bounded, bounded, without, stored_key, KeepsRecent, IsBounded, IsFigure, IsMeasured, Inserts, RefusesBytes, RefusesInsert}
+use Rattle.allocative.specs.SizeOf.{MayRefuseSize}
 use Rattle.allocative.specs.Refusal.{Refusal}
 use Rattle.bounded_cache.specs.declared.error.Refused.{Refused}
 use Rattle.bounded_cache.specs.declared.error.CacheError.{CacheError}
@@ -91,14 +92,14 @@ module _ {V : Type 0} (size : Option ℕ) (may_show : V → Forest → Type 0) w
   figure_of v n measured is h = let P : Result ℕ Refusal → Type 0 = λ r. IfOk r (IsFigure size may_show v) in subst P is h
 
   -- A value whose figure is refused is refused.
-  refused_figure : (v : V) (n bound : ℕ) (e : CacheError) → IsFigure size may_show v n → RefusesBytes n bound e → RefusesInsert size may_show v bound e
-  refused_figure v n bound (TooLarge told most) figure h = (subst (IsFigure size may_show v) (sym h.0) figure, h.1, subst (λ (m : ℕ). bound < m) (sym h.0) h.2)
-  refused_figure v n bound (NotMeasured e) figure h = absurd h
-  refused_figure v n bound Memory figure h = (n, figure, h)
+  refused_figure : (is_exact : Bool) (v : V) (n bound : ℕ) (e : CacheError) → IsFigure size may_show v n → RefusesBytes n bound e → RefusesInsert size may_show is_exact v bound e
+  refused_figure is_exact v n bound (TooLarge told most) figure h = (subst (IsFigure size may_show v) (sym h.0) figure, h.1, subst (λ (m : ℕ). bound < m) (sym h.0) h.2)
+  refused_figure is_exact v n bound (NotMeasured e) figure h = absurd h
+  refused_figure is_exact v n bound Memory figure h = (n, figure, h)
 
   -- A value is refused for the bytes that were measured, or because it could not be measured.
-  pub refused_with : {K : Type 0} (key : K) (v : V) (bound : ℕ) (measured : Result ℕ Refusal) (r : Result (Option V) (Refused K V)) → IfOk measured (IsFigure size may_show v)
-      → MatchResult measured (λ n. IfErr r (λ x. RefusesBytes n bound x.error)) (λ e. r ≡ Err (record { error = NotMeasured e; key = key; value = v })) → IfErr r (λ x. RefusesInsert size may_show v bound x.error)
-  refused_with key v bound (Ok n) (Ok had) figure h = tt
-  refused_with key v bound (Ok n) (Err x) figure h = refused_figure v n bound x.error figure h
-  refused_with {K} key v bound (Err e) r figure h = let P : Result (Option V) (Refused K V) → Type 0 = λ r'. IfErr r' (λ x. RefusesInsert size may_show v bound x.error) in subst P (sym h) tt
+  pub refused_with : {K : Type 0} (is_exact : Bool) (key : K) (v : V) (bound : ℕ) (measured : Result ℕ Refusal) (r : Result (Option V) (Refused K V)) → IfOk measured (IsFigure size may_show v) → IfErr measured (MayRefuseSize is_exact size (may_show v))
+      → MatchResult measured (λ n. IfErr r (λ x. RefusesBytes n bound x.error)) (λ e. r ≡ Err (record { error = NotMeasured e; key = key; value = v })) → IfErr r (λ x. RefusesInsert size may_show is_exact v bound x.error)
+  refused_with is_exact key v bound (Ok n) (Ok had) figure may h = tt
+  refused_with is_exact key v bound (Ok n) (Err x) figure may h = refused_figure is_exact v n bound x.error figure h
+  refused_with {K} is_exact key v bound (Err e) r figure may h = let P : Result (Option V) (Refused K V) → Type 0 = λ r'. IfErr r' (λ x. RefusesInsert size may_show is_exact v bound x.error) in subst P (sym h) may

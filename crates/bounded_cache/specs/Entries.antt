@@ -6,7 +6,7 @@ use Rattle.std.specs.Map.{lookup, lookup_entry, remove_entry, values_of}
 use Rattle.std.specs.Option.{option_map_or}
 use mathlib.Core.Option.{none}
 use Rattle.allocative.specs.Forest.{Forest}
-use Rattle.allocative.specs.SizeOf.{IsSizeOfUnique}
+use Rattle.allocative.specs.SizeOf.{IsSizeOfUnique, MayRefuseSize}
 use Rattle.lru.specs.LruCache.{promoted}
 use Rattle.bounded_cache.specs.declared.cache.Kept.{Kept}
 use Rattle.bounded_cache.specs.declared.error.Refused.{Refused}
@@ -106,11 +106,12 @@ module _ {V : Type 0} (size : Option ℕ) (may_show : V → Forest → Type 0) w
   IsMeasured k = IsFigure k.value k.bytes
 
   -- Why a cache with this bound refuses v: a figure of v exceeds the bound, or v could not be measured, or a figure of
-  -- v is within the bound and memory runs out.
-  abbrev pub RefusesInsert : V → ℕ → CacheError → Type 0
-  RefusesInsert v bound (TooLarge bytes most) = IsFigure v bytes × (most ≡ bound) × (bound < bytes)
-  RefusesInsert v bound (NotMeasured e) = ⊤
-  RefusesInsert v bound Memory = (bytes : ℕ) × IsFigure v bytes × (bytes ≤ bound)
+  -- v is within the bound and memory runs out. An exact type can only be not measured with TooLarge: where it has no
+  -- declared size, or where some of what v may show cannot be counted, or does not fit a word together with that size.
+  abbrev pub RefusesInsert : Bool → V → ℕ → CacheError → Type 0
+  RefusesInsert is_exact v bound (TooLarge bytes most) = IsFigure v bytes × (most ≡ bound) × (bound < bytes)
+  RefusesInsert is_exact v bound (NotMeasured e) = MayRefuseSize is_exact size (may_show v) e
+  RefusesInsert is_exact v bound Memory = (bytes : ℕ) × IsFigure v bytes × (bytes ≤ bound)
 
   module _ {K : Type 0} where
     -- ---- what the cache promises
@@ -142,6 +143,6 @@ module _ {V : Type 0} (size : Option ℕ) (may_show : V → Forest → Type 0) w
 
     -- The value of the key that passes the test was changed as `changed` says, and inserting it again is refused. The
     -- refusal has the key and the changed value.
-    abbrev pub RefusesChange : (K → Bool) → (V → V → Type 0) → Bounded K V → Refused K V → Type 0
-    RefusesChange test changed old r = (had : Kept V) × (lookup_entry test old.entries ≡ Some (r.key, had))
-        × changed had.value r.value × RefusesInsert r.value old.bound r.error
+    abbrev pub RefusesChange : Bool → (K → Bool) → (V → V → Type 0) → Bounded K V → Refused K V → Type 0
+    RefusesChange is_exact test changed old r = (had : Kept V) × (lookup_entry test old.entries ≡ Some (r.key, had))
+        × changed had.value r.value × RefusesInsert is_exact r.value old.bound r.error

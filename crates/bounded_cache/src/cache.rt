@@ -119,6 +119,9 @@ impl<K: Eq + Hash + Drop, V: Allocative + Described> BoundedCache<K, V> {
     /// The error is `TooLarge` where the value alone exceeds the bound, `NotMeasured` where `size_of_unique` returns an
     /// error, and `Memory` where the value is within the bound and memory runs out. The key and the value come with the
     /// error, and the cache is unchanged.
+    ///
+    /// For an exact type `NotMeasured` comes with TooLarge alone: where the type has no declared size, or where some of
+    /// what the value may show cannot be counted, or does not fit a word together with that size.
     pub fn insert<F: FnMut(K, V)>(
         &mut self,
         key: K,
@@ -129,7 +132,8 @@ impl<K: Eq + Hash + Drop, V: Allocative + Described> BoundedCache<K, V> {
         ensures ok { OnOk result
             (Inserts V.size V.may_show K.eq (λ f k v g. F.step f k v tt g) went key value self.old self.new) }
         ensures had { IfOk result (λ had. had ≡ value_at (K.eq key) self.old.entries) }
-        ensures refused { IfErr result (λ r. RefusesInsert V.size V.may_show value self.old.bound r.error) }
+        ensures refused { IfErr result
+            (λ r. RefusesInsert V.size V.may_show V.is_exact value self.old.bound r.error) }
         ensures returned { IfErr result (λ r. (r.key ≡ key) × (r.value ≡ value)) }
         ensures err { OnErr result (self.new ≡ self.old) }
         ensures bounded { IsBounded V.size V.may_show self.new }
@@ -215,7 +219,7 @@ impl<K: Eq + Hash + Drop, V: Allocative + Described> BoundedCache<K, V> {
             (λ v w. FnOnceReturnsAtMut C.FnOnce change v tt w) self.old self.new)
             ((lookup_entry (K.eq key.now) self.old.entries ≡ None) × (self.new ≡ self.old))) }
         ensures refused { IfErr result
-            (RefusesChange V.size V.may_show (K.eq key.now)
+            (RefusesChange V.size V.may_show V.is_exact (K.eq key.now)
             (λ v w. FnOnceReturnsAtMut C.FnOnce change v tt w) self.old) }
         ensures err { OnErr result (self.new ≡ without (K.eq key.now) self.old) }
         ensures bounded { IsBounded V.size V.may_show self.new }

@@ -1,7 +1,7 @@
 //! Enums of up to ten variants.
 #![tactic(auto, using(allocative::proofs::Parts::parts))]
 
-ghost use Rattle.std.specs.Prelude.{codes, Some};
+ghost use Rattle.std.specs.Prelude.{true, codes, Some};
 ghost use Rattle.allocative.specs.Shows.{Nothing, Inside, Field, Both};
 
 use allocative::part::{Field, Inside, Part};
@@ -49,6 +49,7 @@ impl Allocative for Request {
           (Field (codes "height") (Some 2) (⟦<u16 as Allocative>⟧.may_show h))
           (Field (codes "text") (Some 24) (⟦<String as Allocative>⟧.may_show s)))))
     ]) };
+    ghost is_exact = { true };
 
     fn visit(&self, visitor: &mut Visitor<'_>) -> Result<(), Refusal> {
         let key = "Request";

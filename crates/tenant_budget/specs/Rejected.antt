@@ -1,6 +1,7 @@
 -- Why data is not admitted.
-use Rattle.std.specs.Prelude.{◌≡◌, ℕ, ◌+◌, ◌^◌, ◌<◌, ◌≤◌, ⊤, List, Option, Some, None, IsSome}
+use Rattle.std.specs.Prelude.{◌≡◌, ℕ, ◌+◌, ◌^◌, ◌<◌, ◌≤◌, Bool, List, Option, Some, None, IsSome}
 use Rattle.allocative.specs.Shows.{Showing}
+use Rattle.allocative.specs.SizeOf.{MayRefuseSize}
 use Rattle.tenant_budget.specs.declared.rejection.Rejection.{Rejection}
 use Rattle.tenant_budget.specs.declared.rejection.Rejection.TheVariants.{OverBudget, NotMeasured, TooLarge, NotKept, NoAccount, HasAccount, Taken, NotThere}
 use Rattle.tenant_budget.specs.Measured.{Declares}
@@ -11,11 +12,14 @@ abbrev pub IsOverBudget : List ℕ → ℕ → ℕ → Rejection → Type 0
 IsOverBudget tenant bytes limit (OverBudget t b l) = (t.now ≡ tenant) × (b ≡ bytes) × (l ≡ limit) × (limit < bytes)
 IsOverBudget tenant bytes limit _ = ⊥
 
--- A value by itself is rejected: what it declares exceeds the limit, or it could not be measured.
-abbrev pub RejectsValue : Option ℕ → Showing → List ℕ → ℕ → Rejection → Type 0
-RejectsValue size p tenant limit (OverBudget t b l) = Declares size p b × (t.now ≡ tenant) × (l ≡ limit) × (limit < b)
-RejectsValue size p tenant limit (NotMeasured e) = ⊤
-RejectsValue size p tenant limit _ = ⊥
+-- A value by itself is rejected: what it declares exceeds the limit, or it could not be measured. An exact type can
+-- only be not measured with TooLarge: where it has no declared size, or where some of what the value may show cannot be
+-- counted, or does not fit a word together with that size.
+abbrev pub RejectsValue : Bool → Option ℕ → Showing → List ℕ → ℕ → Rejection → Type 0
+RejectsValue is_exact size p tenant limit (OverBudget t b l) =
+    Declares size p b × (t.now ≡ tenant) × (l ≡ limit) × (limit < b)
+RejectsValue is_exact size p tenant limit (NotMeasured e) = MayRefuseSize is_exact size p e
+RejectsValue is_exact size p tenant limit _ = ⊥
 
 -- Replacing the `had` bytes of one entry by `bytes` is rejected, where all entries have `all`. The new sum exceeds the
 -- limit, or it exceeds a word, or it is within the limit and memory runs out.
@@ -46,10 +50,12 @@ RejectsIn tenant P None (NoAccount t) = t.now ≡ tenant
 RejectsIn tenant P None _ = ⊥
 RejectsIn tenant P (Some h) r = P h r
 
--- The value could not be measured, or it declares bytes with a rejection that P allows.
-abbrev pub RejectsMeasured : Option ℕ → Showing → (ℕ → Rejection → Type 0) → Rejection → Type 0
-RejectsMeasured size p P (NotMeasured e) = ⊤
-RejectsMeasured size p P r = (bytes : ℕ) × Declares size p bytes × P bytes r
+-- The value could not be measured, or it declares bytes with a rejection that P allows. An exact type can only be not
+-- measured with TooLarge: where it has no declared size, or where some of what the value may show cannot be counted, or
+-- does not fit a word together with that size.
+abbrev pub RejectsMeasured : Bool → Option ℕ → Showing → (ℕ → Rejection → Type 0) → Rejection → Type 0
+RejectsMeasured is_exact size p P (NotMeasured e) = MayRefuseSize is_exact size p e
+RejectsMeasured is_exact size p P r = (bytes : ℕ) × Declares size p bytes × P bytes r
 
 -- The tenant already has an account, as the rejection says, or it has none and memory runs out.
 abbrev pub RejectsOpening : List ℕ → Option Holding → Rejection → Type 0

@@ -36,6 +36,9 @@ impl Budget {
     ///
     /// It returns `OverBudget` exactly where they exceed the limit, and `NotMeasured` where `size_of_unique` returns an
     /// error. It allocates nothing.
+    ///
+    /// For an exact type `NotMeasured` comes with TooLarge alone: where the type has no declared size, or where some of
+    /// what the value may show cannot be counted, or does not fit a word together with that size.
     pub fn admit<'a, T: Allocative + Described>(
         &self,
         tenant: &'a str,
@@ -43,7 +46,8 @@ impl Budget {
     ) -> Result<usize, Rejection<'a>>
         ensures admitted { IfOk result
             (λ bytes. Declares T.size (T.may_show value.now) bytes × (bytes ≤ self.now.limit)) }
-        ensures rejected { IfErr result (RejectsValue T.size (T.may_show value.now) tenant.now self.now.limit) }
+        ensures rejected { IfErr result
+            (RejectsValue T.is_exact T.size (T.may_show value.now) tenant.now self.now.limit) }
     {
         let bytes = size_of_unique(value)?;
         self.check(tenant, bytes)

@@ -83,6 +83,9 @@ impl Ledger {
     /// - otherwise `OverBudget` where they exceed the limit,
     /// - otherwise `NotKept` where memory runs out.
     ///
+    /// For an exact type `NotMeasured` comes with TooLarge alone: where the type has no declared size, or where some of
+    /// what the value may show cannot be counted, or does not fit a word together with that size.
+    ///
     /// After an error all accounts are unchanged.
     pub fn admit<'a, T: Allocative + Described>(
         &mut self,
@@ -94,7 +97,7 @@ impl Ledger {
             (λ total. (bytes : ℕ) × Declares T.size (T.may_show value.now) bytes
             × Enters tenant.now number bytes None total self.old self.new) }
         ensures rejected { IfErr result
-            (RejectsMeasured T.size (T.may_show value.now)
+            (RejectsMeasured T.is_exact T.size (T.may_show value.now)
             (λ bytes. RejectsIn tenant.now (RejectsNew tenant.now number bytes) (account_of tenant.now self.old))) }
         ensures unchanged { OnErr result (IsUnchanged self.old self.new) }
     {
@@ -135,7 +138,7 @@ impl Ledger {
             (λ total. (bytes : ℕ) × (had : ℕ) × Declares T.size (T.may_show value.now) bytes
             × Enters tenant.now number bytes (Some had) total self.old self.new) }
         ensures rejected { IfErr result
-            (RejectsMeasured T.size (T.may_show value.now)
+            (RejectsMeasured T.is_exact T.size (T.may_show value.now)
             (λ bytes. RejectsIn tenant.now (RejectsChange tenant.now number bytes)
             (account_of tenant.now self.old))) }
         ensures unchanged { OnErr result (IsUnchanged self.old self.new) }

@@ -1,7 +1,7 @@
 //! `Either`: a field of the side that is there.
 #![tactic(auto, using(crate::proofs::Parts::parts))]
 
-ghost use Rattle.std.specs.Prelude.{codes};
+ghost use Rattle.std.specs.Prelude.{◌&&◌, codes};
 ghost use Rattle.allocative_graph.specs.Shows as shows;
 ghost use Rattle.allocative.specs.PackShows.{either_inside};
 
@@ -16,6 +16,8 @@ use either::{Either, Left, Right};
 impl<L: Allocative + Described, R: Allocative + Described> Allocative for Either<L, R> {
     ghost may_show = { λ e. shows.Field (codes "Either") ⟦<Either<L, R> as Described>⟧.size
         (either_inside L.size L.may_show R.size R.may_show e) };
+
+    ghost is_exact = { L.is_exact && R.is_exact };
 
     fn visit(&self, visitor: &mut Visitor<'_>) -> Result<(), Refusal> {
         let name = Key::for_type_name::<Either<L, R>>();

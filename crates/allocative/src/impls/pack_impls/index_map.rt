@@ -1,7 +1,7 @@
 //! `IndexMap`: its pairs in the order of the map, and its table.
 #![tactic(auto, using(crate::proofs::Parts::parts))]
 
-ghost use Rattle.std.specs.Prelude.{codes};
+ghost use Rattle.std.specs.Prelude.{◌&&◌, codes};
 ghost use Rattle.indexmap.specs.IndexMap.{spare};
 ghost use Rattle.allocative_graph.specs.Shows as shows;
 ghost use Rattle.allocative.specs.PackShows.{index_map_inside};
@@ -19,6 +19,8 @@ impl<K: Allocative + Described + Eq + Hash, V: Allocative + Described> Allocativ
     for IndexMap<K, V> {
     ghost may_show = { λ m. shows.Inside (codes "IndexMap") 72
         (index_map_inside K.size K.may_show V.size V.may_show ⟦<(K, V) as Described>⟧.size m.entries (spare m)) };
+
+    ghost is_exact = { K.is_exact && V.is_exact };
 
     fn visit(&self, visitor: &mut Visitor<'_>) -> Result<(), Refusal> {
         let unused = Unused {

@@ -1,7 +1,7 @@
 //! JSON values, their numbers, and their maps.
 #![tactic(auto, using(crate::proofs::Parts::parts))]
 
-ghost use Rattle.std.specs.Prelude.{Some, codes};
+ghost use Rattle.std.specs.Prelude.{true, false, Some, codes};
 ghost use Rattle.serde_json.specs.View.{view, members_view};
 ghost use Rattle.allocative_graph.specs.Shows as shows;
 ghost use Rattle.allocative.specs.JsonShows.{number_shows, member_shows, value_shows, map_shows};
@@ -19,6 +19,8 @@ use serde_json::{Map, Number, Value};
 impl Allocative for Number {
     ghost may_show = { λ n. number_shows };
 
+    ghost is_exact = { true };
+
     fn visit(&self, visitor: &mut Visitor<'_>) -> Result<(), Refusal> {
         Inside("Number", 16, ()).enter(visitor)
     }
@@ -30,6 +32,8 @@ struct Members<M>(M);
 
 impl<'a, V: Allocative> Part for Members<&'a Map<String, V>> {
     ghost may_show = { λ m. shows.each_shows (member_shows V.may_show) m.0.now.entries };
+
+    ghost is_exact = { false };
 
     #[tactic(auto, using(crate::proofs::Showing::showing))]
     fn enter(self, visitor: &mut Visitor<'_>) -> Result<(), Refusal> {
@@ -79,7 +83,7 @@ impl Allocative for Value {
 /// A collector that has failed returns its first cause. Each entry's errors are those of `Visitor::enter`.
 #[tactic(auto, using(crate::proofs::Showing::showing))]
 pub fn visit_json_map(visitor: &mut Visitor<'_>, map: &Map<String, Value>) -> Result<(), Refusal>
-    ensures entered { Entered (map_shows (members_view map.now.entries)) visitor.old visitor.new result }
+    ensures entered { Entered false (map_shows (members_view map.now.entries)) visitor.old visitor.new result }
     ensures first { MakesFirst (codes "Map") (Some 24) visitor.old visitor.new result }
 {
     let outer = visitor.collector.open_entry(Key::new("Map"), 24)?;

@@ -1,7 +1,7 @@
 //! `Slab`: the buffer of its values, in the order of their keys.
 #![tactic(auto, using(crate::proofs::Parts::parts))]
 
-ghost use Rattle.std.specs.Prelude.{codes};
+ghost use Rattle.std.specs.Prelude.{false, codes};
 ghost use Rattle.slab.specs.Slab.{values};
 ghost use Rattle.allocative_graph.specs.Shows as shows;
 ghost use Rattle.allocative.specs.PackShows.{slab_inside};
@@ -20,6 +20,8 @@ pub struct Values<'a, T>(pub &'a Slab<T>);
 
 impl<'a, T: Allocative + Described> Part for Values<'a, T> {
     ghost may_show = { λ s. shows.slice_shows T.name T.size T.needs_drop T.may_show (values s.0.now) };
+
+    ghost is_exact = { false };
 
     fn enter(self, visitor: &mut Visitor<'_>) -> Result<(), Refusal> {
         visitor.visit_values(self.0.iter())

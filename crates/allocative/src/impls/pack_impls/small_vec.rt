@@ -18,6 +18,8 @@ impl<T: Allocative + Described, const N: usize> Allocative for SmallVec<T, N> {
     ghost may_show = { λ v. shows.Field (codes "SmallVec") ⟦<SmallVec<T, N> as Described>⟧.size
         (small_vec_inside N T.size T.may_show v) };
 
+    ghost is_exact = { T.is_exact };
+
     fn visit(&self, visitor: &mut Visitor<'_>) -> Result<(), Refusal> {
         let name = Key::for_type_name::<SmallVec<T, N>>();
         let size = <SmallVec<T, N>>::size();

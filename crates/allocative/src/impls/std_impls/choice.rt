@@ -1,7 +1,7 @@
 //! Types that are one of several: `Option` and `Result`.
 #![tactic(auto, using(crate::proofs::Parts::parts))]
 
-ghost use Rattle.std.specs.Prelude.{codes};
+ghost use Rattle.std.specs.Prelude.{◌&&◌, codes};
 ghost use Rattle.allocative_graph.specs.Shows as shows;
 ghost use Rattle.allocative.specs.StdShows.{option_inside, result_inside};
 
@@ -16,6 +16,8 @@ impl<T: Allocative + Described> Allocative for Option<T> {
     ghost may_show = { λ o. shows.Field (codes "Option") ⟦<Option<T> as Described>⟧.size
         (option_inside T.size T.may_show o) };
 
+    ghost is_exact = { T.is_exact };
+
     fn visit(&self, visitor: &mut Visitor<'_>) -> Result<(), Refusal> {
         let name = Key::for_type_name::<Option<T>>();
         let size = <Option<T>>::size();
@@ -29,6 +31,8 @@ impl<T: Allocative + Described> Allocative for Option<T> {
 impl<T: Allocative + Described, E: Allocative + Described> Allocative for Result<T, E> {
     ghost may_show = { λ r. shows.Field (codes "Result") ⟦<Result<T, E> as Described>⟧.size
         (result_inside T.size E.size T.may_show E.may_show r) };
+
+    ghost is_exact = { T.is_exact && E.is_exact };
 
     fn visit(&self, visitor: &mut Visitor<'_>) -> Result<(), Refusal> {
         let name = Key::for_type_name::<Result<T, E>>();

@@ -1,7 +1,7 @@
 //! Vectors, deques, and maps and sets of `std`.
 #![tactic(auto, using(crate::proofs::Parts::parts))]
 
-ghost use Rattle.std.specs.Prelude.{codes, length, vec_capacity, Some};
+ghost use Rattle.std.specs.Prelude.{◌&&◌, codes, length, vec_capacity, Some};
 ghost use Rattle.std.specs.VecDeque.{deque_capacity};
 ghost use Rattle.allocative_graph.specs.Shows as shows;
 ghost use Rattle.allocative.specs.Bodies.{buffer_shows, cut_shows};
@@ -23,6 +23,8 @@ impl<T: Allocative + Described> Allocative for Vec<T> {
         (buffer_shows T.size (shows.slice_shows T.name T.size T.needs_drop T.may_show v.items) (length v.items)
         (vec_capacity v)) };
 
+    ghost is_exact = { T.is_exact };
+
     fn visit(&self, visitor: &mut Visitor<'_>) -> Result<(), Refusal> {
         let buffer = Buffer {
             items: Items(self.as_slice()),
@@ -38,6 +40,8 @@ impl<T: Allocative + Described> Allocative for VecDeque<T> {
     ghost may_show = { λ d. shows.Field (codes "VecDeque") (Some 32)
         (buffer_shows T.size (cut_shows T.name T.size T.needs_drop T.may_show d.items) (length d.items)
         (deque_capacity d)) };
+
+    ghost is_exact = { T.is_exact };
 
     fn visit(&self, visitor: &mut Visitor<'_>) -> Result<(), Refusal> {
         let (front, back) = self.as_slices();
@@ -56,6 +60,8 @@ impl<K: Allocative + Described + Ord, V: Allocative + Described> Allocative for 
     ghost may_show = { λ m. shows.Field (codes "BTreeMap") (Some 24)
         (shows.Inside (codes "data") 8 (shows.each_shows (pair_shows K.size K.may_show V.size V.may_show) m.entries)) };
 
+    ghost is_exact = { K.is_exact && V.is_exact };
+
     fn visit(&self, visitor: &mut Visitor<'_>) -> Result<(), Refusal> {
         let pairs = Inside("data", 8, Pairs(self));
         let name = Key::for_type_name::<BTreeMap<K, V>>();
@@ -66,6 +72,8 @@ impl<K: Allocative + Described + Ord, V: Allocative + Described> Allocative for 
 impl<K: Allocative + Described + Ord> Allocative for BTreeSet<K> {
     ghost may_show = { λ s. shows.Field (codes "BTreeSet") (Some 24)
         (shows.Inside (codes "data") 8 (shows.each_shows (field_of (codes "key") K.size K.may_show) s.keys)) };
+
+    ghost is_exact = { K.is_exact };
 
     fn visit(&self, visitor: &mut Visitor<'_>) -> Result<(), Refusal> {
         let keys = Inside("data", 8, FieldEach("key", self));
@@ -79,6 +87,8 @@ impl<K: Allocative + Described + Eq + Hash, V: Allocative + Described> Allocativ
     ghost may_show = { λ m. shows.Field (codes "HashMap") (Some 48)
         (shows.Inside (codes "data") 8 (in_any_order (pair_shows K.size K.may_show V.size V.may_show) m.entries)) };
 
+    ghost is_exact = { K.is_exact && V.is_exact };
+
     fn visit(&self, visitor: &mut Visitor<'_>) -> Result<(), Refusal> {
         let pairs = Inside("data", 8, Pairs(self));
         let name = Key::for_type_name::<HashMap<K, V>>();
@@ -89,6 +99,8 @@ impl<K: Allocative + Described + Eq + Hash, V: Allocative + Described> Allocativ
 impl<K: Allocative + Described + Eq + Hash> Allocative for HashSet<K> {
     ghost may_show = { λ s. shows.Field (codes "HashSet") (Some 48)
         (shows.Inside (codes "data") 8 (in_any_order (field_of (codes "key") K.size K.may_show) s.keys)) };
+
+    ghost is_exact = { K.is_exact };
 
     fn visit(&self, visitor: &mut Visitor<'_>) -> Result<(), Refusal> {
         let keys = Inside("data", 8, FieldEach("key", self));

@@ -1,7 +1,7 @@
 //! `ManuallyDrop` and `PhantomData`.
 #![tactic(auto, using(crate::proofs::Parts::parts))]
 
-ghost use Rattle.std.specs.Prelude.{codes};
+ghost use Rattle.std.specs.Prelude.{true, codes};
 ghost use Rattle.std.specs.Mem.{manually_drop_value};
 ghost use Rattle.allocative_graph.specs.Shows as shows;
 
@@ -18,6 +18,8 @@ impl<T: Allocative + Described> Allocative for ManuallyDrop<T> {
     ghost may_show = { λ slot. shows.Field (codes "ManuallyDrop") T.size
         (shows.Field (codes "inner") T.size (T.may_show (manually_drop_value slot))) };
 
+    ghost is_exact = { T.is_exact };
+
     fn visit(&self, visitor: &mut Visitor<'_>) -> Result<(), Refusal> {
         let inner = Field("inner", &**self);
         let name = Key::for_type_name::<ManuallyDrop<T>>();
@@ -27,6 +29,8 @@ impl<T: Allocative + Described> Allocative for ManuallyDrop<T> {
 
 impl<T> Allocative for PhantomData<T> {
     ghost may_show = { λ _. shows.Nothing };
+
+    ghost is_exact = { true };
 
     fn visit(&self, visitor: &mut Visitor<'_>) -> Result<(), Refusal> {
         ().enter(visitor)

@@ -1,7 +1,7 @@
 //! Addresses: one entry each.
 #![tactic(auto, using(crate::proofs::Meaning::visited))]
 
-ghost use Rattle.std.specs.Prelude.{codes};
+ghost use Rattle.std.specs.Prelude.{true, codes};
 ghost use Rattle.allocative.specs.StdShows.{Leaf};
 
 use crate::allocative_trait::Allocative;
@@ -12,6 +12,8 @@ use std::net::{IpAddr, Ipv4Addr, Ipv6Addr};
 impl Allocative for IpAddr {
     ghost may_show = { λ _. Leaf (codes "IpAddr") 17 };
 
+    ghost is_exact = { true };
+
     fn visit(&self, visitor: &mut Visitor<'_>) -> Result<(), Refusal> {
         visitor.visit_simple_sized::<IpAddr>()
     }
@@ -20,6 +22,8 @@ impl Allocative for IpAddr {
 impl Allocative for Ipv4Addr {
     ghost may_show = { λ _. Leaf (codes "Ipv4Addr") 4 };
 
+    ghost is_exact = { true };
+
     fn visit(&self, visitor: &mut Visitor<'_>) -> Result<(), Refusal> {
         visitor.visit_simple_sized::<Ipv4Addr>()
     }
@@ -27,6 +31,8 @@ impl Allocative for Ipv4Addr {
 
 impl Allocative for Ipv6Addr {
     ghost may_show = { λ _. Leaf (codes "Ipv6Addr") 16 };
+
+    ghost is_exact = { true };
 
     fn visit(&self, visitor: &mut Visitor<'_>) -> Result<(), Refusal> {
         visitor.visit_simple_sized::<Ipv6Addr>()

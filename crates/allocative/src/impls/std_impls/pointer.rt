@@ -1,7 +1,7 @@
 //! Boxes and references.
 #![tactic(auto, using(crate::proofs::Parts::parts))]
 
-ghost use Rattle.std.specs.Prelude.{codes, Some};
+ghost use Rattle.std.specs.Prelude.{true, codes, Some};
 ghost use Rattle.allocative_graph.specs.Shows as shows;
 
 use crate::allocative_trait::Allocative;
@@ -15,6 +15,8 @@ impl<T: Allocative> Allocative for Box<T> {
     ghost may_show = { λ b. shows.Field (codes "Box") (Some 8)
         (shows.InsideUnique (codes "ptr") 8 (T.may_show b.value)) };
 
+    ghost is_exact = { T.is_exact };
+
     fn visit(&self, visitor: &mut Visitor<'_>) -> Result<(), Refusal> {
         let pointer = Unique("ptr", 8, &**self);
         Declared(Key::for_type_name::<Box<T>>(), <Box<T>>::size(), pointer).enter(visitor)
@@ -24,6 +26,8 @@ impl<T: Allocative> Allocative for Box<T> {
 // What a reference points to is not part of it.
 impl<T> Allocative for &'static T {
     ghost may_show = { λ _. shows.Nothing };
+
+    ghost is_exact = { true };
 
     fn visit(&self, visitor: &mut Visitor<'_>) -> Result<(), Refusal> {
         ().enter(visitor)

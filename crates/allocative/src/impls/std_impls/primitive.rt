@@ -1,7 +1,7 @@
 //! Whole numbers, numbers that are not zero, `bool` and the unit type: one entry each.
 #![tactic(auto, using(crate::proofs::Meaning::visited))]
 
-ghost use Rattle.std.specs.Prelude.{codes};
+ghost use Rattle.std.specs.Prelude.{true, codes};
 ghost use Rattle.allocative.specs.StdShows.{Leaf};
 
 use crate::allocative_trait::Allocative;
@@ -15,6 +15,8 @@ use std::num::{
 impl Allocative for u8 {
     ghost may_show = { λ _. Leaf (codes "u8") 1 };
 
+    ghost is_exact = { true };
+
     fn visit(&self, visitor: &mut Visitor<'_>) -> Result<(), Refusal> {
         visitor.visit_simple_sized::<u8>()
     }
@@ -22,6 +24,8 @@ impl Allocative for u8 {
 
 impl Allocative for u16 {
     ghost may_show = { λ _. Leaf (codes "u16") 2 };
+
+    ghost is_exact = { true };
 
     fn visit(&self, visitor: &mut Visitor<'_>) -> Result<(), Refusal> {
         visitor.visit_simple_sized::<u16>()
@@ -31,6 +35,8 @@ impl Allocative for u16 {
 impl Allocative for u32 {
     ghost may_show = { λ _. Leaf (codes "u32") 4 };
 
+    ghost is_exact = { true };
+
     fn visit(&self, visitor: &mut Visitor<'_>) -> Result<(), Refusal> {
         visitor.visit_simple_sized::<u32>()
     }
@@ -38,6 +44,8 @@ impl Allocative for u32 {
 
 impl Allocative for u64 {
     ghost may_show = { λ _. Leaf (codes "u64") 8 };
+
+    ghost is_exact = { true };
 
     fn visit(&self, visitor: &mut Visitor<'_>) -> Result<(), Refusal> {
         visitor.visit_simple_sized::<u64>()
@@ -47,6 +55,8 @@ impl Allocative for u64 {
 impl Allocative for u128 {
     ghost may_show = { λ _. Leaf (codes "u128") 16 };
 
+    ghost is_exact = { true };
+
     fn visit(&self, visitor: &mut Visitor<'_>) -> Result<(), Refusal> {
         visitor.visit_simple_sized::<u128>()
     }
@@ -54,6 +64,8 @@ impl Allocative for u128 {
 
 impl Allocative for usize {
     ghost may_show = { λ _. Leaf (codes "usize") 8 };
+
+    ghost is_exact = { true };
 
     fn visit(&self, visitor: &mut Visitor<'_>) -> Result<(), Refusal> {
         visitor.visit_simple_sized::<usize>()
@@ -63,6 +75,8 @@ impl Allocative for usize {
 impl Allocative for i8 {
     ghost may_show = { λ _. Leaf (codes "i8") 1 };
 
+    ghost is_exact = { true };
+
     fn visit(&self, visitor: &mut Visitor<'_>) -> Result<(), Refusal> {
         visitor.visit_simple_sized::<i8>()
     }
@@ -70,6 +84,8 @@ impl Allocative for i8 {
 
 impl Allocative for i16 {
     ghost may_show = { λ _. Leaf (codes "i16") 2 };
+
+    ghost is_exact = { true };
 
     fn visit(&self, visitor: &mut Visitor<'_>) -> Result<(), Refusal> {
         visitor.visit_simple_sized::<i16>()
@@ -79,6 +95,8 @@ impl Allocative for i16 {
 impl Allocative for i32 {
     ghost may_show = { λ _. Leaf (codes "i32") 4 };
 
+    ghost is_exact = { true };
+
     fn visit(&self, visitor: &mut Visitor<'_>) -> Result<(), Refusal> {
         visitor.visit_simple_sized::<i32>()
     }
@@ -86,6 +104,8 @@ impl Allocative for i32 {
 
 impl Allocative for i64 {
     ghost may_show = { λ _. Leaf (codes "i64") 8 };
+
+    ghost is_exact = { true };
 
     fn visit(&self, visitor: &mut Visitor<'_>) -> Result<(), Refusal> {
         visitor.visit_simple_sized::<i64>()
@@ -95,6 +115,8 @@ impl Allocative for i64 {
 impl Allocative for i128 {
     ghost may_show = { λ _. Leaf (codes "i128") 16 };
 
+    ghost is_exact = { true };
+
     fn visit(&self, visitor: &mut Visitor<'_>) -> Result<(), Refusal> {
         visitor.visit_simple_sized::<i128>()
     }
@@ -102,6 +124,8 @@ impl Allocative for i128 {
 
 impl Allocative for isize {
     ghost may_show = { λ _. Leaf (codes "isize") 8 };
+
+    ghost is_exact = { true };
 
     fn visit(&self, visitor: &mut Visitor<'_>) -> Result<(), Refusal> {
         visitor.visit_simple_sized::<isize>()
@@ -111,6 +135,8 @@ impl Allocative for isize {
 impl Allocative for bool {
     ghost may_show = { λ _. Leaf (codes "bool") 1 };
 
+    ghost is_exact = { true };
+
     fn visit(&self, visitor: &mut Visitor<'_>) -> Result<(), Refusal> {
         visitor.visit_simple_sized::<bool>()
     }
@@ -118,6 +144,8 @@ impl Allocative for bool {
 
 impl Allocative for () {
     ghost may_show = { λ _. Leaf (codes "()") 0 };
+
+    ghost is_exact = { true };
 
     fn visit(&self, visitor: &mut Visitor<'_>) -> Result<(), Refusal> {
         visitor.visit_simple_sized::<()>()
@@ -127,6 +155,8 @@ impl Allocative for () {
 impl Allocative for NonZeroU64 {
     ghost may_show = { λ _. Leaf (codes "NonZeroU64") 8 };
 
+    ghost is_exact = { true };
+
     fn visit(&self, visitor: &mut Visitor<'_>) -> Result<(), Refusal> {
         visitor.visit_simple_sized::<NonZeroU64>()
     }
@@ -134,6 +164,8 @@ impl Allocative for NonZeroU64 {
 
 impl Allocative for NonZeroU32 {
     ghost may_show = { λ _. Leaf (codes "NonZeroU32") 4 };
+
+    ghost is_exact = { true };
 
     fn visit(&self, visitor: &mut Visitor<'_>) -> Result<(), Refusal> {
         visitor.visit_simple_sized::<NonZeroU32>()
@@ -143,6 +175,8 @@ impl Allocative for NonZeroU32 {
 impl Allocative for NonZeroU16 {
     ghost may_show = { λ _. Leaf (codes "NonZeroU16") 2 };
 
+    ghost is_exact = { true };
+
     fn visit(&self, visitor: &mut Visitor<'_>) -> Result<(), Refusal> {
         visitor.visit_simple_sized::<NonZeroU16>()
     }
@@ -150,6 +184,8 @@ impl Allocative for NonZeroU16 {
 
 impl Allocative for NonZeroU8 {
     ghost may_show = { λ _. Leaf (codes "NonZeroU8") 1 };
+
+    ghost is_exact = { true };
 
     fn visit(&self, visitor: &mut Visitor<'_>) -> Result<(), Refusal> {
         visitor.visit_simple_sized::<NonZeroU8>()
@@ -159,6 +195,8 @@ impl Allocative for NonZeroU8 {
 impl Allocative for NonZeroI64 {
     ghost may_show = { λ _. Leaf (codes "NonZeroI64") 8 };
 
+    ghost is_exact = { true };
+
     fn visit(&self, visitor: &mut Visitor<'_>) -> Result<(), Refusal> {
         visitor.visit_simple_sized::<NonZeroI64>()
     }
@@ -166,6 +204,8 @@ impl Allocative for NonZeroI64 {
 
 impl Allocative for NonZeroI32 {
     ghost may_show = { λ _. Leaf (codes "NonZeroI32") 4 };
+
+    ghost is_exact = { true };
 
     fn visit(&self, visitor: &mut Visitor<'_>) -> Result<(), Refusal> {
         visitor.visit_simple_sized::<NonZeroI32>()
@@ -175,6 +215,8 @@ impl Allocative for NonZeroI32 {
 impl Allocative for NonZeroI16 {
     ghost may_show = { λ _. Leaf (codes "NonZeroI16") 2 };
 
+    ghost is_exact = { true };
+
     fn visit(&self, visitor: &mut Visitor<'_>) -> Result<(), Refusal> {
         visitor.visit_simple_sized::<NonZeroI16>()
     }
@@ -182,6 +224,8 @@ impl Allocative for NonZeroI16 {
 
 impl Allocative for NonZeroI8 {
     ghost may_show = { λ _. Leaf (codes "NonZeroI8") 1 };
+
+    ghost is_exact = { true };
 
     fn visit(&self, visitor: &mut Visitor<'_>) -> Result<(), Refusal> {
         visitor.visit_simple_sized::<NonZeroI8>()
@@ -191,6 +235,8 @@ impl Allocative for NonZeroI8 {
 impl Allocative for NonZeroUsize {
     ghost may_show = { λ _. Leaf (codes "NonZeroUsize") 8 };
 
+    ghost is_exact = { true };
+
     fn visit(&self, visitor: &mut Visitor<'_>) -> Result<(), Refusal> {
         visitor.visit_simple_sized::<NonZeroUsize>()
     }
@@ -198,6 +244,8 @@ impl Allocative for NonZeroUsize {
 
 impl Allocative for NonZeroIsize {
     ghost may_show = { λ _. Leaf (codes "NonZeroIsize") 8 };
+
+    ghost is_exact = { true };
 
     fn visit(&self, visitor: &mut Visitor<'_>) -> Result<(), Refusal> {
         visitor.visit_simple_sized::<NonZeroIsize>()

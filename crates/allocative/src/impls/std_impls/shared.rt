@@ -17,6 +17,8 @@ impl<T: Allocative + Described> Allocative for IdRc<T> {
     ghost may_show = { λ s. shows.Field (codes "Rc") (Some 8)
         (shared_inside (codes "RcInner") s.id T.size T.align (T.may_show s.value)) };
 
+    ghost is_exact = { T.is_exact };
+
     fn visit(&self, visitor: &mut Visitor<'_>) -> Result<(), Refusal> {
         let pointer = Shared {
             key: Key::new("ptr"),
@@ -31,6 +33,8 @@ impl<T: Allocative + Described> Allocative for IdRc<T> {
 impl<T: Allocative + Described> Allocative for IdArc<T> {
     ghost may_show = { λ s. shows.Field (codes "Arc") (Some 8)
         (shared_inside (codes "ArcInner") s.id T.size T.align (T.may_show s.value)) };
+
+    ghost is_exact = { T.is_exact };
 
     fn visit(&self, visitor: &mut Visitor<'_>) -> Result<(), Refusal> {
         let pointer = Shared {

@@ -1,7 +1,7 @@
 //! Atomics: one entry each, of the declared size. No atomic is read.
 #![tactic(auto, using(crate::proofs::Meaning::visited))]
 
-ghost use Rattle.std.specs.Prelude.{codes};
+ghost use Rattle.std.specs.Prelude.{true, codes};
 ghost use Rattle.allocative.specs.StdShows.{Leaf};
 
 use crate::allocative_trait::Allocative;
@@ -15,6 +15,8 @@ use std::sync::atomic::{
 impl Allocative for AtomicU8 {
     ghost may_show = { λ _. Leaf (codes "AtomicU8") 1 };
 
+    ghost is_exact = { true };
+
     fn visit(&self, visitor: &mut Visitor<'_>) -> Result<(), Refusal> {
         visitor.visit_simple_sized::<AtomicU8>()
     }
@@ -22,6 +24,8 @@ impl Allocative for AtomicU8 {
 
 impl Allocative for AtomicU16 {
     ghost may_show = { λ _. Leaf (codes "AtomicU16") 2 };
+
+    ghost is_exact = { true };
 
     fn visit(&self, visitor: &mut Visitor<'_>) -> Result<(), Refusal> {
         visitor.visit_simple_sized::<AtomicU16>()
@@ -31,6 +35,8 @@ impl Allocative for AtomicU16 {
 impl Allocative for AtomicU32 {
     ghost may_show = { λ _. Leaf (codes "AtomicU32") 4 };
 
+    ghost is_exact = { true };
+
     fn visit(&self, visitor: &mut Visitor<'_>) -> Result<(), Refusal> {
         visitor.visit_simple_sized::<AtomicU32>()
     }
@@ -38,6 +44,8 @@ impl Allocative for AtomicU32 {
 
 impl Allocative for AtomicU64 {
     ghost may_show = { λ _. Leaf (codes "AtomicU64") 8 };
+
+    ghost is_exact = { true };
 
     fn visit(&self, visitor: &mut Visitor<'_>) -> Result<(), Refusal> {
         visitor.visit_simple_sized::<AtomicU64>()
@@ -47,6 +55,8 @@ impl Allocative for AtomicU64 {
 impl Allocative for AtomicUsize {
     ghost may_show = { λ _. Leaf (codes "AtomicUsize") 8 };
 
+    ghost is_exact = { true };
+
     fn visit(&self, visitor: &mut Visitor<'_>) -> Result<(), Refusal> {
         visitor.visit_simple_sized::<AtomicUsize>()
     }
@@ -54,6 +64,8 @@ impl Allocative for AtomicUsize {
 
 impl Allocative for AtomicI8 {
     ghost may_show = { λ _. Leaf (codes "AtomicI8") 1 };
+
+    ghost is_exact = { true };
 
     fn visit(&self, visitor: &mut Visitor<'_>) -> Result<(), Refusal> {
         visitor.visit_simple_sized::<AtomicI8>()
@@ -63,6 +75,8 @@ impl Allocative for AtomicI8 {
 impl Allocative for AtomicI16 {
     ghost may_show = { λ _. Leaf (codes "AtomicI16") 2 };
 
+    ghost is_exact = { true };
+
     fn visit(&self, visitor: &mut Visitor<'_>) -> Result<(), Refusal> {
         visitor.visit_simple_sized::<AtomicI16>()
     }
@@ -70,6 +84,8 @@ impl Allocative for AtomicI16 {
 
 impl Allocative for AtomicI32 {
     ghost may_show = { λ _. Leaf (codes "AtomicI32") 4 };
+
+    ghost is_exact = { true };
 
     fn visit(&self, visitor: &mut Visitor<'_>) -> Result<(), Refusal> {
         visitor.visit_simple_sized::<AtomicI32>()
@@ -79,6 +95,8 @@ impl Allocative for AtomicI32 {
 impl Allocative for AtomicI64 {
     ghost may_show = { λ _. Leaf (codes "AtomicI64") 8 };
 
+    ghost is_exact = { true };
+
     fn visit(&self, visitor: &mut Visitor<'_>) -> Result<(), Refusal> {
         visitor.visit_simple_sized::<AtomicI64>()
     }
@@ -87,6 +105,8 @@ impl Allocative for AtomicI64 {
 impl Allocative for AtomicBool {
     ghost may_show = { λ _. Leaf (codes "AtomicBool") 1 };
 
+    ghost is_exact = { true };
+
     fn visit(&self, visitor: &mut Visitor<'_>) -> Result<(), Refusal> {
         visitor.visit_simple_sized::<AtomicBool>()
     }
@@ -94,6 +114,8 @@ impl Allocative for AtomicBool {
 
 impl Allocative for AtomicIsize {
     ghost may_show = { λ _. Leaf (codes "AtomicIsize") 8 };
+
+    ghost is_exact = { true };
 
     fn visit(&self, visitor: &mut Visitor<'_>) -> Result<(), Refusal> {
         visitor.visit_simple_sized::<AtomicIsize>()

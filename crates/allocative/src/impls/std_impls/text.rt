@@ -1,7 +1,7 @@
 //! `String`.
 #![tactic(auto, using(crate::proofs::Parts::parts))]
 
-ghost use Rattle.std.specs.Prelude.{codes, length, string_bytes, string_capacity, Some};
+ghost use Rattle.std.specs.Prelude.{true, codes, length, string_bytes, string_capacity, Some};
 ghost use Rattle.allocative_graph.specs.Shows as shows;
 ghost use Rattle.allocative.specs.Bodies.{text_shows};
 
@@ -16,6 +16,8 @@ use allocative_graph::refusal::Refusal;
 impl Allocative for String {
     ghost may_show = { λ s. shows.Field (codes "String") (Some 24)
         (text_shows (length (string_bytes s)) (string_capacity s)) };
+
+    ghost is_exact = { true };
 
     fn visit(&self, visitor: &mut Visitor<'_>) -> Result<(), Refusal> {
         Declared(Key::for_type_name::<String>(), <String>::size(), Text(self)).enter(visitor)

@@ -1,7 +1,7 @@
 //! Times and durations: one entry each.
 #![tactic(auto, using(crate::proofs::Meaning::visited))]
 
-ghost use Rattle.std.specs.Prelude.{codes};
+ghost use Rattle.std.specs.Prelude.{true, codes};
 ghost use Rattle.allocative.specs.StdShows.{Leaf};
 
 use crate::allocative_trait::Allocative;
@@ -12,6 +12,8 @@ use std::time::{Duration, Instant, SystemTime};
 impl Allocative for Instant {
     ghost may_show = { λ _. Leaf (codes "Instant") 16 };
 
+    ghost is_exact = { true };
+
     fn visit(&self, visitor: &mut Visitor<'_>) -> Result<(), Refusal> {
         visitor.visit_simple_sized::<Instant>()
     }
@@ -20,6 +22,8 @@ impl Allocative for Instant {
 impl Allocative for SystemTime {
     ghost may_show = { λ _. Leaf (codes "SystemTime") 16 };
 
+    ghost is_exact = { true };
+
     fn visit(&self, visitor: &mut Visitor<'_>) -> Result<(), Refusal> {
         visitor.visit_simple_sized::<SystemTime>()
     }
@@ -27,6 +31,8 @@ impl Allocative for SystemTime {
 
 impl Allocative for Duration {
     ghost may_show = { λ _. Leaf (codes "Duration") 16 };
+
+    ghost is_exact = { true };
 
     fn visit(&self, visitor: &mut Visitor<'_>) -> Result<(), Refusal> {
         visitor.visit_simple_sized::<Duration>()

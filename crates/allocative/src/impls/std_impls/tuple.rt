@@ -1,7 +1,7 @@
 //! Tuples, with one entry for each field, named by its position, and arrays.
 #![tactic(auto, using(crate::proofs::Parts::parts))]
 
-ghost use Rattle.std.specs.Prelude.{codes};
+ghost use Rattle.std.specs.Prelude.{◌&&◌, codes};
 ghost use Rattle.allocative_graph.specs.Shows as shows;
 ghost use Rattle.allocative.specs.Bodies.{slice_of};
 
@@ -16,6 +16,8 @@ impl<A: Allocative + Described> Allocative for (A,) {
     ghost may_show = { λ p. shows.Field (codes "tuple1") ⟦<(A,) as Described>⟧.size
         (shows.Field (codes "0") A.size (A.may_show p.0)) };
 
+    ghost is_exact = { A.is_exact };
+
     fn visit(&self, visitor: &mut Visitor<'_>) -> Result<(), Refusal> {
         let first = Field("0", &self.0);
         let name = Key::for_type_name::<(A,)>();
@@ -27,6 +29,8 @@ impl<A: Allocative + Described, B: Allocative + Described> Allocative for (A, B)
     ghost may_show = { λ p. shows.Field (codes "tuple2") ⟦<(A, B) as Described>⟧.size
         (shows.Both (shows.Field (codes "0") A.size (A.may_show p.0))
         (shows.Field (codes "1") B.size (B.may_show p.1))) };
+
+    ghost is_exact = { A.is_exact && B.is_exact };
 
     fn visit(&self, visitor: &mut Visitor<'_>) -> Result<(), Refusal> {
         let first = Field("0", &self.0);
@@ -42,6 +46,8 @@ impl<A: Allocative + Described, B: Allocative + Described, C: Allocative + Descr
         (shows.Both (shows.Field (codes "0") A.size (A.may_show p.0))
         (shows.Both (shows.Field (codes "1") B.size (B.may_show p.1))
         (shows.Field (codes "2") C.size (C.may_show p.2)))) };
+
+    ghost is_exact = { A.is_exact && (B.is_exact && C.is_exact) };
 
     fn visit(&self, visitor: &mut Visitor<'_>) -> Result<(), Refusal> {
         let first = Field("0", &self.0);
@@ -63,6 +69,8 @@ impl<
         (shows.Both (shows.Field (codes "1") B.size (B.may_show p.1))
         (shows.Both (shows.Field (codes "2") C.size (C.may_show p.2))
         (shows.Field (codes "3") D.size (D.may_show p.3))))) };
+
+    ghost is_exact = { A.is_exact && (B.is_exact && (C.is_exact && D.is_exact)) };
 
     fn visit(&self, visitor: &mut Visitor<'_>) -> Result<(), Refusal> {
         let first = Field("0", &self.0);
@@ -88,6 +96,8 @@ impl<
         (shows.Both (shows.Field (codes "3") D.size (D.may_show p.3))
         (shows.Field (codes "4") E.size (E.may_show p.4)))))) };
 
+    ghost is_exact = { A.is_exact && (B.is_exact && (C.is_exact && (D.is_exact && E.is_exact))) };
+
     fn visit(&self, visitor: &mut Visitor<'_>) -> Result<(), Refusal> {
         let first = Field("0", &self.0);
         let second = Field("1", &self.1);
@@ -106,6 +116,8 @@ impl<
 
 impl<T: Allocative + Described, const N: usize> Allocative for [T; N] {
     ghost may_show = { slice_of T.name T.size T.may_show };
+
+    ghost is_exact = { T.is_exact };
 
     fn visit(&self, visitor: &mut Visitor<'_>) -> Result<(), Refusal> {
         visitor.visit_slice_of(self)

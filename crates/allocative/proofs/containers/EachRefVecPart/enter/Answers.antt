@@ -1,6 +1,6 @@
 -- One more item is shown.
-use Rattle.allocative.proofs.Within.{entered_then_refused}
-use Rattle.std.proofs.Common.{rules}
+use Rattle.allocative.proofs.Within.{indexed_refused}
+use Rattle.std.proofs.Common.{◌≡◌, rules}
 use Rattle.allocative.proofs.Meaning.{entered_one_more, entered_none, means_same}
 use Rattle.allocative.proofs.containers.EachRefVecPart.enter.Goals as goal
 
@@ -11,4 +11,8 @@ pub loop-item-init : goal.loop-item-init
 loop-item-init g c = entered_none _ means_same
 
 pub returns-in_err-enter : goal.returns-in_err-enter
-returns-in_err-enter g c = entered_then_refused {e = c.in_err-enter.field-0.0} _ c.from_residual.ensures.0 (search rules) c.loop-item.invariant c.in_err-enter.ensures
+returns-in_err-enter g c =
+    let is : c.deref-item-items.result.now ≡ c.args.self.0.now.items = search rules in
+    let refused = indexed_refused g.T.Allocative.may_show c.deref-item-items.result.now _ c.item-item.result {e = c.in_err-enter.field-0.0} _ c.from_residual.ensures.0 (search rules)
+    c.loop-item.invariant c.in_err-enter.ensures c.loop-item-test.true c.item-item.is in
+    rw is at refused

@@ -1,6 +1,6 @@
-use Rattle.allocative.specs.PackShows.{is_index_data}
-use Rattle.allocative.proofs.Meaning.{entered_as}
+use Rattle.allocative.proofs.ContainerMeaning.{means_data_entry}
+use Rattle.allocative.proofs.Meaning.{entered_if, exact_both, exact_same, exact_always}
 use Rattle.allocative.proofs.containers.IndexDataPart.enter.Goals as goal
 
 pub returns : goal.returns
-returns g c = entered_as c.enter.ensures (record { means = λ f h. is_index_data h })
+returns g c = entered_if c.enter.ensures (exact_both exact_same exact_always) means_data_entry

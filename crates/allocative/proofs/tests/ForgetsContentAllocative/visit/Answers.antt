@@ -1,5 +1,6 @@
 -- The visitor of the content is never left.
 use Rattle.std.proofs.Common.{◌≡◌, ℕ, suc, true, Ok, rules, refl, ap, arith}
+use Rattle.allocative.proofs.Exact.{inexact}
 use Rattle.allocative_graph.specs.Path.{Key}
 use Rattle.allocative_graph.specs.Identity.{Identity}
 use Rattle.allocative_graph.specs.Collector.{Live, State}
@@ -19,4 +20,5 @@ returns-then-is_first c =
       same_reference = search rules;
       same_outer = search rules;
       shown = search (rules, forgotten_content);
+      rightly = inexact;
     }

@@ -1,5 +1,5 @@
 -- One more item is shown.
-use Rattle.allocative.proofs.Within.{entered_failed, failed_answer, entered_then_refused}
+use Rattle.allocative.proofs.Within.{entered_failed, failed_answer, indexed_refused}
 use Rattle.std.proofs.Common.{arith, codes, rules}
 use Rattle.allocative.specs.Runs.{field_of}
 use Rattle.allocative.proofs.Meaning.{entered_one_more, entered_none, means_same}
@@ -25,7 +25,8 @@ pub loop-item-init : goal.loop-item-init
 loop-item-init g c = (entered_none _ means_same, λ h. c.in_ok-go_on.ensures)
 
 pub returns-in_err-visit_field-clause-entered : goal.returns-in_err-visit_field-clause-entered
-returns-in_err-visit_field-clause-entered g c = entered_then_refused {e = c.in_err-visit_field.field-0.0} _ c.from_residual-in_err-visit_field.ensures.0 (search rules) c.loop-item.invariant.0 c.in_err-visit_field.ensures.entered
+returns-in_err-visit_field-clause-entered g c = indexed_refused (field_of (codes "data") g.T.Described.size g.T.Allocative.may_show) c.args.items.now c.loop-item.item-index c.item-item.result {e = c.in_err-visit_field.field-0.0} _ c.from_residual-in_err-visit_field.ensures.0 (search rules)
+    c.loop-item.invariant.0 (rw c.new.ensures at c.in_err-visit_field.ensures.entered) c.loop-item-test.true c.item-item.is
 
 pub returns-in_err-visit_field-clause-exact : goal.returns-in_err-visit_field-clause-exact
 returns-in_err-visit_field-clause-exact g c = λ h. absurd (omega (arith, h, c.loop-item-test.true))

@@ -1,6 +1,6 @@
 -- One more item is shown.
 use Rattle.allocative.proofs.Showing.{kept_after}
-use Rattle.allocative.proofs.Within.{entered_failed, failed_answer, entered_then_refused, kept_failed}
+use Rattle.allocative.proofs.Within.{entered_failed, failed_answer, indexed_refused, kept_failed}
 use Rattle.std.proofs.Common.{arith, rules}
 use Rattle.allocative.proofs.Meaning.{entered_one_more, entered_none, means_same}
 use Rattle.allocative.proofs.visitor.Visitor.visit_each.Goals as goal
@@ -27,7 +27,8 @@ pub loop-item-init : goal.loop-item-init
 loop-item-init g c = (entered_none _ means_same, λ h. c.in_ok-go_on.ensures)
 
 pub returns-in_err-enter-clause-entered : goal.returns-in_err-enter-clause-entered
-returns-in_err-enter-clause-entered g c = entered_then_refused {e = c.in_err-enter.field-0.0} _ c.from_residual-in_err-enter.ensures.0 (search rules) c.loop-item.invariant.0 c.in_err-enter.ensures
+returns-in_err-enter-clause-entered g c = indexed_refused g.T.Allocative.may_show c.args.items.now c.loop-item.item-index c.item-item.result {e = c.in_err-enter.field-0.0} _ c.from_residual-in_err-enter.ensures.0 (search rules)
+    c.loop-item.invariant.0 c.in_err-enter.ensures c.loop-item-test.true c.item-item.is
 
 pub returns-in_err-enter-clause-kept : goal.returns-in_err-enter-clause-kept
 returns-in_err-enter-clause-kept g c = kept_after c.in_ok-go_on.ensures

@@ -7,5 +7,5 @@ use Rattle.allocative.proofs.visitor.Visitor.visit_each.Given as goal
 
 abbrev pub invariant-loop-item : goal.invariant-loop-item
 invariant-loop-item g l =
-    Entered (each_shows g.T.Allocative.may_show (take l.item-index l.items)) l.initial.self l.self (Ok tt)
+    Entered g.T.Allocative.is_exact (each_shows g.T.Allocative.may_show (take l.item-index l.items)) l.initial.self l.self (Ok tt)
     × (length l.items ≡ 0 → MakesPlan Done l.initial.self l.self (Ok tt))

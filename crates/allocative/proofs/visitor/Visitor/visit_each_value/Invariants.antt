@@ -7,4 +7,4 @@ use Rattle.allocative.proofs.visitor.Visitor.visit_each_value.Given as goal
 
 abbrev pub invariant-loop-key : goal.invariant-loop-key
 invariant-loop-key g l =
-    Entered (each_shows (value_shows g.T.Allocative.may_show) (map deref_entry l.yielded)) l.fn.self l.self (Ok tt)
+    Entered g.T.Allocative.is_exact (each_shows (value_shows g.T.Allocative.may_show) (map deref_entry l.yielded)) l.fn.self l.self (Ok tt)

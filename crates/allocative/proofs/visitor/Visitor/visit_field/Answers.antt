@@ -4,7 +4,7 @@ use Rattle.allocative.proofs.Showing.{goes_in}
 use Rattle.allocative.proofs.visitor.Visitor.visit_field.Goals as goal
 
 pub returns-in_err-outer-clause-entered : goal.returns-in_err-outer-clause-entered
-returns-in_err-outer-clause-entered g c = not_within_sized {e = c.in_err-outer.field-0.0} _ c.from_residual.ensures.0 (search rules) c.in_err-outer.ensures.enters
+returns-in_err-outer-clause-entered g c = not_within_sized {e = c.in_err-outer.field-0.0} _ c.from_residual.ensures.0 (search rules) (rw c.size.ensures at c.in_err-outer.ensures.enters)
 
 pub returns-in_err-outer-clause-first : goal.returns-in_err-outer-clause-first
 returns-in_err-outer-clause-first g c = first_not_within {e = c.in_err-outer.field-0.0} _ c.from_residual.ensures.0 (search rules) (rw c.size.ensures at c.in_err-outer.ensures.enters)

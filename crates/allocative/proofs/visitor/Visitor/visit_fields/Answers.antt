@@ -6,7 +6,7 @@ use Rattle.std.proofs.Common.{rules}
 use Rattle.std.specs.Map.Iter.{deref}
 use Rattle.allocative.specs.Runs.{field_of}
 use Rattle.allocative_graph.specs.Shows.{each_shows}
-use Rattle.allocative.proofs.Runs.{entered_next, entered_run}
+use Rattle.allocative.proofs.Runs.{entered_next, entered_run, along_run, along_all, along_refused}
 use Rattle.allocative.proofs.Making.{not_none, run_gives, run_ends}
 use Rattle.allocative.proofs.visitor.Visitor.visit_fields.Goals as goal
 
@@ -40,3 +40,17 @@ loop-item-init g c = (entered_none _ means_same, λ h. c.in_ok-go_on.ensures)
 
 pub returns-in_err-visit_field-clause-entered : goal.returns-in_err-visit_field-clause-entered
 returns-in_err-visit_field-clause-entered g c = entered_then_refused {e = c.in_err-visit_field.field-0.0} _ c.from_residual-in_err-visit_field.ensures.0 (search rules) c.loop-item.invariant.0 c.in_err-visit_field.ensures.entered
+
+pub returns-clause-rightly : goal.returns-clause-rightly
+returns-clause-rightly g c =
+    rw (← c.into_iter-item-iterator.ensures.into_iter_gives)
+    (along_run deref (each_shows (field_of c.args.name g.T.Described.size g.T.Allocative.may_show)) c.loop-item.yielded (c.next.new.self, (c.loop-item.item-iterator, c.loop-item.yielded_by, c.in-None.ensures.steps)) c.loop-item.invariant.0)
+
+pub returns-in_err-go_on-clause-rightly : goal.returns-in_err-go_on-clause-rightly
+returns-in_err-go_on-clause-rightly g c = along_all (λ ys y. entered_failed {e = c.in_err-go_on.field-0.0} _ c.from_residual.ensures.0 (search rules) c.in_err-go_on.ensures)
+
+pub returns-in_err-visit_field-clause-rightly : goal.returns-in_err-visit_field-clause-rightly
+returns-in_err-visit_field-clause-rightly g c =
+    rw (← c.into_iter-item-iterator.ensures.into_iter_gives)
+    (along_refused g.I.Iterator.next_gives c.loop-item.item-iterator deref (field_of c.args.name g.T.Described.size g.T.Allocative.may_show) c.loop-item.yielded {e = c.in_err-visit_field.field-0.0} _ c.from_residual-in_err-visit_field.ensures.0 (search rules)
+    c.loop-item.yielded_by c.in-Some.ensures.steps c.loop-item.invariant.0 (rw c.copy.ensures at c.in_err-visit_field.ensures.entered))

@@ -6,7 +6,7 @@ use Rattle.allocative.proofs.Within.{entered_failed, failed_answer, entered_then
 use Rattle.std.proofs.Common.{rules}
 use Rattle.std.specs.Map.Iter.{deref}
 use Rattle.allocative_graph.specs.Shows.{each_shows}
-use Rattle.allocative.proofs.Runs.{entered_next, entered_run}
+use Rattle.allocative.proofs.Runs.{entered_next, entered_run, along_run, along_all, along_refused}
 use Rattle.allocative.proofs.Making.{not_none, run_gives, run_ends}
 use Rattle.allocative.proofs.visitor.Visitor.visit_items.Goals as goal
 
@@ -49,3 +49,17 @@ returns-in_err-enter-clause-kept g c = kept_after c.in_ok-go_on.ensures
 
 pub returns-clause-kept : goal.returns-clause-kept
 returns-clause-kept g c = kept_after c.in_ok-go_on.ensures
+
+pub returns-clause-rightly : goal.returns-clause-rightly
+returns-clause-rightly g c =
+    rw (← c.into_iter-item-iterator.ensures.into_iter_gives)
+    (along_run deref (each_shows g.T.Allocative.may_show) c.loop-item.yielded (c.next.new.self, (c.loop-item.item-iterator, c.loop-item.yielded_by, c.in-None.ensures.steps)) c.loop-item.invariant.0)
+
+pub returns-in_err-go_on-clause-rightly : goal.returns-in_err-go_on-clause-rightly
+returns-in_err-go_on-clause-rightly g c = along_all (λ ys y. entered_failed {e = c.in_err-go_on.field-0.0} _ c.from_residual.ensures.0 (search rules) c.in_err-go_on.ensures)
+
+pub returns-in_err-enter-clause-rightly : goal.returns-in_err-enter-clause-rightly
+returns-in_err-enter-clause-rightly g c =
+    rw (← c.into_iter-item-iterator.ensures.into_iter_gives)
+    (along_refused g.I.Iterator.next_gives c.loop-item.item-iterator deref g.T.Allocative.may_show c.loop-item.yielded {e = c.in_err-enter.field-0.0} _ c.from_residual-in_err-enter.ensures.0 (search rules)
+    c.loop-item.yielded_by c.in-Some.ensures.steps c.loop-item.invariant.0 c.in_err-enter.ensures)

@@ -1,4 +1,4 @@
-use Rattle.std.proofs.Common.{rules}
+use Rattle.std.proofs.Common.{true, rules}
 use Rattle.std.specs.Map.Iter.{deref}
 use Rattle.allocative.proofs.Runs.{items_run, plain_run}
 use Rattle.allocative.proofs.Making.{run_in_turn, run_counted}
@@ -10,7 +10,7 @@ returns-then-are_shown_each-clause-entered g c =
 
 pub returns-clause-entered : goal.returns-clause-entered
 returns-clause-entered g c =
-    plain_run deref g.T.Described.name g.T.Described.size c.count_of-count.result g.T.Described.needs_drop g.T.Allocative.may_show (search rules) c.count_of-count.ensures (search rules)
+    plain_run {e = true} deref g.T.Described.name g.T.Described.size c.count_of-count.result g.T.Described.needs_drop g.T.Allocative.may_show (search rules) c.count_of-count.ensures (search rules)
 
 pub returns-then-are_shown_each-clause-exact : goal.returns-then-are_shown_each-clause-exact
 returns-then-are_shown_each-clause-exact g c = run_in_turn g.T.Described.size g.T.Described.needs_drop (search rules) c.visit_items.ensures.exact

@@ -6,7 +6,7 @@ use Rattle.std.proofs.Common.{rules}
 use Rattle.std.specs.Map.Iter.{deref_pair}
 use Rattle.allocative.specs.Runs.{pair_shows}
 use Rattle.allocative_graph.specs.Shows.{each_shows}
-use Rattle.allocative.proofs.Runs.{entered_next, entered_run}
+use Rattle.allocative.proofs.Runs.{entered_next, entered_run, along_run, along_all, along_refused}
 use Rattle.allocative.proofs.Making.{not_none, run_gives, run_ends}
 use Rattle.allocative.proofs.visitor.Visitor.visit_pairs.Goals as goal
 
@@ -40,3 +40,17 @@ loop-key-init g c = (entered_none _ means_same, λ h. c.in_ok-go_on.ensures)
 
 pub returns-in_err-visit_pair-clause-entered : goal.returns-in_err-visit_pair-clause-entered
 returns-in_err-visit_pair-clause-entered g c = entered_then_refused {e = c.in_err-visit_pair.field-0.0} _ c.from_residual-in_err-visit_pair.ensures.0 (search rules) c.loop-key.invariant.0 c.in_err-visit_pair.ensures
+
+pub returns-clause-rightly : goal.returns-clause-rightly
+returns-clause-rightly g c =
+    rw (← c.into_iter-key-iterator.ensures.into_iter_gives)
+    (along_run deref_pair (each_shows (pair_shows g.K.Described.size g.K.Allocative.may_show g.V.Described.size g.V.Allocative.may_show)) c.loop-key.yielded (c.next.new.self, (c.loop-key.key-iterator, c.loop-key.yielded_by, c.in-None.ensures.steps)) c.loop-key.invariant.0)
+
+pub returns-in_err-go_on-clause-rightly : goal.returns-in_err-go_on-clause-rightly
+returns-in_err-go_on-clause-rightly g c = along_all (λ ys y. entered_failed {e = c.in_err-go_on.field-0.0} _ c.from_residual.ensures.0 (search rules) c.in_err-go_on.ensures)
+
+pub returns-in_err-visit_pair-clause-rightly : goal.returns-in_err-visit_pair-clause-rightly
+returns-in_err-visit_pair-clause-rightly g c =
+    rw (← c.into_iter-key-iterator.ensures.into_iter_gives)
+    (along_refused g.I.Iterator.next_gives c.loop-key.key-iterator deref_pair (pair_shows g.K.Described.size g.K.Allocative.may_show g.V.Described.size g.V.Allocative.may_show) c.loop-key.yielded {e = c.in_err-visit_pair.field-0.0} _ c.from_residual-in_err-visit_pair.ensures.0 (search rules)
+    c.loop-key.yielded_by c.in-Some.ensures.steps c.loop-key.invariant.0 c.in_err-visit_pair.ensures)

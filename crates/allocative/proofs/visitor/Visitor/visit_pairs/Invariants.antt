@@ -1,5 +1,5 @@
 -- The items so far were shown.
-use Rattle.std.proofs.Common.{length, ◌≡◌, Ok, map}
+use Rattle.std.proofs.Common.{◌&&◌, length, ◌≡◌, Ok, map}
 use Rattle.std.specs.Map.Iter.{deref_pair}
 use Rattle.allocative.specs.Runs.{pair_shows}
 use Rattle.allocative_graph.specs.Shows.{each_shows}
@@ -9,5 +9,5 @@ use Rattle.allocative.proofs.visitor.Visitor.visit_pairs.Given as goal
 
 abbrev pub invariant-loop-key : goal.invariant-loop-key
 invariant-loop-key g l =
-    Entered (each_shows (pair_shows g.K.Described.size g.K.Allocative.may_show g.V.Described.size g.V.Allocative.may_show) (map deref_pair l.yielded)) l.fn.self l.self (Ok tt)
+    Entered (g.K.Allocative.is_exact && g.V.Allocative.is_exact) (each_shows (pair_shows g.K.Described.size g.K.Allocative.may_show g.V.Described.size g.V.Allocative.may_show) (map deref_pair l.yielded)) l.fn.self l.self (Ok tt)
     × (length l.yielded ≡ 0 → MakesPlan Done l.fn.self l.self (Ok tt))

@@ -2,5 +2,5 @@ use Rattle.std.proofs.Common.{rules}
 use Rattle.allocative.proofs.Parts.{parts}
 use Rattle.own_types.proofs.enums.RequestAllocative.visit.Goals as goal
 
-pub returns-in-Swap : goal.returns-in-Swap
-returns-in-Swap c = rw c.in-Swap.is (search (rules, parts))
+pub returns-in-Draw : goal.returns-in-Draw
+returns-in-Draw c = rw c.in-Draw.is (search (rules, parts))

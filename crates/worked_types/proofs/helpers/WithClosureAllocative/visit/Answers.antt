@@ -2,6 +2,7 @@
 use Rattle.std.proofs.Common.{rules, codes}
 use Rattle.allocative.specs.Shows.{Inside, Nothing}
 use Rattle.allocative.proofs.Closures.{with_shows}
+use Rattle.allocative.proofs.Exact.{inexact}
 use Rattle.worked_types.proofs.helpers.WithClosureAllocative.visit.Goals as goal
 
 pub returns : goal.returns
@@ -11,4 +12,5 @@ returns c =
       same_reference = called.same_reference;
       same_outer = called.same_outer;
       shown = with_shows _ _ (Inside (codes "x") 1 Nothing) (rw c.new.ensures at called.calls) (λ x y r h. search rules);
+      rightly = inexact;
     }

@@ -2,6 +2,7 @@
 use Rattle.std.proofs.Common.{rules, codes}
 use Rattle.allocative.specs.Shows.{Inside, Both, Nothing}
 use Rattle.allocative.proofs.Closures.{with_shows}
+use Rattle.allocative.proofs.Exact.{inexact}
 use Rattle.allocative.proofs.Showing.{showing}
 use Rattle.worked_types.proofs.helpers.WithStepsAllocative.visit.Goals as goal
 
@@ -12,4 +13,5 @@ returns c =
       same_reference = called.same_reference;
       same_outer = called.same_outer;
       shown = with_shows _ _ (Both (Inside (codes "x") 1 Nothing) (Inside (codes "y") 2 Nothing)) (rw c.new.ensures at called.calls) (λ x y r h. search (rules, showing));
+      rightly = inexact;
     }

@@ -3,7 +3,7 @@ use Rattle.std.proofs.Common.{rules, refl}
 use Rattle.allocative_graph.specs.Visits.{is_sized}
 use Rattle.allocative.proofs.Within.{entered_within, not_within, first_not_within}
 use Rattle.allocative.proofs.Showing.{goes_in_plain}
-use Rattle.allocative.proofs.Meaning.{entered_as, means_unique}
+use Rattle.allocative.proofs.Meaning.{exact_never, entered_if, means_unique}
 use Rattle.allocative.proofs.Json.{means_members}
 use Rattle.allocative.proofs.impls.pack_impls.json.visit_json_map.Goals as goal
 
@@ -16,7 +16,7 @@ returns-in_err-outer-clause-first c = first_not_within {e = c.in_err-outer.field
 pub returns-clause-entered : goal.returns-clause-entered
 returns-clause-entered c =
     entered_within (rw c.new.ensures at c.in_ok-outer.ensures.enters)
-    (entered_as c.enter-answer.ensures (means_unique refl (means_members c.args.map.now.entries))) c.close_entry.ensures
+    (entered_if c.enter-answer.ensures exact_never (means_unique refl (means_members c.args.map.now.entries))) c.close_entry.ensures
 
 pub returns-clause-first : goal.returns-clause-first
 returns-clause-first c = goes_in_plain (rw c.new.ensures at c.in_ok-outer.ensures.enters)

@@ -2,7 +2,7 @@
 use Rattle.std.proofs.lemmas.List.{append-nil}
 use Rattle.std.proofs.Common.{String, Global, [], ◌∷◌, ◌++◌, refl, sym, ap, append_assoc, ◌∙◌, rules}
 use Rattle.allocative.specs.JsonShows.{member_shows}
-use Rattle.allocative.proofs.Meaning.{entered_as, entered_snoc, means_both, means_field, means_same}
+use Rattle.allocative.proofs.Meaning.{exact_never, entered_if, entered_snoc, means_both, means_field, means_same}
 use Rattle.allocative.proofs.Json.{means_string}
 use Rattle.allocative.proofs.Within.{entered_then_refused}
 use Rattle.allocative.proofs.impls.pack_impls.json.MembersRefMapStringPart.enter.Goals as goal
@@ -15,7 +15,7 @@ loop-key-preserved g c =
       done ++ e ∷ [],
       l.invariant.1 ∙ ap (λ es. done ++ es) c.in-Some.ensures.steps ∙ sym (append_assoc done (e ∷ []) c.next.new.self),
       entered_snoc (member_shows g.V.Allocative.may_show) done e l.invariant.2
-          (entered_as c.in_ok-enter.ensures (means_both (means_field refl refl (means_string e.0)) means_same)),
+          (entered_if c.in_ok-enter.ensures exact_never (means_both (means_field refl refl (means_string e.0)) means_same)),
     )
 
 pub returns : goal.returns

@@ -1,5 +1,5 @@
 -- The members so far were shown.
-use Rattle.std.proofs.Common.{String, Global, ◌≡◌, Ok, List, ◌++◌}
+use Rattle.std.proofs.Common.{false, String, Global, ◌≡◌, Ok, List, ◌++◌}
 use Rattle.allocative_graph.specs.Shows.{each_shows}
 use Rattle.allocative.specs.JsonShows.{member_shows}
 use Rattle.allocative.specs.Visited.{Entered}
@@ -7,4 +7,4 @@ use Rattle.allocative.proofs.impls.pack_impls.json.MembersRefMapStringPart.enter
 
 abbrev pub invariant-loop-key : goal.invariant-loop-key
 invariant-loop-key g l =
-    (done : List (String Global × g.row.V.Denot)) × (l.self.0.now.entries ≡ done ++ l.key-iterator) × Entered (each_shows (member_shows g.V.Allocative.may_show) done) l.initial.visitor l.visitor (Ok tt)
+    (done : List (String Global × g.row.V.Denot)) × (l.self.0.now.entries ≡ done ++ l.key-iterator) × Entered false (each_shows (member_shows g.V.Allocative.may_show) done) l.initial.visitor l.visitor (Ok tt)

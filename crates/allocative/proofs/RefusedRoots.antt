@@ -1,0 +1,57 @@
+-- A root that is refused after others: it may be refused only where the whole list of roots may be.
+use Rattle.std.proofs.Common.{◌≡◌, ℕ, ◌+◌, ◌<◌, ◌^◌, List, [], ◌∷◌, ◌++◌, length, take, drop, get_or, Bool, true, false, IsTrue, IsErr, Result, Ok, Err, refl, ap, sym, subst, ◌∙◌}
+use Rattle.std.specs.List.{list_all}
+use Rattle.std.proofs.lemmas.Bool.{false≢true}
+use Rattle.std.proofs.lemmas.List.Folds.{list_all_at}
+use Rattle.allocative_graph.specs.declared.refusal.Refusal.{Refusal}
+use Rattle.allocative_graph.specs.Forest.{Forest}
+use Rattle.allocative_graph.specs.Collector.{Kind, OfGraph, OfHeld, State, Failed, Going, plus, is_graph, begin, go}
+use Rattle.allocative_graph.specs.Shows.{Showing, Both, each_shows}
+use Rattle.allocative_graph.specs.Visits.{Runs}
+use Rattle.allocative_graph.proofs.Plus.{is_graph-plus, is_graph-begin}
+use Rattle.allocative.specs.Exact.{all_bytes, HasRoomFor, CanTake, MayRefuse, RunsRightly}
+use Rattle.allocative.proofs.Closures.{err_or}
+use Rattle.allocative.proofs.Exact.{entered-plus, can_first, can_second, may_refuse, each_append, declared_append}
+use Rattle.allocative.proofs.Within.{around_item}
+
+-- Entries that are added with a root visitor open take as much room as without it.
+room_begun : (b : Kind) (f g : Forest) → HasRoomFor (plus (begin b) f) g → HasRoomFor (begin (plus b f)) g
+room_begun (OfGraph c) f g h = subst (λ (n : ℕ). n + all_bytes g < 2 ^ 63) (entered-plus (go [] c) f ∙ sym (entered-plus c f)) h
+room_begun (OfHeld k) f g h = h
+
+-- So what could be taken there can be taken by a root visitor that is opened after them.
+can_begun : {q : Showing} (b : Kind) (f : Forest) → CanTake (plus (begin b) f) q → CanTake (begin (plus b f)) q
+can_begun b f w = (w.0, λ g y. room_begun b f g (w.1 g y))
+
+-- Where all roots can be taken, so can one of them after those before it.
+can_among : {T : Type 0} (p : T → Showing) (front : List T) (x : T) (back : List T) (b : Kind) (f : Forest) → each_shows p front f → CanTake (begin b) (each_shows p (front ++ x ∷ back)) → CanTake (begin (plus b f)) (p x)
+can_among p front x back b f a w =
+    let both : CanTake (begin b) (Both (each_shows p front) (each_shows p (x ∷ back))) = (declared_append p front (x ∷ back) w.0, λ g y. w.1 g (each_append p front (x ∷ back) g y)) in
+    can_first (begin (plus b f)) (can_begun b f (can_second (begin b) f a both))
+
+-- A root that is refused may be refused as one of all roots. What is exact of all is exact of it.
+rightly_among : {T : Type 0} (w y : Bool) (p : T → Showing) (front : List T) (x : T) (back : List T) (s m t : State) (u : Unit) (e : Refusal) → (IsTrue w → IsTrue y) →
+    Runs (each_shows p front) s (Ok u) m → RunsRightly y (p x) m (Err e) t → RunsRightly w (each_shows p (front ++ x ∷ back)) s (Err e) t
+rightly_among w y p front x back (Failed r) m t u e only g h = tt
+rightly_among w y p front x back (Going b) (Failed r) t u e only g h = absurd g
+rightly_among w y p front x back (Going b) (Going c) t u e only (z, f, a, k, i) h = λ exact closed.
+    let r = h (only exact) z in
+    let m : MayRefuse (p x) (begin (plus b f)) e = subst (λ (v : Kind). MayRefuse (p x) (begin v) e) i r.1 in
+    let same : is_graph (begin b) ≡ is_graph (begin (plus b f)) = is_graph-begin b ∙ sym (is_graph-plus b f) ∙ sym (is_graph-begin (plus b f)) in
+    (r.0, may_refuse (begin (plus b f)) (begin b) (can_among p front x back b f a) same e m)
+
+-- The root with this index is refused, where the roots before it were visited.
+pub rightly_indexed : {T : Type 0} (w y : Bool) (p : T → Showing) (xs : List T) (i : ℕ) (x : T) (s m t : State) (u : Unit) (e : Refusal) (r : Result Unit Refusal) → (IsTrue w → IsTrue y) → IsErr r → e ≡ err_or e r →
+    Runs (each_shows p (take i xs)) s (Ok u) m → RunsRightly y (p x) m (Err e) t → i < length xs → x ≡ get_or xs i x → RunsRightly w (each_shows p xs) s r t
+rightly_indexed w y p xs i x s m t u e (Ok v) only h j g k l is = absurd (false≢true h)
+rightly_indexed w y p xs i x s m t u e (Err z) only h j g k l is =
+    let k' : RunsRightly y (p x) m (Err z) t = rw j at k in
+    rw (← around_item xs i x l is) (rightly_among w y p (take i xs) x (drop (i + 1) xs) s m t u z only g k')
+
+-- Where all roots are exact, so is the one with this index.
+pub one_of_exact : {T : Type 0} (q : T → Bool) (xs : List T) (i : ℕ) (x : T) → i < length xs → x ≡ get_or xs i x → IsTrue (list_all q xs) → IsTrue (q x)
+one_of_exact q xs i x l is all = by_case (q x) refl
+  where
+    by_case : (b : Bool) → b ≡ q x → IsTrue b
+    by_case true h = refl
+    by_case false h = absurd (false≢true (sym (list_all_at q xs i x l (ap q (sym is) ∙ sym h)) ∙ all))

@@ -1,0 +1,80 @@
+-- When a visit refuses only where it must.
+use Rattle.std.specs.Prelude.{◌≡◌, ℕ, suc, ◌+◌, ◌<◌, ◌^◌, Bool, true, IsTrue, ⊤, Result, Ok, Err}
+use Rattle.allocative_graph.specs.declared.refusal.Refusal.{Refusal}
+use Rattle.allocative_graph.specs.declared.refusal.Refusal.TheVariants.{Memory, TooLarge, Open}
+use Rattle.allocative_graph.specs.Forest.{Forest, Empty, Inline, Unique, First, Again}
+use Rattle.allocative_graph.specs.Sums.{entered}
+use Rattle.allocative_graph.specs.Collector.{Kind, OfGraph, OfHeld, State, Failed, Going, plus, plus_holding, Takes, is_graph, begin, IsClosed, no_entries}
+use Rattle.allocative_graph.specs.Shows.{Showing}
+
+-- The bytes of all entries of f, with those of its contents.
+abbrev pub all_bytes : Forest → ℕ
+all_bytes Empty = 0
+all_bytes (Inline k n inside after) = n + (all_bytes inside + all_bytes after)
+all_bytes (Unique k n inside after) = n + (all_bytes inside + all_bytes after)
+all_bytes (First k n i inside after) = n + (all_bytes inside + all_bytes after)
+all_bytes (Again k n i after) = n + all_bytes after
+
+-- Where so many visitors are open, the bytes of each entry of f that is not shared and not below a shared one fit a word,
+-- and so does the number of visitors that are open at it.
+abbrev pub FitsWords : ℕ → Forest → Type 0
+FitsWords open_visitors Empty = ⊤
+FitsWords open_visitors (Inline k n inside after) = (n < 2 ^ 64) × (suc open_visitors < 2 ^ 64)
+    × FitsWords (suc open_visitors) inside × FitsWords open_visitors after
+FitsWords open_visitors (Unique k n inside after) = (n < 2 ^ 64) × (suc open_visitors < 2 ^ 64)
+    × FitsWords (suc open_visitors) inside × FitsWords open_visitors after
+FitsWords open_visitors (First k n i inside after) = FitsWords open_visitors after
+FitsWords open_visitors (Again k n i after) = FitsWords open_visitors after
+
+-- The forest f exceeds no bound of the collector. A flame graph counts all bytes. The collector of held bytes counts
+-- what is held, and each entry has to fit.
+abbrev pub HasRoomFor : Kind → Forest → Type 0
+HasRoomFor (OfGraph c) f = entered c.sums + all_bytes f < 2 ^ 63
+HasRoomFor (OfHeld h) f = ((plus_holding h f).sum < 2 ^ 64) × FitsWords h.open_visitors f
+
+-- Each shared entry of f shows its content.
+abbrev pub ShowsContents : Forest → Type 0
+ShowsContents Empty = ⊤
+ShowsContents (Inline k n inside after) = ShowsContents inside × ShowsContents after
+ShowsContents (Unique k n inside after) = ShowsContents inside × ShowsContents after
+ShowsContents (First k n i inside after) = ShowsContents inside × ShowsContents after
+ShowsContents (Again k n i after) = ⊥
+
+-- p allows a forest that shows all its contents. So each declared size that p asks for is there.
+abbrev pub IsDeclared : Showing → Type 0
+IsDeclared p = (f : Forest) × p f × ShowsContents f
+
+-- Whatever p allows can be added to the collector: p allows a forest that shows all its contents, and each forest that
+-- p allows exceeds no bound.
+abbrev pub CanTake : Kind → Showing → Type 0
+CanTake b p = IsDeclared p × ((f : Forest) → p f → HasRoomFor b f)
+
+-- Why a visit that shows p may be refused at a collector: TooLarge, where not all that p allows can be added; Memory,
+-- where the collector is that of a flame graph; never Open.
+abbrev pub MayRefuse : Showing → Kind → Refusal → Type 0
+MayRefuse p b Memory = is_graph b ≡ true
+MayRefuse p b TooLarge = ¬ CanTake b p
+MayRefuse p b Open = ⊥
+
+-- A visit that shows p refuses only where it must. After Ok the collector has one more forest, which p allows and the
+-- collector takes. An Err is the collector's cause, and says why the visit may be refused. Nothing is said of a
+-- collector that had failed.
+pub data RefusesRightly (p : Showing) : State → Result Unit Refusal → State → Type 0 where
+  had_failed : {r : Refusal} {result : Result Unit Refusal} {t : State} → RefusesRightly p (Failed r) result t
+  has_added : {b c : Kind} {u : Unit} (f : Forest) → p f → Takes b f → c ≡ plus b f
+      → RefusesRightly p (Going b) (Ok u) (Going c)
+  has_refused : {b : Kind} {e : Refusal} → MayRefuse p b e → RefusesRightly p (Going b) (Err e) (Failed e)
+
+-- A visit of p by a root visitor refuses only where it must. Where the visit is exact, and the collector was going with
+-- no open visitor, an Err is the collector's cause, and says why p may be refused with the root visitor open. What else
+-- may happen is said by `Runs`.
+abbrev pub RunsRightly : Bool → Showing → State → Result Unit Refusal → State → Type 0
+RunsRightly is_exact p (Failed r) result t = ⊤
+RunsRightly is_exact p (Going b) (Ok u) t = ⊤
+RunsRightly is_exact p (Going b) (Err e) t =
+    IsTrue is_exact → IsClosed b → (t ≡ Failed e) × MayRefuse p (begin b) e
+
+-- Why the profile of an exact p is refused: with Memory, or with TooLarge, where an empty collector of a flame graph with
+-- a root visitor open cannot take all that p allows.
+abbrev pub MayRefuseProfile : Bool → Showing → Refusal → Type 0
+MayRefuseProfile is_exact p e = IsTrue is_exact → MayRefuse p (begin (OfGraph no_entries)) e
