@@ -2,7 +2,7 @@
 //! written only inside this crate.
 #![tactic(auto, using(crate::proofs::Showing::showing))]
 
-ghost use Rattle.std.specs.Prelude.{codes, None};
+ghost use Rattle.std.specs.Prelude.{codes, false, None};
 ghost use Rattle.allocative_graph.specs.Shows as shows;
 ghost use Rattle.allocative.specs.Visited.{Visited};
 
@@ -19,7 +19,7 @@ use std::process::Abort;
 
 // An entry whose visitor is forgotten.
 fn forget_one(visitor: &mut Visitor<'_>) -> Result<(), Refusal>
-    ensures { Visited shows.Nothing visitor.old visitor.new result }
+    ensures { Visited false shows.Nothing visitor.old visitor.new result }
 {
     let inner = visitor.collector.enter(Key::new("a"), 1)?;
     let _kept = ManuallyDrop::new(inner);
