@@ -49,6 +49,7 @@ impl Allocative for Request {
           (Field (codes "height") (Some 2) (⟦<u16 as Allocative>⟧.may_show h))
           (Field (codes "text") (Some 24) (⟦<String as Allocative>⟧.may_show s)))))
     ]) };
+
     ghost is_exact = { true };
 
     fn visit(&self, visitor: &mut Visitor<'_>) -> Result<(), Refusal> {

@@ -16,6 +16,7 @@ pub struct Meter {
 impl Allocative for Meter {
     ghost may_show = { λ m. Inside (codes "Meter") 8
         (Field (codes "reading") (Some 8) (⟦<u64 as Allocative>⟧.may_show m.reading)) };
+
     ghost is_exact = { true };
 
     fn visit(&self, visitor: &mut Visitor<'_>) -> Result<(), Refusal> {
@@ -35,6 +36,7 @@ impl Allocative for Point {
     ghost may_show = { λ p. Inside (codes "Point") 8 (Both
         (Field (codes "x") (Some 4) (⟦<u32 as Allocative>⟧.may_show p.x))
         (Field (codes "y") (Some 4) (⟦<u32 as Allocative>⟧.may_show p.y))) };
+
     ghost is_exact = { true };
 
     fn visit(&self, visitor: &mut Visitor<'_>) -> Result<(), Refusal> {
@@ -57,6 +59,7 @@ impl<T: Allocative + Described> Allocative for Named<T> {
         (Field (codes "name") (Some 24) (⟦<String as Allocative>⟧.may_show n.name)) (Both
         (Field (codes "value") T.size (T.may_show n.value))
         (Field (codes "is_read") (Some 1) (⟦<bool as Allocative>⟧.may_show n.is_read)))) };
+
     ghost is_exact = { T.is_exact && true };
 
     fn visit(&self, visitor: &mut Visitor<'_>) -> Result<(), Refusal> {
@@ -84,6 +87,7 @@ impl Allocative for Session {
         (Field (codes "limit") (Some 16) (⟦<Option<u64> as Allocative>⟧.may_show s.limit)) (Both
         (Field (codes "place") (Some 8) (⟦<(u32, u32) as Allocative>⟧.may_show s.place))
         (Field (codes "is_open") (Some 1) (⟦<bool as Allocative>⟧.may_show s.is_open)))))) };
+
     ghost is_exact = { true };
 
     fn visit(&self, visitor: &mut Visitor<'_>) -> Result<(), Refusal> {

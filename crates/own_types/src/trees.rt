@@ -43,6 +43,7 @@ impl Described for Tree {
 
 impl Allocative for Tree {
     ghost may_show = { recursive tree_level };
+
     ghost is_exact = { true };
 
     fn visit(&self, visitor: &mut Visitor<'_>) -> Result<(), Refusal> {
