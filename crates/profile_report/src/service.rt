@@ -1,8 +1,9 @@
 //! A service that takes a profile of what it holds on request, and keeps the last profiles.
 #![tactic(auto, using(allocative::proofs::Parts::parts))]
 
-ghost use Rattle.std.specs.Prelude.{◌≡◌, codes, Some, OnOk, OnErr};
+ghost use Rattle.std.specs.Prelude.{◌≡◌, codes, true, Some, IfErr, OnOk, OnErr};
 ghost use Rattle.allocative.specs.Shows as shows;
+ghost use Rattle.allocative.specs.Exact.{MayRefuseProfile};
 ghost use Rattle.profile_report.specs.History.{TakesProfile};
 
 use crate::history::History;
@@ -30,6 +31,8 @@ impl Allocative for Session {
         (shows.Both (shows.Field (codes "user") (Some 4) (⟦<u32 as Allocative>⟧.may_show s.user))
         (shows.Field (codes "basket") (Some 16) (⟦<Option<Box<u64>> as Allocative>⟧.may_show s.basket))) };
 
+    ghost is_exact = { true };
+
     fn visit(&self, visitor: &mut Visitor<'_>) -> Result<(), Refusal> {
         let user = Field("user", &self.user);
         let basket = Field("basket", &self.basket);
@@ -56,6 +59,8 @@ impl Allocative for Page {
     ghost may_show = { λ p. shows.Inside (codes "Page") 8
         (shows.Field (codes "rows") (Some 8) (⟦<Box<[u64; 4]> as Allocative>⟧.may_show p.rows)) };
 
+    ghost is_exact = { true };
+
     fn visit(&self, visitor: &mut Visitor<'_>) -> Result<(), Refusal> {
         let rows = Field("rows", &self.rows);
         Inside("Page", 8, rows).enter(visitor)
@@ -77,6 +82,8 @@ impl Allocative for Held {
         (shows.each_shows ⟦<Session as Allocative>⟧.may_show h.sessions.items))
         (shows.InsideUnique (codes "pages") 24
         (shows.each_shows ⟦<Page as Allocative>⟧.may_show h.pages.items))) };
+
+    ghost is_exact = { true };
 
     fn visit(&self, visitor: &mut Visitor<'_>) -> Result<(), Refusal> {
         let sessions = Unique("sessions", 24, Each(&self.sessions));
@@ -133,11 +140,13 @@ impl Service {
         &self.history
     }
 
-    /// Takes a profile of what the service holds, and keeps it as the latest. What the service holds is unchanged, and
-    /// after an error so is the history.
+    /// Takes a profile of what the service holds, and keeps it as the latest. It is refused only with `Memory`, or with
+    /// `TooLarge` where a flame graph cannot take what the service holds. What the service holds is unchanged, and after
+    /// an error so is the history.
     pub fn take_profile(&mut self, alloc: Global) -> Result<(), Refusal>
         ensures taken { OnOk result (TakesProfile
             (⟦<Held as Allocative>⟧.may_show self.old.held) self.old.history self.new.history) }
+        ensures refused { IfErr result (MayRefuseProfile true (⟦<Held as Allocative>⟧.may_show self.old.held)) }
         ensures held { self.new.held ≡ self.old.held }
         ensures unchanged { OnErr result (self.new.history.profiles.items ≡ self.old.history.profiles.items) }
     {
