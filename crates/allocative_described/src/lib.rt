@@ -10,8 +10,6 @@ mod described;
 mod pack_types;
 mod raw_table;
 mod std_types;
-#[cfg(test)]
-mod tests;
 
 pub use described::{Described, shared_inner_size, up_law};
 pub use raw_table::{raw_table_alloc_size_for_len, raw_table_law};

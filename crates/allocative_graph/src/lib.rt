@@ -11,5 +11,3 @@ pub mod laws;
 pub mod refusal;
 pub mod shared;
 mod static_text;
-#[cfg(test)]
-mod tests;

@@ -1,9 +1,9 @@
 //! What no clause says: worked examples, printed texts, and what is left where memory runs out.
-use crate::flamegraph::{Child, FlameGraph, push_path};
-use crate::ident_key;
-use crate::key::Key;
-use crate::refusal::Refusal;
-use crate::shared::{IdArc, IdMaker, IdRc, Identity};
+use allocative_graph::flamegraph::{Child, FlameGraph, push_path};
+use allocative_graph::ident_key;
+use allocative_graph::key::Key;
+use allocative_graph::refusal::Refusal;
+use allocative_graph::shared::{IdArc, IdMaker, IdRc, Identity};
 use std::alloc::Global;
 use std::hash::{DefaultHasher, Hash, Hasher};
 

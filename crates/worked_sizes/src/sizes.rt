@@ -2,7 +2,7 @@
 
 ghost use Rattle.std.specs.Prelude.{Some, false, codes};
 
-use crate::{Described, raw_table_alloc_size_for_len, shared_inner_size};
+use allocative_described::{Described, raw_table_alloc_size_for_len, shared_inner_size};
 use either::Either;
 use indexmap::{IndexMap, IndexSet};
 use once_cell::race::OnceBox;
