@@ -15,5 +15,3 @@ pub mod page;
 pub mod picture;
 pub mod row;
 mod rows;
-#[cfg(test)]
-mod tests;

@@ -1,12 +1,12 @@
-//! Tests of what no clause says: whole pictures, as a browser gets them.
-use crate::options::Options;
-use crate::page::Subject;
-use crate::picture::{change_picture, draw, picture};
-use crate::row::{Mark, Row};
+//! What no clause says: whole pictures, as a browser gets them.
 use allocative_collectors::output::WarnedPath;
 use allocative_graph::flamegraph::FlameGraph;
 use allocative_graph::key::Key;
 use allocative_graph::refusal::Refusal;
+use allocative_picture::options::Options;
+use allocative_picture::page::Subject;
+use allocative_picture::picture::{change_picture, draw, picture};
+use allocative_picture::row::{Mark, Row};
 use std::alloc::{AllocError, Global};
 use std::process::Abort;
 
