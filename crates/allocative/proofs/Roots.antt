@@ -19,6 +19,7 @@ use Rattle.allocative_graph.proofs.Reach.{all_is_meaning, reaches_exactly}
 use Rattle.allocative_graph.proofs.OneMeaning.{one_sums}
 use Rattle.allocative_graph.proofs.Merge.{whole_following, graphs_add}
 use Rattle.std.proofs.lemmas.List.{take_more}
+use Rattle.std.specs.Prelude.{IfOk}
 
 visitors-begin : (b : Kind) → IsClosed b → visitors (begin b) ≡ 1
 visitors-begin (OfGraph c) h = ap suc h
@@ -214,6 +215,10 @@ profile_by_run p (Going b) (Going c) u o e (z, f, a, t, g) k =
     let g' : c ≡ plus (OfGraph no_entries) f = rw i at g in
     let k' : Ends IsProfile (Going (plus (OfGraph no_entries) f)) (Ok o) = subst (λ (x : Kind). Ends IsProfile (Going x) (Ok o)) g' k in
     profile_by_sums p o f a t' k'.1.0 k'.1.1 k'.1.2
+
+pub profile_ended : (p : Showing) (s t : State) (u : Unit) (r : Result Profile Refusal) → s ≡ Going (OfGraph no_entries) → Runs p s (Ok u) t → Ends IsProfile t r → IfOk r (IsProfileOf p)
+profile_ended p s t u (Ok o) e h k = profile_by_run p s t u o e h k
+profile_ended p s t u (Err e) i h k = tt
 
 graph_of_profile : (p : Showing) (o : Profile) (g : Graph) → IsProfileOf p o → g ≡ o.graph → IsGraphOf p g
 graph_of_profile p o g h e = record { shown = h.shown; allowed = h.allowed; whole = h.whole; is = e ∙ h.graph_is (all h.shown) h.meaning }
