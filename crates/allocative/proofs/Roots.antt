@@ -12,6 +12,7 @@ use Rattle.allocative_graph.specs.Shows.{Showing, Nothing, Both, each_shows}
 use Rattle.allocative_graph.specs.Visits.{Shows, refused, hidden, forgotten, added, Leaves, Begins, Settles, Runs, Ends, IsProfile, Profile, IsProfileOf, IsGraphOf, IsSumOfTwo}
 use Rattle.allocative_graph.proofs.Plus.{plus-nothing, plus-following, takes_nothing, takes_both, visitors-plus, visitors-leave, is_graph-plus, is_graph-leave, is_graph-begin}
 use Rattle.allocative.specs.Steps.{IsHeldSum}
+use Rattle.allocative.specs.SizeOf.{IsSizeOfUnique}
 use Rattle.allocative.specs.Exact.{MayRefuse, MayRefuseProfile, RefusesRightly, has_added, has_refused, RunsRightly}
 use Rattle.allocative.specs.Built.{as_graph}
 use Rattle.allocative.proofs.Showing.{left_by, each_and_one}
@@ -19,7 +20,7 @@ use Rattle.allocative_graph.proofs.Reach.{all_is_meaning, reaches_exactly}
 use Rattle.allocative_graph.proofs.OneMeaning.{one_sums}
 use Rattle.allocative_graph.proofs.Merge.{whole_following, graphs_add}
 use Rattle.std.proofs.lemmas.List.{take_more}
-use Rattle.std.specs.Prelude.{IfOk}
+use Rattle.std.specs.Prelude.{IfOk, Option, Some}
 
 visitors-begin : (b : Kind) → IsClosed b → visitors (begin b) ≡ 1
 visitors-begin (OfGraph c) h = ap suc h
@@ -149,6 +150,12 @@ held_by_run p (Going b) (Going c) u n e (z, f, a, t, g) k =
     let g' : c ≡ plus (OfHeld nothing_held) f = rw i at g in
     let k' : n ≡ 0 + (held f + 0) = subst (λ (x : Kind). IsHeldSum (Going x) n) g' k in
     (f, a, t', omega (arith, k'))
+
+-- The same with a declared size beside it.
+pub sized_by_run : {size : Option ℕ} {mine m : ℕ} (n : ℕ) (p : Showing) (s t : State) (u : Unit) → size ≡ Some mine → s ≡ Going (OfHeld nothing_held) → Runs p s (Ok u) t → IsHeldSum t n → m ≡ n + mine → IsSizeOfUnique size p m
+sized_by_run {mine = mine} n p s t u d e h k i =
+    let is = held_by_run p s t u n e h k in
+    (mine, d, is.0, is.1, is.2, i ∙ ap (λ (x : ℕ). x + mine) is.3)
 
 -- ---- one root after another
 pub runs_nothing : (s : State) (u : Unit) → Settles s (Ok u) → Runs Nothing s (Ok u) s
