@@ -1,6 +1,6 @@
 //! The arguments of the program.
 use crate::fault::Fault;
-use crate::items::Form;
+use implementation_text::items::Form;
 
 /// What the arguments ask for.
 #[derive(Clone, Copy, PartialEq, Eq)]

@@ -3,25 +3,16 @@
 #![tactic(auto)]
 
 mod arguments;
-mod cursor;
 mod fault;
-mod head;
 mod implement;
-mod items;
-mod layout;
-mod place;
 mod run;
-mod shape;
 mod splice;
 #[cfg(test)]
 mod tests;
-mod text;
-mod tokens;
-mod write;
 
 use arguments::{Asked, read_arguments};
 use fault::Fault;
-use items::Form;
+use implementation_text::items::Form;
 use run::{run, show_usage, tell};
 use std::fs::{File, OpenFile};
 use std::io::{ErrorKind, Write};

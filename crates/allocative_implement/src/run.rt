@@ -6,8 +6,8 @@ ghost use Rattle.allocative_implement.specs.Splice.{Keeps, PutsInPlace};
 
 use crate::fault::Fault;
 use crate::implement::{Written, implement};
-use crate::items::Form;
-use crate::place::place_of;
+use implementation_text::items::Form;
+use implementation_text::place::place_of;
 use std::alloc::Global;
 use std::io::{ErrorKind, Read, Write};
 

@@ -3,10 +3,10 @@
 use crate::arguments::{Asked, read_arguments};
 use crate::fault::Fault;
 use crate::implement::implement;
-use crate::items::Form;
-use crate::place::place_of;
 use crate::run::run;
-use crate::tokens::{Kind, tokens_of};
+use implementation_text::items::Form;
+use implementation_text::place::place_of;
+use implementation_text::tokens::{Kind, tokens_of};
 use std::alloc::{AllocError, Global};
 use std::collections::VecDeque;
 use std::io;

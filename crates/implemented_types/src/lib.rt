@@ -1,9 +1,5 @@
-//! Types whose implementations `bin/implement` wrote, with the texts of their profiles.
+//! Types whose implementations `bin/implement` wrote.
 #![tactic(auto)]
 
 pub mod placed;
-#[cfg(test)]
-mod profiles;
-#[cfg(test)]
-mod tests;
 pub mod types;

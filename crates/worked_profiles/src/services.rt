@@ -1,6 +1,6 @@
 //! The profiles of services.
-use crate::services::{Sensor, Sensors, Station, key_of};
 use allocative::{FlameGraphOutput, Key, Named, Refusal, profile_value};
+use own_types::services::{Sensor, Sensors, Station, key_of};
 use std::alloc::Global;
 use std::process::Abort;
 use std::test::Fail;

@@ -1,5 +1,5 @@
 //! The parts of an implementation before its braces.
-use crate::fault::Fault;
+use crate::fault::SourceFault;
 use crate::items::{Item, Param, Sort};
 use crate::shape::{Scene, is_shown};
 use crate::text::{LINE, push_type};
@@ -47,8 +47,12 @@ fn push_param(
     push_type(out, scene, param.bounds)
 }
 
-/// The parameters of the implementations for a type. The only fault is `Fault::Memory`.
-pub fn header_of(alloc: Global, scene: Scene<'_, '_>, item: &Item<'_>) -> Result<Header, Fault> {
+/// The parameters of the implementations for a type. The only fault is `SourceFault::Memory`.
+pub fn header_of(
+    alloc: Global,
+    scene: Scene<'_, '_>,
+    item: &Item<'_>,
+) -> Result<Header, SourceFault> {
     let mut params = String::new(alloc);
     let mut names = String::new(alloc);
     let mut bounds = String::new(alloc);

@@ -1,6 +1,6 @@
 //! What is shown of a type, and why a type is left out.
 use crate::cursor::{Span, line_at, text_at};
-use crate::fault::{Fault, Trouble, Why};
+use crate::fault::{SourceFault, Trouble, Why};
 use crate::items::{Body, Form, Item, Param, Shown, Source, Style};
 use crate::layout::{Layout, layout_of_field, why_not};
 use crate::tokens::Token;
@@ -60,13 +60,13 @@ fn key_of<'a>(body: &Body<'a>, is_enum: bool, member: Label<'a>) -> Label<'a> {
     }
 }
 
-/// The shown fields of a struct or a variant, in their order. The only fault is `Fault::Memory`.
+/// The shown fields of a struct or a variant, in their order. The only fault is `SourceFault::Memory`.
 pub fn shown_fields<'a>(
     alloc: Global,
     scene: Scene<'_, 'a>,
     body: &Body<'a>,
     is_enum: bool,
-) -> Result<Vec<ShownField<'a>>, Fault> {
+) -> Result<Vec<ShownField<'a>>, SourceFault> {
     let mut shown: Vec<ShownField<'a>> = Vec::new(alloc);
     let mut number = 0usize;
     for field in &body.fields {

@@ -1,8 +1,8 @@
 //! Writing the implementations of one type.
 use crate::cursor::{Span, text_at};
-use crate::fault::Fault;
+use crate::fault::SourceFault;
 use crate::head::{Header, Whom, push_impl, push_part_struct};
-use crate::items::{Body, Form, Item, Shown, Sort, Style};
+use crate::items::{Body, FieldItem, Form, Item, Shown, Sort, Style};
 use crate::layout::Layout;
 use crate::shape::{MOST_TOGETHER, Scene, ShownField, shown_fields};
 use crate::text::{close_word, letter, open_word, push_let, push_letters, push_name, push_word};
@@ -222,6 +222,11 @@ fn push_part(
     out.push_str("    ghost may_show = { λ x. ")?;
     push_words(out, scene, item, group, "x.0.now.", 8)?;
     out.push_str(" };\n\n")?;
+    push_part_enter(out, group)
+}
+
+/// Appends the entering of a part of a large struct.
+fn push_part_enter(out: &mut String, group: &[ShownField<'_>]) -> Result<(), AllocError> {
     out.push_str(ENTER)?;
     push_lets(out, group, "&self.0.", 8)?;
     out.push_str("        ")?;
@@ -303,56 +308,69 @@ fn push_variants_use(out: &mut String, item: &Item<'_>, plan: &Plan) -> Result<(
     out.push_str("};\n\n")
 }
 
-/// Appends the names of the fields of a variant in the relation: a letter for each field that is shown whole, and `_`
-/// for any other.
+/// Appends the name of a field in a pattern: its letter where it is shown whole, and `_` otherwise. `number` counts the
+/// shown fields before it. It returns their number with this one.
+fn push_binder(
+    out: &mut String,
+    field: &FieldItem<'_>,
+    number: usize,
+) -> Result<usize, AllocError> {
+    out.push_str(match field.shown {
+        Shown::Whole => letter(number),
+        _ => "_",
+    })?;
+    Ok(match field.shown {
+        Shown::Nothing => number,
+        _ => number.saturating_add(1),
+    })
+}
+
+/// Appends the names of the fields of a variant in the relation, as `push_binder` writes them.
 fn push_binders(out: &mut String, body: &Body<'_>) -> Result<(), AllocError> {
     let mut number = 0usize;
     for field in &body.fields {
         out.push_str(" ")?;
-        out.push_str(if field.shown == Shown::Whole {
-            letter(number)
-        } else {
-            "_"
-        })?;
-        if field.shown != Shown::Nothing {
-            number = number.saturating_add(1);
+        number = push_binder(out, field, number)?;
+    }
+    Ok(())
+}
+
+/// Appends the patterns of a variant's fields with a mark between them.
+fn push_field_patterns(
+    out: &mut String,
+    fields: &[FieldItem<'_>],
+    is_named: bool,
+    mark: &str,
+) -> Result<(), AllocError> {
+    let mut number = 0usize;
+    let mut gap = "";
+    for field in fields {
+        out.push_str(gap)?;
+        gap = mark;
+        if is_named {
+            out.push_str(field.name)?;
+            out.push_str(": ")?;
         }
+        number = push_binder(out, field, number)?;
     }
     Ok(())
 }
 
 /// Appends the pattern of a variant's fields after its name.
 fn push_pattern(out: &mut String, body: &Body<'_>, is_long: bool) -> Result<(), AllocError> {
-    if body.style == Style::Unit {
-        return Ok(());
-    }
     let is_named = body.style == Style::Named;
-    let (open, mark, close) = match (is_named, is_long) {
-        (false, _) => ("(", ", ", ")"),
-        (true, false) => (" { ", ", ", " }"),
-        (true, true) => (
+    let (open, mark, close) = match (body.style, is_long) {
+        (Style::Unit, _) => return Ok(()),
+        (Style::Tuple, _) => ("(", ", ", ")"),
+        (Style::Named, false) => (" { ", ", ", " }"),
+        (Style::Named, true) => (
             " {\n                ",
             ",\n                ",
             ",\n            }",
         ),
     };
     out.push_str(open)?;
-    let mut number = 0usize;
-    for (place, field) in body.fields.iter().enumerate() {
-        out.push_str(if place > 0 { mark } else { "" })?;
-        if is_named {
-            out.push_str(field.name)?;
-            out.push_str(": ")?;
-        }
-        out.push_str(if field.shown == Shown::Whole {
-            letter(number)
-        } else {
-            "_"
-        })?;
-        if field.shown != Shown::Nothing {
-            number = number.saturating_add(1);
-        }
-    }
+    push_field_patterns(out, body.fields.as_slice(), is_named, mark)?;
     out.push_str(close)
 }
 
@@ -394,7 +412,7 @@ fn push_enum_meaning<'a>(
     scene: Scene<'_, 'a>,
     item: &Item<'a>,
     plan: &Plan,
-) -> Result<(), Fault> {
+) -> Result<(), SourceFault> {
     let name = item.name;
     let size = plan.size.as_str();
     write!(
@@ -403,15 +421,26 @@ fn push_enum_meaning<'a>(
     )?;
     for body in &item.bodies {
         let fields = shown_fields(alloc, scene, body, true)?;
-        out.push_str("      | ")?;
-        push_name(out, body.name)?;
-        push_binders(out, body)?;
-        out.push_str(" ↦ ")?;
-        push_words(out, scene, item, fields.as_slice(), "", 10)?;
-        out.push_str("\n")?;
+        push_variant_meaning(out, scene, item, body, fields.as_slice())?;
     }
     out.push_str("    ]) };\n\n")?;
     Ok(())
+}
+
+/// Appends the line of what a variant may show.
+fn push_variant_meaning(
+    out: &mut String,
+    scene: Scene<'_, '_>,
+    item: &Item<'_>,
+    body: &Body<'_>,
+    fields: &[ShownField<'_>],
+) -> Result<(), AllocError> {
+    out.push_str("      | ")?;
+    push_name(out, body.name)?;
+    push_binders(out, body)?;
+    out.push_str(" ↦ ")?;
+    push_words(out, scene, item, fields, "", 10)?;
+    out.push_str("\n")
 }
 
 /// Appends the visit of an enum.
@@ -421,7 +450,7 @@ fn push_enum_visit<'a>(
     scene: Scene<'_, 'a>,
     item: &Item<'a>,
     plan: &Plan,
-) -> Result<(), Fault> {
+) -> Result<(), SourceFault> {
     let name = item.name;
     out.push_str(VISIT)?;
     write!(
@@ -443,7 +472,7 @@ fn push_enum<'a>(
     scene: Scene<'_, 'a>,
     item: &Item<'a>,
     plan: &Plan,
-) -> Result<(), Fault> {
+) -> Result<(), SourceFault> {
     push_tactic(out, plan)?;
     push_impl(out, &plan.header, "Allocative", whole(item))?;
     push_constant_use(out, plan, true)?;
@@ -452,14 +481,14 @@ fn push_enum<'a>(
     push_enum_visit(alloc, out, scene, item, plan)
 }
 
-/// Appends the implementation of `Allocative`. The only fault is `Fault::Memory`.
+/// Appends the implementation of `Allocative`. The only fault is `SourceFault::Memory`.
 pub fn push_allocative<'a>(
     alloc: Global,
     out: &mut String,
     scene: Scene<'_, 'a>,
     item: &Item<'a>,
     plan: &Plan,
-) -> Result<(), Fault> {
+) -> Result<(), SourceFault> {
     if item.is_enum {
         return push_enum(alloc, out, scene, item, plan);
     }

@@ -1,14 +1,14 @@
 //! The profiles of values with parts on the heap, with shared parts, and of types that hold themselves.
-use crate::chains::Chain;
-use crate::chapters::{Chapter, Note};
-use crate::folders::{Folder, Index};
-use crate::links::Link;
-use crate::nodes::Node;
-use crate::pointers::{Owners, PageLink, Spread};
 use crate::profiles::{Profile, expect};
-use crate::trees::Tree;
-use crate::wrappers::{Block, Colour, Day, Document, Weather};
 use allocative::{IdRc, Identity, size_of_unique};
+use own_types::chains::Chain;
+use own_types::chapters::{Chapter, Note};
+use own_types::folders::{Folder, Index};
+use own_types::links::Link;
+use own_types::nodes::Node;
+use own_types::pointers::{Owners, PageLink, Spread};
+use own_types::trees::Tree;
+use own_types::wrappers::{Block, Colour, Day, Document, Weather};
 use std::alloc::Global;
 use std::collections::{BTreeMap, HashMap};
 use std::path::PathBuf;

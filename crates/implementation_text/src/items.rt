@@ -3,7 +3,7 @@ use crate::cursor::{
     Span, angle_close, behind, behind_attributes, behind_visibility, find, is_kind, line_at,
     text_at,
 };
-use crate::fault::{Fault, Trouble, Why};
+use crate::fault::{SourceFault, Trouble, Why};
 use crate::tokens::{Kind, Token};
 use std::alloc::{AllocError, Global};
 use std::collections::{BTreeMap, BTreeSet};
@@ -222,7 +222,7 @@ fn blame(trouble: &mut Option<Trouble>, line: usize, why: Why) {
 }
 
 /// The ranges between the commas of a range of tokens. The last one is omitted where it is empty.
-fn pieces(alloc: Global, tokens: &[Token<'_>], span: Span) -> Result<Vec<Span>, Fault> {
+fn pieces(alloc: Global, tokens: &[Token<'_>], span: Span) -> Result<Vec<Span>, SourceFault> {
     let mut pieces: Vec<Span> = Vec::new(alloc);
     let mut from = span.from;
     for _ in span.from..span.to {
@@ -277,7 +277,7 @@ fn read_params<'a>(
     alloc: Global,
     tokens: &[Token<'a>],
     span: Span,
-) -> Result<Vec<Param<'a>>, Fault> {
+) -> Result<Vec<Param<'a>>, SourceFault> {
     let mut params = Vec::new(alloc);
     for piece in &pieces(alloc, tokens, span)? {
         params.push(read_param(tokens, *piece))?;
@@ -383,7 +383,7 @@ fn read_body<'a>(
     name: &'a str,
     at: usize,
     trouble: &mut Option<Trouble>,
-) -> Result<Body<'a>, Fault> {
+) -> Result<Body<'a>, SourceFault> {
     let open = text_at(tokens, at);
     let style = if open == "(" {
         Style::Tuple
@@ -417,7 +417,7 @@ fn read_variant<'a>(
     tokens: &[Token<'a>],
     span: Span,
     trouble: &mut Option<Trouble>,
-) -> Result<Body<'a>, Fault> {
+) -> Result<Body<'a>, SourceFault> {
     let (shown, at) = read_orders(tokens, span, trouble);
     let line = line_at(tokens, at.min(span.to));
     if shown.is_some() {
@@ -443,7 +443,7 @@ fn read_variants<'a>(
     tokens: &[Token<'a>],
     span: Span,
     trouble: &mut Option<Trouble>,
-) -> Result<Vec<Body<'a>>, Fault> {
+) -> Result<Vec<Body<'a>>, SourceFault> {
     let mut bodies = Vec::new(alloc);
     for piece in &pieces(alloc, tokens, span)? {
         bodies.push(read_variant(alloc, tokens, *piece, trouble)?)?;
@@ -466,18 +466,18 @@ fn read_bounds(tokens: &[Token<'_>], at: usize) -> (Span, usize) {
     (Span { to, ..rest }, to)
 }
 
-/// Reads the parameters of a type at an index. It returns them and the index after them. The fault is `Fault::Bracket`
+/// Reads the parameters of a type at an index. It returns them and the index after them. The fault is `SourceFault::Bracket`
 /// where they have no end.
 fn read_angles<'a>(
     alloc: Global,
     tokens: &[Token<'a>],
     at: usize,
-) -> Result<(Vec<Param<'a>>, usize), Fault> {
+) -> Result<(Vec<Param<'a>>, usize), SourceFault> {
     if text_at(tokens, at) != "<" {
         return Ok((Vec::new(alloc), at));
     }
     let Some(close) = angle_close(tokens, at) else {
-        return Err(Fault::Bracket(line_at(tokens, at.saturating_sub(1))));
+        return Err(SourceFault::Bracket(line_at(tokens, at.saturating_sub(1))));
     };
     let inside = Span {
         from: at.saturating_add(1),
@@ -506,7 +506,7 @@ fn read_rest<'a>(
     is_enum: bool,
     at: usize,
     trouble: &mut Option<Trouble>,
-) -> Result<Rest<'a>, Fault> {
+) -> Result<Rest<'a>, SourceFault> {
     if !is_enum && text_at(tokens, at) == "(" {
         let mut bodies = Vec::new(alloc);
         bodies.push(read_body(alloc, tokens, name, at, trouble)?)?;
@@ -535,7 +535,7 @@ fn read_rest<'a>(
 }
 
 /// Reads the struct or the enum whose keyword is at an index.
-fn read_item<'a>(alloc: Global, tokens: &[Token<'a>], at: usize) -> Result<Item<'a>, Fault> {
+fn read_item<'a>(alloc: Global, tokens: &[Token<'a>], at: usize) -> Result<Item<'a>, SourceFault> {
     let mut trouble = None;
     let is_enum = text_at(tokens, at) == "enum";
     let name_at = at.saturating_add(1);
@@ -595,15 +595,15 @@ fn last_word<'a>(tokens: &[Token<'a>], at: usize) -> &'a str {
 }
 
 /// Reads the implementation whose keyword is at an index. It is None where no trait is implemented. It also returns the
-/// index of the opening brace. The fault is `Fault::Bracket` where the parameters have no end.
+/// index of the opening brace. The fault is `SourceFault::Bracket` where the parameters have no end.
 fn read_implementation<'a>(
     tokens: &[Token<'a>],
     at: usize,
-) -> Result<(Option<Implementation<'a>>, usize), Fault> {
+) -> Result<(Option<Implementation<'a>>, usize), SourceFault> {
     let mut from = at.saturating_add(1);
     if text_at(tokens, from) == "<" {
         let Some(close) = angle_close(tokens, from) else {
-            return Err(Fault::Bracket(line_at(tokens, at)));
+            return Err(SourceFault::Bracket(line_at(tokens, at)));
         };
         from = close.saturating_add(1);
     }
@@ -638,7 +638,7 @@ fn item_at<'a>(
     tokens: &[Token<'a>],
     at: usize,
     is_cycle: bool,
-) -> Result<Option<Item<'a>>, Fault> {
+) -> Result<Option<Item<'a>>, SourceFault> {
     let word = text_at(tokens, at);
     if word == "union" && is_kind(tokens, at.saturating_add(1), Kind::Word) {
         return Ok(Some(read_union(alloc, tokens, at)));
@@ -665,13 +665,13 @@ struct Before {
     mark: Option<usize>,
 }
 
-/// Reads a comment to this program, which may be a mark. The fault is `Fault::Mark` where a mark has no counterpart.
+/// Reads a comment to this program, which may be a mark. The fault is `SourceFault::Mark` where a mark has no counterpart.
 fn read_mark<'a>(
     tokens: &[Token<'a>],
     at: usize,
     before: &mut Before,
     source: &mut Source<'a>,
-) -> Result<(), Fault> {
+) -> Result<(), SourceFault> {
     let text = text_at(tokens, at);
     match before.mark {
         None if text == "begin" => before.mark = Some(at),
@@ -680,7 +680,7 @@ fn read_mark<'a>(
             before.mark = None;
         }
         _ if text == "begin" || text == "end" => {
-            return Err(Fault::Mark(line_at(tokens, at)));
+            return Err(SourceFault::Mark(line_at(tokens, at)));
         }
         _ => {}
     }
@@ -696,7 +696,7 @@ fn read_top<'a>(
     form: Form,
     before: Before,
     source: &mut Source<'a>,
-) -> Result<usize, Fault> {
+) -> Result<usize, SourceFault> {
     let text = text_at(tokens, at);
     let is_written = before.mark.is_some();
     if text == "impl" {
@@ -723,13 +723,13 @@ fn read_top<'a>(
 /// Reads a source, without the contents of modules and functions, and without types and imports after `#[cfg(..)]`. In
 /// place, the implementations in pieces that the program wrote count as rewritten.
 ///
-/// The fault is `Fault::Bracket` where the parameters of a type have no end, `Fault::Mark` where a mark has no
-/// counterpart, and otherwise `Fault::Memory`.
+/// The fault is `SourceFault::Bracket` where the parameters of a type have no end, `SourceFault::Mark` where a mark has no
+/// counterpart, and otherwise `SourceFault::Memory`.
 pub fn read_source<'a>(
     alloc: Global,
     tokens: &[Token<'a>],
     form: Form,
-) -> Result<Source<'a>, Fault> {
+) -> Result<Source<'a>, SourceFault> {
     let mut source = Source::new(alloc);
     let mut before = Before {
         is_cycle: false,
@@ -758,7 +758,7 @@ pub fn read_source<'a>(
         next = next.max(goes_on);
     }
     match before.mark {
-        Some(at) => Err(Fault::Mark(line_at(tokens, at))),
+        Some(at) => Err(SourceFault::Mark(line_at(tokens, at))),
         None => Ok(source),
     }
 }

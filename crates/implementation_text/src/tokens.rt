@@ -1,5 +1,5 @@
 //! The tokens of a source.
-use crate::fault::Fault;
+use crate::fault::SourceFault;
 use std::alloc::Global;
 
 /// The kind of a token.
@@ -317,9 +317,9 @@ fn token_of(piece: Piece, text: &str, line: usize, from: usize, place: usize) ->
     })
 }
 
-/// The tokens of a source. The fault is `Fault::Unended` where a string, a character or a comment has no end,
-/// `Fault::Bracket` where a bracket has no counterpart, and otherwise `Fault::Memory`.
-pub fn tokens_of<'a>(alloc: Global, source: &'a str) -> Result<Vec<Token<'a>>, Fault> {
+/// The tokens of a source. The fault is `SourceFault::Unended` where a string, a character or a comment has no end,
+/// `SourceFault::Bracket` where a bracket has no counterpart, and otherwise `SourceFault::Memory`.
+pub fn tokens_of<'a>(alloc: Global, source: &'a str) -> Result<Vec<Token<'a>>, SourceFault> {
     let bytes = source.as_bytes();
     let mut tokens: Vec<Token<'a>> = Vec::new(alloc);
     let mut at = 0usize;
@@ -329,10 +329,10 @@ pub fn tokens_of<'a>(alloc: Global, source: &'a str) -> Result<Vec<Token<'a>>, F
             break;
         }
         let Some(piece) = piece_at(bytes, at) else {
-            return Err(Fault::Unended(line));
+            return Err(SourceFault::Unended(line));
         };
         let Some(text) = source.get(at..piece.end) else {
-            return Err(Fault::Unended(line));
+            return Err(SourceFault::Unended(line));
         };
         if let Some(token) = token_of(piece, text, line, at, tokens.len()) {
             tokens.push(token)?;
@@ -362,7 +362,7 @@ fn is_closing(text: &str) -> bool {
 }
 
 /// Records for each opening bracket the index of its closing bracket.
-fn close_brackets(alloc: Global, tokens: &mut Vec<Token<'_>>) -> Result<(), Fault> {
+fn close_brackets(alloc: Global, tokens: &mut Vec<Token<'_>>) -> Result<(), SourceFault> {
     let mut open: Vec<usize> = Vec::new(alloc);
     for place in 0..tokens.len() {
         let Some(token) = tokens.get(place).copied() else {
@@ -372,19 +372,19 @@ fn close_brackets(alloc: Global, tokens: &mut Vec<Token<'_>>) -> Result<(), Faul
             open.push(place)?;
         } else if is_closing(token.text) {
             let Some(first) = open.pop() else {
-                return Err(Fault::Bracket(token.line));
+                return Err(SourceFault::Bracket(token.line));
             };
             let Some(opening) = tokens.get_mut(first) else {
-                return Err(Fault::Bracket(token.line));
+                return Err(SourceFault::Bracket(token.line));
             };
             if closing(opening.text) != token.text {
-                return Err(Fault::Bracket(opening.line));
+                return Err(SourceFault::Bracket(opening.line));
             }
             opening.close = place;
         }
     }
     match open.last() {
-        Some(first) => Err(Fault::Bracket(tokens.get(*first).map_or(0, |token| token.line))),
+        Some(first) => Err(SourceFault::Bracket(tokens.get(*first).map_or(0, |token| token.line))),
         None => Ok(()),
     }
 }

@@ -1,7 +1,7 @@
 //! Profiles of values whose implementations `bin/implement` wrote.
-use crate::placed::{Letter, Pair, Parcel, Post};
 use crate::profiles::{Profile, expect};
-use crate::types::{
+use implemented_types::placed::{Letter, Pair, Parcel, Post};
+use implemented_types::types::{
     Found, Mark, Named, Nowhere, OfEight, OfOne, OfTwenty, Point, Request, Route, Sextet, Table,
 };
 use std::alloc::Global;

@@ -1,11 +1,11 @@
 //! The profiles of structs, enums and containers.
-use crate::containers::{Catalog, Journal, Shelf};
-use crate::enums::Request;
-use crate::large_structs::{Order, Route};
 use crate::profiles::{Profile, expect};
-use crate::settings::Settings;
-use crate::structs::{Meter, Named, Point, Session};
 use indexmap::IndexMap;
+use own_types::containers::{Catalog, Journal, Shelf};
+use own_types::enums::Request;
+use own_types::large_structs::{Order, Route};
+use own_types::settings::Settings;
+use own_types::structs::{Meter, Named, Point, Session};
 use std::alloc::Global;
 use std::collections::HashMap;
 use std::test::Fail;

@@ -1,6 +1,6 @@
 //! Declared sizes and alignments.
 use crate::cursor::{Span, is_kind, text_at};
-use crate::fault::{Fault, Why};
+use crate::fault::{SourceFault, Why};
 use crate::items::{Body, FieldItem, Item, Shown, Sort, Source};
 use crate::tokens::{Kind, Token};
 use std::alloc::Global;
@@ -87,8 +87,23 @@ fn owner(size: usize) -> Rule {
     })
 }
 
+/// The size of a number by its bits, as the name of its type has them.
+fn size_of_bits(bits: &str) -> Option<usize> {
+    match bits {
+        "8" => Some(1),
+        "16" => Some(2),
+        "32" => Some(4),
+        "64" | "size" => Some(8),
+        "128" => Some(16),
+        _ => None,
+    }
+}
+
 /// The size of a number type by its name, including the types `NonZero..` and `Atomic..`.
 fn number_size(name: &str) -> Option<usize> {
+    if name == "bool" || name == "AtomicBool" {
+        return Some(1);
+    }
     let short = match name.strip_prefix("NonZero") {
         Some(rest) => rest,
         None => name.strip_prefix("Atomic").unwrap_or(name),
@@ -98,39 +113,26 @@ fn number_size(name: &str) -> Option<usize> {
     } else {
         ['U', 'I']
     };
-    let bits = match short.strip_prefix(first) {
-        Some(bits) => bits,
-        None => "",
-    };
-    if bits == "8" || name == "bool" || name == "AtomicBool" {
-        Some(1)
-    } else if bits == "16" {
-        Some(2)
-    } else if bits == "32" {
-        Some(4)
-    } else if bits == "64" || bits == "size" {
-        Some(8)
-    } else if bits == "128" {
-        Some(16)
-    } else {
-        None
+    size_of_bits(short.strip_prefix(first)?)
+}
+
+/// The size of a type that owns what it allocates, by its name.
+fn owner_size(name: &str) -> Option<usize> {
+    match name {
+        "Box" | "OnceBox" | "IdRc" | "IdArc" => Some(8),
+        "Vec" | "String" | "BTreeMap" | "BTreeSet" => Some(24),
+        "VecDeque" | "Value" => Some(32),
+        "Slab" => Some(40),
+        "HashMap" | "HashSet" => Some(48),
+        "IndexMap" | "IndexSet" => Some(72),
+        _ => None,
     }
 }
 
-/// The rule for a type by its name, or None for an unknown name.
-fn rule_of(name: &str) -> Option<Rule> {
-    if let Some(size) = number_size(name) {
-        return Some(plain(size, size));
-    }
+/// The rule for a type that has its own size or a part, by its name.
+fn other_rule(name: &str) -> Option<Rule> {
     match name {
-        "Box" | "OnceBox" | "IdRc" | "IdArc" => Some(owner(8)),
-        "Vec" | "String" | "BTreeMap" | "BTreeSet" => Some(owner(24)),
-        "VecDeque" | "Value" => Some(owner(32)),
-        "HashMap" | "HashSet" => Some(owner(48)),
-        "IndexMap" | "IndexSet" => Some(owner(72)),
-        "Slab" => Some(owner(40)),
-        "Number" => Some(plain(16, 8)),
-        "Duration" | "Instant" | "SystemTime" => Some(plain(16, 8)),
+        "Duration" | "Instant" | "SystemTime" | "Number" => Some(plain(16, 8)),
         "IpAddr" => Some(plain(17, 1)),
         "Ipv4Addr" => Some(plain(4, 1)),
         "Ipv6Addr" => Some(plain(16, 1)),
@@ -141,6 +143,17 @@ fn rule_of(name: &str) -> Option<Rule> {
         "SmallVec" => Some(Rule::Small),
         "ManuallyDrop" => Some(Rule::Kept),
         _ => None,
+    }
+}
+
+/// The rule for a type by its name, or None for an unknown name.
+fn rule_of(name: &str) -> Option<Rule> {
+    if let Some(size) = number_size(name) {
+        return Some(plain(size, size));
+    }
+    match owner_size(name) {
+        Some(size) => Some(owner(size)),
+        None => other_rule(name),
     }
 }
 
@@ -237,7 +250,7 @@ struct Frames {
 
 impl Frames {
     /// Begins a type with parts.
-    fn open(&mut self, rule: Rule) -> Result<(), Fault> {
+    fn open(&mut self, rule: Rule) -> Result<(), SourceFault> {
         self.frames.push(new_frame(rule))?;
         Ok(())
     }
@@ -281,7 +294,7 @@ impl Frames {
     }
 
     /// Begins a type by its name, where it has parameters, and otherwise adds its layout.
-    fn name(&mut self, rule: Rule, has_parameters: bool) -> Result<(), Fault> {
+    fn name(&mut self, rule: Rule, has_parameters: bool) -> Result<(), SourceFault> {
         if has_parameters {
             return self.open(rule);
         }
@@ -290,7 +303,7 @@ impl Frames {
     }
 
     /// Takes a mark between types.
-    fn mark(&mut self, mark: &str) -> Result<(), Fault> {
+    fn mark(&mut self, mark: &str) -> Result<(), SourceFault> {
         match mark {
             "(" => self.open(Rule::Row)?,
             "[" => self.open(Rule::Array)?,
@@ -311,14 +324,14 @@ fn rule_of_name(source: &Source<'_>, known: &[Layout], name: &str) -> Rule {
 }
 
 /// The layout of the type in a range of tokens, where the layouts of the source's own types are known. The only fault
-/// is `Fault::Memory`.
+/// is `SourceFault::Memory`.
 pub fn layout_of_type(
     alloc: Global,
     tokens: &[Token<'_>],
     span: Span,
     source: &Source<'_>,
     known: &[Layout],
-) -> Result<Layout, Fault> {
+) -> Result<Layout, SourceFault> {
     let mut frames = Frames {
         frames: Vec::new(alloc),
     };
@@ -353,14 +366,14 @@ fn align_of_size(size: usize) -> usize {
     }
 }
 
-/// The layout of a field. The only fault is `Fault::Memory`.
+/// The layout of a field. The only fault is `SourceFault::Memory`.
 pub fn layout_of_field(
     alloc: Global,
     tokens: &[Token<'_>],
     field: &FieldItem<'_>,
     source: &Source<'_>,
     known: &[Layout],
-) -> Result<Layout, Fault> {
+) -> Result<Layout, SourceFault> {
     let layout = layout_of_type(alloc, tokens, field.span, source, known)?;
     match (layout.size, field.shown) {
         (None, Shown::Size(size)) => Ok(Layout {
@@ -380,7 +393,7 @@ fn row_of(
     source: &Source<'_>,
     known: &[Layout],
     least: bool,
-) -> Result<Layout, Fault> {
+) -> Result<Layout, SourceFault> {
     let mut row = new_frame(Rule::Row);
     for field in &body.fields {
         let mut part = layout_of_field(alloc, tokens, field, source, known)?;
@@ -404,7 +417,7 @@ fn layout_of_parts(
     source: &Source<'_>,
     known: &[Layout],
     least: bool,
-) -> Result<Layout, Fault> {
+) -> Result<Layout, SourceFault> {
     let mut all = new_frame(if item.is_enum {
         Rule::Tagged
     } else {
@@ -417,14 +430,14 @@ fn layout_of_parts(
 }
 
 /// The size of a type of a source, where each field of unknown size counts as 0 bytes. The only fault is
-/// `Fault::Memory`.
+/// `SourceFault::Memory`.
 pub fn least_size(
     alloc: Global,
     tokens: &[Token<'_>],
     item: &Item<'_>,
     source: &Source<'_>,
     known: &[Layout],
-) -> Result<usize, Fault> {
+) -> Result<usize, SourceFault> {
     let layout = layout_of_parts(alloc, tokens, item, source, known, true)?;
     Ok(layout.size.unwrap_or(usize::MAX))
 }
@@ -437,7 +450,7 @@ fn layout_of_item(
     item: &Item<'_>,
     source: &Source<'_>,
     known: &[Layout],
-) -> Result<Layout, Fault> {
+) -> Result<Layout, SourceFault> {
     let is_described = source.described.contains(item.name);
     let has_params = item.params.iter().any(|param| param.sort != Sort::Lifetime);
     let layout = layout_of_parts(alloc, tokens, item, source, known, false)?;
@@ -468,7 +481,7 @@ fn push_parts(
     tokens: &[Token<'_>],
     item: &Item<'_>,
     source: &Source<'_>,
-) -> Result<(), Fault> {
+) -> Result<(), SourceFault> {
     for body in &item.bodies {
         for field in &body.fields {
             for at in field.span.from..field.span.to {
@@ -483,45 +496,89 @@ fn push_parts(
     Ok(())
 }
 
+/// The layouts of a source's types while they are found.
+#[derive(Drop)]
+struct Search {
+    known: Vec<Layout>,
+    stages: Vec<Stage>,
+    /// The places of the types whose layouts are found next, the first one last.
+    waiting: Vec<usize>,
+}
+
+impl Search {
+    fn new(alloc: Global) -> Search {
+        Search {
+            known: Vec::new(alloc),
+            stages: Vec::new(alloc),
+            waiting: Vec::new(alloc),
+        }
+    }
+
+    /// Adds the type at a place, whose layout is unknown.
+    fn add(&mut self, place: usize) -> Result<(), SourceFault> {
+        self.known.push(UNKNOWN)?;
+        self.stages.push(Stage::New)?;
+        self.waiting.push(place)?;
+        Ok(())
+    }
+
+    /// Lets the types in the fields of a new type wait, or finds the layout of a type for which they have waited.
+    fn step(
+        &mut self,
+        alloc: Global,
+        tokens: &[Token<'_>],
+        source: &Source<'_>,
+        place: usize,
+    ) -> Result<(), SourceFault> {
+        let (Some(item), Some(stage)) = (source.items.get(place), self.stages.get_mut(place)) else {
+            return Ok(());
+        };
+        match *stage {
+            Stage::New => {
+                *stage = Stage::Open;
+                return push_parts(
+                    &mut self.waiting,
+                    self.stages.as_slice(),
+                    tokens,
+                    item,
+                    source,
+                );
+            }
+            Stage::Open => {
+                *stage = Stage::Done;
+                let layout = layout_of_item(alloc, tokens, item, source, self.known.as_slice())?;
+                if let Some(own) = self.known.get_mut(place) {
+                    *own = layout;
+                }
+            }
+            Stage::Done => {}
+        }
+        self.waiting.pop();
+        Ok(())
+    }
+}
+
 /// The layout of each type of a source, in their order. The layouts of the types in the fields of a type are found
-/// before its own. The only fault is `Fault::Memory`.
+/// before its own. The only fault is `SourceFault::Memory`.
 pub fn layouts_of(
     alloc: Global,
     tokens: &[Token<'_>],
     source: &Source<'_>,
-) -> Result<Vec<Layout>, Fault> {
+) -> Result<Vec<Layout>, SourceFault> {
     let count = source.items.len();
-    let mut known: Vec<Layout> = Vec::new(alloc);
-    let mut stages: Vec<Stage> = Vec::new(alloc);
-    let mut waiting: Vec<usize> = Vec::new(alloc);
+    let mut search = Search::new(alloc);
     for place in 0..count {
-        known.push(UNKNOWN)?;
-        stages.push(Stage::New)?;
-        waiting.push(place)?;
+        search.add(place)?;
     }
     // Each type waits once by itself and once for each word that names it. One more step for each finds its fields.
     let steps = count.saturating_mul(2).saturating_add(tokens.len());
     for _ in 0..steps {
-        let Some(place) = waiting.last().copied() else {
+        let Some(place) = search.waiting.last().copied() else {
             break;
         };
-        let (Some(item), Some(stage)) = (source.items.get(place), stages.get_mut(place)) else {
-            break;
-        };
-        if *stage == Stage::New {
-            *stage = Stage::Open;
-            push_parts(&mut waiting, stages.as_slice(), tokens, item, source)?;
-            continue;
-        }
-        if *stage == Stage::Open {
-            *stage = Stage::Done;
-            let layout = layout_of_item(alloc, tokens, item, source, known.as_slice())?;
-            if let Some(own) = known.get_mut(place) {
-                *own = layout;
-            }
-        }
-        waiting.pop();
+        search.step(alloc, tokens, source, place)?;
     }
+    let Search { known, .. } = search;
     Ok(known)
 }
 

@@ -149,6 +149,49 @@ pub fn push_member(
     push_label(out, field.member)
 }
 
+/// Appends a text, a label and a text.
+fn push_around(
+    out: &mut String,
+    before: &str,
+    label: Label<'_>,
+    after: &str,
+) -> Result<(), AllocError> {
+    out.push_str(before)?;
+    push_label(out, label)?;
+    out.push_str(after)
+}
+
+/// Appends a type and `of_param`, where the type is a parameter alone, and otherwise the type and `of_type` as clauses
+/// name what a type has by a trait.
+fn push_path(
+    out: &mut String,
+    scene: Scene<'_, '_>,
+    span: Span,
+    is_param: bool,
+    of_param: &str,
+    of_type: &str,
+) -> Result<(), AllocError> {
+    out.push_str(if is_param { "" } else { "⟦<" })?;
+    push_type(out, scene, span)?;
+    out.push_str(if is_param { of_param } else { of_type })
+}
+
+/// Appends the declared size of a field's type. `is_param` tells whether the type is a parameter alone.
+fn push_size(
+    out: &mut String,
+    scene: Scene<'_, '_>,
+    field: &ShownField<'_>,
+    is_param: bool,
+) -> Result<(), AllocError> {
+    match field.layout.size {
+        Some(size) if !is_param => write!(out, "(Some {size})"),
+        _ => {
+            let of_type = " as Described>⟧.size";
+            push_path(out, scene, field.span, is_param, ".size", of_type)
+        }
+    }
+}
+
 /// Appends the word of a shown field in the relation, with the value of the field as `push_member` writes it.
 /// `is_param` tells whether the type of the field is a parameter alone.
 pub fn push_word(
@@ -160,31 +203,14 @@ pub fn push_word(
     owner: &str,
 ) -> Result<(), AllocError> {
     if let Some(size) = field.size {
-        out.push_str("Inside (codes \"")?;
-        push_label(out, field.key)?;
-        return write!(out, "\") {size} Nothing");
+        push_around(out, "Inside (codes \"", field.key, "\") ")?;
+        return write!(out, "{size} Nothing");
     }
-    out.push_str("Field (codes \"")?;
-    push_label(out, field.key)?;
-    out.push_str("\") ")?;
-    if is_param {
-        push_type(out, scene, field.span)?;
-        out.push_str(".size (")?;
-        push_type(out, scene, field.span)?;
-        out.push_str(".may_show ")?;
-    } else {
-        match field.layout.size {
-            Some(size) => write!(out, "(Some {size}) ")?,
-            None => {
-                out.push_str("⟦<")?;
-                push_type(out, scene, field.span)?;
-                out.push_str(" as Described>⟧.size ")?;
-            }
-        }
-        out.push_str("(⟦<")?;
-        push_type(out, scene, field.span)?;
-        out.push_str(" as Allocative>⟧.may_show ")?;
-    }
+    push_around(out, "Field (codes \"", field.key, "\") ")?;
+    push_size(out, scene, field, is_param)?;
+    out.push_str(" (")?;
+    let of_type = " as Allocative>⟧.may_show ";
+    push_path(out, scene, field.span, is_param, ".may_show ", of_type)?;
     push_member(out, field, number, owner)?;
     out.push_str(")")
 }
@@ -247,6 +273,37 @@ fn label_len(label: Label<'_>) -> usize {
     }
 }
 
+/// Whether the line that makes the part of a field is longer than a line may be.
+fn is_long(field: &ShownField<'_>, owner: &str, indent: usize) -> bool {
+    let member = if owner.is_empty() {
+        1
+    } else {
+        owner.len().saturating_add(label_len(field.member))
+    };
+    let length = indent.saturating_add(20).saturating_add(member);
+    length.saturating_add(label_len(field.key)) > LINE
+}
+
+/// Appends the part of a field that is shown whole, and the end of its line.
+fn push_field(
+    out: &mut String,
+    field: &ShownField<'_>,
+    number: usize,
+    owner: &str,
+    indent: usize,
+) -> Result<(), AllocError> {
+    let is_long = is_long(field, owner, indent);
+    let inner = indent.saturating_add(4);
+    out.push_str("Field(")?;
+    push_break(out, is_long, inner, "")?;
+    push_around(out, "\"", field.key, "\",")?;
+    push_break(out, is_long, inner, " ")?;
+    push_member(out, field, number, owner)?;
+    out.push_str(if is_long { "," } else { "" })?;
+    push_break(out, is_long, indent, "")?;
+    out.push_str(");\n")
+}
+
 /// Appends the line that makes the part of a field. `owner` precedes the name of the field, or is empty where the
 /// letter of the field is its value.
 pub fn push_let(
@@ -258,33 +315,11 @@ pub fn push_let(
 ) -> Result<(), AllocError> {
     push_spaces(out, indent)?;
     write!(out, "let {} = ", letter(number))?;
-    if let Some(size) = field.size {
-        out.push_str("Inside(\"")?;
-        push_label(out, field.key)?;
-        return write!(out, "\", {size}, ());\n");
-    }
-    let member = if owner.is_empty() {
-        1
-    } else {
-        owner.len().saturating_add(label_len(field.member))
+    let Some(size) = field.size else {
+        return push_field(out, field, number, owner, indent);
     };
-    let fixed = indent.saturating_add(20);
-    let is_long = fixed
-        .saturating_add(label_len(field.key))
-        .saturating_add(member)
-        > LINE;
-    out.push_str("Field(")?;
-    push_break(out, is_long, indent.saturating_add(4), "")?;
-    out.push_str("\"")?;
-    push_label(out, field.key)?;
-    out.push_str("\",")?;
-    push_break(out, is_long, indent.saturating_add(4), " ")?;
-    push_member(out, field, number, owner)?;
-    if is_long {
-        out.push_str(",")?;
-    }
-    push_break(out, is_long, indent, "")?;
-    out.push_str(");\n")
+    push_around(out, "Inside(\"", field.key, "\", ")?;
+    write!(out, "{size}, ());\n")
 }
 
 /// Appends a line break and so many spaces where the line is long, and otherwise a text.
