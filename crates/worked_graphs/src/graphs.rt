@@ -6,6 +6,7 @@ use allocative_graph::refusal::Refusal;
 use allocative_graph::shared::{IdArc, IdMaker, IdRc, Identity};
 use std::alloc::Global;
 use std::hash::{DefaultHasher, Hash, Hasher};
+use std::process::Abort;
 
 // A graph whose root has the given size.
 fn own(alloc: Global, size: usize) -> Result<FlameGraph, Refusal> {
@@ -21,132 +22,169 @@ fn one(alloc: Global, key: &'static str, size: usize) -> Result<FlameGraph, Refu
     Ok(graph)
 }
 
+// Asserts the text of a graph and its total.
+fn assert_graph(
+    rt: &impl Abort,
+    graph: &FlameGraph,
+    text: &str,
+    total: usize,
+) -> Result<(), Refusal> {
+    assert_eq!(rt; graph.write()?.as_str(), text);
+    assert_eq!(rt; graph.total_size(), total);
+    Ok(())
+}
+
 #[test]
 fn the_root_has_no_line(rt: HostRuntime) -> Result<(), Refusal> {
-    let mut graph = FlameGraph::default(rt.alloc());
-    graph.add_self(5)?;
-    assert_eq!(rt; graph.write()?.as_str(), "");
-    assert_eq!(rt; graph.total_size(), 5);
-    Ok(())
+    assert_graph(&rt, &own(rt.alloc(), 5)?, "", 5)
 }
 
 #[test]
 fn children_of_one_key_add_up(rt: HostRuntime) -> Result<(), Refusal> {
-    let alloc = rt.alloc();
-    let mut graph = FlameGraph::default(alloc);
-    graph.add_child(Key::new("a"), own(alloc, 3)?)?;
-    graph.add_child(Key::new("a"), own(alloc, 4)?)?;
-    assert_eq!(rt; graph.write()?.as_str(), "a 7\n");
-    assert_eq!(rt; graph.total_size(), 7);
-    Ok(())
+    let mut graph = one(rt.alloc(), "a", 3)?;
+    graph.add_child(Key::new("a"), own(rt.alloc(), 4)?)?;
+    assert_graph(&rt, &graph, "a 7\n", 7)
+}
+
+// The child `b` with 1, and below `a` the child `c` with 2.
+fn two_levels(alloc: Global) -> Result<FlameGraph, Refusal> {
+    let mut graph = one(alloc, "b", 1)?;
+    graph.add_child(Key::new("a"), one(alloc, "c", 2)?)?;
+    Ok(graph)
 }
 
 #[test]
 fn lines_stand_in_the_order_of_keys(rt: HostRuntime) -> Result<(), Refusal> {
-    let alloc = rt.alloc();
-    let mut graph = FlameGraph::default(alloc);
-    graph.add_child(Key::new("b"), own(alloc, 1)?)?;
-    graph.add_child(Key::new("a"), one(alloc, "c", 2)?)?;
-    assert_eq!(rt; graph.write()?.as_str(), "a;c 2\nb 1\n");
-    assert_eq!(rt; graph.total_size(), 3);
-    let copy = graph.clone()?;
-    assert_eq!(rt; copy.write()?.as_str(), "a;c 2\nb 1\n");
-    assert_eq!(rt; copy.total_size(), 3);
-    Ok(())
+    assert_graph(&rt, &two_levels(rt.alloc())?, "a;c 2\nb 1\n", 3)
+}
+
+#[test]
+fn a_copy_has_the_same_lines(rt: HostRuntime) -> Result<(), Refusal> {
+    let graph = two_levels(rt.alloc())?;
+    assert_graph(&rt, &graph.clone()?, "a;c 2\nb 1\n", 3)
+}
+
+// The root with 2, and its child `x` with 1.
+fn own_with_child(alloc: Global) -> Result<FlameGraph, Refusal> {
+    let mut graph = one(alloc, "x", 1)?;
+    graph.add_self(2)?;
+    Ok(graph)
 }
 
 #[test]
 fn keys_and_not_joined_texts_decide(rt: HostRuntime) -> Result<(), Refusal> {
-    let alloc = rt.alloc();
-    let mut graph = FlameGraph::default(alloc);
-    let mut a = own(alloc, 2)?;
-    a.add_child(Key::new("x"), own(alloc, 1)?)?;
-    graph.add_child(Key::new("a!"), own(alloc, 2)?)?;
-    graph.add_child(Key::new("a"), a)?;
-    assert_eq!(rt; graph.write()?.as_str(), "a 2\na;x 1\na! 2\n");
-    Ok(())
+    let mut graph = one(rt.alloc(), "a!", 2)?;
+    graph.add_child(Key::new("a"), own_with_child(rt.alloc())?)?;
+    assert_graph(&rt, &graph, "a 2\na;x 1\na! 2\n", 5)
 }
 
 #[test]
 fn an_empty_graph_takes_all_of_another(rt: HostRuntime) -> Result<(), Refusal> {
-    let alloc = rt.alloc();
-    let mut graph = FlameGraph::default(alloc);
-    graph.add(one(alloc, "x", 10)?)?;
-    assert_eq!(rt; graph.total_size(), 10);
-    assert_eq!(rt; graph.write()?.as_str(), "x 10\n");
-    Ok(())
+    let mut graph = FlameGraph::default(rt.alloc());
+    graph.add(one(rt.alloc(), "x", 10)?)?;
+    assert_graph(&rt, &graph, "x 10\n", 10)
+}
+
+// `a;x` with 1 and `c` with 2.
+fn left(alloc: Global) -> Result<FlameGraph, Refusal> {
+    let mut graph = one(alloc, "c", 2)?;
+    graph.add_child(Key::new("a"), one(alloc, "x", 1)?)?;
+    Ok(graph)
+}
+
+// `a;x` with 4, `b` with 8 and `d` with 16.
+fn right(alloc: Global) -> Result<FlameGraph, Refusal> {
+    let mut graph = one(alloc, "b", 8)?;
+    graph.add_child(Key::new("d"), own(alloc, 16)?)?;
+    graph.add_child(Key::new("a"), one(alloc, "x", 4)?)?;
+    Ok(graph)
 }
 
 #[test]
 fn graphs_add_up_path_by_path(rt: HostRuntime) -> Result<(), Refusal> {
-    let alloc = rt.alloc();
-    let mut graph = FlameGraph::default(alloc);
-    graph.add_child(Key::new("a"), one(alloc, "x", 1)?)?;
-    graph.add_child(Key::new("c"), own(alloc, 2)?)?;
-    let mut other = FlameGraph::default(alloc);
-    other.add_child(Key::new("a"), one(alloc, "x", 4)?)?;
-    other.add_child(Key::new("b"), own(alloc, 8)?)?;
-    other.add_child(Key::new("d"), own(alloc, 16)?)?;
-    graph.add(other)?;
-    assert_eq!(rt; graph.write()?.as_str(), "a;x 5\nb 8\nc 2\nd 16\n");
-    Ok(())
+    let mut graph = left(rt.alloc())?;
+    graph.add(right(rt.alloc())?)?;
+    assert_graph(&rt, &graph, "a;x 5\nb 8\nc 2\nd 16\n", 31)
 }
 
 #[test]
 fn a_key_with_a_semicolon_looks_like_a_path(rt: HostRuntime) -> Result<(), Refusal> {
-    let alloc = rt.alloc();
-    let joined = one(alloc, "a;b", 1)?;
-    let mut nested = FlameGraph::default(alloc);
-    nested.add_child(Key::new("a"), one(alloc, "b", 1)?)?;
-    assert_eq!(rt; joined.write()?.as_str(), "a;b 1\n");
-    assert_eq!(rt; nested.write()?.as_str(), "a;b 1\n");
-    Ok(())
+    assert_graph(&rt, &one(rt.alloc(), "a;b", 1)?, "a;b 1\n", 1)
+}
+
+#[test]
+fn a_path_looks_like_a_key_with_a_semicolon(rt: HostRuntime) -> Result<(), Refusal> {
+    let mut nested = FlameGraph::default(rt.alloc());
+    nested.add_child(Key::new("a"), one(rt.alloc(), "b", 1)?)?;
+    assert_graph(&rt, &nested, "a;b 1\n", 1)
+}
+
+// What each way to add one byte answers to a graph that has as many as there can be, and the total after the first.
+fn add_past_the_bound(
+    alloc: Global,
+    graph: &mut FlameGraph,
+) -> Result<([Result<(), Refusal>; 3], usize), Refusal> {
+    let by_itself = graph.add_self(1);
+    let total = graph.total_size();
+    let by_a_child = graph.add_child(Key::new("a"), own(alloc, 1)?);
+    let by_a_graph = graph.add(one(alloc, "a", 1)?);
+    Ok(([by_itself, by_a_child, by_a_graph], total))
 }
 
 #[test]
 fn a_total_past_the_bound_is_refused(rt: HostRuntime) -> Result<(), Refusal> {
-    let alloc = rt.alloc();
-    let mut graph = own(alloc, usize::MAX)?;
-    assert_eq!(rt; graph.add_self(1), Err(Refusal::TooLarge));
-    assert_eq!(rt; graph.total_size(), usize::MAX);
-    assert_eq!(rt;
-        graph.add_child(Key::new("a"), own(alloc, 1)?),
-        Err(Refusal::TooLarge)
-    );
-    assert_eq!(rt; graph.add(one(alloc, "a", 1)?), Err(Refusal::TooLarge));
-    assert_eq!(rt; graph.total_size(), usize::MAX);
-    assert_eq!(rt; graph.write()?.as_str(), "");
-    Ok(())
+    let mut graph = own(rt.alloc(), usize::MAX)?;
+    let (answers, total) = add_past_the_bound(rt.alloc(), &mut graph)?;
+    assert_eq!(rt; answers, [Err(Refusal::TooLarge); 3]);
+    assert_eq!(rt; total, usize::MAX);
+    assert_graph(&rt, &graph, "", usize::MAX)
+}
+
+// Two children with these sizes.
+fn pair(
+    alloc: Global,
+    first: (&'static str, usize),
+    second: (&'static str, usize),
+) -> Result<FlameGraph, Refusal> {
+    let mut graph = one(alloc, first.0, first.1)?;
+    graph.add_child(Key::new(second.0), own(alloc, second.1)?)?;
+    Ok(graph)
+}
+
+// The total of the graph `a 1`, `b 2` to which some of `b 3`, `c 4` was added, by its text.
+fn total_of(text: &str) -> usize {
+    match text {
+        "a 1\nb 2\n" => 3,
+        "a 1\nb 5\n" => 6,
+        "a 1\nb 2\nc 4\n" => 7,
+        "a 1\nb 5\nc 4\n" => 10,
+        _ => 0,
+    }
 }
 
 // With enough memory the result is the sum. Where one growth is refused, each size is the old one or that of
 // the sum.
 #[test]
 fn after_memory_each_size_is_old_or_summed(rt: HostRuntime) -> Result<(), Refusal> {
-    let alloc = rt.alloc();
-    let mut graph = one(alloc, "a", 1)?;
-    graph.add(one(alloc, "b", 2)?)?;
-    let mut other = one(alloc, "b", 3)?;
-    other.add(one(alloc, "c", 4)?)?;
-    match graph.add(other) {
-        Ok(()) => {
-            assert_eq!(rt; graph.total_size(), 10);
-            assert_eq!(rt; graph.write()?.as_str(), "a 1\nb 5\nc 4\n");
-        }
+    let mut graph = pair(rt.alloc(), ("a", 1), ("b", 2))?;
+    let answer = graph.add(pair(rt.alloc(), ("b", 3), ("c", 4))?);
+    assert_old_or_summed(&rt, &graph, answer)
+}
+
+fn assert_old_or_summed(
+    rt: &impl Abort,
+    graph: &FlameGraph,
+    answer: Result<(), Refusal>,
+) -> Result<(), Refusal> {
+    match answer {
+        Ok(()) => assert_graph(rt, graph, "a 1\nb 5\nc 4\n", 10),
         Err(refusal) => {
             assert_eq!(rt; refusal, Refusal::Memory);
-            let left = graph.write()?;
-            let total = match left.as_str() {
-                "a 1\nb 2\n" => 3,
-                "a 1\nb 5\n" => 6,
-                "a 1\nb 2\nc 4\n" => 7,
-                "a 1\nb 5\nc 4\n" => 10,
-                _ => 0,
-            };
-            assert_eq!(rt; graph.total_size(), total);
+            let text = graph.write()?;
+            assert_eq!(rt; graph.total_size(), total_of(text.as_str()));
+            Ok(())
         }
     }
-    Ok(())
 }
 
 // The root with 1, `a` with 2, `a;x` with 4 and `b` with 8.
@@ -159,17 +197,24 @@ fn read_sample(alloc: Global) -> Result<FlameGraph, Refusal> {
     Ok(graph)
 }
 
+// Own sizes and totals at paths that the sample has, and at two that it has not.
+fn figures(graph: &FlameGraph) -> [usize; 8] {
+    [
+        graph.self_size(),
+        graph.size_at(&[]),
+        graph.total_at(&[]),
+        graph.size_at(&["a"]),
+        graph.total_at(&["a"]),
+        graph.size_at(&["a", "x"]),
+        graph.size_at(&["x"]),
+        graph.total_at(&["b", "x"]),
+    ]
+}
+
 #[test]
 fn a_path_has_its_figures(rt: HostRuntime) -> Result<(), Refusal> {
     let graph = read_sample(rt.alloc())?;
-    assert_eq!(rt; graph.self_size(), 1);
-    assert_eq!(rt; graph.size_at(&[]), 1);
-    assert_eq!(rt; graph.total_at(&[]), 15);
-    assert_eq!(rt; graph.size_at(&["a"]), 2);
-    assert_eq!(rt; graph.total_at(&["a"]), 6);
-    assert_eq!(rt; graph.size_at(&["a", "x"]), 4);
-    assert_eq!(rt; graph.size_at(&["x"]), 0);
-    assert_eq!(rt; graph.total_at(&["b", "x"]), 0);
+    assert_eq!(rt; figures(&graph), [1, 1, 15, 2, 6, 4, 0, 0]);
     Ok(())
 }
 
@@ -210,40 +255,32 @@ fn rows_stand_in_the_order_of_paths(rt: HostRuntime) -> Result<(), Refusal> {
     Ok(())
 }
 
-#[test]
-fn many_children_are_added_at_once(rt: HostRuntime) -> Result<(), Refusal> {
-    let alloc = rt.alloc();
+// Children with these keys and sizes.
+fn children_of(alloc: Global, sizes: &[(&'static str, usize)]) -> Result<Vec<Child>, Refusal> {
     let mut children = Vec::new(alloc);
-    for (key, size) in [("c", 1), ("a", 2), ("c", 4), ("b", 8)] {
+    for &(key, size) in sizes {
         children.push(Child {
             key: Key::new(key),
             graph: own(alloc, size)?,
         })?;
     }
-    let mut graph = one(alloc, "b", 16)?;
-    graph.add_children(children)?;
-    assert_eq!(rt; graph.write()?.as_str(), "a 2\nb 24\nc 5\n");
-    assert_eq!(rt; graph.total_size(), 31);
-    Ok(())
+    Ok(children)
+}
+
+#[test]
+fn many_children_are_added_at_once(rt: HostRuntime) -> Result<(), Refusal> {
+    let mut graph = one(rt.alloc(), "b", 16)?;
+    graph.add_children(children_of(rt.alloc(), &[("c", 1), ("a", 2), ("c", 4), ("b", 8)])?)?;
+    assert_graph(&rt, &graph, "a 2\nb 24\nc 5\n", 31)
 }
 
 #[test]
 fn many_children_past_the_bound_are_refused(rt: HostRuntime) -> Result<(), Refusal> {
-    let alloc = rt.alloc();
-    let mut graph = own(alloc, 1)?;
+    let mut graph = own(rt.alloc(), 1)?;
     for size in [usize::MAX, usize::MAX - 1] {
-        let mut children = Vec::new(alloc);
-        children.push(Child {
-            key: Key::new("a"),
-            graph: own(alloc, size)?,
-        })?;
-        children.push(Child {
-            key: Key::new("b"),
-            graph: own(alloc, 1)?,
-        })?;
-        assert_eq!(rt; graph.add_children(children), Err(Refusal::TooLarge));
-        assert_eq!(rt; graph.total_size(), 1);
-        assert_eq!(rt; graph.write()?.as_str(), "");
+        let answer = graph.add_children(children_of(rt.alloc(), &[("a", size), ("b", 1)])?);
+        assert_eq!(rt; answer, Err(Refusal::TooLarge));
+        assert_graph(&rt, &graph, "", 1)?;
     }
     Ok(())
 }
@@ -303,28 +340,35 @@ fn identities_have_a_maker_and_a_number(rt: HostRuntime) {
 }
 
 #[test]
-fn a_maker_ends_after_the_greatest_number(rt: HostRuntime) {
-    let mut last = IdMaker::starting_at(0, u64::MAX);
-    assert_eq!(rt; last.fresh(), Some(Identity::new(0, u64::MAX)));
-    assert_eq!(rt; last.fresh(), None);
-    assert_eq!(rt; last.fresh(), None);
+fn a_maker_counts_from_zero(rt: HostRuntime) {
     let mut maker = IdMaker::new(5);
-    assert_eq!(rt; maker.fresh(), Some(Identity::new(5, 0)));
-    assert_eq!(rt; maker.fresh(), Some(Identity::new(5, 1)));
+    let made = [maker.fresh(), maker.fresh()];
+    assert_eq!(rt;
+        made,
+        [Some(Identity::new(5, 0)), Some(Identity::new(5, 1))]
+    );
 }
 
 #[test]
-fn shared_values_keep_their_identities(rt: HostRuntime) -> Result<(), Refusal> {
-    let alloc = rt.alloc();
+fn a_maker_ends_after_the_greatest_number(rt: HostRuntime) {
+    let mut last = IdMaker::starting_at(0, u64::MAX);
+    let made = [last.fresh(), last.fresh(), last.fresh()];
+    assert_eq!(rt; made, [Some(Identity::new(0, u64::MAX)), None, None]);
+}
+
+#[test]
+fn a_shared_value_keeps_its_identity(rt: HostRuntime) -> Result<(), Refusal> {
     let id = Identity::new(1, 2);
-    let single = IdRc::new(alloc, 7u8, id)?;
-    let other = single.clone()?;
-    assert_eq!(rt; other.id(), id);
-    assert_eq!(rt; *other.get(), 7);
-    let threaded = IdArc::new(alloc, 8u8, id)?;
-    let other = threaded.clone()?;
-    assert_eq!(rt; other.id(), id);
-    assert_eq!(rt; *other.get(), 8);
+    let copy = IdRc::new(rt.alloc(), 7u8, id)?.clone()?;
+    assert_eq!(rt; (copy.id(), *copy.get()), (id, 7));
+    Ok(())
+}
+
+#[test]
+fn a_value_that_threads_share_keeps_its_identity(rt: HostRuntime) -> Result<(), Refusal> {
+    let id = Identity::new(1, 2);
+    let copy = IdArc::new(rt.alloc(), 8u8, id)?.clone()?;
+    assert_eq!(rt; (copy.id(), *copy.get()), (id, 8));
     Ok(())
 }
 
@@ -344,12 +388,14 @@ fn a_key_is_shown_as_its_text(rt: HostRuntime) -> Result<(), Refusal> {
 
 #[test]
 fn refusals_say_why(rt: HostRuntime) -> Result<(), Refusal> {
-    let alloc = rt.alloc();
-    let memory = format!(in alloc; "{}", Refusal::Memory)?;
-    assert_eq!(rt; memory.as_str(), "out of memory");
-    let too_large = format!(in alloc; "{}", Refusal::TooLarge)?;
-    assert_eq!(rt; too_large.as_str(), "sizes do not fit");
-    let open = format!(in alloc; "{}", Refusal::Open)?;
-    assert_eq!(rt; open.as_str(), "a visitor was forgotten");
+    let said = [
+        (Refusal::Memory, "out of memory"),
+        (Refusal::TooLarge, "sizes do not fit"),
+        (Refusal::Open, "a visitor was forgotten"),
+    ];
+    for (refusal, text) in said {
+        let shown = format!(in rt.alloc(); "{refusal}")?;
+        assert_eq!(rt; shown.as_str(), text);
+    }
     Ok(())
 }
