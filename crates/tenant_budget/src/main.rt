@@ -48,6 +48,47 @@ fn bill(rt: &impl Print, ledger: &Ledger) -> io::Result<()> {
     Ok(())
 }
 
+/// Opens an account for each tenant.
+fn open_accounts(rt: &impl Print, ledger: &mut Ledger, budget: Budget) -> io::Result<()> {
+    for tenant in ["birch", "acme"] {
+        if let Err(rejection) = ledger.open(tenant, budget) {
+            println!(rt; "{rejection}")?;
+        }
+    }
+    Ok(())
+}
+
+/// Admits values of two types, some of which are rejected.
+fn admit(
+    rt: &impl Print,
+    alloc: Global,
+    ledger: &mut Ledger,
+    text: &String,
+    scores: &Vec<u32>,
+) -> io::Result<()> {
+    let most = numbers(alloc, 19)?;
+    tell(rt, "acme", ledger.admit("acme", 1, text))?;
+    tell(rt, "acme", ledger.admit("acme", 2, scores))?;
+    tell(rt, "birch", ledger.admit("birch", 1, &most))?;
+    tell(rt, "acme", ledger.admit("acme", 2, text))?;
+    tell(rt, "cedar", ledger.admit("cedar", 1, text))
+}
+
+/// Measures the scores again, which have grown, and gives up the text to make room for them.
+fn measure(
+    rt: &impl Print,
+    ledger: &mut Ledger,
+    text: &String,
+    scores: &Vec<u32>,
+) -> io::Result<()> {
+    tell(rt, "acme", ledger.measure_again("acme", 2, scores))?;
+    if let Some(bytes) = ledger.release("acme", 1) {
+        println!(rt; "tenant `acme` gives {bytes} bytes back")?;
+    }
+    tell(rt, "acme", ledger.measure_again("acme", 2, scores))?;
+    tell(rt, "acme", ledger.measure_again("acme", 1, text))
+}
+
 fn main(rt: HostRuntime) -> io::Result<()> {
     let alloc = rt.alloc();
     let budget = Budget { limit: 100 };
@@ -55,25 +96,11 @@ fn main(rt: HostRuntime) -> io::Result<()> {
     tell(&rt, "guest", budget.admit("guest", &text))?;
 
     let mut ledger = Ledger::new(alloc);
-    for tenant in ["birch", "acme"] {
-        if let Err(rejection) = ledger.open(tenant, budget) {
-            println!(rt; "{rejection}")?;
-        }
-    }
+    open_accounts(&rt, &mut ledger, budget)?;
     let mut scores = numbers(alloc, 5)?;
-    tell(&rt, "acme", ledger.admit("acme", 1, &text))?;
-    tell(&rt, "acme", ledger.admit("acme", 2, &scores))?;
-    tell(&rt, "birch", ledger.admit("birch", 1, &numbers(alloc, 19)?))?;
-    tell(&rt, "acme", ledger.admit("acme", 2, &text))?;
-    tell(&rt, "cedar", ledger.admit("cedar", 1, &text))?;
-
+    admit(&rt, alloc, &mut ledger, &text, &scores)?;
     scores = numbers(alloc, 9)?;
-    tell(&rt, "acme", ledger.measure_again("acme", 2, &scores))?;
-    if let Some(bytes) = ledger.release("acme", 1) {
-        println!(rt; "tenant `acme` gives {bytes} bytes back")?;
-    }
-    tell(&rt, "acme", ledger.measure_again("acme", 2, &scores))?;
-    tell(&rt, "acme", ledger.measure_again("acme", 1, &text))?;
+    measure(&rt, &mut ledger, &text, &scores)?;
     bill(&rt, &ledger)
 }
 

@@ -63,15 +63,22 @@ mod tests {
 
     #[test]
     fn the_other_rejections_have_a_text(rt: HostRuntime) -> Result<(), Fail> {
-        let not_measured = Rejection::NotMeasured(Refusal::TooLarge);
-        let text = not_measured.to_string(rt.alloc())?;
-        assert_eq!(rt; text.as_str(), "not measured: sizes do not fit");
-        let text = Rejection::TooLarge.to_string(rt.alloc())?;
-        assert_eq!(rt; text.as_str(), "sizes do not fit");
-        let text = Rejection::NotKept.to_string(rt.alloc())?;
-        assert_eq!(rt; text.as_str(), "out of memory");
-        let text = Rejection::HasAccount { tenant: "acme" }.to_string(rt.alloc())?;
-        assert_eq!(rt; text.as_str(), "tenant `acme` has an account");
+        let said = [
+            (
+                Rejection::NotMeasured(Refusal::TooLarge),
+                "not measured: sizes do not fit",
+            ),
+            (Rejection::TooLarge, "sizes do not fit"),
+            (Rejection::NotKept, "out of memory"),
+            (
+                Rejection::HasAccount { tenant: "acme" },
+                "tenant `acme` has an account",
+            ),
+        ];
+        for (rejection, want) in said {
+            let text = rejection.to_string(rt.alloc())?;
+            assert_eq!(rt; text.as_str(), want);
+        }
         Ok(())
     }
 }

@@ -9,6 +9,8 @@ use crate::ledger::Ledger;
 use crate::rejection::Rejection;
 use crate::{note, numbers};
 use allocative::{Allocative, Described, Part, Refusal, Visitor};
+use std::alloc::Global;
+use std::process::Abort;
 use std::test::Fail;
 
 /// A value whose visit fails.
@@ -87,81 +89,110 @@ impl Allocative for HalfOfAll {
     }
 }
 
+/// Asserts what a call that admits or measures a value answers.
+fn assert_answer(
+    rt: &impl Abort,
+    answer: Result<usize, Rejection<'_>>,
+    want: Result<usize, Rejection<'_>>,
+) {
+    assert_eq!(rt; answer, want);
+}
+
+/// Asserts what opening an account answers.
+fn assert_opened(
+    rt: &impl Abort,
+    answer: Result<(), Rejection<'_>>,
+    want: Result<(), Rejection<'_>>,
+) {
+    assert_eq!(rt; answer, want);
+}
+
+/// A ledger with an account of one tenant.
+fn one_account(rt: &impl Abort, alloc: Global, tenant: &str, limit: usize) -> Ledger {
+    let mut ledger = Ledger::new(alloc);
+    assert_opened(rt, ledger.open(tenant, Budget { limit }), Ok(()));
+    ledger
+}
+
 #[test]
 fn a_value_is_held_to_the_limit(rt: HostRuntime) -> Result<(), Fail> {
     let text = note(rt.alloc(), "a note of 20 letters")?;
     for limit in [44usize, 45] {
-        assert_eq!(rt; Budget { limit }.admit("guest", &text), Ok(44));
+        assert_answer(&rt, Budget { limit }.admit("guest", &text), Ok(44));
     }
     for limit in [0usize, 43] {
-        assert_eq!(rt;
-            Budget { limit }.admit("guest", &text),
-            Err(Rejection::OverBudget {
-                tenant: "guest",
-                bytes: 44,
-                limit
-            })
-        );
+        let want = Err(Rejection::OverBudget {
+            tenant: "guest",
+            bytes: 44,
+            limit,
+        });
+        assert_answer(&rt, Budget { limit }.admit("guest", &text), want);
     }
     Ok(())
 }
 
 #[test]
 fn an_entry_is_held_to_the_limit(rt: HostRuntime) -> Result<(), Fail> {
-    let alloc = rt.alloc();
-    let mut ledger = Ledger::new(alloc);
-    assert_eq!(rt; ledger.open("acme", Budget { limit: 64 }), Ok(()));
-    assert_eq!(rt;
-        ledger.admit("acme", 1, &numbers(alloc, 11)?),
-        Err(Rejection::OverBudget {
-            tenant: "acme",
-            bytes: 68,
-            limit: 64
-        })
+    let mut ledger = one_account(&rt, rt.alloc(), "acme", 64);
+    let want = Err(Rejection::OverBudget {
+        tenant: "acme",
+        bytes: 68,
+        limit: 64,
+    });
+    assert_answer(
+        &rt,
+        ledger.admit("acme", 1, &numbers(rt.alloc(), 11)?),
+        want,
     );
-    assert_eq!(rt; ledger.admit("acme", 1, &numbers(alloc, 10)?), Ok(64));
-    assert_eq!(rt; ledger.bytes_of("acme"), Some(64));
-    assert_eq!(rt; ledger.bytes_of("birch"), None);
+    assert_answer(
+        &rt,
+        ledger.admit("acme", 1, &numbers(rt.alloc(), 10)?),
+        Ok(64),
+    );
+    let held = [ledger.bytes_of("acme"), ledger.bytes_of("birch")];
+    assert_eq!(rt; held, [Some(64), None]);
     Ok(())
 }
 
 #[test]
-fn an_account_is_opened_once(rt: HostRuntime) -> Result<(), Fail> {
-    let mut ledger = Ledger::new(rt.alloc());
-    assert_eq!(rt; ledger.open("acme", Budget { limit: 64 }), Ok(()));
-    assert_eq!(rt;
-        ledger.open("acme", Budget { limit: 65 }),
-        Err(Rejection::HasAccount { tenant: "acme" })
-    );
-    Ok(())
+fn an_account_is_opened_once(rt: HostRuntime) {
+    let mut ledger = one_account(&rt, rt.alloc(), "acme", 64);
+    let want = Err(Rejection::HasAccount { tenant: "acme" });
+    assert_opened(&rt, ledger.open("acme", Budget { limit: 65 }), want);
 }
 
 #[test]
-fn what_is_not_measured_is_not_admitted(rt: HostRuntime) -> Result<(), Fail> {
+fn what_is_not_measured_is_not_admitted(rt: HostRuntime) {
     let budget = Budget { limit: 100 };
-    let mut ledger = Ledger::new(rt.alloc());
-    assert_eq!(rt; ledger.open("guest", budget), Ok(()));
-    assert_eq!(rt; ledger.admit("guest", 1, &7u8), Ok(1));
+    let mut ledger = one_account(&rt, rt.alloc(), "guest", 100);
+    assert_answer(&rt, ledger.admit("guest", 1, &7u8), Ok(1));
     for refusal in [Refusal::Memory, Refusal::TooLarge, Refusal::Open] {
         let want = Err(Rejection::NotMeasured(refusal));
-        assert_eq!(rt; budget.admit("guest", &Refuses(refusal)), want);
-        assert_eq!(rt; ledger.admit("guest", 2, &Refuses(refusal)), want);
-        assert_eq!(rt; ledger.measure_again("guest", 1, &Refuses(refusal)), want);
+        assert_answer(&rt, budget.admit("guest", &Refuses(refusal)), want);
+        assert_answer(&rt, ledger.admit("guest", 2, &Refuses(refusal)), want);
+        assert_answer(
+            &rt,
+            ledger.measure_again("guest", 1, &Refuses(refusal)),
+            want,
+        );
     }
-    Ok(())
 }
 
 #[test]
-fn bytes_together_may_not_fit_a_word(rt: HostRuntime) -> Result<(), Fail> {
+fn bytes_together_may_not_fit_a_word(rt: HostRuntime) {
     let mut ledger = Ledger::new(rt.alloc());
     let half = 9223372036854775808usize;
     for tenant in ["acme", "birch"] {
-        assert_eq!(rt; ledger.open(tenant, Budget { limit: usize::MAX }), Ok(()));
-        assert_eq!(rt; ledger.admit(tenant, 1, &HalfOfAll), Ok(half));
+        assert_opened(
+            &rt,
+            ledger.open(tenant, Budget { limit: usize::MAX }),
+            Ok(()),
+        );
+        assert_answer(&rt, ledger.admit(tenant, 1, &HalfOfAll), Ok(half));
     }
-    assert_eq!(rt;
+    assert_answer(
+        &rt,
         ledger.admit("acme", 2, &HalfOfAll),
-        Err(Rejection::TooLarge)
+        Err(Rejection::TooLarge),
     );
-    Ok(())
 }
