@@ -61,6 +61,10 @@ fn graphs() -> Vec<Workload> {
             ));
         }
     }
+    for (order, word) in [(0, "rising"), (1, "falling"), (2, "mixed")] {
+        let name = format!("100000 children at once, {word}");
+        all.push(workload!(name, &["build"], at_once(100_000, order)));
+    }
     for count in [12_500usize, 25_000, 50_000] {
         let name = format!("two interleaving lists of {count}");
         all.push(workload!(name, &["add"], interleaving(count)));

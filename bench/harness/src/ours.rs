@@ -18,6 +18,7 @@ macro_rules! workloads {
 workloads! {
     cube = bench_cube(side: usize);
     wide = bench_wide(count: usize, order: u32);
+    at_once = bench_at_once(count: usize, order: u32);
     interleaving = bench_interleaving(count: usize);
     few_paths = bench_few_paths(rounds: usize);
     tree = bench_tree(side: usize);

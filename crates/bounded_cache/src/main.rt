@@ -82,22 +82,41 @@ fn grow(
     print_kept(rt, cache)
 }
 
-fn run<R: Print + AllocGlobal>(rt: &R) -> Result<()> {
-    let alloc = rt.alloc();
-    let mut cache = BoundedCache::new(alloc, 300)?;
+/// Inserts three pages, and reads the first one again.
+fn fill(rt: &impl Print, alloc: Global, cache: &mut BoundedCache<Place, Vec<u8>>) -> Result<()> {
     for number in 1..=3 {
-        insert(rt, &mut cache, number, page(alloc, 76)?)?;
+        insert(rt, cache, number, page(alloc, 76)?)?;
     }
     if cache.get(&Place { book: 7, page: 1 }).is_some() {
         println!(rt; "page 1 was read")?;
     }
-    insert(rt, &mut cache, 4, page(alloc, 76)?)?;
-    insert(rt, &mut cache, 5, page(alloc, 1000)?)?;
-    grow(rt, &mut cache, 3, page(alloc, 176)?)?;
+    Ok(())
+}
+
+/// Inserts a page for which another one goes, and one that does not fit. Then a page grows.
+fn overfill(
+    rt: &impl Print,
+    alloc: Global,
+    cache: &mut BoundedCache<Place, Vec<u8>>,
+) -> Result<()> {
+    insert(rt, cache, 4, page(alloc, 76)?)?;
+    insert(rt, cache, 5, page(alloc, 1000)?)?;
+    grow(rt, cache, 3, page(alloc, 176)?)
+}
+
+/// Takes a page out.
+fn take_out(rt: &impl Print, cache: &mut BoundedCache<Place, Vec<u8>>) -> Result<()> {
     if cache.remove(&Place { book: 7, page: 4 }).is_some() {
         println!(rt; "page 4 was taken out")?;
     }
-    print_kept(rt, &cache)
+    print_kept(rt, cache)
+}
+
+fn run<R: Print + AllocGlobal>(rt: &R) -> Result<()> {
+    let mut cache = BoundedCache::new(rt.alloc(), 300)?;
+    fill(rt, rt.alloc(), &mut cache)?;
+    overfill(rt, rt.alloc(), &mut cache)?;
+    take_out(rt, &mut cache)
 }
 
 fn main(rt: HostRuntime) -> Result<()> {

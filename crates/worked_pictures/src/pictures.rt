@@ -17,6 +17,15 @@ fn own(alloc: Global, size: usize) -> Result<FlameGraph, Refusal> {
     Ok(graph)
 }
 
+/// A graph with these children, of which each has this size.
+fn with_children(alloc: Global, sizes: &[(&'static str, usize)]) -> Result<FlameGraph, Refusal> {
+    let mut graph = FlameGraph::default(alloc);
+    for &(key, size) in sizes {
+        graph.add_child(Key::new(key), own(alloc, size)?)?;
+    }
+    Ok(graph)
+}
+
 /// A path that has a warning.
 fn warned_path(
     alloc: Global,
@@ -64,15 +73,19 @@ const MARKED_BOXES: &str = "Whole</text></svg>\n\
 <svg class=\"b spare\" x=\"32.5846%\" y=\"90\" width=\"67.4154%\" height=\"18\"><title>unused_capacity\n2.0 KiB (2071 bytes), 67.41% of all</title><rect width=\"100%\" height=\"100%\" rx=\"2\"/><text x=\"4\" y=\"13\">unused_capacity<tspan class=\"n\" dx=\"8\">2.0 KiB</tspan></text></svg>\n<text class=\"warn\" x=\"8\" y=\"132\">Incorrect size declaration for node `Map`, size of self: 1, size of inline children: 2</text>\n\
 <text class=\"warn\" x=\"8\" y=\"148\">Incorrect size declaration for node `Map;&lt;thin&gt;`, size of self: 30, size of inline children: 400</text>\n<script>";
 
+/// Two children, of which the second has a size of its own and a child with a key that is no markup.
+fn two_levels(alloc: Global) -> Result<FlameGraph, Refusal> {
+    let mut inner = with_children(alloc, &[("</title><script>", 2)])?;
+    inner.add_self(1)?;
+    let mut graph = with_children(alloc, &[("Vec<u8>\n", 4)])?;
+    graph.add_child(Key::new("b"), inner)?;
+    Ok(graph)
+}
+
 #[test]
 fn boxes_stand_by_their_bytes(rt: HostRuntime) -> Result<(), Refusal> {
-    let alloc = rt.alloc();
-    let mut inner = own(alloc, 1)?;
-    inner.add_child(Key::new("</title><script>"), own(alloc, 2)?)?;
-    let mut graph = own(alloc, 0)?;
-    graph.add_child(Key::new("b"), inner)?;
-    graph.add_child(Key::new("Vec<u8>\n"), own(alloc, 4)?)?;
-    let text = picture(alloc, &graph, &Options::default())?;
+    let graph = two_levels(rt.alloc())?;
+    let text = picture(rt.alloc(), &graph, &Options::default())?;
     assert_picture(
         &rt,
         text.as_str(),
@@ -86,13 +99,9 @@ fn boxes_stand_by_their_bytes(rt: HostRuntime) -> Result<(), Refusal> {
 
 #[test]
 fn what_went_and_what_came_is_drawn(rt: HostRuntime) -> Result<(), Refusal> {
-    let alloc = rt.alloc();
-    let mut before = own(alloc, 0)?;
-    before.add_child(Key::new("a"), own(alloc, 2)?)?;
-    before.add_child(Key::new("b"), own(alloc, 3)?)?;
-    let mut after = own(alloc, 0)?;
-    after.add_child(Key::new("a"), own(alloc, 4)?)?;
-    let text = change_picture(alloc, &before, &after, &Options::default())?;
+    let before = with_children(rt.alloc(), &[("a", 2), ("b", 3)])?;
+    let after = with_children(rt.alloc(), &[("a", 4)])?;
+    let text = change_picture(rt.alloc(), &before, &after, &Options::default())?;
     assert_picture(
         &rt,
         text.as_str(),
@@ -104,14 +113,19 @@ fn what_went_and_what_came_is_drawn(rt: HostRuntime) -> Result<(), Refusal> {
     Ok(())
 }
 
+/// The child `Map` with unused capacity and a child too narrow to be drawn.
+fn one_map(alloc: Global) -> Result<FlameGraph, Refusal> {
+    let mut map = with_children(alloc, &[("thin", 1), ("unused_capacity", 2071)])?;
+    map.add_self(1000)?;
+    let mut graph = FlameGraph::default(alloc);
+    graph.add_child(Key::new("Map"), map)?;
+    Ok(graph)
+}
+
 #[test]
 fn warned_and_unused_paths_are_marked(rt: HostRuntime) -> Result<(), Refusal> {
     let alloc = rt.alloc();
-    let mut map = own(alloc, 1000)?;
-    map.add_child(Key::new("thin"), own(alloc, 1)?)?;
-    map.add_child(Key::new("unused_capacity"), own(alloc, 2071)?)?;
-    let mut graph = own(alloc, 0)?;
-    graph.add_child(Key::new("Map"), map)?;
+    let graph = one_map(alloc)?;
     let warned = [
         warned_path(alloc, &["Map"], 1, 2)?,
         warned_path(alloc, &["Map", "<thin>"], 30, 400)?,

@@ -4,7 +4,7 @@
 ghost use Rattle.std.specs.Prelude.{codes};
 ghost use Rattle.allocative.specs.Shows as shows;
 
-use crate::rows::assert_text;
+use crate::rows::{assert_collected, assert_text};
 use allocative::{Allocative, FlameGraphBuilder, Inside, Key, Part, Refusal, Visitor};
 use std::alloc::Global;
 
@@ -46,11 +46,7 @@ fn a_root_that_shows_nothing(rt: HostRuntime) -> Result<(), Refusal> {
     builder.visit_root(&Silent)?;
     let output = builder.finish()?;
     assert_eq!(rt; output.flamegraph().total_size(), 0);
-    let text = output.flamegraph().write()?;
-    assert_eq!(rt; text.as_str(), "");
-    let warnings = output.warnings()?;
-    assert_eq!(rt; warnings.as_str(), "");
-    Ok(())
+    assert_collected(&rt, &output, "", "")
 }
 
 /// A builder of the roots `z 1` down to `a 1`, visited `times` times.
