@@ -231,7 +231,8 @@ impl Tree {
         ensures { IsTrue result → IsEntered self.now self.now at key.now 0 false number }
     {
         match self.nodes.get(number) {
-            Some(node) => number != 0 && node.parent == at && node.key == *key,
+            // The length of `key` is mostly a constant of the caller. On the left it spares the comparison a call.
+            Some(node) => number != 0 && node.parent == at && *key == node.key,
             None => false,
         }
     }

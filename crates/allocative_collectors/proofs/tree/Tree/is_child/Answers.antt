@@ -27,7 +27,7 @@ returns-then-node-at c =
     ] in
     let some : number ≢ 0 = tests.0 in
     λ same.
-    let key : n.key ≡ c.args.key.now = (bytes_eq-Decides n.key c.args.key.now).0 (sym c.eq.ensures ∙ same) in
+    let key : n.key ≡ c.args.key.now = sym ((bytes_eq-Decides c.args.key.now n.key).0 (sym c.eq.ensures ∙ same)) in
     subst (λ (s : Listed). IsEntered s s c.args.at c.args.key.now 0 false number) c.self.view_is
     (stands_entered (map shape items) c.self.invariant c.args.at (in_shapes items c.args.at here) c.args.key.now number (omega arith) (omega (arith, length-map items shape))
     (parent_read items number n inside read ∙ tests.1) (key_read items number n inside read ∙ key))
