@@ -74,6 +74,14 @@ module _ (ns : List Shape) (ok : IsArena ns) (p : ℕ) (hp : p < length ns) (k :
       } in
       subst (λ (j : ℕ). IsEntered (sums ns) (sums ns) p k 0 false j) is (was_entered listed.place found)
 
+  -- a node whose path is p's with the key has this parent and this key
+  pub child_of : (i : ℕ) → 0 < i → i < length ns → path_at (sums ns) i ≡ path_at (sums ns) p ++ k ∷ [] → (parent_at ns i ≡ p) × (key_at ns i ≡ k)
+  child_of i pos hi path =
+      let step = paths_at ns i pos hi (ok.parents i pos hi) in
+      let parts = same_from_push _ _ _ _ (sym step ∙ (sym (path_sums ns i hi) ∙ (path ∙ ap (λ (x : Path). x ++ k ∷ []) (path_sums ns p hp)))) in
+      let parent_in = ok.parents i pos hi in
+      (distinct ns ok (parent_at ns i) p (omega arith) hp parts.0, parts.1)
+
   -- the path of a key in a gap was not entered before
   pub path_new : (g : ℕ) → IsKeyGap (keys_at ns p) k g → (i : ℕ) → i < length (sums ns) → path_at (sums ns) i ≢ path_at (sums ns) p ++ k ∷ []
   path_new g gap zero h e = not_nil _ k (sym e ∙ (path_sums ns 0 ok.rooted ∙ paths_root ns))
@@ -83,14 +91,11 @@ module _ (ns : List Shape) (ok : IsArena ns) (p : ℕ) (hp : p < length ns) (k :
       not_nil (y ∷ x) k e = cc
   path_new g gap (suc i) h e =
       let hi : suc i < length ns = omega (arith, length_sums ns) in
-      let pi = ok.parents (suc i) (omega arith) hi in
-      let step = paths_at ns (suc i) (omega arith) hi pi in
-      let parts = same_from_push _ _ _ _ (sym step ∙ (sym (path_sums ns (suc i) hi) ∙ (e ∙ ap (λ (x : Path). x ++ k ∷ []) (path_sums ns p hp)))) in
-      let same : parent_at ns (suc i) ≡ p = distinct ns ok (parent_at ns (suc i)) p (omega arith) hp parts.0 in
+      let is_child = child_of (suc i) (omega arith) hi e in
       let at = ok.listed (suc i) (omega arith) hi in
-      let at_p : at.place < length (children_at ns p) = subst (λ (q : ℕ). at.place < length (children_at ns q)) same at.in_range in
-      let is_p : get_or (children_at ns p) at.place 0 ≡ suc i = subst (λ (q : ℕ). get_or (children_at ns q) at.place 0 ≡ suc i) same at.is in
-      gap_none (keys_at ns p) k g gap at.place (omega (arith, length-keys_of ns (children_at ns p))) (key_in-keys_of ns (children_at ns p) at.place at_p ∙ (ap (key_at ns) is_p ∙ parts.1))
+      let at_p : at.place < length (children_at ns p) = subst (λ (q : ℕ). at.place < length (children_at ns q)) is_child.0 at.in_range in
+      let is_p : get_or (children_at ns p) at.place 0 ≡ suc i = subst (λ (q : ℕ). get_or (children_at ns q) at.place 0 ≡ suc i) is_child.0 at.is in
+      gap_none (keys_at ns p) k g gap at.place (omega (arith, length-keys_of ns (children_at ns p))) (key_in-keys_of ns (children_at ns p) at.place at_p ∙ (ap (key_at ns) is_p ∙ is_child.1))
 
   module _ (g : ℕ) (gap : IsKeyGap (keys_at ns p) k g) where
     paths_grown : paths (grown ns p k g) ≡ paths ns ++ (path_at (sums ns) p ++ k ∷ []) ∷ []

@@ -7,6 +7,7 @@ pub mod Raised
 pub mod Child
 pub mod Searched
 pub mod NodeReads
+pub mod Guessed
 pub mod Adds
 pub mod Bridge
 pub mod Walked

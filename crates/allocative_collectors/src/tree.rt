@@ -1,5 +1,5 @@
 //! The paths that were entered, as an arena of nodes that refer to one another by number.
-ghost use Rattle.std.specs.Prelude.{◌≡◌, ◌+◌, ◌^◌, ◌<◌, ℕ, [], ◌∷◌, ◌++◌, length, map, slice_index, string_bytes, EachIndex, IfOk, IfErr, IfSome, IfNone, OnOk, OnErr, IsTrue, false};
+ghost use Rattle.std.specs.Prelude.{◌≡◌, ◌+◌, ◌^◌, ◌<◌, ◌≤◌, ℕ, [], ◌∷◌, ◌++◌, length, map, slice_index, string_bytes, EachIndex, IfOk, IfErr, IfSome, IfNone, OnOk, OnErr, IsTrue, ◌↔◌, false};
 ghost use Rattle.allocative_graph.specs.Graph.{warning_line, total as graph_total};
 ghost use Rattle.allocative_graph.specs.Visits.{IsProfile};
 ghost use Rattle.allocative_collectors.specs.Listed.{root_sum, add, total, path_at, map_of, IsEntered, IsAbove};
@@ -228,7 +228,7 @@ impl Tree {
     #[inline(always)]
     fn is_child(&self, at: usize, key: &Key, number: usize) -> bool
         requires { at < length self.now }
-        ensures { IsTrue result → IsEntered self.now self.now at key.now 0 false number }
+        ensures { IsTrue result ↔ IsEntered self.now self.now at key.now 0 false number }
     {
         match self.nodes.get(number) {
             // The length of `key` is mostly a constant of the caller. On the left it spares the comparison a call.
@@ -314,10 +314,12 @@ impl Tree {
     }
 }
 
-/// The number of a node, as a guess. Where the number takes more than 32 bits, the guess is wrong, and a search is
-/// made.
+/// The number of a node, as a guess. A number of more than 32 bits gives 0: the root, which is no child.
 #[inline(always)]
-fn guess(number: usize) -> u32 {
+fn guess(number: usize) -> u32
+    ensures kept { number < 2 ^ 32 → result ≡ number }
+    ensures none { 2 ^ 32 ≤ number → result ≡ 0 }
+{
     u32::try_from(number).unwrap_or(0)
 }
 
