@@ -1,12 +1,13 @@
 -- The collector's own steps as the relations of visits, whose arguments are found by search.
-use Rattle.std.proofs.Common.{◌≡◌, ℕ, Bool, true, false, None, Result, Ok, Err, refl, sym, subst, ap}
+use Rattle.std.proofs.Common.{◌≡◌, ℕ, Bool, true, false, None, Some, Result, Ok, Err, refl, sym, subst, ap}
 use Rattle.allocative_graph.specs.declared.refusal.Refusal.{Refusal}
 use Rattle.allocative_graph.specs.declared.refusal.Refusal.TheVariants.{TooLarge}
 use Rattle.allocative_graph.specs.Path.{Key}
 use Rattle.allocative_graph.specs.Identity.{Identity}
 use Rattle.allocative_graph.specs.Collector.{Kind, OfGraph, OfHeld, State, Failed, Going, failed_with, left}
 use Rattle.allocative_graph.specs.Visits.{HasFailed, Enters, stays_failed, is_refused, is_entered, EntersSized, stays_unsized, is_unsized, is_sized, EntersShared, stays_shared, is_refused_shared, goes_past, enters_first, enters_again, Leaves, leaves_failed, leaves_going}
-use Rattle.allocative.specs.Steps.{StepsIn, StepsInShared}
+use Rattle.allocative.specs.Steps.{StepsIn, StepsSimple, StepsInShared}
+use Rattle.allocative.specs.Making.{EntersSimple, simple_refused, simple_entered}
 
 pub enters_by_step : (u : Bool) (k : Key) (n : ℕ) (s : State) (r : Result Bool Refusal) (t : State) → StepsIn u k n s r t → Enters u k n s r t
 enters_by_step u k n (Failed q) r t (e, f) = rw (e, f) stays_failed
@@ -41,9 +42,17 @@ unsized_by_refusal k (Going b) e (Failed p) h i = rw (sym (same_cause p e i)) (i
 unsized_by_refusal k (Failed q) e (Going b) h i = absurd (going_not_failed b q h)
 unsized_by_refusal k (Going c) e (Going b) h i = absurd (going_not_failed b TooLarge h)
 
+pub simple_by_step : (k : Key) (n : ℕ) (s : State) (r : Result Unit Refusal) (t : State) → StepsSimple k n s r t → EntersSimple k (Some n) s r t
+simple_by_step k n (Failed q) r t (e, f) = rw (e, f) (simple_refused (is_sized stays_failed))
+simple_by_step k n (Going b) (Ok u) t (r, f) = rw f (simple_entered (is_sized (is_entered r refl refl)))
+simple_by_step k n (Going b) (Err x) t (r, f) = rw f (simple_refused (is_sized (is_refused r)))
+
+pub simple_unsized : (k : Key) (s : State) (e : Refusal) (t : State) → t ≡ failed_with TooLarge s → HasFailed t e → EntersSimple k None s (Err e) t
+simple_unsized k s e t h i = simple_refused (unsized_by_refusal k s e t h i)
+
 pub leaves_by_left : (o : Bool) (s t : State) → t ≡ left o s → Leaves o s t
 leaves_by_left o (Failed r) t e = rw e leaves_failed
 leaves_by_left o (Going b) t e = rw e (leaves_going refl)
 
 -- The rules for the collector's own calls.
-pub ruleset steps = (leaves_by_left, is_sized, enters_by_step, shared_by_step, unsized_by_refusal)
+pub ruleset steps = (leaves_by_left, is_sized, enters_by_step, simple_by_step, simple_unsized, shared_by_step, unsized_by_refusal)

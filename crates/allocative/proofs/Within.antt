@@ -1,15 +1,15 @@
 -- One entry with what is inside it: the collector enters it, the same visitor enters what is inside, and the collector
 -- steps back.
-use Rattle.std.proofs.Common.{◌≡◌, ℕ, ◌+◌, ◌<◌, Bool, true, false, List, ◌∷◌, ◌++◌, take, drop, length, get_or, Option, Result, Ok, Err, IsErr, IfErr, refl, sym, ◌∙◌, ap, subst}
+use Rattle.std.proofs.Common.{◌≡◌, ℕ, ◌+◌, ◌<◌, Bool, true, false, List, ◌∷◌, ◌++◌, take, drop, length, get_or, Option, Some, Result, Ok, Err, IsErr, IfErr, refl, sym, ◌∙◌, ap, subst}
 use Rattle.std.proofs.lemmas.Bool.{false≢true}
 use Rattle.std.proofs.lemmas.List.{drop_more, take-append-drop}
 use Rattle.allocative_graph.specs.declared.refusal.Refusal.{Refusal}
 use Rattle.allocative_graph.specs.Path.{Key}
 use Rattle.allocative_graph.specs.Identity.{Identity}
 use Rattle.allocative_graph.specs.Collector.{State, left}
-use Rattle.allocative_graph.specs.Shows.{Showing, Nothing, Both, InsideAs, Field, sized, SharedWith, each_shows}
+use Rattle.allocative_graph.specs.Shows.{Showing, Nothing, Both, InsideAs, Inside, Field, sized, SharedWith, each_shows}
 use Rattle.allocative_graph.specs.Visits.{Shows, already, HasFailed, Enters, EntersSized, is_sized, EntersShared, Leaves}
-use Rattle.allocative.specs.Making.{Plan, Done, Entry, Makes, had_failed, inside_refused, KeepsCause, EntersFirst, first_refused, MakesOrGives, makes, gives, one}
+use Rattle.allocative.specs.Making.{EntersSimple, simple_refused, simple_entered, Plan, Done, Entry, Makes, had_failed, inside_refused, KeepsCause, EntersFirst, first_refused, MakesOrGives, makes, gives, one}
 use Rattle.allocative.specs.declared.visitor.Visitor.{Visitor}
 use Rattle.allocative.specs.Nested.{with_state}
 use Rattle.allocative.specs.Exact as refuses
@@ -47,11 +47,13 @@ pub entered_within_sized : {x : Bool} {p : Showing} {k : Key} {size : Option ℕ
 entered_within_sized (is_sized g) h e = entered_as (entered_within g h e) (record { means = λ f x. sized x; declared = λ i d. in_sized d })
 
 -- An entry with nothing inside it.
-pub entered_alone : {u x : Bool} {k : Key} {n : ℕ} {o : Bool} {a : Visitor} {t d : State} → Enters u k n a.collector.now (Ok o) t → d ≡ left o t → Entered x (InsideAs u k n Nothing) a (with_state a d) (Ok tt)
-entered_alone {a = a} {t = t} g e = entered_within g (entered_none (with_state a t) means_same) e
+pub entered_simple : {x : Bool} {k : Key} {n : ℕ} {a : Visitor} {t : State} {r : Result Unit Refusal} → EntersSimple k (Some n) a.collector.now r t → Entered x (Inside k n Nothing) a (with_state a t) r
+entered_simple (simple_refused (is_sized g)) = record { same_reference = refl; same_outer = refl; shown = not_entered g; cause = not_entered_cause g; rightly = λ y. rightly_not_within g }
+entered_simple {a = a} (simple_entered {t = t} (is_sized g)) = entered_within g (entered_none (with_state a t) means_same) refl
 
-pub entered_alone_sized : {x : Bool} {k : Key} {size : Option ℕ} {o : Bool} {a : Visitor} {t d : State} → EntersSized k size a.collector.now (Ok o) t → d ≡ left o t → Entered x (Field k size Nothing) a (with_state a d) (Ok tt)
-entered_alone_sized {a = a} {t = t} g e = entered_within_sized g (entered_none (with_state a t) means_same) e
+pub entered_simple_sized : {x : Bool} {k : Key} {size : Option ℕ} {a : Visitor} {t : State} {r : Result Unit Refusal} → EntersSimple k size a.collector.now r t → Entered x (Field k size Nothing) a (with_state a t) r
+entered_simple_sized (simple_refused g) = record { same_reference = refl; same_outer = refl; shown = not_sized g; cause = not_sized_cause g; rightly = λ y. rightly_not_sized g }
+entered_simple_sized {a = a} (simple_entered {t = t} g) = entered_within_sized g (entered_none (with_state a t) means_same) refl
 
 -- An entry that is refused.
 pub not_within : {u x : Bool} {p : Showing} {k : Key} {n : ℕ} {a : Visitor} {t : State} {e : Refusal} (r : Result Unit Refusal) → IsErr r → e ≡ err_or e r → Enters u k n a.collector.now (Err e) t →

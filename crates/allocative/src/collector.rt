@@ -5,10 +5,10 @@ ghost use Rattle.std.specs.Prelude.{◌≡◌, ◌+◌, ◌<◌, ◌^◌, true, 
 ghost use Rattle.allocative_graph.specs.Collector.{State, Failed, Going, OfGraph, OfHeld, no_entries, nothing_held, enter, leave, begin, is_in_unique, failed_with, left, IsClosed, IsAtRoot};
 ghost use Rattle.allocative_graph.specs.Graph.{total};
 ghost use Rattle.allocative_graph.specs.Visits.{HasFailed, HasRoom, Refuses, Enters, EntersSized, EntersShared, Begins, Settles, Ends, IsProfile};
-ghost use Rattle.allocative.specs.Steps.{StepsIn, StepsInShared, IsHeldSum};
+ghost use Rattle.allocative.specs.Steps.{StepsIn, StepsSimple, StepsInShared, IsHeldSum};
 ghost use Rattle.allocative.specs.Kinds.{kind_of};
 ghost use Rattle.allocative.specs.Built.{as_graph};
-ghost use Rattle.allocative.specs.Making.{Makes, Done};
+ghost use Rattle.allocative.specs.Making.{Makes, Done, EntersSimple};
 
 use allocative_collectors::graph_collector::GraphCollector;
 use allocative_collectors::held_collector::HeldCollector;
@@ -61,6 +61,24 @@ impl Kind {
                 Ok(false)
             }
             Kind::Held(held) => held.enter(size, is_unique),
+        }
+    }
+
+    // One more inline entry with nothing inside it.
+    #[inline(always)]
+    fn enter_simple(&mut self, key: &Key, size: usize) -> Result<(), Refusal>
+        ensures ok { OnOk result (HasRoom false size (kind_of self.old)
+            × (kind_of self.new
+            ≡ leave (is_in_unique (kind_of self.old)) (enter false key.now size (kind_of self.old)))) }
+        ensures err { IfErr result (Refuses false size (kind_of self.old)) }
+    {
+        match self {
+            Kind::Graph(graph) => graph.enter_simple(key, size),
+            Kind::Held(held) => {
+                let outer = held.enter(size, false)?;
+                held.leave(outer);
+                Ok(())
+            }
         }
     }
 
@@ -166,6 +184,24 @@ impl Collector {
         }
     }
 
+    // One more inline entry with nothing inside it.
+    #[inline(always)]
+    fn enter_simple_by_cases(&mut self, key: &Key, size: usize) -> Result<(), Refusal>
+        ensures enters { StepsSimple key.now size self.old result self.new }
+        ensures cause { IfErr result (HasFailed self.new) }
+    {
+        if let Some(cause) = self.failed {
+            return Err(cause);
+        }
+        match self.kind.enter_simple(key, size) {
+            Ok(()) => Ok(()),
+            Err(refusal) => {
+                self.failed = Some(refusal);
+                Err(refusal)
+            }
+        }
+    }
+
     // One more shared entry. It returns whether the content is to be shown.
     fn open_shared_by_cases(
         &mut self,
@@ -218,6 +254,19 @@ impl Collector {
     {
         match size {
             Some(size) => self.open_entry(key, size),
+            None => Err(self.refuse(Refusal::TooLarge)),
+        }
+    }
+
+    /// One more inline entry of a declared size, with nothing inside it: it is entered and left at once. It is
+    /// `TooLarge` where there is no size.
+    #[inline(always)]
+    pub(crate) fn enter_simple(&mut self, key: Key, size: Option<usize>) -> Result<(), Refusal>
+        ensures enters { EntersSimple key size self.old result self.new }
+        ensures cause { IfErr result (HasFailed self.new) }
+    {
+        match size {
+            Some(size) => self.enter_simple_by_cases(&key, size),
             None => Err(self.refuse(Refusal::TooLarge)),
         }
     }

@@ -40,9 +40,7 @@ impl Visitor<'_> {
         ensures entered { Entered true (Field name size Nothing) self.old self.new result }
         ensures exact { MakesPlan (one name size) self.old self.new result }
     {
-        let outer = self.collector.open_sized(name, size)?;
-        self.collector.close_entry(outer);
-        Ok(())
+        self.collector.enter_simple(name, size)
     }
 
     /// One inline entry of the bytes of `count` items. It is `TooLarge` where `bytes_of` returns `None`.

@@ -302,9 +302,7 @@ impl Visitor<'_> {
         ensures entered { Entered true (Inside key size Nothing) self.old self.new result }
         ensures exact { MakesPlan (one key (Some size)) self.old self.new result }
     {
-        let outer = self.collector.open_entry(key, size)?;
-        self.collector.close_entry(outer);
-        Ok(())
+        self.collector.enter_simple(key, Some(size))
     }
 
     /// What an object shows. This is the only call through the `dyn`, whose clauses callers cite. It is exact where the

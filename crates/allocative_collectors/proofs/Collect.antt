@@ -262,5 +262,8 @@ module _ (t new : Listed) (met : List Identity) (current : ℕ) (places : List �
       root : path_at new 0 ≡ []
       root = (placed_added t new met current places rooted n ok k size u more node entered (mark_of u) (mark_is u)).root_path
 
+  pub stayed_simple : u ≡ false → live new met current places rooted ≡ leave_live (enter_live false k size (live t met current places rooted))
+  stayed_simple plain = live_added t new met current places rooted n ok k size u more node entered AsInline (sym plain)
+
   pub stayed : (i : Identity) → u ≡ false → live new met current places rooted ≡ enter_again k size i (live t met current places rooted)
   stayed i plain = live_added t new met current places rooted n ok k size u more node entered (AsShared i) (sym plain)

@@ -87,6 +87,20 @@ impl GraphCollector {
         Ok(())
     }
 
+    /// One more inline entry of `size` bytes under the key, with nothing inside it: no visitor goes there. The errors are
+    /// those of `enter`. An error changes nothing.
+    #[inline(always)]
+    pub fn enter_simple(&mut self, key: &Key, size: usize) -> Result<(), Refusal>
+        ensures ok { OnOk result ((entered self.old.sums + size < 2 ^ 63)
+            × (self.new ≡ leave_live (enter_live false key.now size self.old))) }
+        ensures err { IfErr result (Refuses false size (OfGraph self.old)) }
+        ensures kept { OnErr result (self.new ≡ self.old) }
+    {
+        let at = self.current;
+        add(&mut self.tree, &mut self.entered, at, key, size, false)?;
+        Ok(())
+    }
+
     /// One more inline entry of `size` bytes under the key: a pointer to the content with the identity `id`.
     ///
     /// It returns whether the identity is met for the first time. Then a visitor is open at the content, whose paths

@@ -1,0 +1,22 @@
+-- The tree has one more entry, and the current place stays.
+use Rattle.std.proofs.Common.{◌≡◌, ◌+◌, ◌<◌, ◌^◌, false, refl, subst}
+use Rattle.allocative_graph.specs.Forest.{AsInline}
+use Rattle.allocative_graph.specs.Sums.{entered}
+use Rattle.allocative_graph.specs.Collector.{Live, enter_live, leave_live}
+use Rattle.allocative_collectors.specs.Places.{live}
+use Rattle.allocative_collectors.proofs.Collect.{placed_added, fits_map, stayed_simple}
+use Rattle.allocative_collectors.proofs.graph_collector.GraphCollector.enter_simple.Goals as goal
+
+pub invariant_of-self-2 : goal.invariant_of-self-2
+invariant_of-self-2 c =
+    let i = c.self.inside in
+    placed_added i.tree c.add.new.tree i.met.keys i.current i.places.items i.is_rooted i.entered c.self.invariant c.args.key.now c.args.size false c.add.new.entered c.in_ok-add.field-0 c.in_ok-add.ensures.ok AsInline refl
+
+pub returns-clause-ok : goal.returns-clause-ok
+returns-clause-ok c =
+    let i = c.self.inside in
+    let ok = c.in_ok-add in
+    subst (λ (v : Live). (entered v.sums + c.args.size < 2 ^ 63) × (live c.add.new.tree i.met.keys i.current i.places.items i.is_rooted ≡ leave_live (enter_live false c.args.key.now c.args.size v))) c.self.view_is (
+      fits_map i.tree c.add.new.tree i.met.keys i.current i.places.items i.is_rooted i.entered c.self.invariant c.args.key.now c.args.size false c.add.new.entered ok.field-0 ok.ensures.ok,
+      stayed_simple i.tree c.add.new.tree i.met.keys i.current i.places.items i.is_rooted i.entered c.self.invariant c.args.key.now c.args.size false c.add.new.entered ok.field-0 ok.ensures.ok refl,
+    )
