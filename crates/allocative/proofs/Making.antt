@@ -9,11 +9,10 @@ use Rattle.allocative_graph.specs.Collector.{Kind, State, Failed, Going, left}
 use Rattle.allocative_graph.specs.Visits.{HasFailed, is_entered, EntersSized, is_sized, Leaves, leaves_failed, leaves_going}
 use Rattle.allocative.specs.Bodies.{are_shown_each}
 use Rattle.allocative.specs.Runs.{CountsRun}
-use Rattle.allocative.specs.Making.{Plan, Done, Entry, one, followed_by_plan, Makes, had_failed, made_none, made, entry_refused, inside_refused, EntersSimple, simple_refused, simple_entered, slice_plan, MakesOrGives, makes, gives, MakesRun, counted, in_turn}
+use Rattle.allocative.specs.Making.{Plan, Done, Entry, one, followed_by_plan, Makes, had_failed, made_none, made, entry_refused, inside_refused, slice_plan, MakesOrGives, makes, gives, MakesRun, counted, in_turn}
 use Rattle.allocative.specs.Kinds.{state_of}
 use Rattle.allocative.proofs.Closures.{err_or}
 use Rattle.allocative.proofs.Showing.{not_sized_cause, left_by}
-use Rattle.allocative.proofs.Steps.{leaves_by_left}
 
 -- ---- what was made goes on, and what was refused has failed
 abbrev pub is_going : State → Bool
@@ -38,20 +37,13 @@ pub failed_left : {o : Bool} {c d : State} {e : Refusal} → HasFailed c e → L
 failed_left {o} h l = left_by l ∙ ap (left o) h ∙ sym h
 
 -- ---- one entry
-nothing_inside : {k : Key} {size : Option ℕ} {s t : State} {o : Bool} (u : Unit) → EntersSized k size s (Ok o) t → Makes Done t (Ok u) t
+pub nothing_inside : {k : Key} {size : Option ℕ} {s t : State} {o : Bool} (u : Unit) → EntersSized k size s (Ok o) t → Makes Done t (Ok u) t
 nothing_inside u (is_sized (is_entered r f e)) = made_none
 
 pub makes_entry : {k : Key} {size : Option ℕ} {inside : Plan} {s t c d : State} {o q : Bool} {v x : Unit} → EntersSized k size s (Ok o) t → Makes inside t (Ok v) c → Leaves q c d → q ≡ o → Makes (Entry k size inside Done) s (Ok x) d
 makes_entry {c = c} {d = d} {x = x} g m l e =
     let l' = subst (λ q. Leaves q c d) e l in
     made g m l' (going_left x (goes_on m) l')
-
-pub makes_one : {k : Key} {size : Option ℕ} {s t d : State} {o q : Bool} {x : Unit} → EntersSized k size s (Ok o) t → Leaves q t d → q ≡ o → Makes (one k size) s (Ok x) d
-makes_one {x = x} g l e = makes_entry g (nothing_inside x g) l e
-
-pub makes_simple : {k : Key} {size : Option ℕ} {s t : State} {r : Result Unit Refusal} → EntersSimple k size s r t → Makes (one k size) s r t
-makes_simple (simple_refused g) = entry_refused g
-makes_simple (simple_entered {o = o} {t = t} g) = makes_one g (leaves_by_left o t (left o t) refl) refl
 
 pub makes_refused : {k : Key} {size : Option ℕ} {inside after : Plan} {s t : State} {e : Refusal} (r : Result Unit Refusal) → IsErr r → e ≡ err_or e r → EntersSized k size s (Err e) t → Makes (Entry k size inside after) s r t
 makes_refused (Ok u) h i g = absurd (false≢true h)

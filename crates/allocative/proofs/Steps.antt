@@ -7,7 +7,7 @@ use Rattle.allocative_graph.specs.Identity.{Identity}
 use Rattle.allocative_graph.specs.Collector.{Kind, OfGraph, OfHeld, State, Failed, Going, failed_with, left}
 use Rattle.allocative_graph.specs.Visits.{HasFailed, Enters, stays_failed, is_refused, is_entered, EntersSized, stays_unsized, is_unsized, is_sized, EntersShared, stays_shared, is_refused_shared, goes_past, enters_first, enters_again, Leaves, leaves_failed, leaves_going}
 use Rattle.allocative.specs.Steps.{StepsIn, StepsSimple, StepsInShared}
-use Rattle.allocative.specs.Making.{EntersSimple, simple_refused, simple_entered}
+use Rattle.allocative.specs.Making.{one, Makes, had_failed, made_none, made, entry_refused}
 
 pub enters_by_step : (u : Bool) (k : Key) (n : ℕ) (s : State) (r : Result Bool Refusal) (t : State) → StepsIn u k n s r t → Enters u k n s r t
 enters_by_step u k n (Failed q) r t (e, f) = rw (e, f) stays_failed
@@ -42,17 +42,18 @@ unsized_by_refusal k (Going b) e (Failed p) h i = rw (sym (same_cause p e i)) (i
 unsized_by_refusal k (Failed q) e (Going b) h i = absurd (going_not_failed b q h)
 unsized_by_refusal k (Going c) e (Going b) h i = absurd (going_not_failed b TooLarge h)
 
-pub simple_by_step : (k : Key) (n : ℕ) (s : State) (r : Result Unit Refusal) (t : State) → StepsSimple k n s r t → EntersSimple k (Some n) s r t
-simple_by_step k n (Failed q) r t (e, f) = rw (e, f) (simple_refused (is_sized stays_failed))
-simple_by_step k n (Going b) (Ok u) t (r, f) = rw f (simple_entered (is_sized (is_entered r refl refl)))
-simple_by_step k n (Going b) (Err x) t (r, f) = rw f (simple_refused (is_sized (is_refused r)))
+-- An entry with nothing inside it.
+pub made_by_step : (k : Key) (n : ℕ) (s : State) (r : Result Unit Refusal) (t : State) → StepsSimple k n s r t → Makes (one k (Some n)) s r t
+made_by_step k n (Failed q) r t (e, f) = rw (e, f) had_failed
+made_by_step k n (Going b) (Ok u) t (r, f) = rw f (made (is_sized (is_entered r refl refl)) (made_none {u = tt}) (leaves_going refl) made_none)
+made_by_step k n (Going b) (Err x) t (r, f) = rw f (entry_refused (is_sized (is_refused r)))
 
-pub simple_unsized : (k : Key) (s : State) (e : Refusal) (t : State) → t ≡ failed_with TooLarge s → HasFailed t e → EntersSimple k None s (Err e) t
-simple_unsized k s e t h i = simple_refused (unsized_by_refusal k s e t h i)
+pub unsized_by_cause : (k : Key) (s : State) (e : Refusal) (t : State) → t ≡ failed_with TooLarge s → HasFailed t e → Makes (one k None) s (Err e) t
+unsized_by_cause k s e t h i = entry_refused (unsized_by_refusal k s e t h i)
 
 pub leaves_by_left : (o : Bool) (s t : State) → t ≡ left o s → Leaves o s t
 leaves_by_left o (Failed r) t e = rw e leaves_failed
 leaves_by_left o (Going b) t e = rw e (leaves_going refl)
 
 -- The rules for the collector's own calls.
-pub ruleset steps = (leaves_by_left, is_sized, enters_by_step, simple_by_step, simple_unsized, shared_by_step, unsized_by_refusal)
+pub ruleset steps = (leaves_by_left, is_sized, enters_by_step, made_by_step, unsized_by_cause, shared_by_step, unsized_by_refusal)

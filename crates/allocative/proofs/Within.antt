@@ -6,17 +6,17 @@ use Rattle.std.proofs.lemmas.List.{drop_more, take-append-drop}
 use Rattle.allocative_graph.specs.declared.refusal.Refusal.{Refusal}
 use Rattle.allocative_graph.specs.Path.{Key}
 use Rattle.allocative_graph.specs.Identity.{Identity}
-use Rattle.allocative_graph.specs.Collector.{State, left}
+use Rattle.allocative_graph.specs.Collector.{State, Failed, Going, left}
 use Rattle.allocative_graph.specs.Shows.{Showing, Nothing, Both, InsideAs, Inside, Field, sized, SharedWith, each_shows}
-use Rattle.allocative_graph.specs.Visits.{Shows, already, HasFailed, Enters, EntersSized, is_sized, EntersShared, Leaves}
-use Rattle.allocative.specs.Making.{EntersSimple, simple_refused, simple_entered, Plan, Done, Entry, Makes, had_failed, inside_refused, KeepsCause, EntersFirst, first_refused, MakesOrGives, makes, gives, one}
+use Rattle.allocative_graph.specs.Visits.{Shows, already, HasFailed, Enters, EntersSized, is_sized, EntersShared, Leaves, leaves_going}
+use Rattle.allocative.specs.Making.{Plan, Done, Entry, Makes, had_failed, made_none, made, entry_refused, inside_refused, KeepsCause, EntersFirst, first_refused, MakesOrGives, makes, gives, one}
 use Rattle.allocative.specs.declared.visitor.Visitor.{Visitor}
 use Rattle.allocative.specs.Nested.{with_state}
 use Rattle.allocative.specs.Exact as refuses
 use Rattle.allocative.specs.Exact.{RefusesRightly}
 use Rattle.allocative.specs.Visited.{Entered, OnlyIf}
 use Rattle.allocative.proofs.Closures.{err_or}
-use Rattle.allocative.proofs.Making.{makes_entry, makes_failed, failed_left}
+use Rattle.allocative.proofs.Making.{goes_on, nothing_inside, makes_entry, makes_failed, failed_left}
 use Rattle.allocative.proofs.Exact.{rightly_within, rightly_not_within, rightly_not_sized, rightly_first, rightly_both, rightly_item, in_sized, rightly_content, rightly_not_shared, rightly_again, inexact}
 use Rattle.allocative.proofs.Meaning.{entered_as, entered_none, means_same}
 use Rattle.allocative.proofs.Showing.{shows_both, shows_both_err, shows_err, makes_keeps, entry_shows, entry_err, left_cause, left_by, not_shared, again_shows, not_entered, not_entered_cause, not_sized, not_sized_cause}
@@ -47,13 +47,20 @@ pub entered_within_sized : {x : Bool} {p : Showing} {k : Key} {size : Option ℕ
 entered_within_sized (is_sized g) h e = entered_as (entered_within g h e) (record { means = λ f x. sized x; declared = λ i d. in_sized d })
 
 -- An entry with nothing inside it.
-pub entered_simple : {x : Bool} {k : Key} {n : ℕ} {a : Visitor} {t : State} {r : Result Unit Refusal} → EntersSimple k (Some n) a.collector.now r t → Entered x (Inside k n Nothing) a (with_state a t) r
-entered_simple (simple_refused (is_sized g)) = record { same_reference = refl; same_outer = refl; shown = not_entered g; cause = not_entered_cause g; rightly = λ y. rightly_not_within g }
-entered_simple {a = a} (simple_entered {t = t} (is_sized g)) = entered_within g (entered_none (with_state a t) means_same) refl
+stays_in : {k : Key} {size : Option ℕ} {s : State} {o : Bool} {r : Refusal} → EntersSized k size s (Ok o) (Failed r) → ⊥
+stays_in g = false≢true (goes_on (nothing_inside tt g))
 
-pub entered_simple_sized : {x : Bool} {k : Key} {size : Option ℕ} {a : Visitor} {t : State} {r : Result Unit Refusal} → EntersSimple k size a.collector.now r t → Entered x (Field k size Nothing) a (with_state a t) r
-entered_simple_sized (simple_refused g) = record { same_reference = refl; same_outer = refl; shown = not_sized g; cause = not_sized_cause g; rightly = λ y. rightly_not_sized g }
-entered_simple_sized {a = a} (simple_entered {t = t} g) = entered_within_sized g (entered_none (with_state a t) means_same) refl
+pub entered_alone : {x : Bool} {k : Key} {n : ℕ} {a : Visitor} {t : State} {r : Result Unit Refusal} → Makes (one k (Some n)) a.collector.now r t → Entered x (Inside k n Nothing) a (with_state a t) r
+entered_alone had_failed = record { same_reference = refl; same_outer = refl; shown = already; cause = refl; rightly = λ y. refuses.had_failed }
+entered_alone {a = a} (made (is_sized g) (made_none {b = b}) (leaves_going e) made_none) = entered_within g (entered_none (with_state a (Going b)) means_same) (ap Going e)
+entered_alone (entry_refused (is_sized g)) = record { same_reference = refl; same_outer = refl; shown = not_entered g; cause = not_entered_cause g; rightly = λ y. rightly_not_within g }
+entered_alone (inside_refused g had_failed) = absurd (stays_in g)
+
+pub entered_alone_sized : {x : Bool} {k : Key} {size : Option ℕ} {a : Visitor} {t : State} {r : Result Unit Refusal} → Makes (one k size) a.collector.now r t → Entered x (Field k size Nothing) a (with_state a t) r
+entered_alone_sized had_failed = record { same_reference = refl; same_outer = refl; shown = already; cause = refl; rightly = λ y. refuses.had_failed }
+entered_alone_sized {a = a} (made g (made_none {b = b}) (leaves_going e) made_none) = entered_within_sized g (entered_none (with_state a (Going b)) means_same) (ap Going e)
+entered_alone_sized (entry_refused g) = record { same_reference = refl; same_outer = refl; shown = not_sized g; cause = not_sized_cause g; rightly = λ y. rightly_not_sized g }
+entered_alone_sized (inside_refused g had_failed) = absurd (stays_in g)
 
 -- An entry that is refused.
 pub not_within : {u x : Bool} {p : Showing} {k : Key} {n : ℕ} {a : Visitor} {t : State} {e : Refusal} (r : Result Unit Refusal) → IsErr r → e ≡ err_or e r → Enters u k n a.collector.now (Err e) t →

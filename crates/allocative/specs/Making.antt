@@ -3,7 +3,7 @@ use Rattle.std.specs.Prelude.{◌≡◌, ℕ, ◌-◌, Bool, true, false, List, 
 use Rattle.allocative_described.specs.Sizes.{size_product}
 use Rattle.allocative_graph.specs.declared.refusal.Refusal.{Refusal}
 use Rattle.allocative_graph.specs.Path.{Key}
-use Rattle.allocative_graph.specs.Collector.{Kind, State, Failed, Going, left}
+use Rattle.allocative_graph.specs.Collector.{Kind, State, Failed, Going}
 use Rattle.allocative_graph.specs.Visits.{EntersSized, Leaves}
 use Rattle.allocative.specs.Bodies.{are_shown_each}
 use Rattle.allocative.specs.Runs.{CountsRun}
@@ -34,12 +34,6 @@ pub data Makes : Plan → State → Result Unit Refusal → State → Type 0 whe
       → EntersSized k size s (Err e) t → Makes (Entry k size inside after) s (Err e) t
   inside_refused : {k : Key} {size : Option ℕ} {inside after : Plan} {s t c : State} {o : Bool} {e : Refusal}
       → EntersSized k size s (Ok o) t → Makes inside t (Err e) c → Makes (Entry k size inside after) s (Err e) c
-
--- What making one entry with nothing inside it does: the entry is refused as entering says; or it is entered and left.
-pub data EntersSimple (k : Key) (size : Option ℕ) (s : State) : Result Unit Refusal → State → Type 0 where
-  simple_refused : {e : Refusal} {t : State} → EntersSized k size s (Err e) t → EntersSimple k size s (Err e) t
-  simple_entered : {o : Bool} {t : State} {u : Unit} → EntersSized k size s (Ok o) t
-      → EntersSimple k size s (Ok u) (left o t)
 
 -- What a call that makes an entry of its own first does: the entry is refused as entering says, and nothing else is
 -- entered; or it is entered, and anything may follow.

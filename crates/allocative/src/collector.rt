@@ -8,7 +8,7 @@ ghost use Rattle.allocative_graph.specs.Visits.{HasFailed, HasRoom, Refuses, Ent
 ghost use Rattle.allocative.specs.Steps.{StepsIn, StepsSimple, StepsInShared, IsHeldSum};
 ghost use Rattle.allocative.specs.Kinds.{kind_of};
 ghost use Rattle.allocative.specs.Built.{as_graph};
-ghost use Rattle.allocative.specs.Making.{Makes, Done, EntersSimple};
+ghost use Rattle.allocative.specs.Making.{Makes, Done, one};
 
 use allocative_collectors::graph_collector::GraphCollector;
 use allocative_collectors::held_collector::HeldCollector;
@@ -262,7 +262,7 @@ impl Collector {
     /// `TooLarge` where there is no size.
     #[inline(always)]
     pub(crate) fn enter_simple(&mut self, key: Key, size: Option<usize>) -> Result<(), Refusal>
-        ensures enters { EntersSimple key size self.old result self.new }
+        ensures made { Makes (one key size) self.old result self.new }
         ensures cause { IfErr result (HasFailed self.new) }
     {
         match size {
