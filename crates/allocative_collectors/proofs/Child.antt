@@ -77,9 +77,9 @@ module _ (ns : List Shape) (ok : IsArena ns) (p : ℕ) (hp : p < length ns) (k :
   -- a node whose path is p's with the key has this parent and this key
   pub child_of : (i : ℕ) → 0 < i → i < length ns → path_at (sums ns) i ≡ path_at (sums ns) p ++ k ∷ [] → (parent_at ns i ≡ p) × (key_at ns i ≡ k)
   child_of i pos hi path =
-      let step = paths_at ns i pos hi (ok.parents i pos hi) in
+      let parent_before = ok.parents i pos hi in
+      let step = paths_at ns i pos hi parent_before in
       let parts = same_from_push _ _ _ _ (sym step ∙ (sym (path_sums ns i hi) ∙ (path ∙ ap (λ (x : Path). x ++ k ∷ []) (path_sums ns p hp)))) in
-      let parent_in = ok.parents i pos hi in
       (distinct ns ok (parent_at ns i) p (omega arith) hp parts.0, parts.1)
 
   -- the path of a key in a gap was not entered before
