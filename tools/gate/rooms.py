@@ -61,8 +61,8 @@ def link(folder: str, to: str) -> None:
 class Rooms:
     """The copies of one run. `base` has the crates as they stand, with the libraries that were built there."""
 
-    def __init__(self, top: str, work: str, jobs: int) -> None:
-        self.work, self.base = work, os.path.join(work, "base")
+    def __init__(self, top: str, work: str, jobs: int, logs: str | None = None) -> None:
+        self.work, self.base, self.logs = work, os.path.join(work, "base"), logs
         self.libraries = libraries_of(top)
         self.lanes = threading.Semaphore(jobs)
         self.seconds = 0.0
@@ -105,8 +105,11 @@ class Rooms:
             return self.built[crate]
 
     def check(self, crate: str, lines: dict[tuple[str, int], str], start: str | None) -> tuple[Check, str]:
-        """Checks a crate with other lines, begun with what the checks in the folder start kept. Returns the folder of this check too."""
-        room = f"{self.work}/room-{next(self.numbers)}"
+        """Checks a crate with other lines, begun with what the checks in the folder start kept. Returns the folder of this check too.
+
+        Where there is a folder for logs, what the check printed is written there."""
+        number = next(self.numbers)
+        room = f"{self.work}/room-{number}"
         names = below(self.libraries, crate)
         self.lay(self.base, room, [*names, crate])
         for name in names:
@@ -120,7 +123,11 @@ class Rooms:
             changed = {at: line for (of, at), line in lines.items() if of == file}
             with open(f"{folder}/{file}", "w", encoding="utf-8") as source:
                 source.write("\n".join(changed.get(at, line) for at, line in enumerate(text)))
-        return self.run(["rt", "check", "--jobs", "1"], folder), folder
+        check = self.run(["rt", "check", "--jobs", "1"], folder)
+        if self.logs:
+            with open(f"{self.logs}/{crate}-{number}", "w", encoding="utf-8") as log:
+                log.write(check.output)
+        return check, folder
 
     def clear(self, folder: str) -> None:
         """Removes the room of a check."""

@@ -28,9 +28,14 @@ class Judging(unittest.TestCase):
         error = "./proofs/tree/Tree/add/Answers.antt:7:5: error: `returns`: as printed, the two types differ\n"
         self.assertEqual(self.kind(error + "fn graph::tree::Tree::add: not proved"), Kind.REFUSED)
 
-    def test_a_name_that_the_edit_took_away(self) -> None:
-        error = "./proofs/tree/Tree/add/Answers.antt:7:5: error: `returns`: record `Given` has no field `sum`\n"
-        self.assertEqual(self.kind(error + "fn graph::tree::Tree::add: not proved"), Kind.AT_NAMES)
+    def test_a_name_that_is_not_there_says_nothing_among_others(self) -> None:
+        text = "./proofs/tree/Tree/add/Answers.antt:7:5: error: `returns`: record `Given` has no field `sum`\nfn graph::tree::Tree::add: not proved"
+        self.assertIsNone(self.kind(text))
+        self.assertEqual(judge_alone(Check(1, text + END), EDIT).kind, Kind.AT_NAMES)
+
+    def test_a_declaration_below_one_that_was_not_admitted_says_nothing(self) -> None:
+        error = "./proofs/tree/Tree/add/Proof.antt:7:5: error: 1 declaration that depends on `met`, which was not admitted, was not checked: add_spec\n"
+        self.assertIsNone(self.kind(error + "fn graph::tree::Tree::add: not proved"))
 
     def test_a_callee_that_is_not_proved_says_nothing(self) -> None:
         self.assertIsNone(self.kind("fn graph::tree::Tree::add: no proof: it calls `graph::tree::Tree::child`, which is not proved"))

@@ -121,7 +121,10 @@ def unread(check: Check, edit: Edit) -> str:
 
 
 def judge(check: Check, edit: Edit) -> Verdict | None:
-    """Returns what a check says of an edit that it tried with edits of other functions, by its own function's lines, or None where they say nothing."""
+    """Returns what a check says of an edit that it tried with edits of other functions, by its own function's lines.
+
+    None where these say nothing: where the function is proved, or rests on a function that is not, or its proof names what is
+    not there, which another edit may have taken away."""
     why = unread(check, edit)
     if why:
         return Verdict(Kind.BAD, why)
@@ -133,9 +136,7 @@ def judge(check: Check, edit: Edit) -> Verdict | None:
     proper = [it for it in errors if not NAMES.search(re.sub(r"`[^`]*`: ", "", it.text, count=1))]
     if goals:
         return Verdict(Kind.REFUSED, "at " + "; ".join(where(check, function, it) for it in goals[:2]))
-    if proper:
-        return Verdict(Kind.REFUSED, f"at {proper[0].text}")
-    return Verdict(Kind.AT_NAMES, errors[0].text) if errors else None
+    return Verdict(Kind.REFUSED, f"at {proper[0].text}") if proper else None
 
 
 def judge_alone(check: Check, edit: Edit) -> Verdict:
@@ -149,8 +150,9 @@ def judge_alone(check: Check, edit: Edit) -> Verdict:
         goals = [f"{file}:{line}: {what} ({goal})" for file, line, what, goal in check.notes]
         texts = [it.text for it in check.errors if not NAMES.search(it.text)]
         said = goals + texts
+        own = [f"{name}: {line}" for name, line in check.functions.items() if not re.match("proved|no proof: it calls", line)]
         if said or not check.errors:
-            return Verdict(Kind.REFUSED, f"at {said[0]}" if said else "")
+            return Verdict(Kind.REFUSED, f"at {(said or own or [''])[0]}")
         return Verdict(Kind.AT_NAMES, check.errors[0].text)
     if check.status == 3 and LIMIT.search(check.output):
         return Verdict(Kind.AT_LIMIT, LIMIT.search(check.output)[0])
