@@ -1,5 +1,5 @@
 //! The paths that were entered, as an arena of nodes that refer to one another by number.
-ghost use Rattle.std.specs.Prelude.{◌≡◌, ◌+◌, ◌^◌, ◌<◌, ◌≤◌, ℕ, [], ◌∷◌, length, map, slice_index, EachIndex, IfOk, IfErr, IfSome, IfNone, OnOk, OnErr, IsTrue, ◌↔◌, false};
+ghost use Rattle.std.specs.Prelude.{◌≡◌, ◌+◌, ◌^◌, ◌<◌, ◌≤◌, ℕ, [], ◌∷◌, ◌++◌, length, map, slice_index, EachIndex, IfOk, IfErr, IfSome, IfNone, OnOk, OnErr, IsTrue, ◌↔◌, false};
 ghost use Rattle.allocative_graph.specs.Graph.{total as graph_total};
 ghost use Rattle.allocative_graph.specs.Visits.{IsProfile};
 ghost use Rattle.allocative_collectors.specs.Listed.{root_sum, add, total, path_at, map_of, IsEntered, IsAbove};
@@ -147,11 +147,7 @@ impl Tree {
         let mut graph = FlameGraph::with_capacity(self.alloc, node.children.len())?;
         graph.add_self(self.size(at))?;
         if self.is_short(at) {
-            warned.push(WarnedPath {
-                path: keys.clone()?,
-                self_size: node.bytes,
-                children_size: node.below,
-            })?;
+            push_warned(keys.as_slice(), node.bytes, node.below, warned)?;
         }
         for &child in node.children.as_slice() {
             let key = &self.nodes[child as usize].key;
@@ -347,4 +343,25 @@ fn find(nodes: &[Node], children: &[u32], key: &Key) -> Result<usize, usize>
         }
     }
     Err(low)
+}
+
+/// Appends the path `keys`, which has a warning, with its own bytes and those one key below. It is no part of the walk's
+/// own function, so that a level of the walk takes less of the stack.
+#[inline(never)]
+fn push_warned(
+    keys: &[&'static str],
+    bytes: usize,
+    below: usize,
+    warned: &mut Vec<WarnedPath>,
+) -> Result<(), AllocError>
+    ensures { OnOk result (map seen warned.new.items ≡ map seen warned.old.items
+        ++ record { path = map (λ k. k.now) keys.now; self_size = bytes; children_size = below } ∷ []) }
+{
+    let path = Vec::from_slice(*warned.allocator(), keys)?;
+    warned.push(WarnedPath {
+        path,
+        self_size: bytes,
+        children_size: below,
+    })?;
+    Ok(())
 }

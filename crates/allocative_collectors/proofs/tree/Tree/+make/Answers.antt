@@ -2,7 +2,6 @@
 use Rattle.std.proofs.Common.{◌≡◌, ◌-◌, ◌+◌, ◌<◌, ℕ, List, [], ◌∷◌, ◌++◌, map, length, get_or, Bor, Vec, Global, arith, sym, ap, subst, ◌∙◌, refl, Err}
 use Rattle.std.specs.Prelude.{IfErr, IsErrOf, ◌↔◌, ◌^◌, ◌≤◌}
 use Rattle.std.proofs.lemmas.List.{map-append, append-nil}
-use Rattle.std.proofs.lemmas.List.Elements.{same_from_all_zip}
 use Rattle.std.proofs.lemmas.Bool.{cond-true, cond-false}
 use Rattle.allocative_graph.specs.Path.{Key, Path}
 use Rattle.allocative_graph.specs.Graph.{Warned, under, sum_of, default, total}
@@ -22,7 +21,7 @@ use Rattle.allocative_graph.proofs.NodeText.{popped, texts}
 use Rattle.allocative_graph.specs.declared.refusal.Refusal.{Refusal}
 use Rattle.allocative_graph.specs.declared.refusal.Refusal.TheVariants.{Memory, TooLarge, Open}
 use Rattle.allocative_collectors.proofs.tree.Tree.+make.Goals as goal
-use Rattle.allocative_collectors.proofs.tree.Tree.+make.Goals.{then-is_short+in_ok-clone+in_ok-push, else-is_short, After-index}
+use Rattle.allocative_collectors.proofs.tree.Tree.+make.Goals.{then-is_short+in_ok-push_warned, else-is_short, After-index}
 
 pub index-node-requires : goal.index-node-requires
 index-node-requires t c =
@@ -73,15 +72,12 @@ loop-child-init t c =
     let own : List Warned = says (path_at v i) (let e = sum_at v i in e.bytes) (below (map_of v) (path_at v i)) in
     let found : map seen c.if-is_short.warned.items ≡ start ++ warned_at v i =
     elim c.if-is_short.branch [
-      | then-is_short+in_ok-clone+in_ok-push w ↦
-          (let copied : w.in_ok-clone.field-0.items ≡ c.args.keys.now.items = same_from_all_zip _ _ _ w.in_ok-clone.ensures.cases.0 (λ x y e. e) in
-          let row : WarnedPath = record { path = w.in_ok-clone.field-0; self_size = n.bytes; children_size = n.below } in
-          let keys : texts w.in_ok-clone.field-0.items ≡ path_at v i = ap texts copied ∙ c.requires.keys in
+      | then-is_short+in_ok-push_warned w ↦
+          (let keys : texts w.as_slice.result.now ≡ path_at v i = ap texts w.as_slice.ensures.value ∙ c.requires.keys in
           ap (λ (x : Vec WarnedPath Global). map seen x.items) w.warned-is
-          ∙ (ap (map seen) w.in_ok-push.ensures.items
-          ∙ (map-append seen c.args.warned.now.items (row ∷ [])
+          ∙ (w.in_ok-push_warned.ensures
           ∙ ((λ j. start ++ says (keys j) (sym bytes j) (sym under j))
-          ∙ ap (λ (l : List Warned). start ++ l) (sym (cond-true (is_short v i) own [] (sym w.if-is_short.ensures)))))))
+          ∙ ap (λ (l : List Warned). start ++ l) (sym (cond-true (is_short v i) own [] (sym w.if-is_short.ensures))))))
       | else-is_short w ↦
           ap (λ (x : Vec WarnedPath Global). map seen x.items) w.warned-is
           ∙ (sym (append-nil start)
@@ -95,8 +91,8 @@ make-requires t c =
     let there = child t here in
     let d : length c.args.self.now - c.args.at ≡ t = c.decreases in
     let lt : length c.args.self.now - number t here < t = omega (arith, there.0, there.1) in
-    let pushed : c.push-in-loop-child.new.self.items ≡ c.loop-child.keys.items ++ c.as_str.result ∷ [] = c.in_ok-push-2.ensures.items in
-    let keys : map (λ (k : Bor (List ℕ)). k.now) c.push-in-loop-child.new.self.items ≡ path_at c.args.self.now (number t here) =
+    let pushed : c.push.new.self.items ≡ c.loop-child.keys.items ++ c.as_str.result ∷ [] = c.in_ok-push.ensures.items in
+    let keys : map (λ (k : Bor (List ℕ)). k.now) c.push.new.self.items ≡ path_at c.args.self.now (number t here) =
     ap (map (λ (k : Bor (List ℕ)). k.now)) pushed
     ∙ (map-append (λ (k : Bor (List ℕ)). k.now) c.loop-child.keys.items (c.as_str.result ∷ [])
     ∙ ((λ j. (ap (map (λ (k : Bor (List ℕ)). k.now)) c.loop-child.invariant.keys ∙ c.requires.keys) j ++ (c.as_str.ensures ∙ key t here) j ∷ []) ∙ sym there.2)) in
@@ -125,7 +121,7 @@ loop-child-preserved t c =
     let xs = c.as_slice-child-items.result.now in
     let ks = keys_of (map shape c.self.inside.nodes.items) xs in
     let j = c.loop-child.child-index in
-    let pushed : c.push-in-loop-child.new.self.items ≡ c.loop-child.keys.items ++ c.as_str.result ∷ [] = c.in_ok-push-2.ensures.items in
+    let pushed : c.push.new.self.items ≡ c.loop-child.keys.items ++ c.as_str.result ∷ [] = c.in_ok-push.ensures.items in
     let kept : c.pop.new.self.items ≡ c.args.keys.now.items = popped c.loop-child.keys.items c.make.new.keys.items c.pop.new.self.items c.as_str.result _ c.pop.ensures.rest c.make.new.keys.ok.0 (c.in_ok-below.ensures.keys ∙ pushed) ∙ c.loop-child.invariant.keys in
     let rise = keys_rise c.self.inside.nodes.items c.self.invariant v c.self.view_is c.args.at c.requires.within c.index-node.result.now c.index-node.ensures xs c.as_slice-child-items.ensures in
     let inside : j < length ks = omega (arith, c.loop-child-test.true, length-keys_of (map shape c.self.inside.nodes.items) xs) in
