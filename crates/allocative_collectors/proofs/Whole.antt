@@ -10,13 +10,13 @@ use Rattle.std.proofs.lemmas.List.{append-nil}
 use Rattle.allocative_graph.specs.Path.{Path, path_cmp, is_same_path}
 use Rattle.allocative_graph.specs.Format.{newline}
 use Rattle.allocative_graph.specs.Sums.{Sums, Node, below}
-use Rattle.allocative_graph.specs.Graph.{Warned, is_root, warned, warned_paths, warning, warning_line, warnings}
+use Rattle.allocative_graph.specs.Graph.{Warned, is_root, warned, warned_paths, warning, warning_line, warning_text, warnings}
 use Rattle.allocative_graph.proofs.Basics.{same_path}
 use Rattle.allocative_graph.proofs.Listing.{entries_are}
 use Rattle.allocative_collectors.specs.Listed.{Listed, sum_at, path_at, row, map_of}
 use Rattle.allocative_collectors.specs.Finishing.{warned_at}
 use Rattle.allocative_collectors.specs.Walks.{IsWalk, StandsIn}
-use Rattle.allocative_collectors.specs.Warned.{warning_text, warning_lines}
+use Rattle.allocative_collectors.specs.Warned.{warning_lines}
 use Rattle.allocative_collectors.proofs.Bridge.{IsListing, get_at, got}
 use Rattle.allocative_collectors.proofs.Orders.{same_path-same}
 

@@ -1,17 +1,12 @@
 -- Paths that have a warning, as contracts see them, and the text of their warnings.
-use Rattle.std.specs.Prelude.{ℕ, List, [], ◌∷◌, ◌++◌, map, flat_map, codes, decimal}
+use Rattle.std.specs.Prelude.{ℕ, List, [], ◌∷◌, ◌++◌, map, flat_map}
 use Rattle.allocative_graph.specs.Format.{newline}
-use Rattle.allocative_graph.specs.Graph.{Warned, joined}
+use Rattle.allocative_graph.specs.Graph.{Warned, warning_text}
 use Rattle.allocative_collectors.specs.declared.output.WarnedPath.{WarnedPath}
 
 -- The path and the two figures of a value of code.
 abbrev pub seen : WarnedPath → Warned
 seen w = record { path = map (λ k. k.now) w.path.items; self_size = w.self_size; children_size = w.children_size }
-
--- The warning of a path, without a line feed.
-abbrev pub warning_text : Warned → List ℕ
-warning_text w = codes "Incorrect size declaration for node `" ++ joined w.path ++ codes "`, size of self: "
-    ++ decimal w.self_size ++ codes ", size of inline children: " ++ decimal w.children_size
 
 -- The warnings of some paths, each with a line feed.
 abbrev pub warning_lines : List Warned → List ℕ

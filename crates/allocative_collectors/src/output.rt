@@ -19,7 +19,8 @@ pub struct WarnedPath {
 }
 
 impl WarnedPath {
-    ghost use Rattle.allocative_collectors.specs.Warned.{seen, warning_text};
+    ghost use Rattle.allocative_graph.specs.Graph.{warning_text};
+    ghost use Rattle.allocative_collectors.specs.Warned.{seen};
 
     /// Appends the warning of the path, without a line feed. The only error is that memory runs out; then the text may
     /// have a part of it.

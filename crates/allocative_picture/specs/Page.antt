@@ -1,7 +1,6 @@
 -- The parts of a picture around its boxes.
 use Rattle.std.specs.Prelude.{ℕ, ◌+◌, cond, max, List, [], ◌∷◌, ◌++◌, fold, flat_map, codes, decimal}
-use Rattle.allocative_graph.specs.Graph.{Warned}
-use Rattle.allocative_collectors.specs.Warned.{warning_text}
+use Rattle.allocative_graph.specs.Graph.{Warned, warning_text}
 use Rattle.allocative_picture.specs.Escape.{escaped}
 use Rattle.allocative_picture.specs.Figures.{bytes_text}
 use Rattle.allocative_picture.specs.Rows.{Seen}
