@@ -174,6 +174,9 @@ class Source:
         return found
 
     def writer(self, definition: Definition, names: list[str]) -> Writer:
+        if definition.is_enum and len(definition.variants) == 1 and (names or len(definition.members) > 2):
+            what = "that holds itself" if names else "with more than two fields"
+            raise Fault(definition.line, f"an enum of one variant {what}: write it as a struct")
         if not names:
             return Writer(definition, self.scope, self.place, self.options.is_inline)
         types = [each for each in self.wanted if each.name in names]

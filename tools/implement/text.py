@@ -323,7 +323,8 @@ class Writer:
         arms = "".join(self.word_arm(variant, name) for variant, name in zip(self.definition.variants, cases))
         text += f"    ghost may_show = {{ λ x. {self.own_entry(f' (elim x [{chr(10)}{arms}    ])')} }};\n\n" + self.is_exact(self.members)
         rules = RULES + (", exact" if self.parameters and self.flags else "")
-        self.answer("visit", [f"returns-in-{variant.name}" for variant in self.definition.variants], rules)
+        if len(cases) > 1:
+            self.answer("visit", [f"returns-in-{variant.name}" for variant in self.definition.variants], rules)
         return text + self.visit(self.arms())
 
     def arms(self) -> str:

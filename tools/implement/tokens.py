@@ -51,6 +51,7 @@ class Tokens:
         self.words: list[str] = []
         self.starts: list[int] = []
         self.directives: list[Directive] = []
+        self.said_at: list[int] = []
         self.partner: dict[int, int] = {}
         self.count = 0
         self.newlines = [found.start() for found in re.finditer("\n", text)]
@@ -75,8 +76,8 @@ class Tokens:
 
     def said_between(self, start: int, end: int) -> Directive | None:
         """The last comment that speaks of allocative between two offsets."""
-        place = bisect_left(self.directives, end, key=lambda each: each.start) - 1
-        return self.directives[place] if place >= 0 and self.directives[place].start >= start else None
+        place = bisect_left(self.said_at, end) - 1
+        return self.directives[place] if place >= 0 and self.said_at[place] >= start else None
 
     def _read(self) -> None:
         scan = TOKEN.scanner(self.text)
@@ -116,6 +117,7 @@ class Tokens:
         if said:
             before = self.text.rfind("\n", 0, start) + 1
             is_line = not self.text[before:start].strip()
+            self.said_at.append(start)
             self.directives.append(Directive(start, end, said.group(1), len(self._open), is_line))
 
     def _block_end(self, start: int) -> int:

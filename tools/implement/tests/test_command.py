@@ -91,6 +91,12 @@ class CommandTest(unittest.TestCase):
         self.assertIn("#[cycle(NAME)]", self.run_it(two)[2][0])
         self.assertIn("holds the type itself in a way", self.run_it("#[derive(Drop)]\nstruct A {\n    a: VecDeque<A>,\n}\n")[2][0])
 
+    def test_enums_of_one_variant(self) -> None:
+        self.assertEqual(self.run_it("#[derive(Drop)]\nenum E {\n    A(u8, String),\n}\n")[0], 0)
+        self.assertFalse(os.path.exists(self.path("proofs/a/shown/EAllocative")))
+        self.assertIn("write it as a struct", self.run_it("#[derive(Drop)]\nenum E {\n    A(u8, u8, u8),\n}\n")[2][0])
+        self.assertIn("write it as a struct", self.run_it("#[derive(Drop)]\nenum E {\n    A(Vec<E>),\n}\n")[2][0])
+
     def test_paths_of_the_module_itself(self) -> None:
         text = POINT + "#[derive(Drop)]\nstruct A {\n    a: Vec<self::Point>,\n    // allocative: skip\n    b: super::B,\n}\n"
         self.assertIn("type ALayout = Record<(Vec<Point>, ([String; 0], ()))>;", self.run_it(text)[1])
