@@ -174,8 +174,9 @@ class Source:
         return found
 
     def writer(self, definition: Definition, names: list[str]) -> Writer:
-        if definition.is_enum and len(definition.variants) == 1 and (names or len(definition.members) > 2):
-            what = "that holds itself" if names else "with more than two fields"
+        is_hard = definition.parameters and len(definition.members) > 2
+        if definition.is_enum and len(definition.variants) == 1 and (names or is_hard):
+            what = "that holds itself" if names else "with parameters and more than two fields"
             raise Fault(definition.line, f"an enum of one variant {what}: write it as a struct")
         if not names:
             return Writer(definition, self.scope, self.place, self.options.is_inline)

@@ -323,7 +323,9 @@ class Writer:
         arms = "".join(self.word_arm(variant, name) for variant, name in zip(self.definition.variants, cases))
         text += f"    ghost may_show = {{ λ x. {self.own_entry(f' (elim x [{chr(10)}{arms}    ])')} }};\n\n" + self.is_exact(self.members)
         rules = RULES + (", exact" if self.parameters and self.flags else "")
-        if len(cases) > 1:
+        if len(cases) == 1 and self.members and not self.definition.parameters:
+            self.single_answer(self.definition.variants[0], cases[0])
+        elif len(cases) > 1:
             self.answer("visit", [f"returns-in-{variant.name}" for variant in self.definition.variants], rules)
         return text + self.visit(self.arms())
 
@@ -390,13 +392,27 @@ class Writer:
             proofs.append((goal, given, f"rw c.{case}.is (search ({rules}))" if case else f"search ({rules})"))
         self.answer_file(path, rules, proofs)
 
+    def single_answer(self, variant: Variant, case: str) -> None:
+        """The answer for an enum of one variant, which states that each value is of that variant."""
+        names = letters(len(variant.members))
+        uses = "use Rattle.allocative.proofs.Meaning.{visited_as}\n"
+        uses += f"use {self.place.declared(self.name)}.{{{self.name}}}\n"
+        uses += f"use {self.place.declared(self.name)}.TheVariants.{{{variant.name if case == variant.name else f'{variant.name} as {case}'}}}\n"
+        lemma = f"is-{case} : (x : {self.name}) → {' × '.join(f'({name} : _)' for name in names)} × (x ≡ {case} {' '.join(names)})\n"
+        lemma += f"is-{case} ({case} {' '.join(names)}) = ({', '.join(names)}, refl)\n"
+        proof = f"\n    let is = (is-{case} c.args.self.now).{len(names)} in\n"
+        proof += f"    rw is (visited_as (rw is at c.enter.ensures) (search ({RULES})))"
+        path = (*self.place.text, f"{self.name}Allocative", "visit")
+        self.answer_file(path, RULES, [("returns", "c", proof)], uses, "◌≡◌, refl, rules", lemma)
+
     def answer_file(
-        self, path: tuple[str, ...], rules: str, proofs: list[tuple[str, str, str]], uses: str = "", common: str = "rules"
+        self, path: tuple[str, ...], rules: str, proofs: list[tuple[str, str, str]], uses: str = "", common: str = "rules", lemma: str = ""
     ) -> None:
         """Keeps the file of a folder of proofs: each goal, what it is given, and what proves it."""
         text = f"{MARK}\nuse Rattle.std.proofs.Common.{{{common}}}\n{uses}"
         text += f"use Rattle.allocative.proofs.Parts.{{{rules.removeprefix('rules, ')}}}\n"
         text += f"use {'.'.join(('Rattle', self.place.crate, 'proofs', *path, 'Goals'))} as goal\n"
+        text += f"\n{lemma}" if lemma else ""
         for goal, given, proof in proofs:
             text += f"\npub {goal} : goal.{goal}\n{goal} {given} ={'' if proof.startswith(chr(10)) else ' '}{proof}\n"
         self.out.answers["/".join(path)] = text

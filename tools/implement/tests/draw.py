@@ -74,7 +74,7 @@ class Drawing:
         is_recursive &= many > 1
         for number in range(many):
             count = self.chance.choice((0, 0, 1, 1, 1, 2, 2, 3, 3, 4, 5, 8))
-            count = count if many > 1 else min(count, 2)
+            count = count if many > 1 or not is_generic else min(count, 2)
             fields = self.fields(count, name, self.chance.random() < 0.4, is_generic, is_recursive)
             variants.append(f"Case{number}{fields}")
         body = ", ".join(variants)

@@ -93,8 +93,9 @@ class CommandTest(unittest.TestCase):
 
     def test_enums_of_one_variant(self) -> None:
         self.assertEqual(self.run_it("#[derive(Drop)]\nenum E {\n    A(u8, String),\n}\n")[0], 0)
-        self.assertFalse(os.path.exists(self.path("proofs/a/shown/EAllocative")))
-        self.assertIn("write it as a struct", self.run_it("#[derive(Drop)]\nenum E {\n    A(u8, u8, u8),\n}\n")[2][0])
+        answer = self.get("proofs/a/shown/EAllocative/visit/Answers.antt")
+        self.assertIn("is-A : (x : E) → (a : _) × (b : _) × (x ≡ A a b)\nis-A (A a b) = (a, b, refl)\n", answer)
+        self.assertIn("write it as a struct", self.run_it("#[derive(Drop)]\nenum E<T> {\n    A(T, u8, u8),\n}\n")[2][0])
         self.assertIn("write it as a struct", self.run_it("#[derive(Drop)]\nenum E {\n    A(Vec<E>),\n}\n")[2][0])
 
     def test_paths_of_the_module_itself(self) -> None:
