@@ -174,6 +174,9 @@ class Source:
         return found
 
     def writer(self, definition: Definition, names: list[str]) -> Writer:
+        if definition.names("type") and any(len(variant.members) > 13 for variant in definition.variants):
+            what = "more than 13 fields in a type with parameters, more than the checker takes"
+            raise Fault(definition.line, f"{what}: put some of them into a struct of their own")
         is_hard = definition.parameters and len(definition.members) > 2
         if definition.is_enum and len(definition.variants) == 1 and (names or is_hard):
             what = "that holds itself" if names else "with parameters and more than two fields"
