@@ -18,7 +18,7 @@ use Rattle.allocative_json.specs.Lines.{asked_text}
 use Rattle.allocative_json.specs.Profile.{both_show, roots_show, IsRightReport, RefusesReport}
 use Rattle.allocative_json.specs.Roots.{IsWholeDocument, IsIndexIf}
 use Rattle.allocative_json.specs.Run.{MayEndRun}
-use Rattle.allocative_json.specs.Arguments.{Argument, AreArguments}
+use Rattle.allocative_json.specs.Words.{Word, AreWords}
 
 profile_weaker : (p q : Showing) (o : Profile) → ((f : Forest) → p f → q f) → IsProfileOf p o → IsProfileOf q o
 profile_weaker p q o up h = record {
@@ -116,16 +116,16 @@ read_so : (known : Option (List ℕ)) (input : List ℕ) (P : List ℕ → Type 
 read_so None input P e h = tt
 read_so (Some bytes) input P e h = subst P e h
 
-refuses_so : (texts : List Argument) (known : Option (List ℕ)) (input : List ℕ) (f : Fault) → AreArguments texts → IfSome known (λ bytes. input ≡ bytes) → RefusesReport input f → MayEndRun texts known f
+refuses_so : (texts : List Word) (known : Option (List ℕ)) (input : List ℕ) (f : Fault) → AreWords texts → IfSome known (λ bytes. input ≡ bytes) → RefusesReport input f → MayEndRun texts known f
 refuses_so texts known input Memory w e h = (w, read_so known input (λ bytes. RefusesReport bytes Memory) e h)
 refuses_so texts known input NotJson w e h = (w, read_so known input (λ bytes. RefusesReport bytes NotJson) e h)
 refuses_so texts known input NotWhole w e h = (w, read_so known input (λ bytes. RefusesReport bytes NotWhole) e h)
 refuses_so texts known input TooLarge w e h = (w, read_so known input (λ bytes. RefusesReport bytes TooLarge) e h)
 refuses_so texts known input Open w e h = (w, read_so known input (λ bytes. RefusesReport bytes Open) e h)
-refuses_so texts known input fault.Arguments w e h = absurd h
+refuses_so texts known input fault.Words w e h = absurd h
 refuses_so texts known input Reading w e h = absurd h
 refuses_so texts known input Writing w e h = absurd h
 
-pub refuses_run : {T : Type 0} (texts : List Argument) (known : Option (List ℕ)) (input : List ℕ) (r : Result T Fault) → AreArguments texts → IfSome known (λ bytes. input ≡ bytes) → IfErr r (RefusesReport input) → IfErr r (MayEndRun texts known)
+pub refuses_run : {T : Type 0} (texts : List Word) (known : Option (List ℕ)) (input : List ℕ) (r : Result T Fault) → AreWords texts → IfSome known (λ bytes. input ≡ bytes) → IfErr r (RefusesReport input) → IfErr r (MayEndRun texts known)
 refuses_run texts known input (Ok x) w e h = tt
 refuses_run texts known input (Err f) w e h = refuses_so texts known input f w e h

@@ -5,4 +5,4 @@ pub mod Numbers
 pub mod Profile
 pub mod Roots
 pub mod Run
-pub mod Arguments
+pub mod Words

@@ -6,7 +6,7 @@ use Rattle.allocative.specs.Shows.{Showing, Nothing, Both, Inside, Field, each_s
 use Rattle.allocative.specs.Visits.{Profile, IsProfileOf}
 use Rattle.allocative.specs.JsonShows.{value_shows}
 use Rattle.allocative_json.specs.declared.fault.Fault.{Fault}
-use Rattle.allocative_json.specs.declared.fault.Fault.TheVariants.{Memory, NotJson, NotWhole, TooLarge, Arguments, Reading, Writing, Open}
+use Rattle.allocative_json.specs.declared.fault.Fault.TheVariants.{Memory, NotJson, NotWhole, TooLarge, Words, Reading, Writing, Open}
 use Rattle.allocative_json.specs.Lines.{asked_text}
 use Rattle.allocative_json.specs.Numbers.{is_whole, IsIndexOf}
 use Rattle.allocative_json.specs.Roots.{IsDocument, IsWholeDocument}
@@ -47,7 +47,7 @@ RefusesReport input Memory = 0 < length input
 RefusesReport input NotJson = (d : Data) → ¬ IsDocument input d
 RefusesReport input NotWhole = (d : Data) × IsDocument input d × (is_whole d ≡ false)
 RefusesReport input TooLarge = (d : Data) × IsWholeDocument input d
-RefusesReport input Arguments = ⊥
+RefusesReport input Words = ⊥
 RefusesReport input Reading = ⊥
 RefusesReport input Writing = ⊥
 RefusesReport input Open = (d : Data) × IsWholeDocument input d

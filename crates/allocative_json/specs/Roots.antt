@@ -4,7 +4,7 @@ use Rattle.std.specs.BTreeSet.{BTreeSet}
 use Rattle.serde_json.specs.Data.{Data}
 use Rattle.serde_json.specs.Read.{read}
 use Rattle.allocative_json.specs.declared.fault.Fault.{Fault}
-use Rattle.allocative_json.specs.declared.fault.Fault.TheVariants.{Memory, NotJson, NotWhole, TooLarge, Arguments, Reading, Writing, Open}
+use Rattle.allocative_json.specs.declared.fault.Fault.TheVariants.{Memory, NotJson, NotWhole, TooLarge, Words, Reading, Writing, Open}
 use Rattle.allocative_json.specs.Numbers.{is_whole, IsIndexOf}
 
 -- The input is the text of the document d.
@@ -29,7 +29,7 @@ RefusesInput input Memory = 0 < length input
 RefusesInput input NotJson = (d : Data) → ¬ IsDocument input d
 RefusesInput input NotWhole = (d : Data) × IsDocument input d × (is_whole d ≡ false)
 RefusesInput input TooLarge = ⊥
-RefusesInput input Arguments = ⊥
+RefusesInput input Words = ⊥
 RefusesInput input Reading = ⊥
 RefusesInput input Writing = ⊥
 RefusesInput input Open = ⊥

@@ -2,13 +2,13 @@
 //! to standard output, in the form that `flamegraph.pl` reads, and the warnings to standard error.
 #![tactic(auto)]
 
-mod arguments;
 mod fault;
 mod printed;
 mod profile;
 mod report;
 mod roots;
 mod run;
+mod words;
 
 use fault::Fault;
 use run::{run_json, tell};
@@ -17,12 +17,12 @@ use std::io::ErrorKind;
 use std::process::ExitCode;
 use std::rt::Env;
 
-// The arguments after the program's name. An argument that is not UTF-8 is unknown.
-fn arguments_of<R: Env + AllocGlobal>(rt: &R) -> Result<Vec<String>, Fault> {
+// The words after the program's name. A word that is not UTF-8 is unknown.
+fn words_of<R: Env + AllocGlobal>(rt: &R) -> Result<Vec<String>, Fault> {
     match env::args(rt) {
         Ok(args) => Ok(args.skip(1).collect(rt.alloc())?),
         Err(error) if error.kind() == ErrorKind::OutOfMemory => Err(Fault::Memory),
-        Err(_) => Err(Fault::Arguments),
+        Err(_) => Err(Fault::Words),
     }
 }
 
@@ -31,10 +31,10 @@ fn main(rt: HostRuntime) -> ExitCode {
     let mut input = rt.reader();
     let mut output = std::io::writer(&rt);
     let mut errors = rt.stderr();
-    let status = match arguments_of(&rt) {
-        Ok(arguments) => run_json(
+    let status = match words_of(&rt) {
+        Ok(words) => run_json(
             alloc,
-            arguments.as_slice(),
+            words.as_slice(),
             &mut input,
             &mut output,
             &mut errors,

@@ -4,9 +4,9 @@ ghost use Rattle.std.specs.Io.KnownBytes.{Appends};
 ghost use Rattle.allocative_json.specs.Fault.{status_of};
 ghost use Rattle.allocative_json.specs.Profile.{IsRightReport, RefusesReport};
 ghost use Rattle.allocative_json.specs.Run.{StopsReading, IsReportFor, IsReported, EndsWell, EndsIn, MayEndRun};
-ghost use Rattle.allocative_json.specs.Arguments.{arguments_of};
+ghost use Rattle.allocative_json.specs.Words.{words_of};
 
-use crate::arguments::{Arguments, read_arguments};
+use crate::words::{Words, read_words};
 use crate::fault::Fault;
 use crate::printed::Report;
 use crate::profile::{profile_json, profile_registered};
@@ -69,7 +69,7 @@ pub fn tell<E: Write>(errors: &mut E, fault: Fault) -> u8
 }
 
 // Makes the report of the input, with a registry where it is asked for.
-fn profile_as_asked(alloc: Global, asked: Arguments, input: &[u8]) -> Result<Report, Fault>
+fn profile_as_asked(alloc: Global, asked: Words, input: &[u8]) -> Result<Report, Fault>
     ensures ok { IfOk result
         (λ made. IsRightReport input.now asked.index asked.exact (string_bytes made.profile)
         (string_bytes made.warnings)) }
@@ -82,14 +82,14 @@ fn profile_as_asked(alloc: Global, asked: Arguments, input: &[u8]) -> Result<Rep
     }
 }
 
-// Parses the arguments, reads the input, and makes its report.
-fn make_report<R: Read>(alloc: Global, arguments: &[String], input: &mut R) -> Result<Report, Fault>
+// Parses the words, reads the input, and makes its report.
+fn make_report<R: Read>(alloc: Global, words: &[String], input: &mut R) -> Result<Report, Fault>
     ensures ok { IfOk result
-        (λ made. IsReportFor (arguments_of arguments.now) (R.remaining input.old) (string_bytes made.profile)
+        (λ made. IsReportFor (words_of words.now) (R.remaining input.old) (string_bytes made.profile)
         (string_bytes made.warnings)) }
-    ensures err { IfErr result (MayEndRun (arguments_of arguments.now) (R.remaining input.old)) }
+    ensures err { IfErr result (MayEndRun (words_of words.now) (R.remaining input.old)) }
 {
-    let asked = read_arguments(arguments)?;
+    let asked = read_words(words)?;
     let bytes = read_input(alloc, input)?;
     profile_as_asked(alloc, asked, bytes.as_slice())
 }
@@ -118,22 +118,22 @@ pub fn finish<W: Write, E: Write>(made: Result<Report, Fault>, output: &mut W, e
 /// With status 0 the profile is on the output and the warnings are on the errors. Both are made before
 /// anything is written, and the profile is written first. Otherwise the message of the fault is written to the
 /// errors and, except with status 7, nothing is written to the output. The status is that of the fault even
-/// where the message cannot be written. With the argument `registry` the roots are boxed and visited by a
+/// where the message cannot be written. With the word `registry` the roots are boxed and visited by a
 /// registry, and the same clauses hold.
 pub fn run_json<R: Read, W: Write, E: Write>(
     alloc: Global,
-    arguments: &[String],
+    words: &[String],
     input: &mut R,
     output: &mut W,
     errors: &mut E,
 ) -> u8
     ensures well { result ≡ 0
-        → EndsWell (arguments_of arguments.now) (R.remaining input.old) (W.contents output.old) (W.contents output.new)
+        → EndsWell (words_of words.now) (R.remaining input.old) (W.contents output.old) (W.contents output.new)
         (E.contents errors.old) (E.contents errors.new) }
-    ensures writing { result ≡ 7 → IsReported (arguments_of arguments.now) (R.remaining input.old) }
-    ensures fault { result ≢ 0 → result ≢ 7 → EndsIn (arguments_of arguments.now) (R.remaining input.old) result }
+    ensures writing { result ≡ 7 → IsReported (words_of words.now) (R.remaining input.old) }
+    ensures fault { result ≢ 0 → result ≢ 7 → EndsIn (words_of words.now) (R.remaining input.old) result }
     ensures untouched { result ≢ 0 → result ≢ 7 → output.new ≡ output.old }
 {
-    let made = make_report(alloc, arguments, input);
+    let made = make_report(alloc, words, input);
     finish(made, output, errors)
 }

@@ -1,5 +1,5 @@
 //! Documents with their texts, and runs whose input or output fails.
-use crate::arguments::{Arguments, read_arguments};
+use crate::words::{Words, read_words};
 use crate::fault::Fault;
 use crate::profile::profile_json;
 use crate::roots::read_roots;
@@ -79,12 +79,12 @@ impl Write for Sink {
     }
 }
 
-fn arguments_of(alloc: Global, text: &str) -> Result<Vec<String>, AllocError> {
-    let mut arguments = Vec::new(alloc);
-    for argument in text.split_ascii_whitespace() {
-        arguments.push(String::from_str(alloc, argument)?)?;
+fn words_of(alloc: Global, text: &str) -> Result<Vec<String>, AllocError> {
+    let mut words = Vec::new(alloc);
+    for word in text.split_ascii_whitespace() {
+        words.push(String::from_str(alloc, word)?)?;
     }
-    Ok(arguments)
+    Ok(words)
 }
 
 // How a run ended, and what it wrote.
@@ -95,18 +95,18 @@ struct Ran {
     errors: Sink,
 }
 
-// A run with arguments, an input of which one read may fail, and writers of which one call each may fail.
+// A run with words, an input of which one read may fail, and writers of which one call each may fail.
 fn run(
     alloc: Global,
-    arguments: &str,
+    words: &str,
     input: &mut Source<'_>,
     output_fails_at: u64,
     errors_fails_at: u64,
 ) -> Result<Ran, AllocError> {
-    let arguments = arguments_of(alloc, arguments)?;
+    let words = words_of(alloc, words)?;
     let mut output = Sink::new(alloc, output_fails_at);
     let mut errors = Sink::new(alloc, errors_fails_at);
-    let status = run_json(alloc, arguments.as_slice(), input, &mut output, &mut errors);
+    let status = run_json(alloc, words.as_slice(), input, &mut output, &mut errors);
     Ok(Ran {
         status,
         output,
@@ -146,7 +146,7 @@ const THREE_NUMBERS: &str =
 
 const FAR_NUMBERS: &str = "[18446744073709551615,-9223372036854775808,18446744073709551615]";
 
-// The arguments and the document of a run, and its profile and warnings. They are the same with the argument
+// The words and the document of a run, and its profile and warnings. They are the same with the word
 // `registry` added.
 const DOCUMENTS: [(&str, &str, &str, &str); 9] = [
     ("", "true", "Value 32\n", ""),
@@ -187,8 +187,8 @@ const DOCUMENTS: [(&str, &str, &str, &str); 9] = [
 
 #[test]
 fn documents(rt: HostRuntime) -> Result<(), Fail> {
-    for (arguments, input, profile, warnings) in DOCUMENTS {
-        let ran = run(rt.alloc(), arguments, &mut whole(input.as_bytes()), 0, 0)?;
+    for (words, input, profile, warnings) in DOCUMENTS {
+        let ran = run(rt.alloc(), words, &mut whole(input.as_bytes()), 0, 0)?;
         assert_status(&rt, &ran, 0, input);
         assert_written(&rt, &ran.output, profile, input);
         assert_written(&rt, &ran.errors, warnings, input);
@@ -198,10 +198,10 @@ fn documents(rt: HostRuntime) -> Result<(), Fail> {
 
 #[test]
 fn documents_by_a_registry(rt: HostRuntime) -> Result<(), Fail> {
-    for (arguments, input, profile, warnings) in DOCUMENTS {
-        let arguments = format!(in rt.alloc(); "registry {arguments}")?;
+    for (words, input, profile, warnings) in DOCUMENTS {
+        let words = format!(in rt.alloc(); "registry {words}")?;
         let mut input_bytes = whole(input.as_bytes());
-        let ran = run(rt.alloc(), arguments.as_str(), &mut input_bytes, 0, 0)?;
+        let ran = run(rt.alloc(), words.as_str(), &mut input_bytes, 0, 0)?;
         assert_status(&rt, &ran, 0, input);
         assert_written(&rt, &ran.output, profile, input);
         assert_written(&rt, &ran.errors, warnings, input);
@@ -240,11 +240,11 @@ const NOT_JSON: &str = "allocative-json: input is not JSON\n";
 
 const NOT_WHOLE: &str = "allocative-json: a number is not a 64-bit whole number\n";
 
-const NOT_ARGUMENTS: &str = "allocative-json: unknown or repeated word\n";
+const NOT_WORDS: &str = "allocative-json: unknown or repeated word\n";
 
 #[test]
 fn refused_runs(rt: HostRuntime) -> Result<(), Fail> {
-    for (arguments, input, status, line) in [
+    for (words, input, status, line) in [
         ("exact", "[1", 2u8, NOT_JSON),
         ("", "", 2, NOT_JSON),
         ("", "{\"a\":1,}", 2, NOT_JSON),
@@ -255,11 +255,11 @@ fn refused_runs(rt: HostRuntime) -> Result<(), Fail> {
         ("", "1e2", 3, NOT_WHOLE),
         ("", "18446744073709551616", 3, NOT_WHOLE),
         ("", "{\"a\":1,\"a\":1.5}", 3, NOT_WHOLE),
-        ("all", "true", 5, NOT_ARGUMENTS),
-        ("exact exact", "true", 5, NOT_ARGUMENTS),
-        ("exact index exact", "tru", 5, NOT_ARGUMENTS),
+        ("all", "true", 5, NOT_WORDS),
+        ("exact exact", "true", 5, NOT_WORDS),
+        ("exact index exact", "tru", 5, NOT_WORDS),
     ] {
-        let ran = run(rt.alloc(), arguments, &mut whole(input.as_bytes()), 0, 0)?;
+        let ran = run(rt.alloc(), words, &mut whole(input.as_bytes()), 0, 0)?;
         assert_status(&rt, &ran, status, input);
         assert_written(&rt, &ran.output, "", input);
         assert_written(&rt, &ran.errors, line, input);
@@ -408,23 +408,23 @@ fn numbers_at_any_depth(rt: HostRuntime) -> Result<(), Fail> {
 }
 
 #[test]
-fn lines_of_arguments(rt: HostRuntime) -> Result<(), Fail> {
+fn lines_of_words(rt: HostRuntime) -> Result<(), Fail> {
     for (line, asked) in [
         ("", Ok((false, false, false))),
         ("exact", Ok((true, false, false))),
         ("registry index", Ok((false, true, true))),
         ("index registry exact", Ok((true, true, true))),
-        ("index index", Err(Fault::Arguments)),
-        ("Exact", Err(Fault::Arguments)),
-        ("exact indexes", Err(Fault::Arguments)),
+        ("index index", Err(Fault::Words)),
+        ("Exact", Err(Fault::Words)),
+        ("exact indexes", Err(Fault::Words)),
     ] {
-        let arguments = arguments_of(rt.alloc(), line)?;
-        let wanted = asked.map(|(exact, index, registry)| Arguments {
+        let words = words_of(rt.alloc(), line)?;
+        let wanted = asked.map(|(exact, index, registry)| Words {
             exact,
             index,
             registry,
         });
-        assert_eq!(rt; read_arguments(arguments.as_slice()), wanted, "at {line}");
+        assert_eq!(rt; read_words(words.as_slice()), wanted, "at {line}");
     }
     Ok(())
 }
@@ -441,7 +441,7 @@ fn faults(rt: HostRuntime) -> Result<(), Fail> {
         (Fault::NotJson, 2, "input is not JSON"),
         (Fault::NotWhole, 3, "a number is not a 64-bit whole number"),
         (Fault::TooLarge, 4, "sizes do not fit"),
-        (Fault::Arguments, 5, "unknown or repeated word"),
+        (Fault::Words, 5, "unknown or repeated word"),
         (Fault::Reading, 6, "cannot read input"),
         (Fault::Writing, 7, "cannot write output"),
         (Fault::Open, 8, "a visitor was forgotten"),
