@@ -1,6 +1,5 @@
 pub mod Fault
 pub mod Lines
-pub mod Noted
 pub mod Numbers
 pub mod Profile
 pub mod Roots

@@ -1,6 +1,6 @@
 //! The words that the program accepts.
-ghost use Rattle.std.specs.Prelude.{◌≡◌, ◌⊎◌, codes, IsTrue, ◌↔◌, true, false, IfSome, IfNone, MatchResult, MatchOption};
-ghost use Rattle.allocative_json.specs.Words.{words_of, AreWords, Asks};
+ghost use Rattle.std.specs.Prelude.{◌≡◌, ◌↔◌, IsTrue, Contains, MatchResult};
+ghost use Rattle.allocative_json.specs.Words.{words_of, IsKnown, AreWords, Asks};
 
 use crate::fault::Fault;
 
@@ -15,33 +15,24 @@ pub struct Words {
     pub registry: bool,
 }
 
-impl Words {
-    ghost use Rattle.allocative_json.specs.Noted.{noted};
-
-    // What is asked for with one more word, or `None` where the word is unknown or repeated.
-    fn with(self, word: &str) -> Option<Words>
-        ensures { result ≡ noted self word.now }
-    {
-        if word == "exact" && !self.exact {
-            return Some(Words {
-                exact: true,
-                ..self
-            });
+// Whether a word is among the words.
+fn has(words: &[String], word: &str) -> bool
+    ensures { IsTrue result ↔ Contains (words_of words.now) word.now }
+{
+    for other in words {
+        if other.as_str() == word {
+            return true;
         }
-        if word == "index" && !self.index {
-            return Some(Words {
-                index: true,
-                ..self
-            });
-        }
-        if word == "registry" && !self.registry {
-            return Some(Words {
-                registry: true,
-                ..self
-            });
-        }
-        None
     }
+    false
+}
+
+// Whether a word is one of the three, and not among those before it.
+fn is_accepted(word: &str, earlier: &[String]) -> bool
+    ensures { IsTrue result ↔ (IsKnown word.now × ¬ Contains (words_of earlier.now) word.now) }
+{
+    let is_known = word == "exact" || word == "index" || word == "registry";
+    is_known && !has(earlier, word)
 }
 
 /// Parses the words. It returns `Ok` exactly where each word is `exact`, `index` or `registry` and none is
@@ -51,16 +42,14 @@ pub fn read_words(words: &[String]) -> Result<Words, Fault>
         (λ asked. AreWords (words_of words.now) × Asks (words_of words.now) asked)
         (λ f. (f ≡ Fault.Words) × ¬ AreWords (words_of words.now)) }
 {
-    let mut asked = Words {
-        exact: false,
-        index: false,
-        registry: false,
-    };
-    for word in words {
-        let Some(more) = asked.with(word.as_str()) else {
+    for (at, word) in words.iter().enumerate() {
+        if !is_accepted(word.as_str(), &words[..at]) {
             return Err(Fault::Words);
-        };
-        asked = more;
+        }
     }
-    Ok(asked)
+    Ok(Words {
+        exact: has(words, "exact"),
+        index: has(words, "index"),
+        registry: has(words, "registry"),
+    })
 }
