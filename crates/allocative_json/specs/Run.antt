@@ -1,47 +1,52 @@
 -- What a whole run does.
-use Rattle.std.specs.Prelude.{◌≡◌, ℕ, ◌<◌, ⊤, List, length, Option, IfSome}
+use Rattle.std.specs.Prelude.{◌≡◌, ℕ, ◌<◌, ⊤, List, length, Option, IfSome, string_bytes}
 use Rattle.std.specs.Io.KnownBytes.{Appends}
 use Rattle.allocative_json.specs.declared.fault.Fault.{Fault}
-use Rattle.allocative_json.specs.declared.fault.Fault.TheVariants.{Memory, NotJson, NotWhole, TooLarge, Reading, Writing, Open}
+use Rattle.allocative_json.specs.declared.fault.Fault.TheVariants.{Memory, Reading, Writing}
 use Rattle.allocative_json.specs.declared.fault.Fault.TheVariants as fault
+use Rattle.allocative_json.specs.declared.printed.Report.{Report}
 use Rattle.allocative_json.specs.declared.words.Words.{Words}
 use Rattle.allocative_json.specs.Fault.{status_of}
 use Rattle.allocative_json.specs.Profile.{IsRightReport, RefusesReport}
 use Rattle.allocative_json.specs.Words.{Word, AreWords, Asks}
 
 -- The words are accepted, all bytes of the reader are read where they are known, and the report of them is right.
-pub record IsReportFor (texts : List Word) (known : Option (List ℕ)) (profile warnings : List ℕ) : Type 0 where
+pub record IsReportFor (texts : List Word) (known : Option (List ℕ)) (made : Report) : Type 0 where
   pub words : AreWords texts
   pub asked : Words
   pub asks : Asks texts asked
   pub input : List ℕ
   pub is_read : IfSome known (λ bytes. input ≡ bytes)
-  pub right : IsRightReport input asked.index asked.exact profile warnings
+  pub right : IsRightReport input asked.index asked.exact made
 
--- A right report follows what the two writers held, where that is known.
-pub record EndsWell (texts : List Word) (known output output' errors errors' : Option (List ℕ)) : Type 0 where
-  pub profile : List ℕ
-  pub warnings : List ℕ
-  pub report : IsReportFor texts known profile warnings
-  pub written : Appends output output' profile
-  pub told : Appends errors errors' warnings
+-- The report follows what the two writers held, where that is known.
+pub record IsWritten (output output' errors errors' : Option (List ℕ)) (made : Report) : Type 0 where
+  pub profile : Appends output output' (string_bytes made.profile)
+  pub warnings : Appends errors errors' (string_bytes made.warnings)
 
 -- Some report is right for what is read.
 pub record IsReported (texts : List Word) (known : Option (List ℕ)) : Type 0 where
-  pub profile : List ℕ
-  pub warnings : List ℕ
-  pub report : IsReportFor texts known profile warnings
+  pub made : Report
+  pub report : IsReportFor texts known made
+
+-- A report is right for what is read, and follows what the two writers held.
+pub record EndsWell (texts : List Word) (known output output' errors errors' : Option (List ℕ)) : Type 0 where
+  pub made : Report
+  pub report : IsReportFor texts known made
+  pub written : IsWritten output output' errors errors' made
 
 -- The faults that reading the input may return: Memory only where the input is not empty; or Reading.
 abbrev pub StopsReading : Option (List ℕ) → Fault → Type 0
 StopsReading known Memory = IfSome known (λ bytes. 0 < length bytes)
 StopsReading known Reading = ⊤
-StopsReading known NotJson = ⊥
-StopsReading known NotWhole = ⊥
-StopsReading known TooLarge = ⊥
-StopsReading known fault.Words = ⊥
-StopsReading known Writing = ⊥
-StopsReading known Open = ⊥
+StopsReading known f = ⊥
+
+-- The words are accepted, and a report of the bytes that are read may be refused with the fault.
+pub record IsRefused (texts : List Word) (known : Option (List ℕ)) (cause : Fault) : Type 0 where
+  pub words : AreWords texts
+  pub asked : Words
+  pub asks : Asks texts asked
+  pub refuses : IfSome known (λ bytes. RefusesReport bytes asked.index cause)
 
 -- The faults that may end a run before anything is written: Words exactly where the words are not accepted;
 -- otherwise a fault of reading, or of a report of the bytes that were read.
@@ -49,11 +54,7 @@ abbrev pub MayEndRun : List Word → Option (List ℕ) → Fault → Type 0
 MayEndRun texts known fault.Words = ¬ AreWords texts
 MayEndRun texts known Reading = AreWords texts
 MayEndRun texts known Writing = ⊥
-MayEndRun texts known Memory = AreWords texts × IfSome known (λ bytes. RefusesReport bytes Memory)
-MayEndRun texts known NotJson = AreWords texts × IfSome known (λ bytes. RefusesReport bytes NotJson)
-MayEndRun texts known NotWhole = AreWords texts × IfSome known (λ bytes. RefusesReport bytes NotWhole)
-MayEndRun texts known TooLarge = AreWords texts × IfSome known (λ bytes. RefusesReport bytes TooLarge)
-MayEndRun texts known Open = AreWords texts × IfSome known (λ bytes. RefusesReport bytes Open)
+MayEndRun texts known f = IsRefused texts known f
 
 -- The status is that of a fault that may end the run before anything is written.
 pub record EndsIn (texts : List Word) (known : Option (List ℕ)) (status : ℕ) : Type 0 where

@@ -1,74 +1,69 @@
 //! The texts that a run writes.
-ghost use Rattle.std.specs.Prelude.{◌≡◌, ◌++◌, codes, OnOk, IfOk, IfErr, MatchResult, map, string_bytes};
-ghost use Rattle.allocative.specs.Graph.{line};
-ghost use Rattle.allocative.specs.Report.{ends_in, exact_text};
-ghost use Rattle.allocative_json.specs.Lines.{asked_text, row_line};
+ghost use Rattle.std.specs.Prelude.{◌≡◌, ◌++◌, OnOk, IfOk, MatchResult, string_bytes};
+ghost use Rattle.allocative.specs.Report.{last_key};
+ghost use Rattle.allocative_json.specs.Lines.{is_unused, kept_line, kept_lines};
+ghost use Rattle.allocative_json.specs.Profile.{AreTexts};
 
 use crate::fault::Fault;
 use crate::printed::Report;
-use allocative::{FlameGraph, FlameGraphOutput, Refusal, Row, push_path};
+use allocative::FlameGraphOutput;
 use std::alloc::{AllocError, Global};
 
-// Whether a path ends in `unused_capacity`.
-fn is_unused(path: &[&str]) -> bool
-    ensures { result ≡ ends_in (codes "unused_capacity") (map (λ k. k.now) path.now) }
+// The last key of a line: the text after its last `;` and before its last space.
+fn last_key(line: &str) -> &str
+    ensures { result.now ≡ last_key line.now }
 {
-    match path.last() {
-        Some(key) => *key == "unused_capacity",
-        None => false,
+    let Some((keys, _size)) = line.rsplit_once(' ') else {
+        return "";
+    };
+    match keys.rsplit_once(';') {
+        Some((_path, key)) => key,
+        None => keys,
     }
 }
 
-// Appends the line of a path. The root and a path of 0 bytes have none.
-#[tactic(auto, using(crate::proofs::Rows::root_is_empty))]
-fn push_line(path: &[&str], size: usize, text: &mut String) -> Result<(), AllocError>
-    ensures { OnOk result (string_bytes text.new ≡ string_bytes text.old ++ line (map (λ k. k.now) path.now, size)) }
+// Whether a line is one of unused capacity.
+fn is_unused(line: &str) -> bool
+    ensures { result ≡ is_unused line.now }
 {
-    if path.is_empty() || size == 0 {
-        return Ok(());
+    "unused_capacity" == last_key(line)
+}
+
+// Appends a line, unless it is one of unused capacity.
+fn push_line(line: &str, text: &mut String) -> Result<(), AllocError>
+    ensures { OnOk result (string_bytes text.new ≡ string_bytes text.old ++ kept_line line.now) }
+{
+    if !is_unused(line) {
+        write!(text, "{line}\n")?;
     }
-    push_path(path, text)?;
-    write!(text, " {size}\n")?;
     Ok(())
 }
 
-// Appends the line of a row, unless it is one of unused capacity.
-fn push_row(row: &Row, text: &mut String) -> Result<(), AllocError>
-    ensures { OnOk result (string_bytes text.new ≡ string_bytes text.old ++ row_line row.now) }
+// A text without its lines of unused capacity.
+fn without_unused(alloc: Global, text: &str) -> Result<String, AllocError>
+    ensures { IfOk result (λ kept. string_bytes kept ≡ kept_lines text.now) }
 {
-    let path = row.path.as_slice();
-    if is_unused(path) {
-        return Ok(());
+    let mut kept = String::new(alloc);
+    let mut rest = text;
+    while let Some((line, after)) = rest.split_once('\n') {
+        push_line(line, &mut kept)?;
+        rest = after;
     }
-    push_line(path, row.self_size, text)
+    Ok(kept)
 }
 
-// The text of a graph without the lines of the paths that end in `unused_capacity`.
-fn without_unused(alloc: Global, graph: &FlameGraph) -> Result<String, Refusal>
-    ensures text { IfOk result (λ made. string_bytes made ≡ exact_text graph.now) }
-    ensures memory { IfErr result (λ r. r ≡ Refusal.Memory) }
-{
-    let rows = graph.rows()?;
-    let mut text = String::new(alloc);
-    for row in &rows {
-        push_row(row, &mut text)?;
-    }
-    Ok(text)
-}
-
-/// The text of the output's graph, and its warnings. With `exact` the text has no lines of the paths that end
-/// in `unused_capacity`. The only error is that memory runs out.
+/// The text of the output's graph, and its warnings. With `exact` the text is without the lines whose last key is
+/// `unused_capacity`. A line's last key stands after its last `;`, or from its beginning, and before its last space,
+/// whatever the keys have in them. The only error is that memory runs out.
 pub fn report(alloc: Global, output: &FlameGraphOutput, exact: bool) -> Result<Report, Fault>
-    ensures { MatchResult result
-        (λ made. (string_bytes made.profile ≡ asked_text exact output.now.graph) × (string_bytes made.warnings ≡ output.now.warnings))
-        (λ f. f ≡ Fault.Memory) }
+    ensures { MatchResult result (AreTexts exact output.now) (λ f. f ≡ Fault.Memory) }
 {
-    let graph = output.flamegraph();
+    let text = output.flamegraph().write()?;
     let warnings = output.warnings()?;
     let profile = if exact {
-        without_unused(alloc, graph)?
+        without_unused(alloc, text.as_str())?
     } else {
-        graph.write()?
+        text
     };
     Ok(Report { profile, warnings })
 }

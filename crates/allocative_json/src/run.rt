@@ -3,15 +3,17 @@ ghost use Rattle.std.specs.Prelude.{◌≡◌, ◌≢◌, ◌⊎◌, OnOk, OnErr
 ghost use Rattle.std.specs.Io.KnownBytes.{Appends};
 ghost use Rattle.allocative_json.specs.Fault.{status_of};
 ghost use Rattle.allocative_json.specs.Profile.{IsRightReport, RefusesReport};
-ghost use Rattle.allocative_json.specs.Run.{StopsReading, IsReportFor, IsReported, EndsWell, EndsIn, MayEndRun};
+ghost use Rattle.allocative_json.specs.Run.{StopsReading, IsReportFor, IsWritten, IsReported, EndsWell, EndsIn, MayEndRun};
 ghost use Rattle.allocative_json.specs.Words.{words_of};
 
-use crate::words::{Words, read_words};
 use crate::fault::Fault;
 use crate::printed::Report;
-use crate::profile::{profile_json, profile_registered};
+use crate::profile::{report_by_registry, report_of};
+use crate::roots::read_roots;
+use crate::words::{Words, read_words};
 use std::alloc::Global;
 use std::io::{ErrorKind, Read, Write};
+use std::mem;
 
 /// Reads to the end of the input. It returns `Fault::Reading` where a read fails, and `Fault::Memory` where memory
 /// runs out, which an empty input never causes. An interrupted read is repeated.
@@ -49,10 +51,9 @@ fn write_report<W: Write, E: Write>(
     output: &mut W,
     errors: &mut E,
 ) -> Result<(), Fault>
-    ensures written { OnOk result
-        (Appends (W.contents output.old) (W.contents output.new) (string_bytes made.now.profile)) }
-    ensures told { OnOk result
-        (Appends (E.contents errors.old) (E.contents errors.new) (string_bytes made.now.warnings)) }
+    ensures ok { OnOk result
+        (IsWritten (W.contents output.old) (W.contents output.new) (E.contents errors.old) (E.contents errors.new)
+        made.now) }
     ensures err { IfErr result (λ f. f ≡ Fault.Writing) }
 {
     write_text(output, made.profile.as_str())?;
@@ -70,23 +71,22 @@ pub fn tell<E: Write>(errors: &mut E, fault: Fault) -> u8
 
 // Makes the report of the input, with a registry where it is asked for.
 fn profile_as_asked(alloc: Global, asked: Words, input: &[u8]) -> Result<Report, Fault>
-    ensures ok { IfOk result
-        (λ made. IsRightReport input.now asked.index asked.exact (string_bytes made.profile)
-        (string_bytes made.warnings)) }
-    ensures err { IfErr result (RefusesReport input.now) }
+    ensures ok { IfOk result (IsRightReport input.now asked.index asked.exact) }
+    ensures err { IfErr result (RefusesReport input.now asked.index) }
 {
+    let (document, numbers) = read_roots(alloc, input, asked.index)?;
     if asked.registry {
-        profile_registered(alloc, input, asked.index, asked.exact)
-    } else {
-        profile_json(alloc, input, asked.index, asked.exact)
+        return report_by_registry(alloc, document, numbers, asked.exact);
     }
+    let made = report_of(alloc, &document, &numbers, asked.exact);
+    // The process is about to end, which frees the document faster than a drop of each value.
+    mem::forget((document, numbers));
+    made
 }
 
 // Parses the words, reads the input, and makes its report.
 fn make_report<R: Read>(alloc: Global, words: &[String], input: &mut R) -> Result<Report, Fault>
-    ensures ok { IfOk result
-        (λ made. IsReportFor (words_of words.now) (R.remaining input.old) (string_bytes made.profile)
-        (string_bytes made.warnings)) }
+    ensures ok { IfOk result (IsReportFor (words_of words.now) (R.remaining input.old)) }
     ensures err { IfErr result (MayEndRun (words_of words.now) (R.remaining input.old)) }
 {
     let asked = read_words(words)?;
@@ -98,8 +98,7 @@ fn make_report<R: Read>(alloc: Global, words: &[String], input: &mut R) -> Resul
 pub fn finish<W: Write, E: Write>(made: Result<Report, Fault>, output: &mut W, errors: &mut E) -> u8
     ensures written { result ≡ 0
         → IsOkAnd made
-        (λ texts. Appends (W.contents output.old) (W.contents output.new) (string_bytes texts.profile)
-        × Appends (E.contents errors.old) (E.contents errors.new) (string_bytes texts.warnings)) }
+        (IsWritten (W.contents output.old) (W.contents output.new) (E.contents errors.old) (E.contents errors.new)) }
     ensures status { IfOk made (λ _. (result ≡ 0) ⊎ (result ≡ 7)) }
     ensures fault { IfErr made (λ f. result ≡ status_of f) }
     ensures untouched { OnErr made (output.new ≡ output.old) }
@@ -113,7 +112,8 @@ pub fn finish<W: Write, E: Write>(made: Result<Report, Fault>, output: &mut W, e
     }
 }
 
-/// Runs the whole program and returns its status.
+/// Runs the whole program and returns its status. The document stays in memory until the process ends, unless a
+/// registry has it.
 ///
 /// With status 0 the profile is on the output and the warnings are on the errors. Both are made before
 /// anything is written, and the profile is written first. Otherwise the message of the fault is written to the

@@ -1,9 +1,9 @@
 //! Documents with their texts, and runs whose input or output fails.
-use crate::words::{Words, read_words};
 use crate::fault::Fault;
 use crate::profile::profile_json;
 use crate::roots::read_roots;
 use crate::run::run_json;
+use crate::words::{Words, read_words};
 use std::alloc::{AllocError, Global};
 use std::io;
 use std::io::{ErrorKind, Read, Write};

@@ -1,12 +1,13 @@
-use Rattle.std.proofs.Common.{List, ap, ◌∙◌, arith}
-use Rattle.std.specs.Prelude.{flat_map}
-use Rattle.std.proofs.lemmas.List.{take_all}
-use Rattle.allocative_graph.specs.declared.flamegraph.reads.Row as read
-use Rattle.allocative_json.specs.Lines.{row_line}
-use Rattle.allocative_json.proofs.Rows.{lines_read}
+-- One more line was read, and none is left.
+use Rattle.std.proofs.Common.{string_bytes, rules}
+use Rattle.allocative_json.proofs.LinesLemmas.{line_more, line_none}
 use Rattle.allocative_json.proofs.report.without_unused.Goals as goal
 
-pub returns-clause-text : goal.returns-clause-text
-returns-clause-text c =
-    let rs = c.deref-row-items.result.now in
-    c.loop-row.invariant ∙ ap (λ (s : List read.Row). flat_map row_line s) (take_all c.loop-row.row-index rs (omega arith) ∙ c.deref-row-items.ensures.value) ∙ lines_read c.args.graph.now c.in_ok-rows.rows.items c.in_ok-rows.ensures.rows
+pub loop-line-preserved : goal.loop-line-preserved
+loop-line-preserved c = (
+  search rules,
+  line_more _ c.loop-line.rest.now (string_bytes c.loop-line.kept) _ c.in-Some.line c.in-Some.after c.in-Some.ensures.cases c.loop-line.invariant.1 c.in_ok-push_line.ensures,
+)
+
+pub returns : goal.returns
+returns c = line_none _ c.loop-line.rest.now (string_bytes c.loop-line.kept) c.in_default.ensures.cases c.loop-line.invariant.1

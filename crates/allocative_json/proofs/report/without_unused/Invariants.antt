@@ -1,8 +1,12 @@
-use Rattle.std.proofs.Common.{◌≡◌, take}
-use Rattle.std.specs.Prelude.{flat_map, string_bytes}
-use Rattle.allocative_json.specs.Lines.{row_line}
+use Rattle.std.proofs.Common.{◌≡◌, ◌++◌, string_bytes, length}
+use denote.Text.{Utf8}
+use denote.Shadow.{shadow}
+use Rattle.allocative_json.specs.Lines.{kept_lines}
 use Rattle.allocative_json.proofs.report.without_unused.Given as goal
 
--- The text has the lines of the rows so far.
-abbrev pub invariant-loop-row : goal.invariant-loop-row
-invariant-loop-row l = string_bytes l.text ≡ flat_map row_line (take l.row-index l.row-items)
+-- The lines kept so far, followed by those of the rest.
+abbrev pub invariant-loop-line : goal.invariant-loop-line
+invariant-loop-line l = shadow (Utf8 l.rest) × (string_bytes l.kept ++ kept_lines l.rest ≡ kept_lines l.text)
+
+abbrev pub decreases-loop-line : goal.decreases-loop-line
+decreases-loop-line l = length l.rest
