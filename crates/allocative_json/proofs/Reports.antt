@@ -15,9 +15,9 @@ use Rattle.allocative_json.specs.declared.fault.Fault.TheVariants.{Memory, NotJs
 use Rattle.allocative_json.specs.declared.fault.Fault.TheVariants as fault
 use Rattle.allocative_json.specs.declared.printed.Report.{Report}
 use Rattle.allocative_json.specs.declared.words.Words.{Words}
-use Rattle.allocative_json.specs.Profile.{roots_show, AreTexts, IsReportOf, RefusesRoots, RefusesReport}
+use Rattle.allocative_json.specs.Profile.{roots_show, AreTexts, IsReportOf, IsRightReport, RefusesRoots, RefusesReport}
 use Rattle.allocative_json.specs.Roots.{IsWholeDocument, AreRoots}
-use Rattle.allocative_json.specs.Run.{IsReportFor, IsWritten, IsReported, EndsWell, MayEndRun}
+use Rattle.allocative_json.specs.Run.{IsReportFor, IsWritten, IsReported, EndsWell, StopsReading, MayEndRun}
 use Rattle.allocative_json.specs.Words.{Word, AreWords, Asks}
 
 -- ---- reports of roots
@@ -108,6 +108,11 @@ one_root p roots a q (Ok o) is same h =
     let Q : Showing → Type 0 = λ s. IsProfileOf s o in
     subst Q same (profile_weaker (each_shows p (a ∷ [])) (p a) o (one_shown p a) (subst P is h))
 
+-- ---- reports of a run
+pub report_for : (texts : List Word) (known : Option (List ℕ)) (input : List ℕ) (asked : Words) (r : Result Report Fault) → AreWords texts → Asks texts asked → IfSome known (λ bytes. input ≡ bytes) → IfOk r (IsRightReport input asked.index asked.exact) → IfOk r (IsReportFor texts known)
+report_for texts known input asked (Ok made) w a e h = record { words = w; asked = asked; asks = a; input = input; is_read = e; right = h }
+report_for texts known input asked (Err f) w a e h = tt
+
 -- ---- refusals of a run
 read_so : (known : Option (List ℕ)) (input : List ℕ) (P : List ℕ → Type 0) → IfSome known (λ bytes. input ≡ bytes) → P input → IfSome known P
 read_so None input P e h = tt
@@ -122,6 +127,19 @@ refused_run texts known input asked f w a e h = record { words = w; asked = aske
 pub refuses_run : {T : Type 0} (texts : List Word) (known : Option (List ℕ)) (input : List ℕ) (asked : Words) (r : Result T Fault) → AreWords texts → Asks texts asked → IfSome known (λ bytes. input ≡ bytes) → IfErr r (RefusesReport input asked.index) → IfErr r (MayEndRun texts known)
 refuses_run texts known input asked (Ok x) w a e h = tt
 refuses_run texts known input asked (Err f) w a e h = refused_run texts known input asked f w a e h
+
+pub refused_words : {T : Type 0} (texts : List Word) (known : Option (List ℕ)) (f : Fault) (r : Result T Fault) → IsErrAnd r (λ e. e ≡ f) → (f ≡ fault.Words) × (AreWords texts → ⊥) → IfErr r (MayEndRun texts known)
+refused_words texts known f (Ok x) e h = tt
+refused_words texts known f (Err x) e h = subst (MayEndRun texts known) (sym (e ∙ h.0)) h.1
+
+stopped : (texts : List Word) (known : Option (List ℕ)) (asked : Words) (f : Fault) → AreWords texts → Asks texts asked → StopsReading known f → MayEndRun texts known f
+stopped texts known asked Memory w a h = record { words = w; asked = asked; asks = a; refuses = h }
+stopped texts known asked Reading w a h = w
+stopped texts known asked f w a h = absurd h
+
+pub refused_reading : {T : Type 0} (texts : List Word) (known : Option (List ℕ)) (asked : Words) (f : Fault) (r : Result T Fault) → IsErrAnd r (λ e. e ≡ f) → AreWords texts → Asks texts asked → StopsReading known f → IfErr r (MayEndRun texts known)
+refused_reading texts known asked f (Ok x) e w a h = tt
+refused_reading texts known asked f (Err x) e w a h = subst (MayEndRun texts known) (sym e) (stopped texts known asked f w a h)
 
 -- ---- how a run ends
 pub ends_well : (texts : List Word) (known output output' errors errors' : Option (List ℕ)) (made : Result Report Fault) → IfOk made (IsReportFor texts known) → IsOkAnd made (IsWritten output output' errors errors') → EndsWell texts known output output' errors errors'

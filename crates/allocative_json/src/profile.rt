@@ -8,8 +8,8 @@ ghost use Rattle.allocative_json.specs.Profile.{roots_show, IsReportOf, IsRightR
 
 use crate::fault::Fault;
 use crate::printed::Report;
-use crate::report;
 use crate::roots::read_roots;
+use crate::texts::report;
 use allocative::{FlameGraphBuilder, FlameGraphOutput, Refusal, Registry, profile_roots};
 use serde_json::Value;
 use std::alloc::Global;
@@ -77,7 +77,7 @@ pub(crate) fn report_of(
     ensures err { IfErr result (RefusesRoots (roots_show (view document.now) numbers.now)) }
 {
     let output = profile_of(alloc, document, numbers)?;
-    report::report(alloc, &output, exact)
+    report(alloc, &output, exact)
 }
 
 /// The report of these roots, which are boxed and visited by a registry.
@@ -91,7 +91,7 @@ pub(crate) fn report_by_registry(
     ensures err { IfErr result (RefusesRoots (roots_show (view document) numbers)) }
 {
     let output = profile_by_registry(alloc, document, numbers)?;
-    report::report(alloc, &output, exact)
+    report(alloc, &output, exact)
 }
 
 /// The texts for the input: the profile of its document and, with `index`, of the set of its numbers, and the

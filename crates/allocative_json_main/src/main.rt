@@ -2,16 +2,7 @@
 //! to standard output, in the form that `flamegraph.pl` reads, and the warnings to standard error.
 #![tactic(auto)]
 
-mod fault;
-mod printed;
-mod profile;
-mod report;
-mod roots;
-mod run;
-mod words;
-
-use fault::Fault;
-use run::{run_json, tell};
+use allocative_json::{Fault, run_json, tell};
 use std::env;
 use std::io::ErrorKind;
 use std::process::ExitCode;
@@ -43,6 +34,3 @@ fn main(rt: HostRuntime) -> ExitCode {
     };
     ExitCode::from(status)
 }
-
-#[cfg(test)]
-mod tests;

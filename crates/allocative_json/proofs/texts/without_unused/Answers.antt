@@ -1,7 +1,7 @@
 -- One more line was read, and none is left.
 use Rattle.std.proofs.Common.{string_bytes, rules}
 use Rattle.allocative_json.proofs.LinesLemmas.{line_more, line_none}
-use Rattle.allocative_json.proofs.report.without_unused.Goals as goal
+use Rattle.allocative_json.proofs.texts.without_unused.Goals as goal
 
 pub loop-line-preserved : goal.loop-line-preserved
 loop-line-preserved c = (

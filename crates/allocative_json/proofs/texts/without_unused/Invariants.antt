@@ -2,7 +2,7 @@ use Rattle.std.proofs.Common.{◌≡◌, ◌++◌, string_bytes, length}
 use denote.Text.{Utf8}
 use denote.Shadow.{shadow}
 use Rattle.allocative_json.specs.Lines.{kept_lines}
-use Rattle.allocative_json.proofs.report.without_unused.Given as goal
+use Rattle.allocative_json.proofs.texts.without_unused.Given as goal
 
 -- The lines kept so far, followed by those of the rest.
 abbrev pub invariant-loop-line : goal.invariant-loop-line

@@ -2,7 +2,7 @@
 use Rattle.std.proofs.Common.{◌∙◌, ap, sym, Some, None, [], arith}
 use Rattle.allocative.specs.Report.{after_last}
 use Rattle.allocative_json.proofs.LinesLemmas.{rsplit_before, rsplit_after}
-use Rattle.allocative_json.proofs.report.last_key.Goals as goal
+use Rattle.allocative_json.proofs.texts.last_key.Goals as goal
 
 pub returns-in_default : goal.returns-in_default
 returns-in_default c = sym (ap (after_last 59 []) (rsplit_before 32 c.args.line.now None c.in_default.ensures.cases (omega arith)))
