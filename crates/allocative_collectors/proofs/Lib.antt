@@ -17,4 +17,3 @@ pub mod Graphs
 pub mod Whole
 pub mod Made
 pub mod Collect
-pub mod Found

@@ -4,7 +4,7 @@ use Rattle.std.specs.FinMap.{get}
 use Rattle.std.proofs.lemmas.List.{append-nil}
 use Rattle.std.proofs.lemmas.List.Sums.{sum_by-cons, sum_by-append}
 use Rattle.allocative_graph.specs.Path.{Key, Path, path_cmp}
-use Rattle.allocative_graph.specs.Graph.{Graph, total, sum_of, under, default}
+use Rattle.allocative_graph.specs.Graph.{Graph, Warned, total, sum_of, under, default}
 use Rattle.allocative_graph.specs.Graph.{add_self}
 use Rattle.allocative_graph.proofs.Listing.{entries-from_entries-sorted}
 use Rattle.allocative_graph.proofs.Graphs.{total-sum_of, total-under, total-add_at}
@@ -15,19 +15,19 @@ use Rattle.allocative_collectors.specs.declared.tree.Node.{Node}
 use Rattle.allocative_collectors.specs.Nodes.{shape, sums_of, IsTree}
 use Rattle.allocative_collectors.specs.Listed.{Listed, path_at, total as total_listed}
 use Rattle.allocative_collectors.specs.Shapes.{key_in, children_at, keys_of, keys_at, KeysRise}
-use Rattle.allocative_collectors.specs.Finishing.{size_at_place, warning_at, Makes}
+use Rattle.allocative_collectors.specs.Finishing.{size_at_place, warned_at, Makes}
 use Rattle.allocative_collectors.specs.Walks.{IsWalk, IsUnder, PathsRise}
 use Rattle.allocative_collectors.proofs.Keys.{length-keys_of, key_in-keys_of}
-use Rattle.allocative_collectors.proofs.Walked.{IsPart, part_none, part_more, part_all, child_path, more_warnings, beginning_before}
+use Rattle.allocative_collectors.proofs.Walked.{IsPart, part_none, part_more, part_all, child_path, more_warned, beginning_before}
 use Rattle.allocative_collectors.proofs.Graphs.{HasPart, part_start, part_step, graph_all, grown, started, graph_at}
 use Rattle.allocative_collectors.proofs.Bags.{sizes_le_total}
 use Rattle.allocative_collectors.proofs.NodeReads.{in_nodes, in_shapes, children_read, key_read}
 
--- the node's own size and warning, and the graphs and warnings of its first j children
-pub record HalfMade (s : Listed) (i : ℕ) (ks : List Key) (j : ℕ) (w w' : List ℕ) (g : Graph) : Type 0 where
+-- The node's own size and warning, and the graphs of its first j children with the paths that have a warning.
+pub record HalfMade (s : Listed) (i : ℕ) (ks : List Key) (j : ℕ) (w w' : List Warned) (g : Graph) : Type 0 where
   pub ys : List ℕ
   pub part : IsPart s (path_at s i) ks j ys
-  pub warnings_are : w' ≡ w ++ flat_map (warning_at s) (i ∷ ys)
+  pub warned_are : w' ≡ w ++ flat_map (warned_at s) (i ∷ ys)
   pub has : HasPart s (path_at s i) (size_at_place s i) ks j (λ q. get g q)
   pub total_is : total g ≡ sum_by (size_at_place s) (i ∷ ys)
 
@@ -43,11 +43,11 @@ total-default = ap (sum_by (λ e. e.1)) (entries-from_entries-sorted (([], 0) �
 pub total-alone : (n : ℕ) → total (add_self n default) ≡ n
 total-alone n = total-add_at default ([], n) ∙ (ap (λ (m : ℕ). m + n) total-default ∙ zero_start n)
 
-pub half_none : (s : Listed) (i : ℕ) (ks : List Key) (w w' : List ℕ) (g : Graph) → g ≡ add_self (size_at_place s i) default → w' ≡ w ++ warning_at s i → HalfMade s i ks 0 w w' g
+pub half_none : (s : Listed) (i : ℕ) (ks : List Key) (w w' : List Warned) (g : Graph) → g ≡ add_self (size_at_place s i) default → w' ≡ w ++ warned_at s i → HalfMade s i ks 0 w w' g
 half_none s i ks w w' g is written = record {
   ys = [];
   part = part_none s (path_at s i) ks;
-  warnings_are = written ∙ ap (λ (l : List ℕ). w ++ l) (sym (append-nil (warning_at s i)));
+  warned_are = written ∙ ap (λ (l : List Warned). w ++ l) (sym (append-nil (warned_at s i)));
   has = part_start s (path_at s i) (size_at_place s i) ks (λ q. get g q) (started g (size_at_place s i) is);
   total_is = ap total is ∙ (total-alone (size_at_place s i) ∙ (sym (zero_start (size_at_place s i))));
 }
@@ -56,13 +56,13 @@ sums_more : (f : ℕ → ℕ) (i : ℕ) (ys zs : List ℕ) → sum_by f (i ∷ y
 sums_more f i ys zs = omega (arith, sum_by-cons f i ys, sum_by-cons f i (ys ++ zs), sum_by-append f ys zs)
 
 module _ (s : Listed) (i : ℕ) (ks : List Key) (j : ℕ) (hj : j < length ks) (rise : KeysRise ks) (m : ℕ) (there : path_at s m ≡ path_at s i ++ key_in ks j ∷ []) where
-  pub half_more : (w w' w'' : List ℕ) (g h c : Graph) → HalfMade s i ks j w w' g → Makes s m w' w'' c → h ≡ sum_of g (under (key_in ks j) c) → HalfMade s i ks (j + 1) w w'' h
+  pub half_more : (w w' w'' : List Warned) (g h c : Graph) → HalfMade s i ks j w w' g → Makes s m w' w'' c → h ≡ sum_of g (under (key_in ks j) c) → HalfMade s i ks (j + 1) w w'' h
   half_more w w' w'' g h c half child is =
       let walk : IsWalk s (path_at s i ++ key_in ks j ∷ []) (m ∷ child.others) = subst (λ (p : Path). IsWalk s p (m ∷ child.others)) there child.walk in
       record {
         ys = half.ys ++ m ∷ child.others;
         part = part_more s (path_at s i) ks j hj rise half.ys (m ∷ child.others) half.part walk;
-        warnings_are = more_warnings s w w' w'' (i ∷ half.ys) (m ∷ child.others) half.warnings_are child.warnings_are;
+        warned_are = more_warned s w w' w'' (i ∷ half.ys) (m ∷ child.others) half.warned_are child.warned_are;
         has = part_step s (path_at s i) (size_at_place s i) ks j hj rise (λ q. get g q) (λ q. get h q) (λ q. get c q) half.has
             (λ q. child.graph_is q ∙ ap (λ (p : Path). graph_at s (p ++ q)) there) (grown g h c (key_in ks j) is);
         total_is =
@@ -80,7 +80,7 @@ part_rise s i ks j ys part zero (suc b) lt h =
     subst (λ (x : Path). path_cmp (path_at s i) x ≡ Less) (sym (u.is ∙ append_assoc (path_at s i) (key_in ks one.0 ∷ []) u.rest)) (beginning_before (path_at s i) (key_in ks one.0) u.rest)
 part_rise s i ks j ys part (suc a) (suc b) lt h = part.rise a b (omega arith) (omega arith)
 
-pub half_total : (s : Listed) (i : ℕ) (ks : List Key) (j : ℕ) (w w' : List ℕ) (g : Graph) → i < length s → HalfMade s i ks j w w' g → total g ≤ total_listed s
+pub half_total : (s : Listed) (i : ℕ) (ks : List Key) (j : ℕ) (w w' : List Warned) (g : Graph) → i < length s → HalfMade s i ks j w w' g → total g ≤ total_listed s
 half_total s i ks j w w' g hi half =
     let most = sizes_le_total s (i ∷ half.ys) (part_rise s i ks j half.ys half.part) (within hi half) in
     let is = half.total_is in
@@ -93,10 +93,10 @@ half_total s i ks j w w' g hi half =
 pub own_fits : (s : Listed) (i : ℕ) → i < length s → size_at_place s i ≤ total_listed s
 own_fits s i hi =
     let alone = total-alone (size_at_place s i) in
-    let most = half_total s i [] 0 [] ([] ++ warning_at s i) (add_self (size_at_place s i) default) hi (half_none s i [] [] ([] ++ warning_at s i) (add_self (size_at_place s i) default) refl refl) in
+    let most = half_total s i [] 0 [] ([] ++ warned_at s i) (add_self (size_at_place s i) default) hi (half_none s i [] [] ([] ++ warned_at s i) (add_self (size_at_place s i) default) refl refl) in
     omega (arith, alone, most)
 
-pub made_total : (s : Listed) (i : ℕ) (w w' : List ℕ) (g : Graph) → Makes s i w w' g → total g ≤ total_listed s
+pub made_total : (s : Listed) (i : ℕ) (w w' : List Warned) (g : Graph) → Makes s i w w' g → total g ≤ total_listed s
 made_total s i w w' g made =
     let most = sizes_le_total s (i ∷ made.others) made.walk.rise made.walk.within in
     let is = made.total_is in
@@ -131,7 +131,7 @@ module _ (items : List Node) (ok : IsTree items) (v : Listed) (view : sums_of it
       let inside : get_or xs j 0 < length (sums_of items) = subst (λ (s : Listed). get_or xs j 0 < length s) (sym view) there.1 in
       sym (key_in-keys_of (map shape items) xs j hj ∙ key_read items (get_or xs j 0) m (in_nodes items (get_or xs j 0) inside) read_m)
 
-  pub made_all : (w w' : List ℕ) (g : Graph) (j : ℕ) → length xs ≤ j → j ≤ length xs → HalfMade v p (keys_of (map shape items) xs) j w w' g → Makes v p w w' g
+  pub made_all : (w w' : List Warned) (g : Graph) (j : ℕ) → length xs ≤ j → j ≤ length xs → HalfMade v p (keys_of (map shape items) xs) j w w' g → Makes v p w w' g
   made_all w w' g j most least half =
       let ns = map shape items in
       let inside = in_shapes items p here in
@@ -141,7 +141,7 @@ module _ (items : List Node) (ok : IsTree items) (v : Listed) (view : sums_of it
       (record {
         others = at_nodes.ys;
         walk = part_all ns ok p inside j whole at_nodes.ys at_nodes.part;
-        warnings_are = at_nodes.warnings_are;
+        warned_are = at_nodes.warned_are;
         graph_is = graph_all ns ok p inside j whole (λ q. get g q) at_nodes.has;
         total_is = at_nodes.total_is;
       })

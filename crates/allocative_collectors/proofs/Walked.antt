@@ -7,11 +7,12 @@ use Rattle.std.proofs.lemmas.List.{get_or_append_left, get_or-append_right, appe
 use Rattle.std.proofs.lemmas.Cmp.{tied_itself}
 use Rattle.std.proofs.lemmas.Bool.{cases_lt, cases_eq}
 use Rattle.allocative_graph.specs.Path.{Key, Path, key_cmp, path_cmp}
+use Rattle.allocative_graph.specs.Graph.{Warned}
 use Rattle.allocative_collectors.specs.Listed.{Listed, path_at}
 use Rattle.allocative_collectors.specs.Shapes.{Shape, paths, sums, key_in, keys_at, children_at, key_at, parent_at, KeysRise, IsArena}
 use Rattle.std.specs.List.{flat_map}
 use Rattle.std.proofs.lemmas.Grind.{flat_map-append}
-use Rattle.allocative_collectors.specs.Finishing.{warning_at}
+use Rattle.allocative_collectors.specs.Finishing.{warned_at}
 use Rattle.allocative_collectors.specs.Walks.{IsUnder, StandsIn, PathsRise, IsWalk}
 use Rattle.allocative_collectors.proofs.Orders.{key_total}
 use Rattle.allocative_collectors.proofs.Keys.{length-keys_of, key_in-keys_of}
@@ -198,5 +199,9 @@ module _ (ns : List Shape) (ok : IsArena ns) where
           subst (λ (x : Path). path_cmp (path_at (sums ns) p) x ≡ Less) (sym (u.is ∙ snoc_split _ _ _)) (beginning_before (path_at (sums ns) p) (key_in (keys_at ns p) one.0) u.rest)
       rise (suc a) (suc b) lt h = part.rise a b (omega arith) (omega arith)
 
-pub more_warnings : (s : Listed) (old mid new : List ℕ) (ys zs : List ℕ) → mid ≡ old ++ flat_map (warning_at s) ys → new ≡ mid ++ flat_map (warning_at s) zs → new ≡ old ++ flat_map (warning_at s) (ys ++ zs)
-more_warnings s old mid new ys zs first second = second ∙ (ap (λ (l : List ℕ). l ++ flat_map (warning_at s) zs) first ∙ (append_assoc old (flat_map (warning_at s) ys) (flat_map (warning_at s) zs) ∙ ap (λ (l : List ℕ). old ++ l) (sym (flat_map-append (warning_at s) ys zs))))
+-- What two walks found, one after the other.
+pub more_warned : (s : Listed) (old mid new : List Warned) (ys zs : List ℕ) → mid ≡ old ++ flat_map (warned_at s) ys → new ≡ mid ++ flat_map (warned_at s) zs → new ≡ old ++ flat_map (warned_at s) (ys ++ zs)
+more_warned s old mid new ys zs first second =
+    second
+    ∙ (ap (λ (l : List Warned). l ++ flat_map (warned_at s) zs) first
+    ∙ (append_assoc old (flat_map (warned_at s) ys) (flat_map (warned_at s) zs) ∙ ap (λ (l : List Warned). old ++ l) (sym (flat_map-append (warned_at s) ys zs))))

@@ -1,17 +1,22 @@
--- A walk over all places in the order of paths gives the map's entries, and so all warnings.
-use Rattle.std.proofs.Common.{◌≡◌, ◌≢◌, ℕ, zero, suc, ◌<◌, Bool, true, false, T, ◌&&◌, List, [], ◌∷◌, ◌++◌, map, flat_map, length, get_or, Option, Some, None, Ordering, Less, refl, sym, ap, subst, ◌∙◌, arith, true≢false, inl, inr}
+-- A walk over all places in the order of paths gives the map's entries, and so all paths that have a warning.
+use Rattle.std.proofs.Common.{◌≡◌, ◌≢◌, ℕ, zero, suc, ◌<◌, Bool, true, false, T, not, ◌&&◌, cond, List, [], ◌∷◌, ◌++◌, map, flat_map, length, get_or, Option, Some, None, Ordering, Less, refl, sym, ap, subst, ◌∙◌, arith, true≢false, inl, inr}
 use Rattle.std.specs.Ordering.{is_lt}
 use Rattle.std.specs.FinMap.{get, entries}
 use Rattle.std.specs.FinMap.Entries.{find, is_sorted, below_all}
+use Rattle.std.specs.Prelude.{nat_lt}
 use Rattle.std.proofs.lemmas.Bool.{cases_Bool, cond-true, cond-false}
+use Rattle.std.proofs.lemmas.Grind.{flat_map-append}
+use Rattle.std.proofs.lemmas.List.{append-nil}
 use Rattle.allocative_graph.specs.Path.{Path, path_cmp, is_same_path}
-use Rattle.allocative_graph.specs.Sums.{Sums, Node}
-use Rattle.allocative_graph.specs.Graph.{warning, warnings}
+use Rattle.allocative_graph.specs.Format.{newline}
+use Rattle.allocative_graph.specs.Sums.{Sums, Node, below}
+use Rattle.allocative_graph.specs.Graph.{Warned, is_root, warned, warned_paths, warning, warning_line, warning_text, warnings}
 use Rattle.allocative_graph.proofs.Basics.{same_path}
 use Rattle.allocative_graph.proofs.Listing.{entries_are}
 use Rattle.allocative_collectors.specs.Listed.{Listed, sum_at, path_at, row, map_of}
-use Rattle.allocative_collectors.specs.Finishing.{warning_at}
+use Rattle.allocative_collectors.specs.Finishing.{warned_at}
 use Rattle.allocative_collectors.specs.Walks.{IsWalk, StandsIn}
+use Rattle.allocative_collectors.specs.Warned.{warning_lines}
 use Rattle.allocative_collectors.proofs.Bridge.{IsListing, get_at, got}
 use Rattle.allocative_collectors.proofs.Orders.{same_path-same}
 
@@ -79,11 +84,30 @@ module _ (s : Listed) where
     pub entries_walk : entries (map_of s) ≡ map at ys
     entries_walk = entries_are (map_of s) (map at ys) (sorted_from ys (λ a b lt h. walk.rise (suc a) (suc b) (omega arith) (omega arith))) same
 
-    each_warned : (zs : List ℕ) → flat_map (warning (map_of s)) (map at zs) ≡ flat_map (warning_at s) zs
+    each_warned : (zs : List ℕ) → flat_map (warned (map_of s)) (map at zs) ≡ flat_map (warned_at s) zs
     each_warned [] = refl
-    each_warned (z ∷ zs) = ap (λ (l : List ℕ). warning_at s z ++ l) (each_warned zs)
+    each_warned (z ∷ zs) = ap (λ (l : List Warned). warned_at s z ++ l) (each_warned zs)
 
-    pub warnings_walk : flat_map (warning_at s) (0 ∷ ys) ≡ warnings (map_of s)
-    warnings_walk =
-        ap (λ (p : Path). warning (map_of s) (p, (at 0).1) ++ flat_map (warning_at s) ys) ok.root_path
-        ∙ sym (ap (flat_map (warning (map_of s))) entries_walk ∙ each_warned ys)
+    -- The walk from the root finds all paths that have a warning, since the root has none.
+    pub warned_walk : flat_map (warned_at s) (0 ∷ ys) ≡ warned_paths (map_of s)
+    warned_walk =
+        ap (λ (p : Path). warned (map_of s) (p, (at 0).1) ++ flat_map (warned_at s) ys) ok.root_path
+        ∙ sym (ap (flat_map (warned (map_of s))) entries_walk ∙ each_warned ys)
+
+-- ---- the text of the warnings
+line_of : (s : Sums) (e : Path × Node) → warning_lines (warned s e) ≡ warning s e
+line_of s e = by (not (is_root e.0) && not e.1.is_unique && nat_lt e.1.bytes (below s e.0))
+  where
+    by : (b : Bool) → warning_lines (cond b (record { path = e.0; self_size = e.1.bytes; children_size = below s e.0 } ∷ []) []) ≡ cond b (warning_line e.0 e.1.bytes (below s e.0)) []
+    by true = append-nil (warning_line e.0 e.1.bytes (below s e.0))
+    by false = refl
+
+lines_of : (s : Sums) (es : List (Path × Node)) → warning_lines (flat_map (warned s) es) ≡ flat_map (warning s) es
+lines_of s [] = refl
+lines_of s (e ∷ es) =
+    flat_map-append (λ w. warning_text w ++ newline ∷ []) (warned s e) (flat_map (warned s) es)
+    ∙ (λ i. line_of s e i ++ lines_of s es i)
+
+-- The lines of the paths that have a warning are the text of the warnings.
+pub lines-warned_paths : (s : Sums) → warning_lines (warned_paths s) ≡ warnings s
+lines-warned_paths s = lines_of s (entries s)

@@ -6,4 +6,3 @@ pub mod Finishing
 pub mod Places
 pub mod Meets
 pub mod Warned
-pub mod Warning

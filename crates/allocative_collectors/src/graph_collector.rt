@@ -19,6 +19,8 @@ use std::marker::Model;
 
 /// The collector of a flame graph, which has not failed. The crate above stores the first refusal, and does not use the
 /// collector after it.
+///
+/// It has at most 2^32 - 1 paths beside the root. An entry on one more is refused with `Memory`.
 #[derive(Drop)]
 pub struct GraphCollector {
     tree: Tree,
@@ -67,7 +69,8 @@ impl GraphCollector {
     /// One more entry of `size` bytes under the key, unique or inline, and a visitor at it.
     ///
     /// It returns `TooLarge` exactly where the bytes of all entries would exceed `isize::MAX`, and otherwise fails only
-    /// with `Memory`. The bound is tested before memory is allocated. An error changes nothing.
+    /// with `Memory`: where memory runs out, or where there would be more than 2^32 - 1 paths. The bound on bytes is
+    /// tested before memory is allocated. An error changes nothing.
     #[inline(always)]
     pub fn enter(&mut self, key: &Key, size: usize, is_unique: bool) -> Result<(), Refusal>
         ensures ok { OnOk result ((entered self.old.sums + size < 2 ^ 63)

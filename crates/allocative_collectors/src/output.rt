@@ -1,8 +1,10 @@
 //! What a finished collector returns: a flame graph and its warnings.
-ghost use Rattle.std.specs.Prelude.{◌≡◌, MatchResult, string_bytes, map};
+ghost use Rattle.std.specs.Prelude.{◌≡◌, ◌++◌, IfOk, OnOk, MatchResult, string_bytes, map};
+ghost use Rattle.allocative_collectors.specs.Warned.{seen, warning_lines};
 
-use allocative_graph::flamegraph::FlameGraph;
+use allocative_graph::flamegraph::{FlameGraph, push_path};
 use allocative_graph::refusal::Refusal;
+use std::alloc::{AllocError, Global};
 use std::marker::Model;
 
 /// A path that has a warning: it was never unique, and declares fewer bytes than the paths one key below it together.
@@ -14,6 +16,26 @@ pub struct WarnedPath {
     pub self_size: usize,
     /// The bytes that the paths one key below it declare together, which the warning calls its size of inline children.
     pub children_size: usize,
+}
+
+impl WarnedPath {
+    ghost use Rattle.allocative_graph.specs.Graph.{warning_text};
+    ghost use Rattle.allocative_collectors.specs.Warned.{seen};
+
+    /// Appends the warning of the path, without a line feed. The only error is that memory runs out; then the text may
+    /// have a part of it.
+    pub fn push_warning(&self, text: &mut String) -> Result<(), AllocError>
+        ensures { OnOk result (string_bytes text.new ≡ string_bytes text.old ++ warning_text (seen self.now)) }
+    {
+        let (own, parts) = (self.self_size, self.children_size);
+        text.push_str("Incorrect size declaration for node `")?;
+        push_path(self.path.as_slice(), text)?;
+        write!(
+            text,
+            "`, size of self: {own}, size of inline children: {parts}"
+        )?;
+        Ok(())
+    }
 }
 
 /// A finished flame graph, and its warnings.
@@ -42,22 +64,25 @@ impl Model for FlameGraphOutput {
 }
 
 impl FlameGraphOutput {
-    ghost use Rattle.allocative_collectors.specs.Warned.{seen};
+    ghost use Rattle.allocative_collectors.specs.Warned.{seen, warning_lines};
 
+    /// The graph, the paths that have a warning, and the text of the warnings, which is made from the paths. The only
+    /// error is that memory runs out.
     pub(crate) fn new(
+        alloc: Global,
         flamegraph: FlameGraph,
-        warnings: String,
         warned: Vec<WarnedPath>,
-    ) -> FlameGraphOutput
-        ensures graph { result.graph ≡ flamegraph }
-        ensures warnings { result.warnings ≡ string_bytes warnings }
-        ensures warned { result.warned ≡ map seen warned.items }
+    ) -> Result<FlameGraphOutput, AllocError>
+        ensures graph { IfOk result (λ o. o.graph ≡ flamegraph) }
+        ensures warnings { IfOk result (λ o. o.warnings ≡ warning_lines (map seen warned.items)) }
+        ensures warned { IfOk result (λ o. o.warned ≡ map seen warned.items) }
     {
-        FlameGraphOutput {
+        let warnings = warning_lines(alloc, warned.as_slice())?;
+        Ok(FlameGraphOutput {
             flamegraph,
             warnings,
             warned,
-        }
+        })
     }
 
     /// The graph.
@@ -100,4 +125,16 @@ impl FlameGraphOutput {
     {
         self.warned.as_slice()
     }
+}
+
+/// The text of the warnings of some paths: a line for each, in their order.
+fn warning_lines(alloc: Global, warned: &[WarnedPath]) -> Result<String, AllocError>
+    ensures { IfOk result (λ text. string_bytes text ≡ warning_lines (map seen warned.now)) }
+{
+    let mut text = String::new(alloc);
+    for one in warned {
+        one.push_warning(&mut text)?;
+        text.push_str("\n")?;
+    }
+    Ok(text)
 }

@@ -1,22 +1,21 @@
 //! The paths that were entered, as an arena of nodes that refer to one another by number.
-ghost use Rattle.std.specs.Prelude.{◌≡◌, ◌+◌, ◌^◌, ◌<◌, ◌≤◌, ℕ, [], ◌∷◌, ◌++◌, length, map, slice_index, string_bytes, EachIndex, IfOk, IfErr, IfSome, IfNone, OnOk, OnErr, IsTrue, ◌↔◌, false};
-ghost use Rattle.allocative_graph.specs.Graph.{warning_line, total as graph_total};
+ghost use Rattle.std.specs.Prelude.{◌≡◌, ◌+◌, ◌^◌, ◌<◌, ◌≤◌, ℕ, [], ◌∷◌, ◌++◌, length, map, slice_index, EachIndex, IfOk, IfErr, IfSome, IfNone, OnOk, OnErr, IsTrue, ◌↔◌, false};
+ghost use Rattle.allocative_graph.specs.Graph.{total as graph_total};
 ghost use Rattle.allocative_graph.specs.Visits.{IsProfile};
 ghost use Rattle.allocative_collectors.specs.Listed.{root_sum, add, total, path_at, map_of, IsEntered, IsAbove};
 ghost use Rattle.allocative_collectors.specs.Finishing.{size_at_place, is_short, Makes, MakesAlone};
 ghost use Rattle.allocative_collectors.specs.Shapes.{keys_of, KeysRise, IsPlace, IsKeyGap};
 ghost use Rattle.allocative_collectors.specs.Nodes.{shape};
+ghost use Rattle.allocative_collectors.specs.Warned.{seen};
 
-use crate::output::FlameGraphOutput;
-use allocative_graph::flamegraph::{FlameGraph, push_path};
+use crate::output::{FlameGraphOutput, WarnedPath};
+use allocative_graph::flamegraph::FlameGraph;
 use allocative_graph::key::Key;
 use allocative_graph::refusal::Refusal;
 use smallvec::SmallVec;
 use std::alloc::{AllocError, Global};
 use std::cmp::Ordering;
 use std::marker::Model;
-
-mod warned;
 
 /// What was entered at one path.
 #[derive(Drop)]
@@ -113,7 +112,7 @@ impl Tree {
 
     /// The graph, the text of the warnings, and the paths that have one.
     ///
-    /// One walk makes the graph and the text. Where the text is not empty, a second walk lists the paths.
+    /// One walk makes the graph and lists the paths that have a warning. The text is made from the list.
     pub(crate) fn finish(&self) -> Result<FlameGraphOutput, Refusal>
         requires { total self.now < 2 ^ 63 }
         ensures made { IfOk result (IsProfile (map_of self.now)) }
@@ -121,27 +120,24 @@ impl Tree {
         ensures err { IfErr result (λ e. e ≡ Refusal.Memory) }
     {
         let mut keys: Vec<&'static str> = Vec::new(self.alloc);
-        let mut warnings = String::new(self.alloc);
-        let graph = self.make(0, &mut keys, &mut warnings)?;
         let mut warned = Vec::new(self.alloc);
-        if !warnings.is_empty() {
-            self.push_warned(0, &mut keys, &mut warned)?;
-        }
-        Ok(FlameGraphOutput::new(graph, warnings, warned))
+        let graph = self.make(0, &mut keys, &mut warned)?;
+        Ok(FlameGraphOutput::new(self.alloc, graph, warned)?)
     }
 
-    /// The graph of the node `at` and all below it. Their warnings are appended to `text`; `keys` is the node's path.
+    /// The graph of the node `at` and all below it. Those of their paths that have a warning are appended to `warned`;
+    /// `keys` is the node's path.
     fn make(
         &self,
         at: usize,
         keys: &mut Vec<&'static str>,
-        text: &mut String,
+        warned: &mut Vec<WarnedPath>,
     ) -> Result<FlameGraph, Refusal>
         requires within { at < length self.now }
         requires fits { total self.now < 2 ^ 63 }
         requires keys { map (λ k. k.now) keys.old.items ≡ path_at self.now at }
         ensures keys { OnOk result (keys.new.items ≡ keys.old.items) }
-        ensures made { IfOk result (Makes self.now at (string_bytes text.old) (string_bytes text.new)) }
+        ensures made { IfOk result (Makes self.now at (map seen warned.old.items) (map seen warned.new.items)) }
         ensures err { IfErr result (λ e. e ≡ Refusal.Memory) }
     {
         if let Some(leaf) = self.leaf(at) {
@@ -151,12 +147,12 @@ impl Tree {
         let mut graph = FlameGraph::with_capacity(self.alloc, node.children.len())?;
         graph.add_self(self.size(at))?;
         if self.is_short(at) {
-            push_warning(keys.as_slice(), node.bytes, node.below, text)?;
+            push_warned(keys.as_slice(), node.bytes, node.below, warned)?;
         }
         for &child in node.children.as_slice() {
             let key = &self.nodes[child as usize].key;
             keys.push(key.as_str())?;
-            let below = self.make(child as usize, keys, text)?;
+            let below = self.make(child as usize, keys, warned)?;
             graph.add_child(key.copy(), below)?;
             let _ = keys.pop();
         }
@@ -349,21 +345,23 @@ fn find(nodes: &[Node], children: &[u32], key: &Key) -> Result<usize, usize>
     Err(low)
 }
 
-/// Appends the warning of the path `keys`, with its own bytes and those one key below.
-fn push_warning(
-    keys: &[&str],
+/// Appends the path `keys`, which has a warning, with its own bytes and those one key below. It is no part of the walk's
+/// own function, so that a level of the walk takes less of the stack.
+#[inline(never)]
+fn push_warned(
+    keys: &[&'static str],
     bytes: usize,
     below: usize,
-    text: &mut String,
+    warned: &mut Vec<WarnedPath>,
 ) -> Result<(), AllocError>
-    ensures { OnOk result (string_bytes text.new ≡
-        string_bytes text.old ++ warning_line (map (λ k. k.now) keys.now) bytes below) }
+    ensures { OnOk result (map seen warned.new.items ≡ map seen warned.old.items
+        ++ record { path = map (λ k. k.now) keys.now; self_size = bytes; children_size = below } ∷ []) }
 {
-    text.push_str("Incorrect size declaration for node `")?;
-    push_path(keys, text)?;
-    write!(
-        text,
-        "`, size of self: {bytes}, size of inline children: {below}\n"
-    )?;
+    let path = Vec::from_slice(*warned.allocator(), keys)?;
+    warned.push(WarnedPath {
+        path,
+        self_size: bytes,
+        children_size: below,
+    })?;
     Ok(())
 }

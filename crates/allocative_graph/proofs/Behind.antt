@@ -14,8 +14,7 @@ use Rattle.std.specs.FinMap.{get, entries, len, len-entries}
 use Rattle.allocative_graph.specs.declared.flamegraph.Child.{Child}
 use Rattle.allocative_graph.specs.Path.{Key, Path, key_cmp}
 use Rattle.allocative_graph.specs.Graph.{Graph, IsTree, IsBehind, HasNothing, begins, total_at}
-use Rattle.allocative_graph.specs.Representation.PathRows.{under_rows}
-use Rattle.allocative_graph.specs.Representation.Node.{node, rows_of, rows_of_child, keys_of}
+use Rattle.allocative_graph.specs.Reads.{under_rows, node, rows_of, rows_of_child, keys_of}
 use Rattle.allocative_graph.specs.Representation.NodeRows.{entries-node}
 use Rattle.allocative_graph.specs.Representation.Children.{size_under, InOrder, IsFound, IsChildGap, AllBelow, AllAbove}
 use Rattle.allocative_graph.proofs.ChildSizes.{Lacks, lacks-above, size_under-lacks}

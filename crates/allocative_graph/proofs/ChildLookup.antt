@@ -8,10 +8,10 @@ use Rattle.std.specs.FinMap.{get, entries, from_entries, same_entries_map, get-f
 use Rattle.std.proofs.lemmas.List.{append-nil}
 use Rattle.std.specs.FinMap.Entries.{find}
 use Rattle.allocative_graph.specs.declared.flamegraph.Child.{Child}
-use Rattle.allocative_graph.specs.Graph.{under}
-use Rattle.allocative_graph.specs.Representation.PathRows.{under_rows, IsSumByPath, IsPartOfSum}
+use Rattle.allocative_graph.specs.Graph.{under, IsPartOfSum}
+use Rattle.allocative_graph.specs.Reads.{under_rows, node, rows_of}
+use Rattle.allocative_graph.specs.Representation.PathRows.{IsSumByPath}
 use Rattle.allocative_graph.specs.Path.{Key, Path, key_cmp, path_cmp}
-use Rattle.allocative_graph.specs.Representation.Node.{node, rows_of}
 use Rattle.allocative_graph.specs.Representation.NodeRows.{node_sorted, entries-node}
 use Rattle.allocative_graph.proofs.Listing.{entries-from_entries-sorted}
 use Rattle.allocative_graph.specs.Representation.Children.{size_under, AreSum, ArePartOfSum, InOrder}

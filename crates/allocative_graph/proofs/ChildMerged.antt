@@ -10,7 +10,8 @@ use Rattle.std.specs.FinMap.{get, len, entries, len-entries}
 use Rattle.allocative_graph.specs.declared.flamegraph.Child.{Child}
 use Rattle.allocative_graph.specs.Path.{Key, Path, key_cmp}
 use Rattle.allocative_graph.specs.Graph.{Graph, IsTree, total}
-use Rattle.allocative_graph.specs.Representation.Node.{rows_of, rows_of_child, weight, AreChildren}
+use Rattle.allocative_graph.specs.Reads.{rows_of, rows_of_child, AreChildren}
+use Rattle.allocative_graph.specs.Representation.Node.{weight}
 use Rattle.allocative_graph.specs.Representation.Children.{size_under, AddsUp, AddsUpInPart, AllAbove, front_order}
 use Rattle.allocative_graph.specs.Representation.Merged.{Added, Merged, IsNext}
 use Rattle.allocative_graph.proofs.ChildOrder.{first_below, first_tree, others, with_first, no_children, above_all, key_same, key_turn}

@@ -9,7 +9,7 @@ use Rattle.std.specs.FinMap.{nat_cmp-IsAntisymmetric, slice_cmp-IsAntisymmetric}
 use Rattle.allocative_graph.specs.declared.flamegraph.Child.{Child}
 use Rattle.allocative_graph.specs.Path.{Key, key_cmp}
 use Rattle.allocative_graph.specs.Graph.{IsTree}
-use Rattle.allocative_graph.specs.Representation.Node.{keys_of, AreChildren}
+use Rattle.allocative_graph.specs.Reads.{keys_of, AreChildren}
 use Rattle.allocative_graph.specs.Representation.Children.{InOrder, AllBelow, AllAbove}
 
 pub key_same : (k l : Key) → key_cmp k l ≡ Equal → k ≡ l

@@ -5,7 +5,8 @@ use Rattle.std.specs.declared.cmp.Ordering.TheVariants.{Less}
 use Rattle.allocative_graph.specs.declared.flamegraph.Child.{Child}
 use Rattle.allocative_graph.specs.Path.{Key, key_cmp}
 use Rattle.allocative_graph.specs.Graph.{IsTree, total}
-use Rattle.allocative_graph.specs.Representation.Node.{weight, AreChildren}
+use Rattle.allocative_graph.specs.Reads.{AreChildren}
+use Rattle.allocative_graph.specs.Representation.Node.{weight}
 use Rattle.allocative_graph.specs.Representation.Children.{IsFound, IsChildGap, AllBelow, AllAbove}
 use Rattle.allocative_graph.specs.Representation.Merged.{Added, Merged}
 use Rattle.allocative_graph.proofs.ChildOrder.{first_below, first_below_one, first_tree, others}

@@ -8,8 +8,9 @@ use Rattle.allocative_graph.specs.declared.flamegraph.Child.{Child}
 use Rattle.allocative_graph.specs.Path.{Key, Path}
 use Rattle.allocative_graph.specs.Graph.{total}
 use Rattle.allocative_graph.proofs.RowSums.{total-rows}
-use Rattle.allocative_graph.specs.Representation.PathRows.{sum_of_rows, under_rows}
-use Rattle.allocative_graph.specs.Representation.Node.{rows_of, rows_of_child, weight}
+use Rattle.allocative_graph.specs.Reads.{under_rows, rows_of, rows_of_child}
+use Rattle.allocative_graph.specs.Representation.PathRows.{sum_of_rows}
+use Rattle.allocative_graph.specs.Representation.Node.{weight}
 
 sum-append : (a b : List (Path × ℕ)) → sum_of_rows (a ++ b) ≡ sum_of_rows a + sum_of_rows b
 sum-append [] b = omega arith

@@ -7,7 +7,7 @@ use Rattle.std.specs.Cmp.{Equal-is}
 use Rattle.std.specs.FinMap.{get}
 use Rattle.allocative_graph.specs.declared.flamegraph.Child.{Child}
 use Rattle.allocative_graph.specs.Path.{Key, Path, key_cmp}
-use Rattle.allocative_graph.specs.Representation.Node.{keys_of}
+use Rattle.allocative_graph.specs.Reads.{keys_of}
 use Rattle.allocative_graph.specs.Representation.Children.{size_under, AddsUp, AddsUpInPart, AllAbove}
 use Rattle.allocative_graph.proofs.ChildOrder.{key_same}
 

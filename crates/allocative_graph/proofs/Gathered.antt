@@ -8,8 +8,7 @@ use Rattle.std.proofs.lemmas.List.Sums.{sum_by-cons}
 use Rattle.std.proofs.lemmas.List.Sorted.{sum_by-IsPermutation, list_any-IsPermutation}
 use Rattle.allocative_graph.specs.declared.flamegraph.Child.{Child}
 use Rattle.allocative_graph.specs.Path.{Path}
-use Rattle.allocative_graph.specs.Graph.{Graph, IsTree, size_at, total, sum_of, under, default}
-use Rattle.allocative_graph.specs.Representation.PathRows.{IsPartOfSum}
+use Rattle.allocative_graph.specs.Graph.{Graph, IsTree, size_at, total, sum_of, under, default, IsPartOfSum}
 use Rattle.allocative_graph.specs.Many.{sum_of_all, total_of}
 use Rattle.allocative_graph.proofs.Basics.{path_total, path_antisymmetric}
 use Rattle.allocative_graph.proofs.Graphs.{sizes_together, total-sum_of, total-under, sum_of-associates, sum_of-default}

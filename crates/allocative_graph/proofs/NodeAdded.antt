@@ -6,7 +6,7 @@ use Rattle.std.specs.FinMap.{get, contains_key, len, len-entries}
 use Rattle.allocative_graph.specs.declared.flamegraph.Child.{Child}
 use Rattle.allocative_graph.specs.Path.{Key, Path, key_cmp}
 use Rattle.allocative_graph.specs.Graph.{IsTree, under}
-use Rattle.allocative_graph.specs.Representation.Node.{node, rows_of, AllTrees, AreChildren}
+use Rattle.allocative_graph.specs.Reads.{node, rows_of, AllTrees, AreChildren}
 use Rattle.allocative_graph.specs.Representation.Children.{size_under}
 use Rattle.allocative_graph.specs.Representation.Merged.{Added, Merged}
 use Rattle.allocative_graph.proofs.ChildLookup.{get-root, get-under, node_sum, node_part, node_of_one}

@@ -11,7 +11,7 @@ use Rattle.allocative_graph.proofs.RowSums.{total-rows}
 use Rattle.allocative_graph.proofs.Listing.{entries-from_entries-sorted}
 use Rattle.allocative_graph.specs.Representation.PathRows.{sum_of_rows}
 use Rattle.allocative_graph.specs.Path.{key_cmp, path_cmp}
-use Rattle.allocative_graph.specs.Representation.Node.{node, rows_of, keys_of}
+use Rattle.allocative_graph.specs.Reads.{node, rows_of, keys_of}
 use Rattle.allocative_graph.specs.Representation.NodeRows.{entries-node, node_sorted}
 
 -- A node with no children has only the root.

@@ -6,9 +6,9 @@ use Rattle.std.proofs.lemmas.Bool.{ne_eqb}
 use Rattle.std.proofs.Math.Seq.{take-append_seam}
 use Rattle.allocative_graph.specs.declared.flamegraph.Child.{Child}
 use Rattle.allocative_graph.specs.Path.{Key, Path}
-use Rattle.allocative_graph.specs.Representation.PathRows.{joined_on, under_rows, size_text, line_from, lines_from, line_below, lines_below}
+use Rattle.allocative_graph.specs.Reads.{under_rows, rows_of, rows_of_child}
+use Rattle.allocative_graph.specs.Representation.PathRows.{joined_on, size_text, line_from, lines_from, line_below, lines_below}
 use Rattle.std.specs.FinMap.{entries}
-use Rattle.allocative_graph.specs.Representation.Node.{rows_of, rows_of_child}
 use Rattle.allocative_graph.proofs.RowSums.{joined-keys}
 
 -- The texts of the keys.

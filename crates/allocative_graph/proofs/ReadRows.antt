@@ -6,11 +6,9 @@ use Rattle.std.specs.FinMap.{entries}
 use Rattle.allocative_graph.specs.declared.flamegraph.Child.{Child}
 use Rattle.allocative_graph.specs.Path.{Key, Path}
 use Rattle.allocative_graph.specs.Graph.{total, total_at}
-use Rattle.allocative_graph.specs.Representation.PathRows.{under_rows}
-use Rattle.allocative_graph.specs.Representation.Node.{node, rows_of, rows_of_child}
 use Rattle.allocative_graph.specs.Representation.NodeRows.{entries-node}
 use Rattle.allocative_graph.specs.Representation.Children.{InOrder}
-use Rattle.allocative_graph.specs.Reads.{Figures, figures_behind}
+use Rattle.allocative_graph.specs.Reads.{Figures, figures_behind, under_rows, node, rows_of, rows_of_child}
 use Rattle.allocative_graph.proofs.Behind.{total_at-child}
 
 -- The figures of some paths with their sizes, with some keys before them, where t has the bytes of each path and of all

@@ -53,6 +53,14 @@ default = from_entries (([], 0) ∷ [])
 abbrev pub sum_of : Graph → Graph → Graph
 sum_of g h = from_entries (map (λ p. (p, size_at g p + size_at h p)) (keys g ++ keys h))
 
+-- At each path r has the size of g or that of the sum. It has all paths of g, and none that the sum does not have.
+abbrev pub IsPartOfSum : Graph → Graph → Graph → Type 0
+IsPartOfSum g h r =
+    (p : Path)
+    → ((size_at r p ≡ size_at g p) ⊎ (size_at r p ≡ size_at g p + size_at h p))
+    × (contains_key g p ≡ true → contains_key r p ≡ true)
+    × (contains_key r p ≡ true → (contains_key g p || contains_key h p) ≡ true)
+
 -- The root with 0, and each path of g with k before it.
 abbrev pub under : Key → Graph → Graph
 under k g = from_entries (([], 0) ∷ map (λ e. (k ∷ e.0, e.1)) (entries g))
@@ -112,10 +120,20 @@ text_of_entries es = flat_map line es
 abbrev pub text : Graph → List ℕ
 text g = text_of_entries (entries g)
 
--- The warning of a path, with its own bytes and those one key below it.
+-- A path that has a warning, with its bytes and those one key below it.
+pub record Warned : Type 0 where
+  pub path : Path
+  pub self_size : ℕ
+  pub children_size : ℕ
+
+-- The warning of such a path, without a line feed.
+abbrev pub warning_text : Warned → List ℕ
+warning_text w = codes "Incorrect size declaration for node `" ++ joined w.path ++ codes "`, size of self: "
+    ++ decimal w.self_size ++ codes ", size of inline children: " ++ decimal w.children_size
+
+-- The line of the warning of a path, with its own bytes and those one key below it.
 abbrev pub warning_line : Path → ℕ → ℕ → List ℕ
-warning_line p bytes under = codes "Incorrect size declaration for node `" ++ joined p ++ codes "`, size of self: "
-    ++ decimal bytes ++ codes ", size of inline children: " ++ decimal under ++ newline ∷ []
+warning_line p bytes under = warning_text (record { path = p; self_size = bytes; children_size = under }) ++ newline ∷ []
 
 -- The warning of a path of the sums: there is one where the path is not the root, was never unique and has fewer bytes
 -- than one key below it.
@@ -126,12 +144,6 @@ warning s e = cond (not (is_root e.0) && not e.1.is_unique && nat_lt e.1.bytes (
 -- All warnings, in the order of paths.
 abbrev pub warnings : Sums → List ℕ
 warnings s = flat_map (warning s) (entries s)
-
--- A path that has a warning, with its bytes and those one key below it.
-pub record Warned : Type 0 where
-  pub path : Path
-  pub self_size : ℕ
-  pub children_size : ℕ
 
 -- A path of the sums with both numbers where it has a warning, otherwise nothing.
 abbrev pub warned : Sums → Path × Node → List Warned

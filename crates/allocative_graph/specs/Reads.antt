@@ -1,16 +1,48 @@
--- What is read from a flame graph.
-use Rattle.std.specs.Prelude.{ℕ, ◌<◌, List, ◌++◌, map}
-use Rattle.std.specs.List.{All}
-use Rattle.std.specs.FinMap.{entries, len}
+-- What is read from a flame graph: the children of its root, and the rows of all its paths.
+use Rattle.std.specs.Prelude.{ℕ, ◌<◌, List, [], ◌∷◌, ◌++◌, map}
+use Rattle.std.specs.List.{flat_map, All, AllByRecursion}
+use Rattle.std.specs.List.Sorted.{IsStrictlySortedBy}
+use Rattle.std.specs.FinMap.{entries, len, from_sorted}
 use Rattle.allocative_graph.specs.declared.flamegraph.Child.{Child}
 use Rattle.allocative_graph.specs.declared.flamegraph.reads.Row.{Row}
-use Rattle.allocative_graph.specs.Path.{Path}
-use Rattle.allocative_graph.specs.Graph.{Graph, total_at}
+use Rattle.allocative_graph.specs.Path.{Key, Path, key_cmp}
+use Rattle.allocative_graph.specs.Graph.{Graph, IsTree, total_at}
+
+-- ---- the children of the root
+-- The rows with the key before each path.
+abbrev pub under_rows : Key → List (Path × ℕ) → List (Path × ℕ)
+under_rows k rs = map (λ r. (k ∷ r.0, r.1)) rs
+
+-- The rows of a child: each path of its graph with its key before it.
+abbrev pub rows_of_child : Child → List (Path × ℕ)
+rows_of_child c = under_rows c.key (entries c.graph)
+
+-- The rows of all children, one child after another.
+abbrev pub rows_of : List Child → List (Path × ℕ)
+rows_of cs = flat_map rows_of_child cs
+
+-- The graph of a root, from its own size and its children.
+abbrev pub node : ℕ → List Child → Graph
+node n cs = from_sorted (([], n) ∷ rows_of cs)
+
+-- The keys of the children.
+abbrev pub keys_of : List Child → List Key
+keys_of cs = map (λ c. c.key) cs
+
+-- The graph of each child has its root and, with each path, every prefix of it.
+abbrev pub AllTrees : List Child → Type 0
+AllTrees cs = AllByRecursion (λ c. IsTree c.graph) cs
+
+-- What holds of the children of every root: each key is below those after it, and each graph is a tree.
+pub record AreChildren (cs : List Child) : Type 0 where
+  pub sorted : IsStrictlySortedBy key_cmp (keys_of cs)
+  pub trees : AllTrees cs
 
 -- Each child has fewer paths than g.
 abbrev pub AllSmaller : List Child → Graph → Type 0
 AllSmaller cs g = All (λ c. len c.graph < len g) cs
 
+-- ---- the rows of all paths
 -- A path, its own bytes, and the bytes of it and of all paths below it.
 pub record Figures : Type 0 where
   pub path : Path

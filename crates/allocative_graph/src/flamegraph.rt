@@ -6,9 +6,10 @@ ghost use Rattle.std.specs.Vec.{vec_capacity};
 ghost use Rattle.std.specs.FinMap as map;
 ghost use Rattle.allocative_graph.specs.Path.{key_cmp};
 ghost use Rattle.allocative_graph.specs.Format.{semicolon};
-ghost use Rattle.allocative_graph.specs.Graph.{add_self, total, text, default, sum_of, under, joined, IsTree};
-ghost use Rattle.allocative_graph.specs.Representation.PathRows.{size_text, lines_from, lines_below, HasRootAlone, IsPartOfSum};
-ghost use Rattle.allocative_graph.specs.Representation.Node.{weight, AreChildren};
+ghost use Rattle.allocative_graph.specs.Graph.{add_self, total, text, default, sum_of, under, joined, IsTree, IsPartOfSum};
+ghost use Rattle.allocative_graph.specs.Representation.PathRows.{size_text, lines_from, lines_below, HasRootAlone};
+ghost use Rattle.allocative_graph.specs.Reads.{AreChildren};
+ghost use Rattle.allocative_graph.specs.Representation.Node.{weight};
 ghost use Rattle.allocative_graph.specs.Representation.Children.{front_order, InOrder, IsFound, IsChildGap};
 ghost use Rattle.allocative_graph.specs.Representation.Merged.{Added, Merged, IsNext};
 ghost use Rattle.allocative_graph.specs.declared.flamegraph.Child.{Child};
@@ -71,7 +72,8 @@ impl Model for FlameGraph {
 
     ghost coded = { map.code (coded_list (coded_list coded_ℕ)) coded_ℕ };
 
-    ghost use Rattle.allocative_graph.specs.Representation.Node.{node, IsNode};
+    ghost use Rattle.allocative_graph.specs.Reads.{node};
+    ghost use Rattle.allocative_graph.specs.Representation.Node.{IsNode};
 
     ghost view = { λ a. node a.node_size a.children.items };
 

@@ -5,7 +5,7 @@ use thiserror::Error;
 /// Why a call refused. `refusal as u8` is its number, which is fixed: 1, 2 or 3.
 #[derive(Clone, Copy, Debug, PartialEq, Eq, Error)]
 pub enum Refusal {
-    /// Memory ran out, or a caller's own code refused with it.
+    /// Memory ran out, a profile would have had more than 2^32 - 1 paths, or a caller's own code refused with it.
     #[error("out of memory")]
     Memory = 1,
     /// A declared size, a product or a sum of sizes exceeds its bound.

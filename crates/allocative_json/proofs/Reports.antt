@@ -2,6 +2,8 @@
 use Rattle.std.proofs.Common.{◌≡◌, ℕ, ◌<◌, ℤ, length, arith, Bool, List, [], ◌∷◌, Option, None, Some, Result, Ok, Err, IfOk, IfErr, IsErrAnd, IsOkAnd, IfSome, MatchResult, refl, ap, ◌∙◌, sym, subst}
 use Rattle.std.specs.BTreeSet.{BTreeSet}
 use Rattle.serde_json.specs.Data.{Data}
+use Rattle.serde_json.specs.View.{view}
+use Rattle.serde_json.specs.declared.value.Value.{Value}
 use Rattle.serde_json.specs.Read.{read}
 use Rattle.serde_json.proofs.OnLiterals.{serde_json_on_literals}
 use Rattle.allocative.specs.Refusal.{Refusal}
@@ -51,16 +53,16 @@ pub some_input : (input : List ℕ) (d : Data) → IsWholeDocument input d → 0
 some_input [] d h = absurd (nothing_read d h.document.is_read)
 some_input (b ∷ bs) d h = omega arith
 
-refused_roots : (input : List ℕ) (index : Bool) (d : Data) (n : Option (BTreeSet ℤ)) (f : Fault) → AreRoots input index d n → RefusesRoots (roots_show d n) f → RefusesReport input index f
-refused_roots input index d n Memory h r = some_input input d h.document
-refused_roots input index d n TooLarge h r = (d, n, h, r)
-refused_roots input index d n Open h r = (d, n, h, r)
-refused_roots input index d n f h r = absurd r
+refused_roots : (input : List ℕ) (index : Bool) (v : Value) (n : Option (BTreeSet ℤ)) (f : Fault) → AreRoots input index (view v) n → RefusesRoots (roots_show v n) f → RefusesReport input index f
+refused_roots input index v n Memory h r = some_input input (view v) h.document
+refused_roots input index v n TooLarge h r = (v, n, h, r)
+refused_roots input index v n Open h r = (v, n, h, r)
+refused_roots input index v n f h r = absurd r
 
 -- A report of the roots of the input was refused.
-pub refused_report : {T : Type 0} (input : List ℕ) (index : Bool) (d : Data) (n : Option (BTreeSet ℤ)) (r : Result T Fault) → AreRoots input index d n → IfErr r (RefusesRoots (roots_show d n)) → IfErr r (RefusesReport input index)
-refused_report input index d n (Ok x) h r = tt
-refused_report input index d n (Err f) h r = refused_roots input index d n f h r
+pub refused_report : {T : Type 0} (input : List ℕ) (index : Bool) (v : Value) (n : Option (BTreeSet ℤ)) (r : Result T Fault) → AreRoots input index (view v) n → IfErr r (RefusesRoots (roots_show v n)) → IfErr r (RefusesReport input index)
+refused_report input index v n (Ok x) h r = tt
+refused_report input index v n (Err f) h r = refused_roots input index v n f h r
 
 -- ---- boxed roots
 profile_weaker : (p q : Showing) (o : Profile) → ((f : Forest) → p f → q f) → IsProfileOf p o → IsProfileOf q o

@@ -2,6 +2,8 @@
 use Rattle.std.specs.Prelude.{◌≡◌, ℕ, ℤ, ◌<◌, ⊤, Bool, false, List, length, Option, None, Some, codes, string_bytes}
 use Rattle.std.specs.BTreeSet.{BTreeSet}
 use Rattle.serde_json.specs.Data.{Data}
+use Rattle.serde_json.specs.View.{view}
+use Rattle.serde_json.specs.declared.value.Value.{Value}
 use Rattle.allocative.specs.Graph.{text}
 use Rattle.allocative.specs.Shows.{Showing, Nothing, Both, Inside, Field, each_shows}
 use Rattle.allocative.specs.Visits.{Profile, IsProfileOf}
@@ -21,10 +23,14 @@ key_shows k = Field (codes "key") (Some 16) (Field (codes "i128") (Some 16) Noth
 abbrev pub index_shows : BTreeSet ℤ → Showing
 index_shows s = Field (codes "BTreeSet") (Some 24) (Inside (codes "data") 8 (each_shows key_shows s.keys))
 
+-- What a document shows.
+abbrev pub document_shows : Value → Showing
+document_shows v = value_shows (view v)
+
 -- What a document shows, followed by what a set shows where there is one.
-abbrev pub roots_show : Data → Option (BTreeSet ℤ) → Showing
-roots_show d None = value_shows d
-roots_show d (Some s) = Both (value_shows d) (index_shows s)
+abbrev pub roots_show : Value → Option (BTreeSet ℤ) → Showing
+roots_show v None = document_shows v
+roots_show v (Some s) = Both (document_shows v) (index_shows s)
 
 -- The texts of a profile: that of its graph, which with `exact` is without the lines that `exact` drops, and that of its
 -- warnings.
@@ -40,9 +46,9 @@ pub record IsReportOf (p : Showing) (exact : Bool) (made : Report) : Type 0 wher
 -- The input is a document whose numbers are whole, and the texts are those of some profile of it and, with `index`, of
 -- the set of its numbers.
 pub record IsRightReport (input : List ℕ) (index exact : Bool) (made : Report) : Type 0 where
-  pub document : Data
+  pub document : Value
   pub numbers : Option (BTreeSet ℤ)
-  pub roots : AreRoots input index document numbers
+  pub roots : AreRoots input index (view document) numbers
   pub report : IsReportOf (roots_show document numbers) exact made
 
 -- The faults that making a report of roots may return.
@@ -60,4 +66,4 @@ RefusesReport input index Memory = 0 < length input
 RefusesReport input index NotJson = (d : Data) → ¬ IsDocument input d
 RefusesReport input index NotWhole = (d : Data) × IsDocument input d × (is_whole d ≡ false)
 RefusesReport input index f =
-    (d : Data) × (n : Option (BTreeSet ℤ)) × AreRoots input index d n × RefusesRoots (roots_show d n) f
+    (v : Value) × (n : Option (BTreeSet ℤ)) × AreRoots input index (view v) n × RefusesRoots (roots_show v n) f

@@ -2,7 +2,6 @@
 #![tactic(auto, using(allocative::proofs::Roots::running))]
 
 ghost use Rattle.std.specs.Prelude.{IfOk, IfErr};
-ghost use Rattle.serde_json.specs.View.{view};
 ghost use Rattle.allocative.specs.Visits.{Runs, IsProfileOf};
 ghost use Rattle.allocative_json.specs.Profile.{roots_show, IsReportOf, IsRightReport, RefusesRoots, RefusesReport};
 
@@ -21,7 +20,7 @@ fn visit_roots(
     document: &Value,
     numbers: &Option<BTreeSet<i128>>,
 ) -> Result<(), Refusal>
-    ensures { Runs (roots_show (view document.now) numbers.now) builder.old result builder.new }
+    ensures { Runs (roots_show document.now numbers.now) builder.old result builder.new }
 {
     match numbers {
         Some(numbers) => {
@@ -38,7 +37,7 @@ fn profile_of(
     document: &Value,
     numbers: &Option<BTreeSet<i128>>,
 ) -> Result<FlameGraphOutput, Refusal>
-    ensures { IfOk result (IsProfileOf (roots_show (view document.now) numbers.now)) }
+    ensures { IfOk result (IsProfileOf (roots_show document.now numbers.now)) }
 {
     let mut builder = FlameGraphBuilder::new(alloc)?;
     visit_roots(&mut builder, document, numbers)?;
@@ -51,7 +50,7 @@ fn profile_by_registry(
     document: Value,
     numbers: Option<BTreeSet<i128>>,
 ) -> Result<FlameGraphOutput, Refusal>
-    ensures { IfOk result (IsProfileOf (roots_show (view document) numbers)) }
+    ensures { IfOk result (IsProfileOf (roots_show document numbers)) }
 {
     let mut registry = Registry::new(alloc);
     if registry.register_root(Box::new(alloc, document)?).is_err() {
@@ -73,8 +72,8 @@ pub(crate) fn report_of(
     numbers: &Option<BTreeSet<i128>>,
     exact: bool,
 ) -> Result<Report, Fault>
-    ensures ok { IfOk result (IsReportOf (roots_show (view document.now) numbers.now) exact) }
-    ensures err { IfErr result (RefusesRoots (roots_show (view document.now) numbers.now)) }
+    ensures ok { IfOk result (IsReportOf (roots_show document.now numbers.now) exact) }
+    ensures err { IfErr result (RefusesRoots (roots_show document.now numbers.now)) }
 {
     let output = profile_of(alloc, document, numbers)?;
     report(alloc, &output, exact)
@@ -87,8 +86,8 @@ pub(crate) fn report_by_registry(
     numbers: Option<BTreeSet<i128>>,
     exact: bool,
 ) -> Result<Report, Fault>
-    ensures ok { IfOk result (IsReportOf (roots_show (view document) numbers) exact) }
-    ensures err { IfErr result (RefusesRoots (roots_show (view document) numbers)) }
+    ensures ok { IfOk result (IsReportOf (roots_show document numbers) exact) }
+    ensures err { IfErr result (RefusesRoots (roots_show document numbers)) }
 {
     let output = profile_by_registry(alloc, document, numbers)?;
     report(alloc, &output, exact)

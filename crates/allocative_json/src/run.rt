@@ -15,9 +15,9 @@ use std::alloc::Global;
 use std::io::{ErrorKind, Read, Write};
 use std::mem;
 
-/// Reads to the end of the input. It returns `Fault::Reading` where a read fails, and `Fault::Memory` where memory
-/// runs out, which an empty input never causes. An interrupted read is repeated.
-pub fn read_input<R: Read>(alloc: Global, input: &mut R) -> Result<Vec<u8>, Fault>
+// Reads to the end of the input. It returns `Fault::Reading` where a read fails, and `Fault::Memory` where memory
+// runs out, which an empty input never causes. An interrupted read is repeated.
+fn read_input<R: Read>(alloc: Global, input: &mut R) -> Result<Vec<u8>, Fault>
     ensures ok { IfOk result (λ bytes. IfSome (R.remaining input.old) (λ known. bytes.items ≡ known)) }
     ensures err { IfErr result (StopsReading (R.remaining input.old)) }
 {
@@ -94,8 +94,8 @@ fn make_report<R: Read>(alloc: Global, words: &[String], input: &mut R) -> Resul
     profile_as_asked(alloc, asked, bytes.as_slice())
 }
 
-/// Writes the report that was made, or the message of the fault, and returns the status.
-pub fn finish<W: Write, E: Write>(made: Result<Report, Fault>, output: &mut W, errors: &mut E) -> u8
+// Writes the report that was made, or the message of the fault, and returns the status.
+fn finish<W: Write, E: Write>(made: Result<Report, Fault>, output: &mut W, errors: &mut E) -> u8
     ensures written { result ≡ 0
         → IsOkAnd made
         (IsWritten (W.contents output.old) (W.contents output.new) (E.contents errors.old) (E.contents errors.new)) }

@@ -1,6 +1,6 @@
 -- The parts of a picture around its boxes.
 use Rattle.std.specs.Prelude.{ℕ, ◌+◌, cond, max, List, [], ◌∷◌, ◌++◌, fold, flat_map, codes, decimal}
-use Rattle.allocative_graph.specs.Graph.{Warned, joined}
+use Rattle.allocative_graph.specs.Graph.{Warned, warning_text}
 use Rattle.allocative_picture.specs.Escape.{escaped}
 use Rattle.allocative_picture.specs.Figures.{bytes_text}
 use Rattle.allocative_picture.specs.Rows.{Seen}
@@ -51,12 +51,6 @@ tools_of (Change before after) = tools ++ legend
 -- The boxes of some rows, one after another.
 unfoldable pub boxes : ℕ → ℕ → List Seen → List ℕ
 boxes least all rs = flat_map (box least all) rs
-
--- The text of a path's warning.
-unfoldable pub warning_text : Warned → List ℕ
-warning_text w =
-    codes "Incorrect size declaration for node `" ++ joined w.path ++ codes "`, size of self: " ++ decimal w.self_size
-    ++ codes ", size of inline children: " ++ decimal w.children_size
 
 -- The line of a path's warning at a height.
 unfoldable pub warning_line : ℕ → Warned → List ℕ

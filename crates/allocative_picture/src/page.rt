@@ -3,7 +3,7 @@ ghost use Rattle.std.specs.Prelude.{◌≡◌, ◌++◌, ◌+◌, ◌*◌, ◌^�
 ghost use Rattle.allocative_collectors.specs.Warned as held;
 ghost use Rattle.allocative_picture.specs.Rows.{seen};
 ghost use Rattle.allocative_picture.specs.Boxes.{is_drawn};
-ghost use Rattle.allocative_picture.specs.Page.{all_of, subject_text, opening, heading, summary, warning_text, warning_line, warning_lines, level_of, levels, tools_of, boxes};
+ghost use Rattle.allocative_picture.specs.Page.{all_of, subject_text, opening, heading, summary, warning_line, warning_lines, level_of, levels, tools_of, boxes};
 
 use crate::boxes::{is_drawn, push_box};
 use crate::change::{Change, Comparison};
@@ -12,7 +12,6 @@ use crate::figures::Bytes;
 use crate::fixed::{push_legend, push_tools};
 use crate::row::Row;
 use allocative_collectors::output::WarnedPath;
-use allocative_graph::flamegraph::push_path;
 use std::alloc::{AllocError, Global};
 use std::fmt;
 
@@ -162,21 +161,6 @@ pub(crate) fn push_boxes(
     Ok(())
 }
 
-/// The text of a path's warning.
-fn warning_text(alloc: Global, warned: &WarnedPath) -> Result<String, AllocError>
-    ensures { IfOk result (λ made. string_bytes made ≡ warning_text (held.seen warned.now)) }
-{
-    let (own, parts) = (warned.self_size, warned.children_size);
-    let mut text = String::new(alloc);
-    text.push_str("Incorrect size declaration for node `")?;
-    push_path(warned.path.as_slice(), &mut text)?;
-    write!(
-        text,
-        "`, size of self: {own}, size of inline children: {parts}"
-    )?;
-    Ok(text)
-}
-
 /// Appends the line of a path's warning, at a height in pixels.
 fn push_warning(
     alloc: Global,
@@ -186,7 +170,8 @@ fn push_warning(
 ) -> Result<(), AllocError>
     ensures { OnOk result (string_bytes text.new ≡ string_bytes text.old ++ warning_line y (held.seen warned.now)) }
 {
-    let said = warning_text(alloc, warned)?;
+    let mut said = String::new(alloc);
+    warned.push_warning(&mut said)?;
     let line = escaped(alloc, said.as_str())?;
     write!(
         text,

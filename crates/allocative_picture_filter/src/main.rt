@@ -7,8 +7,6 @@ mod fault;
 mod forest;
 mod run;
 mod stacks;
-#[cfg(test)]
-mod tests;
 
 use arguments::{Arguments, read_arguments};
 use fault::Fault;

@@ -1,12 +1,14 @@
 //! A cache of pages, bounded by declared bytes. Pages are inserted, one is read again, the least recently used is
-//! evicted, and one grows.
+//! evicted, and one grows. Then other cases are printed.
 #![tactic(auto)]
 
 mod cache;
+mod cases;
 mod error;
 
 use anyhow::Result;
 use cache::BoundedCache;
+use cases::tell_cases;
 use std::alloc::{AllocError, Global};
 
 /// The place of a page.
@@ -112,16 +114,16 @@ fn take_out(rt: &impl Print, cache: &mut BoundedCache<Place, Vec<u8>>) -> Result
     print_kept(rt, cache)
 }
 
-fn run<R: Print + AllocGlobal>(rt: &R) -> Result<()> {
-    let mut cache = BoundedCache::new(rt.alloc(), 300)?;
-    fill(rt, rt.alloc(), &mut cache)?;
-    overfill(rt, rt.alloc(), &mut cache)?;
+/// Keeps pages in 300 bytes.
+fn keep_pages(rt: &impl Print, alloc: Global) -> Result<()> {
+    let mut cache = BoundedCache::new(alloc, 300)?;
+    fill(rt, alloc, &mut cache)?;
+    overfill(rt, alloc, &mut cache)?;
     take_out(rt, &mut cache)
 }
 
 fn main(rt: HostRuntime) -> Result<()> {
-    run(&rt)
+    let alloc = rt.alloc();
+    keep_pages(&rt, alloc)?;
+    tell_cases(&rt, alloc)
 }
-
-#[cfg(test)]
-mod tests;

@@ -1,17 +1,18 @@
-//! Takes profiles of a small service while it runs, and reports after each what changed since the one before.
+//! Takes profiles of a small service while it runs, and reports after each what changed since the one before. Then
+//! other cases are printed.
 #![tactic(auto)]
 
+mod cases;
 mod changes;
 mod history;
 mod report;
 mod service;
-#[cfg(test)]
-mod tests;
 
 use allocative::FlameGraph;
 use allocative_picture::options::Options;
 use allocative_picture::picture::change_picture;
 use anyhow::Result;
+use cases::tell_cases;
 use changes::compare;
 use report::report;
 use service::{Page, Service, Session};
@@ -81,12 +82,18 @@ fn tell_last(
     }
 }
 
-fn main(rt: HostRuntime) -> Result<()> {
-    let alloc = rt.alloc();
+/// Takes three profiles, and reports twice.
+fn serve(rt: &(impl Files + Print), alloc: Global) -> Result<()> {
     let mut service = Service::new(alloc, 2);
     begin(alloc, &mut service)?;
     go_on(alloc, &mut service)?;
-    tell_last(&rt, alloc, &service, "From morning to noon", "noon.svg")?;
+    tell_last(rt, alloc, &service, "From morning to noon", "noon.svg")?;
     end(alloc, &mut service)?;
-    tell_last(&rt, alloc, &service, "From noon to evening", "evening.svg")
+    tell_last(rt, alloc, &service, "From noon to evening", "evening.svg")
+}
+
+fn main(rt: HostRuntime) -> Result<()> {
+    let alloc = rt.alloc();
+    serve(&rt, alloc)?;
+    tell_cases(&rt, alloc)
 }

@@ -1,13 +1,15 @@
 //! A service bills two tenants by the bytes of their data: it admits values of several types, measures one again that
-//! has grown, and releases one.
+//! has grown, and releases one. Then cases at an edge are printed.
 #![tactic(auto)]
 
 mod account;
 mod budget;
+mod cases;
 mod ledger;
 mod rejection;
 
 use budget::Budget;
+use cases::tell_cases;
 use ledger::Ledger;
 use rejection::Rejection;
 use std::alloc::{AllocError, Global};
@@ -48,14 +50,12 @@ fn bill(rt: &impl Print, ledger: &Ledger) -> io::Result<()> {
     Ok(())
 }
 
-/// Opens an account for each tenant.
-fn open_accounts(rt: &impl Print, ledger: &mut Ledger, budget: Budget) -> io::Result<()> {
-    for tenant in ["birch", "acme"] {
-        if let Err(rejection) = ledger.open(tenant, budget) {
-            println!(rt; "{rejection}")?;
-        }
+/// Opens an account for a tenant, and prints why where it is not opened.
+fn open(rt: &impl Print, ledger: &mut Ledger, tenant: &str, budget: Budget) -> io::Result<()> {
+    match ledger.open(tenant, budget) {
+        Ok(()) => Ok(()),
+        Err(rejection) => println!(rt; "{rejection}"),
     }
-    Ok(())
 }
 
 /// Admits values of two types, some of which are rejected.
@@ -89,20 +89,24 @@ fn measure(
     tell(rt, "acme", ledger.measure_again("acme", 1, text))
 }
 
-fn main(rt: HostRuntime) -> io::Result<()> {
-    let alloc = rt.alloc();
+/// Bills two tenants.
+fn serve(rt: &impl Print, alloc: Global) -> io::Result<()> {
     let budget = Budget { limit: 100 };
     let text = note(alloc, "a note of 20 letters")?;
-    tell(&rt, "guest", budget.admit("guest", &text))?;
+    tell(rt, "guest", budget.admit("guest", &text))?;
 
     let mut ledger = Ledger::new(alloc);
-    open_accounts(&rt, &mut ledger, budget)?;
+    open(rt, &mut ledger, "birch", budget)?;
+    open(rt, &mut ledger, "acme", budget)?;
     let mut scores = numbers(alloc, 5)?;
-    admit(&rt, alloc, &mut ledger, &text, &scores)?;
+    admit(rt, alloc, &mut ledger, &text, &scores)?;
     scores = numbers(alloc, 9)?;
-    measure(&rt, &mut ledger, &text, &scores)?;
-    bill(&rt, &ledger)
+    measure(rt, &mut ledger, &text, &scores)?;
+    bill(rt, &ledger)
 }
 
-#[cfg(test)]
-mod tests;
+fn main(rt: HostRuntime) -> io::Result<()> {
+    let alloc = rt.alloc();
+    serve(&rt, alloc)?;
+    tell_cases(&rt, alloc)
+}

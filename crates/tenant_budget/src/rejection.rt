@@ -55,30 +55,3 @@ impl From<Refusal> for Rejection<'_> {
         Rejection::NotMeasured(refusal)
     }
 }
-
-#[cfg(test)]
-mod tests {
-    use super::*;
-    use std::test::Fail;
-
-    #[test]
-    fn the_other_rejections_have_a_text(rt: HostRuntime) -> Result<(), Fail> {
-        let said = [
-            (
-                Rejection::NotMeasured(Refusal::TooLarge),
-                "not measured: sizes do not fit",
-            ),
-            (Rejection::TooLarge, "sizes do not fit"),
-            (Rejection::NotKept, "out of memory"),
-            (
-                Rejection::HasAccount { tenant: "acme" },
-                "tenant `acme` has an account",
-            ),
-        ];
-        for (rejection, want) in said {
-            let text = rejection.to_string(rt.alloc())?;
-            assert_eq!(rt; text.as_str(), want);
-        }
-        Ok(())
-    }
-}

@@ -1,5 +1,5 @@
-//! Inputs of several lengths, read in pieces of several lengths, and arrays of several depths.
-use crate::run::{Source, assert_ran, assert_status, run};
+//! Inputs of several lengths, read in pieces of several lengths.
+use crate::run::{Source, assert_ran, run};
 use std::alloc::{AllocError, Global};
 use std::process::Abort;
 use std::test::Fail;
@@ -34,28 +34,6 @@ fn reads_of_several_lengths(rt: HostRuntime) -> Result<(), Fail> {
         for most_at_once in [1usize, 1000, 4096, 10000] {
             assert_length(&rt, spaces, most_at_once)?;
         }
-    }
-    Ok(())
-}
-
-// Nested arrays of this depth, each but the innermost with one item.
-fn nested(alloc: Global, depth: u32) -> Result<Vec<u8>, AllocError> {
-    let mut bytes = Vec::new(alloc);
-    for _ in 0..depth {
-        bytes.push(b'[')?;
-    }
-    for _ in 0..depth {
-        bytes.push(b']')?;
-    }
-    Ok(bytes)
-}
-
-#[test]
-fn depth_has_a_bound(rt: HostRuntime) -> Result<(), Fail> {
-    for (depth, status) in [(127u32, 0u8), (128, 2)] {
-        let arrays = nested(rt.alloc(), depth)?;
-        let ran = run(rt.alloc(), "", &mut Source::new(arrays.as_slice()), 0, 0)?;
-        assert_status(&rt, &ran, status, "nested arrays");
     }
     Ok(())
 }

@@ -1,12 +1,46 @@
-//! Documents with their texts or their faults. Each is run as it stands and with the word `registry`, and those with
-//! texts once more by roots that are boxed here.
-use crate::run::{Source, assert_ran, run};
+//! Rows of the program with the word `registry`, by roots that are boxed here.
 use allocative::{Registry, profile_roots};
 use allocative_json::{Fault, Report, read_roots, report};
-use std::alloc::{AllocError, Global};
+use std::alloc::Global;
 use std::process::Abort;
-use std::test::Fail;
 
-// Each row has its words, its input and its status, each behind its name, then what the run writes to its output, a
-// line with `--`, and what it writes to its errors. A line with `====` ends it.
-const ROWS: &str = "words: \ninput: true\nstatus: 0\nValue 32\n--\n====\n";
+// The report of an input by roots that are boxed here.
+fn report_boxed(alloc: Global, input: &[u8], index: bool, exact: bool) -> Result<Report, Fault> {
+    let (document, numbers) = read_roots(alloc, input, index)?;
+    let mut registry = Registry::new(alloc);
+    if registry.register_root(Box::new(alloc, document)?).is_err() {
+        return Err(Fault::Memory);
+    }
+    if let Some(numbers) = numbers {
+        if registry.register_root(Box::new(alloc, numbers)?).is_err() {
+            return Err(Fault::Memory);
+        }
+    }
+    let output = profile_roots(&registry)?;
+    report(alloc, &output, exact)
+}
+
+fn assert_texts(rt: &impl Abort, made: &Report, profile: &str, warnings: &str) {
+    assert_eq!(rt; made.profile.as_str(), profile);
+    assert_eq!(rt; made.warnings.as_str(), warnings);
+}
+
+#[test]
+fn a_boxed_document(rt: HostRuntime) -> Result<(), Fault> {
+    let made = report_boxed(rt.alloc(), b"true", false, false)?;
+    assert_texts(&rt, &made, "Value 32\n", "");
+    Ok(())
+}
+
+#[test]
+fn a_boxed_document_and_its_boxed_numbers(rt: HostRuntime) -> Result<(), Fault> {
+    let input = b"[18446744073709551615,-9223372036854775808,18446744073709551615]";
+    let made = report_boxed(rt.alloc(), input, true, true)?;
+    assert_texts(
+        &rt,
+        &made,
+        "BTreeSet 16\nBTreeSet;data;key;i128 32\nValue 8\nValue;Array;Vec 16\nValue;Array;Vec;ptr 8\nValue;Array;Vec;ptr;Value 48\nValue;Array;Vec;ptr;Value;Number;Number 48\n",
+        "Incorrect size declaration for node `BTreeSet;data`, size of self: 8, size of inline children: 32\n",
+    );
+    Ok(())
+}

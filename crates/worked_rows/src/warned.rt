@@ -48,6 +48,23 @@ fn the_text_of_warnings_is_lent(rt: HostRuntime) -> Result<(), Refusal> {
 }
 
 #[test]
+fn a_path_tells_its_warning(rt: HostRuntime) -> Result<(), Refusal> {
+    let output = short_of_children(rt.alloc())?;
+    let mut text = String::new(rt.alloc());
+    for warned in output.warned_paths() {
+        warned.push_warning(&mut text)?;
+        text.push_str("; ")?;
+    }
+    assert_eq!(rt;
+        text.as_str(),
+        "Incorrect size declaration for node `a`, size of self: 1, size of inline children: 4; \
+         Incorrect size declaration for node `b`, size of self: 1, size of inline children: 2; \
+         Incorrect size declaration for node `b;c`, size of self: 2, size of inline children: 5; "
+    );
+    Ok(())
+}
+
+#[test]
 fn no_warning_names_no_path(rt: HostRuntime) -> Result<(), Refusal> {
     let mut builder = FlameGraphBuilder::new(rt.alloc())?;
     let mut root = builder.root_visitor()?;

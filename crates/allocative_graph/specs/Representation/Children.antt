@@ -9,7 +9,7 @@ use Rattle.std.specs.Ordering.{eq_by_cmp}
 use Rattle.std.specs.FinMap.{get}
 use Rattle.allocative_graph.specs.declared.flamegraph.Child.{Child}
 use Rattle.allocative_graph.specs.Path.{Key, Path, key_cmp}
-use Rattle.allocative_graph.specs.Representation.Node.{keys_of}
+use Rattle.allocative_graph.specs.Reads.{keys_of}
 
 -- The size at the path p below the child with the key k, or None where there is no such path.
 abbrev pub size_under : List Child → Key → Path → Option ℕ

@@ -2,9 +2,10 @@
 use Rattle.std.specs.Prelude.{◌≡◌, ◌+◌, ◌<◌, ◌≤◌, ◌&&◌, Bool, true, List, ◌∷◌, length}
 use Rattle.allocative_graph.specs.declared.flamegraph.Child.{Child}
 use Rattle.allocative_graph.specs.Path.{Key}
-use Rattle.allocative_graph.specs.Graph.{Graph, IsTree, total}
-use Rattle.allocative_graph.specs.Representation.PathRows.{IsSumByPath, IsPartOfSum}
-use Rattle.allocative_graph.specs.Representation.Node.{rows_of, weight, AreChildren}
+use Rattle.allocative_graph.specs.Graph.{Graph, IsTree, total, IsPartOfSum}
+use Rattle.allocative_graph.specs.Representation.PathRows.{IsSumByPath}
+use Rattle.allocative_graph.specs.Reads.{rows_of, AreChildren}
+use Rattle.allocative_graph.specs.Representation.Node.{weight}
 use Rattle.allocative_graph.specs.Representation.Children.{AreSum, ArePartOfSum, AllAbove}
 
 -- h was added to g, with the result r: a part of their sum, and where all was added the sum itself.

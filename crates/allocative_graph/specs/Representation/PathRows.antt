@@ -1,7 +1,7 @@
--- Rows, which are paths with their sizes, and what a graph has of a sum.
-use Rattle.std.specs.Prelude.{◌≡◌, ℕ, ◌+◌, ◌||◌, ◌⊎◌, ◌==◌, if◌then◌else◌, true, List, [], ◌∷◌, ◌++◌, map, flat_map, decimal}
+-- Rows, which are paths with their sizes, and the sum of two graphs path by path.
+use Rattle.std.specs.Prelude.{◌≡◌, ℕ, ◌+◌, ◌||◌, ◌==◌, if◌then◌else◌, List, [], ◌∷◌, ◌++◌, flat_map, decimal}
 use Rattle.std.specs.FinMap.{contains_key, entries}
-use Rattle.allocative_graph.specs.Path.{Key, Path}
+use Rattle.allocative_graph.specs.Path.{Path}
 use Rattle.allocative_graph.specs.Format.{semicolon, space, newline}
 use Rattle.allocative_graph.specs.Graph.{Graph, size_at, is_root, joined}
 
@@ -14,10 +14,6 @@ sum_of_rows (r ∷ rs) = r.1 + sum_of_rows rs
 abbrev pub joined_on : Path → List ℕ
 joined_on [] = []
 joined_on (k ∷ ks) = (semicolon ∷ k) ++ joined_on ks
-
--- The rows with the key before each path.
-abbrev pub under_rows : Key → List (Path × ℕ) → List (Path × ℕ)
-under_rows k rs = map (λ r. (k ∷ r.0, r.1)) rs
 
 -- The end of a line, after the keys: a space, the size, a line feed.
 abbrev pub size_text : ℕ → List ℕ
@@ -48,11 +44,3 @@ HasRootAlone g = (n : ℕ) × (entries g ≡ ([], n) ∷ [])
 abbrev pub IsSumByPath : Graph → Graph → Graph → Type 0
 IsSumByPath g h r = (p : Path)
     → (size_at r p ≡ size_at g p + size_at h p) × (contains_key r p ≡ (contains_key g p || contains_key h p))
-
--- At each path r has the size of g or that of the sum. It has all paths of g, and none that the sum does not have.
-abbrev pub IsPartOfSum : Graph → Graph → Graph → Type 0
-IsPartOfSum g h r =
-    (p : Path)
-    → ((size_at r p ≡ size_at g p) ⊎ (size_at r p ≡ size_at g p + size_at h p))
-    × (contains_key g p ≡ true → contains_key r p ≡ true)
-    × (contains_key r p ≡ true → (contains_key g p || contains_key h p) ≡ true)

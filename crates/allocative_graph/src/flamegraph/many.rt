@@ -1,8 +1,7 @@
 //! Adding many children to a flame graph at once.
 ghost use Rattle.std.specs.Prelude.{◌≡◌, ◌+◌, ◌^◌, ◌<◌, ◌≤◌, ◌↔◌, IfOk, OnOk, IsErrOf};
 ghost use Rattle.std.specs.Option.{SomeIff};
-ghost use Rattle.allocative_graph.specs.Graph.{total, default};
-ghost use Rattle.allocative_graph.specs.Representation.PathRows.{IsPartOfSum};
+ghost use Rattle.allocative_graph.specs.Graph.{total, default, IsPartOfSum};
 ghost use Rattle.allocative_graph.specs.Many.{sum_of_all, total_of};
 
 use crate::flamegraph::{Child, FlameGraph};

@@ -2,9 +2,8 @@
 ghost use Rattle.std.specs.Prelude.{◌≡◌, ◌++◌, [], IfOk, IfErr, IfSome, IfNone, OnOk, map};
 ghost use Rattle.allocative_graph.specs.Path.{key_cmp};
 ghost use Rattle.allocative_graph.specs.Graph.{size_at, total_at, IsBehind, HasNothing};
-ghost use Rattle.allocative_graph.specs.Representation.Node.{node, AreChildren};
 ghost use Rattle.allocative_graph.specs.Representation.Children.{InOrder, IsFound, IsChildGap};
-ghost use Rattle.allocative_graph.specs.Reads.{AllSmaller, seen, figures, figures_behind};
+ghost use Rattle.allocative_graph.specs.Reads.{AllSmaller, seen, figures, figures_behind, node, AreChildren};
 
 use crate::flamegraph::{Child, FlameGraph};
 use crate::refusal::Refusal;

@@ -5,7 +5,8 @@ use Rattle.std.specs.Vec.{vec_capacity}
 use Rattle.std.specs.FinMap.{len}
 use Rattle.allocative_graph.specs.declared.flamegraph.Child.{Child}
 use Rattle.allocative_graph.specs.Graph.{total}
-use Rattle.allocative_graph.specs.Representation.Node.{node, weight, AreChildren}
+use Rattle.allocative_graph.specs.Reads.{node, AreChildren}
+use Rattle.allocative_graph.specs.Representation.Node.{weight}
 use Rattle.allocative_graph.specs.Representation.Merged.{Added, Merged}
 use Rattle.allocative_graph.proofs.ChildMerged.{going_next, going_end, is_ok-and, not_merged, merged_same, next_less, next_greater, next_equal, both_fit, rows_fit, going_pushed, front_is, none_of_length}
 use Rattle.allocative_graph.proofs.NodeAdded.{added_node, rows_of_node}

@@ -1,25 +1,27 @@
--- A node's own size and warning, and then the graph and the warnings of each child.
-use Rattle.std.proofs.Common.{◌≡◌, ◌-◌, ◌+◌, ◌<◌, ℕ, List, [], ◌∷◌, ◌++◌, map, length, get_or, Bor, arith, sym, ap, subst, ◌∙◌, refl, Err}
-use Rattle.std.specs.Prelude.{string_bytes, IfErr, IsErrOf, ◌↔◌, ◌^◌, ◌≤◌}
+-- A node's own size and warning, and then the graph of each child with the paths that have a warning.
+use Rattle.std.proofs.Common.{◌≡◌, ◌-◌, ◌+◌, ◌<◌, ℕ, List, [], ◌∷◌, ◌++◌, map, length, get_or, Bor, Vec, Global, arith, sym, ap, subst, ◌∙◌, refl, Err}
+use Rattle.std.specs.Prelude.{IfErr, IsErrOf, ◌↔◌, ◌^◌, ◌≤◌}
 use Rattle.std.proofs.lemmas.List.{map-append, append-nil}
 use Rattle.std.proofs.lemmas.Bool.{cond-true, cond-false}
-use Rattle.allocative_graph.specs.Path.{Key}
-use Rattle.allocative_graph.specs.Graph.{under, sum_of, warning_line, default, total}
+use Rattle.allocative_graph.specs.Path.{Key, Path}
+use Rattle.allocative_graph.specs.Graph.{Warned, under, sum_of, default, total}
 use Rattle.allocative_graph.specs.Sums.{below}
 use Rattle.allocative_graph.specs.Graph.{add_self}
 use Rattle.allocative_collectors.specs.declared.tree.Node.{Node}
+use Rattle.allocative_collectors.specs.declared.output.WarnedPath.{WarnedPath}
 use Rattle.allocative_collectors.specs.Nodes.{shape, sums_of}
 use Rattle.allocative_collectors.specs.Listed.{Listed, sum_at, path_at, map_of, total as total_listed}
 use Rattle.allocative_collectors.specs.Shapes.{keys_of, key_in}
-use Rattle.allocative_collectors.specs.Finishing.{size_at_place, is_short, warning_at}
+use Rattle.allocative_collectors.specs.Finishing.{size_at_place, is_short, warned_at}
+use Rattle.allocative_collectors.specs.Warned.{seen}
 use Rattle.allocative_collectors.proofs.Keys.{length-keys_of}
 use Rattle.allocative_collectors.proofs.NodeReads.{in_nodes, bytes_read, under_read}
 use Rattle.allocative_collectors.proofs.Made.{half_none, half_more, half_total, made_total, made_all, child_read, child_key, keys_rise, own_fits, total-default, memory_alone, passed_on}
-use Rattle.allocative_graph.proofs.NodeText.{popped}
+use Rattle.allocative_graph.proofs.NodeText.{popped, texts}
 use Rattle.allocative_graph.specs.declared.refusal.Refusal.{Refusal}
 use Rattle.allocative_graph.specs.declared.refusal.Refusal.TheVariants.{Memory, TooLarge, Open}
 use Rattle.allocative_collectors.proofs.tree.Tree.+make.Goals as goal
-use Rattle.allocative_collectors.proofs.tree.Tree.+make.Goals.{then-is_short+in_ok-push_warning, else-is_short, After-index}
+use Rattle.allocative_collectors.proofs.tree.Tree.+make.Goals.{then-is_short+in_ok-push_warned, else-is_short, After-index}
 
 pub index-node-requires : goal.index-node-requires
 index-node-requires t c =
@@ -60,26 +62,28 @@ pub loop-child-init : goal.loop-child-init
 loop-child-init t c =
     let v = c.args.self.now in
     let i = c.args.at in
-    let start = string_bytes c.args.text.now in
+    let start = map seen c.args.warned.now.items in
     let n : Node = c.index-node.result.now in
     let items = c.self.inside.nodes.items in
     let bytes = bytes_read items c.self.invariant v c.self.view_is i c.requires.within n c.index-node.ensures in
     let under = under_read items c.self.invariant v c.self.view_is i c.requires.within n c.index-node.ensures in
     let is : c.add_self.new.self ≡ add_self (size_at_place v i) default = c.in_ok-add_self.ensures.sum ∙ (λ j. add_self (c.size.ensures j) (c.in_ok-graph.ensures j)) in
-    let written : string_bytes c.if-is_short.text ≡ start ++ warning_at v i =
+    let says : Path → ℕ → ℕ → List Warned = λ p m b. record { path = p; self_size = m; children_size = b } ∷ [] in
+    let own : List Warned = says (path_at v i) (let e = sum_at v i in e.bytes) (below (map_of v) (path_at v i)) in
+    let found : map seen c.if-is_short.warned.items ≡ start ++ warned_at v i =
     elim c.if-is_short.branch [
-      | then-is_short+in_ok-push_warning w ↦
-          (let keys : map (λ (k : Bor (List ℕ)). k.now) w.as_slice.result.now ≡ path_at v i = ap (map (λ (k : Bor (List ℕ)). k.now)) w.as_slice.ensures.value ∙ c.requires.keys in
-          ap (λ s. string_bytes s) w.text-is
-          ∙ (w.in_ok-push_warning.ensures
-          ∙ ((λ j. start ++ warning_line (keys j) (sym bytes j) (sym under j))
-          ∙ ap (λ (l : List ℕ). start ++ l) (sym (cond-true (is_short v i) (warning_line (path_at v i) (let e = sum_at v i in e.bytes) (below (map_of v) (path_at v i))) [] (sym w.if-is_short.ensures))))))
+      | then-is_short+in_ok-push_warned w ↦
+          (let keys : texts w.as_slice.result.now ≡ path_at v i = ap texts w.as_slice.ensures.value ∙ c.requires.keys in
+          ap (λ (x : Vec WarnedPath Global). map seen x.items) w.warned-is
+          ∙ (w.in_ok-push_warned.ensures
+          ∙ ((λ j. start ++ says (keys j) (sym bytes j) (sym under j))
+          ∙ ap (λ (l : List Warned). start ++ l) (sym (cond-true (is_short v i) own [] (sym w.if-is_short.ensures))))))
       | else-is_short w ↦
-          ap (λ s. string_bytes s) w.text-is
+          ap (λ (x : Vec WarnedPath Global). map seen x.items) w.warned-is
           ∙ (sym (append-nil start)
-          ∙ ap (λ (l : List ℕ). start ++ l) (sym (cond-false (is_short v i) (warning_line (path_at v i) (let e = sum_at v i in e.bytes) (below (map_of v) (path_at v i))) [] (sym w.if-is_short.ensures))))
+          ∙ ap (λ (l : List Warned). start ++ l) (sym (cond-false (is_short v i) own [] (sym w.if-is_short.ensures))))
     ] in
-    record { keys = refl; made = half_none v i (keys_of (map shape items) c.as_slice-child-items.result.now) start (string_bytes c.if-is_short.text) c.add_self.new.self is written }
+    record { keys = refl; made = half_none v i (keys_of (map shape items) c.as_slice-child-items.result.now) start (map seen c.if-is_short.warned.items) c.add_self.new.self is found }
 
 pub make-requires : goal.make-requires
 make-requires t c =
@@ -98,8 +102,8 @@ pub returns-in_err-add_child-clause-err : goal.returns-in_err-add_child-clause-e
 returns-in_err-add_child-clause-err t c =
     let v = c.args.self.now in
     let here = (goal.at.returns-in_err-add_child-clause-err t c).After-index in
-    let half = half_total v c.args.at (keys_of (map shape c.self.inside.nodes.items) c.as_slice-child-items.result.now) c.loop-child.child-index (string_bytes c.args.text.now) (string_bytes c.loop-child.text) c.loop-child.graph c.requires.within c.loop-child.invariant.made in
-    let more = made_total v (number t here) (string_bytes c.loop-child.text) (string_bytes c.make.new.text) c.in_ok-below.below c.in_ok-below.ensures.made in
+    let half = half_total v c.args.at (keys_of (map shape c.self.inside.nodes.items) c.as_slice-child-items.result.now) c.loop-child.child-index (map seen c.args.warned.now.items) (map seen c.loop-child.warned.items) c.loop-child.graph c.requires.within c.loop-child.invariant.made in
+    let more = made_total v (number t here) (map seen c.loop-child.warned.items) (map seen c.make.new.warned.items) c.in_ok-below.below c.in_ok-below.ensures.made in
     let is : c.add_child.result ≡ Err c.in_err-add_child.field-0.0 = c.in_err-add_child.was in
     let large : IsErrOf c.add_child.result TooLarge ↔ (2 ^ 64 ≤ total c.loop-child.graph + total c.in_ok-below.below) = c.add_child.ensures.too_large in
     let never : ¬ (IsErrOf c.add_child.result Open) = c.add_child.ensures.never_open in
@@ -124,8 +128,8 @@ loop-child-preserved t c =
     let is : c.add_child.new.self ≡ sum_of c.loop-child.graph (under (key_in ks j) c.in_ok-below.below) = c.in_ok-add_child.ensures.sum ∙ ap (λ (k : Key). sum_of c.loop-child.graph (under k c.in_ok-below.below)) (c.copy.ensures ∙ key t here) in
     record {
       keys = kept;
-      made = half_more v c.args.at ks j inside rise (number t here) there.2 (string_bytes c.args.text.now) (string_bytes c.loop-child.text) (string_bytes c.make.new.text) c.loop-child.graph c.add_child.new.self c.in_ok-below.below c.loop-child.invariant.made c.in_ok-below.ensures.made is;
+      made = half_more v c.args.at ks j inside rise (number t here) there.2 (map seen c.args.warned.now.items) (map seen c.loop-child.warned.items) (map seen c.make.new.warned.items) c.loop-child.graph c.add_child.new.self c.in_ok-below.below c.loop-child.invariant.made c.in_ok-below.ensures.made is;
     }
 
 pub returns-clause-made : goal.returns-clause-made
-returns-clause-made t c = made_all c.self.inside.nodes.items c.self.invariant c.args.self.now c.self.view_is c.args.at c.requires.within c.index-node.result.now c.index-node.ensures c.as_slice-child-items.result.now c.as_slice-child-items.ensures (string_bytes c.args.text.now) (string_bytes c.loop-child.text) c.loop-child.graph c.loop-child.child-index (omega arith) (let ended = c.loop-child.auto.child-index-end in omega arith) c.loop-child.invariant.made
+returns-clause-made t c = made_all c.self.inside.nodes.items c.self.invariant c.args.self.now c.self.view_is c.args.at c.requires.within c.index-node.result.now c.index-node.ensures c.as_slice-child-items.result.now c.as_slice-child-items.ensures (map seen c.args.warned.now.items) (map seen c.loop-child.warned.items) c.loop-child.graph c.loop-child.child-index (omega arith) (let ended = c.loop-child.auto.child-index-end in omega arith) c.loop-child.invariant.made

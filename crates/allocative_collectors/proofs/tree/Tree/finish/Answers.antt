@@ -1,24 +1,21 @@
 -- The walk from the root has all places.
-use Rattle.allocative_collectors.proofs.Made.{made_total}
-use Rattle.std.proofs.Common.{arith, ◌≡◌, ◌<◌, ◌^◌, ℕ, List, [], ◌∷◌, ◌++◌, map, Bor, Vec, Global, sym, ap, subst, ◌∙◌}
-use Rattle.std.specs.Prelude.{flat_map, string_bytes}
+use Rattle.std.proofs.Common.{arith, ◌≡◌, ◌<◌, ◌^◌, ℕ, List, [], ◌∷◌, ◌++◌, map, Bor, sym, ap, subst, ◌∙◌}
+use Rattle.std.specs.Prelude.{flat_map}
 use Rattle.std.specs.FinMap.{get, same_map}
 use Rattle.allocative_graph.specs.Path.{Path}
-use Rattle.allocative_graph.specs.Graph.{Graph, graph, total, warnings, warned_paths}
+use Rattle.allocative_graph.specs.Graph.{Graph, graph, total, warned_paths}
 use Rattle.allocative_graph.proofs.Basics.{path_total, path_antisymmetric}
 use Rattle.allocative_collectors.specs.Listed.{map_of}
-use Rattle.allocative_collectors.specs.Finishing.{warning_at}
+use Rattle.allocative_collectors.specs.Finishing.{warned_at}
 use Rattle.allocative_collectors.specs.Nodes.{shape}
 use Rattle.allocative_collectors.specs.declared.output.WarnedPath.{WarnedPath}
 use Rattle.allocative_collectors.specs.Walks.{IsWalk}
-use Rattle.allocative_collectors.specs.Warned.{seen}
-use Rattle.allocative_collectors.specs.Warning.{warned_at}
+use Rattle.allocative_collectors.specs.Warned.{seen, warning_lines}
 use Rattle.allocative_collectors.proofs.Bridge.{IsListing}
 use Rattle.allocative_collectors.proofs.Below.{listing}
-use Rattle.allocative_collectors.proofs.Whole.{warnings_walk}
-use Rattle.allocative_collectors.proofs.Found.{warned_walk, none_warned, no_bytes}
+use Rattle.allocative_collectors.proofs.Made.{made_total}
+use Rattle.allocative_collectors.proofs.Whole.{warned_walk, lines-warned_paths}
 use Rattle.allocative_collectors.proofs.tree.Tree.finish.Goals as goal
-use Rattle.allocative_collectors.proofs.tree.Tree.finish.Goals.{then-not-is_empty+in_ok-push_warned, else-not-is_empty}
 
 pub make-requires-clause-within : goal.make-requires-clause-within
 make-requires-clause-within c = (subst IsListing c.self.view_is (listing (map shape c.self.inside.nodes.items) c.self.invariant)).rooted
@@ -28,40 +25,21 @@ make-requires-clause-keys c =
     let all : IsListing c.args.self.now = subst IsListing c.self.view_is (listing (map shape c.self.inside.nodes.items) c.self.invariant) in
     ap (map (λ (k : Bor (List ℕ)). k.now)) c.new-keys.ensures.items ∙ sym all.root_path
 
-pub push_warned-requires-clause-keys : goal.push_warned-requires-clause-keys
-push_warned-requires-clause-keys c =
-    let all : IsListing c.args.self.now = subst IsListing c.self.view_is (listing (map shape c.self.inside.nodes.items) c.self.invariant) in
-    ap (map (λ (k : Bor (List ℕ)). k.now)) (c.in_ok-graph.ensures.keys ∙ c.new-keys.ensures.items) ∙ sym all.root_path
-
 pub returns-clause-made : goal.returns-clause-made
 returns-clause-made c =
     let v = c.args.self.now in
     let all : IsListing v = subst IsListing c.self.view_is (listing (map shape c.self.inside.nodes.items) c.self.invariant) in
     let made = c.in_ok-graph.ensures.made in
     let walk : IsWalk v [] (0 ∷ made.others) = subst (λ (p : Path). IsWalk v p (0 ∷ made.others)) all.root_path made.walk in
-    let text : string_bytes c.make.new.text ≡ warnings (map_of v) = made.warnings_are ∙ (ap (λ (l : List ℕ). l ++ flat_map (warning_at v) (0 ∷ made.others)) c.new-warnings.ensures.bytes ∙ warnings_walk v all made.others walk) in
-    let warned : map seen c.if-not-is_empty.warned.items ≡ warned_paths (map_of v) =
-    elim c.if-not-is_empty.branch [
-      | then-not-is_empty+in_ok-push_warned w ↦
-          (let found = w.in_ok-push_warned.ensures.warned in
-          let from_root : IsWalk v [] (0 ∷ found.others) = subst (λ (p : Path). IsWalk v p (0 ∷ found.others)) all.root_path found.walk in
-          ap (λ (x : Vec WarnedPath Global). map seen x.items) w.warned-is
-          ∙ (found.warned_are
-          ∙ (ap (λ (x : List WarnedPath). map seen x ++ flat_map (warned_at v) (0 ∷ found.others)) c.new-warned.ensures.items
-          ∙ warned_walk v all found.others from_root)))
-      | else-not-is_empty w ↦
-          (let nothing = no_bytes (string_bytes c.make.new.text) _ c.is_empty.result c.make.new.text.bytes.ok.0 c.is_empty.ensures w.if-not-is_empty.false in
-          ap (λ (x : Vec WarnedPath Global). map seen x.items) w.warned-is
-          ∙ (ap (map seen) c.new-warned.ensures.items
-          ∙ sym (none_warned (map_of v) (sym text ∙ nothing))))
-    ] in (
-      c.new.ensures.graph ∙ same_map path_total path_antisymmetric c.in_ok-graph.graph (graph (map_of v)) (λ q. made.graph_is q ∙ ap (λ (p : Path). get (graph (map_of v)) (p ++ q)) all.root_path),
-      c.new.ensures.warnings ∙ text,
-      c.new.ensures.warned ∙ warned,
+    let warned : map seen c.make.new.warned.items ≡ warned_paths (map_of v) =
+    made.warned_are ∙ (ap (λ (x : List WarnedPath). map seen x ++ flat_map (warned_at v) (0 ∷ made.others)) c.new-warned.ensures.items ∙ warned_walk v all made.others walk) in (
+      c.in_ok-new.ensures.graph ∙ same_map path_total path_antisymmetric c.in_ok-graph.graph (graph (map_of v)) (λ q. made.graph_is q ∙ ap (λ (p : Path). get (graph (map_of v)) (p ++ q)) all.root_path),
+      c.in_ok-new.ensures.warnings ∙ (ap warning_lines warned ∙ lines-warned_paths (map_of v)),
+      c.in_ok-new.ensures.warned ∙ warned,
     )
 
 pub returns-clause-total : goal.returns-clause-total
 returns-clause-total c =
     let most = made_total c.args.self.now 0 _ _ c.in_ok-graph.graph c.in_ok-graph.ensures.made in
     let small : total c.in_ok-graph.graph < 2 ^ 63 = omega (arith, most, c.requires) in
-    subst (λ (g : Graph). total g < 2 ^ 63) (sym c.new.ensures.graph) small
+    subst (λ (g : Graph). total g < 2 ^ 63) (sym c.in_ok-new.ensures.graph) small

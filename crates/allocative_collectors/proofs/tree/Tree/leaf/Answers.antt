@@ -1,14 +1,14 @@
 -- The graph of a node with no children and no warning has its own size alone.
-use Rattle.std.proofs.Common.{◌≡◌, ◌<◌, ◌++◌, ℕ, List, [], length, map, refl, sym, ap, ◌∙◌, arith}
+use Rattle.std.proofs.Common.{◌≡◌, ◌<◌, ◌++◌, List, [], ◌∷◌, length, map, refl, sym, ap, ◌∙◌, arith}
 use Rattle.std.proofs.lemmas.List.{append-nil}
 use Rattle.std.proofs.lemmas.Bool.{cond-false}
-use Rattle.allocative_graph.specs.Graph.{add_self, default, warning_line}
+use Rattle.allocative_graph.specs.Graph.{Warned, add_self, default}
 use Rattle.allocative_graph.specs.Sums.{below}
 use Rattle.allocative_collectors.specs.declared.tree.Node.{Node}
 use Rattle.allocative_collectors.specs.Listed.{sum_at, path_at, map_of}
 use Rattle.allocative_collectors.specs.Nodes.{shape, sums_of}
 use Rattle.allocative_collectors.specs.Shapes.{keys_of}
-use Rattle.allocative_collectors.specs.Finishing.{size_at_place, is_short, warning_at}
+use Rattle.allocative_collectors.specs.Finishing.{size_at_place, is_short, warned_at}
 use Rattle.allocative_collectors.proofs.NodeReads.{in_nodes}
 use Rattle.allocative_collectors.proofs.Collect.{count_none}
 use Rattle.allocative_collectors.proofs.Made.{half_none, made_all}
@@ -30,9 +30,9 @@ returns-in-Ok c =
     let ks = keys_of (map shape items) xs in
     let empty : length xs ≡ 0 = count_none _ (sym c.is_empty.ensures ∙ c.if-not-is_empty.false) in
     let is : c.add_self.new.self ≡ add_self (size_at_place v i) default = c.in-Ok.ensures.sum ∙ (λ j. add_self (c.size.ensures j) (c.default-graph.ensures j)) in
-    λ written.
-    let quiet : written ≡ written ++ warning_at v i =
-    sym (append-nil written)
-    ∙ ap (λ (l : List ℕ). written ++ l) (sym (cond-false (is_short v i) (warning_line (path_at v i) (let e = sum_at v i in e.bytes) (below (map_of v) (path_at v i))) [] (sym c.if-is_short.ensures))) in
-    made_all items c.self.invariant v c.self.view_is i c.requires n c.index.ensures xs refl written written c.add_self.new.self 0 (omega (arith, empty)) (omega arith)
-    (half_none v i ks written written c.add_self.new.self is quiet)
+    let own : List Warned = record { path = path_at v i; self_size = let e = sum_at v i in e.bytes; children_size = below (map_of v) (path_at v i) } ∷ [] in
+    λ found.
+    let none : found ≡ found ++ warned_at v i =
+    sym (append-nil found) ∙ ap (λ (l : List Warned). found ++ l) (sym (cond-false (is_short v i) own [] (sym c.if-is_short.ensures))) in
+    made_all items c.self.invariant v c.self.view_is i c.requires n c.index.ensures xs refl found found c.add_self.new.self 0 (omega (arith, empty)) (omega arith)
+    (half_none v i ks found found c.add_self.new.self is none)

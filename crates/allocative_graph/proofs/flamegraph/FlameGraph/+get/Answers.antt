@@ -1,6 +1,6 @@
 use Rattle.std.proofs.Common.{◌≡◌, Bor, ◌∷◌, sym, ap, subst, ◌∙◌}
 use Rattle.allocative_graph.specs.Graph.{Graph, IsTree, IsBehind, HasNothing}
-use Rattle.allocative_graph.specs.Representation.Node.{node}
+use Rattle.allocative_graph.specs.Reads.{node}
 use Rattle.allocative_graph.specs.Representation.Children.{InOrder, IsFound, IsChildGap}
 use Rattle.allocative_graph.proofs.NodeAdded.{node_tree}
 use Rattle.allocative_graph.proofs.NodeText.{texts}

@@ -5,9 +5,8 @@ use Rattle.allocative_graph.specs.declared.flamegraph.Child.{Child}
 use Rattle.allocative_graph.specs.declared.flamegraph.reads.Row.{Row}
 use Rattle.allocative_graph.specs.Path.{Path}
 use Rattle.allocative_graph.specs.Graph.{Graph, total, total_at}
-use Rattle.allocative_graph.specs.Representation.Node.{node, rows_of}
 use Rattle.allocative_graph.specs.Representation.Children.{InOrder}
-use Rattle.allocative_graph.specs.Reads.{Figures, seen, figures_behind}
+use Rattle.allocative_graph.specs.Reads.{Figures, seen, figures_behind, node, rows_of}
 use Rattle.allocative_graph.proofs.NodeText.{texts, popped}
 use Rattle.allocative_graph.proofs.ReadRows.{child_read, figured, node_read}
 use Rattle.allocative_graph.proofs.flamegraph.FlameGraph.+push_rows.Goals as goal

@@ -8,7 +8,7 @@ use Rattle.std.specs.Prelude.{string_bytes}
 use Rattle.std.specs.FinMap.{entries}
 use Rattle.allocative_graph.specs.declared.flamegraph.Child.{Child}
 use Rattle.allocative_graph.specs.Representation.PathRows.{lines_from, lines_below, HasRootAlone}
-use Rattle.allocative_graph.specs.Representation.Node.{rows_of}
+use Rattle.allocative_graph.specs.Reads.{rows_of}
 use Rattle.allocative_graph.specs.Representation.NodeRows.{entries-node}
 use Rattle.allocative_graph.proofs.NodeText.{child_written, none_below, cut_back}
 use Rattle.allocative_graph.proofs.flamegraph.FlameGraph.+write_below.Goals as goal

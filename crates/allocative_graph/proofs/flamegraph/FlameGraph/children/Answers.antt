@@ -1,8 +1,7 @@
 use Rattle.std.proofs.Common.{◌≡◌, [], List, ap, sym, subst, ◌∙◌}
 use Rattle.allocative_graph.specs.declared.flamegraph.Child.{Child}
 use Rattle.allocative_graph.specs.Graph.{Graph, size_at}
-use Rattle.allocative_graph.specs.Representation.Node.{node, AreChildren}
-use Rattle.allocative_graph.specs.Reads.{AllSmaller}
+use Rattle.allocative_graph.specs.Reads.{AllSmaller, node, AreChildren}
 use Rattle.allocative_graph.proofs.NodeSizes.{size_at-root}
 use Rattle.allocative_graph.proofs.Behind.{smaller_child}
 use Rattle.allocative_graph.proofs.flamegraph.FlameGraph.children.Goals as goal

@@ -5,7 +5,7 @@ use Rattle.std.specs.FinMap.{entries}
 use borrow.Author.Tests.{eqb-true}
 use Rattle.allocative_graph.specs.declared.flamegraph.Child.{Child}
 use Rattle.allocative_graph.specs.Graph.{Graph}
-use Rattle.allocative_graph.specs.Representation.Node.{AreChildren, node, rows_of}
+use Rattle.allocative_graph.specs.Reads.{AreChildren, node, rows_of}
 use Rattle.allocative_graph.specs.Representation.NodeRows.{entries-node}
 use Rattle.allocative_graph.specs.Representation.PathRows.{HasRootAlone}
 use Rattle.allocative_graph.proofs.ChildMerged.{none_of_length}

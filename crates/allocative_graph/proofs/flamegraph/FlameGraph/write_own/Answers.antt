@@ -4,7 +4,7 @@ use Rattle.std.proofs.lemmas.List.{append-nil}
 use Rattle.std.specs.Prelude.{string_bytes}
 use Rattle.std.specs.FinMap.{entries}
 use Rattle.allocative_graph.specs.Representation.PathRows.{line_from}
-use Rattle.allocative_graph.specs.Representation.Node.{rows_of}
+use Rattle.allocative_graph.specs.Reads.{rows_of}
 use Rattle.allocative_graph.specs.Representation.NodeRows.{entries-node}
 use Rattle.allocative_graph.proofs.NodeText.{own_written, line_of_some}
 use Rattle.allocative_graph.proofs.flamegraph.FlameGraph.write_own.Goals as goal

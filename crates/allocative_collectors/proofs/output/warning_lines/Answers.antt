@@ -1,0 +1,27 @@
+-- One more line.
+use Rattle.std.proofs.Common.{◌≡◌, ℕ, ◌+◌, ◌<◌, List, [], ◌∷◌, ◌++◌, map, take, length, get_or, append_assoc, ap, sym, ◌∙◌, arith}
+use Rattle.std.specs.Prelude.{string_bytes}
+use Rattle.std.proofs.lemmas.List.{take_more, map-append, append-nil}
+use Rattle.std.proofs.lemmas.Grind.{flat_map-append}
+use Rattle.allocative_graph.specs.Format.{newline}
+use Rattle.allocative_graph.specs.Graph.{warning_text}
+use Rattle.allocative_collectors.specs.declared.output.WarnedPath.{WarnedPath}
+use Rattle.allocative_collectors.specs.Warned.{seen, warning_lines}
+use Rattle.allocative_collectors.proofs.output.warning_lines.Goals as goal
+
+lines-more : (ws : List WarnedPath) (i : ℕ) (w : WarnedPath) (before after : List ℕ) → i < length ws → w ≡ get_or ws i w → before ≡ warning_lines (map seen (take i ws)) → after ≡ (before ++ warning_text (seen w)) ++ newline ∷ [] → after ≡ warning_lines (map seen (take (i + 1) ws))
+lines-more ws i w before after h read was is =
+    let xs = map seen (take i ws) in
+    let line = warning_text (seen w) ++ newline ∷ [] in
+    let taken : map seen (take (i + 1) ws) ≡ xs ++ seen w ∷ [] =
+    ap (map seen) (take_more ws i w h) ∙ map-append seen (take i ws) (get_or ws i w ∷ []) ∙ ap (λ (x : WarnedPath). xs ++ seen x ∷ []) (sym read) in
+    is
+    ∙ append_assoc before (warning_text (seen w)) (newline ∷ [])
+    ∙ (λ j. was j ++ sym (append-nil line) j)
+    ∙ sym (flat_map-append (λ v. warning_text v ++ newline ∷ []) xs (seen w ∷ []))
+    ∙ ap warning_lines (sym taken)
+
+pub loop-one-preserved : goal.loop-one-preserved
+loop-one-preserved c =
+    lines-more c.args.warned.now c.loop-one.one-index c.one-item.result (string_bytes c.loop-one.text) (string_bytes c.push_str.new.self) (omega arith) c.one-item.is c.loop-one.invariant
+    (c.in_ok-push_str.ensures.bytes ∙ ap (λ (t : List ℕ). t ++ newline ∷ []) c.in_ok-push_warning.ensures)

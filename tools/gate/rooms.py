@@ -1,0 +1,134 @@
+"""Copies of a repository in which checks run, so that nothing is kept in the repository itself."""
+
+import os
+import re
+import shutil
+import signal
+import subprocess
+import threading
+from collections.abc import Iterable
+
+from gate.verdicts import Check
+
+# The folders of a crate that a check reads.
+PARTS = ("src", "specs", "proofs", "c")
+
+
+def libraries_of(top: str) -> dict[str, list[str]]:
+    """Returns the libraries of each crate of the repository, as crates.txt lists them."""
+    with open(os.path.join(top, "crates.txt"), encoding="utf-8") as file:
+        lines = [it.split("#")[0].partition(":") for it in file.read().split("\n")]
+    return {name.split()[0]: given.split() for name, sign, given in lines if sign}
+
+
+def lines_of(top: str, names: Iterable[str]) -> str:
+    """Returns the lines of crates.txt for these crates."""
+    with open(os.path.join(top, "crates.txt"), encoding="utf-8") as file:
+        return "".join(it for it in file if it.split(":")[0].split()[:1] and it.split(":")[0].split()[0] in names)
+
+
+def below(libraries: dict[str, list[str]], crate: str) -> list[str]:
+    """Returns the crates of the repository that a crate uses, each after those that it uses itself."""
+    found: list[str] = []
+    for it in libraries[crate]:
+        if it in libraries:
+            found += [name for name in [*below(libraries, it), it] if name not in found]
+    return found
+
+
+def run(command: list[str], folder: str) -> Check:
+    """Runs a command in a folder, and returns what it printed and the seconds of the processor that it and its children took."""
+    with open(os.path.join(folder, "said"), "w+", encoding="utf-8", errors="replace") as said:
+        ran = subprocess.Popen(command, cwd=folder, stdin=subprocess.DEVNULL, stdout=said, stderr=subprocess.STDOUT)
+        _, status, used = os.wait4(ran.pid, 0)
+        ran.returncode = os.waitstatus_to_exitcode(status)
+        said.seek(0)
+        return Check(ran.returncode, said.read(), used.ru_utime + used.ru_stime)
+
+
+def link(folder: str, to: str) -> None:
+    """Copies what a check kept. A check replaces a checked module and never changes it, so these are links."""
+
+    def copy(one: str, other: str) -> str:
+        if one.endswith(".oantt"):
+            os.link(one, other)
+            return other
+        return shutil.copy2(one, other)
+
+    shutil.copytree(folder, to, symlinks=True, copy_function=copy)
+
+
+class Rooms:
+    """The copies of one run. `base` has the crates as they stand, with the libraries that were built there."""
+
+    def __init__(self, top: str, work: str, jobs: int, logs: str | None = None) -> None:
+        self.work, self.base, self.logs = work, os.path.join(work, "base"), logs
+        self.libraries = libraries_of(top)
+        self.lanes = threading.Semaphore(jobs)
+        self.seconds = 0.0
+        self.numbers = iter(range(1_000_000))
+        self.building = {it: threading.Lock() for it in self.libraries}
+        self.built: dict[str, bool] = {}
+        self.lay(top, self.base, self.libraries)
+
+    def lay(self, top: str, to: str, names: Iterable[str]) -> None:
+        """Makes a repository of some crates of another one, without what was kept there."""
+        os.makedirs(f"{to}/crates")
+        for name in names:
+            for part in PARTS:
+                if os.path.isdir(f"{top}/crates/{name}/{part}"):
+                    shutil.copytree(f"{top}/crates/{name}/{part}", f"{to}/crates/{name}/{part}")
+        with open(f"{to}/crates.txt", "w", encoding="utf-8") as file:
+            file.write(lines_of(top, names))
+        if os.path.isfile(f"{top}/HANDLES"):
+            shutil.copyfile(f"{top}/HANDLES", f"{to}/HANDLES")
+
+    def is_program(self, crate: str) -> bool:
+        return os.path.isfile(f"{self.base}/crates/{crate}/src/main.rt")
+
+    def run(self, command: list[str], folder: str) -> Check:
+        """Runs a command in a lane of its own, and once more where it was killed, most likely for memory."""
+        with self.lanes:
+            check = run(command, folder)
+            if check.status == -signal.SIGKILL:
+                check = run(command, folder)
+        self.seconds += check.seconds
+        return check
+
+    def build(self, crate: str) -> bool:
+        """Proves and builds a library with those below it, once in a run, and returns whether it is built."""
+        with self.building[crate]:
+            if crate not in self.built:
+                is_ready = all([self.build(it) for it in below(self.libraries, crate)])
+                check = self.run(["rt", "lib"], f"{self.base}/crates/{crate}") if is_ready else None
+                self.built[crate] = check is not None and check.status == 0
+            return self.built[crate]
+
+    def check(self, crate: str, lines: dict[tuple[str, int], str], start: str | None) -> tuple[Check, str]:
+        """Checks a crate with other lines, begun with what the checks in the folder start kept. Returns the folder of this check too.
+
+        Where there is a folder for logs, what the check printed is written there."""
+        number = next(self.numbers)
+        room = f"{self.work}/room-{number}"
+        names = below(self.libraries, crate)
+        self.lay(self.base, room, [*names, crate])
+        for name in names:
+            link(f"{self.base}/crates/{name}/out/rlib", f"{room}/crates/{name}/out/rlib")
+        folder = f"{room}/crates/{crate}"
+        if start and os.path.isdir(f"{start}/out/incremental"):
+            link(f"{start}/out/incremental", f"{folder}/out/incremental")
+        for file in {file for file, _ in lines}:
+            with open(f"{folder}/{file}", encoding="utf-8") as source:
+                text = source.read().split("\n")
+            changed = {at: line for (of, at), line in lines.items() if of == file}
+            with open(f"{folder}/{file}", "w", encoding="utf-8") as source:
+                source.write("\n".join(changed.get(at, line) for at, line in enumerate(text)))
+        check = self.run(["rt", "check", "--jobs", "1"], folder)
+        if self.logs:
+            with open(f"{self.logs}/{crate}-{number}", "w", encoding="utf-8") as log:
+                log.write(check.output)
+        return check, folder
+
+    def clear(self, folder: str) -> None:
+        """Removes the room of a check."""
+        shutil.rmtree(re.sub(r"/crates/\w+$", "", folder), ignore_errors=True)
