@@ -1,4 +1,4 @@
 pub mod NumbersLemmas
 pub mod Reports
-pub mod Rows
-pub mod ArgumentsLemmas
+pub mod LinesLemmas
+pub mod WordsLemmas

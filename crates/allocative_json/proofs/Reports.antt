@@ -1,12 +1,14 @@
--- How a profile of the roots is a right report, and how its errors are those of a run.
-use Rattle.std.proofs.Common.{◌≡◌, ℕ, ◌<◌, ℤ, length, arith, Bool, true, false, List, [], ◌∷◌, Option, None, Some, Result, Ok, Err, IfOk, IfErr, IsErrAnd, IfSome, MatchResult, string_bytes, refl, ap, ◌∙◌, sym, subst, true≢false}
+-- How reports of roots are reports of an input, and how their errors are those of a run.
+use Rattle.std.proofs.Common.{◌≡◌, ℕ, ◌<◌, ℤ, length, arith, Bool, List, [], ◌∷◌, Option, None, Some, Result, Ok, Err, IfOk, IfErr, IsErrAnd, IsOkAnd, IfSome, MatchResult, refl, ap, ◌∙◌, sym, subst}
 use Rattle.std.specs.BTreeSet.{BTreeSet}
 use Rattle.serde_json.specs.Data.{Data}
+use Rattle.serde_json.specs.View.{view}
+use Rattle.serde_json.specs.declared.value.Value.{Value}
 use Rattle.serde_json.specs.Read.{read}
 use Rattle.serde_json.proofs.OnLiterals.{serde_json_on_literals}
 use Rattle.allocative.specs.Refusal.{Refusal}
 use Rattle.allocative.specs.Refusal.TheVariants as refused
-use Rattle.allocative_json.specs.Fault.{fault_of}
+use Rattle.allocative_json.specs.Fault.{status_of, fault_of}
 use Rattle.allocative.specs.Forest.{Forest, Empty, Inline, Unique, First, Again, followed_by}
 use Rattle.allocative.specs.Shows.{Showing, Both, each_shows}
 use Rattle.allocative.specs.Visits.{Profile, IsProfileOf}
@@ -14,12 +16,55 @@ use Rattle.allocative_json.specs.declared.fault.Fault.{Fault}
 use Rattle.allocative_json.specs.declared.fault.Fault.TheVariants.{Memory, NotJson, NotWhole, TooLarge, Reading, Writing, Open}
 use Rattle.allocative_json.specs.declared.fault.Fault.TheVariants as fault
 use Rattle.allocative_json.specs.declared.printed.Report.{Report}
-use Rattle.allocative_json.specs.Lines.{asked_text}
-use Rattle.allocative_json.specs.Profile.{both_show, roots_show, IsRightReport, RefusesReport}
-use Rattle.allocative_json.specs.Roots.{IsWholeDocument, IsIndexIf}
-use Rattle.allocative_json.specs.Run.{MayEndRun}
-use Rattle.allocative_json.specs.Arguments.{Argument, AreArguments}
+use Rattle.allocative_json.specs.declared.words.Words.{Words}
+use Rattle.allocative_json.specs.Profile.{roots_show, AreTexts, IsReportOf, IsRightReport, RefusesRoots, RefusesReport}
+use Rattle.allocative_json.specs.Roots.{IsWholeDocument, AreRoots}
+use Rattle.allocative_json.specs.Run.{IsReportFor, IsWritten, IsReported, EndsWell, StopsReading, MayEndRun}
+use Rattle.allocative_json.specs.Words.{Word, AreWords, Asks}
 
+-- ---- reports of roots
+pub report_made : (p : Showing) (exact : Bool) (o : Profile) (r : Result Report Fault) → IsProfileOf p o
+    → MatchResult r (AreTexts exact o) (λ f. f ≡ Memory) → IfOk r (IsReportOf p exact)
+report_made p exact o (Ok made) h t = record { output = o; is_profile = h; texts = t }
+report_made p exact o (Err f) h t = tt
+
+-- Making the texts fails only when memory runs out.
+pub refused_texts : (p : Showing) (exact : Bool) (o : Profile) (r : Result Report Fault) → MatchResult r (AreTexts exact o) (λ f. f ≡ Memory) → IfErr r (RefusesRoots p)
+refused_texts p exact o (Ok made) m = tt
+refused_texts p exact o (Err f) m = subst (RefusesRoots p) (sym m) tt
+
+refused_so : (p : Showing) (r : Refusal) → RefusesRoots p (fault_of r)
+refused_so p refused.Memory = tt
+refused_so p refused.TooLarge = tt
+refused_so p refused.Open = tt
+
+-- A profile was refused.
+pub refused_profile : {T : Type 0} (p : Showing) (refusal : Refusal) (r : Result T Fault) → IsErrAnd r (λ f. f ≡ fault_of refusal) → IfErr r (RefusesRoots p)
+refused_profile p refusal (Ok x) e = tt
+refused_profile p refusal (Err f) e = subst (RefusesRoots p) (sym e) (refused_so p refusal)
+
+-- ---- input
+nothing_read : (d : Data) → read [] ≡ Some d → ⊥
+unfolding serde_json_on_literals
+nothing_read d e = cc
+
+-- The text of a document is not empty.
+pub some_input : (input : List ℕ) (d : Data) → IsWholeDocument input d → 0 < length input
+some_input [] d h = absurd (nothing_read d h.document.is_read)
+some_input (b ∷ bs) d h = omega arith
+
+refused_roots : (input : List ℕ) (index : Bool) (v : Value) (n : Option (BTreeSet ℤ)) (f : Fault) → AreRoots input index (view v) n → RefusesRoots (roots_show v n) f → RefusesReport input index f
+refused_roots input index v n Memory h r = some_input input (view v) h.document
+refused_roots input index v n TooLarge h r = (v, n, h, r)
+refused_roots input index v n Open h r = (v, n, h, r)
+refused_roots input index v n f h r = absurd r
+
+-- A report of the roots of the input was refused.
+pub refused_report : {T : Type 0} (input : List ℕ) (index : Bool) (v : Value) (n : Option (BTreeSet ℤ)) (r : Result T Fault) → AreRoots input index (view v) n → IfErr r (RefusesRoots (roots_show v n)) → IfErr r (RefusesReport input index)
+refused_report input index v n (Ok x) h r = tt
+refused_report input index v n (Err f) h r = refused_roots input index v n f h r
+
+-- ---- boxed roots
 profile_weaker : (p q : Showing) (o : Profile) → ((f : Forest) → p f → q f) → IsProfileOf p o → IsProfileOf q o
 profile_weaker p q o up h = record {
   shown = h.shown;
@@ -32,52 +77,6 @@ profile_weaker p q o up h = record {
   warned_are = h.warned_are;
 }
 
-roots_by : (index : Bool) (d : Data) (n : Option (BTreeSet ℤ)) → IsIndexIf index d n → (f : Forest) → both_show d n f → roots_show index d f
-roots_by false d None h f g = g
-roots_by true d None h f g = absurd (true≢false h)
-roots_by false d (Some s) h f g = absurd (true≢false (sym h.0))
-roots_by true d (Some s) h f g = (s, h.1, g)
-
-pub right_report : (input : List ℕ) (index exact : Bool) (d : Data) (n : Option (BTreeSet ℤ)) (o : Profile) (r : Result Report Fault)
-    → IsWholeDocument input d → IsIndexIf index d n → IsProfileOf (both_show d n) o
-    → MatchResult r (λ made. (string_bytes made.profile ≡ asked_text exact o.graph) × (string_bytes made.warnings ≡ o.warnings)) (λ f. f ≡ Memory)
-    → IfOk r (λ made. IsRightReport input index exact (string_bytes made.profile) (string_bytes made.warnings))
-right_report input index exact d n o (Ok made) is i p h = record {
-  document = d;
-  is_document = is;
-  made = o;
-  is_profile = profile_weaker (both_show d n) (roots_show index d) o (roots_by index d n i) p;
-  profile_is = h.0;
-  warnings_are = h.1;
-}
-right_report input index exact d n o (Err f) is i p h = tt
-
--- ---- input
-nothing_read : (d : Data) → read [] ≡ Some d → ⊥
-unfolding serde_json_on_literals
-nothing_read d e = cc
-
--- The text of a document is not empty.
-pub some_input : (input : List ℕ) (d : Data) → IsWholeDocument input d → 0 < length input
-some_input [] d h = absurd (nothing_read d h.document.is_read)
-some_input (b ∷ bs) d h = omega arith
-
--- An error that comes after a document was read.
-refused_so : (input : List ℕ) (d : Data) (r : Refusal) → IsWholeDocument input d → RefusesReport input (fault_of r)
-refused_so input d refused.Memory h = some_input input d h
-refused_so input d refused.TooLarge h = (d, h)
-refused_so input d refused.Open h = (d, h)
-
-pub refused_profile : {T : Type 0} (input : List ℕ) (d : Data) (refusal : Refusal) (r : Result T Fault) → IsWholeDocument input d → IsErrAnd r (λ f. f ≡ fault_of refusal) → IfErr r (RefusesReport input)
-refused_profile input d refusal (Ok x) h e = tt
-refused_profile input d refusal (Err f) h e = subst (RefusesReport input) (sym e) (refused_so input d refusal h)
-
--- Making the texts fails only when memory runs out.
-pub refused_texts : {T : Type 0} (P : T → Type 0) (input : List ℕ) (d : Data) (r : Result T Fault) → IsWholeDocument input d → MatchResult r P (λ f. f ≡ Memory) → IfErr r (RefusesReport input)
-refused_texts P input d (Ok x) h m = tt
-refused_texts P input d (Err f) h m = subst (RefusesReport input) (sym m) (some_input input d h)
-
--- ---- boxed roots
 followed_by-empty : (f : Forest) → followed_by f Empty ≡ f
 followed_by-empty Empty = refl
 followed_by-empty (Inline k n i a) = ap (Inline k n i) (followed_by-empty a)
@@ -111,21 +110,55 @@ one_root p roots a q (Ok o) is same h =
     let Q : Showing → Type 0 = λ s. IsProfileOf s o in
     subst Q same (profile_weaker (each_shows p (a ∷ [])) (p a) o (one_shown p a) (subst P is h))
 
--- ---- refusals
+-- ---- reports of a run
+pub report_for : (texts : List Word) (known : Option (List ℕ)) (input : List ℕ) (asked : Words) (r : Result Report Fault) → AreWords texts → Asks texts asked → IfSome known (λ bytes. input ≡ bytes) → IfOk r (IsRightReport input asked.index asked.exact) → IfOk r (IsReportFor texts known)
+report_for texts known input asked (Ok made) w a e h = record { words = w; asked = asked; asks = a; input = input; is_read = e; right = h }
+report_for texts known input asked (Err f) w a e h = tt
+
+-- ---- refusals of a run
 read_so : (known : Option (List ℕ)) (input : List ℕ) (P : List ℕ → Type 0) → IfSome known (λ bytes. input ≡ bytes) → P input → IfSome known P
 read_so None input P e h = tt
 read_so (Some bytes) input P e h = subst P e h
 
-refuses_so : (texts : List Argument) (known : Option (List ℕ)) (input : List ℕ) (f : Fault) → AreArguments texts → IfSome known (λ bytes. input ≡ bytes) → RefusesReport input f → MayEndRun texts known f
-refuses_so texts known input Memory w e h = (w, read_so known input (λ bytes. RefusesReport bytes Memory) e h)
-refuses_so texts known input NotJson w e h = (w, read_so known input (λ bytes. RefusesReport bytes NotJson) e h)
-refuses_so texts known input NotWhole w e h = (w, read_so known input (λ bytes. RefusesReport bytes NotWhole) e h)
-refuses_so texts known input TooLarge w e h = (w, read_so known input (λ bytes. RefusesReport bytes TooLarge) e h)
-refuses_so texts known input Open w e h = (w, read_so known input (λ bytes. RefusesReport bytes Open) e h)
-refuses_so texts known input fault.Arguments w e h = absurd h
-refuses_so texts known input Reading w e h = absurd h
-refuses_so texts known input Writing w e h = absurd h
+refused_run : (texts : List Word) (known : Option (List ℕ)) (input : List ℕ) (asked : Words) (f : Fault) → AreWords texts → Asks texts asked → IfSome known (λ bytes. input ≡ bytes) → RefusesReport input asked.index f → MayEndRun texts known f
+refused_run texts known input asked fault.Words w a e h = absurd h.3
+refused_run texts known input asked Reading w a e h = absurd h.3
+refused_run texts known input asked Writing w a e h = absurd h.3
+refused_run texts known input asked f w a e h = record { words = w; asked = asked; asks = a; refuses = read_so known input (λ bytes. RefusesReport bytes asked.index f) e h }
 
-pub refuses_run : {T : Type 0} (texts : List Argument) (known : Option (List ℕ)) (input : List ℕ) (r : Result T Fault) → AreArguments texts → IfSome known (λ bytes. input ≡ bytes) → IfErr r (RefusesReport input) → IfErr r (MayEndRun texts known)
-refuses_run texts known input (Ok x) w e h = tt
-refuses_run texts known input (Err f) w e h = refuses_so texts known input f w e h
+pub refuses_run : {T : Type 0} (texts : List Word) (known : Option (List ℕ)) (input : List ℕ) (asked : Words) (r : Result T Fault) → AreWords texts → Asks texts asked → IfSome known (λ bytes. input ≡ bytes) → IfErr r (RefusesReport input asked.index) → IfErr r (MayEndRun texts known)
+refuses_run texts known input asked (Ok x) w a e h = tt
+refuses_run texts known input asked (Err f) w a e h = refused_run texts known input asked f w a e h
+
+pub refused_words : {T : Type 0} (texts : List Word) (known : Option (List ℕ)) (f : Fault) (r : Result T Fault) → IsErrAnd r (λ e. e ≡ f) → (f ≡ fault.Words) × (AreWords texts → ⊥) → IfErr r (MayEndRun texts known)
+refused_words texts known f (Ok x) e h = tt
+refused_words texts known f (Err x) e h = subst (MayEndRun texts known) (sym (e ∙ h.0)) h.1
+
+stopped : (texts : List Word) (known : Option (List ℕ)) (asked : Words) (f : Fault) → AreWords texts → Asks texts asked → StopsReading known f → MayEndRun texts known f
+stopped texts known asked Memory w a h = record { words = w; asked = asked; asks = a; refuses = h }
+stopped texts known asked Reading w a h = w
+stopped texts known asked f w a h = absurd h
+
+pub refused_reading : {T : Type 0} (texts : List Word) (known : Option (List ℕ)) (asked : Words) (f : Fault) (r : Result T Fault) → IsErrAnd r (λ e. e ≡ f) → AreWords texts → Asks texts asked → StopsReading known f → IfErr r (MayEndRun texts known)
+refused_reading texts known asked f (Ok x) e w a h = tt
+refused_reading texts known asked f (Err x) e w a h = subst (MayEndRun texts known) (sym e) (stopped texts known asked f w a h)
+
+-- ---- how a run ends
+pub ends_well : (texts : List Word) (known output output' errors errors' : Option (List ℕ)) (made : Result Report Fault) → IfOk made (IsReportFor texts known) → IsOkAnd made (IsWritten output output' errors errors') → EndsWell texts known output output' errors errors'
+ends_well texts known output output' errors errors' (Ok m) h w = record { made = m; report = h; written = w }
+ends_well texts known output output' errors errors' (Err f) h w = absurd w
+
+no_fault_of_writing : (texts : List Word) (known : Option (List ℕ)) (f : Fault) → status_of f ≡ 7 → MayEndRun texts known f → ⊥
+no_fault_of_writing texts known Writing e h = h
+no_fault_of_writing texts known Memory e h = omega (arith, e)
+no_fault_of_writing texts known NotJson e h = omega (arith, e)
+no_fault_of_writing texts known NotWhole e h = omega (arith, e)
+no_fault_of_writing texts known TooLarge e h = omega (arith, e)
+no_fault_of_writing texts known fault.Words e h = omega (arith, e)
+no_fault_of_writing texts known Reading e h = omega (arith, e)
+no_fault_of_writing texts known Open e h = omega (arith, e)
+
+-- A write fails only where there is a report to write.
+pub is_reported : (texts : List Word) (known : Option (List ℕ)) (made : Result Report Fault) (status : ℕ) → IfOk made (IsReportFor texts known) → IfErr made (MayEndRun texts known) → IfErr made (λ f. status ≡ status_of f) → status ≡ 7 → IsReported texts known
+is_reported texts known (Ok m) status h k e i = record { made = m; report = h }
+is_reported texts known (Err f) status h k e i = absurd (no_fault_of_writing texts known f (sym e ∙ i) k)

@@ -3,7 +3,7 @@ use Rattle.std.specs.Prelude.{ℕ}
 use Rattle.allocative.specs.Refusal.{Refusal}
 use Rattle.allocative.specs.Refusal.TheVariants as refused
 use Rattle.allocative_json.specs.declared.fault.Fault.{Fault}
-use Rattle.allocative_json.specs.declared.fault.Fault.TheVariants.{Memory, NotJson, NotWhole, TooLarge, Arguments, Reading, Writing, Open}
+use Rattle.allocative_json.specs.declared.fault.Fault.TheVariants.{Memory, NotJson, NotWhole, TooLarge, Words, Reading, Writing, Open}
 
 -- The status of a fault.
 abbrev pub status_of : Fault → ℕ
@@ -11,7 +11,7 @@ status_of Memory = 1
 status_of NotJson = 2
 status_of NotWhole = 3
 status_of TooLarge = 4
-status_of Arguments = 5
+status_of Words = 5
 status_of Reading = 6
 status_of Writing = 7
 status_of Open = 8

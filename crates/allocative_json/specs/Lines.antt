@@ -1,19 +1,22 @@
 -- The lines that `exact` drops.
-use Rattle.std.specs.Prelude.{ℕ, cond, Bool, true, false, List, [], codes, map}
-use Rattle.allocative.specs.Path.{Path}
-use Rattle.allocative.specs.Graph.{Graph, line, text}
-use Rattle.allocative.specs.Report.{ends_in, exact_text}
-use Rattle.allocative_graph.specs.declared.flamegraph.reads.Row.{Row}
+use Rattle.std.specs.Prelude.{ℕ, cond, Bool, true, false, List, [], ◌∷◌, ◌++◌, codes}
+use Rattle.std.specs.Ordering.{eq_by_cmp}
+use Rattle.allocative.specs.Path.{key_cmp}
+use Rattle.allocative.specs.Report.{last_key, without_lines}
 
--- The text of a graph as it was asked for: with exact, it has no lines of the paths that end in `unused_capacity`.
-abbrev pub asked_text : Bool → Graph → List ℕ
-asked_text true g = exact_text g
-asked_text false g = text g
+-- Whether the last key of a line is `unused_capacity`.
+abbrev pub is_unused : List ℕ → Bool
+is_unused l = eq_by_cmp key_cmp (codes "unused_capacity") (last_key l)
 
--- The line of a path with its size, or no line where the path ends in `unused_capacity`.
-abbrev pub exact_line : Path → ℕ → List ℕ
-exact_line p n = cond (ends_in (codes "unused_capacity") p) [] (line (p, n))
+-- A line with its line feed, or nothing where its last key is `unused_capacity`.
+abbrev pub kept_line : List ℕ → List ℕ
+kept_line l = cond (is_unused l) [] (l ++ 10 ∷ [])
 
--- The line of a row that was read from a graph.
-abbrev pub row_line : Row → List ℕ
-row_line r = exact_line (map (λ k. k.now) r.path.items) r.self_size
+-- A text without the lines whose last key is `unused_capacity`.
+abbrev pub kept_lines : List ℕ → List ℕ
+kept_lines t = without_lines (codes "unused_capacity") t
+
+-- A text as it was asked for: with exact, without the lines whose last key is `unused_capacity`.
+abbrev pub asked_text : Bool → List ℕ → List ℕ
+asked_text true t = kept_lines t
+asked_text false t = t

@@ -1,15 +1,19 @@
 -- What the roots of a document show, and which reports of them are right.
-use Rattle.std.specs.Prelude.{◌≡◌, ℕ, ℤ, ◌<◌, Bool, true, false, List, length, Option, None, Some, codes}
+use Rattle.std.specs.Prelude.{◌≡◌, ℕ, ℤ, ◌<◌, ⊤, Bool, false, List, length, Option, None, Some, codes, string_bytes}
 use Rattle.std.specs.BTreeSet.{BTreeSet}
 use Rattle.serde_json.specs.Data.{Data}
+use Rattle.serde_json.specs.View.{view}
+use Rattle.serde_json.specs.declared.value.Value.{Value}
+use Rattle.allocative.specs.Graph.{text}
 use Rattle.allocative.specs.Shows.{Showing, Nothing, Both, Inside, Field, each_shows}
 use Rattle.allocative.specs.Visits.{Profile, IsProfileOf}
 use Rattle.allocative.specs.JsonShows.{value_shows}
 use Rattle.allocative_json.specs.declared.fault.Fault.{Fault}
-use Rattle.allocative_json.specs.declared.fault.Fault.TheVariants.{Memory, NotJson, NotWhole, TooLarge, Arguments, Reading, Writing, Open}
+use Rattle.allocative_json.specs.declared.fault.Fault.TheVariants.{Memory, NotJson, NotWhole, TooLarge, Open}
+use Rattle.allocative_json.specs.declared.printed.Report.{Report}
 use Rattle.allocative_json.specs.Lines.{asked_text}
-use Rattle.allocative_json.specs.Numbers.{is_whole, IsIndexOf}
-use Rattle.allocative_json.specs.Roots.{IsDocument, IsWholeDocument}
+use Rattle.allocative_json.specs.Numbers.{is_whole}
+use Rattle.allocative_json.specs.Roots.{IsDocument, AreRoots}
 
 -- What a number of the set shows: a field `key`, with the number inside it.
 abbrev pub key_shows : ℤ → Showing
@@ -19,35 +23,47 @@ key_shows k = Field (codes "key") (Some 16) (Field (codes "i128") (Some 16) Noth
 abbrev pub index_shows : BTreeSet ℤ → Showing
 index_shows s = Field (codes "BTreeSet") (Some 24) (Inside (codes "data") 8 (each_shows key_shows s.keys))
 
+-- What a document shows.
+abbrev pub document_shows : Value → Showing
+document_shows v = value_shows (view v)
+
 -- What a document shows, followed by what a set shows where there is one.
-abbrev pub both_show : Data → Option (BTreeSet ℤ) → Showing
-both_show d None = value_shows d
-both_show d (Some s) = Both (value_shows d) (index_shows s)
+abbrev pub roots_show : Value → Option (BTreeSet ℤ) → Showing
+roots_show v None = document_shows v
+roots_show v (Some s) = Both (document_shows v) (index_shows s)
 
--- What the roots of a document show: the document and, where it is asked for, the set of its numbers.
-abbrev pub roots_show : Bool → Data → Showing
-roots_show false d = value_shows d
-roots_show true d = λ f. (s : BTreeSet ℤ) × IsIndexOf d s × Both (value_shows d) (index_shows s) f
+-- The texts of a profile: that of its graph, which with `exact` is without the lines that `exact` drops, and that of its
+-- warnings.
+abbrev pub AreTexts : Bool → Profile → Report → Type 0
+AreTexts exact o made = (string_bytes made.profile ≡ asked_text exact (text o.graph)) × (string_bytes made.warnings ≡ o.warnings)
 
--- The input is a document whose numbers are whole, and some profile of its roots has these warnings and this text,
--- which with `exact` lacks the lines that `exact` drops.
-pub record IsRightReport (input : List ℕ) (index exact : Bool) (profile warnings : List ℕ) : Type 0 where
-  pub document : Data
-  pub is_document : IsWholeDocument input document
-  pub made : Profile
-  pub is_profile : IsProfileOf (roots_show index document) made
-  pub profile_is : profile ≡ asked_text exact made.graph
-  pub warnings_are : warnings ≡ made.warnings
+-- The texts are those of some profile of what p allows.
+pub record IsReportOf (p : Showing) (exact : Bool) (made : Report) : Type 0 where
+  pub output : Profile
+  pub is_profile : IsProfileOf p output
+  pub texts : AreTexts exact output made
+
+-- The input is a document whose numbers are whole, and the texts are those of some profile of it and, with `index`, of
+-- the set of its numbers.
+pub record IsRightReport (input : List ℕ) (index exact : Bool) (made : Report) : Type 0 where
+  pub document : Value
+  pub numbers : Option (BTreeSet ℤ)
+  pub roots : AreRoots input index (view document) numbers
+  pub report : IsReportOf (roots_show document numbers) exact made
+
+-- The faults that making a report of roots may return.
+abbrev pub RefusesRoots : Showing → Fault → Type 0
+RefusesRoots p Memory = ⊤
+RefusesRoots p TooLarge = ⊤
+RefusesRoots p Open = ⊤
+RefusesRoots p f = ⊥
 
 -- The faults that making a report of the input may return: Memory only where the input is not empty; NotJson only where
--- it is no document; NotWhole only where it is a document with another number; TooLarge and Open only where it is a
--- document whose numbers are whole.
-abbrev pub RefusesReport : List ℕ → Fault → Type 0
-RefusesReport input Memory = 0 < length input
-RefusesReport input NotJson = (d : Data) → ¬ IsDocument input d
-RefusesReport input NotWhole = (d : Data) × IsDocument input d × (is_whole d ≡ false)
-RefusesReport input TooLarge = (d : Data) × IsWholeDocument input d
-RefusesReport input Arguments = ⊥
-RefusesReport input Reading = ⊥
-RefusesReport input Writing = ⊥
-RefusesReport input Open = (d : Data) × IsWholeDocument input d
+-- it is no document; NotWhole only where it is a document with another number; TooLarge and Open only where it has roots
+-- that may be refused so.
+abbrev pub RefusesReport : List ℕ → Bool → Fault → Type 0
+RefusesReport input index Memory = 0 < length input
+RefusesReport input index NotJson = (d : Data) → ¬ IsDocument input d
+RefusesReport input index NotWhole = (d : Data) × IsDocument input d × (is_whole d ≡ false)
+RefusesReport input index f =
+    (v : Value) × (n : Option (BTreeSet ℤ)) × AreRoots input index (view v) n × RefusesRoots (roots_show v n) f

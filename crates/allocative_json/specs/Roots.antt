@@ -4,7 +4,7 @@ use Rattle.std.specs.BTreeSet.{BTreeSet}
 use Rattle.serde_json.specs.Data.{Data}
 use Rattle.serde_json.specs.Read.{read}
 use Rattle.allocative_json.specs.declared.fault.Fault.{Fault}
-use Rattle.allocative_json.specs.declared.fault.Fault.TheVariants.{Memory, NotJson, NotWhole, TooLarge, Arguments, Reading, Writing, Open}
+use Rattle.allocative_json.specs.declared.fault.Fault.TheVariants.{Memory, NotJson, NotWhole}
 use Rattle.allocative_json.specs.Numbers.{is_whole, IsIndexOf}
 
 -- The input is the text of the document d.
@@ -22,14 +22,15 @@ abbrev pub IsIndexIf : Bool → Data → Option (BTreeSet ℤ) → Type 0
 IsIndexIf asked d None = asked ≡ false
 IsIndexIf asked d (Some s) = (asked ≡ true) × IsIndexOf d s
 
+-- The document of the input, whose numbers are whole, and with `index` the set of its numbers.
+pub record AreRoots (input : List ℕ) (index : Bool) (d : Data) (n : Option (BTreeSet ℤ)) : Type 0 where
+  pub document : IsWholeDocument input d
+  pub numbers : IsIndexIf index d n
+
 -- The faults that reading the roots from the input may return: Memory only where the input is not empty; NotJson only
 -- where it is no document; NotWhole only where it is a document with another number.
 abbrev pub RefusesInput : List ℕ → Fault → Type 0
 RefusesInput input Memory = 0 < length input
 RefusesInput input NotJson = (d : Data) → ¬ IsDocument input d
 RefusesInput input NotWhole = (d : Data) × IsDocument input d × (is_whole d ≡ false)
-RefusesInput input TooLarge = ⊥
-RefusesInput input Arguments = ⊥
-RefusesInput input Reading = ⊥
-RefusesInput input Writing = ⊥
-RefusesInput input Open = ⊥
+RefusesInput input f = ⊥

@@ -21,9 +21,9 @@ pub enum Fault {
     /// The declared sizes exceed their bound.
     #[error("sizes do not fit")]
     TooLarge,
-    /// An argument is unknown or repeated.
+    /// A word is unknown or repeated.
     #[error("unknown or repeated word")]
-    Arguments,
+    Words,
     /// A read failed.
     #[error("cannot read input")]
     Reading,
@@ -45,7 +45,7 @@ impl Fault {
             Fault::NotJson => 2,
             Fault::NotWhole => 3,
             Fault::TooLarge => 4,
-            Fault::Arguments => 5,
+            Fault::Words => 5,
             Fault::Reading => 6,
             Fault::Writing => 7,
             Fault::Open => 8,

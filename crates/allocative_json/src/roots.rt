@@ -4,7 +4,7 @@ ghost use Rattle.std.specs.Ordering.{int_cmp};
 ghost use Rattle.std.specs.BTreeSet.{IsOrdered};
 ghost use Rattle.serde_json.specs.View.{view, items_view, members_view};
 ghost use Rattle.allocative_json.specs.Numbers.{is_whole, are_whole, have_whole, has_number, items_have, members_have, AddsKeys, IsIndexOf};
-ghost use Rattle.allocative_json.specs.Roots.{IsWholeDocument, IsIndexIf, RefusesInput};
+ghost use Rattle.allocative_json.specs.Roots.{IsWholeDocument, AreRoots, RefusesInput};
 
 use crate::fault::Fault;
 use serde_json::{Map, Value};
@@ -132,8 +132,7 @@ pub fn read_roots(
     input: &[u8],
     index: bool,
 ) -> Result<(Value, Option<BTreeSet<i128>>), Fault>
-    ensures ok { IfOk result
-        (λ roots. IsWholeDocument input.now (view roots.0) × IsIndexIf index (view roots.0) roots.1) }
+    ensures ok { IfOk result (λ roots. AreRoots input.now index (view roots.0) roots.1) }
     ensures err { IfErr result (RefusesInput input.now) }
 {
     let document = read_document(alloc, input)?;

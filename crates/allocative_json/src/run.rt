@@ -3,19 +3,21 @@ ghost use Rattle.std.specs.Prelude.{◌≡◌, ◌≢◌, ◌⊎◌, OnOk, OnErr
 ghost use Rattle.std.specs.Io.KnownBytes.{Appends};
 ghost use Rattle.allocative_json.specs.Fault.{status_of};
 ghost use Rattle.allocative_json.specs.Profile.{IsRightReport, RefusesReport};
-ghost use Rattle.allocative_json.specs.Run.{StopsReading, IsReportFor, IsReported, EndsWell, EndsIn, MayEndRun};
-ghost use Rattle.allocative_json.specs.Arguments.{arguments_of};
+ghost use Rattle.allocative_json.specs.Run.{StopsReading, IsReportFor, IsWritten, IsReported, EndsWell, EndsIn, MayEndRun};
+ghost use Rattle.allocative_json.specs.Words.{words_of};
 
-use crate::arguments::{Arguments, read_arguments};
 use crate::fault::Fault;
 use crate::printed::Report;
-use crate::profile::{profile_json, profile_registered};
+use crate::profile::{report_by_registry, report_of};
+use crate::roots::read_roots;
+use crate::words::{Words, read_words};
 use std::alloc::Global;
 use std::io::{ErrorKind, Read, Write};
+use std::mem;
 
-/// Reads to the end of the input. It returns `Fault::Reading` where a read fails, and `Fault::Memory` where memory
-/// runs out, which an empty input never causes. An interrupted read is repeated.
-pub fn read_input<R: Read>(alloc: Global, input: &mut R) -> Result<Vec<u8>, Fault>
+// Reads to the end of the input. It returns `Fault::Reading` where a read fails, and `Fault::Memory` where memory
+// runs out, which an empty input never causes. An interrupted read is repeated.
+fn read_input<R: Read>(alloc: Global, input: &mut R) -> Result<Vec<u8>, Fault>
     ensures ok { IfOk result (λ bytes. IfSome (R.remaining input.old) (λ known. bytes.items ≡ known)) }
     ensures err { IfErr result (StopsReading (R.remaining input.old)) }
 {
@@ -49,10 +51,9 @@ fn write_report<W: Write, E: Write>(
     output: &mut W,
     errors: &mut E,
 ) -> Result<(), Fault>
-    ensures written { OnOk result
-        (Appends (W.contents output.old) (W.contents output.new) (string_bytes made.now.profile)) }
-    ensures told { OnOk result
-        (Appends (E.contents errors.old) (E.contents errors.new) (string_bytes made.now.warnings)) }
+    ensures ok { OnOk result
+        (IsWritten (W.contents output.old) (W.contents output.new) (E.contents errors.old) (E.contents errors.new)
+        made.now) }
     ensures err { IfErr result (λ f. f ≡ Fault.Writing) }
 {
     write_text(output, made.profile.as_str())?;
@@ -69,37 +70,35 @@ pub fn tell<E: Write>(errors: &mut E, fault: Fault) -> u8
 }
 
 // Makes the report of the input, with a registry where it is asked for.
-fn profile_as_asked(alloc: Global, asked: Arguments, input: &[u8]) -> Result<Report, Fault>
-    ensures ok { IfOk result
-        (λ made. IsRightReport input.now asked.index asked.exact (string_bytes made.profile)
-        (string_bytes made.warnings)) }
-    ensures err { IfErr result (RefusesReport input.now) }
+fn profile_as_asked(alloc: Global, asked: Words, input: &[u8]) -> Result<Report, Fault>
+    ensures ok { IfOk result (IsRightReport input.now asked.index asked.exact) }
+    ensures err { IfErr result (RefusesReport input.now asked.index) }
 {
+    let (document, numbers) = read_roots(alloc, input, asked.index)?;
     if asked.registry {
-        profile_registered(alloc, input, asked.index, asked.exact)
-    } else {
-        profile_json(alloc, input, asked.index, asked.exact)
+        return report_by_registry(alloc, document, numbers, asked.exact);
     }
+    let made = report_of(alloc, &document, &numbers, asked.exact);
+    // The process is about to end, which frees the document faster than a drop of each value.
+    mem::forget((document, numbers));
+    made
 }
 
-// Parses the arguments, reads the input, and makes its report.
-fn make_report<R: Read>(alloc: Global, arguments: &[String], input: &mut R) -> Result<Report, Fault>
-    ensures ok { IfOk result
-        (λ made. IsReportFor (arguments_of arguments.now) (R.remaining input.old) (string_bytes made.profile)
-        (string_bytes made.warnings)) }
-    ensures err { IfErr result (MayEndRun (arguments_of arguments.now) (R.remaining input.old)) }
+// Parses the words, reads the input, and makes its report.
+fn make_report<R: Read>(alloc: Global, words: &[String], input: &mut R) -> Result<Report, Fault>
+    ensures ok { IfOk result (IsReportFor (words_of words.now) (R.remaining input.old)) }
+    ensures err { IfErr result (MayEndRun (words_of words.now) (R.remaining input.old)) }
 {
-    let asked = read_arguments(arguments)?;
+    let asked = read_words(words)?;
     let bytes = read_input(alloc, input)?;
     profile_as_asked(alloc, asked, bytes.as_slice())
 }
 
-/// Writes the report that was made, or the message of the fault, and returns the status.
-pub fn finish<W: Write, E: Write>(made: Result<Report, Fault>, output: &mut W, errors: &mut E) -> u8
+// Writes the report that was made, or the message of the fault, and returns the status.
+fn finish<W: Write, E: Write>(made: Result<Report, Fault>, output: &mut W, errors: &mut E) -> u8
     ensures written { result ≡ 0
         → IsOkAnd made
-        (λ texts. Appends (W.contents output.old) (W.contents output.new) (string_bytes texts.profile)
-        × Appends (E.contents errors.old) (E.contents errors.new) (string_bytes texts.warnings)) }
+        (IsWritten (W.contents output.old) (W.contents output.new) (E.contents errors.old) (E.contents errors.new)) }
     ensures status { IfOk made (λ _. (result ≡ 0) ⊎ (result ≡ 7)) }
     ensures fault { IfErr made (λ f. result ≡ status_of f) }
     ensures untouched { OnErr made (output.new ≡ output.old) }
@@ -113,27 +112,28 @@ pub fn finish<W: Write, E: Write>(made: Result<Report, Fault>, output: &mut W, e
     }
 }
 
-/// Runs the whole program and returns its status.
+/// Runs the whole program and returns its status. The document stays in memory until the process ends, unless a
+/// registry has it.
 ///
 /// With status 0 the profile is on the output and the warnings are on the errors. Both are made before
 /// anything is written, and the profile is written first. Otherwise the message of the fault is written to the
 /// errors and, except with status 7, nothing is written to the output. The status is that of the fault even
-/// where the message cannot be written. With the argument `registry` the roots are boxed and visited by a
+/// where the message cannot be written. With the word `registry` the roots are boxed and visited by a
 /// registry, and the same clauses hold.
 pub fn run_json<R: Read, W: Write, E: Write>(
     alloc: Global,
-    arguments: &[String],
+    words: &[String],
     input: &mut R,
     output: &mut W,
     errors: &mut E,
 ) -> u8
     ensures well { result ≡ 0
-        → EndsWell (arguments_of arguments.now) (R.remaining input.old) (W.contents output.old) (W.contents output.new)
+        → EndsWell (words_of words.now) (R.remaining input.old) (W.contents output.old) (W.contents output.new)
         (E.contents errors.old) (E.contents errors.new) }
-    ensures writing { result ≡ 7 → IsReported (arguments_of arguments.now) (R.remaining input.old) }
-    ensures fault { result ≢ 0 → result ≢ 7 → EndsIn (arguments_of arguments.now) (R.remaining input.old) result }
+    ensures writing { result ≡ 7 → IsReported (words_of words.now) (R.remaining input.old) }
+    ensures fault { result ≢ 0 → result ≢ 7 → EndsIn (words_of words.now) (R.remaining input.old) result }
     ensures untouched { result ≢ 0 → result ≢ 7 → output.new ≡ output.old }
 {
-    let made = make_report(alloc, arguments, input);
+    let made = make_report(alloc, words, input);
     finish(made, output, errors)
 }

@@ -1,0 +1,83 @@
+-- The lines of a text, and the last key of a line, as `split_once` and `rsplit_once` find them.
+use Rattle.std.proofs.Common.{◌≡◌, ◌≢◌, ℕ, suc, ◌+◌, ◌<◌, ◌≤◌, ◌==◌, Bool, true, false, cond, List, [], ◌∷◌, ◌++◌, length, get_or, take, drop, Option, None, Some, refl, ap, sym, ◌∙◌, arith, append_assoc, append-nil, eq-eqb, Bor, MatchOption}
+use Rattle.std.specs.Str.Pattern.{RFindsChar}
+use Rattle.std.proofs.lemmas.Bool.{ne_eqb}
+use Rattle.std.proofs.lemmas.List.{take-append-drop}
+use Rattle.std.proofs.lemmas.Str.Pattern.{NoCharPasses-char, drop_at_char, IsSplitOnceResult, split_parts}
+use Rattle.allocative.specs.Graph.{Lacks}
+use Rattle.allocative.specs.Report.{lines_from, before_last, after_last}
+use Rattle.allocative_json.specs.Lines.{kept_line, kept_lines}
+
+lacks_from : (c : ℕ) (bs : List ℕ) → ((i : ℕ) → i < length bs → get_or bs i 0 ≢ c) → Lacks c bs
+lacks_from c [] h = tt
+lacks_from c (b ∷ bs) h = (h 0 (omega arith), lacks_from c bs (λ i l. h (suc i) (omega (arith, l))))
+
+same_cond : {A : Type 0} (t : Bool) (x y z : A) → x ≡ z → y ≡ z → cond t x y ≡ z
+same_cond true x y z p q = p
+same_cond false x y z p q = q
+
+-- ---- the last key
+none_before : (c : ℕ) (best acc d : List ℕ) → Lacks c d → before_last c best acc d ≡ best
+none_before c best acc [] h = refl
+none_before c best acc (b ∷ d) h = rw (ne_eqb b c h.0) (none_before c best (acc ++ b ∷ []) d h.1)
+
+before_read : (c : ℕ) (best acc x d : List ℕ) → Lacks c d → before_last c best acc (x ++ c ∷ d) ≡ acc ++ x
+before_read c best acc [] d h = rw (eq-eqb c c refl, none_before c acc (acc ++ c ∷ []) d h) (sym (append-nil acc))
+before_read c best acc (b ∷ x) d h =
+    same_cond (b == c) _ _ _ (before_read c acc (acc ++ b ∷ []) x d h ∙ append_assoc acc (b ∷ []) x)
+    (before_read c best (acc ++ b ∷ []) x d h ∙ append_assoc acc (b ∷ []) x)
+
+after_lacking : (c : ℕ) (acc a : List ℕ) → Lacks c a → after_last c acc a ≡ acc ++ a
+after_lacking c acc [] h = sym (append-nil acc)
+after_lacking c acc (b ∷ a) h = rw (ne_eqb b c h.0) (after_lacking c (acc ++ b ∷ []) a h.1 ∙ append_assoc acc (b ∷ []) a)
+
+after_read : (c : ℕ) (acc x d : List ℕ) → Lacks c d → after_last c acc (x ++ c ∷ d) ≡ d
+after_read c acc [] d h = rw (eq-eqb c c refl) (after_lacking c [] d h)
+after_read c acc (b ∷ x) d h = same_cond (b == c) _ _ _ (after_read c [] x d h) (after_read c (acc ++ b ∷ []) x d h)
+
+-- What `rsplit_once` returns at an ASCII character.
+abbrev pub IsRsplit : ℕ → List ℕ → Option (Bor (List ℕ) × Bor (List ℕ)) → Type 0
+IsRsplit c bs r = MatchOption r (RFindsChar c bs None)
+    (λ x. (i : ℕ) × (j : ℕ) × RFindsChar c bs (Some (i, j)) × (x.0.now ≡ take i bs) × (x.1.now ≡ drop j bs) × (i ≤ j) × (length x.0.now ≡ i) × (length x.1.now + j ≡ length bs))
+
+rsplit_parts : (c : ℕ) (bs : List ℕ) (r : Option (Bor (List ℕ) × Bor (List ℕ))) → IsRsplit c bs r → c < 128
+    → MatchOption r (Lacks c bs) (λ x. (bs ≡ x.0.now ++ c ∷ x.1.now) × Lacks c x.1.now)
+rsplit_parts c bs None h low = lacks_from c bs (λ i. NoCharPasses-char c bs i h low)
+rsplit_parts c bs (Some x) (i, j, finds, front, back, ordered, one, other) low = (
+  rw (front, back) (sym (ap (λ l. take i bs ++ l) (sym (drop_at_char c bs i j finds.1 low)) ∙ take-append-drop i bs)),
+  rw back (lacks_from c (drop j bs) (λ k. NoCharPasses-char c (drop j bs) k finds.0 low)),
+)
+
+-- The text before the last c, and that after it, in one line.
+pub rsplit_before : (c : ℕ) (bs : List ℕ) (r : Option (Bor (List ℕ) × Bor (List ℕ))) → IsRsplit c bs r → c < 128
+    → MatchOption r (before_last c [] [] bs ≡ []) (λ x. before_last c [] [] bs ≡ x.0.now)
+rsplit_before c bs None h low = none_before c [] [] bs (rsplit_parts c bs None h low)
+rsplit_before c bs (Some x) h low = let p = rsplit_parts c bs (Some x) h low in ap (before_last c [] []) p.0 ∙ before_read c [] [] x.0.now x.1.now p.1
+
+pub rsplit_after : (c : ℕ) (bs : List ℕ) (r : Option (Bor (List ℕ) × Bor (List ℕ))) → IsRsplit c bs r → c < 128
+    → MatchOption r (after_last c [] bs ≡ bs) (λ x. after_last c [] bs ≡ x.1.now)
+rsplit_after c bs None h low = after_lacking c [] bs (rsplit_parts c bs None h low)
+rsplit_after c bs (Some x) h low = let p = rsplit_parts c bs (Some x) h low in ap (after_last c []) p.0 ∙ after_read c [] x.0.now x.1.now p.1
+
+-- ---- the lines
+line_read : (acc a rest : List ℕ) → Lacks 10 a → lines_from acc (a ++ 10 ∷ rest) ≡ (acc ++ a) ∷ lines_from [] rest
+line_read acc [] rest h = rw (append-nil acc) refl
+line_read acc (b ∷ a) rest h = rw (ne_eqb b 10 h.0) (line_read (acc ++ b ∷ []) a rest h.1 ∙ ap (λ l. l ∷ lines_from [] rest) (append_assoc acc (b ∷ []) a))
+
+no_line : (acc a : List ℕ) → Lacks 10 a → lines_from acc a ≡ []
+no_line acc [] h = refl
+no_line acc (b ∷ a) h = rw (ne_eqb b 10 h.0) (no_line (acc ++ b ∷ []) a h.1)
+
+-- One line was cut off, and kept or dropped.
+pub line_more : (all rest kept more : List ℕ) (line after : Bor (List ℕ)) → IsSplitOnceResult 10 rest (Some (line, after))
+    → kept ++ kept_lines rest ≡ all → more ≡ kept ++ kept_line line.now → more ++ kept_lines after.now ≡ all
+line_more all rest kept more line after cut h e =
+    let parts = split_parts 10 rest (Some (line, after)) cut (omega arith) in
+    let lines : lines_from [] rest ≡ line.now ∷ lines_from [] after.now = ap (lines_from []) parts.0 ∙ line_read [] line.now after.now (lacks_from 10 line.now parts.1) in
+    rw (e, append_assoc) (rw lines at h)
+
+-- No line is left.
+pub line_none : (all rest kept : List ℕ) → IsSplitOnceResult 10 rest None → kept ++ kept_lines rest ≡ all → kept ≡ all
+line_none all rest kept cut h =
+    let none : lines_from [] rest ≡ [] = no_line [] rest (lacks_from 10 rest (split_parts 10 rest None cut (omega arith))) in
+    sym (append-nil kept) ∙ rw none at h
