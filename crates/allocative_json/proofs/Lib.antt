@@ -1,4 +1,5 @@
 pub mod NumbersLemmas
 pub mod Reports
+pub mod Stored
 pub mod Rows
 pub mod ArgumentsLemmas

@@ -20,7 +20,7 @@ use Rattle.allocative_json.specs.Roots.{IsWholeDocument, IsIndexIf}
 use Rattle.allocative_json.specs.Run.{MayEndRun}
 use Rattle.allocative_json.specs.Arguments.{Argument, AreArguments}
 
-profile_weaker : (p q : Showing) (o : Profile) → ((f : Forest) → p f → q f) → IsProfileOf p o → IsProfileOf q o
+pub profile_weaker : (p q : Showing) (o : Profile) → ((f : Forest) → p f → q f) → IsProfileOf p o → IsProfileOf q o
 profile_weaker p q o up h = record {
   shown = h.shown;
   allowed = up h.shown h.allowed;

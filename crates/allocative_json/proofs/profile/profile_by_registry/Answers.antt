@@ -1,11 +1,11 @@
 use Rattle.std.proofs.Common.{None, rules, ◌≡◌, ◌∙◌, ap, arith, refl, inl, inr}
 use Rattle.std.proofs.lemmas.Grind.{common_steps}
 use denote.Param.Object.{read_made}
-use Rattle.serde_json.specs.View.{view}
-use Rattle.allocative.specs.JsonShows.{value_shows}
+use Rattle.allocative.specs.JsonShows.{stored_value}
 use Rattle.allocative.specs.Shows.{Showing}
 use Rattle.allocative_json.specs.Profile.{index_shows}
 use Rattle.allocative_json.proofs.Reports.{one_root, two_roots}
+use Rattle.allocative_json.proofs.Stored.{profile_of_data, profiles_of_data}
 use Rattle.allocative_json.proofs.profile.profile_by_registry.OwnLists.{own-1}
 use Rattle.allocative_json.proofs.profile.profile_by_registry.Goals as goal
 
@@ -13,16 +13,18 @@ pub returns : goal.returns
 returns c =
     let document = c.into_dyn_box.result in
     let numbers = c.into_dyn_box-in_ok-new-2.result in
-    let first : ◌≡◌ {A = Showing} ((own-1.entry document.vtable).1.may_show document.value) (value_shows (view c.args.document)) =
-    read_made own-1 _ (inl tt) refl Showing (λ j v. j.1.may_show v) document.vtable document.value c.in_ok-new.field-0.value c.into_dyn_box.ensures.1 ∙ ap (λ v. value_shows (view v)) c.in_ok-new.ensures.ok in
+    let first : ◌≡◌ {A = Showing} ((own-1.entry document.vtable).1.may_show document.value) (stored_value c.args.document) =
+    read_made own-1 _ (inl tt) refl Showing (λ j v. j.1.may_show v) document.vtable document.value c.in_ok-new.field-0.value c.into_dyn_box.ensures.1 ∙ ap stored_value c.in_ok-new.ensures.ok in
     let last : ◌≡◌ {A = Showing} ((own-1.entry numbers.vtable).1.may_show numbers.value) (index_shows c.in-Some.numbers) =
     read_made own-1 _ (inr (inl tt)) refl Showing (λ j v. j.1.may_show v) numbers.vtable numbers.value c.in_ok-new-2.field-0.value c.into_dyn_box-in_ok-new-2.ensures.1 ∙ ap (λ s. index_shows s) c.in_ok-new-2.ensures.ok in
-    rw c.in-Some.is (two_roots (λ b. (own-1.entry b.vtable).1.may_show b.value) _ document numbers _ _ c.profile_roots-2.result (grind (arith, common_steps)) first last c.profile_roots-2.ensures.profile)
+    rw c.in-Some.is (profiles_of_data c.args.document (index_shows c.in-Some.numbers) c.profile_roots-2.result
+    (two_roots (λ b. (own-1.entry b.vtable).1.may_show b.value) _ document numbers _ _ c.profile_roots-2.result (grind (arith, common_steps)) first last c.profile_roots-2.ensures.profile))
 
 pub returns-in_default : goal.returns-in_default
 returns-in_default c =
     let document = c.into_dyn_box.result in
-    let first : ◌≡◌ {A = Showing} ((own-1.entry document.vtable).1.may_show document.value) (value_shows (view c.args.document)) =
-    read_made own-1 _ (inl tt) refl Showing (λ j v. j.1.may_show v) document.vtable document.value c.in_ok-new.field-0.value c.into_dyn_box.ensures.1 ∙ ap (λ v. value_shows (view v)) c.in_ok-new.ensures.ok in
+    let first : ◌≡◌ {A = Showing} ((own-1.entry document.vtable).1.may_show document.value) (stored_value c.args.document) =
+    read_made own-1 _ (inl tt) refl Showing (λ j v. j.1.may_show v) document.vtable document.value c.in_ok-new.field-0.value c.into_dyn_box.ensures.1 ∙ ap stored_value c.in_ok-new.ensures.ok in
     let none : c.args.numbers ≡ None = search rules in
-    rw none (one_root (λ b. (own-1.entry b.vtable).1.may_show b.value) _ document _ c.profile_roots.result (grind (arith, common_steps)) first c.profile_roots.ensures.profile)
+    rw none (profile_of_data c.args.document c.profile_roots.result
+    (one_root (λ b. (own-1.entry b.vtable).1.may_show b.value) _ document _ c.profile_roots.result (grind (arith, common_steps)) first c.profile_roots.ensures.profile))
