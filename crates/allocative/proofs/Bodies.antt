@@ -33,10 +33,10 @@ plain_slice name None needs_drop p xs e f h = none_of_it h
 plain_slice name (Some s) needs_drop p xs e f h = rw (e, slice_shows) (field_of_product name Nothing (s * length xs) _ f h)
 
 -- Bytes that fit a word are those that are computed.
-checked_fits : (n : ℕ) → n < 2 ^ 64 → checked n ≡ Some n
+pub checked_fits : (n : ℕ) → n < 2 ^ 64 → checked n ≡ Some n
 checked_fits n h = grind (arith, nat_tests, h)
 
-entry_declared : (k : Key) (m : ℕ) (size : Option ℕ) → size ≡ Some m → IsDeclared (Field k size Nothing)
+pub entry_declared : (k : Key) (m : ℕ) (size : Option ℕ) → size ≡ Some m → IsDeclared (Field k size Nothing)
 entry_declared k m size e = rw e (let d = declared_entry false k m declared_nothing in (d.0, sized d.1, d.2))
 
 plain_declared : {T : Type 0} (name : Key) (size : Option ℕ) (needs_drop : Bool) (p : T → Showing) (xs : List T) → are_shown_each needs_drop size ≡ false →
@@ -61,7 +61,7 @@ pub each_slice : {T : Type 0} (name : Key) (size : Option ℕ) (needs_drop : Boo
 each_slice name None needs_drop p xs e f h = absurd (false≢true e)
 each_slice name (Some s) needs_drop p xs e f h = rw (e, slice_shows) h
 
-each_declared : {T : Type 0} (name : Key) (size : Option ℕ) (needs_drop : Bool) (p : T → Showing) (xs : List T) → are_shown_each needs_drop size ≡ true →
+pub each_declared : {T : Type 0} (name : Key) (size : Option ℕ) (needs_drop : Bool) (p : T → Showing) (xs : List T) → are_shown_each needs_drop size ≡ true →
     IsDeclared (slice_shows name size needs_drop p xs) → IsDeclared (each_shows p xs)
 each_declared name None needs_drop p xs e d = absurd (false≢true e)
 each_declared name (Some s) needs_drop p xs e d = rw (e, slice_shows) at d

@@ -16,6 +16,7 @@ pub mod RefusedRoots
 pub mod Nest
 pub mod Lent
 pub mod Nesting
+pub mod ByHand
 -- Lemmas of the crate below about graphs and their text are exported again.
 pub use Rattle.allocative_graph.proofs.Basics
 pub use Rattle.allocative_graph.proofs.Below

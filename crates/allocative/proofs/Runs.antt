@@ -1,6 +1,7 @@
 -- How a loop over an iterator shows one more item, and what a whole run of it shows.
-use Rattle.std.proofs.Common.{Bool, false, true, ℕ, ◌+◌, length, arith, ◌⊎◌, inl, inr, List, [], ◌∷◌, ◌++◌, map, ◌≡◌, Option, None, Some, Result, Ok, Err, IsErr, refl, sym, ap, subst}
+use Rattle.std.proofs.Common.{Bool, false, true, ℕ, zero, suc, ◌+◌, ◌*◌, ◌<◌, ◌^◌, length, filter_map, cond, count_by, is_some, arith, ◌⊎◌, inl, inr, List, [], ◌∷◌, ◌++◌, map, ◌≡◌, Option, None, Some, Result, Ok, Err, IsErr, refl, sym, ◌∙◌, ap, subst}
 use Rattle.std.proofs.lemmas.List.{map-append, length-map}
+use Rattle.std.proofs.lemmas.List.Sums.{sum_by-cons}
 use Rattle.std.proofs.lemmas.List.Elements.{All-nil, All-cons, All-head, All-tail}
 use Rattle.std.proofs.lemmas.Bool.{false≢true}
 use Rattle.std.proofs.lemmas.Bool.Decides.{nat_tests}
@@ -12,22 +13,22 @@ use Rattle.slab.specs.Slab.{Slab, entries_from, entries, values}
 use Rattle.allocative_graph.specs.declared.refusal.Refusal.{Refusal}
 use Rattle.allocative_graph.specs.Path.{Key}
 use Rattle.allocative_graph.specs.Forest.{Forest}
-use Rattle.allocative_graph.specs.Collector.{State, left}
-use Rattle.allocative_graph.specs.Shows.{Showing, Nothing, InsideAs, Field, each_shows, slice_shows}
+use Rattle.allocative_graph.specs.Collector.{Kind, State, left}
+use Rattle.allocative_graph.specs.Shows.{Showing, Nothing, Both, InsideAs, Inside, Field, each_shows, slice_shows}
 use Rattle.allocative_graph.specs.Visits.{Enters}
 use Rattle.allocative_described.specs.Sizes.{checked, size_product}
 use Rattle.allocative.specs.Bodies.{are_shown_each, bytes_shown}
-use Rattle.allocative.specs.Runs.{RefusesAlong, IsOfRun, CountsRun, entry_value, value_shows, values_slice}
+use Rattle.allocative.specs.Runs.{RefusesAlong, RefusesCounted, CanCount, IsOfRun, CountsRun, value_shows}
 use Rattle.allocative.specs.StdShows.{in_any_order}
 use Rattle.allocative.specs.declared.visitor.Visitor.{Visitor}
-use Rattle.allocative.specs.Exact.{IsDeclared}
+use Rattle.allocative.specs.Exact.{IsDeclared, CanTake, RefusesRightly}
 use Rattle.allocative.specs.Nested.{with_state}
 use Rattle.allocative.specs.Visited.{Entered, Means}
 use Rattle.allocative.proofs.Meaning.{entered_if, entered_as, entered_snoc, exact_never}
 use Rattle.allocative.proofs.Closures.{err_or}
-use Rattle.allocative.proofs.Exact.{declared_nothing, declared_first, declared_second, declared_both, rightly_within}
+use Rattle.allocative.proofs.Exact.{declared_nothing, declared_first, declared_second, declared_both, entry_fits, rightly_as, rightly_weaker, rightly_within}
 use Rattle.allocative.proofs.Within.{item_refused}
-use Rattle.allocative.proofs.Bodies.{plain_slice, each_slice, none_of_it}
+use Rattle.allocative.proofs.Bodies.{plain_slice, each_slice, each_declared, entry_declared, checked_fits, none_of_it}
 use Rattle.allocative.proofs.Showing.{shows_weaker}
 
 -- One step of a loop shows one more item.
@@ -133,27 +134,6 @@ plain_run v name size count needs_drop p e (xs, d, i) h =
     let up = λ (f : Forest) (g : Field name (size_product size (checked (length xs))) Nothing f). plain_slice name size needs_drop p (map v xs) e f (rw length-map (bytes_counted name size (length xs) f g)) in
     entered_run v (slice_shows name size needs_drop p) xs d (entered_if h' exact_never (loosely (up)))
 
--- ---- entries of a key and a value
-of_values : {T : Type 0} (p : T → Showing) (es : List (ℕ × T)) (f : Forest) → each_shows (value_shows p) es f → each_shows p (map entry_value es) f
-of_values p [] f h = h
-of_values p (e ∷ es) f (g, h, here, rest, i) = (g, h, here, of_values p es h rest, i)
-
-of_values_run : {S A T : Type 0} {steps : S → Option A → S → Type 0} {s : S} (v : A → ℕ × T) (name : Key) (size : Option ℕ) (needs_drop : Bool) (p : T → Showing) → are_shown_each needs_drop size ≡ true →
-    (f : Forest) → IsOfRun steps s v (each_shows (value_shows p)) f → IsOfRun steps s v (values_slice name size needs_drop p) f
-of_values_run v name size needs_drop p e f o =
-    record { given = o.given; drained = o.drained; shown = each_slice name size needs_drop p (map entry_value (map v o.given)) e f (of_values p (map v o.given) f o.shown) }
-
-pub values_run : {S A T : Type 0} {e : Bool} {steps : S → Option A → S → Type 0} {s : S} (v : A → ℕ × T) (name : Key) (size : Option ℕ) (needs_drop : Bool) (p : T → Showing) {a b : Visitor} {r : Result (Unit {0}) Refusal} →
-    are_shown_each needs_drop size ≡ true → Entered e (IsOfRun steps s v (each_shows (value_shows p))) a b r → Entered false (IsOfRun steps s v (values_slice name size needs_drop p)) a b r
-values_run v name size needs_drop p e h = entered_if h exact_never (loosely (of_values_run v name size needs_drop p e))
-
-pub plain_values_run : {S A T : Type 0} {e : Bool} {steps : S → Option A → S → Type 0} {s : S} (v : A → ℕ × T) (name : Key) (size count : Option ℕ) (needs_drop : Bool) (p : T → Showing) {a b : Visitor} {r : Result (Unit {0}) Refusal} →
-    are_shown_each needs_drop size ≡ false → CountsRun steps s count → Entered e (Field name (size_product size count) Nothing) a b r → Entered false (IsOfRun steps s v (values_slice name size needs_drop p)) a b r
-plain_values_run v name size count needs_drop p e (xs, d, i) h =
-    let h' = rw i at h in
-    let up = λ (f : Forest) (g : Field name (size_product size (checked (length xs))) Nothing f). plain_slice name size needs_drop p (map entry_value (map v xs)) e f (rw (length-map, length-map) (bytes_counted name size (length xs) f g)) in
-    entered_run v (values_slice name size needs_drop p) xs d (entered_if h' exact_never (loosely (up)))
-
 each_run : {S A T : Type 0} {steps : S → Option A → S → Type 0} {s : S} (v : A → T) (name : Key) (size : Option ℕ) (needs_drop : Bool) (p : T → Showing) → are_shown_each needs_drop size ≡ true →
     (f : Forest) → IsOfRun steps s v (each_shows p) f → IsOfRun steps s v (slice_shows name size needs_drop p) f
 each_run v name size needs_drop p e f o =
@@ -163,21 +143,63 @@ pub items_run : {S A T : Type 0} {e : Bool} {steps : S → Option A → S → Ty
     are_shown_each needs_drop size ≡ true → Entered e (IsOfRun steps s v (each_shows p)) a b r → Entered false (IsOfRun steps s v (slice_shows name size needs_drop p)) a b r
 items_run v name size needs_drop p e h = entered_if h exact_never (loosely (each_run v name size needs_drop p e))
 
+-- ---- what a counted slice refuses
+fits_by : (s n : ℕ) → (s ≡ 0 → n < 2 ^ 64) → s * n < 2 ^ 64 → n < 2 ^ 64
+fits_by zero n h l = h refl
+fits_by (suc k) n h l =
+    let e : suc k * n ≡ n + k * n = grind arith in
+    omega (arith, e, l)
+
+product_counted : (s n : ℕ) → n < 2 ^ 64 → s * n < 2 ^ 64 → size_product (Some s) (checked n) ≡ Some (s * n)
+product_counted s n h l = rw (checked_fits n h) (checked_fits (s * n) l)
+
+counted_declared : {T : Type 0} (name : Key) (size : Option ℕ) (needs_drop : Bool) (p : T → Showing) (ys : List T) → are_shown_each needs_drop size ≡ false → CanCount size (length ys) →
+    (b : Kind) → CanTake b (slice_shows name size needs_drop p ys) → IsDeclared (Field name (size_product size (checked (length ys))) Nothing)
+counted_declared name None needs_drop p ys e fits b (d, room) = absurd d.1
+counted_declared name (Some s) needs_drop p ys e fits b w =
+    let w' : CanTake b (Inside name (s * length ys) Nothing) = rw (e, slice_shows) at w in
+    let l = entry_fits false name (s * length ys) b w' in
+    let n = fits_by s (length ys) (λ z. fits (ap Some z)) l in
+    entry_declared name (s * length ys) _ (product_counted s (length ys) n l)
+
+-- Items that are counted are refused rightly where they can be counted.
+pub counted_plain : {S A T : Type 0} {e : Bool} {steps : S → Option A → S → Type 0} {s : S} (v : A → T) (name : Key) (size count : Option ℕ) (needs_drop : Bool) (p : T → Showing) {a b : Visitor} {r : Result (Unit {0}) Refusal} →
+    are_shown_each needs_drop size ≡ false → CountsRun steps s count → Entered true (Field name (size_product size count) Nothing) a b r → RefusesCounted e size steps s v (slice_shows name size needs_drop p) a b r
+counted_plain {steps = steps} {s = s} v name size count needs_drop p {a = a} {b = b} {r = r} e (xs, d, i) h = record {
+  along = λ j ys y fits.
+      let yields : YieldsList steps v s ys = record { runs = y } in
+      let is : map v xs ≡ ys = items_from_drains xs (d.1.0, d.1.1, λ _. (d.0, d.1.2)) yields in
+      let n : length xs ≡ length ys = sym (length-map xs v) ∙ ap length is in
+      let told = h.rightly refl in
+      let counted : RefusesRightly (Field name (size_product size (checked (length ys))) Nothing) a.collector.now r b.collector.now = rw (i, n) at told in
+      rightly_as (λ f g. plain_slice name size needs_drop p ys e f (bytes_counted name size (length ys) f g)) (counted_declared name size needs_drop p ys e fits) counted;
+}
+
+-- Items that are shown one by one need no count.
+pub counted_each : {S A T : Type 0} {e : Bool} {steps : S → Option A → S → Type 0} {s : S} {v : A → T} (name : Key) (size : Option ℕ) (needs_drop : Bool) (p : T → Showing) {a b : Visitor} {r : Result (Unit {0}) Refusal} →
+    are_shown_each needs_drop size ≡ true → RefusesAlong e steps s v (each_shows p) a b r → RefusesCounted e size steps s v (slice_shows name size needs_drop p) a b r
+counted_each name size needs_drop p e h = record { along = λ i ys y fits. rightly_weaker (each_slice name size needs_drop p ys e) (each_declared name size needs_drop p ys e) (h.along i ys y) }
+
 -- ---- a slab's values
-values_from : {T : Type 0} (key capacity vacant : ℕ) (slots : List (Option T)) → map entry_value (entries_from key slots) ≡ values (record { slots = slots; vacant_key = vacant; capacity = capacity })
-values_from key c v [] = refl
-values_from key c v (None ∷ rest) = values_from (key + 1) c v rest
-values_from key c v (Some x ∷ rest) = ap (λ xs. x ∷ xs) (values_from (key + 1) c v rest)
+values_from : {T : Type 0} (p : T → Showing) (key : ℕ) (slots : List (Option T)) → each_shows (value_shows p) (entries_from key slots) ≡ each_shows p (filter_map (λ slot. slot) slots)
+values_from p key [] = refl
+values_from p key (None ∷ rest) = values_from p (key + 1) rest
+values_from p key (Some x ∷ rest) = ap (Both (p x)) (values_from p (key + 1) rest)
 
-values_of : {T : Type 0} (s : Slab T) → map entry_value (entries s) ≡ values s
-values_of s = values_from 0 s.capacity s.vacant_key s.slots
+-- What the values of a slab's entries show, its values show.
+pub entered_slab : {S A T : Type 0} {d e : Bool} {steps : S → Option A → S → Type 0} {s : S} {v : A → ℕ × T} (p : T → Showing) (slab : Slab T) {a b : Visitor} {r : Result (Unit {0}) Refusal} →
+    YieldsList steps v s (entries slab) → Entered e (IsOfRun steps s v (each_shows (value_shows p))) a b r → RefusesAlong d steps s v (each_shows (value_shows p)) a b r → Entered d (each_shows p (values slab)) a b r
+entered_slab p slab y h k =
+    let shown = entered_list {q = each_shows (value_shows p)} y h k in
+    rw (values_from p 0 slab.slots) at shown
 
-slice_of_run : {S A T : Type 0} {steps : S → Option A → S → Type 0} {s : S} {v : A → ℕ × T} (name : Key) (size : Option ℕ) (needs_drop : Bool) (p : T → Showing) (slab : Slab T) →
-    YieldsList steps v s (entries slab) → (f : Forest) → IsOfRun steps s v (values_slice name size needs_drop p) f → slice_shows name size needs_drop p (values slab) f
-slice_of_run {v = v} name size needs_drop p slab y f o =
-    let shown = of_list {q = values_slice name size needs_drop p} y f o in
-    subst (λ xs. slice_shows name size needs_drop p xs f) (values_of slab) shown
-
-pub entered_slab : {S A T : Type 0} {e : Bool} {steps : S → Option A → S → Type 0} {s : S} {v : A → ℕ × T} (name : Key) (size : Option ℕ) (needs_drop : Bool) (p : T → Showing) (slab : Slab T) {a b : Visitor} {r : Result (Unit {0}) Refusal} →
-    YieldsList steps v s (entries slab) → Entered e (IsOfRun steps s v (values_slice name size needs_drop p)) a b r → Entered false (slice_shows name size needs_drop p (values slab)) a b r
-entered_slab name size needs_drop p slab y h = entered_if h exact_never (loosely (slice_of_run name size needs_drop p slab y))
+pub values_count : {T : Type 0} (slots : List (Option T)) → length (filter_map (λ slot. slot) slots) ≡ count_by is_some slots
+values_count [] = refl
+values_count (None ∷ rest) =
+    let e = values_count rest in
+    let s = sum_by-cons (λ slot. cond (is_some slot) 1 0) None rest in
+    omega (arith, e, s)
+values_count (Some x ∷ rest) =
+    let e = values_count rest in
+    let s = sum_by-cons (λ slot. cond (is_some slot) 1 0) (Some x) rest in
+    omega (arith, e, s)

@@ -1,17 +1,55 @@
--- What a JSON value may show, in terms of the data that it stands for.
-use Rattle.std.specs.Prelude.{ℕ, suc, List, Some, codes, length, String, string_bytes}
+-- What a JSON value may show: exactly, with the room of its texts and arrays, and in terms of the data that it stands for.
+use Rattle.std.specs.Prelude.{ℕ, suc, List, Some, codes, length, String, string_bytes, string_capacity}
 use Rattle.std.specs.declared.alloc.Global.{Global}
 use Rattle.serde_json.specs.Data.{Data, null, boolean, number, string, array, object, Items, no_items, item, Members, no_members, member}
-use Rattle.allocative_graph.specs.Shows.{Showing, Nothing, Both, Inside, InsideUnique, Field}
-use Rattle.allocative.specs.Bodies.{some_buffer_shows, some_text_shows}
-
--- What a String shows of its text. The data has no capacities.
-abbrev pub string_shows : List ℕ → Showing
-string_shows s = Field (codes "String") (Some 24) (some_text_shows (length s))
+use Rattle.serde_json.specs.declared.value.Value.{Value, out-Value}
+use Rattle.serde_json.specs.declared.value.Value.TheOpen.{Value-F}
+use Rattle.allocative_graph.specs.Shows.{Showing, Nothing, Both, Inside, InsideUnique, Field, each_shows}
+use Rattle.allocative.specs.Bodies.{text_shows, some_buffer_shows, some_text_shows}
+use Rattle.allocative.specs.Levels.{Level, plain, child, inside, unique, each, vec_of, pair_of, recursive}
+use Rattle.allocative.specs.Runs.{pair_shows}
 
 -- What a number shows.
 abbrev pub number_shows : Showing
 number_shows = Inside (codes "Number") 16 Nothing
+
+-- ---- exactly
+-- What a String shows.
+abbrev pub stored_string : String Global → Showing
+stored_string s =
+    Field (codes "String") (Some 24) (text_shows (length (string_bytes s)) (string_capacity s))
+
+-- What is inside a value's own entry, with the values below it named in it.
+abbrev pub value_level : Value-F Value → Level Value
+value_level Value-F.Null = plain Nothing
+value_level (Value-F.Bool b) = plain Nothing
+value_level (Value-F.Number n) = plain (Inside (codes "Number") 16 number_shows)
+value_level (Value-F.String s) = inside (codes "String") 24 (plain (stored_string s))
+value_level (Value-F.Array v) = inside (codes "Array") 24 (vec_of 32 child v)
+value_level (Value-F.Object m) = inside (codes "Object") 24
+    (inside (codes "Map") 24 (unique (codes "data") 8 (each (pair_of (Some 24) stored_string 32 child) m.entries)))
+
+-- One level of a value: its own entry, and what is inside it.
+abbrev pub json_level : Value → Level Value
+json_level v = inside (codes "Value") 32 (value_level (out-Value v))
+
+-- What a value shows, where its texts and arrays have the room that they have.
+abbrev pub stored_value : Value → Showing
+stored_value = recursive json_level
+
+-- What the members of an object show, where p gives what a value shows: a field for the text of the key, and one for
+-- the value of 32 bytes.
+abbrev pub stored_members : {V : Type 0} → (V → Showing) → List (String Global × V) → Showing
+stored_members p es = each_shows (pair_shows (Some 24) stored_string (Some 32) p) es
+
+-- What an object's map shows.
+abbrev pub stored_map : List (String Global × Value) → Showing
+stored_map es = Inside (codes "Map") 24 (InsideUnique (codes "data") 8 (stored_members stored_value es))
+
+-- ---- of the data, which has no capacities: with any room
+-- What a String shows of its text.
+abbrev pub string_shows : List ℕ → Showing
+string_shows s = Field (codes "String") (Some 24) (some_text_shows (length s))
 
 -- The number of values of an array.
 abbrev pub items_count : Items → ℕ
@@ -43,15 +81,6 @@ abbrev mutual
       (Field (codes "value") (Some 32) (Inside (codes "Value") 32 (data_inside d))))
       (members_show ms)
 
--- What one member shows: a field for the text of its key, and one for its value of 32 bytes, which shows what p allows.
-abbrev pub member_shows : {V : Type 0} → (V → Showing) → String Global × V → Showing
-member_shows p m =
-    Both (Field (codes "key") (Some 24) (string_shows (string_bytes m.0))) (Field (codes "value") (Some 32) (p m.1))
-
--- What a value shows.
+-- What a value shows of its data.
 abbrev pub value_shows : Data → Showing
 value_shows d = Inside (codes "Value") 32 (data_inside d)
-
--- What an object's map shows.
-abbrev pub map_shows : Members → Showing
-map_shows ms = Inside (codes "Map") 24 (InsideUnique (codes "data") 8 (members_show ms))

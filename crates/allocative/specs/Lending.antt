@@ -1,5 +1,5 @@
 -- How a collector ends after a visitor borrowed it.
-use Rattle.std.specs.Prelude.{ℕ, Option, Result, Err, IfErr, Bool}
+use Rattle.std.specs.Prelude.{◌≡◌, ℕ, Option, Result, Ok, Err, IfErr, Bool, true, false}
 use Rattle.std.specs.Borrow.{Fml, MutBor, RestsIfErr}
 use Rattle.allocative_graph.specs.declared.refusal.Refusal.{Refusal}
 use Rattle.allocative_graph.specs.Path.{Key}
@@ -38,3 +38,15 @@ LendsBegun s r =
 abbrev pub LendsBegunGraph : MutBor State → Result Visitor Refusal → Fml
 LendsBegunGraph s r = RestsIfErr collector.the_row s (λ v. v.collector.ghost_name) r
     (λ t. IfErr r (λ e. Begins (as_graph s.now) (Err e) (as_graph t)))
+
+-- The visitor v borrows the collector s.
+abbrev pub Borrows : MutBor State → Visitor → Type 0
+Borrows s v = v.collector.ghost_name ≡ s.ghost_name
+
+-- The visitor v is at the entry that was entered at s.
+abbrev pub EntersAt : Bool → Key → ℕ → State → Visitor → Type 0
+EntersAt is_unique k n s v = Enters is_unique k n s (Ok v.outer_is_unique) v.collector.now
+
+-- The visitor v is at the content of the shared value that was entered at s.
+abbrev pub PointsAt : Key → ℕ → Identity → State → Visitor → Type 0
+PointsAt k n i s v = (v.outer_is_unique ≡ false) × EntersShared k n i s (Ok true) v.collector.now

@@ -18,6 +18,7 @@ pub mod Nested
 pub mod Built
 pub mod Rooted
 pub mod SizeOf
+pub mod InTwo
 -- The definitions of the crates below are exported again.
 pub use Rattle.allocative_described.specs.Sizes
 pub use Rattle.allocative_described.specs.RawTable

@@ -1,12 +1,12 @@
 -- What is shown of the items that an iterator gives.
-use Rattle.std.specs.Prelude.{◌≡◌, ℕ, Bool, IsTrue, List, map, length, Option, Result, codes}
+use Rattle.std.specs.Prelude.{◌≡◌, ℕ, ◌<◌, ◌^◌, Bool, IsTrue, List, map, length, Option, Some, Result, codes}
 use Rattle.std.specs.Iterator.{Drains, AlwaysYields}
 use denote.Ref.{Bor}
 use Rattle.allocative_described.specs.Sizes.{checked}
 use Rattle.allocative_graph.specs.declared.refusal.Refusal.{Refusal}
 use Rattle.allocative_graph.specs.Path.{Key}
 use Rattle.allocative_graph.specs.Forest.{Forest}
-use Rattle.allocative_graph.specs.Shows.{Showing, Both, Field, slice_shows}
+use Rattle.allocative_graph.specs.Shows.{Showing, Both, Field}
 use Rattle.allocative.specs.Exact.{RefusesRightly}
 use Rattle.allocative.specs.declared.visitor.Visitor.{Visitor}
 
@@ -23,6 +23,16 @@ pub record IsOfRun {S A B : Type 0} (steps : S → Option A → S → Type 0) (s
 pub record RefusesAlong {S A B : Type 0} (is_exact : Bool) (steps : S → Option A → S → Type 0) (s : S) (v : A → B)
     (q : List B → Showing) (old new : Visitor) (r : Result (Unit {0}) Refusal) : Type 0 where
   pub along : IsTrue is_exact → (ys : List B) → AlwaysYields steps v s ys
+      → RefusesRightly (q ys) old.collector.now r new.collector.now
+
+-- So many items of a declared size can be counted: where items have size 0, their number fits a word.
+abbrev pub CanCount : Option ℕ → ℕ → Type 0
+CanCount size n = size ≡ Some 0 → n < 2 ^ 64
+
+-- As `RefusesAlong`, for items of a declared size that are counted, where they can be.
+pub record RefusesCounted {S A B : Type 0} (is_exact : Bool) (size : Option ℕ) (steps : S → Option A → S → Type 0)
+    (s : S) (v : A → B) (q : List B → Showing) (old new : Visitor) (r : Result (Unit {0}) Refusal) : Type 0 where
+  pub along : IsTrue is_exact → (ys : List B) → AlwaysYields steps v s ys → CanCount size (length ys)
       → RefusesRightly (q ys) old.collector.now r new.collector.now
 
 -- A field with its name and declared size, with what p says of the value inside it.
@@ -42,14 +52,6 @@ CountsRun {A = A} steps s n = (xs : List A) × Drains steps s xs × (n ≡ check
 abbrev pub deref_entry : {T : Type 0} → ℕ × Bor T → ℕ × T
 deref_entry e = (e.0, e.1.now)
 
--- The value of an entry.
-abbrev pub entry_value : {T : Type 0} → ℕ × T → T
-entry_value e = e.1
-
 -- What p says of the value of an entry.
 abbrev pub value_shows : {T : Type 0} → (T → Showing) → ℕ × T → Showing
 value_shows p e = p e.1
-
--- The slice of the values of entries, in order.
-abbrev pub values_slice : {T : Type 0} → Key → Option ℕ → Bool → (T → Showing) → List (ℕ × T) → Showing
-values_slice name size needs_drop p es = slice_shows name size needs_drop p (map entry_value es)

@@ -9,7 +9,7 @@ ghost use Rattle.allocative_described.specs.Sizes.{size_sum};
 ghost use Rattle.allocative.specs.Making.{MakesPlanOrGives, MakesFirst, Keeps, MakesPlanRun, Done, one};
 ghost use Rattle.allocative.specs.Visited.{Entered};
 ghost use Rattle.allocative.specs.Bodies.{are_shown_each};
-ghost use Rattle.allocative.specs.Runs.{IsOfRun, RefusesAlong, CountsRun, field_of, pair_shows, deref_entry, value_shows, values_slice};
+ghost use Rattle.allocative.specs.Runs.{IsOfRun, RefusesAlong, RefusesCounted, CountsRun, field_of, pair_shows, deref_entry, value_shows};
 
 use crate::allocative_trait::Allocative;
 use crate::part::Part;
@@ -64,8 +64,9 @@ impl Visitor<'_> {
     /// size 0, otherwise what each item shows.
     ///
     /// A collector that has failed returns its first cause. The entry is `TooLarge` where the item has no size,
-    /// where the count does not fit, or where the bytes do not; its other errors are those of `enter`. The
-    /// iterator is one that can be asked for its next item and that ends.
+    /// where the count does not fit, or where the bytes do not; its other errors are those of `enter`. Items of an exact
+    /// type are refused only where they must be, if no more items of size 0 are given than fit a word. The iterator is
+    /// one that can be asked for its next item and that ends.
     pub fn visit_iter<'a, T: Allocative + Described + 'a, I: Iterator<Item = &'a T> + Drop>(
         &mut self,
         items: I,
@@ -75,6 +76,8 @@ impl Visitor<'_> {
         ensures entered { Entered false
             (IsOfRun I.next_gives items deref
             (slice_shows T.name T.size T.needs_drop T.may_show)) self.old self.new result }
+        ensures rightly { RefusesCounted T.is_exact T.size I.next_gives items deref
+            (slice_shows T.name T.size T.needs_drop T.may_show) self.old self.new result }
         ensures kept { Keeps self.old self.new result }
         ensures exact { MakesPlanRun I.next_gives items T.name T.size
             (are_shown_each T.needs_drop T.size) self.old self.new result }
@@ -86,39 +89,23 @@ impl Visitor<'_> {
         self.visit_counted::<T>(Key::for_type_name::<T>(), count)
     }
 
-    // What the value of each entry that the iterator gives shows, in order.
-    fn visit_each_value<'a, T: Allocative + 'a, I: Iterator<Item = (usize, &'a T)> + Drop>(
-        &mut self,
-        entries: I,
-    ) -> Result<(), Refusal>
+    /// What the value of each entry that the iterator gives shows, in order.
+    pub(crate) fn visit_each_value<
+        'a,
+        T: Allocative + 'a,
+        I: Iterator<Item = (usize, &'a T)> + Drop,
+    >(&mut self, entries: I) -> Result<(), Refusal>
         requires can { I.can_next entries }
         requires ends { IsFinite (I.remaining entries) }
-        ensures { Entered false
+        ensures entered { Entered false
             (IsOfRun I.next_gives entries deref_entry (each_shows (value_shows T.may_show))) self.old self.new result }
+        ensures rightly { RefusesAlong T.is_exact
+            I.next_gives entries deref_entry (each_shows (value_shows T.may_show)) self.old self.new result }
     {
         for (_key, value) in entries {
             value.enter(self)?;
         }
         Ok(())
-    }
-
-    /// The slice of the values of the entries that the iterator gives, as `visit_iter` shows a slice of items.
-    pub(crate) fn visit_values<
-        'a,
-        T: Allocative + Described + 'a,
-        I: Iterator<Item = (usize, &'a T)> + Drop,
-    >(&mut self, entries: I) -> Result<(), Refusal>
-        requires can { I.can_next entries }
-        requires ends { IsFinite (I.remaining entries) }
-        ensures { Entered false
-            (IsOfRun I.next_gives entries deref_entry
-            (values_slice T.name T.size T.needs_drop T.may_show)) self.old self.new result }
-    {
-        if are_shown_each::<T>() {
-            return self.visit_each_value(entries);
-        }
-        let count = count_of(entries);
-        self.visit_counted::<T>(Key::for_type_name::<T>(), count)
     }
 
     /// A field under the name for each item that the iterator gives, in order.

@@ -7,6 +7,7 @@
 
 pub mod allocative_trait;
 pub mod builder;
+pub mod by_hand;
 pub mod collector;
 pub mod containers;
 pub mod entries;
@@ -20,8 +21,6 @@ mod root_visits;
 pub mod size_of;
 mod slices;
 pub mod sum_of_two;
-#[cfg(test)]
-mod tests;
 pub mod visitor;
 
 pub use crate::allocative_trait::Allocative;

@@ -111,9 +111,9 @@ impl Collector {
         }
     }
 
-    // One more pointer, and a visitor at the content of the shared value where that is to be
-    // shown, otherwise `Err(None)`.
-    fn enter_content(
+    /// One more pointer, and a visitor at the content of the shared value where that is to be
+    /// shown, otherwise `Err(None)`.
+    pub(crate) fn enter_content(
         &mut self,
         key: Key,
         size: usize,
@@ -177,9 +177,9 @@ fn turned_round<'a>(
 }
 
 impl Visitor<'_> {
-    // A mutable borrow of the collector.
+    /// A mutable borrow of the collector.
     #[inline(always)]
-    fn reborrow(&mut self) -> &mut Collector
+    pub(crate) fn reborrow(&mut self) -> &mut Collector
         ensures* lent { sem 𝓛 (LendsCollector self.entry result) }
         ensures now { result.now ≡ self.old.collector.now }
     {

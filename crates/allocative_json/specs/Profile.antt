@@ -7,7 +7,7 @@ use Rattle.serde_json.specs.declared.value.Value.{Value}
 use Rattle.allocative.specs.Graph.{text}
 use Rattle.allocative.specs.Shows.{Showing, Nothing, Both, Inside, Field, each_shows}
 use Rattle.allocative.specs.Visits.{Profile, IsProfileOf}
-use Rattle.allocative.specs.JsonShows.{value_shows}
+use Rattle.allocative.specs.JsonShows.{stored_value}
 use Rattle.allocative_json.specs.declared.fault.Fault.{Fault}
 use Rattle.allocative_json.specs.declared.fault.Fault.TheVariants.{Memory, NotJson, NotWhole, TooLarge, Open}
 use Rattle.allocative_json.specs.declared.printed.Report.{Report}
@@ -23,9 +23,9 @@ key_shows k = Field (codes "key") (Some 16) (Field (codes "i128") (Some 16) Noth
 abbrev pub index_shows : BTreeSet ℤ → Showing
 index_shows s = Field (codes "BTreeSet") (Some 24) (Inside (codes "data") 8 (each_shows key_shows s.keys))
 
--- What a document shows.
+-- What a document shows, with the room of its texts and arrays.
 abbrev pub document_shows : Value → Showing
-document_shows v = value_shows (view v)
+document_shows v = stored_value v
 
 -- What a document shows, followed by what a set shows where there is one.
 abbrev pub roots_show : Value → Option (BTreeSet ℤ) → Showing

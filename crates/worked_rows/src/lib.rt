@@ -6,6 +6,8 @@ mod bad;
 #[cfg(test)]
 mod boxes;
 #[cfg(test)]
+mod by_hand;
+#[cfg(test)]
 mod entries;
 #[cfg(test)]
 mod forgotten;

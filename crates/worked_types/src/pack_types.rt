@@ -1,7 +1,7 @@
 //! The text of each type of another crate, at a concrete type.
 
-ghost use Rattle.serde_json.specs.View.{members_view};
-ghost use Rattle.allocative.specs.JsonShows.{map_shows};
+ghost use Rattle.std.specs.Prelude.{true};
+ghost use Rattle.allocative.specs.JsonShows.{stored_map};
 
 use crate::texts::{expect_exact, expect_text, text_of};
 use allocative::{Allocative, Refusal, Visitor, visit_json_map};
@@ -42,7 +42,9 @@ struct Members {
 }
 
 impl Allocative for Members {
-    ghost may_show = { λ m. map_shows (members_view m.map.entries) };
+    ghost may_show = { λ m. stored_map m.map.entries };
+
+    ghost is_exact = { true };
 
     fn visit(&self, visitor: &mut Visitor<'_>) -> Result<(), Refusal> {
         visit_json_map(visitor, &self.map)

@@ -1,10 +1,8 @@
 //! JSON values, their numbers, and their maps.
 #![tactic(auto, using(crate::proofs::Parts::parts))]
 
-ghost use Rattle.std.specs.Prelude.{true, false, Some, codes};
-ghost use Rattle.serde_json.specs.View.{view, members_view};
-ghost use Rattle.allocative_graph.specs.Shows as shows;
-ghost use Rattle.allocative.specs.JsonShows.{number_shows, member_shows, value_shows, map_shows};
+ghost use Rattle.std.specs.Prelude.{true, Some, codes};
+ghost use Rattle.allocative.specs.JsonShows.{number_shows, stored_members, stored_value, stored_map};
 ghost use Rattle.allocative.specs.Making.{MakesFirst};
 ghost use Rattle.allocative.specs.Visited.{Entered};
 
@@ -31,9 +29,9 @@ impl Allocative for Number {
 struct Members<M>(M);
 
 impl<'a, V: Allocative> Part for Members<&'a Map<String, V>> {
-    ghost may_show = { λ m. shows.each_shows (member_shows V.may_show) m.0.now.entries };
+    ghost may_show = { λ m. stored_members V.may_show m.0.now.entries };
 
-    ghost is_exact = { false };
+    ghost is_exact = { V.is_exact };
 
     #[tactic(auto, using(crate::proofs::Showing::showing))]
     fn enter(self, visitor: &mut Visitor<'_>) -> Result<(), Refusal> {
@@ -47,7 +45,9 @@ impl<'a, V: Allocative> Part for Members<&'a Map<String, V>> {
 }
 
 impl Allocative for Value {
-    ghost may_show = { λ v. value_shows (view v) };
+    ghost may_show = { stored_value };
+
+    ghost is_exact = { true };
 
     fn visit(&self, visitor: &mut Visitor<'_>) -> Result<(), Refusal> {
         let name = "Value";
@@ -83,7 +83,7 @@ impl Allocative for Value {
 /// A collector that has failed returns its first cause. Each entry's errors are those of `Visitor::enter`.
 #[tactic(auto, using(crate::proofs::Showing::showing))]
 pub fn visit_json_map(visitor: &mut Visitor<'_>, map: &Map<String, Value>) -> Result<(), Refusal>
-    ensures entered { Entered false (map_shows (members_view map.now.entries)) visitor.old visitor.new result }
+    ensures entered { Entered true (stored_map map.now.entries) visitor.old visitor.new result }
     ensures first { MakesFirst (codes "Map") (Some 24) visitor.old visitor.new result }
 {
     let outer = visitor.collector.open_entry(Key::new("Map"), 24)?;

@@ -1,7 +1,7 @@
 //! `Slab`: the buffer of its values, in the order of their keys.
 #![tactic(auto, using(crate::proofs::Parts::parts))]
 
-ghost use Rattle.std.specs.Prelude.{false, codes};
+ghost use Rattle.std.specs.Prelude.{codes};
 ghost use Rattle.slab.specs.Slab.{values};
 ghost use Rattle.allocative_graph.specs.Shows as shows;
 ghost use Rattle.allocative.specs.PackShows.{slab_inside};
@@ -9,8 +9,10 @@ ghost use Rattle.allocative.specs.PackShows.{slab_inside};
 use crate::allocative_trait::Allocative;
 use crate::containers::Buffer;
 use crate::part::{Inside, Part};
+use crate::slices::are_shown_each;
 use crate::visitor::Visitor;
 use allocative_described::Described;
+use allocative_graph::key::Key;
 use allocative_graph::refusal::Refusal;
 use slab::Slab;
 
@@ -21,15 +23,21 @@ pub struct Values<'a, T>(pub &'a Slab<T>);
 impl<'a, T: Allocative + Described> Part for Values<'a, T> {
     ghost may_show = { λ s. shows.slice_shows T.name T.size T.needs_drop T.may_show (values s.0.now) };
 
-    ghost is_exact = { false };
+    ghost is_exact = { T.is_exact };
 
+    #[tactic(auto, using(crate::proofs::Showing::showing))]
     fn enter(self, visitor: &mut Visitor<'_>) -> Result<(), Refusal> {
-        visitor.visit_values(self.0.iter())
+        if are_shown_each::<T>() {
+            return visitor.visit_each_value(self.0.iter());
+        }
+        visitor.visit_counted::<T>(Key::for_type_name::<T>(), Some(self.0.len()))
     }
 }
 
 impl<T: Allocative + Described> Allocative for Slab<T> {
     ghost may_show = { λ s. shows.Inside (codes "Slab") 40 (slab_inside T.name T.size T.needs_drop T.may_show s) };
+
+    ghost is_exact = { T.is_exact };
 
     fn visit(&self, visitor: &mut Visitor<'_>) -> Result<(), Refusal> {
         let buffer = Buffer {

@@ -1,10 +1,9 @@
 -- The members so far were shown.
-use Rattle.std.proofs.Common.{false, String, Global, ◌≡◌, Ok, List, ◌++◌}
-use Rattle.allocative_graph.specs.Shows.{each_shows}
-use Rattle.allocative.specs.JsonShows.{member_shows}
+use Rattle.std.proofs.Common.{String, Global, ◌≡◌, Ok, List, ◌++◌}
+use Rattle.allocative.specs.JsonShows.{stored_members}
 use Rattle.allocative.specs.Visited.{Entered}
 use Rattle.allocative.proofs.impls.pack_impls.json.MembersRefMapStringPart.enter.Given as goal
 
 abbrev pub invariant-loop-key : goal.invariant-loop-key
 invariant-loop-key g l =
-    (done : List (String Global × g.row.V.Denot)) × (l.self.0.now.entries ≡ done ++ l.key-iterator) × Entered false (each_shows (member_shows g.V.Allocative.may_show) done) l.initial.visitor l.visitor (Ok tt)
+    (done : List (String Global × g.row.V.Denot)) × (l.self.0.now.entries ≡ done ++ l.key-iterator) × Entered g.V.Allocative.is_exact (stored_members g.V.Allocative.may_show done) l.initial.visitor l.visitor (Ok tt)

@@ -1,0 +1,34 @@
+-- What a visit shows that takes the collector out of its visitor and enters by hand.
+use Rattle.std.proofs.Common.{◌≡◌, ℕ, suc, Bool, true, false, Result, Ok, refl, ap, subst, arith}
+use Rattle.allocative_graph.specs.declared.refusal.Refusal.{Refusal}
+use Rattle.allocative_graph.specs.Path.{Key}
+use Rattle.allocative_graph.specs.Identity.{Identity}
+use Rattle.allocative_graph.specs.Collector.{Live, State}
+use Rattle.allocative_graph.specs.Shows.{Showing, Both}
+use Rattle.allocative_graph.specs.Visits.{Shows, forgotten, EntersShared, enters_first}
+use Rattle.allocative.specs.declared.visitor.Visitor.{Visitor}
+use Rattle.allocative.specs.Nested.{with_state}
+use Rattle.allocative.specs.Visited.{Visited, Entered}
+use Rattle.allocative.proofs.Exact.{inexact}
+use Rattle.allocative.proofs.Showing.{shows_both}
+
+-- What the collector was shown, the visit shows.
+pub shown_by_hand : {p : Showing} {a : Visitor} {s t : State} {r : Result (Unit {0}) Refusal} → s ≡ a.collector.now → Shows p s r t → Visited false p a (with_state a t) r
+shown_by_hand {p} {t = t} {r = r} e h =
+    let P : State → Type 0 = λ s. Shows p s r t in
+    record { same_reference = refl; same_outer = refl; shown = subst P e h; rightly = inexact }
+
+-- The same, where a part is entered afterwards.
+pub shown_before : {p q : Showing} {e : Bool} {a b : Visitor} {s t : State} {u : Unit {0}} {r : Result (Unit {0}) Refusal} → s ≡ a.collector.now → Shows p s (Ok u) t → Entered e q (with_state a t) b r → Visited false (Both p q) a b r
+shown_before {p} {a = a} {t = t} {u = u} e h k =
+    let P : State → Type 0 = λ s. Shows p s (Ok u) t in
+    record { same_reference = k.same_reference; same_outer = k.same_outer; shown = shows_both (subst P e h) k.shown; rightly = inexact }
+
+-- A shared value's content whose visitor is forgotten: more visitors are open than before.
+pub content_forgotten : {q : Showing} {k : Key} {n : ℕ} {i : Identity} {s t : State} {v : Unit {0}} → EntersShared k n i s (Ok true) t → Shows q s (Ok v) t
+content_forgotten (enters_first {c = c} {d = d} r h e) =
+    let f : d.open_visitors ≡ suc c.open_visitors = ap (λ (x : Live). x.open_visitors) e in
+    forgotten refl (omega (arith, f))
+
+-- The rules for implementations that enter by hand.
+pub ruleset by_hand = (shown_by_hand, shown_before, content_forgotten)

@@ -1,0 +1,197 @@
+//! Implementations that enter by hand: they forget a visitor, or stop while visitors of their own are held.
+#![tactic(auto, using(allocative::proofs::Showing::showing, allocative::proofs::ByHand::by_hand))]
+
+ghost use Rattle.std.specs.Prelude.{codes, None, false};
+ghost use Rattle.allocative.specs.Shows as shows;
+ghost use Rattle.allocative.specs.Visits.{Shows};
+ghost use Rattle.allocative.specs.Visited.{Visited};
+
+use allocative::by_hand::{collector_of, enter, enter_content, enter_unique};
+use allocative::collector::Collector;
+use allocative::{
+    Allocative, Declared, FlameGraphBuilder, Identity, Key, Part, Refusal, Visitor,
+    size_of_unique_allocated_data,
+};
+use std::alloc::Global;
+use std::mem::ManuallyDrop;
+use std::process::Abort;
+
+/// Enters `a 1`, and forgets its visitor.
+fn forget_entry(collector: &mut Collector) -> Result<(), Refusal>
+    ensures { Shows shows.Nothing collector.old result collector.new }
+{
+    let inner = enter(collector, Key::new("a"), 1)?;
+    let _forgotten = ManuallyDrop::new(inner);
+    Ok(())
+}
+
+/// Forgets the visitor of its entry.
+#[derive(Drop)]
+struct ForgetsNested;
+
+impl Allocative for ForgetsNested {
+    ghost may_show = { λ _. shows.Nothing };
+
+    fn visit(&self, visitor: &mut Visitor<'_>) -> Result<(), Refusal> {
+        forget_entry(collector_of(visitor))
+    }
+}
+
+/// Enters a pointer to the shared value 1, and forgets the visitor of its content.
+fn forget_content(collector: &mut Collector) -> Result<(), Refusal>
+    ensures { Shows (shows.SharedWith (codes "p") 8 (record { maker = 0; number = 1 }) shows.Nothing)
+        collector.old result collector.new }
+{
+    match enter_content(collector, Key::new("p"), 8, Identity::from(1)) {
+        Ok(content) => {
+            let _forgotten = ManuallyDrop::new(content);
+            Ok(())
+        }
+        Err(None) => Ok(()),
+        Err(Some(refusal)) => Err(refusal),
+    }
+}
+
+/// Forgets the visitor of a shared value's content.
+#[derive(Drop)]
+struct ForgetsContent;
+
+impl Allocative for ForgetsContent {
+    ghost may_show = { λ _.
+        shows.SharedWith (codes "p") 8 (record { maker = 0; number = 1 }) shows.Nothing };
+
+    fn visit(&self, visitor: &mut Visitor<'_>) -> Result<(), Refusal> {
+        forget_content(collector_of(visitor))
+    }
+}
+
+/// Forgets the visitor of its entry, and then returns `TooLarge`.
+#[derive(Drop)]
+struct ForgetsFirst;
+
+impl Allocative for ForgetsFirst {
+    ghost may_show = { λ _. shows.Both shows.Nothing (shows.Field (codes "b") None shows.Nothing) };
+
+    fn visit(&self, visitor: &mut Visitor<'_>) -> Result<(), Refusal> {
+        forget_entry(collector_of(visitor))?;
+        Declared("b", None, ()).enter(visitor)
+    }
+}
+
+/// Enters `b 1`.
+fn enter_last(collector: &mut Collector) -> Result<(), Refusal>
+    ensures { Shows (shows.Inside (codes "b") 1 shows.Nothing) collector.old result collector.new }
+{
+    let inner = enter(collector, Key::new("b"), 1)?;
+    inner.exit();
+    Ok(())
+}
+
+/// Enters `x room` and `b 1`.
+fn enter_parts(visitor: &mut Visitor<'_>, room: usize) -> Result<(), Refusal>
+    ensures { Visited false
+        (shows.Both (shows.Inside (codes "x") room shows.Nothing) (shows.Inside (codes "b") 1 shows.Nothing))
+        visitor.old visitor.new result }
+{
+    visitor.visit_simple(Key::new("x"), room)?;
+    enter_last(collector_of(visitor))
+}
+
+/// Enters `unique p 0 {x room, b 1}`. Where `b` does not fit, the visitor of `p` is held as the error comes.
+fn stop(collector: &mut Collector, room: usize) -> Result<(), Refusal>
+    ensures { Shows (shows.InsideUnique (codes "p") 0
+        (shows.Both (shows.Inside (codes "x") room shows.Nothing) (shows.Inside (codes "b") 1 shows.Nothing)))
+        collector.old result collector.new }
+{
+    let mut outer = enter_unique(collector, Key::new("p"), 0)?;
+    enter_parts(&mut outer, room)?;
+    outer.exit();
+    Ok(())
+}
+
+/// Shows `unique p 0 {x room, b 1}`.
+#[derive(Drop)]
+struct StopsByHand {
+    room: usize,
+}
+
+impl Allocative for StopsByHand {
+    ghost may_show = { λ s. shows.InsideUnique (codes "p") 0
+        (shows.Both (shows.Inside (codes "x") s.room shows.Nothing) (shows.Inside (codes "b") 1 shows.Nothing)) };
+
+    fn visit(&self, visitor: &mut Visitor<'_>) -> Result<(), Refusal> {
+        stop(collector_of(visitor), self.room)
+    }
+}
+
+/// Visits a value inside the entry `T 0`.
+fn visit_inside<T: Allocative>(collector: &mut Collector, part: &T) -> Result<(), Refusal>
+    ensures { Shows (shows.Inside (codes "T") 0 (T.may_show part.now)) collector.old result collector.new }
+{
+    let mut outer = enter(collector, Key::new("T"), 0)?;
+    part.enter(&mut outer)?;
+    outer.exit();
+    Ok(())
+}
+
+/// Shows `StopsByHand` inside an entry of its own. Where `b` does not fit, two visitors are held as the error comes.
+#[derive(Drop)]
+struct StopsInsideByHand {
+    part: StopsByHand,
+}
+
+impl Allocative for StopsInsideByHand {
+    ghost may_show = { λ s. shows.Inside (codes "T") 0 (⟦<StopsByHand as Allocative>⟧.may_show s.part) };
+
+    fn visit(&self, visitor: &mut Visitor<'_>) -> Result<(), Refusal> {
+        visit_inside(collector_of(visitor), &self.part)
+    }
+}
+
+/// Asserts that `visit_root` and then `finish` return this error for a root.
+fn assert_refused(
+    rt: &impl Abort,
+    alloc: Global,
+    root: &dyn Allocative,
+    want: Refusal,
+) -> Result<(), Refusal> {
+    let mut builder = FlameGraphBuilder::new(alloc)?;
+    assert_eq!(rt; builder.visit_root(root), Err(want));
+    assert_eq!(rt; builder.finish().err(), Some(want));
+    Ok(())
+}
+
+/// Asserts the held bytes of a value, or its error.
+fn assert_held(rt: &impl Abort, root: &dyn Allocative, want: Result<usize, Refusal>) {
+    assert_eq!(rt; size_of_unique_allocated_data(root), want);
+}
+
+#[test]
+fn a_visit_that_forgets_leaves_its_builder_open(rt: HostRuntime) -> Result<(), Refusal> {
+    let alloc = rt.alloc();
+    assert_refused(&rt, alloc, &ForgetsNested, Refusal::Open)?;
+    assert_refused(&rt, alloc, &ForgetsContent, Refusal::Open)?;
+    assert_refused(&rt, alloc, &ForgetsFirst, Refusal::TooLarge)
+}
+
+#[test]
+fn held_bytes_with_a_forgotten_visitor_are_refused(rt: HostRuntime) {
+    assert_held(&rt, &ForgetsNested, Err(Refusal::Open));
+    assert_held(&rt, &ForgetsFirst, Err(Refusal::TooLarge));
+    assert_held(&rt, &ForgetsContent, Ok(0));
+}
+
+const MOST: usize = isize::MAX as usize;
+
+#[test]
+fn a_visit_stops_while_its_visitors_are_held(rt: HostRuntime) -> Result<(), Refusal> {
+    let alloc = rt.alloc();
+    assert_refused(&rt, alloc, &StopsByHand { room: MOST }, Refusal::TooLarge)?;
+    let part = StopsByHand { room: MOST };
+    assert_refused(&rt, alloc, &StopsInsideByHand { part }, Refusal::TooLarge)?;
+    let part = StopsByHand { room: usize::MAX };
+    assert_held(&rt, &StopsInsideByHand { part }, Err(Refusal::TooLarge));
+    let part = StopsByHand { room: 4 };
+    assert_held(&rt, &StopsInsideByHand { part }, Ok(5));
+    Ok(())
+}
