@@ -1,4 +1,5 @@
-//! Tests of worked examples, with the public calls of `allocative`.
+//! Tests of worked examples that need code: values, hostile implementations, visitors that are forgotten, and the
+//! public calls of `allocative` that the rows of `worked_entries` do not make.
 #![tactic(auto)]
 
 #[cfg(test)]
@@ -6,9 +7,11 @@ mod bad;
 #[cfg(test)]
 mod boxes;
 #[cfg(test)]
-mod entries;
+mod declared;
 #[cfg(test)]
-mod forgotten;
+mod expected;
+#[cfg(test)]
+mod failed;
 #[cfg(test)]
 mod held;
 #[cfg(test)]
@@ -16,22 +19,12 @@ mod huge;
 #[cfg(test)]
 mod own_types;
 #[cfg(test)]
-mod repeats;
-#[cfg(test)]
 mod room;
 #[cfg(test)]
-mod roots;
-#[cfg(test)]
-mod rows;
-#[cfg(test)]
 mod session;
-#[cfg(test)]
-mod shared;
 #[cfg(test)]
 mod two;
 #[cfg(test)]
 mod values;
-#[cfg(test)]
-mod warned;
 #[cfg(test)]
 mod wide;
