@@ -2,12 +2,14 @@
 #![tactic(auto, using(allocative::proofs::Parts::parts))]
 
 ghost use Rattle.std.specs.Prelude.{codes, Some, true};
+ghost use Rattle.allocative.specs.Bodies.{slice_of};
 ghost use Rattle.allocative.specs.Shows as shows;
 
-use crate::held::{assert_held, assert_whole};
-use crate::rows::assert_text;
+use crate::expected::{is_answer, shows};
+use crate::held::SliceOf;
 use allocative::{
-    Allocative, Described, Field, FlameGraphBuilder, Inside, Key, Part, Refusal, Visitor,
+    Allocative, Described, Field, Inside, Part, Refusal, Unique, Visitor, size_of_unique,
+    size_of_unique_allocated_data,
 };
 use std::test::Fail;
 
@@ -104,39 +106,35 @@ fn what_boxes_hold(rt: HostRuntime) -> Result<(), Fail> {
     let b = Box::new(alloc, 7u32)?;
     let data = Box::new(alloc, Data { a: 1, b })?;
     let boxed = Boxed { data };
-    assert_held(&rt, &boxed, Ok(20));
-    assert_whole(&rt, &boxed, Ok(28));
-    Ok(())
+    is_answer(size_of_unique_allocated_data(&boxed), Ok(20))?;
+    is_answer(size_of_unique(&boxed), Ok(28))
 }
 
-/// Enters `unique ptr 16` of a slice of a hundred bytes.
-fn enter_pointer(visitor: &mut Visitor<'_>) -> Result<(), Refusal> {
-    let mut pointer = visitor.enter_unique(Key::new("ptr"), 16)?;
-    pointer.visit_slice_of(&[0u8; 100])
+/// A value of 24 bytes: bytes as a boxed slice, and a byte.
+#[derive(Drop)]
+struct TestData {
+    data: Vec<u8>,
+    b: u8,
 }
 
-/// Enters `data 16 {Box 16 {..}}` around that pointer.
-fn enter_data(visitor: &mut Visitor<'_>) -> Result<(), Refusal> {
-    let mut data = visitor.enter(Key::new("data"), 16)?;
-    let mut boxed = data.enter(Key::new("Box"), 16)?;
-    enter_pointer(&mut boxed)
-}
+impl Allocative for TestData {
+    ghost may_show = { λ t. shows.Inside (codes "TestData") 24 (shows.Both
+        (shows.Inside (codes "data") 16 (shows.Inside (codes "Box") 16 (shows.InsideUnique (codes "ptr") 16
+        (slice_of (codes "u8") (Some 1) ⟦<u8 as Allocative>⟧.may_show t.data.items))))
+        (shows.Field (codes "b") (Some 1) (⟦<u8 as Allocative>⟧.may_show t.b))) };
 
-/// Enters `TestData 24` with that data and a byte.
-fn enter_test_data(builder: &mut FlameGraphBuilder) -> Result<(), Refusal> {
-    let mut root = builder.root_visitor()?;
-    let mut outer = root.enter(Key::new("TestData"), 24)?;
-    enter_data(&mut outer)?;
-    outer.visit_field(Key::new("b"), &1u8)
+    fn visit(&self, visitor: &mut Visitor<'_>) -> Result<(), Refusal> {
+        let pointer = Unique("ptr", 16, SliceOf(&self.data));
+        let data = Inside("data", 16, Inside("Box", 16, pointer));
+        let b = Field("b", &self.b);
+        Inside("TestData", 24, (data, b)).enter(visitor)
+    }
 }
 
 #[test]
-fn bytes_of_a_boxed_slice(rt: HostRuntime) -> Result<(), Refusal> {
-    let mut builder = FlameGraphBuilder::new(rt.alloc())?;
-    enter_test_data(&mut builder)?;
-    assert_text(
-        &rt,
-        builder,
-        "TestData 7\nTestData;b;u8 1\nTestData;data;Box;ptr 16\nTestData;data;Box;ptr;u8;data;u8 100\n",
-    )
+fn bytes_of_a_boxed_slice(rt: HostRuntime) -> Result<(), Fail> {
+    let data = [0u8; 100].to_vec(rt.alloc())?;
+    let want =
+        "TestData 7\nTestData;b;u8 1\nTestData;data;Box;ptr 16\nTestData;data;Box;ptr;u8;data;u8 100\n";
+    shows(rt.alloc(), &TestData { data, b: 1 }, want)
 }

@@ -1,85 +1,23 @@
-//! What the collector of held bytes counts, and its bound.
+//! What values hold on the heap.
 #![tactic(auto, using(allocative::proofs::Parts::parts))]
 
-ghost use Rattle.std.specs.Prelude.{codes, Some, true, false, length, ◌≡◌, ◌^◌, ◌-◌};
+ghost use Rattle.std.specs.Prelude.{codes, Some, true, false, length, ◌≡◌};
 ghost use Rattle.allocative.specs.Bodies.{slice_of, vec_body};
 ghost use Rattle.allocative.specs.Shows as shows;
 
-use crate::rows::assert_text;
+use crate::expected::{is_answer, shows};
 use allocative::{
-    Allocative, Described, Field, FlameGraphBuilder, Identity, Inside, Key, Part, Refusal, Shared,
-    Unique, Visitor, size_of_entries, size_of_unique, size_of_unique_allocated_data,
+    Allocative, Described, Field, Identity, Inside, Key, Part, Refusal, Unique, Visitor,
+    size_of_entries, size_of_unique, size_of_unique_allocated_data,
 };
-use std::process::Abort;
 use std::test::Fail;
 
-/// Shows `T 8 {x 5}`.
+/// Shows items as a slice with an entry of its own.
 #[derive(Drop)]
-struct Plain;
+pub(crate) struct SliceOf<'a, T>(pub(crate) &'a Vec<T>);
 
-impl Allocative for Plain {
-    ghost may_show = { λ _. shows.Inside (codes "T") 8 (shows.Inside (codes "x") 5 shows.Nothing) };
-
-    fn visit(&self, visitor: &mut Visitor<'_>) -> Result<(), Refusal> {
-        let x = Inside("x", 5, ());
-        Inside("T", 8, x).enter(visitor)
-    }
-}
-
-/// A pointer of 8 bytes to the shared value 1, with a part as its content.
-pub(crate) fn shared_pointer<P: Part>(content: P) -> Shared<P>
-    ensures { result
-        ≡ record { key = codes "q"; size = 8; identity = record { maker = 0; number = 1 }; content = content } }
-{
-    Shared {
-        key: Key::new("q"),
-        size: 8,
-        identity: Identity::from(1),
-        content,
-    }
-}
-
-/// Shows `T 8 {unique p 8 {shared q 8 #1}}`.
-#[derive(Drop)]
-struct Points;
-
-impl Allocative for Points {
-    ghost may_show = { λ _. shows.Inside (codes "T") 8
-        (shows.InsideUnique (codes "p") 8
-        (shows.SharedWith (codes "q") 8 (record { maker = 0; number = 1 }) shows.Nothing)) };
-
-    fn visit(&self, visitor: &mut Visitor<'_>) -> Result<(), Refusal> {
-        let pointer = Unique("p", 8, shared_pointer(()));
-        Inside("T", 8, pointer).enter(visitor)
-    }
-}
-
-/// Asserts the held bytes of a value, or its error.
-pub(crate) fn assert_held(rt: &impl Abort, root: &dyn Allocative, want: Result<usize, Refusal>) {
-    assert_eq!(rt; size_of_unique_allocated_data(root), want);
-}
-
-/// Asserts the held bytes of a value with its own declared size added, or its error.
-pub(crate) fn assert_whole<T: Allocative + Described>(
-    rt: &impl Abort,
-    root: &T,
-    want: Result<usize, Refusal>,
-) {
-    assert_eq!(rt; size_of_unique(root), want);
-}
-
-#[test]
-fn only_entries_right_inside_unique_ones_are_held(rt: HostRuntime) {
-    assert_held(&rt, &Plain, Ok(0));
-    assert_held(&rt, &Points, Ok(0));
-}
-
-/// Shows numbers as a slice with an entry of its own.
-#[derive(Drop)]
-struct SliceOf<'a>(&'a Vec<u32>);
-
-impl<'a> Part for SliceOf<'a> {
-    ghost may_show = { λ s. slice_of (codes "u32") (Some 4) ⟦<u32 as Allocative>⟧.may_show s.0.now.items };
+impl<'a, T: Allocative + Described> Part for SliceOf<'a, T> {
+    ghost may_show = { λ s. slice_of T.name T.size T.may_show s.0.now.items };
 
     fn enter(self, visitor: &mut Visitor<'_>) -> Result<(), Refusal> {
         visitor.visit_slice_of(self.0)
@@ -177,9 +115,8 @@ fn a_boxed_slice_holds_its_items(rt: HostRuntime) -> Result<(), Fail> {
     let boxed = Boxed {
         data: BoxedSlice { numbers },
     };
-    assert_held(&rt, &boxed, Ok(12));
-    assert_whole(&rt, &boxed, Ok(28));
-    Ok(())
+    is_answer(size_of_unique_allocated_data(&boxed), Ok(12))?;
+    is_answer(size_of_unique(&boxed), Ok(28))
 }
 
 /// A value of 8 bytes: a box of a number.
@@ -229,9 +166,8 @@ fn a_box_holds_its_number(rt: HostRuntime) -> Result<(), Fail> {
     let boxed = BoxedNumber {
         data: Box::new(rt.alloc(), 7u32)?,
     };
-    assert_held(&rt, &boxed, Ok(4));
-    assert_whole(&rt, &boxed, Ok(12));
-    Ok(())
+    is_answer(size_of_unique_allocated_data(&boxed), Ok(4))?;
+    is_answer(size_of_unique(&boxed), Ok(12))
 }
 
 /// Shows the body of a vector of bytes with no unused room.
@@ -267,103 +203,26 @@ fn a_full_buffer_holds_its_bytes(rt: HostRuntime) -> Result<(), Fail> {
     let buffer = Buffer {
         bytes: [1u8, 2, 3].to_vec(rt.alloc())?,
     };
-    assert_held(&rt, &buffer, Ok(3));
-    let mut builder = FlameGraphBuilder::new(rt.alloc())?;
-    builder.visit_root(&buffer)?;
-    Ok(assert_text(&rt, builder, "ptr 8\nptr;capacity;u8 3\n")?)
-}
-
-/// Shows `unique p 0 {a ..}` of the most bytes that fit, in a value of one byte.
-#[derive(Drop)]
-struct HoldsMost;
-
-impl Described for HoldsMost {
-    ghost name = { codes "HoldsMost" };
-
-    ghost align = { 1 };
-
-    ghost needs_drop = { false };
-
-    ghost size = { Some 1 };
-
-    fn name() -> &'static str {
-        "HoldsMost"
-    }
-
-    fn align() -> usize {
-        1
-    }
-
-    fn needs_drop() -> bool {
-        false
-    }
-
-    fn size() -> Option<usize> {
-        Some(1)
-    }
-}
-
-impl Allocative for HoldsMost {
-    ghost may_show = { λ _. shows.InsideUnique (codes "p") 0 (shows.Inside (codes "a") (2 ^ 64 - 1) shows.Nothing) };
-
-    fn visit(&self, visitor: &mut Visitor<'_>) -> Result<(), Refusal> {
-        let a = Inside("a", usize::MAX, ());
-        Unique("p", 0, a).enter(visitor)
-    }
-}
-
-/// Shows `unique p 0 {a .., b 1}`, which has one byte more than fits.
-#[derive(Drop)]
-struct HoldsMore;
-
-impl Allocative for HoldsMore {
-    ghost may_show = { λ _. shows.InsideUnique (codes "p") 0
-        (shows.Both (shows.Inside (codes "a") (2 ^ 64 - 1) shows.Nothing) (shows.Inside (codes "b") 1 shows.Nothing)) };
-
-    fn visit(&self, visitor: &mut Visitor<'_>) -> Result<(), Refusal> {
-        let a = Inside("a", usize::MAX, ());
-        let b = Inside("b", 1, ());
-        Unique("p", 0, (a, b)).enter(visitor)
-    }
-}
-
-/// Shows the most bytes that fit twice, outside any unique entry.
-#[derive(Drop)]
-struct HoldsNone;
-
-impl Allocative for HoldsNone {
-    ghost may_show = { λ _. shows.Both (shows.Inside (codes "a") (2 ^ 64 - 1) shows.Nothing)
-        (shows.Inside (codes "b") (2 ^ 64 - 1) shows.Nothing) };
-
-    fn visit(&self, visitor: &mut Visitor<'_>) -> Result<(), Refusal> {
-        let a = Inside("a", usize::MAX, ());
-        let b = Inside("b", usize::MAX, ());
-        (a, b).enter(visitor)
-    }
-}
-
-#[test]
-fn held_bytes_have_a_bound(rt: HostRuntime) {
-    assert_held(&rt, &HoldsMost, Ok(usize::MAX));
-    assert_whole(&rt, &HoldsMost, Err(Refusal::TooLarge));
-    assert_held(&rt, &HoldsMore, Err(Refusal::TooLarge));
-    assert_held(&rt, &HoldsNone, Ok(0));
-}
-
-/// What two unique entries hold, of five bytes and of six.
-fn two_buffers() -> Result<usize, Refusal> {
-    size_of_entries(|visitor| {
-        Unique("p", 8, Inside("a", 5, ())).enter(visitor)?;
-        Unique("q", 8, Inside("b", 6, ())).enter(visitor)
-    })
+    is_answer(size_of_unique_allocated_data(&buffer), Ok(3))?;
+    shows(rt.alloc(), &buffer, "ptr 8\nptr;capacity;u8 3\n")
 }
 
 #[test]
 fn entries_of_a_closure_are_held(rt: HostRuntime) -> Result<(), Fail> {
     let number = Box::new(rt.alloc(), 7u32)?;
-    let held = size_of_entries(|visitor| visitor.visit_field(Key::new("number"), &number))?;
-    assert_eq!(rt; held, 4);
-    assert_eq!(rt; two_buffers(), Ok(11));
-    assert_eq!(rt; size_of_entries(|_visitor| Ok(())), Ok(0));
-    Ok(())
+    let held = size_of_entries(|visitor| visitor.visit_field(Key::new("number"), &number));
+    is_answer(held, Ok(4))
+}
+
+/// The collector of held bytes returns no visitor for the content of a shared value. A closure has to leave its
+/// visitor where it got it, and no clause of `enter_shared` tells it so. So the closure ends the test, by a panic that
+/// comes only where there is no visitor.
+#[test]
+#[should_panic(expected = "the content is left out")]
+fn no_content_is_shown_where_bytes_are_held(rt: HostRuntime) {
+    let _never = size_of_entries(|visitor| {
+        let content = visitor.enter_shared(Key::new("q"), 8, Identity::from(1));
+        assert!(rt; matches!(content, Ok(None)), "a visitor or a refusal");
+        panic!(rt; "the content is left out")
+    });
 }

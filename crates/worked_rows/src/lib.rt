@@ -1,4 +1,5 @@
-//! Tests of worked examples, with the public calls of `allocative`.
+//! Tests of worked examples that need code: values, hostile implementations, visitors that are forgotten, and the
+//! public calls of `allocative` that the rows of `worked_entries` do not make.
 #![tactic(auto)]
 
 #[cfg(test)]
@@ -8,9 +9,11 @@ mod boxes;
 #[cfg(test)]
 mod by_hand;
 #[cfg(test)]
-mod entries;
+mod declared;
 #[cfg(test)]
-mod forgotten;
+mod expected;
+#[cfg(test)]
+mod failed;
 #[cfg(test)]
 mod held;
 #[cfg(test)]
@@ -18,17 +21,9 @@ mod huge;
 #[cfg(test)]
 mod own_types;
 #[cfg(test)]
-mod repeats;
-#[cfg(test)]
 mod room;
 #[cfg(test)]
-mod roots;
-#[cfg(test)]
-mod rows;
-#[cfg(test)]
 mod session;
-#[cfg(test)]
-mod shared;
 #[cfg(test)]
 mod two;
 #[cfg(test)]

@@ -4,10 +4,10 @@
 ghost use Rattle.std.specs.Prelude.{codes, Some};
 ghost use Rattle.allocative.specs.Shows as shows;
 
-use crate::rows::assert_text;
+use crate::expected::{is_text, shows, told};
 use allocative::{
-    Allocative, Described, Field, FlameGraphBuilder, IdRc, Identity, Inside, Key, Part, Refusal,
-    Visitor,
+    Allocative, Described, Field, IdRc, Identity, Inside, Key, Part, Refusal, Visitor,
+    profile_values,
 };
 use std::alloc::Global;
 use std::test::Fail;
@@ -71,38 +71,39 @@ impl Allocative for Handle {
     }
 }
 
-#[test]
-fn an_enum_shows_its_variant(rt: HostRuntime) -> Result<(), Fail> {
-    let mut builder = FlameGraphBuilder::new(rt.alloc())?;
-    builder.visit_value(&Event::Stopped)?;
-    builder.visit_value(&Event::Sent(3))?;
-    Ok(assert_text(&rt, builder, "Event 56\nEvent;Sent;u64 8\n")?)
+fn event_shows(alloc: Global, event: Event, want: &str) -> Result<(), Fail> {
+    shows(alloc, &event, want)
 }
 
+#[test]
+fn an_enum_shows_its_variant(rt: HostRuntime) -> Result<(), Fail> {
+    event_shows(rt.alloc(), Event::Stopped, "Event 32\n")?;
+    event_shows(rt.alloc(), Event::Sent(3), "Event 24\nEvent;Sent;u64 8\n")
+}
+
+/// A text with no unused room.
 fn named(alloc: Global) -> Result<Event, Fail> {
-    Ok(Event::Named(String::from_str(alloc, "ab")?))
+    let mut name = String::with_capacity(alloc, 2)?;
+    name.push_str("ab")?;
+    Ok(Event::Named(name))
 }
 
 #[test]
 fn an_enum_shows_its_text(rt: HostRuntime) -> Result<(), Fail> {
-    let mut builder = FlameGraphBuilder::new(rt.alloc())?;
-    builder.visit_value(&named(rt.alloc())?)?;
-    let text = builder.finish_and_write_flame_graph()?;
-    assert!(rt;
-        text.as_str().starts_with("Event 8\nEvent;Named;String 16\nEvent;Named;String;ptr 8\n")
-    );
-    Ok(())
+    event_shows(
+        rt.alloc(),
+        named(rt.alloc())?,
+        "Event 8\nEvent;Named;String 16\nEvent;Named;String;ptr 8\nEvent;Named;String;ptr;capacity;u8 2\n",
+    )
 }
 
 #[test]
 fn a_generic_type_shows_its_part(rt: HostRuntime) -> Result<(), Fail> {
-    let mut builder = FlameGraphBuilder::new(rt.alloc())?;
-    builder.visit_value(&Wrapped { value: Some(2u16) })?;
-    Ok(assert_text(
-        &rt,
-        builder,
+    shows(
+        rt.alloc(),
+        &Wrapped { value: Some(2u16) },
         "Wrapped 12\nWrapped;value;Option 2\nWrapped;value;Option;Some;u16 2\n",
-    )?)
+    )
 }
 
 /// Two handles of one table.
@@ -114,34 +115,17 @@ fn two_handles(alloc: Global) -> Result<[Handle; 2], Fail> {
     Ok([first, Handle { table }])
 }
 
-fn visit_both(builder: &mut FlameGraphBuilder, handles: &[Handle; 2]) -> Result<(), Refusal> {
-    builder.visit_value(&handles[0])?;
-    builder.visit_value(&handles[1])
+/// The text of some handles, followed by its warnings.
+fn text_of_handles(alloc: Global, handles: &[Handle]) -> Result<String, Refusal> {
+    told(&profile_values(alloc, handles)?)
 }
 
 #[test]
 fn a_shared_part_counts_once(rt: HostRuntime) -> Result<(), Fail> {
-    let mut builder = FlameGraphBuilder::new(rt.alloc())?;
-    visit_both(&mut builder, &two_handles(rt.alloc())?)?;
-    Ok(assert_text(
-        &rt,
-        builder,
+    let handles = two_handles(rt.alloc())?;
+    let text = text_of_handles(rt.alloc(), &handles)?;
+    is_text(
+        text.as_str(),
         "Handle;table;Rc;ptr 16\nRcInner 16\nRcInner;u64 8\n",
-    )?)
-}
-
-/// Enters one entry by a value, one by its type, and one by a declared size.
-fn enter_declared(builder: &mut FlameGraphBuilder) -> Result<(), Refusal> {
-    let mut root = builder.root_visitor()?;
-    root.enter_self(&7u8)?.exit();
-    root.enter_self_sized::<u8>()?.exit();
-    root.enter_sized(Key::new("table"), Some(5))?.exit();
-    Ok(())
-}
-
-#[test]
-fn a_type_declares_its_entry(rt: HostRuntime) -> Result<(), Fail> {
-    let mut builder = FlameGraphBuilder::new(rt.alloc())?;
-    enter_declared(&mut builder)?;
-    Ok(assert_text(&rt, builder, "table 5\nu8 2\n")?)
+    )
 }

@@ -4,9 +4,8 @@
 ghost use Rattle.std.specs.Prelude.{codes, Some};
 ghost use Rattle.allocative.specs.Shows as shows;
 
-use allocative::{
-    Allocative, Field, FlameGraphBuilder, FlameGraphOutput, Inside, Part, Refusal, Visitor,
-};
+use crate::expected::shows;
+use allocative::{Allocative, Field, Inside, Part, Refusal, Visitor};
 use std::alloc::Global;
 use std::test::Fail;
 
@@ -28,36 +27,21 @@ impl Allocative for Session {
     }
 }
 
+/// A session whose name has no unused room.
 fn session_with_no_score(alloc: Global) -> Result<Session, Fail> {
+    let mut name = String::with_capacity(alloc, 2)?;
+    name.push_str("ab")?;
     Ok(Session {
-        name: String::from_str(alloc, "ab")?,
+        name,
         scores: Vec::new(alloc),
     })
 }
 
-/// What one visit of a session collects.
-fn collected(alloc: Global, session: &Session) -> Result<FlameGraphOutput, Refusal> {
-    let mut builder = FlameGraphBuilder::new(alloc)?;
-    builder.visit_root(session)?;
-    builder.finish()
-}
-
+/// It has no warning: no line follows the text.
 #[test]
 fn a_session_with_no_score(rt: HostRuntime) -> Result<(), Fail> {
     let session = session_with_no_score(rt.alloc())?;
-    let output = collected(rt.alloc(), &session)?;
-    let text = output.flamegraph().write()?;
-    assert!(rt;
-        text.as_str()
-            .starts_with("Session;name;String 16\nSession;name;String;ptr 8\n")
-    );
-    Ok(())
-}
-
-#[test]
-fn a_session_gives_no_warning(rt: HostRuntime) -> Result<(), Fail> {
-    let session = session_with_no_score(rt.alloc())?;
-    let output = collected(rt.alloc(), &session)?;
-    assert_eq!(rt; output.warnings()?.as_str(), "");
-    Ok(())
+    let want =
+        "Session;name;String 16\nSession;name;String;ptr 8\nSession;name;String;ptr;capacity;u8 2\nSession;scores;Vec 24\n";
+    shows(rt.alloc(), &session, want)
 }

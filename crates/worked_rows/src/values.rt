@@ -4,14 +4,13 @@
 ghost use Rattle.std.specs.Prelude.{codes, Some, false, ◌≡◌};
 ghost use Rattle.allocative.specs.Shows as shows;
 
-use crate::held::{assert_held, assert_whole};
-use crate::rows::{assert_collected, assert_output, assert_text};
+use crate::expected::{is_answer, is_text, shows, told};
 use allocative::{
-    Allocative, Described, Field, FlameGraphBuilder, IdArc, Identity, Inside, Part, Refusal,
-    Registry, Unique, Visitor, profile_roots,
+    Allocative, Described, Field, IdArc, Identity, Inside, Part, Refusal, Registry, Visitor,
+    profile_roots, profile_value, size_of_unique, size_of_unique_allocated_data,
 };
+use std::alloc::Global;
 use std::collections::BTreeMap;
-use std::process::Abort;
 use std::test::Fail;
 
 /// A value of 64 bytes with an alignment of 64, and one field.
@@ -55,70 +54,51 @@ impl Allocative for CacheLine {
 }
 
 #[test]
-fn a_shared_value_stands_beside_its_pointer(rt: HostRuntime) -> Result<(), Refusal> {
-    let mut builder = FlameGraphBuilder::new(rt.alloc())?;
+fn a_shared_value_stands_beside_its_pointer(rt: HostRuntime) -> Result<(), Fail> {
     let shared = IdArc::new(rt.alloc(), CacheLine(1), Identity::from(1))?;
-    builder.visit_root(&shared)?;
-    assert_text(
-        &rt,
-        builder,
-        "Arc;ptr 8\nArcInner 64\nArcInner;CacheLine 63\nArcInner;CacheLine;0;u8 1\n",
-    )
+    let want = "Arc;ptr 8\nArcInner 64\nArcInner;CacheLine 63\nArcInner;CacheLine;0;u8 1\n";
+    shows(rt.alloc(), &shared, want)
+}
+
+fn map_of_one_pair(alloc: Global) -> Result<BTreeMap<u64, u64>, Fail> {
+    let mut map = BTreeMap::new(alloc);
+    map.insert(1, 2)?;
+    Ok(map)
 }
 
 #[test]
 fn a_map_of_one_pair_warns(rt: HostRuntime) -> Result<(), Fail> {
-    let mut map: BTreeMap<u64, u64> = BTreeMap::new(rt.alloc());
-    map.insert(1, 2)?;
-    let mut builder = FlameGraphBuilder::new(rt.alloc())?;
-    builder.visit_root(&map)?;
-    Ok(assert_output(
-        &rt,
-        builder,
-        "BTreeMap 16\nBTreeMap;data;key;u64 8\nBTreeMap;data;value;u64 8\n",
-        "Incorrect size declaration for node `BTreeMap;data`, size of self: 8, size of inline children: 16\n",
-    )?)
+    let map = map_of_one_pair(rt.alloc())?;
+    shows(
+        rt.alloc(),
+        &map,
+        "BTreeMap 16\nBTreeMap;data;key;u64 8\nBTreeMap;data;value;u64 8\n\
+         Incorrect size declaration for node `BTreeMap;data`, size of self: 8, size of inline children: 16\n",
+    )
 }
 
-/// Shows `T 8 {unique p 8 {unique q 8 {d 5}}}`.
-#[derive(Drop)]
-struct Nested;
-
-impl Allocative for Nested {
-    ghost may_show = { λ _. shows.Inside (codes "T") 8
-        (shows.InsideUnique (codes "p") 8
-        (shows.InsideUnique (codes "q") 8 (shows.Inside (codes "d") 5 shows.Nothing))) };
-
-    fn visit(&self, visitor: &mut Visitor<'_>) -> Result<(), Refusal> {
-        let inner = Unique("q", 8, Inside("d", 5, ()));
-        let outer = Unique("p", 8, inner);
-        Inside("T", 8, outer).enter(visitor)
-    }
-}
-
-#[test]
-fn a_unique_entry_below_a_unique_one_is_not_held(rt: HostRuntime) {
-    assert_held(&rt, &Nested, Ok(5));
+fn bytes_with_room(alloc: Global) -> Result<Vec<u8>, Fail> {
+    let mut bytes: Vec<u8> = Vec::with_capacity(alloc, 100)?;
+    bytes.extend_from_slice(&[1, 2, 3])?;
+    Ok(bytes)
 }
 
 #[test]
 fn a_vector_holds_its_bytes_and_its_room(rt: HostRuntime) -> Result<(), Fail> {
-    let mut bytes: Vec<u8> = Vec::with_capacity(rt.alloc(), 100)?;
-    bytes.push(1)?;
-    bytes.push(2)?;
-    bytes.push(3)?;
-    let capacity = bytes.capacity();
-    assert_held(&rt, &bytes, Ok(capacity));
-    assert_whole(&rt, &bytes, Ok(capacity + 24));
-    Ok(())
+    let bytes = bytes_with_room(rt.alloc())?;
+    is_answer(size_of_unique_allocated_data(&bytes), Ok(bytes.capacity()))?;
+    is_answer(size_of_unique(&bytes), Ok(bytes.capacity() + 24))
+}
+
+/// The text of a profile of a reference, followed by its warnings.
+fn text_of_reference(alloc: Global, number: &'static u8) -> Result<String, Refusal> {
+    told(&profile_value(alloc, &number)?)
 }
 
 #[test]
-fn a_reference_shows_nothing(rt: HostRuntime) -> Result<(), Refusal> {
-    let number: &'static u8 = &7;
-    let mut builder = FlameGraphBuilder::new(rt.alloc())?;
-    builder.visit_value(&number)?;
-    assert_text(&rt, builder, "")
+fn a_reference_shows_nothing(rt: HostRuntime) -> Result<(), Fail> {
+    let text = text_of_reference(rt.alloc(), &7)?;
+    is_text(text.as_str(), "")
 }
 
 /// Shows `TestGlobalRoot 4 {x 4 {u32 4}}`.
@@ -137,26 +117,36 @@ impl Allocative for TestGlobalRoot {
     }
 }
 
-/// Asserts the text of a registry's profile, and that it has no warning.
-fn assert_profile(rt: &impl Abort, registry: &Registry, want: &str) -> Result<(), Refusal> {
-    assert_collected(rt, &profile_roots(registry)?, want, "")
+/// The text of a profile of a registry, followed by its warnings.
+fn text_of_registry(registry: &Registry) -> Result<String, Refusal> {
+    told(&profile_roots(registry)?)
+}
+
+/// Fails where a registry has another text, followed by its warnings.
+fn registry_shows(registry: Registry, want: &str) -> Result<(), Fail> {
+    let text = text_of_registry(&registry);
+    drop(registry);
+    is_text(text?.as_str(), want)
 }
 
 #[test]
 fn registered_roots_are_profiled(rt: HostRuntime) -> Result<(), Fail> {
-    let alloc = rt.alloc();
-    let mut registry = Registry::new(alloc);
-    assert!(rt; registry.register_root(Box::new(alloc, 7u32)?).is_ok());
     let nothing: Option<u32> = None;
-    assert!(rt; registry.register_root(Box::new(alloc, nothing)?).is_ok());
-    assert_eq!(rt; registry.roots().len(), 2);
-    Ok(assert_profile(&rt, &registry, "Option 8\nu32 4\n")?)
+    let nothing = Box::new(rt.alloc(), nothing)?;
+    let number = Box::new(rt.alloc(), 7u32)?;
+    let mut registry = Registry::new(rt.alloc());
+    let is_first = registry.register_root(number).is_ok();
+    let is_second = registry.register_root(nothing).is_ok();
+    if is_first && is_second && registry.roots().len() == 2 {
+        return registry_shows(registry, "Option 8\nu32 4\n");
+    }
+    Err(Fail::new("a root came back"))
 }
 
 #[test]
 fn a_registered_root_shows_its_field(rt: HostRuntime) -> Result<(), Fail> {
-    let alloc = rt.alloc();
-    let mut registry = Registry::new(alloc);
-    registry.add_root(Box::new(alloc, TestGlobalRoot { x: 1 })?)?;
-    Ok(assert_profile(&rt, &registry, "TestGlobalRoot;x;u32 4\n")?)
+    let root = Box::new(rt.alloc(), TestGlobalRoot { x: 1 })?;
+    let mut registry = Registry::new(rt.alloc());
+    registry.add_root(root)?;
+    registry_shows(registry, "TestGlobalRoot;x;u32 4\n")
 }

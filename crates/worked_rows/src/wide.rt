@@ -1,5 +1,7 @@
 //! Nodes with few and with many children, which are entered in rising, falling and mixed order, one by one and at once.
-use allocative::{Child, FlameGraph, FlameGraphBuilder, Key, Refusal};
+ghost use Rattle.std.specs.Prelude.{◌<◌};
+
+use allocative::{Child, FlameGraph, FlameGraphBuilder, Key, Refusal, Visitor};
 use std::alloc::{AllocError, Global};
 use std::test::Fail;
 
@@ -17,6 +19,17 @@ enum Order {
     Rising,
     Falling,
     Mixed,
+}
+
+/// How the children come into a graph.
+#[derive(Clone, Copy)]
+enum Way {
+    /// Entered into a builder, each twice.
+    Entered,
+    /// Added to a graph one by one.
+    OneByOne,
+    /// Added to a graph at once, each twice.
+    AtOnce,
 }
 
 /// One of 5,000 different keys: a part of a text, of at least two letters, that starts at one of fifty places.
@@ -41,22 +54,16 @@ fn sorted_keys(alloc: Global, count: usize) -> Result<Vec<&'static str>, AllocEr
     Ok(keys)
 }
 
-/// The keys and their sizes in the given order. The least key has size 1.
-fn children_in(
-    alloc: Global,
-    keys: &[&'static str],
-    order: Order,
-) -> Result<Vec<(&'static str, usize)>, AllocError> {
-    let mut children = Vec::with_capacity(alloc, keys.len())?;
-    for turn in 0..keys.len() {
-        let place = match order {
-            Order::Rising => turn,
-            Order::Falling => keys.len() - 1 - turn,
-            Order::Mixed => turn.wrapping_mul(48_271) % keys.len(),
-        };
-        children.push((keys[place], place.wrapping_add(1)))?;
+/// The place of the key that comes at a turn, of so many keys.
+fn place_at(turn: usize, count: usize, order: Order) -> usize
+    requires { turn < count }
+    ensures { result < count }
+{
+    match order {
+        Order::Rising => turn,
+        Order::Falling => count - 1 - turn,
+        Order::Mixed => turn.wrapping_mul(48_271) % count,
     }
-    Ok(children)
 }
 
 /// The lines of the children, where each was added `times` times.
@@ -69,16 +76,30 @@ fn lines_of(alloc: Global, keys: &[&'static str], times: usize) -> Result<String
     Ok(text)
 }
 
-/// The text of a builder into which the children are entered twice.
-fn text_of_entries(alloc: Global, children: &[(&'static str, usize)]) -> Result<String, Refusal> {
-    let mut builder = FlameGraphBuilder::new(alloc)?;
-    let mut root = builder.root_visitor()?;
-    for _ in 0..2 {
-        for (key, size) in children {
-            root.visit_simple(Key::new(key), *size)?;
-        }
+/// Enters the keys in the order. The size of the least key is 1.
+fn enter(root: &mut Visitor<'_>, keys: &[&'static str], order: Order) -> Result<(), Refusal> {
+    for turn in 0..keys.len() {
+        let place = place_at(turn, keys.len(), order);
+        root.visit_simple(Key::new(keys[place]), place.wrapping_add(1))?;
     }
-    root.exit();
+    Ok(())
+}
+
+/// Enters the keys twice at a root visitor.
+fn enter_twice(
+    builder: &mut FlameGraphBuilder,
+    keys: &[&'static str],
+    order: Order,
+) -> Result<(), Refusal> {
+    let mut root = builder.root_visitor()?;
+    enter(&mut root, keys, order)?;
+    enter(&mut root, keys, order)
+}
+
+/// The text of a builder into which the keys are entered twice.
+fn text_of_entries(alloc: Global, keys: &[&'static str], order: Order) -> Result<String, Refusal> {
+    let mut builder = FlameGraphBuilder::new(alloc)?;
+    enter_twice(&mut builder, keys, order)?;
     builder.finish_and_write_flame_graph()
 }
 
@@ -89,71 +110,89 @@ fn leaf(alloc: Global, size: usize) -> Result<FlameGraph, Refusal> {
 }
 
 /// The text of a graph to which the children are added one by one.
-fn text_one_by_one(alloc: Global, children: &[(&'static str, usize)]) -> Result<String, Refusal> {
+fn text_one_by_one(alloc: Global, keys: &[&'static str], order: Order) -> Result<String, Refusal> {
     let mut graph = FlameGraph::default(alloc);
-    for (key, size) in children {
-        graph.add_child(Key::new(key), leaf(alloc, *size)?)?;
+    for turn in 0..keys.len() {
+        let place = place_at(turn, keys.len(), order);
+        graph.add_child(Key::new(keys[place]), leaf(alloc, place.wrapping_add(1))?)?;
     }
     graph.write()
 }
 
-/// The text of a graph to which the children are added at once, each of them twice.
-fn text_at_once(alloc: Global, children: &[(&'static str, usize)]) -> Result<String, Refusal> {
-    let mut list = Vec::new(alloc);
-    for _ in 0..2 {
-        for (key, size) in children {
-            list.push(Child {
-                key: Key::new(key),
-                graph: leaf(alloc, *size)?,
-            })?;
-        }
+/// Adds the children to a list.
+fn push_children(
+    list: &mut Vec<Child>,
+    alloc: Global,
+    keys: &[&'static str],
+    order: Order,
+) -> Result<(), Refusal> {
+    for turn in 0..keys.len() {
+        let place = place_at(turn, keys.len(), order);
+        let graph = leaf(alloc, place.wrapping_add(1))?;
+        let key = Key::new(keys[place]);
+        list.push(Child { key, graph })?;
     }
+    Ok(())
+}
+
+/// The text of a graph to which the children are added at once, each of them twice.
+fn text_at_once(alloc: Global, keys: &[&'static str], order: Order) -> Result<String, Refusal> {
+    let mut list = Vec::new(alloc);
+    push_children(&mut list, alloc, keys, order)?;
+    push_children(&mut list, alloc, keys, order)?;
     let mut graph = FlameGraph::default(alloc);
     graph.add_children(list)?;
     graph.write()
 }
 
-/// The first text that is wrong: of entries, of a graph made one by one, or of one made at once.
-fn first_wrong(alloc: Global, count: usize, order: Order) -> Result<Option<&'static str>, Fail> {
+impl Way {
+    /// How often each child is added.
+    fn times(self) -> usize {
+        match self {
+            Way::OneByOne => 1,
+            Way::Entered | Way::AtOnce => 2,
+        }
+    }
+}
+
+/// The text of the keys in an order, with their sizes.
+fn text_of(
+    alloc: Global,
+    keys: &[&'static str],
+    order: Order,
+    way: Way,
+) -> Result<String, Refusal> {
+    match way {
+        Way::Entered => text_of_entries(alloc, keys, order),
+        Way::OneByOne => text_one_by_one(alloc, keys, order),
+        Way::AtOnce => text_at_once(alloc, keys, order),
+    }
+}
+
+/// Whether the keys in an order come out right in one way.
+fn is_right(alloc: Global, keys: &[&'static str], order: Order, way: Way) -> Result<bool, Fail> {
+    let text = text_of(alloc, keys, order, way)?;
+    let lines = lines_of(alloc, keys, way.times())?;
+    Ok(text.as_str() == lines.as_str())
+}
+
+/// Fails where so many children in an order come out wrong in one of the ways.
+fn come_out_right(alloc: Global, count: usize, order: Order) -> Result<(), Fail> {
     let keys = sorted_keys(alloc, count)?;
-    let children = children_in(alloc, keys.as_slice(), order)?;
-    let once = lines_of(alloc, keys.as_slice(), 1)?;
-    let twice = lines_of(alloc, keys.as_slice(), 2)?;
-    if text_of_entries(alloc, children.as_slice())?.as_str() != twice.as_str() {
-        return Ok(Some("entries"));
+    for way in [Way::Entered, Way::OneByOne, Way::AtOnce] {
+        if !is_right(alloc, &keys, order, way)? {
+            return Err(Fail::new("a text of the children is wrong"));
+        }
     }
-    if text_one_by_one(alloc, children.as_slice())?.as_str() != once.as_str() {
-        return Ok(Some("one by one"));
-    }
-    if text_at_once(alloc, children.as_slice())?.as_str() != twice.as_str() {
-        return Ok(Some("at once"));
-    }
-    Ok(None)
+    Ok(())
 }
 
 #[test]
-fn ten_children_in_any_order(rt: HostRuntime) -> Result<(), Fail> {
+fn children_in_any_order(rt: HostRuntime) -> Result<(), Fail> {
     for order in [Order::Rising, Order::Falling, Order::Mixed] {
-        assert_eq!(rt; first_wrong(rt.alloc(), 10, order)?, None);
+        come_out_right(rt.alloc(), 10, order)?;
+        come_out_right(rt.alloc(), 5000, order)?;
     }
-    Ok(())
-}
-
-#[test]
-fn five_thousand_rising_children(rt: HostRuntime) -> Result<(), Fail> {
-    assert_eq!(rt; first_wrong(rt.alloc(), 5000, Order::Rising)?, None);
-    Ok(())
-}
-
-#[test]
-fn five_thousand_falling_children(rt: HostRuntime) -> Result<(), Fail> {
-    assert_eq!(rt; first_wrong(rt.alloc(), 5000, Order::Falling)?, None);
-    Ok(())
-}
-
-#[test]
-fn five_thousand_mixed_children(rt: HostRuntime) -> Result<(), Fail> {
-    assert_eq!(rt; first_wrong(rt.alloc(), 5000, Order::Mixed)?, None);
     Ok(())
 }
 
@@ -161,7 +200,8 @@ fn five_thousand_mixed_children(rt: HostRuntime) -> Result<(), Fail> {
 #[test]
 fn no_two_keys_are_equal(rt: HostRuntime) -> Result<(), Fail> {
     let keys = sorted_keys(rt.alloc(), 5000)?;
-    let rise = keys.as_slice().windows(2).all(|pair| pair[0] < pair[1]);
-    assert!(rt; rise);
-    Ok(())
+    if keys.as_slice().windows(2).all(|pair| pair[0] < pair[1]) {
+        return Ok(());
+    }
+    Err(Fail::new("two keys are equal"))
 }

@@ -1,0 +1,66 @@
+//! A row: its name, its roots, and what they have to answer.
+use crate::fault::Fault;
+use allocative::Refusal;
+
+/// What roots have to answer: the text of their graph, or a refusal.
+#[derive(Clone, Copy)]
+pub(crate) enum Wanted {
+    Text(&'static str),
+    Refused(Refusal),
+}
+
+/// A row, which is its name, its roots and its sections.
+#[derive(Clone, Copy)]
+pub(crate) struct Row(pub(crate) &'static str);
+
+/// The first line of some lines, and the others without the last line feed.
+pub(crate) fn cut(lines: &'static str) -> (&'static str, &'static str) {
+    match lines.split_once('\n') {
+        Some((first, others)) => (first, others.trim_end()),
+        None => (lines, ""),
+    }
+}
+
+/// The refusal of a word.
+pub(crate) fn refusal_of(word: &str) -> Result<Refusal, Fault> {
+    match word {
+        "Memory" => Ok(Refusal::Memory),
+        "TooLarge" => Ok(Refusal::TooLarge),
+        "Open" => Ok(Refusal::Open),
+        _ => Err(Fault::Malformed),
+    }
+}
+
+/// The held bytes of a word, or its refusal.
+pub(crate) fn held_of(word: &str) -> Result<Result<usize, Refusal>, Fault> {
+    match word.parse::<usize>() {
+        Ok(held) => Ok(Ok(held)),
+        Err(_) => Ok(Err(refusal_of(word)?)),
+    }
+}
+
+impl Row {
+    /// The name.
+    pub(crate) fn name(self) -> &'static str {
+        cut(self.0).0
+    }
+
+    /// The lines with the roots.
+    pub(crate) fn roots(self) -> &'static str {
+        match self.0.split_once("\n-- ") {
+            Some((roots, _sections)) => cut(roots).1,
+            None => cut(self.0).1,
+        }
+    }
+
+    /// The lines of a section, where the row has it.
+    pub(crate) fn section(self, heading: &str) -> Option<&'static str> {
+        for section in self.0.split("\n-- ").skip(1) {
+            let (first, lines) = cut(section);
+            if first == heading {
+                return Some(lines);
+            }
+        }
+        None
+    }
+}

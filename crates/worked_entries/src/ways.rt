@@ -1,0 +1,160 @@
+//! The ways in which the roots of a row are collected.
+use crate::forest::{Forest, Kind};
+use crate::shown::{Shown, graph_shown, output_shown, text_shown};
+use allocative::{
+    FlameGraph, FlameGraphBuilder, FlameGraphOutput, Key, Refusal, Registry, Visitor,
+    profile_in_two, profile_roots,
+};
+use std::alloc::Global;
+
+/// How roots are collected.
+#[derive(Clone, Copy)]
+pub(crate) enum Way {
+    /// Entered by hand, each at a root visitor of its own.
+    ByHand,
+    /// Visited one by one.
+    Visited,
+    /// Visited as the values of a slice.
+    Values,
+    /// Boxed and registered.
+    Registered,
+    /// Entered by hand into two builders, whose graphs are added.
+    Added,
+    /// Visited in two collections, whose graphs are added.
+    InTwo,
+}
+
+impl Way {
+    /// The words for the way in a message.
+    pub(crate) fn name(self) -> &'static str {
+        match self {
+            Way::ByHand => "entered by hand",
+            Way::Visited => "visited",
+            Way::Values => "visited as values",
+            Way::Registered => "registered",
+            Way::Added => "added",
+            Way::InTwo => "collected in two",
+        }
+    }
+}
+
+/// Enters a forest by hand.
+#[cycle(by_hand)]
+fn enter(visitor: &mut Visitor<'_>, forest: &Forest) -> Result<(), Refusal> {
+    let Forest::Entry(kind, key, size, inside, after) = forest else {
+        return Ok(());
+    };
+    enter_entry(visitor, *kind, key.copy(), *size, inside)?;
+    enter(visitor, after)
+}
+
+/// Enters one entry by hand, and inside it the others. Where these are refused, its visitor is still held.
+#[cycle(by_hand)]
+fn enter_entry(
+    visitor: &mut Visitor<'_>,
+    kind: Kind,
+    key: Key,
+    size: usize,
+    inside: &Forest,
+) -> Result<(), Refusal> {
+    match kind {
+        Kind::Inline if matches!(inside, Forest::Empty) => visitor.visit_simple(key, size),
+        Kind::Inline => {
+            let mut inner = visitor.enter(key, size)?;
+            enter(&mut inner, inside)
+        }
+        Kind::Unique => {
+            let mut inner = visitor.enter_unique(key, size)?;
+            enter(&mut inner, inside)
+        }
+        Kind::Shared(identity) => match visitor.enter_shared(key, size, identity)? {
+            Some(mut content) => enter(&mut content, inside),
+            None => Ok(()),
+        },
+    }
+}
+
+/// Enters each root by hand.
+fn enter_roots(builder: &mut FlameGraphBuilder, roots: &[Forest]) -> Result<(), Refusal> {
+    for root in roots {
+        let mut visitor = builder.root_visitor()?;
+        enter(&mut visitor, root)?;
+    }
+    Ok(())
+}
+
+/// Visits each root.
+fn visit_roots(builder: &mut FlameGraphBuilder, roots: &[Forest]) -> Result<(), Refusal> {
+    for root in roots {
+        builder.visit_root(root)?;
+    }
+    Ok(())
+}
+
+/// What a builder returns whose roots were entered. Where they were refused, it has to return that refusal for good.
+/// Otherwise the refusal is Open, which plain entries never meet.
+fn finish(
+    mut builder: FlameGraphBuilder,
+    entered: Result<(), Refusal>,
+) -> Result<FlameGraphOutput, Refusal> {
+    let Err(refusal) = entered else {
+        return builder.finish();
+    };
+    let begun = builder.root_visitor().err();
+    let finished = builder.finish().err();
+    if begun == Some(refusal) && finished == begun {
+        return Err(refusal);
+    }
+    Err(Refusal::Open)
+}
+
+fn by_hand(alloc: Global, roots: &[Forest]) -> Result<FlameGraphOutput, Refusal> {
+    let mut builder = FlameGraphBuilder::new(alloc)?;
+    let entered = enter_roots(&mut builder, roots);
+    finish(builder, entered)
+}
+
+fn visited(alloc: Global, roots: &[Forest]) -> Result<FlameGraphOutput, Refusal> {
+    let mut builder = FlameGraphBuilder::new(alloc)?;
+    let entered = visit_roots(&mut builder, roots);
+    finish(builder, entered)
+}
+
+/// The text alone, by the call that returns nothing else.
+fn values(alloc: Global, roots: &[Forest]) -> Result<String, Refusal> {
+    let mut builder = FlameGraphBuilder::new(alloc)?;
+    builder.visit_values(roots)?;
+    builder.finish_and_write_flame_graph()
+}
+
+fn registered(alloc: Global, roots: Vec<Forest>) -> Result<FlameGraphOutput, Refusal> {
+    let mut registry = Registry::new(alloc);
+    for root in roots {
+        registry.add_root(Box::new(alloc, root)?)?;
+    }
+    profile_roots(&registry)
+}
+
+fn added(alloc: Global, left: &[Forest], right: &[Forest]) -> Result<FlameGraph, Refusal> {
+    let mut sum = by_hand(alloc, left)?.into_flamegraph();
+    sum.add(by_hand(alloc, right)?.into_flamegraph())?;
+    Ok(sum)
+}
+
+/// What the roots show, of which so many are those of the left collection, or their refusal.
+pub(crate) fn collect(
+    alloc: Global,
+    roots: Vec<Forest>,
+    left: usize,
+    way: Way,
+) -> Result<Shown, Refusal> {
+    let middle = left.min(roots.len());
+    match way {
+        Way::ByHand => output_shown(alloc, by_hand(alloc, &roots)?),
+        Way::Visited => output_shown(alloc, visited(alloc, &roots)?),
+        Way::Values => Ok(text_shown(values(alloc, &roots)?)),
+        Way::Registered => output_shown(alloc, registered(alloc, roots)?),
+        Way::Added => graph_shown(added(alloc, &roots[..middle], &roots[middle..])?),
+        Way::InTwo => graph_shown(profile_in_two(alloc, &roots[..middle], &roots[middle..])?),
+    }
+}

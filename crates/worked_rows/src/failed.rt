@@ -1,0 +1,193 @@
+//! Builders that fail or stay open for good, and what they then return.
+#![tactic(auto, using(allocative::proofs::Parts::parts))]
+
+ghost use Rattle.std.specs.Prelude.{codes};
+ghost use Rattle.allocative.specs.Shows as shows;
+
+use crate::huge::Huge;
+use allocative::{Allocative, FlameGraphBuilder, Identity, Inside, Key, Part, Refusal, Visitor};
+use std::alloc::Global;
+use std::mem::{ManuallyDrop, forget};
+use std::test::Fail;
+
+const MOST: usize = isize::MAX as usize;
+
+/// Shows `leaf 1`.
+#[derive(Drop)]
+struct Leaf;
+
+impl Allocative for Leaf {
+    ghost may_show = { λ _. shows.Inside (codes "leaf") 1 shows.Nothing };
+
+    fn visit(&self, visitor: &mut Visitor<'_>) -> Result<(), Refusal> {
+        Inside("leaf", 1, ()).enter(visitor)
+    }
+}
+
+/// What is done at the root visitor of a new builder.
+#[derive(Clone, Copy)]
+enum Act {
+    PassTheBound,
+    PassTheBoundByEntries,
+    EnterUnsized,
+    RefuseTwice,
+    RefuseByClosure,
+    ForgetAndEnterUnsized,
+    ForgetRoot,
+    ForgetRootWithAnEntry,
+    ForgetNested,
+    ForgetBelow,
+    ForgetContent,
+}
+
+/// What two calls returned.
+type Told = [Option<Refusal>; 2];
+
+/// Enters a byte past the bound, and 0 bytes after it.
+fn pass_the_bound(root: &mut Visitor<'_>) -> Result<Told, Refusal> {
+    root.visit_simple(Key::new("a"), MOST)?;
+    let past = root.visit_simple(Key::new("b"), 1).err();
+    let after = root.visit_simple(Key::new("c"), 0).err();
+    Ok([past, after])
+}
+
+/// Enters a byte past the bound, and a unique entry of 0 bytes after it, where both may have parts.
+fn pass_the_bound_by_entries(root: &mut Visitor<'_>) -> Result<Told, Refusal> {
+    root.visit_simple(Key::new("a"), MOST)?;
+    let past = root.enter(Key::new("b"), 1).err();
+    let after = root.enter_unique(Key::new("c"), 0).err();
+    Ok([past, after])
+}
+
+/// Enters a value without a size, with parts and without.
+fn enter_unsized(root: &mut Visitor<'_>) -> Told {
+    let entered = root.enter_self_sized::<Option<Huge>>().err();
+    let after = root.visit_simple_sized::<Option<Huge>>().err();
+    [entered, after]
+}
+
+/// Makes two errors by hand, one after the other.
+fn refuse_twice(root: &mut Visitor<'_>) -> Told {
+    let first = root.refuse(Refusal::TooLarge);
+    let second = root.refuse(Refusal::Memory);
+    [Some(first), Some(second)]
+}
+
+/// Enters by a closure that returns an error, and then an entry.
+fn refuse_by_closure(root: &mut Visitor<'_>) -> Told {
+    let told = root.visit_field_with(Key::new("f"), 4, |_inner| Err(Refusal::Open));
+    let after = root.visit_simple(Key::new("a"), 1);
+    [told.err(), after.err()]
+}
+
+/// Forgets a nested visitor, and then enters values without a size.
+fn forget_and_enter_unsized(root: &mut Visitor<'_>) -> Result<Told, Refusal> {
+    forget(root.enter(Key::new("a"), 1)?);
+    let first = root.visit_simple_sized::<Option<Huge>>().err();
+    let second = root.visit_simple_sized::<Option<Huge>>().err();
+    Ok([first, second])
+}
+
+fn forget_nested(root: &mut Visitor<'_>) -> Result<Told, Refusal> {
+    let _forgotten = ManuallyDrop::new(root.enter(Key::new("a"), 10)?);
+    Ok([None, None])
+}
+
+/// Forgets a visitor, and leaves the one outside it.
+fn forget_below(root: &mut Visitor<'_>) -> Result<Told, Refusal> {
+    let mut outer = root.enter(Key::new("a"), 8)?;
+    forget(outer.enter(Key::new("b"), 4)?);
+    outer.exit();
+    Ok([None, None])
+}
+
+/// Forgets the visitor of a content.
+fn forget_content(root: &mut Visitor<'_>) -> Result<Told, Refusal> {
+    forget(root.enter_shared(Key::new("p"), 8, Identity::from(1))?);
+    Ok([None, None])
+}
+
+/// Forgets a root visitor, where asked with an entry made before.
+fn forget_root(builder: &mut FlameGraphBuilder, with_an_entry: bool) -> Result<Told, Refusal> {
+    let mut root = builder.root_visitor()?;
+    if with_an_entry {
+        root.visit_simple(Key::new("a"), 10)?;
+    }
+    forget(root);
+    Ok([None, None])
+}
+
+/// Does the act at a root visitor, which is left afterwards.
+fn act_at_root(builder: &mut FlameGraphBuilder, act: Act) -> Result<Told, Refusal> {
+    let mut root = builder.root_visitor()?;
+    match act {
+        Act::PassTheBound => pass_the_bound(&mut root),
+        Act::PassTheBoundByEntries => pass_the_bound_by_entries(&mut root),
+        Act::EnterUnsized => Ok(enter_unsized(&mut root)),
+        Act::RefuseTwice => Ok(refuse_twice(&mut root)),
+        Act::RefuseByClosure => Ok(refuse_by_closure(&mut root)),
+        Act::ForgetAndEnterUnsized => forget_and_enter_unsized(&mut root),
+        Act::ForgetBelow => forget_below(&mut root),
+        Act::ForgetContent => forget_content(&mut root),
+        _ => forget_nested(&mut root),
+    }
+}
+
+fn act_on(builder: &mut FlameGraphBuilder, act: Act) -> Result<Told, Refusal> {
+    match act {
+        Act::ForgetRoot => forget_root(builder, false),
+        Act::ForgetRootWithAnEntry => forget_root(builder, true),
+        _ => act_at_root(builder, act),
+    }
+}
+
+/// What the builder returns for a root visitor, for a root and for its output.
+fn ended(mut builder: FlameGraphBuilder) -> [Option<Refusal>; 3] {
+    let begun = builder.root_visitor().err();
+    let visited = builder.visit_root(&Leaf).err();
+    [begun, visited, builder.finish().err()]
+}
+
+/// What the act was told, and what its builder returns afterwards.
+fn answers(alloc: Global, act: Act) -> Result<(Told, [Option<Refusal>; 3]), Refusal> {
+    let mut builder = FlameGraphBuilder::new(alloc)?;
+    let told = act_on(&mut builder, act);
+    let ended = ended(builder);
+    Ok((told?, ended))
+}
+
+/// Fails where both calls of an act were not told this, or where its builder does not end with that.
+fn ends(
+    alloc: Global,
+    act: Act,
+    told: Option<Refusal>,
+    ended: Option<Refusal>,
+) -> Result<(), Fail> {
+    let found = answers(alloc, act)?;
+    if found.0 == [told; 2] && found.1 == [ended; 3] {
+        return Ok(());
+    }
+    Err(Fail::new(format_args!("{found:?}")))
+}
+
+#[test]
+fn a_builder_returns_its_first_cause_for_good(rt: HostRuntime) -> Result<(), Fail> {
+    let large = Some(Refusal::TooLarge);
+    let open = Some(Refusal::Open);
+    for (act, told, ended) in [
+        (Act::PassTheBound, large, large),
+        (Act::PassTheBoundByEntries, large, large),
+        (Act::EnterUnsized, large, large),
+        (Act::RefuseTwice, large, large),
+        (Act::RefuseByClosure, open, open),
+        (Act::ForgetAndEnterUnsized, large, large),
+        (Act::ForgetRoot, None, open),
+        (Act::ForgetRootWithAnEntry, None, open),
+        (Act::ForgetNested, None, open),
+        (Act::ForgetBelow, None, open),
+        (Act::ForgetContent, None, open),
+    ] {
+        ends(rt.alloc(), act, told, ended)?;
+    }
+    Ok(())
+}
