@@ -1,0 +1,128 @@
+//! The calls of the JSON program after a refused growth: each fails with Memory alone, and a lent output is unchanged.
+use allocative::{FlameGraphBuilder, FlameGraphOutput, Key, Registry, Visitor, profile_roots};
+use allocative_json::{Fault, Report, profile_json, read_roots, report};
+use std::alloc::Global;
+use std::process::Abort;
+
+const FAR_NUMBERS: &[u8] = b"[18446744073709551615,-9223372036854775808,18446744073709551615]";
+
+const THREE_NUMBERS: &str =
+    "BTreeSet 16\nBTreeSet;data;key;i128 32\nValue 8\nValue;Array;Vec 16\nValue;Array;Vec;ptr 8\nValue;Array;Vec;ptr;Value 48\nValue;Array;Vec;ptr;Value;Number;Number 48\n";
+
+const SHORT_DATA: &str =
+    "Incorrect size declaration for node `BTreeSet;data`, size of self: 8, size of inline children: 32\n";
+
+fn assert_texts(rt: &impl Abort, made: &Report, profile: &str, warnings: &str) {
+    assert_eq!(rt; made.profile.as_str(), profile);
+    assert_eq!(rt; made.warnings.as_str(), warnings);
+}
+
+#[test]
+fn a_profile_of_json_is_refused(rt: HostRuntime) -> Result<(), Fault> {
+    let made = profile_json(rt.alloc(), FAR_NUMBERS, true, true)?;
+    assert_texts(&rt, &made, THREE_NUMBERS, SHORT_DATA);
+    Ok(())
+}
+
+#[test]
+fn reading_roots_is_refused(rt: HostRuntime) -> Result<(), Fault> {
+    let input = b"[1,[2,{\"a\":3,\"b\":[2,-4]}],{\"c\":1}]";
+    let (_document, numbers) = read_roots(rt.alloc(), input, true)?;
+    let numbers = numbers.ok_or(Fault::NotWhole)?;
+    assert_eq!(rt; numbers.len(), 4);
+    for number in [-4i128, 1, 2, 3] {
+        assert!(rt; numbers.contains(&number));
+    }
+    Ok(())
+}
+
+/// The profile of an input by roots that are boxed here.
+fn profile_boxed(alloc: Global, input: &[u8], index: bool) -> Result<FlameGraphOutput, Fault> {
+    let (document, numbers) = read_roots(alloc, input, index)?;
+    let mut registry = Registry::new(alloc);
+    if registry.register_root(Box::new(alloc, document)?).is_err() {
+        return Err(Fault::Memory);
+    }
+    if let Some(numbers) = numbers {
+        if registry.register_root(Box::new(alloc, numbers)?).is_err() {
+            return Err(Fault::Memory);
+        }
+    }
+    Ok(profile_roots(&registry)?)
+}
+
+/// Asserts the report of an output. Where a growth is refused, the same report is made once more.
+fn assert_report(
+    rt: &(impl Abort + AllocGlobal),
+    output: &FlameGraphOutput,
+    profile: &str,
+    warnings: &str,
+) -> Result<(), Fault> {
+    let first = report(rt.alloc(), output, true);
+    if let Err(fault) = first {
+        assert_eq!(rt; fault, Fault::Memory);
+        assert_texts(rt, &report(rt.alloc(), output, true)?, profile, warnings);
+    }
+    assert_texts(rt, &first?, profile, warnings);
+    Ok(())
+}
+
+#[test]
+fn a_report_of_a_boxed_document_is_refused(rt: HostRuntime) -> Result<(), Fault> {
+    let output = profile_boxed(rt.alloc(), b"true", false)?;
+    assert_report(&rt, &output, "Value 32\n", "")
+}
+
+#[test]
+fn a_report_of_boxed_numbers_is_refused(rt: HostRuntime) -> Result<(), Fault> {
+    let output = profile_boxed(rt.alloc(), FAR_NUMBERS, true)?;
+    assert_report(&rt, &output, THREE_NUMBERS, SHORT_DATA)
+}
+
+/// Enters keys that have a `;`, a line feed or a space in them.
+fn enter_odd_keys(root: &mut Visitor<'_>) -> Result<(), Fault> {
+    root.visit_simple(Key::new("a;unused_capacity"), 1)?;
+    root.visit_simple(Key::new("b\nunused_capacity"), 2)?;
+    root.visit_simple(Key::new("c unused_capacity"), 3)?;
+    root.visit_simple(Key::new("unused_capacity\nd"), 4)?;
+    Ok(())
+}
+
+#[test]
+fn a_report_without_some_lines_is_refused(rt: HostRuntime) -> Result<(), Fault> {
+    let mut builder = FlameGraphBuilder::new(rt.alloc())?;
+    let mut root = builder.root_visitor()?;
+    let entered = enter_odd_keys(&mut root);
+    root.exit();
+    entered?;
+    let output = builder.finish()?;
+    assert_report(
+        &rt,
+        &output,
+        "b\nc unused_capacity 3\nunused_capacity\nd 4\n",
+        "",
+    )
+}
+
+#[test]
+fn texts_of_faults_are_refused(rt: HostRuntime) -> Result<(), Fault> {
+    for (fault, line) in [
+        (Fault::Memory, "out of memory"),
+        (Fault::NotJson, "input is not JSON"),
+        (Fault::NotWhole, "a number is not a 64-bit whole number"),
+        (Fault::TooLarge, "sizes do not fit"),
+        (Fault::Words, "unknown or repeated word"),
+        (Fault::Reading, "cannot read input"),
+        (Fault::Writing, "cannot write output"),
+        (Fault::Open, "a visitor was forgotten"),
+    ] {
+        assert_line(&rt, fault, line)?;
+    }
+    Ok(())
+}
+
+fn assert_line(rt: &(impl Abort + AllocGlobal), fault: Fault, line: &str) -> Result<(), Fault> {
+    let text = format!(in rt.alloc(); "{fault}")?;
+    assert_eq!(rt; text.as_str(), line);
+    Ok(())
+}
