@@ -48,24 +48,37 @@ pub record IsOfLevels {T : Type 0} (w : T → Level T) (x : T) (f : Forest) : Ty
 abbrev pub recursive : {T : Type 0} → (T → Level T) → T → Showing
 recursive w x = IsOfLevels w x
 
--- What a `Vec` shows of its items, which need a drop and have s bytes each, s not 0, where w gives the level of an
+-- What a `Vec` shows of its items, which need a drop and have the declared size s, not 0, where w gives the level of an
 -- item.
+abbrev pub vec_in : {T A : Type 0} → Option ℕ → (A → Level T) → Vec A → Level T
+vec_in s w v =
+    field (codes "Vec") (Some 24) (buffer s (each w (vec_items v)) (length (vec_items v)) (vec_capacity v))
+
+-- The same of items of s bytes each.
 abbrev pub vec_of : {T A : Type 0} → ℕ → (A → Level T) → Vec A → Level T
-vec_of s w v =
-    field (codes "Vec") (Some 24) (buffer (Some s) (each w (vec_items v)) (length (vec_items v)) (vec_capacity v))
+vec_of s w v = vec_in (Some s) w v
 
 -- What a `Box` shows, where a is the level of its value.
 abbrev pub box_of : {T : Type 0} → Level T → Level T
 box_of a = field (codes "Box") (Some 8) (unique (codes "ptr") 8 a)
 
--- What an `Option` of a declared size shows of its value, which has s bytes, where w gives the level of the value.
-abbrev pub option_of : {T A : Type 0} → ℕ → ℕ → (A → Level T) → Option A → Level T
-option_of size s w o = field (codes "Option") (Some size) (optional (Some s) w o)
+-- What an `Option` of a declared size shows of its value, which has the declared size s, where w gives the level of the
+-- value.
+abbrev pub option_in : {T A : Type 0} → Option ℕ → Option ℕ → (A → Level T) → Option A → Level T
+option_in size s w o = field (codes "Option") size (optional s w o)
 
--- What a pair of a map shows: a field for the key, which shows what p allows, and one for the value, which has s bytes
--- and the level that w gives.
+-- The same of an `Option` of a number of bytes, and of a value of s bytes.
+abbrev pub option_of : {T A : Type 0} → ℕ → ℕ → (A → Level T) → Option A → Level T
+option_of size s w o = option_in (Some size) (Some s) w o
+
+-- What a pair of a map shows: a field for the key, which shows what p allows, and one for the value, which has the
+-- declared size s and the level that w gives.
+abbrev pub pair_in : {T K V : Type 0} → Option ℕ → (K → Showing) → Option ℕ → (V → Level T) → K × V → Level T
+pair_in key_size p s w e = both (plain (Field (codes "key") key_size (p e.0))) (field (codes "value") s (w e.1))
+
+-- The same of a value of s bytes.
 abbrev pub pair_of : {T K V : Type 0} → Option ℕ → (K → Showing) → ℕ → (V → Level T) → K × V → Level T
-pair_of key_size p s w e = both (plain (Field (codes "key") key_size (p e.0))) (field (codes "value") (Some s) (w e.1))
+pair_of key_size p s w e = pair_in key_size p (Some s) w e
 
 -- What a `BTreeMap` shows of its entries, in the order of the keys, where w gives the level of an entry.
 abbrev pub btree_map_of : {T E : Type 0} → (E → Level T) → List E → Level T

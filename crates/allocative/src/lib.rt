@@ -29,7 +29,7 @@ pub use crate::builder::FlameGraphBuilder;
 pub use crate::containers::{Buffer, Each, FieldEach, Items, Pairs, Text, Unused};
 pub use crate::impls::pack_impls::json::visit_json_map;
 pub use crate::named::Named;
-pub use crate::part::{Declared, Field, Inside, IntoKey, Part, Shared, Unique};
+pub use crate::part::{Declared, Field, Inside, IntoKey, Part, Shared, Unique, Whole};
 pub use crate::profile::{profile_value, profile_values};
 pub use crate::registry::{Registry, profile_roots};
 pub use crate::size_of::{size_of_entries, size_of_unique, size_of_unique_allocated_data};
@@ -37,7 +37,8 @@ pub use crate::sum_of_two::profile_in_two;
 pub use crate::visitor::Visitor;
 pub use allocative_collectors::output::{FlameGraphOutput, WarnedPath};
 pub use allocative_described::{
-    Described, raw_table_alloc_size_for_len, raw_table_law, shared_inner_size, up_law,
+    Described, Fields, Or, Record, raw_table_alloc_size_for_len, raw_table_law, shared_inner_size,
+    up_law,
 };
 pub use allocative_graph::flamegraph::{Child, FlameGraph, Row, push_path};
 pub use allocative_graph::key::Key;

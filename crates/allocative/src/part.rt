@@ -136,6 +136,28 @@ impl<K: IntoKey, P: Part> Part for Declared<K, P> {
     }
 }
 
+/// A value's own entry: one inline entry of the name and the size that the value's type declares, with a part inside
+/// it. Where the type has no size, `enter` returns `TooLarge`.
+///
+/// ```
+/// let name = Field("name", &self.name);
+/// let count = Field("count", &self.count);
+/// Whole(self, (name, count)).enter(visitor)
+/// ```
+#[derive(Drop)]
+pub struct Whole<'a, T, P>(pub &'a T, pub P);
+
+impl<'a, T: Described, P: Part> Part for Whole<'a, T, P> {
+    ghost may_show = { λ e. shows.Field T.name T.size (P.may_show e.1) };
+
+    ghost is_exact = { P.is_exact };
+
+    #[inline(always)]
+    fn enter(self, visitor: &mut Visitor<'_>) -> Result<(), Refusal> {
+        Declared(T::name(), T::size(), self.1).enter(visitor)
+    }
+}
+
 /// One unique entry under a key, of a size in bytes, with a part inside it: a pointer, and what only it points
 /// to.
 ///

@@ -1,5 +1,7 @@
 //! Types whose implementations `bin/implement` wrote.
 #![tactic(auto)]
 
+pub mod drawn;
+pub mod nested;
 pub mod placed;
 pub mod types;

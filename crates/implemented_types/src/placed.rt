@@ -17,48 +17,51 @@ pub struct Letter {
     pub reads: u64,
 } // a comment behind it
 // allocative: begin
-ghost use Rattle.std.specs.Prelude.{codes, Some, true};
-ghost use Rattle.allocative.specs.Shows.{Nothing, Inside, Field, Both};
+ghost use Rattle.std.specs.Prelude.{codes, true, ◌&&◌};
+ghost use Rattle.allocative.specs.Shows as shows;
 
-use allocative::{Described, Inside, Part, Refusal, Visitor};
+use allocative::{Described, Or, Part, Record, Refusal, Visitor, Whole};
+
+type LetterLayout = Record<(u64, (String, (u64, ())))>;
 
 impl Described for Letter {
     ghost name = { codes "Letter" };
 
-    ghost align = { 8 };
+    ghost align = { ⟦<LetterLayout as Described>⟧.align };
 
-    ghost needs_drop = { true };
+    ghost needs_drop = { ⟦<LetterLayout as Described>⟧.needs_drop };
 
-    ghost size = { Some 40 };
+    ghost size = { ⟦<LetterLayout as Described>⟧.size };
 
     fn name() -> &'static str {
         "Letter"
     }
 
     fn align() -> usize {
-        8
+        <LetterLayout>::align()
     }
 
     fn needs_drop() -> bool {
-        true
+        <LetterLayout>::needs_drop()
     }
 
     fn size() -> Option<usize> {
-        Some(40)
+        <LetterLayout>::size()
     }
 }
 
 #[tactic(auto, using(allocative::proofs::Parts::parts))]
 impl Allocative for Letter {
-    ghost may_show = { λ x. Inside (codes "Letter") 40 (Both
-        (Field (codes "number") (Some 8) (⟦<u64 as Allocative>⟧.may_show x.number))
-        (Field (codes "name") (Some 24) (⟦<String as Allocative>⟧.may_show x.name))) };
+    ghost may_show = { λ x. shows.Field (codes "Letter") ⟦<LetterLayout as Described>⟧.size (shows.Both
+        (shows.Field (codes "number") ⟦<u64 as Described>⟧.size (⟦<u64 as Allocative>⟧.may_show x.number))
+        (shows.Field (codes "name") ⟦<String as Described>⟧.size (⟦<String as Allocative>⟧.may_show x.name))) };
+
+    ghost is_exact = { true };
 
     fn visit(&self, visitor: &mut Visitor<'_>) -> Result<(), Refusal> {
-        let a = Field("number", &self.number);
-        let b = Field("name", &self.name);
-        let key = "Letter";
-        Inside(key, 40, (a, b)).enter(visitor)
+        let number = Field("number", &self.number);
+        let name = Field("name", &self.name);
+        Whole(self, (number, name)).enter(visitor)
     }
 }
 // allocative: end
@@ -74,48 +77,51 @@ pub struct Parcel {
     pub limit: Option<u64>,
 }
 // allocative: begin
+type ParcelLayout = Record<(u64, (Letter, (u32, (Vec<u32>, (bool, (Option<u64>, ()))))))>;
+
 impl Described for Parcel {
     ghost name = { codes "Parcel" };
 
-    ghost align = { 8 };
+    ghost align = { ⟦<ParcelLayout as Described>⟧.align };
 
-    ghost needs_drop = { true };
+    ghost needs_drop = { ⟦<ParcelLayout as Described>⟧.needs_drop };
 
-    ghost size = { Some 96 };
+    ghost size = { ⟦<ParcelLayout as Described>⟧.size };
 
     fn name() -> &'static str {
         "Parcel"
     }
 
     fn align() -> usize {
-        8
+        <ParcelLayout>::align()
     }
 
     fn needs_drop() -> bool {
-        true
+        <ParcelLayout>::needs_drop()
     }
 
     fn size() -> Option<usize> {
-        Some(96)
+        <ParcelLayout>::size()
     }
 }
 
 #[tactic(auto, using(allocative::proofs::Parts::parts))]
 impl Allocative for Parcel {
-    ghost may_show = { λ x. Inside (codes "Parcel") 96 (Both
-        (Both
-        (Field (codes "number") (Some 8) (⟦<u64 as Allocative>⟧.may_show x.number)) (Both
-        (Field (codes "from") (Some 40) (⟦<Letter as Allocative>⟧.may_show x.from)) (Both
-        (Field (codes "count") (Some 4) (⟦<u32 as Allocative>⟧.may_show x.count)) (Both
-        (Field (codes "marks") (Some 24) (⟦<Vec<u32> as Allocative>⟧.may_show x.marks))
-        (Field (codes "is_open") (Some 1) (⟦<bool as Allocative>⟧.may_show x.is_open))))))
-        (Field (codes "limit") (Some 16) (⟦<Option<u64> as Allocative>⟧.may_show x.limit))) };
+    ghost may_show = { λ x. shows.Field (codes "Parcel") ⟦<ParcelLayout as Described>⟧.size (shows.Both
+        (shows.Both
+        (shows.Field (codes "number") ⟦<u64 as Described>⟧.size (⟦<u64 as Allocative>⟧.may_show x.number)) (shows.Both
+        (shows.Field (codes "from") ⟦<Letter as Described>⟧.size (⟦<Letter as Allocative>⟧.may_show x.from)) (shows.Both
+        (shows.Field (codes "count") ⟦<u32 as Described>⟧.size (⟦<u32 as Allocative>⟧.may_show x.count)) (shows.Both
+        (shows.Field (codes "marks") ⟦<Vec<u32> as Described>⟧.size (⟦<Vec<u32> as Allocative>⟧.may_show x.marks))
+        (shows.Field (codes "is_open") ⟦<bool as Described>⟧.size (⟦<bool as Allocative>⟧.may_show x.is_open))))))
+        (shows.Field (codes "limit") ⟦<Option<u64> as Described>⟧.size (⟦<Option<u64> as Allocative>⟧.may_show x.limit))) };
+
+    ghost is_exact = { true };
 
     fn visit(&self, visitor: &mut Visitor<'_>) -> Result<(), Refusal> {
-        let a = ParcelPart1(self);
-        let b = ParcelPart2(self);
-        let key = "Parcel";
-        Inside(key, 96, (a, b)).enter(visitor)
+        let part1 = ParcelPart1(self);
+        let part2 = ParcelPart2(self);
+        Whole(self, (part1, part2)).enter(visitor)
     }
 }
 
@@ -124,20 +130,22 @@ struct ParcelPart1<'part>(&'part Parcel);
 
 #[tactic(auto, using(allocative::proofs::Parts::parts))]
 impl<'part> Part for ParcelPart1<'part> {
-    ghost may_show = { λ x. Both
-        (Field (codes "number") (Some 8) (⟦<u64 as Allocative>⟧.may_show x.0.now.number)) (Both
-        (Field (codes "from") (Some 40) (⟦<Letter as Allocative>⟧.may_show x.0.now.from)) (Both
-        (Field (codes "count") (Some 4) (⟦<u32 as Allocative>⟧.may_show x.0.now.count)) (Both
-        (Field (codes "marks") (Some 24) (⟦<Vec<u32> as Allocative>⟧.may_show x.0.now.marks))
-        (Field (codes "is_open") (Some 1) (⟦<bool as Allocative>⟧.may_show x.0.now.is_open))))) };
+    ghost may_show = { λ x. shows.Both
+        (shows.Field (codes "number") ⟦<u64 as Described>⟧.size (⟦<u64 as Allocative>⟧.may_show x.0.now.number)) (shows.Both
+        (shows.Field (codes "from") ⟦<Letter as Described>⟧.size (⟦<Letter as Allocative>⟧.may_show x.0.now.from)) (shows.Both
+        (shows.Field (codes "count") ⟦<u32 as Described>⟧.size (⟦<u32 as Allocative>⟧.may_show x.0.now.count)) (shows.Both
+        (shows.Field (codes "marks") ⟦<Vec<u32> as Described>⟧.size (⟦<Vec<u32> as Allocative>⟧.may_show x.0.now.marks))
+        (shows.Field (codes "is_open") ⟦<bool as Described>⟧.size (⟦<bool as Allocative>⟧.may_show x.0.now.is_open))))) };
+
+    ghost is_exact = { true };
 
     fn enter(self, visitor: &mut Visitor<'_>) -> Result<(), Refusal> {
-        let a = Field("number", &self.0.number);
-        let b = Field("from", &self.0.from);
-        let c = Field("count", &self.0.count);
-        let d = Field("marks", &self.0.marks);
-        let e = Field("is_open", &self.0.is_open);
-        (a, b, c, d, e).enter(visitor)
+        let number = Field("number", &self.0.number);
+        let from = Field("from", &self.0.from);
+        let count = Field("count", &self.0.count);
+        let marks = Field("marks", &self.0.marks);
+        let is_open = Field("is_open", &self.0.is_open);
+        (number, from, count, marks, is_open).enter(visitor)
     }
 }
 
@@ -146,11 +154,13 @@ struct ParcelPart2<'part>(&'part Parcel);
 
 #[tactic(auto, using(allocative::proofs::Parts::parts))]
 impl<'part> Part for ParcelPart2<'part> {
-    ghost may_show = { λ x. Field (codes "limit") (Some 16) (⟦<Option<u64> as Allocative>⟧.may_show x.0.now.limit) };
+    ghost may_show = { λ x. shows.Field (codes "limit") ⟦<Option<u64> as Described>⟧.size (⟦<Option<u64> as Allocative>⟧.may_show x.0.now.limit) };
+
+    ghost is_exact = { true };
 
     fn enter(self, visitor: &mut Visitor<'_>) -> Result<(), Refusal> {
-        let a = Field("limit", &self.0.limit);
-        a.enter(visitor)
+        let limit = Field("limit", &self.0.limit);
+        limit.enter(visitor)
     }
 }
 // allocative: end
@@ -162,29 +172,31 @@ pub enum Post {
     Sent { number: u64, name: String },
 }
 // allocative: begin
+type PostLayout = Record<(u8, Or<(), Or<(self::Letter, ()), (u64, (String, ()))>>)>;
+
 impl Described for Post {
     ghost name = { codes "Post" };
 
-    ghost align = { 8 };
+    ghost align = { ⟦<PostLayout as Described>⟧.align };
 
-    ghost needs_drop = { true };
+    ghost needs_drop = { ⟦<PostLayout as Described>⟧.needs_drop };
 
-    ghost size = { Some 48 };
+    ghost size = { ⟦<PostLayout as Described>⟧.size };
 
     fn name() -> &'static str {
         "Post"
     }
 
     fn align() -> usize {
-        8
+        <PostLayout>::align()
     }
 
     fn needs_drop() -> bool {
-        true
+        <PostLayout>::needs_drop()
     }
 
     fn size() -> Option<usize> {
-        Some(48)
+        <PostLayout>::size()
     }
 }
 
@@ -192,83 +204,80 @@ impl Described for Post {
 impl Allocative for Post {
     ghost use Rattle.implemented_types.specs.declared.placed.Post.TheVariants.{Lost, Sealed, Sent};
 
-    ghost may_show = { λ x. Inside (codes "Post") 48 (elim x [
-      | Lost ↦ Nothing
-      | Sealed a ↦ Field (codes "Sealed") (Some 40) (⟦<self::Letter as Allocative>⟧.may_show a)
-      | Sent a b ↦ Both
-          (Field (codes "number") (Some 8) (⟦<u64 as Allocative>⟧.may_show a))
-          (Field (codes "name") (Some 24) (⟦<String as Allocative>⟧.may_show b))
+    ghost may_show = { λ x. shows.Field (codes "Post") ⟦<PostLayout as Described>⟧.size (elim x [
+      | Lost ↦ shows.Nothing
+      | Sealed a ↦ shows.Field (codes "Sealed") ⟦<self::Letter as Described>⟧.size (⟦<self::Letter as Allocative>⟧.may_show a)
+      | Sent a b ↦ shows.Both
+          (shows.Field (codes "number") ⟦<u64 as Described>⟧.size (⟦<u64 as Allocative>⟧.may_show a))
+          (shows.Field (codes "name") ⟦<String as Described>⟧.size (⟦<String as Allocative>⟧.may_show b))
     ]) };
 
+    ghost is_exact = { true };
+
     fn visit(&self, visitor: &mut Visitor<'_>) -> Result<(), Refusal> {
-        let key = "Post";
         match self {
-            Post::Lost => Inside(key, 48, ()).enter(visitor),
+            Post::Lost => Whole(self, ()).enter(visitor),
             Post::Sealed(a) => {
                 let a = Field("Sealed", a);
-                Inside(key, 48, a).enter(visitor)
+                Whole(self, a).enter(visitor)
             }
-            Post::Sent { number: a, name: b } => {
-                let a = Field("number", a);
-                let b = Field("name", b);
-                Inside(key, 48, (a, b)).enter(visitor)
+            Post::Sent { number, name } => {
+                let number = Field("number", number);
+                let name = Field("name", name);
+                Whole(self, (number, name)).enter(visitor)
             }
         }
     }
 }
 // allocative: end
 
-/// A struct whose size is written by hand.
+/// Two values of a type that is known only where it is used.
 #[derive(Drop)]
 pub struct Pair<T> {
     pub first: T,
     pub second: T,
 }
 // allocative: begin
-// The size of `Pair` in bytes. What is known of its parts is here; write the size itself.
-const PAIR_SIZE: usize = 16;
+type PairLayout<T> = Record<(T, (T, ()))>;
 
 impl<T: Allocative + Described> Described for Pair<T> {
-    ghost use Rattle.implemented_types.specs.declared.placed.TheConstants.{PAIR_SIZE};
-
     ghost name = { codes "Pair" };
 
-    ghost align = { 8 };
+    ghost align = { ⟦<PairLayout<T> as Described>⟧.align };
 
-    ghost needs_drop = { true };
+    ghost needs_drop = { ⟦<PairLayout<T> as Described>⟧.needs_drop };
 
-    ghost size = { Some PAIR_SIZE };
+    ghost size = { ⟦<PairLayout<T> as Described>⟧.size };
 
     fn name() -> &'static str {
         "Pair"
     }
 
     fn align() -> usize {
-        8
+        <PairLayout<T>>::align()
     }
 
     fn needs_drop() -> bool {
-        true
+        <PairLayout<T>>::needs_drop()
     }
 
     fn size() -> Option<usize> {
-        Some(PAIR_SIZE)
+        <PairLayout<T>>::size()
     }
 }
 
 #[tactic(auto, using(allocative::proofs::Parts::parts))]
 impl<T: Allocative + Described> Allocative for Pair<T> {
-    ghost use Rattle.implemented_types.specs.declared.placed.TheConstants.{PAIR_SIZE};
+    ghost may_show = { λ x. shows.Field (codes "Pair") ⟦<PairLayout<T> as Described>⟧.size (shows.Both
+        (shows.Field (codes "first") ⟦<T as Described>⟧.size (⟦<T as Allocative>⟧.may_show x.first))
+        (shows.Field (codes "second") ⟦<T as Described>⟧.size (⟦<T as Allocative>⟧.may_show x.second))) };
 
-    ghost may_show = { λ x. Inside (codes "Pair") PAIR_SIZE (Both
-        (Field (codes "first") T.size (T.may_show x.first))
-        (Field (codes "second") T.size (T.may_show x.second))) };
+    ghost is_exact = { ⟦<T as Allocative>⟧.is_exact && (⟦<T as Allocative>⟧.is_exact) };
 
     fn visit(&self, visitor: &mut Visitor<'_>) -> Result<(), Refusal> {
-        let a = Field("first", &self.first);
-        let b = Field("second", &self.second);
-        let key = "Pair";
-        Inside(key, PAIR_SIZE, (a, b)).enter(visitor)
+        let first = Field("first", &self.first);
+        let second = Field("second", &self.second);
+        Whole(self, (first, second)).enter(visitor)
     }
 }
 // allocative: end

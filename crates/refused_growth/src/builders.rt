@@ -1,177 +1,189 @@
 //! A builder that ran out of memory has failed with that cause for good.
-use allocative::{FlameGraphBuilder, FlameGraphOutput, Identity, Key, Refusal, Visitor};
-use std::alloc::Global;
+use crate::assertions::{assert_output, assert_refused, assert_same};
+use allocative::{FlameGraphBuilder, Identity, Key, Refusal, Visitor};
+use std::alloc::AllocGlobal;
 use std::process::Abort;
 
+/// A builder. Where a call is refused, the next one makes it.
+pub(crate) fn new_builder(rt: &(impl Abort + AllocGlobal)) -> FlameGraphBuilder {
+    match FlameGraphBuilder::new(rt.alloc()) {
+        Ok(builder) => builder,
+        Err(refusal) => {
+            assert_refused(rt, refusal);
+            FlameGraphBuilder::new(rt.alloc()).expect(rt, "a builder")
+        }
+    }
+}
+
+/// Asserts that a call was refused, and for want of memory.
+fn assert_failed(rt: &impl Abort, refusal: Option<Refusal>) {
+    assert_refused(rt, refusal.expect(rt, "a refusal"));
+}
+
 /// Once an entry was refused, the builder returns that error from every call.
-fn has_failed(rt: &impl Abort, mut builder: FlameGraphBuilder, refusal: Refusal) -> Refusal {
-    assert_eq!(rt; refusal, Refusal::Memory);
-    assert!(rt; matches!(builder.root_visitor(), Err(Refusal::Memory)));
-    assert!(rt; matches!(builder.finish(), Err(Refusal::Memory)));
-    refusal
+fn has_failed(rt: &impl Abort, mut builder: FlameGraphBuilder, refusal: Refusal) {
+    assert_refused(rt, refusal);
+    assert_failed(rt, builder.root_visitor().err());
+    assert_failed(rt, builder.visit_root(&1u8).err());
+    assert_failed(rt, builder.finish().err());
 }
 
-/// Asserts the text and the warnings of a finished builder. After an error the builder is gone, and an output
-/// that was made is unchanged.
-fn ends_with(
-    rt: &impl Abort,
-    builder: FlameGraphBuilder,
-    text: &str,
-    warnings: &str,
-) -> Result<(), Refusal> {
-    let output = match builder.finish() {
-        Ok(output) => output,
-        Err(refusal) => {
-            assert_eq!(rt; refusal, Refusal::Memory);
-            return Err(refusal);
-        }
-    };
-    if let Err(refusal) = told(rt, &output, text, warnings) {
-        assert_eq!(rt; refusal, Refusal::Memory);
-        told(rt, &output, text, warnings)?;
-        return Err(refusal);
+/// Enters a key with nothing inside it. After an error the same entry returns that error again. Any other answer
+/// becomes `Open`, which no test passes with.
+fn enter_last(visitor: &mut Visitor<'_>, key: &'static str, size: usize) -> Result<(), Refusal> {
+    let entered = visitor.visit_simple(Key::new(key), size);
+    if entered.is_err() && visitor.visit_simple(Key::new(key), size) != entered {
+        return Err(Refusal::Open);
     }
-    Ok(())
+    entered
 }
 
-/// Asserts the text and the warnings of an output.
-fn told(
-    rt: &impl Abort,
-    output: &FlameGraphOutput,
-    text: &str,
-    warnings: &str,
-) -> Result<(), Refusal> {
-    assert_eq!(rt; output.warnings()?.as_str(), warnings);
-    assert_eq!(rt; output.flamegraph().write()?.as_str(), text);
-    Ok(())
-}
-
-fn new_builder(rt: &impl Abort, alloc: Global) -> Result<FlameGraphBuilder, Refusal> {
-    match FlameGraphBuilder::new(alloc) {
-        Ok(builder) => Ok(builder),
-        Err(refusal) => {
-            assert_eq!(rt; refusal, Refusal::Memory);
-            Err(refusal)
-        }
-    }
-}
-
-/// Enters `T 8 {unique ptr 8 {u8 3}}`. After an error the next entry returns that error again.
-fn unique_pointer(rt: &impl Abort, root: &mut Visitor<'_>) -> Result<(), Refusal> {
-    let mut outer = root.enter(Key::new("T"), 8)?;
+/// Enters `unique ptr 8 {u8 3}`.
+fn enter_pointer(outer: &mut Visitor<'_>) -> Result<(), Refusal> {
     let mut pointer = outer.enter_unique(Key::new("ptr"), 8)?;
-    if let Err(refusal) = pointer.visit_simple(Key::new("u8"), 3) {
-        assert_eq!(rt; pointer.visit_simple(Key::new("u8"), 3), Err(refusal));
-        return Err(refusal);
-    }
-    Ok(())
+    enter_last(&mut pointer, "u8", 3)
 }
 
-#[test]
-fn entries_are_refused(rt: HostRuntime) -> Result<(), Refusal> {
-    let mut builder = new_builder(&rt, rt.alloc())?;
-    let mut root = builder.root_visitor()?;
-    let entered = unique_pointer(&rt, &mut root);
-    root.exit();
-    if let Err(refusal) = entered {
-        return Err(has_failed(&rt, builder, refusal));
+/// Enters `T 8 {unique ptr 8 {u8 3}}`.
+fn enter_owner(root: &mut Visitor<'_>) -> Result<(), Refusal> {
+    let mut outer = root.enter(Key::new("T"), 8)?;
+    enter_pointer(&mut outer)
+}
+
+/// Enters `shared p 6 #1 {Shared 13}`.
+fn enter_shared_pointer(outer: &mut Visitor<'_>) -> Result<(), Refusal> {
+    match outer.enter_shared(Key::new("p"), 6, Identity::from(1))? {
+        Some(mut content) => enter_last(&mut content, "Shared", 13),
+        None => Ok(()),
     }
-    ends_with(&rt, builder, "T;ptr 8\nT;ptr;u8 3\n", "")
+}
+
+/// Enters `a 3, shared p 6 #1 {Shared 13}`.
+fn enter_fields(outer: &mut Visitor<'_>) -> Result<(), Refusal> {
+    enter_last(outer, "a", 3)?;
+    enter_shared_pointer(outer)
 }
 
 /// Enters `Struct 10 {a 3, shared p 6 #1 {Shared 13}}`.
-fn shared_pointer(root: &mut Visitor<'_>) -> Result<(), Refusal> {
+fn enter_sharer(root: &mut Visitor<'_>) -> Result<(), Refusal> {
     let mut outer = root.enter(Key::new("Struct"), 10)?;
-    outer.visit_simple(Key::new("a"), 3)?;
-    if let Some(mut content) = outer.enter_shared(Key::new("p"), 6, Identity::from(1))? {
-        content.visit_simple(Key::new("Shared"), 13)?;
+    enter_fields(&mut outer)
+}
+
+/// Children of one node in falling order, and then once more in mixed order.
+const OUT_OF_ORDER: [&str; 20] = [
+    "j", "i", "h", "g", "f", "e", "d", "c", "b", "a", "d", "g", "j", "c", "f", "i", "b", "e", "h",
+    "a",
+];
+
+/// Enters one byte for each key.
+fn enter_each(root: &mut Visitor<'_>, keys: &[&'static str]) -> Result<(), Refusal> {
+    for key in keys {
+        enter_last(root, key, 1)?;
     }
     Ok(())
-}
-
-#[test]
-fn shared_entries_are_refused(rt: HostRuntime) -> Result<(), Refusal> {
-    let mut builder = new_builder(&rt, rt.alloc())?;
-    for _ in 0..2 {
-        let mut root = builder.root_visitor()?;
-        let entered = shared_pointer(&mut root);
-        root.exit();
-        if let Err(refusal) = entered {
-            return Err(has_failed(&rt, builder, refusal));
-        }
-    }
-    ends_with(
-        &rt,
-        builder,
-        "Shared 13\nStruct 2\nStruct;a 6\nStruct;p 12\n",
-        "",
-    )
-}
-
-/// Enters children of one node in falling order, and then once more in mixed order.
-fn out_of_order(root: &mut Visitor<'_>) -> Result<(), Refusal> {
-    for key in [
-        "j", "i", "h", "g", "f", "e", "d", "c", "b", "a", "d", "g", "j", "c", "f", "i", "b", "e",
-        "h", "a",
-    ] {
-        root.visit_simple(Key::new(key), 1)?;
-    }
-    Ok(())
-}
-
-#[test]
-fn entries_out_of_order_are_refused(rt: HostRuntime) -> Result<(), Refusal> {
-    let mut builder = new_builder(&rt, rt.alloc())?;
-    let mut root = builder.root_visitor()?;
-    let entered = out_of_order(&mut root);
-    root.exit();
-    if let Err(refusal) = entered {
-        return Err(has_failed(&rt, builder, refusal));
-    }
-    ends_with(
-        &rt,
-        builder,
-        "a 2\nb 2\nc 2\nd 2\ne 2\nf 2\ng 2\nh 2\ni 2\nj 2\n",
-        "",
-    )
-}
-
-#[test]
-fn warnings_are_refused(rt: HostRuntime) -> Result<(), Refusal> {
-    let mut builder = new_builder(&rt, rt.alloc())?;
-    let mut root = builder.root_visitor()?;
-    let entered = short_entry(&mut root);
-    root.exit();
-    if let Err(refusal) = entered {
-        return Err(has_failed(&rt, builder, refusal));
-    }
-    ends_with(
-        &rt,
-        builder,
-        "a;b 13\n",
-        "Incorrect size declaration for node `a`, size of self: 10, size of inline children: 13\n",
-    )
 }
 
 /// Enters `a 10 {b 13}`.
-fn short_entry(root: &mut Visitor<'_>) -> Result<(), Refusal> {
+fn enter_short(root: &mut Visitor<'_>) -> Result<(), Refusal> {
     let mut outer = root.enter(Key::new("a"), 10)?;
-    outer.visit_simple(Key::new("b"), 13)
+    enter_last(&mut outer, "b", 13)
+}
+
+/// What a test enters at a root visitor.
+#[derive(Clone, Copy)]
+enum Entries {
+    Owner,
+    Sharer,
+    OutOfOrder,
+    Short,
+}
+
+fn enter(builder: &mut FlameGraphBuilder, entries: Entries) -> Result<(), Refusal> {
+    let mut root = builder.root_visitor()?;
+    match entries {
+        Entries::Owner => enter_owner(&mut root),
+        Entries::Sharer => enter_sharer(&mut root),
+        Entries::OutOfOrder => enter_each(&mut root, &OUT_OF_ORDER),
+        Entries::Short => enter_short(&mut root),
+    }
+}
+
+/// Enters the same at each of several root visitors.
+fn enter_times(
+    builder: &mut FlameGraphBuilder,
+    entries: Entries,
+    times: usize,
+) -> Result<(), Refusal> {
+    for _ in 0..times {
+        enter(builder, entries)?;
+    }
+    Ok(())
+}
+
+/// Asserts what a builder is after entries: the text and the warnings of its graph, or that it has failed.
+fn assert_entered(
+    rt: &(impl Abort + AllocGlobal),
+    entries: Entries,
+    times: usize,
+    text: &str,
+    warnings: &str,
+) {
+    let mut builder = new_builder(rt);
+    match enter_times(&mut builder, entries, times) {
+        Ok(()) => assert_output(rt, builder.finish(), text, warnings),
+        Err(refusal) => has_failed(rt, builder, refusal),
+    }
 }
 
 #[test]
-fn a_root_is_refused(rt: HostRuntime) -> Result<(), Refusal> {
-    let mut builder = new_builder(&rt, rt.alloc())?;
-    if let Err(refusal) = builder.visit_root(&Some(7u32)) {
-        assert_eq!(rt; builder.visit_root(&1u8), Err(Refusal::Memory));
-        return Err(has_failed(&rt, builder, refusal));
+fn entries_are_refused(rt: HostRuntime) {
+    assert_entered(&rt, Entries::Owner, 1, "T;ptr 8\nT;ptr;u8 3\n", "");
+}
+
+#[test]
+fn shared_entries_are_refused(rt: HostRuntime) {
+    let text = "Shared 13\nStruct 2\nStruct;a 6\nStruct;p 12\n";
+    assert_entered(&rt, Entries::Sharer, 2, text, "");
+}
+
+#[test]
+fn entries_out_of_order_are_refused(rt: HostRuntime) {
+    let text = "a 2\nb 2\nc 2\nd 2\ne 2\nf 2\ng 2\nh 2\ni 2\nj 2\n";
+    assert_entered(&rt, Entries::OutOfOrder, 1, text, "");
+}
+
+#[test]
+fn warnings_are_refused(rt: HostRuntime) {
+    let warnings =
+        "Incorrect size declaration for node `a`, size of self: 10, size of inline children: 13\n";
+    assert_entered(&rt, Entries::Short, 1, "a;b 13\n", warnings);
+}
+
+/// Asserts the text of what a builder wrote, or that it was refused.
+fn assert_written(rt: &impl Abort, made: Result<String, Refusal>, want: &str) {
+    match made {
+        Ok(text) => assert_same(rt, text.as_str(), want),
+        Err(refusal) => assert_refused(rt, refusal),
     }
-    match builder.finish_and_write_flame_graph() {
-        Ok(text) => assert_eq!(rt; text.as_str(), "Option 4\nOption;Some;u32 4\n"),
-        Err(refusal) => {
-            assert_eq!(rt; refusal, Refusal::Memory);
-            return Err(refusal);
-        }
+}
+
+/// Asserts what a builder writes after a visit, or that it has failed.
+pub(crate) fn assert_visited(
+    rt: &impl Abort,
+    builder: FlameGraphBuilder,
+    visited: Result<(), Refusal>,
+    text: &str,
+) {
+    match visited {
+        Ok(()) => assert_written(rt, builder.finish_and_write_flame_graph(), text),
+        Err(refusal) => has_failed(rt, builder, refusal),
     }
-    Ok(())
+}
+
+#[test]
+fn a_root_is_refused(rt: HostRuntime) {
+    let mut builder = new_builder(&rt);
+    let visited = builder.visit_root(&Some(7u32));
+    assert_visited(&rt, builder, visited, "Option 4\nOption;Some;u32 4\n");
 }

@@ -1,23 +1,104 @@
 //! Graphs after a refused growth: unchanged, or a part of the sum.
+use crate::assertions::{assert_count, assert_refused, assert_text, written};
 use allocative::{Child, FlameGraph, Key, Refusal};
-use std::alloc::Global;
+use std::alloc::{AllocGlobal, Global};
+use std::process::Abort;
 
-/// A graph with two children of these sizes.
-fn pair(
-    alloc: Global,
-    first: (&'static str, usize),
-    second: (&'static str, usize),
-) -> Result<FlameGraph, Refusal> {
+/// The key and the size of a graph's child.
+type Size = (&'static str, usize);
+
+/// The text and the total of a graph.
+type Written = (&'static str, usize);
+
+/// A graph of this many bytes, without children.
+fn leaf(alloc: Global, size: usize) -> Result<FlameGraph, Refusal> {
     let mut graph = FlameGraph::default(alloc);
-    for (key, size) in [first, second] {
-        let mut child = FlameGraph::default(alloc);
-        child.add_self(size)?;
-        graph.add_child(Key::new(key), child)?;
-    }
+    graph.add_self(size)?;
     Ok(graph)
 }
 
-const PARTS_OF_THE_SUM: [(&str, usize); 4] = [
+fn child(alloc: Global, key: &'static str, size: usize) -> Result<Child, Refusal> {
+    Ok(Child {
+        key: Key::new(key),
+        graph: leaf(alloc, size)?,
+    })
+}
+
+fn try_children(alloc: Global, sizes: &[Size]) -> Result<Vec<Child>, Refusal> {
+    let mut children = Vec::new(alloc);
+    for size in sizes {
+        children.push(child(alloc, size.0, size.1)?)?;
+    }
+    Ok(children)
+}
+
+/// Children in this order. Where a growth is refused, they are made anew.
+fn children(rt: &(impl Abort + AllocGlobal), sizes: &[Size]) -> Vec<Child> {
+    match try_children(rt.alloc(), sizes) {
+        Ok(made) => made,
+        Err(refusal) => {
+            assert_refused(rt, refusal);
+            try_children(rt.alloc(), sizes).expect(rt, "children")
+        }
+    }
+}
+
+fn try_graph(alloc: Global, sizes: &[Size]) -> Result<FlameGraph, Refusal> {
+    let mut graph = FlameGraph::default(alloc);
+    graph.add_children(try_children(alloc, sizes)?)?;
+    Ok(graph)
+}
+
+/// A graph with these children. Where a growth is refused, it is made anew.
+fn graph(rt: &(impl Abort + AllocGlobal), sizes: &[Size]) -> FlameGraph {
+    match try_graph(rt.alloc(), sizes) {
+        Ok(made) => made,
+        Err(refusal) => {
+            assert_refused(rt, refusal);
+            try_graph(rt.alloc(), sizes).expect(rt, "a graph")
+        }
+    }
+}
+
+/// Whether a graph with this text and this total is one of these.
+fn is_one_of(graphs: &[Written], text: &str, total: usize) -> bool {
+    for graph in graphs {
+        if graph.1 == total && graph.0 == text {
+            return true;
+        }
+    }
+    false
+}
+
+fn assert_one_of(rt: &impl Abort, graph: &FlameGraph, wanted: &[Written]) {
+    let text = written(rt, graph);
+    assert!(rt; is_one_of(wanted, text.as_str(), graph.total_size()));
+}
+
+/// Asserts that a graph that was added to is the sum, or after an error one of the parts of the sum.
+fn assert_sum(
+    rt: &impl Abort,
+    graph: &FlameGraph,
+    added: Result<(), Refusal>,
+    sum: &[Written; 1],
+    parts: &[Written],
+) {
+    match added {
+        Ok(()) => assert_one_of(rt, graph, sum),
+        Err(refusal) => {
+            assert_refused(rt, refusal);
+            assert_one_of(rt, graph, parts);
+        }
+    }
+}
+
+const ONE_AND_TWO: [Size; 2] = [("a", 1), ("b", 2)];
+
+const THREE_AND_FOUR: [Size; 2] = [("b", 3), ("c", 4)];
+
+const SUM: [Written; 1] = [("a 1\nb 5\nc 4\n", 10)];
+
+const PARTS_OF_THE_SUM: [Written; 4] = [
     ("a 1\nb 2\n", 3),
     ("a 1\nb 5\n", 6),
     ("a 1\nb 2\nc 4\n", 7),
@@ -25,57 +106,33 @@ const PARTS_OF_THE_SUM: [(&str, usize); 4] = [
 ];
 
 #[test]
-fn adding_is_refused(rt: HostRuntime) -> Result<(), Refusal> {
-    let alloc = rt.alloc();
-    let mut graph = pair(alloc, ("a", 1), ("b", 2))?;
-    let more = pair(alloc, ("b", 3), ("c", 4))?;
-    if let Err(refusal) = graph.add(more) {
-        assert_eq!(rt; refusal, Refusal::Memory);
-        let text = graph.write()?;
-        let total = graph.total_size();
-        assert!(rt;
-            PARTS_OF_THE_SUM
-                .iter()
-                .any(|part| part.0 == text.as_str() && part.1 == total)
-        );
-        return Err(refusal);
-    }
-    assert_eq!(rt; graph.write()?.as_str(), "a 1\nb 5\nc 4\n");
-    assert_eq!(rt; graph.total_size(), 10);
-    Ok(())
+fn adding_is_refused(rt: HostRuntime) {
+    let mut sum = graph(&rt, &ONE_AND_TWO);
+    let added = sum.add(graph(&rt, &THREE_AND_FOUR));
+    assert_sum(&rt, &sum, added, &SUM, &PARTS_OF_THE_SUM);
 }
+
+const CHILD: [Written; 1] = [("k;a 1\nk;b 2\n", 3)];
+
+const NO_CHILD: [Written; 1] = [("", 0)];
 
 #[test]
-fn adding_a_child_is_refused(rt: HostRuntime) -> Result<(), Refusal> {
-    let alloc = rt.alloc();
-    let mut graph = FlameGraph::default(alloc);
-    let child = pair(alloc, ("a", 1), ("b", 2))?;
-    if let Err(refusal) = graph.add_child(Key::new("k"), child) {
-        assert_eq!(rt; refusal, Refusal::Memory);
-        assert_eq!(rt; graph.total_size(), 0);
-        return Err(refusal);
-    }
-    assert_eq!(rt; graph.write()?.as_str(), "k;a 1\nk;b 2\n");
-    Ok(())
+fn adding_a_child_is_refused(rt: HostRuntime) {
+    let mut sum = FlameGraph::default(rt.alloc());
+    let added = sum.add_child(Key::new("k"), graph(&rt, &ONE_AND_TWO));
+    assert_sum(&rt, &sum, added, &CHILD, &NO_CHILD);
 }
 
+const TWO_CHILDREN: [Size; 2] = [("d", 16), ("b", 2)];
+
 /// Four children out of order, two of them with the same key.
-fn many(alloc: Global) -> Result<Vec<Child>, Refusal> {
-    let mut children = Vec::new(alloc);
-    for (key, size) in [("c", 4), ("b", 3), ("a", 1), ("c", 8)] {
-        let mut graph = FlameGraph::default(alloc);
-        graph.add_self(size)?;
-        children.push(Child {
-            key: Key::new(key),
-            graph,
-        })?;
-    }
-    Ok(children)
-}
+const FOUR_CHILDREN: [Size; 4] = [("c", 4), ("b", 3), ("a", 1), ("c", 8)];
+
+const SUM_OF_MANY: [Written; 1] = [("a 1\nb 5\nc 12\nd 16\n", 34)];
 
 /// The graphs in which each path has its old size or that of the sum, from the old graph to the sum, with
 /// their totals.
-const PARTS_OF_MANY: [(&str, usize); 8] = [
+const PARTS_OF_MANY: [Written; 8] = [
     ("b 2\nd 16\n", 18),
     ("a 1\nb 2\nd 16\n", 19),
     ("b 5\nd 16\n", 21),
@@ -87,49 +144,22 @@ const PARTS_OF_MANY: [(&str, usize); 8] = [
 ];
 
 #[test]
-fn adding_many_children_is_refused(rt: HostRuntime) -> Result<(), Refusal> {
-    let alloc = rt.alloc();
-    let mut graph = pair(alloc, ("d", 16), ("b", 2))?;
-    let children = many(alloc)?;
-    if let Err(refusal) = graph.add_children(children) {
-        assert_eq!(rt; refusal, Refusal::Memory);
-        let text = graph.write()?;
-        let total = graph.total_size();
-        assert!(rt;
-            PARTS_OF_MANY
-                .iter()
-                .any(|part| part.0 == text.as_str() && part.1 == total)
-        );
-        return Err(refusal);
-    }
-    assert_eq!(rt; graph.write()?.as_str(), "a 1\nb 5\nc 12\nd 16\n");
-    assert_eq!(rt; graph.total_size(), 34);
-    Ok(())
+fn adding_many_children_is_refused(rt: HostRuntime) {
+    let mut sum = graph(&rt, &TWO_CHILDREN);
+    let added = sum.add_children(children(&rt, &FOUR_CHILDREN));
+    assert_sum(&rt, &sum, added, &SUM_OF_MANY, &PARTS_OF_MANY);
 }
 
 #[test]
-fn cloning_is_refused(rt: HostRuntime) -> Result<(), Refusal> {
-    let graph = pair(rt.alloc(), ("a", 1), ("b", 2))?;
-    match graph.clone() {
-        Ok(copy) => assert_eq!(rt; copy.total_size(), 3),
-        Err(_) => {
-            assert_eq!(rt; graph.write()?.as_str(), "a 1\nb 2\n");
-            return Err(Refusal::Memory);
-        }
+fn cloning_is_refused(rt: HostRuntime) {
+    let kept = graph(&rt, &ONE_AND_TWO);
+    match kept.clone() {
+        Ok(copy) => assert_count(&rt, copy.total_size(), 3),
+        Err(_) => assert_text(&rt, &kept, "a 1\nb 2\n"),
     }
-    Ok(())
 }
 
 #[test]
-fn writing_is_refused(rt: HostRuntime) -> Result<(), Refusal> {
-    let graph = pair(rt.alloc(), ("a", 1), ("b", 2))?;
-    match graph.write() {
-        Ok(text) => assert_eq!(rt; text.as_str(), "a 1\nb 2\n"),
-        Err(refusal) => {
-            assert_eq!(rt; refusal, Refusal::Memory);
-            assert_eq!(rt; graph.write()?.as_str(), "a 1\nb 2\n");
-            return Err(refusal);
-        }
-    }
-    Ok(())
+fn writing_is_refused(rt: HostRuntime) {
+    assert_text(&rt, &graph(&rt, &ONE_AND_TWO), "a 1\nb 2\n");
 }

@@ -1,7 +1,9 @@
-//! The calls of the JSON program after a refused growth: each fails with Memory alone, and a lent output is unchanged.
+//! The calls of the JSON program after a refused growth: Memory is their only fault, and a lent output is unchanged.
+use crate::assertions::assert_same;
 use allocative::{FlameGraphBuilder, FlameGraphOutput, Key, Registry, Visitor, profile_roots};
 use allocative_json::{Fault, Report, profile_json, read_roots, report};
-use std::alloc::Global;
+use std::alloc::{AllocGlobal, Global};
+use std::collections::BTreeSet;
 use std::process::Abort;
 
 const FAR_NUMBERS: &[u8] = b"[18446744073709551615,-9223372036854775808,18446744073709551615]";
@@ -12,32 +14,60 @@ const THREE_NUMBERS: &str =
 const SHORT_DATA: &str =
     "Incorrect size declaration for node `BTreeSet;data`, size of self: 8, size of inline children: 32\n";
 
+/// Asserts that a call was refused for want of memory.
+fn assert_fault(rt: &impl Abort, fault: Fault) {
+    assert!(rt; fault == Fault::Memory);
+}
+
 fn assert_texts(rt: &impl Abort, made: &Report, profile: &str, warnings: &str) {
-    assert_eq!(rt; made.profile.as_str(), profile);
-    assert_eq!(rt; made.warnings.as_str(), warnings);
+    assert_same(rt, made.profile.as_str(), profile);
+    assert_same(rt, made.warnings.as_str(), warnings);
+}
+
+/// The report of three numbers and of the set of them. Where a growth is refused, it is made anew.
+fn profiled(rt: &(impl Abort + AllocGlobal)) -> Report {
+    match profile_json(rt.alloc(), FAR_NUMBERS, true, true) {
+        Ok(made) => made,
+        Err(fault) => {
+            assert_fault(rt, fault);
+            profile_json(rt.alloc(), FAR_NUMBERS, true, true).expect(rt, "a report")
+        }
+    }
 }
 
 #[test]
-fn a_profile_of_json_is_refused(rt: HostRuntime) -> Result<(), Fault> {
-    let made = profile_json(rt.alloc(), FAR_NUMBERS, true, true)?;
-    assert_texts(&rt, &made, THREE_NUMBERS, SHORT_DATA);
-    Ok(())
+fn a_profile_of_json_is_refused(rt: HostRuntime) {
+    assert_texts(&rt, &profiled(&rt), THREE_NUMBERS, SHORT_DATA);
 }
 
-#[test]
-fn reading_roots_is_refused(rt: HostRuntime) -> Result<(), Fault> {
+fn try_numbers(alloc: Global) -> Result<BTreeSet<i128>, Fault> {
     let input = b"[1,[2,{\"a\":3,\"b\":[2,-4]}],{\"c\":1}]";
-    let (_document, numbers) = read_roots(rt.alloc(), input, true)?;
-    let numbers = numbers.ok_or(Fault::NotWhole)?;
-    assert_eq!(rt; numbers.len(), 4);
+    let (_document, numbers) = read_roots(alloc, input, true)?;
+    numbers.ok_or(Fault::NotWhole)
+}
+
+/// The whole numbers of a document. Where a growth is refused, it is read anew.
+fn numbers(rt: &(impl Abort + AllocGlobal)) -> BTreeSet<i128> {
+    match try_numbers(rt.alloc()) {
+        Ok(read) => read,
+        Err(fault) => {
+            assert_fault(rt, fault);
+            try_numbers(rt.alloc()).expect(rt, "numbers")
+        }
+    }
+}
+
+#[test]
+fn reading_roots_is_refused(rt: HostRuntime) {
+    let numbers = numbers(&rt);
+    assert!(rt; numbers.len() == 4);
     for number in [-4i128, 1, 2, 3] {
         assert!(rt; numbers.contains(&number));
     }
-    Ok(())
 }
 
 /// The profile of an input by roots that are boxed here.
-fn profile_boxed(alloc: Global, input: &[u8], index: bool) -> Result<FlameGraphOutput, Fault> {
+fn try_boxed(alloc: Global, input: &[u8], index: bool) -> Result<FlameGraphOutput, Fault> {
     let (document, numbers) = read_roots(alloc, input, index)?;
     let mut registry = Registry::new(alloc);
     if registry.register_root(Box::new(alloc, document)?).is_err() {
@@ -51,32 +81,38 @@ fn profile_boxed(alloc: Global, input: &[u8], index: bool) -> Result<FlameGraphO
     Ok(profile_roots(&registry)?)
 }
 
-/// Asserts the report of an output. Where a growth is refused, the same report is made once more.
-fn assert_report(
-    rt: &(impl Abort + AllocGlobal),
-    output: &FlameGraphOutput,
-    profile: &str,
-    warnings: &str,
-) -> Result<(), Fault> {
-    let first = report(rt.alloc(), output, true);
-    if let Err(fault) = first {
-        assert_eq!(rt; fault, Fault::Memory);
-        assert_texts(rt, &report(rt.alloc(), output, true)?, profile, warnings);
+/// The same. Where a growth is refused, it is made anew.
+fn profile_boxed(rt: &(impl Abort + AllocGlobal), input: &[u8], index: bool) -> FlameGraphOutput {
+    match try_boxed(rt.alloc(), input, index) {
+        Ok(output) => output,
+        Err(fault) => {
+            assert_fault(rt, fault);
+            try_boxed(rt.alloc(), input, index).expect(rt, "an output")
+        }
     }
-    assert_texts(rt, &first?, profile, warnings);
-    Ok(())
+}
+
+/// The report of an output without unused capacities. Where a growth is refused, the same output gives it anew.
+fn reported(rt: &(impl Abort + AllocGlobal), output: &FlameGraphOutput) -> Report {
+    match report(rt.alloc(), output, true) {
+        Ok(made) => made,
+        Err(fault) => {
+            assert_fault(rt, fault);
+            report(rt.alloc(), output, true).expect(rt, "a report")
+        }
+    }
 }
 
 #[test]
-fn a_report_of_a_boxed_document_is_refused(rt: HostRuntime) -> Result<(), Fault> {
-    let output = profile_boxed(rt.alloc(), b"true", false)?;
-    assert_report(&rt, &output, "Value 32\n", "")
+fn a_report_of_a_boxed_document_is_refused(rt: HostRuntime) {
+    let output = profile_boxed(&rt, b"true", false);
+    assert_texts(&rt, &reported(&rt, &output), "Value 32\n", "");
 }
 
 #[test]
-fn a_report_of_boxed_numbers_is_refused(rt: HostRuntime) -> Result<(), Fault> {
-    let output = profile_boxed(rt.alloc(), FAR_NUMBERS, true)?;
-    assert_report(&rt, &output, THREE_NUMBERS, SHORT_DATA)
+fn a_report_of_boxed_numbers_is_refused(rt: HostRuntime) {
+    let output = profile_boxed(&rt, FAR_NUMBERS, true);
+    assert_texts(&rt, &reported(&rt, &output), THREE_NUMBERS, SHORT_DATA);
 }
 
 /// Enters keys that have a `;`, a line feed or a space in them.
@@ -88,25 +124,43 @@ fn enter_odd_keys(root: &mut Visitor<'_>) -> Result<(), Fault> {
     Ok(())
 }
 
-#[test]
-fn a_report_without_some_lines_is_refused(rt: HostRuntime) -> Result<(), Fault> {
-    let mut builder = FlameGraphBuilder::new(rt.alloc())?;
+fn try_odd_keys(alloc: Global) -> Result<FlameGraphOutput, Fault> {
+    let mut builder = FlameGraphBuilder::new(alloc)?;
     let mut root = builder.root_visitor()?;
     let entered = enter_odd_keys(&mut root);
     root.exit();
     entered?;
-    let output = builder.finish()?;
-    assert_report(
-        &rt,
-        &output,
-        "b\nc unused_capacity 3\nunused_capacity\nd 4\n",
-        "",
-    )
+    Ok(builder.finish()?)
+}
+
+/// The profile of these keys. Where a growth is refused, it is made anew.
+fn odd_keys(rt: &(impl Abort + AllocGlobal)) -> FlameGraphOutput {
+    match try_odd_keys(rt.alloc()) {
+        Ok(output) => output,
+        Err(fault) => {
+            assert_fault(rt, fault);
+            try_odd_keys(rt.alloc()).expect(rt, "an output")
+        }
+    }
 }
 
 #[test]
-fn texts_of_faults_are_refused(rt: HostRuntime) -> Result<(), Fault> {
-    for (fault, line) in [
+fn a_report_without_some_lines_is_refused(rt: HostRuntime) {
+    let text = "b\nc unused_capacity 3\nunused_capacity\nd 4\n";
+    assert_texts(&rt, &reported(&rt, &odd_keys(&rt)), text, "");
+}
+
+/// The printed text of a fault. Where a growth is refused, it is printed anew.
+fn printed(rt: &(impl Abort + AllocGlobal), fault: Fault) -> String {
+    match format!(in rt.alloc(); "{fault}") {
+        Ok(text) => text,
+        Err(_) => format!(in rt.alloc(); "{fault}").expect(rt, "a text"),
+    }
+}
+
+#[test]
+fn texts_of_faults_are_refused(rt: HostRuntime) {
+    for (fault, text) in [
         (Fault::Memory, "out of memory"),
         (Fault::NotJson, "input is not JSON"),
         (Fault::NotWhole, "a number is not a 64-bit whole number"),
@@ -116,13 +170,6 @@ fn texts_of_faults_are_refused(rt: HostRuntime) -> Result<(), Fault> {
         (Fault::Writing, "cannot write output"),
         (Fault::Open, "a visitor was forgotten"),
     ] {
-        assert_line(&rt, fault, line)?;
+        assert_same(&rt, printed(&rt, fault).as_str(), text);
     }
-    Ok(())
-}
-
-fn assert_line(rt: &(impl Abort + AllocGlobal), fault: Fault, line: &str) -> Result<(), Fault> {
-    let text = format!(in rt.alloc(); "{fault}")?;
-    assert_eq!(rt; text.as_str(), line);
-    Ok(())
 }

@@ -1,7 +1,9 @@
 //! Tests that pass with enough memory and with any one growth refused. After an error each test asserts which
-//! error it is and what is left, and returns it.
+//! error it is and what is left, and that a call that can be made again succeeds then.
 #![tactic(auto)]
 
+#[cfg(test)]
+mod assertions;
 #[cfg(test)]
 mod builders;
 #[cfg(test)]

@@ -4,39 +4,32 @@
 ghost use Rattle.std.specs.Prelude.{codes, Some};
 ghost use Rattle.allocative.specs.Shows as shows;
 
+use crate::assertions::{assert_count, assert_output, assert_refused, assert_text, boxed};
+use crate::builders::{assert_visited, new_builder};
 use allocative::{
-    Allocative, Field, FlameGraphBuilder, IdArc, IdRc, Identity, Inside, Part, Refusal, Registry,
-    Visitor, profile_in_two, profile_roots,
+    Allocative, Field, IdArc, IdRc, Identity, Inside, Part, Refusal, Registry, Visitor,
+    profile_in_two, profile_roots,
 };
+use std::alloc::AllocGlobal;
 use std::collections::BTreeMap;
-use std::test::Fail;
+use std::process::Abort;
 
+/// A root that is refused is handed back. The others are still there, and it is registered then.
 #[test]
-fn registering_is_refused(rt: HostRuntime) -> Result<(), Fail> {
-    let alloc = rt.alloc();
-    let mut registry = Registry::new(alloc);
-    let number: Box<u32> = Box::new(alloc, 7)?;
-    let nothing: Box<Option<u32>> = Box::new(alloc, None)?;
-    if let Err(back) = registry.register_root(number) {
-        assert_eq!(rt; registry.roots().len(), 0);
+fn registering_is_refused(rt: HostRuntime) {
+    let mut registry = Registry::new(rt.alloc());
+    if let Err(back) = registry.register_root(boxed(&rt, 7u32)) {
+        assert_count(&rt, registry.roots().len(), 0);
         assert!(rt; registry.register_root(back).is_ok());
-        assert_eq!(rt; registry.roots().len(), 1);
-        return Err(Fail::from(Refusal::Memory));
     }
-    if let Err(back) = registry.register_root(nothing) {
-        assert_eq!(rt; registry.roots().len(), 1);
+    assert_count(&rt, registry.roots().len(), 1);
+    let nothing: Option<u32> = None;
+    if let Err(back) = registry.register_root(boxed(&rt, nothing)) {
+        assert_count(&rt, registry.roots().len(), 1);
         assert!(rt; registry.register_root(back).is_ok());
-        assert_eq!(rt; registry.roots().len(), 2);
-        return Err(Fail::from(Refusal::Memory));
     }
-    match profile_roots(&registry) {
-        Ok(output) => assert_eq!(rt; output.flamegraph().write()?.as_str(), "Option 8\nu32 4\n"),
-        Err(refusal) => {
-            assert_eq!(rt; refusal, Refusal::Memory);
-            return Err(Fail::from(refusal));
-        }
-    }
-    Ok(())
+    assert_count(&rt, registry.roots().len(), 2);
+    assert_output(&rt, profile_roots(&registry), "Option 8\nu32 4\n", "");
 }
 
 /// Shows `TestGlobalRoot 4 {x 4 {u32 4}}`.
@@ -55,78 +48,75 @@ impl Allocative for TestGlobalRoot {
     }
 }
 
-#[test]
-fn global_roots_are_refused(rt: HostRuntime) -> Result<(), Fail> {
-    let alloc = rt.alloc();
-    let mut registry = Registry::new(alloc);
-    registry.add_root(Box::new(alloc, TestGlobalRoot { x: 1 })?)?;
-    let mut builder = FlameGraphBuilder::new(alloc)?;
-    if let Err(refusal) = builder.visit_global_roots(&registry) {
-        assert_eq!(rt; refusal, Refusal::Memory);
-        assert_eq!(rt; builder.visit_root(&1u8), Err(Refusal::Memory));
-        assert!(rt; matches!(builder.finish(), Err(Refusal::Memory)));
-        return Err(Fail::from(refusal));
-    }
-    let text = builder.finish_and_write_flame_graph()?;
-    assert_eq!(rt; text.as_str(), "TestGlobalRoot;x;u32 4\n");
-    Ok(())
+/// Asserts that a root was refused, and that there is no other.
+fn assert_no_root(rt: &impl Abort, registry: &Registry, refusal: Refusal) {
+    assert_refused(rt, refusal);
+    assert_count(rt, registry.roots().len(), 0);
+}
+
+fn assert_global_roots(rt: &(impl Abort + AllocGlobal), registry: &Registry, text: &str) {
+    let mut builder = new_builder(rt);
+    let visited = builder.visit_global_roots(registry);
+    assert_visited(rt, builder, visited, text);
 }
 
 #[test]
-fn a_map_is_refused(rt: HostRuntime) -> Result<(), Fail> {
-    let alloc = rt.alloc();
-    let mut registry = Registry::new(alloc);
-    let mut map: BTreeMap<u64, u64> = BTreeMap::new(alloc);
-    map.insert(1, 2)?;
-    registry.add_root(Box::new(alloc, map)?)?;
-    match profile_roots(&registry) {
-        Ok(output) => {
-            assert_eq!(rt;
-                output.flamegraph().write()?.as_str(),
-                "BTreeMap 16\nBTreeMap;data;key;u64 8\nBTreeMap;data;value;u64 8\n"
-            );
-            assert_eq!(rt;
-                output.warnings()?.as_str(),
-                "Incorrect size declaration for node `BTreeMap;data`, size of self: 8, size of inline children: 16\n"
-            );
-        }
-        Err(refusal) => {
-            assert_eq!(rt; refusal, Refusal::Memory);
-            return Err(Fail::from(refusal));
-        }
+fn global_roots_are_refused(rt: HostRuntime) {
+    let mut registry = Registry::new(rt.alloc());
+    match registry.add_root(boxed(&rt, TestGlobalRoot { x: 1 })) {
+        Ok(()) => assert_global_roots(&rt, &registry, "TestGlobalRoot;x;u32 4\n"),
+        Err(refusal) => assert_no_root(&rt, &registry, refusal),
     }
-    Ok(())
+}
+
+/// A map of one pair. A refused insertion changes nothing.
+fn map_of_one(rt: &(impl Abort + AllocGlobal)) -> BTreeMap<u64, u64> {
+    let mut map = BTreeMap::new(rt.alloc());
+    if map.insert(1, 2).is_err() {
+        assert_count(rt, map.len(), 0);
+        assert!(rt; map.insert(1, 2).is_ok());
+    }
+    map
 }
 
 #[test]
-fn two_collections_are_refused(rt: HostRuntime) -> Result<(), Refusal> {
-    let left = [1u8, 2];
-    let right = [3u8];
-    match profile_in_two(rt.alloc(), &left, &right) {
-        Ok(graph) => assert_eq!(rt; graph.write()?.as_str(), "u8 3\n"),
-        Err(refusal) => {
-            assert_eq!(rt; refusal, Refusal::Memory);
-            return Err(refusal);
-        }
+fn a_map_is_refused(rt: HostRuntime) {
+    let mut registry = Registry::new(rt.alloc());
+    match registry.add_root(boxed(&rt, map_of_one(&rt))) {
+        Ok(()) => assert_output(
+            &rt,
+            profile_roots(&registry),
+            "BTreeMap 16\nBTreeMap;data;key;u64 8\nBTreeMap;data;value;u64 8\n",
+            "Incorrect size declaration for node `BTreeMap;data`, size of self: 8, size of inline children: 16\n",
+        ),
+        Err(refusal) => assert_no_root(&rt, &registry, refusal),
     }
-    Ok(())
 }
 
 #[test]
-fn shared_values_are_refused(rt: HostRuntime) -> Result<(), Refusal> {
-    match IdRc::new(rt.alloc(), 5u8, Identity::from(7)) {
-        Ok(value) => assert_eq!(rt; *value.get(), 5),
-        Err(refusal) => {
-            assert_eq!(rt; refusal, Refusal::Memory);
-            return Err(refusal);
-        }
+fn two_collections_are_refused(rt: HostRuntime) {
+    match profile_in_two(rt.alloc(), &[1u8, 2], &[3]) {
+        Ok(graph) => assert_text(&rt, &graph, "u8 3\n"),
+        Err(refusal) => assert_refused(&rt, refusal),
     }
-    match IdArc::new(rt.alloc(), 5u8, Identity::from(7)) {
-        Ok(value) => assert_eq!(rt; *value.get(), 5),
-        Err(refusal) => {
-            assert_eq!(rt; refusal, Refusal::Memory);
-            return Err(refusal);
-        }
+}
+
+fn assert_rc(rt: &(impl Abort + AllocGlobal)) {
+    match IdRc::new(rt.alloc(), 5usize, Identity::from(7)) {
+        Ok(value) => assert_count(rt, *value.get(), 5),
+        Err(refusal) => assert_refused(rt, refusal),
     }
-    Ok(())
+}
+
+fn assert_arc(rt: &(impl Abort + AllocGlobal)) {
+    match IdArc::new(rt.alloc(), 5usize, Identity::from(7)) {
+        Ok(value) => assert_count(rt, *value.get(), 5),
+        Err(refusal) => assert_refused(rt, refusal),
+    }
+}
+
+#[test]
+fn shared_values_are_refused(rt: HostRuntime) {
+    assert_rc(&rt);
+    assert_arc(&rt);
 }

@@ -1,5 +1,6 @@
 //! Profiles of values whose implementations `bin/implement` wrote.
 use crate::profiles::{Profile, expect};
+use implemented_types::nested::{Category, Chain, Chapter, Json, Note, Page, Tree};
 use implemented_types::placed::{Letter, Pair, Parcel, Post};
 use implemented_types::types::{
     Found, Mark, Named, Nowhere, OfEight, OfOne, OfTwenty, Point, Request, Route, Sextet, Table,
@@ -128,7 +129,7 @@ fn a_variant_of_five_fields(rt: HostRuntime) -> Result<(), Fail> {
 }
 
 #[test]
-fn a_size_that_was_not_written_is_warned_of(rt: HostRuntime) -> Result<(), Fail> {
+fn a_size_follows_from_the_parameters(rt: HostRuntime) -> Result<(), Fail> {
     let alloc = rt.alloc();
     let values: HashMap<u32, u16> = HashMap::new(alloc);
     let table = Table {
@@ -136,13 +137,16 @@ fn a_size_that_was_not_written_is_warned_of(rt: HostRuntime) -> Result<(), Fail>
         last: 1,
         spare: None,
     };
-    let want = Profile {
-        text: "Table;last;u16 2\nTable;spare;Option 4\nTable;values;HashMap 40\nTable;values;HashMap;data 8\n",
-        total: 54,
-        warnings: "Incorrect size declaration for node `Table`, size of self: 48, size of inline children: 54\n",
-        held: 0,
+    let text =
+        "Table 2\nTable;last;u16 2\nTable;spare;Option 4\nTable;values;HashMap 40\nTable;values;HashMap;data 8\n";
+    expect(&rt, alloc, &table, &Profile::new(text, 56))?;
+    let page: Page<u64> = Page {
+        items: Vec::new(alloc),
+        first: None,
+        total: 1,
     };
-    expect(&rt, alloc, &table, &want)
+    let text = "Page;first;Option 16\nPage;items;Vec 24\nPage;total;u64 8\n";
+    expect(&rt, alloc, &page, &Profile::new(text, 48))
 }
 
 #[test]
@@ -174,8 +178,8 @@ fn a_lifetime_and_a_number(rt: HostRuntime) -> Result<(), Fail> {
         counts: BTreeMap::new(alloc),
     };
     let text =
-        "Found;counts;BTreeMap 16\nFound;counts;BTreeMap;data 8\nFound;places;u32;data;u32 8\n";
-    expect(&rt, alloc, &found, &Profile::new(text, 32))
+        "Found 16\nFound;counts;BTreeMap 16\nFound;counts;BTreeMap;data 8\nFound;places;u32;data;u32 8\n";
+    expect(&rt, alloc, &found, &Profile::new(text, 48))
 }
 
 #[test]
@@ -185,8 +189,8 @@ fn implementations_in_place(rt: HostRuntime) -> Result<(), Fail> {
         first: 1u32,
         second: 2u32,
     };
-    let text = "Pair 8\nPair;first;u32 4\nPair;second;u32 4\n";
-    expect(&rt, alloc, &pair, &Profile::new(text, 16))?;
+    let text = "Pair;first;u32 4\nPair;second;u32 4\n";
+    expect(&rt, alloc, &pair, &Profile::new(text, 8))?;
     let post = Post::Sent {
         number: 7,
         name: String::new(alloc),
@@ -208,4 +212,74 @@ fn implementations_in_place(rt: HostRuntime) -> Result<(), Fail> {
     let text =
         "Parcel 3\nParcel;count;u32 4\nParcel;from;Letter 8\nParcel;from;Letter;name;String 16\nParcel;from;Letter;name;String;ptr 8\nParcel;from;Letter;number;u64 8\nParcel;is_open;bool 1\nParcel;limit;Option 16\nParcel;marks;Vec 24\nParcel;number;u64 8\n";
     expect(&rt, alloc, &parcel, &Profile::new(text, 96))
+}
+
+#[test]
+fn variants_of_an_enum_that_holds_itself(rt: HostRuntime) -> Result<(), Fail> {
+    let alloc = rt.alloc();
+    expect(&rt, alloc, &Json::Null, &Profile::new("Json 80\n", 80))?;
+    let list = Json::List(vec![in alloc; Json::Null]?);
+    let text = "Json 56\nJson;List;Vec 16\nJson;List;Vec;ptr 8\nJson;List;Vec;ptr;Json 80\n";
+    expect(&rt, alloc, &list, &Profile::holding(text, 160, 80))?;
+    let table = Json::Table(BTreeMap::new(alloc));
+    let text = "Json 56\nJson;Table;BTreeMap 16\nJson;Table;BTreeMap;data 8\n";
+    expect(&rt, alloc, &table, &Profile::new(text, 80))
+}
+
+#[test]
+fn values_in_boxes(rt: HostRuntime) -> Result<(), Fail> {
+    let alloc = rt.alloc();
+    let boxed = Json::Boxed(Box::new(alloc, Json::Bool(true))?);
+    let text =
+        "Json 72\nJson;Boxed;Box;ptr 8\nJson;Boxed;Box;ptr;Json 79\nJson;Boxed;Box;ptr;Json;Bool;bool 1\n";
+    expect(&rt, alloc, &boxed, &Profile::holding(text, 160, 80))?;
+    let left = Box::new(alloc, Tree::Leaf(1))?;
+    let right = Box::new(alloc, Tree::Leaf(2))?;
+    let text =
+        "Tree 8\nTree;0;Box;ptr 8\nTree;0;Box;ptr;Tree 16\nTree;0;Box;ptr;Tree;Leaf;u64 8\nTree;1;Box;ptr 8\nTree;1;Box;ptr;Tree 16\nTree;1;Box;ptr;Tree;Leaf;u64 8\n";
+    let fork = Tree::Fork(left, right);
+    expect(&rt, alloc, &fork, &Profile::holding(text, 72, 48))?;
+    let maybe = Json::Maybe {
+        first: None,
+        number: 5,
+    };
+    let text = "Json 60\nJson;first;Option 16\nJson;number;u32 4\n";
+    expect(&rt, alloc, &maybe, &Profile::new(text, 80))
+}
+
+#[test]
+fn structs_that_hold_themselves(rt: HostRuntime) -> Result<(), Fail> {
+    let alloc = rt.alloc();
+    let category = Category {
+        name: String::new(alloc),
+        children: Vec::new(alloc),
+        rank: None,
+        by_name: HashMap::new(alloc),
+    };
+    let text =
+        "Category;by_name;HashMap 40\nCategory;by_name;HashMap;data 8\nCategory;children;Vec 24\nCategory;name;String 16\nCategory;name;String;ptr 8\nCategory;rank;Option 16\n";
+    expect(&rt, alloc, &category, &Profile::new(text, 112))?;
+    let chain = Chain {
+        text: String::new(alloc),
+        next: None,
+    };
+    let text = "Chain;next;Option 16\nChain;text;String 16\nChain;text;String;ptr 8\n";
+    expect(&rt, alloc, &chain, &Profile::new(text, 40))
+}
+
+#[test]
+fn structs_that_hold_each_other(rt: HostRuntime) -> Result<(), Fail> {
+    let alloc = rt.alloc();
+    let chapter = Chapter {
+        title: String::new(alloc),
+        notes: Vec::new(alloc),
+    };
+    let text = "Chapter;notes;Vec 24\nChapter;title;String 16\nChapter;title;String;ptr 8\n";
+    expect(&rt, alloc, &chapter, &Profile::new(text, 48))?;
+    let note = Note {
+        chapters: Vec::new(alloc),
+        is_long: true,
+    };
+    let text = "Note 7\nNote;chapters;Vec 24\nNote;is_long;bool 1\n";
+    expect(&rt, alloc, &note, &Profile::new(text, 32))
 }

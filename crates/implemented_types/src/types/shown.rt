@@ -1,257 +1,278 @@
 //! What the types of `types` show. `bin/implement` of `allocative` wrote it.
 #![tactic(auto, using(allocative::proofs::Parts::parts))]
 
-ghost use Rattle.std.specs.Prelude.{codes, Some, true, false};
-ghost use Rattle.allocative.specs.Shows.{Nothing, Inside, Field, Both};
+ghost use Rattle.std.specs.Prelude.{codes, true, ◌&&◌};
+ghost use Rattle.allocative.specs.Shows as shows;
 
 use super::*;
-use allocative::{Allocative, Described, Field, Inside, Part, Refusal, Visitor};
+use allocative::{
+    Allocative, Declared, Described, Field, Inside, Or, Part, Record, Refusal, Visitor, Whole,
+};
+
+type OfOneLayout = Record<(u64, ())>;
 
 impl Described for OfOne {
     ghost name = { codes "OfOne" };
 
-    ghost align = { 8 };
+    ghost align = { ⟦<OfOneLayout as Described>⟧.align };
 
-    ghost needs_drop = { false };
+    ghost needs_drop = { ⟦<OfOneLayout as Described>⟧.needs_drop };
 
-    ghost size = { Some 8 };
+    ghost size = { ⟦<OfOneLayout as Described>⟧.size };
 
     fn name() -> &'static str {
         "OfOne"
     }
 
     fn align() -> usize {
-        8
+        <OfOneLayout>::align()
     }
 
     fn needs_drop() -> bool {
-        false
+        <OfOneLayout>::needs_drop()
     }
 
     fn size() -> Option<usize> {
-        Some(8)
+        <OfOneLayout>::size()
     }
 }
 
 impl Allocative for OfOne {
-    ghost may_show = { λ x. Inside (codes "OfOne") 8 (Field (codes "number") (Some 8) (⟦<u64 as Allocative>⟧.may_show x.number)) };
+    ghost may_show = { λ x. shows.Field (codes "OfOne") ⟦<OfOneLayout as Described>⟧.size
+        (shows.Field (codes "number") ⟦<u64 as Described>⟧.size (⟦<u64 as Allocative>⟧.may_show x.number)) };
+
+    ghost is_exact = { true };
 
     fn visit(&self, visitor: &mut Visitor<'_>) -> Result<(), Refusal> {
-        let a = Field("number", &self.number);
-        let key = "OfOne";
-        Inside(key, 8, a).enter(visitor)
+        let number = Field("number", &self.number);
+        Whole(self, number).enter(visitor)
     }
 }
+
+type OfTwoLayout = Record<(u64, (String, ()))>;
 
 impl Described for OfTwo {
     ghost name = { codes "OfTwo" };
 
-    ghost align = { 8 };
+    ghost align = { ⟦<OfTwoLayout as Described>⟧.align };
 
-    ghost needs_drop = { true };
+    ghost needs_drop = { ⟦<OfTwoLayout as Described>⟧.needs_drop };
 
-    ghost size = { Some 32 };
+    ghost size = { ⟦<OfTwoLayout as Described>⟧.size };
 
     fn name() -> &'static str {
         "OfTwo"
     }
 
     fn align() -> usize {
-        8
+        <OfTwoLayout>::align()
     }
 
     fn needs_drop() -> bool {
-        true
+        <OfTwoLayout>::needs_drop()
     }
 
     fn size() -> Option<usize> {
-        Some(32)
+        <OfTwoLayout>::size()
     }
 }
 
 impl Allocative for OfTwo {
-    ghost may_show = { λ x. Inside (codes "OfTwo") 32 (Both
-        (Field (codes "number") (Some 8) (⟦<u64 as Allocative>⟧.may_show x.number))
-        (Field (codes "name") (Some 24) (⟦<String as Allocative>⟧.may_show x.name))) };
+    ghost may_show = { λ x. shows.Field (codes "OfTwo") ⟦<OfTwoLayout as Described>⟧.size (shows.Both
+        (shows.Field (codes "number") ⟦<u64 as Described>⟧.size (⟦<u64 as Allocative>⟧.may_show x.number))
+        (shows.Field (codes "name") ⟦<String as Described>⟧.size (⟦<String as Allocative>⟧.may_show x.name))) };
+
+    ghost is_exact = { true };
 
     fn visit(&self, visitor: &mut Visitor<'_>) -> Result<(), Refusal> {
-        let a = Field("number", &self.number);
-        let b = Field("name", &self.name);
-        let key = "OfTwo";
-        Inside(key, 32, (a, b)).enter(visitor)
+        let number = Field("number", &self.number);
+        let name = Field("name", &self.name);
+        Whole(self, (number, name)).enter(visitor)
     }
 }
+
+type OfThreeLayout = Record<(u64, (String, (u32, ())))>;
 
 impl Described for OfThree {
     ghost name = { codes "OfThree" };
 
-    ghost align = { 8 };
+    ghost align = { ⟦<OfThreeLayout as Described>⟧.align };
 
-    ghost needs_drop = { true };
+    ghost needs_drop = { ⟦<OfThreeLayout as Described>⟧.needs_drop };
 
-    ghost size = { Some 40 };
+    ghost size = { ⟦<OfThreeLayout as Described>⟧.size };
 
     fn name() -> &'static str {
         "OfThree"
     }
 
     fn align() -> usize {
-        8
+        <OfThreeLayout>::align()
     }
 
     fn needs_drop() -> bool {
-        true
+        <OfThreeLayout>::needs_drop()
     }
 
     fn size() -> Option<usize> {
-        Some(40)
+        <OfThreeLayout>::size()
     }
 }
 
 impl Allocative for OfThree {
-    ghost may_show = { λ x. Inside (codes "OfThree") 40 (Both
-        (Field (codes "number") (Some 8) (⟦<u64 as Allocative>⟧.may_show x.number)) (Both
-        (Field (codes "name") (Some 24) (⟦<String as Allocative>⟧.may_show x.name))
-        (Field (codes "count") (Some 4) (⟦<u32 as Allocative>⟧.may_show x.count)))) };
+    ghost may_show = { λ x. shows.Field (codes "OfThree") ⟦<OfThreeLayout as Described>⟧.size (shows.Both
+        (shows.Field (codes "number") ⟦<u64 as Described>⟧.size (⟦<u64 as Allocative>⟧.may_show x.number)) (shows.Both
+        (shows.Field (codes "name") ⟦<String as Described>⟧.size (⟦<String as Allocative>⟧.may_show x.name))
+        (shows.Field (codes "count") ⟦<u32 as Described>⟧.size (⟦<u32 as Allocative>⟧.may_show x.count)))) };
+
+    ghost is_exact = { true };
 
     fn visit(&self, visitor: &mut Visitor<'_>) -> Result<(), Refusal> {
-        let a = Field("number", &self.number);
-        let b = Field("name", &self.name);
-        let c = Field("count", &self.count);
-        let key = "OfThree";
-        Inside(key, 40, (a, b, c)).enter(visitor)
+        let number = Field("number", &self.number);
+        let name = Field("name", &self.name);
+        let count = Field("count", &self.count);
+        Whole(self, (number, name, count)).enter(visitor)
     }
 }
+
+type OfFourLayout = Record<(u64, (String, (u32, (Vec<u32>, ()))))>;
 
 impl Described for OfFour {
     ghost name = { codes "OfFour" };
 
-    ghost align = { 8 };
+    ghost align = { ⟦<OfFourLayout as Described>⟧.align };
 
-    ghost needs_drop = { true };
+    ghost needs_drop = { ⟦<OfFourLayout as Described>⟧.needs_drop };
 
-    ghost size = { Some 64 };
+    ghost size = { ⟦<OfFourLayout as Described>⟧.size };
 
     fn name() -> &'static str {
         "OfFour"
     }
 
     fn align() -> usize {
-        8
+        <OfFourLayout>::align()
     }
 
     fn needs_drop() -> bool {
-        true
+        <OfFourLayout>::needs_drop()
     }
 
     fn size() -> Option<usize> {
-        Some(64)
+        <OfFourLayout>::size()
     }
 }
 
 impl Allocative for OfFour {
-    ghost may_show = { λ x. Inside (codes "OfFour") 64 (Both
-        (Field (codes "number") (Some 8) (⟦<u64 as Allocative>⟧.may_show x.number)) (Both
-        (Field (codes "name") (Some 24) (⟦<String as Allocative>⟧.may_show x.name)) (Both
-        (Field (codes "count") (Some 4) (⟦<u32 as Allocative>⟧.may_show x.count))
-        (Field (codes "marks") (Some 24) (⟦<Vec<u32> as Allocative>⟧.may_show x.marks))))) };
+    ghost may_show = { λ x. shows.Field (codes "OfFour") ⟦<OfFourLayout as Described>⟧.size (shows.Both
+        (shows.Field (codes "number") ⟦<u64 as Described>⟧.size (⟦<u64 as Allocative>⟧.may_show x.number)) (shows.Both
+        (shows.Field (codes "name") ⟦<String as Described>⟧.size (⟦<String as Allocative>⟧.may_show x.name)) (shows.Both
+        (shows.Field (codes "count") ⟦<u32 as Described>⟧.size (⟦<u32 as Allocative>⟧.may_show x.count))
+        (shows.Field (codes "marks") ⟦<Vec<u32> as Described>⟧.size (⟦<Vec<u32> as Allocative>⟧.may_show x.marks))))) };
+
+    ghost is_exact = { true };
 
     fn visit(&self, visitor: &mut Visitor<'_>) -> Result<(), Refusal> {
-        let a = Field("number", &self.number);
-        let b = Field("name", &self.name);
-        let c = Field("count", &self.count);
-        let d = Field("marks", &self.marks);
-        let key = "OfFour";
-        Inside(key, 64, (a, b, c, d)).enter(visitor)
+        let number = Field("number", &self.number);
+        let name = Field("name", &self.name);
+        let count = Field("count", &self.count);
+        let marks = Field("marks", &self.marks);
+        Whole(self, (number, name, count, marks)).enter(visitor)
     }
 }
+
+type OfFiveLayout = Record<(u64, (String, (u32, (Vec<u32>, (bool, ())))))>;
 
 impl Described for OfFive {
     ghost name = { codes "OfFive" };
 
-    ghost align = { 8 };
+    ghost align = { ⟦<OfFiveLayout as Described>⟧.align };
 
-    ghost needs_drop = { true };
+    ghost needs_drop = { ⟦<OfFiveLayout as Described>⟧.needs_drop };
 
-    ghost size = { Some 64 };
+    ghost size = { ⟦<OfFiveLayout as Described>⟧.size };
 
     fn name() -> &'static str {
         "OfFive"
     }
 
     fn align() -> usize {
-        8
+        <OfFiveLayout>::align()
     }
 
     fn needs_drop() -> bool {
-        true
+        <OfFiveLayout>::needs_drop()
     }
 
     fn size() -> Option<usize> {
-        Some(64)
+        <OfFiveLayout>::size()
     }
 }
 
 impl Allocative for OfFive {
-    ghost may_show = { λ x. Inside (codes "OfFive") 64 (Both
-        (Field (codes "number") (Some 8) (⟦<u64 as Allocative>⟧.may_show x.number)) (Both
-        (Field (codes "name") (Some 24) (⟦<String as Allocative>⟧.may_show x.name)) (Both
-        (Field (codes "count") (Some 4) (⟦<u32 as Allocative>⟧.may_show x.count)) (Both
-        (Field (codes "marks") (Some 24) (⟦<Vec<u32> as Allocative>⟧.may_show x.marks))
-        (Field (codes "is_open") (Some 1) (⟦<bool as Allocative>⟧.may_show x.is_open)))))) };
+    ghost may_show = { λ x. shows.Field (codes "OfFive") ⟦<OfFiveLayout as Described>⟧.size (shows.Both
+        (shows.Field (codes "number") ⟦<u64 as Described>⟧.size (⟦<u64 as Allocative>⟧.may_show x.number)) (shows.Both
+        (shows.Field (codes "name") ⟦<String as Described>⟧.size (⟦<String as Allocative>⟧.may_show x.name)) (shows.Both
+        (shows.Field (codes "count") ⟦<u32 as Described>⟧.size (⟦<u32 as Allocative>⟧.may_show x.count)) (shows.Both
+        (shows.Field (codes "marks") ⟦<Vec<u32> as Described>⟧.size (⟦<Vec<u32> as Allocative>⟧.may_show x.marks))
+        (shows.Field (codes "is_open") ⟦<bool as Described>⟧.size (⟦<bool as Allocative>⟧.may_show x.is_open)))))) };
+
+    ghost is_exact = { true };
 
     fn visit(&self, visitor: &mut Visitor<'_>) -> Result<(), Refusal> {
-        let a = Field("number", &self.number);
-        let b = Field("name", &self.name);
-        let c = Field("count", &self.count);
-        let d = Field("marks", &self.marks);
-        let e = Field("is_open", &self.is_open);
-        let key = "OfFive";
-        Inside(key, 64, (a, b, c, d, e)).enter(visitor)
+        let number = Field("number", &self.number);
+        let name = Field("name", &self.name);
+        let count = Field("count", &self.count);
+        let marks = Field("marks", &self.marks);
+        let is_open = Field("is_open", &self.is_open);
+        Whole(self, (number, name, count, marks, is_open)).enter(visitor)
     }
 }
+
+type OfSixLayout = Record<(u64, (String, (u32, (Vec<u32>, (bool, (Option<u64>, ()))))))>;
 
 impl Described for OfSix {
     ghost name = { codes "OfSix" };
 
-    ghost align = { 8 };
+    ghost align = { ⟦<OfSixLayout as Described>⟧.align };
 
-    ghost needs_drop = { true };
+    ghost needs_drop = { ⟦<OfSixLayout as Described>⟧.needs_drop };
 
-    ghost size = { Some 80 };
+    ghost size = { ⟦<OfSixLayout as Described>⟧.size };
 
     fn name() -> &'static str {
         "OfSix"
     }
 
     fn align() -> usize {
-        8
+        <OfSixLayout>::align()
     }
 
     fn needs_drop() -> bool {
-        true
+        <OfSixLayout>::needs_drop()
     }
 
     fn size() -> Option<usize> {
-        Some(80)
+        <OfSixLayout>::size()
     }
 }
 
 impl Allocative for OfSix {
-    ghost may_show = { λ x. Inside (codes "OfSix") 80 (Both
-        (Both
-        (Field (codes "number") (Some 8) (⟦<u64 as Allocative>⟧.may_show x.number)) (Both
-        (Field (codes "name") (Some 24) (⟦<String as Allocative>⟧.may_show x.name)) (Both
-        (Field (codes "count") (Some 4) (⟦<u32 as Allocative>⟧.may_show x.count)) (Both
-        (Field (codes "marks") (Some 24) (⟦<Vec<u32> as Allocative>⟧.may_show x.marks))
-        (Field (codes "is_open") (Some 1) (⟦<bool as Allocative>⟧.may_show x.is_open))))))
-        (Field (codes "limit") (Some 16) (⟦<Option<u64> as Allocative>⟧.may_show x.limit))) };
+    ghost may_show = { λ x. shows.Field (codes "OfSix") ⟦<OfSixLayout as Described>⟧.size (shows.Both
+        (shows.Both
+        (shows.Field (codes "number") ⟦<u64 as Described>⟧.size (⟦<u64 as Allocative>⟧.may_show x.number)) (shows.Both
+        (shows.Field (codes "name") ⟦<String as Described>⟧.size (⟦<String as Allocative>⟧.may_show x.name)) (shows.Both
+        (shows.Field (codes "count") ⟦<u32 as Described>⟧.size (⟦<u32 as Allocative>⟧.may_show x.count)) (shows.Both
+        (shows.Field (codes "marks") ⟦<Vec<u32> as Described>⟧.size (⟦<Vec<u32> as Allocative>⟧.may_show x.marks))
+        (shows.Field (codes "is_open") ⟦<bool as Described>⟧.size (⟦<bool as Allocative>⟧.may_show x.is_open))))))
+        (shows.Field (codes "limit") ⟦<Option<u64> as Described>⟧.size (⟦<Option<u64> as Allocative>⟧.may_show x.limit))) };
+
+    ghost is_exact = { true };
 
     fn visit(&self, visitor: &mut Visitor<'_>) -> Result<(), Refusal> {
-        let a = OfSixPart1(self);
-        let b = OfSixPart2(self);
-        let key = "OfSix";
-        Inside(key, 80, (a, b)).enter(visitor)
+        let part1 = OfSixPart1(self);
+        let part2 = OfSixPart2(self);
+        Whole(self, (part1, part2)).enter(visitor)
     }
 }
 
@@ -259,20 +280,22 @@ impl Allocative for OfSix {
 struct OfSixPart1<'part>(&'part OfSix);
 
 impl<'part> Part for OfSixPart1<'part> {
-    ghost may_show = { λ x. Both
-        (Field (codes "number") (Some 8) (⟦<u64 as Allocative>⟧.may_show x.0.now.number)) (Both
-        (Field (codes "name") (Some 24) (⟦<String as Allocative>⟧.may_show x.0.now.name)) (Both
-        (Field (codes "count") (Some 4) (⟦<u32 as Allocative>⟧.may_show x.0.now.count)) (Both
-        (Field (codes "marks") (Some 24) (⟦<Vec<u32> as Allocative>⟧.may_show x.0.now.marks))
-        (Field (codes "is_open") (Some 1) (⟦<bool as Allocative>⟧.may_show x.0.now.is_open))))) };
+    ghost may_show = { λ x. shows.Both
+        (shows.Field (codes "number") ⟦<u64 as Described>⟧.size (⟦<u64 as Allocative>⟧.may_show x.0.now.number)) (shows.Both
+        (shows.Field (codes "name") ⟦<String as Described>⟧.size (⟦<String as Allocative>⟧.may_show x.0.now.name)) (shows.Both
+        (shows.Field (codes "count") ⟦<u32 as Described>⟧.size (⟦<u32 as Allocative>⟧.may_show x.0.now.count)) (shows.Both
+        (shows.Field (codes "marks") ⟦<Vec<u32> as Described>⟧.size (⟦<Vec<u32> as Allocative>⟧.may_show x.0.now.marks))
+        (shows.Field (codes "is_open") ⟦<bool as Described>⟧.size (⟦<bool as Allocative>⟧.may_show x.0.now.is_open))))) };
+
+    ghost is_exact = { true };
 
     fn enter(self, visitor: &mut Visitor<'_>) -> Result<(), Refusal> {
-        let a = Field("number", &self.0.number);
-        let b = Field("name", &self.0.name);
-        let c = Field("count", &self.0.count);
-        let d = Field("marks", &self.0.marks);
-        let e = Field("is_open", &self.0.is_open);
-        (a, b, c, d, e).enter(visitor)
+        let number = Field("number", &self.0.number);
+        let name = Field("name", &self.0.name);
+        let count = Field("count", &self.0.count);
+        let marks = Field("marks", &self.0.marks);
+        let is_open = Field("is_open", &self.0.is_open);
+        (number, name, count, marks, is_open).enter(visitor)
     }
 }
 
@@ -280,57 +303,70 @@ impl<'part> Part for OfSixPart1<'part> {
 struct OfSixPart2<'part>(&'part OfSix);
 
 impl<'part> Part for OfSixPart2<'part> {
-    ghost may_show = { λ x. Field (codes "limit") (Some 16) (⟦<Option<u64> as Allocative>⟧.may_show x.0.now.limit) };
+    ghost may_show = { λ x. shows.Field (codes "limit") ⟦<Option<u64> as Described>⟧.size (⟦<Option<u64> as Allocative>⟧.may_show x.0.now.limit) };
+
+    ghost is_exact = { true };
 
     fn enter(self, visitor: &mut Visitor<'_>) -> Result<(), Refusal> {
-        let a = Field("limit", &self.0.limit);
-        a.enter(visitor)
+        let limit = Field("limit", &self.0.limit);
+        limit.enter(visitor)
     }
 }
+
+type OfSevenLayout = Record<
+    (
+        u64,
+        (
+            String,
+            (u32, (Vec<u32>, (bool, (Option<u64>, ((u32, u32), ()))))),
+        ),
+    ),
+>;
 
 impl Described for OfSeven {
     ghost name = { codes "OfSeven" };
 
-    ghost align = { 8 };
+    ghost align = { ⟦<OfSevenLayout as Described>⟧.align };
 
-    ghost needs_drop = { true };
+    ghost needs_drop = { ⟦<OfSevenLayout as Described>⟧.needs_drop };
 
-    ghost size = { Some 88 };
+    ghost size = { ⟦<OfSevenLayout as Described>⟧.size };
 
     fn name() -> &'static str {
         "OfSeven"
     }
 
     fn align() -> usize {
-        8
+        <OfSevenLayout>::align()
     }
 
     fn needs_drop() -> bool {
-        true
+        <OfSevenLayout>::needs_drop()
     }
 
     fn size() -> Option<usize> {
-        Some(88)
+        <OfSevenLayout>::size()
     }
 }
 
 impl Allocative for OfSeven {
-    ghost may_show = { λ x. Inside (codes "OfSeven") 88 (Both
-        (Both
-        (Field (codes "number") (Some 8) (⟦<u64 as Allocative>⟧.may_show x.number)) (Both
-        (Field (codes "name") (Some 24) (⟦<String as Allocative>⟧.may_show x.name)) (Both
-        (Field (codes "count") (Some 4) (⟦<u32 as Allocative>⟧.may_show x.count)) (Both
-        (Field (codes "marks") (Some 24) (⟦<Vec<u32> as Allocative>⟧.may_show x.marks))
-        (Field (codes "is_open") (Some 1) (⟦<bool as Allocative>⟧.may_show x.is_open))))))
-        (Both
-        (Field (codes "limit") (Some 16) (⟦<Option<u64> as Allocative>⟧.may_show x.limit))
-        (Field (codes "place") (Some 8) (⟦<(u32, u32) as Allocative>⟧.may_show x.place)))) };
+    ghost may_show = { λ x. shows.Field (codes "OfSeven") ⟦<OfSevenLayout as Described>⟧.size (shows.Both
+        (shows.Both
+        (shows.Field (codes "number") ⟦<u64 as Described>⟧.size (⟦<u64 as Allocative>⟧.may_show x.number)) (shows.Both
+        (shows.Field (codes "name") ⟦<String as Described>⟧.size (⟦<String as Allocative>⟧.may_show x.name)) (shows.Both
+        (shows.Field (codes "count") ⟦<u32 as Described>⟧.size (⟦<u32 as Allocative>⟧.may_show x.count)) (shows.Both
+        (shows.Field (codes "marks") ⟦<Vec<u32> as Described>⟧.size (⟦<Vec<u32> as Allocative>⟧.may_show x.marks))
+        (shows.Field (codes "is_open") ⟦<bool as Described>⟧.size (⟦<bool as Allocative>⟧.may_show x.is_open))))))
+        (shows.Both
+        (shows.Field (codes "limit") ⟦<Option<u64> as Described>⟧.size (⟦<Option<u64> as Allocative>⟧.may_show x.limit))
+        (shows.Field (codes "place") ⟦<(u32, u32) as Described>⟧.size (⟦<(u32, u32) as Allocative>⟧.may_show x.place)))) };
+
+    ghost is_exact = { true };
 
     fn visit(&self, visitor: &mut Visitor<'_>) -> Result<(), Refusal> {
-        let a = OfSevenPart1(self);
-        let b = OfSevenPart2(self);
-        let key = "OfSeven";
-        Inside(key, 88, (a, b)).enter(visitor)
+        let part1 = OfSevenPart1(self);
+        let part2 = OfSevenPart2(self);
+        Whole(self, (part1, part2)).enter(visitor)
     }
 }
 
@@ -338,20 +374,22 @@ impl Allocative for OfSeven {
 struct OfSevenPart1<'part>(&'part OfSeven);
 
 impl<'part> Part for OfSevenPart1<'part> {
-    ghost may_show = { λ x. Both
-        (Field (codes "number") (Some 8) (⟦<u64 as Allocative>⟧.may_show x.0.now.number)) (Both
-        (Field (codes "name") (Some 24) (⟦<String as Allocative>⟧.may_show x.0.now.name)) (Both
-        (Field (codes "count") (Some 4) (⟦<u32 as Allocative>⟧.may_show x.0.now.count)) (Both
-        (Field (codes "marks") (Some 24) (⟦<Vec<u32> as Allocative>⟧.may_show x.0.now.marks))
-        (Field (codes "is_open") (Some 1) (⟦<bool as Allocative>⟧.may_show x.0.now.is_open))))) };
+    ghost may_show = { λ x. shows.Both
+        (shows.Field (codes "number") ⟦<u64 as Described>⟧.size (⟦<u64 as Allocative>⟧.may_show x.0.now.number)) (shows.Both
+        (shows.Field (codes "name") ⟦<String as Described>⟧.size (⟦<String as Allocative>⟧.may_show x.0.now.name)) (shows.Both
+        (shows.Field (codes "count") ⟦<u32 as Described>⟧.size (⟦<u32 as Allocative>⟧.may_show x.0.now.count)) (shows.Both
+        (shows.Field (codes "marks") ⟦<Vec<u32> as Described>⟧.size (⟦<Vec<u32> as Allocative>⟧.may_show x.0.now.marks))
+        (shows.Field (codes "is_open") ⟦<bool as Described>⟧.size (⟦<bool as Allocative>⟧.may_show x.0.now.is_open))))) };
+
+    ghost is_exact = { true };
 
     fn enter(self, visitor: &mut Visitor<'_>) -> Result<(), Refusal> {
-        let a = Field("number", &self.0.number);
-        let b = Field("name", &self.0.name);
-        let c = Field("count", &self.0.count);
-        let d = Field("marks", &self.0.marks);
-        let e = Field("is_open", &self.0.is_open);
-        (a, b, c, d, e).enter(visitor)
+        let number = Field("number", &self.0.number);
+        let name = Field("name", &self.0.name);
+        let count = Field("count", &self.0.count);
+        let marks = Field("marks", &self.0.marks);
+        let is_open = Field("is_open", &self.0.is_open);
+        (number, name, count, marks, is_open).enter(visitor)
     }
 }
 
@@ -359,61 +397,77 @@ impl<'part> Part for OfSevenPart1<'part> {
 struct OfSevenPart2<'part>(&'part OfSeven);
 
 impl<'part> Part for OfSevenPart2<'part> {
-    ghost may_show = { λ x. Both
-        (Field (codes "limit") (Some 16) (⟦<Option<u64> as Allocative>⟧.may_show x.0.now.limit))
-        (Field (codes "place") (Some 8) (⟦<(u32, u32) as Allocative>⟧.may_show x.0.now.place)) };
+    ghost may_show = { λ x. shows.Both
+        (shows.Field (codes "limit") ⟦<Option<u64> as Described>⟧.size (⟦<Option<u64> as Allocative>⟧.may_show x.0.now.limit))
+        (shows.Field (codes "place") ⟦<(u32, u32) as Described>⟧.size (⟦<(u32, u32) as Allocative>⟧.may_show x.0.now.place)) };
+
+    ghost is_exact = { true };
 
     fn enter(self, visitor: &mut Visitor<'_>) -> Result<(), Refusal> {
-        let a = Field("limit", &self.0.limit);
-        let b = Field("place", &self.0.place);
-        (a, b).enter(visitor)
+        let limit = Field("limit", &self.0.limit);
+        let place = Field("place", &self.0.place);
+        (limit, place).enter(visitor)
     }
 }
+
+type OfEightLayout = Record<
+    (
+        u64,
+        (
+            String,
+            (
+                u32,
+                (Vec<u32>, (bool, (Option<u64>, ((u32, u32), (u16, ()))))),
+            ),
+        ),
+    ),
+>;
 
 impl Described for OfEight {
     ghost name = { codes "OfEight" };
 
-    ghost align = { 8 };
+    ghost align = { ⟦<OfEightLayout as Described>⟧.align };
 
-    ghost needs_drop = { true };
+    ghost needs_drop = { ⟦<OfEightLayout as Described>⟧.needs_drop };
 
-    ghost size = { Some 88 };
+    ghost size = { ⟦<OfEightLayout as Described>⟧.size };
 
     fn name() -> &'static str {
         "OfEight"
     }
 
     fn align() -> usize {
-        8
+        <OfEightLayout>::align()
     }
 
     fn needs_drop() -> bool {
-        true
+        <OfEightLayout>::needs_drop()
     }
 
     fn size() -> Option<usize> {
-        Some(88)
+        <OfEightLayout>::size()
     }
 }
 
 impl Allocative for OfEight {
-    ghost may_show = { λ x. Inside (codes "OfEight") 88 (Both
-        (Both
-        (Field (codes "number") (Some 8) (⟦<u64 as Allocative>⟧.may_show x.number)) (Both
-        (Field (codes "name") (Some 24) (⟦<String as Allocative>⟧.may_show x.name)) (Both
-        (Field (codes "count") (Some 4) (⟦<u32 as Allocative>⟧.may_show x.count)) (Both
-        (Field (codes "marks") (Some 24) (⟦<Vec<u32> as Allocative>⟧.may_show x.marks))
-        (Field (codes "is_open") (Some 1) (⟦<bool as Allocative>⟧.may_show x.is_open))))))
-        (Both
-        (Field (codes "limit") (Some 16) (⟦<Option<u64> as Allocative>⟧.may_show x.limit)) (Both
-        (Field (codes "place") (Some 8) (⟦<(u32, u32) as Allocative>⟧.may_show x.place))
-        (Field (codes "width") (Some 2) (⟦<u16 as Allocative>⟧.may_show x.width))))) };
+    ghost may_show = { λ x. shows.Field (codes "OfEight") ⟦<OfEightLayout as Described>⟧.size (shows.Both
+        (shows.Both
+        (shows.Field (codes "number") ⟦<u64 as Described>⟧.size (⟦<u64 as Allocative>⟧.may_show x.number)) (shows.Both
+        (shows.Field (codes "name") ⟦<String as Described>⟧.size (⟦<String as Allocative>⟧.may_show x.name)) (shows.Both
+        (shows.Field (codes "count") ⟦<u32 as Described>⟧.size (⟦<u32 as Allocative>⟧.may_show x.count)) (shows.Both
+        (shows.Field (codes "marks") ⟦<Vec<u32> as Described>⟧.size (⟦<Vec<u32> as Allocative>⟧.may_show x.marks))
+        (shows.Field (codes "is_open") ⟦<bool as Described>⟧.size (⟦<bool as Allocative>⟧.may_show x.is_open))))))
+        (shows.Both
+        (shows.Field (codes "limit") ⟦<Option<u64> as Described>⟧.size (⟦<Option<u64> as Allocative>⟧.may_show x.limit)) (shows.Both
+        (shows.Field (codes "place") ⟦<(u32, u32) as Described>⟧.size (⟦<(u32, u32) as Allocative>⟧.may_show x.place))
+        (shows.Field (codes "width") ⟦<u16 as Described>⟧.size (⟦<u16 as Allocative>⟧.may_show x.width))))) };
+
+    ghost is_exact = { true };
 
     fn visit(&self, visitor: &mut Visitor<'_>) -> Result<(), Refusal> {
-        let a = OfEightPart1(self);
-        let b = OfEightPart2(self);
-        let key = "OfEight";
-        Inside(key, 88, (a, b)).enter(visitor)
+        let part1 = OfEightPart1(self);
+        let part2 = OfEightPart2(self);
+        Whole(self, (part1, part2)).enter(visitor)
     }
 }
 
@@ -421,20 +475,22 @@ impl Allocative for OfEight {
 struct OfEightPart1<'part>(&'part OfEight);
 
 impl<'part> Part for OfEightPart1<'part> {
-    ghost may_show = { λ x. Both
-        (Field (codes "number") (Some 8) (⟦<u64 as Allocative>⟧.may_show x.0.now.number)) (Both
-        (Field (codes "name") (Some 24) (⟦<String as Allocative>⟧.may_show x.0.now.name)) (Both
-        (Field (codes "count") (Some 4) (⟦<u32 as Allocative>⟧.may_show x.0.now.count)) (Both
-        (Field (codes "marks") (Some 24) (⟦<Vec<u32> as Allocative>⟧.may_show x.0.now.marks))
-        (Field (codes "is_open") (Some 1) (⟦<bool as Allocative>⟧.may_show x.0.now.is_open))))) };
+    ghost may_show = { λ x. shows.Both
+        (shows.Field (codes "number") ⟦<u64 as Described>⟧.size (⟦<u64 as Allocative>⟧.may_show x.0.now.number)) (shows.Both
+        (shows.Field (codes "name") ⟦<String as Described>⟧.size (⟦<String as Allocative>⟧.may_show x.0.now.name)) (shows.Both
+        (shows.Field (codes "count") ⟦<u32 as Described>⟧.size (⟦<u32 as Allocative>⟧.may_show x.0.now.count)) (shows.Both
+        (shows.Field (codes "marks") ⟦<Vec<u32> as Described>⟧.size (⟦<Vec<u32> as Allocative>⟧.may_show x.0.now.marks))
+        (shows.Field (codes "is_open") ⟦<bool as Described>⟧.size (⟦<bool as Allocative>⟧.may_show x.0.now.is_open))))) };
+
+    ghost is_exact = { true };
 
     fn enter(self, visitor: &mut Visitor<'_>) -> Result<(), Refusal> {
-        let a = Field("number", &self.0.number);
-        let b = Field("name", &self.0.name);
-        let c = Field("count", &self.0.count);
-        let d = Field("marks", &self.0.marks);
-        let e = Field("is_open", &self.0.is_open);
-        (a, b, c, d, e).enter(visitor)
+        let number = Field("number", &self.0.number);
+        let name = Field("name", &self.0.name);
+        let count = Field("count", &self.0.count);
+        let marks = Field("marks", &self.0.marks);
+        let is_open = Field("is_open", &self.0.is_open);
+        (number, name, count, marks, is_open).enter(visitor)
     }
 }
 
@@ -442,67 +498,86 @@ impl<'part> Part for OfEightPart1<'part> {
 struct OfEightPart2<'part>(&'part OfEight);
 
 impl<'part> Part for OfEightPart2<'part> {
-    ghost may_show = { λ x. Both
-        (Field (codes "limit") (Some 16) (⟦<Option<u64> as Allocative>⟧.may_show x.0.now.limit)) (Both
-        (Field (codes "place") (Some 8) (⟦<(u32, u32) as Allocative>⟧.may_show x.0.now.place))
-        (Field (codes "width") (Some 2) (⟦<u16 as Allocative>⟧.may_show x.0.now.width))) };
+    ghost may_show = { λ x. shows.Both
+        (shows.Field (codes "limit") ⟦<Option<u64> as Described>⟧.size (⟦<Option<u64> as Allocative>⟧.may_show x.0.now.limit)) (shows.Both
+        (shows.Field (codes "place") ⟦<(u32, u32) as Described>⟧.size (⟦<(u32, u32) as Allocative>⟧.may_show x.0.now.place))
+        (shows.Field (codes "width") ⟦<u16 as Described>⟧.size (⟦<u16 as Allocative>⟧.may_show x.0.now.width))) };
+
+    ghost is_exact = { true };
 
     fn enter(self, visitor: &mut Visitor<'_>) -> Result<(), Refusal> {
-        let a = Field("limit", &self.0.limit);
-        let b = Field("place", &self.0.place);
-        let c = Field("width", &self.0.width);
-        (a, b, c).enter(visitor)
+        let limit = Field("limit", &self.0.limit);
+        let place = Field("place", &self.0.place);
+        let width = Field("width", &self.0.width);
+        (limit, place, width).enter(visitor)
     }
 }
+
+type OfElevenLayout = Record<
+    (
+        u64,
+        (
+            u32,
+            (
+                u32,
+                (
+                    Vec<u32>,
+                    (u32, (u32, ((u32, u32), (u32, (u32, (String, (u32, ()))))))),
+                ),
+            ),
+        ),
+    ),
+>;
 
 impl Described for OfEleven {
     ghost name = { codes "OfEleven" };
 
-    ghost align = { 8 };
+    ghost align = { ⟦<OfElevenLayout as Described>⟧.align };
 
-    ghost needs_drop = { true };
+    ghost needs_drop = { ⟦<OfElevenLayout as Described>⟧.needs_drop };
 
-    ghost size = { Some 96 };
+    ghost size = { ⟦<OfElevenLayout as Described>⟧.size };
 
     fn name() -> &'static str {
         "OfEleven"
     }
 
     fn align() -> usize {
-        8
+        <OfElevenLayout>::align()
     }
 
     fn needs_drop() -> bool {
-        true
+        <OfElevenLayout>::needs_drop()
     }
 
     fn size() -> Option<usize> {
-        Some(96)
+        <OfElevenLayout>::size()
     }
 }
 
 impl Allocative for OfEleven {
-    ghost may_show = { λ x. Inside (codes "OfEleven") 96 (Both
-        (Both
-        (Field (codes "number") (Some 8) (⟦<u64 as Allocative>⟧.may_show x.number)) (Both
-        (Field (codes "name") (Some 4) (⟦<u32 as Allocative>⟧.may_show x.name)) (Both
-        (Field (codes "count") (Some 4) (⟦<u32 as Allocative>⟧.may_show x.count)) (Both
-        (Field (codes "marks") (Some 24) (⟦<Vec<u32> as Allocative>⟧.may_show x.marks))
-        (Field (codes "is_open") (Some 4) (⟦<u32 as Allocative>⟧.may_show x.is_open)))))) (Both
-        (Both
-        (Field (codes "limit") (Some 4) (⟦<u32 as Allocative>⟧.may_show x.limit)) (Both
-        (Field (codes "place") (Some 8) (⟦<(u32, u32) as Allocative>⟧.may_show x.place)) (Both
-        (Field (codes "width") (Some 4) (⟦<u32 as Allocative>⟧.may_show x.width)) (Both
-        (Field (codes "height") (Some 4) (⟦<u32 as Allocative>⟧.may_show x.height))
-        (Field (codes "depth") (Some 24) (⟦<String as Allocative>⟧.may_show x.depth))))))
-        (Field (codes "label") (Some 4) (⟦<u32 as Allocative>⟧.may_show x.label)))) };
+    ghost may_show = { λ x. shows.Field (codes "OfEleven") ⟦<OfElevenLayout as Described>⟧.size (shows.Both
+        (shows.Both
+        (shows.Field (codes "number") ⟦<u64 as Described>⟧.size (⟦<u64 as Allocative>⟧.may_show x.number)) (shows.Both
+        (shows.Field (codes "name") ⟦<u32 as Described>⟧.size (⟦<u32 as Allocative>⟧.may_show x.name)) (shows.Both
+        (shows.Field (codes "count") ⟦<u32 as Described>⟧.size (⟦<u32 as Allocative>⟧.may_show x.count)) (shows.Both
+        (shows.Field (codes "marks") ⟦<Vec<u32> as Described>⟧.size (⟦<Vec<u32> as Allocative>⟧.may_show x.marks))
+        (shows.Field (codes "is_open") ⟦<u32 as Described>⟧.size (⟦<u32 as Allocative>⟧.may_show x.is_open)))))) (shows.Both
+        (shows.Both
+        (shows.Field (codes "limit") ⟦<u32 as Described>⟧.size (⟦<u32 as Allocative>⟧.may_show x.limit)) (shows.Both
+        (shows.Field (codes "place") ⟦<(u32, u32) as Described>⟧.size (⟦<(u32, u32) as Allocative>⟧.may_show x.place)) (shows.Both
+        (shows.Field (codes "width") ⟦<u32 as Described>⟧.size (⟦<u32 as Allocative>⟧.may_show x.width)) (shows.Both
+        (shows.Field (codes "height") ⟦<u32 as Described>⟧.size (⟦<u32 as Allocative>⟧.may_show x.height))
+        (shows.Field (codes "depth") ⟦<String as Described>⟧.size (⟦<String as Allocative>⟧.may_show x.depth))))))
+        (shows.Field (codes "label") ⟦<u32 as Described>⟧.size (⟦<u32 as Allocative>⟧.may_show x.label)))) };
+
+    ghost is_exact = { true };
 
     fn visit(&self, visitor: &mut Visitor<'_>) -> Result<(), Refusal> {
-        let a = OfElevenPart1(self);
-        let b = OfElevenPart2(self);
-        let c = OfElevenPart3(self);
-        let key = "OfEleven";
-        Inside(key, 96, (a, b, c)).enter(visitor)
+        let part1 = OfElevenPart1(self);
+        let part2 = OfElevenPart2(self);
+        let part3 = OfElevenPart3(self);
+        Whole(self, (part1, part2, part3)).enter(visitor)
     }
 }
 
@@ -510,20 +585,22 @@ impl Allocative for OfEleven {
 struct OfElevenPart1<'part>(&'part OfEleven);
 
 impl<'part> Part for OfElevenPart1<'part> {
-    ghost may_show = { λ x. Both
-        (Field (codes "number") (Some 8) (⟦<u64 as Allocative>⟧.may_show x.0.now.number)) (Both
-        (Field (codes "name") (Some 4) (⟦<u32 as Allocative>⟧.may_show x.0.now.name)) (Both
-        (Field (codes "count") (Some 4) (⟦<u32 as Allocative>⟧.may_show x.0.now.count)) (Both
-        (Field (codes "marks") (Some 24) (⟦<Vec<u32> as Allocative>⟧.may_show x.0.now.marks))
-        (Field (codes "is_open") (Some 4) (⟦<u32 as Allocative>⟧.may_show x.0.now.is_open))))) };
+    ghost may_show = { λ x. shows.Both
+        (shows.Field (codes "number") ⟦<u64 as Described>⟧.size (⟦<u64 as Allocative>⟧.may_show x.0.now.number)) (shows.Both
+        (shows.Field (codes "name") ⟦<u32 as Described>⟧.size (⟦<u32 as Allocative>⟧.may_show x.0.now.name)) (shows.Both
+        (shows.Field (codes "count") ⟦<u32 as Described>⟧.size (⟦<u32 as Allocative>⟧.may_show x.0.now.count)) (shows.Both
+        (shows.Field (codes "marks") ⟦<Vec<u32> as Described>⟧.size (⟦<Vec<u32> as Allocative>⟧.may_show x.0.now.marks))
+        (shows.Field (codes "is_open") ⟦<u32 as Described>⟧.size (⟦<u32 as Allocative>⟧.may_show x.0.now.is_open))))) };
+
+    ghost is_exact = { true };
 
     fn enter(self, visitor: &mut Visitor<'_>) -> Result<(), Refusal> {
-        let a = Field("number", &self.0.number);
-        let b = Field("name", &self.0.name);
-        let c = Field("count", &self.0.count);
-        let d = Field("marks", &self.0.marks);
-        let e = Field("is_open", &self.0.is_open);
-        (a, b, c, d, e).enter(visitor)
+        let number = Field("number", &self.0.number);
+        let name = Field("name", &self.0.name);
+        let count = Field("count", &self.0.count);
+        let marks = Field("marks", &self.0.marks);
+        let is_open = Field("is_open", &self.0.is_open);
+        (number, name, count, marks, is_open).enter(visitor)
     }
 }
 
@@ -531,20 +608,22 @@ impl<'part> Part for OfElevenPart1<'part> {
 struct OfElevenPart2<'part>(&'part OfEleven);
 
 impl<'part> Part for OfElevenPart2<'part> {
-    ghost may_show = { λ x. Both
-        (Field (codes "limit") (Some 4) (⟦<u32 as Allocative>⟧.may_show x.0.now.limit)) (Both
-        (Field (codes "place") (Some 8) (⟦<(u32, u32) as Allocative>⟧.may_show x.0.now.place)) (Both
-        (Field (codes "width") (Some 4) (⟦<u32 as Allocative>⟧.may_show x.0.now.width)) (Both
-        (Field (codes "height") (Some 4) (⟦<u32 as Allocative>⟧.may_show x.0.now.height))
-        (Field (codes "depth") (Some 24) (⟦<String as Allocative>⟧.may_show x.0.now.depth))))) };
+    ghost may_show = { λ x. shows.Both
+        (shows.Field (codes "limit") ⟦<u32 as Described>⟧.size (⟦<u32 as Allocative>⟧.may_show x.0.now.limit)) (shows.Both
+        (shows.Field (codes "place") ⟦<(u32, u32) as Described>⟧.size (⟦<(u32, u32) as Allocative>⟧.may_show x.0.now.place)) (shows.Both
+        (shows.Field (codes "width") ⟦<u32 as Described>⟧.size (⟦<u32 as Allocative>⟧.may_show x.0.now.width)) (shows.Both
+        (shows.Field (codes "height") ⟦<u32 as Described>⟧.size (⟦<u32 as Allocative>⟧.may_show x.0.now.height))
+        (shows.Field (codes "depth") ⟦<String as Described>⟧.size (⟦<String as Allocative>⟧.may_show x.0.now.depth))))) };
+
+    ghost is_exact = { true };
 
     fn enter(self, visitor: &mut Visitor<'_>) -> Result<(), Refusal> {
-        let a = Field("limit", &self.0.limit);
-        let b = Field("place", &self.0.place);
-        let c = Field("width", &self.0.width);
-        let d = Field("height", &self.0.height);
-        let e = Field("depth", &self.0.depth);
-        (a, b, c, d, e).enter(visitor)
+        let limit = Field("limit", &self.0.limit);
+        let place = Field("place", &self.0.place);
+        let width = Field("width", &self.0.width);
+        let height = Field("height", &self.0.height);
+        let depth = Field("depth", &self.0.depth);
+        (limit, place, width, height, depth).enter(visitor)
     }
 }
 
@@ -552,65 +631,90 @@ impl<'part> Part for OfElevenPart2<'part> {
 struct OfElevenPart3<'part>(&'part OfEleven);
 
 impl<'part> Part for OfElevenPart3<'part> {
-    ghost may_show = { λ x. Field (codes "label") (Some 4) (⟦<u32 as Allocative>⟧.may_show x.0.now.label) };
+    ghost may_show = { λ x. shows.Field (codes "label") ⟦<u32 as Described>⟧.size (⟦<u32 as Allocative>⟧.may_show x.0.now.label) };
+
+    ghost is_exact = { true };
 
     fn enter(self, visitor: &mut Visitor<'_>) -> Result<(), Refusal> {
-        let a = Field("label", &self.0.label);
-        a.enter(visitor)
+        let label = Field("label", &self.0.label);
+        label.enter(visitor)
     }
 }
+
+type OfThirteenLayout = Record<
+    (
+        u64,
+        (
+            u32,
+            (
+                u32,
+                (
+                    Vec<u32>,
+                    (
+                        u32,
+                        (
+                            u32,
+                            ((u32, u32), (u32, (u32, (String, (u32, (u32, (bool, ()))))))),
+                        ),
+                    ),
+                ),
+            ),
+        ),
+    ),
+>;
 
 impl Described for OfThirteen {
     ghost name = { codes "OfThirteen" };
 
-    ghost align = { 8 };
+    ghost align = { ⟦<OfThirteenLayout as Described>⟧.align };
 
-    ghost needs_drop = { true };
+    ghost needs_drop = { ⟦<OfThirteenLayout as Described>⟧.needs_drop };
 
-    ghost size = { Some 104 };
+    ghost size = { ⟦<OfThirteenLayout as Described>⟧.size };
 
     fn name() -> &'static str {
         "OfThirteen"
     }
 
     fn align() -> usize {
-        8
+        <OfThirteenLayout>::align()
     }
 
     fn needs_drop() -> bool {
-        true
+        <OfThirteenLayout>::needs_drop()
     }
 
     fn size() -> Option<usize> {
-        Some(104)
+        <OfThirteenLayout>::size()
     }
 }
 
 impl Allocative for OfThirteen {
-    ghost may_show = { λ x. Inside (codes "OfThirteen") 104 (Both
-        (Both
-        (Field (codes "number") (Some 8) (⟦<u64 as Allocative>⟧.may_show x.number)) (Both
-        (Field (codes "name") (Some 4) (⟦<u32 as Allocative>⟧.may_show x.name)) (Both
-        (Field (codes "count") (Some 4) (⟦<u32 as Allocative>⟧.may_show x.count)) (Both
-        (Field (codes "marks") (Some 24) (⟦<Vec<u32> as Allocative>⟧.may_show x.marks))
-        (Field (codes "is_open") (Some 4) (⟦<u32 as Allocative>⟧.may_show x.is_open)))))) (Both
-        (Both
-        (Field (codes "limit") (Some 4) (⟦<u32 as Allocative>⟧.may_show x.limit)) (Both
-        (Field (codes "place") (Some 8) (⟦<(u32, u32) as Allocative>⟧.may_show x.place)) (Both
-        (Field (codes "width") (Some 4) (⟦<u32 as Allocative>⟧.may_show x.width)) (Both
-        (Field (codes "height") (Some 4) (⟦<u32 as Allocative>⟧.may_show x.height))
-        (Field (codes "depth") (Some 24) (⟦<String as Allocative>⟧.may_show x.depth))))))
-        (Both
-        (Field (codes "label") (Some 4) (⟦<u32 as Allocative>⟧.may_show x.label)) (Both
-        (Field (codes "price") (Some 4) (⟦<u32 as Allocative>⟧.may_show x.price))
-        (Field (codes "seller") (Some 1) (⟦<bool as Allocative>⟧.may_show x.seller)))))) };
+    ghost may_show = { λ x. shows.Field (codes "OfThirteen") ⟦<OfThirteenLayout as Described>⟧.size (shows.Both
+        (shows.Both
+        (shows.Field (codes "number") ⟦<u64 as Described>⟧.size (⟦<u64 as Allocative>⟧.may_show x.number)) (shows.Both
+        (shows.Field (codes "name") ⟦<u32 as Described>⟧.size (⟦<u32 as Allocative>⟧.may_show x.name)) (shows.Both
+        (shows.Field (codes "count") ⟦<u32 as Described>⟧.size (⟦<u32 as Allocative>⟧.may_show x.count)) (shows.Both
+        (shows.Field (codes "marks") ⟦<Vec<u32> as Described>⟧.size (⟦<Vec<u32> as Allocative>⟧.may_show x.marks))
+        (shows.Field (codes "is_open") ⟦<u32 as Described>⟧.size (⟦<u32 as Allocative>⟧.may_show x.is_open)))))) (shows.Both
+        (shows.Both
+        (shows.Field (codes "limit") ⟦<u32 as Described>⟧.size (⟦<u32 as Allocative>⟧.may_show x.limit)) (shows.Both
+        (shows.Field (codes "place") ⟦<(u32, u32) as Described>⟧.size (⟦<(u32, u32) as Allocative>⟧.may_show x.place)) (shows.Both
+        (shows.Field (codes "width") ⟦<u32 as Described>⟧.size (⟦<u32 as Allocative>⟧.may_show x.width)) (shows.Both
+        (shows.Field (codes "height") ⟦<u32 as Described>⟧.size (⟦<u32 as Allocative>⟧.may_show x.height))
+        (shows.Field (codes "depth") ⟦<String as Described>⟧.size (⟦<String as Allocative>⟧.may_show x.depth))))))
+        (shows.Both
+        (shows.Field (codes "label") ⟦<u32 as Described>⟧.size (⟦<u32 as Allocative>⟧.may_show x.label)) (shows.Both
+        (shows.Field (codes "price") ⟦<u32 as Described>⟧.size (⟦<u32 as Allocative>⟧.may_show x.price))
+        (shows.Field (codes "seller") ⟦<bool as Described>⟧.size (⟦<bool as Allocative>⟧.may_show x.seller)))))) };
+
+    ghost is_exact = { true };
 
     fn visit(&self, visitor: &mut Visitor<'_>) -> Result<(), Refusal> {
-        let a = OfThirteenPart1(self);
-        let b = OfThirteenPart2(self);
-        let c = OfThirteenPart3(self);
-        let key = "OfThirteen";
-        Inside(key, 104, (a, b, c)).enter(visitor)
+        let part1 = OfThirteenPart1(self);
+        let part2 = OfThirteenPart2(self);
+        let part3 = OfThirteenPart3(self);
+        Whole(self, (part1, part2, part3)).enter(visitor)
     }
 }
 
@@ -618,20 +722,22 @@ impl Allocative for OfThirteen {
 struct OfThirteenPart1<'part>(&'part OfThirteen);
 
 impl<'part> Part for OfThirteenPart1<'part> {
-    ghost may_show = { λ x. Both
-        (Field (codes "number") (Some 8) (⟦<u64 as Allocative>⟧.may_show x.0.now.number)) (Both
-        (Field (codes "name") (Some 4) (⟦<u32 as Allocative>⟧.may_show x.0.now.name)) (Both
-        (Field (codes "count") (Some 4) (⟦<u32 as Allocative>⟧.may_show x.0.now.count)) (Both
-        (Field (codes "marks") (Some 24) (⟦<Vec<u32> as Allocative>⟧.may_show x.0.now.marks))
-        (Field (codes "is_open") (Some 4) (⟦<u32 as Allocative>⟧.may_show x.0.now.is_open))))) };
+    ghost may_show = { λ x. shows.Both
+        (shows.Field (codes "number") ⟦<u64 as Described>⟧.size (⟦<u64 as Allocative>⟧.may_show x.0.now.number)) (shows.Both
+        (shows.Field (codes "name") ⟦<u32 as Described>⟧.size (⟦<u32 as Allocative>⟧.may_show x.0.now.name)) (shows.Both
+        (shows.Field (codes "count") ⟦<u32 as Described>⟧.size (⟦<u32 as Allocative>⟧.may_show x.0.now.count)) (shows.Both
+        (shows.Field (codes "marks") ⟦<Vec<u32> as Described>⟧.size (⟦<Vec<u32> as Allocative>⟧.may_show x.0.now.marks))
+        (shows.Field (codes "is_open") ⟦<u32 as Described>⟧.size (⟦<u32 as Allocative>⟧.may_show x.0.now.is_open))))) };
+
+    ghost is_exact = { true };
 
     fn enter(self, visitor: &mut Visitor<'_>) -> Result<(), Refusal> {
-        let a = Field("number", &self.0.number);
-        let b = Field("name", &self.0.name);
-        let c = Field("count", &self.0.count);
-        let d = Field("marks", &self.0.marks);
-        let e = Field("is_open", &self.0.is_open);
-        (a, b, c, d, e).enter(visitor)
+        let number = Field("number", &self.0.number);
+        let name = Field("name", &self.0.name);
+        let count = Field("count", &self.0.count);
+        let marks = Field("marks", &self.0.marks);
+        let is_open = Field("is_open", &self.0.is_open);
+        (number, name, count, marks, is_open).enter(visitor)
     }
 }
 
@@ -639,20 +745,22 @@ impl<'part> Part for OfThirteenPart1<'part> {
 struct OfThirteenPart2<'part>(&'part OfThirteen);
 
 impl<'part> Part for OfThirteenPart2<'part> {
-    ghost may_show = { λ x. Both
-        (Field (codes "limit") (Some 4) (⟦<u32 as Allocative>⟧.may_show x.0.now.limit)) (Both
-        (Field (codes "place") (Some 8) (⟦<(u32, u32) as Allocative>⟧.may_show x.0.now.place)) (Both
-        (Field (codes "width") (Some 4) (⟦<u32 as Allocative>⟧.may_show x.0.now.width)) (Both
-        (Field (codes "height") (Some 4) (⟦<u32 as Allocative>⟧.may_show x.0.now.height))
-        (Field (codes "depth") (Some 24) (⟦<String as Allocative>⟧.may_show x.0.now.depth))))) };
+    ghost may_show = { λ x. shows.Both
+        (shows.Field (codes "limit") ⟦<u32 as Described>⟧.size (⟦<u32 as Allocative>⟧.may_show x.0.now.limit)) (shows.Both
+        (shows.Field (codes "place") ⟦<(u32, u32) as Described>⟧.size (⟦<(u32, u32) as Allocative>⟧.may_show x.0.now.place)) (shows.Both
+        (shows.Field (codes "width") ⟦<u32 as Described>⟧.size (⟦<u32 as Allocative>⟧.may_show x.0.now.width)) (shows.Both
+        (shows.Field (codes "height") ⟦<u32 as Described>⟧.size (⟦<u32 as Allocative>⟧.may_show x.0.now.height))
+        (shows.Field (codes "depth") ⟦<String as Described>⟧.size (⟦<String as Allocative>⟧.may_show x.0.now.depth))))) };
+
+    ghost is_exact = { true };
 
     fn enter(self, visitor: &mut Visitor<'_>) -> Result<(), Refusal> {
-        let a = Field("limit", &self.0.limit);
-        let b = Field("place", &self.0.place);
-        let c = Field("width", &self.0.width);
-        let d = Field("height", &self.0.height);
-        let e = Field("depth", &self.0.depth);
-        (a, b, c, d, e).enter(visitor)
+        let limit = Field("limit", &self.0.limit);
+        let place = Field("place", &self.0.place);
+        let width = Field("width", &self.0.width);
+        let height = Field("height", &self.0.height);
+        let depth = Field("depth", &self.0.depth);
+        (limit, place, width, height, depth).enter(visitor)
     }
 }
 
@@ -660,74 +768,105 @@ impl<'part> Part for OfThirteenPart2<'part> {
 struct OfThirteenPart3<'part>(&'part OfThirteen);
 
 impl<'part> Part for OfThirteenPart3<'part> {
-    ghost may_show = { λ x. Both
-        (Field (codes "label") (Some 4) (⟦<u32 as Allocative>⟧.may_show x.0.now.label)) (Both
-        (Field (codes "price") (Some 4) (⟦<u32 as Allocative>⟧.may_show x.0.now.price))
-        (Field (codes "seller") (Some 1) (⟦<bool as Allocative>⟧.may_show x.0.now.seller))) };
+    ghost may_show = { λ x. shows.Both
+        (shows.Field (codes "label") ⟦<u32 as Described>⟧.size (⟦<u32 as Allocative>⟧.may_show x.0.now.label)) (shows.Both
+        (shows.Field (codes "price") ⟦<u32 as Described>⟧.size (⟦<u32 as Allocative>⟧.may_show x.0.now.price))
+        (shows.Field (codes "seller") ⟦<bool as Described>⟧.size (⟦<bool as Allocative>⟧.may_show x.0.now.seller))) };
+
+    ghost is_exact = { true };
 
     fn enter(self, visitor: &mut Visitor<'_>) -> Result<(), Refusal> {
-        let a = Field("label", &self.0.label);
-        let b = Field("price", &self.0.price);
-        let c = Field("seller", &self.0.seller);
-        (a, b, c).enter(visitor)
+        let label = Field("label", &self.0.label);
+        let price = Field("price", &self.0.price);
+        let seller = Field("seller", &self.0.seller);
+        (label, price, seller).enter(visitor)
     }
 }
+
+type OfSixteenLayout = Record<
+    (
+        u64,
+        (
+            u32,
+            (
+                u32,
+                (
+                    Vec<u32>,
+                    (
+                        u32,
+                        (
+                            u32,
+                            (
+                                (u32, u32),
+                                (
+                                    u32,
+                                    (u32, (String, (u32, (u32, (bool, (u32, (u32, (u16, ())))))))),
+                                ),
+                            ),
+                        ),
+                    ),
+                ),
+            ),
+        ),
+    ),
+>;
 
 impl Described for OfSixteen {
     ghost name = { codes "OfSixteen" };
 
-    ghost align = { 8 };
+    ghost align = { ⟦<OfSixteenLayout as Described>⟧.align };
 
-    ghost needs_drop = { true };
+    ghost needs_drop = { ⟦<OfSixteenLayout as Described>⟧.needs_drop };
 
-    ghost size = { Some 112 };
+    ghost size = { ⟦<OfSixteenLayout as Described>⟧.size };
 
     fn name() -> &'static str {
         "OfSixteen"
     }
 
     fn align() -> usize {
-        8
+        <OfSixteenLayout>::align()
     }
 
     fn needs_drop() -> bool {
-        true
+        <OfSixteenLayout>::needs_drop()
     }
 
     fn size() -> Option<usize> {
-        Some(112)
+        <OfSixteenLayout>::size()
     }
 }
 
 impl Allocative for OfSixteen {
-    ghost may_show = { λ x. Inside (codes "OfSixteen") 112 (Both
-        (Both
-        (Field (codes "number") (Some 8) (⟦<u64 as Allocative>⟧.may_show x.number)) (Both
-        (Field (codes "name") (Some 4) (⟦<u32 as Allocative>⟧.may_show x.name)) (Both
-        (Field (codes "count") (Some 4) (⟦<u32 as Allocative>⟧.may_show x.count)) (Both
-        (Field (codes "marks") (Some 24) (⟦<Vec<u32> as Allocative>⟧.may_show x.marks))
-        (Field (codes "is_open") (Some 4) (⟦<u32 as Allocative>⟧.may_show x.is_open)))))) (Both
-        (Both
-        (Field (codes "limit") (Some 4) (⟦<u32 as Allocative>⟧.may_show x.limit)) (Both
-        (Field (codes "place") (Some 8) (⟦<(u32, u32) as Allocative>⟧.may_show x.place)) (Both
-        (Field (codes "width") (Some 4) (⟦<u32 as Allocative>⟧.may_show x.width)) (Both
-        (Field (codes "height") (Some 4) (⟦<u32 as Allocative>⟧.may_show x.height))
-        (Field (codes "depth") (Some 24) (⟦<String as Allocative>⟧.may_show x.depth)))))) (Both
-        (Both
-        (Field (codes "label") (Some 4) (⟦<u32 as Allocative>⟧.may_show x.label)) (Both
-        (Field (codes "price") (Some 4) (⟦<u32 as Allocative>⟧.may_show x.price)) (Both
-        (Field (codes "seller") (Some 1) (⟦<bool as Allocative>⟧.may_show x.seller)) (Both
-        (Field (codes "is_paid") (Some 4) (⟦<u32 as Allocative>⟧.may_show x.is_paid))
-        (Field (codes "weight") (Some 4) (⟦<u32 as Allocative>⟧.may_show x.weight))))))
-        (Field (codes "colour") (Some 2) (⟦<u16 as Allocative>⟧.may_show x.colour))))) };
+    ghost may_show = { λ x. shows.Field (codes "OfSixteen") ⟦<OfSixteenLayout as Described>⟧.size (shows.Both
+        (shows.Both
+        (shows.Field (codes "number") ⟦<u64 as Described>⟧.size (⟦<u64 as Allocative>⟧.may_show x.number)) (shows.Both
+        (shows.Field (codes "name") ⟦<u32 as Described>⟧.size (⟦<u32 as Allocative>⟧.may_show x.name)) (shows.Both
+        (shows.Field (codes "count") ⟦<u32 as Described>⟧.size (⟦<u32 as Allocative>⟧.may_show x.count)) (shows.Both
+        (shows.Field (codes "marks") ⟦<Vec<u32> as Described>⟧.size (⟦<Vec<u32> as Allocative>⟧.may_show x.marks))
+        (shows.Field (codes "is_open") ⟦<u32 as Described>⟧.size (⟦<u32 as Allocative>⟧.may_show x.is_open)))))) (shows.Both
+        (shows.Both
+        (shows.Field (codes "limit") ⟦<u32 as Described>⟧.size (⟦<u32 as Allocative>⟧.may_show x.limit)) (shows.Both
+        (shows.Field (codes "place") ⟦<(u32, u32) as Described>⟧.size (⟦<(u32, u32) as Allocative>⟧.may_show x.place)) (shows.Both
+        (shows.Field (codes "width") ⟦<u32 as Described>⟧.size (⟦<u32 as Allocative>⟧.may_show x.width)) (shows.Both
+        (shows.Field (codes "height") ⟦<u32 as Described>⟧.size (⟦<u32 as Allocative>⟧.may_show x.height))
+        (shows.Field (codes "depth") ⟦<String as Described>⟧.size (⟦<String as Allocative>⟧.may_show x.depth)))))) (shows.Both
+        (shows.Both
+        (shows.Field (codes "label") ⟦<u32 as Described>⟧.size (⟦<u32 as Allocative>⟧.may_show x.label)) (shows.Both
+        (shows.Field (codes "price") ⟦<u32 as Described>⟧.size (⟦<u32 as Allocative>⟧.may_show x.price)) (shows.Both
+        (shows.Field (codes "seller") ⟦<bool as Described>⟧.size (⟦<bool as Allocative>⟧.may_show x.seller)) (shows.Both
+        (shows.Field (codes "is_paid") ⟦<u32 as Described>⟧.size (⟦<u32 as Allocative>⟧.may_show x.is_paid))
+        (shows.Field (codes "weight") ⟦<u32 as Described>⟧.size (⟦<u32 as Allocative>⟧.may_show x.weight))))))
+        (shows.Field (codes "colour") ⟦<u16 as Described>⟧.size (⟦<u16 as Allocative>⟧.may_show x.colour))))) };
+
+    ghost is_exact = { true };
 
     fn visit(&self, visitor: &mut Visitor<'_>) -> Result<(), Refusal> {
-        let a = OfSixteenPart1(self);
-        let b = OfSixteenPart2(self);
-        let c = OfSixteenPart3(self);
-        let d = OfSixteenPart4(self);
-        let key = "OfSixteen";
-        Inside(key, 112, (a, b, c, d)).enter(visitor)
+        let part1 = OfSixteenPart1(self);
+        let part2 = OfSixteenPart2(self);
+        let part3 = OfSixteenPart3(self);
+        let part4 = OfSixteenPart4(self);
+        Whole(self, (part1, part2, part3, part4)).enter(visitor)
     }
 }
 
@@ -735,20 +874,22 @@ impl Allocative for OfSixteen {
 struct OfSixteenPart1<'part>(&'part OfSixteen);
 
 impl<'part> Part for OfSixteenPart1<'part> {
-    ghost may_show = { λ x. Both
-        (Field (codes "number") (Some 8) (⟦<u64 as Allocative>⟧.may_show x.0.now.number)) (Both
-        (Field (codes "name") (Some 4) (⟦<u32 as Allocative>⟧.may_show x.0.now.name)) (Both
-        (Field (codes "count") (Some 4) (⟦<u32 as Allocative>⟧.may_show x.0.now.count)) (Both
-        (Field (codes "marks") (Some 24) (⟦<Vec<u32> as Allocative>⟧.may_show x.0.now.marks))
-        (Field (codes "is_open") (Some 4) (⟦<u32 as Allocative>⟧.may_show x.0.now.is_open))))) };
+    ghost may_show = { λ x. shows.Both
+        (shows.Field (codes "number") ⟦<u64 as Described>⟧.size (⟦<u64 as Allocative>⟧.may_show x.0.now.number)) (shows.Both
+        (shows.Field (codes "name") ⟦<u32 as Described>⟧.size (⟦<u32 as Allocative>⟧.may_show x.0.now.name)) (shows.Both
+        (shows.Field (codes "count") ⟦<u32 as Described>⟧.size (⟦<u32 as Allocative>⟧.may_show x.0.now.count)) (shows.Both
+        (shows.Field (codes "marks") ⟦<Vec<u32> as Described>⟧.size (⟦<Vec<u32> as Allocative>⟧.may_show x.0.now.marks))
+        (shows.Field (codes "is_open") ⟦<u32 as Described>⟧.size (⟦<u32 as Allocative>⟧.may_show x.0.now.is_open))))) };
+
+    ghost is_exact = { true };
 
     fn enter(self, visitor: &mut Visitor<'_>) -> Result<(), Refusal> {
-        let a = Field("number", &self.0.number);
-        let b = Field("name", &self.0.name);
-        let c = Field("count", &self.0.count);
-        let d = Field("marks", &self.0.marks);
-        let e = Field("is_open", &self.0.is_open);
-        (a, b, c, d, e).enter(visitor)
+        let number = Field("number", &self.0.number);
+        let name = Field("name", &self.0.name);
+        let count = Field("count", &self.0.count);
+        let marks = Field("marks", &self.0.marks);
+        let is_open = Field("is_open", &self.0.is_open);
+        (number, name, count, marks, is_open).enter(visitor)
     }
 }
 
@@ -756,20 +897,22 @@ impl<'part> Part for OfSixteenPart1<'part> {
 struct OfSixteenPart2<'part>(&'part OfSixteen);
 
 impl<'part> Part for OfSixteenPart2<'part> {
-    ghost may_show = { λ x. Both
-        (Field (codes "limit") (Some 4) (⟦<u32 as Allocative>⟧.may_show x.0.now.limit)) (Both
-        (Field (codes "place") (Some 8) (⟦<(u32, u32) as Allocative>⟧.may_show x.0.now.place)) (Both
-        (Field (codes "width") (Some 4) (⟦<u32 as Allocative>⟧.may_show x.0.now.width)) (Both
-        (Field (codes "height") (Some 4) (⟦<u32 as Allocative>⟧.may_show x.0.now.height))
-        (Field (codes "depth") (Some 24) (⟦<String as Allocative>⟧.may_show x.0.now.depth))))) };
+    ghost may_show = { λ x. shows.Both
+        (shows.Field (codes "limit") ⟦<u32 as Described>⟧.size (⟦<u32 as Allocative>⟧.may_show x.0.now.limit)) (shows.Both
+        (shows.Field (codes "place") ⟦<(u32, u32) as Described>⟧.size (⟦<(u32, u32) as Allocative>⟧.may_show x.0.now.place)) (shows.Both
+        (shows.Field (codes "width") ⟦<u32 as Described>⟧.size (⟦<u32 as Allocative>⟧.may_show x.0.now.width)) (shows.Both
+        (shows.Field (codes "height") ⟦<u32 as Described>⟧.size (⟦<u32 as Allocative>⟧.may_show x.0.now.height))
+        (shows.Field (codes "depth") ⟦<String as Described>⟧.size (⟦<String as Allocative>⟧.may_show x.0.now.depth))))) };
+
+    ghost is_exact = { true };
 
     fn enter(self, visitor: &mut Visitor<'_>) -> Result<(), Refusal> {
-        let a = Field("limit", &self.0.limit);
-        let b = Field("place", &self.0.place);
-        let c = Field("width", &self.0.width);
-        let d = Field("height", &self.0.height);
-        let e = Field("depth", &self.0.depth);
-        (a, b, c, d, e).enter(visitor)
+        let limit = Field("limit", &self.0.limit);
+        let place = Field("place", &self.0.place);
+        let width = Field("width", &self.0.width);
+        let height = Field("height", &self.0.height);
+        let depth = Field("depth", &self.0.depth);
+        (limit, place, width, height, depth).enter(visitor)
     }
 }
 
@@ -777,20 +920,22 @@ impl<'part> Part for OfSixteenPart2<'part> {
 struct OfSixteenPart3<'part>(&'part OfSixteen);
 
 impl<'part> Part for OfSixteenPart3<'part> {
-    ghost may_show = { λ x. Both
-        (Field (codes "label") (Some 4) (⟦<u32 as Allocative>⟧.may_show x.0.now.label)) (Both
-        (Field (codes "price") (Some 4) (⟦<u32 as Allocative>⟧.may_show x.0.now.price)) (Both
-        (Field (codes "seller") (Some 1) (⟦<bool as Allocative>⟧.may_show x.0.now.seller)) (Both
-        (Field (codes "is_paid") (Some 4) (⟦<u32 as Allocative>⟧.may_show x.0.now.is_paid))
-        (Field (codes "weight") (Some 4) (⟦<u32 as Allocative>⟧.may_show x.0.now.weight))))) };
+    ghost may_show = { λ x. shows.Both
+        (shows.Field (codes "label") ⟦<u32 as Described>⟧.size (⟦<u32 as Allocative>⟧.may_show x.0.now.label)) (shows.Both
+        (shows.Field (codes "price") ⟦<u32 as Described>⟧.size (⟦<u32 as Allocative>⟧.may_show x.0.now.price)) (shows.Both
+        (shows.Field (codes "seller") ⟦<bool as Described>⟧.size (⟦<bool as Allocative>⟧.may_show x.0.now.seller)) (shows.Both
+        (shows.Field (codes "is_paid") ⟦<u32 as Described>⟧.size (⟦<u32 as Allocative>⟧.may_show x.0.now.is_paid))
+        (shows.Field (codes "weight") ⟦<u32 as Described>⟧.size (⟦<u32 as Allocative>⟧.may_show x.0.now.weight))))) };
+
+    ghost is_exact = { true };
 
     fn enter(self, visitor: &mut Visitor<'_>) -> Result<(), Refusal> {
-        let a = Field("label", &self.0.label);
-        let b = Field("price", &self.0.price);
-        let c = Field("seller", &self.0.seller);
-        let d = Field("is_paid", &self.0.is_paid);
-        let e = Field("weight", &self.0.weight);
-        (a, b, c, d, e).enter(visitor)
+        let label = Field("label", &self.0.label);
+        let price = Field("price", &self.0.price);
+        let seller = Field("seller", &self.0.seller);
+        let is_paid = Field("is_paid", &self.0.is_paid);
+        let weight = Field("weight", &self.0.weight);
+        (label, price, seller, is_paid, weight).enter(visitor)
     }
 }
 
@@ -798,74 +943,129 @@ impl<'part> Part for OfSixteenPart3<'part> {
 struct OfSixteenPart4<'part>(&'part OfSixteen);
 
 impl<'part> Part for OfSixteenPart4<'part> {
-    ghost may_show = { λ x. Field (codes "colour") (Some 2) (⟦<u16 as Allocative>⟧.may_show x.0.now.colour) };
+    ghost may_show = { λ x. shows.Field (codes "colour") ⟦<u16 as Described>⟧.size (⟦<u16 as Allocative>⟧.may_show x.0.now.colour) };
+
+    ghost is_exact = { true };
 
     fn enter(self, visitor: &mut Visitor<'_>) -> Result<(), Refusal> {
-        let a = Field("colour", &self.0.colour);
-        a.enter(visitor)
+        let colour = Field("colour", &self.0.colour);
+        colour.enter(visitor)
     }
 }
+
+type OfTwentyLayout = Record<
+    (
+        u64,
+        (
+            u32,
+            (
+                u32,
+                (
+                    Vec<u32>,
+                    (
+                        u32,
+                        (
+                            u32,
+                            (
+                                (u32, u32),
+                                (
+                                    u32,
+                                    (
+                                        u32,
+                                        (
+                                            String,
+                                            (
+                                                u32,
+                                                (
+                                                    u32,
+                                                    (
+                                                        bool,
+                                                        (
+                                                            u32,
+                                                            (
+                                                                u32,
+                                                                (
+                                                                    u16,
+                                                                    (u32, (u32, (u32, (u32, ())))),
+                                                                ),
+                                                            ),
+                                                        ),
+                                                    ),
+                                                ),
+                                            ),
+                                        ),
+                                    ),
+                                ),
+                            ),
+                        ),
+                    ),
+                ),
+            ),
+        ),
+    ),
+>;
 
 impl Described for OfTwenty {
     ghost name = { codes "OfTwenty" };
 
-    ghost align = { 8 };
+    ghost align = { ⟦<OfTwentyLayout as Described>⟧.align };
 
-    ghost needs_drop = { true };
+    ghost needs_drop = { ⟦<OfTwentyLayout as Described>⟧.needs_drop };
 
-    ghost size = { Some 128 };
+    ghost size = { ⟦<OfTwentyLayout as Described>⟧.size };
 
     fn name() -> &'static str {
         "OfTwenty"
     }
 
     fn align() -> usize {
-        8
+        <OfTwentyLayout>::align()
     }
 
     fn needs_drop() -> bool {
-        true
+        <OfTwentyLayout>::needs_drop()
     }
 
     fn size() -> Option<usize> {
-        Some(128)
+        <OfTwentyLayout>::size()
     }
 }
 
 impl Allocative for OfTwenty {
-    ghost may_show = { λ x. Inside (codes "OfTwenty") 128 (Both
-        (Both
-        (Field (codes "number") (Some 8) (⟦<u64 as Allocative>⟧.may_show x.number)) (Both
-        (Field (codes "name") (Some 4) (⟦<u32 as Allocative>⟧.may_show x.name)) (Both
-        (Field (codes "count") (Some 4) (⟦<u32 as Allocative>⟧.may_show x.count)) (Both
-        (Field (codes "marks") (Some 24) (⟦<Vec<u32> as Allocative>⟧.may_show x.marks))
-        (Field (codes "is_open") (Some 4) (⟦<u32 as Allocative>⟧.may_show x.is_open)))))) (Both
-        (Both
-        (Field (codes "limit") (Some 4) (⟦<u32 as Allocative>⟧.may_show x.limit)) (Both
-        (Field (codes "place") (Some 8) (⟦<(u32, u32) as Allocative>⟧.may_show x.place)) (Both
-        (Field (codes "width") (Some 4) (⟦<u32 as Allocative>⟧.may_show x.width)) (Both
-        (Field (codes "height") (Some 4) (⟦<u32 as Allocative>⟧.may_show x.height))
-        (Field (codes "depth") (Some 24) (⟦<String as Allocative>⟧.may_show x.depth)))))) (Both
-        (Both
-        (Field (codes "label") (Some 4) (⟦<u32 as Allocative>⟧.may_show x.label)) (Both
-        (Field (codes "price") (Some 4) (⟦<u32 as Allocative>⟧.may_show x.price)) (Both
-        (Field (codes "seller") (Some 1) (⟦<bool as Allocative>⟧.may_show x.seller)) (Both
-        (Field (codes "is_paid") (Some 4) (⟦<u32 as Allocative>⟧.may_show x.is_paid))
-        (Field (codes "weight") (Some 4) (⟦<u32 as Allocative>⟧.may_show x.weight))))))
-        (Both
-        (Field (codes "colour") (Some 2) (⟦<u16 as Allocative>⟧.may_show x.colour)) (Both
-        (Field (codes "first") (Some 4) (⟦<u32 as Allocative>⟧.may_show x.first)) (Both
-        (Field (codes "last") (Some 4) (⟦<u32 as Allocative>⟧.may_show x.last)) (Both
-        (Field (codes "total") (Some 4) (⟦<u32 as Allocative>⟧.may_show x.total))
-        (Field (codes "is_old") (Some 4) (⟦<u32 as Allocative>⟧.may_show x.is_old))))))))) };
+    ghost may_show = { λ x. shows.Field (codes "OfTwenty") ⟦<OfTwentyLayout as Described>⟧.size (shows.Both
+        (shows.Both
+        (shows.Field (codes "number") ⟦<u64 as Described>⟧.size (⟦<u64 as Allocative>⟧.may_show x.number)) (shows.Both
+        (shows.Field (codes "name") ⟦<u32 as Described>⟧.size (⟦<u32 as Allocative>⟧.may_show x.name)) (shows.Both
+        (shows.Field (codes "count") ⟦<u32 as Described>⟧.size (⟦<u32 as Allocative>⟧.may_show x.count)) (shows.Both
+        (shows.Field (codes "marks") ⟦<Vec<u32> as Described>⟧.size (⟦<Vec<u32> as Allocative>⟧.may_show x.marks))
+        (shows.Field (codes "is_open") ⟦<u32 as Described>⟧.size (⟦<u32 as Allocative>⟧.may_show x.is_open)))))) (shows.Both
+        (shows.Both
+        (shows.Field (codes "limit") ⟦<u32 as Described>⟧.size (⟦<u32 as Allocative>⟧.may_show x.limit)) (shows.Both
+        (shows.Field (codes "place") ⟦<(u32, u32) as Described>⟧.size (⟦<(u32, u32) as Allocative>⟧.may_show x.place)) (shows.Both
+        (shows.Field (codes "width") ⟦<u32 as Described>⟧.size (⟦<u32 as Allocative>⟧.may_show x.width)) (shows.Both
+        (shows.Field (codes "height") ⟦<u32 as Described>⟧.size (⟦<u32 as Allocative>⟧.may_show x.height))
+        (shows.Field (codes "depth") ⟦<String as Described>⟧.size (⟦<String as Allocative>⟧.may_show x.depth)))))) (shows.Both
+        (shows.Both
+        (shows.Field (codes "label") ⟦<u32 as Described>⟧.size (⟦<u32 as Allocative>⟧.may_show x.label)) (shows.Both
+        (shows.Field (codes "price") ⟦<u32 as Described>⟧.size (⟦<u32 as Allocative>⟧.may_show x.price)) (shows.Both
+        (shows.Field (codes "seller") ⟦<bool as Described>⟧.size (⟦<bool as Allocative>⟧.may_show x.seller)) (shows.Both
+        (shows.Field (codes "is_paid") ⟦<u32 as Described>⟧.size (⟦<u32 as Allocative>⟧.may_show x.is_paid))
+        (shows.Field (codes "weight") ⟦<u32 as Described>⟧.size (⟦<u32 as Allocative>⟧.may_show x.weight))))))
+        (shows.Both
+        (shows.Field (codes "colour") ⟦<u16 as Described>⟧.size (⟦<u16 as Allocative>⟧.may_show x.colour)) (shows.Both
+        (shows.Field (codes "first") ⟦<u32 as Described>⟧.size (⟦<u32 as Allocative>⟧.may_show x.first)) (shows.Both
+        (shows.Field (codes "last") ⟦<u32 as Described>⟧.size (⟦<u32 as Allocative>⟧.may_show x.last)) (shows.Both
+        (shows.Field (codes "total") ⟦<u32 as Described>⟧.size (⟦<u32 as Allocative>⟧.may_show x.total))
+        (shows.Field (codes "is_old") ⟦<u32 as Described>⟧.size (⟦<u32 as Allocative>⟧.may_show x.is_old))))))))) };
+
+    ghost is_exact = { true };
 
     fn visit(&self, visitor: &mut Visitor<'_>) -> Result<(), Refusal> {
-        let a = OfTwentyPart1(self);
-        let b = OfTwentyPart2(self);
-        let c = OfTwentyPart3(self);
-        let d = OfTwentyPart4(self);
-        let key = "OfTwenty";
-        Inside(key, 128, (a, b, c, d)).enter(visitor)
+        let part1 = OfTwentyPart1(self);
+        let part2 = OfTwentyPart2(self);
+        let part3 = OfTwentyPart3(self);
+        let part4 = OfTwentyPart4(self);
+        Whole(self, (part1, part2, part3, part4)).enter(visitor)
     }
 }
 
@@ -873,20 +1073,22 @@ impl Allocative for OfTwenty {
 struct OfTwentyPart1<'part>(&'part OfTwenty);
 
 impl<'part> Part for OfTwentyPart1<'part> {
-    ghost may_show = { λ x. Both
-        (Field (codes "number") (Some 8) (⟦<u64 as Allocative>⟧.may_show x.0.now.number)) (Both
-        (Field (codes "name") (Some 4) (⟦<u32 as Allocative>⟧.may_show x.0.now.name)) (Both
-        (Field (codes "count") (Some 4) (⟦<u32 as Allocative>⟧.may_show x.0.now.count)) (Both
-        (Field (codes "marks") (Some 24) (⟦<Vec<u32> as Allocative>⟧.may_show x.0.now.marks))
-        (Field (codes "is_open") (Some 4) (⟦<u32 as Allocative>⟧.may_show x.0.now.is_open))))) };
+    ghost may_show = { λ x. shows.Both
+        (shows.Field (codes "number") ⟦<u64 as Described>⟧.size (⟦<u64 as Allocative>⟧.may_show x.0.now.number)) (shows.Both
+        (shows.Field (codes "name") ⟦<u32 as Described>⟧.size (⟦<u32 as Allocative>⟧.may_show x.0.now.name)) (shows.Both
+        (shows.Field (codes "count") ⟦<u32 as Described>⟧.size (⟦<u32 as Allocative>⟧.may_show x.0.now.count)) (shows.Both
+        (shows.Field (codes "marks") ⟦<Vec<u32> as Described>⟧.size (⟦<Vec<u32> as Allocative>⟧.may_show x.0.now.marks))
+        (shows.Field (codes "is_open") ⟦<u32 as Described>⟧.size (⟦<u32 as Allocative>⟧.may_show x.0.now.is_open))))) };
+
+    ghost is_exact = { true };
 
     fn enter(self, visitor: &mut Visitor<'_>) -> Result<(), Refusal> {
-        let a = Field("number", &self.0.number);
-        let b = Field("name", &self.0.name);
-        let c = Field("count", &self.0.count);
-        let d = Field("marks", &self.0.marks);
-        let e = Field("is_open", &self.0.is_open);
-        (a, b, c, d, e).enter(visitor)
+        let number = Field("number", &self.0.number);
+        let name = Field("name", &self.0.name);
+        let count = Field("count", &self.0.count);
+        let marks = Field("marks", &self.0.marks);
+        let is_open = Field("is_open", &self.0.is_open);
+        (number, name, count, marks, is_open).enter(visitor)
     }
 }
 
@@ -894,20 +1096,22 @@ impl<'part> Part for OfTwentyPart1<'part> {
 struct OfTwentyPart2<'part>(&'part OfTwenty);
 
 impl<'part> Part for OfTwentyPart2<'part> {
-    ghost may_show = { λ x. Both
-        (Field (codes "limit") (Some 4) (⟦<u32 as Allocative>⟧.may_show x.0.now.limit)) (Both
-        (Field (codes "place") (Some 8) (⟦<(u32, u32) as Allocative>⟧.may_show x.0.now.place)) (Both
-        (Field (codes "width") (Some 4) (⟦<u32 as Allocative>⟧.may_show x.0.now.width)) (Both
-        (Field (codes "height") (Some 4) (⟦<u32 as Allocative>⟧.may_show x.0.now.height))
-        (Field (codes "depth") (Some 24) (⟦<String as Allocative>⟧.may_show x.0.now.depth))))) };
+    ghost may_show = { λ x. shows.Both
+        (shows.Field (codes "limit") ⟦<u32 as Described>⟧.size (⟦<u32 as Allocative>⟧.may_show x.0.now.limit)) (shows.Both
+        (shows.Field (codes "place") ⟦<(u32, u32) as Described>⟧.size (⟦<(u32, u32) as Allocative>⟧.may_show x.0.now.place)) (shows.Both
+        (shows.Field (codes "width") ⟦<u32 as Described>⟧.size (⟦<u32 as Allocative>⟧.may_show x.0.now.width)) (shows.Both
+        (shows.Field (codes "height") ⟦<u32 as Described>⟧.size (⟦<u32 as Allocative>⟧.may_show x.0.now.height))
+        (shows.Field (codes "depth") ⟦<String as Described>⟧.size (⟦<String as Allocative>⟧.may_show x.0.now.depth))))) };
+
+    ghost is_exact = { true };
 
     fn enter(self, visitor: &mut Visitor<'_>) -> Result<(), Refusal> {
-        let a = Field("limit", &self.0.limit);
-        let b = Field("place", &self.0.place);
-        let c = Field("width", &self.0.width);
-        let d = Field("height", &self.0.height);
-        let e = Field("depth", &self.0.depth);
-        (a, b, c, d, e).enter(visitor)
+        let limit = Field("limit", &self.0.limit);
+        let place = Field("place", &self.0.place);
+        let width = Field("width", &self.0.width);
+        let height = Field("height", &self.0.height);
+        let depth = Field("depth", &self.0.depth);
+        (limit, place, width, height, depth).enter(visitor)
     }
 }
 
@@ -915,20 +1119,22 @@ impl<'part> Part for OfTwentyPart2<'part> {
 struct OfTwentyPart3<'part>(&'part OfTwenty);
 
 impl<'part> Part for OfTwentyPart3<'part> {
-    ghost may_show = { λ x. Both
-        (Field (codes "label") (Some 4) (⟦<u32 as Allocative>⟧.may_show x.0.now.label)) (Both
-        (Field (codes "price") (Some 4) (⟦<u32 as Allocative>⟧.may_show x.0.now.price)) (Both
-        (Field (codes "seller") (Some 1) (⟦<bool as Allocative>⟧.may_show x.0.now.seller)) (Both
-        (Field (codes "is_paid") (Some 4) (⟦<u32 as Allocative>⟧.may_show x.0.now.is_paid))
-        (Field (codes "weight") (Some 4) (⟦<u32 as Allocative>⟧.may_show x.0.now.weight))))) };
+    ghost may_show = { λ x. shows.Both
+        (shows.Field (codes "label") ⟦<u32 as Described>⟧.size (⟦<u32 as Allocative>⟧.may_show x.0.now.label)) (shows.Both
+        (shows.Field (codes "price") ⟦<u32 as Described>⟧.size (⟦<u32 as Allocative>⟧.may_show x.0.now.price)) (shows.Both
+        (shows.Field (codes "seller") ⟦<bool as Described>⟧.size (⟦<bool as Allocative>⟧.may_show x.0.now.seller)) (shows.Both
+        (shows.Field (codes "is_paid") ⟦<u32 as Described>⟧.size (⟦<u32 as Allocative>⟧.may_show x.0.now.is_paid))
+        (shows.Field (codes "weight") ⟦<u32 as Described>⟧.size (⟦<u32 as Allocative>⟧.may_show x.0.now.weight))))) };
+
+    ghost is_exact = { true };
 
     fn enter(self, visitor: &mut Visitor<'_>) -> Result<(), Refusal> {
-        let a = Field("label", &self.0.label);
-        let b = Field("price", &self.0.price);
-        let c = Field("seller", &self.0.seller);
-        let d = Field("is_paid", &self.0.is_paid);
-        let e = Field("weight", &self.0.weight);
-        (a, b, c, d, e).enter(visitor)
+        let label = Field("label", &self.0.label);
+        let price = Field("price", &self.0.price);
+        let seller = Field("seller", &self.0.seller);
+        let is_paid = Field("is_paid", &self.0.is_paid);
+        let weight = Field("weight", &self.0.weight);
+        (label, price, seller, is_paid, weight).enter(visitor)
     }
 }
 
@@ -936,138 +1142,150 @@ impl<'part> Part for OfTwentyPart3<'part> {
 struct OfTwentyPart4<'part>(&'part OfTwenty);
 
 impl<'part> Part for OfTwentyPart4<'part> {
-    ghost may_show = { λ x. Both
-        (Field (codes "colour") (Some 2) (⟦<u16 as Allocative>⟧.may_show x.0.now.colour)) (Both
-        (Field (codes "first") (Some 4) (⟦<u32 as Allocative>⟧.may_show x.0.now.first)) (Both
-        (Field (codes "last") (Some 4) (⟦<u32 as Allocative>⟧.may_show x.0.now.last)) (Both
-        (Field (codes "total") (Some 4) (⟦<u32 as Allocative>⟧.may_show x.0.now.total))
-        (Field (codes "is_old") (Some 4) (⟦<u32 as Allocative>⟧.may_show x.0.now.is_old))))) };
+    ghost may_show = { λ x. shows.Both
+        (shows.Field (codes "colour") ⟦<u16 as Described>⟧.size (⟦<u16 as Allocative>⟧.may_show x.0.now.colour)) (shows.Both
+        (shows.Field (codes "first") ⟦<u32 as Described>⟧.size (⟦<u32 as Allocative>⟧.may_show x.0.now.first)) (shows.Both
+        (shows.Field (codes "last") ⟦<u32 as Described>⟧.size (⟦<u32 as Allocative>⟧.may_show x.0.now.last)) (shows.Both
+        (shows.Field (codes "total") ⟦<u32 as Described>⟧.size (⟦<u32 as Allocative>⟧.may_show x.0.now.total))
+        (shows.Field (codes "is_old") ⟦<u32 as Described>⟧.size (⟦<u32 as Allocative>⟧.may_show x.0.now.is_old))))) };
+
+    ghost is_exact = { true };
 
     fn enter(self, visitor: &mut Visitor<'_>) -> Result<(), Refusal> {
-        let a = Field("colour", &self.0.colour);
-        let b = Field("first", &self.0.first);
-        let c = Field("last", &self.0.last);
-        let d = Field("total", &self.0.total);
-        let e = Field("is_old", &self.0.is_old);
-        (a, b, c, d, e).enter(visitor)
+        let colour = Field("colour", &self.0.colour);
+        let first = Field("first", &self.0.first);
+        let last = Field("last", &self.0.last);
+        let total = Field("total", &self.0.total);
+        let is_old = Field("is_old", &self.0.is_old);
+        (colour, first, last, total, is_old).enter(visitor)
     }
 }
+
+type NowhereLayout = Record<()>;
 
 impl Described for Nowhere {
     ghost name = { codes "Nowhere" };
 
-    ghost align = { 1 };
+    ghost align = { ⟦<NowhereLayout as Described>⟧.align };
 
-    ghost needs_drop = { false };
+    ghost needs_drop = { ⟦<NowhereLayout as Described>⟧.needs_drop };
 
-    ghost size = { Some 0 };
+    ghost size = { ⟦<NowhereLayout as Described>⟧.size };
 
     fn name() -> &'static str {
         "Nowhere"
     }
 
     fn align() -> usize {
-        1
+        <NowhereLayout>::align()
     }
 
     fn needs_drop() -> bool {
-        false
+        <NowhereLayout>::needs_drop()
     }
 
     fn size() -> Option<usize> {
-        Some(0)
+        <NowhereLayout>::size()
     }
 }
 
 impl Allocative for Nowhere {
-    ghost may_show = { λ x. Inside (codes "Nowhere") 0 (Nothing) };
+    ghost may_show = { λ x. shows.Field (codes "Nowhere") ⟦<NowhereLayout as Described>⟧.size
+        shows.Nothing };
+
+    ghost is_exact = { true };
 
     fn visit(&self, visitor: &mut Visitor<'_>) -> Result<(), Refusal> {
-        let key = "Nowhere";
-        Inside(key, 0, ()).enter(visitor)
+        Whole(self, ()).enter(visitor)
     }
 }
+
+type PointLayout = Record<(u32, (u32, ()))>;
 
 impl Described for Point {
     ghost name = { codes "Point" };
 
-    ghost align = { 4 };
+    ghost align = { ⟦<PointLayout as Described>⟧.align };
 
-    ghost needs_drop = { false };
+    ghost needs_drop = { ⟦<PointLayout as Described>⟧.needs_drop };
 
-    ghost size = { Some 8 };
+    ghost size = { ⟦<PointLayout as Described>⟧.size };
 
     fn name() -> &'static str {
         "Point"
     }
 
     fn align() -> usize {
-        4
+        <PointLayout>::align()
     }
 
     fn needs_drop() -> bool {
-        false
+        <PointLayout>::needs_drop()
     }
 
     fn size() -> Option<usize> {
-        Some(8)
+        <PointLayout>::size()
     }
 }
 
 impl Allocative for Point {
-    ghost may_show = { λ x. Inside (codes "Point") 8 (Both
-        (Field (codes "0") (Some 4) (⟦<u32 as Allocative>⟧.may_show x.0))
-        (Field (codes "1") (Some 4) (⟦<u32 as Allocative>⟧.may_show x.1))) };
+    ghost may_show = { λ x. shows.Field (codes "Point") ⟦<PointLayout as Described>⟧.size (shows.Both
+        (shows.Field (codes "0") ⟦<u32 as Described>⟧.size (⟦<u32 as Allocative>⟧.may_show x.0))
+        (shows.Field (codes "1") ⟦<u32 as Described>⟧.size (⟦<u32 as Allocative>⟧.may_show x.1))) };
+
+    ghost is_exact = { true };
 
     fn visit(&self, visitor: &mut Visitor<'_>) -> Result<(), Refusal> {
         let a = Field("0", &self.0);
         let b = Field("1", &self.1);
-        let key = "Point";
-        Inside(key, 8, (a, b)).enter(visitor)
+        Whole(self, (a, b)).enter(visitor)
     }
 }
+
+type SextetLayout = Record<(u8, (u8, (u8, (u8, (u8, (u16, ()))))))>;
 
 impl Described for Sextet {
     ghost name = { codes "Sextet" };
 
-    ghost align = { 2 };
+    ghost align = { ⟦<SextetLayout as Described>⟧.align };
 
-    ghost needs_drop = { false };
+    ghost needs_drop = { ⟦<SextetLayout as Described>⟧.needs_drop };
 
-    ghost size = { Some 8 };
+    ghost size = { ⟦<SextetLayout as Described>⟧.size };
 
     fn name() -> &'static str {
         "Sextet"
     }
 
     fn align() -> usize {
-        2
+        <SextetLayout>::align()
     }
 
     fn needs_drop() -> bool {
-        false
+        <SextetLayout>::needs_drop()
     }
 
     fn size() -> Option<usize> {
-        Some(8)
+        <SextetLayout>::size()
     }
 }
 
 impl Allocative for Sextet {
-    ghost may_show = { λ x. Inside (codes "Sextet") 8 (Both
-        (Both
-        (Field (codes "0") (Some 1) (⟦<u8 as Allocative>⟧.may_show x.0)) (Both
-        (Field (codes "1") (Some 1) (⟦<u8 as Allocative>⟧.may_show x.1)) (Both
-        (Field (codes "2") (Some 1) (⟦<u8 as Allocative>⟧.may_show x.2)) (Both
-        (Field (codes "3") (Some 1) (⟦<u8 as Allocative>⟧.may_show x.3))
-        (Field (codes "4") (Some 1) (⟦<u8 as Allocative>⟧.may_show x.4))))))
-        (Field (codes "5") (Some 2) (⟦<u16 as Allocative>⟧.may_show x.5))) };
+    ghost may_show = { λ x. shows.Field (codes "Sextet") ⟦<SextetLayout as Described>⟧.size (shows.Both
+        (shows.Both
+        (shows.Field (codes "0") ⟦<u8 as Described>⟧.size (⟦<u8 as Allocative>⟧.may_show x.0)) (shows.Both
+        (shows.Field (codes "1") ⟦<u8 as Described>⟧.size (⟦<u8 as Allocative>⟧.may_show x.1)) (shows.Both
+        (shows.Field (codes "2") ⟦<u8 as Described>⟧.size (⟦<u8 as Allocative>⟧.may_show x.2)) (shows.Both
+        (shows.Field (codes "3") ⟦<u8 as Described>⟧.size (⟦<u8 as Allocative>⟧.may_show x.3))
+        (shows.Field (codes "4") ⟦<u8 as Described>⟧.size (⟦<u8 as Allocative>⟧.may_show x.4))))))
+        (shows.Field (codes "5") ⟦<u16 as Described>⟧.size (⟦<u16 as Allocative>⟧.may_show x.5))) };
+
+    ghost is_exact = { true };
 
     fn visit(&self, visitor: &mut Visitor<'_>) -> Result<(), Refusal> {
-        let a = SextetPart1(self);
-        let b = SextetPart2(self);
-        let key = "Sextet";
-        Inside(key, 8, (a, b)).enter(visitor)
+        let part1 = SextetPart1(self);
+        let part2 = SextetPart2(self);
+        Whole(self, (part1, part2)).enter(visitor)
     }
 }
 
@@ -1075,12 +1293,14 @@ impl Allocative for Sextet {
 struct SextetPart1<'part>(&'part Sextet);
 
 impl<'part> Part for SextetPart1<'part> {
-    ghost may_show = { λ x. Both
-        (Field (codes "0") (Some 1) (⟦<u8 as Allocative>⟧.may_show x.0.now.0)) (Both
-        (Field (codes "1") (Some 1) (⟦<u8 as Allocative>⟧.may_show x.0.now.1)) (Both
-        (Field (codes "2") (Some 1) (⟦<u8 as Allocative>⟧.may_show x.0.now.2)) (Both
-        (Field (codes "3") (Some 1) (⟦<u8 as Allocative>⟧.may_show x.0.now.3))
-        (Field (codes "4") (Some 1) (⟦<u8 as Allocative>⟧.may_show x.0.now.4))))) };
+    ghost may_show = { λ x. shows.Both
+        (shows.Field (codes "0") ⟦<u8 as Described>⟧.size (⟦<u8 as Allocative>⟧.may_show x.0.now.0)) (shows.Both
+        (shows.Field (codes "1") ⟦<u8 as Described>⟧.size (⟦<u8 as Allocative>⟧.may_show x.0.now.1)) (shows.Both
+        (shows.Field (codes "2") ⟦<u8 as Described>⟧.size (⟦<u8 as Allocative>⟧.may_show x.0.now.2)) (shows.Both
+        (shows.Field (codes "3") ⟦<u8 as Described>⟧.size (⟦<u8 as Allocative>⟧.may_show x.0.now.3))
+        (shows.Field (codes "4") ⟦<u8 as Described>⟧.size (⟦<u8 as Allocative>⟧.may_show x.0.now.4))))) };
+
+    ghost is_exact = { true };
 
     fn enter(self, visitor: &mut Visitor<'_>) -> Result<(), Refusal> {
         let a = Field("0", &self.0.0);
@@ -1096,7 +1316,9 @@ impl<'part> Part for SextetPart1<'part> {
 struct SextetPart2<'part>(&'part Sextet);
 
 impl<'part> Part for SextetPart2<'part> {
-    ghost may_show = { λ x. Field (codes "5") (Some 2) (⟦<u16 as Allocative>⟧.may_show x.0.now.5) };
+    ghost may_show = { λ x. shows.Field (codes "5") ⟦<u16 as Described>⟧.size (⟦<u16 as Allocative>⟧.may_show x.0.now.5) };
+
+    ghost is_exact = { true };
 
     fn enter(self, visitor: &mut Visitor<'_>) -> Result<(), Refusal> {
         let a = Field("5", &self.0.5);
@@ -1104,128 +1326,154 @@ impl<'part> Part for SextetPart2<'part> {
     }
 }
 
+type MarkLayout = Record<(Point, (String, (u64, (u64, (bool, ())))))>;
+
 impl Described for Mark {
     ghost name = { codes "Mark" };
 
-    ghost align = { 8 };
+    ghost align = { ⟦<MarkLayout as Described>⟧.align };
 
-    ghost needs_drop = { true };
+    ghost needs_drop = { ⟦<MarkLayout as Described>⟧.needs_drop };
 
-    ghost size = { Some 56 };
+    ghost size = { ⟦<MarkLayout as Described>⟧.size };
 
     fn name() -> &'static str {
         "Mark"
     }
 
     fn align() -> usize {
-        8
+        <MarkLayout>::align()
     }
 
     fn needs_drop() -> bool {
-        true
+        <MarkLayout>::needs_drop()
     }
 
     fn size() -> Option<usize> {
-        Some(56)
+        <MarkLayout>::size()
     }
 }
 
 impl Allocative for Mark {
-    ghost may_show = { λ x. Inside (codes "Mark") 56 (Both
-        (Field (codes "point") (Some 8) (⟦<Point as Allocative>⟧.may_show x.point)) (Both
-        (Field (codes "name") (Some 24) (⟦<String as Allocative>⟧.may_show x.name)) (Both
-        (Inside (codes "mean") 8 Nothing)
-        (Field (codes "later") (Some 1) (⟦<bool as Allocative>⟧.may_show x.later))))) };
+    ghost may_show = { λ x. shows.Field (codes "Mark") ⟦<MarkLayout as Described>⟧.size (shows.Both
+        (shows.Field (codes "point") ⟦<Point as Described>⟧.size (⟦<Point as Allocative>⟧.may_show x.point)) (shows.Both
+        (shows.Field (codes "name") ⟦<String as Described>⟧.size (⟦<String as Allocative>⟧.may_show x.name)) (shows.Both
+        (shows.Inside (codes "mean") 8 shows.Nothing)
+        (shows.Field (codes "later") ⟦<bool as Described>⟧.size (⟦<bool as Allocative>⟧.may_show x.later))))) };
+
+    ghost is_exact = { true };
 
     fn visit(&self, visitor: &mut Visitor<'_>) -> Result<(), Refusal> {
-        let a = Field("point", &self.point);
-        let b = Field("name", &self.name);
-        let c = Inside("mean", 8, ());
-        let d = Field("later", &self.later);
-        let key = "Mark";
-        Inside(key, 56, (a, b, c, d)).enter(visitor)
+        let point = Field("point", &self.point);
+        let name = Field("name", &self.name);
+        let mean = Inside("mean", 8, ());
+        let later = Field("later", &self.later);
+        Whole(self, (point, name, mean, later)).enter(visitor)
     }
 }
+
+type RequestLayout = Record<
+    (
+        u8,
+        Or<
+            (),
+            Or<
+                (String, ()),
+                Or<
+                    (u32, (u32, ())),
+                    Or<
+                        (String, (u64, ())),
+                        Or<
+                            (u32, (u32, (bool, ()))),
+                            Or<(u16, (u16, (u16, (u16, (String, ()))))), Or<(u64, (u64, ())), ()>>,
+                        >,
+                    >,
+                >,
+            >,
+        >,
+    ),
+>;
 
 impl Described for Request {
     ghost name = { codes "Request" };
 
-    ghost align = { 8 };
+    ghost align = { ⟦<RequestLayout as Described>⟧.align };
 
-    ghost needs_drop = { true };
+    ghost needs_drop = { ⟦<RequestLayout as Described>⟧.needs_drop };
 
-    ghost size = { Some 40 };
+    ghost size = { ⟦<RequestLayout as Described>⟧.size };
 
     fn name() -> &'static str {
         "Request"
     }
 
     fn align() -> usize {
-        8
+        <RequestLayout>::align()
     }
 
     fn needs_drop() -> bool {
-        true
+        <RequestLayout>::needs_drop()
     }
 
     fn size() -> Option<usize> {
-        Some(40)
+        <RequestLayout>::size()
     }
 }
 
 impl Allocative for Request {
     ghost use Rattle.implemented_types.specs.declared.types.Request.TheVariants.{Ping, Find, Move, Put, Mix, Draw, Wait, Stop};
 
-    ghost may_show = { λ x. Inside (codes "Request") 40 (elim x [
-      | Ping ↦ Nothing
-      | Find a ↦ Field (codes "Find") (Some 24) (⟦<String as Allocative>⟧.may_show a)
-      | Move a b ↦ Both
-          (Field (codes "0") (Some 4) (⟦<u32 as Allocative>⟧.may_show a))
-          (Field (codes "1") (Some 4) (⟦<u32 as Allocative>⟧.may_show b))
-      | Put a b ↦ Both
-          (Field (codes "name") (Some 24) (⟦<String as Allocative>⟧.may_show a))
-          (Field (codes "value") (Some 8) (⟦<u64 as Allocative>⟧.may_show b))
-      | Mix a b c ↦ Both
-          (Field (codes "first") (Some 4) (⟦<u32 as Allocative>⟧.may_show a)) (Both
-          (Field (codes "second") (Some 4) (⟦<u32 as Allocative>⟧.may_show b))
-          (Field (codes "is_deep") (Some 1) (⟦<bool as Allocative>⟧.may_show c)))
-      | Draw a b c d e ↦ Both
-          (Field (codes "0") (Some 2) (⟦<u16 as Allocative>⟧.may_show a)) (Both
-          (Field (codes "1") (Some 2) (⟦<u16 as Allocative>⟧.may_show b)) (Both
-          (Field (codes "2") (Some 2) (⟦<u16 as Allocative>⟧.may_show c)) (Both
-          (Field (codes "3") (Some 2) (⟦<u16 as Allocative>⟧.may_show d))
-          (Field (codes "4") (Some 24) (⟦<String as Allocative>⟧.may_show e)))))
-      | Wait a _ ↦ Field (codes "0") (Some 8) (⟦<u64 as Allocative>⟧.may_show a)
-      | Stop ↦ Nothing
+    ghost may_show = { λ x. shows.Field (codes "Request") ⟦<RequestLayout as Described>⟧.size (elim x [
+      | Ping ↦ shows.Nothing
+      | Find a ↦ shows.Field (codes "Find") ⟦<String as Described>⟧.size (⟦<String as Allocative>⟧.may_show a)
+      | Move a b ↦ shows.Both
+          (shows.Field (codes "0") ⟦<u32 as Described>⟧.size (⟦<u32 as Allocative>⟧.may_show a))
+          (shows.Field (codes "1") ⟦<u32 as Described>⟧.size (⟦<u32 as Allocative>⟧.may_show b))
+      | Put a b ↦ shows.Both
+          (shows.Field (codes "name") ⟦<String as Described>⟧.size (⟦<String as Allocative>⟧.may_show a))
+          (shows.Field (codes "value") ⟦<u64 as Described>⟧.size (⟦<u64 as Allocative>⟧.may_show b))
+      | Mix a b c ↦ shows.Both
+          (shows.Field (codes "first") ⟦<u32 as Described>⟧.size (⟦<u32 as Allocative>⟧.may_show a)) (shows.Both
+          (shows.Field (codes "second") ⟦<u32 as Described>⟧.size (⟦<u32 as Allocative>⟧.may_show b))
+          (shows.Field (codes "is_deep") ⟦<bool as Described>⟧.size (⟦<bool as Allocative>⟧.may_show c)))
+      | Draw a b c d e ↦ shows.Both
+          (shows.Field (codes "0") ⟦<u16 as Described>⟧.size (⟦<u16 as Allocative>⟧.may_show a)) (shows.Both
+          (shows.Field (codes "1") ⟦<u16 as Described>⟧.size (⟦<u16 as Allocative>⟧.may_show b)) (shows.Both
+          (shows.Field (codes "2") ⟦<u16 as Described>⟧.size (⟦<u16 as Allocative>⟧.may_show c)) (shows.Both
+          (shows.Field (codes "3") ⟦<u16 as Described>⟧.size (⟦<u16 as Allocative>⟧.may_show d))
+          (shows.Field (codes "4") ⟦<String as Described>⟧.size (⟦<String as Allocative>⟧.may_show e)))))
+      | Wait a b ↦ shows.Field (codes "0") ⟦<u64 as Described>⟧.size (⟦<u64 as Allocative>⟧.may_show a)
+      | Stop ↦ shows.Nothing
     ]) };
 
+    ghost is_exact = { true };
+
     fn visit(&self, visitor: &mut Visitor<'_>) -> Result<(), Refusal> {
-        let key = "Request";
         match self {
-            Request::Ping => Inside(key, 40, ()).enter(visitor),
+            Request::Ping => Whole(self, ()).enter(visitor),
             Request::Find(a) => {
                 let a = Field("Find", a);
-                Inside(key, 40, a).enter(visitor)
+                Whole(self, a).enter(visitor)
             }
             Request::Move(a, b) => {
                 let a = Field("0", a);
                 let b = Field("1", b);
-                Inside(key, 40, (a, b)).enter(visitor)
+                Whole(self, (a, b)).enter(visitor)
             }
-            Request::Put { name: a, value: b } => {
-                let a = Field("name", a);
-                let b = Field("value", b);
-                Inside(key, 40, (a, b)).enter(visitor)
+            Request::Put { name, value } => {
+                let name = Field("name", name);
+                let value = Field("value", value);
+                Whole(self, (name, value)).enter(visitor)
             }
             Request::Mix {
-                first: a,
-                second: b,
-                is_deep: c,
+                first,
+                second,
+                is_deep,
             } => {
-                let a = Field("first", a);
-                let b = Field("second", b);
-                let c = Field("is_deep", c);
-                Inside(key, 40, (a, b, c)).enter(visitor)
+                let first = Field("first", first);
+                let second = Field("second", second);
+                let is_deep = Field("is_deep", is_deep);
+                Whole(self, (first, second, is_deep)).enter(visitor)
             }
             Request::Draw(a, b, c, d, e) => {
                 let a = Field("0", a);
@@ -1233,48 +1481,45 @@ impl Allocative for Request {
                 let c = Field("2", c);
                 let d = Field("3", d);
                 let e = Field("4", e);
-                Inside(key, 40, (a, b, c, d, e)).enter(visitor)
+                Whole(self, (a, b, c, d, e)).enter(visitor)
             }
             Request::Wait(a, _) => {
                 let a = Field("0", a);
-                Inside(key, 40, a).enter(visitor)
+                Whole(self, a).enter(visitor)
             }
-            Request::Stop => Inside(key, 40, ()).enter(visitor),
+            Request::Stop => Whole(self, ()).enter(visitor),
         }
     }
 }
 
-// The size of `Table` in bytes. What is known of its parts is here; write the size itself.
-const TABLE_SIZE: usize = 48;
+type TableLayout<K, V> = Record<(HashMap<K, V>, (V, (Option<V>, ())))>;
 
 impl<K: Allocative + Described, V: Allocative + Described> Described for Table<K, V>
 where
     K: Eq + Hash,
 {
-    ghost use Rattle.implemented_types.specs.declared.types.shown.TheConstants.{TABLE_SIZE};
-
     ghost name = { codes "Table" };
 
-    ghost align = { 8 };
+    ghost align = { ⟦<TableLayout<K, V> as Described>⟧.align };
 
-    ghost needs_drop = { true };
+    ghost needs_drop = { ⟦<TableLayout<K, V> as Described>⟧.needs_drop };
 
-    ghost size = { Some TABLE_SIZE };
+    ghost size = { ⟦<TableLayout<K, V> as Described>⟧.size };
 
     fn name() -> &'static str {
         "Table"
     }
 
     fn align() -> usize {
-        8
+        <TableLayout<K, V>>::align()
     }
 
     fn needs_drop() -> bool {
-        true
+        <TableLayout<K, V>>::needs_drop()
     }
 
     fn size() -> Option<usize> {
-        Some(TABLE_SIZE)
+        <TableLayout<K, V>>::size()
     }
 }
 
@@ -1282,145 +1527,137 @@ impl<K: Allocative + Described, V: Allocative + Described> Allocative for Table<
 where
     K: Eq + Hash,
 {
-    ghost use Rattle.implemented_types.specs.declared.types.shown.TheConstants.{TABLE_SIZE};
+    ghost may_show = { λ x. shows.Field (codes "Table") ⟦<TableLayout<K, V> as Described>⟧.size (shows.Both
+        (shows.Field (codes "values") ⟦<HashMap<K, V> as Described>⟧.size (⟦<HashMap<K, V> as Allocative>⟧.may_show x.values)) (shows.Both
+        (shows.Field (codes "last") ⟦<V as Described>⟧.size (⟦<V as Allocative>⟧.may_show x.last))
+        (shows.Field (codes "spare") ⟦<Option<V> as Described>⟧.size (⟦<Option<V> as Allocative>⟧.may_show x.spare)))) };
 
-    ghost may_show = { λ x. Inside (codes "Table") TABLE_SIZE (Both
-        (Field (codes "values") (Some 48) (⟦<HashMap<K, V> as Allocative>⟧.may_show x.values)) (Both
-        (Field (codes "last") V.size (V.may_show x.last))
-        (Field (codes "spare") ⟦<Option<V> as Described>⟧.size (⟦<Option<V> as Allocative>⟧.may_show x.spare)))) };
+    ghost is_exact = { ⟦<HashMap<K, V> as Allocative>⟧.is_exact && (⟦<V as Allocative>⟧.is_exact && (⟦<Option<V> as Allocative>⟧.is_exact)) };
 
     fn visit(&self, visitor: &mut Visitor<'_>) -> Result<(), Refusal> {
-        let a = Field("values", &self.values);
-        let b = Field("last", &self.last);
-        let c = Field("spare", &self.spare);
-        let key = "Table";
-        Inside(key, TABLE_SIZE, (a, b, c)).enter(visitor)
+        let values = Field("values", &self.values);
+        let last = Field("last", &self.last);
+        let spare = Field("spare", &self.spare);
+        Whole(self, (values, last, spare)).enter(visitor)
     }
 }
 
-// The size of `Named` in bytes. What is known of its parts is here; write the size itself.
-const NAMED_SIZE: usize = 32;
+type NamedLayout<T> = Record<(u8, Or<(), (String, (T, ()))>)>;
 
 impl<T: Allocative + Described> Described for Named<T> {
-    ghost use Rattle.implemented_types.specs.declared.types.shown.TheConstants.{NAMED_SIZE};
-
     ghost name = { codes "Named" };
 
-    ghost align = { 8 };
+    ghost align = { ⟦<NamedLayout<T> as Described>⟧.align };
 
-    ghost needs_drop = { true };
+    ghost needs_drop = { ⟦<NamedLayout<T> as Described>⟧.needs_drop };
 
-    ghost size = { Some NAMED_SIZE };
+    ghost size = { ⟦<NamedLayout<T> as Described>⟧.size };
 
     fn name() -> &'static str {
         "Named"
     }
 
     fn align() -> usize {
-        8
+        <NamedLayout<T>>::align()
     }
 
     fn needs_drop() -> bool {
-        true
+        <NamedLayout<T>>::needs_drop()
     }
 
     fn size() -> Option<usize> {
-        Some(NAMED_SIZE)
+        <NamedLayout<T>>::size()
     }
 }
 
 impl<T: Allocative + Described> Allocative for Named<T> {
-    ghost use Rattle.implemented_types.specs.declared.types.shown.TheConstants.{NAMED_SIZE};
     ghost use Rattle.implemented_types.specs.declared.types.Named.TheVariants.{Nobody, Somebody};
 
-    ghost may_show = { λ x. Inside (codes "Named") NAMED_SIZE (elim x [
-      | Nobody ↦ Nothing
-      | Somebody a b ↦ Both
-          (Field (codes "0") (Some 24) (⟦<String as Allocative>⟧.may_show a))
-          (Field (codes "1") T.size (T.may_show b))
+    ghost may_show = { λ x. shows.Field (codes "Named") ⟦<NamedLayout<T> as Described>⟧.size (elim x [
+      | Nobody ↦ shows.Nothing
+      | Somebody a b ↦ shows.Both
+          (shows.Field (codes "0") ⟦<String as Described>⟧.size (⟦<String as Allocative>⟧.may_show a))
+          (shows.Field (codes "1") ⟦<T as Described>⟧.size (⟦<T as Allocative>⟧.may_show b))
     ]) };
 
+    ghost is_exact = { T.is_exact };
+
     fn visit(&self, visitor: &mut Visitor<'_>) -> Result<(), Refusal> {
-        let key = "Named";
         match self {
-            Named::Nobody => Inside(key, NAMED_SIZE, ()).enter(visitor),
+            Named::Nobody => Whole(self, ()).enter(visitor),
             Named::Somebody(a, b) => {
                 let a = Field("0", a);
                 let b = Field("1", b);
-                Inside(key, NAMED_SIZE, (a, b)).enter(visitor)
+                Whole(self, (a, b)).enter(visitor)
             }
         }
     }
 }
 
-// The size of `Found` in bytes. What is known of its parts is here; write the size itself.
-const FOUND_SIZE: usize = 32;
+type FoundLayout<const N: usize> = Record<
+    ((u64, u64), ([u32; N], (BTreeMap<u64, Vec<Request>>, ()))),
+>;
 
 impl<'a, const N: usize> Allocative for Found<'a, N> {
-    ghost use Rattle.implemented_types.specs.declared.types.shown.TheConstants.{FOUND_SIZE};
+    ghost may_show = { λ x. shows.Field (codes "Found") ⟦<FoundLayout<N> as Described>⟧.size (shows.Both
+        (shows.Field (codes "places") ⟦<[u32; N] as Described>⟧.size (⟦<[u32; N] as Allocative>⟧.may_show x.places))
+        (shows.Field (codes "counts") ⟦<BTreeMap<u64, Vec<Request>> as Described>⟧.size (⟦<BTreeMap<u64, Vec<Request>> as Allocative>⟧.may_show x.counts))) };
 
-    ghost may_show = { λ x. Inside (codes "Found") FOUND_SIZE (Both
-        (Field (codes "places") ⟦<[u32; N] as Described>⟧.size (⟦<[u32; N] as Allocative>⟧.may_show x.places))
-        (Field (codes "counts") (Some 24) (⟦<BTreeMap<u64, Vec<Request>> as Allocative>⟧.may_show x.counts))) };
+    ghost is_exact = { true };
 
     fn visit(&self, visitor: &mut Visitor<'_>) -> Result<(), Refusal> {
-        let a = Field("places", &self.places);
-        let b = Field("counts", &self.counts);
-        let key = "Found";
-        Inside(key, FOUND_SIZE, (a, b)).enter(visitor)
+        let places = Field("places", &self.places);
+        let counts = Field("counts", &self.counts);
+        Declared("Found", <FoundLayout<N>>::size(), (places, counts)).enter(visitor)
     }
 }
 
-// The size of `Route` in bytes. What is known of its parts is here; write the size itself.
-const ROUTE_SIZE: usize = 64;
+type RouteLayout<T> = Record<(String, (T, (T, (Option<T>, (Vec<T>, (u64, (bool, ())))))))>;
 
 impl<T: Allocative + Described> Described for Route<T> {
-    ghost use Rattle.implemented_types.specs.declared.types.shown.TheConstants.{ROUTE_SIZE};
-
     ghost name = { codes "Route" };
 
-    ghost align = { 8 };
+    ghost align = { ⟦<RouteLayout<T> as Described>⟧.align };
 
-    ghost needs_drop = { true };
+    ghost needs_drop = { ⟦<RouteLayout<T> as Described>⟧.needs_drop };
 
-    ghost size = { Some ROUTE_SIZE };
+    ghost size = { ⟦<RouteLayout<T> as Described>⟧.size };
 
     fn name() -> &'static str {
         "Route"
     }
 
     fn align() -> usize {
-        8
+        <RouteLayout<T>>::align()
     }
 
     fn needs_drop() -> bool {
-        true
+        <RouteLayout<T>>::needs_drop()
     }
 
     fn size() -> Option<usize> {
-        Some(ROUTE_SIZE)
+        <RouteLayout<T>>::size()
     }
 }
 
 impl<T: Allocative + Described> Allocative for Route<T> {
-    ghost use Rattle.implemented_types.specs.declared.types.shown.TheConstants.{ROUTE_SIZE};
+    ghost may_show = { λ x. shows.Field (codes "Route") ⟦<RouteLayout<T> as Described>⟧.size (shows.Both
+        (shows.Both
+        (shows.Field (codes "name") ⟦<String as Described>⟧.size (⟦<String as Allocative>⟧.may_show x.name)) (shows.Both
+        (shows.Field (codes "first") ⟦<T as Described>⟧.size (⟦<T as Allocative>⟧.may_show x.first)) (shows.Both
+        (shows.Field (codes "last") ⟦<T as Described>⟧.size (⟦<T as Allocative>⟧.may_show x.last)) (shows.Both
+        (shows.Field (codes "between") ⟦<Option<T> as Described>⟧.size (⟦<Option<T> as Allocative>⟧.may_show x.between))
+        (shows.Field (codes "steps") ⟦<Vec<T> as Described>⟧.size (⟦<Vec<T> as Allocative>⟧.may_show x.steps))))))
+        (shows.Both
+        (shows.Field (codes "length") ⟦<u64 as Described>⟧.size (⟦<u64 as Allocative>⟧.may_show x.length))
+        (shows.Field (codes "is_round") ⟦<bool as Described>⟧.size (⟦<bool as Allocative>⟧.may_show x.is_round)))) };
 
-    ghost may_show = { λ x. Inside (codes "Route") ROUTE_SIZE (Both
-        (Both
-        (Field (codes "name") (Some 24) (⟦<String as Allocative>⟧.may_show x.name)) (Both
-        (Field (codes "first") T.size (T.may_show x.first)) (Both
-        (Field (codes "last") T.size (T.may_show x.last)) (Both
-        (Field (codes "between") ⟦<Option<T> as Described>⟧.size (⟦<Option<T> as Allocative>⟧.may_show x.between))
-        (Field (codes "steps") (Some 24) (⟦<Vec<T> as Allocative>⟧.may_show x.steps))))))
-        (Both
-        (Field (codes "length") (Some 8) (⟦<u64 as Allocative>⟧.may_show x.length))
-        (Field (codes "is_round") (Some 1) (⟦<bool as Allocative>⟧.may_show x.is_round)))) };
+    ghost is_exact = { (⟦<String as Allocative>⟧.is_exact && (⟦<T as Allocative>⟧.is_exact && (⟦<T as Allocative>⟧.is_exact && (⟦<Option<T> as Allocative>⟧.is_exact && (⟦<Vec<T> as Allocative>⟧.is_exact))))) && ((⟦<u64 as Allocative>⟧.is_exact && (⟦<bool as Allocative>⟧.is_exact))) };
 
     fn visit(&self, visitor: &mut Visitor<'_>) -> Result<(), Refusal> {
-        let a = RoutePart1(self);
-        let b = RoutePart2(self);
-        let key = "Route";
-        Inside(key, ROUTE_SIZE, (a, b)).enter(visitor)
+        let part1 = RoutePart1(self);
+        let part2 = RoutePart2(self);
+        Whole(self, (part1, part2)).enter(visitor)
     }
 }
 
@@ -1428,20 +1665,22 @@ impl<T: Allocative + Described> Allocative for Route<T> {
 struct RoutePart1<'part, T: Allocative + Described>(&'part Route<T>);
 
 impl<'part, T: Allocative + Described> Part for RoutePart1<'part, T> {
-    ghost may_show = { λ x. Both
-        (Field (codes "name") (Some 24) (⟦<String as Allocative>⟧.may_show x.0.now.name)) (Both
-        (Field (codes "first") T.size (T.may_show x.0.now.first)) (Both
-        (Field (codes "last") T.size (T.may_show x.0.now.last)) (Both
-        (Field (codes "between") ⟦<Option<T> as Described>⟧.size (⟦<Option<T> as Allocative>⟧.may_show x.0.now.between))
-        (Field (codes "steps") (Some 24) (⟦<Vec<T> as Allocative>⟧.may_show x.0.now.steps))))) };
+    ghost may_show = { λ x. shows.Both
+        (shows.Field (codes "name") ⟦<String as Described>⟧.size (⟦<String as Allocative>⟧.may_show x.0.now.name)) (shows.Both
+        (shows.Field (codes "first") ⟦<T as Described>⟧.size (⟦<T as Allocative>⟧.may_show x.0.now.first)) (shows.Both
+        (shows.Field (codes "last") ⟦<T as Described>⟧.size (⟦<T as Allocative>⟧.may_show x.0.now.last)) (shows.Both
+        (shows.Field (codes "between") ⟦<Option<T> as Described>⟧.size (⟦<Option<T> as Allocative>⟧.may_show x.0.now.between))
+        (shows.Field (codes "steps") ⟦<Vec<T> as Described>⟧.size (⟦<Vec<T> as Allocative>⟧.may_show x.0.now.steps))))) };
+
+    ghost is_exact = { ⟦<String as Allocative>⟧.is_exact && (⟦<T as Allocative>⟧.is_exact && (⟦<T as Allocative>⟧.is_exact && (⟦<Option<T> as Allocative>⟧.is_exact && (⟦<Vec<T> as Allocative>⟧.is_exact)))) };
 
     fn enter(self, visitor: &mut Visitor<'_>) -> Result<(), Refusal> {
-        let a = Field("name", &self.0.name);
-        let b = Field("first", &self.0.first);
-        let c = Field("last", &self.0.last);
-        let d = Field("between", &self.0.between);
-        let e = Field("steps", &self.0.steps);
-        (a, b, c, d, e).enter(visitor)
+        let name = Field("name", &self.0.name);
+        let first = Field("first", &self.0.first);
+        let last = Field("last", &self.0.last);
+        let between = Field("between", &self.0.between);
+        let steps = Field("steps", &self.0.steps);
+        (name, first, last, between, steps).enter(visitor)
     }
 }
 
@@ -1449,13 +1688,15 @@ impl<'part, T: Allocative + Described> Part for RoutePart1<'part, T> {
 struct RoutePart2<'part, T: Allocative + Described>(&'part Route<T>);
 
 impl<'part, T: Allocative + Described> Part for RoutePart2<'part, T> {
-    ghost may_show = { λ x. Both
-        (Field (codes "length") (Some 8) (⟦<u64 as Allocative>⟧.may_show x.0.now.length))
-        (Field (codes "is_round") (Some 1) (⟦<bool as Allocative>⟧.may_show x.0.now.is_round)) };
+    ghost may_show = { λ x. shows.Both
+        (shows.Field (codes "length") ⟦<u64 as Described>⟧.size (⟦<u64 as Allocative>⟧.may_show x.0.now.length))
+        (shows.Field (codes "is_round") ⟦<bool as Described>⟧.size (⟦<bool as Allocative>⟧.may_show x.0.now.is_round)) };
+
+    ghost is_exact = { ⟦<u64 as Allocative>⟧.is_exact && (⟦<bool as Allocative>⟧.is_exact) };
 
     fn enter(self, visitor: &mut Visitor<'_>) -> Result<(), Refusal> {
-        let a = Field("length", &self.0.length);
-        let b = Field("is_round", &self.0.is_round);
-        (a, b).enter(visitor)
+        let length = Field("length", &self.0.length);
+        let is_round = Field("is_round", &self.0.is_round);
+        (length, is_round).enter(visitor)
     }
 }

@@ -1,0 +1,7 @@
+-- Written by bin/implement.
+use Rattle.std.proofs.Common.{rules}
+use Rattle.allocative.proofs.Parts.{parts}
+use Rattle.implemented_types.proofs.nested.+chapters.Goals as goal
+
+pub ChapterAllocative::visit-returns : goal.ChapterAllocative::visit-returns
+ChapterAllocative::visit-returns t c = search (rules, parts)

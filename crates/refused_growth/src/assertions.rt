@@ -1,0 +1,70 @@
+//! What tests assert of refusals, graphs and outputs, and values that are made by a second try where the first was
+//! refused.
+use allocative::{FlameGraph, FlameGraphOutput, Refusal};
+use std::alloc::AllocGlobal;
+use std::process::Abort;
+
+/// Asserts a text.
+pub(crate) fn assert_same(rt: &impl Abort, text: &str, want: &str) {
+    assert_eq!(rt; text, want);
+}
+
+pub(crate) fn assert_count(rt: &impl Abort, count: usize, want: usize) {
+    assert_eq!(rt; count, want);
+}
+
+/// Asserts that a call was refused for want of memory.
+pub(crate) fn assert_refused(rt: &impl Abort, refusal: Refusal) {
+    assert!(rt; refusal == Refusal::Memory);
+}
+
+/// A box of a value. A refused call hands the value back.
+pub(crate) fn boxed<T: Drop>(rt: &(impl Abort + AllocGlobal), value: T) -> Box<T> {
+    match Box::new(rt.alloc(), value) {
+        Ok(made) => made,
+        Err(refused) => Box::new(rt.alloc(), refused.value).expect(rt, "a box"),
+    }
+}
+
+/// The text of a graph. Where a call is refused, the next one writes it.
+pub(crate) fn written(rt: &impl Abort, graph: &FlameGraph) -> String {
+    match graph.write() {
+        Ok(text) => text,
+        Err(refusal) => {
+            assert_refused(rt, refusal);
+            graph.write().expect(rt, "a text")
+        }
+    }
+}
+
+/// Asserts the text of a graph, also after a refused call.
+pub(crate) fn assert_text(rt: &impl Abort, graph: &FlameGraph, want: &str) {
+    assert_same(rt, written(rt, graph).as_str(), want);
+}
+
+/// The warnings of an output. Where a call is refused, the next one copies them.
+fn warned(rt: &impl Abort, output: &FlameGraphOutput) -> String {
+    match output.warnings() {
+        Ok(warnings) => warnings,
+        Err(refusal) => {
+            assert_refused(rt, refusal);
+            output.warnings().expect(rt, "the warnings")
+        }
+    }
+}
+
+/// Asserts the text and the warnings of an output, or that it was refused.
+pub(crate) fn assert_output(
+    rt: &impl Abort,
+    made: Result<FlameGraphOutput, Refusal>,
+    text: &str,
+    warnings: &str,
+) {
+    match made {
+        Ok(output) => {
+            assert_same(rt, warned(rt, &output).as_str(), warnings);
+            assert_text(rt, output.flamegraph(), text);
+        }
+        Err(refusal) => assert_refused(rt, refusal),
+    }
+}

@@ -1,0 +1,151 @@
+"""Tests of whole runs over a crate in a folder of its own."""
+
+import contextlib
+import io
+import os
+import tempfile
+import unittest
+
+from ..command import main
+
+POINT = "#[derive(Drop)]\npub struct Point {\n    pub x: u32,\n}\n"
+TREE = "#[derive(Drop)]\npub enum Tree {\n    Leaf(u64),\n    Fork(Vec<Tree>),\n}\n"
+
+
+class CommandTest(unittest.TestCase):
+    def setUp(self) -> None:
+        folder = tempfile.TemporaryDirectory()
+        self.addCleanup(folder.cleanup)
+        self.top = folder.name
+        self.crate = os.path.join(self.top, "crates/page")
+        os.makedirs(os.path.join(self.crate, "src"))
+
+    def path(self, name: str) -> str:
+        return os.path.join(self.crate, name)
+
+    def put(self, name: str, text: str) -> str:
+        os.makedirs(os.path.dirname(self.path(name)), exist_ok=True)
+        with open(self.path(name), "w", encoding="utf-8") as file:
+            file.write(text)
+        return self.path(name)
+
+    def get(self, name: str) -> str:
+        with open(self.path(name), encoding="utf-8") as file:
+            return file.read()
+
+    def run_it(self, text: str, *words: str) -> tuple[int, str, list[str]]:
+        """Runs the command over a file of a text: the status, the output, and the lines that were told."""
+        path = self.put("src/a.rt", text)
+        output, told = io.StringIO(), io.StringIO()
+        with contextlib.redirect_stdout(output), contextlib.redirect_stderr(told):
+            status = main([path, *words])
+        return status, output.getvalue(), [line.removeprefix(f"implement: {path}:") for line in told.getvalue().splitlines()]
+
+    def test_a_struct(self) -> None:
+        status, output, told = self.run_it(POINT)
+        self.assertEqual((status, told), (0, []))
+        self.assertIn("type PointLayout = Record<(u32, ())>;", output)
+        self.assertIn("Whole(self, x).enter(visitor)", output)
+        self.assertIn("ghost is_exact = { true };", output)
+
+    def test_sizes_by_comment_count(self) -> None:
+        text = "#[derive(Drop)]\nstruct A {\n    // allocative: size 16\n    m: &'static str,\n    // allocative: size 40\n    lock: Mutex<u8>,\n    // allocative: skip\n    mean: f64,\n}\n"
+        status, output, told = self.run_it(text)
+        self.assertEqual((status, told), (0, []))
+        self.assertIn("type ALayout = Record<((u64, u64), ([u8; 40], ([String; 0], (u64, ()))))>;", output)
+        self.assertIn('Inside("lock", 40, ())', output)
+
+    def test_flags(self) -> None:
+        _, output, _ = self.run_it("#[derive(Drop)]\nstruct A<T> {\n    a: T,\n    b: u8,\n}\n#[derive(Drop)]\nenum B<T> {\n    C(Vec<T>, u8),\n    D,\n}\n")
+        self.assertIn("ghost is_exact = { ⟦<T as Allocative>⟧.is_exact && (⟦<u8 as Allocative>⟧.is_exact) };", output)
+        self.assertIn("ghost is_exact = { T.is_exact };", output)
+
+    def test_all_faults_at_once(self) -> None:
+        text = "use std::sync::Mutex;\nstruct A {\n    a: f64,\n    b: Mutex<u8>,\n    c: u8,\n    d: Vec<Rc<u8>>,\n}\n#[derive(Drop)]\nenum B {\n    C(char),\n}\n"
+        status, output, told = self.run_it(text)
+        self.assertEqual((status, output), (4, ""))
+        self.assertEqual([line.split(":")[0] for line in told], ["2", "3", "4", "6", "10"])
+        self.assertIn("A.a: `f64` has no implementation: write above it `// allocative: size 8`", told[1])
+        self.assertIn("size N", told[2])
+        self.assertIn("B::C.0", told[4])
+
+    def test_unknown_fields_are_passed_over_where_asked(self) -> None:
+        status, output, _ = self.run_it("#[derive(Drop)]\nstruct A {\n    a: f64,\n    b: u8,\n}\n", "--skip-unknown")
+        self.assertEqual(status, 0)
+        self.assertIn("// `a` is passed over: `f64` has no implementation.\n", output)
+        self.assertNotIn('Field("a"', output)
+
+    def test_types_of_other_files(self) -> None:
+        self.put("src/b.rt", POINT)
+        text = "use crate::b::Point;\n#[derive(Drop)]\nstruct A {\n    a: Point,\n}\n"
+        self.assertIn("`Point` of src/b.rt has no implementation yet", self.run_it(text)[2][0])
+        self.put("src/b/shown.rt", "impl Described for Point {}\nimpl Allocative for Point {}\n")
+        self.assertEqual(self.run_it(text)[0], 0)
+
+    def test_recursive_types_and_cycles(self) -> None:
+        status, output, _ = self.run_it(TREE)
+        self.assertEqual(status, 0)
+        self.assertIn("| Tree-F.Fork a ↦ field (codes \"Fork\") ⟦<Vec<TreeLayout> as Described>⟧.size (vec_in", output)
+        self.assertIn("visited_as c.enter-in-Fork.ensures", self.get("proofs/a/shown/TreeAllocative/+visit/Answers.antt"))
+        two = "#[derive(Drop)]\nstruct A {\n    b: Vec<B>,\n}\n#[derive(Drop)]\nstruct B {\n    a: Vec<A>,\n}\n"
+        self.assertIn("#[cycle(NAME)]", self.run_it(two)[2][0])
+        self.assertIn("holds the type itself in a way", self.run_it("#[derive(Drop)]\nstruct A {\n    a: VecDeque<A>,\n}\n")[2][0])
+
+    def test_enums_of_one_variant(self) -> None:
+        self.assertEqual(self.run_it("#[derive(Drop)]\nenum E {\n    A(u8, String),\n}\n")[0], 0)
+        answer = self.get("proofs/a/shown/EAllocative/visit/Answers.antt")
+        self.assertIn("is-A : (x : E) → (a : _) × (b : _) × (x ≡ A a b)\nis-A (A a b) = (a, b, refl)\n", answer)
+        self.assertIn("write it as a struct", self.run_it("#[derive(Drop)]\nenum E<T> {\n    A(T, u8, u8),\n}\n")[2][0])
+        self.assertIn("write it as a struct", self.run_it("#[derive(Drop)]\nenum E {\n    A(Vec<E>),\n}\n")[2][0])
+
+    def test_paths_of_the_module_itself(self) -> None:
+        text = POINT + "#[derive(Drop)]\nstruct A {\n    a: Vec<self::Point>,\n    // allocative: skip\n    b: super::B,\n}\n"
+        self.assertIn("type ALayout = Record<(Vec<Point>, ([String; 0], ()))>;", self.run_it(text)[1])
+        self.run_it("#[derive(Drop)]\nstruct A {\n    a: Vec<self::A>,\n}\n", "--in-place")
+        self.assertIn("type ALayout = Record<(Vec<()>, ())>;", self.get("src/a.rt"))
+
+    def test_answers_that_are_not_wanted_go(self) -> None:
+        self.put("proofs/a/shown/GoneAllocative/visit/Answers.antt", "-- Written by bin/implement.\n")
+        self.put("proofs/a/shown/MineAllocative/visit/Answers.antt", "-- Mine.\n")
+        self.run_it("#[derive(Drop)]\nenum E {\n    A,\n    B(u8),\n}\n")
+        self.assertEqual(sorted(os.listdir(self.path("proofs/a/shown"))), ["EAllocative", "MineAllocative"])
+
+    def test_in_place_and_check(self) -> None:
+        text = "use std::fmt;\n\n" + POINT + "\n" + TREE
+        self.assertEqual(self.run_it(text, "--check")[0], 1)
+        self.assertEqual(self.run_it(text, "--in-place"), (0, "", []))
+        once = self.get("src/a.rt")
+        self.assertEqual(self.run_it(once, "--check"), (0, "", []))
+        self.assertEqual(self.run_it(once, "--in-place"), (0, "", []))
+        self.assertEqual(self.get("src/a.rt"), once)
+        self.assertEqual(self.run_it(once.replace("x: u32", "x: u64"), "--check")[0], 1)
+
+    def test_a_nested_module(self) -> None:
+        text = "mod inner {\n    #[derive(Drop)]\n    pub struct Point {\n        pub x: u32,\n    }\n}\n"
+        status, _, _ = self.run_it(text, "--in-place", "--module", "inner")
+        self.assertEqual(status, 0)
+        self.assertIn("\n    // allocative: begin\n", self.get("src/a.rt"))
+        self.assertEqual(self.run_it(text, "--module", "outer")[0], 4)
+
+    def test_lines_that_are_asked_for(self) -> None:
+        with open(os.path.join(self.top, "crates.txt"), "w", encoding="utf-8") as file:
+            file.write("page: thiserror\nother: page\n")
+        self.run_it("//! A page.\n\nuse std::fmt;\n\n" + POINT, "--add-lines")
+        self.assertEqual(self.get("src/a.rt").splitlines()[2], "mod shown;")
+        with open(os.path.join(self.top, "crates.txt"), encoding="utf-8") as file:
+            self.assertEqual(file.read(), "page: thiserror allocative\nother: page\n")
+
+    def test_faults_of_the_arguments_and_the_file(self) -> None:
+        self.assertEqual(self.run_it(POINT, "Line")[0], 4)
+        with open(self.put("src/a.rt", ""), "wb") as file:
+            file.write(b"\n\xff")
+        told = io.StringIO()
+        with contextlib.redirect_stderr(told):
+            self.assertEqual(main([self.path("src/a.rt")]), 4)
+            self.assertEqual(main([self.path("src/none.rt")]), 3)
+            self.assertEqual(main([self.top]), 3)
+        self.assertIn("a.rt:2: the text is not UTF-8", told.getvalue())
+
+
+if __name__ == "__main__":
+    unittest.main()

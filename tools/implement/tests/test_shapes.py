@@ -1,0 +1,80 @@
+"""Tests of what is read of types."""
+
+import unittest
+
+from ..shapes import Module, module_of
+from ..tokens import Tokens
+
+
+def read(text: str) -> Module:
+    return module_of(Tokens(text))
+
+
+def fields(text: str) -> list[tuple[str, str, str]]:
+    """The name, the form and the text of each field of a struct with such fields."""
+    return [(each.name, each.type.form, each.type.text) for each in read(f"struct A {{ {text} }}").types["A"].members]
+
+
+class ShapesTest(unittest.TestCase):
+    def test_forms_of_types(self) -> None:
+        forms = {
+            "Vec< Option<u8> >": ("path", "Vec<Option<u8>>"),
+            "std :: collections::HashMap<K, V>": ("path", "std::collections::HashMap<K, V>"),
+            "Vec::<u8>": ("path", "Vec<u8>"),
+            "( u8 ,String )": ("tuple", "(u8, String)"),
+            "(u8,)": ("tuple", "(u8,)"),
+            "((u8))": ("path", "u8"),
+            "[ u8; N + 1 ]": ("array", "[u8; N + 1]"),
+            "&'a mut T": ("reference", "&'a mut T"),
+            "SmallVec<u64, 2>": ("path", "SmallVec<u64, 2>"),
+            "Box<dyn Fn(u8) -> u8>": ("path", "Box<dyn Fn(u8) -> u8>"),
+            "fn(u8) -> u8": ("other", "fn(u8) -> u8"),
+            "*const u8": ("other", "*const u8"),
+            "name!(u8)": ("other", "name!(u8)"),
+        }
+        for text, wanted in forms.items():
+            with self.subTest(text):
+                self.assertEqual(fields(f"a: {text}"), [("a", *wanted)])
+
+    def test_structs(self) -> None:
+        text = "/// Doc {.\n#[derive(Clone, Drop)]\n#[allow(x)]\npub(crate) struct A<'a, T: Ord + Eq, const N: usize> where T: Copy, { pub a: T, #[x] b: [u8; N] }"
+        found = read(text).types["A"]
+        self.assertEqual([(each.kind, each.name, each.bounds) for each in found.parameters], [("lifetime", "'a", ""), ("type", "T", "Ord + Eq"), ("const", "N", "usize")])
+        self.assertEqual((found.where, "Drop" in found.derives, found.is_enum), ("T: Copy", True, False))
+        self.assertEqual([each.name for each in read("struct B(pub (crate::C), pub(super) u8);").types["B"].members], ["0", "1"])
+        self.assertEqual(read("struct C;").types["C"].members, [])
+
+    def test_enums(self) -> None:
+        found = read("enum A { B = 1, C(u8, String), D { e: u8 }, F {}, }").types["A"]
+        self.assertEqual([(each.name, len(each.members), each.is_named) for each in found.variants], [("B", 0, False), ("C", 2, False), ("D", 1, True), ("F", 0, True)])
+
+    def test_directives_of_fields(self) -> None:
+        text = "struct A {\n// allocative: skip\na: f64,\nb: u8,\n// allocative: size 8\npub c: f64 }"
+        self.assertEqual([(each.is_skipped, each.size) for each in read(text).types["A"].members], [(True, None), (False, None), (False, 8)])
+
+    def test_directives_in_other_places(self) -> None:
+        for text in ("struct A { a: f64, // allocative: skip\nb: u8 }", "struct A { a: f64 // allocative: skip\n}", "enum A { B,\n// allocative: skip\nC(u8) }"):
+            with self.subTest(text):
+                self.assertEqual(len(read(text).faults), 1)
+
+    def test_what_is_passed_over(self) -> None:
+        text = "macro_rules! m { ($a:ident) => { struct X; } }\nm! { struct Y { } }\nfn f() -> u8 ensures { struct } { struct Z; 1 }\n#[cfg(test)] struct W; mod n { struct V; } struct U;"
+        found = read(text)
+        self.assertEqual(list(found.types), ["U"])
+        self.assertEqual(list(found.inner["n"].types), ["V"])
+
+    def test_implementations_and_uses(self) -> None:
+        found = read("use a::{b::C, d as E, f::*};\nghost use x.y.{z, ◌<◌, out-A};\nghost use x.Shows as shows;\nimpl<T: Ord> Allocative for m::A<T> where T: Eq {}\nimpl A {}")
+        self.assertEqual(found.uses, {"C": ("a", "b", "C"), "E": ("a", "d")})
+        self.assertEqual(found.ghost_uses, {"z", "◌<◌", "out-A", "shows"})
+        self.assertEqual((found.globs, found.implemented), ([("a", "f")], {"A": {"Allocative"}}))
+
+    def test_all_faults_of_a_module(self) -> None:
+        text = "struct r#type;\nstruct A { b }\nunion U { a: u8 }\nenum B { C D }\nstruct E {\n// allocative: sip\na: u8 }\nstruct F;"
+        found = read(text)
+        self.assertEqual([fault.line for fault in found.faults], [1, 2, 3, 4, 7])
+        self.assertEqual(list(found.types), ["F"])
+
+
+if __name__ == "__main__":
+    unittest.main()
