@@ -9,4 +9,6 @@ mod builders;
 #[cfg(test)]
 mod graphs;
 #[cfg(test)]
+mod json;
+#[cfg(test)]
 mod registries;

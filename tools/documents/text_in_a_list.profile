@@ -1,0 +1,14 @@
+Value 8
+Value;Object;Map 16
+Value;Object;Map;data 8
+Value;Object;Map;data;key;String 16
+Value;Object;Map;data;key;String;ptr 8
+Value;Object;Map;data;key;String;ptr;capacity;u8 2
+Value;Object;Map;data;value;Value 8
+Value;Object;Map;data;value;Value;Array;Vec 16
+Value;Object;Map;data;value;Value;Array;Vec;ptr 8
+Value;Object;Map;data;value;Value;Array;Vec;ptr;Value 24
+Value;Object;Map;data;value;Value;Array;Vec;ptr;Value;Number;Number 16
+Value;Object;Map;data;value;Value;Array;Vec;ptr;Value;String;String 16
+Value;Object;Map;data;value;Value;Array;Vec;ptr;Value;String;String;ptr 8
+Value;Object;Map;data;value;Value;Array;Vec;ptr;Value;String;String;ptr;capacity;u8 2
