@@ -27,7 +27,7 @@ PACK = {
     "IdRc": "allocative",
     "IdArc": "allocative",
 }
-NOT_EXACT = {"OnceBox", "Slab", "Value"}
+NOT_EXACT = {"OnceBox"}
 # Types that have no implementation: their bytes, and a type of the same size, alignment and drop.
 FOREIGN = {
     "f64": (8, "u64"),

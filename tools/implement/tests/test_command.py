@@ -60,6 +60,12 @@ class CommandTest(unittest.TestCase):
         self.assertIn("ghost is_exact = { ⟦<T as Allocative>⟧.is_exact && (⟦<u8 as Allocative>⟧.is_exact) };", output)
         self.assertIn("ghost is_exact = { T.is_exact };", output)
 
+    def test_flags_of_the_pack(self) -> None:
+        _, output, _ = self.run_it("use slab::Slab;\nuse serde_json::Value;\n#[derive(Drop)]\nstruct A {\n    a: Slab<String>,\n    b: Value,\n}\n")
+        self.assertIn("ghost is_exact = { true };", output)
+        _, output, _ = self.run_it("use once_cell::race::OnceBox;\n#[derive(Drop)]\nstruct A {\n    a: OnceBox<u8>,\n}\n")
+        self.assertIn("ghost is_exact = { ⟦<OnceBox<u8> as Allocative>⟧.is_exact };", output)
+
     def test_all_faults_at_once(self) -> None:
         text = "use std::sync::Mutex;\nstruct A {\n    a: f64,\n    b: Mutex<u8>,\n    c: u8,\n    d: Vec<Rc<u8>>,\n}\n#[derive(Drop)]\nenum B {\n    C(char),\n}\n"
         status, output, told = self.run_it(text)
