@@ -195,7 +195,8 @@ impl Visitor<'_> {
     ///
     /// An implementation of `Allocative` enters a part, such as `Inside`, which the checker follows in every
     /// caller. After this call a caller's proof knows the result and the nested visitor. Of this visitor it
-    /// knows only what the starred clause says, which is used by hand.
+    /// knows only what the starred clause says, which is used by hand. One that has to hold the nested visitor, or
+    /// forgets it, enters by the functions of the module `by_hand`, which the checker follows too.
     #[inline(always)]
     pub fn enter(&mut self, key: Key, size: usize) -> Result<Visitor<'_>, Refusal>
         ensures* lent { sem 𝓛 (LendsNested false key size self.entry result) }
