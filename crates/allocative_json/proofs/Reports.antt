@@ -94,7 +94,7 @@ both_shown : {T : Type 0} (p : T → Showing) (a b : T) (f : Forest) → Both (p
 both_shown p a b f (g, h, here, there, e) = (g, h, here, (h, Empty, there, refl, sym (followed_by-empty h)), e)
 
 -- What is profiled of two roots is what both show.
-pub two_roots : {T E : Type 0} (p : T → Showing) (roots : List T) (a b : T) (q r : Showing) (x : Result Profile E)
+two_roots : {T E : Type 0} (p : T → Showing) (roots : List T) (a b : T) (q r : Showing) (x : Result Profile E)
     → roots ≡ a ∷ b ∷ [] → p a ≡ q → p b ≡ r
     → IfOk x (IsProfileOf (each_shows p roots)) → IfOk x (IsProfileOf (Both q r))
 two_roots p roots a b q r (Err e) is first last h = tt
@@ -103,7 +103,7 @@ two_roots p roots a b q r (Ok o) is first last h =
     rw (← first, ← last) (profile_weaker (each_shows p (a ∷ b ∷ [])) (Both (p a) (p b)) o (two_shown p a b) (subst P is h))
 
 -- Two roots are refused where both together may be.
-pub two_refused : {T O : Type 0} (p : T → Showing) (t : T → Bool) (roots : List T) (a b : T) (q r : Showing) (x : Result O Refusal)
+two_refused : {T O : Type 0} (p : T → Showing) (t : T → Bool) (roots : List T) (a b : T) (q r : Showing) (x : Result O Refusal)
     → roots ≡ a ∷ b ∷ [] → p a ≡ q → p b ≡ r → t a ≡ true → t b ≡ true
     → IfErr x (MayRefuseProfile (list_all t roots) (each_shows p roots)) → IfErr x (MayRefuseProfile true (Both q r))
 two_refused p t roots a b q r (Ok o) is first last one other h = tt
@@ -114,21 +114,37 @@ two_refused p t roots a b q r (Err e) is first last one other h = λ _.
     let m : MayRefuse (each_shows p (a ∷ b ∷ [])) k e = subst P is h (rw (one, other) refl) in
     rw (← first, ← last) (may_refuse k k can refl e m)
 
+-- Two roots of exact types: what is profiled of them is what both show, and they are refused where both together may be.
+pub two_profiled : {T : Type 0} (p : T → Showing) (t : T → Bool) (roots : List T) (a b : T) (q r : Showing) (x : Result Profile Refusal)
+    → roots ≡ a ∷ b ∷ [] → p a ≡ q → p b ≡ r → t a ≡ true → t b ≡ true
+    → IfOk x (IsProfileOf (each_shows p roots)) → IfErr x (MayRefuseProfile (list_all t roots) (each_shows p roots))
+    → IfOk x (IsProfileOf (Both q r)) × IfErr x (MayRefuseProfile true (Both q r))
+two_profiled p t roots a b q r x is first last one other made refused =
+    (two_roots p roots a b q r x is first last made, two_refused p t roots a b q r x is first last one other refused)
+
 -- What is profiled of one root is what it shows, followed by nothing.
-pub one_root : {T E : Type 0} (p : T → Showing) (roots : List T) (a : T) (q : Showing) (x : Result Profile E)
+one_root : {T E : Type 0} (p : T → Showing) (roots : List T) (a : T) (q : Showing) (x : Result Profile E)
     → roots ≡ a ∷ [] → p a ≡ q → IfOk x (IsProfileOf (each_shows p roots)) → IfOk x (IsProfileOf (Both q Nothing))
 one_root p roots a q (Err e) is same h = tt
 one_root p roots a q (Ok o) is same h =
     let P : List _ → Type 0 = λ l. IsProfileOf (each_shows p l) o in
     rw (← same) (subst P is h)
 
-pub one_refused : {T O : Type 0} (p : T → Showing) (t : T → Bool) (roots : List T) (a : T) (q : Showing) (x : Result O Refusal)
+one_refused : {T O : Type 0} (p : T → Showing) (t : T → Bool) (roots : List T) (a : T) (q : Showing) (x : Result O Refusal)
     → roots ≡ a ∷ [] → p a ≡ q → t a ≡ true
     → IfErr x (MayRefuseProfile (list_all t roots) (each_shows p roots)) → IfErr x (MayRefuseProfile true (Both q Nothing))
 one_refused p t roots a q (Ok o) is same one h = tt
 one_refused p t roots a q (Err e) is same one h = λ _.
     let P : List _ → Type 0 = λ l. MayRefuseProfile (list_all t l) (each_shows p l) e in
     rw (← same) (subst P is h (rw one refl))
+
+-- One root of an exact type.
+pub one_profiled : {T : Type 0} (p : T → Showing) (t : T → Bool) (roots : List T) (a : T) (q : Showing) (x : Result Profile Refusal)
+    → roots ≡ a ∷ [] → p a ≡ q → t a ≡ true
+    → IfOk x (IsProfileOf (each_shows p roots)) → IfErr x (MayRefuseProfile (list_all t roots) (each_shows p roots))
+    → IfOk x (IsProfileOf (Both q Nothing)) × IfErr x (MayRefuseProfile true (Both q Nothing))
+one_profiled p t roots a q x is same one made refused =
+    (one_root p roots a q x is same made, one_refused p t roots a q x is same one refused)
 
 -- ---- reports of a run
 pub report_for : (texts : List Word) (known : Option (List ℕ)) (input : List ℕ) (asked : Words) (r : Result Report Fault) → AreWords texts → Asks texts asked → IfSome known (λ bytes. input ≡ bytes) → IfOk r (IsRightReport input asked.index asked.exact) → IfOk r (IsReportFor texts known)

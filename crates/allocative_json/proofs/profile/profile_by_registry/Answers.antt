@@ -5,7 +5,7 @@ use denote.Param.Object.{read_made}
 use Rattle.allocative.specs.JsonShows.{stored_value}
 use Rattle.allocative.specs.Shows.{Showing}
 use Rattle.allocative_json.specs.Profile.{index_shows}
-use Rattle.allocative_json.proofs.Reports.{one_root, one_refused, two_roots, two_refused}
+use Rattle.allocative_json.proofs.Reports.{one_profiled, two_profiled}
 use Rattle.allocative_json.proofs.profile.profile_by_registry.OwnLists.{own-1}
 use Rattle.allocative_json.proofs.profile.profile_by_registry.Goals as goal
 
@@ -21,10 +21,9 @@ returns c =
     read_made own-1 _ (inl tt) refl Bool (λ j v. j.1.is_exact) document.vtable document.value c.in_ok-new.field-0.value c.into_dyn_box.ensures.1 in
     let other : (own-1.entry numbers.vtable).1.is_exact ≡ true =
     read_made own-1 _ (inr (inl tt)) refl Bool (λ j v. j.1.is_exact) numbers.vtable numbers.value c.in_ok-new-2.field-0.value c.into_dyn_box-in_ok-new-2.ensures.1 in
-    rw c.in-Some.is (record {
-      profile = two_roots (λ b. (own-1.entry b.vtable).1.may_show b.value) _ document numbers _ _ c.profile_roots-2.result (grind (arith, common_steps)) first last c.profile_roots-2.ensures.profile;
-      refused = two_refused (λ b. (own-1.entry b.vtable).1.may_show b.value) (λ b. (own-1.entry b.vtable).1.is_exact) _ document numbers _ _ c.profile_roots-2.result (grind (arith, common_steps)) first last one other c.profile_roots-2.ensures.refused;
-    })
+    let both = two_profiled (λ b. (own-1.entry b.vtable).1.may_show b.value) (λ b. (own-1.entry b.vtable).1.is_exact) _ document numbers _ _ c.profile_roots-2.result
+    (grind (arith, common_steps)) first last one other c.profile_roots-2.ensures.profile c.profile_roots-2.ensures.refused in
+    rw c.in-Some.is (record { profile = both.0; refused = both.1 })
 
 pub returns-in_default : goal.returns-in_default
 returns-in_default c =
@@ -34,7 +33,6 @@ returns-in_default c =
     let one : (own-1.entry document.vtable).1.is_exact ≡ true =
     read_made own-1 _ (inl tt) refl Bool (λ j v. j.1.is_exact) document.vtable document.value c.in_ok-new.field-0.value c.into_dyn_box.ensures.1 in
     let none : c.args.numbers ≡ None = search rules in
-    rw none (record {
-      profile = one_root (λ b. (own-1.entry b.vtable).1.may_show b.value) _ document _ c.profile_roots.result (grind (arith, common_steps)) first c.profile_roots.ensures.profile;
-      refused = one_refused (λ b. (own-1.entry b.vtable).1.may_show b.value) (λ b. (own-1.entry b.vtable).1.is_exact) _ document _ c.profile_roots.result (grind (arith, common_steps)) first one c.profile_roots.ensures.refused;
-    })
+    let alone = one_profiled (λ b. (own-1.entry b.vtable).1.may_show b.value) (λ b. (own-1.entry b.vtable).1.is_exact) _ document _ c.profile_roots.result
+    (grind (arith, common_steps)) first one c.profile_roots.ensures.profile c.profile_roots.ensures.refused in
+    rw none (record { profile = alone.0; refused = alone.1 })
