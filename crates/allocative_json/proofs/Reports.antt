@@ -1,6 +1,7 @@
 -- How reports of roots are reports of an input, and how their errors are those of a run.
-use Rattle.std.proofs.Common.{◌≡◌, ℕ, ◌<◌, ℤ, length, arith, Bool, List, [], ◌∷◌, Option, None, Some, Result, Ok, Err, IfOk, IfErr, IsErrAnd, IsOkAnd, IfSome, MatchResult, refl, ap, ◌∙◌, sym, subst}
+use Rattle.std.proofs.Common.{◌≡◌, ℕ, ◌<◌, ℤ, length, arith, Bool, true, List, [], ◌∷◌, Option, None, Some, Result, Ok, Err, IfOk, IfErr, IsErrAnd, IsOkAnd, IfSome, MatchResult, refl, ap, ◌∙◌, sym, subst}
 use Rattle.std.specs.BTreeSet.{BTreeSet}
+use Rattle.std.specs.List.{list_all}
 use Rattle.serde_json.specs.Data.{Data}
 use Rattle.serde_json.specs.View.{view}
 use Rattle.serde_json.specs.declared.value.Value.{Value}
@@ -10,7 +11,10 @@ use Rattle.allocative.specs.Refusal.{Refusal}
 use Rattle.allocative.specs.Refusal.TheVariants as refused
 use Rattle.allocative_json.specs.Fault.{status_of, fault_of}
 use Rattle.allocative.specs.Forest.{Forest, Empty, Inline, Unique, First, Again, followed_by}
-use Rattle.allocative.specs.Shows.{Showing, Both, each_shows}
+use Rattle.allocative.specs.Shows.{Showing, Nothing, Both, each_shows}
+use Rattle.allocative.specs.Collector.{Kind, OfGraph, begin, no_entries}
+use Rattle.allocative.specs.Exact.{CanTake, MayRefuse, MayRefuseProfile}
+use Rattle.allocative.proofs.Exact.{may_refuse}
 use Rattle.allocative.specs.Visits.{Profile, IsProfileOf}
 use Rattle.allocative_json.specs.declared.fault.Fault.{Fault}
 use Rattle.allocative_json.specs.declared.fault.Fault.TheVariants.{Memory, NotJson, NotWhole, TooLarge, Reading, Writing, Open}
@@ -33,15 +37,15 @@ pub refused_texts : (p : Showing) (exact : Bool) (o : Profile) (r : Result Repor
 refused_texts p exact o (Ok made) m = tt
 refused_texts p exact o (Err f) m = subst (RefusesRoots p) (sym m) tt
 
-refused_so : (p : Showing) (r : Refusal) → RefusesRoots p (fault_of r)
-refused_so p refused.Memory = tt
-refused_so p refused.TooLarge = tt
-refused_so p refused.Open = tt
+refused_so : (p : Showing) (r : Refusal) → MayRefuseProfile true p r → RefusesRoots p (fault_of r)
+refused_so p refused.Memory h = tt
+refused_so p refused.TooLarge h = h refl
+refused_so p refused.Open h = absurd (h refl)
 
 -- A profile was refused.
-pub refused_profile : {T : Type 0} (p : Showing) (refusal : Refusal) (r : Result T Fault) → IsErrAnd r (λ f. f ≡ fault_of refusal) → IfErr r (RefusesRoots p)
-refused_profile p refusal (Ok x) e = tt
-refused_profile p refusal (Err f) e = subst (RefusesRoots p) (sym e) (refused_so p refusal)
+pub refused_profile : {T : Type 0} (p : Showing) (refusal : Refusal) (r : Result T Fault) → IsErrAnd r (λ f. f ≡ fault_of refusal) → MayRefuseProfile true p refusal → IfErr r (RefusesRoots p)
+refused_profile p refusal (Ok x) e h = tt
+refused_profile p refusal (Err f) e h = subst (RefusesRoots p) (sym e) (refused_so p refusal h)
 
 -- ---- input
 nothing_read : (d : Data) → read [] ≡ Some d → ⊥
@@ -56,7 +60,6 @@ some_input (b ∷ bs) d h = omega arith
 refused_roots : (input : List ℕ) (index : Bool) (v : Value) (n : Option (BTreeSet ℤ)) (f : Fault) → AreRoots input index (view v) n → RefusesRoots (roots_show v n) f → RefusesReport input index f
 refused_roots input index v n Memory h r = some_input input (view v) h.document
 refused_roots input index v n TooLarge h r = (v, n, h, r)
-refused_roots input index v n Open h r = (v, n, h, r)
 refused_roots input index v n f h r = absurd r
 
 -- A report of the roots of the input was refused.
@@ -87,28 +90,61 @@ followed_by-empty (Again k n j a) = ap (Again k n j) (followed_by-empty a)
 two_shown : {T : Type 0} (p : T → Showing) (a b : T) (f : Forest) → each_shows p (a ∷ b ∷ []) f → Both (p a) (p b) f
 two_shown p a b f (g, h, here, (k, none, there, empty, e), d) = (g, k, here, there, d ∙ ap (followed_by g) (e ∙ ap (followed_by k) empty ∙ followed_by-empty k))
 
+both_shown : {T : Type 0} (p : T → Showing) (a b : T) (f : Forest) → Both (p a) (p b) f → each_shows p (a ∷ b ∷ []) f
+both_shown p a b f (g, h, here, there, e) = (g, h, here, (h, Empty, there, refl, sym (followed_by-empty h)), e)
+
 -- What is profiled of two roots is what both show.
-pub two_roots : {T E : Type 0} (p : T → Showing) (roots : List T) (a b : T) (q r : Showing) (x : Result Profile E)
+two_roots : {T E : Type 0} (p : T → Showing) (roots : List T) (a b : T) (q r : Showing) (x : Result Profile E)
     → roots ≡ a ∷ b ∷ [] → p a ≡ q → p b ≡ r
     → IfOk x (IsProfileOf (each_shows p roots)) → IfOk x (IsProfileOf (Both q r))
 two_roots p roots a b q r (Err e) is first last h = tt
 two_roots p roots a b q r (Ok o) is first last h =
     let P : List _ → Type 0 = λ l. IsProfileOf (each_shows p l) o in
-    let Q : Showing → Type 0 = λ s. IsProfileOf (Both s (p b)) o in
-    let R : Showing → Type 0 = λ s. IsProfileOf (Both q s) o in
-    subst R last (subst Q first (profile_weaker (each_shows p (a ∷ b ∷ [])) (Both (p a) (p b)) o (two_shown p a b) (subst P is h)))
+    rw (← first, ← last) (profile_weaker (each_shows p (a ∷ b ∷ [])) (Both (p a) (p b)) o (two_shown p a b) (subst P is h))
 
-one_shown : {T : Type 0} (p : T → Showing) (a : T) (f : Forest) → each_shows p (a ∷ []) f → p a f
-one_shown p a f (g, h, here, none, e) = subst (p a) (sym (e ∙ ap (followed_by g) none ∙ followed_by-empty g)) here
+-- Two roots are refused where both together may be.
+two_refused : {T O : Type 0} (p : T → Showing) (t : T → Bool) (roots : List T) (a b : T) (q r : Showing) (x : Result O Refusal)
+    → roots ≡ a ∷ b ∷ [] → p a ≡ q → p b ≡ r → t a ≡ true → t b ≡ true
+    → IfErr x (MayRefuseProfile (list_all t roots) (each_shows p roots)) → IfErr x (MayRefuseProfile true (Both q r))
+two_refused p t roots a b q r (Ok o) is first last one other h = tt
+two_refused p t roots a b q r (Err e) is first last one other h = λ _.
+    let k : Kind = begin (OfGraph no_entries) in
+    let can : CanTake k (Both (p a) (p b)) → CanTake k (each_shows p (a ∷ b ∷ [])) = λ w. ((w.0.0, both_shown p a b w.0.0 w.0.1, w.0.2), λ f y. w.1 f (two_shown p a b f y)) in
+    let P : List _ → Type 0 = λ l. MayRefuseProfile (list_all t l) (each_shows p l) e in
+    let m : MayRefuse (each_shows p (a ∷ b ∷ [])) k e = subst P is h (rw (one, other) refl) in
+    rw (← first, ← last) (may_refuse k k can refl e m)
 
--- What is profiled of one root is what it shows.
-pub one_root : {T E : Type 0} (p : T → Showing) (roots : List T) (a : T) (q : Showing) (x : Result Profile E)
-    → roots ≡ a ∷ [] → p a ≡ q → IfOk x (IsProfileOf (each_shows p roots)) → IfOk x (IsProfileOf q)
+-- Two roots of exact types: what is profiled of them is what both show, and they are refused where both together may be.
+pub two_profiled : {T : Type 0} (p : T → Showing) (t : T → Bool) (roots : List T) (a b : T) (q r : Showing) (x : Result Profile Refusal)
+    → roots ≡ a ∷ b ∷ [] → p a ≡ q → p b ≡ r → t a ≡ true → t b ≡ true
+    → IfOk x (IsProfileOf (each_shows p roots)) → IfErr x (MayRefuseProfile (list_all t roots) (each_shows p roots))
+    → IfOk x (IsProfileOf (Both q r)) × IfErr x (MayRefuseProfile true (Both q r))
+two_profiled p t roots a b q r x is first last one other made refused =
+    (two_roots p roots a b q r x is first last made, two_refused p t roots a b q r x is first last one other refused)
+
+-- What is profiled of one root is what it shows, followed by nothing.
+one_root : {T E : Type 0} (p : T → Showing) (roots : List T) (a : T) (q : Showing) (x : Result Profile E)
+    → roots ≡ a ∷ [] → p a ≡ q → IfOk x (IsProfileOf (each_shows p roots)) → IfOk x (IsProfileOf (Both q Nothing))
 one_root p roots a q (Err e) is same h = tt
 one_root p roots a q (Ok o) is same h =
     let P : List _ → Type 0 = λ l. IsProfileOf (each_shows p l) o in
-    let Q : Showing → Type 0 = λ s. IsProfileOf s o in
-    subst Q same (profile_weaker (each_shows p (a ∷ [])) (p a) o (one_shown p a) (subst P is h))
+    rw (← same) (subst P is h)
+
+one_refused : {T O : Type 0} (p : T → Showing) (t : T → Bool) (roots : List T) (a : T) (q : Showing) (x : Result O Refusal)
+    → roots ≡ a ∷ [] → p a ≡ q → t a ≡ true
+    → IfErr x (MayRefuseProfile (list_all t roots) (each_shows p roots)) → IfErr x (MayRefuseProfile true (Both q Nothing))
+one_refused p t roots a q (Ok o) is same one h = tt
+one_refused p t roots a q (Err e) is same one h = λ _.
+    let P : List _ → Type 0 = λ l. MayRefuseProfile (list_all t l) (each_shows p l) e in
+    rw (← same) (subst P is h (rw one refl))
+
+-- One root of an exact type.
+pub one_profiled : {T : Type 0} (p : T → Showing) (t : T → Bool) (roots : List T) (a : T) (q : Showing) (x : Result Profile Refusal)
+    → roots ≡ a ∷ [] → p a ≡ q → t a ≡ true
+    → IfOk x (IsProfileOf (each_shows p roots)) → IfErr x (MayRefuseProfile (list_all t roots) (each_shows p roots))
+    → IfOk x (IsProfileOf (Both q Nothing)) × IfErr x (MayRefuseProfile true (Both q Nothing))
+one_profiled p t roots a q x is same one made refused =
+    (one_root p roots a q x is same made, one_refused p t roots a q x is same one refused)
 
 -- ---- reports of a run
 pub report_for : (texts : List Word) (known : Option (List ℕ)) (input : List ℕ) (asked : Words) (r : Result Report Fault) → AreWords texts → Asks texts asked → IfSome known (λ bytes. input ≡ bytes) → IfOk r (IsRightReport input asked.index asked.exact) → IfOk r (IsReportFor texts known)
@@ -124,6 +160,7 @@ refused_run : (texts : List Word) (known : Option (List ℕ)) (input : List ℕ)
 refused_run texts known input asked fault.Words w a e h = absurd h.3
 refused_run texts known input asked Reading w a e h = absurd h.3
 refused_run texts known input asked Writing w a e h = absurd h.3
+refused_run texts known input asked Open w a e h = absurd h.3
 refused_run texts known input asked f w a e h = record { words = w; asked = asked; asks = a; refuses = read_so known input (λ bytes. RefusesReport bytes asked.index f) e h }
 
 pub refuses_run : {T : Type 0} (texts : List Word) (known : Option (List ℕ)) (input : List ℕ) (asked : Words) (r : Result T Fault) → AreWords texts → Asks texts asked → IfSome known (λ bytes. input ≡ bytes) → IfErr r (RefusesReport input asked.index) → IfErr r (MayEndRun texts known)

@@ -1,5 +1,5 @@
 -- What the roots of a document show, and which reports of them are right.
-use Rattle.std.specs.Prelude.{◌≡◌, ℕ, ℤ, ◌<◌, ⊤, Bool, false, List, length, Option, None, Some, codes, string_bytes}
+use Rattle.std.specs.Prelude.{◌≡◌, ℕ, ℤ, ◌<◌, ⊤, Bool, false, List, length, Option, Some, codes, string_bytes}
 use Rattle.std.specs.BTreeSet.{BTreeSet}
 use Rattle.serde_json.specs.Data.{Data}
 use Rattle.serde_json.specs.View.{view}
@@ -7,9 +7,12 @@ use Rattle.serde_json.specs.declared.value.Value.{Value}
 use Rattle.allocative.specs.Graph.{text}
 use Rattle.allocative.specs.Shows.{Showing, Nothing, Both, Inside, Field, each_shows}
 use Rattle.allocative.specs.Visits.{Profile, IsProfileOf}
+use Rattle.allocative.specs.Collector.{OfGraph, begin, no_entries}
+use Rattle.allocative.specs.Exact.{CanTake}
 use Rattle.allocative.specs.JsonShows.{stored_value}
+use Rattle.allocative.specs.Parts.{optional_shows}
 use Rattle.allocative_json.specs.declared.fault.Fault.{Fault}
-use Rattle.allocative_json.specs.declared.fault.Fault.TheVariants.{Memory, NotJson, NotWhole, TooLarge, Open}
+use Rattle.allocative_json.specs.declared.fault.Fault.TheVariants.{Memory, NotJson, NotWhole, TooLarge}
 use Rattle.allocative_json.specs.declared.printed.Report.{Report}
 use Rattle.allocative_json.specs.Lines.{asked_text}
 use Rattle.allocative_json.specs.Numbers.{is_whole}
@@ -23,14 +26,9 @@ key_shows k = Field (codes "key") (Some 16) (Field (codes "i128") (Some 16) Noth
 abbrev pub index_shows : BTreeSet ℤ → Showing
 index_shows s = Field (codes "BTreeSet") (Some 24) (Inside (codes "data") 8 (each_shows key_shows s.keys))
 
--- What a document shows, with the room of its texts and arrays.
-abbrev pub document_shows : Value → Showing
-document_shows v = stored_value v
-
--- What a document shows, followed by what a set shows where there is one.
+-- What a document shows, with the room of its texts and arrays, followed by what a set shows where there is one.
 abbrev pub roots_show : Value → Option (BTreeSet ℤ) → Showing
-roots_show v None = document_shows v
-roots_show v (Some s) = Both (document_shows v) (index_shows s)
+roots_show v n = Both (stored_value v) (optional_shows index_shows n)
 
 -- The texts of a profile: that of its graph, which with `exact` is without the lines that `exact` drops, and that of its
 -- warnings.
@@ -51,16 +49,16 @@ pub record IsRightReport (input : List ℕ) (index exact : Bool) (made : Report)
   pub roots : AreRoots input index (view document) numbers
   pub report : IsReportOf (roots_show document numbers) exact made
 
--- The faults that making a report of roots may return.
+-- The faults that making a report of what p allows may return: Memory; and TooLarge, where an empty collector of a flame
+-- graph cannot take all that p allows.
 abbrev pub RefusesRoots : Showing → Fault → Type 0
 RefusesRoots p Memory = ⊤
-RefusesRoots p TooLarge = ⊤
-RefusesRoots p Open = ⊤
+RefusesRoots p TooLarge = ¬ CanTake (begin (OfGraph no_entries)) p
 RefusesRoots p f = ⊥
 
 -- The faults that making a report of the input may return: Memory only where the input is not empty; NotJson only where
--- it is no document; NotWhole only where it is a document with another number; TooLarge and Open only where it has roots
--- that may be refused so.
+-- it is no document; NotWhole only where it is a document with another number; TooLarge only where it has roots whose
+-- report may be refused so; and no other.
 abbrev pub RefusesReport : List ℕ → Bool → Fault → Type 0
 RefusesReport input index Memory = 0 < length input
 RefusesReport input index NotJson = (d : Data) → ¬ IsDocument input d

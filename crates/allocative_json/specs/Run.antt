@@ -2,7 +2,7 @@
 use Rattle.std.specs.Prelude.{◌≡◌, ℕ, ◌<◌, ⊤, List, length, Option, IfSome, string_bytes}
 use Rattle.std.specs.Io.KnownBytes.{Appends}
 use Rattle.allocative_json.specs.declared.fault.Fault.{Fault}
-use Rattle.allocative_json.specs.declared.fault.Fault.TheVariants.{Memory, Reading, Writing}
+use Rattle.allocative_json.specs.declared.fault.Fault.TheVariants.{Memory, Reading, Writing, Open}
 use Rattle.allocative_json.specs.declared.fault.Fault.TheVariants as fault
 use Rattle.allocative_json.specs.declared.printed.Report.{Report}
 use Rattle.allocative_json.specs.declared.words.Words.{Words}
@@ -49,11 +49,12 @@ pub record IsRefused (texts : List Word) (known : Option (List ℕ)) (cause : Fa
   pub refuses : IfSome known (λ bytes. RefusesReport bytes asked.index cause)
 
 -- The faults that may end a run before anything is written: Words exactly where the words are not accepted;
--- otherwise a fault of reading, or of a report of the bytes that were read.
+-- otherwise a fault of reading, or of a report of the bytes that were read. Open is none of them.
 abbrev pub MayEndRun : List Word → Option (List ℕ) → Fault → Type 0
 MayEndRun texts known fault.Words = ¬ AreWords texts
 MayEndRun texts known Reading = AreWords texts
 MayEndRun texts known Writing = ⊥
+MayEndRun texts known Open = ⊥
 MayEndRun texts known f = IsRefused texts known f
 
 -- The status is that of a fault that may end the run before anything is written.

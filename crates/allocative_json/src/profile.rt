@@ -1,47 +1,41 @@
 //! Makes the report of a document.
-#![tactic(auto, using(allocative::proofs::Roots::running))]
+#![tactic(auto, using(allocative::proofs::Parts::parts))]
 
-ghost use Rattle.std.specs.Prelude.{IfOk, IfErr};
-ghost use Rattle.allocative.specs.Visits.{Runs, IsProfileOf};
+ghost use Rattle.std.specs.Prelude.{true, IfOk, IfErr};
+ghost use Rattle.std.specs.Option.{option_copied};
+ghost use Rattle.allocative.specs.Exact.{MayRefuseProfile};
+ghost use Rattle.allocative.specs.Visits.{IsProfileOf};
 ghost use Rattle.allocative_json.specs.Profile.{roots_show, IsReportOf, IsRightReport, RefusesRoots, RefusesReport};
 
 use crate::fault::Fault;
 use crate::printed::Report;
 use crate::roots::read_roots;
 use crate::texts::report;
-use allocative::{FlameGraphBuilder, FlameGraphOutput, Refusal, Registry, profile_roots};
+use allocative::{
+    Allocative, FlameGraphOutput, Part, Refusal, Registry, Visitor, profile_roots, profile_value,
+};
 use serde_json::Value;
 use std::alloc::Global;
 use std::collections::BTreeSet;
 
-// Visits the document, and then the set where there is one.
-fn visit_roots(
-    builder: &mut FlameGraphBuilder,
-    document: &Value,
-    numbers: &Option<BTreeSet<i128>>,
-) -> Result<(), Refusal>
-    ensures { Runs (roots_show document.now numbers.now) builder.old result builder.new }
-{
-    match numbers {
-        Some(numbers) => {
-            builder.visit_value(document)?;
-            builder.visit_value(numbers)
-        }
-        None => builder.visit_value(document),
-    }
+// A document, and the set of its numbers where there is one.
+#[derive(Drop)]
+struct Roots<'a> {
+    document: &'a Value,
+    numbers: Option<&'a BTreeSet<i128>>,
 }
 
-// The graph and the warnings of these roots.
-fn profile_of(
-    alloc: Global,
-    document: &Value,
-    numbers: &Option<BTreeSet<i128>>,
-) -> Result<FlameGraphOutput, Refusal>
-    ensures { IfOk result (IsProfileOf (roots_show document.now numbers.now)) }
-{
-    let mut builder = FlameGraphBuilder::new(alloc)?;
-    visit_roots(&mut builder, document, numbers)?;
-    builder.finish()
+impl Allocative for Roots<'_> {
+    ghost may_show = { λ r. roots_show r.document.now (option_copied r.numbers) };
+
+    ghost is_exact = { true };
+
+    fn visit(&self, visitor: &mut Visitor<'_>) -> Result<(), Refusal> {
+        match self.numbers {
+            Some(numbers) => (self.document, numbers).enter(visitor),
+            None => (self.document, ()).enter(visitor),
+        }
+    }
 }
 
 // The graph and the warnings of these roots, which are boxed and visited by a registry.
@@ -50,7 +44,8 @@ fn profile_by_registry(
     document: Value,
     numbers: Option<BTreeSet<i128>>,
 ) -> Result<FlameGraphOutput, Refusal>
-    ensures { IfOk result (IsProfileOf (roots_show document numbers)) }
+    ensures profile { IfOk result (IsProfileOf (roots_show document numbers)) }
+    ensures refused { IfErr result (MayRefuseProfile true (roots_show document numbers)) }
 {
     let mut registry = Registry::new(alloc);
     if registry.register_root(Box::new(alloc, document)?).is_err() {
@@ -75,7 +70,8 @@ pub(crate) fn report_of(
     ensures ok { IfOk result (IsReportOf (roots_show document.now numbers.now) exact) }
     ensures err { IfErr result (RefusesRoots (roots_show document.now numbers.now)) }
 {
-    let output = profile_of(alloc, document, numbers)?;
+    let numbers = numbers.as_ref();
+    let output = profile_value(alloc, &Roots { document, numbers })?;
     report(alloc, &output, exact)
 }
 
@@ -97,10 +93,9 @@ pub(crate) fn report_by_registry(
 /// warnings. With `exact` the profile is without the lines whose last key is `unused_capacity`. The roots are visited
 /// by their own `visit`.
 ///
-/// It returns `Fault::NotJson` and `Fault::NotWhole` where `read_roots` does. It returns `Fault::TooLarge` where
-/// the declared sizes exceed their bound, and `Fault::Open` where a visitor is forgotten, which no implementation
-/// used here does. Both occur only for a document whose numbers are whole. Otherwise the error is
-/// `Fault::Memory`, which an empty input never causes.
+/// It returns `Fault::NotJson` and `Fault::NotWhole` where `read_roots` does, and `Fault::TooLarge` only where the
+/// numbers of the document are whole and the declared sizes of the roots exceed the bound of a flame graph. Otherwise
+/// the error is `Fault::Memory`, which an empty input never causes.
 pub fn profile_json(alloc: Global, input: &[u8], index: bool, exact: bool) -> Result<Report, Fault>
     ensures ok { IfOk result (IsRightReport input.now index exact) }
     ensures err { IfErr result (RefusesReport input.now index) }

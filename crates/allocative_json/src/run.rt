@@ -118,7 +118,8 @@ fn finish<W: Write, E: Write>(made: Result<Report, Fault>, output: &mut W, error
 /// With status 0 the profile is on the output and the warnings are on the errors. Both are made before
 /// anything is written, and the profile is written first. Otherwise the message of the fault is written to the
 /// errors and, except with status 7, nothing is written to the output. The status is that of the fault even
-/// where the message cannot be written. With the word `registry` the roots are boxed and visited by a
+/// where the message cannot be written. It is 4 only where the declared sizes exceed the bound of a flame graph, and
+/// never 8. With the word `registry` the roots are boxed and visited by a
 /// registry, and the same clauses hold.
 pub fn run_json<R: Read, W: Write, E: Write>(
     alloc: Global,
