@@ -47,10 +47,12 @@ def run(command: list[str], folder: str) -> Check:
 
 
 def link(folder: str, to: str) -> None:
-    """Copies what a check kept. A check replaces a checked module and never changes it, so these are links."""
+    """Gives what a check or a build kept second names elsewhere, which take no room on the disk.
+
+    A file of a library is removed before it is made anew, and so is a checked module. All else is copied."""
 
     def copy(one: str, other: str) -> str:
-        if one.endswith(".oantt"):
+        if "/rlib/" in one or one.endswith(".oantt"):
             os.link(one, other)
             return other
         return shutil.copy2(one, other)
