@@ -17,4 +17,5 @@ pub mod WorkedExamples
 pub mod Report
 pub mod Reads
 pub mod Many
+pub mod Read
 pub mod Representation
