@@ -55,3 +55,12 @@ module _ (cs : List Child) (o : InOrder cs) (k : Key) where
     below = subst (λ (s : List Child). AllBelow s k) (sym (take_all (length cs) cs (omega arith))) (below_last cs k n d len o less);
     above = subst (λ (s : List Child). AllAbove s k) (sym (drop_all (length cs) cs (omega arith))) tt;
   }
+
+-- A key that is at a place is found there.
+pub at_last : (cs : List Child) (k : Key) (n : ℕ) (d : Child) → n < length cs → (get_or cs n d).key ≡ k → IsFound cs k n
+at_last cs k n d within e = record { within = within; same = λ x. ap (λ (c : Child). c.key) (same_item cs n x d within) ∙ e }
+  where
+    same_item : (cs : List Child) (n : ℕ) (x y : Child) → n < length cs → get_or cs n x ≡ get_or cs n y
+    same_item [] n x y h = absurd (omega arith)
+    same_item (c ∷ cs) zero x y h = refl
+    same_item (c ∷ cs) (suc n) x y h = same_item cs n x y (omega arith)

@@ -12,10 +12,10 @@ pub mod Held
 pub mod Collector
 pub mod Shows
 pub mod Visits
+pub mod Read
 pub mod Laws
 pub mod WorkedExamples
 pub mod Report
 pub mod Reads
 pub mod Many
-pub mod Read
 pub mod Representation

@@ -1,17 +1,17 @@
 -- What a text of collapsed stacks says, which line of it is none, and the graph that its lines add up to.
-use Rattle.std.specs.Prelude.{◌≡◌, ℕ, ◌+◌, ◌^◌, ◌<◌, ◌≤◌, ◌||◌, ◌==◌, Bool, cond, List, [], ◌∷◌, ◌++◌, length, Some, None, sum_by}
+use Rattle.std.specs.Prelude.{◌≡◌, ℕ, ◌+◌, ◌^◌, ◌<◌, ◌≤◌, ◌||◌, ◌==◌, Bool, not, cond, filter, List, [], ◌∷◌, ◌++◌, length, Some, None, sum_by}
 use Rattle.std.specs.Bool.{⊤}
-use Rattle.std.specs.List.{list_any, slice_split}
+use Rattle.std.specs.List.{AllByRecursion, list_any, slice_split}
 use Rattle.std.specs.Str.Lines.{lines}
 use Rattle.std.specs.Str.Parse.{IsNumeral, digits_value, without_leading_plus}
-use Rattle.std.specs.FinMap.{get}
+use Rattle.std.specs.FinMap.{get, entries}
 use Rattle.allocative_graph.specs.declared.read.TheConstants.{LEVELS}
 use Rattle.allocative_graph.specs.declared.read.Line.{Line}
 use Rattle.allocative_graph.specs.declared.read.LineFault.{LineFault}
 use Rattle.allocative_graph.specs.declared.read.LineFault.TheVariants.{NoSpace, NoPath, NoNumber, TooDeep}
 use Rattle.allocative_graph.specs.Path.{Key, Path, is_same_path}
 use Rattle.allocative_graph.specs.Format.{semicolon, space}
-use Rattle.allocative_graph.specs.Graph.{Graph, size_at, total, begins, is_root, text, Lacks, HasPlainKeys, HasWords}
+use Rattle.allocative_graph.specs.Graph.{Graph, size_at, total, begins, is_root, joined, text, Lacks, HasPlainKeys, HasWords}
 
 -- ---- lines
 -- A path with its bytes.
@@ -112,6 +112,11 @@ pub record Exceeds (t : List ℕ) : Type 0 where
   pub stacks : List Stack
   pub means : Means t stacks
   pub exceeds : 2 ^ 64 ≤ all_bytes stacks
+
+-- Each path that has a line in the text of g has at most `LEVELS` keys, and is not one empty key.
+abbrev pub CanBeRead : Graph → Type 0
+CanBeRead g = AllByRecursion (λ e. (length e.0 ≤ LEVELS) × (0 < length (joined e.0)))
+    (filter (λ e. not (is_root e.0 || (e.1 == 0))) (entries g))
 
 -- Where the text is that of a graph in which no key has a `;` or a line feed, h has the sizes of that graph at each
 -- path but the root.

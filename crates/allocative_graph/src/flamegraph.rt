@@ -210,10 +210,10 @@ impl FlameGraph {
         self.node_size += node_size;
         // One child is put among those that are there, which are not read one by one.
         if children.len() < 2 {
-            return match children.pop() {
-                Some(child) => put_child(&mut self.children, &mut self.children_size, child),
-                None => Ok(()),
+            let Some(child) = children.pop() else {
+                return Ok(());
             };
+            return put_child(&mut self.children, &mut self.children_size, child);
         }
         let alloc = *self.children.allocator();
         let merged = Vec::with_capacity(alloc, self.children.len() + children.len())?;

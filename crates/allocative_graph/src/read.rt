@@ -162,7 +162,7 @@ fn read_lines(alloc: Global, text: &'static str) -> Result<Vec<Line>, ReadFault>
     for line in text.lines() {
         number = number.saturating_add(1);
         match read_line(line) {
-            Ok(line) => lines.push(line)?,
+            Ok(read) => lines.push(read)?,
             Err(wrong) => return Err(ReadFault::Line(number, wrong)),
         }
     }

@@ -1,0 +1,63 @@
+-- The lines of a text that is read, one after another.
+use Rattle.std.proofs.Common.{◌≡◌, ℕ, suc, ◌+◌, ◌<◌, ◌≤◌, ◌==◌, Bool, true, false, cond, List, Bor, [], ◌∷◌, ◌++◌, map, take, drop, length, get_or, refl, sym, ap, subst, ◌∙◌, drop-cons, arith}
+use Rattle.std.specs.List.{slice_split}
+use Rattle.std.specs.Str.Lines.{lines, lines_of_parts}
+use Rattle.std.proofs.lemmas.List.{take-append-drop, map-append, length-map}
+use Rattle.std.proofs.lemmas.List.Splits.{length-slice_split}
+use Rattle.std.proofs.lemmas.List.Sums.{count_by-le-length}
+use Rattle.allocative_graph.specs.declared.read.Line.{Line}
+use Rattle.allocative_graph.specs.declared.read.LineFault.{LineFault}
+use Rattle.allocative_graph.specs.Read.{Stack, seen, IsStack, IsWrong, AreStacks, Means, IsFault}
+use Rattle.allocative_graph.proofs.NodeText.{texts}
+use Rattle.allocative_graph.proofs.Stacks.{wrong_is_none}
+
+parts_fit : (ps : List (List ℕ)) → length (lines_of_parts ps) ≤ length ps
+parts_fit [] = omega arith
+parts_fit (x ∷ []) = by (length x == 0)
+  where
+    by : (t : Bool) → length (cond t [] (x ∷ [])) ≤ 1
+    by true = omega arith
+    by false = omega arith
+parts_fit (x ∷ y ∷ ps) = omega (arith, parts_fit (y ∷ ps))
+
+-- A text has at most one line more than bytes.
+pub lines_fit : (bs : List ℕ) → length (lines bs) ≤ length bs + 1
+lines_fit bs =
+    let newline : ℕ → Bool = λ b. b == 10 in
+    omega (arith, parts_fit (slice_split newline bs), length-slice_split newline bs, count_by-le-length newline bs)
+
+stacks-push : (ls : List (List ℕ)) (ss : List Stack) (l : List ℕ) (s : Stack) → AreStacks ls ss → IsStack l s → AreStacks (ls ++ l ∷ []) (ss ++ s ∷ [])
+stacks-push [] [] l s h is = (is, tt)
+stacks-push [] (t ∷ ss) l s h is = absurd h
+stacks-push (k ∷ ls) [] l s h is = absurd h
+stacks-push (k ∷ ls) (t ∷ ss) l s h is = (h.0, stacks-push ls ss l s h.1 is)
+
+-- One line more was read.
+pub read-more : (xs : List (Bor (List ℕ))) (x : Bor (List ℕ)) (now then : List Line) (line : Line) → AreStacks (texts xs) (map seen now) → IsStack x.now (seen line) → then ≡ now ++ line ∷ []
+    → AreStacks (texts (xs ++ x ∷ [])) (map seen then)
+read-more xs x now then line h is e =
+    let front : texts (xs ++ x ∷ []) ≡ texts xs ++ x.now ∷ [] = map-append (λ (x : Bor (List ℕ)). x.now) xs (x ∷ []) in
+    let back : map seen then ≡ map seen now ++ seen line ∷ [] = ap (map seen) e ∙ map-append seen now (line ∷ []) in
+    subst (λ (X : Type 0). X) (λ i. AreStacks (sym front i) (sym back i)) (stacks-push (texts xs) (map seen now) x.now (seen line) h is)
+
+-- At the end all lines of the text were read.
+pub read-all : (text : List ℕ) (xs : List (Bor (List ℕ))) (ls : List Line) → texts xs ≡ lines text → AreStacks (texts xs) (map seen ls) → Means text (map seen ls)
+read-all text xs ls e h = subst (λ (ks : List (List ℕ)). AreStacks ks (map seen ls)) e h
+
+-- The line behind those that were read is the first that is none.
+pub fault_at : (text : List ℕ) (xs : List (Bor (List ℕ))) (x : Bor (List ℕ)) (n : ℕ) (w : LineFault) (ls : List Line) → texts xs ≡ take (length xs) (lines text)
+    → (length xs < length (lines text)) × (x.now ≡ get_or (lines text) (length xs) x.now) → AreStacks (texts xs) (map seen ls) → IsWrong w x.now → n ≡ length xs + 1 → IsFault text n w
+fault_at text xs x n w ls front at h wrong e = let next : suc (length xs) ≡ length xs + 1 = omega arith in record {
+  before = texts xs;
+  line = x.now;
+  rest = drop (length xs + 1) (lines text);
+  stacks = map seen ls;
+  parts =
+      sym (take-append-drop (length xs) (lines text))
+      ∙ (λ i. sym front i ++ drop-cons (lines text) (length xs) x.now at.0 i)
+      ∙ (λ i. texts xs ++ sym at.1 i ∷ drop (next i) (lines text));
+  counted = e ∙ ap (λ k. k + 1) (sym (length-map {B = List ℕ} xs (λ (x : Bor (List ℕ)). x.now)));
+  read = h;
+  wrong = wrong;
+  none = wrong_is_none w x.now wrong;
+}

@@ -1,0 +1,28 @@
+-- The graphs of some texts, one added after another.
+use Rattle.std.proofs.Common.{◌≡◌, ℕ, zero, suc, ◌+◌, ◌<◌, ◌⊎◌, inl, inr, Bool, List, [], ◌∷◌, ◌++◌, map, take, length, get_or, refl, sym, ap, subst, ◌∙◌, arith}
+use Rattle.std.proofs.lemmas.List.{map-append, take_more}
+use Rattle.allocative_graph.specs.declared.read.LineFault.{LineFault}
+use Rattle.allocative_graph.specs.Graph.{Graph, default, sum_of}
+use Rattle.allocative_graph.specs.Read.{IsRead, IsFault}
+use Rattle.allocative_picture_filter.specs.declared.fault.Source.{Source}
+use Rattle.allocative_picture_filter.specs.declared.run.Text.{Text}
+use Rattle.allocative_picture_filter.specs.Run.{bytes_of, AddUp, AddUpOnto, IsFaultOf}
+
+-- One text more is added.
+pub add-push : (f : Graph) (ts : List (List ℕ)) (t : List ℕ) (g h read : Graph) → AddUpOnto f ts g → IsRead t read → h ≡ sum_of g read → AddUpOnto f (ts ++ t ∷ []) h
+add-push f [] t g h read up is e = (read, is, e ∙ ap (λ (x : Graph). sum_of x read) up)
+add-push f (s ∷ ts) t g h read (first, first_is, up) is e = (first, first_is, add-push (sum_of f first) ts t g h read up is e)
+
+-- One text more of a list is added.
+pub add-more : (xs : List Text) (i : ℕ) (x : Text) (g h read : Graph) → i < length xs → x ≡ get_or xs i x → AddUp (map bytes_of (take i xs)) g → IsRead x.bytes.now read → h ≡ sum_of g read
+    → AddUp (map bytes_of (take (i + 1) xs)) h
+add-more xs i x g h read within at up is e =
+    let more : map bytes_of (take (i + 1) xs) ≡ map bytes_of (take i xs) ++ bytes_of x ∷ [] =
+    ap (map bytes_of) (take_more xs i x within ∙ ap (λ (y : Text). take i xs ++ y ∷ []) (sym at)) ∙ map-append bytes_of (take i xs) (x ∷ []) in
+    subst (λ (ts : List (List ℕ)). AddUp ts h) (sym more) (add-push default (map bytes_of (take i xs)) (bytes_of x) g h read up is e)
+
+-- A fault of one of the texts is one of them all.
+pub fault-at : (s : Source) (n : ℕ) (w : LineFault) (xs : List Text) (i : ℕ) (x : Text) → i < length xs → x ≡ get_or xs i x → (x.source ≡ s) × IsFault x.bytes.now n w → IsFaultOf s n w xs
+fault-at s n w [] i x within at h = absurd (omega arith)
+fault-at s n w (y ∷ xs) zero x within at h = inl (subst (λ (t : Text). (t.source ≡ s) × IsFault t.bytes.now n w) at h)
+fault-at s n w (y ∷ xs) (suc i) x within at h = inr (fault-at s n w xs i x (omega arith) at h)
