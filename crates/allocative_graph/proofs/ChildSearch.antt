@@ -12,11 +12,6 @@ use Rattle.allocative_graph.specs.Path.{Key, key_cmp}
 use Rattle.allocative_graph.specs.Representation.Children.{InOrder, AllBelow, AllAbove, IsFound, IsChildGap}
 use Rattle.allocative_graph.proofs.ChildOrder.{key_same, key_turn, below_last, neighbors}
 
-pub less_is : (o : Ordering) → is_lt o ≡ true → o ≡ Less
-less_is Less h = refl
-less_is Equal h = absurd (cc)
-less_is Greater h = absurd (cc)
-
 below_from : (cs : List Child) (i : ℕ) (k : Key) → i ≤ length cs → ((j : ℕ) (d : Child) → j < i → key_cmp (get_or cs j d).key k ≡ Less) → AllBelow (take i cs) k
 below_from cs zero k within f = tt
 below_from [] (suc i) k within f = absurd (omega arith)
@@ -56,11 +51,11 @@ module _ (cs : List Child) (o : InOrder cs) (k : Key) where
     above = subst (λ (s : List Child). AllAbove s k) (sym (drop_all (length cs) cs (omega arith))) tt;
   }
 
+same_item : (cs : List Child) (n : ℕ) (x y : Child) → n < length cs → get_or cs n x ≡ get_or cs n y
+same_item [] n x y h = absurd (omega arith)
+same_item (c ∷ cs) zero x y h = refl
+same_item (c ∷ cs) (suc n) x y h = same_item cs n x y (omega arith)
+
 -- A key that is at a place is found there.
 pub at_last : (cs : List Child) (k : Key) (n : ℕ) (d : Child) → n < length cs → (get_or cs n d).key ≡ k → IsFound cs k n
 at_last cs k n d within e = record { within = within; same = λ x. ap (λ (c : Child). c.key) (same_item cs n x d within) ∙ e }
-  where
-    same_item : (cs : List Child) (n : ℕ) (x y : Child) → n < length cs → get_or cs n x ≡ get_or cs n y
-    same_item [] n x y h = absurd (omega arith)
-    same_item (c ∷ cs) zero x y h = refl
-    same_item (c ∷ cs) (suc n) x y h = same_item cs n x y (omega arith)

@@ -1,6 +1,7 @@
 -- The graphs of stacks, path by path, and what they add up to in any order.
-use Rattle.std.proofs.Common.{◌≡◌, ℕ, ◌+◌, ◌||◌, ◌&&◌, Bool, true, false, cond, List, [], ◌∷◌, ◌++◌, map, take, get_or, Option, Some, None, is_some, refl, sym, ap, ◌∙◌, subst, true≢false, unwrap_or, sum_by, arith, Ordering, Less, Equal, Greater}
+use Rattle.std.proofs.Common.{◌≡◌, ℕ, ◌+◌, ◌^◌, ◌<◌, ◌≤◌, ◌||◌, ◌&&◌, Bool, true, false, cond, List, [], ◌∷◌, ◌++◌, map, take, get_or, Option, Some, None, is_some, refl, sym, ap, ◌∙◌, subst, true≢false, unwrap_or, sum_by, arith, Ordering, Less, Equal, Greater}
 use Rattle.std.specs.Prelude.{fold}
+use Rattle.std.specs.Option.{SomeIff}
 use Rattle.std.specs.List.{list_any}
 use Rattle.std.specs.List.Sorted.{IsPermutation}
 use Rattle.std.specs.Ordering.{is_eq, ordering_then}
@@ -176,3 +177,8 @@ line-more ls i l g h more was is =
 pub nested-push : (ks : Path) (k : Key) (g : Graph) → nested (ks ++ k ∷ []) g ≡ nested ks (sum_of default (under k g))
 nested-push [] k g = refl
 nested-push (l ∷ ks) k g = ap (λ (h : Graph). sum_of default (under l h)) (nested-push ks k g)
+
+-- Where the bytes of lines were added up in vain, they exceed a word.
+pub sum_exceeds : (ls given : List Line) (o : Option ℕ) → given ≡ ls → SomeIff o (sum_by (λ l. l.size) given < 2 ^ 64) (sum_by (λ l. l.size) given) → is_some o ≡ false → 2 ^ 64 ≤ all_bytes (map seen ls)
+sum_exceeds ls given None e h none = omega (arith, h, ap (λ (xs : List Line). sum_by (λ l. l.size) xs) e, bytes_seen ls)
+sum_exceeds ls given (Some n) e h none = absurd (true≢false none)

@@ -1,10 +1,11 @@
 -- Lines of collapsed stacks: where a line is cut, and which lines are none.
-use Rattle.std.proofs.Common.{◌≡◌, ◌≢◌, ℕ, suc, ◌+◌, ◌<◌, ◌≤◌, ◌==◌, Bool, true, false, cond, List, [], ◌∷◌, ◌++◌, length, get_or, take, drop, Option, None, Some, Result, Ok, Err, refl, ap, sym, ◌∙◌, subst, arith, Bor, MatchOption, eqb-true}
+use Rattle.std.proofs.Common.{◌≡◌, ◌≢◌, ℕ, zero, suc, ◌+◌, ◌<◌, ◌≤◌, ◌==◌, Bool, true, false, cond, List, [], ◌∷◌, ◌++◌, length, get_or, take, drop, Option, None, Some, Result, Ok, Err, refl, ap, sym, ◌∙◌, subst, arith, Bor, MatchOption, eqb-true, true≢false}
 use Rattle.std.specs.Str.Pattern.{RFindsChar}
 use Rattle.std.specs.Str.Parse.{AllDigits, ParsesUnsigned}
 use Rattle.std.specs.Char.{digit_value}
 use Rattle.std.proofs.lemmas.Str.Pattern.{NoCharPasses-char, drop_at_char}
-use Rattle.std.proofs.lemmas.List.{take-append-drop}
+use Rattle.std.proofs.lemmas.List.{take-append-drop, nil_from_length}
+use Rattle.allocative_graph.specs.declared.read.TheConstants.{LEVELS}
 use Rattle.allocative_graph.specs.declared.read.LineFault.{LineFault}
 use Rattle.allocative_graph.specs.declared.read.LineFault.TheVariants.{NoSpace, NoPath, NoNumber, TooDeep}
 use Rattle.allocative_graph.specs.Graph.{Lacks}
@@ -61,3 +62,33 @@ wrong_is_none TooDeep line (front, back, cut, reads, deep) s is =
 -- Where a text is not read as a number, it is none.
 pub no_number : {E : Type 0} (bs : List ℕ) (e : E) → ParsesUnsigned 64 10 bs (Err e) → IsNumber bs → ⊥
 no_number bs e h is = h is
+
+-- ---- what the code finds in a line
+pub cut_of : (line front back : List ℕ) → (line ≡ front ++ 32 ∷ back) × Lacks 32 back → IsCut line front back
+cut_of line front back h = record { parts = h.0; last = h.1 }
+
+pub no_path : (line front back : List ℕ) → IsCut line front back → (length front == 0) ≡ true → IsWrong NoPath line
+no_path line front back cut e = (back, subst (λ (f : List ℕ). IsCut line f back) (nil_from_length front (eqb-true (length front) 0 e)) cut)
+
+not_zero : (n : ℕ) → (n == 0) ≡ false → 0 < n
+not_zero zero e = absurd (true≢false e)
+not_zero (suc n) e = omega arith
+
+pub none_behind : (line front back : List ℕ) → IsCut line front back → (length front == 0) ≡ false → (IsNumber back → ⊥) → IsWrong NoNumber line
+none_behind line front back cut e none = (front, back, cut, not_zero (length front) e, none)
+
+pub deep : (line front back : List ℕ) → IsCut line front back → IsNumber back → LEVELS < length (keys_of front) → IsWrong TooDeep line
+deep line front back cut reads more = (front, back, cut, reads, more)
+
+-- A line whose last space stands behind a path and before a number is a stack.
+pub stack_of : (line front back : List ℕ) (n : ℕ) → IsCut line front back → (length front == 0) ≡ false → IsNumber back × (n ≡ number_of back) → length (keys_of front) ≤ LEVELS
+    → IsStack line (record { path = keys_of front; size = n })
+stack_of line front back n cut e reads fits = record {
+  path = front;
+  number = back;
+  parts = cut.parts;
+  some = not_zero (length front) e;
+  reads = reads.0;
+  fits = fits;
+  is = ap (λ (m : ℕ). record { path = keys_of front; size = m }) reads.1;
+}
