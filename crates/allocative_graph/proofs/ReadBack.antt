@@ -17,7 +17,7 @@ use Rattle.allocative_graph.specs.Path.{Key, Path, path_cmp, is_same_path}
 use Rattle.allocative_graph.specs.Graph.{Graph, text, joined, is_root, begins, size_at, total, Lacks, HasPlainKeys, HasWords}
 use Rattle.allocative_graph.specs.Read.{Stack, IsStack, IsCut, IsNumber, AreStacks, Means, IsFault, IsRead, Exceeds, CanBeRead, keys_of, number_of, bytes_at, is_path_of, all_bytes}
 use Rattle.allocative_graph.proofs.Basics.{same_path, or_false_left, or_false_right}
-use Rattle.allocative_graph.proofs.Text.{Plain, Sized, Good, is_shown, full, body, shown_lines, full_body, body_lacks, decimal_lacks, good_entries, words}
+use Rattle.allocative_graph.proofs.Text.{Plain, Sized, Good, is_shown, full, body, shown_lines, full_body, body_lacks, decimal_lacks, good_entries, words, and_left, and_right}
 use Rattle.allocative_graph.proofs.Exact.{differs}
 use Rattle.allocative_graph.proofs.Stacks.{cut_once}
 use Rattle.allocative_graph.proofs.StackSums.{same_begins}
@@ -161,14 +161,6 @@ bytes-shown (e ∷ es) k p = by (is_shown e) refl (bytes-shown es k p)
         → bytes_in (cond t (e ∷ filter is_shown es) (filter is_shown es)) (k ∷ p) ≡ bytes_in (e ∷ es) (k ∷ p)
     by true h rest = sum_by-cons one e (filter is_shown es) ∙ ap (λ n. one e + n) rest ∙ sym (sum_by-cons one e es)
     by false h rest = rest ∙ sym (sum_by-cons one e es ∙ ap (λ n. n + bytes_in es (k ∷ p)) (unseen e k p h) ∙ no_more (bytes_in es (k ∷ p)))
-
-and_left : (a b : Bool) → T (a && b) → T a
-and_left true b h = tt
-and_left false b h = absurd h
-
-and_right : (a b : Bool) → T (a && b) → T b
-and_right true b h = h
-and_right false b h = absurd h
 
 less_is : (r : Ordering) → T (is_lt r) → r ≡ Less
 less_is Less h = refl

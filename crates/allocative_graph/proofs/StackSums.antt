@@ -18,7 +18,7 @@ use Rattle.allocative_graph.proofs.Basics.{path_total, same_path}
 use Rattle.allocative_graph.proofs.PathOrder.{key_itself}
 use Rattle.allocative_graph.proofs.Graphs.{sizes_together, get-default, get-under, get-under-root, total-sum_of, total-under, total-add_at}
 use Rattle.allocative_graph.proofs.Merge.{get-sum_of}
-use Rattle.allocative_graph.proofs.Gathered.{together_size, together_some, or_assoc, total-default}
+use Rattle.allocative_graph.proofs.Gathered.{together_size, together_some, or_assoc, or_false, total-default}
 
 -- ---- paths
 begins_itself : (p : Path) → begins p p ≡ true
@@ -99,10 +99,6 @@ size_at-stacks g (s ∷ ss) p =
     let one : size_at (sum_of g (one_stack s)) p ≡ size_at g p + size_at (one_stack s) p =
     ap (λ o. unwrap_or o 0) (get-sum_of g (one_stack s) p) ∙ together_size (get g p) (get (one_stack s) p) in
     omega (arith, size_at-stacks (sum_of g (one_stack s)) ss p, one, size_at-one s p, sum_by-cons (λ (t : Stack). cond (is_same_path p t.path) t.size 0) s ss)
-
-or_false : (a : Bool) → a ≡ (a || false)
-or_false true = refl
-or_false false = refl
 
 contains_key-stacks : (g : Graph) (ss : List Stack) (p : Path) → contains_key (sum_of_stacks g ss) p ≡ (contains_key g p || list_any (λ s. is_root p || begins p s.path) ss)
 contains_key-stacks g [] p = or_false (contains_key g p)

@@ -166,11 +166,11 @@ none_kept q (e ∷ es) h = by (is_same_path q e.0) refl h (none_kept q es)
         inner true = ap (λ b. cond b (Some e.1) (find path_cmp q (filter is_shown es))) s ∙ rest g
         inner false = rest g
 
-and_left : (a b : Bool) → T (a && b) → T a
+pub and_left : (a b : Bool) → T (a && b) → T a
 and_left true b h = tt
 and_left false b h = absurd h
 
-and_right : (a b : Bool) → T (a && b) → T b
+pub and_right : (a b : Bool) → T (a && b) → T b
 and_right true b h = h
 and_right false b h = absurd h
 

@@ -70,7 +70,10 @@ impl fmt::Display for Fault<'_> {
                 write!(f, "line {number} of {source} has more than {LEVELS} keys")
             }
             Fault::Line(source, number, _) => {
-                write!(f, "line {number} of {source} is not a path, a space and a number of bytes")
+                write!(
+                    f,
+                    "line {number} of {source} is not a path, a space and a number of bytes"
+                )
             }
             Fault::NotText(Source::Input) => write!(f, "a text is not UTF-8"),
             Fault::NotText(source) => write!(f, "{source} is not UTF-8"),

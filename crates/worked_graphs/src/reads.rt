@@ -1,7 +1,7 @@
 //! Collapsed stacks that are read: the graph of each text, and which line is refused.
 use allocative_graph::flamegraph::FlameGraph;
-use allocative_graph::read::{LEVELS, LineFault, ReadFault};
 use allocative_graph::key::Key;
+use allocative_graph::read::{LEVELS, LineFault, ReadFault};
 use allocative_graph::refusal::Refusal;
 use std::alloc::{AllocError, Global};
 use std::process::Abort;
@@ -17,7 +17,10 @@ fn kept(text: String) -> Result<&'static str, AllocError> {
 // Asserts the text of the graph of some lines.
 fn assert_read(rt: &(impl Abort + AllocGlobal), text: &'static str, wanted: &str) {
     match FlameGraph::read(rt.alloc(), text) {
-        Ok(graph) => assert_eq!(rt; graph.write().unwrap_or(String::new(rt.alloc())).as_str(), wanted),
+        Ok(graph) => assert_eq!(rt;
+            graph.write().unwrap_or(String::new(rt.alloc())).as_str(),
+            wanted
+        ),
         Err(_) => assert!(rt; false),
     }
 }
@@ -56,12 +59,20 @@ fn the_first_line_that_is_none_is_named(rt: HostRuntime) {
     assert_refused(&rt, "a 1\n\nc\n", ReadFault::Line(2, LineFault::NoSpace));
     assert_refused(&rt, " 1\n", ReadFault::Line(1, LineFault::NoPath));
     assert_refused(&rt, "a 1\na -1\n", ReadFault::Line(2, LineFault::NoNumber));
-    assert_refused(&rt, "a 18446744073709551616\n", ReadFault::Line(1, LineFault::NoNumber));
+    assert_refused(
+        &rt,
+        "a 18446744073709551616\n",
+        ReadFault::Line(1, LineFault::NoNumber),
+    );
 }
 
 #[test]
 fn bytes_beyond_a_word_are_refused(rt: HostRuntime) {
-    assert_read(&rt, "a 18446744073709551615\nb 0\n", "a 18446744073709551615\n");
+    assert_read(
+        &rt,
+        "a 18446744073709551615\nb 0\n",
+        "a 18446744073709551615\n",
+    );
     assert_refused(&rt, "a 18446744073709551615\nb 1\n", ReadFault::TooLarge);
 }
 
@@ -118,13 +129,18 @@ fn faults_say_why(rt: HostRuntime) -> Result<(), AllocError> {
     let why = [
         (LineFault::NoSpace, "there is no space"),
         (LineFault::NoPath, "there is no path before the last space"),
-        (LineFault::NoNumber, "there is no number of bytes behind the last space"),
+        (
+            LineFault::NoNumber,
+            "there is no number of bytes behind the last space",
+        ),
         (LineFault::TooDeep, "the path has more than 10000 keys"),
     ];
     for (wrong, text) in why {
         let fault = ReadFault::Line(3, wrong);
         let shown = format!(in rt.alloc(); "{fault}")?;
-        let wanted = format!(in rt.alloc(); "line 3 is not a path, a space and a number of bytes: {text}")?;
+        let wanted = format!(in rt.alloc();
+            "line 3 is not a path, a space and a number of bytes: {text}"
+        )?;
         assert_eq!(rt; shown.as_str(), wanted.as_str());
     }
     Ok(())
