@@ -137,10 +137,11 @@ fn later_graph<'a, R: Read>(
         → IfSome (R.remaining input.old) (λ known. MayFault s n w texts.now reads_input known) }
 {
     let mut graph = graph_of_all(alloc, texts)?;
-    if reads_input {
-        let text = read_text(alloc, Source::Input, input)?;
-        add_text(alloc, &text, &mut graph)?;
+    if !reads_input {
+        return Ok(graph);
     }
+    let text = read_text(alloc, Source::Input, input)?;
+    add_text(alloc, &text, &mut graph)?;
     Ok(graph)
 }
 

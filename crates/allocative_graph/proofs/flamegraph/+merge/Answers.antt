@@ -35,6 +35,15 @@ FlameGraph::merge-invariant_of-self t c =
       fits = omega (arith, mine, theirs, ap total c.self.view_is, ap total c.other.view_is, c.requires, c.self.invariant.exact);
     }
 
+pub FlameGraph::merge-returns-in_default : goal.FlameGraph::merge-returns-in_default
+FlameGraph::merge-returns-in_default t c =
+    let cs = c.self.inside.children.items in
+    let ds = c.other.inside.children.items in
+    let none : ds ≡ [] = none_of_length ds _ c.other.inside.children.ok.0 c.in_default.ensures.cases.0 in
+    let merged : Merged true cs ds cs = subst (λ (l : List Child). Merged true cs l cs) (sym none) (merged_same cs c.self.invariant.children) in
+    let added = added_node true c.self.inside.node_size c.other.inside.node_size cs ds cs c.self.invariant.children c.other.invariant.children merged in
+    subst (λ (X : Type 0). X) (λ i. Added true (c.self.view_is i) (c.other.view_is i) (node (c.self.inside.node_size + c.other.inside.node_size) cs)) added
+
 pub FlameGraph::merge-put_child-requires : goal.FlameGraph::merge-put_child-requires
 FlameGraph::merge-put_child-requires t c =
     let cs = c.self.inside.children.items in
@@ -58,8 +67,8 @@ FlameGraph::merge-put_child-requires t c =
       ),
     )
 
-pub FlameGraph::merge-returns-in-Some : goal.FlameGraph::merge-returns-in-Some
-FlameGraph::merge-returns-in-Some t c =
+pub FlameGraph::merge-returns-then-len-lt2 : goal.FlameGraph::merge-returns-then-len-lt2
+FlameGraph::merge-returns-then-len-lt2 t c =
     let cs = c.self.inside.children.items in
     let ds = c.other.inside.children.items in
     let es = c.put_child.new.children.items in
@@ -69,14 +78,18 @@ FlameGraph::merge-returns-in-Some t c =
     let added = added_node (is_ok c.put_child.result) c.self.inside.node_size c.other.inside.node_size cs ds es c.self.invariant.children c.other.invariant.children merged in
     subst (λ (X : Type 0). X) (λ i. Added (is_ok c.put_child.result) (c.self.view_is i) (c.other.view_is i) (node (c.self.inside.node_size + c.other.inside.node_size) es)) added
 
-pub FlameGraph::merge-returns-in-None : goal.FlameGraph::merge-returns-in-None
-FlameGraph::merge-returns-in-None t c =
-    let cs = c.self.inside.children.items in
+pub FlameGraph::merge-invariant_of-self-then-len-lt2 : goal.FlameGraph::merge-invariant_of-self-then-len-lt2
+FlameGraph::merge-invariant_of-self-then-len-lt2 t c =
     let ds = c.other.inside.children.items in
-    let none : ds ≡ [] = none_of_length ds _ c.other.inside.children.ok.0 c.in-None.ensures.cases.0 in
-    let merged : Merged true cs ds cs = subst (λ (l : List Child). Merged true cs l cs) (sym none) (merged_same cs c.self.invariant.children) in
-    let added = added_node true c.self.inside.node_size c.other.inside.node_size cs ds cs c.self.invariant.children c.other.invariant.children merged in
-    subst (λ (X : Type 0). X) (λ i. Added true (c.self.view_is i) (c.other.view_is i) (node (c.self.inside.node_size + c.other.inside.node_size) cs)) added
+    let child : Child = c.in-Some.child in
+    let one : ds ≡ child ∷ [] = one_of_length ds c.pop.new.self.items child c.in-Some.ensures.items (omega (arith, c.len.ensures, c.other.inside.children.ok.0, c.if-len-lt2.true)) in
+    let my_total = total-node c.self.inside.node_size c.self.inside.children.items c.self.invariant.children.sorted in
+    let their_total = total-node c.other.inside.node_size ds c.other.invariant.children.sorted in
+    record {
+      children = c.put_child.ensures.merged.children;
+      exact = c.put_child.ensures.exact;
+      fits = omega (arith, my_total, their_total, ap weight one, ap total c.self.view_is, ap total c.other.view_is, c.put_child.ensures.merged.at_most, c.put_child.ensures.exact, c.requires);
+    }
 
 pub FlameGraph::merge-invariant_of-self-in_err-merged : goal.FlameGraph::merge-invariant_of-self-in_err-merged
 FlameGraph::merge-invariant_of-self-in_err-merged t c =
