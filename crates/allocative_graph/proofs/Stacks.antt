@@ -1,7 +1,7 @@
 -- Lines of collapsed stacks: where a line is cut, and which lines are none.
 use Rattle.std.proofs.Common.{◌≡◌, ◌≢◌, ℕ, zero, suc, ◌+◌, ◌<◌, ◌≤◌, ◌==◌, Bool, true, false, cond, List, [], ◌∷◌, ◌++◌, length, get_or, take, drop, Option, None, Some, Result, Ok, Err, refl, ap, sym, ◌∙◌, subst, arith, Bor, MatchOption, eqb-true, true≢false}
 use Rattle.std.specs.Str.Pattern.{RFindsChar}
-use Rattle.std.specs.Str.Parse.{AllDigits, ParsesUnsigned}
+use Rattle.std.specs.Str.Parse.{AllDigits}
 use Rattle.std.specs.Char.{digit_value}
 use Rattle.std.proofs.lemmas.Str.Pattern.{NoCharPasses-char, drop_at_char}
 use Rattle.std.proofs.lemmas.List.{take-append-drop, nil_from_length}
@@ -58,10 +58,6 @@ wrong_is_none NoPath line (back, cut) s is =
 wrong_is_none NoNumber line (front, back, cut, some, none) s is = none (subst IsNumber (sym (cut_once line front back s cut is).1) is.reads)
 wrong_is_none TooDeep line (front, back, cut, reads, deep) s is =
     omega (arith, is.fits, deep, ap (λ (p : List ℕ). length (keys_of p)) (cut_once line front back s cut is).0)
-
--- Where a text is not read as a number, it is none.
-pub no_number : {E : Type 0} (bs : List ℕ) (e : E) → ParsesUnsigned 64 10 bs (Err e) → IsNumber bs → ⊥
-no_number bs e h is = h is
 
 -- ---- what the code finds in a line
 pub cut_of : (line front back : List ℕ) → (line ≡ front ++ 32 ∷ back) × Lacks 32 back → IsCut line front back

@@ -2,7 +2,7 @@ use Rattle.std.proofs.Common.{◌≡◌, length, sym, ◌∙◌, None, Some, ari
 use Rattle.std.proofs.lemmas.Iterator.Splits.{YieldsList-from_str_split}
 use Rattle.std.proofs.lemmas.Iterator.Consumers.{count_from_yields_List}
 use Rattle.allocative_graph.specs.Read.{IsCut, keys_of}
-use Rattle.allocative_graph.proofs.Stacks.{rsplit_parts, cut_of, no_path, no_number, none_behind, deep, stack_of}
+use Rattle.allocative_graph.proofs.Stacks.{rsplit_parts, cut_of, no_path, none_behind, deep, stack_of}
 use Rattle.allocative_graph.proofs.read.read_line.Goals as goal
 
 pub returns-in_default-clause-wrong : goal.returns-in_default-clause-wrong
@@ -16,7 +16,7 @@ returns-then-is_empty-clause-wrong c =
 pub returns-in_default-parse-clause-wrong : goal.returns-in_default-parse-clause-wrong
 returns-in_default-parse-clause-wrong c =
     let parts = rsplit_parts 32 c.args.line.now (Some (c.in-Some.path, c.in-Some.size)) c.in-Some.ensures.cases (omega arith) in
-    none_behind c.args.line.now c.in-Some.path.now c.in-Some.size.now (cut_of c.args.line.now _ _ parts) (sym c.is_empty.ensures ∙ c.if-is_empty.false) (no_number c.in-Some.size.now _ c.in_default-parse.ensures.value.0)
+    none_behind c.args.line.now c.in-Some.path.now c.in-Some.size.now (cut_of c.args.line.now _ _ parts) (sym c.is_empty.ensures ∙ c.if-is_empty.false) c.in_default-parse.ensures.value.0
 
 pub returns-then-count-gt-LEVELS-clause-wrong : goal.returns-then-count-gt-LEVELS-clause-wrong
 returns-then-count-gt-LEVELS-clause-wrong c =
