@@ -1,5 +1,5 @@
 -- A text of a graph that is read is the graph again.
-use Rattle.std.proofs.Common.{◌≡◌, ◌≢◌, ℕ, zero, suc, ◌+◌, ◌-◌, ◌^◌, ◌<◌, ◌≤◌, ◌==◌, Bool, true, false, cond, not, ◌||◌, ◌&&◌, T, IsTrue, List, [], ◌∷◌, ◌++◌, map, flat_map, filter, length, take, get_or, Some, None, refl, ap, sym, ◌∙◌, subst, true≢false, arith, unwrap_or, decimal, sum_by, eqb-true, if◌then◌else◌, Ordering, Less, Equal, Greater}
+use Rattle.std.proofs.Common.{◌≡◌, ◌≢◌, ℕ, zero, suc, ◌+◌, ◌-◌, ◌^◌, ◌<◌, ◌≤◌, ◌==◌, Bool, true, false, cond, not, T, List, [], ◌∷◌, ◌++◌, map, flat_map, filter, length, take, get_or, Some, None, refl, ap, sym, ◌∙◌, subst, true≢false, arith, unwrap_or, decimal, sum_by, eqb-true, if◌then◌else◌, Ordering, Less, Equal, Greater}
 use Rattle.std.specs.List.{AllByRecursion, All, list_any, slice_split}
 use Rattle.std.specs.Str.Lines.{lines, lines_of_parts, strip_carriage_return}
 use Rattle.std.specs.Str.Parse.{IsNumeral, digits_value, without_leading_plus}
@@ -14,7 +14,7 @@ use Rattle.std.proofs.lemmas.List.Sums.{sum_by-cons}
 use Rattle.allocative_graph.specs.declared.read.TheConstants.{LEVELS}
 use Rattle.allocative_graph.specs.declared.read.LineFault.{LineFault}
 use Rattle.allocative_graph.specs.Path.{Key, Path, path_cmp, is_same_path}
-use Rattle.allocative_graph.specs.Graph.{Graph, text, joined, is_root, begins, size_at, total, Lacks, HasPlainKeys, HasWords}
+use Rattle.allocative_graph.specs.Graph.{Graph, text, joined, begins, size_at, Lacks, HasPlainKeys, HasWords}
 use Rattle.allocative_graph.specs.Read.{Stack, IsStack, IsCut, IsNumber, AreStacks, Means, IsFault, IsRead, Exceeds, CanBeRead, keys_of, number_of, bytes_at, is_path_of, all_bytes}
 use Rattle.allocative_graph.proofs.Basics.{same_path, or_false_left, or_false_right}
 use Rattle.allocative_graph.proofs.Text.{Plain, Sized, Good, is_shown, full, body, shown_lines, full_body, body_lacks, decimal_lacks, good_entries, words, and_left, and_right}

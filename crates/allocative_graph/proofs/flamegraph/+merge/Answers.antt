@@ -1,6 +1,5 @@
-use Rattle.std.proofs.Common.{◌≡◌, ℕ, ◌+◌, ◌*◌, ◌^◌, ◌<◌, ◌≤◌, true, false, rules, List, [], ◌∷◌, length, Some, refl, sym, ap, subst, ◌∙◌, arith}
+use Rattle.std.proofs.Common.{◌≡◌, ℕ, ◌+◌, ◌^◌, ◌<◌, ◌≤◌, true, false, rules, List, [], ◌∷◌, length, Some, refl, sym, ap, subst, ◌∙◌, arith}
 use Rattle.std.specs.Prelude.{is_ok}
-use borrow.Author.Tests.{eqb-true}
 use Rattle.std.specs.Vec.{vec_capacity}
 use Rattle.std.specs.FinMap.{len}
 use Rattle.allocative_graph.specs.declared.flamegraph.Child.{Child}

@@ -1,4 +1,4 @@
-use Rattle.std.proofs.Common.{◌≡◌, List, map, ap, sym, arith, ◌∙◌}
+use Rattle.std.proofs.Common.{List, map, ap, arith, ◌∙◌}
 use Rattle.std.proofs.lemmas.List.{take_all, take_more}
 use Rattle.allocative_graph.specs.declared.read.Line.{Line}
 use Rattle.allocative_graph.specs.Graph.{default, sum_of}

@@ -1,7 +1,7 @@
 use Rattle.std.proofs.Common.{◌≡◌, length, sym, ◌∙◌, None, Some, arith, lit<}
 use Rattle.std.proofs.lemmas.Iterator.Splits.{YieldsList-from_str_split}
 use Rattle.std.proofs.lemmas.Iterator.Consumers.{count_from_yields_List}
-use Rattle.allocative_graph.specs.Read.{IsCut, keys_of}
+use Rattle.allocative_graph.specs.Read.{keys_of}
 use Rattle.allocative_graph.proofs.Stacks.{rsplit_parts, cut_of, no_path, none_behind, deep, stack_of}
 use Rattle.allocative_graph.proofs.read.read_line.Goals as goal
 

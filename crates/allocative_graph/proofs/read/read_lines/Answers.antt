@@ -1,9 +1,7 @@
-use Rattle.std.proofs.Common.{◌≡◌, ◌+◌, length, refl, sym, ◌∙◌, arith, rules}
+use Rattle.std.proofs.Common.{◌≡◌, ◌+◌, length, sym, ◌∙◌, arith, rules}
 use Rattle.std.proofs.lemmas.Iterator.Splits.{YieldsList-from_lines}
 use Rattle.std.proofs.lemmas.Iterator.Consumers.{YieldsList-so_far, YieldsList-turn, YieldsList-end}
 use Rattle.std.proofs.lemmas.List.{length_push}
-use Rattle.allocative_graph.specs.declared.read.LineFault.{LineFault}
-use Rattle.allocative_graph.specs.Read.{IsWrong}
 use Rattle.allocative_graph.proofs.ReadLines.{lines_fit, read-more, read-all, fault_at}
 use Rattle.allocative_graph.proofs.read.read_lines.Goals as goal
 
