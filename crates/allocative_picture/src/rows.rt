@@ -88,8 +88,8 @@ pub(crate) fn rows(
     ensures rows { IfOk result (λ rows. map seen rows.items ≡ rows_of (mark_of marks.now) graph.now) }
     ensures memory { IfErr result (λ r. r ≡ Refusal.Memory) }
 {
-    let mut path = Vec::new(alloc);
-    let mut rows = Vec::new(alloc);
+    let mut path: Vec<&'static str> = Vec::new(alloc);
+    let mut rows: Vec<Row<'static>> = Vec::new(alloc);
     let mut before = 0usize;
     let _all = graph.total_size();
     push_rows(marks, graph, &mut path, &mut before, &mut rows)?;

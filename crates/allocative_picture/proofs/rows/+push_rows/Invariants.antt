@@ -15,7 +15,7 @@ decreases-push_rows l = len l.graph.now
 abbrev pub invariant-loop-child : goal.invariant-loop-child
 invariant-loop-child l = record {
   path : l.path.items ≡ l.initial.path.items;
-  before : l.before ≡ l.initial.before + weight (take l.child-index l.child-items);
+  before : l.before ≡ l.initial.before + weight (take l.child-index l.children);
   rows : map seen l.rows.items ≡ map seen l.initial.rows.items
-      ++ rows_from (mark_of l.marks) l.initial.before (figured (total_at l.graph) (map (λ k. k.now) l.initial.path.items) (rows_of (take l.child-index l.child-items)));
+      ++ rows_from (mark_of l.marks) l.initial.before (figured (total_at l.graph) (map (λ k. k.now) l.initial.path.items) (rows_of (take l.child-index l.children)));
 }
