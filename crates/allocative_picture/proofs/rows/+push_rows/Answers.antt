@@ -1,8 +1,7 @@
-use Rattle.std.proofs.Common.{◌≡◌, ℕ, ◌+◌, ◌^◌, ◌<◌, ◌++◌, [], ◌∷◌, List, Bor, map, get_or, take, length, arith, ap, sym, subst, append_assoc, ◌∙◌}
+use Rattle.std.proofs.Common.{◌≡◌, ℕ, ◌+◌, ◌<◌, ◌++◌, [], ◌∷◌, List, Bor, map, take, arith, ap, sym, subst, append_assoc, ◌∙◌}
 use Rattle.std.proofs.lemmas.List.{map-append, take_all}
 use Rattle.std.specs.FinMap.{len}
 use Rattle.allocative_graph.specs.declared.flamegraph.Child.{Child}
-use Rattle.allocative_graph.specs.Path.{Path}
 use Rattle.allocative_graph.specs.Graph.{Graph, total, total_at, size_at}
 use Rattle.allocative_graph.specs.Representation.Node.{weight}
 use Rattle.allocative_graph.specs.Reads.{figures_behind, node, rows_of}

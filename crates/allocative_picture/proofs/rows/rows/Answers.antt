@@ -1,4 +1,4 @@
-use Rattle.std.proofs.Common.{List, Bor, ℕ, ◌++◌, map, ◌∙◌}
+use Rattle.std.proofs.Common.{◌++◌, map, ◌∙◌}
 use Rattle.allocative_graph.specs.Reads.{figures_behind}
 use Rattle.allocative_graph.proofs.NodeText.{texts}
 use Rattle.allocative_picture.specs.Rows.{seen, rows_from}
