@@ -17,18 +17,18 @@ add-push f [] t g h read up is e = (read, is, e ∙ ap (λ (x : Graph). sum_of x
 add-push f (s ∷ ts) t g h read (first, first_is, up) is e = (first, first_is, add-push (sum_of f first) ts t g h read up is e)
 
 -- One text more of a list is added.
-pub add-more : (xs : List Text) (i : ℕ) (x : Text) (g h read : Graph) → i < length xs → x ≡ get_or xs i x → AddUp (map bytes_of (take i xs)) g → IsRead x.bytes.now read → h ≡ sum_of g read
+pub add-more : (xs : List Text) (i : ℕ) (d : Text) (g h read : Graph) → i < length xs → AddUp (map bytes_of (take i xs)) g → IsRead (get_or xs i d).bytes.now read → h ≡ sum_of g read
     → AddUp (map bytes_of (take (i + 1) xs)) h
-add-more xs i x g h read within at up is e =
-    let more : map bytes_of (take (i + 1) xs) ≡ map bytes_of (take i xs) ++ bytes_of x ∷ [] =
-    ap (map bytes_of) (take_more xs i x within ∙ ap (λ (y : Text). take i xs ++ y ∷ []) (sym at)) ∙ map-append bytes_of (take i xs) (x ∷ []) in
-    subst (λ (ts : List (List ℕ)). AddUp ts h) (sym more) (add-push default (map bytes_of (take i xs)) (bytes_of x) g h read up is e)
+add-more xs i d g h read within up is e =
+    let more : map bytes_of (take (i + 1) xs) ≡ map bytes_of (take i xs) ++ bytes_of (get_or xs i d) ∷ [] =
+    ap (map bytes_of) (take_more xs i d within) ∙ map-append bytes_of (take i xs) (get_or xs i d ∷ []) in
+    subst (λ (ts : List (List ℕ)). AddUp ts h) (sym more) (add-push default (map bytes_of (take i xs)) (bytes_of (get_or xs i d)) g h read up is e)
 
 -- A fault of one of the texts is one of them all.
-pub fault-at : (s : Source) (n : ℕ) (w : LineFault) (xs : List Text) (i : ℕ) (x : Text) → i < length xs → x ≡ get_or xs i x → (x.source ≡ s) × IsFault x.bytes.now n w → IsFaultOf s n w xs
-fault-at s n w [] i x within at h = absurd (omega arith)
-fault-at s n w (y ∷ xs) zero x within at h = inl (subst (λ (t : Text). (t.source ≡ s) × IsFault t.bytes.now n w) at h)
-fault-at s n w (y ∷ xs) (suc i) x within at h = inr (fault-at s n w xs i x (omega arith) at h)
+pub fault-at : (s : Source) (n : ℕ) (w : LineFault) (xs : List Text) (i : ℕ) (d : Text) → i < length xs → ((get_or xs i d).source ≡ s) × IsFault (get_or xs i d).bytes.now n w → IsFaultOf s n w xs
+fault-at s n w [] i d within h = absurd (omega arith)
+fault-at s n w (y ∷ xs) zero d within h = inl h
+fault-at s n w (y ∷ xs) (suc i) d within h = inr (fault-at s n w xs i d (omega arith) h)
 
 -- ---- with the input and without
 pub later-without : (xs : List Text) (b : Bool) (known : List ℕ) (g : Graph) → b ≡ false → AddUp (map bytes_of xs) g → AddUp (later_texts xs b known) g

@@ -38,7 +38,7 @@ pub enum Fault<'a> {
 impl Fault<'_> {
     /// Returns the status with which the program ends.
     pub fn status(self) -> u8
-        ensures { result ≡ status_of self }
+        ensures { result ≡ status_of self.entry }
     {
         match self {
             Fault::Memory => 1,

@@ -1,8 +1,9 @@
 //! The whole program, over any reader and two writers.
-ghost use Rattle.std.specs.Prelude.{◌≡◌, ◌≢◌, ℕ, OnOk, IfOk, IfErr, IsErrOf, IfSome, List, [], ◌++◌, map, string_bytes};
+ghost use Rattle.std.specs.Prelude.{◌≡◌, ◌≢◌, ◌⊎◌, ℕ, OnOk, IfOk, IfErr, IsErrOf, IfSome, List, [], ◌++◌, map, string_bytes};
 ghost use Rattle.std.specs.Io.KnownBytes.{Appends};
 ghost use Rattle.allocative_graph.specs.Graph.{Graph, sum_of};
 ghost use Rattle.allocative_graph.specs.Read.{IsRead, IsFault};
+ghost use Rattle.allocative_graph.specs.declared.read.LineFault.{LineFault};
 ghost use Rattle.allocative_picture_filter.specs.Fault.{status_of};
 ghost use Rattle.allocative_picture_filter.specs.Run.{bytes_of, later_texts, AddUp, AddUpOnto, IsFaultOf, MayFault, IsMade};
 
@@ -33,7 +34,7 @@ pub fn read_text<'a, R: Read>(
     input: &mut R,
 ) -> Result<Text<'a>, Fault<'a>>
     ensures ok { IfOk result (λ text. IfSome (R.remaining input.old) (λ known. text.bytes.now ≡ known)) }
-    ensures source { IfOk result (λ text. text.source ≡ source) }
+    ensures source { IfOk result (λ text. text.source ≡ source.entry) }
     ensures line { (s : Source) (n : ℕ) (w : LineFault) → ¬ IsErrOf result (Fault.Line s n w) }
 {
     let mut bytes = Vec::new(alloc);
@@ -67,7 +68,7 @@ fn write_text<W: Write>(output: &mut W, text: &str) -> Result<(), Fault<'static>
 
 /// Writes the line of a fault, and returns its status. A line that cannot be written does not change the status.
 pub fn tell<E: Write>(errors: &mut E, fault: Fault<'_>) -> u8
-    ensures { result ≡ status_of fault }
+    ensures { result ≡ status_of fault.entry }
 {
     let _unwritten = writeln!(errors, "allocative-picture: {fault}");
     let _unflushed = errors.flush();
