@@ -1,5 +1,5 @@
 -- A text of a graph that is read is the graph again.
-use Rattle.std.proofs.Common.{◌≡◌, ◌≢◌, ℕ, zero, suc, ◌+◌, ◌-◌, ◌^◌, ◌<◌, ◌≤◌, ◌==◌, Bool, true, false, cond, not, T, List, [], ◌∷◌, ◌++◌, map, flat_map, filter, length, take, get_or, Some, None, refl, ap, sym, ◌∙◌, subst, true≢false, arith, unwrap_or, decimal, sum_by, eqb-true, if◌then◌else◌, Ordering, Less, Equal, Greater}
+use Rattle.std.proofs.Common.{◌≡◌, ◌≢◌, ℕ, zero, suc, ◌+◌, ◌-◌, ◌^◌, ◌<◌, ◌≤◌, ◌==◌, Bool, true, false, cond, not, T, List, [], ◌∷◌, ◌++◌, map, flat_map, filter, length, length-append, take, get_or, Some, None, refl, ap, sym, ◌∙◌, subst, true≢false, arith, unwrap_or, decimal, sum_by, eqb-true, if◌then◌else◌, Ordering, Less, Equal, Greater}
 use Rattle.std.specs.List.{AllByRecursion, All, list_any, slice_split}
 use Rattle.std.specs.Str.Lines.{lines, lines_of_parts, strip_carriage_return}
 use Rattle.std.specs.Str.Parse.{IsNumeral, digits_value, without_leading_plus}
@@ -19,6 +19,7 @@ use Rattle.allocative_graph.specs.Read.{Stack, IsStack, IsCut, IsNumber, AreStac
 use Rattle.allocative_graph.proofs.Basics.{same_path, or_false_left, or_false_right}
 use Rattle.allocative_graph.proofs.Text.{Plain, Sized, Good, is_shown, full, body, shown_lines, full_body, body_lacks, decimal_lacks, good_entries, words, and_left, and_right}
 use Rattle.allocative_graph.proofs.Exact.{differs}
+use Rattle.allocative_graph.proofs.ReadLines.{stacks-cons, stacks-first}
 use Rattle.allocative_graph.proofs.Stacks.{cut_once}
 use Rattle.allocative_graph.proofs.StackSums.{same_begins}
 
@@ -102,11 +103,15 @@ entry_read (k ∷ p, n) good s is =
     let size : number_of is.number ≡ n = ap number_of (sym both.1) ∙ (number-decimal n good.word).1 in
     is.is ∙ (λ i. record { path = path i; size = size i })
 
+body_some : (e : Sized) → 0 < length (body e)
+body_some e = omega (arith, length-append (joined e.0) (32 ∷ decimal e.1))
+
 entries_read : (es : List Sized) → AllByRecursion Good es → (ss : List Stack) → AreStacks (map body es) ss → ss ≡ map said es
 entries_read [] good [] h = refl
 entries_read [] good (s ∷ ss) h = absurd h
-entries_read (e ∷ es) good [] h = absurd h
-entries_read (e ∷ es) good (s ∷ ss) h = λ i. entry_read e good.0 s h.0 i ∷ entries_read es good.1 ss h.1 i
+entries_read (e ∷ es) good ss h =
+    let f = stacks-first (body e) (map body es) ss (body_some e) h in
+    f.is ∙ (λ i. entry_read e good.0 f.first f.read i ∷ entries_read es good.1 f.others f.behind i)
 
 plain_of : (es : List Sized) → AllByRecursion Good es → AllByRecursion (λ e. AllByRecursion Plain e.0) es
 plain_of [] good = tt
@@ -238,19 +243,19 @@ said_stack (k ∷ p, n) good h =
 
 said_stacks : (es : List Sized) → AllByRecursion Good es → AllByRecursion (λ e. (length e.0 ≤ LEVELS) × (0 < length (joined e.0))) es → AreStacks (map body es) (map said es)
 said_stacks [] good h = tt
-said_stacks (e ∷ es) good h = (said_stack e good.0 h.0, said_stacks es good.1 h.1)
+said_stacks (e ∷ es) good h = stacks-cons (body e) (map body es) (said e) (map said es) (said_stack e good.0 h.0) (said_stacks es good.1 h.1)
 
 -- Where each line is a stack, none is not.
-no_fault : (before : List (List ℕ)) (line : List ℕ) (rest : List (List ℕ)) (ss : List Stack) → AreStacks (before ++ line ∷ rest) ss → ((s : Stack) → IsStack line s → ⊥) → ⊥
-no_fault [] line rest [] h none = h
-no_fault [] line rest (s ∷ ss) h none = none s h.0
-no_fault (l ∷ before) line rest [] h none = h
-no_fault (l ∷ before) line rest (s ∷ ss) h none = no_fault before line rest ss h.1 none
+no_fault : (before : List (List ℕ)) (line : List ℕ) (rest : List (List ℕ)) (ss : List Stack) → AreStacks (before ++ line ∷ rest) ss → 0 < length line → ((s : Stack) → IsStack line s → ⊥) → ⊥
+no_fault [] line rest ss h some none = let f = stacks-first line rest ss some h in none f.first f.read
+no_fault ([] ∷ before) line rest ss h some none = no_fault before line rest ss h some none
+no_fault ((b ∷ bs) ∷ before) line rest [] h some none = h
+no_fault ((b ∷ bs) ∷ before) line rest (s ∷ ss) h some none = no_fault before line rest ss h.1 some none
 
 pub never_refused : (g : Graph) → HasPlainKeys g → HasWords g → CanBeRead g → (n : ℕ) (w : LineFault) → IsFault (text g) n w → ⊥
 never_refused g plain fits can n w fault =
     no_fault fault.before fault.line fault.rest (map said (shown g))
-    (subst (λ (ls : List (List ℕ)). AreStacks ls (map said (shown g))) (sym (lines-text g plain fits) ∙ fault.parts) (said_stacks (shown g) (shown_good g plain fits) can)) fault.none
+    (subst (λ (ls : List (List ℕ)). AreStacks ls (map said (shown g))) (sym (lines-text g plain fits) ∙ fault.parts) (said_stacks (shown g) (shown_good g plain fits) can)) fault.some fault.none
 
 -- ---- its bytes fit
 bytes-said_all : (es : List Sized) → all_bytes (map said es) ≡ sum_by (λ e. e.1) es

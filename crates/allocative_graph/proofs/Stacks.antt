@@ -66,7 +66,7 @@ cut_of line front back h = record { parts = h.0; last = h.1 }
 pub no_path : (line front back : List ℕ) → IsCut line front back → (length front == 0) ≡ true → IsWrong NoPath line
 no_path line front back cut e = (back, subst (λ (f : List ℕ). IsCut line f back) (nil_from_length front (eqb-true (length front) 0 e)) cut)
 
-not_zero : (n : ℕ) → (n == 0) ≡ false → 0 < n
+pub not_zero : (n : ℕ) → (n == 0) ≡ false → 0 < n
 not_zero zero e = absurd (true≢false e)
 not_zero (suc n) e = omega arith
 

@@ -60,18 +60,20 @@ IsWrong TooDeep line = (path : List ℕ) × (number : List ℕ) × IsCut line pa
     × (LEVELS < length (keys_of path))
 
 -- ---- texts
--- The lines are these stacks, one for each line, in their order.
+-- The lines are these stacks, one for each line that is not blank, in their order.
 abbrev pub AreStacks : List (List ℕ) → List Stack → Type 0
 AreStacks [] [] = ⊤
 AreStacks [] (s ∷ ss) = ⊥
-AreStacks (l ∷ ls) [] = ⊥
-AreStacks (l ∷ ls) (s ∷ ss) = IsStack l s × AreStacks ls ss
+AreStacks ([] ∷ ls) ss = AreStacks ls ss
+AreStacks ((b ∷ bs) ∷ ls) [] = ⊥
+AreStacks ((b ∷ bs) ∷ ls) (s ∷ ss) = IsStack (b ∷ bs) s × AreStacks ls ss
 
--- Each line of the text is a stack, and these are the stacks.
+-- Each line of the text but the blank ones is a stack, and these are the stacks.
 abbrev pub Means : List ℕ → List Stack → Type 0
 Means t ss = AreStacks (lines t) ss
 
--- The line of this number, from 1 on, is the first one of the text that is no stack, and this is wrong with it.
+-- The line of this number, from 1 on, is the first one of the text that is neither blank nor a stack, and this is wrong
+-- with it.
 pub record IsFault (t : List ℕ) (number : ℕ) (w : LineFault) : Type 0 where
   pub before : List (List ℕ)
   pub line : List ℕ
@@ -80,6 +82,7 @@ pub record IsFault (t : List ℕ) (number : ℕ) (w : LineFault) : Type 0 where
   pub parts : lines t ≡ before ++ line ∷ rest
   pub counted : number ≡ length before + 1
   pub read : AreStacks before stacks
+  pub some : 0 < length line
   pub wrong : IsWrong w line
   pub none : (s : Stack) → ¬ IsStack line s
 
@@ -100,14 +103,14 @@ IsGraphOfStacks ss g = (p : Path) → get g p ≡ cond (is_path_of ss p) (Some (
 abbrev pub all_bytes : List Stack → ℕ
 all_bytes ss = sum_by (λ s. s.size) ss
 
--- Each line of the text is a stack, and the graph is that of these stacks, with all their bytes.
+-- Each line of the text but the blank ones is a stack, and the graph is that of these stacks, with all their bytes.
 pub record IsRead (t : List ℕ) (g : Graph) : Type 0 where
   pub stacks : List Stack
   pub means : Means t stacks
   pub graph : IsGraphOfStacks stacks g
   pub bytes : total g ≡ all_bytes stacks
 
--- Each line of the text is a stack, and their bytes exceed a word.
+-- Each line of the text but the blank ones is a stack, and their bytes exceed a word.
 pub record Exceeds (t : List ℕ) : Type 0 where
   pub stacks : List Stack
   pub means : Means t stacks

@@ -76,9 +76,9 @@ impl FlameGraph {
     /// come. The keys are parts of the text, so nothing of it is copied.
     ///
     /// A line ends at a line feed, or at a carriage return and a line feed; the last one may end with the text. A key
-    /// may be empty, and may have spaces, but a path has at least one byte. A line that is none of this, as a blank
-    /// one, is refused with `Line`, and so is a path of more than [`LEVELS`] keys. `TooLarge` says that the bytes of
-    /// all lines together exceed `usize::MAX`. The only other error is that memory runs out.
+    /// may be empty, and may have spaces, but a path has at least one byte. A blank line is passed over. Any other line
+    /// that is none of this is refused with `Line`, and so is a path of more than [`LEVELS`] keys. `TooLarge` says that
+    /// the bytes of all lines together exceed `usize::MAX`. The only other error is that memory runs out.
     pub fn read(alloc: Global, text: &'static str) -> Result<FlameGraph, ReadFault>
         ensures graph { IfOk result (λ graph. IsRead text.now graph) }
         ensures line { (n : ℕ) (w : LineFault) → IsErrOf result (ReadFault.Line n w) → IsFault text.now n w }
@@ -151,7 +151,7 @@ fn read_line(line: &'static str) -> Result<Line, LineFault>
     Ok(Line { path, size })
 }
 
-// Reads the lines of a text up to the first that is none.
+// Reads the lines of a text up to the first that is none. Blank lines are counted, and passed over.
 fn read_lines(alloc: Global, text: &'static str) -> Result<Vec<Line>, ReadFault>
     ensures ok { IfOk result (λ lines. Means text.now (map seen lines.items)) }
     ensures line { (n : ℕ) (w : LineFault) → IsErrOf result (ReadFault.Line n w) → IsFault text.now n w }
@@ -161,6 +161,9 @@ fn read_lines(alloc: Global, text: &'static str) -> Result<Vec<Line>, ReadFault>
     let mut number = 0usize;
     for line in text.lines() {
         number = number.saturating_add(1);
+        if line.is_empty() {
+            continue;
+        }
         match read_line(line) {
             Ok(read) => lines.push(read)?,
             Err(wrong) => return Err(ReadFault::Line(number, wrong)),
