@@ -43,8 +43,9 @@ pub use allocative_graph::flamegraph::{Child, FlameGraph, Row, push_path};
 pub use allocative_graph::key::Key;
 pub use allocative_graph::laws::{
     exact_law, graph_law, graph_sums_law, meaning_law, merge_law, order_law, path_order_law,
-    plus_law, rows_law, shared_law, sums_law, text_law,
+    plus_law, read_law, rows_law, shared_law, sums_law, text_law,
 };
+pub use allocative_graph::read::{LEVELS, LineFault, ReadFault};
 pub use allocative_graph::refusal::Refusal;
 pub use allocative_graph::shared::{IdArc, IdMaker, IdRc, Identity};
 

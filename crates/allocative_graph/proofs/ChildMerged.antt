@@ -235,3 +235,7 @@ front_is {rest = rest} e h = e ∙ ap (λ p. option_to_list p ++ rest) h
 pub none_of_length : {X : Type 0} (xs : List X) (n : ℕ) → n ≡ length xs → n ≡ 0 → xs ≡ []
 none_of_length [] n e z = refl
 none_of_length (x ∷ xs) n e z = absurd (omega arith)
+
+pub one_of_length : {X : Type 0} (xs rest : List X) (x : X) → xs ≡ rest ++ x ∷ [] → length xs < 2 → xs ≡ x ∷ []
+one_of_length xs [] x e h = e
+one_of_length xs (y ∷ rest) x e h = absurd (omega (arith, ap length e, length-append rest (x ∷ [])))

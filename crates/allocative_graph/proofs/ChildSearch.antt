@@ -1,9 +1,8 @@
 -- What a search for a key finds among children in order.
-use Rattle.std.proofs.Common.{◌≡◌, ℕ, zero, suc, ◌+◌, ◌<◌, ◌≤◌, List, [], ◌∷◌, length, get_or, take, drop, Result, Ok, Err, IfOk, IfErr, true, refl, sym, ap, subst, ◌∙◌, arith, add-one}
+use Rattle.std.proofs.Common.{◌≡◌, ℕ, zero, suc, ◌+◌, ◌<◌, ◌≤◌, List, [], ◌∷◌, length, get_or, take, drop, Result, Ok, Err, IfOk, IfErr, refl, sym, ap, subst, ◌∙◌, arith, add-one}
 use Rattle.std.proofs.lemmas.List.{take_all, drop_all}
 use Rattle.std.proofs.lemmas.List.Sorted.{searchable_from_sorted}
-use Rattle.std.specs.declared.cmp.Ordering.{Ordering}
-use Rattle.std.specs.declared.cmp.Ordering.TheVariants.{Less, Equal, Greater}
+use Rattle.std.specs.declared.cmp.Ordering.TheVariants.{Less, Greater}
 use Rattle.std.specs.List.Sorted.{IsSearchInRange, IsBinarySearchResult, IsNonDecreasingBy, IsSortedBy}
 use Rattle.std.specs.Ordering.{ordering_index, ordering_reverse, is_lt}
 use Rattle.std.specs.Cmp.Lexicographic.{nat_list_cmp_total}
@@ -11,11 +10,6 @@ use Rattle.allocative_graph.specs.declared.flamegraph.Child.{Child}
 use Rattle.allocative_graph.specs.Path.{Key, key_cmp}
 use Rattle.allocative_graph.specs.Representation.Children.{InOrder, AllBelow, AllAbove, IsFound, IsChildGap}
 use Rattle.allocative_graph.proofs.ChildOrder.{key_same, key_turn, below_last, neighbors}
-
-pub less_is : (o : Ordering) → is_lt o ≡ true → o ≡ Less
-less_is Less h = refl
-less_is Equal h = absurd (cc)
-less_is Greater h = absurd (cc)
 
 below_from : (cs : List Child) (i : ℕ) (k : Key) → i ≤ length cs → ((j : ℕ) (d : Child) → j < i → key_cmp (get_or cs j d).key k ≡ Less) → AllBelow (take i cs) k
 below_from cs zero k within f = tt
@@ -55,3 +49,12 @@ module _ (cs : List Child) (o : InOrder cs) (k : Key) where
     below = subst (λ (s : List Child). AllBelow s k) (sym (take_all (length cs) cs (omega arith))) (below_last cs k n d len o less);
     above = subst (λ (s : List Child). AllAbove s k) (sym (drop_all (length cs) cs (omega arith))) tt;
   }
+
+same_item : (cs : List Child) (n : ℕ) (x y : Child) → n < length cs → get_or cs n x ≡ get_or cs n y
+same_item [] n x y h = absurd (omega arith)
+same_item (c ∷ cs) zero x y h = refl
+same_item (c ∷ cs) (suc n) x y h = same_item cs n x y (omega arith)
+
+-- A key that is at a place is found there.
+pub at_last : (cs : List Child) (k : Key) (n : ℕ) (d : Child) → n < length cs → (get_or cs n d).key ≡ k → IsFound cs k n
+at_last cs k n d within e = record { within = within; same = λ x. ap (λ (c : Child). c.key) (same_item cs n x d within) ∙ e }

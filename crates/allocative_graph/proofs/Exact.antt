@@ -9,7 +9,7 @@ use Rattle.allocative_graph.specs.Graph.{Graph, text, line, joined, Lacks, HasPl
 use Rattle.allocative_graph.specs.Report.{ends_in, exact_text, lines_from, before_last, after_last, last_key, without_lines}
 use Rattle.allocative_graph.proofs.Text.{Plain, Sized, is_shown, full, body, shown_lines, full_body, body_lacks, decimal_lacks}
 
-differs : (b c : ℕ) → b ≢ c → (b == c) ≡ false
+pub differs : (b c : ℕ) → b ≢ c → (b == c) ≡ false
 differs b c h = by (b == c) refl
   where
     by : (t : Bool) → (b == c) ≡ t → t ≡ false

@@ -16,23 +16,23 @@ use Rattle.allocative_graph.proofs.Merge.{get-sum_of}
 use Rattle.allocative_graph.proofs.Listing.{entries-from_entries-sorted}
 
 -- ---- path by path
-together_size : (x y : Option ℕ) → unwrap_or (sizes_together x y) 0 ≡ unwrap_or x 0 + unwrap_or y 0
+pub together_size : (x y : Option ℕ) → unwrap_or (sizes_together x y) 0 ≡ unwrap_or x 0 + unwrap_or y 0
 together_size None None = refl
 together_size None (Some n) = refl
 together_size (Some m) None = refl
 together_size (Some m) (Some n) = refl
 
-together_some : (x y : Option ℕ) → is_some (sizes_together x y) ≡ (is_some x || is_some y)
+pub together_some : (x y : Option ℕ) → is_some (sizes_together x y) ≡ (is_some x || is_some y)
 together_some None None = refl
 together_some None (Some n) = refl
 together_some (Some m) None = refl
 together_some (Some m) (Some n) = refl
 
-or_assoc : (a b c : Bool) → ((a || b) || c) ≡ (a || (b || c))
+pub or_assoc : (a b c : Bool) → ((a || b) || c) ≡ (a || (b || c))
 or_assoc true b c = refl
 or_assoc false b c = refl
 
-or_false : (a : Bool) → a ≡ (a || false)
+pub or_false : (a : Bool) → a ≡ (a || false)
 or_false true = refl
 or_false false = refl
 
@@ -84,7 +84,7 @@ total-all g [] = omega arith
 total-all g (c ∷ cs) =
     omega (arith, total-all (sum_of g (under c.key c.graph)) cs, total-sum_of g (under c.key c.graph), total-under c.key c.graph, total_of-cons c cs)
 
-total-default : total default ≡ 0
+pub total-default : total default ≡ 0
 total-default = ap (sum_by (λ e. e.1)) (entries-from_entries-sorted (([], 0) ∷ []) tt)
 
 -- The total of the graph of some children.

@@ -29,5 +29,9 @@ pub mod ChildMerged
 pub mod Behind
 pub mod ReadRows
 pub mod Gathered
+pub mod Stacks
+pub mod StackSums
+pub mod ReadLines
+pub mod ReadBack
 mod Loans
 mod Walks

@@ -113,10 +113,10 @@ shown_lines (e ∷ es) = by (is_root e.0 || (e.1 == 0)) (shown_lines es)
 pub full_body : (e : Sized) (rest : List ℕ) → full e ++ rest ≡ body e ++ 10 ∷ rest
 full_body e rest = append_assoc (body e) (10 ∷ []) rest
 
-record Good (e : Sized) : Type 0 where
-  seen : IsTrue (is_shown e)
-  plain : AllByRecursion Plain e.0
-  word : e.1 < 2 ^ 64
+pub record Good (e : Sized) : Type 0 where
+  pub seen : IsTrue (is_shown e)
+  pub plain : AllByRecursion Plain e.0
+  pub word : e.1 < 2 ^ 64
 
 pub body_lacks : (e : Sized) → AllByRecursion Plain e.0 → Lacks 10 (body e)
 body_lacks e h = each-append (λ b. b ≢ 10) (joined e.0) _ (joined_lacks e.0 h) ((λ g. omega (arith, g)), decimal_lacks 10 e.1 (omega arith))
@@ -145,7 +145,7 @@ same_entries (e ∷ es) (f ∷ fs) a b h =
     let parts = first_split 10 (body e) (body f) (flat_map full es) (flat_map full fs) (body_lacks e a.0.plain) (body_lacks f b.0.plain) (sym (full_body e (flat_map full es)) ∙ h ∙ full_body f (flat_map full fs)) in
     λ i. same_entry e f a.0 b.0 parts.0 i ∷ same_entries es fs a.1 b.1 parts.1 i
 
-good_entries : (es : List Sized) → AllByRecursion (λ p. AllByRecursion Plain p) (map (λ e. e.0) es) → AllByRecursion (λ e. e.1 < 2 ^ 64) es → AllByRecursion Good (filter is_shown es)
+pub good_entries : (es : List Sized) → AllByRecursion (λ p. AllByRecursion Plain p) (map (λ e. e.0) es) → AllByRecursion (λ e. e.1 < 2 ^ 64) es → AllByRecursion Good (filter is_shown es)
 good_entries [] a b = tt
 good_entries (e ∷ es) a b = by (is_shown e) refl (good_entries es a.1 b.1)
   where
@@ -166,11 +166,11 @@ none_kept q (e ∷ es) h = by (is_same_path q e.0) refl h (none_kept q es)
         inner true = ap (λ b. cond b (Some e.1) (find path_cmp q (filter is_shown es))) s ∙ rest g
         inner false = rest g
 
-and_left : (a b : Bool) → T (a && b) → T a
+pub and_left : (a b : Bool) → T (a && b) → T a
 and_left true b h = tt
 and_left false b h = absurd h
 
-and_right : (a b : Bool) → T (a && b) → T b
+pub and_right : (a b : Bool) → T (a && b) → T b
 and_right true b h = h
 and_right false b h = absurd h
 
@@ -201,7 +201,7 @@ size_kept k p (e ∷ es) h = by (is_same_path (k ∷ p) e.0) refl (is_shown e) r
     by false s true w rest = rest ∙ ap (λ t. unwrap_or (cond t (Some e.1) (find path_cmp (k ∷ p) (filter is_shown es))) 0) (sym s)
     by false s false w rest = rest
 
-words : (es : List Sized) (m : ℕ) → sum_by (λ e. e.1) es < m → AllByRecursion (λ e. e.1 < m) es
+pub words : (es : List Sized) (m : ℕ) → sum_by (λ e. e.1) es < m → AllByRecursion (λ e. e.1 < m) es
 words [] m h = tt
 words (e ∷ es) m h =
     let parts = sum_by-cons (λ e. e.1) e es in

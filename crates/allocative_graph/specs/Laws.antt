@@ -14,6 +14,8 @@ use Rattle.allocative_graph.specs.Sums.{Sums, bytes_in, below_in, is_unique_in, 
 use Rattle.allocative_graph.specs.Graph.{Graph, graph, total, under, default, IsTree, text, warnings, warned_paths, sum_of, size_at, CanBeAdded, HasPlainKeys, HasWords}
 use Rattle.allocative_graph.specs.Collector.{Live, Holding, Kind, OfGraph, OfHeld, plus, Takes, enter, enter_first, enter_again, leave, is_in_unique}
 use Rattle.allocative_graph.specs.Report.{exact_text, without_lines}
+use Rattle.allocative_graph.specs.Read.{IsRead, IsFault, Exceeds, CanBeRead}
+use Rattle.allocative_graph.specs.declared.read.LineFault.{LineFault}
 
 -- ---- of showings
 -- Two showings have the same result: they reach the same identities, and have the same graph, text, warnings and paths
@@ -53,6 +55,18 @@ TextLaw = (g h : Graph) → HasPlainKeys g → HasPlainKeys h → HasWords g →
 -- in it.
 abbrev pub ExactLaw : Type 0
 ExactLaw = (g : Graph) → HasPlainKeys g → exact_text g ≡ without_lines (codes "unused_capacity") (text g)
+
+-- What is read of the text of g, where h was read: the sizes of g at each path but the root. No line of it is refused
+-- where its paths can be read, and its bytes never exceed a word.
+pub record ReadLaws (g h : Graph) : Type 0 where
+  pub same_sizes : IsRead (text g) h → (k : Key) (p : Path) → size_at h (k ∷ p) ≡ size_at g (k ∷ p)
+  pub no_fault : CanBeRead g → (n : ℕ) (w : LineFault) → ¬ IsFault (text g) n w
+  pub fits : ¬ Exceeds (text g)
+
+-- Where no key has a `;` or a line feed and the total fits a word, the text of a graph is read as that graph but for
+-- the size of its root.
+abbrev pub ReadLaw : Type 0
+ReadLaw = (g h : Graph) → HasPlainKeys g → HasWords g → ReadLaws g h
 
 -- ---- of sums
 -- The sums of a bag have, at exactly the paths of its entries, the sum of the sizes there and whether one of the

@@ -12,6 +12,7 @@ pub mod Held
 pub mod Collector
 pub mod Shows
 pub mod Visits
+pub mod Read
 pub mod Laws
 pub mod WorkedExamples
 pub mod Report

@@ -5,3 +5,4 @@ pub mod Node
 pub mod NodeRows
 pub mod Children
 pub mod Merged
+pub mod Stacks

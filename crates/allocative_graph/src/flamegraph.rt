@@ -203,13 +203,17 @@ impl FlameGraph {
         ensures { Added (is_ok result) self.old other self.new }
     {
         let FlameGraph {
-            children,
+            mut children,
             children_size: _,
             node_size,
         } = other;
         self.node_size += node_size;
-        if children.is_empty() {
-            return Ok(());
+        // One child is put among those that are there, which are not read one by one.
+        if children.len() < 2 {
+            let Some(child) = children.pop() else {
+                return Ok(());
+            };
+            return put_child(&mut self.children, &mut self.children_size, child);
         }
         let alloc = *self.children.allocator();
         let merged = Vec::with_capacity(alloc, self.children.len() + children.len())?;
@@ -327,16 +331,18 @@ pub fn push_path(keys: &[&str], text: &mut String) -> Result<(), AllocError>
     Ok(())
 }
 
-// The place of the key among the children, or else the place where it belongs. One comparison recognizes a key
-// after the last one, so that children added in order are put at the end without a search.
+// The place of the key among the children, or else the place where it belongs. One comparison recognizes the last key
+// and a key after it, so that children added in order are put at the end without a search.
 fn place_of(children: &[Child], key: &Key) -> Result<usize, usize>
     requires { InOrder children.now }
     ensures found { IfOk result (IsFound children.now key.now) }
     ensures missing { IfErr result (IsChildGap children.now key.now) }
 {
     if let Some(last) = children.last() {
-        if last.key.cmp(key).is_lt() {
-            return Err(children.len());
+        match last.key.cmp(key) {
+            Ordering::Less => return Err(children.len()),
+            Ordering::Equal => return Ok(children.len() - 1),
+            Ordering::Greater => {}
         }
     }
     place_by_halving(children, key)
@@ -356,6 +362,7 @@ fn place_by_halving(children: &[Child], key: &Key) -> Result<usize, usize>
 }
 
 // Adds a child: to the child with its key, or at its place among the others.
+#[cycle(merge)]
 fn put_child(children: &mut Vec<Child>, size: &mut usize, child: Child) -> Result<(), AllocError>
     requires children { AreChildren children.old.items }
     requires exact { size.old ≡ weight children.old.items }

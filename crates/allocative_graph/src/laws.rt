@@ -1,5 +1,5 @@
 //! The laws of the definitions. Each is a function without parameters, whose contract is the law.
-ghost use Rattle.allocative_graph.specs.Laws.{OrderLaw, MeaningLaw, MergeLaw, TextLaw, SumsLaw, PlusLaw, SharedLaw, PathOrderLaw, GraphSumsLaw, GraphLaw, ExactLaw};
+ghost use Rattle.allocative_graph.specs.Laws.{OrderLaw, MeaningLaw, MergeLaw, TextLaw, SumsLaw, PlusLaw, SharedLaw, PathOrderLaw, GraphSumsLaw, GraphLaw, ExactLaw, ReadLaw};
 ghost use Rattle.allocative_graph.specs.WorkedExamples.{WorkedExamples};
 
 /// Two whole showings that agree up to order reach the same identities, and have the same graph, text and warnings.
@@ -28,6 +28,13 @@ pub fn text_law()
 /// the paths that end in it.
 pub fn exact_law()
     ensures { ExactLaw }
+{}
+
+/// Where no key has a `;` or a line feed, the text of a graph is read as a graph with its sizes at each path but the
+/// root. The law is about graphs whose totals fit a word, as that of every `FlameGraph` does. No line of such a text is
+/// refused where each of its paths has at most `LEVELS` keys and is not one empty key.
+pub fn read_law()
+    ensures { ReadLaw }
 {}
 
 /// The sums of a bag, in closed form.

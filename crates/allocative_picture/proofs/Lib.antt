@@ -1,5 +1,6 @@
 pub mod Escaping
 pub mod Placing
+pub mod Walking
 pub mod Pages
 pub mod Geometry
 pub mod Counting

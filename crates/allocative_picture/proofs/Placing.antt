@@ -1,5 +1,5 @@
 -- The bytes before a path are the own bytes of the rows before its row.
-use Rattle.std.proofs.Common.{◌≡◌, ℕ, ◌+◌, ◌≤◌, ◌&&◌, Bool, true, false, cond, List, [], ◌∷◌, ◌++◌, map, sum_by, length, refl, sym, ap, subst, ◌∙◌, append_assoc, T, arith}
+use Rattle.std.proofs.Common.{◌≡◌, ℕ, ◌+◌, ◌&&◌, Bool, true, false, cond, List, [], ◌∷◌, ◌++◌, map, sum_by, length, refl, sym, ap, subst, ◌∙◌, append_assoc, T, arith}
 use Rattle.std.proofs.lemmas.List.Sums.{sum_by-cons, sum_by-append}
 use Rattle.std.specs.Ordering.{is_lt, ordering_reverse}
 use Rattle.std.specs.declared.cmp.Ordering.{Ordering}
@@ -8,11 +8,11 @@ use Rattle.std.specs.Cmp.{tied_itself}
 use Rattle.std.specs.FinMap.{entries, entries_sorted}
 use Rattle.std.specs.FinMap.Entries.{is_sorted, below_all}
 use Rattle.allocative_graph.specs.Path.{Path, path_cmp}
-use Rattle.allocative_graph.specs.Graph.{Graph, total, total_at}
+use Rattle.allocative_graph.specs.Graph.{Graph, total_at}
 use Rattle.allocative_graph.specs.Reads.{Figures, figures}
 use Rattle.allocative_graph.proofs.Basics.{path_total}
 use Rattle.allocative_picture.specs.declared.row.Mark.{Mark}
-use Rattle.allocative_picture.specs.Rows.{Seen, before_in, row_of, row_from, rows_of}
+use Rattle.allocative_picture.specs.Rows.{before_in, row_of, rows_from, rows_of}
 
 abbrev Sizes : Type 0
 Sizes = List (Path × ℕ)
@@ -58,27 +58,12 @@ before-middle (x ∷ a) c e h =
     ∙ (λ i. cond (is_lt (below-at x.0 a c e (both_first (below_all path_cmp x.0 (a ++ e ∷ c)) (is_sorted path_cmp (a ++ e ∷ c)) h) i)) x.1 0 + before-middle a c e (both_second (below_all path_cmp x.0 (a ++ e ∷ c)) (is_sorted path_cmp (a ++ e ∷ c)) h) i)
     ∙ sym (sum_by-cons (λ (y : Path × ℕ). y.1) x a)
 
--- The rows of some figures, where b bytes come before the first.
-abbrev pub rows_from : (Path → Mark) → ℕ → List Figures → List Seen
-rows_from M b [] = []
-rows_from M b (f ∷ fs) = row_from M b f ∷ rows_from M (b + f.self_size) fs
-
 -- The own bytes of some figures together.
 abbrev pub own_bytes : List Figures → ℕ
 own_bytes fs = sum_by (λ f. f.self_size) fs
 
-own-cons : (f : Figures) (fs : List Figures) → own_bytes (f ∷ fs) ≡ f.self_size + own_bytes fs
+pub own-cons : (f : Figures) (fs : List Figures) → own_bytes (f ∷ fs) ≡ f.self_size + own_bytes fs
 own-cons f fs = sum_by-cons (λ (x : Figures). x.self_size) f fs
-
--- The rows after one more path.
-pub rows_from-more : (M : Path → Mark) (b : ℕ) (fs : List Figures) (f : Figures) → rows_from M b (fs ++ f ∷ []) ≡ rows_from M b fs ++ row_from M (b + own_bytes fs) f ∷ []
-rows_from-more M b [] f = ap (λ n. row_from M n f ∷ []) (let e : b ≡ b + 0 = omega arith in e)
-rows_from-more M b (g ∷ fs) f =
-    let e : b + g.self_size + own_bytes fs ≡ b + own_bytes (g ∷ fs) = omega (arith, own-cons g fs) in
-    ap (λ (s : List Seen). row_from M b g ∷ s) (rows_from-more M (b + g.self_size) fs f ∙ ap (λ n. rows_from M (b + g.self_size) fs ++ row_from M n f ∷ []) e)
-
-pub own-more : (fs : List Figures) (f : Figures) → own_bytes (fs ++ f ∷ []) ≡ own_bytes fs + f.self_size
-own-more fs f = omega (arith, sum_by-append (λ (x : Figures). x.self_size) fs (f ∷ []), own-cons f [])
 
 abbrev figure : Graph → Path × ℕ → Figures
 figure g e = record { path = e.0; self_size = e.1; total_size = total_at g e.0 }
@@ -97,14 +82,3 @@ placed M g a (x ∷ c) e =
 pub rows_from-figures : (M : Path → Mark) (g : Graph) → rows_from M 0 (figures g) ≡ rows_of M g
 unfolding rows_of
 rows_from-figures M g = placed M g [] (entries g) refl
-
-own-figures : (g : Graph) (es : Sizes) → own_bytes (map (figure g) es) ≡ bytes_of es
-own-figures g [] = refl
-own-figures g (e ∷ es) = omega (arith, own-cons (figure g e) (map (figure g) es), own-figures g es, sum_by-cons (λ (y : Path × ℕ). y.1) e es)
-
-own-split : (fs gs : List Figures) → own_bytes fs ≤ own_bytes (fs ++ gs)
-own-split fs gs = omega (arith, sum_by-append (λ (x : Figures). x.self_size) fs gs)
-
--- The first figures of a graph have together at most the bytes of the graph.
-pub own-within : (g : Graph) (fs gs : List Figures) → fs ++ gs ≡ figures g → own_bytes fs ≤ total g
-own-within g fs gs e = omega (arith, own-split fs gs, ap own_bytes e ∙ own-figures g (entries g))

@@ -1,5 +1,5 @@
 -- What a row shows, and the rows of a flame graph.
-use Rattle.std.specs.Prelude.{ℕ, Bool, cond, length, List, [], ◌∷◌, map, sum_by, codes}
+use Rattle.std.specs.Prelude.{ℕ, ◌+◌, Bool, cond, length, List, [], ◌∷◌, map, sum_by, codes}
 use Rattle.std.specs.List.{list_any}
 use Rattle.std.specs.Ordering.{is_lt}
 use Rattle.std.specs.FinMap.{entries}
@@ -59,6 +59,11 @@ row_from M before f = record {
   before = before;
   mark = M f.path;
 }
+
+-- The rows of some figures, where b bytes come before the first.
+abbrev pub rows_from : (Path → Mark) → ℕ → List Figures → List Seen
+rows_from M b [] = []
+rows_from M b (f ∷ fs) = row_from M b f ∷ rows_from M (b + f.self_size) fs
 
 -- Whether a path is one of those that have a warning.
 unfoldable pub is_warned : List Warned → Path → Bool

@@ -1,16 +1,17 @@
 //! The rows of a flame graph.
-ghost use Rattle.std.specs.Prelude.{◌≡◌, ◌+◌, ◌<◌, ◌^◌, IfOk, IfErr, map};
+ghost use Rattle.std.specs.Prelude.{◌≡◌, ◌+◌, ◌<◌, ◌^◌, ◌++◌, [], IfOk, IfErr, OnOk, map};
+ghost use Rattle.allocative_graph.specs.Graph.{total, size_at};
 ghost use Rattle.allocative_graph.specs.Reads as reads;
+ghost use Rattle.allocative_graph.specs.Reads.{figures_behind};
 ghost use Rattle.allocative_collectors.specs.Warned as held;
-ghost use Rattle.allocative_picture.specs.Rows.{seen, shown_key, rows_of, row_from, is_warned};
+ghost use Rattle.allocative_picture.specs.Rows.{seen, shown_key, rows_of, rows_from, row_from, is_warned};
 ghost use Rattle.allocative_picture.specs.Marks.{mark_of};
 
 use crate::row::{Mark, Row};
 use allocative_collectors::output::WarnedPath;
-use allocative_graph::flamegraph as graphs;
 use allocative_graph::flamegraph::FlameGraph;
 use allocative_graph::refusal::Refusal;
-use std::alloc::Global;
+use std::alloc::{AllocError, Global};
 
 /// What the marks of the paths of a flame graph come from.
 #[derive(Clone, Copy)]
@@ -58,18 +59,23 @@ fn shown_key(path: &[&'static str]) -> &'static str
     }
 }
 
-/// The row of a path, where `before` bytes come before it.
-fn row_from(marks: &Marks<'_>, before: usize, path: &graphs::Row) -> Row<'static>
-    ensures { seen result ≡ row_from (mark_of marks.now) before (reads.seen path.now) }
+/// The row of a path, which is the root of a graph, where `before` bytes come before it.
+fn row_from(
+    marks: &Marks<'_>,
+    before: usize,
+    path: &[&'static str],
+    graph: &FlameGraph,
+) -> Row<'static>
+    ensures { seen result ≡ row_from (mark_of marks.now) before
+        (record { path = map (λ k. k.now) path.now; self_size = size_at graph.now []; total_size = total graph.now }) }
 {
-    let keys = path.path.as_slice();
     Row {
-        depth: keys.len(),
-        key: shown_key(keys),
-        own: path.self_size,
-        whole: path.total_size,
+        depth: path.len(),
+        key: shown_key(path),
+        own: graph.self_size(),
+        whole: graph.total_size(),
         before,
-        mark: marks.of(keys),
+        mark: marks.of(path),
     }
 }
 
@@ -82,13 +88,37 @@ pub(crate) fn rows(
     ensures rows { IfOk result (λ rows. map seen rows.items ≡ rows_of (mark_of marks.now) graph.now) }
     ensures memory { IfErr result (λ r. r ≡ Refusal.Memory) }
 {
-    let _all = graph.total_size();
-    let paths = graph.rows()?;
-    let mut rows = Vec::with_capacity(alloc, paths.len())?;
+    let mut path: Vec<&'static str> = Vec::new(alloc);
+    let mut rows: Vec<Row<'static>> = Vec::new(alloc);
     let mut before = 0usize;
-    for path in &paths {
-        rows.push(row_from(marks, before, path))?;
-        before += path.self_size;
-    }
+    let _all = graph.total_size();
+    push_rows(marks, graph, &mut path, &mut before, &mut rows)?;
     Ok(rows)
+}
+
+// Appends the rows of all paths of a graph, each after the given keys. `before` has the bytes of all paths before.
+fn push_rows(
+    marks: &Marks<'_>,
+    graph: &FlameGraph,
+    path: &mut Vec<&'static str>,
+    before: &mut usize,
+    rows: &mut Vec<Row<'static>>,
+) -> Result<(), AllocError>
+    requires { before.old + total graph.now < 2 ^ 64 }
+    ensures path { OnOk result (path.new.items ≡ path.old.items) }
+    ensures before { OnOk result (before.new ≡ before.old + total graph.now) }
+    ensures rows { OnOk result
+        (map seen rows.new.items
+        ≡ map seen rows.old.items
+        ++ rows_from (mark_of marks.now) before.old (figures_behind (map (λ k. k.now) path.old.items) graph.now)) }
+{
+    let children = graph.children();
+    rows.push(row_from(marks, *before, path.as_slice(), graph))?;
+    *before += graph.self_size();
+    for child in children {
+        path.push(child.key.as_str())?;
+        push_rows(marks, &child.graph, path, before, rows)?;
+        path.pop();
+    }
+    Ok(())
 }

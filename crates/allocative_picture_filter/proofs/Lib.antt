@@ -1,10 +1,2 @@
-pub mod Lines
-pub mod Texts
 pub mod Faults
-pub mod Beside
-pub mod Listing
-pub mod Outlines
-pub mod Wholes
-pub mod Places
-pub mod Taken
-pub mod Drawn
+pub mod Sums

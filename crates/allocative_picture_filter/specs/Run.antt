@@ -1,68 +1,53 @@
--- What a run draws of two texts, and which line a fault of it names.
-use Rattle.std.specs.Prelude.{◌≡◌, ℕ, Bool, true, false, List, ◌++◌, [], map, sum_by}
-use Rattle.allocative_graph.specs.Path.{Path}
-use Rattle.allocative_graph.specs.Graph.{Graph}
-use Rattle.allocative_picture.specs.Rows.{rows_of}
-use Rattle.allocative_picture.specs.declared.row.Mark.{Mark}
-use Rattle.allocative_picture.specs.declared.row.Mark.TheVariants.{Plain, Changed}
-use Rattle.allocative_picture.specs.Picture.{drawing}
+-- What a run makes of its texts, and which line a fault of it names.
+use Rattle.std.specs.Prelude.{◌≡◌, ℕ, ◌==◌, ◌⊎◌, Bool, cond, List, [], ◌∷◌, ◌++◌, length, map}
+use Rattle.allocative_graph.specs.declared.read.LineFault.{LineFault}
+use Rattle.allocative_graph.specs.Graph.{Graph, default, sum_of, text}
+use Rattle.allocative_graph.specs.Read.{IsRead, IsFault}
+use Rattle.allocative_picture.specs.Picture.{profile_drawing, change_drawing}
 use Rattle.allocative_picture.specs.declared.options.Options.{Options}
-use Rattle.allocative_picture.specs.declared.page.Subject as subject
-use Rattle.allocative_picture.specs.declared.page.Subject.TheVariants as subject_of
-use Rattle.allocative_picture_filter.specs.declared.run.Earlier as earlier
-use Rattle.allocative_picture_filter.specs.declared.run.Earlier.TheVariants.{None, Profile}
-use Rattle.allocative_picture_filter.specs.declared.stacks.Line.{Line}
-use Rattle.allocative_picture_filter.specs.declared.stacks.Side.TheVariants as side
-use Rattle.allocative_picture_filter.specs.Stacks.{Stack, seen, Means, IsFault}
-use Rattle.allocative_picture_filter.specs.Rows.{IsGraphOf, was_at}
+use Rattle.allocative_picture_filter.specs.declared.arguments.Arguments.{Arguments}
+use Rattle.allocative_picture_filter.specs.declared.fault.Source.{Source}
+use Rattle.allocative_picture_filter.specs.declared.fault.Source.TheVariants.{Input}
+use Rattle.allocative_picture_filter.specs.declared.run.Text.{Text}
 
--- The stacks of the earlier profile: none where there is none, and else those of its text.
-abbrev pub MeansBefore : earlier.Earlier → List Stack → Type 0
-MeansBefore None ss = ss ≡ []
-MeansBefore (Profile bytes) ss = Means side.Earlier bytes.items ss
+-- The bytes of a text.
+abbrev pub bytes_of : Text → List ℕ
+bytes_of t = t.bytes.now
 
--- The line of this number is the first of the earlier profile's text that is no stack.
-abbrev pub IsFaultBefore : earlier.Earlier → ℕ → Type 0
-IsFaultBefore None n = ⊥
-IsFaultBefore (Profile bytes) n = IsFault side.Earlier bytes.items n
+-- The texts of a profile: those of its files, and the input where it belongs to them.
+abbrev pub later_texts : List Text → Bool → List ℕ → List (List ℕ)
+later_texts ts reads_input known = map bytes_of ts ++ cond reads_input (known ∷ []) []
 
--- Whether there is an earlier profile.
-abbrev pub is_there : earlier.Earlier → Bool
-is_there None = false
-is_there (Profile bytes) = true
+-- The graph g with those of some texts, one added after another, is h.
+abbrev pub AddUpOnto : Graph → List (List ℕ) → Graph → Type 0
+AddUpOnto g [] h = h ≡ g
+AddUpOnto g (t ∷ ts) h = (read : Graph) × IsRead t read × AddUpOnto (sum_of g read) ts h
 
--- What a picture is of: a profile, or a change where there is an earlier one.
-abbrev pub subject_for : earlier.Earlier → ℕ → ℕ → subject.Subject
-subject_for None was is = subject_of.Profile is
-subject_for (Profile bytes) was is = subject_of.Change was is
+-- The graphs of some texts add up to h.
+abbrev pub AddUp : List (List ℕ) → Graph → Type 0
+AddUp ts h = AddUpOnto default ts h
 
--- The stacks of the earlier profile came behind those that there were.
-pub record ReadsBefore (before : earlier.Earlier) (old new : List Line) : Type 0 where
-  pub stacks : List Stack
-  pub means : MeansBefore before stacks
-  pub appended : map seen new ≡ map seen old ++ stacks
+-- Of one of the texts, which comes from there, the line of this number is the first that is none, and this is wrong
+-- with it.
+abbrev pub IsFaultOf : Source → ℕ → LineFault → List Text → Type 0
+IsFaultOf s n w [] = ⊥
+IsFaultOf s n w (t ∷ ts) = ((t.source ≡ s) × IsFault t.bytes.now n w) ⊎ IsFaultOf s n w ts
 
--- Each line of the earlier text and of the text is a stack, and these are the stacks of the one and then of the other.
-pub record AreOf (before : earlier.Earlier) (text : List ℕ) (stacks : List Stack) : Type 0 where
-  pub earlier : List Stack
-  pub later : List Stack
-  pub earlier_read : MeansBefore before earlier
-  pub later_read : Means side.Later text later
-  pub both : stacks ≡ earlier ++ later
+-- The fault is one of the files, or of the input where it belongs to the texts.
+abbrev pub MayFault : Source → ℕ → LineFault → List Text → Bool → List ℕ → Type 0
+MayFault s n w ts reads_input known = IsFaultOf s n w ts ⊎ cond reads_input ((s ≡ Input) × IsFault known n w) ⊥
 
--- The mark of the path p: nothing where there is no earlier profile, and else the bytes that it has at p and below it.
-abbrev pub mark_for : earlier.Earlier → List Stack → Path → Mark
-mark_for None ss p = Plain
-mark_for (Profile bytes) ss p = Changed (was_at ss p)
+-- What is written of the graph of the earlier texts and of that of the others.
+abbrev pub written_of : Bool → Bool → Options → Graph → Graph → List ℕ
+written_of as_text is_alone o g h = cond as_text (text h) (cond is_alone (profile_drawing o h) (change_drawing o g h))
 
--- The picture with this title is that of the graph that all stacks of both texts add up to. Its rows are those of the
--- graph, as in the picture of a flame graph, and its totals are those of the two texts.
-pub record IsPictureOf (title : List ℕ) (before : earlier.Earlier) (text made : List ℕ) : Type 0 where
-  pub stacks : List Stack
-  pub read : AreOf before text stacks
+-- What is written of these texts is what the arguments ask for: the text of the graph that they add up to; its picture;
+-- or, where there are earlier texts, that of the change from the graph of these.
+pub record IsMade (asked : Arguments) (before : List Text) (after : List (List ℕ)) (made : List ℕ) : Type 0 where
+  pub earlier : Graph
+  pub later : Graph
+  pub earlier_read : AddUp (map bytes_of before) earlier
+  pub later_read : AddUp after later
   pub options : Options
-  pub titled : options.title.now ≡ title
-  pub graph : Graph
-  pub added : IsGraphOf stacks graph
-  pub drawn : made ≡ drawing (subject_for before (sum_by (λ s. s.was) stacks) (sum_by (λ s. s.is) stacks)) options
-      (rows_of (mark_for before stacks) graph)
+  pub titled : options.title ≡ asked.title
+  pub is : made ≡ written_of asked.as_text (length before == 0) options earlier later

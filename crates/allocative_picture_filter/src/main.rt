@@ -1,25 +1,22 @@
-//! Reads collapsed stacks from standard input and writes their picture, as SVG, to standard output. An argument may
-//! name the file of an earlier profile, and the picture then shows the change.
+//! Adds up collapsed stacks of standard input and of files, and writes their picture, as SVG, to standard output.
+//! Files of an earlier profile may be named, and the picture then shows the change.
 #![tactic(auto)]
 
 mod arguments;
 mod fault;
-mod forest;
 mod run;
-mod stacks;
 
 use arguments::{Arguments, read_arguments};
-use fault::Fault;
-use run::{Earlier, read_input, run, show_usage, tell};
-use std::alloc::Global;
+use fault::{Fault, Source};
+use run::{Text, read_text, run, show_usage, tell};
 use std::env;
 use std::fs::File;
-use std::io::ErrorKind;
+use std::io::{ErrorKind, Read, Write};
 use std::process::ExitCode;
 use std::rt::{Env, Files};
 
 // Returns the arguments of the program. One that is not UTF-8 is refused.
-fn arguments_of<R: Env + AllocGlobal>(rt: &R) -> Result<Vec<String>, Fault> {
+fn arguments_of<R: Env + AllocGlobal>(rt: &R) -> Result<Vec<String>, Fault<'static>> {
     match env::args(rt) {
         Ok(args) => Ok(args.skip(1).collect(rt.alloc())?),
         Err(error) if error.kind() == ErrorKind::OutOfMemory => Err(Fault::Memory),
@@ -28,27 +25,48 @@ fn arguments_of<R: Env + AllocGlobal>(rt: &R) -> Result<Vec<String>, Fault> {
 }
 
 // Reads all bytes of a file.
-fn read_file<R: Files + AllocGlobal>(rt: &R, path: &str) -> Result<Vec<u8>, Fault> {
-    match File::open(rt, path) {
-        Ok(mut file) => read_input(rt.alloc(), &mut file),
+fn read_file<'a, R: Files + AllocGlobal>(rt: &R, name: &'a str) -> Result<Text<'a>, Fault<'a>> {
+    match File::open(rt, name) {
+        Ok(mut file) => read_text(rt.alloc(), Source::File(name), &mut file),
         Err(error) if error.kind() == ErrorKind::OutOfMemory => Err(Fault::Memory),
-        Err(_) => Err(Fault::Reading),
+        Err(_) => Err(Fault::Reading(Source::File(name))),
     }
 }
 
-// Reads the earlier profile that the arguments name, if they name one.
-fn read_earlier<R: Files + AllocGlobal>(
+// Reads the files of these names.
+fn read_files<'a, R: Files + AllocGlobal>(
     rt: &R,
-    arguments: &Arguments<'_>,
-) -> Result<Earlier, Fault> {
-    match arguments.earlier {
-        Some(path) => Ok(Earlier::Profile(read_file(rt, path)?)),
-        None => Ok(Earlier::None),
+    names: &[&'a str],
+) -> Result<Vec<Text<'a>>, Fault<'a>> {
+    let mut texts = Vec::new(rt.alloc());
+    for name in names {
+        texts.push(read_file(rt, name)?)?;
     }
+    Ok(texts)
+}
+
+// Reads the files that the arguments name, and runs the program on them.
+fn run_on_files<'a, S: Files + AllocGlobal, R: Read, W: Write, E: Write>(
+    rt: &S,
+    asked: &Arguments<'a>,
+    input: &mut R,
+    output: &mut W,
+    errors: &mut E,
+) -> Result<u8, Fault<'a>> {
+    let before = read_files(rt, asked.before.as_slice())?;
+    let after = read_files(rt, asked.after.as_slice())?;
+    Ok(run(
+        rt.alloc(),
+        asked,
+        before.as_slice(),
+        after.as_slice(),
+        input,
+        output,
+        errors,
+    ))
 }
 
 fn main(rt: HostRuntime) -> ExitCode {
-    let alloc = rt.alloc();
     let mut input = rt.reader();
     let mut output = std::io::writer(&rt);
     let mut errors = rt.stderr();
@@ -56,22 +74,15 @@ fn main(rt: HostRuntime) -> ExitCode {
         Ok(arguments) => arguments,
         Err(fault) => return ExitCode::from(tell(&mut errors, fault)),
     };
-    let asked = match read_arguments(arguments.as_slice()) {
+    let asked = match read_arguments(rt.alloc(), arguments.as_slice()) {
         Ok(asked) => asked,
         Err(fault) => return ExitCode::from(tell(&mut errors, fault)),
     };
     if asked.help {
         return ExitCode::from(show_usage(&mut output, &mut errors));
     }
-    let status = match read_earlier(&rt, &asked) {
-        Ok(earlier) => run(
-            alloc,
-            asked.title,
-            &earlier,
-            &mut input,
-            &mut output,
-            &mut errors,
-        ),
+    let status = match run_on_files(&rt, &asked, &mut input, &mut output, &mut errors) {
+        Ok(status) => status,
         Err(fault) => tell(&mut errors, fault),
     };
     ExitCode::from(status)

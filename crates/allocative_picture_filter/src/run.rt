@@ -1,68 +1,62 @@
 //! The whole program, over any reader and two writers.
-ghost use Rattle.std.specs.Prelude.{◌≡◌, ◌≢◌, ◌⊎◌, ℕ, OnOk, OnErr, IfOk, IfErr, IsErrOf, IfSome, List, map, string_bytes};
+ghost use Rattle.std.specs.Prelude.{◌≡◌, ◌≢◌, ◌⊎◌, ℕ, OnOk, IfOk, IfErr, IsErrOf, IfSome, List, [], ◌++◌, map, string_bytes};
 ghost use Rattle.std.specs.Io.KnownBytes.{Appends};
+ghost use Rattle.allocative_graph.specs.Graph.{Graph, sum_of};
+ghost use Rattle.allocative_graph.specs.Read.{IsRead, IsFault};
+ghost use Rattle.allocative_graph.specs.declared.read.LineFault.{LineFault};
 ghost use Rattle.allocative_picture_filter.specs.Fault.{status_of};
-ghost use Rattle.allocative_picture_filter.specs.Stacks.{seen, Reads, IsFault};
-ghost use Rattle.allocative_picture_filter.specs.Run.{AreOf, ReadsBefore, IsPictureOf, IsFaultBefore, is_there, subject_for};
+ghost use Rattle.allocative_picture_filter.specs.Run.{bytes_of, later_texts, AddUp, AddUpOnto, IsFaultOf, MayFault, IsMade};
 
-use crate::fault::Fault;
-use crate::forest::forest_of;
-use crate::stacks::{Line, Side, Unread, push_lines, sort};
+use crate::arguments::Arguments;
+use crate::fault::{Fault, Source};
+use allocative_graph::flamegraph::FlameGraph;
+use allocative_graph::read::ReadFault;
 use allocative_picture::options::Options;
-use allocative_picture::page::Subject;
-use allocative_picture::picture::draw;
+use allocative_picture::picture::{change_picture, picture};
 use std::alloc::Global;
 use std::io::{ErrorKind, Read, Write};
 
-/// The bytes of the earlier profile, if there is one.
-#[derive(Drop)]
-pub enum Earlier {
-    /// There is no earlier profile: the picture shows one profile.
-    None,
-    /// There is one: the picture shows the change from it.
-    Profile(Vec<u8>),
-}
-
-impl Earlier {
-    // Returns whether there is one.
-    fn is_there(&self) -> bool
-        ensures { result ≡ is_there self.now }
-    {
-        matches!(self, Earlier::Profile(_))
-    }
-
-    // Returns what the picture shows, with the bytes of the earlier profile and of the later one.
-    fn subject(&self, before: usize, after: usize) -> Subject
-        ensures { result ≡ subject_for self.now before after }
-    {
-        match self {
-            Earlier::None => Subject::Profile { bytes: after },
-            Earlier::Profile(_) => Subject::Change { before, after },
-        }
-    }
+/// A text, and where it comes from. Its bytes are kept as long as the program runs, since the keys of a graph are
+/// parts of them.
+#[derive(Clone, Copy)]
+pub struct Text<'a> {
+    /// Where the text comes from.
+    pub source: Source<'a>,
+    /// The bytes.
+    pub bytes: &'static [u8],
 }
 
 /// Reads all bytes of a reader. It fails with `Fault::Reading` if a read fails. The only other error is
 /// `Fault::Memory`. An interrupted read is repeated.
-pub fn read_input<R: Read>(alloc: Global, input: &mut R) -> Result<Vec<u8>, Fault>
-    ensures ok { IfOk result (λ bytes. IfSome (R.remaining input.old) (λ known. bytes.items ≡ known)) }
-    ensures err { IfErr result (λ f. (f ≡ Fault.Memory) ⊎ (f ≡ Fault.Reading)) }
+pub fn read_text<'a, R: Read>(
+    alloc: Global,
+    source: Source<'a>,
+    input: &mut R,
+) -> Result<Text<'a>, Fault<'a>>
+    ensures ok { IfOk result (λ text. IfSome (R.remaining input.old) (λ known. text.bytes.now ≡ known)) }
+    ensures source { IfOk result (λ text. text.source ≡ source.entry) }
+    ensures line { (s : Source) (n : ℕ) (w : LineFault) → ¬ IsErrOf result (Fault.Line s n w) }
 {
     let mut bytes = Vec::new(alloc);
     let mut piece = [0u8; 4096];
     for _ in 0..u64::MAX {
         match input.read(&mut piece) {
-            Ok(0) => return Ok(bytes),
+            Ok(0) => {
+                return Ok(Text {
+                    source,
+                    bytes: bytes.leak(),
+                });
+            }
             Ok(count) => bytes.extend_from_slice(&piece[..count])?,
             Err(error) if error.kind() == ErrorKind::Interrupted => {}
-            Err(_) => return Err(Fault::Reading),
+            Err(_) => return Err(Fault::Reading(source)),
         }
     }
-    Err(Fault::Reading)
+    Err(Fault::Reading(source))
 }
 
 // Writes the whole text.
-fn write_text<W: Write>(output: &mut W, text: &str) -> Result<(), Fault>
+fn write_text<W: Write>(output: &mut W, text: &str) -> Result<(), Fault<'static>>
     ensures ok { OnOk result (Appends (W.contents output.old) (W.contents output.new) text.now) }
     ensures err { IfErr result (λ f. f ≡ Fault.Writing) }
 {
@@ -73,8 +67,8 @@ fn write_text<W: Write>(output: &mut W, text: &str) -> Result<(), Fault>
 }
 
 /// Writes the line of a fault, and returns its status. A line that cannot be written does not change the status.
-pub fn tell<E: Write>(errors: &mut E, fault: Fault) -> u8
-    ensures { result ≡ status_of fault }
+pub fn tell<E: Write>(errors: &mut E, fault: Fault<'_>) -> u8
+    ensures { result ≡ status_of fault.entry }
 {
     let _unwritten = writeln!(errors, "allocative-picture: {fault}");
     let _unflushed = errors.flush();
@@ -84,119 +78,130 @@ pub fn tell<E: Write>(errors: &mut E, fault: Fault) -> u8
 /// Writes how the program is used, and returns the status.
 pub fn show_usage<W: Write, E: Write>(output: &mut W, errors: &mut E) -> u8 {
     let usage =
-        "usage: allocative-picture [--title TEXT] [EARLIER]\n\nReads collapsed stacks from standard input, lines of keys joined by `;`, a space and a number of bytes, and\nwrites their picture to standard output. With a file of earlier stacks the picture is that of the change.\n";
+        "usage: allocative-picture [--title TEXT] [--text] [--before EARLIER].. [FILE | -]..\n\nAdds up collapsed stacks, lines of keys joined by `;`, a space and a number of bytes, and writes their picture to\nstandard output. They are read from the files, and from standard input where `-` or no file is named. With files of\nearlier stacks the picture is that of the change. With --text the added lines are written in place of a picture.\n";
     match write_text(output, usage) {
         Ok(()) => 0,
         Err(fault) => tell(errors, fault),
     }
 }
 
-// Appends the lines of a profile.
-fn push_profile<'a>(bytes: &'a [u8], side: Side, lines: &mut Vec<Line<'a>>) -> Result<(), Fault>
-    ensures ok { OnOk result (Reads side bytes.now lines.old.items lines.new.items) }
-    ensures line { (n : ℕ) → IsErrOf result (Fault.Line n) → (side ≡ Side.Later) × IsFault side bytes.now n }
-    ensures earlier_line { (n : ℕ) → IsErrOf result (Fault.EarlierLine n)
-        → (side ≡ Side.Earlier) × IsFault side bytes.now n }
+// The graph of a text.
+fn graph_of<'a>(alloc: Global, text: &Text<'a>) -> Result<FlameGraph, Fault<'a>>
+    ensures ok { IfOk result (IsRead text.now.bytes.now) }
+    ensures line { (s : Source) (n : ℕ) (w : LineFault) → IsErrOf result (Fault.Line s n w)
+        → (text.now.source ≡ s) × IsFault text.now.bytes.now n w }
 {
-    let Ok(text) = str::from_utf8(bytes) else {
-        return Err(Fault::NotText);
+    let Ok(lines) = str::from_utf8(text.bytes) else {
+        return Err(Fault::NotText(text.source));
     };
-    match push_lines(text, side, lines) {
-        Ok(()) => Ok(()),
-        Err(Unread::Memory) => Err(Fault::Memory),
-        Err(Unread::Line(number)) => Err(match side {
-            Side::Earlier => Fault::EarlierLine(number),
-            Side::Later => Fault::Line(number),
-        }),
+    match FlameGraph::read(alloc, lines) {
+        Ok(graph) => Ok(graph),
+        Err(ReadFault::Memory) => Err(Fault::Memory),
+        Err(ReadFault::TooLarge) => Err(Fault::TooLarge),
+        Err(ReadFault::Line(number, wrong)) => Err(Fault::Line(text.source, number, wrong)),
     }
 }
 
-// Appends the lines of the earlier profile, if there is one.
-fn push_earlier<'a>(earlier: &'a Earlier, lines: &mut Vec<Line<'a>>) -> Result<(), Fault>
-    ensures ok { OnOk result (ReadsBefore earlier.now lines.old.items lines.new.items) }
-    ensures line { (n : ℕ) → ¬ (IsErrOf result (Fault.Line n)) }
-    ensures earlier_line { (n : ℕ) → IsErrOf result (Fault.EarlierLine n) → IsFaultBefore earlier.now n }
+// Adds the graph of a text to another.
+fn add_text<'a>(alloc: Global, text: &Text<'a>, graph: &mut FlameGraph) -> Result<(), Fault<'a>>
+    ensures ok { OnOk result ((read : Graph) × IsRead text.now.bytes.now read × (graph.new ≡ sum_of graph.old read)) }
+    ensures line { (s : Source) (n : ℕ) (w : LineFault) → IsErrOf result (Fault.Line s n w)
+        → (text.now.source ≡ s) × IsFault text.now.bytes.now n w }
 {
-    match earlier {
-        Earlier::None => Ok(()),
-        Earlier::Profile(before) => push_profile(before.as_slice(), Side::Earlier, lines),
+    graph.add(graph_of(alloc, text)?)?;
+    Ok(())
+}
+
+// The graph that some texts add up to.
+fn graph_of_all<'a>(alloc: Global, texts: &[Text<'a>]) -> Result<FlameGraph, Fault<'a>>
+    ensures ok { IfOk result (AddUp (map bytes_of texts.now)) }
+    ensures line { (s : Source) (n : ℕ) (w : LineFault) → IsErrOf result (Fault.Line s n w)
+        → IsFaultOf s n w texts.now }
+{
+    let mut graph = FlameGraph::default(alloc);
+    for text in texts {
+        add_text(alloc, text, &mut graph)?;
     }
+    Ok(graph)
 }
 
-// Reads the lines of both profiles: those of the earlier one first, if there is one.
-fn read_both<'a>(
+// The graph that the texts of a profile add up to, with the input where it belongs to them.
+fn later_graph<'a, R: Read>(
     alloc: Global,
-    earlier: &'a Earlier,
-    bytes: &'a [u8],
-) -> Result<Vec<Line<'a>>, Fault>
-    ensures ok { IfOk result (λ lines. AreOf earlier.now bytes.now (map seen lines.items)) }
-    ensures line { (n : ℕ) → IsErrOf result (Fault.Line n) → IsFault Side.Later bytes.now n }
-    ensures earlier_line { (n : ℕ) → IsErrOf result (Fault.EarlierLine n) → IsFaultBefore earlier.now n }
-{
-    let mut lines = Vec::new(alloc);
-    push_earlier(earlier, &mut lines)?;
-    push_profile(bytes, Side::Later, &mut lines)?;
-    Ok(lines)
-}
-
-// Makes the picture of a profile, or of the change from an earlier one.
-fn picture_of(alloc: Global, title: &str, earlier: &Earlier, bytes: &[u8]) -> Result<String, Fault>
-    ensures ok { IfOk result (λ made. IsPictureOf title.now earlier.now bytes.now (string_bytes made)) }
-    ensures line { (n : ℕ) → IsErrOf result (Fault.Line n) → IsFault Side.Later bytes.now n }
-    ensures earlier_line { (n : ℕ) → IsErrOf result (Fault.EarlierLine n) → IsFaultBefore earlier.now n }
-{
-    let mut lines = read_both(alloc, earlier, bytes)?;
-    sort(&mut lines)?;
-    let forest = forest_of(alloc, earlier.is_there(), lines.as_slice())?;
-    let subject = earlier.subject(forest.was(), forest.is());
-    let options = Options {
-        title,
-        ..Options::default()
-    };
-    Ok(draw(alloc, subject, forest.finish().as_slice(), &options)?)
-}
-
-// Reads the input, and makes the picture of it.
-fn make_picture<R: Read>(
-    alloc: Global,
-    title: &str,
-    earlier: &Earlier,
+    texts: &[Text<'a>],
+    reads_input: bool,
     input: &mut R,
-) -> Result<String, Fault>
+) -> Result<FlameGraph, Fault<'a>>
+    ensures ok { IfOk result
+        (λ graph. IfSome (R.remaining input.old) (λ known. AddUp (later_texts texts.now reads_input known) graph)) }
+    ensures line { (s : Source) (n : ℕ) (w : LineFault) → IsErrOf result (Fault.Line s n w)
+        → IfSome (R.remaining input.old) (λ known. MayFault s n w texts.now reads_input known) }
+{
+    let mut graph = graph_of_all(alloc, texts)?;
+    if !reads_input {
+        return Ok(graph);
+    }
+    let text = read_text(alloc, Source::Input, input)?;
+    add_text(alloc, &text, &mut graph)?;
+    Ok(graph)
+}
+
+// Makes what the arguments ask for: the added text, the picture, or that of a change.
+fn make<'a, R: Read>(
+    alloc: Global,
+    asked: &Arguments<'a>,
+    before: &[Text<'a>],
+    after: &[Text<'a>],
+    input: &mut R,
+) -> Result<String, Fault<'a>>
     ensures ok { IfOk result
         (λ made. IfSome (R.remaining input.old)
-        (λ known. IsPictureOf title.now earlier.now known (string_bytes made))) }
-    ensures line { (n : ℕ) → IsErrOf result (Fault.Line n)
-        → IfSome (R.remaining input.old) (λ known. IsFault Side.Later known n) }
-    ensures earlier_line { (n : ℕ) → IsErrOf result (Fault.EarlierLine n) → IsFaultBefore earlier.now n }
+        (λ known. IsMade asked.now before.now (later_texts after.now asked.now.reads_input known) (string_bytes made))) }
+    ensures line { (s : Source) (n : ℕ) (w : LineFault) → IsErrOf result (Fault.Line s n w)
+        → IfSome (R.remaining input.old)
+        (λ known. IsFaultOf s n w before.now ⊎ MayFault s n w after.now asked.now.reads_input known) }
 {
-    let bytes = read_input(alloc, input)?;
-    picture_of(alloc, title, earlier, bytes.as_slice())
+    let earlier = graph_of_all(alloc, before)?;
+    let later = later_graph(alloc, after, asked.reads_input, input)?;
+    let options = Options {
+        title: asked.title,
+        ..Options::default()
+    };
+    if asked.as_text {
+        Ok(later.write()?)
+    } else if before.is_empty() {
+        Ok(picture(alloc, &later, &options)?)
+    } else {
+        Ok(change_picture(alloc, &earlier, &later, &options)?)
+    }
 }
 
-/// Runs the program but for reading its arguments, and returns the status.
+/// Runs the program but for reading its arguments and files, and returns the status.
 ///
-/// With status 0 the picture of all lines is on the output. With any other status the line of the fault goes to the
-/// errors, and nothing goes to the output, except for status 7. Status 2 says that a line of one of the texts is not a
-/// path, a space and a number of bytes.
-pub fn run<R: Read, W: Write, E: Write>(
+/// With status 0 what the arguments ask for is on the output: the picture of the graph that all texts add up to, that of
+/// the change to it from the graph of the earlier texts, or its text. With any other status the line of the fault goes
+/// to the errors, and nothing goes to the output, except for status 7. Status 2 says that a line of one of the texts is
+/// not a path, a space and a number of bytes, or that it has too many keys.
+pub fn run<'a, R: Read, W: Write, E: Write>(
     alloc: Global,
-    title: &str,
-    earlier: &Earlier,
+    asked: &Arguments<'a>,
+    before: &[Text<'a>],
+    after: &[Text<'a>],
     input: &mut R,
     output: &mut W,
     errors: &mut E,
 ) -> u8
-    ensures drawn { result ≡ 0
+    ensures made { result ≡ 0
         → IfSome (R.remaining input.old)
-        (λ known. (made : List ℕ) × IsPictureOf title.now earlier.now known made
+        (λ known. (made : List ℕ) × IsMade asked.now before.now (later_texts after.now asked.now.reads_input known) made
         × Appends (W.contents output.old) (W.contents output.new) made) }
     ensures faulty { result ≡ 2
         → IfSome (R.remaining input.old)
-        (λ known. (n : ℕ) × (IsFault Side.Later known n ⊎ IsFaultBefore earlier.now n)) }
+        (λ known. (s : Source) × (n : ℕ) × (w : LineFault)
+        × (IsFaultOf s n w before.now ⊎ MayFault s n w after.now asked.now.reads_input known)) }
     ensures untouched { result ≢ 0 → result ≢ 7 → output.new ≡ output.old }
 {
-    match make_picture(alloc, title, earlier, input) {
+    match make(alloc, asked, before, after, input) {
         Ok(text) => match write_text(output, text.as_str()) {
             Ok(()) => 0,
             Err(fault) => tell(errors, fault),

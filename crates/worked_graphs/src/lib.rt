@@ -3,3 +3,5 @@
 
 #[cfg(test)]
 mod graphs;
+#[cfg(test)]
+mod reads;

@@ -16,6 +16,9 @@ decreases-interleave l = 3 * length (rows_of l.theirs.items) + 2
 abbrev pub decreases-take_next : goal.decreases-take_next
 decreases-take_next l = 3 * length (rows_of l.theirs.now.items) + 1
 
+abbrev pub decreases-put_child : goal.decreases-put_child
+decreases-put_child l = 3 * len l.child.graph + 1
+
 abbrev pub decreases-interleave-loop-child : goal.decreases-interleave-loop-child
 decreases-interleave-loop-child l = length l.mine.items + length l.theirs.items
 

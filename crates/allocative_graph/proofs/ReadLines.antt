@@ -1,0 +1,105 @@
+-- The lines of a text that is read, one after another.
+use Rattle.std.proofs.Common.{◌≡◌, ℕ, suc, ◌+◌, ◌<◌, ◌≤◌, ◌==◌, Bool, true, false, cond, List, Bor, [], ◌∷◌, ◌++◌, map, take, drop, length, get_or, refl, sym, ap, subst, ◌∙◌, drop-cons, eqb-true, arith}
+use Rattle.std.specs.List.{slice_split}
+use Rattle.std.specs.Str.Lines.{lines, lines_of_parts}
+use Rattle.std.proofs.lemmas.List.{take-append-drop, map-append, length-map}
+use Rattle.std.proofs.lemmas.List.Splits.{length-slice_split}
+use Rattle.std.proofs.lemmas.List.Sums.{count_by-le-length}
+use Rattle.allocative_graph.specs.declared.read.Line.{Line}
+use Rattle.allocative_graph.specs.declared.read.LineFault.{LineFault}
+use Rattle.allocative_graph.specs.declared.read.LineFault.TheVariants.{NoSpace}
+use Rattle.allocative_graph.specs.Read.{Stack, seen, IsStack, IsWrong, AreStacks, Means, IsFault}
+use Rattle.allocative_graph.proofs.NodeText.{texts}
+use Rattle.allocative_graph.proofs.Stacks.{wrong_is_none, not_zero}
+
+parts_fit : (ps : List (List ℕ)) → length (lines_of_parts ps) ≤ length ps
+parts_fit [] = omega arith
+parts_fit (x ∷ []) = by (length x == 0)
+  where
+    by : (t : Bool) → length (cond t [] (x ∷ [])) ≤ 1
+    by true = omega arith
+    by false = omega arith
+parts_fit (x ∷ y ∷ ps) = omega (arith, parts_fit (y ∷ ps))
+
+-- A text has at most one line more than bytes.
+pub lines_fit : (bs : List ℕ) → length (lines bs) ≤ length bs + 1
+lines_fit bs =
+    let newline : ℕ → Bool = λ b. b == 10 in
+    omega (arith, parts_fit (slice_split newline bs), length-slice_split newline bs, count_by-le-length newline bs)
+
+-- A stack stands before others. Its line is not blank.
+pub stacks-cons : (l : List ℕ) (ls : List (List ℕ)) (s : Stack) (ss : List Stack) → IsStack l s → AreStacks ls ss → AreStacks (l ∷ ls) (s ∷ ss)
+stacks-cons [] ls s ss is h = absurd (wrong_is_none NoSpace [] tt s is)
+stacks-cons (b ∷ bs) ls s ss is h = (is, h)
+
+-- The first line is not blank, and these are its stack and those of the other lines.
+pub record IsFirst (l : List ℕ) (ls : List (List ℕ)) (ss : List Stack) : Type 0 where
+  pub first : Stack
+  pub others : List Stack
+  pub is : ss ≡ first ∷ others
+  pub read : IsStack l first
+  pub behind : AreStacks ls others
+
+pub stacks-first : (l : List ℕ) (ls : List (List ℕ)) (ss : List Stack) → 0 < length l → AreStacks (l ∷ ls) ss → IsFirst l ls ss
+stacks-first [] ls ss some h = absurd (omega (arith, some))
+stacks-first (b ∷ bs) ls [] some h = absurd h
+stacks-first (b ∷ bs) ls (s ∷ ss) some h = record { first = s; others = ss; is = refl; read = h.0; behind = h.1 }
+
+stacks-push : (ls : List (List ℕ)) (ss : List Stack) (l : List ℕ) (s : Stack) → AreStacks ls ss → IsStack l s → AreStacks (ls ++ l ∷ []) (ss ++ s ∷ [])
+stacks-push [] [] l s h is = stacks-cons l [] s [] is tt
+stacks-push [] (t ∷ ss) l s h is = absurd h
+stacks-push ([] ∷ ls) ss l s h is = stacks-push ls ss l s h is
+stacks-push ((b ∷ bs) ∷ ls) [] l s h is = absurd h
+stacks-push ((b ∷ bs) ∷ ls) (t ∷ ss) l s h is = (h.0, stacks-push ls ss l s h.1 is)
+
+blank-push : (ls : List (List ℕ)) (ss : List Stack) (l : List ℕ) → AreStacks ls ss → length l ≡ 0 → AreStacks (ls ++ l ∷ []) ss
+blank-push [] [] [] h e = tt
+blank-push [] [] (c ∷ cs) h e = omega (arith, e)
+blank-push [] (t ∷ ss) l h e = absurd h
+blank-push ([] ∷ ls) ss l h e = blank-push ls ss l h e
+blank-push ((b ∷ bs) ∷ ls) [] l h e = absurd h
+blank-push ((b ∷ bs) ∷ ls) (t ∷ ss) l h e = (h.0, blank-push ls ss l h.1 e)
+
+-- One line more was read.
+pub read-more : (xs : List (Bor (List ℕ))) (x : Bor (List ℕ)) (now then : List Line) (line : Line) → AreStacks (texts xs) (map seen now) → IsStack x.now (seen line) → then ≡ now ++ line ∷ []
+    → AreStacks (texts (xs ++ x ∷ [])) (map seen then)
+read-more xs x now then line h is e =
+    let front : texts (xs ++ x ∷ []) ≡ texts xs ++ x.now ∷ [] = map-append (λ (x : Bor (List ℕ)). x.now) xs (x ∷ []) in
+    let back : map seen then ≡ map seen now ++ seen line ∷ [] = ap (map seen) e ∙ map-append seen now (line ∷ []) in
+    subst (λ (X : Type 0). X) (λ i. AreStacks (sym front i) (sym back i)) (stacks-push (texts xs) (map seen now) x.now (seen line) h is)
+
+-- A blank line was passed over.
+pub read-blank : (xs : List (Bor (List ℕ))) (x : Bor (List ℕ)) (now : List Line) → AreStacks (texts xs) (map seen now) → length x.now ≡ 0 → AreStacks (texts (xs ++ x ∷ [])) (map seen now)
+read-blank xs x now h e =
+    let front : texts (xs ++ x ∷ []) ≡ texts xs ++ x.now ∷ [] = map-append (λ (x : Bor (List ℕ)). x.now) xs (x ∷ []) in
+    subst (λ (ls : List (List ℕ)). AreStacks ls (map seen now)) (sym front) (blank-push (texts xs) (map seen now) x.now h e)
+
+-- What the code's test of a line says of its length.
+pub blank : (l : List ℕ) (t : Bool) → t ≡ (length l == 0) → t ≡ true → length l ≡ 0
+blank l t e is = eqb-true (length l) 0 (sym e ∙ is)
+
+pub not_blank : (l : List ℕ) (t : Bool) → t ≡ (length l == 0) → t ≡ false → 0 < length l
+not_blank l t e is = not_zero (length l) (sym e ∙ is)
+
+-- At the end all lines of the text were read.
+pub read-all : (text : List ℕ) (xs : List (Bor (List ℕ))) (ls : List Line) → texts xs ≡ lines text → AreStacks (texts xs) (map seen ls) → Means text (map seen ls)
+read-all text xs ls e h = subst (λ (ks : List (List ℕ)). AreStacks ks (map seen ls)) e h
+
+-- The line behind those that were read is the first that is none.
+pub fault_at : (text : List ℕ) (xs : List (Bor (List ℕ))) (x : Bor (List ℕ)) (n : ℕ) (w : LineFault) (ls : List Line) → texts xs ≡ take (length xs) (lines text)
+    → (length xs < length (lines text)) × (x.now ≡ get_or (lines text) (length xs) x.now) → AreStacks (texts xs) (map seen ls) → 0 < length x.now → IsWrong w x.now → n ≡ length xs + 1 → IsFault text n w
+fault_at text xs x n w ls front at h some wrong e = let next : suc (length xs) ≡ length xs + 1 = omega arith in record {
+  before = texts xs;
+  line = x.now;
+  rest = drop (length xs + 1) (lines text);
+  stacks = map seen ls;
+  parts =
+      sym (take-append-drop (length xs) (lines text))
+      ∙ (λ i. sym front i ++ drop-cons (lines text) (length xs) x.now at.0 i)
+      ∙ (λ i. texts xs ++ sym at.1 i ∷ drop (next i) (lines text));
+  counted = e ∙ ap (λ k. k + 1) (sym (length-map {B = List ℕ} xs (λ (x : Bor (List ℕ)). x.now)));
+  read = h;
+  some = some;
+  wrong = wrong;
+  none = wrong_is_none w x.now wrong;
+}

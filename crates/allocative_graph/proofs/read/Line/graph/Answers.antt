@@ -1,0 +1,30 @@
+use Rattle.std.proofs.Common.{◌≡◌, [], ◌∷◌, List, Bor, ℕ, sym, ap, ◌∙◌, arith}
+use Rattle.std.proofs.lemmas.List.{map-append}
+use Rattle.allocative_graph.specs.Path.{Path}
+use Rattle.allocative_graph.specs.Graph.{default, sum_of, under, add_self}
+use Rattle.allocative_graph.specs.Representation.Stacks.{nested}
+use Rattle.allocative_graph.proofs.NodeText.{texts}
+use Rattle.allocative_graph.proofs.Behind.{no_items}
+use Rattle.allocative_graph.proofs.StackSums.{nested-push}
+use Rattle.allocative_graph.proofs.read.Line.graph.Goals as goal
+
+pub loop-key-init : goal.loop-key-init
+loop-key-init c =
+    let graph : c.add_self.new.self ≡ add_self c.args.self.now.size default = c.in_ok-add_self.ensures.sum ∙ ap (add_self c.args.self.now.size) c.default-graph.ensures in
+    (λ i. nested (c.in_ok-keys.ensures i) (graph i))
+
+pub loop-key-preserved : goal.loop-key-preserved
+loop-key-preserved c =
+    let rest = c.pop.new.self.items in
+    let key = c.in-Some.key in
+    let parent : c.add_child.new.self ≡ sum_of default (under key.now c.loop-key.graph) =
+    c.in_ok-add_child.ensures.sum ∙ (λ i. sum_of (c.in_ok-parent.ensures i) (under (c.new.ensures i) c.loop-key.graph)) in
+    ap (nested (texts rest)) parent
+    ∙ sym (nested-push (texts rest) key.now c.loop-key.graph)
+    ∙ ap (λ (ks : Path). nested ks c.loop-key.graph) (sym (ap texts c.in-Some.ensures.items ∙ map-append (λ (k : Bor (List ℕ)). k.now) rest (key ∷ [])))
+    ∙ c.loop-key.invariant
+
+pub returns : goal.returns
+returns c =
+    let none : c.loop-key.keys.items ≡ [] = no_items c.loop-key.keys.items (omega (arith, c.in_default.ensures.cases.0, c.loop-key.keys.ok.0)) in
+    ap (λ (ks : List (Bor (List ℕ))). nested (texts ks) c.loop-key.graph) (sym none) ∙ c.loop-key.invariant

@@ -1,0 +1,17 @@
+use Rattle.std.proofs.Common.{List, map, ap, arith, ◌∙◌}
+use Rattle.std.proofs.lemmas.List.{take_all, take_more}
+use Rattle.allocative_graph.specs.declared.read.Line.{Line}
+use Rattle.allocative_graph.specs.Graph.{default, sum_of}
+use Rattle.allocative_graph.specs.Read.{seen}
+use Rattle.allocative_graph.specs.Representation.Stacks.{sum_of_stacks}
+use Rattle.allocative_graph.proofs.StackSums.{line-more}
+use Rattle.allocative_graph.proofs.read.add_up.Goals as goal
+
+pub loop-line-preserved : goal.loop-line-preserved
+loop-line-preserved c =
+    let ls = c.args.lines.now in
+    let i = c.loop-line.line-index in
+    line-more ls i _ c.loop-line.graph c.add.new.self (take_more ls i _ (omega arith)) c.loop-line.invariant (c.in_ok-add.ensures.sum ∙ ap (sum_of c.loop-line.graph) c.in_ok-graph.ensures)
+
+pub returns : goal.returns
+returns c = c.loop-line.invariant ∙ ap (λ (ls : List Line). sum_of_stacks default (map seen ls)) (take_all c.loop-line.line-index c.args.lines.now (omega arith))

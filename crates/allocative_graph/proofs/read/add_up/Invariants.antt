@@ -1,0 +1,9 @@
+use Rattle.std.proofs.Common.{◌≡◌, map, take}
+use Rattle.allocative_graph.specs.Graph.{default}
+use Rattle.allocative_graph.specs.Read.{seen}
+use Rattle.allocative_graph.specs.Representation.Stacks.{sum_of_stacks}
+use Rattle.allocative_graph.proofs.read.add_up.Given as goal
+
+-- The lines before this one are added.
+abbrev pub invariant-loop-line : goal.invariant-loop-line
+invariant-loop-line l = l.graph ≡ sum_of_stacks default (map seen (take l.line-index l.lines))

@@ -1,0 +1,203 @@
+//! Reading the text of a flame graph: collapsed stacks, of this library or of any other profiler.
+ghost use Rattle.std.specs.Prelude.{◌≡◌, ◌+◌, ◌^◌, ◌<◌, ◌≤◌, ℕ, IfOk, IfErr, IsErrOf, map, sum_by};
+ghost use Rattle.std.specs.Option.{SomeIff};
+ghost use Rattle.std.specs.List.Sorted.{IsPermutation};
+ghost use Rattle.allocative_graph.specs.Graph.{default};
+ghost use Rattle.allocative_graph.specs.Read.{keys_of, seen, IsStack, IsWrong, Means, IsFault, IsRead, Exceeds, ReadsBack};
+ghost use Rattle.allocative_graph.specs.Representation.Stacks.{one_stack, sum_of_stacks};
+
+use crate::flamegraph::FlameGraph;
+use crate::key::Key;
+use crate::refusal::Refusal;
+use std::alloc::{AllocError, AllocFailed, Global};
+use thiserror::Error;
+
+/// The greatest number of keys that a path of a text may have. Functions over a graph call themselves once for each
+/// key of a path, and 8 MiB of stack are enough for so many.
+pub const LEVELS: usize = 10_000;
+
+/// What is wrong with a line.
+#[derive(Clone, Copy, Debug, PartialEq, Eq, Error)]
+pub enum LineFault {
+    /// There is no space.
+    #[error("there is no space")]
+    NoSpace,
+    /// Nothing stands before the last space.
+    #[error("there is no path before the last space")]
+    NoPath,
+    /// What stands behind the last space is no decimal number below 2^64.
+    #[error("there is no number of bytes behind the last space")]
+    NoNumber,
+    /// The path has more than `LEVELS` keys.
+    #[error("the path has more than 10000 keys")]
+    TooDeep,
+}
+
+/// Why a text is not read.
+#[derive(Clone, Copy, Debug, PartialEq, Eq, Error)]
+pub enum ReadFault {
+    /// Memory ran out.
+    #[error("out of memory")]
+    Memory,
+    /// The bytes of all lines together exceed `usize::MAX`.
+    #[error("sizes do not fit")]
+    TooLarge,
+    /// The number of the first line that is not a path, a space and a number of bytes, and what is wrong with it. Lines
+    /// are counted from 1.
+    #[error("line {0} is not a path, a space and a number of bytes: {1}")]
+    Line(usize, LineFault),
+}
+
+impl From<AllocError> for ReadFault {
+    ghost use Rattle.allocative_graph.specs.declared.read.ReadFault.TheVariants.{Memory};
+    ghost use Rattle.std.specs.Prelude.{◌≡◌};
+
+    ghost from_gives = { λ _ f. f ≡ Memory };
+
+    fn from(_refused: AllocError) -> ReadFault {
+        ReadFault::Memory
+    }
+}
+
+impl<T: Drop> From<AllocFailed<T>> for ReadFault {
+    ghost use Rattle.allocative_graph.specs.declared.read.ReadFault.TheVariants.{Memory};
+    ghost use Rattle.std.specs.Prelude.{◌≡◌};
+
+    ghost from_gives = { λ _ f. f ≡ Memory };
+
+    fn from(_refused: AllocFailed<T>) -> ReadFault {
+        ReadFault::Memory
+    }
+}
+
+impl FlameGraph {
+    /// The graph of collapsed stacks. Each line of the text is a path, its last space and the bytes of that path as a
+    /// decimal number. A path is its keys with `;` between them. Lines with equal paths add up, in whatever order they
+    /// come. The keys are parts of the text, so nothing of it is copied.
+    ///
+    /// A line ends at a line feed, or at a carriage return and a line feed; the last one may end with the text. A key
+    /// may be empty, and may have spaces, but a path has at least one byte. A blank line is passed over. Any other line
+    /// that is none of this is refused with `Line`, and so is a path of more than [`LEVELS`] keys. `TooLarge` says that
+    /// the bytes of all lines together exceed `usize::MAX`. The only other error is that memory runs out.
+    pub fn read(alloc: Global, text: &'static str) -> Result<FlameGraph, ReadFault>
+        ensures graph { IfOk result (λ graph. IsRead text.now graph) }
+        ensures line { (n : ℕ) (w : LineFault) → IsErrOf result (ReadFault.Line n w) → IsFault text.now n w }
+        ensures too_large { IsErrOf result ReadFault.TooLarge → Exceeds text.now }
+        ensures reads_back { IfOk result (λ graph. ReadsBack text.now graph) }
+    {
+        let mut lines = read_lines(alloc, text)?;
+        if total_of(lines.as_slice()).is_none() {
+            return Err(ReadFault::TooLarge);
+        }
+        sort(&mut lines);
+        // The sizes fit, so the only error is that memory runs out.
+        match add_up(alloc, lines.as_slice()) {
+            Ok(graph) => Ok(graph),
+            Err(_) => Err(ReadFault::Memory),
+        }
+    }
+}
+
+// A line of a text.
+#[derive(Clone, Copy)]
+struct Line {
+    // The keys, with `;` between them.
+    path: &'static str,
+    // The bytes of the path alone.
+    size: usize,
+}
+
+impl Line {
+    // The keys of the path.
+    fn keys(&self, alloc: Global) -> Result<Vec<&'static str>, AllocError>
+        ensures { IfOk result (λ keys. map (λ k. k.now) keys.items ≡ keys_of self.now.path.now) }
+    {
+        self.path.split(';').collect(alloc)
+    }
+
+    // The graph of the line alone.
+    fn graph(&self, alloc: Global) -> Result<FlameGraph, Refusal>
+        ensures { IfOk result (λ graph. graph ≡ one_stack (seen self.now)) }
+    {
+        let mut graph = FlameGraph::default(alloc);
+        graph.add_self(self.size)?;
+        let mut keys = self.keys(alloc)?;
+        while let Some(key) = keys.pop() {
+            let mut parent = FlameGraph::with_capacity(alloc, 1)?;
+            parent.add_child(Key::new(key), graph)?;
+            graph = parent;
+        }
+        Ok(graph)
+    }
+}
+
+// Reads one line.
+fn read_line(line: &'static str) -> Result<Line, LineFault>
+    ensures ok { IfOk result (λ read. IsStack line.now (seen read)) }
+    ensures wrong { IfErr result (λ w. IsWrong w line.now) }
+{
+    let Some((path, size)) = line.rsplit_once(' ') else {
+        return Err(LineFault::NoSpace);
+    };
+    if path.is_empty() {
+        return Err(LineFault::NoPath);
+    }
+    let Ok(size) = size.parse::<usize>() else {
+        return Err(LineFault::NoNumber);
+    };
+    if path.split(';').count() > LEVELS {
+        return Err(LineFault::TooDeep);
+    }
+    Ok(Line { path, size })
+}
+
+// Reads the lines of a text up to the first that is none. Blank lines are counted, and passed over.
+fn read_lines(alloc: Global, text: &'static str) -> Result<Vec<Line>, ReadFault>
+    ensures ok { IfOk result (λ lines. Means text.now (map seen lines.items)) }
+    ensures line { (n : ℕ) (w : LineFault) → IsErrOf result (ReadFault.Line n w) → IsFault text.now n w }
+    ensures fits { ¬ (IsErrOf result ReadFault.TooLarge) }
+{
+    let mut lines = Vec::new(alloc);
+    let mut number = 0usize;
+    for line in text.lines() {
+        number = number.saturating_add(1);
+        if line.is_empty() {
+            continue;
+        }
+        match read_line(line) {
+            Ok(read) => lines.push(read)?,
+            Err(wrong) => return Err(ReadFault::Line(number, wrong)),
+        }
+    }
+    Ok(lines)
+}
+
+// The bytes of all lines together, or `None` where they do not fit.
+fn total_of(lines: &[Line]) -> Option<usize>
+    ensures { SomeIff result (sum_by (λ l. l.size) lines.now < 2 ^ 64) (sum_by (λ l. l.size) lines.now) }
+{
+    let mut sum: usize = 0;
+    for line in lines {
+        sum = sum.checked_add(line.size)?;
+    }
+    Some(sum)
+}
+
+// Sorts lines by the bytes of their paths, so that almost every key is added behind those that are there. The result
+// of a sum does not depend on it.
+fn sort(lines: &mut Vec<Line>)
+    ensures { IsPermutation lines.old.items lines.new.items }
+{
+    lines.sort_unstable_by(|a: &Line, b: &Line| a.path.cmp(b.path));
+}
+
+// The sum of the graphs of some lines.
+fn add_up(alloc: Global, lines: &[Line]) -> Result<FlameGraph, Refusal>
+    ensures { IfOk result (λ graph. graph ≡ sum_of_stacks default (map seen lines.now)) }
+{
+    let mut graph = FlameGraph::default(alloc);
+    for line in lines {
+        graph.add(line.graph(alloc)?)?;
+    }
+    Ok(graph)
+}

@@ -1,0 +1,54 @@
+-- The rows of a graph are that of its root and then those of its children, one child after another.
+use Rattle.std.proofs.Common.{◌≡◌, ℕ, ◌+◌, ◌<◌, ◌≤◌, ◌++◌, [], ◌∷◌, List, get_or, take, drop, length, arith, ap, sym, ◌∙◌}
+use Rattle.std.proofs.lemmas.List.{take_more, take-append-drop}
+use Rattle.allocative_graph.specs.declared.flamegraph.Child.{Child}
+use Rattle.allocative_graph.specs.Path.{Path}
+use Rattle.allocative_graph.specs.Graph.{total, total_at}
+use Rattle.allocative_graph.specs.Reads.{Figures, figures_behind, node, rows_of}
+use Rattle.allocative_graph.specs.Representation.Children.{InOrder}
+use Rattle.allocative_graph.specs.Representation.Node.{weight}
+use Rattle.allocative_graph.specs.Representation.PathRows.{sum_of_rows}
+use Rattle.allocative_graph.proofs.ChildRows.{weight-append, weight-one}
+use Rattle.allocative_graph.proofs.ReadRows.{child_read, figured, node_read}
+use Rattle.allocative_picture.specs.declared.row.Mark.{Mark}
+use Rattle.allocative_picture.specs.Rows.{Seen, row_from, rows_from}
+use Rattle.allocative_picture.proofs.Placing.{own_bytes, own-cons}
+
+rows_from-append : (M : Path → Mark) (b : ℕ) (fs gs : List Figures) → rows_from M b (fs ++ gs) ≡ rows_from M b fs ++ rows_from M (b + own_bytes fs) gs
+rows_from-append M b [] gs = ap (λ n. rows_from M n gs) (let e : b ≡ b + 0 = omega arith in e)
+rows_from-append M b (f ∷ fs) gs =
+    let e : b + f.self_size + own_bytes fs ≡ b + own_bytes (f ∷ fs) = omega (arith, own-cons f fs) in
+    ap (λ (s : List Seen). row_from M b f ∷ s) (rows_from-append M (b + f.self_size) fs gs ∙ ap (λ n. rows_from M (b + f.self_size) fs ++ rows_from M n gs) e)
+
+own-figured : (t : Path → ℕ) (ks : Path) (rs : List (Path × ℕ)) → own_bytes (figured t ks rs) ≡ sum_of_rows rs
+own-figured t ks [] = arith_zero
+  where
+    arith_zero : own_bytes [] ≡ 0
+    arith_zero = omega arith
+own-figured t ks (r ∷ rs) = omega (arith, own-cons (record { path = ks ++ r.0; self_size = r.1; total_size = t r.0 }) (figured t ks rs), own-figured t ks rs)
+
+-- The bytes of the children up to a place, and of the child there.
+pub weight_more : (cs : List Child) (i : ℕ) (d : Child) → i < length cs → d ≡ get_or cs i d → weight (take (i + 1) cs) ≡ weight (take i cs) + total d.graph
+weight_more cs i d h at =
+    ap weight (take_more cs i d h ∙ ap (λ (c : Child). take i cs ++ c ∷ []) (sym at)) ∙ weight-append (take i cs) (d ∷ []) ∙ ap (λ n. weight (take i cs) + n) (weight-one d)
+
+pub weight_within : (cs : List Child) (i : ℕ) → weight (take i cs) ≤ weight cs
+weight_within cs i = omega (arith, weight-append (take i cs) (drop i cs), ap weight (take-append-drop i cs))
+
+-- The rows of one child more.
+pub child_rows : (M : Path → Mark) (b n : ℕ) (cs : List Child) (i : ℕ) (d : Child) (ks : Path) → InOrder cs → i < length cs → d ≡ get_or cs i d
+    → rows_from M b (figured (total_at (node n cs)) ks (rows_of (take i cs))) ++ rows_from M (b + weight (take i cs)) (figures_behind (ks ++ d.key ∷ []) d.graph)
+    ≡ rows_from M b (figured (total_at (node n cs)) ks (rows_of (take (i + 1) cs)))
+child_rows M b n cs i d ks o w at =
+    let t : Path → ℕ = total_at (node n cs) in
+    let fs : List Figures = figured t ks (rows_of (take i cs)) in
+    let gs : List Figures = figures_behind (ks ++ (get_or cs i d).key ∷ []) (get_or cs i d).graph in
+    ap (λ (c : Child). rows_from M b fs ++ rows_from M (b + weight (take i cs)) (figures_behind (ks ++ c.key ∷ []) c.graph)) at
+    ∙ ap (λ (m : ℕ). rows_from M b fs ++ rows_from M (b + m) gs) (sym (own-figured t ks (rows_of (take i cs))))
+    ∙ sym (rows_from-append M b fs gs)
+    ∙ ap (rows_from M b) (child_read n cs i d ks o w)
+
+-- The rows of a node are its own and then those of its children.
+pub node_rows : (M : Path → Mark) (b n : ℕ) (cs : List Child) (ks : Path) → InOrder cs
+    → row_from M b (record { path = ks; self_size = n; total_size = total (node n cs) }) ∷ rows_from M (b + n) (figured (total_at (node n cs)) ks (rows_of cs)) ≡ rows_from M b (figures_behind ks (node n cs))
+node_rows M b n cs ks o = ap (rows_from M b) (node_read n cs ks o)
