@@ -2,8 +2,8 @@
 
 from __future__ import annotations
 
-from dataclasses import dataclass, field
-from typing import Callable
+from functools import cache
+from typing import Callable, Iterable
 
 from .types import Definition, Member, Module, Type
 
@@ -34,14 +34,15 @@ CELLS = ("Cell", "UnsafeCell")
 UNKNOWN = "[String; 0]"
 
 
-@dataclass
 class Scope:
     """What is known where types stand: their module, those that get implementations now, and what other files say."""
 
-    module: Module
-    written: set[str]
-    outside: Callable[[tuple[str, ...]], str]
-    exact: dict[str, bool] = field(default_factory=dict)
+    def __init__(self, module: Module, wanted: Iterable[str], outside: Callable[[tuple[str, ...]], str]) -> None:
+        self.module = module
+        self.wanted = set(wanted)
+        self.outside = outside
+        self.exact: set[str] = set()
+        self.reason = cache(self.reason)
 
     def own(self, kind: Type) -> Definition | None:
         """The definition of a type of the module itself."""
@@ -60,7 +61,7 @@ class Scope:
         """The path of a name, from the `use` that brings it in."""
         return self.module.uses.get(kind.path[0], kind.path[:1]) + kind.path[1:]
 
-    def reason(self, kind: Type, parameters: list[str]) -> str:
+    def reason(self, kind: Type, parameters: tuple[str, ...]) -> str:
         """Why a field of a type cannot be shown, or nothing."""
         kind = self.real(kind)
         if kind.form == "reference":
@@ -95,13 +96,13 @@ class Scope:
         traits = self.module.implemented.get(definition.name, set())
         if definition.names("lifetime"):
             return f"`{definition.name}` has a lifetime, so it declares no size"
-        if definition.name in self.written or {"Allocative", "Described"} <= traits:
+        if definition.name in self.wanted or {"Allocative", "Described"} <= traits:
             return ""
         if "Allocative" in traits:
             return f"`{definition.name}` has `impl Allocative` and no `impl Described`"
         return f"`{definition.name}` of this file is not among the types that are named"
 
-    def flags(self, kind: Type, parameters: list[str]) -> set[str]:
+    def flags(self, kind: Type, parameters: tuple[str, ...]) -> set[str]:
         """The flags on which it depends whether a type is exact; none where it is."""
         kind = self.real(kind)
         if kind.form in ("lifetime", "constant", "reference") or kind.name == "PhantomData":
@@ -112,19 +113,20 @@ class Scope:
         elif kind.form == "path":
             definition = self.own(kind)
             is_known = kind.name in HOMES and kind.name not in NOT_EXACT
-            if not is_known and not (definition and self.is_exact(definition)):
+            if not is_known and not (definition and definition.name in self.exact):
                 return {f"⟦<{kind.text} as Allocative>⟧.is_exact"}
         return found.union(*(self.flags(part, parameters) for part in kind.parts))
 
-    def is_exact(self, definition: Definition) -> bool:
-        """Whether a type without type parameters that gets its implementation now is exact."""
-        name = definition.name
-        if name not in self.exact:
-            if name not in self.written or definition.names("type"):
-                return False
-            self.exact[name] = True
-            self.exact[name] = not any(self.flags(member.type, []) for member in definition.shown if member.is_whole)
-        return self.exact[name]
+    def find_exact(self) -> None:
+        """Finds which types without type parameters are exact, of those that get implementations now."""
+        types = [self.module.types[name] for name in self.wanted]
+        found = {each.name: [member.type for member in each.shown if member.size is None] for each in types if not each.names("type")}
+        self.exact = set()
+        while len(found) != len(self.exact):
+            self.exact = set(found)
+            flags = cache(self.flags)
+            found = {name: kinds for name, kinds in found.items() if not any(flags(kind, ()) for kind in kinds)}
+        self.flags = cache(self.flags)
 
 
 def is_lasting(kind: Type) -> bool:

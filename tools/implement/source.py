@@ -80,9 +80,10 @@ class Source:
         self.faults = [] if is_named else self.module.faults
         self.notes: dict[str, str] = {}
         wanted = self.wanted_types()
-        self.scope = Scope(self.module, {each.name for each in wanted}, self.crate.reason)
+        self.scope = Scope(self.module, [each.name for each in wanted], self.crate.reason)
         self.wanted = {each.name: self.judged(each) for each in wanted}
         self.module.types.update(self.wanted)
+        self.scope.find_exact()
 
     def find(self, text: str) -> Module:
         """The module of a text that is asked for."""

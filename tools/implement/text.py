@@ -3,12 +3,11 @@
 from __future__ import annotations
 
 import re
-from functools import cache
 from typing import TYPE_CHECKING, Callable, Iterator
 
 from .known import stand_ins
 from .tokens import Fault
-from .types import Definition, Member, Type, Variant, split
+from .types import Definition, Member, Type, Variant, split, type_of
 
 if TYPE_CHECKING:
     from .source import Source
@@ -37,9 +36,13 @@ def bound(names: list[str], room: int) -> list[str]:
     return LETTERS[: len(names)] + [f"a{number}" for number in range(len(LETTERS), len(names))]
 
 
-def nested(parts: list[str], outer: str, close: str) -> str:
-    """Parts joined two by two to the right, as `(u8, (u16, ()))`."""
-    return "".join(f"{outer}{part}, " for part in parts[:-1]) + parts[-1] + close * (len(parts) - 1)
+def nested(kinds: list[Type], name: str = "") -> Type:
+    """Types joined two by two to the right, as `(u8, (u16, ()))`."""
+    *firsts, found = kinds
+    for kind in reversed(firsts):
+        text = f"{kind.text}, {found.text}"
+        found = Type("path" if name else "tuple", f"{name}<{text}>" if name else f"({text})", (), (kind, found))
+    return found
 
 
 def grouped(parts: list) -> list[list]:
@@ -76,6 +79,7 @@ class Writer:
         self.scope = source.scope
         self.definition = definition
         self.name = definition.name
+        self.types = definition.names("type")
         self.members = definition.shown
         self.cycle = [each.name for each in cycle]
         self.is_level = self.cycle[:1] == [self.name]
@@ -124,27 +128,31 @@ class Writer:
     def alias(self) -> str:
         """The line of the layout, the type whose size, alignment and drop are those of this one."""
         variants = self.definition.variants
-        lists = [nested([*self.entries(variant), "()"], "(", ")") for variant in variants]
+        empty = type_of("()")
+        lists = [nested([*self.entries(variant), empty]) for variant in variants]
         if self.definition.is_enum and variants:
-            lists = [f"(u8, {nested(lists, 'Or<', '>')})"]
+            lists = [nested([type_of("u8"), nested(lists, "Or")])]
             self.used |= {"Or"} if len(variants) > 1 else set()
-        layout = f"Record<{lists[0] if lists else '()'}>"
-        names = set(NAME.findall(layout))
+        fields = lists[0] if lists else empty
+        layout = Type("path", f"Record<{fields.text}>", (), (fields,))
+        names = set(NAME.findall(layout.text))
         used = [each for each in self.definition.parameters if each.name in names]
         declared = [f"const {each.name}: {each.bounds}" if each.kind == "const" else each.name for each in used]
         self.record = self.layout + in_angles([each.name for each in used])
         head = f"type {self.layout}{in_angles(declared)} = "
         return f"{head}{laid(layout, 0, WIDTH - len(head) - 1)};\n\n"
 
-    def entries(self, variant: Variant) -> Iterator[str]:
+    def entries(self, variant: Variant) -> Iterator[Type]:
         """The types of a variant's fields, with `()` in place of the types that hold this one."""
         for member in variant.members:
-            is_known = not self.scope.reason(member.type, []) if member.is_skipped else member.size is None
+            is_known = not self.scope.reason(member.type, ()) if member.is_skipped else member.size is None
             if member.type.name != "PhantomData":
-                yield from [self.renamed(member.type, "")] if is_known else stand_ins(member)
+                yield from map(type_of, [self.renamed(member.type, "")] if is_known else stand_ins(member))
 
     def renamed(self, kind: Type, ending: str) -> str:
         """The text of a type with another name, or none, for each type of the cycle."""
+        if not self.cycle:
+            return kind.text
         name = (lambda word: word + ending) if ending else lambda word: "()"
         return OWN.sub(lambda found: name(found[1]) if found[1] in self.cycle else found[0], kind.text)
 
@@ -193,7 +201,7 @@ class Writer:
 
     def flags_of(self, member: Member) -> set[str]:
         """The flags on which it depends whether the entry of a field is exact."""
-        found = self.scope.flags(member.type, self.definition.names("type")) if member.size is None else set()
+        found = self.scope.flags(member.type, self.types) if member.size is None else set()
         return {each for each in found if not set(self.cycle) & set(NAME.findall(each))}
 
     def is_exact(self, members: list[Member]) -> str:
@@ -213,7 +221,7 @@ class Writer:
     # ---- levels of a type that holds itself
     def holds_cycle(self, kind: Type) -> bool:
         """Whether a type names one of the cycle."""
-        return any(each.name in self.cycle and self.scope.own(each) for each in self.scope.real(kind).all())
+        return bool(self.cycle) and any(each.name in self.cycle for each in self.scope.real(kind).all() if self.scope.own(each))
 
     def size_in(self, kind: Type) -> str:
         """The declared size of a type, with the layout in place of each type of the cycle."""
@@ -365,7 +373,7 @@ class Writer:
 
     def given(self) -> str:
         """What the goals of a visit are given."""
-        return "g c" if self.definition.names("type") or self.definition.names("const") else "c"
+        return "g c" if self.types or self.definition.names("const") else "c"
 
     def enum_answers(self, cases: list[str], listed: list[str]) -> None:
         """The answers of an enum: for each variant one."""
@@ -374,7 +382,7 @@ class Writer:
             self.level_answers()
         elif len(cases) > 1:
             proofs = [(f"returns-in-{name}", given, f"rw c.in-{name}.is (search ({{}}))") for name in names]
-            self.answer("visit", proofs, ", exact" if self.definition.names("type") and self.flags else "")
+            self.answer("visit", proofs, ", exact" if self.types and self.flags else "")
         elif cases and self.members and not self.definition.parameters:
             self.single_answer(cases[0], listed[0])
 
@@ -446,23 +454,21 @@ def pattern_of(variant: Variant, names: list[str]) -> str:
 
 
 # ---- lines as `rt fmt` lays them out
-def cut(text: str) -> tuple[str, list[str]]:
-    """A tuple or a type with arguments up to its bracket, and the parts in it; none where it has no bracket."""
-    at = text.find("(" if text[0] == "(" else "<") + 1
-    return text[:at], split(text[at:-1]) if text[-1] in ")>" and len(text) > 2 else []
-
-
-@cache
-def is_short(text: str) -> bool:
+def is_short(kind: Type) -> bool:
     """Whether a type may stand on one line: its tuples have at most 60 letters between their parentheses."""
-    return (text[0] != "(" or len(text) <= 62) and all(map(is_short, cut(text)[1]))
+    if kind.text.startswith("(") and len(kind.text) > 62:
+        return False
+    return not kind.text.endswith((")", ">")) or all(map(is_short, kind.parts))
 
 
-def laid(text: str, indent: int, room: int) -> str:
+def laid(kind: Type, indent: int, room: int) -> str:
     """A type, where its first line has some room."""
-    head, parts = cut(text)
-    if len(text) <= room and is_short(text) or not parts:
+    text = kind.text
+    is_whole = len(text) <= room and (len(text) <= 60 or is_short(kind))
+    if is_whole or not text.endswith((")", ">")) or not kind.parts:
         return text
+    head = text[: text.find("(" if text[0] == "(" else "<") + 1]
+    parts = (kind.parts[0] if kind.form == "reference" else kind).parts
     lines = "".join(f"{' ' * (indent + 4)}{laid(part, indent + 4, WIDTH - indent - 5)},\n" for part in parts)
     return f"{head}\n{lines}{' ' * indent}{text[-1]}"
 
@@ -474,5 +480,5 @@ def entered(name: str, arguments: list[str], indent: str) -> str:
         is_short_enough = len(indent) + len(line) + len("visitor)") <= WIDTH
         return f"{line}visitor)" if is_short_enough else f"{line}\n{indent}    visitor,\n{indent})"
     room = WIDTH - len(indent) - 5
-    lines = "".join(f"{indent}    {laid(each, len(indent) + 4, room) if each[0] == '(' else each},\n" for each in arguments)
+    lines = "".join(f"{indent}    {laid(type_of(each), len(indent) + 4, room) if each[0] == '(' else each},\n" for each in arguments)
     return f"{name}(\n{lines}{indent})\n{indent}.enter(visitor)"

@@ -19,7 +19,7 @@ TOKEN = re.compile(
     re.VERBOSE | re.DOTALL,
 )
 BLOCK_EDGE = re.compile(r"/\*|\*/")
-CLOSING = {"(": ")", "[": "]", "{": "}"}
+OPENING = {")": "(", "]": "[", "}": "{"}
 DIRECTIVE = re.compile(r"//\s*allocative:\s*(.*?)\s*$")
 
 
@@ -33,7 +33,7 @@ class Fault(Exception):
 
 
 class Directive(NamedTuple):
-    """A comment `// allocative: ..`: where it stands, what it says, the brackets round it, and whether it has its own line."""
+    """A comment `// allocative: ..`: where it stands, what it says, the brackets round it, and whether its line is its own."""
 
     start: int
     end: int
@@ -52,9 +52,9 @@ class Tokens:
         self.text = text
         self.words: list[str] = []
         self.starts: list[int] = []
-        self.behind: list[int] = []
         self.directives: list[Directive] = []
         self._open: list[int] = []
+        self._behind: dict[int, int] = {}
         at = 0
         while at < len(text):
             at = self._read(at)
@@ -63,7 +63,9 @@ class Tokens:
         self.count = len(self.words)
         self.words += [""] * 3
         self.starts += [len(text)] * 3
-        self.behind += [self.count] * 3
+        self.behind = [*range(1, len(self.words) + 1)]
+        for place, behind in self._behind.items():
+            self.behind[place] = behind
 
     def end(self, place: int) -> int:
         """The offset behind a token."""
@@ -76,40 +78,34 @@ class Tokens:
 
     def _read(self, at: int) -> int:
         """Reads from an offset to the end of a comment in `/*` and `*/`, or of the text, and returns that."""
-        add_word, add_start, add_behind = self.words.append, self.starts.append, self.behind.append
+        words, starts = self.words, self.starts
         for found in TOKEN.finditer(self.text, at):
             kind = found.lastgroup
             word, start = found[kind], found.start(kind)
             if kind == "comment":
-                self._note(word, start)
+                said = DIRECTIVE.match(word)
+                if said:
+                    before = self.text[self.text.rfind("\n", 0, start) + 1 : start]
+                    self.directives.append(Directive(start, found.end(), said[1], len(self._open), not before.strip()))
             elif kind == "block":
                 return self._block_end(start)
+            elif word == '"':
+                raise Fault(start, "a text that begins here has no end: close it")
             else:
-                add_word(word)
-                add_start(start)
-                add_behind(len(self.words))
+                words.append(word)
+                starts.append(start)
                 if kind == "bracket":
                     self._match(word, start)
-                elif word == '"':
-                    raise Fault(start, "a text that begins here has no end: close it")
         return len(self.text)
 
     def _match(self, word: str, start: int) -> None:
         """Keeps an opening bracket, or gives a closing one to the last that is open."""
-        if word in CLOSING:
+        if word not in OPENING:
             self._open.append(len(self.words) - 1)
-        elif self._open and CLOSING[self.words[self._open[-1]]] == word:
-            self.behind[self._open.pop()] = len(self.words)
+        elif self._open and self.words[self._open[-1]] == OPENING[word]:
+            self._behind[self._open.pop()] = len(self.words)
         else:
             raise Fault(start, f"this `{word}` has no other: open or remove it")
-
-    def _note(self, comment: str, start: int) -> None:
-        """Keeps a comment that speaks of allocative."""
-        said = DIRECTIVE.match(comment)
-        if said:
-            before = self.text[self.text.rfind("\n", 0, start) + 1 : start]
-            is_line = not before.strip()
-            self.directives.append(Directive(start, start + len(comment), said[1], len(self._open), is_line))
 
     def _block_end(self, start: int) -> int:
         """The offset behind a comment, which may have comments in it."""

@@ -82,6 +82,12 @@ def type_of(text: str) -> Type:
     return Type("path", found[1] + arguments, tuple(found[1].strip(":").split("::")), parts)
 
 
+@cache
+def type_in(words: str) -> Type:
+    """The type of some tokens with spaces between them."""
+    return type_of(LOOSE_BEFORE.sub(r"\1", LOOSE_AFTER.sub(r"\1", words)))
+
+
 class Member(NamedTuple):
     """A field: its name or number, its type, its offset, and whether it is passed over or shown by its size alone."""
 
@@ -136,9 +142,9 @@ class Definition(NamedTuple):
         """The fields that are not passed over."""
         return [member for member in self.members if not member.is_skipped]
 
-    def names(self, kind: str) -> list[str]:
+    def names(self, kind: str) -> tuple[str, ...]:
         """The names of the parameters of a kind."""
-        return [parameter.name for parameter in self.parameters if parameter.kind == kind]
+        return tuple(parameter.name for parameter in self.parameters if parameter.kind == kind)
 
 
 @dataclass
@@ -213,7 +219,7 @@ class Reader:
     def type(self, end: int) -> Type:
         """The type that stands from here to an end."""
         words, self.at = " ".join(self.words[self.at : end]), end
-        return type_of(LOOSE_BEFORE.sub(r"\1", LOOSE_AFTER.sub(r"\1", words)))
+        return type_in(words)
 
     def entries(self, close: int) -> Iterator[int]:
         """Goes through a list up to a place: the end of each entry, which stands before a comma."""
