@@ -49,15 +49,14 @@ def run(chosen: argparse.Namespace) -> int:
     path, text = chosen.file, read(chosen.file)
     shown = shown_path(path, chosen.module)
     is_inline = chosen.in_place or (chosen.check and not os.path.exists(shown))
-    source = None
     try:
         source = Source(text, chosen, is_inline)
         found = source.writers()
         new = source.new_text(found) if not source.faults else ""
     except Fault as fault:
-        return tell(path, source.clean if source else text, [fault])
+        return tell(path, text, [fault])
     if source.faults:
-        return tell(path, source.clean, source.faults)
+        return tell(path, text, source.faults)
     files: dict[str, str | None] = {path: new} if is_inline else {shown: new} if chosen.check else {}
     proofs = os.path.join(source.crate.folder, "proofs")
     answers = {os.path.join(proofs, folder, "Answers.antt"): answer for each in found for folder, answer in each.answers.items()}

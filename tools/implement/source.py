@@ -19,6 +19,9 @@ BY_HAND = 'write it by hand: "A type that holds itself" in docs/IMPLEMENTING.md'
 TACTIC = "[tactic(auto, using(allocative::proofs::Parts::parts))]\n"
 IMPLEMENTED = re.compile(r"\bimpl\b[^{;]*?\b(Allocative|Described)\s+for\s+(?:\w+::)*(\w+)")
 OUTWARD = re.compile(r"(?<![\w:])(self|super)::(\w+)")
+LETTER = re.compile(r"[^\n]")
+LINE = re.compile(r"[^\n]*")
+PRELUDE = {"codes", "true", "◌&&◌"}
 DECLARED = re.compile(r"\b(?:struct|enum)\s+(\w+)")
 
 
@@ -68,9 +71,10 @@ class Source:
         self.inner = [part for part in chosen.module.split("::") if part]
         folder, inside = crate_of(chosen.file)
         self.crate = Crate(folder)
-        self.clean = without_pieces(text, len(self.inner)) if BEGIN in text or END in text else text
-        self.module = self.find(self.clean)
-        if self.clean != text and not is_inline:
+        self.text = text
+        self.pieces = pieces_of(text, len(self.inner))
+        self.module = self.find(blank(text, self.pieces))
+        if self.pieces and not is_inline:
             self.module.implemented = self.find(text).implemented
         self.path = [*inside, *self.inner]
         self.text_at = self.path if is_inline else [*self.path, "shown"]
@@ -200,37 +204,38 @@ class Source:
     def imports(self, found: list[Writer]) -> str:
         """The imports of the text. In place, only of what the file does not import."""
         mine = self.module if self.is_inline else Module()
-        used = set().union(*(each.used for each in found)) - mine.ghost_uses
-        code = {word for word in used if word[0].isupper()}
-        code = sorted(code - {name for name, path in mine.uses.items() if path[0] == "allocative"})
+        mine_of_code = {name for name, path in mine.uses.items() if path[0] == "allocative"}
+        used = set().union(*(each.used for each in found)) - mine.ghost_uses - mine_of_code
+        code = sorted(word for word in used if word[0].isupper())
+        lists = {"std.specs.Prelude": used & PRELUDE, "allocative.specs.Shows": set(), "allocative.specs.Levels": used & LEVELS}
+        lines = [f"ghost use Rattle.{path}.{{{', '.join(sorted(names))}}};\n" if names else "" for path, names in lists.items()]
+        lines[1] = "ghost use Rattle.allocative.specs.Shows as shows;\n" if "shows" not in mine.ghost_uses else ""
         opened = sorted(word for word in used if word.startswith("out-"))
-        lists = {"Rattle.std.specs.Prelude": used & {"codes", "true", "◌&&◌"}, "": set(), "Rattle.allocative.specs.Levels": used & LEVELS}
-        lines = [f"ghost use {path}.{{{', '.join(sorted(names))}}};\n" for path, names in lists.items() if names]
-        if "shows" not in mine.ghost_uses:
-            lines.insert(bool(used & {"codes", "true", "◌&&◌"}), "ghost use Rattle.allocative.specs.Shows as shows;\n")
-        lines += [f"ghost use {self.declared_at}.{name.removeprefix('out-')}.{{{name}}};\n" for name in opened]
-        lines += ["\n"] if lines and (code or not self.is_inline) else []
+        lines += [f"ghost use {self.declared_at}.{word.removeprefix('out-')}.{{{word}}};\n" for word in opened]
+        lines += ["\n"] if any(lines) and (code or not self.is_inline) else []
         return "".join(lines) + ("" if self.is_inline else "use super::*;\n") + use_line(code)
 
     def with_pieces(self, found: list[Writer], texts: list[str]) -> str:
-        """The file with a piece behind each type."""
-        text, at = "", 0
-        for number, (each, written) in enumerate(zip(found, texts)):
+        """The file with a piece behind each type, and without those that were written before."""
+        edits, imports = [(*piece, "") for piece in self.pieces], self.imports(found)
+        for each, written in zip(found, texts):
             end = self.line_end(each.definition)
-            head = self.imports(found) if number == 0 else ""
-            piece = f"{BEGIN}\n{head}{chr(10) if head else ''}{written}{END}"
-            text += f"{self.clean[at:end]}\n{textwrap.indent(piece, '    ' * len(self.inner))}"
+            piece = f"{BEGIN}\n{imports}{imports and chr(10)}{written}{END}"
+            edits.append((end, end, "\n" + textwrap.indent(piece, "    " * len(self.inner))))
+            imports = ""
+        parts, at = [], 0
+        for start, end, new in sorted(edits):
+            parts += [self.text[at:start], new]
             at = end
-        return text + self.clean[at:]
+        return "".join(parts) + self.text[at:]
 
     def line_end(self, definition: Definition) -> int:
         """The end of the line on which a type ends, which has nothing more but a comment."""
-        end = self.clean.find("\n", definition.end) % (len(self.clean) + 1)
-        rest = self.clean[definition.end : end].strip()
-        if rest and not rest.startswith("//"):
+        rest = LINE.match(self.text, definition.end)[0]
+        if rest.strip() and not rest.strip().startswith("//"):
             what = "more stands behind it on its last line: write that on a line of its own"
             raise Fault(definition.end, f"{definition.name}: {what}")
-        return end
+        return definition.end + len(rest)
 
 
 def crate_of(path: str) -> tuple[str, list[str]]:
@@ -243,17 +248,25 @@ def crate_of(path: str) -> tuple[str, list[str]]:
     return os.sep.join(parts[:at]), [] if inside in (["lib"], ["main"]) else inside
 
 
-def without_pieces(text: str, depth: int) -> str:
-    """A text without the pieces between marks, each from the end of the line before it to the end of its last mark."""
-    said = [each for each in Tokens(text).directives if each.says in ("begin", "end")]
-    marks = [each for each in said if each.depth == depth and each.is_line]
-    clean, at = "", 0
+def pieces_of(text: str, depth: int) -> list[tuple[int, int]]:
+    """The pieces between marks, each from the end of the line before it to the end of its last mark."""
+    said = Tokens(text).directives if BEGIN in text or END in text else []
+    marks = [each for each in said if each.says in ("begin", "end") and each.depth == depth and each.is_line]
+    pieces = []
     for first, last in zip(marks[::2], [*marks[1::2], None]):
         if last is None or (first.says, last.says) != ("begin", "end"):
             raise Fault(first.start, "this mark has no other, or was changed: remove the piece or mend its marks")
-        clean += text[at : max(text.rfind("\n", 0, first.start), 0)]
-        at = last.end
-    return clean + text[at:]
+        pieces.append((max(text.rfind("\n", 0, first.start), 0), last.end))
+    return pieces
+
+
+def blank(text: str, pieces: list[tuple[int, int]]) -> str:
+    """A text with spaces in place of some pieces, on as many lines."""
+    parts, at = [], 0
+    for start, end in pieces:
+        parts += [text[at:start], LETTER.sub(" ", text[start:end])]
+        at = end
+    return "".join(parts) + text[at:]
 
 
 def use_line(names: list[str]) -> str:

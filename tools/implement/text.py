@@ -353,7 +353,7 @@ class Writer:
         return f"      | {' '.join([case, *letters])} ↦ {self.inside(words, ' ' * 10)}\n"
 
     def code_arm(self, variant: Variant) -> str:
-        names, indent = bound([member.name for member in variant.members], 44), " " * 12
+        names, indent = bound(variant.names, 44), " " * 12
         pattern = f"{indent}{self.name}::{variant.name}{pattern_of(variant, names)}"
         kept = self.kept(variant, names)
         if not kept:
@@ -406,7 +406,7 @@ class Writer:
         uses += f"use Rattle.allocative.proofs.Meaning.{{visited_as{more}}}\n"
         proofs = []
         for number, variant in enumerate(self.definition.variants):
-            case, names = f"in-{variant.name}", bound([member.name for member in variant.members], 44)
+            case, names = f"in-{variant.name}", bound(variant.names, 44)
             value = " ".join([f"{name}-F.{variant.name}", *(f"c.{case}.{each}" for each in names)])
             entered = f"c.enter-{case}.ensures" if number else "c.enter.ensures"
             entered = f"(entered_loosely {entered})" if self.flags else entered

@@ -82,12 +82,6 @@ def type_of(text: str) -> Type:
     return Type("path", found[1] + arguments, tuple(found[1].strip(":").split("::")), parts)
 
 
-@cache
-def type_in(words: str) -> Type:
-    """The type of some tokens with spaces between them."""
-    return type_of(LOOSE_BEFORE.sub(r"\1", LOOSE_AFTER.sub(r"\1", words)))
-
-
 class Member(NamedTuple):
     """A field: its name or number, its type, its offset, and whether it is passed over or shown by its size alone."""
 
@@ -103,20 +97,24 @@ class Member(NamedTuple):
         return not self.is_skipped and self.size is None
 
 
-class Variant(NamedTuple):
-    """A variant of an enum, or the fields of a struct."""
-
-    name: str
-    members: tuple[Member, ...]
-    is_named: bool
-
-
 class Parameter(NamedTuple):
     """A parameter of a type: `kind` is lifetime, const or type; `bounds` is what stands behind its colon."""
 
     kind: str
     name: str
     bounds: str
+
+
+class Variant(NamedTuple):
+    """A variant of an enum, or the fields of a struct."""
+
+    name: str
+    members: tuple[Member, ...] = ()
+    is_named: bool = False
+
+    @property
+    def names(self) -> list[str]:
+        return [member.name for member in self.members]
 
 
 class Definition(NamedTuple):
@@ -219,7 +217,7 @@ class Reader:
     def type(self, end: int) -> Type:
         """The type that stands from here to an end."""
         words, self.at = " ".join(self.words[self.at : end]), end
-        return type_in(words)
+        return type_of(LOOSE_BEFORE.sub(r"\1", LOOSE_AFTER.sub(r"\1", words)) if " " in words else words)
 
     def entries(self, close: int) -> Iterator[int]:
         """Goes through a list up to a place: the end of each entry, which stands before a comma."""
@@ -259,9 +257,8 @@ class Reader:
         except Fault as fault:
             raise Fault(fault.at, f"{name}: {fault.what}") from None
         derives = {word for words in attributes if words[:1] == ["derive"] for word in words}
-        cycles = ["", *("".join(words[2:3]) for words in attributes if words[:1] == ["cycle"])]
-        end = self.tokens.end(self.at - 1)
-        return Definition(is_enum, name, parameters, where, variants, at, end, derives, cycles[-1])
+        cycle = "".join([[], *(words[2:3] for words in attributes if words[:1] == ["cycle"])][-1])
+        return Definition(is_enum, name, parameters, where, variants, at, self.tokens.end(self.at - 1), derives, cycle)
 
     def parameters(self) -> tuple[Parameter, ...]:
         """The parameters between `<` and `>`, if they stand here."""
@@ -286,7 +283,7 @@ class Reader:
     def fields(self, name: str) -> Variant:
         """The fields in braces or parentheses that stand here, or none."""
         if self.word() not in ("{", "("):
-            return Variant(name, (), False)
+            return Variant(name)
         is_named, close = self.word() == "{", self.open()
         members: list[Member] = []
         for end in self.entries(close):
