@@ -68,6 +68,11 @@ def size_of(kind: str) -> str:
     return f"⟦<{kind} as Described>⟧.size"
 
 
+def renamed(kind: Type, names: dict[str, str]) -> str:
+    """The text of a type with other names for some types."""
+    return OWN.sub(lambda found: names.get(found[1], found[0]), kind.text) if names else kind.text
+
+
 class Writer:
     """Writes the implementations of one type. One that holds itself stands in a cycle, whose first type shows levels.
 
@@ -86,7 +91,6 @@ class Writer:
         self.nothing = "plain shows.Nothing" if self.is_level else "shows.Nothing"
         self.is_borrowed = bool(definition.names("lifetime"))
         self.layout = self.record = self.free("Layout")
-        self.tactic = source.tactic
         self.declared_at = f"{source.declared_at}.{self.name}"
         self.used = {"Allocative", "Described", "Part", "Record", "Refusal", "Visitor", "codes"}
         self.answers: dict[str, str] = {}
@@ -147,14 +151,8 @@ class Writer:
         for member in variant.members:
             is_known = not self.scope.reason(member.type, ()) if member.is_skipped else member.size is None
             if member.type.name != "PhantomData":
-                yield from map(type_of, [self.renamed(member.type, "")] if is_known else stand_ins(member))
-
-    def renamed(self, kind: Type, ending: str) -> str:
-        """The text of a type with another name, or none, for each type of the cycle."""
-        if not self.cycle:
-            return kind.text
-        name = (lambda word: word + ending) if ending else lambda word: "()"
-        return OWN.sub(lambda found: name(found[1]) if found[1] in self.cycle else found[0], kind.text)
+                nothing = dict.fromkeys(self.cycle, "()")
+                yield from map(type_of, [renamed(member.type, nothing)] if is_known else stand_ins(member))
 
     def described(self) -> str:
         """The implementation of `Described`."""
@@ -166,13 +164,17 @@ class Writer:
         return text + "}\n\n"
 
     # ---- what is shown
-    def may_show(self, inside: str) -> str:
-        """The clause of what a value shows under its own entry."""
+    def implementation(self, inside: str, body: str, use: str = "") -> str:
+        """The implementation of `Allocative`: what a value shows under its own entry, and the body of its visit."""
         text = f'{"field" if self.is_level else "shows.Field"} (codes "{self.name}") {size_of(self.record)}{inside}'
         text = f"recursive (λ x. {text})" if self.is_level else f"λ x. {text}"
-        if self.cycle:
-            self.used |= set(LEVEL.findall(text))
-        return f"    ghost may_show = {{ {text} }};\n\n"
+        self.used |= set(LEVEL.findall(text)) if self.cycle else set()
+        cycle = f"    #[cycle({self.definition.cycle})]\n" if self.definition.cycle else ""
+        return (
+            f"{self.source.tactic}{self.head('Allocative', self.name)}{use}    ghost may_show = {{ {text} }};\n\n"
+            f"{self.is_exact(self.members)}{cycle}"
+            f"    fn visit(&self, visitor: &mut Visitor<'_>) -> Result<(), Refusal> {{\n{body}    }}\n}}\n"
+        )
 
     def inside(self, words: list[str], indent: str = INDENT) -> str:
         """What parts in a tuple show, a line for each."""
@@ -225,7 +227,8 @@ class Writer:
 
     def size_in(self, kind: Type) -> str:
         """The declared size of a type, with the layout in place of each type of the cycle."""
-        return size_of(self.renamed(kind, self.layout.removeprefix(self.name)))
+        ending = self.layout.removeprefix(self.name)
+        return size_of(renamed(kind, {name: name + ending for name in self.cycle}))
 
     def level(self, member: Member, kind: Type, value: str) -> str:
         """The level of a value of a type, which stands in a field."""
@@ -272,10 +275,6 @@ class Writer:
         self.used.add(word)
         return "".join(indent + part for part in parts) + f"{indent}{entered(word, arguments, indent)}\n"
 
-    def visit(self, body: str) -> str:
-        cycle = f"    #[cycle({self.definition.cycle})]\n" if self.definition.cycle else ""
-        return f"{cycle}    fn visit(&self, visitor: &mut Visitor<'_>) -> Result<(), Refusal> {{\n{body}    }}\n}}\n"
-
     # ---- structs
     def struct(self) -> str:
         members, more = self.members, ""
@@ -290,9 +289,8 @@ class Writer:
             words, parts, names = self.fields(members, f"(out-{self.name} x)" if self.cycle else "x", "&self")
         inside = f"({self.inside(words)})" if words or self.is_level else self.nothing
         gap = " " if len(words) > 1 or self.cycle else f"\n{INDENT}"
-        text = self.tactic + self.head("Allocative", self.name) + self.may_show(gap + inside)
         self.struct_answer()
-        return text + self.is_exact(members) + self.visit(self.enter(parts, names, INDENT)) + more
+        return self.implementation(gap + inside, self.enter(parts, names, INDENT)) + more
 
     def fields(self, members: list[Member], value: str, place: str) -> tuple[list[str], list[str], list[str]]:
         """The words, lines and names of the parts of some fields."""
@@ -309,7 +307,7 @@ class Writer:
         lines = "".join(INDENT + part for part in parts)
         return (
             f"\n#[derive(Drop)]\nstruct {kind}{self.declared([LIFETIME])}(&'part {self.name}{applied}){where};\n\n"
-            f"{self.tactic}{self.head('Part', kind, LIFETIME)}"
+            f"{self.source.tactic}{self.head('Part', kind, LIFETIME)}"
             f"    ghost may_show = {{ λ x. {self.inside(words)} }};\n\n{self.is_exact(members)}"
             "    fn enter(self, visitor: &mut Visitor<'_>) -> Result<(), Refusal> {\n"
             f"{lines}{INDENT}{tuple_of(names)}.enter(visitor)\n    }}\n}}\n"
@@ -329,10 +327,9 @@ class Writer:
             listed = [case if case == name else f"{name} as {case}" for name, case in pairs]
         arms = "".join(map(self.word_arm, variants, cases))
         use = f"    ghost use {self.declared_at}.{opened}.{{{', '.join(listed)}}};\n\n"
-        text = self.tactic + self.head("Allocative", self.name) + use
-        text += self.may_show(f" (elim {value} [\n{arms}    ])") + self.is_exact(self.members)
+        body = f"{INDENT}match self {{\n{''.join(map(self.code_arm, variants))}{INDENT}}}\n"
         self.enum_answers(cases, listed)
-        return text + self.visit(f"{INDENT}match self {{\n{''.join(map(self.code_arm, variants))}{INDENT}}}\n")
+        return self.implementation(f" (elim {value} [\n{arms}    ])", body, use)
 
     def refuse_parts(self) -> None:
         """Refuses the fields that an enum that holds itself cannot have."""
