@@ -15,11 +15,12 @@ from .tokens import Fault
 
 STALE, ARGUMENTS, FILES, FAULTS = 1, 2, 3, 4
 HEAD = re.compile(r"(?:(?://!|#!\[).*\n|\s*\n)*")
-ABOUT = """Writes the implementations of Described and Allocative for the structs and enums of a source file: of the
-types that are named, or of all that have none. They go to standard output, as the text of a module `shown` of the file.
-The answers that their proofs need go into the folder proofs of the crate.
+ABOUT = """Writes the implementations of Described and Allocative for the structs and enums of a source file:
+of the types that are named, or of all that have none. They go to standard output, as the text of a module
+`shown` of the file. The answers that their proofs need go into the folder proofs of the crate.
 
-A comment `// allocative: skip` above a field passes it over, and `// allocative: size 8` shows it as one entry of 8 bytes.
+A comment `// allocative: skip` above a field passes it over, and `// allocative: size 8` shows it as one
+entry of 8 bytes.
 
 The status is 0, or
   1  with --check: something is not as it would be written
@@ -35,10 +36,12 @@ FLAGS = {
 
 
 def arguments(words: list[str]) -> argparse.Namespace:
-    parser = argparse.ArgumentParser("implement", description=ABOUT, formatter_class=argparse.RawDescriptionHelpFormatter)
+    raw = argparse.RawDescriptionHelpFormatter
+    parser = argparse.ArgumentParser("implement", description=ABOUT, formatter_class=raw)
     parser.add_argument("file", metavar="FILE", help="a file in the folder src of a crate")
     parser.add_argument("types", metavar="TYPE", nargs="*", help="the types to write for")
-    parser.add_argument("--module", metavar="PATH", default="", help="read the module PATH in the file, as inner::deep")
+    what = "read the module PATH in the file, as inner::deep"
+    parser.add_argument("--module", metavar="PATH", default="", help=what)
     for flag, what in FLAGS.items():
         parser.add_argument(flag, action="store_true", help=what)
     return parser.parse_args(words)
@@ -59,7 +62,8 @@ def run(chosen: argparse.Namespace) -> int:
         return tell(path, text, source.faults)
     files: dict[str, str | None] = {path: new} if is_inline else {shown: new} if chosen.check else {}
     proofs = os.path.join(source.crate.folder, "proofs")
-    answers = {os.path.join(proofs, folder, "Answers.antt"): answer for each in found for folder, answer in each.answers.items()}
+    pairs = [pair for each in found for pair in each.answers.items()]
+    answers = {os.path.join(proofs, folder, "Answers.antt"): answer for folder, answer in pairs}
     old = old_answers(os.path.join(proofs, *source.text_at))
     files |= {path: None for path in old if path not in answers}
     files |= {path: answer for path, answer in answers.items() if path in old or not os.path.exists(path)}
@@ -83,8 +87,8 @@ def shown_path(path: str, module: str) -> str:
 
 def tell(path: str, text: str, faults: list[Fault]) -> int:
     """Tells of faults in a text."""
-    lines = sorted((0 if each.at is None else text.count("\n", 0, each.at) + 1, each.what) for each in faults)
-    for line, what in lines:
+    lines = [0 if each.at is None else text.count("\n", 0, each.at) + 1 for each in faults]
+    for line, what in sorted(zip(lines, [each.what for each in faults])):
         say(f"{path}:{line}: {what}" if line else f"{path}: {what}")
     return FAULTS
 
@@ -98,7 +102,7 @@ def is_stale(path: str, text: str | None) -> bool:
 
 
 def put(path: str, text: str | None) -> None:
-    """Writes a file in one step, with the rights of the one before, or removes it with the folders that are empty then."""
+    """Writes a file in one step, with the rights that it had, or removes it with the folders it leaves empty."""
     if text is None:
         os.remove(path)
         with contextlib.suppress(OSError):
@@ -132,7 +136,8 @@ def old_answers(folder: str) -> list[str]:
     """The answers that were written for a module before."""
     found = []
     for first in sorted(os.listdir(folder)) if os.path.isdir(folder) else []:
-        inner = [first] if first.startswith("+") else [f"{first}/visit", f"{first}/+visit"] if first.endswith("Allocative") else []
+        inner = [f"{first}/visit", f"{first}/+visit"] if first.endswith("Allocative") else []
+        inner = [first] if first.startswith("+") else inner
         found += [os.path.join(folder, each, "Answers.antt") for each in inner]
     return [path for path in found if os.path.exists(path) and read(path).startswith(MARK)]
 

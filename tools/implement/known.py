@@ -1,14 +1,18 @@
-"""Which types can be shown: those that the library implements, those of the crate, and what stands in for others."""
+"""Which types can be shown, of the library's and of the crate, and what stands in for others."""
 
 from __future__ import annotations
 
+import re
 from functools import cache
 from typing import Callable, Iterable
 
 from .types import Definition, Member, Module, Type
 
-STD = """u128 i128 bool String Vec Option Result Box VecDeque BTreeMap BTreeSet HashMap HashSet ManuallyDrop PhantomData Duration
-    Instant SystemTime IpAddr Ipv4Addr Ipv6Addr AtomicBool NonZeroUsize NonZeroIsize AtomicUsize AtomicIsize usize isize""".split()
+STD = """u128 i128 usize isize bool String Vec Option Result Box VecDeque BTreeMap BTreeSet HashMap HashSet
+    ManuallyDrop PhantomData Duration Instant SystemTime IpAddr Ipv4Addr Ipv6Addr
+    AtomicBool AtomicUsize AtomicIsize NonZeroUsize NonZeroIsize""".split()
+for form in ("u", "i", "NonZeroU", "NonZeroI", "AtomicU", "AtomicI"):
+    STD += [f"{form}{bits}" for bits in (8, 16, 32, 64)]
 # The crate of each type that the library implements.
 HOMES = dict.fromkeys(STD, "std") | {
     "IndexMap": "indexmap",
@@ -23,10 +27,11 @@ HOMES = dict.fromkeys(STD, "std") | {
     "IdRc": "allocative",
     "IdArc": "allocative",
 }
-HOMES |= {f"{form}{bits}": "std" for form in ("u", "i", "NonZeroU", "NonZeroI", "AtomicU", "AtomicI") for bits in (8, 16, 32, 64)}
+Path = tuple[str, ...]
 NOT_EXACT = {"OnceBox"}
 # Types that have no implementation: their bytes, and a type of the same size, alignment and drop.
-FOREIGN = {"f64": (8, "u64"), "f32": (4, "u32"), "char": (4, "u32"), "Rc": (8, "Box<()>"), "Arc": (8, "Box<()>")}
+FOREIGN = {"f64": (8, "u64"), "f32": (4, "u32"), "char": (4, "u32")}
+FOREIGN |= {"Rc": (8, "Box<()>"), "Arc": (8, "Box<()>")}
 NUMBERS = {f"{sign}{bits}": (bits // 8, f"{sign}{bits}") for sign in "ui" for bits in (8, 16, 32, 64, 128)}
 NUMBERS |= {"usize": (8, "usize"), "isize": (8, "isize"), "bool": (1, "bool")}
 CELLS = ("Cell", "UnsafeCell")
@@ -35,9 +40,9 @@ UNKNOWN = "[String; 0]"
 
 
 class Scope:
-    """What is known where types stand: their module, those that get implementations now, and what other files say."""
+    """What is known where types stand: their module, those that are written now, and what other files say."""
 
-    def __init__(self, module: Module, wanted: Iterable[str], outside: Callable[[tuple[str, ...]], str]) -> None:
+    def __init__(self, module: Module, wanted: Iterable[str], outside: Callable[[Path], str]) -> None:
         self.module = module
         self.wanted = set(wanted)
         self.outside = outside
@@ -57,11 +62,11 @@ class Scope:
             kind = self.module.aliases[kind.name]
         return kind
 
-    def path(self, kind: Type) -> tuple[str, ...]:
+    def path(self, kind: Type) -> Path:
         """The path of a name, from the `use` that brings it in."""
         return self.module.uses.get(kind.path[0], kind.path[:1]) + kind.path[1:]
 
-    def reason(self, kind: Type, parameters: tuple[str, ...]) -> str:
+    def reason(self, kind: Type, parameters: Path) -> str:
         """Why a field of a type cannot be shown, or nothing."""
         kind = self.real(kind)
         if kind.form == "reference":
@@ -80,16 +85,18 @@ class Scope:
 
     def path_reason(self, kind: Type) -> str:
         """Why a type that is named by a path cannot be shown, whatever its arguments are."""
-        definition, path = self.own(kind), self.path(kind)
+        definition, path, home = self.own(kind), self.path(kind), HOMES.get(kind.name, "")
+        root, is_foreign = path[0] if len(path) > 1 else "", kind.name in FOREIGN
         if definition:
             return self.own_reason(definition)
-        home, root = HOMES.get(kind.name, ""), path[0] if len(path) > 1 else ""
         if path[0] in ("crate", "super", "self"):
             return self.outside(path)
-        if root in ("", "std", "core", "alloc") if home == "std" else home and (root == home or (not root and self.module.globs)):
+        is_std = home == "std" and root in ("", "core", "alloc")
+        if is_std or (home and (root == home or (not root and self.module.globs))):
             return ""
-        if kind.name in FOREIGN or kind.name in CELLS or not root:
-            return f"`{kind.text}` has no implementation" + ("" if root or kind.name in FOREIGN else " that is seen here")
+        if is_foreign or kind.name in CELLS or not root:
+            where = "" if root or is_foreign else " that is seen here"
+            return f"`{kind.text}` has no implementation{where}"
         return self.outside(path)
 
     def own_reason(self, definition: Definition) -> str:
@@ -102,7 +109,7 @@ class Scope:
             return f"`{definition.name}` has `impl Allocative` and no `impl Described`"
         return f"`{definition.name}` of this file is not among the types that are named"
 
-    def flags(self, kind: Type, parameters: tuple[str, ...]) -> set[str]:
+    def flags(self, kind: Type, parameters: Path) -> set[str]:
         """The flags on which it depends whether a type is exact; none where it is."""
         kind = self.real(kind)
         if kind.form in ("lifetime", "constant", "reference") or kind.name == "PhantomData":
@@ -120,23 +127,25 @@ class Scope:
     def find_exact(self) -> None:
         """Finds which types without type parameters are exact, of those that get implementations now."""
         types = [self.module.types[name] for name in self.wanted]
-        found = {each.name: [member.type for member in each.shown if member.size is None] for each in types if not each.names("type")}
+        types = [each for each in types if not each.names("type")]
+        found = {each.name: [member.type for member in each.shown if member.size is None] for each in types}
         self.exact = set()
         while len(found) != len(self.exact):
             self.exact = set(found)
             flags = cache(self.flags)
-            found = {name: kinds for name, kinds in found.items() if not any(flags(kind, ()) for kind in kinds)}
+            inexact = {name for name, kinds in found.items() if any(flags(kind, ()) for kind in kinds)}
+            found = {name: kinds for name, kinds in found.items() if name not in inexact}
         self.flags = cache(self.flags)
 
 
 def is_lasting(kind: Type) -> bool:
     """Whether a reference is `&'static` to a type of a known size."""
-    part = kind.parts[0]
-    return kind.text.startswith("&'static ") and part.form != "other" and part.text != "str" and "mut " not in kind.text[:13]
+    text, part = kind.text, kind.parts[0]
+    return re.match(r"&'static (?!mut )", text) is not None and part.form != "other" and part.text != "str"
 
 
 def known_size(kind: Type) -> tuple[int, str] | None:
-    """The bytes of a type without an implementation, and a type that stands in for it, where both are known."""
+    """The bytes of a type without an implementation, and a type in its place, where both are known."""
     if kind.form == "reference":
         part = kind.parts[0]
         return (16, "(u64, u64)") if part.text == "str" or part.form == "other" else (8, "u64")
@@ -158,5 +167,5 @@ def stand_ins(member: Member) -> list[str]:
 def advice(member: Member) -> str:
     """What to write above a field that cannot be shown."""
     known = known_size(member.type)
-    size = known[0] if known else "N"
-    return f"write above it `// allocative: size {size}`, for one entry of so many bytes, or `// allocative: skip`"
+    size = f"`// allocative: size {known[0] if known else 'N'}`"
+    return f"write above it {size}, for one entry of so many bytes, or `// allocative: skip`"

@@ -14,7 +14,8 @@ from .tokens import Fault, Tokens
 from .types import Definition, Member, Module, module_of, type_of
 
 BEGIN, END = "// allocative: begin", "// allocative: end"
-RESERVED = set("Allocative Declared Described Field Inside Or Part Record Refusal Visitor Whole Option Result Box String".split())
+CODE = set("Allocative And Declared Described Field Inside Or Part Record Refusal Visitor Whole".split())
+RESERVED = CODE | {"Option", "Result", "Box", "String"}
 BY_HAND = 'write it by hand: "A type that holds itself" in docs/IMPLEMENTING.md'
 TACTIC = "[tactic(auto, using(allocative::proofs::Parts::parts))]\n"
 IMPLEMENTED = re.compile(r"\bimpl\b[^{;]*?\b(Allocative|Described)\s+for\s+(?:\w+::)*(\w+)")
@@ -59,11 +60,12 @@ class Crate:
         if {("Allocative", name), ("Described", name)} <= self.implemented:
             return ""
         where = next((path for path, text in self.files.items() if name in DECLARED.findall(text)), "")
-        return f"`{name}` of {where} has no implementation yet: write that one first" if where else f"`{name}` is not found"
+        what = f"of {where} has no implementation yet: write that one first" if where else "is not found"
+        return f"`{name}` {what}"
 
 
 class Source:
-    """A source file. Reading it raises a fault only where its tokens or the module that is asked for cannot be read."""
+    """A source file. Reading it raises a fault where its tokens, or the module asked for, cannot be read."""
 
     def __init__(self, text: str, chosen: Namespace, is_inline: bool) -> None:
         self.chosen = chosen
@@ -109,12 +111,13 @@ class Source:
             if name not in types:
                 self.fault(0, f"{name}: no struct or enum of this name stands here")
             elif name in shown:
-                self.fault(types[name].at, f"{name}: it has `impl Allocative` already: remove that or the name")
+                what = "it has `impl Allocative` already: remove that or the name"
+                self.fault(types[name].at, f"{name}: {what}")
         return [each for name, each in types.items() if (name in names if names else name not in shown)]
 
     # ---- faults of a type
     def judged(self, definition: Definition) -> Definition:
-        """A type of which the fields that cannot be shown are told, or passed over where that is asked for."""
+        """A type whose fields that cannot be shown are told, or passed over where that is asked for."""
         name, at = definition.name, definition.at
         if name in RESERVED:
             what = "the written text uses this name: rename the type, or write its implementations by hand"
@@ -150,9 +153,7 @@ class Source:
         """Refuses the types that are not written."""
         what = ""
         is_hard = definition.parameters and len(definition.members) > 2
-        if definition.names("type") and any(len(variant.members) > 13 for variant in definition.variants):
-            what = "more than 13 fields in a type with parameters, more than the checker takes: put some of them into a struct of their own"
-        elif definition.is_enum and len(definition.variants) == 1 and (cycle or is_hard):
+        if definition.is_enum and len(definition.variants) == 1 and (cycle or is_hard):
             form = "that holds itself" if cycle else "with parameters and more than two fields"
             what = f"an enum of one variant {form}: write it as a struct"
         elif cycle and definition.parameters:
@@ -198,22 +199,24 @@ class Source:
         if self.is_inline:
             return self.with_pieces(found, texts)
         what = self.path[-1] if self.path else self.crate.name
-        head = f"//! What the types of `{what}` show. `bin/implement` of `allocative` wrote it.\n#!{TACTIC}\n"
-        return head + self.imports(found) + "\n" + "\n".join(texts)
+        head = f"//! What the types of `{what}` show. `bin/implement` of `allocative` wrote it."
+        return f"{head}\n#!{TACTIC}\n{self.imports(found)}\n" + "\n".join(texts)
 
     def imports(self, found: list[Writer]) -> str:
         """The imports of the text. In place, only of what the file does not import."""
         mine = self.module if self.is_inline else Module()
-        mine_of_code = {name for name, path in mine.uses.items() if path[0] == "allocative"}
-        used = set().union(*(each.used for each in found)) - mine.ghost_uses - mine_of_code
-        code = sorted(word for word in used if word[0].isupper())
-        lists = {"std.specs.Prelude": used & PRELUDE, "allocative.specs.Shows": set(), "allocative.specs.Levels": used & LEVELS}
-        lines = [f"ghost use Rattle.{path}.{{{', '.join(sorted(names))}}};\n" if names else "" for path, names in lists.items()]
-        lines[1] = "ghost use Rattle.allocative.specs.Shows as shows;\n" if "shows" not in mine.ghost_uses else ""
+        used = {"shows"}.union(*(each.used for each in found)) - mine.ghost_uses
+        used -= {name for name, path in mine.uses.items() if path[0] == "allocative"}
+        lists = [("Rattle.std.specs.Prelude", used & PRELUDE)]
+        lists += [("Rattle.allocative.specs.Shows", used & {"shows"})]
+        lists += [("Rattle.allocative.specs.Levels", used & LEVELS)]
         opened = sorted(word for word in used if word.startswith("out-"))
-        lines += [f"ghost use {self.declared_at}.{word.removeprefix('out-')}.{{{word}}};\n" for word in opened]
-        lines += ["\n"] if any(lines) and (code or not self.is_inline) else []
-        return "".join(lines) + ("" if self.is_inline else "use super::*;\n") + use_line(code)
+        lists += [(f"{self.declared_at}.{word[4:]}", {word}) for word in opened]
+        lines = [f"ghost use {path}.{{{', '.join(sorted(names))}}};\n" for path, names in lists if names]
+        text, code = "".join(lines).replace(".{shows}", " as shows"), use_line(sorted(used & CODE))
+        if self.is_inline:
+            return text + ("\n" if text and code else "") + code
+        return f"{text}\nuse super::*;\n{code}"
 
     def with_pieces(self, found: list[Writer], texts: list[str]) -> str:
         """The file with a piece behind each type, and without those that were written before."""
@@ -255,7 +258,8 @@ def pieces_of(text: str, depth: int) -> list[tuple[int, int]]:
     pieces = []
     for first, last in zip(marks[::2], [*marks[1::2], None]):
         if last is None or (first.says, last.says) != ("begin", "end"):
-            raise Fault(first.start, "this mark has no other, or was changed: remove the piece or mend its marks")
+            what = "this mark has no other, or was changed: remove the piece or mend its marks"
+            raise Fault(first.start, what)
         pieces.append((max(text.rfind("\n", 0, first.start), 0), last.end))
     return pieces
 

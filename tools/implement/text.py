@@ -3,7 +3,7 @@
 from __future__ import annotations
 
 import re
-from typing import TYPE_CHECKING, Callable, Iterator
+from typing import TYPE_CHECKING, Any, Callable, Iterator
 
 from .known import stand_ins
 from .tokens import Fault
@@ -15,7 +15,8 @@ if TYPE_CHECKING:
 WIDTH = 100
 GROUP = 5
 INDENT = " " * 8
-LIFETIME = "'part"
+EMPTY = type_of("()")
+Proof = tuple[str, str, str]
 LETTERS = [*"abcdefghijklmnopqrstuvw"]
 MARK = "-- Written by bin/implement."
 NAME = re.compile(r"[A-Za-z_]\w*")
@@ -31,7 +32,8 @@ DESCRIBED = {"align": "usize", "needs_drop": "bool", "size": "Option<usize>"}
 
 def bound(names: list[str], room: int) -> list[str]:
     """Names for the parts of fields: their own where these are names and short, else letters."""
-    if all(NAME.fullmatch(name) and name not in ("visitor", "self") for name in names) and len(", ".join(names)) <= room:
+    is_plain = all(NAME.fullmatch(name) and name not in ("visitor", "self") for name in names)
+    if is_plain and len(", ".join(names)) <= room:
         return names
     return LETTERS[: len(names)] + [f"a{number}" for number in range(len(LETTERS), len(names))]
 
@@ -41,7 +43,7 @@ def nested(kinds: list[Type], name: str = "") -> Type:
     *firsts, found = kinds
     for kind in reversed(firsts):
         text = f"{kind.text}, {found.text}"
-        found = Type("path" if name else "tuple", f"{name}<{text}>" if name else f"({text})", (), (kind, found))
+        found = Type("list", f"{name}<{text}>" if name else f"({text})", (), (kind, found))
     return found
 
 
@@ -49,7 +51,7 @@ def grouped(parts: list) -> list[list]:
     return [parts[at : at + GROUP] for at in range(0, len(parts), GROUP)]
 
 
-def joined(parts: list[str], join: Callable[[list[str]], str]) -> str:
+def joined(parts: list[Any], join: Callable[[list[Any]], Any]) -> Any:
     """Parts joined in groups of five at most, and these in the same way."""
     while len(parts) > GROUP:
         parts = [join(group) for group in grouped(parts)]
@@ -74,7 +76,7 @@ def renamed(kind: Type, names: dict[str, str]) -> str:
 
 
 class Writer:
-    """Writes the implementations of one type. One that holds itself stands in a cycle, whose first type shows levels.
+    """Writes the implementations of one type. Of types that hold themselves the first shows levels.
 
     `used` has the words of the text that have to be imported, and `answers` the answers by their folder.
     """
@@ -107,9 +109,9 @@ class Writer:
         return name
 
     # ---- heads
-    def declared(self, more: list[str]) -> str:
+    def declared(self) -> str:
         """The parameters with their bounds, as an `impl` declares them."""
-        found = [*more]
+        found = []
         for each in self.definition.parameters:
             bounds = [each.bounds] if each.bounds else []
             if each.kind == "type":
@@ -120,10 +122,10 @@ class Writer:
             found.append(f"{name}: {' + '.join(bounds)}" if bounds else name)
         return in_angles(found)
 
-    def head(self, trait: str, target: str, *more: str) -> str:
+    def head(self, trait: str) -> str:
         """The head of an implementation, up to its brace."""
-        applied = in_angles([*more, *(each.name for each in self.definition.parameters)])
-        first, second = f"impl{self.declared([*more])} {trait}", f"for {target}{applied}"
+        applied = in_angles([each.name for each in self.definition.parameters])
+        first, second = f"impl{self.declared()} {trait}", f"for {self.name}{applied}"
         line = f"{first} {second}" if len(first) + len(second) + 3 <= WIDTH else f"{first}\n    {second}"
         conditions = "".join(f"    {each},\n" for each in split(self.definition.where))
         return f"{line}\nwhere\n{conditions}{{\n" if conditions else f"{line} {{\n"
@@ -131,20 +133,23 @@ class Writer:
     # ---- the layout
     def alias(self) -> str:
         """The line of the layout, the type whose size, alignment and drop are those of this one."""
-        variants = self.definition.variants
-        empty = type_of("()")
-        lists = [nested([*self.entries(variant), empty]) for variant in variants]
-        if self.definition.is_enum and variants:
+        lists = [self.fields(variant) for variant in self.definition.variants] or [EMPTY]
+        if self.definition.is_enum and self.definition.variants:
             lists = [nested([type_of("u8"), nested(lists, "Or")])]
-            self.used |= {"Or"} if len(variants) > 1 else set()
-        fields = lists[0] if lists else empty
-        layout = Type("path", f"Record<{fields.text}>", (), (fields,))
+        layout = Type("path", f"Record<{lists[0].text}>", (), (lists[0],))
+        self.used |= {word for word in ("And", "Or") if f"{word}<" in layout.text}
         names = set(NAME.findall(layout.text))
         used = [each for each in self.definition.parameters if each.name in names]
-        declared = [f"const {each.name}: {each.bounds}" if each.kind == "const" else each.name for each in used]
         self.record = self.layout + in_angles([each.name for each in used])
+        declared = [f"const {each.name}: {each.bounds}".removesuffix(": ") for each in used]
+        declared = [text if each.kind == "const" else each.name for each, text in zip(used, declared)]
         head = f"type {self.layout}{in_angles(declared)} = "
         return f"{head}{laid(layout, 0, WIDTH - len(head) - 1)};\n\n"
+
+    def fields(self, variant: Variant) -> Type:
+        """The types of a variant's fields, in lists of five at most."""
+        groups = grouped([*self.entries(variant)]) or [[]]
+        return joined([nested([*group, EMPTY]) for group in groups], lambda lists: nested(lists, "And"))
 
     def entries(self, variant: Variant) -> Iterator[Type]:
         """The types of a variant's fields, with `()` in place of the types that hold this one."""
@@ -156,23 +161,25 @@ class Writer:
 
     def described(self) -> str:
         """The implementation of `Described`."""
-        text = self.head("Described", self.name) + f'    ghost name = {{ codes "{self.name}" }};\n\n'
-        text += "".join(f"    ghost {word} = {{ ⟦<{self.record} as Described>⟧.{word} }};\n\n" for word in DESCRIBED)
+        text = self.head("Described") + f'    ghost name = {{ codes "{self.name}" }};\n\n'
+        record = self.record
+        for word in DESCRIBED:
+            text += f"    ghost {word} = {{ ⟦<{record} as Described>⟧.{word} }};\n\n"
         text += f"    fn name() -> &'static str {{\n        \"{self.name}\"\n    }}\n"
         for word, kind in DESCRIBED.items():
-            text += f"\n    fn {word}() -> {kind} {{\n        <{self.record}>::{word}()\n    }}\n"
+            text += f"\n    fn {word}() -> {kind} {{\n        <{record}>::{word}()\n    }}\n"
         return text + "}\n\n"
 
     # ---- what is shown
     def implementation(self, inside: str, body: str, use: str = "") -> str:
-        """The implementation of `Allocative`: what a value shows under its own entry, and the body of its visit."""
-        text = f'{"field" if self.is_level else "shows.Field"} (codes "{self.name}") {size_of(self.record)}{inside}'
-        text = f"recursive (λ x. {text})" if self.is_level else f"λ x. {text}"
+        """The implementation of `Allocative`, from what a value shows inside and the body of its visit."""
+        entry = f'(codes "{self.name}") {size_of(self.record)}{inside}'
+        text = f"recursive (λ x. field {entry})" if self.is_level else f"λ x. shows.Field {entry}"
         self.used |= set(LEVEL.findall(text)) if self.cycle else set()
         cycle = f"    #[cycle({self.definition.cycle})]\n" if self.definition.cycle else ""
         return (
-            f"{self.source.tactic}{self.head('Allocative', self.name)}{use}    ghost may_show = {{ {text} }};\n\n"
-            f"{self.is_exact(self.members)}{cycle}"
+            f"{self.source.tactic}{self.head('Allocative')}{use}"
+            f"    ghost may_show = {{ {text} }};\n\n{self.is_exact()}{cycle}"
             f"    fn visit(&self, visitor: &mut Visitor<'_>) -> Result<(), Refusal> {{\n{body}    }}\n}}\n"
         )
 
@@ -201,18 +208,22 @@ class Writer:
             text = f'shows.Inside (codes "{key}") {member.size} shows.Nothing'
         return f"plain ({text})" if self.is_level else text
 
+    def words(self, members: list[Member], value: str) -> list[str]:
+        """What the fields of a struct show."""
+        return [self.word(member, member.name, f"{value}.{member.name}") for member in members]
+
     def flags_of(self, member: Member) -> set[str]:
         """The flags on which it depends whether the entry of a field is exact."""
         found = self.scope.flags(member.type, self.types) if member.size is None else set()
         return {each for each in found if not set(self.cycle) & set(NAME.findall(each))}
 
-    def is_exact(self, members: list[Member]) -> str:
-        """The line of the flag of a part with some fields, or nothing where it is not known."""
-        if self.flags and self.cycle:
-            return ""
+    def is_exact(self) -> str:
+        """The line of the flag, or nothing where it is not known."""
         flags = self.flags
+        if flags and self.cycle:
+            return ""
         if flags and not self.definition.is_enum:
-            kinds = [member.type.text if member.size is None else "" for member in members]
+            kinds = [member.type.text if member.size is None else "" for member in self.members]
             flags = [f"⟦<{kind} as Allocative>⟧.is_exact" if kind else "true" for kind in kinds]
         while len(flags) > GROUP:
             flags = [f"({flag(group)})" for group in grouped(flags)]
@@ -223,7 +234,8 @@ class Writer:
     # ---- levels of a type that holds itself
     def holds_cycle(self, kind: Type) -> bool:
         """Whether a type names one of the cycle."""
-        return bool(self.cycle) and any(each.name in self.cycle for each in self.scope.real(kind).all() if self.scope.own(each))
+        kinds = self.scope.real(kind).all() if self.cycle else ()
+        return any(each.name in self.cycle and self.scope.own(each) for each in kinds)
 
     def size_in(self, kind: Type) -> str:
         """The declared size of a type, with the layout in place of each type of the cycle."""
@@ -239,23 +251,23 @@ class Writer:
             return self.container(member, kind, value)
         if kind.name == self.cycle[0]:
             return f"child {value}"
-        second = self.scope.module.types[kind.name]
-        words = [self.word(each, each.name, f"(out-{kind.name} {value}).{each.name}") for each in second.shown]
+        words = self.words(self.scope.module.types[kind.name].shown, f"(out-{kind.name} {value})")
         return f'field (codes "{kind.name}") {self.size_in(kind)} ({self.inside(words)})'
 
     def container(self, member: Member, kind: Type, value: str) -> str:
         """The level of a container that holds a type of the cycle."""
         word = CONTAINERS.get((kind.name, len(kind.parts)), "")
         if not word or any(map(self.holds_cycle, kind.parts[:-1])):
-            what = "holds the type itself in a way that is not written: use `Vec`, `Box`, `Option`, `BTreeMap` or `HashMap`"
-            raise Fault(member.at, f"`{kind.text}` {what}")
+            what = "in a way that is not written: use `Vec`, `Box`, `Option`, `BTreeMap` or `HashMap`"
+            raise Fault(member.at, f"`{kind.text}` holds the type itself {what}")
         if word == "box_of":
             return f"box_of ({self.level(member, kind.parts[0], f'{value}.value')})"
         level, size = self.level(member, kind.parts[-1], "y"), self.size_in(kind.parts[-1])
         each = "child" if level == "child y" else f"(λ y. {level})"
         if len(kind.parts) == 2:
             key = kind.parts[0].text
-            return f"{word} (pair_in {size_of(key)} ⟦<{key} as Allocative>⟧.may_show {size} {each}) {value}.entries"
+            pair = f"pair_in {size_of(key)} ⟦<{key} as Allocative>⟧.may_show {size} {each}"
+            return f"{word} ({pair}) {value}.entries"
         own_size = f" {self.size_in(kind)}" if word == "option_in" else ""
         return f"{word}{own_size} {size} {each} {value}"
 
@@ -277,41 +289,14 @@ class Writer:
 
     # ---- structs
     def struct(self) -> str:
-        members, more = self.members, ""
-        if len(members) > GROUP and not self.cycle:
-            groups = grouped(members)
-            names = [f"part{number}" for number, _ in enumerate(groups, 1)]
-            kinds = [self.free(f"Part{number}") for number, _ in enumerate(groups, 1)]
-            words = [self.inside(self.fields(group, "x", "")[0]) for group in groups]
-            parts = [f"let {name} = {kind}(self);\n" for name, kind in zip(names, kinds)]
-            more = "".join(map(self.group, kinds, groups))
-        else:
-            words, parts, names = self.fields(members, f"(out-{self.name} x)" if self.cycle else "x", "&self")
+        names = bound([member.name for member in self.members], 52)
+        words = self.words(self.members, f"(out-{self.name} x)" if self.cycle else "x")
+        pairs = zip(self.members, names)
+        parts = [self.part(each, each.name, name, f"&self.{each.name}") for each, name in pairs]
         inside = f"({self.inside(words)})" if words or self.is_level else self.nothing
         gap = " " if len(words) > 1 or self.cycle else f"\n{INDENT}"
         self.struct_answer()
-        return self.implementation(gap + inside, self.enter(parts, names, INDENT)) + more
-
-    def fields(self, members: list[Member], value: str, place: str) -> tuple[list[str], list[str], list[str]]:
-        """The words, lines and names of the parts of some fields."""
-        names = bound([member.name for member in members], 52)
-        words = [self.word(each, each.name, f"{value}.{each.name}") for each in members]
-        parts = [self.part(each, each.name, name, f"{place}.{each.name}") for each, name in zip(members, names)]
-        return words, parts, names
-
-    def group(self, kind: str, members: list[Member]) -> str:
-        """A part of some fields of a struct."""
-        words, parts, names = self.fields(members, "x.0.now", "&self.0")
-        where = f" where {self.definition.where}" if self.definition.where else ""
-        applied = in_angles([each.name for each in self.definition.parameters])
-        lines = "".join(INDENT + part for part in parts)
-        return (
-            f"\n#[derive(Drop)]\nstruct {kind}{self.declared([LIFETIME])}(&'part {self.name}{applied}){where};\n\n"
-            f"{self.source.tactic}{self.head('Part', kind, LIFETIME)}"
-            f"    ghost may_show = {{ λ x. {self.inside(words)} }};\n\n{self.is_exact(members)}"
-            "    fn enter(self, visitor: &mut Visitor<'_>) -> Result<(), Refusal> {\n"
-            f"{lines}{INDENT}{tuple_of(names)}.enter(visitor)\n    }}\n}}\n"
-        )
+        return self.implementation(gap + inside, self.enter(parts, names, INDENT))
 
     # ---- enums
     def enumeration(self) -> str:
@@ -339,10 +324,9 @@ class Writer:
                 raise Fault(member.at, f"the field {member.name} {what}")
 
     def kept(self, variant: Variant, names: list[str]) -> list[tuple[Member, str, str]]:
-        """The fields that a variant shows, with their keys and names. The one field without a name has the variant's."""
-        is_single = not variant.is_named and len(variant.members) == 1
-        pairs = zip(variant.members, names)
-        return [(each, variant.name if is_single else each.name, name) for each, name in pairs if not each.is_skipped]
+        """The fields that a variant shows, with keys and names. The key of a single unnamed one is the variant's."""
+        keys = [variant.name] if not variant.is_named and len(variant.members) == 1 else variant.names
+        return [each for each in zip(variant.members, keys, names) if not each[0].is_skipped]
 
     def word_arm(self, variant: Variant, case: str) -> str:
         letters = bound([""] * len(variant.members), 0)
@@ -396,9 +380,10 @@ class Writer:
         self.answer("visit", [("returns", "c", proof)], "", uses, "◌≡◌, refl, rules", lemma)
 
     def level_answers(self) -> None:
-        """The answers for an enum that holds itself: its level at each variant, by the equations of the type."""
+        """The answers for an enum that holds itself: its level at each variant, by the type's equations."""
         name, more = self.name, ", entered_loosely" if self.flags else ""
-        uses = f"use {self.declared_at}.{{out-{name}, the_lemmas}}\nuse {self.declared_at}.TheOpen.{{{name}-F}}\n"
+        uses = f"use {self.declared_at}.{{out-{name}, the_lemmas}}\n"
+        uses += f"use {self.declared_at}.TheOpen.{{{name}-F}}\n"
         uses += "use Rattle.allocative.proofs.Levels.{means_recursive}\n"
         uses += f"use Rattle.allocative.proofs.Meaning.{{visited_as{more}}}\n"
         proofs = []
@@ -413,17 +398,24 @@ class Writer:
         self.answer("+visit", proofs, "", uses, "◌≡◌, rules")
 
     def answer(
-        self, folder: str, proofs: list[tuple[str, str, str]], rules: str = "", uses: str = "", common: str = "rules", lemma: str = ""
+        self,
+        folder: str,
+        proofs: list[Proof],
+        more: str = "",
+        uses: str = "",
+        common: str = "rules",
+        lemma: str = "",
     ) -> None:
-        """Keeps the file of a folder of proofs: each goal, what it is given, and what proves it by the rules."""
+        """Keeps the file of a folder of proofs: each goal, what it is given, and what proves it by rules."""
         own = () if self.definition.cycle and folder.startswith("+") else (f"{self.name}Allocative",)
         path = (*self.source.text_at, *own, folder)
+        goals = ".".join(("Rattle", self.source.crate.name, "proofs", *path, "Goals"))
         text = f"{MARK}\nuse Rattle.std.proofs.Common.{{{common}}}\n{uses}"
-        text += f"use Rattle.allocative.proofs.Parts.{{parts{rules}}}\n"
-        text += f"use {'.'.join(('Rattle', self.source.crate.name, 'proofs', *path, 'Goals'))} as goal\n{lemma}"
+        text += f"use Rattle.allocative.proofs.Parts.{{parts{more}}}\nuse {goals} as goal\n{lemma}"
         for goal, given, proof in proofs:
             space = "" if proof.startswith("\n") else " "
-            text += f"\npub {goal} : goal.{goal}\n{goal} {given} ={space}{proof.format(f'rules, parts{rules}')}\n"
+            proof = proof.format(f"rules, parts{more}")
+            text += f"\npub {goal} : goal.{goal}\n{goal} {given} ={space}{proof}\n"
         self.answers["/".join(path)] = text
 
 
@@ -434,7 +426,9 @@ def flag(parts: list[str]) -> str:
 
 def holds(kind: Type, parameter: str) -> bool:
     """Whether values of a parameter stand in those of a type."""
-    return kind.name != "PhantomData" and (kind.path == (parameter,) or any(holds(part, parameter) for part in kind.parts))
+    if kind.name == "PhantomData":
+        return False
+    return kind.path == (parameter,) or any(holds(part, parameter) for part in kind.parts)
 
 
 def pattern_of(variant: Variant, names: list[str]) -> str:
@@ -447,7 +441,8 @@ def pattern_of(variant: Variant, names: list[str]) -> str:
     line = ", ".join(fields)
     if len(line) <= 18:
         return f" {{ {line} }}" if pairs else " {}"
-    return " {\n" + "".join(f"{' ' * 16}{each}{'' if each == '..' else ','}\n" for each in fields) + " " * 12 + "}"
+    lines = "".join(f"{' ' * 16}{each}{'' if each == '..' else ','}\n" for each in fields)
+    return f" {{\n{lines}{' ' * 12}}}"
 
 
 # ---- lines as `rt fmt` lays them out
@@ -476,6 +471,7 @@ def entered(name: str, arguments: list[str], indent: str) -> str:
     if len(", ".join(arguments)) <= 60 and len(indent) + len(line) <= WIDTH:
         is_short_enough = len(indent) + len(line) + len("visitor)") <= WIDTH
         return f"{line}visitor)" if is_short_enough else f"{line}\n{indent}    visitor,\n{indent})"
-    room = WIDTH - len(indent) - 5
-    lines = "".join(f"{indent}    {laid(type_of(each), len(indent) + 4, room) if each[0] == '(' else each},\n" for each in arguments)
+    *firsts, last = arguments
+    last = laid(type_of(last), len(indent) + 4, WIDTH - len(indent) - 5)
+    lines = "".join(f"{indent}    {each},\n" for each in (*firsts, last))
     return f"{name}(\n{lines}{indent})\n{indent}.enter(visitor)"

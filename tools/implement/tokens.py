@@ -33,7 +33,7 @@ class Fault(Exception):
 
 
 class Directive(NamedTuple):
-    """A comment `// allocative: ..`: where it stands, what it says, the brackets round it, and whether its line is its own."""
+    """A comment `// allocative: ..`: its place, what it says, how deep, and whether its line is its own."""
 
     start: int
     end: int
@@ -77,7 +77,7 @@ class Tokens:
         return self.directives[place] if place >= 0 and self.directives[place].start >= start else None
 
     def _read(self, at: int) -> int:
-        """Reads from an offset to the end of a comment in `/*` and `*/`, or of the text, and returns that."""
+        """Reads from an offset to the end of the next comment in `/*`, or of the text, and returns that."""
         words, starts = self.words, self.starts
         for found in TOKEN.finditer(self.text, at):
             kind = found.lastgroup
@@ -85,8 +85,8 @@ class Tokens:
             if kind == "comment":
                 said = DIRECTIVE.match(word)
                 if said:
-                    before = self.text[self.text.rfind("\n", 0, start) + 1 : start]
-                    self.directives.append(Directive(start, found.end(), said[1], len(self._open), not before.strip()))
+                    is_line = not self.text[self.text.rfind("\n", 0, start) + 1 : start].strip()
+                    self.directives.append(Directive(start, found.end(), said[1], len(self._open), is_line))
             elif kind == "block":
                 return self._block_end(start)
             elif word == '"':

@@ -83,7 +83,7 @@ def type_of(text: str) -> Type:
 
 
 class Member(NamedTuple):
-    """A field: its name or number, its type, its offset, and whether it is passed over or shown by its size alone."""
+    """A field: its name or number, type and offset; whether it is passed over, or shown by its size alone."""
 
     name: str
     type: Type
@@ -198,7 +198,7 @@ class Reader:
         return self.tokens.behind[self.at - 1] - 1
 
     def find(self, ends: str, end: int, has_angles: bool = True) -> int:
-        """The place of the first token outside brackets, `<>` among them, that is one of some signs, or the end."""
+        """The place of the first token outside brackets, also `<>`, that is one of some, or the end."""
         place, depth, words, behind = self.at, 0, self.words, self.tokens.behind
         while place < end:
             word = words[place]
@@ -228,7 +228,7 @@ class Reader:
             self.take(",")
 
     def attributes(self) -> list[list[str]]:
-        """Passes the attributes and the visibility that stand here, and returns the words of each attribute."""
+        """Passes the attributes and the visibility that stand here. Returns the words of each attribute."""
         found = []
         while self.words[self.at] == "#":
             self.at += 2 if self.word(1) == "!" else 1
@@ -258,7 +258,8 @@ class Reader:
             raise Fault(fault.at, f"{name}: {fault.what}") from None
         derives = {word for words in attributes if words[:1] == ["derive"] for word in words}
         cycle = "".join([[], *(words[2:3] for words in attributes if words[:1] == ["cycle"])][-1])
-        return Definition(is_enum, name, parameters, where, variants, at, self.tokens.end(self.at - 1), derives, cycle)
+        end = self.tokens.end(self.at - 1)
+        return Definition(is_enum, name, parameters, where, variants, at, end, derives, cycle)
 
     def parameters(self) -> tuple[Parameter, ...]:
         """The parameters between `<` and `>`, if they stand here."""
@@ -329,7 +330,8 @@ class Reader:
                 break
             found.append(self.fields(self.name("a variant")))
             if self.word() != "=" and self.at < end:
-                raise self.fault(f"`{self.word()}` behind the variant {found[-1].name}: write a comma before it")
+                what = f"behind the variant {found[-1].name}: write a comma before it"
+                raise self.fault(f"`{self.word()}` {what}")
         self.at = close + 1
         return tuple(found)
 
