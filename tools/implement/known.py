@@ -1,20 +1,20 @@
-"""Which types can be shown: those that the library implements, those of the crate, and what stands in for others."""
+"""Which types can be shown, of the library's and of the crate, and what stands in for others."""
 
 from __future__ import annotations
 
-from dataclasses import dataclass, field
-from typing import Callable, Iterator
+import re
+from functools import cache
+from typing import Callable, Iterable
 
-from .shapes import Definition, Member, Module, Type
+from .types import Definition, Member, Module, Type
 
-NUMBERS = "8 16 32 64 size".split()
-STD = set("u128 i128 bool String Vec Option Result Box VecDeque BTreeMap BTreeSet HashMap HashSet".split())
-STD |= set("ManuallyDrop PhantomData Duration Instant SystemTime IpAddr Ipv4Addr Ipv6Addr AtomicBool".split())
-STD |= {sign + number for sign in "ui" for number in NUMBERS}
-STD |= {f"{word}{sign}{number.capitalize()}" for word in ("NonZero", "Atomic") for sign in "UI" for number in NUMBERS}
-STD -= {"NonZeroUSize", "NonZeroISize", "AtomicUSize", "AtomicISize"}
-STD |= {"NonZeroUsize", "NonZeroIsize", "AtomicUsize", "AtomicIsize"}
-PACK = {
+STD = """u128 i128 usize isize bool String Vec Option Result Box VecDeque BTreeMap BTreeSet HashMap HashSet
+    ManuallyDrop PhantomData Duration Instant SystemTime IpAddr Ipv4Addr Ipv6Addr
+    AtomicBool AtomicUsize AtomicIsize NonZeroUsize NonZeroIsize""".split()
+for form in ("u", "i", "NonZeroU", "NonZeroI", "AtomicU", "AtomicI"):
+    STD += [f"{form}{bits}" for bits in (8, 16, 32, 64)]
+# The crate of each type that the library implements.
+HOMES = dict.fromkeys(STD, "std") | {
     "IndexMap": "indexmap",
     "IndexSet": "indexmap",
     "Slab": "slab",
@@ -27,54 +27,48 @@ PACK = {
     "IdRc": "allocative",
     "IdArc": "allocative",
 }
+Path = tuple[str, ...]
 NOT_EXACT = {"OnceBox"}
 # Types that have no implementation: their bytes, and a type of the same size, alignment and drop.
-FOREIGN = {
-    "f64": (8, "u64"),
-    "f32": (4, "u32"),
-    "char": (4, "u32"),
-    "Rc": (8, "Box<()>"),
-    "Arc": (8, "Box<()>"),
-}
+FOREIGN = {"f64": (8, "u64"), "f32": (4, "u32"), "char": (4, "u32")}
+FOREIGN |= {"Rc": (8, "Box<()>"), "Arc": (8, "Box<()>")}
+NUMBERS = {f"{sign}{bits}": (bits // 8, f"{sign}{bits}") for sign in "ui" for bits in (8, 16, 32, 64, 128)}
+NUMBERS |= {"usize": (8, "usize"), "isize": (8, "isize"), "bool": (1, "bool")}
 CELLS = ("Cell", "UnsafeCell")
 # A type of no bytes whose alignment and drop are those of what is not known.
 UNKNOWN = "[String; 0]"
 
 
-@dataclass
 class Scope:
-    """What is known where types stand: their module, those that get implementations now, and what other files say."""
+    """What is known where types stand: their module, those that are written now, and what other files say."""
 
-    module: Module
-    written: set[str]
-    outside: Callable[[tuple[str, ...]], str]
-    exact: dict[str, bool] = field(default_factory=dict)
+    def __init__(self, module: Module, wanted: Iterable[str], outside: Callable[[Path], str]) -> None:
+        self.module = module
+        self.wanted = set(wanted)
+        self.outside = outside
+        self.exact: set[str] = set()
+        self.reason = cache(self.reason)
 
     def own(self, kind: Type) -> Definition | None:
         """The definition of a type of the module itself."""
-        if len(kind.path) == 1 or (len(kind.path) == 2 and kind.path[0] == "self"):
-            return self.module.types.get(kind.name)
-        return None
+        is_own = len(kind.path) == 1 or (len(kind.path) == 2 and kind.path[0] == "self")
+        return self.module.types.get(kind.name) if is_own else None
 
     def real(self, kind: Type) -> Type:
         """The type itself, where a name of the module stands for it."""
-        seen = set()
+        seen: set[str] = set()
         while len(kind.path) == 1 and kind.name in self.module.aliases and kind.name not in seen:
             seen.add(kind.name)
             kind = self.module.aliases[kind.name]
         return kind
 
-    def path(self, kind: Type) -> tuple[str, ...]:
+    def path(self, kind: Type) -> Path:
         """The path of a name, from the `use` that brings it in."""
-        used = self.module.uses.get(kind.path[0])
-        return used + kind.path[1:] if used else kind.path
+        return self.module.uses.get(kind.path[0], kind.path[:1]) + kind.path[1:]
 
-    # ---- why a type cannot be shown
-    def reason(self, kind: Type, parameters: list[str]) -> str:
+    def reason(self, kind: Type, parameters: Path) -> str:
         """Why a field of a type cannot be shown, or nothing."""
         kind = self.real(kind)
-        if kind.form in ("lifetime", "constant"):
-            return ""
         if kind.form == "reference":
             return "" if is_lasting(kind) else f"`{kind.text}` is a reference"
         if kind.form == "other":
@@ -90,72 +84,68 @@ class Scope:
         return next((reason for part in kind.parts if (reason := self.reason(part, parameters))), "")
 
     def path_reason(self, kind: Type) -> str:
-        definition = self.own(kind)
+        """Why a type that is named by a path cannot be shown, whatever its arguments are."""
+        definition, path, home = self.own(kind), self.path(kind), HOMES.get(kind.name, "")
+        root, is_foreign = path[0] if len(path) > 1 else "", kind.name in FOREIGN
         if definition:
             return self.own_reason(definition)
-        path = self.path(kind)
         if path[0] in ("crate", "super", "self"):
             return self.outside(path)
-        root = path[0] if len(path) > 1 else ""
-        if kind.name in STD and root in ("", "std", "core", "alloc"):
+        is_std = home == "std" and root in ("", "core", "alloc")
+        if is_std or (home and (root == home or (not root and self.module.globs))):
             return ""
-        if kind.name in PACK and (root == PACK[kind.name] or (not root and self.module.globs)):
-            return ""
-        if kind.name in FOREIGN or kind.name in CELLS or not root:
-            return f"`{kind.text}` has no implementation" + ("" if root or kind.name in FOREIGN else " that is seen here")
+        if is_foreign or kind.name in CELLS or not root:
+            where = "" if root or is_foreign else " that is seen here"
+            return f"`{kind.text}` has no implementation{where}"
         return self.outside(path)
 
     def own_reason(self, definition: Definition) -> str:
         traits = self.module.implemented.get(definition.name, set())
         if definition.names("lifetime"):
             return f"`{definition.name}` has a lifetime, so it declares no size"
-        if definition.name in self.written or {"Allocative", "Described"} <= traits:
+        if definition.name in self.wanted or {"Allocative", "Described"} <= traits:
             return ""
         if "Allocative" in traits:
             return f"`{definition.name}` has `impl Allocative` and no `impl Described`"
         return f"`{definition.name}` of this file is not among the types that are named"
 
-    # ---- exact visits
-    def flags(self, kind: Type, parameters: list[str]) -> set[str]:
+    def flags(self, kind: Type, parameters: Path) -> set[str]:
         """The flags on which it depends whether a type is exact; none where it is."""
         kind = self.real(kind)
         if kind.form in ("lifetime", "constant", "reference") or kind.name == "PhantomData":
             return set()
-        if kind.form == "path" and not (self.path(kind) == kind.path and kind.name in parameters):
-            definition = self.own(kind)
-            is_known = kind.name in STD or (kind.name in PACK and kind.name not in NOT_EXACT)
-            if definition is not None and self.is_exact(definition):
-                is_known = True
-            if not is_known:
-                return {f"⟦<{kind.text} as Allocative>⟧.is_exact"}
+        found: set[str] = set()
+        if kind.form == "path" and self.path(kind) == kind.path and kind.name in parameters:
+            found = {f"{kind.name}.is_exact"}
         elif kind.form == "path":
-            return {f"{kind.name}.is_exact"}
-        return set().union(*(self.flags(part, parameters) for part in kind.parts))
+            definition = self.own(kind)
+            is_known = kind.name in HOMES and kind.name not in NOT_EXACT
+            if not is_known and not (definition and definition.name in self.exact):
+                return {f"⟦<{kind.text} as Allocative>⟧.is_exact"}
+        return found.union(*(self.flags(part, parameters) for part in kind.parts))
 
-    def is_exact(self, definition: Definition) -> bool:
-        """Whether a type without parameters that gets its implementation now is exact."""
-        name = definition.name
-        if name not in self.exact:
-            if name not in self.written or definition.names("type"):
-                return False
-            self.exact[name] = True
-            self.exact[name] = not any(self.flags(member.type, []) for member in shown(definition) if member.size is None)
-        return self.exact[name]
-
-
-def shown(definition: Definition) -> list[Member]:
-    """The fields that are not passed over."""
-    return [member for member in definition.members if not member.is_skipped]
+    def find_exact(self) -> None:
+        """Finds which types without type parameters are exact, of those that get implementations now."""
+        types = [self.module.types[name] for name in self.wanted]
+        types = [each for each in types if not each.names("type")]
+        found = {each.name: [member.type for member in each.shown if member.size is None] for each in types}
+        self.exact = set()
+        while len(found) != len(self.exact):
+            self.exact = set(found)
+            flags = cache(self.flags)
+            inexact = {name for name, kinds in found.items() if any(flags(kind, ()) for kind in kinds)}
+            found = {name: kinds for name, kinds in found.items() if name not in inexact}
+        self.flags = cache(self.flags)
 
 
 def is_lasting(kind: Type) -> bool:
     """Whether a reference is `&'static` to a type of a known size."""
-    part = kind.parts[0]
-    return kind.text.startswith("&'static ") and part.form != "other" and part.text != "str" and "mut " not in kind.text[:13]
+    text, part = kind.text, kind.parts[0]
+    return re.match(r"&'static (?!mut )", text) is not None and part.form != "other" and part.text != "str"
 
 
 def known_size(kind: Type) -> tuple[int, str] | None:
-    """The bytes of a type without an implementation, and a type that stands in for it, where both are known."""
+    """The bytes of a type without an implementation, and a type in its place, where both are known."""
     if kind.form == "reference":
         part = kind.parts[0]
         return (16, "(u64, u64)") if part.text == "str" or part.form == "other" else (8, "u64")
@@ -163,27 +153,19 @@ def known_size(kind: Type) -> tuple[int, str] | None:
         return 8, "u64"
     if kind.name in CELLS and len(kind.parts) == 1:
         return known_size(kind.parts[0])
-    if kind.form == "path" and len(kind.path) == 1 and kind.name in NUMBER_SIZES:
-        return NUMBER_SIZES[kind.name], kind.name
-    return FOREIGN.get(kind.name)
+    return NUMBERS.get(kind.text) or FOREIGN.get(kind.name)
 
 
-NUMBER_SIZES = {sign + number: int(number) // 8 for sign in "ui" for number in ("8", "16", "32", "64", "128")}
-NUMBER_SIZES |= {"usize": 8, "isize": 8, "bool": 1}
-
-
-def stand_ins(member: Member) -> Iterator[str]:
+def stand_ins(member: Member) -> list[str]:
     """What stands in the layout for a field that is passed over or shown by its size alone."""
     known = known_size(member.type)
     if member.size is None or (known and known[0] == member.size):
-        yield known[1] if known else UNKNOWN
-        return
-    yield f"[u8; {member.size}]"
-    yield f"[{known[1]}; 0]" if known else UNKNOWN
+        return [known[1] if known else UNKNOWN]
+    return [f"[u8; {member.size}]", f"[{known[1]}; 0]" if known else UNKNOWN]
 
 
 def advice(member: Member) -> str:
     """What to write above a field that cannot be shown."""
     known = known_size(member.type)
-    size = known[0] if known else "N"
-    return f"write above it `// allocative: size {size}`, for one entry of so many bytes, or `// allocative: skip`"
+    size = f"`// allocative: size {known[0] if known else 'N'}`"
+    return f"write above it {size}, for one entry of so many bytes, or `// allocative: skip`"

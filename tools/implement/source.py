@@ -4,19 +4,25 @@ from __future__ import annotations
 
 import os
 import re
-from dataclasses import dataclass, replace
+import textwrap
+from argparse import Namespace
 from functools import cached_property
 
-from .cycles import Cycle, LevelWriter, cycles_of
 from .known import Scope, advice
-from .shapes import Definition, Member, Module, module_of, type_of
-from .text import WIDTH, Place, Writer, Written
-from .tokens import Directive, Fault, Tokens
+from .text import LEVELS, WIDTH, Writer
+from .tokens import Fault, Tokens
+from .types import Definition, Member, Module, module_of, type_of
 
 BEGIN, END = "// allocative: begin", "// allocative: end"
-RESERVED = set("Allocative Declared Described Field Inside Or Part Record Refusal Visitor Whole Option Result Box String".split())
+CODE = set("Allocative And Declared Described Field Inside Or Part Record Refusal Visitor Whole".split())
+RESERVED = CODE | {"Option", "Result", "Box", "String"}
+BY_HAND = 'write it by hand: "A type that holds itself" in docs/IMPLEMENTING.md'
+TACTIC = "[tactic(auto, using(allocative::proofs::Parts::parts))]\n"
 IMPLEMENTED = re.compile(r"\bimpl\b[^{;]*?\b(Allocative|Described)\s+for\s+(?:\w+::)*(\w+)")
 OUTWARD = re.compile(r"(?<![\w:])(self|super)::(\w+)")
+LETTER = re.compile(r"[^\n]")
+LINE = re.compile(r"[^\n]*")
+PRELUDE = {"codes", "true", "◌&&◌"}
 DECLARED = re.compile(r"\b(?:struct|enum)\s+(\w+)")
 
 
@@ -26,275 +32,254 @@ class Crate:
     def __init__(self, folder: str) -> None:
         self.folder = folder
         self.name = os.path.basename(folder)
+        self.others: dict[str, Crate] = {}
 
     @cached_property
     def files(self) -> dict[str, str]:
         """The text of each source file, by its path in the crate."""
         found = {}
         for folder, _, names in os.walk(os.path.join(self.folder, "src")):
-            for name in sorted(names):
-                if name.endswith(".rt"):
-                    path = os.path.join(folder, name)
-                    with open(path, encoding="utf-8", errors="replace") as file:
-                        found[os.path.relpath(path, self.folder)] = file.read()
+            for path in (os.path.join(folder, name) for name in sorted(names) if name.endswith(".rt")):
+                with open(path, encoding="utf-8", errors="replace") as file:
+                    found[os.path.relpath(path, self.folder)] = file.read()
         return found
 
     @cached_property
-    def implemented(self) -> dict[str, set[str]]:
-        """The traits of each type that has some."""
-        found: dict[str, set[str]] = {}
-        for text in self.files.values():
-            for trait, name in IMPLEMENTED.findall(text):
-                found.setdefault(name, set()).add(trait)
-        return found
-
-    def declares(self, name: str) -> str:
-        """The file that declares a type, or nothing."""
-        return next((path for path, text in self.files.items() if name in DECLARED.findall(text)), "")
+    def implemented(self) -> set[tuple[str, str]]:
+        """The traits that are implemented, each with the type."""
+        return {found for text in self.files.values() for found in IMPLEMENTED.findall(text)}
 
     def reason(self, path: tuple[str, ...]) -> str:
         """Why a type of another file cannot be shown, or nothing."""
-        if path[0] not in ("crate", "super", "self"):
-            other = os.path.join(os.path.dirname(self.folder), path[0])
-            if not os.path.isdir(os.path.join(other, "src")):
-                return f"`{path[-1]}` of `{path[0]}` has no implementation"
-            return Crate(other).reason(("crate", path[-1]))
-        if {"Allocative", "Described"} <= self.implemented.get(path[-1], set()):
+        root, name = path[0], path[-1]
+        if root not in ("crate", "super", "self"):
+            folder = os.path.join(os.path.dirname(self.folder), root)
+            if not os.path.isdir(os.path.join(folder, "src")):
+                return f"`{name}` of `{root}` has no implementation"
+            return self.others.setdefault(root, Crate(folder)).reason(("crate", name))
+        if {("Allocative", name), ("Described", name)} <= self.implemented:
             return ""
-        where = self.declares(path[-1])
-        return f"`{path[-1]}` of {where} has no implementation yet: write that one first" if where else f"`{path[-1]}` is not found"
-
-
-@dataclass(frozen=True)
-class Options:
-    """What is asked for: which module of the file, which types, and how."""
-
-    names: tuple[str, ...] = ()
-    module: tuple[str, ...] = ()
-    is_inline: bool = False
-    skips_unknown: bool = False
+        where = next((path for path, text in self.files.items() if name in DECLARED.findall(text)), "")
+        what = f"of {where} has no implementation yet: write that one first" if where else "is not found"
+        return f"`{name}` {what}"
 
 
 class Source:
-    """A source file. Reading it raises a fault only where its tokens or the module that is asked for cannot be read."""
+    """A source file. Reading it raises a fault where its tokens, or the module asked for, cannot be read."""
 
-    def __init__(self, text: str, path: str, options: Options) -> None:
-        self.options = options
-        folder, inside = crate_of(path)
+    def __init__(self, text: str, chosen: Namespace, is_inline: bool) -> None:
+        self.chosen = chosen
+        self.is_inline = is_inline
+        self.inner = [part for part in chosen.module.split("::") if part]
+        folder, inside = crate_of(chosen.file)
         self.crate = Crate(folder)
-        self.full = text
-        self.pieces = pieces_of(Tokens(text), len(options.module)) if BEGIN in text or END in text else []
-        self.clean = without(text, self.pieces)
-        self.tokens = Tokens(self.clean)
-        self.module = self.find(module_of(self.tokens))
-        if self.pieces and not options.is_inline:
-            self.module.implemented = self.find(module_of(Tokens(text))).implemented
-        types = (*inside, *options.module)
-        self.place = Place(self.crate.name, types, types if options.is_inline else (*types, "shown"))
-        is_named = bool(options.names) and set(options.names) <= self.module.types.keys()
-        self.faults: list[tuple[int, str]] = [(fault.line, fault.what) for fault in self.module.faults if not is_named]
-        self.notes: dict[str, list[str]] = {}
-        self.wanted = self.find_wanted()
-        written = {each.name for each in self.wanted}
-        self.scope = Scope(self.module, written, self.crate.reason)
-        self.wanted = [self.judged(each) for each in self.wanted]
-        self.module.types.update({each.name: each for each in self.wanted})
+        self.text = text
+        self.pieces = pieces_of(text, len(self.inner))
+        self.module = self.find(blank(text, self.pieces))
+        if self.pieces and not is_inline:
+            self.module.implemented = self.find(text).implemented
+        self.path = [*inside, *self.inner]
+        self.text_at = self.path if is_inline else [*self.path, "shown"]
+        self.declared_at = ".".join(["Rattle", self.crate.name, "specs.declared", *self.path])
+        self.tactic = f"#{TACTIC}" if is_inline else ""
+        is_named = bool(chosen.types) and set(chosen.types) <= self.module.types.keys()
+        self.faults = [] if is_named else self.module.faults
+        self.notes: dict[str, str] = {}
+        wanted = self.wanted_types()
+        self.scope = Scope(self.module, [each.name for each in wanted], self.crate.reason)
+        self.wanted = {each.name: self.judged(each) for each in wanted}
+        self.module.types.update(self.wanted)
+        self.scope.find_exact()
 
-    def find(self, module: Module) -> Module:
-        """The module that is asked for."""
-        for name in self.options.module:
+    def find(self, text: str) -> Module:
+        """The module of a text that is asked for."""
+        module = module_of(Tokens(text))
+        for name in self.inner:
             if name not in module.inner:
-                raise Fault(1, f"the module {name}, which was asked for, does not stand in braces here")
+                raise Fault(0, f"the module {name}, which was asked for, does not stand in braces here")
             module = module.inner[name]
         return module
 
-    def fault(self, line: int, what: str) -> None:
-        self.faults.append((line, what))
+    def fault(self, at: int, what: str) -> None:
+        self.faults.append(Fault(at, what))
 
-    def find_wanted(self) -> list[Definition]:
+    def wanted_types(self) -> list[Definition]:
         """The types that get implementations."""
-        names = self.options.names
+        names, types = self.chosen.types, self.module.types
+        shown = {name for name in types if "Allocative" in self.module.implemented.get(name, ())}
         for name in names:
-            if name not in self.module.types:
-                self.fault(1, f"{name}: no struct or enum of this name stands here")
-            elif "Allocative" in self.module.implemented.get(name, ()):
-                self.fault(self.module.types[name].line, f"{name}: it has `impl Allocative` already: remove that or the name")
-        return [
-            each
-            for each in self.module.types.values()
-            if (each.name in names if names else "Allocative" not in self.module.implemented.get(each.name, ()))
-        ]
+            if name not in types:
+                self.fault(0, f"{name}: no struct or enum of this name stands here")
+            elif name in shown:
+                what = "it has `impl Allocative` already: remove that or the name"
+                self.fault(types[name].at, f"{name}: {what}")
+        return [each for name, each in types.items() if (name in names if names else name not in shown)]
 
     # ---- faults of a type
     def judged(self, definition: Definition) -> Definition:
-        """A type of which the fields that cannot be shown are told, or passed over where that is asked for."""
-        name, line = definition.name, definition.line
+        """A type whose fields that cannot be shown are told, or passed over where that is asked for."""
+        name, at = definition.name, definition.at
         if name in RESERVED:
-            self.fault(line, f"{name}: the written text uses this name: rename the type, or write its implementations by hand")
-        traits = self.module.implemented.get(name, set())
-        if not definition.derives & {"Drop", "Copy"} and not traits & {"Drop", "Copy"}:
-            self.fault(line, f"{name}: what is shown is `Drop`: write `#[derive(Drop)]` above it")
+            what = "the written text uses this name: rename the type, or write its implementations by hand"
+            self.fault(at, f"{name}: {what}")
+        if not (definition.derives | self.module.implemented.get(name, set())) & {"Drop", "Copy"}:
+            self.fault(at, f"{name}: what is shown is `Drop`: write `#[derive(Drop)]` above it")
         variants = []
         for variant in definition.variants:
             of_what = f"{name}::{variant.name}" if definition.is_enum else name
-            members = tuple(self.member(definition, of_what, member) for member in variant.members)
-            variants.append(replace(variant, members=members))
-        return replace(definition, variants=tuple(variants))
+            members = tuple(self.judged_member(definition, of_what, member) for member in variant.members)
+            variants.append(variant._replace(members=members))
+        return definition._replace(variants=tuple(variants))
 
-    def member(self, definition: Definition, of_what: str, member: Member) -> Member:
-        if not self.options.is_inline:
-            member = replace(member, type=type_of(OUTWARD.sub(self.outward, member.type.text)))
-        if member.is_skipped or member.size is not None:
-            return member
-        reason = self.scope.reason(member.type, definition.names("type"))
-        if not reason:
-            return member
-        if self.options.skips_unknown:
-            self.notes.setdefault(definition.name, []).append(f"// `{member.name}` is passed over: {reason}.\n")
-            return replace(member, is_skipped=True)
-        self.fault(member.line, f"{of_what}.{member.name}: {reason}: {advice(member)}")
+    def judged_member(self, definition: Definition, of_what: str, member: Member) -> Member:
+        if not self.is_inline and "::" in member.type.text:
+            member = member._replace(type=type_of(OUTWARD.sub(self.outward, member.type.text)))
+        reason = self.scope.reason(member.type, definition.names("type")) if member.is_whole else ""
+        if reason and self.chosen.skip_unknown:
+            note = f"// `{member.name}` is passed over: {reason}.\n"
+            self.notes[definition.name] = self.notes.get(definition.name, "") + note
+            return member._replace(is_skipped=True)
+        if reason:
+            self.fault(member.at, f"{of_what}.{member.name}: {reason}: {advice(member)}")
         return member
 
     def outward(self, found: re.Match[str]) -> str:
         """The beginning of a path of the file, as the module `shown` writes it."""
-        if found.group(1) == "super":
-            return f"super::{found.group()}"
-        return found.group(2) if found.group(2) in self.module.types else f"super::{found.group(2)}"
+        if found[1] == "super":
+            return f"super::{found[0]}"
+        return found[2] if found[2] in self.module.types else f"super::{found[2]}"
+
+    def check(self, definition: Definition, cycle: list[Definition]) -> None:
+        """Refuses the types that are not written."""
+        what = ""
+        is_hard = definition.parameters and len(definition.members) > 2
+        if definition.is_enum and len(definition.variants) == 1 and (cycle or is_hard):
+            form = "that holds itself" if cycle else "with parameters and more than two fields"
+            what = f"an enum of one variant {form}: write it as a struct"
+        elif cycle and definition.parameters:
+            what = f"a type with parameters that holds itself: {BY_HAND}"
+        elif len(cycle) > 2 or (len(cycle) == 2 and any(each.is_enum for each in cycle)):
+            names = ", ".join(each.name for each in cycle)
+            what = f"the types {names} hold each other, and only two structs that do are written: {BY_HAND}"
+        elif len(cycle) == 2 and not definition.cycle:
+            what = "it holds a type that holds it: write `#[cycle(NAME)]` above both, with one name"
+        if what:
+            raise Fault(definition.at, what)
 
     # ---- what is written
-    def written(self) -> list[tuple[Definition, Written]]:
+    def writers(self) -> list[Writer]:
         """What is written for each type, in the order of the file."""
-        cycles, found = cycles_of(self.wanted, self.scope), []
-        for definition in self.wanted:
+        found, reach = [], {name: self.reached(name) for name in self.wanted}
+        for name, definition in self.wanted.items():
+            others = self.wanted if name in reach[name] else ()
+            cycle = [self.wanted[other] for other in others if other in reach[name] and name in reach[other]]
             try:
-                writer = self.writer(definition, cycles.get(definition.name, []))
-                found.append((definition, writer.write()))
+                self.check(definition, cycle)
+                found.append(Writer(self, definition, cycle))
             except Fault as fault:
-                self.fault(fault.line, f"{definition.name}: {fault.what}")
+                self.fault(fault.at, f"{name}: {fault.what}")
         return found
 
-    def writer(self, definition: Definition, names: list[str]) -> Writer:
-        if definition.names("type") and any(len(variant.members) > 13 for variant in definition.variants):
-            what = "more than 13 fields in a type with parameters, more than the checker takes"
-            raise Fault(definition.line, f"{what}: put some of them into a struct of their own")
-        is_hard = definition.parameters and len(definition.members) > 2
-        if definition.is_enum and len(definition.variants) == 1 and (names or is_hard):
-            what = "that holds itself" if names else "with parameters and more than two fields"
-            raise Fault(definition.line, f"an enum of one variant {what}: write it as a struct")
-        if not names:
-            return Writer(definition, self.scope, self.place, self.options.is_inline)
-        types = [each for each in self.wanted if each.name in names]
-        self.check_cycle(definition, types)
-        return LevelWriter(definition, Cycle(types, self.scope), self.place, self.options.is_inline)
+    def reached(self, name: str) -> set[str]:
+        """The types of the module that a type holds, at any depth."""
+        found: set[str] = set()
+        waiting = [name]
+        while waiting:
+            definition = self.wanted.get(waiting.pop())
+            for member in definition.members if definition else ():
+                kinds = self.scope.real(member.type).all()
+                more = {kind.name for kind in kinds if self.scope.own(kind)} - found
+                found |= more
+                waiting += more
+        return found
 
-    def check_cycle(self, definition: Definition, types: list[Definition]) -> None:
-        """Refuses the cycles that are not written."""
-        by_hand = 'write it by hand: "A type that holds itself" in docs/IMPLEMENTING.md'
-        if definition.parameters:
-            raise Fault(definition.line, f"a type with parameters that holds itself: {by_hand}")
-        if len(types) > 2 or (len(types) == 2 and any(each.is_enum for each in types)):
-            names = ", ".join(each.name for each in types)
-            raise Fault(definition.line, f"the types {names} hold each other, and only two structs that do are written: {by_hand}")
-        if len(types) == 2 and not definition.cycle:
-            raise Fault(definition.line, "it holds a type that holds it: write `#[cycle(NAME)]` above both, with one name")
-
-    def new_text(self, found: list[tuple[Definition, Written]]) -> str:
+    def new_text(self, found: list[Writer]) -> str:
         """The text of the module `shown`, or of the file with its pieces."""
-        if self.options.is_inline:
-            return self.with_pieces(found)
-        what = self.place.types[-1] if self.place.types else self.crate.name
-        head = f"//! What the types of `{what}` show. `bin/implement` of `allocative` wrote it.\n"
-        head += "#![tactic(auto, using(allocative::proofs::Parts::parts))]\n\n"
-        return head + self.imports([each for _, each in found]) + "\n" + "\n".join(self.noted(*each) for each in found)
+        texts = [self.notes.get(each.name, "") + each.text for each in found]
+        if self.is_inline:
+            return self.with_pieces(found, texts)
+        what = self.path[-1] if self.path else self.crate.name
+        head = f"//! What the types of `{what}` show. `bin/implement` of `allocative` wrote it."
+        return f"{head}\n#!{TACTIC}\n{self.imports(found)}\n" + "\n".join(texts)
 
-    def noted(self, definition: Definition, written: Written) -> str:
-        return "".join(self.notes.get(definition.name, [])) + written.text
-
-    def imports(self, found: list[Written]) -> str:
+    def imports(self, found: list[Writer]) -> str:
         """The imports of the text. In place, only of what the file does not import."""
-        used = Written("", set(), set())
-        for each in found:
-            for name in ("code", "ghost", "levels", "opened"):
-                getattr(used, name).update(getattr(each, name))
-        mine = self.module if self.options.is_inline else Module(0, 0)
-        lines = [f"ghost use Rattle.std.specs.Prelude.{{{', '.join(sorted(used.ghost - mine.ghost_uses))}}};\n"] if used.ghost - mine.ghost_uses else []
-        lines += ["ghost use Rattle.allocative.specs.Shows as shows;\n"] if "shows" not in mine.ghost_uses else []
-        levels = sorted(used.levels - mine.ghost_uses)
-        lines += [f"ghost use Rattle.allocative.specs.Levels.{{{', '.join(levels)}}};\n"] if levels else []
-        opened = [name for name in sorted(used.opened) if f"out-{name}" not in mine.ghost_uses]
-        lines += [f"ghost use {self.place.declared(name)}.{{out-{name}}};\n" for name in opened]
-        code = sorted(used.code - {name for name, path in mine.uses.items() if path[0] == "allocative"})
-        text = "".join(lines) + ("\n" if lines and (code or not self.options.is_inline) else "")
-        text += "" if self.options.is_inline else "use super::*;\n"
-        return text + (use_line(code) if code else "")
+        mine = self.module if self.is_inline else Module()
+        used = {"shows"}.union(*(each.used for each in found)) - mine.ghost_uses
+        used -= {name for name, path in mine.uses.items() if path[0] == "allocative"}
+        lists = [("Rattle.std.specs.Prelude", used & PRELUDE)]
+        lists += [("Rattle.allocative.specs.Shows", used & {"shows"})]
+        lists += [("Rattle.allocative.specs.Levels", used & LEVELS)]
+        opened = sorted(word for word in used if word.startswith("out-"))
+        lists += [(f"{self.declared_at}.{word[4:]}", {word}) for word in opened]
+        lines = [f"ghost use {path}.{{{', '.join(sorted(names))}}};\n" for path, names in lists if names]
+        text, code = "".join(lines).replace(".{shows}", " as shows"), use_line(sorted(used & CODE))
+        if self.is_inline:
+            return text + ("\n" if text and code else "") + code
+        return f"{text}\nuse super::*;\n{code}"
 
-    def with_pieces(self, found: list[tuple[Definition, Written]]) -> str:
-        """The file with a piece behind each type."""
+    def with_pieces(self, found: list[Writer], texts: list[str]) -> str:
+        """The file with a piece behind each type, and without those that were written before."""
+        edits, imports = [(*piece, "") for piece in self.pieces], self.imports(found)
+        for each, written in zip(found, texts):
+            end = self.line_end(each.definition)
+            piece = f"{BEGIN}\n{imports}{imports and chr(10)}{written}{END}"
+            edits.append((end, end, "\n" + textwrap.indent(piece, "    " * len(self.inner))))
+            imports = ""
         parts, at = [], 0
-        for number, (definition, written) in enumerate(found):
-            end = self.line_end(definition)
-            head = self.imports([each for _, each in found]) if number == 0 else ""
-            piece = f"{BEGIN}\n{head}{chr(10) if head else ''}{self.noted(definition, written)}{END}"
-            indent = "    " * len(self.options.module)
-            piece = "".join(f"\n{indent}{line}" if line else "\n" for line in piece.split("\n"))
-            parts += [self.clean[at:end], piece]
+        for start, end, new in sorted(edits):
+            parts += [self.text[at:start], new]
             at = end
-        return "".join(parts) + self.clean[at:]
+        return "".join(parts) + self.text[at:]
 
     def line_end(self, definition: Definition) -> int:
         """The end of the line on which a type ends, which has nothing more but a comment."""
-        end = self.clean.find("\n", definition.end)
-        end = len(self.clean) if end < 0 else end
-        rest = self.clean[definition.end : end].strip()
-        if rest and not rest.startswith("//"):
-            raise Fault(self.tokens.line_at(definition.end), f"{definition.name}: more stands behind it on its last line: write that on a line of its own")
-        return end
+        rest = LINE.match(self.text, definition.end)[0]
+        if rest.strip() and not rest.strip().startswith("//"):
+            what = "more stands behind it on its last line: write that on a line of its own"
+            raise Fault(definition.end, f"{definition.name}: {what}")
+        return definition.end + len(rest)
 
 
-def crate_of(path: str) -> tuple[str, tuple[str, ...]]:
+def crate_of(path: str) -> tuple[str, list[str]]:
     """The folder of the crate of a file, and the module that the file is."""
-    parts = os.path.realpath(path).split(os.sep)
+    parts = os.path.realpath(path).removesuffix(".rt").split(os.sep)
     if "src" not in parts[:-1]:
-        raise Fault(0, "the file does not stand in the folder src of a crate")
+        raise Fault(None, "the file does not stand in the folder src of a crate")
     at = len(parts) - 2 - parts[-2::-1].index("src")
-    inside = (*parts[at + 1 : -1], parts[-1].removesuffix(".rt"))
-    return os.sep.join(parts[:at]), () if inside in (("lib",), ("main",)) else inside
+    inside = parts[at + 1 :]
+    return os.sep.join(parts[:at]), [] if inside in (["lib"], ["main"]) else inside
 
 
-def pieces_of(tokens: Tokens, depth: int) -> list[tuple[int, int]]:
+def pieces_of(text: str, depth: int) -> list[tuple[int, int]]:
     """The pieces between marks, each from the end of the line before it to the end of its last mark."""
-    marks = [each for each in tokens.directives if each.depth == depth and each.is_line and each.says in ("begin", "end")]
+    said = Tokens(text).directives if BEGIN in text or END in text else []
+    marks = [each for each in said if each.says in ("begin", "end") and each.depth == depth and each.is_line]
     pieces = []
-    for number in range(0, len(marks), 2):
-        pair = marks[number : number + 2]
-        if [each.says for each in pair] != ["begin", "end"]:
-            raise Fault(tokens.line_at(pair[0].start), "this mark has no other, or was changed: remove the piece or mend its marks")
-        pieces.append((line_start(tokens.text, pair[0]), pair[1].end))
+    for first, last in zip(marks[::2], [*marks[1::2], None]):
+        if last is None or (first.says, last.says) != ("begin", "end"):
+            what = "this mark has no other, or was changed: remove the piece or mend its marks"
+            raise Fault(first.start, what)
+        pieces.append((max(text.rfind("\n", 0, first.start), 0), last.end))
     return pieces
 
 
-def line_start(text: str, mark: Directive) -> int:
-    """The end of the line before a mark."""
-    return max(text.rfind("\n", 0, mark.start), 0)
-
-
-def without(text: str, pieces: list[tuple[int, int]]) -> str:
-    """A text without some pieces."""
+def blank(text: str, pieces: list[tuple[int, int]]) -> str:
+    """A text with spaces in place of some pieces, on as many lines."""
     parts, at = [], 0
     for start, end in pieces:
-        parts.append(text[at:start])
+        parts += [text[at:start], LETTER.sub(" ", text[start:end])]
         at = end
     return "".join(parts) + text[at:]
 
 
 def use_line(names: list[str]) -> str:
     """The line that imports names of the library, cut as `rt fmt` does."""
-    line = f"use allocative::{{{', '.join(names)}}};\n" if len(names) > 1 else f"use allocative::{names[0]};\n"
+    if len(names) < 2:
+        return "".join(f"use allocative::{name};\n" for name in names)
+    line = f"use allocative::{{{', '.join(names)}}};\n"
     if len(line) <= WIDTH:
         return line
-    lines = [""]
-    for name in names:
-        if len(lines[-1]) + len(name) + 6 > WIDTH:
-            lines.append("")
-        lines[-1] += f"{' ' if lines[-1] else '    '}{name},"
-    return "use allocative::{\n" + "\n".join(lines) + "\n};\n"
+    indent = " " * 4
+    lines = textwrap.fill(f"{', '.join(names)},", WIDTH - 4, initial_indent=indent, subsequent_indent=indent)
+    return f"use allocative::{{\n{lines}\n}};\n"

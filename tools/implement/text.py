@@ -1,112 +1,105 @@
-"""The text of implementations."""
+"""The text of implementations, and the answers that their proofs need."""
 
 from __future__ import annotations
 
 import re
-from dataclasses import dataclass, field
-from functools import cache
+from typing import TYPE_CHECKING, Any, Callable, Iterator
 
-from .known import Scope, shown, stand_ins
-from .shapes import Definition, Member, Type, Variant, split_commas
+from .known import stand_ins
+from .tokens import Fault
+from .types import Definition, Member, Type, Variant, split, type_of
+
+if TYPE_CHECKING:
+    from .source import Source
 
 WIDTH = 100
 GROUP = 5
-LETTERS = "abcdefghijklmnopqrstuvw"
-RULES = "rules, parts"
-TACTIC = "#[tactic(auto, using(allocative::proofs::Parts::parts))]\n"
+INDENT = " " * 8
+EMPTY = type_of("()")
+Proof = tuple[str, str, str]
+LETTERS = [*"abcdefghijklmnopqrstuvw"]
+MARK = "-- Written by bin/implement."
 NAME = re.compile(r"[A-Za-z_]\w*")
 OWN = re.compile(r"(?:\bself::)?\b([A-Za-z_]\w*)")
-MAPS = {"BTreeMap": "btree_map_of", "HashMap": "hash_map_of"}
+CONTAINERS = {("Vec", 1): "vec_in", ("Option", 1): "option_in", ("Box", 1): "box_of"}
+CONTAINERS |= {("BTreeMap", 2): "btree_map_of", ("HashMap", 2): "hash_map_of"}
+LEVELS = {*CONTAINERS.values(), "both", "child", "field", "level_shows", "pair_in", "plain", "recursive"}
+LEVEL = re.compile(rf'(?<![\w."<])(?:{"|".join(sorted(LEVELS))})(?![\w.>"])|(?<=\()out-\w+')
 # Words of the written text, which a variant's constructor cannot be named by.
 CLAUSE_WORDS = {"codes", "true", "false", "elim", "where", "deriving", "record", "data", "open", "let", "in"}
+DESCRIBED = {"align": "usize", "needs_drop": "bool", "size": "Option<usize>"}
 
 
-@dataclass
-class Place:
-    """Where the text stands: the crate, the module of the types, and the module of the text itself."""
-
-    crate: str
-    types: tuple[str, ...]
-    text: tuple[str, ...]
-
-    def declared(self, name: str) -> str:
-        return ".".join(("Rattle", self.crate, "specs.declared", *self.types, name))
+def bound(names: list[str], room: int) -> list[str]:
+    """Names for the parts of fields: their own where these are names and short, else letters."""
+    is_plain = all(NAME.fullmatch(name) and name not in ("visitor", "self") for name in names)
+    if is_plain and len(", ".join(names)) <= room:
+        return names
+    return LETTERS[: len(names)] + [f"a{number}" for number in range(len(LETTERS), len(names))]
 
 
-@dataclass
-class Written:
-    """What is written for one type: the text behind it, the words that it uses, and the answers by their folder."""
-
-    text: str
-    code: set[str]
-    ghost: set[str]
-    levels: set[str] = field(default_factory=set)
-    opened: set[str] = field(default_factory=set)
-    answers: dict[str, str] = field(default_factory=dict)
-
-
-def letters(count: int) -> list[str]:
-    """Names for a number of things."""
-    return [LETTERS[number] if number < len(LETTERS) else f"a{number}" for number in range(count)]
-
-
-def nested(parts: list[str], outer: str, close: str = ")") -> str:
-    """Parts joined two by two to the right."""
-    if len(parts) == 1:
-        return parts[0]
-    return f"{outer}{parts[0]}, {nested(parts[1:], outer, close)}{close}"
-
-
-def flag(parts: list[str]) -> str:
-    """The flags of parts in a tuple."""
-    if len(parts) > GROUP:
-        return flag([f"({flag(group)})" for group in grouped(parts)])
-    if not parts:
-        return "true"
-    return parts[0] if len(parts) == 1 else f"{parts[0]} && ({flag(parts[1:])})"
-
-
-def both(words: list[str], word: str, indent: str) -> str:
-    """The word of parts in a tuple, a line for each."""
-    if len(words) == 1:
-        return f"({words[0]})"
-    return f"({word}{both_inside(words, word, indent)})"
-
-
-def both_inside(words: list[str], word: str, indent: str) -> str:
-    if len(words) == 2:
-        return f"\n{indent}({words[0]})\n{indent}({words[1]})"
-    return f"\n{indent}({words[0]}) ({word}{both_inside(words[1:], word, indent)})"
+def nested(kinds: list[Type], name: str = "") -> Type:
+    """Types joined two by two to the right, as `(u8, (u16, ()))`."""
+    *firsts, found = kinds
+    for kind in reversed(firsts):
+        text = f"{kind.text}, {found.text}"
+        found = Type("list", f"{name}<{text}>" if name else f"({text})", (), (kind, found))
+    return found
 
 
 def grouped(parts: list) -> list[list]:
-    """Parts in groups of five at most."""
     return [parts[at : at + GROUP] for at in range(0, len(parts), GROUP)]
 
 
+def joined(parts: list[Any], join: Callable[[list[Any]], Any]) -> Any:
+    """Parts joined in groups of five at most, and these in the same way."""
+    while len(parts) > GROUP:
+        parts = [join(group) for group in grouped(parts)]
+    return join(parts)
+
+
 def tuple_of(parts: list[str]) -> str:
-    """A part of parts, in groups where there are more than five."""
-    if len(parts) > GROUP:
-        return tuple_of([tuple_of(group) for group in grouped(parts)])
     return parts[0] if len(parts) == 1 else f"({', '.join(parts)})"
 
 
-class Writer:
-    """Writes the implementations of one type."""
+def in_angles(parts: list[str]) -> str:
+    return f"<{', '.join(parts)}>" if parts else ""
 
-    def __init__(self, definition: Definition, scope: Scope, place: Place, is_inline: bool, cycle: "Cycle | None" = None) -> None:
+
+def size_of(kind: str) -> str:
+    return f"⟦<{kind} as Described>⟧.size"
+
+
+def renamed(kind: Type, names: dict[str, str]) -> str:
+    """The text of a type with other names for some types."""
+    return OWN.sub(lambda found: names.get(found[1], found[0]), kind.text) if names else kind.text
+
+
+class Writer:
+    """Writes the implementations of one type. Of types that hold themselves the first shows levels.
+
+    `used` has the words of the text that have to be imported, and `answers` the answers by their folder.
+    """
+
+    def __init__(self, source: Source, definition: Definition, cycle: list[Definition]) -> None:
+        self.source = source
+        self.scope = source.scope
         self.definition = definition
-        self.scope = scope
-        self.place = place
         self.name = definition.name
-        self.cycle = cycle
-        self.tactic = TACTIC if is_inline else ""
-        self.parameters = definition.names("type")
-        self.lifetimes = definition.names("lifetime")
-        self.members = shown(definition)
-        self.out = Written("", {"Allocative", "Described", "Part", "Record", "Refusal", "Visitor"}, {"codes"})
-        self.layout_name = self.free("Layout")
-        self.flags = set().union(*(self.flags_of(member) for member in self.members))
+        self.types = definition.names("type")
+        self.members = definition.shown
+        self.cycle = [each.name for each in cycle]
+        self.is_level = self.cycle[:1] == [self.name]
+        self.nothing = "plain shows.Nothing" if self.is_level else "shows.Nothing"
+        self.is_borrowed = bool(definition.names("lifetime"))
+        self.layout = self.record = self.free("Layout")
+        self.declared_at = f"{source.declared_at}.{self.name}"
+        self.used = {"Allocative", "Described", "Part", "Record", "Refusal", "Visitor", "codes"}
+        self.answers: dict[str, str] = {}
+        members = [member for each in cycle or [definition] for member in each.shown]
+        self.flags = sorted(set().union(*map(self.flags_of, members)))
+        alias, described = self.alias(), "" if self.is_borrowed else self.described()
+        self.text = alias + described + (self.enumeration() if definition.is_enum else self.struct())
 
     def free(self, ending: str) -> str:
         """A name that the module does not use."""
@@ -115,374 +108,370 @@ class Writer:
             name += "Of"
         return name
 
-    # ---- parameters
-    def is_shown_whole(self, parameter: str) -> bool:
-        """Whether values of a parameter are shown."""
-        return any(holds(member.type, parameter) for member in self.members if member.is_whole)
-
-    def declared(self, more: str = "") -> str:
+    # ---- heads
+    def declared(self) -> str:
         """The parameters with their bounds, as an `impl` declares them."""
-        found = [more] if more else []
+        found = []
         for each in self.definition.parameters:
             bounds = [each.bounds] if each.bounds else []
             if each.kind == "type":
-                mine = ["Allocative", "Described"] if self.is_shown_whole(each.name) else ["Drop"]
-                bounds = [bound for bound in mine if bound not in each.bounds.split(" + ")] + bounds
+                is_shown = any(holds(member.type, each.name) for member in self.members if member.is_whole)
+                mine = ["Allocative", "Described"] if is_shown else ["Drop"]
+                bounds = [word for word in mine if word not in each.bounds.split(" + ")] + bounds
             name = f"const {each.name}" if each.kind == "const" else each.name
             found.append(f"{name}: {' + '.join(bounds)}" if bounds else name)
-        return f"<{', '.join(found)}>" if found else ""
+        return in_angles(found)
 
-    def applied(self, more: str = "") -> str:
-        """The parameters as arguments."""
-        names = ([more] if more else []) + [each.name for each in self.definition.parameters]
-        return f"<{', '.join(names)}>" if names else ""
-
-    def where(self, opening: str) -> str:
-        """A head with the conditions of the type, up to its brace."""
-        conditions = self.definition.where
-        if not conditions:
-            return opening + " {\n"
-        lines = "".join(f"    {each},\n" for each in split_commas(conditions))
-        return f"{opening}\nwhere\n{lines}{{\n"
-
-    def head(self, trait: str, target: str, more: str = "") -> str:
-        """The line `impl TRAIT for TYPE {`."""
-        declared = self.declared(more)
-        line = f"impl{declared} {trait} for {target}{self.applied(more)}"
-        if len(line) + 2 > WIDTH:
-            line = f"impl{declared} {trait}\n    for {target}{self.applied(more)}"
-        return self.where(line)
+    def head(self, trait: str) -> str:
+        """The head of an implementation, up to its brace."""
+        applied = in_angles([each.name for each in self.definition.parameters])
+        first, second = f"impl{self.declared()} {trait}", f"for {self.name}{applied}"
+        line = f"{first} {second}" if len(first) + len(second) + 3 <= WIDTH else f"{first}\n    {second}"
+        conditions = "".join(f"    {each},\n" for each in split(self.definition.where))
+        return f"{line}\nwhere\n{conditions}{{\n" if conditions else f"{line} {{\n"
 
     # ---- the layout
-    def layout(self) -> str:
-        """The type whose size, alignment and drop are those of this one."""
-        lists = [self.layout_of(variant) for variant in self.definition.variants]
-        if self.definition.is_enum and lists:
-            self.out.code |= {"Or"} if len(lists) > 1 else set()
-            lists = [f"(u8, {nested(lists, 'Or<', '>')})"]
-        return f"Record<{lists[0] if lists else '()'}>"
-
-    def layout_of(self, variant: Variant) -> str:
-        """The list of the types of a variant's fields."""
-        entries = [entry for member in variant.members for entry in self.entries(member)]
-        return nested([*entries, "()"], "(")
-
-    def entries(self, member: Member) -> list[str]:
-        is_known = not self.scope.reason(member.type, []) if member.is_skipped else member.size is None
-        if member.type.name == "PhantomData":
-            return []
-        return [self.without_self(member.type)] if is_known else list(stand_ins(member))
-
-    def without_self(self, kind: Type) -> str:
-        """The text of a type with `()` for each type that holds this one."""
-        names = self.cycle.names if self.cycle else []
-        return OWN.sub(lambda found: "()" if found.group(1) in names else found.group(), kind.text)
-
-    def layout_parameters(self, text: str) -> list[tuple[str, str]]:
-        """The parameters that a layout names: as they are declared, and as arguments."""
-        used = set(NAME.findall(text))
-        found = [each for each in self.definition.parameters if each.name in used]
-        return [(f"const {each.name}: {each.bounds}" if each.kind == "const" else each.name, each.name) for each in found]
-
     def alias(self) -> str:
-        """The line of the layout. Sets the names by which it is asked."""
-        layout = self.layout()
-        pairs = self.layout_parameters(layout)
-        self.record = self.layout_name + (f"<{', '.join(name for _, name in pairs)}>" if pairs else "")
-        declared = f"<{', '.join(text for text, _ in pairs)}>" if pairs else ""
-        head = f"type {self.layout_name}{declared} = "
+        """The line of the layout, the type whose size, alignment and drop are those of this one."""
+        lists = [self.fields(variant) for variant in self.definition.variants] or [EMPTY]
+        if self.definition.is_enum and self.definition.variants:
+            lists = [nested([type_of("u8"), nested(lists, "Or")])]
+        layout = Type("path", f"Record<{lists[0].text}>", (), (lists[0],))
+        self.used |= {word for word in ("And", "Or") if f"{word}<" in layout.text}
+        names = set(NAME.findall(layout.text))
+        used = [each for each in self.definition.parameters if each.name in names]
+        self.record = self.layout + in_angles([each.name for each in used])
+        declared = [f"const {each.name}: {each.bounds}".removesuffix(": ") for each in used]
+        declared = [text if each.kind == "const" else each.name for each, text in zip(used, declared)]
+        head = f"type {self.layout}{in_angles(declared)} = "
         return f"{head}{laid(layout, 0, WIDTH - len(head) - 1)};\n\n"
 
-    def ghost(self, kind: str, word: str) -> str:
-        return f"⟦<{kind} as Described>⟧.{word}"
+    def fields(self, variant: Variant) -> Type:
+        """The types of a variant's fields, in lists of five at most."""
+        groups = grouped([*self.entries(variant)]) or [[]]
+        return joined([nested([*group, EMPTY]) for group in groups], lambda lists: nested(lists, "And"))
 
-    @property
-    def size(self) -> str:
-        return self.ghost(self.record, "size")
+    def entries(self, variant: Variant) -> Iterator[Type]:
+        """The types of a variant's fields, with `()` in place of the types that hold this one."""
+        for member in variant.members:
+            is_known = not self.scope.reason(member.type, ()) if member.is_skipped else member.size is None
+            if member.type.name != "PhantomData":
+                nothing = dict.fromkeys(self.cycle, "()")
+                yield from map(type_of, [renamed(member.type, nothing)] if is_known else stand_ins(member))
 
     def described(self) -> str:
         """The implementation of `Described`."""
-        functions = (("align", "usize"), ("needs_drop", "bool"), ("size", "Option<usize>"))
-        text = self.head("Described", self.name) + f'    ghost name = {{ codes "{self.name}" }};\n\n'
-        text += "".join(f"    ghost {name} = {{ {self.ghost(self.record, name)} }};\n\n" for name, _ in functions)
+        text = self.head("Described") + f'    ghost name = {{ codes "{self.name}" }};\n\n'
+        record = self.record
+        for word in DESCRIBED:
+            text += f"    ghost {word} = {{ ⟦<{record} as Described>⟧.{word} }};\n\n"
         text += f"    fn name() -> &'static str {{\n        \"{self.name}\"\n    }}\n"
-        for name, kind in functions:
-            text += f"\n    fn {name}() -> {kind} {{\n        <{self.record}>::{name}()\n    }}\n"
+        for word, kind in DESCRIBED.items():
+            text += f"\n    fn {word}() -> {kind} {{\n        <{record}>::{word}()\n    }}\n"
         return text + "}\n\n"
 
-    # ---- parts
-    def flags_of(self, member: Member) -> set[str]:
-        if member.size is not None:
-            return set()
-        found = self.scope.flags(member.type, self.parameters)
-        return {each for each in found if not (self.cycle and self.cycle.is_flag(each))}
+    # ---- what is shown
+    def implementation(self, inside: str, body: str, use: str = "") -> str:
+        """The implementation of `Allocative`, from what a value shows inside and the body of its visit."""
+        entry = f'(codes "{self.name}") {size_of(self.record)}{inside}'
+        text = f"recursive (λ x. field {entry})" if self.is_level else f"λ x. shows.Field {entry}"
+        self.used |= set(LEVEL.findall(text)) if self.cycle else set()
+        cycle = f"    #[cycle({self.definition.cycle})]\n" if self.definition.cycle else ""
+        return (
+            f"{self.source.tactic}{self.head('Allocative')}{use}"
+            f"    ghost may_show = {{ {text} }};\n\n{self.is_exact()}{cycle}"
+            f"    fn visit(&self, visitor: &mut Visitor<'_>) -> Result<(), Refusal> {{\n{body}    }}\n}}\n"
+        )
 
-    def exact_of(self, member: Member) -> str:
-        return "true" if member.size is not None else f"⟦<{member.type.text} as Allocative>⟧.is_exact"
+    def inside(self, words: list[str], indent: str = INDENT) -> str:
+        """What parts in a tuple show, a line for each."""
+        word = "both" if self.is_level else "shows.Both"
 
-    def is_exact(self, members: list[Member]) -> str:
-        """The line of the flag of a part with some fields."""
-        text = "true"
-        if self.flags and self.definition.is_enum:
-            text = flag(sorted(self.flags))
-        elif self.flags:
-            text = flag([self.exact_of(member) for member in members])
-        self.out.ghost |= {word for word in ("true", "◌&&◌") if word.strip("◌") in text}
-        return f"    ghost is_exact = {{ {text} }};\n\n"
+        def both(words: list[str]) -> str:
+            lines = [f"\n{indent}({each})" for each in words]
+            text = f" ({word}".join(lines[:-1]) + lines[-1] + ")" * (len(lines) - 2)
+            return word + text if len(words) > 1 else words[0]
+
+        return joined(words, both) if words else self.nothing
 
     def word(self, member: Member, key: str, value: str) -> str:
-        """What a field may show."""
-        if member.size is not None:
-            return f'shows.Inside (codes "{key}") {member.size} shows.Nothing'
+        """What a field shows: in a type that shows levels, as a level."""
         kind = member.type.text
-        return f'shows.Field (codes "{key}") {self.ghost(kind, "size")} (⟦<{kind} as Allocative>⟧.may_show {value})'
+        if member.size is None and self.holds_cycle(member.type):
+            level, size = self.level(member, member.type, value), self.size_in(member.type)
+            if self.is_level:
+                return f'field (codes "{key}") {size} ({level})'
+            level = f"level_shows ⟦<{self.cycle[0]} as Allocative>⟧.may_show ({level})"
+            return f'shows.Field (codes "{key}") {size} ({level})'
+        text = f'shows.Field (codes "{key}") {size_of(kind)} (⟦<{kind} as Allocative>⟧.may_show {value})'
+        if member.size is not None:
+            text = f'shows.Inside (codes "{key}") {member.size} shows.Nothing'
+        return f"plain ({text})" if self.is_level else text
 
+    def words(self, members: list[Member], value: str) -> list[str]:
+        """What the fields of a struct show."""
+        return [self.word(member, member.name, f"{value}.{member.name}") for member in members]
+
+    def flags_of(self, member: Member) -> set[str]:
+        """The flags on which it depends whether the entry of a field is exact."""
+        found = self.scope.flags(member.type, self.types) if member.size is None else set()
+        return {each for each in found if not set(self.cycle) & set(NAME.findall(each))}
+
+    def is_exact(self) -> str:
+        """The line of the flag, or nothing where it is not known."""
+        flags = self.flags
+        if flags and self.cycle:
+            return ""
+        if flags and not self.definition.is_enum:
+            kinds = [member.type.text if member.size is None else "" for member in self.members]
+            flags = [f"⟦<{kind} as Allocative>⟧.is_exact" if kind else "true" for kind in kinds]
+        while len(flags) > GROUP:
+            flags = [f"({flag(group)})" for group in grouped(flags)]
+        text = flag(flags) if flags else "true"
+        self.used |= {word for word in ("true", "◌&&◌") if word.strip("◌") in text}
+        return f"    ghost is_exact = {{ {text} }};\n\n"
+
+    # ---- levels of a type that holds itself
+    def holds_cycle(self, kind: Type) -> bool:
+        """Whether a type names one of the cycle."""
+        kinds = self.scope.real(kind).all() if self.cycle else ()
+        return any(each.name in self.cycle and self.scope.own(each) for each in kinds)
+
+    def size_in(self, kind: Type) -> str:
+        """The declared size of a type, with the layout in place of each type of the cycle."""
+        ending = self.layout.removeprefix(self.name)
+        return size_of(renamed(kind, {name: name + ending for name in self.cycle}))
+
+    def level(self, member: Member, kind: Type, value: str) -> str:
+        """The level of a value of a type, which stands in a field."""
+        kind = self.scope.real(kind)
+        if not self.holds_cycle(kind):
+            return f"plain (⟦<{kind.text} as Allocative>⟧.may_show {value})"
+        if kind.name not in self.cycle or kind.parts:
+            return self.container(member, kind, value)
+        if kind.name == self.cycle[0]:
+            return f"child {value}"
+        words = self.words(self.scope.module.types[kind.name].shown, f"(out-{kind.name} {value})")
+        return f'field (codes "{kind.name}") {self.size_in(kind)} ({self.inside(words)})'
+
+    def container(self, member: Member, kind: Type, value: str) -> str:
+        """The level of a container that holds a type of the cycle."""
+        word = CONTAINERS.get((kind.name, len(kind.parts)), "")
+        if not word or any(map(self.holds_cycle, kind.parts[:-1])):
+            what = "in a way that is not written: use `Vec`, `Box`, `Option`, `BTreeMap` or `HashMap`"
+            raise Fault(member.at, f"`{kind.text}` holds the type itself {what}")
+        if word == "box_of":
+            return f"box_of ({self.level(member, kind.parts[0], f'{value}.value')})"
+        level, size = self.level(member, kind.parts[-1], "y"), self.size_in(kind.parts[-1])
+        each = "child" if level == "child y" else f"(λ y. {level})"
+        if len(kind.parts) == 2:
+            key = kind.parts[0].text
+            pair = f"pair_in {size_of(key)} ⟦<{key} as Allocative>⟧.may_show {size} {each}"
+            return f"{word} ({pair}) {value}.entries"
+        own_size = f" {self.size_in(kind)}" if word == "option_in" else ""
+        return f"{word}{own_size} {size} {each} {value}"
+
+    # ---- visits
     def part(self, member: Member, key: str, name: str, value: str) -> str:
         """The line that makes the part of a field."""
-        if member.size is None:
-            self.out.code.add("Field")
-            return f'let {name} = Field("{key}", {value});\n'
-        self.out.code.add("Inside")
-        return f'let {name} = Inside("{key}", {member.size}, ());\n'
+        self.used.add("Field" if member.size is None else "Inside")
+        part = f'Field("{key}", {value})' if member.size is None else f'Inside("{key}", {member.size}, ())'
+        return f"let {name} = {part};\n"
 
     def enter(self, parts: list[str], names: list[str], indent: str) -> str:
         """The lines that make the parts and enter them under the type's own entry."""
-        inside = tuple_of(names) if names else "()"
-        if self.lifetimes or self.cycle:
-            self.out.code.add("Declared")
-            call = entered("Declared", [f'"{self.name}"', f"<{self.record}>::size()", inside], indent)
-        else:
-            self.out.code.add("Whole")
-            call = entered("Whole", ["self", inside], indent)
-        return "".join(indent + part for part in parts) + f"{indent}{call}\n"
-
-    def visit(self, body: str) -> str:
-        cycle = f"    #[cycle({self.definition.cycle})]\n" if self.definition.cycle else ""
-        return f"{cycle}    fn visit(&self, visitor: &mut Visitor<'_>) -> Result<(), Refusal> {{\n{body}    }}\n}}\n"
-
-    def own_entry(self, inside: str) -> str:
-        return f'shows.Field (codes "{self.name}") {self.size}{inside}'
+        inside = joined(names, tuple_of) if names else "()"
+        word, arguments = "Whole", ["self", inside]
+        if self.is_borrowed or self.cycle:
+            word, arguments = "Declared", [f'"{self.name}"', f"<{self.record}>::size()", inside]
+        self.used.add(word)
+        return "".join(indent + part for part in parts) + f"{indent}{entered(word, arguments, indent)}\n"
 
     # ---- structs
     def struct(self) -> str:
-        text = self.tactic + self.head("Allocative", self.name)
-        members, more = self.members, ""
-        if len(members) > GROUP:
-            words, parts, names, more = self.groups()
-        else:
-            names = self.names(members)
-            words = [self.word(member, member.name, f"x.{member.name}") for member in members]
-            parts = [self.part(member, member.name, name, f"&self.{member.name}") for member, name in zip(members, names)]
-        inside = f" {nested_words(words)}" if words else " shows.Nothing"
-        inside = inside if len(words) > 1 else "\n       " + inside
-        text += f"    ghost may_show = {{ λ x. {self.own_entry(inside)} }};\n\n" + self.is_exact(members)
-        text += self.visit(self.enter(parts, names, " " * 8))
-        if self.lifetimes:
-            self.answer("visit", ["returns"], RULES)
-        return text + more
-
-    def names(self, members: list[Member]) -> list[str]:
-        """Names for the parts of some fields."""
-        is_plain = all(NAME.fullmatch(member.name) and member.name not in ("visitor", "self") for member in members)
-        names = [member.name for member in members]
-        if not is_plain or len(", ".join(names)) > 52:
-            return letters(len(members))
-        return names
-
-    def groups(self) -> tuple[list[str], list[str], list[str], str]:
-        """The words, lines and names of parts of five fields each, and the text of these parts."""
-        words, parts, names, more = [], [], [], ""
-        for number, members in enumerate(grouped(self.members), 1):
-            kind = self.free(f"Part{number}")
-            inside = [self.word(member, member.name, f"x.{member.name}") for member in members]
-            words.append(nested_words(inside)[1:-1])
-            parts.append(f"let part{number} = {kind}(self);\n")
-            names.append(f"part{number}")
-            more += self.group(kind, members)
-        return words, parts, names, more
-
-    def group(self, kind: str, members: list[Member]) -> str:
-        """A part of some fields of a struct."""
-        names = self.names(members)
-        words = [self.word(member, member.name, f"x.0.now.{member.name}") for member in members]
-        lines = [self.part(member, member.name, name, f"&self.0.{member.name}") for member, name in zip(members, names)]
-        where = f" where {self.definition.where}" if self.definition.where else ""
-        text = f"\n#[derive(Drop)]\nstruct {kind}{self.declared(chr(39) + 'part')}(&'part {self.name}{self.applied()}){where};\n\n"
-        text += self.tactic + self.head("Part", kind, "'part")
-        text += f"    ghost may_show = {{ λ x. {nested_words(words)[1:-1]} }};\n\n" + self.is_exact(members)
-        text += "    fn enter(self, visitor: &mut Visitor<'_>) -> Result<(), Refusal> {\n"
-        text += "".join(" " * 8 + line for line in lines)
-        return text + f"        {tuple_of(names)}.enter(visitor)\n    }}\n}}\n"
+        names = bound([member.name for member in self.members], 52)
+        words = self.words(self.members, f"(out-{self.name} x)" if self.cycle else "x")
+        pairs = zip(self.members, names)
+        parts = [self.part(each, each.name, name, f"&self.{each.name}") for each, name in pairs]
+        inside = f"({self.inside(words)})" if words or self.is_level else self.nothing
+        gap = " " if len(words) > 1 or self.cycle else f"\n{INDENT}"
+        self.struct_answer()
+        return self.implementation(gap + inside, self.enter(parts, names, INDENT))
 
     # ---- enums
     def enumeration(self) -> str:
-        text = self.tactic + self.head("Allocative", self.name)
-        cases = [self.case(variant) for variant in self.definition.variants]
-        listed = ", ".join(name if name == variant.name else f"{variant.name} as {name}" for variant, name in zip(self.definition.variants, cases))
-        text += f"    ghost use {self.place.declared(self.name)}.TheVariants.{{{listed}}};\n\n"
-        arms = "".join(self.word_arm(variant, name) for variant, name in zip(self.definition.variants, cases))
-        text += f"    ghost may_show = {{ λ x. {self.own_entry(f' (elim x [{chr(10)}{arms}    ])')} }};\n\n" + self.is_exact(self.members)
-        rules = RULES + (", exact" if self.parameters and self.flags else "")
-        if len(cases) == 1 and self.members and not self.definition.parameters:
-            self.single_answer(self.definition.variants[0], cases[0])
-        elif len(cases) > 1:
-            self.answer("visit", [f"returns-in-{variant.name}" for variant in self.definition.variants], rules)
-        return text + self.visit(self.arms())
+        variants = self.definition.variants
+        if self.is_level:
+            self.refuse_parts()
+            cases = [f"{self.name}-F.{variant.name}" for variant in variants]
+            opened, listed, value = "TheOpen", [f"{self.name}-F"], f"(out-{self.name} x)"
+        else:
+            cases = [variant.name + ("Case" if variant.name in CLAUSE_WORDS else "") for variant in variants]
+            pairs = zip([variant.name for variant in variants], cases)
+            opened, value = "TheVariants", "x"
+            listed = [case if case == name else f"{name} as {case}" for name, case in pairs]
+        arms = "".join(map(self.word_arm, variants, cases))
+        use = f"    ghost use {self.declared_at}.{opened}.{{{', '.join(listed)}}};\n\n"
+        body = f"{INDENT}match self {{\n{''.join(map(self.code_arm, variants))}{INDENT}}}\n"
+        self.enum_answers(cases, listed)
+        return self.implementation(f" (elim {value} [\n{arms}    ])", body, use)
 
-    def arms(self) -> str:
-        """The body of a visit, a case for each variant."""
-        return "        match self {\n" + "".join(self.code_arm(variant) for variant in self.definition.variants) + "        }\n"
+    def refuse_parts(self) -> None:
+        """Refuses the fields that an enum that holds itself cannot have."""
+        for member in self.definition.members:
+            if not member.is_whole:
+                what = "of an enum that holds itself is not shown whole: put it into a struct"
+                raise Fault(member.at, f"the field {member.name} {what}")
 
-    def arm_word(self, member: Member, key: str, value: str) -> str:
-        return self.word(member, key, value)
-
-    def joined(self, words: list[str], indent: str) -> str:
-        """The words of a variant's fields."""
-        return nested_words(words, indent)[1:-1] if words else "shows.Nothing"
-
-    def case(self, variant: Variant) -> str:
-        """The name of a variant in clauses."""
-        return f"{variant.name}Case" if variant.name in CLAUSE_WORDS else variant.name
-
-    def bound(self, variant: Variant) -> list[str]:
-        """Names for the fields of a variant."""
-        names = [member.name for member in variant.members]
-        if variant.is_named and not {"visitor", "self"} & set(names) and len(", ".join(names)) <= 44:
-            return names
-        return letters(len(names))
-
-    def keys(self, variant: Variant) -> list[str]:
-        """The keys of a variant's fields: an unnamed one that stands alone has the variant's name."""
-        if not variant.is_named and len(variant.members) == 1:
-            return [variant.name]
-        return [member.name for member in variant.members]
+    def kept(self, variant: Variant, names: list[str]) -> list[tuple[Member, str, str]]:
+        """The fields that a variant shows, with keys and names. The key of a single unnamed one is the variant's."""
+        keys = [variant.name] if not variant.is_named and len(variant.members) == 1 else variant.names
+        return [each for each in zip(variant.members, keys, names) if not each[0].is_skipped]
 
     def word_arm(self, variant: Variant, case: str) -> str:
-        bound = letters(len(variant.members))
-        words = [
-            self.arm_word(member, key, letter)
-            for member, key, letter in zip(variant.members, self.keys(variant), bound)
-            if not member.is_skipped
-        ]
-        return f"      | {' '.join([case, *bound])} ↦ {self.joined(words, ' ' * 10)}\n"
+        letters = bound([""] * len(variant.members), 0)
+        words = [self.word(*each) for each in self.kept(variant, letters)]
+        return f"      | {' '.join([case, *letters])} ↦ {self.inside(words, ' ' * 10)}\n"
 
     def code_arm(self, variant: Variant) -> str:
-        bound, indent = self.bound(variant), " " * 12
-        kept = [
-            (member, key, name)
-            for member, key, name in zip(variant.members, self.keys(variant), bound)
-            if not member.is_skipped
-        ]
-        pattern = f"{self.name}::{variant.name}{pattern_of(variant, bound)}"
+        names, indent = bound(variant.names, 44), " " * 12
+        pattern = f"{indent}{self.name}::{variant.name}{pattern_of(variant, names)}"
+        kept = self.kept(variant, names)
         if not kept:
-            return f"{indent}{pattern} => {self.enter([], [], '').rstrip()},\n"
-        names = [name for _, _, name in kept]
+            return f"{pattern} => {self.enter([], [], '').rstrip()},\n"
         parts = [self.part(member, key, name, name) for member, key, name in kept]
-        return f"{indent}{pattern} => {{\n{self.enter(parts, names, ' ' * 16)}{indent}}}\n"
+        return f"{pattern} => {{\n{self.enter(parts, [name for _, _, name in kept], ' ' * 16)}{indent}}}\n"
 
     # ---- answers
-    def answer(self, function: str, goals: list[str], rules: str) -> None:
-        """The file that closes the goals of a visit."""
-        path = (*self.place.text, f"{self.name}Allocative", function)
-        given = "g c" if self.parameters or self.definition.names("const") else "c"
-        given = f"t {given}" if function.startswith("+") else given
-        proofs = []
-        for goal in goals:
-            case = goal.removeprefix("returns").replace("-in-", "in-", 1)
-            proofs.append((goal, given, f"rw c.{case}.is (search ({rules}))" if case else f"search ({rules})"))
-        self.answer_file(path, rules, proofs)
+    def struct_answer(self) -> None:
+        """The answer of a struct that has a lifetime, or holds itself."""
+        cycle = self.definition.cycle
+        if self.is_borrowed:
+            self.answer("visit", [("returns", self.given(), "search ({})")])
+        elif self.is_level and not self.flags:
+            goal = f"{self.name}Allocative::visit-returns" if cycle else "returns"
+            self.answer(f"+{cycle}" if cycle else "+visit", [(goal, "t c", "search ({})")])
 
-    def single_answer(self, variant: Variant, case: str) -> None:
+    def given(self) -> str:
+        """What the goals of a visit are given."""
+        return "g c" if self.types or self.definition.names("const") else "c"
+
+    def enum_answers(self, cases: list[str], listed: list[str]) -> None:
+        """The answers of an enum: for each variant one."""
+        names, given = [variant.name for variant in self.definition.variants], self.given()
+        if self.is_level:
+            self.level_answers()
+        elif len(cases) > 1:
+            proofs = [(f"returns-in-{name}", given, f"rw c.in-{name}.is (search ({{}}))") for name in names]
+            self.answer("visit", proofs, ", exact" if self.types and self.flags else "")
+        elif cases and self.members and not self.definition.parameters:
+            self.single_answer(cases[0], listed[0])
+
+    def single_answer(self, case: str, listed: str) -> None:
         """The answer for an enum of one variant, which states that each value is of that variant."""
-        names = letters(len(variant.members))
+        names = bound([""] * len(self.definition.members), 0)
+        value, some = " ".join([case, *names]), "".join(f"({name} : _) × " for name in names)
         uses = "use Rattle.allocative.proofs.Meaning.{visited_as}\n"
-        uses += f"use {self.place.declared(self.name)}.{{{self.name}}}\n"
-        uses += f"use {self.place.declared(self.name)}.TheVariants.{{{variant.name if case == variant.name else f'{variant.name} as {case}'}}}\n"
-        lemma = f"is-{case} : (x : {self.name}) → {' × '.join(f'({name} : _)' for name in names)} × (x ≡ {case} {' '.join(names)})\n"
-        lemma += f"is-{case} ({case} {' '.join(names)}) = ({', '.join(names)}, refl)\n"
+        uses += f"use {self.declared_at}.{{{self.name}}}\nuse {self.declared_at}.TheVariants.{{{listed}}}\n"
+        lemma = f"\nis-{case} : (x : {self.name}) → {some}(x ≡ {value})\n"
+        lemma += f"is-{case} ({value}) = ({', '.join(names)}, refl)\n"
         proof = f"\n    let is = (is-{case} c.args.self.now).{len(names)} in\n"
-        proof += f"    rw is (visited_as (rw is at c.enter.ensures) (search ({RULES})))"
-        path = (*self.place.text, f"{self.name}Allocative", "visit")
-        self.answer_file(path, RULES, [("returns", "c", proof)], uses, "◌≡◌, refl, rules", lemma)
+        proof += "    rw is (visited_as (rw is at c.enter.ensures) (search ({})))"
+        self.answer("visit", [("returns", "c", proof)], "", uses, "◌≡◌, refl, rules", lemma)
 
-    def answer_file(
-        self, path: tuple[str, ...], rules: str, proofs: list[tuple[str, str, str]], uses: str = "", common: str = "rules", lemma: str = ""
+    def level_answers(self) -> None:
+        """The answers for an enum that holds itself: its level at each variant, by the type's equations."""
+        name, more = self.name, ", entered_loosely" if self.flags else ""
+        uses = f"use {self.declared_at}.{{out-{name}, the_lemmas}}\n"
+        uses += f"use {self.declared_at}.TheOpen.{{{name}-F}}\n"
+        uses += "use Rattle.allocative.proofs.Levels.{means_recursive}\n"
+        uses += f"use Rattle.allocative.proofs.Meaning.{{visited_as{more}}}\n"
+        proofs = []
+        for number, variant in enumerate(self.definition.variants):
+            case, names = f"in-{variant.name}", bound(variant.names, 44)
+            value = " ".join([f"{name}-F.{variant.name}", *(f"c.{case}.{each}" for each in names)])
+            entered = f"c.enter-{case}.ensures" if number else "c.enter.ensures"
+            entered = f"(entered_loosely {entered})" if self.flags else entered
+            proof = f"\n    let e : out-{name} c.args.self.now ≡ {value} = search (rules, the_lemmas) in\n"
+            proof += f"    visited_as {entered} (means_recursive (rw e (search ({{}}))))"
+            proofs.append((f"returns-{case}", "t c", proof))
+        self.answer("+visit", proofs, "", uses, "◌≡◌, rules")
+
+    def answer(
+        self,
+        folder: str,
+        proofs: list[Proof],
+        more: str = "",
+        uses: str = "",
+        common: str = "rules",
+        lemma: str = "",
     ) -> None:
-        """Keeps the file of a folder of proofs: each goal, what it is given, and what proves it."""
+        """Keeps the file of a folder of proofs: each goal, what it is given, and what proves it by rules."""
+        own = () if self.definition.cycle and folder.startswith("+") else (f"{self.name}Allocative",)
+        path = (*self.source.text_at, *own, folder)
+        goals = ".".join(("Rattle", self.source.crate.name, "proofs", *path, "Goals"))
         text = f"{MARK}\nuse Rattle.std.proofs.Common.{{{common}}}\n{uses}"
-        text += f"use Rattle.allocative.proofs.Parts.{{{rules.removeprefix('rules, ')}}}\n"
-        text += f"use {'.'.join(('Rattle', self.place.crate, 'proofs', *path, 'Goals'))} as goal\n"
-        text += f"\n{lemma}" if lemma else ""
+        text += f"use Rattle.allocative.proofs.Parts.{{parts{more}}}\nuse {goals} as goal\n{lemma}"
         for goal, given, proof in proofs:
-            text += f"\npub {goal} : goal.{goal}\n{goal} {given} ={'' if proof.startswith(chr(10)) else ' '}{proof}\n"
-        self.out.answers["/".join(path)] = text
-
-    def write(self) -> Written:
-        alias = self.alias()
-        described = "" if self.lifetimes else self.described()
-        body = self.enumeration() if self.definition.is_enum else self.struct()
-        self.out.text = alias + described + body
-        return self.out
+            space = "" if proof.startswith("\n") else " "
+            proof = proof.format(f"rules, parts{more}")
+            text += f"\npub {goal} : goal.{goal}\n{goal} {given} ={space}{proof}\n"
+        self.answers["/".join(path)] = text
 
 
-MARK = "-- Written by bin/implement."
-
-
-def nested_words(words: list[str], indent: str = " " * 8) -> str:
-    """The words of parts, in groups where there are more than five."""
-    if len(words) > GROUP:
-        return nested_words([nested_words(group, indent)[1:-1] for group in grouped(words)], indent)
-    return both(words, "shows.Both", indent)
+def flag(parts: list[str]) -> str:
+    """The flags of parts in a tuple."""
+    return " && (".join(parts) + ")" * (len(parts) - 1)
 
 
 def holds(kind: Type, parameter: str) -> bool:
     """Whether values of a parameter stand in those of a type."""
-    return kind.name != "PhantomData" and (kind.path == (parameter,) or any(holds(part, parameter) for part in kind.parts))
+    if kind.name == "PhantomData":
+        return False
+    return kind.path == (parameter,) or any(holds(part, parameter) for part in kind.parts)
 
 
-def pattern_of(variant: Variant, bound: list[str]) -> str:
+def pattern_of(variant: Variant, names: list[str]) -> str:
     """What stands behind a variant's name in a pattern."""
-    if not variant.members:
-        return "" if not variant.is_named else " {}"
+    pairs = list(zip(variant.members, names))
     if not variant.is_named:
-        return "(" + ", ".join(name if m.is_whole else "_" for m, name in zip(variant.members, bound)) + ")"
-    kept = [(m.name, name) for m, name in zip(variant.members, bound) if m.is_whole]
-    fields = [name if key == name else f"{key}: {name}" for key, name in kept]
-    fields += [".."] if len(kept) < len(variant.members) else []
+        return f"({', '.join(name if each.is_whole else '_' for each, name in pairs)})" if pairs else ""
+    fields = [name if each.name == name else f"{each.name}: {name}" for each, name in pairs if each.is_whole]
+    fields += [".."] if len(fields) < len(pairs) else []
     line = ", ".join(fields)
     if len(line) <= 18:
-        return f" {{ {line} }}"
-    return " {\n" + "".join(f"{' ' * 16}{each}{'' if each == '..' else ','}\n" for each in fields) + " " * 12 + "}"
+        return f" {{ {line} }}" if pairs else " {}"
+    lines = "".join(f"{' ' * 16}{each}{'' if each == '..' else ','}\n" for each in fields)
+    return f" {{\n{lines}{' ' * 12}}}"
 
 
-def type_parts(text: str) -> list[str]:
-    """The parts of a tuple, or the arguments of a type."""
-    return split_commas(text[text.find("(<"[text[0] != "("]) + 1 : -1])
-
-
-@cache
-def is_short(text: str) -> bool:
+# ---- lines as `rt fmt` lays them out
+def is_short(kind: Type) -> bool:
     """Whether a type may stand on one line: its tuples have at most 60 letters between their parentheses."""
-    if not text.endswith((")", ">")) or len(text) <= 2:
-        return True
-    return (text[0] != "(" or len(text) <= 62) and all(is_short(part) for part in type_parts(text))
+    if kind.text.startswith("(") and len(kind.text) > 62:
+        return False
+    return not kind.text.endswith((")", ">")) or all(map(is_short, kind.parts))
 
 
-def laid(text: str, indent: int, room: int) -> str:
-    """A type as `rt fmt` lays it out, where its first line has some room."""
-    if len(text) <= room and (len(text) <= 60 or is_short(text)) or not text.endswith((")", ">")) or len(text) <= 2:
+def laid(kind: Type, indent: int, room: int) -> str:
+    """A type, where its first line has some room."""
+    text = kind.text
+    is_whole = len(text) <= room and (len(text) <= 60 or is_short(kind))
+    if is_whole or not text.endswith((")", ">")) or not kind.parts:
         return text
-    head = text[: text.find("(<"[text[0] != "("]) + 1]
-    lines = "".join(f"{' ' * (indent + 4)}{laid(part, indent + 4, WIDTH - indent - 5)},\n" for part in type_parts(text))
+    head = text[: text.find("(" if text[0] == "(" else "<") + 1]
+    parts = (kind.parts[0] if kind.form == "reference" else kind).parts
+    lines = "".join(f"{' ' * (indent + 4)}{laid(part, indent + 4, WIDTH - indent - 5)},\n" for part in parts)
     return f"{head}\n{lines}{' ' * indent}{text[-1]}"
 
 
 def entered(name: str, arguments: list[str], indent: str) -> str:
-    """The call that enters a part, as `rt fmt` lays it out."""
+    """The call that enters a part."""
     line = f"{name}({', '.join(arguments)}).enter("
     if len(", ".join(arguments)) <= 60 and len(indent) + len(line) <= WIDTH:
         is_short_enough = len(indent) + len(line) + len("visitor)") <= WIDTH
         return f"{line}visitor)" if is_short_enough else f"{line}\n{indent}    visitor,\n{indent})"
-    room = WIDTH - len(indent) - 5
-    lines = "".join(f"{indent}    {laid(each, len(indent) + 4, room) if each[0] == '(' else each},\n" for each in arguments)
+    *firsts, last = arguments
+    last = laid(type_of(last), len(indent) + 4, WIDTH - len(indent) - 5)
+    lines = "".join(f"{indent}    {each},\n" for each in (*firsts, last))
     return f"{name}(\n{lines}{indent})\n{indent}.enter(visitor)"

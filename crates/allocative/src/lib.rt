@@ -36,8 +36,8 @@ pub use crate::sum_of_two::profile_in_two;
 pub use crate::visitor::Visitor;
 pub use allocative_collectors::output::{FlameGraphOutput, WarnedPath};
 pub use allocative_described::{
-    Described, Fields, Or, Record, raw_table_alloc_size_for_len, raw_table_law, shared_inner_size,
-    up_law,
+    And, Described, Fields, Or, Record, raw_table_alloc_size_for_len, raw_table_law,
+    shared_inner_size, up_law,
 };
 pub use allocative_graph::flamegraph::{Child, FlameGraph, Row, push_path};
 pub use allocative_graph::key::Key;

@@ -72,6 +72,30 @@ impl<A: Described, F: Fields> Fields for (A, F) {
     }
 }
 
+/// The fields of one list, and those of another, as `And<(u64, (String, ())), (u8, ())>`. The proofs of a type with
+/// parameters and many fields take fewer steps where its fields stand in lists of a few.
+pub struct And<F, G>(PhantomData<F>, PhantomData<G>);
+
+impl<F: Fields, G: Fields> Fields for And<F, G> {
+    ghost align = { max F.align G.align };
+
+    ghost needs_drop = { F.needs_drop || G.needs_drop };
+
+    ghost sum = { size_sum F.sum G.sum };
+
+    fn align() -> usize {
+        F::align().max(G::align())
+    }
+
+    fn needs_drop() -> bool {
+        F::needs_drop() || G::needs_drop()
+    }
+
+    fn sum() -> Option<usize> {
+        size_sum(F::sum(), G::sum())
+    }
+}
+
 /// The fields of one variant or of another: room for the greater of the two. Three variants are
 /// `Or<F, Or<G, H>>`.
 pub struct Or<F, G>(PhantomData<F>, PhantomData<G>);

@@ -20,7 +20,7 @@ pub struct Letter {
 ghost use Rattle.std.specs.Prelude.{codes, true, ◌&&◌};
 ghost use Rattle.allocative.specs.Shows as shows;
 
-use allocative::{Described, Or, Part, Record, Refusal, Visitor, Whole};
+use allocative::{And, Described, Or, Part, Record, Refusal, Visitor, Whole};
 
 type LetterLayout = Record<(u64, (String, (u64, ())))>;
 
@@ -77,7 +77,7 @@ pub struct Parcel {
     pub limit: Option<u64>,
 }
 // allocative: begin
-type ParcelLayout = Record<(u64, (Letter, (u32, (Vec<u32>, (bool, (Option<u64>, ()))))))>;
+type ParcelLayout = Record<And<(u64, (Letter, (u32, (Vec<u32>, (bool, ()))))), (Option<u64>, ())>>;
 
 impl Described for Parcel {
     ghost name = { codes "Parcel" };
@@ -119,48 +119,13 @@ impl Allocative for Parcel {
     ghost is_exact = { true };
 
     fn visit(&self, visitor: &mut Visitor<'_>) -> Result<(), Refusal> {
-        let part1 = ParcelPart1(self);
-        let part2 = ParcelPart2(self);
-        Whole(self, (part1, part2)).enter(visitor)
-    }
-}
-
-#[derive(Drop)]
-struct ParcelPart1<'part>(&'part Parcel);
-
-#[tactic(auto, using(allocative::proofs::Parts::parts))]
-impl<'part> Part for ParcelPart1<'part> {
-    ghost may_show = { λ x. shows.Both
-        (shows.Field (codes "number") ⟦<u64 as Described>⟧.size (⟦<u64 as Allocative>⟧.may_show x.0.now.number)) (shows.Both
-        (shows.Field (codes "from") ⟦<Letter as Described>⟧.size (⟦<Letter as Allocative>⟧.may_show x.0.now.from)) (shows.Both
-        (shows.Field (codes "count") ⟦<u32 as Described>⟧.size (⟦<u32 as Allocative>⟧.may_show x.0.now.count)) (shows.Both
-        (shows.Field (codes "marks") ⟦<Vec<u32> as Described>⟧.size (⟦<Vec<u32> as Allocative>⟧.may_show x.0.now.marks))
-        (shows.Field (codes "is_open") ⟦<bool as Described>⟧.size (⟦<bool as Allocative>⟧.may_show x.0.now.is_open))))) };
-
-    ghost is_exact = { true };
-
-    fn enter(self, visitor: &mut Visitor<'_>) -> Result<(), Refusal> {
-        let number = Field("number", &self.0.number);
-        let from = Field("from", &self.0.from);
-        let count = Field("count", &self.0.count);
-        let marks = Field("marks", &self.0.marks);
-        let is_open = Field("is_open", &self.0.is_open);
-        (number, from, count, marks, is_open).enter(visitor)
-    }
-}
-
-#[derive(Drop)]
-struct ParcelPart2<'part>(&'part Parcel);
-
-#[tactic(auto, using(allocative::proofs::Parts::parts))]
-impl<'part> Part for ParcelPart2<'part> {
-    ghost may_show = { λ x. shows.Field (codes "limit") ⟦<Option<u64> as Described>⟧.size (⟦<Option<u64> as Allocative>⟧.may_show x.0.now.limit) };
-
-    ghost is_exact = { true };
-
-    fn enter(self, visitor: &mut Visitor<'_>) -> Result<(), Refusal> {
-        let limit = Field("limit", &self.0.limit);
-        limit.enter(visitor)
+        let number = Field("number", &self.number);
+        let from = Field("from", &self.from);
+        let count = Field("count", &self.count);
+        let marks = Field("marks", &self.marks);
+        let is_open = Field("is_open", &self.is_open);
+        let limit = Field("limit", &self.limit);
+        Whole(self, ((number, from, count, marks, is_open), limit)).enter(visitor)
     }
 }
 // allocative: end

@@ -162,6 +162,36 @@ pub struct OfTwenty {
     pub is_old: u32,
 }
 
+/// A struct of 25 fields, of a type that is known only where it is used.
+#[derive(Drop)]
+pub struct OfTwentyFive<T> {
+    pub first: T,
+    pub second: Vec<T>,
+    pub name: String,
+    pub third: T,
+    pub is_open: bool,
+    pub limit: Option<u64>,
+    pub fourth: T,
+    pub width: u16,
+    pub fifth: Vec<T>,
+    pub sixth: T,
+    pub label: String,
+    pub marks: Vec<u32>,
+    pub seventh: T,
+    pub price: Option<u64>,
+    pub place: (u32, u32),
+    pub eighth: Vec<T>,
+    pub number: u64,
+    pub count: u32,
+    pub ninth: T,
+    pub sizes: Vec<u32>,
+    pub is_paid: bool,
+    pub tenth: T,
+    pub eleventh: Vec<T>,
+    pub colour: u16,
+    pub last: T,
+}
+
 /// A type with nothing in it.
 #[derive(Drop)]
 pub struct Nowhere;

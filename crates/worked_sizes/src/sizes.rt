@@ -3,7 +3,7 @@
 ghost use Rattle.std.specs.Prelude.{Some, false, codes};
 
 use allocative_described::{
-    Described, Or, Record, raw_table_alloc_size_for_len, shared_inner_size,
+    And, Described, Or, Record, raw_table_alloc_size_for_len, shared_inner_size,
 };
 use either::Either;
 use indexmap::{IndexMap, IndexSet};
@@ -199,6 +199,8 @@ fn fields_of_a_type(rt: HostRuntime) {
     assert!(rt; is::<Record<()>>("Record", 0, 1, false));
     assert!(rt; is::<Record<(u8, (u16, (u8, ())))>>("Record", 4, 2, false));
     assert!(rt; is::<Record<(u64, (String, (bool, ())))>>("Record", 40, 8, true));
+    assert!(rt; is::<Record<And<(u8, (u16, ())), (u8, ())>>>("Record", 4, 2, false));
+    assert!(rt; is::<Record<And<(), (String, (bool, ()))>>>("Record", 32, 8, true));
     assert!(rt; is::<Record<(u8, Or<(u16, ()), (u32, ())>)>>("Record", 8, 4, false));
     assert!(rt; is::<ThreeVariants>("Record", 32, 8, true));
 }
@@ -208,6 +210,7 @@ fn sizes_that_do_not_fit(rt: HostRuntime) {
     assert_eq!(rt; Option::<Huge>::size(), None);
     assert_eq!(rt; <(Huge, u8)>::size(), None);
     assert_eq!(rt; <Record<(Huge, (u8, ()))>>::size(), None);
+    assert_eq!(rt; <Record<And<(Huge, ()), (u8, ())>>>::size(), None);
     assert_eq!(rt; <Record<Or<(Huge, (u8, ())), ()>>>::size(), None);
     assert_eq!(rt; <[Huge; 2]>::size(), None);
     assert_eq!(rt; <[Huge; 1]>::size(), Some(usize::MAX));

@@ -62,7 +62,6 @@ class Drawing:
         is_named, is_generic, is_recursive = self.chance.random() < 0.8, self.chance.random() < 0.2, self.chance.random() < 0.15
         is_generic &= not is_recursive
         count = self.chance.choice((1, 2, 3, 4, 5, 5, 6, 7, 8, 9, 12, 16, 25))
-        count = min(count, 13) if is_generic else count
         fields = self.fields(count, name, is_named, is_generic, is_recursive)
         parameters = "<T>" if uses_parameter(fields) else ""
         return f"pub struct {name}{parameters}{fields}{'' if is_named else ';'}\n"

@@ -22,13 +22,13 @@ class TokensTest(unittest.TestCase):
         self.assertEqual(words("{ λ x. x' ≡ ⟦<u8 as D>⟧.size }")[:4], ["{", "λ", "x", "."])
 
     def test_brackets_have_their_others(self) -> None:
-        self.assertEqual(Tokens("( [ ] ) {}").partner, {0: 4, 1: 3, 4: 6})
+        self.assertEqual(Tokens("( [ ] ) {}").behind[:6], [4, 3, 3, 4, 6, 6])
 
-    def test_faults_have_their_lines(self) -> None:
-        for text, line in (("a\n(", 2), ("a\n}", 2), ("(\n]", 2), ('a\n"b', 2), ("\n\n/* a", 3)):
+    def test_faults_have_their_places(self) -> None:
+        for text, at in (("a\n(", 2), ("a\n}", 2), ("(\n]", 2), ('a\n"b', 2), ("\n\n/* a", 2)):
             with self.subTest(text), self.assertRaises(Fault) as raised:
                 Tokens(text)
-            self.assertEqual(raised.exception.line, line)
+            self.assertEqual(raised.exception.at, at)
 
     def test_directives(self) -> None:
         tokens = Tokens("struct A {\n    // allocative: skip\n    a: f64, // allocative: size 8\n}\n// allocative: begin\n")

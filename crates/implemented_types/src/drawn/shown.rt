@@ -8,7 +8,7 @@ ghost use Rattle.implemented_types.specs.declared.drawn.Drawn7.{out-Drawn7};
 
 use super::*;
 use allocative::{
-    Allocative, Declared, Described, Field, Or, Part, Record, Refusal, Visitor, Whole,
+    Allocative, And, Declared, Described, Field, Or, Part, Record, Refusal, Visitor, Whole,
 };
 
 type Drawn0Layout = Record<(u128, (i32, ()))>;
@@ -67,19 +67,13 @@ type Drawn1Layout<T> = Record<
                         Or<
                             (Option<Drawn0>, (T, (T, (T, ())))),
                             Or<
-                                (
-                                    (String, bool),
+                                And<
                                     (
-                                        String,
-                                        (
-                                            u128,
-                                            (
-                                                (T, u64),
-                                                (Vec<Drawn0>, (T, (Option<u64>, (bool, ())))),
-                                            ),
-                                        ),
+                                        (String, bool),
+                                        (String, (u128, ((T, u64), (Vec<Drawn0>, ())))),
                                     ),
-                                ),
+                                    (T, (Option<u64>, (bool, ()))),
+                                >,
                                 Or<
                                     (
                                         HashMap<String, u64>,
@@ -422,25 +416,16 @@ type Drawn4Layout = Record<
                         Or<
                             (Result<u64, String>, ()),
                             Or<
-                                (
-                                    i32,
+                                And<
                                     (
-                                        Option<Drawn0>,
-                                        (
-                                            u8,
-                                            (
-                                                Option<u64>,
-                                                (
-                                                    Option<Drawn0>,
-                                                    (
-                                                        BTreeMap<String, Drawn3>,
-                                                        (BTreeMap<String, Drawn3>, (Drawn3, ())),
-                                                    ),
-                                                ),
-                                            ),
-                                        ),
+                                        i32,
+                                        (Option<Drawn0>, (u8, (Option<u64>, (Option<Drawn0>, ())))),
                                     ),
-                                ),
+                                    (
+                                        BTreeMap<String, Drawn3>,
+                                        (BTreeMap<String, Drawn3>, (Drawn3, ())),
+                                    ),
+                                >,
                                 Or<
                                     (String, (Vec<Drawn0>, (Duration, ()))),
                                     Or<
@@ -626,25 +611,19 @@ impl Allocative for Drawn5 {
 }
 
 type Drawn6Layout<T> = Record<
-    (
-        T,
+    And<
         (
-            BTreeMap<String, Drawn0>,
+            T,
             (
-                String,
-                (
-                    Vec<Drawn4>,
-                    (
-                        String,
-                        (
-                            Option<Drawn0>,
-                            ([u8; 16], (HashMap<String, u64>, ((T, u64), ()))),
-                        ),
-                    ),
-                ),
+                BTreeMap<String, Drawn0>,
+                (String, (Vec<Drawn4>, (String, ()))),
             ),
         ),
-    ),
+        (
+            Option<Drawn0>,
+            ([u8; 16], (HashMap<String, u64>, ((T, u64), ()))),
+        ),
+    >,
 >;
 
 impl<T: Allocative + Described> Described for Drawn6<T> {
@@ -690,53 +669,16 @@ impl<T: Allocative + Described> Allocative for Drawn6<T> {
     ghost is_exact = { (⟦<T as Allocative>⟧.is_exact && (⟦<BTreeMap<String, Drawn0> as Allocative>⟧.is_exact && (⟦<String as Allocative>⟧.is_exact && (⟦<Vec<Drawn4> as Allocative>⟧.is_exact && (⟦<String as Allocative>⟧.is_exact))))) && ((⟦<Option<Drawn0> as Allocative>⟧.is_exact && (⟦<[u8; 16] as Allocative>⟧.is_exact && (⟦<HashMap<String, u64> as Allocative>⟧.is_exact && (⟦<(T, u64) as Allocative>⟧.is_exact))))) };
 
     fn visit(&self, visitor: &mut Visitor<'_>) -> Result<(), Refusal> {
-        let part1 = Drawn6Part1(self);
-        let part2 = Drawn6Part2(self);
-        Whole(self, (part1, part2)).enter(visitor)
-    }
-}
-
-#[derive(Drop)]
-struct Drawn6Part1<'part, T: Allocative + Described>(&'part Drawn6<T>);
-
-impl<'part, T: Allocative + Described> Part for Drawn6Part1<'part, T> {
-    ghost may_show = { λ x. shows.Both
-        (shows.Field (codes "field0") ⟦<T as Described>⟧.size (⟦<T as Allocative>⟧.may_show x.0.now.field0)) (shows.Both
-        (shows.Field (codes "field1") ⟦<BTreeMap<String, Drawn0> as Described>⟧.size (⟦<BTreeMap<String, Drawn0> as Allocative>⟧.may_show x.0.now.field1)) (shows.Both
-        (shows.Field (codes "field2") ⟦<String as Described>⟧.size (⟦<String as Allocative>⟧.may_show x.0.now.field2)) (shows.Both
-        (shows.Field (codes "field3") ⟦<Vec<Drawn4> as Described>⟧.size (⟦<Vec<Drawn4> as Allocative>⟧.may_show x.0.now.field3))
-        (shows.Field (codes "field4") ⟦<String as Described>⟧.size (⟦<String as Allocative>⟧.may_show x.0.now.field4))))) };
-
-    ghost is_exact = { ⟦<T as Allocative>⟧.is_exact && (⟦<BTreeMap<String, Drawn0> as Allocative>⟧.is_exact && (⟦<String as Allocative>⟧.is_exact && (⟦<Vec<Drawn4> as Allocative>⟧.is_exact && (⟦<String as Allocative>⟧.is_exact)))) };
-
-    fn enter(self, visitor: &mut Visitor<'_>) -> Result<(), Refusal> {
-        let field0 = Field("field0", &self.0.field0);
-        let field1 = Field("field1", &self.0.field1);
-        let field2 = Field("field2", &self.0.field2);
-        let field3 = Field("field3", &self.0.field3);
-        let field4 = Field("field4", &self.0.field4);
-        (field0, field1, field2, field3, field4).enter(visitor)
-    }
-}
-
-#[derive(Drop)]
-struct Drawn6Part2<'part, T: Allocative + Described>(&'part Drawn6<T>);
-
-impl<'part, T: Allocative + Described> Part for Drawn6Part2<'part, T> {
-    ghost may_show = { λ x. shows.Both
-        (shows.Field (codes "field5") ⟦<Option<Drawn0> as Described>⟧.size (⟦<Option<Drawn0> as Allocative>⟧.may_show x.0.now.field5)) (shows.Both
-        (shows.Field (codes "field6") ⟦<[u8; 16] as Described>⟧.size (⟦<[u8; 16] as Allocative>⟧.may_show x.0.now.field6)) (shows.Both
-        (shows.Field (codes "field7") ⟦<HashMap<String, u64> as Described>⟧.size (⟦<HashMap<String, u64> as Allocative>⟧.may_show x.0.now.field7))
-        (shows.Field (codes "field8") ⟦<(T, u64) as Described>⟧.size (⟦<(T, u64) as Allocative>⟧.may_show x.0.now.field8)))) };
-
-    ghost is_exact = { ⟦<Option<Drawn0> as Allocative>⟧.is_exact && (⟦<[u8; 16] as Allocative>⟧.is_exact && (⟦<HashMap<String, u64> as Allocative>⟧.is_exact && (⟦<(T, u64) as Allocative>⟧.is_exact))) };
-
-    fn enter(self, visitor: &mut Visitor<'_>) -> Result<(), Refusal> {
-        let field5 = Field("field5", &self.0.field5);
-        let field6 = Field("field6", &self.0.field6);
-        let field7 = Field("field7", &self.0.field7);
-        let field8 = Field("field8", &self.0.field8);
-        (field5, field6, field7, field8).enter(visitor)
+        let a = Field("field0", &self.field0);
+        let b = Field("field1", &self.field1);
+        let c = Field("field2", &self.field2);
+        let d = Field("field3", &self.field3);
+        let e = Field("field4", &self.field4);
+        let f = Field("field5", &self.field5);
+        let g = Field("field6", &self.field6);
+        let h = Field("field7", &self.field7);
+        let i = Field("field8", &self.field8);
+        Whole(self, ((a, b, c, d, e), (f, g, h, i))).enter(visitor)
     }
 }
 
@@ -958,13 +900,7 @@ impl<T: Allocative + Described> Allocative for Drawn8<T> {
 }
 
 type Drawn9Layout = Record<
-    (
-        usize,
-        (
-            Drawn7,
-            (u8, ((String, bool), (Vec<u32>, (BTreeSet<u64>, ())))),
-        ),
-    ),
+    And<(usize, (Drawn7, (u8, ((String, bool), (Vec<u32>, ()))))), (BTreeSet<u64>, ())>,
 >;
 
 impl Described for Drawn9 {
@@ -1006,46 +942,13 @@ impl Allocative for Drawn9 {
     ghost is_exact = { true };
 
     fn visit(&self, visitor: &mut Visitor<'_>) -> Result<(), Refusal> {
-        let part1 = Drawn9Part1(self);
-        let part2 = Drawn9Part2(self);
-        Whole(self, (part1, part2)).enter(visitor)
-    }
-}
-
-#[derive(Drop)]
-struct Drawn9Part1<'part>(&'part Drawn9);
-
-impl<'part> Part for Drawn9Part1<'part> {
-    ghost may_show = { λ x. shows.Both
-        (shows.Field (codes "field0") ⟦<usize as Described>⟧.size (⟦<usize as Allocative>⟧.may_show x.0.now.field0)) (shows.Both
-        (shows.Field (codes "field1") ⟦<Drawn7 as Described>⟧.size (⟦<Drawn7 as Allocative>⟧.may_show x.0.now.field1)) (shows.Both
-        (shows.Field (codes "field2") ⟦<u8 as Described>⟧.size (⟦<u8 as Allocative>⟧.may_show x.0.now.field2)) (shows.Both
-        (shows.Field (codes "field3") ⟦<(String, bool) as Described>⟧.size (⟦<(String, bool) as Allocative>⟧.may_show x.0.now.field3))
-        (shows.Field (codes "field4") ⟦<Vec<u32> as Described>⟧.size (⟦<Vec<u32> as Allocative>⟧.may_show x.0.now.field4))))) };
-
-    ghost is_exact = { true };
-
-    fn enter(self, visitor: &mut Visitor<'_>) -> Result<(), Refusal> {
-        let field0 = Field("field0", &self.0.field0);
-        let field1 = Field("field1", &self.0.field1);
-        let field2 = Field("field2", &self.0.field2);
-        let field3 = Field("field3", &self.0.field3);
-        let field4 = Field("field4", &self.0.field4);
-        (field0, field1, field2, field3, field4).enter(visitor)
-    }
-}
-
-#[derive(Drop)]
-struct Drawn9Part2<'part>(&'part Drawn9);
-
-impl<'part> Part for Drawn9Part2<'part> {
-    ghost may_show = { λ x. shows.Field (codes "field5") ⟦<BTreeSet<u64> as Described>⟧.size (⟦<BTreeSet<u64> as Allocative>⟧.may_show x.0.now.field5) };
-
-    ghost is_exact = { true };
-
-    fn enter(self, visitor: &mut Visitor<'_>) -> Result<(), Refusal> {
-        let field5 = Field("field5", &self.0.field5);
-        field5.enter(visitor)
+        let field0 = Field("field0", &self.field0);
+        let field1 = Field("field1", &self.field1);
+        let field2 = Field("field2", &self.field2);
+        let field3 = Field("field3", &self.field3);
+        let field4 = Field("field4", &self.field4);
+        let field5 = Field("field5", &self.field5);
+        Whole(self, ((field0, field1, field2, field3, field4), field5)).enter(visitor)
     }
 }
 
@@ -1073,28 +976,16 @@ type Drawn10Layout = Record<
                                         (String, (Vec<u32>, (Box<String>, (VecDeque<u16>, ())))),
                                     ),
                                     Or<
-                                        (
-                                            (String, bool),
+                                        And<
                                             (
-                                                HashMap<String, u64>,
+                                                (String, bool),
                                                 (
-                                                    Vec<Drawn5>,
-                                                    (
-                                                        u64,
-                                                        (
-                                                            Drawn0,
-                                                            (
-                                                                Option<u64>,
-                                                                (
-                                                                    u64,
-                                                                    (BTreeMap<String, Drawn0>, ()),
-                                                                ),
-                                                            ),
-                                                        ),
-                                                    ),
+                                                    HashMap<String, u64>,
+                                                    (Vec<Drawn5>, (u64, (Drawn0, ()))),
                                                 ),
                                             ),
-                                        ),
+                                            (Option<u64>, (u64, (BTreeMap<String, Drawn0>, ()))),
+                                        >,
                                         Or<
                                             (bool, ()),
                                             Or<
@@ -1511,19 +1402,10 @@ type Drawn14Layout = Record<
                 Or<
                     (i32, (Result<u64, String>, (u8, ()))),
                     Or<
-                        (
-                            u16,
-                            (
-                                [u8; 16],
-                                (
-                                    Option<String>,
-                                    (
-                                        [u8; 16],
-                                        (u32, (Duration, (VecDeque<u16>, ((u32, u32), ())))),
-                                    ),
-                                ),
-                            ),
-                        ),
+                        And<
+                            (u16, ([u8; 16], (Option<String>, ([u8; 16], (u32, ()))))),
+                            (Duration, (VecDeque<u16>, ((u32, u32), ()))),
+                        >,
                         Or<
                             (u8, ()),
                             Or<
@@ -1754,25 +1636,16 @@ impl<T: Allocative + Described> Allocative for Drawn15<T> {
 }
 
 type Drawn16Layout = Record<
-    (
-        Result<u64, String>,
+    And<
         (
-            String,
-            (
-                u32,
-                (
-                    VecDeque<u16>,
-                    (
-                        (String, bool),
-                        (
-                            Vec<u32>,
-                            (VecDeque<u16>, ((String, bool), (Vec<Drawn0>, ()))),
-                        ),
-                    ),
-                ),
-            ),
+            Result<u64, String>,
+            (String, (u32, (VecDeque<u16>, ((String, bool), ())))),
         ),
-    ),
+        (
+            Vec<u32>,
+            (VecDeque<u16>, ((String, bool), (Vec<Drawn0>, ()))),
+        ),
+    >,
 >;
 
 impl Described for Drawn16 {
@@ -1818,82 +1691,30 @@ impl Allocative for Drawn16 {
     ghost is_exact = { true };
 
     fn visit(&self, visitor: &mut Visitor<'_>) -> Result<(), Refusal> {
-        let part1 = Drawn16Part1(self);
-        let part2 = Drawn16Part2(self);
-        Whole(self, (part1, part2)).enter(visitor)
-    }
-}
-
-#[derive(Drop)]
-struct Drawn16Part1<'part>(&'part Drawn16);
-
-impl<'part> Part for Drawn16Part1<'part> {
-    ghost may_show = { λ x. shows.Both
-        (shows.Field (codes "field0") ⟦<Result<u64, String> as Described>⟧.size (⟦<Result<u64, String> as Allocative>⟧.may_show x.0.now.field0)) (shows.Both
-        (shows.Field (codes "field1") ⟦<String as Described>⟧.size (⟦<String as Allocative>⟧.may_show x.0.now.field1)) (shows.Both
-        (shows.Field (codes "field2") ⟦<u32 as Described>⟧.size (⟦<u32 as Allocative>⟧.may_show x.0.now.field2)) (shows.Both
-        (shows.Field (codes "field3") ⟦<VecDeque<u16> as Described>⟧.size (⟦<VecDeque<u16> as Allocative>⟧.may_show x.0.now.field3))
-        (shows.Field (codes "field4") ⟦<(String, bool) as Described>⟧.size (⟦<(String, bool) as Allocative>⟧.may_show x.0.now.field4))))) };
-
-    ghost is_exact = { true };
-
-    fn enter(self, visitor: &mut Visitor<'_>) -> Result<(), Refusal> {
-        let field0 = Field("field0", &self.0.field0);
-        let field1 = Field("field1", &self.0.field1);
-        let field2 = Field("field2", &self.0.field2);
-        let field3 = Field("field3", &self.0.field3);
-        let field4 = Field("field4", &self.0.field4);
-        (field0, field1, field2, field3, field4).enter(visitor)
-    }
-}
-
-#[derive(Drop)]
-struct Drawn16Part2<'part>(&'part Drawn16);
-
-impl<'part> Part for Drawn16Part2<'part> {
-    ghost may_show = { λ x. shows.Both
-        (shows.Field (codes "field5") ⟦<Vec<u32> as Described>⟧.size (⟦<Vec<u32> as Allocative>⟧.may_show x.0.now.field5)) (shows.Both
-        (shows.Field (codes "field6") ⟦<VecDeque<u16> as Described>⟧.size (⟦<VecDeque<u16> as Allocative>⟧.may_show x.0.now.field6)) (shows.Both
-        (shows.Field (codes "field7") ⟦<(String, bool) as Described>⟧.size (⟦<(String, bool) as Allocative>⟧.may_show x.0.now.field7))
-        (shows.Field (codes "field8") ⟦<Vec<Drawn0> as Described>⟧.size (⟦<Vec<Drawn0> as Allocative>⟧.may_show x.0.now.field8)))) };
-
-    ghost is_exact = { true };
-
-    fn enter(self, visitor: &mut Visitor<'_>) -> Result<(), Refusal> {
-        let field5 = Field("field5", &self.0.field5);
-        let field6 = Field("field6", &self.0.field6);
-        let field7 = Field("field7", &self.0.field7);
-        let field8 = Field("field8", &self.0.field8);
-        (field5, field6, field7, field8).enter(visitor)
+        let a = Field("field0", &self.field0);
+        let b = Field("field1", &self.field1);
+        let c = Field("field2", &self.field2);
+        let d = Field("field3", &self.field3);
+        let e = Field("field4", &self.field4);
+        let f = Field("field5", &self.field5);
+        let g = Field("field6", &self.field6);
+        let h = Field("field7", &self.field7);
+        let i = Field("field8", &self.field8);
+        Whole(self, ((a, b, c, d, e), (f, g, h, i))).enter(visitor)
     }
 }
 
 type Drawn17Layout = Record<
-    (
-        u64,
+    And<
         (
-            Vec<String>,
-            (
-                Option<String>,
-                (
-                    Duration,
-                    (
-                        Box<String>,
-                        (
-                            VecDeque<u16>,
-                            (
-                                u128,
-                                (
-                                    bool,
-                                    (BTreeSet<u64>, (u64, (Duration, ((String, bool), ())))),
-                                ),
-                            ),
-                        ),
-                    ),
-                ),
-            ),
+            u64,
+            (Vec<String>, (Option<String>, (Duration, (Box<String>, ())))),
         ),
-    ),
+        And<
+            (VecDeque<u16>, (u128, (bool, (BTreeSet<u64>, (u64, ()))))),
+            (Duration, ((String, bool), ())),
+        >,
+    >,
 >;
 
 impl Described for Drawn17 {
@@ -1943,87 +1764,30 @@ impl Allocative for Drawn17 {
     ghost is_exact = { true };
 
     fn visit(&self, visitor: &mut Visitor<'_>) -> Result<(), Refusal> {
-        let part1 = Drawn17Part1(self);
-        let part2 = Drawn17Part2(self);
-        let part3 = Drawn17Part3(self);
-        Whole(self, (part1, part2, part3)).enter(visitor)
-    }
-}
-
-#[derive(Drop)]
-struct Drawn17Part1<'part>(&'part Drawn17);
-
-impl<'part> Part for Drawn17Part1<'part> {
-    ghost may_show = { λ x. shows.Both
-        (shows.Field (codes "field0") ⟦<u64 as Described>⟧.size (⟦<u64 as Allocative>⟧.may_show x.0.now.field0)) (shows.Both
-        (shows.Field (codes "field1") ⟦<Vec<String> as Described>⟧.size (⟦<Vec<String> as Allocative>⟧.may_show x.0.now.field1)) (shows.Both
-        (shows.Field (codes "field2") ⟦<Option<String> as Described>⟧.size (⟦<Option<String> as Allocative>⟧.may_show x.0.now.field2)) (shows.Both
-        (shows.Field (codes "field3") ⟦<Duration as Described>⟧.size (⟦<Duration as Allocative>⟧.may_show x.0.now.field3))
-        (shows.Field (codes "field4") ⟦<Box<String> as Described>⟧.size (⟦<Box<String> as Allocative>⟧.may_show x.0.now.field4))))) };
-
-    ghost is_exact = { true };
-
-    fn enter(self, visitor: &mut Visitor<'_>) -> Result<(), Refusal> {
-        let field0 = Field("field0", &self.0.field0);
-        let field1 = Field("field1", &self.0.field1);
-        let field2 = Field("field2", &self.0.field2);
-        let field3 = Field("field3", &self.0.field3);
-        let field4 = Field("field4", &self.0.field4);
-        (field0, field1, field2, field3, field4).enter(visitor)
-    }
-}
-
-#[derive(Drop)]
-struct Drawn17Part2<'part>(&'part Drawn17);
-
-impl<'part> Part for Drawn17Part2<'part> {
-    ghost may_show = { λ x. shows.Both
-        (shows.Field (codes "field5") ⟦<VecDeque<u16> as Described>⟧.size (⟦<VecDeque<u16> as Allocative>⟧.may_show x.0.now.field5)) (shows.Both
-        (shows.Field (codes "field6") ⟦<u128 as Described>⟧.size (⟦<u128 as Allocative>⟧.may_show x.0.now.field6)) (shows.Both
-        (shows.Field (codes "field7") ⟦<bool as Described>⟧.size (⟦<bool as Allocative>⟧.may_show x.0.now.field7)) (shows.Both
-        (shows.Field (codes "field8") ⟦<BTreeSet<u64> as Described>⟧.size (⟦<BTreeSet<u64> as Allocative>⟧.may_show x.0.now.field8))
-        (shows.Field (codes "field9") ⟦<u64 as Described>⟧.size (⟦<u64 as Allocative>⟧.may_show x.0.now.field9))))) };
-
-    ghost is_exact = { true };
-
-    fn enter(self, visitor: &mut Visitor<'_>) -> Result<(), Refusal> {
-        let field5 = Field("field5", &self.0.field5);
-        let field6 = Field("field6", &self.0.field6);
-        let field7 = Field("field7", &self.0.field7);
-        let field8 = Field("field8", &self.0.field8);
-        let field9 = Field("field9", &self.0.field9);
-        (field5, field6, field7, field8, field9).enter(visitor)
-    }
-}
-
-#[derive(Drop)]
-struct Drawn17Part3<'part>(&'part Drawn17);
-
-impl<'part> Part for Drawn17Part3<'part> {
-    ghost may_show = { λ x. shows.Both
-        (shows.Field (codes "field10") ⟦<Duration as Described>⟧.size (⟦<Duration as Allocative>⟧.may_show x.0.now.field10))
-        (shows.Field (codes "field11") ⟦<(String, bool) as Described>⟧.size (⟦<(String, bool) as Allocative>⟧.may_show x.0.now.field11)) };
-
-    ghost is_exact = { true };
-
-    fn enter(self, visitor: &mut Visitor<'_>) -> Result<(), Refusal> {
-        let field10 = Field("field10", &self.0.field10);
-        let field11 = Field("field11", &self.0.field11);
-        (field10, field11).enter(visitor)
+        let a = Field("field0", &self.field0);
+        let b = Field("field1", &self.field1);
+        let c = Field("field2", &self.field2);
+        let d = Field("field3", &self.field3);
+        let e = Field("field4", &self.field4);
+        let f = Field("field5", &self.field5);
+        let g = Field("field6", &self.field6);
+        let h = Field("field7", &self.field7);
+        let i = Field("field8", &self.field8);
+        let j = Field("field9", &self.field9);
+        let k = Field("field10", &self.field10);
+        let l = Field("field11", &self.field11);
+        Whole(self, ((a, b, c, d, e), (f, g, h, i, j), (k, l))).enter(visitor)
     }
 }
 
 type Drawn18Layout = Record<
-    (
-        Duration,
+    And<
         (
-            String,
-            (
-                BTreeMap<u32, String>,
-                (Drawn3, (Box<String>, (Drawn17, ()))),
-            ),
+            Duration,
+            (String, (BTreeMap<u32, String>, (Drawn3, (Box<String>, ())))),
         ),
-    ),
+        (Drawn17, ()),
+    >,
 >;
 
 impl Described for Drawn18 {
@@ -2065,46 +1829,13 @@ impl Allocative for Drawn18 {
     ghost is_exact = { true };
 
     fn visit(&self, visitor: &mut Visitor<'_>) -> Result<(), Refusal> {
-        let part1 = Drawn18Part1(self);
-        let part2 = Drawn18Part2(self);
-        Whole(self, (part1, part2)).enter(visitor)
-    }
-}
-
-#[derive(Drop)]
-struct Drawn18Part1<'part>(&'part Drawn18);
-
-impl<'part> Part for Drawn18Part1<'part> {
-    ghost may_show = { λ x. shows.Both
-        (shows.Field (codes "field0") ⟦<Duration as Described>⟧.size (⟦<Duration as Allocative>⟧.may_show x.0.now.field0)) (shows.Both
-        (shows.Field (codes "field1") ⟦<String as Described>⟧.size (⟦<String as Allocative>⟧.may_show x.0.now.field1)) (shows.Both
-        (shows.Field (codes "field2") ⟦<BTreeMap<u32, String> as Described>⟧.size (⟦<BTreeMap<u32, String> as Allocative>⟧.may_show x.0.now.field2)) (shows.Both
-        (shows.Field (codes "field3") ⟦<Drawn3 as Described>⟧.size (⟦<Drawn3 as Allocative>⟧.may_show x.0.now.field3))
-        (shows.Field (codes "field4") ⟦<Box<String> as Described>⟧.size (⟦<Box<String> as Allocative>⟧.may_show x.0.now.field4))))) };
-
-    ghost is_exact = { true };
-
-    fn enter(self, visitor: &mut Visitor<'_>) -> Result<(), Refusal> {
-        let field0 = Field("field0", &self.0.field0);
-        let field1 = Field("field1", &self.0.field1);
-        let field2 = Field("field2", &self.0.field2);
-        let field3 = Field("field3", &self.0.field3);
-        let field4 = Field("field4", &self.0.field4);
-        (field0, field1, field2, field3, field4).enter(visitor)
-    }
-}
-
-#[derive(Drop)]
-struct Drawn18Part2<'part>(&'part Drawn18);
-
-impl<'part> Part for Drawn18Part2<'part> {
-    ghost may_show = { λ x. shows.Field (codes "field5") ⟦<Drawn17 as Described>⟧.size (⟦<Drawn17 as Allocative>⟧.may_show x.0.now.field5) };
-
-    ghost is_exact = { true };
-
-    fn enter(self, visitor: &mut Visitor<'_>) -> Result<(), Refusal> {
-        let field5 = Field("field5", &self.0.field5);
-        field5.enter(visitor)
+        let field0 = Field("field0", &self.field0);
+        let field1 = Field("field1", &self.field1);
+        let field2 = Field("field2", &self.field2);
+        let field3 = Field("field3", &self.field3);
+        let field4 = Field("field4", &self.field4);
+        let field5 = Field("field5", &self.field5);
+        Whole(self, ((field0, field1, field2, field3, field4), field5)).enter(visitor)
     }
 }
 

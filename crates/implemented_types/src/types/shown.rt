@@ -6,7 +6,8 @@ ghost use Rattle.allocative.specs.Shows as shows;
 
 use super::*;
 use allocative::{
-    Allocative, Declared, Described, Field, Inside, Or, Part, Record, Refusal, Visitor, Whole,
+    Allocative, And, Declared, Described, Field, Inside, Or, Part, Record, Refusal, Visitor,
+    Whole,
 };
 
 type OfOneLayout = Record<(u64, ())>;
@@ -229,7 +230,7 @@ impl Allocative for OfFive {
     }
 }
 
-type OfSixLayout = Record<(u64, (String, (u32, (Vec<u32>, (bool, (Option<u64>, ()))))))>;
+type OfSixLayout = Record<And<(u64, (String, (u32, (Vec<u32>, (bool, ()))))), (Option<u64>, ())>>;
 
 impl Described for OfSix {
     ghost name = { codes "OfSix" };
@@ -270,57 +271,18 @@ impl Allocative for OfSix {
     ghost is_exact = { true };
 
     fn visit(&self, visitor: &mut Visitor<'_>) -> Result<(), Refusal> {
-        let part1 = OfSixPart1(self);
-        let part2 = OfSixPart2(self);
-        Whole(self, (part1, part2)).enter(visitor)
-    }
-}
-
-#[derive(Drop)]
-struct OfSixPart1<'part>(&'part OfSix);
-
-impl<'part> Part for OfSixPart1<'part> {
-    ghost may_show = { λ x. shows.Both
-        (shows.Field (codes "number") ⟦<u64 as Described>⟧.size (⟦<u64 as Allocative>⟧.may_show x.0.now.number)) (shows.Both
-        (shows.Field (codes "name") ⟦<String as Described>⟧.size (⟦<String as Allocative>⟧.may_show x.0.now.name)) (shows.Both
-        (shows.Field (codes "count") ⟦<u32 as Described>⟧.size (⟦<u32 as Allocative>⟧.may_show x.0.now.count)) (shows.Both
-        (shows.Field (codes "marks") ⟦<Vec<u32> as Described>⟧.size (⟦<Vec<u32> as Allocative>⟧.may_show x.0.now.marks))
-        (shows.Field (codes "is_open") ⟦<bool as Described>⟧.size (⟦<bool as Allocative>⟧.may_show x.0.now.is_open))))) };
-
-    ghost is_exact = { true };
-
-    fn enter(self, visitor: &mut Visitor<'_>) -> Result<(), Refusal> {
-        let number = Field("number", &self.0.number);
-        let name = Field("name", &self.0.name);
-        let count = Field("count", &self.0.count);
-        let marks = Field("marks", &self.0.marks);
-        let is_open = Field("is_open", &self.0.is_open);
-        (number, name, count, marks, is_open).enter(visitor)
-    }
-}
-
-#[derive(Drop)]
-struct OfSixPart2<'part>(&'part OfSix);
-
-impl<'part> Part for OfSixPart2<'part> {
-    ghost may_show = { λ x. shows.Field (codes "limit") ⟦<Option<u64> as Described>⟧.size (⟦<Option<u64> as Allocative>⟧.may_show x.0.now.limit) };
-
-    ghost is_exact = { true };
-
-    fn enter(self, visitor: &mut Visitor<'_>) -> Result<(), Refusal> {
-        let limit = Field("limit", &self.0.limit);
-        limit.enter(visitor)
+        let number = Field("number", &self.number);
+        let name = Field("name", &self.name);
+        let count = Field("count", &self.count);
+        let marks = Field("marks", &self.marks);
+        let is_open = Field("is_open", &self.is_open);
+        let limit = Field("limit", &self.limit);
+        Whole(self, ((number, name, count, marks, is_open), limit)).enter(visitor)
     }
 }
 
 type OfSevenLayout = Record<
-    (
-        u64,
-        (
-            String,
-            (u32, (Vec<u32>, (bool, (Option<u64>, ((u32, u32), ()))))),
-        ),
-    ),
+    And<(u64, (String, (u32, (Vec<u32>, (bool, ()))))), (Option<u64>, ((u32, u32), ()))>,
 >;
 
 impl Described for OfSeven {
@@ -364,63 +326,23 @@ impl Allocative for OfSeven {
     ghost is_exact = { true };
 
     fn visit(&self, visitor: &mut Visitor<'_>) -> Result<(), Refusal> {
-        let part1 = OfSevenPart1(self);
-        let part2 = OfSevenPart2(self);
-        Whole(self, (part1, part2)).enter(visitor)
-    }
-}
-
-#[derive(Drop)]
-struct OfSevenPart1<'part>(&'part OfSeven);
-
-impl<'part> Part for OfSevenPart1<'part> {
-    ghost may_show = { λ x. shows.Both
-        (shows.Field (codes "number") ⟦<u64 as Described>⟧.size (⟦<u64 as Allocative>⟧.may_show x.0.now.number)) (shows.Both
-        (shows.Field (codes "name") ⟦<String as Described>⟧.size (⟦<String as Allocative>⟧.may_show x.0.now.name)) (shows.Both
-        (shows.Field (codes "count") ⟦<u32 as Described>⟧.size (⟦<u32 as Allocative>⟧.may_show x.0.now.count)) (shows.Both
-        (shows.Field (codes "marks") ⟦<Vec<u32> as Described>⟧.size (⟦<Vec<u32> as Allocative>⟧.may_show x.0.now.marks))
-        (shows.Field (codes "is_open") ⟦<bool as Described>⟧.size (⟦<bool as Allocative>⟧.may_show x.0.now.is_open))))) };
-
-    ghost is_exact = { true };
-
-    fn enter(self, visitor: &mut Visitor<'_>) -> Result<(), Refusal> {
-        let number = Field("number", &self.0.number);
-        let name = Field("name", &self.0.name);
-        let count = Field("count", &self.0.count);
-        let marks = Field("marks", &self.0.marks);
-        let is_open = Field("is_open", &self.0.is_open);
-        (number, name, count, marks, is_open).enter(visitor)
-    }
-}
-
-#[derive(Drop)]
-struct OfSevenPart2<'part>(&'part OfSeven);
-
-impl<'part> Part for OfSevenPart2<'part> {
-    ghost may_show = { λ x. shows.Both
-        (shows.Field (codes "limit") ⟦<Option<u64> as Described>⟧.size (⟦<Option<u64> as Allocative>⟧.may_show x.0.now.limit))
-        (shows.Field (codes "place") ⟦<(u32, u32) as Described>⟧.size (⟦<(u32, u32) as Allocative>⟧.may_show x.0.now.place)) };
-
-    ghost is_exact = { true };
-
-    fn enter(self, visitor: &mut Visitor<'_>) -> Result<(), Refusal> {
-        let limit = Field("limit", &self.0.limit);
-        let place = Field("place", &self.0.place);
-        (limit, place).enter(visitor)
+        let number = Field("number", &self.number);
+        let name = Field("name", &self.name);
+        let count = Field("count", &self.count);
+        let marks = Field("marks", &self.marks);
+        let is_open = Field("is_open", &self.is_open);
+        let limit = Field("limit", &self.limit);
+        let place = Field("place", &self.place);
+        Whole(
+            self,
+            ((number, name, count, marks, is_open), (limit, place)),
+        )
+        .enter(visitor)
     }
 }
 
 type OfEightLayout = Record<
-    (
-        u64,
-        (
-            String,
-            (
-                u32,
-                (Vec<u32>, (bool, (Option<u64>, ((u32, u32), (u16, ()))))),
-            ),
-        ),
-    ),
+    And<(u64, (String, (u32, (Vec<u32>, (bool, ()))))), (Option<u64>, ((u32, u32), (u16, ())))>,
 >;
 
 impl Described for OfEight {
@@ -465,68 +387,23 @@ impl Allocative for OfEight {
     ghost is_exact = { true };
 
     fn visit(&self, visitor: &mut Visitor<'_>) -> Result<(), Refusal> {
-        let part1 = OfEightPart1(self);
-        let part2 = OfEightPart2(self);
-        Whole(self, (part1, part2)).enter(visitor)
-    }
-}
-
-#[derive(Drop)]
-struct OfEightPart1<'part>(&'part OfEight);
-
-impl<'part> Part for OfEightPart1<'part> {
-    ghost may_show = { λ x. shows.Both
-        (shows.Field (codes "number") ⟦<u64 as Described>⟧.size (⟦<u64 as Allocative>⟧.may_show x.0.now.number)) (shows.Both
-        (shows.Field (codes "name") ⟦<String as Described>⟧.size (⟦<String as Allocative>⟧.may_show x.0.now.name)) (shows.Both
-        (shows.Field (codes "count") ⟦<u32 as Described>⟧.size (⟦<u32 as Allocative>⟧.may_show x.0.now.count)) (shows.Both
-        (shows.Field (codes "marks") ⟦<Vec<u32> as Described>⟧.size (⟦<Vec<u32> as Allocative>⟧.may_show x.0.now.marks))
-        (shows.Field (codes "is_open") ⟦<bool as Described>⟧.size (⟦<bool as Allocative>⟧.may_show x.0.now.is_open))))) };
-
-    ghost is_exact = { true };
-
-    fn enter(self, visitor: &mut Visitor<'_>) -> Result<(), Refusal> {
-        let number = Field("number", &self.0.number);
-        let name = Field("name", &self.0.name);
-        let count = Field("count", &self.0.count);
-        let marks = Field("marks", &self.0.marks);
-        let is_open = Field("is_open", &self.0.is_open);
-        (number, name, count, marks, is_open).enter(visitor)
-    }
-}
-
-#[derive(Drop)]
-struct OfEightPart2<'part>(&'part OfEight);
-
-impl<'part> Part for OfEightPart2<'part> {
-    ghost may_show = { λ x. shows.Both
-        (shows.Field (codes "limit") ⟦<Option<u64> as Described>⟧.size (⟦<Option<u64> as Allocative>⟧.may_show x.0.now.limit)) (shows.Both
-        (shows.Field (codes "place") ⟦<(u32, u32) as Described>⟧.size (⟦<(u32, u32) as Allocative>⟧.may_show x.0.now.place))
-        (shows.Field (codes "width") ⟦<u16 as Described>⟧.size (⟦<u16 as Allocative>⟧.may_show x.0.now.width))) };
-
-    ghost is_exact = { true };
-
-    fn enter(self, visitor: &mut Visitor<'_>) -> Result<(), Refusal> {
-        let limit = Field("limit", &self.0.limit);
-        let place = Field("place", &self.0.place);
-        let width = Field("width", &self.0.width);
-        (limit, place, width).enter(visitor)
+        let a = Field("number", &self.number);
+        let b = Field("name", &self.name);
+        let c = Field("count", &self.count);
+        let d = Field("marks", &self.marks);
+        let e = Field("is_open", &self.is_open);
+        let f = Field("limit", &self.limit);
+        let g = Field("place", &self.place);
+        let h = Field("width", &self.width);
+        Whole(self, ((a, b, c, d, e), (f, g, h))).enter(visitor)
     }
 }
 
 type OfElevenLayout = Record<
-    (
-        u64,
-        (
-            u32,
-            (
-                u32,
-                (
-                    Vec<u32>,
-                    (u32, (u32, ((u32, u32), (u32, (u32, (String, (u32, ()))))))),
-                ),
-            ),
-        ),
-    ),
+    And<
+        (u64, (u32, (u32, (Vec<u32>, (u32, ()))))),
+        And<(u32, ((u32, u32), (u32, (u32, (String, ()))))), (u32, ())>,
+    >,
 >;
 
 impl Described for OfEleven {
@@ -574,93 +451,26 @@ impl Allocative for OfEleven {
     ghost is_exact = { true };
 
     fn visit(&self, visitor: &mut Visitor<'_>) -> Result<(), Refusal> {
-        let part1 = OfElevenPart1(self);
-        let part2 = OfElevenPart2(self);
-        let part3 = OfElevenPart3(self);
-        Whole(self, (part1, part2, part3)).enter(visitor)
-    }
-}
-
-#[derive(Drop)]
-struct OfElevenPart1<'part>(&'part OfEleven);
-
-impl<'part> Part for OfElevenPart1<'part> {
-    ghost may_show = { λ x. shows.Both
-        (shows.Field (codes "number") ⟦<u64 as Described>⟧.size (⟦<u64 as Allocative>⟧.may_show x.0.now.number)) (shows.Both
-        (shows.Field (codes "name") ⟦<u32 as Described>⟧.size (⟦<u32 as Allocative>⟧.may_show x.0.now.name)) (shows.Both
-        (shows.Field (codes "count") ⟦<u32 as Described>⟧.size (⟦<u32 as Allocative>⟧.may_show x.0.now.count)) (shows.Both
-        (shows.Field (codes "marks") ⟦<Vec<u32> as Described>⟧.size (⟦<Vec<u32> as Allocative>⟧.may_show x.0.now.marks))
-        (shows.Field (codes "is_open") ⟦<u32 as Described>⟧.size (⟦<u32 as Allocative>⟧.may_show x.0.now.is_open))))) };
-
-    ghost is_exact = { true };
-
-    fn enter(self, visitor: &mut Visitor<'_>) -> Result<(), Refusal> {
-        let number = Field("number", &self.0.number);
-        let name = Field("name", &self.0.name);
-        let count = Field("count", &self.0.count);
-        let marks = Field("marks", &self.0.marks);
-        let is_open = Field("is_open", &self.0.is_open);
-        (number, name, count, marks, is_open).enter(visitor)
-    }
-}
-
-#[derive(Drop)]
-struct OfElevenPart2<'part>(&'part OfEleven);
-
-impl<'part> Part for OfElevenPart2<'part> {
-    ghost may_show = { λ x. shows.Both
-        (shows.Field (codes "limit") ⟦<u32 as Described>⟧.size (⟦<u32 as Allocative>⟧.may_show x.0.now.limit)) (shows.Both
-        (shows.Field (codes "place") ⟦<(u32, u32) as Described>⟧.size (⟦<(u32, u32) as Allocative>⟧.may_show x.0.now.place)) (shows.Both
-        (shows.Field (codes "width") ⟦<u32 as Described>⟧.size (⟦<u32 as Allocative>⟧.may_show x.0.now.width)) (shows.Both
-        (shows.Field (codes "height") ⟦<u32 as Described>⟧.size (⟦<u32 as Allocative>⟧.may_show x.0.now.height))
-        (shows.Field (codes "depth") ⟦<String as Described>⟧.size (⟦<String as Allocative>⟧.may_show x.0.now.depth))))) };
-
-    ghost is_exact = { true };
-
-    fn enter(self, visitor: &mut Visitor<'_>) -> Result<(), Refusal> {
-        let limit = Field("limit", &self.0.limit);
-        let place = Field("place", &self.0.place);
-        let width = Field("width", &self.0.width);
-        let height = Field("height", &self.0.height);
-        let depth = Field("depth", &self.0.depth);
-        (limit, place, width, height, depth).enter(visitor)
-    }
-}
-
-#[derive(Drop)]
-struct OfElevenPart3<'part>(&'part OfEleven);
-
-impl<'part> Part for OfElevenPart3<'part> {
-    ghost may_show = { λ x. shows.Field (codes "label") ⟦<u32 as Described>⟧.size (⟦<u32 as Allocative>⟧.may_show x.0.now.label) };
-
-    ghost is_exact = { true };
-
-    fn enter(self, visitor: &mut Visitor<'_>) -> Result<(), Refusal> {
-        let label = Field("label", &self.0.label);
-        label.enter(visitor)
+        let a = Field("number", &self.number);
+        let b = Field("name", &self.name);
+        let c = Field("count", &self.count);
+        let d = Field("marks", &self.marks);
+        let e = Field("is_open", &self.is_open);
+        let f = Field("limit", &self.limit);
+        let g = Field("place", &self.place);
+        let h = Field("width", &self.width);
+        let i = Field("height", &self.height);
+        let j = Field("depth", &self.depth);
+        let k = Field("label", &self.label);
+        Whole(self, ((a, b, c, d, e), (f, g, h, i, j), k)).enter(visitor)
     }
 }
 
 type OfThirteenLayout = Record<
-    (
-        u64,
-        (
-            u32,
-            (
-                u32,
-                (
-                    Vec<u32>,
-                    (
-                        u32,
-                        (
-                            u32,
-                            ((u32, u32), (u32, (u32, (String, (u32, (u32, (bool, ()))))))),
-                        ),
-                    ),
-                ),
-            ),
-        ),
-    ),
+    And<
+        (u64, (u32, (u32, (Vec<u32>, (u32, ()))))),
+        And<(u32, ((u32, u32), (u32, (u32, (String, ()))))), (u32, (u32, (bool, ())))>,
+    >,
 >;
 
 impl Described for OfThirteen {
@@ -711,104 +521,31 @@ impl Allocative for OfThirteen {
     ghost is_exact = { true };
 
     fn visit(&self, visitor: &mut Visitor<'_>) -> Result<(), Refusal> {
-        let part1 = OfThirteenPart1(self);
-        let part2 = OfThirteenPart2(self);
-        let part3 = OfThirteenPart3(self);
-        Whole(self, (part1, part2, part3)).enter(visitor)
-    }
-}
-
-#[derive(Drop)]
-struct OfThirteenPart1<'part>(&'part OfThirteen);
-
-impl<'part> Part for OfThirteenPart1<'part> {
-    ghost may_show = { λ x. shows.Both
-        (shows.Field (codes "number") ⟦<u64 as Described>⟧.size (⟦<u64 as Allocative>⟧.may_show x.0.now.number)) (shows.Both
-        (shows.Field (codes "name") ⟦<u32 as Described>⟧.size (⟦<u32 as Allocative>⟧.may_show x.0.now.name)) (shows.Both
-        (shows.Field (codes "count") ⟦<u32 as Described>⟧.size (⟦<u32 as Allocative>⟧.may_show x.0.now.count)) (shows.Both
-        (shows.Field (codes "marks") ⟦<Vec<u32> as Described>⟧.size (⟦<Vec<u32> as Allocative>⟧.may_show x.0.now.marks))
-        (shows.Field (codes "is_open") ⟦<u32 as Described>⟧.size (⟦<u32 as Allocative>⟧.may_show x.0.now.is_open))))) };
-
-    ghost is_exact = { true };
-
-    fn enter(self, visitor: &mut Visitor<'_>) -> Result<(), Refusal> {
-        let number = Field("number", &self.0.number);
-        let name = Field("name", &self.0.name);
-        let count = Field("count", &self.0.count);
-        let marks = Field("marks", &self.0.marks);
-        let is_open = Field("is_open", &self.0.is_open);
-        (number, name, count, marks, is_open).enter(visitor)
-    }
-}
-
-#[derive(Drop)]
-struct OfThirteenPart2<'part>(&'part OfThirteen);
-
-impl<'part> Part for OfThirteenPart2<'part> {
-    ghost may_show = { λ x. shows.Both
-        (shows.Field (codes "limit") ⟦<u32 as Described>⟧.size (⟦<u32 as Allocative>⟧.may_show x.0.now.limit)) (shows.Both
-        (shows.Field (codes "place") ⟦<(u32, u32) as Described>⟧.size (⟦<(u32, u32) as Allocative>⟧.may_show x.0.now.place)) (shows.Both
-        (shows.Field (codes "width") ⟦<u32 as Described>⟧.size (⟦<u32 as Allocative>⟧.may_show x.0.now.width)) (shows.Both
-        (shows.Field (codes "height") ⟦<u32 as Described>⟧.size (⟦<u32 as Allocative>⟧.may_show x.0.now.height))
-        (shows.Field (codes "depth") ⟦<String as Described>⟧.size (⟦<String as Allocative>⟧.may_show x.0.now.depth))))) };
-
-    ghost is_exact = { true };
-
-    fn enter(self, visitor: &mut Visitor<'_>) -> Result<(), Refusal> {
-        let limit = Field("limit", &self.0.limit);
-        let place = Field("place", &self.0.place);
-        let width = Field("width", &self.0.width);
-        let height = Field("height", &self.0.height);
-        let depth = Field("depth", &self.0.depth);
-        (limit, place, width, height, depth).enter(visitor)
-    }
-}
-
-#[derive(Drop)]
-struct OfThirteenPart3<'part>(&'part OfThirteen);
-
-impl<'part> Part for OfThirteenPart3<'part> {
-    ghost may_show = { λ x. shows.Both
-        (shows.Field (codes "label") ⟦<u32 as Described>⟧.size (⟦<u32 as Allocative>⟧.may_show x.0.now.label)) (shows.Both
-        (shows.Field (codes "price") ⟦<u32 as Described>⟧.size (⟦<u32 as Allocative>⟧.may_show x.0.now.price))
-        (shows.Field (codes "seller") ⟦<bool as Described>⟧.size (⟦<bool as Allocative>⟧.may_show x.0.now.seller))) };
-
-    ghost is_exact = { true };
-
-    fn enter(self, visitor: &mut Visitor<'_>) -> Result<(), Refusal> {
-        let label = Field("label", &self.0.label);
-        let price = Field("price", &self.0.price);
-        let seller = Field("seller", &self.0.seller);
-        (label, price, seller).enter(visitor)
+        let a = Field("number", &self.number);
+        let b = Field("name", &self.name);
+        let c = Field("count", &self.count);
+        let d = Field("marks", &self.marks);
+        let e = Field("is_open", &self.is_open);
+        let f = Field("limit", &self.limit);
+        let g = Field("place", &self.place);
+        let h = Field("width", &self.width);
+        let i = Field("height", &self.height);
+        let j = Field("depth", &self.depth);
+        let k = Field("label", &self.label);
+        let l = Field("price", &self.price);
+        let m = Field("seller", &self.seller);
+        Whole(self, ((a, b, c, d, e), (f, g, h, i, j), (k, l, m))).enter(visitor)
     }
 }
 
 type OfSixteenLayout = Record<
-    (
-        u64,
-        (
-            u32,
-            (
-                u32,
-                (
-                    Vec<u32>,
-                    (
-                        u32,
-                        (
-                            u32,
-                            (
-                                (u32, u32),
-                                (
-                                    u32,
-                                    (u32, (String, (u32, (u32, (bool, (u32, (u32, (u16, ())))))))),
-                                ),
-                            ),
-                        ),
-                    ),
-                ),
-            ),
-        ),
-    ),
+    And<
+        (u64, (u32, (u32, (Vec<u32>, (u32, ()))))),
+        And<
+            (u32, ((u32, u32), (u32, (u32, (String, ()))))),
+            And<(u32, (u32, (bool, (u32, (u32, ()))))), (u16, ())>,
+        >,
+    >,
 >;
 
 impl Described for OfSixteen {
@@ -862,147 +599,34 @@ impl Allocative for OfSixteen {
     ghost is_exact = { true };
 
     fn visit(&self, visitor: &mut Visitor<'_>) -> Result<(), Refusal> {
-        let part1 = OfSixteenPart1(self);
-        let part2 = OfSixteenPart2(self);
-        let part3 = OfSixteenPart3(self);
-        let part4 = OfSixteenPart4(self);
-        Whole(self, (part1, part2, part3, part4)).enter(visitor)
-    }
-}
-
-#[derive(Drop)]
-struct OfSixteenPart1<'part>(&'part OfSixteen);
-
-impl<'part> Part for OfSixteenPart1<'part> {
-    ghost may_show = { λ x. shows.Both
-        (shows.Field (codes "number") ⟦<u64 as Described>⟧.size (⟦<u64 as Allocative>⟧.may_show x.0.now.number)) (shows.Both
-        (shows.Field (codes "name") ⟦<u32 as Described>⟧.size (⟦<u32 as Allocative>⟧.may_show x.0.now.name)) (shows.Both
-        (shows.Field (codes "count") ⟦<u32 as Described>⟧.size (⟦<u32 as Allocative>⟧.may_show x.0.now.count)) (shows.Both
-        (shows.Field (codes "marks") ⟦<Vec<u32> as Described>⟧.size (⟦<Vec<u32> as Allocative>⟧.may_show x.0.now.marks))
-        (shows.Field (codes "is_open") ⟦<u32 as Described>⟧.size (⟦<u32 as Allocative>⟧.may_show x.0.now.is_open))))) };
-
-    ghost is_exact = { true };
-
-    fn enter(self, visitor: &mut Visitor<'_>) -> Result<(), Refusal> {
-        let number = Field("number", &self.0.number);
-        let name = Field("name", &self.0.name);
-        let count = Field("count", &self.0.count);
-        let marks = Field("marks", &self.0.marks);
-        let is_open = Field("is_open", &self.0.is_open);
-        (number, name, count, marks, is_open).enter(visitor)
-    }
-}
-
-#[derive(Drop)]
-struct OfSixteenPart2<'part>(&'part OfSixteen);
-
-impl<'part> Part for OfSixteenPart2<'part> {
-    ghost may_show = { λ x. shows.Both
-        (shows.Field (codes "limit") ⟦<u32 as Described>⟧.size (⟦<u32 as Allocative>⟧.may_show x.0.now.limit)) (shows.Both
-        (shows.Field (codes "place") ⟦<(u32, u32) as Described>⟧.size (⟦<(u32, u32) as Allocative>⟧.may_show x.0.now.place)) (shows.Both
-        (shows.Field (codes "width") ⟦<u32 as Described>⟧.size (⟦<u32 as Allocative>⟧.may_show x.0.now.width)) (shows.Both
-        (shows.Field (codes "height") ⟦<u32 as Described>⟧.size (⟦<u32 as Allocative>⟧.may_show x.0.now.height))
-        (shows.Field (codes "depth") ⟦<String as Described>⟧.size (⟦<String as Allocative>⟧.may_show x.0.now.depth))))) };
-
-    ghost is_exact = { true };
-
-    fn enter(self, visitor: &mut Visitor<'_>) -> Result<(), Refusal> {
-        let limit = Field("limit", &self.0.limit);
-        let place = Field("place", &self.0.place);
-        let width = Field("width", &self.0.width);
-        let height = Field("height", &self.0.height);
-        let depth = Field("depth", &self.0.depth);
-        (limit, place, width, height, depth).enter(visitor)
-    }
-}
-
-#[derive(Drop)]
-struct OfSixteenPart3<'part>(&'part OfSixteen);
-
-impl<'part> Part for OfSixteenPart3<'part> {
-    ghost may_show = { λ x. shows.Both
-        (shows.Field (codes "label") ⟦<u32 as Described>⟧.size (⟦<u32 as Allocative>⟧.may_show x.0.now.label)) (shows.Both
-        (shows.Field (codes "price") ⟦<u32 as Described>⟧.size (⟦<u32 as Allocative>⟧.may_show x.0.now.price)) (shows.Both
-        (shows.Field (codes "seller") ⟦<bool as Described>⟧.size (⟦<bool as Allocative>⟧.may_show x.0.now.seller)) (shows.Both
-        (shows.Field (codes "is_paid") ⟦<u32 as Described>⟧.size (⟦<u32 as Allocative>⟧.may_show x.0.now.is_paid))
-        (shows.Field (codes "weight") ⟦<u32 as Described>⟧.size (⟦<u32 as Allocative>⟧.may_show x.0.now.weight))))) };
-
-    ghost is_exact = { true };
-
-    fn enter(self, visitor: &mut Visitor<'_>) -> Result<(), Refusal> {
-        let label = Field("label", &self.0.label);
-        let price = Field("price", &self.0.price);
-        let seller = Field("seller", &self.0.seller);
-        let is_paid = Field("is_paid", &self.0.is_paid);
-        let weight = Field("weight", &self.0.weight);
-        (label, price, seller, is_paid, weight).enter(visitor)
-    }
-}
-
-#[derive(Drop)]
-struct OfSixteenPart4<'part>(&'part OfSixteen);
-
-impl<'part> Part for OfSixteenPart4<'part> {
-    ghost may_show = { λ x. shows.Field (codes "colour") ⟦<u16 as Described>⟧.size (⟦<u16 as Allocative>⟧.may_show x.0.now.colour) };
-
-    ghost is_exact = { true };
-
-    fn enter(self, visitor: &mut Visitor<'_>) -> Result<(), Refusal> {
-        let colour = Field("colour", &self.0.colour);
-        colour.enter(visitor)
+        let a = Field("number", &self.number);
+        let b = Field("name", &self.name);
+        let c = Field("count", &self.count);
+        let d = Field("marks", &self.marks);
+        let e = Field("is_open", &self.is_open);
+        let f = Field("limit", &self.limit);
+        let g = Field("place", &self.place);
+        let h = Field("width", &self.width);
+        let i = Field("height", &self.height);
+        let j = Field("depth", &self.depth);
+        let k = Field("label", &self.label);
+        let l = Field("price", &self.price);
+        let m = Field("seller", &self.seller);
+        let n = Field("is_paid", &self.is_paid);
+        let o = Field("weight", &self.weight);
+        let p = Field("colour", &self.colour);
+        Whole(self, ((a, b, c, d, e), (f, g, h, i, j), (k, l, m, n, o), p)).enter(visitor)
     }
 }
 
 type OfTwentyLayout = Record<
-    (
-        u64,
-        (
-            u32,
-            (
-                u32,
-                (
-                    Vec<u32>,
-                    (
-                        u32,
-                        (
-                            u32,
-                            (
-                                (u32, u32),
-                                (
-                                    u32,
-                                    (
-                                        u32,
-                                        (
-                                            String,
-                                            (
-                                                u32,
-                                                (
-                                                    u32,
-                                                    (
-                                                        bool,
-                                                        (
-                                                            u32,
-                                                            (
-                                                                u32,
-                                                                (
-                                                                    u16,
-                                                                    (u32, (u32, (u32, (u32, ())))),
-                                                                ),
-                                                            ),
-                                                        ),
-                                                    ),
-                                                ),
-                                            ),
-                                        ),
-                                    ),
-                                ),
-                            ),
-                        ),
-                    ),
-                ),
-            ),
-        ),
-    ),
+    And<
+        (u64, (u32, (u32, (Vec<u32>, (u32, ()))))),
+        And<
+            (u32, ((u32, u32), (u32, (u32, (String, ()))))),
+            And<(u32, (u32, (bool, (u32, (u32, ()))))), (u16, (u32, (u32, (u32, (u32, ())))))>,
+        >,
+    >,
 >;
 
 impl Described for OfTwenty {
@@ -1061,103 +685,153 @@ impl Allocative for OfTwenty {
     ghost is_exact = { true };
 
     fn visit(&self, visitor: &mut Visitor<'_>) -> Result<(), Refusal> {
-        let part1 = OfTwentyPart1(self);
-        let part2 = OfTwentyPart2(self);
-        let part3 = OfTwentyPart3(self);
-        let part4 = OfTwentyPart4(self);
-        Whole(self, (part1, part2, part3, part4)).enter(visitor)
+        let a = Field("number", &self.number);
+        let b = Field("name", &self.name);
+        let c = Field("count", &self.count);
+        let d = Field("marks", &self.marks);
+        let e = Field("is_open", &self.is_open);
+        let f = Field("limit", &self.limit);
+        let g = Field("place", &self.place);
+        let h = Field("width", &self.width);
+        let i = Field("height", &self.height);
+        let j = Field("depth", &self.depth);
+        let k = Field("label", &self.label);
+        let l = Field("price", &self.price);
+        let m = Field("seller", &self.seller);
+        let n = Field("is_paid", &self.is_paid);
+        let o = Field("weight", &self.weight);
+        let p = Field("colour", &self.colour);
+        let q = Field("first", &self.first);
+        let r = Field("last", &self.last);
+        let s = Field("total", &self.total);
+        let t = Field("is_old", &self.is_old);
+        Whole(
+            self,
+            (
+                (a, b, c, d, e),
+                (f, g, h, i, j),
+                (k, l, m, n, o),
+                (p, q, r, s, t),
+            ),
+        )
+        .enter(visitor)
     }
 }
 
-#[derive(Drop)]
-struct OfTwentyPart1<'part>(&'part OfTwenty);
+type OfTwentyFiveLayout<T> = Record<
+    And<
+        (T, (Vec<T>, (String, (T, (bool, ()))))),
+        And<
+            (Option<u64>, (T, (u16, (Vec<T>, (T, ()))))),
+            And<
+                (String, (Vec<u32>, (T, (Option<u64>, ((u32, u32), ()))))),
+                And<
+                    (Vec<T>, (u64, (u32, (T, (Vec<u32>, ()))))),
+                    (bool, (T, (Vec<T>, (u16, (T, ()))))),
+                >,
+            >,
+        >,
+    >,
+>;
 
-impl<'part> Part for OfTwentyPart1<'part> {
-    ghost may_show = { λ x. shows.Both
-        (shows.Field (codes "number") ⟦<u64 as Described>⟧.size (⟦<u64 as Allocative>⟧.may_show x.0.now.number)) (shows.Both
-        (shows.Field (codes "name") ⟦<u32 as Described>⟧.size (⟦<u32 as Allocative>⟧.may_show x.0.now.name)) (shows.Both
-        (shows.Field (codes "count") ⟦<u32 as Described>⟧.size (⟦<u32 as Allocative>⟧.may_show x.0.now.count)) (shows.Both
-        (shows.Field (codes "marks") ⟦<Vec<u32> as Described>⟧.size (⟦<Vec<u32> as Allocative>⟧.may_show x.0.now.marks))
-        (shows.Field (codes "is_open") ⟦<u32 as Described>⟧.size (⟦<u32 as Allocative>⟧.may_show x.0.now.is_open))))) };
+impl<T: Allocative + Described> Described for OfTwentyFive<T> {
+    ghost name = { codes "OfTwentyFive" };
 
-    ghost is_exact = { true };
+    ghost align = { ⟦<OfTwentyFiveLayout<T> as Described>⟧.align };
 
-    fn enter(self, visitor: &mut Visitor<'_>) -> Result<(), Refusal> {
-        let number = Field("number", &self.0.number);
-        let name = Field("name", &self.0.name);
-        let count = Field("count", &self.0.count);
-        let marks = Field("marks", &self.0.marks);
-        let is_open = Field("is_open", &self.0.is_open);
-        (number, name, count, marks, is_open).enter(visitor)
+    ghost needs_drop = { ⟦<OfTwentyFiveLayout<T> as Described>⟧.needs_drop };
+
+    ghost size = { ⟦<OfTwentyFiveLayout<T> as Described>⟧.size };
+
+    fn name() -> &'static str {
+        "OfTwentyFive"
+    }
+
+    fn align() -> usize {
+        <OfTwentyFiveLayout<T>>::align()
+    }
+
+    fn needs_drop() -> bool {
+        <OfTwentyFiveLayout<T>>::needs_drop()
+    }
+
+    fn size() -> Option<usize> {
+        <OfTwentyFiveLayout<T>>::size()
     }
 }
 
-#[derive(Drop)]
-struct OfTwentyPart2<'part>(&'part OfTwenty);
+impl<T: Allocative + Described> Allocative for OfTwentyFive<T> {
+    ghost may_show = { λ x. shows.Field (codes "OfTwentyFive") ⟦<OfTwentyFiveLayout<T> as Described>⟧.size (shows.Both
+        (shows.Both
+        (shows.Field (codes "first") ⟦<T as Described>⟧.size (⟦<T as Allocative>⟧.may_show x.first)) (shows.Both
+        (shows.Field (codes "second") ⟦<Vec<T> as Described>⟧.size (⟦<Vec<T> as Allocative>⟧.may_show x.second)) (shows.Both
+        (shows.Field (codes "name") ⟦<String as Described>⟧.size (⟦<String as Allocative>⟧.may_show x.name)) (shows.Both
+        (shows.Field (codes "third") ⟦<T as Described>⟧.size (⟦<T as Allocative>⟧.may_show x.third))
+        (shows.Field (codes "is_open") ⟦<bool as Described>⟧.size (⟦<bool as Allocative>⟧.may_show x.is_open)))))) (shows.Both
+        (shows.Both
+        (shows.Field (codes "limit") ⟦<Option<u64> as Described>⟧.size (⟦<Option<u64> as Allocative>⟧.may_show x.limit)) (shows.Both
+        (shows.Field (codes "fourth") ⟦<T as Described>⟧.size (⟦<T as Allocative>⟧.may_show x.fourth)) (shows.Both
+        (shows.Field (codes "width") ⟦<u16 as Described>⟧.size (⟦<u16 as Allocative>⟧.may_show x.width)) (shows.Both
+        (shows.Field (codes "fifth") ⟦<Vec<T> as Described>⟧.size (⟦<Vec<T> as Allocative>⟧.may_show x.fifth))
+        (shows.Field (codes "sixth") ⟦<T as Described>⟧.size (⟦<T as Allocative>⟧.may_show x.sixth)))))) (shows.Both
+        (shows.Both
+        (shows.Field (codes "label") ⟦<String as Described>⟧.size (⟦<String as Allocative>⟧.may_show x.label)) (shows.Both
+        (shows.Field (codes "marks") ⟦<Vec<u32> as Described>⟧.size (⟦<Vec<u32> as Allocative>⟧.may_show x.marks)) (shows.Both
+        (shows.Field (codes "seventh") ⟦<T as Described>⟧.size (⟦<T as Allocative>⟧.may_show x.seventh)) (shows.Both
+        (shows.Field (codes "price") ⟦<Option<u64> as Described>⟧.size (⟦<Option<u64> as Allocative>⟧.may_show x.price))
+        (shows.Field (codes "place") ⟦<(u32, u32) as Described>⟧.size (⟦<(u32, u32) as Allocative>⟧.may_show x.place)))))) (shows.Both
+        (shows.Both
+        (shows.Field (codes "eighth") ⟦<Vec<T> as Described>⟧.size (⟦<Vec<T> as Allocative>⟧.may_show x.eighth)) (shows.Both
+        (shows.Field (codes "number") ⟦<u64 as Described>⟧.size (⟦<u64 as Allocative>⟧.may_show x.number)) (shows.Both
+        (shows.Field (codes "count") ⟦<u32 as Described>⟧.size (⟦<u32 as Allocative>⟧.may_show x.count)) (shows.Both
+        (shows.Field (codes "ninth") ⟦<T as Described>⟧.size (⟦<T as Allocative>⟧.may_show x.ninth))
+        (shows.Field (codes "sizes") ⟦<Vec<u32> as Described>⟧.size (⟦<Vec<u32> as Allocative>⟧.may_show x.sizes))))))
+        (shows.Both
+        (shows.Field (codes "is_paid") ⟦<bool as Described>⟧.size (⟦<bool as Allocative>⟧.may_show x.is_paid)) (shows.Both
+        (shows.Field (codes "tenth") ⟦<T as Described>⟧.size (⟦<T as Allocative>⟧.may_show x.tenth)) (shows.Both
+        (shows.Field (codes "eleventh") ⟦<Vec<T> as Described>⟧.size (⟦<Vec<T> as Allocative>⟧.may_show x.eleventh)) (shows.Both
+        (shows.Field (codes "colour") ⟦<u16 as Described>⟧.size (⟦<u16 as Allocative>⟧.may_show x.colour))
+        (shows.Field (codes "last") ⟦<T as Described>⟧.size (⟦<T as Allocative>⟧.may_show x.last)))))))))) };
 
-impl<'part> Part for OfTwentyPart2<'part> {
-    ghost may_show = { λ x. shows.Both
-        (shows.Field (codes "limit") ⟦<u32 as Described>⟧.size (⟦<u32 as Allocative>⟧.may_show x.0.now.limit)) (shows.Both
-        (shows.Field (codes "place") ⟦<(u32, u32) as Described>⟧.size (⟦<(u32, u32) as Allocative>⟧.may_show x.0.now.place)) (shows.Both
-        (shows.Field (codes "width") ⟦<u32 as Described>⟧.size (⟦<u32 as Allocative>⟧.may_show x.0.now.width)) (shows.Both
-        (shows.Field (codes "height") ⟦<u32 as Described>⟧.size (⟦<u32 as Allocative>⟧.may_show x.0.now.height))
-        (shows.Field (codes "depth") ⟦<String as Described>⟧.size (⟦<String as Allocative>⟧.may_show x.0.now.depth))))) };
+    ghost is_exact = { (⟦<T as Allocative>⟧.is_exact && (⟦<Vec<T> as Allocative>⟧.is_exact && (⟦<String as Allocative>⟧.is_exact && (⟦<T as Allocative>⟧.is_exact && (⟦<bool as Allocative>⟧.is_exact))))) && ((⟦<Option<u64> as Allocative>⟧.is_exact && (⟦<T as Allocative>⟧.is_exact && (⟦<u16 as Allocative>⟧.is_exact && (⟦<Vec<T> as Allocative>⟧.is_exact && (⟦<T as Allocative>⟧.is_exact))))) && ((⟦<String as Allocative>⟧.is_exact && (⟦<Vec<u32> as Allocative>⟧.is_exact && (⟦<T as Allocative>⟧.is_exact && (⟦<Option<u64> as Allocative>⟧.is_exact && (⟦<(u32, u32) as Allocative>⟧.is_exact))))) && ((⟦<Vec<T> as Allocative>⟧.is_exact && (⟦<u64 as Allocative>⟧.is_exact && (⟦<u32 as Allocative>⟧.is_exact && (⟦<T as Allocative>⟧.is_exact && (⟦<Vec<u32> as Allocative>⟧.is_exact))))) && ((⟦<bool as Allocative>⟧.is_exact && (⟦<T as Allocative>⟧.is_exact && (⟦<Vec<T> as Allocative>⟧.is_exact && (⟦<u16 as Allocative>⟧.is_exact && (⟦<T as Allocative>⟧.is_exact))))))))) };
 
-    ghost is_exact = { true };
-
-    fn enter(self, visitor: &mut Visitor<'_>) -> Result<(), Refusal> {
-        let limit = Field("limit", &self.0.limit);
-        let place = Field("place", &self.0.place);
-        let width = Field("width", &self.0.width);
-        let height = Field("height", &self.0.height);
-        let depth = Field("depth", &self.0.depth);
-        (limit, place, width, height, depth).enter(visitor)
-    }
-}
-
-#[derive(Drop)]
-struct OfTwentyPart3<'part>(&'part OfTwenty);
-
-impl<'part> Part for OfTwentyPart3<'part> {
-    ghost may_show = { λ x. shows.Both
-        (shows.Field (codes "label") ⟦<u32 as Described>⟧.size (⟦<u32 as Allocative>⟧.may_show x.0.now.label)) (shows.Both
-        (shows.Field (codes "price") ⟦<u32 as Described>⟧.size (⟦<u32 as Allocative>⟧.may_show x.0.now.price)) (shows.Both
-        (shows.Field (codes "seller") ⟦<bool as Described>⟧.size (⟦<bool as Allocative>⟧.may_show x.0.now.seller)) (shows.Both
-        (shows.Field (codes "is_paid") ⟦<u32 as Described>⟧.size (⟦<u32 as Allocative>⟧.may_show x.0.now.is_paid))
-        (shows.Field (codes "weight") ⟦<u32 as Described>⟧.size (⟦<u32 as Allocative>⟧.may_show x.0.now.weight))))) };
-
-    ghost is_exact = { true };
-
-    fn enter(self, visitor: &mut Visitor<'_>) -> Result<(), Refusal> {
-        let label = Field("label", &self.0.label);
-        let price = Field("price", &self.0.price);
-        let seller = Field("seller", &self.0.seller);
-        let is_paid = Field("is_paid", &self.0.is_paid);
-        let weight = Field("weight", &self.0.weight);
-        (label, price, seller, is_paid, weight).enter(visitor)
-    }
-}
-
-#[derive(Drop)]
-struct OfTwentyPart4<'part>(&'part OfTwenty);
-
-impl<'part> Part for OfTwentyPart4<'part> {
-    ghost may_show = { λ x. shows.Both
-        (shows.Field (codes "colour") ⟦<u16 as Described>⟧.size (⟦<u16 as Allocative>⟧.may_show x.0.now.colour)) (shows.Both
-        (shows.Field (codes "first") ⟦<u32 as Described>⟧.size (⟦<u32 as Allocative>⟧.may_show x.0.now.first)) (shows.Both
-        (shows.Field (codes "last") ⟦<u32 as Described>⟧.size (⟦<u32 as Allocative>⟧.may_show x.0.now.last)) (shows.Both
-        (shows.Field (codes "total") ⟦<u32 as Described>⟧.size (⟦<u32 as Allocative>⟧.may_show x.0.now.total))
-        (shows.Field (codes "is_old") ⟦<u32 as Described>⟧.size (⟦<u32 as Allocative>⟧.may_show x.0.now.is_old))))) };
-
-    ghost is_exact = { true };
-
-    fn enter(self, visitor: &mut Visitor<'_>) -> Result<(), Refusal> {
-        let colour = Field("colour", &self.0.colour);
-        let first = Field("first", &self.0.first);
-        let last = Field("last", &self.0.last);
-        let total = Field("total", &self.0.total);
-        let is_old = Field("is_old", &self.0.is_old);
-        (colour, first, last, total, is_old).enter(visitor)
+    fn visit(&self, visitor: &mut Visitor<'_>) -> Result<(), Refusal> {
+        let a = Field("first", &self.first);
+        let b = Field("second", &self.second);
+        let c = Field("name", &self.name);
+        let d = Field("third", &self.third);
+        let e = Field("is_open", &self.is_open);
+        let f = Field("limit", &self.limit);
+        let g = Field("fourth", &self.fourth);
+        let h = Field("width", &self.width);
+        let i = Field("fifth", &self.fifth);
+        let j = Field("sixth", &self.sixth);
+        let k = Field("label", &self.label);
+        let l = Field("marks", &self.marks);
+        let m = Field("seventh", &self.seventh);
+        let n = Field("price", &self.price);
+        let o = Field("place", &self.place);
+        let p = Field("eighth", &self.eighth);
+        let q = Field("number", &self.number);
+        let r = Field("count", &self.count);
+        let s = Field("ninth", &self.ninth);
+        let t = Field("sizes", &self.sizes);
+        let u = Field("is_paid", &self.is_paid);
+        let v = Field("tenth", &self.tenth);
+        let w = Field("eleventh", &self.eleventh);
+        let a23 = Field("colour", &self.colour);
+        let a24 = Field("last", &self.last);
+        Whole(
+            self,
+            (
+                (a, b, c, d, e),
+                (f, g, h, i, j),
+                (k, l, m, n, o),
+                (p, q, r, s, t),
+                (u, v, w, a23, a24),
+            ),
+        )
+        .enter(visitor)
     }
 }
 
@@ -1242,7 +916,7 @@ impl Allocative for Point {
     }
 }
 
-type SextetLayout = Record<(u8, (u8, (u8, (u8, (u8, (u16, ()))))))>;
+type SextetLayout = Record<And<(u8, (u8, (u8, (u8, (u8, ()))))), (u16, ())>>;
 
 impl Described for Sextet {
     ghost name = { codes "Sextet" };
@@ -1283,46 +957,13 @@ impl Allocative for Sextet {
     ghost is_exact = { true };
 
     fn visit(&self, visitor: &mut Visitor<'_>) -> Result<(), Refusal> {
-        let part1 = SextetPart1(self);
-        let part2 = SextetPart2(self);
-        Whole(self, (part1, part2)).enter(visitor)
-    }
-}
-
-#[derive(Drop)]
-struct SextetPart1<'part>(&'part Sextet);
-
-impl<'part> Part for SextetPart1<'part> {
-    ghost may_show = { λ x. shows.Both
-        (shows.Field (codes "0") ⟦<u8 as Described>⟧.size (⟦<u8 as Allocative>⟧.may_show x.0.now.0)) (shows.Both
-        (shows.Field (codes "1") ⟦<u8 as Described>⟧.size (⟦<u8 as Allocative>⟧.may_show x.0.now.1)) (shows.Both
-        (shows.Field (codes "2") ⟦<u8 as Described>⟧.size (⟦<u8 as Allocative>⟧.may_show x.0.now.2)) (shows.Both
-        (shows.Field (codes "3") ⟦<u8 as Described>⟧.size (⟦<u8 as Allocative>⟧.may_show x.0.now.3))
-        (shows.Field (codes "4") ⟦<u8 as Described>⟧.size (⟦<u8 as Allocative>⟧.may_show x.0.now.4))))) };
-
-    ghost is_exact = { true };
-
-    fn enter(self, visitor: &mut Visitor<'_>) -> Result<(), Refusal> {
-        let a = Field("0", &self.0.0);
-        let b = Field("1", &self.0.1);
-        let c = Field("2", &self.0.2);
-        let d = Field("3", &self.0.3);
-        let e = Field("4", &self.0.4);
-        (a, b, c, d, e).enter(visitor)
-    }
-}
-
-#[derive(Drop)]
-struct SextetPart2<'part>(&'part Sextet);
-
-impl<'part> Part for SextetPart2<'part> {
-    ghost may_show = { λ x. shows.Field (codes "5") ⟦<u16 as Described>⟧.size (⟦<u16 as Allocative>⟧.may_show x.0.now.5) };
-
-    ghost is_exact = { true };
-
-    fn enter(self, visitor: &mut Visitor<'_>) -> Result<(), Refusal> {
-        let a = Field("5", &self.0.5);
-        a.enter(visitor)
+        let a = Field("0", &self.0);
+        let b = Field("1", &self.1);
+        let c = Field("2", &self.2);
+        let d = Field("3", &self.3);
+        let e = Field("4", &self.4);
+        let f = Field("5", &self.5);
+        Whole(self, ((a, b, c, d, e), f)).enter(visitor)
     }
 }
 
@@ -1612,7 +1253,7 @@ impl<'a, const N: usize> Allocative for Found<'a, N> {
     }
 }
 
-type RouteLayout<T> = Record<(String, (T, (T, (Option<T>, (Vec<T>, (u64, (bool, ())))))))>;
+type RouteLayout<T> = Record<And<(String, (T, (T, (Option<T>, (Vec<T>, ()))))), (u64, (bool, ()))>>;
 
 impl<T: Allocative + Described> Described for Route<T> {
     ghost name = { codes "Route" };
@@ -1655,48 +1296,17 @@ impl<T: Allocative + Described> Allocative for Route<T> {
     ghost is_exact = { (⟦<String as Allocative>⟧.is_exact && (⟦<T as Allocative>⟧.is_exact && (⟦<T as Allocative>⟧.is_exact && (⟦<Option<T> as Allocative>⟧.is_exact && (⟦<Vec<T> as Allocative>⟧.is_exact))))) && ((⟦<u64 as Allocative>⟧.is_exact && (⟦<bool as Allocative>⟧.is_exact))) };
 
     fn visit(&self, visitor: &mut Visitor<'_>) -> Result<(), Refusal> {
-        let part1 = RoutePart1(self);
-        let part2 = RoutePart2(self);
-        Whole(self, (part1, part2)).enter(visitor)
-    }
-}
-
-#[derive(Drop)]
-struct RoutePart1<'part, T: Allocative + Described>(&'part Route<T>);
-
-impl<'part, T: Allocative + Described> Part for RoutePart1<'part, T> {
-    ghost may_show = { λ x. shows.Both
-        (shows.Field (codes "name") ⟦<String as Described>⟧.size (⟦<String as Allocative>⟧.may_show x.0.now.name)) (shows.Both
-        (shows.Field (codes "first") ⟦<T as Described>⟧.size (⟦<T as Allocative>⟧.may_show x.0.now.first)) (shows.Both
-        (shows.Field (codes "last") ⟦<T as Described>⟧.size (⟦<T as Allocative>⟧.may_show x.0.now.last)) (shows.Both
-        (shows.Field (codes "between") ⟦<Option<T> as Described>⟧.size (⟦<Option<T> as Allocative>⟧.may_show x.0.now.between))
-        (shows.Field (codes "steps") ⟦<Vec<T> as Described>⟧.size (⟦<Vec<T> as Allocative>⟧.may_show x.0.now.steps))))) };
-
-    ghost is_exact = { ⟦<String as Allocative>⟧.is_exact && (⟦<T as Allocative>⟧.is_exact && (⟦<T as Allocative>⟧.is_exact && (⟦<Option<T> as Allocative>⟧.is_exact && (⟦<Vec<T> as Allocative>⟧.is_exact)))) };
-
-    fn enter(self, visitor: &mut Visitor<'_>) -> Result<(), Refusal> {
-        let name = Field("name", &self.0.name);
-        let first = Field("first", &self.0.first);
-        let last = Field("last", &self.0.last);
-        let between = Field("between", &self.0.between);
-        let steps = Field("steps", &self.0.steps);
-        (name, first, last, between, steps).enter(visitor)
-    }
-}
-
-#[derive(Drop)]
-struct RoutePart2<'part, T: Allocative + Described>(&'part Route<T>);
-
-impl<'part, T: Allocative + Described> Part for RoutePart2<'part, T> {
-    ghost may_show = { λ x. shows.Both
-        (shows.Field (codes "length") ⟦<u64 as Described>⟧.size (⟦<u64 as Allocative>⟧.may_show x.0.now.length))
-        (shows.Field (codes "is_round") ⟦<bool as Described>⟧.size (⟦<bool as Allocative>⟧.may_show x.0.now.is_round)) };
-
-    ghost is_exact = { ⟦<u64 as Allocative>⟧.is_exact && (⟦<bool as Allocative>⟧.is_exact) };
-
-    fn enter(self, visitor: &mut Visitor<'_>) -> Result<(), Refusal> {
-        let length = Field("length", &self.0.length);
-        let is_round = Field("is_round", &self.0.is_round);
-        (length, is_round).enter(visitor)
+        let name = Field("name", &self.name);
+        let first = Field("first", &self.first);
+        let last = Field("last", &self.last);
+        let between = Field("between", &self.between);
+        let steps = Field("steps", &self.steps);
+        let length = Field("length", &self.length);
+        let is_round = Field("is_round", &self.is_round);
+        Whole(
+            self,
+            ((name, first, last, between, steps), (length, is_round)),
+        )
+        .enter(visitor)
     }
 }

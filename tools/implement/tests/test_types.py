@@ -2,7 +2,7 @@
 
 import unittest
 
-from ..shapes import Module, module_of
+from ..types import Module, module_of
 from ..tokens import Tokens
 
 
@@ -72,7 +72,7 @@ class ShapesTest(unittest.TestCase):
     def test_all_faults_of_a_module(self) -> None:
         text = "struct r#type;\nstruct A { b }\nunion U { a: u8 }\nenum B { C D }\nstruct E {\n// allocative: sip\na: u8 }\nstruct F;"
         found = read(text)
-        self.assertEqual([fault.line for fault in found.faults], [1, 2, 3, 4, 7])
+        self.assertEqual([text.count("\n", 0, fault.at) + 1 for fault in found.faults], [1, 2, 3, 4, 7])
         self.assertEqual(list(found.types), ["F"])
 
 
