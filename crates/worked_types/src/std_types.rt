@@ -12,6 +12,7 @@ use std::num::{
     NonZeroI8, NonZeroI16, NonZeroI32, NonZeroI64, NonZeroIsize, NonZeroU8, NonZeroU16, NonZeroU32,
     NonZeroU64, NonZeroUsize,
 };
+use std::process::Abort;
 use std::sync::atomic::{
     AtomicBool, AtomicI8, AtomicI16, AtomicI32, AtomicI64, AtomicIsize, AtomicU8, AtomicU16,
     AtomicU32, AtomicU64, AtomicUsize,
@@ -19,135 +20,143 @@ use std::sync::atomic::{
 use std::test::Fail;
 use std::time::{Duration, Instant, SystemTime};
 
+/// Asserts the text of each value, without the lines of unused capacity.
+fn expect_each(
+    rt: &impl Abort,
+    alloc: Global,
+    rows: &[(&dyn Allocative, &str)],
+) -> Result<(), Fail> {
+    for (value, want) in rows {
+        expect_exact(rt, alloc, *value, want)?;
+    }
+    Ok(())
+}
+
 #[test]
 fn numbers(rt: HostRuntime) -> Result<(), Fail> {
-    let alloc = rt.alloc();
-    expect_exact(&rt, alloc, &1u8, "u8 1\n")?;
-    expect_exact(&rt, alloc, &1u16, "u16 2\n")?;
-    expect_exact(&rt, alloc, &1u32, "u32 4\n")?;
-    expect_exact(&rt, alloc, &1u64, "u64 8\n")?;
-    expect_exact(&rt, alloc, &1u128, "u128 16\n")?;
-    expect_exact(&rt, alloc, &1usize, "usize 8\n")?;
-    expect_exact(&rt, alloc, &1i8, "i8 1\n")?;
-    expect_exact(&rt, alloc, &1i16, "i16 2\n")?;
-    expect_exact(&rt, alloc, &1i32, "i32 4\n")?;
-    expect_exact(&rt, alloc, &1i64, "i64 8\n")?;
-    expect_exact(&rt, alloc, &1i128, "i128 16\n")?;
-    expect_exact(&rt, alloc, &1isize, "isize 8\n")?;
-    expect_exact(&rt, alloc, &true, "bool 1\n")?;
-    expect_exact(&rt, alloc, &(), "")?;
-    Ok(())
+    let rows: [(&dyn Allocative, &str); 14] = [
+        (&1u8, "u8 1\n"),
+        (&1u16, "u16 2\n"),
+        (&1u32, "u32 4\n"),
+        (&1u64, "u64 8\n"),
+        (&1u128, "u128 16\n"),
+        (&1usize, "usize 8\n"),
+        (&1i8, "i8 1\n"),
+        (&1i16, "i16 2\n"),
+        (&1i32, "i32 4\n"),
+        (&1i64, "i64 8\n"),
+        (&1i128, "i128 16\n"),
+        (&1isize, "isize 8\n"),
+        (&true, "bool 1\n"),
+        (&(), ""),
+    ];
+    expect_each(&rt, rt.alloc(), &rows)
 }
 
 #[test]
 fn unsigned_numbers_that_are_not_zero(rt: HostRuntime) -> Result<(), Fail> {
-    let alloc = rt.alloc();
-    expect_exact(
-        &rt,
-        alloc,
-        &NonZeroU8::new(1).ok_or("zero")?,
-        "NonZeroU8 1\n",
-    )?;
-    expect_exact(
-        &rt,
-        alloc,
-        &NonZeroU16::new(1).ok_or("zero")?,
-        "NonZeroU16 2\n",
-    )?;
-    expect_exact(
-        &rt,
-        alloc,
-        &NonZeroU32::new(1).ok_or("zero")?,
-        "NonZeroU32 4\n",
-    )?;
-    expect_exact(
-        &rt,
-        alloc,
-        &NonZeroU64::new(1).ok_or("zero")?,
-        "NonZeroU64 8\n",
-    )?;
-    expect_exact(
-        &rt,
-        alloc,
-        &NonZeroUsize::new(1).ok_or("zero")?,
-        "NonZeroUsize 8\n",
-    )?;
-    Ok(())
+    let u8 = NonZeroU8::new(1).ok_or("zero")?;
+    let u16 = NonZeroU16::new(1).ok_or("zero")?;
+    let u32 = NonZeroU32::new(1).ok_or("zero")?;
+    let u64 = NonZeroU64::new(1).ok_or("zero")?;
+    let usize = NonZeroUsize::new(1).ok_or("zero")?;
+    let rows: [(&dyn Allocative, &str); 5] = [
+        (&u8, "NonZeroU8 1\n"),
+        (&u16, "NonZeroU16 2\n"),
+        (&u32, "NonZeroU32 4\n"),
+        (&u64, "NonZeroU64 8\n"),
+        (&usize, "NonZeroUsize 8\n"),
+    ];
+    expect_each(&rt, rt.alloc(), &rows)
 }
 
 #[test]
 fn signed_numbers_that_are_not_zero(rt: HostRuntime) -> Result<(), Fail> {
-    let alloc = rt.alloc();
-    expect_exact(
-        &rt,
-        alloc,
-        &NonZeroI8::new(1).ok_or("zero")?,
-        "NonZeroI8 1\n",
-    )?;
-    expect_exact(
-        &rt,
-        alloc,
-        &NonZeroI16::new(1).ok_or("zero")?,
-        "NonZeroI16 2\n",
-    )?;
-    expect_exact(
-        &rt,
-        alloc,
-        &NonZeroI32::new(1).ok_or("zero")?,
-        "NonZeroI32 4\n",
-    )?;
-    expect_exact(
-        &rt,
-        alloc,
-        &NonZeroI64::new(1).ok_or("zero")?,
-        "NonZeroI64 8\n",
-    )?;
-    expect_exact(
-        &rt,
-        alloc,
-        &NonZeroIsize::new(1).ok_or("zero")?,
-        "NonZeroIsize 8\n",
-    )?;
-    Ok(())
+    let i8 = NonZeroI8::new(1).ok_or("zero")?;
+    let i16 = NonZeroI16::new(1).ok_or("zero")?;
+    let i32 = NonZeroI32::new(1).ok_or("zero")?;
+    let i64 = NonZeroI64::new(1).ok_or("zero")?;
+    let isize = NonZeroIsize::new(1).ok_or("zero")?;
+    let rows: [(&dyn Allocative, &str); 5] = [
+        (&i8, "NonZeroI8 1\n"),
+        (&i16, "NonZeroI16 2\n"),
+        (&i32, "NonZeroI32 4\n"),
+        (&i64, "NonZeroI64 8\n"),
+        (&isize, "NonZeroIsize 8\n"),
+    ];
+    expect_each(&rt, rt.alloc(), &rows)
 }
 
 #[test]
 fn atomics(rt: HostRuntime) -> Result<(), Fail> {
-    let alloc = rt.alloc();
-    expect_exact(&rt, alloc, &AtomicU8::new(1), "AtomicU8 1\n")?;
-    expect_exact(&rt, alloc, &AtomicU16::new(1), "AtomicU16 2\n")?;
-    expect_exact(&rt, alloc, &AtomicU32::new(1), "AtomicU32 4\n")?;
-    expect_exact(&rt, alloc, &AtomicU64::new(1), "AtomicU64 8\n")?;
-    expect_exact(&rt, alloc, &AtomicUsize::new(1), "AtomicUsize 8\n")?;
-    expect_exact(&rt, alloc, &AtomicI8::new(1), "AtomicI8 1\n")?;
-    expect_exact(&rt, alloc, &AtomicI16::new(1), "AtomicI16 2\n")?;
-    expect_exact(&rt, alloc, &AtomicI32::new(1), "AtomicI32 4\n")?;
-    expect_exact(&rt, alloc, &AtomicI64::new(1), "AtomicI64 8\n")?;
-    expect_exact(&rt, alloc, &AtomicIsize::new(1), "AtomicIsize 8\n")?;
-    expect_exact(&rt, alloc, &AtomicBool::new(true), "AtomicBool 1\n")?;
-    Ok(())
+    let rows: [(&dyn Allocative, &str); 11] = [
+        (&AtomicU8::new(1), "AtomicU8 1\n"),
+        (&AtomicU16::new(1), "AtomicU16 2\n"),
+        (&AtomicU32::new(1), "AtomicU32 4\n"),
+        (&AtomicU64::new(1), "AtomicU64 8\n"),
+        (&AtomicUsize::new(1), "AtomicUsize 8\n"),
+        (&AtomicI8::new(1), "AtomicI8 1\n"),
+        (&AtomicI16::new(1), "AtomicI16 2\n"),
+        (&AtomicI32::new(1), "AtomicI32 4\n"),
+        (&AtomicI64::new(1), "AtomicI64 8\n"),
+        (&AtomicIsize::new(1), "AtomicIsize 8\n"),
+        (&AtomicBool::new(true), "AtomicBool 1\n"),
+    ];
+    expect_each(&rt, rt.alloc(), &rows)
 }
 
 #[test]
 fn addresses_and_times(rt: HostRuntime) -> Result<(), Fail> {
-    let alloc = rt.alloc();
     let four = Ipv4Addr::new(127, 0, 0, 1);
-    expect_exact(&rt, alloc, &four, "Ipv4Addr 4\n")?;
-    expect_exact(&rt, alloc, &IpAddr::V4(four), "IpAddr 17\n")?;
-    let six = Ipv6Addr::new(0, 0, 0, 0, 0, 0, 0, 1);
-    expect_exact(&rt, alloc, &six, "Ipv6Addr 16\n")?;
-    expect_exact(&rt, alloc, &Duration::from_secs(1), "Duration 16\n")?;
-    expect_exact(&rt, alloc, &Instant::now(&rt)?, "Instant 16\n")?;
-    expect_exact(&rt, alloc, &SystemTime::now(&rt)?, "SystemTime 16\n")?;
-    Ok(())
+    let instant = Instant::now(&rt)?;
+    let time = SystemTime::now(&rt)?;
+    let rows: [(&dyn Allocative, &str); 6] = [
+        (&four, "Ipv4Addr 4\n"),
+        (&IpAddr::V4(four), "IpAddr 17\n"),
+        (&Ipv6Addr::new(0, 0, 0, 0, 0, 0, 0, 1), "Ipv6Addr 16\n"),
+        (&Duration::from_secs(1), "Duration 16\n"),
+        (&instant, "Instant 16\n"),
+        (&time, "SystemTime 16\n"),
+    ];
+    expect_each(&rt, rt.alloc(), &rows)
 }
 
 #[test]
-fn values_without_parts_and_kept_values(rt: HostRuntime) -> Result<(), Fail> {
+fn tuples(rt: HostRuntime) -> Result<(), Fail> {
+    let rows: [(&dyn Allocative, &str); 6] = [
+        (&(1u8,), "tuple1;0;u8 1\n"),
+        (&(1u8, 2u8), "tuple2;0;u8 1\ntuple2;1;u8 1\n"),
+        (&(1u8, 2u32), "tuple2 3\ntuple2;0;u8 1\ntuple2;1;u32 4\n"),
+        (
+            &(1u8, 2u8, 3u8),
+            "tuple3;0;u8 1\ntuple3;1;u8 1\ntuple3;2;u8 1\n",
+        ),
+        (
+            &(1u8, 2u8, 3u8, 4u8),
+            "tuple4;0;u8 1\ntuple4;1;u8 1\ntuple4;2;u8 1\ntuple4;3;u8 1\n",
+        ),
+        (
+            &(1u8, 2u8, 3u8, 4u8, 5u8),
+            "tuple5;0;u8 1\ntuple5;1;u8 1\ntuple5;2;u8 1\ntuple5;3;u8 1\ntuple5;4;u8 1\n",
+        ),
+    ];
+    expect_each(&rt, rt.alloc(), &rows)
+}
+
+#[test]
+fn choices_arrays_and_what_has_no_parts(rt: HostRuntime) -> Result<(), Fail> {
+    let none: Option<u32> = None;
+    let error: Result<u8, u16> = Err(1);
     let nothing: PhantomData<u8> = PhantomData;
-    expect_exact(&rt, rt.alloc(), &nothing, "")?;
-    let kept = ManuallyDrop::new(1u16);
-    expect_exact(&rt, rt.alloc(), &kept, "ManuallyDrop;inner;u16 2\n")
+    let rows: [(&dyn Allocative, &str); 6] = [
+        (&none, "Option 8\n"),
+        (&Some(1u32), "Option 4\nOption;Some;u32 4\n"),
+        (&error, "Result 2\nResult;Err;u16 2\n"),
+        (&[1u16, 2, 3], "u16;data;u16 6\n"),
+        (&nothing, ""),
+        (&ManuallyDrop::new(1u16), "ManuallyDrop;inner;u16 2\n"),
+    ];
+    expect_each(&rt, rt.alloc(), &rows)
 }
 
 #[test]
@@ -155,49 +164,6 @@ fn a_reference_holds_no_bytes_of_its_own(rt: HostRuntime) -> Result<(), Fail> {
     let number: &'static u8 = &7;
     assert_eq!(rt; size_of_unique(&number)?, 8);
     Ok(())
-}
-
-#[test]
-fn tuples(rt: HostRuntime) -> Result<(), Fail> {
-    let alloc = rt.alloc();
-    expect_exact(&rt, alloc, &(1u8,), "tuple1;0;u8 1\n")?;
-    expect_exact(&rt, alloc, &(1u8, 2u8), "tuple2;0;u8 1\ntuple2;1;u8 1\n")?;
-    expect_exact(
-        &rt,
-        alloc,
-        &(1u8, 2u32),
-        "tuple2 3\ntuple2;0;u8 1\ntuple2;1;u32 4\n",
-    )?;
-    expect_exact(
-        &rt,
-        alloc,
-        &(1u8, 2u8, 3u8),
-        "tuple3;0;u8 1\ntuple3;1;u8 1\ntuple3;2;u8 1\n",
-    )?;
-    expect_exact(
-        &rt,
-        alloc,
-        &(1u8, 2u8, 3u8, 4u8),
-        "tuple4;0;u8 1\ntuple4;1;u8 1\ntuple4;2;u8 1\ntuple4;3;u8 1\n",
-    )?;
-    expect_exact(
-        &rt,
-        alloc,
-        &(1u8, 2u8, 3u8, 4u8, 5u8),
-        "tuple5;0;u8 1\ntuple5;1;u8 1\ntuple5;2;u8 1\ntuple5;3;u8 1\ntuple5;4;u8 1\n",
-    )?;
-    Ok(())
-}
-
-#[test]
-fn choices_and_arrays(rt: HostRuntime) -> Result<(), Fail> {
-    let alloc = rt.alloc();
-    let none: Option<u32> = None;
-    expect_exact(&rt, alloc, &none, "Option 8\n")?;
-    expect_exact(&rt, alloc, &Some(1u32), "Option 4\nOption;Some;u32 4\n")?;
-    let error: Result<u8, u16> = Err(1);
-    expect_exact(&rt, alloc, &error, "Result 2\nResult;Err;u16 2\n")?;
-    expect_exact(&rt, alloc, &[1u16, 2, 3], "u16;data;u16 6\n")
 }
 
 #[test]
