@@ -40,7 +40,7 @@ UNKNOWN = "[String; 0]"
 
 
 class Scope:
-    """What is known where types stand: their module, those that are written now, and what other files say."""
+    """What is known where types stand: their module, those that are written now, what other files say."""
 
     def __init__(self, module: Module, wanted: Iterable[str], outside: Callable[[Path], str]) -> None:
         self.module = module

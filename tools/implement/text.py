@@ -324,7 +324,7 @@ class Writer:
                 raise Fault(member.at, f"the field {member.name} {what}")
 
     def kept(self, variant: Variant, names: list[str]) -> list[tuple[Member, str, str]]:
-        """The fields that a variant shows, with keys and names. The key of a single unnamed one is the variant's."""
+        """The fields that a variant shows, with keys and names. A single one without a name has its name."""
         keys = [variant.name] if not variant.is_named and len(variant.members) == 1 else variant.names
         return [each for each in zip(variant.members, keys, names) if not each[0].is_skipped]
 

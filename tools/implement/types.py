@@ -83,7 +83,7 @@ def type_of(text: str) -> Type:
 
 
 class Member(NamedTuple):
-    """A field: its name or number, type and offset; whether it is passed over, or shown by its size alone."""
+    """A field: its name or number, type and offset; whether it is passed over or shown by its size alone."""
 
     name: str
     type: Type

@@ -66,6 +66,18 @@ class CommandTest(unittest.TestCase):
         _, output, _ = self.run_it("use once_cell::race::OnceBox;\n#[derive(Drop)]\nstruct A {\n    a: OnceBox<u8>,\n}\n")
         self.assertIn("ghost is_exact = { ⟦<OnceBox<u8> as Allocative>⟧.is_exact };", output)
 
+    def test_flags_through_a_cycle(self) -> None:
+        two = "#[cycle(x)]\n#[derive(Drop)]\nstruct A {\n    b: Vec<B>,\n    o: OnceBox<u8>,\n}\n"
+        two += "#[cycle(x)]\n#[derive(Drop)]\nstruct B {\n    a: Vec<A>,\n}\n"
+        text = "use once_cell::race::OnceBox;\n" + two + "#[derive(Drop)]\nstruct C {\n    b: B,\n}\n"
+        self.assertIn("ghost is_exact = { ⟦<B as Allocative>⟧.is_exact };", self.run_it(text)[1])
+
+    def test_many_fields(self) -> None:
+        fields = "".join(f"    f{number}: T,\n" for number in range(7))
+        _, output, _ = self.run_it(f"#[derive(Drop)]\nstruct A<T> {{\n{fields}}}\n")
+        self.assertIn("type ALayout<T> = Record<And<(T, (T, (T, (T, (T, ()))))), (T, (T, ()))>>;", output)
+        self.assertIn("Whole(self, ((f0, f1, f2, f3, f4), (f5, f6))).enter(visitor)", output)
+
     def test_all_faults_at_once(self) -> None:
         text = "use std::sync::Mutex;\nstruct A {\n    a: f64,\n    b: Mutex<u8>,\n    c: u8,\n    d: Vec<Rc<u8>>,\n}\n#[derive(Drop)]\nenum B {\n    C(char),\n}\n"
         status, output, told = self.run_it(text)
@@ -125,6 +137,9 @@ class CommandTest(unittest.TestCase):
         self.assertEqual(self.run_it(once, "--in-place"), (0, "", []))
         self.assertEqual(self.get("src/a.rt"), once)
         self.assertEqual(self.run_it(once.replace("x: u32", "x: u64"), "--check")[0], 1)
+        line = once[: once.index("enum Tree")].count("\n") + 1
+        told = self.run_it(once.replace("Drop)]\npub enum", "Copy2)]\npub enum"), "--in-place")[2]
+        self.assertEqual(told[0].split(":")[0], str(line))
 
     def test_a_nested_module(self) -> None:
         text = "mod inner {\n    #[derive(Drop)]\n    pub struct Point {\n        pub x: u32,\n    }\n}\n"
