@@ -3,5 +3,6 @@
 
 pub mod drawn;
 pub mod nested;
+pub mod order;
 pub mod placed;
 pub mod types;
