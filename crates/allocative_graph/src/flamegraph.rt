@@ -349,6 +349,7 @@ fn place_of(children: &[Child], key: &Key) -> Result<usize, usize>
 }
 
 // The place of the key among the children, or else the place where it belongs, by binary search.
+#[inline(never)]
 fn place_by_halving(children: &[Child], key: &Key) -> Result<usize, usize>
     requires { InOrder children.now }
     ensures found { IfOk result (IsFound children.now key.now) }
@@ -405,7 +406,8 @@ fn put_at(children: &mut Vec<Child>, at: usize, child: Child) -> Result<(), Allo
 }
 
 // Puts the merge of both lists into `children`, which has room for all. After an error it continues,
-// so that no child is lost.
+// so that no child is lost. It is a call of its own, so that a merge of one child takes less of the stack.
+#[inline(never)]
 #[cycle(merge)]
 fn interleave(
     mine: Vec<Child>,

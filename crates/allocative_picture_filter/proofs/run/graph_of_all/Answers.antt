@@ -1,4 +1,4 @@
-use Rattle.std.proofs.Common.{◌≡◌, List, map, subst, rules, IsErrOf, arith}
+use Rattle.std.proofs.Common.{List, map, subst, rules, IsErrOf, arith}
 use Rattle.std.proofs.lemmas.List.{take_all}
 use Rattle.allocative_picture_filter.specs.declared.fault.Fault.TheVariants.{Line}
 use Rattle.allocative_picture_filter.specs.declared.run.Text.{Text}

@@ -1,9 +1,7 @@
-use Rattle.std.proofs.Common.{◌≡◌, List, ℕ, subst, sym, rules, IsErrOf, inl}
+use Rattle.std.proofs.Common.{List, ℕ, subst}
 use Rattle.std.proofs.lemmas.Option.{IfSome_then}
-use Rattle.allocative_graph.specs.Read.{IsRead, IsFault}
-use Rattle.allocative_picture_filter.specs.declared.fault.Fault.TheVariants.{Line}
-use Rattle.allocative_picture_filter.proofs.Faults.{of_each}
-use Rattle.allocative_picture_filter.proofs.Sums.{later-without, later-with, fault-with}
+use Rattle.allocative_graph.specs.Read.{IsRead}
+use Rattle.allocative_picture_filter.proofs.Sums.{later-with}
 use Rattle.allocative_picture_filter.proofs.run.later_graph.Goals as goal
 
 pub returns-clause-ok : goal.returns-clause-ok
