@@ -48,15 +48,17 @@ module _ {V : Type 0} (size : Option ℕ) (may_show : V → Forest → Type 0) w
     insertion went key v n bytes left old put now figure fits is counted within evicted =
         let k = (stored_key eq key old.entries, kept v n) in
         let e = evicted_rest step went bytes (old.bound - n) k (remove_entry (eq key) old.entries) now left counted (subst (λ l. EvictsTo step went bytes (old.bound - n) l now left) is evicted) in
-        let sum = ap (λ (l : Entries K V). bytes_of l) e.1 ∙ bytes_of-cons k e.0 in
-        (omega (arith, sum, e.2), record {
-          bytes = n;
-          others = e.0;
-          figure = figure;
-          fits = omega (arith, e.2, within, fits);
-          recent = e.3;
-          is = ap (with_entries old) e.1;
-        })
+        let sum = ap (λ (l : Entries K V). bytes_of l) e.1 ∙ bytes_of-cons k e.0 in (
+          omega (arith, sum, e.2),
+          record {
+            bytes = n;
+            others = e.0;
+            figure = figure;
+            fits = omega (arith, e.2, within, fits);
+            recent = e.3;
+            is = ap (with_entries old) e.1;
+          },
+        )
 
     -- After an insertion the cache is still within its bound.
     pub Inserts-bounded : (went : F) (key : K) (v : V) (old new : Bounded K V) → Inserts size may_show eq step went key v old new → IsBounded size may_show old → IsBounded size may_show new

@@ -22,24 +22,10 @@ use std::marker::Model;
 /// A value, and its declared bytes as they were measured when it was inserted.
 #[derive(Drop)]
 pub struct Kept<V> {
-    value: V,
-    bytes: usize,
-}
-
-impl<V> Kept<V> {
     /// The value.
-    pub fn value(&self) -> &V
-        ensures { result.now ≡ self.now.value }
-    {
-        &self.value
-    }
-
+    pub value: V,
     /// Its declared bytes.
-    pub fn bytes(&self) -> usize
-        ensures { result ≡ self.now.bytes }
-    {
-        self.bytes
-    }
+    pub bytes: usize,
 }
 
 /// A map whose values have together at most as many declared bytes as its bound. Where a new value needs room, the

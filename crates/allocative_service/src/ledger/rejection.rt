@@ -7,10 +7,7 @@ use thiserror::Error;
 pub enum Rejection {
     /// The data would hold more bytes than the limit allows.
     #[error("{bytes} bytes exceed a limit of {limit}")]
-    OverBudget {
-        bytes: usize,
-        limit: usize,
-    },
+    OverBudget { bytes: usize, limit: usize },
     /// The data could not be measured.
     #[error("not measured: {0}")]
     NotMeasured(Refusal),
@@ -28,14 +25,10 @@ pub enum Rejection {
     HasAccount,
     /// The number already has an entry.
     #[error("there is an entry {number} already")]
-    Taken {
-        number: u64,
-    },
+    Taken { number: u64 },
     /// The number has no entry.
     #[error("there is no entry {number}")]
-    NotThere {
-        number: u64,
-    },
+    NotThere { number: u64 },
 }
 
 impl From<Refusal> for Rejection {
