@@ -39,10 +39,14 @@ pub enum Request<'a> {
     Bound {
         bytes: usize,
     },
+    Clear,
     Pages,
     Bill,
     Profile,
     Report,
+    Most {
+        count: usize,
+    },
 }
 
 /// Reads a line. It is None where the line asks for nothing that the service does.
@@ -50,12 +54,16 @@ pub fn read_request(line: &str) -> Option<Request<'_>> {
     let (word, rest) = line.split_once(' ').unwrap_or((line, ""));
     match word {
         "pages" => Some(Request::Pages),
+        "clear" => Some(Request::Clear),
         "bill" => Some(Request::Bill),
         "profile" => Some(Request::Profile),
         "report" => Some(Request::Report),
         "close" => Some(Request::Close { tenant: rest }),
         "bound" => Some(Request::Bound {
             bytes: rest.parse::<usize>().ok()?,
+        }),
+        "most" => Some(Request::Most {
+            count: rest.parse::<usize>().ok()?,
         }),
         _ => read_of_tenant(word, rest),
     }

@@ -58,10 +58,12 @@ impl Service {
             Request::Get { tenant, key } => self.get(rt, tenant, key),
             Request::Drop { tenant, key } => self.remove(rt, tenant, key),
             Request::Bound { bytes } => self.set_bound(rt, bytes),
+            Request::Clear => Ok(self.pages.clear()),
             Request::Pages => self.list_pages(rt),
             Request::Bill => self.bill(rt),
             Request::Profile => self.profile(rt),
             Request::Report => self.report(rt),
+            Request::Most { count } => self.tell_most(rt, count),
         }
     }
 
@@ -71,19 +73,19 @@ impl Service {
             Draft::Note(text) => {
                 let note = Note::new(self.alloc, tenant, key, text)?;
                 if self.admit(rt, tenant, key, &note)? {
-                    self.forget(tenant, key)?;
+                    self.forget(tenant, key);
                     self.held.notes.push(note)?;
                 }
             }
             Draft::Order(places) => {
                 let order = Order::new(self.alloc, tenant, key, &self.held.catalogue, places)?;
                 if self.admit(rt, tenant, key, &order)? {
-                    self.forget(tenant, key)?;
+                    self.forget(tenant, key);
                     self.held.orders.push(order)?;
                 }
             }
         }
-        Ok(())
+        self.renew_page(rt, tenant, key)
     }
 
     /// Asks the ledger for room for a document, and prints what it answers. It returns whether there is room.
@@ -105,10 +107,15 @@ impl Service {
         Ok(answer.is_ok())
     }
 
-    /// Drops the document of a key and its page.
-    fn forget(&mut self, tenant: &str, key: u64) -> Result<()> {
+    /// Drops the document of a key.
+    fn forget(&mut self, tenant: &str, key: u64) {
         self.held.notes.retain(|note| !(note.key == key && note.tenant.as_str() == tenant));
         self.held.orders.retain(|order| !(order.key == key && order.tenant.as_str() == tenant));
+    }
+
+    /// Drops the document of a key and its page.
+    fn forget_with_page(&mut self, tenant: &str, key: u64) -> Result<()> {
+        self.forget(tenant, key);
         let place = format!(in self.alloc; "{tenant}/{key}")?;
         self.pages.remove(&place);
         Ok(())
@@ -120,7 +127,7 @@ impl Service {
             Some(bytes) => println!(rt; "{tenant} gives {bytes} bytes back")?,
             None => println!(rt; "{tenant} has no document {key}")?,
         }
-        self.forget(tenant, key)
+        self.forget_with_page(tenant, key)
     }
 
     /// Closes the account of a tenant, and drops its documents.
@@ -131,7 +138,7 @@ impl Service {
         };
         println!(rt; "{tenant} had {} bytes", account.bytes())?;
         for (key, _bytes) in account.entries() {
-            self.forget(tenant, *key)?;
+            self.forget_with_page(tenant, *key)?;
         }
         Ok(())
     }
@@ -182,6 +189,29 @@ impl Service {
         }
     }
 
+    /// Replaces the page of a document that has changed, where it is kept, and prints which pages go for it.
+    fn renew_page(&mut self, rt: &impl Print, tenant: &str, key: u64) -> Result<()> {
+        let place = format!(in self.alloc; "{tenant}/{key}")?;
+        let Some(page) = self.page_of(tenant, key)? else {
+            return Ok(());
+        };
+        let mut told = Ok(());
+        let changed = self.pages.change(
+            &place,
+            |old: &mut String| *old = page,
+            |place: String, _page| {
+                if told.is_ok() {
+                    told = println!(rt; "page {place} goes");
+                }
+            },
+        );
+        told?;
+        match changed {
+            Ok(_is_there) => Ok(()),
+            Err(refused) => tell_page(rt, refused.error),
+        }
+    }
+
     /// Changes how many bytes of pages are kept, and prints which pages go.
     fn set_bound(&mut self, rt: &impl Print, bytes: usize) -> Result<()> {
         let mut told = Ok(());
@@ -198,8 +228,8 @@ impl Service {
         for (place, page) in self.pages.iter() {
             println!(rt; "page {place}: {} bytes", page.bytes)?;
         }
-        let (bytes, bound) = (self.pages.bytes(), self.pages.bound());
-        Ok(println!(rt; "{bytes} of {bound} bytes")?)
+        let (count, bytes, bound) = (self.pages.len(), self.pages.bytes(), self.pages.bound());
+        Ok(println!(rt; "pages: {count}, {bytes} of {bound} bytes")?)
     }
 
     /// Prints what is billed to each tenant.
@@ -217,7 +247,7 @@ impl Service {
     /// Takes a profile of all that the service holds.
     fn profile(&mut self, rt: &impl Print) -> Result<()> {
         self.history.take_profile(self.alloc, &self.held)?;
-        Ok(println!(rt; "{} profiles are kept", self.history.len())?)
+        Ok(println!(rt; "profiles: {}", self.history.len())?)
     }
 
     /// Prints what changed since the last profile but one.
@@ -225,6 +255,17 @@ impl Service {
         match self.history.between(self.alloc, 1, 0)? {
             Some(changes) => print!(rt; "{}", report(self.alloc, changes.as_slice())?)?,
             None => println!(rt; "there are fewer than two profiles")?,
+        }
+        Ok(())
+    }
+
+    /// Prints by how much the paths grew that grew most between the last two profiles.
+    fn tell_most(&self, rt: &impl Print, count: usize) -> Result<()> {
+        let Some(top) = self.history.grew_most(self.alloc, count)? else {
+            return Ok(println!(rt; "there are fewer than two profiles")?);
+        };
+        for change in &top {
+            println!(rt; "{} bytes more", change.growth())?;
         }
         Ok(())
     }
