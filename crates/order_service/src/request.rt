@@ -80,16 +80,21 @@ fn read_of_tenant<'a>(word: &str, rest: &'a str) -> Option<Request<'a>> {
         "limit" => Some(Request::Limit { tenant, limit }),
         "get" => Some(Request::Get { tenant, key }),
         "drop" => Some(Request::Drop { tenant, key }),
-        "note" => Some(Request::Put {
+        "put" => Some(Request::Put {
             tenant,
             key,
-            draft: Draft::Note(value),
+            draft: read_draft(value)?,
         }),
-        "order" => Some(Request::Put {
-            tenant,
-            key,
-            draft: Draft::Order(value),
-        }),
+        _ => None,
+    }
+}
+
+/// Reads the kind of a document and its value.
+fn read_draft(text: &str) -> Option<Draft<'_>> {
+    let (kind, value) = text.split_once(' ')?;
+    match kind {
+        "note" => Some(Draft::Note(value)),
+        "order" => Some(Draft::Order(value)),
         _ => None,
     }
 }
