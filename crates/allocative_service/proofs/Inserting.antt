@@ -47,7 +47,7 @@ module _ {V : Type 0} (size : Option ℕ) (may_show : V → Forest → Type 0) w
         → (n + left ≡ bytes_of now) × Inserts size may_show eq step went key v old (with_entries old now)
     insertion went key v n bytes left old put now figure fits is counted within evicted =
         let k = (stored_key eq key old.entries, kept v n) in
-        let e = evicted_rest step went bytes (old.bound - n) k (remove_entry (eq key) old.entries) now left counted (subst (λ l. EvictsTo step went bytes (old.bound - n) l now left) is evicted) in
+        let e = evicted_rest step went bytes (old.bound - n) k (remove_entry (eq key) old.entries) now left counted (subst (λ (l : Entries K V). EvictsTo step went bytes (old.bound - n) l now left) is evicted) in
         let sum = ap (λ (l : Entries K V). bytes_of l) e.1 ∙ bytes_of-cons k e.0 in (
           omega (arith, sum, e.2),
           record {
@@ -56,7 +56,7 @@ module _ {V : Type 0} (size : Option ℕ) (may_show : V → Forest → Type 0) w
             figure = figure;
             fits = omega (arith, e.2, within, fits);
             recent = e.3;
-            is = ap (with_entries old) e.1;
+            is = ap (λ (l : Entries K V). with_entries old l) e.1;
           },
         )
 
