@@ -11,7 +11,7 @@ ghost use Rattle.allocative_service.specs.Measured.{MayRefuseMeasure};
 
 pub mod error;
 
-use crate::cache::error::{CacheError, Refused};
+pub use crate::cache::error::{CacheError, Refused};
 use crate::measure::Measure;
 use allocative::{Allocative, Described, Refusal};
 use lru::{Iter, LruCache};

@@ -7,9 +7,10 @@ ghost use Rattle.allocative_service.specs.Changes.{seen, changes_of};
 ghost use Rattle.allocative_service.specs.History.{profiles_of, most_of, two_of, Keeps, TakesProfile, GrewMostBetween};
 
 pub mod changes;
-pub mod report;
+pub mod text;
 
-use crate::history::changes::{Change, compare, grew_most};
+pub use crate::history::changes::{Change, Kind, compare, grew_most};
+pub use crate::history::text::report;
 use allocative::{Allocative, FlameGraph, Refusal, profile_value};
 use std::alloc::{AllocError, Global};
 use std::collections::VecDeque;

@@ -10,9 +10,9 @@ pub mod account;
 pub mod budget;
 pub mod rejection;
 
-use crate::ledger::account::Account;
-use crate::ledger::budget::Budget;
-use crate::ledger::rejection::Rejection;
+pub use crate::ledger::account::Account;
+pub use crate::ledger::budget::Budget;
+pub use crate::ledger::rejection::Rejection;
 use crate::measure::Measure;
 use allocative::{Allocative, Described};
 use std::alloc::Global;

@@ -2,13 +2,9 @@
 use crate::documents::{Held, Note, Order};
 use crate::request::{Draft, Request};
 use allocative::{Allocative, Described, IdRc, Identity, Refusal};
-use allocative_service::cache::BoundedCache;
-use allocative_service::cache::error::CacheError;
-use allocative_service::history::History;
-use allocative_service::history::report::report;
-use allocative_service::ledger::Ledger;
-use allocative_service::ledger::budget::Budget;
-use allocative_service::ledger::rejection::Rejection;
+use allocative_service::cache::{BoundedCache, CacheError};
+use allocative_service::history::{History, report};
+use allocative_service::ledger::{Budget, Ledger, Rejection};
 use allocative_service::measure::Measure;
 use anyhow::Result;
 use std::alloc::Global;

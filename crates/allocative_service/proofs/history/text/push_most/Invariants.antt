@@ -1,7 +1,7 @@
 use Rattle.std.proofs.Common.{◌≡◌, ◌++◌, map, take}
 use Rattle.std.specs.Prelude.{string_bytes, codes}
 use Rattle.allocative_service.specs.Changes.{seen, lines_of}
-use Rattle.allocative_service.proofs.history.report.push_most.Given as goal
+use Rattle.allocative_service.proofs.history.text.push_most.Given as goal
 
 -- The heading and the lines of the changes so far have been appended.
 abbrev pub invariant-loop-change : goal.invariant-loop-change

@@ -1,7 +1,7 @@
 use Rattle.std.proofs.Common.{◌≡◌, ◌++◌, map, take}
 use Rattle.std.specs.Prelude.{filter, string_bytes}
 use Rattle.allocative_service.specs.Changes.{seen, is_kind, heading_of, lines_of}
-use Rattle.allocative_service.proofs.history.report.push_section.Given as goal
+use Rattle.allocative_service.proofs.history.text.push_section.Given as goal
 
 -- The heading and the lines of the changes of this kind so far have been appended.
 abbrev pub invariant-loop-change : goal.invariant-loop-change
