@@ -50,9 +50,9 @@ pub opens : (tenant : List ℕ) (name : String Global) (now : Holding) (old : Le
 opens tenant name now old accounts same h = subst (λ (t : List ℕ). ChangesAccount t (Some now) old (with_accounts old accounts)) same (changes (string_bytes name) (Some now) old accounts h)
 
 -- What holds where the result is None may be replaced by what follows from it.
-pub IfNone-weaker : {P Q : Type 0} (r : Option ℕ) → (P → Q) → IfNone r P → IfNone r Q
+pub IfNone-weaker : {T P Q : Type 0} (r : Option T) → (P → Q) → IfNone r P → IfNone r Q
 IfNone-weaker None f h = f h
-IfNone-weaker (Some n) f h = tt
+IfNone-weaker (Some x) f h = tt
 
 -- What holds in any case holds where the result is Some.
 pub closes : {P : Type 0} (r : Option Holding) → P → OnSome r P

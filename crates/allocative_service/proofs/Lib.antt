@@ -3,6 +3,7 @@ mod Each
 mod Evicting
 mod Inserting
 mod Most
+mod Pairs
 mod Rejections
 mod Sums
 mod Using
