@@ -46,7 +46,7 @@ module _ {V : Type 0} (size : Option ℕ) (may_show : V → Forest → Type 0) w
     pub insertion : (went : F) (key : K) (v : V) (n bytes left : ℕ) (old : Bounded K V) (put now : Entries K V) → IsFigure size may_show old.measure v n → n ≤ old.bound → put ≡ (stored_key eq key old.entries, kept v n) ∷ remove_entry (eq key) old.entries → bytes ≡ bytes_of (remove_entry (eq key) old.entries) → left ≤ old.bound - n → EvictsTo step went bytes (old.bound - n) put now left
         → (n + left ≡ bytes_of now) × Inserts size may_show eq step went key v old (with_entries old now)
     insertion went key v n bytes left old put now figure fits is counted within evicted =
-        let k = (stored_key eq key old.entries, kept v n) in
+        let k : K × Kept V = (stored_key eq key old.entries, kept v n) in
         let e = evicted_rest step went bytes (old.bound - n) k (remove_entry (eq key) old.entries) now left counted (subst (λ (l : Entries K V). EvictsTo step went bytes (old.bound - n) l now left) is evicted) in
         let sum = ap (λ (l : Entries K V). bytes_of l) e.1 ∙ bytes_of-cons k e.0 in (
           omega (arith, sum, e.2),

@@ -5,8 +5,8 @@ use Rattle.allocative_service.proofs.Evicting.{bytes_of-cons}
 use Rattle.allocative_service.proofs.Inserting.{insertion, Inserts-bounded, figure_of}
 use Rattle.allocative_service.proofs.cache.BoundedCache.keep.Goals as goal
 
-pub evict-requires-clause-enough : goal.evict-requires-clause-enough
-evict-requires-clause-enough g c = rw (c.in-Ok-put.ensures.first, bytes_of-cons) (omega (arith, c.in-Ok-put.ensures.bytes, c.self.invariant.1))
+pub evict-others-requires-clause-enough : goal.evict-others-requires-clause-enough
+evict-others-requires-clause-enough g c = rw (c.in-Ok-put.ensures.first, bytes_of-cons) (omega (arith, c.in-Ok-put.ensures.bytes, c.self.invariant.1))
 
 pub invariant_of-self : goal.invariant_of-self
 invariant_of-self g c =
