@@ -3,7 +3,6 @@ mod Each
 mod Evicting
 mod Inserting
 mod Most
-mod Pairs
 mod Rejections
 mod Sums
 mod Using
