@@ -43,12 +43,8 @@ impl Service {
     /// Does what is asked for, and prints what comes of it.
     pub fn answer(&mut self, rt: &impl Print, request: &Request<'_>) -> Result<()> {
         match *request {
-            Request::Open { tenant, limit } => {
-                tell_if(rt, self.ledger.open(tenant, Budget { limit }))
-            }
-            Request::Limit { tenant, limit } => {
-                tell_if(rt, self.ledger.set_budget(tenant, Budget { limit }))
-            }
+            Request::Open { tenant, limit } => self.open(rt, tenant, limit),
+            Request::Limit { tenant, limit } => self.set_limit(rt, tenant, limit),
             Request::Close { tenant } => self.close(rt, tenant),
             Request::Put { tenant, key, draft } => self.put(rt, tenant, key, draft),
             Request::Get { tenant, key } => self.get(rt, tenant, key),
@@ -60,6 +56,22 @@ impl Service {
             Request::Profile => self.profile(rt),
             Request::Report => self.report(rt),
             Request::Most { count } => self.tell_most(rt, count),
+        }
+    }
+
+    /// Opens an account.
+    fn open(&mut self, rt: &impl Print, tenant: &str, limit: usize) -> Result<()> {
+        match self.ledger.open(tenant, Budget { limit }) {
+            Ok(()) => Ok(()),
+            Err(rejection) => tell(rt, rejection),
+        }
+    }
+
+    /// Changes the limit of a tenant.
+    fn set_limit(&mut self, rt: &impl Print, tenant: &str, limit: usize) -> Result<()> {
+        match self.ledger.set_budget(tenant, Budget { limit }) {
+            Ok(()) => Ok(()),
+            Err(rejection) => tell(rt, rejection),
         }
     }
 
@@ -280,13 +292,5 @@ fn tell_page(rt: &impl Print, error: CacheError) -> Result<()> {
     match error {
         CacheError::Memory | CacheError::NotMeasured(Refusal::Memory) => Err(error.into()),
         _ => Ok(println!(rt; "{error}")?),
-    }
-}
-
-/// Prints why something was refused, if it was.
-fn tell_if(rt: &impl Print, answer: Result<(), Rejection>) -> Result<()> {
-    match answer {
-        Ok(()) => Ok(()),
-        Err(rejection) => tell(rt, rejection),
     }
 }
