@@ -1,0 +1,102 @@
+-- The entries after an insertion.
+use Rattle.std.proofs.Common.{◌≡◌, ℕ, ◌+◌, ◌-◌, ◌<◌, ◌≤◌, Bool, true, false, Option, Some, None, [], ◌∷◌, length, refl, sym, ap, ◌∙◌, subst, arith}
+use Rattle.std.specs.Map.{lookup, lookup_entry, remove_entry, values_of}
+use Rattle.std.specs.Option.{option_map, unwrap_or}
+use Rattle.std.specs.Prelude.{Result, Ok, Err, IfOk, IfErr, MatchResult}
+use Rattle.std.proofs.lemmas.List.{take_all}
+use Rattle.std.proofs.lemmas.List.Elements.{All-cons}
+use Rattle.std.proofs.lemmas.List.Sums.{sum_by-cons}
+use Rattle.std.proofs.lemmas.Map.Entries.{sum_by-remove_entry}
+use Rattle.std.proofs.lemmas.Map.Views.{All-map-remove_entry}
+use Rattle.lru.specs.LruCache.{lru_cache, put_entries}
+use Rattle.allocative.specs.Forest.{Forest}
+use Rattle.allocative.specs.Refusal.{Refusal}
+use Rattle.allocative_service.specs.declared.cache.Kept.{Kept}
+use Rattle.allocative_service.specs.declared.cache.error.Refused.{Refused}
+use Rattle.allocative_service.specs.declared.cache.error.CacheError.{CacheError}
+use Rattle.allocative_service.specs.declared.cache.error.CacheError.TheVariants.{TooLarge, NotMeasured, Memory}
+use Rattle.allocative_service.specs.declared.measure.Measure.{Measure}
+use Rattle.allocative_service.specs.Entries.{Entries, bytes_of, kept, Bounded, bounded, with_entries, without, stored_key, KeepsRecent, EvictsTo, IsBounded, IsFigure, IsMeasured, Inserts, RefusesBytes, RefusesInsert}
+use Rattle.allocative_service.specs.Measured.{MayRefuseMeasure}
+use Rattle.allocative_service.proofs.Evicting.{bytes_of-cons, evicted_rest, All-recent}
+
+module _ {K V : Type 0} where
+  -- Nothing is removed where no key passes the test.
+  pub none_removed : (test : K → Bool) (es : Entries K V) → lookup_entry test es ≡ None → remove_entry test es ≡ es
+  none_removed test [] none = refl
+  none_removed test (e ∷ es) none = (elim (test e.0) as (λ y. test e.0 ≡ y → remove_entry test (e ∷ es) ≡ e ∷ es) [
+    | true ↦ λ t. let none' = rw t at none in absurd cc
+    | false ↦ λ t. let none' = rw t at none in rw (t, none_removed test es none')
+  ]) refl
+
+  -- Below the capacity, `put` places the pair first and removes only the entry of an equal key.
+  pub put_entries-unbounded : (eq : K → K → Bool) (key : K) (k : Kept V) (es : Entries K V) (cap : ℕ) → length es < cap → put_entries eq (lru_cache es cap) key k ≡ (stored_key eq key es, k) ∷ remove_entry (eq key) es
+  put_entries-unbounded eq key k es cap fewer = (elim (lookup_entry (eq key) es) as (λ o. lookup_entry (eq key) es ≡ o → put_entries eq (lru_cache es cap) key k ≡ (stored_key eq key es, k) ∷ remove_entry (eq key) es) [
+    | None ↦ λ none. rw (none, none_removed (eq key) es none, take_all (cap - 1) es (omega arith)) refl
+    | Some e ↦ λ some. rw some refl
+  ]) refl
+
+  -- The bytes under a removed key and those of the remaining entries are the bytes of all.
+  pub bytes_of-remove_entry : (test : K → Bool) (es : Entries K V) (had : Option (Kept V)) → had ≡ lookup test es → bytes_of (remove_entry test es) + unwrap_or (option_map (λ (k : Kept V). k.bytes) had) 0 ≡ bytes_of es
+  bytes_of-remove_entry test es had is = rw is (sum_by-remove_entry (λ (k : Kept V). k.bytes) test es)
+
+module _ {V : Type 0} (size : Option ℕ) (may_show : V → Forest → Type 0) where
+  module _ {F K : Type 0} (eq : K → K → Bool) (step : F → K → V → F → Type 0) where
+    -- Putting a value first and then evicting others is an insertion, and the sum of the bytes is that of all entries.
+    pub insertion : (went : F) (key : K) (v : V) (n bytes left : ℕ) (old : Bounded K V) (put now : Entries K V) → IsFigure size may_show old.measure v n → n ≤ old.bound → put ≡ (stored_key eq key old.entries, kept v n) ∷ remove_entry (eq key) old.entries → bytes ≡ bytes_of (remove_entry (eq key) old.entries) → left ≤ old.bound - n → EvictsTo step went bytes (old.bound - n) put now left
+        → (n + left ≡ bytes_of now) × Inserts size may_show eq step went key v old (with_entries old now)
+    insertion went key v n bytes left old put now figure fits is counted within evicted =
+        let k : K × Kept V = (stored_key eq key old.entries, kept v n) in
+        let e = evicted_rest step went bytes (old.bound - n) k (remove_entry (eq key) old.entries) now left counted (subst (λ (l : Entries K V). EvictsTo step went bytes (old.bound - n) l now left) is evicted) in
+        let sum = ap (λ (l : Entries K V). bytes_of l) e.1 ∙ bytes_of-cons k e.0 in (
+          omega (arith, sum, e.2),
+          record {
+            bytes = n;
+            others = e.0;
+            figure = figure;
+            fits = omega (arith, e.2, within, fits);
+            recent = e.3;
+            is = ap (λ (l : Entries K V). with_entries old l) e.1;
+          },
+        )
+
+    -- After an insertion the cache is still within its bound.
+    pub Inserts-bounded : (went : F) (key : K) (v : V) (old new : Bounded K V) → Inserts size may_show eq step went key v old new → IsBounded size may_show old → IsBounded size may_show new
+    Inserts-bounded went key v old new i h =
+        let P = IsMeasured size may_show old.measure in
+        let others = All-recent step went (old.bound - i.bytes) P _ _ i.recent (All-map-remove_entry (eq key) (λ (e : K × Kept V). e.1) P old.entries h.measured) in
+        rw i.is (record {
+          within = rw sum_by-cons i.fits;
+          measured = All-cons P (kept v i.bytes) (values_of i.others) i.figure others;
+        })
+
+    -- After evictions down to another bound the cache is within that one.
+    pub evicts-bounded : (went : F) (bound left : ℕ) (old : Bounded K V) (now : Entries K V) → left ≡ bytes_of now → left ≤ bound → KeepsRecent step went bound old.entries now → IsBounded size may_show old → IsBounded size may_show (bounded now bound old.measure)
+    evicts-bounded went bound left old now sum within recent h = record {
+      within = omega (arith, sum, within);
+      measured = All-recent step went bound (IsMeasured size may_show old.measure) _ _ recent h.measured;
+    }
+
+  -- After an entry is removed the cache is still within its bound.
+  pub without-bounded : {K : Type 0} (test : K → Bool) (c : Bounded K V) → IsBounded size may_show c → IsBounded size may_show (without test c)
+  without-bounded {K} test c h = record {
+    within = let s = sum_by-remove_entry (λ (k : Kept V). k.bytes) test c.entries in omega (arith, s, h.within);
+    measured = All-map-remove_entry test (λ (e : K × Kept V). e.1) (IsMeasured size may_show c.measure) c.entries h.measured;
+  }
+
+  -- A value that was measured has the figure that was measured.
+  pub figure_of : (m : Measure) (v : V) (n : ℕ) (measured : Result ℕ Refusal) → measured ≡ Ok n → IfOk measured (IsFigure size may_show m v) → IsFigure size may_show m v n
+  figure_of m v n measured is h = let P : Result ℕ Refusal → Type 0 = λ r. IfOk r (IsFigure size may_show m v) in subst P is h
+
+  -- A value whose figure is refused is refused.
+  refused_figure : (is_exact : Bool) (m : Measure) (v : V) (n bound : ℕ) (e : CacheError) → IsFigure size may_show m v n → RefusesBytes n bound e → RefusesInsert size may_show is_exact v m bound e
+  refused_figure is_exact m v n bound (TooLarge told most) figure h = (subst (IsFigure size may_show m v) (sym h.0) figure, h.1, subst (λ (k : ℕ). bound < k) (sym h.0) h.2)
+  refused_figure is_exact m v n bound (NotMeasured e) figure h = absurd h
+  refused_figure is_exact m v n bound Memory figure h = (n, figure, h)
+
+  -- A value is refused for the bytes that were measured, or because it could not be measured.
+  pub refused_with : {K : Type 0} (is_exact : Bool) (key : K) (m : Measure) (v : V) (bound : ℕ) (measured : Result ℕ Refusal) (r : Result (Option V) (Refused K V)) → IfOk measured (IsFigure size may_show m v) → IfErr measured (MayRefuseMeasure m is_exact size (may_show v))
+      → MatchResult measured (λ n. IfErr r (λ x. RefusesBytes n bound x.error)) (λ e. r ≡ Err (record { error = NotMeasured e; key = key; value = v })) → IfErr r (λ x. RefusesInsert size may_show is_exact v m bound x.error)
+  refused_with is_exact key m v bound (Ok n) (Ok had) figure may h = tt
+  refused_with is_exact key m v bound (Ok n) (Err x) figure may h = refused_figure is_exact m v n bound x.error figure h
+  refused_with {K} is_exact key m v bound (Err e) r figure may h = let P : Result (Option V) (Refused K V) → Type 0 = λ r'. IfErr r' (λ x. RefusesInsert size may_show is_exact v m bound x.error) in subst P (sym h) may

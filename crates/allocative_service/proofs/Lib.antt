@@ -1,0 +1,8 @@
+mod Accounts
+mod Each
+mod Evicting
+mod Inserting
+mod Most
+mod Rejections
+mod Sums
+mod Using

@@ -1,0 +1,13 @@
+-- What evicting leaves so far, and each round removes an entry.
+use Rattle.std.proofs.Common.{◌≡◌, length}
+use Rattle.allocative_service.specs.Entries.{Evicts}
+use Rattle.allocative_service.proofs.cache.evict.Given as goal
+
+abbrev pub invariant-loop-left : goal.invariant-loop-left
+invariant-loop-left g l =
+    goal.F-IsAlwaysCallable g l.went
+    × Evicts (λ f k v h. goal.F-step g f k v tt h) l.fn.went l.bytes l.room l.initial.entries.entries l.entries.entries l.left l.went
+    × (l.entries.cap ≡ l.initial.entries.cap)
+
+abbrev pub decreases-loop-left : goal.decreases-loop-left
+decreases-loop-left g l = length l.entries.entries

@@ -1,0 +1,15 @@
+use Rattle.std.proofs.Common.{◌≡◌, map, take, ap, ◌∙◌, arith, rules}
+use Rattle.std.specs.Prelude.{filter}
+use Rattle.std.proofs.lemmas.List.{take_all}
+use Rattle.std.proofs.lemmas.List.Sorted.{IsNonDecreasingBy-from_sort_by_key}
+use Rattle.allocative_service.specs.Changes.{seen, is_grown}
+use Rattle.allocative_service.proofs.Most.{rank, grew_first}
+use Rattle.allocative_service.proofs.history.changes.grew_most.Goals as goal
+
+pub returns : goal.returns
+returns c =
+    let cs = map seen c.args.changes.now in
+    let all : take c.loop-change.change-index c.args.changes.now ≡ c.args.changes.now = take_all c.loop-change.change-index c.args.changes.now (omega arith) in
+    let is : map seen c.loop-change.grown.items ≡ filter is_grown cs = c.loop-change.invariant.grown ∙ ap (λ s. filter is_grown (map seen s)) all in
+    let sorted = IsNonDecreasingBy-from_sort_by_key rank _ c.in_ok-sort_by_key.ensures.sorted (λ a r q k. search rules) in
+    rw c.truncate.ensures.items (grew_first c.args.count cs c.loop-change.grown.items c.sort_by_key.new.self.items is c.loop-change.invariant.words c.in_ok-sort_by_key.ensures.permutation sorted)

@@ -1,0 +1,12 @@
+use Rattle.std.proofs.Common.{◌≡◌, map, take}
+use Rattle.std.specs.Prelude.{filter, All}
+use Rattle.allocative_service.specs.Changes.{seen, is_grown}
+use Rattle.allocative_service.proofs.Most.{IsWord}
+use Rattle.allocative_service.proofs.history.changes.grew_most.Given as goal
+
+-- The list has the changes so far that grew, and the growth of each fits a word.
+abbrev pub invariant-loop-change : goal.invariant-loop-change
+invariant-loop-change l = record {
+  grown : map seen l.grown.items ≡ filter is_grown (map seen (take l.change-index l.changes));
+  words : All IsWord l.grown.items;
+}

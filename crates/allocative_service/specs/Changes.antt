@@ -1,0 +1,93 @@
+-- The differences between two profiles.
+use Rattle.std.specs.Prelude.{◌≡◌, ℕ, ◌-◌, ◌≤◌, ◌==◌, Bool, ◌&&◌, cond, nat_lt, List, ◌++◌, ◌∷◌, [], length, map, filter, flat_map, min, All, AllPairs, codes, decimal}
+use Rattle.std.specs.List.Sorted.{IsPermutation}
+use Rattle.std.specs.FinMap.{keys}
+use Rattle.allocative.specs.Path.{Path, is_same_path}
+use Rattle.allocative.specs.Graph.{Graph, size_at, sum_of, joined}
+use Rattle.allocative_graph.specs.declared.flamegraph.reads.Row.{Row}
+use Rattle.allocative_service.specs.declared.history.changes.Change.{Change}
+use Rattle.allocative_service.specs.declared.history.changes.Kind.{Kind}
+use Rattle.allocative_service.specs.declared.history.changes.Kind.TheVariants.{Grew, Shrank, Came, Went}
+
+-- A path, and its own bytes in two profiles.
+pub record Changed : Type 0 where
+  pub path : Path
+  pub earlier : ℕ
+  pub later : ℕ
+
+-- What a `Change` of the code says.
+abbrev pub seen : Change → Changed
+seen c = record { path = map (λ k. k.now) c.path.items; earlier = c.earlier; later = c.later }
+
+-- The path of a row of a graph.
+abbrev pub path_of : Row → Path
+path_of r = map (λ k. k.now) r.path.items
+
+-- The change of a path from g to h. There is none where its bytes are the same in both.
+abbrev pub change_of : Graph → Graph → Path → List Changed
+change_of g h p =
+    cond (size_at g p == size_at h p) [] (record { path = p; earlier = size_at g p; later = size_at h p } ∷ [])
+
+-- The changes from g to h, in the order of all paths that g or h has.
+abbrev pub changes_of : Graph → Graph → List Changed
+changes_of g h = flat_map (change_of g h) (keys (sum_of g h))
+
+-- For each path the list has its change and no other: one with its bytes in both profiles where they differ, and none
+-- where they are the same.
+abbrev pub HasEach : Graph → Graph → List Changed → Type 0
+HasEach g h cs = (p : Path) → filter (λ c. is_same_path p c.path) cs ≡ change_of g h p
+
+-- Whether a change is of this kind. A path came where it had no bytes before, and went where it has none after. A path
+-- that grew or shrank has bytes in both profiles.
+abbrev pub is_kind : Kind → Changed → Bool
+is_kind Grew c = nat_lt 0 c.earlier && nat_lt c.earlier c.later
+is_kind Shrank c = nat_lt 0 c.later && nat_lt c.later c.earlier
+is_kind Came c = c.earlier == 0
+is_kind Went c = c.later == 0
+
+-- The number of bytes by which a path grew, which is 0 where it shrank.
+abbrev pub growth : Changed → ℕ
+growth c = c.later - c.earlier
+
+-- Whether a path has more bytes after than before.
+abbrev pub is_grown : Changed → Bool
+is_grown c = nat_lt c.earlier c.later
+
+-- The list `top` has n of the changes that grew, or all where there are fewer. It is ordered by growth, the greatest
+-- first, and none of the rest grew more than any of it.
+pub record GrewMost (n : ℕ) (cs top : List Changed) : Type 0 where
+  pub rest : List Changed
+  pub chosen : IsPermutation (filter is_grown cs) (top ++ rest)
+  pub enough : length top ≡ min n (length (filter is_grown cs))
+  pub falling : AllPairs (λ c d. growth d ≤ growth c) top
+  pub most : All (λ c. All (λ d. growth d ≤ growth c) rest) top
+
+-- The line of a change: the bytes before and after, and the path.
+abbrev pub line_of : Changed → List ℕ
+line_of c = decimal c.earlier ++ codes " -> " ++ decimal c.later ++ 32 ∷ joined c.path ++ 10 ∷ []
+
+-- The heading of the changes of a kind.
+abbrev pub heading_of : Kind → List ℕ
+heading_of Grew = codes "grew\n"
+heading_of Shrank = codes "shrank\n"
+heading_of Came = codes "came\n"
+heading_of Went = codes "went\n"
+
+-- The lines of some changes.
+abbrev pub lines_of : List Changed → List ℕ
+lines_of cs = flat_map line_of cs
+
+-- The changes of a kind, below their heading.
+unfoldable pub section_of : Kind → List Changed → List ℕ
+section_of kind cs = heading_of kind ++ lines_of (filter (is_kind kind) cs)
+
+-- Up to ten changes that grew, such that none of the rest grew more, are appended below their heading.
+pub record AppendsMost (cs : List Changed) (before after : List ℕ) : Type 0 where
+  pub top : List Changed
+  pub most : GrewMost 10 cs top
+  pub is : after ≡ before ++ (codes "grew most\n" ++ lines_of top)
+
+-- The text has the changes of each kind, and below them up to ten that grew, such that none of the rest grew more.
+abbrev pub Reports : List Changed → List ℕ → Type 0
+Reports cs text =
+    AppendsMost cs (section_of Grew cs ++ section_of Shrank cs ++ section_of Came cs ++ section_of Went cs) text

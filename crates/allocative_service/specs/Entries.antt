@@ -1,0 +1,173 @@
+-- The model of a cache, and what its calls do.
+use Rattle.std.specs.Prelude.{◌≡◌, ℕ, ◌+◌, ◌-◌, ◌<◌, ◌≤◌, Bool, Option, Some, List, [], ◌∷◌, ◌++◌, All, sum_by, option_map, refl, ⊤}
+use Rattle.std.specs.Borrow.{Fml, RattleType, MutBor, follows_so}
+use Rattle.std.specs.Coded.{Coded, code_by, coded×, coded_list, coded_ℕ}
+use Rattle.std.specs.Map.{lookup, lookup_entry, remove_entry, values_of}
+use Rattle.std.specs.Option.{option_map_or}
+use mathlib.Core.Option.{none}
+use Rattle.allocative.specs.Forest.{Forest}
+use Rattle.lru.specs.LruCache.{promoted}
+use Rattle.allocative_service.specs.Measured.{Declares, MayRefuseMeasure, measure_code}
+use Rattle.allocative_service.specs.declared.cache.Kept.{Kept}
+use Rattle.allocative_service.specs.declared.measure.Measure.{Measure}
+use Rattle.allocative_service.specs.declared.cache.error.Refused.{Refused}
+use Rattle.allocative_service.specs.declared.cache.error.CacheError.{CacheError}
+use Rattle.allocative_service.specs.declared.cache.error.CacheError.TheVariants.{TooLarge, NotMeasured, Memory}
+
+-- ---- a cache
+-- A value v with the figure n, its declared bytes.
+abbrev pub kept : {V : Type 0} → V → ℕ → Kept V
+kept v n = record { value = v; bytes = n }
+
+-- The keys with their kept values, the most recently used first.
+abbrev pub Entries : Type 0 → Type 0 → Type 0
+Entries K V = List (K × Kept V)
+
+-- The sum of the figures.
+abbrev pub bytes_of : {K V : Type 0} → Entries K V → ℕ
+bytes_of es = sum_by (λ k. k.bytes) (values_of es)
+
+-- The value under the key that passes the test.
+abbrev pub value_at : {K V : Type 0} → (K → Bool) → Entries K V → Option V
+value_at test es = option_map (λ k. k.value) (lookup test es)
+
+-- The key that the list stores for this one: an equal key that is there already, or the key itself.
+abbrev pub stored_key : {K V : Type 0} → (K → K → Bool) → K → Entries K V → K
+stored_key eq key es = option_map_or (λ e. e.0) (lookup_entry (eq key) es) key
+
+-- The model of a cache: its entries, the bound on their bytes, and which bytes are counted.
+pub record Bounded (K V : Type 0) : Type 0 where
+  pub entries : Entries K V
+  pub bound : ℕ
+  pub measure : Measure
+
+-- The cache with these entries, this bound and this measure.
+abbrev pub bounded : {K V : Type 0} → Entries K V → ℕ → Measure → Bounded K V
+bounded es n m = record { entries = es; bound = n; measure = m }
+
+-- The cache c with these entries in place of its own.
+abbrev pub with_entries : {K V : Type 0} → Bounded K V → Entries K V → Bounded K V
+with_entries c es = bounded es c.bound c.measure
+
+-- A kept value is encoded as the pair of its fields.
+abbrev pub kept_code : {V : Type 0} → Coded V → Coded (Kept V)
+kept_code {V} v = code_by (V × ℕ) (coded× v coded_ℕ) (λ k. (k.value, k.bytes)) (λ p. kept p.0 p.1) (λ _. refl)
+
+-- A cache is encoded as the pair of its fields.
+abbrev pub bounded_code : {K V : Type 0} → Coded K → Coded V → Coded (Bounded K V)
+bounded_code {K} {V} k v =
+    code_by (Entries K V × (ℕ × Measure)) (coded× (coded_list (coded× k (kept_code v))) (coded× coded_ℕ measure_code))
+    (λ c. (c.entries, (c.bound, c.measure))) (λ p. bounded p.0 p.1.0 p.1.1) (λ _. refl)
+
+-- ---- the order
+-- The cache after a use of the key that passes the test: its entry comes first, and the others stay in their order.
+abbrev pub used : {K V : Type 0} → (K → Bool) → Bounded K V → Bounded K V
+used test c = with_entries c (promoted test c.entries)
+
+-- The cache without the entry of the key that passes the test.
+abbrev pub without : {K V : Type 0} → (K → Bool) → Bounded K V → Bounded K V
+without test c = with_entries c (remove_entry test c.entries)
+
+-- What c borrows has this value once everything that was lent from it has been returned.
+abbrev pub ends_as : (R : RattleType) → MutBor R.Denot → R.Denot → Fml
+ends_as R c end = follows_so R R c.ghost_name none (λ _ _. ⊤) (λ n. n ≡ end)
+
+-- ---- evicted entries
+-- The first of the evicted entries has no room beside those that stay, or nothing was evicted.
+abbrev pub IsNeeded : {K V : Type 0} → ℕ → Entries K V → Entries K V → Type 0
+IsNeeded room stay [] = ⊤
+IsNeeded room stay (e ∷ more) = room < bytes_of stay + e.1.bytes
+
+-- Calls took the closure from f to g: exactly one with each of these entries, the last entry first.
+abbrev pub HandsBack : {F K V : Type 0} → (F → K → V → F → Type 0) → F → Entries K V → F → Type 0
+HandsBack step f [] g = f ≡ g
+HandsBack {F} step f (e ∷ es) g = (h : F) × HandsBack step f es h × step h e.0 e.1.value g
+
+-- The entries after are the most recently used of those before. No fewer could be evicted: the first of the evicted
+-- ones has no room beside those that stay. The closure was called once with each of them.
+pub record KeepsRecent {F K V : Type 0} (step : F → K → V → F → Type 0) (went : F) (room : ℕ)
+    (before after : Entries K V) : Type 0 where
+  pub gone : Entries K V
+  pub parts : before ≡ after ++ gone
+  pub needed : IsNeeded room after gone
+  pub last : F
+  pub handed : HandsBack step went gone last
+
+-- Evicting more than `room` of so many bytes took these entries, the last one first: before the first of them went, more
+-- than `room` were left.
+abbrev pub IsOwed : {K V : Type 0} → ℕ → ℕ → Entries K V → Type 0
+IsOwed bytes room [] = ⊤
+IsOwed bytes room (e ∷ more) = room + bytes_of more < bytes
+
+-- The entries after are the most recently used of those before, and `left` is what is left of the bytes without those of
+-- the evicted ones. Each of these had to go, and calls with them took the closure to its state now.
+pub record Evicts {F K V : Type 0} (step : F → K → V → F → Type 0) (went : F) (bytes room : ℕ)
+    (before after : Entries K V) (left : ℕ) (now : F) : Type 0 where
+  pub gone : Entries K V
+  pub parts : before ≡ after ++ gone
+  pub left_is : left ≡ bytes - bytes_of gone
+  pub owed : IsOwed bytes room gone
+  pub handed : HandsBack step went gone now
+
+-- The entries were evicted so, and the closure is in some state.
+abbrev pub EvictsTo : {F K V : Type 0} → (F → K → V → F → Type 0) → F → ℕ → ℕ → Entries K V → Entries K V → ℕ → Type 0
+EvictsTo {F} step went bytes room before after left = (now : F) × Evicts step went bytes room before after left now
+
+-- ---- refusals
+-- Why a cache with this bound refuses a value of so many bytes: they exceed the bound, or they are within it and memory
+-- runs out.
+abbrev pub RefusesBytes : ℕ → ℕ → CacheError → Type 0
+RefusesBytes bytes bound (TooLarge told most) = (told ≡ bytes) × (most ≡ bound) × (bound < bytes)
+RefusesBytes bytes bound (NotMeasured e) = ⊥
+RefusesBytes bytes bound Memory = bytes ≤ bound
+
+module _ {V : Type 0} (size : Option ℕ) (may_show : V → Forest → Type 0) where
+  -- ---- the figures
+  -- By the measure, n is a figure of v: the bytes that v declares in a forest that v may show.
+  abbrev pub IsFigure : Measure → V → ℕ → Type 0
+  IsFigure m v n = Declares m size (may_show v) n
+
+  -- The figure of a kept value is one of that value.
+  abbrev pub IsMeasured : Measure → Kept V → Type 0
+  IsMeasured m k = IsFigure m k.value k.bytes
+
+  -- Why a cache with this measure and this bound refuses v: a figure of v exceeds the bound, or v could not be measured,
+  -- as the measure says, or a figure of v is within the bound and memory runs out.
+  abbrev pub RefusesInsert : Bool → V → Measure → ℕ → CacheError → Type 0
+  RefusesInsert is_exact v m bound (TooLarge bytes most) = IsFigure m v bytes × (most ≡ bound) × (bound < bytes)
+  RefusesInsert is_exact v m bound (NotMeasured e) = MayRefuseMeasure m is_exact size (may_show v) e
+  RefusesInsert is_exact v m bound Memory = (bytes : ℕ) × IsFigure m v bytes × (bytes ≤ bound)
+
+  module _ {K : Type 0} where
+    -- ---- what the cache promises
+    -- The figures together are within the bound, and each is one of its value.
+    pub record IsBounded (c : Bounded K V) : Type 0 where
+      pub within : bytes_of c.entries ≤ c.bound
+      pub measured : All (IsMeasured c.measure) (values_of c.entries)
+
+    module _ {F : Type 0} (eq : K → K → Bool) (step : F → K → V → F → Type 0) where
+      -- The key now has v with a figure of v, as the most recently used entry. The old entry of the key is gone. Of the
+      -- others the least recently used are evicted, only as many as the bound requires, and the closure was called once
+      -- with each.
+      pub record Inserts (went : F) (key : K) (v : V) (old new : Bounded K V) : Type 0 where
+        pub bytes : ℕ
+        pub others : Entries K V
+        pub figure : IsFigure old.measure v bytes
+        pub fits : bytes + bytes_of others ≤ old.bound
+        pub recent : KeepsRecent step went (old.bound - bytes) (remove_entry (eq key) old.entries) others
+        pub is : new ≡ with_entries old ((stored_key eq key old.entries, kept v bytes) ∷ others)
+
+      -- The value of the key that passes the test was changed as `changed` says, measured again and inserted.
+      pub record Changes (went : F) (test : K → Bool) (changed : V → V → Type 0) (old new : Bounded K V) : Type 0 where
+        pub key : K
+        pub had : Kept V
+        pub value : V
+        pub found : lookup_entry test old.entries ≡ Some (key, had)
+        pub changes : changed had.value value
+        pub inserts : Inserts went key value (without test old) new
+
+    -- The value of the key that passes the test was changed as `changed` says, and inserting it again is refused. The
+    -- refusal has the key and the changed value.
+    abbrev pub RefusesChange : Bool → (K → Bool) → (V → V → Type 0) → Bounded K V → Refused K V → Type 0
+    RefusesChange is_exact test changed old r = (had : Kept V) × (lookup_entry test old.entries ≡ Some (r.key, had))
+        × changed had.value r.value × RefusesInsert is_exact r.value old.measure old.bound r.error

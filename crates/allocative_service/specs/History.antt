@@ -1,0 +1,37 @@
+-- The profiles that a service keeps.
+use Rattle.std.specs.Prelude.{◌≡◌, ℕ, List, ◌∷◌, Option, Some, None, slice_get, take, ⊤}
+use Rattle.std.specs.Option.{option_zip}
+use Rattle.allocative.specs.Graph.{Graph}
+use Rattle.allocative.specs.Shows.{Showing}
+use Rattle.allocative.specs.Visits.{Profile, IsProfileOf}
+use Rattle.allocative_service.specs.declared.history.History.{History}
+use Rattle.allocative_service.specs.Changes.{Changed, changes_of, GrewMost}
+
+-- The profiles of a history, the latest first.
+abbrev pub profiles_of : History → List Graph
+profiles_of h = h.profiles.items
+
+-- The most profiles that a history keeps.
+abbrev pub most_of : History → ℕ
+most_of h = h.most
+
+-- The profiles at two places of a history, where both are there.
+abbrev pub two_of : History → ℕ → ℕ → Option (Graph × Graph)
+two_of h i j = option_zip (slice_get (profiles_of h) i) (slice_get (profiles_of h) j)
+
+-- The profile is kept as the latest, with as many of the earlier ones as there is room for.
+abbrev pub Keeps : Graph → History → History → Type 0
+Keeps g old new = profiles_of new ≡ take (most_of old) (g ∷ profiles_of old)
+
+-- The graph of a profile of what p allows is kept.
+pub record TakesProfile (p : Showing) (old new : History) : Type 0 where
+  pub profile : Profile
+  pub is_profile : IsProfileOf p profile
+  pub kept : Keeps profile.graph old new
+
+-- n of the changes between two profiles grew most, or all that grew where there are fewer. There are none where a profile
+-- is missing.
+abbrev pub GrewMostBetween : ℕ → Option (Graph × Graph) → Option (List Changed) → Type 0
+GrewMostBetween n None None = ⊤
+GrewMostBetween n (Some p) (Some top) = GrewMost n (changes_of p.0 p.1) top
+GrewMostBetween n _ _ = ⊥

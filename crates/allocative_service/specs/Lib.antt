@@ -1,0 +1,7 @@
+pub mod Measured
+pub mod Holding
+pub mod Accounts
+pub mod Rejected
+pub mod Entries
+pub mod Changes
+pub mod History

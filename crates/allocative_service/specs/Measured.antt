@@ -1,0 +1,44 @@
+-- The bytes that are counted of a value.
+use Rattle.std.specs.Prelude.{◌≡◌, ℕ, Bool, Option, zero, suc, refl}
+use Rattle.std.specs.Coded.{Coded, code_by, coded_ℕ}
+use Rattle.allocative.specs.Exact.{MayRefuseProfile}
+use Rattle.allocative.specs.Graph.{Graph, total}
+use Rattle.allocative.specs.Refusal.{Refusal}
+use Rattle.allocative.specs.Shows.{Showing}
+use Rattle.allocative.specs.SizeOf.{IsSizeOfUnique, MayRefuseSize}
+use Rattle.allocative.specs.Visits.{IsGraphOf}
+use Rattle.allocative_service.specs.declared.measure.Measure.{Measure}
+use Rattle.allocative_service.specs.declared.measure.Measure.TheVariants.{Shown, Unique}
+
+-- The bytes of all that a value shows: the total of the graph of some whole showing that p allows.
+abbrev pub IsSizeOfShown : Showing → ℕ → Type 0
+IsSizeOfShown p bytes = (g : Graph) × IsGraphOf p g × (bytes ≡ total g)
+
+-- By the measure, a value of a declared size that may show what p allows declares these bytes.
+abbrev pub Declares : Measure → Option ℕ → Showing → ℕ → Type 0
+Declares Shown size p bytes = IsSizeOfShown p bytes
+Declares Unique size p bytes = IsSizeOfUnique size p bytes
+
+-- Why a value is not measured. One of an exact type is refused as a profile of it, or as `size_of_unique` of it.
+abbrev pub MayRefuseMeasure : Measure → Bool → Option ℕ → Showing → Refusal → Type 0
+MayRefuseMeasure Shown is_exact size p e = MayRefuseProfile is_exact p e
+MayRefuseMeasure Unique is_exact size p e = MayRefuseSize is_exact size p e
+
+-- A measure as a number, for its code.
+abbrev pub of_measure : Measure → ℕ
+of_measure Shown = 0
+of_measure Unique = 1
+
+-- The measure of such a number.
+abbrev pub to_measure : ℕ → Measure
+to_measure zero = Shown
+to_measure (suc n) = Unique
+
+-- Converting a measure to its number and back returns it.
+pub measure_back : (m : Measure) → to_measure (of_measure m) ≡ m
+measure_back Shown = refl
+measure_back Unique = refl
+
+-- The code of a measure.
+abbrev pub measure_code : Coded Measure
+measure_code = code_by ℕ coded_ℕ of_measure to_measure measure_back

@@ -1,0 +1,334 @@
+//! A cache bounded by declared bytes. Contracts see it as its `entries`, the most recently used first, its `bound` and
+//! its `measure`.
+ghost use Rattle.std.specs.Prelude.{◌≡◌, ◌+◌, ◌-◌, ◌^◌, ◌≤◌, Some, [], ◌∷◌, length, take, drop, OnOk, OnErr, IfOk, IfErr, IfNone, IfSome, MatchBool, MatchResult, Err, None, option_copied, ◌↔◌, IsTrue, is_some, option_map};
+ghost use Rattle.std.specs.Borrow.{sem};
+ghost use Rattle.std.specs.Fn.{FnOnceReturnsAtMut};
+ghost use Rattle.std.specs.List.{IsDistinct};
+ghost use Rattle.std.specs.Map.{lookup, lookup_entry, remove_entry, keys_of};
+ghost use Rattle.std.specs.Map.Iter.{ShowsInOrder, deref_pair};
+ghost use Rattle.allocative_service.specs.Entries.{bytes_of, KeepsRecent, EvictsTo, bounded, with_entries, IsBounded, IsFigure, Inserts, Changes, RefusesBytes, RefusesInsert, RefusesChange, stored_key, value_at, used, without, ends_as};
+ghost use Rattle.allocative_service.specs.Measured.{MayRefuseMeasure};
+
+pub mod error;
+
+pub use crate::cache::error::{CacheError, Refused};
+use crate::measure::Measure;
+use allocative::{Allocative, Described, Refusal};
+use lru::{Iter, LruCache};
+use std::alloc::{AllocError, AllocFailed, Global};
+use std::hash::Hash;
+use std::marker::Model;
+
+/// A value, and its declared bytes as they were measured when it was inserted.
+#[derive(Drop)]
+pub struct Kept<V> {
+    /// The value.
+    pub value: V,
+    /// Its declared bytes.
+    pub bytes: usize,
+}
+
+/// A map whose values have together at most as many declared bytes as its bound. Where a new value needs room, the
+/// least recently used values are evicted, and each of them is handed back to the caller.
+#[derive(Drop)]
+pub struct BoundedCache<K: Eq + Hash, V: Allocative + Described> {
+    alloc: Global,
+    measure: Measure,
+    entries: LruCache<K, Kept<V>>,
+    bytes: usize,
+    bound: usize,
+}
+
+impl<K: Eq + Hash, V: Allocative + Described> Model for BoundedCache<K, V> {
+    ghost use Rattle.std.specs.Prelude.{◌≡◌, ◌-◌, ◌^◌};
+    ghost use Rattle.allocative_service.specs.Entries.{Bounded, bounded, bounded_code, bytes_of, IsBounded};
+
+    ghost Value = { Bounded K V };
+
+    ghost coded = { bounded_code K.code V.code };
+
+    ghost view = { λ c. bounded c.entries.entries c.bound c.measure };
+
+    ghost invariant = { λ c. (c.entries.cap ≡ 2 ^ 64 - 1) × (c.bytes ≡ bytes_of c.entries.entries)
+        × IsBounded V.size V.may_show (bounded c.entries.entries c.bound c.measure) };
+}
+
+/// Puts the pair first, in place of an entry with an equal key. It returns the old value and its bytes. The other
+/// entries stay: a list is never so long that the capacity would evict one.
+fn put<K: Eq + Hash + Drop, V: Drop>(
+    entries: &mut LruCache<K, Kept<V>>,
+    key: K,
+    kept: Kept<V>,
+) -> Result<(Option<V>, usize), AllocFailed<(K, Kept<V>)>>
+    requires { entries.old.cap ≡ 2 ^ 64 - 1 }
+    ensures first { OnOk result (entries.new.entries
+        ≡ (stored_key K.eq key entries.old.entries, kept) ∷ remove_entry (K.eq key) entries.old.entries) }
+    ensures had { IfOk result (λ had. had.0 ≡ value_at (K.eq key) entries.old.entries) }
+    ensures bytes { IfOk result (λ had. bytes_of (remove_entry (K.eq key) entries.old.entries) + had.1
+        ≡ bytes_of entries.old.entries) }
+    ensures capacity { entries.new.cap ≡ entries.old.cap }
+    ensures returned { IfErr result (λ failed. failed.value ≡ (key, kept)) }
+    ensures err { OnErr result (entries.new ≡ entries.old) }
+{
+    let count = entries.len();
+    prove!(count < usize::MAX);
+    match entries.put(key, kept) {
+        Ok(Some(old)) => Ok((Some(old.value), old.bytes)),
+        Ok(None) => Ok((None, 0)),
+        Err(failed) => Err(failed),
+    }
+}
+
+/// Evicts the least recently used entries, until at most `room` of `bytes` bytes are left. It passes each evicted entry
+/// to the closure, and returns what is left of the bytes.
+fn evict<K: Eq + Hash, V: Drop, F: FnMut(K, V)>(
+    entries: &mut LruCache<K, Kept<V>>,
+    bytes: usize,
+    room: usize,
+    mut went: F,
+) -> usize
+    requires callable { F.IsAlwaysCallable went }
+    requires enough { bytes ≤ bytes_of entries.old.entries }
+    ensures evicted { EvictsTo (λ f k v g. F.step f k v tt g) went bytes room entries.old.entries
+        entries.new.entries result }
+    ensures fits { result ≤ room }
+    ensures capacity { entries.new.cap ≡ entries.old.cap }
+{
+    let mut left = bytes;
+    while left > room {
+        let Some((key, gone)) = entries.pop_lru() else {
+            return left;
+        };
+        left = left.saturating_sub(gone.bytes);
+        went(key, gone.value);
+    }
+    left
+}
+
+impl<K: Eq + Hash + Drop, V: Allocative + Described> BoundedCache<K, V> {
+    ghost use Rattle.allocative_service.specs.contracts.cache.BoundedCache.{the_row};
+
+    /// An empty cache with a bound in bytes, as the measure counts them. The only error is that memory runs out.
+    pub fn new(alloc: Global, measure: Measure, bound: usize) -> Result<Self, AllocError>
+        ensures { IfOk result (λ c. c ≡ bounded [] bound measure) }
+    {
+        let entries = LruCache::unbounded(alloc)?;
+        Ok(BoundedCache {
+            alloc,
+            measure,
+            entries,
+            bytes: 0,
+            bound,
+        })
+    }
+
+    /// Measures the value and inserts it under the key, as the most recently used. It returns the value that was there
+    /// before. Of the others the least recently used are evicted, no more than necessary. Each is passed to `went` with
+    /// its key, the least recently used first.
+    ///
+    /// The error is `TooLarge` where the value alone exceeds the bound, `NotMeasured` where `Measure::size_of` returns an
+    /// error, and `Memory` where the value is within the bound and memory runs out. The key and the value come with the
+    /// error, and the cache is unchanged.
+    pub fn insert<F: FnMut(K, V)>(
+        &mut self,
+        key: K,
+        value: V,
+        went: F,
+    ) -> Result<Option<V>, Refused<K, V>>
+        requires { F.IsAlwaysCallable went }
+        ensures ok { OnOk result
+            (Inserts V.size V.may_show K.eq (λ f k v g. F.step f k v tt g) went key value self.old self.new) }
+        ensures had { IfOk result (λ had. had ≡ value_at (K.eq key) self.old.entries) }
+        ensures refused { IfErr result
+            (λ r. RefusesInsert V.size V.may_show V.is_exact value self.old.measure self.old.bound r.error) }
+        ensures returned { IfErr result (λ r. (r.key ≡ key) × (r.value ≡ value)) }
+        ensures err { OnErr result (self.new ≡ self.old) }
+        ensures bounded { IsBounded V.size V.may_show self.new }
+    {
+        let measured = self.size_of(&value);
+        self.keep(key, value, measured, went)
+    }
+
+    /// The bytes of a value, as the cache counts them.
+    fn size_of(&self, value: &V) -> Result<usize, Refusal>
+        ensures measured { IfOk result (IsFigure V.size V.may_show self.now.measure value.now) }
+        ensures refused { IfErr result (MayRefuseMeasure self.now.measure V.is_exact V.size (V.may_show value.now)) }
+    {
+        self.measure.size_of(self.alloc, value)
+    }
+
+    /// Inserts the value under the key, given the result of measuring it.
+    fn keep<F: FnMut(K, V)>(
+        &mut self,
+        key: K,
+        value: V,
+        measured: Result<usize, Refusal>,
+        went: F,
+    ) -> Result<Option<V>, Refused<K, V>>
+        requires callable { F.IsAlwaysCallable went }
+        requires measured { IfOk measured (IsFigure V.size V.may_show self.old.measure value) }
+        ensures ok { OnOk result
+            (Inserts V.size V.may_show K.eq (λ f k v g. F.step f k v tt g) went key value self.old self.new) }
+        ensures had { IfOk result (λ had. had ≡ value_at (K.eq key) self.old.entries) }
+        ensures refused { MatchResult measured
+            (λ bytes. IfErr result (λ r. RefusesBytes bytes self.old.bound r.error))
+            (λ e. result ≡ Err (record { error = CacheError.NotMeasured e; key = key; value = value })) }
+        ensures returned { IfErr result (λ r. (r.key ≡ key) × (r.value ≡ value)) }
+        ensures err { OnErr result (self.new ≡ self.old) }
+        ensures bounded { IsBounded V.size V.may_show self.new }
+    {
+        let bound = self.bound;
+        let bytes = match measured {
+            Ok(bytes) => bytes,
+            Err(refusal) => {
+                let error = CacheError::NotMeasured(refusal);
+                return Err(Refused { error, key, value });
+            }
+        };
+        if bytes > bound {
+            let error = CacheError::TooLarge { bytes, bound };
+            return Err(Refused { error, key, value });
+        }
+        match put(&mut self.entries, key, Kept { value, bytes }) {
+            Ok((had, replaced)) => {
+                let room = bound - bytes;
+                let others = evict(&mut self.entries, self.bytes - replaced, room, went);
+                self.bytes = bytes + others;
+                Ok(had)
+            }
+            Err(AllocFailed { value: (key, kept) }) => {
+                let error = CacheError::Memory;
+                let value = kept.value;
+                Err(Refused { error, key, value })
+            }
+        }
+    }
+
+    /// Removes the key and returns it with its value. Where there is no such key, it returns None and nothing changes.
+    pub fn remove(&mut self, key: &K) -> Option<(K, V)>
+        ensures value { result ≡ option_map (λ e. (e.0, e.1.value)) (lookup_entry (K.eq key.now) self.old.entries) }
+        ensures others { self.new ≡ without (K.eq key.now) self.old }
+        ensures unchanged { IfNone result (self.new ≡ self.old) }
+        ensures bounded { IsBounded V.size V.may_show self.new }
+    {
+        let (key, kept) = self.entries.pop_entry(key)?;
+        self.bytes -= kept.bytes;
+        Some((key, kept.value))
+    }
+
+    /// Removes all values, and drops them.
+    pub fn clear(&mut self)
+        ensures { self.new ≡ with_entries self.old [] }
+    {
+        self.entries.clear();
+        self.bytes = 0;
+    }
+
+    /// Replaces the bound. The least recently used values are evicted, no more than necessary. Each is passed to `went`
+    /// with its key, the least recently used first.
+    pub fn set_bound<F: FnMut(K, V)>(&mut self, bound: usize, went: F)
+        requires { F.IsAlwaysCallable went }
+        ensures recent { KeepsRecent (λ f k v g. F.step f k v tt g) went bound self.old.entries self.new.entries }
+        ensures set { self.new ≡ bounded self.new.entries bound self.old.measure }
+        ensures bounded { IsBounded V.size V.may_show self.new }
+    {
+        self.bytes = evict(&mut self.entries, self.bytes, bound, went);
+        self.bound = bound;
+    }
+
+    /// Changes the value under the key in place, measures it again and inserts it as `insert` does. It returns whether
+    /// the cache has the key. Where it does not, nothing changes.
+    ///
+    /// The errors are those of `insert`. After an error the key and the value are no longer in the cache, and come with
+    /// the error.
+    pub fn change<C: FnOnce(&mut V), F: FnMut(K, V)>(
+        &mut self,
+        key: &K,
+        change: C,
+        went: F,
+    ) -> Result<bool, Refused<K, V>>
+        requires changes { C.IsAlwaysCallable change }
+        requires callable { F.IsAlwaysCallable went }
+        ensures ok { IfOk result (λ there. MatchBool there
+            (Changes V.size V.may_show K.eq (λ f k v g. F.step f k v tt g) went (K.eq key.now)
+            (λ v w. FnOnceReturnsAtMut C.FnOnce change v tt w) self.old self.new)
+            ((lookup_entry (K.eq key.now) self.old.entries ≡ None) × (self.new ≡ self.old))) }
+        ensures refused { IfErr result
+            (RefusesChange V.size V.may_show V.is_exact (K.eq key.now)
+            (λ v w. FnOnceReturnsAtMut C.FnOnce change v tt w) self.old) }
+        ensures err { OnErr result (self.new ≡ without (K.eq key.now) self.old) }
+        ensures bounded { IsBounded V.size V.may_show self.new }
+    {
+        let Some((key, mut value)) = self.remove(key) else {
+            return Ok(false);
+        };
+        change(&mut value);
+        match self.insert(key, value, went) {
+            Ok(_none) => Ok(true),
+            Err(refused) => Err(refused),
+        }
+    }
+
+    /// The value under the key, which becomes the most recently used.
+    pub fn get(&mut self, key: &K) -> Option<&V>
+        ensures* order { sem 𝓛 (ends_as
+            (the_row K.row V.row (record {}) (record { eq = K.eq }) (record { hash_input = K.hash_input }) V.Allocative
+            V.Described) self.entry (used (K.eq key.now) self.old)) }
+        ensures value { option_copied result ≡ value_at (K.eq key.now) self.old.entries }
+    {
+        let kept = self.entries.get(key)?;
+        Some(&kept.value)
+    }
+
+    /// The keys with their kept values, the most recently used first. The order does not change.
+    pub fn iter(&self) -> Iter<'_, K, Kept<V>>
+        ensures rest { result ≡ self.now.entries }
+        ensures runs { ShowsInOrder (deref_pair {K = K} {X = Kept V}) }
+    {
+        self.entries.iter()
+    }
+
+    /// The number of values, each under a key of its own.
+    pub fn len(&self) -> usize
+        ensures len { result ≡ length self.now.entries }
+        ensures distinct { IsDistinct K.eq (keys_of self.now.entries) }
+    {
+        self.entries.len()
+    }
+
+    /// Whether the cache has a value under the key. The order does not change.
+    pub fn contains(&self, key: &K) -> bool
+        ensures { result ≡ is_some (value_at (K.eq key.now) self.now.entries) }
+    {
+        self.entries.contains(key)
+    }
+
+    /// Whether the cache is empty.
+    pub fn is_empty(&self) -> bool
+        ensures { IsTrue result ↔ (self.now.entries ≡ []) }
+    {
+        self.entries.is_empty()
+    }
+
+    /// The declared bytes of all values together.
+    pub fn bytes(&self) -> usize
+        ensures sum { result ≡ bytes_of self.now.entries }
+        ensures bounded { IsBounded V.size V.may_show self.now }
+    {
+        self.bytes
+    }
+
+    /// The most declared bytes that the values may have together.
+    pub fn bound(&self) -> usize
+        ensures { result ≡ self.now.bound }
+    {
+        self.bound
+    }
+
+    /// Which bytes of its values the cache counts.
+    pub fn measure(&self) -> Measure
+        ensures { result ≡ self.now.measure }
+    {
+        self.measure
+    }
+}

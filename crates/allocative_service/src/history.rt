@@ -1,0 +1,119 @@
+//! The last profiles of a service.
+ghost use Rattle.std.specs.Prelude.{◌≡◌, ◌+◌, ◌^◌, ◌≤◌, ◌↔◌, [], OnOk, OnErr, IfOk, IfErr, IsErrOf, IsSomeAnd, length, map, option_map};
+ghost use Rattle.std.specs.Map.Iter.{deref_pair};
+ghost use Rattle.allocative.specs.Exact.{MayRefuseProfile};
+ghost use Rattle.allocative.specs.Graph.{total};
+ghost use Rattle.allocative_service.specs.Changes.{seen, changes_of};
+ghost use Rattle.allocative_service.specs.History.{profiles_of, most_of, two_of, Keeps, TakesProfile, GrewMostBetween};
+
+pub mod changes;
+pub mod text;
+
+pub use crate::history::changes::{Change, Kind, compare, grew_most};
+pub use crate::history::text::report;
+use allocative::{Allocative, FlameGraph, Refusal, profile_value};
+use std::alloc::{AllocError, Global};
+use std::collections::VecDeque;
+
+/// The last profiles of a service, the latest first, up to a number that is given to `new`.
+#[derive(Drop)]
+pub struct History {
+    /// The profiles, the latest first.
+    profiles: VecDeque<FlameGraph>,
+    /// The most profiles that are kept.
+    most: usize,
+}
+
+impl History {
+    /// An empty history that keeps at most so many profiles. It allocates nothing.
+    pub fn new(alloc: Global, most: usize) -> History
+        ensures empty { profiles_of result ≡ [] }
+        ensures most { most_of result ≡ most }
+    {
+        History {
+            profiles: VecDeque::new(alloc),
+            most,
+        }
+    }
+
+    /// The number of profiles.
+    pub fn len(&self) -> usize
+        ensures { result ≡ length (profiles_of self.now) }
+    {
+        self.profiles.len()
+    }
+
+    /// Adds a profile as the latest, and drops the earliest where there would be too many. The only error is that
+    /// memory runs out, and then the history is unchanged.
+    pub fn keep(&mut self, profile: FlameGraph) -> Result<(), AllocError>
+        ensures kept { OnOk result (Keeps profile self.old self.new) }
+        ensures unchanged { OnErr result (profiles_of self.new ≡ profiles_of self.old) }
+        ensures most { most_of self.new ≡ most_of self.old }
+    {
+        self.profiles.push_front(profile)?;
+        self.profiles.truncate(self.most);
+        Ok(())
+    }
+
+    /// Takes a profile of a value, as `profile_value` does, and keeps its graph as the latest. It is refused where
+    /// `profile_value` is, and with `Memory` where memory runs out. After an error the history is unchanged.
+    pub fn take_profile<T: Allocative>(&mut self, alloc: Global, value: &T) -> Result<(), Refusal>
+        ensures taken { OnOk result (TakesProfile (T.may_show value.now) self.old self.new) }
+        ensures refused { IfErr result (MayRefuseProfile T.is_exact (T.may_show value.now)) }
+        ensures unchanged { OnErr result (profiles_of self.new ≡ profiles_of self.old) }
+        ensures most { most_of self.new ≡ most_of self.old }
+    {
+        let profile = profile_value(alloc, value)?;
+        self.keep(profile.into_flamegraph())?;
+        Ok(())
+    }
+
+    /// Two profiles by their places, where 0 is that of the latest. It is None where one of the places has no profile.
+    pub fn pair(&self, earlier: usize, later: usize) -> Option<(&FlameGraph, &FlameGraph)>
+        ensures { option_map deref_pair result ≡ two_of self.now earlier later }
+    {
+        let earlier = self.profiles.get(earlier)?;
+        let later = self.profiles.get(later)?;
+        Some((earlier, later))
+    }
+
+    /// The changes between two profiles by their places, as `compare` returns them. It is None where one of the places
+    /// has no profile.
+    ///
+    /// It returns `TooLarge` exactly where the totals of the two profiles together exceed `usize::MAX`. The only other
+    /// error is that memory runs out.
+    pub fn between(
+        &self,
+        alloc: Global,
+        earlier: usize,
+        later: usize,
+    ) -> Result<Option<Vec<Change>>, Refusal>
+        ensures changes { IfOk result (λ found. option_map (λ changes. map seen changes.items) found
+            ≡ option_map (λ pair. changes_of pair.0 pair.1) (two_of self.now earlier later)) }
+        ensures too_large { IsErrOf result Refusal.TooLarge
+            ↔ IsSomeAnd (two_of self.now earlier later) (λ pair. 2 ^ 64 ≤ total pair.0 + total pair.1) }
+        ensures never_open { ¬ (IsErrOf result Refusal.Open) }
+    {
+        let Some((earlier, later)) = self.pair(earlier, later) else {
+            return Ok(None);
+        };
+        let changes = compare(alloc, earlier, later)?;
+        Ok(Some(changes))
+    }
+
+    /// The changes of the paths that grew most between the last two profiles, as the function `grew_most` picks them. It
+    /// is None where there are fewer than two profiles. The errors are those of `between`.
+    pub fn grew_most(&self, alloc: Global, count: usize) -> Result<Option<Vec<Change>>, Refusal>
+        ensures grew { IfOk result (λ top. GrewMostBetween count (two_of self.now 1 0)
+            (option_map (λ changes. map seen changes.items) top)) }
+        ensures too_large { IsErrOf result Refusal.TooLarge
+            ↔ IsSomeAnd (two_of self.now 1 0) (λ pair. 2 ^ 64 ≤ total pair.0 + total pair.1) }
+        ensures never_open { ¬ (IsErrOf result Refusal.Open) }
+    {
+        let Some(changes) = self.between(alloc, 1, 0)? else {
+            return Ok(None);
+        };
+        let top = grew_most(alloc, changes.as_slice(), count)?;
+        Ok(Some(top))
+    }
+}

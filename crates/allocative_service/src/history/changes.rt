@@ -1,0 +1,138 @@
+//! The differences between two profiles, path by path.
+ghost use Rattle.std.specs.Prelude.{◌≡◌, ◌+◌, ◌-◌, ◌^◌, ◌≤◌, ◌↔◌, ◌++◌, OnOk, IfOk, IsErrOf, map};
+ghost use Rattle.allocative.specs.Graph.{total};
+ghost use Rattle.allocative_service.specs.Changes.{seen, is_kind, growth, changes_of, change_of, HasEach, GrewMost, path_of};
+
+use allocative::{FlameGraph, Refusal, Row};
+use std::alloc::{AllocError, Global};
+use std::collections::VecDeque;
+
+/// A path whose own bytes differ between two profiles. A path that a profile does not have counts as 0 bytes there.
+#[derive(Drop)]
+pub struct Change {
+    /// The keys of the path, from the root on.
+    pub path: Vec<&'static str>,
+    /// The path's own bytes in the earlier profile.
+    pub earlier: usize,
+    /// The path's own bytes in the later profile.
+    pub later: usize,
+}
+
+/// How a path changed.
+#[derive(Clone, Copy, Debug, PartialEq, Eq)]
+pub enum Kind {
+    /// It had bytes, and has more after.
+    Grew,
+    /// It has bytes, and had more before.
+    Shrank,
+    /// It had no bytes before.
+    Came,
+    /// It has no bytes after.
+    Went,
+}
+
+impl Change {
+    /// Whether the change is of this kind.
+    pub fn is(&self, kind: Kind) -> bool
+        ensures { result ≡ is_kind kind (seen self.now) }
+    {
+        let Change { earlier, later, .. } = self;
+        match kind {
+            Kind::Grew => 0 < *earlier && earlier < later,
+            Kind::Shrank => 0 < *later && later < earlier,
+            Kind::Came => *earlier == 0,
+            Kind::Went => *later == 0,
+        }
+    }
+
+    /// A copy of the change. The only error is that memory runs out.
+    pub fn copy(&self) -> Result<Change, AllocError>
+        ensures { IfOk result (λ change. seen change ≡ seen self.now) }
+    {
+        Ok(Change {
+            path: self.path.clone()?,
+            earlier: self.earlier,
+            later: self.later,
+        })
+    }
+
+    /// The number of bytes by which the path grew, which is 0 where it shrank.
+    pub fn growth(&self) -> usize
+        ensures { result ≡ growth (seen self.now) }
+    {
+        self.later.saturating_sub(self.earlier)
+    }
+}
+
+/// The changes from one profile to another: exactly the paths whose bytes differ, each with its bytes in both, in the
+/// order of paths.
+///
+/// It returns `TooLarge` exactly where the two totals together exceed `usize::MAX`. The totals of two finished profiles
+/// never do. The only other error is that memory runs out.
+pub fn compare(
+    alloc: Global,
+    earlier: &FlameGraph,
+    later: &FlameGraph,
+) -> Result<Vec<Change>, Refusal>
+    ensures each { IfOk result (λ changes. HasEach earlier.now later.now (map seen changes.items)) }
+    ensures ordered { IfOk result (λ changes. map seen changes.items ≡ changes_of earlier.now later.now) }
+    ensures too_large { IsErrOf result Refusal.TooLarge ↔ (2 ^ 64 ≤ total earlier.now + total later.now) }
+    ensures never_open { ¬ (IsErrOf result Refusal.Open) }
+{
+    if later.total_size() > usize::MAX - earlier.total_size() {
+        return Err(Refusal::TooLarge);
+    }
+    let mut both = earlier.clone()?;
+    both.add(later.clone()?)?;
+    let mut rows = VecDeque::from(both.rows()?);
+    let mut changes = Vec::new(alloc);
+    while let Some(row) = rows.pop_front() {
+        push_change(earlier, later, row, &mut changes)?;
+    }
+    Ok(changes)
+}
+
+/// Appends the change of a row's path, where its bytes differ.
+fn push_change(
+    earlier: &FlameGraph,
+    later: &FlameGraph,
+    row: Row,
+    changes: &mut Vec<Change>,
+) -> Result<(), AllocError>
+    ensures { OnOk result (map seen changes.new.items ≡ map seen changes.old.items
+        ++ change_of earlier.now later.now (path_of row)) }
+{
+    let Row { path, .. } = row;
+    let (before, after) = (
+        earlier.size_at(path.as_slice()),
+        later.size_at(path.as_slice()),
+    );
+    if before != after {
+        changes.push(Change {
+            path,
+            earlier: before,
+            later: after,
+        })?;
+    }
+    Ok(())
+}
+
+/// The changes of the paths that grew most, up to a count, the greatest growth first. A path that had no bytes before
+/// counts as grown. The only error is that memory runs out.
+pub fn grew_most(alloc: Global, changes: &[Change], count: usize) -> Result<Vec<Change>, AllocError>
+    ensures { IfOk result (λ top. GrewMost count (map seen changes.now) (map seen top.items)) }
+{
+    let mut grown = Vec::new(alloc);
+    for change in changes {
+        if change.earlier < change.later {
+            grown.push(change.copy()?)?;
+        }
+    }
+    grown.sort_by_key(
+        |change: &Change| -> usize
+            ensures { result ≡ 2 ^ 64 - 1 - growth (seen change.entry.now) }
+        { usize::MAX - change.growth() },
+    )?;
+    grown.truncate(count);
+    Ok(grown)
+}

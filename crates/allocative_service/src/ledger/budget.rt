@@ -1,0 +1,54 @@
+//! A limit in bytes and the check against it.
+ghost use Rattle.std.specs.Prelude.{◌≡◌, ◌^◌, ◌<◌, ◌≤◌, IfOk, IfErr};
+ghost use Rattle.allocative_service.specs.Measured.{Declares};
+ghost use Rattle.allocative_service.specs.Rejected.{IsOverBudget, RejectsValue};
+
+use crate::ledger::rejection::Rejection;
+use crate::measure::Measure;
+use allocative::{Allocative, Described};
+use std::alloc::Global;
+
+/// The most bytes that the data of a tenant may hold.
+#[derive(Clone, Copy, Debug, PartialEq, Eq)]
+pub struct Budget {
+    /// The limit in bytes.
+    pub limit: usize,
+    // The limit fits a word, so each sum within it does.
+    ghost fits: { limit < 2 ^ 64 },
+}
+
+impl Budget {
+    /// Returns the bytes where they are at most the limit, and otherwise `OverBudget`.
+    pub fn check(&self, bytes: usize) -> Result<usize, Rejection>
+        ensures within { IfOk result (λ checked. (checked ≡ bytes) × (bytes ≤ self.now.limit)) }
+        ensures over { IfErr result (IsOverBudget bytes self.now.limit) }
+    {
+        if bytes > self.limit {
+            return Err(Rejection::OverBudget {
+                bytes,
+                limit: self.limit,
+            });
+        }
+        Ok(bytes)
+    }
+
+    /// Measures one value by itself, for example all that a tenant has. Where the bytes that it declares are within the
+    /// limit, it returns them.
+    ///
+    /// It returns `OverBudget` exactly where they exceed the limit, and `NotMeasured` where `Measure::size_of` returns
+    /// an error.
+    pub fn admit<T: Allocative + Described>(
+        &self,
+        alloc: Global,
+        measure: Measure,
+        value: &T,
+    ) -> Result<usize, Rejection>
+        ensures admitted { IfOk result
+            (λ bytes. Declares measure T.size (T.may_show value.now) bytes × (bytes ≤ self.now.limit)) }
+        ensures rejected { IfErr result
+            (RejectsValue measure T.is_exact T.size (T.may_show value.now) self.now.limit) }
+    {
+        let bytes = measure.size_of(alloc, value)?;
+        self.check(bytes)
+    }
+}

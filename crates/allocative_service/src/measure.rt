@@ -1,0 +1,48 @@
+//! What is counted of a value.
+ghost use Rattle.std.specs.Prelude.{◌<◌, ◌^◌, IfOk, IfErr};
+ghost use Rattle.allocative.specs.Exact.{MayRefuseProfile};
+ghost use Rattle.allocative_service.specs.Measured.{IsSizeOfShown, Declares, MayRefuseMeasure};
+
+use allocative::{Allocative, Described, Refusal, profile_value, size_of_unique};
+use std::alloc::Global;
+
+/// Which bytes a ledger or a cache counts of a value.
+#[derive(Clone, Copy, Debug, PartialEq, Eq)]
+pub enum Measure {
+    /// All bytes that the value declares, as `size_of_shown` returns them. This is the measure for a limit.
+    Shown,
+    /// Its own size and the bytes directly inside unique entries, as `size_of_unique` returns them. It takes no memory.
+    /// It leaves out the entries of the maps and sets of `std`, and what shared pointers point to.
+    Unique,
+}
+
+impl Measure {
+    /// The bytes of a value by this measure. An error is that of `size_of_shown` or of `size_of_unique`.
+    pub fn size_of<T: Allocative + Described>(
+        self,
+        alloc: Global,
+        value: &T,
+    ) -> Result<usize, Refusal>
+        ensures measured { IfOk result (Declares self T.size (T.may_show value.now)) }
+        ensures refused { IfErr result (MayRefuseMeasure self T.is_exact T.size (T.may_show value.now)) }
+    {
+        match self {
+            Measure::Shown => size_of_shown(alloc, value),
+            Measure::Unique => size_of_unique(value),
+        }
+    }
+}
+
+/// The bytes of all that a value shows: the total of the graph that `profile_value` makes of it. What a shared pointer
+/// points to counts once for each value that is measured. The memory of the graph is given back before it returns.
+///
+/// It returns an error where `profile_value` does. For an exact type that is `Memory`, or `TooLarge` where a flame graph
+/// cannot take all that the value may show.
+pub fn size_of_shown<T: Allocative>(alloc: Global, value: &T) -> Result<usize, Refusal>
+    ensures shown { IfOk result (IsSizeOfShown (T.may_show value.now)) }
+    ensures refused { IfErr result (MayRefuseProfile T.is_exact (T.may_show value.now)) }
+    ensures fits { IfOk result (λ bytes. bytes < 2 ^ 63) }
+{
+    let profile = profile_value(alloc, value)?;
+    Ok(profile.flamegraph().total_size())
+}

@@ -1,3 +1,0 @@
-mod Inserting
-mod Shrinking
-mod Using

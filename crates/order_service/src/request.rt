@@ -1,0 +1,100 @@
+//! What a line of the input asks for.
+
+/// The value of a document, as a line has it.
+#[derive(Clone, Copy)]
+pub enum Draft<'a> {
+    /// The text of a note.
+    Note(&'a str),
+    /// The places of an order's items in the catalogue, with spaces between them.
+    Order(&'a str),
+}
+
+/// What a line asks for.
+#[derive(Clone, Copy)]
+pub enum Request<'a> {
+    Open {
+        tenant: &'a str,
+        limit: usize,
+    },
+    Limit {
+        tenant: &'a str,
+        limit: usize,
+    },
+    Close {
+        tenant: &'a str,
+    },
+    Put {
+        tenant: &'a str,
+        key: u64,
+        draft: Draft<'a>,
+    },
+    Get {
+        tenant: &'a str,
+        key: u64,
+    },
+    Drop {
+        tenant: &'a str,
+        key: u64,
+    },
+    Bound {
+        bytes: usize,
+    },
+    Clear,
+    Pages,
+    Bill,
+    Profile,
+    Report,
+    Most {
+        count: usize,
+    },
+}
+
+/// Reads a line. It is None where the line asks for nothing that the service does.
+pub fn read_request(line: &str) -> Option<Request<'_>> {
+    let (word, rest) = line.split_once(' ').unwrap_or((line, ""));
+    match word {
+        "pages" => Some(Request::Pages),
+        "clear" => Some(Request::Clear),
+        "bill" => Some(Request::Bill),
+        "profile" => Some(Request::Profile),
+        "report" => Some(Request::Report),
+        "close" => Some(Request::Close { tenant: rest }),
+        "bound" => Some(Request::Bound {
+            bytes: rest.parse::<usize>().ok()?,
+        }),
+        "most" => Some(Request::Most {
+            count: rest.parse::<usize>().ok()?,
+        }),
+        _ => read_of_tenant(word, rest),
+    }
+}
+
+/// Reads a request that names a tenant and a number.
+fn read_of_tenant<'a>(word: &str, rest: &'a str) -> Option<Request<'a>> {
+    let (tenant, rest) = rest.split_once(' ')?;
+    let (number, value) = rest.split_once(' ').unwrap_or((rest, ""));
+    let limit = number.parse::<usize>().ok()?;
+    let key = limit as u64;
+    match word {
+        "open" => Some(Request::Open { tenant, limit }),
+        "limit" => Some(Request::Limit { tenant, limit }),
+        "get" => Some(Request::Get { tenant, key }),
+        "drop" => Some(Request::Drop { tenant, key }),
+        "put" => Some(Request::Put {
+            tenant,
+            key,
+            draft: read_draft(value)?,
+        }),
+        _ => None,
+    }
+}
+
+/// Reads the kind of a document and its value.
+fn read_draft(text: &str) -> Option<Draft<'_>> {
+    let (kind, value) = text.split_once(' ')?;
+    match kind {
+        "note" => Some(Draft::Note(value)),
+        "order" => Some(Draft::Order(value)),
+        _ => None,
+    }
+}

@@ -1,8 +1,0 @@
-use Rattle.std.proofs.Common.{◌≡◌, ◌++◌, map, take}
-use Rattle.std.specs.Prelude.{filter, string_bytes}
-use Rattle.profile_report.specs.Changes.{seen, is_kind, heading_of, lines_of}
-use Rattle.profile_report.proofs.report.push_section.Given as goal
-
--- The heading and the lines of the changes of this kind so far have been appended.
-abbrev pub invariant-loop-change : goal.invariant-loop-change
-invariant-loop-change l = string_bytes l.text ≡ string_bytes l.fn.text ++ (heading_of l.kind ++ lines_of (filter (is_kind l.kind) (map seen (take l.change-index l.changes))))

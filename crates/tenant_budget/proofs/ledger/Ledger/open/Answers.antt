@@ -1,5 +1,0 @@
-use Rattle.tenant_budget.proofs.Changes.{opens}
-use Rattle.tenant_budget.proofs.ledger.Ledger.open.Goals as goal
-
-pub returns-clause-opened : goal.returns-clause-opened
-returns-clause-opened c = rw (← c.new-account.ensures) (opens c.args.tenant.now c.in-Ok.name c.new-account.result c.args.self.now (record { alloc = c.args.self.now.alloc; accounts = c.insert.new.self }) c.in-Ok.ensures.ok c.in-Ok-insert.ensures.updates)

@@ -1,4 +1,0 @@
-pub mod Measured
-pub mod Holding
-pub mod Accounts
-pub mod Rejected
