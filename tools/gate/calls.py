@@ -11,7 +11,9 @@ PAGE = "docs/CALLS.md"
 # Where a signature ends: at its first clause, or at its body.
 END = re.compile(r" (?:requires|ensures|decreases|unfolds)\b| ?\{| ?;$")
 LINK = re.compile(r"\[(`[^`]*`)\]\([^)]*\)")
-VARIANT = re.compile(r"    ([A-Z]\w*(?:\([^)]*\))?)(?: = \d+)?,$")
+FIELD = re.compile(r"    pub (\w+: .*?),?$")
+# A variant in the lines of an enum that are joined: its name, with its fields.
+VARIANT = re.compile(r"([A-Z]\w*(?:\([^)]*\)| {[^}]*})?)(?: = \d+)?,")
 # The traits of std that the page names.
 TRAITS = ("Clone", "Copy", "Default", "Eq", "Ord", "Hash", "Debug", "Display", "Error")
 
@@ -62,14 +64,13 @@ def signature_at(lines: list[str], at: int) -> str:
 
 def members_at(lines: list[str], at: int) -> Iterator[str]:
     """Gives the public fields of a struct, or the variants of an enum, as they stand in the source."""
-    is_enum = " enum " in f" {lines[at]} "
-    for line in lines[at + 1 :]:
-        if line.startswith("}"):
-            return
-        field = re.match(r"    pub (\w+: .*?),?$", line)
-        variant = VARIANT.match(line)
-        if field and not is_enum or variant and is_enum:
-            yield variant[1] if is_enum else field[1]
+    body = lines[at + 1 : at + 1 + lines[at + 1 :].index("}")]
+    if " enum " not in f" {lines[at]} ":
+        yield from (it[1] for it in map(FIELD.match, body) if it)
+        return
+    code = " ".join(it.strip() for it in body if not it.lstrip().startswith(("//", "#[")))
+    for variant in VARIANT.finditer(code):
+        yield re.sub(r",? }", " }", variant[1])
 
 
 def type_at(lines: list[str], at: int) -> str:
