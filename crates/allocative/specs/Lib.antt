@@ -38,3 +38,4 @@ pub use Rattle.allocative_graph.specs.Many
 pub use Rattle.allocative_graph.specs.Laws
 pub use Rattle.allocative_graph.specs.WorkedExamples
 pub use Rattle.allocative_graph.specs.declared.refusal.Refusal
+pub use Rattle.allocative_graph.specs.declared.flamegraph.reads.Row

@@ -9,12 +9,12 @@ use Rattle.std.proofs.lemmas.List.{append-nil}
 use Rattle.std.proofs.lemmas.List.Elements.{filter-append}
 use Rattle.std.specs.FinMap.{entries, get, get-entries, entries_sorted}
 use Rattle.std.specs.FinMap.Entries.{find, is_sorted, below_all}
-use Rattle.allocative_graph.proofs.Basics.{path_antisymmetric}
-use Rattle.allocative_graph.proofs.Merge.{get-sum_of}
-use Rattle.allocative_graph.specs.Path.{Path, path_cmp, is_same_path}
-use Rattle.allocative_graph.specs.Graph.{Graph, size_at, sum_of, total_at}
-use Rattle.allocative_graph.specs.Reads as reads
-use Rattle.allocative_graph.specs.declared.flamegraph.reads.Row as read
+use Rattle.allocative.proofs.Basics.{path_antisymmetric}
+use Rattle.allocative.proofs.Merge.{get-sum_of}
+use Rattle.allocative.specs.Path.{Path, path_cmp, is_same_path}
+use Rattle.allocative.specs.Graph.{Graph, size_at, sum_of, total_at}
+use Rattle.allocative.specs.Reads as reads
+use Rattle.allocative.specs.Row as read
 use Rattle.allocative_service.specs.Changes.{Changed, change_of, changes_of, path_of, HasEach}
 
 -- The changes of the paths of some rows.

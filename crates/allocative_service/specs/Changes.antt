@@ -4,7 +4,7 @@ use Rattle.std.specs.List.Sorted.{IsPermutation}
 use Rattle.std.specs.FinMap.{keys}
 use Rattle.allocative.specs.Path.{Path, is_same_path}
 use Rattle.allocative.specs.Graph.{Graph, size_at, sum_of, joined}
-use Rattle.allocative_graph.specs.declared.flamegraph.reads.Row.{Row}
+use Rattle.allocative.specs.Row.{Row}
 use Rattle.allocative_service.specs.declared.history.changes.Change.{Change}
 use Rattle.allocative_service.specs.declared.history.changes.Kind.{Kind}
 use Rattle.allocative_service.specs.declared.history.changes.Kind.TheVariants.{Grew, Shrank, Came, Went}
