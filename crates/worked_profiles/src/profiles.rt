@@ -1,5 +1,5 @@
 //! The profile of a value by both collectors.
-use allocative::{Allocative, FlameGraphBuilder, size_of_unique_allocated_data};
+use allocative::{Allocative, FlameGraphBuilder, FlameGraphOutput, size_of_unique_allocated_data};
 use std::alloc::Global;
 use std::process::Abort;
 use std::test::Fail;
@@ -35,6 +35,20 @@ impl Profile {
     }
 }
 
+/// Asserts the graph and the warnings of a profile.
+fn expect_output(rt: &impl Abort, output: &FlameGraphOutput, want: &Profile) -> Result<(), Fail> {
+    assert_eq!(rt; output.flamegraph().total_size(), want.total);
+    assert_eq!(rt; output.warnings_text(), want.warnings);
+    assert_eq!(rt; output.flamegraph().write()?.as_str(), want.text);
+    Ok(())
+}
+
+/// Asserts what a value holds on the heap.
+fn expect_held(rt: &impl Abort, root: &dyn Allocative, want: usize) -> Result<(), Fail> {
+    assert_eq!(rt; size_of_unique_allocated_data(root)?, want);
+    Ok(())
+}
+
 /// Asserts that visiting the value gives this profile.
 pub fn expect(
     rt: &impl Abort,
@@ -44,10 +58,6 @@ pub fn expect(
 ) -> Result<(), Fail> {
     let mut builder = FlameGraphBuilder::new(alloc)?;
     builder.visit_root(root)?;
-    let output = builder.finish()?;
-    assert_eq!(rt; output.flamegraph().write()?.as_str(), want.text);
-    assert_eq!(rt; output.flamegraph().total_size(), want.total);
-    assert_eq!(rt; output.warnings()?.as_str(), want.warnings);
-    assert_eq!(rt; size_of_unique_allocated_data(root)?, want.held);
-    Ok(())
+    expect_output(rt, &builder.finish()?, want)?;
+    expect_held(rt, root, want.held)
 }
