@@ -1,6 +1,6 @@
-use Rattle.std.proofs.Common.{◌≡◌, ℕ, ◌+◌, List, map, filter, length, ap, sym, rules, ◌∙◌}
-use Rattle.allocative_graph.specs.Graph.{Graph, sum_of}
-use Rattle.allocative_picture.specs.Rows.{Seen, seen, rows_of, changed_mark}
+use Rattle.std.proofs.Common.{◌≡◌, ℕ, ◌+◌, List, map, filter, ap, rules, ◌∙◌}
+use Rattle.allocative_graph.specs.Graph.{sum_of}
+use Rattle.allocative_picture.specs.Rows.{seen, rows_of, changed_mark}
 use Rattle.allocative_picture.specs.Boxes.{is_drawn}
 use Rattle.allocative_picture.specs.Picture.{drawing, drawing_of}
 use Rattle.allocative_picture.specs.declared.page.Subject.TheVariants.{Change}

@@ -1,4 +1,4 @@
-use Rattle.std.proofs.Common.{◌≡◌, ℕ, ◌+◌, ◌-◌, ◌*◌, ◌++◌, List, [], map, count_by, length, ap, sym, ◌∙◌}
+use Rattle.std.proofs.Common.{◌≡◌, ℕ, ◌+◌, ◌-◌, ◌*◌, ◌++◌, List, [], map, count_by, length, ap, ◌∙◌}
 use Rattle.allocative_collectors.specs.Warned as held
 use Rattle.allocative_picture.specs.Rows.{seen}
 use Rattle.allocative_picture.specs.Boxes.{is_drawn}

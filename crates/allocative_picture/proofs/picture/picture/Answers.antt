@@ -1,6 +1,6 @@
 use Rattle.std.proofs.Common.{◌≡◌, ℕ, List, map, filter, ap, ◌∙◌}
 use Rattle.allocative_collectors.specs.Warned as held
-use Rattle.allocative_picture.specs.Rows.{Seen, seen, rows_of, warned_mark}
+use Rattle.allocative_picture.specs.Rows.{seen, rows_of, warned_mark}
 use Rattle.allocative_picture.specs.Boxes.{is_drawn}
 use Rattle.allocative_picture.specs.Picture.{drawing, drawing_of}
 use Rattle.allocative_picture.specs.declared.page.Subject.TheVariants.{Profile}

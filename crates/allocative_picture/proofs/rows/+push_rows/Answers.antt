@@ -13,7 +13,6 @@ use Rattle.allocative_graph.proofs.NodeText.{texts, popped}
 use Rattle.allocative_graph.proofs.ReadRows.{figured}
 use Rattle.allocative_picture.specs.Rows.{Seen, seen, rows_from, row_from}
 use Rattle.allocative_picture.specs.Marks.{mark_of}
-use Rattle.allocative_picture.specs.declared.row.Row.{Row}
 use Rattle.allocative_picture.proofs.Walking.{weight_more, weight_within, rows_more, child_rows, node_rows}
 use Rattle.allocative_picture.proofs.rows.+push_rows.Goals as goal
 

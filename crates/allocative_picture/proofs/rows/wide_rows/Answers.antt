@@ -1,9 +1,7 @@
-use Rattle.std.proofs.Common.{◌≡◌, ℕ, ◌++◌, List, Bor, map, length, filter, ap, sym, ◌∙◌, arith}
-use Rattle.std.proofs.lemmas.List.{length-map}
-use Rattle.std.specs.FinMap.{entries, len-entries}
+use Rattle.std.proofs.Common.{◌++◌, map, filter, ap, ◌∙◌, arith}
 use Rattle.allocative_graph.specs.Reads.{figures_behind}
 use Rattle.allocative_graph.proofs.NodeText.{texts}
-use Rattle.allocative_picture.specs.Rows.{Seen, seen, rows_from}
+use Rattle.allocative_picture.specs.Rows.{seen, rows_from}
 use Rattle.allocative_picture.specs.Boxes.{is_drawn}
 use Rattle.allocative_picture.specs.Marks.{mark_of}
 use Rattle.allocative_picture.proofs.Placing.{rows_from-figures}
