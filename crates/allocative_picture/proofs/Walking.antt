@@ -1,17 +1,20 @@
 -- The rows of a graph are that of its root and then those of its children, one child after another.
-use Rattle.std.proofs.Common.{◌≡◌, ℕ, ◌+◌, ◌<◌, ◌≤◌, ◌++◌, [], ◌∷◌, List, get_or, take, drop, length, arith, ap, sym, ◌∙◌}
-use Rattle.std.proofs.lemmas.List.{take_more, take-append-drop}
+use Rattle.std.proofs.Common.{◌≡◌, ℕ, ◌+◌, ◌<◌, ◌≤◌, ◌++◌, [], ◌∷◌, List, get_or, take, drop, length, length-append, arith, ap, sym, ◌∙◌}
+use Rattle.std.proofs.lemmas.List.{take_more, take-append-drop, append-nil, length-map}
+use Rattle.std.proofs.lemmas.Grind.{flat_map-append}
+use Rattle.std.specs.FinMap.{entries, len, len-entries}
 use Rattle.allocative_graph.specs.declared.flamegraph.Child.{Child}
 use Rattle.allocative_graph.specs.Path.{Path}
-use Rattle.allocative_graph.specs.Graph.{total, total_at}
-use Rattle.allocative_graph.specs.Reads.{Figures, figures_behind, node, rows_of}
+use Rattle.allocative_graph.specs.Graph.{Graph, total, total_at}
+use Rattle.allocative_graph.specs.Reads.{Figures, figures_behind, node, rows_of, rows_of_child}
 use Rattle.allocative_graph.specs.Representation.Children.{InOrder}
 use Rattle.allocative_graph.specs.Representation.Node.{weight}
 use Rattle.allocative_graph.specs.Representation.PathRows.{sum_of_rows}
 use Rattle.allocative_graph.proofs.ChildRows.{weight-append, weight-one}
 use Rattle.allocative_graph.proofs.ReadRows.{child_read, figured, node_read}
 use Rattle.allocative_picture.specs.declared.row.Mark.{Mark}
-use Rattle.allocative_picture.specs.Rows.{Seen, row_from, rows_from}
+use Rattle.allocative_picture.specs.Rows as picture
+use Rattle.allocative_picture.specs.Rows.{Seen, row_of, row_from, rows_from}
 use Rattle.allocative_picture.proofs.Placing.{own_bytes, own-cons}
 
 rows_from-append : (M : Path → Mark) (b : ℕ) (fs gs : List Figures) → rows_from M b (fs ++ gs) ≡ rows_from M b fs ++ rows_from M (b + own_bytes fs) gs
@@ -35,6 +38,13 @@ weight_more cs i d h at =
 pub weight_within : (cs : List Child) (i : ℕ) → weight (take i cs) ≤ weight cs
 weight_within cs i = omega (arith, weight-append (take i cs) (drop i cs), ap weight (take-append-drop i cs))
 
+-- The rows of the children up to a place, and of the child there, are as many as its paths more.
+pub rows_more : (cs : List Child) (i : ℕ) (d : Child) → i < length cs → d ≡ get_or cs i d → length (rows_of (take (i + 1) cs)) ≡ length (rows_of (take i cs)) + len d.graph
+rows_more cs i d h at =
+    let more : rows_of (take (i + 1) cs) ≡ rows_of (take i cs) ++ rows_of_child d =
+    ap rows_of (take_more cs i d h ∙ ap (λ (c : Child). take i cs ++ c ∷ []) (sym at)) ∙ flat_map-append rows_of_child (take i cs) (d ∷ []) ∙ ap (λ (r : List (Path × ℕ)). rows_of (take i cs) ++ r) (append-nil (rows_of_child d)) in
+    omega (arith, ap length more, length-append (rows_of (take i cs)) (rows_of_child d), length-map {B = Path × ℕ} (entries d.graph) (λ r. (d.key ∷ r.0, r.1)), len-entries d.graph)
+
 -- The rows of one child more.
 pub child_rows : (M : Path → Mark) (b n : ℕ) (cs : List Child) (i : ℕ) (d : Child) (ks : Path) → InOrder cs → i < length cs → d ≡ get_or cs i d
     → rows_from M b (figured (total_at (node n cs)) ks (rows_of (take i cs))) ++ rows_from M (b + weight (take i cs)) (figures_behind (ks ++ d.key ∷ []) d.graph)
@@ -52,3 +62,8 @@ child_rows M b n cs i d ks o w at =
 pub node_rows : (M : Path → Mark) (b n : ℕ) (cs : List Child) (ks : Path) → InOrder cs
     → row_from M b (record { path = ks; self_size = n; total_size = total (node n cs) }) ∷ rows_from M (b + n) (figured (total_at (node n cs)) ks (rows_of cs)) ≡ rows_from M b (figures_behind ks (node n cs))
 node_rows M b n cs ks o = ap (rows_from M b) (node_read n cs ks o)
+
+-- A graph has a row for each path.
+pub length-rows_of : (M : Path → Mark) (g : Graph) → length (picture.rows_of M g) ≡ len g
+unfolding picture.rows_of
+length-rows_of M g = length-map {B = Seen} (entries g) (row_of M g) ∙ sym (len-entries g)

@@ -18,6 +18,13 @@ bottom s o rs = 64 + 18 * levels o.narrowest (all_of s) rs
 abbrev pub drawn_of : Subject → Options → List Seen → ℕ
 drawn_of s o rs = count_by (is_drawn o.narrowest (all_of s)) rs
 
+-- The picture of n paths, where the rows have all that have a box: as `drawing`.
+unfoldable pub drawing_of : Subject → Options → List Seen → ℕ → List ℕ
+drawing_of s o rs n =
+    opening (bottom s o rs + 8 + 16 * length o.warned.now) ++ style ++ heading o.title.now
+    ++ summary s (drawn_of s o rs) (n - drawn_of s o rs) ++ tools_of s ++ boxes o.narrowest (all_of s) rs
+    ++ warning_lines (bottom s o rs + 14) (map held.seen o.warned.now) ++ closing
+
 -- The picture of some rows: its beginning, the style, the title, the totals, the labels that the script makes
 -- clickable, the boxes, the warnings and the end.
 unfoldable pub drawing : Subject → Options → List Seen → List ℕ

@@ -2,7 +2,7 @@
 ghost use Rattle.std.specs.Prelude.{◌≡◌, ◌+◌, ◌^◌, ◌≤◌, ◌↔◌, IfOk, IfErr, IsErrOf, string_bytes, map};
 ghost use Rattle.allocative_graph.specs.Graph.{total};
 ghost use Rattle.allocative_picture.specs.Rows.{seen};
-ghost use Rattle.allocative_picture.specs.Picture.{drawing, profile_drawing, change_drawing};
+ghost use Rattle.allocative_picture.specs.Picture.{drawing, drawing_of, profile_drawing, change_drawing};
 
 use crate::fixed::{push_closing, push_style};
 use crate::options::Options;
@@ -11,7 +11,7 @@ use crate::page::{
     push_warnings,
 };
 use crate::row::Row;
-use crate::rows::{Marks, rows};
+use crate::rows::{Marks, Shown, wide_rows};
 use allocative_graph::flamegraph::FlameGraph;
 use allocative_graph::refusal::Refusal;
 use std::alloc::{AllocError, Global};
@@ -27,8 +27,13 @@ pub fn picture(alloc: Global, graph: &FlameGraph, options: &Options<'_>) -> Resu
     let subject = Subject::Profile {
         bytes: graph.total_size(),
     };
-    let rows = rows(alloc, &Marks::Warned(options.warned), graph)?;
-    Ok(draw(alloc, subject, rows.as_slice(), options)?)
+    let shown = Shown {
+        marks: Marks::Warned(options.warned),
+        least: options.narrowest,
+        all: subject.all(),
+    };
+    let rows = wide_rows(alloc, &shown, graph)?;
+    Ok(draw_wide(alloc, subject, rows.wide.as_slice(), rows.paths, options)?)
 }
 
 /// The picture of the change from one flame graph to another, as the text of an SVG document.
@@ -57,8 +62,13 @@ pub fn change_picture(
     }
     let mut both = before.clone()?;
     both.add(after.clone()?)?;
-    let rows = rows(alloc, &Marks::Earlier(before), &both)?;
-    Ok(draw(alloc, subject, rows.as_slice(), options)?)
+    let shown = Shown {
+        marks: Marks::Earlier(before),
+        least: options.narrowest,
+        all: subject.all(),
+    };
+    let rows = wide_rows(alloc, &shown, &both)?;
+    Ok(draw_wide(alloc, subject, rows.wide.as_slice(), rows.paths, options)?)
 }
 
 /// The picture of some rows, as the text of an SVG document. The rows are expected in the order of paths, with the
@@ -73,6 +83,19 @@ pub fn draw(
 ) -> Result<String, AllocError>
     ensures { IfOk result (λ made. string_bytes made ≡ drawing subject options.now (map seen rows.now)) }
 {
+    draw_wide(alloc, subject, rows, rows.len(), options)
+}
+
+// The picture of so many paths, where the rows have all that are wide enough for a box.
+fn draw_wide(
+    alloc: Global,
+    subject: Subject,
+    rows: &[Row<'_>],
+    paths: usize,
+    options: &Options<'_>,
+) -> Result<String, AllocError>
+    ensures { IfOk result (λ made. string_bytes made ≡ drawing_of subject options.now (map seen rows.now) paths) }
+{
     let (least, all) = (options.narrowest, subject.all());
     let drawn = drawn(least, all, rows);
     let bottom = 64 + 18 * levels(least, all, rows);
@@ -80,7 +103,7 @@ pub fn draw(
     push_opening(bottom + 8 + 16 * options.warned.len() as u128, &mut text)?;
     push_style(&mut text)?;
     push_heading(alloc, options.title, &mut text)?;
-    push_summary(subject, drawn, rows.len().saturating_sub(drawn), &mut text)?;
+    push_summary(subject, drawn, paths.saturating_sub(drawn), &mut text)?;
     push_tools_of(subject, &mut text)?;
     push_boxes(alloc, least, all, rows, &mut text)?;
     push_warnings(alloc, bottom + 14, options.warned, &mut text)?;

@@ -1,12 +1,15 @@
 //! The rows of a flame graph.
-ghost use Rattle.std.specs.Prelude.{◌≡◌, ◌+◌, ◌<◌, ◌^◌, ◌++◌, [], IfOk, IfErr, OnOk, map};
+ghost use Rattle.std.specs.Prelude.{◌≡◌, ◌+◌, ◌<◌, ◌^◌, ◌++◌, [], ◌∷◌, IfOk, IfErr, OnOk, map, filter, length};
+ghost use Rattle.std.specs.FinMap.{len};
 ghost use Rattle.allocative_graph.specs.Graph.{total, size_at};
 ghost use Rattle.allocative_graph.specs.Reads as reads;
 ghost use Rattle.allocative_graph.specs.Reads.{figures_behind};
 ghost use Rattle.allocative_collectors.specs.Warned as held;
 ghost use Rattle.allocative_picture.specs.Rows.{seen, shown_key, rows_of, rows_from, row_from, is_warned};
+ghost use Rattle.allocative_picture.specs.Boxes.{is_drawn};
 ghost use Rattle.allocative_picture.specs.Marks.{mark_of};
 
+use crate::boxes::is_drawn;
 use crate::row::{Mark, Row};
 use allocative_collectors::output::WarnedPath;
 use allocative_graph::flamegraph::FlameGraph;
@@ -20,6 +23,26 @@ pub(crate) enum Marks<'a> {
     Warned(&'a [WarnedPath]),
     /// An earlier graph.
     Earlier(&'a FlameGraph),
+}
+
+/// What is shown of a flame graph.
+#[derive(Clone, Copy)]
+pub(crate) struct Shown<'a> {
+    /// What the marks come from.
+    pub marks: Marks<'a>,
+    /// The width of the narrowest box.
+    pub least: u32,
+    /// The bytes that the whole width stands for.
+    pub all: u128,
+}
+
+/// The rows of a flame graph that are wide enough for a box.
+#[derive(Drop)]
+pub(crate) struct WideRows {
+    /// These rows, in the order of paths.
+    pub wide: Vec<Row<'static>>,
+    /// The number of all paths.
+    pub paths: usize,
 }
 
 impl Marks<'_> {
@@ -79,45 +102,82 @@ fn row_from(
     }
 }
 
-/// The rows of a flame graph: one for each path, in the order of paths. The only error is that memory runs out.
-pub(crate) fn rows(
+/// The rows of a flame graph that are wide enough for a box, in the order of paths. The only error is that memory runs
+/// out.
+pub(crate) fn wide_rows(
     alloc: Global,
-    marks: &Marks<'_>,
+    shown: &Shown<'_>,
     graph: &FlameGraph,
-) -> Result<Vec<Row<'static>>, Refusal>
-    ensures rows { IfOk result (λ rows. map seen rows.items ≡ rows_of (mark_of marks.now) graph.now) }
+) -> Result<WideRows, Refusal>
+    ensures rows { IfOk result (λ rows. map seen rows.wide.items
+        ≡ filter (is_drawn shown.now.least shown.now.all) (rows_of (mark_of shown.now.marks) graph.now)) }
+    ensures paths { IfOk result (λ rows. rows.paths ≡ length (rows_of (mark_of shown.now.marks) graph.now)) }
     ensures memory { IfErr result (λ r. r ≡ Refusal.Memory) }
 {
     let mut path: Vec<&'static str> = Vec::new(alloc);
-    let mut rows: Vec<Row<'static>> = Vec::new(alloc);
+    let mut wide: Vec<Row<'static>> = Vec::new(alloc);
     let mut before = 0usize;
+    let mut paths = 0usize;
     let _all = graph.total_size();
-    push_rows(marks, graph, &mut path, &mut before, &mut rows)?;
-    Ok(rows)
+    push_rows(shown, graph, &mut path, &mut before, &mut paths, &mut wide)?;
+    Ok(WideRows { wide, paths })
 }
 
-// Appends the rows of all paths of a graph, each after the given keys. `before` has the bytes of all paths before.
+// Appends a row, where it is wide enough for a box.
+fn push_wide(
+    shown: &Shown<'_>,
+    row: Row<'static>,
+    rows: &mut Vec<Row<'static>>,
+) -> Result<(), AllocError>
+    ensures { OnOk result
+        (map seen rows.new.items
+        ≡ map seen rows.old.items ++ filter (is_drawn shown.now.least shown.now.all) (seen row.entry ∷ [])) }
+{
+    if !is_drawn(shown.least, shown.all, &row) {
+        return Ok(());
+    }
+    rows.push(row)?;
+    Ok(())
+}
+
+// The next number. More paths than numbers do not fit into memory.
+fn next(paths: usize) -> Result<usize, AllocError>
+    ensures { IfOk result (λ n. n ≡ paths + 1) }
+{
+    match paths.checked_add(1) {
+        Some(next) => Ok(next),
+        None => Err(AllocError),
+    }
+}
+
+// Appends the rows of all paths of a graph that are wide enough, each after the given keys. `before` has the bytes of
+// all paths before, and `paths` their number.
 fn push_rows(
-    marks: &Marks<'_>,
+    shown: &Shown<'_>,
     graph: &FlameGraph,
     path: &mut Vec<&'static str>,
     before: &mut usize,
+    paths: &mut usize,
     rows: &mut Vec<Row<'static>>,
 ) -> Result<(), AllocError>
     requires { before.old + total graph.now < 2 ^ 64 }
     ensures path { OnOk result (path.new.items ≡ path.old.items) }
     ensures before { OnOk result (before.new ≡ before.old + total graph.now) }
+    ensures paths { OnOk result (paths.new ≡ paths.old + len graph.now) }
     ensures rows { OnOk result
         (map seen rows.new.items
         ≡ map seen rows.old.items
-        ++ rows_from (mark_of marks.now) before.old (figures_behind (map (λ k. k.now) path.old.items) graph.now)) }
+        ++ filter (is_drawn shown.now.least shown.now.all)
+        (rows_from (mark_of shown.now.marks) before.old (figures_behind (map (λ k. k.now) path.old.items) graph.now))) }
 {
     let children = graph.children();
-    rows.push(row_from(marks, *before, path.as_slice(), graph))?;
+    let row = row_from(&shown.marks, *before, path.as_slice(), graph);
+    push_wide(shown, row, rows)?;
     *before += graph.self_size();
+    *paths = next(*paths)?;
     for child in children {
         path.push(child.key.as_str())?;
-        push_rows(marks, &child.graph, path, before, rows)?;
+        push_rows(shown, &child.graph, path, before, paths, rows)?;
         path.pop();
     }
     Ok(())

@@ -1,21 +1,23 @@
-use Rattle.std.proofs.Common.{◌≡◌, ◌+◌, ◌++◌, map, take}
+use Rattle.std.proofs.Common.{◌≡◌, ◌+◌, ◌++◌, map, take, length, filter}
 use Rattle.std.specs.FinMap.{len}
 use Rattle.allocative_graph.specs.Graph.{total_at}
 use Rattle.allocative_graph.specs.Reads.{rows_of}
 use Rattle.allocative_graph.specs.Representation.Node.{weight}
 use Rattle.allocative_graph.proofs.ReadRows.{figured}
 use Rattle.allocative_picture.specs.Rows.{seen, rows_from}
+use Rattle.allocative_picture.specs.Boxes.{is_drawn}
 use Rattle.allocative_picture.specs.Marks.{mark_of}
 use Rattle.allocative_picture.proofs.rows.+push_rows.Given as goal
 
 abbrev pub decreases-push_rows : goal.decreases-push_rows
 decreases-push_rows l = len l.graph.now
 
--- The rows of the children before this one are there.
+-- The wide rows of the children before this one are there, and their paths are counted.
 abbrev pub invariant-loop-child : goal.invariant-loop-child
 invariant-loop-child l = record {
   path : l.path.items ≡ l.initial.path.items;
   before : l.before ≡ l.initial.before + weight (take l.child-index l.children);
+  paths : l.paths ≡ l.initial.paths + length (rows_of (take l.child-index l.children));
   rows : map seen l.rows.items ≡ map seen l.initial.rows.items
-      ++ rows_from (mark_of l.marks) l.initial.before (figured (total_at l.graph) (map (λ k. k.now) l.initial.path.items) (rows_of (take l.child-index l.children)));
+      ++ filter (is_drawn l.shown.least l.shown.all) (rows_from (mark_of l.shown.marks) l.initial.before (figured (total_at l.graph) (map (λ k. k.now) l.initial.path.items) (rows_of (take l.child-index l.children))));
 }
