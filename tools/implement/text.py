@@ -358,8 +358,8 @@ class Writer:
         elif self.is_borrowed and not definition.is_enum:
             self.answer("visit", [("returns", given, search)])
         elif self.is_level and not self.flags:
-            goal = f"{self.name}Allocative::visit-returns" if cycle else "returns"
-            self.answer(f"+{cycle}" if cycle else "+visit", [(goal, "t c", search)])
+            goals = [f"{name}Allocative::visit-returns" for name in self.cycle] if cycle else ["returns"]
+            self.answer(f"+{cycle}" if cycle else "+visit", [(goal, "t c", search) for goal in goals])
 
     def single_answer(self, case: str, listed: str) -> None:
         """The answer for an enum of one variant, which states that each value is of that variant."""
