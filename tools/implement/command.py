@@ -102,7 +102,7 @@ def is_stale(path: str, text: str | None) -> bool:
 
 
 def put(path: str, text: str | None) -> None:
-    """Writes a file in one step, with the rights that it had, or removes it and the folders that it leaves."""
+    """Writes a file in one step, with the rights that it had, or removes it with the folders it leaves."""
     if text is None:
         os.remove(path)
         with contextlib.suppress(OSError):

@@ -295,7 +295,7 @@ class Writer:
         parts = [self.part(each, each.name, name, f"&self.{each.name}") for each, name in pairs]
         inside = f"({self.inside(words)})" if words or self.is_level else self.nothing
         gap = " " if len(words) > 1 or self.cycle else f"\n{INDENT}"
-        self.struct_answer()
+        self.keep_answers([], [])
         return self.implementation(gap + inside, self.enter(parts, names, INDENT))
 
     # ---- enums
@@ -313,7 +313,7 @@ class Writer:
         arms = "".join(map(self.word_arm, variants, cases))
         use = f"    ghost use {self.declared_at}.{opened}.{{{', '.join(listed)}}};\n\n"
         body = f"{INDENT}match self {{\n{''.join(map(self.code_arm, variants))}{INDENT}}}\n"
-        self.enum_answers(cases, listed)
+        self.keep_answers(cases, listed)
         return self.implementation(f" (elim {value} [\n{arms}    ])", body, use)
 
     def refuse_parts(self) -> None:
@@ -343,29 +343,23 @@ class Writer:
         return f"{pattern} => {{\n{self.enter(parts, [name for _, _, name in kept], ' ' * 16)}{indent}}}\n"
 
     # ---- answers
-    def struct_answer(self) -> None:
-        """The answer of a struct that has a lifetime, or holds itself."""
-        cycle = self.definition.cycle
-        if self.is_borrowed:
-            self.answer("visit", [("returns", self.given(), "search ({})")])
-        elif self.is_level and not self.flags:
-            goal = f"{self.name}Allocative::visit-returns" if cycle else "returns"
-            self.answer(f"+{cycle}" if cycle else "+visit", [(goal, "t c", "search ({})")])
-
-    def given(self) -> str:
-        """What the goals of a visit are given."""
-        return "g c" if self.types or self.definition.names("const") else "c"
-
-    def enum_answers(self, cases: list[str], listed: list[str]) -> None:
-        """The answers of an enum: for each variant one."""
-        names, given = [variant.name for variant in self.definition.variants], self.given()
-        if self.is_level:
+    def keep_answers(self, cases: list[str], listed: list[str]) -> None:
+        """Keeps the answers that the proof of the visit needs; those of an enum by its variants."""
+        definition, cycle, search = self.definition, self.definition.cycle, "search ({})"
+        given = "g c" if self.types or definition.names("const") else "c"
+        if definition.is_enum and self.is_level:
             self.level_answers()
         elif len(cases) > 1:
-            proofs = [(f"returns-in-{name}", given, f"rw c.in-{name}.is (search ({{}}))") for name in names]
+            names = [variant.name for variant in definition.variants]
+            proofs = [(f"returns-in-{name}", given, f"rw c.in-{name}.is ({search})") for name in names]
             self.answer("visit", proofs, ", exact" if self.types and self.flags else "")
-        elif cases and self.members and not self.definition.parameters:
+        elif cases and self.members and not definition.parameters:
             self.single_answer(cases[0], listed[0])
+        elif self.is_borrowed and not definition.is_enum:
+            self.answer("visit", [("returns", given, search)])
+        elif self.is_level and not self.flags:
+            goals = [f"{name}Allocative::visit-returns" for name in self.cycle] if cycle else ["returns"]
+            self.answer(f"+{cycle}" if cycle else "+visit", [(goal, "t c", search) for goal in goals])
 
     def single_answer(self, case: str, listed: str) -> None:
         """The answer for an enum of one variant, which states that each value is of that variant."""

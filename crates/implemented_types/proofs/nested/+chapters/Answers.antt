@@ -5,3 +5,6 @@ use Rattle.implemented_types.proofs.nested.+chapters.Goals as goal
 
 pub ChapterAllocative::visit-returns : goal.ChapterAllocative::visit-returns
 ChapterAllocative::visit-returns t c = search (rules, parts)
+
+pub NoteAllocative::visit-returns : goal.NoteAllocative::visit-returns
+NoteAllocative::visit-returns t c = search (rules, parts)
