@@ -1,4 +1,4 @@
-use Rattle.std.proofs.Common.{Some, sym, ap, subst, rules}
+use Rattle.std.proofs.Common.{Some, sym, subst, rules}
 use Rattle.std.proofs.lemmas.Result.{on_ok_weaker, on_err_weaker}
 use Rattle.allocative_service.specs.Holding.{Holding}
 use Rattle.allocative_service.specs.Accounts.{ChangesAccount}
