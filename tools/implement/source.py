@@ -281,5 +281,5 @@ def use_line(names: list[str]) -> str:
     if len(line) <= WIDTH:
         return line
     indent = " " * 4
-    lines = textwrap.fill(f"{', '.join(names)},", WIDTH - 4, initial_indent=indent, subsequent_indent=indent)
-    return f"use allocative::{{\n{lines}\n}};\n"
+    lines = textwrap.fill(", ".join(names), WIDTH - 1, initial_indent=indent, subsequent_indent=indent)
+    return f"use allocative::{{\n{lines},\n}};\n"

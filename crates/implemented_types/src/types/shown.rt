@@ -6,8 +6,7 @@ ghost use Rattle.allocative.specs.Shows as shows;
 
 use super::*;
 use allocative::{
-    Allocative, And, Declared, Described, Field, Inside, Or, Part, Record, Refusal, Visitor,
-    Whole,
+    Allocative, And, Declared, Described, Field, Inside, Or, Part, Record, Refusal, Visitor, Whole,
 };
 
 type OfOneLayout = Record<(u64, ())>;
