@@ -102,7 +102,7 @@ class Rooms:
         with self.building[crate]:
             if crate not in self.built:
                 is_ready = all([self.build(it) for it in below(self.libraries, crate)])
-                check = self.run(["rt", "lib"], f"{self.base}/crates/{crate}") if is_ready else None
+                check = self.run(["rt", "lib", "--jobs", "1"], f"{self.base}/crates/{crate}") if is_ready else None
                 self.built[crate] = check is not None and check.status == 0
             return self.built[crate]
 

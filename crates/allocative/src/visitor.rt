@@ -23,7 +23,7 @@ use allocative_graph::shared::Identity;
 /// A place in a collector. Dropping it, or calling `exit`, goes one step back.
 pub struct Visitor<'a> {
     pub(crate) collector: &'a mut Collector,
-    // Whether the visitor outside is that of a unique entry, where the collector keeps no places.
+    // Whether the visitor outside is that of a unique entry. It is used only when counting held bytes.
     outer_is_unique: bool,
 }
 

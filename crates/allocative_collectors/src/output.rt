@@ -85,7 +85,7 @@ impl FlameGraphOutput {
         })
     }
 
-    /// The graph.
+    /// The finished graph, lent.
     pub fn flamegraph(&self) -> &FlameGraph
         ensures { result.now ≡ self.now.graph }
     {

@@ -39,7 +39,7 @@ impl Identity {
         Identity { maker, number }
     }
 
-    /// The `u64` of its maker.
+    /// The word that tells its maker from other makers.
     pub fn maker(self) -> u64
         ensures { result ≡ self.maker }
     {

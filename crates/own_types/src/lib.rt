@@ -6,6 +6,8 @@ pub mod chapters;
 pub mod containers;
 pub mod enums;
 pub mod folders;
+pub mod gauges;
+pub mod groups;
 pub mod large_structs;
 pub mod links;
 pub mod nodes;

@@ -7,8 +7,8 @@ ghost use Rattle.allocative.specs.Visits.{IsProfileOf};
 
 use allocative::part::{Field, Inside, Part};
 use allocative::{
-    Allocative, Described, FlameGraphOutput, Key, Named, Refusal, Visitor, profile_value,
-    profile_values,
+    Allocative, Described, FlameGraphOutput, Key, Named, Refusal, Registry, Visitor, profile_roots,
+    profile_value, profile_values,
 };
 use std::alloc::Global;
 use std::mem;
@@ -127,6 +127,18 @@ impl Sensors {
     {
         profile_values(*self.roots.allocator(), &self.roots)
     }
+}
+
+/// The profile of a sensor and of some numbers.
+pub fn profile_of_two(
+    alloc: Global,
+    sensor: Sensor,
+    numbers: Vec<u64>,
+) -> Result<FlameGraphOutput, Refusal> {
+    let mut registry = Registry::new(alloc);
+    registry.add_root(Box::new(alloc, sensor)?)?;
+    registry.add_root(Box::new(alloc, numbers)?)?;
+    profile_roots(&registry)
 }
 
 /// The key of a text that is made at run time. A key's text lasts as long as the program, so the memory of

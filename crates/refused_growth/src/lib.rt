@@ -11,4 +11,6 @@ mod graphs;
 #[cfg(test)]
 mod json;
 #[cfg(test)]
+mod program;
+#[cfg(test)]
 mod registries;

@@ -1,0 +1,46 @@
+//! The short programs of the pages: a first profile, its heaviest paths, and the children of one path.
+#![tactic(auto)]
+
+use allocative::{FlameGraph, FlameGraphOutput, profile_value, push_path};
+use std::alloc::Global;
+use std::cmp::Reverse;
+use std::test::Fail;
+
+/// Prints the profile of a list of two names, and returns it.
+fn print_names(rt: &impl Print, alloc: Global) -> Result<FlameGraphOutput, Fail> {
+    let ada = String::from_str(alloc, "Ada")?;
+    let grace = String::from_str(alloc, "Grace")?;
+    let names = vec![in alloc; ada, grace]?;
+    let profile = profile_value(alloc, &names)?;
+    print!(rt; "{}", profile.flamegraph().write()?)?;
+    Ok(profile)
+}
+
+/// Prints the paths with the most bytes of their own, ten at most.
+fn print_heaviest(rt: &impl Print, alloc: Global, graph: &FlameGraph) -> Result<(), Fail> {
+    let mut rows = graph.rows()?;
+    rows.sort_by_key(|row| Reverse(row.self_size))?;
+    for row in rows.iter().filter(|row| row.self_size > 0).take(10) {
+        let mut path = String::new(alloc);
+        push_path(row.path.as_slice(), &mut path)?;
+        println!(rt; "{} {path}", row.self_size)?;
+    }
+    Ok(())
+}
+
+/// Prints the children of a path, each with its bytes and those below it.
+fn print_children(rt: &impl Print, graph: &FlameGraph, path: &[&str]) -> Result<(), Fail> {
+    let Some(below) = graph.get(path) else {
+        return Ok(());
+    };
+    for child in below.children() {
+        println!(rt; "{} {}", child.graph.total_size(), child.key.as_str())?;
+    }
+    Ok(())
+}
+
+fn main(rt: HostRuntime) -> Result<(), Fail> {
+    let profile = print_names(&rt, rt.alloc())?;
+    print_heaviest(&rt, rt.alloc(), profile.flamegraph())?;
+    print_children(&rt, profile.flamegraph(), &["Vec", "ptr"])
+}

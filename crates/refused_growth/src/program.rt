@@ -1,0 +1,179 @@
+//! The worked rows of the JSON program, by `run_json` over bytes and two buffers. Where a growth is refused, the status is
+//! that of memory or of a write, and the run that is made anew is right.
+use crate::assertions::assert_same;
+use allocative_json::run_json;
+use std::alloc::{AllocError, AllocGlobal, Global};
+use std::process::Abort;
+
+/// A run: its words, its input, and what it ends with.
+#[derive(Drop)]
+struct Row {
+    words: &'static str,
+    input: &'static str,
+    status: u8,
+    output: &'static str,
+    errors: &'static str,
+}
+
+/// How a run ended, and what it wrote.
+#[derive(Drop)]
+struct Ran {
+    status: u8,
+    output: Vec<u8>,
+    errors: Vec<u8>,
+}
+
+fn words_of(alloc: Global, text: &str) -> Result<Vec<String>, AllocError> {
+    let mut words = Vec::new(alloc);
+    for word in text.split_ascii_whitespace() {
+        words.push(String::from_str(alloc, word)?)?;
+    }
+    Ok(words)
+}
+
+fn try_run(alloc: Global, row: &Row) -> Result<Ran, AllocError> {
+    let words = words_of(alloc, row.words)?;
+    let (mut output, mut errors) = (Vec::new(alloc), Vec::new(alloc));
+    let mut input = row.input.as_bytes();
+    let status = run_json(
+        alloc,
+        words.as_slice(),
+        &mut input,
+        &mut output,
+        &mut errors,
+    );
+    Ok(Ran {
+        status,
+        output,
+        errors,
+    })
+}
+
+/// Whether a run ended as one with a refused growth may: for want of memory, with nothing written to its output, or in a
+/// write.
+fn is_refused(ran: &Ran) -> bool {
+    ran.status == 1 && ran.output.is_empty() || ran.status == 7
+}
+
+/// A run of the row. Where a growth is refused, it is run anew.
+fn run(rt: &(impl Abort + AllocGlobal), row: &Row) -> Ran {
+    if let Ok(ran) = try_run(rt.alloc(), row) {
+        if !is_refused(&ran) {
+            return ran;
+        }
+    }
+    try_run(rt.alloc(), row).expect(rt, "a run")
+}
+
+fn assert_bytes(rt: &impl Abort, bytes: &[u8], want: &str) {
+    assert_same(rt, str::from_utf8(bytes).expect(rt, "a text"), want);
+}
+
+fn assert_row(rt: &(impl Abort + AllocGlobal), row: &Row) {
+    let ran = run(rt, row);
+    assert!(rt; ran.status == row.status);
+    assert_bytes(rt, ran.output.as_slice(), row.output);
+    assert_bytes(rt, ran.errors.as_slice(), row.errors);
+}
+
+/// A run that ends well.
+fn well(
+    words: &'static str,
+    input: &'static str,
+    output: &'static str,
+    errors: &'static str,
+) -> Row {
+    Row {
+        words,
+        input,
+        status: 0,
+        output,
+        errors,
+    }
+}
+
+/// A run that ends with a fault.
+fn faulty(words: &'static str, input: &'static str, status: u8, errors: &'static str) -> Row {
+    Row {
+        words,
+        input,
+        status,
+        output: "",
+        errors,
+    }
+}
+
+const SHORT_DATA: &str =
+    "Incorrect size declaration for node `BTreeSet;data`, size of self: 8, size of inline children: 32\n";
+
+#[test]
+fn rows_that_end_well(rt: HostRuntime) {
+    let far = "[18446744073709551615,-9223372036854775808,18446744073709551615]";
+    let three =
+        "BTreeSet 16\nBTreeSet;data;key;i128 32\nValue 8\nValue;Array;Vec 16\nValue;Array;Vec;ptr 8\nValue;Array;Vec;ptr;Value 48\nValue;Array;Vec;ptr;Value;Number;Number 48\n";
+    for row in [
+        well(
+            "exact index",
+            "[7,8]",
+            "BTreeSet 16\nBTreeSet;data;key;i128 32\nValue 8\nValue;Array;Vec 16\nValue;Array;Vec;ptr 8\nValue;Array;Vec;ptr;Value 32\nValue;Array;Vec;ptr;Value;Number;Number 32\n",
+            SHORT_DATA,
+        ),
+        well(
+            "exact",
+            "{\"ab\":1}",
+            "Value 8\nValue;Object;Map 16\nValue;Object;Map;data 8\nValue;Object;Map;data;key;String 16\nValue;Object;Map;data;key;String;ptr 8\nValue;Object;Map;data;key;String;ptr;capacity;u8 2\nValue;Object;Map;data;value;Value 16\nValue;Object;Map;data;value;Value;Number;Number 16\n",
+            "",
+        ),
+        well("registry", "true", "Value 32\n", ""),
+        well(
+            "exact",
+            "\"\"",
+            "Value 8\nValue;String;String 16\nValue;String;String;ptr 8\n",
+            "",
+        ),
+        well(
+            "exact",
+            "{}",
+            "Value 8\nValue;Object;Map 16\nValue;Object;Map;data 8\n",
+            "",
+        ),
+        well(
+            "index",
+            "true",
+            "BTreeSet 16\nBTreeSet;data 8\nValue 32\n",
+            "",
+        ),
+        well("exact index", far, three, SHORT_DATA),
+        well("exact index registry", far, three, SHORT_DATA),
+    ] {
+        assert_row(&rt, &row);
+    }
+}
+
+#[test]
+fn rows_that_end_with_a_fault(rt: HostRuntime) {
+    for row in [
+        faulty("", "[1", 2, "allocative-json: input is not JSON\n"),
+        faulty("", "", 2, "allocative-json: input is not JSON\n"),
+        faulty(
+            "",
+            "1.5",
+            3,
+            "allocative-json: a number is not a 64-bit whole number\n",
+        ),
+        faulty(
+            "all",
+            "true",
+            5,
+            "allocative-json: unknown or repeated word\n",
+        ),
+        faulty(
+            "exact exact",
+            "true",
+            5,
+            "allocative-json: unknown or repeated word\n",
+        ),
+    ] {
+        assert_row(&rt, &row);
+    }
+}
