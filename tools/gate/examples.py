@@ -6,8 +6,6 @@ import re
 from collections.abc import Iterator
 
 EXAMPLE = re.compile(r"^```rust\n(.*?)^```$", re.M | re.S)
-# The page whose program `tools/check_depend` proves, in a repository of its own.
-APART = "docs/SERVICES.md"
 # Where an example leaves lines out.
 GAP = "// .."
 
@@ -46,7 +44,5 @@ def checks_of(top: str) -> Iterator[tuple[str, str]]:
     """Looks for the examples of README and of the pages in docs."""
     sources = sources_of(top)
     for path in [os.path.join(top, "README.md"), *sorted(glob.glob(os.path.join(top, "docs", "*.md")))]:
-        page = os.path.relpath(path, top)
         with open(path, encoding="utf-8") as file:
-            if page != APART:
-                yield from checks_of_page(page, file.read(), sources)
+            yield from checks_of_page(os.path.relpath(path, top), file.read(), sources)

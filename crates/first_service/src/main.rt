@@ -1,0 +1,46 @@
+//! Keeps a note within a budget, shows it by a page that is kept, and says how much it grew.
+#![tactic(auto)]
+
+use allocative_service::cache::BoundedCache;
+use allocative_service::history::{History, report};
+use allocative_service::ledger::{Budget, Ledger};
+use allocative_service::measure::Measure;
+use anyhow::Result;
+use std::alloc::Global;
+
+fn serve(rt: &impl Print, alloc: Global) -> Result<()> {
+    let mut ledger = Ledger::new(alloc, Measure::Shown);
+    let mut history = History::new(alloc, 2);
+    let mut note = String::from_str(alloc, "twelve bytes")?;
+    ledger.open("acme", Budget { limit: 40 })?;
+    println!(rt; "{} bytes", ledger.admit("acme", 1, &note)?)?;
+    history.take_profile(alloc, &note)?;
+    note.push_str(" and more")?;
+    match ledger.measure_again("acme", 1, &note) {
+        Ok(bytes) => println!(rt; "{bytes} bytes")?,
+        Err(rejection) => println!(rt; "{rejection}")?,
+    }
+    history.take_profile(alloc, &note)?;
+    if let Some(changes) = history.between(alloc, 1, 0)? {
+        print!(rt; "{}", report(alloc, changes.as_slice())?)?;
+    }
+    keep_pages(rt, alloc)
+}
+
+fn keep_pages(rt: &impl Print, alloc: Global) -> Result<()> {
+    let mut pages = BoundedCache::new(alloc, Measure::Shown, 80)?;
+    for number in 1u64..=3 {
+        let page = String::from_str(alloc, "twelve bytes")?;
+        let kept = pages.insert(number, page, |_number, _page| ());
+        if let Err(refused) = kept {
+            println!(rt; "not kept: {}", refused.error)?;
+        }
+    }
+    println!(rt; "{} pages of {} bytes", pages.len(), pages.bytes())?;
+    Ok(())
+}
+
+fn main(rt: HostRuntime) -> Result<()> {
+    let alloc = rt.alloc();
+    serve(&rt, alloc)
+}
