@@ -1,13 +1,16 @@
-//! The short programs of the pages: a first profile, its heaviest paths, and the children of one path.
+//! The short programs of the pages: a first profile, its heaviest paths, the children of one path, and a budget.
 #![tactic(auto)]
 
+mod services;
+
 use allocative::{FlameGraph, FlameGraphOutput, profile_value, push_path};
+use anyhow::Result;
+use services::{print_budget, print_cache, print_ledger};
 use std::alloc::Global;
 use std::cmp::Reverse;
-use std::test::Fail;
 
 /// Prints the profile of a list of two names, and returns it.
-fn print_names(rt: &impl Print, alloc: Global) -> Result<FlameGraphOutput, Fail> {
+fn print_names(rt: &impl Print, alloc: Global) -> Result<FlameGraphOutput> {
     let ada = String::from_str(alloc, "Ada")?;
     let grace = String::from_str(alloc, "Grace")?;
     let names = vec![in alloc; ada, grace]?;
@@ -17,7 +20,7 @@ fn print_names(rt: &impl Print, alloc: Global) -> Result<FlameGraphOutput, Fail>
 }
 
 /// Prints the paths with the most bytes of their own, ten at most.
-fn print_heaviest(rt: &impl Print, alloc: Global, graph: &FlameGraph) -> Result<(), Fail> {
+fn print_heaviest(rt: &impl Print, alloc: Global, graph: &FlameGraph) -> Result<()> {
     let mut rows = graph.rows()?;
     rows.sort_by_key(|row| Reverse(row.self_size))?;
     for row in rows.iter().filter(|row| row.self_size > 0).take(10) {
@@ -29,7 +32,7 @@ fn print_heaviest(rt: &impl Print, alloc: Global, graph: &FlameGraph) -> Result<
 }
 
 /// Prints the children of a path, each with its bytes and those below it.
-fn print_children(rt: &impl Print, graph: &FlameGraph, path: &[&str]) -> Result<(), Fail> {
+fn print_children(rt: &impl Print, graph: &FlameGraph, path: &[&str]) -> Result<()> {
     let Some(below) = graph.get(path) else {
         return Ok(());
     };
@@ -39,8 +42,11 @@ fn print_children(rt: &impl Print, graph: &FlameGraph, path: &[&str]) -> Result<
     Ok(())
 }
 
-fn main(rt: HostRuntime) -> Result<(), Fail> {
+fn main(rt: HostRuntime) -> Result<()> {
     let profile = print_names(&rt, rt.alloc())?;
     print_heaviest(&rt, rt.alloc(), profile.flamegraph())?;
-    print_children(&rt, profile.flamegraph(), &["Vec", "ptr"])
+    print_children(&rt, profile.flamegraph(), &["Vec", "ptr"])?;
+    print_budget(&rt, rt.alloc())?;
+    print_ledger(&rt, rt.alloc())?;
+    print_cache(&rt, rt.alloc())
 }

@@ -1,0 +1,54 @@
+//! A budget for one value, and what a ledger and a cache answer.
+use allocative_service::cache::BoundedCache;
+use allocative_service::ledger::{Budget, Ledger};
+use allocative_service::measure::Measure;
+use anyhow::Result;
+use std::alloc::Global;
+
+/// Prints whether a note is within a budget, before and after it has grown.
+pub(crate) fn print_budget(rt: &impl Print, alloc: Global) -> Result<()> {
+    let budget = Budget { limit: 40 };
+    let mut note = String::from_str(alloc, "twelve bytes")?;
+    let bytes = budget.admit(alloc, Measure::Shown, &note)?;
+    println!(rt; "{bytes} bytes")?;
+    note.push_str(" and more")?;
+    match budget.admit(alloc, Measure::Shown, &note) {
+        Ok(bytes) => println!(rt; "{bytes} bytes")?,
+        Err(rejection) => println!(rt; "{rejection}")?,
+    }
+    Ok(())
+}
+
+/// Prints the bytes of two tenants, of whom one has an account.
+pub(crate) fn print_ledger(rt: &impl Print, alloc: Global) -> Result<()> {
+    let mut ledger = Ledger::new(alloc, Measure::Unique);
+    ledger.open("acme", Budget { limit: 100 })?;
+    ledger.admit("acme", 1, &7u64)?;
+    for tenant in ["acme", "birch"] {
+        match ledger.bytes_of(tenant) {
+            Some(bytes) => println!(rt; "{tenant} has {bytes} bytes")?,
+            None => println!(rt; "{tenant} has no account")?,
+        }
+    }
+    Ok(())
+}
+
+/// Prints which of two keys a cache has.
+pub(crate) fn print_cache(rt: &impl Print, alloc: Global) -> Result<()> {
+    let mut pages: BoundedCache<u64, u64> = BoundedCache::new(alloc, Measure::Shown, 100)?;
+    if pages.is_empty() && pages.measure() == Measure::Shown {
+        println!(rt; "no page yet")?;
+    }
+    if pages.insert(1, 7, |_key, _page| ()).is_err() {
+        println!(rt; "not kept")?;
+    }
+    for key in [1u64, 2] {
+        let answer = if pages.contains(&key) {
+            "kept"
+        } else {
+            "not there"
+        };
+        println!(rt; "page {key}: {answer}")?;
+    }
+    Ok(())
+}
