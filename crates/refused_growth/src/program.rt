@@ -1,5 +1,5 @@
 //! The worked rows of the JSON program, by `run_json` over bytes and two buffers. Where a growth is refused, the status is
-//! that of memory or of a write, and the run that is made anew is right.
+//! that of memory or of a write, or a message is cut off, and the run that is made anew is right.
 use crate::assertions::assert_same;
 use allocative_json::run_json;
 use std::alloc::{AllocError, AllocGlobal, Global};
@@ -49,18 +49,25 @@ fn try_run(alloc: Global, row: &Row) -> Result<Ran, AllocError> {
     })
 }
 
-/// Whether a run ended as one with a refused growth may: for want of memory, with nothing written to its output, or in a
-/// write.
-fn is_refused(ran: &Ran) -> bool {
-    ran.status == 1 && ran.output.is_empty() || ran.status == 7
+/// Whether a run ended as the row says, with its whole message.
+fn is_whole(ran: &Ran, row: &Row) -> bool {
+    ran.status == row.status && ran.errors.as_slice() == row.errors.as_bytes()
+}
+
+/// Whether a run ended as one with a refused growth may: for want of memory, with nothing written to its output; in a
+/// write; or with the row's fault and a part of its message.
+fn is_refused(ran: &Ran, row: &Row) -> bool {
+    let is_cut = ran.status == row.status && row.errors.as_bytes().starts_with(&ran.errors);
+    (ran.status == 1 || is_cut) && ran.output.is_empty() || ran.status == 7
 }
 
 /// A run of the row. Where a growth is refused, it is run anew.
 fn run(rt: &(impl Abort + AllocGlobal), row: &Row) -> Ran {
     if let Ok(ran) = try_run(rt.alloc(), row) {
-        if !is_refused(&ran) {
+        if is_whole(&ran, row) {
             return ran;
         }
+        assert!(rt; is_refused(&ran, row));
     }
     try_run(rt.alloc(), row).expect(rt, "a run")
 }
