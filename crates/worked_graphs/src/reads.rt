@@ -49,6 +49,11 @@ fn keys_may_be_empty_or_have_spaces(rt: HostRuntime) {
 }
 
 #[test]
+fn blank_lines_are_passed_over(rt: HostRuntime) {
+    assert_read(&rt, "\na 1\r\n\r\nb 2\n\n", "a 1\nb 2\n");
+}
+
+#[test]
 fn an_empty_text_is_a_root(rt: HostRuntime) {
     assert_read(&rt, "", "");
 }
@@ -56,7 +61,7 @@ fn an_empty_text_is_a_root(rt: HostRuntime) {
 #[test]
 fn the_first_line_that_is_none_is_named(rt: HostRuntime) {
     assert_refused(&rt, "a 1\nb\nc\n", ReadFault::Line(2, LineFault::NoSpace));
-    assert_refused(&rt, "a 1\n\nc\n", ReadFault::Line(2, LineFault::NoSpace));
+    assert_refused(&rt, "a 1\n\nc\n", ReadFault::Line(3, LineFault::NoSpace));
     assert_refused(&rt, " 1\n", ReadFault::Line(1, LineFault::NoPath));
     assert_refused(&rt, "a 1\na -1\n", ReadFault::Line(2, LineFault::NoNumber));
     assert_refused(
