@@ -10,6 +10,8 @@ from collections.abc import Iterable
 
 from gate.verdicts import Check
 
+# Before a command that gets what other commands leave of the processors: the proofs that all else waits for go first.
+LAST = ["nice", "-n", "19"]
 # The folders of a crate that a check reads.
 PARTS = ("src", "specs", "proofs", "c")
 
@@ -61,7 +63,8 @@ def link(folder: str, to: str) -> None:
 
 
 class Rooms:
-    """The copies of one run. `base` has the crates as they stand, with the libraries that were built there."""
+    """The copies of one run. `base` has the crates as they stand. Each library is built in a room of its own, since builds
+    in one repository wait for one another."""
 
     def __init__(self, top: str, work: str, jobs: int, logs: str | None = None) -> None:
         self.work, self.base, self.logs = work, os.path.join(work, "base"), logs
@@ -97,13 +100,27 @@ class Rooms:
         self.seconds += check.seconds
         return check
 
+    def folder_of(self, crate: str) -> str:
+        """The folder in which a library is built."""
+        return f"{self.work}/of-{crate}/crates/{crate}"
+
+    def furnish(self, room: str, crate: str) -> str:
+        """Makes a room for a crate, with the libraries below it as they were built, and returns the crate's folder there."""
+        names = below(self.libraries, crate)
+        self.lay(self.base, room, [*names, crate])
+        for name in names:
+            link(f"{self.folder_of(name)}/out/rlib", f"{room}/crates/{name}/out/rlib")
+        return f"{room}/crates/{crate}"
+
     def build(self, crate: str) -> bool:
         """Proves and builds a library with those below it, once in a run, and returns whether it is built."""
         with self.building[crate]:
             if crate not in self.built:
                 is_ready = all([self.build(it) for it in below(self.libraries, crate)])
-                check = self.run(["rt", "lib", "--jobs", "1"], f"{self.base}/crates/{crate}") if is_ready else None
-                self.built[crate] = check is not None and check.status == 0
+                if is_ready:
+                    self.furnish(f"{self.work}/of-{crate}", crate)
+                    is_ready = self.run(["rt", "lib", "--jobs", "1"], self.folder_of(crate)).status == 0
+                self.built[crate] = is_ready
             return self.built[crate]
 
     def check(self, crate: str, lines: dict[tuple[str, int], str], start: str | None) -> tuple[Check, str]:
@@ -111,12 +128,7 @@ class Rooms:
 
         Where there is a folder for logs, what the check printed is written there."""
         number = next(self.numbers)
-        room = f"{self.work}/room-{number}"
-        names = below(self.libraries, crate)
-        self.lay(self.base, room, [*names, crate])
-        for name in names:
-            link(f"{self.base}/crates/{name}/out/rlib", f"{room}/crates/{name}/out/rlib")
-        folder = f"{room}/crates/{crate}"
+        folder = self.furnish(f"{self.work}/room-{number}", crate)
         if start and os.path.isdir(f"{start}/out/incremental"):
             link(f"{start}/out/incremental", f"{folder}/out/incremental")
         for file in {file for file, _ in lines}:
@@ -125,7 +137,7 @@ class Rooms:
             changed = {at: line for (of, at), line in lines.items() if of == file}
             with open(f"{folder}/{file}", "w", encoding="utf-8") as source:
                 source.write("\n".join(changed.get(at, line) for at, line in enumerate(text)))
-        check = self.run(["rt", "check", "--jobs", "1"], folder)
+        check = self.run([*LAST, "rt", "check", "--jobs", "1"], folder)
         if self.logs:
             with open(f"{self.logs}/{crate}-{number}", "w", encoding="utf-8") as log:
                 log.write(check.output)

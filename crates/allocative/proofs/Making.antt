@@ -1,6 +1,7 @@
 -- How entries are made one after another and inside each other, by calls that visit no part.
 use Rattle.std.proofs.Common.{ℕ, Bool, true, false, List, [], ◌∷◌, ◌++◌, length, ◌≡◌, Option, None, Some, Result, Ok, Err, IsErr, refl, sym, ◌∙◌, subst, ap, arith, length-append}
 use Rattle.std.proofs.lemmas.Bool.{false≢true}
+use Rattle.std.proofs.lemmas.Iterator.{YieldsList}
 use Rattle.std.specs.Iterator.{Yields}
 use Rattle.allocative_described.specs.Sizes.{size_product}
 use Rattle.allocative_graph.specs.declared.refusal.Refusal.{Refusal}
@@ -87,6 +88,12 @@ run_gives steps t (y ∷ ys) h g = gives y h.0 h.1
 pub run_ends : {S A : Type 0} (steps : S → Option A → S → Type 0) {s : S} (t : S) {p : Plan} {a b : State} {r : Result Unit Refusal} (xs : List A) → Yields steps s xs t → (length xs ≡ 0 → Makes p a r b) → MakesOrGives steps s p a r b
 run_ends steps t [] h m = makes (m refl)
 run_ends steps t (y ∷ ys) h m = gives y h.0 h.1
+
+-- A run over no items makes the entries of the plan.
+pub makes_none : {S A B : Type 0} {steps : S → Option A → S → Type 0} {v : A → B} {s : S} (ys : List B) {p : Plan} {a b : State} {r : Result Unit Refusal} → length ys ≡ 0 → YieldsList steps v s ys → MakesOrGives steps s p a r b → Makes p a r b
+makes_none ys h y (makes m) = m
+makes_none [] h y (gives x t g) = absurd (y.runs x t g)
+makes_none (z ∷ zs) h y (gives x t g) = absurd (omega (arith, h))
 
 pub makes_or_refused : {S A : Type 0} {steps : S → Option A → S → Type 0} {x : S} {k : Key} {size : Option ℕ} {inside after : Plan} {s t : State} {e : Refusal} (r : Result Unit Refusal) → IsErr r → e ≡ err_or e r → EntersSized k size s (Err e) t → MakesOrGives steps x (Entry k size inside after) s r t
 makes_or_refused r h i g = makes (makes_refused r h i g)

@@ -168,9 +168,3 @@ entered_snoc p xs x f s = record {
   cause = tt;
   rightly = λ i. rightly_snoc p xs x (f.rightly i) (s.rightly i);
 }
-
-pub entered_one_more : {T : Type 0} {d : Bool} (p : T → Showing) (xs : List T) (i : ℕ) (x : T) {a b c : Visitor} {u v w : Unit {0}} →
-    Entered d (each_shows p (take i xs)) a b (Ok u) → Entered d (p x) b c (Ok v) → i < length xs → x ≡ get_or xs i x → Entered d (each_shows p (take (i + 1) xs)) a c (Ok w)
-entered_one_more p xs i x f s h e =
-    let e' = take_more xs i x h in
-    rw (e', ← e) (entered_snoc p (take i xs) x f s)

@@ -154,11 +154,6 @@ item_refused {d = d} p front x back {b = b} {c = c} (Err y) h i f s j =
 pub around_item : {T : Type 0} (xs : List T) (i : ℕ) (x : T) → i < length xs → x ≡ get_or xs i x → take i xs ++ x ∷ drop (i + 1) xs ≡ xs
 around_item xs i x l e = (λ k. take i xs ++ e k ∷ drop (i + 1) xs) ∙ ap (λ ys. take i xs ++ ys) (sym (drop_more xs i x l)) ∙ take-append-drop i xs
 
--- The item with this index, where the items before it were entered.
-pub indexed_refused : {T : Type 0} {d : Bool} (p : T → Showing) (xs : List T) (i : ℕ) (x : T) {a b c : Visitor} {u : Unit} {e : Refusal} (r : Result Unit Refusal) → IsErr r → e ≡ err_or e r →
-    Entered d (each_shows p (take i xs)) a b (Ok u) → Entered d (p x) b c (Err e) → i < length xs → x ≡ get_or xs i x → Entered d (each_shows p xs) a c r
-indexed_refused p xs i x r h j f s l e = item_refused p (take i xs) x (drop (i + 1) xs) r h j f s (around_item xs i x l e)
-
 -- ---- the content of a shared entry
 any_unit : {p : Showing} {s t : State} {u v : Unit} → RefusesRightly p s (Ok u) t → RefusesRightly p s (Ok v) t
 any_unit refuses.had_failed = refuses.had_failed

@@ -9,7 +9,7 @@ ghost use Rattle.allocative.specs.Runs.{field_of, pair_shows};
 ghost use Rattle.allocative.specs.StdShows.{in_any_order};
 
 use crate::allocative_trait::Allocative;
-use crate::part::{Declared, Field, Inside, IntoKey, Part, Unique};
+use crate::part::{Declared, Inside, IntoKey, Part, Unique};
 use crate::visitor::Visitor;
 use allocative_described::{Described, raw_table_alloc_size_for_len};
 use allocative_graph::refusal::Refusal;
@@ -49,12 +49,8 @@ impl<'a, T: Allocative> Part for Each<&'a Vec<T>> {
 
     ghost is_exact = { T.is_exact };
 
-    #[tactic(auto, using(crate::proofs::Showing::showing))]
     fn enter(self, visitor: &mut Visitor<'_>) -> Result<(), Refusal> {
-        for item in self.0 {
-            item.enter(visitor)?;
-        }
-        Ok(())
+        visitor.visit_items(self.0.iter())
     }
 }
 
@@ -87,14 +83,9 @@ impl<'a, K: IntoKey, T: Allocative + Described> Part for FieldEach<K, &'a [T]> {
 
     ghost is_exact = { T.is_exact };
 
-    #[tactic(auto, using(crate::proofs::Showing::showing))]
     fn enter(self, visitor: &mut Visitor<'_>) -> Result<(), Refusal> {
         let FieldEach(key, items) = self;
-        let key = key.into_key();
-        for item in items {
-            Field(key.copy(), item).enter(visitor)?;
-        }
-        Ok(())
+        visitor.visit_fields(key.into_key(), items.iter())
     }
 }
 

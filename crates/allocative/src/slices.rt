@@ -9,7 +9,6 @@ ghost use Rattle.allocative.specs.Visited.{Entered};
 ghost use Rattle.allocative.specs.Bodies.{are_shown_each, bytes_shown, vec_body, data_shows, slice_of};
 
 use crate::allocative_trait::Allocative;
-use crate::part::Part;
 use crate::visitor::Visitor;
 use allocative_described::Described;
 use allocative_graph::key::Key;
@@ -71,11 +70,7 @@ impl Visitor<'_> {
         ensures kept { Keeps self.old self.new result }
         ensures exact { length items.now ≡ 0 → MakesPlan Done self.old self.new result }
     {
-        self.collector.go_on()?;
-        for item in items {
-            item.enter(self)?;
-        }
-        Ok(())
+        self.visit_items(items.iter())
     }
 
     /// One inline entry with the item's name and all bytes where the items need no drop or have size 0,
@@ -104,11 +99,7 @@ impl Visitor<'_> {
         ensures entered { Entered T.is_exact (data_shows T.size T.may_show items.now) self.old self.new result }
         ensures exact { length items.now ≡ 0 → MakesPlan Done self.old self.new result }
     {
-        self.collector.go_on()?;
-        for item in items {
-            self.visit_field(Key::new("data"), item)?;
-        }
-        Ok(())
+        self.visit_fields(Key::new("data"), items.iter())
     }
 
     /// One inline entry with the item's name and the bytes of all items, with a field `data` for each item

@@ -8,6 +8,7 @@ pub mod profile;
 pub mod roots;
 pub mod run;
 pub mod texts;
+mod why;
 pub mod words;
 
 pub use crate::fault::Fault;

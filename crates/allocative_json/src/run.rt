@@ -10,6 +10,7 @@ use crate::fault::Fault;
 use crate::printed::Report;
 use crate::profile::{report_by_registry, report_of};
 use crate::roots::read_roots;
+use crate::why::tell_why;
 use crate::words::{Words, read_words};
 use std::alloc::Global;
 use std::io::{ErrorKind, Read, Write};
@@ -84,13 +85,18 @@ fn profile_as_asked(alloc: Global, asked: Words, input: &[u8]) -> Result<Report,
     made
 }
 
-// Parses the words, reads the input, and makes its report.
-fn make_report<R: Read>(alloc: Global, words: &[String], input: &mut R) -> Result<Report, Fault>
+// Parses the words, reads the input to the bytes, and makes its report.
+fn make_report<R: Read>(
+    alloc: Global,
+    words: &[String],
+    input: &mut R,
+    bytes: &mut Vec<u8>,
+) -> Result<Report, Fault>
     ensures ok { IfOk result (IsReportFor (words_of words.now) (R.remaining input.old)) }
     ensures err { IfErr result (MayEndRun (words_of words.now) (R.remaining input.old)) }
 {
     let asked = read_words(words)?;
-    let bytes = read_input(alloc, input)?;
+    *bytes = read_input(alloc, input)?;
     profile_as_asked(alloc, asked, bytes.as_slice())
 }
 
@@ -117,8 +123,8 @@ fn finish<W: Write, E: Write>(made: Result<Report, Fault>, output: &mut W, error
 ///
 /// With status 0 the profile is on the output and the warnings are on the errors. Both are made before
 /// anything is written, and the profile is written first. Otherwise the message of the fault is written to the
-/// errors and, except with status 7, nothing is written to the output. The status is that of the fault even
-/// where the message cannot be written. It is 4 only where the declared sizes exceed the bound of a flame graph, and
+/// errors and, except with status 7, nothing is written to the output. Of an input that is not JSON a second line says
+/// what is wrong with it. The status is that of the fault even where the message cannot be written. It is 4 only where the declared sizes exceed the bound of a flame graph, and
 /// never 8. With the word `registry` the roots are boxed and visited by a
 /// registry, and the same clauses hold.
 pub fn run_json<R: Read, W: Write, E: Write>(
@@ -135,6 +141,12 @@ pub fn run_json<R: Read, W: Write, E: Write>(
     ensures fault { result ≢ 0 → result ≢ 7 → EndsIn (words_of words.now) (R.remaining input.old) result }
     ensures untouched { result ≢ 0 → result ≢ 7 → output.new ≡ output.old }
 {
-    let made = make_report(alloc, words, input);
-    finish(made, output, errors)
+    let mut bytes = Vec::new(alloc);
+    let made = make_report(alloc, words, input, &mut bytes);
+    let status = finish(made, output, errors);
+    if status != Fault::NotJson.status() {
+        return status;
+    }
+    tell_why(alloc, bytes.as_slice(), errors);
+    status
 }

@@ -1,23 +1,50 @@
 -- Faults and their status.
-use Rattle.std.proofs.Common.{◌≡◌, ℕ, Option, None, Some, refl, arith}
-use Rattle.std.specs.Prelude.{IfSome}
-use Rattle.allocative_graph.specs.declared.read.LineFault.{LineFault}
-use Rattle.allocative_picture_filter.specs.declared.fault.Source.{Source}
+use Rattle.std.proofs.Common.{◌≡◌, ◌⊎◌, inl, inr, ℕ, ◌^◌, ◌≤◌, List, [], ◌∷◌, Option, None, Some, Err, refl, ap, arith}
+use Rattle.std.specs.Prelude.{IfSome, IsErrOf}
+use Rattle.allocative_graph.specs.Graph.{Graph, sum_of}
+use Rattle.allocative_graph.specs.declared.refusal.Refusal as refusal
+use Rattle.allocative_graph.specs.declared.refusal.Refusal.TheVariants as refused
+use Rattle.allocative_picture_filter.specs.declared.arguments.Arguments as words
 use Rattle.allocative_picture_filter.specs.declared.fault.Fault.{Fault}
 use Rattle.allocative_picture_filter.specs.declared.fault.Fault.TheVariants.{Memory, Line, NotText, TooLarge, Arguments, Reading, Writing}
-use Rattle.allocative_picture_filter.specs.Fault.{status_of}
+use Rattle.allocative_picture_filter.specs.declared.run.Text.{Text}
+use Rattle.allocative_picture_filter.specs.Fault.{status_of, fault_of}
+use Rattle.allocative_picture_filter.specs.Run.{Sourced, StopsJoining, StopsAddingUp, Stops}
 
--- A fault with status 2 names a line.
-pub which_line : (f : Fault) → status_of f ≡ 2 → (s : Source) × (n : ℕ) × (w : LineFault) × (f ≡ Line s n w)
-which_line Memory e = absurd (omega (arith, e))
-which_line (Line s n w) e = (s, n, w, refl)
-which_line (NotText s) e = absurd (omega (arith, e))
-which_line TooLarge e = absurd (omega (arith, e))
-which_line Arguments e = absurd (omega (arith, e))
-which_line (Reading s) e = absurd (omega (arith, e))
-which_line Writing e = absurd (omega (arith, e))
+-- A fault with status 7 is one of writing.
+is-writing : (f : Fault) → status_of f ≡ 7 → f ≡ Writing
+is-writing Memory e = absurd (omega (arith, e))
+is-writing (Line s n w) e = absurd (omega (arith, e))
+is-writing (NotText s) e = absurd (omega (arith, e))
+is-writing TooLarge e = absurd (omega (arith, e))
+is-writing Arguments e = absurd (omega (arith, e))
+is-writing (Reading s) e = absurd (omega (arith, e))
+is-writing Writing e = refl
+
+-- Texts are added up without writing.
+added-unwritten : (g : Graph) (ts : List Sourced) → StopsAddingUp g ts Writing → ⊥
+added-unwritten g [] h = h
+added-unwritten g (t ∷ ts) (inl (inl h)) = h
+added-unwritten g (t ∷ ts) (inl (inr (read, is, h))) = h
+added-unwritten g (t ∷ ts) (inr (read, is, h)) = added-unwritten (sum_of g read) ts h
+
+made-unwritten : (asked : words.Arguments) (before after : List Text) (known : List ℕ) → Stops asked before after known Writing → ⊥
+made-unwritten asked before after known (inl h) = added-unwritten _ _ h
+made-unwritten asked before after known (inr (inl (inl h))) = added-unwritten _ _ h
+made-unwritten asked before after known (inr (inl (inr (b, e)))) = absurd (omega (arith, ap status_of e))
+made-unwritten asked before after known (inr (inr (g, h, earlier, later, joins))) = joins
+
+-- What stops a run before it writes has another status than a failed write.
+pub stops-unwritten : (asked : words.Arguments) (before after : List Text) (known : List ℕ) (f : Fault) → Stops asked before after known f → status_of f ≡ 7 → ⊥
+stops-unwritten asked before after known f h e = made-unwritten asked before after known (rw (is-writing f e) at h)
+
+-- Graphs are not joined for memory, or since their bytes exceed a word.
+pub stops-joining : {T : Type 0} (bytes : ℕ) (r : refusal.Refusal) → (IsErrOf {T = T} (Err r) refused.TooLarge → 2 ^ 64 ≤ bytes) → StopsJoining bytes (fault_of r)
+stops-joining bytes refused.Memory h = tt
+stops-joining bytes refused.TooLarge h = h refl
+stops-joining bytes refused.Open h = tt
 
 -- What holds of each value holds of the one that there is.
-pub of_each : {A : Type 0} (Q : A → Type 0) (o : Option A) → ((a : A) → Q a) → IfSome o Q
-of_each Q None f = tt
-of_each Q (Some a) f = f a
+pub of_each : {A : Type 0} {Q : A → Type 0} (o : Option A) → ((a : A) → Q a) → IfSome o Q
+of_each None f = tt
+of_each (Some a) f = f a

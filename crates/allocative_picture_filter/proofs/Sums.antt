@@ -1,47 +1,69 @@
--- The graphs of some texts, one added after another.
-use Rattle.std.proofs.Common.{◌≡◌, ℕ, zero, suc, ◌+◌, ◌<◌, inl, inr, Bool, true, false, true≢false, List, [], ◌∷◌, ◌++◌, map, take, length, get_or, refl, sym, ap, subst, ◌∙◌, append-nil, arith}
+-- The graphs of some texts, one added after another, and what stops that.
+use Rattle.std.proofs.Common.{◌≡◌, ℕ, zero, suc, ◌+◌, ◌<◌, ◌≤◌, ◌⊎◌, inl, inr, Bool, true, false, cond, ◌||◌, true≢false, List, [], ◌∷◌, ◌++◌, map, take, length, get_or, refl, sym, ap, subst, ◌∙◌, append-nil, arith}
 use Rattle.std.proofs.lemmas.List.{map-append, take_more}
-use Rattle.allocative_graph.specs.declared.read.LineFault.{LineFault}
 use Rattle.allocative_graph.specs.Graph.{Graph, default, sum_of, text}
-use Rattle.allocative_graph.specs.Read.{IsRead, IsFault}
+use Rattle.allocative_graph.specs.Read.{IsRead}
 use Rattle.allocative_picture.specs.Picture.{profile_drawing, change_drawing}
 use Rattle.allocative_picture.specs.declared.options.Options.{Options}
-use Rattle.allocative_picture_filter.specs.declared.fault.Source.{Source}
+use Rattle.allocative_picture_filter.specs.declared.fault.Fault.{Fault}
+use Rattle.allocative_picture_filter.specs.declared.fault.Fault.TheVariants.{Memory, Reading}
 use Rattle.allocative_picture_filter.specs.declared.fault.Source.TheVariants.{Input}
 use Rattle.allocative_picture_filter.specs.declared.run.Text.{Text}
-use Rattle.allocative_picture_filter.specs.Run.{bytes_of, later_texts, AddUp, AddUpOnto, IsFaultOf, MayFault, written_of}
+use Rattle.allocative_picture_filter.specs.Run.{Sourced, sourced, later_texts, AddUp, AddUpOnto, StopsAdding, StopsAddingUp, StopsProfile, written_of}
 
+-- ---- one text after another
 -- One text more is added.
-pub add-push : (f : Graph) (ts : List (List ℕ)) (t : List ℕ) (g h read : Graph) → AddUpOnto f ts g → IsRead t read → h ≡ sum_of g read → AddUpOnto f (ts ++ t ∷ []) h
+pub add-push : (f : Graph) (ts : List Sourced) (t : Sourced) (g h read : Graph) → AddUpOnto f ts g → IsRead t.1 read → h ≡ sum_of g read → AddUpOnto f (ts ++ t ∷ []) h
 add-push f [] t g h read up is e = (read, is, e ∙ ap (λ (x : Graph). sum_of x read) up)
 add-push f (s ∷ ts) t g h read (first, first_is, up) is e = (first, first_is, add-push (sum_of f first) ts t g h read up is e)
 
 -- One text more of a list is added.
-pub add-more : (xs : List Text) (i : ℕ) (d : Text) (g h read : Graph) → i < length xs → AddUp (map bytes_of (take i xs)) g → IsRead (get_or xs i d).bytes.now read → h ≡ sum_of g read
-    → AddUp (map bytes_of (take (i + 1) xs)) h
+pub add-more : (xs : List Text) (i : ℕ) (d : Text) (g h read : Graph) → i < length xs → AddUp (map sourced (take i xs)) g → IsRead (get_or xs i d).bytes.now read → h ≡ sum_of g read
+    → AddUp (map sourced (take (i + 1) xs)) h
 add-more xs i d g h read within up is e =
-    let more : map bytes_of (take (i + 1) xs) ≡ map bytes_of (take i xs) ++ bytes_of (get_or xs i d) ∷ [] =
-    ap (map bytes_of) (take_more xs i d within) ∙ map-append bytes_of (take i xs) (get_or xs i d ∷ []) in
-    subst (λ (ts : List (List ℕ)). AddUp ts h) (sym more) (add-push default (map bytes_of (take i xs)) (bytes_of (get_or xs i d)) g h read up is e)
+    let more : map sourced (take (i + 1) xs) ≡ map sourced (take i xs) ++ sourced (get_or xs i d) ∷ [] =
+    ap (map sourced) (take_more xs i d within) ∙ map-append sourced (take i xs) (get_or xs i d ∷ []) in
+    subst (λ (ts : List Sourced). AddUp ts h) (sym more) (add-push default (map sourced (take i xs)) (sourced (get_or xs i d)) g h read up is e)
 
--- A fault of one of the texts is one of them all.
-pub fault-at : (s : Source) (n : ℕ) (w : LineFault) (xs : List Text) (i : ℕ) (d : Text) → i < length xs → ((get_or xs i d).source ≡ s) × IsFault (get_or xs i d).bytes.now n w → IsFaultOf s n w xs
-fault-at s n w [] i d within h = absurd (omega arith)
-fault-at s n w (y ∷ xs) zero d within h = inl h
-fault-at s n w (y ∷ xs) (suc i) d within h = inr (fault-at s n w xs i d (omega arith) h)
+-- What stops a text, once those before it are added, stops them all.
+pub stops-at : (b : Graph) (xs : List Text) (i : ℕ) (d : Text) (g : Graph) (f : Fault) → i < length xs → AddUpOnto b (map sourced (take i xs)) g → StopsAdding g (sourced (get_or xs i d)) f → StopsAddingUp b (map sourced xs) f
+stops-at b [] i d g f within up h = absurd (omega arith)
+stops-at b (y ∷ xs) zero d g f within up h = inl (subst (λ (x : Graph). StopsAdding x (sourced y) f) up h)
+stops-at b (y ∷ xs) (suc i) d g f within (read, is, up) h = inr (read, is, stops-at (sum_of b read) xs i d g f (omega arith) up h)
+
+-- What stops the first texts stops them all.
+stops-before : (b : Graph) (ts us : List Sourced) (f : Fault) → StopsAddingUp b ts f → StopsAddingUp b (ts ++ us) f
+stops-before b [] us f h = absurd h
+stops-before b (t ∷ ts) us f (inl h) = inl h
+stops-before b (t ∷ ts) us f (inr (read, is, h)) = inr (read, is, stops-before (sum_of b read) ts us f h)
+
+-- What stops a text behind others, once these are added, stops them all.
+stops-last : (b : Graph) (ts : List Sourced) (u : Sourced) (g : Graph) (f : Fault) → AddUpOnto b ts g → StopsAdding g u f → StopsAddingUp b (ts ++ u ∷ []) f
+stops-last b [] u g f up h = inl (subst (λ (x : Graph). StopsAdding x u f) up h)
+stops-last b (t ∷ ts) u g f (read, is, up) h = inr (read, is, stops-last (sum_of b read) ts u g f up h)
 
 -- ---- with the input and without
-pub later-without : (xs : List Text) (b : Bool) (known : List ℕ) (g : Graph) → b ≡ false → AddUp (map bytes_of xs) g → AddUp (later_texts xs b known) g
+pub later-without : (xs : List Text) (b : Bool) (known : List ℕ) (g : Graph) → b ≡ false → AddUp (map sourced xs) g → AddUp (later_texts xs b known) g
 later-without xs true known g e up = absurd (true≢false e)
-later-without xs false known g e up = subst (λ (ts : List (List ℕ)). AddUp ts g) (sym (append-nil (map bytes_of xs))) up
+later-without xs false known g e up = subst (λ (ts : List Sourced). AddUp ts g) (sym (append-nil (map sourced xs))) up
 
-pub later-with : (xs : List Text) (b : Bool) (known : List ℕ) (g h read : Graph) → b ≡ true → AddUp (map bytes_of xs) g → IsRead known read → h ≡ sum_of g read → AddUp (later_texts xs b known) h
-later-with xs true known g h read e up is sum = add-push default (map bytes_of xs) known g h read up is sum
+pub later-with : (xs : List Text) (b : Bool) (known : List ℕ) (g h read : Graph) → b ≡ true → AddUp (map sourced xs) g → IsRead known read → h ≡ sum_of g read → AddUp (later_texts xs b known) h
+later-with xs true known g h read e up is sum = add-push default (map sourced xs) (Input, known) g h read up is sum
 later-with xs false known g h read e up is sum = absurd (true≢false (sym e))
 
-pub fault-with : (s : Source) (n : ℕ) (w : LineFault) (xs : List Text) (b : Bool) (known : List ℕ) → b ≡ true → s ≡ Input → IsFault known n w → MayFault s n w xs b known
-fault-with s n w xs true known e is fault = inr (is, fault)
-fault-with s n w xs false known e is fault = absurd (true≢false (sym e))
+-- What stops the files stops the profile.
+pub stops-files : (xs : List Text) (b : Bool) (known : List ℕ) (f : Fault) → StopsAddingUp default (map sourced xs) f → StopsProfile xs b known f
+stops-files xs b known f h = inl (stops-before default (map sourced xs) (cond b ((Input, known) ∷ []) []) f h)
+
+-- What stops the input, once the files are added, stops the profile.
+pub stops-input : (xs : List Text) (b : Bool) (known : List ℕ) (g : Graph) (f : Fault) → b ≡ true → AddUp (map sourced xs) g → StopsAdding g (Input, known) f → StopsProfile xs b known f
+stops-input xs true known g f e up h = inl (stops-last default (map sourced xs) (Input, known) g f up h)
+stops-input xs false known g f e up h = absurd (true≢false (sym e))
+
+-- An input that is not read stops the profile.
+pub stops-unread : (xs : List Text) (b : Bool) (known : List ℕ) (g : Graph) (f : Fault) → b ≡ true → AddUp (map sourced xs) g → (f ≡ Memory) ⊎ (f ≡ Reading Input) → StopsProfile xs b known f
+stops-unread xs b known g f e up (inl m) = stops-input xs b known g f e up (inl (rw m tt))
+stops-unread xs b known g f e up (inr r) = inr (e, r)
 
 -- ---- what is written
 pub writes-text : (a b : Bool) (o : Options) (g h : Graph) → a ≡ true → text h ≡ written_of a b o g h

@@ -1,53 +1,100 @@
--- What a run makes of its texts, and which line a fault of it names.
-use Rattle.std.specs.Prelude.{◌≡◌, ℕ, ◌==◌, ◌⊎◌, Bool, cond, List, [], ◌∷◌, ◌++◌, length, map}
-use Rattle.allocative_graph.specs.declared.read.LineFault.{LineFault}
-use Rattle.allocative_graph.specs.Graph.{Graph, default, sum_of, text}
-use Rattle.allocative_graph.specs.Read.{IsRead, IsFault}
+-- What a run makes of its texts, and what stops it.
+use Rattle.std.specs.Prelude.{◌≡◌, ℕ, ◌+◌, ◌^◌, ◌≤◌, ◌==◌, ◌⊎◌, ◌||◌, Bool, true, cond, List, [], ◌∷◌, ◌++◌, length, map, IsUtf8, ⊤}
+use Rattle.allocative_graph.specs.Graph.{Graph, default, sum_of, text, total}
+use Rattle.allocative_graph.specs.Read.{IsRead, IsFault, Exceeds}
 use Rattle.allocative_picture.specs.Picture.{profile_drawing, change_drawing}
 use Rattle.allocative_picture.specs.declared.options.Options.{Options}
+use Rattle.allocative_picture_filter.specs.Fault.{status_of}
 use Rattle.allocative_picture_filter.specs.declared.arguments.Arguments.{Arguments}
+use Rattle.allocative_picture_filter.specs.declared.fault.Fault.{Fault}
+use Rattle.allocative_picture_filter.specs.declared.fault.Fault.TheVariants.{Memory, Line, NotText, TooLarge, Reading}
 use Rattle.allocative_picture_filter.specs.declared.fault.Source.{Source}
 use Rattle.allocative_picture_filter.specs.declared.fault.Source.TheVariants.{Input}
 use Rattle.allocative_picture_filter.specs.declared.run.Text.{Text}
 
--- The bytes of a text.
-abbrev pub bytes_of : Text → List ℕ
-bytes_of t = t.bytes.now
+-- ---- texts
+-- Where a text comes from, and its bytes.
+abbrev pub Sourced : Type 0
+Sourced = Source × List ℕ
+
+-- What a `Text` of the code says.
+abbrev pub sourced : Text → Sourced
+sourced t = (t.source, t.bytes.now)
 
 -- The texts of a profile: those of its files, and the input where it belongs to them.
-abbrev pub later_texts : List Text → Bool → List ℕ → List (List ℕ)
-later_texts ts reads_input known = map bytes_of ts ++ cond reads_input (known ∷ []) []
+abbrev pub later_texts : List Text → Bool → List ℕ → List Sourced
+later_texts ts reads_input known = map sourced ts ++ cond reads_input ((Input, known) ∷ []) []
 
 -- The graph g with those of some texts, one added after another, is h.
-abbrev pub AddUpOnto : Graph → List (List ℕ) → Graph → Type 0
+abbrev pub AddUpOnto : Graph → List Sourced → Graph → Type 0
 AddUpOnto g [] h = h ≡ g
-AddUpOnto g (t ∷ ts) h = (read : Graph) × IsRead t read × AddUpOnto (sum_of g read) ts h
+AddUpOnto g (t ∷ ts) h = (read : Graph) × IsRead t.1 read × AddUpOnto (sum_of g read) ts h
 
 -- The graphs of some texts add up to h.
-abbrev pub AddUp : List (List ℕ) → Graph → Type 0
+abbrev pub AddUp : List Sourced → Graph → Type 0
 AddUp ts h = AddUpOnto default ts h
 
--- Of one of the texts, which comes from there, the line of this number is the first that is none, and this is wrong
--- with it.
-abbrev pub IsFaultOf : Source → ℕ → LineFault → List Text → Type 0
-IsFaultOf s n w [] = ⊥
-IsFaultOf s n w (t ∷ ts) = ((t.source ≡ s) × IsFault t.bytes.now n w) ⊎ IsFaultOf s n w ts
-
--- The fault is one of the files, or of the input where it belongs to the texts.
-abbrev pub MayFault : Source → ℕ → LineFault → List Text → Bool → List ℕ → Type 0
-MayFault s n w ts reads_input known = IsFaultOf s n w ts ⊎ cond reads_input ((s ≡ Input) × IsFault known n w) ⊥
-
+-- ---- what is written
 -- What is written of the graph of the earlier texts and of that of the others.
 abbrev pub written_of : Bool → Bool → Options → Graph → Graph → List ℕ
 written_of as_text is_alone o g h = cond as_text (text h) (cond is_alone (profile_drawing o h) (change_drawing o g h))
 
 -- What is written of these texts is what the arguments ask for: the text of the graph that they add up to; its picture;
--- or, where there are earlier texts, that of the change from the graph of these.
-pub record IsMade (asked : Arguments) (before : List Text) (after : List (List ℕ)) (made : List ℕ) : Type 0 where
+-- or, where there are earlier texts, that of the change from the graph of these. A picture has the title that is asked
+-- for, no warned path, and boxes of at least a two-thousandth of its width.
+pub record IsMade (asked : Arguments) (before : List Text) (after : List Sourced) (made : List ℕ) : Type 0 where
   pub earlier : Graph
   pub later : Graph
-  pub earlier_read : AddUp (map bytes_of before) earlier
+  pub earlier_read : AddUp (map sourced before) earlier
   pub later_read : AddUp after later
   pub options : Options
-  pub titled : options.title ≡ asked.title
+  pub title : options.title ≡ asked.title
+  pub warned : options.warned.now ≡ []
+  pub narrowest : options.narrowest ≡ 500
   pub is : made ≡ written_of asked.as_text (length before == 0) options earlier later
+
+-- ---- what stops a run
+-- Why no graph is read of a text: memory runs out; a line of it is none; it is not UTF-8; or its bytes exceed a word.
+abbrev pub StopsReading : Sourced → Fault → Type 0
+StopsReading t Memory = ⊤
+StopsReading t (Line s n w) = (s ≡ t.0) × IsFault t.1 n w
+StopsReading t (NotText s) = (s ≡ t.0) × ¬ IsUtf8 t.1
+StopsReading t TooLarge = Exceeds t.1
+StopsReading t _ = ⊥
+
+-- Why two graphs with so many bytes together are not joined: memory runs out, or these exceed a word.
+abbrev pub StopsJoining : ℕ → Fault → Type 0
+StopsJoining bytes Memory = ⊤
+StopsJoining bytes TooLarge = 2 ^ 64 ≤ bytes
+StopsJoining bytes _ = ⊥
+
+-- Why a text is not added to the graph g.
+abbrev pub StopsAdding : Graph → Sourced → Fault → Type 0
+StopsAdding g t f = StopsReading t f ⊎ ((read : Graph) × IsRead t.1 read × StopsJoining (total g + total read) f)
+
+-- Why some texts are not added to the graph g, one after another: one of them is not, once those before it are.
+abbrev pub StopsAddingUp : Graph → List Sourced → Fault → Type 0
+StopsAddingUp g [] f = ⊥
+StopsAddingUp g (t ∷ ts) f = StopsAdding g t f ⊎ ((read : Graph) × IsRead t.1 read × StopsAddingUp (sum_of g read) ts f)
+
+-- Why there is no graph of the profile: its texts are not added up, or the input belongs to them and is not read.
+abbrev pub StopsProfile : List Text → Bool → List ℕ → Fault → Type 0
+StopsProfile ts reads_input known f =
+    StopsAddingUp default (later_texts ts reads_input known) f ⊎ ((reads_input ≡ true) × (f ≡ Reading Input))
+
+-- Why nothing is made of the graphs of all texts: memory runs out, or a change is asked for, and their bytes together
+-- exceed a word.
+abbrev pub StopsWriting : Arguments → List Text → List Sourced → Fault → Type 0
+StopsWriting asked before after f = (g : Graph) × (h : Graph) × AddUp (map sourced before) g × AddUp after h
+    × StopsJoining (cond (asked.as_text || (length before == 0)) 0 (total g + total h)) f
+
+-- Why nothing is made: there is no graph of the earlier texts, or none of the profile, or nothing is made of them.
+abbrev pub Stops : Arguments → List Text → List Text → List ℕ → Fault → Type 0
+Stops asked before after known f = StopsAddingUp default (map sourced before) f
+    ⊎ (StopsProfile after asked.reads_input known f
+    ⊎ StopsWriting asked before (later_texts after asked.reads_input known) f)
+
+-- The status is that of a fault which stops the run.
+abbrev pub IsStopped : Arguments → List Text → List Text → List ℕ → ℕ → Type 0
+IsStopped asked before after known status =
+    (f : Fault) × (status ≡ status_of f) × Stops asked before after known f

@@ -1,11 +1,10 @@
 //! The whole program, over any reader and two writers.
-ghost use Rattle.std.specs.Prelude.{◌≡◌, ◌≢◌, ◌⊎◌, ℕ, OnOk, IfOk, IfErr, IsErrOf, IfSome, List, [], ◌++◌, map, string_bytes};
+ghost use Rattle.std.specs.Prelude.{◌≡◌, ◌≢◌, ◌⊎◌, ℕ, OnOk, IfOk, IfErr, IfSome, List, map, string_bytes};
 ghost use Rattle.std.specs.Io.KnownBytes.{Appends};
-ghost use Rattle.allocative_graph.specs.Graph.{Graph, sum_of};
-ghost use Rattle.allocative_graph.specs.Read.{IsRead, IsFault};
-ghost use Rattle.allocative_graph.specs.declared.read.LineFault.{LineFault};
+ghost use Rattle.allocative_graph.specs.Graph.{Graph, default, sum_of};
+ghost use Rattle.allocative_graph.specs.Read.{IsRead};
 ghost use Rattle.allocative_picture_filter.specs.Fault.{status_of};
-ghost use Rattle.allocative_picture_filter.specs.Run.{bytes_of, later_texts, AddUp, AddUpOnto, IsFaultOf, MayFault, IsMade};
+ghost use Rattle.allocative_picture_filter.specs.Run.{sourced, later_texts, AddUp, StopsReading, StopsAdding, StopsAddingUp, StopsProfile, Stops, IsMade, IsStopped};
 
 use crate::arguments::Arguments;
 use crate::fault::{Fault, Source};
@@ -35,7 +34,7 @@ pub fn read_text<'a, R: Read>(
 ) -> Result<Text<'a>, Fault<'a>>
     ensures ok { IfOk result (λ text. IfSome (R.remaining input.old) (λ known. text.bytes.now ≡ known)) }
     ensures source { IfOk result (λ text. text.source ≡ source.entry) }
-    ensures line { (s : Source) (n : ℕ) (w : LineFault) → ¬ IsErrOf result (Fault.Line s n w) }
+    ensures err { IfErr result (λ f. (f ≡ Fault.Memory) ⊎ (f ≡ Fault.Reading source.entry)) }
 {
     let mut bytes = Vec::new(alloc);
     let mut piece = [0u8; 4096];
@@ -88,8 +87,7 @@ pub fn show_usage<W: Write, E: Write>(output: &mut W, errors: &mut E) -> u8 {
 // The graph of a text.
 fn graph_of<'a>(alloc: Global, text: &Text<'a>) -> Result<FlameGraph, Fault<'a>>
     ensures ok { IfOk result (IsRead text.now.bytes.now) }
-    ensures line { (s : Source) (n : ℕ) (w : LineFault) → IsErrOf result (Fault.Line s n w)
-        → (text.now.source ≡ s) × IsFault text.now.bytes.now n w }
+    ensures stops { IfErr result (StopsReading (sourced text.now)) }
 {
     let Ok(lines) = str::from_utf8(text.bytes) else {
         return Err(Fault::NotText(text.source));
@@ -105,8 +103,7 @@ fn graph_of<'a>(alloc: Global, text: &Text<'a>) -> Result<FlameGraph, Fault<'a>>
 // Adds the graph of a text to another.
 fn add_text<'a>(alloc: Global, text: &Text<'a>, graph: &mut FlameGraph) -> Result<(), Fault<'a>>
     ensures ok { OnOk result ((read : Graph) × IsRead text.now.bytes.now read × (graph.new ≡ sum_of graph.old read)) }
-    ensures line { (s : Source) (n : ℕ) (w : LineFault) → IsErrOf result (Fault.Line s n w)
-        → (text.now.source ≡ s) × IsFault text.now.bytes.now n w }
+    ensures stops { IfErr result (StopsAdding graph.old (sourced text.now)) }
 {
     graph.add(graph_of(alloc, text)?)?;
     Ok(())
@@ -114,9 +111,8 @@ fn add_text<'a>(alloc: Global, text: &Text<'a>, graph: &mut FlameGraph) -> Resul
 
 // The graph that some texts add up to.
 fn graph_of_all<'a>(alloc: Global, texts: &[Text<'a>]) -> Result<FlameGraph, Fault<'a>>
-    ensures ok { IfOk result (AddUp (map bytes_of texts.now)) }
-    ensures line { (s : Source) (n : ℕ) (w : LineFault) → IsErrOf result (Fault.Line s n w)
-        → IsFaultOf s n w texts.now }
+    ensures ok { IfOk result (AddUp (map sourced texts.now)) }
+    ensures stops { IfErr result (StopsAddingUp default (map sourced texts.now)) }
 {
     let mut graph = FlameGraph::default(alloc);
     for text in texts {
@@ -134,8 +130,8 @@ fn later_graph<'a, R: Read>(
 ) -> Result<FlameGraph, Fault<'a>>
     ensures ok { IfOk result
         (λ graph. IfSome (R.remaining input.old) (λ known. AddUp (later_texts texts.now reads_input known) graph)) }
-    ensures line { (s : Source) (n : ℕ) (w : LineFault) → IsErrOf result (Fault.Line s n w)
-        → IfSome (R.remaining input.old) (λ known. MayFault s n w texts.now reads_input known) }
+    ensures stops { IfErr result
+        (λ f. IfSome (R.remaining input.old) (λ known. StopsProfile texts.now reads_input known f)) }
 {
     let mut graph = graph_of_all(alloc, texts)?;
     if !reads_input {
@@ -157,9 +153,8 @@ fn make<'a, R: Read>(
     ensures ok { IfOk result
         (λ made. IfSome (R.remaining input.old)
         (λ known. IsMade asked.now before.now (later_texts after.now asked.now.reads_input known) (string_bytes made))) }
-    ensures line { (s : Source) (n : ℕ) (w : LineFault) → IsErrOf result (Fault.Line s n w)
-        → IfSome (R.remaining input.old)
-        (λ known. IsFaultOf s n w before.now ⊎ MayFault s n w after.now asked.now.reads_input known) }
+    ensures stops { IfErr result
+        (λ f. IfSome (R.remaining input.old) (λ known. Stops asked.now before.now after.now known f)) }
 {
     let earlier = graph_of_all(alloc, before)?;
     let later = later_graph(alloc, after, asked.reads_input, input)?;
@@ -180,8 +175,13 @@ fn make<'a, R: Read>(
 ///
 /// With status 0 what the arguments ask for is on the output: the picture of the graph that all texts add up to, that of
 /// the change to it from the graph of the earlier texts, or its text. With any other status the line of the fault goes
-/// to the errors, and nothing goes to the output, except for status 7. Status 2 says that a line of one of the texts is
-/// not a path, a space and a number of bytes, or that it has too many keys.
+/// to the errors, and nothing goes to the output, except for status 7. The status says why:
+/// - 1 that memory runs out,
+/// - 2 that a line of one of the texts is not a path, a space and a number of bytes, or has too many keys,
+/// - 3 that one of the texts is not UTF-8,
+/// - 4 that the bytes of a text, of some texts together, or of both graphs of a change exceed `usize::MAX`,
+/// - 6 that the input is not read,
+/// - 7 that all this is made, and cannot be written.
 pub fn run<'a, R: Read, W: Write, E: Write>(
     alloc: Global,
     asked: &Arguments<'a>,
@@ -195,10 +195,11 @@ pub fn run<'a, R: Read, W: Write, E: Write>(
         → IfSome (R.remaining input.old)
         (λ known. (made : List ℕ) × IsMade asked.now before.now (later_texts after.now asked.now.reads_input known) made
         × Appends (W.contents output.old) (W.contents output.new) made) }
-    ensures faulty { result ≡ 2
+    ensures unwritten { result ≡ 7
         → IfSome (R.remaining input.old)
-        (λ known. (s : Source) × (n : ℕ) × (w : LineFault)
-        × (IsFaultOf s n w before.now ⊎ MayFault s n w after.now asked.now.reads_input known)) }
+        (λ known. (made : List ℕ) × IsMade asked.now before.now (later_texts after.now asked.now.reads_input known) made) }
+    ensures stopped { result ≢ 0 → result ≢ 7
+        → IfSome (R.remaining input.old) (λ known. IsStopped asked.now before.now after.now known result) }
     ensures untouched { result ≢ 0 → result ≢ 7 → output.new ≡ output.old }
 {
     match make(alloc, asked, before, after, input) {

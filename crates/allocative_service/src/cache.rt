@@ -280,6 +280,22 @@ impl<K: Eq + Hash + Drop, V: Allocative + Described> BoundedCache<K, V> {
         Some(&kept.value)
     }
 
+    /// The value under the key. The order does not change.
+    pub fn peek(&self, key: &K) -> Option<&V>
+        ensures { option_copied result ≡ value_at (K.eq key.now) self.now.entries }
+    {
+        let kept = self.entries.peek(key)?;
+        Some(&kept.value)
+    }
+
+    /// Makes the value under the key the most recently used. It returns whether the cache has the key.
+    pub fn promote(&mut self, key: &K) -> bool
+        ensures found { result ≡ is_some (value_at (K.eq key.now) self.old.entries) }
+        ensures order { self.new ≡ used (K.eq key.now) self.old }
+    {
+        self.entries.promote(key)
+    }
+
     /// The keys with their kept values, the most recently used first. The order does not change.
     pub fn iter(&self) -> Iter<'_, K, Kept<V>>
         ensures rest { result ≡ self.now.entries }

@@ -47,6 +47,8 @@ pub enum Request<'a> {
     Most {
         count: usize,
     },
+    Picture,
+    Change,
 }
 
 /// Reads a line. It is None where the line asks for nothing that the service does.
@@ -58,6 +60,8 @@ pub fn read_request(line: &str) -> Option<Request<'_>> {
         "bill" => Some(Request::Bill),
         "profile" => Some(Request::Profile),
         "report" => Some(Request::Report),
+        "picture" => Some(Request::Picture),
+        "change" => Some(Request::Change),
         "close" => Some(Request::Close { tenant: rest }),
         "bound" => Some(Request::Bound {
             bytes: rest.parse::<usize>().ok()?,

@@ -1,7 +1,13 @@
 //! A service that keeps documents of its tenants, within a limit for each, and says what it holds.
+ghost use Rattle.std.specs.Prelude.{◌≡◌};
+ghost use Rattle.allocative_service.specs.Entries.{with_entries};
+ghost use Rattle.order_service.specs.Answers.{AnswersLedger, AnswersPages, LosesPage, LosesPages, PutsDocument, RenewsPage, SetsBound, TakesPage, UsesPage};
+
 use crate::documents::{Held, Note, Order};
 use crate::request::{Draft, Request};
 use allocative::{Allocative, Described, IdRc, Identity, Refusal};
+use allocative_picture::options::Options;
+use allocative_picture::picture::{change_picture, picture};
 use allocative_service::cache::{BoundedCache, CacheError};
 use allocative_service::history::{History, report};
 use allocative_service::ledger::{Budget, Ledger, Rejection};
@@ -40,8 +46,15 @@ impl Service {
         })
     }
 
-    /// Does what is asked for, and prints what comes of it.
-    pub fn answer(&mut self, rt: &impl Print, request: &Request<'_>) -> Result<()> {
+    /// Does what is asked for, and prints what comes of it. An error ends the program: memory runs out, or a line is not
+    /// printed.
+    ///
+    /// Each account changes only as the request says, and then wholly, or not at all. The pages change only where the
+    /// request is one for a document or for them, and only `Bound` changes their bound.
+    pub fn answer(&mut self, rt: &impl Print, request: &Request<'_>) -> Result<()>
+        ensures ledger { AnswersLedger request.now self.old.ledger self.new.ledger }
+        ensures pages { AnswersPages request.now self.old.pages self.new.pages }
+    {
         match *request {
             Request::Open { tenant, limit } => self.open(rt, tenant, limit),
             Request::Limit { tenant, limit } => self.set_limit(rt, tenant, limit),
@@ -56,11 +69,16 @@ impl Service {
             Request::Profile => self.profile(rt),
             Request::Report => self.report(rt),
             Request::Most { count } => self.tell_most(rt, count),
+            Request::Picture => self.draw(rt),
+            Request::Change => self.draw_change(rt),
         }
     }
 
     /// Opens an account.
-    fn open(&mut self, rt: &impl Print, tenant: &str, limit: usize) -> Result<()> {
+    fn open(&mut self, rt: &impl Print, tenant: &str, limit: usize) -> Result<()>
+        ensures ledger { AnswersLedger (Request.Open tenant.entry limit) self.old.ledger self.new.ledger }
+        ensures pages { self.new.pages ≡ self.old.pages }
+    {
         match self.ledger.open(tenant, Budget { limit }) {
             Ok(()) => Ok(()),
             Err(rejection) => tell(rt, rejection),
@@ -68,7 +86,10 @@ impl Service {
     }
 
     /// Changes the limit of a tenant.
-    fn set_limit(&mut self, rt: &impl Print, tenant: &str, limit: usize) -> Result<()> {
+    fn set_limit(&mut self, rt: &impl Print, tenant: &str, limit: usize) -> Result<()>
+        ensures ledger { AnswersLedger (Request.Limit tenant.entry limit) self.old.ledger self.new.ledger }
+        ensures pages { self.new.pages ≡ self.old.pages }
+    {
         match self.ledger.set_budget(tenant, Budget { limit }) {
             Ok(()) => Ok(()),
             Err(rejection) => tell(rt, rejection),
@@ -76,24 +97,30 @@ impl Service {
     }
 
     /// Admits a document and keeps it in place of the one that the key has.
-    fn put(&mut self, rt: &impl Print, tenant: &str, key: u64, draft: Draft<'_>) -> Result<()> {
+    fn put(&mut self, rt: &impl Print, tenant: &str, key: u64, draft: Draft<'_>) -> Result<()>
+        ensures ledger { AnswersLedger (Request.Put tenant.entry key draft.entry) self.old.ledger self.new.ledger }
+        ensures pages { RenewsPage self.old.pages self.new.pages }
+    {
         match draft {
             Draft::Note(text) => {
                 let note = Note::new(self.alloc, tenant, key, text)?;
-                if self.admit(rt, tenant, key, &note)? {
-                    self.forget(tenant, key);
-                    self.held.notes.push(note)?;
+                if !self.admit(rt, tenant, key, &note)? {
+                    return Ok(());
                 }
+                self.forget(tenant, key);
+                self.held.notes.push(note)?;
+                self.renew_page(rt, tenant, key)
             }
             Draft::Order(places) => {
                 let order = Order::new(self.alloc, tenant, key, &self.held.catalogue, places)?;
-                if self.admit(rt, tenant, key, &order)? {
-                    self.forget(tenant, key);
-                    self.held.orders.push(order)?;
+                if !self.admit(rt, tenant, key, &order)? {
+                    return Ok(());
                 }
+                self.forget(tenant, key);
+                self.held.orders.push(order)?;
+                self.renew_page(rt, tenant, key)
             }
         }
-        self.renew_page(rt, tenant, key)
     }
 
     /// Asks the ledger for room for a document, and prints what it answers. It returns whether there is room.
@@ -103,11 +130,11 @@ impl Service {
         tenant: &str,
         key: u64,
         document: &T,
-    ) -> Result<bool> {
-        let answer = match self.ledger.measure_again(tenant, key, document) {
-            Err(Rejection::NotThere { .. }) => self.ledger.admit(tenant, key, document),
-            answer => answer,
-        };
+    ) -> Result<bool>
+        ensures ledger { PutsDocument tenant.now key self.old.ledger self.new.ledger }
+        ensures pages { self.new.pages ≡ self.old.pages }
+    {
+        let answer = self.measure(tenant, key, document);
         match answer {
             Ok(bytes) => println!(rt; "{tenant} has {bytes} bytes")?,
             Err(rejection) => tell(rt, rejection)?,
@@ -115,14 +142,45 @@ impl Service {
         Ok(answer.is_ok())
     }
 
+    /// Enters a document into the ledger, in place of the one that the key has.
+    fn measure<T: Allocative + Described>(
+        &mut self,
+        tenant: &str,
+        key: u64,
+        document: &T,
+    ) -> Result<usize, Rejection>
+        ensures ledger { PutsDocument tenant.now key self.old.ledger self.new.ledger }
+        ensures pages { self.new.pages ≡ self.old.pages }
+    {
+        if self.has_entry(tenant, key) {
+            self.ledger.measure_again(tenant, key, document)
+        } else {
+            self.ledger.admit(tenant, key, document)
+        }
+    }
+
+    /// Whether the ledger has an entry of the tenant under the key.
+    fn has_entry(&self, tenant: &str, key: u64) -> bool {
+        match self.ledger.accounts().get(tenant) {
+            Some(account) => account.entries().contains_key(&key),
+            None => false,
+        }
+    }
+
     /// Drops the document of a key.
-    fn forget(&mut self, tenant: &str, key: u64) {
+    fn forget(&mut self, tenant: &str, key: u64)
+        ensures ledger { self.new.ledger ≡ self.old.ledger }
+        ensures pages { self.new.pages ≡ self.old.pages }
+    {
         self.held.notes.retain(|note| !(note.key == key && note.tenant.as_str() == tenant));
         self.held.orders.retain(|order| !(order.key == key && order.tenant.as_str() == tenant));
     }
 
     /// Drops the document of a key and its page.
-    fn forget_with_page(&mut self, tenant: &str, key: u64) -> Result<()> {
+    fn forget_with_page(&mut self, tenant: &str, key: u64) -> Result<()>
+        ensures ledger { self.new.ledger ≡ self.old.ledger }
+        ensures pages { LosesPage self.old.pages self.new.pages }
+    {
         self.forget(tenant, key);
         let place = format!(in self.alloc; "{tenant}/{key}")?;
         self.pages.remove(&place);
@@ -130,7 +188,10 @@ impl Service {
     }
 
     /// Drops the document of a key, and gives its bytes back.
-    fn remove(&mut self, rt: &impl Print, tenant: &str, key: u64) -> Result<()> {
+    fn remove(&mut self, rt: &impl Print, tenant: &str, key: u64) -> Result<()>
+        ensures ledger { AnswersLedger (Request.Drop tenant.entry key) self.old.ledger self.new.ledger }
+        ensures pages { LosesPage self.old.pages self.new.pages }
+    {
         match self.ledger.release(tenant, key) {
             Some(bytes) => println!(rt; "{tenant} gives {bytes} bytes back")?,
             None => println!(rt; "{tenant} has no document {key}")?,
@@ -139,7 +200,10 @@ impl Service {
     }
 
     /// Closes the account of a tenant, and drops its documents.
-    fn close(&mut self, rt: &impl Print, tenant: &str) -> Result<()> {
+    fn close(&mut self, rt: &impl Print, tenant: &str) -> Result<()>
+        ensures ledger { AnswersLedger (Request.Close tenant.entry) self.old.ledger self.new.ledger }
+        ensures pages { LosesPages self.old.pages self.new.pages }
+    {
         let Some(account) = self.ledger.close(tenant) else {
             println!(rt; "{}", Rejection::NoAccount)?;
             return Ok(());
@@ -152,9 +216,13 @@ impl Service {
     }
 
     /// Shows a document by its page, which is kept for the next time.
-    fn get(&mut self, rt: &impl Print, tenant: &str, key: u64) -> Result<()> {
+    fn get(&mut self, rt: &impl Print, tenant: &str, key: u64) -> Result<()>
+        ensures ledger { self.new.ledger ≡ self.old.ledger }
+        ensures pages { UsesPage self.old.pages self.new.pages }
+    {
         let place = format!(in self.alloc; "{tenant}/{key}")?;
-        if let Some(page) = self.pages.get(&place) {
+        self.pages.promote(&place);
+        if let Some(page) = self.pages.peek(&place) {
             println!(rt; "{page} (kept)")?;
             return Ok(());
         }
@@ -183,7 +251,10 @@ impl Service {
     }
 
     /// Keeps a page, and prints which pages go for it, or why it is not kept.
-    fn keep_page(&mut self, rt: &impl Print, place: String, page: String) -> Result<()> {
+    fn keep_page(&mut self, rt: &impl Print, place: String, page: String) -> Result<()>
+        ensures ledger { self.new.ledger ≡ self.old.ledger }
+        ensures pages { TakesPage self.old.pages self.new.pages }
+    {
         let mut told = Ok(());
         let kept = self.pages.insert(place, page, |place: String, _page| {
             if told.is_ok() {
@@ -198,7 +269,10 @@ impl Service {
     }
 
     /// Replaces the page of a document that has changed, where it is kept, and prints which pages go for it.
-    fn renew_page(&mut self, rt: &impl Print, tenant: &str, key: u64) -> Result<()> {
+    fn renew_page(&mut self, rt: &impl Print, tenant: &str, key: u64) -> Result<()>
+        ensures ledger { self.new.ledger ≡ self.old.ledger }
+        ensures pages { RenewsPage self.old.pages self.new.pages }
+    {
         let place = format!(in self.alloc; "{tenant}/{key}")?;
         let Some(page) = self.page_of(tenant, key)? else {
             return Ok(());
@@ -221,7 +295,10 @@ impl Service {
     }
 
     /// Changes how many bytes of pages are kept, and prints which pages go.
-    fn set_bound(&mut self, rt: &impl Print, bytes: usize) -> Result<()> {
+    fn set_bound(&mut self, rt: &impl Print, bytes: usize) -> Result<()>
+        ensures ledger { self.new.ledger ≡ self.old.ledger }
+        ensures pages { SetsBound bytes self.old.pages self.new.pages }
+    {
         let mut told = Ok(());
         self.pages.set_bound(bytes, |place: String, _page| {
             if told.is_ok() {
@@ -253,7 +330,10 @@ impl Service {
     }
 
     /// Takes a profile of all that the service holds.
-    fn profile(&mut self, rt: &impl Print) -> Result<()> {
+    fn profile(&mut self, rt: &impl Print) -> Result<()>
+        ensures ledger { self.new.ledger ≡ self.old.ledger }
+        ensures pages { self.new.pages ≡ self.old.pages }
+    {
         self.history.take_profile(self.alloc, &self.held)?;
         Ok(println!(rt; "profiles: {}", self.history.len())?)
     }
@@ -276,6 +356,30 @@ impl Service {
             println!(rt; "{} bytes more", change.growth())?;
         }
         Ok(())
+    }
+
+    /// Prints the picture of the last profile, a text that a browser shows.
+    fn draw(&self, rt: &impl Print) -> Result<()> {
+        let Some((_last, last)) = self.history.pair(0, 0) else {
+            return Ok(println!(rt; "there is no profile")?);
+        };
+        let options = Options {
+            title: "What the service holds",
+            ..Options::default()
+        };
+        Ok(print!(rt; "{}", picture(self.alloc, last, &options)?)?)
+    }
+
+    /// Prints the picture of what changed since the last profile but one.
+    fn draw_change(&self, rt: &impl Print) -> Result<()> {
+        let Some((earlier, last)) = self.history.pair(1, 0) else {
+            return Ok(println!(rt; "there are fewer than two profiles")?);
+        };
+        let options = Options {
+            title: "What has changed",
+            ..Options::default()
+        };
+        Ok(print!(rt; "{}", change_picture(self.alloc, earlier, last, &options)?)?)
     }
 }
 

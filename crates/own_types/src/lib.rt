@@ -2,18 +2,15 @@
 #![tactic(auto)]
 
 pub mod chains;
-pub mod chapters;
 pub mod containers;
 pub mod enums;
 pub mod folders;
 pub mod gauges;
 pub mod groups;
-pub mod large_structs;
 pub mod links;
 pub mod nodes;
 pub mod pointers;
 pub mod services;
-pub mod settings;
 pub mod structs;
 pub mod trees;
 pub mod wrappers;

@@ -160,8 +160,18 @@ fn rows_that_end_well(rt: HostRuntime) {
 #[test]
 fn rows_that_end_with_a_fault(rt: HostRuntime) {
     for row in [
-        faulty("", "[1", 2, "allocative-json: input is not JSON\n"),
-        faulty("", "", 2, "allocative-json: input is not JSON\n"),
+        faulty(
+            "",
+            "[1",
+            2,
+            "allocative-json: input is not JSON\nallocative-json: EOF while parsing at line 1 column 2\n",
+        ),
+        faulty(
+            "",
+            "",
+            2,
+            "allocative-json: input is not JSON\nallocative-json: the input is empty\n",
+        ),
         faulty(
             "",
             "1.5",

@@ -2,7 +2,6 @@
 use crate::profiles::{Profile, expect};
 use allocative::{IdRc, Identity, size_of_unique};
 use own_types::chains::Chain;
-use own_types::chapters::{Chapter, Note};
 use own_types::folders::{Folder, Index};
 use own_types::links::Link;
 use own_types::nodes::Node;
@@ -144,22 +143,6 @@ fn a_chain_without_entries_of_boxes(rt: HostRuntime) -> Result<(), Fail> {
     let chain = Chain::Text(String::new(alloc), end);
     let text = "Chain;ptr 8\nChain;ptr;Chain 32\nChain;text;String 16\nChain;text;String;ptr 8\n";
     expect(&rt, alloc, &chain, &Profile::holding(text, 64, 32))
-}
-
-#[test]
-fn two_types_that_hold_each_other(rt: HostRuntime) -> Result<(), Fail> {
-    let alloc = rt.alloc();
-    let note = Note {
-        chapters: Vec::new(alloc),
-        is_long: true,
-    };
-    let chapter = Chapter {
-        number: 1,
-        notes: vec![in alloc; note]?,
-    };
-    let text =
-        "Chapter 4\nChapter;notes;Vec 16\nChapter;notes;Vec;ptr 8\nChapter;notes;Vec;ptr;Note 7\nChapter;notes;Vec;ptr;Note;chapters;Vec 24\nChapter;notes;Vec;ptr;Note;is_long;bool 1\nChapter;number;u32 4\n";
-    expect(&rt, alloc, &chapter, &Profile::holding(text, 64, 32))
 }
 
 #[test]

@@ -3,10 +3,7 @@ use crate::profiles::{Profile, expect};
 use indexmap::IndexMap;
 use own_types::containers::{Catalog, Journal, Shelf};
 use own_types::enums::Request;
-use own_types::large_structs::{Order, Route};
-use own_types::settings::Settings;
 use own_types::structs::{Meter, Named, Point, Session};
-use std::alloc::Global;
 use std::collections::HashMap;
 use std::test::Fail;
 
@@ -48,85 +45,6 @@ fn five_fields(rt: HostRuntime) -> Result<(), Fail> {
     let text =
         "Session 7\nSession;is_open;bool 1\nSession;limit;Option 8\nSession;limit;Option;Some;u64 8\nSession;place;tuple2;0;u32 4\nSession;place;tuple2;1;u32 4\nSession;scores;Vec 16\nSession;scores;Vec;ptr 8\nSession;scores;Vec;ptr;u32 8\nSession;user;String 16\nSession;user;String;ptr 8\n";
     expect(&rt, alloc, &session, &Profile::holding(text, 88, 8))
-}
-
-fn order(alloc: Global) -> Order {
-    Order {
-        number: 1,
-        buyer: String::new(alloc),
-        seller: String::new(alloc),
-        amount: 2,
-        price: 3,
-        note: None,
-        marks: Vec::new(alloc),
-        is_paid: false,
-    }
-}
-
-#[test]
-fn eight_fields(rt: HostRuntime) -> Result<(), Fail> {
-    let alloc = rt.alloc();
-    let text =
-        "Order 11\nOrder;amount;u32 4\nOrder;buyer;String 16\nOrder;buyer;String;ptr 8\nOrder;is_paid;bool 1\nOrder;marks;Vec 24\nOrder;note;Option 32\nOrder;number;u64 8\nOrder;price;u64 8\nOrder;seller;String 16\nOrder;seller;String;ptr 8\n";
-    expect(&rt, alloc, &order(alloc), &Profile::new(text, 136))
-}
-
-fn route(alloc: Global) -> Route<u8> {
-    Route {
-        name: String::new(alloc),
-        first: 1,
-        last: 2,
-        between: None,
-        length: 3,
-        steps: Vec::new(alloc),
-        start: (1, 2),
-        end: (3, 4),
-        height: 5,
-        grade: 6,
-        is_round: true,
-        is_closed: false,
-    }
-}
-
-#[test]
-fn twelve_fields(rt: HostRuntime) -> Result<(), Fail> {
-    let alloc = rt.alloc();
-    let text =
-        "Route 117\nRoute;between;Option 2\nRoute;end;tuple2;0;u16 2\nRoute;end;tuple2;1;u16 2\nRoute;first;u8 1\nRoute;grade;u8 1\nRoute;height;u32 4\nRoute;is_closed;bool 1\nRoute;is_round;bool 1\nRoute;last;u8 1\nRoute;length;u64 8\nRoute;name;String 16\nRoute;name;String;ptr 8\nRoute;start;tuple2;0;u16 2\nRoute;start;tuple2;1;u16 2\nRoute;steps;Vec 24\n";
-    expect(&rt, alloc, &route(alloc), &Profile::new(text, 192))
-}
-
-fn settings(alloc: Global) -> Settings {
-    Settings {
-        name: String::new(alloc),
-        home: String::new(alloc),
-        user: None,
-        words: Vec::new(alloc),
-        ports: Vec::new(alloc),
-        threads: 1,
-        queue: 2,
-        retries: 3,
-        delay: 4,
-        timeout: None,
-        width: 5,
-        height: 6,
-        corner: (7, 8),
-        depth: 9,
-        scale: 10,
-        is_quiet: true,
-        is_verbose: false,
-        is_strict: true,
-        seed: 11,
-        mark: None,
-    }
-}
-
-#[test]
-fn twenty_fields(rt: HostRuntime) -> Result<(), Fail> {
-    let alloc = rt.alloc();
-    let text =
-        "Settings 81\nSettings;corner;tuple2;0;u32 4\nSettings;corner;tuple2;1;u32 4\nSettings;delay;u64 8\nSettings;depth;u8 1\nSettings;height;u32 4\nSettings;home;String 16\nSettings;home;String;ptr 8\nSettings;is_quiet;bool 1\nSettings;is_strict;bool 1\nSettings;is_verbose;bool 1\nSettings;mark;Option 8\nSettings;name;String 16\nSettings;name;String;ptr 8\nSettings;ports;Vec 24\nSettings;queue;u32 4\nSettings;retries;u8 1\nSettings;scale;u16 2\nSettings;seed;u64 8\nSettings;threads;u32 4\nSettings;timeout;Option 16\nSettings;user;Option 32\nSettings;width;u32 4\nSettings;words;Vec 24\n";
-    expect(&rt, alloc, &settings(alloc), &Profile::new(text, 280))
 }
 
 #[test]

@@ -3,9 +3,8 @@ use crate::profiles::{Profile, expect};
 use implemented_types::nested::{Category, Chain, Chapter, Json, Note, Page, Tree};
 use implemented_types::placed::{Letter, Pair, Parcel, Post};
 use implemented_types::types::{
-    Found, Mark, Named, Nowhere, OfEight, OfOne, OfTwenty, Point, Request, Route, Sextet, Table,
+    Found, Mark, Named, Nowhere, OfEight, OfOne, Point, Request, Route, Sextet, Table,
 };
-use std::alloc::Global;
 use std::collections::{BTreeMap, HashMap};
 use std::test::Fail;
 
@@ -32,39 +31,6 @@ fn eight_fields(rt: HostRuntime) -> Result<(), Fail> {
     let text =
         "OfEight 1\nOfEight;count;u32 4\nOfEight;is_open;bool 1\nOfEight;limit;Option 16\nOfEight;marks;Vec 24\nOfEight;name;String 16\nOfEight;name;String;ptr 8\nOfEight;number;u64 8\nOfEight;place;tuple2;0;u32 4\nOfEight;place;tuple2;1;u32 4\nOfEight;width;u16 2\n";
     expect(&rt, alloc, &value, &Profile::new(text, 88))
-}
-
-fn of_twenty(alloc: Global) -> OfTwenty {
-    OfTwenty {
-        number: 1,
-        name: 2,
-        count: 3,
-        marks: Vec::new(alloc),
-        is_open: 5,
-        limit: 6,
-        place: (7, 7),
-        width: 8,
-        height: 9,
-        depth: String::new(alloc),
-        label: 11,
-        price: 12,
-        seller: true,
-        is_paid: 14,
-        weight: 15,
-        colour: 16,
-        first: 17,
-        last: 18,
-        total: 19,
-        is_old: 20,
-    }
-}
-
-#[test]
-fn twenty_fields(rt: HostRuntime) -> Result<(), Fail> {
-    let alloc = rt.alloc();
-    let text =
-        "OfTwenty 5\nOfTwenty;colour;u16 2\nOfTwenty;count;u32 4\nOfTwenty;depth;String 16\nOfTwenty;depth;String;ptr 8\nOfTwenty;first;u32 4\nOfTwenty;height;u32 4\nOfTwenty;is_old;u32 4\nOfTwenty;is_open;u32 4\nOfTwenty;is_paid;u32 4\nOfTwenty;label;u32 4\nOfTwenty;last;u32 4\nOfTwenty;limit;u32 4\nOfTwenty;marks;Vec 24\nOfTwenty;name;u32 4\nOfTwenty;number;u64 8\nOfTwenty;place;tuple2;0;u32 4\nOfTwenty;place;tuple2;1;u32 4\nOfTwenty;price;u32 4\nOfTwenty;seller;bool 1\nOfTwenty;total;u32 4\nOfTwenty;weight;u32 4\nOfTwenty;width;u32 4\n";
-    expect(&rt, alloc, &of_twenty(alloc), &Profile::new(text, 128))
 }
 
 #[test]

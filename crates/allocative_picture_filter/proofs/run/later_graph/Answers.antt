@@ -1,8 +1,27 @@
 use Rattle.std.proofs.Common.{List, ℕ, subst}
 use Rattle.std.proofs.lemmas.Option.{IfSome_then}
+use Rattle.std.proofs.lemmas.Result.{err_from_is_err_and}
 use Rattle.allocative_graph.specs.Read.{IsRead}
-use Rattle.allocative_picture_filter.proofs.Sums.{later-with}
+use Rattle.allocative_picture_filter.proofs.Faults.{of_each}
+use Rattle.allocative_picture_filter.proofs.Sums.{later-with, stops-files, stops-input, stops-unread}
 use Rattle.allocative_picture_filter.proofs.run.later_graph.Goals as goal
+
+pub returns-in_err-graph-clause-stops : goal.returns-in_err-graph-clause-stops
+returns-in_err-graph-clause-stops g c =
+    let p = err_from_is_err_and c.from_residual.result c.from_residual.ensures.1 in
+    rw (p.1, p.2) (of_each (g.R.Read.remaining c.args.input.now) (λ known. stops-files c.args.texts.now c.args.reads_input known c.in_err-graph.field-0.0 c.in_err-graph.ensures.stops))
+
+pub returns-in_err-text-clause-stops : goal.returns-in_err-text-clause-stops
+returns-in_err-text-clause-stops g c =
+    let p = err_from_is_err_and c.from_residual-in_err-text.result c.from_residual-in_err-text.ensures.1 in
+    rw (p.1, p.2) (of_each (g.R.Read.remaining c.args.input.now)
+    (λ known. stops-unread c.args.texts.now c.args.reads_input known c.in_ok-graph.graph c.in_err-text.field-0.0 c.if-not-reads_input.false c.in_ok-graph.ensures.ok c.in_err-text.ensures.err))
+
+pub returns-in_err-add_text-clause-stops : goal.returns-in_err-add_text-clause-stops
+returns-in_err-add_text-clause-stops g c =
+    let p = err_from_is_err_and c.from_residual-in_err-add_text.result c.from_residual-in_err-add_text.ensures.1 in
+    rw (p.1, p.2) (IfSome_then (g.R.Read.remaining c.args.input.now) c.in_ok-text.ensures.ok
+    (λ known e. stops-input c.args.texts.now c.args.reads_input known c.in_ok-graph.graph c.in_err-add_text.field-0.0 c.if-not-reads_input.false c.in_ok-graph.ensures.ok (rw (c.in_ok-text.ensures.source, e) at c.in_err-add_text.ensures.stops)))
 
 pub returns-clause-ok : goal.returns-clause-ok
 returns-clause-ok g c =

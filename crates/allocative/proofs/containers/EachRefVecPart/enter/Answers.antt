@@ -1,18 +1,11 @@
--- One more item is shown.
-use Rattle.allocative.proofs.Within.{indexed_refused}
-use Rattle.std.proofs.Common.{◌≡◌, rules}
-use Rattle.allocative.proofs.Meaning.{entered_one_more, entered_none, means_same}
+-- The iterator gives the items.
+use Rattle.std.proofs.Common.{◌≡◌, ◌∙◌, rules}
+use Rattle.std.proofs.lemmas.Iterator.{YieldsList-from_slice}
+use Rattle.allocative_graph.specs.Shows.{each_shows}
+use Rattle.allocative.proofs.Runs.{entered_list}
 use Rattle.allocative.proofs.containers.EachRefVecPart.enter.Goals as goal
 
-pub loop-item-preserved : goal.loop-item-preserved
-loop-item-preserved g c = entered_one_more g.T.Allocative.may_show _ _ c.item-item.result c.loop-item.invariant c.in_ok-enter.ensures c.loop-item-test.true c.item-item.is
-
-pub loop-item-init : goal.loop-item-init
-loop-item-init g c = entered_none _ means_same
-
-pub returns-in_err-enter : goal.returns-in_err-enter
-returns-in_err-enter g c =
-    let is : c.deref-item-items.result.now ≡ c.args.self.0.now.items = search rules in
-    let refused = indexed_refused g.T.Allocative.may_show c.deref-item-items.result.now _ c.item-item.result {e = c.in_err-enter.field-0.0} _ c.from_residual.ensures.0 (search rules)
-    c.loop-item.invariant c.in_err-enter.ensures c.loop-item-test.true c.item-item.is in
-    rw is at refused
+pub returns : goal.returns
+returns g c =
+    let is : c.deref.result.now ≡ c.args.self.0.now.items = search rules in
+    entered_list {q = each_shows g.T.Allocative.may_show} (YieldsList-from_slice c.args.self.0.now.items (c.iter.ensures.rest ∙ is)) c.visit_items.ensures.entered c.visit_items.ensures.rightly

@@ -1,32 +1,14 @@
--- One more item is shown.
-use Rattle.allocative.proofs.Within.{entered_failed, failed_answer, indexed_refused}
-use Rattle.std.proofs.Common.{arith, codes, rules}
+-- The iterator gives the items.
+use Rattle.std.proofs.Common.{codes}
+use Rattle.std.proofs.lemmas.Iterator.{YieldsList-from_slice}
+use Rattle.allocative_graph.specs.Shows.{each_shows}
 use Rattle.allocative.specs.Runs.{field_of}
-use Rattle.allocative.proofs.Meaning.{entered_one_more, entered_none, means_same}
+use Rattle.allocative.proofs.Making.{makes_none}
+use Rattle.allocative.proofs.Runs.{entered_list}
 use Rattle.allocative.proofs.visitor.Visitor.visit_data.Goals as goal
 
-pub loop-item-preserved : goal.loop-item-preserved
-loop-item-preserved g c = (
-  entered_one_more (field_of (codes "data") g.T.Described.size g.T.Allocative.may_show) c.args.items.now c.loop-item.item-index c.item-item.result c.loop-item.invariant.0
-      (rw c.new.ensures at c.in_ok-visit_field.ensures.entered) c.loop-item-test.true c.item-item.is,
-  λ h. absurd (omega (arith, h, c.loop-item-test.true)),
-)
+pub returns-clause-entered : goal.returns-clause-entered
+returns-clause-entered g c = entered_list {q = each_shows (field_of (codes "data") g.T.Described.size g.T.Allocative.may_show)} (YieldsList-from_slice _ c.iter.ensures.rest) (rw c.new.ensures at c.visit_fields.ensures.entered) (rw c.new.ensures at c.visit_fields.ensures.rightly)
 
 pub returns-clause-exact : goal.returns-clause-exact
-returns-clause-exact g c = λ h. c.loop-item.invariant.1 h
-
-pub returns-in_err-go_on-clause-entered : goal.returns-in_err-go_on-clause-entered
-returns-in_err-go_on-clause-entered g c = entered_failed {e = c.in_err-go_on.field-0.0} _ c.from_residual.ensures.0 (search rules) c.in_err-go_on.ensures
-
-pub returns-in_err-go_on-clause-exact : goal.returns-in_err-go_on-clause-exact
-returns-in_err-go_on-clause-exact g c = λ h. failed_answer {e = c.in_err-go_on.field-0.0} _ c.from_residual.ensures.0 (search rules) c.in_err-go_on.ensures
-
-pub loop-item-init : goal.loop-item-init
-loop-item-init g c = (entered_none _ means_same, λ h. c.in_ok-go_on.ensures)
-
-pub returns-in_err-visit_field-clause-entered : goal.returns-in_err-visit_field-clause-entered
-returns-in_err-visit_field-clause-entered g c = indexed_refused (field_of (codes "data") g.T.Described.size g.T.Allocative.may_show) c.args.items.now c.loop-item.item-index c.item-item.result {e = c.in_err-visit_field.field-0.0} _ c.from_residual-in_err-visit_field.ensures.0 (search rules)
-    c.loop-item.invariant.0 (rw c.new.ensures at c.in_err-visit_field.ensures.entered) c.loop-item-test.true c.item-item.is
-
-pub returns-in_err-visit_field-clause-exact : goal.returns-in_err-visit_field-clause-exact
-returns-in_err-visit_field-clause-exact g c = λ h. absurd (omega (arith, h, c.loop-item-test.true))
+returns-clause-exact g c = λ h. makes_none c.args.items.now h (YieldsList-from_slice _ c.iter.ensures.rest) c.visit_fields.ensures.exact

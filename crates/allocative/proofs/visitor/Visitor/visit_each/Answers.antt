@@ -1,40 +1,12 @@
--- One more item is shown.
-use Rattle.allocative.proofs.Showing.{kept_after}
-use Rattle.allocative.proofs.Within.{entered_failed, failed_answer, indexed_refused, kept_failed}
-use Rattle.std.proofs.Common.{arith, rules}
-use Rattle.allocative.proofs.Meaning.{entered_one_more, entered_none, means_same}
+-- The iterator gives the items.
+use Rattle.std.proofs.lemmas.Iterator.{YieldsList-from_slice}
+use Rattle.allocative_graph.specs.Shows.{each_shows}
+use Rattle.allocative.proofs.Making.{makes_none}
+use Rattle.allocative.proofs.Runs.{entered_list}
 use Rattle.allocative.proofs.visitor.Visitor.visit_each.Goals as goal
 
-pub loop-item-preserved : goal.loop-item-preserved
-loop-item-preserved g c = (
-  entered_one_more g.T.Allocative.may_show c.args.items.now c.loop-item.item-index c.item-item.result c.loop-item.invariant.0 c.in_ok-enter.ensures c.loop-item-test.true c.item-item.is,
-  λ h. absurd (omega (arith, h, c.loop-item-test.true)),
-)
+pub returns-clause-entered : goal.returns-clause-entered
+returns-clause-entered g c = entered_list {q = each_shows g.T.Allocative.may_show} (YieldsList-from_slice _ c.iter.ensures.rest) c.visit_items.ensures.entered c.visit_items.ensures.rightly
 
 pub returns-clause-exact : goal.returns-clause-exact
-returns-clause-exact g c = λ h. c.loop-item.invariant.1 h
-
-pub returns-in_err-go_on-clause-entered : goal.returns-in_err-go_on-clause-entered
-returns-in_err-go_on-clause-entered g c = entered_failed {e = c.in_err-go_on.field-0.0} _ c.from_residual.ensures.0 (search rules) c.in_err-go_on.ensures
-
-pub returns-in_err-go_on-clause-kept : goal.returns-in_err-go_on-clause-kept
-returns-in_err-go_on-clause-kept g c = kept_failed {e = c.in_err-go_on.field-0.0} _ c.from_residual.ensures.0 (search rules) c.in_err-go_on.ensures
-
-pub returns-in_err-go_on-clause-exact : goal.returns-in_err-go_on-clause-exact
-returns-in_err-go_on-clause-exact g c = λ h. failed_answer {e = c.in_err-go_on.field-0.0} _ c.from_residual.ensures.0 (search rules) c.in_err-go_on.ensures
-
-pub loop-item-init : goal.loop-item-init
-loop-item-init g c = (entered_none _ means_same, λ h. c.in_ok-go_on.ensures)
-
-pub returns-in_err-enter-clause-entered : goal.returns-in_err-enter-clause-entered
-returns-in_err-enter-clause-entered g c = indexed_refused g.T.Allocative.may_show c.args.items.now c.loop-item.item-index c.item-item.result {e = c.in_err-enter.field-0.0} _ c.from_residual-in_err-enter.ensures.0 (search rules)
-    c.loop-item.invariant.0 c.in_err-enter.ensures c.loop-item-test.true c.item-item.is
-
-pub returns-in_err-enter-clause-kept : goal.returns-in_err-enter-clause-kept
-returns-in_err-enter-clause-kept g c = kept_after c.in_ok-go_on.ensures
-
-pub returns-clause-kept : goal.returns-clause-kept
-returns-clause-kept g c = kept_after c.in_ok-go_on.ensures
-
-pub returns-in_err-enter-clause-exact : goal.returns-in_err-enter-clause-exact
-returns-in_err-enter-clause-exact g c = λ h. absurd (omega (arith, h, c.loop-item-test.true))
+returns-clause-exact g c = λ h. makes_none c.args.items.now h (YieldsList-from_slice _ c.iter.ensures.rest) c.visit_items.ensures.exact
