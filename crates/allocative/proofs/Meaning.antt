@@ -1,7 +1,6 @@
 -- How the showing of a value follows from the part that enters it, word by word.
-use Rattle.std.proofs.Common.{◌≡◌, ℕ, Bool, true, false, ◌&&◌, IsTrue, Option, Some, None, Result, inl, inr, List, [], ◌∷◌, ◌++◌, take, length, get_or, ◌+◌, ◌<◌, ◌∙◌, Ok, Err, refl}
+use Rattle.std.proofs.Common.{◌≡◌, ℕ, Bool, true, false, ◌&&◌, IsTrue, Option, Some, None, Result, inl, inr, List, [], ◌∷◌, ◌++◌, ◌∙◌, Ok, Err, refl}
 use Rattle.std.proofs.lemmas.Bool.{false≢true}
-use Rattle.std.proofs.lemmas.List.{take_more}
 use Rattle.allocative_graph.specs.declared.refusal.Refusal.{Refusal}
 use Rattle.allocative_graph.specs.declared.refusal.Refusal.TheVariants.{TooLarge}
 use Rattle.allocative_graph.specs.Path.{Key}

@@ -1,5 +1,5 @@
 -- Faults and their status.
-use Rattle.std.proofs.Common.{◌≡◌, ◌⊎◌, inl, inr, ℕ, ◌^◌, ◌≤◌, List, [], ◌∷◌, Option, None, Some, Err, refl, ap, arith}
+use Rattle.std.proofs.Common.{◌≡◌, inl, inr, ℕ, ◌^◌, ◌≤◌, List, [], ◌∷◌, Option, None, Some, Err, refl, ap, arith}
 use Rattle.std.specs.Prelude.{IfSome, IsErrOf}
 use Rattle.allocative_graph.specs.Graph.{Graph, sum_of}
 use Rattle.allocative_graph.specs.declared.refusal.Refusal as refusal

@@ -2,7 +2,7 @@
 use Rattle.std.specs.Prelude.{◌≡◌, ◌⊎◌, ℕ, ◌-◌, Bool, List, [], ◌∷◌, ◌++◌, Option, Some, None, String}
 use Rattle.std.specs.Global.{Global}
 use Rattle.std.specs.Map.{remove_entry}
-use Rattle.allocative_service.specs.Accounts.{account_of, ChangesAccount, Enters, IsUnchanged, Releases, SetsLimit}
+use Rattle.allocative_service.specs.Accounts.{ChangesAccount, Enters, IsUnchanged, Releases, SetsLimit}
 use Rattle.allocative_service.specs.Entries.{Bounded, Entries, IsNeeded, bounded, used, with_entries, without}
 use Rattle.allocative_service.specs.declared.cache.Kept.{Kept}
 use Rattle.allocative_service.specs.declared.ledger.Ledger.{Ledger}
