@@ -33,7 +33,7 @@ pub(crate) fn print_ledger(rt: &impl Print, alloc: Global) -> Result<()> {
     Ok(())
 }
 
-/// Prints which of two keys a cache has.
+/// Prints the page of a key that a cache has, and that it has no other.
 pub(crate) fn print_cache(rt: &impl Print, alloc: Global) -> Result<()> {
     let mut pages: BoundedCache<u64, u64> = BoundedCache::new(alloc, Measure::Shown, 100)?;
     if pages.is_empty() && pages.measure() == Measure::Shown {
@@ -43,12 +43,11 @@ pub(crate) fn print_cache(rt: &impl Print, alloc: Global) -> Result<()> {
         println!(rt; "not kept")?;
     }
     for key in [1u64, 2] {
-        let answer = if pages.contains(&key) {
-            "kept"
-        } else {
-            "not there"
-        };
-        println!(rt; "page {key}: {answer}")?;
+        if !pages.contains(&key) {
+            println!(rt; "page {key}: not there")?;
+        } else if let Some(page) = pages.get(&key) {
+            println!(rt; "page {key}: {page}")?;
+        }
     }
     Ok(())
 }
