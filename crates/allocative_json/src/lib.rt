@@ -2,13 +2,13 @@
 //! two writers.
 #![tactic(auto)]
 
+mod cause;
 pub mod fault;
 pub mod printed;
 pub mod profile;
 pub mod roots;
 pub mod run;
 pub mod texts;
-mod why;
 pub mod words;
 
 pub use crate::fault::Fault;

@@ -6,13 +6,14 @@ ghost use Rattle.allocative_json.specs.Profile.{IsRightReport, RefusesReport};
 ghost use Rattle.allocative_json.specs.Run.{StopsReading, IsReportFor, IsWritten, IsReported, EndsWell, EndsIn, MayEndRun};
 ghost use Rattle.allocative_json.specs.Words.{words_of};
 
+use crate::cause::cause_of;
 use crate::fault::Fault;
 use crate::printed::Report;
 use crate::profile::{report_by_registry, report_of};
 use crate::roots::read_roots;
-use crate::why::tell_why;
 use crate::words::{Words, read_words};
 use std::alloc::Global;
+use std::fmt::Display;
 use std::io::{ErrorKind, Read, Write};
 use std::mem;
 
@@ -61,12 +62,29 @@ fn write_report<W: Write, E: Write>(
     write_text(errors, made.warnings.as_str())
 }
 
+// Writes a line after the program's name, and returns whether all of it was written.
+fn write_line<E: Write, D: Display>(errors: &mut E, message: &D) -> bool {
+    writeln!(errors, "allocative-json: {message}").is_ok() && errors.flush().is_ok()
+}
+
 /// Writes the message of the fault and returns its status, even where the message cannot be written.
 pub fn tell<E: Write>(errors: &mut E, fault: Fault) -> u8
     ensures { result ≡ status_of fault }
 {
-    let _unwritten = writeln!(errors, "allocative-json: {fault}");
-    let _unflushed = errors.flush();
+    let _is_told = write_line(errors, &fault);
+    fault.status()
+}
+
+// Writes the message of the fault. Below that of an input that is not JSON it writes what is wrong with the input, where
+// memory lasts. It returns the status, even where something cannot be written.
+fn tell_of_input<E: Write>(alloc: Global, errors: &mut E, fault: Fault, input: &[u8]) -> u8
+    ensures { result ≡ status_of fault }
+{
+    if write_line(errors, &fault) && fault == Fault::NotJson {
+        if let Some(cause) = cause_of(alloc, input) {
+            let _is_told = write_line(errors, &cause);
+        }
+    }
     fault.status()
 }
 
@@ -100,8 +118,14 @@ fn make_report<R: Read>(
     profile_as_asked(alloc, asked, bytes.as_slice())
 }
 
-// Writes the report that was made, or the message of the fault, and returns the status.
-fn finish<W: Write, E: Write>(made: Result<Report, Fault>, output: &mut W, errors: &mut E) -> u8
+// Writes the report that was made of the input, or why none was made, and returns the status.
+fn finish<W: Write, E: Write>(
+    alloc: Global,
+    made: Result<Report, Fault>,
+    input: &[u8],
+    output: &mut W,
+    errors: &mut E,
+) -> u8
     ensures written { result ≡ 0
         → IsOkAnd made
         (IsWritten (W.contents output.old) (W.contents output.new) (E.contents errors.old) (E.contents errors.new)) }
@@ -114,7 +138,7 @@ fn finish<W: Write, E: Write>(made: Result<Report, Fault>, output: &mut W, error
             Ok(()) => 0,
             Err(fault) => tell(errors, fault),
         },
-        Err(fault) => tell(errors, fault),
+        Err(fault) => tell_of_input(alloc, errors, fault, input),
     }
 }
 
@@ -124,9 +148,9 @@ fn finish<W: Write, E: Write>(made: Result<Report, Fault>, output: &mut W, error
 /// With status 0 the profile is on the output and the warnings are on the errors. Both are made before
 /// anything is written, and the profile is written first. Otherwise the message of the fault is written to the
 /// errors and, except with status 7, nothing is written to the output. Of an input that is not JSON a second line says
-/// what is wrong with it. The status is that of the fault even where the message cannot be written. It is 4 only where the declared sizes exceed the bound of a flame graph, and
-/// never 8. With the word `registry` the roots are boxed and visited by a
-/// registry, and the same clauses hold.
+/// what is wrong with it. The status is that of the fault even where the message cannot be written. It is 4 only where
+/// the declared sizes exceed the bound of a flame graph, and never 8. With the word `registry` the roots are boxed and
+/// visited by a registry, and the same clauses hold.
 pub fn run_json<R: Read, W: Write, E: Write>(
     alloc: Global,
     words: &[String],
@@ -143,10 +167,5 @@ pub fn run_json<R: Read, W: Write, E: Write>(
 {
     let mut bytes = Vec::new(alloc);
     let made = make_report(alloc, words, input, &mut bytes);
-    let status = finish(made, output, errors);
-    if status != Fault::NotJson.status() {
-        return status;
-    }
-    tell_why(alloc, bytes.as_slice(), errors);
-    status
+    finish(alloc, made, bytes.as_slice(), output, errors)
 }

@@ -33,7 +33,7 @@ pub(crate) fn print_ledger(rt: &impl Print, alloc: Global) -> Result<()> {
     Ok(())
 }
 
-/// Prints the page of a key that a cache has, and that it has no other.
+/// Prints the pages of two keys, of which a cache has one, and its bytes.
 pub(crate) fn print_cache(rt: &impl Print, alloc: Global) -> Result<()> {
     let mut pages: BoundedCache<u64, u64> = BoundedCache::new(alloc, Measure::Shown, 100)?;
     if pages.is_empty() && pages.measure() == Measure::Shown {
@@ -43,11 +43,13 @@ pub(crate) fn print_cache(rt: &impl Print, alloc: Global) -> Result<()> {
         println!(rt; "not kept")?;
     }
     for key in [1u64, 2] {
-        if !pages.contains(&key) {
-            println!(rt; "page {key}: not there")?;
-        } else if let Some(page) = pages.get(&key) {
-            println!(rt; "page {key}: {page}")?;
+        match pages.get(&key) {
+            Some(page) => println!(rt; "page {key}: {page}")?,
+            None => println!(rt; "page {key}: not there")?,
         }
+    }
+    if pages.contains(&1) {
+        println!(rt; "{} bytes of pages", pages.bytes())?;
     }
     Ok(())
 }

@@ -55,10 +55,9 @@ fn is_whole(ran: &Ran, row: &Row) -> bool {
 }
 
 /// Whether a run ended as one with a refused growth may: for want of memory, with nothing written to its output; in a
-/// write; or with the row's fault and a part of its message. Of an input that is not JSON either line may be cut off.
+/// write; or with the row's fault and a part of its message.
 fn is_refused(ran: &Ran, row: &Row) -> bool {
-    let is_part = row.status == 2 || row.errors.as_bytes().starts_with(&ran.errors);
-    let is_cut = ran.status == row.status && is_part;
+    let is_cut = ran.status == row.status && row.errors.as_bytes().starts_with(&ran.errors);
     (ran.status == 1 || is_cut) && ran.output.is_empty() || ran.status == 7
 }
 
