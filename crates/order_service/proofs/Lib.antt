@@ -1,1 +1,3 @@
+pub mod Closing
+pub mod Entering
 pub mod Pages

@@ -1,81 +1,183 @@
 -- What a request does to the ledger and to the pages of the service.
-use Rattle.std.specs.Prelude.{◌≡◌, ◌⊎◌, ℕ, ◌-◌, Bool, List, [], ◌∷◌, ◌++◌, Option, Some, None, String}
+use Rattle.std.specs.Prelude.{◌≡◌, ◌⊎◌, ℕ, ◌-◌, Bool, true, List, [], ◌∷◌, ◌++◌, Option, Some, None, Result, OnOk, IsErr, MatchOption, String, string_bytes, string_eq, codes, decimal, ⊤}
 use Rattle.std.specs.Global.{Global}
-use Rattle.std.specs.Map.{remove_entry}
-use Rattle.allocative_service.specs.Accounts.{ChangesAccount, Enters, IsUnchanged, Releases, SetsLimit}
-use Rattle.allocative_service.specs.Entries.{Bounded, Entries, IsNeeded, bounded, used, with_entries, without}
+use Rattle.std.specs.Map.{keys_of, remove_entry}
+use Rattle.std.specs.Option.{option_and_then}
+use Rattle.allocative.specs.Refusal.TheVariants.{Memory}
+use Rattle.allocative.specs.Shows.{Showing}
+use Rattle.allocative_service.specs.Accounts.{ChangesAccount, Enters, IsUnchanged, Releases, SetsLimit, account_of, measure_of}
+use Rattle.allocative_service.specs.Entries.{Bounded, Entries, IsNeeded, bounded, stored_key, used, with_entries, without}
+use Rattle.allocative_service.specs.Holding.{Holding, bytes_at}
+use Rattle.allocative_service.specs.Measured.{Declares}
+use Rattle.allocative_service.specs.Rejected.{RejectsChange, RejectsIn, RejectsLimit, RejectsMeasured, RejectsNew, RejectsOpening}
 use Rattle.allocative_service.specs.declared.cache.Kept.{Kept}
 use Rattle.allocative_service.specs.declared.ledger.Ledger.{Ledger}
+use Rattle.allocative_service.specs.declared.ledger.rejection.Rejection.{Rejection}
+use Rattle.allocative_service.specs.declared.ledger.rejection.Rejection.TheVariants.{NotKept, NotMeasured}
+use Rattle.order_service.specs.declared.documents.Note.{Note}
+use Rattle.order_service.specs.declared.documents.Order.{Order}
+use Rattle.order_service.specs.declared.request.Draft.{Draft}
+use Rattle.order_service.specs.declared.request.Draft.TheVariants as drafts
 use Rattle.order_service.specs.declared.request.Request.{Request}
 use Rattle.order_service.specs.declared.request.Request.TheVariants as asks
 
 -- ---- the ledger
--- The document under the key is measured, and its bytes are entered for the tenant, in place of those that the key had;
--- or nothing changes.
-abbrev pub PutsDocument : List ℕ → ℕ → Ledger → Ledger → Type 0
-PutsDocument tenant key old new = IsUnchanged old new
-    ⊎ ((bytes : ℕ) × (had : Option ℕ) × (total : ℕ) × Enters tenant key bytes had total old new)
+-- The rejection does not say that memory ran out.
+abbrev pub IsTold : Rejection → Type 0
+IsTold NotKept = ⊥
+IsTold (NotMeasured Memory) = ⊥
+IsTold _ = ⊤
 
--- What a request does to the ledger. Where it is refused, and where it asks for nothing of the ledger, nothing changes.
-abbrev pub AnswersLedger : Request → Ledger → Ledger → Type 0
-AnswersLedger (asks.Open tenant limit) old new =
-    IsUnchanged old new ⊎ ChangesAccount tenant.now (Some (record { limit = limit; entries = [] })) old new
-AnswersLedger (asks.Limit tenant limit) old new = IsUnchanged old new ⊎ SetsLimit tenant.now limit old new
-AnswersLedger (asks.Close tenant) old new = IsUnchanged old new ⊎ ChangesAccount tenant.now None old new
-AnswersLedger (asks.Put tenant key draft) old new = PutsDocument tenant.now key old new
-AnswersLedger (asks.Drop tenant key) old new =
-    IsUnchanged old new ⊎ ((bytes : ℕ) × Releases tenant.now key bytes old new)
-AnswersLedger _ old new = new ≡ old
+-- The bytes of the tenant's document under the key.
+abbrev pub entered_bytes : List ℕ → ℕ → Ledger → Option ℕ
+entered_bytes tenant key l = option_and_then (bytes_at key) (account_of tenant l)
+
+-- Why a document is not entered for the tenant: as a new one, or in place of that which the key has. It is of a type with
+-- this declared size, which may be exact, and may show what p allows.
+abbrev pub RejectsDocument : List ℕ → ℕ → Ledger → Bool → Option ℕ → Showing → Rejection → Type 0
+RejectsDocument tenant key old is_exact size p r = MatchOption (entered_bytes tenant key old)
+    (RejectsMeasured (measure_of old) is_exact size p
+    (λ bytes. RejectsIn (RejectsNew key bytes) (account_of tenant old)) r)
+    (λ had. RejectsMeasured (measure_of old) is_exact size p
+    (λ bytes. RejectsIn (RejectsChange key bytes) (account_of tenant old)) r)
+
+-- The bytes that a document declares are entered for the tenant under the key, in place of those that it had. The document
+-- is of a type with this declared size, and may show what p allows.
+abbrev pub EntersDocument : List ℕ → ℕ → Option ℕ → Showing → Ledger → Ledger → Type 0
+EntersDocument tenant key size p old new = (bytes : ℕ) × (had : Option ℕ) × (total : ℕ)
+    × Declares (measure_of old) size p bytes × Enters tenant key bytes had total old new
+
+-- The note has the tenant's name, the key and the text.
+abbrev pub IsNote : List ℕ → ℕ → List ℕ → Note → Type 0
+IsNote tenant key text note = (string_bytes note.tenant ≡ tenant) × (note.key ≡ key) × (string_bytes note.text ≡ text)
+
+-- The order has the tenant's name and the key.
+abbrev pub IsOrder : List ℕ → ℕ → Order → Type 0
+IsOrder tenant key order = (string_bytes order.tenant ≡ tenant) × (order.key ≡ key)
+
+-- The tenant has an account with this limit and no document. It had none before.
+abbrev pub OpensAccount : List ℕ → ℕ → Ledger → Ledger → Type 0
+OpensAccount tenant limit old new = (account_of tenant old ≡ None)
+    × ChangesAccount tenant (Some (record { limit = limit; entries = [] })) old new
+
+-- The tenant has no account any more. Where it had none, the ledger is unchanged.
+abbrev pub ClosesAccount : List ℕ → Ledger → Ledger → Type 0
+ClosesAccount tenant old new = ((account_of tenant old ≡ None) × IsUnchanged old new) ⊎ ChangesAccount tenant None old new
+
+-- The bytes under the key are gone. Where there were none, the ledger is unchanged.
+abbrev pub ReleasesDocument : List ℕ → ℕ → Ledger → Ledger → Type 0
+ReleasesDocument tenant key old new = ((entered_bytes tenant key old ≡ None) × IsUnchanged old new)
+    ⊎ ((bytes : ℕ) × Releases tenant key bytes old new)
+
+module _ {A E : Type 0} (result : Result A E) (old new : Ledger) where
+  -- The request is rejected, as P says, and the ledger is unchanged. Where memory runs out, an error is returned.
+  abbrev pub IsRejected : (Rejection → Type 0) → Type 0
+  IsRejected P = (r : Rejection) × P r × OnOk result (IsTold r) × IsUnchanged old new
+
+  -- An account is opened, or that is rejected.
+  abbrev pub AnswersOpen : List ℕ → ℕ → Type 0
+  AnswersOpen tenant limit = IsRejected (RejectsOpening (account_of tenant old)) ⊎ OpensAccount tenant limit old new
+
+  -- The limit of an account is set, or that is rejected.
+  abbrev pub AnswersLimit : List ℕ → ℕ → Type 0
+  AnswersLimit tenant limit =
+      IsRejected (RejectsIn (RejectsLimit limit) (account_of tenant old)) ⊎ SetsLimit tenant limit old new
+
+  -- A document is entered, or that is rejected.
+  abbrev pub PutsDocument : List ℕ → ℕ → Bool → Option ℕ → Showing → Type 0
+  PutsDocument tenant key is_exact size p =
+      IsRejected (RejectsDocument tenant key old is_exact size p) ⊎ EntersDocument tenant key size p old new
+
+  module _ (note_size order_size : Option ℕ) (note_shows : Note → Showing) (order_shows : Order → Showing) where
+    -- A document is made of the draft and entered, or that is rejected. Where memory runs out before that, the ledger is
+    -- unchanged and an error is returned.
+    abbrev pub PutsDraft : List ℕ → ℕ → Draft → Type 0
+    PutsDraft tenant key (drafts.Note text) = (IsErr result × IsUnchanged old new)
+        ⊎ ((note : Note) × IsNote tenant key text.now note × PutsDocument tenant key true note_size (note_shows note))
+    PutsDraft tenant key (drafts.Order places) = (IsErr result × IsUnchanged old new)
+        ⊎ ((order : Order) × IsOrder tenant key order × PutsDocument tenant key true order_size (order_shows order))
+
+    -- What a request does to the ledger. A request that asks for nothing of the ledger leaves it as it is.
+    abbrev pub AnswersLedger : Request → Type 0
+    AnswersLedger (asks.Open tenant limit) = AnswersOpen tenant.now limit
+    AnswersLedger (asks.Limit tenant limit) = AnswersLimit tenant.now limit
+    AnswersLedger (asks.Close tenant) = ClosesAccount tenant.now old new
+    AnswersLedger (asks.Put tenant key draft) = PutsDraft tenant.now key draft
+    AnswersLedger (asks.Drop tenant key) = ReleasesDocument tenant.now key old new
+    AnswersLedger _ = new ≡ old
 
 -- ---- the pages
 -- The pages of documents, by their places.
 abbrev pub Pages : Type 0
 Pages = Bounded (String Global) (String Global)
 
--- A page is removed, or none is.
-abbrev pub LosesPage : Pages → Pages → Type 0
-LosesPage old new = (new ≡ old) ⊎ ((is_it : String Global → Bool) × (new ≡ without is_it old))
+-- The place of a document: the tenant's name, a slash and the key.
+abbrev pub IsPlace : List ℕ → ℕ → String Global → Type 0
+IsPlace tenant key place = string_bytes place ≡ tenant ++ (codes "/" ++ decimal key)
 
--- Pages are removed, one after another.
-pub data LosesPages (old : Pages) : Pages → Type 0 where
-  loses_none : LosesPages old old
-  loses_more : {mid new : Pages} → LosesPages old mid → LosesPage mid new → LosesPages old new
-
--- A page is inserted as the most recently used one, in place of the one that the test finds. Of the others the most
--- recently used stay, and no fewer than have room beside it.
-pub record InsertsPage (old new : Pages) : Type 0 where
-  pub is_it : String Global → Bool
-  pub place : String Global
+-- A page is inserted under a place as the most recently used one. Of the others the most recently used stay, and no fewer
+-- than have room beside it.
+pub record InsertsPage (place : String Global) (old new : Pages) : Type 0 where
   pub page : Kept (String Global)
   pub others : Entries (String Global) (String Global)
   pub gone : Entries (String Global) (String Global)
-  pub parts : remove_entry is_it old.entries ≡ others ++ gone
+  pub parts : remove_entry (string_eq place) old.entries ≡ others ++ gone
   pub needed : IsNeeded (old.bound - page.bytes) others gone
-  pub is : new ≡ with_entries old ((place, page) ∷ others)
+  pub is : new ≡ with_entries old ((stored_key string_eq place old.entries, page) ∷ others)
 
--- A page is inserted, or it is not taken, and nothing changes.
-abbrev pub TakesPage : Pages → Pages → Type 0
-TakesPage old new = (new ≡ old) ⊎ InsertsPage old new
-
--- A page becomes the most recently used one, or is then taken.
-abbrev pub UsesPage : Pages → Pages → Type 0
-UsesPage old new = (new ≡ old) ⊎ ((is_it : String Global → Bool) × TakesPage (used is_it old) new)
-
--- A page is removed, and may be inserted anew.
-abbrev pub RenewsPage : Pages → Pages → Type 0
-RenewsPage old new = (new ≡ old) ⊎ ((is_it : String Global → Bool) × TakesPage (without is_it old) new)
+-- A page is inserted under a place, or it is not taken, and nothing changes.
+abbrev pub TakesPage : String Global → Pages → Pages → Type 0
+TakesPage place old new = (new ≡ old) ⊎ InsertsPage place old new
 
 -- The bound is set. Of the pages the most recently used stay, and no fewer than have room.
 abbrev pub SetsBound : ℕ → Pages → Pages → Type 0
 SetsBound bytes old new = (gone : Entries (String Global) (String Global)) × (old.entries ≡ new.entries ++ gone)
     × IsNeeded bytes new.entries gone × (new ≡ bounded new.entries bytes old.measure)
 
--- What a request does to the pages. Only a request for a document or for the pages changes them.
-abbrev pub AnswersPages : Request → Pages → Pages → Type 0
-AnswersPages (asks.Close tenant) old new = LosesPages old new
-AnswersPages (asks.Put tenant key draft) old new = RenewsPage old new
-AnswersPages (asks.Get tenant key) old new = UsesPage old new
-AnswersPages (asks.Drop tenant key) old new = LosesPage old new
-AnswersPages (asks.Bound bytes) old new = SetsBound bytes old new
-AnswersPages asks.Clear old new = new ≡ with_entries old []
-AnswersPages _ old new = new ≡ old
+module _ {A E : Type 0} (result : Result A E) (old new : Pages) where
+  -- The pages change for the place of a document as P says. Where memory runs out before that, they are unchanged and an
+  -- error is returned.
+  abbrev pub ChangesAt : List ℕ → ℕ → (String Global → Type 0) → Type 0
+  ChangesAt tenant key P = (IsErr result × (new ≡ old)) ⊎ ((place : String Global) × IsPlace tenant key place × P place)
+
+  -- The page of a document is removed.
+  abbrev pub LosesPage : List ℕ → ℕ → Type 0
+  LosesPage tenant key = ChangesAt tenant key (λ place. new ≡ without (string_eq place) old)
+
+  -- The page of a document becomes the most recently used one, or is made and taken.
+  abbrev pub UsesPage : List ℕ → ℕ → Type 0
+  UsesPage tenant key = ChangesAt tenant key (λ place. TakesPage place (used (string_eq place) old) new)
+
+  -- The page of a document is removed, and may be taken anew.
+  abbrev pub RenewsPage : List ℕ → ℕ → Type 0
+  RenewsPage tenant key = ChangesAt tenant key (λ place. TakesPage place (without (string_eq place) old) new)
+
+-- The pages of the tenant's documents under these keys are removed, one after another.
+pub data LosesPages (tenant : List ℕ) (old : Pages) : List ℕ → Pages → Type 0 where
+  loses_none : LosesPages tenant old [] old
+  loses_more : {keys : List ℕ} {mid : Pages} (key : ℕ) (place : String Global) → LosesPages tenant old keys mid →
+      IsPlace tenant key place → LosesPages tenant old (keys ++ (key ∷ [])) (without (string_eq place) mid)
+
+module _ {A E : Type 0} (result : Result A E) (old new : Pages) where
+  -- The pages of the tenant's documents with an entry of the account are removed. Where an error is returned, those of
+  -- some may be left.
+  abbrev pub LosesPagesOf : List ℕ → Holding → Type 0
+  LosesPagesOf tenant account =
+      (keys : List ℕ) × LosesPages tenant old keys new × OnOk result (keys ≡ keys_of account.entries)
+
+  module _ (before after : Ledger) where
+    -- A document that is put has its page removed, which may be taken anew. Where nothing is entered into the ledger, the
+    -- pages are unchanged.
+    abbrev pub PutsPage : List ℕ → ℕ → Type 0
+    PutsPage tenant key = (IsUnchanged before after × (new ≡ old)) ⊎ RenewsPage result old new tenant key
+
+    -- What a request does to the pages, where the ledger was `before` and is `after` now. Only a request for a document or
+    -- for the pages changes them.
+    abbrev pub AnswersPages : Request → Type 0
+    AnswersPages (asks.Close tenant) = MatchOption (account_of tenant.now before) (new ≡ old) (LosesPagesOf tenant.now)
+    AnswersPages (asks.Put tenant key draft) = PutsPage tenant.now key
+    AnswersPages (asks.Get tenant key) = UsesPage result old new tenant.now key
+    AnswersPages (asks.Drop tenant key) = LosesPage result old new tenant.now key
+    AnswersPages (asks.Bound bytes) = SetsBound bytes old new
+    AnswersPages asks.Clear = new ≡ with_entries old []
+    AnswersPages _ = new ≡ old

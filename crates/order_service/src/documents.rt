@@ -1,4 +1,7 @@
 //! The documents of the service.
+ghost use Rattle.std.specs.Prelude.{IfOk};
+ghost use Rattle.order_service.specs.Answers.{IsNote, IsOrder};
+
 use allocative::IdRc;
 use std::alloc::{AllocError, Global};
 
@@ -31,7 +34,9 @@ pub struct Held {
 
 impl Note {
     /// A note with copies of the name and of the text.
-    pub fn new(alloc: Global, tenant: &str, key: u64, text: &str) -> Result<Note, AllocError> {
+    pub fn new(alloc: Global, tenant: &str, key: u64, text: &str) -> Result<Note, AllocError>
+        ensures { IfOk result (IsNote tenant.now key text.now) }
+    {
         Ok(Note {
             tenant: String::from_str(alloc, tenant)?,
             key,
@@ -53,7 +58,9 @@ impl Order {
         key: u64,
         catalogue: &IdRc<Vec<String>>,
         places: &str,
-    ) -> Result<Order, AllocError> {
+    ) -> Result<Order, AllocError>
+        ensures { IfOk result (IsOrder tenant.now key) }
+    {
         let mut items = Vec::new(alloc);
         for place in places.split(' ') {
             if let Ok(item) = place.parse::<usize>() {

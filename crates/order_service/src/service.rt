@@ -1,7 +1,7 @@
 //! A service that keeps documents of its tenants, within a limit for each, and says what it holds.
-ghost use Rattle.std.specs.Prelude.{◌≡◌};
-ghost use Rattle.allocative_service.specs.Entries.{with_entries};
-ghost use Rattle.order_service.specs.Answers.{AnswersLedger, AnswersPages, LosesPage, LosesPages, PutsDocument, RenewsPage, SetsBound, TakesPage, UsesPage};
+ghost use Rattle.std.specs.Prelude.{◌≡◌, MatchOption, Ok, IfErr, IfOk, OnErr, OnOk, false, is_some};
+ghost use Rattle.allocative_service.specs.Accounts.{IsUnchanged, account_of};
+ghost use Rattle.order_service.specs.Answers.{AnswersLedger, AnswersLimit, AnswersOpen, AnswersPages, ClosesAccount, EntersDocument, IsPlace, IsTold, LosesPage, LosesPagesOf, PutsDocument, PutsDraft, PutsPage, RejectsDocument, ReleasesDocument, RenewsPage, SetsBound, TakesPage, UsesPage, entered_bytes};
 
 use crate::documents::{Held, Note, Order};
 use crate::request::{Draft, Request};
@@ -13,7 +13,7 @@ use allocative_service::history::{History, report};
 use allocative_service::ledger::{Budget, Ledger, Rejection};
 use allocative_service::measure::Measure;
 use anyhow::Result;
-use std::alloc::Global;
+use std::alloc::{AllocError, Global};
 
 /// The documents, the pages that were last shown of them, an account for each tenant, and the last profiles.
 #[derive(Drop)]
@@ -49,11 +49,13 @@ impl Service {
     /// Does what is asked for, and prints what comes of it. An error ends the program: memory runs out, or a line is not
     /// printed.
     ///
-    /// Each account changes only as the request says, and then wholly, or not at all. The pages change only where the
-    /// request is one for a document or for them, and only `Bound` changes their bound.
+    /// The ledger changes as the request says, or the request is rejected and it stays as it is. The pages change only
+    /// where the request is one for a document or for them, and only `Bound` changes their bound.
     pub fn answer(&mut self, rt: &impl Print, request: &Request<'_>) -> Result<()>
-        ensures ledger { AnswersLedger request.now self.old.ledger self.new.ledger }
-        ensures pages { AnswersPages request.now self.old.pages self.new.pages }
+        ensures ledger { AnswersLedger result self.old.ledger self.new.ledger
+            ⟦<Note as Described>⟧.size ⟦<Order as Described>⟧.size
+            ⟦<Note as Allocative>⟧.may_show ⟦<Order as Allocative>⟧.may_show request.now }
+        ensures pages { AnswersPages result self.old.pages self.new.pages self.old.ledger self.new.ledger request.now }
     {
         match *request {
             Request::Open { tenant, limit } => self.open(rt, tenant, limit),
@@ -76,7 +78,7 @@ impl Service {
 
     /// Opens an account.
     fn open(&mut self, rt: &impl Print, tenant: &str, limit: usize) -> Result<()>
-        ensures ledger { AnswersLedger (Request.Open tenant.entry limit) self.old.ledger self.new.ledger }
+        ensures ledger { AnswersOpen result self.old.ledger self.new.ledger tenant.now limit }
         ensures pages { self.new.pages ≡ self.old.pages }
     {
         match self.ledger.open(tenant, Budget { limit }) {
@@ -87,7 +89,7 @@ impl Service {
 
     /// Changes the limit of a tenant.
     fn set_limit(&mut self, rt: &impl Print, tenant: &str, limit: usize) -> Result<()>
-        ensures ledger { AnswersLedger (Request.Limit tenant.entry limit) self.old.ledger self.new.ledger }
+        ensures ledger { AnswersLimit result self.old.ledger self.new.ledger tenant.now limit }
         ensures pages { self.new.pages ≡ self.old.pages }
     {
         match self.ledger.set_budget(tenant, Budget { limit }) {
@@ -98,8 +100,10 @@ impl Service {
 
     /// Admits a document and keeps it in place of the one that the key has.
     fn put(&mut self, rt: &impl Print, tenant: &str, key: u64, draft: Draft<'_>) -> Result<()>
-        ensures ledger { AnswersLedger (Request.Put tenant.entry key draft.entry) self.old.ledger self.new.ledger }
-        ensures pages { RenewsPage self.old.pages self.new.pages }
+        ensures ledger { PutsDraft result self.old.ledger self.new.ledger
+            ⟦<Note as Described>⟧.size ⟦<Order as Described>⟧.size
+            ⟦<Note as Allocative>⟧.may_show ⟦<Order as Allocative>⟧.may_show tenant.now key draft.entry }
+        ensures pages { PutsPage result self.old.pages self.new.pages self.old.ledger self.new.ledger tenant.now key }
     {
         match draft {
             Draft::Note(text) => {
@@ -131,7 +135,9 @@ impl Service {
         key: u64,
         document: &T,
     ) -> Result<bool>
-        ensures ledger { PutsDocument tenant.now key self.old.ledger self.new.ledger }
+        ensures ledger { PutsDocument result self.old.ledger self.new.ledger tenant.now key T.is_exact T.size
+            (T.may_show document.now) }
+        ensures unchanged { result ≡ Ok false → IsUnchanged self.old.ledger self.new.ledger }
         ensures pages { self.new.pages ≡ self.old.pages }
     {
         let answer = self.measure(tenant, key, document);
@@ -149,7 +155,11 @@ impl Service {
         key: u64,
         document: &T,
     ) -> Result<usize, Rejection>
-        ensures ledger { PutsDocument tenant.now key self.old.ledger self.new.ledger }
+        ensures entered { OnOk result
+            (EntersDocument tenant.now key T.size (T.may_show document.now) self.old.ledger self.new.ledger) }
+        ensures rejected { IfErr result
+            (RejectsDocument tenant.now key self.old.ledger T.is_exact T.size (T.may_show document.now)) }
+        ensures unchanged { OnErr result (IsUnchanged self.old.ledger self.new.ledger) }
         ensures pages { self.new.pages ≡ self.old.pages }
     {
         if self.has_entry(tenant, key) {
@@ -160,7 +170,9 @@ impl Service {
     }
 
     /// Whether the ledger has an entry of the tenant under the key.
-    fn has_entry(&self, tenant: &str, key: u64) -> bool {
+    fn has_entry(&self, tenant: &str, key: u64) -> bool
+        ensures { result ≡ is_some (entered_bytes tenant.now key self.now.ledger) }
+    {
         match self.ledger.accounts().get(tenant) {
             Some(account) => account.entries().contains_key(&key),
             None => false,
@@ -179,18 +191,18 @@ impl Service {
     /// Drops the document of a key and its page.
     fn forget_with_page(&mut self, tenant: &str, key: u64) -> Result<()>
         ensures ledger { self.new.ledger ≡ self.old.ledger }
-        ensures pages { LosesPage self.old.pages self.new.pages }
+        ensures pages { LosesPage result self.old.pages self.new.pages tenant.now key }
     {
         self.forget(tenant, key);
-        let place = format!(in self.alloc; "{tenant}/{key}")?;
+        let place = self.place_of(tenant, key)?;
         self.pages.remove(&place);
         Ok(())
     }
 
     /// Drops the document of a key, and gives its bytes back.
     fn remove(&mut self, rt: &impl Print, tenant: &str, key: u64) -> Result<()>
-        ensures ledger { AnswersLedger (Request.Drop tenant.entry key) self.old.ledger self.new.ledger }
-        ensures pages { LosesPage self.old.pages self.new.pages }
+        ensures ledger { ReleasesDocument tenant.now key self.old.ledger self.new.ledger }
+        ensures pages { LosesPage result self.old.pages self.new.pages tenant.now key }
     {
         match self.ledger.release(tenant, key) {
             Some(bytes) => println!(rt; "{tenant} gives {bytes} bytes back")?,
@@ -201,8 +213,9 @@ impl Service {
 
     /// Closes the account of a tenant, and drops its documents.
     fn close(&mut self, rt: &impl Print, tenant: &str) -> Result<()>
-        ensures ledger { AnswersLedger (Request.Close tenant.entry) self.old.ledger self.new.ledger }
-        ensures pages { LosesPages self.old.pages self.new.pages }
+        ensures ledger { ClosesAccount tenant.now self.old.ledger self.new.ledger }
+        ensures pages { MatchOption (account_of tenant.now self.old.ledger) (self.new.pages ≡ self.old.pages)
+            (LosesPagesOf result self.old.pages self.new.pages tenant.now) }
     {
         let Some(account) = self.ledger.close(tenant) else {
             println!(rt; "{}", Rejection::NoAccount)?;
@@ -218,9 +231,9 @@ impl Service {
     /// Shows a document by its page, which is kept for the next time.
     fn get(&mut self, rt: &impl Print, tenant: &str, key: u64) -> Result<()>
         ensures ledger { self.new.ledger ≡ self.old.ledger }
-        ensures pages { UsesPage self.old.pages self.new.pages }
+        ensures pages { UsesPage result self.old.pages self.new.pages tenant.now key }
     {
-        let place = format!(in self.alloc; "{tenant}/{key}")?;
+        let place = self.place_of(tenant, key)?;
         self.pages.promote(&place);
         if let Some(page) = self.pages.peek(&place) {
             println!(rt; "{page} (kept)")?;
@@ -233,6 +246,13 @@ impl Service {
             }
             None => Ok(println!(rt; "{tenant} has no document {key}")?),
         }
+    }
+
+    /// The place of the page of a document.
+    fn place_of(&self, tenant: &str, key: u64) -> Result<String, AllocError>
+        ensures { IfOk result (IsPlace tenant.now key) }
+    {
+        format!(in self.alloc; "{tenant}/{key}")
     }
 
     /// The page of a document.
@@ -253,7 +273,7 @@ impl Service {
     /// Keeps a page, and prints which pages go for it, or why it is not kept.
     fn keep_page(&mut self, rt: &impl Print, place: String, page: String) -> Result<()>
         ensures ledger { self.new.ledger ≡ self.old.ledger }
-        ensures pages { TakesPage self.old.pages self.new.pages }
+        ensures pages { TakesPage place self.old.pages self.new.pages }
     {
         let mut told = Ok(());
         let kept = self.pages.insert(place, page, |place: String, _page| {
@@ -271,26 +291,15 @@ impl Service {
     /// Replaces the page of a document that has changed, where it is kept, and prints which pages go for it.
     fn renew_page(&mut self, rt: &impl Print, tenant: &str, key: u64) -> Result<()>
         ensures ledger { self.new.ledger ≡ self.old.ledger }
-        ensures pages { RenewsPage self.old.pages self.new.pages }
+        ensures pages { RenewsPage result self.old.pages self.new.pages tenant.now key }
     {
-        let place = format!(in self.alloc; "{tenant}/{key}")?;
-        let Some(page) = self.page_of(tenant, key)? else {
+        let place = self.place_of(tenant, key)?;
+        if self.pages.remove(&place).is_none() {
             return Ok(());
-        };
-        let mut told = Ok(());
-        let changed = self.pages.change(
-            &place,
-            |old: &mut String| *old = page,
-            |place: String, _page| {
-                if told.is_ok() {
-                    told = println!(rt; "page {place} goes");
-                }
-            },
-        );
-        told?;
-        match changed {
-            Ok(_is_there) => Ok(()),
-            Err(refused) => tell_page(rt, refused.error),
+        }
+        match self.page_of(tenant, key)? {
+            Some(page) => self.keep_page(rt, place, page),
+            None => Ok(()),
         }
     }
 
@@ -384,7 +393,9 @@ impl Service {
 }
 
 /// Prints why something is not admitted. Where memory runs out, the program ends.
-fn tell(rt: &impl Print, rejection: Rejection) -> Result<()> {
+fn tell(rt: &impl Print, rejection: Rejection) -> Result<()>
+    ensures { OnOk result (IsTold rejection) }
+{
     match rejection {
         Rejection::NotKept | Rejection::NotMeasured(Refusal::Memory) => Err(rejection.into()),
         _ => Ok(println!(rt; "{rejection}")?),
