@@ -1,5 +1,6 @@
-//! Tests of worked examples that need code: values, hostile implementations, visitors that are forgotten, and the
-//! public calls of `allocative` that the rows of `worked_entries` do not make.
+//! Tests of keys, identities, graphs and pictures, and of worked examples that need code: values, hostile
+//! implementations, visitors that are forgotten, and the public calls of `allocative` that the rows of
+//! `worked_entries` do not make.
 #![tactic(auto)]
 
 #[cfg(test)]
@@ -15,11 +16,19 @@ mod expected;
 #[cfg(test)]
 mod failed;
 #[cfg(test)]
+mod graphs;
+#[cfg(test)]
 mod held;
 #[cfg(test)]
 mod huge;
 #[cfg(test)]
+mod made_graphs;
+#[cfg(test)]
 mod own_types;
+#[cfg(test)]
+mod pictures;
+#[cfg(test)]
+mod reads;
 #[cfg(test)]
 mod room;
 #[cfg(test)]

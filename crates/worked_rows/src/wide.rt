@@ -1,6 +1,7 @@
 //! Nodes with few and with many children, which are entered in rising, falling and mixed order, one by one and at once.
 ghost use Rattle.std.specs.Prelude.{◌<◌};
 
+use crate::made_graphs::own;
 use allocative::{Child, FlameGraph, FlameGraphBuilder, Key, Refusal, Visitor};
 use std::alloc::{AllocError, Global};
 use std::test::Fail;
@@ -103,18 +104,12 @@ fn text_of_entries(alloc: Global, keys: &[&'static str], order: Order) -> Result
     builder.finish_and_write_flame_graph()
 }
 
-fn leaf(alloc: Global, size: usize) -> Result<FlameGraph, Refusal> {
-    let mut graph = FlameGraph::default(alloc);
-    graph.add_self(size)?;
-    Ok(graph)
-}
-
 /// The text of a graph to which the children are added one by one.
 fn text_one_by_one(alloc: Global, keys: &[&'static str], order: Order) -> Result<String, Refusal> {
     let mut graph = FlameGraph::default(alloc);
     for turn in 0..keys.len() {
         let place = place_at(turn, keys.len(), order);
-        graph.add_child(Key::new(keys[place]), leaf(alloc, place.wrapping_add(1))?)?;
+        graph.add_child(Key::new(keys[place]), own(alloc, place.wrapping_add(1))?)?;
     }
     graph.write()
 }
@@ -128,7 +123,7 @@ fn push_children(
 ) -> Result<(), Refusal> {
     for turn in 0..keys.len() {
         let place = place_at(turn, keys.len(), order);
-        let graph = leaf(alloc, place.wrapping_add(1))?;
+        let graph = own(alloc, place.wrapping_add(1))?;
         let key = Key::new(keys[place]);
         list.push(Child { key, graph })?;
     }
