@@ -7,6 +7,7 @@ import os
 import re
 from collections.abc import Iterator
 
+from gate.edits import Unreadable, read_edit
 from gate.page import Row, rows_of, with_numbers
 from gate.sources import Call, Crate
 
@@ -147,6 +148,15 @@ def wrong_first_line(all_of: Repository, body: WrongBody) -> str:
     return f"it names no clause of {', '.join(sorted(clauses))}" if clauses and "" not in clauses else ""
 
 
+def wrong_text(top: str, body: WrongBody) -> str:
+    """Says why a wrong body cannot be put in the place of the text that stands in the sources."""
+    try:
+        read_edit(body.crate, os.path.join(top, "crates", body.crate), os.path.join(top, body.path))
+    except Unreadable as why:
+        return str(why)
+    return ""
+
+
 def check_paths(all_of: Repository) -> Iterator[Check]:
     """Looks for each file and folder that the page names."""
     for path in sorted(set(PATH.findall(all_of.text))):
@@ -168,6 +178,6 @@ def checks_of(all_of: Repository) -> Iterator[Check]:
         yield from check_row(all_of, row)
         yield from check_number(all_of, row)
     for body in all_of.wrong_bodies:
-        yield body.path, wrong_first_line(all_of, body)
+        yield body.path, wrong_first_line(all_of, body) or wrong_text(all_of.top, body)
     yield from check_paths(all_of)
     yield from check_names(all_of)

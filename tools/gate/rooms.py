@@ -1,12 +1,15 @@
 """Copies of a repository in which checks run, so that nothing is kept in the repository itself."""
 
+import contextlib
+import heapq
+import math
 import os
 import re
 import shutil
 import signal
 import subprocess
 import threading
-from collections.abc import Iterable
+from collections.abc import Iterable, Iterator
 
 from gate.verdicts import Check
 
@@ -62,6 +65,36 @@ def link(folder: str, to: str) -> None:
     shutil.copytree(folder, to, symlinks=True, copy_function=copy)
 
 
+class Lanes:
+    """So many commands run side by side. Of those that wait, the one with the greatest weight goes first."""
+
+    def __init__(self, count: int) -> None:
+        self.free, self.changed = count, threading.Condition()
+        self.waiting: list[tuple[float, int]] = []
+        self.numbers = iter(range(1_000_000))
+
+    def add(self) -> None:
+        """Adds a lane, or gives one back."""
+        with self.changed:
+            self.free += 1
+            self.changed.notify_all()
+
+    @contextlib.contextmanager
+    def lane(self, weight: float) -> Iterator[None]:
+        """Waits for a lane, and has it until the block ends."""
+        with self.changed:
+            own = (-weight, next(self.numbers))
+            heapq.heappush(self.waiting, own)
+            self.changed.wait_for(lambda: self.free > 0 and self.waiting[0] == own)
+            heapq.heappop(self.waiting)
+            self.free -= 1
+            self.changed.notify_all()
+        try:
+            yield
+        finally:
+            self.add()
+
+
 class Rooms:
     """The copies of one run. `base` has the crates as they stand. Each library is built in a room of its own, since builds
     in one repository wait for one another."""
@@ -69,7 +102,7 @@ class Rooms:
     def __init__(self, top: str, work: str, jobs: int, logs: str | None = None) -> None:
         self.work, self.base, self.logs = work, os.path.join(work, "base"), logs
         self.libraries = libraries_of(top)
-        self.lanes = threading.Semaphore(jobs)
+        self.lanes = Lanes(jobs)
         self.seconds = 0.0
         self.numbers = iter(range(1_000_000))
         self.building = {it: threading.Lock() for it in self.libraries}
@@ -91,9 +124,14 @@ class Rooms:
     def is_program(self, crate: str) -> bool:
         return os.path.isfile(f"{self.base}/crates/{crate}/src/main.rt")
 
-    def run(self, command: list[str], folder: str) -> Check:
+    def weight_of(self, crate: str) -> int:
+        """How long a check of a crate takes, beside others: the bytes that it reads of the crate itself."""
+        files = (os.path.join(folder, it) for folder, _, names in os.walk(f"{self.base}/crates/{crate}") for it in names)
+        return sum(map(os.path.getsize, files))
+
+    def run(self, command: list[str], folder: str, weight: float) -> Check:
         """Runs a command in a lane of its own, and once more where it was killed, most likely for memory."""
-        with self.lanes:
+        with self.lanes.lane(weight):
             check = run(command, folder)
             if check.status == -signal.SIGKILL:
                 check = run(command, folder)
@@ -119,7 +157,7 @@ class Rooms:
                 is_ready = all([self.build(it) for it in below(self.libraries, crate)])
                 if is_ready:
                     self.furnish(f"{self.work}/of-{crate}", crate)
-                    is_ready = self.run(["rt", "lib", "--jobs", "1"], self.folder_of(crate)).status == 0
+                    is_ready = self.run(["rt", "lib", "--jobs", "1"], self.folder_of(crate), math.inf).status == 0
                 self.built[crate] = is_ready
             return self.built[crate]
 
@@ -137,7 +175,7 @@ class Rooms:
             changed = {at: line for (of, at), line in lines.items() if of == file}
             with open(f"{folder}/{file}", "w", encoding="utf-8") as source:
                 source.write("\n".join(changed.get(at, line) for at, line in enumerate(text)))
-        check = self.run([*LAST, "rt", "check", "--jobs", "1"], folder)
+        check = self.run([*LAST, "rt", "check", "--jobs", "1"], folder, self.weight_of(crate))
         if self.logs:
             with open(f"{self.logs}/{crate}-{number}", "w", encoding="utf-8") as log:
                 log.write(check.output)

@@ -113,6 +113,7 @@ FAULTS = {
     "a first line of no function": ("crates/counts/must-fail/next_is_the_same.edit", "# next", "# hidden", "hidden has no row"),
     "a first line with another clause": ("crates/counts/wrong-bodies/step_of_none.edit", "up", "down", "Vec::step has no clause down"),
     "a first line without its clause": ("crates/counts/wrong-bodies/step_of_none.edit", ": up", "", "it names no clause of bound, up"),
+    "a text that is not in its file": ("crates/counts/must-fail/next_is_the_same.edit", "it + 1", "it + 2", "is in src/steps.rt 0 times"),
     "a public name that is private": (NAMES, "Tree::leaves", "Tree::depth", "Tree::depth: it is not declared"),
 }
 
