@@ -15,6 +15,8 @@ from gate.verdicts import Check
 
 # Before a command that gets what other commands leave of the processors: the proofs that all else waits for go first.
 LAST = ["nice", "-n", "19"]
+# More than the bytes of any crate.
+WEIGHT_OF_A_PROGRAM = 2**40
 # The folders of a crate that a check reads.
 PARTS = ("src", "specs", "proofs", "c")
 
@@ -125,9 +127,10 @@ class Rooms:
         return os.path.isfile(f"{self.base}/crates/{crate}/src/main.rt")
 
     def weight_of(self, crate: str) -> int:
-        """How long a check of a crate takes, beside others: the bytes that it reads of the crate itself."""
+        """How early a check of a crate goes: by the bytes that it reads of the crate itself, and a program's before all those of
+        libraries, since its first check begins from nothing and the others wait for it."""
         files = (os.path.join(folder, it) for folder, _, names in os.walk(f"{self.base}/crates/{crate}") for it in names)
-        return sum(map(os.path.getsize, files))
+        return sum(map(os.path.getsize, files)) + (WEIGHT_OF_A_PROGRAM if self.is_program(crate) else 0)
 
     def run(self, command: list[str], folder: str, weight: float) -> Check:
         """Runs a command in a lane of its own, and once more where it was killed, most likely for memory."""
