@@ -1,19 +1,11 @@
 -- Lemmas for the helpers of slices, and for the parts of buffers and tables.
 use Rattle.std.proofs.Common.{codes, if◌then◌else◌, Bool, true, false, length, List, Option, None, Some, ◌≡◌, ℕ, ◌+◌, ◌-◌, ◌*◌, ◌<◌, ◌≤◌, ◌^◌, Result, inl, inr, subst, arith}
+use Rattle.allocative.proofs.Common.{checked, Refusal, Key, Forest, Kind, Showing, Nothing, Both, Inside, InsideUnique, Field, IsField, sized, each_shows, slice_shows, are_shown_each, bytes_shown, without_size, without_room, with_room, buffer_shows, some_buffer_shows, table_shows, IsDeclared, CanTake, Visitor, Entered, Means}
 use Rattle.std.proofs.lemmas.Bool.{false≢true}
 use Rattle.std.proofs.lemmas.Bool.Decides.{nat_tests}
-use Rattle.allocative_described.specs.Sizes.{checked}
 use Rattle.allocative_described.specs.RawTable.{IsRawTableSize}
 use Rattle.allocative_described.proofs.Buckets.{raw_table_size_same}
-use Rattle.allocative_graph.specs.declared.refusal.Refusal.{Refusal}
-use Rattle.allocative_graph.specs.Path.{Key}
-use Rattle.allocative_graph.specs.Forest.{Forest}
-use Rattle.allocative_graph.specs.Collector.{Kind}
-use Rattle.allocative_graph.specs.Shows.{Showing, Nothing, Both, Inside, InsideUnique, Field, IsField, sized, each_shows, slice_shows}
-use Rattle.allocative.specs.Bodies.{are_shown_each, bytes_shown, buffer_entry, without_size, without_room, with_room, buffer_shows, some_buffer_shows, is_text, text_shows, some_text_shows, table_shows}
-use Rattle.allocative.specs.Exact.{IsDeclared, CanTake}
-use Rattle.allocative.specs.declared.visitor.Visitor.{Visitor}
-use Rattle.allocative.specs.Visited.{Entered, Means}
+use Rattle.allocative.specs.Bodies.{buffer_entry, is_text, text_shows, some_text_shows}
 use Rattle.allocative.proofs.Exact.{declared_nothing, declared_entry, entry_fits, rightly_as}
 use Rattle.allocative.proofs.Showing.{shows_weaker}
 use Rattle.allocative.proofs.Meaning.{entered_as}

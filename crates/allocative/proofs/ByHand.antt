@@ -1,14 +1,6 @@
 -- What a visit shows that takes the collector out of its visitor and enters by hand.
 use Rattle.std.proofs.Common.{◌≡◌, ℕ, suc, Bool, true, false, Result, Ok, refl, ap, subst, arith}
-use Rattle.allocative_graph.specs.declared.refusal.Refusal.{Refusal}
-use Rattle.allocative_graph.specs.Path.{Key}
-use Rattle.allocative_graph.specs.Identity.{Identity}
-use Rattle.allocative_graph.specs.Collector.{Live, State}
-use Rattle.allocative_graph.specs.Shows.{Showing, Both}
-use Rattle.allocative_graph.specs.Visits.{Shows, forgotten, EntersShared, enters_first}
-use Rattle.allocative.specs.declared.visitor.Visitor.{Visitor}
-use Rattle.allocative.specs.Nested.{with_state}
-use Rattle.allocative.specs.Visited.{Visited, Entered}
+use Rattle.allocative.proofs.Common.{Refusal, Key, Identity, Live, State, Showing, Both, Shows, forgotten, EntersShared, enters_first, Visitor, with_state, Visited, Entered}
 use Rattle.allocative.proofs.Exact.{inexact}
 use Rattle.allocative.proofs.Showing.{shows_both}
 

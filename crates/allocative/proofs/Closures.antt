@@ -1,17 +1,9 @@
 -- What a caller of `visit_field_with` learns from the closure's outcome.
 use Rattle.std.proofs.Common.{◌≡◌, ℕ, Bool, Result, Ok, Err, MutBor, IsErr, false, subst, refl}
+use Rattle.allocative.proofs.Common.{Refusal, Key, Forest, held, ShowsNoContent, State, Going, OfHeld, nothing_held, left, Showing, Inside, Shows, Enters, Leaves, Settles, Visitor, called, refused_inside, IsHeldSum}
 use Rattle.std.specs.Fn.{Once}
 use Rattle.std.proofs.lemmas.Bool.{false≢true}
-use Rattle.allocative_graph.specs.declared.refusal.Refusal.{Refusal}
-use Rattle.allocative_graph.specs.Path.{Key}
-use Rattle.allocative_graph.specs.Forest.{Forest}
-use Rattle.allocative_graph.specs.Held.{held, ShowsNoContent}
-use Rattle.allocative_graph.specs.Collector.{State, Going, OfHeld, nothing_held, left}
-use Rattle.allocative_graph.specs.Shows.{Showing, Inside}
-use Rattle.allocative_graph.specs.Visits.{Shows, Enters, Leaves, Settles}
-use Rattle.allocative.specs.declared.visitor.Visitor.{Visitor}
-use Rattle.allocative.specs.Closures.{CallShows, CallsInside, not_called, called, refused_inside, CalledAtRoot, AnswersSum, after_told}
-use Rattle.allocative.specs.Steps.{IsHeldSum}
+use Rattle.allocative.specs.Closures.{CallShows, CallsInside, not_called, CalledAtRoot, AnswersSum, after_told}
 use Rattle.allocative.proofs.Showing.{left_by, inline_shows, entry_err, not_entered, shows_refused_err}
 use Rattle.allocative.proofs.Steps.{leaves_by_left}
 use Rattle.allocative.proofs.Roots.{run_shows, held_by_run}

@@ -1,14 +1,11 @@
 -- How the showing of a container follows from its parts.
 use Rattle.std.proofs.Common.{codes, ◌≡◌, ℕ, Bool, true, false, List, ◌++◌, Option, None, Some, refl, subst}
+use Rattle.allocative.proofs.Common.{Key, Forest, Showing, Nothing, Both, InsideUnique, each_shows, slice_shows, IsBuffer, without_size, without_room, with_room, buffer_shows, bytes_shown, table_shows, IsDeclared, Means}
 use Rattle.std.proofs.lemmas.Bool.{false≢true}
 use Rattle.smallvec.specs.SmallVec.{SmallVec, IsSpilled}
-use Rattle.allocative_graph.specs.Path.{Key}
-use Rattle.allocative_graph.specs.Forest.{Forest}
-use Rattle.allocative_graph.specs.Shows.{Showing, Nothing, Both, InsideUnique, is_shown_each, each_shows, slice_shows}
-use Rattle.allocative.specs.Bodies.{IsBuffer, without_size, without_room, with_room, buffer_shows, bytes_shown, cut_shows, is_cut, data_shows, table_shows}
+use Rattle.allocative_graph.specs.Shows.{is_shown_each}
+use Rattle.allocative.specs.Bodies.{cut_shows, is_cut, data_shows}
 use Rattle.allocative.specs.PackShows.{once_inside, is_not_set, is_set, small_vec_inside, lies_inline, is_spilled, index_data_shows, IsIndexData, is_index_data}
-use Rattle.allocative.specs.Exact.{IsDeclared}
-use Rattle.allocative.specs.Visited.{Means}
 use Rattle.allocative.proofs.Exact.{declared_first, declared_second, declared_both, declared_inside, declared_entry, declared_nothing, each_append, declared_append}
 use Rattle.allocative.proofs.Meaning.{means_same}
 

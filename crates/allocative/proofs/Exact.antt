@@ -1,20 +1,18 @@
 -- How visits that refuse only where they must compose: one after another, inside an entry, and as a shared content.
 use Rattle.std.proofs.Common.{◌≡◌, ℕ, ◌+◌, ◌<◌, ◌≤◌, ◌^◌, Bool, true, false, IsTrue, cond, List, [], ◌∷◌, ◌++◌, flat_map, Option, Some, None, inl, inr, Result, Ok, Err, refl, sym, ◌∙◌, ap, subst, arith}
+use Rattle.allocative.proofs.Common.{Refusal, Memory, TooLarge, Key, Identity, Forest, Empty, First, Again, followed_by, entry_of, add_all, held, Live, Kind, OfGraph, OfHeld, State, Failed, Going, plus, enter, enter_first, Takes, is_graph, is_in_unique, leave, left, failed_with, Showing, Nothing, Both, InsideAs, Inside, sized, Field, SharedWith, each_shows, HasFailed, Enters, stays_failed, is_refused, is_entered, EntersSized, stays_unsized, is_unsized, is_sized, EntersShared, stays_shared, is_refused_shared, goes_past, enters_first, enters_again, all_bytes, HasRoomFor, ShowsContents, IsDeclared, CanTake, MayRefuse, RefusesRightly, has_added, has_refused}
 use Rattle.std.proofs.lemmas.Bool.{false≢true}
 use Rattle.std.proofs.lemmas.Grind.{flat_map-append}
-use Rattle.allocative_graph.specs.declared.refusal.Refusal.{Refusal}
-use Rattle.allocative_graph.specs.declared.refusal.Refusal.TheVariants.{Memory, TooLarge, Open}
-use Rattle.allocative_graph.specs.Path.{Key, Path}
-use Rattle.allocative_graph.specs.Identity.{Identity}
-use Rattle.allocative_graph.specs.Forest.{Forest, Empty, Inline, Unique, First, Again, Bag, own_behind, contents, content_entries, followed_by, entry_of}
-use Rattle.allocative_graph.specs.Sums.{Sums, entered, add, add_all}
-use Rattle.allocative_graph.specs.Held.{held, inline_bytes}
-use Rattle.allocative_graph.specs.Collector.{Live, Kind, OfGraph, OfHeld, State, Failed, Going, added, plus, plus_live, enter, enter_first, Takes, is_graph, is_in_unique, leave, left, failed_with}
-use Rattle.allocative_graph.specs.Shows.{Showing, Nothing, Both, InsideAs, Inside, sized, Field, SharedWith, each_shows}
-use Rattle.allocative_graph.specs.Visits.{HasFailed, HasRoom, Refuses, Enters, stays_failed, is_refused, is_entered, EntersSized, stays_unsized, is_unsized, is_sized, EntersShared, stays_shared, is_refused_shared, goes_past, enters_first, enters_again}
+use Rattle.allocative_graph.specs.declared.refusal.Refusal.TheVariants.{Open}
+use Rattle.allocative_graph.specs.Path.{Path}
+use Rattle.allocative_graph.specs.Forest.{Inline, Unique, Bag, own_behind, contents, content_entries}
+use Rattle.allocative_graph.specs.Sums.{Sums, entered, add}
+use Rattle.allocative_graph.specs.Held.{inline_bytes}
+use Rattle.allocative_graph.specs.Collector.{added, plus_live}
+use Rattle.allocative_graph.specs.Visits.{HasRoom, Refuses}
 use Rattle.allocative_graph.proofs.Below.{entered-add}
 use Rattle.allocative_graph.proofs.Plus.{plus-nothing, plus-following, takes_nothing, takes_both, inside_entry, takes_entry, inside_first, takes_shared, held_again, is_graph-plus, is_graph-enter}
-use Rattle.allocative.specs.Exact.{all_bytes, FitsWords, HasRoomFor, ShowsContents, IsDeclared, CanTake, MayRefuse, RefusesRightly, had_failed, has_added, has_refused}
+use Rattle.allocative.specs.Exact.{FitsWords, had_failed}
 
 -- ---- the bytes of all entries
 abbrev bag_bytes : Bag → ℕ

@@ -1,21 +1,15 @@
 -- JSON values: what a value shows with the room that it has, it shows of the data that it stands for.
 use Rattle.std.proofs.Common.{String, Global, Vec, ℕ, zero, suc, ◌≡◌, ◌≤◌, false, List, [], ◌∷◌, Some, length, string_bytes, string_capacity, vec_capacity, refl, sym, ap, subst, arith, rules}
+use Rattle.allocative.proofs.Common.{out-Value, the_lemmas, Value-F, Forest, Showing, Both, each_shows, buffer_shows, some_buffer_shows, levels_shown, pair_shows, stored_string, Means}
 use Rattle.std.proofs.lemmas.Bool.{false≢true}
 use Rattle.std.specs.BTreeMap.{BTreeMap}
 use Rattle.serde_json.specs.Data.{null, boolean, number, string, array, object}
 use Rattle.serde_json.specs.View.{view, number_view, items_view, members_view}
 use Rattle.serde_json.specs.declared.number.Number.{Number}
 use Rattle.serde_json.specs.declared.value.Value as json
-use Rattle.serde_json.specs.declared.value.Value.{Value, roll-Value, out-Value, roll-out-Value, the_lemmas}
-use Rattle.serde_json.specs.declared.value.Value.TheOpen.{Value-F}
+use Rattle.serde_json.specs.declared.value.Value.{Value, roll-Value, roll-out-Value}
 use Rattle.serde_json.specs.declared.value.Value.TheVariants as variants
-use Rattle.allocative_graph.specs.Forest.{Forest}
-use Rattle.allocative_graph.specs.Shows.{Showing, Both, each_shows}
-use Rattle.allocative.specs.Bodies.{buffer_shows, some_buffer_shows}
-use Rattle.allocative.specs.Levels.{levels_shown}
-use Rattle.allocative.specs.Runs.{pair_shows}
-use Rattle.allocative.specs.JsonShows.{json_level, stored_value, stored_string, string_shows, items_show, items_count, value_shows, members_show}
-use Rattle.allocative.specs.Visited.{Means}
+use Rattle.allocative.specs.JsonShows.{json_level, stored_value, string_shows, items_show, items_count, value_shows, members_show}
 use Rattle.allocative.proofs.Meaning.{means_same, means_both, means_inside, means_unique, means_field}
 use Rattle.allocative.proofs.ContainerMeaning.{means_buffer}
 use Rattle.allocative.proofs.Levels.{means_each}

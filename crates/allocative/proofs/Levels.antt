@@ -1,15 +1,10 @@
 -- What a level shows of values of any number of levels is what a value of any number of levels shows.
 use Rattle.std.proofs.Common.{◌≡◌, ℕ, Bool, true, false, codes, zero, suc, ◌+◌, ◌-◌, List, [], ◌∷◌, Option, None, Some, refl, arith}
+use Rattle.allocative.proofs.Common.{Key, Forest, Showing, IsField, sized, each_shows, InsideAs, Both, IsBuffer, bytes_shown, without_size, without_room, with_room, in_any_order, IsDeclared, ShowsContents, Means, levels_shown}
 use Rattle.std.proofs.Math.Nat.{add_comm}
 use Rattle.std.proofs.lemmas.Bool.{false≢true}
-use Rattle.allocative_graph.specs.Path.{Key}
-use Rattle.allocative_graph.specs.Forest.{Forest}
-use Rattle.allocative_graph.specs.Shows.{Showing, IsField, sized, each_shows, InsideAs, Both}
-use Rattle.allocative.specs.Bodies.{IsBuffer, bytes_shown, without_size, without_room, with_room}
-use Rattle.allocative.specs.StdShows.{option_inside, in_any_order}
-use Rattle.allocative.specs.Exact.{IsDeclared, ShowsContents}
-use Rattle.allocative.specs.Visited.{Means}
-use Rattle.allocative.specs.Levels.{Level, plain, child, both, inside, unique, field, buffer, optional, each, unordered, level_shows, levels_shown, recursive}
+use Rattle.allocative.specs.StdShows.{option_inside}
+use Rattle.allocative.specs.Levels.{Level, plain, child, both, inside, unique, field, buffer, optional, each, unordered, level_shows, recursive}
 use Rattle.allocative.proofs.Meaning.{means_same, means_inside, means_unique, means_field, means_both}
 use Rattle.allocative.proofs.ContainerMeaning.{means_buffer}
 

@@ -1,17 +1,9 @@
 -- How entries are made one after another and inside each other, by calls that visit no part.
 use Rattle.std.proofs.Common.{ℕ, Bool, true, false, List, [], ◌∷◌, ◌++◌, length, ◌≡◌, Option, None, Some, Result, Ok, Err, IsErr, refl, sym, ◌∙◌, subst, ap, arith, length-append}
+use Rattle.allocative.proofs.Common.{Yields, size_product, Refusal, Key, Kind, State, Failed, Going, left, HasFailed, is_entered, EntersSized, is_sized, Leaves, leaves_failed, leaves_going, are_shown_each, CountsRun, Plan, Done, Entry, one, Makes, made_none, made, entry_refused, inside_refused, MakesOrGives, makes, gives, state_of}
 use Rattle.std.proofs.lemmas.Bool.{false≢true}
 use Rattle.std.proofs.lemmas.Iterator.{YieldsList}
-use Rattle.std.specs.Iterator.{Yields}
-use Rattle.allocative_described.specs.Sizes.{size_product}
-use Rattle.allocative_graph.specs.declared.refusal.Refusal.{Refusal}
-use Rattle.allocative_graph.specs.Path.{Key}
-use Rattle.allocative_graph.specs.Collector.{Kind, State, Failed, Going, left}
-use Rattle.allocative_graph.specs.Visits.{HasFailed, is_entered, EntersSized, is_sized, Leaves, leaves_failed, leaves_going}
-use Rattle.allocative.specs.Bodies.{are_shown_each}
-use Rattle.allocative.specs.Runs.{CountsRun}
-use Rattle.allocative.specs.Making.{Plan, Done, Entry, one, followed_by_plan, Makes, had_failed, made_none, made, entry_refused, inside_refused, slice_plan, MakesOrGives, makes, gives, MakesRun, counted, in_turn}
-use Rattle.allocative.specs.Kinds.{state_of}
+use Rattle.allocative.specs.Making.{followed_by_plan, had_failed, slice_plan, MakesRun, counted, in_turn}
 use Rattle.allocative.proofs.Closures.{err_or}
 use Rattle.allocative.proofs.Showing.{not_sized_cause, left_by}
 

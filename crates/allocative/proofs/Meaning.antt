@@ -1,15 +1,8 @@
 -- How the showing of a value follows from the part that enters it, word by word.
 use Rattle.std.proofs.Common.{◌≡◌, ℕ, Bool, true, false, ◌&&◌, IsTrue, Option, Some, None, Result, inl, inr, List, [], ◌∷◌, ◌++◌, ◌∙◌, Ok, Err, refl}
+use Rattle.allocative.proofs.Common.{Refusal, TooLarge, Key, Identity, Forest, Showing, Nothing, Both, InsideAs, Inside, InsideUnique, Field, IsField, sized, SharedWith, each_shows, IsDeclared, Visitor, Visited, Entered, Means, OnlyIf}
 use Rattle.std.proofs.lemmas.Bool.{false≢true}
-use Rattle.allocative_graph.specs.declared.refusal.Refusal.{Refusal}
-use Rattle.allocative_graph.specs.declared.refusal.Refusal.TheVariants.{TooLarge}
-use Rattle.allocative_graph.specs.Path.{Key}
-use Rattle.allocative_graph.specs.Identity.{Identity}
-use Rattle.allocative_graph.specs.Forest.{Forest}
-use Rattle.allocative_graph.specs.Shows.{Showing, Nothing, Both, InsideAs, Inside, InsideUnique, Field, IsField, sized, SharedWith, each_shows}
-use Rattle.allocative.specs.Exact.{IsDeclared}
-use Rattle.allocative.specs.declared.visitor.Visitor.{Visitor}
-use Rattle.allocative.specs.Visited.{Visited, Entered, Refused, Means, OnlyIf}
+use Rattle.allocative.specs.Visited.{Refused}
 use Rattle.allocative.proofs.Exact.{declared_first, declared_second, declared_both, declared_inside, declared_entry, declared_content, declared_shared, rightly_nothing, rightly_weaker, rightly_snoc, rightly_refused, rightly_undeclared, inexact}
 use Rattle.allocative.proofs.Showing.{shows_weaker, shows_nothing, shows_refused, shows_refused_err, shows_snoc}
 

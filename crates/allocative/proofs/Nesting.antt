@@ -1,8 +1,7 @@
 -- What the calls that return a nested visitor pass on: the rows of their types, and the facts that a call of the
 -- collector states of what was lent.
-use Rattle.std.proofs.Common.{◌≡◌, ℕ, Option, None, Some, Bool, true, false, refl, sym, ap, subst}
-use Rattle.std.specs.Prelude.{Result, Ok, Err, IfOk, IfErr, IfSome, OnOk, OnErr}
-use Rattle.std.specs.Borrow.{name_if_ok}
+use Rattle.std.proofs.Common.{◌≡◌, ℕ, Option, None, Some, Bool, true, false, refl, sym, ap, subst, Result, Ok, Err, IfOk, IfErr, IfSome, OnOk, OnErr}
+use Rattle.allocative.proofs.Common.{name_if_ok, Refusal, Key, State, Failed, Identity, Enters, EntersSized, EntersShared, enters_first, Answers, Visitor, with_state, EndsWith, EndsWithout, AnswersShared, told, turned}
 use contract.Lifetimes.{Lfts}
 use denote.Builtin.{usize}
 use denote.RattleType.{RattleType}
@@ -11,14 +10,8 @@ use denote.Param.Shared.{copy_shared}
 use denote.Struct.Field.{usize-field}
 use denote.Struct.Laws.{usize-laws, usize-copy}
 use denote.Signature.{named_lft}
-use Rattle.allocative_graph.specs.declared.refusal.Refusal.{Refusal}
-use Rattle.allocative_graph.specs.Path.{Key}
-use Rattle.allocative_graph.specs.Collector.{State, Failed}
-use Rattle.allocative_graph.specs.Identity.{Identity}
-use Rattle.allocative_graph.specs.Visits.{Enters, EntersSized, EntersShared, enters_first, Answers}
-use Rattle.allocative.specs.declared.visitor.Visitor.{Visitor}
-use Rattle.allocative.specs.Nested.{with_state, name_in, EndsWith, EndsWithout}
-use Rattle.allocative.specs.Shared.{AnswersShared, told, turned, answered}
+use Rattle.allocative.specs.Nested.{name_in}
+use Rattle.allocative.specs.Shared.{answered}
 use Rattle.allocative_graph.specs.contracts.refusal.Refusal as refusal
 use Rattle.std.specs.contracts.option.Option as option
 use Rattle.std.specs.contracts.result.Result as result

@@ -1,15 +1,11 @@
 -- A root that is refused after others: it may be refused only where the whole list of roots may be.
 use Rattle.std.proofs.Common.{◌≡◌, ℕ, ◌+◌, ◌<◌, ◌^◌, List, [], ◌∷◌, ◌++◌, length, take, drop, get_or, Bool, true, false, IsTrue, IsErr, Result, Ok, Err, refl, ap, sym, subst, ◌∙◌}
+use Rattle.allocative.proofs.Common.{Refusal, Forest, Kind, OfGraph, OfHeld, State, Failed, Going, plus, is_graph, begin, Showing, Both, each_shows, Runs, all_bytes, HasRoomFor, CanTake, MayRefuse, RunsRightly}
 use Rattle.std.specs.List.{list_all}
 use Rattle.std.proofs.lemmas.Bool.{false≢true}
 use Rattle.std.proofs.lemmas.List.Folds.{list_all_at}
-use Rattle.allocative_graph.specs.declared.refusal.Refusal.{Refusal}
-use Rattle.allocative_graph.specs.Forest.{Forest}
-use Rattle.allocative_graph.specs.Collector.{Kind, OfGraph, OfHeld, State, Failed, Going, plus, is_graph, begin, go}
-use Rattle.allocative_graph.specs.Shows.{Showing, Both, each_shows}
-use Rattle.allocative_graph.specs.Visits.{Runs}
+use Rattle.allocative_graph.specs.Collector.{go}
 use Rattle.allocative_graph.proofs.Plus.{is_graph-plus, is_graph-begin}
-use Rattle.allocative.specs.Exact.{all_bytes, HasRoomFor, CanTake, MayRefuse, RunsRightly}
 use Rattle.allocative.proofs.Closures.{err_or}
 use Rattle.allocative.proofs.Exact.{entered-plus, can_first, can_second, may_refuse, each_append, declared_append}
 use Rattle.allocative.proofs.Within.{around_item}

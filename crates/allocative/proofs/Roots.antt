@@ -1,26 +1,19 @@
 -- What a visit by a root visitor amounts to.
-use Rattle.std.proofs.Common.{◌≡◌, ℕ, suc, ◌+◌, ◌<◌, inl, inr, List, length, take, get_or, Bool, IsTrue, Result, Ok, Err, refl, ap, sym, subst, ◌∙◌, arith}
-use Rattle.allocative_graph.specs.declared.refusal.Refusal.{Refusal}
-use Rattle.allocative_graph.specs.declared.refusal.Refusal.TheVariants.{Memory}
-use Rattle.allocative_graph.specs.Forest.{Forest, Empty, followed_by, met_after, Fits, own, all}
-use Rattle.allocative_graph.specs.Sums.{add_all, sums_of}
+use Rattle.std.proofs.Common.{◌≡◌, ℕ, suc, ◌+◌, ◌<◌, inl, inr, List, length, take, get_or, Bool, IsTrue, Result, Ok, Err, refl, ap, sym, subst, ◌∙◌, arith, IfOk, Option, Some}
+use Rattle.allocative.proofs.Common.{Refusal, Memory, Forest, Empty, followed_by, add_all, held, ShowsNoContent, Kind, OfGraph, OfHeld, State, Failed, Going, leave, plus, Takes, visitors, is_graph, begin, is_in_unique, left, nothing_held, Showing, Nothing, Both, each_shows, Shows, refused, hidden, forgotten, Leaves, Begins, Settles, Runs, Profile, IsProfileOf, IsHeldSum, MayRefuse, MayRefuseProfile, RefusesRightly, has_added, has_refused, RunsRightly, as_graph}
+use Rattle.allocative_graph.specs.Forest.{met_after, Fits, own, all}
+use Rattle.allocative_graph.specs.Sums.{sums_of}
 use Rattle.allocative_graph.specs.Meaning.{IsWhole, content_of}
 use Rattle.allocative_graph.specs.Graph.{Graph, graph, warnings, warned_paths, sum_of}
-use Rattle.allocative_graph.specs.Held.{held, ShowsNoContent}
-use Rattle.allocative_graph.specs.Collector.{added as added_entries, Kind, OfGraph, OfHeld, State, Failed, Going, leave, plus, Takes, visitors, is_graph, begin, is_in_unique, IsClosed, IsAtRoot, left, nothing_held, no_entries}
-use Rattle.allocative_graph.specs.Shows.{Showing, Nothing, Both, each_shows}
-use Rattle.allocative_graph.specs.Visits.{Shows, refused, hidden, forgotten, added, Leaves, Begins, Settles, Runs, Ends, IsProfile, Profile, IsProfileOf, IsGraphOf, IsSumOfTwo}
+use Rattle.allocative_graph.specs.Collector.{added as added_entries, IsClosed, IsAtRoot, no_entries}
+use Rattle.allocative_graph.specs.Visits.{added, Ends, IsProfile, IsGraphOf, IsSumOfTwo}
 use Rattle.allocative_graph.proofs.Plus.{plus-nothing, plus-following, takes_nothing, takes_both, visitors-plus, visitors-leave, is_graph-plus, is_graph-leave, is_graph-begin}
-use Rattle.allocative.specs.Steps.{IsHeldSum}
 use Rattle.allocative.specs.SizeOf.{IsSizeOfUnique}
-use Rattle.allocative.specs.Exact.{MayRefuse, MayRefuseProfile, RefusesRightly, has_added, has_refused, RunsRightly}
-use Rattle.allocative.specs.Built.{as_graph}
 use Rattle.allocative.proofs.Showing.{left_by, each_and_one}
 use Rattle.allocative_graph.proofs.Reach.{all_is_meaning, reaches_exactly}
 use Rattle.allocative_graph.proofs.OneMeaning.{one_sums}
 use Rattle.allocative_graph.proofs.Merge.{whole_following, graphs_add}
 use Rattle.std.proofs.lemmas.List.{take_more}
-use Rattle.std.specs.Prelude.{IfOk, Option, Some}
 
 visitors-begin : (b : Kind) → IsClosed b → visitors (begin b) ≡ 1
 visitors-begin (OfGraph c) h = ap suc h

@@ -1,5 +1,6 @@
 -- How a loop over an iterator shows one more item, and what a whole run of it shows.
 use Rattle.std.proofs.Common.{Bool, false, true, ℕ, zero, suc, ◌+◌, ◌*◌, ◌<◌, ◌^◌, length, filter_map, cond, count_by, is_some, arith, ◌⊎◌, inl, inr, List, [], ◌∷◌, ◌++◌, map, ◌≡◌, Option, None, Some, Result, Ok, Err, IsErr, refl, sym, ◌∙◌, ap, subst}
+use Rattle.allocative.proofs.Common.{Yields, values, Refusal, Key, Forest, Kind, State, left, Showing, Nothing, Both, InsideAs, Inside, Field, each_shows, slice_shows, Enters, checked, size_product, are_shown_each, bytes_shown, CountsRun, in_any_order, Visitor, IsDeclared, CanTake, RefusesRightly, with_state, Entered, Means}
 use Rattle.std.proofs.lemmas.List.{map-append, length-map}
 use Rattle.std.proofs.lemmas.List.Sums.{sum_by-cons}
 use Rattle.std.proofs.lemmas.List.Elements.{All-nil, All-cons, All-head, All-tail}
@@ -7,23 +8,10 @@ use Rattle.std.proofs.lemmas.Bool.{false≢true}
 use Rattle.std.proofs.lemmas.Bool.Decides.{nat_tests}
 use Rattle.std.proofs.lemmas.List.Sorted.{IsPermutation-refl, IsPermutation-sym, All-permutation}
 use Rattle.std.proofs.lemmas.Iterator.{YieldsList, items_from_drains}
-use Rattle.std.specs.Iterator.{Drains, Yields, AlwaysYields}
+use Rattle.std.specs.Iterator.{Drains, AlwaysYields}
 use Rattle.std.specs.List.{All}
-use Rattle.slab.specs.Slab.{Slab, entries_from, entries, values}
-use Rattle.allocative_graph.specs.declared.refusal.Refusal.{Refusal}
-use Rattle.allocative_graph.specs.Path.{Key}
-use Rattle.allocative_graph.specs.Forest.{Forest}
-use Rattle.allocative_graph.specs.Collector.{Kind, State, left}
-use Rattle.allocative_graph.specs.Shows.{Showing, Nothing, Both, InsideAs, Inside, Field, each_shows, slice_shows}
-use Rattle.allocative_graph.specs.Visits.{Enters}
-use Rattle.allocative_described.specs.Sizes.{checked, size_product}
-use Rattle.allocative.specs.Bodies.{are_shown_each, bytes_shown}
-use Rattle.allocative.specs.Runs.{RefusesAlong, RefusesCounted, CanCount, IsOfRun, CountsRun, value_shows}
-use Rattle.allocative.specs.StdShows.{in_any_order}
-use Rattle.allocative.specs.declared.visitor.Visitor.{Visitor}
-use Rattle.allocative.specs.Exact.{IsDeclared, CanTake, RefusesRightly}
-use Rattle.allocative.specs.Nested.{with_state}
-use Rattle.allocative.specs.Visited.{Entered, Means}
+use Rattle.slab.specs.Slab.{Slab, entries_from, entries}
+use Rattle.allocative.specs.Runs.{RefusesAlong, RefusesCounted, CanCount, IsOfRun, value_shows}
 use Rattle.allocative.proofs.Meaning.{entered_if, entered_as, entered_snoc, exact_never}
 use Rattle.allocative.proofs.Closures.{err_or}
 use Rattle.allocative.proofs.Exact.{declared_nothing, declared_first, declared_second, declared_both, entry_fits, rightly_as, rightly_weaker, rightly_within}

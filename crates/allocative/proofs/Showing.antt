@@ -1,15 +1,10 @@
 -- How visits compose: one after another, and inside an entry. The rulesets are for implementations.
-use Rattle.std.proofs.lemmas.Bool.{false≢true}
 use Rattle.std.proofs.Common.{Bool, true, false, inl, inr, Option, Some, ◌≡◌, ℕ, suc, List, [], ◌∷◌, ◌++◌, Result, Ok, Err, refl, sym, ◌∙◌, IsErr, ap, subst, arith}
+use Rattle.allocative.proofs.Common.{Refusal, Key, Identity, Forest, Empty, First, Again, followed_by, entry_of, Live, Kind, OfGraph, State, Failed, Going, enter, enter_first, leave, plus, Takes, is_graph, visitors, is_in_unique, failed_with, left, Showing, Nothing, Both, InsideAs, Inside, InsideUnique, Field, sized, SharedWith, each_shows, Shows, already, refused, hidden, forgotten, HasFailed, Enters, stays_failed, is_refused, is_entered, EntersSized, stays_unsized, is_unsized, is_sized, EntersShared, stays_shared, is_refused_shared, goes_past, enters_first, enters_again, Answers, Leaves, leaves_failed, leaves_going, EntersFirst, first_refused, KeepsCause, Plan, Done, Makes, made_none, made, entry_refused, inside_refused}
+use Rattle.std.proofs.lemmas.Bool.{false≢true}
 use Rattle.std.specs.FinSet.{contains}
-use Rattle.allocative_graph.specs.declared.refusal.Refusal.{Refusal}
-use Rattle.allocative_graph.specs.Path.{Key}
-use Rattle.allocative_graph.specs.Identity.{Identity}
-use Rattle.allocative_graph.specs.Forest.{Forest, Empty, First, Again, followed_by, entry_of}
-use Rattle.allocative_graph.specs.Collector.{Live, Kind, OfGraph, State, Failed, Going, enter, enter_first, leave, plus, Takes, is_graph, visitors, is_in_unique, failed_with, left}
-use Rattle.allocative_graph.specs.Shows.{Showing, Nothing, Both, InsideAs, Inside, InsideUnique, Field, sized, SharedWith, each_shows}
-use Rattle.allocative_graph.specs.Visits.{Shows, already, refused, hidden, forgotten, added, HasFailed, Enters, stays_failed, is_refused, is_entered, EntersSized, stays_unsized, is_unsized, is_sized, EntersShared, stays_shared, is_refused_shared, goes_past, enters_first, enters_again, Answers, Leaves, leaves_failed, leaves_going}
-use Rattle.allocative.specs.Making.{EntersFirst, first_refused, first_entered, KeepsCause, keeps_failed, keeps_going, Plan, Done, Makes, had_failed, made_none, made, entry_refused, inside_refused}
+use Rattle.allocative_graph.specs.Visits.{added}
+use Rattle.allocative.specs.Making.{first_entered, keeps_failed, keeps_going, had_failed}
 use Rattle.allocative_graph.proofs.Plus.{plus-nothing, plus-following, takes_nothing, takes_both, inside_entry, takes_entry, inside_first, takes_shared, held_again, visitors-plus, visitors-enter, visitors-leave, is_graph-plus, is_graph-enter, is_graph-leave}
 use Rattle.allocative.proofs.Exact.{inexact, followed_by-empty, followed_by_assoc}
 use Rattle.allocative.proofs.Steps.{leaves_by_left}

@@ -1,13 +1,8 @@
 -- The collector's own steps as the relations of visits, whose arguments are found by search.
 use Rattle.std.proofs.Common.{◌≡◌, ℕ, Bool, true, false, None, Some, Result, Ok, Err, refl, sym, subst, ap}
-use Rattle.allocative_graph.specs.declared.refusal.Refusal.{Refusal}
-use Rattle.allocative_graph.specs.declared.refusal.Refusal.TheVariants.{TooLarge}
-use Rattle.allocative_graph.specs.Path.{Key}
-use Rattle.allocative_graph.specs.Identity.{Identity}
-use Rattle.allocative_graph.specs.Collector.{Kind, OfGraph, OfHeld, State, Failed, Going, failed_with, left}
-use Rattle.allocative_graph.specs.Visits.{HasFailed, Enters, stays_failed, is_refused, is_entered, EntersSized, stays_unsized, is_unsized, is_sized, EntersShared, stays_shared, is_refused_shared, goes_past, enters_first, enters_again, Leaves, leaves_failed, leaves_going}
-use Rattle.allocative.specs.Steps.{StepsIn, StepsSimple, StepsInShared}
-use Rattle.allocative.specs.Making.{one, Makes, had_failed, made_none, made, entry_refused}
+use Rattle.allocative.proofs.Common.{Refusal, TooLarge, Key, Identity, Kind, OfGraph, OfHeld, State, Failed, Going, failed_with, left, HasFailed, Enters, stays_failed, is_refused, is_entered, EntersSized, stays_unsized, is_unsized, is_sized, EntersShared, stays_shared, is_refused_shared, goes_past, enters_first, enters_again, Leaves, leaves_failed, leaves_going, StepsInShared, one, Makes, made_none, made, entry_refused}
+use Rattle.allocative.specs.Steps.{StepsIn, StepsSimple}
+use Rattle.allocative.specs.Making.{had_failed}
 
 pub enters_by_step : (u : Bool) (k : Key) (n : ℕ) (s : State) (r : Result Bool Refusal) (t : State) → StepsIn u k n s r t → Enters u k n s r t
 enters_by_step u k n (Failed q) r t (e, f) = rw (e, f) stays_failed

@@ -1,20 +1,11 @@
 -- One entry with what is inside it: the collector enters it, the same visitor enters what is inside, and the collector
 -- steps back.
-use Rattle.std.proofs.Common.{◌≡◌, ℕ, ◌+◌, ◌<◌, Bool, true, false, List, ◌∷◌, ◌++◌, take, drop, length, get_or, Option, Some, Result, Ok, Err, IsErr, IfErr, refl, sym, ◌∙◌, ap, subst}
+use Rattle.std.proofs.Common.{◌≡◌, ℕ, ◌+◌, ◌<◌, Bool, true, false, List, ◌∷◌, ◌++◌, take, drop, length, get_or, Option, Some, Result, Ok, Err, IsErr, IfErr, refl, sym, ◌∙◌, ap, subst, take-append-drop}
+use Rattle.allocative.proofs.Common.{Refusal, Key, Identity, State, Failed, Going, left, Showing, Nothing, Both, InsideAs, Inside, Field, sized, SharedWith, each_shows, Shows, already, HasFailed, Enters, EntersSized, is_sized, EntersShared, Leaves, leaves_going, Plan, Done, Entry, Makes, made_none, made, entry_refused, inside_refused, KeepsCause, EntersFirst, first_refused, MakesOrGives, makes, gives, one, Visitor, with_state, RefusesRightly, Entered, OnlyIf}
 use Rattle.std.proofs.lemmas.Bool.{false≢true}
-use Rattle.std.proofs.lemmas.List.{drop_more, take-append-drop}
-use Rattle.allocative_graph.specs.declared.refusal.Refusal.{Refusal}
-use Rattle.allocative_graph.specs.Path.{Key}
-use Rattle.allocative_graph.specs.Identity.{Identity}
-use Rattle.allocative_graph.specs.Collector.{State, Failed, Going, left}
-use Rattle.allocative_graph.specs.Shows.{Showing, Nothing, Both, InsideAs, Inside, Field, sized, SharedWith, each_shows}
-use Rattle.allocative_graph.specs.Visits.{Shows, already, HasFailed, Enters, EntersSized, is_sized, EntersShared, Leaves, leaves_going}
-use Rattle.allocative.specs.Making.{Plan, Done, Entry, Makes, had_failed, made_none, made, entry_refused, inside_refused, KeepsCause, EntersFirst, first_refused, MakesOrGives, makes, gives, one}
-use Rattle.allocative.specs.declared.visitor.Visitor.{Visitor}
-use Rattle.allocative.specs.Nested.{with_state}
+use Rattle.std.proofs.lemmas.List.{drop_more}
+use Rattle.allocative.specs.Making.{had_failed}
 use Rattle.allocative.specs.Exact as refuses
-use Rattle.allocative.specs.Exact.{RefusesRightly}
-use Rattle.allocative.specs.Visited.{Entered, OnlyIf}
 use Rattle.allocative.proofs.Closures.{err_or}
 use Rattle.allocative.proofs.Making.{goes_on, nothing_inside, makes_entry, makes_failed, failed_left}
 use Rattle.allocative.proofs.Exact.{rightly_within, rightly_not_within, rightly_not_sized, rightly_first, rightly_both, rightly_item, in_sized, rightly_content, rightly_not_shared, rightly_again, inexact}

@@ -1,9 +1,9 @@
 -- What one more entry leaves as it was.
 use Rattle.std.proofs.Common.{◌≡◌, ℕ, zero, suc, ◌+◌, ◌<◌, ◌≤◌, Bool, true, false, ◌||◌, [], ◌∷◌, ◌++◌, length, refl, sym, ap, ◌∙◌, arith, inl, inr}
+use Rattle.allocative_collectors.proofs.Common.{Key, Path, is_same_path, Sum, Listed, raise, add, path_at, IsEntered}
 use Rattle.std.proofs.lemmas.List.Sums.{sum_by-cons}
 use Rattle.std.proofs.lemmas.Bool.{cond-true, cond-false, cases_Bool, cond_both}
-use Rattle.allocative_graph.specs.Path.{Key, Path, is_same_path}
-use Rattle.allocative_collectors.specs.Listed.{Sum, Listed, raise, add, total, path_at, IsEntered}
+use Rattle.allocative_collectors.specs.Listed.{total}
 use Rattle.allocative_collectors.proofs.Orders.{same_path-same}
 
 bytes : Sum → ℕ

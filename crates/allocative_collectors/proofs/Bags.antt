@@ -1,15 +1,10 @@
 -- Sizes at different places are within the total.
-use Rattle.std.proofs.Common.{◌≡◌, ◌≢◌, ℕ, suc, ◌-◌, ◌<◌, ◌≤◌, List, [], ◌∷◌, length, get_or, set, sum_by, refl, sym, ap, subst, arith, get_or-set_other}
-use Rattle.std.specs.declared.cmp.Ordering.TheVariants.{Equal}
-use Rattle.std.proofs.lemmas.List.{length-set}
+use Rattle.std.proofs.Common.{◌≡◌, ◌≢◌, ℕ, suc, ◌-◌, ◌<◌, ◌≤◌, List, [], ◌∷◌, length, get_or, set, sum_by, refl, sym, ap, subst, arith, get_or-set_other, length-set}
+use Rattle.allocative_collectors.proofs.Common.{Equal, path_cmp, Sum, Listed, root_sum, sum_at, path_at, map_of, below, size_at_place, PathsRise}
 use Rattle.std.proofs.lemmas.List.Sums.{sum_by-cons, sum_by-set, sum_by-le-sum_by}
 use Rattle.std.proofs.lemmas.Cmp.{tied_itself}
 use Rattle.std.proofs.lemmas.Bool.{cond_both}
-use Rattle.allocative_graph.specs.Path.{path_cmp}
-use Rattle.allocative_collectors.specs.Listed.{Sum, Listed, root_sum, total, sum_at, path_at, map_of}
-use Rattle.allocative_graph.specs.Sums.{below}
-use Rattle.allocative_collectors.specs.Finishing.{size_at_place}
-use Rattle.allocative_collectors.specs.Walks.{PathsRise}
+use Rattle.allocative_collectors.specs.Listed.{total}
 use Rattle.allocative_graph.proofs.Basics.{path_total}
 
 -- different places of a list have at most the bytes of the whole list

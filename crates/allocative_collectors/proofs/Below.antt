@@ -1,17 +1,9 @@
 -- The bytes that a node stores as those of its children are those of the sums one key below.
-use Rattle.std.proofs.Common.{◌≡◌, ◌≢◌, ℕ, zero, suc, ◌-◌, ◌<◌, Bool, true, false, not, ◌&&◌, List, [], ◌∷◌, ◌++◌, length, get_or, sum_by, refl, sym, ap, ◌∙◌, arith, inl, inr, cond, eqb, ltb}
-use Rattle.std.specs.declared.cmp.Ordering.{Ordering}
-use Rattle.std.specs.declared.cmp.Ordering.TheVariants.{Less, Equal, Greater}
-use Rattle.std.specs.Ordering.{eq_by_cmp, is_eq, ordering_then, ordering_reverse}
+use Rattle.std.proofs.Common.{◌≡◌, ◌≢◌, ℕ, zero, suc, ◌-◌, ◌<◌, Bool, true, false, not, ◌&&◌, List, [], ◌∷◌, ◌++◌, length, get_or, sum_by, refl, sym, ap, ◌∙◌, arith, inl, inr, cond, eqb, ltb, eq-eqb, ne_eqb, lt-ltb}
+use Rattle.allocative_collectors.proofs.Common.{Ordering, Less, Equal, Greater, is_eq, ordering_then, ordering_reverse, Key, Path, key_cmp, path_cmp, is_same_path, Sum, root_sum, sum_at, path_at, map_of, Shape, no_shape, at, paths, sums, key_at, parent_at, bytes_at, below_at, share, IsArena, is_one_below, is_root, below, size_at_place, is_short}
+use Rattle.std.specs.Ordering.{eq_by_cmp}
 use Rattle.std.proofs.lemmas.List.Sums.{sum_by-cons}
-use Rattle.std.proofs.lemmas.Bool.{cases_eq, eq-eqb, ne_eqb, lt-ltb, cond-true, cond-false}
-use Rattle.allocative_graph.specs.Path.{Key, Path, key_cmp, path_cmp, is_same_path}
-use Rattle.allocative_collectors.specs.Listed.{Sum, root_sum, sum_at, path_at, map_of}
-use Rattle.allocative_collectors.specs.Shapes.{Shape, no_shape, at, paths, sums, key_at, parent_at, bytes_at, below_at, share, IsArena}
-use Rattle.allocative_graph.specs.Path.{is_one_below}
-use Rattle.allocative_graph.specs.Graph.{is_root}
-use Rattle.allocative_graph.specs.Sums.{below}
-use Rattle.allocative_collectors.specs.Finishing.{size_at_place, is_short}
+use Rattle.std.proofs.lemmas.Bool.{cases_eq, cond-true, cond-false}
 use Rattle.allocative_collectors.proofs.Bridge.{IsListing, below_listed, not_below_root}
 use Rattle.allocative_collectors.proofs.Orders.{key_total, same_path-same, same_path-apart}
 use Rattle.allocative_collectors.proofs.Paths.{paths_at, paths_root, distinct}

@@ -1,24 +1,22 @@
 -- The listed sums as a map: what it has at each place, and after one more entry.
 use Rattle.std.proofs.Common.{◌≡◌, ◌≢◌, ℕ, zero, suc, ◌+◌, ◌-◌, ◌<◌, Bool, true, false, cond, List, [], ◌∷◌, ◌++◌, map, length, Option, Some, None, refl, sym, ap, ◌∙◌, true≢false, arith, inl, inr, sum_by, unwrap_or}
-use Rattle.std.specs.FinMap.{get, entries, from_entries, get-from_entries, get-entries, entries-insert, entries_sorted}
-use Rattle.std.specs.FinMap.Entries.{find}
+use Rattle.allocative_collectors.proofs.Common.{get, entries, find, Key, Path, path_cmp, is_same_path, is_one_below, Sums, is_unique_mark, entered, graph, Sum, Listed, raise, add, sum_at, path_at, row, map_of, size_at_place}
+use Rattle.std.specs.FinMap.{from_entries, get-from_entries, get-entries, entries-insert, entries_sorted}
 use Rattle.std.specs.Option.{option_map}
 use Rattle.std.proofs.lemmas.Bool.{cases_Bool, cond-true, cond-false}
 use Rattle.std.proofs.lemmas.Cmp.{eq_by_cmp_equiv}
 use Rattle.std.proofs.lemmas.List.Sums.{sum_by-cons}
-use Rattle.allocative_graph.specs.Path.{Key, Path, path_cmp, is_same_path, is_one_below}
 use Rattle.allocative_graph.specs.Forest.{Entry}
-use Rattle.allocative_graph.specs.Sums.{Sums, Node, together, node_of, is_unique_mark, entered}
+use Rattle.allocative_graph.specs.Sums.{Node, together, node_of}
 use Rattle.allocative_graph.specs.Sums as bag
-use Rattle.allocative_graph.specs.Graph.{graph, remaining}
+use Rattle.allocative_graph.specs.Graph.{remaining}
 use Rattle.allocative_graph.proofs.Basics.{path_total, same_path}
 use Rattle.allocative_graph.proofs.Lookups.{get-add, same_sums}
 use Rattle.allocative_graph.proofs.Below.{entered-add}
 use Rattle.allocative_graph.proofs.Computed.{entries-empty}
 use Rattle.allocative_graph.proofs.Graphs.{weights-put}
 use Rattle.allocative_graph.proofs.Merge.{get-graph, get-graph-root}
-use Rattle.allocative_collectors.specs.Listed.{Sum, Listed, raise, add, sum_at, path_at, row, rows, map_of}
-use Rattle.allocative_collectors.specs.Finishing.{size_at_place}
+use Rattle.allocative_collectors.specs.Listed.{rows}
 use Rattle.allocative_collectors.proofs.Orders.{same_path-same, same_path-apart}
 
 pub same_turned : (p q : Path) → is_same_path p q ≡ is_same_path q p

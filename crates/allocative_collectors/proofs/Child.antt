@@ -1,13 +1,10 @@
 -- What a search among a node's children says of the sums.
 use Rattle.std.proofs.Common.{◌≡◌, ◌≢◌, ℕ, zero, suc, ◌+◌, ◌<◌, Bool, true, false, ◌||◌, List, [], ◌∷◌, ◌++◌, length, get_or, set, refl, sym, ap, subst, ◌∙◌, arith, inl, inr}
-use Rattle.std.specs.declared.cmp.Ordering.TheVariants.{Equal}
+use Rattle.allocative_collectors.proofs.Common.{Equal, Key, Path, key_cmp, Sum, Listed, root_sum, raise, add, path_at, IsEntered, Shape, no_shape, at, paths, label, sums, children_at, keys_at, key_in, key_at, parent_at, bytes_at, IsArena, IsPlace, IsKeyGap}
 use Rattle.std.specs.List.{insert}
 use Rattle.std.proofs.lemmas.List.{set-get_or, get_or_append_left, get_or_push, same_from_push}
 use Rattle.std.proofs.lemmas.Cmp.{tied_itself}
 use Rattle.std.proofs.lemmas.Bool.{cases_lt}
-use Rattle.allocative_graph.specs.Path.{Key, Path, key_cmp}
-use Rattle.allocative_collectors.specs.Listed.{Sum, Listed, root_sum, raise, add, path_at, IsEntered}
-use Rattle.allocative_collectors.specs.Shapes.{Shape, no_shape, at, paths, label, sums, children_at, keys_at, key_in, key_at, parent_at, bytes_at, IsArena, IsPlace, IsKeyGap}
 use Rattle.allocative_collectors.proofs.Orders.{key_total}
 use Rattle.allocative_collectors.proofs.Keys.{length-keys_of, key_in-keys_of}
 use Rattle.allocative_collectors.proofs.Walked.{child_path}

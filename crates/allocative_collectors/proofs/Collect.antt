@@ -1,20 +1,18 @@
 -- The parts of a flame graph's collector after each step: an entry, a visitor that is entered or left, an identity that is met.
 use Rattle.std.proofs.Common.{◌≡◌, ◌≢◌, ℕ, suc, pred, ◌+◌, ◌-◌, ◌^◌, ◌<◌, ◌≤◌, Bool, true, false, cond, not, ◌||◌, ◌&&◌, ◌==◌, List, [], ◌∷◌, ◌++◌, map, reverse, length, get_or, Ordering, Less, Equal, Greater, refl, sym, ap, subst, ◌∙◌, arith, inl, inr, length-append}
+use Rattle.allocative_collectors.proofs.Common.{is_eq, ordering_then, contains, Key, Path, AsInline, Sums, is_unique_mark, Live, go, leave_live, enter_live, enter_again, enter_first, Listed, path_at, map_of, live, IsPlaced}
 use Rattle.std.specs.List.{list_any}
-use Rattle.std.specs.Ordering.{is_eq, nat_cmp, ordering_then}
-use Rattle.std.specs.FinSet.{from_list, contains, insert, same_set, contains-from_list, contains-insert}
+use Rattle.std.specs.Ordering.{nat_cmp}
+use Rattle.std.specs.FinSet.{from_list, insert, same_set, contains-from_list, contains-insert}
 use Rattle.std.proofs.lemmas.List.{map-append, reverse-append, length-map, length-reverse, get_or_append_left, get_or-append_right}
 use Rattle.std.proofs.lemmas.Bool.{cases_lt}
 use Rattle.std.proofs.lemmas.Bool.Decides.{nat_tests}
 use Rattle.allocative_graph.specs.Identity.{Identity, identity_cmp, is_same_identity}
-use Rattle.allocative_graph.specs.Path.{Key, Path}
-use Rattle.allocative_graph.specs.Forest.{Mark, AsInline, AsUnique, AsShared}
-use Rattle.allocative_graph.specs.Sums.{Sums, is_unique_mark}
+use Rattle.allocative_graph.specs.Forest.{Mark, AsUnique, AsShared}
 use Rattle.allocative_graph.specs.Sums as bag
-use Rattle.allocative_graph.specs.Collector.{Live, go, leave_live, last_of, without_last, enter_live, enter_again, enter_first}
+use Rattle.allocative_graph.specs.Collector.{last_of, without_last}
 use Rattle.allocative_graph.proofs.Basics.{identity_total, identity_antisymmetric, same_identity_turned}
-use Rattle.allocative_collectors.specs.Listed.{Listed, path_at, map_of}
-use Rattle.allocative_collectors.specs.Places.{live, to_root, outside, back_from, back_at, IsPlaced, AddedAt}
+use Rattle.allocative_collectors.specs.Places.{to_root, outside, back_from, back_at, AddedAt}
 use Rattle.allocative_collectors.proofs.Adds.{total_entered, length_entered, path_entered}
 use Rattle.allocative_collectors.proofs.Bridge.{map_of-add, entered-map_of, not_root}
 

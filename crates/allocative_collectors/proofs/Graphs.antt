@@ -1,17 +1,10 @@
 -- The graph of a node, child by child.
-use Rattle.std.proofs.Common.{◌≡◌, ◌≢◌, ℕ, zero, suc, ◌+◌, ◌<◌, Bool, true, false, cond, List, [], ◌∷◌, ◌++◌, length, Option, Some, None, unwrap_or, refl, sym, ap, subst, ◌∙◌, arith, inl, inr, ◌⊎◌}
-use Rattle.std.specs.Ordering.{is_eq}
-use Rattle.std.proofs.lemmas.List.{append_assoc, append-nil}
+use Rattle.std.proofs.Common.{◌≡◌, ◌≢◌, ℕ, zero, suc, ◌+◌, ◌<◌, Bool, true, false, cond, List, [], ◌∷◌, ◌++◌, length, Option, Some, None, unwrap_or, refl, sym, ap, subst, ◌∙◌, arith, inl, inr, ◌⊎◌, append_assoc, append-nil}
+use Rattle.allocative_collectors.proofs.Common.{is_eq, Key, Path, key_cmp, is_same_path, Listed, path_at, map_of, Shape, key_in, keys_at, sums, KeysRise, IsArena, size_at_place, Graph, graph, sum_of, under, default, add_self, get}
 use Rattle.std.proofs.lemmas.Cmp.{tied_itself}
 use Rattle.std.proofs.lemmas.Bool.{cases_eq, cases_Bool, cond-true, cond-false, false_from_ne_true}
-use Rattle.allocative_graph.specs.Path.{Key, Path, key_cmp, is_same_path}
-use Rattle.allocative_collectors.specs.Listed.{Listed, path_at, map_of}
-use Rattle.allocative_collectors.specs.Shapes.{Shape, key_in, keys_at, sums, KeysRise, IsArena}
-use Rattle.allocative_collectors.specs.Finishing.{size_at_place}
-use Rattle.allocative_graph.specs.Graph.{Graph, graph, sum_of, under, default}
 use Rattle.allocative_graph.specs.Graph as graphs
-use Rattle.allocative_graph.specs.Graph.{add_self}
-use Rattle.std.specs.FinMap.{get, get-insert}
+use Rattle.std.specs.FinMap.{get-insert}
 use Rattle.allocative_graph.proofs.Basics.{path_total, is_eq-Equal}
 use Rattle.allocative_graph.proofs.Merge.{get-sum_of}
 use Rattle.allocative_graph.proofs.Graphs.{sizes_together, get-under, get-under-root, get-default}

@@ -1,14 +1,12 @@
 -- An arena with one more node, which has no entry yet.
-use Rattle.std.proofs.Common.{◌≡◌, ◌≢◌, ℕ, zero, suc, ◌+◌, ◌-◌, ◌<◌, ◌≤◌, false, List, [], ◌∷◌, ◌++◌, length, get_or, set, refl, sym, ap, subst, ◌∙◌, arith, inl, inr, get_or-set_same, get_or-set_other}
+use Rattle.std.proofs.Common.{◌≡◌, ◌≢◌, ℕ, zero, suc, ◌+◌, ◌-◌, ◌<◌, ◌≤◌, false, List, [], ◌∷◌, ◌++◌, length, get_or, set, refl, sym, ap, subst, ◌∙◌, arith, inl, inr, get_or-set_same, get_or-set_other, length-set, ne_eqb}
+use Rattle.allocative_collectors.proofs.Common.{Less, ordering_reverse, Key, key_cmp, Shape, no_shape, at, children_at, keys_of, keys_at, key_in, key_at, parent_at, bytes_at, below_at, share, below_of, KeysRise, IsChild, IsArena, IsKeyGap}
 use Rattle.std.specs.List.{insert}
-use Rattle.std.specs.declared.cmp.Ordering.TheVariants.{Less}
-use Rattle.std.proofs.lemmas.List.{get_or_append_left, get_or_push, length_push, length-set}
+use Rattle.std.proofs.lemmas.List.{get_or_append_left, get_or_push, length_push}
 use Rattle.std.proofs.lemmas.List.Edits.{length-insert, get_or-insert_below, get_or-insert_at, get_or-insert_above}
 use Rattle.std.proofs.lemmas.List.Sums.{sum_by_push, sum_by-set, sum_by-cons}
-use Rattle.std.proofs.lemmas.Bool.{cases_order, cases_eq, ne_eqb}
-use Rattle.std.specs.Ordering.{ordering_reverse}
-use Rattle.allocative_graph.specs.Path.{Key, key_cmp}
-use Rattle.allocative_collectors.specs.Shapes.{Shape, no_shape, at, children_at, keys_of, keys_at, key_in, key_at, parent_at, bytes_at, below_at, share, below_of, KeysRise, IsListed, IsChild, IsArena, IsKeyGap}
+use Rattle.std.proofs.lemmas.Bool.{cases_order, cases_eq}
+use Rattle.allocative_collectors.specs.Shapes.{IsListed}
 use Rattle.allocative_collectors.proofs.Orders.{key_total}
 use Rattle.allocative_collectors.proofs.Keys.{length-keys_of, keys_of-same, keys_of-insert, insert_below, insert_here, insert_above}
 

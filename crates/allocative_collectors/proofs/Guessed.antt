@@ -1,10 +1,8 @@
 -- A guessed node is the child exactly where it is not the root and its parent and its key are right.
 use Rattle.std.proofs.Common.{◌≡◌, ℕ, ◌<◌, ◌++◌, [], ◌∷◌, List, length, map, get_or, false, arith, sym, ap, subst, ◌∙◌}
+use Rattle.allocative_collectors.proofs.Common.{Key, shape, sums_of, IsTree, Listed, path_at, IsEntered}
 use Rattle.std.proofs.lemmas.List.{length-map}
-use Rattle.allocative_graph.specs.Path.{Key}
 use Rattle.allocative_collectors.specs.declared.tree.Node.{Node}
-use Rattle.allocative_collectors.specs.Nodes.{shape, sums_of, IsTree}
-use Rattle.allocative_collectors.specs.Listed.{Listed, path_at, IsEntered}
 use Rattle.allocative_collectors.proofs.NodeReads.{in_shapes, parent_read, key_read}
 use Rattle.allocative_collectors.proofs.Child.{stands_entered, child_of}
 

@@ -1,9 +1,9 @@
 -- The keys of numbered nodes, and what an insertion does to a list.
 use Rattle.std.proofs.Common.{◌≡◌, ℕ, suc, ◌+◌, ◌-◌, ◌<◌, ◌≤◌, List, [], ◌∷◌, ◌++◌, length, get_or, drop, take, refl, sym, subst, ◌∙◌, arith}
+use Rattle.allocative_collectors.proofs.Common.{Shape, key_at, keys_of, key_in}
 use Rattle.std.specs.List.{insert}
 use Rattle.std.proofs.lemmas.List.{length-map, get_or-map, map-append, take-map, drop-map}
 use Rattle.std.proofs.lemmas.List.Edits.{get_or-insert_below, get_or-insert_at, get_or-insert_above}
-use Rattle.allocative_collectors.specs.Shapes.{Shape, key_at, keys_of, key_in}
 
 pub length-keys_of : (ns : List Shape) (xs : List ℕ) → length (keys_of ns xs) ≡ length xs
 length-keys_of ns xs = length-map xs (key_at ns)

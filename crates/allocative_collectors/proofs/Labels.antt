@@ -1,10 +1,9 @@
 -- The sums that an arena stands for, and what one more entry does to a list of sums.
 use Rattle.std.proofs.Common.{◌≡◌, ◌≢◌, ℕ, zero, suc, ◌+◌, ◌<◌, Bool, List, [], ◌∷◌, ◌++◌, length, get_or, set, sum_by, refl, sym, ap, ◌∙◌, arith}
+use Rattle.allocative_collectors.proofs.Common.{Path, is_same_path, Sum, Listed, root_sum, raise, add, path_at, Shape, at, paths, label, sums, bytes_at}
 use Rattle.std.proofs.lemmas.List.Sums.{sum_by-cons}
 use Rattle.std.proofs.lemmas.Bool.{cond-true, cond-false}
-use Rattle.allocative_graph.specs.Path.{Path, is_same_path}
-use Rattle.allocative_collectors.specs.Listed.{Sum, Listed, root_sum, raise, add, total, path_at}
-use Rattle.allocative_collectors.specs.Shapes.{Shape, at, paths, label, sums, bytes_at}
+use Rattle.allocative_collectors.specs.Listed.{total}
 use Rattle.allocative_collectors.proofs.Orders.{same_path-same, same_path-apart}
 use Rattle.allocative_collectors.proofs.Paths.{length-paths}
 

@@ -1,3 +1,4 @@
+pub mod Common
 mod Keys
 pub mod Orders
 pub mod Paths

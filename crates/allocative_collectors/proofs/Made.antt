@@ -1,22 +1,14 @@
 -- What `make` has made, child by child.
-use Rattle.std.proofs.Common.{◌≡◌, ℕ, zero, suc, ◌+◌, ◌<◌, ◌≤◌, List, [], ◌∷◌, ◌++◌, map, flat_map, length, get_or, refl, sym, ap, subst, ◌∙◌, arith, append_assoc, Less, sum_by, Result, Ok, Err}
-use Rattle.std.specs.FinMap.{get}
-use Rattle.std.proofs.lemmas.List.{append-nil}
+use Rattle.std.proofs.Common.{◌≡◌, ℕ, zero, suc, ◌+◌, ◌<◌, ◌≤◌, List, [], ◌∷◌, ◌++◌, map, flat_map, length, get_or, refl, sym, ap, subst, ◌∙◌, arith, append_assoc, Less, sum_by, Result, Ok, Err, append-nil}
+use Rattle.allocative_collectors.proofs.Common.{get, Key, Path, path_cmp, Graph, Warned, sum_of, under, default, add_self, Refusal, Memory, TooLarge, Open, shape, sums_of, IsTree, Listed, path_at, key_in, children_at, keys_of, keys_at, KeysRise, size_at_place, warned_at, IsWalk, IsUnder, PathsRise}
 use Rattle.std.proofs.lemmas.List.Sums.{sum_by-cons, sum_by-append}
-use Rattle.allocative_graph.specs.Path.{Key, Path, path_cmp}
-use Rattle.allocative_graph.specs.Graph.{Graph, Warned, total, sum_of, under, default}
-use Rattle.allocative_graph.specs.Graph.{add_self}
+use Rattle.allocative_graph.specs.Graph.{total}
 use Rattle.allocative_graph.proofs.Listing.{entries-from_entries-sorted}
 use Rattle.allocative_graph.proofs.Graphs.{total-sum_of, total-under, total-add_at}
 use Rattle.std.specs.Result.{IsErrAnd, IfErr}
-use Rattle.allocative_graph.specs.declared.refusal.Refusal.{Refusal}
-use Rattle.allocative_graph.specs.declared.refusal.Refusal.TheVariants.{Memory, TooLarge, Open}
 use Rattle.allocative_collectors.specs.declared.tree.Node.{Node}
-use Rattle.allocative_collectors.specs.Nodes.{shape, sums_of, IsTree}
-use Rattle.allocative_collectors.specs.Listed.{Listed, path_at, total as total_listed}
-use Rattle.allocative_collectors.specs.Shapes.{key_in, children_at, keys_of, keys_at, KeysRise}
-use Rattle.allocative_collectors.specs.Finishing.{size_at_place, warned_at, Makes}
-use Rattle.allocative_collectors.specs.Walks.{IsWalk, IsUnder, PathsRise}
+use Rattle.allocative_collectors.specs.Listed.{total as total_listed}
+use Rattle.allocative_collectors.specs.Finishing.{Makes}
 use Rattle.allocative_collectors.proofs.Keys.{length-keys_of, key_in-keys_of}
 use Rattle.allocative_collectors.proofs.Walked.{IsPart, part_none, part_more, part_all, child_path, more_warned, beginning_before}
 use Rattle.allocative_collectors.proofs.Graphs.{HasPart, part_start, part_step, graph_all, grown, started, graph_at}

@@ -1,14 +1,9 @@
 -- What a read of a node says of the arena.
-use Rattle.std.proofs.Common.{◌≡◌, ◌≢◌, ℕ, ◌+◌, ◌<◌, Bool, ◌||◌, ◌&&◌, not, cond, ltb, List, [], ◌∷◌, ◌++◌, map, length, get_or, set, take, ◌-◌, sym, ap, subst, ◌∙◌, arith, refl, get_or-set_other}
+use Rattle.std.proofs.Common.{◌≡◌, ◌≢◌, ℕ, ◌+◌, ◌<◌, Bool, ◌||◌, ◌&&◌, not, cond, ltb, List, [], ◌∷◌, ◌++◌, map, length, get_or, set, take, ◌-◌, sym, ap, subst, ◌∙◌, arith, refl, get_or-set_other, length-set, take_at}
+use Rattle.allocative_collectors.proofs.Common.{Key, Shape, no_shape, at, children_at, keys_of, key_in, key_at, parent_at, below_at, shape, sums_of, IsTree, below, Listed, sum_at, path_at, map_of, size_at_place, is_short}
 use Rattle.std.specs.List.{insert}
-use Rattle.std.proofs.lemmas.List.{get_or-map, length-map, map-set, map_push, length-set, length_push, get_or_append_left, set-get_or, take-map, take_at}
+use Rattle.std.proofs.lemmas.List.{get_or-map, length-map, map-set, map_push, length_push, get_or_append_left, set-get_or, take-map}
 use Rattle.allocative_collectors.specs.declared.tree.Node.{Node}
-use Rattle.allocative_graph.specs.Path.{Key}
-use Rattle.allocative_collectors.specs.Shapes.{Shape, no_shape, at, children_at, keys_of, key_in, key_at, parent_at, below_at}
-use Rattle.allocative_collectors.specs.Nodes.{shape, sums_of, IsTree}
-use Rattle.allocative_graph.specs.Sums.{below}
-use Rattle.allocative_collectors.specs.Listed.{Listed, sum_at, path_at, map_of}
-use Rattle.allocative_collectors.specs.Finishing.{size_at_place, is_short}
 use Rattle.allocative_collectors.proofs.Keys.{key_in-keys_of}
 use Rattle.allocative_collectors.proofs.Below.{size_is, short_is, bytes_is, below_is}
 use Rattle.allocative_collectors.proofs.Labels.{length_sums}

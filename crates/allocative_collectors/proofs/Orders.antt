@@ -1,11 +1,10 @@
 -- Keys are in a total order, in which only equal ones tie; and tests of paths against equations.
 use Rattle.std.proofs.Common.{◌≡◌, true, false, sym, subst}
-use Rattle.std.specs.declared.cmp.Ordering.TheVariants.{Less, Equal}
+use Rattle.allocative_collectors.proofs.Common.{Less, Equal, Key, Path, key_cmp, is_same_path}
 use Rattle.std.specs.Cmp.{IsTotalOrder}
 use Rattle.std.specs.FinMap.{nat_cmp-IsAntisymmetric, slice_cmp-IsAntisymmetric}
 use Rattle.std.proofs.lemmas.Cmp.{nat_cmp_total, lists_total, tied_itself}
 use Rattle.std.proofs.lemmas.Bool.{false_from_ne_true}
-use Rattle.allocative_graph.specs.Path.{Key, Path, key_cmp, is_same_path}
 use Rattle.allocative_graph.proofs.Basics.{same_path, same_path_itself}
 
 pub key_total : IsTotalOrder key_cmp

@@ -1,9 +1,9 @@
 -- The paths of an arena's nodes.
 use Rattle.std.proofs.Common.{◌≡◌, ℕ, zero, suc, ◌+◌, ◌<◌, List, [], ◌∷◌, ◌++◌, length, get_or, set, refl, sym, ap, subst, ◌∙◌, arith, inl, inr}
+use Rattle.allocative_collectors.proofs.Common.{Key, Path, Shape, paths, children_at, key_at, keys_of, key_in, parent_at, KeysRise, IsArena}
 use Rattle.std.proofs.lemmas.List.{get_or_append_left, get_or_push, same_from_push, length_push}
 use Rattle.std.proofs.lemmas.Bool.{cases_order}
-use Rattle.allocative_graph.specs.Path.{Key, Path}
-use Rattle.allocative_collectors.specs.Shapes.{Shape, path_from, grow, paths, children_at, key_at, keys_of, key_in, parent_at, KeysRise, IsArena}
+use Rattle.allocative_collectors.specs.Shapes.{path_from, grow}
 use Rattle.allocative_collectors.proofs.Orders.{key_not_before}
 use Rattle.allocative_collectors.proofs.Keys.{length-keys_of, key_in-keys_of}
 

@@ -1,11 +1,10 @@
 -- An arena after one more entry at a node.
-use Rattle.std.proofs.Common.{◌≡◌, ◌≢◌, ℕ, ◌+◌, ◌<◌, ◌≤◌, Bool, ◌||◌, List, [], length, get_or, set, refl, sym, ap, subst, ◌∙◌, arith, inl, inr, get_or-set_same, get_or-set_other}
-use Rattle.std.proofs.lemmas.List.{length-set, set-get_or}
+use Rattle.std.proofs.Common.{◌≡◌, ◌≢◌, ℕ, ◌+◌, ◌<◌, ◌≤◌, Bool, ◌||◌, List, [], length, get_or, set, refl, sym, ap, subst, ◌∙◌, arith, inl, inr, get_or-set_same, get_or-set_other, length-set, eq-eqb, ne_eqb}
+use Rattle.allocative_collectors.proofs.Common.{Path, Sum, Listed, root_sum, raise, add, path_at, Shape, no_shape, at, paths, label, sums, children_at, keys_of, keys_at, key_at, parent_at, bytes_at, below_at, share, below_of, KeysRise, IsChild, IsArena}
+use Rattle.std.proofs.lemmas.List.{set-get_or}
 use Rattle.std.proofs.lemmas.List.Sums.{sum_by-set, sum_by-le-sum_by, get_or-le-sum_by}
-use Rattle.std.proofs.lemmas.Bool.{cases_eq, eq-eqb, ne_eqb}
-use Rattle.allocative_graph.specs.Path.{Path}
-use Rattle.allocative_collectors.specs.Listed.{Sum, Listed, root_sum, raise, add, total, path_at}
-use Rattle.allocative_collectors.specs.Shapes.{Shape, no_shape, at, paths, label, sums, children_at, keys_of, keys_at, key_at, parent_at, bytes_at, below_at, share, below_of, KeysRise, IsChild, IsArena}
+use Rattle.std.proofs.lemmas.Bool.{cases_eq}
+use Rattle.allocative_collectors.specs.Listed.{total}
 use Rattle.allocative_collectors.proofs.Keys.{keys_of-same}
 use Rattle.allocative_collectors.proofs.Paths.{paths_set, distinct}
 use Rattle.allocative_collectors.proofs.Labels.{label_set, get_sums, path_sums, length_sums, add_hit, total_sums}

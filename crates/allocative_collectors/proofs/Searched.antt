@@ -1,10 +1,7 @@
 -- What a binary search has settled among keys that rise.
 use Rattle.std.proofs.Common.{◌≡◌, ℕ, ◌+◌, ◌<◌, ◌≤◌, List, length, ap, ◌∙◌, arith, inl, inr}
-use Rattle.std.specs.declared.cmp.Ordering.TheVariants.{Less, Equal, Greater}
-use Rattle.std.specs.Ordering.{ordering_reverse}
+use Rattle.allocative_collectors.proofs.Common.{Less, Equal, Greater, ordering_reverse, Key, key_cmp, key_in, KeysRise, IsPlace, IsKeyGap}
 use Rattle.std.proofs.lemmas.Bool.{cases_eq}
-use Rattle.allocative_graph.specs.Path.{Key, key_cmp}
-use Rattle.allocative_collectors.specs.Shapes.{key_in, KeysRise, IsPlace, IsKeyGap}
 use Rattle.allocative_collectors.proofs.Orders.{key_total, key_same}
 
 -- the keys before place low are smaller than k, and those from place high on are greater

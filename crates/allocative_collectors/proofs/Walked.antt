@@ -1,19 +1,11 @@
 -- A walk over an arena, child by child.
-use Rattle.std.proofs.Common.{◌≡◌, ℕ, zero, suc, ◌+◌, ◌-◌, ◌<◌, ◌≤◌, List, [], ◌∷◌, ◌++◌, length, get_or, refl, sym, ap, subst, ◌∙◌, arith, inl, inr, length-append, append_assoc}
-use Rattle.std.specs.declared.cmp.Ordering.{Ordering}
-use Rattle.std.specs.declared.cmp.Ordering.TheVariants.{Less}
-use Rattle.std.specs.Ordering.{ordering_then}
-use Rattle.std.proofs.lemmas.List.{get_or_append_left, get_or-append_right, append-nil, same_from_push}
+use Rattle.std.proofs.Common.{◌≡◌, ℕ, zero, suc, ◌+◌, ◌-◌, ◌<◌, ◌≤◌, List, [], ◌∷◌, ◌++◌, length, get_or, refl, sym, ap, subst, ◌∙◌, arith, inl, inr, length-append, append_assoc, append-nil}
+use Rattle.allocative_collectors.proofs.Common.{Ordering, Less, ordering_then, Key, Path, key_cmp, path_cmp, Warned, Listed, path_at, Shape, paths, sums, key_in, keys_at, children_at, key_at, parent_at, KeysRise, IsArena, warned_at, IsUnder, StandsIn, PathsRise, IsWalk}
+use Rattle.std.proofs.lemmas.List.{get_or_append_left, get_or-append_right, same_from_push}
 use Rattle.std.proofs.lemmas.Cmp.{tied_itself}
 use Rattle.std.proofs.lemmas.Bool.{cases_lt, cases_eq}
-use Rattle.allocative_graph.specs.Path.{Key, Path, key_cmp, path_cmp}
-use Rattle.allocative_graph.specs.Graph.{Warned}
-use Rattle.allocative_collectors.specs.Listed.{Listed, path_at}
-use Rattle.allocative_collectors.specs.Shapes.{Shape, paths, sums, key_in, keys_at, children_at, key_at, parent_at, KeysRise, IsArena}
 use Rattle.std.specs.List.{flat_map}
 use Rattle.std.proofs.lemmas.Grind.{flat_map-append}
-use Rattle.allocative_collectors.specs.Finishing.{warned_at}
-use Rattle.allocative_collectors.specs.Walks.{IsUnder, StandsIn, PathsRise, IsWalk}
 use Rattle.allocative_collectors.proofs.Orders.{key_total}
 use Rattle.allocative_collectors.proofs.Keys.{length-keys_of, key_in-keys_of}
 use Rattle.allocative_collectors.proofs.Paths.{paths_at, paths_root, distinct}

@@ -1,22 +1,13 @@
 -- A walk over all places in the order of paths gives the map's entries, and so all paths that have a warning.
-use Rattle.std.proofs.Common.{◌≡◌, ◌≢◌, ℕ, zero, suc, ◌<◌, Bool, true, false, T, not, ◌&&◌, cond, List, [], ◌∷◌, ◌++◌, map, flat_map, length, get_or, Option, Some, None, Ordering, Less, refl, sym, ap, subst, ◌∙◌, arith, true≢false, inl, inr}
-use Rattle.std.specs.Ordering.{is_lt}
-use Rattle.std.specs.FinMap.{get, entries}
-use Rattle.std.specs.FinMap.Entries.{find, is_sorted, below_all}
-use Rattle.std.specs.Prelude.{nat_lt}
+use Rattle.std.proofs.Common.{◌≡◌, ◌≢◌, ℕ, zero, suc, ◌<◌, Bool, true, false, T, not, ◌&&◌, cond, List, [], ◌∷◌, ◌++◌, map, flat_map, length, get_or, Option, Some, None, Ordering, Less, refl, sym, ap, subst, ◌∙◌, arith, true≢false, inl, inr, nat_lt, append-nil}
+use Rattle.allocative_collectors.proofs.Common.{is_lt, get, entries, find, Path, path_cmp, is_same_path, newline, Sums, below, Warned, is_root, warned_paths, warning_text, Listed, sum_at, path_at, row, map_of, warned_at, IsWalk, StandsIn, warning_lines}
+use Rattle.std.specs.FinMap.Entries.{is_sorted, below_all}
 use Rattle.std.proofs.lemmas.Bool.{cases_Bool, cond-true, cond-false}
 use Rattle.std.proofs.lemmas.Grind.{flat_map-append}
-use Rattle.std.proofs.lemmas.List.{append-nil}
-use Rattle.allocative_graph.specs.Path.{Path, path_cmp, is_same_path}
-use Rattle.allocative_graph.specs.Format.{newline}
-use Rattle.allocative_graph.specs.Sums.{Sums, Node, below}
-use Rattle.allocative_graph.specs.Graph.{Warned, is_root, warned, warned_paths, warning, warning_line, warning_text, warnings}
+use Rattle.allocative_graph.specs.Sums.{Node}
+use Rattle.allocative_graph.specs.Graph.{warned, warning, warning_line, warnings}
 use Rattle.allocative_graph.proofs.Basics.{same_path}
 use Rattle.allocative_graph.proofs.Listing.{entries_are}
-use Rattle.allocative_collectors.specs.Listed.{Listed, sum_at, path_at, row, map_of}
-use Rattle.allocative_collectors.specs.Finishing.{warned_at}
-use Rattle.allocative_collectors.specs.Walks.{IsWalk, StandsIn}
-use Rattle.allocative_collectors.specs.Warned.{warning_lines}
 use Rattle.allocative_collectors.proofs.Bridge.{IsListing, get_at, got}
 use Rattle.allocative_collectors.proofs.Orders.{same_path-same}
 

@@ -1,22 +1,12 @@
 -- What a graph has at a path and below it, by the children of its root. Crates that walk over children use
 -- `rows_of_node` and `smaller_child`.
-use Rattle.std.proofs.Common.{sum_by, ◌&&◌, ◌≡◌, ℕ, zero, suc, ◌+◌, ◌<◌, ◌≤◌, true, false, cond, List, [], ◌∷◌, ◌++◌, Option, Some, None, IfSome, IfNone, length, length-append, get_or, take, drop, refl, sym, ap, subst, ◌∙◌, arith}
-use Rattle.std.proofs.lemmas.List.{take-append-drop, length-map}
+use Rattle.std.proofs.Common.{sum_by, ◌&&◌, ◌≡◌, ℕ, zero, suc, ◌+◌, ◌<◌, ◌≤◌, true, false, cond, List, [], ◌∷◌, ◌++◌, Option, Some, None, IfSome, IfNone, length, length-append, get_or, take, drop, refl, sym, ap, subst, ◌∙◌, arith, take-append-drop}
+use Rattle.allocative_graph.proofs.Common.{is_some, unwrap_or, AllByRecursion, eq_by_cmp, is_eq, ordering_reverse, Less, nat_list_cmp_total, get, entries, len, len-entries, Child, Key, Path, key_cmp, Graph, IsTree, IsBehind, HasNothing, begins, total_at, under_rows, node, rows_of, rows_of_child, entries-node, size_under, InOrder, IsFound, IsChildGap, AllBelow, AllAbove}
+use Rattle.std.proofs.lemmas.List.{length-map}
 use Rattle.std.proofs.lemmas.List.Sums.{sum_by-cons, sum_by-append}
-use Rattle.std.specs.Option.{is_some, unwrap_or}
-use Rattle.std.specs.List.{AllByRecursion}
 use Rattle.std.specs.List.Sorted.{IsStrictlySortedBy}
-use Rattle.std.specs.Ordering.{eq_by_cmp, is_eq, ordering_reverse}
-use Rattle.std.specs.declared.cmp.Ordering.TheVariants.{Less}
 use Rattle.std.specs.Cmp.{tied_itself}
-use Rattle.std.specs.Cmp.Lexicographic.{nat_list_cmp_total}
-use Rattle.std.specs.FinMap.{get, entries, len, len-entries}
-use Rattle.allocative_graph.specs.declared.flamegraph.Child.{Child}
-use Rattle.allocative_graph.specs.Path.{Key, Path, key_cmp}
-use Rattle.allocative_graph.specs.Graph.{Graph, IsTree, IsBehind, HasNothing, begins, total_at}
-use Rattle.allocative_graph.specs.Reads.{under_rows, node, rows_of, rows_of_child, keys_of}
-use Rattle.allocative_graph.specs.Representation.NodeRows.{entries-node}
-use Rattle.allocative_graph.specs.Representation.Children.{size_under, InOrder, IsFound, IsChildGap, AllBelow, AllAbove}
+use Rattle.allocative_graph.specs.Reads.{keys_of}
 use Rattle.allocative_graph.proofs.ChildSizes.{Lacks, lacks-above, size_under-lacks}
 use Rattle.allocative_graph.proofs.ChildLookup.{get-under}
 

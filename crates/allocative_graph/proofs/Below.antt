@@ -1,13 +1,10 @@
 -- The sum of the bytes one key below a path.
 use Rattle.std.proofs.Common.{◌≡◌, ℕ, ◌+◌, Bool, true, false, cond, ◌&&◌, T, List, [], ◌∷◌, Some, None, refl, ap, sym, ◌∙◌, subst, sum_by, arith, Ordering, Less, Equal, Greater}
-use Rattle.std.specs.Ordering.{is_eq, is_lt}
-use Rattle.std.specs.FinMap.{entries, empty, entries_sorted}
-use Rattle.std.specs.FinMap.Entries.{put, find, is_sorted, below_all, by_order}
+use Rattle.allocative_graph.proofs.Common.{is_eq, is_lt, entries, entries_sorted, put, find, is_sorted, below_all, by_order, Path, path_cmp, is_one_below, Entry, Bag, Node, Sums, together, node_of, add, add_all, sums_of, below}
+use Rattle.std.specs.FinMap.{empty}
 use Rattle.std.proofs.lemmas.List.Sums.{sum_by-cons}
-use Rattle.allocative_graph.specs.Path.{Path, path_cmp, is_one_below}
-use Rattle.allocative_graph.specs.Forest.{Entry, Bag}
 pub use Rattle.allocative_graph.specs.Sums.{below_in}
-use Rattle.allocative_graph.specs.Sums.{Node, Sums, together, node_of, add, add_all, sums_of, below, entered}
+use Rattle.allocative_graph.specs.Sums.{entered}
 use Rattle.allocative_graph.proofs.Basics.{path_total, path_antisymmetric}
 use Rattle.allocative_graph.proofs.Computed.{entries-add, below_list, entries-empty}
 

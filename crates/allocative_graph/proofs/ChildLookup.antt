@@ -1,20 +1,10 @@
 -- The sizes in the graph of a node are its own and those under the keys of its children.
-use Rattle.std.proofs.Common.{◌≡◌, ℕ, ◌+◌, Bool, true, false, cond, List, [], ◌∷◌, ◌++◌, Option, Some, None, refl, sym, ap, ◌∙◌}
+use Rattle.std.proofs.Common.{◌≡◌, ℕ, ◌+◌, Bool, true, false, cond, List, [], ◌∷◌, ◌++◌, Option, Some, None, refl, sym, ap, ◌∙◌, append-nil}
+use Rattle.allocative_graph.proofs.Common.{Less, Equal, Greater, eq_by_cmp, is_eq, ordering_then, get, entries, from_entries, same_entries_map, get-from_sorted, get-entries, find, Child, under, IsPartOfSum, under_rows, node, rows_of, IsSumByPath, Key, Path, key_cmp, path_cmp, node_sorted, entries-node, size_under, InOrder}
 use Rattle.std.specs.declared.cmp.Ordering.{Ordering}
-use Rattle.std.specs.declared.cmp.Ordering.TheVariants.{Less, Equal, Greater}
-use Rattle.std.specs.Ordering.{eq_by_cmp, is_eq, ordering_then}
 use Rattle.std.specs.List.Sorted.{IsStrictlySortedBy}
-use Rattle.std.specs.FinMap.{get, entries, from_entries, same_entries_map, get-from_sorted, get-entries}
-use Rattle.std.proofs.lemmas.List.{append-nil}
-use Rattle.std.specs.FinMap.Entries.{find}
-use Rattle.allocative_graph.specs.declared.flamegraph.Child.{Child}
-use Rattle.allocative_graph.specs.Graph.{under, IsPartOfSum}
-use Rattle.allocative_graph.specs.Reads.{under_rows, node, rows_of}
-use Rattle.allocative_graph.specs.Representation.PathRows.{IsSumByPath}
-use Rattle.allocative_graph.specs.Path.{Key, Path, key_cmp, path_cmp}
-use Rattle.allocative_graph.specs.Representation.NodeRows.{node_sorted, entries-node}
 use Rattle.allocative_graph.proofs.Listing.{entries-from_entries-sorted}
-use Rattle.allocative_graph.specs.Representation.Children.{size_under, AreSum, ArePartOfSum, InOrder}
+use Rattle.allocative_graph.specs.Representation.Children.{AreSum, ArePartOfSum}
 use Rattle.allocative_graph.proofs.ChildSizes.{none_above, part_of_sum}
 
 -- The first option, or the second one where the first is None.

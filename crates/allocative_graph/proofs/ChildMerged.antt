@@ -1,19 +1,11 @@
 -- Merging children: what the next child adds, and what is there at the end.
-use Rattle.std.proofs.Common.{◌≡◌, ℕ, ◌+◌, ◌<◌, ◌≤◌, ◌^◌, ◌&&◌, Bool, true, false, cond, List, [], ◌∷◌, ◌++◌, length, length-append, append_assoc, Option, Some, None, refl, sym, ap, subst, ◌∙◌, arith, true≢false, Result, Ok, Err}
-use Rattle.std.proofs.lemmas.List.{append-nil, length-map}
-use Rattle.std.specs.Prelude.{is_ok}
+use Rattle.std.proofs.Common.{◌≡◌, ℕ, ◌+◌, ◌<◌, ◌≤◌, ◌^◌, ◌&&◌, Bool, true, false, cond, List, [], ◌∷◌, ◌++◌, length, length-append, append_assoc, Option, Some, None, refl, sym, ap, subst, ◌∙◌, arith, true≢false, Result, Ok, Err, append-nil, is_ok}
+use Rattle.allocative_graph.proofs.Common.{eq_by_cmp, Less, Equal, Greater, get, len, entries, len-entries, Child, Key, Path, key_cmp, Graph, IsTree, total, rows_of, rows_of_child, AreChildren, weight, size_under, AddsUp, AddsUpInPart, AllAbove, Added, Merged}
+use Rattle.std.proofs.lemmas.List.{length-map}
 use Rattle.std.specs.Result.{result_and}
 use Rattle.std.specs.Option.{option_to_list}
-use Rattle.std.specs.Ordering.{eq_by_cmp}
-use Rattle.std.specs.declared.cmp.Ordering.TheVariants.{Less, Equal, Greater}
-use Rattle.std.specs.FinMap.{get, len, entries, len-entries}
-use Rattle.allocative_graph.specs.declared.flamegraph.Child.{Child}
-use Rattle.allocative_graph.specs.Path.{Key, Path, key_cmp}
-use Rattle.allocative_graph.specs.Graph.{Graph, IsTree, total}
-use Rattle.allocative_graph.specs.Reads.{rows_of, rows_of_child, AreChildren}
-use Rattle.allocative_graph.specs.Representation.Node.{weight}
-use Rattle.allocative_graph.specs.Representation.Children.{size_under, AddsUp, AddsUpInPart, AllAbove, front_order}
-use Rattle.allocative_graph.specs.Representation.Merged.{Added, Merged, IsNext}
+use Rattle.allocative_graph.specs.Representation.Children.{front_order}
+use Rattle.allocative_graph.specs.Representation.Merged.{IsNext}
 use Rattle.allocative_graph.proofs.ChildOrder.{first_below, first_tree, others, with_first, no_children, above_all, key_same, key_turn}
 use Rattle.allocative_graph.proofs.ChildRows.{weight-cons, weight-one, weight-append}
 use Rattle.allocative_graph.proofs.ChildSizes.{none_above, AddsUp-first, AddsUp-second, part_of_sum, part_of_none}

@@ -1,16 +1,8 @@
 -- Children in the order of their keys: what the order says of the parts of a list.
 use Rattle.std.proofs.Common.{◌≡◌, ℕ, zero, suc, ◌<◌, List, [], ◌∷◌, ◌++◌, length, get_or, ap, ◌∙◌, arith}
-use Rattle.std.specs.List.{AllByRecursion}
+use Rattle.allocative_graph.proofs.Common.{AllByRecursion, Less, Equal, Greater, ordering_reverse, nat_list_cmp_total, nat_cmp-IsAntisymmetric, slice_cmp-IsAntisymmetric, Child, Key, key_cmp, IsTree, AreChildren, InOrder, AllBelow, AllAbove}
 use Rattle.std.specs.List.Sorted.{IsStrictlySortedBy}
-use Rattle.std.specs.declared.cmp.Ordering.TheVariants.{Less, Equal, Greater}
-use Rattle.std.specs.Ordering.{ordering_reverse}
-use Rattle.std.specs.Cmp.Lexicographic.{nat_list_cmp_total}
-use Rattle.std.specs.FinMap.{nat_cmp-IsAntisymmetric, slice_cmp-IsAntisymmetric}
-use Rattle.allocative_graph.specs.declared.flamegraph.Child.{Child}
-use Rattle.allocative_graph.specs.Path.{Key, key_cmp}
-use Rattle.allocative_graph.specs.Graph.{IsTree}
-use Rattle.allocative_graph.specs.Reads.{keys_of, AreChildren}
-use Rattle.allocative_graph.specs.Representation.Children.{InOrder, AllBelow, AllAbove}
+use Rattle.allocative_graph.specs.Reads.{keys_of}
 
 pub key_same : (k l : Key) → key_cmp k l ≡ Equal → k ≡ l
 key_same = slice_cmp-IsAntisymmetric nat_cmp-IsAntisymmetric

@@ -1,14 +1,6 @@
 -- A child put among others: added to the one that has its key, or in its place.
-use Rattle.std.proofs.Common.{◌≡◌, ℕ, ◌+◌, ◌≤◌, ◌&&◌, Bool, true, false, suc, List, [], ◌∷◌, ◌++◌, take, drop, set, get_or, refl, sym, ap, subst, ◌∙◌, arith}
-use Rattle.std.proofs.lemmas.List.{take-append-drop}
-use Rattle.std.specs.declared.cmp.Ordering.TheVariants.{Less}
-use Rattle.allocative_graph.specs.declared.flamegraph.Child.{Child}
-use Rattle.allocative_graph.specs.Path.{Key, key_cmp}
-use Rattle.allocative_graph.specs.Graph.{IsTree, total}
-use Rattle.allocative_graph.specs.Reads.{AreChildren}
-use Rattle.allocative_graph.specs.Representation.Node.{weight}
-use Rattle.allocative_graph.specs.Representation.Children.{IsFound, IsChildGap, AllBelow, AllAbove}
-use Rattle.allocative_graph.specs.Representation.Merged.{Added, Merged}
+use Rattle.std.proofs.Common.{◌≡◌, ℕ, ◌+◌, ◌≤◌, ◌&&◌, Bool, true, false, suc, List, [], ◌∷◌, ◌++◌, take, drop, set, get_or, refl, sym, ap, subst, ◌∙◌, arith, take-append-drop}
+use Rattle.allocative_graph.proofs.Common.{Less, Child, Key, key_cmp, IsTree, total, AreChildren, weight, IsFound, IsChildGap, AllBelow, AllAbove, Added, Merged}
 use Rattle.allocative_graph.proofs.ChildOrder.{first_below, first_below_one, first_tree, others}
 use Rattle.allocative_graph.proofs.ChildMerged.{merged_first, merged_second, merged_both, merged_same}
 use Rattle.allocative_graph.proofs.ChildRows.{weight-split, weight-append, split_at_place, set_at_place}

@@ -1,16 +1,10 @@
 -- The sizes below some children, added up.
-use Rattle.std.proofs.Common.{◌≡◌, ℕ, ◌+◌, ◌<◌, suc, List, [], ◌∷◌, ◌++◌, take, drop, set, length, get_or, refl, sym, ap, ◌∙◌, arith}
-use Rattle.std.proofs.lemmas.List.{take-append-drop, set_split}
+use Rattle.std.proofs.Common.{◌≡◌, ℕ, ◌+◌, ◌<◌, suc, List, [], ◌∷◌, ◌++◌, take, drop, set, length, get_or, refl, sym, ap, ◌∙◌, arith, take-append-drop}
+use Rattle.allocative_graph.proofs.Common.{entries, Child, Key, Path, total, under_rows, rows_of, rows_of_child, sum_of_rows, weight}
+use Rattle.std.proofs.lemmas.List.{set_split}
 use Rattle.std.proofs.Math.Seq.{drop-cons}
-use Rattle.std.specs.FinMap.{entries}
 use Rattle.std.proofs.lemmas.Grind.{flat_map-append}
-use Rattle.allocative_graph.specs.declared.flamegraph.Child.{Child}
-use Rattle.allocative_graph.specs.Path.{Key, Path}
-use Rattle.allocative_graph.specs.Graph.{total}
 use Rattle.allocative_graph.proofs.RowSums.{total-rows}
-use Rattle.allocative_graph.specs.Reads.{under_rows, rows_of, rows_of_child}
-use Rattle.allocative_graph.specs.Representation.PathRows.{sum_of_rows}
-use Rattle.allocative_graph.specs.Representation.Node.{weight}
 
 sum-append : (a b : List (Path × ℕ)) → sum_of_rows (a ++ b) ≡ sum_of_rows a + sum_of_rows b
 sum-append [] b = omega arith

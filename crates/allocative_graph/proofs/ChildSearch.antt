@@ -1,14 +1,10 @@
 -- What a search for a key finds among children in order.
-use Rattle.std.proofs.Common.{◌≡◌, ℕ, zero, suc, ◌+◌, ◌<◌, ◌≤◌, List, [], ◌∷◌, length, get_or, take, drop, Result, Ok, Err, IfOk, IfErr, refl, sym, ap, subst, ◌∙◌, arith, add-one}
-use Rattle.std.proofs.lemmas.List.{take_all, drop_all}
+use Rattle.std.proofs.Common.{◌≡◌, ℕ, zero, suc, ◌+◌, ◌<◌, ◌≤◌, List, [], ◌∷◌, length, get_or, take, drop, Result, Ok, Err, IfOk, IfErr, refl, sym, ap, subst, ◌∙◌, arith, add-one, take_all}
+use Rattle.allocative_graph.proofs.Common.{Less, Greater, ordering_reverse, is_lt, nat_list_cmp_total, Child, Key, key_cmp, InOrder, AllBelow, AllAbove, IsFound, IsChildGap}
+use Rattle.std.proofs.lemmas.List.{drop_all}
 use Rattle.std.proofs.lemmas.List.Sorted.{searchable_from_sorted}
-use Rattle.std.specs.declared.cmp.Ordering.TheVariants.{Less, Greater}
 use Rattle.std.specs.List.Sorted.{IsSearchInRange, IsBinarySearchResult, IsNonDecreasingBy, IsSortedBy}
-use Rattle.std.specs.Ordering.{ordering_index, ordering_reverse, is_lt}
-use Rattle.std.specs.Cmp.Lexicographic.{nat_list_cmp_total}
-use Rattle.allocative_graph.specs.declared.flamegraph.Child.{Child}
-use Rattle.allocative_graph.specs.Path.{Key, key_cmp}
-use Rattle.allocative_graph.specs.Representation.Children.{InOrder, AllBelow, AllAbove, IsFound, IsChildGap}
+use Rattle.std.specs.Ordering.{ordering_index}
 use Rattle.allocative_graph.proofs.ChildOrder.{key_same, key_turn, below_last, neighbors}
 
 below_from : (cs : List Child) (i : ℕ) (k : Key) → i ≤ length cs → ((j : ℕ) (d : Child) → j < i → key_cmp (get_or cs j d).key k ≡ Less) → AllBelow (take i cs) k

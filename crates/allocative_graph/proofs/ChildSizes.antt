@@ -1,14 +1,8 @@
 -- The sizes below a key that a child has, and below a key that no child has.
 use Rattle.std.proofs.Common.{◌≡◌, ℕ, ◌||◌, inl, inr, Bool, true, false, cond, List, [], ◌∷◌, Option, None, Some, refl, sym, ap, subst, ◌∙◌, arith}
-use Rattle.std.specs.Option.{is_some}
-use Rattle.std.specs.List.{AllByRecursion}
-use Rattle.std.specs.Ordering.{eq_by_cmp, is_eq}
+use Rattle.allocative_graph.proofs.Common.{is_some, AllByRecursion, eq_by_cmp, is_eq, get, Child, Key, Path, key_cmp, size_under, AddsUp, AddsUpInPart, AllAbove}
 use Rattle.std.specs.Cmp.{Equal-is}
-use Rattle.std.specs.FinMap.{get}
-use Rattle.allocative_graph.specs.declared.flamegraph.Child.{Child}
-use Rattle.allocative_graph.specs.Path.{Key, Path, key_cmp}
 use Rattle.allocative_graph.specs.Reads.{keys_of}
-use Rattle.allocative_graph.specs.Representation.Children.{size_under, AddsUp, AddsUpInPart, AllAbove}
 use Rattle.allocative_graph.proofs.ChildOrder.{key_same}
 
 -- No child has the key k.

@@ -1,14 +1,8 @@
 -- A path with an entry one key below it has an entry itself, or is the root.
 use Rattle.std.proofs.Common.{◌≡◌, ◌+◌, Bool, true, false, cond, ◌&&◌, ◌||◌, IsTrue, ◌⊎◌, inl, inr, List, [], ◌∷◌, ◌++◌, flat_map, refl, ap, sym, ◌∙◌, subst, true≢false}
-use Rattle.std.specs.List.{AllByRecursion}
-use Rattle.std.specs.Ordering.{eq_by_cmp}
+use Rattle.allocative_graph.proofs.Common.{AllByRecursion, eq_by_cmp, nat_cmp-IsAntisymmetric, slice_cmp-IsAntisymmetric, Key, Path, key_cmp, is_same_path, is_one_below, Identity, Forest, Empty, Inline, Unique, First, Again, Entry, Bag, own, own_behind, contents, content_entries, all, is_entered_in}
 use Rattle.std.proofs.lemmas.List.Folds.{list_any-append}
 use Rattle.std.proofs.lemmas.List.Sums.{sum_by-cons}
-use Rattle.std.specs.FinMap.{nat_cmp-IsAntisymmetric, slice_cmp-IsAntisymmetric}
-use Rattle.allocative_graph.specs.Path.{Key, Path, key_cmp, is_same_path, is_one_below}
-use Rattle.allocative_graph.specs.Identity.{Identity}
-use Rattle.allocative_graph.specs.Forest.{Forest, Empty, Inline, Unique, First, Again, Entry, Bag, own, own_behind, contents, content_entries, all}
-use Rattle.allocative_graph.specs.Sums.{is_entered_in}
 use Rattle.allocative_graph.proofs.Basics.{each-append, each-implies, or_left, or_right, is_eq-Equal, same_path_itself}
 use Rattle.allocative_graph.proofs.Below.{below_in}
 

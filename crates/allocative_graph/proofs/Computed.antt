@@ -1,12 +1,9 @@
 -- The maps of a bag as plain lists, on which texts compute.
 use Rattle.std.proofs.Common.{◌≡◌, ℕ, ◌+◌, unwrap_or, length, arith, ◌-◌, cond, List, [], ◌∷◌, ◌++◌, map, sum_by, flat_map, refl, ap, sym, ◌∙◌, nat_lt, not, ◌&&◌}
-use Rattle.std.specs.FinMap.{keys, entries, empty, from_entries, get-entries, entries-insert, len-entries, len-empty}
-use Rattle.std.specs.FinMap.Entries.{put, find}
-use Rattle.allocative_graph.specs.Path.{Path, path_cmp, is_one_below}
-use Rattle.allocative_graph.specs.Forest.{Entry, Bag}
-use Rattle.allocative_graph.specs.Sums.{Node, Sums, add, add_all, sums_of, together, node_of}
+use Rattle.allocative_graph.proofs.Common.{keys, entries, from_entries, get-entries, entries-insert, len-entries, put, find, Path, path_cmp, is_one_below, Entry, Bag, Node, Sums, add, add_all, sums_of, together, node_of, Graph, graph, sizes, size_at, sum_of, text, text_of_entries, warnings, is_root}
+use Rattle.std.specs.FinMap.{empty, len-empty}
 use Rattle.allocative_graph.proofs.Basics.{path_total}
-use Rattle.allocative_graph.specs.Graph.{Graph, graph, sizes, size_at, sum_of, text, text_of_entries, warnings, warning_line, is_root}
+use Rattle.allocative_graph.specs.Graph.{warning_line}
 
 abbrev pub nodes_add : List (Path × Node) → Entry → List (Path × Node)
 nodes_add es e = put path_cmp e.path (together (find path_cmp e.path es) (node_of e)) es

@@ -1,11 +1,8 @@
 -- Lines dropped from a text are paths left out of it.
 use Rattle.std.proofs.Common.{◌≡◌, ◌≢◌, ℕ, ◌==◌, Bool, true, false, cond, not, List, [], ◌∷◌, ◌++◌, map, flat_map, filter, refl, ap, sym, ◌∙◌, append_assoc, append-nil, decimal, eqb-true, arith}
-use Rattle.std.specs.List.{AllByRecursion}
-use Rattle.std.specs.Ordering.{eq_by_cmp}
-use Rattle.std.specs.FinMap.{entries}
+use Rattle.allocative_graph.proofs.Common.{AllByRecursion, eq_by_cmp, entries, Key, Path, key_cmp, Graph, text, joined, Lacks, HasPlainKeys}
 use lib.Chars.{codes}
-use Rattle.allocative_graph.specs.Path.{Key, Path, key_cmp}
-use Rattle.allocative_graph.specs.Graph.{Graph, text, line, joined, Lacks, HasPlainKeys}
+use Rattle.allocative_graph.specs.Graph.{line}
 use Rattle.allocative_graph.specs.Report.{ends_in, exact_text, lines_from, before_last, after_last, last_key, without_lines}
 use Rattle.allocative_graph.proofs.Text.{Plain, Sized, is_shown, full, body, shown_lines, full_body, body_lacks, decimal_lacks}
 

@@ -1,15 +1,8 @@
 -- Adding some children, one after another, has one result in whatever order.
 use Rattle.std.proofs.Common.{◌≡◌, ℕ, ◌+◌, ◌||◌, Bool, true, false, List, [], ◌∷◌, Option, Some, None, refl, sym, ap, ◌∙◌, inl, sum_by, unwrap_or, arith}
-use Rattle.std.specs.Option.{is_some}
-use Rattle.std.specs.List.{list_any}
-use Rattle.std.specs.List.Sorted.{IsPermutation}
-use Rattle.std.specs.FinMap.{get, contains_key, same_map}
+use Rattle.allocative_graph.proofs.Common.{is_some, list_any, IsPermutation, get, contains_key, same_map, Child, Path, Graph, IsTree, size_at, total, sum_of, under, default, IsPartOfSum, sum_of_all, total_of}
 use Rattle.std.proofs.lemmas.List.Sums.{sum_by-cons}
 use Rattle.std.proofs.lemmas.List.Sorted.{sum_by-IsPermutation, list_any-IsPermutation}
-use Rattle.allocative_graph.specs.declared.flamegraph.Child.{Child}
-use Rattle.allocative_graph.specs.Path.{Path}
-use Rattle.allocative_graph.specs.Graph.{Graph, IsTree, size_at, total, sum_of, under, default, IsPartOfSum}
-use Rattle.allocative_graph.specs.Many.{sum_of_all, total_of}
 use Rattle.allocative_graph.proofs.Basics.{path_total, path_antisymmetric}
 use Rattle.allocative_graph.proofs.Graphs.{sizes_together, total-sum_of, total-under, sum_of-associates, sum_of-default}
 use Rattle.allocative_graph.proofs.Merge.{get-sum_of}

@@ -1,14 +1,8 @@
 -- Graphs as maps: their sums, their totals, and graphs under a key.
 use Rattle.std.proofs.Common.{◌≡◌, ℕ, ◌+◌, Bool, true, false, cond, ◌||◌, ◌&&◌, T, IsTrue, ◌⊎◌, inl, inr, List, [], ◌∷◌, ◌++◌, map, Option, Some, None, is_some, refl, ap, sym, ◌∙◌, subst, true≢false, arith, unwrap_or, sum_by, Ordering, Less, Equal, Greater}
-use Rattle.std.specs.Option.{option_map}
-use Rattle.std.specs.Ordering.{eq_by_cmp, is_eq, is_lt, ordering_then}
-use Rattle.std.specs.FinMap.{get, insert, entries, get-entries, get-insert, get-from_entries, entries-insert, entries_sorted, contains_key, same_map}
-use Rattle.std.specs.FinMap.Entries.{find, put, is_sorted, below_all, by_order}
+use Rattle.allocative_graph.proofs.Common.{option_map, eq_by_cmp, is_eq, is_lt, ordering_then, get, entries, get-entries, get-insert, get-from_entries, entries-insert, entries_sorted, contains_key, same_map, find, put, is_sorted, below_all, by_order, Key, Path, key_cmp, path_cmp, is_same_path, is_one_below, Forest, all, Bag, Node, is_entered_in, bytes_in, is_unique_in, sums_of, Graph, graph, remaining, size_at, total_at, begins, total, sum_of, under, default, IsTree}
+use Rattle.std.specs.FinMap.{insert}
 use Rattle.std.proofs.lemmas.List.Sums.{sum_by-cons}
-use Rattle.allocative_graph.specs.Path.{Key, Path, key_cmp, path_cmp, is_same_path, is_one_below}
-use Rattle.allocative_graph.specs.Forest.{Forest, all, Bag}
-use Rattle.allocative_graph.specs.Sums.{Node, is_entered_in, bytes_in, is_unique_in, sums_of}
-use Rattle.allocative_graph.specs.Graph.{Graph, graph, remaining, size_at, total_at, begins, total, sum_of, under, default, IsTree}
 use Rattle.allocative_graph.proofs.Basics.{path_total, path_antisymmetric, same_path, each-found}
 use Rattle.allocative_graph.proofs.Below.{find-below_all, below_all-less}
 use Rattle.allocative_graph.proofs.Merge.{get-sum_of, get-graph, get-graph-root}

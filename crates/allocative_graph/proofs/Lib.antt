@@ -1,3 +1,4 @@
+pub mod Common
 pub mod Basics
 pub mod Computed
 pub mod WorkedExamples

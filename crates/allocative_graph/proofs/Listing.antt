@@ -1,8 +1,7 @@
 -- The entries of a map are those of a sorted list with the map's values.
 use Rattle.std.proofs.Common.{◌≡◌, T, List, sym, ap, ◌∙◌}
-use Rattle.std.specs.FinMap.{FinMap, get, entries, from_sorted, from_entries, get-from_sorted, get-from_entries, entries-from_sorted, same_map}
-use Rattle.std.specs.FinMap.Entries.{find, is_sorted}
-use Rattle.allocative_graph.specs.Path.{Path, path_cmp}
+use Rattle.allocative_graph.proofs.Common.{get, entries, from_entries, get-from_sorted, get-from_entries, entries-from_sorted, same_map, find, is_sorted, Path, path_cmp}
+use Rattle.std.specs.FinMap.{FinMap, from_sorted}
 use Rattle.allocative_graph.proofs.Basics.{path_total, path_antisymmetric}
 
 pub entries_are : {X : Type 0} (m : FinMap path_cmp X) (es : List (Path × X)) → T (is_sorted path_cmp es) → ((q : Path) → get m q ≡ find path_cmp q es) → entries m ≡ es

@@ -1,17 +1,9 @@
 -- Nodes are trees, and add up where their own sizes and their children do.
 use Rattle.std.proofs.Common.{◌≡◌, ℕ, ◌+◌, Bool, true, false, cond, List, [], ◌∷◌, ◌++◌, length, sym, ap, subst, ◌∙◌, arith}
-use Rattle.std.specs.Option.{is_some}
-use Rattle.std.specs.Ordering.{eq_by_cmp}
-use Rattle.std.specs.FinMap.{get, contains_key, len, len-entries}
-use Rattle.allocative_graph.specs.declared.flamegraph.Child.{Child}
-use Rattle.allocative_graph.specs.Path.{Key, Path, key_cmp}
-use Rattle.allocative_graph.specs.Graph.{IsTree, under}
-use Rattle.allocative_graph.specs.Reads.{node, rows_of, AllTrees, AreChildren}
-use Rattle.allocative_graph.specs.Representation.Children.{size_under}
-use Rattle.allocative_graph.specs.Representation.Merged.{Added, Merged}
+use Rattle.allocative_graph.proofs.Common.{is_some, eq_by_cmp, get, contains_key, len, len-entries, Child, Key, Path, key_cmp, IsTree, under, node, rows_of, AreChildren, size_under, Added, Merged, entries-node}
+use Rattle.allocative_graph.specs.Reads.{AllTrees}
 use Rattle.allocative_graph.proofs.ChildLookup.{get-root, get-under, node_sum, node_part, node_of_one}
 use Rattle.allocative_graph.proofs.ChildOrder.{one_child}
-use Rattle.allocative_graph.specs.Representation.NodeRows.{entries-node}
 use Rattle.allocative_graph.proofs.NodeSizes.{total-node}
 
 has_parent : (cs : List Child) (l : Key) (p : Path) (k : Key) → AllTrees cs → is_some (size_under cs l (p ++ k ∷ [])) ≡ true → is_some (size_under cs l p) ≡ true

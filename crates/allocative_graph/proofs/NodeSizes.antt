@@ -1,18 +1,12 @@
 -- The size at the root of a node's graph, and its total.
 use Rattle.std.proofs.Common.{◌≡◌, ℕ, ◌+◌, List, [], ◌∷◌, sym, ap, ◌∙◌}
+use Rattle.allocative_graph.proofs.Common.{entries-insert, entries-from_sorted, same_entries_map, get-from_sorted, put, unwrap_or, Child, size_at, total, default, sum_of_rows, key_cmp, path_cmp, node, rows_of, entries-node, node_sorted}
 use Rattle.std.specs.List.Sorted.{IsStrictlySortedBy}
-use Rattle.std.specs.FinMap.{insert, entries-insert, entries-from_sorted, same_entries_map, get-from_sorted}
-use Rattle.std.specs.FinMap.Entries.{put}
-use Rattle.std.specs.Option.{unwrap_or}
-use Rattle.allocative_graph.specs.declared.flamegraph.Child.{Child}
-use Rattle.allocative_graph.specs.Graph.{size_at, total, default}
+use Rattle.std.specs.FinMap.{insert}
 use Rattle.allocative_graph.proofs.Basics.{path_total}
 use Rattle.allocative_graph.proofs.RowSums.{total-rows}
 use Rattle.allocative_graph.proofs.Listing.{entries-from_entries-sorted}
-use Rattle.allocative_graph.specs.Representation.PathRows.{sum_of_rows}
-use Rattle.allocative_graph.specs.Path.{key_cmp, path_cmp}
-use Rattle.allocative_graph.specs.Reads.{node, rows_of, keys_of}
-use Rattle.allocative_graph.specs.Representation.NodeRows.{entries-node, node_sorted}
+use Rattle.allocative_graph.specs.Reads.{keys_of}
 
 -- A node with no children has only the root.
 pub node-nil : node 0 [] ≡ default

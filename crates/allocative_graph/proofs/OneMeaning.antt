@@ -1,11 +1,8 @@
 -- A bag of entries and its contents have one meaning, up to order.
 use Rattle.std.proofs.Common.{◌≡◌, List, [], ◌∷◌, ◌++◌, flat_map, ◌∙◌, IsPermutation}
+use Rattle.allocative_graph.proofs.Common.{Identity, is_same_identity, Bag, IsMeaning, sums_of}
 use Rattle.std.specs.List.{IsDistinct}
 use Rattle.std.proofs.lemmas.List.Sorted.{IsPermutation-refl, IsPermutation-sym, IsPermutation-trans, IsPermutation-append_right}
-use Rattle.allocative_graph.specs.Identity.{Identity, is_same_identity}
-use Rattle.allocative_graph.specs.Forest.{Bag}
-use Rattle.allocative_graph.specs.Meaning.{IsMeaning}
-use Rattle.allocative_graph.specs.Sums.{sums_of}
 use Rattle.allocative_graph.proofs.Basics.{both_ways, same_identity_turned, each-implies}
 use Rattle.allocative_graph.proofs.Order.{NoRepeat, absent, same_flat}
 use Rattle.allocative_graph.proofs.Lookups.{add_all-permutation}

@@ -1,13 +1,9 @@
 -- Two whole showings that agree reach the same identities and have equal sums.
 use Rattle.std.proofs.Common.{◌≡◌, Bool, true, false, cond, ◌||◌, IsTrue, inl, inr, List, [], ◌∷◌, ◌++◌, flat_map, refl, ap, sym, ◌∙◌, subst, true≢false, IsPermutation, append_assoc}
-use Rattle.std.specs.Prelude.{⊤}
-use Rattle.std.specs.List.{AllByRecursion}
+use Rattle.allocative_graph.proofs.Common.{⊤, AllByRecursion, Identities, Identity, is_same_identity, Forest, Bag, own, contents, content_entries, all, shown, is_mark_of, has_mark, is_among, Reached, marked, inside, content_of, IsWhole, sums_of}
 use Rattle.std.specs.FinSet.{insert, empty}
 use Rattle.std.proofs.lemmas.List.Sorted.{IsPermutation-refl, IsPermutation-sym, IsPermutation-trans, IsPermutation-append, IsPermutation-append_left, IsPermutation-append_right, IsPermutation-append_comm, list_any-IsPermutation}
-use Rattle.allocative_graph.specs.Identity.{Identities, Identity, is_same_identity}
-use Rattle.allocative_graph.specs.Forest.{Forest, Bag, own, contents, content_entries, all, shown}
-use Rattle.allocative_graph.specs.Meaning.{is_mark_of, has_mark, is_among, Reached, marked, inside, content_of, IsWhole, Agree}
-use Rattle.allocative_graph.specs.Sums.{sums_of}
+use Rattle.allocative_graph.specs.Meaning.{Agree}
 use Rattle.allocative_graph.proofs.Basics.{or_cases, or_left, or_right, both_ways, same_identity, same_identity_itself, same_identity_turned}
 use Rattle.allocative_graph.proofs.Reach.{Fresh, apart_from, fits_fresh, own_content, flat_of_each, reaches_exactly}
 use Rattle.allocative_graph.proofs.Lookups.{add_all-permutation}

@@ -1,11 +1,9 @@
 -- The order of paths: a prefix comes first; otherwise the first keys that differ decide, by the bytes of their texts.
 use Rattle.std.proofs.Common.{◌≡◌, ℕ, ◌↔◌, List, [], ◌∷◌, ◌++◌, refl, ap, sym, ◌∙◌, subst, true≢false, Ordering, Less, Equal, Greater, nat_cmp}
-use Rattle.std.specs.Ordering.{is_lt, ordering_then}
-use Rattle.std.specs.Cmp.Lexicographic.{slice_cmp, nat_list_cmp_total}
+use Rattle.allocative_graph.proofs.Common.{is_lt, ordering_then, slice_cmp, nat_list_cmp_total, IsAntisymmetric, nat_cmp-IsAntisymmetric, slice_cmp-IsAntisymmetric, Key, Path, key_cmp, path_cmp}
 use Rattle.std.specs.Cmp.{nat_cmp_total}
-use Rattle.std.specs.FinMap.{IsAntisymmetric, nat_cmp-IsAntisymmetric, slice_cmp-IsAntisymmetric}
 use Rattle.std.proofs.lemmas.Cmp.{eq_by_cmp_equiv}
-use Rattle.allocative_graph.specs.Path.{Key, Path, key_cmp, path_cmp, ComesBefore, longer, parts}
+use Rattle.allocative_graph.specs.Path.{ComesBefore, longer, parts}
 use Rattle.allocative_graph.proofs.Basics.{is_eq-Equal}
 
 module _ {X : Type 0} (R : X → X → Ordering) (same : IsAntisymmetric R) (itself : (x : X) → R x x ≡ Equal) where

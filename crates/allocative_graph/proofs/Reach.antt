@@ -1,15 +1,12 @@
 -- The identities that a whole showing shows are exactly those reached.
 use Rattle.std.proofs.Common.{◌≡◌, Bool, true, false, cond, ◌||◌, IsTrue, ◌⊎◌, inl, inr, List, [], ◌∷◌, ◌++◌, map, flat_map, refl, ap, sym, ◌∙◌, subst, true≢false, IsPermutation}
-use Rattle.std.specs.Prelude.{⊤}
-use Rattle.std.specs.List.{AllByRecursion, IsDistinct}
-use Rattle.std.specs.FinSet.{contains, insert, empty, contains-insert, contains-empty}
+use Rattle.allocative_graph.proofs.Common.{⊤, AllByRecursion, contains, contains-insert, contains-empty, Path, Identities, Identity, identity_cmp, is_same_identity, Forest, Empty, Inline, Unique, First, Again, Bag, own, own_behind, contents, all, shown, insert_all, met_after, Fits, is_mark_of, has_mark, is_among, Reached, marked, inside, IsMeaning, content_of, IsWhole}
+use Rattle.std.specs.List.{IsDistinct}
+use Rattle.std.specs.FinSet.{insert, empty}
 use Rattle.std.proofs.lemmas.List.Folds.{list_any-append}
 use Rattle.std.proofs.lemmas.List.{map-append}
 use Rattle.std.proofs.lemmas.List.Sorted.{IsPermutation-refl}
-use Rattle.allocative_graph.specs.Path.{Path}
-use Rattle.allocative_graph.specs.Identity.{Identities, Identity, identity_cmp, is_same_identity}
-use Rattle.allocative_graph.specs.Forest.{Forest, Empty, Inline, Unique, First, Again, Bag, own, own_behind, contents, all, shown, insert_all, met_after, Fits}
-use Rattle.allocative_graph.specs.Meaning.{is_mark_of, has_mark, is_among, Reached, marked, inside, IsMeaning, content_in, content_of, IsWhole, ReachesExactly}
+use Rattle.allocative_graph.specs.Meaning.{content_in, ReachesExactly}
 use Rattle.allocative_graph.proofs.Basics.{or_cases, or_left, or_right, or_false_left, or_false_right, each-append, each-left, each-right, each-implies, each-map, identity_total, same_identity, same_identity_itself, same_identity_turned}
 
 abbrev pub Contents : Type 0

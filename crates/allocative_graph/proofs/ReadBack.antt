@@ -1,21 +1,15 @@
 -- A text of a graph that is read is the graph again.
 use Rattle.std.proofs.Common.{◌≡◌, ◌≢◌, ℕ, zero, suc, ◌+◌, ◌-◌, ◌^◌, ◌<◌, ◌≤◌, ◌==◌, Bool, true, false, cond, not, T, List, [], ◌∷◌, ◌++◌, map, flat_map, filter, length, length-append, take, get_or, Some, None, refl, ap, sym, ◌∙◌, subst, true≢false, arith, unwrap_or, decimal, sum_by, eqb-true, if◌then◌else◌, Ordering, Less, Equal, Greater}
-use Rattle.std.specs.List.{AllByRecursion, All, list_any, slice_split}
-use Rattle.std.specs.Str.Lines.{lines, lines_of_parts, strip_carriage_return}
+use Rattle.allocative_graph.proofs.Common.{AllByRecursion, list_any, slice_split, lines, lines_of_parts, is_eq, is_lt, get, entries, get-entries, entries_sorted, find, is_sorted, below_all, LEVELS, LineFault, Key, Path, path_cmp, is_same_path, Graph, text, joined, begins, size_at, Lacks, HasPlainKeys, HasWords, Stack, IsStack, IsCut, IsNumber, AreStacks, Means, IsFault, IsRead, number_of, bytes_at, is_path_of, all_bytes}
+use Rattle.std.specs.List.{All}
+use Rattle.std.specs.Str.Lines.{strip_carriage_return}
 use Rattle.std.specs.Str.Parse.{IsNumeral, digits_value, without_leading_plus}
-use Rattle.std.specs.Ordering.{is_eq, is_lt}
-use Rattle.std.specs.FinMap.{get, entries, get-entries, entries_sorted}
-use Rattle.std.specs.FinMap.Entries.{find, is_sorted, below_all}
 use Rattle.std.proofs.lemmas.Fmt.{decimal_is_IsNumeral}
 use Rattle.std.proofs.lemmas.Str.Parse.{without_leading_plus_none}
 use Rattle.std.proofs.lemmas.List.Elements.{All-nil, All-cons}
 use Rattle.std.proofs.lemmas.List.Splits.{slice_split_none, slice_split_at, length-slice_split}
 use Rattle.std.proofs.lemmas.List.Sums.{sum_by-cons}
-use Rattle.allocative_graph.specs.declared.read.TheConstants.{LEVELS}
-use Rattle.allocative_graph.specs.declared.read.LineFault.{LineFault}
-use Rattle.allocative_graph.specs.Path.{Key, Path, path_cmp, is_same_path}
-use Rattle.allocative_graph.specs.Graph.{Graph, text, joined, begins, size_at, Lacks, HasPlainKeys, HasWords}
-use Rattle.allocative_graph.specs.Read.{Stack, IsStack, IsCut, IsNumber, AreStacks, Means, IsFault, IsRead, Exceeds, CanBeRead, keys_of, number_of, bytes_at, is_path_of, all_bytes}
+use Rattle.allocative_graph.specs.Read.{Exceeds, CanBeRead, keys_of}
 use Rattle.allocative_graph.proofs.Basics.{same_path, or_false_left, or_false_right}
 use Rattle.allocative_graph.proofs.Text.{Plain, Sized, Good, is_shown, full, body, shown_lines, full_body, body_lacks, decimal_lacks, good_entries, words, and_left, and_right}
 use Rattle.allocative_graph.proofs.Exact.{differs}

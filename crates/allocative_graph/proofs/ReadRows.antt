@@ -1,14 +1,8 @@
 -- The rows of a node: its own, and then those of its children, one child after another.
-use Rattle.std.proofs.Common.{◌≡◌, ℕ, ◌+◌, ◌<◌, List, [], ◌∷◌, ◌++◌, map, take, length, get_or, refl, sym, ap, ◌∙◌, append_assoc}
-use Rattle.std.proofs.lemmas.List.{take_more, append-nil}
+use Rattle.std.proofs.Common.{◌≡◌, ℕ, ◌+◌, ◌<◌, List, [], ◌∷◌, ◌++◌, map, take, length, get_or, refl, sym, ap, ◌∙◌, append_assoc, append-nil}
+use Rattle.allocative_graph.proofs.Common.{entries, Child, Key, Path, total, total_at, entries-node, InOrder, Figures, figures_behind, under_rows, node, rows_of, rows_of_child}
+use Rattle.std.proofs.lemmas.List.{take_more}
 use Rattle.std.proofs.lemmas.Grind.{flat_map-append}
-use Rattle.std.specs.FinMap.{entries}
-use Rattle.allocative_graph.specs.declared.flamegraph.Child.{Child}
-use Rattle.allocative_graph.specs.Path.{Key, Path}
-use Rattle.allocative_graph.specs.Graph.{total, total_at}
-use Rattle.allocative_graph.specs.Representation.NodeRows.{entries-node}
-use Rattle.allocative_graph.specs.Representation.Children.{InOrder}
-use Rattle.allocative_graph.specs.Reads.{Figures, figures_behind, under_rows, node, rows_of, rows_of_child}
 use Rattle.allocative_graph.proofs.Behind.{total_at-child}
 
 -- The figures of some paths with their sizes, with some keys before them, where t has the bytes of each path and of all

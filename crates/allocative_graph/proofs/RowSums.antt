@@ -1,11 +1,7 @@
 -- Totals by rows, sums that are known path by path, and joined keys.
-use Rattle.std.proofs.Common.{◌≡◌, ℕ, ◌+◌, ◌||◌, cond, List, [], ◌∷◌, ◌++◌, Option, Some, None, is_some, refl, sym, ap, ◌∙◌, unwrap_or, sum_by}
-use Rattle.std.specs.FinMap.{get, entries, same_map}
-use Rattle.std.proofs.lemmas.List.{append-nil}
+use Rattle.std.proofs.Common.{◌≡◌, ℕ, ◌+◌, ◌||◌, cond, List, [], ◌∷◌, ◌++◌, Option, Some, None, is_some, refl, sym, ap, ◌∙◌, unwrap_or, sum_by, append-nil}
+use Rattle.allocative_graph.proofs.Common.{get, entries, same_map, Key, Path, Graph, total, sum_of, joined, sum_of_rows, joined_on, IsSumByPath}
 use Rattle.std.proofs.lemmas.List.Sums.{sum_by-cons}
-use Rattle.allocative_graph.specs.Path.{Key, Path}
-use Rattle.allocative_graph.specs.Graph.{Graph, total, sum_of, joined}
-use Rattle.allocative_graph.specs.Representation.PathRows.{sum_of_rows, joined_on, IsSumByPath}
 use Rattle.allocative_graph.proofs.Basics.{path_total, path_antisymmetric}
 use Rattle.allocative_graph.proofs.Graphs.{sizes_together}
 use Rattle.allocative_graph.proofs.Merge.{get-sum_of}

@@ -1,19 +1,11 @@
 -- The graphs of stacks, path by path, and what they add up to in any order.
-use Rattle.std.proofs.Common.{◌≡◌, ℕ, ◌+◌, ◌^◌, ◌<◌, ◌≤◌, ◌||◌, ◌&&◌, Bool, true, false, cond, List, [], ◌∷◌, ◌++◌, map, take, Option, Some, None, is_some, refl, sym, ap, ◌∙◌, subst, true≢false, unwrap_or, sum_by, arith, Ordering, Less, Equal, Greater}
-use Rattle.std.specs.Prelude.{fold}
+use Rattle.std.proofs.Common.{◌≡◌, ℕ, ◌+◌, ◌^◌, ◌<◌, ◌≤◌, ◌||◌, ◌&&◌, Bool, true, false, cond, List, [], ◌∷◌, ◌++◌, map, take, Option, Some, None, is_some, refl, sym, ap, ◌∙◌, subst, true≢false, unwrap_or, sum_by, arith, Ordering, Less, Equal, Greater, fold}
+use Rattle.allocative_graph.proofs.Common.{list_any, IsPermutation, is_eq, ordering_then, get, contains_key, get-insert, Line, Key, Path, key_cmp, path_cmp, is_same_path, Graph, size_at, total, begins, is_root, default, sum_of, under, add_self, Stack, bytes_at, is_path_of, all_bytes, nested, one_stack, sum_of_stacks}
 use Rattle.std.specs.Option.{SomeIff}
-use Rattle.std.specs.List.{list_any}
-use Rattle.std.specs.List.Sorted.{IsPermutation}
-use Rattle.std.specs.Ordering.{is_eq, ordering_then}
-use Rattle.std.specs.FinMap.{get, contains_key, get-insert}
 use Rattle.std.proofs.lemmas.List.{map-append}
 use Rattle.std.proofs.lemmas.List.Sums.{sum_by-cons}
 use Rattle.std.proofs.lemmas.List.Sorted.{sum_by-IsPermutation, list_any-IsPermutation, IsPermutation-map}
-use Rattle.allocative_graph.specs.declared.read.Line.{Line}
-use Rattle.allocative_graph.specs.Path.{Key, Path, key_cmp, path_cmp, is_same_path}
-use Rattle.allocative_graph.specs.Graph.{Graph, size_at, total, begins, is_root, default, sum_of, under, add_self}
-use Rattle.allocative_graph.specs.Read.{Stack, seen, bytes_at, is_path_of, all_bytes, IsGraphOfStacks}
-use Rattle.allocative_graph.specs.Representation.Stacks.{nested, one_stack, sum_of_stacks}
+use Rattle.allocative_graph.specs.Read.{seen, IsGraphOfStacks}
 use Rattle.allocative_graph.proofs.Basics.{path_total, same_path}
 use Rattle.allocative_graph.proofs.PathOrder.{key_itself}
 use Rattle.allocative_graph.proofs.Graphs.{sizes_together, get-default, get-under, get-under-root, total-sum_of, total-under, total-add_at}

@@ -1,15 +1,13 @@
 -- Lines of collapsed stacks: where a line is cut, and which lines are none.
-use Rattle.std.proofs.Common.{◌≡◌, ◌≢◌, ℕ, zero, suc, ◌+◌, ◌<◌, ◌≤◌, ◌==◌, Bool, true, false, cond, List, [], ◌∷◌, ◌++◌, length, get_or, take, drop, Option, None, Some, refl, ap, sym, ◌∙◌, subst, arith, Bor, MatchOption, eqb-true, true≢false}
+use Rattle.std.proofs.Common.{◌≡◌, ◌≢◌, ℕ, zero, suc, ◌+◌, ◌<◌, ◌≤◌, ◌==◌, Bool, true, false, cond, List, [], ◌∷◌, ◌++◌, length, get_or, take, drop, Option, None, Some, refl, ap, sym, ◌∙◌, subst, arith, Bor, MatchOption, eqb-true, true≢false, take-append-drop}
+use Rattle.allocative_graph.proofs.Common.{LEVELS, LineFault, NoSpace, Lacks, Stack, IsStack, IsNumber, IsCut, IsWrong, number_of}
 use Rattle.std.specs.Str.Pattern.{RFindsChar}
 use Rattle.std.specs.Str.Parse.{AllDigits}
 use Rattle.std.specs.Char.{digit_value}
 use Rattle.std.proofs.lemmas.Str.Pattern.{NoCharPasses-char, drop_at_char}
-use Rattle.std.proofs.lemmas.List.{take-append-drop, nil_from_length}
-use Rattle.allocative_graph.specs.declared.read.TheConstants.{LEVELS}
-use Rattle.allocative_graph.specs.declared.read.LineFault.{LineFault}
-use Rattle.allocative_graph.specs.declared.read.LineFault.TheVariants.{NoSpace, NoPath, NoNumber, TooDeep}
-use Rattle.allocative_graph.specs.Graph.{Lacks}
-use Rattle.allocative_graph.specs.Read.{Stack, IsStack, IsNumber, IsCut, IsWrong, keys_of, number_of}
+use Rattle.std.proofs.lemmas.List.{nil_from_length}
+use Rattle.allocative_graph.specs.declared.read.LineFault.TheVariants.{NoPath, NoNumber, TooDeep}
+use Rattle.allocative_graph.specs.Read.{keys_of}
 use Rattle.allocative_graph.proofs.Text.{lacks_not, last_split}
 
 lacks_from : (c : ℕ) (bs : List ℕ) → ((i : ℕ) → i < length bs → get_or bs i 0 ≢ c) → Lacks c bs

@@ -1,14 +1,10 @@
 -- A text determines the sizes: it splits into lines at the line feeds, a line at its last space, and a path at each
 -- `;`.
 use Rattle.std.proofs.Common.{◌≡◌, ◌≢◌, ℕ, zero, suc, ◌+◌, ◌^◌, ◌<◌, ◌≤◌, ◌/◌, ◌%◌, ◌==◌, Bool, true, false, cond, not, ◌||◌, ◌&&◌, T, IsTrue, ◌⊎◌, inl, inr, List, [], ◌∷◌, ◌++◌, map, flat_map, filter, Some, None, refl, ap, sym, ◌∙◌, subst, true≢false, arith, unwrap_or, append_assoc, decimal, sum_by, nat_lt, eqb-true, if◌then◌else◌}
-use Rattle.std.specs.List.{AllByRecursion}
+use Rattle.allocative_graph.proofs.Common.{AllByRecursion, entries, get-entries, entries_sorted, find, is_sorted, below_all, Key, Path, path_cmp, is_same_path, Graph, text, text_of_entries, joined, is_root, size_at, Lacks, HasPlainKeys, HasWords}
 use Rattle.std.specs.Fmt.{digits, digits_onto, digit_glyph}
-use Rattle.std.specs.FinMap.{entries, get-entries, entries_sorted}
-use Rattle.std.specs.FinMap.Entries.{find, is_sorted, below_all}
 use Rattle.std.proofs.lemmas.Fmt.{decimal_injective}
 use Rattle.std.proofs.lemmas.List.Sums.{sum_by-cons}
-use Rattle.allocative_graph.specs.Path.{Key, Path, path_cmp, is_same_path}
-use Rattle.allocative_graph.specs.Graph.{Graph, text, text_of_entries, joined, is_root, size_at, Lacks, HasPlainKeys, HasWords}
 use Rattle.allocative_graph.proofs.Basics.{each-append, each-implies, same_path}
 use Rattle.allocative_graph.proofs.Below.{find-below_all}
 

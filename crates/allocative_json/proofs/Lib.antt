@@ -1,3 +1,4 @@
+pub mod Common
 pub mod NumbersLemmas
 pub mod Reports
 pub mod LinesLemmas

@@ -1,12 +1,11 @@
 -- The lines of a text, and the last key of a line, as `split_once` and `rsplit_once` find them.
-use Rattle.std.proofs.Common.{◌≡◌, ◌≢◌, ℕ, suc, ◌+◌, ◌<◌, ◌≤◌, ◌==◌, Bool, true, false, cond, List, [], ◌∷◌, ◌++◌, length, get_or, take, drop, Option, None, Some, refl, ap, sym, ◌∙◌, arith, append_assoc, append-nil, eq-eqb, Bor, MatchOption}
+use Rattle.std.proofs.Common.{◌≡◌, ◌≢◌, ℕ, suc, ◌+◌, ◌<◌, ◌≤◌, ◌==◌, Bool, true, false, cond, List, [], ◌∷◌, ◌++◌, length, get_or, take, drop, Option, None, Some, refl, ap, sym, ◌∙◌, arith, append_assoc, append-nil, eq-eqb, Bor, MatchOption, ne_eqb, take-append-drop}
+use Rattle.allocative_json.proofs.Common.{after_last, kept_lines}
 use Rattle.std.specs.Str.Pattern.{RFindsChar}
-use Rattle.std.proofs.lemmas.Bool.{ne_eqb}
-use Rattle.std.proofs.lemmas.List.{take-append-drop}
 use Rattle.std.proofs.lemmas.Str.Pattern.{NoCharPasses-char, drop_at_char, IsSplitOnceResult, split_parts}
 use Rattle.allocative.specs.Graph.{Lacks}
-use Rattle.allocative.specs.Report.{lines_from, before_last, after_last}
-use Rattle.allocative_json.specs.Lines.{kept_line, kept_lines}
+use Rattle.allocative.specs.Report.{lines_from, before_last}
+use Rattle.allocative_json.specs.Lines.{kept_line}
 
 lacks_from : (c : ℕ) (bs : List ℕ) → ((i : ℕ) → i < length bs → get_or bs i 0 ≢ c) → Lacks c bs
 lacks_from c [] h = tt

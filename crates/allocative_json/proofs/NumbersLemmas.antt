@@ -1,11 +1,8 @@
 -- The numbers of a document, with one more item or member.
 use Rattle.std.proofs.Common.{◌≡◌, ℤ, Bool, true, false, ◌&&◌, ◌||◌, List, [], ◌∷◌, ◌++◌, refl, sym, ◌∙◌, ap, String, Global}
+use Rattle.allocative_json.proofs.Common.{BTreeSet, contains, int_cmp, view, items_view, members_view, Value, are_whole, have_whole, AddsKeys, has_number, items_have, members_have}
 use Rattle.std.proofs.Math.Bool.{and_assoc}
-use Rattle.std.specs.BTreeSet.{BTreeSet, contains}
-use Rattle.std.specs.Ordering.{int_cmp}
-use Rattle.serde_json.specs.View.{view, items_view, members_view}
-use Rattle.serde_json.specs.declared.value.Value.{Value}
-use Rattle.allocative_json.specs.Numbers.{is_whole, are_whole, have_whole, AddsKeys, has_number, items_have, members_have}
+use Rattle.allocative_json.specs.Numbers.{is_whole}
 
 and-true : (b : Bool) → (b && true) ≡ b
 and-true true = refl

@@ -1,17 +1,15 @@
 -- How reports of roots are reports of an input, and how their errors are those of a run.
 use Rattle.std.proofs.Common.{◌≡◌, ℕ, ◌<◌, ℤ, length, arith, Bool, true, List, [], ◌∷◌, Option, None, Some, Result, Ok, Err, IfOk, IfErr, IsErrAnd, IsOkAnd, IfSome, MatchResult, refl, ap, ◌∙◌, sym, subst}
-use Rattle.std.specs.BTreeSet.{BTreeSet}
+use Rattle.allocative_json.proofs.Common.{BTreeSet, view, Value, Showing, roots_show, Word, AreWords}
 use Rattle.std.specs.List.{list_all}
 use Rattle.serde_json.specs.Data.{Data}
-use Rattle.serde_json.specs.View.{view}
-use Rattle.serde_json.specs.declared.value.Value.{Value}
 use Rattle.serde_json.specs.Read.{read}
 use Rattle.serde_json.proofs.OnLiterals.{serde_json_on_literals}
 use Rattle.allocative.specs.Refusal.{Refusal}
 use Rattle.allocative.specs.Refusal.TheVariants as refused
 use Rattle.allocative_json.specs.Fault.{status_of, fault_of}
 use Rattle.allocative.specs.Forest.{Forest, Empty, Inline, Unique, First, Again, followed_by}
-use Rattle.allocative.specs.Shows.{Showing, Nothing, Both, each_shows}
+use Rattle.allocative.specs.Shows.{Nothing, Both, each_shows}
 use Rattle.allocative.specs.Collector.{Kind, OfGraph, begin, no_entries}
 use Rattle.allocative.specs.Exact.{CanTake, MayRefuse, MayRefuseProfile}
 use Rattle.allocative.proofs.Exact.{may_refuse}
@@ -21,10 +19,10 @@ use Rattle.allocative_json.specs.declared.fault.Fault.TheVariants.{Memory, NotJs
 use Rattle.allocative_json.specs.declared.fault.Fault.TheVariants as fault
 use Rattle.allocative_json.specs.declared.printed.Report.{Report}
 use Rattle.allocative_json.specs.declared.words.Words.{Words}
-use Rattle.allocative_json.specs.Profile.{roots_show, AreTexts, IsReportOf, IsRightReport, RefusesRoots, RefusesReport}
+use Rattle.allocative_json.specs.Profile.{AreTexts, IsReportOf, IsRightReport, RefusesRoots, RefusesReport}
 use Rattle.allocative_json.specs.Roots.{IsWholeDocument, AreRoots}
 use Rattle.allocative_json.specs.Run.{IsReportFor, IsWritten, IsReported, EndsWell, StopsReading, MayEndRun}
-use Rattle.allocative_json.specs.Words.{Word, AreWords, Asks}
+use Rattle.allocative_json.specs.Words.{Asks}
 
 -- ---- reports of roots
 pub report_made : (p : Showing) (exact : Bool) (o : Profile) (r : Result Report Fault) → IsProfileOf p o

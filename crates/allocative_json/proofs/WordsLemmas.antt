@@ -1,9 +1,10 @@
 -- Words accepted one after another.
-use Rattle.std.proofs.Common.{◌≡◌, ◌≢◌, ℕ, ◌+◌, ◌<◌, List, [], ◌∷◌, ◌++◌, length, length-append, get_or, take, drop, refl, ap, sym, ◌∙◌, subst, arith, Contains, String, Global, string_bytes}
+use Rattle.std.proofs.Common.{◌≡◌, ◌≢◌, ℕ, ◌+◌, ◌<◌, List, [], ◌∷◌, ◌++◌, length, length-append, get_or, take, drop, refl, ap, sym, ◌∙◌, subst, arith, Contains, String, Global, string_bytes, take-append-drop}
+use Rattle.allocative_json.proofs.Common.{Word, words_of, AreWords}
 use Rattle.std.proofs.lemmas.List.Elements.{All-push, All-contains, Contains-get_or, Contains-append_right}
 use Rattle.std.proofs.lemmas.List.Quantifiers.{all_pairs_push}
-use Rattle.std.proofs.lemmas.List.{get_or_at, get_or_append_left, map-append, drop_more, take-append-drop}
-use Rattle.allocative_json.specs.Words.{Word, words_of, IsKnown, AreWords}
+use Rattle.std.proofs.lemmas.List.{get_or_at, get_or_append_left, map-append, drop_more}
+use Rattle.allocative_json.specs.Words.{IsKnown}
 
 -- The words around the one at i.
 pub at_word : (texts : List (String Global)) (i : ℕ) (t : String Global) → i < length texts → t ≡ get_or texts i t

@@ -1,18 +1,12 @@
 -- Which rows have a box, and how often a path occurs.
-use Rattle.std.proofs.Common.{◌≡◌, ℕ, ◌+◌, ◌&&◌, Bool, true, false, cond, List, [], ◌∷◌, ◌++◌, Some, refl, sym, ap, subst, ◌∙◌, T}
-use Rattle.std.specs.Prelude.{filter, flat_map, count_by}
+use Rattle.std.proofs.Common.{◌≡◌, ℕ, ◌+◌, ◌&&◌, Bool, true, false, cond, List, [], ◌∷◌, ◌++◌, Some, refl, sym, ap, subst, ◌∙◌, T, filter, flat_map, count_by}
+use Rattle.allocative_picture.proofs.Common.{Ordering, Less, Equal, Greater, is_eq, is_lt, entries, entries_sorted, is_sorted, below_all, Path, path_cmp, is_same_path, Graph, Seen, is_drawn, box}
 use Rattle.std.proofs.lemmas.List.Sums.{sum_by-cons}
-use Rattle.std.specs.declared.cmp.Ordering.{Ordering}
-use Rattle.std.specs.declared.cmp.Ordering.TheVariants.{Less, Equal, Greater}
-use Rattle.std.specs.Ordering.{is_eq, is_lt}
 use Rattle.std.specs.Option.{is_some}
-use Rattle.std.specs.FinMap.{entries, contains_key, get-entries, entries_sorted}
-use Rattle.std.specs.FinMap.Entries.{find, is_sorted, below_all}
+use Rattle.std.specs.FinMap.{contains_key, get-entries}
+use Rattle.std.specs.FinMap.Entries.{find}
 use Rattle.allocative_graph.proofs.Basics.{path_antisymmetric}
-use Rattle.allocative_graph.specs.Path.{Path, path_cmp, is_same_path}
-use Rattle.allocative_graph.specs.Graph.{Graph}
-use Rattle.allocative_picture.specs.Rows.{Seen}
-use Rattle.allocative_picture.specs.Boxes.{is_drawn, box, element}
+use Rattle.allocative_picture.specs.Boxes.{element}
 use Rattle.allocative_picture.specs.Page.{boxes}
 
 one : (b : Bool) (x rest : List ℕ) (all : ℕ) (r : Seen) (rs : List Seen) → x ≡ element all r → rest ≡ flat_map (element all) rs → cond b x [] ++ rest ≡ flat_map (element all) (cond b (r ∷ rs) rs)

@@ -1,12 +1,12 @@
 -- The markup of a character has plain bytes only, and reads as that character.
-use Rattle.std.proofs.Common.{◌≡◌, ◌≢◌, ℕ, ◌<◌, ◌≤◌, ◌||◌, ◌&&◌, Bool, true, false, not, cond, List, [], ◌∷◌, ◌++◌, refl, sym, ap, subst, ◌∙◌, arith}
+use Rattle.std.proofs.Common.{◌≡◌, ◌≢◌, ℕ, ◌<◌, ◌≤◌, ◌||◌, ◌&&◌, Bool, true, false, not, cond, List, [], ◌∷◌, ◌++◌, refl, sym, ap, subst, ◌∙◌, arith, codes, nat_lt, ◌==◌, encode_utf8, flat_map}
+use Rattle.allocative_picture.proofs.Common.{escaped_char}
 use Rattle.std.proofs.lemmas.Bool.{eqb-false}
 use Rattle.std.proofs.lemmas.Bool.Decides.{nat_tests}
 use Rattle.std.proofs.lemmas.Str.{encode_ascii}
-use Rattle.std.specs.Prelude.{codes, nat_lt, ◌==◌, encode_utf8, flat_map}
 use Rattle.std.specs.List.{AllByRecursion, list_all}
 use Rattle.std.specs.Str.{chars}
-use Rattle.allocative_picture.specs.Escape.{is_unfit, escaped_char, IsPlain, Reads, end, ampersand, less, greater, quote, apostrophe, itself, EscapeLaws}
+use Rattle.allocative_picture.specs.Escape.{is_unfit, IsPlain, Reads, end, ampersand, less, greater, quote, apostrophe, itself, EscapeLaws}
 
 abbrev High : List ℕ → Type 0
 High bs = AllByRecursion (λ b. 128 ≤ b) bs

@@ -1,18 +1,13 @@
 -- How boxes are placed relative to one another.
-use Rattle.std.proofs.Math.Nat.{mul-div_cancel_left, div-zero}
 use Rattle.std.proofs.Common.{◌≡◌, ℕ, zero, suc, ◌+◌, ◌*◌, ◌<◌, ◌≤◌, ◌&&◌, cond, List, [], ◌∷◌, ◌++◌, sum_by, refl, ap, ◌∙◌, arith}
+use Rattle.allocative_picture.proofs.Common.{Ordering, Less, Equal, Greater, is_eq, is_lt, ordering_then, ordering_reverse, entries, Path, key_cmp, path_cmp, Graph, total, Mark, before_in, left}
+use Rattle.std.proofs.Math.Nat.{mul-div_cancel_left, div-zero}
 use Rattle.std.proofs.lemmas.List.Sums.{sum_by-cons}
-use Rattle.std.specs.declared.cmp.Ordering.{Ordering}
-use Rattle.std.specs.declared.cmp.Ordering.TheVariants.{Less, Equal, Greater}
-use Rattle.std.specs.Ordering.{is_eq, is_lt, ordering_then, ordering_reverse}
 use Rattle.std.specs.Cmp.Lexicographic.{nat_list_cmp_total}
-use Rattle.std.specs.FinMap.{entries}
-use Rattle.allocative_graph.specs.Path.{Key, Path, key_cmp, path_cmp}
-use Rattle.allocative_graph.specs.Graph.{Graph, total, begins}
+use Rattle.allocative_graph.specs.Path.{Key}
+use Rattle.allocative_graph.specs.Graph.{begins}
 use Rattle.allocative_graph.proofs.ChildOrder.{key_same}
-use Rattle.allocative_picture.specs.declared.row.Mark.{Mark}
-use Rattle.allocative_picture.specs.Rows.{before_in}
-use Rattle.allocative_picture.specs.Boxes.{edge, left, right}
+use Rattle.allocative_picture.specs.Boxes.{edge, right}
 use Rattle.allocative_picture.specs.Laws.{row_at, IsInside}
 
 -- The bytes of a path and of all paths below it, among some entries.

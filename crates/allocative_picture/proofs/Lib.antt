@@ -1,3 +1,4 @@
+pub mod Common
 pub mod Escaping
 pub mod Placing
 pub mod Walking

@@ -1,15 +1,11 @@
 -- The parts of a page, row by row and line by line.
-use Rattle.std.proofs.Common.{◌≡◌, ℕ, ◌+◌, ◌*◌, List, [], ◌∷◌, ◌++◌, map, take, length, get_or, refl, sym, ap, ◌∙◌, append_assoc, arith, ◌<◌, length-take}
-use Rattle.std.proofs.lemmas.List.{take_more, map-append, append-nil, length-map}
-use Rattle.std.specs.Prelude.{fold, flat_map}
+use Rattle.std.proofs.Common.{◌≡◌, ℕ, ◌+◌, ◌*◌, List, [], ◌∷◌, ◌++◌, map, take, length, get_or, refl, sym, ap, ◌∙◌, append_assoc, arith, ◌<◌, length-take, append-nil, fold, flat_map}
+use Rattle.allocative_picture.proofs.Common.{WarnedPath, Row, Seen, seen, box, level_of, warning_lines}
+use Rattle.std.proofs.lemmas.List.{take_more, map-append, length-map}
 use Rattle.std.proofs.lemmas.Grind.{flat_map-append}
 use Rattle.allocative_graph.specs.Graph.{Warned}
 use Rattle.allocative_collectors.specs.Warned as held
-use Rattle.allocative_collectors.specs.declared.output.WarnedPath.{WarnedPath}
-use Rattle.allocative_picture.specs.declared.row.Row.{Row}
-use Rattle.allocative_picture.specs.Rows.{Seen, seen}
-use Rattle.allocative_picture.specs.Boxes.{box}
-use Rattle.allocative_picture.specs.Page.{level_of, levels, boxes, warning_line, warning_lines}
+use Rattle.allocative_picture.specs.Page.{levels, boxes, warning_line}
 
 -- What the first i + 1 rows show is what the first i rows show, and then the next row.
 pub seen_more : (rs : List Row) (i : ℕ) (d : Row) → i < length rs → map seen (take (i + 1) rs) ≡ map seen (take i rs) ++ seen (get_or rs i d) ∷ []

@@ -1,18 +1,11 @@
 -- The bytes before a path are the own bytes of the rows before its row.
 use Rattle.std.proofs.Common.{◌≡◌, ℕ, ◌+◌, ◌&&◌, Bool, true, false, cond, List, [], ◌∷◌, ◌++◌, map, sum_by, length, refl, sym, ap, subst, ◌∙◌, append_assoc, T, arith}
+use Rattle.allocative_picture.proofs.Common.{is_lt, ordering_reverse, Ordering, Less, Equal, Greater, entries, entries_sorted, is_sorted, below_all, Path, path_cmp, Graph, total_at, Figures, Mark, before_in, row_of, rows_from}
 use Rattle.std.proofs.lemmas.List.Sums.{sum_by-cons, sum_by-append}
-use Rattle.std.specs.Ordering.{is_lt, ordering_reverse}
-use Rattle.std.specs.declared.cmp.Ordering.{Ordering}
-use Rattle.std.specs.declared.cmp.Ordering.TheVariants.{Less, Equal, Greater}
 use Rattle.std.specs.Cmp.{tied_itself}
-use Rattle.std.specs.FinMap.{entries, entries_sorted}
-use Rattle.std.specs.FinMap.Entries.{is_sorted, below_all}
-use Rattle.allocative_graph.specs.Path.{Path, path_cmp}
-use Rattle.allocative_graph.specs.Graph.{Graph, total_at}
-use Rattle.allocative_graph.specs.Reads.{Figures, figures}
+use Rattle.allocative_graph.specs.Reads.{figures}
 use Rattle.allocative_graph.proofs.Basics.{path_total}
-use Rattle.allocative_picture.specs.declared.row.Mark.{Mark}
-use Rattle.allocative_picture.specs.Rows.{before_in, row_of, rows_from, rows_of}
+use Rattle.allocative_picture.specs.Rows.{rows_of}
 
 abbrev Sizes : Type 0
 Sizes = List (Path × ℕ)

@@ -1,20 +1,15 @@
 -- The rows of a graph are that of its root and then those of its children, one child after another.
-use Rattle.std.proofs.Common.{◌≡◌, ℕ, ◌+◌, ◌<◌, ◌≤◌, ◌++◌, [], ◌∷◌, List, get_or, take, drop, length, length-append, arith, ap, sym, ◌∙◌}
-use Rattle.std.proofs.lemmas.List.{take_more, take-append-drop, append-nil, length-map}
+use Rattle.std.proofs.Common.{◌≡◌, ℕ, ◌+◌, ◌<◌, ◌≤◌, ◌++◌, [], ◌∷◌, List, get_or, take, drop, length, length-append, arith, ap, sym, ◌∙◌, take-append-drop, append-nil}
+use Rattle.allocative_picture.proofs.Common.{entries, len, Child, Path, Graph, total, total_at, Figures, figures_behind, node, weight, Mark, Seen, row_of, row_from, rows_from}
+use Rattle.std.proofs.lemmas.List.{take_more, length-map}
 use Rattle.std.proofs.lemmas.Grind.{flat_map-append}
-use Rattle.std.specs.FinMap.{entries, len, len-entries}
-use Rattle.allocative_graph.specs.declared.flamegraph.Child.{Child}
-use Rattle.allocative_graph.specs.Path.{Path}
-use Rattle.allocative_graph.specs.Graph.{Graph, total, total_at}
-use Rattle.allocative_graph.specs.Reads.{Figures, figures_behind, node, rows_of, rows_of_child}
+use Rattle.std.specs.FinMap.{len-entries}
+use Rattle.allocative_graph.specs.Reads.{rows_of, rows_of_child}
 use Rattle.allocative_graph.specs.Representation.Children.{InOrder}
-use Rattle.allocative_graph.specs.Representation.Node.{weight}
 use Rattle.allocative_graph.specs.Representation.PathRows.{sum_of_rows}
 use Rattle.allocative_graph.proofs.ChildRows.{weight-append, weight-one}
 use Rattle.allocative_graph.proofs.ReadRows.{child_read, figured, node_read}
-use Rattle.allocative_picture.specs.declared.row.Mark.{Mark}
 use Rattle.allocative_picture.specs.Rows as picture
-use Rattle.allocative_picture.specs.Rows.{Seen, row_of, row_from, rows_from}
 use Rattle.allocative_picture.proofs.Placing.{own_bytes, own-cons}
 
 rows_from-append : (M : Path → Mark) (b : ℕ) (fs gs : List Figures) → rows_from M b (fs ++ gs) ≡ rows_from M b fs ++ rows_from M (b + own_bytes fs) gs

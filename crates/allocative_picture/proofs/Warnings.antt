@@ -1,15 +1,10 @@
 -- Paths that have a warning.
-use Rattle.std.proofs.Common.{◌≡◌, ℕ, Bool, ◌&&◌, ◌||◌, List, Bor, [], ◌∷◌, map, refl, sym, ◌∙◌}
-use Rattle.std.specs.Prelude.{nat_eq}
+use Rattle.std.proofs.Common.{◌≡◌, ℕ, Bool, ◌&&◌, ◌||◌, List, Bor, [], ◌∷◌, map, refl, sym, ◌∙◌, nat_eq}
+use Rattle.allocative_picture.proofs.Common.{is_eq, ordering_then, Ordering, Less, Equal, Greater, key_cmp, path_cmp, is_same_path, WarnedPath}
 use Rattle.std.specs.List.{list_any}
 use Rattle.std.specs.Cmp.Lexicographic.{pointwise}
-use Rattle.std.specs.Ordering.{is_eq, ordering_then}
-use Rattle.std.specs.declared.cmp.Ordering.{Ordering}
-use Rattle.std.specs.declared.cmp.Ordering.TheVariants.{Less, Equal, Greater}
 use Rattle.std.proofs.lemmas.Map.Text.{is_eq-slice_cmp}
-use Rattle.allocative_graph.specs.Path.{key_cmp, path_cmp, is_same_path}
 use Rattle.allocative_graph.proofs.NodeText.{texts}
-use Rattle.allocative_collectors.specs.declared.output.WarnedPath.{WarnedPath}
 use Rattle.allocative_collectors.specs.Warned as held
 
 both : (r s : Ordering) → is_eq (ordering_then r s) ≡ (is_eq r && is_eq s)

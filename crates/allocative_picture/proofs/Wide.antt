@@ -1,14 +1,12 @@
 -- A picture needs only the rows that have a box, and the number of the others.
-use Rattle.std.proofs.Common.{◌≡◌, ℕ, ◌+◌, ◌-◌, ◌*◌, Bool, true, false, cond, max, List, [], ◌∷◌, ◌++◌, map, length, filter, refl, sym, ap, ◌∙◌}
-use Rattle.std.specs.Prelude.{fold, flat_map, count_by}
+use Rattle.std.proofs.Common.{◌≡◌, ℕ, ◌+◌, ◌-◌, ◌*◌, Bool, true, false, cond, max, List, [], ◌∷◌, ◌++◌, map, length, filter, refl, sym, ap, ◌∙◌, fold, flat_map, count_by}
+use Rattle.allocative_picture.proofs.Common.{Seen, is_drawn, style, closing, level_of, tools_of, warning_lines}
 use Rattle.std.proofs.lemmas.List.Sums.{length-filter}
 use Rattle.allocative_collectors.specs.Warned as held
 use Rattle.allocative_picture.specs.declared.options.Options.{Options}
 use Rattle.allocative_picture.specs.declared.page.Subject.{Subject}
-use Rattle.allocative_picture.specs.Rows.{Seen}
-use Rattle.allocative_picture.specs.Boxes.{is_drawn, element}
-use Rattle.allocative_picture.specs.Fixed.{style, closing}
-use Rattle.allocative_picture.specs.Page.{all_of, level_of, levels, opening, heading, summary, tools_of, boxes, warning_lines}
+use Rattle.allocative_picture.specs.Boxes.{element}
+use Rattle.allocative_picture.specs.Page.{all_of, levels, opening, heading, summary, boxes}
 use Rattle.allocative_picture.specs.Picture.{drawing, drawing_of}
 use Rattle.allocative_picture.proofs.Counting.{boxes_are}
 

@@ -1,15 +1,12 @@
 -- Faults and their status.
-use Rattle.std.proofs.Common.{◌≡◌, inl, inr, ℕ, ◌^◌, ◌≤◌, List, [], ◌∷◌, Option, None, Some, Err, refl, ap, arith}
-use Rattle.std.specs.Prelude.{IfSome, IsErrOf}
-use Rattle.allocative_graph.specs.Graph.{Graph, sum_of}
+use Rattle.std.proofs.Common.{◌≡◌, inl, inr, ℕ, ◌^◌, ◌≤◌, List, [], ◌∷◌, Option, None, Some, Err, refl, ap, arith, IfSome, IsErrOf}
+use Rattle.allocative_picture_filter.proofs.Common.{Graph, sum_of, Fault, Memory, Reading, Text, Sourced, StopsAddingUp}
 use Rattle.allocative_graph.specs.declared.refusal.Refusal as refusal
 use Rattle.allocative_graph.specs.declared.refusal.Refusal.TheVariants as refused
 use Rattle.allocative_picture_filter.specs.declared.arguments.Arguments as words
-use Rattle.allocative_picture_filter.specs.declared.fault.Fault.{Fault}
-use Rattle.allocative_picture_filter.specs.declared.fault.Fault.TheVariants.{Memory, Line, NotText, TooLarge, Arguments, Reading, Writing}
-use Rattle.allocative_picture_filter.specs.declared.run.Text.{Text}
+use Rattle.allocative_picture_filter.specs.declared.fault.Fault.TheVariants.{Line, NotText, TooLarge, Arguments, Writing}
 use Rattle.allocative_picture_filter.specs.Fault.{status_of, fault_of}
-use Rattle.allocative_picture_filter.specs.Run.{Sourced, StopsJoining, StopsAddingUp, Stops}
+use Rattle.allocative_picture_filter.specs.Run.{StopsJoining, Stops}
 
 -- A fault with status 7 is one of writing.
 is-writing : (f : Fault) → status_of f ≡ 7 → f ≡ Writing

@@ -1,15 +1,11 @@
 -- The graphs of some texts, one added after another, and what stops that.
 use Rattle.std.proofs.Common.{◌≡◌, ℕ, zero, suc, ◌+◌, ◌<◌, ◌⊎◌, inl, inr, Bool, true, false, cond, true≢false, List, [], ◌∷◌, ◌++◌, map, take, length, get_or, refl, sym, ap, subst, ◌∙◌, append-nil, arith}
+use Rattle.allocative_picture_filter.proofs.Common.{Graph, default, sum_of, IsRead, Options, Fault, Memory, Reading, Text, Sourced, sourced, AddUp, StopsAddingUp}
 use Rattle.std.proofs.lemmas.List.{map-append, take_more}
-use Rattle.allocative_graph.specs.Graph.{Graph, default, sum_of, text}
-use Rattle.allocative_graph.specs.Read.{IsRead}
+use Rattle.allocative_graph.specs.Graph.{text}
 use Rattle.allocative_picture.specs.Picture.{profile_drawing, change_drawing}
-use Rattle.allocative_picture.specs.declared.options.Options.{Options}
-use Rattle.allocative_picture_filter.specs.declared.fault.Fault.{Fault}
-use Rattle.allocative_picture_filter.specs.declared.fault.Fault.TheVariants.{Memory, Reading}
 use Rattle.allocative_picture_filter.specs.declared.fault.Source.TheVariants.{Input}
-use Rattle.allocative_picture_filter.specs.declared.run.Text.{Text}
-use Rattle.allocative_picture_filter.specs.Run.{Sourced, sourced, later_texts, AddUp, AddUpOnto, StopsAdding, StopsAddingUp, StopsProfile, written_of}
+use Rattle.allocative_picture_filter.specs.Run.{later_texts, AddUpOnto, StopsAdding, StopsProfile, written_of}
 
 -- ---- one text after another
 -- One text more is added.

@@ -1,8 +1,7 @@
 -- The ledger after one of its accounts has changed.
-use Rattle.std.proofs.Common.{◌≡◌, ◌∙◌, ℕ, ◌+◌, false, List, Option, Some, None, refl, sym, ap, subst, nat_cmp, string_bytes}
-use Rattle.std.specs.BTreeMap.{BTreeMap, UpdatesBy, is_at}
-use Rattle.std.specs.Prelude.{IfNone, IfSome, OnSome, String, unwrap_or}
-use Rattle.std.specs.Global.{Global}
+use Rattle.std.proofs.Common.{◌≡◌, ◌∙◌, ℕ, ◌+◌, false, List, Option, Some, None, refl, sym, ap, subst, nat_cmp, string_bytes, IfNone, IfSome, OnSome, String, unwrap_or, Global}
+use Rattle.allocative_service.proofs.Common.{is_at, Holding, ChangesAccount}
+use Rattle.std.specs.BTreeMap.{BTreeMap, UpdatesBy}
 use Rattle.std.specs.Map.{set_value}
 use Rattle.std.proofs.lemmas.Map.Steps.{set_value_same}
 use Rattle.std.specs.Cmp.Lexicographic.{slice_cmp}
@@ -13,8 +12,8 @@ use Rattle.std.proofs.lemmas.Map.{update_other}
 use Rattle.std.proofs.lemmas.Map.Text.{btree_map_updates_text}
 use Rattle.std.proofs.lemmas.Slice.Eq.{bytes_eq-Decides}
 use Rattle.allocative_service.specs.declared.ledger.Ledger.{Ledger}
-use Rattle.allocative_service.specs.Holding.{Holding, sum_of, bytes_at, without}
-use Rattle.allocative_service.specs.Accounts.{account_of, accounts_of, ChangesAccount, IsUnchanged, Releases}
+use Rattle.allocative_service.specs.Holding.{sum_of, bytes_at, without}
+use Rattle.allocative_service.specs.Accounts.{account_of, accounts_of, IsUnchanged, Releases}
 
 -- The ledger with these accounts in place of its own.
 abbrev pub with_accounts : Ledger → BTreeMap (String Global) Holding → Ledger

@@ -1,21 +1,20 @@
 -- The changes of all paths, and the change of one path.
-use Rattle.std.proofs.Common.{◌≡◌, ℕ, ◌+◌, ◌==◌, ◌&&◌, ◌||◌, Bool, true, false, cond, List, [], ◌∷◌, ◌++◌, map, None, Some, Option, refl, sym, ap, subst, ◌∙◌, T}
-use Rattle.std.specs.Prelude.{filter, flat_map, unwrap_or}
+use Rattle.std.proofs.Common.{◌≡◌, ℕ, ◌+◌, ◌==◌, ◌&&◌, ◌||◌, Bool, true, false, cond, List, [], ◌∷◌, ◌++◌, map, None, Some, Option, refl, sym, ap, subst, ◌∙◌, T, filter, flat_map, unwrap_or, append-nil}
+use Rattle.allocative_service.proofs.Common.{Graph, Changed, changes_of, HasEach}
 use Rattle.std.specs.declared.cmp.Ordering.{Ordering}
 use Rattle.std.specs.declared.cmp.Ordering.TheVariants.{Less, Equal, Greater}
 use Rattle.std.specs.Ordering.{is_eq, is_lt}
 use Rattle.std.specs.Option.{is_some}
-use Rattle.std.proofs.lemmas.List.{append-nil}
 use Rattle.std.proofs.lemmas.List.Elements.{filter-append}
 use Rattle.std.specs.FinMap.{entries, get, get-entries, entries_sorted}
 use Rattle.std.specs.FinMap.Entries.{find, is_sorted, below_all}
 use Rattle.allocative.proofs.Basics.{path_antisymmetric}
 use Rattle.allocative.proofs.Merge.{get-sum_of}
 use Rattle.allocative.specs.Path.{Path, path_cmp, is_same_path}
-use Rattle.allocative.specs.Graph.{Graph, size_at, sum_of, total_at}
+use Rattle.allocative.specs.Graph.{size_at, sum_of, total_at}
 use Rattle.allocative.specs.Reads as reads
 use Rattle.allocative.specs.Row as read
-use Rattle.allocative_service.specs.Changes.{Changed, change_of, changes_of, path_of, HasEach}
+use Rattle.allocative_service.specs.Changes.{change_of, path_of}
 
 -- The changes of the paths of some rows.
 abbrev pub changes_in : Graph → Graph → List read.Row → List Changed

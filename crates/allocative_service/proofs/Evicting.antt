@@ -1,15 +1,13 @@
 -- What stays true while the least recently used entries are evicted.
-use Rattle.std.proofs.Common.{◌≡◌, ℕ, ◌+◌, ◌-◌, ◌<◌, ◌≤◌, Some, None, [], ◌∷◌, ◌++◌, length, take, sym, ap, ◌∙◌, subst, arith, append_assoc}
-use Rattle.std.specs.Prelude.{All}
+use Rattle.std.proofs.Common.{◌≡◌, ℕ, ◌+◌, ◌-◌, ◌<◌, ◌≤◌, Some, None, [], ◌∷◌, ◌++◌, length, take, sym, ap, ◌∙◌, subst, arith, append_assoc, All}
+use Rattle.allocative_service.proofs.Common.{values_of, Kept, Entries, bytes_of, Evicts, EvictsTo, KeepsRecent}
 use Rattle.std.proofs.lemmas.List.{map-append}
 use Rattle.std.proofs.lemmas.List.Elements.{All-take}
 use Rattle.std.proofs.lemmas.List.Sums.{sum_by-append, sum_by-cons}
 use Rattle.std.proofs.Math.Seq.{take-append_seam}
-use Rattle.std.specs.Map.{values_of}
 use Rattle.lru.specs.LruCache.{last_entry}
 use Rattle.lru.proofs.Pairs.{cut_end, last_of_push}
-use Rattle.allocative_service.specs.declared.cache.Kept.{Kept}
-use Rattle.allocative_service.specs.Entries.{Entries, bytes_of, IsNeeded, IsOwed, Evicts, EvictsTo, KeepsRecent}
+use Rattle.allocative_service.specs.Entries.{IsNeeded, IsOwed}
 
 -- The bytes of two lists, one after the other.
 bytes_of-append : {K V : Type 0} (us vs : Entries K V) → bytes_of (us ++ vs) ≡ bytes_of us + bytes_of vs

@@ -1,3 +1,4 @@
+pub mod Common
 mod Accounts
 mod Each
 mod Evicting

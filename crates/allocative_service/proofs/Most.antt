@@ -1,12 +1,12 @@
 -- The first changes of a list that is sorted by growth.
-use Rattle.std.proofs.Common.{◌≡◌, ℕ, ◌+◌, ◌-◌, ◌^◌, ◌<◌, ◌≤◌, List, [], ◌∷◌, ◌++◌, map, take, drop, length, get_or, min, sym, ap, ◌∙◌, arith}
-use Rattle.std.specs.Prelude.{filter, All}
+use Rattle.std.proofs.Common.{◌≡◌, ℕ, ◌+◌, ◌-◌, ◌^◌, ◌<◌, ◌≤◌, List, [], ◌∷◌, ◌++◌, map, take, drop, length, get_or, min, sym, ap, ◌∙◌, arith, filter, All, take-append-drop, length-take, get_or-append-add, length-append}
+use Rattle.allocative_service.proofs.Common.{Changed, seen, is_grown}
 use Rattle.std.specs.List.Sorted.{IsPermutation, IsNonDecreasingBy}
-use Rattle.std.proofs.lemmas.List.{map-append, take-append-drop, length-take, length-map, get_or-map, get_or_append_left, get_or-append-add, length-append}
+use Rattle.std.proofs.lemmas.List.{map-append, length-map, get_or-map, get_or_append_left}
 use Rattle.std.proofs.lemmas.List.Sorted.{All-permutation}
 use Rattle.std.proofs.lemmas.List.Sorted.{length_permutation, IsPermutation-map}
 use Rattle.allocative_service.specs.declared.history.changes.Change.{Change}
-use Rattle.allocative_service.specs.Changes.{Changed, seen, growth, is_grown, GrewMost}
+use Rattle.allocative_service.specs.Changes.{growth, GrewMost}
 
 -- The growth of a change fits a word.
 abbrev pub IsWord : Change → Type 0

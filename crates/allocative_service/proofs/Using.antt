@@ -1,16 +1,13 @@
 -- Making an entry the most recently used changes no figure.
-use Rattle.std.proofs.Common.{◌≡◌, ℕ, ◌+◌, Bool, Option, Some, None, refl, sym, ap, arith, ◌∙◌}
-use Rattle.std.specs.Prelude.{All, option_map, unwrap_or}
-use Rattle.std.specs.Map.{lookup_entry, remove_entry, values_of}
+use Rattle.std.proofs.Common.{◌≡◌, ℕ, ◌+◌, Bool, Option, Some, None, refl, sym, ap, arith, ◌∙◌, All, option_map, unwrap_or}
+use Rattle.allocative_service.proofs.Common.{lookup_entry, remove_entry, values_of, Forest, Kept, Entries, bytes_of, Bounded, IsMeasured, IsBounded}
 use Rattle.std.proofs.lemmas.List.Elements.{All-cons, All-contains}
 use Rattle.std.proofs.lemmas.Map.Made.{Contains-values_of}
 use Rattle.std.proofs.lemmas.Map.Views.{All-map-remove_entry}
-use Rattle.allocative.specs.Forest.{Forest}
 use Rattle.lru.specs.LruCache.{promoted}
 use Rattle.lru.proofs.CallerLemmas.{Contains-lookup_entry}
 use Rattle.lru.proofs.Pairs.{lookup-lookup_entry}
-use Rattle.allocative_service.specs.declared.cache.Kept.{Kept}
-use Rattle.allocative_service.specs.Entries.{Entries, bytes_of, Bounded, used, IsMeasured, IsBounded}
+use Rattle.allocative_service.specs.Entries.{used}
 use Rattle.allocative_service.proofs.Evicting.{bytes_of-cons}
 use Rattle.allocative_service.proofs.Inserting.{bytes_of-remove_entry}
 

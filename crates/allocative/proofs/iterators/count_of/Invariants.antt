@@ -1,6 +1,6 @@
 -- The items so far were counted.
 use Rattle.std.proofs.Common.{◌≡◌, length}
-use Rattle.allocative_described.specs.Sizes.{checked}
+use Rattle.allocative.proofs.Common.{checked}
 use Rattle.allocative.proofs.iterators.count_of.Given as goal
 
 abbrev pub invariant-loop-item : goal.invariant-loop-item

@@ -1,9 +1,6 @@
 -- The right collection is refused after the left one was made.
 use Rattle.std.proofs.Common.{◌≡◌, Bool, Result, Ok, Err, IfErr, rules, subst}
-use Rattle.allocative_graph.specs.declared.refusal.Refusal.{Refusal}
-use Rattle.allocative_graph.specs.Shows.{Showing, each_shows}
-use Rattle.allocative_graph.specs.Visits.{Profile, IsProfileOf}
-use Rattle.allocative.specs.Exact.{MayRefuseProfile}
+use Rattle.allocative.proofs.Common.{Refusal, Showing, each_shows, Profile, IsProfileOf, MayRefuseProfile}
 use Rattle.allocative.specs.InTwo.{RefusesInTwo, right_refused}
 use Rattle.allocative.proofs.Closures.{err_or}
 use Rattle.allocative.proofs.sum_of_two.profile_in_two.Goals as goal

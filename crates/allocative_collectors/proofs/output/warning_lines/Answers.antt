@@ -1,12 +1,8 @@
 -- One more line.
-use Rattle.std.proofs.Common.{◌≡◌, ℕ, ◌+◌, ◌<◌, List, [], ◌∷◌, ◌++◌, map, take, length, get_or, append_assoc, ap, sym, ◌∙◌, arith}
-use Rattle.std.specs.Prelude.{string_bytes}
-use Rattle.std.proofs.lemmas.List.{take_more, map-append, append-nil}
+use Rattle.std.proofs.Common.{◌≡◌, ℕ, ◌+◌, ◌<◌, List, [], ◌∷◌, ◌++◌, map, take, length, get_or, append_assoc, ap, sym, ◌∙◌, arith, string_bytes, append-nil}
+use Rattle.allocative_collectors.proofs.Common.{newline, warning_text, WarnedPath, seen, warning_lines}
+use Rattle.std.proofs.lemmas.List.{take_more, map-append}
 use Rattle.std.proofs.lemmas.Grind.{flat_map-append}
-use Rattle.allocative_graph.specs.Format.{newline}
-use Rattle.allocative_graph.specs.Graph.{warning_text}
-use Rattle.allocative_collectors.specs.declared.output.WarnedPath.{WarnedPath}
-use Rattle.allocative_collectors.specs.Warned.{seen, warning_lines}
 use Rattle.allocative_collectors.proofs.output.warning_lines.Goals as goal
 
 lines-more : (ws : List WarnedPath) (i : ℕ) (w : WarnedPath) (before after : List ℕ) → i < length ws → w ≡ get_or ws i w → before ≡ warning_lines (map seen (take i ws)) → after ≡ (before ++ warning_text (seen w)) ++ newline ∷ [] → after ≡ warning_lines (map seen (take (i + 1) ws))

@@ -1,7 +1,6 @@
 -- The lines of the paths so far.
-use Rattle.std.proofs.Common.{◌≡◌, map, take}
-use Rattle.std.specs.Prelude.{string_bytes}
-use Rattle.allocative_collectors.specs.Warned.{seen, warning_lines}
+use Rattle.std.proofs.Common.{◌≡◌, map, take, string_bytes}
+use Rattle.allocative_collectors.proofs.Common.{seen, warning_lines}
 use Rattle.allocative_collectors.proofs.output.warning_lines.Given as goal
 
 abbrev pub invariant-loop-one : goal.invariant-loop-one

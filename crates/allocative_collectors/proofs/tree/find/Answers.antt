@@ -1,12 +1,7 @@
 -- What the key of the last child, and then the one in the middle, says of the others.
 use Rattle.std.proofs.Common.{◌≡◌, ◌+◌, ◌-◌, ◌/◌, ◌<◌, ℕ, true, length, get_or, map, refl, arith, sym, ap, ◌∙◌}
-use Rattle.std.specs.declared.cmp.Ordering.TheVariants.{Less, Equal, Greater}
-use Rattle.std.specs.declared.cmp.Ordering.{Ordering}
-use Rattle.std.specs.Ordering.{is_lt}
-use Rattle.allocative_graph.specs.Path.{Key, key_cmp}
+use Rattle.allocative_collectors.proofs.Common.{Less, Equal, Greater, Ordering, is_lt, Key, key_cmp, keys_of, key_in, shape}
 use Rattle.allocative_collectors.specs.declared.tree.Node.{Node}
-use Rattle.allocative_collectors.specs.Shapes.{keys_of, key_in}
-use Rattle.allocative_collectors.specs.Nodes.{shape}
 use Rattle.allocative_collectors.proofs.Keys.{length-keys_of}
 use Rattle.allocative_collectors.proofs.NodeReads.{key_seen}
 use Rattle.allocative_collectors.proofs.Searched.{between_up, between_down, gap_behind, place_found}

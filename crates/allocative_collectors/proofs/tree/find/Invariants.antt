@@ -1,7 +1,6 @@
 -- The keys before `low` are smaller, and those from `high` on are greater.
 use Rattle.std.proofs.Common.{◌-◌, map}
-use Rattle.allocative_collectors.specs.Shapes.{keys_of}
-use Rattle.allocative_collectors.specs.Nodes.{shape}
+use Rattle.allocative_collectors.proofs.Common.{keys_of, shape}
 use Rattle.allocative_collectors.proofs.Searched.{IsBetween}
 use Rattle.allocative_collectors.proofs.tree.find.Given as goal
 

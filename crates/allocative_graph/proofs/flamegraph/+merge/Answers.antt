@@ -1,18 +1,9 @@
-use Rattle.std.proofs.Common.{◌≡◌, ℕ, ◌+◌, ◌^◌, ◌<◌, ◌≤◌, true, false, rules, List, [], ◌∷◌, length, Some, refl, sym, ap, subst, ◌∙◌, arith}
-use Rattle.std.specs.Prelude.{is_ok}
-use Rattle.std.specs.Vec.{vec_capacity}
-use Rattle.std.specs.FinMap.{len}
-use Rattle.allocative_graph.specs.declared.flamegraph.Child.{Child}
-use Rattle.allocative_graph.specs.Graph.{total}
-use Rattle.allocative_graph.specs.Reads.{node, AreChildren}
-use Rattle.allocative_graph.specs.Representation.Node.{weight}
-use Rattle.allocative_graph.specs.Representation.Merged.{Added, Merged}
+use Rattle.std.proofs.Common.{◌≡◌, ℕ, ◌+◌, ◌^◌, ◌<◌, ◌≤◌, true, false, rules, List, [], ◌∷◌, length, Some, refl, sym, ap, subst, ◌∙◌, arith, is_ok}
+use Rattle.allocative_graph.proofs.Common.{vec_capacity, len, Child, total, node, AreChildren, weight, Added, Merged, IsFound, IsChildGap, rows_of}
 use Rattle.allocative_graph.proofs.ChildMerged.{going_next, going_end, is_ok-and, not_merged, merged_same, next_less, next_greater, next_equal, both_fit, rows_fit, going_pushed, front_is, none_of_length, one_of_length}
 use Rattle.allocative_graph.proofs.ChildOrder.{first_tree}
 use Rattle.allocative_graph.proofs.ChildPut.{put_at_found, weight_at_found, weight_of_found, put_at_gap, weight_at_gap}
 use Rattle.allocative_graph.proofs.ChildRows.{weight-one}
-use Rattle.allocative_graph.specs.Representation.Children.{IsFound, IsChildGap}
-use Rattle.allocative_graph.specs.Reads.{rows_of}
 use Rattle.allocative_graph.proofs.NodeAdded.{added_node, rows_of_node}
 use Rattle.allocative_graph.proofs.NodeSizes.{total-node}
 use Rattle.allocative_graph.proofs.flamegraph.+merge.Goals as goal

@@ -1,8 +1,5 @@
-use Rattle.std.proofs.Common.{◌+◌, ◌*◌, length}
-use Rattle.std.specs.Prelude.{is_ok}
-use Rattle.std.specs.Vec.{vec_capacity}
-use Rattle.std.specs.FinMap.{len}
-use Rattle.allocative_graph.specs.Reads.{rows_of}
+use Rattle.std.proofs.Common.{◌+◌, ◌*◌, length, is_ok}
+use Rattle.allocative_graph.proofs.Common.{vec_capacity, len, rows_of}
 use Rattle.allocative_graph.proofs.ChildMerged.{Going}
 use Rattle.allocative_graph.proofs.flamegraph.+merge.Given as goal
 

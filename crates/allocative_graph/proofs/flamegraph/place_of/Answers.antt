@@ -1,8 +1,6 @@
 -- Where the last key is below the key, all keys are.
 use Rattle.std.proofs.Common.{◌≡◌, ◌-◌, ◌<◌, length, suc, sym, ap, subst, ◌∙◌, arith}
-use Rattle.std.specs.declared.cmp.Ordering.TheVariants.{Less}
-use Rattle.allocative_graph.specs.declared.flamegraph.Child.{Child}
-use Rattle.allocative_graph.specs.Path.{key_cmp}
+use Rattle.allocative_graph.proofs.Common.{Less, Child, key_cmp}
 use Rattle.allocative_graph.proofs.ChildOrder.{key_same}
 use Rattle.allocative_graph.proofs.ChildSearch.{behind_last, at_last}
 use Rattle.allocative_graph.proofs.flamegraph.place_of.Goals as goal

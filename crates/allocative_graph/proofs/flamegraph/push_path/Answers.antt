@@ -1,9 +1,6 @@
-use Rattle.std.proofs.lemmas.List.{take_all}
-use Rattle.allocative_graph.specs.Graph.{joined}
+use Rattle.std.proofs.Common.{ℕ, List, Bor, sym, ap, ◌∙◌, append_assoc, ◌≡◌, ◌+◌, ◌++◌, [], ◌∷◌, get_or, take, arith, take_all, string_bytes}
+use Rattle.allocative_graph.proofs.Common.{joined, joined_on}
 use Rattle.allocative_graph.proofs.RowSums.{joined-keys}
-use Rattle.std.proofs.Common.{ℕ, List, Bor, sym, ap, ◌∙◌, append_assoc, ◌≡◌, ◌+◌, ◌++◌, [], ◌∷◌, get_or, take, arith}
-use Rattle.std.specs.Prelude.{string_bytes}
-use Rattle.allocative_graph.specs.Representation.PathRows.{joined_on}
 use Rattle.allocative_graph.proofs.NodeText.{joined_more, texts}
 use Rattle.allocative_graph.proofs.flamegraph.push_path.Goals as goal
 

@@ -1,6 +1,5 @@
-use Rattle.std.proofs.Common.{◌≡◌, ◌++◌, map, take}
-use Rattle.std.specs.Prelude.{string_bytes}
-use Rattle.allocative_graph.specs.Representation.PathRows.{joined_on}
+use Rattle.std.proofs.Common.{◌≡◌, ◌++◌, map, take, string_bytes}
+use Rattle.allocative_graph.proofs.Common.{joined_on}
 use Rattle.allocative_graph.proofs.flamegraph.push_path.Given as goal
 
 abbrev pub invariant-loop-key : goal.invariant-loop-key

@@ -1,6 +1,7 @@
 -- The entries of both are one bag, so their sums are one map.
 use Rattle.std.proofs.Common.{ap}
-use Rattle.allocative_graph.specs.Graph.{graph, text, warnings, warned_paths}
+use Rattle.allocative_graph.proofs.Common.{graph, text, warnings}
+use Rattle.allocative_graph.specs.Graph.{warned_paths}
 use Rattle.allocative_graph.proofs.Order.{same_reached, same_sums_of, agree_back}
 use Rattle.allocative_graph.proofs.laws.order_law.Goals as goal
 

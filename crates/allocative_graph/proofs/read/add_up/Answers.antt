@@ -1,9 +1,7 @@
-use Rattle.std.proofs.Common.{List, map, ap, arith, ◌∙◌}
-use Rattle.std.proofs.lemmas.List.{take_all, take_more}
-use Rattle.allocative_graph.specs.declared.read.Line.{Line}
-use Rattle.allocative_graph.specs.Graph.{default, sum_of}
+use Rattle.std.proofs.Common.{List, map, ap, arith, ◌∙◌, take_all}
+use Rattle.allocative_graph.proofs.Common.{Line, default, sum_of, sum_of_stacks}
+use Rattle.std.proofs.lemmas.List.{take_more}
 use Rattle.allocative_graph.specs.Read.{seen}
-use Rattle.allocative_graph.specs.Representation.Stacks.{sum_of_stacks}
 use Rattle.allocative_graph.proofs.StackSums.{line-more}
 use Rattle.allocative_graph.proofs.read.add_up.Goals as goal
 

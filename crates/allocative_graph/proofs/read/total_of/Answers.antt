@@ -1,6 +1,5 @@
-use Rattle.std.proofs.Common.{◌≡◌, List, sum_by, ap, arith, ◌∙◌}
-use Rattle.std.proofs.lemmas.List.{take_all}
-use Rattle.allocative_graph.specs.declared.read.Line.{Line}
+use Rattle.std.proofs.Common.{◌≡◌, List, sum_by, ap, arith, ◌∙◌, take_all}
+use Rattle.allocative_graph.proofs.Common.{Line}
 use Rattle.allocative_graph.proofs.read.total_of.Goals as goal
 
 pub returns : goal.returns

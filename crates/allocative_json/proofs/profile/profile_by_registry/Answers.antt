@@ -1,9 +1,9 @@
 -- What each box shows, and that its type is exact, is read off the box.
 use Rattle.std.proofs.Common.{None, Bool, true, rules, ◌≡◌, ◌∙◌, ap, arith, refl, inl, inr}
+use Rattle.allocative_json.proofs.Common.{Showing}
 use Rattle.std.proofs.lemmas.Grind.{common_steps}
 use denote.Param.Object.{read_made}
 use Rattle.allocative.specs.JsonShows.{stored_value}
-use Rattle.allocative.specs.Shows.{Showing}
 use Rattle.allocative_json.specs.Profile.{index_shows}
 use Rattle.allocative_json.proofs.Reports.{one_profiled, two_profiled}
 use Rattle.allocative_json.proofs.profile.profile_by_registry.OwnLists.{own-1}

@@ -1,4 +1,4 @@
-use Rattle.allocative_json.specs.Profile.{roots_show}
+use Rattle.allocative_json.proofs.Common.{roots_show}
 use Rattle.allocative_json.proofs.Reports.{report_made, refused_profile, refused_texts}
 use Rattle.allocative_json.proofs.profile.report_of.Goals as goal
 

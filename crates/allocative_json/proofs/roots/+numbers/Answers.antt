@@ -1,10 +1,8 @@
 use Rattle.std.proofs.Common.{map, ◌∙◌, subst, List}
+use Rattle.allocative_json.proofs.Common.{deref_pair, members_view, AddsKeys, members_have}
 use Rattle.std.proofs.lemmas.List.{map-append, take_more}
 use Rattle.std.proofs.lemmas.Iterator.{items_from_drains}
 use Rattle.std.proofs.lemmas.Iterator.Consumers.{YieldsList-from_rest}
-use Rattle.std.specs.Map.Iter.{deref_pair}
-use Rattle.serde_json.specs.View.{members_view}
-use Rattle.allocative_json.specs.Numbers.{AddsKeys, members_have}
 use Rattle.allocative_json.proofs.NumbersLemmas.{AddsKeys-item, AddsKeys-member}
 use Rattle.allocative_json.proofs.roots.+numbers.Goals as goal
 

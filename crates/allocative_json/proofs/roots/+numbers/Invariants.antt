@@ -1,9 +1,6 @@
 use Rattle.std.proofs.Common.{map, take}
-use Rattle.std.specs.Map.Iter.{deref_pair}
+use Rattle.allocative_json.proofs.Common.{deref_pair, int_cmp, items_view, members_view, AddsKeys, items_have, members_have}
 use Rattle.std.specs.BTreeSet.{IsOrdered}
-use Rattle.std.specs.Ordering.{int_cmp}
-use Rattle.serde_json.specs.View.{items_view, members_view}
-use Rattle.allocative_json.specs.Numbers.{AddsKeys, items_have, members_have}
 use Rattle.allocative_json.proofs.roots.+numbers.Given as goal
 
 abbrev pub invariant-add_items-loop-item : goal.invariant-add_items-loop-item

@@ -1,7 +1,5 @@
 use Rattle.std.proofs.Common.{◌≡◌, take, map}
-use Rattle.std.specs.Map.Iter.{deref_pair}
-use Rattle.serde_json.specs.View.{items_view, members_view}
-use Rattle.allocative_json.specs.Numbers.{are_whole, have_whole}
+use Rattle.allocative_json.proofs.Common.{deref_pair, items_view, members_view, are_whole, have_whole}
 use Rattle.allocative_json.proofs.roots.+whole.Given as goal
 
 abbrev pub invariant-are_whole_items-loop-item : goal.invariant-are_whole_items-loop-item

@@ -1,7 +1,5 @@
 use Rattle.std.proofs.Common.{◌≡◌, ◌∙◌, ◌||◌, ap, false, int_cmp, rules}
-use Rattle.std.specs.BTreeSet.{contains}
-use Rattle.serde_json.specs.View.{view}
-use Rattle.allocative_json.specs.Numbers.{has_number}
+use Rattle.allocative_json.proofs.Common.{contains, view, has_number}
 use Rattle.allocative_json.proofs.NumbersLemmas.{or-false}
 use Rattle.allocative_json.proofs.roots.index_of.Goals as goal
 

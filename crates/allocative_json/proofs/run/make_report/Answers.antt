@@ -1,5 +1,5 @@
 use Rattle.std.proofs.Common.{◌≡◌, IfSome}
-use Rattle.allocative_json.specs.Words.{words_of}
+use Rattle.allocative_json.proofs.Common.{words_of}
 use Rattle.allocative_json.proofs.Reports.{report_for, refused_words, refused_reading, refuses_run}
 use Rattle.allocative_json.proofs.run.make_report.Goals as goal
 

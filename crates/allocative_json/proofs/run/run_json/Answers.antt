@@ -1,4 +1,4 @@
-use Rattle.allocative_json.specs.Words.{words_of}
+use Rattle.allocative_json.proofs.Common.{words_of}
 use Rattle.allocative_json.proofs.Reports.{ends_well, is_reported}
 use Rattle.allocative_json.proofs.run.run_json.Goals as goal
 

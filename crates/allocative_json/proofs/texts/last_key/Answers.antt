@@ -1,6 +1,6 @@
 -- The keys before the last space, and the key after their last `;`.
 use Rattle.std.proofs.Common.{◌∙◌, ap, sym, Some, None, [], arith}
-use Rattle.allocative.specs.Report.{after_last}
+use Rattle.allocative_json.proofs.Common.{after_last}
 use Rattle.allocative_json.proofs.LinesLemmas.{rsplit_before, rsplit_after}
 use Rattle.allocative_json.proofs.texts.last_key.Goals as goal
 

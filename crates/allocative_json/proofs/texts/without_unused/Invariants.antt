@@ -1,7 +1,7 @@
 use Rattle.std.proofs.Common.{◌≡◌, ◌++◌, string_bytes, length}
+use Rattle.allocative_json.proofs.Common.{kept_lines}
 use denote.Text.{Utf8}
 use denote.Shadow.{shadow}
-use Rattle.allocative_json.specs.Lines.{kept_lines}
 use Rattle.allocative_json.proofs.texts.without_unused.Given as goal
 
 -- The lines kept so far, followed by those of the rest.

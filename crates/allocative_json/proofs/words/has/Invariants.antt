@@ -1,5 +1,5 @@
 use Rattle.std.proofs.Common.{take, Contains}
-use Rattle.allocative_json.specs.Words.{words_of}
+use Rattle.allocative_json.proofs.Common.{words_of}
 use Rattle.allocative_json.proofs.words.has.Given as goal
 
 -- The word is not among those so far.

@@ -1,5 +1,5 @@
 use Rattle.std.proofs.Common.{take}
-use Rattle.allocative_json.specs.Words.{words_of, AreWords}
+use Rattle.allocative_json.proofs.Common.{words_of, AreWords}
 use Rattle.allocative_json.proofs.words.read_words.Given as goal
 
 -- The words so far are accepted.

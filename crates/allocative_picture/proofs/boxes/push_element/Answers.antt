@@ -1,9 +1,6 @@
-use Rattle.std.proofs.Common.{◌≡◌, ◌++◌, ℕ, List, append_assoc}
-use Rattle.std.specs.Prelude.{string_bytes, length}
-use Rattle.allocative_picture.specs.Escape.{escaped}
-use Rattle.allocative_picture.specs.Figures.{place_text}
-use Rattle.allocative_picture.specs.Rows.{seen}
-use Rattle.allocative_picture.specs.Boxes.{left, width, upper, class_text, fit_text, title_text, paint_text, figure_text, frame, title, face, label, element}
+use Rattle.std.proofs.Common.{◌≡◌, ◌++◌, ℕ, List, append_assoc, string_bytes, length}
+use Rattle.allocative_picture.proofs.Common.{escaped, place_text, seen, left, upper, fit_text}
+use Rattle.allocative_picture.specs.Boxes.{width, class_text, title_text, paint_text, figure_text, frame, title, face, label, element}
 use Rattle.allocative_picture.proofs.boxes.push_element.Goals as goal
 
 regroup : (s a b c d : List ℕ) → (((s ++ a) ++ b) ++ c) ++ d ≡ s ++ (((a ++ b) ++ c) ++ d)

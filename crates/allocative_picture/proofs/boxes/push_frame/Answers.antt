@@ -1,8 +1,6 @@
-use Rattle.std.proofs.Common.{◌≡◌, ◌++◌, ap, ◌∙◌, append_assoc, length}
-use Rattle.std.specs.Prelude.{string_bytes}
-use Rattle.allocative_picture.specs.Figures.{place_text}
-use Rattle.allocative_picture.specs.Rows.{seen}
-use Rattle.allocative_picture.specs.Boxes.{upper, fit_text, frame}
+use Rattle.std.proofs.Common.{◌≡◌, ◌++◌, ap, ◌∙◌, append_assoc, length, string_bytes}
+use Rattle.allocative_picture.proofs.Common.{place_text, seen, upper, fit_text}
+use Rattle.allocative_picture.specs.Boxes.{frame}
 use Rattle.allocative_picture.specs.Classes.{class_name, fit_name}
 use Rattle.allocative_picture.proofs.boxes.push_frame.Goals as goal
 

@@ -1,7 +1,5 @@
-use Rattle.std.proofs.Common.{List, map, ap, sym, ◌∙◌, arith}
-use Rattle.std.proofs.lemmas.List.{take_all}
-use Rattle.allocative_picture.specs.declared.row.Row.{Row}
-use Rattle.allocative_picture.specs.Rows.{seen}
+use Rattle.std.proofs.Common.{List, map, ap, sym, ◌∙◌, arith, take_all}
+use Rattle.allocative_picture.proofs.Common.{Row, seen}
 use Rattle.allocative_picture.specs.Page.{levels}
 use Rattle.allocative_picture.proofs.Pages.{levels-more, levels-none}
 use Rattle.allocative_picture.proofs.page.levels.Goals as goal

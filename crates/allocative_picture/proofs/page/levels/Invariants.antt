@@ -1,5 +1,5 @@
 use Rattle.std.proofs.Common.{◌≡◌, ◌≤◌, ◌^◌, map, take}
-use Rattle.allocative_picture.specs.Rows.{seen}
+use Rattle.allocative_picture.proofs.Common.{seen}
 use Rattle.allocative_picture.specs.Page.{levels}
 use Rattle.allocative_picture.proofs.page.levels.Given as goal
 

@@ -1,8 +1,5 @@
-use Rattle.std.proofs.Common.{◌++◌, List, map, ap, sym, ◌∙◌, arith}
-use Rattle.std.proofs.lemmas.List.{take_all, append-nil}
-use Rattle.std.specs.Prelude.{string_bytes}
-use Rattle.allocative_picture.specs.declared.row.Row.{Row}
-use Rattle.allocative_picture.specs.Rows.{seen}
+use Rattle.std.proofs.Common.{◌++◌, List, map, ap, sym, ◌∙◌, arith, take_all, append-nil, string_bytes}
+use Rattle.allocative_picture.proofs.Common.{Row, seen}
 use Rattle.allocative_picture.specs.Page.{boxes}
 use Rattle.allocative_picture.proofs.Pages.{boxes-more, boxes-none}
 use Rattle.allocative_picture.proofs.page.push_boxes.Goals as goal

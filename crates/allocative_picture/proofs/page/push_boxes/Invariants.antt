@@ -1,6 +1,5 @@
-use Rattle.std.proofs.Common.{◌≡◌, ◌++◌, map, take}
-use Rattle.std.specs.Prelude.{string_bytes}
-use Rattle.allocative_picture.specs.Rows.{seen}
+use Rattle.std.proofs.Common.{◌≡◌, ◌++◌, map, take, string_bytes}
+use Rattle.allocative_picture.proofs.Common.{seen}
 use Rattle.allocative_picture.specs.Page.{boxes}
 use Rattle.allocative_picture.proofs.page.push_boxes.Given as goal
 

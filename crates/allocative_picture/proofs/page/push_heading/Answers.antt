@@ -1,5 +1,4 @@
-use Rattle.std.proofs.Common.{◌≡◌, ◌++◌, subst, append_assoc}
-use Rattle.std.specs.Prelude.{string_bytes, codes}
+use Rattle.std.proofs.Common.{◌≡◌, ◌++◌, subst, append_assoc, string_bytes, codes}
 use Rattle.allocative_picture.specs.Page.{heading}
 use Rattle.allocative_picture.proofs.page.push_heading.Goals as goal
 

@@ -1,8 +1,7 @@
-use Rattle.std.proofs.Common.{◌≡◌, ℕ, List, ◌++◌, ap, ◌∙◌, subst, append_assoc}
-use Rattle.std.specs.Prelude.{string_bytes, codes, decimal}
+use Rattle.std.proofs.Common.{◌≡◌, ℕ, List, ◌++◌, ap, ◌∙◌, subst, append_assoc, string_bytes, codes, decimal}
+use Rattle.allocative_picture.proofs.Common.{escaped}
 use Rattle.allocative_collectors.specs.Warned as held
 use Rattle.allocative_graph.specs.Graph.{warning_text}
-use Rattle.allocative_picture.specs.Escape.{escaped}
 use Rattle.allocative_picture.specs.Page.{warning_line}
 use Rattle.allocative_picture.proofs.page.push_warning.Goals as goal
 

@@ -1,5 +1,4 @@
-use Rattle.std.proofs.Common.{arith, rules}
-use Rattle.std.specs.Prelude.{string_bytes}
+use Rattle.std.proofs.Common.{arith, rules, string_bytes}
 use Rattle.allocative_picture.proofs.Pages.{warnings-more}
 use Rattle.allocative_picture.proofs.page.push_warnings.Goals as goal
 

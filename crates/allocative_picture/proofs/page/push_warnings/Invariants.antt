@@ -1,7 +1,6 @@
-use Rattle.std.proofs.Common.{◌≡◌, ◌++◌, map, take}
-use Rattle.std.specs.Prelude.{string_bytes}
+use Rattle.std.proofs.Common.{◌≡◌, ◌++◌, map, take, string_bytes}
+use Rattle.allocative_picture.proofs.Common.{warning_lines}
 use Rattle.allocative_collectors.specs.Warned as held
-use Rattle.allocative_picture.specs.Page.{warning_lines}
 use Rattle.allocative_picture.proofs.page.push_warnings.Given as goal
 
 -- The warnings of the paths so far have been appended.

@@ -1,7 +1,6 @@
-use Rattle.std.proofs.Common.{◌≡◌, List, ℕ, IfOk, map, length, sym, subst}
-use Rattle.std.specs.Prelude.{string_bytes}
+use Rattle.std.proofs.Common.{◌≡◌, List, ℕ, IfOk, map, length, sym, subst, string_bytes}
+use Rattle.allocative_picture.proofs.Common.{Seen, seen}
 use Rattle.std.proofs.lemmas.List.{length-map}
-use Rattle.allocative_picture.specs.Rows.{Seen, seen}
 use Rattle.allocative_picture.proofs.Wide.{drawing_of-rows}
 use Rattle.allocative_picture.proofs.picture.draw.Goals as goal
 

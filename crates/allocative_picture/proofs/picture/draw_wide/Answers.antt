@@ -1,9 +1,7 @@
 use Rattle.std.proofs.Common.{◌≡◌, ℕ, ◌+◌, ◌-◌, ◌*◌, ◌++◌, List, [], map, count_by, length, ap, ◌∙◌}
+use Rattle.allocative_picture.proofs.Common.{seen, is_drawn, style, closing, tools_of, warning_lines}
 use Rattle.allocative_collectors.specs.Warned as held
-use Rattle.allocative_picture.specs.Rows.{seen}
-use Rattle.allocative_picture.specs.Boxes.{is_drawn}
-use Rattle.allocative_picture.specs.Fixed.{style, closing}
-use Rattle.allocative_picture.specs.Page.{levels, opening, heading, summary, tools_of, boxes, warning_lines}
+use Rattle.allocative_picture.specs.Page.{levels, opening, heading, summary, boxes}
 use Rattle.allocative_picture.specs.Picture.{drawing_of}
 use Rattle.allocative_picture.proofs.picture.draw_wide.Goals as goal
 

@@ -1,18 +1,13 @@
-use Rattle.std.proofs.Common.{◌≡◌, ℕ, ◌+◌, ◌<◌, ◌++◌, [], ◌∷◌, List, Bor, map, take, arith, ap, sym, subst, append_assoc, ◌∙◌, filter, length}
-use Rattle.std.proofs.lemmas.List.{map-append, take_all}
+use Rattle.std.proofs.Common.{◌≡◌, ℕ, ◌+◌, ◌<◌, ◌++◌, [], ◌∷◌, List, Bor, map, take, arith, ap, sym, subst, append_assoc, ◌∙◌, filter, length, take_all}
+use Rattle.allocative_picture.proofs.Common.{is_drawn, len, Child, Graph, total, total_at, weight, figures_behind, node, Seen, seen, rows_from, row_from, mark_of}
+use Rattle.std.proofs.lemmas.List.{map-append}
 use Rattle.std.proofs.lemmas.List.Elements.{filter-append}
 use Rattle.allocative_graph.proofs.NodeAdded.{rows_of_node}
-use Rattle.allocative_picture.specs.Boxes.{is_drawn}
-use Rattle.std.specs.FinMap.{len}
-use Rattle.allocative_graph.specs.declared.flamegraph.Child.{Child}
-use Rattle.allocative_graph.specs.Graph.{Graph, total, total_at, size_at}
-use Rattle.allocative_graph.specs.Representation.Node.{weight}
-use Rattle.allocative_graph.specs.Reads.{figures_behind, node, rows_of}
+use Rattle.allocative_graph.specs.Graph.{size_at}
+use Rattle.allocative_graph.specs.Reads.{rows_of}
 use Rattle.allocative_graph.proofs.NodeSizes.{total-node}
 use Rattle.allocative_graph.proofs.NodeText.{texts, popped}
 use Rattle.allocative_graph.proofs.ReadRows.{figured}
-use Rattle.allocative_picture.specs.Rows.{Seen, seen, rows_from, row_from}
-use Rattle.allocative_picture.specs.Marks.{mark_of}
 use Rattle.allocative_picture.proofs.Walking.{weight_more, weight_within, rows_more, child_rows, node_rows}
 use Rattle.allocative_picture.proofs.rows.+push_rows.Goals as goal
 

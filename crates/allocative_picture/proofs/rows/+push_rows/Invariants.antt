@@ -1,12 +1,7 @@
 use Rattle.std.proofs.Common.{◌≡◌, ◌+◌, ◌++◌, map, take, length, filter}
-use Rattle.std.specs.FinMap.{len}
-use Rattle.allocative_graph.specs.Graph.{total_at}
+use Rattle.allocative_picture.proofs.Common.{len, total_at, weight, seen, rows_from, is_drawn, mark_of}
 use Rattle.allocative_graph.specs.Reads.{rows_of}
-use Rattle.allocative_graph.specs.Representation.Node.{weight}
 use Rattle.allocative_graph.proofs.ReadRows.{figured}
-use Rattle.allocative_picture.specs.Rows.{seen, rows_from}
-use Rattle.allocative_picture.specs.Boxes.{is_drawn}
-use Rattle.allocative_picture.specs.Marks.{mark_of}
 use Rattle.allocative_picture.proofs.rows.+push_rows.Given as goal
 
 abbrev pub decreases-push_rows : goal.decreases-push_rows

@@ -1,9 +1,6 @@
 use Rattle.std.proofs.Common.{◌++◌, map, filter, ap, ◌∙◌, arith}
-use Rattle.allocative_graph.specs.Reads.{figures_behind}
+use Rattle.allocative_picture.proofs.Common.{figures_behind, seen, rows_from, is_drawn, mark_of}
 use Rattle.allocative_graph.proofs.NodeText.{texts}
-use Rattle.allocative_picture.specs.Rows.{seen, rows_from}
-use Rattle.allocative_picture.specs.Boxes.{is_drawn}
-use Rattle.allocative_picture.specs.Marks.{mark_of}
 use Rattle.allocative_picture.proofs.Placing.{rows_from-figures}
 use Rattle.allocative_picture.proofs.Walking.{length-rows_of}
 use Rattle.allocative_picture.proofs.rows.wide_rows.Goals as goal

@@ -1,6 +1,6 @@
 use Rattle.std.proofs.Common.{◌+◌, inl, inr}
+use Rattle.allocative_picture_filter.proofs.Common.{total}
 use Rattle.std.proofs.lemmas.Result.{err_from_is_err_and}
-use Rattle.allocative_graph.specs.Graph.{total}
 use Rattle.allocative_picture_filter.proofs.Faults.{stops-joining}
 use Rattle.allocative_picture_filter.proofs.run.add_text.Goals as goal
 

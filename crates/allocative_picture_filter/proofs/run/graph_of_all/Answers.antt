@@ -1,9 +1,6 @@
-use Rattle.std.proofs.Common.{List, map, subst, arith}
-use Rattle.std.proofs.lemmas.List.{take_all}
+use Rattle.std.proofs.Common.{List, map, subst, arith, take_all}
+use Rattle.allocative_picture_filter.proofs.Common.{default, Text, sourced, AddUp}
 use Rattle.std.proofs.lemmas.Result.{err_from_is_err_and}
-use Rattle.allocative_graph.specs.Graph.{default}
-use Rattle.allocative_picture_filter.specs.declared.run.Text.{Text}
-use Rattle.allocative_picture_filter.specs.Run.{sourced, AddUp}
 use Rattle.allocative_picture_filter.proofs.Sums.{add-more, stops-at}
 use Rattle.allocative_picture_filter.proofs.run.graph_of_all.Goals as goal
 

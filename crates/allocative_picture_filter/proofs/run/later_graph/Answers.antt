@@ -1,7 +1,7 @@
 use Rattle.std.proofs.Common.{List, ℕ, subst}
+use Rattle.allocative_picture_filter.proofs.Common.{IsRead}
 use Rattle.std.proofs.lemmas.Option.{IfSome_then}
 use Rattle.std.proofs.lemmas.Result.{err_from_is_err_and}
-use Rattle.allocative_graph.specs.Read.{IsRead}
 use Rattle.allocative_picture_filter.proofs.Faults.{of_each}
 use Rattle.allocative_picture_filter.proofs.Sums.{later-with, stops-files, stops-input, stops-unread}
 use Rattle.allocative_picture_filter.proofs.run.later_graph.Goals as goal

@@ -1,8 +1,7 @@
 use Rattle.std.proofs.Common.{◌+◌, ◌==◌, length, refl, sym, ◌∙◌, inl, inr}
+use Rattle.allocative_picture_filter.proofs.Common.{total, Options}
 use Rattle.std.proofs.lemmas.Option.{IfSome_then}
 use Rattle.std.proofs.lemmas.Result.{err_from_is_err_and}
-use Rattle.allocative_graph.specs.Graph.{total}
-use Rattle.allocative_picture.specs.declared.options.Options.{Options}
 use Rattle.allocative_picture_filter.proofs.Faults.{of_each, stops-joining}
 use Rattle.allocative_picture_filter.proofs.Sums.{writes-text, writes-profile, writes-change}
 use Rattle.allocative_picture_filter.proofs.run.make.Goals as goal

@@ -1,6 +1,6 @@
 -- What evicting leaves so far, and each round removes an entry.
 use Rattle.std.proofs.Common.{◌≡◌, length}
-use Rattle.allocative_service.specs.Entries.{Evicts}
+use Rattle.allocative_service.proofs.Common.{Evicts}
 use Rattle.allocative_service.proofs.cache.evict.Given as goal
 
 abbrev pub invariant-loop-left : goal.invariant-loop-left

@@ -1,13 +1,8 @@
 -- A hand-written proof of `root_visitor`: the collector is lent, and a root visitor may hold it.
 use Rattle.allocative.proofs.Lent.{◌≡◌, List, [], ◌∷◌, refl, sym, ap, subst, MutBor, proved, says_two, id⊢, ftrue, flft, named, Lfts, fact, tables, ‵, raw, ◌⊛◌, some, later, ◌$◌, ◌∵◌, !, qed, done, move, keep, drop, use1, use2, split, join, fsplit, fjoin, feq_i, feq_l, pick, await, suffices, frame, enter, addr, stop, no_more, and_then, returns, alloc_all, pass_all, free_all, look_at, get, through, sets, lands_as, no, shows, RattleType, MutRef, mut_vals, mut_Tells, plain, named_lft, nothing, heard, peeks, only, calls_at, Lasts, lasts, triple_of, framed, Stays, stay_dropped, Goes-spent_ref, ends_at}
 use Rattle.allocative.proofs.Nest.{nest}
-use Rattle.std.specs.Prelude.{Result, Ok, Err, IfOk, IfErr, OnOk, OnErr}
-use Rattle.std.specs.Borrow.{name_if_ok}
-use Rattle.allocative_graph.specs.declared.refusal.Refusal.{Refusal}
-use Rattle.allocative_graph.specs.Collector.{State}
-use Rattle.allocative_graph.specs.Visits.{Begins, Settles}
-use Rattle.allocative.specs.declared.visitor.Visitor.{Visitor}
-use Rattle.allocative.specs.Built.{as_graph}
+use Rattle.std.proofs.Common.{Result, Ok, Err, IfOk, IfErr, OnOk, OnErr}
+use Rattle.allocative.proofs.Common.{name_if_ok, Refusal, State, Begins, Settles, Visitor, as_graph}
 use Rattle.allocative.specs.Lending.{LendsBegunGraph}
 use Rattle.allocative.specs.Rooted.{LendsBuilt, LendsRoot}
 use Rattle.allocative_graph.specs.contracts.refusal.Refusal as refusal

@@ -1,7 +1,6 @@
 -- The roots so far were visited.
 use Rattle.std.proofs.Common.{Ok, take}
-use Rattle.allocative_graph.specs.Shows.{each_shows}
-use Rattle.allocative_graph.specs.Visits.{Runs}
+use Rattle.allocative.proofs.Common.{each_shows, Runs}
 use Rattle.allocative.proofs.builder.FlameGraphBuilder.visit_values.Given as goal
 
 abbrev pub invariant-loop-root : goal.invariant-loop-root

@@ -1,8 +1,6 @@
 -- The collector is that of a flame graph, which met the identity now or before.
 use Rattle.std.proofs.Common.{◌≡◌, Ok, subst, ap}
-use Rattle.allocative_graph.specs.Collector.{OfGraph, State, Going}
-use Rattle.allocative.specs.Steps.{StepsInShared}
-use Rattle.allocative.specs.Kinds.{state_of}
+use Rattle.allocative.proofs.Common.{OfGraph, State, Going, StepsInShared, state_of}
 use Rattle.allocative.proofs.collector.Collector.open_shared_by_cases.Goals as goal
 
 pub returns-in-Ok-clause-enters : goal.returns-in-Ok-clause-enters

@@ -1,7 +1,7 @@
 -- The iterator gives the items.
 use Rattle.std.proofs.Common.{◌≡◌, ◌∙◌, rules}
+use Rattle.allocative.proofs.Common.{each_shows}
 use Rattle.std.proofs.lemmas.Iterator.{YieldsList-from_slice}
-use Rattle.allocative_graph.specs.Shows.{each_shows}
 use Rattle.allocative.proofs.Runs.{entered_list}
 use Rattle.allocative.proofs.containers.EachRefVecPart.enter.Goals as goal
 

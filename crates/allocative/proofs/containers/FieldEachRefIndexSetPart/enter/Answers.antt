@@ -1,7 +1,6 @@
 -- The iterator gives the items.
+use Rattle.allocative.proofs.Common.{each_shows, field_of}
 use Rattle.std.proofs.lemmas.Iterator.Consumers.{YieldsList-from_rest}
-use Rattle.allocative_graph.specs.Shows.{each_shows}
-use Rattle.allocative.specs.Runs.{field_of}
 use Rattle.allocative.proofs.Runs.{entered_list}
 use Rattle.allocative.proofs.containers.FieldEachRefIndexSetPart.enter.Goals as goal
 

@@ -1,6 +1,6 @@
 -- The iterator gives the items.
+use Rattle.allocative.proofs.Common.{pair_shows}
 use Rattle.std.proofs.lemmas.Iterator.Consumers.{YieldsList-from_rest}
-use Rattle.allocative.specs.Runs.{pair_shows}
 use Rattle.allocative.proofs.Runs.{entered_any_order}
 use Rattle.allocative.proofs.containers.PairsRefHashMapPart.enter.Goals as goal
 

@@ -1,6 +1,6 @@
 -- A pointer to a value met for the first time: what its content shows, and its errors.
 use Rattle.std.proofs.Common.{rules}
-use Rattle.allocative_graph.specs.declared.refusal.Refusal.TheVariants.{Memory}
+use Rattle.allocative.proofs.Common.{Memory}
 use Rattle.allocative.proofs.Within.{content_refused, content_added, pointer_refused, pointer_again}
 use Rattle.allocative.proofs.Showing.{showing, any_err, content_shows, shared_err}
 use Rattle.allocative.proofs.part.SharedPart.enter.Goals as goal

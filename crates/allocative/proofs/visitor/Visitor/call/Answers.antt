@@ -1,5 +1,5 @@
 use Rattle.std.proofs.Common.{◌∙◌, refl, Ok, Err}
-use Rattle.std.specs.Fn.{FnOnceReturnsAtMut}
+use Rattle.allocative.proofs.Common.{FnOnceReturnsAtMut}
 use Rattle.allocative.proofs.visitor.Visitor.call.Goals as goal
 
 pub returns-in-Err : goal.returns-in-Err

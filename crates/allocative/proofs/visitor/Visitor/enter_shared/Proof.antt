@@ -3,14 +3,12 @@
 use Rattle.allocative.proofs.Lent.{one_value, at_values, ◌≡◌, List, [], ◌∷◌, refl, sym, ap, subst, MutBor, proved_at, says_three, rewrite, Goes-blank, id⊢, ftrue, flft, named, w64, Val, fact, tables, ‵, raw, ◌⊛◌, some, later, ◌$◌, ◌∵◌, !, qed, done, move, keep, drop, use1, use2, split, join, fsplit, fjoin, feq_i, feq_l, pick, await, suffices, frame, enter, addr, stop, no_more, and_then, returns, alloc_all, pass_all, free_all, look_at, get, through, sets, lands_as, usize, yes, no, shows, uint_vals, uint_Tells, MutRef, mut_vals, mut_Tells, plain, named_lft, nothing, heard, peeks, only, calls_at, Lasts, lasts, triple_of, framed, Stays, stay_dropped, Goes-dropped, Goes-spent_ref, ends_at}
 use Rattle.allocative.proofs.Nest.{nest}
 use Rattle.allocative.proofs.Nesting.{Lender, Try, Given, TryAnswer, SharedAnswer, same_name, ends_with, ends_without, outer_by, content_by, answer_by}
-use Rattle.std.specs.Prelude.{true, false, Ok, IfOk, IfErr, OnOk, OnErr}
-use Rattle.std.specs.Borrow.{GName, name_if_ok, follows_so}
+use Rattle.std.proofs.Common.{true, false, Ok, IfOk, IfErr, OnOk, OnErr}
+use Rattle.allocative.proofs.Common.{name_if_ok, State, EntersShared, LendsCollector, EndsWith, EndsWithout, with_state, AnswersShared, told, turned}
+use Rattle.std.specs.Borrow.{GName, follows_so}
 use mathlib.Core.Option as maybe
-use Rattle.allocative_graph.specs.Collector.{State}
-use Rattle.allocative_graph.specs.Visits.{EntersShared}
 use Rattle.allocative.specs.Lending.{LendsPointed}
-use Rattle.allocative.specs.Nested.{LendsCollector, LendsShared, EndsWith, EndsWithout, with_state}
-use Rattle.allocative.specs.Shared.{AnswersShared, told, turned}
+use Rattle.allocative.specs.Nested.{LendsShared}
 use Rattle.allocative_graph.specs.contracts.key.Key as key
 use Rattle.allocative_graph.specs.contracts.shared.Identity as identity
 use Rattle.allocative.specs.contracts.visitor.Visitor as visitor

@@ -2,14 +2,8 @@
 use Rattle.allocative.proofs.Lent.{one_value, at_values, ◌≡◌, List, [], ◌∷◌, refl, ap, subst, MutBor, proved_at, says_two, Goes-blank, id⊢, ftrue, flft, named, w64, Val, fact, tables, ‵, raw, ◌⊛◌, some, later, ◌$◌, ◌∵◌, !, qed, done, move, keep, drop, use1, use2, split, join, fsplit, fjoin, feq_i, feq_l, pick, await, suffices, frame, enter, addr, stop, no_more, and_then, returns, alloc_all, pass_all, free_all, look_at, get, through, sets, lands_as, usize, yes, no, shows, uint_vals, uint_Tells, MutRef, mut_vals, mut_Tells, plain, named_lft, nothing, heard, peeks, only, calls_at, Lasts, lasts, triple_of, framed, Stays, stay_dropped, Goes-dropped, Goes-spent_ref, ends_at}
 use Rattle.allocative.proofs.Nest.{nest}
 use Rattle.allocative.proofs.Nesting.{Lender, Answer, EndsEntered, EndsRefused, ends_entered, ends_refused, entered_by, refused_by}
-use Rattle.std.specs.Prelude.{true, Result, Ok, Err, IfOk, IfErr, OnOk, OnErr}
-use Rattle.std.specs.Borrow.{name_if_ok}
-use Rattle.allocative_graph.specs.declared.refusal.Refusal.{Refusal}
-use Rattle.allocative_graph.specs.Collector.{State}
-use Rattle.allocative_graph.specs.Visits.{Enters, Answers}
-use Rattle.allocative.specs.declared.visitor.Visitor.{Visitor}
-use Rattle.allocative.specs.Lending.{LendsEntered}
-use Rattle.allocative.specs.Nested.{LendsCollector, LendsNested, with_state}
+use Rattle.std.proofs.Common.{true, Result, Ok, Err, IfOk, IfErr, OnOk, OnErr}
+use Rattle.allocative.proofs.Common.{name_if_ok, Refusal, State, Enters, Answers, Visitor, LendsEntered, LendsCollector, LendsNested, with_state}
 use Rattle.allocative_graph.specs.contracts.key.Key as key
 use Rattle.allocative.specs.contracts.visitor.Visitor as visitor
 use Rattle.allocative.specs.contracts.collector.Collector as collector

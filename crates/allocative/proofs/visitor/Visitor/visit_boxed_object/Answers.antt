@@ -1,5 +1,5 @@
 use Rattle.std.proofs.Common.{rules}
-use Rattle.allocative_graph.specs.Visits.{is_sized}
+use Rattle.allocative.proofs.Common.{is_sized}
 use Rattle.allocative.proofs.Within.{entered_within, not_within, first_not_within}
 use Rattle.allocative.proofs.Showing.{goes_in_plain}
 use Rattle.allocative.proofs.visitor.Visitor.visit_boxed_object.Goals as goal

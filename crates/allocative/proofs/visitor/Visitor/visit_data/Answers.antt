@@ -1,8 +1,7 @@
 -- The iterator gives the items.
 use Rattle.std.proofs.Common.{codes}
+use Rattle.allocative.proofs.Common.{each_shows, field_of}
 use Rattle.std.proofs.lemmas.Iterator.{YieldsList-from_slice}
-use Rattle.allocative_graph.specs.Shows.{each_shows}
-use Rattle.allocative.specs.Runs.{field_of}
 use Rattle.allocative.proofs.Making.{makes_none}
 use Rattle.allocative.proofs.Runs.{entered_list}
 use Rattle.allocative.proofs.visitor.Visitor.visit_data.Goals as goal

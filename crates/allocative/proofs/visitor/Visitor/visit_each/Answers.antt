@@ -1,6 +1,6 @@
 -- The iterator gives the items.
+use Rattle.allocative.proofs.Common.{each_shows}
 use Rattle.std.proofs.lemmas.Iterator.{YieldsList-from_slice}
-use Rattle.allocative_graph.specs.Shows.{each_shows}
 use Rattle.allocative.proofs.Making.{makes_none}
 use Rattle.allocative.proofs.Runs.{entered_list}
 use Rattle.allocative.proofs.visitor.Visitor.visit_each.Goals as goal

@@ -2,8 +2,8 @@
 use Rattle.allocative.proofs.Meaning.{entered_none, means_same}
 use Rattle.allocative.proofs.Within.{entered_then_refused}
 use Rattle.std.proofs.Common.{rules}
-use Rattle.allocative.specs.Runs.{deref_entry, value_shows}
-use Rattle.allocative_graph.specs.Shows.{each_shows}
+use Rattle.allocative.proofs.Common.{deref_entry, each_shows}
+use Rattle.allocative.specs.Runs.{value_shows}
 use Rattle.allocative.proofs.Runs.{entered_next, entered_run, along_run, along_refused}
 use Rattle.allocative.proofs.visitor.Visitor.visit_each_value.Goals as goal
 

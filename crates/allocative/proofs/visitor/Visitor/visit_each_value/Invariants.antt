@@ -1,8 +1,7 @@
 -- The items so far were shown.
 use Rattle.std.proofs.Common.{Ok, map}
-use Rattle.allocative.specs.Runs.{deref_entry, value_shows}
-use Rattle.allocative_graph.specs.Shows.{each_shows}
-use Rattle.allocative.specs.Visited.{Entered}
+use Rattle.allocative.proofs.Common.{deref_entry, each_shows, Entered}
+use Rattle.allocative.specs.Runs.{value_shows}
 use Rattle.allocative.proofs.visitor.Visitor.visit_each_value.Given as goal
 
 abbrev pub invariant-loop-key : goal.invariant-loop-key

@@ -1,6 +1,5 @@
 use Rattle.std.proofs.Common.{rules, ◌≡◌, refl, Ok, Err}
-use Rattle.std.specs.Fn.{FnOnceReturnsAtMut}
-use Rattle.allocative.specs.Closures.{called, refused_inside}
+use Rattle.allocative.proofs.Common.{FnOnceReturnsAtMut, called, refused_inside}
 use Rattle.allocative.proofs.Closures.{not_called_by}
 use Rattle.allocative.proofs.Showing.{left_cause, showing}
 use Rattle.allocative.proofs.visitor.Visitor.visit_field_with.Goals as goal

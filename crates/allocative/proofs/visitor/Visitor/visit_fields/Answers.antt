@@ -1,11 +1,8 @@
 -- One more item is shown, and the run ends.
-use Rattle.allocative.specs.Making.{makes}
+use Rattle.std.proofs.Common.{rules}
+use Rattle.allocative.proofs.Common.{makes, deref, field_of, each_shows}
 use Rattle.allocative.proofs.Meaning.{entered_none, means_same}
 use Rattle.allocative.proofs.Within.{entered_failed, failed_answer, entered_then_refused}
-use Rattle.std.proofs.Common.{rules}
-use Rattle.std.specs.Map.Iter.{deref}
-use Rattle.allocative.specs.Runs.{field_of}
-use Rattle.allocative_graph.specs.Shows.{each_shows}
 use Rattle.allocative.proofs.Runs.{entered_next, entered_run, along_run, along_all, along_refused}
 use Rattle.allocative.proofs.Making.{not_none, run_gives, run_ends}
 use Rattle.allocative.proofs.visitor.Visitor.visit_fields.Goals as goal

@@ -1,5 +1,5 @@
 use Rattle.std.proofs.Common.{rules}
-use Rattle.allocative_graph.specs.Visits.{is_sized}
+use Rattle.allocative.proofs.Common.{is_sized}
 use Rattle.allocative.proofs.Runs.{along_all, along_within}
 use Rattle.allocative.proofs.Within.{entered_within, not_within, first_not_within, gives_within}
 use Rattle.allocative.proofs.Showing.{goes_in_plain}

@@ -1,9 +1,6 @@
 -- The items so far were shown.
 use Rattle.std.proofs.Common.{length, ◌≡◌, Ok, map}
-use Rattle.std.specs.Map.Iter.{deref}
-use Rattle.allocative_graph.specs.Shows.{each_shows}
-use Rattle.allocative.specs.Visited.{Entered}
-use Rattle.allocative.specs.Making.{MakesPlan, Done}
+use Rattle.allocative.proofs.Common.{deref, each_shows, Entered, MakesPlan, Done}
 use Rattle.allocative.proofs.visitor.Visitor.visit_items.Given as goal
 
 abbrev pub invariant-loop-item : goal.invariant-loop-item

@@ -1,5 +1,5 @@
 use Rattle.std.proofs.Common.{true, rules}
-use Rattle.std.specs.Map.Iter.{deref}
+use Rattle.allocative.proofs.Common.{deref}
 use Rattle.allocative.proofs.Runs.{items_run, plain_run, counted_each, counted_plain}
 use Rattle.allocative.proofs.Making.{run_in_turn, run_counted}
 use Rattle.allocative.proofs.visitor.Visitor.visit_iter.Goals as goal

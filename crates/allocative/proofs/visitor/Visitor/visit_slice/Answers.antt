@@ -1,6 +1,6 @@
 use Rattle.std.proofs.Common.{rules, true, ◌≡◌}
+use Rattle.allocative.proofs.Common.{are_shown_each}
 use Rattle.allocative.proofs.Bodies.{entered_plain, entered_one_by_one}
-use Rattle.allocative.specs.Bodies.{are_shown_each}
 use Rattle.allocative.proofs.Making.{makes_plain, makes_each}
 use Rattle.allocative.proofs.visitor.Visitor.visit_slice.Goals as goal
 

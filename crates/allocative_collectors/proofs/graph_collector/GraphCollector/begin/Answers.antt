@@ -1,7 +1,6 @@
 -- No visitor is open, so the place is the root.
 use Rattle.std.proofs.Common.{true, [], sym, ap, ◌∙◌}
-use Rattle.allocative_graph.specs.Collector.{Live, go}
-use Rattle.allocative_collectors.specs.Places.{live}
+use Rattle.allocative_collectors.proofs.Common.{Live, go, live}
 use Rattle.allocative_collectors.proofs.Collect.{closed, at_root}
 use Rattle.allocative_collectors.proofs.graph_collector.GraphCollector.begin.Goals as goal
 

@@ -1,8 +1,6 @@
 -- The tree has one more entry, and the current place is that of the entry.
 use Rattle.std.proofs.Common.{◌≡◌, ◌+◌, ◌<◌, ◌^◌, subst}
-use Rattle.allocative_graph.specs.Sums.{entered}
-use Rattle.allocative_graph.specs.Collector.{Live, enter_live}
-use Rattle.allocative_collectors.specs.Places.{live}
+use Rattle.allocative_collectors.proofs.Common.{entered, Live, enter_live, live}
 use Rattle.allocative_collectors.proofs.Collect.{placed_added, placed_at, mark_of, mark_is, fits_map, gone_down}
 use Rattle.allocative_collectors.proofs.graph_collector.GraphCollector.enter.Goals as goal
 

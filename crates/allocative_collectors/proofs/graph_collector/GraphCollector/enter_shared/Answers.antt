@@ -1,11 +1,8 @@
 -- The tree has one more entry. Where the identity was not met before, the current place is the root.
 use Rattle.std.proofs.Common.{◌≡◌, ℕ, ◌++◌, ◌+◌, ◌<◌, ◌^◌, List, [], ◌∷◌, sym, subst, ◌∙◌, refl, Bool, true, false}
-use Rattle.std.specs.FinSet.{contains}
+use Rattle.allocative_collectors.proofs.Common.{contains, entered, Live, enter_first, enter_again, live, IsPlaced}
 use Rattle.std.specs.Bool.{OnFalse}
 use Rattle.std.proofs.lemmas.Bool.{cond-true, cond-false}
-use Rattle.allocative_graph.specs.Sums.{entered}
-use Rattle.allocative_graph.specs.Collector.{Live, enter_first, enter_again}
-use Rattle.allocative_collectors.specs.Places.{live, IsPlaced}
 use Rattle.allocative_collectors.specs.Meets.{MeetsAs}
 use Rattle.allocative_collectors.proofs.Collect.{placed_added, placed_gone, mark_of, fits_map, gone_first, stayed, met_more, not_met, was_met}
 use Rattle.allocative_collectors.proofs.graph_collector.GraphCollector.enter_shared.Goals as goal

@@ -1,9 +1,6 @@
 -- The tree has one more entry, and the current place stays.
 use Rattle.std.proofs.Common.{◌≡◌, ◌+◌, ◌<◌, ◌^◌, false, refl, subst}
-use Rattle.allocative_graph.specs.Forest.{AsInline}
-use Rattle.allocative_graph.specs.Sums.{entered}
-use Rattle.allocative_graph.specs.Collector.{Live, enter_live, leave_live}
-use Rattle.allocative_collectors.specs.Places.{live}
+use Rattle.allocative_collectors.proofs.Common.{AsInline, entered, Live, enter_live, leave_live, live}
 use Rattle.allocative_collectors.proofs.Collect.{placed_added, fits_map, stayed_simple}
 use Rattle.allocative_collectors.proofs.graph_collector.GraphCollector.enter_simple.Goals as goal
 

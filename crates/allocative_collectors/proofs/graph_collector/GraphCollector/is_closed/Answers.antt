@@ -1,6 +1,6 @@
 -- No visitor is open exactly where the place is the root, no content is open and no root visitor is open.
 use Rattle.std.proofs.Common.{◌≡◌, length, true≢false, sym, ap, ◌∙◌, arith}
-use Rattle.allocative_graph.specs.Collector.{Live}
+use Rattle.allocative_collectors.proofs.Common.{Live}
 use Rattle.allocative_collectors.proofs.Collect.{closed, not_closed, nothing_back, no_places, count_none, none_counted, IsOut}
 use Rattle.allocative_collectors.proofs.graph_collector.GraphCollector.is_closed.Goals as goal
 

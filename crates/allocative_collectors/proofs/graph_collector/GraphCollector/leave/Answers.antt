@@ -1,6 +1,6 @@
 -- The current place is one key above.
 use Rattle.std.proofs.Common.{ap, ◌∙◌}
-use Rattle.allocative_graph.specs.Collector.{leave_live}
+use Rattle.allocative_collectors.proofs.Common.{leave_live}
 use Rattle.allocative_collectors.proofs.Collect.{came_back, one_up}
 use Rattle.allocative_collectors.proofs.graph_collector.GraphCollector.leave.Goals as goal
 

@@ -1,8 +1,7 @@
 -- The tree has only the root, with no entry.
 use Rattle.std.proofs.Common.{ℕ, List, [], ◌∷◌, refl, sym, subst, arith}
+use Rattle.allocative_collectors.proofs.Common.{Listed, root_sum, IsPlaced}
 use Rattle.allocative_graph.proofs.Below.{entered-empty}
-use Rattle.allocative_collectors.specs.Listed.{Listed, root_sum}
-use Rattle.allocative_collectors.specs.Places.{IsPlaced}
 use Rattle.allocative_collectors.proofs.graph_collector.GraphCollector.new.Goals as goal
 
 root_alone : IsPlaced (root_sum ∷ []) 0 [] 0

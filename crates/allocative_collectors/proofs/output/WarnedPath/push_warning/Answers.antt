@@ -1,8 +1,7 @@
 -- The pieces of the text, one after another.
-use Rattle.std.proofs.Common.{◌≡◌, ℕ, List, ◌++◌, append_assoc, ap, ◌∙◌, rules}
-use Rattle.std.specs.Prelude.{string_bytes, decimal, codes}
+use Rattle.std.proofs.Common.{◌≡◌, ℕ, List, ◌++◌, append_assoc, ap, ◌∙◌, rules, string_bytes, decimal, codes}
+use Rattle.allocative_collectors.proofs.Common.{seen}
 use Rattle.allocative_graph.specs.Graph.{joined}
-use Rattle.allocative_collectors.specs.Warned.{seen}
 use Rattle.allocative_collectors.proofs.output.WarnedPath.push_warning.Goals as goal
 
 pieces : (start a j b m c n : List ℕ) → ((start ++ a) ++ j) ++ (b ++ (m ++ (c ++ n))) ≡ start ++ (((((a ++ j) ++ b) ++ m) ++ c) ++ n)

@@ -1,25 +1,15 @@
 -- A node's own size and warning, and then the graph of each child with the paths that have a warning.
-use Rattle.std.proofs.Common.{◌≡◌, ◌-◌, ◌+◌, ◌<◌, ℕ, List, [], ◌∷◌, ◌++◌, map, length, get_or, Bor, Vec, Global, arith, sym, ap, subst, ◌∙◌, refl, Err}
-use Rattle.std.specs.Prelude.{IfErr, IsErrOf, ◌↔◌, ◌^◌, ◌≤◌}
-use Rattle.std.proofs.lemmas.List.{map-append, append-nil}
+use Rattle.std.proofs.Common.{◌≡◌, ◌-◌, ◌+◌, ◌<◌, ℕ, List, [], ◌∷◌, ◌++◌, map, length, get_or, Bor, Vec, Global, arith, sym, ap, subst, ◌∙◌, refl, Err, IfErr, IsErrOf, ◌↔◌, ◌^◌, ◌≤◌, append-nil}
+use Rattle.allocative_collectors.proofs.Common.{Key, Path, Warned, under, sum_of, default, below, add_self, WarnedPath, shape, sums_of, Listed, sum_at, path_at, map_of, keys_of, key_in, size_at_place, is_short, warned_at, seen, Refusal, Memory, TooLarge, Open}
+use Rattle.std.proofs.lemmas.List.{map-append}
 use Rattle.std.proofs.lemmas.Bool.{cond-true, cond-false}
-use Rattle.allocative_graph.specs.Path.{Key, Path}
-use Rattle.allocative_graph.specs.Graph.{Warned, under, sum_of, default, total}
-use Rattle.allocative_graph.specs.Sums.{below}
-use Rattle.allocative_graph.specs.Graph.{add_self}
+use Rattle.allocative_graph.specs.Graph.{total}
 use Rattle.allocative_collectors.specs.declared.tree.Node.{Node}
-use Rattle.allocative_collectors.specs.declared.output.WarnedPath.{WarnedPath}
-use Rattle.allocative_collectors.specs.Nodes.{shape, sums_of}
-use Rattle.allocative_collectors.specs.Listed.{Listed, sum_at, path_at, map_of, total as total_listed}
-use Rattle.allocative_collectors.specs.Shapes.{keys_of, key_in}
-use Rattle.allocative_collectors.specs.Finishing.{size_at_place, is_short, warned_at}
-use Rattle.allocative_collectors.specs.Warned.{seen}
+use Rattle.allocative_collectors.specs.Listed.{total as total_listed}
 use Rattle.allocative_collectors.proofs.Keys.{length-keys_of}
 use Rattle.allocative_collectors.proofs.NodeReads.{in_nodes, bytes_read, under_read}
 use Rattle.allocative_collectors.proofs.Made.{half_none, half_more, half_total, made_total, made_all, child_read, child_key, keys_rise, own_fits, total-default, memory_alone, passed_on}
 use Rattle.allocative_graph.proofs.NodeText.{popped, texts}
-use Rattle.allocative_graph.specs.declared.refusal.Refusal.{Refusal}
-use Rattle.allocative_graph.specs.declared.refusal.Refusal.TheVariants.{Memory, TooLarge, Open}
 use Rattle.allocative_collectors.proofs.tree.Tree.+make.Goals as goal
 use Rattle.allocative_collectors.proofs.tree.Tree.+make.Goals.{then-is_short+in_ok-push_warned, else-is_short, After-index}
 

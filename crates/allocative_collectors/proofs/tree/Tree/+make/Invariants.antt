@@ -1,8 +1,6 @@
 -- The list of keys is unchanged, and the graph has the node and its children so far.
 use Rattle.std.proofs.Common.{◌≡◌, ◌-◌, length, map}
-use Rattle.allocative_collectors.specs.Shapes.{keys_of}
-use Rattle.allocative_collectors.specs.Nodes.{shape}
-use Rattle.allocative_collectors.specs.Warned.{seen}
+use Rattle.allocative_collectors.proofs.Common.{keys_of, shape, seen}
 use Rattle.allocative_collectors.proofs.Made.{HalfMade}
 use Rattle.allocative_collectors.proofs.tree.Tree.+make.Given as goal
 

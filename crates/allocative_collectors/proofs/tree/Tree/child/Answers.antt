@@ -1,6 +1,6 @@
 -- The number is that of a node of the arena.
 use Rattle.std.proofs.Common.{◌<◌, length, arith}
-use Rattle.allocative_collectors.specs.Nodes.{sums_of}
+use Rattle.allocative_collectors.proofs.Common.{sums_of}
 use Rattle.allocative_collectors.proofs.NodeReads.{in_nodes}
 use Rattle.allocative_collectors.proofs.Adds.{length_entered}
 use Rattle.allocative_collectors.proofs.tree.Tree.child.Goals as goal

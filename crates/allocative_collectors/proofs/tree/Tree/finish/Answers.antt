@@ -1,16 +1,9 @@
 -- The walk from the root has all places.
-use Rattle.std.proofs.Common.{arith, ◌≡◌, ◌<◌, ◌^◌, ℕ, List, [], ◌∷◌, ◌++◌, map, Bor, sym, ap, subst, ◌∙◌}
-use Rattle.std.specs.Prelude.{flat_map}
-use Rattle.std.specs.FinMap.{get, same_map}
-use Rattle.allocative_graph.specs.Path.{Path}
-use Rattle.allocative_graph.specs.Graph.{Graph, graph, total, warned_paths}
+use Rattle.std.proofs.Common.{arith, ◌≡◌, ◌<◌, ◌^◌, ℕ, List, [], ◌∷◌, ◌++◌, map, Bor, sym, ap, subst, ◌∙◌, flat_map}
+use Rattle.allocative_collectors.proofs.Common.{get, Path, Graph, graph, warned_paths, map_of, warned_at, shape, WarnedPath, IsWalk, seen, warning_lines}
+use Rattle.std.specs.FinMap.{same_map}
+use Rattle.allocative_graph.specs.Graph.{total}
 use Rattle.allocative_graph.proofs.Basics.{path_total, path_antisymmetric}
-use Rattle.allocative_collectors.specs.Listed.{map_of}
-use Rattle.allocative_collectors.specs.Finishing.{warned_at}
-use Rattle.allocative_collectors.specs.Nodes.{shape}
-use Rattle.allocative_collectors.specs.declared.output.WarnedPath.{WarnedPath}
-use Rattle.allocative_collectors.specs.Walks.{IsWalk}
-use Rattle.allocative_collectors.specs.Warned.{seen, warning_lines}
 use Rattle.allocative_collectors.proofs.Bridge.{IsListing}
 use Rattle.allocative_collectors.proofs.Below.{listing}
 use Rattle.allocative_collectors.proofs.Made.{made_total}

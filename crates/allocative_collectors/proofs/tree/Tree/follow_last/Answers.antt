@@ -1,8 +1,6 @@
 -- A write of guesses changes no shape.
 use Rattle.std.proofs.Common.{◌≡◌, ◌<◌, length, map, set, arith, sym, ap, subst, ◌∙◌, refl}
-use Rattle.allocative_collectors.specs.Listed.{Listed}
-use Rattle.allocative_collectors.specs.Nodes.{shape, sums_of}
-use Rattle.allocative_collectors.specs.Shapes.{sums, IsArena}
+use Rattle.allocative_collectors.proofs.Common.{Listed, shape, sums_of, sums, IsArena}
 use Rattle.allocative_collectors.proofs.NodeReads.{in_nodes, same_shapes}
 use Rattle.allocative_collectors.proofs.tree.Tree.follow_last.Goals as goal
 use Rattle.allocative_collectors.proofs.tree.Tree.follow_last.Goals.{After-index_mut, Joined-last-len, then-last-len, else-last-len}

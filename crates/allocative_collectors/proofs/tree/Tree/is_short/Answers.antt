@@ -1,8 +1,8 @@
 -- The test, from the fields of the node.
 use Rattle.std.proofs.Common.{◌<◌, length, arith}
+use Rattle.allocative_collectors.proofs.Common.{sums_of}
 use Rattle.std.proofs.lemmas.Grind.{common_steps}
 use Rattle.std.proofs.lemmas.Bool.Decides.{nat_tests}
-use Rattle.allocative_collectors.specs.Nodes.{sums_of}
 use Rattle.allocative_collectors.proofs.NodeReads.{in_nodes, short_read}
 use Rattle.allocative_collectors.proofs.tree.Tree.is_short.Goals as goal
 use Rattle.allocative_collectors.proofs.tree.Tree.is_short.Goals.{then-at-eq0, else-at-eq0}

@@ -1,14 +1,8 @@
 -- The graph of a node with no children and no warning has its own size alone.
-use Rattle.std.proofs.Common.{◌≡◌, ◌<◌, ◌++◌, List, [], ◌∷◌, length, map, refl, sym, ap, ◌∙◌, arith}
-use Rattle.std.proofs.lemmas.List.{append-nil}
+use Rattle.std.proofs.Common.{◌≡◌, ◌<◌, ◌++◌, List, [], ◌∷◌, length, map, refl, sym, ap, ◌∙◌, arith, append-nil}
+use Rattle.allocative_collectors.proofs.Common.{Warned, add_self, default, below, sum_at, path_at, map_of, shape, sums_of, keys_of, size_at_place, is_short, warned_at}
 use Rattle.std.proofs.lemmas.Bool.{cond-false}
-use Rattle.allocative_graph.specs.Graph.{Warned, add_self, default}
-use Rattle.allocative_graph.specs.Sums.{below}
 use Rattle.allocative_collectors.specs.declared.tree.Node.{Node}
-use Rattle.allocative_collectors.specs.Listed.{sum_at, path_at, map_of}
-use Rattle.allocative_collectors.specs.Nodes.{shape, sums_of}
-use Rattle.allocative_collectors.specs.Shapes.{keys_of}
-use Rattle.allocative_collectors.specs.Finishing.{size_at_place, is_short, warned_at}
 use Rattle.allocative_collectors.proofs.NodeReads.{in_nodes}
 use Rattle.allocative_collectors.proofs.Collect.{count_none}
 use Rattle.allocative_collectors.proofs.Made.{half_none, made_all}

@@ -1,9 +1,7 @@
 -- The path of a node from its number and that of its parent.
 use Rattle.std.proofs.Common.{◌≡◌, ◌≢◌, ◌<◌, [], ◌∷◌, ◌++◌, length, map, arith, sym, ap, subst, ◌∙◌}
-use Rattle.allocative_graph.specs.Path.{Path}
-use Rattle.allocative_collectors.specs.Listed.{Listed, path_at, IsAbove}
-use Rattle.allocative_collectors.specs.Nodes.{shape, sums_of}
-use Rattle.allocative_collectors.specs.Shapes.{sums, parent_at, key_at}
+use Rattle.allocative_collectors.proofs.Common.{Path, Listed, path_at, shape, sums_of, sums, parent_at, key_at}
+use Rattle.allocative_collectors.specs.Listed.{IsAbove}
 use Rattle.allocative_collectors.proofs.Labels.{path_sums, length_sums}
 use Rattle.allocative_collectors.proofs.NodeReads.{in_nodes, in_shapes, parent_read}
 use Rattle.allocative_collectors.proofs.Paths.{paths_root, paths_at}

@@ -1,9 +1,8 @@
 -- The node and its parent after both writes.
 use Rattle.std.proofs.Common.{◌≡◌, ◌+◌, ◌^◌, ◌<◌, ◌||◌, length, map, set, arith, ap, ◌∙◌}
+use Rattle.allocative_collectors.proofs.Common.{shape, sums_of, Listed, add, path_at, Shape, parent_at, bytes_at, sums}
 use Rattle.std.proofs.lemmas.List.{length-map}
-use Rattle.allocative_collectors.specs.Nodes.{shape, sums_of}
-use Rattle.allocative_collectors.specs.Listed.{Listed, total, add, path_at}
-use Rattle.allocative_collectors.specs.Shapes.{Shape, parent_at, bytes_at, sums}
+use Rattle.allocative_collectors.specs.Listed.{total}
 use Rattle.allocative_collectors.proofs.NodeReads.{in_nodes, in_shapes, shape_read, parent_read, raised_nodes, raise_node, below_node, below_read}
 use Rattle.allocative_collectors.proofs.Raised.{raised, arena_raised, sums_raised, bytes_le_total, below_le_total}
 use Rattle.allocative_collectors.proofs.tree.Tree.raise.Goals as goal

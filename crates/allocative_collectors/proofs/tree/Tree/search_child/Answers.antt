@@ -1,14 +1,11 @@
 -- The child that was found, the new one, and the push that is undone.
 use Rattle.std.proofs.Common.{◌≡◌, ℕ, ◌<◌, true, false, Result, Ok, Err, List, length, get_or, map, set, take, ◌-◌, vec_len, arith, sym, ap, subst, ◌∙◌, refl}
+use Rattle.allocative_collectors.proofs.Common.{Key, shape, sums_of, Listed, IsEntered, children_at, keys_of, keys_at, KeysRise, IsPlace, IsKeyGap, sums, IsArena}
 use Rattle.std.proofs.lemmas.List.{length-map}
 use Rattle.std.specs.Result.{is_ok, OnOk, OnErr}
 use Rattle.smallvec.specs.SmallVec.{SmallVec}
 use Rattle.std.specs.List.{insert}
 use Rattle.allocative_collectors.specs.declared.tree.Node.{Node}
-use Rattle.allocative_graph.specs.Path.{Key}
-use Rattle.allocative_collectors.specs.Nodes.{shape, sums_of}
-use Rattle.allocative_collectors.specs.Listed.{Listed, IsEntered}
-use Rattle.allocative_collectors.specs.Shapes.{children_at, keys_of, keys_at, KeysRise, IsPlace, IsKeyGap, sums, IsArena}
 use Rattle.allocative_collectors.proofs.NodeReads.{in_nodes, in_shapes, children_in, children_read, stood_children, grown_nodes, kept_nodes}
 use Rattle.allocative_collectors.proofs.Keys.{length-keys_of}
 use Rattle.allocative_collectors.proofs.Grown.{grown, arena_grown}

@@ -1,6 +1,6 @@
 -- The size, from the fields of the node.
 use Rattle.std.proofs.Common.{◌<◌, length, arith}
-use Rattle.allocative_collectors.specs.Nodes.{sums_of}
+use Rattle.allocative_collectors.proofs.Common.{sums_of}
 use Rattle.std.proofs.lemmas.Grind.{common_steps}
 use Rattle.allocative_collectors.proofs.NodeReads.{in_nodes, size_read}
 use Rattle.allocative_collectors.proofs.tree.Tree.size.Goals as goal

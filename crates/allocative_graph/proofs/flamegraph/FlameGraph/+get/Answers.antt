@@ -1,7 +1,5 @@
 use Rattle.std.proofs.Common.{◌≡◌, Bor, ◌∷◌, sym, ap, subst, ◌∙◌}
-use Rattle.allocative_graph.specs.Graph.{Graph, IsTree, IsBehind, HasNothing}
-use Rattle.allocative_graph.specs.Reads.{node}
-use Rattle.allocative_graph.specs.Representation.Children.{InOrder, IsFound, IsChildGap}
+use Rattle.allocative_graph.proofs.Common.{Graph, IsTree, IsBehind, HasNothing, node, InOrder, IsFound, IsChildGap}
 use Rattle.allocative_graph.proofs.NodeAdded.{node_tree}
 use Rattle.allocative_graph.proofs.NodeText.{texts}
 use Rattle.allocative_graph.proofs.Behind.{behind_root, behind_child, missing_child, missing_key, no_items, some_implies, none_implies}

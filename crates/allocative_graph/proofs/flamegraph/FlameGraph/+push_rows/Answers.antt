@@ -1,12 +1,9 @@
-use Rattle.std.proofs.Common.{◌≡◌, ℕ, ◌+◌, ◌++◌, [], ◌∷◌, List, Bor, map, get_or, take, arith, ap, sym, subst, append_assoc, ◌∙◌}
-use Rattle.std.proofs.lemmas.List.{map-append, take_all}
+use Rattle.std.proofs.Common.{◌≡◌, ℕ, ◌+◌, ◌++◌, [], ◌∷◌, List, Bor, map, get_or, take, arith, ap, sym, subst, append_assoc, ◌∙◌, take_all}
+use Rattle.allocative_graph.proofs.Common.{Child, Path, Graph, total, total_at, InOrder, Figures, figures_behind, node, rows_of}
+use Rattle.std.proofs.lemmas.List.{map-append}
 use Rattle.std.proofs.lemmas.List.Elements.{same_from_all_zip}
-use Rattle.allocative_graph.specs.declared.flamegraph.Child.{Child}
 use Rattle.allocative_graph.specs.declared.flamegraph.reads.Row.{Row}
-use Rattle.allocative_graph.specs.Path.{Path}
-use Rattle.allocative_graph.specs.Graph.{Graph, total, total_at}
-use Rattle.allocative_graph.specs.Representation.Children.{InOrder}
-use Rattle.allocative_graph.specs.Reads.{Figures, seen, figures_behind, node, rows_of}
+use Rattle.allocative_graph.specs.Reads.{seen}
 use Rattle.allocative_graph.proofs.NodeText.{texts, popped}
 use Rattle.allocative_graph.proofs.ReadRows.{child_read, figured, node_read}
 use Rattle.allocative_graph.proofs.flamegraph.FlameGraph.+push_rows.Goals as goal

@@ -1,6 +1,6 @@
 use Rattle.std.proofs.Common.{◌≡◌, ◌++◌, map, take}
-use Rattle.allocative_graph.specs.Graph.{total_at}
-use Rattle.allocative_graph.specs.Reads.{seen, rows_of}
+use Rattle.allocative_graph.proofs.Common.{total_at, rows_of}
+use Rattle.allocative_graph.specs.Reads.{seen}
 use Rattle.allocative_graph.proofs.ReadRows.{figured}
 use Rattle.allocative_graph.proofs.flamegraph.FlameGraph.+push_rows.Given as goal
 

@@ -1,15 +1,9 @@
 -- The start of a line is cut back to its length, and the lines of each child follow those before.
-use Rattle.std.proofs.Common.{◌≡◌, ℕ, ◌++◌, [], ◌∷◌, List, get_or, take, length, arith, ap, sym, subst, ◌∙◌, append_assoc, rules}
-use Rattle.std.proofs.lemmas.List.{take_all, append-nil}
+use Rattle.std.proofs.Common.{◌≡◌, ℕ, ◌++◌, [], ◌∷◌, List, get_or, take, length, arith, ap, sym, subst, ◌∙◌, append_assoc, rules, take_all, append-nil, string_bytes}
+use Rattle.allocative_graph.proofs.Common.{OnFalse, entries, Child, lines_below, HasRootAlone, rows_of, entries-node}
 use Rattle.std.proofs.lemmas.Str.{IsUtf8-append, IsUtf8-from_ascii, IsCharBoundary-at_seam}
 use Rattle.std.specs.Str.{IsUtf8, IsCharBoundary}
-use Rattle.std.specs.Bool.{OnFalse}
-use Rattle.std.specs.Prelude.{string_bytes}
-use Rattle.std.specs.FinMap.{entries}
-use Rattle.allocative_graph.specs.declared.flamegraph.Child.{Child}
-use Rattle.allocative_graph.specs.Representation.PathRows.{lines_from, lines_below, HasRootAlone}
-use Rattle.allocative_graph.specs.Reads.{rows_of}
-use Rattle.allocative_graph.specs.Representation.NodeRows.{entries-node}
+use Rattle.allocative_graph.specs.Representation.PathRows.{lines_from}
 use Rattle.allocative_graph.proofs.NodeText.{child_written, none_below, cut_back}
 use Rattle.allocative_graph.proofs.flamegraph.FlameGraph.+write_below.Goals as goal
 use Rattle.allocative_graph.proofs.flamegraph.FlameGraph.+write_below.Goals.{then-has_children+in_ok-push+in_ok-write_below, else-has_children, Joined-has_children}

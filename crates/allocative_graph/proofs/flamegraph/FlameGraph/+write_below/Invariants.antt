@@ -1,7 +1,5 @@
-use Rattle.std.proofs.Common.{◌≡◌, ◌++◌, take}
-use Rattle.std.specs.Prelude.{string_bytes}
-use Rattle.allocative_graph.specs.Representation.PathRows.{lines_below}
-use Rattle.allocative_graph.specs.Reads.{rows_of}
+use Rattle.std.proofs.Common.{◌≡◌, ◌++◌, take, string_bytes}
+use Rattle.allocative_graph.proofs.Common.{lines_below, rows_of}
 use Rattle.allocative_graph.proofs.flamegraph.FlameGraph.+write_below.Given as goal
 
 abbrev pub invariant-loop-child : goal.invariant-loop-child

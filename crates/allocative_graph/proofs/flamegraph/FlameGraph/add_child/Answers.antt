@@ -1,9 +1,5 @@
-use Rattle.std.proofs.Common.{true, ap, subst, refl, arith}
-use Rattle.std.specs.Prelude.{is_ok}
-use Rattle.allocative_graph.specs.declared.flamegraph.Child.{Child}
-use Rattle.allocative_graph.specs.Graph.{total, under}
-use Rattle.allocative_graph.specs.Representation.Merged.{Added}
-use Rattle.allocative_graph.specs.Reads.{node}
+use Rattle.std.proofs.Common.{true, ap, subst, refl, arith, is_ok}
+use Rattle.allocative_graph.proofs.Common.{Child, total, under, Added, node}
 use Rattle.allocative_graph.proofs.ChildRows.{weight-one}
 use Rattle.allocative_graph.proofs.NodeAdded.{added_under}
 use Rattle.allocative_graph.proofs.NodeSizes.{total-node}

@@ -1,6 +1,6 @@
 use Rattle.std.proofs.Common.{◌+◌, [], ap, sym, ◌∙◌, arith}
+use Rattle.allocative_graph.proofs.Common.{total, size_at}
 use Rattle.std.specs.FinMap.{insert}
-use Rattle.allocative_graph.specs.Graph.{total, size_at}
 use Rattle.allocative_graph.proofs.NodeSizes.{total-node, node-insert, size_at-root}
 use Rattle.allocative_graph.proofs.flamegraph.FlameGraph.add_self.Goals as goal
 

@@ -1,7 +1,6 @@
 use Rattle.std.proofs.Common.{◌≡◌, [], List, ap, sym, subst, ◌∙◌}
-use Rattle.allocative_graph.specs.declared.flamegraph.Child.{Child}
-use Rattle.allocative_graph.specs.Graph.{Graph, size_at}
-use Rattle.allocative_graph.specs.Reads.{AllSmaller, node, AreChildren}
+use Rattle.allocative_graph.proofs.Common.{Child, Graph, size_at, node, AreChildren}
+use Rattle.allocative_graph.specs.Reads.{AllSmaller}
 use Rattle.allocative_graph.proofs.NodeSizes.{size_at-root}
 use Rattle.allocative_graph.proofs.Behind.{smaller_child}
 use Rattle.allocative_graph.proofs.flamegraph.FlameGraph.children.Goals as goal

@@ -1,5 +1,5 @@
 use Rattle.std.proofs.Common.{arith, refl, ap, ◌∙◌}
-use Rattle.allocative_graph.specs.Reads.{node}
+use Rattle.allocative_graph.proofs.Common.{node}
 use Rattle.allocative_graph.proofs.ChildOrder.{no_children}
 use Rattle.allocative_graph.proofs.NodeSizes.{node-nil}
 use Rattle.allocative_graph.proofs.flamegraph.FlameGraph.default.Goals as goal

@@ -1,13 +1,7 @@
 -- Without children the only entry is the root's.
 use Rattle.std.proofs.Common.{◌≡◌, ℕ, ◌==◌, not, Bool, true, false, List, [], ◌∷◌, length, sym, ap, ◌∙◌}
-use Rattle.std.specs.Bool.{OnFalse}
-use Rattle.std.specs.FinMap.{entries}
+use Rattle.allocative_graph.proofs.Common.{OnFalse, entries, Child, Graph, AreChildren, node, rows_of, entries-node, HasRootAlone}
 use borrow.Author.Tests.{eqb-true}
-use Rattle.allocative_graph.specs.declared.flamegraph.Child.{Child}
-use Rattle.allocative_graph.specs.Graph.{Graph}
-use Rattle.allocative_graph.specs.Reads.{AreChildren, node, rows_of}
-use Rattle.allocative_graph.specs.Representation.NodeRows.{entries-node}
-use Rattle.allocative_graph.specs.Representation.PathRows.{HasRootAlone}
 use Rattle.allocative_graph.proofs.ChildMerged.{none_of_length}
 use Rattle.allocative_graph.proofs.flamegraph.FlameGraph.has_children.Goals as goal
 

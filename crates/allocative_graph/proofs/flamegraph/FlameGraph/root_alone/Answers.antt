@@ -1,7 +1,7 @@
 -- The copy has no children, as the graph has none.
 use Rattle.std.proofs.Common.{◌≡◌, List, [], sym, subst, ◌∙◌}
+use Rattle.allocative_graph.proofs.Common.{Child}
 use borrow.Author.Tests.{eqb-true}
-use Rattle.allocative_graph.specs.declared.flamegraph.Child.{Child}
 use Rattle.allocative_graph.specs.Representation.Node.{IsNode}
 use Rattle.allocative_graph.proofs.ChildMerged.{none_of_length}
 use Rattle.allocative_graph.proofs.flamegraph.FlameGraph.root_alone.Goals as goal

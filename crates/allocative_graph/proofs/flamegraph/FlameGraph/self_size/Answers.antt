@@ -1,5 +1,5 @@
 use Rattle.std.proofs.Common.{[], ap, sym, ◌∙◌}
-use Rattle.allocative_graph.specs.Graph.{size_at}
+use Rattle.allocative_graph.proofs.Common.{size_at}
 use Rattle.allocative_graph.proofs.NodeSizes.{size_at-root}
 use Rattle.allocative_graph.proofs.flamegraph.FlameGraph.self_size.Goals as goal
 

@@ -1,5 +1,5 @@
 use Rattle.std.proofs.Common.{◌+◌, ap, sym, subst, ◌∙◌}
-use Rattle.allocative_graph.specs.Graph.{total, IsTree}
+use Rattle.allocative_graph.proofs.Common.{total, IsTree}
 use Rattle.allocative_graph.proofs.NodeAdded.{node_tree}
 use Rattle.allocative_graph.proofs.NodeSizes.{total-node}
 use Rattle.allocative_graph.proofs.flamegraph.FlameGraph.total_size.Goals as goal

@@ -1,11 +1,6 @@
 -- The root's line, and no line where its size is 0.
-use Rattle.std.proofs.Common.{◌≡◌, ◌++◌, [], ◌∷◌, List, ℕ, sym, ap, ◌∙◌}
-use Rattle.std.proofs.lemmas.List.{append-nil}
-use Rattle.std.specs.Prelude.{string_bytes}
-use Rattle.std.specs.FinMap.{entries}
-use Rattle.allocative_graph.specs.Representation.PathRows.{line_from}
-use Rattle.allocative_graph.specs.Reads.{rows_of}
-use Rattle.allocative_graph.specs.Representation.NodeRows.{entries-node}
+use Rattle.std.proofs.Common.{◌≡◌, ◌++◌, [], ◌∷◌, List, ℕ, sym, ap, ◌∙◌, append-nil, string_bytes}
+use Rattle.allocative_graph.proofs.Common.{entries, line_from, rows_of, entries-node}
 use Rattle.allocative_graph.proofs.NodeText.{own_written, line_of_some}
 use Rattle.allocative_graph.proofs.flamegraph.FlameGraph.write_own.Goals as goal
 

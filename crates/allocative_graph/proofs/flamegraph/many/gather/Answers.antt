@@ -1,7 +1,5 @@
 use Rattle.std.proofs.Common.{◌≡◌, [], List, ap, sym, arith, ◌∙◌}
-use Rattle.allocative_graph.specs.declared.flamegraph.Child.{Child}
-use Rattle.allocative_graph.specs.Graph.{default}
-use Rattle.allocative_graph.specs.Many.{sum_of_all}
+use Rattle.allocative_graph.proofs.Common.{Child, default, sum_of_all}
 use Rattle.allocative_graph.proofs.Behind.{no_items}
 use Rattle.allocative_graph.proofs.Gathered.{all_permuted}
 use Rattle.allocative_graph.proofs.flamegraph.many.gather.Goals as goal

@@ -1,6 +1,5 @@
 use Rattle.std.proofs.Common.{◌≡◌, length}
-use Rattle.allocative_graph.specs.Graph.{default}
-use Rattle.allocative_graph.specs.Many.{sum_of_all}
+use Rattle.allocative_graph.proofs.Common.{default, sum_of_all}
 use Rattle.allocative_graph.proofs.flamegraph.many.gather.Given as goal
 
 -- Adding the children that wait to the graph gives the graph of all.

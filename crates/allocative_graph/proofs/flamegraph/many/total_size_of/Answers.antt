@@ -1,6 +1,5 @@
-use Rattle.std.proofs.Common.{◌≡◌, ap, arith, ◌∙◌}
-use Rattle.std.proofs.lemmas.List.{take_all}
-use Rattle.allocative_graph.specs.Many.{total_of}
+use Rattle.std.proofs.Common.{◌≡◌, ap, arith, ◌∙◌, take_all}
+use Rattle.allocative_graph.proofs.Common.{total_of}
 use Rattle.allocative_graph.proofs.flamegraph.many.total_size_of.Goals as goal
 
 pub returns : goal.returns

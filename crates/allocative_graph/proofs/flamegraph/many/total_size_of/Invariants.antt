@@ -1,5 +1,5 @@
 use Rattle.std.proofs.Common.{◌≡◌, ◌<◌, ◌^◌, take}
-use Rattle.allocative_graph.specs.Many.{total_of}
+use Rattle.allocative_graph.proofs.Common.{total_of}
 use Rattle.allocative_graph.proofs.flamegraph.many.total_size_of.Given as goal
 
 -- The children before this one are counted, and their totals fit.

@@ -1,8 +1,6 @@
 use Rattle.std.proofs.Common.{◌≡◌, [], ◌∷◌, List, Bor, ℕ, sym, ap, ◌∙◌, arith}
+use Rattle.allocative_graph.proofs.Common.{Path, default, sum_of, under, add_self, nested}
 use Rattle.std.proofs.lemmas.List.{map-append}
-use Rattle.allocative_graph.specs.Path.{Path}
-use Rattle.allocative_graph.specs.Graph.{default, sum_of, under, add_self}
-use Rattle.allocative_graph.specs.Representation.Stacks.{nested}
 use Rattle.allocative_graph.proofs.NodeText.{texts}
 use Rattle.allocative_graph.proofs.Behind.{no_items}
 use Rattle.allocative_graph.proofs.StackSums.{nested-push}

@@ -1,6 +1,6 @@
 -- The fields of the cache after `LruCache::get`.
 use Rattle.std.proofs.Common.{◌∙◌, sym}
-use Rattle.allocative_service.specs.Entries.{bounded}
+use Rattle.allocative_service.proofs.Common.{bounded}
 use Rattle.allocative_service.proofs.Using.{bytes_of-promoted, used-bounded}
 use Rattle.allocative_service.proofs.cache.BoundedCache.get.Goals as goal
 

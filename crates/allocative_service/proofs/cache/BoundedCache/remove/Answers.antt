@@ -1,6 +1,6 @@
 -- The sum of the bytes is less by those of the removed entry.
 use Rattle.std.proofs.Common.{arith, sym}
-use Rattle.allocative_service.specs.Entries.{bounded}
+use Rattle.allocative_service.proofs.Common.{bounded}
 use Rattle.allocative_service.proofs.Inserting.{none_removed, without-bounded}
 use Rattle.allocative_service.proofs.Using.{bytes_of-taken}
 use Rattle.allocative_service.proofs.cache.BoundedCache.remove.Goals as goal

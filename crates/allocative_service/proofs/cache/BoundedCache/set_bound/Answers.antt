@@ -1,6 +1,6 @@
 -- Evicting leaves the bytes of the entries that stay.
 use Rattle.std.proofs.Common.{arith}
-use Rattle.allocative_service.specs.Entries.{bounded}
+use Rattle.allocative_service.proofs.Common.{bounded}
 use Rattle.allocative_service.proofs.Evicting.{evicted_all}
 use Rattle.allocative_service.proofs.Inserting.{evicts-bounded}
 use Rattle.allocative_service.proofs.cache.BoundedCache.set_bound.Goals as goal

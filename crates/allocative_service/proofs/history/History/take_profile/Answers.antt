@@ -1,5 +1,5 @@
 use Rattle.std.proofs.Common.{◌∷◌, take, ap, ◌∙◌}
-use Rattle.allocative.specs.Graph.{Graph}
+use Rattle.allocative_service.proofs.Common.{Graph}
 use Rattle.allocative_service.proofs.history.History.take_profile.Goals as goal
 
 pub returns-clause-taken : goal.returns-clause-taken

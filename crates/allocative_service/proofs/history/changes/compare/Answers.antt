@@ -1,9 +1,8 @@
-use Rattle.std.proofs.Common.{◌≡◌, ◌++◌, [], List, map, ap, sym, subst, ◌∙◌, rules}
-use Rattle.std.proofs.lemmas.List.{append-nil}
+use Rattle.std.proofs.Common.{◌≡◌, ◌++◌, [], List, map, ap, sym, subst, ◌∙◌, rules, append-nil}
+use Rattle.allocative_service.proofs.Common.{Graph, seen, changes_of, HasEach}
 use Rattle.allocative.specs.Row as read
-use Rattle.allocative.specs.Graph.{Graph, sum_of}
+use Rattle.allocative.specs.Graph.{sum_of}
 use Rattle.allocative.specs.Reads as reads
-use Rattle.allocative_service.specs.Changes.{seen, changes_of, HasEach}
 use Rattle.allocative_service.proofs.Each.{changes_in, changes_read, has_each}
 use Rattle.allocative_service.proofs.history.changes.compare.Goals as goal
 

@@ -1,5 +1,5 @@
 use Rattle.std.proofs.Common.{◌≡◌, ◌++◌, map, length}
-use Rattle.allocative_service.specs.Changes.{seen}
+use Rattle.allocative_service.proofs.Common.{seen}
 use Rattle.allocative_service.proofs.Each.{changes_in}
 use Rattle.allocative_service.proofs.history.changes.compare.Given as goal
 

@@ -1,8 +1,6 @@
-use Rattle.std.proofs.Common.{◌≡◌, map, take, ap, ◌∙◌, arith, rules}
-use Rattle.std.specs.Prelude.{filter}
-use Rattle.std.proofs.lemmas.List.{take_all}
+use Rattle.std.proofs.Common.{◌≡◌, map, take, ap, ◌∙◌, arith, rules, filter, take_all}
+use Rattle.allocative_service.proofs.Common.{seen, is_grown}
 use Rattle.std.proofs.lemmas.List.Sorted.{IsNonDecreasingBy-from_sort_by_key}
-use Rattle.allocative_service.specs.Changes.{seen, is_grown}
 use Rattle.allocative_service.proofs.Most.{rank, grew_first}
 use Rattle.allocative_service.proofs.history.changes.grew_most.Goals as goal
 

@@ -1,6 +1,5 @@
-use Rattle.std.proofs.Common.{◌≡◌, map, take}
-use Rattle.std.specs.Prelude.{filter, All}
-use Rattle.allocative_service.specs.Changes.{seen, is_grown}
+use Rattle.std.proofs.Common.{◌≡◌, map, take, filter, All}
+use Rattle.allocative_service.proofs.Common.{seen, is_grown}
 use Rattle.allocative_service.proofs.Most.{IsWord}
 use Rattle.allocative_service.proofs.history.changes.grew_most.Given as goal
 

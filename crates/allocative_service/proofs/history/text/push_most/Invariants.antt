@@ -1,6 +1,5 @@
-use Rattle.std.proofs.Common.{◌≡◌, ◌++◌, map, take}
-use Rattle.std.specs.Prelude.{string_bytes, codes}
-use Rattle.allocative_service.specs.Changes.{seen, lines_of}
+use Rattle.std.proofs.Common.{◌≡◌, ◌++◌, map, take, string_bytes, codes}
+use Rattle.allocative_service.proofs.Common.{seen, lines_of}
 use Rattle.allocative_service.proofs.history.text.push_most.Given as goal
 
 -- The heading and the lines of the changes so far have been appended.

@@ -1,6 +1,6 @@
-use Rattle.std.proofs.Common.{◌≡◌, ◌++◌, map, take}
-use Rattle.std.specs.Prelude.{filter, string_bytes}
-use Rattle.allocative_service.specs.Changes.{seen, is_kind, heading_of, lines_of}
+use Rattle.std.proofs.Common.{◌≡◌, ◌++◌, map, take, filter, string_bytes}
+use Rattle.allocative_service.proofs.Common.{seen, lines_of}
+use Rattle.allocative_service.specs.Changes.{is_kind, heading_of}
 use Rattle.allocative_service.proofs.history.text.push_section.Given as goal
 
 -- The heading and the lines of the changes of this kind so far have been appended.

@@ -1,7 +1,6 @@
 use Rattle.std.proofs.Common.{Some, sym, subst, rules}
+use Rattle.allocative_service.proofs.Common.{Holding, ChangesAccount}
 use Rattle.std.proofs.lemmas.Result.{on_ok_weaker, on_err_weaker}
-use Rattle.allocative_service.specs.Holding.{Holding}
-use Rattle.allocative_service.specs.Accounts.{ChangesAccount}
 use Rattle.allocative_service.proofs.Accounts.{changes, unchanged, with_accounts}
 use Rattle.allocative_service.proofs.ledger.Ledger.set_budget.Goals as goal
 

@@ -1,6 +1,6 @@
 -- The members of the map, inside its own entry.
 use Rattle.std.proofs.Common.{rules}
-use Rattle.allocative_graph.specs.Visits.{is_sized}
+use Rattle.allocative.proofs.Common.{is_sized}
 use Rattle.allocative.proofs.Within.{entered_within, not_within, first_not_within}
 use Rattle.allocative.proofs.Showing.{goes_in_plain}
 use Rattle.allocative.proofs.impls.pack_impls.json.visit_json_map.Goals as goal

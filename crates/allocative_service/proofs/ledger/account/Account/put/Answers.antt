@@ -1,5 +1,5 @@
-use Rattle.std.proofs.lemmas.Result.{err_from_is_err_and}
 use Rattle.std.proofs.Common.{arith, ap, refl}
+use Rattle.std.proofs.lemmas.Result.{err_from_is_err_and}
 use Rattle.allocative_service.specs.Holding.{sum_of}
 use Rattle.allocative_service.proofs.Sums.{sum_of-insert_entry, sum_of-remove_entry}
 use Rattle.allocative_service.proofs.Rejections.{rejects_over}

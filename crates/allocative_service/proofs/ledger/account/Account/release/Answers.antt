@@ -1,5 +1,4 @@
-use Rattle.std.proofs.Common.{ℕ, arith, ap}
-use Rattle.std.specs.Prelude.{unwrap_or, Option}
+use Rattle.std.proofs.Common.{ℕ, arith, ap, unwrap_or, Option}
 use Rattle.allocative_service.proofs.Sums.{sum_of-remove_entry}
 use Rattle.allocative_service.proofs.ledger.account.Account.release.Goals as goal
 

@@ -1,9 +1,6 @@
 -- One more member is shown, and the map ends.
-use Rattle.std.proofs.lemmas.List.{append-nil}
-use Rattle.std.proofs.Common.{String, Global, Some, [], ◌∷◌, ◌++◌, sym, ap, append_assoc, ◌∙◌, rules}
-use Rattle.allocative_graph.specs.Shows.{Showing}
-use Rattle.allocative.specs.Runs.{pair_shows}
-use Rattle.allocative.specs.JsonShows.{stored_string}
+use Rattle.std.proofs.Common.{String, Global, Some, [], ◌∷◌, ◌++◌, sym, ap, append_assoc, ◌∙◌, rules, append-nil}
+use Rattle.allocative.proofs.Common.{Showing, pair_shows, stored_string}
 use Rattle.allocative.proofs.Meaning.{entered_none, entered_snoc, means_same}
 use Rattle.allocative.proofs.Within.{item_refused}
 use Rattle.allocative.proofs.impls.pack_impls.json.MembersRefMapStringPart.enter.Goals as goal

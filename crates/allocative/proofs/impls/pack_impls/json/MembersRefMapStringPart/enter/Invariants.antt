@@ -1,7 +1,7 @@
 -- The members so far were shown.
 use Rattle.std.proofs.Common.{String, Global, ◌≡◌, Ok, List, ◌++◌}
+use Rattle.allocative.proofs.Common.{Entered}
 use Rattle.allocative.specs.JsonShows.{stored_members}
-use Rattle.allocative.specs.Visited.{Entered}
 use Rattle.allocative.proofs.impls.pack_impls.json.MembersRefMapStringPart.enter.Given as goal
 
 abbrev pub invariant-loop-key : goal.invariant-loop-key

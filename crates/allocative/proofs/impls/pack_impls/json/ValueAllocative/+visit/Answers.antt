@@ -1,7 +1,6 @@
 -- Each variant is one level of the value.
 use Rattle.std.proofs.Common.{◌≡◌, length, refl, rules}
-use Rattle.serde_json.specs.declared.value.Value.{out-Value, the_lemmas}
-use Rattle.serde_json.specs.declared.value.Value.TheOpen.{Value-F}
+use Rattle.allocative.proofs.Common.{out-Value, the_lemmas, Value-F}
 use Rattle.allocative.proofs.Meaning.{visited_as, means_inside, means_field, means_same}
 use Rattle.allocative.proofs.ContainerMeaning.{means_buffer}
 use Rattle.allocative.proofs.Levels.{means_recursive}

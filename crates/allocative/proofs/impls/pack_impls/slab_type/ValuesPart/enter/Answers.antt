@@ -1,8 +1,7 @@
 -- The entries that the iterator gives are the slab's, and it has as many values.
 use Rattle.std.proofs.Common.{◌≡◌, length, rules, sym, ◌∙◌}
+use Rattle.allocative.proofs.Common.{values, deref_entry}
 use Rattle.std.proofs.lemmas.Iterator.Consumers.{YieldsList-from_first}
-use Rattle.slab.specs.Slab.{values}
-use Rattle.allocative.specs.Runs.{deref_entry}
 use Rattle.allocative.proofs.Meaning.{entered_if, exact_always, means_same}
 use Rattle.allocative.proofs.Bodies.{entered_plain, entered_one_by_one}
 use Rattle.allocative.proofs.Runs.{entered_slab, values_count}
