@@ -30,10 +30,11 @@ use std::time::Duration;
 
 
 class Drawing:
-    """Types that are drawn one after another; later ones hold earlier ones."""
+    """Types that are drawn one after another; later ones hold earlier ones. None has more fields or variants than said."""
 
-    def __init__(self, seed: int) -> None:
+    def __init__(self, seed: int, most_fields: int, most_variants: int) -> None:
         self.chance = random.Random(seed)
+        self.most_fields, self.most_variants = most_fields, most_variants
         self.own: list[str] = []
         self.text = HEAD
 
@@ -61,7 +62,7 @@ class Drawing:
     def struct(self, name: str) -> str:
         is_named, is_generic, is_recursive = self.chance.random() < 0.8, self.chance.random() < 0.2, self.chance.random() < 0.15
         is_generic &= not is_recursive
-        count = self.chance.choice((1, 2, 3, 4, 5, 5, 6, 7, 8, 9, 12, 16, 25))
+        count = min(self.chance.choice((1, 2, 3, 4, 5, 5, 6, 7, 8, 9, 12, 16, 25)), self.most_fields)
         fields = self.fields(count, name, is_named, is_generic, is_recursive)
         parameters = "<T>" if uses_parameter(fields) else ""
         return f"pub struct {name}{parameters}{fields}{'' if is_named else ';'}\n"
@@ -70,10 +71,10 @@ class Drawing:
         is_generic, is_recursive = self.chance.random() < 0.2, self.chance.random() < 0.25
         is_generic &= not is_recursive
         variants = []
-        many = self.chance.randint(1, 12)
+        many = self.chance.randint(1, self.most_variants)
         is_recursive &= many > 1
         for number in range(many):
-            count = self.chance.choice((0, 0, 1, 1, 1, 2, 2, 3, 3, 4, 5, 8))
+            count = min(self.chance.choice((0, 0, 1, 1, 1, 2, 2, 3, 3, 4, 5, 8)), self.most_fields)
             count = count if many > 1 or not is_generic else min(count, 2)
             fields = self.fields(count, name, self.chance.random() < 0.4, is_generic, is_recursive)
             variants.append(f"Case{number}{fields}")
@@ -94,9 +95,9 @@ def uses_parameter(fields: str) -> bool:
     return any(word in fields for word in ("(T,", "<T>", ": T", "(T)", ", T"))
 
 
-def drawn(count: int, seed: int) -> str:
+def drawn(count: int, seed: int, most_fields: int = 25, most_variants: int = 12) -> str:
     """The source of some random types."""
-    drawing = Drawing(seed)
+    drawing = Drawing(seed, most_fields, most_variants)
     for number in range(count):
         drawing.draw(number)
     return drawing.text

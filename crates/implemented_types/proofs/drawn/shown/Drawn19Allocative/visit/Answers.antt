@@ -1,16 +1,15 @@
 -- Written by bin/implement.
-use Rattle.std.proofs.Common.{rules}
+use Rattle.std.proofs.Common.{◌≡◌, refl, rules}
+use Rattle.allocative.proofs.Meaning.{visited_as}
+use Rattle.implemented_types.specs.declared.drawn.Drawn19.{Drawn19}
+use Rattle.implemented_types.specs.declared.drawn.Drawn19.TheVariants.{Case0}
 use Rattle.allocative.proofs.Parts.{parts}
 use Rattle.implemented_types.proofs.drawn.shown.Drawn19Allocative.visit.Goals as goal
 
-pub returns-in-Case0 : goal.returns-in-Case0
-returns-in-Case0 c = rw c.in-Case0.is (search (rules, parts))
+is-Case0 : (x : Drawn19) → (a : _) × (b : _) × (x ≡ Case0 a b)
+is-Case0 (Case0 a b) = (a, b, refl)
 
-pub returns-in-Case1 : goal.returns-in-Case1
-returns-in-Case1 c = rw c.in-Case1.is (search (rules, parts))
-
-pub returns-in-Case2 : goal.returns-in-Case2
-returns-in-Case2 c = rw c.in-Case2.is (search (rules, parts))
-
-pub returns-in-Case3 : goal.returns-in-Case3
-returns-in-Case3 c = rw c.in-Case3.is (search (rules, parts))
+pub returns : goal.returns
+returns c =
+    let is = (is-Case0 c.args.self.now).2 in
+    rw is (visited_as (rw is at c.enter.ensures) (search (rules, parts)))

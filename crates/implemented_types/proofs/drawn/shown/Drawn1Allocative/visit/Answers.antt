@@ -1,40 +1,15 @@
 -- Written by bin/implement.
-use Rattle.std.proofs.Common.{rules}
-use Rattle.allocative.proofs.Parts.{parts, exact}
+use Rattle.std.proofs.Common.{◌≡◌, refl, rules}
+use Rattle.allocative.proofs.Meaning.{visited_as}
+use Rattle.implemented_types.specs.declared.drawn.Drawn1.{Drawn1}
+use Rattle.implemented_types.specs.declared.drawn.Drawn1.TheVariants.{Case0}
+use Rattle.allocative.proofs.Parts.{parts}
 use Rattle.implemented_types.proofs.drawn.shown.Drawn1Allocative.visit.Goals as goal
 
-pub returns-in-Case0 : goal.returns-in-Case0
-returns-in-Case0 g c = rw c.in-Case0.is (search (rules, parts, exact))
+is-Case0 : (x : Drawn1) → (a : _) × (b : _) × (c : _) × (x ≡ Case0 a b c)
+is-Case0 (Case0 a b c) = (a, b, c, refl)
 
-pub returns-in-Case1 : goal.returns-in-Case1
-returns-in-Case1 g c = rw c.in-Case1.is (search (rules, parts, exact))
-
-pub returns-in-Case2 : goal.returns-in-Case2
-returns-in-Case2 g c = rw c.in-Case2.is (search (rules, parts, exact))
-
-pub returns-in-Case3 : goal.returns-in-Case3
-returns-in-Case3 g c = rw c.in-Case3.is (search (rules, parts, exact))
-
-pub returns-in-Case4 : goal.returns-in-Case4
-returns-in-Case4 g c = rw c.in-Case4.is (search (rules, parts, exact))
-
-pub returns-in-Case5 : goal.returns-in-Case5
-returns-in-Case5 g c = rw c.in-Case5.is (search (rules, parts, exact))
-
-pub returns-in-Case6 : goal.returns-in-Case6
-returns-in-Case6 g c = rw c.in-Case6.is (search (rules, parts, exact))
-
-pub returns-in-Case7 : goal.returns-in-Case7
-returns-in-Case7 g c = rw c.in-Case7.is (search (rules, parts, exact))
-
-pub returns-in-Case8 : goal.returns-in-Case8
-returns-in-Case8 g c = rw c.in-Case8.is (search (rules, parts, exact))
-
-pub returns-in-Case9 : goal.returns-in-Case9
-returns-in-Case9 g c = rw c.in-Case9.is (search (rules, parts, exact))
-
-pub returns-in-Case10 : goal.returns-in-Case10
-returns-in-Case10 g c = rw c.in-Case10.is (search (rules, parts, exact))
-
-pub returns-in-Case11 : goal.returns-in-Case11
-returns-in-Case11 g c = rw c.in-Case11.is (search (rules, parts, exact))
+pub returns : goal.returns
+returns c =
+    let is = (is-Case0 c.args.self.now).3 in
+    rw is (visited_as (rw is at c.enter.ensures) (search (rules, parts)))

@@ -14,10 +14,5 @@ returns-in-Case0 t c =
 
 pub returns-in-Case1 : goal.returns-in-Case1
 returns-in-Case1 t c =
-    let e : out-Drawn7 c.args.self.now ≡ Drawn7-F.Case1 c.in-Case1.a c.in-Case1.b c.in-Case1.c c.in-Case1.d c.in-Case1.e = search (rules, the_lemmas) in
+    let e : out-Drawn7 c.args.self.now ≡ Drawn7-F.Case1 c.in-Case1.field0 c.in-Case1.field1 c.in-Case1.field2 c.in-Case1.field3 = search (rules, the_lemmas) in
     visited_as c.enter-in-Case1.ensures (means_recursive (rw e (search (rules, parts))))
-
-pub returns-in-Case2 : goal.returns-in-Case2
-returns-in-Case2 t c =
-    let e : out-Drawn7 c.args.self.now ≡ Drawn7-F.Case2 c.in-Case2.a = search (rules, the_lemmas) in
-    visited_as c.enter-in-Case2.ensures (means_recursive (rw e (search (rules, parts))))

@@ -1,7 +1,7 @@
 -- Written by bin/implement.
 use Rattle.std.proofs.Common.{rules}
 use Rattle.allocative.proofs.Parts.{parts}
-use Rattle.implemented_types.proofs.drawn.shown.Drawn11Allocative.visit.Goals as goal
+use Rattle.implemented_types.proofs.drawn.shown.Drawn3Allocative.visit.Goals as goal
 
 pub returns-in-Case0 : goal.returns-in-Case0
 returns-in-Case0 c = rw c.in-Case0.is (search (rules, parts))
@@ -14,12 +14,3 @@ returns-in-Case2 c = rw c.in-Case2.is (search (rules, parts))
 
 pub returns-in-Case3 : goal.returns-in-Case3
 returns-in-Case3 c = rw c.in-Case3.is (search (rules, parts))
-
-pub returns-in-Case4 : goal.returns-in-Case4
-returns-in-Case4 c = rw c.in-Case4.is (search (rules, parts))
-
-pub returns-in-Case5 : goal.returns-in-Case5
-returns-in-Case5 c = rw c.in-Case5.is (search (rules, parts))
-
-pub returns-in-Case6 : goal.returns-in-Case6
-returns-in-Case6 c = rw c.in-Case6.is (search (rules, parts))
