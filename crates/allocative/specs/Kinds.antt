@@ -3,8 +3,8 @@ use Rattle.std.specs.Prelude.{Option, None, Some}
 use Rattle.allocative_graph.specs.declared.refusal.Refusal.{Refusal}
 use Rattle.allocative_graph.specs.Collector as model
 use Rattle.allocative_graph.specs.Collector.{OfGraph, OfHeld, State, Failed, Going}
-use Rattle.allocative.specs.declared.collector.Kind.{Kind}
-use Rattle.allocative.specs.declared.collector.Kind.TheVariants.{Graph, Held}
+use Rattle.allocative.specs.declared.visitor.collector.Kind.{Kind}
+use Rattle.allocative.specs.declared.visitor.collector.Kind.TheVariants.{Graph, Held}
 
 -- The kind of collector that a contract sees.
 abbrev pub kind_of : Kind → model.Kind

@@ -9,7 +9,7 @@ use Rattle.allocative_graph.specs.Visits.{Enters, EntersSized, EntersShared, Beg
 use Rattle.allocative.specs.Shared.{told}
 use Rattle.allocative.specs.Built.{as_graph}
 use Rattle.allocative.specs.declared.visitor.Visitor.{Visitor}
-use Rattle.allocative.specs.contracts.collector.Collector as collector
+use Rattle.allocative.specs.contracts.visitor.collector.Collector as collector
 
 -- The collector ends as the visitor leaves it or, where the entry was refused, as entering says.
 abbrev pub LendsEntered : Bool → Key → ℕ → MutBor State → Result Visitor Refusal → Fml

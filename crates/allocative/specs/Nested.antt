@@ -10,7 +10,7 @@ use Rattle.allocative_graph.specs.Collector.{State, Failed}
 use Rattle.allocative_graph.specs.Visits.{Enters, EntersSized, EntersShared, Answers}
 use Rattle.allocative.specs.declared.visitor.Visitor.{Visitor}
 use Rattle.allocative.specs.contracts.visitor.Visitor as visitor
-use Rattle.allocative.specs.contracts.collector.Collector as collector
+use Rattle.allocative.specs.contracts.visitor.collector.Collector as collector
 
 -- The visitor with another collector state, and nothing else changed.
 abbrev pub with_state : Visitor → State → Visitor

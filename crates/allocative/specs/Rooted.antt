@@ -5,8 +5,8 @@ use Rattle.allocative_graph.specs.declared.refusal.Refusal.{Refusal}
 use Rattle.allocative_graph.specs.Collector.{State}
 use Rattle.allocative_graph.specs.Visits.{Begins}
 use Rattle.allocative.specs.declared.visitor.Visitor.{Visitor}
-use Rattle.allocative.specs.contracts.builder.FlameGraphBuilder as builder
-use Rattle.allocative.specs.contracts.collector.Collector as collector
+use Rattle.allocative.specs.contracts.run.builder.FlameGraphBuilder as builder
+use Rattle.allocative.specs.contracts.visitor.collector.Collector as collector
 use Rattle.allocative.specs.Built.{as_graph}
 
 -- The builder ends as the last state of the collector, seen as that of a flame graph.

@@ -6,34 +6,25 @@
 #![tactic(auto)]
 
 pub mod allocative_trait;
-pub mod builder;
-pub mod by_hand;
-pub mod collector;
-pub mod containers;
-pub mod entries;
 pub mod impls;
-mod iterators;
-pub mod named;
 pub mod part;
-pub mod profile;
-pub mod registry;
-mod root_visits;
-pub mod size_of;
-mod slices;
-pub mod sum_of_two;
+pub mod run;
 pub mod visitor;
 
 pub use crate::allocative_trait::Allocative;
-pub use crate::builder::FlameGraphBuilder;
-pub use crate::containers::{Buffer, Each, FieldEach, Items, Pairs, Text, Unused};
 pub use crate::impls::pack_impls::json::visit_json_map;
-pub use crate::named::Named;
-pub use crate::part::{Declared, Field, Inside, IntoKey, Part, Shared, Unique, Whole};
-pub use crate::profile::{profile_value, profile_values};
-pub use crate::registry::{Registry, profile_roots};
-pub use crate::size_of::{size_of_entries, size_of_unique, size_of_unique_allocated_data};
-pub use crate::sum_of_two::profile_in_two;
-pub use crate::visitor::Visitor;
+pub use crate::part::containers::{Buffer, Each, FieldEach, Items, Pairs, Text, Unused};
+pub use crate::part::named::Named;
+pub use crate::part::{
+    Declared, Field, Inside, IntoKey, Part, Shared, Unique, Whole, containers, named,
+};
+pub use crate::run::builder::FlameGraphBuilder;
+pub use crate::run::profile::{profile_value, profile_values};
+pub use crate::run::registry::{Registry, profile_roots};
+pub use crate::run::size_of::{size_of_entries, size_of_unique, size_of_unique_allocated_data};
+pub use crate::run::sum_of_two::profile_in_two;
+pub use crate::run::{builder, profile, registry, size_of, sum_of_two};
+pub use crate::visitor::{Visitor, by_hand, collector, entries};
 pub use allocative_collectors::output::{FlameGraphOutput, WarnedPath};
 pub use allocative_described::{
     And, Described, Fields, Or, Record, raw_table_alloc_size_for_len, raw_table_law,

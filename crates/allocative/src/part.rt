@@ -10,6 +10,11 @@ ghost use Rattle.allocative_graph.specs.Shows as shows;
 ghost use Rattle.allocative.specs.Visited.{Entered};
 ghost use Rattle.allocative.specs.Parts.{optional_shows, either_shows};
 
+pub mod containers;
+mod iterators;
+pub mod named;
+pub(crate) mod slices;
+
 use crate::allocative_trait::Allocative;
 use crate::visitor::Visitor;
 use allocative_described::Described;

@@ -13,8 +13,12 @@ ghost use Rattle.allocative.specs.Nested.{LendsCollector, LendsNested, LendsNest
 ghost use Rattle.allocative.specs.Shared.{AnswersShared, told, turned, answered};
 ghost use Rattle.std.specs.Borrow.{sem};
 
+pub mod by_hand;
+pub mod collector;
+pub mod entries;
+
 use crate::allocative_trait::Allocative;
-use crate::collector::Collector;
+use crate::visitor::collector::Collector;
 use allocative_described::Described;
 use allocative_graph::key::Key;
 use allocative_graph::refusal::Refusal;

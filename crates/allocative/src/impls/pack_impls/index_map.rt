@@ -7,7 +7,7 @@ ghost use Rattle.allocative_graph.specs.Shows as shows;
 ghost use Rattle.allocative.specs.PackShows.{index_map_inside};
 
 use crate::allocative_trait::Allocative;
-use crate::containers::{IndexData, Pairs, Table, Unused};
+use crate::part::containers::{IndexData, Pairs, Table, Unused};
 use crate::part::{Inside, Part};
 use crate::visitor::Visitor;
 use allocative_described::Described;

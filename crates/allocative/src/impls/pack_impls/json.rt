@@ -7,7 +7,7 @@ ghost use Rattle.allocative.specs.Making.{MakesFirst};
 ghost use Rattle.allocative.specs.Visited.{Entered};
 
 use crate::allocative_trait::Allocative;
-use crate::containers::{Buffer, Each};
+use crate::part::containers::{Buffer, Each};
 use crate::part::{Declared, Field, Inside, Part, Unique};
 use crate::visitor::Visitor;
 use allocative_graph::key::Key;

@@ -7,9 +7,9 @@ ghost use Rattle.allocative_graph.specs.Shows as shows;
 ghost use Rattle.allocative.specs.PackShows.{slab_inside};
 
 use crate::allocative_trait::Allocative;
-use crate::containers::Buffer;
+use crate::part::containers::Buffer;
 use crate::part::{Inside, Part};
-use crate::slices::are_shown_each;
+use crate::part::slices::are_shown_each;
 use crate::visitor::Visitor;
 use allocative_described::Described;
 use allocative_graph::key::Key;

@@ -6,7 +6,7 @@ ghost use Rattle.allocative_graph.specs.Shows as shows;
 ghost use Rattle.allocative.specs.PackShows.{small_vec_inside};
 
 use crate::allocative_trait::Allocative;
-use crate::containers::FieldEach;
+use crate::part::containers::FieldEach;
 use crate::part::{Declared, Part, Unique};
 use crate::visitor::Visitor;
 use allocative_described::Described;

@@ -9,7 +9,7 @@ ghost use Rattle.allocative.specs.Runs.{field_of, pair_shows};
 ghost use Rattle.allocative.specs.StdShows.{in_any_order};
 
 use crate::allocative_trait::Allocative;
-use crate::containers::{Buffer, Cut, FieldEach, Items, Pairs};
+use crate::part::containers::{Buffer, Cut, FieldEach, Items, Pairs};
 use crate::part::{Declared, Inside, Part};
 use crate::visitor::Visitor;
 use allocative_described::Described;

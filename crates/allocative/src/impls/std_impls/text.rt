@@ -6,7 +6,7 @@ ghost use Rattle.allocative_graph.specs.Shows as shows;
 ghost use Rattle.allocative.specs.Bodies.{text_shows};
 
 use crate::allocative_trait::Allocative;
-use crate::containers::Text;
+use crate::part::containers::Text;
 use crate::part::{Declared, Part};
 use crate::visitor::Visitor;
 use allocative_described::Described;

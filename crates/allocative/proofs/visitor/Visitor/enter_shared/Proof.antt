@@ -12,7 +12,7 @@ use Rattle.allocative.specs.Nested.{LendsShared}
 use Rattle.allocative_graph.specs.contracts.key.Key as key
 use Rattle.allocative_graph.specs.contracts.shared.Identity as identity
 use Rattle.allocative.specs.contracts.visitor.Visitor as visitor
-use Rattle.allocative.specs.contracts.collector.Collector as collector
+use Rattle.allocative.specs.contracts.visitor.collector.Collector as collector
 use Rattle.allocative_graph.proofs.key.Key.TheLaws.{the_row_laws as key_laws}
 use Rattle.allocative_graph.proofs.shared.Identity.TheLaws.{the_row_laws as identity_laws}
 use Rattle.std.proofs.option.Option.TheLaws.{the_row_laws as option_laws}
@@ -27,8 +27,8 @@ use Rattle.allocative.proofs.visitor.Visitor.enter_shared.Statement.{statement}
 use Rattle.allocative.proofs.visitor.Visitor.enter_shared.Code as code
 use Rattle.allocative.specs.contracts.visitor.Visitor.reborrow as g
 use Rattle.allocative.proofs.visitor.Visitor.reborrow.Met as g-met
-use Rattle.allocative.specs.contracts.collector.Collector.enter_content as h
-use Rattle.allocative.proofs.collector.Collector.enter_content.Met as h-met
+use Rattle.allocative.specs.contracts.visitor.collector.Collector.enter_content as h
+use Rattle.allocative.proofs.visitor.collector.Collector.enter_content.Met as h-met
 use Rattle.allocative.specs.contracts.visitor.turned_round as t
 use Rattle.allocative.proofs.visitor.turned_round.Met as t-met
 
@@ -79,7 +79,7 @@ enter_shared_spec 𝓤 𝓛 𝓜 𝓡 wired =
     move ! (0 ∷ 3 ∷ []) $ join ! $ move ! (2 ∷ []) $ split ! $ nothing ! $ move ! (1 ∷ 0 ∷ []) $ join ! $ move ! (0 ∷ 2 ∷ []) $ join ! $
     nothing ! $ move ! (1 ∷ 0 ∷ []) $ use2 𝓛 (raw (H.pre z)) (id⊢ 𝓤 _) $
     -- [what the call asks; the other tokens; what self ends as]
-    calls_at ! fm H (h-met.met 𝓤 𝓛 𝓜 𝓡 (code.calls-allocative::collector::Collector::enter_content 𝓡.env wired)) z
+    calls_at ! fm H (h-met.met 𝓤 𝓛 𝓜 𝓡 (code.calls-allocative::visitor::collector::Collector::enter_content 𝓡.env wired)) z
     (and_then ! (get ! refl) (and_then ! (get ! refl) (and_then ! (get ! refl) (and_then ! (get ! refl) (no_more !))))) (λ u.
     use1 𝓛 (later (some (λ (res : Try). ((‵ (flft κ q) ⊛ ‵ ftrue) ⊛ ‵ ((TryAnswer κs).own_val res (u ∷ []))) ⊛
     some (λ (vs : Lasts h.ended (κ, tt) z.0.3). ‵ (lasts h.ended (κ, tt) z.0.3 vs) ⊛ ‵ (LendsPointed k n j r res) ⊛

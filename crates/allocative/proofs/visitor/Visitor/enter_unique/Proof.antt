@@ -6,7 +6,7 @@ use Rattle.std.proofs.Common.{true, Result, Ok, Err, IfOk, IfErr, OnOk, OnErr}
 use Rattle.allocative.proofs.Common.{name_if_ok, Refusal, State, Enters, Answers, Visitor, LendsEntered, LendsCollector, LendsNested, with_state}
 use Rattle.allocative_graph.specs.contracts.key.Key as key
 use Rattle.allocative.specs.contracts.visitor.Visitor as visitor
-use Rattle.allocative.specs.contracts.collector.Collector as collector
+use Rattle.allocative.specs.contracts.visitor.collector.Collector as collector
 use Rattle.allocative_graph.proofs.key.Key.TheLaws.{the_row_laws as key_laws}
 use Rattle.allocative_graph.proofs.refusal.Refusal.TheLaws.{the_row_laws as refusal_laws}
 use Rattle.std.proofs.result.Result.TheLaws.{the_row_laws as result_laws}
@@ -19,8 +19,8 @@ use Rattle.allocative.proofs.visitor.Visitor.enter_unique.Statement.{statement}
 use Rattle.allocative.proofs.visitor.Visitor.enter_unique.Code as code
 use Rattle.allocative.specs.contracts.visitor.Visitor.reborrow as g
 use Rattle.allocative.proofs.visitor.Visitor.reborrow.Met as g-met
-use Rattle.allocative.specs.contracts.collector.Collector.enter_unique as h
-use Rattle.allocative.proofs.collector.Collector.enter_unique.Met as h-met
+use Rattle.allocative.specs.contracts.visitor.collector.Collector.enter_unique as h
+use Rattle.allocative.proofs.visitor.collector.Collector.enter_unique.Met as h-met
 
 abbrev stayed : Stays f.ended.signature.params f.ended.kept
 stayed = (stay_dropped _ no, (stay_dropped _ yes, (stay_dropped _ yes, tt)))
@@ -65,7 +65,7 @@ enter_unique_spec 𝓤 𝓛 𝓜 𝓡 wired =
     move ! (0 ∷ 3 ∷ []) $ join ! $ move ! (2 ∷ []) $ split ! $ nothing ! $ move ! (1 ∷ 0 ∷ []) $ join ! $ move ! (0 ∷ 2 ∷ []) $ join ! $
     nothing ! $ move ! (1 ∷ 0 ∷ []) $ use2 𝓛 (raw (H.pre z)) (id⊢ 𝓤 _) $
     -- [what the call asks; the other tokens; what self ends as]
-    calls_at ! fm H (h-met.met 𝓤 𝓛 𝓜 𝓡 (code.calls-allocative::collector::Collector::enter_unique 𝓡.env wired)) z
+    calls_at ! fm H (h-met.met 𝓤 𝓛 𝓜 𝓡 (code.calls-allocative::visitor::collector::Collector::enter_unique 𝓡.env wired)) z
     (and_then ! (get ! refl) (and_then ! (get ! refl) (and_then ! (get ! refl) (no_more !)))) (λ u.
     use1 𝓛 (later (some (λ (res : Result Visitor Refusal). ((‵ (flft κ q) ⊛ ‵ ftrue) ⊛ ‵ ((Answer κs).own_val res (u ∷ []))) ⊛
     some (λ (vs : Lasts h.ended (κ, tt) z.0.3). ‵ (lasts h.ended (κ, tt) z.0.3 vs) ⊛ ‵ (LendsEntered true k n r res) ⊛

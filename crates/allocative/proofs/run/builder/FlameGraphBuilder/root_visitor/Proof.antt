@@ -1,0 +1,102 @@
+-- A hand-written proof of `root_visitor`: the collector is lent, and a root visitor may hold it.
+use Rattle.allocative.proofs.Lent.{◌≡◌, List, [], ◌∷◌, refl, sym, ap, subst, MutBor, proved, says_two, id⊢, ftrue, flft, named, Lfts, fact, tables, ‵, raw, ◌⊛◌, some, later, ◌$◌, ◌∵◌, !, qed, done, move, keep, drop, use1, use2, split, join, fsplit, fjoin, feq_i, feq_l, pick, await, suffices, frame, enter, addr, stop, no_more, and_then, returns, alloc_all, pass_all, free_all, look_at, get, through, sets, lands_as, no, shows, RattleType, MutRef, mut_vals, mut_Tells, plain, named_lft, nothing, heard, peeks, only, calls_at, Lasts, lasts, triple_of, framed, Stays, stay_dropped, Goes-spent_ref, ends_at}
+use Rattle.allocative.proofs.Nest.{nest}
+use Rattle.std.proofs.Common.{Result, Ok, Err, IfOk, IfErr, OnOk, OnErr}
+use Rattle.allocative.proofs.Common.{name_if_ok, Refusal, State, Begins, Settles, Visitor, as_graph}
+use Rattle.allocative.specs.Lending.{LendsBegunGraph}
+use Rattle.allocative.specs.Rooted.{LendsBuilt, LendsRoot}
+use Rattle.allocative_graph.specs.contracts.refusal.Refusal as refusal
+use Rattle.std.specs.contracts.result.Result as result
+use Rattle.allocative.specs.contracts.visitor.Visitor as visitor
+use Rattle.allocative.specs.contracts.visitor.collector.Collector as collector
+use Rattle.allocative.specs.contracts.run.builder.FlameGraphBuilder as builder
+use Rattle.allocative_graph.proofs.refusal.Refusal.TheLaws.{the_row_laws as refusal_laws}
+use Rattle.std.proofs.result.Result.TheLaws.{the_row_laws as result_laws}
+use Rattle.allocative.proofs.visitor.Visitor.TheLaws.{the_row_laws as visitor_laws}
+use Rattle.allocative.specs.contracts.run.builder.FlameGraphBuilder.root_visitor as f
+use Rattle.allocative.proofs.run.builder.FlameGraphBuilder.root_visitor.Statement.{statement}
+use Rattle.allocative.proofs.run.builder.FlameGraphBuilder.root_visitor.Code as code
+use Rattle.allocative.specs.contracts.run.builder.FlameGraphBuilder.lend as g
+use Rattle.allocative.proofs.run.builder.FlameGraphBuilder.lend.Met as g-met
+use Rattle.allocative.specs.contracts.visitor.collector.Collector.graph_root_visitor as h
+use Rattle.allocative.proofs.visitor.collector.Collector.graph_root_visitor.Met as h-met
+
+abbrev Answer : Lfts 1 → RattleType
+Answer κs = result.the_row (visitor.the_row (named_lft 1 0 tt κs)) refusal.the_row
+
+-- How the builder ends, with a loan and without.
+abbrev EndsBegun : Result Visitor Refusal → State → State → Type 0
+EndsBegun r w b = OnOk r (b ≡ as_graph w)
+
+abbrev EndsRefused : State → Result Visitor Refusal → State → Type 0
+EndsRefused s r b = IfErr r (λ e. Begins s (Err e) b)
+
+ends_begun : (r : Result Visitor Refusal) (w z : State) → OnOk r (z ≡ w) → EndsBegun r w (as_graph z)
+ends_begun (Ok v) w z h = ap as_graph h
+ends_begun (Err e) w z h = h
+
+ends_refused : (s c : State) → s ≡ as_graph c → (r : Result Visitor Refusal) (z : State) → OnErr r (IfErr r (λ e. Begins (as_graph c) (Err e) (as_graph z))) → EndsRefused s r (as_graph z)
+ends_refused s c i (Ok v) z h = h
+ends_refused s c i (Err e) z h = let P : State → Type 0 = λ x. Begins x (Err e) (as_graph z) in subst P (sym i) h
+
+begun_by : (r : Result Visitor Refusal) (s c : State) → s ≡ as_graph c → IfOk r (λ v. Begins (as_graph c) (Ok v.outer_is_unique) v.collector.now) → IfOk r (λ v. Begins s (Ok v.outer_is_unique) v.collector.now)
+begun_by r s c e h = let P : State → Type 0 = λ x. IfOk r (λ v. Begins x (Ok v.outer_is_unique) v.collector.now) in subst P (sym e) h
+
+refused_by : (r : Result Visitor Refusal) (s c : State) → s ≡ as_graph c → IfErr r (λ e. Settles (as_graph c) (Err e)) → IfErr r (λ e. Settles s (Err e))
+refused_by r s c e h = let P : State → Type 0 = λ x. IfErr r (λ e'. Settles x (Err e')) in subst P (sym e) h
+
+abbrev stayed : Stays f.ended.signature.params f.ended.kept
+stayed = (stay_dropped _ no, tt)
+
+pub root_visitor_spec : {M : Type 1} → statement M
+root_visitor_spec 𝓤 𝓛 𝓜 𝓡 wired =
+    let c = f.clauses 𝓛 𝓜.mem 𝓡.returns in
+    proved 𝓛 f.ended stayed c 𝓜 𝓡 (Goes-spent_ref 𝓛 1 (0 ∷ []) tt (plain (λ _. builder.the_row)), tt)
+    f.Key.name code.function (code.unfolded 𝓤 𝓛.H 𝓜 𝓡 wired)
+    (λ κs. (mut_vals, tt)) (λ κs. (mut_Tells (named 0) κs.0 builder.the_row, tt)) (λ κs qs bounds a _ are.
+    let κ = κs.0 in let q = qs.0 in let s = a.0 in
+    let Self = ‵ ((MutRef (named 0) κ builder.the_row).own_val s (mut_vals s)) in
+    qed 𝓛 (((‵ (flft κ q) ⊛ ‵ ftrue) ⊛ Self ⊛ ‵ ftrue) ∷ ‵ ftrue ∷ []) ∵
+    split ! $ move ! (1 ∷ []) $ split ! $ keep ! (0 ∷ 2 ∷ []) $
+    enter ! _ _ _ _ _ $ alloc_all ! (λ l. pass_all ! refl ((tt, tt), tt) $
+    sets ! (addr ! (through ! refl (stop !))) refl (tt, tt) $
+    -- [self; the token]
+    let fm = framed 𝓤 𝓛.H 𝓜 (tables 𝓤 𝓛.H 𝓜 𝓡 𝓡.env) in
+    let G = triple_of 𝓛 g.signature (g.spec 𝓛 𝓜.mem 𝓡.returns) in
+    let x : G.Ghost = ((κs, qs, bounds, (s, tt), (mut_vals s, tt)), tt) in
+    nothing ! $ move ! (1 ∷ 0 ∷ []) $ join ! $ move ! (1 ∷ 0 ∷ []) $ join ! $ nothing ! $ move ! (1 ∷ 0 ∷ []) $ use2 𝓛 (raw (G.pre x)) (id⊢ 𝓤 _) $
+    calls_at ! fm G (g-met.met 𝓤 𝓛 𝓜 𝓡 (code.calls-allocative::run::builder::FlameGraphBuilder::lend 𝓡.env wired)) x
+    (and_then ! (get ! refl) (no_more !)) (λ v.
+    let Token = ‵ (flft κ q) ⊛ ‵ ftrue in
+    let Part = MutRef (named 0) κ collector.the_row in
+    use1 𝓛 (later (some (λ (r : MutBor State). (Token ⊛ ‵ (Part.own_val r (v ∷ []))) ⊛
+    some (λ (ws : Lasts g.ended κs (s, tt)). ‵ (lasts g.ended κs (s, tt) ws) ⊛ ‵ (LendsBuilt s r) ⊛ raw (fact 𝓤 (s.now ≡ as_graph r.now)))))) (id⊢ 𝓤 _) $
+    await ! tt $ pick ! (λ r. split ! $ split ! $ move ! (2 ∷ []) $ pick ! (λ ws. split ! $ drop ! $ split ! $ move ! (1 ∷ []) $ heard ! _ (λ same.
+    -- [what the builder ends as; the token; the part lent]
+    move ! (2 ∷ []) $ fsplit ! $ feq_l ! (λ is. feq_i ! (List _) (mut_vals r) (mut_vals r) refl $ fjoin ! $
+    lands_as ! (ap only is) refl (tt, tt) $
+    -- [the part lent; what the builder ends as; the token]
+    let H = triple_of 𝓛 h.signature (h.spec 𝓛 𝓜.mem 𝓡.returns) in
+    let z : H.Ghost = ((κs, qs, tt, (r, tt), (mut_vals r, tt)), tt) in
+    nothing ! $ move ! (1 ∷ 0 ∷ []) $ join ! $ move ! (2 ∷ 0 ∷ []) $ join ! $ nothing ! $ move ! (1 ∷ 0 ∷ []) $ use2 𝓛 (raw (H.pre z)) (id⊢ 𝓤 _) $
+    -- [what the call asks; what the builder ends as]
+    calls_at ! fm H (h-met.met 𝓤 𝓛 𝓜 𝓡 (code.calls-allocative::visitor::collector::Collector::graph_root_visitor 𝓡.env wired)) z
+    (and_then ! (get ! refl) (no_more !)) (λ u.
+    use1 𝓛 (later (some (λ (res : Result Visitor Refusal). (Token ⊛ ‵ ((Answer κs).own_val res (u ∷ []))) ⊛
+    some (λ (vs : Lasts h.ended κs z.0.3). ‵ (lasts h.ended κs z.0.3 vs) ⊛ ‵ (LendsBegunGraph r res) ⊛
+    raw (fact 𝓤 (IfOk res (λ w. w.collector.ghost_name ≡ r.ghost_name))) ⊛ raw (fact 𝓤 (IfOk res (λ w. Begins (as_graph r.now) (Ok w.outer_is_unique) w.collector.now))) ⊛
+    raw (fact 𝓤 (IfErr res (λ w. Settles (as_graph r.now) (Err w)))))))) (id⊢ 𝓤 _) $
+    await ! tt $ pick ! (λ res. split ! $ split ! $ move ! (2 ∷ []) $ pick ! (λ vs. split ! $ drop ! $ split ! $
+    move ! (1 ∷ []) $ split ! $ heard ! _ (λ _. split ! $ heard ! _ (λ begun. heard ! _ (λ refused.
+    -- [what the part ends as; the token; the result; what the builder ends as]
+    move ! (3 ∷ 0 ∷ []) $ use2 𝓛 (‵ (LendsRoot s res))
+    (nest 𝓛 builder.the_row collector.the_row as_graph s.ghost_name r.ghost_name
+    (λ w x'. OnOk res (x' ≡ w)) (λ x'. OnErr res (IfErr res (λ w. Begins (as_graph r.now) (Err w) (as_graph x')))) (EndsBegun res) (EndsRefused s.now res) (ends_begun res) (ends_refused s.now r.now same res)
+    (name_if_ok (λ w. w.collector.ghost_name) res)) $
+    move ! (2 ∷ []) $ peeks ! (Answer κs) _ (shows 𝓛 (Answer κs)) res (u ∷ []) (λ told.
+    let good = (((result_laws _ _ (visitor_laws (named_lft 1 0 tt κs)) refusal_laws).lawful 𝓛).typed res (u ∷ []) told).0 in
+    lands_as ! refl refl good $ returns ! (look_at ! 0 refl) $ free_all ! refl $
+    -- [the result; what the builder ends as; the token]
+    suffices ! _ (ends_at 𝓛 f.ended stayed c ((κs, qs, bounds, a, (mut_vals s, tt)), tt) u res (tt, tt) (tt, tt)) $
+    nothing ! $ nothing ! $ fjoin ! $ join ! $ move ! (2 ∷ 0 ∷ []) $ join ! $ frame ! $
+    says_two ! (begun_by res _ _ same begun, refused_by res _ _ same refused) $ done !))))))))))))))

@@ -1,0 +1,239 @@
+//! What containers of pairs and of keys enter: the items that an iterator gives.
+#![tactic(auto, using(crate::proofs::Showing::showing))]
+
+ghost use Rattle.std.specs.Prelude.{false, ◌&&◌, codes, ◌≡◌, Some};
+ghost use Rattle.std.specs.Iterator.{IsFinite};
+ghost use Rattle.std.specs.Map.Iter.{deref, deref_pair};
+ghost use Rattle.allocative_graph.specs.Shows.{Inside, each_shows, slice_shows};
+ghost use Rattle.allocative_described.specs.Sizes.{size_sum};
+ghost use Rattle.allocative.specs.Making.{MakesPlanOrGives, MakesFirst, Keeps, MakesPlanRun, Done, one};
+ghost use Rattle.allocative.specs.Visited.{Entered};
+ghost use Rattle.allocative.specs.Bodies.{are_shown_each};
+ghost use Rattle.allocative.specs.Runs.{IsOfRun, RefusesAlong, RefusesCounted, CountsRun, field_of, pair_shows, deref_entry, value_shows};
+
+use crate::allocative_trait::Allocative;
+use crate::part::Part;
+use crate::part::slices::are_shown_each;
+use crate::visitor::Visitor;
+use allocative_described::Described;
+use allocative_graph::key::Key;
+use allocative_graph::refusal::Refusal;
+
+// A count plus one, or `None` where it does not fit.
+fn one_more(count: Option<usize>) -> Option<usize>
+    ensures { result ≡ size_sum count (Some 1) }
+{
+    count?.checked_add(1)
+}
+
+// The number of items that the iterator gives, or `None` where it does not fit.
+fn count_of<A: Drop, I: Iterator<Item = A> + Drop>(items: I) -> Option<usize>
+    requires can { I.can_next items }
+    requires ends { IsFinite (I.remaining items) }
+    ensures { CountsRun I.next_gives items result }
+{
+    let mut count = Some(0);
+    for _item in items {
+        count = one_more(count);
+    }
+    count
+}
+
+impl Visitor<'_> {
+    /// What each item that the iterator gives shows, in order.
+    pub(crate) fn visit_items<'a, T: Allocative + 'a, I: Iterator<Item = &'a T> + Drop>(
+        &mut self,
+        items: I,
+    ) -> Result<(), Refusal>
+        requires can { I.can_next items }
+        requires ends { IsFinite (I.remaining items) }
+        ensures entered { Entered false (IsOfRun I.next_gives items deref (each_shows T.may_show)) self.old self.new result }
+        ensures rightly { RefusesAlong T.is_exact
+            I.next_gives items deref (each_shows T.may_show) self.old self.new result }
+        ensures kept { Keeps self.old self.new result }
+        ensures exact { MakesPlanOrGives I.next_gives items Done self.old self.new result }
+    {
+        self.collector.go_on()?;
+        for item in items {
+            item.enter(self)?;
+        }
+        Ok(())
+    }
+
+    /// One inline entry with the item's name and the bytes of all items where the items need no drop or have
+    /// size 0, otherwise what each item shows.
+    ///
+    /// A collector that has failed returns its first cause. The entry is `TooLarge` where the item has no size,
+    /// where the count does not fit, or where the bytes do not; its other errors are those of `enter`. Items of an exact
+    /// type are refused only where they must be, if no more items of size 0 are given than fit a word. The iterator is
+    /// one that can be asked for its next item and that ends.
+    pub fn visit_iter<'a, T: Allocative + Described + 'a, I: Iterator<Item = &'a T> + Drop>(
+        &mut self,
+        items: I,
+    ) -> Result<(), Refusal>
+        requires can { I.can_next items }
+        requires ends { IsFinite (I.remaining items) }
+        ensures entered { Entered false
+            (IsOfRun I.next_gives items deref
+            (slice_shows T.name T.size T.needs_drop T.may_show)) self.old self.new result }
+        ensures rightly { RefusesCounted T.is_exact T.size I.next_gives items deref
+            (slice_shows T.name T.size T.needs_drop T.may_show) self.old self.new result }
+        ensures kept { Keeps self.old self.new result }
+        ensures exact { MakesPlanRun I.next_gives items T.name T.size
+            (are_shown_each T.needs_drop T.size) self.old self.new result }
+    {
+        if are_shown_each::<T>() {
+            return self.visit_items(items);
+        }
+        let count = count_of(items);
+        self.visit_counted::<T>(Key::for_type_name::<T>(), count)
+    }
+
+    /// What the value of each entry that the iterator gives shows, in order.
+    pub(crate) fn visit_each_value<
+        'a,
+        T: Allocative + 'a,
+        I: Iterator<Item = (usize, &'a T)> + Drop,
+    >(&mut self, entries: I) -> Result<(), Refusal>
+        requires can { I.can_next entries }
+        requires ends { IsFinite (I.remaining entries) }
+        ensures entered { Entered false
+            (IsOfRun I.next_gives entries deref_entry (each_shows (value_shows T.may_show))) self.old self.new result }
+        ensures rightly { RefusesAlong T.is_exact
+            I.next_gives entries deref_entry (each_shows (value_shows T.may_show)) self.old self.new result }
+    {
+        for (_key, value) in entries {
+            value.enter(self)?;
+        }
+        Ok(())
+    }
+
+    /// A field under the name for each item that the iterator gives, in order.
+    pub(crate) fn visit_fields<
+        'a,
+        T: Allocative + Described + 'a,
+        I: Iterator<Item = &'a T> + Drop,
+    >(&mut self, name: Key, items: I) -> Result<(), Refusal>
+        requires can { I.can_next items }
+        requires ends { IsFinite (I.remaining items) }
+        ensures entered { Entered false
+            (IsOfRun I.next_gives items deref (each_shows (field_of name T.size T.may_show))) self.old self.new result }
+        ensures rightly { RefusesAlong T.is_exact
+            I.next_gives items deref (each_shows (field_of name T.size T.may_show)) self.old self.new result }
+        ensures exact { MakesPlanOrGives I.next_gives items Done self.old self.new result }
+    {
+        self.collector.go_on()?;
+        for item in items {
+            self.visit_field(name.copy(), item)?;
+        }
+        Ok(())
+    }
+
+    /// A field `key` for each key that the iterator gives, in order.
+    pub(crate) fn visit_keys<'a, K: Allocative + Described + 'a, I: Iterator<Item = &'a K> + Drop>(
+        &mut self,
+        keys: I,
+    ) -> Result<(), Refusal>
+        requires can { I.can_next keys }
+        requires ends { IsFinite (I.remaining keys) }
+        ensures entered { Entered false
+            (IsOfRun I.next_gives keys deref
+            (each_shows (field_of (codes "key") K.size K.may_show))) self.old self.new result }
+        ensures rightly { RefusesAlong K.is_exact
+            I.next_gives keys deref (each_shows (field_of (codes "key") K.size K.may_show)) self.old self.new result }
+        ensures exact { MakesPlanOrGives I.next_gives keys Done self.old self.new result }
+    {
+        self.visit_fields(Key::new("key"), keys)
+    }
+
+    // The fields `key` and `value` of a pair.
+    fn visit_pair<K: Allocative + Described, V: Allocative + Described>(
+        &mut self,
+        key: &K,
+        value: &V,
+    ) -> Result<(), Refusal>
+        ensures { Entered (K.is_exact && V.is_exact)
+            (pair_shows K.size K.may_show V.size V.may_show (key.now, value.now)) self.old self.new result }
+    {
+        self.visit_field(Key::new("key"), key)?;
+        self.visit_field(Key::new("value"), value)
+    }
+
+    /// The fields `key` and `value` for each pair that the iterator gives, in order.
+    pub(crate) fn visit_pairs<
+        'a,
+        K: Allocative + Described + 'a,
+        V: Allocative + Described + 'a,
+        I: Iterator<Item = (&'a K, &'a V)> + Drop,
+    >(&mut self, pairs: I) -> Result<(), Refusal>
+        requires can { I.can_next pairs }
+        requires ends { IsFinite (I.remaining pairs) }
+        ensures entered { Entered false
+            (IsOfRun I.next_gives pairs deref_pair
+            (each_shows (pair_shows K.size K.may_show V.size V.may_show))) self.old self.new result }
+        ensures rightly { RefusesAlong (K.is_exact && V.is_exact) I.next_gives pairs deref_pair
+            (each_shows (pair_shows K.size K.may_show V.size V.may_show)) self.old self.new result }
+        ensures exact { MakesPlanOrGives I.next_gives pairs Done self.old self.new result }
+    {
+        self.collector.go_on()?;
+        for (key, value) in pairs {
+            self.visit_pair(key, value)?;
+        }
+        Ok(())
+    }
+
+    /// The inline entry `data` of 8 bytes, with the fields `key` and `value` for each pair that the
+    /// iterator gives inside it.
+    ///
+    /// A collector that has failed returns its first cause. The errors of the entry are those of
+    /// `enter`, and the errors of the fields those of `visit_field`. The iterator is one that can be
+    /// asked for its next item and that ends.
+    pub fn visit_generic_map_fields<
+        'a,
+        K: Allocative + Described + 'a,
+        V: Allocative + Described + 'a,
+        I: Iterator<Item = (&'a K, &'a V)> + Drop,
+    >(&mut self, entries: I) -> Result<(), Refusal>
+        requires can { I.can_next entries }
+        requires ends { IsFinite (I.remaining entries) }
+        ensures entered { Entered false
+            (Inside (codes "data") 8
+            (IsOfRun I.next_gives entries deref_pair
+            (each_shows (pair_shows K.size K.may_show V.size V.may_show)))) self.old self.new result }
+        ensures rightly { RefusesAlong (K.is_exact && V.is_exact) I.next_gives entries deref_pair
+            (λ es. Inside (codes "data") 8
+            (each_shows (pair_shows K.size K.may_show V.size V.may_show) es)) self.old self.new result }
+        ensures first { MakesFirst (codes "data") (Some 8) self.old self.new result }
+        ensures exact { MakesPlanOrGives I.next_gives entries (one (codes "data") (Some 8)) self.old self.new result }
+    {
+        let outer = self.collector.open_entry(Key::new("data"), 8)?;
+        let answer = self.visit_pairs(entries);
+        self.collector.close_entry(outer);
+        answer
+    }
+
+    /// The inline entry `data` of 8 bytes, with a field `key` for each key that the iterator gives inside it.
+    /// The errors are those of `visit_generic_map_fields`.
+    pub fn visit_generic_set_fields<
+        'a,
+        K: Allocative + Described + 'a,
+        I: Iterator<Item = &'a K> + Drop,
+    >(&mut self, entries: I) -> Result<(), Refusal>
+        requires can { I.can_next entries }
+        requires ends { IsFinite (I.remaining entries) }
+        ensures entered { Entered false
+            (Inside (codes "data") 8
+            (IsOfRun I.next_gives entries deref
+            (each_shows (field_of (codes "key") K.size K.may_show)))) self.old self.new result }
+        ensures rightly { RefusesAlong K.is_exact I.next_gives entries deref
+            (λ ks. Inside (codes "data") 8
+            (each_shows (field_of (codes "key") K.size K.may_show) ks)) self.old self.new result }
+        ensures first { MakesFirst (codes "data") (Some 8) self.old self.new result }
+        ensures exact { MakesPlanOrGives I.next_gives entries (one (codes "data") (Some 8)) self.old self.new result }
+    {
+        let outer = self.collector.open_entry(Key::new("data"), 8)?;
+        let answer = self.visit_keys(entries);
+        self.collector.close_entry(outer);
+        answer
+    }
+}

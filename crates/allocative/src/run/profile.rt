@@ -1,0 +1,73 @@
+//! Whole runs over roots whose types are known.
+#![tactic(auto, using(crate::proofs::Roots::running))]
+
+ghost use Rattle.std.specs.Prelude.{◌<◌, ◌^◌, IfOk, IfErr};
+ghost use Rattle.allocative_graph.specs.Graph.{total};
+ghost use Rattle.allocative_graph.specs.Shows.{each_shows};
+ghost use Rattle.allocative_graph.specs.Visits.{Runs, IsProfileOf};
+ghost use Rattle.allocative.specs.Exact.{MayRefuseProfile, RunsRightly};
+
+use crate::allocative_trait::Allocative;
+use crate::run::builder::FlameGraphBuilder;
+use allocative_collectors::output::FlameGraphOutput;
+use allocative_graph::refusal::Refusal;
+use std::alloc::Global;
+
+impl FlameGraphBuilder {
+    /// Visits roots of one type in order, up to the first refusal, each as `visit_value` does.
+    ///
+    /// A builder that has not failed and has no open visitor refuses roots of an exact type only with `Memory`, or with
+    /// `TooLarge` where not all that the roots may show together can be added.
+    pub fn visit_values<T: Allocative>(&mut self, roots: &[T]) -> Result<(), Refusal>
+        ensures runs { Runs (each_shows T.may_show roots.now) self.old result self.new }
+        ensures rightly { RunsRightly T.is_exact (each_shows T.may_show roots.now) self.old result self.new }
+    {
+        self.check()?;
+        for root in roots {
+            self.visit_value(root)?;
+        }
+        Ok(())
+    }
+}
+
+/// Graph and warnings of one value.
+///
+/// A struct that owns the parts of a service is profiled so, from a method of its own. The promise is that of
+/// `profile_roots`, for what the value may show. It makes no trait object, so any function may hold the value and
+/// pass it on. The graph's total is at most `isize::MAX` bytes. It is refused for want of memory, or as the value's
+/// own visit is. A value of an exact type is refused only with `Memory`, or with `TooLarge` where a flame graph cannot
+/// take all that the value may show.
+///
+/// ```
+/// let output = profile_value(alloc, &Some(7u32))?;
+/// assert_eq!(rt; output.flamegraph().write()?.as_str(), "Option 4\nOption;Some;u32 4\n");
+/// ```
+pub fn profile_value<T: Allocative>(alloc: Global, root: &T) -> Result<FlameGraphOutput, Refusal>
+    ensures profile { IfOk result (IsProfileOf (T.may_show root.now)) }
+    ensures refused { IfErr result (MayRefuseProfile T.is_exact (T.may_show root.now)) }
+    ensures total { IfOk result (λ o. total o.graph < 2 ^ 63) }
+{
+    let mut builder = FlameGraphBuilder::new(alloc)?;
+    builder.visit_value(root)?;
+    builder.finish()
+}
+
+/// Graph and warnings of roots of one type, as `profile_value` gives them of one value. No roots give the empty graph.
+///
+/// ```
+/// let roots = [Named(Key::new("open"), 3u32), Named(Key::new("closed"), 4u32)];
+/// let output = profile_values(alloc, &roots)?;
+/// assert_eq!(rt; output.flamegraph().write()?.as_str(), "closed;u32 4\nopen;u32 4\n");
+/// ```
+pub fn profile_values<T: Allocative>(
+    alloc: Global,
+    roots: &[T],
+) -> Result<FlameGraphOutput, Refusal>
+    ensures profile { IfOk result (IsProfileOf (each_shows T.may_show roots.now)) }
+    ensures refused { IfErr result (MayRefuseProfile T.is_exact (each_shows T.may_show roots.now)) }
+    ensures total { IfOk result (λ o. total o.graph < 2 ^ 63) }
+{
+    let mut builder = FlameGraphBuilder::new(alloc)?;
+    builder.visit_values(roots)?;
+    builder.finish()
+}

@@ -1,0 +1,134 @@
+//! Roots by the list, and whole runs over them.
+#![tactic(auto, using(crate::proofs::Roots::running))]
+
+ghost use Rattle.std.specs.Prelude.{◌≡◌, ◌++◌, ◌∷◌, [], MatchResult, IfOk, IfErr};
+ghost use Rattle.allocative_graph.specs.Shows.{each_shows};
+ghost use Rattle.allocative.specs.Roots.{roots_of};
+ghost use Rattle.allocative_graph.specs.Visits.{Runs, IsProfileOf};
+ghost use Rattle.allocative.specs.Exact.{MayRefuseProfile, RunsRightly};
+ghost use Rattle.std.specs.List.{list_all};
+
+use crate::allocative_trait::Allocative;
+use crate::run::builder::FlameGraphBuilder;
+use allocative_collectors::output::FlameGraphOutput;
+use allocative_graph::refusal::Refusal;
+use std::alloc::Global;
+
+/// A list of boxed roots.
+///
+/// ```
+/// let mut registry = Registry::new(alloc);
+/// let number: Box<u32> = Box::new(alloc, 7)?;
+/// registry.add_root(number)?;
+/// let output = profile_roots(&registry)?;
+/// assert_eq!(rt; output.flamegraph().write()?.as_str(), "u32 4\n");
+/// ```
+#[derive(Drop)]
+pub struct Registry {
+    roots: Vec<Box<dyn Allocative>>,
+}
+
+impl Registry {
+    ghost use Rattle.allocative.specs.Roots.{roots_of};
+
+    /// No roots. It takes no memory.
+    pub fn new(alloc: Global) -> Registry
+        ensures { roots_of result ≡ [] }
+    {
+        Registry {
+            roots: Vec::new(alloc),
+        }
+    }
+
+    /// Puts a root last. It is refused for want of memory alone; then the root is dropped, and the list is the old one.
+    /// `register_root` hands the root back.
+    pub fn add_root(&mut self, root: Box<dyn Allocative>) -> Result<(), Refusal>
+        ensures { MatchResult result
+            (λ _. roots_of self.new ≡ roots_of self.old ++ root ∷ [])
+            (λ refusal. (refusal ≡ Refusal.Memory) × (roots_of self.new ≡ roots_of self.old)) }
+    {
+        self.roots.push(root)?;
+        Ok(())
+    }
+
+    /// Puts a root last. For want of memory the root is handed back, and the list is the old one.
+    pub fn register_root(&mut self, root: Box<dyn Allocative>) -> Result<(), Box<dyn Allocative>>
+        ensures { MatchResult result
+            (λ _. roots_of self.new ≡ roots_of self.old ++ root ∷ [])
+            (λ back. (back ≡ root) × (roots_of self.new ≡ roots_of self.old)) }
+    {
+        match self.roots.push(root) {
+            Ok(()) => Ok(()),
+            Err(refused) => Err(refused.value),
+        }
+    }
+
+    /// The roots in order.
+    pub fn roots(&self) -> &[Box<dyn Allocative>]
+        ensures { result.now ≡ roots_of self.now }
+    {
+        &self.roots
+    }
+}
+
+impl FlameGraphBuilder {
+    ghost use Rattle.allocative.specs.Roots.{roots_of};
+
+    /// Visits the registry's roots in order, up to the first refusal, each as `visit_root` does.
+    ///
+    /// Where the types of all roots are exact, a builder that has not failed and has no open visitor refuses them only
+    /// with `Memory`, or with `TooLarge` where not all that the roots may show together can be added.
+    pub fn visit_global_roots(&mut self, registry: &Registry) -> Result<(), Refusal>
+        ensures runs { Runs
+            (each_shows (λ b. (⟦<dyn Allocative as Allocative>⟧ b.vtable).may_show b.value)
+            (roots_of registry.now)) self.old result self.new }
+        ensures rightly { RunsRightly
+            (list_all (λ b. (⟦<dyn Allocative as Allocative>⟧ b.vtable).is_exact) (roots_of registry.now))
+            (each_shows (λ b. (⟦<dyn Allocative as Allocative>⟧ b.vtable).may_show b.value)
+            (roots_of registry.now)) self.old result self.new }
+    {
+        self.visit_boxes(registry.roots())
+    }
+
+    fn visit_boxes(&mut self, roots: &[Box<dyn Allocative>]) -> Result<(), Refusal>
+        ensures runs { Runs (each_shows (λ b. may_show b) roots.now) self.old result self.new }
+        ensures rightly { RunsRightly
+            (list_all (λ b. (⟦<dyn Allocative as Allocative>⟧ b.vtable).is_exact) roots.now)
+            (each_shows (λ b. may_show b) roots.now) self.old result self.new }
+    {
+        self.check()?;
+        for root in roots {
+            self.visit_box(root)?;
+        }
+        Ok(())
+    }
+
+    fn visit_box(&mut self, root: &Box<dyn Allocative>) -> Result<(), Refusal>
+        ensures runs { Runs (may_show root.now) self.old result self.new }
+        ensures rightly { RunsRightly (⟦<dyn Allocative as Allocative>⟧ root.now.vtable).is_exact
+            (may_show root.now) self.old result self.new }
+    {
+        self.visit_root(&**root)
+    }
+}
+
+/// Graph and warnings of the registry's roots.
+///
+/// The graph has exactly the paths of the roots' own entries and, once for each identity reached, of the first
+/// content shown for it; each path has its declared bytes less those declared one step below, never below zero, or
+/// all where it was ever unique. The warnings have a line for each path but the root that was never unique and has
+/// fewer bytes than stand one key below. It is refused for want of memory, or as a root's own visit is. Where the types
+/// of all roots are exact, it is refused only with `Memory`, or with `TooLarge` where a flame graph cannot take all that
+/// the roots may show together.
+pub fn profile_roots(registry: &Registry) -> Result<FlameGraphOutput, Refusal>
+    ensures profile { IfOk result
+        (IsProfileOf
+        (each_shows (λ b. (⟦<dyn Allocative as Allocative>⟧ b.vtable).may_show b.value) (roots_of registry.now))) }
+    ensures refused { IfErr result
+        (MayRefuseProfile (list_all (λ b. (⟦<dyn Allocative as Allocative>⟧ b.vtable).is_exact) (roots_of registry.now))
+        (each_shows (λ b. (⟦<dyn Allocative as Allocative>⟧ b.vtable).may_show b.value) (roots_of registry.now))) }
+{
+    let mut builder = FlameGraphBuilder::new(*registry.roots.allocator())?;
+    builder.visit_global_roots(registry)?;
+    builder.finish()
+}

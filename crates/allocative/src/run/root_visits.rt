@@ -1,0 +1,36 @@
+//! Visits of whole roots.
+#![tactic(auto, using(crate::proofs::Roots::running))]
+
+ghost use Rattle.allocative_graph.specs.Visits.{Runs};
+ghost use Rattle.allocative.specs.Exact.{RunsRightly};
+
+use crate::allocative_trait::Allocative;
+use crate::visitor::collector::Collector;
+use crate::part::Part;
+use allocative_graph::refusal::Refusal;
+
+impl Collector {
+    /// Visits an object by a root visitor. What the visit returns is not looked at: the collector keeps the first
+    /// cause. A collector that is closed refuses an object of an exact type only where it must.
+    pub(crate) fn visit_object(&mut self, root: &dyn Allocative) -> Result<(), Refusal>
+        ensures runs { Runs (may_show root.now) self.old result self.new }
+        ensures rightly { RunsRightly (⟦<dyn Allocative as Allocative>⟧ root.now.0).is_exact
+            (may_show root.now) self.old result self.new }
+    {
+        let mut visitor = self.root_visitor()?;
+        let _told = visitor.visit_object(root);
+        visitor.exit();
+        self.check()
+    }
+
+    /// Visits a value of a known type by a root visitor, with no trait object.
+    pub(crate) fn visit_value<T: Allocative>(&mut self, root: &T) -> Result<(), Refusal>
+        ensures runs { Runs (T.may_show root.now) self.old result self.new }
+        ensures rightly { RunsRightly T.is_exact (T.may_show root.now) self.old result self.new }
+    {
+        let mut visitor = self.root_visitor()?;
+        let _told = root.enter(&mut visitor);
+        visitor.exit();
+        self.check()
+    }
+}

@@ -1,0 +1,98 @@
+//! The bytes that values hold on the heap.
+#![tactic(auto, using(crate::proofs::Roots::running))]
+
+ghost use Rattle.std.specs.Prelude.{◌≡◌, IfOk, IfErr};
+ghost use Rattle.allocative_graph.specs.Forest.{Forest};
+ghost use Rattle.allocative_graph.specs.Held.{held, ShowsNoContent};
+ghost use Rattle.allocative.specs.Closures.{KeepsVisitor, CalledAt, CalledAtRoot};
+ghost use Rattle.allocative.specs.SizeOf.{IsSizeOfUnique, MayRefuseHeld, MayRefuseSize};
+
+use crate::allocative_trait::Allocative;
+use crate::visitor::collector::Collector;
+use crate::visitor::Visitor;
+use allocative_described::Described;
+use allocative_graph::refusal::Refusal;
+
+impl Visitor<'_> {
+    // Calls the closure at this visitor. Its refusal is the first cause where nothing had failed.
+    fn call<F: FnOnce(&mut Visitor<'_>) -> Result<(), Refusal>>(&mut self, enter: F)
+        requires callable { F.IsAlwaysCallable enter }
+        requires keeps { KeepsVisitor F.FnOnce enter }
+        ensures { CalledAt F.FnOnce enter self.old self.new }
+    {
+        if let Err(refusal) = enter(self) {
+            self.refuse(refusal);
+        }
+    }
+}
+
+/// The bytes that the root holds on the heap: the sum of the inline entries whose direct parent is a unique entry, with
+/// nothing below a shared entry.
+///
+/// It takes no memory. It is refused with TooLarge where the sum or a declared size does not fit, with Open where a
+/// visitor was forgotten, and else with the first cause of the visit. The entries of std's maps and sets are declared
+/// inline, so of them only what the keys and values hold counts.
+///
+/// An object of an exact type is refused with TooLarge alone: where what it may show asks for a declared size that is
+/// not there, or where some of what it may show does not fit.
+pub fn size_of_unique_allocated_data(root: &dyn Allocative) -> Result<usize, Refusal>
+    ensures held { IfOk result (λ s. (f : Forest) × may_show root.now f × ShowsNoContent f × (s ≡ held f)) }
+    ensures refused { IfErr result
+        (MayRefuseHeld (⟦<dyn Allocative as Allocative>⟧ root.now.0).is_exact (may_show root.now)) }
+{
+    let mut collector = Collector::held();
+    collector.visit_object(root)?;
+    Ok(collector.sum())
+}
+
+/// The same plus the declared size of the root. It visits the value itself, and makes no trait object.
+///
+/// An exact type is refused with TooLarge alone: where it has no declared size, where what the value may show asks for
+/// a declared size that is not there, or where some of what it may show does not fit, by itself or together with the
+/// declared size of the root.
+///
+/// ```
+/// let number: Box<u32> = Box::new(alloc, 7)?;
+/// assert_eq!(rt; size_of_unique(&number)?, 12); // a pointer of 8 bytes, and 4 on the heap
+/// ```
+pub fn size_of_unique<T: Allocative + Described>(root: &T) -> Result<usize, Refusal>
+    ensures held { IfOk result (IsSizeOfUnique T.size (T.may_show root.now)) }
+    ensures refused { IfErr result (MayRefuseSize T.is_exact T.size (T.may_show root.now)) }
+{
+    let mut collector = Collector::held();
+    collector.visit_value(root)?;
+    let Some(own) = T::size() else {
+        return Err(Refusal::TooLarge);
+    };
+    let Some(sum) = collector.sum().checked_add(own) else {
+        return Err(Refusal::TooLarge);
+    };
+    Ok(sum)
+}
+
+/// The bytes that the closure's entries hold on the heap, as `size_of_unique_allocated_data` counts those of a value.
+///
+/// The closure enters what it likes at a root visitor, as the parts of a value that one asks for, and hands the
+/// visitor back at the place where it got it. It takes no memory. It is refused with TooLarge where the sum or a
+/// declared size does not fit, and else with the first cause, which is the closure's refusal where nothing was
+/// refused before; with Open where a visitor was forgotten.
+///
+/// ```
+/// let number: Box<u32> = Box::new(alloc, 7)?;
+/// let held = size_of_entries(|visitor| visitor.visit_field(Key::new("number"), &number))?;
+/// assert_eq!(rt; held, 4); // the number on the heap
+/// ```
+pub fn size_of_entries<F: FnOnce(&mut Visitor<'_>) -> Result<(), Refusal>>(
+    enter: F,
+) -> Result<usize, Refusal>
+    requires callable { F.IsAlwaysCallable enter }
+    requires keeps { KeepsVisitor F.FnOnce enter }
+    ensures { CalledAtRoot F.FnOnce enter result }
+{
+    let mut collector = Collector::held();
+    let mut visitor = collector.root_visitor()?;
+    visitor.call(enter);
+    visitor.exit();
+    collector.check()?;
+    Ok(collector.sum())
+}
