@@ -47,11 +47,15 @@ abbrev pub EntersDocument : List ℕ → ℕ → Option ℕ → Showing → Ledg
 EntersDocument tenant key size p old new = (bytes : ℕ) × (had : Option ℕ) × (total : ℕ)
     × Declares (measure_of old) size p bytes × Enters tenant key bytes had total old new
 
--- The note has the tenant's name, the key and the text.
+-- Some bytes are entered for the tenant under the key.
+abbrev pub EntersBytes : List ℕ → ℕ → Ledger → Ledger → Type 0
+EntersBytes tenant key old new = (bytes : ℕ) × (had : Option ℕ) × (total : ℕ) × Enters tenant key bytes had total old new
+
+-- The note has the tenant's name, the key and the text, in strings of any capacity.
 abbrev pub IsNote : List ℕ → ℕ → List ℕ → Note → Type 0
 IsNote tenant key text note = (string_bytes note.tenant ≡ tenant) × (note.key ≡ key) × (string_bytes note.text ≡ text)
 
--- The order has the tenant's name and the key.
+-- The order has the tenant's name, in a string of any capacity, and the key. Nothing is said of its items.
 abbrev pub IsOrder : List ℕ → ℕ → Order → Type 0
 IsOrder tenant key order = (string_bytes order.tenant ≡ tenant) × (order.key ≡ key)
 
@@ -125,7 +129,7 @@ pub record InsertsPage (place : String Global) (old new : Pages) : Type 0 where
   pub needed : IsNeeded (old.bound - page.bytes) others gone
   pub is : new ≡ with_entries old ((stored_key string_eq place old.entries, page) ∷ others)
 
--- A page is inserted under a place, or it is not taken, and nothing changes.
+-- A page is inserted under a place, or it is not taken, and nothing changes. Nothing says when it is not taken.
 abbrev pub TakesPage : String Global → Pages → Pages → Type 0
 TakesPage place old new = (new ≡ old) ⊎ InsertsPage place old new
 
@@ -166,10 +170,11 @@ module _ {A E : Type 0} (result : Result A E) (old new : Pages) where
       (keys : List ℕ) × LosesPages tenant old keys new × OnOk result (keys ≡ keys_of account.entries)
 
   module _ (before after : Ledger) where
-    -- A document that is put has its page removed, which may be taken anew. Where nothing is entered into the ledger, the
-    -- pages are unchanged.
+    -- Where a document is entered into the ledger, its page is removed and may be taken anew. The pages are unchanged only
+    -- where nothing is entered or an error is returned.
     abbrev pub PutsPage : List ℕ → ℕ → Type 0
-    PutsPage tenant key = (IsUnchanged before after × (new ≡ old)) ⊎ RenewsPage result old new tenant key
+    PutsPage tenant key = ((new ≡ old) × (IsUnchanged before after ⊎ IsErr result))
+        ⊎ (EntersBytes tenant key before after × RenewsPage result old new tenant key)
 
     -- What a request does to the pages, where the ledger was `before` and is `after` now. Only a request for a document or
     -- for the pages changes them.

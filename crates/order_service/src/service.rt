@@ -1,7 +1,7 @@
 //! A service that keeps documents of its tenants, within a limit for each, and says what it holds.
-ghost use Rattle.std.specs.Prelude.{◌≡◌, MatchOption, Ok, IfErr, IfOk, OnErr, OnOk, false, is_some};
+ghost use Rattle.std.specs.Prelude.{◌≡◌, MatchBool, MatchOption, IfErr, IfOk, OnErr, OnOk, is_some};
 ghost use Rattle.allocative_service.specs.Accounts.{IsUnchanged, account_of};
-ghost use Rattle.order_service.specs.Answers.{AnswersLedger, AnswersLimit, AnswersOpen, AnswersPages, ClosesAccount, EntersDocument, IsPlace, IsTold, LosesPage, LosesPagesOf, PutsDocument, PutsDraft, PutsPage, RejectsDocument, ReleasesDocument, RenewsPage, SetsBound, TakesPage, UsesPage, entered_bytes};
+ghost use Rattle.order_service.specs.Answers.{AnswersLedger, AnswersLimit, AnswersOpen, AnswersPages, ClosesAccount, EntersBytes, EntersDocument, IsPlace, IsTold, LosesPage, LosesPagesOf, PutsDocument, PutsDraft, PutsPage, RejectsDocument, ReleasesDocument, RenewsPage, SetsBound, TakesPage, UsesPage, entered_bytes};
 
 use crate::documents::{Held, Note, Order};
 use crate::request::{Draft, Request};
@@ -137,7 +137,8 @@ impl Service {
     ) -> Result<bool>
         ensures ledger { PutsDocument result self.old.ledger self.new.ledger tenant.now key T.is_exact T.size
             (T.may_show document.now) }
-        ensures unchanged { result ≡ Ok false → IsUnchanged self.old.ledger self.new.ledger }
+        ensures answer { IfOk result (λ is_entered. MatchBool is_entered
+            (EntersBytes tenant.now key self.old.ledger self.new.ledger) (IsUnchanged self.old.ledger self.new.ledger)) }
         ensures pages { self.new.pages ≡ self.old.pages }
     {
         let answer = self.measure(tenant, key, document);
