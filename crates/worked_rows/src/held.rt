@@ -1,7 +1,7 @@
 //! What values hold on the heap.
 #![tactic(auto, using(allocative::proofs::Parts::parts))]
 
-ghost use Rattle.std.specs.Prelude.{codes, Some, true, false, length, ◌≡◌};
+ghost use Rattle.std.specs.Prelude.{codes, Some, false, length};
 ghost use Rattle.allocative.specs.Bodies.{slice_of, vec_body};
 ghost use Rattle.allocative.specs.Shows as shows;
 
@@ -10,6 +10,7 @@ use allocative::{
     Allocative, Described, Field, Identity, Inside, Key, Part, Refusal, Unique, Visitor,
     size_of_entries, size_of_unique, size_of_unique_allocated_data,
 };
+use allocative_described::{HasLayout, Owned};
 use std::test::Fail;
 
 /// Shows items as a slice with an entry of its own.
@@ -30,29 +31,13 @@ struct BoxedSlice {
     numbers: Vec<u32>,
 }
 
-impl Described for BoxedSlice {
-    ghost name = { codes "Box" };
+impl HasLayout for BoxedSlice {
+    ghost type_name = { codes "Box" };
 
-    ghost align = { 8 };
+    type Layout = Owned<16>;
 
-    ghost needs_drop = { true };
-
-    ghost size = { Some 16 };
-
-    fn name() -> &'static str {
+    fn type_name() -> &'static str {
         "Box"
-    }
-
-    fn align() -> usize {
-        8
-    }
-
-    fn needs_drop() -> bool {
-        true
-    }
-
-    fn size() -> Option<usize> {
-        Some(16)
     }
 }
 
@@ -73,29 +58,13 @@ struct Boxed {
     data: BoxedSlice,
 }
 
-impl Described for Boxed {
-    ghost name = { codes "Boxed" };
+impl HasLayout for Boxed {
+    ghost type_name = { codes "Boxed" };
 
-    ghost align = { 8 };
+    type Layout = Owned<16>;
 
-    ghost needs_drop = { true };
-
-    ghost size = { Some 16 };
-
-    fn name() -> &'static str {
+    fn type_name() -> &'static str {
         "Boxed"
-    }
-
-    fn align() -> usize {
-        8
-    }
-
-    fn needs_drop() -> bool {
-        true
-    }
-
-    fn size() -> Option<usize> {
-        Some(16)
     }
 }
 
@@ -125,29 +94,13 @@ struct BoxedNumber {
     data: Box<u32>,
 }
 
-impl Described for BoxedNumber {
-    ghost name = { codes "BoxedNumber" };
+impl HasLayout for BoxedNumber {
+    ghost type_name = { codes "BoxedNumber" };
 
-    ghost align = { 8 };
+    type Layout = Owned<8>;
 
-    ghost needs_drop = { true };
-
-    ghost size = { Some 8 };
-
-    fn name() -> &'static str {
+    fn type_name() -> &'static str {
         "BoxedNumber"
-    }
-
-    fn align() -> usize {
-        8
-    }
-
-    fn needs_drop() -> bool {
-        true
-    }
-
-    fn size() -> Option<usize> {
-        Some(8)
     }
 }
 

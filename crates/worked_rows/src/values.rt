@@ -1,14 +1,15 @@
 //! Values of std and of test types, visited and held.
 #![tactic(auto, using(allocative::proofs::Parts::parts))]
 
-ghost use Rattle.std.specs.Prelude.{codes, Some, false, ◌≡◌};
+ghost use Rattle.std.specs.Prelude.{codes, Some};
 ghost use Rattle.allocative.specs.Shows as shows;
 
 use crate::expected::{is_answer, is_text, shows, told};
 use allocative::{
-    Allocative, Described, Field, IdArc, Identity, Inside, Part, Refusal, Registry, Visitor,
-    profile_roots, profile_value, size_of_unique, size_of_unique_allocated_data,
+    Allocative, Field, IdArc, Identity, Inside, Part, Refusal, Registry, Visitor, profile_roots,
+    profile_value, size_of_unique, size_of_unique_allocated_data,
 };
+use allocative_described::HasLayout;
 use std::alloc::Global;
 use std::collections::BTreeMap;
 use std::test::Fail;
@@ -17,29 +18,13 @@ use std::test::Fail;
 #[derive(Drop)]
 struct CacheLine(u8);
 
-impl Described for CacheLine {
-    ghost name = { codes "CacheLine" };
+impl HasLayout for CacheLine {
+    ghost type_name = { codes "CacheLine" };
 
-    ghost align = { 64 };
+    type Layout = u512;
 
-    ghost needs_drop = { false };
-
-    ghost size = { Some 64 };
-
-    fn name() -> &'static str {
+    fn type_name() -> &'static str {
         "CacheLine"
-    }
-
-    fn align() -> usize {
-        64
-    }
-
-    fn needs_drop() -> bool {
-        false
-    }
-
-    fn size() -> Option<usize> {
-        Some(64)
     }
 }
 

@@ -1,31 +1,15 @@
 //! `anyhow::Error`.
 
-ghost use Rattle.std.specs.Prelude.{Some, true, codes};
+ghost use Rattle.std.specs.Prelude.{codes};
 
-use crate::described::Described;
+use crate::has_layout::{HasLayout, Owned};
 
-impl Described for anyhow::Error {
-    ghost name = { codes "anyhow::Error" };
+impl HasLayout for anyhow::Error {
+    ghost type_name = { codes "anyhow::Error" };
 
-    ghost align = { 8 };
+    type Layout = Owned<8>;
 
-    ghost needs_drop = { true };
-
-    ghost size = { Some 8 };
-
-    fn name() -> &'static str {
+    fn type_name() -> &'static str {
         "anyhow::Error"
-    }
-
-    fn align() -> usize {
-        8
-    }
-
-    fn needs_drop() -> bool {
-        true
-    }
-
-    fn size() -> Option<usize> {
-        Some(8)
     }
 }

@@ -1,33 +1,17 @@
 //! `IndexSet`.
 
-ghost use Rattle.std.specs.Prelude.{Some, true, codes};
+ghost use Rattle.std.specs.Prelude.{codes};
 
-use crate::described::Described;
+use crate::has_layout::{HasLayout, Owned};
 use indexmap::IndexSet;
 use std::hash::Hash;
 
-impl<K: Eq + Hash> Described for IndexSet<K> {
-    ghost name = { codes "IndexSet" };
+impl<K: Eq + Hash> HasLayout for IndexSet<K> {
+    ghost type_name = { codes "IndexSet" };
 
-    ghost align = { 8 };
+    type Layout = Owned<72>;
 
-    ghost needs_drop = { true };
-
-    ghost size = { Some 72 };
-
-    fn name() -> &'static str {
+    fn type_name() -> &'static str {
         "IndexSet"
-    }
-
-    fn align() -> usize {
-        8
-    }
-
-    fn needs_drop() -> bool {
-        true
-    }
-
-    fn size() -> Option<usize> {
-        Some(72)
     }
 }

@@ -1,32 +1,16 @@
 //! `OnceBox`.
 
-ghost use Rattle.std.specs.Prelude.{Some, true, codes};
+ghost use Rattle.std.specs.Prelude.{codes};
 
-use crate::described::Described;
+use crate::has_layout::{HasLayout, Owned};
 use once_cell::race::OnceBox;
 
-impl<T> Described for OnceBox<T> {
-    ghost name = { codes "OnceBox" };
+impl<T> HasLayout for OnceBox<T> {
+    ghost type_name = { codes "OnceBox" };
 
-    ghost align = { 8 };
+    type Layout = Owned<8>;
 
-    ghost needs_drop = { true };
-
-    ghost size = { Some 8 };
-
-    fn name() -> &'static str {
+    fn type_name() -> &'static str {
         "OnceBox"
-    }
-
-    fn align() -> usize {
-        8
-    }
-
-    fn needs_drop() -> bool {
-        true
-    }
-
-    fn size() -> Option<usize> {
-        Some(8)
     }
 }

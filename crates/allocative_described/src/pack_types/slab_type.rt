@@ -1,32 +1,16 @@
 //! `Slab`.
 
-ghost use Rattle.std.specs.Prelude.{Some, true, codes};
+ghost use Rattle.std.specs.Prelude.{codes};
 
-use crate::described::Described;
+use crate::has_layout::{HasLayout, Owned};
 use slab::Slab;
 
-impl<T> Described for Slab<T> {
-    ghost name = { codes "Slab" };
+impl<T> HasLayout for Slab<T> {
+    ghost type_name = { codes "Slab" };
 
-    ghost align = { 8 };
+    type Layout = Owned<40>;
 
-    ghost needs_drop = { true };
-
-    ghost size = { Some 40 };
-
-    fn name() -> &'static str {
+    fn type_name() -> &'static str {
         "Slab"
-    }
-
-    fn align() -> usize {
-        8
-    }
-
-    fn needs_drop() -> bool {
-        true
-    }
-
-    fn size() -> Option<usize> {
-        Some(40)
     }
 }

@@ -1,163 +1,67 @@
 //! Collections: each is as large as its control, whatever it holds.
 
-ghost use Rattle.std.specs.Prelude.{Some, true, codes};
+ghost use Rattle.std.specs.Prelude.{codes};
 
-use crate::described::Described;
+use crate::has_layout::{HasLayout, Owned};
 use std::collections::{BTreeMap, BTreeSet, HashMap, HashSet, VecDeque};
 use std::hash::Hash;
 
-impl<T> Described for Vec<T> {
-    ghost name = { codes "Vec" };
+impl<T> HasLayout for Vec<T> {
+    ghost type_name = { codes "Vec" };
 
-    ghost align = { 8 };
+    type Layout = Owned<24>;
 
-    ghost needs_drop = { true };
-
-    ghost size = { Some 24 };
-
-    fn name() -> &'static str {
+    fn type_name() -> &'static str {
         "Vec"
     }
-
-    fn align() -> usize {
-        8
-    }
-
-    fn needs_drop() -> bool {
-        true
-    }
-
-    fn size() -> Option<usize> {
-        Some(24)
-    }
 }
 
-impl<T> Described for VecDeque<T> {
-    ghost name = { codes "VecDeque" };
+impl<T> HasLayout for VecDeque<T> {
+    ghost type_name = { codes "VecDeque" };
 
-    ghost align = { 8 };
+    type Layout = Owned<32>;
 
-    ghost needs_drop = { true };
-
-    ghost size = { Some 32 };
-
-    fn name() -> &'static str {
+    fn type_name() -> &'static str {
         "VecDeque"
     }
-
-    fn align() -> usize {
-        8
-    }
-
-    fn needs_drop() -> bool {
-        true
-    }
-
-    fn size() -> Option<usize> {
-        Some(32)
-    }
 }
 
-impl<K: Ord, V> Described for BTreeMap<K, V> {
-    ghost name = { codes "BTreeMap" };
+impl<K: Ord, V> HasLayout for BTreeMap<K, V> {
+    ghost type_name = { codes "BTreeMap" };
 
-    ghost align = { 8 };
+    type Layout = Owned<24>;
 
-    ghost needs_drop = { true };
-
-    ghost size = { Some 24 };
-
-    fn name() -> &'static str {
+    fn type_name() -> &'static str {
         "BTreeMap"
     }
-
-    fn align() -> usize {
-        8
-    }
-
-    fn needs_drop() -> bool {
-        true
-    }
-
-    fn size() -> Option<usize> {
-        Some(24)
-    }
 }
 
-impl<K: Ord> Described for BTreeSet<K> {
-    ghost name = { codes "BTreeSet" };
+impl<K: Ord> HasLayout for BTreeSet<K> {
+    ghost type_name = { codes "BTreeSet" };
 
-    ghost align = { 8 };
+    type Layout = Owned<24>;
 
-    ghost needs_drop = { true };
-
-    ghost size = { Some 24 };
-
-    fn name() -> &'static str {
+    fn type_name() -> &'static str {
         "BTreeSet"
     }
-
-    fn align() -> usize {
-        8
-    }
-
-    fn needs_drop() -> bool {
-        true
-    }
-
-    fn size() -> Option<usize> {
-        Some(24)
-    }
 }
 
-impl<K: Eq + Hash, V> Described for HashMap<K, V> {
-    ghost name = { codes "HashMap" };
+impl<K: Eq + Hash, V> HasLayout for HashMap<K, V> {
+    ghost type_name = { codes "HashMap" };
 
-    ghost align = { 8 };
+    type Layout = Owned<48>;
 
-    ghost needs_drop = { true };
-
-    ghost size = { Some 48 };
-
-    fn name() -> &'static str {
+    fn type_name() -> &'static str {
         "HashMap"
     }
-
-    fn align() -> usize {
-        8
-    }
-
-    fn needs_drop() -> bool {
-        true
-    }
-
-    fn size() -> Option<usize> {
-        Some(48)
-    }
 }
 
-impl<K: Eq + Hash> Described for HashSet<K> {
-    ghost name = { codes "HashSet" };
+impl<K: Eq + Hash> HasLayout for HashSet<K> {
+    ghost type_name = { codes "HashSet" };
 
-    ghost align = { 8 };
+    type Layout = Owned<48>;
 
-    ghost needs_drop = { true };
-
-    ghost size = { Some 48 };
-
-    fn name() -> &'static str {
+    fn type_name() -> &'static str {
         "HashSet"
-    }
-
-    fn align() -> usize {
-        8
-    }
-
-    fn needs_drop() -> bool {
-        true
-    }
-
-    fn size() -> Option<usize> {
-        Some(48)
     }
 }

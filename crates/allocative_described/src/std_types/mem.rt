@@ -1,8 +1,9 @@
 //! `ManuallyDrop` and `PhantomData`.
 
-ghost use Rattle.std.specs.Prelude.{Some, false, codes};
+ghost use Rattle.std.specs.Prelude.{false, codes};
 
 use crate::described::Described;
+use crate::has_layout::HasLayout;
 use std::marker::PhantomData;
 use std::mem::ManuallyDrop;
 
@@ -33,28 +34,12 @@ impl<V: Described> Described for ManuallyDrop<V> {
     }
 }
 
-impl<T> Described for PhantomData<T> {
-    ghost name = { codes "PhantomData" };
+impl<T> HasLayout for PhantomData<T> {
+    ghost type_name = { codes "PhantomData" };
 
-    ghost align = { 1 };
+    type Layout = ();
 
-    ghost needs_drop = { false };
-
-    ghost size = { Some 0 };
-
-    fn name() -> &'static str {
+    fn type_name() -> &'static str {
         "PhantomData"
-    }
-
-    fn align() -> usize {
-        1
-    }
-
-    fn needs_drop() -> bool {
-        false
-    }
-
-    fn size() -> Option<usize> {
-        Some(0)
     }
 }

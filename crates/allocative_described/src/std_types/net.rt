@@ -1,84 +1,37 @@
 //! Addresses.
 
-ghost use Rattle.std.specs.Prelude.{Some, false, codes};
+ghost use Rattle.std.specs.Prelude.{codes};
 
-use crate::described::Described;
+use crate::has_layout::HasLayout;
+use crate::layout::{Or, Record};
 use std::net::{IpAddr, Ipv4Addr, Ipv6Addr};
 
-impl Described for IpAddr {
-    ghost name = { codes "IpAddr" };
+impl HasLayout for IpAddr {
+    ghost type_name = { codes "IpAddr" };
 
-    ghost align = { 1 };
+    type Layout = Record<(u8, Or<(Ipv4Addr, ()), (Ipv6Addr, ())>)>;
 
-    ghost needs_drop = { false };
-
-    ghost size = { Some 17 };
-
-    fn name() -> &'static str {
+    fn type_name() -> &'static str {
         "IpAddr"
     }
-
-    fn align() -> usize {
-        1
-    }
-
-    fn needs_drop() -> bool {
-        false
-    }
-
-    fn size() -> Option<usize> {
-        Some(17)
-    }
 }
 
-impl Described for Ipv4Addr {
-    ghost name = { codes "Ipv4Addr" };
+impl HasLayout for Ipv4Addr {
+    ghost type_name = { codes "Ipv4Addr" };
 
-    ghost align = { 1 };
+    type Layout = [u8; 4];
 
-    ghost needs_drop = { false };
-
-    ghost size = { Some 4 };
-
-    fn name() -> &'static str {
+    fn type_name() -> &'static str {
         "Ipv4Addr"
     }
-
-    fn align() -> usize {
-        1
-    }
-
-    fn needs_drop() -> bool {
-        false
-    }
-
-    fn size() -> Option<usize> {
-        Some(4)
-    }
 }
 
-impl Described for Ipv6Addr {
-    ghost name = { codes "Ipv6Addr" };
+impl HasLayout for Ipv6Addr {
+    ghost type_name = { codes "Ipv6Addr" };
 
-    ghost align = { 1 };
+    type Layout = [u8; 16];
 
-    ghost needs_drop = { false };
-
-    ghost size = { Some 16 };
-
-    fn name() -> &'static str {
+    fn type_name() -> &'static str {
         "Ipv6Addr"
-    }
-
-    fn align() -> usize {
-        1
-    }
-
-    fn needs_drop() -> bool {
-        false
-    }
-
-    fn size() -> Option<usize> {
-        Some(16)
     }
 }

@@ -1,57 +1,25 @@
 //! Boxes and references.
 
-ghost use Rattle.std.specs.Prelude.{Some, true, false, codes};
+ghost use Rattle.std.specs.Prelude.{codes};
 
-use crate::described::Described;
+use crate::has_layout::{HasLayout, Owned};
 
-impl<T> Described for Box<T> {
-    ghost name = { codes "Box" };
+impl<T> HasLayout for Box<T> {
+    ghost type_name = { codes "Box" };
 
-    ghost align = { 8 };
+    type Layout = Owned<8>;
 
-    ghost needs_drop = { true };
-
-    ghost size = { Some 8 };
-
-    fn name() -> &'static str {
+    fn type_name() -> &'static str {
         "Box"
-    }
-
-    fn align() -> usize {
-        8
-    }
-
-    fn needs_drop() -> bool {
-        true
-    }
-
-    fn size() -> Option<usize> {
-        Some(8)
     }
 }
 
-impl<T> Described for &'static T {
-    ghost name = { codes "&" };
+impl<T> HasLayout for &'static T {
+    ghost type_name = { codes "&" };
 
-    ghost align = { 8 };
+    type Layout = usize;
 
-    ghost needs_drop = { false };
-
-    ghost size = { Some 8 };
-
-    fn name() -> &'static str {
+    fn type_name() -> &'static str {
         "&"
-    }
-
-    fn align() -> usize {
-        8
-    }
-
-    fn needs_drop() -> bool {
-        false
-    }
-
-    fn size() -> Option<usize> {
-        Some(8)
     }
 }

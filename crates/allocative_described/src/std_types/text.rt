@@ -1,31 +1,15 @@
 //! `String`.
 
-ghost use Rattle.std.specs.Prelude.{Some, true, codes};
+ghost use Rattle.std.specs.Prelude.{codes};
 
-use crate::described::Described;
+use crate::has_layout::{HasLayout, Owned};
 
-impl Described for String {
-    ghost name = { codes "String" };
+impl HasLayout for String {
+    ghost type_name = { codes "String" };
 
-    ghost align = { 8 };
+    type Layout = Owned<24>;
 
-    ghost needs_drop = { true };
-
-    ghost size = { Some 24 };
-
-    fn name() -> &'static str {
+    fn type_name() -> &'static str {
         "String"
-    }
-
-    fn align() -> usize {
-        8
-    }
-
-    fn needs_drop() -> bool {
-        true
-    }
-
-    fn size() -> Option<usize> {
-        Some(24)
     }
 }

@@ -1,84 +1,37 @@
 //! Times and durations.
 
-ghost use Rattle.std.specs.Prelude.{Some, false, codes};
+ghost use Rattle.std.specs.Prelude.{codes};
 
-use crate::described::Described;
+use crate::has_layout::HasLayout;
+use crate::layout::Record;
 use std::time::{Duration, Instant, SystemTime};
 
-impl Described for Duration {
-    ghost name = { codes "Duration" };
+impl HasLayout for Duration {
+    ghost type_name = { codes "Duration" };
 
-    ghost align = { 8 };
+    type Layout = Record<(u64, (u32, ()))>;
 
-    ghost needs_drop = { false };
-
-    ghost size = { Some 16 };
-
-    fn name() -> &'static str {
+    fn type_name() -> &'static str {
         "Duration"
     }
-
-    fn align() -> usize {
-        8
-    }
-
-    fn needs_drop() -> bool {
-        false
-    }
-
-    fn size() -> Option<usize> {
-        Some(16)
-    }
 }
 
-impl Described for Instant {
-    ghost name = { codes "Instant" };
+impl HasLayout for Instant {
+    ghost type_name = { codes "Instant" };
 
-    ghost align = { 8 };
+    type Layout = Duration;
 
-    ghost needs_drop = { false };
-
-    ghost size = { Some 16 };
-
-    fn name() -> &'static str {
+    fn type_name() -> &'static str {
         "Instant"
     }
-
-    fn align() -> usize {
-        8
-    }
-
-    fn needs_drop() -> bool {
-        false
-    }
-
-    fn size() -> Option<usize> {
-        Some(16)
-    }
 }
 
-impl Described for SystemTime {
-    ghost name = { codes "SystemTime" };
+impl HasLayout for SystemTime {
+    ghost type_name = { codes "SystemTime" };
 
-    ghost align = { 8 };
+    type Layout = Duration;
 
-    ghost needs_drop = { false };
-
-    ghost size = { Some 16 };
-
-    fn name() -> &'static str {
+    fn type_name() -> &'static str {
         "SystemTime"
-    }
-
-    fn align() -> usize {
-        8
-    }
-
-    fn needs_drop() -> bool {
-        false
-    }
-
-    fn size() -> Option<usize> {
-        Some(16)
     }
 }
