@@ -77,8 +77,13 @@ pub node_part : (m n : ℕ) (cs ds es : List Child) → InOrder cs → InOrder d
 node_part m n cs ds es a b c s [] = rw (get-root m cs a, get-root n ds b, get-root (m + n) es c) (part_of_sum (Some m) (Some n) (Some (m + n)) (refl, refl))
 node_part m n cs ds es a b c s (k ∷ p) = rw (get-under m cs k p a, get-under n ds k p b, get-under (m + n) es k p c) (s k p)
 
+-- One child alone is in order.
+pub one_sorted : (c : Child) → InOrder (c ∷ [])
+unfolding IsStrictlySortedBy
+one_sorted c = (tt, tt)
+
 -- The graph with a key before each path is that of a node with one child.
-pub node_of_one : (c : Child) → InOrder (c ∷ []) → node 0 (c ∷ []) ≡ under c.key c.graph
-node_of_one c o =
-    same_entries_map _ _ (entries-node 0 (c ∷ []) o ∙ sym (entries-from_entries-sorted (([], 0) ∷ rows_of (c ∷ [])) (node_sorted 0 (c ∷ []) o)))
+pub node_of_one : (c : Child) → node 0 (c ∷ []) ≡ under c.key c.graph
+node_of_one c =
+    same_entries_map _ _ (entries-node 0 (c ∷ []) (one_sorted c) ∙ sym (entries-from_entries-sorted (([], 0) ∷ rows_of (c ∷ [])) (node_sorted 0 (c ∷ []) (one_sorted c))))
     ∙ ap (λ rs. from_entries (([], 0) ∷ rs)) (append-nil (under_rows c.key (entries c.graph)))

@@ -1,5 +1,5 @@
 -- The sizes below some children, added up.
-use Rattle.std.proofs.Common.{◌≡◌, ℕ, ◌+◌, ◌<◌, suc, List, [], ◌∷◌, ◌++◌, take, drop, set, length, get_or, refl, sym, ap, ◌∙◌, arith, take-append-drop}
+use Rattle.std.proofs.Common.{◌≡◌, ℕ, ◌+◌, ◌<◌, suc, List, [], ◌∷◌, ◌++◌, take, drop, set, length, get_or, refl, sym, ap, ◌∙◌, arith, add-zero, take-append-drop}
 use Rattle.allocative_graph.proofs.Common.{entries, Child, Key, Path, total, under_rows, rows_of, rows_of_child, sum_of_rows, weight}
 use Rattle.std.proofs.lemmas.List.{set_split}
 use Rattle.std.proofs.Math.Seq.{drop-cons}
@@ -18,10 +18,7 @@ pub weight-cons : (c : Child) (cs : List Child) → weight (c ∷ cs) ≡ total 
 weight-cons c cs = sum-append (rows_of_child c) (rows_of cs) ∙ ap (λ n. n + weight cs) (sum-under c.key (entries c.graph) ∙ sym (total-rows c.graph))
 
 pub weight-one : (c : Child) → weight (c ∷ []) ≡ total c.graph
-weight-one c = weight-cons c [] ∙ zero_after (total c.graph)
-  where
-    zero_after : (n : ℕ) → n + 0 ≡ n
-    zero_after n = omega arith
+weight-one c = weight-cons c [] ∙ add-zero (total c.graph)
 
 pub weight-append : (a b : List Child) → weight (a ++ b) ≡ weight a + weight b
 weight-append a b = ap sum_of_rows (flat_map-append rows_of_child a b) ∙ sum-append (rows_of a) (rows_of b)

@@ -3,7 +3,7 @@ use Rattle.std.proofs.Common.{◌≡◌, ◌+◌, Bool, true, false, cond, ◌&&
 use Rattle.allocative_graph.proofs.Common.{AllByRecursion, eq_by_cmp, nat_cmp-IsAntisymmetric, slice_cmp-IsAntisymmetric, Key, Path, key_cmp, is_same_path, is_one_below, Identity, Forest, Empty, Inline, Unique, First, Again, Entry, Bag, own, own_behind, contents, content_entries, all, is_entered_in}
 use Rattle.std.proofs.lemmas.List.Folds.{list_any-append}
 use Rattle.std.proofs.lemmas.List.Sums.{sum_by-cons}
-use Rattle.allocative_graph.proofs.Basics.{each-append, each-implies, or_left, or_right, is_eq-Equal, same_path_itself}
+use Rattle.allocative_graph.proofs.Basics.{each-append, each-implies, or_left, or_right, false_from_ne_true, is_eq-Equal, same_path_itself}
 use Rattle.allocative_graph.proofs.Below.{below_in}
 
 and_first : (a b : Bool) → IsTrue (a && b) → IsTrue a
@@ -87,10 +87,6 @@ pub below_none : (b : Bag) (p : Path) → AllByRecursion (λ e. is_one_below p e
 below_none [] p h = refl
 below_none (e ∷ b) p h = sum_by-cons (λ e. cond (is_one_below p e.path) e.size 0) e b ∙ (λ i. cond (h.0 i) e.size 0 + below_none b p h.1 i)
 
-pub not_true : (b : Bool) → (IsTrue b → ⊥) → b ≡ false
-not_true true f = absurd (f refl)
-not_true false f = refl
-
 is_empty : Path → Bool
 is_empty [] = true
 is_empty (k ∷ p) = false
@@ -101,4 +97,4 @@ not_root k p e = true≢false (sym (ap is_empty e))
 
 -- Where a path other than the root is not entered, nothing is below it.
 pub absent_below : (f : Forest) (k : Key) (p : Path) → is_entered_in (all f) (k ∷ p) ≡ false → below_in (all f) (k ∷ p) ≡ 0
-absent_below f k p h = below_none (all f) (k ∷ p) (each-implies _ _ (λ e w. not_true _ (λ g. elim (w (k ∷ p) g) [ inl q ↦ not_root k p q | inr q ↦ true≢false (sym q ∙ h) ])) (all f) (closed_all f))
+absent_below f k p h = below_none (all f) (k ∷ p) (each-implies _ _ (λ e w. false_from_ne_true _ (λ g. elim (w (k ∷ p) g) [ inl q ↦ not_root k p q | inr q ↦ true≢false (sym q ∙ h) ])) (all f) (closed_all f))

@@ -5,7 +5,7 @@ use Rattle.std.specs.FinSet.{insert}
 use Rattle.std.proofs.lemmas.List.{map-append}
 use Rattle.std.proofs.lemmas.Grind.{flat_map-append}
 use Rattle.std.proofs.lemmas.List.Sorted.{IsPermutation-append_left, IsPermutation-append_right, IsPermutation-append_comm}
-use Rattle.allocative_graph.proofs.Basics.{or_left, or_right, identity_total, same_identity_itself}
+use Rattle.allocative_graph.proofs.Basics.{or_assoc, or_left, or_right, identity_total, same_identity_itself}
 use Rattle.allocative_graph.proofs.Reach.{Contents, ids, insert_all-append, met-append, among-append}
 
 pub own-following : (p : Path) (f g : Forest) → own_behind p (followed_by f g) ≡ own_behind p f ++ own_behind p g
@@ -63,15 +63,11 @@ fits-both s (Again k n j after) g v w = (v.0, fits-both s after g v.1 w)
 
 -- ---- a set with more identities, of which none is shown
 module _ (more : Identity → Bool) where
-  or_assoc : (a b c : Bool) → (a || (b || c)) ≡ ((a || b) || c)
-  or_assoc true b c = refl
-  or_assoc false b c = refl
-
   abbrev pub HasMore : Identities → Identities → Type 0
   HasMore s t = (i : Identity) → contains t i ≡ (contains s i || more i)
 
   more-insert : (s t : Identities) (j : Identity) → HasMore s t → HasMore (insert s j) (insert t j)
-  more-insert s t j h i = contains-insert identity_total t j i ∙ ap (λ b. is_same_identity i j || b) (h i) ∙ or_assoc (is_same_identity i j) (contains s i) (more i) ∙ ap (λ b. b || more i) (sym (contains-insert identity_total s j i))
+  more-insert s t j h i = contains-insert identity_total t j i ∙ ap (λ b. is_same_identity i j || b) (h i) ∙ sym (or_assoc (is_same_identity i j) (contains s i) (more i)) ∙ ap (λ b. b || more i) (sym (contains-insert identity_total s j i))
 
   more-insert_all : (s t : Identities) (is : List Identity) → HasMore s t → HasMore (insert_all s is) (insert_all t is)
   more-insert_all s t [] h = h

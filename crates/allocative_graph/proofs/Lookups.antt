@@ -1,11 +1,11 @@
 -- What a bag adds to the sums, path by path, whatever its order.
-use Rattle.std.proofs.Common.{◌≡◌, ℕ, ◌+◌, Bool, true, false, cond, ◌||◌, [], ◌∷◌, ◌++◌, Option, Some, None, refl, ap, sym, ◌∙◌, true≢false, IsPermutation, arith}
+use Rattle.std.proofs.Common.{◌≡◌, ℕ, ◌+◌, Bool, true, false, cond, ◌||◌, [], ◌∷◌, ◌++◌, Option, Some, None, refl, ap, sym, ◌∙◌, true≢false, IsPermutation, add-zero, zero-add, add_assoc}
 use Rattle.allocative_graph.proofs.Common.{get, get-insert, same_map, Path, path_cmp, is_same_path, Entry, Bag, Node, Sums, bytes_in, is_unique_in, is_entered_in, together, node_of, add, add_all, sums_of}
 use Rattle.std.specs.FinMap.{empty, get-empty}
 use Rattle.std.proofs.lemmas.List.Sums.{sum_by-cons}
 use Rattle.std.proofs.lemmas.List.Sorted.{sum_by-IsPermutation, list_any-IsPermutation}
 use Rattle.allocative_graph.specs.Sums.{is_unique_mark}
-use Rattle.allocative_graph.proofs.Basics.{path_total, path_antisymmetric, same_path}
+use Rattle.allocative_graph.proofs.Basics.{path_total, path_antisymmetric, same_path, or_assoc, or-false}
 
 -- What a bag has at a path.
 abbrev pub node_in : Bag → Path → Option Node
@@ -14,9 +14,6 @@ node_in b q = cond (is_entered_in b q) (Some (record { bytes = bytes_in b q; is_
 abbrev pub merge : Option Node → Option Node → Option Node
 merge a None = a
 merge a (Some n) = Some (together a n)
-
-zero_before : (n : ℕ) → 0 + n ≡ n
-zero_before n = omega arith
 
 bytes-cons : (e : Entry) (b : Bag) (q : Path) → bytes_in (e ∷ b) q ≡ cond (is_same_path q e.path) e.size 0 + bytes_in b q
 bytes-cons e b q = sum_by-cons (λ e. cond (is_same_path q e.path) e.size 0) e b
@@ -27,7 +24,7 @@ bytes_none (e ∷ b) q h = bytes-cons e b q ∙ by (is_same_path q e.path) h (by
   where
     by : (t : Bool) → (t || is_entered_in b q) ≡ false → (is_entered_in b q ≡ false → bytes_in b q ≡ 0) → cond t e.size 0 + bytes_in b q ≡ 0
     by true g rest = absurd (true≢false g)
-    by false g rest = zero_before _ ∙ rest g
+    by false g rest = zero-add _ ∙ rest g
 
 unique_none : (b : Bag) (q : Path) → is_entered_in b q ≡ false → is_unique_in b q ≡ false
 unique_none [] q h = refl
@@ -40,31 +37,17 @@ unique_none (e ∷ b) q h = by (is_same_path q e.path) h (unique_none b q)
 abbrev node : ℕ → Bool → Node
 node n u = record { bytes = n; is_unique = u }
 
-or_false : (u : Bool) → (u || false) ≡ u
-or_false true = refl
-or_false false = refl
-
-or_assoc : (u v w : Bool) → ((u || v) || w) ≡ (u || (v || w))
-or_assoc true v w = refl
-or_assoc false v w = refl
-
-zero_after : (n : ℕ) → n + 0 ≡ n
-zero_after n = omega arith
-
-assoc : (a b c : ℕ) → (a + b) + c ≡ a + (b + c)
-assoc a b c = omega arith
-
 -- A node that is there is merged with what the bag has there, also where that is nothing.
 merge_there : (m : Node) (b : Bag) (q : Path) → merge (Some m) (node_in b q) ≡ Some (node (m.bytes + bytes_in b q) (m.is_unique || is_unique_in b q))
 merge_there m b q = by (is_entered_in b q) refl
   where
     by : (t : Bool) → is_entered_in b q ≡ t → merge (Some m) (cond t (Some (node (bytes_in b q) (is_unique_in b q))) None) ≡ Some (node (m.bytes + bytes_in b q) (m.is_unique || is_unique_in b q))
     by true e = refl
-    by false e = λ i. Some (node ((sym (zero_after m.bytes) ∙ ap (λ n. m.bytes + n) (sym (bytes_none b q e))) i) ((sym (or_false m.is_unique) ∙ ap (λ u. m.is_unique || u) (sym (unique_none b q e))) i))
+    by false e = λ i. Some (node ((sym (add-zero m.bytes) ∙ ap (λ n. m.bytes + n) (sym (bytes_none b q e))) i) ((sym (or-false m.is_unique) ∙ ap (λ u. m.is_unique || u) (sym (unique_none b q e))) i))
 
 together_step : (o : Option Node) (n m : ℕ) (u v : Bool) → Some (node ((together o (node n u)).bytes + m) ((together o (node n u)).is_unique || v)) ≡ Some (together o (node (n + m) (u || v)))
 together_step None n m u v = refl
-together_step (Some old) n m u v = λ i. Some (node (assoc old.bytes n m i) (or_assoc old.is_unique u v i))
+together_step (Some old) n m u v = λ i. Some (node (add_assoc old.bytes n m i) (or_assoc old.is_unique u v i))
 
 pub get-add : (s : Sums) (e : Entry) (q : Path) → get (add s e) q ≡ cond (is_same_path q e.path) (Some (together (get s e.path) (node_of e))) (get s q)
 get-add s e q = get-insert path_total s e.path _ q
@@ -80,7 +63,7 @@ get-add_all s (e ∷ b) q =
         ≡ merge (get s q) (cond (t || is_entered_in b q) (Some (node (cond t e.size 0 + bytes_in b q) (cond t (is_unique_mark e.mark) false || is_unique_in b q))) None)
     by true h = merge_there (together (get s e.path) (node_of e)) b q ∙ together_step (get s e.path) e.size (bytes_in b q) (is_unique_mark e.mark) (is_unique_in b q)
         ∙ ap (λ p. Some (together (get s p) (node (e.size + bytes_in b q) (is_unique_mark e.mark || is_unique_in b q)))) (sym (same_path q e.path h))
-    by false h = ap (λ n. merge (get s q) (cond (is_entered_in b q) (Some (node n (is_unique_in b q))) None)) (sym (zero_before (bytes_in b q)))
+    by false h = ap (λ n. merge (get s q) (cond (is_entered_in b q) (Some (node n (is_unique_in b q))) None)) (sym (zero-add (bytes_in b q)))
 
 pub get-sums_of : (b : Bag) (q : Path) → get (sums_of b) q ≡ node_in b q
 get-sums_of b q = get-add_all empty b q ∙ ap (λ o. merge o (node_in b q)) (get-empty path_cmp q) ∙ by (is_entered_in b q)

@@ -5,11 +5,11 @@ use Rattle.std.specs.FinMap.{empty, contains_key-keys}
 use Rattle.std.specs.FinSet as set
 use Rattle.std.proofs.lemmas.List.Folds.{list_any-append}
 use Rattle.allocative_graph.specs.Meaning.{ReachApart}
-use Rattle.allocative_graph.proofs.Basics.{path_total, path_antisymmetric, same_path}
+use Rattle.allocative_graph.proofs.Basics.{path_total, path_antisymmetric, same_path, false_from_ne_true}
 use Rattle.allocative_graph.proofs.Reach.{reaches_exactly, contains-insert_all}
 use Rattle.allocative_graph.proofs.Lookups.{merge, get-add_all, get-sums_of, add_all-permutation, add_all-append}
 use Rattle.allocative_graph.proofs.Below.{below-add_all, below-sums_of}
-use Rattle.allocative_graph.proofs.Closed.{absent_below, not_true}
+use Rattle.allocative_graph.proofs.Closed.{absent_below}
 use Rattle.allocative_graph.proofs.Following.{fits-both, fits_more, added-following}
 
 -- ---- what a graph has at a path
@@ -114,4 +114,4 @@ pub whole_following : (f g : Forest) → IsWhole f → IsWhole g → ReachApart 
 whole_following f g v w apart = fits-both set.empty f g v (fits_more (λ i. is_among i (shown f)) set.empty (met_after set.empty f) g (contains-insert_all set.empty (shown f)) away w)
   where
     away : (i : Identity) → IsTrue (is_among i (shown g)) → is_among i (shown f) ≡ false
-    away i h = not_true _ (λ there. apart i ((reaches_exactly f v i).0 there) ((reaches_exactly g w i).0 h))
+    away i h = false_from_ne_true _ (λ there. apart i ((reaches_exactly f v i).0 there) ((reaches_exactly g w i).0 h))

@@ -36,7 +36,7 @@ added_under all m cs es c a t h =
     let one = one_child c t in
     let whole : Added all (node m cs) (node 0 (c ∷ [])) (node (m + 0) es) = added_node all m 0 cs (c ∷ []) es a one h in
     let no_more : m + 0 ≡ m = omega arith in
-    subst (λ n. Added all (node m cs) (under c.key c.graph) (node n es)) no_more (subst (λ g. Added all (node m cs) g (node (m + 0) es)) (node_of_one c one.sorted) whole)
+    subst (λ n. Added all (node m cs) (under c.key c.graph) (node n es)) no_more (subst (λ g. Added all (node m cs) g (node (m + 0) es)) (node_of_one c) whole)
 
 -- ---- in terms of a result
 pub rows_of_node : (n : ℕ) (cs : List Child) → AreChildren cs → len (node n cs) ≡ length (rows_of cs) + 1

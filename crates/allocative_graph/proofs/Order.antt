@@ -4,7 +4,7 @@ use Rattle.allocative_graph.proofs.Common.{⊤, AllByRecursion, Identities, Iden
 use Rattle.std.specs.FinSet.{insert, empty}
 use Rattle.std.proofs.lemmas.List.Sorted.{IsPermutation-refl, IsPermutation-sym, IsPermutation-trans, IsPermutation-append, IsPermutation-append_left, IsPermutation-append_right, IsPermutation-append_comm, list_any-IsPermutation}
 use Rattle.allocative_graph.specs.Meaning.{Agree}
-use Rattle.allocative_graph.proofs.Basics.{or_cases, or_left, or_right, both_ways, same_identity, same_identity_itself, same_identity_turned}
+use Rattle.allocative_graph.proofs.Basics.{or_cases, or_left, or_right, false_from_ne_true, both_ways, same_identity, same_identity_itself, same_identity_turned}
 use Rattle.allocative_graph.proofs.Reach.{Fresh, apart_from, fits_fresh, own_content, flat_of_each, reaches_exactly}
 use Rattle.allocative_graph.proofs.Lookups.{add_all-permutation}
 use Rattle.std.specs.FinMap as finmap
@@ -63,17 +63,13 @@ among_other k i (j ∷ js) h = by (is_same_identity i j) refl (among_other k i j
     by true e rest = ap (λ b. b || is_among k js) (sym (ap (is_same_identity k) (sym (same_identity i j e)) ∙ h))
     by false e rest = ap (λ b. is_same_identity k j || b) rest
 
-not_true : (b : Bool) → (IsTrue b → ⊥) → b ≡ false
-not_true true f = absurd (f refl)
-not_true false f = refl
-
 no_repeat_without : (i : Identity) (js : List Identity) → NoRepeat js → NoRepeat (without i js)
 no_repeat_without i [] h = tt
 no_repeat_without i (j ∷ js) h = by (is_same_identity i j) (no_repeat_without i js h.1)
   where
     by : (t : Bool) → NoRepeat (without i js) → NoRepeat (cond t js (j ∷ without i js))
     by true rest = h.1
-    by false rest = (not_true _ (λ g. true≢false (sym (among_without j i js g) ∙ h.0)), rest)
+    by false rest = (false_from_ne_true _ (λ g. true≢false (sym (among_without j i js g) ∙ h.0)), rest)
 
 gone : (i : Identity) (js : List Identity) → NoRepeat js → is_among i (without i js) ≡ false
 gone i [] h = refl

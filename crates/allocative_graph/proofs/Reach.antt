@@ -7,7 +7,7 @@ use Rattle.std.proofs.lemmas.List.Folds.{list_any-append}
 use Rattle.std.proofs.lemmas.List.{map-append}
 use Rattle.std.proofs.lemmas.List.Sorted.{IsPermutation-refl}
 use Rattle.allocative_graph.specs.Meaning.{content_in, ReachesExactly}
-use Rattle.allocative_graph.proofs.Basics.{or_cases, or_left, or_right, or_false_left, or_false_right, each-append, each-left, each-right, each-implies, each-map, identity_total, same_identity, same_identity_itself, same_identity_turned}
+use Rattle.allocative_graph.proofs.Basics.{or_cases, or_left, or_right, or_parts, or-false, each-append, each-left, each-right, each-implies, each-map, identity_total, same_identity, same_identity_itself, same_identity_turned}
 
 abbrev pub Contents : Type 0
 Contents = List (Identity × Bag)
@@ -46,12 +46,8 @@ or_swap true false c = refl
 or_swap false true c = refl
 or_swap false false c = refl
 
-or_none : (a : Bool) → a ≡ (a || false)
-or_none true = refl
-or_none false = refl
-
 pub contains-insert_all : (s : Identities) (is : List Identity) (i : Identity) → contains (insert_all s is) i ≡ (contains s i || is_among i is)
-contains-insert_all s [] i = or_none _
+contains-insert_all s [] i = sym (or-false _)
 contains-insert_all s (j ∷ is) i = contains-insert_all (insert s j) is i ∙ ap (λ b. b || is_among i is) (contains-insert identity_total s j i) ∙ or_swap (is_same_identity i j) (contains s i) (is_among i is)
 
 pub grows : (s : Identities) (is : List Identity) (i : Identity) → IsTrue (contains s i) → IsTrue (contains (insert_all s is) i)
@@ -139,10 +135,10 @@ fits_fresh s (Again k n j after) w = fits_fresh s after w.1
 
 pub apart : (s : Identities) (is : List Identity) → Fresh s is → AllByRecursion (λ j. contains s j ≡ false) is
 apart s [] h = tt
-apart s (i ∷ is) h = (h.0, each-implies _ _ (λ j g. or_false_right _ _ (sym (contains-insert identity_total s i j) ∙ g)) is (apart (insert s i) is h.1))
+apart s (i ∷ is) h = (h.0, each-implies _ _ (λ j g. (or_parts _ _ (sym (contains-insert identity_total s i j) ∙ g)).1) is (apart (insert s i) is h.1))
 
 pub apart_from : (s : Identities) (i : Identity) (is : List Identity) → Fresh (insert s i) is → AllByRecursion (λ j. is_same_identity j i ≡ false) is
-apart_from s i is h = each-implies _ _ (λ j g. or_false_left _ _ (sym (contains-insert identity_total s i j) ∙ g)) is (apart (insert s i) is h)
+apart_from s i is h = each-implies _ _ (λ j g. (or_parts _ _ (sym (contains-insert identity_total s i j) ∙ g)).0) is (apart (insert s i) is h)
 
 pub fresh_distinct : (s : Identities) (is : List Identity) → Fresh s is → IsDistinct is_same_identity is
 unfolding IsDistinct

@@ -10,7 +10,7 @@ use Rattle.std.proofs.lemmas.List.Elements.{All-nil, All-cons}
 use Rattle.std.proofs.lemmas.List.Splits.{slice_split_none, slice_split_at, length-slice_split}
 use Rattle.std.proofs.lemmas.List.Sums.{sum_by-cons}
 use Rattle.allocative_graph.specs.Read.{Exceeds, CanBeRead, keys_of}
-use Rattle.allocative_graph.proofs.Basics.{same_path, or_false_left, or_false_right}
+use Rattle.allocative_graph.proofs.Basics.{same_path, or_parts}
 use Rattle.allocative_graph.proofs.Text.{Plain, Sized, Good, is_shown, full, body, shown_lines, full_body, body_lacks, decimal_lacks, good_entries, words, and_left, and_right}
 use Rattle.allocative_graph.proofs.Exact.{differs}
 use Rattle.allocative_graph.proofs.ReadLines.{stacks-cons, stacks-first}
@@ -194,8 +194,8 @@ bytes-find q (e ∷ es) h = by (is_same_path q e.0) refl (bytes-find q es (and_r
 bytes-absent : (ss : List Stack) (q : Path) → list_any (λ s. begins q s.path) ss ≡ false → bytes_at ss q ≡ 0
 bytes-absent [] q h = refl
 bytes-absent (s ∷ ss) q h =
-    let here : cond (is_same_path q s.path) s.size 0 ≡ 0 = apart (is_same_path q s.path) (begins q s.path) (same_begins q s.path) (or_false_left (begins q s.path) _ h) in
-    omega (arith, here, sum_by-cons (λ (t : Stack). cond (is_same_path q t.path) t.size 0) s ss, bytes-absent ss q (or_false_right (begins q s.path) _ h))
+    let here : cond (is_same_path q s.path) s.size 0 ≡ 0 = apart (is_same_path q s.path) (begins q s.path) (same_begins q s.path) (or_parts (begins q s.path) _ h).0 in
+    omega (arith, here, sum_by-cons (λ (t : Stack). cond (is_same_path q t.path) t.size 0) s ss, bytes-absent ss q (or_parts (begins q s.path) _ h).1)
   where
     apart : (t b : Bool) → (t ≡ true → b ≡ true) → b ≡ false → cond t s.size 0 ≡ 0
     apart true b f e = absurd (true≢false (sym (f refl) ∙ e))

@@ -21,17 +21,17 @@ abbrev Rows : Type 0
 Rows = List (Path × ℕ)
 
 -- The conjunction of two tests that hold holds.
-both : (a b : Bool) → T a → T b → T (a && b)
+pub both : (a b : Bool) → T a → T b → T (a && b)
 both true b p q = q
 both false b p q = p
 
 -- Where a conjunction holds, its first test holds.
-first : (a b : Bool) → T (a && b) → T a
+pub first : (a b : Bool) → T (a && b) → T a
 first true b p = tt
 first false b p = p
 
 -- Where a conjunction holds, its second test holds.
-second : (a b : Bool) → T (a && b) → T b
+pub second : (a b : Bool) → T (a && b) → T b
 second true b p = p
 second false b p = absurd p
 
@@ -64,7 +64,7 @@ below-under k p (r ∷ rs) h =
     both _ _ (subst (λ o. T (is_lt o)) (sym (same_key k p r.0)) (first _ _ h)) (below-under k p rs (second _ _ h))
 
 -- Rows in order stay in order when one key is put before them.
-sorted-under : (k : Key) (rs : Rows) → T (is_sorted path_cmp rs) → T (is_sorted path_cmp (under_rows k rs))
+pub sorted-under : (k : Key) (rs : Rows) → T (is_sorted path_cmp rs) → T (is_sorted path_cmp (under_rows k rs))
 sorted-under k [] h = tt
 sorted-under k (r ∷ rs) h = both _ _ (below-under k r.0 rs (first _ _ h)) (sorted-under k rs (second _ _ h))
 

@@ -3,7 +3,7 @@ use Rattle.allocative_graph.proofs.Common.{Child, total, under, Added, node}
 use Rattle.allocative_graph.proofs.ChildRows.{weight-one}
 use Rattle.allocative_graph.proofs.NodeAdded.{added_under}
 use Rattle.allocative_graph.proofs.NodeSizes.{total-node}
-use Rattle.allocative_graph.proofs.RowSums.{is_sum_of}
+use Rattle.allocative_graph.proofs.Graphs.{is_sum_of}
 use Rattle.allocative_graph.proofs.flamegraph.FlameGraph.add_child.Goals as goal
 
 pub put_child-requires-clause-fits : goal.put_child-requires-clause-fits
