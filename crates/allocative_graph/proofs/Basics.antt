@@ -74,19 +74,13 @@ pub identity_total : IsTotalOrder identity_cmp
 unfolding as_lists
 identity_total = subst IsTotalOrder one_order (on_total (λ (i : Identity). i.maker ∷ i.number ∷ []) nat_list_cmp_total)
 
-first_of_list : List ℕ → ℕ
-first_of_list [] = 0
-first_of_list (x ∷ xs) = x
-
-second_of_list : List ℕ → ℕ
-second_of_list [] = 0
-second_of_list (x ∷ xs) = first_of_list xs
-
 pub identity_antisymmetric : IsAntisymmetric identity_cmp
-unfolding first_of_list second_of_list as_lists
+unfolding as_lists
 identity_antisymmetric i j e =
     let p : ◌≡◌ {A = List ℕ} (i.maker ∷ i.number ∷ []) (j.maker ∷ j.number ∷ []) = slice_cmp-IsAntisymmetric nat_cmp-IsAntisymmetric (i.maker ∷ i.number ∷ []) (j.maker ∷ j.number ∷ []) (ap (λ (f : Identity → Identity → Ordering). f i j) one_order ∙ e) in
-    λ k. record { maker = first_of_list (p k); number = second_of_list (p k) }
+    let maker : i.maker ≡ j.maker = cc in
+    let number : i.number ≡ j.number = cc in
+    λ k. record { maker = maker k; number = number k }
 
 pub same_identity : (i j : Identity) → IsTrue (is_same_identity i j) → i ≡ j
 same_identity i j h = identity_antisymmetric i j (is_eq-Equal _ h)

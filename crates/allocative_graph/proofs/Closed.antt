@@ -87,13 +87,8 @@ pub below_none : (b : Bag) (p : Path) → AllByRecursion (λ e. is_one_below p e
 below_none [] p h = refl
 below_none (e ∷ b) p h = sum_by-cons (λ e. cond (is_one_below p e.path) e.size 0) e b ∙ (λ i. cond (h.0 i) e.size 0 + below_none b p h.1 i)
 
-is_empty : Path → Bool
-is_empty [] = true
-is_empty (k ∷ p) = false
-
 pub not_root : (k : Key) (p : Path) → k ∷ p ≡ [] → ⊥
-unfolding is_empty
-not_root k p e = true≢false (sym (ap is_empty e))
+not_root k p e = cc
 
 -- Where a path other than the root is not entered, nothing is below it.
 pub absent_below : (f : Forest) (k : Key) (p : Path) → is_entered_in (all f) (k ∷ p) ≡ false → below_in (all f) (k ∷ p) ≡ 0

@@ -1,49 +1,30 @@
 -- A text determines the sizes: it splits into lines at the line feeds, a line at its last space, and a path at each
 -- `;`.
-use Rattle.std.proofs.Common.{◌≡◌, ◌≢◌, ℕ, zero, suc, ◌+◌, ◌^◌, ◌<◌, ◌≤◌, ◌/◌, ◌%◌, ◌==◌, Bool, true, false, cond, not, ◌||◌, ◌&&◌, T, IsTrue, ◌⊎◌, inl, inr, List, [], ◌∷◌, ◌++◌, map, flat_map, filter, Some, None, refl, ap, sym, ◌∙◌, subst, true≢false, arith, unwrap_or, append_assoc, decimal, sum_by, nat_lt, eqb-true, if◌then◌else◌}
-use Rattle.allocative_graph.proofs.Common.{AllByRecursion, entries, get-entries, entries_sorted, find, is_sorted, below_all, Key, Path, path_cmp, is_same_path, Graph, text, text_of_entries, joined, is_root, size_at, Lacks, HasPlainKeys, HasWords}
+use Rattle.std.proofs.Common.{◌≡◌, ◌≢◌, ℕ, zero, suc, ◌+◌, ◌^◌, ◌<◌, ◌≤◌, ◌/◌, ◌%◌, ◌==◌, Bool, true, false, cond, not, ◌||◌, T, IsTrue, List, [], ◌∷◌, ◌++◌, map, flat_map, filter, Some, refl, ap, sym, ◌∙◌, subst, true≢false, arith, unwrap_or, append_assoc, decimal, sum_by, nat_lt, eqb-true, if◌then◌else◌, Less}
+use Rattle.allocative_graph.proofs.Common.{AllByRecursion, is_eq, is_lt, entries, get-entries, entries_sorted, find, is_sorted, below_all, first, second, Key, Path, path_cmp, is_same_path, Graph, text, text_of_entries, joined, is_root, size_at, Lacks, HasPlainKeys, HasWords}
 use Rattle.std.specs.Fmt.{digits, digits_onto, digit_glyph}
+use Rattle.std.proofs.lemmas.Bool.{not-false}
 use Rattle.std.proofs.lemmas.Fmt.{decimal_injective}
 use Rattle.std.proofs.lemmas.List.Sums.{sum_by-cons}
 use Rattle.allocative_graph.proofs.Basics.{each-append, each-implies, same_path}
-use Rattle.allocative_graph.proofs.Below.{find-below_all}
+use Rattle.allocative_graph.proofs.Below.{is_lt-Less}
 
 -- ---- lists parted at a byte
-head_of : List ℕ → ℕ
-head_of [] = 0
-head_of (x ∷ xs) = x
-
-tail_of : List ℕ → List ℕ
-tail_of [] = []
-tail_of (x ∷ xs) = xs
-
-same_head : (x y : ℕ) (xs ys : List ℕ) → x ∷ xs ≡ y ∷ ys → x ≡ y
-unfolding head_of
-same_head x y xs ys e = ap head_of e
-
-same_tail : (x y : ℕ) (xs ys : List ℕ) → x ∷ xs ≡ y ∷ ys → xs ≡ ys
-unfolding tail_of
-same_tail x y xs ys e = ap tail_of e
-
 pub first_split : (c : ℕ) (a b x y : List ℕ) → Lacks c a → Lacks c b → a ++ c ∷ x ≡ b ++ c ∷ y → (a ≡ b) × (x ≡ y)
-first_split c [] [] x y f g e = (refl, same_tail c c x y e)
-first_split c [] (d ∷ b) x y f g e = absurd (g.0 (sym (same_head c d _ _ e)))
-first_split c (d ∷ a) [] x y f g e = absurd (f.0 (same_head d c _ _ e))
-first_split c (d ∷ a) (e ∷ b) x y f g h =
-    let rest = first_split c a b x y f.1 g.1 (same_tail d e _ _ h) in
-    (λ i. same_head d e _ _ h i ∷ rest.0 i, rest.1)
+first_split c [] [] x y f g e = (refl, cc)
+first_split c [] (d ∷ b) x y f g e = absurd (g.0 (cc))
+first_split c (d ∷ a) [] x y f g e = absurd (f.0 (cc))
+first_split c (d ∷ a) (e ∷ b) x y f g h = let rest = first_split c a b x y f.1 g.1 (cc) in (cc (rest.0), rest.1)
 
 pub lacks_not : (c : ℕ) (a x : List ℕ) → Lacks c (a ++ c ∷ x) → ⊥
 lacks_not c [] x f = f.0 refl
 lacks_not c (d ∷ a) x f = lacks_not c a x f.1
 
 pub last_split : (c : ℕ) (a b x y : List ℕ) → Lacks c x → Lacks c y → a ++ c ∷ x ≡ b ++ c ∷ y → (a ≡ b) × (x ≡ y)
-last_split c [] [] x y f g e = (refl, same_tail c c x y e)
-last_split c [] (d ∷ b) x y f g e = absurd (lacks_not c b y (subst (Lacks c) (same_tail c d _ _ e) f))
-last_split c (d ∷ a) [] x y f g e = absurd (lacks_not c a x (subst (Lacks c) (sym (same_tail d c _ _ e)) g))
-last_split c (d ∷ a) (e ∷ b) x y f g h =
-    let rest = last_split c a b x y f g (same_tail d e _ _ h) in
-    (λ i. same_head d e _ _ h i ∷ rest.0 i, rest.1)
+last_split c [] [] x y f g e = (refl, cc)
+last_split c [] (d ∷ b) x y f g e = absurd (lacks_not c b y (subst (Lacks c) (cc) f))
+last_split c (d ∷ a) [] x y f g e = absurd (lacks_not c a x (subst (Lacks c) (cc) g))
+last_split c (d ∷ a) (e ∷ b) x y f g h = let rest = last_split c a b x y f g (cc) in (cc (rest.0), rest.1)
 
 -- ---- decimals
 high : (d : ℕ) → 48 ≤ digit_glyph false d
@@ -124,14 +105,9 @@ same_entry (k ∷ p, n) (l ∷ q, m) a b h =
     let parts = last_split 32 (joined (k ∷ p)) (joined (l ∷ q)) (decimal n) (decimal m) (decimal_lacks 32 n (omega arith)) (decimal_lacks 32 m (omega arith)) h in
     λ i. (joined_same k l p q a.plain b.plain parts.0 i, decimal_injective n m a.word b.word parts.1 i)
 
-is_empty : List ℕ → Bool
-is_empty [] = true
-is_empty (x ∷ xs) = false
-
 not_empty : (a : List ℕ) (c : ℕ) (x : List ℕ) → a ++ c ∷ x ≡ [] → ⊥
-unfolding is_empty
-not_empty [] c x e = true≢false (sym (ap is_empty e))
-not_empty (d ∷ a) c x e = true≢false (sym (ap is_empty e))
+not_empty [] c x e = cc
+not_empty (d ∷ a) c x e = cc
 
 same_entries : (es fs : List Sized) → AllByRecursion Good es → AllByRecursion Good fs → flat_map full es ≡ flat_map full fs → es ≡ fs
 same_entries [] [] a b h = refl
@@ -141,69 +117,72 @@ same_entries (e ∷ es) (f ∷ fs) a b h =
     let parts = first_split 10 (body e) (body f) (flat_map full es) (flat_map full fs) (body_lacks e a.0.plain) (body_lacks f b.0.plain) (sym (full_body e (flat_map full es)) ∙ h ∙ full_body f (flat_map full fs)) in
     λ i. same_entry e f a.0 b.0 parts.0 i ∷ same_entries es fs a.1 b.1 parts.1 i
 
-pub good_entries : (es : List Sized) → AllByRecursion (λ p. AllByRecursion Plain p) (map (λ e. e.0) es) → AllByRecursion (λ e. e.1 < 2 ^ 64) es → AllByRecursion Good (filter is_shown es)
+-- ---- the entries that have a line
+abbrev pub shown : Graph → List Sized
+shown g = filter is_shown (entries g)
+
+good_entries : (es : List Sized) → AllByRecursion (λ p. AllByRecursion Plain p) (map (λ e. e.0) es) → sum_by (λ e. e.1) es < 2 ^ 64 → AllByRecursion Good (filter is_shown es)
 good_entries [] a b = tt
-good_entries (e ∷ es) a b = by (is_shown e) refl (good_entries es a.1 b.1)
+good_entries (e ∷ es) a b = by (is_shown e) refl (good_entries es a.1 (omega (arith, sum_by-cons (λ e. e.1) e es)))
   where
     by : (t : Bool) → is_shown e ≡ t → AllByRecursion Good (filter is_shown es) → AllByRecursion Good (cond t (e ∷ filter is_shown es) (filter is_shown es))
-    by true h rest = (record { seen = h; plain = a.0; word = b.0 }, rest)
+    by true h rest = (record { seen = h; plain = a.0; word = omega (arith, sum_by-cons (λ e. e.1) e es) }, rest)
     by false h rest = rest
 
+pub shown_good : (g : Graph) → HasPlainKeys g → HasWords g → AllByRecursion Good (shown g)
+shown_good g plain fits = good_entries (entries g) plain fits
+
 -- ---- a size is that of the line at its path
-none_kept : (q : Path) (es : List Sized) → find path_cmp q es ≡ None → find path_cmp q (filter is_shown es) ≡ None
-none_kept q [] h = refl
-none_kept q (e ∷ es) h = by (is_same_path q e.0) refl h (none_kept q es)
+-- The bytes of some entries at a path.
+abbrev pub bytes_in : List Sized → Path → ℕ
+bytes_in es q = sum_by (λ e. cond (is_same_path q e.0) e.1 0) es
+
+-- Where an entry has no line, it has no bytes at a path that is not the root.
+unseen : (e : Sized) (k : Key) (p : Path) → is_shown e ≡ false → cond (is_same_path (k ∷ p) e.0) e.1 0 ≡ 0
+unseen ([], n) k p h = refl
+unseen (l ∷ q, n) k p h = zero_at (is_same_path (k ∷ p) (l ∷ q)) (eqb-true n 0 (not-false (n == 0) h))
   where
-    by : (t : Bool) → is_same_path q e.0 ≡ t → cond t (Some e.1) (find path_cmp q es) ≡ None → (find path_cmp q es ≡ None → find path_cmp q (filter is_shown es) ≡ None) → find path_cmp q (cond (is_shown e) (e ∷ filter is_shown es) (filter is_shown es)) ≡ None
-    by true s g rest = absurd (true≢false (ap (λ o. elim o as (λ x. Bool) [ Some y ↦ true | None ↦ false ]) g))
-    by false s g rest = inner (is_shown e)
-      where
-        inner : (v : Bool) → find path_cmp q (cond v (e ∷ filter is_shown es) (filter is_shown es)) ≡ None
-        inner true = ap (λ b. cond b (Some e.1) (find path_cmp q (filter is_shown es))) s ∙ rest g
-        inner false = rest g
+    zero_at : (t : Bool) → n ≡ 0 → cond t n 0 ≡ 0
+    zero_at true e = e
+    zero_at false e = refl
 
-pub and_left : (a b : Bool) → T (a && b) → T a
-and_left true b h = tt
-and_left false b h = absurd h
-
-pub and_right : (a b : Bool) → T (a && b) → T b
-and_right true b h = h
-and_right false b h = absurd h
-
-eq_zero : (n : ℕ) → IsTrue (n == 0) → n ≡ 0
-eq_zero n h = eqb-true n 0 h
-
-abbrev size_in : List Sized → Path → ℕ
-size_in es q = unwrap_or (find path_cmp q es) 0
-
-size_kept : (k : Key) (p : Path) (es : List Sized) → T (is_sorted path_cmp es) → size_in es (k ∷ p) ≡ size_in (filter is_shown es) (k ∷ p)
-size_kept k p [] h = refl
-size_kept k p (e ∷ es) h = by (is_same_path (k ∷ p) e.0) refl (is_shown e) refl (size_kept k p es (and_right (below_all path_cmp e.0 es) _ h))
+-- The sum over the items that pass a test is that over all, where the others have none.
+sum-filter : {X : Type 0} (t : X → Bool) (f : X → ℕ) → ((x : X) → t x ≡ false → f x ≡ 0) → (xs : List X) → sum_by f (filter t xs) ≡ sum_by f xs
+sum-filter t f none [] = refl
+sum-filter t f none (x ∷ xs) = by (t x) refl (sum-filter t f none xs)
   where
-    unseen : (r z : Bool) → not (r || z) ≡ false → IsTrue r ⊎ IsTrue z
-    unseen true z g = inl refl
-    unseen false true g = inr refl
-    unseen false false g = absurd (true≢false g)
+    by : (b : Bool) → t x ≡ b → sum_by f (filter t xs) ≡ sum_by f xs → sum_by f (cond b (x ∷ filter t xs) (filter t xs)) ≡ sum_by f (x ∷ xs)
+    by true e rest = omega (arith, rest, sum_by-cons f x (filter t xs), sum_by-cons f x xs)
+    by false e rest = omega (arith, rest, sum_by-cons f x xs, none x e)
 
-    none : k ∷ p ≡ e.0 → find path_cmp (k ∷ p) (filter is_shown es) ≡ None
-    none q = none_kept (k ∷ p) es (ap (λ r. find path_cmp r es) q ∙ find-below_all e.0 es (and_left (below_all path_cmp e.0 es) (is_sorted path_cmp es) h))
+bytes-below : (q : Path) (es : List Sized) → T (below_all path_cmp q es) → bytes_in es q ≡ 0
+bytes-below q [] h = refl
+bytes-below q (e ∷ es) h =
+    let less : path_cmp q e.0 ≡ Less = is_lt-Less (path_cmp q e.0) (first (is_lt (path_cmp q e.0)) (below_all path_cmp q es) h) in
+    sum_by-cons (λ (x : Sized). cond (is_same_path q x.0) x.1 0) e es
+    ∙ (λ i. cond (is_eq (less i)) e.1 0 + bytes-below q es (second (is_lt (path_cmp q e.0)) (below_all path_cmp q es) h) i)
 
-    by : (t : Bool) → is_same_path (k ∷ p) e.0 ≡ t → (v : Bool) → is_shown e ≡ v → size_in es (k ∷ p) ≡ size_in (filter is_shown es) (k ∷ p) → unwrap_or (cond t (Some e.1) (find path_cmp (k ∷ p) es)) 0 ≡ size_in (cond v (e ∷ filter is_shown es) (filter is_shown es)) (k ∷ p)
-    by true s true w rest = ap (λ t. unwrap_or (cond t (Some e.1) (find path_cmp (k ∷ p) (filter is_shown es))) 0) (sym s)
-    by true s false w rest = elim (unseen (is_root e.0) (e.1 == 0) w) [
-      | inl r ↦ absurd (true≢false (sym (ap is_root (same_path (k ∷ p) e.0 s) ∙ r)))
-      | inr z ↦ eq_zero e.1 z ∙ ap (λ o. unwrap_or o 0) (sym (none (same_path (k ∷ p) e.0 s)))
-    ]
-    by false s true w rest = rest ∙ ap (λ t. unwrap_or (cond t (Some e.1) (find path_cmp (k ∷ p) (filter is_shown es))) 0) (sym s)
-    by false s false w rest = rest
+-- The bytes of entries in order at a path are the size that is found there.
+bytes-find : (q : Path) (es : List Sized) → T (is_sorted path_cmp es) → bytes_in es q ≡ unwrap_or (find path_cmp q es) 0
+bytes-find q [] h = refl
+bytes-find q (e ∷ es) h = by (is_same_path q e.0) refl (bytes-find q es (second (below_all path_cmp e.0 es) (is_sorted path_cmp es) h))
+  where
+    sum : bytes_in (e ∷ es) q ≡ cond (is_same_path q e.0) e.1 0 + bytes_in es q
+    sum = sum_by-cons (λ (x : Sized). cond (is_same_path q x.0) x.1 0) e es
 
-pub words : (es : List Sized) (m : ℕ) → sum_by (λ e. e.1) es < m → AllByRecursion (λ e. e.1 < m) es
-words [] m h = tt
-words (e ∷ es) m h =
-    let parts = sum_by-cons (λ e. e.1) e es in
-    (omega (arith, h, parts), words es m (omega (arith, h, parts)))
+    by : (t : Bool) → is_same_path q e.0 ≡ t → bytes_in es q ≡ unwrap_or (find path_cmp q es) 0 → bytes_in (e ∷ es) q ≡ unwrap_or (cond t (Some e.1) (find path_cmp q es)) 0
+    by true same rest =
+        let above : T (below_all path_cmp q es) = subst (λ (p : Path). T (below_all path_cmp p es)) (sym (same_path q e.0 same)) (first (below_all path_cmp e.0 es) (is_sorted path_cmp es) h) in
+        omega (arith, sum, ap (λ b. cond b e.1 0) same, bytes-below q es above)
+    by false apart rest = omega (arith, sum, ap (λ b. cond b e.1 0) apart, rest)
+
+-- A size of a graph, but for the root's, is that of the lines.
+pub size_shown : (g : Graph) (k : Key) (p : Path) → size_at g (k ∷ p) ≡ bytes_in (shown g) (k ∷ p)
+size_shown g k p =
+    ap (λ o. unwrap_or o 0) (get-entries g (k ∷ p)) ∙ sym (bytes-find (k ∷ p) (entries g) (entries_sorted g))
+    ∙ sym (sum-filter is_shown (λ e. cond (is_same_path (k ∷ p) e.0) e.1 0) (λ e h. unseen e k p h) (entries g))
 
 pub text_tells : (g h : Graph) → HasPlainKeys g → HasPlainKeys h → HasWords g → HasWords h → text g ≡ text h → (k : Key) (p : Path) → size_at g (k ∷ p) ≡ size_at h (k ∷ p)
 text_tells g h a b v w e k p =
-    let same = same_entries _ _ (good_entries (entries g) a (words (entries g) (2 ^ 64) v)) (good_entries (entries h) b (words (entries h) (2 ^ 64) w)) (sym (shown_lines (entries g)) ∙ e ∙ shown_lines (entries h)) in
-    ap (λ o. unwrap_or o 0) (get-entries g (k ∷ p)) ∙ size_kept k p (entries g) (entries_sorted g) ∙ ap (λ es. size_in es (k ∷ p)) same ∙ sym (size_kept k p (entries h) (entries_sorted h)) ∙ ap (λ o. unwrap_or o 0) (sym (get-entries h (k ∷ p)))
+    let same = same_entries (shown g) (shown h) (shown_good g a v) (shown_good h b w) (sym (shown_lines (entries g)) ∙ e ∙ shown_lines (entries h)) in
+    size_shown g k p ∙ ap (λ es. bytes_in es (k ∷ p)) same ∙ sym (size_shown h k p)
