@@ -5,10 +5,15 @@ use Rattle.std.specs.Cmp.{IsTotalOrder}
 use Rattle.std.specs.Ordering.{nat_cmp}
 use Rattle.std.specs.Cmp.Lexicographic.{lists_total}
 use Rattle.std.proofs.lemmas.Cmp.{on_total, eq_by_cmp_equiv}
-pub use mathlib.Core.Bool.{or_assoc, or_comm, or-false, and-true}
-pub use Rattle.std.proofs.lemmas.Bool.{or_cases, or_left, or_right, or_parts, false_from_ne_true}
+pub use mathlib.Core.Bool.{or_assoc, or_comm, or-false, and_assoc, and-true}
+pub use Rattle.std.proofs.lemmas.Bool.{and_parts, or_cases, or_left, or_right, or_parts, false_from_ne_true}
 
 -- ---- tests
+-- What holds of both answers of a test holds of the test.
+pub on_test : (P : Bool → Type 0) (t : Bool) → (t ≡ true → P true) → (t ≡ false → P false) → P t
+on_test P true f g = f refl
+on_test P false f g = g refl
+
 pub both_ways : (a b : Bool) → (IsTrue a → IsTrue b) → (IsTrue b → IsTrue a) → a ≡ b
 both_ways true b f g = sym (f refl)
 both_ways false true f g = g refl

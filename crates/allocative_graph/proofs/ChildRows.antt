@@ -1,8 +1,6 @@
 -- The sizes below some children, added up.
-use Rattle.std.proofs.Common.{◌≡◌, ℕ, ◌+◌, ◌<◌, suc, List, [], ◌∷◌, ◌++◌, take, drop, set, length, get_or, refl, sym, ap, ◌∙◌, arith, add-zero, take-append-drop}
+use Rattle.std.proofs.Common.{◌≡◌, ℕ, ◌+◌, List, [], ◌∷◌, ◌++◌, refl, sym, ap, ◌∙◌, arith, add-zero}
 use Rattle.allocative_graph.proofs.Common.{entries, Child, Key, Path, total, under_rows, rows_of, rows_of_child, sum_of_rows, weight}
-use Rattle.std.proofs.lemmas.List.{set_split}
-use Rattle.std.proofs.Math.Seq.{drop-cons}
 use Rattle.std.proofs.lemmas.Grind.{flat_map-append}
 use Rattle.allocative_graph.proofs.RowSums.{total-rows}
 
@@ -25,10 +23,3 @@ weight-append a b = ap sum_of_rows (flat_map-append rows_of_child a b) ∙ sum-a
 
 pub weight-split : (a b : List Child) (c : Child) → weight (a ++ c ∷ b) ≡ weight a + (total c.graph + weight b)
 weight-split a b c = weight-append a (c ∷ b) ∙ ap (λ n. weight a + n) (weight-cons c b)
-
--- A list split at a place, and the list with another child at that place.
-pub split_at_place : (cs : List Child) (i : ℕ) (d : Child) → i < length cs → cs ≡ take i cs ++ get_or cs i d ∷ drop (suc i) cs
-split_at_place cs i d h = sym (take-append-drop i cs) ∙ ap (λ s. take i cs ++ s) (drop-cons cs i d h)
-
-pub set_at_place : (cs : List Child) (i : ℕ) (y : Child) → i < length cs → set cs i y ≡ take i cs ++ y ∷ drop (suc i) cs
-set_at_place cs i y h = set_split cs i y h

@@ -23,8 +23,8 @@ pub use Rattle.allocative_graph.specs.Read.{AreStacks, IsCut, IsFault, IsNumber,
 pub use Rattle.allocative_graph.specs.Reads.{AreChildren, Figures, figures_behind, node, rows_of, rows_of_child, under_rows}
 pub use Rattle.allocative_graph.specs.Representation.Children.{AddsUp, AddsUpInPart, AllAbove, AllBelow, InOrder, IsChildGap, IsFound, size_under}
 pub use Rattle.allocative_graph.specs.Representation.Merged.{Added, Merged}
-pub use Rattle.allocative_graph.specs.Representation.Node.{weight}
-pub use Rattle.allocative_graph.specs.Representation.NodeRows.{both, entries-node, first, node_sorted, second}
+pub use Rattle.allocative_graph.specs.Representation.Node.{IsNode, weight}
+pub use Rattle.allocative_graph.specs.Representation.NodeRows.{both, entries-node, first, len-child, node_sorted, second}
 pub use Rattle.allocative_graph.specs.Representation.PathRows.{HasRootAlone, IsSumByPath, joined_on, line_from, lines_below, sum_of_rows}
 pub use Rattle.allocative_graph.specs.Representation.Stacks.{nested, one_stack, sum_of_stacks}
 pub use Rattle.allocative_graph.specs.Sums.{Node, Sums, add, add_all, below, bytes_in, is_entered_in, is_unique_in, node_of, sums_of, together}

@@ -1,14 +1,13 @@
 use Rattle.std.proofs.Common.{◌≡◌, Bor, ◌∷◌, sym, ap, subst, ◌∙◌}
-use Rattle.allocative_graph.proofs.Common.{Graph, IsTree, IsBehind, HasNothing, node, InOrder, IsFound, IsChildGap}
-use Rattle.allocative_graph.proofs.NodeAdded.{node_tree}
+use Rattle.allocative_graph.proofs.Common.{Graph, IsBehind, HasNothing, node, InOrder, IsFound, IsChildGap}
+use Rattle.allocative_graph.proofs.NodeAdded.{tree_of_node}
 use Rattle.allocative_graph.proofs.NodeText.{texts}
 use Rattle.allocative_graph.proofs.Behind.{behind_root, behind_child, missing_child, missing_key, no_items, some_implies, none_implies}
 use Rattle.allocative_graph.proofs.flamegraph.FlameGraph.+get.Goals as goal
 
 pub returns-in_default-clause-found : goal.returns-in_default-clause-found
 returns-in_default-clause-found t c =
-    let tree : IsTree c.args.self.now = subst IsTree c.self.view_is (node_tree c.self.inside.node_size c.self.inside.children.items c.self.invariant.children) in
-    subst (λ p. IsBehind c.args.self.now (texts p) c.args.self.now) (sym (no_items c.args.path.now (sym c.in_default.ensures.cases))) (behind_root c.args.self.now tree)
+    subst (λ p. IsBehind c.args.self.now (texts p) c.args.self.now) (sym (no_items c.args.path.now (sym c.in_default.ensures.cases))) (behind_root c.args.self.now (tree_of_node c.self.view_is c.self.invariant))
 
 pub returns-in_default-place_of_text-clause-missing : goal.returns-in_default-place_of_text-clause-missing
 returns-in_default-place_of_text-clause-missing t c =

@@ -1,9 +1,10 @@
 -- The start of a line is cut back to its length, and the lines of each child follow those before.
 use Rattle.std.proofs.Common.{◌≡◌, ℕ, ◌++◌, [], ◌∷◌, List, get_or, take, length, arith, ap, sym, subst, ◌∙◌, append_assoc, rules, take_all, append-nil, string_bytes}
-use Rattle.allocative_graph.proofs.Common.{OnFalse, entries, Child, lines_below, HasRootAlone, rows_of, entries-node}
+use Rattle.allocative_graph.proofs.Common.{OnFalse, entries, Child, lines_below, HasRootAlone, rows_of}
 use Rattle.std.proofs.lemmas.Str.{IsUtf8-append, IsUtf8-from_ascii, IsCharBoundary-at_seam}
 use Rattle.std.specs.Str.{IsUtf8, IsCharBoundary}
 use Rattle.allocative_graph.specs.Representation.PathRows.{lines_from}
+use Rattle.allocative_graph.proofs.NodeAdded.{entries_of_node}
 use Rattle.allocative_graph.proofs.NodeText.{child_written, none_below, cut_back}
 use Rattle.allocative_graph.proofs.flamegraph.FlameGraph.+write_below.Goals as goal
 use Rattle.allocative_graph.proofs.flamegraph.FlameGraph.+write_below.Goals.{then-has_children+in_ok-push+in_ok-write_below, else-has_children, Joined-has_children}
@@ -76,13 +77,7 @@ loop-child-preserved t c =
 
 pub returns-clause-text : goal.returns-clause-text
 returns-clause-text t c =
-    let cs = c.deref-child-items.result.now in
-    let i = c.loop-child.child-index in
-    let n = c.self.inside.node_size in
     let start = string_bytes c.args.start.now in
-    let all : take i cs ≡ cs = take_all i cs (omega arith) in
-    let same : cs ≡ c.self.inside.children.items = c.deref-child-items.ensures.value in
     c.loop-child.invariant.text
-    ∙ (ap (λ (l : List Child). string_bytes c.args.text.now ++ lines_below start (([], n) ∷ rows_of l)) (all ∙ same)
-    ∙ (ap (λ l. string_bytes c.args.text.now ++ lines_below start l) (sym (entries-node n c.self.inside.children.items c.self.invariant.children.sorted))
-    ∙ ap (λ g. string_bytes c.args.text.now ++ lines_below start (entries g)) c.self.view_is))
+    ∙ (ap (λ (l : List Child). string_bytes c.args.text.now ++ lines_below start (([], c.self.inside.node_size) ∷ rows_of l)) (take_all c.loop-child.child-index c.deref-child-items.result.now (omega arith) ∙ c.deref-child-items.ensures.value)
+    ∙ ap (λ l. string_bytes c.args.text.now ++ lines_below start l) (sym (entries_of_node c.self.view_is c.self.invariant)))
