@@ -4,7 +4,7 @@ use Rattle.allocative_graph.proofs.Common.{option_map, eq_by_cmp, is_eq, get, en
 use Rattle.std.specs.FinMap.{insert}
 use Rattle.std.proofs.lemmas.List.Sums.{sum_by-cons}
 use Rattle.allocative_graph.proofs.Basics.{path_total, path_antisymmetric, same_path, each-found, or_assoc, or_comm, or-false, or_left}
-use Rattle.allocative_graph.proofs.Below.{find-below_all, weights-put}
+pub use Rattle.allocative_graph.proofs.Below.{find-below_all, weights-put}
 use Rattle.allocative_graph.proofs.Merge.{get-sum_of, get-graph, get-graph-root}
 use Rattle.allocative_graph.proofs.Lookups.{get-sums_of}
 use Rattle.allocative_graph.proofs.Closed.{closed_all, ParentIn, not_root}
