@@ -3,6 +3,7 @@ use Rattle.std.proofs.Common.{◌≡◌, ℕ, ◌+◌, Bool, true, false, cond, 
 use Rattle.allocative_graph.proofs.Common.{Less, Equal, Greater, eq_by_cmp, is_eq, ordering_then, get, entries, from_entries, same_entries_map, get-from_sorted, get-entries, find, Child, under, IsPartOfSum, under_rows, node, rows_of, IsSumByPath, Key, Path, key_cmp, path_cmp, node_sorted, entries-node, size_under, InOrder}
 use Rattle.std.specs.declared.cmp.Ordering.{Ordering}
 use Rattle.std.specs.List.Sorted.{IsStrictlySortedBy}
+use Rattle.allocative_graph.proofs.Basics.{on_test}
 use Rattle.allocative_graph.proofs.Listing.{entries-from_entries-sorted}
 use Rattle.allocative_graph.specs.Representation.Children.{AreSum, ArePartOfSum}
 use Rattle.allocative_graph.proofs.ChildSizes.{none_above, part_of_sum}
@@ -49,18 +50,12 @@ find-same k l p (r ∷ rs) rest e =
 pub find-rows : (cs : List Child) (k : Key) (p : Path) → InOrder cs → find path_cmp (k ∷ p) (rows_of cs) ≡ size_under cs k p
 unfolding IsStrictlySortedBy
 find-rows [] k p h = refl
-find-rows (c ∷ cs) k p h = go (eq_by_cmp key_cmp k c.key) refl (find-rows cs k p h.1)
-  where
-    go : (b : Bool) → eq_by_cmp key_cmp k c.key ≡ b → find path_cmp (k ∷ p) (rows_of cs) ≡ size_under cs k p
-        → find path_cmp (k ∷ p) (rows_of (c ∷ cs)) ≡ cond (eq_by_cmp key_cmp k c.key) (get c.graph p) (size_under cs k p)
-    go true e r =
-        find-same k c.key p (entries c.graph) (rows_of cs) e
-        ∙ ap (λ o. or_else (find path_cmp p (entries c.graph)) o) (r ∙ none_above k c.key p cs e h.0)
-        ∙ or_else-none _
-        ∙ sym (get-entries c.graph p)
-        ∙ ap (λ b. cond b (get c.graph p) (size_under cs k p)) (sym e)
-    go false e r =
-        find-other k c.key p (entries c.graph) (rows_of cs) e ∙ r ∙ ap (λ b. cond b (get c.graph p) (size_under cs k p)) (sym e)
+find-rows (c ∷ cs) k p h = on_test (λ b. eq_by_cmp key_cmp k c.key ≡ b → find path_cmp (k ∷ p) (rows_of (c ∷ cs)) ≡ cond b (get c.graph p) (size_under cs k p)) (eq_by_cmp key_cmp k c.key)
+    (λ e s.
+    find-same k c.key p (entries c.graph) (rows_of cs) e
+    ∙ ap (λ o. or_else (find path_cmp p (entries c.graph)) o) (find-rows cs k p h.1 ∙ none_above k c.key p cs e h.0)
+    ∙ or_else-none _ ∙ sym (get-entries c.graph p))
+    (λ e s. find-other k c.key p (entries c.graph) (rows_of cs) e ∙ find-rows cs k p h.1) refl
 
 pub get-root : (n : ℕ) (cs : List Child) → InOrder cs → get (node n cs) [] ≡ Some n
 get-root n cs h = get-from_sorted path_cmp (([], n) ∷ rows_of cs) [] (node_sorted n cs h)

@@ -4,7 +4,7 @@ use Rattle.allocative_graph.proofs.Common.{AllByRecursion, eq_by_cmp, entries, K
 use lib.Chars.{codes}
 use Rattle.allocative_graph.specs.Graph.{line}
 use Rattle.allocative_graph.specs.Report.{ends_in, exact_text, lines_from, before_last, after_last, last_key, without_lines}
-use Rattle.allocative_graph.proofs.Basics.{each-map}
+use Rattle.allocative_graph.proofs.Basics.{each-map, on_test}
 use Rattle.allocative_graph.proofs.Text.{Plain, Sized, is_shown, full, body, shown_lines, full_body, body_lacks, decimal_lacks}
 
 -- ---- the lines
@@ -48,26 +48,17 @@ last_key_of key k p n h = ap (λ l. eq_by_cmp key_cmp key (after_last 59 [] l)) 
 drop_each : (key : Key) (es : List Sized) → AllByRecursion (λ e. AllByRecursion Plain e.0) es → flat_map (λ e. cond (ends_in key e.0) [] (line e)) es ≡ flat_map (λ l. cond (eq_by_cmp key_cmp key (last_key l)) [] (l ++ 10 ∷ [])) (map body (filter is_shown es))
 drop_each key [] h = refl
 drop_each key (([], n) ∷ es) h = drop_each key es h.1
-drop_each key ((k ∷ p, n) ∷ es) h = by (n == 0) (drop_each key es h.1)
-  where
-    rest_of : List ℕ
-    rest_of = flat_map (λ l. cond (eq_by_cmp key_cmp key (last_key l)) [] (l ++ 10 ∷ [])) (map body (filter is_shown es))
-
-    by : (z : Bool) → flat_map (λ e. cond (ends_in key e.0) [] (line e)) es ≡ rest_of → cond (ends_in key (k ∷ p)) [] (cond z [] (full (k ∷ p, n))) ++ flat_map (λ e. cond (ends_in key e.0) [] (line e)) es ≡ flat_map (λ l. cond (eq_by_cmp key_cmp key (last_key l)) [] (l ++ 10 ∷ [])) (map body (cond (not z) ((k ∷ p, n) ∷ filter is_shown es) (filter is_shown es)))
-    by true rest = nothing (ends_in key (k ∷ p)) ∙ rest
-      where
-        nothing : (t : Bool) → cond t [] [] ++ flat_map (λ e. cond (ends_in key e.0) [] (line e)) es ≡ flat_map (λ e. cond (ends_in key e.0) [] (line e)) es
-        nothing true = refl
-        nothing false = refl
-    by false rest = (λ i. cond (sym (last_key_of key k p n h.0) i) [] (full (k ∷ p, n)) ++ rest i)
+drop_each key ((k ∷ p, n) ∷ es) h =
+    let kept : List ℕ → List ℕ = λ l. cond (eq_by_cmp key_cmp key (last_key l)) [] (l ++ 10 ∷ []) in
+    let rest = drop_each key es h.1 in
+    on_test (λ z. cond (ends_in key (k ∷ p)) [] (cond z [] (full (k ∷ p, n))) ++ flat_map (λ e. cond (ends_in key e.0) [] (line e)) es ≡ flat_map kept (map body (cond (not z) ((k ∷ p, n) ∷ filter is_shown es) (filter is_shown es)))) (n == 0)
+    (λ e. on_test (λ t. cond t [] [] ++ flat_map (λ e. cond (ends_in key e.0) [] (line e)) es ≡ flat_map (λ e. cond (ends_in key e.0) [] (line e)) es) (ends_in key (k ∷ p)) (λ t. refl) (λ t. refl) ∙ rest)
+    (λ e i. cond (sym (last_key_of key k p n h.0) i) [] (full (k ∷ p, n)) ++ rest i)
 
 each_filtered : (es : List Sized) → AllByRecursion (λ e. AllByRecursion Plain e.0) es → AllByRecursion (λ e. AllByRecursion Plain e.0) (filter is_shown es)
 each_filtered [] h = tt
-each_filtered (e ∷ es) h = by (is_shown e) (each_filtered es h.1)
-  where
-    by : (t : Bool) → AllByRecursion (λ e. AllByRecursion Plain e.0) (filter is_shown es) → AllByRecursion (λ e. AllByRecursion Plain e.0) (cond t (e ∷ filter is_shown es) (filter is_shown es))
-    by true rest = (h.0, rest)
-    by false rest = rest
+each_filtered (e ∷ es) h = on_test (λ t. AllByRecursion (λ e. AllByRecursion Plain e.0) (cond t (e ∷ filter is_shown es) (filter is_shown es))) (is_shown e)
+    (λ t. (h.0, each_filtered es h.1)) (λ t. each_filtered es h.1)
 
 pub exact_is : (g : Graph) → HasPlainKeys g → exact_text g ≡ without_lines (codes "unused_capacity") (text g)
 exact_is g h =

@@ -3,7 +3,7 @@ use Rattle.std.proofs.Common.{◌≡◌, ℕ, ◌+◌, Bool, true, false, cond, 
 use Rattle.allocative_graph.proofs.Common.{option_map, eq_by_cmp, is_eq, get, entries, get-entries, get-insert, get-from_entries, entries-insert, entries_sorted, contains_key, same_map, find, is_sorted, below_all, first, second, Key, Child, node, IsSumByPath, Path, key_cmp, path_cmp, is_same_path, is_one_below, Forest, all, Bag, is_entered_in, sums_of, Graph, graph, remaining, size_at, total_at, begins, total, sum_of, under, default, IsTree}
 use Rattle.std.specs.FinMap.{insert}
 use Rattle.std.proofs.lemmas.List.Sums.{sum_by-cons}
-use Rattle.allocative_graph.proofs.Basics.{path_total, path_antisymmetric, same_path, each-found, or_assoc, or_comm, or-false, or_left}
+use Rattle.allocative_graph.proofs.Basics.{path_total, path_antisymmetric, same_path, each-found, on_test, or_assoc, or_comm, or-false, or_left}
 pub use Rattle.allocative_graph.proofs.Below.{find-below_all, weights-put}
 use Rattle.allocative_graph.proofs.Merge.{get-sum_of, get-graph, get-graph-root}
 use Rattle.allocative_graph.proofs.Lookups.{get-sums_of}
@@ -53,14 +53,15 @@ kept (Some m) = ap Some (sym (add-zero m))
 
 get-add_list : (g : Graph) (es : List (Path × ℕ)) → T (is_sorted path_cmp es) → (q : Path) → get (add_list g es) q ≡ sizes_together (get g q) (find path_cmp q es)
 get-add_list g [] h q = kept (get g q)
-get-add_list g (e ∷ es) h q = get-add_list (add_at g e) es (second (below_all path_cmp e.0 es) _ h) q ∙ ap (λ o. sizes_together o (find path_cmp q es)) (get-insert path_total g e.0 (size_at g e.0 + e.1) q) ∙ by (is_same_path q e.0) refl
-  where
-    by : (t : Bool) → is_same_path q e.0 ≡ t → sizes_together (cond t (Some (size_at g e.0 + e.1)) (get g q)) (find path_cmp q es) ≡ sizes_together (get g q) (cond t (Some e.1) (find path_cmp q es))
-    by true s =
-        let same = same_path q e.0 s in
-        ap (sizes_together (Some (size_at g e.0 + e.1))) (ap (λ p. find path_cmp p es) same ∙ find-below_all e.0 es (first (below_all path_cmp e.0 es) (is_sorted path_cmp es) h))
-        ∙ now_there (get g e.0) e.1 ∙ ap (λ p. sizes_together (get g p) (Some e.1)) (sym same)
-    by false s = refl
+get-add_list g (e ∷ es) h q =
+    get-add_list (add_at g e) es (second (below_all path_cmp e.0 es) _ h) q
+    ∙ ap (λ o. sizes_together o (find path_cmp q es)) (get-insert path_total g e.0 (size_at g e.0 + e.1) q)
+    ∙ on_test (λ t. sizes_together (cond t (Some (size_at g e.0 + e.1)) (get g q)) (find path_cmp q es) ≡ sizes_together (get g q) (cond t (Some e.1) (find path_cmp q es))) (is_same_path q e.0)
+    (λ s.
+    let same = same_path q e.0 s in
+    ap (sizes_together (Some (size_at g e.0 + e.1))) (ap (λ p. find path_cmp p es) same ∙ find-below_all e.0 es (first (below_all path_cmp e.0 es) (is_sorted path_cmp es) h))
+    ∙ now_there (get g e.0) e.1 ∙ ap (λ p. sizes_together (get g p) (Some e.1)) (sym same))
+    (λ s. refl)
 
 sum_of-list : (g h : Graph) → sum_of g h ≡ add_list g (entries h)
 sum_of-list g h = same_map path_total path_antisymmetric _ _ (λ q. get-sum_of g h q ∙ sym (get-add_list g (entries h) (entries_sorted h) q ∙ ap (sizes_together (get g q)) (sym (get-entries h q))))

@@ -5,7 +5,7 @@ use Rattle.std.specs.FinMap.{empty, contains_key-keys}
 use Rattle.std.specs.FinSet as set
 use Rattle.std.proofs.lemmas.List.Folds.{list_any-append}
 use Rattle.allocative_graph.specs.Meaning.{ReachApart}
-use Rattle.allocative_graph.proofs.Basics.{path_total, path_antisymmetric, same_path, false_from_ne_true}
+use Rattle.allocative_graph.proofs.Basics.{path_total, path_antisymmetric, same_path, on_test, false_from_ne_true}
 use Rattle.allocative_graph.proofs.Reach.{reaches_exactly, contains-insert_all}
 use Rattle.allocative_graph.proofs.Lookups.{merge, get-add_all, get-sums_of, add_all-permutation, add_all-append}
 use Rattle.allocative_graph.proofs.Below.{below-add_all, below-sums_of}
@@ -15,11 +15,9 @@ use Rattle.allocative_graph.proofs.Following.{fits-both, fits_more, added-follow
 -- ---- what a graph has at a path
 find-mapped : {X Y : Type 0} (r : Path → X → Y) (es : List (Path × X)) (q : Path) → find path_cmp q (map (λ e. (e.0, r e.0 e.1)) es) ≡ option_map (r q) (find path_cmp q es)
 find-mapped r [] q = refl
-find-mapped {X} {Y} r (e ∷ es) q = by (is_same_path q e.0) refl (find-mapped r es q)
-  where
-    by : (t : Bool) → is_same_path q e.0 ≡ t → find path_cmp q (map (λ e. (e.0, r e.0 e.1)) es) ≡ option_map (r q) (find path_cmp q es) → cond t (Some (r e.0 e.1)) (find path_cmp q (map (λ e. (e.0, r e.0 e.1)) es)) ≡ option_map (r q) (cond t (Some e.1) (find path_cmp q es))
-    by true h rest = ap (λ p. Some (r p e.1)) (sym (same_path q e.0 h))
-    by false h rest = rest
+find-mapped r (e ∷ es) q = on_test (λ t. cond t (Some (r e.0 e.1)) (find path_cmp q (map (λ e. (e.0, r e.0 e.1)) es)) ≡ option_map (r q) (cond t (Some e.1) (find path_cmp q es))) (is_same_path q e.0)
+    (λ h. ap (λ p. Some (r p e.1)) (sym (same_path q e.0 h)))
+    (λ h. find-mapped r es q)
 
 pub get-graph : (s : Sums) (k : Key) (p : Path) → get (graph s) (k ∷ p) ≡ option_map (remaining s (k ∷ p)) (get s (k ∷ p))
 get-graph s k p = get-from_entries path_total (sizes s) (k ∷ p) ∙ find-mapped (remaining s) (entries s) (k ∷ p) ∙ ap (option_map (remaining s (k ∷ p))) (sym (get-entries s (k ∷ p)))
@@ -29,11 +27,9 @@ get-graph-root s = get-from_entries path_total (sizes s) []
 
 find-keys : {Y : Type 0} (v : Path → Y) (ks : List Path) (q : Path) → find path_cmp q (map (λ p. (p, v p)) ks) ≡ cond (list_any (is_same_path q) ks) (Some (v q)) None
 find-keys v [] q = refl
-find-keys v (k ∷ ks) q = by (is_same_path q k) refl (find-keys v ks q)
-  where
-    by : (t : Bool) → is_same_path q k ≡ t → find path_cmp q (map (λ p. (p, v p)) ks) ≡ cond (list_any (is_same_path q) ks) (Some (v q)) None → cond t (Some (v k)) (find path_cmp q (map (λ p. (p, v p)) ks)) ≡ cond (t || list_any (is_same_path q) ks) (Some (v q)) None
-    by true h rest = ap (λ p. Some (v p)) (sym (same_path q k h))
-    by false h rest = rest
+find-keys v (k ∷ ks) q = on_test (λ t. cond t (Some (v k)) (find path_cmp q (map (λ p. (p, v p)) ks)) ≡ cond (t || list_any (is_same_path q) ks) (Some (v q)) None) (is_same_path q k)
+    (λ h. ap (λ p. Some (v p)) (sym (same_path q k h)))
+    (λ h. find-keys v ks q)
 
 pub get-sum_of : (g h : Graph) (q : Path) → get (sum_of g h) q ≡ cond (is_some (get g q) || is_some (get h q)) (Some (size_at g q + size_at h q)) None
 get-sum_of g h q = get-from_entries path_total _ q ∙ find-keys (λ p. size_at g p + size_at h p) (keys g ++ keys h) q

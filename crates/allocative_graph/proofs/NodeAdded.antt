@@ -2,6 +2,7 @@
 use Rattle.std.proofs.Common.{◌≡◌, ℕ, ◌+◌, ◌<◌, ◌^◌, Bool, true, false, cond, List, [], ◌∷◌, ◌++◌, length, length-append, sym, ap, subst, subst₂, ◌∙◌, arith}
 use Rattle.allocative_graph.proofs.Common.{is_some, eq_by_cmp, get, contains_key, entries, len, len-entries, Child, Key, Path, key_cmp, Graph, IsTree, size_at, total, under, node, rows_of, rows_of_child, AreChildren, IsNode, weight, size_under, Added, Merged, entries-node, len-child}
 use Rattle.allocative_graph.specs.Reads.{AllTrees}
+use Rattle.allocative_graph.proofs.Basics.{on_test}
 use Rattle.allocative_graph.proofs.ChildLookup.{get-root, get-under, node_sum, node_part, node_of_one}
 use Rattle.allocative_graph.proofs.ChildOrder.{one_child, first_tree}
 use Rattle.allocative_graph.proofs.ChildRows.{weight-one}
@@ -9,12 +10,9 @@ use Rattle.allocative_graph.proofs.NodeSizes.{total-node, size_at-root}
 
 has_parent : (cs : List Child) (l : Key) (p : Path) (k : Key) → AllTrees cs → is_some (size_under cs l (p ++ k ∷ [])) ≡ true → is_some (size_under cs l p) ≡ true
 has_parent [] l p k h e = e
-has_parent (c ∷ cs) l p k h e = go (eq_by_cmp key_cmp l c.key) (has_parent cs l p k h.1) e
-  where
-    go : (b : Bool) → (is_some (size_under cs l (p ++ k ∷ [])) ≡ true → is_some (size_under cs l p) ≡ true)
-        → is_some (cond b (get c.graph (p ++ k ∷ [])) (size_under cs l (p ++ k ∷ []))) ≡ true → is_some (cond b (get c.graph p) (size_under cs l p)) ≡ true
-    go true r e = h.0.closed p k e
-    go false r e = r e
+has_parent (c ∷ cs) l p k h e =
+    on_test (λ b. is_some (cond b (get c.graph (p ++ k ∷ [])) (size_under cs l (p ++ k ∷ []))) ≡ true → is_some (cond b (get c.graph p) (size_under cs l p)) ≡ true) (eq_by_cmp key_cmp l c.key)
+    (λ s. h.0.closed p k) (λ s. has_parent cs l p k h.1) e
 
 pub node_tree : (n : ℕ) (cs : List Child) → AreChildren cs → IsTree (node n cs)
 node_tree n cs h = record { root = ap is_some (get-root n cs h.sorted); closed = from }

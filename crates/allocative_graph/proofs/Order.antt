@@ -4,7 +4,7 @@ use Rattle.allocative_graph.proofs.Common.{⊤, AllByRecursion, Identities, Iden
 use Rattle.std.specs.FinSet.{insert, empty}
 use Rattle.std.proofs.lemmas.List.Sorted.{IsPermutation-refl, IsPermutation-sym, IsPermutation-trans, IsPermutation-append, IsPermutation-append_left, IsPermutation-append_right, IsPermutation-append_comm, list_any-IsPermutation}
 use Rattle.allocative_graph.specs.Meaning.{Agree}
-use Rattle.allocative_graph.proofs.Basics.{or_cases, or_left, or_right, false_from_ne_true, both_ways, same_identity, same_identity_itself, same_identity_turned}
+use Rattle.allocative_graph.proofs.Basics.{or_cases, on_test, or_left, or_right, false_from_ne_true, both_ways, same_identity, same_identity_itself, same_identity_turned}
 use Rattle.allocative_graph.proofs.Reach.{Fresh, apart_from, fits_fresh, own_content, flat_of_each, reaches_exactly}
 use Rattle.allocative_graph.proofs.Lookups.{add_all-permutation}
 use Rattle.std.specs.FinMap as finmap
@@ -49,46 +49,35 @@ without i (j ∷ js) = cond (is_same_identity i j) js (j ∷ without i js)
 
 among_without : (k i : Identity) (js : List Identity) → IsTrue (is_among k (without i js)) → IsTrue (is_among k js)
 among_without k i [] h = h
-among_without k i (j ∷ js) h = by (is_same_identity i j) h (among_without k i js)
-  where
-    by : (t : Bool) → IsTrue (is_among k (cond t js (j ∷ without i js))) → (IsTrue (is_among k (without i js)) → IsTrue (is_among k js)) → IsTrue (is_same_identity k j || is_among k js)
-    by true g rest = or_right (is_same_identity k j) _ g
-    by false g rest = elim (or_cases (is_same_identity k j) _ g) [ inl a ↦ or_left _ (is_among k js) a | inr a ↦ or_right (is_same_identity k j) _ (rest a) ]
+among_without k i (j ∷ js) h = on_test (λ t. IsTrue (is_among k (cond t js (j ∷ without i js))) → IsTrue (is_same_identity k j || is_among k js)) (is_same_identity i j)
+    (λ e g. or_right (is_same_identity k j) _ g)
+    (λ e g. elim (or_cases (is_same_identity k j) _ g) [ inl a ↦ or_left _ (is_among k js) a | inr a ↦ or_right (is_same_identity k j) _ (among_without k i js a) ]) h
 
 among_other : (k i : Identity) (js : List Identity) → is_same_identity k i ≡ false → is_among k (without i js) ≡ is_among k js
 among_other k i [] h = refl
-among_other k i (j ∷ js) h = by (is_same_identity i j) refl (among_other k i js h)
-  where
-    by : (t : Bool) → is_same_identity i j ≡ t → is_among k (without i js) ≡ is_among k js → is_among k (cond t js (j ∷ without i js)) ≡ (is_same_identity k j || is_among k js)
-    by true e rest = ap (λ b. b || is_among k js) (sym (ap (is_same_identity k) (sym (same_identity i j e)) ∙ h))
-    by false e rest = ap (λ b. is_same_identity k j || b) rest
+among_other k i (j ∷ js) h = on_test (λ t. is_among k (cond t js (j ∷ without i js)) ≡ (is_same_identity k j || is_among k js)) (is_same_identity i j)
+    (λ e. ap (λ b. b || is_among k js) (sym (ap (is_same_identity k) (sym (same_identity i j e)) ∙ h)))
+    (λ e. ap (λ b. is_same_identity k j || b) (among_other k i js h))
 
 no_repeat_without : (i : Identity) (js : List Identity) → NoRepeat js → NoRepeat (without i js)
 no_repeat_without i [] h = tt
-no_repeat_without i (j ∷ js) h = by (is_same_identity i j) (no_repeat_without i js h.1)
-  where
-    by : (t : Bool) → NoRepeat (without i js) → NoRepeat (cond t js (j ∷ without i js))
-    by true rest = h.1
-    by false rest = (false_from_ne_true _ (λ g. true≢false (sym (among_without j i js g) ∙ h.0)), rest)
+no_repeat_without i (j ∷ js) h = on_test (λ t. NoRepeat (cond t js (j ∷ without i js))) (is_same_identity i j) (λ e. h.1)
+    (λ e. (false_from_ne_true _ (λ g. true≢false (sym (among_without j i js g) ∙ h.0)), no_repeat_without i js h.1))
 
 gone : (i : Identity) (js : List Identity) → NoRepeat js → is_among i (without i js) ≡ false
 gone i [] h = refl
-gone i (j ∷ js) h = by (is_same_identity i j) refl (gone i js h.1)
-  where
-    by : (t : Bool) → is_same_identity i j ≡ t → is_among i (without i js) ≡ false → is_among i (cond t js (j ∷ without i js)) ≡ false
-    by true e rest = ap (λ k. is_among k js) (same_identity i j e) ∙ h.0
-    by false e rest = ap (λ b. b || is_among i (without i js)) e ∙ rest
+gone i (j ∷ js) h = on_test (λ t. is_among i (cond t js (j ∷ without i js)) ≡ false) (is_same_identity i j)
+    (λ e. ap (λ k. is_among k js) (same_identity i j e) ∙ h.0)
+    (λ e. (λ k. e k || gone i js h.1 k))
 
 turn : (a b c : Bag) → IsPermutation (a ++ (b ++ c)) (b ++ (a ++ c))
 turn a b c = subst (λ x. IsPermutation x (b ++ (a ++ c))) (append_assoc a b c) (subst (IsPermutation ((a ++ b) ++ c)) (append_assoc b a c) (IsPermutation-append_left c (a ++ b) (b ++ a) (IsPermutation-append_comm a b)))
 
 pulled : (T : Identity → Bag) (i : Identity) (js : List Identity) → IsTrue (is_among i js) → IsPermutation (flat_map T js) (T i ++ flat_map T (without i js))
 pulled T i [] h = absurd (true≢false (sym h))
-pulled T i (j ∷ js) h = by (is_same_identity i j) refl h (pulled T i js)
-  where
-    by : (t : Bool) → is_same_identity i j ≡ t → IsTrue (t || is_among i js) → (IsTrue (is_among i js) → IsPermutation (flat_map T js) (T i ++ flat_map T (without i js))) → IsPermutation (T j ++ flat_map T js) (T i ++ flat_map T (cond t js (j ∷ without i js)))
-    by true e g rest = subst (λ k. IsPermutation (T j ++ flat_map T js) (T k ++ flat_map T js)) (sym (same_identity i j e)) (IsPermutation-refl _)
-    by false e g rest = IsPermutation-trans _ (T j ++ (T i ++ flat_map T (without i js))) _ (IsPermutation-append_right (T j) _ _ (rest g)) (turn (T j) (T i) (flat_map T (without i js)))
+pulled T i (j ∷ js) h = on_test (λ t. IsTrue (t || is_among i js) → IsPermutation (T j ++ flat_map T js) (T i ++ flat_map T (cond t js (j ∷ without i js)))) (is_same_identity i j)
+    (λ e g. subst (λ k. IsPermutation (T j ++ flat_map T js) (T k ++ flat_map T js)) (sym (same_identity i j e)) (IsPermutation-refl _))
+    (λ e g. IsPermutation-trans _ (T j ++ (T i ++ flat_map T (without i js))) _ (IsPermutation-append_right (T j) _ _ (pulled T i js g)) (turn (T j) (T i) (flat_map T (without i js)))) h
 
 module _ (S T : Identity → Bag) where
   pub same_flat : (is js : List Identity) → NoRepeat is → NoRepeat js → ((k : Identity) → is_among k is ≡ is_among k js) → ((k : Identity) → IsTrue (is_among k is) → IsPermutation (S k) (T k)) → IsPermutation (flat_map S is) (flat_map T js)
@@ -102,11 +91,9 @@ module _ (S T : Identity → Bag) where
       (IsPermutation-sym _ _ (pulled T i js (sym (m i) ∙ here)))
     where
       members : (k : Identity) → is_among k is ≡ is_among k (without i js)
-      members k = by (is_same_identity k i) refl
-        where
-          by : (t : Bool) → is_same_identity k i ≡ t → is_among k is ≡ is_among k (without i js)
-          by true e = let same = same_identity k i e in ap (λ l. is_among l is) same ∙ u.0 ∙ sym (gone i js v) ∙ ap (λ l. is_among l (without i js)) (sym same)
-          by false e = ap (λ b. b || is_among k is) (sym e) ∙ m k ∙ sym (among_other k i js e)
+      members k = on_test (λ t. is_same_identity k i ≡ t → is_among k is ≡ is_among k (without i js)) (is_same_identity k i)
+          (λ e s. let same = same_identity k i e in ap (λ l. is_among l is) same ∙ u.0 ∙ sym (gone i js v) ∙ ap (λ l. is_among l (without i js)) (sym same))
+          (λ e s. ap (λ b. b || is_among k is) (sym e) ∙ m k ∙ sym (among_other k i js e)) refl
 
 as_flat : (f : Forest) → IsWhole f → flat_map (content_of f) (shown f) ≡ content_entries f
 as_flat f w = flat_of_each (content_of f) (contents f) (own_content empty (contents f) (fits_fresh empty f w))

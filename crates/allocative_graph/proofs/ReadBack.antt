@@ -13,7 +13,7 @@ use Rattle.std.proofs.lemmas.List.Folds.{fold-map}
 use Rattle.std.proofs.lemmas.List.Splits.{slice_split_none, slice_split_at, length-slice_split}
 use Rattle.std.proofs.lemmas.List.Sums.{sum_by-cons}
 use Rattle.allocative_graph.specs.Read.{Exceeds, CanBeRead, keys_of}
-use Rattle.allocative_graph.proofs.Basics.{each-implies, or_parts}
+use Rattle.allocative_graph.proofs.Basics.{each-implies, false_from_ne_true, on_test, or_parts}
 use Rattle.allocative_graph.proofs.Text.{Plain, Sized, Good, is_shown, full, body, shown, shown_good, size_shown, shown_lines, full_body, body_lacks, decimal_lacks}
 use Rattle.allocative_graph.proofs.ReadLines.{stacks-cons, stacks-first}
 use Rattle.allocative_graph.proofs.Stacks.{cut_once}
@@ -97,20 +97,15 @@ stacks_of_text g plain fits ss h = entries_read (shown g) (shown_good g plain fi
 bytes-absent : (ss : List Stack) (q : Path) → list_any (λ s. begins q s.path) ss ≡ false → bytes_at ss q ≡ 0
 bytes-absent [] q h = refl
 bytes-absent (s ∷ ss) q h =
-    let here : cond (is_same_path q s.path) s.size 0 ≡ 0 = apart (is_same_path q s.path) (begins q s.path) (same_begins q s.path) (or_parts (begins q s.path) _ h).0 in
-    omega (arith, here, sum_by-cons (λ (t : Stack). cond (is_same_path q t.path) t.size 0) s ss, bytes-absent ss q (or_parts (begins q s.path) _ h).1)
-  where
-    apart : (t b : Bool) → (t ≡ true → b ≡ true) → b ≡ false → cond t s.size 0 ≡ 0
-    apart true b f e = absurd (true≢false (sym (f refl) ∙ e))
-    apart false b f e = refl
+    let no = or_parts (begins q s.path) _ h in
+    let apart = false_from_ne_true (is_same_path q s.path) (λ t. true≢false (sym (same_begins q s.path t) ∙ no.0)) in
+    sum_by-cons (λ (t : Stack). cond (is_same_path q t.path) t.size 0) s ss ∙ (λ i. cond (apart i) s.size 0 + bytes-absent ss q no.1 i)
 
 -- ---- what is read
 size_at-read : (ss : List Stack) (h : Graph) (k : Key) (p : Path) → get h (k ∷ p) ≡ cond (is_path_of ss (k ∷ p)) (Some (bytes_at ss (k ∷ p))) None → size_at h (k ∷ p) ≡ bytes_at ss (k ∷ p)
-size_at-read ss h k p e = ap (λ o. unwrap_or o 0) e ∙ by (is_path_of ss (k ∷ p)) (bytes-absent ss (k ∷ p))
-  where
-    by : (t : Bool) → (t ≡ false → bytes_at ss (k ∷ p) ≡ 0) → unwrap_or (cond t (Some (bytes_at ss (k ∷ p))) None) 0 ≡ bytes_at ss (k ∷ p)
-    by true f = refl
-    by false f = sym (f refl)
+size_at-read ss h k p e =
+    ap (λ o. unwrap_or o 0) e
+    ∙ on_test (λ t. is_path_of ss (k ∷ p) ≡ t → unwrap_or (cond t (Some (bytes_at ss (k ∷ p))) None) 0 ≡ bytes_at ss (k ∷ p)) (is_path_of ss (k ∷ p)) (λ t s. refl) (λ t s. sym (bytes-absent ss (k ∷ p) t)) refl
 
 -- What is read of the text of a graph has its sizes, but for the root.
 pub reads_back : (g h : Graph) → HasPlainKeys g → HasWords g → IsRead (text g) h → (k : Key) (p : Path) → size_at h (k ∷ p) ≡ size_at g (k ∷ p)

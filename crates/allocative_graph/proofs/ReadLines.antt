@@ -5,16 +5,13 @@ use Rattle.std.proofs.lemmas.List.{map-append, length-map}
 use Rattle.std.proofs.lemmas.List.Splits.{length-slice_split}
 use Rattle.std.proofs.lemmas.List.Sums.{count_by-le-length}
 use Rattle.allocative_graph.specs.Read.{seen}
+use Rattle.allocative_graph.proofs.Basics.{on_test}
 use Rattle.allocative_graph.proofs.NodeText.{texts}
 use Rattle.allocative_graph.proofs.Stacks.{wrong_is_none, not_zero}
 
 parts_fit : (ps : List (List ℕ)) → length (lines_of_parts ps) ≤ length ps
 parts_fit [] = omega arith
-parts_fit (x ∷ []) = by (length x == 0)
-  where
-    by : (t : Bool) → length (cond t [] (x ∷ [])) ≤ 1
-    by true = omega arith
-    by false = omega arith
+parts_fit (x ∷ []) = on_test (λ t. length (cond t [] (x ∷ [])) ≤ 1) (length x == 0) (λ e. omega arith) (λ e. omega arith)
 parts_fit (x ∷ y ∷ ps) = omega (arith, parts_fit (y ∷ ps))
 
 -- A text has at most one line more than bytes.

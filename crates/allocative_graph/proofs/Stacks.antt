@@ -8,6 +8,7 @@ use Rattle.std.proofs.lemmas.Str.Pattern.{NoCharPasses-char, drop_at_char}
 use Rattle.std.proofs.lemmas.List.{nil_from_length}
 use Rattle.allocative_graph.specs.declared.read.LineFault.TheVariants.{NoPath, NoNumber, TooDeep}
 use Rattle.allocative_graph.specs.Read.{keys_of}
+use Rattle.allocative_graph.proofs.Basics.{on_test}
 use Rattle.allocative_graph.proofs.Text.{lacks_not, last_split}
 
 lacks_from : (c : ℕ) (bs : List ℕ) → ((i : ℕ) → i < length bs → get_or bs i 0 ≢ c) → Lacks c bs
@@ -35,13 +36,9 @@ digits_lack (d ∷ ds) h = ((λ e. no_digit (subst (λ (c : ℕ). digit_value c 
 -- No space stands in a number.
 number_lacks : (bs : List ℕ) → IsNumber bs → Lacks 32 bs
 number_lacks [] h = tt
-number_lacks (b ∷ bs) h = by (b == 43) refl
-  where
-    by : (t : Bool) → (b == 43) ≡ t → Lacks 32 (b ∷ bs)
-    by true e =
-        let digits : AllDigits 10 bs = subst (λ (t : Bool). AllDigits 10 (drop (cond t 1 0) (b ∷ bs))) e h.0.1 in
-        ((λ s. omega (arith, s, eqb-true b 43 e)), digits_lack bs digits)
-    by false e = digits_lack (b ∷ bs) (subst (λ (t : Bool). AllDigits 10 (drop (cond t 1 0) (b ∷ bs))) e h.0.1)
+number_lacks (b ∷ bs) h = on_test (λ t. AllDigits 10 (drop (cond t 1 0) (b ∷ bs)) → (b == 43) ≡ t → Lacks 32 (b ∷ bs)) (b == 43)
+    (λ e digits t. ((λ s. omega (arith, s, eqb-true b 43 e)), digits_lack bs digits))
+    (λ e digits t. digits_lack (b ∷ bs) digits) h.0.1 refl
 
 -- What stands before the last space of a stack is its path, and what stands behind it its number.
 pub cut_once : (line front back : List ℕ) (s : Stack) → IsCut line front back → (is : IsStack line s) → (front ≡ is.path) × (back ≡ is.number)

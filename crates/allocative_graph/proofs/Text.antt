@@ -1,12 +1,12 @@
 -- A text determines the sizes: it splits into lines at the line feeds, a line at its last space, and a path at each
 -- `;`.
-use Rattle.std.proofs.Common.{◌≡◌, ◌≢◌, ℕ, zero, suc, ◌+◌, ◌^◌, ◌<◌, ◌≤◌, ◌/◌, ◌%◌, ◌==◌, Bool, true, false, cond, not, ◌||◌, T, IsTrue, List, [], ◌∷◌, ◌++◌, map, flat_map, filter, Some, refl, ap, sym, ◌∙◌, subst, true≢false, arith, unwrap_or, append_assoc, decimal, sum_by, nat_lt, eqb-true, if◌then◌else◌, Less}
+use Rattle.std.proofs.Common.{◌≡◌, ◌≢◌, ℕ, zero, suc, ◌+◌, ◌^◌, ◌<◌, ◌≤◌, ◌/◌, ◌%◌, ◌==◌, Bool, true, false, cond, not, ◌||◌, T, IsTrue, List, [], ◌∷◌, ◌++◌, map, flat_map, filter, Some, refl, ap, sym, ◌∙◌, subst, true≢false, arith, add-zero, zero-add, unwrap_or, append_assoc, decimal, sum_by, nat_lt, eqb-true, if◌then◌else◌, Less}
 use Rattle.allocative_graph.proofs.Common.{AllByRecursion, is_eq, is_lt, entries, get-entries, entries_sorted, find, is_sorted, below_all, first, second, Key, Path, path_cmp, is_same_path, Graph, text, text_of_entries, joined, is_root, size_at, Lacks, HasPlainKeys, HasWords}
 use Rattle.std.specs.Fmt.{digits, digits_onto, digit_glyph}
 use Rattle.std.proofs.lemmas.Bool.{not-false}
 use Rattle.std.proofs.lemmas.Fmt.{decimal_injective}
 use Rattle.std.proofs.lemmas.List.Sums.{sum_by-cons}
-use Rattle.allocative_graph.proofs.Basics.{each-append, each-implies, same_path}
+use Rattle.allocative_graph.proofs.Basics.{each-append, each-implies, on_test, same_path}
 use Rattle.allocative_graph.proofs.Below.{is_lt-Less}
 
 -- ---- lists parted at a byte
@@ -28,19 +28,13 @@ last_split c (d ∷ a) (e ∷ b) x y f g h = let rest = last_split c a b x y f g
 
 -- ---- decimals
 high : (d : ℕ) → 48 ≤ digit_glyph false d
-high d = by (nat_lt d 10)
-  where
-    by : (t : Bool) → 48 ≤ (if t then 48 + d else 87 + d)
-    by true = omega arith
-    by false = omega arith
+high d = on_test (λ t. 48 ≤ (if t then 48 + d else 87 + d)) (nat_lt d 10) (λ e. omega arith) (λ e. omega arith)
 
 high_digits : (k n : ℕ) (acc : List ℕ) → AllByRecursion (λ b. 48 ≤ b) acc → AllByRecursion (λ b. 48 ≤ b) (digits_onto k 10 false n acc)
 high_digits zero n acc h = h
-high_digits (suc k) n acc h = by (n / 10 == 0) (high_digits k (n / 10) (digit_glyph false (n % 10) ∷ acc) (high (n % 10), h))
-  where
-    by : (t : Bool) → AllByRecursion (λ b. 48 ≤ b) (digits_onto k 10 false (n / 10) (digit_glyph false (n % 10) ∷ acc)) → AllByRecursion (λ b. 48 ≤ b) (if t then digit_glyph false (n % 10) ∷ acc else digits_onto k 10 false (n / 10) (digit_glyph false (n % 10) ∷ acc))
-    by true rest = (high (n % 10), h)
-    by false rest = rest
+high_digits (suc k) n acc h =
+    on_test (λ t. AllByRecursion (λ b. 48 ≤ b) (if t then digit_glyph false (n % 10) ∷ acc else digits_onto k 10 false (n / 10) (digit_glyph false (n % 10) ∷ acc))) (n / 10 == 0)
+    (λ e. (high (n % 10), h)) (λ e. high_digits k (n / 10) (digit_glyph false (n % 10) ∷ acc) (high (n % 10), h))
 
 high_decimal : (n : ℕ) → AllByRecursion (λ b. 48 ≤ b) (decimal n)
 unfolding digits
@@ -81,11 +75,8 @@ body e = joined e.0 ++ 32 ∷ decimal e.1
 
 pub shown_lines : (es : List Sized) → text_of_entries es ≡ flat_map full (filter is_shown es)
 shown_lines [] = refl
-shown_lines (e ∷ es) = by (is_root e.0 || (e.1 == 0)) (shown_lines es)
-  where
-    by : (t : Bool) → text_of_entries es ≡ flat_map full (filter is_shown es) → cond t [] (full e) ++ text_of_entries es ≡ flat_map full (cond (not t) (e ∷ filter is_shown es) (filter is_shown es))
-    by true rest = rest
-    by false rest = ap (λ x. full e ++ x) rest
+shown_lines (e ∷ es) = on_test (λ t. cond t [] (full e) ++ text_of_entries es ≡ flat_map full (cond (not t) (e ∷ filter is_shown es) (filter is_shown es))) (is_root e.0 || (e.1 == 0))
+    (λ h. shown_lines es) (λ h. ap (λ x. full e ++ x) (shown_lines es))
 
 pub full_body : (e : Sized) (rest : List ℕ) → full e ++ rest ≡ body e ++ 10 ∷ rest
 full_body e rest = append_assoc (body e) (10 ∷ []) rest
@@ -123,11 +114,10 @@ shown g = filter is_shown (entries g)
 
 good_entries : (es : List Sized) → AllByRecursion (λ p. AllByRecursion Plain p) (map (λ e. e.0) es) → sum_by (λ e. e.1) es < 2 ^ 64 → AllByRecursion Good (filter is_shown es)
 good_entries [] a b = tt
-good_entries (e ∷ es) a b = by (is_shown e) refl (good_entries es a.1 (omega (arith, sum_by-cons (λ e. e.1) e es)))
-  where
-    by : (t : Bool) → is_shown e ≡ t → AllByRecursion Good (filter is_shown es) → AllByRecursion Good (cond t (e ∷ filter is_shown es) (filter is_shown es))
-    by true h rest = (record { seen = h; plain = a.0; word = omega (arith, sum_by-cons (λ e. e.1) e es) }, rest)
-    by false h rest = rest
+good_entries (e ∷ es) a b =
+    let parts = sum_by-cons (λ e. e.1) e es in
+    let rest = good_entries es a.1 (omega (arith, parts)) in
+    on_test (λ t. AllByRecursion Good (cond t (e ∷ filter is_shown es) (filter is_shown es))) (is_shown e) (λ h. (record { seen = h; plain = a.0; word = omega (arith, parts) }, rest)) (λ h. rest)
 
 pub shown_good : (g : Graph) → HasPlainKeys g → HasWords g → AllByRecursion Good (shown g)
 shown_good g plain fits = good_entries (entries g) plain fits
@@ -149,11 +139,9 @@ unseen (l ∷ q, n) k p h = zero_at (is_same_path (k ∷ p) (l ∷ q)) (eqb-true
 -- The sum over the items that pass a test is that over all, where the others have none.
 sum-filter : {X : Type 0} (t : X → Bool) (f : X → ℕ) → ((x : X) → t x ≡ false → f x ≡ 0) → (xs : List X) → sum_by f (filter t xs) ≡ sum_by f xs
 sum-filter t f none [] = refl
-sum-filter t f none (x ∷ xs) = by (t x) refl (sum-filter t f none xs)
-  where
-    by : (b : Bool) → t x ≡ b → sum_by f (filter t xs) ≡ sum_by f xs → sum_by f (cond b (x ∷ filter t xs) (filter t xs)) ≡ sum_by f (x ∷ xs)
-    by true e rest = omega (arith, rest, sum_by-cons f x (filter t xs), sum_by-cons f x xs)
-    by false e rest = omega (arith, rest, sum_by-cons f x xs, none x e)
+sum-filter t f none (x ∷ xs) = on_test (λ b. sum_by f (cond b (x ∷ filter t xs) (filter t xs)) ≡ sum_by f (x ∷ xs)) (t x)
+    (λ e. omega (arith, sum-filter t f none xs, sum_by-cons f x (filter t xs), sum_by-cons f x xs))
+    (λ e. omega (arith, sum-filter t f none xs, sum_by-cons f x xs, none x e))
 
 bytes-below : (q : Path) (es : List Sized) → T (below_all path_cmp q es) → bytes_in es q ≡ 0
 bytes-below q [] h = refl
@@ -165,16 +153,13 @@ bytes-below q (e ∷ es) h =
 -- The bytes of entries in order at a path are the size that is found there.
 bytes-find : (q : Path) (es : List Sized) → T (is_sorted path_cmp es) → bytes_in es q ≡ unwrap_or (find path_cmp q es) 0
 bytes-find q [] h = refl
-bytes-find q (e ∷ es) h = by (is_same_path q e.0) refl (bytes-find q es (second (below_all path_cmp e.0 es) (is_sorted path_cmp es) h))
-  where
-    sum : bytes_in (e ∷ es) q ≡ cond (is_same_path q e.0) e.1 0 + bytes_in es q
-    sum = sum_by-cons (λ (x : Sized). cond (is_same_path q x.0) x.1 0) e es
-
-    by : (t : Bool) → is_same_path q e.0 ≡ t → bytes_in es q ≡ unwrap_or (find path_cmp q es) 0 → bytes_in (e ∷ es) q ≡ unwrap_or (cond t (Some e.1) (find path_cmp q es)) 0
-    by true same rest =
-        let above : T (below_all path_cmp q es) = subst (λ (p : Path). T (below_all path_cmp p es)) (sym (same_path q e.0 same)) (first (below_all path_cmp e.0 es) (is_sorted path_cmp es) h) in
-        omega (arith, sum, ap (λ b. cond b e.1 0) same, bytes-below q es above)
-    by false apart rest = omega (arith, sum, ap (λ b. cond b e.1 0) apart, rest)
+bytes-find q (e ∷ es) h =
+    let rest = bytes-find q es (second (below_all path_cmp e.0 es) (is_sorted path_cmp es) h) in
+    let above = first (below_all path_cmp e.0 es) (is_sorted path_cmp es) h in
+    sum_by-cons (λ (x : Sized). cond (is_same_path q x.0) x.1 0) e es
+    ∙ on_test (λ t. cond t e.1 0 + bytes_in es q ≡ unwrap_or (cond t (Some e.1) (find path_cmp q es)) 0) (is_same_path q e.0)
+    (λ same. ap (λ n. e.1 + n) (bytes-below q es (subst (λ (p : Path). T (below_all path_cmp p es)) (sym (same_path q e.0 same)) above)) ∙ add-zero e.1)
+    (λ apart. zero-add (bytes_in es q) ∙ rest)
 
 -- A size of a graph, but for the root's, is that of the lines.
 pub size_shown : (g : Graph) (k : Key) (p : Path) → size_at g (k ∷ p) ≡ bytes_in (shown g) (k ∷ p)
