@@ -1,30 +1,21 @@
 -- A path with an entry one key below it has an entry itself, or is the root.
-use Rattle.std.proofs.Common.{◌≡◌, ◌+◌, Bool, true, false, cond, ◌&&◌, ◌||◌, IsTrue, ◌⊎◌, inl, inr, List, [], ◌∷◌, ◌++◌, flat_map, refl, ap, sym, ◌∙◌, subst, true≢false}
-use Rattle.allocative_graph.proofs.Common.{AllByRecursion, eq_by_cmp, nat_cmp-IsAntisymmetric, slice_cmp-IsAntisymmetric, Key, Path, key_cmp, is_same_path, is_one_below, Identity, Forest, Empty, Inline, Unique, First, Again, Entry, Bag, own, own_behind, contents, content_entries, all, is_entered_in}
+use Rattle.std.proofs.Common.{◌≡◌, ℕ, ◌+◌, Bool, true, false, cond, ◌&&◌, ◌||◌, IsTrue, ◌⊎◌, inl, inr, List, [], ◌∷◌, ◌++◌, flat_map, refl, ap, sym, ◌∙◌, subst, true≢false}
+use Rattle.allocative_graph.proofs.Common.{AllByRecursion, eq_by_cmp, nat_cmp-IsAntisymmetric, slice_cmp-IsAntisymmetric, Key, Path, key_cmp, is_same_path, is_one_below, Identity, Forest, Empty, Inline, Unique, First, Again, AsInline, AsUnique, Entry, Bag, own, own_behind, contents, content_entries, all, is_entered_in}
+use Rattle.allocative_graph.specs.Forest.{Mark}
 use Rattle.std.proofs.lemmas.List.Folds.{list_any-append}
 use Rattle.std.proofs.lemmas.List.Sums.{sum_by-cons}
-use Rattle.allocative_graph.proofs.Basics.{each-append, each-implies, or_left, or_right, false_from_ne_true, is_eq-Equal, same_path_itself}
+use Rattle.allocative_graph.proofs.Basics.{each-append, each-implies, and_parts, or_left, or_right, false_from_ne_true, is_eq-Equal, same_path_itself}
 use Rattle.allocative_graph.proofs.Below.{below_in}
-
-and_first : (a b : Bool) → IsTrue (a && b) → IsTrue a
-and_first true b h = refl
-and_first false b h = h
-
-and_second : (a b : Bool) → IsTrue (a && b) → IsTrue b
-and_second true b h = h
-and_second false b h = absurd (true≢false (sym h))
-
-not_both : (a : Bool) → IsTrue (a && false) → ⊥
-not_both true h = true≢false (sym h)
-not_both false h = true≢false (sym h)
 
 pub one_below_child : (p r : Path) (k : Key) → IsTrue (is_one_below p (r ++ k ∷ [])) → p ≡ r
 one_below_child [] [] k h = refl
 one_below_child [] (l ∷ []) k h = absurd (true≢false (sym h))
 one_below_child [] (l ∷ m ∷ r) k h = absurd (true≢false (sym h))
-one_below_child (a ∷ []) [] k h = absurd (not_both _ h)
-one_below_child (a ∷ b ∷ p) [] k h = absurd (not_both _ h)
-one_below_child (a ∷ p) (l ∷ r) k h = λ i. slice_cmp-IsAntisymmetric nat_cmp-IsAntisymmetric a l (is_eq-Equal _ (and_first (eq_by_cmp key_cmp a l) _ h)) i ∷ one_below_child p r k (and_second (eq_by_cmp key_cmp a l) _ h) i
+one_below_child (a ∷ []) [] k h = absurd (true≢false (sym (and_parts (eq_by_cmp key_cmp a k) false h).1))
+one_below_child (a ∷ b ∷ p) [] k h = absurd (true≢false (sym (and_parts (eq_by_cmp key_cmp a k) false h).1))
+one_below_child (a ∷ p) (l ∷ r) k h =
+    let parts = and_parts (eq_by_cmp key_cmp a l) _ h in
+    λ i. slice_cmp-IsAntisymmetric nat_cmp-IsAntisymmetric a l (is_eq-Equal _ parts.0) i ∷ one_below_child p r k parts.1 i
 
 entered-append : (p : Path) (b c : Bag) → is_entered_in (b ++ c) p ≡ (is_entered_in b p || is_entered_in c p)
 entered-append p b c = list_any-append (λ e. is_same_path p e.path) b c
@@ -45,22 +36,21 @@ module _ (has : Path → Type 0) where
   deeper : (r s : Path) → has s → (e : Entry) → ParentIn s e → ParentIn r e
   deeper r s here e h p w = inr (elim (h p w) [ inl q ↦ subst has (sym q) here | inr q ↦ q ])
 
+  -- An entry at r ++ k ∷ [], with others inside it and after it.
+  closed_entry : (r : Path) (k : Key) (n : ℕ) (m : Mark) (b c : Bag) → Holds (record { path = r ++ k ∷ []; size = n; mark = m } ∷ (b ++ c))
+      → (Holds b → AllByRecursion (ParentIn (r ++ k ∷ [])) b) → (Holds c → AllByRecursion (ParentIn r) c) → AllByRecursion (ParentIn r) (record { path = r ++ k ∷ []; size = n; mark = m } ∷ (b ++ c))
+  closed_entry r k n m b c h inner outer =
+      let others : Holds (b ++ c) = λ p w. h p (or_right (is_same_path p (r ++ k ∷ [])) _ w) in (
+        λ p w. inl (one_below_child p r k w),
+        each-append (ParentIn r) b c
+            (each-implies (ParentIn (r ++ k ∷ [])) (ParentIn r) (deeper r (r ++ k ∷ []) (h (r ++ k ∷ []) (or_left _ _ (same_path_itself (r ++ k ∷ []))))) b (inner (λ p w. others p (entered_left p b c w))))
+            (outer (λ p w. others p (entered_right p b c w))),
+      )
+
   pub closed_behind : (r : Path) (f : Forest) → Holds (own_behind r f) → AllByRecursion (ParentIn r) (own_behind r f)
   closed_behind r Empty h = tt
-  closed_behind r (Inline k n f after) h = (
-    λ p w. inl (one_below_child p r k w),
-    each-append (ParentIn r) (own_behind (r ++ k ∷ []) f) (own_behind r after)
-        (each-implies (ParentIn (r ++ k ∷ [])) (ParentIn r) (deeper r (r ++ k ∷ []) (h (r ++ k ∷ []) (or_left _ _ (same_path_itself (r ++ k ∷ []))))) (own_behind (r ++ k ∷ []) f)
-        (closed_behind (r ++ k ∷ []) f (λ p w. h p (or_right (is_same_path p (r ++ k ∷ [])) _ (entered_left p (own_behind (r ++ k ∷ []) f) (own_behind r after) w)))))
-        (closed_behind r after (λ p w. h p (or_right (is_same_path p (r ++ k ∷ [])) _ (entered_right p (own_behind (r ++ k ∷ []) f) (own_behind r after) w)))),
-  )
-  closed_behind r (Unique k n f after) h = (
-    λ p w. inl (one_below_child p r k w),
-    each-append (ParentIn r) (own_behind (r ++ k ∷ []) f) (own_behind r after)
-        (each-implies (ParentIn (r ++ k ∷ [])) (ParentIn r) (deeper r (r ++ k ∷ []) (h (r ++ k ∷ []) (or_left _ _ (same_path_itself (r ++ k ∷ []))))) (own_behind (r ++ k ∷ []) f)
-        (closed_behind (r ++ k ∷ []) f (λ p w. h p (or_right (is_same_path p (r ++ k ∷ [])) _ (entered_left p (own_behind (r ++ k ∷ []) f) (own_behind r after) w)))))
-        (closed_behind r after (λ p w. h p (or_right (is_same_path p (r ++ k ∷ [])) _ (entered_right p (own_behind (r ++ k ∷ []) f) (own_behind r after) w)))),
-  )
+  closed_behind r (Inline k n f after) h = closed_entry r k n AsInline (own_behind (r ++ k ∷ []) f) (own_behind r after) h (closed_behind (r ++ k ∷ []) f) (closed_behind r after)
+  closed_behind r (Unique k n f after) h = closed_entry r k n AsUnique (own_behind (r ++ k ∷ []) f) (own_behind r after) h (closed_behind (r ++ k ∷ []) f) (closed_behind r after)
   closed_behind r (First k n j f after) h = (λ p w. inl (one_below_child p r k w), closed_behind r after (λ p w. h p (or_right (is_same_path p (r ++ k ∷ [])) _ w)))
   closed_behind r (Again k n j after) h = (λ p w. inl (one_below_child p r k w), closed_behind r after (λ p w. h p (or_right (is_same_path p (r ++ k ∷ [])) _ w)))
 

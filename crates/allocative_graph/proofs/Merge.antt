@@ -10,7 +10,7 @@ use Rattle.allocative_graph.proofs.Reach.{reaches_exactly, contains-insert_all}
 use Rattle.allocative_graph.proofs.Lookups.{merge, get-add_all, get-sums_of, add_all-permutation, add_all-append}
 use Rattle.allocative_graph.proofs.Below.{below-add_all, below-sums_of}
 use Rattle.allocative_graph.proofs.Closed.{absent_below}
-use Rattle.allocative_graph.proofs.Following.{fits-both, fits_more, added-following}
+use Rattle.allocative_graph.proofs.Following.{fits-following, fits_more, added-following}
 
 -- ---- what a graph has at a path
 find-mapped : {X Y : Type 0} (r : Path → X → Y) (es : List (Path × X)) (q : Path) → find path_cmp q (map (λ e. (e.0, r e.0 e.1)) es) ≡ option_map (r q) (find path_cmp q es)
@@ -107,7 +107,7 @@ graphs_add f g can = same_map path_total path_antisymmetric _ _ each
         ∙ sym (get-graph u k p) ∙ ap (λ x. get (graph x) (k ∷ p)) (sym (sums_following f g))
 
 pub whole_following : (f g : Forest) → IsWhole f → IsWhole g → ReachApart f g → IsWhole (followed_by f g)
-whole_following f g v w apart = fits-both set.empty f g v (fits_more (λ i. is_among i (shown f)) set.empty (met_after set.empty f) g (contains-insert_all set.empty (shown f)) away w)
+whole_following f g v w apart = (fits-following set.empty f g).1 (v, fits_more (λ i. is_among i (shown f)) set.empty (met_after set.empty f) g (contains-insert_all set.empty (shown f)) away w)
   where
     away : (i : Identity) → IsTrue (is_among i (shown g)) → is_among i (shown f) ≡ false
     away i h = false_from_ne_true _ (λ there. apart i ((reaches_exactly f v i).0 there) ((reaches_exactly g w i).0 h))

@@ -1,12 +1,12 @@
 -- What a collector has after forests, entries and leaving.
-use Rattle.std.proofs.Common.{◌≡◌, ◌≤◌, zero, suc, pred, ℕ, ◌+◌, Bool, true, false, cond, [], ◌∷◌, ◌++◌, map, flat_map, refl, ap, sym, ◌∙◌, arith, append-nil}
+use Rattle.std.proofs.Common.{◌≡◌, ◌↔◌, ◌≤◌, zero, suc, pred, ℕ, ◌+◌, Bool, true, false, cond, [], ◌∷◌, ◌++◌, map, flat_map, refl, ap, sym, ◌∙◌, arith, add_assoc, append-nil}
 use Rattle.allocative_graph.proofs.Common.{contains, Key, Identity, Forest, Empty, Inline, Unique, First, Again, AsInline, AsUnique, AsShared, own_behind, contents, followed_by, insert_all, add, add_all, added}
 use Rattle.std.specs.FinSet.{insert}
 use Rattle.allocative_graph.specs.Forest.{entry_of}
 use Rattle.allocative_graph.specs.Collector.{Live, Holding, Kind, OfGraph, OfHeld, plus_live, plus_holding, go, leave_live, leave_holding, enter_first, enter_holding, plus, Takes, enter, leave, begin, is_graph, visitors, is_in_unique}
 use Rattle.allocative_graph.specs.Held.{held, inline_bytes, ShowsNoContent}
 use Rattle.allocative_graph.proofs.Lookups.{add_all-permutation, add_all-append}
-use Rattle.allocative_graph.proofs.Following.{added-following, met-following, fits-both, fits-first, fits-second}
+use Rattle.allocative_graph.proofs.Following.{added-following, met-following, fits-following}
 
 live-following : (c : Live) (f g : Forest) → plus_live c (followed_by f g) ≡ plus_live (plus_live c f) g
 live-following c f g = λ i. record c {
@@ -38,23 +38,17 @@ module _ (f : Forest) where
   }
 
 -- ---- the collector of held bytes
-same_sum : (a b c d : ℕ) → (a + c) + (b + d) ≡ (a + b) + (c + d)
-same_sum a b c d = omega arith
-
-assoc : (a b c : ℕ) → a + (b + c) ≡ (a + b) + c
-assoc a b c = omega arith
-
 inline_bytes-following : (f g : Forest) → inline_bytes (followed_by f g) ≡ inline_bytes f + inline_bytes g
-inline_bytes-following Empty g = let r : (n : ℕ) → n ≡ 0 + n = λ n. omega arith in r _
-inline_bytes-following (Inline k n f after) g = ap (λ m. n + m) (inline_bytes-following after g) ∙ assoc n _ _
+inline_bytes-following Empty g = omega arith
+inline_bytes-following (Inline k n f after) g = omega (arith, inline_bytes-following after g)
 inline_bytes-following (Unique k n f after) g = inline_bytes-following after g
 inline_bytes-following (First k n j f after) g = inline_bytes-following after g
 inline_bytes-following (Again k n j after) g = inline_bytes-following after g
 
 held-following : (f g : Forest) → held (followed_by f g) ≡ held f + held g
-held-following Empty g = let r : (n : ℕ) → n ≡ 0 + n = λ n. omega arith in r _
-held-following (Inline k n f after) g = ap (λ m. held f + m) (held-following after g) ∙ assoc (held f) _ _
-held-following (Unique k n f after) g = ap (λ m. inline_bytes f + held f + m) (held-following after g) ∙ assoc (inline_bytes f + held f) _ _
+held-following Empty g = omega arith
+held-following (Inline k n f after) g = omega (arith, held-following after g)
+held-following (Unique k n f after) g = omega (arith, held-following after g)
 held-following (First k n j f after) g = held-following after g
 held-following (Again k n j after) g = held-following after g
 
@@ -62,11 +56,11 @@ abbrev held_in : Bool → Forest → ℕ
 held_in u f = held f + cond u (inline_bytes f) 0
 
 held_in-following : (u : Bool) (f g : Forest) → held_in u (followed_by f g) ≡ held_in u f + held_in u g
-held_in-following true f g = (λ i. held-following f g i + inline_bytes-following f g i) ∙ same_sum (held f) (inline_bytes f) (held g) (inline_bytes g)
-held_in-following false f g = (λ i. held-following f g i + 0) ∙ same_sum (held f) 0 (held g) 0
+held_in-following true f g = omega (arith, held-following f g, inline_bytes-following f g)
+held_in-following false f g = omega (arith, held-following f g)
 
 holding-following : (h : Holding) (f g : Forest) → plus_holding h (followed_by f g) ≡ plus_holding (plus_holding h f) g
-holding-following h f g = λ i. record h { sum = (ap (λ n. h.sum + n) (held_in-following h.is_in_unique f g) ∙ assoc h.sum (held_in h.is_in_unique f) (held_in h.is_in_unique g)) i }
+holding-following h f g = λ i. record h { sum = (ap (λ n. h.sum + n) (held_in-following h.is_in_unique f g) ∙ sym (add_assoc h.sum (held_in h.is_in_unique f) (held_in h.is_in_unique g))) i }
 
 holding-nothing : (h : Holding) → plus_holding h Empty ≡ h
 holding-nothing h = λ i. record h { sum = none h.is_in_unique h.sum i }
@@ -75,26 +69,12 @@ holding-nothing h = λ i. record h { sum = none h.is_in_unique h.sum i }
     none true n = omega arith
     none false n = omega arith
 
-no_content-both : (f g : Forest) → ShowsNoContent f → ShowsNoContent g → ShowsNoContent (followed_by f g)
-no_content-both Empty g v w = w
-no_content-both (Inline k n f after) g v w = (v.0, no_content-both after g v.1 w)
-no_content-both (Unique k n f after) g v w = (v.0, no_content-both after g v.1 w)
-no_content-both (First k n j f after) g v w = absurd v
-no_content-both (Again k n j after) g v w = no_content-both after g v w
-
-no_content-first : (f g : Forest) → ShowsNoContent (followed_by f g) → ShowsNoContent f
-no_content-first Empty g w = tt
-no_content-first (Inline k n f after) g w = (w.0, no_content-first after g w.1)
-no_content-first (Unique k n f after) g w = (w.0, no_content-first after g w.1)
-no_content-first (First k n j f after) g w = absurd w
-no_content-first (Again k n j after) g w = no_content-first after g w
-
-no_content-second : (f g : Forest) → ShowsNoContent (followed_by f g) → ShowsNoContent g
-no_content-second Empty g w = w
-no_content-second (Inline k n f after) g w = no_content-second after g w.1
-no_content-second (Unique k n f after) g w = no_content-second after g w.1
-no_content-second (First k n j f after) g w = absurd w
-no_content-second (Again k n j after) g w = no_content-second after g w
+no_content-following : (f g : Forest) → ShowsNoContent (followed_by f g) ↔ (ShowsNoContent f × ShowsNoContent g)
+no_content-following Empty g = (λ w. (tt, w), λ w. w.1)
+no_content-following (Inline k n f after) g = let rest = no_content-following after g in (λ w. let x = rest.0 w.1 in ((w.0, x.0), x.1), λ w. (w.0.0, rest.1 (w.0.1, w.1)))
+no_content-following (Unique k n f after) g = let rest = no_content-following after g in (λ w. let x = rest.0 w.1 in ((w.0, x.0), x.1), λ w. (w.0.0, rest.1 (w.0.1, w.1)))
+no_content-following (First k n j f after) g = (λ w. absurd w, λ w. absurd w.0)
+no_content-following (Again k n j after) g = no_content-following after g
 
 -- The forest f is inside an inline entry, and therefore not directly inside a unique one.
 inline_sum : (u : Bool) (s n h : ℕ) → (s + cond u n 0) + (h + 0) ≡ s + ((h + 0) + cond u (n + 0) 0)
@@ -126,17 +106,12 @@ pub takes_nothing : (c : Kind) → Takes c Empty
 takes_nothing (OfGraph c) = tt
 takes_nothing (OfHeld h) = tt
 
+pub takes_following : (c : Kind) (f g : Forest) → Takes c (followed_by f g) ↔ (Takes c f × Takes (plus c f) g)
+takes_following (OfGraph c) f g = fits-following c.met f g
+takes_following (OfHeld h) f g = no_content-following f g
+
 pub takes_both : (c : Kind) (f g : Forest) → Takes c f → Takes (plus c f) g → Takes c (followed_by f g)
-takes_both (OfGraph c) f g v w = fits-both c.met f g v w
-takes_both (OfHeld h) f g v w = no_content-both f g v w
-
-pub takes_first : (c : Kind) (f g : Forest) → Takes c (followed_by f g) → Takes c f
-takes_first (OfGraph c) f g w = fits-first c.met f g w
-takes_first (OfHeld h) f g w = no_content-first f g w
-
-pub takes_second : (c : Kind) (f g : Forest) → Takes c (followed_by f g) → Takes (plus c f) g
-takes_second (OfGraph c) f g w = fits-second c.met f g w
-takes_second (OfHeld h) f g w = no_content-second f g w
+takes_both c f g v w = (takes_following c f g).1 (v, w)
 
 -- An entry with f inside it is entering, adding f and one step back.
 pub inside_entry : (u : Bool) (k : Key) (n : ℕ) (c : Kind) (f : Forest) → leave (is_in_unique c) (plus (enter u k n c) f) ≡ plus c (entry_of u k n f)
