@@ -6,6 +6,7 @@ use Rattle.std.specs.Ordering.{nat_cmp}
 use Rattle.std.specs.Cmp.Lexicographic.{lists_total}
 use Rattle.std.proofs.lemmas.Cmp.{on_total, eq_by_cmp_equiv}
 pub use mathlib.Core.Bool.{or_assoc, or_comm, or-false, and_assoc, and-true}
+use Rattle.std.proofs.lemmas.List.Folds.{list_any-append}
 pub use Rattle.std.proofs.lemmas.Bool.{and_parts, or_cases, or_left, or_right, or_parts, false_from_ne_true}
 
 -- ---- tests
@@ -45,9 +46,21 @@ pub each-map : {X Y : Type 0} (P : Y → Type 0) (f : X → Y) (xs : List X) →
 each-map P f [] h = tt
 each-map P f (x ∷ xs) h = (h.0, each-map P f xs h.1)
 
+pub or_both : {Q : Type 0} (a b : Bool) → (IsTrue a → Q) → (IsTrue b → Q) → IsTrue (a || b) → Q
+or_both a b f g h = elim (or_cases a b h) [ inl x ↦ f x | inr x ↦ g x ]
+
+pub any_both : {X : Type 0} {Q : Type 0} (p : X → Bool) (xs ys : List X) → (IsTrue (list_any p xs) → Q) → (IsTrue (list_any p ys) → Q) → IsTrue (list_any p (xs ++ ys)) → Q
+any_both p xs ys f g h = or_both (list_any p xs) (list_any p ys) f g (sym (list_any-append p xs ys) ∙ h)
+
+pub any_left : {X : Type 0} (p : X → Bool) (xs ys : List X) → IsTrue (list_any p xs) → IsTrue (list_any p (xs ++ ys))
+any_left p xs ys h = list_any-append p xs ys ∙ or_left _ (list_any p ys) h
+
+pub any_right : {X : Type 0} (p : X → Bool) (xs ys : List X) → IsTrue (list_any p ys) → IsTrue (list_any p (xs ++ ys))
+any_right p xs ys h = list_any-append p xs ys ∙ or_right (list_any p xs) _ h
+
 pub each-found : {X : Type 0} (P : X → Type 0) (Q : Type 0) (test : X → Bool) → ((x : X) → P x → IsTrue (test x) → Q) → (xs : List X) → AllByRecursion P xs → IsTrue (list_any test xs) → Q
 each-found P Q test f [] h g = absurd (true≢false (sym g))
-each-found P Q test f (x ∷ xs) h g = elim (or_cases (test x) (list_any test xs) g) [ inl a ↦ f x h.0 a | inr b ↦ each-found P Q test f xs h.1 b ]
+each-found P Q test f (x ∷ xs) h g = or_both (test x) (list_any test xs) (f x h.0) (each-found P Q test f xs h.1) g
 
 -- ---- orders
 pub path_total : IsTotalOrder path_cmp

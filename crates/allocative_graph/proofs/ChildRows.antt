@@ -1,6 +1,8 @@
 -- The sizes below some children, added up.
-use Rattle.std.proofs.Common.{◌≡◌, ℕ, ◌+◌, List, [], ◌∷◌, ◌++◌, refl, sym, ap, ◌∙◌, arith, add-zero}
+use Rattle.std.proofs.Common.{◌≡◌, ℕ, ◌+◌, ◌<◌, List, [], ◌∷◌, ◌++◌, length, take, get_or, refl, sym, ap, ◌∙◌, arith, add-zero, append-nil}
 use Rattle.allocative_graph.proofs.Common.{entries, Child, Key, Path, total, under_rows, rows_of, rows_of_child, sum_of_rows, weight}
+use Rattle.std.proofs.lemmas.List.{take_more}
+use Rattle.std.proofs.lemmas.List.Folds.{fold-map}
 use Rattle.std.proofs.lemmas.Grind.{flat_map-append}
 use Rattle.allocative_graph.proofs.RowSums.{total-rows}
 
@@ -23,3 +25,8 @@ weight-append a b = ap sum_of_rows (flat_map-append rows_of_child a b) ∙ sum-a
 
 pub weight-split : (a b : List Child) (c : Child) → weight (a ++ c ∷ b) ≡ weight a + (total c.graph + weight b)
 weight-split a b c = weight-append a (c ∷ b) ∙ ap (λ n. weight a + n) (weight-cons c b)
+
+-- The rows of one child more.
+pub rows-more : (cs : List Child) (i : ℕ) (d : Child) → i < length cs → rows_of (take (i + 1) cs) ≡ rows_of (take i cs) ++ rows_of_child (get_or cs i d)
+rows-more cs i d w =
+    ap rows_of (take_more cs i d w) ∙ flat_map-append rows_of_child (take i cs) (get_or cs i d ∷ []) ∙ ap (λ r. rows_of (take i cs) ++ r) (append-nil (rows_of_child (get_or cs i d)))

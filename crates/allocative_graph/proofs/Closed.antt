@@ -2,9 +2,8 @@
 use Rattle.std.proofs.Common.{◌≡◌, ℕ, ◌+◌, Bool, true, false, cond, ◌&&◌, ◌||◌, IsTrue, ◌⊎◌, inl, inr, List, [], ◌∷◌, ◌++◌, flat_map, refl, ap, sym, ◌∙◌, subst, true≢false}
 use Rattle.allocative_graph.proofs.Common.{AllByRecursion, eq_by_cmp, nat_cmp-IsAntisymmetric, slice_cmp-IsAntisymmetric, Key, Path, key_cmp, is_same_path, is_one_below, Identity, Forest, Empty, Inline, Unique, First, Again, AsInline, AsUnique, Entry, Bag, own, own_behind, contents, content_entries, all, is_entered_in}
 use Rattle.allocative_graph.specs.Forest.{Mark}
-use Rattle.std.proofs.lemmas.List.Folds.{list_any-append}
 use Rattle.std.proofs.lemmas.List.Sums.{sum_by-cons}
-use Rattle.allocative_graph.proofs.Basics.{each-append, each-implies, and_parts, or_left, or_right, false_from_ne_true, is_eq-Equal, same_path_itself}
+use Rattle.allocative_graph.proofs.Basics.{each-append, each-implies, and_parts, any_left, any_right, or_left, or_right, false_from_ne_true, is_eq-Equal, same_path_itself}
 use Rattle.allocative_graph.proofs.Below.{below_in}
 
 pub one_below_child : (p r : Path) (k : Key) → IsTrue (is_one_below p (r ++ k ∷ [])) → p ≡ r
@@ -16,15 +15,6 @@ one_below_child (a ∷ b ∷ p) [] k h = absurd (true≢false (sym (and_parts (e
 one_below_child (a ∷ p) (l ∷ r) k h =
     let parts = and_parts (eq_by_cmp key_cmp a l) _ h in
     λ i. slice_cmp-IsAntisymmetric nat_cmp-IsAntisymmetric a l (is_eq-Equal _ parts.0) i ∷ one_below_child p r k parts.1 i
-
-entered-append : (p : Path) (b c : Bag) → is_entered_in (b ++ c) p ≡ (is_entered_in b p || is_entered_in c p)
-entered-append p b c = list_any-append (λ e. is_same_path p e.path) b c
-
-entered_left : (p : Path) (b c : Bag) → IsTrue (is_entered_in b p) → IsTrue (is_entered_in (b ++ c) p)
-entered_left p b c h = entered-append p b c ∙ or_left (is_entered_in b p) (is_entered_in c p) h
-
-entered_right : (p : Path) (b c : Bag) → IsTrue (is_entered_in c p) → IsTrue (is_entered_in (b ++ c) p)
-entered_right p b c h = entered-append p b c ∙ or_right (is_entered_in b p) (is_entered_in c p) h
 
 module _ (has : Path → Type 0) where
   abbrev pub ParentIn : Path → Entry → Type 0
@@ -43,8 +33,8 @@ module _ (has : Path → Type 0) where
       let others : Holds (b ++ c) = λ p w. h p (or_right (is_same_path p (r ++ k ∷ [])) _ w) in (
         λ p w. inl (one_below_child p r k w),
         each-append (ParentIn r) b c
-            (each-implies (ParentIn (r ++ k ∷ [])) (ParentIn r) (deeper r (r ++ k ∷ []) (h (r ++ k ∷ []) (or_left _ _ (same_path_itself (r ++ k ∷ []))))) b (inner (λ p w. others p (entered_left p b c w))))
-            (outer (λ p w. others p (entered_right p b c w))),
+            (each-implies (ParentIn (r ++ k ∷ [])) (ParentIn r) (deeper r (r ++ k ∷ []) (h (r ++ k ∷ []) (or_left _ _ (same_path_itself (r ++ k ∷ []))))) b (inner (λ p w. others p (any_left _ b c w))))
+            (outer (λ p w. others p (any_right _ b c w))),
       )
 
   pub closed_behind : (r : Path) (f : Forest) → Holds (own_behind r f) → AllByRecursion (ParentIn r) (own_behind r f)
@@ -66,12 +56,12 @@ module _ (has : Path → Type 0) where
 
   closed_flat : (cs : List (Identity × Bag)) → AllByRecursion Closed cs → Holds (flat_map (λ c. c.1) cs) → AllByRecursion (ParentIn []) (flat_map (λ c. c.1) cs)
   closed_flat [] h w = tt
-  closed_flat (c ∷ cs) h w = each-append (ParentIn []) c.1 _ (h.0 (λ p g. w p (entered_left p c.1 (flat_map (λ c. c.1) cs) g))) (closed_flat cs h.1 (λ p g. w p (entered_right p c.1 (flat_map (λ c. c.1) cs) g)))
+  closed_flat (c ∷ cs) h w = each-append (ParentIn []) c.1 _ (h.0 (λ p g. w p (any_left _ c.1 (flat_map (λ c. c.1) cs) g))) (closed_flat cs h.1 (λ p g. w p (any_right _ c.1 (flat_map (λ c. c.1) cs) g)))
 
 pub closed_all : (f : Forest) → AllByRecursion (ParentIn (λ p. IsTrue (is_entered_in (all f) p)) []) (all f)
 closed_all f = each-append _ (own f) (content_entries f)
-    (closed_behind _ [] f (λ p h. entered_left p (own f) (content_entries f) h))
-    (closed_flat _ (contents f) (closed_each _ f) (λ p h. entered_right p (own f) (content_entries f) h))
+    (closed_behind _ [] f (λ p h. any_left _ (own f) (content_entries f) h))
+    (closed_flat _ (contents f) (closed_each _ f) (λ p h. any_right _ (own f) (content_entries f) h))
 
 pub below_none : (b : Bag) (p : Path) → AllByRecursion (λ e. is_one_below p e.path ≡ false) b → below_in b p ≡ 0
 below_none [] p h = refl

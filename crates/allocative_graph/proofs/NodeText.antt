@@ -5,6 +5,7 @@ use Rattle.std.proofs.lemmas.List.{take_more, map-append}
 use Rattle.std.proofs.lemmas.Grind.{flat_map-append}
 use Rattle.std.proofs.Math.Seq.{take-append_seam}
 use Rattle.allocative_graph.specs.Representation.PathRows.{size_text, lines_from, line_below}
+use Rattle.allocative_graph.proofs.ChildRows.{rows-more}
 use Rattle.allocative_graph.proofs.RowSums.{joined-keys}
 
 -- The texts of the keys.
@@ -58,12 +59,10 @@ pub child_written : (t : List ℕ) (cs : List Child) (i : ℕ) (d : Child) (befo
     ≡ before ++ lines_below t (rows_of (take (i + 1) cs))
 child_written t cs i d before h =
     let c : Child = get_or cs i d in
-    let e : rows_of (take (i + 1) cs) ≡ rows_of (take i cs) ++ rows_of_child c =
-    ap rows_of (take_more cs i d h) ∙ flat_map-append rows_of_child (take i cs) (c ∷ []) ∙ ap (λ r. rows_of (take i cs) ++ r) (append-nil (rows_of_child c)) in
     append_assoc before _ _
     ∙ ap (λ s. before ++ (lines_below t (rows_of (take i cs)) ++ s)) (sym (child_lines t c.key (entries c.graph)))
     ∙ ap (λ s. before ++ s) (sym (flat_map-append (line_below t) (rows_of (take i cs)) (rows_of_child c)))
-    ∙ ap (λ s. before ++ lines_below t s) (sym e)
+    ∙ ap (λ s. before ++ lines_below t s) (sym (rows-more cs i d h))
 
 -- The root's line is the path with its size.
 pub line_of_some : (t : List ℕ) (n : ℕ) → n ≢ 0 → line_from t ([], n) ≡ t ++ size_text n

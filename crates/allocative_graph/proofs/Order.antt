@@ -4,7 +4,7 @@ use Rattle.allocative_graph.proofs.Common.{⊤, AllByRecursion, Identities, Iden
 use Rattle.std.specs.FinSet.{insert, empty}
 use Rattle.std.proofs.lemmas.List.Sorted.{IsPermutation-refl, IsPermutation-sym, IsPermutation-trans, IsPermutation-append, IsPermutation-append_left, IsPermutation-append_right, IsPermutation-append_comm, list_any-IsPermutation}
 use Rattle.allocative_graph.specs.Meaning.{Agree}
-use Rattle.allocative_graph.proofs.Basics.{or_cases, on_test, or_left, or_right, false_from_ne_true, both_ways, same_identity, same_identity_itself, same_identity_turned}
+use Rattle.allocative_graph.proofs.Basics.{or_both, on_test, or_left, or_right, false_from_ne_true, both_ways, same_identity, same_identity_itself, same_identity_turned}
 use Rattle.allocative_graph.proofs.Reach.{Fresh, apart_from, fits_fresh, own_content, flat_of_each, reaches_exactly}
 use Rattle.allocative_graph.proofs.Lookups.{add_all-permutation}
 use Rattle.std.specs.FinMap as finmap
@@ -51,7 +51,7 @@ among_without : (k i : Identity) (js : List Identity) → IsTrue (is_among k (wi
 among_without k i [] h = h
 among_without k i (j ∷ js) h = on_test (λ t. IsTrue (is_among k (cond t js (j ∷ without i js))) → IsTrue (is_same_identity k j || is_among k js)) (is_same_identity i j)
     (λ e g. or_right (is_same_identity k j) _ g)
-    (λ e g. elim (or_cases (is_same_identity k j) _ g) [ inl a ↦ or_left _ (is_among k js) a | inr a ↦ or_right (is_same_identity k j) _ (among_without k i js a) ]) h
+    (λ e. or_both (is_same_identity k j) _ (or_left _ (is_among k js)) (λ a. or_right (is_same_identity k j) _ (among_without k i js a))) h
 
 among_other : (k i : Identity) (js : List Identity) → is_same_identity k i ≡ false → is_among k (without i js) ≡ is_among k js
 among_other k i [] h = refl

@@ -1,6 +1,6 @@
 -- What a collector has after forests, entries and leaving.
 use Rattle.std.proofs.Common.{◌≡◌, ◌↔◌, ◌≤◌, zero, suc, pred, ℕ, ◌+◌, Bool, true, false, cond, [], ◌∷◌, ◌++◌, map, flat_map, refl, ap, sym, ◌∙◌, arith, add_assoc, append-nil}
-use Rattle.allocative_graph.proofs.Common.{contains, Key, Identity, Forest, Empty, Inline, Unique, First, Again, AsInline, AsUnique, AsShared, own_behind, contents, followed_by, insert_all, add, add_all, added}
+use Rattle.allocative_graph.proofs.Common.{contains, Key, Path, Identities, Sums, content_entries, shown, Identity, Forest, Empty, Inline, Unique, First, Again, AsInline, AsUnique, AsShared, own_behind, contents, followed_by, insert_all, add, add_all, added}
 use Rattle.std.specs.FinSet.{insert}
 use Rattle.allocative_graph.specs.Forest.{entry_of}
 use Rattle.allocative_graph.specs.Collector.{Live, Holding, Kind, OfGraph, OfHeld, plus_live, plus_holding, go, leave_live, leave_holding, enter_first, enter_holding, plus, Takes, enter, leave, begin, is_graph, visitors, is_in_unique}
@@ -14,28 +14,19 @@ live-following c f g = λ i. record c {
   met = met-following c.met f g i;
 }
 
-module _ (f : Forest) where
-  contents_alone : contents f ++ [] ≡ contents f
-  contents_alone = append-nil (contents f)
+-- What an entry has inside it where none follows it.
+alone : (f : Forest) (c : Live) (s : Sums) (t : Identities) (p : Path) → record c { sums = add_all s (own_behind p f ++ content_entries f); met = insert_all t (shown f) }
+    ≡ record c { sums = add_all s ((own_behind p f ++ []) ++ flat_map (λ c. c.1) (contents f ++ [])); met = insert_all t (map (λ c. c.0) (contents f ++ [])) }
+alone f c s t p =
+    let same = sym (append-nil (contents f)) in
+    λ i. record c { sums = add_all s (sym (append-nil (own_behind p f)) i ++ flat_map (λ c. c.1) (same i)); met = insert_all t (map (λ c. c.0) (same i)) }
 
-  inside-inline : (c : Live) (k : Key) (n : ℕ) → leave_live (plus_live (go (c.here ++ k ∷ []) (plus_live c (Inline k n Empty Empty))) f) ≡ plus_live c (Inline k n f Empty)
-  inside-inline c k n = λ i. record c {
-    sums = add_all (add c.sums (record { path = c.here ++ k ∷ []; size = n; mark = AsInline })) (sym (append-nil (own_behind (c.here ++ k ∷ []) f)) i ++ flat_map (λ c. c.1) (sym contents_alone i));
-    met = insert_all c.met (map (λ c. c.0) (sym contents_alone i));
-  }
-
-  inside-unique : (c : Live) (k : Key) (n : ℕ) → leave_live (plus_live (go (c.here ++ k ∷ []) (plus_live c (Unique k n Empty Empty))) f) ≡ plus_live c (Unique k n f Empty)
-  inside-unique c k n = λ i. record c {
-    sums = add_all (add c.sums (record { path = c.here ++ k ∷ []; size = n; mark = AsUnique })) (sym (append-nil (own_behind (c.here ++ k ∷ []) f)) i ++ flat_map (λ c. c.1) (sym contents_alone i));
-    met = insert_all c.met (map (λ c. c.0) (sym contents_alone i));
-  }
-
-  -- The content of a shared entry starts at the root.
-  inside-first : (c : Live) (k : Key) (n : ℕ) (j : Identity) → leave_live (plus_live (go [] (plus_live c (First k n j Empty Empty))) f) ≡ plus_live c (First k n j f Empty)
-  inside-first c k n j = λ i. record c {
-    sums = add_all (add c.sums (record { path = c.here ++ k ∷ []; size = n; mark = AsShared j })) (own_behind [] f ++ flat_map (λ c. c.1) (sym contents_alone i));
-    met = insert_all (insert c.met j) (map (λ c. c.0) (sym contents_alone i));
-  }
+-- The content of a shared entry starts at the root.
+inside-first : (f : Forest) (c : Live) (k : Key) (n : ℕ) (j : Identity) → leave_live (plus_live (go [] (plus_live c (First k n j Empty Empty))) f) ≡ plus_live c (First k n j f Empty)
+inside-first f c k n j = λ i. record c {
+  sums = add_all (add c.sums (record { path = c.here ++ k ∷ []; size = n; mark = AsShared j })) (own_behind [] f ++ flat_map (λ c. c.1) (sym (append-nil (contents f)) i));
+  met = insert_all (insert c.met j) (map (λ c. c.0) (sym (append-nil (contents f)) i));
+}
 
 -- ---- the collector of held bytes
 inline_bytes-following : (f g : Forest) → inline_bytes (followed_by f g) ≡ inline_bytes f + inline_bytes g
@@ -115,8 +106,8 @@ takes_both c f g v w = (takes_following c f g).1 (v, w)
 
 -- An entry with f inside it is entering, adding f and one step back.
 pub inside_entry : (u : Bool) (k : Key) (n : ℕ) (c : Kind) (f : Forest) → leave (is_in_unique c) (plus (enter u k n c) f) ≡ plus c (entry_of u k n f)
-inside_entry true k n (OfGraph c) f = ap OfGraph (inside-unique f c k n)
-inside_entry false k n (OfGraph c) f = ap OfGraph (inside-inline f c k n)
+inside_entry true k n (OfGraph c) f = ap OfGraph (alone f c (add c.sums (record { path = c.here ++ k ∷ []; size = n; mark = AsUnique })) c.met (c.here ++ k ∷ []))
+inside_entry false k n (OfGraph c) f = ap OfGraph (alone f c (add c.sums (record { path = c.here ++ k ∷ []; size = n; mark = AsInline })) c.met (c.here ++ k ∷ []))
 inside_entry u k n (OfHeld h) f = ap OfHeld (holding-inside u h k n f)
 
 pub takes_entry : (u : Bool) (k : Key) (n : ℕ) (c : Kind) (f : Forest) → Takes (enter u k n c) f → Takes c (entry_of u k n f)

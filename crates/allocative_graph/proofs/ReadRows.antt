@@ -3,6 +3,7 @@ use Rattle.std.proofs.Common.{◌≡◌, ℕ, ◌+◌, ◌<◌, List, [], ◌∷
 use Rattle.allocative_graph.proofs.Common.{entries, Child, Key, Path, total, total_at, entries-node, InOrder, Figures, figures_behind, under_rows, node, rows_of, rows_of_child}
 use Rattle.std.proofs.lemmas.List.{take_more}
 use Rattle.std.proofs.lemmas.Grind.{flat_map-append}
+use Rattle.allocative_graph.proofs.ChildRows.{rows-more}
 use Rattle.allocative_graph.proofs.Behind.{total_at-child}
 
 -- The figures of some paths with their sizes, with some keys before them, where t has the bytes of each path and of all
@@ -28,11 +29,9 @@ pub child_read : (n : ℕ) (cs : List Child) (i : ℕ) (d : Child) (ks : Path) �
 child_read n cs i d ks o w =
     let t : Path → ℕ = total_at (node n cs) in
     let c : Child = get_or cs i d in
-    let e : rows_of (take (i + 1) cs) ≡ rows_of (take i cs) ++ rows_of_child c =
-    ap rows_of (take_more cs i d w) ∙ flat_map-append rows_of_child (take i cs) (c ∷ []) ∙ ap (λ r. rows_of (take i cs) ++ r) (append-nil (rows_of_child c)) in
     ap (λ (fs : List Figures). figured t ks (rows_of (take i cs)) ++ fs) (figured-under t (total_at c.graph) ks c.key (entries c.graph) (λ q. total_at-child n cs i d q o w))
     ∙ sym (figured-append t ks (rows_of (take i cs)) (rows_of_child c))
-    ∙ ap (figured t ks) (sym e)
+    ∙ ap (figured t ks) (sym (rows-more cs i d w))
 
 -- The rows of a node are its own and then those of its children.
 pub node_read : (n : ℕ) (cs : List Child) (ks : Path) → InOrder cs
