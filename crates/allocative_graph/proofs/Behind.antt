@@ -1,6 +1,6 @@
 -- What a graph has at a path and below it, by the children of its root.
-use Rattle.std.proofs.Common.{sum_by, ◌&&◌, ◌≡◌, ℕ, zero, suc, ◌+◌, ◌<◌, ◌≤◌, true, false, cond, List, [], ◌∷◌, ◌++◌, Option, Some, None, IfNone, length, get_or, take, drop, refl, sym, ap, subst, ◌∙◌, arith, add-zero, zero-add, take-append-drop}
-use Rattle.allocative_graph.proofs.Common.{is_some, unwrap_or, AllByRecursion, eq_by_cmp, is_eq, ordering_reverse, Less, nat_list_cmp_total, get, entries, len, len-entries, len-child, Child, Key, Path, key_cmp, Graph, IsTree, IsBehind, HasNothing, begins, total_at, under_rows, node, rows_of, rows_of_child, entries-node, size_under, InOrder, IsFound, IsChildGap, AllBelow, AllAbove}
+use Rattle.std.proofs.Common.{sum_by, ◌&&◌, ◌≡◌, ℕ, zero, suc, ◌+◌, ◌<◌, ◌≤◌, true, false, cond, List, [], ◌∷◌, ◌++◌, Option, Some, None, IfNone, length, get_or, take, drop, refl, sym, ap, subst, subst₂, ◌∙◌, arith, add-zero, zero-add, take-append-drop}
+use Rattle.allocative_graph.proofs.Common.{is_some, unwrap_or, AllByRecursion, eq_by_cmp, is_eq, ordering_reverse, Less, nat_list_cmp_total, get, entries, len, len-entries, len-child, Child, Key, Path, key_cmp, Graph, IsTree, IsBehind, HasNothing, begins, total_at, under_rows, node, IsNode, rows_of, rows_of_child, entries-node, size_under, InOrder, IsFound, IsChildGap, AllBelow, AllAbove}
 use Rattle.std.proofs.lemmas.List.Elements.{All-from_recursion}
 use Rattle.std.proofs.lemmas.List.Folds.{fold-map, fold_stays, length-flat_map-take}
 use Rattle.std.proofs.lemmas.List.Sums.{sum_by-cons, sum_by-append}
@@ -89,40 +89,47 @@ total_at-child n cs i d p o w = whole-node n cs (get_or cs i d).key p o ∙ whol
 pub behind_root : (g : Graph) → IsTree g → IsBehind g [] g
 behind_root g t = record { there = t.root; sizes = λ q. refl; totals = λ q. refl; same_size = refl; same_total = refl }
 
-module _ (n : ℕ) (cs : List Child) (i : ℕ) (d : Child) (k : Key) (o : InOrder cs) (f : IsFound cs k i) where
-  -- A path of the child has its size in the node, after the child's key.
-  at : (q : Path) → get (node n cs) (k ∷ q) ≡ get (get_or cs i d).graph q
-  at q = get-under n cs k q o ∙ size_under-found k q cs i d o f.within (f.same d)
+-- g is the graph of a node, and the path has the key k and then p.
+module _ {n s : ℕ} {cs ds : List Child} {g : Graph} {path : Path} {k : Key} {p : Path} (view : node n cs ≡ g) (h : IsNode cs s n) (same : ds ≡ cs) (is : path ≡ k ∷ p) where
+  in_order : InOrder ds
+  in_order = subst InOrder (sym same) h.children.sorted
 
-  -- A path of the child has its bytes, with all below it, in the node, after the child's key.
-  whole : (q : Path) → total_at (node n cs) (k ∷ q) ≡ total_at (get_or cs i d).graph q
-  whole q = whole-node n cs k q o ∙ whole-found k q cs i d o f.within (f.same d)
+  module _ {i : ℕ} (d : Child) (f : IsFound ds k i) where
+    -- A path of the child has its size in the node, after the child's key.
+    at : (q : Path) → get (node n ds) (k ∷ q) ≡ get (get_or ds i d).graph q
+    at q = get-under n ds k q in_order ∙ size_under-found k q ds i d in_order f.within (f.same d)
 
-  -- What the child has at a path, the node has at the child's key followed by that path.
-  pub behind_child : (p : Path) (h : Graph) → IsBehind (get_or cs i d).graph p h → IsBehind (node n cs) (k ∷ p) h
-  behind_child p h b = record {
-    there = ap is_some (at p) ∙ b.there;
-    sizes = λ q. b.sizes q ∙ sym (at (p ++ q));
-    totals = λ q. b.totals q ∙ sym (whole (p ++ q));
-    same_size = b.same_size ∙ ap (λ o. unwrap_or o 0) (sym (at p));
-    same_total = b.same_total ∙ sym (whole p);
-  }
+    -- A path of the child has its bytes, with all below it, in the node, after the child's key.
+    whole : (q : Path) → total_at (node n ds) (k ∷ q) ≡ total_at (get_or ds i d).graph q
+    whole q = whole-node n ds k q in_order ∙ whole-found k q ds i d in_order f.within (f.same d)
 
-  -- Where the child has nothing at a path, the node has nothing at the child's key followed by that path.
-  pub missing_child : (p : Path) → HasNothing (get_or cs i d).graph p → HasNothing (node n cs) (k ∷ p)
-  missing_child p m = record {
-    missing = ap is_some (at p) ∙ m.missing;
-    below = λ q. ap is_some (at (p ++ q)) ∙ m.below q;
-    nothing = whole p ∙ m.nothing;
-  }
+    -- What the child has at p, the node has at the path.
+    pub behind_child : (x : Graph) → IsBehind (get_or ds i d).graph p x → IsBehind g path x
+    behind_child x b = subst₂ (λ y q. IsBehind y q x) (ap (node n) same ∙ view) (sym is) (record {
+      there = ap is_some (at p) ∙ b.there;
+      sizes = λ q. b.sizes q ∙ sym (at (p ++ q));
+      totals = λ q. b.totals q ∙ sym (whole (p ++ q));
+      same_size = b.same_size ∙ ap (λ o. unwrap_or o 0) (sym (at p));
+      same_total = b.same_total ∙ sym (whole p);
+    })
 
--- Where a key was not found, the node has nothing at it and below it.
-pub missing_key : (n : ℕ) (cs : List Child) (i : ℕ) (k : Key) (p : Path) → InOrder cs → IsChildGap cs k i → HasNothing (node n cs) (k ∷ p)
-missing_key n cs i k p o g = record {
-  missing = ap is_some (get-under n cs k p o ∙ size_under-lacks cs k p (gap-lacks cs i k g));
-  below = λ q. ap is_some (get-under n cs k (p ++ q) o ∙ size_under-lacks cs k (p ++ q) (gap-lacks cs i k g));
-  nothing = whole-node n cs k p o ∙ whole-lacks k p cs (gap-lacks cs i k g);
-}
+    -- Where the child has nothing at p, the node has nothing at the path.
+    pub missing_child : HasNothing (get_or ds i d).graph p → HasNothing g path
+    missing_child m = subst₂ HasNothing (ap (node n) same ∙ view) (sym is) (record {
+      missing = ap is_some (at p) ∙ m.missing;
+      below = λ q. ap is_some (at (p ++ q)) ∙ m.below q;
+      nothing = whole p ∙ m.nothing;
+    })
+
+  -- Where a key was not found, the node has nothing at the path and below it.
+  pub missing_key : {i : ℕ} → IsChildGap ds k i → HasNothing g path
+  missing_key {i = i} gap =
+      let none = gap-lacks ds i k gap in
+      subst₂ HasNothing (ap (node n) same ∙ view) (sym is) (record {
+        missing = ap is_some (get-under n ds k p in_order ∙ size_under-lacks ds k p none);
+        below = λ q. ap is_some (get-under n ds k (p ++ q) in_order ∙ size_under-lacks ds k (p ++ q) none);
+        nothing = whole-node n ds k p in_order ∙ whole-lacks k p ds none;
+      })
 
 -- ---- in terms of what a call returns
 -- Where P implies Q, P in the absence of a value implies Q in its absence.

@@ -4,7 +4,7 @@ use Rattle.allocative_graph.proofs.Common.{entries, Child, Key, Path, total, und
 use Rattle.std.proofs.lemmas.List.{take_more}
 use Rattle.std.proofs.lemmas.List.Folds.{fold-map}
 use Rattle.std.proofs.lemmas.Grind.{flat_map-append}
-use Rattle.allocative_graph.proofs.RowSums.{total-rows}
+use Rattle.allocative_graph.proofs.NodeSizes.{total-rows}
 
 sum-append : (a b : List (Path × ℕ)) → sum_of_rows (a ++ b) ≡ sum_of_rows a + sum_of_rows b
 sum-append [] b = omega arith

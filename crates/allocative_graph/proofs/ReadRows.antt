@@ -1,7 +1,7 @@
 -- The rows of a node: its own, and then those of its children, one child after another.
 use Rattle.std.proofs.Common.{◌≡◌, ℕ, ◌+◌, ◌<◌, List, [], ◌∷◌, ◌++◌, map, take, length, get_or, refl, sym, ap, ◌∙◌, append_assoc, append-nil}
 use Rattle.allocative_graph.proofs.Common.{entries, Child, Key, Path, total, total_at, entries-node, InOrder, Figures, figures_behind, under_rows, node, rows_of, rows_of_child}
-use Rattle.std.proofs.lemmas.List.{take_more}
+use Rattle.std.proofs.lemmas.List.{map-append}
 use Rattle.std.proofs.lemmas.Grind.{flat_map-append}
 use Rattle.allocative_graph.proofs.ChildRows.{rows-more}
 use Rattle.allocative_graph.proofs.Behind.{total_at-child}
@@ -10,11 +10,6 @@ use Rattle.allocative_graph.proofs.Behind.{total_at-child}
 -- below it.
 abbrev pub figured : (Path → ℕ) → Path → List (Path × ℕ) → List Figures
 figured t ks rs = map (λ e. record { path = ks ++ e.0; self_size = e.1; total_size = t e.0 }) rs
-
--- The figures of two lists joined are those of one followed by those of the other.
-pub figured-append : (t : Path → ℕ) (ks : Path) (a b : List (Path × ℕ)) → figured t ks (a ++ b) ≡ figured t ks a ++ figured t ks b
-figured-append t ks [] b = refl
-figured-append t ks (r ∷ a) b = ap (λ (fs : List Figures). record { path = ks ++ r.0; self_size = r.1; total_size = t r.0 } ∷ fs) (figured-append t ks a b)
 
 -- Putting a key before the paths is the same as adding it at the end of the keys before them.
 figured-under : (t u : Path → ℕ) (ks : Path) (k : Key) (rs : List (Path × ℕ)) → ((q : Path) → t (k ∷ q) ≡ u q) → figured u (ks ++ k ∷ []) rs ≡ figured t ks (under_rows k rs)
@@ -30,7 +25,7 @@ child_read n cs i d ks o w =
     let t : Path → ℕ = total_at (node n cs) in
     let c : Child = get_or cs i d in
     ap (λ (fs : List Figures). figured t ks (rows_of (take i cs)) ++ fs) (figured-under t (total_at c.graph) ks c.key (entries c.graph) (λ q. total_at-child n cs i d q o w))
-    ∙ sym (figured-append t ks (rows_of (take i cs)) (rows_of_child c))
+    ∙ sym (map-append (λ e. record { path = ks ++ e.0; self_size = e.1; total_size = t e.0 }) (rows_of (take i cs)) (rows_of_child c))
     ∙ ap (figured t ks) (sym (rows-more cs i d w))
 
 -- The rows of a node are its own and then those of its children.
