@@ -1,5 +1,5 @@
 -- Small facts about tests, lists, paths and identities.
-use Rattle.std.proofs.Common.{◌≡◌, ℕ, Bool, true, false, ◌||◌, IsTrue, ◌⊎◌, inl, inr, List, [], ◌∷◌, ◌++◌, map, refl, sym, ap, subst, ◌∙◌, true≢false, Ordering, Less, Equal, Greater}
+use Rattle.std.proofs.Common.{◌≡◌, ℕ, Bool, true, false, ◌||◌, IsTrue, inl, inr, List, [], ◌∷◌, ◌++◌, map, refl, sym, ap, subst, ◌∙◌, true≢false, Ordering, Less, Equal, Greater}
 use Rattle.allocative_graph.proofs.Common.{list_any, AllByRecursion, is_eq, ordering_then, slice_cmp, nat_list_cmp_total, IsAntisymmetric, nat_cmp-IsAntisymmetric, slice_cmp-IsAntisymmetric, Path, path_cmp, is_same_path, Identity, identity_cmp, is_same_identity}
 use Rattle.std.specs.Cmp.{IsTotalOrder}
 use Rattle.std.specs.Ordering.{nat_cmp}

@@ -1,6 +1,6 @@
 -- What a graph has at a path and below it, by the children of its root.
-use Rattle.std.proofs.Common.{sum_by, ◌&&◌, ◌≡◌, ℕ, zero, suc, ◌+◌, ◌<◌, ◌≤◌, true, false, cond, List, [], ◌∷◌, ◌++◌, Option, Some, None, IfNone, length, get_or, take, drop, refl, sym, ap, subst, subst₂, ◌∙◌, arith, add-zero, zero-add, take-append-drop}
-use Rattle.allocative_graph.proofs.Common.{is_some, unwrap_or, AllByRecursion, eq_by_cmp, is_eq, ordering_reverse, Less, nat_list_cmp_total, get, entries, len, len-entries, len-child, Child, Key, Path, key_cmp, Graph, IsTree, IsBehind, HasNothing, begins, total_at, under_rows, node, IsNode, rows_of, rows_of_child, entries-node, size_under, InOrder, IsFound, IsChildGap, AllBelow, AllAbove}
+use Rattle.std.proofs.Common.{sum_by, ◌&&◌, ◌≡◌, ℕ, zero, suc, ◌+◌, ◌<◌, true, false, cond, List, [], ◌∷◌, ◌++◌, Option, Some, None, IfNone, length, get_or, take, drop, refl, sym, ap, subst, subst₂, ◌∙◌, arith, add-zero, zero-add, take-append-drop}
+use Rattle.allocative_graph.proofs.Common.{is_some, unwrap_or, eq_by_cmp, is_eq, ordering_reverse, Less, nat_list_cmp_total, get, entries, len, len-entries, len-child, Child, Key, Path, key_cmp, Graph, IsTree, IsBehind, HasNothing, begins, total_at, node, IsNode, rows_of, rows_of_child, entries-node, size_under, InOrder, IsFound, IsChildGap, AllAbove}
 use Rattle.std.proofs.lemmas.List.Elements.{All-from_recursion}
 use Rattle.std.proofs.lemmas.List.Folds.{fold-map, fold_stays, length-flat_map-take}
 use Rattle.std.proofs.lemmas.List.Sums.{sum_by-cons, sum_by-append}

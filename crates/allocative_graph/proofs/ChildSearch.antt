@@ -1,5 +1,5 @@
 -- What a search for a key finds among children in order.
-use Rattle.std.proofs.Common.{◌≡◌, ℕ, zero, suc, ◌+◌, ◌<◌, ◌≤◌, List, [], ◌∷◌, length, get_or, take, drop, Result, Ok, Err, IfOk, IfErr, refl, sym, ap, subst, ◌∙◌, arith, add-one, take_all}
+use Rattle.std.proofs.Common.{◌≡◌, ℕ, zero, suc, ◌+◌, ◌<◌, ◌≤◌, List, [], ◌∷◌, length, get_or, take, drop, Result, Ok, Err, IfOk, IfErr, sym, ap, subst, ◌∙◌, arith, add-one, take_all}
 use Rattle.allocative_graph.proofs.Common.{Less, Greater, ordering_reverse, is_lt, nat_list_cmp_total, Child, Key, key_cmp, InOrder, AllBelow, AllAbove, IsFound, IsChildGap}
 use Rattle.std.proofs.lemmas.List.{drop_all, get_or_default}
 use Rattle.std.proofs.lemmas.List.Sorted.{searchable_from_sorted}

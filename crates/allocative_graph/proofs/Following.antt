@@ -1,5 +1,5 @@
 -- One forest followed by another: their entries, their contents, and what they fit.
-use Rattle.std.proofs.Common.{◌≡◌, ◌↔◌, Bool, true, false, ◌||◌, IsTrue, List, [], ◌∷◌, ◌++◌, map, flat_map, refl, ap, sym, ◌∙◌, subst, append_assoc, IsPermutation}
+use Rattle.std.proofs.Common.{◌≡◌, ◌↔◌, Bool, false, ◌||◌, IsTrue, List, [], ◌∷◌, ◌++◌, map, flat_map, refl, ap, sym, ◌∙◌, subst, append_assoc, IsPermutation}
 use Rattle.allocative_graph.proofs.Common.{contains, contains-insert, Path, Identities, Identity, is_same_identity, Forest, Empty, Inline, Unique, First, Again, AsInline, AsUnique, AsShared, Bag, own_behind, contents, content_entries, shown, followed_by, insert_all, met_after, Fits, is_among, added}
 use Rattle.std.specs.FinSet.{insert}
 use Rattle.std.proofs.lemmas.List.{map-append}

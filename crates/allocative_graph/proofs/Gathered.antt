@@ -1,5 +1,5 @@
 -- Graphs added one after another, each made from an item: their sizes, paths and totals in any order of the items.
-use Rattle.std.proofs.Common.{◌≡◌, ℕ, ◌+◌, ◌||◌, List, [], ◌∷◌, fold, refl, sym, ap, ◌∙◌, sum_by, arith}
+use Rattle.std.proofs.Common.{◌≡◌, ◌+◌, ◌||◌, List, [], ◌∷◌, fold, refl, sym, ap, ◌∙◌, sum_by, arith}
 use Rattle.allocative_graph.proofs.Common.{list_any, IsPermutation, contains_key, Child, Path, Graph, IsTree, size_at, total, sum_of, under, default, sum_of_all, total_of}
 use Rattle.std.proofs.lemmas.List.Sums.{sum_by-cons}
 use Rattle.std.proofs.lemmas.List.Sorted.{sum_by-IsPermutation, list_any-IsPermutation}

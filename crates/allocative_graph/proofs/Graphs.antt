@@ -107,8 +107,9 @@ sum_of-commutes g h = is_sum_of h g (sum_of g h) (λ p. (omega (arith, size_at-s
 
 pub sum_of-associates : (g h k : Graph) → sum_of (sum_of g h) k ≡ sum_of g (sum_of h k)
 sum_of-associates g h k = is_sum_of g (sum_of h k) _ (λ p. (
-    omega (arith, size_at-sum_of (sum_of g h) k p, size_at-sum_of g h p, size_at-sum_of h k p),
-    has-sum_of (sum_of g h) k p ∙ ap (λ b. b || contains_key k p) (has-sum_of g h p) ∙ or_assoc (contains_key g p) _ _ ∙ ap (λ b. contains_key g p || b) (sym (has-sum_of h k p))))
+  omega (arith, size_at-sum_of (sum_of g h) k p, size_at-sum_of g h p, size_at-sum_of h k p),
+  has-sum_of (sum_of g h) k p ∙ ap (λ b. b || contains_key k p) (has-sum_of g h p) ∙ or_assoc (contains_key g p) _ _ ∙ ap (λ b. contains_key g p || b) (sym (has-sum_of h k p)),
+))
 
 pub get-default : (q : Path) → get default q ≡ cond (is_same_path q []) (Some 0) None
 get-default q = get-from_entries path_total (([], 0) ∷ []) q

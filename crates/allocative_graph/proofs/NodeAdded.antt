@@ -1,5 +1,5 @@
 -- Nodes are trees, and add up where their own sizes and their children do.
-use Rattle.std.proofs.Common.{◌≡◌, ℕ, ◌+◌, ◌<◌, ◌^◌, Bool, true, false, cond, List, [], ◌∷◌, ◌++◌, length, length-append, sym, ap, subst, subst₂, ◌∙◌, arith}
+use Rattle.std.proofs.Common.{◌≡◌, ℕ, ◌+◌, ◌<◌, ◌^◌, Bool, true, cond, List, [], ◌∷◌, ◌++◌, length, length-append, sym, ap, subst, subst₂, ◌∙◌, arith}
 use Rattle.allocative_graph.proofs.Common.{is_some, eq_by_cmp, get, contains_key, entries, len, len-entries, Child, Key, Path, key_cmp, Graph, IsTree, size_at, total, under, node, rows_of, rows_of_child, AreChildren, IsNode, weight, size_under, Added, Merged, entries-node, len-child}
 use Rattle.allocative_graph.specs.Reads.{AllTrees}
 use Rattle.allocative_graph.proofs.Basics.{on_test}

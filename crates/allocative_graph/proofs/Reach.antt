@@ -1,5 +1,5 @@
 -- The identities that a whole showing shows are exactly those reached.
-use Rattle.std.proofs.Common.{◌≡◌, Bool, true, false, cond, ◌||◌, IsTrue, ◌⊎◌, inl, inr, List, [], ◌∷◌, ◌++◌, map, flat_map, refl, ap, sym, ◌∙◌, subst, true≢false, IsPermutation}
+use Rattle.std.proofs.Common.{◌≡◌, Bool, true, false, cond, ◌||◌, IsTrue, List, [], ◌∷◌, ◌++◌, map, flat_map, refl, ap, sym, ◌∙◌, subst, true≢false, IsPermutation}
 use Rattle.allocative_graph.proofs.Common.{⊤, AllByRecursion, contains, contains-insert, contains-empty, Path, Identities, Identity, identity_cmp, is_same_identity, Forest, Empty, Inline, Unique, First, Again, Bag, Entry, own, own_behind, contents, all, shown, insert_all, met_after, Fits, is_mark_of, has_mark, is_among, Reached, marked, inside, IsMeaning, content_of, IsWhole}
 use Rattle.std.specs.List.{IsDistinct}
 use Rattle.std.specs.FinSet.{insert, empty}

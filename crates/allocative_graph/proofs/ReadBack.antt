@@ -1,5 +1,5 @@
 -- A text of a graph that is read is the graph again.
-use Rattle.std.proofs.Common.{◌≡◌, ◌≢◌, ℕ, ◌+◌, ◌-◌, ◌^◌, ◌<◌, ◌≤◌, ◌==◌, Bool, true, false, cond, not, List, [], ◌∷◌, ◌++◌, map, flat_map, length, length-append, take, get_or, Some, None, refl, ap, sym, ◌∙◌, subst, true≢false, arith, unwrap_or, decimal, ne_eqb, if◌then◌else◌}
+use Rattle.std.proofs.Common.{◌≡◌, ◌≢◌, ℕ, ◌+◌, ◌-◌, ◌^◌, ◌<◌, ◌≤◌, ◌==◌, Bool, false, cond, not, List, [], ◌∷◌, ◌++◌, map, flat_map, length, length-append, take, get_or, Some, None, refl, ap, sym, ◌∙◌, subst, true≢false, arith, unwrap_or, decimal, ne_eqb, if◌then◌else◌}
 use Rattle.allocative_graph.proofs.Common.{AllByRecursion, list_any, slice_split, lines, lines_of_parts, get, entries, LEVELS, LineFault, Key, Path, is_same_path, Graph, text, joined, begins, size_at, Lacks, HasPlainKeys, HasWords, Stack, IsStack, IsCut, IsNumber, AreStacks, Means, IsFault, IsRead, number_of, bytes_at, is_path_of, all_bytes}
 use Rattle.std.specs.List.{All}
 use Rattle.std.specs.Str.Lines.{strip_carriage_return}

@@ -1,5 +1,5 @@
-use Rattle.std.proofs.Common.{◌≡◌, ℕ, ◌+◌, ◌++◌, [], ◌∷◌, List, Bor, map, take, arith, ap, subst, append_assoc, ◌∙◌, take_all}
-use Rattle.allocative_graph.proofs.Common.{Child, Path, Graph, total, total_at, Figures, figures_behind, rows_of}
+use Rattle.std.proofs.Common.{◌≡◌, ℕ, ◌++◌, [], ◌∷◌, List, Bor, map, take, arith, ap, subst, append_assoc, ◌∙◌, take_all}
+use Rattle.allocative_graph.proofs.Common.{Path, Graph, total, total_at, Figures, figures_behind, rows_of}
 use Rattle.std.proofs.lemmas.List.{map_push}
 use Rattle.std.proofs.lemmas.List.Elements.{same_from_all_zip}
 use Rattle.allocative_graph.specs.declared.flamegraph.reads.Row.{Row}
@@ -11,8 +11,7 @@ use Rattle.allocative_graph.proofs.flamegraph.FlameGraph.+push_rows.Goals as goa
 pub loop-child-preserved : goal.loop-child-preserved
 loop-child-preserved t c =
     let pushed : c.push-in-loop-child.new.self.items ≡ c.args.path.now.items ++ c.as_str.result ∷ [] = c.in_ok-push-2.ensures.items ∙ ap (λ s. s ++ c.as_str.result ∷ []) c.loop-child.invariant.0 in
-    let behind = ap texts pushed ∙ map_push (λ (k : Bor (List ℕ)). k.now) c.args.path.now.items c.as_str.result ∙ ap (λ k. texts c.args.path.now.items ++ k ∷ []) c.as_str.ensures in
-    (
+    let behind = ap texts pushed ∙ map_push (λ (k : Bor (List ℕ)). k.now) c.args.path.now.items c.as_str.result ∙ ap (λ k. texts c.args.path.now.items ++ k ∷ []) c.as_str.ensures in (
       popped _ _ _ c.as_str.result _ c.pop.ensures.rest c.push_rows.new.path.ok.0 (c.in_ok-push_rows.ensures.path ∙ pushed),
       rows_pushed (texts c.args.path.now.items) (map seen c.push.new.self.items) c.self.view_is c.self.invariant c.deref-child-items.ensures.value (omega arith) c.child-item.is c.loop-child.invariant.1 behind c.in_ok-push_rows.ensures.rows,
     )

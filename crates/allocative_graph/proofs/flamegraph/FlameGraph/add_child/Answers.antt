@@ -1,5 +1,5 @@
-use Rattle.std.proofs.Common.{true, subst, refl, arith, is_ok}
-use Rattle.allocative_graph.proofs.Common.{Child, under, Added, node}
+use Rattle.std.proofs.Common.{refl, arith}
+use Rattle.allocative_graph.proofs.Common.{Child}
 use Rattle.allocative_graph.proofs.ChildRows.{weight-one}
 use Rattle.allocative_graph.proofs.Graphs.{is_sum_of}
 use Rattle.allocative_graph.proofs.NodeAdded.{added_under, total_of_node}

@@ -1,5 +1,5 @@
-use Rattle.std.proofs.Common.{◌≡◌, [], List, ap, sym, subst, ◌∙◌}
-use Rattle.allocative_graph.proofs.Common.{Child, Graph, size_at, node, AreChildren}
+use Rattle.std.proofs.Common.{List, sym, subst, ◌∙◌}
+use Rattle.allocative_graph.proofs.Common.{Child, Graph, node, AreChildren}
 use Rattle.allocative_graph.specs.Reads.{AllSmaller}
 use Rattle.allocative_graph.proofs.NodeAdded.{own_of_node}
 use Rattle.allocative_graph.proofs.Behind.{smaller_child}

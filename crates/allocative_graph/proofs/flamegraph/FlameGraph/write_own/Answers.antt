@@ -1,5 +1,5 @@
 -- The root's line, and no line where its size is 0.
-use Rattle.std.proofs.Common.{◌≡◌, ◌++◌, [], ◌∷◌, List, ℕ, sym, ap, ◌∙◌, append-nil, string_bytes}
+use Rattle.std.proofs.Common.{◌++◌, [], List, ℕ, sym, ap, ◌∙◌, append-nil, string_bytes}
 use Rattle.allocative_graph.proofs.Common.{line_from}
 use Rattle.allocative_graph.proofs.NodeAdded.{entries_of_node}
 use Rattle.allocative_graph.proofs.NodeText.{own_written, line_of_some}

@@ -1,4 +1,4 @@
-use Rattle.std.proofs.Common.{◌≡◌, [], ◌∷◌, List, Bor, ℕ, sym, ap, ◌∙◌, arith}
+use Rattle.std.proofs.Common.{◌≡◌, [], List, Bor, ℕ, sym, ap, ◌∙◌, arith}
 use Rattle.allocative_graph.proofs.Common.{Path, default, sum_of, under, add_self, nested}
 use Rattle.std.proofs.lemmas.List.{map_push, nil_from_length}
 use Rattle.allocative_graph.proofs.NodeText.{texts}
