@@ -1,8 +1,6 @@
 -- The sizes below some children, added up.
 use Rattle.std.proofs.Common.{◌≡◌, ℕ, ◌+◌, ◌<◌, List, [], ◌∷◌, ◌++◌, length, take, get_or, refl, sym, ap, ◌∙◌, arith, add-zero, append-nil}
-use Rattle.allocative_graph.proofs.Common.{entries, Child, Key, Path, total, under_rows, rows_of, rows_of_child, sum_of_rows, weight}
-use Rattle.std.proofs.lemmas.List.{take_more}
-use Rattle.std.proofs.lemmas.Grind.{flat_map-append}
+use Rattle.allocative_graph.proofs.Common.{entries, Child, Key, Path, total, under_rows, rows_of, rows_of_child, sum_of_rows, weight, take_more, flat_map-append}
 use Rattle.allocative_graph.proofs.NodeSizes.{total-rows}
 
 sum-append : (a b : List (Path × ℕ)) → sum_of_rows (a ++ b) ≡ sum_of_rows a + sum_of_rows b

@@ -1,8 +1,7 @@
 -- A path with an entry one key below it has an entry itself, or is the root.
 use Rattle.std.proofs.Common.{◌≡◌, ℕ, ◌+◌, false, cond, IsTrue, ◌⊎◌, inl, inr, List, [], ◌∷◌, ◌++◌, flat_map, refl, sym, ◌∙◌, subst, true≢false}
-use Rattle.allocative_graph.proofs.Common.{AllByRecursion, eq_by_cmp, nat_cmp-IsAntisymmetric, slice_cmp-IsAntisymmetric, Key, Path, key_cmp, is_same_path, is_one_below, Identity, Forest, Empty, Inline, Unique, First, Again, AsInline, AsUnique, Entry, Bag, own, own_behind, contents, content_entries, all, is_entered_in}
+use Rattle.allocative_graph.proofs.Common.{AllByRecursion, eq_by_cmp, nat_cmp-IsAntisymmetric, slice_cmp-IsAntisymmetric, Key, Path, key_cmp, is_same_path, is_one_below, Identity, Forest, Empty, Inline, Unique, First, Again, AsInline, AsUnique, Entry, Bag, own, own_behind, contents, content_entries, all, is_entered_in, sum_by-cons}
 use Rattle.allocative_graph.specs.Forest.{Mark}
-use Rattle.std.proofs.lemmas.List.Sums.{sum_by-cons}
 use Rattle.allocative_graph.proofs.Basics.{each-append, each-implies, and_parts, any_left, any_right, or_left, or_right, false_from_ne_true, is_eq-Equal, same_path_itself}
 use Rattle.allocative_graph.proofs.Below.{below_in}
 

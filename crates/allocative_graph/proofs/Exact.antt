@@ -1,7 +1,6 @@
 -- Lines dropped from a text are paths left out of it.
 use Rattle.std.proofs.Common.{◌≡◌, ℕ, ◌==◌, Bool, true, false, cond, not, List, [], ◌∷◌, ◌++◌, map, flat_map, filter, refl, ap, sym, ◌∙◌, append_assoc, append-nil, decimal, ne_eqb, arith}
-use Rattle.allocative_graph.proofs.Common.{AllByRecursion, eq_by_cmp, entries, Key, Path, key_cmp, Graph, text, joined, Lacks, HasPlainKeys}
-use lib.Chars.{codes}
+use Rattle.allocative_graph.proofs.Common.{AllByRecursion, eq_by_cmp, entries, Key, Path, key_cmp, Graph, text, joined, Lacks, HasPlainKeys, codes}
 use Rattle.allocative_graph.specs.Graph.{line}
 use Rattle.allocative_graph.specs.Report.{ends_in, exact_text, lines_from, before_last, after_last, last_key, without_lines}
 use Rattle.allocative_graph.proofs.Basics.{each-map, on_test}

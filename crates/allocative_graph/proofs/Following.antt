@@ -1,10 +1,7 @@
 -- One forest followed by another: their entries, their contents, and what they fit.
 use Rattle.std.proofs.Common.{◌≡◌, ◌↔◌, Bool, false, ◌||◌, IsTrue, List, [], ◌∷◌, ◌++◌, map, flat_map, refl, ap, sym, ◌∙◌, subst, append_assoc, IsPermutation}
-use Rattle.allocative_graph.proofs.Common.{contains, contains-insert, Path, Identities, Identity, is_same_identity, Forest, Empty, Inline, Unique, First, Again, AsInline, AsUnique, AsShared, Bag, own_behind, contents, content_entries, shown, followed_by, insert_all, met_after, Fits, is_among, added}
+use Rattle.allocative_graph.proofs.Common.{contains, contains-insert, Path, Identities, Identity, is_same_identity, Forest, Empty, Inline, Unique, First, Again, AsInline, AsUnique, AsShared, Bag, own_behind, contents, content_entries, shown, followed_by, insert_all, met_after, Fits, is_among, added, map-append, flat_map-append, IsPermutation-append_left, IsPermutation-append_right, IsPermutation-append_comm}
 use Rattle.std.specs.FinSet.{insert}
-use Rattle.std.proofs.lemmas.List.{map-append}
-use Rattle.std.proofs.lemmas.Grind.{flat_map-append}
-use Rattle.std.proofs.lemmas.List.Sorted.{IsPermutation-append_left, IsPermutation-append_right, IsPermutation-append_comm}
 use Rattle.allocative_graph.proofs.Basics.{or_assoc, or_left, or_right, identity_total, same_identity_itself}
 use Rattle.allocative_graph.proofs.Reach.{Contents, ids, insert_all-append, met-append, among-append}
 

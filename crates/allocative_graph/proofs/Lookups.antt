@@ -1,9 +1,7 @@
 -- What a bag adds to the sums, path by path, whatever its order.
 use Rattle.std.proofs.Common.{◌≡◌, ℕ, ◌+◌, Bool, false, cond, ◌||◌, [], ◌∷◌, ◌++◌, Option, Some, None, refl, ap, sym, ◌∙◌, IsPermutation, add-zero, zero-add, add_assoc}
-use Rattle.allocative_graph.proofs.Common.{get, get-insert, same_map, Path, path_cmp, is_same_path, Entry, Bag, Node, Sums, bytes_in, is_unique_in, is_entered_in, together, node_of, add, add_all, sums_of}
+use Rattle.allocative_graph.proofs.Common.{get, get-insert, same_map, Path, path_cmp, is_same_path, Entry, Bag, Node, Sums, bytes_in, is_unique_in, is_entered_in, together, node_of, add, add_all, sums_of, sum_by-cons, sum_by-IsPermutation, list_any-IsPermutation}
 use Rattle.std.specs.FinMap.{empty, get-empty}
-use Rattle.std.proofs.lemmas.List.Sums.{sum_by-cons}
-use Rattle.std.proofs.lemmas.List.Sorted.{sum_by-IsPermutation, list_any-IsPermutation}
 use Rattle.allocative_graph.specs.Sums.{is_unique_mark}
 use Rattle.allocative_graph.proofs.Basics.{path_total, path_antisymmetric, same_path, on_test, or_assoc, or-false, or_parts}
 

@@ -1,9 +1,8 @@
 -- Where no identity is reached by both and the sums can be added, the graphs add up.
 use Rattle.std.proofs.Common.{◌≡◌, ℕ, ◌+◌, ◌-◌, ◌≤◌, Bool, true, false, cond, ◌||◌, IsTrue, ◌⊎◌, inl, inr, List, [], ◌∷◌, ◌++◌, map, Option, Some, None, is_some, refl, ap, sym, ◌∙◌, true≢false, arith, unwrap_or}
-use Rattle.allocative_graph.proofs.Common.{option_map, list_any, get, entries, keys, get-entries, get-from_entries, same_map, find, Key, Path, path_cmp, is_same_path, Identity, Forest, all, shown, followed_by, met_after, is_among, IsWhole, Node, Sums, is_entered_in, add_all, sums_of, below, Graph, graph, sizes, remaining, size_at, sum_of, CanBeAdded}
+use Rattle.allocative_graph.proofs.Common.{option_map, list_any, get, entries, keys, get-entries, get-from_entries, same_map, find, Key, Path, path_cmp, is_same_path, Identity, Forest, all, shown, followed_by, met_after, is_among, IsWhole, Node, Sums, is_entered_in, add_all, sums_of, below, Graph, graph, sizes, remaining, size_at, sum_of, CanBeAdded, list_any-append}
 use Rattle.std.specs.FinMap.{empty, contains_key-keys}
 use Rattle.std.specs.FinSet as set
-use Rattle.std.proofs.lemmas.List.Folds.{list_any-append}
 use Rattle.allocative_graph.specs.Meaning.{ReachApart}
 use Rattle.allocative_graph.proofs.Basics.{path_total, path_antisymmetric, same_path, on_test, false_from_ne_true}
 use Rattle.allocative_graph.proofs.Reach.{reaches_exactly, contains-insert_all}

@@ -1,8 +1,7 @@
 -- A bag of entries and its contents have one meaning, up to order.
 use Rattle.std.proofs.Common.{◌≡◌, List, [], ◌∷◌, ◌++◌, flat_map, ◌∙◌, IsPermutation}
-use Rattle.allocative_graph.proofs.Common.{Identity, is_same_identity, Bag, IsMeaning, sums_of}
+use Rattle.allocative_graph.proofs.Common.{Identity, is_same_identity, Bag, IsMeaning, sums_of, IsPermutation-refl, IsPermutation-sym, IsPermutation-trans, IsPermutation-append_right}
 use Rattle.std.specs.List.{IsDistinct}
-use Rattle.std.proofs.lemmas.List.Sorted.{IsPermutation-refl, IsPermutation-sym, IsPermutation-trans, IsPermutation-append_right}
 use Rattle.allocative_graph.proofs.Basics.{both_ways, same_identity_turned, each-implies}
 use Rattle.allocative_graph.proofs.Order.{NoRepeat, absent, same_flat}
 use Rattle.allocative_graph.proofs.Lookups.{add_all-permutation}

@@ -1,8 +1,8 @@
 -- Two whole showings that agree reach the same identities and have equal sums.
 use Rattle.std.proofs.Common.{◌≡◌, false, cond, ◌||◌, IsTrue, List, [], ◌∷◌, ◌++◌, flat_map, refl, ap, sym, ◌∙◌, subst, true≢false, IsPermutation, append_assoc}
-use Rattle.allocative_graph.proofs.Common.{⊤, AllByRecursion, Identities, Identity, is_same_identity, Forest, Bag, own, contents, content_entries, all, shown, is_mark_of, has_mark, is_among, Reached, marked, inside, content_of, IsWhole, sums_of}
+use Rattle.allocative_graph.proofs.Common.{⊤, AllByRecursion, Identities, Identity, is_same_identity, Forest, Bag, own, contents, content_entries, all, shown, is_mark_of, has_mark, is_among, Reached, marked, inside, content_of, IsWhole, sums_of, IsPermutation-refl, IsPermutation-sym, IsPermutation-trans, IsPermutation-append_left, IsPermutation-append_right, IsPermutation-append_comm, list_any-IsPermutation}
 use Rattle.std.specs.FinSet.{insert, empty}
-use Rattle.std.proofs.lemmas.List.Sorted.{IsPermutation-refl, IsPermutation-sym, IsPermutation-trans, IsPermutation-append, IsPermutation-append_left, IsPermutation-append_right, IsPermutation-append_comm, list_any-IsPermutation}
+use Rattle.std.proofs.lemmas.List.Sorted.{IsPermutation-append}
 use Rattle.allocative_graph.specs.Meaning.{Agree}
 use Rattle.allocative_graph.proofs.Basics.{or_both, on_test, or_left, or_right, false_from_ne_true, both_ways, same_identity, same_identity_itself, same_identity_turned}
 use Rattle.allocative_graph.proofs.Reach.{Fresh, apart_from, fits_fresh, own_content, flat_of_each, reaches_exactly}

@@ -1,11 +1,8 @@
 -- The identities that a whole showing shows are exactly those reached.
 use Rattle.std.proofs.Common.{◌≡◌, Bool, true, false, cond, ◌||◌, IsTrue, List, [], ◌∷◌, ◌++◌, map, flat_map, refl, ap, sym, ◌∙◌, subst, true≢false, IsPermutation}
-use Rattle.allocative_graph.proofs.Common.{⊤, AllByRecursion, contains, contains-insert, contains-empty, Path, Identities, Identity, identity_cmp, is_same_identity, Forest, Empty, Inline, Unique, First, Again, Bag, Entry, own, own_behind, contents, all, shown, insert_all, met_after, Fits, is_mark_of, has_mark, is_among, Reached, marked, inside, IsMeaning, content_of, IsWhole}
+use Rattle.allocative_graph.proofs.Common.{⊤, AllByRecursion, contains, contains-insert, contains-empty, Path, Identities, Identity, identity_cmp, is_same_identity, Forest, Empty, Inline, Unique, First, Again, Bag, Entry, own, own_behind, contents, all, shown, insert_all, met_after, Fits, is_mark_of, has_mark, is_among, Reached, marked, inside, IsMeaning, content_of, IsWhole, list_any-append, map-append, IsPermutation-refl}
 use Rattle.std.specs.List.{IsDistinct}
 use Rattle.std.specs.FinSet.{insert, empty}
-use Rattle.std.proofs.lemmas.List.Folds.{list_any-append}
-use Rattle.std.proofs.lemmas.List.{map-append}
-use Rattle.std.proofs.lemmas.List.Sorted.{IsPermutation-refl}
 use Rattle.allocative_graph.specs.Meaning.{content_in, ReachesExactly}
 use Rattle.allocative_graph.proofs.Basics.{any_both, any_left, any_right, or_both, or_left, or_right, or_assoc, or_comm, or_parts, or-false, each-append, each-left, each-right, each-implies, each-map, identity_total, same_identity, same_identity_itself, same_identity_turned}
 

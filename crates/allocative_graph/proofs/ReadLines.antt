@@ -1,7 +1,6 @@
 -- The lines of a text that is read, one after another.
 use Rattle.std.proofs.Common.{◌≡◌, ℕ, suc, ◌+◌, ◌<◌, ◌≤◌, ◌==◌, Bool, true, false, cond, List, Bor, [], ◌∷◌, ◌++◌, map, take, drop, length, get_or, refl, sym, ap, subst, ◌∙◌, drop-cons, eqb-true, arith, take-append-drop}
-use Rattle.allocative_graph.proofs.Common.{slice_split, lines, lines_of_parts, Line, LineFault, NoSpace, Stack, IsStack, IsWrong, AreStacks, Means, IsFault}
-use Rattle.std.proofs.lemmas.List.{map-append, length-map}
+use Rattle.allocative_graph.proofs.Common.{slice_split, lines, lines_of_parts, Line, LineFault, NoSpace, Stack, IsStack, IsWrong, AreStacks, Means, IsFault, map-append, length-map}
 use Rattle.std.proofs.lemmas.List.Splits.{length-slice_split}
 use Rattle.std.proofs.lemmas.List.Sums.{count_by-le-length}
 use Rattle.allocative_graph.specs.Read.{seen}

@@ -1,7 +1,6 @@
 -- The rows of a node: its own, and then those of its children, one child after another.
 use Rattle.std.proofs.Common.{◌≡◌, ℕ, ◌+◌, ◌<◌, List, [], ◌∷◌, ◌++◌, map, take, length, get_or, refl, sym, ap, subst, ◌∙◌, append_assoc, append-nil}
-use Rattle.allocative_graph.proofs.Common.{entries, Child, Graph, IsNode, Key, Path, total, total_at, entries-node, InOrder, Figures, figures_behind, under_rows, node, rows_of, rows_of_child}
-use Rattle.std.proofs.lemmas.List.{map-append}
+use Rattle.allocative_graph.proofs.Common.{entries, Child, Graph, IsNode, Key, Path, total, total_at, entries-node, InOrder, Figures, figures_behind, under_rows, node, rows_of, rows_of_child, map-append}
 use Rattle.allocative_graph.proofs.ChildRows.{rows-more}
 use Rattle.allocative_graph.proofs.Behind.{total_at-child}
 

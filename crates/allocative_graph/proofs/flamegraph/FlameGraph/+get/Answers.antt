@@ -1,6 +1,5 @@
 use Rattle.std.proofs.Common.{sym, ap, subst}
-use Rattle.allocative_graph.proofs.Common.{IsBehind}
-use Rattle.std.proofs.lemmas.List.{nil_from_length}
+use Rattle.allocative_graph.proofs.Common.{IsBehind, nil_from_length}
 use Rattle.std.proofs.lemmas.Option.{IfSome_then}
 use Rattle.allocative_graph.proofs.NodeAdded.{tree_of_node}
 use Rattle.allocative_graph.proofs.NodeText.{texts}

@@ -1,6 +1,5 @@
 use Rattle.std.proofs.Common.{◌≡◌, ℕ, ◌++◌, [], ◌∷◌, List, Bor, map, take, arith, ap, subst, append_assoc, ◌∙◌, take_all}
-use Rattle.allocative_graph.proofs.Common.{Path, Graph, total, total_at, Figures, figures_behind, rows_of}
-use Rattle.std.proofs.lemmas.List.{map_push}
+use Rattle.allocative_graph.proofs.Common.{Path, Graph, total, total_at, Figures, figures_behind, rows_of, map_push}
 use Rattle.std.proofs.lemmas.List.Elements.{same_from_all_zip}
 use Rattle.allocative_graph.specs.declared.flamegraph.reads.Row.{Row}
 use Rattle.allocative_graph.specs.Reads.{seen}

@@ -1,8 +1,6 @@
 -- Without children the only entry is the root's.
-use Rattle.std.proofs.Common.{◌≡◌, ℕ, ◌==◌, not, Bool, true, false, List, [], ◌∷◌, length, sym, ap, ◌∙◌}
-use Rattle.allocative_graph.proofs.Common.{OnFalse, entries, Child, Graph, rows_of, HasRootAlone}
-use borrow.Author.Tests.{eqb-true}
-use Rattle.std.proofs.lemmas.List.{nil_from_length}
+use Rattle.std.proofs.Common.{◌≡◌, ℕ, ◌==◌, not, Bool, true, false, List, [], ◌∷◌, length, sym, ap, ◌∙◌, eqb-true}
+use Rattle.allocative_graph.proofs.Common.{OnFalse, entries, Child, Graph, rows_of, HasRootAlone, nil_from_length}
 use Rattle.allocative_graph.proofs.NodeAdded.{entries_of_node}
 use Rattle.allocative_graph.proofs.flamegraph.FlameGraph.has_children.Goals as goal
 

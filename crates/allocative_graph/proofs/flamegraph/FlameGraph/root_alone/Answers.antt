@@ -1,9 +1,7 @@
 -- The copy has no children, as the graph has none.
-use Rattle.std.proofs.Common.{◌≡◌, List, [], sym, subst, ◌∙◌}
-use Rattle.allocative_graph.proofs.Common.{Child}
-use borrow.Author.Tests.{eqb-true}
+use Rattle.std.proofs.Common.{◌≡◌, List, [], sym, subst, ◌∙◌, eqb-true}
+use Rattle.allocative_graph.proofs.Common.{Child, nil_from_length}
 use Rattle.allocative_graph.specs.Representation.Node.{IsNode}
-use Rattle.std.proofs.lemmas.List.{nil_from_length}
 use Rattle.allocative_graph.proofs.flamegraph.FlameGraph.root_alone.Goals as goal
 
 pub invariant_of-result : goal.invariant_of-result

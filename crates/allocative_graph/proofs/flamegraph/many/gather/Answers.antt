@@ -1,6 +1,5 @@
 use Rattle.std.proofs.Common.{◌≡◌, [], List, ap, sym, arith, ◌∙◌}
-use Rattle.allocative_graph.proofs.Common.{Child, default, sum_of_all}
-use Rattle.std.proofs.lemmas.List.{nil_from_length}
+use Rattle.allocative_graph.proofs.Common.{Child, default, sum_of_all, nil_from_length}
 use Rattle.allocative_graph.proofs.Gathered.{all_permuted}
 use Rattle.allocative_graph.proofs.flamegraph.many.gather.Goals as goal
 

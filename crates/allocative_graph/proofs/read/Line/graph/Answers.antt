@@ -1,6 +1,5 @@
 use Rattle.std.proofs.Common.{◌≡◌, [], List, Bor, ℕ, sym, ap, ◌∙◌, arith}
-use Rattle.allocative_graph.proofs.Common.{Path, default, sum_of, under, add_self, nested}
-use Rattle.std.proofs.lemmas.List.{map_push, nil_from_length}
+use Rattle.allocative_graph.proofs.Common.{Path, default, sum_of, under, add_self, nested, map_push, nil_from_length}
 use Rattle.allocative_graph.proofs.NodeText.{texts}
 use Rattle.allocative_graph.proofs.StackSums.{nested-push}
 use Rattle.allocative_graph.proofs.read.Line.graph.Goals as goal
