@@ -1,12 +1,12 @@
 -- What a graph has at a path and below it, by the children of its root.
 use Rattle.std.proofs.Common.{sum_by, ◌&&◌, ◌≡◌, ℕ, zero, suc, ◌+◌, ◌<◌, true, false, cond, List, [], ◌∷◌, ◌++◌, Option, Some, None, IfNone, length, get_or, take, drop, refl, sym, ap, subst, subst₂, ◌∙◌, arith, add-zero, zero-add, take-append-drop}
-use Rattle.allocative_graph.proofs.Common.{is_some, unwrap_or, eq_by_cmp, is_eq, ordering_reverse, Less, nat_list_cmp_total, get, entries, len, len-entries, len-child, Child, Key, Path, key_cmp, Graph, IsTree, IsBehind, HasNothing, begins, total_at, node, IsNode, rows_of, rows_of_child, entries-node, size_under, InOrder, IsFound, IsChildGap, AllAbove, All-from_recursion, fold-map, sum_by-cons}
+use Rattle.allocative_graph.proofs.Common.{AllByRecursion, is_some, unwrap_or, eq_by_cmp, is_eq, ordering_reverse, Less, nat_list_cmp_total, get, entries, len, len-entries, len-child, Child, Key, Path, key_cmp, Graph, IsTree, IsBehind, HasNothing, begins, total_at, node, IsNode, rows_of, rows_of_child, entries-node, size_under, InOrder, IsFound, IsChildGap, AllAbove, All-from_recursion, fold-map, map-append, sum_by-cons}
 use Rattle.std.proofs.lemmas.List.Folds.{fold_stays, length-flat_map-take}
 use Rattle.std.proofs.lemmas.List.Sums.{sum_by-append}
 use Rattle.std.specs.List.Sorted.{IsStrictlySortedBy}
 use Rattle.std.specs.Cmp.{tied_itself}
 use Rattle.allocative_graph.specs.Reads.{keys_of}
-use Rattle.allocative_graph.proofs.Basics.{each-implies, each-map}
+use Rattle.allocative_graph.proofs.Basics.{each-append, each-implies, each-map}
 use Rattle.allocative_graph.proofs.ChildSizes.{Lacks, lacks-above, size_under-lacks}
 use Rattle.allocative_graph.proofs.ChildLookup.{get-under}
 
@@ -14,16 +14,11 @@ use Rattle.allocative_graph.proofs.ChildLookup.{get-under}
 other_than : (l k : Key) → key_cmp l k ≡ Less → eq_by_cmp key_cmp k l ≡ false
 other_than l k h = ap is_eq (nat_list_cmp_total.antisymm k l ∙ ap ordering_reverse h)
 
--- A key that is in neither of two lists is not in both joined.
-lacks-append : (k : Key) (a b : List Child) → Lacks k a → Lacks k b → Lacks k (a ++ b)
-lacks-append k [] b h g = g
-lacks-append k (c ∷ a) b h g = (h.0, lacks-append k a b h.1 g)
-
 -- A key that was not found is none of theirs.
 gap-lacks : (cs : List Child) (i : ℕ) (k : Key) → IsChildGap cs k i → Lacks k cs
 gap-lacks cs i k g =
-    subst (Lacks k) (take-append-drop i cs)
-    (lacks-append k (take i cs) (drop i cs) (each-implies _ _ (λ l. other_than l k) (keys_of (take i cs)) g.below) (lacks-above k (drop i cs) g.above))
+    subst (AllByRecursion (λ l. eq_by_cmp key_cmp k l ≡ false)) (sym (map-append (λ (c : Child). c.key) (take i cs) (drop i cs)) ∙ ap keys_of (take-append-drop i cs))
+    (each-append _ (keys_of (take i cs)) (keys_of (drop i cs)) (each-implies _ _ (λ l. other_than l k) (keys_of (take i cs)) g.below) (lacks-above k (drop i cs) g.above))
 
 -- ---- what is read under a key: F passes over children with other keys, and reads the child with the key
 module _ {A : Type 0} (F : List Child → A) (one : Child → A) (k : Key) (past : (c : Child) (cs : List Child) → eq_by_cmp key_cmp k c.key ≡ false → F (c ∷ cs) ≡ F cs) where

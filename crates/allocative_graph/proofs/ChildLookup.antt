@@ -1,5 +1,5 @@
 -- The sizes in the graph of a node are its own and those under the keys of its children.
-use Rattle.std.proofs.Common.{◌≡◌, ℕ, ◌+◌, Bool, true, false, cond, List, [], ◌∷◌, ◌++◌, Option, Some, None, refl, sym, ap, ◌∙◌, append-nil}
+use Rattle.std.proofs.Common.{◌≡◌, ℕ, ◌+◌, ◌&&◌, Bool, true, false, cond, List, [], ◌∷◌, ◌++◌, Option, Some, None, refl, sym, ap, ◌∙◌, append-nil}
 use Rattle.allocative_graph.proofs.Common.{Less, Equal, Greater, eq_by_cmp, is_eq, ordering_then, get, entries, from_entries, same_entries_map, get-from_sorted, get-entries, find, Child, under, IsPartOfSum, under_rows, node, rows_of, IsSumByPath, Key, Path, key_cmp, path_cmp, node_sorted, entries-node, size_under, InOrder}
 use Rattle.std.specs.declared.cmp.Ordering.{Ordering}
 use Rattle.std.specs.List.Sorted.{IsStrictlySortedBy}
@@ -17,35 +17,26 @@ or_else-none : (o : Option ℕ) → or_else o None ≡ o
 or_else-none (Some n) = refl
 or_else-none None = refl
 
-not_tied : (o r : Ordering) → is_eq o ≡ false → is_eq (ordering_then o r) ≡ false
-not_tied Less r e = refl
-not_tied Equal r e = absurd (cc)
-not_tied Greater r e = refl
-
-tied : (o r : Ordering) → is_eq o ≡ true → is_eq (ordering_then o r) ≡ is_eq r
-tied Less r e = absurd (cc)
-tied Equal r e = refl
-tied Greater r e = absurd (cc)
+tie : (o r : Ordering) → is_eq (ordering_then o r) ≡ (is_eq o && is_eq r)
+tie Less r = refl
+tie Equal r = refl
+tie Greater r = refl
 
 -- Under another key nothing is found.
 find-other : (k l : Key) (p : Path) (rs rest : List (Path × ℕ)) → eq_by_cmp key_cmp k l ≡ false
     → find path_cmp (k ∷ p) (under_rows l rs ++ rest) ≡ find path_cmp (k ∷ p) rest
 find-other k l p [] rest e = refl
 find-other k l p (r ∷ rs) rest e =
-    ap (λ b. cond b (Some r.1) (find path_cmp (k ∷ p) (under_rows l rs ++ rest))) (not_tied (key_cmp k l) (path_cmp p r.0) e) ∙ find-other k l p rs rest e
+    ap (λ b. cond b (Some r.1) (find path_cmp (k ∷ p) (under_rows l rs ++ rest))) (tie (key_cmp k l) (path_cmp p r.0) ∙ ap (λ b. b && is_eq (path_cmp p r.0)) e) ∙ find-other k l p rs rest e
 
 -- Under the key that is looked up, the search is that of the rest of the path.
 find-same : (k l : Key) (p : Path) (rs rest : List (Path × ℕ)) → eq_by_cmp key_cmp k l ≡ true
     → find path_cmp (k ∷ p) (under_rows l rs ++ rest) ≡ or_else (find path_cmp p rs) (find path_cmp (k ∷ p) rest)
 find-same k l p [] rest e = refl
 find-same k l p (r ∷ rs) rest e =
-    ap (λ b. cond b (Some r.1) (find path_cmp (k ∷ p) (under_rows l rs ++ rest))) (tied (key_cmp k l) (path_cmp p r.0) e)
+    ap (λ b. cond b (Some r.1) (find path_cmp (k ∷ p) (under_rows l rs ++ rest))) (tie (key_cmp k l) (path_cmp p r.0) ∙ ap (λ b. b && is_eq (path_cmp p r.0)) e)
     ∙ ap (λ o. cond (eq_by_cmp path_cmp p r.0) (Some r.1) o) (find-same k l p rs rest e)
-    ∙ past (eq_by_cmp path_cmp p r.0) (find path_cmp p rs) (find path_cmp (k ∷ p) rest) r.1
-  where
-    past : (b : Bool) (x y : Option ℕ) (n : ℕ) → cond b (Some n) (or_else x y) ≡ or_else (cond b (Some n) x) y
-    past true x y n = refl
-    past false x y n = refl
+    ∙ on_test (λ b. cond b (Some r.1) (or_else (find path_cmp p rs) (find path_cmp (k ∷ p) rest)) ≡ or_else (cond b (Some r.1) (find path_cmp p rs)) (find path_cmp (k ∷ p) rest)) (eq_by_cmp path_cmp p r.0) (λ t. refl) (λ t. refl)
 
 pub find-rows : (cs : List Child) (k : Key) (p : Path) → InOrder cs → find path_cmp (k ∷ p) (rows_of cs) ≡ size_under cs k p
 unfolding IsStrictlySortedBy

@@ -1,10 +1,10 @@
--- A text of a graph that is read is the graph again.
+-- A text determines the sizes, and a text of a graph that is read is the graph again.
 use Rattle.std.proofs.Common.{◌≡◌, ◌≢◌, ℕ, ◌+◌, ◌-◌, ◌^◌, ◌<◌, ◌≤◌, ◌==◌, Bool, false, cond, not, List, [], ◌∷◌, ◌++◌, map, flat_map, length, length-append, take, get_or, Some, None, refl, ap, sym, ◌∙◌, subst, true≢false, arith, unwrap_or, decimal, ne_eqb, if◌then◌else◌}
 use Rattle.allocative_graph.proofs.Common.{AllByRecursion, list_any, slice_split, lines, lines_of_parts, get, entries, LEVELS, LineFault, Key, Path, is_same_path, Graph, text, joined, begins, size_at, Lacks, HasPlainKeys, HasWords, Stack, IsStack, IsCut, IsNumber, AreStacks, Means, IsFault, IsRead, number_of, bytes_at, is_path_of, all_bytes, All-from_recursion, fold-map, sum_by-cons}
 use Rattle.std.specs.List.{All}
 use Rattle.std.specs.Str.Lines.{strip_carriage_return}
 use Rattle.std.specs.Str.Parse.{IsNumeral, digits_value}
-use Rattle.std.proofs.lemmas.Fmt.{decimal_is_IsNumeral, decimal_nonempty}
+use Rattle.std.proofs.lemmas.Fmt.{decimal_injective, decimal_is_IsNumeral, decimal_nonempty}
 use Rattle.std.proofs.lemmas.Str.Parse.{without_leading_plus_none}
 use Rattle.std.proofs.lemmas.List.{get_or-append_right}
 use Rattle.std.proofs.lemmas.List.Elements.{All-weaker}
@@ -12,7 +12,7 @@ use Rattle.std.proofs.lemmas.List.Filters.{sum_by-filter_both}
 use Rattle.std.proofs.lemmas.List.Splits.{slice_split_none, slice_split_at, length-slice_split}
 use Rattle.allocative_graph.specs.Read.{Exceeds, CanBeRead, keys_of}
 use Rattle.allocative_graph.proofs.Basics.{each-implies, false_from_ne_true, on_test, or_parts}
-use Rattle.allocative_graph.proofs.Text.{Plain, Sized, Good, is_shown, full, body, shown, shown_good, size_shown, shown_lines, full_body, body_lacks, decimal_lacks}
+use Rattle.allocative_graph.proofs.Text.{Plain, Sized, Good, is_shown, full, body, shown, shown_good, size_shown, shown_lines, full_body, body_lacks, decimal_lacks, bytes_in, last_split}
 use Rattle.allocative_graph.proofs.ReadLines.{stacks-cons, stacks-first}
 use Rattle.allocative_graph.proofs.Stacks.{cut_once}
 use Rattle.allocative_graph.proofs.StackSums.{same_begins}
@@ -85,6 +85,25 @@ entries_read (e ∷ es) good ss h =
 
 lines-text : (g : Graph) → HasPlainKeys g → HasWords g → lines (text g) ≡ map body (shown g)
 lines-text g plain fits = ap lines (shown_lines (entries g)) ∙ lines-full (shown g) (each-implies Good _ (λ e good. good.plain) (shown g) (shown_good g plain fits))
+
+-- Graphs with one text have the same entries with a line.
+same_entry : (e f : Sized) → Good e → Good f → body e ≡ body f → e ≡ f
+same_entry ([], n) f a b h = absurd (true≢false (sym a.seen))
+same_entry (k ∷ p, n) ([], m) a b h = absurd (true≢false (sym b.seen))
+same_entry (k ∷ p, n) (l ∷ q, m) a b h =
+    let parts = last_split 32 (joined (k ∷ p)) (joined (l ∷ q)) (decimal n) (decimal m) (decimal_lacks 32 n (omega arith)) (decimal_lacks 32 m (omega arith)) h in
+    λ i. ((sym (keys-joined k p a.plain) ∙ ap keys_of parts.0 ∙ keys-joined l q b.plain) i, decimal_injective n m a.word b.word parts.1 i)
+
+same_entries : (es fs : List Sized) → AllByRecursion Good es → AllByRecursion Good fs → map body es ≡ map body fs → es ≡ fs
+same_entries [] [] a b h = refl
+same_entries [] (f ∷ fs) a b h = cc
+same_entries (e ∷ es) [] a b h = cc
+same_entries (e ∷ es) (f ∷ fs) a b h = λ i. same_entry e f a.0 b.0 (cc) i ∷ same_entries es fs a.1 b.1 (cc) i
+
+pub text_tells : (g h : Graph) → HasPlainKeys g → HasPlainKeys h → HasWords g → HasWords h → text g ≡ text h → (k : Key) (p : Path) → size_at g (k ∷ p) ≡ size_at h (k ∷ p)
+text_tells g h a b v w e k p =
+    let same = same_entries (shown g) (shown h) (shown_good g a v) (shown_good h b w) (sym (lines-text g a v) ∙ ap lines e ∙ lines-text h b w) in
+    size_shown g k p ∙ ap (λ es. bytes_in es (k ∷ p)) same ∙ sym (size_shown h k p)
 
 -- The stacks of the text of a graph are its entries that have a line.
 stacks_of_text : (g : Graph) → HasPlainKeys g → HasWords g → (ss : List Stack) → Means (text g) ss → ss ≡ map said (shown g)

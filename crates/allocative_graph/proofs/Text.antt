@@ -9,12 +9,6 @@ use Rattle.allocative_graph.proofs.Basics.{each-append, each-implies, on_test, s
 use Rattle.allocative_graph.proofs.Below.{is_lt-Less}
 
 -- ---- lists parted at a byte
-pub first_split : (c : ℕ) (a b x y : List ℕ) → Lacks c a → Lacks c b → a ++ c ∷ x ≡ b ++ c ∷ y → (a ≡ b) × (x ≡ y)
-first_split c [] [] x y f g e = (refl, cc)
-first_split c [] (d ∷ b) x y f g e = absurd (g.0 (cc))
-first_split c (d ∷ a) [] x y f g e = absurd (f.0 (cc))
-first_split c (d ∷ a) (e ∷ b) x y f g h = let rest = first_split c a b x y f.1 g.1 (cc) in (cc (rest.0), rest.1)
-
 pub lacks_not : (c : ℕ) (a x : List ℕ) → Lacks c (a ++ c ∷ x) → ⊥
 lacks_not c [] x f = f.0 refl
 lacks_not c (d ∷ a) x f = lacks_not c a x f.1
@@ -51,14 +45,6 @@ joined_lacks [] h = tt
 joined_lacks (k ∷ []) h = h.0.1
 joined_lacks (k ∷ l ∷ p) h = each-append (λ b. b ≢ 10) k _ h.0.1 ((λ e. omega (arith, e)), joined_lacks (l ∷ p) h.1)
 
-joined_same : (k l : Key) (p q : Path) → AllByRecursion Plain (k ∷ p) → AllByRecursion Plain (l ∷ q) → joined (k ∷ p) ≡ joined (l ∷ q) → k ∷ p ≡ l ∷ q
-joined_same k l [] [] f g e = λ i. e i ∷ []
-joined_same k l [] (n ∷ q) f g e = absurd (lacks_not 59 l (joined (n ∷ q)) (subst (Lacks 59) e f.0.0))
-joined_same k l (m ∷ p) [] f g e = absurd (lacks_not 59 k (joined (m ∷ p)) (subst (Lacks 59) (sym e) g.0.0))
-joined_same k l (m ∷ p) (n ∷ q) f g e =
-    let parts = first_split 59 k l (joined (m ∷ p)) (joined (n ∷ q)) f.0.0 g.0.0 e in
-    λ i. parts.0 i ∷ joined_same m n p q f.1 g.1 parts.1 i
-
 -- ---- lines
 abbrev pub Sized : Type 0
 Sized = Path × ℕ
@@ -87,25 +73,6 @@ pub record Good (e : Sized) : Type 0 where
 
 pub body_lacks : (e : Sized) → AllByRecursion Plain e.0 → Lacks 10 (body e)
 body_lacks e h = each-append (λ b. b ≢ 10) (joined e.0) _ (joined_lacks e.0 h) ((λ g. omega (arith, g)), decimal_lacks 10 e.1 (omega arith))
-
-same_entry : (e f : Sized) → Good e → Good f → body e ≡ body f → e ≡ f
-same_entry ([], n) f a b h = absurd (true≢false (sym a.seen))
-same_entry (k ∷ p, n) ([], m) a b h = absurd (true≢false (sym b.seen))
-same_entry (k ∷ p, n) (l ∷ q, m) a b h =
-    let parts = last_split 32 (joined (k ∷ p)) (joined (l ∷ q)) (decimal n) (decimal m) (decimal_lacks 32 n (omega arith)) (decimal_lacks 32 m (omega arith)) h in
-    λ i. (joined_same k l p q a.plain b.plain parts.0 i, decimal_injective n m a.word b.word parts.1 i)
-
-not_empty : (a : List ℕ) (c : ℕ) (x : List ℕ) → a ++ c ∷ x ≡ [] → ⊥
-not_empty [] c x e = cc
-not_empty (d ∷ a) c x e = cc
-
-same_entries : (es fs : List Sized) → AllByRecursion Good es → AllByRecursion Good fs → flat_map full es ≡ flat_map full fs → es ≡ fs
-same_entries [] [] a b h = refl
-same_entries [] (f ∷ fs) a b h = absurd (not_empty (body f) 10 (flat_map full fs) (sym (h ∙ full_body f (flat_map full fs))))
-same_entries (e ∷ es) [] a b h = absurd (not_empty (body e) 10 (flat_map full es) (sym (full_body e (flat_map full es)) ∙ h))
-same_entries (e ∷ es) (f ∷ fs) a b h =
-    let parts = first_split 10 (body e) (body f) (flat_map full es) (flat_map full fs) (body_lacks e a.0.plain) (body_lacks f b.0.plain) (sym (full_body e (flat_map full es)) ∙ h ∙ full_body f (flat_map full fs)) in
-    λ i. same_entry e f a.0 b.0 parts.0 i ∷ same_entries es fs a.1 b.1 parts.1 i
 
 -- ---- the entries that have a line
 abbrev pub shown : Graph → List Sized
@@ -165,8 +132,3 @@ pub size_shown : (g : Graph) (k : Key) (p : Path) → size_at g (k ∷ p) ≡ by
 size_shown g k p =
     ap (λ o. unwrap_or o 0) (get-entries g (k ∷ p)) ∙ sym (bytes-find (k ∷ p) (entries g) (entries_sorted g))
     ∙ sym (sum-filter is_shown (λ e. cond (is_same_path (k ∷ p) e.0) e.1 0) (λ e h. unseen e k p h) (entries g))
-
-pub text_tells : (g h : Graph) → HasPlainKeys g → HasPlainKeys h → HasWords g → HasWords h → text g ≡ text h → (k : Key) (p : Path) → size_at g (k ∷ p) ≡ size_at h (k ∷ p)
-text_tells g h a b v w e k p =
-    let same = same_entries (shown g) (shown h) (shown_good g a v) (shown_good h b w) (sym (shown_lines (entries g)) ∙ e ∙ shown_lines (entries h)) in
-    size_shown g k p ∙ ap (λ es. bytes_in es (k ∷ p)) same ∙ sym (size_shown h k p)
