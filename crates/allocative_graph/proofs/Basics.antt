@@ -4,7 +4,7 @@ use Rattle.allocative_graph.proofs.Common.{list_any, AllByRecursion, is_eq, orde
 use Rattle.std.specs.Cmp.{IsTotalOrder}
 use Rattle.std.specs.Ordering.{nat_cmp}
 use Rattle.std.specs.Cmp.Lexicographic.{lists_total}
-use Rattle.std.proofs.lemmas.Cmp.{on_total, eq_by_cmp_equiv}
+use Rattle.std.proofs.lemmas.Cmp.{nat_cmp_total, on_total, then_total, eq_by_cmp_equiv}
 pub use mathlib.Core.Bool.{or_assoc, or_comm, or-false, and_assoc, and-true}
 pub use Rattle.std.proofs.lemmas.Bool.{and_parts, or_cases, or_left, or_right, or_parts, false_from_ne_true}
 
@@ -74,30 +74,18 @@ same_path p q h = path_antisymmetric p q (is_eq-Equal _ h)
 pub same_path_itself : (p : Path) → IsTrue (is_same_path p p)
 same_path_itself p = (eq_by_cmp_equiv path_total).refl p
 
-then_equal : (r : Ordering) → ordering_then r Equal ≡ r
-then_equal Less = refl
-then_equal Equal = refl
-then_equal Greater = refl
-
--- The order of identities, as the order of lists of two numbers.
-as_lists : Identity → Identity → Ordering
-as_lists i j = slice_cmp nat_cmp (i.maker ∷ i.number ∷ []) (j.maker ∷ j.number ∷ [])
-
-one_order : as_lists ≡ identity_cmp
-unfolding as_lists
-one_order = λ k i j. ordering_then (nat_cmp i.maker j.maker) (then_equal (nat_cmp i.number j.number) k)
-
 pub identity_total : IsTotalOrder identity_cmp
-unfolding as_lists
-identity_total = subst IsTotalOrder one_order (on_total (λ (i : Identity). i.maker ∷ i.number ∷ []) nat_list_cmp_total)
+identity_total = then_total (on_total (λ (i : Identity). i.maker) nat_cmp_total) (on_total (λ (i : Identity). i.number) nat_cmp_total)
+
+then_equal : (a b : Ordering) → ordering_then a b ≡ Equal → (a ≡ Equal) × (b ≡ Equal)
+then_equal Less b e = absurd (cc)
+then_equal Equal b e = (refl, e)
+then_equal Greater b e = absurd (cc)
 
 pub identity_antisymmetric : IsAntisymmetric identity_cmp
-unfolding as_lists
 identity_antisymmetric i j e =
-    let p : ◌≡◌ {A = List ℕ} (i.maker ∷ i.number ∷ []) (j.maker ∷ j.number ∷ []) = slice_cmp-IsAntisymmetric nat_cmp-IsAntisymmetric (i.maker ∷ i.number ∷ []) (j.maker ∷ j.number ∷ []) (ap (λ (f : Identity → Identity → Ordering). f i j) one_order ∙ e) in
-    let maker : i.maker ≡ j.maker = cc in
-    let number : i.number ≡ j.number = cc in
-    λ k. record { maker = maker k; number = number k }
+    let parts = then_equal (nat_cmp i.maker j.maker) (nat_cmp i.number j.number) e in
+    λ k. record { maker = nat_cmp-IsAntisymmetric i.maker j.maker parts.0 k; number = nat_cmp-IsAntisymmetric i.number j.number parts.1 k }
 
 pub same_identity : (i j : Identity) → IsTrue (is_same_identity i j) → i ≡ j
 same_identity i j h = identity_antisymmetric i j (is_eq-Equal _ h)
