@@ -41,23 +41,14 @@ rest_of under m = cond m.is_unique m.bytes (m.bytes - under)
 abbrev Fit : ℕ → ℕ → Node → Node → Type 0
 Fit a b m n = (m.is_unique ≡ n.is_unique) × (m.is_unique ≡ false → (a ≤ m.bytes) × (b ≤ n.bytes) ⊎ (m.bytes ≤ a) × (n.bytes ≤ b))
 
-differences : (a b m n : ℕ) → (a ≤ m) × (b ≤ n) ⊎ (m ≤ a) × (n ≤ b) → (m - a) + (n - b) ≡ (m + n) - (a + b)
-differences a b m n (inl h) = omega (arith, h.0, h.1)
-differences a b m n (inr h) = omega (arith, h.0, h.1)
-
 two_nodes : (a b m n : ℕ) (u v : Bool) → u ≡ v → (u ≡ false → (a ≤ m) × (b ≤ n) ⊎ (m ≤ a) × (n ≤ b)) → cond u m (m - a) + cond v n (n - b) ≡ cond (u || v) (m + n) ((m + n) - (a + b))
-two_nodes a b m n true true e f = refl
-two_nodes a b m n true false e f = absurd (true≢false e)
-two_nodes a b m n false true e f = absurd (true≢false (sym e))
-two_nodes a b m n false false e f = differences a b m n (f refl)
+two_nodes a b m n u v e f = grind arith
 
 one_node : (a b m : ℕ) (u : Bool) → b ≡ 0 → cond u m (m - a) + 0 ≡ cond u m (m - (a + b))
-one_node a b m true e = omega arith
-one_node a b m false e = omega (arith, e)
+one_node a b m u e = grind arith
 
 other_node : (a b m : ℕ) (u : Bool) → a ≡ 0 → 0 + cond u m (m - b) ≡ cond u m (m - (a + b))
-other_node a b m true e = omega arith
-other_node a b m false e = omega (arith, e)
+other_node a b m u e = grind arith
 
 at_path : (a b : ℕ) (x y : Option Node) → (x ≡ None → a ≡ 0) → (y ≡ None → b ≡ 0) → ((m n : Node) → x ≡ Some m → y ≡ Some n → Fit a b m n)
     → cond (is_some (option_map (rest_of a) x) || is_some (option_map (rest_of b) y)) (Some (unwrap_or (option_map (rest_of a) x) 0 + unwrap_or (option_map (rest_of b) y) 0)) None ≡ option_map (rest_of (a + b)) (merge x y)

@@ -47,8 +47,7 @@ abbrev held_in : Bool → Forest → ℕ
 held_in u f = held f + cond u (inline_bytes f) 0
 
 held_in-following : (u : Bool) (f g : Forest) → held_in u (followed_by f g) ≡ held_in u f + held_in u g
-held_in-following true f g = omega (arith, held-following f g, inline_bytes-following f g)
-held_in-following false f g = omega (arith, held-following f g)
+held_in-following u f g = grind (arith, held-following f g, inline_bytes-following f g)
 
 holding-following : (h : Holding) (f g : Forest) → plus_holding h (followed_by f g) ≡ plus_holding (plus_holding h f) g
 holding-following h f g = λ i. record h { sum = (ap (λ n. h.sum + n) (held_in-following h.is_in_unique f g) ∙ sym (add_assoc h.sum (held_in h.is_in_unique f) (held_in h.is_in_unique g))) i }
@@ -57,8 +56,7 @@ holding-nothing : (h : Holding) → plus_holding h Empty ≡ h
 holding-nothing h = λ i. record h { sum = none h.is_in_unique h.sum i }
   where
     none : (u : Bool) (n : ℕ) → n + (0 + cond u 0 0) ≡ n
-    none true n = omega arith
-    none false n = omega arith
+    none u n = grind arith
 
 no_content-following : (f g : Forest) → ShowsNoContent (followed_by f g) ↔ (ShowsNoContent f × ShowsNoContent g)
 no_content-following Empty g = (λ w. (tt, w), λ w. w.1)
@@ -69,20 +67,17 @@ no_content-following (Again k n j after) g = no_content-following after g
 
 -- The forest f is inside an inline entry, and therefore not directly inside a unique one.
 inline_sum : (u : Bool) (s n h : ℕ) → (s + cond u n 0) + (h + 0) ≡ s + ((h + 0) + cond u (n + 0) 0)
-inline_sum true s n h = omega arith
-inline_sum false s n h = omega arith
+inline_sum u s n h = grind arith
 
 unique_sum : (u : Bool) (s h b : ℕ) → (s + cond u 0 0) + (h + b) ≡ s + ((b + h + 0) + cond u 0 0)
-unique_sum true s h b = omega arith
-unique_sum false s h b = omega arith
+unique_sum u s h b = grind arith
 
 holding-inside : (u : Bool) (h : Holding) (k : Key) (n : ℕ) (f : Forest) → leave_holding h.is_in_unique (plus_holding (enter_holding u n h) f) ≡ plus_holding h (entry_of u k n f)
 holding-inside true h k n f = λ i. record h { sum = unique_sum h.is_in_unique h.sum (held f) (inline_bytes f) i }
 holding-inside false h k n f = λ i. record h { sum = inline_sum h.is_in_unique h.sum n (held f) i }
 
 pred_less : (n : ℕ) → n ≤ suc (pred n)
-pred_less zero = omega arith
-pred_less (suc n) = omega arith
+pred_less n = grind arith
 
 -- ---- either
 pub plus-nothing : (c : Kind) → plus c Empty ≡ c

@@ -99,8 +99,7 @@ unseen ([], n) k p h = refl
 unseen (l ∷ q, n) k p h = zero_at (is_same_path (k ∷ p) (l ∷ q)) (eqb-true n 0 (not-false (n == 0) h))
   where
     zero_at : (t : Bool) → n ≡ 0 → cond t n 0 ≡ 0
-    zero_at true e = e
-    zero_at false e = refl
+    zero_at t e = grind arith
 
 -- The sum over the items that pass a test is that over all, where the others have none.
 sum-filter : {X : Type 0} (t : X → Bool) (f : X → ℕ) → ((x : X) → t x ≡ false → f x ≡ 0) → (xs : List X) → sum_by f (filter t xs) ≡ sum_by f xs
