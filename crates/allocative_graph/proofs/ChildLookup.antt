@@ -17,7 +17,7 @@ or_else-none : (o : Option ℕ) → or_else o None ≡ o
 or_else-none (Some n) = refl
 or_else-none None = refl
 
-tie : (o r : Ordering) → is_eq (ordering_then o r) ≡ (is_eq o && is_eq r)
+pub tie : (o r : Ordering) → is_eq (ordering_then o r) ≡ (is_eq o && is_eq r)
 tie Less r = refl
 tie Equal r = refl
 tie Greater r = refl

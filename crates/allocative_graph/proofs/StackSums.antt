@@ -5,7 +5,8 @@ use Rattle.std.specs.Option.{SomeIff}
 use Rattle.std.proofs.lemmas.List.Sums.{fold-append}
 use Rattle.std.proofs.lemmas.List.Sorted.{IsPermutation-map}
 use Rattle.allocative_graph.specs.Read.{seen, IsGraphOfStacks}
-use Rattle.allocative_graph.proofs.Basics.{path_total, same_path}
+use Rattle.allocative_graph.proofs.Basics.{on_test, path_total, same_path}
+use Rattle.allocative_graph.proofs.ChildLookup.{tie}
 use Rattle.allocative_graph.proofs.PathOrder.{key_itself}
 use Rattle.allocative_graph.proofs.Graphs.{size_at-default, is_some-cond, sizes_together, get-default, get-under, get-under-root, total-sum_of, total-under, total-add_at}
 use Rattle.allocative_graph.proofs.Merge.{get-sum_of}
@@ -38,12 +39,10 @@ none_before None = refl
 none_before (Some n) = ap Some (zero-add n)
 
 below_key : (k : Key) (ks : Path) (n : ℕ) (l : Key) (p : Path) → cond (is_eq (key_cmp l k)) (one_at ks n p) None ≡ one_at (k ∷ ks) n (l ∷ p)
-below_key k ks n l p = by (key_cmp l k)
-  where
-    by : (o : Ordering) → cond (is_eq o) (one_at ks n p) None ≡ cond (is_eq o && begins p ks) (Some (cond (is_eq (ordering_then o (path_cmp p ks))) n 0)) None
-    by Less = refl
-    by Equal = ap (λ b. cond b (Some (cond (is_same_path p ks) n 0)) None) (root_begins p ks)
-    by Greater = refl
+below_key k ks n l p =
+    on_test (λ b. cond b (one_at ks n p) None ≡ cond (b && begins p ks) (Some (cond (b && is_same_path p ks) n 0)) None) (is_eq (key_cmp l k))
+    (λ e. ap (λ b. cond b (Some (cond (is_same_path p ks) n 0)) None) (root_begins p ks)) (λ e. refl)
+    ∙ ap (λ t. cond (is_eq (key_cmp l k) && begins p ks) (Some (cond t n 0)) None) (sym (tie (key_cmp l k) (path_cmp p ks)))
 
 get-one : (ks : Path) (n : ℕ) (p : Path) → get (nested ks (add_self n default)) p ≡ one_at ks n p
 get-one [] n p = get-leaf n p
@@ -59,12 +58,11 @@ get-one (k ∷ ks) n (l ∷ p) =
     ∙ below_key k ks n l p
 
 size_at-one : (s : Stack) (p : Path) → size_at (one_stack s) p ≡ cond (is_same_path p s.path) s.size 0
-size_at-one s p = ap (λ o. unwrap_or o 0) (get-one s.path s.size p) ∙ by (is_root p || begins p s.path) (is_same_path p s.path) (λ e. root_begins p s.path ∙ same_begins p s.path e)
-  where
-    by : (b t : Bool) → (t ≡ true → b ≡ true) → unwrap_or (cond b (Some (cond t s.size 0)) None) 0 ≡ cond t s.size 0
-    by true t f = refl
-    by false true f = absurd (true≢false (sym (f refl)))
-    by false false f = refl
+size_at-one s p =
+    ap (λ o. unwrap_or o 0) (get-one s.path s.size p)
+    ∙ on_test (λ t. unwrap_or (cond (is_root p || begins p s.path) (Some (cond t s.size 0)) None) 0 ≡ cond t s.size 0) (is_same_path p s.path)
+    (λ e. ap (λ b. unwrap_or (cond b (Some s.size) None) 0) (root_begins p s.path ∙ same_begins p s.path e))
+    (λ e. on_test (λ b. ◌≡◌ {A = ℕ} (unwrap_or (cond b (Some 0) None) 0) 0) (is_root p || begins p s.path) (λ t. refl) (λ t. refl))
 
 contains_key-one : (s : Stack) (p : Path) → contains_key (one_stack s) p ≡ (is_root p || begins p s.path)
 contains_key-one s p = ap is_some (get-one s.path s.size p) ∙ is_some-cond (is_root p || begins p s.path) (cond (is_same_path p s.path) s.size 0)

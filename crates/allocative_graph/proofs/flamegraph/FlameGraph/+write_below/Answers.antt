@@ -43,7 +43,6 @@ unfolding lib.Utf8.encode
 child_lines t c =
     let es = entries c.child-item.result.graph in
     let path = c.as_str-in-loop-child.result.now in
-    let own : string_bytes c.write_own.new.text ++ lines_below (path ++ 59 ∷ []) es ≡ string_bytes c.loop-child.text ++ lines_from path es = c.in_ok-write_own.ensures in
     let path_is : path ≡ string_bytes c.push_str.new.self = c.as_str-in-loop-child.ensures.value in
     let named : path ≡ string_bytes c.args.start.now ++ c.child-item.result.key = path_is ∙ (with_key t c ∙ ap (λ k. string_bytes c.args.start.now ++ k) c.as_str.ensures) in
     let written : string_bytes c.if-has_children.text ≡ string_bytes c.write_own.new.text ++ lines_below (path ++ 59 ∷ []) es = elim c.if-has_children.branch [
@@ -55,7 +54,7 @@ child_lines t c =
           ap (λ s. string_bytes s) w.text-is ∙ (sym (append-nil (string_bytes c.write_own.new.text))
           ∙ ap (λ l. string_bytes c.write_own.new.text ++ l) (sym (none_below (path ++ 59 ∷ []) alone.0 es alone.1))))
     ] in
-    written ∙ (own ∙ ap (λ l. string_bytes c.loop-child.text ++ lines_from l es) named)
+    written ∙ (c.in_ok-write_own.ensures ∙ ap (λ l. string_bytes c.loop-child.text ++ lines_from l es) named)
 
 pub loop-child-preserved : goal.loop-child-preserved
 loop-child-preserved t c =
