@@ -21,13 +21,6 @@ alone f c s t p =
     let same = sym (append-nil (contents f)) in
     λ i. record c { sums = add_all s (sym (append-nil (own_behind p f)) i ++ flat_map (λ c. c.1) (same i)); met = insert_all t (map (λ c. c.0) (same i)) }
 
--- The content of a shared entry starts at the root.
-inside-first : (f : Forest) (c : Live) (k : Key) (n : ℕ) (j : Identity) → leave_live (plus_live (go [] (plus_live c (First k n j Empty Empty))) f) ≡ plus_live c (First k n j f Empty)
-inside-first f c k n j = λ i. record c {
-  sums = add_all (add c.sums (record { path = c.here ++ k ∷ []; size = n; mark = AsShared j })) (own_behind [] f ++ flat_map (λ c. c.1) (sym (append-nil (contents f)) i));
-  met = insert_all (insert c.met j) (map (λ c. c.0) (sym (append-nil (contents f)) i));
-}
-
 -- ---- the collector of held bytes
 inline_bytes-following : (f g : Forest) → inline_bytes (followed_by f g) ≡ inline_bytes f + inline_bytes g
 inline_bytes-following Empty g = omega arith
@@ -76,9 +69,6 @@ holding-inside : (u : Bool) (h : Holding) (k : Key) (n : ℕ) (f : Forest) → l
 holding-inside true h k n f = λ i. record h { sum = unique_sum h.is_in_unique h.sum (held f) (inline_bytes f) i }
 holding-inside false h k n f = λ i. record h { sum = inline_sum h.is_in_unique h.sum n (held f) i }
 
-pred_less : (n : ℕ) → n ≤ suc (pred n)
-pred_less n = grind arith
-
 -- ---- either
 pub plus-nothing : (c : Kind) → plus c Empty ≡ c
 plus-nothing (OfGraph c) = refl
@@ -111,8 +101,12 @@ takes_entry false k n (OfGraph c) f w = (w, tt)
 takes_entry true k n (OfHeld h) f w = (w, tt)
 takes_entry false k n (OfHeld h) f w = (w, tt)
 
+-- The content of a shared entry starts at the root.
 pub inside_first : (k : Key) (n : ℕ) (j : Identity) (c : Live) (f : Forest) (outer : Bool) → leave outer (plus (OfGraph (enter_first k n j c)) f) ≡ plus (OfGraph c) (First k n j f Empty)
-inside_first k n j c f outer = ap OfGraph (inside-first f c k n j)
+inside_first k n j c f outer = λ i. OfGraph (record c {
+  sums = add_all (add c.sums (record { path = c.here ++ k ∷ []; size = n; mark = AsShared j })) (own_behind [] f ++ flat_map (λ c. c.1) (sym (append-nil (contents f)) i));
+  met = insert_all (insert c.met j) (map (λ c. c.0) (sym (append-nil (contents f)) i));
+})
 
 pub takes_shared : (k : Key) (n : ℕ) (j : Identity) (c : Live) (f : Forest) → contains c.met j ≡ false → Takes (OfGraph (enter_first k n j c)) f → Takes (OfGraph c) (First k n j f Empty)
 takes_shared k n j c f new w = (new, w, tt)
@@ -131,8 +125,8 @@ visitors-enter u k n (OfHeld h) = refl
 
 -- Leaving takes at most one open visitor away.
 pub visitors-leave : (outer : Bool) (c : Kind) → visitors c ≤ suc (visitors (leave outer c))
-visitors-leave outer (OfGraph c) = pred_less c.open_visitors
-visitors-leave outer (OfHeld h) = pred_less h.open_visitors
+visitors-leave outer (OfGraph c) = grind arith
+visitors-leave outer (OfHeld h) = grind arith
 
 -- ---- which of the two it is
 pub is_graph-plus : (c : Kind) (f : Forest) → is_graph (plus c f) ≡ is_graph c
