@@ -1,6 +1,6 @@
 -- A bag of entries and its contents have one meaning, up to order.
-use Rattle.std.proofs.Common.{◌≡◌, List, [], ◌∷◌, ◌++◌, flat_map, ◌∙◌, IsPermutation}
-use Rattle.allocative_graph.proofs.Common.{Identity, is_same_identity, Bag, IsMeaning, sums_of, IsPermutation-refl, IsPermutation-sym, IsPermutation-trans, IsPermutation-append_right}
+use Rattle.std.proofs.Common.{◌≡◌, ◌++◌, flat_map, IsPermutation}
+use Rattle.allocative_graph.proofs.Common.{Identity, Bag, IsMeaning, sums_of, IsPermutation-refl, IsPermutation-sym, IsPermutation-trans, IsPermutation-append_right}
 use Rattle.allocative_graph.proofs.Basics.{both_ways}
 use Rattle.allocative_graph.proofs.Order.{same_flat}
 use Rattle.allocative_graph.proofs.Lookups.{add_all-permutation}

@@ -1,6 +1,6 @@
 -- Two whole showings that agree reach the same identities and have equal sums.
 use Rattle.std.proofs.Common.{◌≡◌, false, cond, ◌||◌, IsTrue, List, [], ◌∷◌, ◌++◌, flat_map, refl, ap, sym, ◌∙◌, subst, true≢false, IsPermutation, append_assoc}
-use Rattle.allocative_graph.proofs.Common.{⊤, AllByRecursion, Identities, Identity, is_same_identity, Forest, Bag, own, contents, content_entries, all, shown, is_mark_of, has_mark, is_among, Reached, marked, inside, content_of, IsWhole, sums_of, IsPermutation-refl, IsPermutation-sym, IsPermutation-trans, IsPermutation-append_left, IsPermutation-append_right, IsPermutation-append_comm, list_any-IsPermutation, All-from_recursion}
+use Rattle.allocative_graph.proofs.Common.{AllByRecursion, Identity, is_same_identity, Forest, Bag, own, contents, content_entries, all, shown, is_mark_of, has_mark, is_among, Reached, marked, inside, content_of, IsWhole, sums_of, IsPermutation-refl, IsPermutation-sym, IsPermutation-trans, IsPermutation-append_left, IsPermutation-append_right, IsPermutation-append_comm, list_any-IsPermutation, All-from_recursion}
 use Rattle.std.specs.FinSet.{empty}
 use Rattle.std.specs.List.{IsDistinct}
 use Rattle.std.proofs.lemmas.List.Folds.{list_any_none}

@@ -1,9 +1,9 @@
 -- What a collector has after forests, entries and leaving.
-use Rattle.std.proofs.Common.{◌≡◌, ◌↔◌, ◌≤◌, zero, suc, pred, ℕ, ◌+◌, Bool, true, false, cond, [], ◌∷◌, ◌++◌, map, flat_map, refl, ap, sym, ◌∙◌, arith, add_assoc, append-nil}
+use Rattle.std.proofs.Common.{◌≡◌, ◌↔◌, ◌≤◌, suc, ℕ, ◌+◌, Bool, true, false, cond, [], ◌∷◌, ◌++◌, map, flat_map, refl, ap, sym, ◌∙◌, arith, add_assoc, append-nil}
 use Rattle.allocative_graph.proofs.Common.{contains, Key, Path, Identities, Sums, content_entries, shown, Identity, Forest, Empty, Inline, Unique, First, Again, AsInline, AsUnique, AsShared, own_behind, contents, followed_by, insert_all, add, add_all, added}
 use Rattle.std.specs.FinSet.{insert}
 use Rattle.allocative_graph.specs.Forest.{entry_of}
-use Rattle.allocative_graph.specs.Collector.{Live, Holding, Kind, OfGraph, OfHeld, plus_live, plus_holding, go, leave_live, leave_holding, enter_first, enter_holding, plus, Takes, enter, leave, begin, is_graph, visitors, is_in_unique}
+use Rattle.allocative_graph.specs.Collector.{Live, Holding, Kind, OfGraph, OfHeld, plus_live, plus_holding, leave_holding, enter_first, enter_holding, plus, Takes, enter, leave, begin, is_graph, visitors, is_in_unique}
 use Rattle.allocative_graph.specs.Held.{held, inline_bytes, ShowsNoContent}
 use Rattle.allocative_graph.proofs.Lookups.{add_all-permutation, add_all-append}
 use Rattle.allocative_graph.proofs.Following.{added-following, met-following, fits-following}
