@@ -1,31 +1,18 @@
 -- Small facts about tests, lists, paths and identities.
-use Rattle.std.proofs.Common.{◌≡◌, ℕ, Bool, true, false, ◌||◌, IsTrue, ◌⊎◌, inl, inr, List, [], ◌∷◌, ◌++◌, map, refl, sym, ap, subst, ◌∙◌, true≢false, Ordering, Less, Equal, Greater}
-use Rattle.allocative_graph.proofs.Common.{list_any, AllByRecursion, is_eq, ordering_then, slice_cmp, nat_list_cmp_total, IsAntisymmetric, nat_cmp-IsAntisymmetric, slice_cmp-IsAntisymmetric, Path, path_cmp, is_same_path, Identity, identity_cmp, is_same_identity}
+use Rattle.std.proofs.Common.{◌≡◌, Bool, true, false, ◌||◌, IsTrue, inl, inr, List, [], ◌∷◌, ◌++◌, map, refl, sym, ◌∙◌, true≢false, Ordering, Less, Equal, Greater}
+use Rattle.allocative_graph.proofs.Common.{list_any, AllByRecursion, is_eq, ordering_then, nat_list_cmp_total, IsAntisymmetric, nat_cmp-IsAntisymmetric, slice_cmp-IsAntisymmetric, Path, path_cmp, is_same_path, Identity, identity_cmp, is_same_identity, list_any-append}
 use Rattle.std.specs.Cmp.{IsTotalOrder}
 use Rattle.std.specs.Ordering.{nat_cmp}
 use Rattle.std.specs.Cmp.Lexicographic.{lists_total}
-use Rattle.std.proofs.lemmas.Cmp.{on_total, eq_by_cmp_equiv}
+use Rattle.std.proofs.lemmas.Cmp.{nat_cmp_total, on_total, then_total, eq_by_cmp_equiv}
+pub use mathlib.Core.Bool.{or_assoc, or_comm, or-false, and_assoc, and-true}
+pub use Rattle.std.proofs.lemmas.Bool.{and_parts, or_cases, or_left, or_right, or_parts, false_from_ne_true}
 
 -- ---- tests
-pub or_cases : (a b : Bool) → IsTrue (a || b) → IsTrue a ⊎ IsTrue b
-or_cases true b h = inl refl
-or_cases false b h = inr h
-
-pub or_left : (a b : Bool) → IsTrue a → IsTrue (a || b)
-or_left true b h = refl
-or_left false b h = absurd (true≢false (sym h))
-
-pub or_right : (a b : Bool) → IsTrue b → IsTrue (a || b)
-or_right true b h = refl
-or_right false b h = h
-
-pub or_false_left : (a b : Bool) → (a || b) ≡ false → a ≡ false
-or_false_left true b h = absurd (true≢false h)
-or_false_left false b h = refl
-
-pub or_false_right : (a b : Bool) → (a || b) ≡ false → b ≡ false
-or_false_right true b h = absurd (true≢false h)
-or_false_right false b h = h
+-- What holds of both answers of a test holds of the test.
+pub on_test : (P : Bool → Type 0) (t : Bool) → (t ≡ true → P true) → (t ≡ false → P false) → P t
+on_test P true f g = f refl
+on_test P false f g = g refl
 
 pub both_ways : (a b : Bool) → (IsTrue a → IsTrue b) → (IsTrue b → IsTrue a) → a ≡ b
 both_ways true b f g = sym (f refl)
@@ -58,9 +45,21 @@ pub each-map : {X Y : Type 0} (P : Y → Type 0) (f : X → Y) (xs : List X) →
 each-map P f [] h = tt
 each-map P f (x ∷ xs) h = (h.0, each-map P f xs h.1)
 
+pub or_both : {Q : Type 0} (a b : Bool) → (IsTrue a → Q) → (IsTrue b → Q) → IsTrue (a || b) → Q
+or_both a b f g h = elim (or_cases a b h) [ inl x ↦ f x | inr x ↦ g x ]
+
+pub any_both : {X : Type 0} {Q : Type 0} (p : X → Bool) (xs ys : List X) → (IsTrue (list_any p xs) → Q) → (IsTrue (list_any p ys) → Q) → IsTrue (list_any p (xs ++ ys)) → Q
+any_both p xs ys f g h = or_both (list_any p xs) (list_any p ys) f g (sym (list_any-append p xs ys) ∙ h)
+
+pub any_left : {X : Type 0} (p : X → Bool) (xs ys : List X) → IsTrue (list_any p xs) → IsTrue (list_any p (xs ++ ys))
+any_left p xs ys h = list_any-append p xs ys ∙ or_left _ (list_any p ys) h
+
+pub any_right : {X : Type 0} (p : X → Bool) (xs ys : List X) → IsTrue (list_any p ys) → IsTrue (list_any p (xs ++ ys))
+any_right p xs ys h = list_any-append p xs ys ∙ or_right (list_any p xs) _ h
+
 pub each-found : {X : Type 0} (P : X → Type 0) (Q : Type 0) (test : X → Bool) → ((x : X) → P x → IsTrue (test x) → Q) → (xs : List X) → AllByRecursion P xs → IsTrue (list_any test xs) → Q
 each-found P Q test f [] h g = absurd (true≢false (sym g))
-each-found P Q test f (x ∷ xs) h g = elim (or_cases (test x) (list_any test xs) g) [ inl a ↦ f x h.0 a | inr b ↦ each-found P Q test f xs h.1 b ]
+each-found P Q test f (x ∷ xs) h g = or_both (test x) (list_any test xs) (f x h.0) (each-found P Q test f xs h.1) g
 
 -- ---- orders
 pub path_total : IsTotalOrder path_cmp
@@ -75,36 +74,18 @@ same_path p q h = path_antisymmetric p q (is_eq-Equal _ h)
 pub same_path_itself : (p : Path) → IsTrue (is_same_path p p)
 same_path_itself p = (eq_by_cmp_equiv path_total).refl p
 
-then_equal : (r : Ordering) → ordering_then r Equal ≡ r
-then_equal Less = refl
-then_equal Equal = refl
-then_equal Greater = refl
-
--- The order of identities, as the order of lists of two numbers.
-as_lists : Identity → Identity → Ordering
-as_lists i j = slice_cmp nat_cmp (i.maker ∷ i.number ∷ []) (j.maker ∷ j.number ∷ [])
-
-one_order : as_lists ≡ identity_cmp
-unfolding as_lists
-one_order = λ k i j. ordering_then (nat_cmp i.maker j.maker) (then_equal (nat_cmp i.number j.number) k)
-
 pub identity_total : IsTotalOrder identity_cmp
-unfolding as_lists
-identity_total = subst IsTotalOrder one_order (on_total (λ (i : Identity). i.maker ∷ i.number ∷ []) nat_list_cmp_total)
+identity_total = then_total (on_total (λ (i : Identity). i.maker) nat_cmp_total) (on_total (λ (i : Identity). i.number) nat_cmp_total)
 
-first_of_list : List ℕ → ℕ
-first_of_list [] = 0
-first_of_list (x ∷ xs) = x
-
-second_of_list : List ℕ → ℕ
-second_of_list [] = 0
-second_of_list (x ∷ xs) = first_of_list xs
+then_equal : (a b : Ordering) → ordering_then a b ≡ Equal → (a ≡ Equal) × (b ≡ Equal)
+then_equal Less b e = absurd (cc)
+then_equal Equal b e = (refl, e)
+then_equal Greater b e = absurd (cc)
 
 pub identity_antisymmetric : IsAntisymmetric identity_cmp
-unfolding first_of_list second_of_list as_lists
 identity_antisymmetric i j e =
-    let p : ◌≡◌ {A = List ℕ} (i.maker ∷ i.number ∷ []) (j.maker ∷ j.number ∷ []) = slice_cmp-IsAntisymmetric nat_cmp-IsAntisymmetric (i.maker ∷ i.number ∷ []) (j.maker ∷ j.number ∷ []) (ap (λ (f : Identity → Identity → Ordering). f i j) one_order ∙ e) in
-    λ k. record { maker = first_of_list (p k); number = second_of_list (p k) }
+    let parts = then_equal (nat_cmp i.maker j.maker) (nat_cmp i.number j.number) e in
+    λ k. record { maker = nat_cmp-IsAntisymmetric i.maker j.maker parts.0 k; number = nat_cmp-IsAntisymmetric i.number j.number parts.1 k }
 
 pub same_identity : (i j : Identity) → IsTrue (is_same_identity i j) → i ≡ j
 same_identity i j h = identity_antisymmetric i j (is_eq-Equal _ h)

@@ -1,8 +1,9 @@
 -- The sizes in the graph of a node are its own and those under the keys of its children.
-use Rattle.std.proofs.Common.{◌≡◌, ℕ, ◌+◌, Bool, true, false, cond, List, [], ◌∷◌, ◌++◌, Option, Some, None, refl, sym, ap, ◌∙◌, append-nil}
+use Rattle.std.proofs.Common.{◌≡◌, ℕ, ◌+◌, ◌&&◌, true, false, cond, List, [], ◌∷◌, ◌++◌, Option, Some, None, refl, sym, ap, ◌∙◌, append-nil}
 use Rattle.allocative_graph.proofs.Common.{Less, Equal, Greater, eq_by_cmp, is_eq, ordering_then, get, entries, from_entries, same_entries_map, get-from_sorted, get-entries, find, Child, under, IsPartOfSum, under_rows, node, rows_of, IsSumByPath, Key, Path, key_cmp, path_cmp, node_sorted, entries-node, size_under, InOrder}
 use Rattle.std.specs.declared.cmp.Ordering.{Ordering}
 use Rattle.std.specs.List.Sorted.{IsStrictlySortedBy}
+use Rattle.allocative_graph.proofs.Basics.{on_test}
 use Rattle.allocative_graph.proofs.Listing.{entries-from_entries-sorted}
 use Rattle.allocative_graph.specs.Representation.Children.{AreSum, ArePartOfSum}
 use Rattle.allocative_graph.proofs.ChildSizes.{none_above, part_of_sum}
@@ -16,51 +17,36 @@ or_else-none : (o : Option ℕ) → or_else o None ≡ o
 or_else-none (Some n) = refl
 or_else-none None = refl
 
-not_tied : (o r : Ordering) → is_eq o ≡ false → is_eq (ordering_then o r) ≡ false
-not_tied Less r e = refl
-not_tied Equal r e = absurd (cc)
-not_tied Greater r e = refl
-
-tied : (o r : Ordering) → is_eq o ≡ true → is_eq (ordering_then o r) ≡ is_eq r
-tied Less r e = absurd (cc)
-tied Equal r e = refl
-tied Greater r e = absurd (cc)
+pub tie : (o r : Ordering) → is_eq (ordering_then o r) ≡ (is_eq o && is_eq r)
+tie Less r = refl
+tie Equal r = refl
+tie Greater r = refl
 
 -- Under another key nothing is found.
 find-other : (k l : Key) (p : Path) (rs rest : List (Path × ℕ)) → eq_by_cmp key_cmp k l ≡ false
     → find path_cmp (k ∷ p) (under_rows l rs ++ rest) ≡ find path_cmp (k ∷ p) rest
 find-other k l p [] rest e = refl
 find-other k l p (r ∷ rs) rest e =
-    ap (λ b. cond b (Some r.1) (find path_cmp (k ∷ p) (under_rows l rs ++ rest))) (not_tied (key_cmp k l) (path_cmp p r.0) e) ∙ find-other k l p rs rest e
+    ap (λ b. cond b (Some r.1) (find path_cmp (k ∷ p) (under_rows l rs ++ rest))) (tie (key_cmp k l) (path_cmp p r.0) ∙ ap (λ b. b && is_eq (path_cmp p r.0)) e) ∙ find-other k l p rs rest e
 
 -- Under the key that is looked up, the search is that of the rest of the path.
 find-same : (k l : Key) (p : Path) (rs rest : List (Path × ℕ)) → eq_by_cmp key_cmp k l ≡ true
     → find path_cmp (k ∷ p) (under_rows l rs ++ rest) ≡ or_else (find path_cmp p rs) (find path_cmp (k ∷ p) rest)
 find-same k l p [] rest e = refl
 find-same k l p (r ∷ rs) rest e =
-    ap (λ b. cond b (Some r.1) (find path_cmp (k ∷ p) (under_rows l rs ++ rest))) (tied (key_cmp k l) (path_cmp p r.0) e)
+    ap (λ b. cond b (Some r.1) (find path_cmp (k ∷ p) (under_rows l rs ++ rest))) (tie (key_cmp k l) (path_cmp p r.0) ∙ ap (λ b. b && is_eq (path_cmp p r.0)) e)
     ∙ ap (λ o. cond (eq_by_cmp path_cmp p r.0) (Some r.1) o) (find-same k l p rs rest e)
-    ∙ past (eq_by_cmp path_cmp p r.0) (find path_cmp p rs) (find path_cmp (k ∷ p) rest) r.1
-  where
-    past : (b : Bool) (x y : Option ℕ) (n : ℕ) → cond b (Some n) (or_else x y) ≡ or_else (cond b (Some n) x) y
-    past true x y n = refl
-    past false x y n = refl
+    ∙ on_test (λ b. cond b (Some r.1) (or_else (find path_cmp p rs) (find path_cmp (k ∷ p) rest)) ≡ or_else (cond b (Some r.1) (find path_cmp p rs)) (find path_cmp (k ∷ p) rest)) (eq_by_cmp path_cmp p r.0) (λ t. refl) (λ t. refl)
 
 pub find-rows : (cs : List Child) (k : Key) (p : Path) → InOrder cs → find path_cmp (k ∷ p) (rows_of cs) ≡ size_under cs k p
 unfolding IsStrictlySortedBy
 find-rows [] k p h = refl
-find-rows (c ∷ cs) k p h = go (eq_by_cmp key_cmp k c.key) refl (find-rows cs k p h.1)
-  where
-    go : (b : Bool) → eq_by_cmp key_cmp k c.key ≡ b → find path_cmp (k ∷ p) (rows_of cs) ≡ size_under cs k p
-        → find path_cmp (k ∷ p) (rows_of (c ∷ cs)) ≡ cond (eq_by_cmp key_cmp k c.key) (get c.graph p) (size_under cs k p)
-    go true e r =
-        find-same k c.key p (entries c.graph) (rows_of cs) e
-        ∙ ap (λ o. or_else (find path_cmp p (entries c.graph)) o) (r ∙ none_above k c.key p cs e h.0)
-        ∙ or_else-none _
-        ∙ sym (get-entries c.graph p)
-        ∙ ap (λ b. cond b (get c.graph p) (size_under cs k p)) (sym e)
-    go false e r =
-        find-other k c.key p (entries c.graph) (rows_of cs) e ∙ r ∙ ap (λ b. cond b (get c.graph p) (size_under cs k p)) (sym e)
+find-rows (c ∷ cs) k p h = on_test (λ b. eq_by_cmp key_cmp k c.key ≡ b → find path_cmp (k ∷ p) (rows_of (c ∷ cs)) ≡ cond b (get c.graph p) (size_under cs k p)) (eq_by_cmp key_cmp k c.key)
+    (λ e s.
+    find-same k c.key p (entries c.graph) (rows_of cs) e
+    ∙ ap (λ o. or_else (find path_cmp p (entries c.graph)) o) (find-rows cs k p h.1 ∙ none_above k c.key p cs e h.0)
+    ∙ or_else-none _ ∙ sym (get-entries c.graph p))
+    (λ e s. find-other k c.key p (entries c.graph) (rows_of cs) e ∙ find-rows cs k p h.1) refl
 
 pub get-root : (n : ℕ) (cs : List Child) → InOrder cs → get (node n cs) [] ≡ Some n
 get-root n cs h = get-from_sorted path_cmp (([], n) ∷ rows_of cs) [] (node_sorted n cs h)
@@ -77,8 +63,13 @@ pub node_part : (m n : ℕ) (cs ds es : List Child) → InOrder cs → InOrder d
 node_part m n cs ds es a b c s [] = rw (get-root m cs a, get-root n ds b, get-root (m + n) es c) (part_of_sum (Some m) (Some n) (Some (m + n)) (refl, refl))
 node_part m n cs ds es a b c s (k ∷ p) = rw (get-under m cs k p a, get-under n ds k p b, get-under (m + n) es k p c) (s k p)
 
+-- One child alone is in order.
+pub one_sorted : (c : Child) → InOrder (c ∷ [])
+unfolding IsStrictlySortedBy
+one_sorted c = (tt, tt)
+
 -- The graph with a key before each path is that of a node with one child.
-pub node_of_one : (c : Child) → InOrder (c ∷ []) → node 0 (c ∷ []) ≡ under c.key c.graph
-node_of_one c o =
-    same_entries_map _ _ (entries-node 0 (c ∷ []) o ∙ sym (entries-from_entries-sorted (([], 0) ∷ rows_of (c ∷ [])) (node_sorted 0 (c ∷ []) o)))
+pub node_of_one : (c : Child) → node 0 (c ∷ []) ≡ under c.key c.graph
+node_of_one c =
+    same_entries_map _ _ (entries-node 0 (c ∷ []) (one_sorted c) ∙ sym (entries-from_entries-sorted (([], 0) ∷ rows_of (c ∷ [])) (node_sorted 0 (c ∷ []) (one_sorted c))))
     ∙ ap (λ rs. from_entries (([], 0) ∷ rs)) (append-nil (under_rows c.key (entries c.graph)))

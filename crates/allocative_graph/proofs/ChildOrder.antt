@@ -1,8 +1,11 @@
 -- Children in the order of their keys: what the order says of the parts of a list.
-use Rattle.std.proofs.Common.{◌≡◌, ℕ, zero, suc, ◌<◌, List, [], ◌∷◌, ◌++◌, length, get_or, ap, ◌∙◌, arith}
-use Rattle.allocative_graph.proofs.Common.{AllByRecursion, Less, Equal, Greater, ordering_reverse, nat_list_cmp_total, nat_cmp-IsAntisymmetric, slice_cmp-IsAntisymmetric, Child, Key, key_cmp, IsTree, AreChildren, InOrder, AllBelow, AllAbove}
+use Rattle.std.proofs.Common.{◌≡◌, ℕ, zero, suc, ◌<◌, List, [], ◌∷◌, ◌++◌, length, get_or, ap, subst₂, ◌∙◌, arith}
+use Rattle.allocative_graph.proofs.Common.{AllByRecursion, Less, Equal, Greater, ordering_reverse, nat_list_cmp_total, nat_cmp-IsAntisymmetric, slice_cmp-IsAntisymmetric, Child, Key, key_cmp, IsTree, AreChildren, InOrder, AllBelow, AllAbove, length-map}
 use Rattle.std.specs.List.Sorted.{IsStrictlySortedBy}
+use Rattle.std.proofs.lemmas.List.{get_or-map}
+use Rattle.std.proofs.lemmas.Map.Keys.{Less-from_sorted}
 use Rattle.allocative_graph.specs.Reads.{keys_of}
+use Rattle.allocative_graph.proofs.Basics.{each-implies}
 
 pub key_same : (k l : Key) → key_cmp k l ≡ Equal → k ≡ l
 key_same = slice_cmp-IsAntisymmetric nat_cmp-IsAntisymmetric
@@ -12,10 +15,6 @@ key_turn k l h = nat_list_cmp_total.antisymm l k ∙ ap ordering_reverse h
 
 pub key_trans : (k l m : Key) → key_cmp k l ≡ Less → key_cmp l m ≡ Less → key_cmp k m ≡ Less
 key_trans = nat_list_cmp_total.trans
-
-all_weaker : (P Q : Key → Type 0) (ks : List Key) → ((k : Key) → P k → Q k) → AllByRecursion P ks → AllByRecursion Q ks
-all_weaker P Q [] f p = tt
-all_weaker P Q (k ∷ ks) f p = (f k p.0, all_weaker P Q ks f p.1)
 
 -- ---- the first child, and those after it
 pub first_below : (c : Child) (cs : List Child) → AreChildren (c ∷ cs) → AllAbove cs c.key
@@ -43,7 +42,7 @@ with_first c cs above t h = record { sorted = (above, h.sorted); trees = (t, h.t
 
 -- A key below that of the first child is below those of all.
 pub above_all : (k : Key) (c : Child) (cs : List Child) → key_cmp k c.key ≡ Less → AreChildren (c ∷ cs) → AllAbove (c ∷ cs) k
-above_all k c cs less h = (less, all_weaker (λ l. key_cmp c.key l ≡ Less) (λ l. key_cmp k l ≡ Less) (keys_of cs) (λ l q. key_trans k c.key l less q) (first_below c cs h))
+above_all k c cs less h = (less, each-implies _ _ (λ l q. key_trans k c.key l less q) (keys_of cs) (first_below c cs h))
 
 -- ---- a child in the middle
 all-at : (P : Key → Type 0) (a b : List Child) (x : Child) → AllByRecursion P (keys_of (a ++ x ∷ b)) → P x.key
@@ -68,8 +67,6 @@ below_last (c ∷ e ∷ cs) k (suc n) d len o less =
 
 -- Each child is below the next one.
 pub neighbors : (cs : List Child) (i : ℕ) (d : Child) → InOrder cs → suc i < length cs → key_cmp (get_or cs i d).key (get_or cs (suc i) d).key ≡ Less
-unfolding IsStrictlySortedBy
-neighbors [] i d o h = absurd (omega arith)
-neighbors (c ∷ []) i d o h = absurd (omega arith)
-neighbors (c ∷ e ∷ cs) zero d o h = o.0.0
-neighbors (c ∷ e ∷ cs) (suc i) d o h = neighbors (e ∷ cs) i d o.1 (omega arith)
+neighbors cs i d o h =
+    subst₂ (λ a b. key_cmp a b ≡ Less) (get_or-map (λ (c : Child). c.key) cs i d [] (omega arith)) (get_or-map (λ (c : Child). c.key) cs (suc i) d [] h)
+    (Less-from_sorted key_cmp (keys_of cs) i (suc i) [] o (omega arith) (omega (arith, length-map {B = Key} cs (λ c. c.key))))

@@ -1,10 +1,7 @@
 -- The sizes below some children, added up.
-use Rattle.std.proofs.Common.{◌≡◌, ℕ, ◌+◌, ◌<◌, suc, List, [], ◌∷◌, ◌++◌, take, drop, set, length, get_or, refl, sym, ap, ◌∙◌, arith, take-append-drop}
-use Rattle.allocative_graph.proofs.Common.{entries, Child, Key, Path, total, under_rows, rows_of, rows_of_child, sum_of_rows, weight}
-use Rattle.std.proofs.lemmas.List.{set_split}
-use Rattle.std.proofs.Math.Seq.{drop-cons}
-use Rattle.std.proofs.lemmas.Grind.{flat_map-append}
-use Rattle.allocative_graph.proofs.RowSums.{total-rows}
+use Rattle.std.proofs.Common.{◌≡◌, ℕ, ◌+◌, ◌<◌, List, [], ◌∷◌, ◌++◌, length, take, get_or, refl, sym, ap, ◌∙◌, arith, add-zero, append-nil}
+use Rattle.allocative_graph.proofs.Common.{entries, Child, Key, Path, total, under_rows, rows_of, rows_of_child, sum_of_rows, weight, take_more, flat_map-append}
+use Rattle.allocative_graph.proofs.NodeSizes.{total-rows}
 
 sum-append : (a b : List (Path × ℕ)) → sum_of_rows (a ++ b) ≡ sum_of_rows a + sum_of_rows b
 sum-append [] b = omega arith
@@ -18,10 +15,7 @@ pub weight-cons : (c : Child) (cs : List Child) → weight (c ∷ cs) ≡ total 
 weight-cons c cs = sum-append (rows_of_child c) (rows_of cs) ∙ ap (λ n. n + weight cs) (sum-under c.key (entries c.graph) ∙ sym (total-rows c.graph))
 
 pub weight-one : (c : Child) → weight (c ∷ []) ≡ total c.graph
-weight-one c = weight-cons c [] ∙ zero_after (total c.graph)
-  where
-    zero_after : (n : ℕ) → n + 0 ≡ n
-    zero_after n = omega arith
+weight-one c = weight-cons c [] ∙ add-zero (total c.graph)
 
 pub weight-append : (a b : List Child) → weight (a ++ b) ≡ weight a + weight b
 weight-append a b = ap sum_of_rows (flat_map-append rows_of_child a b) ∙ sum-append (rows_of a) (rows_of b)
@@ -29,9 +23,7 @@ weight-append a b = ap sum_of_rows (flat_map-append rows_of_child a b) ∙ sum-a
 pub weight-split : (a b : List Child) (c : Child) → weight (a ++ c ∷ b) ≡ weight a + (total c.graph + weight b)
 weight-split a b c = weight-append a (c ∷ b) ∙ ap (λ n. weight a + n) (weight-cons c b)
 
--- A list split at a place, and the list with another child at that place.
-pub split_at_place : (cs : List Child) (i : ℕ) (d : Child) → i < length cs → cs ≡ take i cs ++ get_or cs i d ∷ drop (suc i) cs
-split_at_place cs i d h = sym (take-append-drop i cs) ∙ ap (λ s. take i cs ++ s) (drop-cons cs i d h)
-
-pub set_at_place : (cs : List Child) (i : ℕ) (y : Child) → i < length cs → set cs i y ≡ take i cs ++ y ∷ drop (suc i) cs
-set_at_place cs i y h = set_split cs i y h
+-- The rows of one child more.
+pub rows-more : (cs : List Child) (i : ℕ) (d : Child) → i < length cs → rows_of (take (i + 1) cs) ≡ rows_of (take i cs) ++ rows_of_child (get_or cs i d)
+rows-more cs i d w =
+    ap rows_of (take_more cs i d w) ∙ flat_map-append rows_of_child (take i cs) (get_or cs i d ∷ []) ∙ ap (λ r. rows_of (take i cs) ++ r) (append-nil (rows_of_child (get_or cs i d)))

@@ -1,7 +1,7 @@
 -- What a search for a key finds among children in order.
-use Rattle.std.proofs.Common.{◌≡◌, ℕ, zero, suc, ◌+◌, ◌<◌, ◌≤◌, List, [], ◌∷◌, length, get_or, take, drop, Result, Ok, Err, IfOk, IfErr, refl, sym, ap, subst, ◌∙◌, arith, add-one, take_all}
+use Rattle.std.proofs.Common.{◌≡◌, ℕ, zero, suc, ◌+◌, ◌<◌, ◌≤◌, List, [], ◌∷◌, length, get_or, take, drop, Result, Ok, Err, IfOk, IfErr, sym, ap, subst, ◌∙◌, arith, add-one, take_all}
 use Rattle.allocative_graph.proofs.Common.{Less, Greater, ordering_reverse, is_lt, nat_list_cmp_total, Child, Key, key_cmp, InOrder, AllBelow, AllAbove, IsFound, IsChildGap}
-use Rattle.std.proofs.lemmas.List.{drop_all}
+use Rattle.std.proofs.lemmas.List.{drop_all, get_or_default}
 use Rattle.std.proofs.lemmas.List.Sorted.{searchable_from_sorted}
 use Rattle.std.specs.List.Sorted.{IsSearchInRange, IsBinarySearchResult, IsNonDecreasingBy, IsSortedBy}
 use Rattle.std.specs.Ordering.{ordering_index}
@@ -46,11 +46,6 @@ module _ (cs : List Child) (o : InOrder cs) (k : Key) where
     above = subst (λ (s : List Child). AllAbove s k) (sym (drop_all (length cs) cs (omega arith))) tt;
   }
 
-same_item : (cs : List Child) (n : ℕ) (x y : Child) → n < length cs → get_or cs n x ≡ get_or cs n y
-same_item [] n x y h = absurd (omega arith)
-same_item (c ∷ cs) zero x y h = refl
-same_item (c ∷ cs) (suc n) x y h = same_item cs n x y (omega arith)
-
 -- A key that is at a place is found there.
 pub at_last : (cs : List Child) (k : Key) (n : ℕ) (d : Child) → n < length cs → (get_or cs n d).key ≡ k → IsFound cs k n
-at_last cs k n d within e = record { within = within; same = λ x. ap (λ (c : Child). c.key) (same_item cs n x d within) ∙ e }
+at_last cs k n d within e = record { within = within; same = λ x. ap (λ (c : Child). c.key) (get_or_default cs n x d within) ∙ e }

@@ -1,8 +1,9 @@
 -- The sizes below a key that a child has, and below a key that no child has.
-use Rattle.std.proofs.Common.{◌≡◌, ℕ, ◌||◌, inl, inr, Bool, true, false, cond, List, [], ◌∷◌, Option, None, Some, refl, sym, ap, subst, ◌∙◌, arith}
+use Rattle.std.proofs.Common.{◌≡◌, ℕ, inl, inr, true, false, cond, List, [], ◌∷◌, Option, None, Some, refl, sym, ap, subst, ◌∙◌, arith}
 use Rattle.allocative_graph.proofs.Common.{is_some, AllByRecursion, eq_by_cmp, is_eq, get, Child, Key, Path, key_cmp, size_under, AddsUp, AddsUpInPart, AllAbove}
 use Rattle.std.specs.Cmp.{Equal-is}
 use Rattle.allocative_graph.specs.Reads.{keys_of}
+use Rattle.allocative_graph.proofs.Basics.{each-implies, or_left}
 use Rattle.allocative_graph.proofs.ChildOrder.{key_same}
 
 -- No child has the key k.
@@ -10,8 +11,7 @@ abbrev pub Lacks : Key → List Child → Type 0
 Lacks k cs = AllByRecursion (λ l. eq_by_cmp key_cmp k l ≡ false) (keys_of cs)
 
 pub lacks-above : (k : Key) (cs : List Child) → AllAbove cs k → Lacks k cs
-lacks-above k [] h = tt
-lacks-above k (c ∷ cs) h = (ap is_eq h.0, lacks-above k cs h.1)
+lacks-above k cs h = each-implies _ _ (λ l. ap is_eq) (keys_of cs) h
 
 same-is : (k l : Key) → eq_by_cmp key_cmp k l ≡ true → k ≡ l
 same-is k l e = key_same k l ((Equal-is (key_cmp k l)).0 e)
@@ -25,10 +25,6 @@ pub none_above : (k l : Key) (p : Path) (cs : List Child) → eq_by_cmp key_cmp 
 none_above k l p cs e h = size_under-lacks cs k p (subst (λ m. Lacks m cs) (sym (same-is k l e)) (lacks-above l cs h))
 
 -- ---- sums of sizes
-or_left : (a b : Bool) → a ≡ true → (a || b) ≡ true
-or_left true b e = refl
-or_left false b e = absurd (cc)
-
 pub AddsUp-first : (x : Option ℕ) → AddsUp x None x
 AddsUp-first None = (refl, refl)
 AddsUp-first (Some n) = (omega arith, refl)

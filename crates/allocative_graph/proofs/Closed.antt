@@ -1,39 +1,19 @@
 -- A path with an entry one key below it has an entry itself, or is the root.
-use Rattle.std.proofs.Common.{◌≡◌, ◌+◌, Bool, true, false, cond, ◌&&◌, ◌||◌, IsTrue, ◌⊎◌, inl, inr, List, [], ◌∷◌, ◌++◌, flat_map, refl, ap, sym, ◌∙◌, subst, true≢false}
-use Rattle.allocative_graph.proofs.Common.{AllByRecursion, eq_by_cmp, nat_cmp-IsAntisymmetric, slice_cmp-IsAntisymmetric, Key, Path, key_cmp, is_same_path, is_one_below, Identity, Forest, Empty, Inline, Unique, First, Again, Entry, Bag, own, own_behind, contents, content_entries, all, is_entered_in}
-use Rattle.std.proofs.lemmas.List.Folds.{list_any-append}
-use Rattle.std.proofs.lemmas.List.Sums.{sum_by-cons}
-use Rattle.allocative_graph.proofs.Basics.{each-append, each-implies, or_left, or_right, is_eq-Equal, same_path_itself}
+use Rattle.std.proofs.Common.{◌≡◌, ℕ, ◌+◌, false, cond, IsTrue, ◌⊎◌, inl, inr, List, [], ◌∷◌, ◌++◌, flat_map, refl, sym, ◌∙◌, subst, true≢false}
+use Rattle.allocative_graph.proofs.Common.{AllByRecursion, eq_by_cmp, nat_cmp-IsAntisymmetric, slice_cmp-IsAntisymmetric, Key, Path, key_cmp, is_same_path, is_one_below, Identity, Forest, Empty, Inline, Unique, First, Again, AsInline, AsUnique, Entry, Bag, own, own_behind, contents, content_entries, all, is_entered_in, sum_by-cons}
+use Rattle.allocative_graph.specs.Forest.{Mark}
+use Rattle.allocative_graph.proofs.Basics.{each-append, each-implies, and_parts, any_left, any_right, or_left, or_right, false_from_ne_true, is_eq-Equal, same_path_itself}
 use Rattle.allocative_graph.proofs.Below.{below_in}
-
-and_first : (a b : Bool) → IsTrue (a && b) → IsTrue a
-and_first true b h = refl
-and_first false b h = h
-
-and_second : (a b : Bool) → IsTrue (a && b) → IsTrue b
-and_second true b h = h
-and_second false b h = absurd (true≢false (sym h))
-
-not_both : (a : Bool) → IsTrue (a && false) → ⊥
-not_both true h = true≢false (sym h)
-not_both false h = true≢false (sym h)
 
 pub one_below_child : (p r : Path) (k : Key) → IsTrue (is_one_below p (r ++ k ∷ [])) → p ≡ r
 one_below_child [] [] k h = refl
 one_below_child [] (l ∷ []) k h = absurd (true≢false (sym h))
 one_below_child [] (l ∷ m ∷ r) k h = absurd (true≢false (sym h))
-one_below_child (a ∷ []) [] k h = absurd (not_both _ h)
-one_below_child (a ∷ b ∷ p) [] k h = absurd (not_both _ h)
-one_below_child (a ∷ p) (l ∷ r) k h = λ i. slice_cmp-IsAntisymmetric nat_cmp-IsAntisymmetric a l (is_eq-Equal _ (and_first (eq_by_cmp key_cmp a l) _ h)) i ∷ one_below_child p r k (and_second (eq_by_cmp key_cmp a l) _ h) i
-
-entered-append : (p : Path) (b c : Bag) → is_entered_in (b ++ c) p ≡ (is_entered_in b p || is_entered_in c p)
-entered-append p b c = list_any-append (λ e. is_same_path p e.path) b c
-
-entered_left : (p : Path) (b c : Bag) → IsTrue (is_entered_in b p) → IsTrue (is_entered_in (b ++ c) p)
-entered_left p b c h = entered-append p b c ∙ or_left (is_entered_in b p) (is_entered_in c p) h
-
-entered_right : (p : Path) (b c : Bag) → IsTrue (is_entered_in c p) → IsTrue (is_entered_in (b ++ c) p)
-entered_right p b c h = entered-append p b c ∙ or_right (is_entered_in b p) (is_entered_in c p) h
+one_below_child (a ∷ []) [] k h = absurd (true≢false (sym (and_parts (eq_by_cmp key_cmp a k) false h).1))
+one_below_child (a ∷ b ∷ p) [] k h = absurd (true≢false (sym (and_parts (eq_by_cmp key_cmp a k) false h).1))
+one_below_child (a ∷ p) (l ∷ r) k h =
+    let parts = and_parts (eq_by_cmp key_cmp a l) _ h in
+    λ i. slice_cmp-IsAntisymmetric nat_cmp-IsAntisymmetric a l (is_eq-Equal _ parts.0) i ∷ one_below_child p r k parts.1 i
 
 module _ (has : Path → Type 0) where
   abbrev pub ParentIn : Path → Entry → Type 0
@@ -45,22 +25,21 @@ module _ (has : Path → Type 0) where
   deeper : (r s : Path) → has s → (e : Entry) → ParentIn s e → ParentIn r e
   deeper r s here e h p w = inr (elim (h p w) [ inl q ↦ subst has (sym q) here | inr q ↦ q ])
 
+  -- An entry at r ++ k ∷ [], with others inside it and after it.
+  closed_entry : (r : Path) (k : Key) (n : ℕ) (m : Mark) (b c : Bag) → Holds (record { path = r ++ k ∷ []; size = n; mark = m } ∷ (b ++ c))
+      → (Holds b → AllByRecursion (ParentIn (r ++ k ∷ [])) b) → (Holds c → AllByRecursion (ParentIn r) c) → AllByRecursion (ParentIn r) (record { path = r ++ k ∷ []; size = n; mark = m } ∷ (b ++ c))
+  closed_entry r k n m b c h inner outer =
+      let others : Holds (b ++ c) = λ p w. h p (or_right (is_same_path p (r ++ k ∷ [])) _ w) in (
+        λ p w. inl (one_below_child p r k w),
+        each-append (ParentIn r) b c
+            (each-implies (ParentIn (r ++ k ∷ [])) (ParentIn r) (deeper r (r ++ k ∷ []) (h (r ++ k ∷ []) (or_left _ _ (same_path_itself (r ++ k ∷ []))))) b (inner (λ p w. others p (any_left _ b c w))))
+            (outer (λ p w. others p (any_right _ b c w))),
+      )
+
   pub closed_behind : (r : Path) (f : Forest) → Holds (own_behind r f) → AllByRecursion (ParentIn r) (own_behind r f)
   closed_behind r Empty h = tt
-  closed_behind r (Inline k n f after) h = (
-    λ p w. inl (one_below_child p r k w),
-    each-append (ParentIn r) (own_behind (r ++ k ∷ []) f) (own_behind r after)
-        (each-implies (ParentIn (r ++ k ∷ [])) (ParentIn r) (deeper r (r ++ k ∷ []) (h (r ++ k ∷ []) (or_left _ _ (same_path_itself (r ++ k ∷ []))))) (own_behind (r ++ k ∷ []) f)
-        (closed_behind (r ++ k ∷ []) f (λ p w. h p (or_right (is_same_path p (r ++ k ∷ [])) _ (entered_left p (own_behind (r ++ k ∷ []) f) (own_behind r after) w)))))
-        (closed_behind r after (λ p w. h p (or_right (is_same_path p (r ++ k ∷ [])) _ (entered_right p (own_behind (r ++ k ∷ []) f) (own_behind r after) w)))),
-  )
-  closed_behind r (Unique k n f after) h = (
-    λ p w. inl (one_below_child p r k w),
-    each-append (ParentIn r) (own_behind (r ++ k ∷ []) f) (own_behind r after)
-        (each-implies (ParentIn (r ++ k ∷ [])) (ParentIn r) (deeper r (r ++ k ∷ []) (h (r ++ k ∷ []) (or_left _ _ (same_path_itself (r ++ k ∷ []))))) (own_behind (r ++ k ∷ []) f)
-        (closed_behind (r ++ k ∷ []) f (λ p w. h p (or_right (is_same_path p (r ++ k ∷ [])) _ (entered_left p (own_behind (r ++ k ∷ []) f) (own_behind r after) w)))))
-        (closed_behind r after (λ p w. h p (or_right (is_same_path p (r ++ k ∷ [])) _ (entered_right p (own_behind (r ++ k ∷ []) f) (own_behind r after) w)))),
-  )
+  closed_behind r (Inline k n f after) h = closed_entry r k n AsInline (own_behind (r ++ k ∷ []) f) (own_behind r after) h (closed_behind (r ++ k ∷ []) f) (closed_behind r after)
+  closed_behind r (Unique k n f after) h = closed_entry r k n AsUnique (own_behind (r ++ k ∷ []) f) (own_behind r after) h (closed_behind (r ++ k ∷ []) f) (closed_behind r after)
   closed_behind r (First k n j f after) h = (λ p w. inl (one_below_child p r k w), closed_behind r after (λ p w. h p (or_right (is_same_path p (r ++ k ∷ [])) _ w)))
   closed_behind r (Again k n j after) h = (λ p w. inl (one_below_child p r k w), closed_behind r after (λ p w. h p (or_right (is_same_path p (r ++ k ∷ [])) _ w)))
 
@@ -76,29 +55,20 @@ module _ (has : Path → Type 0) where
 
   closed_flat : (cs : List (Identity × Bag)) → AllByRecursion Closed cs → Holds (flat_map (λ c. c.1) cs) → AllByRecursion (ParentIn []) (flat_map (λ c. c.1) cs)
   closed_flat [] h w = tt
-  closed_flat (c ∷ cs) h w = each-append (ParentIn []) c.1 _ (h.0 (λ p g. w p (entered_left p c.1 (flat_map (λ c. c.1) cs) g))) (closed_flat cs h.1 (λ p g. w p (entered_right p c.1 (flat_map (λ c. c.1) cs) g)))
+  closed_flat (c ∷ cs) h w = each-append (ParentIn []) c.1 _ (h.0 (λ p g. w p (any_left _ c.1 (flat_map (λ c. c.1) cs) g))) (closed_flat cs h.1 (λ p g. w p (any_right _ c.1 (flat_map (λ c. c.1) cs) g)))
 
 pub closed_all : (f : Forest) → AllByRecursion (ParentIn (λ p. IsTrue (is_entered_in (all f) p)) []) (all f)
 closed_all f = each-append _ (own f) (content_entries f)
-    (closed_behind _ [] f (λ p h. entered_left p (own f) (content_entries f) h))
-    (closed_flat _ (contents f) (closed_each _ f) (λ p h. entered_right p (own f) (content_entries f) h))
+    (closed_behind _ [] f (λ p h. any_left _ (own f) (content_entries f) h))
+    (closed_flat _ (contents f) (closed_each _ f) (λ p h. any_right _ (own f) (content_entries f) h))
 
 pub below_none : (b : Bag) (p : Path) → AllByRecursion (λ e. is_one_below p e.path ≡ false) b → below_in b p ≡ 0
 below_none [] p h = refl
 below_none (e ∷ b) p h = sum_by-cons (λ e. cond (is_one_below p e.path) e.size 0) e b ∙ (λ i. cond (h.0 i) e.size 0 + below_none b p h.1 i)
 
-pub not_true : (b : Bool) → (IsTrue b → ⊥) → b ≡ false
-not_true true f = absurd (f refl)
-not_true false f = refl
-
-is_empty : Path → Bool
-is_empty [] = true
-is_empty (k ∷ p) = false
-
 pub not_root : (k : Key) (p : Path) → k ∷ p ≡ [] → ⊥
-unfolding is_empty
-not_root k p e = true≢false (sym (ap is_empty e))
+not_root k p e = cc
 
 -- Where a path other than the root is not entered, nothing is below it.
 pub absent_below : (f : Forest) (k : Key) (p : Path) → is_entered_in (all f) (k ∷ p) ≡ false → below_in (all f) (k ∷ p) ≡ 0
-absent_below f k p h = below_none (all f) (k ∷ p) (each-implies _ _ (λ e w. not_true _ (λ g. elim (w (k ∷ p) g) [ inl q ↦ not_root k p q | inr q ↦ true≢false (sym q ∙ h) ])) (all f) (closed_all f))
+absent_below f k p h = below_none (all f) (k ∷ p) (each-implies _ _ (λ e w. false_from_ne_true _ (λ g. elim (w (k ∷ p) g) [ inl q ↦ not_root k p q | inr q ↦ true≢false (sym q ∙ h) ])) (all f) (closed_all f))

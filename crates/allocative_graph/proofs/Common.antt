@@ -1,4 +1,13 @@
 -- The names that most proofs of this crate cite, passed on from one place. Declares nothing.
+pub use Rattle.std.proofs.lemmas.Fn.{always_returns_same}
+pub use Rattle.std.proofs.lemmas.Grind.{flat_map-append}
+pub use Rattle.std.proofs.lemmas.Iterator.Splits.{YieldsList-from_str_split}
+pub use Rattle.std.proofs.lemmas.List.{length-map, map-append, map_push, nil_from_length, take_more}
+pub use Rattle.std.proofs.lemmas.List.Elements.{All-from_recursion}
+pub use Rattle.std.proofs.lemmas.List.Folds.{fold-map, list_any-append}
+pub use Rattle.std.proofs.lemmas.List.Sorted.{IsPermutation-append_comm, IsPermutation-append_left, IsPermutation-append_right, IsPermutation-refl, IsPermutation-sym, IsPermutation-trans, list_any-IsPermutation, sum_by-IsPermutation}
+pub use Rattle.std.proofs.lemmas.List.Sums.{sum_by-cons}
+pub use lib.Chars.{codes}
 pub use Rattle.std.specs.Bool.{OnFalse}
 pub use Rattle.std.specs.Cmp.Lexicographic.{nat_list_cmp_total, slice_cmp}
 pub use Rattle.std.specs.FinMap.{IsAntisymmetric, contains_key, entries, entries-from_sorted, entries-insert, entries_sorted, from_entries, get, get-entries, get-from_entries, get-from_sorted, get-insert, keys, len, len-entries, nat_cmp-IsAntisymmetric, same_entries_map, same_map, slice_cmp-IsAntisymmetric}
@@ -23,8 +32,8 @@ pub use Rattle.allocative_graph.specs.Read.{AreStacks, IsCut, IsFault, IsNumber,
 pub use Rattle.allocative_graph.specs.Reads.{AreChildren, Figures, figures_behind, node, rows_of, rows_of_child, under_rows}
 pub use Rattle.allocative_graph.specs.Representation.Children.{AddsUp, AddsUpInPart, AllAbove, AllBelow, InOrder, IsChildGap, IsFound, size_under}
 pub use Rattle.allocative_graph.specs.Representation.Merged.{Added, Merged}
-pub use Rattle.allocative_graph.specs.Representation.Node.{weight}
-pub use Rattle.allocative_graph.specs.Representation.NodeRows.{entries-node, node_sorted}
+pub use Rattle.allocative_graph.specs.Representation.Node.{IsNode, weight}
+pub use Rattle.allocative_graph.specs.Representation.NodeRows.{both, entries-node, first, len-child, node_sorted, second}
 pub use Rattle.allocative_graph.specs.Representation.PathRows.{HasRootAlone, IsSumByPath, joined_on, line_from, lines_below, sum_of_rows}
 pub use Rattle.allocative_graph.specs.Representation.Stacks.{nested, one_stack, sum_of_stacks}
 pub use Rattle.allocative_graph.specs.Sums.{Node, Sums, add, add_all, below, bytes_in, is_entered_in, is_unique_in, node_of, sums_of, together}

@@ -1,6 +1,6 @@
 -- The maps of a bag as plain lists, on which texts compute.
-use Rattle.std.proofs.Common.{◌≡◌, ℕ, ◌+◌, unwrap_or, length, arith, ◌-◌, cond, List, [], ◌∷◌, ◌++◌, map, sum_by, flat_map, refl, ap, sym, ◌∙◌, nat_lt, not, ◌&&◌}
-use Rattle.allocative_graph.proofs.Common.{keys, entries, from_entries, get-entries, entries-insert, len-entries, put, find, Path, path_cmp, is_one_below, Entry, Bag, Node, Sums, add, add_all, sums_of, together, node_of, Graph, graph, sizes, size_at, sum_of, text, text_of_entries, warnings, is_root}
+use Rattle.std.proofs.Common.{◌≡◌, ℕ, ◌+◌, unwrap_or, ◌-◌, cond, List, [], ◌∷◌, ◌++◌, map, sum_by, flat_map, refl, ap, sym, ◌∙◌, nat_lt, not, ◌&&◌}
+use Rattle.allocative_graph.proofs.Common.{nil_from_length, keys, entries, from_entries, get-entries, entries-insert, len-entries, put, find, Path, path_cmp, is_one_below, Entry, Bag, Node, Sums, add, add_all, sums_of, together, node_of, Graph, graph, sizes, size_at, sum_of, text, text_of_entries, warnings, is_root}
 use Rattle.std.specs.FinMap.{empty, len-empty}
 use Rattle.allocative_graph.proofs.Basics.{path_total}
 use Rattle.allocative_graph.specs.Graph.{warning_line}
@@ -23,12 +23,8 @@ abbrev pub put_all : {X : Type 0} → List (Path × X) → List (Path × X)
 put_all [] = []
 put_all (e ∷ es) = put path_cmp e.0 e.1 (put_all es)
 
-no_length : {A : Type 0} (es : List A) → length es ≡ 0 → es ≡ []
-no_length [] e = refl
-no_length (x ∷ es) e = absurd (omega arith)
-
 pub entries-empty : {X : Type 0} → entries (empty {X = X} {R = path_cmp}) ≡ []
-entries-empty {X} = no_length _ (sym (len-entries (empty {X = X} {R = path_cmp})) ∙ len-empty path_cmp X)
+entries-empty {X} = nil_from_length _ (sym (len-entries (empty {X = X} {R = path_cmp})) ∙ len-empty path_cmp X)
 
 pub entries-from_entries : {X : Type 0} (es : List (Path × X)) → entries (from_entries {R = path_cmp} es) ≡ put_all es
 entries-from_entries [] = entries-empty

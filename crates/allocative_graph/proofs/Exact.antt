@@ -1,22 +1,15 @@
 -- Lines dropped from a text are paths left out of it.
-use Rattle.std.proofs.Common.{◌≡◌, ◌≢◌, ℕ, ◌==◌, Bool, true, false, cond, not, List, [], ◌∷◌, ◌++◌, map, flat_map, filter, refl, ap, sym, ◌∙◌, append_assoc, append-nil, decimal, eqb-true, arith}
-use Rattle.allocative_graph.proofs.Common.{AllByRecursion, eq_by_cmp, entries, Key, Path, key_cmp, Graph, text, joined, Lacks, HasPlainKeys}
-use lib.Chars.{codes}
+use Rattle.std.proofs.Common.{◌≡◌, ℕ, ◌==◌, Bool, true, false, cond, not, List, [], ◌∷◌, ◌++◌, map, flat_map, filter, refl, ap, sym, ◌∙◌, append_assoc, append-nil, decimal, ne_eqb, arith}
+use Rattle.allocative_graph.proofs.Common.{AllByRecursion, eq_by_cmp, entries, Key, Path, key_cmp, Graph, text, joined, Lacks, HasPlainKeys, codes}
 use Rattle.allocative_graph.specs.Graph.{line}
 use Rattle.allocative_graph.specs.Report.{ends_in, exact_text, lines_from, before_last, after_last, last_key, without_lines}
+use Rattle.allocative_graph.proofs.Basics.{each-map, on_test}
 use Rattle.allocative_graph.proofs.Text.{Plain, Sized, is_shown, full, body, shown_lines, full_body, body_lacks, decimal_lacks}
-
-pub differs : (b c : ℕ) → b ≢ c → (b == c) ≡ false
-differs b c h = by (b == c) refl
-  where
-    by : (t : Bool) → (b == c) ≡ t → t ≡ false
-    by true e = absurd (h (eqb-true b c e))
-    by false e = refl
 
 -- ---- the lines
 line_read : (acc a rest : List ℕ) → Lacks 10 a → lines_from acc (a ++ 10 ∷ rest) ≡ (acc ++ a) ∷ lines_from [] rest
 line_read acc [] rest h = λ i. sym (append-nil acc) i ∷ lines_from [] rest
-line_read acc (b ∷ a) rest h = ap (λ t. cond t (acc ∷ lines_from [] (a ++ 10 ∷ rest)) (lines_from (acc ++ b ∷ []) (a ++ 10 ∷ rest))) (differs b 10 h.0) ∙ line_read (acc ++ b ∷ []) a rest h.1 ∙ (λ i. append_assoc acc (b ∷ []) a i ∷ lines_from [] rest)
+line_read acc (b ∷ a) rest h = ap (λ t. cond t (acc ∷ lines_from [] (a ++ 10 ∷ rest)) (lines_from (acc ++ b ∷ []) (a ++ 10 ∷ rest))) (ne_eqb b 10 h.0) ∙ line_read (acc ++ b ∷ []) a rest h.1 ∙ (λ i. append_assoc acc (b ∷ []) a i ∷ lines_from [] rest)
 
 lines_read : (es : List Sized) → AllByRecursion (λ e. AllByRecursion Plain e.0) es → lines_from [] (flat_map full es) ≡ map body es
 lines_read [] h = refl
@@ -25,7 +18,7 @@ lines_read (e ∷ es) h = ap (lines_from []) (full_body e (flat_map full es)) �
 -- ---- the last key
 none_before : (c : ℕ) (best acc d : List ℕ) → Lacks c d → before_last c best acc d ≡ best
 none_before c best acc [] h = refl
-none_before c best acc (b ∷ d) h = ap (λ t. cond t (before_last c acc (acc ++ b ∷ []) d) (before_last c best (acc ++ b ∷ []) d)) (differs b c h.0) ∙ none_before c best (acc ++ b ∷ []) d h.1
+none_before c best acc (b ∷ d) h = ap (λ t. cond t (before_last c acc (acc ++ b ∷ []) d) (before_last c best (acc ++ b ∷ []) d)) (ne_eqb b c h.0) ∙ none_before c best (acc ++ b ∷ []) d h.1
 
 same_cond : {A : Type 0} (t : Bool) (x y z : A) → x ≡ z → y ≡ z → cond t x y ≡ z
 same_cond true x y z p q = p
@@ -41,7 +34,7 @@ after_skip acc (b ∷ a) x = same_cond (b == 59) _ _ _ (after_skip [] a x) (afte
 
 after_read : (acc a : List ℕ) → Lacks 59 a → after_last 59 acc a ≡ acc ++ a
 after_read acc [] h = sym (append-nil acc)
-after_read acc (b ∷ a) h = ap (λ t. cond t (after_last 59 [] a) (after_last 59 (acc ++ b ∷ []) a)) (differs b 59 h.0) ∙ after_read (acc ++ b ∷ []) a h.1 ∙ append_assoc acc (b ∷ []) a
+after_read acc (b ∷ a) h = ap (λ t. cond t (after_last 59 [] a) (after_last 59 (acc ++ b ∷ []) a)) (ne_eqb b 59 h.0) ∙ after_read (acc ++ b ∷ []) a h.1 ∙ append_assoc acc (b ∷ []) a
 
 last_of : (key k : Key) (p : Path) → AllByRecursion Plain (k ∷ p) → eq_by_cmp key_cmp key (after_last 59 [] (joined (k ∷ p))) ≡ ends_in key (k ∷ p)
 last_of key k [] h = ap (eq_by_cmp key_cmp key) (after_read [] k h.0.0)
@@ -54,33 +47,20 @@ last_key_of key k p n h = ap (λ l. eq_by_cmp key_cmp key (after_last 59 [] l)) 
 drop_each : (key : Key) (es : List Sized) → AllByRecursion (λ e. AllByRecursion Plain e.0) es → flat_map (λ e. cond (ends_in key e.0) [] (line e)) es ≡ flat_map (λ l. cond (eq_by_cmp key_cmp key (last_key l)) [] (l ++ 10 ∷ [])) (map body (filter is_shown es))
 drop_each key [] h = refl
 drop_each key (([], n) ∷ es) h = drop_each key es h.1
-drop_each key ((k ∷ p, n) ∷ es) h = by (n == 0) (drop_each key es h.1)
-  where
-    rest_of : List ℕ
-    rest_of = flat_map (λ l. cond (eq_by_cmp key_cmp key (last_key l)) [] (l ++ 10 ∷ [])) (map body (filter is_shown es))
-
-    by : (z : Bool) → flat_map (λ e. cond (ends_in key e.0) [] (line e)) es ≡ rest_of → cond (ends_in key (k ∷ p)) [] (cond z [] (full (k ∷ p, n))) ++ flat_map (λ e. cond (ends_in key e.0) [] (line e)) es ≡ flat_map (λ l. cond (eq_by_cmp key_cmp key (last_key l)) [] (l ++ 10 ∷ [])) (map body (cond (not z) ((k ∷ p, n) ∷ filter is_shown es) (filter is_shown es)))
-    by true rest = nothing (ends_in key (k ∷ p)) ∙ rest
-      where
-        nothing : (t : Bool) → cond t [] [] ++ flat_map (λ e. cond (ends_in key e.0) [] (line e)) es ≡ flat_map (λ e. cond (ends_in key e.0) [] (line e)) es
-        nothing true = refl
-        nothing false = refl
-    by false rest = (λ i. cond (sym (last_key_of key k p n h.0) i) [] (full (k ∷ p, n)) ++ rest i)
-
-each_kept : (es : List Sized) → AllByRecursion (λ p. AllByRecursion Plain p) (map (λ e. e.0) es) → AllByRecursion (λ e. AllByRecursion Plain e.0) es
-each_kept [] h = tt
-each_kept (e ∷ es) h = (h.0, each_kept es h.1)
+drop_each key ((k ∷ p, n) ∷ es) h =
+    let kept : List ℕ → List ℕ = λ l. cond (eq_by_cmp key_cmp key (last_key l)) [] (l ++ 10 ∷ []) in
+    let rest = drop_each key es h.1 in
+    on_test (λ z. cond (ends_in key (k ∷ p)) [] (cond z [] (full (k ∷ p, n))) ++ flat_map (λ e. cond (ends_in key e.0) [] (line e)) es ≡ flat_map kept (map body (cond (not z) ((k ∷ p, n) ∷ filter is_shown es) (filter is_shown es)))) (n == 0)
+    (λ e. on_test (λ t. cond t [] [] ++ flat_map (λ e. cond (ends_in key e.0) [] (line e)) es ≡ flat_map (λ e. cond (ends_in key e.0) [] (line e)) es) (ends_in key (k ∷ p)) (λ t. refl) (λ t. refl) ∙ rest)
+    (λ e i. cond (sym (last_key_of key k p n h.0) i) [] (full (k ∷ p, n)) ++ rest i)
 
 each_filtered : (es : List Sized) → AllByRecursion (λ e. AllByRecursion Plain e.0) es → AllByRecursion (λ e. AllByRecursion Plain e.0) (filter is_shown es)
 each_filtered [] h = tt
-each_filtered (e ∷ es) h = by (is_shown e) (each_filtered es h.1)
-  where
-    by : (t : Bool) → AllByRecursion (λ e. AllByRecursion Plain e.0) (filter is_shown es) → AllByRecursion (λ e. AllByRecursion Plain e.0) (cond t (e ∷ filter is_shown es) (filter is_shown es))
-    by true rest = (h.0, rest)
-    by false rest = rest
+each_filtered (e ∷ es) h = on_test (λ t. AllByRecursion (λ e. AllByRecursion Plain e.0) (cond t (e ∷ filter is_shown es) (filter is_shown es))) (is_shown e)
+    (λ t. (h.0, each_filtered es h.1)) (λ t. each_filtered es h.1)
 
 pub exact_is : (g : Graph) → HasPlainKeys g → exact_text g ≡ without_lines (codes "unused_capacity") (text g)
 exact_is g h =
-    let plain = each_kept (entries g) h in
+    let plain = each-map (AllByRecursion Plain) (λ e. e.0) (entries g) h in
     drop_each (codes "unused_capacity") (entries g) plain
     ∙ ap (flat_map (λ l. cond (eq_by_cmp key_cmp (codes "unused_capacity") (last_key l)) [] (l ++ 10 ∷ []))) (sym (ap (lines_from []) (shown_lines (entries g)) ∙ lines_read (filter is_shown (entries g)) (each_filtered (entries g) plain)))

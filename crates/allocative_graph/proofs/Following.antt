@@ -1,11 +1,8 @@
 -- One forest followed by another: their entries, their contents, and what they fit.
-use Rattle.std.proofs.Common.{◌≡◌, Bool, true, false, ◌||◌, IsTrue, List, [], ◌∷◌, ◌++◌, map, flat_map, refl, ap, sym, ◌∙◌, subst, append_assoc, IsPermutation}
-use Rattle.allocative_graph.proofs.Common.{contains, contains-insert, Path, Identities, Identity, is_same_identity, Forest, Empty, Inline, Unique, First, Again, AsInline, AsUnique, AsShared, Bag, own_behind, contents, content_entries, shown, followed_by, insert_all, met_after, Fits, is_among, added}
+use Rattle.std.proofs.Common.{◌≡◌, ◌↔◌, Bool, false, ◌||◌, IsTrue, List, [], ◌∷◌, ◌++◌, map, flat_map, refl, ap, sym, ◌∙◌, subst, append_assoc, IsPermutation}
+use Rattle.allocative_graph.proofs.Common.{contains, contains-insert, Path, Identities, Identity, is_same_identity, Forest, Empty, Inline, Unique, First, Again, AsInline, AsUnique, AsShared, Bag, own_behind, contents, content_entries, shown, followed_by, insert_all, met_after, Fits, is_among, added, map-append, flat_map-append, IsPermutation-append_left, IsPermutation-append_right, IsPermutation-append_comm}
 use Rattle.std.specs.FinSet.{insert}
-use Rattle.std.proofs.lemmas.List.{map-append}
-use Rattle.std.proofs.lemmas.Grind.{flat_map-append}
-use Rattle.std.proofs.lemmas.List.Sorted.{IsPermutation-append_left, IsPermutation-append_right, IsPermutation-append_comm}
-use Rattle.allocative_graph.proofs.Basics.{or_left, or_right, identity_total, same_identity_itself}
+use Rattle.allocative_graph.proofs.Basics.{or_assoc, or_left, or_right, identity_total, same_identity_itself}
 use Rattle.allocative_graph.proofs.Reach.{Contents, ids, insert_all-append, met-append, among-append}
 
 pub own-following : (p : Path) (f g : Forest) → own_behind p (followed_by f g) ≡ own_behind p f ++ own_behind p g
@@ -40,38 +37,28 @@ added-following p f g = subst (λ x. IsPermutation x (added p f ++ added p g)) (
     (across (own_behind p f) (own_behind p g) (content_entries f) (content_entries g))
 
 -- ---- fitting
-pub fits-first : (s : Identities) (f g : Forest) → Fits s (followed_by f g) → Fits s f
-fits-first s Empty g w = tt
-fits-first s (Inline k n f after) g w = (w.0, fits-first (met_after s f) after g w.1)
-fits-first s (Unique k n f after) g w = (w.0, fits-first (met_after s f) after g w.1)
-fits-first s (First k n j f after) g w = (w.0, w.1, fits-first (met_after (insert s j) f) after g w.2)
-fits-first s (Again k n j after) g w = (w.0, fits-first s after g w.1)
+fits_inside : (s : Identities) (f after g : Forest) → Fits (met_after s f) (followed_by after g) ↔ (Fits (met_after s f) after × Fits (met_after (met_after s f) after) g)
+    → (Fits s f × Fits (met_after s f) (followed_by after g)) ↔ ((Fits s f × Fits (met_after s f) after) × Fits (insert_all s (ids (contents f ++ contents after))) g)
+fits_inside s f after g rest =
+    let met = ap (λ t. Fits t g) (met-append s (contents f) (contents after)) in
+    (λ w. let x = rest.0 w.1 in ((w.0, x.0), subst (λ X. X) (sym met) x.1), λ w. (w.0.0, rest.1 (w.0.1, subst (λ X. X) met w.1)))
 
-pub fits-second : (s : Identities) (f g : Forest) → Fits s (followed_by f g) → Fits (met_after s f) g
-fits-second s Empty g w = w
-fits-second s (Inline k n f after) g w = subst (λ t. Fits t g) (sym (met-append s (contents f) (contents after))) (fits-second (met_after s f) after g w.1)
-fits-second s (Unique k n f after) g w = subst (λ t. Fits t g) (sym (met-append s (contents f) (contents after))) (fits-second (met_after s f) after g w.1)
-fits-second s (First k n j f after) g w = subst (λ t. Fits t g) (sym (met-append (insert s j) (contents f) (contents after))) (fits-second (met_after (insert s j) f) after g w.2)
-fits-second s (Again k n j after) g w = fits-second s after g w.1
-
-pub fits-both : (s : Identities) (f g : Forest) → Fits s f → Fits (met_after s f) g → Fits s (followed_by f g)
-fits-both s Empty g v w = w
-fits-both s (Inline k n f after) g v w = (v.0, fits-both (met_after s f) after g v.1 (subst (λ t. Fits t g) (met-append s (contents f) (contents after)) w))
-fits-both s (Unique k n f after) g v w = (v.0, fits-both (met_after s f) after g v.1 (subst (λ t. Fits t g) (met-append s (contents f) (contents after)) w))
-fits-both s (First k n j f after) g v w = (v.0, v.1, fits-both (met_after (insert s j) f) after g v.2 (subst (λ t. Fits t g) (met-append (insert s j) (contents f) (contents after)) w))
-fits-both s (Again k n j after) g v w = (v.0, fits-both s after g v.1 w)
+pub fits-following : (s : Identities) (f g : Forest) → Fits s (followed_by f g) ↔ (Fits s f × Fits (met_after s f) g)
+fits-following s Empty g = (λ w. (tt, w), λ w. w.1)
+fits-following s (Inline k n f after) g = fits_inside s f after g (fits-following (met_after s f) after g)
+fits-following s (Unique k n f after) g = fits_inside s f after g (fits-following (met_after s f) after g)
+fits-following s (First k n j f after) g =
+    let both = fits_inside (insert s j) f after g (fits-following (met_after (insert s j) f) after g) in
+    (λ w. let x = both.0 (w.1, w.2) in ((w.0, x.0.0, x.0.1), x.1), λ w. let x = both.1 ((w.0.1, w.0.2), w.1) in (w.0.0, x.0, x.1))
+fits-following s (Again k n j after) g = let rest = fits-following s after g in (λ w. let x = rest.0 w.1 in ((w.0, x.0), x.1), λ w. (w.0.0, rest.1 (w.0.1, w.1)))
 
 -- ---- a set with more identities, of which none is shown
 module _ (more : Identity → Bool) where
-  or_assoc : (a b c : Bool) → (a || (b || c)) ≡ ((a || b) || c)
-  or_assoc true b c = refl
-  or_assoc false b c = refl
-
   abbrev pub HasMore : Identities → Identities → Type 0
   HasMore s t = (i : Identity) → contains t i ≡ (contains s i || more i)
 
   more-insert : (s t : Identities) (j : Identity) → HasMore s t → HasMore (insert s j) (insert t j)
-  more-insert s t j h i = contains-insert identity_total t j i ∙ ap (λ b. is_same_identity i j || b) (h i) ∙ or_assoc (is_same_identity i j) (contains s i) (more i) ∙ ap (λ b. b || more i) (sym (contains-insert identity_total s j i))
+  more-insert s t j h i = contains-insert identity_total t j i ∙ ap (λ b. is_same_identity i j || b) (h i) ∙ sym (or_assoc (is_same_identity i j) (contains s i) (more i)) ∙ ap (λ b. b || more i) (sym (contains-insert identity_total s j i))
 
   more-insert_all : (s t : Identities) (is : List Identity) → HasMore s t → HasMore (insert_all s is) (insert_all t is)
   more-insert_all s t [] h = h

@@ -15,7 +15,6 @@ pub mod PathOrder
 pub mod Listing
 pub mod Graphs
 pub mod Exact
-pub mod RowSums
 pub mod NodeText
 pub mod NodeSizes
 pub mod ChildOrder

@@ -1,11 +1,9 @@
 -- What a bag adds to the sums, path by path, whatever its order.
-use Rattle.std.proofs.Common.{◌≡◌, ℕ, ◌+◌, Bool, true, false, cond, ◌||◌, [], ◌∷◌, ◌++◌, Option, Some, None, refl, ap, sym, ◌∙◌, true≢false, IsPermutation, arith}
-use Rattle.allocative_graph.proofs.Common.{get, get-insert, same_map, Path, path_cmp, is_same_path, Entry, Bag, Node, Sums, bytes_in, is_unique_in, is_entered_in, together, node_of, add, add_all, sums_of}
+use Rattle.std.proofs.Common.{◌≡◌, ℕ, ◌+◌, Bool, false, cond, ◌||◌, [], ◌∷◌, ◌++◌, Option, Some, None, refl, ap, sym, ◌∙◌, IsPermutation, add-zero, zero-add, add_assoc}
+use Rattle.allocative_graph.proofs.Common.{get, get-insert, same_map, Path, path_cmp, is_same_path, Entry, Bag, Node, Sums, bytes_in, is_unique_in, is_entered_in, together, node_of, add, add_all, sums_of, sum_by-cons, sum_by-IsPermutation, list_any-IsPermutation}
 use Rattle.std.specs.FinMap.{empty, get-empty}
-use Rattle.std.proofs.lemmas.List.Sums.{sum_by-cons}
-use Rattle.std.proofs.lemmas.List.Sorted.{sum_by-IsPermutation, list_any-IsPermutation}
 use Rattle.allocative_graph.specs.Sums.{is_unique_mark}
-use Rattle.allocative_graph.proofs.Basics.{path_total, path_antisymmetric, same_path}
+use Rattle.allocative_graph.proofs.Basics.{path_total, path_antisymmetric, same_path, on_test, or_assoc, or-false, or_parts}
 
 -- What a bag has at a path.
 abbrev pub node_in : Bag → Path → Option Node
@@ -15,56 +13,28 @@ abbrev pub merge : Option Node → Option Node → Option Node
 merge a None = a
 merge a (Some n) = Some (together a n)
 
-zero_before : (n : ℕ) → 0 + n ≡ n
-zero_before n = omega arith
-
 bytes-cons : (e : Entry) (b : Bag) (q : Path) → bytes_in (e ∷ b) q ≡ cond (is_same_path q e.path) e.size 0 + bytes_in b q
 bytes-cons e b q = sum_by-cons (λ e. cond (is_same_path q e.path) e.size 0) e b
 
 bytes_none : (b : Bag) (q : Path) → is_entered_in b q ≡ false → bytes_in b q ≡ 0
 bytes_none [] q h = refl
-bytes_none (e ∷ b) q h = bytes-cons e b q ∙ by (is_same_path q e.path) h (bytes_none b q)
-  where
-    by : (t : Bool) → (t || is_entered_in b q) ≡ false → (is_entered_in b q ≡ false → bytes_in b q ≡ 0) → cond t e.size 0 + bytes_in b q ≡ 0
-    by true g rest = absurd (true≢false g)
-    by false g rest = zero_before _ ∙ rest g
+bytes_none (e ∷ b) q h = let no = or_parts (is_same_path q e.path) _ h in bytes-cons e b q ∙ (λ i. cond (no.0 i) e.size 0 + bytes_none b q no.1 i)
 
 unique_none : (b : Bag) (q : Path) → is_entered_in b q ≡ false → is_unique_in b q ≡ false
 unique_none [] q h = refl
-unique_none (e ∷ b) q h = by (is_same_path q e.path) h (unique_none b q)
-  where
-    by : (t : Bool) → (t || is_entered_in b q) ≡ false → (is_entered_in b q ≡ false → is_unique_in b q ≡ false) → (cond t (is_unique_mark e.mark) false || is_unique_in b q) ≡ false
-    by true g rest = absurd (true≢false g)
-    by false g rest = rest g
+unique_none (e ∷ b) q h = let no = or_parts (is_same_path q e.path) _ h in (λ i. cond (no.0 i) (is_unique_mark e.mark) false || unique_none b q no.1 i)
 
 abbrev node : ℕ → Bool → Node
 node n u = record { bytes = n; is_unique = u }
 
-or_false : (u : Bool) → (u || false) ≡ u
-or_false true = refl
-or_false false = refl
-
-or_assoc : (u v w : Bool) → ((u || v) || w) ≡ (u || (v || w))
-or_assoc true v w = refl
-or_assoc false v w = refl
-
-zero_after : (n : ℕ) → n + 0 ≡ n
-zero_after n = omega arith
-
-assoc : (a b c : ℕ) → (a + b) + c ≡ a + (b + c)
-assoc a b c = omega arith
-
 -- A node that is there is merged with what the bag has there, also where that is nothing.
 merge_there : (m : Node) (b : Bag) (q : Path) → merge (Some m) (node_in b q) ≡ Some (node (m.bytes + bytes_in b q) (m.is_unique || is_unique_in b q))
-merge_there m b q = by (is_entered_in b q) refl
-  where
-    by : (t : Bool) → is_entered_in b q ≡ t → merge (Some m) (cond t (Some (node (bytes_in b q) (is_unique_in b q))) None) ≡ Some (node (m.bytes + bytes_in b q) (m.is_unique || is_unique_in b q))
-    by true e = refl
-    by false e = λ i. Some (node ((sym (zero_after m.bytes) ∙ ap (λ n. m.bytes + n) (sym (bytes_none b q e))) i) ((sym (or_false m.is_unique) ∙ ap (λ u. m.is_unique || u) (sym (unique_none b q e))) i))
+merge_there m b q = on_test (λ t. merge (Some m) (cond t (Some (node (bytes_in b q) (is_unique_in b q))) None) ≡ Some (node (m.bytes + bytes_in b q) (m.is_unique || is_unique_in b q))) (is_entered_in b q) (λ e. refl)
+    (λ e i. Some (node ((sym (add-zero m.bytes) ∙ ap (λ n. m.bytes + n) (sym (bytes_none b q e))) i) ((sym (or-false m.is_unique) ∙ ap (λ u. m.is_unique || u) (sym (unique_none b q e))) i)))
 
 together_step : (o : Option Node) (n m : ℕ) (u v : Bool) → Some (node ((together o (node n u)).bytes + m) ((together o (node n u)).is_unique || v)) ≡ Some (together o (node (n + m) (u || v)))
 together_step None n m u v = refl
-together_step (Some old) n m u v = λ i. Some (node (assoc old.bytes n m i) (or_assoc old.is_unique u v i))
+together_step (Some old) n m u v = λ i. Some (node (add_assoc old.bytes n m i) (or_assoc old.is_unique u v i))
 
 pub get-add : (s : Sums) (e : Entry) (q : Path) → get (add s e) q ≡ cond (is_same_path q e.path) (Some (together (get s e.path) (node_of e))) (get s q)
 get-add s e q = get-insert path_total s e.path _ q
@@ -73,21 +43,16 @@ pub get-add_all : (s : Sums) (b : Bag) (q : Path) → get (add_all s b) q ≡ me
 get-add_all s [] q = refl
 get-add_all s (e ∷ b) q =
     get-add_all (add s e) b q ∙ ap (λ o. merge o (node_in b q)) (get-add s e q)
-    ∙ by (is_same_path q e.path) refl
+    ∙ on_test (λ t. merge (cond t (Some (together (get s e.path) (node_of e))) (get s q)) (node_in b q)
+    ≡ merge (get s q) (cond (t || is_entered_in b q) (Some (node (cond t e.size 0 + bytes_in b q) (cond t (is_unique_mark e.mark) false || is_unique_in b q))) None)) (is_same_path q e.path)
+    (λ h. merge_there (together (get s e.path) (node_of e)) b q ∙ together_step (get s e.path) e.size (bytes_in b q) (is_unique_mark e.mark) (is_unique_in b q)
+    ∙ ap (λ p. Some (together (get s p) (node (e.size + bytes_in b q) (is_unique_mark e.mark || is_unique_in b q)))) (sym (same_path q e.path h)))
+    (λ h. ap (λ n. merge (get s q) (cond (is_entered_in b q) (Some (node n (is_unique_in b q))) None)) (sym (zero-add (bytes_in b q))))
     ∙ ap (λ n. merge (get s q) (cond (is_same_path q e.path || is_entered_in b q) (Some (node n (cond (is_same_path q e.path) (is_unique_mark e.mark) false || is_unique_in b q))) None)) (sym (bytes-cons e b q))
-  where
-    by : (t : Bool) → is_same_path q e.path ≡ t → merge (cond t (Some (together (get s e.path) (node_of e))) (get s q)) (node_in b q)
-        ≡ merge (get s q) (cond (t || is_entered_in b q) (Some (node (cond t e.size 0 + bytes_in b q) (cond t (is_unique_mark e.mark) false || is_unique_in b q))) None)
-    by true h = merge_there (together (get s e.path) (node_of e)) b q ∙ together_step (get s e.path) e.size (bytes_in b q) (is_unique_mark e.mark) (is_unique_in b q)
-        ∙ ap (λ p. Some (together (get s p) (node (e.size + bytes_in b q) (is_unique_mark e.mark || is_unique_in b q)))) (sym (same_path q e.path h))
-    by false h = ap (λ n. merge (get s q) (cond (is_entered_in b q) (Some (node n (is_unique_in b q))) None)) (sym (zero_before (bytes_in b q)))
 
 pub get-sums_of : (b : Bag) (q : Path) → get (sums_of b) q ≡ node_in b q
-get-sums_of b q = get-add_all empty b q ∙ ap (λ o. merge o (node_in b q)) (get-empty path_cmp q) ∙ by (is_entered_in b q)
-  where
-    by : (t : Bool) → merge None (cond t (Some (node (bytes_in b q) (is_unique_in b q))) None) ≡ cond t (Some (node (bytes_in b q) (is_unique_in b q))) None
-    by true = refl
-    by false = refl
+get-sums_of b q = get-add_all empty b q ∙ ap (λ o. merge o (node_in b q)) (get-empty path_cmp q)
+    ∙ on_test (λ t. merge None (cond t (Some (node (bytes_in b q) (is_unique_in b q))) None) ≡ cond t (Some (node (bytes_in b q) (is_unique_in b q))) None) (is_entered_in b q) (λ e. refl) (λ e. refl)
 
 pub same_sums : (s t : Sums) → ((q : Path) → get s q ≡ get t q) → s ≡ t
 same_sums s t is = same_map path_total path_antisymmetric s t is

@@ -1,25 +1,22 @@
 -- Where no identity is reached by both and the sums can be added, the graphs add up.
-use Rattle.std.proofs.Common.{◌≡◌, ℕ, ◌+◌, ◌-◌, ◌≤◌, Bool, true, false, cond, ◌||◌, IsTrue, ◌⊎◌, inl, inr, List, [], ◌∷◌, ◌++◌, map, Option, Some, None, is_some, refl, ap, sym, ◌∙◌, true≢false, arith, unwrap_or}
-use Rattle.allocative_graph.proofs.Common.{option_map, list_any, get, entries, keys, get-entries, get-from_entries, same_map, find, Key, Path, path_cmp, is_same_path, Identity, Forest, all, shown, followed_by, met_after, is_among, IsWhole, Node, Sums, is_entered_in, add_all, sums_of, below, Graph, graph, sizes, remaining, size_at, sum_of, CanBeAdded}
+use Rattle.std.proofs.Common.{◌≡◌, ℕ, ◌+◌, ◌-◌, ◌≤◌, Bool, true, false, cond, ◌||◌, IsTrue, ◌⊎◌, List, [], ◌∷◌, ◌++◌, map, Option, Some, None, is_some, refl, ap, sym, ◌∙◌, true≢false, arith, unwrap_or}
+use Rattle.allocative_graph.proofs.Common.{option_map, list_any, get, entries, keys, get-entries, get-from_entries, same_map, find, Key, Path, path_cmp, is_same_path, Identity, Forest, all, shown, followed_by, met_after, is_among, IsWhole, Node, Sums, is_entered_in, add_all, sums_of, below, Graph, graph, sizes, remaining, size_at, sum_of, CanBeAdded, list_any-append}
 use Rattle.std.specs.FinMap.{empty, contains_key-keys}
 use Rattle.std.specs.FinSet as set
-use Rattle.std.proofs.lemmas.List.Folds.{list_any-append}
 use Rattle.allocative_graph.specs.Meaning.{ReachApart}
-use Rattle.allocative_graph.proofs.Basics.{path_total, path_antisymmetric, same_path}
+use Rattle.allocative_graph.proofs.Basics.{path_total, path_antisymmetric, same_path, on_test, false_from_ne_true}
 use Rattle.allocative_graph.proofs.Reach.{reaches_exactly, contains-insert_all}
 use Rattle.allocative_graph.proofs.Lookups.{merge, get-add_all, get-sums_of, add_all-permutation, add_all-append}
 use Rattle.allocative_graph.proofs.Below.{below-add_all, below-sums_of}
-use Rattle.allocative_graph.proofs.Closed.{absent_below, not_true}
-use Rattle.allocative_graph.proofs.Following.{fits-both, fits_more, added-following}
+use Rattle.allocative_graph.proofs.Closed.{absent_below}
+use Rattle.allocative_graph.proofs.Following.{fits-following, fits_more, added-following}
 
 -- ---- what a graph has at a path
 find-mapped : {X Y : Type 0} (r : Path → X → Y) (es : List (Path × X)) (q : Path) → find path_cmp q (map (λ e. (e.0, r e.0 e.1)) es) ≡ option_map (r q) (find path_cmp q es)
 find-mapped r [] q = refl
-find-mapped {X} {Y} r (e ∷ es) q = by (is_same_path q e.0) refl (find-mapped r es q)
-  where
-    by : (t : Bool) → is_same_path q e.0 ≡ t → find path_cmp q (map (λ e. (e.0, r e.0 e.1)) es) ≡ option_map (r q) (find path_cmp q es) → cond t (Some (r e.0 e.1)) (find path_cmp q (map (λ e. (e.0, r e.0 e.1)) es)) ≡ option_map (r q) (cond t (Some e.1) (find path_cmp q es))
-    by true h rest = ap (λ p. Some (r p e.1)) (sym (same_path q e.0 h))
-    by false h rest = rest
+find-mapped r (e ∷ es) q = on_test (λ t. cond t (Some (r e.0 e.1)) (find path_cmp q (map (λ e. (e.0, r e.0 e.1)) es)) ≡ option_map (r q) (cond t (Some e.1) (find path_cmp q es))) (is_same_path q e.0)
+    (λ h. ap (λ p. Some (r p e.1)) (sym (same_path q e.0 h)))
+    (λ h. find-mapped r es q)
 
 pub get-graph : (s : Sums) (k : Key) (p : Path) → get (graph s) (k ∷ p) ≡ option_map (remaining s (k ∷ p)) (get s (k ∷ p))
 get-graph s k p = get-from_entries path_total (sizes s) (k ∷ p) ∙ find-mapped (remaining s) (entries s) (k ∷ p) ∙ ap (option_map (remaining s (k ∷ p))) (sym (get-entries s (k ∷ p)))
@@ -29,11 +26,9 @@ get-graph-root s = get-from_entries path_total (sizes s) []
 
 find-keys : {Y : Type 0} (v : Path → Y) (ks : List Path) (q : Path) → find path_cmp q (map (λ p. (p, v p)) ks) ≡ cond (list_any (is_same_path q) ks) (Some (v q)) None
 find-keys v [] q = refl
-find-keys v (k ∷ ks) q = by (is_same_path q k) refl (find-keys v ks q)
-  where
-    by : (t : Bool) → is_same_path q k ≡ t → find path_cmp q (map (λ p. (p, v p)) ks) ≡ cond (list_any (is_same_path q) ks) (Some (v q)) None → cond t (Some (v k)) (find path_cmp q (map (λ p. (p, v p)) ks)) ≡ cond (t || list_any (is_same_path q) ks) (Some (v q)) None
-    by true h rest = ap (λ p. Some (v p)) (sym (same_path q k h))
-    by false h rest = rest
+find-keys v (k ∷ ks) q = on_test (λ t. cond t (Some (v k)) (find path_cmp q (map (λ p. (p, v p)) ks)) ≡ cond (t || list_any (is_same_path q) ks) (Some (v q)) None) (is_same_path q k)
+    (λ h. ap (λ p. Some (v p)) (sym (same_path q k h)))
+    (λ h. find-keys v ks q)
 
 pub get-sum_of : (g h : Graph) (q : Path) → get (sum_of g h) q ≡ cond (is_some (get g q) || is_some (get h q)) (Some (size_at g q + size_at h q)) None
 get-sum_of g h q = get-from_entries path_total _ q ∙ find-keys (λ p. size_at g p + size_at h p) (keys g ++ keys h) q
@@ -46,23 +41,14 @@ rest_of under m = cond m.is_unique m.bytes (m.bytes - under)
 abbrev Fit : ℕ → ℕ → Node → Node → Type 0
 Fit a b m n = (m.is_unique ≡ n.is_unique) × (m.is_unique ≡ false → (a ≤ m.bytes) × (b ≤ n.bytes) ⊎ (m.bytes ≤ a) × (n.bytes ≤ b))
 
-differences : (a b m n : ℕ) → (a ≤ m) × (b ≤ n) ⊎ (m ≤ a) × (n ≤ b) → (m - a) + (n - b) ≡ (m + n) - (a + b)
-differences a b m n (inl h) = omega (arith, h.0, h.1)
-differences a b m n (inr h) = omega (arith, h.0, h.1)
-
 two_nodes : (a b m n : ℕ) (u v : Bool) → u ≡ v → (u ≡ false → (a ≤ m) × (b ≤ n) ⊎ (m ≤ a) × (n ≤ b)) → cond u m (m - a) + cond v n (n - b) ≡ cond (u || v) (m + n) ((m + n) - (a + b))
-two_nodes a b m n true true e f = refl
-two_nodes a b m n true false e f = absurd (true≢false e)
-two_nodes a b m n false true e f = absurd (true≢false (sym e))
-two_nodes a b m n false false e f = differences a b m n (f refl)
+two_nodes a b m n u v e f = grind arith
 
 one_node : (a b m : ℕ) (u : Bool) → b ≡ 0 → cond u m (m - a) + 0 ≡ cond u m (m - (a + b))
-one_node a b m true e = omega arith
-one_node a b m false e = omega (arith, e)
+one_node a b m u e = grind arith
 
 other_node : (a b m : ℕ) (u : Bool) → a ≡ 0 → 0 + cond u m (m - b) ≡ cond u m (m - (a + b))
-other_node a b m true e = omega arith
-other_node a b m false e = omega (arith, e)
+other_node a b m u e = grind arith
 
 at_path : (a b : ℕ) (x y : Option Node) → (x ≡ None → a ≡ 0) → (y ≡ None → b ≡ 0) → ((m n : Node) → x ≡ Some m → y ≡ Some n → Fit a b m n)
     → cond (is_some (option_map (rest_of a) x) || is_some (option_map (rest_of b) y)) (Some (unwrap_or (option_map (rest_of a) x) 0 + unwrap_or (option_map (rest_of b) y) 0)) None ≡ option_map (rest_of (a + b)) (merge x y)
@@ -111,7 +97,7 @@ graphs_add f g can = same_map path_total path_antisymmetric _ _ each
         ∙ sym (get-graph u k p) ∙ ap (λ x. get (graph x) (k ∷ p)) (sym (sums_following f g))
 
 pub whole_following : (f g : Forest) → IsWhole f → IsWhole g → ReachApart f g → IsWhole (followed_by f g)
-whole_following f g v w apart = fits-both set.empty f g v (fits_more (λ i. is_among i (shown f)) set.empty (met_after set.empty f) g (contains-insert_all set.empty (shown f)) away w)
+whole_following f g v w apart = (fits-following set.empty f g).1 (v, fits_more (λ i. is_among i (shown f)) set.empty (met_after set.empty f) g (contains-insert_all set.empty (shown f)) away w)
   where
     away : (i : Identity) → IsTrue (is_among i (shown g)) → is_among i (shown f) ≡ false
-    away i h = not_true _ (λ there. apart i ((reaches_exactly f v i).0 there) ((reaches_exactly g w i).0 h))
+    away i h = false_from_ne_true _ (λ there. apart i ((reaches_exactly f v i).0 there) ((reaches_exactly g w i).0 h))

@@ -1,19 +1,18 @@
 -- Nodes are trees, and add up where their own sizes and their children do.
-use Rattle.std.proofs.Common.{◌≡◌, ℕ, ◌+◌, Bool, true, false, cond, List, [], ◌∷◌, ◌++◌, length, sym, ap, subst, ◌∙◌, arith}
-use Rattle.allocative_graph.proofs.Common.{is_some, eq_by_cmp, get, contains_key, len, len-entries, Child, Key, Path, key_cmp, IsTree, under, node, rows_of, AreChildren, size_under, Added, Merged, entries-node}
+use Rattle.std.proofs.Common.{◌≡◌, ℕ, ◌+◌, ◌<◌, ◌^◌, Bool, true, cond, List, [], ◌∷◌, ◌++◌, length, length-append, sym, ap, subst, subst₂, ◌∙◌, arith}
+use Rattle.allocative_graph.proofs.Common.{is_some, eq_by_cmp, get, contains_key, entries, len, len-entries, Child, Key, Path, key_cmp, Graph, IsTree, size_at, total, under, node, rows_of, rows_of_child, AreChildren, IsNode, weight, size_under, Added, Merged, entries-node, len-child}
 use Rattle.allocative_graph.specs.Reads.{AllTrees}
+use Rattle.allocative_graph.proofs.Basics.{on_test}
 use Rattle.allocative_graph.proofs.ChildLookup.{get-root, get-under, node_sum, node_part, node_of_one}
-use Rattle.allocative_graph.proofs.ChildOrder.{one_child}
-use Rattle.allocative_graph.proofs.NodeSizes.{total-node}
+use Rattle.allocative_graph.proofs.ChildOrder.{one_child, first_tree}
+use Rattle.allocative_graph.proofs.ChildRows.{weight-one}
+use Rattle.allocative_graph.proofs.NodeSizes.{total-node, size_at-root}
 
 has_parent : (cs : List Child) (l : Key) (p : Path) (k : Key) → AllTrees cs → is_some (size_under cs l (p ++ k ∷ [])) ≡ true → is_some (size_under cs l p) ≡ true
 has_parent [] l p k h e = e
-has_parent (c ∷ cs) l p k h e = go (eq_by_cmp key_cmp l c.key) (has_parent cs l p k h.1) e
-  where
-    go : (b : Bool) → (is_some (size_under cs l (p ++ k ∷ [])) ≡ true → is_some (size_under cs l p) ≡ true)
-        → is_some (cond b (get c.graph (p ++ k ∷ [])) (size_under cs l (p ++ k ∷ []))) ≡ true → is_some (cond b (get c.graph p) (size_under cs l p)) ≡ true
-    go true r e = h.0.closed p k e
-    go false r e = r e
+has_parent (c ∷ cs) l p k h e =
+    on_test (λ b. is_some (cond b (get c.graph (p ++ k ∷ [])) (size_under cs l (p ++ k ∷ []))) ≡ true → is_some (cond b (get c.graph p) (size_under cs l p)) ≡ true) (eq_by_cmp key_cmp l c.key)
+    (λ s. h.0.closed p k) (λ s. has_parent cs l p k h.1) e
 
 pub node_tree : (n : ℕ) (cs : List Child) → AreChildren cs → IsTree (node n cs)
 node_tree n cs h = record { root = ap is_some (get-root n cs h.sorted); closed = from }
@@ -31,13 +30,47 @@ added_node all m n cs ds es a b h = record {
 }
 
 -- With one child merged into its children, a node has the graph under that child's key added.
-pub added_under : (all : Bool) (m : ℕ) (cs es : List Child) (c : Child) → AreChildren cs → IsTree c.graph → Merged all cs (c ∷ []) es → Added all (node m cs) (under c.key c.graph) (node m es)
-added_under all m cs es c a t h =
-    let one = one_child c t in
-    let whole : Added all (node m cs) (node 0 (c ∷ [])) (node (m + 0) es) = added_node all m 0 cs (c ∷ []) es a one h in
+pub added_under : {all : Bool} {m s : ℕ} {cs es : List Child} {g : Graph} (c : Child) → node m cs ≡ g → IsNode cs s m → IsTree c.graph → Merged all cs (c ∷ []) es → Added all g (under c.key c.graph) (node m es)
+added_under {all = all} {m = m} {cs = cs} {es = es} {g = g} c view a t h =
     let no_more : m + 0 ≡ m = omega arith in
-    subst (λ n. Added all (node m cs) (under c.key c.graph) (node n es)) no_more (subst (λ g. Added all (node m cs) g (node (m + 0) es)) (node_of_one c one.sorted) whole)
+    subst (λ f. Added all f (under c.key c.graph) (node m es)) view (subst₂ (λ f n. Added all (node m cs) f (node n es)) (node_of_one c) no_more (added_node all m 0 cs (c ∷ []) es a.children (one_child c t) h))
 
--- ---- in terms of a result
 pub rows_of_node : (n : ℕ) (cs : List Child) → AreChildren cs → len (node n cs) ≡ length (rows_of cs) + 1
 rows_of_node n cs h = omega (arith, len-entries (node n cs), ap length (entries-node n cs h.sorted))
+
+-- ---- what is known of the graph g of a node
+module _ {n s : ℕ} {cs : List Child} {g : Graph} (view : node n cs ≡ g) (h : IsNode cs s n) where
+  pub total_of_node : total g ≡ n + weight cs
+  total_of_node = ap total (sym view) ∙ total-node n cs h.children.sorted
+
+  pub own_of_node : size_at g [] ≡ n
+  own_of_node = ap (λ x. size_at x []) (sym view) ∙ size_at-root n cs h.children.sorted
+
+  pub entries_of_node : entries g ≡ ([], n) ∷ rows_of cs
+  entries_of_node = ap entries (sym view) ∙ entries-node n cs h.children.sorted
+
+  pub tree_of_node : IsTree g
+  tree_of_node = subst IsTree view (node_tree n cs h.children)
+
+  pub len_of_node : len g ≡ length (rows_of cs) + 1
+  len_of_node = ap len (sym view) ∙ rows_of_node n cs h.children
+
+-- ---- two nodes with the graphs g and h, whose children merge to es, also where equal lists are named
+module _ {g h : Graph} {m n s t : ℕ} {cs ds : List Child} (mine : node m cs ≡ g) (a : IsNode cs s m) (theirs : node n ds ≡ h) (b : IsNode ds t n) where
+  pub total_of_both : total g + total h ≡ (m + n) + (weight cs + weight ds)
+  total_of_both = omega (arith, total_of_node mine a, total_of_node theirs b)
+
+  pub merged_node : {all : Bool} {cs' ds' es : List Child} {size : ℕ} → cs' ≡ cs → ds' ≡ ds → total g + total h < 2 ^ 64 → Merged all cs' ds' es → size ≡ weight es → IsNode es size (m + n)
+  merged_node e f fits k exact = record { children = k.children; exact = exact; fits = omega (arith, total_of_both, k.at_most, ap weight e, ap weight f, exact, fits) }
+
+  pub merged_graph : {all : Bool} {cs' ds' es : List Child} → cs' ≡ cs → ds' ≡ ds → Merged all cs' ds' es → Added all g h (node (m + n) es)
+  merged_graph {all = all} {es = es} e f k =
+      subst₂ (λ x y. Added all x y (node (m + n) es)) mine theirs (added_node all m n cs ds es a.children b.children (subst₂ (λ x y. Merged all x y es) e f k))
+
+  -- The second node has one child.
+  pub child_of_one : {c : Child} → c ∷ [] ≡ ds → total g + total h < 2 ^ 64 → (len c.graph < len h) × IsTree c.graph × (s + total c.graph < 2 ^ 64)
+  child_of_one {c = c} one fits = (
+    omega (arith, len_of_node theirs b, ap (λ l. length (rows_of l)) one, length-append (rows_of_child c) [], len-child c),
+    first_tree c [] (subst AreChildren (sym one) b.children),
+    omega (arith, total_of_both, ap weight one, weight-one c, a.exact, fits),
+  )

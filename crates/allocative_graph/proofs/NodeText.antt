@@ -1,24 +1,22 @@
 -- What the walk of `write` has written so far.
 use Rattle.std.proofs.Common.{◌≡◌, ◌≢◌, ℕ, ◌+◌, ◌<◌, Bool, List, [], ◌∷◌, ◌++◌, map, take, length, get_or, Bor, cond, ◌==◌, refl, sym, ap, ◌∙◌, append_assoc, arith, ◌-◌, length-append, append-nil, ne_eqb}
-use Rattle.allocative_graph.proofs.Common.{Child, Key, Path, under_rows, rows_of, rows_of_child, joined_on, line_from, lines_below, entries}
-use Rattle.std.proofs.lemmas.List.{take_more, map-append}
-use Rattle.std.proofs.lemmas.Grind.{flat_map-append}
+use Rattle.allocative_graph.proofs.Common.{Child, Key, Path, under_rows, rows_of, rows_of_child, joined, joined_on, line_from, lines_below, entries, take_more, map-append, flat_map-append}
 use Rattle.std.proofs.Math.Seq.{take-append_seam}
 use Rattle.allocative_graph.specs.Representation.PathRows.{size_text, lines_from, line_below}
-use Rattle.allocative_graph.proofs.RowSums.{joined-keys}
+use Rattle.allocative_graph.proofs.ChildRows.{rows-more}
 
 -- The texts of the keys.
 abbrev pub texts : List (Bor (List ℕ)) → List (List ℕ)
 texts ks = map (λ k. k.now) ks
 
-pub joined_on-append : (a b : List (List ℕ)) → joined_on (a ++ b) ≡ joined_on a ++ joined_on b
-joined_on-append [] b = refl
-joined_on-append (k ∷ a) b = ap (λ t. (59 ∷ k) ++ t) (joined_on-append a b) ∙ sym (append_assoc (59 ∷ k) (joined_on a) (joined_on b))
+pub joined-keys : (k : Key) (ks : Path) → joined (k ∷ ks) ≡ k ++ joined_on ks
+joined-keys k [] = sym (append-nil k)
+joined-keys k (l ∷ ks) = ap (λ t. k ++ 59 ∷ t) (joined-keys l ks)
 
 pub joined_more : (t : List ℕ) (ks : List (Bor (List ℕ))) (i : ℕ) (d : Bor (List ℕ)) → i < length ks
     → ((t ++ joined_on (texts (take i ks))) ++ 59 ∷ []) ++ (get_or ks i d).now ≡ t ++ joined_on (texts (take (i + 1) ks))
 joined_more t ks i d h =
-    rw (take_more ks i d h, map-append (λ (k : Bor (List ℕ)). k.now) (take i ks) (get_or ks i d ∷ []), joined_on-append (texts (take i ks)) ((get_or ks i d).now ∷ []))
+    rw (take_more ks i d h, map-append (λ (k : Bor (List ℕ)). k.now) (take i ks) (get_or ks i d ∷ []), flat_map-append (λ (k : Key). 59 ∷ k) (texts (take i ks)) ((get_or ks i d).now ∷ []))
     (simp (append_assoc, append-nil))
 
 -- A key can be in the path or in the text before it.
@@ -58,12 +56,10 @@ pub child_written : (t : List ℕ) (cs : List Child) (i : ℕ) (d : Child) (befo
     ≡ before ++ lines_below t (rows_of (take (i + 1) cs))
 child_written t cs i d before h =
     let c : Child = get_or cs i d in
-    let e : rows_of (take (i + 1) cs) ≡ rows_of (take i cs) ++ rows_of_child c =
-    ap rows_of (take_more cs i d h) ∙ flat_map-append rows_of_child (take i cs) (c ∷ []) ∙ ap (λ r. rows_of (take i cs) ++ r) (append-nil (rows_of_child c)) in
     append_assoc before _ _
     ∙ ap (λ s. before ++ (lines_below t (rows_of (take i cs)) ++ s)) (sym (child_lines t c.key (entries c.graph)))
     ∙ ap (λ s. before ++ s) (sym (flat_map-append (line_below t) (rows_of (take i cs)) (rows_of_child c)))
-    ∙ ap (λ s. before ++ lines_below t s) (sym e)
+    ∙ ap (λ s. before ++ lines_below t s) (sym (rows-more cs i d h))
 
 -- The root's line is the path with its size.
 pub line_of_some : (t : List ℕ) (n : ℕ) → n ≢ 0 → line_from t ([], n) ≡ t ++ size_text n

@@ -1,23 +1,16 @@
 -- A bag of entries and its contents have one meaning, up to order.
-use Rattle.std.proofs.Common.{◌≡◌, List, [], ◌∷◌, ◌++◌, flat_map, ◌∙◌, IsPermutation}
-use Rattle.allocative_graph.proofs.Common.{Identity, is_same_identity, Bag, IsMeaning, sums_of}
-use Rattle.std.specs.List.{IsDistinct}
-use Rattle.std.proofs.lemmas.List.Sorted.{IsPermutation-refl, IsPermutation-sym, IsPermutation-trans, IsPermutation-append_right}
-use Rattle.allocative_graph.proofs.Basics.{both_ways, same_identity_turned, each-implies}
-use Rattle.allocative_graph.proofs.Order.{NoRepeat, absent, same_flat}
+use Rattle.std.proofs.Common.{◌≡◌, ◌++◌, flat_map, IsPermutation}
+use Rattle.allocative_graph.proofs.Common.{Identity, Bag, IsMeaning, sums_of, IsPermutation-refl, IsPermutation-sym, IsPermutation-trans, IsPermutation-append_right}
+use Rattle.allocative_graph.proofs.Basics.{both_ways}
+use Rattle.allocative_graph.proofs.Order.{same_flat}
 use Rattle.allocative_graph.proofs.Lookups.{add_all-permutation}
 use Rattle.std.specs.FinMap as finmap
-
-no_repeats : (is : List Identity) → IsDistinct is_same_identity is → NoRepeat is
-unfolding IsDistinct
-no_repeats [] h = tt
-no_repeats (i ∷ is) h = (absent i is (each-implies _ _ (λ j g. same_identity_turned j i ∙ g) is h.0), no_repeats is h.1)
 
 pub one_meaning : (b : Bag) (T : Identity → Bag) (m n : Bag) → IsMeaning b T m → IsMeaning b T n → IsPermutation m n
 one_meaning b T m n x y =
     IsPermutation-trans m (b ++ flat_map T x.identities) n (IsPermutation-sym _ _ x.is)
     (IsPermutation-trans (b ++ flat_map T x.identities) (b ++ flat_map T y.identities) n
-    (IsPermutation-append_right b _ _ (same_flat T T x.identities y.identities (no_repeats x.identities x.once) (no_repeats y.identities y.once)
+    (IsPermutation-append_right b _ _ (same_flat T T x.identities y.identities x.once y.once
     (λ k. both_ways _ _ (λ h. (y.reached k).1 ((x.reached k).0 h)) (λ h. (x.reached k).1 ((y.reached k).0 h)))
     (λ k h. IsPermutation-refl (T k))))
     y.is)

@@ -1,10 +1,8 @@
 -- The order of paths: a prefix comes first; otherwise the first keys that differ decide, by the bytes of their texts.
 use Rattle.std.proofs.Common.{◌≡◌, ℕ, ◌↔◌, List, [], ◌∷◌, ◌++◌, refl, ap, sym, ◌∙◌, subst, true≢false, Ordering, Less, Equal, Greater, nat_cmp}
 use Rattle.allocative_graph.proofs.Common.{is_lt, ordering_then, slice_cmp, nat_list_cmp_total, IsAntisymmetric, nat_cmp-IsAntisymmetric, slice_cmp-IsAntisymmetric, Key, Path, key_cmp, path_cmp}
-use Rattle.std.specs.Cmp.{nat_cmp_total}
-use Rattle.std.proofs.lemmas.Cmp.{eq_by_cmp_equiv}
+use Rattle.std.specs.Cmp.{nat_cmp_total, tied_itself}
 use Rattle.allocative_graph.specs.Path.{ComesBefore, longer, parts}
-use Rattle.allocative_graph.proofs.Basics.{is_eq-Equal}
 
 module _ {X : Type 0} (R : X → X → Ordering) (same : IsAntisymmetric R) (itself : (x : X) → R x x ≡ Equal) where
   before-cons : (x : X) (p q : List X) → ComesBefore R p q → ComesBefore R (x ∷ p) (x ∷ q)
@@ -35,10 +33,10 @@ module _ {X : Type 0} (R : X → X → Ordering) (same : IsAntisymmetric R) (its
   from_before p q (parts c k l r s d e h) = (λ i. slice_cmp R (d i) (e i)) ∙ parts_less c k l r s h
 
 nat_itself : (x : ℕ) → nat_cmp x x ≡ Equal
-nat_itself x = is_eq-Equal _ ((eq_by_cmp_equiv nat_cmp_total).refl x)
+nat_itself = tied_itself nat_cmp_total
 
 pub key_itself : (k : Key) → key_cmp k k ≡ Equal
-key_itself k = is_eq-Equal _ ((eq_by_cmp_equiv nat_list_cmp_total).refl k)
+key_itself = tied_itself nat_list_cmp_total
 
 pub path_order : (p q : Path) → (path_cmp p q ≡ Less) ↔ ComesBefore key_cmp p q
 path_order p q = (to_before key_cmp (slice_cmp-IsAntisymmetric nat_cmp-IsAntisymmetric) key_itself p q, from_before key_cmp (slice_cmp-IsAntisymmetric nat_cmp-IsAntisymmetric) key_itself p q)

@@ -1,12 +1,12 @@
 -- What a collector has after forests, entries and leaving.
-use Rattle.std.proofs.Common.{◌≡◌, ◌≤◌, zero, suc, pred, ℕ, ◌+◌, Bool, true, false, cond, [], ◌∷◌, ◌++◌, map, flat_map, refl, ap, sym, ◌∙◌, arith, append-nil}
-use Rattle.allocative_graph.proofs.Common.{contains, Key, Identity, Forest, Empty, Inline, Unique, First, Again, AsInline, AsUnique, AsShared, own_behind, contents, followed_by, insert_all, add, add_all, added}
+use Rattle.std.proofs.Common.{◌≡◌, ◌↔◌, ◌≤◌, suc, ℕ, ◌+◌, Bool, true, false, cond, [], ◌∷◌, ◌++◌, map, flat_map, refl, ap, sym, ◌∙◌, arith, add_assoc, append-nil}
+use Rattle.allocative_graph.proofs.Common.{contains, Key, Path, Identities, Sums, content_entries, shown, Identity, Forest, Empty, Inline, Unique, First, Again, AsInline, AsUnique, AsShared, own_behind, contents, followed_by, insert_all, add, add_all, added}
 use Rattle.std.specs.FinSet.{insert}
 use Rattle.allocative_graph.specs.Forest.{entry_of}
-use Rattle.allocative_graph.specs.Collector.{Live, Holding, Kind, OfGraph, OfHeld, plus_live, plus_holding, go, leave_live, leave_holding, enter_first, enter_holding, plus, Takes, enter, leave, begin, is_graph, visitors, is_in_unique}
+use Rattle.allocative_graph.specs.Collector.{Live, Holding, Kind, OfGraph, OfHeld, plus_live, plus_holding, leave_holding, enter_first, enter_holding, plus, Takes, enter, leave, begin, is_graph, visitors, is_in_unique}
 use Rattle.allocative_graph.specs.Held.{held, inline_bytes, ShowsNoContent}
 use Rattle.allocative_graph.proofs.Lookups.{add_all-permutation, add_all-append}
-use Rattle.allocative_graph.proofs.Following.{added-following, met-following, fits-both, fits-first, fits-second}
+use Rattle.allocative_graph.proofs.Following.{added-following, met-following, fits-following}
 
 live-following : (c : Live) (f g : Forest) → plus_live c (followed_by f g) ≡ plus_live (plus_live c f) g
 live-following c f g = λ i. record c {
@@ -14,47 +14,25 @@ live-following c f g = λ i. record c {
   met = met-following c.met f g i;
 }
 
-module _ (f : Forest) where
-  contents_alone : contents f ++ [] ≡ contents f
-  contents_alone = append-nil (contents f)
-
-  inside-inline : (c : Live) (k : Key) (n : ℕ) → leave_live (plus_live (go (c.here ++ k ∷ []) (plus_live c (Inline k n Empty Empty))) f) ≡ plus_live c (Inline k n f Empty)
-  inside-inline c k n = λ i. record c {
-    sums = add_all (add c.sums (record { path = c.here ++ k ∷ []; size = n; mark = AsInline })) (sym (append-nil (own_behind (c.here ++ k ∷ []) f)) i ++ flat_map (λ c. c.1) (sym contents_alone i));
-    met = insert_all c.met (map (λ c. c.0) (sym contents_alone i));
-  }
-
-  inside-unique : (c : Live) (k : Key) (n : ℕ) → leave_live (plus_live (go (c.here ++ k ∷ []) (plus_live c (Unique k n Empty Empty))) f) ≡ plus_live c (Unique k n f Empty)
-  inside-unique c k n = λ i. record c {
-    sums = add_all (add c.sums (record { path = c.here ++ k ∷ []; size = n; mark = AsUnique })) (sym (append-nil (own_behind (c.here ++ k ∷ []) f)) i ++ flat_map (λ c. c.1) (sym contents_alone i));
-    met = insert_all c.met (map (λ c. c.0) (sym contents_alone i));
-  }
-
-  -- The content of a shared entry starts at the root.
-  inside-first : (c : Live) (k : Key) (n : ℕ) (j : Identity) → leave_live (plus_live (go [] (plus_live c (First k n j Empty Empty))) f) ≡ plus_live c (First k n j f Empty)
-  inside-first c k n j = λ i. record c {
-    sums = add_all (add c.sums (record { path = c.here ++ k ∷ []; size = n; mark = AsShared j })) (own_behind [] f ++ flat_map (λ c. c.1) (sym contents_alone i));
-    met = insert_all (insert c.met j) (map (λ c. c.0) (sym contents_alone i));
-  }
+-- What an entry has inside it where none follows it.
+alone : (f : Forest) (c : Live) (s : Sums) (t : Identities) (p : Path) → record c { sums = add_all s (own_behind p f ++ content_entries f); met = insert_all t (shown f) }
+    ≡ record c { sums = add_all s ((own_behind p f ++ []) ++ flat_map (λ c. c.1) (contents f ++ [])); met = insert_all t (map (λ c. c.0) (contents f ++ [])) }
+alone f c s t p =
+    let same = sym (append-nil (contents f)) in
+    λ i. record c { sums = add_all s (sym (append-nil (own_behind p f)) i ++ flat_map (λ c. c.1) (same i)); met = insert_all t (map (λ c. c.0) (same i)) }
 
 -- ---- the collector of held bytes
-same_sum : (a b c d : ℕ) → (a + c) + (b + d) ≡ (a + b) + (c + d)
-same_sum a b c d = omega arith
-
-assoc : (a b c : ℕ) → a + (b + c) ≡ (a + b) + c
-assoc a b c = omega arith
-
 inline_bytes-following : (f g : Forest) → inline_bytes (followed_by f g) ≡ inline_bytes f + inline_bytes g
-inline_bytes-following Empty g = let r : (n : ℕ) → n ≡ 0 + n = λ n. omega arith in r _
-inline_bytes-following (Inline k n f after) g = ap (λ m. n + m) (inline_bytes-following after g) ∙ assoc n _ _
+inline_bytes-following Empty g = omega arith
+inline_bytes-following (Inline k n f after) g = omega (arith, inline_bytes-following after g)
 inline_bytes-following (Unique k n f after) g = inline_bytes-following after g
 inline_bytes-following (First k n j f after) g = inline_bytes-following after g
 inline_bytes-following (Again k n j after) g = inline_bytes-following after g
 
 held-following : (f g : Forest) → held (followed_by f g) ≡ held f + held g
-held-following Empty g = let r : (n : ℕ) → n ≡ 0 + n = λ n. omega arith in r _
-held-following (Inline k n f after) g = ap (λ m. held f + m) (held-following after g) ∙ assoc (held f) _ _
-held-following (Unique k n f after) g = ap (λ m. inline_bytes f + held f + m) (held-following after g) ∙ assoc (inline_bytes f + held f) _ _
+held-following Empty g = omega arith
+held-following (Inline k n f after) g = omega (arith, held-following after g)
+held-following (Unique k n f after) g = omega (arith, held-following after g)
 held-following (First k n j f after) g = held-following after g
 held-following (Again k n j after) g = held-following after g
 
@@ -62,56 +40,34 @@ abbrev held_in : Bool → Forest → ℕ
 held_in u f = held f + cond u (inline_bytes f) 0
 
 held_in-following : (u : Bool) (f g : Forest) → held_in u (followed_by f g) ≡ held_in u f + held_in u g
-held_in-following true f g = (λ i. held-following f g i + inline_bytes-following f g i) ∙ same_sum (held f) (inline_bytes f) (held g) (inline_bytes g)
-held_in-following false f g = (λ i. held-following f g i + 0) ∙ same_sum (held f) 0 (held g) 0
+held_in-following u f g = grind (arith, held-following f g, inline_bytes-following f g)
 
 holding-following : (h : Holding) (f g : Forest) → plus_holding h (followed_by f g) ≡ plus_holding (plus_holding h f) g
-holding-following h f g = λ i. record h { sum = (ap (λ n. h.sum + n) (held_in-following h.is_in_unique f g) ∙ assoc h.sum (held_in h.is_in_unique f) (held_in h.is_in_unique g)) i }
+holding-following h f g = λ i. record h { sum = (ap (λ n. h.sum + n) (held_in-following h.is_in_unique f g) ∙ sym (add_assoc h.sum (held_in h.is_in_unique f) (held_in h.is_in_unique g))) i }
 
 holding-nothing : (h : Holding) → plus_holding h Empty ≡ h
 holding-nothing h = λ i. record h { sum = none h.is_in_unique h.sum i }
   where
     none : (u : Bool) (n : ℕ) → n + (0 + cond u 0 0) ≡ n
-    none true n = omega arith
-    none false n = omega arith
+    none u n = grind arith
 
-no_content-both : (f g : Forest) → ShowsNoContent f → ShowsNoContent g → ShowsNoContent (followed_by f g)
-no_content-both Empty g v w = w
-no_content-both (Inline k n f after) g v w = (v.0, no_content-both after g v.1 w)
-no_content-both (Unique k n f after) g v w = (v.0, no_content-both after g v.1 w)
-no_content-both (First k n j f after) g v w = absurd v
-no_content-both (Again k n j after) g v w = no_content-both after g v w
-
-no_content-first : (f g : Forest) → ShowsNoContent (followed_by f g) → ShowsNoContent f
-no_content-first Empty g w = tt
-no_content-first (Inline k n f after) g w = (w.0, no_content-first after g w.1)
-no_content-first (Unique k n f after) g w = (w.0, no_content-first after g w.1)
-no_content-first (First k n j f after) g w = absurd w
-no_content-first (Again k n j after) g w = no_content-first after g w
-
-no_content-second : (f g : Forest) → ShowsNoContent (followed_by f g) → ShowsNoContent g
-no_content-second Empty g w = w
-no_content-second (Inline k n f after) g w = no_content-second after g w.1
-no_content-second (Unique k n f after) g w = no_content-second after g w.1
-no_content-second (First k n j f after) g w = absurd w
-no_content-second (Again k n j after) g w = no_content-second after g w
+no_content-following : (f g : Forest) → ShowsNoContent (followed_by f g) ↔ (ShowsNoContent f × ShowsNoContent g)
+no_content-following Empty g = (λ w. (tt, w), λ w. w.1)
+no_content-following (Inline k n f after) g = let rest = no_content-following after g in (λ w. let x = rest.0 w.1 in ((w.0, x.0), x.1), λ w. (w.0.0, rest.1 (w.0.1, w.1)))
+no_content-following (Unique k n f after) g = let rest = no_content-following after g in (λ w. let x = rest.0 w.1 in ((w.0, x.0), x.1), λ w. (w.0.0, rest.1 (w.0.1, w.1)))
+no_content-following (First k n j f after) g = (λ w. absurd w, λ w. absurd w.0)
+no_content-following (Again k n j after) g = no_content-following after g
 
 -- The forest f is inside an inline entry, and therefore not directly inside a unique one.
 inline_sum : (u : Bool) (s n h : ℕ) → (s + cond u n 0) + (h + 0) ≡ s + ((h + 0) + cond u (n + 0) 0)
-inline_sum true s n h = omega arith
-inline_sum false s n h = omega arith
+inline_sum u s n h = grind arith
 
 unique_sum : (u : Bool) (s h b : ℕ) → (s + cond u 0 0) + (h + b) ≡ s + ((b + h + 0) + cond u 0 0)
-unique_sum true s h b = omega arith
-unique_sum false s h b = omega arith
+unique_sum u s h b = grind arith
 
 holding-inside : (u : Bool) (h : Holding) (k : Key) (n : ℕ) (f : Forest) → leave_holding h.is_in_unique (plus_holding (enter_holding u n h) f) ≡ plus_holding h (entry_of u k n f)
 holding-inside true h k n f = λ i. record h { sum = unique_sum h.is_in_unique h.sum (held f) (inline_bytes f) i }
 holding-inside false h k n f = λ i. record h { sum = inline_sum h.is_in_unique h.sum n (held f) i }
-
-pred_less : (n : ℕ) → n ≤ suc (pred n)
-pred_less zero = omega arith
-pred_less (suc n) = omega arith
 
 -- ---- either
 pub plus-nothing : (c : Kind) → plus c Empty ≡ c
@@ -126,22 +82,17 @@ pub takes_nothing : (c : Kind) → Takes c Empty
 takes_nothing (OfGraph c) = tt
 takes_nothing (OfHeld h) = tt
 
+pub takes_following : (c : Kind) (f g : Forest) → Takes c (followed_by f g) ↔ (Takes c f × Takes (plus c f) g)
+takes_following (OfGraph c) f g = fits-following c.met f g
+takes_following (OfHeld h) f g = no_content-following f g
+
 pub takes_both : (c : Kind) (f g : Forest) → Takes c f → Takes (plus c f) g → Takes c (followed_by f g)
-takes_both (OfGraph c) f g v w = fits-both c.met f g v w
-takes_both (OfHeld h) f g v w = no_content-both f g v w
-
-pub takes_first : (c : Kind) (f g : Forest) → Takes c (followed_by f g) → Takes c f
-takes_first (OfGraph c) f g w = fits-first c.met f g w
-takes_first (OfHeld h) f g w = no_content-first f g w
-
-pub takes_second : (c : Kind) (f g : Forest) → Takes c (followed_by f g) → Takes (plus c f) g
-takes_second (OfGraph c) f g w = fits-second c.met f g w
-takes_second (OfHeld h) f g w = no_content-second f g w
+takes_both c f g v w = (takes_following c f g).1 (v, w)
 
 -- An entry with f inside it is entering, adding f and one step back.
 pub inside_entry : (u : Bool) (k : Key) (n : ℕ) (c : Kind) (f : Forest) → leave (is_in_unique c) (plus (enter u k n c) f) ≡ plus c (entry_of u k n f)
-inside_entry true k n (OfGraph c) f = ap OfGraph (inside-unique f c k n)
-inside_entry false k n (OfGraph c) f = ap OfGraph (inside-inline f c k n)
+inside_entry true k n (OfGraph c) f = ap OfGraph (alone f c (add c.sums (record { path = c.here ++ k ∷ []; size = n; mark = AsUnique })) c.met (c.here ++ k ∷ []))
+inside_entry false k n (OfGraph c) f = ap OfGraph (alone f c (add c.sums (record { path = c.here ++ k ∷ []; size = n; mark = AsInline })) c.met (c.here ++ k ∷ []))
 inside_entry u k n (OfHeld h) f = ap OfHeld (holding-inside u h k n f)
 
 pub takes_entry : (u : Bool) (k : Key) (n : ℕ) (c : Kind) (f : Forest) → Takes (enter u k n c) f → Takes c (entry_of u k n f)
@@ -150,8 +101,12 @@ takes_entry false k n (OfGraph c) f w = (w, tt)
 takes_entry true k n (OfHeld h) f w = (w, tt)
 takes_entry false k n (OfHeld h) f w = (w, tt)
 
+-- The content of a shared entry starts at the root.
 pub inside_first : (k : Key) (n : ℕ) (j : Identity) (c : Live) (f : Forest) (outer : Bool) → leave outer (plus (OfGraph (enter_first k n j c)) f) ≡ plus (OfGraph c) (First k n j f Empty)
-inside_first k n j c f outer = ap OfGraph (inside-first f c k n j)
+inside_first k n j c f outer = λ i. OfGraph (record c {
+  sums = add_all (add c.sums (record { path = c.here ++ k ∷ []; size = n; mark = AsShared j })) (own_behind [] f ++ flat_map (λ c. c.1) (sym (append-nil (contents f)) i));
+  met = insert_all (insert c.met j) (map (λ c. c.0) (sym (append-nil (contents f)) i));
+})
 
 pub takes_shared : (k : Key) (n : ℕ) (j : Identity) (c : Live) (f : Forest) → contains c.met j ≡ false → Takes (OfGraph (enter_first k n j c)) f → Takes (OfGraph c) (First k n j f Empty)
 takes_shared k n j c f new w = (new, w, tt)
@@ -170,8 +125,8 @@ visitors-enter u k n (OfHeld h) = refl
 
 -- Leaving takes at most one open visitor away.
 pub visitors-leave : (outer : Bool) (c : Kind) → visitors c ≤ suc (visitors (leave outer c))
-visitors-leave outer (OfGraph c) = pred_less c.open_visitors
-visitors-leave outer (OfHeld h) = pred_less h.open_visitors
+visitors-leave outer (OfGraph c) = grind arith
+visitors-leave outer (OfHeld h) = grind arith
 
 -- ---- which of the two it is
 pub is_graph-plus : (c : Kind) (f : Forest) → is_graph (plus c f) ≡ is_graph c

@@ -1,13 +1,10 @@
 -- The identities that a whole showing shows are exactly those reached.
-use Rattle.std.proofs.Common.{◌≡◌, Bool, true, false, cond, ◌||◌, IsTrue, ◌⊎◌, inl, inr, List, [], ◌∷◌, ◌++◌, map, flat_map, refl, ap, sym, ◌∙◌, subst, true≢false, IsPermutation}
-use Rattle.allocative_graph.proofs.Common.{⊤, AllByRecursion, contains, contains-insert, contains-empty, Path, Identities, Identity, identity_cmp, is_same_identity, Forest, Empty, Inline, Unique, First, Again, Bag, own, own_behind, contents, all, shown, insert_all, met_after, Fits, is_mark_of, has_mark, is_among, Reached, marked, inside, IsMeaning, content_of, IsWhole}
+use Rattle.std.proofs.Common.{◌≡◌, Bool, true, false, cond, ◌||◌, IsTrue, List, [], ◌∷◌, ◌++◌, map, flat_map, refl, ap, sym, ◌∙◌, subst, true≢false, IsPermutation}
+use Rattle.allocative_graph.proofs.Common.{⊤, AllByRecursion, contains, contains-insert, contains-empty, Path, Identities, Identity, identity_cmp, is_same_identity, Forest, Empty, Inline, Unique, First, Again, Bag, Entry, own, own_behind, contents, all, shown, insert_all, met_after, Fits, is_mark_of, has_mark, is_among, Reached, marked, inside, IsMeaning, content_of, IsWhole, list_any-append, map-append, IsPermutation-refl}
 use Rattle.std.specs.List.{IsDistinct}
 use Rattle.std.specs.FinSet.{insert, empty}
-use Rattle.std.proofs.lemmas.List.Folds.{list_any-append}
-use Rattle.std.proofs.lemmas.List.{map-append}
-use Rattle.std.proofs.lemmas.List.Sorted.{IsPermutation-refl}
 use Rattle.allocative_graph.specs.Meaning.{content_in, ReachesExactly}
-use Rattle.allocative_graph.proofs.Basics.{or_cases, or_left, or_right, or_false_left, or_false_right, each-append, each-left, each-right, each-implies, each-map, identity_total, same_identity, same_identity_itself, same_identity_turned}
+use Rattle.allocative_graph.proofs.Basics.{any_both, any_left, any_right, or_both, or_left, or_right, or_assoc, or_comm, or_parts, or-false, each-append, each-left, each-right, each-implies, each-map, identity_total, same_identity, same_identity_itself, same_identity_turned}
 
 abbrev pub Contents : Type 0
 Contents = List (Identity × Bag)
@@ -25,34 +22,15 @@ insert_all-append s (i ∷ is) js = insert_all-append (insert s i) is js
 pub met-append : (s : Identities) (cs ds : Contents) → insert_all s (ids (cs ++ ds)) ≡ insert_all (insert_all s (ids cs)) (ids ds)
 met-append s cs ds = ap (insert_all s) (map-append (λ c. c.0) cs ds) ∙ insert_all-append s (ids cs) (ids ds)
 
-pub mark-append : (i : Identity) (b c : Bag) → has_mark i (b ++ c) ≡ (has_mark i b || has_mark i c)
-mark-append i b c = list_any-append (λ e. is_mark_of i e.mark) b c
+among_both : {Q : Type 0} (i : Identity) (cs ds : Contents) → (IsTrue (is_among i (ids cs)) → Q) → (IsTrue (is_among i (ids ds)) → Q) → IsTrue (is_among i (ids (cs ++ ds))) → Q
+among_both i cs ds f g h = or_both (is_among i (ids cs)) (is_among i (ids ds)) f g (sym (among-append i cs ds) ∙ h)
 
-mark_left : (i : Identity) (b c : Bag) → IsTrue (has_mark i b) → IsTrue (has_mark i (b ++ c))
-mark_left i b c h = mark-append i b c ∙ or_left (has_mark i b) (has_mark i c) h
-
-mark_right : (i : Identity) (b c : Bag) → IsTrue (has_mark i c) → IsTrue (has_mark i (b ++ c))
-mark_right i b c h = mark-append i b c ∙ or_right (has_mark i b) (has_mark i c) h
-
-mark_cases : (i : Identity) (b c : Bag) → IsTrue (has_mark i (b ++ c)) → IsTrue (has_mark i b) ⊎ IsTrue (has_mark i c)
-mark_cases i b c h = or_cases (has_mark i b) (has_mark i c) (sym (mark-append i b c) ∙ h)
-
-among_cases : (i : Identity) (cs ds : Contents) → IsTrue (is_among i (ids (cs ++ ds))) → IsTrue (is_among i (ids cs)) ⊎ IsTrue (is_among i (ids ds))
-among_cases i cs ds h = or_cases (is_among i (ids cs)) (is_among i (ids ds)) (sym (among-append i cs ds) ∙ h)
-
-or_swap : (a b c : Bool) → ((a || b) || c) ≡ (b || (a || c))
-or_swap true true c = refl
-or_swap true false c = refl
-or_swap false true c = refl
-or_swap false false c = refl
-
-or_none : (a : Bool) → a ≡ (a || false)
-or_none true = refl
-or_none false = refl
+abbrev marks : Identity → Entry → Bool
+marks i e = is_mark_of i e.mark
 
 pub contains-insert_all : (s : Identities) (is : List Identity) (i : Identity) → contains (insert_all s is) i ≡ (contains s i || is_among i is)
-contains-insert_all s [] i = or_none _
-contains-insert_all s (j ∷ is) i = contains-insert_all (insert s j) is i ∙ ap (λ b. b || is_among i is) (contains-insert identity_total s j i) ∙ or_swap (is_same_identity i j) (contains s i) (is_among i is)
+contains-insert_all s [] i = sym (or-false _)
+contains-insert_all s (j ∷ is) i = contains-insert_all (insert s j) is i ∙ ap (λ b. b || is_among i is) (contains-insert identity_total s j i) ∙ ap (λ b. b || is_among i is) (or_comm (is_same_identity i j) (contains s i)) ∙ or_assoc (contains s i) _ _
 
 pub grows : (s : Identities) (is : List Identity) (i : Identity) → IsTrue (contains s i) → IsTrue (contains (insert_all s is) i)
 grows s is i h = contains-insert_all s is i ∙ or_left _ _ h
@@ -61,42 +39,32 @@ grows s is i h = contains-insert_all s is i ∙ or_left _ _ h
 module _ (b : Bag) (content : Identity → Bag) where
   pub reach : (p : Path) (f : Forest) → ((i : Identity) → IsTrue (has_mark i (own_behind p f)) → Reached b content i) → AllByRecursion (λ c. content c.0 ≡ c.1) (contents f) → (i : Identity) → IsTrue (is_among i (shown f)) → Reached b content i
   reach p Empty m g i h = absurd (true≢false (sym h))
-  reach p (Inline k n f after) m g i h = elim (among_cases i (contents f) (contents after) h) [
-    | inl a ↦ reach (p ++ k ∷ []) f (λ j w. m j (mark_left j (own_behind (p ++ k ∷ []) f) (own_behind p after) w)) (each-left _ (contents f) (contents after) g) i a
-    | inr a ↦ reach p after (λ j w. m j (mark_right j (own_behind (p ++ k ∷ []) f) (own_behind p after) w)) (each-right _ (contents f) (contents after) g) i a
-  ]
-  reach p (Unique k n f after) m g i h = elim (among_cases i (contents f) (contents after) h) [
-    | inl a ↦ reach (p ++ k ∷ []) f (λ j w. m j (mark_left j (own_behind (p ++ k ∷ []) f) (own_behind p after) w)) (each-left _ (contents f) (contents after) g) i a
-    | inr a ↦ reach p after (λ j w. m j (mark_right j (own_behind (p ++ k ∷ []) f) (own_behind p after) w)) (each-right _ (contents f) (contents after) g) i a
-  ]
-  reach p (First k n j f after) m g i h = elim (or_cases (is_same_identity i j) _ h) [
-    | inl a ↦ m i (or_left (is_same_identity i j) (has_mark i (own_behind p after)) a)
-    | inr a ↦ elim (among_cases i (contents f) (contents after) a) [
-      | inl c ↦ reach [] f (λ l w. inside j (m j (or_left (is_same_identity j j) (has_mark j (own_behind p after)) (same_identity_itself j))) (ap (has_mark l) g.0 ∙ w)) (each-left _ (contents f) (contents after) g.1) i c
-      | inr c ↦ reach p after (λ l w. m l (or_right (is_same_identity l j) (has_mark l (own_behind p after)) w)) (each-right _ (contents f) (contents after) g.1) i c
-    ]
-  ]
+  reach p (Inline k n f after) m g i h = among_both i (contents f) (contents after)
+      (reach (p ++ k ∷ []) f (λ j w. m j (any_left (marks j) (own_behind (p ++ k ∷ []) f) (own_behind p after) w)) (each-left _ (contents f) (contents after) g) i)
+      (reach p after (λ j w. m j (any_right (marks j) (own_behind (p ++ k ∷ []) f) (own_behind p after) w)) (each-right _ (contents f) (contents after) g) i) h
+  reach p (Unique k n f after) m g i h = among_both i (contents f) (contents after)
+      (reach (p ++ k ∷ []) f (λ j w. m j (any_left (marks j) (own_behind (p ++ k ∷ []) f) (own_behind p after) w)) (each-left _ (contents f) (contents after) g) i)
+      (reach p after (λ j w. m j (any_right (marks j) (own_behind (p ++ k ∷ []) f) (own_behind p after) w)) (each-right _ (contents f) (contents after) g) i) h
+  reach p (First k n j f after) m g i h = or_both (is_same_identity i j) _
+      (λ a. m i (or_left (is_same_identity i j) (has_mark i (own_behind p after)) a))
+      (among_both i (contents f) (contents after)
+      (reach [] f (λ l w. inside j (m j (or_left (is_same_identity j j) (has_mark j (own_behind p after)) (same_identity_itself j))) (ap (has_mark l) g.0 ∙ w)) (each-left _ (contents f) (contents after) g.1) i)
+      (reach p after (λ l w. m l (or_right (is_same_identity l j) (has_mark l (own_behind p after)) w)) (each-right _ (contents f) (contents after) g.1) i)) h
   reach p (Again k n j after) m g i h = reach p after (λ l w. m l (or_right (is_same_identity l j) (has_mark l (own_behind p after)) w)) g i h
 
 -- ---- each identity that a showing marks is met after it
 pub fits_marks : (p : Path) (s : Identities) (f : Forest) → Fits s f → (i : Identity) → IsTrue (has_mark i (own_behind p f)) → IsTrue (contains (met_after s f) i)
 fits_marks p s Empty w i h = absurd (true≢false (sym h))
-fits_marks p s (Inline k n f after) w i h = ap (λ t. contains t i) (met-append s (contents f) (contents after)) ∙ elim (mark_cases i (own_behind (p ++ k ∷ []) f) (own_behind p after) h) [
-  | inl a ↦ grows _ (shown after) i (fits_marks (p ++ k ∷ []) s f w.0 i a)
-  | inr a ↦ fits_marks p (met_after s f) after w.1 i a
-]
-fits_marks p s (Unique k n f after) w i h = ap (λ t. contains t i) (met-append s (contents f) (contents after)) ∙ elim (mark_cases i (own_behind (p ++ k ∷ []) f) (own_behind p after) h) [
-  | inl a ↦ grows _ (shown after) i (fits_marks (p ++ k ∷ []) s f w.0 i a)
-  | inr a ↦ fits_marks p (met_after s f) after w.1 i a
-]
-fits_marks p s (First k n j f after) w i h = ap (λ t. contains t i) (met-append (insert s j) (contents f) (contents after)) ∙ elim (or_cases (is_same_identity i j) _ h) [
-  | inl a ↦ grows _ (shown after) i (grows _ (shown f) i (contains-insert identity_total s j i ∙ or_left _ _ a))
-  | inr a ↦ fits_marks p (met_after (insert s j) f) after w.2 i a
-]
-fits_marks p s (Again k n j after) w i h = elim (or_cases (is_same_identity i j) _ h) [
-  | inl a ↦ grows s (shown after) i (ap (contains s) (same_identity i j a) ∙ w.0)
-  | inr a ↦ fits_marks p s after w.1 i a
-]
+fits_marks p s (Inline k n f after) w i h = ap (λ t. contains t i) (met-append s (contents f) (contents after))
+    ∙ any_both (marks i) (own_behind (p ++ k ∷ []) f) (own_behind p after) (λ a. grows _ (shown after) i (fits_marks (p ++ k ∷ []) s f w.0 i a)) (fits_marks p (met_after s f) after w.1 i) h
+fits_marks p s (Unique k n f after) w i h = ap (λ t. contains t i) (met-append s (contents f) (contents after))
+    ∙ any_both (marks i) (own_behind (p ++ k ∷ []) f) (own_behind p after) (λ a. grows _ (shown after) i (fits_marks (p ++ k ∷ []) s f w.0 i a)) (fits_marks p (met_after s f) after w.1 i) h
+fits_marks p s (First k n j f after) w i h = ap (λ t. contains t i) (met-append (insert s j) (contents f) (contents after)) ∙ or_both (is_same_identity i j) _
+    (λ a. grows _ (shown after) i (grows _ (shown f) i (contains-insert identity_total s j i ∙ or_left _ _ a)))
+    (fits_marks p (met_after (insert s j) f) after w.2 i) h
+fits_marks p s (Again k n j after) w i h = or_both (is_same_identity i j) _
+    (λ a. grows s (shown after) i (ap (contains s) (same_identity i j a) ∙ w.0))
+    (fits_marks p s after w.1 i) h
 
 -- ---- and each that a content marks
 module _ (m : Identities) where
@@ -139,10 +107,10 @@ fits_fresh s (Again k n j after) w = fits_fresh s after w.1
 
 pub apart : (s : Identities) (is : List Identity) → Fresh s is → AllByRecursion (λ j. contains s j ≡ false) is
 apart s [] h = tt
-apart s (i ∷ is) h = (h.0, each-implies _ _ (λ j g. or_false_right _ _ (sym (contains-insert identity_total s i j) ∙ g)) is (apart (insert s i) is h.1))
+apart s (i ∷ is) h = (h.0, each-implies _ _ (λ j g. (or_parts _ _ (sym (contains-insert identity_total s i j) ∙ g)).1) is (apart (insert s i) is h.1))
 
 pub apart_from : (s : Identities) (i : Identity) (is : List Identity) → Fresh (insert s i) is → AllByRecursion (λ j. is_same_identity j i ≡ false) is
-apart_from s i is h = each-implies _ _ (λ j g. or_false_left _ _ (sym (contains-insert identity_total s i j) ∙ g)) is (apart (insert s i) is h)
+apart_from s i is h = each-implies _ _ (λ j g. (or_parts _ _ (sym (contains-insert identity_total s i j) ∙ g)).0) is (apart (insert s i) is h)
 
 pub fresh_distinct : (s : Identities) (is : List Identity) → Fresh s is → IsDistinct is_same_identity is
 unfolding IsDistinct

@@ -1,20 +1,16 @@
 -- The lines of a text that is read, one after another.
-use Rattle.std.proofs.Common.{◌≡◌, ℕ, suc, ◌+◌, ◌<◌, ◌≤◌, ◌==◌, Bool, true, false, cond, List, Bor, [], ◌∷◌, ◌++◌, map, take, drop, length, get_or, refl, sym, ap, subst, ◌∙◌, drop-cons, eqb-true, arith, take-append-drop}
-use Rattle.allocative_graph.proofs.Common.{slice_split, lines, lines_of_parts, Line, LineFault, NoSpace, Stack, IsStack, IsWrong, AreStacks, Means, IsFault}
-use Rattle.std.proofs.lemmas.List.{map-append, length-map}
+use Rattle.std.proofs.Common.{◌≡◌, ℕ, suc, ◌+◌, ◌<◌, ◌≤◌, ◌==◌, Bool, true, false, cond, List, Bor, [], ◌∷◌, ◌++◌, map, take, drop, length, get_or, refl, sym, ap, subst, subst₂, ◌∙◌, append-nil, drop-cons, eqb-true, arith, take-append-drop}
+use Rattle.allocative_graph.proofs.Common.{slice_split, lines, lines_of_parts, Line, LineFault, NoSpace, Stack, IsStack, IsWrong, AreStacks, Means, IsFault, map_push, nil_from_length, length-map}
 use Rattle.std.proofs.lemmas.List.Splits.{length-slice_split}
 use Rattle.std.proofs.lemmas.List.Sums.{count_by-le-length}
 use Rattle.allocative_graph.specs.Read.{seen}
+use Rattle.allocative_graph.proofs.Basics.{on_test}
 use Rattle.allocative_graph.proofs.NodeText.{texts}
 use Rattle.allocative_graph.proofs.Stacks.{wrong_is_none, not_zero}
 
 parts_fit : (ps : List (List ℕ)) → length (lines_of_parts ps) ≤ length ps
 parts_fit [] = omega arith
-parts_fit (x ∷ []) = by (length x == 0)
-  where
-    by : (t : Bool) → length (cond t [] (x ∷ [])) ≤ 1
-    by true = omega arith
-    by false = omega arith
+parts_fit (x ∷ []) = on_test (λ t. length (cond t [] (x ∷ [])) ≤ 1) (length x == 0) (λ e. omega arith) (λ e. omega arith)
 parts_fit (x ∷ y ∷ ps) = omega (arith, parts_fit (y ∷ ps))
 
 -- A text has at most one line more than bytes.
@@ -41,34 +37,25 @@ stacks-first [] ls ss some h = absurd (omega (arith, some))
 stacks-first (b ∷ bs) ls [] some h = absurd h
 stacks-first (b ∷ bs) ls (s ∷ ss) some h = record { first = s; others = ss; is = refl; read = h.0; behind = h.1 }
 
-stacks-push : (ls : List (List ℕ)) (ss : List Stack) (l : List ℕ) (s : Stack) → AreStacks ls ss → IsStack l s → AreStacks (ls ++ l ∷ []) (ss ++ s ∷ [])
-stacks-push [] [] l s h is = stacks-cons l [] s [] is tt
-stacks-push [] (t ∷ ss) l s h is = absurd h
-stacks-push ([] ∷ ls) ss l s h is = stacks-push ls ss l s h is
-stacks-push ((b ∷ bs) ∷ ls) [] l s h is = absurd h
-stacks-push ((b ∷ bs) ∷ ls) (t ∷ ss) l s h is = (h.0, stacks-push ls ss l s h.1 is)
-
-blank-push : (ls : List (List ℕ)) (ss : List Stack) (l : List ℕ) → AreStacks ls ss → length l ≡ 0 → AreStacks (ls ++ l ∷ []) ss
-blank-push [] [] [] h e = tt
-blank-push [] [] (c ∷ cs) h e = omega (arith, e)
-blank-push [] (t ∷ ss) l h e = absurd h
-blank-push ([] ∷ ls) ss l h e = blank-push ls ss l h e
-blank-push ((b ∷ bs) ∷ ls) [] l h e = absurd h
-blank-push ((b ∷ bs) ∷ ls) (t ∷ ss) l h e = (h.0, blank-push ls ss l h.1 e)
+stacks-append : (ls : List (List ℕ)) (ss : List Stack) (ks : List (List ℕ)) (ts : List Stack) → AreStacks ls ss → AreStacks ks ts → AreStacks (ls ++ ks) (ss ++ ts)
+stacks-append [] [] ks ts h g = g
+stacks-append [] (s ∷ ss) ks ts h g = absurd h
+stacks-append ([] ∷ ls) ss ks ts h g = stacks-append ls ss ks ts h g
+stacks-append ((b ∷ bs) ∷ ls) [] ks ts h g = absurd h
+stacks-append ((b ∷ bs) ∷ ls) (s ∷ ss) ks ts h g = (h.0, stacks-append ls ss ks ts h.1 g)
 
 -- One line more was read.
 pub read-more : (xs : List (Bor (List ℕ))) (x : Bor (List ℕ)) (now then : List Line) (line : Line) → AreStacks (texts xs) (map seen now) → IsStack x.now (seen line) → then ≡ now ++ line ∷ []
     → AreStacks (texts (xs ++ x ∷ [])) (map seen then)
 read-more xs x now then line h is e =
-    let front : texts (xs ++ x ∷ []) ≡ texts xs ++ x.now ∷ [] = map-append (λ (x : Bor (List ℕ)). x.now) xs (x ∷ []) in
-    let back : map seen then ≡ map seen now ++ seen line ∷ [] = ap (map seen) e ∙ map-append seen now (line ∷ []) in
-    subst (λ (X : Type 0). X) (λ i. AreStacks (sym front i) (sym back i)) (stacks-push (texts xs) (map seen now) x.now (seen line) h is)
+    subst₂ AreStacks (sym (map_push (λ (x : Bor (List ℕ)). x.now) xs x)) (sym (ap (map seen) e ∙ map_push seen now line))
+    (stacks-append (texts xs) (map seen now) (x.now ∷ []) (seen line ∷ []) h (stacks-cons x.now [] (seen line) [] is tt))
 
 -- A blank line was passed over.
 pub read-blank : (xs : List (Bor (List ℕ))) (x : Bor (List ℕ)) (now : List Line) → AreStacks (texts xs) (map seen now) → length x.now ≡ 0 → AreStacks (texts (xs ++ x ∷ [])) (map seen now)
 read-blank xs x now h e =
-    let front : texts (xs ++ x ∷ []) ≡ texts xs ++ x.now ∷ [] = map-append (λ (x : Bor (List ℕ)). x.now) xs (x ∷ []) in
-    subst (λ (ls : List (List ℕ)). AreStacks ls (map seen now)) (sym front) (blank-push (texts xs) (map seen now) x.now h e)
+    let blank : AreStacks (x.now ∷ []) [] = subst (λ l. AreStacks (l ∷ []) []) (sym (nil_from_length x.now e)) tt in
+    subst₂ AreStacks (sym (map_push (λ (x : Bor (List ℕ)). x.now) xs x)) (append-nil (map seen now)) (stacks-append (texts xs) (map seen now) (x.now ∷ []) [] h blank)
 
 -- What the code's test of a line says of its length.
 pub blank : (l : List ℕ) (t : Bool) → t ≡ (length l == 0) → t ≡ true → length l ≡ 0

@@ -1,19 +1,13 @@
 -- The rows of a node: its own, and then those of its children, one child after another.
-use Rattle.std.proofs.Common.{◌≡◌, ℕ, ◌+◌, ◌<◌, List, [], ◌∷◌, ◌++◌, map, take, length, get_or, refl, sym, ap, ◌∙◌, append_assoc, append-nil}
-use Rattle.allocative_graph.proofs.Common.{entries, Child, Key, Path, total, total_at, entries-node, InOrder, Figures, figures_behind, under_rows, node, rows_of, rows_of_child}
-use Rattle.std.proofs.lemmas.List.{take_more}
-use Rattle.std.proofs.lemmas.Grind.{flat_map-append}
+use Rattle.std.proofs.Common.{◌≡◌, ℕ, ◌+◌, ◌<◌, List, [], ◌∷◌, ◌++◌, map, take, length, get_or, refl, sym, ap, subst, ◌∙◌, append_assoc, append-nil}
+use Rattle.allocative_graph.proofs.Common.{entries, Child, Graph, IsNode, Key, Path, total, total_at, entries-node, InOrder, Figures, figures_behind, under_rows, node, rows_of, rows_of_child, map-append}
+use Rattle.allocative_graph.proofs.ChildRows.{rows-more}
 use Rattle.allocative_graph.proofs.Behind.{total_at-child}
 
 -- The figures of some paths with their sizes, with some keys before them, where t has the bytes of each path and of all
 -- below it.
 abbrev pub figured : (Path → ℕ) → Path → List (Path × ℕ) → List Figures
 figured t ks rs = map (λ e. record { path = ks ++ e.0; self_size = e.1; total_size = t e.0 }) rs
-
--- The figures of two lists joined are those of one followed by those of the other.
-pub figured-append : (t : Path → ℕ) (ks : Path) (a b : List (Path × ℕ)) → figured t ks (a ++ b) ≡ figured t ks a ++ figured t ks b
-figured-append t ks [] b = refl
-figured-append t ks (r ∷ a) b = ap (λ (fs : List Figures). record { path = ks ++ r.0; self_size = r.1; total_size = t r.0 } ∷ fs) (figured-append t ks a b)
 
 -- Putting a key before the paths is the same as adding it at the end of the keys before them.
 figured-under : (t u : Path → ℕ) (ks : Path) (k : Key) (rs : List (Path × ℕ)) → ((q : Path) → t (k ∷ q) ≡ u q) → figured u (ks ++ k ∷ []) rs ≡ figured t ks (under_rows k rs)
@@ -28,11 +22,21 @@ pub child_read : (n : ℕ) (cs : List Child) (i : ℕ) (d : Child) (ks : Path) �
 child_read n cs i d ks o w =
     let t : Path → ℕ = total_at (node n cs) in
     let c : Child = get_or cs i d in
-    let e : rows_of (take (i + 1) cs) ≡ rows_of (take i cs) ++ rows_of_child c =
-    ap rows_of (take_more cs i d w) ∙ flat_map-append rows_of_child (take i cs) (c ∷ []) ∙ ap (λ r. rows_of (take i cs) ++ r) (append-nil (rows_of_child c)) in
     ap (λ (fs : List Figures). figured t ks (rows_of (take i cs)) ++ fs) (figured-under t (total_at c.graph) ks c.key (entries c.graph) (λ q. total_at-child n cs i d q o w))
-    ∙ sym (figured-append t ks (rows_of (take i cs)) (rows_of_child c))
-    ∙ ap (figured t ks) (sym e)
+    ∙ sym (map-append (λ e. record { path = ks ++ e.0; self_size = e.1; total_size = t e.0 }) (rows_of (take i cs)) (rows_of_child c))
+    ∙ ap (figured t ks) (sym (rows-more cs i d w))
+
+-- The figures after one child more was read, where g is the graph of the node.
+pub rows_pushed : {n s : ℕ} {cs ds : List Child} {g : Graph} {i : ℕ} {d : Child} {qs : Path} {was now : List Figures} (ks : Path) (start : List Figures) → node n cs ≡ g → IsNode cs s n → ds ≡ cs → i < length ds → d ≡ get_or ds i d
+    → was ≡ start ++ figured (total_at g) ks (rows_of (take i ds)) → qs ≡ ks ++ d.key ∷ [] → now ≡ was ++ figures_behind qs d.graph → now ≡ start ++ figured (total_at g) ks (rows_of (take (i + 1) ds))
+rows_pushed {n = n} {ds = ds} {g = g} {i = i} {d = d} ks start view h same w at was_is behind now_is =
+    let read = child_read n ds i d ks (subst InOrder (sym same) h.children.sorted) w in
+    now_is
+    ∙ (λ j. was_is j ++ figures_behind (behind j) d.graph)
+    ∙ ap (λ (e : Child). (start ++ figured (total_at g) ks (rows_of (take i ds))) ++ figures_behind (ks ++ e.key ∷ []) e.graph) at
+    ∙ append_assoc start _ _
+    ∙ ap (λ (fs : List Figures). start ++ fs)
+    (subst (λ (x : Graph). figured (total_at x) ks (rows_of (take i ds)) ++ figures_behind (ks ++ (get_or ds i d).key ∷ []) (get_or ds i d).graph ≡ figured (total_at x) ks (rows_of (take (i + 1) ds))) (ap (node n) same ∙ view) read)
 
 -- The rows of a node are its own and then those of its children.
 pub node_read : (n : ℕ) (cs : List Child) (ks : Path) → InOrder cs

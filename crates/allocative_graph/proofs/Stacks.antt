@@ -1,28 +1,27 @@
 -- Lines of collapsed stacks: where a line is cut, and which lines are none.
-use Rattle.std.proofs.Common.{◌≡◌, ◌≢◌, ℕ, zero, suc, ◌+◌, ◌<◌, ◌≤◌, ◌==◌, Bool, true, false, cond, List, [], ◌∷◌, ◌++◌, length, get_or, take, drop, Option, None, Some, refl, ap, sym, ◌∙◌, subst, arith, Bor, MatchOption, eqb-true, true≢false, take-append-drop}
-use Rattle.allocative_graph.proofs.Common.{LEVELS, LineFault, NoSpace, Lacks, Stack, IsStack, IsNumber, IsCut, IsWrong, number_of}
+use Rattle.std.proofs.Common.{◌≡◌, ◌≢◌, ℕ, zero, suc, ◌+◌, ◌<◌, ◌≤◌, ◌==◌, true, false, cond, List, [], ◌∷◌, ◌++◌, length, get_or, take, drop, None, Some, refl, ap, sym, ◌∙◌, subst, arith, Bor, eqb-true, true≢false, take-append-drop}
+use Rattle.allocative_graph.proofs.Common.{LEVELS, LineFault, NoSpace, Lacks, Stack, IsStack, IsNumber, IsCut, IsWrong, number_of, nil_from_length}
 use Rattle.std.specs.Str.Pattern.{RFindsChar}
 use Rattle.std.specs.Str.Parse.{AllDigits}
 use Rattle.std.specs.Char.{digit_value}
 use Rattle.std.proofs.lemmas.Str.Pattern.{NoCharPasses-char, drop_at_char}
-use Rattle.std.proofs.lemmas.List.{nil_from_length}
 use Rattle.allocative_graph.specs.declared.read.LineFault.TheVariants.{NoPath, NoNumber, TooDeep}
 use Rattle.allocative_graph.specs.Read.{keys_of}
+use Rattle.allocative_graph.proofs.Basics.{on_test}
 use Rattle.allocative_graph.proofs.Text.{lacks_not, last_split}
 
 lacks_from : (c : ℕ) (bs : List ℕ) → ((i : ℕ) → i < length bs → get_or bs i 0 ≢ c) → Lacks c bs
 lacks_from c [] h = tt
 lacks_from c (b ∷ bs) h = (h 0 (omega arith), lacks_from c bs (λ i l. h (suc i) (omega (arith, l))))
 
--- What `rsplit_once` gives at an ASCII character.
-pub rsplit_parts : (c : ℕ) (bs : List ℕ) (r : Option (Bor (List ℕ) × Bor (List ℕ)))
-    → MatchOption r (RFindsChar c bs None) (λ x. (i : ℕ) × (j : ℕ) × RFindsChar c bs (Some (i, j)) × (x.0.now ≡ take i bs) × (x.1.now ≡ drop j bs) × (i ≤ j) × (length x.0.now ≡ i) × (length x.1.now + j ≡ length bs))
-    → c < 128 → MatchOption r (Lacks c bs) (λ x. (bs ≡ x.0.now ++ c ∷ x.1.now) × Lacks c x.1.now)
-rsplit_parts c bs None h low = lacks_from c bs (λ i. NoCharPasses-char c bs i h low)
-rsplit_parts c bs (Some x) (i, j, finds, front, back, ordered, one, other) low =
-    let whole : take i bs ++ c ∷ drop j bs ≡ bs = ap (λ l. take i bs ++ l) (sym (drop_at_char c bs i j finds.1 low)) ∙ take-append-drop i bs in
-    let lacks : Lacks c (drop j bs) = lacks_from c (drop j bs) (λ k. NoCharPasses-char c (drop j bs) k finds.0 low) in
-    (sym whole ∙ (λ k. sym front k ++ c ∷ sym back k), subst (Lacks c) (sym back) lacks)
+-- What `rsplit_once` gives at a space.
+pub no_space : (bs : List ℕ) → RFindsChar 32 bs None → Lacks 32 bs
+no_space bs h = lacks_from 32 bs (λ i. NoCharPasses-char 32 bs i h (omega arith))
+
+pub cut_of : {bs : List ℕ} (x : Bor (List ℕ) × Bor (List ℕ)) → (i : ℕ) × (j : ℕ) × RFindsChar 32 bs (Some (i, j)) × (x.0.now ≡ take i bs) × (x.1.now ≡ drop j bs) × (i ≤ j) × (length x.0.now ≡ i) × (length x.1.now + j ≡ length bs) → IsCut bs x.0.now x.1.now
+cut_of {bs = bs} x (i, j, finds, front, back, ordered, one, other) =
+    let whole : take i bs ++ 32 ∷ drop j bs ≡ bs = ap (λ l. take i bs ++ l) (sym (drop_at_char 32 bs i j finds.1 (omega arith))) ∙ take-append-drop i bs in
+    record { parts = sym whole ∙ (λ k. sym front k ++ 32 ∷ sym back k); last = subst (Lacks 32) (sym back) (lacks_from 32 (drop j bs) (λ k. NoCharPasses-char 32 (drop j bs) k finds.0 (omega arith))) }
 
 -- A space is no digit.
 no_digit : digit_value 32 < 10 → ⊥
@@ -35,13 +34,9 @@ digits_lack (d ∷ ds) h = ((λ e. no_digit (subst (λ (c : ℕ). digit_value c 
 -- No space stands in a number.
 number_lacks : (bs : List ℕ) → IsNumber bs → Lacks 32 bs
 number_lacks [] h = tt
-number_lacks (b ∷ bs) h = by (b == 43) refl
-  where
-    by : (t : Bool) → (b == 43) ≡ t → Lacks 32 (b ∷ bs)
-    by true e =
-        let digits : AllDigits 10 bs = subst (λ (t : Bool). AllDigits 10 (drop (cond t 1 0) (b ∷ bs))) e h.0.1 in
-        ((λ s. omega (arith, s, eqb-true b 43 e)), digits_lack bs digits)
-    by false e = digits_lack (b ∷ bs) (subst (λ (t : Bool). AllDigits 10 (drop (cond t 1 0) (b ∷ bs))) e h.0.1)
+number_lacks (b ∷ bs) h = on_test (λ t. AllDigits 10 (drop (cond t 1 0) (b ∷ bs)) → (b == 43) ≡ t → Lacks 32 (b ∷ bs)) (b == 43)
+    (λ e digits t. ((λ s. omega (arith, s, eqb-true b 43 e)), digits_lack bs digits))
+    (λ e digits t. digits_lack (b ∷ bs) digits) h.0.1 refl
 
 -- What stands before the last space of a stack is its path, and what stands behind it its number.
 pub cut_once : (line front back : List ℕ) (s : Stack) → IsCut line front back → (is : IsStack line s) → (front ≡ is.path) × (back ≡ is.number)
@@ -58,26 +53,17 @@ wrong_is_none TooDeep line (front, back, cut, reads, deep) s is =
     omega (arith, is.fits, deep, ap (λ (p : List ℕ). length (keys_of p)) (cut_once line front back s cut is).0)
 
 -- ---- what the code finds in a line
-pub cut_of : (line front back : List ℕ) → (line ≡ front ++ 32 ∷ back) × Lacks 32 back → IsCut line front back
-cut_of line front back h = record { parts = h.0; last = h.1 }
-
-pub no_path : (line front back : List ℕ) → IsCut line front back → (length front == 0) ≡ true → IsWrong NoPath line
-no_path line front back cut e = (back, subst (λ (f : List ℕ). IsCut line f back) (nil_from_length front (eqb-true (length front) 0 e)) cut)
+pub no_path : {line front back : List ℕ} → IsCut line front back → (length front == 0) ≡ true → IsWrong NoPath line
+no_path {line = line} {front = front} {back = back} cut e = (back, subst (λ (f : List ℕ). IsCut line f back) (nil_from_length front (eqb-true (length front) 0 e)) cut)
 
 pub not_zero : (n : ℕ) → (n == 0) ≡ false → 0 < n
 not_zero zero e = absurd (true≢false e)
 not_zero (suc n) e = omega arith
 
-pub none_behind : (line front back : List ℕ) → IsCut line front back → (length front == 0) ≡ false → (IsNumber back → ⊥) → IsWrong NoNumber line
-none_behind line front back cut e none = (front, back, cut, not_zero (length front) e, none)
-
-pub deep : (line front back : List ℕ) → IsCut line front back → IsNumber back → LEVELS < length (keys_of front) → IsWrong TooDeep line
-deep line front back cut reads more = (front, back, cut, reads, more)
-
 -- A line whose last space stands behind a path and before a number is a stack.
-pub stack_of : (line front back : List ℕ) (n : ℕ) → IsCut line front back → (length front == 0) ≡ false → IsNumber back × (n ≡ number_of back) → length (keys_of front) ≤ LEVELS
+pub stack_of : {line front back : List ℕ} {n : ℕ} → IsCut line front back → (length front == 0) ≡ false → IsNumber back × (n ≡ number_of back) → length (keys_of front) ≤ LEVELS
     → IsStack line (record { path = keys_of front; size = n })
-stack_of line front back n cut e reads fits = record {
+stack_of {front = front} {back = back} cut e reads fits = record {
   path = front;
   number = back;
   parts = cut.parts;

@@ -1,65 +1,32 @@
 -- A text determines the sizes: it splits into lines at the line feeds, a line at its last space, and a path at each
 -- `;`.
-use Rattle.std.proofs.Common.{◌≡◌, ◌≢◌, ℕ, zero, suc, ◌+◌, ◌^◌, ◌<◌, ◌≤◌, ◌/◌, ◌%◌, ◌==◌, Bool, true, false, cond, not, ◌||◌, ◌&&◌, T, IsTrue, ◌⊎◌, inl, inr, List, [], ◌∷◌, ◌++◌, map, flat_map, filter, Some, None, refl, ap, sym, ◌∙◌, subst, true≢false, arith, unwrap_or, append_assoc, decimal, sum_by, nat_lt, eqb-true, if◌then◌else◌}
-use Rattle.allocative_graph.proofs.Common.{AllByRecursion, entries, get-entries, entries_sorted, find, is_sorted, below_all, Key, Path, path_cmp, is_same_path, Graph, text, text_of_entries, joined, is_root, size_at, Lacks, HasPlainKeys, HasWords}
+use Rattle.std.proofs.Common.{◌≡◌, ◌≢◌, ℕ, zero, suc, ◌+◌, ◌^◌, ◌<◌, ◌≤◌, ◌/◌, ◌%◌, ◌==◌, Bool, false, cond, not, ◌||◌, T, IsTrue, List, [], ◌∷◌, ◌++◌, map, flat_map, filter, Some, refl, ap, sym, ◌∙◌, subst, arith, add-zero, zero-add, unwrap_or, append_assoc, decimal, sum_by, nat_lt, eqb-true, if◌then◌else◌, Less}
+use Rattle.allocative_graph.proofs.Common.{AllByRecursion, is_eq, is_lt, entries, get-entries, entries_sorted, find, is_sorted, below_all, first, second, Key, Path, path_cmp, is_same_path, Graph, text_of_entries, joined, is_root, size_at, Lacks, HasPlainKeys, HasWords, sum_by-cons}
 use Rattle.std.specs.Fmt.{digits, digits_onto, digit_glyph}
-use Rattle.std.proofs.lemmas.Fmt.{decimal_injective}
-use Rattle.std.proofs.lemmas.List.Sums.{sum_by-cons}
-use Rattle.allocative_graph.proofs.Basics.{each-append, each-implies, same_path}
-use Rattle.allocative_graph.proofs.Below.{find-below_all}
+use Rattle.std.proofs.lemmas.Bool.{not-false}
+use Rattle.allocative_graph.proofs.Basics.{each-append, each-implies, on_test, same_path}
+use Rattle.allocative_graph.proofs.Below.{is_lt-Less}
 
 -- ---- lists parted at a byte
-head_of : List ℕ → ℕ
-head_of [] = 0
-head_of (x ∷ xs) = x
-
-tail_of : List ℕ → List ℕ
-tail_of [] = []
-tail_of (x ∷ xs) = xs
-
-same_head : (x y : ℕ) (xs ys : List ℕ) → x ∷ xs ≡ y ∷ ys → x ≡ y
-unfolding head_of
-same_head x y xs ys e = ap head_of e
-
-same_tail : (x y : ℕ) (xs ys : List ℕ) → x ∷ xs ≡ y ∷ ys → xs ≡ ys
-unfolding tail_of
-same_tail x y xs ys e = ap tail_of e
-
-pub first_split : (c : ℕ) (a b x y : List ℕ) → Lacks c a → Lacks c b → a ++ c ∷ x ≡ b ++ c ∷ y → (a ≡ b) × (x ≡ y)
-first_split c [] [] x y f g e = (refl, same_tail c c x y e)
-first_split c [] (d ∷ b) x y f g e = absurd (g.0 (sym (same_head c d _ _ e)))
-first_split c (d ∷ a) [] x y f g e = absurd (f.0 (same_head d c _ _ e))
-first_split c (d ∷ a) (e ∷ b) x y f g h =
-    let rest = first_split c a b x y f.1 g.1 (same_tail d e _ _ h) in
-    (λ i. same_head d e _ _ h i ∷ rest.0 i, rest.1)
-
 pub lacks_not : (c : ℕ) (a x : List ℕ) → Lacks c (a ++ c ∷ x) → ⊥
 lacks_not c [] x f = f.0 refl
 lacks_not c (d ∷ a) x f = lacks_not c a x f.1
 
 pub last_split : (c : ℕ) (a b x y : List ℕ) → Lacks c x → Lacks c y → a ++ c ∷ x ≡ b ++ c ∷ y → (a ≡ b) × (x ≡ y)
-last_split c [] [] x y f g e = (refl, same_tail c c x y e)
-last_split c [] (d ∷ b) x y f g e = absurd (lacks_not c b y (subst (Lacks c) (same_tail c d _ _ e) f))
-last_split c (d ∷ a) [] x y f g e = absurd (lacks_not c a x (subst (Lacks c) (sym (same_tail d c _ _ e)) g))
-last_split c (d ∷ a) (e ∷ b) x y f g h =
-    let rest = last_split c a b x y f g (same_tail d e _ _ h) in
-    (λ i. same_head d e _ _ h i ∷ rest.0 i, rest.1)
+last_split c [] [] x y f g e = (refl, cc)
+last_split c [] (d ∷ b) x y f g e = absurd (lacks_not c b y (subst (Lacks c) (cc) f))
+last_split c (d ∷ a) [] x y f g e = absurd (lacks_not c a x (subst (Lacks c) (cc) g))
+last_split c (d ∷ a) (e ∷ b) x y f g h = let rest = last_split c a b x y f g (cc) in (cc (rest.0), rest.1)
 
 -- ---- decimals
 high : (d : ℕ) → 48 ≤ digit_glyph false d
-high d = by (nat_lt d 10)
-  where
-    by : (t : Bool) → 48 ≤ (if t then 48 + d else 87 + d)
-    by true = omega arith
-    by false = omega arith
+high d = on_test (λ t. 48 ≤ (if t then 48 + d else 87 + d)) (nat_lt d 10) (λ e. omega arith) (λ e. omega arith)
 
 high_digits : (k n : ℕ) (acc : List ℕ) → AllByRecursion (λ b. 48 ≤ b) acc → AllByRecursion (λ b. 48 ≤ b) (digits_onto k 10 false n acc)
 high_digits zero n acc h = h
-high_digits (suc k) n acc h = by (n / 10 == 0) (high_digits k (n / 10) (digit_glyph false (n % 10) ∷ acc) (high (n % 10), h))
-  where
-    by : (t : Bool) → AllByRecursion (λ b. 48 ≤ b) (digits_onto k 10 false (n / 10) (digit_glyph false (n % 10) ∷ acc)) → AllByRecursion (λ b. 48 ≤ b) (if t then digit_glyph false (n % 10) ∷ acc else digits_onto k 10 false (n / 10) (digit_glyph false (n % 10) ∷ acc))
-    by true rest = (high (n % 10), h)
-    by false rest = rest
+high_digits (suc k) n acc h =
+    on_test (λ t. AllByRecursion (λ b. 48 ≤ b) (if t then digit_glyph false (n % 10) ∷ acc else digits_onto k 10 false (n / 10) (digit_glyph false (n % 10) ∷ acc))) (n / 10 == 0)
+    (λ e. (high (n % 10), h)) (λ e. high_digits k (n / 10) (digit_glyph false (n % 10) ∷ acc) (high (n % 10), h))
 
 high_decimal : (n : ℕ) → AllByRecursion (λ b. 48 ≤ b) (decimal n)
 unfolding digits
@@ -77,14 +44,6 @@ joined_lacks [] h = tt
 joined_lacks (k ∷ []) h = h.0.1
 joined_lacks (k ∷ l ∷ p) h = each-append (λ b. b ≢ 10) k _ h.0.1 ((λ e. omega (arith, e)), joined_lacks (l ∷ p) h.1)
 
-joined_same : (k l : Key) (p q : Path) → AllByRecursion Plain (k ∷ p) → AllByRecursion Plain (l ∷ q) → joined (k ∷ p) ≡ joined (l ∷ q) → k ∷ p ≡ l ∷ q
-joined_same k l [] [] f g e = λ i. e i ∷ []
-joined_same k l [] (n ∷ q) f g e = absurd (lacks_not 59 l (joined (n ∷ q)) (subst (Lacks 59) e f.0.0))
-joined_same k l (m ∷ p) [] f g e = absurd (lacks_not 59 k (joined (m ∷ p)) (subst (Lacks 59) (sym e) g.0.0))
-joined_same k l (m ∷ p) (n ∷ q) f g e =
-    let parts = first_split 59 k l (joined (m ∷ p)) (joined (n ∷ q)) f.0.0 g.0.0 e in
-    λ i. parts.0 i ∷ joined_same m n p q f.1 g.1 parts.1 i
-
 -- ---- lines
 abbrev pub Sized : Type 0
 Sized = Path × ℕ
@@ -100,11 +59,8 @@ body e = joined e.0 ++ 32 ∷ decimal e.1
 
 pub shown_lines : (es : List Sized) → text_of_entries es ≡ flat_map full (filter is_shown es)
 shown_lines [] = refl
-shown_lines (e ∷ es) = by (is_root e.0 || (e.1 == 0)) (shown_lines es)
-  where
-    by : (t : Bool) → text_of_entries es ≡ flat_map full (filter is_shown es) → cond t [] (full e) ++ text_of_entries es ≡ flat_map full (cond (not t) (e ∷ filter is_shown es) (filter is_shown es))
-    by true rest = rest
-    by false rest = ap (λ x. full e ++ x) rest
+shown_lines (e ∷ es) = on_test (λ t. cond t [] (full e) ++ text_of_entries es ≡ flat_map full (cond (not t) (e ∷ filter is_shown es) (filter is_shown es))) (is_root e.0 || (e.1 == 0))
+    (λ h. shown_lines es) (λ h. ap (λ x. full e ++ x) (shown_lines es))
 
 pub full_body : (e : Sized) (rest : List ℕ) → full e ++ rest ≡ body e ++ 10 ∷ rest
 full_body e rest = append_assoc (body e) (10 ∷ []) rest
@@ -117,93 +73,60 @@ pub record Good (e : Sized) : Type 0 where
 pub body_lacks : (e : Sized) → AllByRecursion Plain e.0 → Lacks 10 (body e)
 body_lacks e h = each-append (λ b. b ≢ 10) (joined e.0) _ (joined_lacks e.0 h) ((λ g. omega (arith, g)), decimal_lacks 10 e.1 (omega arith))
 
-same_entry : (e f : Sized) → Good e → Good f → body e ≡ body f → e ≡ f
-same_entry ([], n) f a b h = absurd (true≢false (sym a.seen))
-same_entry (k ∷ p, n) ([], m) a b h = absurd (true≢false (sym b.seen))
-same_entry (k ∷ p, n) (l ∷ q, m) a b h =
-    let parts = last_split 32 (joined (k ∷ p)) (joined (l ∷ q)) (decimal n) (decimal m) (decimal_lacks 32 n (omega arith)) (decimal_lacks 32 m (omega arith)) h in
-    λ i. (joined_same k l p q a.plain b.plain parts.0 i, decimal_injective n m a.word b.word parts.1 i)
+-- ---- the entries that have a line
+abbrev pub shown : Graph → List Sized
+shown g = filter is_shown (entries g)
 
-is_empty : List ℕ → Bool
-is_empty [] = true
-is_empty (x ∷ xs) = false
-
-not_empty : (a : List ℕ) (c : ℕ) (x : List ℕ) → a ++ c ∷ x ≡ [] → ⊥
-unfolding is_empty
-not_empty [] c x e = true≢false (sym (ap is_empty e))
-not_empty (d ∷ a) c x e = true≢false (sym (ap is_empty e))
-
-same_entries : (es fs : List Sized) → AllByRecursion Good es → AllByRecursion Good fs → flat_map full es ≡ flat_map full fs → es ≡ fs
-same_entries [] [] a b h = refl
-same_entries [] (f ∷ fs) a b h = absurd (not_empty (body f) 10 (flat_map full fs) (sym (h ∙ full_body f (flat_map full fs))))
-same_entries (e ∷ es) [] a b h = absurd (not_empty (body e) 10 (flat_map full es) (sym (full_body e (flat_map full es)) ∙ h))
-same_entries (e ∷ es) (f ∷ fs) a b h =
-    let parts = first_split 10 (body e) (body f) (flat_map full es) (flat_map full fs) (body_lacks e a.0.plain) (body_lacks f b.0.plain) (sym (full_body e (flat_map full es)) ∙ h ∙ full_body f (flat_map full fs)) in
-    λ i. same_entry e f a.0 b.0 parts.0 i ∷ same_entries es fs a.1 b.1 parts.1 i
-
-pub good_entries : (es : List Sized) → AllByRecursion (λ p. AllByRecursion Plain p) (map (λ e. e.0) es) → AllByRecursion (λ e. e.1 < 2 ^ 64) es → AllByRecursion Good (filter is_shown es)
+good_entries : (es : List Sized) → AllByRecursion (λ p. AllByRecursion Plain p) (map (λ e. e.0) es) → sum_by (λ e. e.1) es < 2 ^ 64 → AllByRecursion Good (filter is_shown es)
 good_entries [] a b = tt
-good_entries (e ∷ es) a b = by (is_shown e) refl (good_entries es a.1 b.1)
-  where
-    by : (t : Bool) → is_shown e ≡ t → AllByRecursion Good (filter is_shown es) → AllByRecursion Good (cond t (e ∷ filter is_shown es) (filter is_shown es))
-    by true h rest = (record { seen = h; plain = a.0; word = b.0 }, rest)
-    by false h rest = rest
+good_entries (e ∷ es) a b =
+    let parts = sum_by-cons (λ e. e.1) e es in
+    let rest = good_entries es a.1 (omega (arith, parts)) in
+    on_test (λ t. AllByRecursion Good (cond t (e ∷ filter is_shown es) (filter is_shown es))) (is_shown e) (λ h. (record { seen = h; plain = a.0; word = omega (arith, parts) }, rest)) (λ h. rest)
+
+pub shown_good : (g : Graph) → HasPlainKeys g → HasWords g → AllByRecursion Good (shown g)
+shown_good g plain fits = good_entries (entries g) plain fits
 
 -- ---- a size is that of the line at its path
-none_kept : (q : Path) (es : List Sized) → find path_cmp q es ≡ None → find path_cmp q (filter is_shown es) ≡ None
-none_kept q [] h = refl
-none_kept q (e ∷ es) h = by (is_same_path q e.0) refl h (none_kept q es)
+-- The bytes of some entries at a path.
+abbrev pub bytes_in : List Sized → Path → ℕ
+bytes_in es q = sum_by (λ e. cond (is_same_path q e.0) e.1 0) es
+
+-- Where an entry has no line, it has no bytes at a path that is not the root.
+unseen : (e : Sized) (k : Key) (p : Path) → is_shown e ≡ false → cond (is_same_path (k ∷ p) e.0) e.1 0 ≡ 0
+unseen ([], n) k p h = refl
+unseen (l ∷ q, n) k p h = zero_at (is_same_path (k ∷ p) (l ∷ q)) (eqb-true n 0 (not-false (n == 0) h))
   where
-    by : (t : Bool) → is_same_path q e.0 ≡ t → cond t (Some e.1) (find path_cmp q es) ≡ None → (find path_cmp q es ≡ None → find path_cmp q (filter is_shown es) ≡ None) → find path_cmp q (cond (is_shown e) (e ∷ filter is_shown es) (filter is_shown es)) ≡ None
-    by true s g rest = absurd (true≢false (ap (λ o. elim o as (λ x. Bool) [ Some y ↦ true | None ↦ false ]) g))
-    by false s g rest = inner (is_shown e)
-      where
-        inner : (v : Bool) → find path_cmp q (cond v (e ∷ filter is_shown es) (filter is_shown es)) ≡ None
-        inner true = ap (λ b. cond b (Some e.1) (find path_cmp q (filter is_shown es))) s ∙ rest g
-        inner false = rest g
+    zero_at : (t : Bool) → n ≡ 0 → cond t n 0 ≡ 0
+    zero_at t e = grind arith
 
-pub and_left : (a b : Bool) → T (a && b) → T a
-and_left true b h = tt
-and_left false b h = absurd h
+-- The sum over the items that pass a test is that over all, where the others have none.
+sum-filter : {X : Type 0} (t : X → Bool) (f : X → ℕ) → ((x : X) → t x ≡ false → f x ≡ 0) → (xs : List X) → sum_by f (filter t xs) ≡ sum_by f xs
+sum-filter t f none [] = refl
+sum-filter t f none (x ∷ xs) = on_test (λ b. sum_by f (cond b (x ∷ filter t xs) (filter t xs)) ≡ sum_by f (x ∷ xs)) (t x)
+    (λ e. omega (arith, sum-filter t f none xs, sum_by-cons f x (filter t xs), sum_by-cons f x xs))
+    (λ e. omega (arith, sum-filter t f none xs, sum_by-cons f x xs, none x e))
 
-pub and_right : (a b : Bool) → T (a && b) → T b
-and_right true b h = h
-and_right false b h = absurd h
+bytes-below : (q : Path) (es : List Sized) → T (below_all path_cmp q es) → bytes_in es q ≡ 0
+bytes-below q [] h = refl
+bytes-below q (e ∷ es) h =
+    let less : path_cmp q e.0 ≡ Less = is_lt-Less (path_cmp q e.0) (first (is_lt (path_cmp q e.0)) (below_all path_cmp q es) h) in
+    sum_by-cons (λ (x : Sized). cond (is_same_path q x.0) x.1 0) e es
+    ∙ (λ i. cond (is_eq (less i)) e.1 0 + bytes-below q es (second (is_lt (path_cmp q e.0)) (below_all path_cmp q es) h) i)
 
-eq_zero : (n : ℕ) → IsTrue (n == 0) → n ≡ 0
-eq_zero n h = eqb-true n 0 h
+-- The bytes of entries in order at a path are the size that is found there.
+bytes-find : (q : Path) (es : List Sized) → T (is_sorted path_cmp es) → bytes_in es q ≡ unwrap_or (find path_cmp q es) 0
+bytes-find q [] h = refl
+bytes-find q (e ∷ es) h =
+    let rest = bytes-find q es (second (below_all path_cmp e.0 es) (is_sorted path_cmp es) h) in
+    let above = first (below_all path_cmp e.0 es) (is_sorted path_cmp es) h in
+    sum_by-cons (λ (x : Sized). cond (is_same_path q x.0) x.1 0) e es
+    ∙ on_test (λ t. cond t e.1 0 + bytes_in es q ≡ unwrap_or (cond t (Some e.1) (find path_cmp q es)) 0) (is_same_path q e.0)
+    (λ same. ap (λ n. e.1 + n) (bytes-below q es (subst (λ (p : Path). T (below_all path_cmp p es)) (sym (same_path q e.0 same)) above)) ∙ add-zero e.1)
+    (λ apart. zero-add (bytes_in es q) ∙ rest)
 
-abbrev size_in : List Sized → Path → ℕ
-size_in es q = unwrap_or (find path_cmp q es) 0
-
-size_kept : (k : Key) (p : Path) (es : List Sized) → T (is_sorted path_cmp es) → size_in es (k ∷ p) ≡ size_in (filter is_shown es) (k ∷ p)
-size_kept k p [] h = refl
-size_kept k p (e ∷ es) h = by (is_same_path (k ∷ p) e.0) refl (is_shown e) refl (size_kept k p es (and_right (below_all path_cmp e.0 es) _ h))
-  where
-    unseen : (r z : Bool) → not (r || z) ≡ false → IsTrue r ⊎ IsTrue z
-    unseen true z g = inl refl
-    unseen false true g = inr refl
-    unseen false false g = absurd (true≢false g)
-
-    none : k ∷ p ≡ e.0 → find path_cmp (k ∷ p) (filter is_shown es) ≡ None
-    none q = none_kept (k ∷ p) es (ap (λ r. find path_cmp r es) q ∙ find-below_all e.0 es (and_left (below_all path_cmp e.0 es) (is_sorted path_cmp es) h))
-
-    by : (t : Bool) → is_same_path (k ∷ p) e.0 ≡ t → (v : Bool) → is_shown e ≡ v → size_in es (k ∷ p) ≡ size_in (filter is_shown es) (k ∷ p) → unwrap_or (cond t (Some e.1) (find path_cmp (k ∷ p) es)) 0 ≡ size_in (cond v (e ∷ filter is_shown es) (filter is_shown es)) (k ∷ p)
-    by true s true w rest = ap (λ t. unwrap_or (cond t (Some e.1) (find path_cmp (k ∷ p) (filter is_shown es))) 0) (sym s)
-    by true s false w rest = elim (unseen (is_root e.0) (e.1 == 0) w) [
-      | inl r ↦ absurd (true≢false (sym (ap is_root (same_path (k ∷ p) e.0 s) ∙ r)))
-      | inr z ↦ eq_zero e.1 z ∙ ap (λ o. unwrap_or o 0) (sym (none (same_path (k ∷ p) e.0 s)))
-    ]
-    by false s true w rest = rest ∙ ap (λ t. unwrap_or (cond t (Some e.1) (find path_cmp (k ∷ p) (filter is_shown es))) 0) (sym s)
-    by false s false w rest = rest
-
-pub words : (es : List Sized) (m : ℕ) → sum_by (λ e. e.1) es < m → AllByRecursion (λ e. e.1 < m) es
-words [] m h = tt
-words (e ∷ es) m h =
-    let parts = sum_by-cons (λ e. e.1) e es in
-    (omega (arith, h, parts), words es m (omega (arith, h, parts)))
-
-pub text_tells : (g h : Graph) → HasPlainKeys g → HasPlainKeys h → HasWords g → HasWords h → text g ≡ text h → (k : Key) (p : Path) → size_at g (k ∷ p) ≡ size_at h (k ∷ p)
-text_tells g h a b v w e k p =
-    let same = same_entries _ _ (good_entries (entries g) a (words (entries g) (2 ^ 64) v)) (good_entries (entries h) b (words (entries h) (2 ^ 64) w)) (sym (shown_lines (entries g)) ∙ e ∙ shown_lines (entries h)) in
-    ap (λ o. unwrap_or o 0) (get-entries g (k ∷ p)) ∙ size_kept k p (entries g) (entries_sorted g) ∙ ap (λ es. size_in es (k ∷ p)) same ∙ sym (size_kept k p (entries h) (entries_sorted h)) ∙ ap (λ o. unwrap_or o 0) (sym (get-entries h (k ∷ p)))
+-- A size of a graph, but for the root's, is that of the lines.
+pub size_shown : (g : Graph) (k : Key) (p : Path) → size_at g (k ∷ p) ≡ bytes_in (shown g) (k ∷ p)
+size_shown g k p =
+    ap (λ o. unwrap_or o 0) (get-entries g (k ∷ p)) ∙ sym (bytes-find (k ∷ p) (entries g) (entries_sorted g))
+    ∙ sym (sum-filter is_shown (λ e. cond (is_same_path (k ∷ p) e.0) e.1 0) (λ e h. unseen e k p h) (entries g))

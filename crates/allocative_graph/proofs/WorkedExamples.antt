@@ -1,10 +1,9 @@
 -- The worked examples print what they should.
 use Rattle.std.proofs.Common.{true, false, true≢false, sym, ◌∷◌, [], refl}
-use Rattle.allocative_graph.proofs.Common.{contains-insert, contains-empty, identity_cmp, all, IsWhole, sums_of, CanBeAdded}
+use Rattle.allocative_graph.proofs.Common.{contains-insert, contains-empty, identity_cmp, all, IsWhole, sums_of, CanBeAdded, codes}
 use Rattle.std.specs.Fmt.{digits}
 use Rattle.std.specs.FinSet.{empty}
 use Rattle.allocative_graph.specs.WorkedExamples.{WorkedExamples, one, part_inline, part_unique, unique_pointer, unique_field, shared_twice, shared_ring, first_content, first_content_turned, short_of_children, inline_and_unique, boxed_bytes, shared_value, map_pair, vec_body}
-use lib.Chars.{codes}
 use Rattle.allocative_graph.proofs.Lookups.{get-sums_of}
 use Rattle.allocative_graph.proofs.Basics.{identity_total}
 use Rattle.allocative_graph.proofs.Computed.{text-computed, warnings-computed, text_added}

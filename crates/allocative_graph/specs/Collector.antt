@@ -165,8 +165,3 @@ failed_with r (Going k) = Failed r
 abbrev pub left : Bool → State → State
 left outer (Failed r) = Failed r
 left outer (Going k) = Going (leave outer k)
-
--- A collector that has not failed is that of a flame graph.
-abbrev pub IsGraphs : State → Type 0
-IsGraphs (Failed r) = ⊤
-IsGraphs (Going k) = is_graph k ≡ true

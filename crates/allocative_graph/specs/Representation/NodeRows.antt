@@ -1,6 +1,6 @@
 -- The rows of a node are in the order of paths. They are therefore the entries of its graph, and each child has fewer.
 use Rattle.std.specs.Prelude.{◌≡◌, ℕ, ◌+◌, ◌≤◌, T, Bool, true, false, ◌&&◌, List, [], ◌∷◌, ◌++◌, length}
-use Rattle.std.proofs.Common.{arith, length-append, ap, sym, subst}
+use Rattle.std.proofs.Common.{arith, length-append, ap, sym, subst, ◌∙◌}
 use Rattle.std.proofs.lemmas.List.{length-map}
 use Rattle.std.specs.List.{AllByRecursion}
 use Rattle.std.specs.List.Sorted.{IsStrictlySortedBy}
@@ -21,17 +21,17 @@ abbrev Rows : Type 0
 Rows = List (Path × ℕ)
 
 -- The conjunction of two tests that hold holds.
-both : (a b : Bool) → T a → T b → T (a && b)
+pub both : (a b : Bool) → T a → T b → T (a && b)
 both true b p q = q
 both false b p q = p
 
 -- Where a conjunction holds, its first test holds.
-first : (a b : Bool) → T (a && b) → T a
+pub first : (a b : Bool) → T (a && b) → T a
 first true b p = tt
 first false b p = p
 
 -- Where a conjunction holds, its second test holds.
-second : (a b : Bool) → T (a && b) → T b
+pub second : (a b : Bool) → T (a && b) → T b
 second true b p = p
 second false b p = absurd p
 
@@ -64,7 +64,7 @@ below-under k p (r ∷ rs) h =
     both _ _ (subst (λ o. T (is_lt o)) (sym (same_key k p r.0)) (first _ _ h)) (below-under k p rs (second _ _ h))
 
 -- Rows in order stay in order when one key is put before them.
-sorted-under : (k : Key) (rs : Rows) → T (is_sorted path_cmp rs) → T (is_sorted path_cmp (under_rows k rs))
+pub sorted-under : (k : Key) (rs : Rows) → T (is_sorted path_cmp rs) → T (is_sorted path_cmp (under_rows k rs))
 sorted-under k [] h = tt
 sorted-under k (r ∷ rs) h = both _ _ (below-under k r.0 rs (first _ _ h)) (sorted-under k rs (second _ _ h))
 
@@ -110,18 +110,14 @@ pub entries-node : (n : ℕ) (cs : List Child) → IsStrictlySortedBy key_cmp (k
     → entries (node n cs) ≡ ([], n) ∷ rows_of cs
 entries-node n cs h = entries-from_sorted path_cmp (([], n) ∷ rows_of cs) (node_sorted n cs h)
 
+-- A child has as many rows as its graph has entries.
+pub len-child : (c : Child) → length (rows_of_child c) ≡ len c.graph
+len-child c = length-map {B = Path × ℕ} (entries c.graph) (λ r. (c.key ∷ r.0, r.1)) ∙ sym (len-entries c.graph)
+
 -- No child is deeper than there are rows of children.
 most_le-rows : (cs : List Child) → most (λ c. deep-Child c) cs ≤ length (rows_of cs) + 1
 most_le-rows [] = omega arith
-most_le-rows (c ∷ cs) =
-    omega (
-      arith,
-      most_le-rows cs,
-      length-append (rows_of_child c) (rows_of cs),
-      length-map {B = Path × ℕ}
-          (entries c.graph) (λ r. (c.key ∷ r.0, r.1)),
-      len-entries c.graph,
-    )
+most_le-rows (c ∷ cs) = omega (arith, most_le-rows cs, length-append (rows_of_child c) (rows_of cs), len-child c)
 
 -- No child is as deep as its node has entries.
 pub most_le-node : (n : ℕ) (cs : List Child) → IsStrictlySortedBy key_cmp (keys_of cs)

@@ -12,8 +12,7 @@ sum_of_rows (r ∷ rs) = r.1 + sum_of_rows rs
 
 -- The keys, with a `;` before each.
 abbrev pub joined_on : Path → List ℕ
-joined_on [] = []
-joined_on (k ∷ ks) = (semicolon ∷ k) ++ joined_on ks
+joined_on ks = flat_map (λ k. semicolon ∷ k) ks
 
 -- The end of a line, after the keys: a space, the size, a line feed.
 abbrev pub size_text : ℕ → List ℕ

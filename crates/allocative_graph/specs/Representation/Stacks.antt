@@ -1,5 +1,5 @@
 -- The graphs of stacks, one added to another.
-use Rattle.std.specs.Prelude.{List, [], ◌∷◌}
+use Rattle.std.specs.Prelude.{List, [], ◌∷◌, fold}
 use Rattle.allocative_graph.specs.Path.{Path}
 use Rattle.allocative_graph.specs.Graph.{Graph, default, sum_of, under, add_self}
 use Rattle.allocative_graph.specs.Read.{Stack}
@@ -15,5 +15,4 @@ one_stack s = nested s.path (add_self s.size default)
 
 -- The graph g with the graphs of some stacks added, one after another.
 abbrev pub sum_of_stacks : Graph → List Stack → Graph
-sum_of_stacks g [] = g
-sum_of_stacks g (s ∷ ss) = sum_of_stacks (sum_of g (one_stack s)) ss
+sum_of_stacks g ss = fold (λ h s. sum_of h (one_stack s)) g ss

@@ -1,7 +1,6 @@
-use Rattle.std.proofs.Common.{ℕ, List, Bor, sym, ap, ◌∙◌, append_assoc, ◌≡◌, ◌+◌, ◌++◌, [], ◌∷◌, get_or, take, arith, take_all, string_bytes}
+use Rattle.std.proofs.Common.{ℕ, List, Bor, sym, ap, ◌∙◌, append_assoc, ◌≡◌, ◌++◌, [], take, arith, take_all, string_bytes}
 use Rattle.allocative_graph.proofs.Common.{joined, joined_on}
-use Rattle.allocative_graph.proofs.RowSums.{joined-keys}
-use Rattle.allocative_graph.proofs.NodeText.{joined_more, texts}
+use Rattle.allocative_graph.proofs.NodeText.{joined-keys, joined_more, texts}
 use Rattle.allocative_graph.proofs.flamegraph.push_path.Goals as goal
 
 pub loop-key-preserved : goal.loop-key-preserved
@@ -10,10 +9,7 @@ loop-key-preserved c =
     let ks = c.in-Some.rest.now in
     let i = c.loop-key.key-index in
     let e = joined_more (string_bytes c.push_str.new.self) ks i (record { ref_ptr = (0, 0); now = [] }) (omega arith) in
-    let one : string_bytes c.push.new.self ≡ string_bytes c.loop-key.text ++ 59 ∷ [] = c.in_ok-push.ensures.bytes in
-    let two : string_bytes c.push_str-in-loop-key.new.self ≡ string_bytes c.push.new.self ++ (get_or ks i (record { ref_ptr = (0, 0); now = [] })).now = c.in_ok-push_str-2.ensures.bytes in
-    let was : string_bytes c.loop-key.text ≡ string_bytes c.push_str.new.self ++ joined_on (texts (take i ks)) = c.loop-key.invariant in
-    let goes : string_bytes c.push_str-in-loop-key.new.self ≡ string_bytes c.push_str.new.self ++ joined_on (texts (take (i + 1) ks)) = cc in goes
+    cc (c.in_ok-push.ensures.bytes, c.in_ok-push_str-2.ensures.bytes, c.loop-key.invariant)
 
 pub returns : goal.returns
 returns c =

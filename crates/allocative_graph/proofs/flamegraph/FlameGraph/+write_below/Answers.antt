@@ -1,9 +1,10 @@
 -- The start of a line is cut back to its length, and the lines of each child follow those before.
 use Rattle.std.proofs.Common.{◌≡◌, ℕ, ◌++◌, [], ◌∷◌, List, get_or, take, length, arith, ap, sym, subst, ◌∙◌, append_assoc, rules, take_all, append-nil, string_bytes}
-use Rattle.allocative_graph.proofs.Common.{OnFalse, entries, Child, lines_below, HasRootAlone, rows_of, entries-node}
+use Rattle.allocative_graph.proofs.Common.{OnFalse, entries, Child, lines_below, HasRootAlone, rows_of}
 use Rattle.std.proofs.lemmas.Str.{IsUtf8-append, IsUtf8-from_ascii, IsCharBoundary-at_seam}
 use Rattle.std.specs.Str.{IsUtf8, IsCharBoundary}
 use Rattle.allocative_graph.specs.Representation.PathRows.{lines_from}
+use Rattle.allocative_graph.proofs.NodeAdded.{entries_of_node}
 use Rattle.allocative_graph.proofs.NodeText.{child_written, none_below, cut_back}
 use Rattle.allocative_graph.proofs.flamegraph.FlameGraph.+write_below.Goals as goal
 use Rattle.allocative_graph.proofs.flamegraph.FlameGraph.+write_below.Goals.{then-has_children+in_ok-push+in_ok-write_below, else-has_children, Joined-has_children}
@@ -42,7 +43,6 @@ unfolding lib.Utf8.encode
 child_lines t c =
     let es = entries c.child-item.result.graph in
     let path = c.as_str-in-loop-child.result.now in
-    let own : string_bytes c.write_own.new.text ++ lines_below (path ++ 59 ∷ []) es ≡ string_bytes c.loop-child.text ++ lines_from path es = c.in_ok-write_own.ensures in
     let path_is : path ≡ string_bytes c.push_str.new.self = c.as_str-in-loop-child.ensures.value in
     let named : path ≡ string_bytes c.args.start.now ++ c.child-item.result.key = path_is ∙ (with_key t c ∙ ap (λ k. string_bytes c.args.start.now ++ k) c.as_str.ensures) in
     let written : string_bytes c.if-has_children.text ≡ string_bytes c.write_own.new.text ++ lines_below (path ++ 59 ∷ []) es = elim c.if-has_children.branch [
@@ -54,7 +54,7 @@ child_lines t c =
           ap (λ s. string_bytes s) w.text-is ∙ (sym (append-nil (string_bytes c.write_own.new.text))
           ∙ ap (λ l. string_bytes c.write_own.new.text ++ l) (sym (none_below (path ++ 59 ∷ []) alone.0 es alone.1))))
     ] in
-    written ∙ (own ∙ ap (λ l. string_bytes c.loop-child.text ++ lines_from l es) named)
+    written ∙ (c.in_ok-write_own.ensures ∙ ap (λ l. string_bytes c.loop-child.text ++ lines_from l es) named)
 
 pub loop-child-preserved : goal.loop-child-preserved
 loop-child-preserved t c =
@@ -76,13 +76,7 @@ loop-child-preserved t c =
 
 pub returns-clause-text : goal.returns-clause-text
 returns-clause-text t c =
-    let cs = c.deref-child-items.result.now in
-    let i = c.loop-child.child-index in
-    let n = c.self.inside.node_size in
     let start = string_bytes c.args.start.now in
-    let all : take i cs ≡ cs = take_all i cs (omega arith) in
-    let same : cs ≡ c.self.inside.children.items = c.deref-child-items.ensures.value in
     c.loop-child.invariant.text
-    ∙ (ap (λ (l : List Child). string_bytes c.args.text.now ++ lines_below start (([], n) ∷ rows_of l)) (all ∙ same)
-    ∙ (ap (λ l. string_bytes c.args.text.now ++ lines_below start l) (sym (entries-node n c.self.inside.children.items c.self.invariant.children.sorted))
-    ∙ ap (λ g. string_bytes c.args.text.now ++ lines_below start (entries g)) c.self.view_is))
+    ∙ (ap (λ (l : List Child). string_bytes c.args.text.now ++ lines_below start (([], c.self.inside.node_size) ∷ rows_of l)) (take_all c.loop-child.child-index c.deref-child-items.result.now (omega arith) ∙ c.deref-child-items.ensures.value)
+    ∙ ap (λ l. string_bytes c.args.text.now ++ lines_below start l) (sym (entries_of_node c.self.view_is c.self.invariant)))

@@ -1,6 +1,6 @@
 -- Path by path it is the sum.
 use Rattle.std.proofs.Common.{refl}
-use Rattle.allocative_graph.proofs.RowSums.{is_sum_of}
+use Rattle.allocative_graph.proofs.Graphs.{is_sum_of}
 use Rattle.allocative_graph.proofs.flamegraph.FlameGraph.add.Goals as goal
 
 pub returns-clause-sum : goal.returns-clause-sum

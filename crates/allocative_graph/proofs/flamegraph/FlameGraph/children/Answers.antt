@@ -1,16 +1,12 @@
-use Rattle.std.proofs.Common.{◌≡◌, [], List, ap, sym, subst, ◌∙◌}
-use Rattle.allocative_graph.proofs.Common.{Child, Graph, size_at, node, AreChildren}
+use Rattle.std.proofs.Common.{List, sym, subst, ◌∙◌}
+use Rattle.allocative_graph.proofs.Common.{Child, Graph, node, AreChildren}
 use Rattle.allocative_graph.specs.Reads.{AllSmaller}
-use Rattle.allocative_graph.proofs.NodeSizes.{size_at-root}
+use Rattle.allocative_graph.proofs.NodeAdded.{own_of_node}
 use Rattle.allocative_graph.proofs.Behind.{smaller_child}
 use Rattle.allocative_graph.proofs.flamegraph.FlameGraph.children.Goals as goal
 
 pub returns-clause-whole : goal.returns-clause-whole
-returns-clause-whole c =
-    let n = c.self.inside.node_size in
-    let cs = c.self.inside.children.items in
-    let own : n ≡ size_at c.args.self.now [] = sym (size_at-root n cs c.self.invariant.children.sorted) ∙ ap (λ g. size_at g []) c.self.view_is in
-    sym c.self.view_is ∙ (λ i. node (own i) (sym c.as_slice.ensures.value i))
+returns-clause-whole c = sym c.self.view_is ∙ (λ i. node (sym (own_of_node c.self.view_is c.self.invariant) i) (sym c.as_slice.ensures.value i))
 
 pub returns-clause-children : goal.returns-clause-children
 returns-clause-children c = subst AreChildren (sym c.as_slice.ensures.value) c.self.invariant.children

@@ -1,7 +1,6 @@
-use Rattle.std.proofs.Common.{[], ap, sym, ◌∙◌}
-use Rattle.allocative_graph.proofs.Common.{size_at}
-use Rattle.allocative_graph.proofs.NodeSizes.{size_at-root}
+use Rattle.std.proofs.Common.{sym}
+use Rattle.allocative_graph.proofs.NodeAdded.{own_of_node}
 use Rattle.allocative_graph.proofs.flamegraph.FlameGraph.self_size.Goals as goal
 
 pub returns : goal.returns
-returns c = sym (size_at-root c.self.inside.node_size c.self.inside.children.items c.self.invariant.children.sorted) ∙ ap (λ g. size_at g []) c.self.view_is
+returns c = sym (own_of_node c.self.view_is c.self.invariant)

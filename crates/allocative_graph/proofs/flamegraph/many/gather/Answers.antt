@@ -1,12 +1,11 @@
 use Rattle.std.proofs.Common.{◌≡◌, [], List, ap, sym, arith, ◌∙◌}
-use Rattle.allocative_graph.proofs.Common.{Child, default, sum_of_all}
-use Rattle.allocative_graph.proofs.Behind.{no_items}
+use Rattle.allocative_graph.proofs.Common.{Child, default, sum_of_all, nil_from_length}
 use Rattle.allocative_graph.proofs.Gathered.{all_permuted}
 use Rattle.allocative_graph.proofs.flamegraph.many.gather.Goals as goal
 
 pub returns : goal.returns
 returns c =
-    let none : c.loop-child.waiting.items ≡ [] = no_items c.loop-child.waiting.items (omega (arith, c.in_default.ensures.cases.0, c.loop-child.waiting.ok.0)) in
+    let none : c.loop-child.waiting.items ≡ [] = nil_from_length c.loop-child.waiting.items (omega (arith, c.in_default.ensures.cases.0, c.loop-child.waiting.ok.0)) in
     ap (λ (cs : List Child). sum_of_all c.loop-child.graph cs) (sym none)
     ∙ c.loop-child.invariant
     ∙ ap (λ (cs : List Child). sum_of_all default cs) c.from-waiting.ensures.0

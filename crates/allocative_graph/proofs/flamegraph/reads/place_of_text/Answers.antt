@@ -1,6 +1,5 @@
 use Rattle.std.proofs.Common.{rules}
-use Rattle.allocative_graph.proofs.Common.{Child, key_cmp}
-use Rattle.std.proofs.lemmas.Fn.{always_returns_same}
+use Rattle.allocative_graph.proofs.Common.{Child, key_cmp, always_returns_same}
 use Rattle.allocative_graph.proofs.ChildSearch.{searched}
 use Rattle.allocative_graph.proofs.flamegraph.reads.place_of_text.Goals as goal
 

@@ -1,8 +1,6 @@
-use Rattle.std.proofs.Common.{◌≡◌, [], ◌∷◌, List, Bor, ℕ, sym, ap, ◌∙◌, arith}
-use Rattle.allocative_graph.proofs.Common.{Path, default, sum_of, under, add_self, nested}
-use Rattle.std.proofs.lemmas.List.{map-append}
+use Rattle.std.proofs.Common.{◌≡◌, [], List, Bor, ℕ, sym, ap, ◌∙◌, arith}
+use Rattle.allocative_graph.proofs.Common.{Path, default, sum_of, under, add_self, nested, map_push, nil_from_length}
 use Rattle.allocative_graph.proofs.NodeText.{texts}
-use Rattle.allocative_graph.proofs.Behind.{no_items}
 use Rattle.allocative_graph.proofs.StackSums.{nested-push}
 use Rattle.allocative_graph.proofs.read.Line.graph.Goals as goal
 
@@ -19,10 +17,10 @@ loop-key-preserved c =
     c.in_ok-add_child.ensures.sum ∙ (λ i. sum_of (c.in_ok-parent.ensures i) (under (c.new.ensures i) c.loop-key.graph)) in
     ap (nested (texts rest)) parent
     ∙ sym (nested-push (texts rest) key.now c.loop-key.graph)
-    ∙ ap (λ (ks : Path). nested ks c.loop-key.graph) (sym (ap texts c.in-Some.ensures.items ∙ map-append (λ (k : Bor (List ℕ)). k.now) rest (key ∷ [])))
+    ∙ ap (λ (ks : Path). nested ks c.loop-key.graph) (sym (ap texts c.in-Some.ensures.items ∙ map_push (λ (k : Bor (List ℕ)). k.now) rest key))
     ∙ c.loop-key.invariant
 
 pub returns : goal.returns
 returns c =
-    let none : c.loop-key.keys.items ≡ [] = no_items c.loop-key.keys.items (omega (arith, c.in_default.ensures.cases.0, c.loop-key.keys.ok.0)) in
+    let none : c.loop-key.keys.items ≡ [] = nil_from_length c.loop-key.keys.items (omega (arith, c.in_default.ensures.cases.0, c.loop-key.keys.ok.0)) in
     ap (λ (ks : List (Bor (List ℕ))). nested (texts ks) c.loop-key.graph) (sym none) ∙ c.loop-key.invariant
