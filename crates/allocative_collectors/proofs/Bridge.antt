@@ -1,59 +1,48 @@
 -- The listed sums as a map: what it has at each place, and after one more entry.
 use Rattle.std.proofs.Common.{◌≡◌, ◌≢◌, ℕ, zero, suc, ◌+◌, ◌-◌, ◌<◌, Bool, true, false, cond, List, [], ◌∷◌, ◌++◌, map, length, Option, Some, None, refl, sym, ap, ◌∙◌, true≢false, arith, inl, inr, sum_by, unwrap_or}
-use Rattle.allocative_collectors.proofs.Common.{get, entries, find, Key, Path, path_cmp, is_same_path, is_one_below, Sums, is_unique_mark, entered, graph, Sum, Listed, raise, add, sum_at, path_at, row, map_of, size_at_place}
+use Rattle.allocative_collectors.proofs.Common.{get, entries, find, Key, Path, path_cmp, is_same_path, is_one_below, is_unique_mark, graph, Sum, Listed, put, IsEntered, sum_at, path_at, row, map_of, size_at_place}
 use Rattle.std.specs.FinMap.{from_entries, get-from_entries, get-entries, entries-insert, entries_sorted}
 use Rattle.std.specs.Option.{option_map}
 use Rattle.std.proofs.lemmas.Bool.{cases_Bool, cond-true, cond-false}
-use Rattle.std.proofs.lemmas.Cmp.{eq_by_cmp_equiv}
 use Rattle.std.proofs.lemmas.List.Sums.{sum_by-cons}
-use Rattle.allocative_graph.specs.Forest.{Entry}
+use Rattle.allocative_graph.specs.Forest.{Mark}
 use Rattle.allocative_graph.specs.Sums.{Node, together, node_of}
 use Rattle.allocative_graph.specs.Sums as bag
 use Rattle.allocative_graph.specs.Graph.{remaining}
 use Rattle.allocative_graph.proofs.Basics.{path_total, same_path}
 use Rattle.allocative_graph.proofs.Lookups.{get-add, same_sums}
-use Rattle.allocative_graph.proofs.Below.{entered-add}
 use Rattle.allocative_graph.proofs.Computed.{entries-empty}
 use Rattle.allocative_graph.proofs.Graphs.{weights-put}
 use Rattle.allocative_graph.proofs.Merge.{get-graph, get-graph-root}
 use Rattle.allocative_collectors.specs.Listed.{rows}
 use Rattle.allocative_collectors.proofs.Orders.{same_path-same, same_path-apart}
 
-pub same_turned : (p q : Path) → is_same_path p q ≡ is_same_path q p
-same_turned p q = (eq_by_cmp_equiv path_total).symm p q
-
 pub get-map_of : (s : Listed) (q : Path) → get (map_of s) q ≡ find path_cmp q (rows s)
 get-map_of s q = get-from_entries path_total (rows s) q
+
+tail_apart : (r e : ℕ) → suc r ≡ suc e → r ≡ e
+tail_apart r e w = omega arith
 
 -- ---- one more entry
 abbrev new_node : ℕ → Bool → Node
 new_node n u = record { bytes = n; is_unique = u }
 
-find-add : (p q : Path) (n : ℕ) (u : Bool) (s : Listed) → find path_cmp q (map row (add p n u s)) ≡ cond (is_same_path q p) (Some (together (find path_cmp p (map row s)) (new_node n u))) (find path_cmp q (map row s))
-find-add p q n u [] = refl
-find-add p q n u (e ∷ rest) = elim (cases_Bool (is_same_path e.path p)) [
-  | inl hit ↦
-      let e_is : e.path ≡ p = same_path e.path p hit in
-      let seen : is_same_path q e.path ≡ is_same_path q p = ap (is_same_path q) e_is in
-      let itself : is_same_path p e.path ≡ true = same_turned p e.path ∙ hit in
-      ap (λ (s : Listed). find path_cmp q (map row s)) (cond-true (is_same_path e.path p) (raise n u e ∷ rest) (e ∷ add p n u rest) hit)
-      ∙ ap (λ (b : Bool). cond b (Some (together (Some (row e).1) (new_node n u))) (find path_cmp q (map row rest))) seen
-      ∙ both (is_same_path q p) (Some (together (Some (row e).1) (new_node n u))) (Some (row e).1) (find path_cmp q (map row rest))
-      ∙ ap (λ (b : Bool). cond (is_same_path q p) (Some (together (Some (row e).1) (new_node n u))) (cond b (Some (row e).1) (find path_cmp q (map row rest)))) (sym seen)
-      ∙ ap (λ (b : Bool). cond (is_same_path q p) (Some (together (cond b (Some (row e).1) (find path_cmp p (map row rest))) (new_node n u))) (cond (is_same_path q e.path) (Some (row e).1) (find path_cmp q (map row rest)))) (sym itself)
-  | inr miss ↦
-      let other : is_same_path p e.path ≡ false = same_turned p e.path ∙ miss in
-      ap (λ (s : Listed). find path_cmp q (map row s)) (cond-false (is_same_path e.path p) (raise n u e ∷ rest) (e ∷ add p n u rest) miss)
-      ∙ ap (λ (o : Option Node). cond (is_same_path q e.path) (Some (row e).1) o) (find-add p q n u rest)
-      ∙ swapped (is_same_path q e.path) (is_same_path q p) (Some (row e).1) (Some (together (find path_cmp p (map row rest)) (new_node n u))) (find path_cmp q (map row rest))
-      (λ a b. true≢false (sym (same_path-same p e.path (sym (same_path q p b) ∙ same_path q e.path a)) ∙ other))
-      ∙ ap (λ (b : Bool). cond (is_same_path q p) (Some (together (cond b (Some (row e).1) (find path_cmp p (map row rest))) (new_node n u))) (cond (is_same_path q e.path) (Some (row e).1) (find path_cmp q (map row rest)))) (sym other)
-]
+find-put : (i : ℕ) (p q : Path) (n : ℕ) (u : Bool) (s : Listed) → path_at (put i p n u s) i ≡ p → ((j : ℕ) → j < length s → path_at s j ≡ p → j ≡ i) → find path_cmp q (map row (put i p n u s)) ≡ cond (is_same_path q p) (Some (together (find path_cmp p (map row s)) (new_node n u))) (find path_cmp q (map row s))
+find-put i p q n u [] is sole = refl
+find-put zero p q n u (e ∷ s) is sole =
+    let seen : is_same_path q e.path ≡ is_same_path q p = ap (is_same_path q) is in
+    let itself : is_same_path p e.path ≡ true = same_path-same p e.path (sym is) in
+    rw (seen, itself) (both (is_same_path q p) (Some (together (Some (row e).1) (new_node n u))) (Some (row e).1) (find path_cmp q (map row s)))
   where
     both : (b : Bool) (x y z : Option Node) → cond b x z ≡ cond b x (cond b y z)
     both true x y z = refl
     both false x y z = refl
-
+find-put (suc i) p q n u (e ∷ s) is sole =
+    let apart : p ≢ e.path = λ w. (let same : 0 ≡ suc i = sole 0 (omega arith) (sym w) in omega arith) in
+    let other : is_same_path p e.path ≡ false = same_path-apart p e.path apart in
+    rw (other, find-put i p q n u s is (λ j h w. tail_apart j i (sole (suc j) (omega arith) w)))
+    (swapped (is_same_path q e.path) (is_same_path q p) _ _ _ (λ a b. apart (sym (same_path q p b) ∙ same_path q e.path a)))
+  where
     swapped : (a b : Bool) (x y z : Option Node) → (a ≡ true → b ≡ true → ⊥) → cond a x (cond b y z) ≡ cond b y (cond a x z)
     swapped true true x y z apart = absurd (apart refl refl)
     swapped true false x y z apart = refl
@@ -61,28 +50,18 @@ find-add p q n u (e ∷ rest) = elim (cases_Bool (is_same_path e.path p)) [
     swapped false false x y z apart = refl
 
 -- an entry below the root is added to the map too
-pub map_of-add : (s : Listed) (e : Entry) (u : Bool) → 0 < length s → path_at s 0 ≡ [] → e.path ≢ [] → is_unique_mark e.mark ≡ u → map_of (add e.path e.size u s) ≡ bag.add (map_of s) e
-map_of-add [] e u h root not_root mark = absurd (omega arith)
-map_of-add (r ∷ s) e u h root not_root mark =
-    ap map_of (cond-false (is_same_path r.path e.path) (raise e.size u r ∷ s) (r ∷ add e.path e.size u s) (same_path-apart r.path e.path (λ w. not_root (sym w ∙ root))))
-    ∙ same_sums _ _ (λ q. get-from_entries path_total (map row (add e.path e.size u s)) q ∙ (find-add e.path q e.size u s
-    ∙ (λ i. cond (is_same_path q e.path) (Some (together (sym (get-from_entries path_total (map row s) e.path) i) (record { bytes = e.size; is_unique = sym mark i }))) (sym (get-from_entries path_total (map row s) q) i))
-    ∙ sym (get-add (map_of (r ∷ s)) e q)))
-
-pub entered-map_of : (s : Listed) (e : Entry) (u : Bool) → 0 < length s → path_at s 0 ≡ [] → e.path ≢ [] → is_unique_mark e.mark ≡ u → entered (map_of (add e.path e.size u s)) ≡ entered (map_of s) + e.size
-entered-map_of s e u h root not_root mark = ap entered (map_of-add s e u h root not_root mark) ∙ entered-add (map_of s) e
-
-is_nil : Path → Bool
-is_nil [] = true
-is_nil (k ∷ p) = false
-
-pub not_nil : (k : Key) (p : Path) → k ∷ p ≢ []
-unfolding is_nil
-not_nil k p e = true≢false (sym (ap is_nil e))
-
-pub not_root : (p : Path) (k : Key) → p ++ k ∷ [] ≢ []
-not_root [] k = not_nil k []
-not_root (l ∷ p) k = not_nil l (p ++ k ∷ [])
+pub map_of-entered : {old new : Listed} {at : ℕ} {k : Key} {n : ℕ} {u : Bool} {i : ℕ} → IsEntered old new at k n u i → 0 < length old → (m : Mark) → is_unique_mark m ≡ u → map_of new ≡ bag.add (map_of old) (record { path = path_at old at ++ k ∷ []; size = n; mark = m })
+map_of-entered {old} {at = at} {k = k} {n = n} {u = u} {i = i} entered some m mark =
+    ap map_of entered.sums ∙ by old i entered.not_root some (ap (λ (s : Listed). path_at s i) (sym entered.sums) ∙ entered.path) entered.sole
+  where
+    by : (s : Listed) (i : ℕ) → 0 < i → 0 < length s → path_at (put i (path_at old at ++ k ∷ []) n u s) i ≡ path_at old at ++ k ∷ [] → ((j : ℕ) → j < length s → path_at s j ≡ path_at old at ++ k ∷ [] → j ≡ i) → map_of (put i (path_at old at ++ k ∷ []) n u s) ≡ bag.add (map_of s) (record { path = path_at old at ++ k ∷ []; size = n; mark = m })
+    by s zero pos some is sole = absurd (omega arith)
+    by [] (suc i) pos some is sole = absurd (omega arith)
+    by (r ∷ s) (suc i) pos some is sole =
+        let p : Path = path_at old at ++ k ∷ [] in
+        same_sums _ _ (λ q. get-from_entries path_total (map row (put i p n u s)) q ∙ (find-put i p q n u s is (λ j h w. tail_apart j i (sole (suc j) (omega arith) w))
+        ∙ (λ x. cond (is_same_path q p) (Some (together (sym (get-from_entries path_total (map row s) p) x) (record { bytes = n; is_unique = sym mark x }))) (sym (get-from_entries path_total (map row s) q) x))
+        ∙ sym (get-add (map_of (r ∷ s)) (record { path = p; size = n; mark = m }) q)))
 
 -- ---- the places of different paths
 abbrev pub Distinct : Listed → Type 0
@@ -98,7 +77,7 @@ find_none : (q : Path) (s : Listed) → ((i : ℕ) → i < length s → path_at 
 find_none q [] other = refl
 find_none q (e ∷ s) other = cond-false (is_same_path q e.path) _ _ (same_path-apart q e.path (λ w. other 0 (omega arith) (sym w))) ∙ find_none q s (λ i h. other (suc i) (omega arith))
 
-find_at : (s : Listed) → Distinct s → (i : ℕ) → i < length s → find path_cmp (path_at s i) (map row s) ≡ Some (row (sum_at s i)).1
+pub find_at : (s : Listed) → Distinct s → (i : ℕ) → i < length s → find path_cmp (path_at s i) (map row s) ≡ Some (row (sum_at s i)).1
 find_at [] apart i h = absurd (omega arith)
 find_at (e ∷ s) apart zero h = cond-true (is_same_path e.path e.path) _ _ (same_path-same e.path e.path refl)
 find_at (e ∷ s) apart (suc i) h =
@@ -116,9 +95,6 @@ found_at q (e ∷ s) v w = elim (cases_Bool (is_same_path q e.path)) [
 ]
 
 -- ---- what the map has
-tail_apart : (r e : ℕ) → suc r ≡ suc e → r ≡ e
-tail_apart r e w = omega arith
-
 pub get_at : (s : Listed) → IsListing s → (i : ℕ) → 0 < i → i < length s → get (map_of s) (path_at s i) ≡ Some (row (sum_at s i)).1
 get_at [] ok i pos h = absurd (omega arith)
 get_at (r ∷ s) ok zero pos h = absurd (omega arith)

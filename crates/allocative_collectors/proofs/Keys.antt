@@ -1,9 +1,10 @@
 -- The keys of numbered nodes, and what an insertion does to a list.
-use Rattle.std.proofs.Common.{◌≡◌, ℕ, suc, ◌+◌, ◌-◌, ◌<◌, ◌≤◌, List, [], ◌∷◌, ◌++◌, length, get_or, drop, take, refl, sym, subst, ◌∙◌, arith}
-use Rattle.allocative_collectors.proofs.Common.{Shape, key_at, keys_of, key_in}
+use Rattle.std.proofs.Common.{◌≡◌, ℕ, zero, suc, set, inl, inr, ◌+◌, ◌-◌, ◌<◌, ◌≤◌, List, [], ◌∷◌, ◌++◌, length, get_or, drop, take, refl, sym, subst, ◌∙◌, arith}
+use Rattle.allocative_collectors.proofs.Common.{Shape, no_shape, at, key_at, keys_of, key_in, StandsIn}
 use Rattle.std.specs.List.{insert}
 use Rattle.std.proofs.lemmas.List.{length-map, get_or-map, map-append, take-map, drop-map}
-use Rattle.std.proofs.lemmas.List.Edits.{get_or-insert_below, get_or-insert_at, get_or-insert_above}
+use Rattle.std.proofs.lemmas.Bool.{cases_lt}
+use Rattle.std.proofs.lemmas.List.Edits.{length-insert, get_or-insert_below, get_or-insert_at, get_or-insert_above}
 
 pub length-keys_of : (ns : List Shape) (xs : List ℕ) → length (keys_of ns xs) ≡ length xs
 length-keys_of ns xs = length-map xs (key_at ns)
@@ -31,3 +32,27 @@ module _ {X : Type 0} (xs : List X) (g : ℕ) (x d : X) (within : g ≤ length x
   insert_above j h =
       let index : j - 1 + 1 ≡ j = omega arith in
       subst (λ (q : ℕ). get_or (insert xs g x) q d ≡ get_or xs (j - 1) d) index (get_or-insert_above xs g x d (j - 1) (omega arith) within)
+
+-- a number keeps its standing when another one is put at place g
+pub stands_insert : (xs : List ℕ) (g n i : ℕ) → g ≤ length xs → StandsIn xs i → StandsIn (insert xs g n) i
+stands_insert xs g n i within was =
+    let len = length-insert xs g n within in
+    elim (cases_lt was.place g) [
+      | inl lt ↦ record { place = was.place; in_range = omega (arith, was.in_range); is = insert_below xs g n 0 within was.place lt ∙ was.is }
+      | inr ge ↦ record { place = was.place + 1; in_range = omega (arith, was.in_range); is = get_or-insert_above xs g n 0 was.place ge within ∙ was.is }
+    ]
+
+-- a write keeps what it does not change
+pub touched : {X : Type 0} (f : Shape → X) (ns : List Shape) (i : ℕ) (m : Shape) → f m ≡ f (at ns i) → (j : ℕ) → f (at (set ns i m) j) ≡ f (at ns j)
+touched f [] i m e j = refl
+touched f (n ∷ ns) zero m e zero = e
+touched f (n ∷ ns) zero m e (suc j) = refl
+touched f (n ∷ ns) (suc i) m e zero = refl
+touched f (n ∷ ns) (suc i) m e (suc j) = touched f ns i m e j
+
+-- one more node keeps what a missing node has too
+pub pushed : {X : Type 0} (f : Shape → X) (ns : List Shape) (n : Shape) → f n ≡ f no_shape → (j : ℕ) → f (at (ns ++ n ∷ []) j) ≡ f (at ns j)
+pushed f [] n e zero = e
+pushed f [] n e (suc j) = refl
+pushed f (m ∷ ns) n e zero = refl
+pushed f (m ∷ ns) n e (suc j) = pushed f ns n e j

@@ -93,11 +93,11 @@ key_in ks j = slice_index_or ks j []
 abbrev pub KeysRise : List Key → Type 0
 KeysRise ks = (i j : ℕ) → i < j → j < length ks → key_cmp (key_in ks i) (key_in ks j) ≡ Less
 
--- Node i is one of its parent's children.
-pub record IsListed (ns : List Shape) (i : ℕ) : Type 0 where
+-- The number i is in the list.
+pub record StandsIn (xs : List ℕ) (i : ℕ) : Type 0 where
   pub place : ℕ
-  pub in_range : place < length (children_at ns (parent_at ns i))
-  pub is : slice_index (children_at ns (parent_at ns i)) place ≡ i
+  pub in_range : place < length xs
+  pub is : slice_index xs place ≡ i
 
 -- Node i is not the root, and its parent is p.
 pub record IsChild (ns : List Shape) (p i : ℕ) : Type 0 where
@@ -112,18 +112,12 @@ pub record IsArena (ns : List Shape) : Type 0 where
   pub root_empty : bytes_at ns 0 ≡ 0
   pub root_parent : parent_at ns 0 ≡ 0
   pub parents : (i : ℕ) → 0 < i → i < length ns → parent_at ns i < i
-  pub listed : (i : ℕ) → 0 < i → i < length ns → IsListed ns i
-  pub children : (p j : ℕ) → p < length ns → j < length (children_at ns p)
-      → IsChild ns p (slice_index (children_at ns p) j)
-  pub rise : (p : ℕ) → p < length ns → KeysRise (keys_at ns p)
-  pub below : (p : ℕ) → p < length ns → below_at ns p ≡ below_of p ns
+  pub listed : (p i : ℕ) → IsChild ns p i → StandsIn (children_at ns p) i
+  pub children : (p j : ℕ) → j < length (children_at ns p) → IsChild ns p (slice_index (children_at ns p) j)
+  pub rise : (p : ℕ) → KeysRise (keys_at ns p)
+  pub below : (p : ℕ) → below_at ns p ≡ below_of p ns
 
 -- ---- a search
--- The key k is at place i.
-pub record IsPlace (ks : List Key) (k : Key) (i : ℕ) : Type 0 where
-  pub in_range : i < length ks
-  pub has_key : key_in ks i ≡ k
-
 -- The key k is missing, and belongs at place i: the keys before that place are smaller, those from it on are greater.
 pub record IsKeyGap (ks : List Key) (k : Key) (i : ℕ) : Type 0 where
   pub in_range : i ≤ length ks

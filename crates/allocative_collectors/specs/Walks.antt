@@ -3,17 +3,12 @@ use Rattle.std.specs.Prelude.{◌≡◌, ℕ, ◌<◌, List, ◌++◌, length, s
 use Rattle.std.specs.declared.cmp.Ordering.TheVariants.{Less}
 use Rattle.allocative_graph.specs.Path.{Path, path_cmp}
 use Rattle.allocative_collectors.specs.Listed.{Listed, path_at}
+use Rattle.allocative_collectors.specs.Shapes.{StandsIn}
 
 -- The path q is p or below it.
 pub record IsUnder (p q : Path) : Type 0 where
   pub rest : Path
   pub is : q ≡ p ++ rest
-
--- The number i is in the list.
-pub record StandsIn (xs : List ℕ) (i : ℕ) : Type 0 where
-  pub place : ℕ
-  pub in_range : place < length xs
-  pub is : slice_index xs place ≡ i
 
 -- The paths of the places xs are in order.
 abbrev pub PathsRise : Listed → List ℕ → Type 0
