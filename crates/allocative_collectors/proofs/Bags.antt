@@ -1,6 +1,7 @@
 -- Sizes at different places are within the total.
 use Rattle.std.proofs.Common.{◌≡◌, ◌≢◌, ℕ, suc, ◌-◌, ◌<◌, ◌≤◌, List, [], ◌∷◌, length, get_or, set, sum_by, refl, sym, ap, arith, get_or-set_other, length-set}
 use Rattle.allocative_collectors.proofs.Common.{Sum, Listed, root_sum, sum_at, map_of, below, size_at_place, PathsRise}
+use Rattle.std.specs.List.{All}
 use Rattle.std.proofs.lemmas.List.Sums.{sum_by-cons, sum_by-set, sum_by-le-sum_by}
 use Rattle.std.proofs.lemmas.Bool.{cond_both}
 use Rattle.allocative_collectors.specs.Listed.{total}
@@ -21,8 +22,8 @@ places_le (x ∷ xs) s apart within =
     omega (arith, sum_by-cons (λ (i : ℕ). (let e = get_or s i root_sum in e.bytes)) x xs)
 
 -- sizes at rising paths are within the total
-pub sizes_le_total : (s : Listed) (xs : List ℕ) → PathsRise s xs → ((a : ℕ) → a < length xs → get_or xs a 0 < length s) → sum_by (size_at_place s) xs ≤ total s
+pub sizes_le_total : (s : Listed) (xs : List ℕ) → PathsRise s xs → All (λ i. i < length s) xs → sum_by (size_at_place s) xs ≤ total s
 sizes_le_total s xs rise within =
-    let all = places_le xs s (rise_apart s xs rise) within in
+    let all = places_le xs s (rise_apart s xs rise) (λ a. within a 0) in
     let each = sum_by-le-sum_by (size_at_place s) (λ (i : ℕ). (let e = get_or s i root_sum in e.bytes)) xs (λ i. (let e = sum_at s i in cond_both e.is_unique e.bytes (e.bytes - below (map_of s) e.path) (λ (n : ℕ). n ≤ e.bytes) (λ _. omega arith) (λ _. omega arith))) in
     omega arith

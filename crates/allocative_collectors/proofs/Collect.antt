@@ -14,7 +14,8 @@ use Rattle.allocative_graph.proofs.Basics.{identity_total, identity_antisymmetri
 use Rattle.allocative_collectors.specs.Places.{to_root, outside, back_from, back_at, AddedAt}
 use Rattle.allocative_collectors.proofs.Adds.{total_entered, length_entered, path_entered}
 use Rattle.allocative_graph.proofs.Below.{entered-add}
-use Rattle.allocative_collectors.proofs.Bridge.{map_of-entered}
+use Rattle.allocative_collectors.proofs.Keys.{map_same}
+use Rattle.allocative_collectors.proofs.Bridge.{map_of-entered, mark_of, mark_is}
 
 -- ---- the identities
 -- equal in both parts
@@ -77,18 +78,10 @@ module _ (t : Listed) (met : List Identity) where
       ap (λ (q : Path). outside q ++ back_from (reverse (map (path_at t) after)) (to_root rooted)) root
       ∙ ap (λ (l : List Path). back_from l (to_root rooted)) (ap (λ (l : List ℕ). reverse (map (path_at t) l)) is ∙ turned (path_at t) before outer)
 
-  -- a collector at the path p, with no open content
-  abbrev alone : Path → Bool → Live
-  alone p rooted = record {
-    sums = map_of t;
-    met = from_list met;
-    here = p;
-    back = outside p ++ to_root rooted;
-    open_visitors = length (outside p ++ to_root rooted);
-  }
-
   pub at_root : (current : ℕ) → path_at t current ≡ [] → live t met current [] true ≡ go [] (live t met current [] false)
-  at_root current root = (λ i. alone (root i) true) ∙ (λ i. go [] (alone (sym root i) false))
+  at_root current root =
+      let stack : back_at t current [] true ≡ path_at t current ∷ back_at t current [] false = (λ i. outside (root i) ++ [] ∷ []) ∙ (λ i. sym root i ∷ outside (sym root i) ++ []) in
+      λ i. record { sums = map_of t; met = from_list met; here = root i; back = stack i; open_visitors = length (stack i) }
 
 -- ---- no visitor is open
 length_outside : (p : Path) → length (outside p) ≡ length p
@@ -132,12 +125,6 @@ module _ (t : Listed) (current : ℕ) (places : List ℕ) (rooted : Bool) where
       ∙ (ap (λ (l : List ℕ). back_from (reverse (map (path_at t) l)) (to_root rooted)) o.no_place ∙ ap to_root o.no_visitor)
 
 -- ---- one more entry
-kept_back : (old new : Listed) → ((i : ℕ) → i < length old → path_at new i ≡ path_at old i) → (ps : List ℕ) → ((j : ℕ) → j < length ps → get_or ps j 0 < length old) → map (path_at new) ps ≡ map (path_at old) ps
-kept_back old new kept [] all = refl
-kept_back old new kept (p ∷ ps) all =
-    ap (λ (x : Path). x ∷ map (path_at new) ps) (kept p (all 0 (omega arith)))
-    ∙ ap (λ (xs : List Path). path_at old p ∷ xs) (kept_back old new kept ps (λ j h. all (suc j) (omega arith)))
-
 -- ---- the places
 pub placed_at : {t : Listed} {current : ℕ} {places : List ℕ} {n : ℕ} → IsPlaced t current places n → (node : ℕ) → node < length t → (ps : List ℕ) → ((j : ℕ) → j < length ps → get_or ps j 0 < length t) → IsPlaced t node ps n
 placed_at ok node h ps back = record {
@@ -157,13 +144,6 @@ placed_gone {current = current} {places = places} ok node h = placed_at ok node 
 ])
 
 -- ---- a whole step
-abbrev pub mark_of : Bool → Mark
-mark_of u = cond u AsUnique AsInline
-
-pub mark_is : (u : Bool) → is_unique_mark (mark_of u) ≡ u
-mark_is true = refl
-mark_is false = refl
-
 pub enter_is : (u : Bool) (k : Key) (n : ℕ) (c : Live) → go (c.here ++ k ∷ []) (record c { sums = bag.add c.sums (record { path = c.here ++ k ∷ []; size = n; mark = mark_of u }) }) ≡ enter_live u k n c
 enter_is true k n c = refl
 enter_is false k n c = refl
@@ -200,7 +180,7 @@ module _ {t new : Listed} {current : ℕ} {places : List ℕ} {n : ℕ} (ok : Is
     }
       where
         back : back_at new current places rooted ≡ back_at t current places rooted
-        back = λ i. outside (path_entered entered.is current ok.here i) ++ back_from (reverse (kept_back t new (path_entered entered.is) places ok.back i)) (to_root rooted)
+        back = λ i. outside (path_entered entered.is current ok.here i) ++ back_from (reverse (map_same (path_at new) (path_at t) places (λ j h. path_entered entered.is _ (ok.back j h)) i)) (to_root rooted)
 
     pub gone_down : live new met node places rooted ≡ enter_live u k size (live t met current places rooted)
     gone_down =

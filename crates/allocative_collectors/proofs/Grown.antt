@@ -1,13 +1,13 @@
 -- An arena with one more node, which has no entry yet.
 use Rattle.std.proofs.Common.{◌≡◌, ◌≢◌, ℕ, ◌+◌, ◌-◌, ◌<◌, ◌≤◌, false, List, [], ◌∷◌, ◌++◌, length, get_or, set, refl, sym, ap, subst, ◌∙◌, arith, inl, inr, get_or-set_same, get_or-set_other, length-set}
-use Rattle.allocative_collectors.proofs.Common.{Less, ordering_reverse, Key, key_cmp, Shape, no_shape, at, children_at, keys_of, keys_at, key_in, parent_at, below_of, share, KeysRise, StandsIn, IsChild, IsArena, IsKeyGap}
+use Rattle.allocative_collectors.proofs.Common.{key_at, Less, ordering_reverse, Key, key_cmp, Shape, no_shape, at, children_at, keys_of, keys_at, key_in, parent_at, below_of, share, KeysRise, StandsIn, IsChild, IsArena, IsKeyGap}
 use Rattle.std.specs.List.{insert}
 use Rattle.std.proofs.lemmas.List.{get_or_append_left, get_or_push, length_push}
 use Rattle.std.proofs.lemmas.List.Edits.{length-insert}
 use Rattle.std.proofs.lemmas.List.Sums.{sum_by_push, sum_by-set}
 use Rattle.std.proofs.lemmas.Bool.{cases_order, cases_eq}
 use Rattle.allocative_collectors.proofs.Orders.{key_total}
-use Rattle.allocative_collectors.proofs.Keys.{length-keys_of, keys_of-same, keys_of-insert, insert_below, insert_here, insert_above, stands_insert, touched, pushed}
+use Rattle.allocative_collectors.proofs.Keys.{length-keys_of, map_same, keys_of-insert, insert_below, insert_here, insert_above, stands_insert, touched, pushed}
 
 -- a node with no bytes and no children
 abbrev pub leaf : ℕ → Key → Shape
@@ -81,7 +81,7 @@ module _ (ns : List Shape) (ok : IsArena ns) (p : ℕ) (hp : p < length ns) (k :
 
   -- the keys of the children before
   keys_stood : (q : ℕ) → keys_of new (children_at ns q) ≡ keys_at ns q
-  keys_stood q = keys_of-same ns new (children_at ns q) (λ j h. before (λ n. n.key) refl (get_or (children_at ns q) j 0) (ok.children q j h).in_range)
+  keys_stood q = map_same (key_at new) (key_at ns) (children_at ns q) (λ j h. before (λ n. n.key) refl (get_or (children_at ns q) j 0) (ok.children q j h).in_range)
 
   keys_parent : keys_at new p ≡ insert (keys_at ns p) g k
   keys_parent = ap (keys_of new) children_parent ∙ (keys_of-insert new (children_at ns p) g (length ns) ∙ (λ i. insert (keys_stood p i) g (ap (λ (n : Shape). n.key) at_leaf i)))

@@ -1,5 +1,5 @@
 -- The keys of numbered nodes, and what an insertion does to a list.
-use Rattle.std.proofs.Common.{◌≡◌, ℕ, zero, suc, set, inl, inr, ◌+◌, ◌-◌, ◌<◌, ◌≤◌, List, [], ◌∷◌, ◌++◌, length, get_or, drop, take, refl, sym, subst, ◌∙◌, arith}
+use Rattle.std.proofs.Common.{◌≡◌, ℕ, zero, suc, set, inl, inr, ◌+◌, ◌-◌, ◌<◌, ◌≤◌, List, [], ◌∷◌, ◌++◌, length, map, get_or, drop, take, refl, sym, subst, ◌∙◌, arith}
 use Rattle.allocative_collectors.proofs.Common.{Shape, no_shape, at, key_at, keys_of, key_in, StandsIn}
 use Rattle.std.specs.List.{insert}
 use Rattle.std.proofs.lemmas.List.{length-map, get_or-map, map-append, take-map, drop-map}
@@ -12,10 +12,10 @@ length-keys_of ns xs = length-map xs (key_at ns)
 pub key_in-keys_of : (ns : List Shape) (xs : List ℕ) (j : ℕ) → j < length xs → key_in (keys_of ns xs) j ≡ key_at ns (get_or xs j 0)
 key_in-keys_of ns xs j h = get_or-map (key_at ns) xs j 0 [] h
 
--- arenas that have the same keys at these numbers
-pub keys_of-same : (ns ms : List Shape) (xs : List ℕ) → ((j : ℕ) → j < length xs → key_at ms (get_or xs j 0) ≡ key_at ns (get_or xs j 0)) → keys_of ms xs ≡ keys_of ns xs
-keys_of-same ns ms [] same = refl
-keys_of-same ns ms (x ∷ xs) same = λ i. same 0 (omega arith) i ∷ keys_of-same ns ms xs (λ j h. same (suc j) (omega arith)) i
+-- two functions that agree at the numbers of a list
+pub map_same : {X : Type 0} (f g : ℕ → X) (xs : List ℕ) → ((j : ℕ) → j < length xs → f (get_or xs j 0) ≡ g (get_or xs j 0)) → map f xs ≡ map g xs
+map_same f g [] same = refl
+map_same f g (x ∷ xs) same = λ i. same 0 (omega arith) i ∷ map_same f g xs (λ j h. same (suc j) (omega arith)) i
 
 pub keys_of-insert : (ns : List Shape) (xs : List ℕ) (g i : ℕ) → keys_of ns (insert xs g i) ≡ insert (keys_of ns xs) g (key_at ns i)
 keys_of-insert ns xs g i = map-append (key_at ns) (take g xs) (i ∷ drop g xs) ∙ (λ j. sym (take-map (key_at ns) g xs) j ++ key_at ns i ∷ sym (drop-map (key_at ns) g xs) j)

@@ -1,5 +1,5 @@
 pub mod Common
-mod Keys
+pub mod Keys
 pub mod Orders
 pub mod Paths
 pub mod Labels

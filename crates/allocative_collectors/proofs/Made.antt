@@ -1,6 +1,7 @@
 -- What `make` has made, child by child.
 use Rattle.std.proofs.Common.{◌≡◌, ℕ, zero, suc, ◌+◌, ◌<◌, ◌≤◌, Bool, false, cond, List, [], ◌∷◌, ◌++◌, map, flat_map, length, get_or, refl, sym, ap, subst, ◌∙◌, arith, sum_by, Result, Ok, Err, append-nil}
 use Rattle.allocative_collectors.proofs.Common.{Key, Path, Graph, Warned, sum_of, under, default, add_self, Refusal, Memory, TooLarge, Open, shape, sums_of, IsTree, Listed, sum_at, path_at, map_of, below, sums, key_in, children_at, keys_at, KeysRise, size_at_place, is_short, warned_at, IsWalk}
+use Rattle.std.proofs.lemmas.List.Elements.{All-cons}
 use Rattle.std.proofs.lemmas.List.Sums.{sum_by-cons, sum_by-append}
 use Rattle.allocative_graph.specs.Graph.{total}
 use Rattle.allocative_graph.proofs.Listing.{entries-from_entries-sorted}
@@ -61,13 +62,9 @@ module _ (s : Listed) (i : ℕ) (ks : List Key) (j : ℕ) (hj : j < length ks) (
 -- ---- totals
 pub half_total : (s : Listed) (i : ℕ) (ks : List Key) (j : ℕ) (w w' : List Warned) (g : Graph) → i < length s → HalfMade s i ks j w w' g → total g ≤ total_listed s
 half_total s i ks j w w' g hi half =
-    let most = sizes_le_total s (i ∷ half.ys) (part_rise s i ks j half.ys half.part) (within hi half) in
+    let most = sizes_le_total s (i ∷ half.ys) (part_rise s i ks j half.ys half.part) (All-cons (λ i. i < length s) i half.ys hi half.part.within) in
     let is = half.total_is in
     omega arith
-  where
-    within : i < length s → (half : HalfMade s i ks j w w' g) → (a : ℕ) → a < length (i ∷ half.ys) → get_or (i ∷ half.ys) a 0 < length s
-    within hi half zero h = hi
-    within hi half (suc a) h = half.part.within a (omega arith)
 
 pub own_fits : (s : Listed) (i : ℕ) → i < length s → size_at_place s i ≤ total_listed s
 own_fits s i hi =

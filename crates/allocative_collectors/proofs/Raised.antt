@@ -1,10 +1,10 @@
 -- An arena after one more entry at a node.
 use Rattle.std.proofs.Common.{◌≡◌, ◌≢◌, ℕ, ◌+◌, ◌<◌, ◌≤◌, Bool, List, length, get_or, set, refl, sym, ap, subst, ◌∙◌, arith, inl, inr, get_or-set_same, get_or-set_other, length-set, eq-eqb, ne_eqb}
-use Rattle.allocative_collectors.proofs.Common.{Path, put, path_at, Shape, no_shape, at, paths, label, sums, StandsIn, children_at, keys_of, keys_at, parent_at, bytes_at, below_at, share, below_of, KeysRise, IsChild, IsArena}
+use Rattle.allocative_collectors.proofs.Common.{key_at, Path, put, path_at, Shape, no_shape, at, paths, label, sums, StandsIn, children_at, keys_of, keys_at, parent_at, bytes_at, below_at, share, below_of, KeysRise, IsChild, IsArena}
 use Rattle.std.proofs.lemmas.List.Sums.{sum_by-set, sum_by-le-sum_by, get_or-le-sum_by}
 use Rattle.std.proofs.lemmas.Bool.{cases_eq}
 use Rattle.allocative_collectors.specs.Listed.{total}
-use Rattle.allocative_collectors.proofs.Keys.{keys_of-same, touched}
+use Rattle.allocative_collectors.proofs.Keys.{map_same, touched}
 use Rattle.allocative_collectors.proofs.Paths.{paths_set, length-paths}
 use Rattle.allocative_collectors.proofs.Labels.{raise_shape, label_raise, label_same, total_sums}
 
@@ -43,7 +43,7 @@ module _ (ns : List Shape) (ok : IsArena ns) (i : ℕ) (pos : 0 < i) (hi : i < l
   children_before = as_before (λ m. m.children) (λ m. refl) (λ m. refl)
 
   keys_before : (j : ℕ) → keys_at new j ≡ keys_at ns j
-  keys_before j = ap (keys_of new) (children_before j) ∙ keys_of-same ns new (children_at ns j) (λ a h. as_before (λ m. m.key) (λ m. refl) (λ m. refl) (get_or (children_at ns j) a 0))
+  keys_before j = ap (keys_of new) (children_before j) ∙ map_same (key_at new) (key_at ns) (children_at ns j) (λ a h. as_before (λ m. m.key) (λ m. refl) (λ m. refl) (get_or (children_at ns j) a 0))
 
   -- only node i has more bytes, and only its parent has more below
   bytes_before : (j : ℕ) → j ≢ i → bytes_at new j ≡ bytes_at ns j

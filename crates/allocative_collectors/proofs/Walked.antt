@@ -1,10 +1,11 @@
 -- A walk over an arena, child by child.
 use Rattle.std.proofs.Common.{◌≡◌, ◌≢◌, ℕ, zero, suc, ◌+◌, ◌-◌, ◌<◌, ◌≤◌, List, [], ◌∷◌, ◌++◌, length, get_or, refl, sym, ap, subst, ◌∙◌, arith, inl, inr, length-append, append_assoc, append-nil}
 use Rattle.allocative_collectors.proofs.Common.{Ordering, Less, Equal, ordering_then, Key, Path, key_cmp, path_cmp, Warned, Listed, path_at, Shape, sums, key_in, keys_at, parent_at, KeysRise, IsArena, warned_at, IsUnder, StandsIn, PathsRise, IsWalk}
-use Rattle.std.proofs.lemmas.List.{get_or_append_left, get_or-append_right, same_from_push}
+use Rattle.std.proofs.lemmas.List.{get_or_append_left, get_or-append-add, get_or-append_right, same_from_push}
 use Rattle.std.proofs.lemmas.Cmp.{tied_itself}
 use Rattle.std.proofs.lemmas.Bool.{cases_lt, cases_eq}
-use Rattle.std.specs.List.{flat_map}
+use Rattle.std.specs.List.{All, flat_map}
+use Rattle.std.proofs.lemmas.List.Elements.{All-append, All-cons, All-weaker}
 use Rattle.std.proofs.lemmas.Grind.{flat_map-append}
 use Rattle.allocative_graph.proofs.Basics.{path_total}
 use Rattle.allocative_collectors.proofs.Orders.{key_total}
@@ -30,25 +31,23 @@ stands_left : (xs ys : List ℕ) (i : ℕ) → StandsIn xs i → StandsIn (xs ++
 stands_left xs ys i h = record { place = h.place; in_range = omega (arith, length-append xs ys, h.in_range); is = get_or_append_left xs ys 0 h.place h.in_range ∙ h.is }
 
 stands_right : (xs ys : List ℕ) (i : ℕ) → StandsIn ys i → StandsIn (xs ++ ys) i
-stands_right xs ys i h =
-    let index : length xs + h.place - length xs ≡ h.place = omega arith in
-    record {
-      place = length xs + h.place;
-      in_range = omega (arith, length-append xs ys, h.in_range);
-      is = get_or-append_right xs ys (length xs) (length xs + h.place) 0 refl (omega arith) ∙ (ap (λ (j : ℕ). get_or ys j 0) index ∙ h.is);
-    }
+stands_right xs ys i h = record { place = length xs + h.place; in_range = omega (arith, length-append xs ys, h.in_range); is = get_or-append-add xs ys h.place 0 ∙ h.is }
+
+-- the path of place i is under one of the first j children of the node with the path p
+abbrev UnderOne : Listed → Path → List Key → ℕ → ℕ → Type 0
+UnderOne s p ks j i = (b : ℕ) × (b < j) × IsUnder (p ++ key_in ks b ∷ []) (path_at s i)
 
 -- the paths that were walked: those under the first j children of the node p
 pub record IsPart (s : Listed) (p : Path) (ks : List Key) (j : ℕ) (ys : List ℕ) : Type 0 where
-  pub within : (a : ℕ) → a < length ys → get_or ys a 0 < length s
-  pub under : (a : ℕ) → a < length ys → (b : ℕ) × (b < j) × IsUnder (p ++ key_in ks b ∷ []) (path_at s (get_or ys a 0))
+  pub within : All (λ i. i < length s) ys
+  pub under : All (UnderOne s p ks j) ys
   pub all : (b i : ℕ) → b < j → i < length s → IsUnder (p ++ key_in ks b ∷ []) (path_at s i) → StandsIn ys i
   pub rise : PathsRise s ys
 
 pub part_none : (s : Listed) (p : Path) (ks : List Key) → IsPart s p ks 0 []
 part_none s p ks = record {
-  within = λ a h. absurd (omega arith);
-  under = λ a h. absurd (omega arith);
+  within = λ a d h. absurd (omega arith);
+  under = λ a d h. absurd (omega arith);
   all = λ b i h. absurd (omega arith);
   rise = λ a b lt h. absurd (omega arith);
 }
@@ -65,8 +64,8 @@ module _ (s : Listed) (p : Path) (ks : List Key) (j : ℕ) (hj : j < length ks) 
 
   across : (a b : ℕ) → a < length ys → b < length zs → path_cmp (path_at s (get_or ys a 0)) (path_at s (get_or zs b 0)) ≡ Less
   across a b ha hb =
-      let one = part.under a ha in
-      let two = walk.under b hb in
+      let one = part.under a 0 ha in
+      let two = walk.under b 0 hb in
       let first : IsUnder (p ++ key_in ks one.0 ∷ []) (path_at s (get_or ys a 0)) = one.2 in
       let left : path_at s (get_or ys a 0) ≡ p ++ key_in ks one.0 ∷ first.rest = first.is ∙ snoc_split p _ _ in
       let right : path_at s (get_or zs b 0) ≡ p ++ key_in ks j ∷ two.rest = two.is ∙ snoc_split p _ _ in
@@ -75,14 +74,10 @@ module _ (s : Listed) (p : Path) (ks : List Key) (j : ℕ) (hj : j < length ks) 
 
   pub part_more : IsPart s p ks (j + 1) (ys ++ zs)
   part_more = record {
-    within = λ a h. elim (cases_lt a (length ys)) [
-      | inl lt ↦ rw (at_left a lt) (part.within a lt)
-      | inr ge ↦ rw (at_right a ge) (walk.within (a - length ys) (omega (arith, len)))
-    ];
-    under = λ a h. elim (cases_lt a (length ys)) [
-      | inl lt ↦ let old = part.under a lt in rw (at_left a lt) (old.0, omega (arith, old.1), old.2)
-      | inr ge ↦ rw (at_right a ge) (j, omega arith, walk.under (a - length ys) (omega (arith, len)))
-    ];
+    within = All-append (λ i. i < length s) ys zs part.within walk.within;
+    under = All-append (UnderOne s p ks (j + 1)) ys zs
+        (All-weaker (UnderOne s p ks j) (UnderOne s p ks (j + 1)) (λ i old. (old.0, omega (arith, old.1), old.2)) ys part.under)
+        (All-weaker (λ i. IsUnder (p ++ key_in ks j ∷ []) (path_at s i)) (UnderOne s p ks (j + 1)) (λ i u. (j, omega arith, u)) zs walk.under);
     all = λ b i hb hi under. elim (cases_eq b j) [
       | inl e ↦ stands_right ys zs i (walk.all i hi (subst (λ (x : ℕ). IsUnder (p ++ key_in ks x ∷ []) (path_at s i)) e under))
       | inr ne ↦ stands_left ys zs i (part.all b i (omega arith) hi under)
@@ -101,7 +96,7 @@ pub part_rise : (s : Listed) (i : ℕ) (ks : List Key) (j : ℕ) (ys : List ℕ)
 part_rise s i ks j ys part zero zero lt h = absurd (omega arith)
 part_rise s i ks j ys part (suc a) zero lt h = absurd (omega arith)
 part_rise s i ks j ys part zero (suc b) lt h =
-    let one = part.under b (omega arith) in
+    let one = part.under b 0 (omega arith) in
     let u : IsUnder (path_at s i ++ key_in ks one.0 ∷ []) (path_at s (get_or ys b 0)) = one.2 in
     subst (λ (x : Path). path_cmp (path_at s i) x ≡ Less) (sym (u.is ∙ snoc_split _ _ _)) (beginning_before (path_at s i) (key_in ks one.0) u.rest)
 part_rise s i ks j ys part (suc a) (suc b) lt h = part.rise a b (omega arith) (omega arith)
@@ -137,22 +132,15 @@ module _ (ns : List Shape) (ok : IsArena ns) where
 
   pub part_all : (p : ℕ) → p < length ns → (ys : List ℕ) → IsPart (sums ns) (path_at (sums ns) p) (keys_at ns p) (length (keys_at ns p)) ys → IsWalk (sums ns) (path_at (sums ns) p) (p ∷ ys)
   part_all p hp ys part = record {
-    within = within;
-    under = under;
+    within = All-cons (λ i. i < length (sums ns)) p ys (omega (arith, length_sums ns)) part.within;
+    under = All-cons (λ i. IsUnder (path_at (sums ns) p) (path_at (sums ns) i)) p ys (record { rest = []; is = sym (append-nil (path_at (sums ns) p)) })
+        (All-weaker (UnderOne (sums ns) (path_at (sums ns) p) (keys_at ns p) (length (keys_at ns p))) (λ i. IsUnder (path_at (sums ns) p) (path_at (sums ns) i)) (λ i one. below i one.0 one.2) ys part.under);
     all = all;
     rise = part_rise (sums ns) p (keys_at ns p) (length (keys_at ns p)) ys part;
   }
     where
-      within : (a : ℕ) → a < length (p ∷ ys) → get_or (p ∷ ys) a 0 < length (sums ns)
-      within zero h = omega (arith, length_sums ns)
-      within (suc a) h = part.within a (omega arith)
-
-      under : (a : ℕ) → a < length (p ∷ ys) → IsUnder (path_at (sums ns) p) (path_at (sums ns) (get_or (p ∷ ys) a 0))
-      under zero h = record { rest = []; is = sym (append-nil (path_at (sums ns) p)) }
-      under (suc a) h =
-          let one = part.under a (omega arith) in
-          let u : IsUnder (path_at (sums ns) p ++ key_in (keys_at ns p) one.0 ∷ []) (path_at (sums ns) (get_or ys a 0)) = one.2 in
-          record { rest = key_in (keys_at ns p) one.0 ∷ u.rest; is = u.is ∙ snoc_split _ _ _ }
+      below : (i b : ℕ) → IsUnder (path_at (sums ns) p ++ key_in (keys_at ns p) b ∷ []) (path_at (sums ns) i) → IsUnder (path_at (sums ns) p) (path_at (sums ns) i)
+      below i b u = record { rest = key_in (keys_at ns p) b ∷ u.rest; is = u.is ∙ snoc_split _ _ _ }
 
       all : (i : ℕ) → i < length (sums ns) → IsUnder (path_at (sums ns) p) (path_at (sums ns) i) → StandsIn (p ∷ ys) i
       all i hi u = by_rest i hi u.rest u.is

@@ -41,7 +41,7 @@ module _ (s : Listed) where
 
     seen_apart : Distinct seen_as
     seen_apart a b ha hb e =
-        let same : get_or ys a 0 ≡ get_or ys b 0 = ok.apart _ _ (walk.within (suc a) (omega (arith, count))) (walk.within (suc b) (omega (arith, count))) (sym (path_seen a (omega (arith, count))) ∙ (e ∙ path_seen b (omega (arith, count)))) in
+        let same : get_or ys a 0 ≡ get_or ys b 0 = ok.apart _ _ (walk.within (suc a) 0 (omega (arith, count))) (walk.within (suc b) 0 (omega (arith, count))) (sym (path_seen a (omega (arith, count))) ∙ (e ∙ path_seen b (omega (arith, count)))) in
         elim (cases_order a b) [
           | inl same ↦ same
           | inr (inl lt) ↦ absurd (rise_apart s (0 ∷ ys) walk.rise (suc a) (suc b) (omega arith) (omega (arith, count)) same)
@@ -53,7 +53,7 @@ module _ (s : Listed) where
       where
         here : (b : ℕ) → b < length ys → path_at seen_as b ≡ q → get (map_of s) q ≡ find path_cmp q (map row seen_as)
         here b h at_q =
-            ap (get (map_of s)) (sym at_q ∙ path_seen b h) ∙ get_at s ok (get_or ys b 0) (below_the_root b h) (walk.within (suc b) (omega arith))
+            ap (get (map_of s)) (sym at_q ∙ path_seen b h) ∙ get_at s ok (get_or ys b 0) (below_the_root b h) (walk.within (suc b) 0 (omega arith))
             ∙ ap (λ (e : Sum). Some (row e).1) (sym (get_or-map (sum_at s) ys b 0 root_sum h))
             ∙ sym (ap (λ (p : Path). find path_cmp p (map row seen_as)) (sym at_q) ∙ find_at seen_as seen_apart b (omega (arith, count)))
 
