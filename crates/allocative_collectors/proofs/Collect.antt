@@ -29,8 +29,7 @@ among : (is : List Identity) (q : Identity) → list_any (is_equal q) is ≡ con
 among is q = (λ k. list_any (λ i. one_identity q i k) is) ∙ sym (contains-from_list identity_total is q)
 
 one_more : (t b : Bool) → cond t true b ≡ (t || b)
-one_more true b = refl
-one_more false b = refl
+one_more t b = grind (arith, nat_tests)
 
 -- the set of the identities after one was inserted
 pub met_more : (old new : List Identity) (i : Identity) → ((q : Identity) → list_any (is_equal q) new ≡ cond (is_equal i q) true (list_any (is_equal q) old)) → from_list {R = identity_cmp} new ≡ insert (from_list old) i
@@ -124,7 +123,6 @@ module _ (t : Listed) (current : ℕ) (places : List ℕ) (rooted : Bool) where
       ap (λ (q : Path). outside q ++ back_from (reverse (map (path_at t) places)) (to_root rooted)) o.root
       ∙ (ap (λ (l : List ℕ). back_from (reverse (map (path_at t) l)) (to_root rooted)) o.no_place ∙ ap to_root o.no_visitor)
 
--- ---- one more entry
 -- ---- the places
 pub placed_at : {t : Listed} {current : ℕ} {places : List ℕ} {n : ℕ} → IsPlaced t current places n → (node : ℕ) → node < length t → (ps : List ℕ) → ((j : ℕ) → j < length ps → get_or ps j 0 < length t) → IsPlaced t node ps n
 placed_at ok node h ps back = record {
