@@ -1,7 +1,8 @@
 -- An arena with one more node, which has no entry yet.
-use Rattle.std.proofs.Common.{◌≡◌, ◌≢◌, ℕ, ◌+◌, ◌-◌, ◌<◌, ◌≤◌, false, List, [], ◌∷◌, ◌++◌, length, get_or, set, refl, sym, ap, subst, ◌∙◌, arith, inl, inr, get_or-set_same, get_or-set_other, length-set}
+use Rattle.std.proofs.Common.{◌≡◌, ◌≢◌, ℕ, ◌+◌, ◌-◌, ◌<◌, ◌≤◌, false, List, [], ◌∷◌, ◌++◌, length, get_or, set, take, drop, refl, sym, ap, subst, ◌∙◌, arith, inl, inr, get_or-set_same, get_or-set_other, length-set}
 use Rattle.allocative_collectors.proofs.Common.{key_at, Less, ordering_reverse, Key, key_cmp, Shape, no_shape, at, children_at, keys_of, keys_at, key_in, parent_at, below_of, share, KeysRise, StandsIn, IsChild, IsArena, IsKeyGap}
-use Rattle.std.specs.List.{insert}
+use Rattle.std.specs.List.{All, insert}
+use Rattle.std.proofs.lemmas.List.Elements.{All-append, All-cons, All-drop, All-take, All-weaker}
 use Rattle.std.proofs.lemmas.List.{get_or_append_left, get_or_push, length_push}
 use Rattle.std.proofs.lemmas.List.Edits.{length-insert}
 use Rattle.std.proofs.lemmas.List.Sums.{sum_by_push, sum_by-set}
@@ -19,16 +20,6 @@ with_children xs n = record n { children = xs }
 -- the arena with a new node under p, whose key k is put at place g among the children
 abbrev pub grown : List Shape → ℕ → Key → ℕ → List Shape
 grown ns p k g = set (ns ++ leaf p k ∷ []) p (with_children (insert (children_at ns p) g (length ns)) (at ns p))
-
--- each number after an insertion is the new one or one from before
-number_cases : (xs : List ℕ) (g n : ℕ) → g ≤ length xs → (P : ℕ → Type 0) → P n → ((j : ℕ) → j < length xs → P (get_or xs j 0)) → (j : ℕ) → j < length (insert xs g n) → P (get_or (insert xs g n) j 0)
-number_cases xs g n within P new old j h =
-    let len = length-insert xs g n within in
-    elim (cases_order j g) [
-      | inl e ↦ subst P (sym (insert_here xs g n 0 within j e)) new
-      | inr (inl lt) ↦ subst P (sym (insert_below xs g n 0 within j lt)) (old j (omega arith))
-      | inr (inr gt) ↦ subst P (sym (insert_above xs g n 0 within j gt)) (old (j - 1) (omega arith))
-    ]
 
 -- keys stay in order when a key is put into its gap
 rise_insert : (ks : List Key) (k : Key) (g : ℕ) → IsKeyGap ks k g → KeysRise ks → KeysRise (insert ks g k)
@@ -81,7 +72,7 @@ module _ (ns : List Shape) (ok : IsArena ns) (p : ℕ) (hp : p < length ns) (k :
 
   -- the keys of the children before
   keys_stood : (q : ℕ) → keys_of new (children_at ns q) ≡ keys_at ns q
-  keys_stood q = map_same (key_at new) (key_at ns) (children_at ns q) (λ j h. before (λ n. n.key) refl (get_or (children_at ns q) j 0) (ok.children q j h).in_range)
+  keys_stood q = map_same (key_at new) (key_at ns) (children_at ns q) (λ j h. before (λ n. n.key) refl (get_or (children_at ns q) j 0) (ok.children q j 0 h).in_range)
 
   keys_parent : keys_at new p ≡ insert (keys_at ns p) g k
   keys_parent = ap (keys_of new) children_parent ∙ (keys_of-insert new (children_at ns p) g (length ns) ∙ (λ i. insert (keys_stood p i) g (ap (λ (n : Shape). n.key) at_leaf i)))
@@ -129,13 +120,14 @@ module _ (ns : List Shape) (ok : IsArena ns) (p : ℕ) (hp : p < length ns) (k :
       | inr ne ↦ let old : i < length ns = omega (arith, length_grown) in rw (parent_before i old) (ok.parents i pos old)
     ];
     listed = listed;
-    children = λ q j hj. elim (cases_eq q p) [
-      | inl e ↦ subst (λ (x : ℕ). IsChild new x (get_or (children_at new x) j 0)) (sym e) (subst (λ (xs : List ℕ). IsChild new p (get_or xs j 0)) (sym children_parent)
-          (number_cases (children_at ns p) g (length ns) gap_within (IsChild new p)
-          (record { not_root = ok.rooted; in_range = omega (arith, length_grown); parent = ap (λ (n : Shape). n.parent) at_leaf })
-          (λ a ha. child_before p _ (ok.children p a ha)) j (subst (λ (xs : List ℕ). j < length xs) (ap (children_at new) e ∙ children_parent) hj)))
-      | inr ne ↦ subst (λ (xs : List ℕ). IsChild new q (get_or xs j 0)) (sym (children_other q ne))
-          (child_before q _ (ok.children q j (subst (λ (xs : List ℕ). j < length xs) (children_other q ne) hj)))
+    children = λ q. elim (cases_eq q p) [
+      | inl e ↦
+          let xs = children_at ns p in
+          let old = All-weaker (IsChild ns p) (IsChild new p) (child_before p) xs (ok.children p) in
+          let one : IsChild new p (length ns) = record { not_root = ok.rooted; in_range = omega (arith, length_grown); parent = ap (λ (n : Shape). n.parent) at_leaf } in
+          subst (λ (x : ℕ). All (IsChild new x) (children_at new x)) (sym e) (subst (All (IsChild new p)) (sym children_parent)
+          (All-append (IsChild new p) (take g xs) (length ns ∷ drop g xs) (All-take (IsChild new p) g xs old) (All-cons (IsChild new p) (length ns) (drop g xs) one (All-drop (IsChild new p) g xs old))))
+      | inr ne ↦ subst (All (IsChild new q)) (sym (children_other q ne)) (All-weaker (IsChild ns q) (IsChild new q) (child_before q) (children_at ns q) (ok.children q))
     ];
     rise = λ q. elim (cases_eq q p) [
       | inl e ↦ subst KeysRise (sym (ap (keys_at new) e ∙ keys_parent)) (rise_insert (keys_at ns p) k g gap (ok.rise p))

@@ -33,7 +33,7 @@ module _ (items : List Node) where
   child_seen ok p xs is j hj =
       let ns = map shape items in
       let inside : j < length (children_at ns p) = rw is hj in
-      let child = ok.arena.children p j inside in
+      let child = ok.arena.children p j 0 inside in
       let within : get_or (children_at ns p) j 0 < length items = omega (arith, child.in_range, length-map items shape) in
       subst (λ (l : List ℕ). let i = get_or l j 0 in (IsChild ns p i) × (i < length items) × (key_in (keys_at ns p) j ≡ key_at ns i) × ((d : Node) → (let m = get_or items i d in key_at ns i ≡ m.key))) is
       (child, within, key_in-keys_of ns (children_at ns p) j inside, λ d. ap (λ (s : Shape). s.key) (get_or-map shape items (get_or (children_at ns p) j 0) d no_shape within))

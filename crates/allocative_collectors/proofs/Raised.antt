@@ -1,6 +1,8 @@
 -- An arena after one more entry at a node.
 use Rattle.std.proofs.Common.{◌≡◌, ◌≢◌, ℕ, ◌+◌, ◌<◌, ◌≤◌, Bool, List, length, get_or, set, refl, sym, ap, subst, ◌∙◌, arith, inl, inr, get_or-set_same, get_or-set_other, length-set, eq-eqb, ne_eqb}
 use Rattle.allocative_collectors.proofs.Common.{key_at, Path, put, path_at, Shape, no_shape, at, paths, label, sums, StandsIn, children_at, keys_of, keys_at, parent_at, bytes_at, below_at, share, below_of, KeysRise, IsChild, IsArena}
+use Rattle.std.specs.List.{All}
+use Rattle.std.proofs.lemmas.List.Elements.{All-weaker}
 use Rattle.std.proofs.lemmas.List.Sums.{sum_by-set, sum_by-le-sum_by, get_or-le-sum_by}
 use Rattle.std.proofs.lemmas.Bool.{cases_eq}
 use Rattle.allocative_collectors.specs.Listed.{total}
@@ -86,10 +88,8 @@ module _ (ns : List Shape) (ok : IsArena ns) (i : ℕ) (pos : 0 < i) (hi : i < l
     parents = λ j pj hj. rw (parent_before j) (ok.parents j pj (omega (arith, length_raised)));
     listed = λ p j c. subst (λ (xs : List ℕ). StandsIn xs j) (sym (children_before p))
         (ok.listed p j (record { not_root = c.not_root; in_range = omega (arith, length_raised, c.in_range); parent = sym (parent_before j) ∙ c.parent }));
-    children = λ p a ha.
-        let old = ok.children p a (subst (λ (xs : List ℕ). a < length xs) (children_before p) ha) in
-        subst (λ (xs : List ℕ). IsChild new p (get_or xs a 0)) (sym (children_before p))
-        (record { not_root = old.not_root; in_range = omega (arith, length_raised, old.in_range); parent = parent_before _ ∙ old.parent });
+    children = λ p. subst (All (IsChild new p)) (sym (children_before p)) (All-weaker (IsChild ns p) (IsChild new p)
+        (λ j old. record { not_root = old.not_root; in_range = omega (arith, length_raised, old.in_range); parent = parent_before j ∙ old.parent }) (children_at ns p) (ok.children p));
     rise = λ p. subst KeysRise (sym (keys_before p)) (ok.rise p);
     below = below_kept;
   }

@@ -1,5 +1,6 @@
 -- An arena of nodes, as plain values.
 use Rattle.std.specs.Prelude.{◌≡◌, ℕ, ◌<◌, ◌≤◌, List, [], ◌∷◌, ◌++◌, Bool, false, ◌==◌, if◌then◌else◌, slice_index, slice_index_or, sum_by, length, map}
+use Rattle.std.specs.List.{All}
 use Rattle.std.specs.declared.cmp.Ordering.TheVariants.{Less, Greater}
 use Rattle.allocative_graph.specs.Path.{Key, Path, key_cmp}
 use Rattle.allocative_collectors.specs.Listed.{Listed}
@@ -113,7 +114,7 @@ pub record IsArena (ns : List Shape) : Type 0 where
   pub root_parent : parent_at ns 0 ≡ 0
   pub parents : (i : ℕ) → 0 < i → i < length ns → parent_at ns i < i
   pub listed : (p i : ℕ) → IsChild ns p i → StandsIn (children_at ns p) i
-  pub children : (p j : ℕ) → j < length (children_at ns p) → IsChild ns p (slice_index (children_at ns p) j)
+  pub children : (p : ℕ) → All (IsChild ns p) (children_at ns p)
   pub rise : (p : ℕ) → KeysRise (keys_at ns p)
   pub below : (p : ℕ) → below_at ns p ≡ below_of p ns
 
