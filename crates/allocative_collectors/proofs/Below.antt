@@ -6,7 +6,7 @@ use Rattle.std.proofs.lemmas.List.Sums.{sum_by-cons}
 use Rattle.std.proofs.lemmas.Bool.{cases_eq, cond-true, cond-false}
 use Rattle.allocative_collectors.proofs.Bridge.{IsListing, below_listed, not_below_root}
 use Rattle.allocative_collectors.proofs.Orders.{key_total, same_path-same, same_path-apart}
-use Rattle.allocative_collectors.proofs.Labels.{length_sums, get_sums, unique_at, root_at, step, distinct}
+use Rattle.allocative_collectors.proofs.Labels.{length_sums, figures_sums, root_at, step, distinct}
 
 -- two sums are equal where their terms are
 pub same_sum : {X Y : Type 0} (f : X → ℕ) (g : Y → ℕ) (d : X) (e : Y) (xs : List X) (ys : List Y) → length xs ≡ length ys → ((i : ℕ) → i < length xs → f (get_or xs i d) ≡ g (get_or ys i e)) → sum_by f xs ≡ sum_by g ys
@@ -41,16 +41,10 @@ step_push (j ∷ p) (l ∷ q) k = ap (λ (b : Bool). eq_by_cmp key_cmp j l && b)
 pub listing : (ns : List Shape) → IsArena ns → IsListing (sums ns)
 listing ns ok = record {
   rooted = omega (arith, length_sums ns, ok.rooted);
-  root_path = root_at ns ok;
-  root_bytes = ap (λ (e : Sum). e.bytes) (get_sums ns 0 ok.rooted) ∙ ok.root_empty;
+  root_path = root_at ns;
+  root_bytes = (figures_sums ns 0).0 ∙ ok.root_empty;
   apart = λ i j hi hj. distinct ns ok i j (omega (arith, length_sums ns)) (omega (arith, length_sums ns));
 }
-
-pub bytes_is : (ns : List Shape) (i : ℕ) → i < length ns → (let e = sum_at (sums ns) i in e.bytes) ≡ bytes_at ns i
-bytes_is ns i hi = ap (λ (e : Sum). e.bytes) (get_sums ns i hi)
-
-pub unique_is : (ns : List Shape) (i : ℕ) → i < length ns → (let e = sum_at (sums ns) i in e.is_unique) ≡ unique_at ns i
-unique_is ns i hi = ap (λ (e : Sum). e.is_unique) (get_sums ns i hi)
 
 module _ (ns : List Shape) (ok : IsArena ns) (i : ℕ) (hi : i < length ns) where
   -- the bytes of a node below a path, with its own path and bytes
@@ -63,11 +57,11 @@ module _ (ns : List Shape) (ok : IsArena ns) (i : ℕ) (hi : i < length ns) wher
         | inl same ↦ cond-true (eqb (parent_at ns 0) i) _ _ (eq-eqb (parent_at ns 0) i same) ∙ ok.root_empty
         | inr other ↦ cond-false (eqb (parent_at ns 0) i) _ _ (ne_eqb (parent_at ns 0) i other)
       ] in
-      none ∙ sym ((λ k. part (root_at ns ok k) (bytes_is ns 0 h k)) ∙ ap (λ (b : Bool). cond b (bytes_at ns 0) 0) (not_below_root (path_at (sums ns) i)))
+      none ∙ sym ((λ k. part (root_at ns k) ((figures_sums ns 0).0 k)) ∙ ap (λ (b : Bool). cond b (bytes_at ns 0) 0) (not_below_root (path_at (sums ns) i)))
   term (suc j) h =
       let q = parent_at ns (suc j) in
       let lt = ok.parents (suc j) (omega arith) h in
-      let right = (λ k. part (step ns ok (suc j) (omega arith) h k) (bytes_is ns (suc j) h k)) ∙ ap (λ (b : Bool). cond b (bytes_at ns (suc j)) 0) (step_push (path_at (sums ns) i) (path_at (sums ns) q) (key_at ns (suc j))) in
+      let right = (λ k. part (step ns ok (suc j) (omega arith) h k) ((figures_sums ns (suc j)).0 k)) ∙ ap (λ (b : Bool). cond b (bytes_at ns (suc j)) 0) (step_push (path_at (sums ns) i) (path_at (sums ns) q) (key_at ns (suc j))) in
       elim (cases_eq q i) [
         | inl same ↦ cond-true (eqb q i) _ _ (eq-eqb q i same) ∙ sym (right ∙ cond-true _ _ _ (same_path-same _ _ (ap (path_at (sums ns)) same)))
         | inr other ↦ cond-false (eqb q i) _ _ (ne_eqb q i other) ∙ sym (right ∙ cond-false _ _ _ (same_path-apart _ _ (λ s. other (distinct ns ok q i (omega arith) hi s))))
@@ -85,5 +79,5 @@ module _ (ns : List Shape) (ok : IsArena ns) (i : ℕ) (hi : i < length ns) wher
       pushed (l ∷ p) k = refl
 
       by_place : (i : ℕ) → i < length ns → not (is_root (path_at (sums ns) i)) ≡ ltb 0 i
-      by_place zero h = ap (λ (p : Path). not (is_root p)) (root_at ns ok)
+      by_place zero h = ap (λ (p : Path). not (is_root p)) (root_at ns)
       by_place (suc j) h = ap (λ (p : Path). not (is_root p)) (step ns ok (suc j) (omega arith) h) ∙ (ap not (pushed _ (key_at ns (suc j))) ∙ sym (lt-ltb 0 (suc j) (omega arith)))

@@ -1,13 +1,12 @@
 -- What a search among a node's children says of the sums.
-use Rattle.std.proofs.Common.{◌≡◌, ◌≢◌, ℕ, zero, suc, ◌<◌, false, List, [], ◌∷◌, ◌++◌, length, get_or, sym, ap, subst, ◌∙◌, arith, inl, inr}
-use Rattle.allocative_collectors.proofs.Common.{Equal, Key, Path, key_cmp, path_at, IsEntered, Shape, paths, label, sums, keys_at, key_in, key_at, parent_at, IsChild, IsArena, IsKeyGap}
-use Rattle.std.proofs.lemmas.List.{get_or_push, same_from_push}
+use Rattle.std.proofs.Common.{◌≡◌, ◌≢◌, ℕ, zero, suc, ◌<◌, false, List, [], ◌∷◌, ◌++◌, length, sym, ap, subst, ◌∙◌, arith, inl, inr}
+use Rattle.allocative_collectors.proofs.Common.{Equal, Key, Path, key_cmp, path_at, IsEntered, Listed, root_sum, Shape, sums, keys_at, key_in, key_at, parent_at, IsChild, IsArena, IsKeyGap}
+use Rattle.std.proofs.lemmas.List.{get_or-map, get_or_push, same_from_push}
 use Rattle.std.proofs.lemmas.Cmp.{tied_itself}
 use Rattle.std.proofs.lemmas.Bool.{cases_lt}
 use Rattle.allocative_collectors.proofs.Orders.{key_total}
 use Rattle.allocative_collectors.proofs.Adds.{put_nothing}
-use Rattle.allocative_collectors.proofs.Paths.{paths_set, paths_push, length-paths}
-use Rattle.allocative_collectors.proofs.Labels.{label_same, label_push, put_push, path_sums, length_sums, not_nil, root_at, step, key_place, distinct}
+use Rattle.allocative_collectors.proofs.Labels.{bare, path_of, sums_same, sums_push, put_push, length_sums, not_nil, root_at, step, key_place, distinct}
 use Rattle.allocative_collectors.proofs.Grown.{leaf, grown, length_grown, stood, written}
 
 -- at a gap no child has the key
@@ -35,7 +34,7 @@ module _ (ns : List Shape) (ok : IsArena ns) (p : ℕ) (hp : p < length ns) (k :
 
   -- a node whose path is p's with the key is that child
   pub child_of : (i : ℕ) → i < length ns → path_at (sums ns) i ≡ path_at (sums ns) p ++ k ∷ [] → IsChild ns p i × (key_at ns i ≡ k)
-  child_of zero hi path = absurd (not_nil _ _ _ (sym path ∙ root_at ns ok))
+  child_of zero hi path = absurd (not_nil _ _ _ (sym path ∙ root_at ns))
   child_of (suc i) hi path =
       let parts = same_from_push _ _ _ _ (sym (step ns ok (suc i) (omega arith) hi) ∙ path) in
       let before = ok.parents (suc i) (omega arith) hi in
@@ -56,17 +55,13 @@ module _ (ns : List Shape) (ok : IsArena ns) (p : ℕ) (hp : p < length ns) (k :
         let longer = ns ++ leaf p k ∷ [] in
         let kept = stood ns ok p hp k g gap p hp in
         let len = length_grown ns ok p hp k g gap in
-        let in_sums = length_sums (grown ns p k g) in
-        let more : paths (grown ns p k g) ≡ paths ns ++ Q ∷ [] =
-        paths_set longer p (written ns ok p hp k g gap) (ap (λ (m : Shape). m.parent) (sym kept)) (ap (λ (m : Shape). m.key) (sym kept))
-        ∙ (paths_push ns (leaf p k) ok.rooted ∙ ap (λ (x : Path). paths ns ++ (x ++ k ∷ []) ∷ []) (sym (path_sums ns p hp))) in
+        let all : sums (grown ns p k g) ≡ sums ns ++ record { path = Q; bytes = 0; is_unique = false } ∷ [] =
+        sums_same longer p (written ns ok p hp k g gap) (ap bare (sym kept))
+        ∙ (sums_push ns (leaf p k) ok.rooted ∙ ap (λ (x : Path). sums ns ++ record { path = x ++ k ∷ []; bytes = 0; is_unique = false } ∷ []) (get_or-map path_of (sums ns) p root_sum [] (omega (arith, length_sums ns)))) in
         record {
-          sums =
-              ap (λ (ps : List Path). label ps (grown ns p k g)) more
-              ∙ (label_same (paths ns ++ Q ∷ []) longer p (written ns ok p hp k g gap) (ap (λ (m : Shape). m.bytes) (sym kept)) (ap (λ (m : Shape). m.is_unique) (sym kept))
-              ∙ (label_push (paths ns) ns Q (leaf p k) (length-paths ns) ∙ sym (put_push (length ns) Q 0 false (sums ns) (sym (length_sums ns)))));
+          sums = all ∙ sym (put_push (length ns) Q 0 false (sums ns) (sym (length_sums ns)));
           not_root = ok.rooted;
-          within = omega arith;
-          path = path_sums (grown ns p k g) (length ns) (omega arith) ∙ (ap (λ (ps : List Path). get_or ps (length ns) []) more ∙ get_or_push (paths ns) Q [] (length ns) (length-paths ns));
+          within = omega (arith, length_sums (grown ns p k g));
+          path = ap (λ (s : Listed). path_at s (length ns)) all ∙ ap path_of (get_or_push (sums ns) _ root_sum (length ns) (length_sums ns));
           sole = λ j h e. absurd (path_new j h e);
         }

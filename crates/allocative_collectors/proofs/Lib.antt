@@ -1,7 +1,6 @@
 pub mod Common
 pub mod Keys
 pub mod Orders
-pub mod Paths
 pub mod Labels
 pub mod Grown
 pub mod Raised

@@ -1,5 +1,5 @@
 -- What `make` has made, child by child.
-use Rattle.std.proofs.Common.{◌≡◌, ℕ, zero, suc, ◌+◌, ◌<◌, ◌≤◌, Bool, false, cond, List, [], ◌∷◌, ◌++◌, map, flat_map, length, get_or, refl, sym, ap, subst, ◌∙◌, arith, sum_by, Result, Ok, Err, append-nil}
+use Rattle.std.proofs.Common.{◌≡◌, ℕ, ◌+◌, ◌<◌, ◌≤◌, Bool, false, cond, List, [], ◌∷◌, ◌++◌, map, flat_map, length, get_or, refl, sym, ap, subst, ◌∙◌, arith, sum_by, Result, Ok, Err, append-nil}
 use Rattle.allocative_collectors.proofs.Common.{Key, Path, Graph, Warned, sum_of, under, default, add_self, Refusal, Memory, TooLarge, Open, shape, sums_of, IsTree, Listed, sum_at, path_at, map_of, below, sums, key_in, children_at, keys_at, KeysRise, size_at_place, is_short, warned_at, IsWalk}
 use Rattle.std.proofs.lemmas.List.Elements.{All-cons}
 use Rattle.std.proofs.lemmas.List.Sums.{sum_by-cons, sum_by-append}

@@ -6,8 +6,8 @@ use Rattle.std.proofs.lemmas.List.{get_or-map, length-map, map-set, map_push, le
 use Rattle.allocative_collectors.specs.declared.tree.Node.{Node}
 use Rattle.allocative_collectors.specs.Listed.{total}
 use Rattle.allocative_collectors.proofs.Keys.{key_in-keys_of, touched}
-use Rattle.allocative_collectors.proofs.Below.{bytes_is, unique_is, below_is, has_key}
-use Rattle.allocative_collectors.proofs.Labels.{length_sums, raise_shape}
+use Rattle.allocative_collectors.proofs.Below.{below_is, has_key}
+use Rattle.allocative_collectors.proofs.Labels.{length_sums, figures_sums, raise_shape}
 use Rattle.allocative_collectors.proofs.Raised.{more_below, raised, bytes_le_total, below_le_total}
 use Rattle.allocative_collectors.proofs.Grown.{leaf, with_children, grown}
 
@@ -126,8 +126,8 @@ figures_read items ok v view i h n read =
     let inside = in_shapes items i view h in
     let is = shape_read items i n (in_nodes items i view h) read in
     subst (λ (s : Listed). (let e = sum_at s i in (e.bytes ≡ n.bytes) × (e.is_unique ≡ n.is_unique) × (below (map_of s) e.path ≡ n.below) × (not (is_root e.path) ≡ ltb 0 i))) view (
-      bytes_is ns i inside ∙ ap (λ (s : Shape). s.bytes) is,
-      unique_is ns i inside ∙ ap (λ (s : Shape). s.is_unique) is,
+      (figures_sums ns i).0 ∙ ap (λ (s : Shape). s.bytes) is,
+      (figures_sums ns i).1 ∙ ap (λ (s : Shape). s.is_unique) is,
       sym (below_is ns ok.arena i inside) ∙ ap (λ (s : Shape). s.below) is,
       has_key ns ok.arena i inside,
     )

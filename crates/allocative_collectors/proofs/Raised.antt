@@ -1,14 +1,13 @@
 -- An arena after one more entry at a node.
 use Rattle.std.proofs.Common.{◌≡◌, ◌≢◌, ℕ, ◌+◌, ◌<◌, ◌≤◌, Bool, List, length, get_or, set, refl, sym, ap, subst, ◌∙◌, arith, inl, inr, get_or-set_same, get_or-set_other, length-set, eq-eqb, ne_eqb}
-use Rattle.allocative_collectors.proofs.Common.{key_at, Path, put, path_at, Shape, no_shape, at, paths, label, sums, StandsIn, children_at, keys_of, keys_at, parent_at, bytes_at, below_at, share, below_of, KeysRise, IsChild, IsArena}
+use Rattle.allocative_collectors.proofs.Common.{key_at, put, path_at, Shape, no_shape, at, sums, StandsIn, children_at, keys_of, keys_at, parent_at, bytes_at, below_at, share, below_of, KeysRise, IsChild, IsArena}
 use Rattle.std.specs.List.{All}
 use Rattle.std.proofs.lemmas.List.Elements.{All-weaker}
 use Rattle.std.proofs.lemmas.List.Sums.{sum_by-set, sum_by-le-sum_by, get_or-le-sum_by}
 use Rattle.std.proofs.lemmas.Bool.{cases_eq}
 use Rattle.allocative_collectors.specs.Listed.{total}
 use Rattle.allocative_collectors.proofs.Keys.{map_same, touched}
-use Rattle.allocative_collectors.proofs.Paths.{paths_set, length-paths}
-use Rattle.allocative_collectors.proofs.Labels.{raise_shape, label_raise, label_same, total_sums}
+use Rattle.allocative_collectors.proofs.Labels.{raise_shape, sums_raise, sums_same, total_sums}
 
 abbrev pub more_below : ℕ → Shape → Shape
 more_below n m = record m { below = m.below + n }
@@ -96,8 +95,4 @@ module _ (ns : List Shape) (ok : IsArena ns) (i : ℕ) (pos : 0 < i) (hi : i < l
 
   -- the bytes are added at the node's place
   pub sums_raised : sums (raised ns i (parent_at ns i) n u) ≡ put i (path_at (sums ns) i) n u (sums ns)
-  sums_raised =
-      let q = parent_at ns i in
-      let same : paths new ≡ paths ns = paths_set mid q (more_below n (at mid q)) refl refl ∙ paths_set ns i (raise_shape n u (at ns i)) refl refl in
-      ap (λ (ps : List Path). label ps new) same
-      ∙ (label_same (paths ns) mid q (more_below n (at mid q)) refl refl ∙ label_raise (paths ns) ns i (path_at (sums ns) i) n u (length-paths ns) hi)
+  sums_raised = sums_same mid (parent_at ns i) (more_below n (at mid (parent_at ns i))) refl ∙ sums_raise ns i (path_at (sums ns) i) n u hi

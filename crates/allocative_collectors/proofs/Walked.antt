@@ -117,7 +117,7 @@ module _ (ns : List Shape) (ok : IsArena ns) where
   -- a path below that of p with k has a child of p with the key k above it or at it
   pub on_way : (n i p : ℕ) → i < n → i < length ns → p < length ns → (k : Key) (q : Path) → path_at (sums ns) i ≡ path_at (sums ns) p ++ k ∷ q → (j : ℕ) × (j < length (keys_at ns p)) × (key_in (keys_at ns p) j ≡ k)
   on_way zero i p lt hi hp k q e = absurd (omega arith)
-  on_way (suc n) zero p lt hi hp k q e = absurd (not_nil _ _ _ (sym e ∙ root_at ns ok))
+  on_way (suc n) zero p lt hi hp k q e = absurd (not_nil _ _ _ (sym e ∙ root_at ns))
   on_way (suc n) (suc i) p lt hi hp k [] e =
       let child = child_of ns ok p hp k (suc i) hi e in
       let place = key_place ns ok p (suc i) child.0 in

@@ -3,7 +3,7 @@ use Rattle.std.specs.Prelude.{◌≡◌, ℕ, ◌<◌, ◌≤◌, List, [], ◌�
 use Rattle.std.specs.List.{All}
 use Rattle.std.specs.declared.cmp.Ordering.TheVariants.{Less, Greater}
 use Rattle.allocative_graph.specs.Path.{Key, Path, key_cmp}
-use Rattle.allocative_collectors.specs.Listed.{Listed}
+use Rattle.allocative_collectors.specs.Listed.{Listed, Sum}
 
 -- A node: its key, the number of its parent, the numbers of its children, the bytes entered at it, whether it was ever
 -- entered as unique, and the bytes entered at its children.
@@ -23,30 +23,20 @@ no_shape = record { key = []; parent = 0; children = []; bytes = 0; is_unique = 
 abbrev pub at : List Shape → ℕ → Shape
 at ns i = slice_index_or ns i no_shape
 
--- ---- the paths
--- The path of a node, where ps are the paths of the nodes before it.
-abbrev pub path_from : List Path → Shape → Path
-path_from ps n = slice_index_or ps n.parent [] ++ n.key ∷ []
+-- ---- the sums
+-- What a node stands for, where ps are the paths of the nodes before it: its path is its parent's with one more key.
+abbrev pub sum_from : List Path → Shape → Sum
+sum_from ps n = record { path = slice_index_or ps n.parent [] ++ n.key ∷ []; bytes = n.bytes; is_unique = n.is_unique }
 
--- The paths ps, followed by those of the nodes ns.
-abbrev pub grow : List Path → List Shape → List Path
-grow ps [] = ps
-grow ps (n ∷ ns) = grow (ps ++ path_from ps n ∷ []) ns
+-- What the nodes ns stand for, where ps are the paths of the nodes before them.
+abbrev pub grow : List Path → List Shape → Listed
+grow ps [] = []
+grow ps (n ∷ ns) = let e = sum_from ps n in e ∷ grow (ps ++ e.path ∷ []) ns
 
--- The paths of the nodes: the first is the root, and each other one is its parent's with one more key.
-abbrev pub paths : List Shape → List Path
-paths [] = []
-paths (n ∷ ns) = grow ([] ∷ []) ns
-
--- Each path with what was entered at its node.
-abbrev pub label : List Path → List Shape → Listed
-label [] ns = []
-label (p ∷ ps) [] = []
-label (p ∷ ps) (n ∷ ns) = record { path = p; bytes = n.bytes; is_unique = n.is_unique } ∷ label ps ns
-
--- The sums that the nodes stand for.
+-- The sums that the nodes stand for. The first node is the root.
 abbrev pub sums : List Shape → Listed
-sums ns = label (paths ns) ns
+sums [] = []
+sums (n ∷ ns) = record { path = []; bytes = n.bytes; is_unique = n.is_unique } ∷ grow ([] ∷ []) ns
 
 -- ---- what a node has
 -- The key of node i.

@@ -33,6 +33,6 @@ returns-clause-ok c =
     let i = c.self.inside in
     let first = not_met i.met.keys c.args.id (sym c.if-not-branch.false ∙ c.in_ok-insert.ensures.added) in
     let now = (λ j. live c.add.new.tree c.insert.new.self.keys 0 (c.in_ok-push.ensures.items j) i.is_rooted)
-        ∙ gone_first c.self.invariant c.in_ok-add.ensures.ok i.met.keys i.is_rooted c.args.id c.insert.new.self.keys (met_more i.met.keys c.insert.new.self.keys c.args.id c.in_ok-insert.ensures.updates.0) refl in
+    ∙ gone_first c.self.invariant c.in_ok-add.ensures.ok i.met.keys i.is_rooted c.args.id c.insert.new.self.keys (met_more i.met.keys c.insert.new.self.keys c.args.id c.in_ok-insert.ensures.updates.0) refl in
     subst (λ (v : Live). (entered v.sums + c.args.size < 2 ^ 63) × MeetsAs c.args.key.now c.args.size c.args.id v true (live c.add.new.tree c.insert.new.self.keys 0 c.push.new.self.items i.is_rooted)) c.self.view_is
     (fits_map c.self.invariant c.in_ok-add.ensures.ok, (first, now))

@@ -9,7 +9,7 @@ use Rattle.allocative_collectors.proofs.tree.Tree.parent.Goals as goal
 pub returns-then-node-eq0-clause-root : goal.returns-then-node-eq0-clause-root
 returns-then-node-eq0-clause-root c =
     let items = c.self.inside.nodes.items in
-    subst (λ (s : Listed). path_at s c.args.node ≡ []) c.self.view_is (ap (path_at (sums_of items)) c.if-node-eq0.true ∙ root_at (map shape items) c.self.invariant.arena)
+    subst (λ (s : Listed). path_at s c.args.node ≡ []) c.self.view_is (ap (path_at (sums_of items)) c.if-node-eq0.true ∙ root_at (map shape items))
 
 pub returns-else-node-eq0-clause-above : goal.returns-else-node-eq0-clause-above
 returns-else-node-eq0-clause-above c =
