@@ -4,11 +4,11 @@ use Rattle.allocative_collectors.proofs.Common.{key_at, Less, ordering_reverse, 
 use Rattle.std.specs.List.{All, insert}
 use Rattle.std.proofs.lemmas.List.Elements.{All-append, All-cons, All-drop, All-take, All-weaker}
 use Rattle.std.proofs.lemmas.List.{get_or_append_left, get_or_push, length_push}
-use Rattle.std.proofs.lemmas.List.Edits.{length-insert}
+use Rattle.std.proofs.lemmas.List.Edits.{length-insert, get_or-insert_below, get_or-insert_at}
 use Rattle.std.proofs.lemmas.List.Sums.{sum_by_push, sum_by-set}
 use Rattle.std.proofs.lemmas.Bool.{cases_order, cases_eq}
 use Rattle.allocative_collectors.proofs.Orders.{key_total}
-use Rattle.allocative_collectors.proofs.Keys.{length-keys_of, map_same, keys_of-insert, insert_below, insert_here, insert_above, stands_insert, touched, pushed}
+use Rattle.allocative_collectors.proofs.Keys.{length-keys_of, map_same, keys_of-insert, insert_above, stands_insert, touched, pushed}
 
 -- a node with no bytes and no children
 abbrev pub leaf : ℕ → Key → Shape
@@ -28,11 +28,11 @@ rise_insert ks k g gap rise i j lt h =
     let within = gap.in_range in
     let after : (j : ℕ) → g ≤ j → j < length ks → key_cmp k (key_in ks j) ≡ Less = λ j le h. key_total.antisymm k (key_in ks j) ∙ ap ordering_reverse (gap.greater_after j le h) in
     elim (cases_order i g) [
-      | inl ei ↦ rw (insert_here ks g k [] within i ei, insert_above ks g k [] within j (omega arith)) (after (j - 1) (omega arith) (omega arith))
+      | inl ei ↦ rw (ei, get_or-insert_at ks g k [] within, insert_above ks g k [] within j (omega arith)) (after (j - 1) (omega arith) (omega arith))
       | inr (inr gt) ↦ rw (insert_above ks g k [] within i gt, insert_above ks g k [] within j (omega arith)) (rise (i - 1) (j - 1) (omega arith) (omega arith))
-      | inr (inl li) ↦ rw (insert_below ks g k [] within i li) (elim (cases_order j g) as (λ _. key_cmp (key_in ks i) (key_in (insert ks g k) j) ≡ Less) [
-        | inl ej ↦ rw (insert_here ks g k [] within j ej) (gap.smaller_before i li)
-        | inr (inl lj) ↦ rw (insert_below ks g k [] within j lj) (rise i j lt (omega arith))
+      | inr (inl li) ↦ rw (get_or-insert_below ks g k [] i li within) (elim (cases_order j g) as (λ _. key_cmp (key_in ks i) (key_in (insert ks g k) j) ≡ Less) [
+        | inl ej ↦ rw (ej, get_or-insert_at ks g k [] within) (gap.smaller_before i li)
+        | inr (inl lj) ↦ rw (get_or-insert_below ks g k [] j lj within) (rise i j lt (omega arith))
         | inr (inr gj) ↦ rw (insert_above ks g k [] within j gj) (rise i (j - 1) (omega arith) (omega arith))
       ])
     ]
@@ -90,7 +90,7 @@ module _ (ns : List Shape) (ok : IsArena ns) (p : ℕ) (hp : p < length ns) (k :
         subst (λ (x : ℕ). StandsIn (children_at new x) i) parent (subst (λ (xs : List ℕ). StandsIn xs i) (sym children_parent) (record {
           place = g;
           in_range = omega (arith, gap_within, length-insert (children_at ns p) g (length ns) gap_within);
-          is = insert_here (children_at ns p) g (length ns) 0 gap_within g refl ∙ sym e;
+          is = get_or-insert_at (children_at ns p) g (length ns) 0 gap_within ∙ sym e;
         }))
     | inr ne ↦
         let inside : i < length ns = omega (arith, length_grown, c.in_range) in

@@ -4,7 +4,7 @@ use Rattle.allocative_collectors.proofs.Common.{Shape, no_shape, at, key_at, key
 use Rattle.std.specs.List.{insert}
 use Rattle.std.proofs.lemmas.List.{length-map, get_or-map, map-append, take-map, drop-map}
 use Rattle.std.proofs.lemmas.Bool.{cases_lt}
-use Rattle.std.proofs.lemmas.List.Edits.{length-insert, get_or-insert_below, get_or-insert_at, get_or-insert_above}
+use Rattle.std.proofs.lemmas.List.Edits.{length-insert, get_or-insert_below, get_or-insert_above}
 
 pub length-keys_of : (ns : List Shape) (xs : List ℕ) → length (keys_of ns xs) ≡ length xs
 length-keys_of ns xs = length-map xs (key_at ns)
@@ -20,25 +20,18 @@ map_same f g (x ∷ xs) same = λ i. same 0 (omega arith) i ∷ map_same f g xs 
 pub keys_of-insert : (ns : List Shape) (xs : List ℕ) (g i : ℕ) → keys_of ns (insert xs g i) ≡ insert (keys_of ns xs) g (key_at ns i)
 keys_of-insert ns xs g i = map-append (key_at ns) (take g xs) (i ∷ drop g xs) ∙ (λ j. sym (take-map (key_at ns) g xs) j ++ key_at ns i ∷ sym (drop-map (key_at ns) g xs) j)
 
--- the items after x was put at place g
-module _ {X : Type 0} (xs : List X) (g : ℕ) (x d : X) (within : g ≤ length xs) where
-  pub insert_below : (j : ℕ) → j < g → get_or (insert xs g x) j d ≡ get_or xs j d
-  insert_below j h = get_or-insert_below xs g x d j h within
-
-  pub insert_here : (j : ℕ) → j ≡ g → get_or (insert xs g x) j d ≡ x
-  insert_here j e = rw e (get_or-insert_at xs g x d within)
-
-  pub insert_above : (j : ℕ) → g < j → get_or (insert xs g x) j d ≡ get_or xs (j - 1) d
-  insert_above j h =
-      let index : j - 1 + 1 ≡ j = omega arith in
-      subst (λ (q : ℕ). get_or (insert xs g x) q d ≡ get_or xs (j - 1) d) index (get_or-insert_above xs g x d (j - 1) (omega arith) within)
+-- an item after place g, where x was put
+pub insert_above : {X : Type 0} (xs : List X) (g : ℕ) (x d : X) → g ≤ length xs → (j : ℕ) → g < j → get_or (insert xs g x) j d ≡ get_or xs (j - 1) d
+insert_above xs g x d within j h =
+    let index : j - 1 + 1 ≡ j = omega arith in
+    subst (λ (q : ℕ). get_or (insert xs g x) q d ≡ get_or xs (j - 1) d) index (get_or-insert_above xs g x d (j - 1) (omega arith) within)
 
 -- a number keeps its standing when another one is put at place g
 pub stands_insert : (xs : List ℕ) (g n i : ℕ) → g ≤ length xs → StandsIn xs i → StandsIn (insert xs g n) i
 stands_insert xs g n i within was =
     let len = length-insert xs g n within in
     elim (cases_lt was.place g) [
-      | inl lt ↦ record { place = was.place; in_range = omega (arith, was.in_range); is = insert_below xs g n 0 within was.place lt ∙ was.is }
+      | inl lt ↦ record { place = was.place; in_range = omega (arith, was.in_range); is = get_or-insert_below xs g n 0 was.place lt within ∙ was.is }
       | inr ge ↦ record { place = was.place + 1; in_range = omega (arith, was.in_range); is = get_or-insert_above xs g n 0 was.place ge within ∙ was.is }
     ]
 

@@ -24,14 +24,11 @@ pub record HalfMade (s : Listed) (i : ℕ) (ks : List Key) (j : ℕ) (w w' : Lis
   pub has : HasPart s (path_at s i) (size_at_place s i) ks j g
   pub total_is : total g ≡ sum_by (size_at_place s) (i ∷ ys)
 
-zero_start : (n : ℕ) → 0 + n ≡ n
-zero_start n = omega arith
-
 pub total-default : total default ≡ 0
 total-default = ap (sum_by (λ e. e.1)) (entries-from_entries-sorted (([], 0) ∷ []) tt)
 
 pub total-alone : (n : ℕ) → total (add_self n default) ≡ n
-total-alone n = total-add_at default ([], n) ∙ (ap (λ (m : ℕ). m + n) total-default ∙ zero_start n)
+total-alone n = omega (arith, total-add_at default ([], n), total-default)
 
 pub half_none : (s : Listed) (i : ℕ) (ks : List Key) (w w' : List Warned) (g : Graph) → g ≡ add_self (size_at_place s i) default → w' ≡ w ++ warned_at s i → HalfMade s i ks 0 w w' g
 half_none s i ks w w' g is written = record {
@@ -39,11 +36,8 @@ half_none s i ks w w' g is written = record {
   part = part_none s (path_at s i) ks;
   warned_are = written ∙ ap (λ (l : List Warned). w ++ l) (sym (append-nil (warned_at s i)));
   has = part_start s (path_at s i) (size_at_place s i) ks g is;
-  total_is = ap total is ∙ (total-alone (size_at_place s i) ∙ (sym (zero_start (size_at_place s i))));
+  total_is = ap total is ∙ omega (arith, total-alone (size_at_place s i), sum_by-cons (size_at_place s) i []);
 }
-
-sums_more : (f : ℕ → ℕ) (i : ℕ) (ys zs : List ℕ) → sum_by f (i ∷ ys) + sum_by f zs ≡ sum_by f (i ∷ (ys ++ zs))
-sums_more f i ys zs = omega (arith, sum_by-cons f i ys, sum_by-cons f i (ys ++ zs), sum_by-append f ys zs)
 
 module _ (s : Listed) (i : ℕ) (ks : List Key) (j : ℕ) (hj : j < length ks) (rise : KeysRise ks) (m : ℕ) (there : path_at s m ≡ path_at s i ++ key_in ks j ∷ []) where
   pub half_more : (w w' w'' : List Warned) (g h c : Graph) → HalfMade s i ks j w w' g → Makes s m w' w'' c → h ≡ sum_of g (under (key_in ks j) c) → HalfMade s i ks (j + 1) w w'' h
@@ -55,8 +49,9 @@ module _ (s : Listed) (i : ℕ) (ks : List Key) (j : ℕ) (hj : j < length ks) (
         warned_are = more_warned s w w' w'' (i ∷ half.ys) (m ∷ child.others) half.warned_are child.warned_are;
         has = part_step s (path_at s i) (size_at_place s i) ks j hj rise g h c half.has (λ q. child.graph_is q ∙ ap (λ (p : Path). graph_at s (p ++ q)) there) is;
         total_is =
-            ap total is ∙ (total-sum_of g (under (key_in ks j) c) ∙ (ap (λ (n : ℕ). total g + n) (total-under (key_in ks j) c)
-            ∙ ((λ k. half.total_is k + child.total_is k) ∙ sums_more (size_at_place s) i half.ys (m ∷ child.others))));
+            let f = size_at_place s in
+            let zs = m ∷ child.others in
+            ap total is ∙ omega (arith, total-sum_of g (under (key_in ks j) c), total-under (key_in ks j) c, half.total_is, child.total_is, sum_by-cons f i half.ys, sum_by-cons f i (half.ys ++ zs), sum_by-append f half.ys zs);
       }
 
 -- ---- totals

@@ -113,8 +113,7 @@ module _ (items longer : List Node) (fresh : Node) (pushed : longer ≡ items ++
   kept_nodes m m_is =
       let ns = map shape items in
       let len : length longer - 1 ≡ length ns = omega (arith, longer_length, length-map items shape) in
-      let there : shape m ≡ get_or (map shape longer) p no_shape = m_is ∙ sym (shape_read longer p n (omega (arith, longer_length)) read) in
-      let same : map shape (set longer p m) ≡ map shape longer = map-set shape longer p m ∙ (ap (set (map shape longer) p) there ∙ set-get_or (map shape longer) p no_shape) in
+      let same = same_shapes longer p n m (omega (arith, longer_length)) read m_is in
       sym (take-map shape (length longer - 1) (set longer p m))
       ∙ (ap (λ (l : List Shape). take (length longer - 1) l) (same ∙ (ap (map shape) pushed ∙ map_push shape items fresh))
       ∙ take_at ns (shape fresh ∷ []) (length longer - 1) (sym len))

@@ -194,11 +194,7 @@ impl Tree {
         ensures { result ≡ is_short self.now at }
     {
         let node = &self.nodes[at];
-        if at == 0 || node.is_unique {
-            false
-        } else {
-            node.bytes < node.below
-        }
+        at != 0 && !node.is_unique && node.bytes < node.below
     }
 
     /// The child of the node `at` that has the key. It is made where there is none.
