@@ -85,10 +85,7 @@ find_at (e ∷ s) apart (suc i) h =
     ∙ find_at s (tail_distinct e s apart) i (omega arith)
 
 pub found_at : (q : Path) (s : Listed) (v : Node) → find path_cmp q (map row s) ≡ Some v → (i : ℕ) × (i < length s) × (path_at s i ≡ q)
-found_at q [] v w = absurd (is_none w)
-  where
-    is_none : ◌≡◌ {A = Option Node} None (Some v) → ⊥
-    is_none w = true≢false (sym (ap (λ (o : Option Node). elim o as (λ _. Bool) [ Some x ↦ true | None ↦ false ]) w))
+found_at q [] v w = absurd (cc)
 found_at q (e ∷ s) v w = elim (cases_Bool (is_same_path q e.path)) [
   | inl hit ↦ (0, omega arith, sym (same_path q e.path hit))
   | inr miss ↦ (let later = found_at q s v (sym (cond-false (is_same_path q e.path) (Some (row e).1) (find path_cmp q (map row s)) miss) ∙ w) in (suc later.0, omega (arith, later.1), later.2))
@@ -110,8 +107,7 @@ got (r ∷ s) q v w = (let a = found_at q s v (sym (get-map_of (r ∷ s) q) ∙ 
 
 -- ---- the graph
 nothing_left : (u : Bool) (n b : ℕ) → n ≡ 0 → cond u n (n - b) ≡ 0
-nothing_left true n b e = e
-nothing_left false n b e = omega (arith, e)
+nothing_left u n b e = grind (arith, nat_tests)
 
 pub graph_hit : (s : Listed) → IsListing s → (i : ℕ) → i < length s → get (graph (map_of s)) (path_at s i) ≡ Some (size_at_place s i)
 graph_hit s ok zero h =
