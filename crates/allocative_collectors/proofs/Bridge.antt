@@ -1,5 +1,5 @@
 -- The listed sums as a map: what it has at each place, and after one more entry.
-use Rattle.std.proofs.Common.{◌≡◌, ◌≢◌, ℕ, zero, suc, ◌-◌, ◌<◌, Bool, true, false, cond, [], ◌∷◌, ◌++◌, map, length, Option, Some, None, refl, sym, ap, ◌∙◌, true≢false, arith, inl, inr, sum_by}
+use Rattle.std.proofs.Common.{◌≡◌, ◌≢◌, ℕ, zero, suc, ◌-◌, ◌<◌, Bool, true, false, cond, [], ◌∷◌, ◌++◌, map, length, Option, Some, None, refl, sym, ap, ◌∙◌, arith, inl, inr, sum_by}
 use Rattle.allocative_collectors.proofs.Common.{Sums, get, find, Key, Path, path_cmp, is_same_path, is_one_below, is_unique_mark, graph, Sum, Listed, put, IsEntered, sum_at, path_at, row, map_of, size_at_place}
 use Rattle.std.specs.FinMap.{from_entries, get-from_entries, insert}
 use Rattle.std.specs.Option.{option_map}
