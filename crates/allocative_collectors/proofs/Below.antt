@@ -1,16 +1,15 @@
 -- The bytes that a node stores as those of its children are those of the sums one key below.
-use Rattle.std.proofs.Common.{◌≡◌, ◌≢◌, ℕ, zero, suc, ◌-◌, ◌<◌, Bool, true, false, not, ◌&&◌, List, [], ◌∷◌, ◌++◌, length, get_or, sum_by, refl, sym, ap, ◌∙◌, arith, inl, inr, cond, eqb, ltb, eq-eqb, ne_eqb, lt-ltb}
-use Rattle.allocative_collectors.proofs.Common.{Ordering, Less, Equal, Greater, is_eq, ordering_then, ordering_reverse, Key, Path, key_cmp, path_cmp, is_same_path, Sum, root_sum, sum_at, path_at, map_of, Shape, no_shape, at, paths, sums, key_at, parent_at, bytes_at, below_at, share, IsArena, is_one_below, is_root, below, size_at_place, is_short}
+use Rattle.std.proofs.Common.{◌≡◌, ℕ, zero, suc, ◌<◌, Bool, true, false, not, ◌&&◌, List, [], ◌∷◌, ◌++◌, length, get_or, sum_by, refl, sym, ap, ◌∙◌, arith, inl, inr, cond, eqb, ltb, eq-eqb, ne_eqb, lt-ltb}
+use Rattle.allocative_collectors.proofs.Common.{Ordering, Less, Equal, Greater, is_eq, ordering_then, ordering_reverse, Key, Path, key_cmp, path_cmp, is_same_path, Sum, root_sum, sum_at, path_at, map_of, Shape, no_shape, at, sums, key_at, parent_at, bytes_at, below_at, share, IsArena, is_one_below, is_root, below}
 use Rattle.std.specs.Ordering.{eq_by_cmp}
 use Rattle.std.proofs.lemmas.List.Sums.{sum_by-cons}
 use Rattle.std.proofs.lemmas.Bool.{cases_eq, cond-true, cond-false}
 use Rattle.allocative_collectors.proofs.Bridge.{IsListing, below_listed, not_below_root}
 use Rattle.allocative_collectors.proofs.Orders.{key_total, same_path-same, same_path-apart}
-use Rattle.allocative_collectors.proofs.Paths.{paths_at, paths_root, distinct}
-use Rattle.allocative_collectors.proofs.Labels.{length_sums, path_sums, get_sums, unique_at}
+use Rattle.allocative_collectors.proofs.Labels.{length_sums, figures_sums, root_at, step, distinct}
 
 -- two sums are equal where their terms are
-same_sum : {X Y : Type 0} (f : X → ℕ) (g : Y → ℕ) (d : X) (e : Y) (xs : List X) (ys : List Y) → length xs ≡ length ys → ((i : ℕ) → i < length xs → f (get_or xs i d) ≡ g (get_or ys i e)) → sum_by f xs ≡ sum_by g ys
+pub same_sum : {X Y : Type 0} (f : X → ℕ) (g : Y → ℕ) (d : X) (e : Y) (xs : List X) (ys : List Y) → length xs ≡ length ys → ((i : ℕ) → i < length xs → f (get_or xs i d) ≡ g (get_or ys i e)) → sum_by f xs ≡ sum_by g ys
 same_sum f g d e [] [] l same = refl
 same_sum f g d e [] (y ∷ ys) l same = absurd (omega arith)
 same_sum f g d e (x ∷ xs) [] l same = absurd (omega arith)
@@ -42,49 +41,34 @@ step_push (j ∷ p) (l ∷ q) k = ap (λ (b : Bool). eq_by_cmp key_cmp j l && b)
 pub listing : (ns : List Shape) → IsArena ns → IsListing (sums ns)
 listing ns ok = record {
   rooted = omega (arith, length_sums ns, ok.rooted);
-  root_path = path_sums ns 0 ok.rooted ∙ paths_root ns;
-  root_bytes = ap (λ (e : Sum). e.bytes) (get_sums ns 0 ok.rooted) ∙ ok.root_empty;
-  apart = λ i j hi hj e. (let a : i < length ns = omega (arith, length_sums ns) in let b : j < length ns = omega (arith, length_sums ns) in distinct ns ok i j a b (sym (path_sums ns i a) ∙ (e ∙ path_sums ns j b)));
+  root_path = root_at ns;
+  root_bytes = (figures_sums ns 0).0 ∙ ok.root_empty;
+  apart = λ i j hi hj. distinct ns ok i j (omega (arith, length_sums ns)) (omega (arith, length_sums ns));
 }
 
 module _ (ns : List Shape) (ok : IsArena ns) (i : ℕ) (hi : i < length ns) where
-  term : (j : ℕ) → j < length ns → share i (at ns j) ≡ (let e = sum_at (sums ns) j in cond (is_one_below (path_at (sums ns) i) e.path) e.bytes 0)
+  -- the bytes of a node below a path, with its own path and bytes
+  abbrev part : Path → ℕ → ℕ
+  part q n = cond (is_one_below (path_at (sums ns) i) q) n 0
+
+  term : (j : ℕ) → j < length ns → share i (at ns j) ≡ (let e = sum_at (sums ns) j in part e.path e.bytes)
   term zero h =
-      let e = get_sums ns 0 h in
       let none : share i (at ns 0) ≡ 0 = elim (cases_eq (parent_at ns 0) i) [
         | inl same ↦ cond-true (eqb (parent_at ns 0) i) _ _ (eq-eqb (parent_at ns 0) i same) ∙ ok.root_empty
         | inr other ↦ cond-false (eqb (parent_at ns 0) i) _ _ (ne_eqb (parent_at ns 0) i other)
       ] in
-      let root : get_or (paths ns) 0 [] ≡ [] = paths_root ns in
-      none ∙ sym (ap (λ (x : Sum). cond (is_one_below (path_at (sums ns) i) x.path) x.bytes 0) e ∙ ap (λ (x : Path). cond (is_one_below (path_at (sums ns) i) x) (bytes_at ns 0) 0) root ∙ ap (λ (b : Bool). cond b (bytes_at ns 0) 0) (not_below_root (path_at (sums ns) i)))
+      none ∙ sym ((λ k. part (root_at ns k) ((figures_sums ns 0).0 k)) ∙ ap (λ (b : Bool). cond b (bytes_at ns 0) 0) (not_below_root (path_at (sums ns) i)))
   term (suc j) h =
-      let e = get_sums ns (suc j) h in
-      let lt = ok.parents (suc j) (omega arith) h in
       let q = parent_at ns (suc j) in
-      let hq : q < length ns = omega arith in
-      let path = paths_at ns (suc j) (omega arith) h lt in
-      let test : is_one_below (path_at (sums ns) i) (get_or (paths ns) (suc j) []) ≡ is_same_path (path_at (sums ns) q) (path_at (sums ns) i) =
-      ap (is_one_below (path_at (sums ns) i)) path ∙ (step_push (path_at (sums ns) i) _ _ ∙ ap (λ (x : Path). is_same_path x (path_at (sums ns) i)) (sym (path_sums ns q hq))) in
-      let right : (let x = sum_at (sums ns) (suc j) in cond (is_one_below (path_at (sums ns) i) x.path) x.bytes 0) ≡ cond (is_same_path (path_at (sums ns) q) (path_at (sums ns) i)) (bytes_at ns (suc j)) 0 =
-      ap (λ (x : Sum). cond (is_one_below (path_at (sums ns) i) x.path) x.bytes 0) e ∙ ap (λ (b : Bool). cond b (bytes_at ns (suc j)) 0) test in
+      let lt = ok.parents (suc j) (omega arith) h in
+      let right = (λ k. part (step ns ok (suc j) (omega arith) h k) ((figures_sums ns (suc j)).0 k)) ∙ ap (λ (b : Bool). cond b (bytes_at ns (suc j)) 0) (step_push (path_at (sums ns) i) (path_at (sums ns) q) (key_at ns (suc j))) in
       elim (cases_eq q i) [
         | inl same ↦ cond-true (eqb q i) _ _ (eq-eqb q i same) ∙ sym (right ∙ cond-true _ _ _ (same_path-same _ _ (ap (path_at (sums ns)) same)))
-        | inr other ↦
-            let apart : path_at (sums ns) q ≢ path_at (sums ns) i = λ s. other (distinct ns ok q i hq hi (sym (path_sums ns q hq) ∙ (s ∙ path_sums ns i hi))) in
-            cond-false (eqb q i) _ _ (ne_eqb q i other) ∙ sym (right ∙ cond-false _ _ _ (same_path-apart _ _ apart))
+        | inr other ↦ cond-false (eqb q i) _ _ (ne_eqb q i other) ∙ sym (right ∙ cond-false _ _ _ (same_path-apart _ _ (λ s. other (distinct ns ok q i (omega arith) hi s))))
       ]
 
   pub below_is : below_at ns i ≡ below (map_of (sums ns)) (path_at (sums ns) i)
-  below_is = ok.below i hi ∙ (same_sum (share i) (λ (e : Sum). cond (is_one_below (path_at (sums ns) i) e.path) e.bytes 0) no_shape root_sum ns (sums ns) (sym (length_sums ns)) term ∙ below_listed (sums ns) (listing ns ok) (path_at (sums ns) i))
-
-  pub bytes_is : (let e = sum_at (sums ns) i in e.bytes) ≡ bytes_at ns i
-  bytes_is = ap (λ (e : Sum). e.bytes) (get_sums ns i hi)
-
-  pub unique_is : (let e = sum_at (sums ns) i in e.is_unique) ≡ unique_at ns i
-  unique_is = ap (λ (e : Sum). e.is_unique) (get_sums ns i hi)
-
-  pub size_is : size_at_place (sums ns) i ≡ cond (unique_at ns i) (bytes_at ns i) (bytes_at ns i - below_at ns i)
-  size_is = λ j. cond (unique_is j) (bytes_is j) (bytes_is j - sym below_is j)
+  below_is = ok.below i ∙ (same_sum (share i) (λ (e : Sum). part e.path e.bytes) no_shape root_sum ns (sums ns) (sym (length_sums ns)) term ∙ below_listed (sums ns) (listing ns ok) (path_at (sums ns) i))
 
   -- the root alone has the empty path
   pub has_key : not (is_root (path_at (sums ns) i)) ≡ ltb 0 i
@@ -95,10 +79,5 @@ module _ (ns : List Shape) (ok : IsArena ns) (i : ℕ) (hi : i < length ns) wher
       pushed (l ∷ p) k = refl
 
       by_place : (i : ℕ) → i < length ns → not (is_root (path_at (sums ns) i)) ≡ ltb 0 i
-      by_place zero h = ap (λ (p : Path). not (is_root p)) (path_sums ns 0 h ∙ paths_root ns)
-      by_place (suc j) h =
-          let path = path_sums ns (suc j) h ∙ paths_at ns (suc j) (omega arith) h (ok.parents (suc j) (omega arith) h) in
-          ap (λ (p : Path). not (is_root p)) path ∙ (ap not (pushed (get_or (paths ns) (parent_at ns (suc j)) []) (key_at ns (suc j))) ∙ sym (lt-ltb 0 (suc j) (omega arith)))
-
-  pub short_is : is_short (sums ns) i ≡ (ltb 0 i && not (unique_at ns i) && ltb (bytes_at ns i) (below_at ns i))
-  short_is = λ j. has_key j && not (unique_is j) && ltb (bytes_is j) (sym below_is j)
+      by_place zero h = ap (λ (p : Path). not (is_root p)) (root_at ns)
+      by_place (suc j) h = ap (λ (p : Path). not (is_root p)) (step ns ok (suc j) (omega arith) h) ∙ (ap not (pushed _ (key_at ns (suc j))) ∙ sym (lt-ltb 0 (suc j) (omega arith)))

@@ -1,92 +1,71 @@
 -- The listed sums as a map: what it has at each place, and after one more entry.
-use Rattle.std.proofs.Common.{◌≡◌, ◌≢◌, ℕ, zero, suc, ◌+◌, ◌-◌, ◌<◌, Bool, true, false, cond, List, [], ◌∷◌, ◌++◌, map, length, Option, Some, None, refl, sym, ap, ◌∙◌, true≢false, arith, inl, inr, sum_by, unwrap_or}
-use Rattle.allocative_collectors.proofs.Common.{get, entries, find, Key, Path, path_cmp, is_same_path, is_one_below, Sums, is_unique_mark, entered, graph, Sum, Listed, raise, add, sum_at, path_at, row, map_of, size_at_place}
-use Rattle.std.specs.FinMap.{from_entries, get-from_entries, get-entries, entries-insert, entries_sorted}
+use Rattle.std.proofs.Common.{◌≡◌, ◌≢◌, ℕ, zero, suc, ◌-◌, ◌<◌, Bool, true, false, cond, [], ◌∷◌, ◌++◌, map, length, Option, Some, None, refl, sym, ap, ◌∙◌, arith, inl, inr, sum_by}
+use Rattle.allocative_collectors.proofs.Common.{Sums, get, find, Key, Path, path_cmp, is_same_path, is_one_below, is_unique_mark, graph, Sum, Listed, put, IsEntered, sum_at, path_at, row, map_of, size_at_place}
+use Rattle.std.specs.FinMap.{from_entries, get-from_entries, insert}
 use Rattle.std.specs.Option.{option_map}
+use Rattle.std.proofs.lemmas.Bool.Decides.{nat_tests}
 use Rattle.std.proofs.lemmas.Bool.{cases_Bool, cond-true, cond-false}
-use Rattle.std.proofs.lemmas.Cmp.{eq_by_cmp_equiv}
 use Rattle.std.proofs.lemmas.List.Sums.{sum_by-cons}
-use Rattle.allocative_graph.specs.Forest.{Entry}
+use Rattle.allocative_graph.specs.Forest.{Mark, Entry, AsInline, AsUnique}
 use Rattle.allocative_graph.specs.Sums.{Node, together, node_of}
 use Rattle.allocative_graph.specs.Sums as bag
 use Rattle.allocative_graph.specs.Graph.{remaining}
 use Rattle.allocative_graph.proofs.Basics.{path_total, same_path}
 use Rattle.allocative_graph.proofs.Lookups.{get-add, same_sums}
-use Rattle.allocative_graph.proofs.Below.{entered-add}
 use Rattle.allocative_graph.proofs.Computed.{entries-empty}
-use Rattle.allocative_graph.proofs.Graphs.{weights-put}
+use Rattle.allocative_graph.proofs.Below.{below-add}
 use Rattle.allocative_graph.proofs.Merge.{get-graph, get-graph-root}
 use Rattle.allocative_collectors.specs.Listed.{rows}
 use Rattle.allocative_collectors.proofs.Orders.{same_path-same, same_path-apart}
 
-pub same_turned : (p q : Path) → is_same_path p q ≡ is_same_path q p
-same_turned p q = (eq_by_cmp_equiv path_total).symm p q
-
 pub get-map_of : (s : Listed) (q : Path) → get (map_of s) q ≡ find path_cmp q (rows s)
 get-map_of s q = get-from_entries path_total (rows s) q
+
+tail_apart : (r e : ℕ) → suc r ≡ suc e → r ≡ e
+tail_apart r e w = omega arith
 
 -- ---- one more entry
 abbrev new_node : ℕ → Bool → Node
 new_node n u = record { bytes = n; is_unique = u }
 
-find-add : (p q : Path) (n : ℕ) (u : Bool) (s : Listed) → find path_cmp q (map row (add p n u s)) ≡ cond (is_same_path q p) (Some (together (find path_cmp p (map row s)) (new_node n u))) (find path_cmp q (map row s))
-find-add p q n u [] = refl
-find-add p q n u (e ∷ rest) = elim (cases_Bool (is_same_path e.path p)) [
-  | inl hit ↦
-      let e_is : e.path ≡ p = same_path e.path p hit in
-      let seen : is_same_path q e.path ≡ is_same_path q p = ap (is_same_path q) e_is in
-      let itself : is_same_path p e.path ≡ true = same_turned p e.path ∙ hit in
-      ap (λ (s : Listed). find path_cmp q (map row s)) (cond-true (is_same_path e.path p) (raise n u e ∷ rest) (e ∷ add p n u rest) hit)
-      ∙ ap (λ (b : Bool). cond b (Some (together (Some (row e).1) (new_node n u))) (find path_cmp q (map row rest))) seen
-      ∙ both (is_same_path q p) (Some (together (Some (row e).1) (new_node n u))) (Some (row e).1) (find path_cmp q (map row rest))
-      ∙ ap (λ (b : Bool). cond (is_same_path q p) (Some (together (Some (row e).1) (new_node n u))) (cond b (Some (row e).1) (find path_cmp q (map row rest)))) (sym seen)
-      ∙ ap (λ (b : Bool). cond (is_same_path q p) (Some (together (cond b (Some (row e).1) (find path_cmp p (map row rest))) (new_node n u))) (cond (is_same_path q e.path) (Some (row e).1) (find path_cmp q (map row rest)))) (sym itself)
-  | inr miss ↦
-      let other : is_same_path p e.path ≡ false = same_turned p e.path ∙ miss in
-      ap (λ (s : Listed). find path_cmp q (map row s)) (cond-false (is_same_path e.path p) (raise n u e ∷ rest) (e ∷ add p n u rest) miss)
-      ∙ ap (λ (o : Option Node). cond (is_same_path q e.path) (Some (row e).1) o) (find-add p q n u rest)
-      ∙ swapped (is_same_path q e.path) (is_same_path q p) (Some (row e).1) (Some (together (find path_cmp p (map row rest)) (new_node n u))) (find path_cmp q (map row rest))
-      (λ a b. true≢false (sym (same_path-same p e.path (sym (same_path q p b) ∙ same_path q e.path a)) ∙ other))
-      ∙ ap (λ (b : Bool). cond (is_same_path q p) (Some (together (cond b (Some (row e).1) (find path_cmp p (map row rest))) (new_node n u))) (cond (is_same_path q e.path) (Some (row e).1) (find path_cmp q (map row rest)))) (sym other)
-]
+find-put : (i : ℕ) (p q : Path) (n : ℕ) (u : Bool) (s : Listed) → path_at (put i p n u s) i ≡ p → ((j : ℕ) → j < length s → path_at s j ≡ p → j ≡ i) → find path_cmp q (map row (put i p n u s)) ≡ cond (is_same_path q p) (Some (together (find path_cmp p (map row s)) (new_node n u))) (find path_cmp q (map row s))
+find-put i p q n u [] is sole = refl
+find-put zero p q n u (e ∷ s) is sole =
+    let seen : is_same_path q e.path ≡ is_same_path q p = ap (is_same_path q) is in
+    let itself : is_same_path p e.path ≡ true = same_path-same p e.path (sym is) in
+    rw (seen, itself) (both (is_same_path q p) _ _ _)
   where
     both : (b : Bool) (x y z : Option Node) → cond b x z ≡ cond b x (cond b y z)
-    both true x y z = refl
-    both false x y z = refl
-
+    both b x y z = grind (arith, nat_tests)
+find-put (suc i) p q n u (e ∷ s) is sole =
+    let apart : p ≢ e.path = λ w. (let same : 0 ≡ suc i = sole 0 (omega arith) (sym w) in omega arith) in
+    let other : is_same_path p e.path ≡ false = same_path-apart p e.path apart in
+    rw (other, find-put i p q n u s is (λ j h w. tail_apart j i (sole (suc j) (omega arith) w)))
+    (swapped (is_same_path q e.path) (is_same_path q p) _ _ _ (λ a b. apart (sym (same_path q p b) ∙ same_path q e.path a)))
+  where
     swapped : (a b : Bool) (x y z : Option Node) → (a ≡ true → b ≡ true → ⊥) → cond a x (cond b y z) ≡ cond b y (cond a x z)
-    swapped true true x y z apart = absurd (apart refl refl)
-    swapped true false x y z apart = refl
-    swapped false true x y z apart = refl
-    swapped false false x y z apart = refl
+    swapped a b x y z apart = grind (arith, nat_tests)
 
 -- an entry below the root is added to the map too
-pub map_of-add : (s : Listed) (e : Entry) (u : Bool) → 0 < length s → path_at s 0 ≡ [] → e.path ≢ [] → is_unique_mark e.mark ≡ u → map_of (add e.path e.size u s) ≡ bag.add (map_of s) e
-map_of-add [] e u h root not_root mark = absurd (omega arith)
-map_of-add (r ∷ s) e u h root not_root mark =
-    ap map_of (cond-false (is_same_path r.path e.path) (raise e.size u r ∷ s) (r ∷ add e.path e.size u s) (same_path-apart r.path e.path (λ w. not_root (sym w ∙ root))))
-    ∙ same_sums _ _ (λ q. get-from_entries path_total (map row (add e.path e.size u s)) q ∙ (find-add e.path q e.size u s
-    ∙ (λ i. cond (is_same_path q e.path) (Some (together (sym (get-from_entries path_total (map row s) e.path) i) (record { bytes = e.size; is_unique = sym mark i }))) (sym (get-from_entries path_total (map row s) q) i))
-    ∙ sym (get-add (map_of (r ∷ s)) e q)))
-
-pub entered-map_of : (s : Listed) (e : Entry) (u : Bool) → 0 < length s → path_at s 0 ≡ [] → e.path ≢ [] → is_unique_mark e.mark ≡ u → entered (map_of (add e.path e.size u s)) ≡ entered (map_of s) + e.size
-entered-map_of s e u h root not_root mark = ap entered (map_of-add s e u h root not_root mark) ∙ entered-add (map_of s) e
-
-is_nil : Path → Bool
-is_nil [] = true
-is_nil (k ∷ p) = false
-
-pub not_nil : (k : Key) (p : Path) → k ∷ p ≢ []
-unfolding is_nil
-not_nil k p e = true≢false (sym (ap is_nil e))
-
-pub not_root : (p : Path) (k : Key) → p ++ k ∷ [] ≢ []
-not_root [] k = not_nil k []
-not_root (l ∷ p) k = not_nil l (p ++ k ∷ [])
+pub map_of-entered : {old new : Listed} {at : ℕ} {k : Key} {n : ℕ} {u : Bool} {i : ℕ} → IsEntered old new at k n u i → 0 < length old → (m : Mark) → is_unique_mark m ≡ u → map_of new ≡ bag.add (map_of old) (record { path = path_at old at ++ k ∷ []; size = n; mark = m })
+map_of-entered {old} {at = at} {k = k} {n = n} {u = u} {i = i} entered some m mark =
+    ap map_of entered.sums ∙ by old i entered.not_root some (ap (λ (s : Listed). path_at s i) (sym entered.sums) ∙ entered.path) entered.sole
+  where
+    by : (s : Listed) (i : ℕ) → 0 < i → 0 < length s → path_at (put i (path_at old at ++ k ∷ []) n u s) i ≡ path_at old at ++ k ∷ [] → ((j : ℕ) → j < length s → path_at s j ≡ path_at old at ++ k ∷ [] → j ≡ i) → map_of (put i (path_at old at ++ k ∷ []) n u s) ≡ bag.add (map_of s) (record { path = path_at old at ++ k ∷ []; size = n; mark = m })
+    by s zero pos some is sole = absurd (omega arith)
+    by [] (suc i) pos some is sole = absurd (omega arith)
+    by (r ∷ s) (suc i) pos some is sole =
+        let p : Path = path_at old at ++ k ∷ [] in
+        same_sums _ _ (λ q. get-from_entries path_total (map row (put i p n u s)) q ∙ (find-put i p q n u s is (λ j h w. tail_apart j i (sole (suc j) (omega arith) w))
+        ∙ (λ x. cond (is_same_path q p) (Some (together (sym (get-from_entries path_total (map row s) p) x) (record { bytes = n; is_unique = sym mark x }))) (sym (get-from_entries path_total (map row s) q) x))
+        ∙ sym (get-add (map_of (r ∷ s)) (record { path = p; size = n; mark = m }) q)))
 
 -- ---- the places of different paths
 abbrev pub Distinct : Listed → Type 0
 Distinct s = (i j : ℕ) → i < length s → j < length s → path_at s i ≡ path_at s j → i ≡ j
+
+tail_distinct : (e : Sum) (s : Listed) → Distinct (e ∷ s) → Distinct s
+tail_distinct e s apart a b ha hb w = tail_apart a b (apart (suc a) (suc b) (omega arith) (omega arith) w)
 
 pub record IsListing (s : Listed) : Type 0 where
   pub rooted : 0 < length s
@@ -98,31 +77,25 @@ find_none : (q : Path) (s : Listed) → ((i : ℕ) → i < length s → path_at 
 find_none q [] other = refl
 find_none q (e ∷ s) other = cond-false (is_same_path q e.path) _ _ (same_path-apart q e.path (λ w. other 0 (omega arith) (sym w))) ∙ find_none q s (λ i h. other (suc i) (omega arith))
 
-find_at : (s : Listed) → Distinct s → (i : ℕ) → i < length s → find path_cmp (path_at s i) (map row s) ≡ Some (row (sum_at s i)).1
+pub find_at : (s : Listed) → Distinct s → (i : ℕ) → i < length s → find path_cmp (path_at s i) (map row s) ≡ Some (row (sum_at s i)).1
 find_at [] apart i h = absurd (omega arith)
 find_at (e ∷ s) apart zero h = cond-true (is_same_path e.path e.path) _ _ (same_path-same e.path e.path refl)
 find_at (e ∷ s) apart (suc i) h =
     cond-false (is_same_path (path_at s i) e.path) _ _ (same_path-apart (path_at s i) e.path (λ w. (let same : suc i ≡ 0 = apart (suc i) 0 h (omega arith) w in omega arith)))
-    ∙ find_at s (λ a b ha hb w. (let same : suc a ≡ suc b = apart (suc a) (suc b) (omega arith) (omega arith) w in omega arith)) i (omega arith)
+    ∙ find_at s (tail_distinct e s apart) i (omega arith)
 
 pub found_at : (q : Path) (s : Listed) (v : Node) → find path_cmp q (map row s) ≡ Some v → (i : ℕ) × (i < length s) × (path_at s i ≡ q)
-found_at q [] v w = absurd (is_none w)
-  where
-    is_none : ◌≡◌ {A = Option Node} None (Some v) → ⊥
-    is_none w = true≢false (sym (ap (λ (o : Option Node). elim o as (λ _. Bool) [ Some x ↦ true | None ↦ false ]) w))
+found_at q [] v w = absurd (cc)
 found_at q (e ∷ s) v w = elim (cases_Bool (is_same_path q e.path)) [
   | inl hit ↦ (0, omega arith, sym (same_path q e.path hit))
   | inr miss ↦ (let later = found_at q s v (sym (cond-false (is_same_path q e.path) (Some (row e).1) (find path_cmp q (map row s)) miss) ∙ w) in (suc later.0, omega (arith, later.1), later.2))
 ]
 
 -- ---- what the map has
-tail_apart : (r e : ℕ) → suc r ≡ suc e → r ≡ e
-tail_apart r e w = omega arith
-
 pub get_at : (s : Listed) → IsListing s → (i : ℕ) → 0 < i → i < length s → get (map_of s) (path_at s i) ≡ Some (row (sum_at s i)).1
 get_at [] ok i pos h = absurd (omega arith)
 get_at (r ∷ s) ok zero pos h = absurd (omega arith)
-get_at (r ∷ s) ok (suc i) pos h = get-map_of (r ∷ s) (path_at s i) ∙ find_at s (λ a b ha hb w. tail_apart a b (ok.apart (suc a) (suc b) (omega arith) (omega arith) w)) i (omega arith)
+get_at (r ∷ s) ok (suc i) pos h = get-map_of (r ∷ s) (path_at s i) ∙ find_at s (tail_distinct r s ok.apart) i (omega arith)
 
 pub get_none : (s : Listed) → (q : Path) → ((i : ℕ) → i < length s → path_at s i ≢ q) → get (map_of s) q ≡ None
 get_none [] q other = get-map_of [] q
@@ -134,8 +107,7 @@ got (r ∷ s) q v w = (let a = found_at q s v (sym (get-map_of (r ∷ s) q) ∙ 
 
 -- ---- the graph
 nothing_left : (u : Bool) (n b : ℕ) → n ≡ 0 → cond u n (n - b) ≡ 0
-nothing_left true n b e = e
-nothing_left false n b e = omega (arith, e)
+nothing_left u n b e = grind (arith, nat_tests)
 
 pub graph_hit : (s : Listed) → IsListing s → (i : ℕ) → i < length s → get (graph (map_of s)) (path_at s i) ≡ Some (size_at_place s i)
 graph_hit s ok zero h =
@@ -155,39 +127,23 @@ graph_none s ok [] other = absurd (other 0 ok.rooted ok.root_path)
 graph_none s ok (k ∷ q) other = get-graph (map_of s) k q ∙ ap (option_map (remaining (map_of s) (k ∷ q))) (get_none s (k ∷ q) other)
 
 -- ---- sums over the map
-abbrev Apart : List (Path × Node) → Type 0
-Apart [] = Unit {0}
-Apart (e ∷ es) = (find path_cmp e.0 es ≡ None) × Apart es
+abbrev pub mark_of : Bool → Mark
+mark_of u = cond u AsUnique AsInline
 
-module _ (weight : Path → Node → ℕ) where
-  abbrev weights : List (Path × Node) → ℕ
-  weights es = sum_by (λ e. weight e.0 e.1) es
+pub mark_is : (u : Bool) → is_unique_mark (mark_of u) ≡ u
+mark_is true = refl
+mark_is false = refl
 
-  at_start : (n : ℕ) → n ≡ 0 + n
-  at_start n = omega arith
-
-  in_front : (m n : ℕ) → m + n ≡ n + m
-  in_front m n = omega arith
-
-  weights-from_entries : (es : List (Path × Node)) → Apart es → weights (entries (from_entries {R = path_cmp} es)) ≡ weights es
-  weights-from_entries [] h = ap weights (entries-empty)
-  weights-from_entries (e ∷ es) h =
-      let none : find path_cmp e.0 (entries (from_entries {R = path_cmp} es)) ≡ None = sym (get-entries (from_entries es) e.0) ∙ (get-from_entries path_total es e.0 ∙ h.0) in
-      ap weights (entries-insert path_total (from_entries es) e.0 e.1)
-      ∙ weights-put weight e.0 e.1 (weight e.0 e.1) (entries (from_entries es)) (entries_sorted (from_entries es)) (at_start (weight e.0 e.1) ∙ ap (λ (o : Option Node). unwrap_or (option_map (weight e.0) o) 0 + weight e.0 e.1) (sym none))
-      ∙ ap (λ (n : ℕ). n + weight e.0 e.1) (weights-from_entries es h.1)
-      ∙ (in_front (weights es) (weight e.0 e.1) ∙ sym (sum_by-cons (λ e. weight e.0 e.1) e es))
-
-  weights-row : (s : Listed) → weights (map row s) ≡ sum_by (λ e. weight (row e).0 (row e).1) s
-  weights-row [] = refl
-  weights-row (e ∷ s) = sum_by-cons (λ e. weight e.0 e.1) (row e) (map row s) ∙ (ap (λ (n : ℕ). weight (row e).0 (row e).1 + n) (weights-row s) ∙ sym (sum_by-cons (λ e. weight (row e).0 (row e).1) e s))
-
-apart-rows : (s : Listed) → Distinct s → Apart (map row s)
-apart-rows [] apart = tt
-apart-rows (e ∷ s) apart = (
-  find_none e.path s (λ i h w. (let same : suc i ≡ 0 = apart (suc i) 0 (omega arith) (omega arith) w in omega arith)),
-  apart-rows s (λ a b ha hb w. tail_apart a b (apart (suc a) (suc b) (omega arith) (omega arith) w)),
-)
+-- rows with different paths have the same bytes below p as their map
+below_rows : (s : Listed) → Distinct s → (p : Path) → bag.below (from_entries (map row s)) p ≡ sum_by (λ e. cond (is_one_below p e.path) e.bytes 0) s
+below_rows [] apart p = ap (sum_by (λ (e : Path × Node). cond (is_one_below p e.0) e.1.bytes 0)) entries-empty
+below_rows (e ∷ s) apart p =
+    let entry : Entry = record { path = e.path; size = e.bytes; mark = mark_of e.is_unique } in
+    let none = get-from_entries path_total (map row s) e.path ∙ find_none e.path s (λ i h w. (let same : suc i ≡ 0 = apart (suc i) 0 (omega arith) (omega arith) w in omega arith)) in
+    let added : from_entries (map row (e ∷ s)) ≡ bag.add (from_entries (map row s)) entry =
+    λ j. insert (from_entries (map row s)) e.path (together (sym none j) (record { bytes = e.bytes; is_unique = sym (mark_is e.is_unique) j })) in
+    let rest = below_rows s (tail_distinct e s apart) p in
+    ap (λ (m : Sums). bag.below m p) added ∙ (below-add (from_entries (map row s)) entry p ∙ omega (arith, sum_by-cons (λ (x : Sum). cond (is_one_below p x.path) x.bytes 0) e s))
 
 pub not_below_root : (p : Path) → is_one_below p [] ≡ false
 not_below_root [] = refl
@@ -198,9 +154,4 @@ pub below_listed : (s : Listed) → IsListing s → (p : Path) → sum_by (λ e.
 below_listed [] ok p = absurd (omega (arith, ok.rooted))
 below_listed (r ∷ s) ok p =
     let none : cond (is_one_below p r.path) r.bytes 0 ≡ 0 = ap (λ (q : Path). cond (is_one_below p q) r.bytes 0) ok.root_path ∙ ap (λ (b : Bool). cond b r.bytes 0) (not_below_root p) in
-    let w : Path → Node → ℕ = λ q n. cond (is_one_below p q) n.bytes 0 in
-    let start : (n : ℕ) → 0 + n ≡ n = λ n. omega arith in
-    sum_by-cons (λ (e : Sum). cond (is_one_below p e.path) e.bytes 0) r s
-    ∙ ap (λ (n : ℕ). n + sum_by (λ (e : Sum). cond (is_one_below p e.path) e.bytes 0) s) none
-    ∙ start _
-    ∙ sym (weights-from_entries w (map row s) (apart-rows s (λ a b ha hb q. tail_apart a b (ok.apart (suc a) (suc b) (omega arith) (omega arith) q))) ∙ weights-row w s)
+    omega (arith, below_rows s (tail_distinct r s ok.apart) p, sum_by-cons (λ (e : Sum). cond (is_one_below p e.path) e.bytes 0) r s)

@@ -1,43 +1,35 @@
 -- The parts of a flame graph's collector after each step: an entry, a visitor that is entered or left, an identity that is met.
-use Rattle.std.proofs.Common.{◌≡◌, ◌≢◌, ℕ, suc, pred, ◌+◌, ◌-◌, ◌^◌, ◌<◌, ◌≤◌, Bool, true, false, cond, not, ◌||◌, ◌&&◌, ◌==◌, List, [], ◌∷◌, ◌++◌, map, reverse, length, get_or, Ordering, Less, Equal, Greater, refl, sym, ap, subst, ◌∙◌, arith, inl, inr, length-append}
-use Rattle.allocative_collectors.proofs.Common.{is_eq, ordering_then, contains, Key, Path, AsInline, Sums, is_unique_mark, Live, go, leave_live, enter_live, enter_again, enter_first, Listed, path_at, map_of, live, IsPlaced}
+use Rattle.std.proofs.Common.{◌≡◌, ◌≢◌, ℕ, pred, ◌+◌, ◌^◌, ◌<◌, ◌≤◌, Bool, true, false, cond, not, ◌||◌, ◌&&◌, ◌==◌, List, [], ◌∷◌, ◌++◌, map, reverse, length, get_or, refl, sym, ap, ◌∙◌, arith, inl, inr, length-append}
+use Rattle.allocative_collectors.proofs.Common.{contains, Key, Path, AsInline, is_unique_mark, Live, go, leave_live, enter_live, enter_again, enter_first, Listed, path_at, map_of, live, IsPlaced}
 use Rattle.std.specs.List.{list_any}
-use Rattle.std.specs.Ordering.{nat_cmp}
 use Rattle.std.specs.FinSet.{from_list, insert, same_set, contains-from_list, contains-insert}
-use Rattle.std.proofs.lemmas.List.{map-append, reverse-append, length-map, length-reverse, get_or_append_left, get_or-append_right}
+use Rattle.std.proofs.lemmas.List.{map-append, reverse-append, length-map, length-reverse, get_or_append_left, get_or_push, length_push, nil_from_length}
 use Rattle.std.proofs.lemmas.Bool.{cases_lt}
 use Rattle.std.proofs.lemmas.Bool.Decides.{nat_tests}
 use Rattle.allocative_graph.specs.Identity.{Identity, identity_cmp, is_same_identity}
-use Rattle.allocative_graph.specs.Forest.{Mark, AsUnique, AsShared}
+use Rattle.allocative_graph.specs.Forest.{Mark, AsShared, Entry}
 use Rattle.allocative_graph.specs.Sums as bag
 use Rattle.allocative_graph.specs.Collector.{last_of, without_last}
 use Rattle.allocative_graph.proofs.Basics.{identity_total, identity_antisymmetric, same_identity_turned}
 use Rattle.allocative_collectors.specs.Places.{to_root, outside, back_from, back_at, AddedAt}
 use Rattle.allocative_collectors.proofs.Adds.{total_entered, length_entered, path_entered}
-use Rattle.allocative_collectors.proofs.Bridge.{map_of-add, entered-map_of, not_root}
+use Rattle.allocative_graph.proofs.Below.{entered-add}
+use Rattle.allocative_collectors.proofs.Keys.{map_same}
+use Rattle.allocative_collectors.proofs.Bridge.{map_of-entered, mark_of, mark_is}
 
 -- ---- the identities
 -- equal in both parts
 abbrev is_equal : Identity → Identity → Bool
 is_equal i j = i.maker == j.maker && i.number == j.number
 
-both_equal : (o p : Ordering) → is_eq (ordering_then o p) ≡ (is_eq o && is_eq p)
-both_equal Less p = refl
-both_equal Equal p = refl
-both_equal Greater p = refl
-
-number_equal : (m n : ℕ) → is_eq (nat_cmp m n) ≡ (m == n)
-number_equal m n = grind (arith, nat_tests)
-
 one_identity : (i j : Identity) → is_equal i j ≡ is_same_identity i j
-one_identity i j = sym (both_equal (nat_cmp i.maker j.maker) (nat_cmp i.number j.number) ∙ (λ k. number_equal i.maker j.maker k && number_equal i.number j.number k))
+one_identity i j = grind (arith, nat_tests)
 
 among : (is : List Identity) (q : Identity) → list_any (is_equal q) is ≡ contains (from_list {R = identity_cmp} is) q
 among is q = (λ k. list_any (λ i. one_identity q i k) is) ∙ sym (contains-from_list identity_total is q)
 
 one_more : (t b : Bool) → cond t true b ≡ (t || b)
-one_more true b = refl
-one_more false b = refl
+one_more t b = grind (arith, nat_tests)
 
 -- the set of the identities after one was inserted
 pub met_more : (old new : List Identity) (i : Identity) → ((q : Identity) → list_any (is_equal q) new ≡ cond (is_equal i q) true (list_any (is_equal q) old)) → from_list {R = identity_cmp} new ≡ insert (from_list old) i
@@ -45,19 +37,11 @@ met_more old new i more = same_set identity_total identity_antisymmetric _ _ (λ
     sym (among new q) ∙ (more q ∙ (one_more (is_equal i q) (list_any (is_equal q) old)
     ∙ ((λ k. (one_identity i q ∙ same_identity_turned i q) k || among old q k) ∙ sym (contains-insert identity_total (from_list old) i q)))))
 
-false_of : (b : Bool) → true ≡ not b → b ≡ false
-false_of true e = e
-false_of false e = refl
-
-true_of : (b : Bool) → false ≡ not b → b ≡ true
-true_of true e = refl
-true_of false e = e
-
 pub not_met : (ks : List Identity) (i : Identity) → true ≡ not (list_any (is_equal i) ks) → contains (from_list {R = identity_cmp} ks) i ≡ false
-not_met ks i e = sym (among ks i) ∙ false_of _ e
+not_met ks i e = sym (among ks i) ∙ grind arith
 
 pub was_met : (ks : List Identity) (i : Identity) → false ≡ not (list_any (is_equal i) ks) → contains (from_list {R = identity_cmp} ks) i ≡ true
-was_met ks i e = sym (among ks i) ∙ true_of _ e
+was_met ks i e = sym (among ks i) ∙ grind arith
 
 -- ---- going down and back
 outside_push : (p : Path) (k : Key) → outside (p ++ k ∷ []) ≡ p ∷ outside p
@@ -93,31 +77,15 @@ module _ (t : Listed) (met : List Identity) where
       ap (λ (q : Path). outside q ++ back_from (reverse (map (path_at t) after)) (to_root rooted)) root
       ∙ ap (λ (l : List Path). back_from l (to_root rooted)) (ap (λ (l : List ℕ). reverse (map (path_at t) l)) is ∙ turned (path_at t) before outer)
 
-  -- a collector at the path p, with no open content
-  abbrev alone : Path → Bool → Live
-  alone p rooted = record {
-    sums = map_of t;
-    met = from_list met;
-    here = p;
-    back = outside p ++ to_root rooted;
-    open_visitors = length (outside p ++ to_root rooted);
-  }
-
   pub at_root : (current : ℕ) → path_at t current ≡ [] → live t met current [] true ≡ go [] (live t met current [] false)
-  at_root current root = (λ i. alone (root i) true) ∙ (λ i. go [] (alone (sym root i) false))
+  at_root current root =
+      let stack : back_at t current [] true ≡ path_at t current ∷ back_at t current [] false = (λ i. outside (root i) ++ [] ∷ []) ∙ (λ i. sym root i ∷ outside (sym root i) ++ []) in
+      λ i. record { sums = map_of t; met = from_list met; here = root i; back = stack i; open_visitors = length (stack i) }
 
 -- ---- no visitor is open
 length_outside : (p : Path) → length (outside p) ≡ length p
 length_outside [] = refl
 length_outside (k ∷ p) = omega (arith, length-append (map (λ (q : Path). k ∷ q) (outside p)) ([] ∷ []), length-map (outside p) (λ (q : Path). k ∷ q), length_outside p)
-
-no_keys : (p : Path) → length p ≡ 0 → p ≡ []
-no_keys [] e = refl
-no_keys (k ∷ p) e = absurd (omega arith)
-
-pub no_places : (places : List ℕ) → length places ≡ 0 → places ≡ []
-no_places [] e = refl
-no_places (p ∷ places) e = absurd (omega arith)
 
 not_rooted : (rooted : Bool) → length (to_root rooted) ≡ 0 → rooted ≡ false
 not_rooted true e = absurd (omega arith)
@@ -126,12 +94,6 @@ not_rooted false e = refl
 length_from : (ps last : List Path) → length ps + length last ≤ length (back_from ps last)
 length_from [] last = omega arith
 length_from (p ∷ ps) last = omega (arith, length-append (outside p) (back_from ps last), length_from ps last)
-
-pub count_none : (n : ℕ) → (n == 0) ≡ true → n ≡ 0
-count_none n e = grind (arith, nat_tests)
-
-pub none_counted : (n : ℕ) → n ≡ 0 → (n == 0) ≡ true
-none_counted n e = grind (arith, nat_tests)
 
 -- the current place is the root, and no content and no root visitor is open
 pub record IsOut (t : Listed) (current : ℕ) (places : List ℕ) (rooted : Bool) : Type 0 where
@@ -151,8 +113,8 @@ module _ (t : Listed) (current : ℕ) (places : List ℕ) (rooted : Bool) where
 
   pub closed : length (back_at t current places rooted) ≡ 0 → IsOut t current places rooted
   closed none = record {
-    root = no_keys (path_at t current) (omega (arith, length_back, none));
-    no_place = no_places places (omega (arith, length_back, none));
+    root = nil_from_length (path_at t current) (omega (arith, length_back, none));
+    no_place = nil_from_length places (omega (arith, length_back, none));
     no_visitor = not_rooted rooted (omega (arith, length_back, none));
   }
 
@@ -161,107 +123,76 @@ module _ (t : Listed) (current : ℕ) (places : List ℕ) (rooted : Bool) where
       ap (λ (q : Path). outside q ++ back_from (reverse (map (path_at t) places)) (to_root rooted)) o.root
       ∙ (ap (λ (l : List ℕ). back_from (reverse (map (path_at t) l)) (to_root rooted)) o.no_place ∙ ap to_root o.no_visitor)
 
--- ---- one more entry
-kept_back : (old new : Listed) → ((i : ℕ) → i < length old → path_at new i ≡ path_at old i) → (ps : List ℕ) → ((j : ℕ) → j < length ps → get_or ps j 0 < length old) → map (path_at new) ps ≡ map (path_at old) ps
-kept_back old new kept [] all = refl
-kept_back old new kept (p ∷ ps) all =
-    ap (λ (x : Path). x ∷ map (path_at new) ps) (kept p (all 0 (omega arith)))
-    ∙ ap (λ (xs : List Path). path_at old p ∷ xs) (kept_back old new kept ps (λ j h. all (suc j) (omega arith)))
+-- ---- the places
+pub placed_at : {t : Listed} {current : ℕ} {places : List ℕ} {n : ℕ} → IsPlaced t current places n → (node : ℕ) → node < length t → (ps : List ℕ) → ((j : ℕ) → j < length ps → get_or ps j 0 < length t) → IsPlaced t node ps n
+placed_at ok node h ps back = record {
+  here = h;
+  back = back;
+  entered_is = ok.entered_is;
+  total_is = ok.total_is;
+  bound = ok.bound;
+  rooted = ok.rooted;
+  root_path = ok.root_path;
+}
 
-module _ (t new : Listed) (met : List Identity) (current : ℕ) (places : List ℕ) (rooted : Bool) (n : ℕ) (ok : IsPlaced t current places n) (k : Key) (size : ℕ) (u : Bool) (more node : ℕ) (entered : AddedAt t new current k size u n more node) where
-  pub placed_added : (m : Mark) → is_unique_mark m ≡ u → IsPlaced new current places more
-  placed_added m mark = record {
+pub placed_gone : {t : Listed} {current : ℕ} {places : List ℕ} {n : ℕ} → IsPlaced t current places n → (node : ℕ) → node < length t → IsPlaced t node (places ++ current ∷ []) n
+placed_gone {current = current} {places = places} ok node h = placed_at ok node h (places ++ current ∷ []) (λ j hj. elim (cases_lt j (length places)) [
+  | inl lt ↦ rw (get_or_append_left places (current ∷ []) 0 j lt) (ok.back j lt)
+  | inr ge ↦ rw (get_or_push places current 0 j (omega (arith, length_push places current))) ok.here
+])
+
+-- ---- a whole step
+pub enter_is : (u : Bool) (k : Key) (n : ℕ) (c : Live) → go (c.here ++ k ∷ []) (record c { sums = bag.add c.sums (record { path = c.here ++ k ∷ []; size = n; mark = mark_of u }) }) ≡ enter_live u k n c
+enter_is true k n c = refl
+enter_is false k n c = refl
+
+module _ {t new : Listed} {current : ℕ} {places : List ℕ} {n : ℕ} (ok : IsPlaced t current places n) {k : Key} {size : ℕ} {u : Bool} {more node : ℕ} (entered : AddedAt t new current k size u n more node) where
+  -- the entry in the bag
+  abbrev one : Mark → Entry
+  one m = record { path = path_at t current ++ k ∷ []; size = size; mark = m }
+
+  pub placed_added : IsPlaced new current places more
+  placed_added = record {
     here = omega (arith, length_entered entered.is, ok.here);
     back = λ j h. let old = ok.back j h in omega (arith, length_entered entered.is);
     entered_is =
-        let same = ap (λ (s : Listed). bag.entered (map_of s)) entered.is.sums in
-        let grown = entered-map_of t (record { path = path_at t current ++ k ∷ []; size = size; mark = m }) u ok.rooted ok.root_path (not_root (path_at t current) k) mark in
-        omega (arith, ok.entered_is, entered.count, same, grown);
+        let same = ap bag.entered (map_of-entered entered.is ok.rooted (mark_of u) (mark_is u)) in
+        omega (arith, ok.entered_is, entered.count, same, entered-add (map_of t) (one (mark_of u)));
     total_is = omega (arith, ok.total_is, entered.count, total_entered entered.is);
     bound = omega (arith, entered.fits, entered.count);
     rooted = omega (arith, length_entered entered.is, ok.rooted);
     root_path = path_entered entered.is 0 ok.rooted ∙ ok.root_path;
   }
 
-  pub live_added : (m : Mark) → is_unique_mark m ≡ u → live new met current places rooted ≡ record (live t met current places rooted) { sums = bag.add (map_of t) (record { path = path_at t current ++ k ∷ []; size = size; mark = m }) }
-  live_added m mark = λ i. record {
-    sums = (ap map_of entered.is.sums ∙ map_of-add t (record { path = path_at t current ++ k ∷ []; size = size; mark = m }) u ok.rooted ok.root_path (not_root (path_at t current) k) mark) i;
-    met = from_list met;
-    here = path_entered entered.is current ok.here i;
-    back = back i;
-    open_visitors = length (back i);
-  }
-    where
-      back : back_at new current places rooted ≡ back_at t current places rooted
-      back = λ i. outside (path_entered entered.is current ok.here i) ++ back_from (reverse (kept_back t new (path_entered entered.is) places ok.back i)) (to_root rooted)
-
--- ---- the places
-pub placed_at : (t : Listed) (current : ℕ) (places : List ℕ) (n : ℕ) → IsPlaced t current places n → (node : ℕ) → node < length t → IsPlaced t node places n
-placed_at t current places n ok node h = record {
-  here = h;
-  back = ok.back;
-  entered_is = ok.entered_is;
-  total_is = ok.total_is;
-  bound = ok.bound;
-  rooted = ok.rooted;
-  root_path = ok.root_path;
-}
-
-pub placed_gone : (t : Listed) (current : ℕ) (places : List ℕ) (n : ℕ) → IsPlaced t current places n → (node : ℕ) → node < length t → IsPlaced t node (places ++ current ∷ []) n
-placed_gone t current places n ok node h = record {
-  here = h;
-  back = λ j hj. elim (cases_lt j (length places)) [
-    | inl lt ↦ subst (λ (p : ℕ). p < length t) (sym (get_or_append_left places (current ∷ []) 0 j lt)) (ok.back j lt)
-    | inr ge ↦
-        (let last : j - length places ≡ 0 = omega (arith, length-append places (current ∷ [])) in
-        let is : get_or (places ++ current ∷ []) j 0 ≡ current = get_or-append_right places (current ∷ []) (length places) j 0 refl (omega arith) ∙ ap (λ (i : ℕ). get_or (current ∷ []) i 0) last in
-        subst (λ (p : ℕ). p < length t) (sym is) ok.here)
-  ];
-  entered_is = ok.entered_is;
-  total_is = ok.total_is;
-  bound = ok.bound;
-  rooted = ok.rooted;
-  root_path = ok.root_path;
-}
-
--- ---- a whole step
-abbrev pub mark_of : Bool → Mark
-mark_of u = cond u AsUnique AsInline
-
-pub mark_is : (u : Bool) → is_unique_mark (mark_of u) ≡ u
-mark_is true = refl
-mark_is false = refl
-
-pub enter_is : (u : Bool) (k : Key) (n : ℕ) (c : Live) → go (c.here ++ k ∷ []) (record c { sums = bag.add c.sums (record { path = c.here ++ k ∷ []; size = n; mark = mark_of u }) }) ≡ enter_live u k n c
-enter_is true k n c = refl
-enter_is false k n c = refl
-
-module _ (t new : Listed) (met : List Identity) (current : ℕ) (places : List ℕ) (rooted : Bool) (n : ℕ) (ok : IsPlaced t current places n) (k : Key) (size : ℕ) (u : Bool) (more node : ℕ) (entered : AddedAt t new current k size u n more node) where
   pub fits_map : bag.entered (map_of t) + size < 2 ^ 63
   fits_map = omega (arith, ok.entered_is, entered.fits)
 
-  node_path : path_at new node ≡ path_at t current ++ k ∷ []
-  node_path = entered.is.path
+  module _ (met : List Identity) (rooted : Bool) where
+    live_added : (m : Mark) → is_unique_mark m ≡ u → live new met current places rooted ≡ record (live t met current places rooted) { sums = bag.add (map_of t) (one m) }
+    live_added m mark = λ i. record {
+      sums = map_of-entered entered.is ok.rooted m mark i;
+      met = from_list met;
+      here = path_entered entered.is current ok.here i;
+      back = back i;
+      open_visitors = length (back i);
+    }
+      where
+        back : back_at new current places rooted ≡ back_at t current places rooted
+        back = λ i. outside (path_entered entered.is current ok.here i) ++ back_from (reverse (map_same (path_at new) (path_at t) places (λ j h. path_entered entered.is _ (ok.back j h)) i)) (to_root rooted)
 
-  same_path : path_at new current ≡ path_at t current
-  same_path = path_entered entered.is current ok.here
+    pub gone_down : live new met node places rooted ≡ enter_live u k size (live t met current places rooted)
+    gone_down =
+        went new met current node places places rooted (one_up new met current node places rooted k (entered.is.path ∙ ap (λ (q : Path). q ++ k ∷ []) (sym (path_entered entered.is current ok.here))))
+        ∙ (λ i. go (entered.is.path i) (live_added (mark_of u) (mark_is u) i))
+        ∙ enter_is u k size (live t met current places rooted)
 
-  pub gone_down : live new met node places rooted ≡ enter_live u k size (live t met current places rooted)
-  gone_down =
-      went new met current node places places rooted (one_up new met current node places rooted k (node_path ∙ ap (λ (q : Path). q ++ k ∷ []) (sym same_path)))
-      ∙ (λ i. go (node_path i) (live_added t new met current places rooted n ok k size u more node entered (mark_of u) (mark_is u) i))
-      ∙ enter_is u k size (live t met current places rooted)
+    pub gone_first : (i : Identity) (now : List Identity) → from_list {R = identity_cmp} now ≡ insert (from_list met) i → u ≡ false → live new now 0 (places ++ current ∷ []) rooted ≡ enter_first k size i (live t met current places rooted)
+    gone_first i now one_new plain =
+        went new now current 0 places (places ++ current ∷ []) rooted (one_out new now current 0 places (places ++ current ∷ []) rooted placed_added.root_path refl)
+        ∙ (λ j. go (placed_added.root_path j) (record (live_added (AsShared i) (sym plain) j) { met = one_new j }))
 
-  pub gone_first : (i : Identity) (now : List Identity) → from_list {R = identity_cmp} now ≡ insert (from_list met) i → u ≡ false → live new now 0 (places ++ current ∷ []) rooted ≡ enter_first k size i (live t met current places rooted)
-  gone_first i now one_new plain =
-      went new now current 0 places (places ++ current ∷ []) rooted (one_out new now current 0 places (places ++ current ∷ []) rooted root refl)
-      ∙ (λ j. go (root j) (record (live_added t new met current places rooted n ok k size u more node entered (AsShared i) (sym plain) j) { met = one_new j }))
-    where
-      root : path_at new 0 ≡ []
-      root = (placed_added t new met current places rooted n ok k size u more node entered (mark_of u) (mark_is u)).root_path
+    pub stayed_simple : u ≡ false → live new met current places rooted ≡ leave_live (enter_live false k size (live t met current places rooted))
+    stayed_simple plain = live_added AsInline (sym plain)
 
-  pub stayed_simple : u ≡ false → live new met current places rooted ≡ leave_live (enter_live false k size (live t met current places rooted))
-  stayed_simple plain = live_added t new met current places rooted n ok k size u more node entered AsInline (sym plain)
-
-  pub stayed : (i : Identity) → u ≡ false → live new met current places rooted ≡ enter_again k size i (live t met current places rooted)
-  stayed i plain = live_added t new met current places rooted n ok k size u more node entered (AsShared i) (sym plain)
+    pub stayed : (i : Identity) → u ≡ false → live new met current places rooted ≡ enter_again k size i (live t met current places rooted)
+    stayed i plain = live_added (AsShared i) (sym plain)

@@ -1,9 +1,10 @@
 -- The keys of numbered nodes, and what an insertion does to a list.
-use Rattle.std.proofs.Common.{◌≡◌, ℕ, suc, ◌+◌, ◌-◌, ◌<◌, ◌≤◌, List, [], ◌∷◌, ◌++◌, length, get_or, drop, take, refl, sym, subst, ◌∙◌, arith}
-use Rattle.allocative_collectors.proofs.Common.{Shape, key_at, keys_of, key_in}
+use Rattle.std.proofs.Common.{◌≡◌, ℕ, zero, suc, set, inl, inr, ◌+◌, ◌-◌, ◌<◌, ◌≤◌, List, [], ◌∷◌, ◌++◌, length, map, get_or, drop, take, refl, sym, subst, ◌∙◌, arith}
+use Rattle.allocative_collectors.proofs.Common.{Shape, no_shape, at, key_at, keys_of, key_in, StandsIn}
 use Rattle.std.specs.List.{insert}
 use Rattle.std.proofs.lemmas.List.{length-map, get_or-map, map-append, take-map, drop-map}
-use Rattle.std.proofs.lemmas.List.Edits.{get_or-insert_below, get_or-insert_at, get_or-insert_above}
+use Rattle.std.proofs.lemmas.Bool.{cases_lt}
+use Rattle.std.proofs.lemmas.List.Edits.{length-insert, get_or-insert_below, get_or-insert_above}
 
 pub length-keys_of : (ns : List Shape) (xs : List ℕ) → length (keys_of ns xs) ≡ length xs
 length-keys_of ns xs = length-map xs (key_at ns)
@@ -11,23 +12,40 @@ length-keys_of ns xs = length-map xs (key_at ns)
 pub key_in-keys_of : (ns : List Shape) (xs : List ℕ) (j : ℕ) → j < length xs → key_in (keys_of ns xs) j ≡ key_at ns (get_or xs j 0)
 key_in-keys_of ns xs j h = get_or-map (key_at ns) xs j 0 [] h
 
--- arenas that have the same keys at these numbers
-pub keys_of-same : (ns ms : List Shape) (xs : List ℕ) → ((j : ℕ) → j < length xs → key_at ms (get_or xs j 0) ≡ key_at ns (get_or xs j 0)) → keys_of ms xs ≡ keys_of ns xs
-keys_of-same ns ms [] same = refl
-keys_of-same ns ms (x ∷ xs) same = λ i. same 0 (omega arith) i ∷ keys_of-same ns ms xs (λ j h. same (suc j) (omega arith)) i
+-- two functions that agree at the numbers of a list
+pub map_same : {X : Type 0} (f g : ℕ → X) (xs : List ℕ) → ((j : ℕ) → j < length xs → f (get_or xs j 0) ≡ g (get_or xs j 0)) → map f xs ≡ map g xs
+map_same f g [] same = refl
+map_same f g (x ∷ xs) same = λ i. same 0 (omega arith) i ∷ map_same f g xs (λ j h. same (suc j) (omega arith)) i
 
 pub keys_of-insert : (ns : List Shape) (xs : List ℕ) (g i : ℕ) → keys_of ns (insert xs g i) ≡ insert (keys_of ns xs) g (key_at ns i)
 keys_of-insert ns xs g i = map-append (key_at ns) (take g xs) (i ∷ drop g xs) ∙ (λ j. sym (take-map (key_at ns) g xs) j ++ key_at ns i ∷ sym (drop-map (key_at ns) g xs) j)
 
--- the items after x was put at place g
-module _ {X : Type 0} (xs : List X) (g : ℕ) (x d : X) (within : g ≤ length xs) where
-  pub insert_below : (j : ℕ) → j < g → get_or (insert xs g x) j d ≡ get_or xs j d
-  insert_below j h = get_or-insert_below xs g x d j h within
+-- an item after place g, where x was put
+pub insert_above : {X : Type 0} (xs : List X) (g : ℕ) (x d : X) → g ≤ length xs → (j : ℕ) → g < j → get_or (insert xs g x) j d ≡ get_or xs (j - 1) d
+insert_above xs g x d within j h =
+    let index : j - 1 + 1 ≡ j = omega arith in
+    subst (λ (q : ℕ). get_or (insert xs g x) q d ≡ get_or xs (j - 1) d) index (get_or-insert_above xs g x d (j - 1) (omega arith) within)
 
-  pub insert_here : (j : ℕ) → j ≡ g → get_or (insert xs g x) j d ≡ x
-  insert_here j e = rw e (get_or-insert_at xs g x d within)
+-- a number keeps its standing when another one is put at place g
+pub stands_insert : (xs : List ℕ) (g n i : ℕ) → g ≤ length xs → StandsIn xs i → StandsIn (insert xs g n) i
+stands_insert xs g n i within was =
+    let len = length-insert xs g n within in
+    elim (cases_lt was.place g) [
+      | inl lt ↦ record { place = was.place; in_range = omega (arith, was.in_range); is = get_or-insert_below xs g n 0 was.place lt within ∙ was.is }
+      | inr ge ↦ record { place = was.place + 1; in_range = omega (arith, was.in_range); is = get_or-insert_above xs g n 0 was.place ge within ∙ was.is }
+    ]
 
-  pub insert_above : (j : ℕ) → g < j → get_or (insert xs g x) j d ≡ get_or xs (j - 1) d
-  insert_above j h =
-      let index : j - 1 + 1 ≡ j = omega arith in
-      subst (λ (q : ℕ). get_or (insert xs g x) q d ≡ get_or xs (j - 1) d) index (get_or-insert_above xs g x d (j - 1) (omega arith) within)
+-- a write keeps what it does not change
+pub touched : {X : Type 0} (f : Shape → X) (ns : List Shape) (i : ℕ) (m : Shape) → f m ≡ f (at ns i) → (j : ℕ) → f (at (set ns i m) j) ≡ f (at ns j)
+touched f [] i m e j = refl
+touched f (n ∷ ns) zero m e zero = e
+touched f (n ∷ ns) zero m e (suc j) = refl
+touched f (n ∷ ns) (suc i) m e zero = refl
+touched f (n ∷ ns) (suc i) m e (suc j) = touched f ns i m e j
+
+-- one more node keeps what a missing node has too
+pub pushed : {X : Type 0} (f : Shape → X) (ns : List Shape) (n : Shape) → f n ≡ f no_shape → (j : ℕ) → f (at (ns ++ n ∷ []) j) ≡ f (at ns j)
+pushed f [] n e zero = e
+pushed f [] n e (suc j) = refl
+pushed f (m ∷ ns) n e zero = refl
+pushed f (m ∷ ns) n e (suc j) = pushed f ns n e j

@@ -1,72 +1,163 @@
 -- The sums that an arena stands for, and what one more entry does to a list of sums.
-use Rattle.std.proofs.Common.{◌≡◌, ◌≢◌, ℕ, zero, suc, ◌+◌, ◌<◌, Bool, List, [], ◌∷◌, ◌++◌, length, get_or, set, sum_by, refl, sym, ap, ◌∙◌, arith}
-use Rattle.allocative_collectors.proofs.Common.{Path, is_same_path, Sum, Listed, root_sum, raise, add, path_at, Shape, at, paths, label, sums, bytes_at}
+use Rattle.std.proofs.Common.{◌≡◌, ℕ, zero, suc, ◌+◌, ◌<◌, ◌||◌, Bool, List, [], ◌∷◌, ◌++◌, length, get_or, set, map, append_assoc, append-nil, sum_by, refl, sym, ap, ◌∙◌, arith, inl, inr}
+use Rattle.allocative_collectors.proofs.Common.{Key, Path, Sum, Listed, root_sum, put, path_at, Shape, at, sums, bytes_at, children_at, key_at, key_in, keys_at, parent_at, IsArena, IsChild, KeysRise}
+use Rattle.std.proofs.lemmas.List.{get_or_append_left, get_or-map, length_push, same_from_push}
 use Rattle.std.proofs.lemmas.List.Sums.{sum_by-cons}
-use Rattle.std.proofs.lemmas.Bool.{cond-true, cond-false}
+use Rattle.std.proofs.lemmas.Bool.{cases_order}
 use Rattle.allocative_collectors.specs.Listed.{total}
-use Rattle.allocative_collectors.proofs.Orders.{same_path-same, same_path-apart}
-use Rattle.allocative_collectors.proofs.Paths.{length-paths}
+use Rattle.allocative_collectors.proofs.Keys.{length-keys_of, key_in-keys_of}
+use Rattle.allocative_collectors.proofs.Orders.{key_not_before}
+use Rattle.allocative_collectors.specs.Shapes.{grow, sum_from}
 
 abbrev pub unique_at : List Shape → ℕ → Bool
 unique_at ns i = let n = at ns i in n.is_unique
 
--- at a path that was never entered, an entry is added at the end
-pub add_miss : (q : Path) (n : ℕ) (u : Bool) (s : Listed) → ((i : ℕ) → i < length s → path_at s i ≢ q) → add q n u s ≡ s ++ record { path = q; bytes = n; is_unique = u } ∷ []
-add_miss q n u [] none = refl
-add_miss q n u (e ∷ rest) none =
-    cond-false (is_same_path e.path q) _ _ (same_path-apart e.path q (none 0 (omega arith)))
-    ∙ ap (λ (t : Listed). e ∷ t) (add_miss q n u rest (λ i h. none (suc i) (omega arith)))
+-- a node after one more entry of n bytes
+abbrev pub raise_shape : ℕ → Bool → Shape → Shape
+raise_shape n u m = record m { bytes = m.bytes + n; is_unique = m.is_unique || u }
 
--- an entry is added to what is at the first place of its path
-pub add_hit : (q : Path) (n : ℕ) (u : Bool) (s : Listed) (i : ℕ) → i < length s → path_at s i ≡ q → ((j : ℕ) → j < i → path_at s j ≢ q) → add q n u s ≡ set s i (raise n u (get_or s i root_sum))
-add_hit q n u [] i h is first = absurd (omega arith)
-add_hit q n u (e ∷ rest) zero h is first = cond-true (is_same_path e.path q) _ _ (same_path-same e.path q is)
-add_hit q n u (e ∷ rest) (suc i) h is first =
-    cond-false (is_same_path e.path q) _ _ (same_path-apart e.path q (first 0 (omega arith)))
-    ∙ ap (λ (t : Listed). e ∷ t) (add_hit q n u rest i (omega arith) is (λ j lt. first (suc j) (omega arith)))
+-- an entry at the place after the last is added at the end
+pub put_push : (i : ℕ) (q : Path) (n : ℕ) (u : Bool) (s : Listed) → i ≡ length s → put i q n u s ≡ s ++ record { path = q; bytes = n; is_unique = u } ∷ []
+put_push i q n u [] e = refl
+put_push zero q n u (x ∷ s) e = absurd (omega arith)
+put_push (suc i) q n u (x ∷ s) e = ap (λ (t : Listed). x ∷ t) (put_push i q n u s (omega arith))
 
-pub length_label : (ps : List Path) (ns : List Shape) → length ps ≡ length ns → length (label ps ns) ≡ length ns
-length_label [] [] e = refl
-length_label [] (n ∷ ns) e = e
-length_label (p ∷ ps) [] e = refl
-length_label (p ∷ ps) (n ∷ ns) e = ap suc (length_label ps ns (omega arith))
+-- the path of a sum
+abbrev pub path_of : Sum → Path
+path_of e = e.path
 
-pub get_label : (ps : List Path) (ns : List Shape) (i : ℕ) → i < length ps → i < length ns → get_or (label ps ns) i root_sum ≡ record { path = get_or ps i []; bytes = bytes_at ns i; is_unique = unique_at ns i }
-get_label [] ns i h l = absurd (omega arith)
-get_label (p ∷ ps) [] i h l = absurd (omega arith)
-get_label (p ∷ ps) (n ∷ ns) zero h l = refl
-get_label (p ∷ ps) (n ∷ ns) (suc i) h l = get_label ps ns i (omega arith) (omega arith)
-
-pub label_set : (ps : List Path) (ns : List Shape) (i : ℕ) (m : Shape) → label ps (set ns i m) ≡ set (label ps ns) i (record { path = get_or ps i []; bytes = m.bytes; is_unique = m.is_unique })
-label_set [] [] i m = refl
-label_set [] (n ∷ ns) i m = refl
-label_set (p ∷ ps) [] i m = refl
-label_set (p ∷ ps) (n ∷ ns) zero m = refl
-label_set (p ∷ ps) (n ∷ ns) (suc i) m = ap (λ (t : Listed). record { path = p; bytes = n.bytes; is_unique = n.is_unique } ∷ t) (label_set ps ns i m)
-
-pub label_push : (ps : List Path) (ns : List Shape) (q : Path) (n : Shape) → length ps ≡ length ns → label (ps ++ q ∷ []) (ns ++ n ∷ []) ≡ label ps ns ++ record { path = q; bytes = n.bytes; is_unique = n.is_unique } ∷ []
-label_push [] [] q n e = refl
-label_push [] (m ∷ ns) q n e = absurd (omega arith)
-label_push (p ∷ ps) [] q n e = absurd (omega arith)
-label_push (p ∷ ps) (m ∷ ns) q n e = ap (λ (t : Listed). record { path = p; bytes = m.bytes; is_unique = m.is_unique } ∷ t) (label_push ps ns q n (omega arith))
-
-total_label : (ps : List Path) (ns : List Shape) → length ps ≡ length ns → total (label ps ns) ≡ sum_by (λ (n : Shape). n.bytes) ns
-total_label [] [] e = refl
-total_label [] (n ∷ ns) e = absurd (omega arith)
-total_label (p ∷ ps) [] e = refl
-total_label (p ∷ ps) (n ∷ ns) e =
-    sum_by-cons (λ (s : Sum). s.bytes) (record { path = p; bytes = n.bytes; is_unique = n.is_unique }) (label ps ns)
-    ∙ (ap (λ (t : ℕ). n.bytes + t) (total_label ps ns (omega arith)) ∙ sym (sum_by-cons (λ (m : Shape). m.bytes) n ns))
+length-grow : (ps : List Path) (ns : List Shape) → length (grow ps ns) ≡ length ns
+length-grow ps [] = refl
+length-grow ps (n ∷ ns) = ap suc (length-grow (ps ++ path_of (sum_from ps n) ∷ []) ns)
 
 -- the sums have a place for each node
 pub length_sums : (ns : List Shape) → length (sums ns) ≡ length ns
-length_sums ns = length_label (paths ns) ns (length-paths ns)
+length_sums [] = refl
+length_sums (n ∷ ns) = ap suc (length-grow ([] ∷ []) ns)
 
-pub path_sums : (ns : List Shape) (i : ℕ) → i < length ns → path_at (sums ns) i ≡ get_or (paths ns) i []
-path_sums ns i h = ap (λ (s : Sum). s.path) (get_label (paths ns) ns i (omega (arith, length-paths ns)) h)
+grow_at : (ps : List Path) (ns : List Shape) (j : ℕ) → j < length ns → parent_at ns j < length ps + j → get_or (grow ps ns) j root_sum ≡ sum_from (ps ++ map path_of (grow ps ns)) (at ns j)
+grow_at ps [] j h lt = absurd (omega arith)
+grow_at ps (n ∷ ns) zero h lt = ap (λ (p : Path). record { path = p ++ n.key ∷ []; bytes = n.bytes; is_unique = n.is_unique }) (sym (get_or_append_left ps _ [] n.parent (omega arith)))
+grow_at ps (n ∷ ns) (suc j) h lt =
+    let p = path_of (sum_from ps n) in
+    let len = length_push ps p in
+    grow_at (ps ++ p ∷ []) ns j (omega arith) (omega arith) ∙ ap (λ (l : List Path). sum_from l (at ns j)) (append_assoc ps (p ∷ []) _)
 
-pub get_sums : (ns : List Shape) (i : ℕ) → i < length ns → get_or (sums ns) i root_sum ≡ record { path = get_or (paths ns) i []; bytes = bytes_at ns i; is_unique = unique_at ns i }
-get_sums ns i h = get_label (paths ns) ns i (omega (arith, length-paths ns)) h
+sums_at : (ns : List Shape) (i : ℕ) → 0 < i → i < length ns → parent_at ns i < i → get_or (sums ns) i root_sum ≡ sum_from (map path_of (sums ns)) (at ns i)
+sums_at [] i pos h lt = absurd (omega arith)
+sums_at (n ∷ ns) zero pos h lt = absurd (omega arith)
+sums_at (n ∷ ns) (suc j) pos h lt = grow_at ([] ∷ []) ns j (omega arith) (omega arith)
+
+-- a node's own figures
+figures-grow : (ps : List Path) (ns : List Shape) (j : ℕ) → (let e = get_or (grow ps ns) j root_sum in (e.bytes ≡ bytes_at ns j) × (e.is_unique ≡ unique_at ns j))
+figures-grow ps [] j = (refl, refl)
+figures-grow ps (n ∷ ns) zero = (refl, refl)
+figures-grow ps (n ∷ ns) (suc j) = figures-grow (ps ++ path_of (sum_from ps n) ∷ []) ns j
+
+pub figures_sums : (ns : List Shape) (i : ℕ) → (let e = get_or (sums ns) i root_sum in (e.bytes ≡ bytes_at ns i) × (e.is_unique ≡ unique_at ns i))
+figures_sums [] i = (refl, refl)
+figures_sums (n ∷ ns) zero = (refl, refl)
+figures_sums (n ∷ ns) (suc j) = figures-grow ([] ∷ []) ns j
+
+grow_push : (ps : List Path) (ns : List Shape) (n : Shape) → grow ps (ns ++ n ∷ []) ≡ grow ps ns ++ sum_from (ps ++ map path_of (grow ps ns)) n ∷ []
+grow_push ps [] n = ap (λ (l : List Path). sum_from l n ∷ []) (sym (append-nil ps))
+grow_push ps (m ∷ ns) n =
+    let p = path_of (sum_from ps m) in
+    ap (λ (t : Listed). sum_from ps m ∷ t) (grow_push (ps ++ p ∷ []) ns n ∙ ap (λ (l : List Path). grow (ps ++ p ∷ []) ns ++ sum_from l n ∷ []) (append_assoc ps (p ∷ []) _))
+
+-- a node at the end adds its sum at the end
+pub sums_push : (ns : List Shape) (n : Shape) → 0 < length ns → sums (ns ++ n ∷ []) ≡ sums ns ++ sum_from (map path_of (sums ns)) n ∷ []
+sums_push [] n pos = absurd (omega arith)
+sums_push (m ∷ ns) n pos = ap (λ (t : Listed). record { path = []; bytes = m.bytes; is_unique = m.is_unique } ∷ t) (grow_push ([] ∷ []) ns n)
+
+-- an entry at a node is one at its place
+grow_raise : (ps : List Path) (ns : List Shape) (i : ℕ) (q : Path) (n : ℕ) (u : Bool) → i < length ns → grow ps (set ns i (raise_shape n u (at ns i))) ≡ put i q n u (grow ps ns)
+grow_raise ps [] i q n u h = absurd (omega arith)
+grow_raise ps (m ∷ ns) zero q n u h = refl
+grow_raise ps (m ∷ ns) (suc i) q n u h = ap (λ (t : Listed). sum_from ps m ∷ t) (grow_raise (ps ++ path_of (sum_from ps m) ∷ []) ns i q n u (omega arith))
+
+pub sums_raise : (ns : List Shape) (i : ℕ) (q : Path) (n : ℕ) (u : Bool) → i < length ns → sums (set ns i (raise_shape n u (at ns i))) ≡ put i q n u (sums ns)
+sums_raise [] i q n u h = absurd (omega arith)
+sums_raise (m ∷ ns) zero q n u h = refl
+sums_raise (m ∷ ns) (suc i) q n u h = ap (λ (t : Listed). record { path = []; bytes = m.bytes; is_unique = m.is_unique } ∷ t) (grow_raise ([] ∷ []) ns i q n u (omega arith))
+
+-- what a node's sum depends on
+abbrev pub bare : Shape → Shape
+bare n = record n { children = []; below = 0 }
+
+-- a write that keeps it keeps the sums
+grow_same : (ps : List Path) (ns : List Shape) (i : ℕ) (m : Shape) → bare m ≡ bare (at ns i) → grow ps (set ns i m) ≡ grow ps ns
+grow_same ps [] i m e = refl
+grow_same ps (n ∷ ns) zero m e = λ k. grow ps (e k ∷ ns)
+grow_same ps (n ∷ ns) (suc i) m e = ap (λ (t : Listed). sum_from ps n ∷ t) (grow_same (ps ++ path_of (sum_from ps n) ∷ []) ns i m e)
+
+pub sums_same : (ns : List Shape) (i : ℕ) (m : Shape) → bare m ≡ bare (at ns i) → sums (set ns i m) ≡ sums ns
+sums_same [] i m e = refl
+sums_same (n ∷ ns) zero m e = λ k. sums (e k ∷ ns)
+sums_same (n ∷ ns) (suc i) m e = ap (λ (t : Listed). record { path = []; bytes = n.bytes; is_unique = n.is_unique } ∷ t) (grow_same ([] ∷ []) ns i m e)
+
+total-grow : (ps : List Path) (ns : List Shape) → total (grow ps ns) ≡ sum_by (λ (n : Shape). n.bytes) ns
+total-grow ps [] = refl
+total-grow ps (n ∷ ns) =
+    let more = ps ++ path_of (sum_from ps n) ∷ [] in
+    omega (arith, total-grow more ns, sum_by-cons (λ (s : Sum). s.bytes) (sum_from ps n) (grow more ns), sum_by-cons (λ (m : Shape). m.bytes) n ns)
 
 pub total_sums : (ns : List Shape) → total (sums ns) ≡ sum_by (λ (n : Shape). n.bytes) ns
-total_sums ns = total_label (paths ns) ns (length-paths ns)
+total_sums [] = refl
+total_sums (n ∷ ns) =
+    let root : Sum = record { path = []; bytes = n.bytes; is_unique = n.is_unique } in
+    omega (arith, total-grow ([] ∷ []) ns, sum_by-cons (λ (s : Sum). s.bytes) root (grow ([] ∷ []) ns), sum_by-cons (λ (m : Shape). m.bytes) n ns)
+
+pub root_at : (ns : List Shape) → path_at (sums ns) 0 ≡ []
+root_at [] = refl
+root_at (n ∷ ns) = refl
+
+-- a key is at one place
+one_place : (ks : List Key) → KeysRise ks → (a b : ℕ) → a < length ks → b < length ks → key_in ks a ≡ key_in ks b → a ≡ b
+one_place ks rise a b ha hb same = elim (cases_order a b) [
+  | inl e ↦ e
+  | inr (inl lt) ↦ absurd (key_not_before _ _ same (rise a b lt hb))
+  | inr (inr gt) ↦ absurd (key_not_before _ _ (sym same) (rise b a gt ha))
+]
+
+-- a path with a key is not the root's
+pub not_nil : (p : Path) (k : Key) (q : Path) → p ++ k ∷ q ≡ [] → ⊥
+not_nil [] k q e = cc
+not_nil (x ∷ p) k q e = cc
+
+module _ (ns : List Shape) (ok : IsArena ns) where
+  -- the path of another node is its parent's with one more key
+  pub step : (i : ℕ) → 0 < i → i < length ns → path_at (sums ns) i ≡ path_at (sums ns) (parent_at ns i) ++ key_at ns i ∷ []
+  step i pos h =
+      let lt = ok.parents i pos h in
+      ap path_of (sums_at ns i pos h lt) ∙ ap (λ (p : Path). p ++ key_at ns i ∷ []) (get_or-map path_of (sums ns) (parent_at ns i) root_sum [] (omega (arith, length_sums ns)))
+
+  -- the key at a child's place
+  pub key_place : (p i : ℕ) (c : IsChild ns p i) → (let a = ok.listed p i c in (a.place < length (keys_at ns p)) × (key_in (keys_at ns p) a.place ≡ key_at ns i))
+  key_place p i c =
+      let a = ok.listed p i c in
+      (omega (arith, length-keys_of ns (children_at ns p), a.in_range), key_in-keys_of ns (children_at ns p) a.place a.in_range ∙ ap (key_at ns) a.is)
+
+  -- two children of one parent with one key are one
+  one_child : (p i j : ℕ) → IsChild ns p i → IsChild ns p j → key_at ns i ≡ key_at ns j → i ≡ j
+  one_child p i j ci cj keys =
+      let a = key_place p i ci in
+      let b = key_place p j cj in
+      let place = one_place (keys_at ns p) (ok.rise p) _ _ a.0 b.0 (a.1 ∙ (keys ∙ sym b.1)) in
+      sym (ok.listed p i ci).is ∙ (ap (λ (q : ℕ). get_or (children_at ns p) q 0) place ∙ (ok.listed p j cj).is)
+
+  distinct_below : (n i j : ℕ) → i < n → i < length ns → j < length ns → path_at (sums ns) i ≡ path_at (sums ns) j → i ≡ j
+  distinct_below zero i j lt hi hj e = absurd (omega arith)
+  distinct_below (suc n) zero zero lt hi hj e = refl
+  distinct_below (suc n) zero (suc j) lt hi hj e = absurd (not_nil _ _ _ (sym (step (suc j) (omega arith) hj) ∙ (sym e ∙ root_at ns)))
+  distinct_below (suc n) (suc i) zero lt hi hj e = absurd (not_nil _ _ _ (sym (step (suc i) (omega arith) hi) ∙ (e ∙ root_at ns)))
+  distinct_below (suc n) (suc i) (suc j) lt hi hj e =
+      let pi = ok.parents (suc i) (omega arith) hi in
+      let pj = ok.parents (suc j) (omega arith) hj in
+      let parts = same_from_push _ _ _ _ (sym (step (suc i) (omega arith) hi) ∙ (e ∙ step (suc j) (omega arith) hj)) in
+      let parents : parent_at ns (suc i) ≡ parent_at ns (suc j) = distinct_below n (parent_at ns (suc i)) (parent_at ns (suc j)) (omega arith) (omega arith) (omega arith) parts.0 in
+      one_child (parent_at ns (suc j)) (suc i) (suc j) (record { not_root = omega arith; in_range = hi; parent = parents }) (record { not_root = omega arith; in_range = hj; parent = refl }) parts.1
+
+  -- no two nodes have one path
+  pub distinct : (i j : ℕ) → i < length ns → j < length ns → path_at (sums ns) i ≡ path_at (sums ns) j → i ≡ j
+  distinct i j = distinct_below (suc i) i j (omega arith)

@@ -1,15 +1,13 @@
 pub mod Common
-mod Keys
+pub mod Keys
 pub mod Orders
-pub mod Paths
-pub mod Grown
 pub mod Labels
+pub mod Grown
 pub mod Raised
+pub mod Adds
 pub mod Child
 pub mod Searched
 pub mod NodeReads
-pub mod Guessed
-pub mod Adds
 pub mod Bridge
 pub mod Walked
 pub mod Below

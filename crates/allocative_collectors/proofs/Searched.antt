@@ -1,8 +1,8 @@
 -- What a binary search has settled among keys that rise.
 use Rattle.std.proofs.Common.{◌≡◌, ℕ, ◌+◌, ◌<◌, ◌≤◌, List, length, ap, ◌∙◌, arith, inl, inr}
-use Rattle.allocative_collectors.proofs.Common.{Less, Equal, Greater, ordering_reverse, Key, key_cmp, key_in, KeysRise, IsPlace, IsKeyGap}
+use Rattle.allocative_collectors.proofs.Common.{Less, Greater, ordering_reverse, Key, key_cmp, key_in, KeysRise, IsKeyGap}
 use Rattle.std.proofs.lemmas.Bool.{cases_eq}
-use Rattle.allocative_collectors.proofs.Orders.{key_total, key_same}
+use Rattle.allocative_collectors.proofs.Orders.{key_total}
 
 -- the keys before place low are smaller than k, and those from place high on are greater
 pub record IsBetween (ks : List Key) (k : Key) (low high : ℕ) : Type 0 where
@@ -10,14 +10,6 @@ pub record IsBetween (ks : List Key) (k : Key) (low high : ℕ) : Type 0 where
   pub within : high ≤ length ks
   pub smaller_before : (j : ℕ) → j < low → key_cmp (key_in ks j) k ≡ Less
   pub greater_after : (j : ℕ) → high ≤ j → j < length ks → key_cmp (key_in ks j) k ≡ Greater
-
-pub between_all : (ks : List Key) (k : Key) (high : ℕ) → high ≡ length ks → IsBetween ks k 0 high
-between_all ks k high all = record {
-  ordered = omega arith;
-  within = omega arith;
-  smaller_before = λ j h. absurd (omega arith);
-  greater_after = λ j le h. absurd (omega arith);
-}
 
 module _ (ks : List Key) (rise : KeysRise ks) (k : Key) where
   smaller_up_to : (m : ℕ) → m < length ks → key_cmp (key_in ks m) k ≡ Less → (j : ℕ) → j < m + 1 → key_cmp (key_in ks j) k ≡ Less
@@ -59,14 +51,3 @@ module _ (ks : List Key) (rise : KeysRise ks) (k : Key) where
     smaller_before = λ j h. smaller_up_to m (omega arith) less j (omega arith);
     greater_after = λ j le h. absurd (omega arith);
   }
-
--- nothing is left between
-pub gap_between : (ks : List Key) (k : Key) (low high : ℕ) → IsBetween ks k low high → high ≤ low → IsKeyGap ks k low
-gap_between ks k low high was done = record {
-  in_range = omega (arith, was.ordered, was.within);
-  smaller_before = was.smaller_before;
-  greater_after = λ j le h. was.greater_after j (omega arith) h;
-}
-
-pub place_found : (ks : List Key) (k : Key) (m : ℕ) → m < length ks → key_cmp (key_in ks m) k ≡ Equal → IsPlace ks k m
-place_found ks k m h same = record { in_range = h; has_key = key_same _ _ same }

@@ -1,15 +1,16 @@
 -- A walk over an arena, child by child.
-use Rattle.std.proofs.Common.{◌≡◌, ℕ, zero, suc, ◌+◌, ◌-◌, ◌<◌, ◌≤◌, List, [], ◌∷◌, ◌++◌, length, get_or, refl, sym, ap, subst, ◌∙◌, arith, inl, inr, length-append, append_assoc, append-nil}
-use Rattle.allocative_collectors.proofs.Common.{Ordering, Less, ordering_then, Key, Path, key_cmp, path_cmp, Warned, Listed, path_at, Shape, paths, sums, key_in, keys_at, children_at, key_at, parent_at, KeysRise, IsArena, warned_at, IsUnder, StandsIn, PathsRise, IsWalk}
-use Rattle.std.proofs.lemmas.List.{get_or_append_left, get_or-append_right, same_from_push}
+use Rattle.std.proofs.Common.{◌≡◌, ◌≢◌, ℕ, zero, suc, ◌+◌, ◌-◌, ◌<◌, ◌≤◌, List, [], ◌∷◌, ◌++◌, length, get_or, refl, sym, ap, subst, ◌∙◌, arith, inl, inr, length-append, append_assoc, append-nil}
+use Rattle.allocative_collectors.proofs.Common.{Ordering, Less, Equal, ordering_then, Key, Path, key_cmp, path_cmp, Warned, Listed, path_at, Shape, sums, key_in, keys_at, parent_at, KeysRise, IsArena, warned_at, IsUnder, StandsIn, PathsRise, IsWalk}
+use Rattle.std.proofs.lemmas.List.{get_or_append_left, get_or-append-add, get_or-append_right, same_from_push}
 use Rattle.std.proofs.lemmas.Cmp.{tied_itself}
 use Rattle.std.proofs.lemmas.Bool.{cases_lt, cases_eq}
-use Rattle.std.specs.List.{flat_map}
+use Rattle.std.specs.List.{All, flat_map}
+use Rattle.std.proofs.lemmas.List.Elements.{All-append, All-cons, All-weaker}
 use Rattle.std.proofs.lemmas.Grind.{flat_map-append}
+use Rattle.allocative_graph.proofs.Basics.{path_total}
 use Rattle.allocative_collectors.proofs.Orders.{key_total}
-use Rattle.allocative_collectors.proofs.Keys.{length-keys_of, key_in-keys_of}
-use Rattle.allocative_collectors.proofs.Paths.{paths_at, paths_root, distinct}
-use Rattle.allocative_collectors.proofs.Labels.{length_sums, path_sums}
+use Rattle.allocative_collectors.proofs.Labels.{length_sums, root_at, step, key_place, distinct, not_nil}
+use Rattle.allocative_collectors.proofs.Child.{child_of}
 
 -- two paths with a common beginning compare as the rest of both
 after_common : (p x y : Path) → path_cmp (p ++ x) (p ++ y) ≡ path_cmp x y
@@ -30,25 +31,23 @@ stands_left : (xs ys : List ℕ) (i : ℕ) → StandsIn xs i → StandsIn (xs ++
 stands_left xs ys i h = record { place = h.place; in_range = omega (arith, length-append xs ys, h.in_range); is = get_or_append_left xs ys 0 h.place h.in_range ∙ h.is }
 
 stands_right : (xs ys : List ℕ) (i : ℕ) → StandsIn ys i → StandsIn (xs ++ ys) i
-stands_right xs ys i h =
-    let index : length xs + h.place - length xs ≡ h.place = omega arith in
-    record {
-      place = length xs + h.place;
-      in_range = omega (arith, length-append xs ys, h.in_range);
-      is = get_or-append_right xs ys (length xs) (length xs + h.place) 0 refl (omega arith) ∙ (ap (λ (j : ℕ). get_or ys j 0) index ∙ h.is);
-    }
+stands_right xs ys i h = record { place = length xs + h.place; in_range = omega (arith, length-append xs ys, h.in_range); is = get_or-append-add xs ys h.place 0 ∙ h.is }
+
+-- the path of place i is under one of the first j children of the node with the path p
+abbrev UnderOne : Listed → Path → List Key → ℕ → ℕ → Type 0
+UnderOne s p ks j i = (b : ℕ) × (b < j) × IsUnder (p ++ key_in ks b ∷ []) (path_at s i)
 
 -- the paths that were walked: those under the first j children of the node p
 pub record IsPart (s : Listed) (p : Path) (ks : List Key) (j : ℕ) (ys : List ℕ) : Type 0 where
-  pub within : (a : ℕ) → a < length ys → get_or ys a 0 < length s
-  pub under : (a : ℕ) → a < length ys → (b : ℕ) × (b < j) × IsUnder (p ++ key_in ks b ∷ []) (path_at s (get_or ys a 0))
+  pub within : All (λ i. i < length s) ys
+  pub under : All (UnderOne s p ks j) ys
   pub all : (b i : ℕ) → b < j → i < length s → IsUnder (p ++ key_in ks b ∷ []) (path_at s i) → StandsIn ys i
   pub rise : PathsRise s ys
 
 pub part_none : (s : Listed) (p : Path) (ks : List Key) → IsPart s p ks 0 []
 part_none s p ks = record {
-  within = λ a h. absurd (omega arith);
-  under = λ a h. absurd (omega arith);
+  within = λ a d h. absurd (omega arith);
+  under = λ a d h. absurd (omega arith);
   all = λ b i h. absurd (omega arith);
   rise = λ a b lt h. absurd (omega arith);
 }
@@ -65,8 +64,8 @@ module _ (s : Listed) (p : Path) (ks : List Key) (j : ℕ) (hj : j < length ks) 
 
   across : (a b : ℕ) → a < length ys → b < length zs → path_cmp (path_at s (get_or ys a 0)) (path_at s (get_or zs b 0)) ≡ Less
   across a b ha hb =
-      let one = part.under a ha in
-      let two = walk.under b hb in
+      let one = part.under a 0 ha in
+      let two = walk.under b 0 hb in
       let first : IsUnder (p ++ key_in ks one.0 ∷ []) (path_at s (get_or ys a 0)) = one.2 in
       let left : path_at s (get_or ys a 0) ≡ p ++ key_in ks one.0 ∷ first.rest = first.is ∙ snoc_split p _ _ in
       let right : path_at s (get_or zs b 0) ≡ p ++ key_in ks j ∷ two.rest = two.is ∙ snoc_split p _ _ in
@@ -75,14 +74,10 @@ module _ (s : Listed) (p : Path) (ks : List Key) (j : ℕ) (hj : j < length ks) 
 
   pub part_more : IsPart s p ks (j + 1) (ys ++ zs)
   part_more = record {
-    within = λ a h. elim (cases_lt a (length ys)) [
-      | inl lt ↦ rw (at_left a lt) (part.within a lt)
-      | inr ge ↦ rw (at_right a ge) (walk.within (a - length ys) (omega (arith, len)))
-    ];
-    under = λ a h. elim (cases_lt a (length ys)) [
-      | inl lt ↦ let old = part.under a lt in rw (at_left a lt) (old.0, omega (arith, old.1), old.2)
-      | inr ge ↦ rw (at_right a ge) (j, omega arith, walk.under (a - length ys) (omega (arith, len)))
-    ];
+    within = All-append (λ i. i < length s) ys zs part.within walk.within;
+    under = All-append (UnderOne s p ks (j + 1)) ys zs
+        (All-weaker (UnderOne s p ks j) (UnderOne s p ks (j + 1)) (λ i old. (old.0, omega (arith, old.1), old.2)) ys part.under)
+        (All-weaker (λ i. IsUnder (p ++ key_in ks j ∷ []) (path_at s i)) (UnderOne s p ks (j + 1)) (λ i u. (j, omega arith, u)) zs walk.under);
     all = λ b i hb hi under. elim (cases_eq b j) [
       | inl e ↦ stands_right ys zs i (walk.all i hi (subst (λ (x : ℕ). IsUnder (p ++ key_in ks x ∷ []) (path_at s i)) e under))
       | inr ne ↦ stands_left ys zs i (part.all b i (omega arith) hi under)
@@ -96,75 +91,56 @@ module _ (s : Listed) (p : Path) (ks : List Key) (j : ℕ) (hj : j < length ks) 
     ];
   }
 
-module _ (ns : List Shape) (ok : IsArena ns) where
-  -- the path of a node's child
-  pub child_path : (p j : ℕ) → p < length ns → j < length (children_at ns p) → let i = get_or (children_at ns p) j 0 in (p < i) × (i < length (sums ns)) × (path_at (sums ns) i ≡ path_at (sums ns) p ++ key_in (keys_at ns p) j ∷ [])
-  child_path p j hp hj =
-      let i = get_or (children_at ns p) j 0 in
-      let child = ok.children p j hp hj in
-      let lt = ok.parents i child.not_root child.in_range in
-      let step = paths_at ns i child.not_root child.in_range lt in
-      let key : key_at ns i ≡ key_in (keys_at ns p) j = sym (key_in-keys_of ns (children_at ns p) j hj) in (
-        omega (arith, child.parent),
-        omega (arith, length_sums ns, child.in_range),
-        path_sums ns i child.in_range ∙ (step ∙ (ap (λ (q : ℕ). get_or (paths ns) q [] ++ key_at ns i ∷ []) child.parent ∙ (λ k. sym (path_sums ns p hp) k ++ key k ∷ []))),
-      )
+-- a node and what was walked below it are in order
+pub part_rise : (s : Listed) (i : ℕ) (ks : List Key) (j : ℕ) (ys : List ℕ) → IsPart s (path_at s i) ks j ys → PathsRise s (i ∷ ys)
+part_rise s i ks j ys part zero zero lt h = absurd (omega arith)
+part_rise s i ks j ys part (suc a) zero lt h = absurd (omega arith)
+part_rise s i ks j ys part zero (suc b) lt h =
+    let one = part.under b 0 (omega arith) in
+    let u : IsUnder (path_at s i ++ key_in ks one.0 ∷ []) (path_at s (get_or ys b 0)) = one.2 in
+    subst (λ (x : Path). path_cmp (path_at s i) x ≡ Less) (sym (u.is ∙ snoc_split _ _ _)) (beginning_before (path_at s i) (key_in ks one.0) u.rest)
+part_rise s i ks j ys part (suc a) (suc b) lt h = part.rise a b (omega arith) (omega arith)
 
+-- places in order are different
+pub rise_apart : (s : Listed) (xs : List ℕ) → PathsRise s xs → (a b : ℕ) → a < b → b < length xs → get_or xs a 0 ≢ get_or xs b 0
+rise_apart s xs rise a b lt h e =
+    let less = rise a b lt h in
+    let tied : path_cmp (path_at s (get_or xs a 0)) (path_at s (get_or xs b 0)) ≡ Equal = subst (λ (i : ℕ). path_cmp (path_at s (get_or xs a 0)) (path_at s i) ≡ Equal) e (tied_itself path_total (path_at s (get_or xs a 0))) in
+    cc
+
+-- a nonempty path is a beginning and a last key
+last_of : (k : Key) (q : Path) → (q' : Path) × (l : Key) × (k ∷ q ≡ q' ++ l ∷ [])
+last_of k [] = ([], k, refl)
+last_of k (x ∷ q) = let more = last_of x q in (k ∷ more.0, more.1, ap (λ (y : Path). k ∷ y) more.2)
+
+module _ (ns : List Shape) (ok : IsArena ns) where
   -- a path below that of p with k has a child of p with the key k above it or at it
   pub on_way : (n i p : ℕ) → i < n → i < length ns → p < length ns → (k : Key) (q : Path) → path_at (sums ns) i ≡ path_at (sums ns) p ++ k ∷ q → (j : ℕ) × (j < length (keys_at ns p)) × (key_in (keys_at ns p) j ≡ k)
   on_way zero i p lt hi hp k q e = absurd (omega arith)
-  on_way (suc n) zero p lt hi hp k q e = absurd (nothing (path_at (sums ns) p) k q (sym e ∙ (path_sums ns 0 ok.rooted ∙ paths_root ns)))
-    where
-      nothing : (p : Path) (k : Key) (q : Path) → p ++ k ∷ q ≡ [] → ⊥
-      nothing [] k q e = cc
-      nothing (x ∷ p) k q e = cc
-  on_way (suc n) (suc i) p lt hi hp k q e =
+  on_way (suc n) zero p lt hi hp k q e = absurd (not_nil _ _ _ (sym e ∙ root_at ns))
+  on_way (suc n) (suc i) p lt hi hp k [] e =
+      let child = child_of ns ok p hp k (suc i) hi e in
+      let place = key_place ns ok p (suc i) child.0 in
+      ((ok.listed p (suc i) child.0).place, place.0, place.1 ∙ child.1)
+  on_way (suc n) (suc i) p lt hi hp k (x ∷ q) e =
       let up = ok.parents (suc i) (omega arith) hi in
-      let step : path_at (sums ns) (suc i) ≡ path_at (sums ns) (parent_at ns (suc i)) ++ key_at ns (suc i) ∷ [] =
-      path_sums ns (suc i) hi ∙ (paths_at ns (suc i) (omega arith) hi up ∙ ap (λ (x : Path). x ++ key_at ns (suc i) ∷ []) (sym (path_sums ns (parent_at ns (suc i)) (omega arith)))) in
-      split n i p up hi hp k q (sym step ∙ e) (λ q' e'. on_way n (parent_at ns (suc i)) p (omega arith) (omega arith) hp k q' e')
-    where
-      -- a nonempty path is a beginning and a last key
-      last_of : (k : Key) (q : Path) → (q' : Path) × (l : Key) × (k ∷ q ≡ q' ++ l ∷ [])
-      last_of k [] = ([], k, refl)
-      last_of k (x ∷ q) = let more = last_of x q in (k ∷ more.0, more.1, ap (λ (y : Path). k ∷ y) more.2)
+      let l = last_of x q in
+      let split : path_at (sums ns) p ++ k ∷ x ∷ q ≡ (path_at (sums ns) p ++ k ∷ l.0) ++ l.1 ∷ [] =
+      ap (λ (y : Path). path_at (sums ns) p ++ k ∷ y) l.2 ∙ sym (append_assoc (path_at (sums ns) p) (k ∷ l.0) (l.1 ∷ [])) in
+      let parts = same_from_push _ _ _ _ (sym (step ns ok (suc i) (omega arith) hi) ∙ (e ∙ split)) in
+      on_way n (parent_at ns (suc i)) p (omega arith) (omega arith) hp k l.0 parts.0
 
-      split : (n i p : ℕ) → parent_at ns (suc i) < suc i → suc i < length ns → p < length ns → (k : Key) (q : Path) → path_at (sums ns) (parent_at ns (suc i)) ++ key_at ns (suc i) ∷ [] ≡ path_at (sums ns) p ++ k ∷ q → ((q' : Path) → path_at (sums ns) (parent_at ns (suc i)) ≡ path_at (sums ns) p ++ k ∷ q' → (j : ℕ) × (j < length (keys_at ns p)) × (key_in (keys_at ns p) j ≡ k)) → (j : ℕ) × (j < length (keys_at ns p)) × (key_in (keys_at ns p) j ≡ k)
-      split n i p up hi hp k [] e higher =
-          let parts = same_from_push _ _ _ _ e in
-          let same : parent_at ns (suc i) ≡ p = distinct ns ok (parent_at ns (suc i)) p (omega arith) hp (sym (path_sums ns (parent_at ns (suc i)) (omega arith)) ∙ (parts.0 ∙ path_sums ns p hp)) in
-          let found = ok.listed (suc i) (omega arith) hi in
-          let at_p : found.place < length (children_at ns p) = subst (λ (q : ℕ). found.place < length (children_at ns q)) same found.in_range in
-          let is_p : get_or (children_at ns p) found.place 0 ≡ suc i = subst (λ (q : ℕ). get_or (children_at ns q) found.place 0 ≡ suc i) same found.is in
-          (found.place, omega (arith, length-keys_of ns (children_at ns p)), key_in-keys_of ns (children_at ns p) found.place at_p ∙ (ap (key_at ns) is_p ∙ parts.1))
-      split n i p up hi hp k (x ∷ q) e higher =
-          let l = last_of x q in
-          let shape : path_at (sums ns) p ++ k ∷ x ∷ q ≡ (path_at (sums ns) p ++ k ∷ l.0) ++ l.1 ∷ [] =
-          ap (λ (y : Path). path_at (sums ns) p ++ k ∷ y) l.2 ∙ sym (append_assoc (path_at (sums ns) p) (k ∷ l.0) (l.1 ∷ [])) in
-          let parts = same_from_push _ _ _ _ (e ∙ shape) in
-          higher l.0 parts.0
-
-  pub part_all : (p : ℕ) → p < length ns → (j : ℕ) → j ≡ length (keys_at ns p) → (ys : List ℕ) → IsPart (sums ns) (path_at (sums ns) p) (keys_at ns p) j ys → IsWalk (sums ns) (path_at (sums ns) p) (p ∷ ys)
-  part_all p hp j whole ys part = record {
-    within = within;
-    under = under;
+  pub part_all : (p : ℕ) → p < length ns → (ys : List ℕ) → IsPart (sums ns) (path_at (sums ns) p) (keys_at ns p) (length (keys_at ns p)) ys → IsWalk (sums ns) (path_at (sums ns) p) (p ∷ ys)
+  part_all p hp ys part = record {
+    within = All-cons (λ i. i < length (sums ns)) p ys (omega (arith, length_sums ns)) part.within;
+    under = All-cons (λ i. IsUnder (path_at (sums ns) p) (path_at (sums ns) i)) p ys (record { rest = []; is = sym (append-nil (path_at (sums ns) p)) })
+        (All-weaker (UnderOne (sums ns) (path_at (sums ns) p) (keys_at ns p) (length (keys_at ns p))) (λ i. IsUnder (path_at (sums ns) p) (path_at (sums ns) i)) (λ i one. below i one.0 one.2) ys part.under);
     all = all;
-    rise = rise;
+    rise = part_rise (sums ns) p (keys_at ns p) (length (keys_at ns p)) ys part;
   }
     where
-      P : Path
-      P = path_at (sums ns) p
-
-      within : (a : ℕ) → a < length (p ∷ ys) → get_or (p ∷ ys) a 0 < length (sums ns)
-      within zero h = omega (arith, length_sums ns)
-      within (suc a) h = part.within a (omega arith)
-
-      under : (a : ℕ) → a < length (p ∷ ys) → IsUnder (path_at (sums ns) p) (path_at (sums ns) (get_or (p ∷ ys) a 0))
-      under zero h = record { rest = []; is = sym (append-nil (path_at (sums ns) p)) }
-      under (suc a) h =
-          let one = part.under a (omega arith) in
-          let u : IsUnder (path_at (sums ns) p ++ key_in (keys_at ns p) one.0 ∷ []) (path_at (sums ns) (get_or ys a 0)) = one.2 in
-          record { rest = key_in (keys_at ns p) one.0 ∷ u.rest; is = u.is ∙ snoc_split _ _ _ }
+      below : (i b : ℕ) → IsUnder (path_at (sums ns) p ++ key_in (keys_at ns p) b ∷ []) (path_at (sums ns) i) → IsUnder (path_at (sums ns) p) (path_at (sums ns) i)
+      below i b u = record { rest = key_in (keys_at ns p) b ∷ u.rest; is = u.is ∙ snoc_split _ _ _ }
 
       all : (i : ℕ) → i < length (sums ns) → IsUnder (path_at (sums ns) p) (path_at (sums ns) i) → StandsIn (p ∷ ys) i
       all i hi u = by_rest i hi u.rest u.is
@@ -172,24 +148,15 @@ module _ (ns : List Shape) (ok : IsArena ns) where
           by_rest : (i : ℕ) → i < length (sums ns) → (r : Path) → path_at (sums ns) i ≡ path_at (sums ns) p ++ r → StandsIn (p ∷ ys) i
           by_rest i hi [] e =
               let inside : i < length ns = omega (arith, length_sums ns) in
-              let same : i ≡ p = distinct ns ok i p inside hp (sym (path_sums ns i inside) ∙ (e ∙ (append-nil _ ∙ path_sums ns p hp))) in
+              let same : i ≡ p = distinct ns ok i p inside hp (e ∙ append-nil _) in
               record { place = 0; in_range = omega arith; is = sym same }
           by_rest i hi (k ∷ r) e =
               let inside : i < length ns = omega (arith, length_sums ns) in
               let way = on_way (suc i) i p (omega arith) inside hp k r e in
               let below : IsUnder (path_at (sums ns) p ++ key_in (keys_at ns p) way.0 ∷ []) (path_at (sums ns) i) =
               record { rest = r; is = e ∙ (ap (λ (x : Key). path_at (sums ns) p ++ x ∷ r) (sym way.2) ∙ sym (snoc_split _ _ _)) } in
-              let there = part.all way.0 i (omega (arith, way.1)) hi below in
+              let there = part.all way.0 i way.1 hi below in
               record { place = suc there.place; in_range = omega (arith, there.in_range); is = there.is }
-
-      rise : (a b : ℕ) → a < b → b < length (p ∷ ys) → path_cmp (path_at (sums ns) (get_or (p ∷ ys) a 0)) (path_at (sums ns) (get_or (p ∷ ys) b 0)) ≡ Less
-      rise zero zero lt h = absurd (omega arith)
-      rise (suc a) zero lt h = absurd (omega arith)
-      rise zero (suc b) lt h =
-          let one = part.under b (omega arith) in
-          let u : IsUnder (path_at (sums ns) p ++ key_in (keys_at ns p) one.0 ∷ []) (path_at (sums ns) (get_or ys b 0)) = one.2 in
-          subst (λ (x : Path). path_cmp (path_at (sums ns) p) x ≡ Less) (sym (u.is ∙ snoc_split _ _ _)) (beginning_before (path_at (sums ns) p) (key_in (keys_at ns p) one.0) u.rest)
-      rise (suc a) (suc b) lt h = part.rise a b (omega arith) (omega arith)
 
 -- What two walks found, one after the other.
 pub more_warned : (s : Listed) (old mid new : List Warned) (ys zs : List ℕ) → mid ≡ old ++ flat_map (warned_at s) ys → new ≡ mid ++ flat_map (warned_at s) zs → new ≡ old ++ flat_map (warned_at s) (ys ++ zs)

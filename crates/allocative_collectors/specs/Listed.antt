@@ -1,7 +1,7 @@
 -- The paths that were entered, in the order of their first entries, with what was entered at each.
-use Rattle.std.specs.Prelude.{◌≡◌, ℕ, ◌+◌, List, [], ◌∷◌, ◌++◌, Bool, false, ◌||◌, if◌then◌else◌, slice_index_or, sum_by, length, ◌<◌, map}
+use Rattle.std.specs.Prelude.{◌≡◌, ℕ, ◌+◌, List, [], ◌∷◌, ◌++◌, Bool, false, ◌||◌, slice_index_or, sum_by, length, ◌<◌, map, zero, suc}
 use Rattle.std.specs.FinMap.{from_entries}
-use Rattle.allocative_graph.specs.Path.{Key, Path, is_same_path}
+use Rattle.allocative_graph.specs.Path.{Key, Path}
 use Rattle.allocative_graph.specs.Sums.{Sums, Node}
 
 -- A path, the bytes entered there, and whether it was ever entered as unique.
@@ -22,10 +22,11 @@ root_sum = record { path = []; bytes = 0; is_unique = false }
 abbrev pub raise : ℕ → Bool → Sum → Sum
 raise n u s = record { path = s.path; bytes = s.bytes + n; is_unique = s.is_unique || u }
 
--- The list with one more entry of n bytes at p.
-abbrev pub add : Path → ℕ → Bool → Listed → Listed
-add p n u [] = record { path = p; bytes = n; is_unique = u } ∷ []
-add p n u (s ∷ rest) = if is_same_path s.path p then raise n u s ∷ rest else s ∷ add p n u rest
+-- The list with one more entry of n bytes at place i. Where the list ends there, the path q is added at its end.
+abbrev pub put : ℕ → Path → ℕ → Bool → Listed → Listed
+put i q n u [] = record { path = q; bytes = n; is_unique = u } ∷ []
+put zero q n u (s ∷ rest) = raise n u s ∷ rest
+put (suc i) q n u (s ∷ rest) = s ∷ put i q n u rest
 
 -- The bytes of all entries.
 abbrev pub total : Listed → ℕ
@@ -39,12 +40,14 @@ sum_at s i = slice_index_or s i root_sum
 abbrev pub path_at : Listed → ℕ → Path
 path_at s i = let e = sum_at s i in e.path
 
--- `new` is `old` with one more entry of n bytes under k at the path of place `at`, and i is the place of the entry.
+-- `new` is `old` with one more entry of n bytes under k at the path of place `at`, and i is the place of the entry. No
+-- other place has its path.
 pub record IsEntered (old new : Listed) (at : ℕ) (k : Key) (n : ℕ) (u : Bool) (i : ℕ) : Type 0 where
-  pub sums : new ≡ add (path_at old at ++ k ∷ []) n u old
+  pub sums : new ≡ put i (path_at old at ++ k ∷ []) n u old
   pub not_root : 0 < i
   pub within : i < length new
   pub path : path_at new i ≡ path_at old at ++ k ∷ []
+  pub sole : (j : ℕ) → j < length old → path_at old j ≡ path_at old at ++ k ∷ [] → j ≡ i
 
 -- The path at i is the path at p with one more key.
 pub record IsAbove (s : Listed) (i : ℕ) (p : ℕ) : Type 0 where

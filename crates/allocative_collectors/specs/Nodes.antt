@@ -1,5 +1,5 @@
 -- The nodes of a tree, as shapes.
-use Rattle.std.specs.Prelude.{List, map}
+use Rattle.std.specs.Prelude.{◌≡◌, List, length, map}
 use Rattle.allocative_collectors.specs.declared.tree.Node.{Node}
 use Rattle.allocative_collectors.specs.Listed.{Listed}
 use Rattle.allocative_collectors.specs.Shapes.{Shape, sums, IsArena}
@@ -19,6 +19,7 @@ shape n = record {
 abbrev pub sums_of : List Node → Listed
 sums_of ns = sums (map shape ns)
 
--- The nodes are an arena.
-abbrev pub IsTree : List Node → Type 0
-IsTree ns = IsArena (map shape ns)
+-- The nodes are an arena, and the sums have a place for each.
+pub record IsTree (ns : List Node) : Type 0 where
+  pub arena : IsArena (map shape ns)
+  pub size : length (sums_of ns) ≡ length ns

@@ -1,8 +1,9 @@
 -- An arena of nodes, as plain values.
 use Rattle.std.specs.Prelude.{◌≡◌, ℕ, ◌<◌, ◌≤◌, List, [], ◌∷◌, ◌++◌, Bool, false, ◌==◌, if◌then◌else◌, slice_index, slice_index_or, sum_by, length, map}
+use Rattle.std.specs.List.{All}
 use Rattle.std.specs.declared.cmp.Ordering.TheVariants.{Less, Greater}
 use Rattle.allocative_graph.specs.Path.{Key, Path, key_cmp}
-use Rattle.allocative_collectors.specs.Listed.{Listed}
+use Rattle.allocative_collectors.specs.Listed.{Listed, Sum}
 
 -- A node: its key, the number of its parent, the numbers of its children, the bytes entered at it, whether it was ever
 -- entered as unique, and the bytes entered at its children.
@@ -22,30 +23,20 @@ no_shape = record { key = []; parent = 0; children = []; bytes = 0; is_unique = 
 abbrev pub at : List Shape → ℕ → Shape
 at ns i = slice_index_or ns i no_shape
 
--- ---- the paths
--- The path of a node, where ps are the paths of the nodes before it.
-abbrev pub path_from : List Path → Shape → Path
-path_from ps n = slice_index_or ps n.parent [] ++ n.key ∷ []
+-- ---- the sums
+-- What a node stands for, where ps are the paths of the nodes before it: its path is its parent's with one more key.
+abbrev pub sum_from : List Path → Shape → Sum
+sum_from ps n = record { path = slice_index_or ps n.parent [] ++ n.key ∷ []; bytes = n.bytes; is_unique = n.is_unique }
 
--- The paths ps, followed by those of the nodes ns.
-abbrev pub grow : List Path → List Shape → List Path
-grow ps [] = ps
-grow ps (n ∷ ns) = grow (ps ++ path_from ps n ∷ []) ns
+-- What the nodes ns stand for, where ps are the paths of the nodes before them.
+abbrev pub grow : List Path → List Shape → Listed
+grow ps [] = []
+grow ps (n ∷ ns) = let e = sum_from ps n in e ∷ grow (ps ++ e.path ∷ []) ns
 
--- The paths of the nodes: the first is the root, and each other one is its parent's with one more key.
-abbrev pub paths : List Shape → List Path
-paths [] = []
-paths (n ∷ ns) = grow ([] ∷ []) ns
-
--- Each path with what was entered at its node.
-abbrev pub label : List Path → List Shape → Listed
-label [] ns = []
-label (p ∷ ps) [] = []
-label (p ∷ ps) (n ∷ ns) = record { path = p; bytes = n.bytes; is_unique = n.is_unique } ∷ label ps ns
-
--- The sums that the nodes stand for.
+-- The sums that the nodes stand for. The first node is the root.
 abbrev pub sums : List Shape → Listed
-sums ns = label (paths ns) ns
+sums [] = []
+sums (n ∷ ns) = record { path = []; bytes = n.bytes; is_unique = n.is_unique } ∷ grow ([] ∷ []) ns
 
 -- ---- what a node has
 -- The key of node i.
@@ -93,11 +84,11 @@ key_in ks j = slice_index_or ks j []
 abbrev pub KeysRise : List Key → Type 0
 KeysRise ks = (i j : ℕ) → i < j → j < length ks → key_cmp (key_in ks i) (key_in ks j) ≡ Less
 
--- Node i is one of its parent's children.
-pub record IsListed (ns : List Shape) (i : ℕ) : Type 0 where
+-- The number i is in the list.
+pub record StandsIn (xs : List ℕ) (i : ℕ) : Type 0 where
   pub place : ℕ
-  pub in_range : place < length (children_at ns (parent_at ns i))
-  pub is : slice_index (children_at ns (parent_at ns i)) place ≡ i
+  pub in_range : place < length xs
+  pub is : slice_index xs place ≡ i
 
 -- Node i is not the root, and its parent is p.
 pub record IsChild (ns : List Shape) (p i : ℕ) : Type 0 where
@@ -112,18 +103,12 @@ pub record IsArena (ns : List Shape) : Type 0 where
   pub root_empty : bytes_at ns 0 ≡ 0
   pub root_parent : parent_at ns 0 ≡ 0
   pub parents : (i : ℕ) → 0 < i → i < length ns → parent_at ns i < i
-  pub listed : (i : ℕ) → 0 < i → i < length ns → IsListed ns i
-  pub children : (p j : ℕ) → p < length ns → j < length (children_at ns p)
-      → IsChild ns p (slice_index (children_at ns p) j)
-  pub rise : (p : ℕ) → p < length ns → KeysRise (keys_at ns p)
-  pub below : (p : ℕ) → p < length ns → below_at ns p ≡ below_of p ns
+  pub listed : (p i : ℕ) → IsChild ns p i → StandsIn (children_at ns p) i
+  pub children : (p : ℕ) → All (IsChild ns p) (children_at ns p)
+  pub rise : (p : ℕ) → KeysRise (keys_at ns p)
+  pub below : (p : ℕ) → below_at ns p ≡ below_of p ns
 
 -- ---- a search
--- The key k is at place i.
-pub record IsPlace (ks : List Key) (k : Key) (i : ℕ) : Type 0 where
-  pub in_range : i < length ks
-  pub has_key : key_in ks i ≡ k
-
 -- The key k is missing, and belongs at place i: the keys before that place are smaller, those from it on are greater.
 pub record IsKeyGap (ks : List Key) (k : Key) (i : ℕ) : Type 0 where
   pub in_range : i ≤ length ks

@@ -117,17 +117,12 @@ impl GraphCollector {
     {
         let here = self.current;
         add(&mut self.tree, &mut self.entered, here, key, size, false)?;
-        match self.met.insert(id) {
-            Ok(true) => {
-                if self.places.push(here).is_err() {
-                    return Err(Refusal::Memory);
-                }
-                self.current = 0;
-                Ok(true)
-            }
-            Ok(false) => Ok(false),
-            Err(_) => Err(Refusal::Memory),
+        if !self.met.insert(id)? {
+            return Ok(false);
         }
+        self.places.push(here)?;
+        self.current = 0;
+        Ok(true)
     }
 
     /// One visitor less: back to where the visitor outside it is. It allocates nothing.
@@ -204,11 +199,7 @@ fn add(
     if size > isize::MAX as usize - *entered {
         return Err(Refusal::TooLarge);
     }
-    match tree.enter(at, key, size, is_unique) {
-        Ok(node) => {
-            *entered += size;
-            Ok(node)
-        }
-        Err(_) => Err(Refusal::Memory),
-    }
+    let node = tree.enter(at, key, size, is_unique)?;
+    *entered += size;
+    Ok(node)
 }

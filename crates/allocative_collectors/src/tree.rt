@@ -2,10 +2,10 @@
 ghost use Rattle.std.specs.Prelude.{◌≡◌, ◌+◌, ◌^◌, ◌<◌, ◌≤◌, ℕ, [], ◌∷◌, ◌++◌, length, map, slice_index, EachIndex, IfOk, IfErr, IfSome, IfNone, OnOk, OnErr, IsTrue, ◌↔◌, false};
 ghost use Rattle.allocative_graph.specs.Graph.{total as graph_total};
 ghost use Rattle.allocative_graph.specs.Visits.{IsProfile};
-ghost use Rattle.allocative_collectors.specs.Listed.{root_sum, add, total, path_at, map_of, IsEntered, IsAbove};
+ghost use Rattle.allocative_collectors.specs.Listed.{root_sum, put, total, path_at, map_of, IsEntered, IsAbove};
 ghost use Rattle.allocative_collectors.specs.Finishing.{size_at_place, is_short, Makes, MakesAlone};
-ghost use Rattle.allocative_collectors.specs.Shapes.{keys_of, KeysRise, IsPlace, IsKeyGap};
-ghost use Rattle.allocative_collectors.specs.Nodes.{shape};
+ghost use Rattle.allocative_collectors.specs.Shapes.{keys_at, key_at, IsChild, IsKeyGap};
+ghost use Rattle.allocative_collectors.specs.Nodes.{shape, IsTree};
 ghost use Rattle.allocative_collectors.specs.Warned.{seen};
 
 use crate::output::{FlameGraphOutput, WarnedPath};
@@ -194,11 +194,7 @@ impl Tree {
         ensures { result ≡ is_short self.now at }
     {
         let node = &self.nodes[at];
-        if at == 0 || node.is_unique {
-            false
-        } else {
-            node.bytes < node.below
-        }
+        at != 0 && !node.is_unique && node.bytes < node.below
     }
 
     /// The child of the node `at` that has the key. It is made where there is none.
@@ -266,8 +262,8 @@ impl Tree {
         ensures entered { IfOk result (IsEntered self.old self.new at key.now 0 false) }
         ensures err { OnErr result (self.new ≡ self.old) }
     {
-        match find(&self.nodes, self.nodes[at].children.as_slice(), key) {
-            Ok(place) => Ok(self.nodes[at].children.as_slice()[place] as usize),
+        match find(&self.nodes, at, key) {
+            Ok(child) => Ok(child),
             Err(place) => {
                 let node = self.nodes.len();
                 let Ok(number) = u32::try_from(node) else {
@@ -284,11 +280,13 @@ impl Tree {
                     follower: 0,
                     is_unique: false,
                 })?;
-                if self.nodes[at].children.insert(place, number).is_err() {
-                    let _ = self.nodes.pop();
-                    return Err(AllocError);
+                match self.nodes[at].children.insert(place, number) {
+                    Ok(()) => Ok(node),
+                    Err(_) => {
+                        let _ = self.nodes.pop();
+                        Err(AllocError)
+                    }
                 }
-                Ok(node)
             }
         }
     }
@@ -299,7 +297,7 @@ impl Tree {
         requires not_root { 0 < node }
         requires within { node < length self.old }
         requires fits { total self.old + size < 2 ^ 63 }
-        ensures { self.new ≡ add (path_at self.old node) size is_unique self.old }
+        ensures { self.new ≡ put node (path_at self.old node) size is_unique self.old }
     {
         let entered = &mut self.nodes[node];
         entered.bytes += size;
@@ -319,26 +317,27 @@ fn guess(number: usize) -> u32
     u32::try_from(number).unwrap_or(0)
 }
 
-/// The place of the key among the children, which are in the order of their keys, or the place where it belongs.
-fn find(nodes: &[Node], children: &[u32], key: &Key) -> Result<usize, usize>
-    requires within { EachIndex children.now (λ j. slice_index children.now j < length nodes.now) }
-    requires rise { KeysRise (keys_of (map shape nodes.now) children.now) }
-    ensures found { IfOk result (IsPlace (keys_of (map shape nodes.now) children.now) key.now) }
-    ensures absent { IfErr result (IsKeyGap (keys_of (map shape nodes.now) children.now) key.now) }
+/// The child of the node `at` that has the key, or the place where the key belongs among the children, which are in the
+/// order of their keys.
+fn find(nodes: &[Node], at: usize, key: &Key) -> Result<usize, usize>
+    requires within { at < length nodes.now }
+    requires tree { IsTree nodes.now }
+    ensures found { IfOk result (λ i. IsChild (map shape nodes.now) at i × (key_at (map shape nodes.now) i ≡ key.now)) }
+    ensures absent { IfErr result (IsKeyGap (keys_at (map shape nodes.now) at) key.now) }
 {
+    let children = nodes[at].children.as_slice();
     // A key that comes in order needs one comparison.
-    if let Some(&last) = children.last()
-        && nodes[last as usize].key.cmp(key).is_lt()
-    {
-        return Err(children.len());
+    let mut high = children.len();
+    if high != 0 && nodes[children[high - 1] as usize].key.cmp(key).is_lt() {
+        return Err(high);
     }
     let mut low = 0;
-    let mut high = children.len();
     while low < high {
         let middle = low + (high - low) / 2;
-        match nodes[children[middle] as usize].key.cmp(key) {
+        let child = children[middle] as usize;
+        match nodes[child].key.cmp(key) {
             Ordering::Less => low = middle + 1,
-            Ordering::Equal => return Ok(middle),
+            Ordering::Equal => return Ok(child),
             Ordering::Greater => high = middle,
         }
     }

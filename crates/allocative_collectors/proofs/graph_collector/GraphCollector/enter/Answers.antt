@@ -1,22 +1,18 @@
 -- The tree has one more entry, and the current place is that of the entry.
 use Rattle.std.proofs.Common.{◌≡◌, ◌+◌, ◌<◌, ◌^◌, subst}
 use Rattle.allocative_collectors.proofs.Common.{entered, Live, enter_live, live}
-use Rattle.allocative_collectors.proofs.Collect.{placed_added, placed_at, mark_of, mark_is, fits_map, gone_down}
+use Rattle.allocative_collectors.proofs.Collect.{placed_added, placed_at, fits_map, gone_down}
 use Rattle.allocative_collectors.proofs.graph_collector.GraphCollector.enter.Goals as goal
 
 pub invariant_of-self-2 : goal.invariant_of-self-2
 invariant_of-self-2 c =
-    let i = c.self.inside in
     let ok = c.in_ok-self-inside in
-    placed_at c.add.new.tree i.current i.places.items c.add.new.entered
-    (placed_added i.tree c.add.new.tree i.met.keys i.current i.places.items i.is_rooted i.entered c.self.invariant c.args.key.now c.args.size c.args.is_unique c.add.new.entered ok.field-0 ok.ensures.ok (mark_of c.args.is_unique) (mark_is c.args.is_unique))
-    ok.field-0 ok.ensures.ok.is.within
+    let placed = placed_added c.self.invariant ok.ensures.ok in
+    placed_at placed ok.field-0 ok.ensures.ok.is.within c.self.inside.places.items placed.back
 
 pub returns-clause-ok : goal.returns-clause-ok
 returns-clause-ok c =
     let i = c.self.inside in
     let ok = c.in_ok-self-inside in
-    subst (λ (v : Live). (entered v.sums + c.args.size < 2 ^ 63) × (live c.add.new.tree i.met.keys ok.field-0 i.places.items i.is_rooted ≡ enter_live c.args.is_unique c.args.key.now c.args.size v)) c.self.view_is (
-      fits_map i.tree c.add.new.tree i.met.keys i.current i.places.items i.is_rooted i.entered c.self.invariant c.args.key.now c.args.size c.args.is_unique c.add.new.entered ok.field-0 ok.ensures.ok,
-      gone_down i.tree c.add.new.tree i.met.keys i.current i.places.items i.is_rooted i.entered c.self.invariant c.args.key.now c.args.size c.args.is_unique c.add.new.entered ok.field-0 ok.ensures.ok,
-    )
+    subst (λ (v : Live). (entered v.sums + c.args.size < 2 ^ 63) × (live c.add.new.tree i.met.keys ok.field-0 i.places.items i.is_rooted ≡ enter_live c.args.is_unique c.args.key.now c.args.size v)) c.self.view_is
+    (fits_map c.self.invariant ok.ensures.ok, gone_down c.self.invariant ok.ensures.ok i.met.keys i.is_rooted)

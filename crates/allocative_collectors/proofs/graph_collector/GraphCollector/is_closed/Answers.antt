@@ -1,7 +1,8 @@
 -- No visitor is open exactly where the place is the root, no content is open and no root visitor is open.
-use Rattle.std.proofs.Common.{◌≡◌, length, true≢false, sym, ap, ◌∙◌, arith}
+use Rattle.std.proofs.Common.{◌≡◌, length, true≢false, sym, ap, ◌∙◌, arith, eqb-true, eq-eqb}
 use Rattle.allocative_collectors.proofs.Common.{Live}
-use Rattle.allocative_collectors.proofs.Collect.{closed, not_closed, nothing_back, no_places, count_none, none_counted, IsOut}
+use Rattle.std.proofs.lemmas.List.{nil_from_length}
+use Rattle.allocative_collectors.proofs.Collect.{closed, not_closed, nothing_back, IsOut}
 use Rattle.allocative_collectors.proofs.graph_collector.GraphCollector.is_closed.Goals as goal
 
 pub returns-in-Some-clause-closed : goal.returns-in-Some-clause-closed
@@ -25,9 +26,9 @@ pub returns-in-None-2-clause-closed : goal.returns-in-None-2-clause-closed
 returns-in-None-2-clause-closed c =
     let i = c.self.inside in
     let visitors = ap (λ (v : Live). v.open_visitors) c.self.view_is in (
-      (λ is. let empty : length i.places.items ≡ 0 = omega (arith, i.places.ok.0, count_none _ (sym c.is_empty.ensures ∙ is)) in
-          let out : IsOut i.tree i.current i.places.items i.is_rooted = record { root = c.in-None-2.ensures.root; no_place = no_places i.places.items empty; no_visitor = c.if-self.false } in
+      (λ is. let empty : length i.places.items ≡ 0 = omega (arith, i.places.ok.0, eqb-true _ 0 (sym c.is_empty.ensures ∙ is)) in
+          let out : IsOut i.tree i.current i.places.items i.is_rooted = record { root = c.in-None-2.ensures.root; no_place = nil_from_length i.places.items empty; no_visitor = c.if-self.false } in
           sym visitors ∙ ap length (nothing_back i.tree i.current i.places.items i.is_rooted out)),
       (λ none. let out = closed i.tree i.current i.places.items i.is_rooted (visitors ∙ none) in
-          let none_there = ap length out.no_place in c.is_empty.ensures ∙ none_counted _ (omega (arith, i.places.ok.0))),
+          let none_there = ap length out.no_place in c.is_empty.ensures ∙ eq-eqb _ 0 (omega (arith, i.places.ok.0))),
     )

@@ -11,17 +11,17 @@ use Rattle.allocative_collectors.proofs.Whole.{warned_walk, lines-warned_paths}
 use Rattle.allocative_collectors.proofs.tree.Tree.finish.Goals as goal
 
 pub make-requires-clause-within : goal.make-requires-clause-within
-make-requires-clause-within c = (subst IsListing c.self.view_is (listing (map shape c.self.inside.nodes.items) c.self.invariant)).rooted
+make-requires-clause-within c = (subst IsListing c.self.view_is (listing (map shape c.self.inside.nodes.items) c.self.invariant.arena)).rooted
 
 pub make-requires-clause-keys : goal.make-requires-clause-keys
 make-requires-clause-keys c =
-    let all : IsListing c.args.self.now = subst IsListing c.self.view_is (listing (map shape c.self.inside.nodes.items) c.self.invariant) in
+    let all : IsListing c.args.self.now = subst IsListing c.self.view_is (listing (map shape c.self.inside.nodes.items) c.self.invariant.arena) in
     ap (map (λ (k : Bor (List ℕ)). k.now)) c.new-keys.ensures.items ∙ sym all.root_path
 
 pub returns-clause-made : goal.returns-clause-made
 returns-clause-made c =
     let v = c.args.self.now in
-    let all : IsListing v = subst IsListing c.self.view_is (listing (map shape c.self.inside.nodes.items) c.self.invariant) in
+    let all : IsListing v = subst IsListing c.self.view_is (listing (map shape c.self.inside.nodes.items) c.self.invariant.arena) in
     let made = c.in_ok-graph.ensures.made in
     let walk : IsWalk v [] (0 ∷ made.others) = subst (λ (p : Path). IsWalk v p (0 ∷ made.others)) all.root_path made.walk in
     let warned : map seen c.make.new.warned.items ≡ warned_paths (map_of v) =

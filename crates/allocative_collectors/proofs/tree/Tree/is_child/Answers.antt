@@ -1,41 +1,53 @@
 -- A node with this parent and this key is the child, and no other node is.
-use Rattle.std.proofs.Common.{◌≡◌, ◌≢◌, ◌<◌, List, length, not, true≢false, arith, sym, ap, subst, ◌∙◌, eqb-true, eq-eqb}
+use Rattle.std.proofs.Common.{◌≡◌, ◌≢◌, ◌<◌, ◌↔◌, false, List, length, map, get_or, not, true≢false, arith, sym, ap, subst, ◌∙◌, eqb-true, eq-eqb}
+use Rattle.allocative_collectors.proofs.Common.{shape, Shape, Listed, IsEntered}
+use Rattle.std.proofs.lemmas.List.{length-map}
 use Rattle.std.proofs.lemmas.Slice.Eq.{bytes_eq-Decides}
 use Rattle.allocative_collectors.specs.declared.tree.Node.{Node}
-use Rattle.allocative_collectors.proofs.NodeReads.{length_nodes}
-use Rattle.allocative_collectors.proofs.Guessed.{guessed}
+use Rattle.allocative_collectors.proofs.NodeReads.{length_nodes, in_shapes, shape_read}
+use Rattle.allocative_collectors.proofs.Child.{was_entered, child_of}
 use Rattle.allocative_collectors.proofs.tree.Tree.is_child.Goals as goal
-use Rattle.allocative_collectors.proofs.tree.Tree.is_child.Goals.{then-number-ne0, else-number-ne0}
+use Rattle.allocative_collectors.proofs.tree.Tree.is_child.Goals.{In-Some, then-number-ne0, else-number-ne0}
+
+-- The node that was read is the child exactly where it is not the root and its parent and its key are right.
+guess : (c : In-Some) → let n = c.in-Some.node.now in IsEntered c.args.self.now c.args.self.now c.args.at c.args.key.now 0 false c.args.number ↔ ((0 < c.args.number) × (n.parent ≡ c.args.at) × (n.key ≡ c.args.key.now))
+guess c =
+    let items = c.self.inside.nodes.items in
+    let i = c.args.number in
+    let n = c.in-Some.node.now in
+    let node = c.in-Some.ensures.lookup.3 in
+    let here = in_shapes items c.args.at c.self.view_is c.requires in
+    let inside : i < length items = subst (λ (l : List Node). i < length l) c.deref.ensures.value node.0 in
+    let deep : i < length (map shape items) = omega (arith, length-map items shape) in
+    let is = shape_read items i n inside (node.1 n ∙ ap (λ (l : List Node). get_or l i n) c.deref.ensures.value) in
+    let parent = ap (λ (s : Shape). s.parent) is in
+    let key = ap (λ (s : Shape). s.key) is in
+    subst (λ (s : Listed). IsEntered s s c.args.at c.args.key.now 0 false i ↔ ((0 < i) × (n.parent ≡ c.args.at) × (n.key ≡ c.args.key.now))) c.self.view_is (
+      (λ entered. let child = child_of (map shape items) c.self.invariant.arena c.args.at here c.args.key.now i deep entered.path in (entered.not_root, sym parent ∙ child.0.parent, sym key ∙ child.1)),
+      (λ right. was_entered (map shape items) c.self.invariant.arena c.args.at here c.args.key.now i (record { not_root = right.0; in_range = deep; parent = parent ∙ right.1 }) (key ∙ right.2)),
+    )
 
 pub returns-then-node-at : goal.returns-then-node-at
 returns-then-node-at c =
-    let i = c.self.inside in
-    let a = c.args in
     let n = c.in-Some.node.now in
-    let node = c.in-Some.ensures.lookup.3 in
-    let guess = guessed i.nodes.items c.self.invariant a.self.now c.self.view_is a.at c.requires a.key.now a.number n c.deref.result.now c.deref.ensures.value node.0 (node.1 n) in
-    let same_keys = bytes_eq-Decides a.key.now n.key in
-    let tests : (a.number ≢ 0) × (n.parent ≡ a.at) = elim c.if-number-ne0.branch [
+    let same_keys = bytes_eq-Decides c.args.key.now n.key in
+    let tests : (c.args.number ≢ 0) × (n.parent ≡ c.args.at) = elim c.if-number-ne0.branch [
       | then-number-ne0 w ↦ (w.if-number-ne0.true, eqb-true _ _ (sym w.value-is ∙ c.if-node-at.true))
-      | else-number-ne0 w ↦ absurd (true≢false (sym (sym w.value-is ∙ c.if-node-at.true) ∙ ap not (eq-eqb a.number 0 w.if-number-ne0.false)))
+      | else-number-ne0 w ↦ absurd (true≢false (sym (sym w.value-is ∙ c.if-node-at.true) ∙ ap not (eq-eqb c.args.number 0 w.if-number-ne0.false)))
     ] in
-    let not_root : a.number ≢ 0 = tests.0 in (
-      (λ same. guess.0 (omega arith) tests.1 (sym (same_keys.0 (sym c.eq.ensures ∙ same)))),
-      (λ entered. let right = guess.1 entered in c.eq.ensures ∙ same_keys.1 (sym right.1)),
+    let not_root : c.args.number ≢ 0 = tests.0 in (
+      (λ same. (guess (goal.at.returns-then-node-at c).In-Some).1 (omega arith, tests.1, sym (same_keys.0 (sym c.eq.ensures ∙ same)))),
+      (λ entered. c.eq.ensures ∙ same_keys.1 (sym ((guess (goal.at.returns-then-node-at c).In-Some).0 entered).2)),
     )
 
 pub returns-else-node-at : goal.returns-else-node-at
-returns-else-node-at c =
-    let i = c.self.inside in
-    let a = c.args in
-    let n = c.in-Some.node.now in
-    let node = c.in-Some.ensures.lookup.3 in (
-      (λ is. absurd (true≢false (sym is ∙ c.if-node-at.false))),
-      (λ entered. elim c.if-number-ne0.branch [
-        | then-number-ne0 w ↦ let right = guessed i.nodes.items c.self.invariant a.self.now c.self.view_is a.at c.requires a.key.now a.number n c.deref.result.now c.deref.ensures.value node.0 (node.1 n) in w.value-is ∙ eq-eqb n.parent a.at (right.1 entered).0
-        | else-number-ne0 w ↦ absurd (omega (arith, w.if-number-ne0.false, entered.not_root))
-      ]),
-    )
+returns-else-node-at c = (
+  (λ is. absurd (true≢false (sym is ∙ c.if-node-at.false))),
+  (λ entered. elim c.if-number-ne0.branch [
+    | then-number-ne0 w ↦ w.value-is ∙ eq-eqb c.in-Some.node.now.parent c.args.at ((guess (goal.at.returns-else-node-at c).In-Some).0 entered).1
+    | else-number-ne0 w ↦ absurd (omega (arith, w.if-number-ne0.false, entered.not_root))
+  ]),
+)
 
 pub returns-in-None : goal.returns-in-None
 returns-in-None c =
