@@ -94,6 +94,7 @@ pub(crate) fn levels(least: u32, all: u128, rows: &[Row<'_>]) -> u128
 }
 
 /// Appends the beginning of a picture. Its height is in pixels.
+#[tactic(auto, unfolding(crate::specs::Page::opening))]
 pub(crate) fn push_opening(height: u128, text: &mut String) -> Result<(), AllocError>
     ensures { OnOk result (string_bytes text.new ≡ string_bytes text.old ++ opening height) }
 {
