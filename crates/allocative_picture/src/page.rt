@@ -82,6 +82,7 @@ fn level_of(least: u32, all: u128, levels: u128, row: &Row<'_>) -> u128
 }
 
 /// The number of levels of boxes that the rows need.
+#[tactic(auto, unfolding(crate::specs::Page::levels))]
 pub(crate) fn levels(least: u32, all: u128, rows: &[Row<'_>]) -> u128
     ensures levels { result ≡ levels least all (map seen rows.now) }
     ensures bound { result ≤ 2 ^ 64 }
@@ -147,6 +148,7 @@ pub(crate) fn push_tools_of(subject: Subject, text: &mut String) -> Result<(), A
 }
 
 /// Appends the boxes of some rows.
+#[tactic(auto, unfolding(crate::specs::Page::boxes))]
 pub(crate) fn push_boxes(
     alloc: Global,
     least: u32,
