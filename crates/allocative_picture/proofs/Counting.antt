@@ -1,6 +1,6 @@
 -- Which rows have a box, and how often a path occurs.
-use Rattle.std.proofs.Common.{◌≡◌, ℕ, ◌+◌, ◌&&◌, Bool, true, false, cond, List, [], ◌∷◌, ◌++◌, Some, refl, sym, ap, subst, ◌∙◌, T, filter, flat_map, count_by}
-use Rattle.allocative_picture.proofs.Common.{Ordering, Less, Equal, Greater, is_eq, is_lt, entries, entries_sorted, is_sorted, below_all, Path, path_cmp, is_same_path, Graph, Seen, is_drawn, box}
+use Rattle.std.proofs.Common.{◌≡◌, ℕ, ◌+◌, Bool, true, false, cond, List, [], ◌∷◌, ◌++◌, Some, refl, sym, ap, subst, ◌∙◌, T, filter, flat_map, count_by}
+use Rattle.allocative_picture.proofs.Common.{is_eq, entries, entries_sorted, is_sorted, below_all, Path, path_cmp, is_same_path, Graph, Seen, is_drawn, box}
 use Rattle.std.proofs.lemmas.List.Sums.{sum_by-cons}
 use Rattle.std.specs.Option.{is_some}
 use Rattle.std.specs.FinMap.{contains_key, get-entries}

@@ -6,7 +6,6 @@ use Rattle.std.proofs.lemmas.List.Sums.{sum_by-cons, sum_by-le-sum_by}
 use Rattle.std.specs.Cmp.Lexicographic.{nat_list_cmp_total}
 use Rattle.allocative_graph.specs.Path.{Key}
 use Rattle.allocative_graph.specs.Graph.{begins}
-use Rattle.allocative_graph.proofs.ChildOrder.{key_same}
 use Rattle.allocative_picture.specs.Boxes.{edge, right}
 use Rattle.allocative_picture.specs.Laws.{row_at, IsInside}
 
@@ -98,9 +97,9 @@ pub is_inside : (M : Path → Mark) (g : Graph) (p : Path) (k : Key) → IsInsid
 is_inside M g p k = record {
   starts = edges-le (total g) _ _ (sum_by-le-sum_by (lowers p) (lowers (p ++ k ∷ [])) (entries g) (λ e. longer e.1 e.0 p (k ∷ [])));
   ends = edges-le (total g) _ _ (
-    let le = sum_by-le-sum_by (reaches (p ++ k ∷ [])) (reaches p) (entries g) (λ e. inner e.1 e.0 p (k ∷ [])) in
-    omega (arith, le, reached p (entries g), reached (p ++ k ∷ []) (entries g))
-  );
+      let le = sum_by-le-sum_by (reaches (p ++ k ∷ [])) (reaches p) (entries g) (λ e. inner e.1 e.0 p (k ∷ [])) in
+      omega (arith, le, reached p (entries g), reached (p ++ k ∷ []) (entries g))
+      );
 }
 
 pub is_apart : (M : Path → Mark) (g : Graph) (p : Path) (k l : Key) → key_cmp k l ≡ Less → right (total g) (row_at M g (p ++ k ∷ [])) ≤ left (total g) (row_at M g (p ++ l ∷ []))

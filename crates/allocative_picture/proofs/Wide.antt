@@ -1,12 +1,11 @@
 -- A picture needs only the rows that have a box, and the number of the others.
-use Rattle.std.proofs.Common.{◌≡◌, ℕ, ◌+◌, ◌-◌, ◌*◌, Bool, true, false, cond, max, List, [], ◌∷◌, ◌++◌, map, length, filter, refl, sym, ap, ◌∙◌, fold, flat_map, count_by}
-use Rattle.allocative_picture.proofs.Common.{Row, Seen, seen, is_drawn, style, closing, level_of, tools_of, warning_lines}
+use Rattle.std.proofs.Common.{◌≡◌, ℕ, ◌+◌, Bool, true, false, cond, max, List, [], ◌∷◌, map, length, filter, refl, sym, ap, ◌∙◌, fold, flat_map}
+use Rattle.allocative_picture.proofs.Common.{Row, Seen, seen, is_drawn, level_of}
 use Rattle.std.proofs.lemmas.List.Sums.{length-filter}
-use Rattle.allocative_collectors.specs.Warned as held
 use Rattle.allocative_picture.specs.declared.options.Options.{Options}
 use Rattle.allocative_picture.specs.declared.page.Subject.{Subject}
 use Rattle.allocative_picture.specs.Boxes.{element}
-use Rattle.allocative_picture.specs.Page.{all_of, levels, opening, heading, summary, boxes}
+use Rattle.allocative_picture.specs.Page.{all_of, levels}
 use Rattle.allocative_picture.specs.Picture.{drawing, drawing_of}
 use Rattle.allocative_picture.proofs.Counting.{boxes_are}
 
@@ -42,8 +41,3 @@ same_drawing s o rs ws vs all n made full wide same many is =
     let drew = sym (length-filter p ds) ∙ ap (λ (x : List Seen). length x) twice ∙ length-filter p rs in
     let boxed = boxes_are o.narrowest (all_of s) ds ∙ ap (flat_map (element (all_of s))) twice ∙ sym (boxes_are o.narrowest (all_of s) rs) in
     rw (← high, ← drew, ← boxed, ← many) is
-
--- The picture of rows is that of as many paths.
-pub drawing_of-rows : (s : Subject) (o : Options) (rs : List Seen) (n : ℕ) → n ≡ length rs → drawing_of s o rs n ≡ drawing s o rs
-unfolding drawing drawing_of
-drawing_of-rows s o rs n e = ap (drawing_of s o rs) e

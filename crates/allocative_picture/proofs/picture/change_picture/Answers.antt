@@ -1,8 +1,7 @@
-use Rattle.std.proofs.Common.{◌≡◌, ℕ, ◌+◌, List, map, filter, ap, rules, ◌∙◌}
-use Rattle.allocative_picture.proofs.Common.{seen, is_drawn, Row}
+use Rattle.std.proofs.Common.{◌≡◌, rules, ◌∙◌}
 use Rattle.allocative_graph.specs.Graph.{sum_of}
 use Rattle.allocative_picture.specs.Rows.{rows_of, changed_mark}
-use Rattle.allocative_picture.specs.Picture.{drawing, drawing_of}
+use Rattle.allocative_picture.specs.Picture.{drawing}
 use Rattle.allocative_picture.specs.declared.page.Subject.TheVariants.{Change}
 use Rattle.allocative_picture.proofs.Wide.{same_drawing}
 use Rattle.allocative_picture.proofs.picture.change_picture.Goals as goal

@@ -1,7 +1,4 @@
-use Rattle.std.proofs.Common.{◌≡◌, ℕ, ◌+◌, ◌-◌, ◌*◌, ◌++◌, List, [], map, count_by, length, ap, ◌∙◌, refl}
-use Rattle.allocative_picture.proofs.Common.{seen, is_drawn, style, closing, tools_of, warning_lines}
-use Rattle.allocative_collectors.specs.Warned as held
-use Rattle.allocative_picture.specs.Page.{levels, opening, heading, summary, boxes}
+use Rattle.std.proofs.Common.{refl}
 use Rattle.allocative_picture.specs.Picture.{drawing_of}
 use Rattle.allocative_picture.proofs.picture.draw_wide.Goals as goal
 

@@ -1,8 +1,7 @@
-use Rattle.std.proofs.Common.{◌≡◌, ℕ, List, map, filter, ap, ◌∙◌}
-use Rattle.allocative_picture.proofs.Common.{seen, is_drawn, Row}
+use Rattle.std.proofs.Common.{ℕ, map, ap, ◌∙◌}
 use Rattle.allocative_collectors.specs.Warned as held
 use Rattle.allocative_picture.specs.Rows.{rows_of, warned_mark}
-use Rattle.allocative_picture.specs.Picture.{drawing, drawing_of}
+use Rattle.allocative_picture.specs.Picture.{drawing}
 use Rattle.allocative_picture.specs.declared.page.Subject.TheVariants.{Profile}
 use Rattle.allocative_picture.proofs.Wide.{same_drawing}
 use Rattle.allocative_picture.proofs.picture.picture.Goals as goal
