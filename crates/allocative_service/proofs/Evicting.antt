@@ -49,11 +49,6 @@ module _ {F K V : Type 0} (step : F → K → V → F → Type 0) (went : F) (by
         let cut = cut_end (h ∷ rest) (omega arith) in
         subst (λ l. Evicts step went bytes room before l left f → last_entry l ≡ Some e → Goes left l f e) (sym cut.2) (λ t same. goes_cut left cut.0 cut.1 f e t more same) s is
 
-    -- While more bytes are left than there is room, there is an entry to remove.
-    pub never_none : bytes ≤ bytes_of before → (left : ℕ) (es : Entries K V) (f : F) → Evicts step went bytes room before es left f → room < left → last_entry es ≡ None → ⊥
-    never_none enough left [] f s more is = omega (arith, enough, more, s.left_is, ap (λ (l : Entries K V). bytes_of l) s.parts)
-    never_none enough left (h ∷ rest) f s more is = let cut = cut_end (h ∷ rest) (omega arith) in let last = last_of_push cut.0 cut.1 in let whole = cut.2 in let some : last_entry (h ∷ rest) ≡ Some cut.1 = subst (λ l. last_entry l ≡ Some cut.1) (sym whole) last.0 in cc
-
     -- Where the bytes are those of all entries, what is left is the bytes of those that stay.
     pub evicted_all : (after : Entries K V) (left : ℕ) → bytes ≡ bytes_of before → EvictsTo step went bytes room before after left → (left ≡ bytes_of after) × KeepsRecent step went room before after
     evicted_all after left is h =

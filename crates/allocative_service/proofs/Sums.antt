@@ -10,10 +10,6 @@ use Rattle.std.proofs.lemmas.Iterator.Adapters.{option_map_id}
 use Rattle.std.proofs.lemmas.Map.Entries.{sum_by-insert_entry, sum_by-remove_entry}
 use Rattle.allocative_service.specs.Holding.{sum_of}
 
--- The bytes under a number, or 0 where it has no entry.
-abbrev had_at : ℕ → List (ℕ × ℕ) → ℕ
-had_at number entries = unwrap_or (lookup (is_at (nat_cmp number)) entries) 0
-
 same : (o : Option ℕ) → unwrap_or (option_map (λ n. n) o) 0 ≡ unwrap_or o 0
 same o = ap (λ (p : Option ℕ). unwrap_or p 0) (option_map_id o)
 
@@ -22,3 +18,5 @@ sum_of-insert_entry number bytes entries sorted = let s = sum_by-insert_entry (�
 
 pub sum_of-remove_entry : (number : ℕ) (entries : List (ℕ × ℕ)) → sum_of (remove_entry (is_at (nat_cmp number)) entries) + unwrap_or (lookup (is_at (nat_cmp number)) entries) 0 ≡ sum_of entries
 sum_of-remove_entry number entries = let s = sum_by-remove_entry (λ n. n) (is_at (nat_cmp number)) entries in let i = same (lookup (is_at (nat_cmp number)) entries) in omega (arith, s, i)
+
+pub ruleset sums = (sum_of-remove_entry)

@@ -1,6 +1,6 @@
 use Rattle.std.proofs.Common.{◌≡◌, ◌∙◌, ◌||◌, ap, false, int_cmp, rules}
 use Rattle.allocative_json.proofs.Common.{contains, view, has_number}
-use Rattle.allocative_json.proofs.NumbersLemmas.{or-false}
+use Rattle.std.proofs.Math.Bool.{or-false}
 use Rattle.allocative_json.proofs.roots.index_of.Goals as goal
 
 pub returns : goal.returns
