@@ -1,5 +1,5 @@
 -- The entries after an insertion.
-use Rattle.std.proofs.Common.{◌≡◌, ℕ, ◌+◌, ◌-◌, ◌<◌, ◌≤◌, Bool, true, false, Option, Some, None, [], ◌∷◌, length, refl, sym, ap, ◌∙◌, subst, arith, Result, Ok, Err, IfOk, IfErr, MatchResult, take_all}
+use Rattle.std.proofs.Common.{◌≡◌, ℕ, ◌+◌, ◌-◌, ◌<◌, ◌≤◌, Bool, true, false, Option, Some, None, [], ◌∷◌, length, refl, ap, ◌∙◌, subst, arith, Result, Ok, IfOk, take_all}
 use Rattle.allocative_service.proofs.Common.{lookup, lookup_entry, remove_entry, values_of, Forest, Kept, Entries, bytes_of, Bounded, bounded, KeepsRecent, EvictsTo, IsBounded, IsMeasured}
 use Rattle.std.specs.Option.{option_map, unwrap_or}
 use Rattle.std.proofs.lemmas.List.Elements.{All-cons}
@@ -8,12 +8,8 @@ use Rattle.std.proofs.lemmas.Map.Entries.{sum_by-remove_entry}
 use Rattle.std.proofs.lemmas.Map.Views.{All-map-remove_entry}
 use Rattle.lru.specs.LruCache.{lru_cache, put_entries}
 use Rattle.allocative.specs.Refusal.{Refusal}
-use Rattle.allocative_service.specs.declared.cache.error.Refused.{Refused}
-use Rattle.allocative_service.specs.declared.cache.error.CacheError.{CacheError}
-use Rattle.allocative_service.specs.declared.cache.error.CacheError.TheVariants.{TooLarge, NotMeasured, Memory}
 use Rattle.allocative_service.specs.declared.measure.Measure.{Measure}
-use Rattle.allocative_service.specs.Entries.{kept, with_entries, without, stored_key, IsFigure, Inserts, RefusesBytes, RefusesInsert}
-use Rattle.allocative_service.specs.Measured.{MayRefuseMeasure}
+use Rattle.allocative_service.specs.Entries.{kept, with_entries, without, stored_key, IsFigure, Inserts}
 use Rattle.allocative_service.proofs.Evicting.{bytes_of-cons, evicted_rest, All-recent}
 
 module _ {K V : Type 0} where

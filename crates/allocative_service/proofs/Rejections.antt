@@ -1,7 +1,7 @@
 -- Rejections of an account.
 use Rattle.std.proofs.Common.{◌≡◌, ℕ, ◌+◌, arith}
 use Rattle.allocative_service.specs.declared.ledger.rejection.Rejection.{Rejection}
-use Rattle.allocative_service.specs.declared.ledger.rejection.Rejection.TheVariants.{OverBudget, NotMeasured, TooLarge, NotKept, NoAccount, HasAccount, Taken, NotThere}
+use Rattle.allocative_service.specs.declared.ledger.rejection.Rejection.TheVariants.{OverBudget}
 use Rattle.allocative_service.specs.Rejected.{IsOverBudget, RejectsBytes}
 
 -- Where the bytes of all entries after a change exceed the limit, the change is rejected.

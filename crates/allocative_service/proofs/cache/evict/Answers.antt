@@ -1,5 +1,5 @@
 -- Each round is one step of evicting, and each round finds an entry.
-use Rattle.std.proofs.Common.{sym, ◌∙◌, of_calls}
+use Rattle.std.proofs.Common.{sym, of_calls}
 use Rattle.allocative_service.proofs.Evicting.{goes}
 use Rattle.allocative_service.proofs.cache.evict.Goals as goal
 

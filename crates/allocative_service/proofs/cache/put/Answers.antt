@@ -1,6 +1,5 @@
 -- The entries after `put`, and the bytes that were under the key.
-use Rattle.std.proofs.Common.{ap, ◌∙◌, sym, arith, option_map}
-use Rattle.allocative_service.proofs.Common.{Kept}
+use Rattle.std.proofs.Common.{ap, ◌∙◌, sym, arith}
 use Rattle.allocative_service.proofs.Inserting.{put_entries-unbounded, bytes_of-remove_entry}
 use Rattle.allocative_service.proofs.cache.put.Goals as goal
 

@@ -1,7 +1,6 @@
 -- Putting a value first and then evicting others is an insertion, and keeps the cache within its bound.
 use Rattle.std.proofs.Common.{◌-◌, arith}
 use Rattle.allocative_service.proofs.Common.{bounded}
-use Rattle.allocative_service.proofs.Evicting.{bytes_of-cons}
 use Rattle.allocative_service.proofs.Inserting.{insertion, Inserts-bounded, figure_of}
 use Rattle.allocative_service.proofs.cache.BoundedCache.keep.Goals as goal
 

@@ -1,5 +1,5 @@
-use Rattle.std.proofs.Common.{None, refl}
-use Rattle.allocative_service.proofs.Accounts.{changes, closes, IfNone-weaker}
+use Rattle.std.proofs.Common.{None}
+use Rattle.allocative_service.proofs.Accounts.{changes, closes}
 use Rattle.allocative_service.proofs.ledger.Ledger.close.Goals as goal
 
 pub returns-clause-closed : goal.returns-clause-closed
