@@ -133,19 +133,6 @@ pub refuses_run : {T : Type 0} (texts : List Word) (known : Option (List ℕ)) (
 refuses_run texts known input asked (Ok x) w a e h = tt
 refuses_run texts known input asked (Err f) w a e h = refused_run texts known input asked f w a e h
 
-pub refused_words : {T : Type 0} (texts : List Word) (known : Option (List ℕ)) (f : Fault) (r : Result T Fault) → IsErrAnd r (λ e. e ≡ f) → (f ≡ fault.Words) × (AreWords texts → ⊥) → IfErr r (MayEndRun texts known)
-refused_words texts known f (Ok x) e h = tt
-refused_words texts known f (Err x) e h = subst (MayEndRun texts known) (sym (e ∙ h.0)) h.1
-
-stopped : (texts : List Word) (known : Option (List ℕ)) (asked : Words) (f : Fault) → AreWords texts → Asks texts asked → StopsReading known f → MayEndRun texts known f
-stopped texts known asked Memory w a h = record { words = w; asked = asked; asks = a; refuses = h }
-stopped texts known asked Reading w a h = w
-stopped texts known asked f w a h = absurd h
-
-pub refused_reading : {T : Type 0} (texts : List Word) (known : Option (List ℕ)) (asked : Words) (f : Fault) (r : Result T Fault) → IsErrAnd r (λ e. e ≡ f) → AreWords texts → Asks texts asked → StopsReading known f → IfErr r (MayEndRun texts known)
-refused_reading texts known asked f (Ok x) e w a h = tt
-refused_reading texts known asked f (Err x) e w a h = subst (MayEndRun texts known) (sym e) (stopped texts known asked f w a h)
-
 -- ---- how a run ends
 pub ends_well : (texts : List Word) (known output output' errors errors' : Option (List ℕ)) (made : Result Report Fault) → IfOk made (IsReportFor texts known) → IsOkAnd made (IsWritten output output' errors errors') → EndsWell texts known output output' errors errors'
 ends_well texts known output output' errors errors' (Ok m) h w = record { made = m; report = h; written = w }
