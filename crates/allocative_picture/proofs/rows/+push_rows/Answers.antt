@@ -1,4 +1,4 @@
-use Rattle.std.proofs.Common.{◌≡◌, ℕ, ◌+◌, ◌<◌, ◌++◌, [], ◌∷◌, List, Bor, map, take, arith, ap, sym, subst, append_assoc, ◌∙◌, filter, length, take_all}
+use Rattle.std.proofs.Common.{◌≡◌, refl, ℕ, ◌+◌, ◌<◌, ◌++◌, [], ◌∷◌, List, Bor, map, take, arith, ap, sym, subst, append_assoc, ◌∙◌, filter, length, take_all}
 use Rattle.allocative_picture.proofs.Common.{is_drawn, len, Child, Graph, total, total_at, weight, figures_behind, node, Seen, seen, rows_from, row_from, mark_of}
 use Rattle.std.proofs.lemmas.List.{map-append}
 use Rattle.std.proofs.lemmas.List.Elements.{filter-append}
@@ -40,14 +40,11 @@ loop-child-preserved t c =
     let b = c.args.before.now + c.self_size.result in
     let wide = is_drawn c.args.shown.now.least c.args.shown.now.all in
     let start = map seen c.push_wide.new.rows.items in
-    let kept : c.loop-child.path.items ≡ c.args.path.now.items = c.loop-child.invariant.path in
-    let pushed : c.push.new.self.items ≡ c.args.path.now.items ++ c.as_str.result ∷ [] = c.in_ok-push.ensures.items ∙ ap (λ s. s ++ c.as_str.result ∷ []) kept in
-    let behind_it : texts c.push.new.self.items ≡ ks ++ d.key ∷ [] =
-    ap texts pushed ∙ map-append (λ (k : Bor (List ℕ)). k.now) c.args.path.now.items (c.as_str.result ∷ []) ∙ ap (λ k. ks ++ k ∷ []) c.as_str.ensures in
-    let path : c.push_rows.new.path.items ≡ c.args.path.now.items ++ c.as_str.result ∷ [] = c.in_ok-push_rows.ensures.path ∙ pushed in
+    let pushed : c.push.new.self.items ≡ c.args.path.now.items ++ c.as_str.result ∷ [] = rw (c.in_ok-push.ensures.items, c.loop-child.invariant.path) refl in
+    let behind_it : texts c.push.new.self.items ≡ ks ++ d.key ∷ [] = rw (pushed, map-append, c.as_str.ensures) refl in
     let came = child_rows M b n g cs c.children-children.ensures.whole ks c.children-children.ensures.children.sorted i d (omega arith) c.child-item.is in
     record {
-      path = popped _ _ _ c.as_str.result _ c.pop.ensures.rest c.push_rows.new.path.ok.0 path;
+      path = popped _ _ _ c.as_str.result _ c.pop.ensures.rest c.push_rows.new.path.ok.0 (c.in_ok-push_rows.ensures.path ∙ pushed);
       before = omega (arith, c.in_ok-push_rows.ensures.before, c.loop-child.invariant.before, weight_more cs i d (omega arith) c.child-item.is);
       paths = omega (arith, c.in_ok-push_rows.ensures.paths, c.loop-child.invariant.paths, rows_more cs i d (omega arith) c.child-item.is);
       rows = rw (← came, filter-append, ← append_assoc, ← c.loop-child.invariant.rows, ← c.loop-child.invariant.before, ← behind_it) c.in_ok-push_rows.ensures.rows;
