@@ -63,8 +63,7 @@ refused_roots input index v n f h r = absurd r
 
 -- A report of the roots of the input was refused.
 pub refused_report : {T : Type 0} (input : List ℕ) (index : Bool) (v : Value) (n : Option (BTreeSet ℤ)) (r : Result T Fault) → AreRoots input index (view v) n → IfErr r (RefusesRoots (roots_show v n)) → IfErr r (RefusesReport input index)
-refused_report input index v n (Ok x) h r = tt
-refused_report input index v n (Err f) h r = refused_roots input index v n f h r
+refused_report input index v n r h = IfErr-weaker r _ _ (λ f. refused_roots input index v n f h)
 
 -- ---- boxed roots
 profile_weaker : (p q : Showing) (o : Profile) → ((f : Forest) → p f → q f) → IsProfileOf p o → IsProfileOf q o
@@ -114,8 +113,7 @@ one_profiled p t roots a q x is same one made refused = rw (← same) (rw is at 
 
 -- ---- reports of a run
 pub report_for : (texts : List Word) (known : Option (List ℕ)) (input : List ℕ) (asked : Words) (r : Result Report Fault) → AreWords texts → Asks texts asked → IfSome known (λ bytes. input ≡ bytes) → IfOk r (IsRightReport input asked.index asked.exact) → IfOk r (IsReportFor texts known)
-report_for texts known input asked (Ok made) w a e h = record { words = w; asked = asked; asks = a; input = input; is_read = e; right = h }
-report_for texts known input asked (Err f) w a e h = tt
+report_for texts known input asked r w a e = IfOk-weaker r _ _ (λ made h. record { words = w; asked = asked; asks = a; input = input; is_read = e; right = h })
 
 -- ---- refusals of a run
 read_so : (known : Option (List ℕ)) (input : List ℕ) (P : List ℕ → Type 0) → IfSome known (λ bytes. input ≡ bytes) → P input → IfSome known P
@@ -130,8 +128,7 @@ refused_run texts known input asked Open w a e h = absurd h.3
 refused_run texts known input asked f w a e h = record { words = w; asked = asked; asks = a; refuses = read_so known input (λ bytes. RefusesReport bytes asked.index f) e h }
 
 pub refuses_run : {T : Type 0} (texts : List Word) (known : Option (List ℕ)) (input : List ℕ) (asked : Words) (r : Result T Fault) → AreWords texts → Asks texts asked → IfSome known (λ bytes. input ≡ bytes) → IfErr r (RefusesReport input asked.index) → IfErr r (MayEndRun texts known)
-refuses_run texts known input asked (Ok x) w a e h = tt
-refuses_run texts known input asked (Err f) w a e h = refused_run texts known input asked f w a e h
+refuses_run texts known input asked r w a e = IfErr-weaker r _ _ (λ f h. refused_run texts known input asked f w a e h)
 
 -- ---- how a run ends
 pub ends_well : (texts : List Word) (known output output' errors errors' : Option (List ℕ)) (made : Result Report Fault) → IfOk made (IsReportFor texts known) → IsOkAnd made (IsWritten output output' errors errors') → EndsWell texts known output output' errors errors'

@@ -1,5 +1,5 @@
-use Rattle.std.proofs.Common.{◌≡◌, refl, ℕ, ◌+◌, ◌<◌, ◌++◌, [], ◌∷◌, List, Bor, map, take, arith, ap, sym, subst, append_assoc, ◌∙◌, filter, length, take_all}
-use Rattle.allocative_picture.proofs.Common.{is_drawn, len, Child, Graph, total, total_at, weight, figures_behind, node, Seen, seen, rows_from, row_from, mark_of}
+use Rattle.std.proofs.Common.{◌≡◌, refl, ℕ, ◌+◌, ◌<◌, ◌++◌, [], ◌∷◌, List, Bor, map, arith, ap, sym, subst, append_assoc, ◌∙◌, filter, length, take_all}
+use Rattle.allocative_picture.proofs.Common.{is_drawn, len, Child, total, total_at, weight, Seen, seen, rows_from, row_from, mark_of}
 use Rattle.std.proofs.lemmas.List.{map-append}
 use Rattle.std.proofs.lemmas.List.Elements.{filter-append}
 use Rattle.allocative_graph.proofs.NodeAdded.{rows_of_node}
