@@ -22,7 +22,7 @@ use Rattle.allocative_json.specs.declared.printed.Report.{Report}
 use Rattle.allocative_json.specs.declared.words.Words.{Words}
 use Rattle.allocative_json.specs.Profile.{AreTexts, IsReportOf, IsRightReport, RefusesRoots, RefusesReport}
 use Rattle.allocative_json.specs.Roots.{IsWholeDocument, AreRoots}
-use Rattle.allocative_json.specs.Run.{IsReportFor, IsWritten, IsReported, EndsWell, StopsReading, MayEndRun}
+use Rattle.allocative_json.specs.Run.{IsReportFor, IsWritten, IsReported, EndsWell, MayEndRun}
 use Rattle.allocative_json.specs.Words.{Asks}
 
 -- ---- reports of roots

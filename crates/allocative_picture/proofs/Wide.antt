@@ -11,23 +11,19 @@ use Rattle.allocative_picture.proofs.Counting.{boxes_are}
 
 filter-twice : (p : Seen → Bool) (rs : List Seen) → filter p (filter p rs) ≡ filter p rs
 filter-twice p [] = refl
-filter-twice p (r ∷ rs) = by (p r) refl (filter-twice p rs)
-  where
-    by : (t : Bool) → p r ≡ t → filter p (filter p rs) ≡ filter p rs → filter p (cond t (r ∷ filter p rs) (filter p rs)) ≡ cond t (r ∷ filter p rs) (filter p rs)
-    by true e rest = ap (λ b. cond b (r ∷ filter p (filter p rs)) (filter p (filter p rs))) e ∙ ap (λ (s : List Seen). r ∷ s) rest
-    by false e rest = rest
+filter-twice p (r ∷ rs) = (elim (p r) as (λ t. p r ≡ t → filter p (cond t (r ∷ filter p rs) (filter p rs)) ≡ cond t (r ∷ filter p rs) (filter p rs)) [
+  | true ↦ λ e. rw (e, filter-twice p rs) refl
+  | false ↦ λ e. filter-twice p rs
+]) refl
 
 levels-filter : (least all n : ℕ) (rs : List Seen) → fold (level_of least all) n rs ≡ fold (level_of least all) n (filter (is_drawn least all) rs)
 levels-filter least all n [] = refl
-levels-filter least all n (r ∷ rs) = by (is_drawn least all r) refl (levels-filter least all (level_of least all n r) rs)
-  where
-    wide : List Seen
-    wide = filter (is_drawn least all) rs
-
-    by : (t : Bool) → is_drawn least all r ≡ t → fold (level_of least all) (level_of least all n r) rs ≡ fold (level_of least all) (level_of least all n r) wide
-        → fold (level_of least all) (level_of least all n r) rs ≡ fold (level_of least all) n (cond t (r ∷ wide) wide)
-    by true e rest = rest
-    by false e rest = rest ∙ ap (λ b. fold (level_of least all) (cond b (max n (r.depth + 1)) n) wide) e
+levels-filter least all n (r ∷ rs) =
+    let wide = filter (is_drawn least all) rs in
+    (elim (is_drawn least all r) as (λ t. is_drawn least all r ≡ t → fold (level_of least all) (cond t (max n (r.depth + 1)) n) rs ≡ fold (level_of least all) n (cond t (r ∷ wide) wide)) [
+      | true ↦ λ e. levels-filter least all (max n (r.depth + 1)) rs ∙ ap (λ b. fold (level_of least all) (cond b (max n (r.depth + 1)) n) wide) (sym e)
+      | false ↦ λ e. levels-filter least all n rs
+    ]) refl
 
 -- The picture of the rows that have a box, and of as many paths as there are rows, is the picture of all rows.
 pub same_drawing : (s : Subject) (o : Options) (rs : List Seen) (ws vs : List Row) (all n : ℕ) (made : List ℕ) → all ≡ all_of s → map seen ws ≡ filter (is_drawn o.narrowest all) rs → vs ≡ ws → n ≡ length rs

@@ -1,5 +1,5 @@
 -- The entries after an insertion.
-use Rattle.std.proofs.Common.{◌≡◌, ℕ, ◌+◌, ◌-◌, ◌<◌, ◌≤◌, Bool, true, false, Option, Some, None, [], ◌∷◌, length, refl, ap, ◌∙◌, subst, arith, Result, Ok, IfOk, take_all}
+use Rattle.std.proofs.Common.{◌≡◌, ℕ, ◌+◌, ◌-◌, ◌<◌, ◌≤◌, Bool, true, false, Option, Some, None, [], ◌∷◌, length, refl, ap, ◌∙◌, subst, arith, take_all}
 use Rattle.allocative_service.proofs.Common.{lookup, lookup_entry, remove_entry, values_of, Forest, Kept, Entries, bytes_of, Bounded, bounded, KeepsRecent, EvictsTo, IsBounded, IsMeasured}
 use Rattle.std.specs.Option.{option_map, unwrap_or}
 use Rattle.std.proofs.lemmas.List.Elements.{All-cons}
@@ -7,8 +7,6 @@ use Rattle.std.proofs.lemmas.List.Sums.{sum_by-cons}
 use Rattle.std.proofs.lemmas.Map.Entries.{sum_by-remove_entry}
 use Rattle.std.proofs.lemmas.Map.Views.{All-map-remove_entry}
 use Rattle.lru.specs.LruCache.{lru_cache, put_entries}
-use Rattle.allocative.specs.Refusal.{Refusal}
-use Rattle.allocative_service.specs.declared.measure.Measure.{Measure}
 use Rattle.allocative_service.specs.Entries.{kept, with_entries, without, stored_key, IsFigure, Inserts}
 use Rattle.allocative_service.proofs.Evicting.{bytes_of-cons, evicted_rest, All-recent}
 
@@ -75,7 +73,3 @@ module _ {V : Type 0} (size : Option ℕ) (may_show : V → Forest → Type 0) w
     within = let s = sum_by-remove_entry (λ (k : Kept V). k.bytes) test c.entries in omega (arith, s, h.within);
     measured = All-map-remove_entry test (λ (e : K × Kept V). e.1) (IsMeasured size may_show c.measure) c.entries h.measured;
   }
-
-  -- A value that was measured has the figure that was measured.
-  pub figure_of : (m : Measure) (v : V) (n : ℕ) (measured : Result ℕ Refusal) → measured ≡ Ok n → IfOk measured (IsFigure size may_show m v) → IsFigure size may_show m v n
-  figure_of m v n measured is h = let P : Result ℕ Refusal → Type 0 = λ r. IfOk r (IsFigure size may_show m v) in subst P is h
