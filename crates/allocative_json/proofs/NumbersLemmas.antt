@@ -18,7 +18,8 @@ items_have-snoc (w ∷ vs) v k = ap (λ b. has_number (view w) k || b) (items_ha
 
 pub members_have-snoc : (ms : List (String Global × Value)) (name : String Global) (v : Value) (k : ℤ) → members_have (members_view (ms ++ (name, v) ∷ [])) k ≡ (members_have (members_view ms) k || has_number (view v) k)
 members_have-snoc [] name v k = or-false (has_number (view v) k)
-members_have-snoc (m ∷ ms) name v k = ap (λ b. has_number (view m.1) k || b) (members_have-snoc ms name v k) ∙ sym (or_assoc (has_number (view m.1) k) (members_have (members_view ms) k) (has_number (view v) k))
+members_have-snoc (m ∷ ms) name v k =
+    ap (λ b. has_number (view m.1) k || b) (members_have-snoc ms name v k) ∙ sym (or_assoc (has_number (view m.1) k) (members_have (members_view ms) k) (has_number (view v) k))
 
 -- Adding the numbers of one more item or member adds the numbers of all.
 pub AddsKeys-more : (f g h : ℤ → Bool) (old mid new : BTreeSet ℤ) → ((k : ℤ) → h k ≡ (f k || g k)) → AddsKeys f old mid → AddsKeys g mid new → AddsKeys h old new

@@ -38,7 +38,8 @@ rows_more cs i d h at =
 module _ (M : Path → Mark) (b n : ℕ) (g : Graph) (cs : List Child) (is : g ≡ node n cs) (ks : Path) (o : InOrder cs) where
   -- The rows of one child more.
   pub child_rows : (i : ℕ) (d : Child) → i < length cs → d ≡ get_or cs i d
-      → rows_from M b (figured (total_at g) ks (rows_of (take i cs))) ++ rows_from M (b + weight (take i cs)) (figures_behind (ks ++ d.key ∷ []) d.graph) ≡ rows_from M b (figured (total_at g) ks (rows_of (take (i + 1) cs)))
+      → rows_from M b (figured (total_at g) ks (rows_of (take i cs))) ++ rows_from M (b + weight (take i cs)) (figures_behind (ks ++ d.key ∷ []) d.graph)
+      ≡ rows_from M b (figured (total_at g) ks (rows_of (take (i + 1) cs)))
   child_rows i d w at =
       let t : Path → ℕ = total_at (node n cs) in
       let before = rows_of (take i cs) in

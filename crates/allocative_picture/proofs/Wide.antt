@@ -26,13 +26,14 @@ levels-filter least all n (r ∷ rs) =
     ]) refl
 
 -- The picture of the rows that have a box, and of as many paths as there are rows, is the picture of all rows.
-pub same_drawing : (s : Subject) (o : Options) (rs : List Seen) (ws vs : List Row) (all n : ℕ) (made : List ℕ) → all ≡ all_of s → map seen ws ≡ filter (is_drawn o.narrowest all) rs → vs ≡ ws → n ≡ length rs
-    → made ≡ drawing_of s o (map seen vs) n → made ≡ drawing s o rs
+pub same_drawing : (s : Subject) (o : Options) (rs : List Seen) (ws vs : List Row) (all n : ℕ) (made : List ℕ) → all ≡ all_of s → map seen ws ≡ filter (is_drawn o.narrowest all) rs
+    → vs ≡ ws → n ≡ length rs → made ≡ drawing_of s o (map seen vs) n → made ≡ drawing s o rs
 unfolding drawing drawing_of levels
 same_drawing s o rs ws vs all n made full wide same many is =
     let p : Seen → Bool = is_drawn o.narrowest (all_of s) in
     let ds : List Seen = map seen vs in
-    let twice : filter p ds ≡ filter p rs = ap (λ (x : List Row). filter p (map seen x)) same ∙ ap (filter p) wide ∙ ap (λ (a : ℕ). filter p (filter (is_drawn o.narrowest a) rs)) full ∙ filter-twice p rs in
+    let twice : filter p ds ≡ filter p rs = ap (λ (x : List Row). filter p (map seen x)) same ∙ ap (filter p) wide
+    ∙ ap (λ (a : ℕ). filter p (filter (is_drawn o.narrowest a) rs)) full ∙ filter-twice p rs in
     let high = levels-filter o.narrowest (all_of s) 0 ds ∙ ap (fold (level_of o.narrowest (all_of s)) 0) twice ∙ sym (levels-filter o.narrowest (all_of s) 0 rs) in
     let drew = sym (length-filter p ds) ∙ ap (λ (x : List Seen). length x) twice ∙ length-filter p rs in
     let boxed = boxes_are o.narrowest (all_of s) ds ∙ ap (flat_map (element (all_of s))) twice ∙ sym (boxes_are o.narrowest (all_of s) rs) in

@@ -53,7 +53,8 @@ stops-unread xs b known g f e up (inr r) = inr (e, r)
 
 -- ---- what is written
 -- What is written of some graphs is what the arguments ask for.
-pub made-so : (asked : Arguments) (before : List Text) (after : List Sourced) (made : List ℕ) (g h : Graph) (o : Options) → AddUp (map sourced before) g → o.warned.now ≡ [] → o.narrowest ≡ 500 → AddUp after h
+pub made-so : (asked : Arguments) (before : List Text) (after : List Sourced) (made : List ℕ) (g h : Graph) (o : Options)
+    → AddUp (map sourced before) g → o.warned.now ≡ [] → o.narrowest ≡ 500 → AddUp after h
     → made ≡ written_of asked.as_text (length before == 0) (record { title = asked.title; warned = o.warned; narrowest = o.narrowest }) g h → IsMade asked before after made
 made-so asked before after made g h o earlier warned narrowest later is = record {
   earlier = g;

@@ -26,7 +26,8 @@ pub changes_read : (g h : Graph) (rs : List read.Row) → map reads.seen rs ≡ 
 changes_read g h rs e =
     let of_figures : reads.Figures → List Changed = λ f. change_of g h f.path in
     let es = entries (sum_of g h) in
-    sym (flat_map-map of_figures reads.seen rs) ∙ ap (flat_map of_figures) e ∙ flat_map-map of_figures (λ (e : Path × ℕ). record { path = e.0; self_size = e.1; total_size = total_at (sum_of g h) e.0 }) es
+    sym (flat_map-map of_figures reads.seen rs) ∙ ap (flat_map of_figures) e
+    ∙ flat_map-map of_figures (λ (e : Path × ℕ). record { path = e.0; self_size = e.1; total_size = total_at (sum_of g h) e.0 }) es
     ∙ sym (flat_map-map (change_of g h) (λ (e : Path × ℕ). e.0) es)
 
 -- ---- the change of one path

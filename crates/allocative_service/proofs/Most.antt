@@ -29,7 +29,8 @@ grew_first n cs ps qs is w moved sorted =
     let top = map seen (take n qs) in
     let left = map seen (drop n qs) in
     let parts : map seen qs ≡ top ++ left = ap (map seen) (sym (take-append-drop n qs)) ∙ map-append seen (take n qs) (drop n qs) in
-    let fall : (i j : ℕ) (d e : Changed) → i ≤ j → j < length (top ++ left) → growth (get_or (top ++ left) j e) ≤ growth (get_or (top ++ left) i d) = rw (← parts) (falls qs (All-permutation IsWord ps qs moved w) sorted) in
+    let fall : (i j : ℕ) (d e : Changed) → i ≤ j → j < length (top ++ left) → growth (get_or (top ++ left) j e) ≤ growth (get_or (top ++ left) i d) =
+    rw (← parts) (falls qs (All-permutation IsWord ps qs moved w) sorted) in
     record {
       rest = left;
       chosen = rw (← is, ← parts) (IsPermutation-map seen ps qs moved);

@@ -8,13 +8,15 @@ use Rattle.allocative_json.proofs.roots.+numbers.Goals as goal
 
 pub add_items-loop-item-preserved : goal.add_items-loop-item-preserved
 add_items-loop-item-preserved t c = record {
-  keys = rw (take_more _ _ c.item-item.result c.loop-item-test.true, ← c.item-item.is) (AddsKeys-more _ _ _ _ _ _ (items_have-snoc _ c.item-item.result) c.loop-item.invariant.keys c.in_ok-add_numbers.ensures.keys);
+  keys = rw (take_more _ _ c.item-item.result c.loop-item-test.true, ← c.item-item.is)
+      (AddsKeys-more _ _ _ _ _ _ (items_have-snoc _ c.item-item.result) c.loop-item.invariant.keys c.in_ok-add_numbers.ensures.keys);
   ordered = λ h. c.add_numbers.ensures.ordered (c.loop-item.invariant.ordered h);
 }
 
 pub add_members-loop-key-preserved : goal.add_members-loop-key-preserved
 add_members-loop-key-preserved t c = record {
-  keys = rw map-append (AddsKeys-more _ _ _ _ _ _ (members_have-snoc (map deref_pair c.loop-key.yielded) c.in-Some._key.now c.in-Some.member.now) c.loop-key.invariant.keys c.in_ok-add_numbers.ensures.keys);
+  keys = rw map-append
+      (AddsKeys-more _ _ _ _ _ _ (members_have-snoc (map deref_pair c.loop-key.yielded) c.in-Some._key.now c.in-Some.member.now) c.loop-key.invariant.keys c.in_ok-add_numbers.ensures.keys);
   ordered = λ h. c.add_numbers.ensures.ordered (c.loop-key.invariant.ordered h);
 }
 

@@ -11,5 +11,6 @@ returns-clause-text c =
     let o = c.args.options.now in
     let M = changed_mark c.args.before.now in
     let summed : c.add.new.self ≡ sum_of c.args.before.now c.args.after.now = search rules in
-    same_drawing (Change c.total_size.result c.total_size-2.result) o (rows_of M c.add.new.self) _ _ _ _ _ c.all.ensures c.in_ok-rows.ensures.rows c.as_slice.ensures.value c.in_ok-rows.ensures.paths c.in_ok-draw_wide.ensures
+    same_drawing (Change c.total_size.result c.total_size-2.result) o (rows_of M c.add.new.self) _ _ _ _ _ c.all.ensures c.in_ok-rows.ensures.rows c.as_slice.ensures.value c.in_ok-rows.ensures.paths
+    c.in_ok-draw_wide.ensures
     ∙ (λ i. drawing (Change (c.total_size.ensures.total i) (c.total_size-2.ensures.total i)) o (rows_of M (summed i)))

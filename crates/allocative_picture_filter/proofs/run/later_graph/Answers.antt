@@ -8,7 +8,8 @@ use Rattle.allocative_picture_filter.proofs.run.later_graph.Goals as goal
 
 pub returns-in_err-graph-clause-stops : goal.returns-in_err-graph-clause-stops
 returns-in_err-graph-clause-stops g c =
-    holds-of c.from_residual.result _ _ c.from_residual.ensures.1 (of_each (g.R.Read.remaining c.args.input.now) (λ known. stops-files c.args.texts.now c.args.reads_input known c.in_err-graph.field-0.0 c.in_err-graph.ensures.stops))
+    holds-of c.from_residual.result _ _ c.from_residual.ensures.1
+    (of_each (g.R.Read.remaining c.args.input.now) (λ known. stops-files c.args.texts.now c.args.reads_input known c.in_err-graph.field-0.0 c.in_err-graph.ensures.stops))
 
 pub returns-in_err-text-clause-stops : goal.returns-in_err-text-clause-stops
 returns-in_err-text-clause-stops g c =
@@ -24,4 +25,5 @@ pub returns-clause-ok : goal.returns-clause-ok
 returns-clause-ok g c =
     let added = c.in_ok-add_text.ensures.ok in
     IfSome_then (g.R.Read.remaining c.args.input.now) c.in_ok-text.ensures.ok
-    (λ known e. rw c.if-not-reads_input.false (add-push default (map sourced c.args.texts.now) (Input, known) c.in_ok-graph.graph c.add_text.new.graph added.0 c.in_ok-graph.ensures.ok (rw e at added.1) added.2))
+    (λ known e. rw c.if-not-reads_input.false
+    (add-push default (map sourced c.args.texts.now) (Input, known) c.in_ok-graph.graph c.add_text.new.graph added.0 c.in_ok-graph.ensures.ok (rw e at added.1) added.2))

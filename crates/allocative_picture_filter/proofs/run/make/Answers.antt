@@ -16,12 +16,14 @@ returns-in_err-later-clause-stops g c =
 pub returns-in_err-write-clause-stops : goal.returns-in_err-write-clause-stops
 returns-in_err-write-clause-stops g c =
     holds-of c.from_residual-in_err-write.result _ _ c.from_residual-in_err-write.ensures.1
-    (rw c.in_err-write.ensures.memory (IfSome_then (g.R.Read.remaining c.args.input.now) c.in_ok-later.ensures.ok (λ known up. inr (inr (c.in_ok-earlier.earlier, c.in_ok-later.later, c.in_ok-earlier.ensures.ok, up, tt)))))
+    (rw c.in_err-write.ensures.memory (IfSome_then (g.R.Read.remaining c.args.input.now) c.in_ok-later.ensures.ok
+    (λ known up. inr (inr (c.in_ok-earlier.earlier, c.in_ok-later.later, c.in_ok-earlier.ensures.ok, up, tt)))))
 
 pub returns-in_err-picture-clause-stops : goal.returns-in_err-picture-clause-stops
 returns-in_err-picture-clause-stops g c =
     holds-of c.from_residual-in_err-picture.result _ _ c.from_residual-in_err-picture.ensures.1
-    (rw c.in_err-picture.ensures.memory (IfSome_then (g.R.Read.remaining c.args.input.now) c.in_ok-later.ensures.ok (λ known up. inr (inr (c.in_ok-earlier.earlier, c.in_ok-later.later, c.in_ok-earlier.ensures.ok, up, tt)))))
+    (rw c.in_err-picture.ensures.memory (IfSome_then (g.R.Read.remaining c.args.input.now) c.in_ok-later.ensures.ok
+    (λ known up. inr (inr (c.in_ok-earlier.earlier, c.in_ok-later.later, c.in_ok-earlier.ensures.ok, up, tt)))))
 
 pub returns-in_err-change_picture-clause-stops : goal.returns-in_err-change_picture-clause-stops
 returns-in_err-change_picture-clause-stops g c =
@@ -32,14 +34,17 @@ returns-in_err-change_picture-clause-stops g c =
 pub returns-then-asked-clause-ok : goal.returns-then-asked-clause-ok
 returns-then-asked-clause-ok g c =
     IfSome_then (g.R.Read.remaining c.args.input.now) c.in_ok-later.ensures.ok
-    (λ known up. made-so c.args.asked.now c.args.before.now _ _ _ _ c.default.result c.in_ok-earlier.ensures.ok c.default.ensures.warned c.default.ensures.narrowest up (rw c.if-asked.true c.in_ok-write.ensures.text))
+    (λ known up. made-so c.args.asked.now c.args.before.now _ _ _ _ c.default.result c.in_ok-earlier.ensures.ok c.default.ensures.warned c.default.ensures.narrowest up
+    (rw c.if-asked.true c.in_ok-write.ensures.text))
 
 pub returns-then-is_empty-clause-ok : goal.returns-then-is_empty-clause-ok
 returns-then-is_empty-clause-ok g c =
     IfSome_then (g.R.Read.remaining c.args.input.now) c.in_ok-later.ensures.ok
-    (λ known up. made-so c.args.asked.now c.args.before.now _ _ _ _ c.default.result c.in_ok-earlier.ensures.ok c.default.ensures.warned c.default.ensures.narrowest up (rw (c.if-asked.false, sym c.is_empty.ensures ∙ c.if-is_empty.true) c.in_ok-picture.ensures.text))
+    (λ known up. made-so c.args.asked.now c.args.before.now _ _ _ _ c.default.result c.in_ok-earlier.ensures.ok c.default.ensures.warned c.default.ensures.narrowest up
+    (rw (c.if-asked.false, sym c.is_empty.ensures ∙ c.if-is_empty.true) c.in_ok-picture.ensures.text))
 
 pub returns-clause-ok : goal.returns-clause-ok
 returns-clause-ok g c =
     IfSome_then (g.R.Read.remaining c.args.input.now) c.in_ok-later.ensures.ok
-    (λ known up. made-so c.args.asked.now c.args.before.now _ _ _ _ c.default.result c.in_ok-earlier.ensures.ok c.default.ensures.warned c.default.ensures.narrowest up (rw (c.if-asked.false, sym c.is_empty.ensures ∙ c.if-is_empty.false) c.in_ok-change_picture.ensures.text))
+    (λ known up. made-so c.args.asked.now c.args.before.now _ _ _ _ c.default.result c.in_ok-earlier.ensures.ok c.default.ensures.warned c.default.ensures.narrowest up
+    (rw (c.if-asked.false, sym c.is_empty.ensures ∙ c.if-is_empty.false) c.in_ok-change_picture.ensures.text))

@@ -12,7 +12,9 @@ pub returns-in_err-check-clause-rejected : goal.returns-in_err-check-clause-reje
 returns-in_err-check-clause-rejected c =
     let p = err_from_is_err_and c.from_residual.result c.from_residual.ensures.1 in
     let s = sum_of-remove_entry c.args.number c.self.inside.entries.entries in
-    rw (p.1, p.2, ← c.self.view_is) (rejects_over c.args.had (sum_of c.self.inside.entries.entries) c.args.bytes c.in-Some.total c.self.inside.budget.limit c.in_err-check.field-0.0 (omega (arith, s, rw (← c.self.view_is) at c.requires, c.self.invariant, c.in-Some.ensures)) c.in_err-check.ensures.over)
+    rw (p.1, p.2, ← c.self.view_is)
+    (rejects_over c.args.had (sum_of c.self.inside.entries.entries) c.args.bytes c.in-Some.total c.self.inside.budget.limit
+    c.in_err-check.field-0.0 (omega (arith, s, rw (← c.self.view_is) at c.requires, c.self.invariant, c.in-Some.ensures)) c.in_err-check.ensures.over)
 
 pub invariant_of-self-2 : goal.invariant_of-self-2
 invariant_of-self-2 c =
