@@ -48,15 +48,12 @@ rsplit_parts c bs (Some x) (i, j, finds, front, back, ordered, one, other) low =
 )
 
 -- The text before the last c, and that after it, in one line.
-pub rsplit_before : (c : ℕ) (bs : List ℕ) (r : Option (Bor (List ℕ) × Bor (List ℕ))) → IsRsplit c bs r → c < 128
-    → MatchOption r (before_last c [] [] bs ≡ []) (λ x. before_last c [] [] bs ≡ x.0.now)
-rsplit_before c bs None h low = none_before c [] [] bs (rsplit_parts c bs None h low)
-rsplit_before c bs (Some x) h low = let p = rsplit_parts c bs (Some x) h low in ap (before_last c [] []) p.0 ∙ before_read c [] [] x.0.now x.1.now p.1
-
-pub rsplit_after : (c : ℕ) (bs : List ℕ) (r : Option (Bor (List ℕ) × Bor (List ℕ))) → IsRsplit c bs r → c < 128
-    → MatchOption r (after_last c [] bs ≡ bs) (λ x. after_last c [] bs ≡ x.1.now)
-rsplit_after c bs None h low = after_lacking c [] bs (rsplit_parts c bs None h low)
-rsplit_after c bs (Some x) h low = let p = rsplit_parts c bs (Some x) h low in ap (after_last c []) p.0 ∙ after_read c [] x.0.now x.1.now p.1
+pub rsplit_read : (c : ℕ) (bs : List ℕ) (r : Option (Bor (List ℕ) × Bor (List ℕ))) → IsRsplit c bs r → c < 128
+    → MatchOption r ((before_last c [] [] bs ≡ []) × (after_last c [] bs ≡ bs)) (λ x. (before_last c [] [] bs ≡ x.0.now) × (after_last c [] bs ≡ x.1.now))
+rsplit_read c bs None h low = (none_before c [] [] bs (rsplit_parts c bs None h low), after_lacking c [] bs (rsplit_parts c bs None h low))
+rsplit_read c bs (Some x) h low =
+    let p = rsplit_parts c bs (Some x) h low in
+    (ap (before_last c [] []) p.0 ∙ before_read c [] [] x.0.now x.1.now p.1, ap (after_last c []) p.0 ∙ after_read c [] x.0.now x.1.now p.1)
 
 -- ---- the lines
 line_read : (acc a rest : List ℕ) → Lacks 10 a → lines_from acc (a ++ 10 ∷ rest) ≡ (acc ++ a) ∷ lines_from [] rest

@@ -2,6 +2,7 @@
 use Rattle.std.proofs.Common.{◌≡◌, ℕ, ◌<◌, ℤ, length, arith, Bool, true, List, [], ◌∷◌, Option, None, Some, Result, Ok, Err, IfOk, IfErr, IsErrAnd, IsOkAnd, IfSome, MatchResult, refl, ap, ◌∙◌, sym, subst}
 use Rattle.allocative_json.proofs.Common.{BTreeSet, view, Value, Showing, roots_show, Word, AreWords}
 use Rattle.std.specs.List.{list_all}
+use Rattle.std.proofs.lemmas.Result.{IfOk-weaker, IfErr-weaker}
 use Rattle.serde_json.specs.Data.{Data}
 use Rattle.serde_json.specs.Read.{read}
 use Rattle.serde_json.proofs.OnLiterals.{serde_json_on_literals}
@@ -11,7 +12,7 @@ use Rattle.allocative_json.specs.Fault.{status_of, fault_of}
 use Rattle.allocative.specs.Forest.{Forest, Empty, Inline, Unique, First, Again, followed_by}
 use Rattle.allocative.specs.Shows.{Nothing, Both, each_shows}
 use Rattle.allocative.specs.Collector.{Kind, OfGraph, begin, no_entries}
-use Rattle.allocative.specs.Exact.{CanTake, MayRefuse, MayRefuseProfile}
+use Rattle.allocative.specs.Exact.{CanTake, MayRefuseProfile}
 use Rattle.allocative.proofs.Exact.{may_refuse}
 use Rattle.allocative.specs.Visits.{Profile, IsProfileOf}
 use Rattle.allocative_json.specs.declared.fault.Fault.{Fault}
@@ -21,7 +22,7 @@ use Rattle.allocative_json.specs.declared.printed.Report.{Report}
 use Rattle.allocative_json.specs.declared.words.Words.{Words}
 use Rattle.allocative_json.specs.Profile.{AreTexts, IsReportOf, IsRightReport, RefusesRoots, RefusesReport}
 use Rattle.allocative_json.specs.Roots.{IsWholeDocument, AreRoots}
-use Rattle.allocative_json.specs.Run.{IsReportFor, IsWritten, IsReported, EndsWell, StopsReading, MayEndRun}
+use Rattle.allocative_json.specs.Run.{IsReportFor, IsWritten, IsReported, EndsWell, MayEndRun}
 use Rattle.allocative_json.specs.Words.{Asks}
 
 -- ---- reports of roots
@@ -62,8 +63,7 @@ refused_roots input index v n f h r = absurd r
 
 -- A report of the roots of the input was refused.
 pub refused_report : {T : Type 0} (input : List ℕ) (index : Bool) (v : Value) (n : Option (BTreeSet ℤ)) (r : Result T Fault) → AreRoots input index (view v) n → IfErr r (RefusesRoots (roots_show v n)) → IfErr r (RefusesReport input index)
-refused_report input index v n (Ok x) h r = tt
-refused_report input index v n (Err f) h r = refused_roots input index v n f h r
+refused_report input index v n r h = IfErr-weaker r _ _ (λ f. refused_roots input index v n f h)
 
 -- ---- boxed roots
 profile_weaker : (p q : Showing) (o : Profile) → ((f : Forest) → p f → q f) → IsProfileOf p o → IsProfileOf q o
@@ -91,63 +91,29 @@ two_shown p a b f (g, h, here, (k, none, there, empty, e), d) = (g, k, here, the
 both_shown : {T : Type 0} (p : T → Showing) (a b : T) (f : Forest) → Both (p a) (p b) f → each_shows p (a ∷ b ∷ []) f
 both_shown p a b f (g, h, here, there, e) = (g, h, here, (h, Empty, there, refl, sym (followed_by-empty h)), e)
 
--- What is profiled of two roots is what both show.
-two_roots : {T E : Type 0} (p : T → Showing) (roots : List T) (a b : T) (q r : Showing) (x : Result Profile E)
-    → roots ≡ a ∷ b ∷ [] → p a ≡ q → p b ≡ r
-    → IfOk x (IsProfileOf (each_shows p roots)) → IfOk x (IsProfileOf (Both q r))
-two_roots p roots a b q r (Err e) is first last h = tt
-two_roots p roots a b q r (Ok o) is first last h =
-    let P : List _ → Type 0 = λ l. IsProfileOf (each_shows p l) o in
-    rw (← first, ← last) (profile_weaker (each_shows p (a ∷ b ∷ [])) (Both (p a) (p b)) o (two_shown p a b) (subst P is h))
-
--- Two roots are refused where both together may be.
-two_refused : {T O : Type 0} (p : T → Showing) (t : T → Bool) (roots : List T) (a b : T) (q r : Showing) (x : Result O Refusal)
-    → roots ≡ a ∷ b ∷ [] → p a ≡ q → p b ≡ r → t a ≡ true → t b ≡ true
-    → IfErr x (MayRefuseProfile (list_all t roots) (each_shows p roots)) → IfErr x (MayRefuseProfile true (Both q r))
-two_refused p t roots a b q r (Ok o) is first last one other h = tt
-two_refused p t roots a b q r (Err e) is first last one other h = λ _.
-    let k : Kind = begin (OfGraph no_entries) in
-    let can : CanTake k (Both (p a) (p b)) → CanTake k (each_shows p (a ∷ b ∷ [])) = λ w. ((w.0.0, both_shown p a b w.0.0 w.0.1, w.0.2), λ f y. w.1 f (two_shown p a b f y)) in
-    let P : List _ → Type 0 = λ l. MayRefuseProfile (list_all t l) (each_shows p l) e in
-    let m : MayRefuse (each_shows p (a ∷ b ∷ [])) k e = subst P is h (rw (one, other) refl) in
-    rw (← first, ← last) (may_refuse k k can refl e m)
-
 -- Two roots of exact types: what is profiled of them is what both show, and they are refused where both together may be.
 pub two_profiled : {T : Type 0} (p : T → Showing) (t : T → Bool) (roots : List T) (a b : T) (q r : Showing) (x : Result Profile Refusal)
     → roots ≡ a ∷ b ∷ [] → p a ≡ q → p b ≡ r → t a ≡ true → t b ≡ true
     → IfOk x (IsProfileOf (each_shows p roots)) → IfErr x (MayRefuseProfile (list_all t roots) (each_shows p roots))
     → IfOk x (IsProfileOf (Both q r)) × IfErr x (MayRefuseProfile true (Both q r))
 two_profiled p t roots a b q r x is first last one other made refused =
-    (two_roots p roots a b q r x is first last made, two_refused p t roots a b q r x is first last one other refused)
+    let k : Kind = begin (OfGraph no_entries) in
+    let can : CanTake k (Both (p a) (p b)) → CanTake k (each_shows p (a ∷ b ∷ [])) = λ w. ((w.0.0, both_shown p a b w.0.0 w.0.1, w.0.2), λ f y. w.1 f (two_shown p a b f y)) in
+    rw (← first, ← last) (
+      IfOk-weaker x _ _ (λ o h. profile_weaker (each_shows p (a ∷ b ∷ [])) (Both (p a) (p b)) o (two_shown p a b) h) (rw is at made),
+      IfErr-weaker x _ _ (λ e h _. may_refuse k k can refl e (h refl)) (rw (is, one, other) at refused),
+    )
 
--- What is profiled of one root is what it shows, followed by nothing.
-one_root : {T E : Type 0} (p : T → Showing) (roots : List T) (a : T) (q : Showing) (x : Result Profile E)
-    → roots ≡ a ∷ [] → p a ≡ q → IfOk x (IsProfileOf (each_shows p roots)) → IfOk x (IsProfileOf (Both q Nothing))
-one_root p roots a q (Err e) is same h = tt
-one_root p roots a q (Ok o) is same h =
-    let P : List _ → Type 0 = λ l. IsProfileOf (each_shows p l) o in
-    rw (← same) (subst P is h)
-
-one_refused : {T O : Type 0} (p : T → Showing) (t : T → Bool) (roots : List T) (a : T) (q : Showing) (x : Result O Refusal)
-    → roots ≡ a ∷ [] → p a ≡ q → t a ≡ true
-    → IfErr x (MayRefuseProfile (list_all t roots) (each_shows p roots)) → IfErr x (MayRefuseProfile true (Both q Nothing))
-one_refused p t roots a q (Ok o) is same one h = tt
-one_refused p t roots a q (Err e) is same one h = λ _.
-    let P : List _ → Type 0 = λ l. MayRefuseProfile (list_all t l) (each_shows p l) e in
-    rw (← same) (subst P is h (rw one refl))
-
--- One root of an exact type.
+-- One root of an exact type: what is profiled of it is what it shows, followed by nothing.
 pub one_profiled : {T : Type 0} (p : T → Showing) (t : T → Bool) (roots : List T) (a : T) (q : Showing) (x : Result Profile Refusal)
     → roots ≡ a ∷ [] → p a ≡ q → t a ≡ true
     → IfOk x (IsProfileOf (each_shows p roots)) → IfErr x (MayRefuseProfile (list_all t roots) (each_shows p roots))
     → IfOk x (IsProfileOf (Both q Nothing)) × IfErr x (MayRefuseProfile true (Both q Nothing))
-one_profiled p t roots a q x is same one made refused =
-    (one_root p roots a q x is same made, one_refused p t roots a q x is same one refused)
+one_profiled p t roots a q x is same one made refused = rw (← same) (rw is at made, rw (is, one) at refused)
 
 -- ---- reports of a run
 pub report_for : (texts : List Word) (known : Option (List ℕ)) (input : List ℕ) (asked : Words) (r : Result Report Fault) → AreWords texts → Asks texts asked → IfSome known (λ bytes. input ≡ bytes) → IfOk r (IsRightReport input asked.index asked.exact) → IfOk r (IsReportFor texts known)
-report_for texts known input asked (Ok made) w a e h = record { words = w; asked = asked; asks = a; input = input; is_read = e; right = h }
-report_for texts known input asked (Err f) w a e h = tt
+report_for texts known input asked r w a e = IfOk-weaker r _ _ (λ made h. record { words = w; asked = asked; asks = a; input = input; is_read = e; right = h })
 
 -- ---- refusals of a run
 read_so : (known : Option (List ℕ)) (input : List ℕ) (P : List ℕ → Type 0) → IfSome known (λ bytes. input ≡ bytes) → P input → IfSome known P
@@ -162,21 +128,7 @@ refused_run texts known input asked Open w a e h = absurd h.3
 refused_run texts known input asked f w a e h = record { words = w; asked = asked; asks = a; refuses = read_so known input (λ bytes. RefusesReport bytes asked.index f) e h }
 
 pub refuses_run : {T : Type 0} (texts : List Word) (known : Option (List ℕ)) (input : List ℕ) (asked : Words) (r : Result T Fault) → AreWords texts → Asks texts asked → IfSome known (λ bytes. input ≡ bytes) → IfErr r (RefusesReport input asked.index) → IfErr r (MayEndRun texts known)
-refuses_run texts known input asked (Ok x) w a e h = tt
-refuses_run texts known input asked (Err f) w a e h = refused_run texts known input asked f w a e h
-
-pub refused_words : {T : Type 0} (texts : List Word) (known : Option (List ℕ)) (f : Fault) (r : Result T Fault) → IsErrAnd r (λ e. e ≡ f) → (f ≡ fault.Words) × (AreWords texts → ⊥) → IfErr r (MayEndRun texts known)
-refused_words texts known f (Ok x) e h = tt
-refused_words texts known f (Err x) e h = subst (MayEndRun texts known) (sym (e ∙ h.0)) h.1
-
-stopped : (texts : List Word) (known : Option (List ℕ)) (asked : Words) (f : Fault) → AreWords texts → Asks texts asked → StopsReading known f → MayEndRun texts known f
-stopped texts known asked Memory w a h = record { words = w; asked = asked; asks = a; refuses = h }
-stopped texts known asked Reading w a h = w
-stopped texts known asked f w a h = absurd h
-
-pub refused_reading : {T : Type 0} (texts : List Word) (known : Option (List ℕ)) (asked : Words) (f : Fault) (r : Result T Fault) → IsErrAnd r (λ e. e ≡ f) → AreWords texts → Asks texts asked → StopsReading known f → IfErr r (MayEndRun texts known)
-refused_reading texts known asked f (Ok x) e w a h = tt
-refused_reading texts known asked f (Err x) e w a h = subst (MayEndRun texts known) (sym e) (stopped texts known asked f w a h)
+refuses_run texts known input asked r w a e = IfErr-weaker r _ _ (λ f h. refused_run texts known input asked f w a e h)
 
 -- ---- how a run ends
 pub ends_well : (texts : List Word) (known output output' errors errors' : Option (List ℕ)) (made : Result Report Fault) → IfOk made (IsReportFor texts known) → IsOkAnd made (IsWritten output output' errors errors') → EndsWell texts known output output' errors errors'
@@ -185,15 +137,11 @@ ends_well texts known output output' errors errors' (Err f) h w = absurd w
 
 no_fault_of_writing : (texts : List Word) (known : Option (List ℕ)) (f : Fault) → status_of f ≡ 7 → MayEndRun texts known f → ⊥
 no_fault_of_writing texts known Writing e h = h
-no_fault_of_writing texts known Memory e h = omega (arith, e)
-no_fault_of_writing texts known NotJson e h = omega (arith, e)
-no_fault_of_writing texts known NotWhole e h = omega (arith, e)
-no_fault_of_writing texts known TooLarge e h = omega (arith, e)
-no_fault_of_writing texts known fault.Words e h = omega (arith, e)
-no_fault_of_writing texts known Reading e h = omega (arith, e)
-no_fault_of_writing texts known Open e h = omega (arith, e)
+no_fault_of_writing texts known f e h = omega (arith, e)
 
 -- A write fails only where there is a report to write.
 pub is_reported : (texts : List Word) (known : Option (List ℕ)) (made : Result Report Fault) (status : ℕ) → IfOk made (IsReportFor texts known) → IfErr made (MayEndRun texts known) → IfErr made (λ f. status ≡ status_of f) → status ≡ 7 → IsReported texts known
 is_reported texts known (Ok m) status h k e i = record { made = m; report = h }
 is_reported texts known (Err f) status h k e i = absurd (no_fault_of_writing texts known f (sym e ∙ i) k)
+
+pub ruleset reporting = (report_made, refused_profile, refused_texts)

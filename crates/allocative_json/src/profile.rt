@@ -61,6 +61,7 @@ fn profile_by_registry(
 }
 
 /// The report of these roots, each visited by its own `visit`.
+#[tactic(auto, using(crate::proofs::Reports::reporting))]
 pub(crate) fn report_of(
     alloc: Global,
     document: &Value,
@@ -76,6 +77,7 @@ pub(crate) fn report_of(
 }
 
 /// The report of these roots, which are boxed and visited by a registry.
+#[tactic(auto, using(crate::proofs::Reports::reporting))]
 pub(crate) fn report_by_registry(
     alloc: Global,
     document: Value,
@@ -96,6 +98,7 @@ pub(crate) fn report_by_registry(
 /// It returns `Fault::NotJson` and `Fault::NotWhole` where `read_roots` does, and `Fault::TooLarge` only where the
 /// numbers of the document are whole and the declared sizes of the roots exceed the bound of a flame graph. Otherwise
 /// the error is `Fault::Memory`, which an empty input never causes.
+#[tactic(auto, using(crate::proofs::Reports::refused_report))]
 pub fn profile_json(alloc: Global, input: &[u8], index: bool, exact: bool) -> Result<Report, Fault>
     ensures ok { IfOk result (IsRightReport input.now index exact) }
     ensures err { IfErr result (RefusesReport input.now index) }

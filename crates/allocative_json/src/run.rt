@@ -89,6 +89,7 @@ fn tell_of_input<E: Write>(alloc: Global, errors: &mut E, fault: Fault, input: &
 }
 
 // Makes the report of the input, with a registry where it is asked for.
+#[tactic(auto, using(crate::proofs::Reports::refused_report))]
 fn profile_as_asked(alloc: Global, asked: Words, input: &[u8]) -> Result<Report, Fault>
     ensures ok { IfOk result (IsRightReport input.now asked.index asked.exact) }
     ensures err { IfErr result (RefusesReport input.now asked.index) }

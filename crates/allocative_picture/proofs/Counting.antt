@@ -1,13 +1,14 @@
 -- Which rows have a box, and how often a path occurs.
-use Rattle.std.proofs.Common.{◌≡◌, ℕ, ◌+◌, ◌&&◌, Bool, true, false, cond, List, [], ◌∷◌, ◌++◌, Some, refl, sym, ap, subst, ◌∙◌, T, filter, flat_map, count_by}
-use Rattle.allocative_picture.proofs.Common.{Ordering, Less, Equal, Greater, is_eq, is_lt, entries, entries_sorted, is_sorted, below_all, Path, path_cmp, is_same_path, Graph, Seen, is_drawn, box}
+use Rattle.std.proofs.Common.{◌≡◌, ℕ, ◌+◌, Bool, true, false, cond, List, [], ◌∷◌, ◌++◌, Some, refl, sym, ap, subst, ◌∙◌, T, filter, flat_map, count_by}
+use Rattle.allocative_picture.proofs.Common.{is_eq, entries, entries_sorted, is_sorted, below_all, Path, path_cmp, is_same_path, Graph, Seen, is_drawn, box}
 use Rattle.std.proofs.lemmas.List.Sums.{sum_by-cons}
 use Rattle.std.specs.Option.{is_some}
 use Rattle.std.specs.FinMap.{contains_key, get-entries}
 use Rattle.std.specs.FinMap.Entries.{find}
-use Rattle.allocative_graph.proofs.Basics.{path_antisymmetric}
+use Rattle.allocative_graph.proofs.Basics.{same_path}
 use Rattle.allocative_picture.specs.Boxes.{element}
 use Rattle.allocative_picture.specs.Page.{boxes}
+use Rattle.allocative_picture.proofs.Placing.{less_than, in_order}
 
 one : (b : Bool) (x rest : List ℕ) (all : ℕ) (r : Seen) (rs : List Seen) → x ≡ element all r → rest ≡ flat_map (element all) rs → cond b x [] ++ rest ≡ flat_map (element all) (cond b (r ∷ rs) rs)
 one true x rest all r rs e f = λ i. e i ++ f i
@@ -19,19 +20,6 @@ unfolding boxes
 boxes_are least all [] = refl
 boxes_are least all (r ∷ rs) = one (is_drawn least all r) (element all r) (flat_map (box least all) rs) all r (filter (is_drawn least all) rs) refl (boxes_are least all rs)
 
-both_first : (a b : Bool) → T (a && b) → T a
-both_first true b h = tt
-both_first false b h = absurd h
-
-both_second : (a b : Bool) → T (a && b) → T b
-both_second true b h = h
-both_second false b h = absurd h
-
-is_less : (o : Ordering) → T (is_lt o) → o ≡ Less
-is_less Less h = refl
-is_less Equal h = absurd h
-is_less Greater h = absurd h
-
 -- How often a path occurs in a list of entries.
 abbrev times : Path → List (Path × ℕ) → ℕ
 times p es = count_by (λ e. is_same_path p e.0) es
@@ -41,20 +29,17 @@ times-cons p e es = sum_by-cons (λ (x : Path × ℕ). cond (is_same_path p x.0)
 
 never : (p : Path) (es : List (Path × ℕ)) → T (below_all path_cmp p es) → times p es ≡ 0
 never p [] h = refl
-never p (e ∷ es) h =
-    times-cons p e es
-    ∙ (λ i. cond (is_eq (is_less (path_cmp p e.0) (both_first (is_lt (path_cmp p e.0)) (below_all path_cmp p es) h) i)) 1 0 + never p es (both_second (is_lt (path_cmp p e.0)) (below_all path_cmp p es) h) i)
+never p (e ∷ es) h = times-cons p e es ∙ (λ i. cond (is_eq ((less_than p e es h).0 i)) 1 0 + never p es (less_than p e es h).1 i)
 
 once : (p : Path) (es : List (Path × ℕ)) → T (is_sorted path_cmp es) → is_some (find path_cmp p es) ≡ true → times p es ≡ 1
 once p [] h f = absurd (cc)
-once p (e ∷ es) h f = go (path_cmp p e.0) refl f (once p es (both_second (below_all path_cmp e.0 es) (is_sorted path_cmp es) h))
-  where
-    go : (o : Ordering) → path_cmp p e.0 ≡ o → is_some (cond (is_eq o) (Some e.1) (find path_cmp p es)) ≡ true → (is_some (find path_cmp p es) ≡ true → times p es ≡ 1) → times p (e ∷ es) ≡ 1
-    go Less q g rest = times-cons p e es ∙ (λ i. cond (is_eq (q i)) 1 0 + rest g i)
-    go Equal q g rest =
-        let above : T (below_all path_cmp p es) = subst (λ (k : Path). T (below_all path_cmp k es)) (sym (path_antisymmetric p e.0 q)) (both_first (below_all path_cmp e.0 es) (is_sorted path_cmp es) h) in
-        times-cons p e es ∙ (λ i. cond (is_eq (q i)) 1 0 + never p es above i)
-    go Greater q g rest = times-cons p e es ∙ (λ i. cond (is_eq (q i)) 1 0 + rest g i)
+once p (e ∷ es) h f =
+    let parts = in_order e es h in
+    times-cons p e es
+    ∙ (elim (is_same_path p e.0) as (λ b. is_same_path p e.0 ≡ b → is_some (cond b (Some e.1) (find path_cmp p es)) ≡ true → cond b 1 0 + times p es ≡ 1) [
+      | true ↦ λ same _. ap (λ n. 1 + n) (subst (λ k. times k es ≡ 0) (sym (same_path p e.0 same)) (never e.0 es parts.0))
+      | false ↦ λ _ g. ap (λ n. 0 + n) (once p es parts.1 g)
+    ]) refl f
 
 -- A path of a graph occurs once among its entries.
 pub stands_once : (g : Graph) (p : Path) → contains_key g p ≡ true → times p (entries g) ≡ 1

@@ -10,18 +10,22 @@ use Rattle.allocative_picture.specs.Rows.{rows_of}
 abbrev Sizes : Type 0
 Sizes = List (Path × ℕ)
 
-both_first : (a b : Bool) → T (a && b) → T a
-both_first true b h = tt
-both_first false b h = absurd h
-
-both_second : (a b : Bool) → T (a && b) → T b
-both_second true b h = h
-both_second false b h = absurd h
+both : (a b : Bool) → T (a && b) → T a × T b
+both true b h = (tt, h)
+both false b h = absurd h
 
 is_less : (o : Ordering) → T (is_lt o) → o ≡ Less
 is_less Less h = refl
 is_less Equal h = absurd h
 is_less Greater h = absurd h
+
+-- A path that is less than all entries is less than the first one and than all others.
+pub less_than : (p : Path) (e : Path × ℕ) (es : Sizes) → T (below_all path_cmp p (e ∷ es)) → (path_cmp p e.0 ≡ Less) × T (below_all path_cmp p es)
+less_than p e es h = (is_less _ (both _ _ h).0, (both _ _ h).1)
+
+-- In a sorted list, the path of the first entry is less than all others, and these are sorted.
+pub in_order : (e : Path × ℕ) (es : Sizes) → T (is_sorted path_cmp (e ∷ es)) → T (below_all path_cmp e.0 es) × T (is_sorted path_cmp es)
+in_order e es h = both _ _ h
 
 -- The bytes of some entries together.
 abbrev pub bytes_of : Sizes → ℕ
@@ -34,22 +38,20 @@ before-cons p e es = sum_by-cons (λ (x : Path × ℕ). cond (is_lt (path_cmp x.
 before-above : (p : Path) (es : Sizes) → T (below_all path_cmp p es) → before_in es p ≡ 0
 before-above p [] h = refl
 before-above p (e ∷ es) h =
-    let turned : path_cmp e.0 p ≡ Greater = path_total.antisymm e.0 p ∙ ap ordering_reverse (is_less (path_cmp p e.0) (both_first (is_lt (path_cmp p e.0)) (below_all path_cmp p es) h)) in
-    before-cons p e es ∙ (λ i. cond (is_lt (turned i)) e.1 0 + before-above p es (both_second (is_lt (path_cmp p e.0)) (below_all path_cmp p es) h) i)
+    let turned : path_cmp e.0 p ≡ Greater = path_total.antisymm e.0 p ∙ ap ordering_reverse (less_than p e es h).0 in
+    before-cons p e es ∙ (λ i. cond (is_lt (turned i)) e.1 0 + before-above p es (less_than p e es h).1 i)
 
 -- A path that is less than all entries is less than each of them.
 below-at : (p : Path) (a c : Sizes) (e : Path × ℕ) → T (below_all path_cmp p (a ++ e ∷ c)) → path_cmp p e.0 ≡ Less
-below-at p [] c e h = is_less (path_cmp p e.0) (both_first (is_lt (path_cmp p e.0)) (below_all path_cmp p c) h)
-below-at p (x ∷ a) c e h = below-at p a c e (both_second (is_lt (path_cmp p x.0)) (below_all path_cmp p (a ++ e ∷ c)) h)
+below-at p [] c e h = (less_than p e c h).0
+below-at p (x ∷ a) c e h = below-at p a c e (less_than p x (a ++ e ∷ c) h).1
 
 -- In a sorted list, the bytes before the path of an entry are those of the entries to its left.
 before-middle : (a c : Sizes) (e : Path × ℕ) → T (is_sorted path_cmp (a ++ e ∷ c)) → before_in (a ++ e ∷ c) e.0 ≡ bytes_of a
-before-middle [] c e h =
-    before-cons e.0 e c ∙ (λ i. cond (is_lt (tied_itself path_total e.0 i)) e.1 0 + before-above e.0 c (both_first (below_all path_cmp e.0 c) (is_sorted path_cmp c) h) i)
+before-middle [] c e h = before-cons e.0 e c ∙ (λ i. cond (is_lt (tied_itself path_total e.0 i)) e.1 0 + before-above e.0 c (in_order e c h).0 i)
 before-middle (x ∷ a) c e h =
-    before-cons e.0 x (a ++ e ∷ c)
-    ∙ (λ i. cond (is_lt (below-at x.0 a c e (both_first (below_all path_cmp x.0 (a ++ e ∷ c)) (is_sorted path_cmp (a ++ e ∷ c)) h) i)) x.1 0 + before-middle a c e (both_second (below_all path_cmp x.0 (a ++ e ∷ c)) (is_sorted path_cmp (a ++ e ∷ c)) h) i)
-    ∙ sym (sum_by-cons (λ (y : Path × ℕ). y.1) x a)
+    let parts = in_order x (a ++ e ∷ c) h in
+    before-cons e.0 x (a ++ e ∷ c) ∙ (λ i. cond (is_lt (below-at x.0 a c e parts.0 i)) x.1 0 + before-middle a c e parts.1 i) ∙ sym (sum_by-cons (λ (y : Path × ℕ). y.1) x a)
 
 -- The own bytes of some figures together.
 abbrev pub own_bytes : List Figures → ℕ

@@ -1,5 +1,5 @@
 -- The rows of a graph are that of its root and then those of its children, one child after another.
-use Rattle.std.proofs.Common.{◌≡◌, ℕ, ◌+◌, ◌<◌, ◌≤◌, ◌++◌, [], ◌∷◌, List, get_or, take, drop, length, length-append, arith, ap, sym, ◌∙◌, take-append-drop, append-nil}
+use Rattle.std.proofs.Common.{◌≡◌, refl, ℕ, ◌+◌, ◌<◌, ◌≤◌, ◌++◌, [], ◌∷◌, List, get_or, take, drop, length, length-append, arith, ap, sym, ◌∙◌, take-append-drop, append-nil}
 use Rattle.allocative_picture.proofs.Common.{entries, len, Child, Path, Graph, total, total_at, Figures, figures_behind, node, weight, Mark, Seen, row_of, row_from, rows_from}
 use Rattle.std.proofs.lemmas.List.{take_more, length-map}
 use Rattle.std.proofs.lemmas.Grind.{flat_map-append}
@@ -19,16 +19,12 @@ rows_from-append M b (f ∷ fs) gs =
     ap (λ (s : List Seen). row_from M b f ∷ s) (rows_from-append M (b + f.self_size) fs gs ∙ ap (λ n. rows_from M (b + f.self_size) fs ++ rows_from M n gs) e)
 
 own-figured : (t : Path → ℕ) (ks : Path) (rs : List (Path × ℕ)) → own_bytes (figured t ks rs) ≡ sum_of_rows rs
-own-figured t ks [] = arith_zero
-  where
-    arith_zero : own_bytes [] ≡ 0
-    arith_zero = omega arith
+own-figured t ks [] = omega arith
 own-figured t ks (r ∷ rs) = omega (arith, own-cons (record { path = ks ++ r.0; self_size = r.1; total_size = t r.0 }) (figured t ks rs), own-figured t ks rs)
 
 -- The bytes of the children up to a place, and of the child there.
 pub weight_more : (cs : List Child) (i : ℕ) (d : Child) → i < length cs → d ≡ get_or cs i d → weight (take (i + 1) cs) ≡ weight (take i cs) + total d.graph
-weight_more cs i d h at =
-    ap weight (take_more cs i d h ∙ ap (λ (c : Child). take i cs ++ c ∷ []) (sym at)) ∙ weight-append (take i cs) (d ∷ []) ∙ ap (λ n. weight (take i cs) + n) (weight-one d)
+weight_more cs i d h at = rw (take_more cs i d h, ← at, weight-append (take i cs) (d ∷ []), weight-one d) refl
 
 pub weight_within : (cs : List Child) (i : ℕ) → weight (take i cs) ≤ weight cs
 weight_within cs i = omega (arith, weight-append (take i cs) (drop i cs), ap weight (take-append-drop i cs))
@@ -36,27 +32,25 @@ weight_within cs i = omega (arith, weight-append (take i cs) (drop i cs), ap wei
 -- The rows of the children up to a place, and of the child there, are as many as its paths more.
 pub rows_more : (cs : List Child) (i : ℕ) (d : Child) → i < length cs → d ≡ get_or cs i d → length (rows_of (take (i + 1) cs)) ≡ length (rows_of (take i cs)) + len d.graph
 rows_more cs i d h at =
-    let more : rows_of (take (i + 1) cs) ≡ rows_of (take i cs) ++ rows_of_child d =
-    ap rows_of (take_more cs i d h ∙ ap (λ (c : Child). take i cs ++ c ∷ []) (sym at)) ∙ flat_map-append rows_of_child (take i cs) (d ∷ []) ∙ ap (λ (r : List (Path × ℕ)). rows_of (take i cs) ++ r) (append-nil (rows_of_child d)) in
-    omega (arith, ap length more, length-append (rows_of (take i cs)) (rows_of_child d), length-map {B = Path × ℕ} (entries d.graph) (λ r. (d.key ∷ r.0, r.1)), len-entries d.graph)
+    let paths = length-map {B = Path × ℕ} (entries d.graph) (λ r. (d.key ∷ r.0, r.1)) ∙ sym (len-entries d.graph) in
+    rw (take_more cs i d h, ← at, flat_map-append rows_of_child (take i cs) (d ∷ []), append-nil (rows_of_child d), length-append, paths) refl
 
--- The rows of one child more.
-pub child_rows : (M : Path → Mark) (b n : ℕ) (cs : List Child) (i : ℕ) (d : Child) (ks : Path) → InOrder cs → i < length cs → d ≡ get_or cs i d
-    → rows_from M b (figured (total_at (node n cs)) ks (rows_of (take i cs))) ++ rows_from M (b + weight (take i cs)) (figures_behind (ks ++ d.key ∷ []) d.graph)
-    ≡ rows_from M b (figured (total_at (node n cs)) ks (rows_of (take (i + 1) cs)))
-child_rows M b n cs i d ks o w at =
-    let t : Path → ℕ = total_at (node n cs) in
-    let fs : List Figures = figured t ks (rows_of (take i cs)) in
-    let gs : List Figures = figures_behind (ks ++ (get_or cs i d).key ∷ []) (get_or cs i d).graph in
-    ap (λ (c : Child). rows_from M b fs ++ rows_from M (b + weight (take i cs)) (figures_behind (ks ++ c.key ∷ []) c.graph)) at
-    ∙ ap (λ (m : ℕ). rows_from M b fs ++ rows_from M (b + m) gs) (sym (own-figured t ks (rows_of (take i cs))))
-    ∙ sym (rows_from-append M b fs gs)
-    ∙ ap (rows_from M b) (child_read n cs i d ks o w)
+module _ (M : Path → Mark) (b n : ℕ) (g : Graph) (cs : List Child) (is : g ≡ node n cs) (ks : Path) (o : InOrder cs) where
+  -- The rows of one child more.
+  pub child_rows : (i : ℕ) (d : Child) → i < length cs → d ≡ get_or cs i d
+      → rows_from M b (figured (total_at g) ks (rows_of (take i cs))) ++ rows_from M (b + weight (take i cs)) (figures_behind (ks ++ d.key ∷ []) d.graph)
+      ≡ rows_from M b (figured (total_at g) ks (rows_of (take (i + 1) cs)))
+  child_rows i d w at =
+      let t : Path → ℕ = total_at (node n cs) in
+      let before = rows_of (take i cs) in
+      rw is (
+      ap (λ (c : Child). rows_from M b (figured t ks before) ++ rows_from M (b + weight (take i cs)) (figures_behind (ks ++ c.key ∷ []) c.graph)) at
+      ∙ rw (← own-figured t ks before, ← rows_from-append) (ap (rows_from M b) (child_read n cs i d ks o w))
+      )
 
--- The rows of a node are its own and then those of its children.
-pub node_rows : (M : Path → Mark) (b n : ℕ) (cs : List Child) (ks : Path) → InOrder cs
-    → row_from M b (record { path = ks; self_size = n; total_size = total (node n cs) }) ∷ rows_from M (b + n) (figured (total_at (node n cs)) ks (rows_of cs)) ≡ rows_from M b (figures_behind ks (node n cs))
-node_rows M b n cs ks o = ap (rows_from M b) (node_read n cs ks o)
+  -- The rows of a node are its own and then those of its children.
+  pub node_rows : row_from M b (record { path = ks; self_size = n; total_size = total g }) ∷ rows_from M (b + n) (figured (total_at g) ks (rows_of cs)) ≡ rows_from M b (figures_behind ks g)
+  node_rows = rw is (ap (rows_from M b) (node_read n cs ks o))
 
 -- A graph has a row for each path.
 pub length-rows_of : (M : Path → Mark) (g : Graph) → length (picture.rows_of M g) ≡ len g

@@ -18,20 +18,17 @@ bottom s o rs = 64 + 18 * levels o.narrowest (all_of s) rs
 abbrev pub drawn_of : Subject → Options → List Seen → ℕ
 drawn_of s o rs = count_by (is_drawn o.narrowest (all_of s)) rs
 
--- The picture of n paths, where the rows have all that have a box: as `drawing`.
+-- The picture of n paths, where the rows have all that have a box: its beginning, the style, the title, the totals, the
+-- labels that the script makes clickable, the boxes, the warnings and the end.
 unfoldable pub drawing_of : Subject → Options → List Seen → ℕ → List ℕ
 drawing_of s o rs n =
     opening (bottom s o rs + 8 + 16 * length o.warned.now) ++ style ++ heading o.title.now
     ++ summary s (drawn_of s o rs) (n - drawn_of s o rs) ++ tools_of s ++ boxes o.narrowest (all_of s) rs
     ++ warning_lines (bottom s o rs + 14) (map held.seen o.warned.now) ++ closing
 
--- The picture of some rows: its beginning, the style, the title, the totals, the labels that the script makes
--- clickable, the boxes, the warnings and the end.
+-- The picture of some rows, one for each path.
 unfoldable pub drawing : Subject → Options → List Seen → List ℕ
-drawing s o rs =
-    opening (bottom s o rs + 8 + 16 * length o.warned.now) ++ style ++ heading o.title.now
-    ++ summary s (drawn_of s o rs) (length rs - drawn_of s o rs) ++ tools_of s
-    ++ boxes o.narrowest (all_of s) rs ++ warning_lines (bottom s o rs + 14) (map held.seen o.warned.now) ++ closing
+drawing s o rs = drawing_of s o rs (length rs)
 
 -- The picture of a flame graph is drawn from its rows, and marks the paths that have a warning.
 abbrev pub profile_drawing : Options → Graph → List ℕ

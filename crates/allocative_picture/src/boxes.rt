@@ -153,6 +153,7 @@ fn push_frame(all: u128, row: &Row<'_>, text: &mut String) -> Result<(), AllocEr
 }
 
 /// Appends the title of a row's box. The key is given as markup.
+#[tactic(auto, unfolding(crate::specs::Boxes::title))]
 fn push_title(all: u128, row: &Row<'_>, key: &str, text: &mut String) -> Result<(), AllocError>
     ensures { OnOk result (string_bytes text.new ≡ string_bytes text.old
         ++ title key.now (title_text all (seen row.now))) }
@@ -163,6 +164,7 @@ fn push_title(all: u128, row: &Row<'_>, key: &str, text: &mut String) -> Result<
 }
 
 /// Appends the rectangle of a row's box.
+#[tactic(auto, unfolding(crate::specs::Boxes::face))]
 fn push_face(row: &Row<'_>, text: &mut String) -> Result<(), AllocError>
     ensures { OnOk result (string_bytes text.new ≡ string_bytes text.old ++ face (paint_text (seen row.now))) }
 {

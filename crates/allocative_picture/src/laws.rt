@@ -23,17 +23,20 @@ pub fn within_law()
 {}
 
 /// Each row that is wide enough has one box, and no other row has one.
+#[tactic(auto, using(crate::proofs::Counting::boxes_are))]
 pub fn boxes_law()
     ensures { BoxesLaw }
 {}
 
 /// Each path of a graph occurs once among the entries from which the rows are made.
+#[tactic(auto, using(crate::proofs::Counting::stands_once))]
 pub fn once_law()
     ensures { OnceLaw }
 {}
 
 /// No byte of an escaped text begins or ends an element, a text or an attribute, and a reader of the markup finds the
 /// text, with U+FFFD in place of unfit characters.
+#[tactic(auto, using(crate::proofs::Escaping::escapes))]
 pub fn escape_law()
     ensures { EscapeLaw }
 {}

@@ -82,6 +82,7 @@ fn level_of(least: u32, all: u128, levels: u128, row: &Row<'_>) -> u128
 }
 
 /// The number of levels of boxes that the rows need.
+#[tactic(auto, unfolding(crate::specs::Page::levels))]
 pub(crate) fn levels(least: u32, all: u128, rows: &[Row<'_>]) -> u128
     ensures levels { result ≡ levels least all (map seen rows.now) }
     ensures bound { result ≤ 2 ^ 64 }
@@ -94,6 +95,7 @@ pub(crate) fn levels(least: u32, all: u128, rows: &[Row<'_>]) -> u128
 }
 
 /// Appends the beginning of a picture. Its height is in pixels.
+#[tactic(auto, unfolding(crate::specs::Page::opening))]
 pub(crate) fn push_opening(height: u128, text: &mut String) -> Result<(), AllocError>
     ensures { OnOk result (string_bytes text.new ≡ string_bytes text.old ++ opening height) }
 {
@@ -146,6 +148,7 @@ pub(crate) fn push_tools_of(subject: Subject, text: &mut String) -> Result<(), A
 }
 
 /// Appends the boxes of some rows.
+#[tactic(auto, unfolding(crate::specs::Page::boxes))]
 pub(crate) fn push_boxes(
     alloc: Global,
     least: u32,

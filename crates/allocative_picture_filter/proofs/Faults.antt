@@ -1,22 +1,17 @@
 -- Faults and their status.
-use Rattle.std.proofs.Common.{◌≡◌, inl, inr, ℕ, ◌^◌, ◌≤◌, List, [], ◌∷◌, Option, None, Some, Err, refl, ap, arith, IfSome, IsErrOf}
-use Rattle.allocative_picture_filter.proofs.Common.{Graph, sum_of, Fault, Memory, Reading, Text, Sourced, StopsAddingUp}
+use Rattle.std.proofs.Common.{◌≡◌, inl, inr, ℕ, ◌^◌, ◌≤◌, List, [], ◌∷◌, Option, None, Some, Ok, Err, Result, refl, ap, arith, IfSome, IfErr, IsErrOf, IsErrAnd}
+use Rattle.allocative_picture_filter.proofs.Common.{Graph, sum_of, Fault, Text, Sourced, StopsAddingUp}
 use Rattle.allocative_graph.specs.declared.refusal.Refusal as refusal
 use Rattle.allocative_graph.specs.declared.refusal.Refusal.TheVariants as refused
 use Rattle.allocative_picture_filter.specs.declared.arguments.Arguments as words
-use Rattle.allocative_picture_filter.specs.declared.fault.Fault.TheVariants.{Line, NotText, TooLarge, Arguments, Writing}
+use Rattle.allocative_picture_filter.specs.declared.fault.Fault.TheVariants.{Writing}
 use Rattle.allocative_picture_filter.specs.Fault.{status_of, fault_of}
 use Rattle.allocative_picture_filter.specs.Run.{StopsJoining, Stops}
 
 -- A fault with status 7 is one of writing.
 is-writing : (f : Fault) → status_of f ≡ 7 → f ≡ Writing
-is-writing Memory e = absurd (omega (arith, e))
-is-writing (Line s n w) e = absurd (omega (arith, e))
-is-writing (NotText s) e = absurd (omega (arith, e))
-is-writing TooLarge e = absurd (omega (arith, e))
-is-writing Arguments e = absurd (omega (arith, e))
-is-writing (Reading s) e = absurd (omega (arith, e))
 is-writing Writing e = refl
+is-writing f e = absurd (omega (arith, e))
 
 -- Texts are added up without writing.
 added-unwritten : (g : Graph) (ts : List Sourced) → StopsAddingUp g ts Writing → ⊥
@@ -45,3 +40,8 @@ stops-joining bytes refused.Open h = tt
 pub of_each : {A : Type 0} {Q : A → Type 0} (o : Option A) → ((a : A) → Q a) → IfSome o Q
 of_each None f = tt
 of_each (Some a) f = f a
+
+-- What holds of a fault holds where the result is that fault.
+pub holds-of : {T : Type 0} (r : Result T Fault) (P : Fault → Type 0) (f : Fault) → IsErrAnd r (λ e. e ≡ f) → P f → IfErr r P
+holds-of (Ok x) P f is h = tt
+holds-of (Err e) P f is h = rw is h

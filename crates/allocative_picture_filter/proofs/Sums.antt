@@ -1,11 +1,10 @@
 -- The graphs of some texts, one added after another, and what stops that.
-use Rattle.std.proofs.Common.{◌≡◌, ℕ, zero, suc, ◌+◌, ◌<◌, ◌⊎◌, inl, inr, Bool, true, false, cond, true≢false, List, [], ◌∷◌, ◌++◌, map, take, length, get_or, refl, sym, ap, subst, ◌∙◌, append-nil, arith}
+use Rattle.std.proofs.Common.{◌≡◌, ℕ, zero, suc, ◌+◌, ◌<◌, ◌==◌, ◌⊎◌, inl, inr, Bool, true, cond, List, [], ◌∷◌, ◌++◌, map, take, length, get_or, refl, sym, ap, subst, ◌∙◌, arith}
 use Rattle.allocative_picture_filter.proofs.Common.{Graph, default, sum_of, IsRead, Options, Fault, Memory, Reading, Text, Sourced, sourced, AddUp, StopsAddingUp}
 use Rattle.std.proofs.lemmas.List.{map-append, take_more}
-use Rattle.allocative_graph.specs.Graph.{text}
-use Rattle.allocative_picture.specs.Picture.{profile_drawing, change_drawing}
+use Rattle.allocative_picture_filter.specs.declared.arguments.Arguments.{Arguments}
 use Rattle.allocative_picture_filter.specs.declared.fault.Source.TheVariants.{Input}
-use Rattle.allocative_picture_filter.specs.Run.{later_texts, AddUpOnto, StopsAdding, StopsProfile, written_of}
+use Rattle.allocative_picture_filter.specs.Run.{AddUpOnto, StopsAdding, StopsProfile, IsMade, written_of}
 
 -- ---- one text after another
 -- One text more is added.
@@ -39,22 +38,13 @@ stops-last b [] u g f up h = inl (subst (λ (x : Graph). StopsAdding x u f) up h
 stops-last b (t ∷ ts) u g f (read, is, up) h = inr (read, is, stops-last (sum_of b read) ts u g f up h)
 
 -- ---- with the input and without
-pub later-without : (xs : List Text) (b : Bool) (known : List ℕ) (g : Graph) → b ≡ false → AddUp (map sourced xs) g → AddUp (later_texts xs b known) g
-later-without xs true known g e up = absurd (true≢false e)
-later-without xs false known g e up = subst (λ (ts : List Sourced). AddUp ts g) (sym (append-nil (map sourced xs))) up
-
-pub later-with : (xs : List Text) (b : Bool) (known : List ℕ) (g h read : Graph) → b ≡ true → AddUp (map sourced xs) g → IsRead known read → h ≡ sum_of g read → AddUp (later_texts xs b known) h
-later-with xs true known g h read e up is sum = add-push default (map sourced xs) (Input, known) g h read up is sum
-later-with xs false known g h read e up is sum = absurd (true≢false (sym e))
-
 -- What stops the files stops the profile.
 pub stops-files : (xs : List Text) (b : Bool) (known : List ℕ) (f : Fault) → StopsAddingUp default (map sourced xs) f → StopsProfile xs b known f
 stops-files xs b known f h = inl (stops-before default (map sourced xs) (cond b ((Input, known) ∷ []) []) f h)
 
 -- What stops the input, once the files are added, stops the profile.
 pub stops-input : (xs : List Text) (b : Bool) (known : List ℕ) (g : Graph) (f : Fault) → b ≡ true → AddUp (map sourced xs) g → StopsAdding g (Input, known) f → StopsProfile xs b known f
-stops-input xs true known g f e up h = inl (stops-last default (map sourced xs) (Input, known) g f up h)
-stops-input xs false known g f e up h = absurd (true≢false (sym e))
+stops-input xs b known g f e up h = rw e (inl (stops-last default (map sourced xs) (Input, known) g f up h))
 
 -- An input that is not read stops the profile.
 pub stops-unread : (xs : List Text) (b : Bool) (known : List ℕ) (g : Graph) (f : Fault) → b ≡ true → AddUp (map sourced xs) g → (f ≡ Memory) ⊎ (f ≡ Reading Input) → StopsProfile xs b known f
@@ -62,16 +52,18 @@ stops-unread xs b known g f e up (inl m) = stops-input xs b known g f e up (inl 
 stops-unread xs b known g f e up (inr r) = inr (e, r)
 
 -- ---- what is written
-pub writes-text : (a b : Bool) (o : Options) (g h : Graph) → a ≡ true → text h ≡ written_of a b o g h
-writes-text true b o g h e = refl
-writes-text false b o g h e = absurd (true≢false (sym e))
-
-pub writes-profile : (a b : Bool) (o : Options) (g h : Graph) → a ≡ false → b ≡ true → profile_drawing o h ≡ written_of a b o g h
-writes-profile true b o g h e f = absurd (true≢false e)
-writes-profile false true o g h e f = refl
-writes-profile false false o g h e f = absurd (true≢false (sym f))
-
-pub writes-change : (a b : Bool) (o : Options) (g h : Graph) → a ≡ false → b ≡ false → change_drawing o g h ≡ written_of a b o g h
-writes-change true b o g h e f = absurd (true≢false e)
-writes-change false true o g h e f = absurd (true≢false f)
-writes-change false false o g h e f = refl
+-- What is written of some graphs is what the arguments ask for.
+pub made-so : (asked : Arguments) (before : List Text) (after : List Sourced) (made : List ℕ) (g h : Graph) (o : Options)
+    → AddUp (map sourced before) g → o.warned.now ≡ [] → o.narrowest ≡ 500 → AddUp after h
+    → made ≡ written_of asked.as_text (length before == 0) (record { title = asked.title; warned = o.warned; narrowest = o.narrowest }) g h → IsMade asked before after made
+made-so asked before after made g h o earlier warned narrowest later is = record {
+  earlier = g;
+  later = h;
+  earlier_read = earlier;
+  later_read = later;
+  options = record { title = asked.title; warned = o.warned; narrowest = o.narrowest };
+  title = refl;
+  warned = warned;
+  narrowest = narrowest;
+  is = is;
+}

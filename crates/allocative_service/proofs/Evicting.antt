@@ -1,5 +1,5 @@
 -- What stays true while the least recently used entries are evicted.
-use Rattle.std.proofs.Common.{◌≡◌, ℕ, ◌+◌, ◌-◌, ◌<◌, ◌≤◌, Some, None, [], ◌∷◌, ◌++◌, length, take, sym, ap, ◌∙◌, subst, arith, append_assoc, All}
+use Rattle.std.proofs.Common.{◌≡◌, ℕ, ◌+◌, ◌-◌, ◌<◌, Some, [], ◌∷◌, ◌++◌, length, take, sym, ap, ◌∙◌, subst, arith, append_assoc, All}
 use Rattle.allocative_service.proofs.Common.{values_of, Kept, Entries, bytes_of, Evicts, EvictsTo, KeepsRecent}
 use Rattle.std.proofs.lemmas.List.{map-append}
 use Rattle.std.proofs.lemmas.List.Elements.{All-take}
@@ -28,31 +28,23 @@ module _ {F K V : Type 0} (step : F → K → V → F → Type 0) (went : F) (by
     abbrev pub Goes : ℕ → Entries K V → F → K × Kept V → Type 0
     Goes left es f e = (g : F) → step f e.0 e.1.value g → Evicts step went bytes room before (take (length es - 1) es) (left - e.1.bytes) g
 
-    goes_cut : (left : ℕ) (us : Entries K V) (y : K × Kept V) (f : F) (e : K × Kept V) → Evicts step went bytes room before (us ++ y ∷ []) left f → room < left → last_entry (us ++ y ∷ []) ≡ Some e → Goes left (us ++ y ∷ []) f e
-    goes_cut left us y f e s more is =
-        let last = last_of_push us y in
-        let same : y ≡ e = cc in
-        let sum = bytes_of-cons y s.gone in
-        let at_y : Goes left (us ++ y ∷ []) f y = λ g called. rw last.1 (record {
-          gone = y ∷ s.gone;
-          parts = s.parts ∙ append_assoc us (y ∷ []) s.gone;
-          left_is = omega (arith, s.left_is, sum);
-          owed = omega (arith, s.left_is, more);
-          handed = (f, s.handed, called);
-        }) in
-        subst (Goes left (us ++ y ∷ []) f) same at_y
-
     -- Removing the last entry is one step of evicting.
     pub goes : (left : ℕ) (es : Entries K V) (f : F) (e : K × Kept V) → Evicts step went bytes room before es left f → room < left → last_entry es ≡ Some e → Goes left es f e
     goes left [] f e s more is = absurd cc
-    goes left (h ∷ rest) f e s more is =
+    goes left (h ∷ rest) f e s more is = λ g called.
         let cut = cut_end (h ∷ rest) (omega arith) in
-        subst (λ l. Evicts step went bytes room before l left f → last_entry l ≡ Some e → Goes left l f e) (sym cut.2) (λ t same. goes_cut left cut.0 cut.1 f e t more same) s is
-
-    -- While more bytes are left than there is room, there is an entry to remove.
-    pub never_none : bytes ≤ bytes_of before → (left : ℕ) (es : Entries K V) (f : F) → Evicts step went bytes room before es left f → room < left → last_entry es ≡ None → ⊥
-    never_none enough left [] f s more is = omega (arith, enough, more, s.left_is, ap (λ (l : Entries K V). bytes_of l) s.parts)
-    never_none enough left (h ∷ rest) f s more is = let cut = cut_end (h ∷ rest) (omega arith) in let last = last_of_push cut.0 cut.1 in let whole = cut.2 in let some : last_entry (h ∷ rest) ≡ Some cut.1 = subst (λ l. last_entry l ≡ Some cut.1) (sym whole) last.0 in cc
+        let last = last_of_push cut.0 cut.1 in
+        let same : Some cut.1 ≡ Some e = sym last.0 ∙ ap last_entry (sym cut.2) ∙ is in
+        let it : cut.1 ≡ e = cc in
+        let sum = bytes_of-cons e s.gone in
+        let kept : take (length (h ∷ rest) - 1) (h ∷ rest) ≡ cut.0 = ap (λ l. take (length l - 1) l) cut.2 ∙ last.1 in
+        rw kept (record {
+          gone = e ∷ s.gone;
+          parts = s.parts ∙ ap (λ l. l ++ s.gone) cut.2 ∙ append_assoc cut.0 (cut.1 ∷ []) s.gone ∙ ap (λ y. cut.0 ++ y ∷ s.gone) it;
+          left_is = omega (arith, s.left_is, sum);
+          owed = omega (arith, s.left_is, more);
+          handed = (f, s.handed, called);
+        })
 
     -- Where the bytes are those of all entries, what is left is the bytes of those that stay.
     pub evicted_all : (after : Entries K V) (left : ℕ) → bytes ≡ bytes_of before → EvictsTo step went bytes room before after left → (left ≡ bytes_of after) × KeepsRecent step went room before after

@@ -1,5 +1,5 @@
 -- The entries after an insertion.
-use Rattle.std.proofs.Common.{◌≡◌, ℕ, ◌+◌, ◌-◌, ◌<◌, ◌≤◌, Bool, true, false, Option, Some, None, [], ◌∷◌, length, refl, sym, ap, ◌∙◌, subst, arith, Result, Ok, Err, IfOk, IfErr, MatchResult, take_all}
+use Rattle.std.proofs.Common.{◌≡◌, ℕ, ◌+◌, ◌-◌, ◌<◌, ◌≤◌, Bool, true, false, Option, Some, None, [], ◌∷◌, length, refl, ap, ◌∙◌, subst, arith, take_all}
 use Rattle.allocative_service.proofs.Common.{lookup, lookup_entry, remove_entry, values_of, Forest, Kept, Entries, bytes_of, Bounded, bounded, KeepsRecent, EvictsTo, IsBounded, IsMeasured}
 use Rattle.std.specs.Option.{option_map, unwrap_or}
 use Rattle.std.proofs.lemmas.List.Elements.{All-cons}
@@ -7,13 +7,7 @@ use Rattle.std.proofs.lemmas.List.Sums.{sum_by-cons}
 use Rattle.std.proofs.lemmas.Map.Entries.{sum_by-remove_entry}
 use Rattle.std.proofs.lemmas.Map.Views.{All-map-remove_entry}
 use Rattle.lru.specs.LruCache.{lru_cache, put_entries}
-use Rattle.allocative.specs.Refusal.{Refusal}
-use Rattle.allocative_service.specs.declared.cache.error.Refused.{Refused}
-use Rattle.allocative_service.specs.declared.cache.error.CacheError.{CacheError}
-use Rattle.allocative_service.specs.declared.cache.error.CacheError.TheVariants.{TooLarge, NotMeasured, Memory}
-use Rattle.allocative_service.specs.declared.measure.Measure.{Measure}
-use Rattle.allocative_service.specs.Entries.{kept, with_entries, without, stored_key, IsFigure, Inserts, RefusesBytes, RefusesInsert}
-use Rattle.allocative_service.specs.Measured.{MayRefuseMeasure}
+use Rattle.allocative_service.specs.Entries.{kept, with_entries, without, stored_key, IsFigure, Inserts}
 use Rattle.allocative_service.proofs.Evicting.{bytes_of-cons, evicted_rest, All-recent}
 
 module _ {K V : Type 0} where
@@ -79,20 +73,3 @@ module _ {V : Type 0} (size : Option ℕ) (may_show : V → Forest → Type 0) w
     within = let s = sum_by-remove_entry (λ (k : Kept V). k.bytes) test c.entries in omega (arith, s, h.within);
     measured = All-map-remove_entry test (λ (e : K × Kept V). e.1) (IsMeasured size may_show c.measure) c.entries h.measured;
   }
-
-  -- A value that was measured has the figure that was measured.
-  pub figure_of : (m : Measure) (v : V) (n : ℕ) (measured : Result ℕ Refusal) → measured ≡ Ok n → IfOk measured (IsFigure size may_show m v) → IsFigure size may_show m v n
-  figure_of m v n measured is h = let P : Result ℕ Refusal → Type 0 = λ r. IfOk r (IsFigure size may_show m v) in subst P is h
-
-  -- A value whose figure is refused is refused.
-  refused_figure : (is_exact : Bool) (m : Measure) (v : V) (n bound : ℕ) (e : CacheError) → IsFigure size may_show m v n → RefusesBytes n bound e → RefusesInsert size may_show is_exact v m bound e
-  refused_figure is_exact m v n bound (TooLarge told most) figure h = (subst (IsFigure size may_show m v) (sym h.0) figure, h.1, subst (λ (k : ℕ). bound < k) (sym h.0) h.2)
-  refused_figure is_exact m v n bound (NotMeasured e) figure h = absurd h
-  refused_figure is_exact m v n bound Memory figure h = (n, figure, h)
-
-  -- A value is refused for the bytes that were measured, or because it could not be measured.
-  pub refused_with : {K : Type 0} (is_exact : Bool) (key : K) (m : Measure) (v : V) (bound : ℕ) (measured : Result ℕ Refusal) (r : Result (Option V) (Refused K V)) → IfOk measured (IsFigure size may_show m v) → IfErr measured (MayRefuseMeasure m is_exact size (may_show v))
-      → MatchResult measured (λ n. IfErr r (λ x. RefusesBytes n bound x.error)) (λ e. r ≡ Err (record { error = NotMeasured e; key = key; value = v })) → IfErr r (λ x. RefusesInsert size may_show is_exact v m bound x.error)
-  refused_with is_exact key m v bound (Ok n) (Ok had) figure may h = tt
-  refused_with is_exact key m v bound (Ok n) (Err x) figure may h = refused_figure is_exact m v n bound x.error figure h
-  refused_with {K} is_exact key m v bound (Err e) r figure may h = let P : Result (Option V) (Refused K V) → Type 0 = λ r'. IfErr r' (λ x. RefusesInsert size may_show is_exact v m bound x.error) in subst P (sym h) may

@@ -21,31 +21,22 @@ falls [] w h i j d e le lt = absurd (omega arith)
 falls (x ∷ xs) w h i j d e le lt =
     let short : j < length (x ∷ xs) = omega (arith, lt, length-map (x ∷ xs) seen) in
     let low : i < length (x ∷ xs) = omega (arith, le, short) in
-    let at_i : growth (get_or (map seen (x ∷ xs)) i d) ≡ growth (seen (get_or (x ∷ xs) i x)) = ap growth (get_or-map seen (x ∷ xs) i x d low) in
-    let at_j : growth (get_or (map seen (x ∷ xs)) j e) ≡ growth (seen (get_or (x ∷ xs) j x)) = ap growth (get_or-map seen (x ∷ xs) j x e short) in
-    omega (arith, at_i, at_j, h i j x le short, w i x low, w j x short)
+    rw (get_or-map seen (x ∷ xs) i x d low, get_or-map seen (x ∷ xs) j x e short) (omega (arith, h i j x le short, w i x low, w j x short))
 
 -- The first n changes of those that grew, sorted by rank, are those that grew most.
 pub grew_first : (n : ℕ) (cs : List Changed) (ps qs : List Change) → map seen ps ≡ filter is_grown cs → All IsWord ps → IsPermutation ps qs → IsNonDecreasingBy rank qs → GrewMost n cs (map seen (take n qs))
 grew_first n cs ps qs is w moved sorted =
-    let words : All IsWord qs = All-permutation IsWord ps qs moved w in
-    let parts : map seen qs ≡ map seen (take n qs) ++ map seen (drop n qs) = ap (map seen) (sym (take-append-drop n qs)) ∙ map-append seen (take n qs) (drop n qs) in
-    let many : length (map seen (take n qs)) ≡ min n (length (filter is_grown cs)) =
-    length-map (take n qs) seen ∙ length-take n qs ∙ ap (min n) (length_permutation ps qs moved ∙ sym (length-map ps seen) ∙ ap length is) in
+    let top = map seen (take n qs) in
+    let left = map seen (drop n qs) in
+    let parts : map seen qs ≡ top ++ left = ap (map seen) (sym (take-append-drop n qs)) ∙ map-append seen (take n qs) (drop n qs) in
+    let fall : (i j : ℕ) (d e : Changed) → i ≤ j → j < length (top ++ left) → growth (get_or (top ++ left) j e) ≤ growth (get_or (top ++ left) i d) =
+    rw (← parts) (falls qs (All-permutation IsWord ps qs moved w) sorted) in
     record {
-      rest = map seen (drop n qs);
+      rest = left;
       chosen = rw (← is, ← parts) (IsPermutation-map seen ps qs moved);
-      enough = many;
+      enough = length-map (take n qs) seen ∙ length-take n qs ∙ ap (min n) (length_permutation ps qs moved ∙ sym (length-map ps seen) ∙ ap length is);
       falling = λ i j d before short.
-          let whole : j < length (map seen qs) = omega (arith, short, ap length parts, length-append (map seen (take n qs)) (map seen (drop n qs))) in
-          let at_i : growth (get_or (map seen qs) i d) ≡ growth (get_or (map seen (take n qs)) i d) = ap (λ (l : List Changed). growth (get_or l i d)) parts ∙ ap growth (get_or_append_left (map seen (take n qs)) (map seen (drop n qs)) d i (omega arith)) in
-          let at_j : growth (get_or (map seen qs) j d) ≡ growth (get_or (map seen (take n qs)) j d) = ap (λ (l : List Changed). growth (get_or l j d)) parts ∙ ap growth (get_or_append_left (map seen (take n qs)) (map seen (drop n qs)) d j short) in
-          omega (arith, at_i, at_j, falls qs words sorted i j d d (omega arith) whole);
+          rw (get_or_append_left top left d i (omega arith), get_or_append_left top left d j short) at (fall i j d d (omega arith) (omega (arith, short, length-append top left)));
       most = λ i d in_top j e in_rest.
-          let top = map seen (take n qs) in
-          let left = map seen (drop n qs) in
-          let whole : length top + j < length (map seen qs) = omega (arith, in_rest, ap length parts, length-append top left) in
-          let at_i : growth (get_or (map seen qs) i d) ≡ growth (get_or top i d) = ap (λ (l : List Changed). growth (get_or l i d)) parts ∙ ap growth (get_or_append_left top left d i in_top) in
-          let at_j : growth (get_or (map seen qs) (length top + j) e) ≡ growth (get_or left j e) = ap (λ (l : List Changed). growth (get_or l (length top + j) e)) parts ∙ ap growth (get_or-append-add top left j e) in
-          omega (arith, at_i, at_j, falls qs words sorted i (length top + j) d e (omega arith) whole);
+          rw (get_or_append_left top left d i in_top, get_or-append-add top left j e) at (fall i (length top + j) d e (omega arith) (omega (arith, in_rest, length-append top left)));
     }

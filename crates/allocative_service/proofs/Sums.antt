@@ -1,24 +1,19 @@
 -- The sum of an account's entries after each change of them.
-use Rattle.std.proofs.Common.{◌≡◌, ℕ, ◌+◌, List, Option, ap, arith, nat_cmp}
+use Rattle.std.proofs.Common.{◌≡◌, ℕ, ◌+◌, List, nat_cmp}
 use Rattle.allocative_service.proofs.Common.{is_at, lookup, remove_entry}
 use Rattle.std.specs.BTreeMap.{insert_entry}
 use Rattle.std.specs.Cmp.{nat_cmp_total}
 use Rattle.std.specs.List.Sorted.{IsStrictlySortedBy}
 use Rattle.std.specs.Map.{keys_of}
-use Rattle.std.specs.Option.{unwrap_or, option_map}
+use Rattle.std.specs.Option.{unwrap_or}
 use Rattle.std.proofs.lemmas.Iterator.Adapters.{option_map_id}
 use Rattle.std.proofs.lemmas.Map.Entries.{sum_by-insert_entry, sum_by-remove_entry}
 use Rattle.allocative_service.specs.Holding.{sum_of}
 
--- The bytes under a number, or 0 where it has no entry.
-abbrev had_at : ℕ → List (ℕ × ℕ) → ℕ
-had_at number entries = unwrap_or (lookup (is_at (nat_cmp number)) entries) 0
-
-same : (o : Option ℕ) → unwrap_or (option_map (λ n. n) o) 0 ≡ unwrap_or o 0
-same o = ap (λ (p : Option ℕ). unwrap_or p 0) (option_map_id o)
-
 pub sum_of-insert_entry : (number bytes : ℕ) (entries : List (ℕ × ℕ)) → IsStrictlySortedBy nat_cmp (keys_of entries) → sum_of (insert_entry nat_cmp entries number bytes) + unwrap_or (lookup (is_at (nat_cmp number)) entries) 0 ≡ sum_of entries + bytes
-sum_of-insert_entry number bytes entries sorted = let s = sum_by-insert_entry (λ n. n) nat_cmp_total entries number bytes sorted in let i = same (lookup (is_at (nat_cmp number)) entries) in omega (arith, s, i)
+sum_of-insert_entry number bytes entries sorted = rw option_map_id at (sum_by-insert_entry (λ n. n) nat_cmp_total entries number bytes sorted)
 
 pub sum_of-remove_entry : (number : ℕ) (entries : List (ℕ × ℕ)) → sum_of (remove_entry (is_at (nat_cmp number)) entries) + unwrap_or (lookup (is_at (nat_cmp number)) entries) 0 ≡ sum_of entries
-sum_of-remove_entry number entries = let s = sum_by-remove_entry (λ n. n) (is_at (nat_cmp number)) entries in let i = same (lookup (is_at (nat_cmp number)) entries) in omega (arith, s, i)
+sum_of-remove_entry number entries = rw option_map_id at (sum_by-remove_entry (λ n. n) (is_at (nat_cmp number)) entries)
+
+pub ruleset sums = (sum_of-remove_entry)

@@ -129,6 +129,7 @@ impl Account {
     }
 
     /// Removes the entry under the number. It returns the bytes of the entry, or None where there is none.
+    #[tactic(auto, using(crate::proofs::Sums::sums))]
     pub fn release(&mut self, number: u64) -> Option<usize>
         ensures value { result ≡ bytes_at number self.old }
         ensures without { self.new ≡ without number self.old }

@@ -3,18 +3,20 @@ use Rattle.allocative_json.proofs.Common.{deref_pair, members_view, AddsKeys, me
 use Rattle.std.proofs.lemmas.List.{map-append, take_more}
 use Rattle.std.proofs.lemmas.Iterator.{items_from_drains}
 use Rattle.std.proofs.lemmas.Iterator.Consumers.{YieldsList-from_rest}
-use Rattle.allocative_json.proofs.NumbersLemmas.{AddsKeys-item, AddsKeys-member}
+use Rattle.allocative_json.proofs.NumbersLemmas.{AddsKeys-more, items_have-snoc, members_have-snoc}
 use Rattle.allocative_json.proofs.roots.+numbers.Goals as goal
 
 pub add_items-loop-item-preserved : goal.add_items-loop-item-preserved
 add_items-loop-item-preserved t c = record {
-  keys = rw (take_more _ _ c.item-item.result c.loop-item-test.true, ← c.item-item.is) (AddsKeys-item _ c.item-item.result _ _ _ c.loop-item.invariant.keys c.in_ok-add_numbers.ensures.keys);
+  keys = rw (take_more _ _ c.item-item.result c.loop-item-test.true, ← c.item-item.is)
+      (AddsKeys-more _ _ _ _ _ _ (items_have-snoc _ c.item-item.result) c.loop-item.invariant.keys c.in_ok-add_numbers.ensures.keys);
   ordered = λ h. c.add_numbers.ensures.ordered (c.loop-item.invariant.ordered h);
 }
 
 pub add_members-loop-key-preserved : goal.add_members-loop-key-preserved
 add_members-loop-key-preserved t c = record {
-  keys = rw map-append (AddsKeys-member (map deref_pair c.loop-key.yielded) c.in-Some._key.now c.in-Some.member.now _ _ _ c.loop-key.invariant.keys c.in_ok-add_numbers.ensures.keys);
+  keys = rw map-append
+      (AddsKeys-more _ _ _ _ _ _ (members_have-snoc (map deref_pair c.loop-key.yielded) c.in-Some._key.now c.in-Some.member.now) c.loop-key.invariant.keys c.in_ok-add_numbers.ensures.keys);
   ordered = λ h. c.add_numbers.ensures.ordered (c.loop-key.invariant.ordered h);
 }
 

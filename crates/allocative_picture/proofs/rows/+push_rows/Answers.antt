@@ -1,5 +1,5 @@
-use Rattle.std.proofs.Common.{◌≡◌, ℕ, ◌+◌, ◌<◌, ◌++◌, [], ◌∷◌, List, Bor, map, take, arith, ap, sym, subst, append_assoc, ◌∙◌, filter, length, take_all}
-use Rattle.allocative_picture.proofs.Common.{is_drawn, len, Child, Graph, total, total_at, weight, figures_behind, node, Seen, seen, rows_from, row_from, mark_of}
+use Rattle.std.proofs.Common.{◌≡◌, refl, ℕ, ◌+◌, ◌<◌, ◌++◌, [], ◌∷◌, List, Bor, map, arith, ap, sym, subst, append_assoc, ◌∙◌, filter, length, take_all}
+use Rattle.allocative_picture.proofs.Common.{is_drawn, len, Child, total, total_at, weight, Seen, seen, rows_from, row_from, mark_of}
 use Rattle.std.proofs.lemmas.List.{map-append}
 use Rattle.std.proofs.lemmas.List.Elements.{filter-append}
 use Rattle.allocative_graph.proofs.NodeAdded.{rows_of_node}
@@ -40,25 +40,14 @@ loop-child-preserved t c =
     let b = c.args.before.now + c.self_size.result in
     let wide = is_drawn c.args.shown.now.least c.args.shown.now.all in
     let start = map seen c.push_wide.new.rows.items in
-    let is : node n cs ≡ g = sym c.children-children.ensures.whole in
-    let kept : c.loop-child.path.items ≡ c.args.path.now.items = c.loop-child.invariant.path in
-    let pushed : c.push.new.self.items ≡ c.args.path.now.items ++ c.as_str.result ∷ [] = c.in_ok-push.ensures.items ∙ ap (λ s. s ++ c.as_str.result ∷ []) kept in
-    let behind_it : texts c.push.new.self.items ≡ ks ++ d.key ∷ [] =
-    ap texts pushed ∙ map-append (λ (k : Bor (List ℕ)). k.now) c.args.path.now.items (c.as_str.result ∷ []) ∙ ap (λ k. ks ++ k ∷ []) c.as_str.ensures in
-    let path : c.push_rows.new.path.items ≡ c.args.path.now.items ++ c.as_str.result ∷ [] = c.in_ok-push_rows.ensures.path ∙ pushed in
-    let step = child_rows M b n cs i d ks c.children-children.ensures.children.sorted (omega arith) c.child-item.is in
-    let came = subst (λ (h : Graph). rows_from M b (figured (total_at h) ks (rows_of (take i cs))) ++ rows_from M (b + weight (take i cs)) (figures_behind (ks ++ d.key ∷ []) d.graph) ≡ rows_from M b (figured (total_at h) ks (rows_of (take (i + 1) cs)))) is step in
-    let was : List Seen = rows_from M b (figured (total_at g) ks (rows_of (take i cs))) in
-    let next : List Seen = rows_from M (b + weight (take i cs)) (figures_behind (ks ++ d.key ∷ []) d.graph) in
+    let pushed : c.push.new.self.items ≡ c.args.path.now.items ++ c.as_str.result ∷ [] = rw (c.in_ok-push.ensures.items, c.loop-child.invariant.path) refl in
+    let behind_it : texts c.push.new.self.items ≡ ks ++ d.key ∷ [] = rw (pushed, map-append, c.as_str.ensures) refl in
+    let came = child_rows M b n g cs c.children-children.ensures.whole ks c.children-children.ensures.children.sorted i d (omega arith) c.child-item.is in
     record {
-      path = popped _ _ _ c.as_str.result _ c.pop.ensures.rest c.push_rows.new.path.ok.0 path;
+      path = popped _ _ _ c.as_str.result _ c.pop.ensures.rest c.push_rows.new.path.ok.0 (c.in_ok-push_rows.ensures.path ∙ pushed);
       before = omega (arith, c.in_ok-push_rows.ensures.before, c.loop-child.invariant.before, weight_more cs i d (omega arith) c.child-item.is);
       paths = omega (arith, c.in_ok-push_rows.ensures.paths, c.loop-child.invariant.paths, rows_more cs i d (omega arith) c.child-item.is);
-      rows =
-          c.in_ok-push_rows.ensures.rows
-          ∙ (λ j. c.loop-child.invariant.rows j ++ filter wide (rows_from M (c.loop-child.invariant.before j) (figures_behind (behind_it j) d.graph)))
-          ∙ append_assoc start (filter wide was) (filter wide next)
-          ∙ ap (λ (rs : List Seen). start ++ rs) (sym (filter-append wide was next) ∙ ap (filter wide) came);
+      rows = rw (← came, filter-append, ← append_assoc, ← c.loop-child.invariant.rows, ← c.loop-child.invariant.before, ← behind_it) c.in_ok-push_rows.ensures.rows;
     }
 
 pub returns-clause-before : goal.returns-clause-before
@@ -81,10 +70,8 @@ returns-clause-rows t c =
     let ks = texts c.args.path.now.items in
     let b = c.args.before.now in
     let start = map seen c.args.rows.now.items in
-    let is : node n cs ≡ g = sym c.children-children.ensures.whole in
     let root : Seen = row_from M b (record { path = ks; self_size = n; total_size = total g }) in
-    let whole = subst (λ (h : Graph). row_from M b (record { path = ks; self_size = n; total_size = total h }) ∷ rows_from M (b + n) (figured (total_at h) ks (rows_of cs)) ≡ rows_from M b (figures_behind ks h)) is
-    (node_rows M b n cs ks c.children-children.ensures.children.sorted) in
+    let whole = node_rows M b n g cs c.children-children.ensures.whole ks c.children-children.ensures.children.sorted in
     let below : List Seen = rows_from M (b + n) (figured (total_at g) ks (rows_of cs)) in
     let row : seen c.row_from-row.result ≡ root = c.row_from-row.ensures ∙ ap (λ (p : List (Bor (List ℕ))). row_from M b (record { path = texts p; self_size = n; total_size = total g })) c.as_slice.ensures.value in
     c.loop-child.invariant.rows

@@ -1,19 +1,17 @@
 use Rattle.std.proofs.Common.{◌+◌, inl, inr}
 use Rattle.allocative_picture_filter.proofs.Common.{total}
-use Rattle.std.proofs.lemmas.Result.{err_from_is_err_and}
-use Rattle.allocative_picture_filter.proofs.Faults.{stops-joining}
+use Rattle.allocative_picture_filter.proofs.Faults.{stops-joining, holds-of}
 use Rattle.allocative_picture_filter.proofs.run.add_text.Goals as goal
 
 pub returns-in_err-graph_of-clause-stops : goal.returns-in_err-graph_of-clause-stops
 returns-in_err-graph_of-clause-stops c =
-    let p = err_from_is_err_and c.from_residual.result c.from_residual.ensures.1 in
-    rw (p.1, p.2) (inl c.in_err-graph_of.ensures.stops)
+    holds-of c.from_residual.result _ _ c.from_residual.ensures.1 (inl c.in_err-graph_of.ensures.stops)
 
 pub returns-in_err-add-clause-stops : goal.returns-in_err-add-clause-stops
 returns-in_err-add-clause-stops c =
-    let p = err_from_is_err_and c.from_residual-in_err-add.result c.from_residual-in_err-add.ensures.1 in
     let read = c.in_ok-graph_of.field-0 in
-    rw (p.1, p.2) (inr (read, c.in_ok-graph_of.ensures.ok, stops-joining (total c.args.graph.now + total read) c.in_err-add.field-0.0 c.in_err-add.ensures.too_large.0))
+    holds-of c.from_residual-in_err-add.result _ _ c.from_residual-in_err-add.ensures.1
+    (inr (read, c.in_ok-graph_of.ensures.ok, stops-joining (total c.args.graph.now + total read) c.in_err-add.field-0.0 c.in_err-add.ensures.too_large.0))
 
 pub returns-clause-ok : goal.returns-clause-ok
 returns-clause-ok c = (c.in_ok-graph_of.field-0, c.in_ok-graph_of.ensures.ok, c.in_ok-add.ensures.sum)

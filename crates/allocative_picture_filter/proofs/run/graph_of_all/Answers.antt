@@ -1,6 +1,6 @@
 use Rattle.std.proofs.Common.{List, map, subst, arith, take_all}
 use Rattle.allocative_picture_filter.proofs.Common.{default, Text, sourced, AddUp}
-use Rattle.std.proofs.lemmas.Result.{err_from_is_err_and}
+use Rattle.allocative_picture_filter.proofs.Faults.{holds-of}
 use Rattle.allocative_picture_filter.proofs.Sums.{add-more, stops-at}
 use Rattle.allocative_picture_filter.proofs.run.graph_of_all.Goals as goal
 
@@ -11,8 +11,8 @@ loop-text-preserved c =
 
 pub returns-in_err-add_text-clause-stops : goal.returns-in_err-add_text-clause-stops
 returns-in_err-add_text-clause-stops c =
-    let p = err_from_is_err_and c.from_residual.result c.from_residual.ensures.1 in
-    rw (p.1, p.2) (stops-at default c.args.texts.now c.loop-text.text-index _ c.loop-text.graph c.in_err-add_text.field-0.0 (omega arith) c.loop-text.invariant c.in_err-add_text.ensures.stops)
+    holds-of c.from_residual.result _ _ c.from_residual.ensures.1
+    (stops-at default c.args.texts.now c.loop-text.text-index _ c.loop-text.graph c.in_err-add_text.field-0.0 (omega arith) c.loop-text.invariant c.in_err-add_text.ensures.stops)
 
 pub returns-clause-ok : goal.returns-clause-ok
 returns-clause-ok c = subst (λ (xs : List Text). AddUp (map sourced xs) c.loop-text.graph) (take_all c.loop-text.text-index c.args.texts.now (omega arith)) c.loop-text.invariant

@@ -1,30 +1,29 @@
-use Rattle.std.proofs.Common.{List, ℕ, subst}
-use Rattle.allocative_picture_filter.proofs.Common.{IsRead}
+use Rattle.std.proofs.Common.{map}
+use Rattle.allocative_picture_filter.proofs.Common.{default, sourced}
 use Rattle.std.proofs.lemmas.Option.{IfSome_then}
-use Rattle.std.proofs.lemmas.Result.{err_from_is_err_and}
-use Rattle.allocative_picture_filter.proofs.Faults.{of_each}
-use Rattle.allocative_picture_filter.proofs.Sums.{later-with, stops-files, stops-input, stops-unread}
+use Rattle.allocative_picture_filter.proofs.Faults.{of_each, holds-of}
+use Rattle.allocative_picture_filter.proofs.Sums.{add-push, stops-files, stops-input, stops-unread}
+use Rattle.allocative_picture_filter.specs.declared.fault.Source.TheVariants.{Input}
 use Rattle.allocative_picture_filter.proofs.run.later_graph.Goals as goal
 
 pub returns-in_err-graph-clause-stops : goal.returns-in_err-graph-clause-stops
 returns-in_err-graph-clause-stops g c =
-    let p = err_from_is_err_and c.from_residual.result c.from_residual.ensures.1 in
-    rw (p.1, p.2) (of_each (g.R.Read.remaining c.args.input.now) (λ known. stops-files c.args.texts.now c.args.reads_input known c.in_err-graph.field-0.0 c.in_err-graph.ensures.stops))
+    holds-of c.from_residual.result _ _ c.from_residual.ensures.1
+    (of_each (g.R.Read.remaining c.args.input.now) (λ known. stops-files c.args.texts.now c.args.reads_input known c.in_err-graph.field-0.0 c.in_err-graph.ensures.stops))
 
 pub returns-in_err-text-clause-stops : goal.returns-in_err-text-clause-stops
 returns-in_err-text-clause-stops g c =
-    let p = err_from_is_err_and c.from_residual-in_err-text.result c.from_residual-in_err-text.ensures.1 in
-    rw (p.1, p.2) (of_each (g.R.Read.remaining c.args.input.now)
+    holds-of c.from_residual-in_err-text.result _ _ c.from_residual-in_err-text.ensures.1 (of_each (g.R.Read.remaining c.args.input.now)
     (λ known. stops-unread c.args.texts.now c.args.reads_input known c.in_ok-graph.graph c.in_err-text.field-0.0 c.if-not-reads_input.false c.in_ok-graph.ensures.ok c.in_err-text.ensures.err))
 
 pub returns-in_err-add_text-clause-stops : goal.returns-in_err-add_text-clause-stops
 returns-in_err-add_text-clause-stops g c =
-    let p = err_from_is_err_and c.from_residual-in_err-add_text.result c.from_residual-in_err-add_text.ensures.1 in
-    rw (p.1, p.2) (IfSome_then (g.R.Read.remaining c.args.input.now) c.in_ok-text.ensures.ok
+    holds-of c.from_residual-in_err-add_text.result _ _ c.from_residual-in_err-add_text.ensures.1 (IfSome_then (g.R.Read.remaining c.args.input.now) c.in_ok-text.ensures.ok
     (λ known e. stops-input c.args.texts.now c.args.reads_input known c.in_ok-graph.graph c.in_err-add_text.field-0.0 c.if-not-reads_input.false c.in_ok-graph.ensures.ok (rw (c.in_ok-text.ensures.source, e) at c.in_err-add_text.ensures.stops)))
 
 pub returns-clause-ok : goal.returns-clause-ok
 returns-clause-ok g c =
     let added = c.in_ok-add_text.ensures.ok in
     IfSome_then (g.R.Read.remaining c.args.input.now) c.in_ok-text.ensures.ok
-    (λ known e. later-with c.args.texts.now c.args.reads_input known c.in_ok-graph.graph c.add_text.new.graph added.0 c.if-not-reads_input.false c.in_ok-graph.ensures.ok (subst (λ (t : List ℕ). IsRead t added.0) e added.1) added.2)
+    (λ known e. rw c.if-not-reads_input.false
+    (add-push default (map sourced c.args.texts.now) (Input, known) c.in_ok-graph.graph c.add_text.new.graph added.0 c.in_ok-graph.ensures.ok (rw e at added.1) added.2))

@@ -1,14 +1,10 @@
 -- The entries after `put`, and the bytes that were under the key.
-use Rattle.std.proofs.Common.{ap, ◌∙◌, sym, arith, option_map}
-use Rattle.allocative_service.proofs.Common.{Kept}
+use Rattle.std.proofs.Common.{ap, ◌∙◌, sym, arith}
 use Rattle.allocative_service.proofs.Inserting.{put_entries-unbounded, bytes_of-remove_entry}
 use Rattle.allocative_service.proofs.cache.put.Goals as goal
 
 pub returns-in-Ok-Some-clause-first : goal.returns-in-Ok-Some-clause-first
 returns-in-Ok-Some-clause-first g c = ap (λ m. m.entries) c.in-Ok-Some.ensures.entries ∙ put_entries-unbounded g.K.PartialEq.eq c.args.key c.args.kept c.args.entries.now.entries c.args.entries.now.cap (omega (arith, c.len-count.ensures.fits, c.len-count.ensures.len))
-
-pub returns-in-Ok-Some-clause-had : goal.returns-in-Ok-Some-clause-had
-returns-in-Ok-Some-clause-had g c = ap (option_map (λ (k : Kept g.row.V.Denot). k.value)) (sym c.in-Ok-Some.field-0-is ∙ c.in-Ok-Some.ensures.old)
 
 pub returns-in-Ok-Some-clause-bytes : goal.returns-in-Ok-Some-clause-bytes
 returns-in-Ok-Some-clause-bytes g c = bytes_of-remove_entry (g.K.PartialEq.eq c.args.key) c.args.entries.now.entries _ (sym c.in-Ok-Some.field-0-is ∙ c.in-Ok-Some.ensures.old)

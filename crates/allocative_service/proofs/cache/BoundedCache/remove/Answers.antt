@@ -20,7 +20,7 @@ pub returns-in_err-key-clause-unchanged : goal.returns-in_err-key-clause-unchang
 returns-in_err-key-clause-unchanged g c = rw (c.from_residual.ensures, c.pop_entry.ensures.entries, none_removed (g.K.PartialEq.eq c.args.key.now) c.self.inside.entries.entries (sym c.in_err-key.ensures.value)) c.self.view_is
 
 pub returns-in_err-key-clause-bounded : goal.returns-in_err-key-clause-bounded
-returns-in_err-key-clause-bounded g c = rw c.pop_entry.ensures.entries (without-bounded g.V.Described.size g.V.Allocative.may_show (g.K.PartialEq.eq c.args.key.now) (bounded c.self.inside.entries.entries c.self.inside.bound c.self.inside.measure) c.self.invariant.2)
+returns-in_err-key-clause-bounded g c = (invariant_of-self g c).2
 
 pub returns-clause-bounded : goal.returns-clause-bounded
-returns-clause-bounded g c = rw c.pop_entry.ensures.entries (without-bounded g.V.Described.size g.V.Allocative.may_show (g.K.PartialEq.eq c.args.key.now) (bounded c.self.inside.entries.entries c.self.inside.bound c.self.inside.measure) c.self.invariant.2)
+returns-clause-bounded g c = (invariant_of-self-2 g c).2

@@ -11,11 +11,5 @@ invariant_of-self g c =
     let old = bounded c.self.inside.entries.entries c.self.inside.bound c.self.inside.measure in
     (omega (arith, c.evict-self-inside.ensures.capacity, c.self.invariant.0), stay.0, evicts-bounded g.V.Described.size g.V.Allocative.may_show g.K.PartialEq.eq _ _ c.args.bound _ old _ stay.0 c.evict-self-inside.ensures.fits stay.1 c.self.invariant.2)
 
-pub returns-clause-recent : goal.returns-clause-recent
-returns-clause-recent g c = rw (← c.self.view_is) (evicted_all _ _ _ _ _ _ _ c.self.invariant.1 c.evict-self-inside.ensures.evicted).1
-
 pub returns-clause-bounded : goal.returns-clause-bounded
-returns-clause-bounded g c =
-    let stay = evicted_all _ _ _ _ _ _ _ c.self.invariant.1 c.evict-self-inside.ensures.evicted in
-    let old = bounded c.self.inside.entries.entries c.self.inside.bound c.self.inside.measure in
-    evicts-bounded g.V.Described.size g.V.Allocative.may_show g.K.PartialEq.eq _ _ c.args.bound _ old _ stay.0 c.evict-self-inside.ensures.fits stay.1 c.self.invariant.2
+returns-clause-bounded g c = (invariant_of-self g c).2

@@ -1,9 +1,6 @@
-use Rattle.std.proofs.Common.{None, refl}
-use Rattle.allocative_service.proofs.Accounts.{changes, closes, IfNone-weaker}
+use Rattle.std.proofs.Common.{None}
+use Rattle.allocative_service.proofs.Accounts.{changes, closes}
 use Rattle.allocative_service.proofs.ledger.Ledger.close.Goals as goal
 
 pub returns-clause-closed : goal.returns-clause-closed
 returns-clause-closed c = closes c.remove.result (changes c.args.tenant.now None c.args.self.now c.remove.new.self c.remove.ensures.updates)
-
-pub returns-clause-unchanged : goal.returns-clause-unchanged
-returns-clause-unchanged c = IfNone-weaker c.remove.result (λ same. (same, refl)) c.remove.ensures.unchanged

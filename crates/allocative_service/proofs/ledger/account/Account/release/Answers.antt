@@ -7,15 +7,3 @@ overflow_sub-self c =
     let s = sum_of-remove_entry c.args.number c.self.inside.entries.entries in
     let had = ap (λ (o : Option ℕ). unwrap_or o 0) c.in_ok-bytes.ensures.value in
     omega (arith, s, had, c.self.invariant)
-
-pub invariant_of-self-2 : goal.invariant_of-self-2
-invariant_of-self-2 c =
-    let s = sum_of-remove_entry c.args.number c.self.inside.entries.entries in
-    let had = ap (λ (o : Option ℕ). unwrap_or o 0) c.in_ok-bytes.ensures.value in
-    rw c.in_ok-bytes.ensures.entries (omega (arith, s, had, c.self.invariant), omega (arith, c.self.invariant))
-
-pub returns-clause-sum : goal.returns-clause-sum
-returns-clause-sum c =
-    let s = sum_of-remove_entry c.args.number c.self.inside.entries.entries in
-    let had = ap (λ (o : Option ℕ). unwrap_or o 0) c.in_ok-bytes.ensures.value in
-    rw (← c.self.view_is, c.in_ok-bytes.ensures.entries) (omega (arith, s, had))
