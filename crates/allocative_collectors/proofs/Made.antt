@@ -9,7 +9,7 @@ use Rattle.allocative_graph.proofs.Graphs.{total-sum_of, total-under, total-add_
 use Rattle.std.specs.Result.{IsErrAnd, IfErr}
 use Rattle.allocative_collectors.specs.declared.tree.Node.{Node}
 use Rattle.allocative_collectors.specs.Listed.{total as total_listed}
-use Rattle.allocative_collectors.specs.Finishing.{Makes}
+use Rattle.allocative_collectors.specs.Finishing.{MakesGraph}
 use Rattle.allocative_collectors.proofs.Labels.{step}
 use Rattle.allocative_collectors.proofs.Walked.{IsPart, part_none, part_more, part_all, part_rise, more_warned}
 use Rattle.allocative_collectors.proofs.Graphs.{HasPart, part_start, part_step, graph_all, graph_at}
@@ -40,7 +40,7 @@ half_none s i ks w w' g is written = record {
 }
 
 module _ (s : Listed) (i : ℕ) (ks : List Key) (j : ℕ) (hj : j < length ks) (rise : KeysRise ks) (m : ℕ) (there : path_at s m ≡ path_at s i ++ key_in ks j ∷ []) where
-  pub half_more : (w w' w'' : List Warned) (g h c : Graph) → HalfMade s i ks j w w' g → Makes s m w' w'' c → h ≡ sum_of g (under (key_in ks j) c) → HalfMade s i ks (j + 1) w w'' h
+  pub half_more : (w w' w'' : List Warned) (g h c : Graph) → HalfMade s i ks j w w' g → MakesGraph s m w' w'' c → h ≡ sum_of g (under (key_in ks j) c) → HalfMade s i ks (j + 1) w w'' h
   half_more w w' w'' g h c half child is =
       let walk : IsWalk s (path_at s i ++ key_in ks j ∷ []) (m ∷ child.others) = subst (λ (p : Path). IsWalk s p (m ∷ child.others)) there child.walk in
       record {
@@ -67,7 +67,7 @@ own_fits s i hi =
     let most = half_total s i [] 0 [] ([] ++ warned_at s i) (add_self (size_at_place s i) default) hi (half_none s i [] [] ([] ++ warned_at s i) (add_self (size_at_place s i) default) refl refl) in
     omega (arith, alone, most)
 
-pub made_total : (s : Listed) (i : ℕ) (w w' : List Warned) (g : Graph) → Makes s i w w' g → total g ≤ total_listed s
+pub made_total : (s : Listed) (i : ℕ) (w w' : List Warned) (g : Graph) → MakesGraph s i w w' g → total g ≤ total_listed s
 made_total s i w w' g made =
     let most = sizes_le_total s (i ∷ made.others) made.walk.rise made.walk.within in
     let is = made.total_is in
@@ -86,12 +86,12 @@ module _ (items : List Node) (ok : IsTree items) {v : Listed} (view : sums_of it
       let key = key_in (keys_at ns p) j in
       (omega (arith, c.0.parent), omega (arith, c.1, length_nodes items), subst (λ (s : Listed). path_at s (get_or xs j 0) ≡ path_at s p ++ key ∷ []) view path, λ d. sym (c.2 ∙ c.3 d))
 
-  pub made_all : p < length v → (w w' : List Warned) (g : Graph) (j : ℕ) → j ≡ length (keys_at (map shape items) p) → HalfMade v p (keys_at (map shape items) p) j w w' g → Makes v p w w' g
+  pub made_all : p < length v → (w w' : List Warned) (g : Graph) (j : ℕ) → j ≡ length (keys_at (map shape items) p) → HalfMade v p (keys_at (map shape items) p) j w w' g → MakesGraph v p w w' g
   made_all hp w w' g j whole half =
       let ns = map shape items in
       let inside = in_shapes items p view hp in
       let all : HalfMade (sums_of items) p (keys_at ns p) (length (keys_at ns p)) w w' g = subst (λ (s : Listed). HalfMade s p (keys_at ns p) (length (keys_at ns p)) w w' g) (sym view) (subst (λ (n : ℕ). HalfMade v p (keys_at ns p) n w w' g) whole half) in
-      subst (λ (s : Listed). Makes s p w w' g) view
+      subst (λ (s : Listed). MakesGraph s p w w' g) view
       (record {
         others = all.ys;
         walk = part_all ns ok.arena p inside all.ys all.part;

@@ -20,7 +20,7 @@ abbrev pub warned_at : Listed → ℕ → List Warned
 warned_at s i = warned (map_of s) (row (sum_at s i))
 
 -- A walk of the paths from that of place i on made the graph g. It appended those that have a warning to `found`.
-pub record Makes (s : Listed) (i : ℕ) (found found' : List Warned) (g : Graph) : Type 0 where
+pub record MakesGraph (s : Listed) (i : ℕ) (found found' : List Warned) (g : Graph) : Type 0 where
   pub others : List ℕ
   pub walk : IsWalk s (path_at s i) (i ∷ others)
   pub warned_are : found' ≡ found ++ flat_map (warned_at s) (i ∷ others)
@@ -28,5 +28,5 @@ pub record Makes (s : Listed) (i : ℕ) (found found' : List Warned) (g : Graph)
   pub total_is : total g ≡ sum_by (size_at_place s) (i ∷ others)
 
 -- A walk of the paths from that of place i on made the graph g, and none of them has a warning.
-abbrev pub MakesAlone : Listed → ℕ → Graph → Type 0
-MakesAlone s i g = (found : List Warned) → Makes s i found found g
+abbrev pub MakesGraphAlone : Listed → ℕ → Graph → Type 0
+MakesGraphAlone s i g = (found : List Warned) → MakesGraph s i found found g

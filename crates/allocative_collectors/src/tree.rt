@@ -3,7 +3,7 @@ ghost use Rattle.std.specs.Prelude.{◌≡◌, ◌+◌, ◌^◌, ◌<◌, ◌≤
 ghost use Rattle.allocative_graph.specs.Graph.{total as graph_total};
 ghost use Rattle.allocative_graph.specs.Visits.{IsProfile};
 ghost use Rattle.allocative_collectors.specs.Listed.{root_sum, put, total, path_at, map_of, IsEntered, IsAbove};
-ghost use Rattle.allocative_collectors.specs.Finishing.{size_at_place, is_short, Makes, MakesAlone};
+ghost use Rattle.allocative_collectors.specs.Finishing.{size_at_place, is_short, MakesGraph, MakesGraphAlone};
 ghost use Rattle.allocative_collectors.specs.Shapes.{keys_at, key_at, IsChild, IsKeyGap};
 ghost use Rattle.allocative_collectors.specs.Nodes.{shape, IsTree};
 ghost use Rattle.allocative_collectors.specs.Warned.{seen};
@@ -137,7 +137,7 @@ impl Tree {
         requires fits { total self.now < 2 ^ 63 }
         requires keys { map (λ k. k.now) keys.old.items ≡ path_at self.now at }
         ensures keys { OnOk result (keys.new.items ≡ keys.old.items) }
-        ensures made { IfOk result (Makes self.now at (map seen warned.old.items) (map seen warned.new.items)) }
+        ensures made { IfOk result (MakesGraph self.now at (map seen warned.old.items) (map seen warned.new.items)) }
         ensures err { IfErr result (λ e. e ≡ Refusal.Memory) }
     {
         if let Some(leaf) = self.leaf(at) {
@@ -163,7 +163,7 @@ impl Tree {
     #[inline(always)]
     fn leaf(&self, at: usize) -> Option<FlameGraph>
         requires { at < length self.now }
-        ensures { IfSome result (λ graph. MakesAlone self.now at graph) }
+        ensures { IfSome result (λ graph. MakesGraphAlone self.now at graph) }
     {
         if !self.nodes[at].children.is_empty() || self.is_short(at) {
             return None;
