@@ -1,7 +1,8 @@
 -- What the calls that return a nested visitor pass on: the rows of their types, and the facts that a call of the
 -- collector states of what was lent.
-use Rattle.std.proofs.Common.{◌≡◌, ℕ, Option, None, Some, Bool, true, false, refl, sym, ap, subst, Result, Ok, Err, IfOk, IfErr, IfSome, OnOk, OnErr}
-use Rattle.allocative.proofs.Common.{name_if_ok, Refusal, Key, State, Failed, Identity, Enters, EntersSized, EntersShared, enters_first, Answers, Visitor, with_state, EndsWith, EndsWithout, AnswersShared, told, turned}
+use Rattle.allocative.proofs.Lent.{option_laws}
+use Rattle.std.proofs.Common.{◌≡◌, ℕ, Option, None, Some, true, false, refl, sym, ap, subst, Result, Ok, Err, IfOk, IfErr, IfSome, OnOk, OnErr}
+use Rattle.allocative.proofs.Common.{name_if_ok, Refusal, Key, State, Identity, EntersShared, enters_first, Visitor, with_state, EndsWith, EndsWithout, AnswersShared, told, turned}
 use contract.Lifetimes.{Lfts}
 use denote.Builtin.{usize}
 use denote.RattleType.{RattleType}
@@ -15,7 +16,6 @@ use Rattle.allocative.specs.Shared.{answered}
 use Rattle.allocative_graph.specs.contracts.refusal.Refusal as refusal
 use Rattle.std.specs.contracts.option.Option as option
 use Rattle.std.specs.contracts.result.Result as result
-use Rattle.std.proofs.option.Option.TheLaws.{the_row_laws as option_laws}
 use Rattle.allocative.specs.contracts.visitor.Visitor as visitor
 
 -- The lender, whose own lifetime is the second one, and the result, whose visitor has the first.
@@ -28,47 +28,15 @@ Nested κs = visitor.the_row (named_lft 2 0 tt κs)
 abbrev pub Answer : Lfts 2 → RattleType
 Answer κs = result.the_row (Nested κs) refusal.the_row
 
--- How the lender ends, with a loan and without.
-abbrev pub EndsEntered : Visitor → Result Visitor Refusal → State → Visitor → Type 0
-EndsEntered s r w v = OnOk r (v ≡ with_state s w)
-
-abbrev pub EndsRefused : Bool → Key → ℕ → Visitor → Result Visitor Refusal → Visitor → Type 0
-EndsRefused u k n s r v = IfErr r (λ e. Enters u k n s.collector.now (Err e) v.collector.now × (v ≡ with_state s v.collector.now))
-
-pub ends_entered : (s : Visitor) (r : Result Visitor Refusal) (w z : State) → OnOk r (z ≡ w) → EndsEntered s r w (with_state s z)
-ends_entered s (Ok v) w z h = ap (with_state s) h
-ends_entered s (Err e) w z h = h
-
-pub ends_refused : (u : Bool) (k : Key) (n : ℕ) (s : Visitor) (c : State) → c ≡ s.collector.now → (r : Result Visitor Refusal) (z : State) → OnErr r (IfErr r (λ e. Enters u k n c (Err e) z)) → EndsRefused u k n s r (with_state s z)
-ends_refused u k n s c i (Ok v) z h = h
-ends_refused u k n s c i (Err e) z h = let P : State → Type 0 = λ x. Enters u k n x (Err e) z in (subst P i h, refl)
-
--- The plain clauses, stated of the collector before the call.
-pub entered_by : (u : Bool) (k : Key) (n : ℕ) (r : Result Visitor Refusal) (c d : State) → c ≡ d → IfOk r (λ v. Enters u k n c (Ok v.outer_is_unique) v.collector.now) → IfOk r (λ v. Enters u k n d (Ok v.outer_is_unique) v.collector.now)
-entered_by u k n r c d e h = let P : State → Type 0 = λ x. IfOk r (λ v. Enters u k n x (Ok v.outer_is_unique) v.collector.now) in subst P e h
-
-pub refused_by : (u : Bool) (n : ℕ) (r : Result Visitor Refusal) (c d : State) → c ≡ d → IfErr r (λ e. Answers u n c (Err e)) → IfErr r (λ e. Answers u n d (Err e))
-refused_by u n r c d e h = let P : State → Type 0 = λ x. IfErr r (λ e. Answers u n x (Err e)) in subst P e h
-
 -- ---- an entry of a declared size
 abbrev pub Size : RattleType
 Size = option.the_row usize
 
+pub number_laws : Laws usize
+number_laws = of_field usize-field usize-laws refl (copy_shared usize-field usize-copy)
+
 pub size_laws : Laws Size
-size_laws = option_laws usize (of_field usize-field usize-laws refl (copy_shared usize-field usize-copy))
-
-abbrev pub EndsRefusedSized : Key → Option ℕ → Visitor → Result Visitor Refusal → Visitor → Type 0
-EndsRefusedSized k size s r v = IfErr r (λ e. EntersSized k size s.collector.now (Err e) v.collector.now × (v ≡ with_state s v.collector.now))
-
-pub ends_refused_sized : (k : Key) (size : Option ℕ) (s : Visitor) (c : State) → c ≡ s.collector.now → (r : Result Visitor Refusal) (z : State) → OnErr r (IfErr r (λ e. EntersSized k size c (Err e) z)) → EndsRefusedSized k size s r (with_state s z)
-ends_refused_sized k size s c i (Ok v) z h = h
-ends_refused_sized k size s c i (Err e) z h = let P : State → Type 0 = λ x. EntersSized k size x (Err e) z in (subst P i h, refl)
-
-pub entered_sized_by : (k : Key) (size : Option ℕ) (r : Result Visitor Refusal) (c d : State) → c ≡ d → IfOk r (λ v. EntersSized k size c (Ok v.outer_is_unique) v.collector.now) → IfOk r (λ v. EntersSized k size d (Ok v.outer_is_unique) v.collector.now)
-entered_sized_by k size r c d e h = let P : State → Type 0 = λ x. IfOk r (λ v. EntersSized k size x (Ok v.outer_is_unique) v.collector.now) in subst P e h
-
-pub refused_sized_by : (k : Key) (size : Option ℕ) (r : Result Visitor Refusal) (c d : State) → c ≡ d → IfErr r (λ e. EntersSized k size c (Err e) (Failed e)) → IfErr r (λ e. EntersSized k size d (Err e) (Failed e))
-refused_sized_by k size r c d e h = let P : State → Type 0 = λ x. IfErr r (λ e'. EntersSized k size x (Err e') (Failed e')) in subst P e h
+size_laws = option_laws usize number_laws
 
 -- ---- a shared value
 -- The result of the collector's call, and the result that is returned.

@@ -1,7 +1,6 @@
 -- A hand-written proof of `enter_shared`: the collector is lent, a visitor of the content may hold it, and the result
 -- is converted.
-use Rattle.allocative.proofs.Lent.{one_value, at_values, ◌≡◌, List, [], ◌∷◌, refl, sym, ap, subst, MutBor, proved_at, says_three, rewrite, Goes-blank, id⊢, ftrue, flft, named, w64, Val, fact, tables, ‵, raw, ◌⊛◌, some, later, ◌$◌, ◌∵◌, !, qed, done, move, keep, drop, use1, use2, split, join, fsplit, fjoin, feq_i, feq_l, pick, await, suffices, frame, enter, addr, stop, no_more, and_then, returns, alloc_all, pass_all, free_all, look_at, get, through, sets, lands_as, usize, yes, no, shows, uint_vals, uint_Tells, MutRef, mut_vals, mut_Tells, plain, named_lft, nothing, heard, peeks, only, calls_at, Lasts, lasts, triple_of, framed, Stays, stay_dropped, Goes-dropped, Goes-spent_ref, ends_at}
-use Rattle.allocative.proofs.Nest.{nest}
+use Rattle.allocative.proofs.Lent.{key_laws, option_laws, refusal_laws, result_laws, visitor_laws, nest, one_value, at_values, ◌≡◌, List, [], ◌∷◌, refl, sym, ap, subst, MutBor, proved_at, says_three, rewrite, Goes-blank, id⊢, ftrue, flft, named, w64, Val, fact, tables, ‵, raw, ◌⊛◌, some, later, ◌$◌, ◌∵◌, !, qed, done, move, keep, drop, use1, use2, split, join, fsplit, fjoin, feq_i, feq_l, pick, await, suffices, frame, enter, addr, stop, no_more, and_then, returns, alloc_all, pass_all, free_all, look_at, get, through, sets, lands_as, usize, yes, no, shows, uint_vals, uint_Tells, MutRef, mut_vals, mut_Tells, plain, named_lft, nothing, heard, peeks, only, calls_at, Lasts, lasts, triple_of, framed, Stays, stay_dropped, Goes-dropped, Goes-spent_ref, ends_at}
 use Rattle.allocative.proofs.Nesting.{Lender, Try, Given, TryAnswer, SharedAnswer, same_name, ends_with, ends_without, outer_by, content_by, answer_by}
 use Rattle.std.proofs.Common.{true, false, Ok, IfOk, IfErr, OnOk, OnErr}
 use Rattle.allocative.proofs.Common.{name_if_ok, State, EntersShared, LendsCollector, EndsWith, EndsWithout, with_state, AnswersShared, told, turned}
@@ -13,12 +12,7 @@ use Rattle.allocative_graph.specs.contracts.key.Key as key
 use Rattle.allocative_graph.specs.contracts.shared.Identity as identity
 use Rattle.allocative.specs.contracts.visitor.Visitor as visitor
 use Rattle.allocative.specs.contracts.visitor.collector.Collector as collector
-use Rattle.allocative_graph.proofs.key.Key.TheLaws.{the_row_laws as key_laws}
 use Rattle.allocative_graph.proofs.shared.Identity.TheLaws.{the_row_laws as identity_laws}
-use Rattle.std.proofs.option.Option.TheLaws.{the_row_laws as option_laws}
-use Rattle.allocative_graph.proofs.refusal.Refusal.TheLaws.{the_row_laws as refusal_laws}
-use Rattle.std.proofs.result.Result.TheLaws.{the_row_laws as result_laws}
-use Rattle.allocative.proofs.visitor.Visitor.TheLaws.{the_row_laws as visitor_laws}
 use prog.Wp.{WpFn}
 use denote.Laws.{Is}
 use denote.Triple.Walked.{walk_of}
