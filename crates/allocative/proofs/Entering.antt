@@ -1,6 +1,5 @@
 -- A call that enters: it lends the visitor's collector to a call of the collector, and a nested visitor may hold it.
-use Rattle.allocative.proofs.Lent.{key_laws, refusal_laws, result_laws, visitor_laws, nest, one_value, at_values, ◌≡◌, List, [], ◌∷◌, refl, ap, subst, MutBor, proved_at, says_two, Goes-blank, id⊢, ftrue, flft, named, Val, fact, tables, ‵, raw, ◌⊛◌, some, later, ◌$◌, ◌∵◌, !, qed, done, move, keep, drop, use1, use2, split, join, fsplit, fjoin, feq_i, feq_l, pick, await, suffices, frame, enter, addr, stop, no_more, and_then, returns, alloc_all, pass_all, free_all, look_at, get, through, sets, lands_as, yes, no, shows, MutRef, mut_vals, mut_Tells, plain, named_lft, nothing, heard, peeks, only, calls_at, Lasts, lasts, triple_of, framed, Stays, stay_dropped, Goes-spent_ref, ends_at}
-use Rattle.allocative.proofs.Nesting.{Lender, Answer}
+use Rattle.allocative.proofs.Lent.{Lender, Answer, key_laws, refusal_laws, result_laws, visitor_laws, nest, one_value, at_values, ◌≡◌, List, [], ◌∷◌, refl, ap, subst, MutBor, proved_at, says_two, Goes-blank, id⊢, ftrue, flft, named, Val, fact, tables, ‵, raw, ◌⊛◌, some, later, ◌$◌, ◌∵◌, !, qed, done, move, keep, drop, use1, use2, split, join, fsplit, fjoin, feq_i, feq_l, pick, await, suffices, frame, enter, addr, stop, no_more, and_then, returns, alloc_all, pass_all, free_all, look_at, get, through, sets, lands_as, yes, no, shows, MutRef, mut_vals, mut_Tells, plain, named_lft, nothing, heard, peeks, only, calls_at, Lasts, lasts, triple_of, framed, Stays, stay_dropped, Goes-spent_ref, ends_at}
 use Rattle.std.proofs.Common.{Bool, Result, Ok, Err, IfOk, IfErr, OnOk, OnErr}
 use Rattle.allocative.proofs.Common.{name_if_ok, Refusal, Key, State, Visitor, LendsCollector, with_state}
 use Rattle.std.specs.Borrow.{Fml, RestsIfErr, follows_so}

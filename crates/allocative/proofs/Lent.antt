@@ -44,6 +44,34 @@ use denote.Triple.Entry.{Vals}
 use denote.Triple.Walked.{walk_of}
 use denote.Follow.{follows, follows_so, follows_by, such_by, followed, follows_then}
 use mathlib.Core.Option as maybe
+use denote.Param.Laws.{Laws, of_field}
+use denote.Param.Shared.{copy_shared}
+use denote.Struct.Field.{usize-field}
+use denote.Struct.Laws.{usize-laws, usize-copy}
+use Rattle.allocative_graph.specs.contracts.refusal.Refusal as refusal
+use Rattle.std.specs.contracts.option.Option as option
+use Rattle.std.specs.contracts.result.Result as result
+use Rattle.allocative.specs.contracts.visitor.Visitor as visitor
+
+-- The lender, whose own lifetime is the second one, and the result, whose visitor has the first.
+abbrev pub Lender : Lfts 2 → RattleType
+Lender κs = visitor.the_row (named_lft 2 1 tt κs)
+
+abbrev pub Nested : Lfts 2 → RattleType
+Nested κs = visitor.the_row (named_lft 2 0 tt κs)
+
+abbrev pub Answer : Lfts 2 → RattleType
+Answer κs = result.the_row (Nested κs) refusal.the_row
+
+-- The type of a declared size.
+abbrev pub Size : RattleType
+Size = option.the_row usize
+
+pub number_laws : Laws usize
+number_laws = of_field usize-field usize-laws refl (copy_shared usize-field usize-copy)
+
+pub size_laws : Laws Size
+size_laws = option_laws usize number_laws
 
 -- A value that the machine stores as one word or one struct is one machine value.
 pub one_value : (vs : List Val) → Lone vs → (v : Val) × (vs ≡ v ∷ [])
@@ -60,8 +88,8 @@ at_values {𝓤 = 𝓤} 𝓛 T hs c run y us e h =
     subst (λ (ws : Vals T.signature y.0.0). ent 𝓤 ((walk_of 𝓛 T hs c).pre ((y.0.0, y.0.1, y.0.2, y.0.3, ws), y.1))
     (run ((walk_of 𝓛 T hs c).args ((y.0.0, y.0.1, y.0.2, y.0.3, ws), y.1)) ((walk_of 𝓛 T hs c).post ((y.0.0, y.0.1, y.0.2, y.0.3, ws), y.1)))) (sym e) h
 
--- How a lender ends whose part is lent further by a call that may return it. The whole is V and ends as F of its part, which is C. P and P₀ say how the part ends, with a loan and without; Q and
--- Q₀ follow for the whole.
+-- How a lender ends whose part is lent further by a call that may return it. The whole is V and ends as F of its part,
+-- which is C. P and P₀ say how the part ends, with a loan and without; Q and Q₀ follow for the whole.
 module _ {M : Type 1} {𝓤 : Ura M} (𝓛 : Logic 𝓤) (V C : RattleType) (F : C.Denot → V.Denot) (γ γ' : GName)
     (P : C.Denot → C.Denot → Type 0) (P₀ : C.Denot → Type 0) (Q : C.Denot → V.Denot → Type 0) (Q₀ : V.Denot → Type 0)
     (kept : (w z : C.Denot) → P w z → Q w (F z)) (kept₀ : (z : C.Denot) → P₀ z → Q₀ (F z)) where

@@ -15,7 +15,6 @@ pub mod Json
 pub mod Roots
 pub mod RefusedRoots
 pub mod Lent
-pub mod Nesting
 pub mod Entering
 pub mod ByHand
 -- Lemmas of the crate below about graphs and their text are exported again.

@@ -1,6 +1,5 @@
 -- A hand-written proof of `enter_self`: it passes on what `enter_self_sized` states of the visitor outside.
-use Rattle.allocative.proofs.Lent.{refusal_laws, result_laws, visitor_laws, [], ◌∷◌, refl, proved, says_two, id⊢, ftrue, flft, named, Lfts, fact, tables, ‵, raw, ◌⊛◌, some, later, ◌$◌, ◌∵◌, !, qed, done, move, keep, drop, use1, split, join, fjoin, pick, await, suffices, frame, enter, addr, stop, no_more, and_then, returns, alloc_all, pass_all, free_all, look_at, get, through, sets, lands_as, yes, no, shows, RattleType, MutRef, mut_vals, mut_Tells, plain, named_lft, nothing, heard, peeks, calls_at, Lasts, lasts, triple_of, framed, Stays, stay_dropped, Goes-dropped, Goes-spent_ref, ends_at}
-use Rattle.allocative.proofs.Nesting.{Answer}
+use Rattle.allocative.proofs.Lent.{Answer, refusal_laws, result_laws, visitor_laws, [], ◌∷◌, refl, proved, says_two, id⊢, ftrue, flft, named, Lfts, fact, tables, ‵, raw, ◌⊛◌, some, later, ◌$◌, ◌∵◌, !, qed, done, move, keep, drop, use1, split, join, fjoin, pick, await, suffices, frame, enter, addr, stop, no_more, and_then, returns, alloc_all, pass_all, free_all, look_at, get, through, sets, lands_as, yes, no, shows, RattleType, MutRef, mut_vals, mut_Tells, plain, named_lft, nothing, heard, peeks, calls_at, Lasts, lasts, triple_of, framed, Stays, stay_dropped, Goes-dropped, Goes-spent_ref, ends_at}
 use Rattle.std.proofs.Common.{Result, IfOk, IfErr}
 use Rattle.allocative.proofs.Common.{Refusal, Visitor, LendsNestedSized, NestsSized, IsRefusedSized}
 use Rattle.allocative.specs.contracts.visitor.Visitor as visitor

@@ -1,7 +1,6 @@
 -- `enter_sized` lends the collector on.
 use Rattle.allocative.proofs.Entering.{enters}
-use Rattle.allocative.proofs.Nesting.{Size, size_laws}
-use Rattle.allocative.proofs.Lent.{Goes-blank, plain, yes}
+use Rattle.allocative.proofs.Lent.{Size, size_laws, Goes-blank, plain, yes}
 use Rattle.std.proofs.Common.{Err}
 use Rattle.allocative.proofs.Common.{Failed, EntersSized}
 use Rattle.allocative.specs.contracts.visitor.Visitor.enter_sized as f

@@ -1,7 +1,6 @@
 -- `enter_unique` lends the collector on.
 use Rattle.allocative.proofs.Entering.{enters}
-use Rattle.allocative.proofs.Nesting.{number_laws}
-use Rattle.allocative.proofs.Lent.{Goes-dropped, refl, plain, usize, yes}
+use Rattle.allocative.proofs.Lent.{number_laws, Goes-dropped, refl, plain, usize, yes}
 use Rattle.std.proofs.Common.{true, Err}
 use Rattle.allocative.proofs.Common.{Enters, Answers}
 use Rattle.allocative.specs.contracts.visitor.Visitor.enter_unique as f
