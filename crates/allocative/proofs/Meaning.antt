@@ -1,10 +1,10 @@
 -- How the showing of a value follows from the part that enters it, word by word.
-use Rattle.std.proofs.Common.{◌≡◌, ℕ, Bool, true, false, ◌&&◌, IsTrue, Option, Some, None, Result, inl, inr, List, [], ◌∷◌, ◌++◌, ◌∙◌, Ok, Err, refl}
-use Rattle.allocative.proofs.Common.{Refusal, TooLarge, Key, Identity, Forest, Showing, Nothing, Both, InsideAs, Inside, InsideUnique, Field, IsField, sized, SharedWith, each_shows, IsDeclared, Visitor, Visited, Entered, Means, OnlyIf}
+use Rattle.std.proofs.Common.{◌≡◌, ℕ, Bool, true, false, ◌&&◌, IsTrue, Option, Some, None, Result, inl, inr, ◌∙◌, Ok, Err, refl}
+use Rattle.allocative.proofs.Common.{Refusal, TooLarge, Key, Identity, Forest, Showing, Nothing, Both, InsideAs, Inside, InsideUnique, Field, IsField, sized, SharedWith, IsDeclared, Visitor, Visited, Entered, Means, OnlyIf}
 use Rattle.std.proofs.lemmas.Bool.{false≢true}
 use Rattle.allocative.specs.Visited.{Refused}
-use Rattle.allocative.proofs.Exact.{declared_first, declared_second, declared_both, declared_inside, declared_entry, declared_content, declared_shared, rightly_nothing, rightly_weaker, rightly_snoc, rightly_refused, rightly_undeclared, inexact}
-use Rattle.allocative.proofs.Showing.{shows_weaker, shows_nothing, shows_refused, shows_refused_err, shows_snoc}
+use Rattle.allocative.proofs.Exact.{declared_first, declared_second, declared_both, declared_inside, declared_entry, declared_content, declared_shared, rightly_nothing, rightly_weaker, rightly_refused, rightly_undeclared, inexact}
+use Rattle.allocative.proofs.Showing.{shows_weaker, shows_nothing, shows_refused, shows_refused_err}
 
 -- ---- which visits are exact
 pub exact_never : {e : Bool} → OnlyIf false e
@@ -148,15 +148,4 @@ undeclared_refused {e = e} {a = a} {b = b} n h = record {
   shown = shows_refused _ e TooLarge _ h.after;
   cause = h.is_cause;
   rightly = λ i. rightly_undeclared a.collector.now b.collector.now e n h.after h.is_cause;
-}
-
--- One step of a loop shows one more item.
-pub entered_snoc : {T : Type 0} {d : Bool} (p : T → Showing) (xs : List T) (x : T) {a b c : Visitor} {u v w : Unit {0}} →
-    Entered d (each_shows p xs) a b (Ok u) → Entered d (p x) b c (Ok v) → Entered d (each_shows p (xs ++ x ∷ [])) a c (Ok w)
-entered_snoc p xs x f s = record {
-  same_reference = s.same_reference ∙ f.same_reference;
-  same_outer = s.same_outer ∙ f.same_outer;
-  shown = shows_snoc p xs x f.shown s.shown;
-  cause = tt;
-  rightly = λ i. rightly_snoc p xs x (f.rightly i) (s.rightly i);
 }

@@ -6,7 +6,7 @@ use Rattle.std.proofs.lemmas.Bool.{false≢true}
 use Rattle.std.proofs.lemmas.List.Folds.{list_all_at}
 use Rattle.allocative_graph.specs.Collector.{go}
 use Rattle.allocative_graph.proofs.Plus.{is_graph-plus, is_graph-begin}
-use Rattle.allocative.proofs.Closures.{err_or}
+use Rattle.allocative.proofs.Closures.{err_or, same_err}
 use Rattle.allocative.proofs.Exact.{entered-plus, can_first, can_second, may_refuse, each_append, declared_append}
 use Rattle.allocative.proofs.Within.{around_item}
 
@@ -39,10 +39,8 @@ rightly_among w y p front x back (Going b) (Going c) t u e only (z, f, a, k, i) 
 -- The root with this index is refused, where the roots before it were visited.
 pub rightly_indexed : {T : Type 0} (w y : Bool) (p : T → Showing) (xs : List T) (i : ℕ) (x : T) (s m t : State) (u : Unit) (e : Refusal) (r : Result Unit Refusal) → (IsTrue w → IsTrue y) → IsErr r → e ≡ err_or e r →
     Runs (each_shows p (take i xs)) s (Ok u) m → RunsRightly y (p x) m (Err e) t → i < length xs → x ≡ get_or xs i x → RunsRightly w (each_shows p xs) s r t
-rightly_indexed w y p xs i x s m t u e (Ok v) only h j g k l is = absurd (false≢true h)
-rightly_indexed w y p xs i x s m t u e (Err z) only h j g k l is =
-    let k' : RunsRightly y (p x) m (Err z) t = rw j at k in
-    rw (← around_item xs i x l is) (rightly_among w y p (take i xs) x (drop (i + 1) xs) s m t u z only g k')
+rightly_indexed w y p xs i x s m t u e r only h j g k l is =
+    rw (← around_item xs i x l is, same_err r h j) (rightly_among w y p (take i xs) x (drop (i + 1) xs) s m t u e only g k)
 
 -- Where all roots are exact, so is the one with this index.
 pub one_of_exact : {T : Type 0} (q : T → Bool) (xs : List T) (i : ℕ) (x : T) → i < length xs → x ≡ get_or xs i x → IsTrue (list_all q xs) → IsTrue (q x)

@@ -12,10 +12,10 @@ use Rattle.std.specs.Iterator.{Drains, AlwaysYields}
 use Rattle.std.specs.List.{All}
 use Rattle.slab.specs.Slab.{Slab, entries_from, entries}
 use Rattle.allocative.specs.Runs.{RefusesAlong, RefusesCounted, CanCount, IsOfRun, value_shows}
-use Rattle.allocative.proofs.Meaning.{entered_if, entered_as, entered_snoc, exact_never}
+use Rattle.allocative.proofs.Meaning.{entered_if, entered_as, exact_never}
 use Rattle.allocative.proofs.Closures.{err_or}
 use Rattle.allocative.proofs.Exact.{declared_nothing, declared_first, declared_second, declared_both, entry_fits, rightly_as, rightly_weaker, rightly_within}
-use Rattle.allocative.proofs.Within.{item_refused}
+use Rattle.allocative.proofs.Within.{item_refused, entered_snoc}
 use Rattle.allocative.proofs.Bodies.{plain_slice, each_slice, each_declared, entry_declared, checked_fits, none_of_it}
 use Rattle.allocative.proofs.Showing.{shows_weaker}
 

@@ -6,7 +6,7 @@ use Rattle.std.specs.FinSet.{contains}
 use Rattle.allocative_graph.specs.Visits.{added}
 use Rattle.allocative.specs.Making.{first_entered, keeps_failed, keeps_going, had_failed}
 use Rattle.allocative_graph.proofs.Plus.{plus-nothing, plus-following, takes_nothing, takes_both, inside_entry, takes_entry, inside_first, takes_shared, held_again, visitors-plus, visitors-enter, visitors-leave, is_graph-plus, is_graph-enter, is_graph-leave}
-use Rattle.allocative.proofs.Exact.{inexact, followed_by-empty, followed_by_assoc}
+use Rattle.allocative.proofs.Exact.{inexact, each_append, each_one}
 use Rattle.allocative.proofs.Steps.{leaves_by_left}
 
 -- ---- one after another
@@ -242,13 +242,7 @@ kept_after made_none = keeps_going
 
 -- ---- loops
 pub each_and_one : {T : Type 0} (p : T → Showing) (xs : List T) (x : T) (f : Forest) → Both (each_shows p xs) (p x) f → each_shows p (xs ++ x ∷ []) f
-each_and_one p [] x f (g, h, none, here, e) = (h, Empty, here, refl, e ∙ (rw none (sym (followed_by-empty h))))
-each_and_one p (y ∷ ys) x f (g, h, (g1, g2, p1, rest, e1), here, e) =
-    (g1, followed_by g2 h, p1, each_and_one p ys x (followed_by g2 h) (g2, h, rest, here, refl), e ∙ (rw e1 (followed_by_assoc g1 g2 h)))
-
-pub shows_snoc : {T : Type 0} (p : T → Showing) (xs : List T) (x : T) {a b c : State} {u v w : Unit} →
-    Shows (each_shows p xs) a (Ok u) b → Shows (p x) b (Ok v) c → Shows (each_shows p (xs ++ x ∷ [])) a (Ok w) c
-shows_snoc p xs x f s = shows_weaker (each_and_one p xs x) (shows_both f s)
+each_and_one p xs x f (g, h, all, here, e) = each_append p xs (x ∷ []) f (g, h, all, each_one p x h here, e)
 
 -- The rules for implementations.
 pub ruleset showing = (left_cause, leaves_by_left, shows_nothing, shows_both, shows_both_err, shows_err, inline_shows, unique_shows, field_shows, inline_alone, unique_alone, field_alone, shared_shows, content_shows, again_shows, entry_err, field_err, shared_err, not_entered, not_sized, not_shared, not_entered_cause, not_sized_cause, shows_refused, shows_refused_err, shows_hidden, shows_forgotten, answers_err, goes_in_refused, goes_in, goes_in_plain_refused, goes_in_plain, refused_as, makes_keeps, kept_after, inexact)

@@ -1,8 +1,8 @@
 -- One more member is shown, and the map ends.
 use Rattle.std.proofs.Common.{String, Global, Some, [], ◌∷◌, ◌++◌, sym, ap, append_assoc, ◌∙◌, rules, append-nil}
 use Rattle.allocative.proofs.Common.{Showing, pair_shows, stored_string}
-use Rattle.allocative.proofs.Meaning.{entered_none, entered_snoc, means_same}
-use Rattle.allocative.proofs.Within.{item_refused}
+use Rattle.allocative.proofs.Meaning.{entered_none, means_same}
+use Rattle.allocative.proofs.Within.{entered_snoc, item_refused}
 use Rattle.allocative.proofs.impls.pack_impls.json.MembersRefMapStringPart.enter.Goals as goal
 
 abbrev shown : {V : Type 0} → (V → Showing) → String Global × V → Showing
