@@ -204,8 +204,7 @@ pub rightly_both : {p q : Showing} {a b c : State} {u : Unit} {r : Result Unit R
 rightly_both had_failed s = had_failed
 rightly_both (has_added {b = b} f x t e) (has_added {c = c} g y s k) =
     let s' : Takes (plus b f) g = subst (λ (z : Kind). Takes z g) e s in
-    let k' : c ≡ plus (plus b f) g = rw e at k in
-    has_added (followed_by f g) (f, g, x, y, refl) (takes_both b f g t s') (k' ∙ sym (plus-following b f g))
+    has_added (followed_by f g) (f, g, x, y, refl) (takes_both b f g t s') (cc (plus-following b f g))
 rightly_both {q = q} (has_added {b = b} f x t e) (has_refused {e = r} m) =
     let m' : MayRefuse q (plus b f) r = subst (λ (z : Kind). MayRefuse q z r) e m in
     has_refused (may_refuse (plus b f) b (can_second b f x) (sym (is_graph-plus b f)) r m')
@@ -218,8 +217,7 @@ pub rightly_within : {u : Bool} {p : Showing} {k : Key} {n : ℕ} {o : Bool} {s 
     Enters u k n s (Ok o) t → RefusesRightly p t r c → d ≡ left o c → RefusesRightly (InsideAs u k n p) s r d
 rightly_within {u} {p} {k} {n} (is_entered {b = b} h f e) (has_added {c = c} g x t i) l =
     let t' : Takes (enter u k n b) g = subst (λ (z : Kind). Takes z g) e t in
-    let i' : c ≡ plus (enter u k n b) g = rw e at i in
-    rw (l, f) (has_added (entry_of u k n g) (g, x, refl) (takes_entry u k n b g t') (ap (leave (is_in_unique b)) i' ∙ inside_entry u k n b g))
+    rw (l, f) (has_added {c = leave (is_in_unique b) c} (entry_of u k n g) (g, x, refl) (takes_entry u k n b g t') (cc (inside_entry u k n b g)))
 rightly_within {u} {p} {k} {n} (is_entered {b = b} h f e) (has_refused {e = r} m) l =
     let m' : MayRefuse p (enter u k n b) r = subst (λ (z : Kind). MayRefuse p z r) e m in
     rw l (has_refused (may_refuse (enter u k n b) b (can_inside u k n b) (sym (is_graph-enter u k n b)) r m'))
@@ -276,8 +274,7 @@ rightly_content {p} {k} {n} {i} o g is h l = inner (rw is at g) h l
     inner : {s t c d : State} {r : Result Unit Refusal} → EntersShared k n i s (Ok true) t → RefusesRightly p t r c → d ≡ left o c → RefusesRightly (SharedWith k n i p) s r d
     inner (enters_first {c = b} room new e) (has_added {c = c} f x t j) m =
         let t' : Takes (OfGraph (enter_first k n i b)) f = subst (λ (z : Live). Takes (OfGraph z) f) e t in
-        let j' : c ≡ plus (OfGraph (enter_first k n i b)) f = rw e at j in
-        rw m (has_added (First k n i f Empty) (inl (f, x, refl)) (takes_shared k n i b f new t') (ap (leave o) j' ∙ inside_first k n i b f o))
+        rw m (has_added {b = OfGraph b} {c = leave o c} (First k n i f Empty) (inl (f, x, refl)) (takes_shared k n i b f new t') (cc (inside_first k n i b f o)))
     inner (enters_first {c = b} room new e) (has_refused {e = r} w) m =
         let w' : MayRefuse p (OfGraph (enter_first k n i b)) r = subst (λ (z : Live). MayRefuse p (OfGraph z) r) e w in
         rw m (has_refused (may_refuse (OfGraph (enter_first k n i b)) (OfGraph b) (can_content k n i b) refl r w'))

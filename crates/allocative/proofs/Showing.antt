@@ -40,8 +40,7 @@ shows_both (added f p t e) hidden = hidden
 shows_both (added f p t e) (forgotten j k) = let d = same_visitors _ _ f e in forgotten (j ∙ same_graph _ _ f e) (omega (arith, d))
 shows_both (added {b = b} f p t e) (added {c = c} g q s k) =
     let s' : Takes (plus b f) g = subst (λ (x : Kind). Takes x g) e s in
-    let k' : c ≡ plus (plus b f) g = rw e at k in
-    added (followed_by f g) (f, g, p, q, refl) (takes_both b f g t s') (k' ∙ sym (plus-following b f g))
+    added (followed_by f g) (f, g, p, q, refl) (takes_both b f g t s') (cc (plus-following b f g))
 
 -- After an Err nothing more is stated.
 pub shows_err : {p q : Showing} {a b : State} {e : Refusal} → Shows p a (Err e) b → Shows q a (Err e) b
@@ -66,8 +65,7 @@ out_of u k n b d i w (forgotten {c = c} j h) =
     forgotten (is_graph-leave (is_in_unique b) c ∙ j ∙ ap is_graph i ∙ is_graph-enter u k n b) (omega (arith, e, g, h))
 out_of u k n b d i w (added {c = c} f q t e) =
     let t' : Takes (enter u k n b) f = subst (λ (x : Kind). Takes x f) i t in
-    let e' : c ≡ plus (enter u k n b) f = rw i at e in
-    added (entry_of u k n f) (f, q, refl) (takes_entry u k n b f t') (ap (leave (is_in_unique b)) e' ∙ inside_entry u k n b f)
+    added (entry_of u k n f) (f, q, refl) (takes_entry u k n b f t') (cc (inside_entry u k n b f))
 
 -- An entry shows what is shown inside it, from the entering, the visit and the leaving, where the flag that leaving
 -- restores is the one that entering returned.
@@ -112,8 +110,7 @@ out_of_first k n i b d h e o w (forgotten {c = c} j m) =
     forgotten (is_graph-leave o c ∙ j) (omega (arith, f, g, m))
 out_of_first k n i b d h e o w (added {c = c} f q t m) =
     let t' : Takes (OfGraph (enter_first k n i b)) f = subst (λ (x : Live). Takes (OfGraph x) f) e t in
-    let m' : c ≡ plus (OfGraph (enter_first k n i b)) f = rw e at m in
-    added (First k n i f Empty) (inl (f, q, refl)) (takes_shared k n i b f h t') (ap (leave o) m' ∙ inside_first k n i b f o)
+    added (First k n i f Empty) (inl (f, q, refl)) (takes_shared k n i b f h t') (cc (inside_first k n i b f o))
 
 pub shared_shows : {p : Showing} {k : Key} {n : ℕ} {i : Identity} {q : Bool} {s t a c d : State} {v x : Unit} →
     EntersShared k n i s (Ok true) t → a ≡ t → Shows p a (Ok v) c → Leaves q c d → Shows (SharedWith k n i p) s (Ok x) d
