@@ -1,6 +1,6 @@
 -- How visits compose: one after another, and inside an entry. The rulesets are for implementations.
 use Rattle.std.proofs.Common.{Bool, true, false, inl, inr, Option, Some, ◌≡◌, ℕ, suc, List, [], ◌∷◌, ◌++◌, Result, Ok, Err, refl, sym, ◌∙◌, IsErr, ap, subst, arith}
-use Rattle.allocative.proofs.Common.{Refusal, Key, Identity, Forest, Empty, First, Again, followed_by, entry_of, Live, Kind, OfGraph, State, Failed, Going, enter, enter_first, leave, plus, Takes, is_graph, visitors, is_in_unique, failed_with, left, Showing, Nothing, Both, InsideAs, Inside, InsideUnique, Field, sized, SharedWith, each_shows, Shows, already, refused, hidden, forgotten, HasFailed, Enters, stays_failed, is_refused, is_entered, EntersSized, stays_unsized, is_unsized, is_sized, EntersShared, stays_shared, is_refused_shared, goes_past, enters_first, enters_again, Answers, Leaves, leaves_failed, leaves_going, EntersFirst, first_refused, KeepsCause, Plan, Done, Makes, made_none, made, entry_refused, inside_refused}
+use Rattle.allocative.proofs.Common.{Refusal, Key, Identity, Forest, Empty, First, Again, followed_by, entry_of, Live, Kind, OfGraph, State, Failed, Going, enter, enter_first, plus, Takes, is_graph, visitors, is_in_unique, failed_with, left, Showing, Nothing, Both, InsideAs, Inside, InsideUnique, Field, sized, SharedWith, each_shows, Shows, already, refused, hidden, forgotten, HasFailed, Enters, stays_failed, is_refused, is_entered, EntersSized, stays_unsized, is_unsized, is_sized, EntersShared, stays_shared, is_refused_shared, goes_past, enters_first, enters_again, Answers, Leaves, leaves_failed, leaves_going, EntersFirst, first_refused, KeepsCause, Plan, Done, Makes, made_none, made, entry_refused, inside_refused}
 use Rattle.std.proofs.lemmas.Bool.{false≢true}
 use Rattle.std.specs.FinSet.{contains}
 use Rattle.allocative_graph.specs.Visits.{added}

@@ -1,5 +1,5 @@
 -- The collector's own steps as the relations of visits, whose arguments are found by search.
-use Rattle.std.proofs.Common.{◌≡◌, ℕ, Bool, true, false, None, Some, Result, Ok, Err, refl, sym, subst, ap}
+use Rattle.std.proofs.Common.{◌≡◌, ℕ, Bool, true, false, None, Some, Result, Ok, Err, refl}
 use Rattle.allocative.proofs.Common.{Refusal, TooLarge, Key, Identity, Kind, OfGraph, OfHeld, State, Failed, Going, failed_with, left, HasFailed, Enters, stays_failed, is_refused, is_entered, EntersSized, stays_unsized, is_unsized, is_sized, EntersShared, stays_shared, is_refused_shared, goes_past, enters_first, enters_again, Leaves, leaves_failed, leaves_going, StepsInShared, one, Makes, made_none, made, entry_refused}
 use Rattle.allocative.specs.Steps.{StepsIn, StepsSimple}
 use Rattle.allocative.specs.Making.{had_failed}

@@ -1,6 +1,6 @@
 -- One more item is shown, and the run ends.
 use Rattle.allocative.proofs.Meaning.{entered_none, means_same}
-use Rattle.allocative.proofs.Within.{entered_then_refused}
+use Rattle.allocative.proofs.Within.{entered_then_refused, same_err}
 use Rattle.std.proofs.Common.{rules}
 use Rattle.allocative.proofs.Common.{deref_entry, each_shows}
 use Rattle.allocative.specs.Runs.{value_shows}
@@ -24,10 +24,10 @@ pub loop-key-init : goal.loop-key-init
 loop-key-init g c = entered_none _ means_same
 
 pub returns-in_err-enter-clause-entered : goal.returns-in_err-enter-clause-entered
-returns-in_err-enter-clause-entered g c = entered_then_refused {e = c.in_err-enter.field-0.0} _ c.from_residual.ensures.0 (search rules) c.loop-key.invariant c.in_err-enter.ensures
+returns-in_err-enter-clause-entered g c = entered_then_refused (same_err {e = c.in_err-enter.field-0.0} _ c.from_residual.ensures.0 (search rules)) c.loop-key.invariant c.in_err-enter.ensures
 
 pub returns-in_err-enter-clause-rightly : goal.returns-in_err-enter-clause-rightly
 returns-in_err-enter-clause-rightly g c =
     rw (← c.into_iter-key-iterator.ensures.into_iter_gives)
-    (along_refused g.I.Iterator.next_gives c.loop-key._key-iterator deref_entry (value_shows g.T.Allocative.may_show) c.loop-key.yielded {e = c.in_err-enter.field-0.0} _ c.from_residual.ensures.0 (search rules)
+    (along_refused g.I.Iterator.next_gives c.loop-key._key-iterator deref_entry (value_shows g.T.Allocative.may_show) c.loop-key.yielded (same_err {e = c.in_err-enter.field-0.0} _ c.from_residual.ensures.0 (search rules))
     c.loop-key.yielded_by c.in-Some.ensures.steps c.loop-key.invariant c.in_err-enter.ensures)
