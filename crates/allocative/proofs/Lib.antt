@@ -11,7 +11,6 @@ pub mod ContainerMeaning
 pub mod Within
 pub mod Levels
 pub mod Parts
-pub mod Json
 pub mod Roots
 pub mod RefusedRoots
 pub mod Lent
