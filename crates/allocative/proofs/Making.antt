@@ -3,7 +3,7 @@ use Rattle.std.proofs.Common.{ℕ, Bool, true, false, List, [], ◌∷◌, ◌++
 use Rattle.allocative.proofs.Common.{Yields, size_product, Refusal, Key, Kind, State, Failed, Going, left, HasFailed, is_entered, EntersSized, is_sized, Leaves, leaves_failed, leaves_going, are_shown_each, CountsRun, Plan, Done, Entry, one, Makes, made_none, made, entry_refused, inside_refused, MakesOrGives, makes, gives, state_of}
 use Rattle.std.proofs.lemmas.Bool.{false≢true}
 use Rattle.std.proofs.lemmas.Iterator.{YieldsList}
-use Rattle.allocative.specs.Making.{followed_by_plan, had_failed, slice_plan, MakesRun, counted, in_turn}
+use Rattle.allocative.specs.Making.{followed_by_plan, had_failed, MakesRun, counted, in_turn}
 use Rattle.allocative.proofs.Showing.{not_sized_cause, left_by}
 
 -- ---- what was made goes on, and what was refused has failed
@@ -53,15 +53,6 @@ then_refused q (inside_refused g m) = inside_refused g m
 
 pub makes_then_refused : {p : Plan} (q : Plan) {s t : State} {e : Refusal} {r : Result Unit Refusal} → r ≡ Err e → Makes p s (Err e) t → Makes (followed_by_plan p q) s r t
 makes_then_refused q is m = rw is (then_refused q m)
-
--- ---- slices
-pub makes_plain : {T : Type 0} (name : Key) (size : Option ℕ) (needs_drop : Bool) (xs : List T) {s t : State} {r : Result Unit Refusal} → are_shown_each needs_drop size ≡ false →
-    Makes (one name (size_product size (Some (length xs)))) s r t → Makes (slice_plan name size needs_drop xs) s r t
-makes_plain name size needs_drop xs e m = rw (e, slice_plan) m
-
-pub makes_each : {T : Type 0} (name : Key) (size : Option ℕ) (needs_drop : Bool) (xs : List T) {s t : State} {r : Result Unit Refusal} → are_shown_each needs_drop size ≡ true →
-    Makes Done s r t → Makes (slice_plan name size needs_drop xs) s r t
-makes_each name size needs_drop xs e m = rw (e, slice_plan) m
 
 -- ---- iterators
 -- A list with one more item is not empty.

@@ -118,13 +118,8 @@ visited h = record { same_reference = h.same_reference; same_outer = h.same_oute
 
 -- A call that enters nothing, and one that returns an error by hand.
 pub entered_none : {x : Bool} {p : Showing} (a : Visitor) → Means x Nothing p → Entered x p a a (Ok tt)
-entered_none a m = record {
-  same_reference = refl;
-  same_outer = refl;
-  shown = shows_weaker m.means (shows_nothing _ tt);
-  cause = tt;
-  rightly = λ i. rightly_weaker m.means (m.declared i) (rightly_nothing _ tt);
-}
+entered_none a m =
+    entered_as {p = Nothing} (record { same_reference = refl; same_outer = refl; shown = shows_nothing _ tt; cause = tt; rightly = λ i. rightly_nothing _ tt }) m
 
 -- An error that is returned by hand, which need not be one that must be.
 pub entered_refused : {p : Showing} {q e : Refusal} {a b : Visitor} → Refused q a b e → Entered false p a b (Err e)

@@ -3,10 +3,10 @@ use Rattle.std.proofs.Common.{◌≡◌, ℕ, suc, ◌+◌, ◌<◌, inl, inr, L
 use Rattle.allocative.proofs.Common.{Refusal, Memory, Forest, Empty, followed_by, add_all, held, ShowsNoContent, Kind, OfGraph, OfHeld, State, Failed, Going, leave, plus, Takes, visitors, is_graph, begin, is_in_unique, left, nothing_held, Showing, Nothing, Both, each_shows, Shows, refused, hidden, forgotten, Leaves, Begins, Settles, Runs, Profile, IsProfileOf, IsHeldSum, MayRefuse, MayRefuseProfile, RefusesRightly, has_added, has_refused, RunsRightly, as_graph}
 use Rattle.allocative_graph.specs.Forest.{met_after, Fits, own, all}
 use Rattle.allocative_graph.specs.Sums.{sums_of}
-use Rattle.allocative_graph.specs.Meaning.{IsWhole, content_of}
+use Rattle.allocative_graph.specs.Meaning.{content_of}
 use Rattle.allocative_graph.specs.Graph.{Graph, graph, warnings, warned_paths, sum_of}
 use Rattle.allocative_graph.specs.Collector.{added as added_entries, IsClosed, IsAtRoot, no_entries}
-use Rattle.allocative_graph.specs.Visits.{added, Ends, IsProfile, IsGraphOf, IsSumOfTwo}
+use Rattle.allocative_graph.specs.Visits.{added, Ends, IsProfile, IsSumOfTwo}
 use Rattle.allocative_graph.proofs.Plus.{plus-nothing, plus-following, takes_nothing, takes_both, visitors-plus, visitors-leave, is_graph-plus, is_graph-leave, is_graph-begin}
 use Rattle.allocative.specs.SizeOf.{IsSizeOfUnique}
 use Rattle.allocative.proofs.Showing.{left_by, each_and_one}
@@ -159,8 +159,14 @@ runs_unsettled p (Failed r) e h = (h, refl)
 runs_unsettled p (Going b) e h = (h.0, h.1, (λ n. refl), refl)
 
 -- ---- a whole run
-profile_by_sums : (p : Showing) (o : Profile) (f : Forest) → p f → IsWhole f → o.graph ≡ graph (sums_of (all f)) → o.warnings ≡ warnings (sums_of (all f)) → o.warned ≡ warned_paths (sums_of (all f)) → IsProfileOf p o
-profile_by_sums p o f a w g k h =
+pub profile_by_run : (p : Showing) (s t : State) (u : Unit) (o : Profile) → s ≡ Going (OfGraph no_entries) → Runs p s (Ok u) t → Ends IsProfile t (Ok o) → IsProfileOf p o
+profile_by_run p (Failed r) t u o e h k = absurd (cc)
+profile_by_run p (Going b) (Failed r) u o e h k = absurd h
+profile_by_run p (Going b) (Going c) u o e (z, f, a, t, g) k =
+    let i : b ≡ OfGraph no_entries = cc in
+    let w : Fits no_entries.met f = subst (λ (x : Kind). Takes x f) i t in
+    let g' : c ≡ plus (OfGraph no_entries) f = rw i at g in
+    let k' : Ends IsProfile (Going (plus (OfGraph no_entries) f)) (Ok o) = subst (λ (x : Kind). Ends IsProfile (Going x) (Ok o)) g' k in
     let is = all_is_meaning f w in
     record {
       shown = f;
@@ -168,31 +174,18 @@ profile_by_sums p o f a w g k h =
       whole = w;
       reaches = reaches_exactly f w;
       meaning = is;
-      graph_is = λ m im. g ∙ ap graph (one_sums (own f) (content_of f) (all f) m is im);
-      warnings_are = λ m im. k ∙ ap warnings (one_sums (own f) (content_of f) (all f) m is im);
-      warned_are = λ m im. h ∙ ap warned_paths (one_sums (own f) (content_of f) (all f) m is im);
+      graph_is = λ m im. k'.1.0 ∙ ap graph (one_sums (own f) (content_of f) (all f) m is im);
+      warnings_are = λ m im. k'.1.1 ∙ ap warnings (one_sums (own f) (content_of f) (all f) m is im);
+      warned_are = λ m im. k'.1.2 ∙ ap warned_paths (one_sums (own f) (content_of f) (all f) m is im);
     }
-
-pub profile_by_run : (p : Showing) (s t : State) (u : Unit) (o : Profile) → s ≡ Going (OfGraph no_entries) → Runs p s (Ok u) t → Ends IsProfile t (Ok o) → IsProfileOf p o
-profile_by_run p (Failed r) t u o e h k = absurd (cc)
-profile_by_run p (Going b) (Failed r) u o e h k = absurd h
-profile_by_run p (Going b) (Going c) u o e (z, f, a, t, g) k =
-    let i : b ≡ OfGraph no_entries = cc in
-    let t' : Fits no_entries.met f = subst (λ (x : Kind). Takes x f) i t in
-    let g' : c ≡ plus (OfGraph no_entries) f = rw i at g in
-    let k' : Ends IsProfile (Going (plus (OfGraph no_entries) f)) (Ok o) = subst (λ (x : Kind). Ends IsProfile (Going x) (Ok o)) g' k in
-    profile_by_sums p o f a t' k'.1.0 k'.1.1 k'.1.2
 
 pub profile_ended : (p : Showing) (s t : State) (u : Unit) (r : Result Profile Refusal) → s ≡ Going (OfGraph no_entries) → Runs p s (Ok u) t → Ends IsProfile t r → IfOk r (IsProfileOf p)
 profile_ended p s t u (Ok o) e h k = profile_by_run p s t u o e h k
 profile_ended p s t u (Err e) i h k = tt
 
-graph_of_profile : (p : Showing) (o : Profile) (g : Graph) → IsProfileOf p o → g ≡ o.graph → IsGraphOf p g
-graph_of_profile p o g h e = record { shown = h.shown; allowed = h.allowed; whole = h.whole; is = e ∙ h.graph_is (all h.shown) h.meaning }
-
-sum_of_two : (p q : Showing) (g h m : Graph) → IsGraphOf p g → IsGraphOf q h → m ≡ sum_of g h → IsSumOfTwo p q m
-sum_of_two p q g h m a b e =
-    let is : m ≡ sum_of (graph (sums_of (all a.shown))) (graph (sums_of (all b.shown))) = e ∙ (λ i. sum_of (a.is i) (b.is i)) in
+pub sum_of_profiles : (p q : Showing) (o o' : Profile) (m : Graph) → IsProfileOf p o → IsProfileOf q o' → m ≡ sum_of o.graph o'.graph → IsSumOfTwo p q m
+sum_of_profiles p q o o' m a b e =
+    let is : m ≡ sum_of (graph (sums_of (all a.shown))) (graph (sums_of (all b.shown))) = e ∙ (λ i. sum_of (a.graph_is (all a.shown) a.meaning i) (b.graph_is (all b.shown) b.meaning i)) in
     record {
       left = a.shown;
       right = b.shown;
@@ -203,9 +196,6 @@ sum_of_two p q g h m a b e =
       is = is;
       is_one = λ apart can. (whole_following a.shown b.shown a.whole b.whole apart, is ∙ graphs_add a.shown b.shown can);
     }
-
-pub sum_of_profiles : (p q : Showing) (o o' : Profile) (m : Graph) → IsProfileOf p o → IsProfileOf q o' → m ≡ sum_of o.graph o'.graph → IsSumOfTwo p q m
-sum_of_profiles p q o o' m h k e = sum_of_two p q o.graph o'.graph m (graph_of_profile p o o.graph h refl) (graph_of_profile q o' o'.graph k refl) e
 
 -- ---- why the profile of an exact value is refused
 pub profile_not_begun : (x : Bool) (p : Showing) (e : Refusal) → e ≡ Memory → MayRefuseProfile x p e

@@ -202,12 +202,6 @@ answers_err stays_failed = refl
 answers_err (is_refused r) = r
 
 -- A call that makes an entry of its own first.
-pub goes_in_refused : {k : Key} {size : Option ℕ} {s t : State} {e : Refusal} → EntersSized k size s (Err e) t → EntersFirst k size s (Err e) t
-goes_in_refused g = first_refused g
-
-pub goes_in : {k : Key} {size : Option ℕ} {s w t : State} {o : Bool} {r : Result Unit Refusal} → EntersSized k size s (Ok o) w → EntersFirst k size s r t
-goes_in g = first_entered g
-
 pub goes_in_plain_refused : {k : Key} {n : ℕ} {s t : State} {e : Refusal} → Enters false k n s (Err e) t → EntersFirst k (Some n) s (Err e) t
 goes_in_plain_refused g = first_refused (is_sized g)
 
@@ -242,4 +236,4 @@ pub each_and_one : {T : Type 0} (p : T → Showing) (xs : List T) (x : T) (f : F
 each_and_one p xs x f (g, h, all, here, e) = each_append p xs (x ∷ []) f (g, h, all, each_one p x h here, e)
 
 -- The rules for implementations.
-pub ruleset showing = (left_cause, leaves_by_left, shows_nothing, shows_both, shows_both_err, shows_err, inline_shows, unique_shows, field_shows, inline_alone, unique_alone, field_alone, shared_shows, content_shows, again_shows, entry_err, field_err, shared_err, not_entered, not_sized, not_shared, not_entered_cause, not_sized_cause, shows_refused, shows_refused_err, shows_hidden, shows_forgotten, answers_err, goes_in_refused, goes_in, goes_in_plain_refused, goes_in_plain, refused_as, makes_keeps, kept_after, inexact)
+pub ruleset showing = (left_cause, leaves_by_left, shows_nothing, shows_both, shows_both_err, shows_err, inline_shows, unique_shows, field_shows, inline_alone, unique_alone, field_alone, shared_shows, content_shows, again_shows, entry_err, field_err, shared_err, not_entered, not_sized, not_shared, not_entered_cause, not_sized_cause, shows_refused, shows_refused_err, shows_hidden, shows_forgotten, answers_err, first_refused, first_entered, goes_in_plain_refused, goes_in_plain, refused_as, makes_keeps, kept_after, inexact)

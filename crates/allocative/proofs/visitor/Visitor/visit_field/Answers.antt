@@ -1,6 +1,6 @@
 use Rattle.std.proofs.Common.{rules}
 use Rattle.allocative.proofs.Within.{entered_within_sized, not_within_sized, first_not_within, same_err}
-use Rattle.allocative.proofs.Showing.{goes_in}
+use Rattle.allocative.specs.Making.{first_entered}
 use Rattle.allocative.proofs.visitor.Visitor.visit_field.Goals as goal
 
 pub returns-in_err-outer : goal.returns-in_err-outer
@@ -15,5 +15,5 @@ pub returns : goal.returns
 returns g c =
     let h = rw c.size.ensures at c.in_ok-outer.ensures.enters in record {
       entered = entered_within_sized h c.enter-answer.ensures c.close_entry.ensures;
-      first = goes_in h;
+      first = first_entered h;
     }

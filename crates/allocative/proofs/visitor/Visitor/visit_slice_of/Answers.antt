@@ -1,6 +1,6 @@
 use Rattle.std.proofs.Common.{rules}
 use Rattle.allocative.proofs.Within.{entered_within_sized, not_within_sized, first_not_within, makes_within, same_err}
-use Rattle.allocative.proofs.Showing.{goes_in}
+use Rattle.allocative.specs.Making.{first_entered}
 use Rattle.allocative.proofs.Making.{makes_refused}
 use Rattle.allocative.proofs.visitor.Visitor.visit_slice_of.Goals as goal
 
@@ -17,6 +17,6 @@ pub returns : goal.returns
 returns g c =
     let h = rw (c.for_type_name.ensures, c.bytes_of-bytes.ensures) at c.in_ok-outer.ensures.enters in record {
       entered = entered_within_sized h c.visit_data-answer.ensures.entered c.close_entry.ensures;
-      first = goes_in h;
+      first = first_entered h;
       exact = λ z. makes_within (rw z at h) (c.visit_data-answer.ensures.exact z) c.close_entry.ensures;
     }

@@ -1,6 +1,6 @@
 use Rattle.std.proofs.Common.{rules}
 use Rattle.allocative.proofs.Within.{entered_within_sized, not_within_sized, first_not_within, makes_within, same_err}
-use Rattle.allocative.proofs.Showing.{goes_in}
+use Rattle.allocative.specs.Making.{first_entered}
 use Rattle.allocative.proofs.Making.{makes_refused}
 use Rattle.allocative.proofs.visitor.Visitor.visit_vec_like_body.Goals as goal
 
@@ -17,6 +17,6 @@ pub returns : goal.returns
 returns g c =
     let h = rw (c.new.ensures, c.bytes_of-bytes.ensures) at c.in_ok-outer.ensures.enters in record {
       entered = entered_within_sized h c.visit_with_room-answer.ensures.entered c.close_entry.ensures;
-      first = goes_in h;
+      first = first_entered h;
       exact = λ z. makes_within h (c.visit_with_room-answer.ensures.exact z) c.close_entry.ensures;
     }
