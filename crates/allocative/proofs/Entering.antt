@@ -34,10 +34,7 @@ abbrev At : Lifetime → RattleType
 At ℓ = visitor.the_row (record { mir = ℓ; lft = [] })
 
 -- How the lender ends, with a loan and without.
-abbrev EndsEntered : Visitor → Result Visitor Refusal → State → Visitor → Type 0
-EndsEntered s r w v = OnOk r (v ≡ with_state s w)
-
-ends_entered : (s : Visitor) (r : Result Visitor Refusal) (w z : State) → OnOk r (z ≡ w) → EndsEntered s r w (with_state s z)
+ends_entered : (s : Visitor) (r : Result Visitor Refusal) (w z : State) → OnOk r (z ≡ w) → OnOk r (with_state s z ≡ with_state s w)
 ends_entered s (Ok v) w z h = ap (with_state s) h
 ends_entered s (Err e) w z h = h
 
@@ -165,7 +162,7 @@ module _ (N : RattleType) (told : Laws N) (In : Key → N.Denot → State → Re
       -- [what the part ends as; the token; the result; the other tokens; what self ends as]
       move ! (4 ∷ 0 ∷ []) $ use2 𝓛 (‵ (NestsBy k n s res))
       (nest 𝓛 (visitor.the_row (record { mir = named 1; lft = [] })) collector.the_row (with_state s.now) s.ghost_name r.ghost_name
-      (λ w x'. OnOk res (x' ≡ w)) (λ x'. OnErr res (IfErr res (λ w. In k n r.now (Err w) x'))) (EndsEntered s.now res) (EndsRefused (In k n) s.now res) (ends_entered s.now res) (ends_refused (In k n) s.now r.now same res)
+      (λ w x'. OnOk res (x' ≡ w)) (λ x'. OnErr res (IfErr res (λ w. In k n r.now (Err w) x'))) (λ w x'. OnOk res (x' ≡ with_state s.now w)) (EndsRefused (In k n) s.now res) (ends_entered s.now res) (ends_refused (In k n) s.now r.now same res)
       (name_if_ok (λ w. w.collector.ghost_name) res)) $
       move ! (2 ∷ []) $ peeks ! (Answer κs) _ (shows 𝓛 (Answer κs)) res (u ∷ []) (λ told.
       let good = (((result_laws _ _ (visitor_laws (named_lft 2 0 tt κs)) refusal_laws).lawful 𝓛).typed res (u ∷ []) told).0 in

@@ -1,7 +1,7 @@
 -- How the showing of a value follows from the part that enters it, word by word.
-use Rattle.std.proofs.Common.{◌≡◌, ℕ, Bool, true, false, ◌&&◌, IsTrue, Option, Some, None, Result, inl, inr, ◌∙◌, Ok, Err, refl}
+use Rattle.std.proofs.Common.{◌≡◌, ℕ, Bool, true, false, ◌&&◌, Option, Some, None, Result, inl, inr, ◌∙◌, Ok, Err, refl}
 use Rattle.allocative.proofs.Common.{Refusal, TooLarge, Key, Identity, Forest, Showing, Nothing, Both, InsideAs, Inside, InsideUnique, Field, IsField, sized, SharedWith, IsDeclared, Visitor, Visited, Entered, Means, OnlyIf}
-use Rattle.std.proofs.lemmas.Bool.{false≢true}
+use Rattle.std.proofs.lemmas.Bool.{false≢true, and_parts, and_from}
 use Rattle.allocative.specs.Visited.{Refused}
 use Rattle.allocative.proofs.Exact.{declared_first, declared_second, declared_both, declared_inside, declared_entry, declared_content, declared_shared, rightly_nothing, rightly_weaker, rightly_refused, rightly_undeclared, inexact}
 use Rattle.allocative.proofs.Showing.{shows_weaker, shows_nothing, shows_refused, shows_refused_err}
@@ -16,26 +16,14 @@ exact_same = record { follows = λ h. h }
 pub exact_always : {e : Bool} → OnlyIf e true
 exact_always = record { follows = λ h. refl }
 
-first_of : (d e : Bool) → IsTrue (d && e) → IsTrue d
-first_of true e h = refl
-first_of false e h = h
-
-second_of : (d e : Bool) → IsTrue (d && e) → IsTrue e
-second_of true e h = h
-second_of false e h = absurd (false≢true h)
-
-both_of : (d e : Bool) → IsTrue d → IsTrue e → IsTrue (d && e)
-both_of true e h l = l
-both_of false e h l = h
-
 pub exact_both : {c d e : Bool} → OnlyIf c d → OnlyIf c e → OnlyIf c (d && e)
-exact_both {d = d} {e = e} l r = record { follows = λ h. both_of d e (l.follows h) (r.follows h) }
+exact_both {d = d} {e = e} l r = record { follows = λ h. and_from d e (l.follows h) (r.follows h) }
 
 pub exact_first : {c d : Bool} (e : Bool) → OnlyIf d c → OnlyIf (d && e) c
-exact_first {d = d} e l = record { follows = λ h. l.follows (first_of d e h) }
+exact_first {d = d} e l = record { follows = λ h. l.follows (and_parts d e h).0 }
 
 pub exact_second : {c e : Bool} (d : Bool) → OnlyIf e c → OnlyIf (d && e) c
-exact_second {e = e} d r = record { follows = λ h. r.follows (second_of d e h) }
+exact_second {e = e} d r = record { follows = λ h. r.follows (and_parts d e h).1 }
 
 -- ---- what a part means
 pub means_same : {x : Bool} {p : Showing} → Means x p p

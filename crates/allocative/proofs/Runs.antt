@@ -182,11 +182,5 @@ entered_slab p slab y h k =
 
 pub values_count : {T : Type 0} (slots : List (Option T)) → length (filter_map (λ slot. slot) slots) ≡ count_by is_some slots
 values_count [] = refl
-values_count (None ∷ rest) =
-    let e = values_count rest in
-    let s = sum_by-cons (λ slot. cond (is_some slot) 1 0) None rest in
-    omega (arith, e, s)
-values_count (Some x ∷ rest) =
-    let e = values_count rest in
-    let s = sum_by-cons (λ slot. cond (is_some slot) 1 0) (Some x) rest in
-    omega (arith, e, s)
+values_count (None ∷ rest) = omega (arith, values_count rest, sum_by-cons (λ slot. cond (is_some slot) 1 0) None rest)
+values_count (Some x ∷ rest) = omega (arith, values_count rest, sum_by-cons (λ slot. cond (is_some slot) 1 0) (Some x) rest)

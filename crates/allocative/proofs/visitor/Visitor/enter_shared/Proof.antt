@@ -159,6 +159,8 @@ enter_shared_spec 𝓤 𝓛 𝓜 𝓡 wired =
     move ! (2 ∷ []) $ split ! $ move ! (0 ∷ 4 ∷ []) $ join ! $ move ! (1 ∷ []) $ nothing ! $ fjoin ! $ nothing ! $ fjoin ! $ nothing ! $ fjoin ! $ nothing ! $ fjoin ! $
     -- [nothing of the parameters; the tokens; what self ends as; the result]
     move ! (0 ∷ 3 ∷ []) $ join ! $ move ! (1 ∷ 0 ∷ []) $ join ! $ frame ! $
-    says_three ! (shown_by (λ w. w.outer_is_unique ≡ false) res out is_turned outer,
-    shown_by (λ w. EntersShared k n j s.now.collector.now (Ok true) w.collector.now) res out is_turned (subst (λ (x : State). IfOk res (λ w. EntersShared k n j x (Ok true) w.collector.now)) same content),
-    answer_by k n j res out is_turned _ _ same content refused) $ done !)))))))))))))))))))))
+    says_three ! (
+      shown_by (λ w. w.outer_is_unique ≡ false) res out is_turned outer,
+      shown_by (λ w. EntersShared k n j s.now.collector.now (Ok true) w.collector.now) res out is_turned (subst (λ (x : State). IfOk res (λ w. EntersShared k n j x (Ok true) w.collector.now)) same content),
+      answer_by k n j res out is_turned _ _ same content refused,
+    ) $ done !)))))))))))))))))))))
