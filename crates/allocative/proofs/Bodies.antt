@@ -1,11 +1,11 @@
 -- Lemmas for the helpers of slices, and for the parts of buffers and tables.
-use Rattle.std.proofs.Common.{codes, if◌then◌else◌, Bool, true, false, length, List, Option, None, Some, ◌≡◌, ℕ, ◌+◌, ◌-◌, ◌*◌, ◌<◌, ◌≤◌, ◌^◌, Result, inl, inr, subst, arith}
-use Rattle.allocative.proofs.Common.{checked, Refusal, Key, Forest, Kind, Showing, Nothing, Both, Inside, InsideUnique, Field, IsField, sized, each_shows, slice_shows, are_shown_each, bytes_shown, without_size, without_room, with_room, buffer_shows, some_buffer_shows, table_shows, IsDeclared, CanTake, Visitor, Entered, Means}
+use Rattle.std.proofs.Common.{codes, if◌then◌else◌, Bool, true, false, length, List, Option, None, Some, ◌≡◌, ℕ, ◌+◌, ◌-◌, ◌*◌, ◌<◌, ◌^◌, Result, inl, inr, subst, arith}
+use Rattle.allocative.proofs.Common.{checked, Refusal, Key, Forest, Kind, Showing, Nothing, Both, Inside, InsideUnique, Field, IsField, sized, each_shows, slice_shows, are_shown_each, bytes_shown, without_size, without_room, with_room, buffer_shows, table_shows, IsDeclared, CanTake, Visitor, Entered, Means}
 use Rattle.std.proofs.lemmas.Bool.{false≢true}
 use Rattle.std.proofs.lemmas.Bool.Decides.{nat_tests}
 use Rattle.allocative_described.specs.RawTable.{IsRawTableSize}
 use Rattle.allocative_described.proofs.Buckets.{raw_table_size_same}
-use Rattle.allocative.specs.Bodies.{buffer_entry, is_text, text_shows, some_text_shows}
+use Rattle.allocative.specs.Bodies.{buffer_entry, is_text, text_shows}
 use Rattle.allocative.proofs.Exact.{declared_nothing, declared_entry, entry_fits, rightly_as}
 use Rattle.allocative.proofs.Showing.{shows_weaker}
 use Rattle.allocative.proofs.Meaning.{entered_as}
@@ -86,12 +86,6 @@ no_buffer {p} {n} {c} e d = in_none (subst (λ (y : Option ℕ). IsDeclared (buf
     in_none : IsDeclared (buffer_shows None p n c) → ⊥
     in_none (f, x, s) = elim x [ ]
 
--- A buffer with room for c items is one with room for some number of items.
-pub means_some_buffer : {size : Option ℕ} {p : Showing} {n c : ℕ} → n ≤ c → Means false (buffer_shows size p n c) (some_buffer_shows size p n)
-means_some_buffer {size} {p} {n} {c} h =
-    let e : c ≡ n + (c - n) = omega (arith, h) in
-    record { means = λ f x. (c - n, subst (λ (m : ℕ). buffer_shows size p n m f) e x); declared = λ i d. absurd (false≢true i) }
-
 -- ---- texts
 pub means_text : {x : Bool} {n l m c u : ℕ} → n ≡ l → m ≡ c → u ≡ c - l →
     Means x (InsideUnique (codes "ptr") 8 (Inside (codes "capacity") m (Both (Inside (codes "u8") n Nothing) (Inside (codes "unused_capacity") u Nothing)))) (text_shows l c)
@@ -100,12 +94,6 @@ means_text i j k = rw (i, j, k) (record { means = λ f x. is_text x; declared = 
     text_declared : {l c : ℕ} → IsDeclared (text_shows l c) →
         IsDeclared (InsideUnique (codes "ptr") 8 (Inside (codes "capacity") c (Both (Inside (codes "u8") l Nothing) (Inside (codes "unused_capacity") (c - l) Nothing))))
     text_declared (f, is_text x, s) = (f, x, s)
-
--- A text with room for c bytes is one with room for some number of bytes.
-pub means_some_text : {n c : ℕ} → n ≤ c → Means false (text_shows n c) (some_text_shows n)
-means_some_text {n} {c} h =
-    let e : c ≡ n + (c - n) = omega (arith, h) in
-    record { means = λ f x. (c - n, subst (λ (m : ℕ). text_shows n m f) e x); declared = λ i d. absurd (false≢true i) }
 
 -- ---- tables
 pub means_no_table : {x : Bool} {n : ℕ} → n ≡ 0 → Means x Nothing (table_shows n)

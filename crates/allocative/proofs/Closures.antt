@@ -1,5 +1,5 @@
 -- What a caller of `visit_field_with` learns from the closure's outcome.
-use Rattle.std.proofs.Common.{◌≡◌, ℕ, Bool, Result, Ok, Err, MutBor, IsErr, false, subst, refl}
+use Rattle.std.proofs.Common.{◌≡◌, ℕ, Bool, Result, Ok, Err, MutBor, IsErr, false, subst, refl, sym, ap}
 use Rattle.allocative.proofs.Common.{Refusal, Key, Forest, held, ShowsNoContent, State, Going, OfHeld, nothing_held, left, Showing, Inside, Shows, Enters, Leaves, Settles, Visitor, called, refused_inside, IsHeldSum}
 use Rattle.std.specs.Fn.{Once}
 use Rattle.std.proofs.lemmas.Bool.{false≢true}
@@ -12,13 +12,17 @@ abbrev pub err_or : {T : Type 0} → Refusal → Result T Refusal → Refusal
 err_or e (Ok u) = e
 err_or e (Err x) = x
 
+-- A result that is some Err is that Err.
+pub same_err : {T : Type 0} {e : Refusal} (r : Result T Refusal) → IsErr r → e ≡ err_or e r → r ≡ Err e
+same_err (Ok u) h i = absurd (false≢true h)
+same_err (Err x) h i = ap Err (sym i)
+
 -- what is answered once the visitor is left
 pub sum_answered : (o : Bool) (c : State) (n : ℕ) {t : State} {q : Result (Unit {0}) Refusal} → Leaves o c t → Settles t q → q ≡ Ok tt → IsHeldSum t n → AnswersSum (left o c) (Ok n)
 sum_answered o c n {t} l k e s = rw (← left_by l) (subst (Settles t) e k, s)
 
-pub refusal_answered : (o : Bool) (c : State) (e : Refusal) (r : Result ℕ Refusal) {t : State} {q : Result (Unit {0}) Refusal} → IsErr r → e ≡ err_or e r → Leaves o c t → Settles t q → q ≡ Err e → AnswersSum (left o c) r
-refusal_answered o c e (Ok n) h i l k f = absurd (false≢true h)
-refusal_answered o c e (Err x) {t} h i l k f = rw (← left_by l, ← i) (subst (Settles t) f k)
+pub refusal_answered : (o : Bool) (c : State) {e : Refusal} {r : Result ℕ Refusal} {t : State} {q : Result (Unit {0}) Refusal} → r ≡ Err e → Leaves o c t → Settles t q → q ≡ Err e → AnswersSum (left o c) r
+refusal_answered o c {t = t} is l k f = rw (← left_by l, is) (subst (Settles t) f k)
 
 -- what a closure showed, with its refusal as the first cause
 told_shows : {p : Showing} {s c : State} (r : Result (Unit {0}) Refusal) → Shows p s r c → Shows p s r (after_told r c)
@@ -26,9 +30,8 @@ told_shows (Ok u) h = h
 told_shows (Err e) h = shows_refused_err e h refl
 
 module _ {F : Type 0} (g : Once F (MutBor Visitor × Unit {0}) (Result (Unit {0}) Refusal × (MutBor Visitor × Unit {0}))) (f : F) where
-  pub not_called_by : {k : Key} {n : ℕ} {s t : State} {e : Refusal} (r : Result (Unit {0}) Refusal) → IsErr r → e ≡ err_or e r → Enters false k n s (Err e) t → CallsInside g f k n s t r
-  not_called_by (Ok u) h i w = absurd (false≢true h)
-  not_called_by (Err x) h i w = not_called (rw i at w)
+  pub not_called_by : {k : Key} {n : ℕ} {s t : State} {e : Refusal} {r : Result (Unit {0}) Refusal} → r ≡ Err e → Enters false k n s (Err e) t → CallsInside g f k n s t r
+  not_called_by is w = rw is (not_called w)
 
   -- The call shows an entry with the closure's forest inside it, where each call of the closure shows one of p.
   pub with_shows : (p : Showing) {k : Key} {n : ℕ} {s t : State} {r : Result (Unit {0}) Refusal} → CallsInside g f k n s t r → CallShows g f p → Shows (Inside k n p) s r t

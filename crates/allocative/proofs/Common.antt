@@ -17,7 +17,7 @@ pub use Rattle.allocative_graph.specs.declared.refusal.Refusal.TheVariants.{Memo
 pub use Rattle.serde_json.specs.declared.value.Value.{out-Value, the_lemmas}
 pub use Rattle.serde_json.specs.declared.value.Value.TheOpen.{Value-F}
 pub use Rattle.slab.specs.Slab.{values}
-pub use Rattle.allocative.specs.Bodies.{IsBuffer, are_shown_each, buffer_shows, bytes_shown, some_buffer_shows, table_shows, with_room, without_room, without_size}
+pub use Rattle.allocative.specs.Bodies.{IsBuffer, are_shown_each, buffer_shows, bytes_shown, table_shows, with_room, without_room, without_size}
 pub use Rattle.allocative.specs.Built.{as_graph}
 pub use Rattle.allocative.specs.Closures.{called, refused_inside}
 pub use Rattle.allocative.specs.Exact.{CanTake, HasRoomFor, IsDeclared, MayRefuse, MayRefuseProfile, RefusesRightly, RunsRightly, ShowsContents, all_bytes, has_added, has_refused}

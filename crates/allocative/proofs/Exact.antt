@@ -1,5 +1,5 @@
 -- How visits that refuse only where they must compose: one after another, inside an entry, and as a shared content.
-use Rattle.std.proofs.Common.{◌≡◌, ℕ, ◌+◌, ◌<◌, ◌≤◌, ◌^◌, Bool, true, false, IsTrue, cond, List, [], ◌∷◌, ◌++◌, flat_map, Option, Some, None, inl, inr, Result, Ok, Err, refl, sym, ◌∙◌, ap, subst, arith}
+use Rattle.std.proofs.Common.{◌≡◌, ℕ, ◌+◌, ◌<◌, ◌^◌, Bool, true, false, IsTrue, cond, List, [], ◌∷◌, ◌++◌, flat_map, Option, Some, None, inl, inr, Result, Ok, Err, refl, sym, ◌∙◌, ap, subst, arith}
 use Rattle.allocative.proofs.Common.{Refusal, Memory, TooLarge, Key, Identity, Forest, Empty, First, Again, followed_by, entry_of, add_all, held, Live, Kind, OfGraph, OfHeld, State, Failed, Going, plus, enter, enter_first, Takes, is_graph, is_in_unique, leave, left, failed_with, Showing, Nothing, Both, InsideAs, Inside, sized, Field, SharedWith, each_shows, HasFailed, Enters, stays_failed, is_refused, is_entered, EntersSized, stays_unsized, is_unsized, is_sized, EntersShared, stays_shared, is_refused_shared, goes_past, enters_first, enters_again, all_bytes, HasRoomFor, ShowsContents, IsDeclared, CanTake, MayRefuse, RefusesRightly, has_added, has_refused}
 use Rattle.std.proofs.lemmas.Bool.{false≢true}
 use Rattle.std.proofs.lemmas.Grind.{flat_map-append}
@@ -19,140 +19,86 @@ abbrev bag_bytes : Bag → ℕ
 bag_bytes [] = 0
 bag_bytes (e ∷ b) = e.size + bag_bytes b
 
-no_more : (n : ℕ) → n ≡ n + 0
-no_more n = omega arith
-
-one_more : (a b c d s : ℕ) → a ≡ b + c → b ≡ d + s → a ≡ d + (s + c)
-one_more a b c d s e f = omega (arith, e, f)
-
 entered-add_all : (s : Sums) (b : Bag) → entered (add_all s b) ≡ entered s + bag_bytes b
-entered-add_all s [] = no_more (entered s)
-entered-add_all s (e ∷ b) = one_more (entered (add_all (add s e) b)) (entered (add s e)) (bag_bytes b) (entered s) e.size (entered-add_all (add s e) b) (entered-add s e)
-
-after_first : (a b c d n : ℕ) → a ≡ b + c → n + a ≡ (n + b) + c
-after_first a b c d n e = omega (arith, e)
+entered-add_all s [] = omega arith
+entered-add_all s (e ∷ b) = omega (arith, entered-add_all (add s e) b, entered-add s e)
 
 bag-append : (a b : Bag) → bag_bytes (a ++ b) ≡ bag_bytes a + bag_bytes b
-bag-append [] b = (let r : (n : ℕ) → n ≡ 0 + n = λ n. omega arith in r (bag_bytes b))
-bag-append (e ∷ a) b = after_first (bag_bytes (a ++ b)) (bag_bytes a) (bag_bytes b) 0 e.size (bag-append a b)
+bag-append [] b = omega arith
+bag-append (e ∷ a) b = omega (arith, bag-append a b)
 
 contents-append : (f g : Forest) → bag_bytes (flat_map (λ c. c.1) (contents f ++ contents g)) ≡ bag_bytes (content_entries f) + bag_bytes (content_entries g)
 contents-append f g = ap bag_bytes (flat_map-append (λ c. c.1) (contents f) (contents g)) ∙ bag-append (content_entries f) (content_entries g)
-
-own_and_contents : (n w a b v c d x y : ℕ) → w ≡ a + b → v ≡ c + d → a + c ≡ x → b + d ≡ y → (n + w) + v ≡ n + (x + y)
-own_and_contents n w a b v c d x y e f g h = omega (arith, e, f, g, h)
-
-first_and_content : (n a w o v c d x y : ℕ) → w ≡ o + v → v ≡ c + d → o + c ≡ x → a + d ≡ y → (n + a) + w ≡ n + (x + y)
-first_and_content n a w o v c d x y e f g h = omega (arith, e, f, g, h)
-
-again_and_after : (n a c x : ℕ) → a + c ≡ x → (n + a) + c ≡ n + x
-again_and_after n a c x e = omega (arith, e)
 
 bytes_of_all : (p : Path) (f : Forest) → bag_bytes (own_behind p f) + bag_bytes (content_entries f) ≡ all_bytes f
 bytes_of_all p Empty = refl
 bytes_of_all p (Inline k n inside after) =
     let q = p ++ k ∷ [] in
-    own_and_contents n _ (bag_bytes (own_behind q inside)) (bag_bytes (own_behind p after)) _ (bag_bytes (content_entries inside)) (bag_bytes (content_entries after)) _ _ (bag-append (own_behind q inside) (own_behind p after)) (contents-append inside after) (bytes_of_all q inside) (bytes_of_all p after)
+    omega (arith, bag-append (own_behind q inside) (own_behind p after), contents-append inside after, bytes_of_all q inside, bytes_of_all p after)
 bytes_of_all p (Unique k n inside after) =
     let q = p ++ k ∷ [] in
-    own_and_contents n _ (bag_bytes (own_behind q inside)) (bag_bytes (own_behind p after)) _ (bag_bytes (content_entries inside)) (bag_bytes (content_entries after)) _ _ (bag-append (own_behind q inside) (own_behind p after)) (contents-append inside after) (bytes_of_all q inside) (bytes_of_all p after)
+    omega (arith, bag-append (own_behind q inside) (own_behind p after), contents-append inside after, bytes_of_all q inside, bytes_of_all p after)
 bytes_of_all p (First k n i inside after) =
-    first_and_content n (bag_bytes (own_behind p after)) _ (bag_bytes (own_behind [] inside)) _ (bag_bytes (content_entries inside)) (bag_bytes (content_entries after)) _ _ (bag-append (own_behind [] inside) (flat_map (λ c. c.1) (contents inside ++ contents after))) (contents-append inside after) (bytes_of_all [] inside) (bytes_of_all p after)
-bytes_of_all p (Again k n i after) = again_and_after n _ _ _ (bytes_of_all p after)
+    omega (arith, bag-append (own_behind [] inside) (flat_map (λ c. c.1) (contents inside ++ contents after)), contents-append inside after, bytes_of_all [] inside, bytes_of_all p after)
+bytes_of_all p (Again k n i after) = omega (arith, bytes_of_all p after)
 
 pub entered-plus : (c : Live) (f : Forest) → entered (plus_live c f).sums ≡ entered c.sums + all_bytes f
 entered-plus c f = entered-add_all c.sums (added c.here f) ∙ ap (λ n. entered c.sums + n) (bag-append (own_behind c.here f) (content_entries f) ∙ bytes_of_all c.here f)
 
-entry_and_after : (n x y z w : ℕ) → w ≡ y + z → n + (x + w) ≡ (n + (x + y)) + z
-entry_and_after n x y z w e = omega (arith, e)
-
 all_bytes-following : (f g : Forest) → all_bytes (followed_by f g) ≡ all_bytes f + all_bytes g
-all_bytes-following Empty g = (let r : (n : ℕ) → n ≡ 0 + n = λ n. omega arith in r (all_bytes g))
-all_bytes-following (Inline k n f after) g = entry_and_after n (all_bytes f) (all_bytes after) (all_bytes g) _ (all_bytes-following after g)
-all_bytes-following (Unique k n f after) g = entry_and_after n (all_bytes f) (all_bytes after) (all_bytes g) _ (all_bytes-following after g)
-all_bytes-following (First k n i f after) g = entry_and_after n (all_bytes f) (all_bytes after) (all_bytes g) _ (all_bytes-following after g)
-all_bytes-following (Again k n i after) g = after_first _ (all_bytes after) (all_bytes g) 0 n (all_bytes-following after g)
+all_bytes-following Empty g = omega arith
+all_bytes-following (Inline k n f after) g = omega (arith, all_bytes-following after g)
+all_bytes-following (Unique k n f after) g = omega (arith, all_bytes-following after g)
+all_bytes-following (First k n i f after) g = omega (arith, all_bytes-following after g)
+all_bytes-following (Again k n i after) g = omega (arith, all_bytes-following after g)
 
 -- ---- room
-words_first : (o : ℕ) (f g : Forest) → FitsWords o (followed_by f g) → FitsWords o f
-words_first o Empty g h = tt
-words_first o (Inline k n f after) g h = (h.0, h.1, h.2, words_first o after g h.3)
-words_first o (Unique k n f after) g h = (h.0, h.1, h.2, words_first o after g h.3)
-words_first o (First k n i f after) g h = words_first o after g h
-words_first o (Again k n i after) g h = words_first o after g h
-
-words_second : (o : ℕ) (f g : Forest) → FitsWords o (followed_by f g) → FitsWords o g
-words_second o Empty g h = h
-words_second o (Inline k n f after) g h = words_second o after g h.3
-words_second o (Unique k n f after) g h = words_second o after g h.3
-words_second o (First k n i f after) g h = words_second o after g h
-words_second o (Again k n i after) g h = words_second o after g h
+words_both : (o : ℕ) (f g : Forest) → FitsWords o (followed_by f g) → FitsWords o f × FitsWords o g
+words_both o Empty g h = (tt, h)
+words_both o (Inline k n f after) g h = let r = words_both o after g h.3 in ((h.0, h.1, h.2, r.0), r.1)
+words_both o (Unique k n f after) g h = let r = words_both o after g h.3 in ((h.0, h.1, h.2, r.0), r.1)
+words_both o (First k n i f after) g h = words_both o after g h
+words_both o (Again k n i after) g h = words_both o after g h
 
 abbrev sum_in : Kind → ℕ
 sum_in (OfGraph c) = 0
 sum_in (OfHeld h) = h.sum
 
-room_of_first : (m a w x y : ℕ) → w ≡ x + y → a + w < m → a + x < m
-room_of_first m a w x y e h = omega (arith, e, h)
-
-room_of_second : (m a b w x y : ℕ) → w ≡ x + y → b ≡ a + x → a + w < m → b + y < m
-room_of_second m a b w x y e f h = omega (arith, e, f, h)
-
-sum_of_first : (m s t x : ℕ) → t ≡ s + x → t < m → s < m
-sum_of_first m s t x e h = omega (arith, e, h)
-
 -- What is added first has room, and what comes after it has room then.
 pub room_first : (b : Kind) (f g : Forest) → HasRoomFor b (followed_by f g) → HasRoomFor b f
-room_first (OfGraph c) f g h = room_of_first _ (entered c.sums) _ (all_bytes f) (all_bytes g) (all_bytes-following f g) h
-room_first (OfHeld d) f g h = (sum_of_first _ _ _ _ (ap sum_in (plus-following (OfHeld d) f g)) h.0, words_first d.open_visitors f g h.1)
+room_first (OfGraph c) f g h = omega (arith, h, all_bytes-following f g)
+room_first (OfHeld d) f g h = let e = ap sum_in (plus-following (OfHeld d) f g) in let l = h.0 in (omega (arith, e, l), (words_both d.open_visitors f g h.1).0)
 
 pub room_second : (b : Kind) (f g : Forest) → HasRoomFor b (followed_by f g) → HasRoomFor (plus b f) g
-room_second (OfGraph c) f g h = room_of_second _ (entered c.sums) _ _ (all_bytes f) (all_bytes g) (all_bytes-following f g) (entered-plus c f) h
-room_second (OfHeld d) f g h = (subst (λ (n : ℕ). n < 2 ^ 64) (ap sum_in (plus-following (OfHeld d) f g)) h.0, words_second d.open_visitors f g h.1)
-
-entry_room : (m a n x : ℕ) → a + (n + (x + 0)) < m → a + n < m
-entry_room m a n x h = omega (arith, h)
+room_second (OfGraph c) f g h = omega (arith, h, all_bytes-following f g, entered-plus c f)
+room_second (OfHeld d) f g h = (subst (λ (n : ℕ). n < 2 ^ 64) (ap sum_in (plus-following (OfHeld d) f g)) h.0, (words_both d.open_visitors f g h.1).1)
 
 inline_room : (u : Bool) (m s n x : ℕ) → s + ((x + 0) + cond u (n + 0) 0) < m → s + cond u n 0 < m
 inline_room true m s n x h = omega (arith, h)
 inline_room false m s n x h = omega (arith, h)
 
-unique_room : (u : Bool) (m s x y : ℕ) → s + ((y + x + 0) + cond u 0 0) < m → s + cond u 0 0 < m
-unique_room true m s x y h = omega (arith, h)
-unique_room false m s x y h = omega (arith, h)
-
 pub room_entry : (u : Bool) (k : Key) (n : ℕ) (b : Kind) (f : Forest) → HasRoomFor b (entry_of u k n f) → HasRoom u n b
-room_entry true k n (OfGraph c) f h = entry_room _ (entered c.sums) n (all_bytes f) h
-room_entry false k n (OfGraph c) f h = entry_room _ (entered c.sums) n (all_bytes f) h
-room_entry true k n (OfHeld d) f h = (unique_room d.is_in_unique _ d.sum (held f) (inline_bytes f) h.0, h.1.1)
+room_entry true k n (OfGraph c) f h = omega (arith, h)
+room_entry false k n (OfGraph c) f h = omega (arith, h)
+room_entry true k n (OfHeld d) f h = (inline_room d.is_in_unique _ d.sum 0 (inline_bytes f + held f) h.0, h.1.1)
 room_entry false k n (OfHeld d) f h = (inline_room d.is_in_unique _ d.sum n (held f) h.0, h.1.1)
 
-inside_room : (m a b n x : ℕ) → b ≡ a + (n + (0 + 0)) → a + (n + (x + 0)) < m → b + x < m
-inside_room m a b n x e h = omega (arith, e, h)
-
 pub room_inside : (u : Bool) (k : Key) (n : ℕ) (b : Kind) (f : Forest) → HasRoomFor b (entry_of u k n f) → HasRoomFor (enter u k n b) f
-room_inside true k n (OfGraph c) f h = inside_room _ (entered c.sums) _ n (all_bytes f) (entered-plus c (Unique k n Empty Empty)) h
-room_inside false k n (OfGraph c) f h = inside_room _ (entered c.sums) _ n (all_bytes f) (entered-plus c (Inline k n Empty Empty)) h
+room_inside true k n (OfGraph c) f h = omega (arith, h, entered-plus c (Unique k n Empty Empty))
+room_inside false k n (OfGraph c) f h = omega (arith, h, entered-plus c (Inline k n Empty Empty))
 room_inside true k n (OfHeld d) f h = (subst (λ (m : ℕ). m < 2 ^ 64) (sym (ap sum_in (inside_entry true k n (OfHeld d) f))) h.0, h.1.2)
 room_inside false k n (OfHeld d) f h = (subst (λ (m : ℕ). m < 2 ^ 64) (sym (ap sum_in (inside_entry false k n (OfHeld d) f))) h.0, h.1.2)
 
 room_content : (k : Key) (n : ℕ) (i : Identity) (c : Live) (f : Forest) → HasRoomFor (OfGraph c) (First k n i f Empty) → HasRoomFor (OfGraph (enter_first k n i c)) f
-room_content k n i c f h = inside_room _ (entered c.sums) _ n (all_bytes f) (entered-plus c (First k n i Empty Empty)) h
+room_content k n i c f h = omega (arith, h, entered-plus c (First k n i Empty Empty))
 
 -- ---- contents
-contents_first : (f g : Forest) → ShowsContents (followed_by f g) → ShowsContents f
-contents_first Empty g h = tt
-contents_first (Inline k n f after) g h = (h.0, contents_first after g h.1)
-contents_first (Unique k n f after) g h = (h.0, contents_first after g h.1)
-contents_first (First k n i f after) g h = (h.0, contents_first after g h.1)
-contents_first (Again k n i after) g h = absurd h
-
-contents_second : (f g : Forest) → ShowsContents (followed_by f g) → ShowsContents g
-contents_second Empty g h = h
-contents_second (Inline k n f after) g h = contents_second after g h.1
-contents_second (Unique k n f after) g h = contents_second after g h.1
-contents_second (First k n i f after) g h = contents_second after g h.1
-contents_second (Again k n i after) g h = absurd h
+contents_apart : (f g : Forest) → ShowsContents (followed_by f g) → ShowsContents f × ShowsContents g
+contents_apart Empty g h = (tt, h)
+contents_apart (Inline k n f after) g h = let r = contents_apart after g h.1 in ((h.0, r.0), r.1)
+contents_apart (Unique k n f after) g h = let r = contents_apart after g h.1 in ((h.0, r.0), r.1)
+contents_apart (First k n i f after) g h = let r = contents_apart after g h.1 in ((h.0, r.0), r.1)
+contents_apart (Again k n i after) g h = absurd h
 
 contents_both : (f g : Forest) → ShowsContents f → ShowsContents g → ShowsContents (followed_by f g)
 contents_both Empty g h l = l
@@ -174,10 +120,10 @@ pub declared_nothing : IsDeclared Nothing
 declared_nothing = (Empty, refl, tt)
 
 pub declared_first : {p q : Showing} → IsDeclared (Both p q) → IsDeclared p
-declared_first (f, (g, h, x, y, e), s) = (g, x, contents_first g h (subst ShowsContents e s))
+declared_first (f, (g, h, x, y, e), s) = (g, x, (contents_apart g h (subst ShowsContents e s)).0)
 
 pub declared_second : {p q : Showing} → IsDeclared (Both p q) → IsDeclared q
-declared_second (f, (g, h, x, y, e), s) = (h, y, contents_second g h (subst ShowsContents e s))
+declared_second (f, (g, h, x, y, e), s) = (h, y, (contents_apart g h (subst ShowsContents e s)).1)
 
 pub declared_both : {p q : Showing} → IsDeclared p → IsDeclared q → IsDeclared (Both p q)
 declared_both (f, x, s) (g, y, t) = (followed_by f g, (f, g, x, y, refl), contents_both f g s t)
@@ -215,11 +161,8 @@ can_entry u k n b (d, room) =
 can_content : {p : Showing} (k : Key) (n : ℕ) (i : Identity) (c : Live) → CanTake (OfGraph c) (SharedWith k n i p) → CanTake (OfGraph (enter_first k n i c)) p
 can_content k n i c (d, room) = (declared_content k n i d, λ f x. room_content k n i c f (room (First k n i f Empty) (inl (f, x, refl))))
 
-pointer_room : (m a n : ℕ) → a + (n + 0) < m → a + n < m
-pointer_room m a n h = omega (arith, h)
-
 can_pointer : {p : Showing} (k : Key) (n : ℕ) (i : Identity) (c : Live) → CanTake (OfGraph c) (SharedWith k n i p) → entered c.sums + n < 2 ^ 63
-can_pointer k n i c (d, room) = pointer_room _ (entered c.sums) n (room (Again k n i Empty) (inr refl))
+can_pointer k n i c (d, room) = let h = room (Again k n i Empty) (inr refl) in omega (arith, h)
 
 -- ---- why a visit may be refused
 pub may_refuse : {p q : Showing} (b c : Kind) → (CanTake c q → CanTake b p) → is_graph c ≡ is_graph b → (e : Refusal) → MayRefuse p b e → MayRefuse q c e
@@ -227,17 +170,14 @@ may_refuse b c up same Memory m = same ∙ m
 may_refuse b c up same TooLarge m = λ x. m (up x)
 may_refuse b c up same Open m = m
 
-over : (m n : ℕ) → m ≤ n → n < m → ⊥
-over m n h l = omega (arith, h, l)
-
 entry_refuses : (p : Showing) (u : Bool) (k : Key) (n : ℕ) (b : Kind) (e : Refusal) → Refuses u n b e → MayRefuse (InsideAs u k n p) b e
-entry_refuses p u k n (OfGraph c) e (inl (i, h)) = subst (MayRefuse (InsideAs u k n p) (OfGraph c)) (sym i) (λ w. over _ _ h (can_entry u k n (OfGraph c) w))
+entry_refuses p u k n (OfGraph c) e (inl (i, h)) = subst (MayRefuse (InsideAs u k n p) (OfGraph c)) (sym i) (λ w. omega (arith, h, can_entry u k n (OfGraph c) w))
 entry_refuses p u k n (OfGraph c) e (inr (i, h)) = subst (MayRefuse (InsideAs u k n p) (OfGraph c)) (sym i) refl
-entry_refuses p u k n (OfHeld d) e (i, inl h) = subst (MayRefuse (InsideAs u k n p) (OfHeld d)) (sym i) (λ w. over _ _ h (can_entry u k n (OfHeld d) w).0)
-entry_refuses p u k n (OfHeld d) e (i, inr h) = subst (MayRefuse (InsideAs u k n p) (OfHeld d)) (sym i) (λ w. over _ _ h (can_entry u k n (OfHeld d) w).1)
+entry_refuses p u k n (OfHeld d) e (i, inl h) = subst (MayRefuse (InsideAs u k n p) (OfHeld d)) (sym i) (λ w. omega (arith, h, (can_entry u k n (OfHeld d) w).0))
+entry_refuses p u k n (OfHeld d) e (i, inr h) = subst (MayRefuse (InsideAs u k n p) (OfHeld d)) (sym i) (λ w. omega (arith, h, (can_entry u k n (OfHeld d) w).1))
 
 pointer_refuses : (p : Showing) (k : Key) (n : ℕ) (i : Identity) (c : Live) (e : Refusal) → Refuses false n (OfGraph c) e → MayRefuse (SharedWith k n i p) (OfGraph c) e
-pointer_refuses p k n i c e (inl (j, h)) = subst (MayRefuse (SharedWith k n i p) (OfGraph c)) (sym j) (λ w. over _ _ h (can_pointer k n i c w))
+pointer_refuses p k n i c e (inl (j, h)) = subst (MayRefuse (SharedWith k n i p) (OfGraph c)) (sym j) (λ w. omega (arith, h, can_pointer k n i c w))
 pointer_refuses p k n i c e (inr (j, h)) = subst (MayRefuse (SharedWith k n i p) (OfGraph c)) (sym j) refl
 
 -- ---- visits
@@ -255,11 +195,8 @@ pub rightly_weaker : {p q : Showing} {a b : State} {r : Result Unit Refusal} →
 rightly_weaker up down = rightly_as up (λ k w. down w.0)
 
 -- The bytes of an entry that can be added fit a word.
-bytes_fit : (n a : ℕ) → a + n < 2 ^ 63 → n < 2 ^ 64
-bytes_fit n a h = omega (arith, h)
-
 pub entry_fits : {p : Showing} (u : Bool) (k : Key) (n : ℕ) (b : Kind) → CanTake b (InsideAs u k n p) → n < 2 ^ 64
-entry_fits u k n (OfGraph c) w = bytes_fit n (entered c.sums) (can_entry u k n (OfGraph c) w)
+entry_fits u k n (OfGraph c) w = omega (arith, can_entry u k n (OfGraph c) w)
 entry_fits true k n (OfHeld d) w = let r = declared_inside true k n w.0 in (w.1 (entry_of true k n r.0) (r.0, r.1, refl)).1.0
 entry_fits false k n (OfHeld d) w = let r = declared_inside false k n w.0 in (w.1 (entry_of false k n r.0) (r.0, r.1, refl)).1.0
 
@@ -267,8 +204,7 @@ pub rightly_both : {p q : Showing} {a b c : State} {u : Unit} {r : Result Unit R
 rightly_both had_failed s = had_failed
 rightly_both (has_added {b = b} f x t e) (has_added {c = c} g y s k) =
     let s' : Takes (plus b f) g = subst (λ (z : Kind). Takes z g) e s in
-    let k' : c ≡ plus (plus b f) g = rw e at k in
-    has_added (followed_by f g) (f, g, x, y, refl) (takes_both b f g t s') (k' ∙ sym (plus-following b f g))
+    has_added (followed_by f g) (f, g, x, y, refl) (takes_both b f g t s') (cc (plus-following b f g))
 rightly_both {q = q} (has_added {b = b} f x t e) (has_refused {e = r} m) =
     let m' : MayRefuse q (plus b f) r = subst (λ (z : Kind). MayRefuse q z r) e m in
     has_refused (may_refuse (plus b f) b (can_second b f x) (sym (is_graph-plus b f)) r m')
@@ -281,8 +217,7 @@ pub rightly_within : {u : Bool} {p : Showing} {k : Key} {n : ℕ} {o : Bool} {s 
     Enters u k n s (Ok o) t → RefusesRightly p t r c → d ≡ left o c → RefusesRightly (InsideAs u k n p) s r d
 rightly_within {u} {p} {k} {n} (is_entered {b = b} h f e) (has_added {c = c} g x t i) l =
     let t' : Takes (enter u k n b) g = subst (λ (z : Kind). Takes z g) e t in
-    let i' : c ≡ plus (enter u k n b) g = rw e at i in
-    rw (l, f) (has_added (entry_of u k n g) (g, x, refl) (takes_entry u k n b g t') (ap (leave (is_in_unique b)) i' ∙ inside_entry u k n b g))
+    rw (l, f) (has_added {c = leave (is_in_unique b) c} (entry_of u k n g) (g, x, refl) (takes_entry u k n b g t') (cc (inside_entry u k n b g)))
 rightly_within {u} {p} {k} {n} (is_entered {b = b} h f e) (has_refused {e = r} m) l =
     let m' : MayRefuse p (enter u k n b) r = subst (λ (z : Kind). MayRefuse p z r) e m in
     rw l (has_refused (may_refuse (enter u k n b) b (can_inside u k n b) (sym (is_graph-enter u k n b)) r m'))
@@ -328,24 +263,8 @@ declared_append p (x ∷ xs) ys d =
     let r = declared_append p xs ys (declared_second d) in
     declared_both (declared_both (declared_first d) (declared_first r)) (declared_second r)
 
--- One item more, and an item that is refused.
-each_one : {T : Type 0} (p : T → Showing) (x : T) (f : Forest) → p x f → each_shows p (x ∷ []) f
+pub each_one : {T : Type 0} (p : T → Showing) (x : T) (f : Forest) → p x f → each_shows p (x ∷ []) f
 each_one p x f h = (f, Empty, h, refl, sym (followed_by-empty f))
-
-both_up : {p q r : Showing} → ((f : Forest) → q f → r f) → (f : Forest) → Both p q f → Both p r f
-both_up up f (g, h, x, y, e) = (g, h, x, up h y, e)
-
-pub rightly_snoc : {T : Type 0} (p : T → Showing) (xs : List T) (x : T) {a b c : State} {u : Unit} {r : Result Unit Refusal} →
-    RefusesRightly (each_shows p xs) a (Ok u) b → RefusesRightly (p x) b r c → RefusesRightly (each_shows p (xs ++ x ∷ [])) a r c
-rightly_snoc p xs x f s =
-    rightly_weaker
-    (λ g h. each_append p xs (x ∷ []) g (both_up (each_one p x) g h))
-    (λ d. let r = declared_append p xs (x ∷ []) d in declared_both (declared_first r) (declared_first (declared_second r)))
-    (rightly_both f s)
-
-pub rightly_item : {T : Type 0} (p : T → Showing) (front : List T) (x : T) (back : List T) {a b c : State} {u : Unit} {e : Refusal} →
-    RefusesRightly (each_shows p front) a (Ok u) b → RefusesRightly (p x) b (Err e) c → RefusesRightly (each_shows p (front ++ x ∷ back)) a (Err e) c
-rightly_item p front x back f s = rightly_weaker (each_append p front (x ∷ back)) (declared_append p front (x ∷ back)) (rightly_both f (rightly_first s))
 
 -- ---- a shared entry
 pub rightly_content : {p : Showing} {k : Key} {n : ℕ} {i : Identity} {is_first : Bool} (o : Bool) {s t c d : State} {r : Result Unit Refusal} →
@@ -355,8 +274,7 @@ rightly_content {p} {k} {n} {i} o g is h l = inner (rw is at g) h l
     inner : {s t c d : State} {r : Result Unit Refusal} → EntersShared k n i s (Ok true) t → RefusesRightly p t r c → d ≡ left o c → RefusesRightly (SharedWith k n i p) s r d
     inner (enters_first {c = b} room new e) (has_added {c = c} f x t j) m =
         let t' : Takes (OfGraph (enter_first k n i b)) f = subst (λ (z : Live). Takes (OfGraph z) f) e t in
-        let j' : c ≡ plus (OfGraph (enter_first k n i b)) f = rw e at j in
-        rw m (has_added (First k n i f Empty) (inl (f, x, refl)) (takes_shared k n i b f new t') (ap (leave o) j' ∙ inside_first k n i b f o))
+        rw m (has_added {b = OfGraph b} {c = leave o c} (First k n i f Empty) (inl (f, x, refl)) (takes_shared k n i b f new t') (cc (inside_first k n i b f o)))
     inner (enters_first {c = b} room new e) (has_refused {e = r} w) m =
         let w' : MayRefuse p (OfGraph (enter_first k n i b)) r = subst (λ (z : Live). MayRefuse p (OfGraph z) r) e w in
         rw m (has_refused (may_refuse (OfGraph (enter_first k n i b)) (OfGraph b) (can_content k n i b) refl r w'))
@@ -374,23 +292,16 @@ pub inexact : {p : Showing} {a b : State} {r : Result Unit Refusal} → IsTrue f
 inexact h = absurd (false≢true h)
 
 -- ---- errors that are returned by hand
-same_failed : (q r : Refusal) → Failed q ≡ Failed r → q ≡ r
-same_failed q r e = ap cause_in e
-  where
-    cause_in : State → Refusal
-    cause_in (Failed x) = x
-    cause_in (Going b) = q
-
 -- A visit that is refused, followed by refusing with the same error.
 pub rightly_refused : {p : Showing} {a b : State} {y : Refusal} (c : State) (x : Refusal) → RefusesRightly p a (Err y) b → c ≡ failed_with y b → HasFailed c x → RefusesRightly p a (Err x) c
 rightly_refused c x had_failed e h = had_failed
 rightly_refused {p} c x (has_refused {b = b} {e = y} m) e h =
-    let i : y ≡ x = same_failed y x (sym e ∙ h) in
+    let i : y ≡ x = cc in
     rw h (has_refused (subst (MayRefuse p b) i m))
 
 -- What is declared nowhere may be refused as TooLarge.
 pub rightly_undeclared : {p : Showing} (a b : State) (e : Refusal) → (IsDeclared p → ⊥) → b ≡ failed_with TooLarge a → HasFailed b e → RefusesRightly p a (Err e) b
 rightly_undeclared (Failed q) b e n i h = had_failed
 rightly_undeclared {p} (Going k) b e n i h =
-    let j : TooLarge ≡ e = same_failed TooLarge e (sym i ∙ h) in
+    let j : TooLarge ≡ e = cc in
     rw h (has_refused (subst (MayRefuse p k) j (λ w. n w.0)))

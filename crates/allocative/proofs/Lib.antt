@@ -11,12 +11,10 @@ pub mod ContainerMeaning
 pub mod Within
 pub mod Levels
 pub mod Parts
-pub mod Json
 pub mod Roots
 pub mod RefusedRoots
-pub mod Nest
 pub mod Lent
-pub mod Nesting
+pub mod Entering
 pub mod ByHand
 -- Lemmas of the crate below about graphs and their text are exported again.
 pub use Rattle.allocative_graph.proofs.Basics

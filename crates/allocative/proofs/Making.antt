@@ -1,10 +1,9 @@
 -- How entries are made one after another and inside each other, by calls that visit no part.
-use Rattle.std.proofs.Common.{ℕ, Bool, true, false, List, [], ◌∷◌, ◌++◌, length, ◌≡◌, Option, None, Some, Result, Ok, Err, IsErr, refl, sym, ◌∙◌, subst, ap, arith, length-append}
+use Rattle.std.proofs.Common.{ℕ, Bool, true, false, List, [], ◌∷◌, ◌++◌, length, ◌≡◌, Option, None, Some, Result, Ok, Err, refl, sym, ◌∙◌, subst, ap, arith, length-append}
 use Rattle.allocative.proofs.Common.{Yields, size_product, Refusal, Key, Kind, State, Failed, Going, left, HasFailed, is_entered, EntersSized, is_sized, Leaves, leaves_failed, leaves_going, are_shown_each, CountsRun, Plan, Done, Entry, one, Makes, made_none, made, entry_refused, inside_refused, MakesOrGives, makes, gives, state_of}
 use Rattle.std.proofs.lemmas.Bool.{false≢true}
 use Rattle.std.proofs.lemmas.Iterator.{YieldsList}
-use Rattle.allocative.specs.Making.{followed_by_plan, had_failed, slice_plan, MakesRun, counted, in_turn}
-use Rattle.allocative.proofs.Closures.{err_or}
+use Rattle.allocative.specs.Making.{followed_by_plan, had_failed, MakesRun, counted, in_turn}
 use Rattle.allocative.proofs.Showing.{not_sized_cause, left_by}
 
 -- ---- what was made goes on, and what was refused has failed
@@ -38,9 +37,8 @@ makes_entry {c = c} {d = d} {x = x} g m l e =
     let l' = subst (λ q. Leaves q c d) e l in
     made g m l' (going_left x (goes_on m) l')
 
-pub makes_refused : {k : Key} {size : Option ℕ} {inside after : Plan} {s t : State} {e : Refusal} (r : Result Unit Refusal) → IsErr r → e ≡ err_or e r → EntersSized k size s (Err e) t → Makes (Entry k size inside after) s r t
-makes_refused (Ok u) h i g = absurd (false≢true h)
-makes_refused (Err x) h i g = entry_refused (rw i at g)
+pub makes_refused : {k : Key} {size : Option ℕ} {inside after : Plan} {s t : State} {e : Refusal} {r : Result Unit Refusal} → r ≡ Err e → EntersSized k size s (Err e) t → Makes (Entry k size inside after) s r t
+makes_refused is g = rw is (entry_refused g)
 
 -- ---- one plan after another
 pub makes_then : {p q : Plan} {s t d : State} {u : Unit} {r : Result Unit Refusal} → Makes p s (Ok u) t → Makes q t r d → Makes (followed_by_plan p q) s r d
@@ -53,18 +51,8 @@ then_refused q (made g i l a) = made g i l (then_refused q a)
 then_refused q (entry_refused g) = entry_refused g
 then_refused q (inside_refused g m) = inside_refused g m
 
-pub makes_then_refused : {p : Plan} (q : Plan) {s t : State} {e : Refusal} (r : Result Unit Refusal) → IsErr r → e ≡ err_or e r → Makes p s (Err e) t → Makes (followed_by_plan p q) s r t
-makes_then_refused q (Ok u) h i m = absurd (false≢true h)
-makes_then_refused q (Err x) h i m = then_refused q (rw i at m)
-
--- ---- slices
-pub makes_plain : {T : Type 0} (name : Key) (size : Option ℕ) (needs_drop : Bool) (xs : List T) {s t : State} {r : Result Unit Refusal} → are_shown_each needs_drop size ≡ false →
-    Makes (one name (size_product size (Some (length xs)))) s r t → Makes (slice_plan name size needs_drop xs) s r t
-makes_plain name size needs_drop xs e m = rw (e, slice_plan) m
-
-pub makes_each : {T : Type 0} (name : Key) (size : Option ℕ) (needs_drop : Bool) (xs : List T) {s t : State} {r : Result Unit Refusal} → are_shown_each needs_drop size ≡ true →
-    Makes Done s r t → Makes (slice_plan name size needs_drop xs) s r t
-makes_each name size needs_drop xs e m = rw (e, slice_plan) m
+pub makes_then_refused : {p : Plan} (q : Plan) {s t : State} {e : Refusal} {r : Result Unit Refusal} → r ≡ Err e → Makes p s (Err e) t → Makes (followed_by_plan p q) s r t
+makes_then_refused q is m = rw is (then_refused q m)
 
 -- ---- iterators
 -- A list with one more item is not empty.
@@ -87,8 +75,8 @@ makes_none ys h y (makes m) = m
 makes_none [] h y (gives x t g) = absurd (y.runs x t g)
 makes_none (z ∷ zs) h y (gives x t g) = absurd (omega (arith, h))
 
-pub makes_or_refused : {S A : Type 0} {steps : S → Option A → S → Type 0} {x : S} {k : Key} {size : Option ℕ} {inside after : Plan} {s t : State} {e : Refusal} (r : Result Unit Refusal) → IsErr r → e ≡ err_or e r → EntersSized k size s (Err e) t → MakesOrGives steps x (Entry k size inside after) s r t
-makes_or_refused r h i g = makes (makes_refused r h i g)
+pub makes_or_refused : {S A : Type 0} {steps : S → Option A → S → Type 0} {x : S} {k : Key} {size : Option ℕ} {inside after : Plan} {s t : State} {e : Refusal} {r : Result Unit Refusal} → r ≡ Err e → EntersSized k size s (Err e) t → MakesOrGives steps x (Entry k size inside after) s r t
+makes_or_refused is g = makes (makes_refused is g)
 
 pub run_in_turn : {S A : Type 0} {steps : S → Option A → S → Type 0} {s : S} {name : Key} (size : Option ℕ) (needs_drop : Bool) {a b : State} {r : Result Unit Refusal} → are_shown_each needs_drop size ≡ true →
     MakesOrGives steps s Done a r b → MakesRun steps s name size (are_shown_each needs_drop size) a r b

@@ -1,10 +1,10 @@
 -- How the showing of a value follows from the part that enters it, word by word.
-use Rattle.std.proofs.Common.{◌≡◌, ℕ, Bool, true, false, ◌&&◌, IsTrue, Option, Some, None, Result, inl, inr, List, [], ◌∷◌, ◌++◌, ◌∙◌, Ok, Err, refl}
-use Rattle.allocative.proofs.Common.{Refusal, TooLarge, Key, Identity, Forest, Showing, Nothing, Both, InsideAs, Inside, InsideUnique, Field, IsField, sized, SharedWith, each_shows, IsDeclared, Visitor, Visited, Entered, Means, OnlyIf}
-use Rattle.std.proofs.lemmas.Bool.{false≢true}
+use Rattle.std.proofs.Common.{◌≡◌, ℕ, Bool, true, false, ◌&&◌, Option, Some, None, Result, inl, inr, ◌∙◌, Ok, Err, refl}
+use Rattle.allocative.proofs.Common.{Refusal, TooLarge, Key, Identity, Forest, Showing, Nothing, Both, InsideAs, Inside, InsideUnique, Field, IsField, sized, SharedWith, IsDeclared, Visitor, Visited, Entered, Means, OnlyIf}
+use Rattle.std.proofs.lemmas.Bool.{false≢true, and_parts, and_from}
 use Rattle.allocative.specs.Visited.{Refused}
-use Rattle.allocative.proofs.Exact.{declared_first, declared_second, declared_both, declared_inside, declared_entry, declared_content, declared_shared, rightly_nothing, rightly_weaker, rightly_snoc, rightly_refused, rightly_undeclared, inexact}
-use Rattle.allocative.proofs.Showing.{shows_weaker, shows_nothing, shows_refused, shows_refused_err, shows_snoc}
+use Rattle.allocative.proofs.Exact.{declared_first, declared_second, declared_both, declared_inside, declared_entry, declared_content, declared_shared, rightly_nothing, rightly_weaker, rightly_refused, rightly_undeclared, inexact}
+use Rattle.allocative.proofs.Showing.{shows_weaker, shows_nothing, shows_refused, shows_refused_err}
 
 -- ---- which visits are exact
 pub exact_never : {e : Bool} → OnlyIf false e
@@ -16,26 +16,14 @@ exact_same = record { follows = λ h. h }
 pub exact_always : {e : Bool} → OnlyIf e true
 exact_always = record { follows = λ h. refl }
 
-first_of : (d e : Bool) → IsTrue (d && e) → IsTrue d
-first_of true e h = refl
-first_of false e h = h
-
-second_of : (d e : Bool) → IsTrue (d && e) → IsTrue e
-second_of true e h = h
-second_of false e h = absurd (false≢true h)
-
-both_of : (d e : Bool) → IsTrue d → IsTrue e → IsTrue (d && e)
-both_of true e h l = l
-both_of false e h l = h
-
 pub exact_both : {c d e : Bool} → OnlyIf c d → OnlyIf c e → OnlyIf c (d && e)
-exact_both {d = d} {e = e} l r = record { follows = λ h. both_of d e (l.follows h) (r.follows h) }
+exact_both {d = d} {e = e} l r = record { follows = λ h. and_from d e (l.follows h) (r.follows h) }
 
 pub exact_first : {c d : Bool} (e : Bool) → OnlyIf d c → OnlyIf (d && e) c
-exact_first {d = d} e l = record { follows = λ h. l.follows (first_of d e h) }
+exact_first {d = d} e l = record { follows = λ h. l.follows (and_parts d e h).0 }
 
 pub exact_second : {c e : Bool} (d : Bool) → OnlyIf e c → OnlyIf (d && e) c
-exact_second {e = e} d r = record { follows = λ h. r.follows (second_of d e h) }
+exact_second {e = e} d r = record { follows = λ h. r.follows (and_parts d e h).1 }
 
 -- ---- what a part means
 pub means_same : {x : Bool} {p : Showing} → Means x p p
@@ -118,13 +106,8 @@ visited h = record { same_reference = h.same_reference; same_outer = h.same_oute
 
 -- A call that enters nothing, and one that returns an error by hand.
 pub entered_none : {x : Bool} {p : Showing} (a : Visitor) → Means x Nothing p → Entered x p a a (Ok tt)
-entered_none a m = record {
-  same_reference = refl;
-  same_outer = refl;
-  shown = shows_weaker m.means (shows_nothing _ tt);
-  cause = tt;
-  rightly = λ i. rightly_weaker m.means (m.declared i) (rightly_nothing _ tt);
-}
+entered_none a m =
+    entered_as {p = Nothing} (record { same_reference = refl; same_outer = refl; shown = shows_nothing _ tt; cause = tt; rightly = λ i. rightly_nothing _ tt }) m
 
 -- An error that is returned by hand, which need not be one that must be.
 pub entered_refused : {p : Showing} {q e : Refusal} {a b : Visitor} → Refused q a b e → Entered false p a b (Err e)
@@ -148,15 +131,4 @@ undeclared_refused {e = e} {a = a} {b = b} n h = record {
   shown = shows_refused _ e TooLarge _ h.after;
   cause = h.is_cause;
   rightly = λ i. rightly_undeclared a.collector.now b.collector.now e n h.after h.is_cause;
-}
-
--- One step of a loop shows one more item.
-pub entered_snoc : {T : Type 0} {d : Bool} (p : T → Showing) (xs : List T) (x : T) {a b c : Visitor} {u v w : Unit {0}} →
-    Entered d (each_shows p xs) a b (Ok u) → Entered d (p x) b c (Ok v) → Entered d (each_shows p (xs ++ x ∷ [])) a c (Ok w)
-entered_snoc p xs x f s = record {
-  same_reference = s.same_reference ∙ f.same_reference;
-  same_outer = s.same_outer ∙ f.same_outer;
-  shown = shows_snoc p xs x f.shown s.shown;
-  cause = tt;
-  rightly = λ i. rightly_snoc p xs x (f.rightly i) (s.rightly i);
 }

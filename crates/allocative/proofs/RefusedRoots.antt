@@ -1,13 +1,13 @@
 -- A root that is refused after others: it may be refused only where the whole list of roots may be.
-use Rattle.std.proofs.Common.{◌≡◌, ℕ, ◌+◌, ◌<◌, ◌^◌, List, [], ◌∷◌, ◌++◌, length, take, drop, get_or, Bool, true, false, IsTrue, IsErr, Result, Ok, Err, refl, ap, sym, subst, ◌∙◌}
+use Rattle.std.proofs.Common.{◌≡◌, ℕ, ◌+◌, ◌<◌, ◌^◌, List, [], ◌∷◌, ◌++◌, length, take, drop, get_or, Bool, true, false, IsTrue, Result, Ok, Err, refl, ap, sym, subst, ◌∙◌}
 use Rattle.allocative.proofs.Common.{Refusal, Forest, Kind, OfGraph, OfHeld, State, Failed, Going, plus, is_graph, begin, Showing, Both, each_shows, Runs, all_bytes, HasRoomFor, CanTake, MayRefuse, RunsRightly}
 use Rattle.std.specs.List.{list_all}
 use Rattle.std.proofs.lemmas.Bool.{false≢true}
 use Rattle.std.proofs.lemmas.List.Folds.{list_all_at}
 use Rattle.allocative_graph.specs.Collector.{go}
 use Rattle.allocative_graph.proofs.Plus.{is_graph-plus, is_graph-begin}
-use Rattle.allocative.proofs.Closures.{err_or}
 use Rattle.allocative.proofs.Exact.{entered-plus, can_first, can_second, may_refuse, each_append, declared_append}
+pub use Rattle.allocative.proofs.Closures.{same_err}
 use Rattle.allocative.proofs.Within.{around_item}
 
 -- Entries that are added with a root visitor open take as much room as without it.
@@ -37,12 +37,10 @@ rightly_among w y p front x back (Going b) (Going c) t u e only (z, f, a, k, i) 
     (r.0, may_refuse (begin (plus b f)) (begin b) (can_among p front x back b f a) same e m)
 
 -- The root with this index is refused, where the roots before it were visited.
-pub rightly_indexed : {T : Type 0} (w y : Bool) (p : T → Showing) (xs : List T) (i : ℕ) (x : T) (s m t : State) (u : Unit) (e : Refusal) (r : Result Unit Refusal) → (IsTrue w → IsTrue y) → IsErr r → e ≡ err_or e r →
+pub rightly_indexed : {T : Type 0} (w y : Bool) (p : T → Showing) (xs : List T) (i : ℕ) (x : T) (s m t : State) (u : Unit) {e : Refusal} {r : Result Unit Refusal} → (IsTrue w → IsTrue y) → r ≡ Err e →
     Runs (each_shows p (take i xs)) s (Ok u) m → RunsRightly y (p x) m (Err e) t → i < length xs → x ≡ get_or xs i x → RunsRightly w (each_shows p xs) s r t
-rightly_indexed w y p xs i x s m t u e (Ok v) only h j g k l is = absurd (false≢true h)
-rightly_indexed w y p xs i x s m t u e (Err z) only h j g k l is =
-    let k' : RunsRightly y (p x) m (Err z) t = rw j at k in
-    rw (← around_item xs i x l is) (rightly_among w y p (take i xs) x (drop (i + 1) xs) s m t u z only g k')
+rightly_indexed w y p xs i x s m t u {e} only err g k l is =
+    rw (← around_item xs i x l is, err) (rightly_among w y p (take i xs) x (drop (i + 1) xs) s m t u e only g k)
 
 -- Where all roots are exact, so is the one with this index.
 pub one_of_exact : {T : Type 0} (q : T → Bool) (xs : List T) (i : ℕ) (x : T) → i < length xs → x ≡ get_or xs i x → IsTrue (list_all q xs) → IsTrue (q x)

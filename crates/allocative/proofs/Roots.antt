@@ -3,10 +3,10 @@ use Rattle.std.proofs.Common.{◌≡◌, ℕ, suc, ◌+◌, ◌<◌, inl, inr, L
 use Rattle.allocative.proofs.Common.{Refusal, Memory, Forest, Empty, followed_by, add_all, held, ShowsNoContent, Kind, OfGraph, OfHeld, State, Failed, Going, leave, plus, Takes, visitors, is_graph, begin, is_in_unique, left, nothing_held, Showing, Nothing, Both, each_shows, Shows, refused, hidden, forgotten, Leaves, Begins, Settles, Runs, Profile, IsProfileOf, IsHeldSum, MayRefuse, MayRefuseProfile, RefusesRightly, has_added, has_refused, RunsRightly, as_graph}
 use Rattle.allocative_graph.specs.Forest.{met_after, Fits, own, all}
 use Rattle.allocative_graph.specs.Sums.{sums_of}
-use Rattle.allocative_graph.specs.Meaning.{IsWhole, content_of}
+use Rattle.allocative_graph.specs.Meaning.{content_of}
 use Rattle.allocative_graph.specs.Graph.{Graph, graph, warnings, warned_paths, sum_of}
 use Rattle.allocative_graph.specs.Collector.{added as added_entries, IsClosed, IsAtRoot, no_entries}
-use Rattle.allocative_graph.specs.Visits.{added, Ends, IsProfile, IsGraphOf, IsSumOfTwo}
+use Rattle.allocative_graph.specs.Visits.{added, Ends, IsProfile, IsSumOfTwo}
 use Rattle.allocative_graph.proofs.Plus.{plus-nothing, plus-following, takes_nothing, takes_both, visitors-plus, visitors-leave, is_graph-plus, is_graph-leave, is_graph-begin}
 use Rattle.allocative.specs.SizeOf.{IsSizeOfUnique}
 use Rattle.allocative.proofs.Showing.{left_by, each_and_one}
@@ -19,24 +19,6 @@ visitors-begin : (b : Kind) → IsClosed b → visitors (begin b) ≡ 1
 visitors-begin (OfGraph c) h = ap suc h
 visitors-begin (OfHeld k) h = ap suc h
 
-abbrev IsClosedState : State → Type 0
-IsClosedState (Failed r) = ⊥
-IsClosedState (Going b) = IsClosed b
-
-abbrev IsGoing : State → Type 0
-IsGoing (Failed q) = ⊥
-IsGoing (Going b) = Unit {0}
-
-abbrev kind_or : Kind → State → Kind
-kind_or b (Failed r) = b
-kind_or b (Going c) = c
-
-failed_not_going : (b : Kind) (r : Refusal) → Failed r ≡ Going b → ⊥
-failed_not_going b r e = subst IsGoing (sym e) tt
-
-same_kind : (b c : Kind) → Going b ≡ Going c → b ≡ c
-same_kind b c e = ap (kind_or b) e
-
 -- The entries of a root visitor, and its end.
 out_of_begin : (b : Kind) (f : Forest) → IsAtRoot b → leave (is_in_unique b) (plus (begin b) f) ≡ plus b f
 out_of_begin (OfGraph c) f h = λ i. OfGraph (record c { sums = add_all c.sums (added_entries (sym h.0 i) f); met = met_after c.met f })
@@ -46,20 +28,8 @@ takes_begin : (b : Kind) (f : Forest) → Takes (begin b) f → Takes b f
 takes_begin (OfGraph c) f t = t
 takes_begin (OfHeld k) f t = t
 
-abbrev IsOkay : Result Unit Refusal → Type 0
-IsOkay (Ok u) = Unit {0}
-IsOkay (Err e) = ⊥
-
-abbrev cause_or : Refusal → Result Unit Refusal → Refusal
-cause_or x (Ok u) = x
-cause_or x (Err e) = e
-
-ok_not_err : (x : Refusal) (q r : Result Unit Refusal) → IsOkay q → q ≡ r → r ≡ Err x → ⊥
-ok_not_err x q r h e f = subst IsOkay (e ∙ f) h
-
 ended : (p : Showing) (b : Kind) (x : Refusal) (q : Result Unit Refusal) → IsClosed b → Settles (Failed x) q → Runs p (Going b) q (Failed x)
-ended p b x (Ok u) h k = absurd (ok_not_err x (Ok u) (Ok u) tt refl k)
-ended p b x (Err e) h k = (h, ap (cause_or x) k)
+ended p b x q h k = rw k (h, refl)
 
 closed_before : (b c : Kind) (f : Forest) → c ≡ plus b f → IsClosed c → IsClosed b
 closed_before b c f e h = sym (ap visitors e ∙ visitors-plus b f) ∙ h
@@ -76,8 +46,7 @@ run_going b e (Ok u) h here i (forgotten {c = c} j l) k =
 run_going b e (Err x) h here i (added {c = c} f p t g) k = (k.0, k.1, (λ n. absurd (n h)), is_graph-leave (is_in_unique b) c ∙ ap is_graph g ∙ is_graph-plus e f ∙ ap is_graph i ∙ is_graph-begin b)
 run_going b e (Ok u) h here i (added {c = c} f p t g) k =
     let t' : Takes (begin b) f = subst (λ (x : Kind). Takes x f) i t in
-    let g' : c ≡ plus (begin b) f = rw i at g in
-    (k, f, p, takes_begin b f t', ap (leave (is_in_unique b)) g' ∙ out_of_begin b f here)
+    (k, f, p, takes_begin b f t', cc (out_of_begin b f here))
 
 -- A root visitor that was opened, what was shown there, leaving, and the result are a run.
 pub run_shows : (s : State) (q : Result Unit Refusal) {p : Showing} {t a c d : State} {o w : Bool} {r : Result Unit Refusal} → Begins s (Ok o) t → a ≡ t → Shows p a r c → Leaves w c d → w ≡ o → Settles d q → Runs p s q d
@@ -90,17 +59,16 @@ run_shows (Going b) q {p} {c = c} {r = r} h i v l e k =
 
 pub run_refused : (p : Showing) (s : State) (e : Refusal) (t : State) → Begins s (Err e) t → Runs p s (Err e) t
 run_refused p (Failed r) e t (h, i) = (ap Err h, i)
-run_refused p (Going b) e (Failed r) (h, n, i) = absurd (failed_not_going b r i)
-run_refused p (Going b) e (Going c) (h, n, i) = (h, subst (λ (x : State). IsClosedState x → ⊥) (sym i) n, (λ m. same_kind c b i), ap is_graph (same_kind c b i))
+run_refused p (Going b) e (Failed r) (h, n, i) = absurd (cc)
+run_refused p (Going b) e (Going c) (h, n, i) = let j : c ≡ b = cc in (h, rw j n, (λ m. j), ap is_graph j)
 
 -- An exact visit that was opened by a root visitor leaves its collector closed, or failed with what it returned.
 rightly_going : {p : Showing} (b e : Kind) {c : State} {r : Result Unit Refusal} (q : Refusal) → IsClosed b → IsAtRoot b → e ≡ begin b → RefusesRightly p (Going e) r c → Settles (left (is_in_unique b) c) (Err q) → (left (is_in_unique b) c ≡ Failed q) × MayRefuse p (begin b) q
 rightly_going {p} b e q h here i (has_added {c = c} f x t g) k =
-    let g' : c ≡ plus (begin b) f = rw i at g in
-    let same : leave (is_in_unique b) c ≡ plus b f = ap (leave (is_in_unique b)) g' ∙ out_of_begin b f here in
+    let same : leave (is_in_unique b) c ≡ plus b f = cc (out_of_begin b f here) in
     absurd (k.1 (ap visitors same ∙ visitors-plus b f ∙ h))
 rightly_going {p} b e q h here i (has_refused {e = y} m) k =
-    let is : q ≡ y = ap (cause_or q) k in
+    let is : q ≡ y = cc in
     (ap Failed (sym is), subst (MayRefuse p (begin b)) (sym is) (subst (λ (z : Kind). MayRefuse p z y) i m))
 
 -- A root visitor that was opened, an exact visit there, leaving, and the result refuse only where they must.
@@ -135,10 +103,10 @@ run_rightly_as_graph x p (Going (OfHeld k)) r t h = tt
 
 -- The sum of a run of held bytes.
 pub held_by_run : (p : Showing) (s t : State) (u : Unit) (n : ℕ) → s ≡ Going (OfHeld nothing_held) → Runs p s (Ok u) t → IsHeldSum t n → (f : Forest) × p f × ShowsNoContent f × (n ≡ held f)
-held_by_run p (Failed r) t u n e h k = absurd (failed_not_going _ r e)
+held_by_run p (Failed r) t u n e h k = absurd (cc)
 held_by_run p (Going b) (Failed r) u n e h k = absurd h
 held_by_run p (Going b) (Going c) u n e (z, f, a, t, g) k =
-    let i : b ≡ OfHeld nothing_held = same_kind b _ e in
+    let i : b ≡ OfHeld nothing_held = cc in
     let t' : Takes (OfHeld nothing_held) f = subst (λ (x : Kind). Takes x f) i t in
     let g' : c ≡ plus (OfHeld nothing_held) f = rw i at g in
     let k' : n ≡ 0 + (held f + 0) = subst (λ (x : Kind). IsHeldSum (Going x) n) g' k in
@@ -152,7 +120,7 @@ sized_by_run {mine = mine} n p s t u d e h k i =
 
 -- ---- one root after another
 pub runs_nothing : (s : State) (u : Unit) → Settles s (Ok u) → Runs Nothing s (Ok u) s
-runs_nothing (Failed r) u h = absurd (ok_not_err r (Ok u) (Ok u) tt refl h)
+runs_nothing (Failed r) u h = absurd (cc)
 runs_nothing (Going b) u h = (h, Empty, refl, takes_nothing b, sym (plus-nothing b))
 
 pub runs_weaker : (p q : Showing) (s : State) (r : Result Unit Refusal) (t : State) → ((f : Forest) → p f → q f) → Runs p s r t → Runs q s r t
@@ -163,15 +131,14 @@ runs_weaker p q (Going b) (Err e) (Failed r) up h = h
 runs_weaker p q (Going b) (Err e) (Going c) up h = h
 
 pub runs_both : (p q : Showing) (s m t : State) (u : Unit) (r : Result Unit Refusal) → Runs p s (Ok u) m → Runs q m r t → Runs (Both p q) s r t
-runs_both p q (Failed x) m t u r g h = absurd (ok_not_err x (Ok u) (Ok u) tt refl g.0)
+runs_both p q (Failed x) m t u r g h = absurd (cc)
 runs_both p q (Going b) (Failed x) t u r g h = absurd g
 runs_both p q (Going b) (Going c) (Failed x) u (Ok v) g h = h
 runs_both p q (Going b) (Going c) (Failed x) u (Err e) (z, f, a, t, k) h = (closed_before b c f k z, h.1)
 runs_both p q (Going b) (Going c) (Going d) u (Err e) (z, f, a, t, k) h = (h.0, h.1, (λ n. absurd (n (closed_before b c f k z))), h.3 ∙ ap is_graph k ∙ is_graph-plus b f)
 runs_both p q (Going b) (Going c) (Going d) u (Ok v) (z, f, a, t, k) (y, g, b', t', k') =
     let taken : Takes (plus b f) g = subst (λ (x : Kind). Takes x g) k t' in
-    let is : d ≡ plus (plus b f) g = rw k at k' in
-    (y, followed_by f g, (f, g, a, b', refl), takes_both b f g t taken, is ∙ sym (plus-following b f g))
+    (y, followed_by f g, (f, g, a, b', refl), takes_both b f g t taken, cc (plus-following b f g))
 
 -- One step of a loop runs one more root, and a root that is refused ends it.
 pub runs_one_more : {T : Type 0} (p : T → Showing) (xs : List T) (i : ℕ) (x : T) (s m t : State) (u v w : Unit) →
@@ -181,7 +148,7 @@ runs_one_more p xs i x s m t u v w f g h e =
     rw (e', ← e) (runs_weaker _ _ s (Ok w) t (each_and_one p (take i xs) x) (runs_both (each_shows p (take i xs)) (p x) s m t u (Ok w) f g))
 
 pub runs_err : (p q r : Showing) (s m t : State) (u : Unit) (e x : Refusal) → Runs p s (Ok u) m → Runs q m (Err e) t → x ≡ e → Runs r s (Err x) t
-runs_err p q r (Failed y) m t u e x g h i = absurd (ok_not_err y (Ok u) (Ok u) tt refl g.0)
+runs_err p q r (Failed y) m t u e x g h i = absurd (cc)
 runs_err p q r (Going b) (Failed y) t u e x g h i = absurd g
 runs_err p q r (Going b) (Going c) (Failed y) u e x (z, f, a, t, k) h i = (closed_before b c f k z, i ∙ h.1)
 runs_err p q r (Going b) (Going c) (Going d) u e x (z, f, a, t, k) h i = (i ∙ h.0, h.1, (λ n. absurd (n (closed_before b c f k z))), h.3 ∙ ap is_graph k ∙ is_graph-plus b f)
@@ -192,8 +159,14 @@ runs_unsettled p (Failed r) e h = (h, refl)
 runs_unsettled p (Going b) e h = (h.0, h.1, (λ n. refl), refl)
 
 -- ---- a whole run
-profile_by_sums : (p : Showing) (o : Profile) (f : Forest) → p f → IsWhole f → o.graph ≡ graph (sums_of (all f)) → o.warnings ≡ warnings (sums_of (all f)) → o.warned ≡ warned_paths (sums_of (all f)) → IsProfileOf p o
-profile_by_sums p o f a w g k h =
+pub profile_by_run : (p : Showing) (s t : State) (u : Unit) (o : Profile) → s ≡ Going (OfGraph no_entries) → Runs p s (Ok u) t → Ends IsProfile t (Ok o) → IsProfileOf p o
+profile_by_run p (Failed r) t u o e h k = absurd (cc)
+profile_by_run p (Going b) (Failed r) u o e h k = absurd h
+profile_by_run p (Going b) (Going c) u o e (z, f, a, t, g) k =
+    let i : b ≡ OfGraph no_entries = cc in
+    let w : Fits no_entries.met f = subst (λ (x : Kind). Takes x f) i t in
+    let g' : c ≡ plus (OfGraph no_entries) f = rw i at g in
+    let k' : Ends IsProfile (Going (plus (OfGraph no_entries) f)) (Ok o) = subst (λ (x : Kind). Ends IsProfile (Going x) (Ok o)) g' k in
     let is = all_is_meaning f w in
     record {
       shown = f;
@@ -201,31 +174,18 @@ profile_by_sums p o f a w g k h =
       whole = w;
       reaches = reaches_exactly f w;
       meaning = is;
-      graph_is = λ m im. g ∙ ap graph (one_sums (own f) (content_of f) (all f) m is im);
-      warnings_are = λ m im. k ∙ ap warnings (one_sums (own f) (content_of f) (all f) m is im);
-      warned_are = λ m im. h ∙ ap warned_paths (one_sums (own f) (content_of f) (all f) m is im);
+      graph_is = λ m im. k'.1.0 ∙ ap graph (one_sums (own f) (content_of f) (all f) m is im);
+      warnings_are = λ m im. k'.1.1 ∙ ap warnings (one_sums (own f) (content_of f) (all f) m is im);
+      warned_are = λ m im. k'.1.2 ∙ ap warned_paths (one_sums (own f) (content_of f) (all f) m is im);
     }
-
-pub profile_by_run : (p : Showing) (s t : State) (u : Unit) (o : Profile) → s ≡ Going (OfGraph no_entries) → Runs p s (Ok u) t → Ends IsProfile t (Ok o) → IsProfileOf p o
-profile_by_run p (Failed r) t u o e h k = absurd (failed_not_going _ r e)
-profile_by_run p (Going b) (Failed r) u o e h k = absurd h
-profile_by_run p (Going b) (Going c) u o e (z, f, a, t, g) k =
-    let i : b ≡ OfGraph no_entries = same_kind b _ e in
-    let t' : Fits no_entries.met f = subst (λ (x : Kind). Takes x f) i t in
-    let g' : c ≡ plus (OfGraph no_entries) f = rw i at g in
-    let k' : Ends IsProfile (Going (plus (OfGraph no_entries) f)) (Ok o) = subst (λ (x : Kind). Ends IsProfile (Going x) (Ok o)) g' k in
-    profile_by_sums p o f a t' k'.1.0 k'.1.1 k'.1.2
 
 pub profile_ended : (p : Showing) (s t : State) (u : Unit) (r : Result Profile Refusal) → s ≡ Going (OfGraph no_entries) → Runs p s (Ok u) t → Ends IsProfile t r → IfOk r (IsProfileOf p)
 profile_ended p s t u (Ok o) e h k = profile_by_run p s t u o e h k
 profile_ended p s t u (Err e) i h k = tt
 
-graph_of_profile : (p : Showing) (o : Profile) (g : Graph) → IsProfileOf p o → g ≡ o.graph → IsGraphOf p g
-graph_of_profile p o g h e = record { shown = h.shown; allowed = h.allowed; whole = h.whole; is = e ∙ h.graph_is (all h.shown) h.meaning }
-
-sum_of_two : (p q : Showing) (g h m : Graph) → IsGraphOf p g → IsGraphOf q h → m ≡ sum_of g h → IsSumOfTwo p q m
-sum_of_two p q g h m a b e =
-    let is : m ≡ sum_of (graph (sums_of (all a.shown))) (graph (sums_of (all b.shown))) = e ∙ (λ i. sum_of (a.is i) (b.is i)) in
+pub sum_of_profiles : (p q : Showing) (o o' : Profile) (m : Graph) → IsProfileOf p o → IsProfileOf q o' → m ≡ sum_of o.graph o'.graph → IsSumOfTwo p q m
+sum_of_profiles p q o o' m a b e =
+    let is : m ≡ sum_of (graph (sums_of (all a.shown))) (graph (sums_of (all b.shown))) = e ∙ (λ i. sum_of (a.graph_is (all a.shown) a.meaning i) (b.graph_is (all b.shown) b.meaning i)) in
     record {
       left = a.shown;
       right = b.shown;
@@ -236,9 +196,6 @@ sum_of_two p q g h m a b e =
       is = is;
       is_one = λ apart can. (whole_following a.shown b.shown a.whole b.whole apart, is ∙ graphs_add a.shown b.shown can);
     }
-
-pub sum_of_profiles : (p q : Showing) (o o' : Profile) (m : Graph) → IsProfileOf p o → IsProfileOf q o' → m ≡ sum_of o.graph o'.graph → IsSumOfTwo p q m
-sum_of_profiles p q o o' m h k e = sum_of_two p q o.graph o'.graph m (graph_of_profile p o o.graph h refl) (graph_of_profile q o' o'.graph k refl) e
 
 -- ---- why the profile of an exact value is refused
 pub profile_not_begun : (x : Bool) (p : Showing) (e : Refusal) → e ≡ Memory → MayRefuseProfile x p e

@@ -1,5 +1,5 @@
 -- How a loop over an iterator shows one more item, and what a whole run of it shows.
-use Rattle.std.proofs.Common.{Bool, false, true, ℕ, zero, suc, ◌+◌, ◌*◌, ◌<◌, ◌^◌, length, filter_map, cond, count_by, is_some, arith, ◌⊎◌, inl, inr, List, [], ◌∷◌, ◌++◌, map, ◌≡◌, Option, None, Some, Result, Ok, Err, IsErr, refl, sym, ◌∙◌, ap, subst}
+use Rattle.std.proofs.Common.{Bool, false, true, ℕ, zero, suc, ◌+◌, ◌*◌, ◌<◌, ◌^◌, length, filter_map, cond, count_by, is_some, arith, ◌⊎◌, inl, inr, List, [], ◌∷◌, ◌++◌, map, ◌≡◌, Option, None, Some, Result, Ok, Err, refl, sym, ◌∙◌, ap, subst}
 use Rattle.allocative.proofs.Common.{Yields, values, Refusal, Key, Forest, Kind, State, left, Showing, Nothing, Both, InsideAs, Inside, Field, each_shows, slice_shows, Enters, checked, size_product, are_shown_each, bytes_shown, CountsRun, in_any_order, Visitor, IsDeclared, CanTake, RefusesRightly, with_state, Entered, Means}
 use Rattle.std.proofs.lemmas.List.{map-append, length-map}
 use Rattle.std.proofs.lemmas.List.Sums.{sum_by-cons}
@@ -12,10 +12,9 @@ use Rattle.std.specs.Iterator.{Drains, AlwaysYields}
 use Rattle.std.specs.List.{All}
 use Rattle.slab.specs.Slab.{Slab, entries_from, entries}
 use Rattle.allocative.specs.Runs.{RefusesAlong, RefusesCounted, CanCount, IsOfRun, value_shows}
-use Rattle.allocative.proofs.Meaning.{entered_if, entered_as, entered_snoc, exact_never}
-use Rattle.allocative.proofs.Closures.{err_or}
+use Rattle.allocative.proofs.Meaning.{entered_if, entered_as, exact_never}
 use Rattle.allocative.proofs.Exact.{declared_nothing, declared_first, declared_second, declared_both, entry_fits, rightly_as, rightly_weaker, rightly_within}
-use Rattle.allocative.proofs.Within.{item_refused}
+use Rattle.allocative.proofs.Within.{item_refused, entered_snoc}
 use Rattle.allocative.proofs.Bodies.{plain_slice, each_slice, each_declared, entry_declared, checked_fits, none_of_it}
 use Rattle.allocative.proofs.Showing.{shows_weaker}
 
@@ -61,11 +60,11 @@ begins steps v s t (w ∷ xs) (z ∷ zs) h g y =
     let more = begins steps v h.0 t xs zs h.2 g next.1 in
     (more.0, (λ i. next.0 i ∷ more.1 i))
 
-pub along_refused : {S A B : Type 0} {d : Bool} (steps : S → Option A → S → Type 0) {s u : S} (t : S) (v : A → B) (p : B → Showing) {x : A} (xs : List A) {a b c : Visitor} {w : Unit {0}} {e : Refusal} (r : Result (Unit {0}) Refusal) → IsErr r → e ≡ err_or e r →
+pub along_refused : {S A B : Type 0} {d : Bool} (steps : S → Option A → S → Type 0) {s u : S} (t : S) (v : A → B) (p : B → Showing) {x : A} (xs : List A) {a b c : Visitor} {w : Unit {0}} {e : Refusal} {r : Result (Unit {0}) Refusal} → r ≡ Err e →
     Yields steps s xs t → steps t (Some x) u → Entered d (each_shows p (map v xs)) a b (Ok w) → Entered d (p (v x)) b c (Err e) → RefusesAlong d steps s v (each_shows p) a c r
-along_refused steps {s = s} t v p {x = x} xs r h i g n f z = along_all (λ ys y.
+along_refused steps {s = s} t v p {x = x} xs is g n f z = along_all (λ ys y.
     let split = begins steps v s t xs ys g n y in
-    item_refused p (map v xs) (v x) split.0 r h i f z split.1)
+    item_refused p (map v xs) (v x) split.0 is f z split.1)
 
 -- What is entered inside an entry.
 pub along_within : {S A B : Type 0} {u e : Bool} {steps : S → Option A → S → Type 0} {s : S} {v : A → B} {q : List B → Showing} {k : Key} {n : ℕ} {o : Bool} {a b : Visitor} {t d : State} {r : Result (Unit {0}) Refusal} →
@@ -183,11 +182,5 @@ entered_slab p slab y h k =
 
 pub values_count : {T : Type 0} (slots : List (Option T)) → length (filter_map (λ slot. slot) slots) ≡ count_by is_some slots
 values_count [] = refl
-values_count (None ∷ rest) =
-    let e = values_count rest in
-    let s = sum_by-cons (λ slot. cond (is_some slot) 1 0) None rest in
-    omega (arith, e, s)
-values_count (Some x ∷ rest) =
-    let e = values_count rest in
-    let s = sum_by-cons (λ slot. cond (is_some slot) 1 0) (Some x) rest in
-    omega (arith, e, s)
+values_count (None ∷ rest) = omega (arith, values_count rest, sum_by-cons (λ slot. cond (is_some slot) 1 0) None rest)
+values_count (Some x ∷ rest) = omega (arith, values_count rest, sum_by-cons (λ slot. cond (is_some slot) 1 0) (Some x) rest)

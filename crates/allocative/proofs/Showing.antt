@@ -1,12 +1,12 @@
 -- How visits compose: one after another, and inside an entry. The rulesets are for implementations.
 use Rattle.std.proofs.Common.{Bool, true, false, inl, inr, Option, Some, ◌≡◌, ℕ, suc, List, [], ◌∷◌, ◌++◌, Result, Ok, Err, refl, sym, ◌∙◌, IsErr, ap, subst, arith}
-use Rattle.allocative.proofs.Common.{Refusal, Key, Identity, Forest, Empty, First, Again, followed_by, entry_of, Live, Kind, OfGraph, State, Failed, Going, enter, enter_first, leave, plus, Takes, is_graph, visitors, is_in_unique, failed_with, left, Showing, Nothing, Both, InsideAs, Inside, InsideUnique, Field, sized, SharedWith, each_shows, Shows, already, refused, hidden, forgotten, HasFailed, Enters, stays_failed, is_refused, is_entered, EntersSized, stays_unsized, is_unsized, is_sized, EntersShared, stays_shared, is_refused_shared, goes_past, enters_first, enters_again, Answers, Leaves, leaves_failed, leaves_going, EntersFirst, first_refused, KeepsCause, Plan, Done, Makes, made_none, made, entry_refused, inside_refused}
+use Rattle.allocative.proofs.Common.{Refusal, Key, Identity, Forest, Empty, First, Again, followed_by, entry_of, Live, Kind, OfGraph, State, Failed, Going, enter, enter_first, plus, Takes, is_graph, visitors, is_in_unique, failed_with, left, Showing, Nothing, Both, InsideAs, Inside, InsideUnique, Field, sized, SharedWith, each_shows, Shows, already, refused, hidden, forgotten, HasFailed, Enters, stays_failed, is_refused, is_entered, EntersSized, stays_unsized, is_unsized, is_sized, EntersShared, stays_shared, is_refused_shared, goes_past, enters_first, enters_again, Answers, Leaves, leaves_failed, leaves_going, EntersFirst, first_refused, KeepsCause, Plan, Done, Makes, made_none, made, entry_refused, inside_refused}
 use Rattle.std.proofs.lemmas.Bool.{false≢true}
 use Rattle.std.specs.FinSet.{contains}
 use Rattle.allocative_graph.specs.Visits.{added}
 use Rattle.allocative.specs.Making.{first_entered, keeps_failed, keeps_going, had_failed}
 use Rattle.allocative_graph.proofs.Plus.{plus-nothing, plus-following, takes_nothing, takes_both, inside_entry, takes_entry, inside_first, takes_shared, held_again, visitors-plus, visitors-enter, visitors-leave, is_graph-plus, is_graph-enter, is_graph-leave}
-use Rattle.allocative.proofs.Exact.{inexact, followed_by-empty, followed_by_assoc}
+use Rattle.allocative.proofs.Exact.{inexact, each_append, each_one}
 use Rattle.allocative.proofs.Steps.{leaves_by_left}
 
 -- ---- one after another
@@ -40,8 +40,7 @@ shows_both (added f p t e) hidden = hidden
 shows_both (added f p t e) (forgotten j k) = let d = same_visitors _ _ f e in forgotten (j ∙ same_graph _ _ f e) (omega (arith, d))
 shows_both (added {b = b} f p t e) (added {c = c} g q s k) =
     let s' : Takes (plus b f) g = subst (λ (x : Kind). Takes x g) e s in
-    let k' : c ≡ plus (plus b f) g = rw e at k in
-    added (followed_by f g) (f, g, p, q, refl) (takes_both b f g t s') (k' ∙ sym (plus-following b f g))
+    added (followed_by f g) (f, g, p, q, refl) (takes_both b f g t s') (cc (plus-following b f g))
 
 -- After an Err nothing more is stated.
 pub shows_err : {p q : Showing} {a b : State} {e : Refusal} → Shows p a (Err e) b → Shows q a (Err e) b
@@ -66,8 +65,7 @@ out_of u k n b d i w (forgotten {c = c} j h) =
     forgotten (is_graph-leave (is_in_unique b) c ∙ j ∙ ap is_graph i ∙ is_graph-enter u k n b) (omega (arith, e, g, h))
 out_of u k n b d i w (added {c = c} f q t e) =
     let t' : Takes (enter u k n b) f = subst (λ (x : Kind). Takes x f) i t in
-    let e' : c ≡ plus (enter u k n b) f = rw i at e in
-    added (entry_of u k n f) (f, q, refl) (takes_entry u k n b f t') (ap (leave (is_in_unique b)) e' ∙ inside_entry u k n b f)
+    added (entry_of u k n f) (f, q, refl) (takes_entry u k n b f t') (cc (inside_entry u k n b f))
 
 -- An entry shows what is shown inside it, from the entering, the visit and the leaving, where the flag that leaving
 -- restores is the one that entering returned.
@@ -112,8 +110,7 @@ out_of_first k n i b d h e o w (forgotten {c = c} j m) =
     forgotten (is_graph-leave o c ∙ j) (omega (arith, f, g, m))
 out_of_first k n i b d h e o w (added {c = c} f q t m) =
     let t' : Takes (OfGraph (enter_first k n i b)) f = subst (λ (x : Live). Takes (OfGraph x) f) e t in
-    let m' : c ≡ plus (OfGraph (enter_first k n i b)) f = rw e at m in
-    added (First k n i f Empty) (inl (f, q, refl)) (takes_shared k n i b f h t') (ap (leave o) m' ∙ inside_first k n i b f o)
+    added (First k n i f Empty) (inl (f, q, refl)) (takes_shared k n i b f h t') (cc (inside_first k n i b f o))
 
 pub shared_shows : {p : Showing} {k : Key} {n : ℕ} {i : Identity} {q : Bool} {s t a c d : State} {v x : Unit} →
     EntersShared k n i s (Ok true) t → a ≡ t → Shows p a (Ok v) c → Leaves q c d → Shows (SharedWith k n i p) s (Ok x) d
@@ -205,12 +202,6 @@ answers_err stays_failed = refl
 answers_err (is_refused r) = r
 
 -- A call that makes an entry of its own first.
-pub goes_in_refused : {k : Key} {size : Option ℕ} {s t : State} {e : Refusal} → EntersSized k size s (Err e) t → EntersFirst k size s (Err e) t
-goes_in_refused g = first_refused g
-
-pub goes_in : {k : Key} {size : Option ℕ} {s w t : State} {o : Bool} {r : Result Unit Refusal} → EntersSized k size s (Ok o) w → EntersFirst k size s r t
-goes_in g = first_entered g
-
 pub goes_in_plain_refused : {k : Key} {n : ℕ} {s t : State} {e : Refusal} → Enters false k n s (Err e) t → EntersFirst k (Some n) s (Err e) t
 goes_in_plain_refused g = first_refused (is_sized g)
 
@@ -242,13 +233,7 @@ kept_after made_none = keeps_going
 
 -- ---- loops
 pub each_and_one : {T : Type 0} (p : T → Showing) (xs : List T) (x : T) (f : Forest) → Both (each_shows p xs) (p x) f → each_shows p (xs ++ x ∷ []) f
-each_and_one p [] x f (g, h, none, here, e) = (h, Empty, here, refl, e ∙ (rw none (sym (followed_by-empty h))))
-each_and_one p (y ∷ ys) x f (g, h, (g1, g2, p1, rest, e1), here, e) =
-    (g1, followed_by g2 h, p1, each_and_one p ys x (followed_by g2 h) (g2, h, rest, here, refl), e ∙ (rw e1 (followed_by_assoc g1 g2 h)))
-
-pub shows_snoc : {T : Type 0} (p : T → Showing) (xs : List T) (x : T) {a b c : State} {u v w : Unit} →
-    Shows (each_shows p xs) a (Ok u) b → Shows (p x) b (Ok v) c → Shows (each_shows p (xs ++ x ∷ [])) a (Ok w) c
-shows_snoc p xs x f s = shows_weaker (each_and_one p xs x) (shows_both f s)
+each_and_one p xs x f (g, h, all, here, e) = each_append p xs (x ∷ []) f (g, h, all, each_one p x h here, e)
 
 -- The rules for implementations.
-pub ruleset showing = (left_cause, leaves_by_left, shows_nothing, shows_both, shows_both_err, shows_err, inline_shows, unique_shows, field_shows, inline_alone, unique_alone, field_alone, shared_shows, content_shows, again_shows, entry_err, field_err, shared_err, not_entered, not_sized, not_shared, not_entered_cause, not_sized_cause, shows_refused, shows_refused_err, shows_hidden, shows_forgotten, answers_err, goes_in_refused, goes_in, goes_in_plain_refused, goes_in_plain, refused_as, makes_keeps, kept_after, inexact)
+pub ruleset showing = (left_cause, leaves_by_left, shows_nothing, shows_both, shows_both_err, shows_err, inline_shows, unique_shows, field_shows, inline_alone, unique_alone, field_alone, shared_shows, content_shows, again_shows, entry_err, field_err, shared_err, not_entered, not_sized, not_shared, not_entered_cause, not_sized_cause, shows_refused, shows_refused_err, shows_hidden, shows_forgotten, answers_err, first_refused, first_entered, goes_in_plain_refused, goes_in_plain, refused_as, makes_keeps, kept_after, inexact)

@@ -1,5 +1,5 @@
 -- The collector's own steps as the relations of visits, whose arguments are found by search.
-use Rattle.std.proofs.Common.{◌≡◌, ℕ, Bool, true, false, None, Some, Result, Ok, Err, refl, sym, subst, ap}
+use Rattle.std.proofs.Common.{◌≡◌, ℕ, Bool, true, false, None, Some, Result, Ok, Err, refl}
 use Rattle.allocative.proofs.Common.{Refusal, TooLarge, Key, Identity, Kind, OfGraph, OfHeld, State, Failed, Going, failed_with, left, HasFailed, Enters, stays_failed, is_refused, is_entered, EntersSized, stays_unsized, is_unsized, is_sized, EntersShared, stays_shared, is_refused_shared, goes_past, enters_first, enters_again, Leaves, leaves_failed, leaves_going, StepsInShared, one, Makes, made_none, made, entry_refused}
 use Rattle.allocative.specs.Steps.{StepsIn, StepsSimple}
 use Rattle.allocative.specs.Making.{had_failed}
@@ -16,26 +16,12 @@ shared_by_step k n i (Going (OfGraph c)) (Ok true) t (r, d, (h, e), f) = rw f (e
 shared_by_step k n i (Going (OfGraph c)) (Ok false) t (r, d, (h, e), f) = rw f (enters_again r h e)
 shared_by_step k n i (Going (OfGraph c)) (Err e) t (r, f) = rw f (is_refused_shared r)
 
-abbrev cause_or : Refusal → State → Refusal
-cause_or r (Failed q) = q
-cause_or r (Going b) = r
-
-abbrev IsGoing : State → Type 0
-IsGoing (Failed q) = ⊥
-IsGoing (Going b) = Unit {0}
-
-same_cause : (p q : Refusal) → Failed p ≡ Failed q → p ≡ q
-same_cause p q e = ap (cause_or p) e
-
-going_not_failed : (b : Kind) (q : Refusal) → Going b ≡ Failed q → ⊥
-going_not_failed b q e = subst IsGoing e tt
-
 -- An entry without a declared size is TooLarge.
 pub unsized_by_refusal : (k : Key) (s : State) (e : Refusal) (t : State) → t ≡ failed_with TooLarge s → HasFailed t e → EntersSized k None s (Err e) t
-unsized_by_refusal k (Failed q) e (Failed p) h i = rw (sym (same_cause p e i), same_cause p q h) stays_unsized
-unsized_by_refusal k (Going b) e (Failed p) h i = rw (sym (same_cause p e i)) (is_unsized (same_cause p TooLarge h))
-unsized_by_refusal k (Failed q) e (Going b) h i = absurd (going_not_failed b q h)
-unsized_by_refusal k (Going c) e (Going b) h i = absurd (going_not_failed b TooLarge h)
+unsized_by_refusal k (Failed q) e (Failed p) h i = let j : e ≡ p = cc in let l : p ≡ q = cc in rw (j, l) stays_unsized
+unsized_by_refusal k (Going b) e (Failed p) h i = let j : e ≡ p = cc in rw j (is_unsized {e = p} (cc))
+unsized_by_refusal k (Failed q) e (Going b) h i = absurd (cc)
+unsized_by_refusal k (Going c) e (Going b) h i = absurd (cc)
 
 -- An entry with nothing inside it.
 pub made_by_step : (k : Key) (n : ℕ) (s : State) (r : Result Unit Refusal) (t : State) → StepsSimple k n s r t → Makes (one k (Some n)) s r t

@@ -1,15 +1,15 @@
 -- One entry with what is inside it: the collector enters it, the same visitor enters what is inside, and the collector
 -- steps back.
-use Rattle.std.proofs.Common.{◌≡◌, ℕ, ◌+◌, ◌<◌, Bool, true, false, List, ◌∷◌, ◌++◌, take, drop, length, get_or, Option, Some, Result, Ok, Err, IsErr, IfErr, refl, sym, ◌∙◌, ap, subst, take-append-drop}
-use Rattle.allocative.proofs.Common.{Refusal, Key, Identity, State, Failed, Going, left, Showing, Nothing, Both, InsideAs, Inside, Field, sized, SharedWith, each_shows, Shows, already, HasFailed, Enters, EntersSized, is_sized, EntersShared, Leaves, leaves_going, Plan, Done, Entry, Makes, made_none, made, entry_refused, inside_refused, KeepsCause, EntersFirst, first_refused, MakesOrGives, makes, gives, one, Visitor, with_state, RefusesRightly, Entered, OnlyIf}
+use Rattle.std.proofs.Common.{[], ◌≡◌, ℕ, ◌+◌, ◌<◌, Bool, true, false, List, ◌∷◌, ◌++◌, take, drop, length, get_or, Option, Some, Result, Ok, Err, IfErr, refl, sym, ◌∙◌, ap, subst, take-append-drop}
+use Rattle.allocative.proofs.Common.{Refusal, Key, Identity, State, Failed, Going, left, Showing, Nothing, Both, InsideAs, Inside, Field, sized, SharedWith, each_shows, Shows, already, HasFailed, Enters, EntersSized, is_sized, EntersShared, Leaves, leaves_going, Plan, Done, Entry, Makes, made_none, made, entry_refused, inside_refused, KeepsCause, EntersFirst, first_refused, MakesOrGives, makes, gives, one, Visitor, with_state, RefusesRightly, Entered, Means, OnlyIf}
 use Rattle.std.proofs.lemmas.Bool.{false≢true}
 use Rattle.std.proofs.lemmas.List.{drop_more}
 use Rattle.allocative.specs.Making.{had_failed}
 use Rattle.allocative.specs.Exact as refuses
-use Rattle.allocative.proofs.Closures.{err_or}
+pub use Rattle.allocative.proofs.Closures.{same_err}
 use Rattle.allocative.proofs.Making.{goes_on, nothing_inside, makes_entry, makes_failed, failed_left}
-use Rattle.allocative.proofs.Exact.{rightly_within, rightly_not_within, rightly_not_sized, rightly_first, rightly_both, rightly_item, in_sized, rightly_content, rightly_not_shared, rightly_again, inexact}
-use Rattle.allocative.proofs.Meaning.{entered_as, entered_none, means_same}
+use Rattle.allocative.proofs.Exact.{rightly_within, rightly_not_within, rightly_not_sized, rightly_first, rightly_both, each_append, declared_append, declared_first, each_one, in_sized, rightly_content, rightly_not_shared, rightly_again, inexact}
+use Rattle.allocative.proofs.Meaning.{exact_same, entered_as, entered_none, means_same}
 use Rattle.allocative.proofs.Showing.{shows_both, shows_both_err, shows_err, makes_keeps, entry_shows, entry_err, left_cause, left_by, not_shared, again_shows, not_entered, not_entered_cause, not_sized, not_sized_cause}
 use Rattle.allocative.proofs.Steps.{leaves_by_left}
 
@@ -41,37 +41,29 @@ entered_within_sized (is_sized g) h e = entered_as (entered_within g h e) (recor
 stays_in : {k : Key} {size : Option ℕ} {s : State} {o : Bool} {r : Refusal} → EntersSized k size s (Ok o) (Failed r) → ⊥
 stays_in g = false≢true (goes_on (nothing_inside tt g))
 
-pub entered_alone : {x : Bool} {k : Key} {n : ℕ} {a : Visitor} {t : State} {r : Result Unit Refusal} → Makes (one k (Some n)) a.collector.now r t → Entered x (Inside k n Nothing) a (with_state a t) r
-entered_alone had_failed = record { same_reference = refl; same_outer = refl; shown = already; cause = refl; rightly = λ y. refuses.had_failed }
-entered_alone {a = a} (made (is_sized g) (made_none {b = b}) (leaves_going e) made_none) = entered_within g (entered_none (with_state a (Going b)) means_same) (ap Going e)
-entered_alone (entry_refused (is_sized g)) = record { same_reference = refl; same_outer = refl; shown = not_entered g; cause = not_entered_cause g; rightly = λ y. rightly_not_within g }
-entered_alone (inside_refused g had_failed) = absurd (stays_in g)
-
 pub entered_alone_sized : {x : Bool} {k : Key} {size : Option ℕ} {a : Visitor} {t : State} {r : Result Unit Refusal} → Makes (one k size) a.collector.now r t → Entered x (Field k size Nothing) a (with_state a t) r
 entered_alone_sized had_failed = record { same_reference = refl; same_outer = refl; shown = already; cause = refl; rightly = λ y. refuses.had_failed }
 entered_alone_sized {a = a} (made g (made_none {b = b}) (leaves_going e) made_none) = entered_within_sized g (entered_none (with_state a (Going b)) means_same) (ap Going e)
 entered_alone_sized (entry_refused g) = record { same_reference = refl; same_outer = refl; shown = not_sized g; cause = not_sized_cause g; rightly = λ y. rightly_not_sized g }
 entered_alone_sized (inside_refused g had_failed) = absurd (stays_in g)
 
--- An entry that is refused.
-pub not_within : {u x : Bool} {p : Showing} {k : Key} {n : ℕ} {a : Visitor} {t : State} {e : Refusal} (r : Result Unit Refusal) → IsErr r → e ≡ err_or e r → Enters u k n a.collector.now (Err e) t →
-    Entered x (InsideAs u k n p) a (with_state a t) r
-not_within (Ok v) h i g = absurd (false≢true h)
-not_within {u = u} {k = k} {n = n} {a = a} {t = t} (Err x) h i g =
-    let j : Enters u k n a.collector.now (Err x) t = rw i at g in
-    record { same_reference = refl; same_outer = refl; shown = not_entered j; cause = not_entered_cause j; rightly = λ y. rightly_not_within j }
+pub entered_alone : {x : Bool} {k : Key} {n : ℕ} {a : Visitor} {t : State} {r : Result Unit Refusal} → Makes (one k (Some n)) a.collector.now r t → Entered x (Inside k n Nothing) a (with_state a t) r
+entered_alone m = entered_as (entered_alone_sized m) (record { means = λ f x. elim x [ sized y ↦ y ]; declared = λ i d. (d.0, sized d.1, d.2) })
 
-pub not_within_sized : {x : Bool} {p : Showing} {k : Key} {size : Option ℕ} {a : Visitor} {t : State} {e : Refusal} (r : Result Unit Refusal) → IsErr r → e ≡ err_or e r → EntersSized k size a.collector.now (Err e) t →
+-- An entry that is refused.
+pub not_within : {u x : Bool} {p : Showing} {k : Key} {n : ℕ} {a : Visitor} {t : State} {e : Refusal} {r : Result Unit Refusal} → r ≡ Err e → Enters u k n a.collector.now (Err e) t →
+    Entered x (InsideAs u k n p) a (with_state a t) r
+not_within is g =
+    rw is (record { same_reference = refl; same_outer = refl; shown = not_entered g; cause = not_entered_cause g; rightly = λ y. rightly_not_within g })
+
+pub not_within_sized : {x : Bool} {p : Showing} {k : Key} {size : Option ℕ} {a : Visitor} {t : State} {e : Refusal} {r : Result Unit Refusal} → r ≡ Err e → EntersSized k size a.collector.now (Err e) t →
     Entered x (Field k size p) a (with_state a t) r
-not_within_sized (Ok v) h i g = absurd (false≢true h)
-not_within_sized {k = k} {size = size} {a = a} {t = t} (Err x) h i g =
-    let j : EntersSized k size a.collector.now (Err x) t = rw i at g in
-    record { same_reference = refl; same_outer = refl; shown = not_sized j; cause = not_sized_cause j; rightly = λ y. rightly_not_sized j }
+not_within_sized is g =
+    rw is (record { same_reference = refl; same_outer = refl; shown = not_sized g; cause = not_sized_cause g; rightly = λ y. rightly_not_sized g })
 
 -- ---- the entry that is made first
-pub first_not_within : {k : Key} {size : Option ℕ} {s t : State} {e : Refusal} (r : Result Unit Refusal) → IsErr r → e ≡ err_or e r → EntersSized k size s (Err e) t → EntersFirst k size s r t
-first_not_within (Ok v) h i g = absurd (false≢true h)
-first_not_within (Err x) h i g = first_refused (rw i at g)
+pub first_not_within : {k : Key} {size : Option ℕ} {s t : State} {e : Refusal} {r : Result Unit Refusal} → r ≡ Err e → EntersSized k size s (Err e) t → EntersFirst k size s r t
+first_not_within is g = rw is (first_refused g)
 
 -- ---- the entries that are made
 pub makes_within : {k : Key} {size : Option ℕ} {inside : Plan} {o : Bool} {s t c d : State} {r : Result Unit Refusal} → EntersSized k size s (Ok o) t → Makes inside t r c → d ≡ left o c → Makes (Entry k size inside Done) s r d
@@ -88,35 +80,26 @@ shows_failed : {p : Showing} {s t : State} {e : Refusal} → Makes Done s (Err e
 shows_failed had_failed = already
 
 -- A collector that had failed, which is tested first.
-pub failed_answer : {s t : State} {e : Refusal} (r : Result Unit Refusal) → IsErr r → e ≡ err_or e r → Makes Done s (Err e) t → Makes Done s r t
-failed_answer (Ok v) h i m = absurd (false≢true h)
-failed_answer (Err x) h i m = rw i at m
-
-pub kept_failed : {s t : State} {e : Refusal} (r : Result Unit Refusal) → IsErr r → e ≡ err_or e r → Makes Done s (Err e) t → KeepsCause s r t
-kept_failed {s = s} r h i m = makes_keeps s (failed_answer r h i m)
+pub kept_failed : {s t : State} {e : Refusal} {r : Result Unit Refusal} → r ≡ Err e → Makes Done s (Err e) t → KeepsCause s r t
+kept_failed {s = s} is m = makes_keeps {p = Done} s (rw is m)
 
 -- Nothing is asked of a collector that had failed.
 rightly_failed : {p : Showing} {s t : State} {e : Refusal} {r : Result Unit Refusal} → Makes Done s (Err e) t → RefusesRightly p s r t
 rightly_failed had_failed = refuses.had_failed
 
-pub entered_failed : {x : Bool} {p : Showing} {a : Visitor} {e : Refusal} (r : Result Unit Refusal) → IsErr r → e ≡ err_or e r → Makes Done a.collector.now (Err e) a.collector.now → Entered x p a a r
-entered_failed (Ok v) h i m = absurd (false≢true h)
-entered_failed {a = a} (Err x) h i m =
-    let n : Makes Done a.collector.now (Err x) a.collector.now = rw i at m in
-    record { same_reference = refl; same_outer = refl; shown = shows_failed n; cause = makes_failed n; rightly = λ y. rightly_failed n }
+pub entered_failed : {x : Bool} {p : Showing} {a : Visitor} {e : Refusal} {r : Result Unit Refusal} → r ≡ Err e → Makes Done a.collector.now (Err e) a.collector.now → Entered x p a a r
+entered_failed is m =
+    rw is (record { same_reference = refl; same_outer = refl; shown = shows_failed m; cause = makes_failed m; rightly = λ y. rightly_failed m })
 
 -- An error that is passed on, of the first part or of the second.
-pub entered_passed : {d x : Bool} {p q : Showing} {a b : Visitor} {e : Refusal} (r : Result Unit Refusal) → IsErr r → e ≡ err_or e r → OnlyIf x d → Entered d p a b (Err e) → Entered x (Both p q) a b r
-entered_passed (Ok v) h i o s = absurd (false≢true h)
-entered_passed {d = d} {p = p} {a = a} {b = b} (Err x) h i o s =
-    let z : Entered d p a b (Err x) = rw i at s in
-    record {
-      same_reference = z.same_reference;
-      same_outer = z.same_outer;
-      shown = shows_err z.shown;
-      cause = z.cause;
-      rightly = λ y. rightly_first (z.rightly (o.follows y));
-    }
+pub entered_passed : {d x : Bool} {p q : Showing} {a b : Visitor} {e : Refusal} {r : Result Unit Refusal} → r ≡ Err e → OnlyIf x d → Entered d p a b (Err e) → Entered x (Both p q) a b r
+entered_passed is o s = rw is (record {
+  same_reference = s.same_reference;
+  same_outer = s.same_outer;
+  shown = shows_err s.shown;
+  cause = s.cause;
+  rightly = λ y. rightly_first (s.rightly (o.follows y));
+})
 
 pub entered_both : {d e x : Bool} {p q : Showing} {a b c : Visitor} {u : Unit} {r : Result Unit Refusal} → OnlyIf x d → OnlyIf x e → Entered d p a b (Ok u) → Entered e q b c r → Entered x (Both p q) a c r
 entered_both o w f s = record {
@@ -127,19 +110,21 @@ entered_both o w f s = record {
   rightly = λ i. rightly_both (f.rightly (o.follows i)) (s.rightly (w.follows i));
 }
 
+-- Items in two runs are the items one after another.
+means_append : {T : Type 0} {d : Bool} (p : T → Showing) (xs ys : List T) → Means d (Both (each_shows p xs) (each_shows p ys)) (each_shows p (xs ++ ys))
+means_append p xs ys = record { means = each_append p xs ys; declared = λ i d. declared_append p xs ys d }
+
+-- One step of a loop shows one more item.
+pub entered_snoc : {T : Type 0} {d : Bool} (p : T → Showing) (xs : List T) (x : T) {a b c : Visitor} {u v w : Unit {0}} →
+    Entered d (each_shows p xs) a b (Ok u) → Entered d (p x) b c (Ok v) → Entered d (each_shows p (xs ++ x ∷ [])) a c (Ok w)
+entered_snoc p xs x f s =
+    let one : Means _ (p x) (each_shows p (x ∷ [])) = record { means = each_one p x; declared = λ i d. declared_first d } in
+    entered_as (entered_both exact_same exact_same f (entered_as s one)) (means_append p xs (x ∷ []))
+
 -- An item that is refused, after the items before it.
-pub item_refused : {T : Type 0} {d : Bool} (p : T → Showing) (front : List T) (x : T) (back : List T) {xs : List T} {a b c : Visitor} {u : Unit} {e : Refusal} (r : Result Unit Refusal) → IsErr r → e ≡ err_or e r →
+pub item_refused : {T : Type 0} {d : Bool} (p : T → Showing) (front : List T) (x : T) (back : List T) {xs : List T} {a b c : Visitor} {u : Unit} {e : Refusal} {r : Result Unit Refusal} → r ≡ Err e →
     Entered d (each_shows p front) a b (Ok u) → Entered d (p x) b c (Err e) → front ++ x ∷ back ≡ xs → Entered d (each_shows p xs) a c r
-item_refused p front x back (Ok v) h i f s j = absurd (false≢true h)
-item_refused {d = d} p front x back {b = b} {c = c} (Err y) h i f s j =
-    let z : Entered d (p x) b c (Err y) = rw i at s in
-    rw (← j) (record {
-      same_reference = z.same_reference ∙ f.same_reference;
-      same_outer = z.same_outer ∙ f.same_outer;
-      shown = shows_both_err f.shown z.shown;
-      cause = z.cause;
-      rightly = λ k. rightly_item p front x back (f.rightly k) (z.rightly k);
-    })
+item_refused p front x back is f s j = rw (← j) (entered_as (entered_both exact_same exact_same f (entered_passed is exact_same s)) (means_append p front (x ∷ back)))
 
 -- The list is the items before the one with this index, that item, and those after it.
 pub around_item : {T : Type 0} (xs : List T) (i : ℕ) (x : T) → i < length xs → x ≡ get_or xs i x → take i xs ++ x ∷ drop (i + 1) xs ≡ xs
@@ -154,19 +139,15 @@ pub content_added : {p : Showing} {k : Key} {n : ℕ} {i : Identity} {q is_first
     EntersShared k n i s (Ok is_first) t → is_first ≡ true → a ≡ t → RefusesRightly p a (Ok v) c → Leaves q c d → RefusesRightly (SharedWith k n i p) s (Ok x) d
 content_added {p} {q = q} {c = c} {v = v} g is z h l = any_unit (rightly_content q g is (subst (λ (y : State). RefusesRightly p y (Ok v) c) z h) (left_by l))
 
-pub content_refused : {p : Showing} {k : Key} {n : ℕ} {i : Identity} {q is_first : Bool} {s t a c d : State} {e : Refusal} (r : Result Unit Refusal) → IsErr r → e ≡ err_or e r →
+pub content_refused : {p : Showing} {k : Key} {n : ℕ} {i : Identity} {q is_first : Bool} {s t a c d : State} {e : Refusal} {r : Result Unit Refusal} → r ≡ Err e →
     EntersShared k n i s (Ok is_first) t → is_first ≡ true → a ≡ t → RefusesRightly p a (Err e) c → Leaves q c d → RefusesRightly (SharedWith k n i p) s r d
-content_refused (Ok v) j m g is z h l = absurd (false≢true j)
-content_refused {p} {q = q} {c = c} (Err y) j m g is z h l =
-    let h' : RefusesRightly p _ (Err y) c = rw m at h in
-    rightly_content q g is (subst (λ (y' : State). RefusesRightly p y' (Err y) c) z h') (left_by l)
+content_refused {p} {q = q} {c = c} {e = e} is g first z h l =
+    rw is (rightly_content q g first (subst (λ (y : State). RefusesRightly p y (Err e) c) z h) (left_by l))
 
-pub pointer_refused : {x : Bool} {p : Showing} {k : Key} {n : ℕ} {i : Identity} {a : Visitor} {t : State} {e : Refusal} (r : Result Unit Refusal) → IsErr r → e ≡ err_or e r → EntersShared k n i a.collector.now (Err e) t → HasFailed t e →
+pub pointer_refused : {x : Bool} {p : Showing} {k : Key} {n : ℕ} {i : Identity} {a : Visitor} {t : State} {e : Refusal} {r : Result Unit Refusal} → r ≡ Err e → EntersShared k n i a.collector.now (Err e) t → HasFailed t e →
     Entered x (SharedWith k n i p) a (with_state a t) r
-pointer_refused (Ok v) h i g c = absurd (false≢true h)
-pointer_refused {k = k} {n = n} {i = l} {a = a} {t = t} (Err x) h j g c =
-    let g' : EntersShared k n l a.collector.now (Err x) t = rw j at g in
-    record { same_reference = refl; same_outer = refl; shown = not_shared g'; cause = rw j at c; rightly = λ y. rightly_not_shared g' }
+pointer_refused is g c =
+    rw is (record { same_reference = refl; same_outer = refl; shown = not_shared g; cause = c; rightly = λ y. rightly_not_shared g })
 
 pub pointer_again : {x is_first : Bool} {p : Showing} {k : Key} {n : ℕ} {i : Identity} {a : Visitor} {t : State} {u : Unit} → EntersShared k n i a.collector.now (Ok is_first) t → is_first ≡ false → Entered x (SharedWith k n i p) a (with_state a t) (Ok u)
 pointer_again {k = k} {n = n} {i = l} {a = a} {t = t} g is =
@@ -175,14 +156,11 @@ pointer_again {k = k} {n = n} {i = l} {a = a} {t = t} g is =
 
 -- ---- items that are not all known
 -- After an item that is refused.
-pub entered_then_refused : {d y : Bool} {p q w : Showing} {a b c : Visitor} {u : Unit} {e : Refusal} (r : Result Unit Refusal) → IsErr r → e ≡ err_or e r → Entered d p a b (Ok u) → Entered y q b c (Err e) → Entered false w a c r
-entered_then_refused (Ok v) h i f s = absurd (false≢true h)
-entered_then_refused {y = y} {q = q} {b = b} {c = c} (Err x) h i f s =
-    let z : Entered y q b c (Err x) = rw i at s in
-    record {
-      same_reference = z.same_reference ∙ f.same_reference;
-      same_outer = z.same_outer ∙ f.same_outer;
-      shown = shows_both_err f.shown z.shown;
-      cause = z.cause;
-      rightly = inexact;
-    }
+pub entered_then_refused : {d y : Bool} {p q w : Showing} {a b c : Visitor} {u : Unit} {e : Refusal} {r : Result Unit Refusal} → r ≡ Err e → Entered d p a b (Ok u) → Entered y q b c (Err e) → Entered false w a c r
+entered_then_refused is f s = rw is (record {
+  same_reference = s.same_reference ∙ f.same_reference;
+  same_outer = s.same_outer ∙ f.same_outer;
+  shown = shows_both_err f.shown s.shown;
+  cause = s.cause;
+  rightly = inexact;
+})

@@ -42,11 +42,6 @@ pub data IsBuffer (p : Showing) (n capacity : ℕ) : Option ℕ → Forest → T
 abbrev pub buffer_shows : Option ℕ → Showing → ℕ → ℕ → Showing
 buffer_shows size p n capacity = IsBuffer p n capacity size
 
--- The showing of the buffer of n items of a declared size, with room for any number of items more: of a value whose
--- capacity contracts do not see.
-abbrev pub some_buffer_shows : Option ℕ → Showing → ℕ → Showing
-some_buffer_shows size p n f = (unused : ℕ) × buffer_shows size p n (n + unused) f
-
 -- The slice of a list that was cut in two anywhere: the slice of the front followed by that of the back.
 pub data IsCut {T : Type 0} (name : Key) (size : Option ℕ) (needs_drop : Bool) (p : T → Showing) (xs : List T) : Forest
     → Type 0 where
@@ -69,11 +64,6 @@ pub data IsText (n capacity : ℕ) : Forest → Type 0 where
 -- The showing of the buffer of a text of n bytes, with room for `capacity` bytes.
 abbrev pub text_shows : ℕ → ℕ → Showing
 text_shows n capacity = IsText n capacity
-
--- The buffer of a text of n bytes, with room for any number of bytes more: of a value whose capacity contracts do not
--- see.
-abbrev pub some_text_shows : ℕ → Showing
-some_text_shows n f = (unused : ℕ) × text_shows n (n + unused) f
 
 -- A field `data` for each item.
 abbrev pub data_shows : {T : Type 0} → Option ℕ → (T → Showing) → List T → Showing

@@ -1,11 +1,10 @@
--- What a JSON value may show: exactly, with the room of its texts and arrays, and in terms of the data that it stands for.
-use Rattle.std.specs.Prelude.{ℕ, suc, List, Some, codes, length, String, string_bytes, string_capacity}
+-- What a JSON value may show, with the room of its texts and arrays.
+use Rattle.std.specs.Prelude.{List, Some, codes, length, String, string_bytes, string_capacity}
 use Rattle.std.specs.declared.alloc.Global.{Global}
-use Rattle.serde_json.specs.Data.{Data, null, boolean, number, string, array, object, Items, no_items, item, Members, no_members, member}
 use Rattle.serde_json.specs.declared.value.Value.{Value, out-Value}
 use Rattle.serde_json.specs.declared.value.Value.TheOpen.{Value-F}
-use Rattle.allocative_graph.specs.Shows.{Showing, Nothing, Both, Inside, InsideUnique, Field, each_shows}
-use Rattle.allocative.specs.Bodies.{text_shows, some_buffer_shows, some_text_shows}
+use Rattle.allocative_graph.specs.Shows.{Showing, Nothing, Inside, InsideUnique, Field, each_shows}
+use Rattle.allocative.specs.Bodies.{text_shows}
 use Rattle.allocative.specs.Levels.{Level, plain, child, inside, unique, each, vec_of, pair_of, recursive}
 use Rattle.allocative.specs.Runs.{pair_shows}
 
@@ -13,7 +12,6 @@ use Rattle.allocative.specs.Runs.{pair_shows}
 abbrev pub number_shows : Showing
 number_shows = Inside (codes "Number") 16 Nothing
 
--- ---- exactly
 -- What a String shows.
 abbrev pub stored_string : String Global → Showing
 stored_string s =
@@ -45,42 +43,3 @@ stored_members p es = each_shows (pair_shows (Some 24) stored_string (Some 32) p
 -- What an object's map shows.
 abbrev pub stored_map : List (String Global × Value) → Showing
 stored_map es = Inside (codes "Map") 24 (InsideUnique (codes "data") 8 (stored_members stored_value es))
-
--- ---- of the data, which has no capacities: with any room
--- What a String shows of its text.
-abbrev pub string_shows : List ℕ → Showing
-string_shows s = Field (codes "String") (Some 24) (some_text_shows (length s))
-
--- The number of values of an array.
-abbrev pub items_count : Items → ℕ
-items_count no_items = 0
-items_count (item d ds) = suc (items_count ds)
-
-abbrev mutual
-  -- What is inside a value's own entry.
-  pub data_inside : Data → Showing
-  data_inside null = Nothing
-  data_inside (boolean b) = Nothing
-  data_inside (number n) = Inside (codes "Number") 16 number_shows
-  data_inside (string s) = Inside (codes "String") 24 (string_shows s)
-  data_inside (array ds) = Inside (codes "Array") 24
-      (Field (codes "Vec") (Some 24) (some_buffer_shows (Some 32) (items_show ds) (items_count ds)))
-  data_inside (object ms) =
-      Inside (codes "Object") 24 (Inside (codes "Map") 24 (InsideUnique (codes "data") 8 (members_show ms)))
-
-  -- What the items of an array show, in order.
-  pub items_show : Items → Showing
-  items_show no_items = Nothing
-  items_show (item d ds) = Both (Inside (codes "Value") 32 (data_inside d)) (items_show ds)
-
-  -- What the members of an object show, in order: a field for the key and one for the value.
-  pub members_show : Members → Showing
-  members_show no_members = Nothing
-  members_show (member k d ms) = Both
-      (Both (Field (codes "key") (Some 24) (string_shows k))
-      (Field (codes "value") (Some 32) (Inside (codes "Value") 32 (data_inside d))))
-      (members_show ms)
-
--- What a value shows of its data.
-abbrev pub value_shows : Data → Showing
-value_shows d = Inside (codes "Value") 32 (data_inside d)

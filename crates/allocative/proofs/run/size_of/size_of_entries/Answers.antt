@@ -1,6 +1,6 @@
 -- A root visitor, what the closure does there, and its end.
 use Rattle.std.proofs.Common.{rules}
-use Rattle.allocative.proofs.Closures.{sum_answered, refusal_answered}
+use Rattle.allocative.proofs.Closures.{sum_answered, refusal_answered, same_err}
 use Rattle.allocative.proofs.run.size_of.size_of_entries.Goals as goal
 
 pub returns-in_err-check : goal.returns-in_err-check
@@ -9,7 +9,7 @@ returns-in_err-check g c = record {
   after = c.call.new.self;
   begun = rw c.held-collector.ensures at c.in_ok-visitor.ensures.begun;
   called = c.call.ensures;
-  answers = refusal_answered c.call.new.self.outer_is_unique c.call.new.self.collector.now c.in_err-check.field-0.0 _ c.from_residual-in_err-check.ensures.0 (search rules) (search rules) c.check.ensures (search rules);
+  answers = refusal_answered c.call.new.self.outer_is_unique c.call.new.self.collector.now (same_err {e = c.in_err-check.field-0.0} _ c.from_residual-in_err-check.ensures.0 (search rules)) (search rules) c.check.ensures (search rules);
 }
 
 pub returns : goal.returns

@@ -1,88 +1,17 @@
--- A hand-written proof of `enter`: the collector is lent, and a nested visitor may hold it.
-use Rattle.allocative.proofs.Lent.{one_value, at_values, ◌≡◌, List, [], ◌∷◌, refl, ap, subst, MutBor, proved_at, says_two, Goes-blank, id⊢, ftrue, flft, named, w64, Val, fact, tables, ‵, raw, ◌⊛◌, some, later, ◌$◌, ◌∵◌, !, qed, done, move, keep, drop, use1, use2, split, join, fsplit, fjoin, feq_i, feq_l, pick, await, suffices, frame, enter, addr, stop, no_more, and_then, returns, alloc_all, pass_all, free_all, look_at, get, through, sets, lands_as, usize, yes, no, shows, uint_vals, uint_Tells, MutRef, mut_vals, mut_Tells, plain, named_lft, nothing, heard, peeks, only, calls_at, Lasts, lasts, triple_of, framed, Stays, stay_dropped, Goes-dropped, Goes-spent_ref, ends_at}
-use Rattle.allocative.proofs.Nest.{nest}
-use Rattle.allocative.proofs.Nesting.{Lender, Answer, EndsEntered, EndsRefused, ends_entered, ends_refused, entered_by, refused_by}
-use Rattle.std.proofs.Common.{false, Result, Ok, Err, IfOk, IfErr, OnOk, OnErr}
-use Rattle.allocative.proofs.Common.{name_if_ok, Refusal, State, Enters, Answers, Visitor, LendsEntered, LendsCollector, LendsNested, with_state}
-use Rattle.allocative_graph.specs.contracts.key.Key as key
-use Rattle.allocative.specs.contracts.visitor.Visitor as visitor
-use Rattle.allocative.specs.contracts.visitor.collector.Collector as collector
-use Rattle.allocative_graph.proofs.key.Key.TheLaws.{the_row_laws as key_laws}
-use Rattle.allocative_graph.proofs.refusal.Refusal.TheLaws.{the_row_laws as refusal_laws}
-use Rattle.std.proofs.result.Result.TheLaws.{the_row_laws as result_laws}
-use Rattle.allocative.proofs.visitor.Visitor.TheLaws.{the_row_laws as visitor_laws}
-use prog.Wp.{WpFn}
-use denote.Laws.{Is}
-use denote.Triple.Walked.{walk_of}
+-- `enter` lends the collector on.
+use Rattle.allocative.proofs.Entering.{enters}
+use Rattle.allocative.proofs.Lent.{number_laws, Goes-dropped, refl, plain, usize, yes}
+use Rattle.std.proofs.Common.{false, Err}
+use Rattle.allocative.proofs.Common.{Enters, Answers}
 use Rattle.allocative.specs.contracts.visitor.Visitor.enter as f
 use Rattle.allocative.proofs.visitor.Visitor.enter.Statement.{statement}
 use Rattle.allocative.proofs.visitor.Visitor.enter.Code as code
-use Rattle.allocative.specs.contracts.visitor.Visitor.reborrow as g
-use Rattle.allocative.proofs.visitor.Visitor.reborrow.Met as g-met
+use Rattle.allocative.proofs.visitor.Visitor.reborrow.Met as g
 use Rattle.allocative.specs.contracts.visitor.collector.Collector.enter as h
 use Rattle.allocative.proofs.visitor.collector.Collector.enter.Met as h-met
 
-abbrev stayed : Stays f.ended.signature.params f.ended.kept
-stayed = (stay_dropped _ no, (stay_dropped _ yes, (stay_dropped _ yes, tt)))
-
 pub enter_spec : {M : Type 1} → statement M
 enter_spec 𝓤 𝓛 𝓜 𝓡 wired =
-    let c = f.clauses 𝓛 𝓜.mem 𝓡.returns in
-    let 𝓣 = tables 𝓤 𝓛.H 𝓜 𝓡 𝓡.env in
-    proved_at 𝓛 f.ended stayed c 𝓜 𝓡 (Goes-spent_ref 𝓛 2 (0 ∷ []) tt (plain Lender), (Goes-blank 𝓛 2 (plain (λ _. key.the_row)) yes (λ κs x w. tt), (Goes-dropped 𝓛 2 (plain (λ _. usize)) yes (λ κs x w. refl), tt)))
-    f.Key.name code.function (code.unfolded 𝓤 𝓛.H 𝓜 𝓡 wired) (λ y₀ are.
-    let κs = y₀.0.0 in let qs = y₀.0.1 in let bounds = y₀.0.2 in let a = y₀.0.3 in
-    let κ = κs.0 in let q = qs.0 in let s = a.0 in let k = a.1.0 in let n = a.1.1.0 in
-    let kv = one_value y₀.0.4.1.0 (key_laws.single k y₀.0.4.1.0 are.1.0) in
-    let e : y₀.0.4 ≡ (mut_vals s, (kv.0 ∷ [], (uint_vals w64 n, tt))) = λ i. (mut_Tells (named 0) κ (Lender κs) s y₀.0.4.0 are.0 i, (kv.1 i, (uint_Tells w64 n y₀.0.4.1.1.0 are.1.1.0 i, tt))) in
-    let kis = subst (λ (us : List Val). Is key.the_row k us) kv.1 are.1.0 in
-    let ktyped = ((key_laws.lawful 𝓛).typed k (kv.0 ∷ []) kis).0 in
-    at_values 𝓛 f.ended stayed c (WpFn 𝓤 𝓛.H 𝓣.C 𝓣.Λ code.function) y₀ (mut_vals s, (kv.0 ∷ [], (uint_vals w64 n, tt))) e (
-    let y : (walk_of 𝓛 f.ended stayed c).Ghost = ((κs, qs, bounds, a, (mut_vals s, (kv.0 ∷ [], (uint_vals w64 n, tt)))), tt) in
-    let Self = ‵ ((MutRef (named 0) κ (Lender κs)).own_val s (mut_vals s)) in
-    qed 𝓛 (((‵ (flft κ q) ⊛ ‵ (flft κs.1.0 qs.1.0) ⊛ ‵ ftrue) ⊛ Self ⊛ ‵ (key.the_row.own_val k (kv.0 ∷ [])) ⊛ ‵ (usize.own_val n (uint_vals w64 n)) ⊛ ‵ ftrue) ∷ ‵ ftrue ∷ []) ∵
-    split ! $ move ! (1 ∷ []) $ split ! $ keep ! (0 ∷ 1 ∷ 2 ∷ []) $
-    enter ! _ _ _ _ _ $ alloc_all ! (λ l. pass_all ! refl ((tt, tt), (ktyped, ((tt, record { fits = are.1.1.0.1 }), tt))) $
-    sets ! (addr ! (through ! refl (stop !))) refl (tt, tt) $
-    -- [self; the key and the number; the tokens]
-    let fm = framed 𝓤 𝓛.H 𝓜 𝓣 in
-    let G = triple_of 𝓛 g.signature (g.spec 𝓛 𝓜.mem 𝓡.returns) in
-    let x : G.Ghost = ((κs, qs, bounds, (s, tt), (mut_vals s, tt)), tt) in
-    nothing ! $ move ! (1 ∷ 0 ∷ []) $ join ! $ move ! (2 ∷ 0 ∷ []) $ join ! $ nothing ! $ move ! (1 ∷ 0 ∷ []) $ use2 𝓛 (raw (G.pre x)) (id⊢ 𝓤 _) $
-    calls_at ! fm G (g-met.met 𝓤 𝓛 𝓜 𝓡 (code.calls-allocative::visitor::Visitor::reborrow 𝓡.env wired)) x
-    (and_then ! (get ! refl) (no_more !)) (λ v.
-    let Tokens = ‵ (flft κ q) ⊛ ‵ (flft κs.1.0 qs.1.0) ⊛ ‵ ftrue in
-    let Part = MutRef (named 0) κ collector.the_row in
-    use1 𝓛 (later (some (λ (r : MutBor State). (Tokens ⊛ ‵ (Part.own_val r (v ∷ []))) ⊛
-    some (λ (ws : Lasts g.ended κs (s, tt)). ‵ (lasts g.ended κs (s, tt) ws) ⊛ ‵ (LendsCollector s r) ⊛ raw (fact 𝓤 (r.now ≡ s.now.collector.now)))))) (id⊢ 𝓤 _) $
-    await ! tt $ pick ! (λ r. split ! $ split ! $ move ! (2 ∷ []) $ pick ! (λ ws. split ! $ drop ! $ split ! $ move ! (1 ∷ []) $ heard ! _ (λ same.
-    -- [what self ends as; the tokens; the part lent; the key and the number]
-    move ! (2 ∷ []) $ fsplit ! $ feq_l ! (λ is. feq_i ! (List _) (mut_vals r) (mut_vals r) refl $ fjoin ! $
-    lands_as ! (ap only is) refl (tt, tt) $
-    -- [the part lent; what self ends as; the tokens; the key and the number]
-    let H = triple_of 𝓛 h.signature (h.spec 𝓛 𝓜.mem 𝓡.returns) in
-    let z : H.Ghost = (((κ, tt), (q, tt), tt, (r, (k, (n, tt))), (mut_vals r, (kv.0 ∷ [], (uint_vals w64 n, tt)))), tt) in
-    move ! (0 ∷ 3 ∷ []) $ join ! $ move ! (2 ∷ []) $ split ! $ nothing ! $ move ! (1 ∷ 0 ∷ []) $ join ! $ move ! (0 ∷ 2 ∷ []) $ join ! $
-    nothing ! $ move ! (1 ∷ 0 ∷ []) $ use2 𝓛 (raw (H.pre z)) (id⊢ 𝓤 _) $
-    -- [what the call asks; the other tokens; what self ends as]
-    calls_at ! fm H (h-met.met 𝓤 𝓛 𝓜 𝓡 (code.calls-allocative::visitor::collector::Collector::enter 𝓡.env wired)) z
-    (and_then ! (get ! refl) (and_then ! (get ! refl) (and_then ! (get ! refl) (no_more !)))) (λ u.
-    use1 𝓛 (later (some (λ (res : Result Visitor Refusal). ((‵ (flft κ q) ⊛ ‵ ftrue) ⊛ ‵ ((Answer κs).own_val res (u ∷ []))) ⊛
-    some (λ (vs : Lasts h.ended (κ, tt) z.0.3). ‵ (lasts h.ended (κ, tt) z.0.3 vs) ⊛ ‵ (LendsEntered false k n r res) ⊛
-    raw (fact 𝓤 (IfOk res (λ w. w.collector.ghost_name ≡ r.ghost_name))) ⊛ raw (fact 𝓤 (IfOk res (λ w. Enters false k n r.now (Ok w.outer_is_unique) w.collector.now))) ⊛
-    raw (fact 𝓤 (IfErr res (λ w. Answers false n r.now (Err w)))))))) (id⊢ 𝓤 _) $
-    await ! tt $ pick ! (λ res. split ! $ split ! $ move ! (2 ∷ []) $ pick ! (λ vs. split ! $ drop ! $ split ! $
-    move ! (1 ∷ []) $ split ! $ heard ! _ (λ _. split ! $ heard ! _ (λ entered. heard ! _ (λ refused.
-    -- [what the part ends as; the token; the result; the other tokens; what self ends as]
-    move ! (4 ∷ 0 ∷ []) $ use2 𝓛 (‵ (LendsNested false k n s res))
-    (nest 𝓛 (visitor.the_row (record { mir = named 1; lft = [] })) collector.the_row (with_state s.now) s.ghost_name r.ghost_name
-    (λ w x'. OnOk res (x' ≡ w)) (λ x'. OnErr res (IfErr res (λ w. Enters false k n r.now (Err w) x'))) (EndsEntered s.now res) (EndsRefused false k n s.now res) (ends_entered s.now res) (ends_refused false k n s.now r.now same res)
-    (name_if_ok (λ w. w.collector.ghost_name) res)) $
-    move ! (2 ∷ []) $ peeks ! (Answer κs) _ (shows 𝓛 (Answer κs)) res (u ∷ []) (λ told.
-    let good = (((result_laws _ _ (visitor_laws (named_lft 2 0 tt κs)) refusal_laws).lawful 𝓛).typed res (u ∷ []) told).0 in
-    lands_as ! refl refl good $ returns ! (look_at ! 0 refl) $ free_all ! refl $
-    -- [the result; what self ends as; the token; the other tokens]
-    suffices ! _ (ends_at 𝓛 f.ended stayed c y u res (tt, (tt, (tt, tt))) (tt, (tt, (tt, tt)))) $
-    move ! (2 ∷ []) $ split ! $ move ! (0 ∷ 4 ∷ []) $ join ! $ move ! (1 ∷ []) $ nothing ! $ fjoin ! $ nothing ! $ fjoin ! $ nothing ! $ fjoin ! $
-    move ! (0 ∷ 2 ∷ []) $ join ! $ move ! (1 ∷ 0 ∷ []) $ join ! $ frame ! $
-    says_two ! (entered_by false k n res _ _ same entered, refused_by false n res _ _ same refused) $ done !)))))))))))))))
+    enters usize number_laws (Enters false) (λ k n s e. Answers false n s (Err e)) 𝓤 𝓛 𝓜 𝓡 (Goes-dropped 𝓛 2 (plain (λ _. usize)) yes (λ κs x w. refl)) f.Key.name h.Key.name
+    (code.unfolded 𝓤 𝓛.H 𝓜 𝓡 wired) (g.met 𝓤 𝓛 𝓜 𝓡 (code.calls-allocative::visitor::Visitor::reborrow 𝓡.env wired))
+    (h-met.met 𝓤 𝓛 𝓜 𝓡 (code.calls-allocative::visitor::collector::Collector::enter 𝓡.env wired))

@@ -1,15 +1,10 @@
 -- A hand-written proof of `enter_self_sized`: it passes on what `enter_sized` states of the visitor outside, at the
 -- declared name and size.
-use Rattle.allocative.proofs.Lent.{◌≡◌, ℕ, [], ◌∷◌, refl, subst, proved, says_two, id⊢, ftrue, flft, named, Lfts, fact, tables, ‵, raw, ◌⊛◌, some, later, ◌$◌, ◌∵◌, !, qed, done, move, keep, drop, use1, use2, split, join, fjoin, pick, await, rewrite, suffices, frame, enter, addr, stop, no_more, and_then, returns, alloc_all, pass_all, free_all, look_at, get, through, sets, lands_as, no, shows, RattleType, MutRef, mut_vals, mut_Tells, plain, named_lft, nothing, heard, peeks, calls_at, Lasts, lasts, triple_of, framed, Stays, stay_dropped, Goes-spent_ref, ends_at}
-use Rattle.allocative.proofs.Nesting.{Answer, Size, size_laws}
+use Rattle.allocative.proofs.Lent.{Answer, Size, size_laws, key_laws, refusal_laws, result_laws, visitor_laws, ◌≡◌, ℕ, [], ◌∷◌, refl, subst, proved, says_two, id⊢, ftrue, flft, named, Lfts, fact, tables, ‵, raw, ◌⊛◌, some, later, ◌$◌, ◌∵◌, !, qed, done, move, keep, drop, use1, use2, split, join, fjoin, pick, await, rewrite, suffices, frame, enter, addr, stop, no_more, and_then, returns, alloc_all, pass_all, free_all, look_at, get, through, sets, lands_as, no, shows, RattleType, MutRef, mut_vals, mut_Tells, plain, named_lft, nothing, heard, peeks, calls_at, Lasts, lasts, triple_of, framed, Stays, stay_dropped, Goes-spent_ref, ends_at}
 use Rattle.std.proofs.Common.{Option, Result, IfOk, IfErr}
 use Rattle.allocative.proofs.Common.{Refusal, Key, Visitor, LendsNestedSized, NestsSized, IsRefusedSized}
 use Rattle.allocative_graph.specs.contracts.key.Key as key
 use Rattle.allocative.specs.contracts.visitor.Visitor as visitor
-use Rattle.allocative_graph.proofs.key.Key.TheLaws.{the_row_laws as key_laws}
-use Rattle.allocative_graph.proofs.refusal.Refusal.TheLaws.{the_row_laws as refusal_laws}
-use Rattle.std.proofs.result.Result.TheLaws.{the_row_laws as result_laws}
-use Rattle.allocative.proofs.visitor.Visitor.TheLaws.{the_row_laws as visitor_laws}
 use base.Logic.{emp}
 use contract.BorrowLft.{◌⊑◌}
 use contract.Monad.{fact_i}

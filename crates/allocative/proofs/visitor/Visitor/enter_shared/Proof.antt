@@ -1,24 +1,21 @@
 -- A hand-written proof of `enter_shared`: the collector is lent, a visitor of the content may hold it, and the result
 -- is converted.
-use Rattle.allocative.proofs.Lent.{one_value, at_values, ◌≡◌, List, [], ◌∷◌, refl, sym, ap, subst, MutBor, proved_at, says_three, rewrite, Goes-blank, id⊢, ftrue, flft, named, w64, Val, fact, tables, ‵, raw, ◌⊛◌, some, later, ◌$◌, ◌∵◌, !, qed, done, move, keep, drop, use1, use2, split, join, fsplit, fjoin, feq_i, feq_l, pick, await, suffices, frame, enter, addr, stop, no_more, and_then, returns, alloc_all, pass_all, free_all, look_at, get, through, sets, lands_as, usize, yes, no, shows, uint_vals, uint_Tells, MutRef, mut_vals, mut_Tells, plain, named_lft, nothing, heard, peeks, only, calls_at, Lasts, lasts, triple_of, framed, Stays, stay_dropped, Goes-dropped, Goes-spent_ref, ends_at}
-use Rattle.allocative.proofs.Nest.{nest}
-use Rattle.allocative.proofs.Nesting.{Lender, Try, Given, TryAnswer, SharedAnswer, same_name, ends_with, ends_without, outer_by, content_by, answer_by}
-use Rattle.std.proofs.Common.{true, false, Ok, IfOk, IfErr, OnOk, OnErr}
-use Rattle.allocative.proofs.Common.{name_if_ok, State, EntersShared, LendsCollector, EndsWith, EndsWithout, with_state, AnswersShared, told, turned}
+use Rattle.allocative.proofs.Lent.{Lfts, RattleType, Lender, Nested, ℕ, key_laws, option_laws, refusal_laws, result_laws, visitor_laws, nest, one_value, at_values, ◌≡◌, List, [], ◌∷◌, refl, sym, ap, subst, MutBor, proved_at, says_three, rewrite, Goes-blank, id⊢, ftrue, flft, named, w64, Val, fact, tables, ‵, raw, ◌⊛◌, some, later, ◌$◌, ◌∵◌, !, qed, done, move, keep, drop, use1, use2, split, join, fsplit, fjoin, feq_i, feq_l, pick, await, suffices, frame, enter, addr, stop, no_more, and_then, returns, alloc_all, pass_all, free_all, look_at, get, through, sets, lands_as, usize, yes, no, shows, uint_vals, uint_Tells, MutRef, mut_vals, mut_Tells, plain, named_lft, nothing, heard, peeks, only, calls_at, Lasts, lasts, triple_of, framed, Stays, stay_dropped, Goes-dropped, Goes-spent_ref, ends_at}
+use Rattle.std.proofs.Common.{true, false, Ok, IfOk, IfErr, OnOk, OnErr, Option, None, Some, Result, Err, IfSome}
+use Rattle.allocative.proofs.Common.{name_if_ok, State, EntersShared, LendsCollector, EndsWith, EndsWithout, with_state, AnswersShared, told, turned, Refusal, Key, Identity, enters_first, Visitor}
 use Rattle.std.specs.Borrow.{GName, follows_so}
 use mathlib.Core.Option as maybe
 use Rattle.allocative.specs.Lending.{LendsPointed}
-use Rattle.allocative.specs.Nested.{LendsShared}
+use Rattle.allocative.specs.Nested.{LendsShared, name_in}
+use Rattle.allocative.specs.Shared.{answered}
+use Rattle.allocative_graph.specs.contracts.refusal.Refusal as refusal
+use Rattle.std.specs.contracts.option.Option as option
+use Rattle.std.specs.contracts.result.Result as result
 use Rattle.allocative_graph.specs.contracts.key.Key as key
 use Rattle.allocative_graph.specs.contracts.shared.Identity as identity
 use Rattle.allocative.specs.contracts.visitor.Visitor as visitor
 use Rattle.allocative.specs.contracts.visitor.collector.Collector as collector
-use Rattle.allocative_graph.proofs.key.Key.TheLaws.{the_row_laws as key_laws}
 use Rattle.allocative_graph.proofs.shared.Identity.TheLaws.{the_row_laws as identity_laws}
-use Rattle.std.proofs.option.Option.TheLaws.{the_row_laws as option_laws}
-use Rattle.allocative_graph.proofs.refusal.Refusal.TheLaws.{the_row_laws as refusal_laws}
-use Rattle.std.proofs.result.Result.TheLaws.{the_row_laws as result_laws}
-use Rattle.allocative.proofs.visitor.Visitor.TheLaws.{the_row_laws as visitor_laws}
 use prog.Wp.{WpFn}
 use denote.Laws.{Is}
 use denote.Triple.Walked.{walk_of}
@@ -31,6 +28,50 @@ use Rattle.allocative.specs.contracts.visitor.collector.Collector.enter_content 
 use Rattle.allocative.proofs.visitor.collector.Collector.enter_content.Met as h-met
 use Rattle.allocative.specs.contracts.visitor.turned_round as t
 use Rattle.allocative.proofs.visitor.turned_round.Met as t-met
+
+-- The result of the collector's call, and the result that is returned.
+abbrev Try : Type 0
+Try = Result Visitor (Option Refusal)
+
+abbrev Given : Type 0
+Given = Result (Option Visitor) Refusal
+
+abbrev TryAnswer : Lfts 2 → RattleType
+TryAnswer κs = result.the_row (Nested κs) (option.the_row refusal.the_row)
+
+abbrev SharedAnswer : Lfts 2 → RattleType
+SharedAnswer κs = result.the_row (option.the_row (Nested κs)) refusal.the_row
+
+same_name : (r : Try) → name_if_ok (λ v. v.collector.ghost_name) r ≡ name_in (turned r)
+same_name (Ok v) = refl
+same_name (Err None) = refl
+same_name (Err (Some e)) = refl
+
+ends_with : (s : Visitor) (r : Try) (w z : State) → OnOk r (z ≡ w) → EndsWith s (turned r) w (with_state s z)
+ends_with s (Ok v) w z h = ap (with_state s) h
+ends_with s (Err None) w z h = tt
+ends_with s (Err (Some e)) w z h = tt
+
+ends_without : (k : Key) (n : ℕ) (i : Identity) (s : Visitor) (c : State) → c ≡ s.collector.now → (r : Try) (z : State) → OnErr r (IfErr r (λ o. EntersShared k n i c (told o) z)) → EndsWithout k n i s (turned r) (with_state s z)
+ends_without k n i s c e (Ok v) z h = tt
+ends_without k n i s c e (Err None) z h = let P : State → Type 0 = λ x. EntersShared k n i x (Ok false) z in (subst P e h, refl)
+ends_without k n i s c e (Err (Some x)) z h = let P : State → Type 0 = λ y. EntersShared k n i y (Err x) z in (subst P e h, refl)
+
+shown_by : (P : Visitor → Type 0) (r : Try) (g : Given) → g ≡ turned r → IfOk r P → IfOk g (λ o. IfSome o P)
+shown_by P (Ok v) g e h = rw e h
+shown_by P (Err None) g e h = rw e tt
+shown_by P (Err (Some x)) g e h = rw e tt
+
+shown_answer : (k : Key) (n : ℕ) (i : Identity) {c t : State} → EntersShared k n i c (Ok true) t → AnswersShared k n i c (Ok true)
+shown_answer k n i (enters_first r h e) = (r, h)
+
+answer_at : (k : Key) (n : ℕ) (i : Identity) (r : Try) (c : State) → IfOk r (λ v. EntersShared k n i c (Ok true) v.collector.now) → IfErr r (λ o. AnswersShared k n i c (told o)) → AnswersShared k n i c (answered (turned r))
+answer_at k n i (Ok v) c h j = shown_answer k n i h
+answer_at k n i (Err None) c h j = j
+answer_at k n i (Err (Some e)) c h j = j
+
+answer_by : (k : Key) (n : ℕ) (i : Identity) (r : Try) (g : Given) → g ≡ turned r → (c d : State) → c ≡ d → IfOk r (λ v. EntersShared k n i c (Ok true) v.collector.now) → IfErr r (λ o. AnswersShared k n i c (told o)) → AnswersShared k n i d (answered g)
+answer_by k n i r g e c d f h j = rw (e, ← f) (answer_at k n i r c h j)
 
 abbrev stayed : Stays f.ended.signature.params f.ended.kept
 stayed = (stay_dropped _ no, (stay_dropped _ yes, (stay_dropped _ yes, (stay_dropped _ yes, tt))))
@@ -118,4 +159,8 @@ enter_shared_spec 𝓤 𝓛 𝓜 𝓡 wired =
     move ! (2 ∷ []) $ split ! $ move ! (0 ∷ 4 ∷ []) $ join ! $ move ! (1 ∷ []) $ nothing ! $ fjoin ! $ nothing ! $ fjoin ! $ nothing ! $ fjoin ! $ nothing ! $ fjoin ! $
     -- [nothing of the parameters; the tokens; what self ends as; the result]
     move ! (0 ∷ 3 ∷ []) $ join ! $ move ! (1 ∷ 0 ∷ []) $ join ! $ frame ! $
-    says_three ! (outer_by res out is_turned outer, content_by k n j res out is_turned _ _ same content, answer_by k n j res out is_turned _ _ same content refused) $ done !)))))))))))))))))))))
+    says_three ! (
+      shown_by (λ w. w.outer_is_unique ≡ false) res out is_turned outer,
+      shown_by (λ w. EntersShared k n j s.now.collector.now (Ok true) w.collector.now) res out is_turned (subst (λ (x : State). IfOk res (λ w. EntersShared k n j x (Ok true) w.collector.now)) same content),
+      answer_by k n j res out is_turned _ _ same content refused,
+    ) $ done !)))))))))))))))))))))

@@ -1,6 +1,6 @@
 use Rattle.std.proofs.Common.{rules, ◌≡◌, refl, Ok, Err}
 use Rattle.allocative.proofs.Common.{FnOnceReturnsAtMut, called, refused_inside}
-use Rattle.allocative.proofs.Closures.{not_called_by}
+use Rattle.allocative.proofs.Closures.{not_called_by, same_err}
 use Rattle.allocative.proofs.Showing.{left_cause, showing}
 use Rattle.allocative.proofs.visitor.Visitor.visit_field_with.Goals as goal
 
@@ -8,7 +8,7 @@ pub returns-in_err-inner : goal.returns-in_err-inner
 returns-in_err-inner g c = record {
   same_reference = search rules;
   same_outer = search rules;
-  calls = not_called_by g.F.FnOnce c.args.visit {e = c.in_err-inner.field-0.0} _ c.from_residual.ensures.0 (search rules) (search rules);
+  calls = not_called_by g.F.FnOnce c.args.visit (same_err {e = c.in_err-inner.field-0.0} _ c.from_residual.ensures.0 (search rules)) (search rules);
   cause = search (rules, showing);
 }
 

@@ -1,23 +1,22 @@
 use Rattle.std.proofs.Common.{rules}
-use Rattle.allocative.proofs.Within.{entered_within_sized, not_within_sized, first_not_within, makes_within}
-use Rattle.allocative.proofs.Showing.{goes_in}
+use Rattle.allocative.proofs.Within.{entered_within_sized, not_within_sized, first_not_within, makes_within, same_err}
+use Rattle.allocative.specs.Making.{first_entered}
 use Rattle.allocative.proofs.Making.{makes_refused}
 use Rattle.allocative.proofs.visitor.Visitor.visit_slice_of.Goals as goal
 
-pub returns-in_err-outer-clause-entered : goal.returns-in_err-outer-clause-entered
-returns-in_err-outer-clause-entered g c = not_within_sized {e = c.in_err-outer.field-0.0} _ c.from_residual.ensures.0 (search rules) (rw (c.for_type_name.ensures, c.bytes_of-bytes.ensures) at c.in_err-outer.ensures.enters)
+pub returns-in_err-outer : goal.returns-in_err-outer
+returns-in_err-outer g c =
+    let h = rw (c.for_type_name.ensures, c.bytes_of-bytes.ensures) at c.in_err-outer.ensures.enters in
+    let is = same_err {e = c.in_err-outer.field-0.0} _ c.from_residual.ensures.0 (search rules) in record {
+      entered = not_within_sized is h;
+      first = first_not_within is h;
+      exact = λ z. makes_refused is (rw z at h);
+    }
 
-pub returns-in_err-outer-clause-first : goal.returns-in_err-outer-clause-first
-returns-in_err-outer-clause-first g c = first_not_within {e = c.in_err-outer.field-0.0} _ c.from_residual.ensures.0 (search rules) (rw (c.for_type_name.ensures, c.bytes_of-bytes.ensures) at c.in_err-outer.ensures.enters)
-
-pub returns-in_err-outer-clause-exact : goal.returns-in_err-outer-clause-exact
-returns-in_err-outer-clause-exact g c = λ h. makes_refused {e = c.in_err-outer.field-0.0} _ c.from_residual.ensures.0 (search rules) (rw (c.for_type_name.ensures, c.bytes_of-bytes.ensures, h) at c.in_err-outer.ensures.enters)
-
-pub returns-clause-entered : goal.returns-clause-entered
-returns-clause-entered g c = entered_within_sized (rw (c.for_type_name.ensures, c.bytes_of-bytes.ensures) at c.in_ok-outer.ensures.enters) c.visit_data-answer.ensures.entered c.close_entry.ensures
-
-pub returns-clause-first : goal.returns-clause-first
-returns-clause-first g c = goes_in (rw (c.for_type_name.ensures, c.bytes_of-bytes.ensures) at c.in_ok-outer.ensures.enters)
-
-pub returns-clause-exact : goal.returns-clause-exact
-returns-clause-exact g c = λ h. makes_within (rw (c.for_type_name.ensures, c.bytes_of-bytes.ensures, h) at c.in_ok-outer.ensures.enters) (c.visit_data-answer.ensures.exact h) c.close_entry.ensures
+pub returns : goal.returns
+returns g c =
+    let h = rw (c.for_type_name.ensures, c.bytes_of-bytes.ensures) at c.in_ok-outer.ensures.enters in record {
+      entered = entered_within_sized h c.visit_data-answer.ensures.entered c.close_entry.ensures;
+      first = first_entered h;
+      exact = λ z. makes_within (rw z at h) (c.visit_data-answer.ensures.exact z) c.close_entry.ensures;
+    }

@@ -1,6 +1,5 @@
 -- A hand-written proof of `root_visitor`: the collector is lent, and a root visitor may hold it.
-use Rattle.allocative.proofs.Lent.{◌≡◌, List, [], ◌∷◌, refl, sym, ap, subst, MutBor, proved, says_two, id⊢, ftrue, flft, named, Lfts, fact, tables, ‵, raw, ◌⊛◌, some, later, ◌$◌, ◌∵◌, !, qed, done, move, keep, drop, use1, use2, split, join, fsplit, fjoin, feq_i, feq_l, pick, await, suffices, frame, enter, addr, stop, no_more, and_then, returns, alloc_all, pass_all, free_all, look_at, get, through, sets, lands_as, no, shows, RattleType, MutRef, mut_vals, mut_Tells, plain, named_lft, nothing, heard, peeks, only, calls_at, Lasts, lasts, triple_of, framed, Stays, stay_dropped, Goes-spent_ref, ends_at}
-use Rattle.allocative.proofs.Nest.{nest}
+use Rattle.allocative.proofs.Lent.{refusal_laws, result_laws, visitor_laws, nest, ◌≡◌, List, [], ◌∷◌, refl, sym, ap, subst, MutBor, proved, says_two, id⊢, ftrue, flft, named, Lfts, fact, tables, ‵, raw, ◌⊛◌, some, later, ◌$◌, ◌∵◌, !, qed, done, move, keep, drop, use1, use2, split, join, fsplit, fjoin, feq_i, feq_l, pick, await, suffices, frame, enter, addr, stop, no_more, and_then, returns, alloc_all, pass_all, free_all, look_at, get, through, sets, lands_as, no, shows, RattleType, MutRef, mut_vals, mut_Tells, plain, named_lft, nothing, heard, peeks, only, calls_at, Lasts, lasts, triple_of, framed, Stays, stay_dropped, Goes-spent_ref, ends_at}
 use Rattle.std.proofs.Common.{Result, Ok, Err, IfOk, IfErr, OnOk, OnErr}
 use Rattle.allocative.proofs.Common.{name_if_ok, Refusal, State, Begins, Settles, Visitor, as_graph}
 use Rattle.allocative.specs.Lending.{LendsBegunGraph}
@@ -10,9 +9,6 @@ use Rattle.std.specs.contracts.result.Result as result
 use Rattle.allocative.specs.contracts.visitor.Visitor as visitor
 use Rattle.allocative.specs.contracts.visitor.collector.Collector as collector
 use Rattle.allocative.specs.contracts.run.builder.FlameGraphBuilder as builder
-use Rattle.allocative_graph.proofs.refusal.Refusal.TheLaws.{the_row_laws as refusal_laws}
-use Rattle.std.proofs.result.Result.TheLaws.{the_row_laws as result_laws}
-use Rattle.allocative.proofs.visitor.Visitor.TheLaws.{the_row_laws as visitor_laws}
 use Rattle.allocative.specs.contracts.run.builder.FlameGraphBuilder.root_visitor as f
 use Rattle.allocative.proofs.run.builder.FlameGraphBuilder.root_visitor.Statement.{statement}
 use Rattle.allocative.proofs.run.builder.FlameGraphBuilder.root_visitor.Code as code

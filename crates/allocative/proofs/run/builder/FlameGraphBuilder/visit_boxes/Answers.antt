@@ -1,7 +1,7 @@
 -- One more root is visited, or refused.
 use Rattle.std.proofs.Common.{rules}
 use Rattle.allocative.proofs.Roots.{runs_one_more}
-use Rattle.allocative.proofs.RefusedRoots.{rightly_indexed, one_of_exact}
+use Rattle.allocative.proofs.RefusedRoots.{same_err, rightly_indexed, one_of_exact}
 use Rattle.allocative.proofs.run.builder.FlameGraphBuilder.visit_boxes.Goals as goal
 
 pub loop-root-preserved : goal.loop-root-preserved
@@ -13,7 +13,7 @@ loop-root-preserved g c =
 pub returns-in_err-visit_box-clause-rightly : goal.returns-in_err-visit_box-clause-rightly
 returns-in_err-visit_box-clause-rightly g c =
     rightly_indexed _ _ (λ b. (goal.Allocative-dyn g (b.vtable, b.value)).may_show b.value) c.args.roots.now c.loop-root.root-index c.root-item.result
-    c.args.self.now c.loop-root.self c.visit_box.new.self tt c.in_err-visit_box.field-0.0 c.from_residual-in_err-visit_box.result
+    c.args.self.now c.loop-root.self c.visit_box.new.self tt
     (one_of_exact (λ b. (goal.Allocative-dyn g (b.vtable, b.value)).is_exact) c.args.roots.now c.loop-root.root-index c.root-item.result c.loop-root-test.true c.root-item.is)
-    c.from_residual-in_err-visit_box.ensures.0 (search rules)
+    (same_err {e = c.in_err-visit_box.field-0.0} _ c.from_residual-in_err-visit_box.ensures.0 (search rules))
     c.loop-root.invariant c.in_err-visit_box.ensures.rightly c.loop-root-test.true c.root-item.is

@@ -1,8 +1,8 @@
 -- One more member is shown, and the map ends.
 use Rattle.std.proofs.Common.{String, Global, Some, [], ◌∷◌, ◌++◌, sym, ap, append_assoc, ◌∙◌, rules, append-nil}
 use Rattle.allocative.proofs.Common.{Showing, pair_shows, stored_string}
-use Rattle.allocative.proofs.Meaning.{entered_none, entered_snoc, means_same}
-use Rattle.allocative.proofs.Within.{item_refused}
+use Rattle.allocative.proofs.Meaning.{entered_none, means_same}
+use Rattle.allocative.proofs.Within.{entered_snoc, item_refused, same_err}
 use Rattle.allocative.proofs.impls.pack_impls.json.MembersRefMapStringPart.enter.Goals as goal
 
 abbrev shown : {V : Type 0} → (V → Showing) → String Global × V → Showing
@@ -31,5 +31,5 @@ returns-in_err-enter g c =
     let l = c.loop-key in
     let done = l.invariant.0 in
     let e : String Global × g.row.V.Denot = (c.in-Some.key.now, c.in-Some.value.now) in
-    item_refused (shown g.V.Allocative.may_show) done e c.next.new.self {e = c.in_err-enter.field-0.0} _ c.from_residual.ensures.0 (search rules) l.invariant.2 c.in_err-enter.ensures
+    item_refused (shown g.V.Allocative.may_show) done e c.next.new.self (same_err {e = c.in_err-enter.field-0.0} _ c.from_residual.ensures.0 (search rules)) l.invariant.2 c.in_err-enter.ensures
     (sym (l.invariant.1 ∙ ap (λ es. done ++ es) c.in-Some.ensures.steps))
