@@ -19,22 +19,15 @@ joined_more t ks i d h =
     rw (take_more ks i d h, map-append (λ (k : Bor (List ℕ)). k.now) (take i ks) (get_or ks i d ∷ []), flat_map-append (λ (k : Key). 59 ∷ k) (texts (take i ks)) ((get_or ks i d).now ∷ []))
     (simp (append_assoc, append-nil))
 
--- A key can be in the path or in the text before it.
-key_moved : (t : List ℕ) (k : Key) (p : Path) (n : ℕ) → line_below t (k ∷ p, n) ≡ line_from (t ++ k) (p, n)
-key_moved t k p n = rw (joined-keys k p) (simp append_assoc)
-
 -- The lines of one child.
 pub child_lines : (t : List ℕ) (k : Key) (rs : List (Path × ℕ)) → lines_below t (under_rows k rs) ≡ lines_from (t ++ k) rs
 child_lines t k [] = refl
-child_lines t k (r ∷ rs) = λ i. key_moved t k r.0 r.1 i ++ child_lines t k rs i
+child_lines t k (r ∷ rs) = rw (joined-keys k r.0, child_lines t k rs) (simp append_assoc)
 
 -- A `;` can be before the key or at the end of the text before it.
-semicolon_moved : (t : List ℕ) (k : Key) (p : Path) (n : ℕ) → line_from t (k ∷ p, n) ≡ line_below (t ++ 59 ∷ []) (k ∷ p, n)
-semicolon_moved t k p n = rw (joined-keys k p) (simp append_assoc)
-
 under_lines : (t : List ℕ) (k : Key) (rs : List (Path × ℕ)) → lines_from t (under_rows k rs) ≡ lines_below (t ++ 59 ∷ []) (under_rows k rs)
 under_lines t k [] = refl
-under_lines t k (r ∷ rs) = λ i. semicolon_moved t k r.0 r.1 i ++ under_lines t k rs i
+under_lines t k (r ∷ rs) = rw (joined-keys k r.0, under_lines t k rs) (simp append_assoc)
 
 -- The lines of all children.
 pub rows_lines : (t : List ℕ) (cs : List Child) → lines_from t (rows_of cs) ≡ lines_below (t ++ 59 ∷ []) (rows_of cs)

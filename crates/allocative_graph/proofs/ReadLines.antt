@@ -57,17 +57,6 @@ read-blank xs x now h e =
     let blank : AreStacks (x.now ∷ []) [] = subst (λ l. AreStacks (l ∷ []) []) (sym (nil_from_length x.now e)) tt in
     subst₂ AreStacks (sym (map_push (λ (x : Bor (List ℕ)). x.now) xs x)) (append-nil (map seen now)) (stacks-append (texts xs) (map seen now) (x.now ∷ []) [] h blank)
 
--- What the code's test of a line says of its length.
-pub blank : (l : List ℕ) (t : Bool) → t ≡ (length l == 0) → t ≡ true → length l ≡ 0
-blank l t e is = eqb-true (length l) 0 (sym e ∙ is)
-
-pub not_blank : (l : List ℕ) (t : Bool) → t ≡ (length l == 0) → t ≡ false → 0 < length l
-not_blank l t e is = not_zero (length l) (sym e ∙ is)
-
--- At the end all lines of the text were read.
-pub read-all : (text : List ℕ) (xs : List (Bor (List ℕ))) (ls : List Line) → texts xs ≡ lines text → AreStacks (texts xs) (map seen ls) → Means text (map seen ls)
-read-all text xs ls e h = subst (λ (ks : List (List ℕ)). AreStacks ks (map seen ls)) e h
-
 -- The line behind those that were read is the first that is none.
 pub fault_at : (text : List ℕ) (xs : List (Bor (List ℕ))) (x : Bor (List ℕ)) (n : ℕ) (w : LineFault) (ls : List Line) → texts xs ≡ take (length xs) (lines text)
     → (length xs < length (lines text)) × (x.now ≡ get_or (lines text) (length xs) x.now) → AreStacks (texts xs) (map seen ls) → 0 < length x.now → IsWrong w x.now → n ≡ length xs + 1 → IsFault text n w
