@@ -17,8 +17,8 @@ other_than l k h = ap is_eq (nat_list_cmp_total.antisymm k l ∙ ap ordering_rev
 -- A key that was not found is none of theirs.
 gap-lacks : (cs : List Child) (i : ℕ) (k : Key) → IsChildGap cs k i → Lacks k cs
 gap-lacks cs i k g =
-    subst (AllByRecursion (λ l. eq_by_cmp key_cmp k l ≡ false)) (sym (map-append (λ (c : Child). c.key) (take i cs) (drop i cs)) ∙ ap keys_of (take-append-drop i cs))
-    (each-append _ (keys_of (take i cs)) (keys_of (drop i cs)) (each-implies _ _ (λ l. other_than l k) (keys_of (take i cs)) g.below) (lacks-above k (drop i cs) g.above))
+    subst (Lacks k) (take-append-drop i cs) (rw (map-append (λ (c : Child). c.key) (take i cs) (drop i cs))
+    (each-append _ (keys_of (take i cs)) (keys_of (drop i cs)) (each-implies _ _ (λ l. other_than l k) (keys_of (take i cs)) g.below) (lacks-above k (drop i cs) g.above)))
 
 -- ---- what is read under a key: F passes over children with other keys, and reads the child with the key
 module _ {A : Type 0} (F : List Child → A) (one : Child → A) (k : Key) (past : (c : Child) (cs : List Child) → eq_by_cmp key_cmp k c.key ≡ false → F (c ∷ cs) ≡ F cs) where
@@ -57,9 +57,7 @@ module _ (k : Key) (p : Path) where
 
   whole-past : (c : Child) (cs : List Child) → eq_by_cmp key_cmp k c.key ≡ false → whole_in (rows_of (c ∷ cs)) (k ∷ p) ≡ whole_in (rows_of cs) (k ∷ p)
   whole-past c cs e =
-      whole-more c cs
-      ∙ (λ i. sum_by (λ r. cond (e i && begins p r.0) r.1 0) (entries c.graph) + whole_in (rows_of cs) (k ∷ p))
-      ∙ ap (λ n. n + whole_in (rows_of cs) (k ∷ p)) (fold_stays (λ n (r : Path × ℕ). n + 0) 0 (λ r. refl) (entries c.graph)) ∙ zero-add _
+      rw (whole-more c cs, e, fold_stays (λ n (r : Path × ℕ). n + 0) 0 (λ r. refl) (entries c.graph)) (zero-add _)
 
   -- Nothing is below a key that no child has.
   whole-lacks : (cs : List Child) → Lacks k cs → whole_in (rows_of cs) (k ∷ p) ≡ 0

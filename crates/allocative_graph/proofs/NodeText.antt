@@ -53,10 +53,6 @@ pub own_written : (t before after : List ℕ) (n : ℕ) (cs : List Child) (rs : 
 own_written t before after n cs rs is wrote =
     rw (is, wrote, rows_lines t cs) (append_assoc before (line_from t ([], n)) _)
 
--- Where the graph has only the root, no line is below it.
-pub none_below : (t : List ℕ) (n : ℕ) (rs : List (Path × ℕ)) → rs ≡ ([], n) ∷ [] → lines_below t rs ≡ []
-none_below t n rs is = ap (lines_below t) is
-
 -- Cutting back the start of a line returns it.
 pub cut_back : (t more : List ℕ) (n : ℕ) → n ≡ length t → take n (t ++ more) ≡ t
 cut_back t more n len = ap (λ k. take k (t ++ more)) len ∙ take-append_seam t more

@@ -48,7 +48,7 @@ stacks-append ((b ∷ bs) ∷ ls) (s ∷ ss) ks ts h g = (h.0, stacks-append ls 
 pub read-more : (xs : List (Bor (List ℕ))) (x : Bor (List ℕ)) (now then : List Line) (line : Line) → AreStacks (texts xs) (map seen now) → IsStack x.now (seen line) → then ≡ now ++ line ∷ []
     → AreStacks (texts (xs ++ x ∷ [])) (map seen then)
 read-more xs x now then line h is e =
-    subst₂ AreStacks (sym (map_push (λ (x : Bor (List ℕ)). x.now) xs x)) (sym (ap (map seen) e ∙ map_push seen now line))
+    rw (e, map_push (λ (x : Bor (List ℕ)). x.now) xs x, map_push seen now line)
     (stacks-append (texts xs) (map seen now) (x.now ∷ []) (seen line ∷ []) h (stacks-cons x.now [] (seen line) [] is tt))
 
 -- A blank line was passed over.

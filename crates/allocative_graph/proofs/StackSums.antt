@@ -51,18 +51,12 @@ get-one (k ∷ ks) n [] =
     get-sum_of default (under k below) [] ∙ (λ i. sizes_together (get-default [] i) (get-under-root k below i))
 get-one (k ∷ ks) n (l ∷ p) =
     let below : Graph = nested ks (add_self n default) in
-    get-sum_of default (under k below) (l ∷ p)
-    ∙ (λ i. sizes_together (get-default (l ∷ p) i) (get-under k below l p i))
-    ∙ none_before _
-    ∙ ap (λ o. cond (is_eq (key_cmp l k)) o None) (get-one ks n p)
-    ∙ below_key k ks n l p
+    rw (get-sum_of default (under k below) (l ∷ p), get-default (l ∷ p), get-under k below l p, get-one ks n p) (none_before _ ∙ below_key k ks n l p)
 
 size_at-one : (s : Stack) (p : Path) → size_at (one_stack s) p ≡ cond (is_same_path p s.path) s.size 0
 size_at-one s p =
-    ap (λ o. unwrap_or o 0) (get-one s.path s.size p)
-    ∙ on_test (λ t. unwrap_or (cond (is_root p || begins p s.path) (Some (cond t s.size 0)) None) 0 ≡ cond t s.size 0) (is_same_path p s.path)
-    (λ e. ap (λ b. unwrap_or (cond b (Some s.size) None) 0) (root_begins p s.path ∙ same_begins p s.path e))
-    (λ e. on_test (λ b. ◌≡◌ {A = ℕ} (unwrap_or (cond b (Some 0) None) 0) 0) (is_root p || begins p s.path) (λ t. refl) (λ t. refl))
+    rw (get-one s.path s.size p, root_begins p s.path) (on_test (λ t. unwrap_or (cond (begins p s.path) (Some (cond t s.size 0)) None) 0 ≡ cond t s.size 0) (is_same_path p s.path)
+    (λ e. rw (same_begins p s.path e)) (λ e. on_test (λ b. ◌≡◌ {A = ℕ} (unwrap_or (cond b (Some 0) None) 0) 0) (begins p s.path) (λ t. refl) (λ t. refl)))
 
 contains_key-one : (s : Stack) (p : Path) → contains_key (one_stack s) p ≡ (is_root p || begins p s.path)
 contains_key-one s p = ap is_some (get-one s.path s.size p) ∙ is_some-cond (is_root p || begins p s.path) (cond (is_same_path p s.path) s.size 0)

@@ -5,7 +5,7 @@ use Rattle.std.proofs.lemmas.Str.{IsUtf8-append, IsUtf8-from_ascii, IsCharBounda
 use Rattle.std.specs.Str.{IsUtf8, IsCharBoundary}
 use Rattle.allocative_graph.specs.Representation.PathRows.{lines_from}
 use Rattle.allocative_graph.proofs.NodeAdded.{entries_of_node}
-use Rattle.allocative_graph.proofs.NodeText.{child_written, none_below, cut_back}
+use Rattle.allocative_graph.proofs.NodeText.{child_written, cut_back}
 use Rattle.allocative_graph.proofs.flamegraph.FlameGraph.+write_below.Goals as goal
 use Rattle.allocative_graph.proofs.flamegraph.FlameGraph.+write_below.Goals.{then-has_children+in_ok-push+in_ok-write_below, else-has_children, Joined-has_children}
 

@@ -17,6 +17,4 @@ invariant_of-self c = record {
 pub returns-clause-sum : goal.returns-clause-sum
 returns-clause-sum c =
     let n = c.self.inside.node_size in
-    node-insert n (n + c.args.size) c.self.inside.children.items c.self.invariant.children.sorted
-    ∙ ap (λ g. insert g [] (n + c.args.size)) c.self.view_is
-    ∙ ap (λ m. insert c.args.self.now [] (m + c.args.size)) (sym (own_of_node c.self.view_is c.self.invariant))
+    rw (own_of_node c.self.view_is c.self.invariant, ← c.self.view_is) (node-insert n (n + c.args.size) c.self.inside.children.items c.self.invariant.children.sorted)
