@@ -1,11 +1,9 @@
 -- What a graph has at a path and below it, by the children of its root.
 use Rattle.std.proofs.Common.{sum_by, ◌&&◌, ◌≡◌, ℕ, zero, suc, ◌+◌, ◌<◌, true, false, cond, List, [], ◌∷◌, ◌++◌, Option, Some, None, IfNone, length, get_or, take, drop, refl, sym, ap, subst, subst₂, ◌∙◌, arith, add-zero, zero-add, take-append-drop}
-use Rattle.allocative_graph.proofs.Common.{AllByRecursion, is_some, unwrap_or, eq_by_cmp, is_eq, ordering_reverse, Less, nat_list_cmp_total, get, entries, len, len-entries, len-child, Child, Key, Path, key_cmp, Graph, IsTree, IsBehind, HasNothing, begins, total_at, node, IsNode, rows_of, rows_of_child, entries-node, size_under, InOrder, IsFound, IsChildGap, AllAbove, All-from_recursion, fold-map, map-append, sum_by-cons}
+use Rattle.allocative_graph.proofs.Common.{is_some, unwrap_or, eq_by_cmp, is_eq, ordering_reverse, Less, nat_list_cmp_total, get, entries, len, len-entries, len-child, Child, Key, Path, key_cmp, Graph, IsTree, IsBehind, HasNothing, begins, total_at, node, IsNode, rows_of, rows_of_child, entries-node, size_under, InOrder, IsFound, IsChildGap, AllAbove, All-from_recursion, fold-map, map-append, sum_by-cons, tied_itself, keys_of}
 use Rattle.std.proofs.lemmas.List.Folds.{fold_stays, length-flat_map-take}
 use Rattle.std.proofs.lemmas.List.Sums.{sum_by-append}
 use Rattle.std.specs.List.Sorted.{IsStrictlySortedBy}
-use Rattle.std.specs.Cmp.{tied_itself}
-use Rattle.allocative_graph.specs.Reads.{keys_of}
 use Rattle.allocative_graph.proofs.Basics.{each-append, each-implies, each-map}
 use Rattle.allocative_graph.proofs.ChildSizes.{Lacks, lacks-above, size_under-lacks}
 use Rattle.allocative_graph.proofs.ChildLookup.{get-under}

@@ -1,10 +1,9 @@
 -- Children in the order of their keys: what the order says of the parts of a list.
 use Rattle.std.proofs.Common.{◌≡◌, ℕ, zero, suc, ◌<◌, List, [], ◌∷◌, ◌++◌, length, get_or, ap, subst₂, ◌∙◌, arith}
-use Rattle.allocative_graph.proofs.Common.{AllByRecursion, Less, Equal, Greater, ordering_reverse, nat_list_cmp_total, nat_cmp-IsAntisymmetric, slice_cmp-IsAntisymmetric, Child, Key, key_cmp, IsTree, AreChildren, InOrder, AllBelow, AllAbove, length-map}
+use Rattle.allocative_graph.proofs.Common.{AllByRecursion, Less, Equal, Greater, ordering_reverse, nat_list_cmp_total, nat_cmp-IsAntisymmetric, slice_cmp-IsAntisymmetric, Child, Key, key_cmp, IsTree, AreChildren, InOrder, AllBelow, AllAbove, length-map, keys_of}
 use Rattle.std.specs.List.Sorted.{IsStrictlySortedBy}
 use Rattle.std.proofs.lemmas.List.{get_or-map}
 use Rattle.std.proofs.lemmas.Map.Keys.{Less-from_sorted}
-use Rattle.allocative_graph.specs.Reads.{keys_of}
 use Rattle.allocative_graph.proofs.Basics.{each-implies}
 
 pub key_same : (k l : Key) → key_cmp k l ≡ Equal → k ≡ l

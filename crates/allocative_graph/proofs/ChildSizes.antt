@@ -1,8 +1,7 @@
 -- The sizes below a key that a child has, and below a key that no child has.
 use Rattle.std.proofs.Common.{◌≡◌, ℕ, inl, inr, true, false, cond, List, [], ◌∷◌, Option, None, Some, refl, sym, ap, subst, ◌∙◌, arith}
-use Rattle.allocative_graph.proofs.Common.{is_some, AllByRecursion, eq_by_cmp, is_eq, get, Child, Key, Path, key_cmp, size_under, AddsUp, AddsUpInPart, AllAbove}
+use Rattle.allocative_graph.proofs.Common.{is_some, AllByRecursion, eq_by_cmp, is_eq, get, Child, Key, Path, key_cmp, size_under, AddsUp, AddsUpInPart, AllAbove, keys_of}
 use Rattle.std.specs.Cmp.{Equal-is}
-use Rattle.allocative_graph.specs.Reads.{keys_of}
 use Rattle.allocative_graph.proofs.Basics.{each-implies, or_left}
 use Rattle.allocative_graph.proofs.ChildOrder.{key_same}
 

@@ -127,10 +127,8 @@ size_at-read ss h k p e =
 -- What is read of the text of a graph has its sizes, but for the root.
 pub reads_back : (g h : Graph) → HasPlainKeys g → HasWords g → IsRead (text g) h → (k : Key) (p : Path) → size_at h (k ∷ p) ≡ size_at g (k ∷ p)
 reads_back g h plain fits read k p =
-    size_at-read read.stacks h k p (read.graph (k ∷ p))
-    ∙ ap (λ (ss : List Stack). bytes_at ss (k ∷ p)) (stacks_of_text g plain fits read.stacks read.means)
-    ∙ fold-map (λ n (s : Stack). n + cond (is_same_path (k ∷ p) s.path) s.size 0) said 0 (shown g)
-    ∙ sym (size_shown g k p)
+    rw (size_at-read read.stacks h k p (read.graph (k ∷ p)), stacks_of_text g plain fits read.stacks read.means, size_shown g k p)
+    (fold-map (λ n (s : Stack). n + cond (is_same_path (k ∷ p) s.path) s.size 0) said 0 (shown g))
 
 -- ---- nothing in the text of a graph is refused
 said_stack : (e : Sized) → Good e → (length e.0 ≤ LEVELS) × (0 < length (joined e.0)) → IsStack (body e) (said e)

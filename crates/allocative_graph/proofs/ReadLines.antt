@@ -1,12 +1,11 @@
 -- The lines of a text that is read, one after another.
-use Rattle.std.proofs.Common.{◌≡◌, ℕ, suc, ◌+◌, ◌<◌, ◌≤◌, ◌==◌, Bool, true, false, cond, List, Bor, [], ◌∷◌, ◌++◌, map, take, drop, length, get_or, refl, sym, ap, subst, subst₂, ◌∙◌, append-nil, drop-cons, eqb-true, arith, take-append-drop}
-use Rattle.allocative_graph.proofs.Common.{slice_split, lines, lines_of_parts, Line, LineFault, NoSpace, Stack, IsStack, IsWrong, AreStacks, Means, IsFault, map_push, nil_from_length, length-map}
+use Rattle.std.proofs.Common.{◌≡◌, ℕ, suc, ◌+◌, ◌<◌, ◌≤◌, ◌==◌, Bool, cond, List, Bor, [], ◌∷◌, ◌++◌, map, take, drop, length, get_or, refl, sym, ap, subst, subst₂, ◌∙◌, append-nil, drop-cons, arith, take-append-drop}
+use Rattle.allocative_graph.proofs.Common.{slice_split, lines, lines_of_parts, Line, LineFault, NoSpace, Stack, IsStack, IsWrong, AreStacks, IsFault, map_push, nil_from_length, length-map, seen}
 use Rattle.std.proofs.lemmas.List.Splits.{length-slice_split}
 use Rattle.std.proofs.lemmas.List.Sums.{count_by-le-length}
-use Rattle.allocative_graph.specs.Read.{seen}
 use Rattle.allocative_graph.proofs.Basics.{on_test}
 use Rattle.allocative_graph.proofs.NodeText.{texts}
-use Rattle.allocative_graph.proofs.Stacks.{wrong_is_none, not_zero}
+use Rattle.allocative_graph.proofs.Stacks.{wrong_is_none}
 
 parts_fit : (ps : List (List ℕ)) → length (lines_of_parts ps) ≤ length ps
 parts_fit [] = omega arith

@@ -1,5 +1,5 @@
-use Rattle.std.proofs.Common.{ℕ, List, Bor, sym, ap, ◌∙◌, append_assoc, ◌≡◌, ◌++◌, [], take, arith, take_all, string_bytes}
-use Rattle.allocative_graph.proofs.Common.{joined, joined_on}
+use Rattle.std.proofs.Common.{append_assoc, ◌≡◌, [], take, arith, take_all, string_bytes}
+use Rattle.allocative_graph.proofs.Common.{joined_on}
 use Rattle.allocative_graph.proofs.NodeText.{joined-keys, joined_more, texts}
 use Rattle.allocative_graph.proofs.flamegraph.push_path.Goals as goal
 

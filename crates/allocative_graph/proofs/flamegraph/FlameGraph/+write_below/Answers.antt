@@ -1,6 +1,6 @@
 -- The start of a line is cut back to its length, and the lines of each child follow those before.
 use Rattle.std.proofs.Common.{◌≡◌, ℕ, ◌++◌, [], ◌∷◌, List, get_or, take, length, arith, ap, sym, subst, ◌∙◌, append_assoc, rules, take_all, append-nil, string_bytes}
-use Rattle.allocative_graph.proofs.Common.{OnFalse, entries, Child, lines_below, HasRootAlone, rows_of}
+use Rattle.allocative_graph.proofs.Common.{OnFalse, entries, lines_below, HasRootAlone}
 use Rattle.std.proofs.lemmas.Str.{IsUtf8-append, IsUtf8-from_ascii, IsCharBoundary-at_seam}
 use Rattle.std.specs.Str.{IsUtf8, IsCharBoundary}
 use Rattle.allocative_graph.specs.Representation.PathRows.{lines_from}

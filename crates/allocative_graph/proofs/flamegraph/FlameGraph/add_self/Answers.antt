@@ -1,5 +1,4 @@
-use Rattle.std.proofs.Common.{◌+◌, [], ap, sym, ◌∙◌, arith}
-use Rattle.std.specs.FinMap.{insert}
+use Rattle.std.proofs.Common.{◌+◌, arith}
 use Rattle.allocative_graph.proofs.NodeAdded.{total_of_node, own_of_node}
 use Rattle.allocative_graph.proofs.NodeSizes.{node-insert}
 use Rattle.allocative_graph.proofs.flamegraph.FlameGraph.add_self.Goals as goal

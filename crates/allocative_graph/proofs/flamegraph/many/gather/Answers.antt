@@ -1,5 +1,5 @@
-use Rattle.std.proofs.Common.{◌≡◌, [], List, ap, sym, arith, ◌∙◌}
-use Rattle.allocative_graph.proofs.Common.{Child, default, sum_of_all, nil_from_length}
+use Rattle.std.proofs.Common.{◌≡◌, [], arith, ◌∙◌}
+use Rattle.allocative_graph.proofs.Common.{default, nil_from_length}
 use Rattle.allocative_graph.proofs.Gathered.{all_permuted}
 use Rattle.allocative_graph.proofs.flamegraph.many.gather.Goals as goal
 
