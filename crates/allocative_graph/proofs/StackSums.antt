@@ -84,10 +84,6 @@ graph-stacks ss p =
     from_parts (get (sum_of_stacks default ss) p) (is_path_of ss p) (bytes_at ss p) (has-stacks ss p) (omega (arith, size_at-added_up one_stack default ss p, size_at-default p, each))
 
 -- ---- lines in any order
--- The bytes of lines are those of their stacks.
-pub bytes_seen : (ls : List Line) → sum_by (λ l. l.size) ls ≡ all_bytes (map seen ls)
-bytes_seen ls = sym (fold-map (λ n (s : Stack). n + s.size) seen 0 ls)
-
 -- What lines add up to in another order has the paths, the sizes and the bytes of their stacks.
 pub record IsSum (ss : List Stack) (g : Graph) : Type 0 where
   pub graph : IsGraphOfStacks ss g
@@ -117,5 +113,5 @@ nested-push (l ∷ ks) k g = ap (λ (h : Graph). sum_of default (under l h)) (ne
 
 -- Where the bytes of lines were added up in vain, they exceed a word.
 pub sum_exceeds : (ls given : List Line) (o : Option ℕ) → given ≡ ls → SomeIff o (sum_by (λ l. l.size) given < 2 ^ 64) (sum_by (λ l. l.size) given) → is_some o ≡ false → 2 ^ 64 ≤ all_bytes (map seen ls)
-sum_exceeds ls given None e h none = omega (arith, h, ap (λ (xs : List Line). sum_by (λ l. l.size) xs) e, bytes_seen ls)
+sum_exceeds ls given None e h none = omega (arith, h, ap (λ (xs : List Line). sum_by (λ l. l.size) xs) e, fold-map (λ n (s : Stack). n + s.size) seen 0 ls)
 sum_exceeds ls given (Some n) e h none = absurd (true≢false none)
