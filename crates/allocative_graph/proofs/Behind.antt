@@ -1,11 +1,9 @@
 -- What a graph has at a path and below it, by the children of its root.
 use Rattle.std.proofs.Common.{sum_by, ◌&&◌, ◌≡◌, ℕ, zero, suc, ◌+◌, ◌<◌, true, false, cond, List, [], ◌∷◌, ◌++◌, Option, Some, None, IfNone, length, get_or, take, drop, refl, sym, ap, subst, subst₂, ◌∙◌, arith, add-zero, zero-add, take-append-drop}
-use Rattle.allocative_graph.proofs.Common.{AllByRecursion, is_some, unwrap_or, eq_by_cmp, is_eq, ordering_reverse, Less, nat_list_cmp_total, get, entries, len, len-entries, len-child, Child, Key, Path, key_cmp, Graph, IsTree, IsBehind, HasNothing, begins, total_at, node, IsNode, rows_of, rows_of_child, entries-node, size_under, InOrder, IsFound, IsChildGap, AllAbove, All-from_recursion, fold-map, map-append, sum_by-cons}
+use Rattle.allocative_graph.proofs.Common.{is_some, unwrap_or, eq_by_cmp, is_eq, ordering_reverse, Less, nat_list_cmp_total, get, entries, len, len-entries, len-child, Child, Key, Path, key_cmp, Graph, IsTree, IsBehind, HasNothing, begins, total_at, node, IsNode, rows_of, rows_of_child, entries-node, size_under, InOrder, IsFound, IsChildGap, AllAbove, All-from_recursion, fold-map, map-append, sum_by-cons, tied_itself, keys_of}
 use Rattle.std.proofs.lemmas.List.Folds.{fold_stays, length-flat_map-take}
 use Rattle.std.proofs.lemmas.List.Sums.{sum_by-append}
 use Rattle.std.specs.List.Sorted.{IsStrictlySortedBy}
-use Rattle.std.specs.Cmp.{tied_itself}
-use Rattle.allocative_graph.specs.Reads.{keys_of}
 use Rattle.allocative_graph.proofs.Basics.{each-append, each-implies, each-map}
 use Rattle.allocative_graph.proofs.ChildSizes.{Lacks, lacks-above, size_under-lacks}
 use Rattle.allocative_graph.proofs.ChildLookup.{get-under}
@@ -17,8 +15,8 @@ other_than l k h = ap is_eq (nat_list_cmp_total.antisymm k l ∙ ap ordering_rev
 -- A key that was not found is none of theirs.
 gap-lacks : (cs : List Child) (i : ℕ) (k : Key) → IsChildGap cs k i → Lacks k cs
 gap-lacks cs i k g =
-    subst (AllByRecursion (λ l. eq_by_cmp key_cmp k l ≡ false)) (sym (map-append (λ (c : Child). c.key) (take i cs) (drop i cs)) ∙ ap keys_of (take-append-drop i cs))
-    (each-append _ (keys_of (take i cs)) (keys_of (drop i cs)) (each-implies _ _ (λ l. other_than l k) (keys_of (take i cs)) g.below) (lacks-above k (drop i cs) g.above))
+    subst (Lacks k) (take-append-drop i cs) (rw (map-append (λ (c : Child). c.key) (take i cs) (drop i cs))
+    (each-append _ (keys_of (take i cs)) (keys_of (drop i cs)) (each-implies _ _ (λ l. other_than l k) (keys_of (take i cs)) g.below) (lacks-above k (drop i cs) g.above)))
 
 -- ---- what is read under a key: F passes over children with other keys, and reads the child with the key
 module _ {A : Type 0} (F : List Child → A) (one : Child → A) (k : Key) (past : (c : Child) (cs : List Child) → eq_by_cmp key_cmp k c.key ≡ false → F (c ∷ cs) ≡ F cs) where
@@ -57,9 +55,7 @@ module _ (k : Key) (p : Path) where
 
   whole-past : (c : Child) (cs : List Child) → eq_by_cmp key_cmp k c.key ≡ false → whole_in (rows_of (c ∷ cs)) (k ∷ p) ≡ whole_in (rows_of cs) (k ∷ p)
   whole-past c cs e =
-      whole-more c cs
-      ∙ (λ i. sum_by (λ r. cond (e i && begins p r.0) r.1 0) (entries c.graph) + whole_in (rows_of cs) (k ∷ p))
-      ∙ ap (λ n. n + whole_in (rows_of cs) (k ∷ p)) (fold_stays (λ n (r : Path × ℕ). n + 0) 0 (λ r. refl) (entries c.graph)) ∙ zero-add _
+      rw (whole-more c cs, e, fold_stays (λ n (r : Path × ℕ). n + 0) 0 (λ r. refl) (entries c.graph)) (zero-add _)
 
   -- Nothing is below a key that no child has.
   whole-lacks : (cs : List Child) → Lacks k cs → whole_in (rows_of cs) (k ∷ p) ≡ 0

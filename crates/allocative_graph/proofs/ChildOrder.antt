@@ -1,10 +1,9 @@
 -- Children in the order of their keys: what the order says of the parts of a list.
 use Rattle.std.proofs.Common.{◌≡◌, ℕ, zero, suc, ◌<◌, List, [], ◌∷◌, ◌++◌, length, get_or, ap, subst₂, ◌∙◌, arith}
-use Rattle.allocative_graph.proofs.Common.{AllByRecursion, Less, Equal, Greater, ordering_reverse, nat_list_cmp_total, nat_cmp-IsAntisymmetric, slice_cmp-IsAntisymmetric, Child, Key, key_cmp, IsTree, AreChildren, InOrder, AllBelow, AllAbove, length-map}
+use Rattle.allocative_graph.proofs.Common.{AllByRecursion, Less, Equal, Greater, ordering_reverse, nat_list_cmp_total, nat_cmp-IsAntisymmetric, slice_cmp-IsAntisymmetric, Child, Key, key_cmp, IsTree, AreChildren, InOrder, AllBelow, AllAbove, length-map, keys_of}
 use Rattle.std.specs.List.Sorted.{IsStrictlySortedBy}
 use Rattle.std.proofs.lemmas.List.{get_or-map}
 use Rattle.std.proofs.lemmas.Map.Keys.{Less-from_sorted}
-use Rattle.allocative_graph.specs.Reads.{keys_of}
 use Rattle.allocative_graph.proofs.Basics.{each-implies}
 
 pub key_same : (k l : Key) → key_cmp k l ≡ Equal → k ≡ l
@@ -32,26 +31,21 @@ pub no_children : AreChildren []
 unfolding IsStrictlySortedBy
 no_children = record { sorted = tt; trees = tt }
 
-pub one_child : (c : Child) → IsTree c.graph → AreChildren (c ∷ [])
-unfolding IsStrictlySortedBy
-one_child c t = record { sorted = (tt, tt); trees = (t, tt) }
-
 pub with_first : (c : Child) (cs : List Child) → AllAbove cs c.key → IsTree c.graph → AreChildren cs → AreChildren (c ∷ cs)
 unfolding IsStrictlySortedBy
 with_first c cs above t h = record { sorted = (above, h.sorted); trees = (t, h.trees) }
+
+pub one_child : (c : Child) → IsTree c.graph → AreChildren (c ∷ [])
+one_child c t = with_first c [] tt t no_children
 
 -- A key below that of the first child is below those of all.
 pub above_all : (k : Key) (c : Child) (cs : List Child) → key_cmp k c.key ≡ Less → AreChildren (c ∷ cs) → AllAbove (c ∷ cs) k
 above_all k c cs less h = (less, each-implies _ _ (λ l q. key_trans k c.key l less q) (keys_of cs) (first_below c cs h))
 
 -- ---- a child in the middle
-all-at : (P : Key → Type 0) (a b : List Child) (x : Child) → AllByRecursion P (keys_of (a ++ x ∷ b)) → P x.key
+pub all-at : (P : Key → Type 0) (a b : List Child) (x : Child) → AllByRecursion P (keys_of (a ++ x ∷ b)) → P x.key
 all-at P [] b x h = h.0
 all-at P (y ∷ a) b x h = all-at P a b x h.1
-
--- The first child is below one in the middle.
-pub first_below_one : (c : Child) (a b : List Child) (x : Child) → AreChildren (c ∷ (a ++ x ∷ b)) → key_cmp c.key x.key ≡ Less
-first_below_one c a b x h = all-at (λ l. key_cmp c.key l ≡ Less) a b x (first_below c (a ++ x ∷ b) h)
 
 -- ---- the last child, and neighbors
 -- Where the key of the last child is below k, those of all children are.

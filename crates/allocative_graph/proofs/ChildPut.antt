@@ -3,7 +3,7 @@ use Rattle.std.proofs.Common.{◌≡◌, ℕ, ◌+◌, ◌≤◌, Bool, true, su
 use Rattle.allocative_graph.proofs.Common.{Less, Child, Key, key_cmp, Graph, IsTree, total, AreChildren, weight, IsFound, IsChildGap, AllBelow, AllAbove, Added, Merged}
 use Rattle.std.proofs.lemmas.List.{set_split}
 use Rattle.allocative_graph.proofs.Basics.{and-true}
-use Rattle.allocative_graph.proofs.ChildOrder.{first_below, first_below_one, first_tree, others}
+use Rattle.allocative_graph.proofs.ChildOrder.{first_below, all-at, first_tree, others}
 use Rattle.allocative_graph.proofs.ChildMerged.{with_graph, merged_first, merged_second, merged_both, merged_same}
 use Rattle.allocative_graph.proofs.ChildRows.{weight-split, weight-append}
 
@@ -16,7 +16,7 @@ changed : (all : Bool) (a b : List Child) (x c : Child) (g : Graph) → AreChild
 changed all [] b x c g h same sum =
     subst (λ (v : Bool). Merged v (x ∷ b) (c ∷ []) (with_graph x g ∷ b)) (and-true all) (merged_both all true x c g b [] b (merged_same b (others x b h)) same sum (first_below x b h) tt)
 changed all (z ∷ a) b x c g h same sum =
-    let less : key_cmp z.key c.key ≡ Less = subst (λ (k : Key). key_cmp z.key k ≡ Less) (sym same) (first_below_one z a b x h) in
+    let less : key_cmp z.key c.key ≡ Less = subst (λ (k : Key). key_cmp z.key k ≡ Less) (sym same) (all-at (λ l. key_cmp z.key l ≡ Less) a b x (first_below z (a ++ x ∷ b) h)) in
     merged_first all z (a ++ x ∷ b) (c ∷ []) (a ++ with_graph x g ∷ b) (changed all a b x c g (others z (a ++ x ∷ b) h) same sum) (first_tree z (a ++ x ∷ b) h) (first_below z (a ++ x ∷ b) h) (less, tt)
 
 -- ---- the key of c was found at i, where x is, and x gets the graph g

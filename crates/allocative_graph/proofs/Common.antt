@@ -9,8 +9,9 @@ pub use Rattle.std.proofs.lemmas.List.Sorted.{IsPermutation-append_comm, IsPermu
 pub use Rattle.std.proofs.lemmas.List.Sums.{sum_by-cons}
 pub use lib.Chars.{codes}
 pub use Rattle.std.specs.Bool.{OnFalse}
+pub use Rattle.std.specs.Cmp.{tied_itself}
 pub use Rattle.std.specs.Cmp.Lexicographic.{nat_list_cmp_total, slice_cmp}
-pub use Rattle.std.specs.FinMap.{IsAntisymmetric, contains_key, entries, entries-from_sorted, entries-insert, entries_sorted, from_entries, get, get-entries, get-from_entries, get-from_sorted, get-insert, keys, len, len-entries, nat_cmp-IsAntisymmetric, same_entries_map, same_map, slice_cmp-IsAntisymmetric}
+pub use Rattle.std.specs.FinMap.{IsAntisymmetric, contains_key, empty, entries, entries-from_sorted, entries-insert, entries_sorted, from_entries, get, get-entries, get-from_entries, get-from_sorted, get-insert, insert, keys, len, len-entries, nat_cmp-IsAntisymmetric, same_entries_map, same_map, slice_cmp-IsAntisymmetric}
 pub use Rattle.std.specs.FinMap.Entries.{below_all, by_order, find, is_sorted, put}
 pub use Rattle.std.specs.FinSet.{contains, contains-empty, contains-insert}
 pub use Rattle.std.specs.List.{AllByRecursion, list_any, slice_split}
@@ -28,8 +29,8 @@ pub use Rattle.allocative_graph.specs.Identity.{Identities, Identity, identity_c
 pub use Rattle.allocative_graph.specs.Many.{sum_of_all, total_of}
 pub use Rattle.allocative_graph.specs.Meaning.{IsMeaning, IsWhole, Reached, content_of, has_mark, inside, is_among, is_mark_of, marked}
 pub use Rattle.allocative_graph.specs.Path.{Key, Path, is_one_below, is_same_path, key_cmp, path_cmp}
-pub use Rattle.allocative_graph.specs.Read.{AreStacks, IsCut, IsFault, IsNumber, IsRead, IsStack, IsWrong, Means, Stack, all_bytes, bytes_at, is_path_of, number_of}
-pub use Rattle.allocative_graph.specs.Reads.{AreChildren, Figures, figures_behind, node, rows_of, rows_of_child, under_rows}
+pub use Rattle.allocative_graph.specs.Read.{AreStacks, IsCut, IsFault, IsNumber, IsRead, IsStack, IsWrong, Means, Stack, all_bytes, bytes_at, is_path_of, number_of, seen}
+pub use Rattle.allocative_graph.specs.Reads.{AreChildren, Figures, figures_behind, keys_of, node, rows_of, rows_of_child, under_rows}
 pub use Rattle.allocative_graph.specs.Representation.Children.{AddsUp, AddsUpInPart, AllAbove, AllBelow, InOrder, IsChildGap, IsFound, size_under}
 pub use Rattle.allocative_graph.specs.Representation.Merged.{Added, Merged}
 pub use Rattle.allocative_graph.specs.Representation.Node.{IsNode, weight}

@@ -1,9 +1,9 @@
 -- One forest followed by another: their entries, their contents, and what they fit.
-use Rattle.std.proofs.Common.{◌≡◌, ◌↔◌, Bool, false, ◌||◌, IsTrue, List, [], ◌∷◌, ◌++◌, map, flat_map, refl, ap, sym, ◌∙◌, subst, append_assoc, IsPermutation}
-use Rattle.allocative_graph.proofs.Common.{contains, contains-insert, Path, Identities, Identity, is_same_identity, Forest, Empty, Inline, Unique, First, Again, AsInline, AsUnique, AsShared, Bag, own_behind, contents, content_entries, shown, followed_by, insert_all, met_after, Fits, is_among, added, map-append, flat_map-append, IsPermutation-append_left, IsPermutation-append_right, IsPermutation-append_comm}
+use Rattle.std.proofs.Common.{◌≡◌, ◌↔◌, Bool, false, ◌||◌, IsTrue, List, [], ◌∷◌, ◌++◌, refl, ap, sym, ◌∙◌, subst, append_assoc, IsPermutation}
+use Rattle.allocative_graph.proofs.Common.{contains, contains-insert, Path, Identities, Identity, is_same_identity, Forest, Empty, Inline, Unique, First, Again, AsInline, AsUnique, AsShared, Bag, own_behind, contents, content_entries, shown, followed_by, insert_all, met_after, Fits, is_among, added, flat_map-append, IsPermutation-append_left, IsPermutation-append_right, IsPermutation-append_comm}
 use Rattle.std.specs.FinSet.{insert}
 use Rattle.allocative_graph.proofs.Basics.{or_assoc, or_left, or_right, identity_total, same_identity_itself}
-use Rattle.allocative_graph.proofs.Reach.{Contents, ids, insert_all-append, met-append, among-append}
+use Rattle.allocative_graph.proofs.Reach.{Contents, ids, met-append, among-append}
 
 pub own-following : (p : Path) (f g : Forest) → own_behind p (followed_by f g) ≡ own_behind p f ++ own_behind p g
 own-following p Empty g = refl
@@ -19,21 +19,15 @@ contents-following (Unique k n f after) g = ap (λ b. contents f ++ b) (contents
 contents-following (First k n j f after) g = λ i. (j, own_behind [] f) ∷ (ap (λ b. contents f ++ b) (contents-following after g) ∙ sym (append_assoc (contents f) (contents after) (contents g))) i
 contents-following (Again k n j after) g = contents-following after g
 
-pub shown-following : (f g : Forest) → shown (followed_by f g) ≡ shown f ++ shown g
-shown-following f g = ap (map (λ c. c.0)) (contents-following f g) ∙ map-append (λ c. c.0) (contents f) (contents g)
-
 pub met-following : (s : Identities) (f g : Forest) → met_after s (followed_by f g) ≡ met_after (met_after s f) g
-met-following s f g = ap (insert_all s) (shown-following f g) ∙ insert_all-append s (shown f) (shown g)
-
-pub content_entries-following : (f g : Forest) → content_entries (followed_by f g) ≡ content_entries f ++ content_entries g
-content_entries-following f g = ap (flat_map (λ c. c.1)) (contents-following f g) ∙ flat_map-append (λ c. c.1) (contents f) (contents g)
+met-following s f g = rw (contents-following f g) (met-append s (contents f) (contents g))
 
 across : (a b c d : Bag) → IsPermutation ((a ++ b) ++ (c ++ d)) ((a ++ c) ++ (b ++ d))
 across a b c d = subst (λ x. IsPermutation x ((a ++ c) ++ (b ++ d))) (sym (append_assoc a b (c ++ d))) (subst (IsPermutation (a ++ (b ++ (c ++ d)))) (sym (append_assoc a c (b ++ d)))
     (IsPermutation-append_right a _ _ (subst (λ x. IsPermutation x (c ++ (b ++ d))) (append_assoc b c d) (subst (IsPermutation ((b ++ c) ++ d)) (append_assoc c b d) (IsPermutation-append_left d (b ++ c) (c ++ b) (IsPermutation-append_comm b c))))))
 
 pub added-following : (p : Path) (f g : Forest) → IsPermutation (added p (followed_by f g)) (added p f ++ added p g)
-added-following p f g = subst (λ x. IsPermutation x (added p f ++ added p g)) (λ i. sym (own-following p f g) i ++ sym (content_entries-following f g) i)
+added-following p f g = rw (own-following p f g, contents-following f g, flat_map-append (λ (c : Identity × Bag). c.1) (contents f) (contents g))
     (across (own_behind p f) (own_behind p g) (content_entries f) (content_entries g))
 
 -- ---- fitting

@@ -1,7 +1,6 @@
 -- Graphs as maps: their sums, their totals, and graphs under a key.
 use Rattle.std.proofs.Common.{◌≡◌, ℕ, ◌+◌, Bool, true, false, cond, ◌||◌, ◌&&◌, T, IsTrue, ◌⊎◌, inl, inr, List, [], ◌∷◌, ◌++◌, fold, Option, Some, None, is_some, refl, ap, sym, ◌∙◌, arith, add-zero, unwrap_or, sum_by}
-use Rattle.allocative_graph.proofs.Common.{option_map, eq_by_cmp, is_eq, get, entries, get-entries, get-insert, get-from_entries, entries-insert, entries_sorted, contains_key, same_map, find, is_sorted, below_all, first, second, Key, Child, node, IsSumByPath, Path, key_cmp, path_cmp, is_same_path, is_one_below, Forest, all, Bag, is_entered_in, sums_of, Graph, graph, remaining, size_at, total_at, begins, total, sum_of, under, default, IsTree, sum_by-cons}
-use Rattle.std.specs.FinMap.{insert}
+use Rattle.allocative_graph.proofs.Common.{option_map, eq_by_cmp, is_eq, get, entries, get-entries, get-insert, get-from_entries, entries-insert, entries_sorted, contains_key, same_map, find, is_sorted, below_all, first, second, Key, Child, node, IsSumByPath, Path, key_cmp, path_cmp, is_same_path, is_one_below, Forest, all, Bag, is_entered_in, sums_of, Graph, graph, remaining, size_at, total_at, begins, total, sum_of, under, default, IsTree, sum_by-cons, insert}
 use Rattle.allocative_graph.proofs.Basics.{path_total, path_antisymmetric, same_path, each-found, on_test, or_assoc, or_comm, or-false, or_left}
 pub use Rattle.allocative_graph.proofs.Below.{find-below_all, weights-put}
 use Rattle.allocative_graph.proofs.Merge.{get-sum_of, get-graph, get-graph-root}
@@ -53,14 +52,9 @@ kept (Some m) = ap Some (sym (add-zero m))
 get-add_list : (g : Graph) (es : List (Path × ℕ)) → T (is_sorted path_cmp es) → (q : Path) → get (add_list g es) q ≡ sizes_together (get g q) (find path_cmp q es)
 get-add_list g [] h q = kept (get g q)
 get-add_list g (e ∷ es) h q =
-    get-add_list (add_at g e) es (second (below_all path_cmp e.0 es) _ h) q
-    ∙ ap (λ o. sizes_together o (find path_cmp q es)) (get-insert path_total g e.0 (size_at g e.0 + e.1) q)
-    ∙ on_test (λ t. sizes_together (cond t (Some (size_at g e.0 + e.1)) (get g q)) (find path_cmp q es) ≡ sizes_together (get g q) (cond t (Some e.1) (find path_cmp q es))) (is_same_path q e.0)
-    (λ s.
-    let same = same_path q e.0 s in
-    ap (sizes_together (Some (size_at g e.0 + e.1))) (ap (λ p. find path_cmp p es) same ∙ find-below_all e.0 es (first (below_all path_cmp e.0 es) (is_sorted path_cmp es) h))
-    ∙ now_there (get g e.0) e.1 ∙ ap (λ p. sizes_together (get g p) (Some e.1)) (sym same))
-    (λ s. refl)
+    rw (get-add_list (add_at g e) es (second (below_all path_cmp e.0 es) _ h) q, get-insert path_total g e.0 (size_at g e.0 + e.1) q)
+    (on_test (λ t. sizes_together (cond t (Some (size_at g e.0 + e.1)) (get g q)) (find path_cmp q es) ≡ sizes_together (get g q) (cond t (Some e.1) (find path_cmp q es))) (is_same_path q e.0)
+    (λ s. rw (same_path q e.0 s, find-below_all e.0 es (first (below_all path_cmp e.0 es) (is_sorted path_cmp es) h)) (now_there (get g e.0) e.1)) (λ s. refl))
 
 sum_of-list : (g h : Graph) → sum_of g h ≡ add_list g (entries h)
 sum_of-list g h = same_map path_total path_antisymmetric _ _ (λ q. get-sum_of g h q ∙ sym (get-add_list g (entries h) (entries_sorted h) q ∙ ap (sizes_together (get g q)) (sym (get-entries h q))))

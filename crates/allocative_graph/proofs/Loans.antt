@@ -5,7 +5,7 @@ use base.Logic.{ent, sep}
 use base.Shift.{Keyless}
 use types.Logic.{Logic, sem}
 use denote.Builtin.{u8}
-use denote.Param.Send.{IsSync, array_sync, sendable}
+use denote.Param.Send.{array_sync, sendable}
 use denote.SharingLaws.{contraction}
 use denote.Plain.{uint_row_laws}
 use denote.RawPtr.{Ptr, block_of, count_of}
@@ -18,8 +18,5 @@ module _ {M : Type 1} {𝓤 : Ura M} (𝓛 : Logic 𝓤) where
   static_dup p xs =
       contraction 𝓛 (elements_shared u8 xs (block_of p) (count_of p)) (elements_shr_laws u8 (uint_row_laws w8) xs (block_of p) (count_of p)) []
 
-u8-sync : IsSync u8
-u8-sync = search sendable
-
 pub static_owns-keyless : (p : Ptr) (xs : List ℕ) → Keyless (static_owns p xs)
-static_owns-keyless p xs = ((array_sync u8 0 u8-sync).shared xs (block_of p) (count_of p) []).1
+static_owns-keyless p xs = ((array_sync u8 0 (search sendable)).shared xs (block_of p) (count_of p) []).1

@@ -42,13 +42,11 @@ get-add s e q = get-insert path_total s e.path _ q
 pub get-add_all : (s : Sums) (b : Bag) (q : Path) → get (add_all s b) q ≡ merge (get s q) (node_in b q)
 get-add_all s [] q = refl
 get-add_all s (e ∷ b) q =
-    get-add_all (add s e) b q ∙ ap (λ o. merge o (node_in b q)) (get-add s e q)
-    ∙ on_test (λ t. merge (cond t (Some (together (get s e.path) (node_of e))) (get s q)) (node_in b q)
+    rw (get-add_all (add s e) b q, get-add s e q, bytes-cons e b q)
+    (on_test (λ t. merge (cond t (Some (together (get s e.path) (node_of e))) (get s q)) (node_in b q)
     ≡ merge (get s q) (cond (t || is_entered_in b q) (Some (node (cond t e.size 0 + bytes_in b q) (cond t (is_unique_mark e.mark) false || is_unique_in b q))) None)) (is_same_path q e.path)
-    (λ h. merge_there (together (get s e.path) (node_of e)) b q ∙ together_step (get s e.path) e.size (bytes_in b q) (is_unique_mark e.mark) (is_unique_in b q)
-    ∙ ap (λ p. Some (together (get s p) (node (e.size + bytes_in b q) (is_unique_mark e.mark || is_unique_in b q)))) (sym (same_path q e.path h)))
-    (λ h. ap (λ n. merge (get s q) (cond (is_entered_in b q) (Some (node n (is_unique_in b q))) None)) (sym (zero-add (bytes_in b q))))
-    ∙ ap (λ n. merge (get s q) (cond (is_same_path q e.path || is_entered_in b q) (Some (node n (cond (is_same_path q e.path) (is_unique_mark e.mark) false || is_unique_in b q))) None)) (sym (bytes-cons e b q))
+    (λ h. merge_there (together (get s e.path) (node_of e)) b q ∙ rw (same_path q e.path h) (together_step (get s e.path) e.size (bytes_in b e.path) (is_unique_mark e.mark) (is_unique_in b e.path)))
+    (λ h. rw (zero-add (bytes_in b q))))
 
 pub get-sums_of : (b : Bag) (q : Path) → get (sums_of b) q ≡ node_in b q
 get-sums_of b q = get-add_all empty b q ∙ ap (λ o. merge o (node_in b q)) (get-empty path_cmp q)

@@ -70,31 +70,16 @@ sums_following f g = add_all-permutation empty _ _ (added-following [] f g) ∙ 
 pub graphs_add : (f g : Forest) → CanBeAdded (sums_of (all f)) (sums_of (all g)) → sum_of (graph (sums_of (all f))) (graph (sums_of (all g))) ≡ graph (sums_of (all (followed_by f g)))
 graphs_add f g can = same_map path_total path_antisymmetric _ _ each
   where
-    s : Sums
-    s = sums_of (all f)
-
-    t : Sums
-    t = sums_of (all g)
-
-    combined : Option ℕ → Option ℕ → Option ℕ
-    combined x y = cond (is_some x || is_some y) (Some (unwrap_or x 0 + unwrap_or y 0)) None
-
-    u : Sums
-    u = add_all s (all g)
-
-    below_both : (q : Path) → below s q + below t q ≡ below u q
-    below_both q = ap (λ n. below s q + n) (below-sums_of (all g) q) ∙ sym (below-add_all s (all g) q)
-
-    node_both : (q : Path) → merge (get s q) (get t q) ≡ get u q
-    node_both q = ap (merge (get s q)) (get-sums_of (all g) q) ∙ sym (get-add_all s (all g) q)
-
-    each : (q : Path) → get (sum_of (graph s) (graph t)) q ≡ get (graph (sums_of (all (followed_by f g)))) q
-    each [] = get-sum_of (graph s) (graph t) [] ∙ (λ i. combined (get-graph-root s i) (get-graph-root t i)) ∙ sym (get-graph-root (sums_of (all (followed_by f g))))
+    each : (q : Path) → get (sum_of (graph (sums_of (all f))) (graph (sums_of (all g)))) q ≡ get (graph (sums_of (all (followed_by f g)))) q
+    each [] = rw (get-sum_of (graph (sums_of (all f))) (graph (sums_of (all g))) [], get-graph-root (sums_of (all f)), get-graph-root (sums_of (all g)), get-graph-root (sums_of (all (followed_by f g))))
     each (k ∷ p) =
-        get-sum_of (graph s) (graph t) (k ∷ p) ∙ (λ i. combined (get-graph s k p i) (get-graph t k p i))
-        ∙ at_path (below s (k ∷ p)) (below t (k ∷ p)) (get s (k ∷ p)) (get t (k ∷ p)) (absent_sums f k p) (absent_sums g k p) (can (k ∷ p))
-        ∙ (λ i. option_map (rest_of (below_both (k ∷ p) i)) (node_both (k ∷ p) i))
-        ∙ sym (get-graph u k p) ∙ ap (λ x. get (graph x) (k ∷ p)) (sym (sums_following f g))
+        let s = sums_of (all f) in
+        let t = sums_of (all g) in
+        let q = k ∷ p in
+        let below_both : below s q + below t q ≡ below (add_all s (all g)) q = ap (λ n. below s q + n) (below-sums_of (all g) q) ∙ sym (below-add_all s (all g) q) in
+        let node_both : merge (get s q) (get t q) ≡ get (add_all s (all g)) q = ap (merge (get s q)) (get-sums_of (all g) q) ∙ sym (get-add_all s (all g) q) in
+        rw (get-sum_of (graph s) (graph t) q, get-graph s k p, get-graph t k p, ap (λ x. get (graph x) q) (sums_following f g), get-graph (add_all s (all g)) k p)
+        (at_path (below s q) (below t q) (get s q) (get t q) (absent_sums f k p) (absent_sums g k p) (can q) ∙ (λ i. option_map (rest_of (below_both i)) (node_both i)))
 
 pub whole_following : (f g : Forest) → IsWhole f → IsWhole g → ReachApart f g → IsWhole (followed_by f g)
 whole_following f g v w apart = (fits-following set.empty f g).1 (v, fits_more (λ i. is_among i (shown f)) set.empty (met_after set.empty f) g (contains-insert_all set.empty (shown f)) away w)

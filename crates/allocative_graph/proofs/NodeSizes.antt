@@ -1,12 +1,10 @@
 -- The size at the root of a node's graph, and its total.
 use Rattle.std.proofs.Common.{◌≡◌, ℕ, ◌+◌, List, [], ◌∷◌, refl, sym, ap, ◌∙◌}
-use Rattle.allocative_graph.proofs.Common.{entries-insert, entries-from_sorted, same_entries_map, get-from_sorted, put, unwrap_or, Child, Graph, entries, size_at, total, default, sum_of_rows, key_cmp, path_cmp, node, rows_of, entries-node, node_sorted}
+use Rattle.allocative_graph.proofs.Common.{entries-insert, entries-from_sorted, same_entries_map, get-from_sorted, put, unwrap_or, Child, Graph, entries, size_at, total, default, sum_of_rows, key_cmp, path_cmp, node, rows_of, entries-node, node_sorted, insert, keys_of}
 use Rattle.std.specs.List.Sorted.{IsStrictlySortedBy}
-use Rattle.std.specs.FinMap.{insert}
 use Rattle.allocative_graph.proofs.Basics.{path_total}
 use Rattle.std.proofs.lemmas.List.Recursion.{is_sum_by}
 use Rattle.allocative_graph.proofs.Listing.{entries-from_entries-sorted}
-use Rattle.allocative_graph.specs.Reads.{keys_of}
 
 pub total-rows : (g : Graph) → total g ≡ sum_of_rows (entries g)
 total-rows g = sym (is_sum_by sum_of_rows (λ e. e.1) refl (λ e es. refl) (entries g))

@@ -1,5 +1,5 @@
 -- What the walk of `write` has written so far.
-use Rattle.std.proofs.Common.{◌≡◌, ◌≢◌, ℕ, ◌+◌, ◌<◌, Bool, List, [], ◌∷◌, ◌++◌, map, take, length, get_or, Bor, cond, ◌==◌, refl, sym, ap, ◌∙◌, append_assoc, arith, ◌-◌, length-append, append-nil, ne_eqb}
+use Rattle.std.proofs.Common.{◌≡◌, ◌≢◌, ℕ, ◌+◌, ◌<◌, Bool, List, [], ◌∷◌, ◌++◌, map, take, length, get_or, Bor, cond, refl, sym, ap, ◌∙◌, append_assoc, arith, ◌-◌, length-append, append-nil, ne_eqb}
 use Rattle.allocative_graph.proofs.Common.{Child, Key, Path, under_rows, rows_of, rows_of_child, joined, joined_on, line_from, lines_below, entries, take_more, map-append, flat_map-append}
 use Rattle.std.proofs.Math.Seq.{take-append_seam}
 use Rattle.allocative_graph.specs.Representation.PathRows.{size_text, lines_from, line_below}
@@ -19,47 +19,30 @@ joined_more t ks i d h =
     rw (take_more ks i d h, map-append (λ (k : Bor (List ℕ)). k.now) (take i ks) (get_or ks i d ∷ []), flat_map-append (λ (k : Key). 59 ∷ k) (texts (take i ks)) ((get_or ks i d).now ∷ []))
     (simp (append_assoc, append-nil))
 
--- A key can be in the path or in the text before it.
-key_moved : (t : List ℕ) (k : Key) (p : Path) (n : ℕ) → line_below t (k ∷ p, n) ≡ line_from (t ++ k) (p, n)
-key_moved t k p n = ap (λ (l : List ℕ). cond (n == 0) [] l) (ap (λ (l : List ℕ). t ++ (l ++ size_text n)) (joined-keys k p) ∙ moved t k (joined_on p) (size_text n))
-  where
-    moved : (t k j r : List ℕ) → t ++ ((k ++ j) ++ r) ≡ (t ++ k) ++ (j ++ r)
-    moved t k j r = simp append_assoc
-
 -- The lines of one child.
 pub child_lines : (t : List ℕ) (k : Key) (rs : List (Path × ℕ)) → lines_below t (under_rows k rs) ≡ lines_from (t ++ k) rs
 child_lines t k [] = refl
-child_lines t k (r ∷ rs) = λ i. key_moved t k r.0 r.1 i ++ child_lines t k rs i
+child_lines t k (r ∷ rs) = rw (joined-keys k r.0, child_lines t k rs) (simp append_assoc)
 
 -- A `;` can be before the key or at the end of the text before it.
-semicolon_moved : (t : List ℕ) (k : Key) (p : Path) (n : ℕ) → line_from t (k ∷ p, n) ≡ line_below (t ++ 59 ∷ []) (k ∷ p, n)
-semicolon_moved t k p n = ap (λ (l : List ℕ). cond (n == 0) [] l) (moved t k (joined_on p) (size_text n) ∙ ap (λ (l : List ℕ). (t ++ 59 ∷ []) ++ (l ++ size_text n)) (sym (joined-keys k p)))
-  where
-    moved : (t k j r : List ℕ) → t ++ ((59 ∷ (k ++ j)) ++ r) ≡ (t ++ 59 ∷ []) ++ ((k ++ j) ++ r)
-    moved t k j r = simp append_assoc
-
 under_lines : (t : List ℕ) (k : Key) (rs : List (Path × ℕ)) → lines_from t (under_rows k rs) ≡ lines_below (t ++ 59 ∷ []) (under_rows k rs)
 under_lines t k [] = refl
-under_lines t k (r ∷ rs) = λ i. semicolon_moved t k r.0 r.1 i ++ under_lines t k rs i
+under_lines t k (r ∷ rs) = rw (joined-keys k r.0, under_lines t k rs) (simp append_assoc)
 
 -- The lines of all children.
 pub rows_lines : (t : List ℕ) (cs : List Child) → lines_from t (rows_of cs) ≡ lines_below (t ++ 59 ∷ []) (rows_of cs)
 rows_lines t [] = refl
 rows_lines t (c ∷ cs) =
-    flat_map-append (line_from t) (rows_of_child c) (rows_of cs)
-    ∙ ((λ i. under_lines t c.key (entries c.graph) i ++ rows_lines t cs i)
-    ∙ sym (flat_map-append (line_below (t ++ 59 ∷ [])) (rows_of_child c) (rows_of cs)))
+    rw (flat_map-append (line_from t) (rows_of_child c) (rows_of cs), flat_map-append (line_below (t ++ 59 ∷ [])) (rows_of_child c) (rows_of cs))
+    (λ i. under_lines t c.key (entries c.graph) i ++ rows_lines t cs i)
 
 -- The text after one more child.
 pub child_written : (t : List ℕ) (cs : List Child) (i : ℕ) (d : Child) (before : List ℕ) → i < length cs
     → (before ++ lines_below t (rows_of (take i cs))) ++ lines_from (t ++ (get_or cs i d).key) (entries (get_or cs i d).graph)
     ≡ before ++ lines_below t (rows_of (take (i + 1) cs))
 child_written t cs i d before h =
-    let c : Child = get_or cs i d in
-    append_assoc before _ _
-    ∙ ap (λ s. before ++ (lines_below t (rows_of (take i cs)) ++ s)) (sym (child_lines t c.key (entries c.graph)))
-    ∙ ap (λ s. before ++ s) (sym (flat_map-append (line_below t) (rows_of (take i cs)) (rows_of_child c)))
-    ∙ ap (λ s. before ++ lines_below t s) (sym (rows-more cs i d h))
+    rw (rows-more cs i d h, flat_map-append (line_below t) (rows_of (take i cs)) (rows_of_child (get_or cs i d)), child_lines t (get_or cs i d).key (entries (get_or cs i d).graph))
+    (append_assoc before _ _)
 
 -- The root's line is the path with its size.
 pub line_of_some : (t : List ℕ) (n : ℕ) → n ≢ 0 → line_from t ([], n) ≡ t ++ size_text n
@@ -68,15 +51,7 @@ line_of_some t n some = ap (λ (b : Bool). cond b [] (t ++ size_text n)) (ne_eqb
 -- The text after the root's own line, to which the lines below it are still to be added.
 pub own_written : (t before after : List ℕ) (n : ℕ) (cs : List Child) (rs : List (Path × ℕ)) → rs ≡ ([], n) ∷ rows_of cs → after ≡ before ++ line_from t ([], n) → after ++ lines_below (t ++ 59 ∷ []) rs ≡ before ++ lines_from t rs
 own_written t before after n cs rs is wrote =
-    ap (λ l. after ++ lines_below (t ++ 59 ∷ []) l) is
-    ∙ (ap (λ l. l ++ lines_below (t ++ 59 ∷ []) (rows_of cs)) wrote
-    ∙ (append_assoc before (line_from t ([], n)) _
-    ∙ (ap (λ l. before ++ (line_from t ([], n) ++ l)) (sym (rows_lines t cs))
-    ∙ ap (λ l. before ++ lines_from t l) (sym is))))
-
--- Where the graph has only the root, no line is below it.
-pub none_below : (t : List ℕ) (n : ℕ) (rs : List (Path × ℕ)) → rs ≡ ([], n) ∷ [] → lines_below t rs ≡ []
-none_below t n rs is = ap (lines_below t) is
+    rw (is, wrote, rows_lines t cs) (append_assoc before (line_from t ([], n)) _)
 
 -- Cutting back the start of a line returns it.
 pub cut_back : (t more : List ℕ) (n : ℕ) → n ≡ length t → take n (t ++ more) ≡ t

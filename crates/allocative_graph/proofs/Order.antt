@@ -94,9 +94,8 @@ as_flat f w = flat_of_each (content_of f) (contents f) (own_content empty (conte
 
 pub same_all : (f g : Forest) → IsWhole f → IsWhole g → Agree f g → IsPermutation (all f) (all g)
 same_all f g v w a = IsPermutation-append (own f) (own g) (content_entries f) (content_entries g) a.own_entries
-    (subst (λ b. IsPermutation b (content_entries g)) (as_flat f v) (subst (IsPermutation (flat_map (content_of f) (shown f))) (as_flat g w)
-    (same_flat (content_of f) (content_of g) (shown f) (shown g) (fresh_distinct empty (shown f) (fits_fresh empty f v)) (fresh_distinct empty (shown g) (fits_fresh empty g w)) (same_shown f g v w a)
-    (λ k h. a.same_content k h (sym (same_shown f g v w a k) ∙ h)))))
+    (rw (← as_flat f v, ← as_flat g w) (same_flat (content_of f) (content_of g) (shown f) (shown g) (fresh_distinct empty (shown f) (fits_fresh empty f v)) (fresh_distinct empty (shown g) (fits_fresh empty g w)) (same_shown f g v w a)
+    (λ k h. a.same_content k h (sym (same_shown f g v w a k) ∙ h))))
 
 pub same_sums_of : (f g : Forest) → IsWhole f → IsWhole g → Agree f g → sums_of (all f) ≡ sums_of (all g)
 same_sums_of f g v w a = add_all-permutation finmap.empty (all f) (all g) (same_all f g v w a)

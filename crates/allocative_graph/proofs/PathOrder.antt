@@ -1,5 +1,5 @@
 -- The order of paths: a prefix comes first; otherwise the first keys that differ decide, by the bytes of their texts.
-use Rattle.std.proofs.Common.{◌≡◌, ℕ, ◌↔◌, List, [], ◌∷◌, ◌++◌, refl, ap, sym, ◌∙◌, subst, true≢false, Ordering, Less, Equal, Greater, nat_cmp}
+use Rattle.std.proofs.Common.{◌≡◌, ◌↔◌, List, [], ◌∷◌, ◌++◌, refl, ap, sym, ◌∙◌, subst, true≢false, Ordering, Less, Equal, Greater, nat_cmp}
 use Rattle.allocative_graph.proofs.Common.{is_lt, ordering_then, slice_cmp, nat_list_cmp_total, IsAntisymmetric, nat_cmp-IsAntisymmetric, slice_cmp-IsAntisymmetric, Key, Path, key_cmp, path_cmp}
 use Rattle.std.specs.Cmp.{nat_cmp_total, tied_itself}
 use Rattle.allocative_graph.specs.Path.{ComesBefore, longer, parts}
@@ -32,9 +32,6 @@ module _ {X : Type 0} (R : X → X → Ordering) (same : IsAntisymmetric R) (its
   from_before p q (longer k r e) = ap (slice_cmp R p) e ∙ longer_less p k r
   from_before p q (parts c k l r s d e h) = (λ i. slice_cmp R (d i) (e i)) ∙ parts_less c k l r s h
 
-nat_itself : (x : ℕ) → nat_cmp x x ≡ Equal
-nat_itself = tied_itself nat_cmp_total
-
 pub key_itself : (k : Key) → key_cmp k k ≡ Equal
 key_itself = tied_itself nat_list_cmp_total
 
@@ -42,4 +39,4 @@ pub path_order : (p q : Path) → (path_cmp p q ≡ Less) ↔ ComesBefore key_cm
 path_order p q = (to_before key_cmp (slice_cmp-IsAntisymmetric nat_cmp-IsAntisymmetric) key_itself p q, from_before key_cmp (slice_cmp-IsAntisymmetric nat_cmp-IsAntisymmetric) key_itself p q)
 
 pub key_order : (k l : Key) → (key_cmp k l ≡ Less) ↔ ComesBefore nat_cmp k l
-key_order k l = (to_before nat_cmp nat_cmp-IsAntisymmetric nat_itself k l, from_before nat_cmp nat_cmp-IsAntisymmetric nat_itself k l)
+key_order k l = (to_before nat_cmp nat_cmp-IsAntisymmetric (tied_itself nat_cmp_total) k l, from_before nat_cmp nat_cmp-IsAntisymmetric (tied_itself nat_cmp_total) k l)

@@ -1,6 +1,6 @@
 -- A text determines the sizes, and a text of a graph that is read is the graph again.
 use Rattle.std.proofs.Common.{◌≡◌, ◌≢◌, ℕ, ◌+◌, ◌-◌, ◌^◌, ◌<◌, ◌≤◌, ◌==◌, Bool, false, cond, not, List, [], ◌∷◌, ◌++◌, map, flat_map, length, length-append, take, get_or, Some, None, refl, ap, sym, ◌∙◌, subst, true≢false, arith, unwrap_or, decimal, ne_eqb, if◌then◌else◌}
-use Rattle.allocative_graph.proofs.Common.{AllByRecursion, list_any, slice_split, lines, lines_of_parts, get, entries, LEVELS, LineFault, Key, Path, is_same_path, Graph, text, joined, begins, size_at, Lacks, HasPlainKeys, HasWords, Stack, IsStack, IsCut, IsNumber, AreStacks, Means, IsFault, IsRead, number_of, bytes_at, is_path_of, all_bytes, All-from_recursion, fold-map, sum_by-cons}
+use Rattle.allocative_graph.proofs.Common.{AllByRecursion, list_any, slice_split, lines, lines_of_parts, get, entries, LEVELS, LineFault, Key, Path, is_same_path, Graph, text, joined, begins, size_at, Lacks, HasPlainKeys, HasWords, Stack, IsStack, IsNumber, AreStacks, Means, IsFault, IsRead, number_of, bytes_at, is_path_of, all_bytes, All-from_recursion, fold-map, sum_by-cons}
 use Rattle.std.specs.List.{All}
 use Rattle.std.specs.Str.Lines.{strip_carriage_return}
 use Rattle.std.specs.Str.Parse.{IsNumeral, digits_value}
@@ -62,25 +62,19 @@ number-decimal n w =
 abbrev said : Sized → Stack
 said e = record { path = e.0; size = e.1 }
 
-cut-body : (p : Path) (n : ℕ) → IsCut (body (p, n)) (joined p) (decimal n)
-cut-body p n = record { parts = refl; last = decimal_lacks 32 n (omega arith) }
-
 entry_read : (e : Sized) → Good e → (s : Stack) → IsStack (body e) s → s ≡ said e
 entry_read ([], n) good s is = absurd (true≢false (sym good.seen))
 entry_read (k ∷ p, n) good s is =
-    let both = cut_once (body (k ∷ p, n)) (joined (k ∷ p)) (decimal n) s (cut-body (k ∷ p) n) is in
+    let both = cut_once (body (k ∷ p, n)) (joined (k ∷ p)) (decimal n) s (record { parts = refl; last = decimal_lacks 32 n (omega arith) }) is in
     let path : keys_of is.path ≡ k ∷ p = ap keys_of (sym both.0) ∙ keys-joined k p good.plain in
     let size : number_of is.number ≡ n = ap number_of (sym both.1) ∙ (number-decimal n good.word).1 in
     is.is ∙ (λ i. record { path = path i; size = size i })
-
-body_some : (e : Sized) → 0 < length (body e)
-body_some e = omega (arith, length-append (joined e.0) (32 ∷ decimal e.1))
 
 entries_read : (es : List Sized) → AllByRecursion Good es → (ss : List Stack) → AreStacks (map body es) ss → ss ≡ map said es
 entries_read [] good [] h = refl
 entries_read [] good (s ∷ ss) h = absurd h
 entries_read (e ∷ es) good ss h =
-    let f = stacks-first (body e) (map body es) ss (body_some e) h in
+    let f = stacks-first (body e) (map body es) ss (omega (arith, length-append (joined e.0) (32 ∷ decimal e.1))) h in
     f.is ∙ (λ i. entry_read e good.0 f.first f.read i ∷ entries_read es good.1 f.others f.behind i)
 
 lines-text : (g : Graph) → HasPlainKeys g → HasWords g → lines (text g) ≡ map body (shown g)
@@ -127,10 +121,8 @@ size_at-read ss h k p e =
 -- What is read of the text of a graph has its sizes, but for the root.
 pub reads_back : (g h : Graph) → HasPlainKeys g → HasWords g → IsRead (text g) h → (k : Key) (p : Path) → size_at h (k ∷ p) ≡ size_at g (k ∷ p)
 reads_back g h plain fits read k p =
-    size_at-read read.stacks h k p (read.graph (k ∷ p))
-    ∙ ap (λ (ss : List Stack). bytes_at ss (k ∷ p)) (stacks_of_text g plain fits read.stacks read.means)
-    ∙ fold-map (λ n (s : Stack). n + cond (is_same_path (k ∷ p) s.path) s.size 0) said 0 (shown g)
-    ∙ sym (size_shown g k p)
+    rw (size_at-read read.stacks h k p (read.graph (k ∷ p)), stacks_of_text g plain fits read.stacks read.means, size_shown g k p)
+    (fold-map (λ n (s : Stack). n + cond (is_same_path (k ∷ p) s.path) s.size 0) said 0 (shown g))
 
 -- ---- nothing in the text of a graph is refused
 said_stack : (e : Sized) → Good e → (length e.0 ≤ LEVELS) × (0 < length (joined e.0)) → IsStack (body e) (said e)

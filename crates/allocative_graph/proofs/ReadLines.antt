@@ -1,12 +1,11 @@
 -- The lines of a text that is read, one after another.
-use Rattle.std.proofs.Common.{◌≡◌, ℕ, suc, ◌+◌, ◌<◌, ◌≤◌, ◌==◌, Bool, true, false, cond, List, Bor, [], ◌∷◌, ◌++◌, map, take, drop, length, get_or, refl, sym, ap, subst, subst₂, ◌∙◌, append-nil, drop-cons, eqb-true, arith, take-append-drop}
-use Rattle.allocative_graph.proofs.Common.{slice_split, lines, lines_of_parts, Line, LineFault, NoSpace, Stack, IsStack, IsWrong, AreStacks, Means, IsFault, map_push, nil_from_length, length-map}
+use Rattle.std.proofs.Common.{◌≡◌, ℕ, suc, ◌+◌, ◌<◌, ◌≤◌, ◌==◌, Bool, cond, List, Bor, [], ◌∷◌, ◌++◌, map, take, drop, length, get_or, refl, sym, ap, subst, subst₂, ◌∙◌, append-nil, drop-cons, arith, take-append-drop}
+use Rattle.allocative_graph.proofs.Common.{slice_split, lines, lines_of_parts, Line, LineFault, NoSpace, Stack, IsStack, IsWrong, AreStacks, IsFault, map_push, nil_from_length, length-map, seen}
 use Rattle.std.proofs.lemmas.List.Splits.{length-slice_split}
 use Rattle.std.proofs.lemmas.List.Sums.{count_by-le-length}
-use Rattle.allocative_graph.specs.Read.{seen}
 use Rattle.allocative_graph.proofs.Basics.{on_test}
 use Rattle.allocative_graph.proofs.NodeText.{texts}
-use Rattle.allocative_graph.proofs.Stacks.{wrong_is_none, not_zero}
+use Rattle.allocative_graph.proofs.Stacks.{wrong_is_none}
 
 parts_fit : (ps : List (List ℕ)) → length (lines_of_parts ps) ≤ length ps
 parts_fit [] = omega arith
@@ -48,7 +47,7 @@ stacks-append ((b ∷ bs) ∷ ls) (s ∷ ss) ks ts h g = (h.0, stacks-append ls 
 pub read-more : (xs : List (Bor (List ℕ))) (x : Bor (List ℕ)) (now then : List Line) (line : Line) → AreStacks (texts xs) (map seen now) → IsStack x.now (seen line) → then ≡ now ++ line ∷ []
     → AreStacks (texts (xs ++ x ∷ [])) (map seen then)
 read-more xs x now then line h is e =
-    subst₂ AreStacks (sym (map_push (λ (x : Bor (List ℕ)). x.now) xs x)) (sym (ap (map seen) e ∙ map_push seen now line))
+    rw (e, map_push (λ (x : Bor (List ℕ)). x.now) xs x, map_push seen now line)
     (stacks-append (texts xs) (map seen now) (x.now ∷ []) (seen line ∷ []) h (stacks-cons x.now [] (seen line) [] is tt))
 
 -- A blank line was passed over.
@@ -56,17 +55,6 @@ pub read-blank : (xs : List (Bor (List ℕ))) (x : Bor (List ℕ)) (now : List L
 read-blank xs x now h e =
     let blank : AreStacks (x.now ∷ []) [] = subst (λ l. AreStacks (l ∷ []) []) (sym (nil_from_length x.now e)) tt in
     subst₂ AreStacks (sym (map_push (λ (x : Bor (List ℕ)). x.now) xs x)) (append-nil (map seen now)) (stacks-append (texts xs) (map seen now) (x.now ∷ []) [] h blank)
-
--- What the code's test of a line says of its length.
-pub blank : (l : List ℕ) (t : Bool) → t ≡ (length l == 0) → t ≡ true → length l ≡ 0
-blank l t e is = eqb-true (length l) 0 (sym e ∙ is)
-
-pub not_blank : (l : List ℕ) (t : Bool) → t ≡ (length l == 0) → t ≡ false → 0 < length l
-not_blank l t e is = not_zero (length l) (sym e ∙ is)
-
--- At the end all lines of the text were read.
-pub read-all : (text : List ℕ) (xs : List (Bor (List ℕ))) (ls : List Line) → texts xs ≡ lines text → AreStacks (texts xs) (map seen ls) → Means text (map seen ls)
-read-all text xs ls e h = subst (λ (ks : List (List ℕ)). AreStacks ks (map seen ls)) e h
 
 -- The line behind those that were read is the first that is none.
 pub fault_at : (text : List ℕ) (xs : List (Bor (List ℕ))) (x : Bor (List ℕ)) (n : ℕ) (w : LineFault) (ls : List Line) → texts xs ≡ take (length xs) (lines text)

@@ -20,23 +20,16 @@ pub child_read : (n : ℕ) (cs : List Child) (i : ℕ) (d : Child) (ks : Path) �
     → figured (total_at (node n cs)) ks (rows_of (take i cs)) ++ figures_behind (ks ++ (get_or cs i d).key ∷ []) (get_or cs i d).graph
     ≡ figured (total_at (node n cs)) ks (rows_of (take (i + 1) cs))
 child_read n cs i d ks o w =
-    let t : Path → ℕ = total_at (node n cs) in
     let c : Child = get_or cs i d in
-    ap (λ (fs : List Figures). figured t ks (rows_of (take i cs)) ++ fs) (figured-under t (total_at c.graph) ks c.key (entries c.graph) (λ q. total_at-child n cs i d q o w))
-    ∙ sym (map-append (λ e. record { path = ks ++ e.0; self_size = e.1; total_size = t e.0 }) (rows_of (take i cs)) (rows_of_child c))
-    ∙ ap (figured t ks) (sym (rows-more cs i d w))
+    rw (rows-more cs i d w, map-append {B = Figures} (λ (e : Path × ℕ). record { path = ks ++ e.0; self_size = e.1; total_size = total_at (node n cs) e.0 }) (rows_of (take i cs)) (rows_of_child c))
+    (ap (λ fs. figured (total_at (node n cs)) ks (rows_of (take i cs)) ++ fs) (figured-under _ _ ks c.key (entries c.graph) (λ q. total_at-child n cs i d q o w)))
 
 -- The figures after one child more was read, where g is the graph of the node.
 pub rows_pushed : {n s : ℕ} {cs ds : List Child} {g : Graph} {i : ℕ} {d : Child} {qs : Path} {was now : List Figures} (ks : Path) (start : List Figures) → node n cs ≡ g → IsNode cs s n → ds ≡ cs → i < length ds → d ≡ get_or ds i d
     → was ≡ start ++ figured (total_at g) ks (rows_of (take i ds)) → qs ≡ ks ++ d.key ∷ [] → now ≡ was ++ figures_behind qs d.graph → now ≡ start ++ figured (total_at g) ks (rows_of (take (i + 1) ds))
 rows_pushed {n = n} {ds = ds} {g = g} {i = i} {d = d} ks start view h same w at was_is behind now_is =
     let read = child_read n ds i d ks (subst InOrder (sym same) h.children.sorted) w in
-    now_is
-    ∙ (λ j. was_is j ++ figures_behind (behind j) d.graph)
-    ∙ ap (λ (e : Child). (start ++ figured (total_at g) ks (rows_of (take i ds))) ++ figures_behind (ks ++ e.key ∷ []) e.graph) at
-    ∙ append_assoc start _ _
-    ∙ ap (λ (fs : List Figures). start ++ fs)
-    (subst (λ (x : Graph). figured (total_at x) ks (rows_of (take i ds)) ++ figures_behind (ks ++ (get_or ds i d).key ∷ []) (get_or ds i d).graph ≡ figured (total_at x) ks (rows_of (take (i + 1) ds))) (ap (node n) same ∙ view) read)
+    rw (now_is, was_is, behind, at) (append_assoc start _ _ ∙ ap (λ (fs : List Figures). start ++ fs) (rw (ap (node n) same ∙ view) at read))
 
 -- The rows of a node are its own and then those of its children.
 pub node_read : (n : ℕ) (cs : List Child) (ks : Path) → InOrder cs

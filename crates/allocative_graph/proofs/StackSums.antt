@@ -51,18 +51,12 @@ get-one (k ∷ ks) n [] =
     get-sum_of default (under k below) [] ∙ (λ i. sizes_together (get-default [] i) (get-under-root k below i))
 get-one (k ∷ ks) n (l ∷ p) =
     let below : Graph = nested ks (add_self n default) in
-    get-sum_of default (under k below) (l ∷ p)
-    ∙ (λ i. sizes_together (get-default (l ∷ p) i) (get-under k below l p i))
-    ∙ none_before _
-    ∙ ap (λ o. cond (is_eq (key_cmp l k)) o None) (get-one ks n p)
-    ∙ below_key k ks n l p
+    rw (get-sum_of default (under k below) (l ∷ p), get-default (l ∷ p), get-under k below l p, get-one ks n p) (none_before _ ∙ below_key k ks n l p)
 
 size_at-one : (s : Stack) (p : Path) → size_at (one_stack s) p ≡ cond (is_same_path p s.path) s.size 0
 size_at-one s p =
-    ap (λ o. unwrap_or o 0) (get-one s.path s.size p)
-    ∙ on_test (λ t. unwrap_or (cond (is_root p || begins p s.path) (Some (cond t s.size 0)) None) 0 ≡ cond t s.size 0) (is_same_path p s.path)
-    (λ e. ap (λ b. unwrap_or (cond b (Some s.size) None) 0) (root_begins p s.path ∙ same_begins p s.path e))
-    (λ e. on_test (λ b. ◌≡◌ {A = ℕ} (unwrap_or (cond b (Some 0) None) 0) 0) (is_root p || begins p s.path) (λ t. refl) (λ t. refl))
+    rw (get-one s.path s.size p, root_begins p s.path) (on_test (λ t. unwrap_or (cond (begins p s.path) (Some (cond t s.size 0)) None) 0 ≡ cond t s.size 0) (is_same_path p s.path)
+    (λ e. rw (same_begins p s.path e)) (λ e. on_test (λ b. ◌≡◌ {A = ℕ} (unwrap_or (cond b (Some 0) None) 0) 0) (begins p s.path) (λ t. refl) (λ t. refl)))
 
 contains_key-one : (s : Stack) (p : Path) → contains_key (one_stack s) p ≡ (is_root p || begins p s.path)
 contains_key-one s p = ap is_some (get-one s.path s.size p) ∙ is_some-cond (is_root p || begins p s.path) (cond (is_same_path p s.path) s.size 0)
@@ -90,10 +84,6 @@ graph-stacks ss p =
     from_parts (get (sum_of_stacks default ss) p) (is_path_of ss p) (bytes_at ss p) (has-stacks ss p) (omega (arith, size_at-added_up one_stack default ss p, size_at-default p, each))
 
 -- ---- lines in any order
--- The bytes of lines are those of their stacks.
-pub bytes_seen : (ls : List Line) → sum_by (λ l. l.size) ls ≡ all_bytes (map seen ls)
-bytes_seen ls = sym (fold-map (λ n (s : Stack). n + s.size) seen 0 ls)
-
 -- What lines add up to in another order has the paths, the sizes and the bytes of their stacks.
 pub record IsSum (ss : List Stack) (g : Graph) : Type 0 where
   pub graph : IsGraphOfStacks ss g
@@ -123,5 +113,5 @@ nested-push (l ∷ ks) k g = ap (λ (h : Graph). sum_of default (under l h)) (ne
 
 -- Where the bytes of lines were added up in vain, they exceed a word.
 pub sum_exceeds : (ls given : List Line) (o : Option ℕ) → given ≡ ls → SomeIff o (sum_by (λ l. l.size) given < 2 ^ 64) (sum_by (λ l. l.size) given) → is_some o ≡ false → 2 ^ 64 ≤ all_bytes (map seen ls)
-sum_exceeds ls given None e h none = omega (arith, h, ap (λ (xs : List Line). sum_by (λ l. l.size) xs) e, bytes_seen ls)
+sum_exceeds ls given None e h none = omega (arith, h, ap (λ (xs : List Line). sum_by (λ l. l.size) xs) e, fold-map (λ n (s : Stack). n + s.size) seen 0 ls)
 sum_exceeds ls given (Some n) e h none = absurd (true≢false none)

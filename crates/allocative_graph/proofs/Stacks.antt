@@ -23,13 +23,9 @@ cut_of {bs = bs} x (i, j, finds, front, back, ordered, one, other) =
     let whole : take i bs ++ 32 ∷ drop j bs ≡ bs = ap (λ l. take i bs ++ l) (sym (drop_at_char 32 bs i j finds.1 (omega arith))) ∙ take-append-drop i bs in
     record { parts = sym whole ∙ (λ k. sym front k ++ 32 ∷ sym back k); last = subst (Lacks 32) (sym back) (lacks_from 32 (drop j bs) (λ k. NoCharPasses-char 32 (drop j bs) k finds.0 (omega arith))) }
 
--- A space is no digit.
-no_digit : digit_value 32 < 10 → ⊥
-no_digit h = omega (arith, h)
-
 digits_lack : (ds : List ℕ) → AllDigits 10 ds → Lacks 32 ds
 digits_lack [] h = tt
-digits_lack (d ∷ ds) h = ((λ e. no_digit (subst (λ (c : ℕ). digit_value c < 10) e h.0)), digits_lack ds h.1)
+digits_lack (d ∷ ds) h = ((λ e. let low : digit_value 32 < 10 = subst (λ (c : ℕ). digit_value c < 10) e h.0 in omega arith), digits_lack ds h.1)
 
 -- No space stands in a number.
 number_lacks : (bs : List ℕ) → IsNumber bs → Lacks 32 bs

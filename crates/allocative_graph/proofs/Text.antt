@@ -28,12 +28,9 @@ high_digits (suc k) n acc h =
     on_test (λ t. AllByRecursion (λ b. 48 ≤ b) (if t then digit_glyph false (n % 10) ∷ acc else digits_onto k 10 false (n / 10) (digit_glyph false (n % 10) ∷ acc))) (n / 10 == 0)
     (λ e. (high (n % 10), h)) (λ e. high_digits k (n / 10) (digit_glyph false (n % 10) ∷ acc) (high (n % 10), h))
 
-high_decimal : (n : ℕ) → AllByRecursion (λ b. 48 ≤ b) (decimal n)
-unfolding digits
-high_decimal n = high_digits 64 n [] tt
-
 pub decimal_lacks : (c n : ℕ) → c < 48 → Lacks c (decimal n)
-decimal_lacks c n h = each-implies (λ b. 48 ≤ b) (λ b. b ≢ c) (λ b g e. omega (arith, h, g, e)) (decimal n) (high_decimal n)
+unfolding digits
+decimal_lacks c n h = each-implies (λ b. 48 ≤ b) (λ b. b ≢ c) (λ b g e. omega (arith, h, g, e)) (decimal n) (high_digits 64 n [] tt)
 
 -- ---- paths
 abbrev pub Plain : Key → Type 0

@@ -1,21 +1,12 @@
 -- The worked examples print what they should.
 use Rattle.std.proofs.Common.{true, false, true≢false, sym, ◌∷◌, [], refl}
-use Rattle.allocative_graph.proofs.Common.{contains-insert, contains-empty, identity_cmp, all, IsWhole, sums_of, CanBeAdded, codes}
+use Rattle.allocative_graph.proofs.Common.{contains-insert, contains-empty, identity_cmp, all, codes}
 use Rattle.std.specs.Fmt.{digits}
 use Rattle.std.specs.FinSet.{empty}
 use Rattle.allocative_graph.specs.WorkedExamples.{WorkedExamples, one, part_inline, part_unique, unique_pointer, unique_field, shared_twice, shared_ring, first_content, first_content_turned, short_of_children, inline_and_unique, boxed_bytes, shared_value, map_pair, vec_body}
 use Rattle.allocative_graph.proofs.Lookups.{get-sums_of}
 use Rattle.allocative_graph.proofs.Basics.{identity_total}
 use Rattle.allocative_graph.proofs.Computed.{text-computed, warnings-computed, text_added}
-
-whole_twice : IsWhole shared_twice
-whole_twice = ((tt, (contains-empty identity_cmp one, (tt, tt), tt)), ((tt, (contains-insert identity_total empty one one, tt)), tt))
-
-whole_ring : IsWhole shared_ring
-whole_ring = (contains-empty identity_cmp one, (contains-insert identity_total empty one one, tt), tt)
-
-cannot_be_added : CanBeAdded (sums_of (all part_inline)) (sums_of (all part_unique)) → ⊥
-cannot_be_added can = true≢false (sym (can (codes "n" ∷ []) (record { bytes = 8; is_unique = false }) (record { bytes = 8; is_unique = true }) (get-sums_of (all part_inline) (codes "n" ∷ [])) (get-sums_of (all part_unique) (codes "n" ∷ []))).0)
 
 pub rows : WorkedExamples
 unfolding digits
@@ -33,9 +24,9 @@ rows = record {
   map_pair_prints = (text-computed (all map_pair), warnings-computed (all map_pair));
   vec_body_prints = (text-computed (all vec_body), warnings-computed (all vec_body));
   inline_and_unique_added = text_added (all part_inline) (all part_unique);
-  shared_twice_whole = whole_twice;
-  shared_ring_whole = whole_ring;
+  shared_twice_whole = ((tt, (contains-empty identity_cmp one, (tt, tt), tt)), ((tt, (contains-insert identity_total empty one one, tt)), tt));
+  shared_ring_whole = (contains-empty identity_cmp one, (contains-insert identity_total empty one one, tt), tt);
   unique_in_unique_held = refl;
   vec_body_held = refl;
-  inline_and_unique_cannot_be_added = cannot_be_added;
+  inline_and_unique_cannot_be_added = λ can. true≢false (sym (can (codes "n" ∷ []) (record { bytes = 8; is_unique = false }) (record { bytes = 8; is_unique = true }) (get-sums_of (all part_inline) (codes "n" ∷ [])) (get-sums_of (all part_unique) (codes "n" ∷ []))).0);
 }

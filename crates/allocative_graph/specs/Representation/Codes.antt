@@ -4,13 +4,12 @@ use Rattle.std.proofs.Common.{inl, inr}
 use Rattle.std.specs.Coded.{Coded, code_by, coded×, coded_ℕ, coded_bool, coded_list, coded⊎}
 use Rattle.std.specs.FinMap as finmap
 use Rattle.std.specs.FinSet as set
-use Rattle.allocative_graph.specs.declared.refusal.Refusal.{Refusal}
 use Rattle.allocative_graph.specs.declared.refusal.Refusal.TheVariants.{Memory, TooLarge, Open}
 use Rattle.allocative_graph.specs.Path.{Path}
 use Rattle.allocative_graph.specs.Identity.{Identity, Identities}
 use Rattle.allocative_graph.specs.Sums.{Node, Sums}
 use Rattle.allocative_graph.specs.Graph.{Graph, Warned}
-use Rattle.allocative_graph.specs.Collector.{Live, Holding, Kind, OfGraph, OfHeld, State, Failed, Going}
+use Rattle.allocative_graph.specs.Collector.{Live, Holding, OfGraph, OfHeld, State, Failed, Going}
 use Rattle.allocative_graph.specs.Visits.{Profile}
 
 -- The code of a path.
@@ -68,62 +67,30 @@ holding_code = code_by (ℕ × (ℕ × Bool)) (coded× coded_ℕ (coded× coded_
     (λ h. (h.sum, (h.open_visitors, h.is_in_unique)))
     (λ p. record { sum = p.0; open_visitors = p.1.0; is_in_unique = p.1.1 }) (λ _. refl)
 
--- One of the two kinds of collector as a sum type.
-abbrev pub of_kind : Kind → Live ⊎ Holding
-of_kind (OfGraph c) = inl c
-of_kind (OfHeld h) = inr h
-
--- The collector of a value of that sum type.
-abbrev pub to_kind : Live ⊎ Holding → Kind
-to_kind (inl c) = OfGraph c
-to_kind (inr h) = OfHeld h
-
--- Converting a collector to the sum type and back returns it.
-pub kind_back : (k : Kind) → to_kind (of_kind k) ≡ k
-kind_back (OfGraph c) = refl
-kind_back (OfHeld h) = refl
-
--- The code of a collector of either kind.
-abbrev pub kind_code : Coded Kind
-kind_code = code_by (Live ⊎ Holding) (coded⊎ live_code holding_code) of_kind to_kind kind_back
-
--- A refusal as a number, for its code.
-abbrev pub of_refusal : Refusal → ℕ
-of_refusal Memory = 0
-of_refusal TooLarge = 1
-of_refusal Open = 2
-
--- The refusal of such a number.
-abbrev pub to_refusal : ℕ → Refusal
-to_refusal zero = Memory
-to_refusal (suc zero) = TooLarge
-to_refusal (suc (suc n)) = Open
-
--- Converting a refusal to its number and back returns it.
-pub refusal_back : (r : Refusal) → to_refusal (of_refusal r) ≡ r
-refusal_back Memory = refl
-refusal_back TooLarge = refl
-refusal_back Open = refl
-
--- The code of a refusal.
-abbrev pub refusal_code : Coded Refusal
-refusal_code = code_by ℕ coded_ℕ of_refusal to_refusal refusal_back
-
--- A state as a sum type.
-abbrev pub of_state : State → Refusal ⊎ Kind
-of_state (Failed r) = inl r
-of_state (Going k) = inr k
+-- A state as a sum type, in which a refusal is a number.
+abbrev pub of_state : State → ℕ ⊎ (Live ⊎ Holding)
+of_state (Failed Memory) = inl 0
+of_state (Failed TooLarge) = inl 1
+of_state (Failed Open) = inl 2
+of_state (Going (OfGraph c)) = inr (inl c)
+of_state (Going (OfHeld h)) = inr (inr h)
 
 -- The state of a value of that sum type.
-abbrev pub to_state : Refusal ⊎ Kind → State
-to_state (inl r) = Failed r
-to_state (inr k) = Going k
+abbrev pub to_state : ℕ ⊎ (Live ⊎ Holding) → State
+to_state (inl zero) = Failed Memory
+to_state (inl (suc zero)) = Failed TooLarge
+to_state (inl (suc (suc n))) = Failed Open
+to_state (inr (inl c)) = Going (OfGraph c)
+to_state (inr (inr h)) = Going (OfHeld h)
 
 -- Converting a state to the sum type and back returns it.
 pub state_back : (s : State) → to_state (of_state s) ≡ s
-state_back (Failed r) = refl
-state_back (Going k) = refl
+state_back (Failed Memory) = refl
+state_back (Failed TooLarge) = refl
+state_back (Failed Open) = refl
+state_back (Going (OfGraph c)) = refl
+state_back (Going (OfHeld h)) = refl
 
 -- The code of a state.
 abbrev pub state_code : Coded State
-state_code = code_by (Refusal ⊎ Kind) (coded⊎ refusal_code kind_code) of_state to_state state_back
+state_code = code_by (ℕ ⊎ (Live ⊎ Holding)) (coded⊎ coded_ℕ (coded⊎ live_code holding_code)) of_state to_state state_back

@@ -35,70 +35,45 @@ pub second : (a b : Bool) → T (a && b) → T b
 second true b p = p
 second false b p = absurd p
 
--- A path before the rows of two lists is before the rows of both lists joined.
-below-append : (x : Path) (a b : Rows) → T (below_all path_cmp x a) → T (below_all path_cmp x b)
-    → T (below_all path_cmp x (a ++ b))
-below-append x [] b p q = q
-below-append x (e ∷ a) b p q = both _ _ (first _ _ p) (below-append x a b (second _ _ p) q)
-
--- The root comes before all paths that start with a key.
-pub root_below-under : (k : Key) (rs : Rows) → T (below_all path_cmp [] (under_rows k rs))
-root_below-under k [] = tt
-root_below-under k (r ∷ rs) = root_below-under k rs
+-- A path before each path that starts with k is before some of them, followed by rows that it is before.
+below_every : (x : Path) (k : Key) (rs rest : Rows) → ((p : Path) → T (is_lt (path_cmp x (k ∷ p))))
+    → T (below_all path_cmp x rest) → T (below_all path_cmp x (under_rows k rs ++ rest))
+below_every x k [] rest f g = g
+below_every x k (r ∷ rs) rest f g = both _ _ (f r.0) (below_every x k rs rest f g)
 
 -- The root comes before the rows of all children.
-pub root_below : (cs : List Child) → T (below_all path_cmp [] (rows_of cs))
+root_below : (cs : List Child) → T (below_all path_cmp [] (rows_of cs))
 root_below [] = tt
-root_below (c ∷ cs) =
-    below-append [] (rows_of_child c) (rows_of cs) (root_below-under c.key (entries c.graph)) (root_below cs)
-
--- Paths keep their order when one key is put before them.
-same_key : (k : Key) (p q : Path) → path_cmp (k ∷ p) (k ∷ q) ≡ path_cmp p q
-same_key k p q = ap (λ o. ordering_then o (path_cmp p q)) (tied_itself nat_list_cmp_total k)
-
--- A path before some rows is before them when one key is put before all.
-below-under : (k : Key) (p : Path) (rs : Rows) → T (below_all path_cmp p rs)
-    → T (below_all path_cmp (k ∷ p) (under_rows k rs))
-below-under k p [] h = tt
-below-under k p (r ∷ rs) h =
-    both _ _ (subst (λ o. T (is_lt o)) (sym (same_key k p r.0)) (first _ _ h)) (below-under k p rs (second _ _ h))
-
--- Rows in order stay in order when one key is put before them.
-pub sorted-under : (k : Key) (rs : Rows) → T (is_sorted path_cmp rs) → T (is_sorted path_cmp (under_rows k rs))
-sorted-under k [] h = tt
-sorted-under k (r ∷ rs) h = both _ _ (below-under k r.0 rs (first _ _ h)) (sorted-under k rs (second _ _ h))
-
--- A path comes before those that start with a greater key.
-below-greater : (k l : Key) (p : Path) (rs : Rows) → key_cmp k l ≡ Less
-    → T (below_all path_cmp (k ∷ p) (under_rows l rs))
-below-greater k l p [] h = tt
-below-greater k l p (r ∷ rs) h =
-    both _ _ (subst (λ o. T (is_lt (ordering_then o (path_cmp p r.0)))) (sym h) tt) (below-greater k l p rs h)
+root_below (c ∷ cs) = below_every [] c.key (entries c.graph) (rows_of cs) (λ p. tt) (root_below cs)
 
 -- A path comes before the rows of all children with greater keys.
 below-later : (k : Key) (p : Path) (cs : List Child) → AllByRecursion (λ l. key_cmp k l ≡ Less) (keys_of cs)
     → T (below_all path_cmp (k ∷ p) (rows_of cs))
 below-later k p [] h = tt
-below-later k p (c ∷ cs) h =
-    below-append (k ∷ p) (rows_of_child c) (rows_of cs) (below-greater k c.key p (entries c.graph) h.0)
-    (below-later k p cs h.1)
+below-later k p (c ∷ cs) h = below_every (k ∷ p) c.key (entries c.graph) (rows_of cs)
+    (λ q. subst (λ o. T (is_lt (ordering_then o (path_cmp p q)))) (sym h.0) tt) (below-later k p cs h.1)
 
--- Rows with a key before them, followed by rows that come after these, are in order.
-sorted-append : (k : Key) (rs rest : Rows) → T (is_sorted path_cmp (under_rows k rs)) → T (is_sorted path_cmp rest)
+-- A path before some rows is before them when one key is put before all, and rows follow that it is before.
+below-under : (k : Key) (p : Path) (rs rest : Rows) → T (below_all path_cmp p rs)
+    → T (below_all path_cmp (k ∷ p) rest) → T (below_all path_cmp (k ∷ p) (under_rows k rs ++ rest))
+below-under k p [] rest h g = g
+below-under k p (r ∷ rs) rest h g =
+    both _ _ (subst (λ o. T (is_lt (ordering_then o (path_cmp p r.0)))) (sym (tied_itself nat_list_cmp_total k)) (first _ _ h))
+    (below-under k p rs rest (second _ _ h) g)
+
+-- Rows in order with a key before them, followed by rows that come after these, are in order.
+sorted-under : (k : Key) (rs rest : Rows) → T (is_sorted path_cmp rs) → T (is_sorted path_cmp rest)
     → ((p : Path) → T (below_all path_cmp (k ∷ p) rest)) → T (is_sorted path_cmp (under_rows k rs ++ rest))
-sorted-append k [] rest p q h = q
-sorted-append k (r ∷ rs) rest p q h =
-    both _ _ (below-append (k ∷ r.0) (under_rows k rs) rest (first _ _ p) (h r.0))
-    (sorted-append k rs rest (second _ _ p) q h)
+sorted-under k [] rest p q h = q
+sorted-under k (r ∷ rs) rest p q h =
+    both _ _ (below-under k r.0 rs rest (first _ _ p) (h r.0)) (sorted-under k rs rest (second _ _ p) q h)
 
 -- The rows of children with rising keys are in order.
-pub rows_sorted : (cs : List Child) → IsStrictlySortedBy key_cmp (keys_of cs) → T (is_sorted path_cmp (rows_of cs))
+rows_sorted : (cs : List Child) → IsStrictlySortedBy key_cmp (keys_of cs) → T (is_sorted path_cmp (rows_of cs))
 unfolding IsStrictlySortedBy
 rows_sorted [] h = tt
-rows_sorted (c ∷ cs) h =
-    sorted-append c.key (entries c.graph) (rows_of cs) (sorted-under c.key (entries c.graph) (entries_sorted c.graph))
-    (rows_sorted cs h.1)
-    (λ p. below-later c.key p cs h.0)
+rows_sorted (c ∷ cs) h = sorted-under c.key (entries c.graph) (rows_of cs) (entries_sorted c.graph)
+    (rows_sorted cs h.1) (λ p. below-later c.key p cs h.0)
 
 -- The rows of a node whose children have rising keys are in order.
 pub node_sorted : (n : ℕ) (cs : List Child) → IsStrictlySortedBy key_cmp (keys_of cs)

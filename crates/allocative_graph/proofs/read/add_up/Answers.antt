@@ -1,6 +1,5 @@
 use Rattle.std.proofs.Common.{List, map, ap, arith, ◌∙◌, take_all}
-use Rattle.allocative_graph.proofs.Common.{Line, default, sum_of, sum_of_stacks, take_more}
-use Rattle.allocative_graph.specs.Read.{seen}
+use Rattle.allocative_graph.proofs.Common.{Line, default, sum_of, sum_of_stacks, take_more, seen}
 use Rattle.allocative_graph.proofs.StackSums.{line-more}
 use Rattle.allocative_graph.proofs.read.add_up.Goals as goal
 

@@ -1,6 +1,5 @@
 use Rattle.std.proofs.Common.{◌≡◌, map, take}
-use Rattle.allocative_graph.proofs.Common.{default, sum_of_stacks}
-use Rattle.allocative_graph.specs.Read.{seen}
+use Rattle.allocative_graph.proofs.Common.{default, sum_of_stacks, seen}
 use Rattle.allocative_graph.proofs.read.add_up.Given as goal
 
 -- The lines before this one are added.

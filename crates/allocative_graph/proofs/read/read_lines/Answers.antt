@@ -1,8 +1,9 @@
-use Rattle.std.proofs.Common.{◌≡◌, ◌+◌, length, sym, ◌∙◌, arith, rules}
+use Rattle.std.proofs.Common.{◌≡◌, ◌+◌, length, sym, ◌∙◌, arith, rules, eqb-true}
 use Rattle.std.proofs.lemmas.Iterator.Splits.{YieldsList-from_lines}
 use Rattle.std.proofs.lemmas.Iterator.Consumers.{YieldsList-so_far, YieldsList-turn, YieldsList-end}
 use Rattle.std.proofs.lemmas.List.{length_push}
-use Rattle.allocative_graph.proofs.ReadLines.{lines_fit, read-more, read-blank, read-all, fault_at, blank, not_blank}
+use Rattle.allocative_graph.proofs.ReadLines.{lines_fit, read-more, read-blank, fault_at}
+use Rattle.allocative_graph.proofs.Stacks.{not_zero}
 use Rattle.allocative_graph.proofs.read.read_lines.Goals as goal
 
 pub returns-in-Err-clause-line : goal.returns-in-Err-clause-line
@@ -13,7 +14,7 @@ returns-in-Err-clause-line c = λ n w is.
     let number : c.saturating_add-number.result ≡ length xs + 1 = omega (arith, t.0, lines_fit c.args.text.now) in
     let told : c.saturating_add-number.result ≡ n = cc (is) in
     let said : c.in-Err.wrong ≡ w = cc (is) in
-    fault_at c.args.text.now xs c.in-Some.line n w c.loop-line.lines.items (YieldsList-so_far road xs _ c.loop-line.yielded_by) t c.loop-line.invariant.came (not_blank c.in-Some.line.now _ c.is_empty.ensures c.if-is_empty.false) (rw (← said) c.in-Err.ensures.wrong) (sym told ∙ number)
+    fault_at c.args.text.now xs c.in-Some.line n w c.loop-line.lines.items (YieldsList-so_far road xs _ c.loop-line.yielded_by) t c.loop-line.invariant.came (not_zero _ (sym c.is_empty.ensures ∙ c.if-is_empty.false)) (rw (← said) c.in-Err.ensures.wrong) (sym told ∙ number)
 
 pub loop-line-preserved : goal.loop-line-preserved
 loop-line-preserved c =
@@ -32,10 +33,10 @@ loop-line-preserved-then-is_empty c =
     let t = YieldsList-turn road xs _ c.loop-line.yielded_by _ _ c.in-Some.line c.in-Some.is c.next.ensures.steps in
     record {
       number = omega (arith, t.0, lines_fit c.args.text.now, length_push xs c.in-Some.line);
-      came = read-blank xs c.in-Some.line c.loop-line.lines.items c.loop-line.invariant.came (blank c.in-Some.line.now _ c.is_empty.ensures c.if-is_empty.true);
+      came = read-blank xs c.in-Some.line c.loop-line.lines.items c.loop-line.invariant.came (eqb-true _ 0 (sym c.is_empty.ensures ∙ c.if-is_empty.true));
     }
 
 pub returns-clause-ok : goal.returns-clause-ok
 returns-clause-ok c =
     let t = YieldsList-end (YieldsList-from_lines c.args.text.now cc) c.loop-line.yielded _ c.loop-line.yielded_by _ _ c.in-None.is c.next.ensures.steps in
-    read-all c.args.text.now c.loop-line.yielded c.loop-line.lines.items t.0 c.loop-line.invariant.came
+    rw (← t.0) c.loop-line.invariant.came

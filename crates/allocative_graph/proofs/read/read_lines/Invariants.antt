@@ -1,6 +1,5 @@
 use Rattle.std.proofs.Common.{◌≡◌, length, map}
-use Rattle.allocative_graph.proofs.Common.{AreStacks}
-use Rattle.allocative_graph.specs.Read.{seen}
+use Rattle.allocative_graph.proofs.Common.{AreStacks, seen}
 use Rattle.allocative_graph.proofs.NodeText.{texts}
 use Rattle.allocative_graph.proofs.read.read_lines.Given as goal
 

@@ -26,8 +26,6 @@ returns-clause-rows t c =
     let all : take c.loop-child.child-index c.deref-child-items.result.now ≡ cs = take_all _ _ (omega arith) ∙ c.deref-child-items.ensures.value in
     let copied : c.in_ok-clone.field-0.items ≡ c.args.path.now.items = same_from_all_zip _ _ _ c.in_ok-clone.ensures.cases.0 (λ x y e. e) in
     let whole = subst (λ (h : Graph). (own ks (total h) ∷ []) ++ figured (total_at h) ks (rows_of cs) ≡ figures_behind ks h) c.self.view_is (node_read n cs ks c.self.invariant.children.sorted) in
-    c.loop-child.invariant.1
-    ∙ (λ j. (ap (map seen) c.in_ok-push.ensures.items ∙ map_push seen c.args.rows.now.items row) j ++ figured (total_at c.args.self.now) ks (rows_of (all j)))
-    ∙ (λ j. (start ++ own (texts (copied j)) (c.total_size.ensures.total j) ∷ []) ++ figured (total_at c.args.self.now) ks (rows_of cs))
+    rw (c.in_ok-push.ensures.items, map_push seen c.args.rows.now.items row, all, copied, c.total_size.ensures.total) at c.loop-child.invariant.1
     ∙ append_assoc start (own ks (total c.args.self.now) ∷ []) _
     ∙ ap (λ (fs : List Figures). start ++ fs) whole

@@ -1,11 +1,11 @@
 -- The start of a line is cut back to its length, and the lines of each child follow those before.
 use Rattle.std.proofs.Common.{◌≡◌, ℕ, ◌++◌, [], ◌∷◌, List, get_or, take, length, arith, ap, sym, subst, ◌∙◌, append_assoc, rules, take_all, append-nil, string_bytes}
-use Rattle.allocative_graph.proofs.Common.{OnFalse, entries, Child, lines_below, HasRootAlone, rows_of}
+use Rattle.allocative_graph.proofs.Common.{OnFalse, entries, lines_below, HasRootAlone}
 use Rattle.std.proofs.lemmas.Str.{IsUtf8-append, IsUtf8-from_ascii, IsCharBoundary-at_seam}
 use Rattle.std.specs.Str.{IsUtf8, IsCharBoundary}
 use Rattle.allocative_graph.specs.Representation.PathRows.{lines_from}
 use Rattle.allocative_graph.proofs.NodeAdded.{entries_of_node}
-use Rattle.allocative_graph.proofs.NodeText.{child_written, none_below, cut_back}
+use Rattle.allocative_graph.proofs.NodeText.{child_written, cut_back}
 use Rattle.allocative_graph.proofs.flamegraph.FlameGraph.+write_below.Goals as goal
 use Rattle.allocative_graph.proofs.flamegraph.FlameGraph.+write_below.Goals.{then-has_children+in_ok-push+in_ok-write_below, else-has_children, Joined-has_children}
 
@@ -44,17 +44,14 @@ child_lines t c =
     let es = entries c.child-item.result.graph in
     let path = c.as_str-in-loop-child.result.now in
     let path_is : path ≡ string_bytes c.push_str.new.self = c.as_str-in-loop-child.ensures.value in
-    let named : path ≡ string_bytes c.args.start.now ++ c.child-item.result.key = path_is ∙ (with_key t c ∙ ap (λ k. string_bytes c.args.start.now ++ k) c.as_str.ensures) in
     let written : string_bytes c.if-has_children.text ≡ string_bytes c.write_own.new.text ++ lines_below (path ++ 59 ∷ []) es = elim c.if-has_children.branch [
       | then-has_children+in_ok-push+in_ok-write_below w ↦
-          ap (λ s. string_bytes s) w.text-is ∙ (w.in_ok-write_below.ensures.text
-          ∙ ap (λ l. string_bytes c.write_own.new.text ++ lines_below l es) (w.in_ok-push.ensures.bytes ∙ ap (λ l. l ++ 59 ∷ []) (sym path_is)))
+          ap (λ s. string_bytes s) w.text-is ∙ rw path_is (rw w.in_ok-push.ensures.bytes at w.in_ok-write_below.ensures.text)
       | else-has_children w ↦
           (let alone = subst (λ b. OnFalse b (HasRootAlone c.child-item.result.graph)) w.if-has_children.false c.has_children.ensures in
-          ap (λ s. string_bytes s) w.text-is ∙ (sym (append-nil (string_bytes c.write_own.new.text))
-          ∙ ap (λ l. string_bytes c.write_own.new.text ++ l) (sym (none_below (path ++ 59 ∷ []) alone.0 es alone.1))))
+          ap (λ s. string_bytes s) w.text-is ∙ rw alone.1 (sym (append-nil (string_bytes c.write_own.new.text))))
     ] in
-    written ∙ (c.in_ok-write_own.ensures ∙ ap (λ l. string_bytes c.loop-child.text ++ lines_from l es) named)
+    written ∙ (c.in_ok-write_own.ensures ∙ ap (λ l. string_bytes c.loop-child.text ++ lines_from l es) (path_is ∙ (with_key t c ∙ ap (λ k. string_bytes c.args.start.now ++ k) c.as_str.ensures)))
 
 pub loop-child-preserved : goal.loop-child-preserved
 loop-child-preserved t c =
@@ -67,16 +64,10 @@ loop-child-preserved t c =
     let at : c.child-item.result ≡ get_or cs i c.child-item.result = c.child-item.is in
     record {
       start = c.truncate.ensures.bytes ∙ (ap (take c.len-length.result) now.1 ∙ cut_back start now.0 c.len-length.result len);
-      text =
-          child_lines t here
-          ∙ (ap (λ l. l ++ lines_from (start ++ c.child-item.result.key) (entries c.child-item.result.graph)) c.loop-child.invariant.text
-          ∙ (ap (λ (d : Child). (string_bytes c.args.text.now ++ lines_below start (rows_of (take i cs))) ++ lines_from (start ++ d.key) (entries d.graph)) at
-          ∙ child_written start cs i c.child-item.result (string_bytes c.args.text.now) (omega arith)));
+      text = cc (child_lines t here, c.loop-child.invariant.text, at, child_written start cs i c.child-item.result (string_bytes c.args.text.now) (omega arith));
     }
 
 pub returns-clause-text : goal.returns-clause-text
 returns-clause-text t c =
-    let start = string_bytes c.args.start.now in
-    c.loop-child.invariant.text
-    ∙ (ap (λ (l : List Child). string_bytes c.args.text.now ++ lines_below start (([], c.self.inside.node_size) ∷ rows_of l)) (take_all c.loop-child.child-index c.deref-child-items.result.now (omega arith) ∙ c.deref-child-items.ensures.value)
-    ∙ ap (λ l. string_bytes c.args.text.now ++ lines_below start l) (sym (entries_of_node c.self.view_is c.self.invariant)))
+    let all = take_all c.loop-child.child-index c.deref-child-items.result.now (omega arith) ∙ c.deref-child-items.ensures.value in
+    rw (entries_of_node c.self.view_is c.self.invariant, ← all) c.loop-child.invariant.text

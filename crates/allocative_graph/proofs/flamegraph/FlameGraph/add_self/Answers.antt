@@ -1,5 +1,4 @@
-use Rattle.std.proofs.Common.{◌+◌, [], ap, sym, ◌∙◌, arith}
-use Rattle.std.specs.FinMap.{insert}
+use Rattle.std.proofs.Common.{◌+◌, arith}
 use Rattle.allocative_graph.proofs.NodeAdded.{total_of_node, own_of_node}
 use Rattle.allocative_graph.proofs.NodeSizes.{node-insert}
 use Rattle.allocative_graph.proofs.flamegraph.FlameGraph.add_self.Goals as goal
@@ -17,6 +16,4 @@ invariant_of-self c = record {
 pub returns-clause-sum : goal.returns-clause-sum
 returns-clause-sum c =
     let n = c.self.inside.node_size in
-    node-insert n (n + c.args.size) c.self.inside.children.items c.self.invariant.children.sorted
-    ∙ ap (λ g. insert g [] (n + c.args.size)) c.self.view_is
-    ∙ ap (λ m. insert c.args.self.now [] (m + c.args.size)) (sym (own_of_node c.self.view_is c.self.invariant))
+    rw (own_of_node c.self.view_is c.self.invariant, ← c.self.view_is) (node-insert n (n + c.args.size) c.self.inside.children.items c.self.invariant.children.sorted)

@@ -1,6 +1,5 @@
-use Rattle.std.proofs.Common.{List, sym, subst, ◌∙◌}
-use Rattle.allocative_graph.proofs.Common.{Child, Graph, node, AreChildren}
-use Rattle.allocative_graph.specs.Reads.{AllSmaller}
+use Rattle.std.proofs.Common.{sym, subst, ◌∙◌}
+use Rattle.allocative_graph.proofs.Common.{node, AreChildren}
 use Rattle.allocative_graph.proofs.NodeAdded.{own_of_node}
 use Rattle.allocative_graph.proofs.Behind.{smaller_child}
 use Rattle.allocative_graph.proofs.flamegraph.FlameGraph.children.Goals as goal
@@ -13,8 +12,4 @@ returns-clause-children c = subst AreChildren (sym c.as_slice.ensures.value) c.s
 
 pub returns-clause-smaller : goal.returns-clause-smaller
 returns-clause-smaller c =
-    let n = c.self.inside.node_size in
-    let cs = c.self.inside.children.items in
-    let smaller : AllSmaller cs c.args.self.now =
-    subst (λ (g : Graph). AllSmaller cs g) c.self.view_is (λ i d h. smaller_child n cs i d c.self.invariant.children.sorted h) in
-    subst (λ (s : List Child). AllSmaller s c.args.self.now) (sym c.as_slice.ensures.value) smaller
+    rw (c.as_slice.ensures.value, ← c.self.view_is) (λ i d h. smaller_child c.self.inside.node_size c.self.inside.children.items i d c.self.invariant.children.sorted h)

@@ -1,6 +1,5 @@
 use Rattle.std.proofs.Common.{◌≡◌, ℕ, List, not, map, ap, subst, ◌∙◌}
-use Rattle.allocative_graph.proofs.Common.{Line, default, IsRead, sum_of_stacks}
-use Rattle.allocative_graph.specs.Read.{seen}
+use Rattle.allocative_graph.proofs.Common.{Line, default, IsRead, sum_of_stacks, seen}
 use Rattle.allocative_graph.proofs.ReadBack.{reads_back}
 use Rattle.allocative_graph.proofs.StackSums.{IsSum, sum_is, sum_exceeds}
 use Rattle.allocative_graph.proofs.flamegraph.FlameGraph.read.Goals as goal

@@ -1,6 +1,5 @@
 use Rattle.std.proofs.Common.{◌≡◌, length}
-use Rattle.allocative_graph.proofs.Common.{nested, one_stack}
-use Rattle.allocative_graph.specs.Read.{seen}
+use Rattle.allocative_graph.proofs.Common.{nested, one_stack, seen}
 use Rattle.allocative_graph.proofs.NodeText.{texts}
 use Rattle.allocative_graph.proofs.read.Line.graph.Given as goal
 
