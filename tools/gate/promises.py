@@ -100,9 +100,7 @@ class Repository:
         if found is None:
             return False
         giver = found.exports.get(re.split(r"::|: |!", name)[0], "")
-        # A type that has a layout is described.
-        is_here = name in found.names or name.replace(": Described", ": HasLayout") in found.names
-        return is_here or giver in self.crates and self.is_declared(giver, name)
+        return name in found.names or giver in self.crates and self.is_declared(giver, name)
 
 
 def check_calls(all_of: Repository) -> Iterator[Check]:

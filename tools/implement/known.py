@@ -103,7 +103,7 @@ class Scope:
         traits = self.module.implemented.get(definition.name, set())
         if definition.names("lifetime"):
             return f"`{definition.name}` has a lifetime, so it declares no size"
-        if definition.name in self.wanted or ("Allocative" in traits and traits & {"Described", "HasLayout"}):
+        if definition.name in self.wanted or {"Allocative", "Described"} <= traits:
             return ""
         if "Allocative" in traits:
             return f"`{definition.name}` has `impl Allocative` and no `impl Described`"

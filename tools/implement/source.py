@@ -14,11 +14,11 @@ from .tokens import Fault, Tokens
 from .types import Definition, Member, Module, module_of, type_of
 
 BEGIN, END = "// allocative: begin", "// allocative: end"
-CODE = set("Allocative And Declared Described Field HasLayout Inside Or Part Record Refusal Visitor Whole".split())
+CODE = set("Allocative And Declared Described Field Inside Or Part Record Refusal Visitor Whole".split())
 RESERVED = CODE | {"Option", "Result", "Box", "String"}
 BY_HAND = 'write it by hand: "A type that holds itself" in docs/IMPLEMENTING.md'
 TACTIC = "[tactic(auto, using(allocative::proofs::Parts::parts))]\n"
-IMPLEMENTED = re.compile(r"\bimpl\b[^{;]*?\b(Allocative|Described|HasLayout)\s+for\s+(?:\w+::)*(\w+)")
+IMPLEMENTED = re.compile(r"\bimpl\b[^{;]*?\b(Allocative|Described)\s+for\s+(?:\w+::)*(\w+)")
 OUTWARD = re.compile(r"(?<![\w:])(self|super)::(\w+)")
 LETTER = re.compile(r"[^\n]")
 LINE = re.compile(r"[^\n]*")
@@ -46,9 +46,8 @@ class Crate:
 
     @cached_property
     def implemented(self) -> set[tuple[str, str]]:
-        """The traits that are implemented, each with the type. A type that has a layout is described."""
-        found = {found for text in self.files.values() for found in IMPLEMENTED.findall(text)}
-        return found | {("Described", name) for trait, name in found if trait == "HasLayout"}
+        """The traits that are implemented, each with the type."""
+        return {found for text in self.files.values() for found in IMPLEMENTED.findall(text)}
 
     def reason(self, path: tuple[str, ...]) -> str:
         """Why a type of another file cannot be shown, or nothing."""

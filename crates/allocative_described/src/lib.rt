@@ -2,19 +2,16 @@
 //!
 //! The numbers are declarations, given by fixed tables and rules, for types of `std` and of the
 //! crates that this one depends on. They say nothing about how a compiler lays a value out.
-//! `Described` is the trait, `HasLayout` gives a type the numbers of another one, and `Record` has the size of a struct or an enum
-//! from the types of its fields. `raw_table_alloc_size_for_len` returns the size of a hash map's table, and `shared_inner_size`
-//! the size of the value behind a shared pointer.
+//! `Described` is the trait, and `Record` has the size of a struct or an enum from the types of its fields. `raw_table_alloc_size_for_len` returns the size of a hash map's table,
+//! and `shared_inner_size` the size of the value behind a shared pointer.
 #![tactic(auto)]
 
 mod described;
-mod has_layout;
 mod layout;
 mod pack_types;
 mod raw_table;
 mod std_types;
 
 pub use described::{Described, shared_inner_size, up_law};
-pub use has_layout::{Bytes, HasLayout, Owned};
 pub use layout::{And, Fields, Or, Record};
 pub use raw_table::{raw_table_alloc_size_for_len, raw_table_law};

@@ -1,17 +1,16 @@
 //! Boxes in types of a user's own: what they show, and what they hold.
 #![tactic(auto, using(allocative::proofs::Parts::parts))]
 
-ghost use Rattle.std.specs.Prelude.{codes, Some};
+ghost use Rattle.std.specs.Prelude.{codes, Some, true};
 ghost use Rattle.allocative.specs.Bodies.{slice_of};
 ghost use Rattle.allocative.specs.Shows as shows;
 
 use crate::expected::{is_answer, shows};
 use crate::held::SliceOf;
 use allocative::{
-    Allocative, Field, Inside, Part, Refusal, Unique, Visitor, size_of_unique,
+    Allocative, Described, Field, Inside, Part, Refusal, Unique, Visitor, size_of_unique,
     size_of_unique_allocated_data,
 };
-use allocative_described::{HasLayout, Owned};
 use std::test::Fail;
 
 /// A value of 16 bytes, with a byte and a box.
@@ -21,13 +20,29 @@ struct Data {
     b: Box<u32>,
 }
 
-impl HasLayout for Data {
-    ghost type_name = { codes "Data" };
+impl Described for Data {
+    ghost name = { codes "Data" };
 
-    type Layout = Owned<16>;
+    ghost align = { 8 };
 
-    fn type_name() -> &'static str {
+    ghost needs_drop = { true };
+
+    ghost size = { Some 16 };
+
+    fn name() -> &'static str {
         "Data"
+    }
+
+    fn align() -> usize {
+        8
+    }
+
+    fn needs_drop() -> bool {
+        true
+    }
+
+    fn size() -> Option<usize> {
+        Some(16)
     }
 }
 
@@ -49,13 +64,29 @@ struct Boxed {
     data: Box<Data>,
 }
 
-impl HasLayout for Boxed {
-    ghost type_name = { codes "Boxed" };
+impl Described for Boxed {
+    ghost name = { codes "Boxed" };
 
-    type Layout = Owned<8>;
+    ghost align = { 8 };
 
-    fn type_name() -> &'static str {
+    ghost needs_drop = { true };
+
+    ghost size = { Some 8 };
+
+    fn name() -> &'static str {
         "Boxed"
+    }
+
+    fn align() -> usize {
+        8
+    }
+
+    fn needs_drop() -> bool {
+        true
+    }
+
+    fn size() -> Option<usize> {
+        Some(8)
     }
 }
 

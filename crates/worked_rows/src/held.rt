@@ -1,7 +1,7 @@
 //! What values hold on the heap.
 #![tactic(auto, using(allocative::proofs::Parts::parts))]
 
-ghost use Rattle.std.specs.Prelude.{codes, Some, false, length};
+ghost use Rattle.std.specs.Prelude.{codes, Some, true, false, length, ◌≡◌};
 ghost use Rattle.allocative.specs.Bodies.{slice_of, vec_body};
 ghost use Rattle.allocative.specs.Shows as shows;
 
@@ -10,7 +10,6 @@ use allocative::{
     Allocative, Described, Field, Identity, Inside, Key, Part, Refusal, Unique, Visitor,
     size_of_entries, size_of_unique, size_of_unique_allocated_data,
 };
-use allocative_described::{HasLayout, Owned};
 use std::test::Fail;
 
 /// Shows items as a slice with an entry of its own.
@@ -31,13 +30,29 @@ struct BoxedSlice {
     numbers: Vec<u32>,
 }
 
-impl HasLayout for BoxedSlice {
-    ghost type_name = { codes "Box" };
+impl Described for BoxedSlice {
+    ghost name = { codes "Box" };
 
-    type Layout = Owned<16>;
+    ghost align = { 8 };
 
-    fn type_name() -> &'static str {
+    ghost needs_drop = { true };
+
+    ghost size = { Some 16 };
+
+    fn name() -> &'static str {
         "Box"
+    }
+
+    fn align() -> usize {
+        8
+    }
+
+    fn needs_drop() -> bool {
+        true
+    }
+
+    fn size() -> Option<usize> {
+        Some(16)
     }
 }
 
@@ -58,13 +73,29 @@ struct Boxed {
     data: BoxedSlice,
 }
 
-impl HasLayout for Boxed {
-    ghost type_name = { codes "Boxed" };
+impl Described for Boxed {
+    ghost name = { codes "Boxed" };
 
-    type Layout = Owned<16>;
+    ghost align = { 8 };
 
-    fn type_name() -> &'static str {
+    ghost needs_drop = { true };
+
+    ghost size = { Some 16 };
+
+    fn name() -> &'static str {
         "Boxed"
+    }
+
+    fn align() -> usize {
+        8
+    }
+
+    fn needs_drop() -> bool {
+        true
+    }
+
+    fn size() -> Option<usize> {
+        Some(16)
     }
 }
 
@@ -94,13 +125,29 @@ struct BoxedNumber {
     data: Box<u32>,
 }
 
-impl HasLayout for BoxedNumber {
-    ghost type_name = { codes "BoxedNumber" };
+impl Described for BoxedNumber {
+    ghost name = { codes "BoxedNumber" };
 
-    type Layout = Owned<8>;
+    ghost align = { 8 };
 
-    fn type_name() -> &'static str {
+    ghost needs_drop = { true };
+
+    ghost size = { Some 8 };
+
+    fn name() -> &'static str {
         "BoxedNumber"
+    }
+
+    fn align() -> usize {
+        8
+    }
+
+    fn needs_drop() -> bool {
+        true
+    }
+
+    fn size() -> Option<usize> {
+        Some(8)
     }
 }
 

@@ -1,12 +1,13 @@
 //! Two collections, whose graphs are added.
 #![tactic(auto, using(allocative::proofs::Parts::parts, crate::proofs::Refused::refused_by_hand))]
 
-ghost use Rattle.std.specs.Prelude.{codes, false};
+ghost use Rattle.std.specs.Prelude.{codes, Some, false};
 ghost use Rattle.allocative.specs.Shows as shows;
 
 use crate::expected::{is_answer, is_text};
-use allocative::{Allocative, IdArc, Identity, Inside, Part, Refusal, Visitor, profile_in_two};
-use allocative_described::HasLayout;
+use allocative::{
+    Allocative, Described, IdArc, Identity, Inside, Part, Refusal, Visitor, profile_in_two,
+};
 use std::alloc::Global;
 use std::test::Fail;
 
@@ -49,13 +50,29 @@ struct Item {
     refuses: bool,
 }
 
-impl HasLayout for Item {
-    ghost type_name = { codes "Item" };
+impl Described for Item {
+    ghost name = { codes "Item" };
 
-    type Layout = [u64; 2];
+    ghost align = { 8 };
 
-    fn type_name() -> &'static str {
+    ghost needs_drop = { false };
+
+    ghost size = { Some 16 };
+
+    fn name() -> &'static str {
         "Item"
+    }
+
+    fn align() -> usize {
+        8
+    }
+
+    fn needs_drop() -> bool {
+        false
+    }
+
+    fn size() -> Option<usize> {
+        Some(16)
     }
 }
 

@@ -1,15 +1,14 @@
 //! Values of std and of test types, visited and held.
 #![tactic(auto, using(allocative::proofs::Parts::parts))]
 
-ghost use Rattle.std.specs.Prelude.{codes, Some};
+ghost use Rattle.std.specs.Prelude.{codes, Some, false, ◌≡◌};
 ghost use Rattle.allocative.specs.Shows as shows;
 
 use crate::expected::{is_answer, is_text, shows, told};
 use allocative::{
-    Allocative, Field, IdArc, Identity, Inside, Part, Refusal, Registry, Visitor, profile_roots,
-    profile_value, size_of_unique, size_of_unique_allocated_data,
+    Allocative, Described, Field, IdArc, Identity, Inside, Part, Refusal, Registry, Visitor,
+    profile_roots, profile_value, size_of_unique, size_of_unique_allocated_data,
 };
-use allocative_described::HasLayout;
 use std::alloc::Global;
 use std::collections::BTreeMap;
 use std::test::Fail;
@@ -18,13 +17,29 @@ use std::test::Fail;
 #[derive(Drop)]
 struct CacheLine(u8);
 
-impl HasLayout for CacheLine {
-    ghost type_name = { codes "CacheLine" };
+impl Described for CacheLine {
+    ghost name = { codes "CacheLine" };
 
-    type Layout = u512;
+    ghost align = { 64 };
 
-    fn type_name() -> &'static str {
+    ghost needs_drop = { false };
+
+    ghost size = { Some 64 };
+
+    fn name() -> &'static str {
         "CacheLine"
+    }
+
+    fn align() -> usize {
+        64
+    }
+
+    fn needs_drop() -> bool {
+        false
+    }
+
+    fn size() -> Option<usize> {
+        Some(64)
     }
 }
 

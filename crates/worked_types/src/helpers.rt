@@ -10,7 +10,6 @@ use crate::texts::expect_text;
 use allocative::{
     Allocative, Described, FlameGraphBuilder, Inside, Key, Part, Refusal, Unique, Visitor,
 };
-use allocative_described::HasLayout;
 use std::alloc::Global;
 use std::collections::BTreeMap;
 use std::test::Fail;
@@ -19,13 +18,29 @@ use std::test::Fail;
 #[derive(Clone, Copy, Debug, PartialEq, Eq, PartialOrd, Ord, Drop)]
 struct Byte(u8);
 
-impl HasLayout for Byte {
-    ghost type_name = { codes "u8" };
+impl Described for Byte {
+    ghost name = { codes "u8" };
 
-    type Layout = u8;
+    ghost align = { 1 };
 
-    fn type_name() -> &'static str {
+    ghost needs_drop = { false };
+
+    ghost size = { Some 1 };
+
+    fn name() -> &'static str {
         "u8"
+    }
+
+    fn align() -> usize {
+        1
+    }
+
+    fn needs_drop() -> bool {
+        false
+    }
+
+    fn size() -> Option<usize> {
+        Some(1)
     }
 }
 
@@ -41,13 +56,29 @@ impl Allocative for Byte {
 #[derive(Drop)]
 struct Pair;
 
-impl HasLayout for Pair {
-    ghost type_name = { codes "Pair" };
+impl Described for Pair {
+    ghost name = { codes "Pair" };
 
-    type Layout = [u8; 4];
+    ghost align = { 1 };
 
-    fn type_name() -> &'static str {
+    ghost needs_drop = { false };
+
+    ghost size = { Some 4 };
+
+    fn name() -> &'static str {
         "Pair"
+    }
+
+    fn align() -> usize {
+        1
+    }
+
+    fn needs_drop() -> bool {
+        false
+    }
+
+    fn size() -> Option<usize> {
+        Some(4)
     }
 }
 

@@ -3,7 +3,7 @@
 ghost use Rattle.std.specs.Prelude.{Some, false, codes};
 
 use allocative_described::{
-    And, Described, HasLayout, Or, Record, raw_table_alloc_size_for_len, shared_inner_size,
+    And, Described, Or, Record, raw_table_alloc_size_for_len, shared_inner_size,
 };
 use either::Either;
 use indexmap::{IndexMap, IndexSet};
@@ -29,26 +29,58 @@ use std::time::{Duration, Instant, SystemTime};
 // A type of the greatest size.
 struct Huge;
 
-impl HasLayout for Huge {
-    ghost type_name = { codes "Huge" };
+impl Described for Huge {
+    ghost name = { codes "Huge" };
 
-    type Layout = [u8; 18446744073709551615];
+    ghost align = { 1 };
 
-    fn type_name() -> &'static str {
+    ghost needs_drop = { false };
+
+    ghost size = { Some 18446744073709551615 };
+
+    fn name() -> &'static str {
         "Huge"
+    }
+
+    fn align() -> usize {
+        1
+    }
+
+    fn needs_drop() -> bool {
+        false
+    }
+
+    fn size() -> Option<usize> {
+        Some(usize::MAX)
     }
 }
 
 // A type whose alignment is greater than that of a pointer.
 struct CacheLine;
 
-impl HasLayout for CacheLine {
-    ghost type_name = { codes "CacheLine" };
+impl Described for CacheLine {
+    ghost name = { codes "CacheLine" };
 
-    type Layout = u512;
+    ghost align = { 64 };
 
-    fn type_name() -> &'static str {
+    ghost needs_drop = { false };
+
+    ghost size = { Some 64 };
+
+    fn name() -> &'static str {
         "CacheLine"
+    }
+
+    fn align() -> usize {
+        64
+    }
+
+    fn needs_drop() -> bool {
+        false
+    }
+
+    fn size() -> Option<usize> {
+        Some(64)
     }
 }
 

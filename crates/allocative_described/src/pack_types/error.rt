@@ -1,15 +1,31 @@
 //! `anyhow::Error`.
 
-ghost use Rattle.std.specs.Prelude.{codes};
+ghost use Rattle.std.specs.Prelude.{Some, true, codes};
 
-use crate::has_layout::{HasLayout, Owned};
+use crate::described::Described;
 
-impl HasLayout for anyhow::Error {
-    ghost type_name = { codes "anyhow::Error" };
+impl Described for anyhow::Error {
+    ghost name = { codes "anyhow::Error" };
 
-    type Layout = Owned<8>;
+    ghost align = { 8 };
 
-    fn type_name() -> &'static str {
+    ghost needs_drop = { true };
+
+    ghost size = { Some 8 };
+
+    fn name() -> &'static str {
         "anyhow::Error"
+    }
+
+    fn align() -> usize {
+        8
+    }
+
+    fn needs_drop() -> bool {
+        true
+    }
+
+    fn size() -> Option<usize> {
+        Some(8)
     }
 }

@@ -1,17 +1,33 @@
 //! `IndexMap`.
 
-ghost use Rattle.std.specs.Prelude.{codes};
+ghost use Rattle.std.specs.Prelude.{Some, true, codes};
 
-use crate::has_layout::{HasLayout, Owned};
+use crate::described::Described;
 use indexmap::IndexMap;
 use std::hash::Hash;
 
-impl<K: Eq + Hash, V> HasLayout for IndexMap<K, V> {
-    ghost type_name = { codes "IndexMap" };
+impl<K: Eq + Hash, V> Described for IndexMap<K, V> {
+    ghost name = { codes "IndexMap" };
 
-    type Layout = Owned<72>;
+    ghost align = { 8 };
 
-    fn type_name() -> &'static str {
+    ghost needs_drop = { true };
+
+    ghost size = { Some 72 };
+
+    fn name() -> &'static str {
         "IndexMap"
+    }
+
+    fn align() -> usize {
+        8
+    }
+
+    fn needs_drop() -> bool {
+        true
+    }
+
+    fn size() -> Option<usize> {
+        Some(72)
     }
 }

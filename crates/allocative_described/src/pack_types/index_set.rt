@@ -1,17 +1,33 @@
 //! `IndexSet`.
 
-ghost use Rattle.std.specs.Prelude.{codes};
+ghost use Rattle.std.specs.Prelude.{Some, true, codes};
 
-use crate::has_layout::{HasLayout, Owned};
+use crate::described::Described;
 use indexmap::IndexSet;
 use std::hash::Hash;
 
-impl<K: Eq + Hash> HasLayout for IndexSet<K> {
-    ghost type_name = { codes "IndexSet" };
+impl<K: Eq + Hash> Described for IndexSet<K> {
+    ghost name = { codes "IndexSet" };
 
-    type Layout = Owned<72>;
+    ghost align = { 8 };
 
-    fn type_name() -> &'static str {
+    ghost needs_drop = { true };
+
+    ghost size = { Some 72 };
+
+    fn name() -> &'static str {
         "IndexSet"
+    }
+
+    fn align() -> usize {
+        8
+    }
+
+    fn needs_drop() -> bool {
+        true
+    }
+
+    fn size() -> Option<usize> {
+        Some(72)
     }
 }

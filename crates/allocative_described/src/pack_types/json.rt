@@ -1,27 +1,58 @@
 //! `Value` and `Number` of `serde_json`.
 
-ghost use Rattle.std.specs.Prelude.{codes};
+ghost use Rattle.std.specs.Prelude.{Some, true, false, codes};
 
-use crate::has_layout::{HasLayout, Owned};
-use crate::layout::Record;
+use crate::described::Described;
 use serde_json::{Number, Value};
 
-impl HasLayout for Value {
-    ghost type_name = { codes "Value" };
+impl Described for Value {
+    ghost name = { codes "Value" };
 
-    type Layout = Owned<32>;
+    ghost align = { 8 };
 
-    fn type_name() -> &'static str {
+    ghost needs_drop = { true };
+
+    ghost size = { Some 32 };
+
+    fn name() -> &'static str {
         "Value"
+    }
+
+    fn align() -> usize {
+        8
+    }
+
+    fn needs_drop() -> bool {
+        true
+    }
+
+    fn size() -> Option<usize> {
+        Some(32)
     }
 }
 
-impl HasLayout for Number {
-    ghost type_name = { codes "Number" };
+impl Described for Number {
+    ghost name = { codes "Number" };
 
-    type Layout = Record<(u8, (u64, ()))>;
+    ghost align = { 8 };
 
-    fn type_name() -> &'static str {
+    ghost needs_drop = { false };
+
+    ghost size = { Some 16 };
+
+    fn name() -> &'static str {
         "Number"
+    }
+
+    fn align() -> usize {
+        8
+    }
+
+    fn needs_drop() -> bool {
+        false
+    }
+
+    fn size() -> Option<usize> {
+        Some(16)
     }
 }

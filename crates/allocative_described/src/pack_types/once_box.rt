@@ -1,16 +1,32 @@
 //! `OnceBox`.
 
-ghost use Rattle.std.specs.Prelude.{codes};
+ghost use Rattle.std.specs.Prelude.{Some, true, codes};
 
-use crate::has_layout::{HasLayout, Owned};
+use crate::described::Described;
 use once_cell::race::OnceBox;
 
-impl<T> HasLayout for OnceBox<T> {
-    ghost type_name = { codes "OnceBox" };
+impl<T> Described for OnceBox<T> {
+    ghost name = { codes "OnceBox" };
 
-    type Layout = Owned<8>;
+    ghost align = { 8 };
 
-    fn type_name() -> &'static str {
+    ghost needs_drop = { true };
+
+    ghost size = { Some 8 };
+
+    fn name() -> &'static str {
         "OnceBox"
+    }
+
+    fn align() -> usize {
+        8
+    }
+
+    fn needs_drop() -> bool {
+        true
+    }
+
+    fn size() -> Option<usize> {
+        Some(8)
     }
 }

@@ -1,16 +1,32 @@
 //! `Slab`.
 
-ghost use Rattle.std.specs.Prelude.{codes};
+ghost use Rattle.std.specs.Prelude.{Some, true, codes};
 
-use crate::has_layout::{HasLayout, Owned};
+use crate::described::Described;
 use slab::Slab;
 
-impl<T> HasLayout for Slab<T> {
-    ghost type_name = { codes "Slab" };
+impl<T> Described for Slab<T> {
+    ghost name = { codes "Slab" };
 
-    type Layout = Owned<40>;
+    ghost align = { 8 };
 
-    fn type_name() -> &'static str {
+    ghost needs_drop = { true };
+
+    ghost size = { Some 40 };
+
+    fn name() -> &'static str {
         "Slab"
+    }
+
+    fn align() -> usize {
+        8
+    }
+
+    fn needs_drop() -> bool {
+        true
+    }
+
+    fn size() -> Option<usize> {
+        Some(40)
     }
 }

@@ -1,10 +1,9 @@
 //! Types that are one of several: `Option`, `Result`, and `Infallible`, which is none.
 
-ghost use Rattle.std.specs.Prelude.{Some, codes, max, ◌||◌};
+ghost use Rattle.std.specs.Prelude.{Some, false, codes, max, ◌||◌};
 ghost use Rattle.allocative_described.specs.Sizes.{size_sum, size_max, size_up};
 
 use crate::described::{Described, size_max, size_sum, size_up};
-use crate::has_layout::HasLayout;
 use std::convert::Infallible;
 
 // A byte for the tag, then the part.
@@ -62,12 +61,28 @@ impl<T: Described, E: Described> Described for Result<T, E> {
     }
 }
 
-impl HasLayout for Infallible {
-    ghost type_name = { codes "Infallible" };
+impl Described for Infallible {
+    ghost name = { codes "Infallible" };
 
-    type Layout = ();
+    ghost align = { 1 };
 
-    fn type_name() -> &'static str {
+    ghost needs_drop = { false };
+
+    ghost size = { Some 0 };
+
+    fn name() -> &'static str {
         "Infallible"
+    }
+
+    fn align() -> usize {
+        1
+    }
+
+    fn needs_drop() -> bool {
+        false
+    }
+
+    fn size() -> Option<usize> {
+        Some(0)
     }
 }

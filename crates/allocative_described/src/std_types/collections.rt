@@ -1,67 +1,163 @@
 //! Collections: each is as large as its control, whatever it holds.
 
-ghost use Rattle.std.specs.Prelude.{codes};
+ghost use Rattle.std.specs.Prelude.{Some, true, codes};
 
-use crate::has_layout::{HasLayout, Owned};
+use crate::described::Described;
 use std::collections::{BTreeMap, BTreeSet, HashMap, HashSet, VecDeque};
 use std::hash::Hash;
 
-impl<T> HasLayout for Vec<T> {
-    ghost type_name = { codes "Vec" };
+impl<T> Described for Vec<T> {
+    ghost name = { codes "Vec" };
 
-    type Layout = Owned<24>;
+    ghost align = { 8 };
 
-    fn type_name() -> &'static str {
+    ghost needs_drop = { true };
+
+    ghost size = { Some 24 };
+
+    fn name() -> &'static str {
         "Vec"
     }
+
+    fn align() -> usize {
+        8
+    }
+
+    fn needs_drop() -> bool {
+        true
+    }
+
+    fn size() -> Option<usize> {
+        Some(24)
+    }
 }
 
-impl<T> HasLayout for VecDeque<T> {
-    ghost type_name = { codes "VecDeque" };
+impl<T> Described for VecDeque<T> {
+    ghost name = { codes "VecDeque" };
 
-    type Layout = Owned<32>;
+    ghost align = { 8 };
 
-    fn type_name() -> &'static str {
+    ghost needs_drop = { true };
+
+    ghost size = { Some 32 };
+
+    fn name() -> &'static str {
         "VecDeque"
     }
+
+    fn align() -> usize {
+        8
+    }
+
+    fn needs_drop() -> bool {
+        true
+    }
+
+    fn size() -> Option<usize> {
+        Some(32)
+    }
 }
 
-impl<K: Ord, V> HasLayout for BTreeMap<K, V> {
-    ghost type_name = { codes "BTreeMap" };
+impl<K: Ord, V> Described for BTreeMap<K, V> {
+    ghost name = { codes "BTreeMap" };
 
-    type Layout = Owned<24>;
+    ghost align = { 8 };
 
-    fn type_name() -> &'static str {
+    ghost needs_drop = { true };
+
+    ghost size = { Some 24 };
+
+    fn name() -> &'static str {
         "BTreeMap"
     }
+
+    fn align() -> usize {
+        8
+    }
+
+    fn needs_drop() -> bool {
+        true
+    }
+
+    fn size() -> Option<usize> {
+        Some(24)
+    }
 }
 
-impl<K: Ord> HasLayout for BTreeSet<K> {
-    ghost type_name = { codes "BTreeSet" };
+impl<K: Ord> Described for BTreeSet<K> {
+    ghost name = { codes "BTreeSet" };
 
-    type Layout = Owned<24>;
+    ghost align = { 8 };
 
-    fn type_name() -> &'static str {
+    ghost needs_drop = { true };
+
+    ghost size = { Some 24 };
+
+    fn name() -> &'static str {
         "BTreeSet"
     }
-}
 
-impl<K: Eq + Hash, V> HasLayout for HashMap<K, V> {
-    ghost type_name = { codes "HashMap" };
+    fn align() -> usize {
+        8
+    }
 
-    type Layout = Owned<48>;
+    fn needs_drop() -> bool {
+        true
+    }
 
-    fn type_name() -> &'static str {
-        "HashMap"
+    fn size() -> Option<usize> {
+        Some(24)
     }
 }
 
-impl<K: Eq + Hash> HasLayout for HashSet<K> {
-    ghost type_name = { codes "HashSet" };
+impl<K: Eq + Hash, V> Described for HashMap<K, V> {
+    ghost name = { codes "HashMap" };
 
-    type Layout = Owned<48>;
+    ghost align = { 8 };
 
-    fn type_name() -> &'static str {
+    ghost needs_drop = { true };
+
+    ghost size = { Some 48 };
+
+    fn name() -> &'static str {
+        "HashMap"
+    }
+
+    fn align() -> usize {
+        8
+    }
+
+    fn needs_drop() -> bool {
+        true
+    }
+
+    fn size() -> Option<usize> {
+        Some(48)
+    }
+}
+
+impl<K: Eq + Hash> Described for HashSet<K> {
+    ghost name = { codes "HashSet" };
+
+    ghost align = { 8 };
+
+    ghost needs_drop = { true };
+
+    ghost size = { Some 48 };
+
+    fn name() -> &'static str {
         "HashSet"
+    }
+
+    fn align() -> usize {
+        8
+    }
+
+    fn needs_drop() -> bool {
+        true
+    }
+
+    fn size() -> Option<usize> {
+        Some(48)
     }
 }

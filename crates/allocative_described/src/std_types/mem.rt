@@ -1,9 +1,8 @@
 //! `ManuallyDrop` and `PhantomData`.
 
-ghost use Rattle.std.specs.Prelude.{false, codes};
+ghost use Rattle.std.specs.Prelude.{Some, false, codes};
 
 use crate::described::Described;
-use crate::has_layout::HasLayout;
 use std::marker::PhantomData;
 use std::mem::ManuallyDrop;
 
@@ -34,12 +33,28 @@ impl<V: Described> Described for ManuallyDrop<V> {
     }
 }
 
-impl<T> HasLayout for PhantomData<T> {
-    ghost type_name = { codes "PhantomData" };
+impl<T> Described for PhantomData<T> {
+    ghost name = { codes "PhantomData" };
 
-    type Layout = ();
+    ghost align = { 1 };
 
-    fn type_name() -> &'static str {
+    ghost needs_drop = { false };
+
+    ghost size = { Some 0 };
+
+    fn name() -> &'static str {
         "PhantomData"
+    }
+
+    fn align() -> usize {
+        1
+    }
+
+    fn needs_drop() -> bool {
+        false
+    }
+
+    fn size() -> Option<usize> {
+        Some(0)
     }
 }

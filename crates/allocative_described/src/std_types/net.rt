@@ -1,37 +1,84 @@
 //! Addresses.
 
-ghost use Rattle.std.specs.Prelude.{codes};
+ghost use Rattle.std.specs.Prelude.{Some, false, codes};
 
-use crate::has_layout::HasLayout;
-use crate::layout::{Or, Record};
+use crate::described::Described;
 use std::net::{IpAddr, Ipv4Addr, Ipv6Addr};
 
-impl HasLayout for IpAddr {
-    ghost type_name = { codes "IpAddr" };
+impl Described for IpAddr {
+    ghost name = { codes "IpAddr" };
 
-    type Layout = Record<(u8, Or<(Ipv4Addr, ()), (Ipv6Addr, ())>)>;
+    ghost align = { 1 };
 
-    fn type_name() -> &'static str {
+    ghost needs_drop = { false };
+
+    ghost size = { Some 17 };
+
+    fn name() -> &'static str {
         "IpAddr"
     }
-}
 
-impl HasLayout for Ipv4Addr {
-    ghost type_name = { codes "Ipv4Addr" };
+    fn align() -> usize {
+        1
+    }
 
-    type Layout = [u8; 4];
+    fn needs_drop() -> bool {
+        false
+    }
 
-    fn type_name() -> &'static str {
-        "Ipv4Addr"
+    fn size() -> Option<usize> {
+        Some(17)
     }
 }
 
-impl HasLayout for Ipv6Addr {
-    ghost type_name = { codes "Ipv6Addr" };
+impl Described for Ipv4Addr {
+    ghost name = { codes "Ipv4Addr" };
 
-    type Layout = [u8; 16];
+    ghost align = { 1 };
 
-    fn type_name() -> &'static str {
+    ghost needs_drop = { false };
+
+    ghost size = { Some 4 };
+
+    fn name() -> &'static str {
+        "Ipv4Addr"
+    }
+
+    fn align() -> usize {
+        1
+    }
+
+    fn needs_drop() -> bool {
+        false
+    }
+
+    fn size() -> Option<usize> {
+        Some(4)
+    }
+}
+
+impl Described for Ipv6Addr {
+    ghost name = { codes "Ipv6Addr" };
+
+    ghost align = { 1 };
+
+    ghost needs_drop = { false };
+
+    ghost size = { Some 16 };
+
+    fn name() -> &'static str {
         "Ipv6Addr"
+    }
+
+    fn align() -> usize {
+        1
+    }
+
+    fn needs_drop() -> bool {
+        false
+    }
+
+    fn size() -> Option<usize> {
+        Some(16)
     }
 }

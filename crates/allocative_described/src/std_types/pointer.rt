@@ -1,25 +1,57 @@
 //! Boxes and references.
 
-ghost use Rattle.std.specs.Prelude.{codes};
+ghost use Rattle.std.specs.Prelude.{Some, true, false, codes};
 
-use crate::has_layout::{HasLayout, Owned};
+use crate::described::Described;
 
-impl<T> HasLayout for Box<T> {
-    ghost type_name = { codes "Box" };
+impl<T> Described for Box<T> {
+    ghost name = { codes "Box" };
 
-    type Layout = Owned<8>;
+    ghost align = { 8 };
 
-    fn type_name() -> &'static str {
+    ghost needs_drop = { true };
+
+    ghost size = { Some 8 };
+
+    fn name() -> &'static str {
         "Box"
+    }
+
+    fn align() -> usize {
+        8
+    }
+
+    fn needs_drop() -> bool {
+        true
+    }
+
+    fn size() -> Option<usize> {
+        Some(8)
     }
 }
 
-impl<T> HasLayout for &'static T {
-    ghost type_name = { codes "&" };
+impl<T> Described for &'static T {
+    ghost name = { codes "&" };
 
-    type Layout = usize;
+    ghost align = { 8 };
 
-    fn type_name() -> &'static str {
+    ghost needs_drop = { false };
+
+    ghost size = { Some 8 };
+
+    fn name() -> &'static str {
         "&"
+    }
+
+    fn align() -> usize {
+        8
+    }
+
+    fn needs_drop() -> bool {
+        false
+    }
+
+    fn size() -> Option<usize> {
+        Some(8)
     }
 }

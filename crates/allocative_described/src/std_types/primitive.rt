@@ -1,250 +1,634 @@
 //! Whole numbers, `bool`, numbers that are not zero, and `()`: each number is as large as its alignment, a number
 //! that is not zero is as large as the number, and nothing has a drop.
 
-ghost use Rattle.std.specs.Prelude.{codes};
+ghost use Rattle.std.specs.Prelude.{Some, false, codes};
 
-use crate::has_layout::{Bytes, HasLayout};
+use crate::described::Described;
 use std::num::{
     NonZeroI8, NonZeroI16, NonZeroI32, NonZeroI64, NonZeroIsize, NonZeroU8, NonZeroU16, NonZeroU32,
     NonZeroU64, NonZeroUsize,
 };
 
-impl HasLayout for u8 {
-    ghost type_name = { codes "u8" };
+impl Described for u8 {
+    ghost name = { codes "u8" };
 
-    type Layout = Bytes<1>;
+    ghost align = { 1 };
 
-    fn type_name() -> &'static str {
+    ghost needs_drop = { false };
+
+    ghost size = { Some 1 };
+
+    fn name() -> &'static str {
         "u8"
     }
+
+    fn align() -> usize {
+        1
+    }
+
+    fn needs_drop() -> bool {
+        false
+    }
+
+    fn size() -> Option<usize> {
+        Some(1)
+    }
 }
 
-impl HasLayout for u16 {
-    ghost type_name = { codes "u16" };
+impl Described for u16 {
+    ghost name = { codes "u16" };
 
-    type Layout = Bytes<2>;
+    ghost align = { 2 };
 
-    fn type_name() -> &'static str {
+    ghost needs_drop = { false };
+
+    ghost size = { Some 2 };
+
+    fn name() -> &'static str {
         "u16"
     }
+
+    fn align() -> usize {
+        2
+    }
+
+    fn needs_drop() -> bool {
+        false
+    }
+
+    fn size() -> Option<usize> {
+        Some(2)
+    }
 }
 
-impl HasLayout for u32 {
-    ghost type_name = { codes "u32" };
+impl Described for u32 {
+    ghost name = { codes "u32" };
 
-    type Layout = Bytes<4>;
+    ghost align = { 4 };
 
-    fn type_name() -> &'static str {
+    ghost needs_drop = { false };
+
+    ghost size = { Some 4 };
+
+    fn name() -> &'static str {
         "u32"
     }
+
+    fn align() -> usize {
+        4
+    }
+
+    fn needs_drop() -> bool {
+        false
+    }
+
+    fn size() -> Option<usize> {
+        Some(4)
+    }
 }
 
-impl HasLayout for u64 {
-    ghost type_name = { codes "u64" };
+impl Described for u64 {
+    ghost name = { codes "u64" };
 
-    type Layout = Bytes<8>;
+    ghost align = { 8 };
 
-    fn type_name() -> &'static str {
+    ghost needs_drop = { false };
+
+    ghost size = { Some 8 };
+
+    fn name() -> &'static str {
         "u64"
     }
+
+    fn align() -> usize {
+        8
+    }
+
+    fn needs_drop() -> bool {
+        false
+    }
+
+    fn size() -> Option<usize> {
+        Some(8)
+    }
 }
 
-impl HasLayout for u128 {
-    ghost type_name = { codes "u128" };
+impl Described for u128 {
+    ghost name = { codes "u128" };
 
-    type Layout = Bytes<16>;
+    ghost align = { 16 };
 
-    fn type_name() -> &'static str {
+    ghost needs_drop = { false };
+
+    ghost size = { Some 16 };
+
+    fn name() -> &'static str {
         "u128"
     }
+
+    fn align() -> usize {
+        16
+    }
+
+    fn needs_drop() -> bool {
+        false
+    }
+
+    fn size() -> Option<usize> {
+        Some(16)
+    }
 }
 
-impl HasLayout for usize {
-    ghost type_name = { codes "usize" };
+impl Described for usize {
+    ghost name = { codes "usize" };
 
-    type Layout = u64;
+    ghost align = { 8 };
 
-    fn type_name() -> &'static str {
+    ghost needs_drop = { false };
+
+    ghost size = { Some 8 };
+
+    fn name() -> &'static str {
         "usize"
     }
+
+    fn align() -> usize {
+        8
+    }
+
+    fn needs_drop() -> bool {
+        false
+    }
+
+    fn size() -> Option<usize> {
+        Some(8)
+    }
 }
 
-impl HasLayout for i8 {
-    ghost type_name = { codes "i8" };
+impl Described for i8 {
+    ghost name = { codes "i8" };
 
-    type Layout = u8;
+    ghost align = { 1 };
 
-    fn type_name() -> &'static str {
+    ghost needs_drop = { false };
+
+    ghost size = { Some 1 };
+
+    fn name() -> &'static str {
         "i8"
     }
+
+    fn align() -> usize {
+        1
+    }
+
+    fn needs_drop() -> bool {
+        false
+    }
+
+    fn size() -> Option<usize> {
+        Some(1)
+    }
 }
 
-impl HasLayout for i16 {
-    ghost type_name = { codes "i16" };
+impl Described for i16 {
+    ghost name = { codes "i16" };
 
-    type Layout = u16;
+    ghost align = { 2 };
 
-    fn type_name() -> &'static str {
+    ghost needs_drop = { false };
+
+    ghost size = { Some 2 };
+
+    fn name() -> &'static str {
         "i16"
     }
+
+    fn align() -> usize {
+        2
+    }
+
+    fn needs_drop() -> bool {
+        false
+    }
+
+    fn size() -> Option<usize> {
+        Some(2)
+    }
 }
 
-impl HasLayout for i32 {
-    ghost type_name = { codes "i32" };
+impl Described for i32 {
+    ghost name = { codes "i32" };
 
-    type Layout = u32;
+    ghost align = { 4 };
 
-    fn type_name() -> &'static str {
+    ghost needs_drop = { false };
+
+    ghost size = { Some 4 };
+
+    fn name() -> &'static str {
         "i32"
     }
+
+    fn align() -> usize {
+        4
+    }
+
+    fn needs_drop() -> bool {
+        false
+    }
+
+    fn size() -> Option<usize> {
+        Some(4)
+    }
 }
 
-impl HasLayout for i64 {
-    ghost type_name = { codes "i64" };
+impl Described for i64 {
+    ghost name = { codes "i64" };
 
-    type Layout = u64;
+    ghost align = { 8 };
 
-    fn type_name() -> &'static str {
+    ghost needs_drop = { false };
+
+    ghost size = { Some 8 };
+
+    fn name() -> &'static str {
         "i64"
     }
+
+    fn align() -> usize {
+        8
+    }
+
+    fn needs_drop() -> bool {
+        false
+    }
+
+    fn size() -> Option<usize> {
+        Some(8)
+    }
 }
 
-impl HasLayout for i128 {
-    ghost type_name = { codes "i128" };
+impl Described for i128 {
+    ghost name = { codes "i128" };
 
-    type Layout = u128;
+    ghost align = { 16 };
 
-    fn type_name() -> &'static str {
+    ghost needs_drop = { false };
+
+    ghost size = { Some 16 };
+
+    fn name() -> &'static str {
         "i128"
     }
+
+    fn align() -> usize {
+        16
+    }
+
+    fn needs_drop() -> bool {
+        false
+    }
+
+    fn size() -> Option<usize> {
+        Some(16)
+    }
 }
 
-impl HasLayout for isize {
-    ghost type_name = { codes "isize" };
+impl Described for isize {
+    ghost name = { codes "isize" };
 
-    type Layout = u64;
+    ghost align = { 8 };
 
-    fn type_name() -> &'static str {
+    ghost needs_drop = { false };
+
+    ghost size = { Some 8 };
+
+    fn name() -> &'static str {
         "isize"
     }
+
+    fn align() -> usize {
+        8
+    }
+
+    fn needs_drop() -> bool {
+        false
+    }
+
+    fn size() -> Option<usize> {
+        Some(8)
+    }
 }
 
-impl HasLayout for bool {
-    ghost type_name = { codes "bool" };
+impl Described for bool {
+    ghost name = { codes "bool" };
 
-    type Layout = u8;
+    ghost align = { 1 };
 
-    fn type_name() -> &'static str {
+    ghost needs_drop = { false };
+
+    ghost size = { Some 1 };
+
+    fn name() -> &'static str {
         "bool"
     }
+
+    fn align() -> usize {
+        1
+    }
+
+    fn needs_drop() -> bool {
+        false
+    }
+
+    fn size() -> Option<usize> {
+        Some(1)
+    }
 }
 
-impl HasLayout for NonZeroU8 {
-    ghost type_name = { codes "NonZeroU8" };
+impl Described for NonZeroU8 {
+    ghost name = { codes "NonZeroU8" };
 
-    type Layout = u8;
+    ghost align = { 1 };
 
-    fn type_name() -> &'static str {
+    ghost needs_drop = { false };
+
+    ghost size = { Some 1 };
+
+    fn name() -> &'static str {
         "NonZeroU8"
     }
+
+    fn align() -> usize {
+        1
+    }
+
+    fn needs_drop() -> bool {
+        false
+    }
+
+    fn size() -> Option<usize> {
+        Some(1)
+    }
 }
 
-impl HasLayout for NonZeroU16 {
-    ghost type_name = { codes "NonZeroU16" };
+impl Described for NonZeroU16 {
+    ghost name = { codes "NonZeroU16" };
 
-    type Layout = u16;
+    ghost align = { 2 };
 
-    fn type_name() -> &'static str {
+    ghost needs_drop = { false };
+
+    ghost size = { Some 2 };
+
+    fn name() -> &'static str {
         "NonZeroU16"
     }
+
+    fn align() -> usize {
+        2
+    }
+
+    fn needs_drop() -> bool {
+        false
+    }
+
+    fn size() -> Option<usize> {
+        Some(2)
+    }
 }
 
-impl HasLayout for NonZeroU32 {
-    ghost type_name = { codes "NonZeroU32" };
+impl Described for NonZeroU32 {
+    ghost name = { codes "NonZeroU32" };
 
-    type Layout = u32;
+    ghost align = { 4 };
 
-    fn type_name() -> &'static str {
+    ghost needs_drop = { false };
+
+    ghost size = { Some 4 };
+
+    fn name() -> &'static str {
         "NonZeroU32"
     }
+
+    fn align() -> usize {
+        4
+    }
+
+    fn needs_drop() -> bool {
+        false
+    }
+
+    fn size() -> Option<usize> {
+        Some(4)
+    }
 }
 
-impl HasLayout for NonZeroU64 {
-    ghost type_name = { codes "NonZeroU64" };
+impl Described for NonZeroU64 {
+    ghost name = { codes "NonZeroU64" };
 
-    type Layout = u64;
+    ghost align = { 8 };
 
-    fn type_name() -> &'static str {
+    ghost needs_drop = { false };
+
+    ghost size = { Some 8 };
+
+    fn name() -> &'static str {
         "NonZeroU64"
     }
+
+    fn align() -> usize {
+        8
+    }
+
+    fn needs_drop() -> bool {
+        false
+    }
+
+    fn size() -> Option<usize> {
+        Some(8)
+    }
 }
 
-impl HasLayout for NonZeroUsize {
-    ghost type_name = { codes "NonZeroUsize" };
+impl Described for NonZeroUsize {
+    ghost name = { codes "NonZeroUsize" };
 
-    type Layout = u64;
+    ghost align = { 8 };
 
-    fn type_name() -> &'static str {
+    ghost needs_drop = { false };
+
+    ghost size = { Some 8 };
+
+    fn name() -> &'static str {
         "NonZeroUsize"
     }
+
+    fn align() -> usize {
+        8
+    }
+
+    fn needs_drop() -> bool {
+        false
+    }
+
+    fn size() -> Option<usize> {
+        Some(8)
+    }
 }
 
-impl HasLayout for NonZeroI8 {
-    ghost type_name = { codes "NonZeroI8" };
+impl Described for NonZeroI8 {
+    ghost name = { codes "NonZeroI8" };
 
-    type Layout = u8;
+    ghost align = { 1 };
 
-    fn type_name() -> &'static str {
+    ghost needs_drop = { false };
+
+    ghost size = { Some 1 };
+
+    fn name() -> &'static str {
         "NonZeroI8"
     }
+
+    fn align() -> usize {
+        1
+    }
+
+    fn needs_drop() -> bool {
+        false
+    }
+
+    fn size() -> Option<usize> {
+        Some(1)
+    }
 }
 
-impl HasLayout for NonZeroI16 {
-    ghost type_name = { codes "NonZeroI16" };
+impl Described for NonZeroI16 {
+    ghost name = { codes "NonZeroI16" };
 
-    type Layout = u16;
+    ghost align = { 2 };
 
-    fn type_name() -> &'static str {
+    ghost needs_drop = { false };
+
+    ghost size = { Some 2 };
+
+    fn name() -> &'static str {
         "NonZeroI16"
     }
+
+    fn align() -> usize {
+        2
+    }
+
+    fn needs_drop() -> bool {
+        false
+    }
+
+    fn size() -> Option<usize> {
+        Some(2)
+    }
 }
 
-impl HasLayout for NonZeroI32 {
-    ghost type_name = { codes "NonZeroI32" };
+impl Described for NonZeroI32 {
+    ghost name = { codes "NonZeroI32" };
 
-    type Layout = u32;
+    ghost align = { 4 };
 
-    fn type_name() -> &'static str {
+    ghost needs_drop = { false };
+
+    ghost size = { Some 4 };
+
+    fn name() -> &'static str {
         "NonZeroI32"
     }
+
+    fn align() -> usize {
+        4
+    }
+
+    fn needs_drop() -> bool {
+        false
+    }
+
+    fn size() -> Option<usize> {
+        Some(4)
+    }
 }
 
-impl HasLayout for NonZeroI64 {
-    ghost type_name = { codes "NonZeroI64" };
+impl Described for NonZeroI64 {
+    ghost name = { codes "NonZeroI64" };
 
-    type Layout = u64;
+    ghost align = { 8 };
 
-    fn type_name() -> &'static str {
+    ghost needs_drop = { false };
+
+    ghost size = { Some 8 };
+
+    fn name() -> &'static str {
         "NonZeroI64"
     }
-}
 
-impl HasLayout for NonZeroIsize {
-    ghost type_name = { codes "NonZeroIsize" };
+    fn align() -> usize {
+        8
+    }
 
-    type Layout = u64;
+    fn needs_drop() -> bool {
+        false
+    }
 
-    fn type_name() -> &'static str {
-        "NonZeroIsize"
+    fn size() -> Option<usize> {
+        Some(8)
     }
 }
 
-impl HasLayout for () {
-    ghost type_name = { codes "()" };
+impl Described for NonZeroIsize {
+    ghost name = { codes "NonZeroIsize" };
 
-    type Layout = Bytes<0>;
+    ghost align = { 8 };
 
-    fn type_name() -> &'static str {
+    ghost needs_drop = { false };
+
+    ghost size = { Some 8 };
+
+    fn name() -> &'static str {
+        "NonZeroIsize"
+    }
+
+    fn align() -> usize {
+        8
+    }
+
+    fn needs_drop() -> bool {
+        false
+    }
+
+    fn size() -> Option<usize> {
+        Some(8)
+    }
+}
+
+impl Described for () {
+    ghost name = { codes "()" };
+
+    ghost align = { 1 };
+
+    ghost needs_drop = { false };
+
+    ghost size = { Some 0 };
+
+    fn name() -> &'static str {
         "()"
+    }
+
+    fn align() -> usize {
+        1
+    }
+
+    fn needs_drop() -> bool {
+        false
+    }
+
+    fn size() -> Option<usize> {
+        Some(0)
     }
 }

@@ -1,119 +1,295 @@
 //! Atomics: each is as large as the number or `bool` that it holds. No atomic is read or written.
 
-ghost use Rattle.std.specs.Prelude.{codes};
+ghost use Rattle.std.specs.Prelude.{Some, false, codes};
 
-use crate::has_layout::HasLayout;
+use crate::described::Described;
 use std::sync::atomic::{
     AtomicBool, AtomicI8, AtomicI16, AtomicI32, AtomicI64, AtomicIsize, AtomicU8, AtomicU16,
     AtomicU32, AtomicU64, AtomicUsize,
 };
 
-impl HasLayout for AtomicU8 {
-    ghost type_name = { codes "AtomicU8" };
+impl Described for AtomicU8 {
+    ghost name = { codes "AtomicU8" };
 
-    type Layout = u8;
+    ghost align = { 1 };
 
-    fn type_name() -> &'static str {
+    ghost needs_drop = { false };
+
+    ghost size = { Some 1 };
+
+    fn name() -> &'static str {
         "AtomicU8"
     }
+
+    fn align() -> usize {
+        1
+    }
+
+    fn needs_drop() -> bool {
+        false
+    }
+
+    fn size() -> Option<usize> {
+        Some(1)
+    }
 }
 
-impl HasLayout for AtomicU16 {
-    ghost type_name = { codes "AtomicU16" };
+impl Described for AtomicU16 {
+    ghost name = { codes "AtomicU16" };
 
-    type Layout = u16;
+    ghost align = { 2 };
 
-    fn type_name() -> &'static str {
+    ghost needs_drop = { false };
+
+    ghost size = { Some 2 };
+
+    fn name() -> &'static str {
         "AtomicU16"
     }
+
+    fn align() -> usize {
+        2
+    }
+
+    fn needs_drop() -> bool {
+        false
+    }
+
+    fn size() -> Option<usize> {
+        Some(2)
+    }
 }
 
-impl HasLayout for AtomicU32 {
-    ghost type_name = { codes "AtomicU32" };
+impl Described for AtomicU32 {
+    ghost name = { codes "AtomicU32" };
 
-    type Layout = u32;
+    ghost align = { 4 };
 
-    fn type_name() -> &'static str {
+    ghost needs_drop = { false };
+
+    ghost size = { Some 4 };
+
+    fn name() -> &'static str {
         "AtomicU32"
     }
+
+    fn align() -> usize {
+        4
+    }
+
+    fn needs_drop() -> bool {
+        false
+    }
+
+    fn size() -> Option<usize> {
+        Some(4)
+    }
 }
 
-impl HasLayout for AtomicU64 {
-    ghost type_name = { codes "AtomicU64" };
+impl Described for AtomicU64 {
+    ghost name = { codes "AtomicU64" };
 
-    type Layout = u64;
+    ghost align = { 8 };
 
-    fn type_name() -> &'static str {
+    ghost needs_drop = { false };
+
+    ghost size = { Some 8 };
+
+    fn name() -> &'static str {
         "AtomicU64"
     }
+
+    fn align() -> usize {
+        8
+    }
+
+    fn needs_drop() -> bool {
+        false
+    }
+
+    fn size() -> Option<usize> {
+        Some(8)
+    }
 }
 
-impl HasLayout for AtomicUsize {
-    ghost type_name = { codes "AtomicUsize" };
+impl Described for AtomicUsize {
+    ghost name = { codes "AtomicUsize" };
 
-    type Layout = u64;
+    ghost align = { 8 };
 
-    fn type_name() -> &'static str {
+    ghost needs_drop = { false };
+
+    ghost size = { Some 8 };
+
+    fn name() -> &'static str {
         "AtomicUsize"
     }
+
+    fn align() -> usize {
+        8
+    }
+
+    fn needs_drop() -> bool {
+        false
+    }
+
+    fn size() -> Option<usize> {
+        Some(8)
+    }
 }
 
-impl HasLayout for AtomicI8 {
-    ghost type_name = { codes "AtomicI8" };
+impl Described for AtomicI8 {
+    ghost name = { codes "AtomicI8" };
 
-    type Layout = u8;
+    ghost align = { 1 };
 
-    fn type_name() -> &'static str {
+    ghost needs_drop = { false };
+
+    ghost size = { Some 1 };
+
+    fn name() -> &'static str {
         "AtomicI8"
     }
+
+    fn align() -> usize {
+        1
+    }
+
+    fn needs_drop() -> bool {
+        false
+    }
+
+    fn size() -> Option<usize> {
+        Some(1)
+    }
 }
 
-impl HasLayout for AtomicI16 {
-    ghost type_name = { codes "AtomicI16" };
+impl Described for AtomicI16 {
+    ghost name = { codes "AtomicI16" };
 
-    type Layout = u16;
+    ghost align = { 2 };
 
-    fn type_name() -> &'static str {
+    ghost needs_drop = { false };
+
+    ghost size = { Some 2 };
+
+    fn name() -> &'static str {
         "AtomicI16"
     }
+
+    fn align() -> usize {
+        2
+    }
+
+    fn needs_drop() -> bool {
+        false
+    }
+
+    fn size() -> Option<usize> {
+        Some(2)
+    }
 }
 
-impl HasLayout for AtomicI32 {
-    ghost type_name = { codes "AtomicI32" };
+impl Described for AtomicI32 {
+    ghost name = { codes "AtomicI32" };
 
-    type Layout = u32;
+    ghost align = { 4 };
 
-    fn type_name() -> &'static str {
+    ghost needs_drop = { false };
+
+    ghost size = { Some 4 };
+
+    fn name() -> &'static str {
         "AtomicI32"
     }
+
+    fn align() -> usize {
+        4
+    }
+
+    fn needs_drop() -> bool {
+        false
+    }
+
+    fn size() -> Option<usize> {
+        Some(4)
+    }
 }
 
-impl HasLayout for AtomicI64 {
-    ghost type_name = { codes "AtomicI64" };
+impl Described for AtomicI64 {
+    ghost name = { codes "AtomicI64" };
 
-    type Layout = u64;
+    ghost align = { 8 };
 
-    fn type_name() -> &'static str {
+    ghost needs_drop = { false };
+
+    ghost size = { Some 8 };
+
+    fn name() -> &'static str {
         "AtomicI64"
     }
-}
 
-impl HasLayout for AtomicIsize {
-    ghost type_name = { codes "AtomicIsize" };
+    fn align() -> usize {
+        8
+    }
 
-    type Layout = u64;
+    fn needs_drop() -> bool {
+        false
+    }
 
-    fn type_name() -> &'static str {
-        "AtomicIsize"
+    fn size() -> Option<usize> {
+        Some(8)
     }
 }
 
-impl HasLayout for AtomicBool {
-    ghost type_name = { codes "AtomicBool" };
+impl Described for AtomicIsize {
+    ghost name = { codes "AtomicIsize" };
 
-    type Layout = u8;
+    ghost align = { 8 };
 
-    fn type_name() -> &'static str {
+    ghost needs_drop = { false };
+
+    ghost size = { Some 8 };
+
+    fn name() -> &'static str {
+        "AtomicIsize"
+    }
+
+    fn align() -> usize {
+        8
+    }
+
+    fn needs_drop() -> bool {
+        false
+    }
+
+    fn size() -> Option<usize> {
+        Some(8)
+    }
+}
+
+impl Described for AtomicBool {
+    ghost name = { codes "AtomicBool" };
+
+    ghost align = { 1 };
+
+    ghost needs_drop = { false };
+
+    ghost size = { Some 1 };
+
+    fn name() -> &'static str {
         "AtomicBool"
+    }
+
+    fn align() -> usize {
+        1
+    }
+
+    fn needs_drop() -> bool {
+        false
+    }
+
+    fn size() -> Option<usize> {
+        Some(1)
     }
 }

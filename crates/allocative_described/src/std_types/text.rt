@@ -1,15 +1,31 @@
 //! `String`.
 
-ghost use Rattle.std.specs.Prelude.{codes};
+ghost use Rattle.std.specs.Prelude.{Some, true, codes};
 
-use crate::has_layout::{HasLayout, Owned};
+use crate::described::Described;
 
-impl HasLayout for String {
-    ghost type_name = { codes "String" };
+impl Described for String {
+    ghost name = { codes "String" };
 
-    type Layout = Owned<24>;
+    ghost align = { 8 };
 
-    fn type_name() -> &'static str {
+    ghost needs_drop = { true };
+
+    ghost size = { Some 24 };
+
+    fn name() -> &'static str {
         "String"
+    }
+
+    fn align() -> usize {
+        8
+    }
+
+    fn needs_drop() -> bool {
+        true
+    }
+
+    fn size() -> Option<usize> {
+        Some(24)
     }
 }

@@ -1,37 +1,84 @@
 //! Times and durations.
 
-ghost use Rattle.std.specs.Prelude.{codes};
+ghost use Rattle.std.specs.Prelude.{Some, false, codes};
 
-use crate::has_layout::HasLayout;
-use crate::layout::Record;
+use crate::described::Described;
 use std::time::{Duration, Instant, SystemTime};
 
-impl HasLayout for Duration {
-    ghost type_name = { codes "Duration" };
+impl Described for Duration {
+    ghost name = { codes "Duration" };
 
-    type Layout = Record<(u64, (u32, ()))>;
+    ghost align = { 8 };
 
-    fn type_name() -> &'static str {
+    ghost needs_drop = { false };
+
+    ghost size = { Some 16 };
+
+    fn name() -> &'static str {
         "Duration"
     }
-}
 
-impl HasLayout for Instant {
-    ghost type_name = { codes "Instant" };
+    fn align() -> usize {
+        8
+    }
 
-    type Layout = Duration;
+    fn needs_drop() -> bool {
+        false
+    }
 
-    fn type_name() -> &'static str {
-        "Instant"
+    fn size() -> Option<usize> {
+        Some(16)
     }
 }
 
-impl HasLayout for SystemTime {
-    ghost type_name = { codes "SystemTime" };
+impl Described for Instant {
+    ghost name = { codes "Instant" };
 
-    type Layout = Duration;
+    ghost align = { 8 };
 
-    fn type_name() -> &'static str {
+    ghost needs_drop = { false };
+
+    ghost size = { Some 16 };
+
+    fn name() -> &'static str {
+        "Instant"
+    }
+
+    fn align() -> usize {
+        8
+    }
+
+    fn needs_drop() -> bool {
+        false
+    }
+
+    fn size() -> Option<usize> {
+        Some(16)
+    }
+}
+
+impl Described for SystemTime {
+    ghost name = { codes "SystemTime" };
+
+    ghost align = { 8 };
+
+    ghost needs_drop = { false };
+
+    ghost size = { Some 16 };
+
+    fn name() -> &'static str {
         "SystemTime"
+    }
+
+    fn align() -> usize {
+        8
+    }
+
+    fn needs_drop() -> bool {
+        false
+    }
+
+    fn size() -> Option<usize> {
+        Some(16)
     }
 }

@@ -1,9 +1,9 @@
 //! Values shared between threads.
-ghost use Rattle.std.specs.Prelude.{◌≡◌, IfOk, IfErr, codes};
+ghost use Rattle.std.specs.Prelude.{◌≡◌, IfOk, IfErr, Some, true, codes};
 
 use super::Identity;
 use crate::refusal::Refusal;
-use allocative_described::{HasLayout, Owned};
+use allocative_described::Described;
 use std::alloc::{AllocError, Global};
 use std::marker::Model;
 use std::sync::Arc;
@@ -62,12 +62,28 @@ impl<T: Drop> Clone for IdArc<T> {
     }
 }
 
-impl<T: Drop> HasLayout for IdArc<T> {
-    ghost type_name = { codes "Arc" };
+impl<T: Drop> Described for IdArc<T> {
+    ghost name = { codes "Arc" };
 
-    type Layout = Owned<8>;
+    ghost align = { 8 };
 
-    fn type_name() -> &'static str {
+    ghost needs_drop = { true };
+
+    ghost size = { Some 8 };
+
+    fn name() -> &'static str {
         "Arc"
+    }
+
+    fn align() -> usize {
+        8
+    }
+
+    fn needs_drop() -> bool {
+        true
+    }
+
+    fn size() -> Option<usize> {
+        Some(8)
     }
 }

@@ -1,9 +1,9 @@
 //! Values shared within one thread.
-ghost use Rattle.std.specs.Prelude.{◌≡◌, IfOk, IfErr, codes};
+ghost use Rattle.std.specs.Prelude.{◌≡◌, IfOk, IfErr, Some, true, codes};
 
 use super::Identity;
 use crate::refusal::Refusal;
-use allocative_described::{HasLayout, Owned};
+use allocative_described::Described;
 use std::alloc::{AllocError, Global};
 use std::marker::Model;
 use std::rc::Rc;
@@ -62,12 +62,28 @@ impl<T: Drop> Clone for IdRc<T> {
     }
 }
 
-impl<T: Drop> HasLayout for IdRc<T> {
-    ghost type_name = { codes "Rc" };
+impl<T: Drop> Described for IdRc<T> {
+    ghost name = { codes "Rc" };
 
-    type Layout = Owned<8>;
+    ghost align = { 8 };
 
-    fn type_name() -> &'static str {
+    ghost needs_drop = { true };
+
+    ghost size = { Some 8 };
+
+    fn name() -> &'static str {
         "Rc"
+    }
+
+    fn align() -> usize {
+        8
+    }
+
+    fn needs_drop() -> bool {
+        true
+    }
+
+    fn size() -> Option<usize> {
+        Some(8)
     }
 }
