@@ -12,8 +12,8 @@ ghost use Rattle.allocative.specs.Visited.{BeginsAt};
 ghost use Rattle.std.specs.Borrow.{sem};
 
 use crate::allocative_trait::Allocative;
-use crate::visitor::collector::Collector;
 use crate::visitor::Visitor;
+use crate::visitor::collector::Collector;
 use allocative_collectors::output::FlameGraphOutput;
 use allocative_graph::refusal::Refusal;
 use std::alloc::Global;

@@ -5,8 +5,8 @@ ghost use Rattle.allocative_graph.specs.Visits.{Runs};
 ghost use Rattle.allocative.specs.Exact.{RunsRightly};
 
 use crate::allocative_trait::Allocative;
-use crate::visitor::collector::Collector;
 use crate::part::Part;
+use crate::visitor::collector::Collector;
 use allocative_graph::refusal::Refusal;
 
 impl Collector {

@@ -8,8 +8,8 @@ ghost use Rattle.allocative.specs.Closures.{KeepsVisitor, CalledAt, CalledAtRoot
 ghost use Rattle.allocative.specs.SizeOf.{IsSizeOfUnique, MayRefuseHeld, MayRefuseSize};
 
 use crate::allocative_trait::Allocative;
-use crate::visitor::collector::Collector;
 use crate::visitor::Visitor;
+use crate::visitor::collector::Collector;
 use allocative_described::Described;
 use allocative_graph::refusal::Refusal;
 

@@ -33,8 +33,8 @@ ghost use Rattle.allocative.specs.Nested.{LendsCollector};
 ghost use Rattle.allocative.specs.Shared.{AnswersShared, told};
 ghost use Rattle.allocative.specs.Visited.{collector_of as state_of};
 
-use crate::visitor::collector::Collector;
 use crate::visitor::Visitor;
+use crate::visitor::collector::Collector;
 use allocative_graph::key::Key;
 use allocative_graph::refusal::Refusal;
 use allocative_graph::shared::Identity;

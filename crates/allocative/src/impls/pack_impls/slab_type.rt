@@ -8,8 +8,8 @@ ghost use Rattle.allocative.specs.PackShows.{slab_inside};
 
 use crate::allocative_trait::Allocative;
 use crate::part::containers::Buffer;
-use crate::part::{Inside, Part};
 use crate::part::slices::are_shown_each;
+use crate::part::{Inside, Part};
 use crate::visitor::Visitor;
 use allocative_described::Described;
 use allocative_graph::key::Key;
