@@ -3,7 +3,7 @@
 ghost use Rattle.std.specs.Prelude.{Some, false, codes};
 
 use allocative_described::{
-    And, Described, HasLayout, Or, Record, raw_table_alloc_size_for_len, shared_inner_size,
+    And, Bytes, Described, HasLayout, Or, Record, raw_table_alloc_size_for_len, shared_inner_size,
 };
 use either::Either;
 use indexmap::{IndexMap, IndexSet};
@@ -45,7 +45,7 @@ struct CacheLine;
 impl HasLayout for CacheLine {
     ghost type_name = { codes "CacheLine" };
 
-    type Layout = u512;
+    type Layout = Bytes<64>;
 
     fn type_name() -> &'static str {
         "CacheLine"
