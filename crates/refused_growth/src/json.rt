@@ -6,12 +6,13 @@ use std::alloc::{AllocGlobal, Global};
 use std::collections::BTreeSet;
 use std::process::Abort;
 
-const FAR_NUMBERS: &[u8] = b"[18446744073709551615,-9223372036854775808,18446744073709551615]";
+pub(crate) const FAR_NUMBERS: &str =
+    "[18446744073709551615,-9223372036854775808,18446744073709551615]";
 
-const THREE_NUMBERS: &str =
+pub(crate) const THREE_NUMBERS: &str =
     "BTreeSet 16\nBTreeSet;data;key;i128 32\nValue 8\nValue;Array;Vec 16\nValue;Array;Vec;ptr 8\nValue;Array;Vec;ptr;Value 48\nValue;Array;Vec;ptr;Value;Number;Number 48\n";
 
-const SHORT_DATA: &str =
+pub(crate) const SHORT_DATA: &str =
     "Incorrect size declaration for node `BTreeSet;data`, size of self: 8, size of inline children: 32\n";
 
 fn assert_texts(rt: &impl Abort, report: &Report, profile: &str, warnings: &str) {
@@ -21,7 +22,10 @@ fn assert_texts(rt: &impl Abort, report: &Report, profile: &str, warnings: &str)
 
 #[test]
 fn a_profile_of_json_is_refused(rt: HostRuntime) {
-    let report = made(&rt, || profile_json(rt.alloc(), FAR_NUMBERS, true, true));
+    let report = made(
+        &rt,
+        || profile_json(rt.alloc(), FAR_NUMBERS.as_bytes(), true, true),
+    );
     assert_texts(&rt, &report, THREE_NUMBERS, SHORT_DATA);
 }
 
@@ -69,7 +73,7 @@ fn a_report_of_a_boxed_document_is_refused(rt: HostRuntime) {
 
 #[test]
 fn a_report_of_boxed_numbers_is_refused(rt: HostRuntime) {
-    let output = made(&rt, || boxed(rt.alloc(), FAR_NUMBERS, true));
+    let output = made(&rt, || boxed(rt.alloc(), FAR_NUMBERS.as_bytes(), true));
     assert_texts(&rt, &reported(&rt, &output), THREE_NUMBERS, SHORT_DATA);
 }
 

@@ -1,34 +1,18 @@
 //! A type of the greatest size. An `Option` of it has no size.
 #![tactic(auto)]
 
-ghost use Rattle.std.specs.Prelude.{codes, Some, false, ◌^◌, ◌-◌};
+ghost use Rattle.std.specs.Prelude.{codes};
 
-use allocative::Described;
+use allocative_described::HasLayout;
 
 pub(crate) struct Huge;
 
-impl Described for Huge {
-    ghost name = { codes "Huge" };
+impl HasLayout for Huge {
+    ghost type_name = { codes "Huge" };
 
-    ghost align = { 1 };
+    type Layout = [u8; 18446744073709551615];
 
-    ghost needs_drop = { false };
-
-    ghost size = { Some (2 ^ 64 - 1) };
-
-    fn name() -> &'static str {
+    fn type_name() -> &'static str {
         "Huge"
-    }
-
-    fn align() -> usize {
-        1
-    }
-
-    fn needs_drop() -> bool {
-        false
-    }
-
-    fn size() -> Option<usize> {
-        Some(usize::MAX)
     }
 }
