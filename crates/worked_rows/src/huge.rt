@@ -1,18 +1,34 @@
 //! A type of the greatest size. An `Option` of it has no size.
 #![tactic(auto)]
 
-ghost use Rattle.std.specs.Prelude.{codes};
+ghost use Rattle.std.specs.Prelude.{codes, Some, false, ◌^◌, ◌-◌};
 
-use allocative_described::HasLayout;
+use allocative::Described;
 
 pub(crate) struct Huge;
 
-impl HasLayout for Huge {
-    ghost type_name = { codes "Huge" };
+impl Described for Huge {
+    ghost name = { codes "Huge" };
 
-    type Layout = [u8; 18446744073709551615];
+    ghost align = { 1 };
 
-    fn type_name() -> &'static str {
+    ghost needs_drop = { false };
+
+    ghost size = { Some (2 ^ 64 - 1) };
+
+    fn name() -> &'static str {
         "Huge"
+    }
+
+    fn align() -> usize {
+        1
+    }
+
+    fn needs_drop() -> bool {
+        false
+    }
+
+    fn size() -> Option<usize> {
+        Some(usize::MAX)
     }
 }

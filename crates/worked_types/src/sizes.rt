@@ -26,16 +26,32 @@ use std::sync::atomic::{
 };
 use std::time::{Duration, Instant, SystemTime};
 
-// A type of the greatest size.
+// A type of the greatest size. As the layout of an array it is not proved.
 struct Huge;
 
-impl HasLayout for Huge {
-    ghost type_name = { codes "Huge" };
+impl Described for Huge {
+    ghost name = { codes "Huge" };
 
-    type Layout = [u8; 18446744073709551615];
+    ghost align = { 1 };
 
-    fn type_name() -> &'static str {
+    ghost needs_drop = { false };
+
+    ghost size = { Some 18446744073709551615 };
+
+    fn name() -> &'static str {
         "Huge"
+    }
+
+    fn align() -> usize {
+        1
+    }
+
+    fn needs_drop() -> bool {
+        false
+    }
+
+    fn size() -> Option<usize> {
+        Some(usize::MAX)
     }
 }
 
