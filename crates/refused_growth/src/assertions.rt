@@ -1,6 +1,7 @@
 //! What tests assert of refusals, graphs and outputs, and values that are made by a second try where the first was
 //! refused.
 use allocative::{FlameGraph, FlameGraphOutput, Refusal};
+use allocative_json::Fault;
 use std::alloc::AllocGlobal;
 use std::process::Abort;
 
@@ -26,15 +27,22 @@ pub(crate) fn boxed<T: Drop>(rt: &(impl Abort + AllocGlobal), value: T) -> Box<T
     }
 }
 
-/// The text of a graph. Where a call is refused, the next one writes it.
-pub(crate) fn written(rt: &impl Abort, graph: &FlameGraph) -> String {
-    match graph.write() {
-        Ok(text) => text,
-        Err(refusal) => {
-            assert_refused(rt, refusal);
-            graph.write().expect(rt, "a text")
+/// What a call makes. Where it is refused for want of memory, the same call makes it anew.
+pub(crate) fn made<T, F: Fn() -> Result<T, Fault>>(rt: &impl Abort, make: F) -> T
+    requires { F.IsAlwaysCallable make }
+{
+    match make() {
+        Ok(made) => made,
+        Err(fault) => {
+            assert!(rt; fault == Fault::Memory);
+            make().expect(rt, "what is made anew")
         }
     }
+}
+
+/// The text of a graph.
+pub(crate) fn written(rt: &impl Abort, graph: &FlameGraph) -> String {
+    made(rt, || Ok(graph.write()?))
 }
 
 /// Asserts the text of a graph, also after a refused call.
@@ -42,27 +50,17 @@ pub(crate) fn assert_text(rt: &impl Abort, graph: &FlameGraph, want: &str) {
     assert_same(rt, written(rt, graph).as_str(), want);
 }
 
-/// The warnings of an output. Where a call is refused, the next one copies them.
-fn warned(rt: &impl Abort, output: &FlameGraphOutput) -> String {
-    match output.warnings() {
-        Ok(warnings) => warnings,
-        Err(refusal) => {
-            assert_refused(rt, refusal);
-            output.warnings().expect(rt, "the warnings")
-        }
-    }
-}
-
 /// Asserts the text and the warnings of an output, or that it was refused.
 pub(crate) fn assert_output(
     rt: &impl Abort,
-    made: Result<FlameGraphOutput, Refusal>,
+    answer: Result<FlameGraphOutput, Refusal>,
     text: &str,
     warnings: &str,
 ) {
-    match made {
+    match answer {
         Ok(output) => {
-            assert_same(rt, warned(rt, &output).as_str(), warnings);
+            let copy = made(rt, || Ok(output.warnings()?));
+            assert_same(rt, copy.as_str(), warnings);
             assert_text(rt, output.flamegraph(), text);
         }
         Err(refusal) => assert_refused(rt, refusal),

@@ -1,18 +1,11 @@
 //! A builder that ran out of memory has failed with that cause for good.
-use crate::assertions::{assert_output, assert_refused, assert_same};
+use crate::assertions::{assert_output, assert_refused, assert_same, made};
 use allocative::{FlameGraphBuilder, Identity, Key, Refusal, Visitor};
 use std::alloc::AllocGlobal;
 use std::process::Abort;
 
-/// A builder. Where a call is refused, the next one makes it.
 pub(crate) fn new_builder(rt: &(impl Abort + AllocGlobal)) -> FlameGraphBuilder {
-    match FlameGraphBuilder::new(rt.alloc()) {
-        Ok(builder) => builder,
-        Err(refusal) => {
-            assert_refused(rt, refusal);
-            FlameGraphBuilder::new(rt.alloc()).expect(rt, "a builder")
-        }
-    }
+    made(rt, || Ok(FlameGraphBuilder::new(rt.alloc())?))
 }
 
 /// Asserts that a call was refused, and for want of memory.

@@ -1,6 +1,7 @@
 //! Graphs after a refused growth: unchanged, or a part of the sum.
-use crate::assertions::{assert_count, assert_refused, assert_text, written};
+use crate::assertions::{assert_count, assert_refused, assert_text, made, written};
 use allocative::{Child, FlameGraph, Key, Refusal};
+use allocative_json::Fault;
 use std::alloc::{AllocGlobal, Global};
 use std::process::Abort;
 
@@ -24,7 +25,8 @@ fn child(alloc: Global, key: &'static str, size: usize) -> Result<Child, Refusal
     })
 }
 
-fn try_children(alloc: Global, sizes: &[Size]) -> Result<Vec<Child>, Refusal> {
+/// Children in this order.
+fn children(alloc: Global, sizes: &[Size]) -> Result<Vec<Child>, Fault> {
     let mut children = Vec::new(alloc);
     for size in sizes {
         children.push(child(alloc, size.0, size.1)?)?;
@@ -32,32 +34,15 @@ fn try_children(alloc: Global, sizes: &[Size]) -> Result<Vec<Child>, Refusal> {
     Ok(children)
 }
 
-/// Children in this order. Where a growth is refused, they are made anew.
-fn children(rt: &(impl Abort + AllocGlobal), sizes: &[Size]) -> Vec<Child> {
-    match try_children(rt.alloc(), sizes) {
-        Ok(made) => made,
-        Err(refusal) => {
-            assert_refused(rt, refusal);
-            try_children(rt.alloc(), sizes).expect(rt, "children")
-        }
-    }
-}
-
-fn try_graph(alloc: Global, sizes: &[Size]) -> Result<FlameGraph, Refusal> {
+fn try_graph(alloc: Global, sizes: &[Size]) -> Result<FlameGraph, Fault> {
     let mut graph = FlameGraph::default(alloc);
-    graph.add_children(try_children(alloc, sizes)?)?;
+    graph.add_children(children(alloc, sizes)?)?;
     Ok(graph)
 }
 
-/// A graph with these children. Where a growth is refused, it is made anew.
+/// A graph with these children.
 fn graph(rt: &(impl Abort + AllocGlobal), sizes: &[Size]) -> FlameGraph {
-    match try_graph(rt.alloc(), sizes) {
-        Ok(made) => made,
-        Err(refusal) => {
-            assert_refused(rt, refusal);
-            try_graph(rt.alloc(), sizes).expect(rt, "a graph")
-        }
-    }
+    made(rt, || try_graph(rt.alloc(), sizes))
 }
 
 /// Whether a graph with this text and this total is one of these.
@@ -146,7 +131,7 @@ const PARTS_OF_MANY: [Written; 8] = [
 #[test]
 fn adding_many_children_is_refused(rt: HostRuntime) {
     let mut sum = graph(&rt, &TWO_CHILDREN);
-    let added = sum.add_children(children(&rt, &FOUR_CHILDREN));
+    let added = sum.add_children(made(&rt, || children(rt.alloc(), &FOUR_CHILDREN)));
     assert_sum(&rt, &sum, added, &SUM_OF_MANY, &PARTS_OF_MANY);
 }
 

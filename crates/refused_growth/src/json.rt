@@ -1,65 +1,44 @@
 //! The calls of the JSON program after a refused growth: Memory is their only fault, and a lent output is unchanged.
-use crate::assertions::assert_same;
+use crate::assertions::{assert_same, made};
 use allocative::{FlameGraphBuilder, FlameGraphOutput, Key, Registry, Visitor, profile_roots};
 use allocative_json::{Fault, Report, profile_json, read_roots, report};
 use std::alloc::{AllocGlobal, Global};
 use std::collections::BTreeSet;
 use std::process::Abort;
 
-const FAR_NUMBERS: &[u8] = b"[18446744073709551615,-9223372036854775808,18446744073709551615]";
+pub(crate) const FAR_NUMBERS: &str =
+    "[18446744073709551615,-9223372036854775808,18446744073709551615]";
 
-const THREE_NUMBERS: &str =
+pub(crate) const THREE_NUMBERS: &str =
     "BTreeSet 16\nBTreeSet;data;key;i128 32\nValue 8\nValue;Array;Vec 16\nValue;Array;Vec;ptr 8\nValue;Array;Vec;ptr;Value 48\nValue;Array;Vec;ptr;Value;Number;Number 48\n";
 
-const SHORT_DATA: &str =
+pub(crate) const SHORT_DATA: &str =
     "Incorrect size declaration for node `BTreeSet;data`, size of self: 8, size of inline children: 32\n";
 
-/// Asserts that a call was refused for want of memory.
-fn assert_fault(rt: &impl Abort, fault: Fault) {
-    assert!(rt; fault == Fault::Memory);
-}
-
-fn assert_texts(rt: &impl Abort, made: &Report, profile: &str, warnings: &str) {
-    assert_same(rt, made.profile.as_str(), profile);
-    assert_same(rt, made.warnings.as_str(), warnings);
-}
-
-/// The report of three numbers and of the set of them. Where a growth is refused, it is made anew.
-fn profiled(rt: &(impl Abort + AllocGlobal)) -> Report {
-    match profile_json(rt.alloc(), FAR_NUMBERS, true, true) {
-        Ok(made) => made,
-        Err(fault) => {
-            assert_fault(rt, fault);
-            profile_json(rt.alloc(), FAR_NUMBERS, true, true).expect(rt, "a report")
-        }
-    }
+fn assert_texts(rt: &impl Abort, report: &Report, profile: &str, warnings: &str) {
+    assert_same(rt, report.profile.as_str(), profile);
+    assert_same(rt, report.warnings.as_str(), warnings);
 }
 
 #[test]
 fn a_profile_of_json_is_refused(rt: HostRuntime) {
-    assert_texts(&rt, &profiled(&rt), THREE_NUMBERS, SHORT_DATA);
+    let report = made(
+        &rt,
+        || profile_json(rt.alloc(), FAR_NUMBERS.as_bytes(), true, true),
+    );
+    assert_texts(&rt, &report, THREE_NUMBERS, SHORT_DATA);
 }
 
-fn try_numbers(alloc: Global) -> Result<BTreeSet<i128>, Fault> {
+/// The whole numbers of a document.
+fn numbers(alloc: Global) -> Result<BTreeSet<i128>, Fault> {
     let input = b"[1,[2,{\"a\":3,\"b\":[2,-4]}],{\"c\":1}]";
     let (_document, numbers) = read_roots(alloc, input, true)?;
     numbers.ok_or(Fault::NotWhole)
 }
 
-/// The whole numbers of a document. Where a growth is refused, it is read anew.
-fn numbers(rt: &(impl Abort + AllocGlobal)) -> BTreeSet<i128> {
-    match try_numbers(rt.alloc()) {
-        Ok(read) => read,
-        Err(fault) => {
-            assert_fault(rt, fault);
-            try_numbers(rt.alloc()).expect(rt, "numbers")
-        }
-    }
-}
-
 #[test]
 fn reading_roots_is_refused(rt: HostRuntime) {
-    let numbers = numbers(&rt);
+    let numbers = made(&rt, || numbers(rt.alloc()));
     assert!(rt; numbers.len() == 4);
     for number in [-4i128, 1, 2, 3] {
         assert!(rt; numbers.contains(&number));
@@ -67,7 +46,7 @@ fn reading_roots_is_refused(rt: HostRuntime) {
 }
 
 /// The profile of an input by roots that are boxed here.
-fn try_boxed(alloc: Global, input: &[u8], index: bool) -> Result<FlameGraphOutput, Fault> {
+fn boxed(alloc: Global, input: &[u8], index: bool) -> Result<FlameGraphOutput, Fault> {
     let (document, numbers) = read_roots(alloc, input, index)?;
     let mut registry = Registry::new(alloc);
     if registry.register_root(Box::new(alloc, document)?).is_err() {
@@ -81,37 +60,20 @@ fn try_boxed(alloc: Global, input: &[u8], index: bool) -> Result<FlameGraphOutpu
     Ok(profile_roots(&registry)?)
 }
 
-/// The same. Where a growth is refused, it is made anew.
-fn profile_boxed(rt: &(impl Abort + AllocGlobal), input: &[u8], index: bool) -> FlameGraphOutput {
-    match try_boxed(rt.alloc(), input, index) {
-        Ok(output) => output,
-        Err(fault) => {
-            assert_fault(rt, fault);
-            try_boxed(rt.alloc(), input, index).expect(rt, "an output")
-        }
-    }
-}
-
-/// The report of an output without unused capacities. Where a growth is refused, the same output gives it anew.
+/// The report of an output without unused capacities.
 fn reported(rt: &(impl Abort + AllocGlobal), output: &FlameGraphOutput) -> Report {
-    match report(rt.alloc(), output, true) {
-        Ok(made) => made,
-        Err(fault) => {
-            assert_fault(rt, fault);
-            report(rt.alloc(), output, true).expect(rt, "a report")
-        }
-    }
+    made(rt, || report(rt.alloc(), output, true))
 }
 
 #[test]
 fn a_report_of_a_boxed_document_is_refused(rt: HostRuntime) {
-    let output = profile_boxed(&rt, b"true", false);
+    let output = made(&rt, || boxed(rt.alloc(), b"true", false));
     assert_texts(&rt, &reported(&rt, &output), "Value 32\n", "");
 }
 
 #[test]
 fn a_report_of_boxed_numbers_is_refused(rt: HostRuntime) {
-    let output = profile_boxed(&rt, FAR_NUMBERS, true);
+    let output = made(&rt, || boxed(rt.alloc(), FAR_NUMBERS.as_bytes(), true));
     assert_texts(&rt, &reported(&rt, &output), THREE_NUMBERS, SHORT_DATA);
 }
 
@@ -124,7 +86,8 @@ fn enter_odd_keys(root: &mut Visitor<'_>) -> Result<(), Fault> {
     Ok(())
 }
 
-fn try_odd_keys(alloc: Global) -> Result<FlameGraphOutput, Fault> {
+/// The profile of these keys.
+fn odd_keys(alloc: Global) -> Result<FlameGraphOutput, Fault> {
     let mut builder = FlameGraphBuilder::new(alloc)?;
     let mut root = builder.root_visitor()?;
     let entered = enter_odd_keys(&mut root);
@@ -133,21 +96,11 @@ fn try_odd_keys(alloc: Global) -> Result<FlameGraphOutput, Fault> {
     Ok(builder.finish()?)
 }
 
-/// The profile of these keys. Where a growth is refused, it is made anew.
-fn odd_keys(rt: &(impl Abort + AllocGlobal)) -> FlameGraphOutput {
-    match try_odd_keys(rt.alloc()) {
-        Ok(output) => output,
-        Err(fault) => {
-            assert_fault(rt, fault);
-            try_odd_keys(rt.alloc()).expect(rt, "an output")
-        }
-    }
-}
-
 #[test]
 fn a_report_without_some_lines_is_refused(rt: HostRuntime) {
     let text = "b\nc unused_capacity 3\nunused_capacity\nd 4\n";
-    assert_texts(&rt, &reported(&rt, &odd_keys(&rt)), text, "");
+    let output = made(&rt, || odd_keys(rt.alloc()));
+    assert_texts(&rt, &reported(&rt, &output), text, "");
 }
 
 /// The printed text of a fault. Where a growth is refused, it is printed anew.

@@ -1,6 +1,7 @@
 //! The worked rows of the JSON program, by `run_json` over bytes and two buffers. Where a growth is refused, the status is
 //! that of memory or of a write, or a message is cut off, and the run that is made anew is right.
 use crate::assertions::assert_same;
+use crate::json::{FAR_NUMBERS, SHORT_DATA, THREE_NUMBERS};
 use allocative_json::run_json;
 use std::alloc::{AllocError, AllocGlobal, Global};
 use std::process::Abort;
@@ -110,48 +111,29 @@ fn faulty(words: &'static str, input: &'static str, status: u8, errors: &'static
     }
 }
 
-const SHORT_DATA: &str =
-    "Incorrect size declaration for node `BTreeSet;data`, size of self: 8, size of inline children: 32\n";
-
 #[test]
 fn rows_that_end_well(rt: HostRuntime) {
-    let far = "[18446744073709551615,-9223372036854775808,18446744073709551615]";
-    let three =
-        "BTreeSet 16\nBTreeSet;data;key;i128 32\nValue 8\nValue;Array;Vec 16\nValue;Array;Vec;ptr 8\nValue;Array;Vec;ptr;Value 48\nValue;Array;Vec;ptr;Value;Number;Number 48\n";
+    let two =
+        "BTreeSet 16\nBTreeSet;data;key;i128 32\nValue 8\nValue;Array;Vec 16\nValue;Array;Vec;ptr 8\nValue;Array;Vec;ptr;Value 32\nValue;Array;Vec;ptr;Value;Number;Number 32\n";
+    let member =
+        "Value 8\nValue;Object;Map 16\nValue;Object;Map;data 8\nValue;Object;Map;data;key;String 16\nValue;Object;Map;data;key;String;ptr 8\nValue;Object;Map;data;key;String;ptr;capacity;u8 2\nValue;Object;Map;data;value;Value 16\nValue;Object;Map;data;value;Value;Number;Number 16\n";
+    let no_text = "Value 8\nValue;String;String 16\nValue;String;String;ptr 8\n";
+    let no_member = "Value 8\nValue;Object;Map 16\nValue;Object;Map;data 8\n";
+    let no_number = "BTreeSet 16\nBTreeSet;data 8\nValue 32\n";
     for row in [
+        well("exact index", "[7,8]", two, SHORT_DATA),
+        well("exact", "{\"ab\":1}", member, ""),
+        well("registry", "true", "Value 32\n", ""),
+        well("exact", "\"\"", no_text, ""),
+        well("exact", "{}", no_member, ""),
+        well("index", "true", no_number, ""),
+        well("exact index", FAR_NUMBERS, THREE_NUMBERS, SHORT_DATA),
         well(
-            "exact index",
-            "[7,8]",
-            "BTreeSet 16\nBTreeSet;data;key;i128 32\nValue 8\nValue;Array;Vec 16\nValue;Array;Vec;ptr 8\nValue;Array;Vec;ptr;Value 32\nValue;Array;Vec;ptr;Value;Number;Number 32\n",
+            "exact index registry",
+            FAR_NUMBERS,
+            THREE_NUMBERS,
             SHORT_DATA,
         ),
-        well(
-            "exact",
-            "{\"ab\":1}",
-            "Value 8\nValue;Object;Map 16\nValue;Object;Map;data 8\nValue;Object;Map;data;key;String 16\nValue;Object;Map;data;key;String;ptr 8\nValue;Object;Map;data;key;String;ptr;capacity;u8 2\nValue;Object;Map;data;value;Value 16\nValue;Object;Map;data;value;Value;Number;Number 16\n",
-            "",
-        ),
-        well("registry", "true", "Value 32\n", ""),
-        well(
-            "exact",
-            "\"\"",
-            "Value 8\nValue;String;String 16\nValue;String;String;ptr 8\n",
-            "",
-        ),
-        well(
-            "exact",
-            "{}",
-            "Value 8\nValue;Object;Map 16\nValue;Object;Map;data 8\n",
-            "",
-        ),
-        well(
-            "index",
-            "true",
-            "BTreeSet 16\nBTreeSet;data 8\nValue 32\n",
-            "",
-        ),
-        well("exact index", far, three, SHORT_DATA),
-        well("exact index registry", far, three, SHORT_DATA),
     ] {
         assert_row(&rt, &row);
     }
@@ -159,37 +141,17 @@ fn rows_that_end_well(rt: HostRuntime) {
 
 #[test]
 fn rows_that_end_with_a_fault(rt: HostRuntime) {
+    let cut_off =
+        "allocative-json: input is not JSON\nallocative-json: EOF while parsing at line 1 column 2\n";
+    let empty = "allocative-json: input is not JSON\nallocative-json: the input is empty\n";
+    let not_whole = "allocative-json: a number is not a 64-bit whole number\n";
+    let no_word = "allocative-json: unknown or repeated word\n";
     for row in [
-        faulty(
-            "",
-            "[1",
-            2,
-            "allocative-json: input is not JSON\nallocative-json: EOF while parsing at line 1 column 2\n",
-        ),
-        faulty(
-            "",
-            "",
-            2,
-            "allocative-json: input is not JSON\nallocative-json: the input is empty\n",
-        ),
-        faulty(
-            "",
-            "1.5",
-            3,
-            "allocative-json: a number is not a 64-bit whole number\n",
-        ),
-        faulty(
-            "all",
-            "true",
-            5,
-            "allocative-json: unknown or repeated word\n",
-        ),
-        faulty(
-            "exact exact",
-            "true",
-            5,
-            "allocative-json: unknown or repeated word\n",
-        ),
+        faulty("", "[1", 2, cut_off),
+        faulty("", "", 2, empty),
+        faulty("", "1.5", 3, not_whole),
+        faulty("all", "true", 5, no_word),
+        faulty("exact exact", "true", 5, no_word),
     ] {
         assert_row(&rt, &row);
     }

@@ -54,17 +54,15 @@ fn assert_no_root(rt: &impl Abort, registry: &Registry, refusal: Refusal) {
     assert_count(rt, registry.roots().len(), 0);
 }
 
-fn assert_global_roots(rt: &(impl Abort + AllocGlobal), registry: &Registry, text: &str) {
-    let mut builder = new_builder(rt);
-    let visited = builder.visit_global_roots(registry);
-    assert_visited(rt, builder, visited, text);
-}
-
 #[test]
 fn global_roots_are_refused(rt: HostRuntime) {
     let mut registry = Registry::new(rt.alloc());
     match registry.add_root(boxed(&rt, TestGlobalRoot { x: 1 })) {
-        Ok(()) => assert_global_roots(&rt, &registry, "TestGlobalRoot;x;u32 4\n"),
+        Ok(()) => {
+            let mut builder = new_builder(&rt);
+            let visited = builder.visit_global_roots(&registry);
+            assert_visited(&rt, builder, visited, "TestGlobalRoot;x;u32 4\n");
+        }
         Err(refusal) => assert_no_root(&rt, &registry, refusal),
     }
 }
@@ -101,22 +99,14 @@ fn two_collections_are_refused(rt: HostRuntime) {
     }
 }
 
-fn assert_rc(rt: &(impl Abort + AllocGlobal)) {
-    match IdRc::new(rt.alloc(), 5usize, Identity::from(7)) {
-        Ok(value) => assert_count(rt, *value.get(), 5),
-        Err(refusal) => assert_refused(rt, refusal),
-    }
-}
-
-fn assert_arc(rt: &(impl Abort + AllocGlobal)) {
-    match IdArc::new(rt.alloc(), 5usize, Identity::from(7)) {
-        Ok(value) => assert_count(rt, *value.get(), 5),
-        Err(refusal) => assert_refused(rt, refusal),
-    }
-}
-
 #[test]
 fn shared_values_are_refused(rt: HostRuntime) {
-    assert_rc(&rt);
-    assert_arc(&rt);
+    match IdRc::new(rt.alloc(), 5usize, Identity::from(7)) {
+        Ok(value) => assert_count(&rt, *value.get(), 5),
+        Err(refusal) => assert_refused(&rt, refusal),
+    }
+    match IdArc::new(rt.alloc(), 5usize, Identity::from(7)) {
+        Ok(value) => assert_count(&rt, *value.get(), 5),
+        Err(refusal) => assert_refused(&rt, refusal),
+    }
 }

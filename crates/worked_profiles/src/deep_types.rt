@@ -1,6 +1,6 @@
 //! The profiles of values with parts on the heap, with shared parts, and of types that hold themselves.
-use crate::profiles::{Profile, expect};
-use allocative::{IdRc, Identity, size_of_unique};
+use crate::profiles::{expect, expect_holding, expect_warned};
+use allocative::{IdRc, Identity, size_of_unique, size_of_unique_allocated_data};
 use own_types::chains::Chain;
 use own_types::folders::{Folder, Index};
 use own_types::links::Link;
@@ -16,19 +16,13 @@ use std::test::Fail;
 
 #[test]
 fn a_wrapped_array(rt: HostRuntime) -> Result<(), Fail> {
-    let want = Profile::new("Colour;u16;data;u16 6\n", 6);
-    expect(&rt, rt.alloc(), &Colour([1, 2, 3]), &want)
+    expect(&rt, &Colour([1, 2, 3]), "Colour;u16;data;u16 6\n", 6)
 }
 
 #[test]
 fn four_entries_inside_one_another(rt: HostRuntime) -> Result<(), Fail> {
     let text = "Block;ptr 8\nBlock;ptr;head 8\nBlock;ptr;head;counts;u64 8\n";
-    expect(
-        &rt,
-        rt.alloc(),
-        &Block { count: 1 },
-        &Profile::holding(text, 24, 16),
-    )
+    expect_holding(&rt, &Block { count: 1 }, text, 24, 16)
 }
 
 #[test]
@@ -41,15 +35,14 @@ fn a_foreign_part_is_passed_over(rt: HostRuntime) -> Result<(), Fail> {
     };
     let text =
         "Document 36\nDocument;pages;u32 4\nDocument;title;String 16\nDocument;title;String;ptr 8\n";
-    expect(&rt, alloc, &document, &Profile::new(text, 64))
+    expect(&rt, &document, text, 64)
 }
 
 #[test]
 fn a_part_is_shown_by_its_size(rt: HostRuntime) -> Result<(), Fail> {
     let weather = Weather { warmth: 1, rain: 2 };
     let day = Day { number: 3, weather };
-    let want = Profile::new("Day 2\nDay;number;u16 2\nDay;weather 8\n", 12);
-    expect(&rt, rt.alloc(), &day, &want)
+    expect(&rt, &day, "Day 2\nDay;number;u16 2\nDay;weather 8\n", 12)
 }
 
 #[test]
@@ -58,25 +51,19 @@ fn two_owners_of_one_table(rt: HostRuntime) -> Result<(), Fail> {
     let first = IdRc::new(alloc, Vec::new(alloc), Identity::from(1))?;
     let second = first.clone()?;
     let text = "Owners;first;Rc;ptr 8\nOwners;second;Rc;ptr 8\nRcInner 16\nRcInner;Vec 24\n";
-    expect(
-        &rt,
-        alloc,
-        &Owners { first, second },
-        &Profile::new(text, 56),
-    )
+    expect(&rt, &Owners { first, second }, text, 56)
 }
 
 #[test]
 fn two_pointers_to_one_page(rt: HostRuntime) -> Result<(), Fail> {
-    let alloc = rt.alloc();
-    let page = Rc::new(alloc, 1u16)?;
+    let page = Rc::new(rt.alloc(), 1u16)?;
     let left = PageLink {
         number: 7,
         page: page.clone()?,
     };
     let right = PageLink { number: 7, page };
     let text = "Page;u16 2\nSpread;PageLink 16\nSpread;PageLink;page 16\n";
-    expect(&rt, alloc, &Spread { left, right }, &Profile::new(text, 34))
+    expect(&rt, &Spread { left, right }, text, 34)
 }
 
 fn node(alloc: Global) -> Result<Node, Fail> {
@@ -92,10 +79,9 @@ fn node(alloc: Global) -> Result<Node, Fail> {
 
 #[test]
 fn a_tree_of_vectors(rt: HostRuntime) -> Result<(), Fail> {
-    let alloc = rt.alloc();
     let text =
         "Node 4\nNode;children;Vec 16\nNode;children;Vec;ptr 8\nNode;children;Vec;ptr;Node 4\nNode;children;Vec;ptr;Node;children;Vec 24\nNode;children;Vec;ptr;Node;label;u32 4\nNode;label;u32 4\n";
-    expect(&rt, alloc, &node(alloc)?, &Profile::holding(text, 64, 32))
+    expect_holding(&rt, &node(rt.alloc())?, text, 64, 32)
 }
 
 #[test]
@@ -112,28 +98,22 @@ fn a_tree_of_boxes(rt: HostRuntime) -> Result<(), Fail> {
     let right = Box::new(alloc, Tree::Leaf(2))?;
     let text =
         "Tree 8\nTree;left;Box;ptr 8\nTree;left;Box;ptr;Tree 16\nTree;left;Box;ptr;Tree;Leaf;u64 8\nTree;right;Box;ptr 8\nTree;right;Box;ptr;Tree 16\nTree;right;Box;ptr;Tree;Leaf;u64 8\n";
-    expect(
-        &rt,
-        alloc,
-        &Tree::Fork(left, right),
-        &Profile::holding(text, 72, 48),
-    )
+    expect_holding(&rt, &Tree::Fork(left, right), text, 72, 48)
 }
 
 #[test]
 fn a_linked_list(rt: HostRuntime) -> Result<(), Fail> {
-    let alloc = rt.alloc();
     let last = Link {
         value: 2,
         next: None,
     };
     let first = Link {
         value: 1,
-        next: Some(Box::new(alloc, last)?),
+        next: Some(Box::new(rt.alloc(), last)?),
     };
     let text =
         "Link 4\nLink;next;Option 8\nLink;next;Option;Some;Box;ptr 8\nLink;next;Option;Some;Box;ptr;Link 4\nLink;next;Option;Some;Box;ptr;Link;next;Option 16\nLink;next;Option;Some;Box;ptr;Link;value;u32 4\nLink;value;u32 4\n";
-    expect(&rt, alloc, &first, &Profile::holding(text, 48, 24))
+    expect_holding(&rt, &first, text, 48, 24)
 }
 
 #[test]
@@ -142,7 +122,7 @@ fn a_chain_without_entries_of_boxes(rt: HostRuntime) -> Result<(), Fail> {
     let end = Box::new(alloc, Chain::End)?;
     let chain = Chain::Text(String::new(alloc), end);
     let text = "Chain;ptr 8\nChain;ptr;Chain 32\nChain;text;String 16\nChain;text;String;ptr 8\n";
-    expect(&rt, alloc, &chain, &Profile::holding(text, 64, 32))
+    expect_holding(&rt, &chain, text, 64, 32)
 }
 
 #[test]
@@ -153,21 +133,21 @@ fn a_hashed_map_of_its_own_type(rt: HostRuntime) -> Result<(), Fail> {
     };
     let mut inner = HashMap::new(alloc);
     inner.insert(1, below)?;
-    let want = Profile {
-        text: "Folder;inner;HashMap 40\nFolder;inner;HashMap;data;key;u32 4\nFolder;inner;HashMap;data;value;Folder;inner;HashMap 40\nFolder;inner;HashMap;data;value;Folder;inner;HashMap;data 8\n",
-        total: 92,
-        warnings: "Incorrect size declaration for node `Folder;inner;HashMap;data`, size of self: 8, size of inline children: 52\n",
-        held: 0,
-    };
-    expect(&rt, alloc, &Folder { inner }, &want)
+    let folder = Folder { inner };
+    let text =
+        "Folder;inner;HashMap 40\nFolder;inner;HashMap;data;key;u32 4\nFolder;inner;HashMap;data;value;Folder;inner;HashMap 40\nFolder;inner;HashMap;data;value;Folder;inner;HashMap;data 8\n";
+    let warnings =
+        "Incorrect size declaration for node `Folder;inner;HashMap;data`, size of self: 8, size of inline children: 52\n";
+    expect_warned(&rt, &folder, text, 92, warnings)?;
+    assert_eq!(rt; size_of_unique_allocated_data(&folder)?, 0);
+    Ok(())
 }
 
 #[test]
 fn a_sorted_map_of_its_own_type(rt: HostRuntime) -> Result<(), Fail> {
-    let alloc = rt.alloc();
     let index = Index {
-        words: BTreeMap::new(alloc),
+        words: BTreeMap::new(rt.alloc()),
     };
     let text = "Index;words;BTreeMap 16\nIndex;words;BTreeMap;data 8\n";
-    expect(&rt, alloc, &index, &Profile::new(text, 24))
+    expect(&rt, &index, text, 24)
 }

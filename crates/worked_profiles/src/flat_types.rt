@@ -1,5 +1,5 @@
 //! The profiles of structs, enums and containers.
-use crate::profiles::{Profile, expect};
+use crate::profiles::{expect, expect_holding};
 use indexmap::IndexMap;
 use own_types::containers::{Catalog, Journal, Shelf};
 use own_types::enums::Request;
@@ -9,27 +9,25 @@ use std::test::Fail;
 
 #[test]
 fn one_field(rt: HostRuntime) -> Result<(), Fail> {
-    let want = Profile::new("Meter;reading;u64 8\n", 8);
-    expect(&rt, rt.alloc(), &Meter { reading: 5 }, &want)
+    expect(&rt, &Meter { reading: 5 }, "Meter;reading;u64 8\n", 8)
 }
 
 #[test]
 fn two_fields(rt: HostRuntime) -> Result<(), Fail> {
-    let want = Profile::new("Point;x;u32 4\nPoint;y;u32 4\n", 8);
-    expect(&rt, rt.alloc(), &Point { x: 1, y: 2 }, &want)
+    let text = "Point;x;u32 4\nPoint;y;u32 4\n";
+    expect(&rt, &Point { x: 1, y: 2 }, text, 8)
 }
 
 #[test]
 fn three_fields_one_of_them_generic(rt: HostRuntime) -> Result<(), Fail> {
-    let alloc = rt.alloc();
     let named = Named {
-        name: String::from_str(alloc, "ab")?,
+        name: String::from_str(rt.alloc(), "ab")?,
         value: Some(3u16),
         is_read: true,
     };
     let text =
         "Named 35\nNamed;is_read;bool 1\nNamed;name;String 16\nNamed;name;String;ptr 8\nNamed;name;String;ptr;capacity;u8 2\nNamed;value;Option 2\nNamed;value;Option;Some;u16 2\n";
-    expect(&rt, alloc, &named, &Profile::holding(text, 66, 2))
+    expect_holding(&rt, &named, text, 66, 2)
 }
 
 #[test]
@@ -44,81 +42,70 @@ fn five_fields(rt: HostRuntime) -> Result<(), Fail> {
     };
     let text =
         "Session 7\nSession;is_open;bool 1\nSession;limit;Option 8\nSession;limit;Option;Some;u64 8\nSession;place;tuple2;0;u32 4\nSession;place;tuple2;1;u32 4\nSession;scores;Vec 16\nSession;scores;Vec;ptr 8\nSession;scores;Vec;ptr;u32 8\nSession;user;String 16\nSession;user;String;ptr 8\n";
-    expect(&rt, alloc, &session, &Profile::holding(text, 88, 8))
+    expect_holding(&rt, &session, text, 88, 8)
 }
 
 #[test]
 fn a_variant_without_fields(rt: HostRuntime) -> Result<(), Fail> {
-    let want = Profile::new("Request 40\n", 40);
-    expect(&rt, rt.alloc(), &Request::Ping, &want)
+    expect(&rt, &Request::Ping, "Request 40\n", 40)
 }
 
 #[test]
 fn a_variant_of_one_field(rt: HostRuntime) -> Result<(), Fail> {
-    let want = Profile::new("Request 32\nRequest;Count;u64 8\n", 40);
-    expect(&rt, rt.alloc(), &Request::Count(5), &want)
+    let text = "Request 32\nRequest;Count;u64 8\n";
+    expect(&rt, &Request::Count(5), text, 40)
 }
 
 #[test]
 fn a_variant_of_two_fields(rt: HostRuntime) -> Result<(), Fail> {
-    let want = Profile::new("Request 32\nRequest;from;u32 4\nRequest;to;u32 4\n", 40);
-    expect(&rt, rt.alloc(), &Request::Move(1, 2), &want)
+    let text = "Request 32\nRequest;from;u32 4\nRequest;to;u32 4\n";
+    expect(&rt, &Request::Move(1, 2), text, 40)
 }
 
 #[test]
 fn a_variant_of_three_fields(rt: HostRuntime) -> Result<(), Fail> {
-    let alloc = rt.alloc();
     let text =
         "Request 8\nRequest;by;String 16\nRequest;by;String;ptr 8\nRequest;from;u32 4\nRequest;to;u32 4\n";
-    let swap = Request::Swap(1, String::new(alloc), 2);
-    expect(&rt, alloc, &swap, &Profile::new(text, 40))
+    let swap = Request::Swap(1, String::new(rt.alloc()), 2);
+    expect(&rt, &swap, text, 40)
 }
 
 #[test]
 fn a_variant_of_five_fields(rt: HostRuntime) -> Result<(), Fail> {
-    let alloc = rt.alloc();
-    let draw = Request::Draw(1, 2, 3, 4, String::new(alloc));
+    let draw = Request::Draw(1, 2, 3, 4, String::new(rt.alloc()));
     let text =
         "Request 8\nRequest;height;u16 2\nRequest;left;u16 2\nRequest;text;String 16\nRequest;text;String;ptr 8\nRequest;top;u16 2\nRequest;width;u16 2\n";
-    expect(&rt, alloc, &draw, &Profile::new(text, 40))
+    expect(&rt, &draw, text, 40)
 }
 
 #[test]
 fn a_struct_over_a_vector(rt: HostRuntime) -> Result<(), Fail> {
-    let alloc = rt.alloc();
     let shelf = Shelf {
-        items: vec![in alloc; 1u16, 2, 3]?,
+        items: vec![in rt.alloc(); 1u16, 2, 3]?,
         limit: 7,
     };
     let text =
         "Shelf 4\nShelf;items;Vec 16\nShelf;items;Vec;ptr 8\nShelf;items;Vec;ptr;u16 6\nShelf;limit;u32 4\n";
-    expect(&rt, alloc, &shelf, &Profile::holding(text, 38, 6))
+    expect_holding(&rt, &shelf, text, 38, 6)
 }
 
 #[test]
 fn a_struct_over_a_hashed_map(rt: HostRuntime) -> Result<(), Fail> {
-    let alloc = rt.alloc();
-    let mut values = HashMap::new(alloc);
+    let mut values = HashMap::new(rt.alloc());
     values.insert(1u8, 2u8)?;
     values.insert(3, 4)?;
     let text =
         "Catalog;asked;u64 8\nCatalog;values;HashMap 40\nCatalog;values;HashMap;data 4\nCatalog;values;HashMap;data;key;u8 2\nCatalog;values;HashMap;data;value;u8 2\n";
-    expect(
-        &rt,
-        alloc,
-        &Catalog { values, asked: 5 },
-        &Profile::new(text, 56),
-    )
+    expect(&rt, &Catalog { values, asked: 5 }, text, 56)
 }
 
 #[test]
 fn a_struct_over_a_map_in_order_of_insertion(rt: HostRuntime) -> Result<(), Fail> {
-    let alloc = rt.alloc();
     let journal: Journal<u8, u8> = Journal {
-        pages: IndexMap::new(alloc),
+        pages: IndexMap::new(rt.alloc()),
         is_closed: true,
     };
     let text =
         "Journal 7\nJournal;is_closed;bool 1\nJournal;pages;IndexMap 64\nJournal;pages;IndexMap;data 8\n";
-    expect(&rt, alloc, &journal, &Profile::new(text, 80))
+    expect(&rt, &journal, text, 80)
 }

@@ -26,17 +26,13 @@ fn a_service_is_one_root(rt: HostRuntime) -> Result<(), Fail> {
 
 fn registered(alloc: Global) -> Result<Sensors, Refusal> {
     let mut sensors = Sensors::new(alloc);
-    if sensors
-        .register(Named(Key::new("door"), Sensor { count: 1 }))
-        .is_err()
-    {
-        return Err(Refusal::Memory);
-    }
-    if sensors
-        .register(Named(Key::new("wall"), Sensor { count: 2 }))
-        .is_err()
-    {
-        return Err(Refusal::Memory);
+    for (name, count) in [("door", 1), ("wall", 2)] {
+        if sensors
+            .register(Named(Key::new(name), Sensor { count }))
+            .is_err()
+        {
+            return Err(Refusal::Memory);
+        }
     }
     Ok(sensors)
 }

@@ -1,5 +1,5 @@
 //! Profiles of values whose implementations `bin/implement` wrote.
-use crate::profiles::{Profile, expect};
+use crate::profiles::{expect, expect_holding};
 use implemented_types::nested::{Category, Chain, Chapter, Json, Note, Page, Tree};
 use implemented_types::placed::{Letter, Pair, Parcel, Post};
 use implemented_types::types::{
@@ -10,9 +10,8 @@ use std::test::Fail;
 
 #[test]
 fn one_field_and_none(rt: HostRuntime) -> Result<(), Fail> {
-    let want = Profile::new("OfOne;number;u64 8\n", 8);
-    expect(&rt, rt.alloc(), &OfOne { number: 5 }, &want)?;
-    expect(&rt, rt.alloc(), &Nowhere, &Profile::new("", 0))
+    expect(&rt, &OfOne { number: 5 }, "OfOne;number;u64 8\n", 8)?;
+    expect(&rt, &Nowhere, "", 0)
 }
 
 #[test]
@@ -30,68 +29,58 @@ fn eight_fields(rt: HostRuntime) -> Result<(), Fail> {
     };
     let text =
         "OfEight 1\nOfEight;count;u32 4\nOfEight;is_open;bool 1\nOfEight;limit;Option 16\nOfEight;marks;Vec 24\nOfEight;name;String 16\nOfEight;name;String;ptr 8\nOfEight;number;u64 8\nOfEight;place;tuple2;0;u32 4\nOfEight;place;tuple2;1;u32 4\nOfEight;width;u16 2\n";
-    expect(&rt, alloc, &value, &Profile::new(text, 88))
+    expect(&rt, &value, text, 88)
 }
 
 #[test]
 fn fields_by_number_passed_over_and_by_size(rt: HostRuntime) -> Result<(), Fail> {
-    let alloc = rt.alloc();
-    let mark = Mark::new(Point(1, 2), String::new(alloc));
+    let mark = Mark::new(Point(1, 2), String::new(rt.alloc()));
     let text =
         "Mark 15\nMark;later;bool 1\nMark;mean 8\nMark;name;String 16\nMark;name;String;ptr 8\nMark;point;Point;0;u32 4\nMark;point;Point;1;u32 4\n";
-    expect(&rt, alloc, &mark, &Profile::new(text, 56))
+    expect(&rt, &mark, text, 56)
 }
 
 #[test]
 fn six_fields_by_number(rt: HostRuntime) -> Result<(), Fail> {
     let text =
         "Sextet 1\nSextet;0;u8 1\nSextet;1;u8 1\nSextet;2;u8 1\nSextet;3;u8 1\nSextet;4;u8 1\nSextet;5;u16 2\n";
-    let want = Profile::new(text, 8);
-    expect(&rt, rt.alloc(), &Sextet(1, 2, 3, 4, 5, 6), &want)
+    expect(&rt, &Sextet(1, 2, 3, 4, 5, 6), text, 8)
 }
 
 #[test]
 fn variants_of_none_and_one(rt: HostRuntime) -> Result<(), Fail> {
-    let alloc = rt.alloc();
-    expect(
-        &rt,
-        alloc,
-        &Request::Ping,
-        &Profile::new("Request 40\n", 40),
-    )?;
-    let find = Request::Find(String::new(alloc));
+    expect(&rt, &Request::Ping, "Request 40\n", 40)?;
+    let find = Request::Find(String::new(rt.alloc()));
     let text = "Request 16\nRequest;Find;String 16\nRequest;Find;String;ptr 8\n";
-    expect(&rt, alloc, &find, &Profile::new(text, 40))?;
+    expect(&rt, &find, text, 40)?;
     let text = "Request 32\nRequest;0;u64 8\n";
-    expect(&rt, alloc, &Request::Wait(3, 0.5), &Profile::new(text, 40))
+    expect(&rt, &Request::Wait(3, 0.5), text, 40)
 }
 
 #[test]
 fn variants_of_named_fields(rt: HostRuntime) -> Result<(), Fail> {
-    let alloc = rt.alloc();
     let put = Request::Put {
-        name: String::new(alloc),
+        name: String::new(rt.alloc()),
         value: 3,
     };
     let text =
         "Request 8\nRequest;name;String 16\nRequest;name;String;ptr 8\nRequest;value;u64 8\n";
-    expect(&rt, alloc, &put, &Profile::new(text, 40))?;
+    expect(&rt, &put, text, 40)?;
     let mix = Request::Mix {
         first: 1,
         second: 2,
         is_deep: true,
     };
     let text = "Request 31\nRequest;first;u32 4\nRequest;is_deep;bool 1\nRequest;second;u32 4\n";
-    expect(&rt, alloc, &mix, &Profile::new(text, 40))
+    expect(&rt, &mix, text, 40)
 }
 
 #[test]
 fn a_variant_of_five_fields(rt: HostRuntime) -> Result<(), Fail> {
-    let alloc = rt.alloc();
-    let draw = Request::Draw(1, 2, 3, 4, String::new(alloc));
+    let draw = Request::Draw(1, 2, 3, 4, String::new(rt.alloc()));
     let text =
         "Request 8\nRequest;0;u16 2\nRequest;1;u16 2\nRequest;2;u16 2\nRequest;3;u16 2\nRequest;4;String 16\nRequest;4;String;ptr 8\n";
-    expect(&rt, alloc, &draw, &Profile::new(text, 40))
+    expect(&rt, &draw, text, 40)
 }
 
 #[test]
@@ -105,14 +94,14 @@ fn a_size_follows_from_the_parameters(rt: HostRuntime) -> Result<(), Fail> {
     };
     let text =
         "Table 2\nTable;last;u16 2\nTable;spare;Option 4\nTable;values;HashMap 40\nTable;values;HashMap;data 8\n";
-    expect(&rt, alloc, &table, &Profile::new(text, 56))?;
+    expect(&rt, &table, text, 56)?;
     let page: Page<u64> = Page {
         items: Vec::new(alloc),
         first: None,
         total: 1,
     };
     let text = "Page;first;Option 16\nPage;items;Vec 24\nPage;total;u64 8\n";
-    expect(&rt, alloc, &page, &Profile::new(text, 48))
+    expect(&rt, &page, text, 48)
 }
 
 #[test]
@@ -129,23 +118,22 @@ fn parameters_of_a_large_struct_and_of_an_enum(rt: HostRuntime) -> Result<(), Fa
     };
     let text =
         "Route 3\nRoute;between;Option 2\nRoute;first;u8 1\nRoute;is_round;bool 1\nRoute;last;u8 1\nRoute;length;u64 8\nRoute;name;String 16\nRoute;name;String;ptr 8\nRoute;steps;Vec 24\n";
-    expect(&rt, alloc, &route, &Profile::new(text, 64))?;
+    expect(&rt, &route, text, 64)?;
     let named = Named::Somebody(String::new(alloc), 5u16);
     let text = "Named 6\nNamed;0;String 16\nNamed;0;String;ptr 8\nNamed;1;u16 2\n";
-    expect(&rt, alloc, &named, &Profile::new(text, 32))
+    expect(&rt, &named, text, 32)
 }
 
 #[test]
 fn a_lifetime_and_a_number(rt: HostRuntime) -> Result<(), Fail> {
-    let alloc = rt.alloc();
     let found = Found {
         text: "ab",
         places: [1, 2],
-        counts: BTreeMap::new(alloc),
+        counts: BTreeMap::new(rt.alloc()),
     };
     let text =
         "Found 16\nFound;counts;BTreeMap 16\nFound;counts;BTreeMap;data 8\nFound;places;u32;data;u32 8\n";
-    expect(&rt, alloc, &found, &Profile::new(text, 48))
+    expect(&rt, &found, text, 48)
 }
 
 #[test]
@@ -155,14 +143,13 @@ fn implementations_in_place(rt: HostRuntime) -> Result<(), Fail> {
         first: 1u32,
         second: 2u32,
     };
-    let text = "Pair;first;u32 4\nPair;second;u32 4\n";
-    expect(&rt, alloc, &pair, &Profile::new(text, 8))?;
+    expect(&rt, &pair, "Pair;first;u32 4\nPair;second;u32 4\n", 8)?;
     let post = Post::Sent {
         number: 7,
         name: String::new(alloc),
     };
     let text = "Post 16\nPost;name;String 16\nPost;name;String;ptr 8\nPost;number;u64 8\n";
-    expect(&rt, alloc, &post, &Profile::new(text, 48))?;
+    expect(&rt, &post, text, 48)?;
     let parcel = Parcel {
         number: 1,
         from: Letter {
@@ -177,19 +164,19 @@ fn implementations_in_place(rt: HostRuntime) -> Result<(), Fail> {
     };
     let text =
         "Parcel 3\nParcel;count;u32 4\nParcel;from;Letter 8\nParcel;from;Letter;name;String 16\nParcel;from;Letter;name;String;ptr 8\nParcel;from;Letter;number;u64 8\nParcel;is_open;bool 1\nParcel;limit;Option 16\nParcel;marks;Vec 24\nParcel;number;u64 8\n";
-    expect(&rt, alloc, &parcel, &Profile::new(text, 96))
+    expect(&rt, &parcel, text, 96)
 }
 
 #[test]
 fn variants_of_an_enum_that_holds_itself(rt: HostRuntime) -> Result<(), Fail> {
     let alloc = rt.alloc();
-    expect(&rt, alloc, &Json::Null, &Profile::new("Json 80\n", 80))?;
+    expect(&rt, &Json::Null, "Json 80\n", 80)?;
     let list = Json::List(vec![in alloc; Json::Null]?);
     let text = "Json 56\nJson;List;Vec 16\nJson;List;Vec;ptr 8\nJson;List;Vec;ptr;Json 80\n";
-    expect(&rt, alloc, &list, &Profile::holding(text, 160, 80))?;
+    expect_holding(&rt, &list, text, 160, 80)?;
     let table = Json::Table(BTreeMap::new(alloc));
     let text = "Json 56\nJson;Table;BTreeMap 16\nJson;Table;BTreeMap;data 8\n";
-    expect(&rt, alloc, &table, &Profile::new(text, 80))
+    expect(&rt, &table, text, 80)
 }
 
 #[test]
@@ -198,19 +185,19 @@ fn values_in_boxes(rt: HostRuntime) -> Result<(), Fail> {
     let boxed = Json::Boxed(Box::new(alloc, Json::Bool(true))?);
     let text =
         "Json 72\nJson;Boxed;Box;ptr 8\nJson;Boxed;Box;ptr;Json 79\nJson;Boxed;Box;ptr;Json;Bool;bool 1\n";
-    expect(&rt, alloc, &boxed, &Profile::holding(text, 160, 80))?;
+    expect_holding(&rt, &boxed, text, 160, 80)?;
     let left = Box::new(alloc, Tree::Leaf(1))?;
     let right = Box::new(alloc, Tree::Leaf(2))?;
     let text =
         "Tree 8\nTree;0;Box;ptr 8\nTree;0;Box;ptr;Tree 16\nTree;0;Box;ptr;Tree;Leaf;u64 8\nTree;1;Box;ptr 8\nTree;1;Box;ptr;Tree 16\nTree;1;Box;ptr;Tree;Leaf;u64 8\n";
     let fork = Tree::Fork(left, right);
-    expect(&rt, alloc, &fork, &Profile::holding(text, 72, 48))?;
+    expect_holding(&rt, &fork, text, 72, 48)?;
     let maybe = Json::Maybe {
         first: None,
         number: 5,
     };
     let text = "Json 60\nJson;first;Option 16\nJson;number;u32 4\n";
-    expect(&rt, alloc, &maybe, &Profile::new(text, 80))
+    expect(&rt, &maybe, text, 80)
 }
 
 #[test]
@@ -224,13 +211,13 @@ fn structs_that_hold_themselves(rt: HostRuntime) -> Result<(), Fail> {
     };
     let text =
         "Category;by_name;HashMap 40\nCategory;by_name;HashMap;data 8\nCategory;children;Vec 24\nCategory;name;String 16\nCategory;name;String;ptr 8\nCategory;rank;Option 16\n";
-    expect(&rt, alloc, &category, &Profile::new(text, 112))?;
+    expect(&rt, &category, text, 112)?;
     let chain = Chain {
         text: String::new(alloc),
         next: None,
     };
     let text = "Chain;next;Option 16\nChain;text;String 16\nChain;text;String;ptr 8\n";
-    expect(&rt, alloc, &chain, &Profile::new(text, 40))
+    expect(&rt, &chain, text, 40)
 }
 
 #[test]
@@ -241,11 +228,11 @@ fn structs_that_hold_each_other(rt: HostRuntime) -> Result<(), Fail> {
         notes: Vec::new(alloc),
     };
     let text = "Chapter;notes;Vec 24\nChapter;title;String 16\nChapter;title;String;ptr 8\n";
-    expect(&rt, alloc, &chapter, &Profile::new(text, 48))?;
+    expect(&rt, &chapter, text, 48)?;
     let note = Note {
         chapters: Vec::new(alloc),
         is_long: true,
     };
     let text = "Note 7\nNote;chapters;Vec 24\nNote;is_long;bool 1\n";
-    expect(&rt, alloc, &note, &Profile::new(text, 32))
+    expect(&rt, &note, text, 32)
 }

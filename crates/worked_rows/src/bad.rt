@@ -4,13 +4,12 @@
 ghost use Rattle.std.specs.Prelude.{codes, ◌≡◌, ◌^◌, ◌-◌};
 ghost use Rattle.allocative.specs.Shows as shows;
 
-use crate::expected::is_answer;
+use crate::expected::{is_answer, is_refused};
 use crate::huge::Huge;
 use allocative::{
-    Allocative, Described, FlameGraphBuilder, Identity, Inside, Key, Part, Refusal, Shared, Unique,
-    Visitor, size_of_entries, size_of_unique_allocated_data,
+    Allocative, Described, Identity, Inside, Key, Part, Refusal, Shared, Unique, Visitor,
+    size_of_entries, size_of_unique_allocated_data,
 };
-use std::alloc::Global;
 use std::test::Fail;
 
 /// Meets `TooLarge` at an entry, hides it and returns `Ok`.
@@ -132,28 +131,6 @@ impl Allocative for ClosureHides {
     }
 }
 
-/// What `visit_root` and then `finish` return for a root.
-fn answers(alloc: Global, root: &dyn Allocative) -> Result<[Option<Refusal>; 2], Refusal> {
-    let mut builder = FlameGraphBuilder::new(alloc)?;
-    let visited = builder.visit_root(root).err();
-    let finished = builder.finish().err();
-    Ok([visited, finished])
-}
-
-/// Fails where `visit_root` and then `finish` return another error, or where the held bytes are other ones.
-fn fails(
-    alloc: Global,
-    root: &dyn Allocative,
-    cause: Refusal,
-    held: Result<usize, Refusal>,
-) -> Result<(), Fail> {
-    let found = answers(alloc, root)?;
-    if found == [Some(cause); 2] {
-        return is_answer(size_of_unique_allocated_data(root), held);
-    }
-    Err(Fail::new(format_args!("{found:?}")))
-}
-
 #[test]
 fn bad_implementations_fail_their_collector(rt: HostRuntime) -> Result<(), Fail> {
     let (large, memory, open) = (Refusal::TooLarge, Refusal::Memory, Refusal::Open);
@@ -170,26 +147,19 @@ fn bad_implementations_fail_their_collector(rt: HostRuntime) -> Result<(), Fail>
         (&Tells, open, Err(memory)),
     ];
     for (root, cause, held) in roots {
-        fails(rt.alloc(), root, cause, held)?;
+        is_refused(rt.alloc(), root, cause)?;
+        is_answer(size_of_unique_allocated_data(root), held)?;
     }
     Ok(())
 }
 
-/// What a closure returns that fails.
-fn held_by_a_closure_that_refuses() -> Result<usize, Refusal> {
-    size_of_entries(|_visitor| Err(Refusal::Open))
-}
-
-/// What a closure returns that hides `TooLarge` and returns another error.
-fn held_by_a_closure_that_hides() -> Result<usize, Refusal> {
-    size_of_entries(|visitor| {
-        let _hidden = visitor.visit_simple_sized::<Option<Huge>>();
-        Err(Refusal::Memory)
-    })
-}
-
 #[test]
 fn the_first_refusal_of_a_closure_is_answered() -> Result<(), Fail> {
-    is_answer(held_by_a_closure_that_refuses(), Err(Refusal::Open))?;
-    is_answer(held_by_a_closure_that_hides(), Err(Refusal::TooLarge))
+    let failed = size_of_entries(|_visitor| Err(Refusal::Open));
+    is_answer(failed, Err(Refusal::Open))?;
+    let hidden = size_of_entries(|visitor| {
+        let _hidden = visitor.visit_simple_sized::<Option<Huge>>();
+        Err(Refusal::Memory)
+    });
+    is_answer(hidden, Err(Refusal::TooLarge))
 }

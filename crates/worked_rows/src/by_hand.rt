@@ -6,15 +6,14 @@ ghost use Rattle.allocative.specs.Shows as shows;
 ghost use Rattle.allocative.specs.Visits.{Shows};
 ghost use Rattle.allocative.specs.Visited.{Visited};
 
+use crate::expected::{is_answer, is_refused};
 use allocative::by_hand::{collector_of, enter, enter_content, enter_unique};
 use allocative::collector::Collector;
 use allocative::{
-    Allocative, Declared, FlameGraphBuilder, Identity, Key, Part, Refusal, Visitor,
-    size_of_unique_allocated_data,
+    Allocative, Declared, Identity, Key, Part, Refusal, Visitor, size_of_unique_allocated_data,
 };
-use std::alloc::Global;
 use std::mem::ManuallyDrop;
-use std::process::Abort;
+use std::test::Fail;
 
 /// Enters `a 1`, and forgets its visitor.
 fn forget_entry(collector: &mut Collector) -> Result<(), Refusal>
@@ -148,50 +147,34 @@ impl Allocative for StopsInsideByHand {
     }
 }
 
-/// Asserts that `visit_root` and then `finish` return this error for a root.
-fn assert_refused(
-    rt: &impl Abort,
-    alloc: Global,
-    root: &dyn Allocative,
-    want: Refusal,
-) -> Result<(), Refusal> {
-    let mut builder = FlameGraphBuilder::new(alloc)?;
-    assert_eq!(rt; builder.visit_root(root), Err(want));
-    assert_eq!(rt; builder.finish().err(), Some(want));
-    Ok(())
+#[test]
+fn a_visit_that_forgets_leaves_its_builder_open(rt: HostRuntime) -> Result<(), Fail> {
+    is_refused(rt.alloc(), &ForgetsNested, Refusal::Open)?;
+    is_refused(rt.alloc(), &ForgetsContent, Refusal::Open)?;
+    is_refused(rt.alloc(), &ForgetsFirst, Refusal::TooLarge)
 }
 
-/// Asserts the held bytes of a value, or its error.
-fn assert_held(rt: &impl Abort, root: &dyn Allocative, want: Result<usize, Refusal>) {
-    assert_eq!(rt; size_of_unique_allocated_data(root), want);
+/// Fails where the held bytes of a value are other ones.
+fn holds(root: &dyn Allocative, want: Result<usize, Refusal>) -> Result<(), Fail> {
+    is_answer(size_of_unique_allocated_data(root), want)
 }
 
 #[test]
-fn a_visit_that_forgets_leaves_its_builder_open(rt: HostRuntime) -> Result<(), Refusal> {
-    let alloc = rt.alloc();
-    assert_refused(&rt, alloc, &ForgetsNested, Refusal::Open)?;
-    assert_refused(&rt, alloc, &ForgetsContent, Refusal::Open)?;
-    assert_refused(&rt, alloc, &ForgetsFirst, Refusal::TooLarge)
-}
-
-#[test]
-fn held_bytes_with_a_forgotten_visitor_are_refused(rt: HostRuntime) {
-    assert_held(&rt, &ForgetsNested, Err(Refusal::Open));
-    assert_held(&rt, &ForgetsFirst, Err(Refusal::TooLarge));
-    assert_held(&rt, &ForgetsContent, Ok(0));
+fn held_bytes_with_a_forgotten_visitor_are_refused() -> Result<(), Fail> {
+    holds(&ForgetsNested, Err(Refusal::Open))?;
+    holds(&ForgetsFirst, Err(Refusal::TooLarge))?;
+    holds(&ForgetsContent, Ok(0))
 }
 
 const MOST: usize = isize::MAX as usize;
 
 #[test]
-fn a_visit_stops_while_its_visitors_are_held(rt: HostRuntime) -> Result<(), Refusal> {
-    let alloc = rt.alloc();
-    assert_refused(&rt, alloc, &StopsByHand { room: MOST }, Refusal::TooLarge)?;
+fn a_visit_stops_while_its_visitors_are_held(rt: HostRuntime) -> Result<(), Fail> {
     let part = StopsByHand { room: MOST };
-    assert_refused(&rt, alloc, &StopsInsideByHand { part }, Refusal::TooLarge)?;
+    is_refused(rt.alloc(), &part, Refusal::TooLarge)?;
+    is_refused(rt.alloc(), &StopsInsideByHand { part }, Refusal::TooLarge)?;
     let part = StopsByHand { room: usize::MAX };
-    assert_held(&rt, &StopsInsideByHand { part }, Err(Refusal::TooLarge));
+    holds(&StopsInsideByHand { part }, Err(Refusal::TooLarge))?;
     let part = StopsByHand { room: 4 };
-    assert_held(&rt, &StopsInsideByHand { part }, Ok(5));
-    Ok(())
+    holds(&StopsInsideByHand { part }, Ok(5))
 }

@@ -1,20 +1,16 @@
 //! Keys and entries that a type or an identifier names.
 use crate::expected::{is_text, told};
-use allocative::{FlameGraphBuilder, FlameGraphOutput, Key, Refusal, Visitor};
+use allocative::{FlameGraphBuilder, FlameGraphOutput, Key, Refusal};
 use std::alloc::Global;
 use std::test::Fail;
 
 /// Enters one entry by a value, one by its type, and one by a declared size.
-fn enter_declared(visitor: &mut Visitor<'_>) -> Result<(), Refusal> {
-    visitor.enter_self(&7u8)?.exit();
-    visitor.enter_self_sized::<u8>()?.exit();
-    visitor.enter_sized(Key::new("table"), Some(5))?.exit();
-    Ok(())
-}
-
 fn enter(builder: &mut FlameGraphBuilder) -> Result<(), Refusal> {
     let mut root = builder.root_visitor()?;
-    enter_declared(&mut root)
+    root.enter_self(&7u8)?.exit();
+    root.enter_self_sized::<u8>()?.exit();
+    root.enter_sized(Key::new("table"), Some(5))?.exit();
+    Ok(())
 }
 
 fn entered(alloc: Global) -> Result<FlameGraphOutput, Refusal> {

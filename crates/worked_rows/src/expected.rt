@@ -46,3 +46,13 @@ pub(crate) fn is_answer(
     }
     Err(Fail::new(format_args!("{answer:?}")))
 }
+
+/// Fails where `visit_root` and then `finish` do not both return this error for a root.
+pub(crate) fn is_refused(alloc: Global, root: &dyn Allocative, want: Refusal) -> Result<(), Fail> {
+    let mut builder = FlameGraphBuilder::new(alloc)?;
+    let found = [builder.visit_root(root).err(), builder.finish().err()];
+    if found == [Some(want); 2] {
+        return Ok(());
+    }
+    Err(Fail::new(format_args!("{found:?}")))
+}

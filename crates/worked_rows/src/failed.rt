@@ -1,28 +1,11 @@
 //! Builders that fail or stay open for good, and what they then return.
-#![tactic(auto, using(allocative::proofs::Parts::parts))]
-
-ghost use Rattle.std.specs.Prelude.{codes};
-ghost use Rattle.allocative.specs.Shows as shows;
-
 use crate::huge::Huge;
-use allocative::{Allocative, FlameGraphBuilder, Identity, Inside, Key, Part, Refusal, Visitor};
+use allocative::{FlameGraphBuilder, Identity, Key, Refusal, Visitor};
 use std::alloc::Global;
 use std::mem::{ManuallyDrop, forget};
 use std::test::Fail;
 
 const MOST: usize = isize::MAX as usize;
-
-/// Shows `leaf 1`.
-#[derive(Drop)]
-struct Leaf;
-
-impl Allocative for Leaf {
-    ghost may_show = { λ _. shows.Inside (codes "leaf") 1 shows.Nothing };
-
-    fn visit(&self, visitor: &mut Visitor<'_>) -> Result<(), Refusal> {
-        Inside("leaf", 1, ()).enter(visitor)
-    }
-}
 
 /// What is done at the root visitor of a new builder.
 #[derive(Clone, Copy)]
@@ -144,7 +127,7 @@ fn act_on(builder: &mut FlameGraphBuilder, act: Act) -> Result<Told, Refusal> {
 /// What the builder returns for a root visitor, for a root and for its output.
 fn ended(mut builder: FlameGraphBuilder) -> [Option<Refusal>; 3] {
     let begun = builder.root_visitor().err();
-    let visited = builder.visit_root(&Leaf).err();
+    let visited = builder.visit_root(&1u8).err();
     [begun, visited, builder.finish().err()]
 }
 

@@ -56,17 +56,12 @@ fn a_copy_has_the_same_lines(rt: HostRuntime) -> Result<(), Refusal> {
     assert_graph(&rt, &graph.clone()?, "a;c 2\nb 1\n", 3)
 }
 
-// The root with 2, and its child `x` with 1.
-fn own_with_child(alloc: Global) -> Result<FlameGraph, Refusal> {
-    let mut graph = one(alloc, "x", 1)?;
-    graph.add_self(2)?;
-    Ok(graph)
-}
-
 #[test]
 fn keys_and_not_joined_texts_decide(rt: HostRuntime) -> Result<(), Refusal> {
+    let mut a = one(rt.alloc(), "x", 1)?;
+    a.add_self(2)?;
     let mut graph = one(rt.alloc(), "a!", 2)?;
-    graph.add_child(Key::new("a"), own_with_child(rt.alloc())?)?;
+    graph.add_child(Key::new("a"), a)?;
     assert_graph(&rt, &graph, "a 2\na;x 1\na! 2\n", 5)
 }
 
@@ -77,26 +72,15 @@ fn an_empty_graph_takes_all_of_another(rt: HostRuntime) -> Result<(), Refusal> {
     assert_graph(&rt, &graph, "x 10\n", 10)
 }
 
-// `a;x` with 1 and `c` with 2.
-fn left(alloc: Global) -> Result<FlameGraph, Refusal> {
-    let mut graph = one(alloc, "c", 2)?;
-    graph.add_child(Key::new("a"), one(alloc, "x", 1)?)?;
-    Ok(graph)
-}
-
-// `a;x` with 4, `b` with 8 and `d` with 16.
-fn right(alloc: Global) -> Result<FlameGraph, Refusal> {
-    let mut graph = one(alloc, "b", 8)?;
-    graph.add_child(Key::new("d"), own(alloc, 16)?)?;
-    graph.add_child(Key::new("a"), one(alloc, "x", 4)?)?;
-    Ok(graph)
-}
-
 #[test]
 fn graphs_add_up_path_by_path(rt: HostRuntime) -> Result<(), Refusal> {
-    let mut graph = left(rt.alloc())?;
-    graph.add(right(rt.alloc())?)?;
-    assert_graph(&rt, &graph, "a;x 5\nb 8\nc 2\nd 16\n", 31)
+    let alloc = rt.alloc();
+    let mut left = one(alloc, "c", 2)?;
+    left.add_child(Key::new("a"), one(alloc, "x", 1)?)?;
+    let mut right = with_children(alloc, &[("b", 8), ("d", 16)])?;
+    right.add_child(Key::new("a"), one(alloc, "x", 4)?)?;
+    left.add(right)?;
+    assert_graph(&rt, &left, "a;x 5\nb 8\nc 2\nd 16\n", 31)
 }
 
 #[test]
@@ -111,24 +95,15 @@ fn a_path_looks_like_a_key_with_a_semicolon(rt: HostRuntime) -> Result<(), Refus
     assert_graph(&rt, &nested, "a;b 1\n", 1)
 }
 
-// What each way to add one byte answers to a graph that has as many as there can be, and the total after the first.
-fn add_past_the_bound(
-    alloc: Global,
-    graph: &mut FlameGraph,
-) -> Result<([Result<(), Refusal>; 3], usize), Refusal> {
-    let by_itself = graph.add_self(1);
-    let total = graph.total_size();
-    let by_a_child = graph.add_child(Key::new("a"), own(alloc, 1)?);
-    let by_a_graph = graph.add(one(alloc, "a", 1)?);
-    Ok(([by_itself, by_a_child, by_a_graph], total))
-}
-
 #[test]
 fn a_total_past_the_bound_is_refused(rt: HostRuntime) -> Result<(), Refusal> {
     let mut graph = own(rt.alloc(), usize::MAX)?;
-    let (answers, total) = add_past_the_bound(rt.alloc(), &mut graph)?;
-    assert_eq!(rt; answers, [Err(Refusal::TooLarge); 3]);
-    assert_eq!(rt; total, usize::MAX);
+    assert_eq!(rt; graph.add_self(1), Err(Refusal::TooLarge));
+    assert_eq!(rt; graph.total_size(), usize::MAX);
+    let by_a_child = graph.add_child(Key::new("a"), own(rt.alloc(), 1)?);
+    assert_eq!(rt; by_a_child, Err(Refusal::TooLarge));
+    let by_a_graph = graph.add(one(rt.alloc(), "a", 1)?);
+    assert_eq!(rt; by_a_graph, Err(Refusal::TooLarge));
     assert_graph(&rt, &graph, "", usize::MAX)
 }
 
@@ -149,16 +124,8 @@ fn total_of(text: &str) -> usize {
 fn after_memory_each_size_is_old_or_summed(rt: HostRuntime) -> Result<(), Refusal> {
     let mut graph = with_children(rt.alloc(), &[("a", 1), ("b", 2)])?;
     let answer = graph.add(with_children(rt.alloc(), &[("b", 3), ("c", 4)])?);
-    assert_old_or_summed(&rt, &graph, answer)
-}
-
-fn assert_old_or_summed(
-    rt: &impl Abort,
-    graph: &FlameGraph,
-    answer: Result<(), Refusal>,
-) -> Result<(), Refusal> {
     match answer {
-        Ok(()) => assert_graph(rt, graph, "a 1\nb 5\nc 4\n", 10),
+        Ok(()) => assert_graph(&rt, &graph, "a 1\nb 5\nc 4\n", 10),
         Err(refusal) => {
             assert_eq!(rt; refusal, Refusal::Memory);
             let text = graph.write()?;
@@ -170,32 +137,26 @@ fn assert_old_or_summed(
 
 // The root with 1, `a` with 2, `a;x` with 4 and `b` with 8.
 fn read_sample(alloc: Global) -> Result<FlameGraph, Refusal> {
-    let mut a = own(alloc, 2)?;
-    a.add_child(Key::new("x"), own(alloc, 4)?)?;
-    let mut graph = own(alloc, 1)?;
-    graph.add_child(Key::new("b"), own(alloc, 8)?)?;
+    let mut a = one(alloc, "x", 4)?;
+    a.add_self(2)?;
+    let mut graph = one(alloc, "b", 8)?;
+    graph.add_self(1)?;
     graph.add_child(Key::new("a"), a)?;
     Ok(graph)
 }
 
-// Own sizes and totals at paths that the sample has, and at two that it has not.
-fn figures(graph: &FlameGraph) -> [usize; 8] {
-    [
-        graph.self_size(),
-        graph.size_at(&[]),
-        graph.total_at(&[]),
-        graph.size_at(&["a"]),
-        graph.total_at(&["a"]),
-        graph.size_at(&["a", "x"]),
-        graph.size_at(&["x"]),
-        graph.total_at(&["b", "x"]),
-    ]
-}
-
+// Two of the paths are not there.
 #[test]
 fn a_path_has_its_figures(rt: HostRuntime) -> Result<(), Refusal> {
     let graph = read_sample(rt.alloc())?;
-    assert_eq!(rt; figures(&graph), [1, 1, 15, 2, 6, 4, 0, 0]);
+    assert_eq!(rt; graph.self_size(), 1);
+    assert_eq!(rt; [graph.size_at(&[]), graph.total_at(&[])], [1, 15]);
+    assert_eq!(rt; [graph.size_at(&["a"]), graph.total_at(&["a"])], [2, 6]);
+    assert_eq!(rt; graph.size_at(&["a", "x"]), 4);
+    assert_eq!(rt;
+        [graph.size_at(&["x"]), graph.total_at(&["b", "x"])],
+        [0, 0]
+    );
     Ok(())
 }
 

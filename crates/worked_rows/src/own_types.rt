@@ -9,7 +9,6 @@ use allocative::{
     Allocative, Described, Field, IdRc, Identity, Inside, Key, Part, Refusal, Visitor,
     profile_values,
 };
-use std::alloc::Global;
 use std::test::Fail;
 
 /// An enum: a field for the part of each variant that has one.
@@ -71,61 +70,36 @@ impl Allocative for Handle {
     }
 }
 
-fn event_shows(alloc: Global, event: Event, want: &str) -> Result<(), Fail> {
-    shows(alloc, &event, want)
-}
-
 #[test]
 fn an_enum_shows_its_variant(rt: HostRuntime) -> Result<(), Fail> {
-    event_shows(rt.alloc(), Event::Stopped, "Event 32\n")?;
-    event_shows(rt.alloc(), Event::Sent(3), "Event 24\nEvent;Sent;u64 8\n")
+    shows(rt.alloc(), &Event::Stopped, "Event 32\n")?;
+    shows(rt.alloc(), &Event::Sent(3), "Event 24\nEvent;Sent;u64 8\n")
 }
 
-/// A text with no unused room.
-fn named(alloc: Global) -> Result<Event, Fail> {
-    let mut name = String::with_capacity(alloc, 2)?;
-    name.push_str("ab")?;
-    Ok(Event::Named(name))
-}
-
+/// Its name has no unused room.
 #[test]
 fn an_enum_shows_its_text(rt: HostRuntime) -> Result<(), Fail> {
-    event_shows(
-        rt.alloc(),
-        named(rt.alloc())?,
-        "Event 8\nEvent;Named;String 16\nEvent;Named;String;ptr 8\nEvent;Named;String;ptr;capacity;u8 2\n",
-    )
+    let mut name = String::with_capacity(rt.alloc(), 2)?;
+    name.push_str("ab")?;
+    let want =
+        "Event 8\nEvent;Named;String 16\nEvent;Named;String;ptr 8\nEvent;Named;String;ptr;capacity;u8 2\n";
+    shows(rt.alloc(), &Event::Named(name), want)
 }
 
 #[test]
 fn a_generic_type_shows_its_part(rt: HostRuntime) -> Result<(), Fail> {
-    shows(
-        rt.alloc(),
-        &Wrapped { value: Some(2u16) },
-        "Wrapped 12\nWrapped;value;Option 2\nWrapped;value;Option;Some;u16 2\n",
-    )
-}
-
-/// Two handles of one table.
-fn two_handles(alloc: Global) -> Result<[Handle; 2], Fail> {
-    let table = IdRc::new(alloc, 5u64, Identity::from(1))?;
-    let first = Handle {
-        table: table.clone()?,
-    };
-    Ok([first, Handle { table }])
-}
-
-/// The text of some handles, followed by its warnings.
-fn text_of_handles(alloc: Global, handles: &[Handle]) -> Result<String, Refusal> {
-    told(&profile_values(alloc, handles)?)
+    let want = "Wrapped 12\nWrapped;value;Option 2\nWrapped;value;Option;Some;u16 2\n";
+    shows(rt.alloc(), &Wrapped { value: Some(2u16) }, want)
 }
 
 #[test]
 fn a_shared_part_counts_once(rt: HostRuntime) -> Result<(), Fail> {
-    let handles = two_handles(rt.alloc())?;
-    let text = text_of_handles(rt.alloc(), &handles)?;
-    is_text(
-        text.as_str(),
-        "Handle;table;Rc;ptr 16\nRcInner 16\nRcInner;u64 8\n",
-    )
+    let table = IdRc::new(rt.alloc(), 5u64, Identity::from(1))?;
+    let first = Handle {
+        table: table.clone()?,
+    };
+    let handles = [first, Handle { table }];
+    let text = told(&profile_values(rt.alloc(), &handles)?)?;
+    let want = "Handle;table;Rc;ptr 16\nRcInner 16\nRcInner;u64 8\n";
+    is_text(text.as_str(), want)
 }

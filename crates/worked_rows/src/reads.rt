@@ -9,10 +9,7 @@ use std::process::Abort;
 
 // A text that lives as long as the program.
 fn kept(text: String) -> Result<&'static str, AllocError> {
-    match str::from_utf8(text.into_bytes().leak()) {
-        Ok(text) => Ok(text),
-        Err(_) => Ok(""),
-    }
+    Ok(str::from_utf8(text.into_bytes().leak()).unwrap_or(""))
 }
 
 // Asserts the text of the graph of some lines.
@@ -28,10 +25,7 @@ fn assert_read(rt: &(impl Abort + AllocGlobal), text: &'static str, wanted: &str
 
 // Asserts why a text is refused.
 fn assert_refused(rt: &(impl Abort + AllocGlobal), text: &'static str, wanted: ReadFault) {
-    match FlameGraph::read(rt.alloc(), text) {
-        Ok(_) => assert!(rt; false),
-        Err(fault) => assert_eq!(rt; fault, wanted),
-    }
+    assert_eq!(rt; FlameGraph::read(rt.alloc(), text).err(), Some(wanted));
 }
 
 #[test]

@@ -6,7 +6,6 @@ ghost use Rattle.allocative.specs.Shows as shows;
 
 use crate::expected::shows;
 use allocative::{Allocative, Field, Inside, Part, Refusal, Visitor};
-use std::alloc::Global;
 use std::test::Fail;
 
 #[derive(Drop)]
@@ -27,21 +26,13 @@ impl Allocative for Session {
     }
 }
 
-/// A session whose name has no unused room.
-fn session_with_no_score(alloc: Global) -> Result<Session, Fail> {
-    let mut name = String::with_capacity(alloc, 2)?;
-    name.push_str("ab")?;
-    Ok(Session {
-        name,
-        scores: Vec::new(alloc),
-    })
-}
-
-/// It has no warning: no line follows the text.
+/// Its name has no unused room. It has no warning: no line follows the text.
 #[test]
 fn a_session_with_no_score(rt: HostRuntime) -> Result<(), Fail> {
-    let session = session_with_no_score(rt.alloc())?;
+    let mut name = String::with_capacity(rt.alloc(), 2)?;
+    name.push_str("ab")?;
+    let scores = Vec::new(rt.alloc());
     let want =
         "Session;name;String 16\nSession;name;String;ptr 8\nSession;name;String;ptr;capacity;u8 2\nSession;scores;Vec 24\n";
-    shows(rt.alloc(), &session, want)
+    shows(rt.alloc(), &Session { name, scores }, want)
 }

@@ -1,7 +1,7 @@
 //! Values of std and of test types, visited and held.
 #![tactic(auto, using(allocative::proofs::Parts::parts))]
 
-ghost use Rattle.std.specs.Prelude.{codes, Some, false, ◌≡◌};
+ghost use Rattle.std.specs.Prelude.{codes, Some, false};
 ghost use Rattle.allocative.specs.Shows as shows;
 
 use crate::expected::{is_answer, is_text, shows, told};
@@ -9,7 +9,6 @@ use allocative::{
     Allocative, Described, Field, IdArc, Identity, Inside, Part, Refusal, Registry, Visitor,
     profile_roots, profile_value, size_of_unique, size_of_unique_allocated_data,
 };
-use std::alloc::Global;
 use std::collections::BTreeMap;
 use std::test::Fail;
 
@@ -60,44 +59,27 @@ fn a_shared_value_stands_beside_its_pointer(rt: HostRuntime) -> Result<(), Fail>
     shows(rt.alloc(), &shared, want)
 }
 
-fn map_of_one_pair(alloc: Global) -> Result<BTreeMap<u64, u64>, Fail> {
-    let mut map = BTreeMap::new(alloc);
-    map.insert(1, 2)?;
-    Ok(map)
-}
-
 #[test]
 fn a_map_of_one_pair_warns(rt: HostRuntime) -> Result<(), Fail> {
-    let map = map_of_one_pair(rt.alloc())?;
-    shows(
-        rt.alloc(),
-        &map,
-        "BTreeMap 16\nBTreeMap;data;key;u64 8\nBTreeMap;data;value;u64 8\n\
-         Incorrect size declaration for node `BTreeMap;data`, size of self: 8, size of inline children: 16\n",
-    )
-}
-
-fn bytes_with_room(alloc: Global) -> Result<Vec<u8>, Fail> {
-    let mut bytes: Vec<u8> = Vec::with_capacity(alloc, 100)?;
-    bytes.extend_from_slice(&[1, 2, 3])?;
-    Ok(bytes)
+    let mut map: BTreeMap<u64, u64> = BTreeMap::new(rt.alloc());
+    map.insert(1, 2)?;
+    let want = "BTreeMap 16\nBTreeMap;data;key;u64 8\nBTreeMap;data;value;u64 8\n\
+        Incorrect size declaration for node `BTreeMap;data`, size of self: 8, size of inline children: 16\n";
+    shows(rt.alloc(), &map, want)
 }
 
 #[test]
 fn a_vector_holds_its_bytes_and_its_room(rt: HostRuntime) -> Result<(), Fail> {
-    let bytes = bytes_with_room(rt.alloc())?;
+    let mut bytes: Vec<u8> = Vec::with_capacity(rt.alloc(), 100)?;
+    bytes.extend_from_slice(&[1, 2, 3])?;
     is_answer(size_of_unique_allocated_data(&bytes), Ok(bytes.capacity()))?;
     is_answer(size_of_unique(&bytes), Ok(bytes.capacity() + 24))
 }
 
-/// The text of a profile of a reference, followed by its warnings.
-fn text_of_reference(alloc: Global, number: &'static u8) -> Result<String, Refusal> {
-    told(&profile_value(alloc, &number)?)
-}
-
 #[test]
 fn a_reference_shows_nothing(rt: HostRuntime) -> Result<(), Fail> {
-    let text = text_of_reference(rt.alloc(), &7)?;
+    let number: &'static u8 = &7;
+    let text = told(&profile_value(rt.alloc(), &number)?)?;
     is_text(text.as_str(), "")
 }
 
@@ -117,16 +99,10 @@ impl Allocative for TestGlobalRoot {
     }
 }
 
-/// The text of a profile of a registry, followed by its warnings.
-fn text_of_registry(registry: &Registry) -> Result<String, Refusal> {
-    told(&profile_roots(registry)?)
-}
-
 /// Fails where a registry has another text, followed by its warnings.
-fn registry_shows(registry: Registry, want: &str) -> Result<(), Fail> {
-    let text = text_of_registry(&registry);
-    drop(registry);
-    is_text(text?.as_str(), want)
+fn registry_shows(registry: &Registry, want: &str) -> Result<(), Fail> {
+    let text = told(&profile_roots(registry)?)?;
+    is_text(text.as_str(), want)
 }
 
 #[test]
@@ -138,7 +114,7 @@ fn registered_roots_are_profiled(rt: HostRuntime) -> Result<(), Fail> {
     let is_first = registry.register_root(number).is_ok();
     let is_second = registry.register_root(nothing).is_ok();
     if is_first && is_second && registry.roots().len() == 2 {
-        return registry_shows(registry, "Option 8\nu32 4\n");
+        return registry_shows(&registry, "Option 8\nu32 4\n");
     }
     Err(Fail::new("a root came back"))
 }
@@ -148,5 +124,5 @@ fn a_registered_root_shows_its_field(rt: HostRuntime) -> Result<(), Fail> {
     let root = Box::new(rt.alloc(), TestGlobalRoot { x: 1 })?;
     let mut registry = Registry::new(rt.alloc());
     registry.add_root(root)?;
-    registry_shows(registry, "TestGlobalRoot;x;u32 4\n")
+    registry_shows(&registry, "TestGlobalRoot;x;u32 4\n")
 }

@@ -1,6 +1,7 @@
 //! Nodes with few and with many children, which are entered in rising, falling and mixed order, one by one and at once.
 ghost use Rattle.std.specs.Prelude.{◌<◌};
 
+use crate::expected::is_text;
 use crate::made_graphs::own;
 use allocative::{Child, FlameGraph, FlameGraphBuilder, Key, Refusal, Visitor};
 use std::alloc::{AllocError, Global};
@@ -20,17 +21,6 @@ enum Order {
     Rising,
     Falling,
     Mixed,
-}
-
-/// How the children come into a graph.
-#[derive(Clone, Copy)]
-enum Way {
-    /// Entered into a builder, each twice.
-    Entered,
-    /// Added to a graph one by one.
-    OneByOne,
-    /// Added to a graph at once, each twice.
-    AtOnce,
 }
 
 /// One of 5,000 different keys: a part of a text, of at least two letters, that starts at one of fifty places.
@@ -140,46 +130,20 @@ fn text_at_once(alloc: Global, keys: &[&'static str], order: Order) -> Result<St
     graph.write()
 }
 
-impl Way {
-    /// How often each child is added.
-    fn times(self) -> usize {
-        match self {
-            Way::OneByOne => 1,
-            Way::Entered | Way::AtOnce => 2,
-        }
-    }
-}
-
-/// The text of the keys in an order, with their sizes.
-fn text_of(
-    alloc: Global,
-    keys: &[&'static str],
-    order: Order,
-    way: Way,
-) -> Result<String, Refusal> {
-    match way {
-        Way::Entered => text_of_entries(alloc, keys, order),
-        Way::OneByOne => text_one_by_one(alloc, keys, order),
-        Way::AtOnce => text_at_once(alloc, keys, order),
-    }
-}
-
-/// Whether the keys in an order come out right in one way.
-fn is_right(alloc: Global, keys: &[&'static str], order: Order, way: Way) -> Result<bool, Fail> {
-    let text = text_of(alloc, keys, order, way)?;
-    let lines = lines_of(alloc, keys, way.times())?;
-    Ok(text.as_str() == lines.as_str())
-}
-
-/// Fails where so many children in an order come out wrong in one of the ways.
+/// Fails where so many children in an order come out wrong: entered twice, added one by one, or added at once twice.
 fn come_out_right(alloc: Global, count: usize, order: Order) -> Result<(), Fail> {
     let keys = sorted_keys(alloc, count)?;
-    for way in [Way::Entered, Way::OneByOne, Way::AtOnce] {
-        if !is_right(alloc, &keys, order, way)? {
-            return Err(Fail::new("a text of the children is wrong"));
-        }
-    }
-    Ok(())
+    let once = lines_of(alloc, &keys, 1)?;
+    let twice = lines_of(alloc, &keys, 2)?;
+    is_text(
+        text_of_entries(alloc, &keys, order)?.as_str(),
+        twice.as_str(),
+    )?;
+    is_text(
+        text_one_by_one(alloc, &keys, order)?.as_str(),
+        once.as_str(),
+    )?;
+    is_text(text_at_once(alloc, &keys, order)?.as_str(), twice.as_str())
 }
 
 #[test]

@@ -10,7 +10,6 @@ use crate::texts::expect_text;
 use allocative::{
     Allocative, Described, FlameGraphBuilder, Inside, Key, Part, Refusal, Unique, Visitor,
 };
-use std::alloc::Global;
 use std::collections::BTreeMap;
 use std::test::Fail;
 
@@ -131,104 +130,90 @@ impl Allocative for DropPair {
 
 /// Shows its items by `visit_slice`.
 #[derive(Drop)]
-struct Slice<T> {
-    items: Vec<T>,
-}
+struct Slice<T>(Vec<T>);
 
 impl<T: Allocative + Described> Allocative for Slice<T> {
-    ghost may_show = { λ s. shows.slice_shows T.name T.size T.needs_drop T.may_show s.items.items };
+    ghost may_show = { λ s. shows.slice_shows T.name T.size T.needs_drop T.may_show s.0.items };
 
     fn visit(&self, visitor: &mut Visitor<'_>) -> Result<(), Refusal> {
-        visitor.visit_slice(&self.items)
+        visitor.visit_slice(&self.0)
     }
 }
 
 /// Shows its items by `visit_iter`.
 #[derive(Drop)]
-struct Iterated<T> {
-    items: Vec<T>,
-}
+struct Iterated<T>(Vec<T>);
 
 impl<T: Allocative + Described> Allocative for Iterated<T> {
-    ghost may_show = { λ s. shows.slice_shows T.name T.size T.needs_drop T.may_show s.items.items };
+    ghost may_show = { λ s. shows.slice_shows T.name T.size T.needs_drop T.may_show s.0.items };
 
     fn visit(&self, visitor: &mut Visitor<'_>) -> Result<(), Refusal> {
-        visitor.visit_iter(self.items.iter())
+        visitor.visit_iter(self.0.iter())
     }
 }
 
 /// Shows its entries by `visit_generic_map_fields`.
 #[derive(Drop)]
-struct MapFields {
-    entries: BTreeMap<Byte, Byte>,
-}
+struct MapFields(BTreeMap<Byte, Byte>);
 
 impl Allocative for MapFields {
     ghost may_show = { λ m. shows.Inside (codes "data") 8
         (shows.each_shows (pair_shows (Some 1) (λ _. shows.Field (codes "u8") (Some 1) shows.Nothing) (Some 1)
-        (λ _. shows.Field (codes "u8") (Some 1) shows.Nothing)) m.entries.entries) };
+        (λ _. shows.Field (codes "u8") (Some 1) shows.Nothing)) m.0.entries) };
 
     fn visit(&self, visitor: &mut Visitor<'_>) -> Result<(), Refusal> {
-        visitor.visit_generic_map_fields(self.entries.iter())
+        visitor.visit_generic_map_fields(self.0.iter())
     }
 }
 
 /// Shows its keys by `visit_generic_set_fields`.
 #[derive(Drop)]
-struct SetFields {
-    keys: Vec<Byte>,
-}
+struct SetFields(Vec<Byte>);
 
 impl Allocative for SetFields {
     ghost may_show = { λ s. shows.Inside (codes "data") 8
         (shows.each_shows (field_of (codes "key") (Some 1) (λ _. shows.Field (codes "u8") (Some 1) shows.Nothing))
-        s.keys.items) };
+        s.0.items) };
 
     fn visit(&self, visitor: &mut Visitor<'_>) -> Result<(), Refusal> {
-        visitor.visit_generic_set_fields(self.keys.iter())
+        visitor.visit_generic_set_fields(self.0.iter())
     }
 }
 
 /// Shows a text.
 #[derive(Drop)]
-struct Text {
-    text: String,
-}
+struct Text(String);
 
 impl Allocative for Text {
-    ghost may_show = { λ t. shows.Inside (codes "str") (length (string_bytes t.text)) shows.Nothing };
+    ghost may_show = { λ t. shows.Inside (codes "str") (length (string_bytes t.0)) shows.Nothing };
 
     fn visit(&self, visitor: &mut Visitor<'_>) -> Result<(), Refusal> {
-        visitor.visit_str(self.text.as_str())
+        visitor.visit_str(self.0.as_str())
     }
 }
 
 /// Shows a byte as a boxed object.
 #[derive(Drop)]
-struct Boxed {
-    byte: Byte,
-}
+struct Boxed(Byte);
 
 impl Allocative for Boxed {
     ghost may_show = { λ _. shows.Inside (codes "Box") 8
         (shows.InsideUnique (codes "ptr") 8 (shows.Field (codes "u8") (Some 1) shows.Nothing)) };
 
     fn visit(&self, visitor: &mut Visitor<'_>) -> Result<(), Refusal> {
-        visitor.visit_boxed_object(&self.byte)
+        visitor.visit_boxed_object(&self.0)
     }
 }
 
 /// Shows a byte as a field.
 #[derive(Drop)]
-struct WithField {
-    byte: Byte,
-}
+struct WithField(Byte);
 
 impl Allocative for WithField {
     ghost may_show = { λ _. shows.Field (codes "f") (Some 1) (shows.Field (codes "u8") (Some 1) shows.Nothing) };
 
     fn visit(&self, visitor: &mut Visitor<'_>) -> Result<(), Refusal> {
-        visitor.visit_field(Key::new("f"), &self.byte)
+        visitor.visit_field(Key::new("f"), &self.0)
     }
 }
 
@@ -264,16 +249,14 @@ impl Allocative for WithSteps {
 
 /// Shows a slice with an entry of its own.
 #[derive(Drop)]
-struct SliceOf {
-    items: Vec<Byte>,
-}
+struct SliceOf(Vec<Byte>);
 
 impl Allocative for SliceOf {
     ghost may_show = { λ s. slice_of (codes "u8") (Some 1)
-        (λ _. shows.Field (codes "u8") (Some 1) shows.Nothing) s.items.items };
+        (λ _. shows.Field (codes "u8") (Some 1) shows.Nothing) s.0.items };
 
     fn visit(&self, visitor: &mut Visitor<'_>) -> Result<(), Refusal> {
-        visitor.visit_slice_of(&self.items)
+        visitor.visit_slice_of(&self.0)
     }
 }
 
@@ -292,114 +275,84 @@ impl<'a> Part for FullBody<'a> {
 
 /// Shows a buffer with no unused room.
 #[derive(Drop)]
-struct Body {
-    items: Vec<Byte>,
-}
+struct Body(Vec<Byte>);
 
 impl Allocative for Body {
     ghost may_show = { λ s. shows.InsideUnique (codes "ptr") 8
-        (vec_body (codes "u8") (Some 1) false (λ _. shows.Field (codes "u8") (Some 1) shows.Nothing) s.items.items
-        (length s.items.items)) };
+        (vec_body (codes "u8") (Some 1) false (λ _. shows.Field (codes "u8") (Some 1) shows.Nothing) s.0.items
+        (length s.0.items)) };
 
     fn visit(&self, visitor: &mut Visitor<'_>) -> Result<(), Refusal> {
-        Unique("ptr", 8, FullBody(&self.items)).enter(visitor)
+        Unique("ptr", 8, FullBody(&self.0)).enter(visitor)
     }
-}
-
-fn three_pairs(alloc: Global) -> Result<Vec<Pair>, Fail> {
-    Ok(vec![in alloc; Pair, Pair, Pair]?)
-}
-
-fn three_dropped_pairs(alloc: Global) -> Result<Vec<DropPair>, Fail> {
-    Ok(vec![in alloc; DropPair(Pair), DropPair(Pair), DropPair(Pair)]?)
 }
 
 #[test]
 fn a_slice_shows_its_size(rt: HostRuntime) -> Result<(), Fail> {
-    let items = three_pairs(rt.alloc())?;
-    expect_text(&rt, rt.alloc(), &Slice { items }, "Pair 12\n")
+    let items = vec![in rt.alloc(); Pair, Pair, Pair]?;
+    expect_text(&rt, &Slice(items), "Pair 12\n")
 }
 
 #[test]
 fn a_slice_shows_each_item_that_needs_a_drop(rt: HostRuntime) -> Result<(), Fail> {
-    let items = three_dropped_pairs(rt.alloc())?;
-    expect_text(&rt, rt.alloc(), &Slice { items }, "Pair 9\nPair;a 3\n")
+    let items = vec![in rt.alloc(); DropPair(Pair), DropPair(Pair), DropPair(Pair)]?;
+    expect_text(&rt, &Slice(items), "Pair 9\nPair;a 3\n")
 }
 
 #[test]
 fn an_empty_slice_shows_nothing(rt: HostRuntime) -> Result<(), Fail> {
-    let empty: Slice<Byte> = Slice {
-        items: Vec::new(rt.alloc()),
-    };
-    expect_text(&rt, rt.alloc(), &empty, "")
+    let empty: Slice<Byte> = Slice(Vec::new(rt.alloc()));
+    expect_text(&rt, &empty, "")
 }
 
 #[test]
 fn an_iterator_shows_its_size(rt: HostRuntime) -> Result<(), Fail> {
-    let items = three_pairs(rt.alloc())?;
-    expect_text(&rt, rt.alloc(), &Iterated { items }, "Pair 12\n")
+    let items = vec![in rt.alloc(); Pair, Pair, Pair]?;
+    expect_text(&rt, &Iterated(items), "Pair 12\n")
 }
 
 #[test]
 fn an_iterator_shows_each_item_that_needs_a_drop(rt: HostRuntime) -> Result<(), Fail> {
-    let items = three_dropped_pairs(rt.alloc())?;
-    expect_text(&rt, rt.alloc(), &Iterated { items }, "Pair 9\nPair;a 3\n")
-}
-
-fn two_entries(alloc: Global) -> Result<BTreeMap<Byte, Byte>, Fail> {
-    let mut entries = BTreeMap::new(alloc);
-    entries.insert(Byte(1), Byte(2))?;
-    entries.insert(Byte(3), Byte(4))?;
-    Ok(entries)
+    let items = vec![in rt.alloc(); DropPair(Pair), DropPair(Pair), DropPair(Pair)]?;
+    expect_text(&rt, &Iterated(items), "Pair 9\nPair;a 3\n")
 }
 
 #[test]
 fn a_map_shows_data(rt: HostRuntime) -> Result<(), Fail> {
-    let map = MapFields {
-        entries: two_entries(rt.alloc())?,
-    };
+    let mut entries = BTreeMap::new(rt.alloc());
+    entries.insert(Byte(1), Byte(2))?;
+    entries.insert(Byte(3), Byte(4))?;
     let text = "data 4\ndata;key;u8 2\ndata;value;u8 2\n";
-    expect_text(&rt, rt.alloc(), &map, text)
+    expect_text(&rt, &MapFields(entries), text)
 }
 
 #[test]
 fn a_set_shows_data(rt: HostRuntime) -> Result<(), Fail> {
-    let set = SetFields {
-        keys: vec![in rt.alloc(); Byte(1), Byte(2)]?,
-    };
-    expect_text(&rt, rt.alloc(), &set, "data 6\ndata;key;u8 2\n")
+    let keys = vec![in rt.alloc(); Byte(1), Byte(2)]?;
+    expect_text(&rt, &SetFields(keys), "data 6\ndata;key;u8 2\n")
 }
 
 #[test]
 fn a_str_shows_its_bytes(rt: HostRuntime) -> Result<(), Fail> {
-    let six = Text {
-        text: String::from_str(rt.alloc(), "abcdef")?,
-    };
-    expect_text(&rt, rt.alloc(), &six, "str 6\n")
+    let six = Text(String::from_str(rt.alloc(), "abcdef")?);
+    expect_text(&rt, &six, "str 6\n")
 }
 
 #[test]
 fn an_empty_str_shows_no_line(rt: HostRuntime) -> Result<(), Fail> {
-    let none = Text {
-        text: String::new(rt.alloc()),
-    };
-    expect_text(&rt, rt.alloc(), &none, "")
+    expect_text(&rt, &Text(String::new(rt.alloc())), "")
 }
 
 #[test]
 fn boxes_and_fields(rt: HostRuntime) -> Result<(), Fail> {
-    let alloc = rt.alloc();
-    let boxed = Boxed { byte: Byte(1) };
-    expect_text(&rt, alloc, &boxed, "Box;ptr 8\nBox;ptr;u8 1\n")?;
-    let field = WithField { byte: Byte(1) };
-    expect_text(&rt, alloc, &field, "f;u8 1\n")
+    expect_text(&rt, &Boxed(Byte(1)), "Box;ptr 8\nBox;ptr;u8 1\n")?;
+    expect_text(&rt, &WithField(Byte(1)), "f;u8 1\n")
 }
 
 #[test]
 fn closures(rt: HostRuntime) -> Result<(), Fail> {
-    let alloc = rt.alloc();
-    expect_text(&rt, alloc, &WithClosure, "f 3\nf;x 1\n")?;
-    expect_text(&rt, alloc, &WithSteps, "f 5\nf;x 1\nf;y 2\n")
+    expect_text(&rt, &WithClosure, "f 3\nf;x 1\n")?;
+    expect_text(&rt, &WithSteps, "f 5\nf;x 1\nf;y 2\n")
 }
 
 /// Enters one byte three times, by each call that enters a type's own name and size.
@@ -419,23 +372,14 @@ fn entries_of_a_declared_type(rt: HostRuntime) -> Result<(), Fail> {
     Ok(())
 }
 
-fn three_bytes(alloc: Global) -> Result<Vec<Byte>, Fail> {
-    Ok(vec![in alloc; Byte(1), Byte(2), Byte(3)]?)
-}
-
 #[test]
 fn a_slice_by_itself(rt: HostRuntime) -> Result<(), Fail> {
-    let items = three_bytes(rt.alloc())?;
-    expect_text(&rt, rt.alloc(), &SliceOf { items }, "u8;data;u8 3\n")
+    let items = vec![in rt.alloc(); Byte(1), Byte(2), Byte(3)]?;
+    expect_text(&rt, &SliceOf(items), "u8;data;u8 3\n")
 }
 
 #[test]
 fn a_body(rt: HostRuntime) -> Result<(), Fail> {
-    let items = three_bytes(rt.alloc())?;
-    expect_text(
-        &rt,
-        rt.alloc(),
-        &Body { items },
-        "ptr 8\nptr;capacity;u8 3\n",
-    )
+    let items = vec![in rt.alloc(); Byte(1), Byte(2), Byte(3)]?;
+    expect_text(&rt, &Body(items), "ptr 8\nptr;capacity;u8 3\n")
 }

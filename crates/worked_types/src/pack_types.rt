@@ -14,8 +14,9 @@ use smallvec::SmallVec;
 use std::alloc::Global;
 use std::test::Fail;
 
-/// The number in the only line of a text whose last key is `unused_capacity`. The line begins with `path`.
-fn amount_in(text: &str, path: &str) -> Result<usize, Fail> {
+/// The number in the only line of unused capacity in the text of one visit. The line begins with `path`.
+fn amount_at(alloc: Global, root: &dyn Allocative, path: &str) -> Result<usize, Fail> {
+    let text = text_of(alloc, root)?;
     let mut found = None;
     for line in text.lines() {
         if line.contains(";unused_capacity ") {
@@ -29,31 +30,22 @@ fn amount_in(text: &str, path: &str) -> Result<usize, Fail> {
     Ok(found.ok_or("no line")?)
 }
 
-/// The number in the only line of unused capacity in the text of one visit. The line begins with `path`.
-fn amount_at(alloc: Global, root: &dyn Allocative, path: &str) -> Result<usize, Fail> {
-    let text = text_of(alloc, root)?;
-    amount_in(text.as_str(), path)
-}
-
 /// A map that shows itself by the call for maps.
 #[derive(Drop)]
-struct Members {
-    map: Map<String, Value>,
-}
+struct Members(Map<String, Value>);
 
 impl Allocative for Members {
-    ghost may_show = { λ m. stored_map m.map.entries };
+    ghost may_show = { λ m. stored_map m.0.entries };
 
     ghost is_exact = { true };
 
     fn visit(&self, visitor: &mut Visitor<'_>) -> Result<(), Refusal> {
-        visit_json_map(visitor, &self.map)
+        visit_json_map(visitor, &self.0)
     }
 }
 
 #[test]
 fn json_values_show_their_parts(rt: HostRuntime) -> Result<(), Fail> {
-    let alloc = rt.alloc();
     for (input, want) in [
         ("true", "Value 32\n"),
         ("null", "Value 32\n"),
@@ -83,8 +75,8 @@ fn json_values_show_their_parts(rt: HostRuntime) -> Result<(), Fail> {
             "Value 8\nValue;Array;Vec 16\nValue;Array;Vec;ptr 8\nValue;Array;Vec;ptr;Value 40\nValue;Array;Vec;ptr;Value;Array;Vec 16\nValue;Array;Vec;ptr;Value;Array;Vec;ptr 8\nValue;Array;Vec;ptr;Value;Array;Vec;ptr;Value 16\nValue;Array;Vec;ptr;Value;Array;Vec;ptr;Value;Number;Number 16\n",
         ),
     ] {
-        let value = Value::from_str(alloc, input)?;
-        expect_exact(&rt, alloc, &value, want)?;
+        let value = Value::from_str(rt.alloc(), input)?;
+        expect_exact(&rt, &value, want)?;
     }
     Ok(())
 }
@@ -93,123 +85,78 @@ fn json_values_show_their_parts(rt: HostRuntime) -> Result<(), Fail> {
 fn a_json_number_shows_itself(rt: HostRuntime) -> Result<(), Fail> {
     let value = Value::from_str(rt.alloc(), "7")?;
     let number = value.as_number().ok_or("a number")?;
-    expect_text(&rt, rt.alloc(), number, "Number 16\n")
-}
-
-/// The members of the object in this JSON text.
-fn members_of(alloc: Global, text: &str) -> Result<Members, Fail> {
-    let Value::Object(map) = Value::from_str(alloc, text)? else {
-        return Err(Fail::new("an object"));
-    };
-    Ok(Members { map })
+    expect_text(&rt, number, "Number 16\n")
 }
 
 #[test]
 fn a_json_map_shows_itself(rt: HostRuntime) -> Result<(), Fail> {
-    let members = members_of(rt.alloc(), "{\"a\":7}")?;
-    expect_exact(
-        &rt,
-        rt.alloc(),
-        &members,
-        "Map 16\nMap;data 8\nMap;data;key;String 16\nMap;data;key;String;ptr 8\nMap;data;key;String;ptr;capacity;u8 1\nMap;data;value;Value 16\nMap;data;value;Value;Number;Number 16\n",
-    )
+    let Value::Object(map) = Value::from_str(rt.alloc(), "{\"a\":7}")? else {
+        return Err(Fail::new("an object"));
+    };
+    let text =
+        "Map 16\nMap;data 8\nMap;data;key;String 16\nMap;data;key;String;ptr 8\nMap;data;key;String;ptr;capacity;u8 1\nMap;data;value;Value 16\nMap;data;value;Value;Number;Number 16\n";
+    expect_exact(&rt, &Members(map), text)
 }
 
 #[test]
 fn a_side_shows_its_value(rt: HostRuntime) -> Result<(), Fail> {
     let right: Either<u8, u64> = Either::Right(1);
-    expect_text(&rt, rt.alloc(), &right, "Either 8\nEither;Right;u64 8\n")
+    expect_text(&rt, &right, "Either 8\nEither;Right;u64 8\n")
 }
 
 #[test]
 fn an_error_shows_nothing(rt: HostRuntime) -> Result<(), Fail> {
     let error = anyhow::Error::msg("refused");
-    expect_text(&rt, rt.alloc(), &error, "")
+    expect_text(&rt, &error, "")
 }
 
 #[test]
 fn a_cell_that_is_not_set_shows_itself(rt: HostRuntime) -> Result<(), Fail> {
     let cell: OnceBox<u64> = OnceBox::new(rt.alloc());
-    expect_text(&rt, rt.alloc(), &cell, "OnceBox 8\n")
-}
-
-/// A cell that is set to 5.
-fn set_cell(alloc: Global) -> Result<OnceBox<u64>, Fail> {
-    let cell: OnceBox<u64> = OnceBox::new(alloc);
-    if cell.set(Box::new(alloc, 5u64)?).is_err() {
-        return Err(Fail::new("a new cell takes a value"));
-    }
-    Ok(cell)
+    expect_text(&rt, &cell, "OnceBox 8\n")
 }
 
 #[test]
 fn a_cell_shows_its_value_once_set(rt: HostRuntime) -> Result<(), Fail> {
-    let cell = set_cell(rt.alloc())?;
-    expect_text(&rt, rt.alloc(), &cell, "OnceBox;ptr 8\nOnceBox;ptr;u64 8\n")
+    let cell: OnceBox<u64> = OnceBox::new(rt.alloc());
+    if cell.set(Box::new(rt.alloc(), 5u64)?).is_err() {
+        return Err(Fail::new("a new cell takes a value"));
+    }
+    expect_text(&rt, &cell, "OnceBox;ptr 8\nOnceBox;ptr;u64 8\n")
 }
 
 #[test]
 fn a_small_vector_shows_what_it_has_in_place(rt: HostRuntime) -> Result<(), Fail> {
     let mut items: SmallVec<u64, 2> = SmallVec::new(rt.alloc());
     items.push(1)?;
-    expect_text(
-        &rt,
-        rt.alloc(),
-        &items,
-        "SmallVec 16\nSmallVec;data;u64 8\n",
-    )
-}
-
-fn three_where_two_have_room(alloc: Global) -> Result<SmallVec<u64, 2>, Fail> {
-    let mut items: SmallVec<u64, 2> = SmallVec::new(alloc);
-    items.push(1)?;
-    items.push(2)?;
-    items.push(3)?;
-    Ok(items)
+    expect_text(&rt, &items, "SmallVec 16\nSmallVec;data;u64 8\n")
 }
 
 #[test]
 fn a_small_vector_shows_what_it_has_moved_out(rt: HostRuntime) -> Result<(), Fail> {
-    let items = three_where_two_have_room(rt.alloc())?;
-    expect_text(
-        &rt,
-        rt.alloc(),
-        &items,
-        "SmallVec 16\nSmallVec;ptr 8\nSmallVec;ptr;data;u64 24\n",
-    )
-}
-
-fn slab_of_two(alloc: Global) -> Result<Slab<u32>, Fail> {
-    let mut two: Slab<u32> = Slab::new(alloc);
-    two.insert(1)?;
-    two.insert(2)?;
-    Ok(two)
+    let mut items: SmallVec<u64, 2> = SmallVec::new(rt.alloc());
+    for number in [1, 2, 3] {
+        items.push(number)?;
+    }
+    let text = "SmallVec 16\nSmallVec;ptr 8\nSmallVec;ptr;data;u64 24\n";
+    expect_text(&rt, &items, text)
 }
 
 #[test]
 fn a_slab_shows_its_values(rt: HostRuntime) -> Result<(), Fail> {
-    let two = slab_of_two(rt.alloc())?;
-    expect_exact(
-        &rt,
-        rt.alloc(),
-        &two,
-        "Slab 32\nSlab;ptr 8\nSlab;ptr;u32 8\n",
-    )
-}
-
-/// A slab of three values, with room for a hundred more.
-fn slab_with_room(alloc: Global) -> Result<Slab<u8>, Fail> {
-    let mut three: Slab<u8> = Slab::new(alloc);
-    three.insert(1)?;
-    three.insert(2)?;
-    three.insert(3)?;
-    three.reserve(100)?;
-    Ok(three)
+    let mut two: Slab<u32> = Slab::new(rt.alloc());
+    two.insert(1)?;
+    two.insert(2)?;
+    expect_exact(&rt, &two, "Slab 32\nSlab;ptr 8\nSlab;ptr;u32 8\n")
 }
 
 #[test]
 fn a_slab_shows_its_room(rt: HostRuntime) -> Result<(), Fail> {
-    let three = slab_with_room(rt.alloc())?;
+    let mut three: Slab<u8> = Slab::new(rt.alloc());
+    for value in [1, 2, 3] {
+        three.insert(value)?;
+    }
+    three.reserve(100)?;
     let unused = amount_at(rt.alloc(), &three, "Slab;ptr;unused_capacity ")?;
     assert_eq!(rt; Some(unused), three.capacity().checked_sub(3));
     Ok(())
@@ -218,90 +165,50 @@ fn a_slab_shows_its_room(rt: HostRuntime) -> Result<(), Fail> {
 #[test]
 fn an_index_map_with_no_pair_shows_no_table(rt: HostRuntime) -> Result<(), Fail> {
     let none: IndexMap<u64, u64> = IndexMap::new(rt.alloc());
-    expect_exact(&rt, rt.alloc(), &none, "IndexMap 64\nIndexMap;data 8\n")
-}
-
-fn map_of_one(alloc: Global) -> Result<IndexMap<u64, u64>, Fail> {
-    let mut one: IndexMap<u64, u64> = IndexMap::new(alloc);
-    one.insert(1, 2)?;
-    Ok(one)
+    expect_exact(&rt, &none, "IndexMap 64\nIndexMap;data 8\n")
 }
 
 #[test]
 fn an_index_map_shows_its_pairs(rt: HostRuntime) -> Result<(), Fail> {
-    let one = map_of_one(rt.alloc())?;
-    expect_exact(
-        &rt,
-        rt.alloc(),
-        &one,
-        "IndexMap 56\nIndexMap;data 8\nIndexMap;data;key;u64 8\nIndexMap;data;value;u64 8\nIndexMap;raw_table 8\nIndexMap;raw_table;alloc 36\n",
-    )
-}
-
-/// Puts three pairs into a map, and makes room for a hundred more.
-fn fill_map(map: &mut IndexMap<u8, u8>) -> Result<(), Fail> {
-    for key in [1u8, 2, 3] {
-        map.insert(key, 0)?;
-    }
-    map.reserve(100)?;
-    Ok(())
-}
-
-/// The unused bytes that a map with that room shows, and those that its capacity leaves.
-fn room_of_a_map(alloc: Global) -> Result<(usize, Option<usize>), Fail> {
-    let mut three: IndexMap<u8, u8> = IndexMap::new(alloc);
-    fill_map(&mut three)?;
-    let unused = amount_at(alloc, &three, "IndexMap;data;unused_capacity ")?;
-    let room = three.capacity() - three.len();
-    Ok((unused, room.checked_mul(2)))
+    let mut one: IndexMap<u64, u64> = IndexMap::new(rt.alloc());
+    one.insert(1, 2)?;
+    let text =
+        "IndexMap 56\nIndexMap;data 8\nIndexMap;data;key;u64 8\nIndexMap;data;value;u64 8\nIndexMap;raw_table 8\nIndexMap;raw_table;alloc 36\n";
+    expect_exact(&rt, &one, text)
 }
 
 #[test]
 fn an_index_map_shows_its_room(rt: HostRuntime) -> Result<(), Fail> {
-    let (unused, room) = room_of_a_map(rt.alloc())?;
-    assert_eq!(rt; Some(unused), room);
-    Ok(())
-}
-
-fn set_of_five(alloc: Global) -> Result<IndexSet<u16>, Fail> {
-    let mut five: IndexSet<u16> = IndexSet::new(alloc);
-    for value in [1u16, 2, 3, 4, 5] {
-        five.insert(value)?;
+    let mut three: IndexMap<u8, u8> = IndexMap::new(rt.alloc());
+    for key in [1u8, 2, 3] {
+        three.insert(key, 0)?;
     }
-    Ok(five)
+    three.reserve(100)?;
+    let unused = amount_at(rt.alloc(), &three, "IndexMap;data;unused_capacity ")?;
+    let room = three.capacity() - three.len();
+    assert_eq!(rt; Some(unused), room.checked_mul(2));
+    Ok(())
 }
 
 #[test]
 fn an_index_set_shows_its_values(rt: HostRuntime) -> Result<(), Fail> {
-    let five = set_of_five(rt.alloc())?;
-    expect_exact(
-        &rt,
-        rt.alloc(),
-        &five,
-        "IndexSet 56\nIndexSet;data 8\nIndexSet;data;value;u16 10\nIndexSet;raw_table 8\nIndexSet;raw_table;alloc 72\n",
-    )
-}
-
-/// Puts three values into a set, and makes room for a hundred more.
-fn fill_set(set: &mut IndexSet<u8>) -> Result<(), Fail> {
-    for value in [1u8, 2, 3] {
-        set.insert(value)?;
+    let mut five: IndexSet<u16> = IndexSet::new(rt.alloc());
+    for value in [1u16, 2, 3, 4, 5] {
+        five.insert(value)?;
     }
-    set.reserve(100)?;
-    Ok(())
-}
-
-/// The unused bytes that a set with that room shows, and those that its capacity leaves.
-fn room_of_a_set(alloc: Global) -> Result<(usize, usize), Fail> {
-    let mut three: IndexSet<u8> = IndexSet::new(alloc);
-    fill_set(&mut three)?;
-    let unused = amount_at(alloc, &three, "IndexSet;data;unused_capacity ")?;
-    Ok((unused, three.capacity() - three.len()))
+    let text =
+        "IndexSet 56\nIndexSet;data 8\nIndexSet;data;value;u16 10\nIndexSet;raw_table 8\nIndexSet;raw_table;alloc 72\n";
+    expect_exact(&rt, &five, text)
 }
 
 #[test]
 fn an_index_set_shows_its_room(rt: HostRuntime) -> Result<(), Fail> {
-    let (unused, room) = room_of_a_set(rt.alloc())?;
-    assert_eq!(rt; unused, room);
+    let mut three: IndexSet<u8> = IndexSet::new(rt.alloc());
+    for value in [1u8, 2, 3] {
+        three.insert(value)?;
+    }
+    three.reserve(100)?;
+    let unused = amount_at(rt.alloc(), &three, "IndexSet;data;unused_capacity ")?;
+    assert_eq!(rt; unused, three.capacity() - three.len());
     Ok(())
 }

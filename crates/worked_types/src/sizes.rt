@@ -26,7 +26,7 @@ use std::sync::atomic::{
 };
 use std::time::{Duration, Instant, SystemTime};
 
-// A type of the greatest size.
+// A type of the greatest size. As the layout of an array it is not proved.
 struct Huge;
 
 impl Described for Huge {

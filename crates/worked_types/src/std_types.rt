@@ -3,7 +3,7 @@ use crate::texts::expect_exact;
 use allocative::{
     Allocative, IdArc, IdRc, Identity, size_of_unique, size_of_unique_allocated_data,
 };
-use std::alloc::Global;
+use std::alloc::AllocGlobal;
 use std::collections::{BTreeMap, BTreeSet, HashMap, HashSet, VecDeque};
 use std::marker::PhantomData;
 use std::mem::ManuallyDrop;
@@ -22,12 +22,11 @@ use std::time::{Duration, Instant, SystemTime};
 
 /// Asserts the text of each value, without the lines of unused capacity.
 fn expect_each(
-    rt: &impl Abort,
-    alloc: Global,
+    rt: &(impl Abort + AllocGlobal),
     rows: &[(&dyn Allocative, &str)],
 ) -> Result<(), Fail> {
     for (value, want) in rows {
-        expect_exact(rt, alloc, *value, want)?;
+        expect_exact(rt, *value, want)?;
     }
     Ok(())
 }
@@ -50,41 +49,31 @@ fn numbers(rt: HostRuntime) -> Result<(), Fail> {
         (&true, "bool 1\n"),
         (&(), ""),
     ];
-    expect_each(&rt, rt.alloc(), &rows)
+    expect_each(&rt, &rows)
 }
 
 #[test]
 fn unsigned_numbers_that_are_not_zero(rt: HostRuntime) -> Result<(), Fail> {
-    let u8 = NonZeroU8::new(1).ok_or("zero")?;
-    let u16 = NonZeroU16::new(1).ok_or("zero")?;
-    let u32 = NonZeroU32::new(1).ok_or("zero")?;
-    let u64 = NonZeroU64::new(1).ok_or("zero")?;
-    let usize = NonZeroUsize::new(1).ok_or("zero")?;
     let rows: [(&dyn Allocative, &str); 5] = [
-        (&u8, "NonZeroU8 1\n"),
-        (&u16, "NonZeroU16 2\n"),
-        (&u32, "NonZeroU32 4\n"),
-        (&u64, "NonZeroU64 8\n"),
-        (&usize, "NonZeroUsize 8\n"),
+        (&NonZeroU8::new(1).ok_or("zero")?, "NonZeroU8 1\n"),
+        (&NonZeroU16::new(1).ok_or("zero")?, "NonZeroU16 2\n"),
+        (&NonZeroU32::new(1).ok_or("zero")?, "NonZeroU32 4\n"),
+        (&NonZeroU64::new(1).ok_or("zero")?, "NonZeroU64 8\n"),
+        (&NonZeroUsize::new(1).ok_or("zero")?, "NonZeroUsize 8\n"),
     ];
-    expect_each(&rt, rt.alloc(), &rows)
+    expect_each(&rt, &rows)
 }
 
 #[test]
 fn signed_numbers_that_are_not_zero(rt: HostRuntime) -> Result<(), Fail> {
-    let i8 = NonZeroI8::new(1).ok_or("zero")?;
-    let i16 = NonZeroI16::new(1).ok_or("zero")?;
-    let i32 = NonZeroI32::new(1).ok_or("zero")?;
-    let i64 = NonZeroI64::new(1).ok_or("zero")?;
-    let isize = NonZeroIsize::new(1).ok_or("zero")?;
     let rows: [(&dyn Allocative, &str); 5] = [
-        (&i8, "NonZeroI8 1\n"),
-        (&i16, "NonZeroI16 2\n"),
-        (&i32, "NonZeroI32 4\n"),
-        (&i64, "NonZeroI64 8\n"),
-        (&isize, "NonZeroIsize 8\n"),
+        (&NonZeroI8::new(1).ok_or("zero")?, "NonZeroI8 1\n"),
+        (&NonZeroI16::new(1).ok_or("zero")?, "NonZeroI16 2\n"),
+        (&NonZeroI32::new(1).ok_or("zero")?, "NonZeroI32 4\n"),
+        (&NonZeroI64::new(1).ok_or("zero")?, "NonZeroI64 8\n"),
+        (&NonZeroIsize::new(1).ok_or("zero")?, "NonZeroIsize 8\n"),
     ];
-    expect_each(&rt, rt.alloc(), &rows)
+    expect_each(&rt, &rows)
 }
 
 #[test]
@@ -102,7 +91,7 @@ fn atomics(rt: HostRuntime) -> Result<(), Fail> {
         (&AtomicIsize::new(1), "AtomicIsize 8\n"),
         (&AtomicBool::new(true), "AtomicBool 1\n"),
     ];
-    expect_each(&rt, rt.alloc(), &rows)
+    expect_each(&rt, &rows)
 }
 
 #[test]
@@ -118,7 +107,7 @@ fn addresses_and_times(rt: HostRuntime) -> Result<(), Fail> {
         (&instant, "Instant 16\n"),
         (&time, "SystemTime 16\n"),
     ];
-    expect_each(&rt, rt.alloc(), &rows)
+    expect_each(&rt, &rows)
 }
 
 #[test]
@@ -140,7 +129,7 @@ fn tuples(rt: HostRuntime) -> Result<(), Fail> {
             "tuple5;0;u8 1\ntuple5;1;u8 1\ntuple5;2;u8 1\ntuple5;3;u8 1\ntuple5;4;u8 1\n",
         ),
     ];
-    expect_each(&rt, rt.alloc(), &rows)
+    expect_each(&rt, &rows)
 }
 
 #[test]
@@ -156,7 +145,7 @@ fn choices_arrays_and_what_has_no_parts(rt: HostRuntime) -> Result<(), Fail> {
         (&nothing, ""),
         (&ManuallyDrop::new(1u16), "ManuallyDrop;inner;u16 2\n"),
     ];
-    expect_each(&rt, rt.alloc(), &rows)
+    expect_each(&rt, &rows)
 }
 
 #[test]
@@ -169,66 +158,42 @@ fn a_reference_holds_no_bytes_of_its_own(rt: HostRuntime) -> Result<(), Fail> {
 #[test]
 fn a_box_shows_its_value(rt: HostRuntime) -> Result<(), Fail> {
     let boxed = Box::new(rt.alloc(), 1u64)?;
-    expect_exact(&rt, rt.alloc(), &boxed, "Box;ptr 8\nBox;ptr;u64 8\n")
+    expect_exact(&rt, &boxed, "Box;ptr 8\nBox;ptr;u64 8\n")
 }
 
 #[test]
 fn a_choice_of_a_box_shows_its_value(rt: HostRuntime) -> Result<(), Fail> {
     let boxed = Some(Box::new(rt.alloc(), 1u8)?);
-    expect_exact(
-        &rt,
-        rt.alloc(),
-        &boxed,
-        "Option 8\nOption;Some;Box;ptr 8\nOption;Some;Box;ptr;u8 1\n",
-    )
+    let text = "Option 8\nOption;Some;Box;ptr 8\nOption;Some;Box;ptr;u8 1\n";
+    expect_exact(&rt, &boxed, text)
 }
 
 #[test]
 fn a_shared_value_stands_beside_its_pointer(rt: HostRuntime) -> Result<(), Fail> {
     let number = IdRc::new(rt.alloc(), 1u64, Identity::from(7))?;
-    let text = "Rc;ptr 8\nRcInner 16\nRcInner;u64 8\n";
-    expect_exact(&rt, rt.alloc(), &number, text)
-}
-
-fn two_of_one_rc(alloc: Global) -> Result<(IdRc<u8>, IdRc<u8>), Fail> {
-    let first = IdRc::new(alloc, 1u8, Identity::from(7))?;
-    let second = first.clone()?;
-    Ok((first, second))
+    expect_exact(&rt, &number, "Rc;ptr 8\nRcInner 16\nRcInner;u64 8\n")
 }
 
 #[test]
 fn two_pointers_show_one_content(rt: HostRuntime) -> Result<(), Fail> {
-    let both = two_of_one_rc(rt.alloc())?;
-    expect_exact(
-        &rt,
-        rt.alloc(),
-        &both,
-        "RcInner 23\nRcInner;u8 1\ntuple2;0;Rc;ptr 8\ntuple2;1;Rc;ptr 8\n",
-    )
-}
-
-fn two_of_one_arc(alloc: Global) -> Result<(IdArc<u8>, IdArc<u8>), Fail> {
-    let first = IdArc::new(alloc, 1u8, Identity::from(7))?;
+    let first = IdRc::new(rt.alloc(), 1u8, Identity::from(7))?;
     let second = first.clone()?;
-    Ok((first, second))
+    let text = "RcInner 23\nRcInner;u8 1\ntuple2;0;Rc;ptr 8\ntuple2;1;Rc;ptr 8\n";
+    expect_exact(&rt, &(first, second), text)
 }
 
 #[test]
 fn two_pointers_for_threads_show_one_content(rt: HostRuntime) -> Result<(), Fail> {
-    let both = two_of_one_arc(rt.alloc())?;
-    expect_exact(
-        &rt,
-        rt.alloc(),
-        &both,
-        "ArcInner 23\nArcInner;u8 1\ntuple2;0;Arc;ptr 8\ntuple2;1;Arc;ptr 8\n",
-    )
+    let first = IdArc::new(rt.alloc(), 1u8, Identity::from(7))?;
+    let second = first.clone()?;
+    let text = "ArcInner 23\nArcInner;u8 1\ntuple2;0;Arc;ptr 8\ntuple2;1;Arc;ptr 8\n";
+    expect_exact(&rt, &(first, second), text)
 }
 
 #[test]
 fn a_vector_shows_its_items(rt: HostRuntime) -> Result<(), Fail> {
     let bytes = [1u8, 2, 3].to_vec(rt.alloc())?;
-    let text = "Vec 16\nVec;ptr 8\nVec;ptr;u8 3\n";
-    expect_exact(&rt, rt.alloc(), &bytes, text)
+    expect_exact(&rt, &bytes, "Vec 16\nVec;ptr 8\nVec;ptr;u8 3\n")
 }
 
 #[test]
@@ -238,167 +203,100 @@ fn a_vector_holds_its_capacity(rt: HostRuntime) -> Result<(), Fail> {
     Ok(())
 }
 
-fn deque_of_three(alloc: Global) -> Result<VecDeque<u16>, Fail> {
-    let mut deque = VecDeque::new(alloc);
-    deque.push_back(1)?;
-    deque.push_back(2)?;
-    deque.push_back(3)?;
-    Ok(deque)
-}
-
 #[test]
 fn a_deque_shows_its_items(rt: HostRuntime) -> Result<(), Fail> {
-    let deque = deque_of_three(rt.alloc())?;
+    let mut deque: VecDeque<u16> = VecDeque::new(rt.alloc());
+    for number in [1, 2, 3] {
+        deque.push_back(number)?;
+    }
     let text = "VecDeque 24\nVecDeque;ptr 8\nVecDeque;ptr;u16 6\n";
-    expect_exact(&rt, rt.alloc(), &deque, text)
+    expect_exact(&rt, &deque, text)
 }
 
 #[test]
 fn a_text_shows_its_bytes(rt: HostRuntime) -> Result<(), Fail> {
-    let text = String::from_str(rt.alloc(), "ab")?;
-    expect_exact(
-        &rt,
-        rt.alloc(),
-        &text,
-        "String 16\nString;ptr 8\nString;ptr;capacity;u8 2\n",
-    )
-}
-
-fn hash_set_of_two(alloc: Global) -> Result<HashSet<u32>, Fail> {
-    let mut set = HashSet::new(alloc);
-    set.insert(1)?;
-    set.insert(2)?;
-    Ok(set)
+    let name = String::from_str(rt.alloc(), "ab")?;
+    let text = "String 16\nString;ptr 8\nString;ptr;capacity;u8 2\n";
+    expect_exact(&rt, &name, text)
 }
 
 #[test]
 fn a_hash_set_shows_its_keys(rt: HostRuntime) -> Result<(), Fail> {
-    let set = hash_set_of_two(rt.alloc())?;
-    expect_exact(
-        &rt,
-        rt.alloc(),
-        &set,
-        "HashSet 40\nHashSet;data;key;u32 8\n",
-    )
-}
-
-fn hash_map_of_two(alloc: Global) -> Result<HashMap<u8, u8>, Fail> {
-    let mut map = HashMap::new(alloc);
-    map.insert(1, 1)?;
-    map.insert(2, 2)?;
-    Ok(map)
+    let mut set: HashSet<u32> = HashSet::new(rt.alloc());
+    set.insert(1)?;
+    set.insert(2)?;
+    expect_exact(&rt, &set, "HashSet 40\nHashSet;data;key;u32 8\n")
 }
 
 #[test]
 fn a_hash_map_shows_its_pairs(rt: HostRuntime) -> Result<(), Fail> {
-    let map = hash_map_of_two(rt.alloc())?;
-    expect_exact(
-        &rt,
-        rt.alloc(),
-        &map,
-        "HashMap 40\nHashMap;data 4\nHashMap;data;key;u8 2\nHashMap;data;value;u8 2\n",
-    )
-}
-
-fn tree_set_of_two(alloc: Global) -> Result<BTreeSet<u32>, Fail> {
-    let mut set = BTreeSet::new(alloc);
-    set.insert(1)?;
-    set.insert(2)?;
-    Ok(set)
+    let mut map: HashMap<u8, u8> = HashMap::new(rt.alloc());
+    map.insert(1, 1)?;
+    map.insert(2, 2)?;
+    let text = "HashMap 40\nHashMap;data 4\nHashMap;data;key;u8 2\nHashMap;data;value;u8 2\n";
+    expect_exact(&rt, &map, text)
 }
 
 #[test]
 fn a_tree_set_shows_its_keys(rt: HostRuntime) -> Result<(), Fail> {
-    let set = tree_set_of_two(rt.alloc())?;
-    expect_exact(
-        &rt,
-        rt.alloc(),
-        &set,
-        "BTreeSet 16\nBTreeSet;data;key;u32 8\n",
-    )
-}
-
-fn tree_map_of_two(alloc: Global) -> Result<BTreeMap<u8, u8>, Fail> {
-    let mut map = BTreeMap::new(alloc);
-    map.insert(1, 1)?;
-    map.insert(2, 2)?;
-    Ok(map)
+    let mut set: BTreeSet<u32> = BTreeSet::new(rt.alloc());
+    set.insert(1)?;
+    set.insert(2)?;
+    expect_exact(&rt, &set, "BTreeSet 16\nBTreeSet;data;key;u32 8\n")
 }
 
 #[test]
 fn a_tree_map_shows_its_pairs(rt: HostRuntime) -> Result<(), Fail> {
-    let map = tree_map_of_two(rt.alloc())?;
-    expect_exact(
-        &rt,
-        rt.alloc(),
-        &map,
-        "BTreeMap 16\nBTreeMap;data 4\nBTreeMap;data;key;u8 2\nBTreeMap;data;value;u8 2\n",
-    )
+    let mut map: BTreeMap<u8, u8> = BTreeMap::new(rt.alloc());
+    map.insert(1, 1)?;
+    map.insert(2, 2)?;
+    let text = "BTreeMap 16\nBTreeMap;data 4\nBTreeMap;data;key;u8 2\nBTreeMap;data;value;u8 2\n";
+    expect_exact(&rt, &map, text)
 }
 
 #[test]
 fn a_boxed_rc(rt: HostRuntime) -> Result<(), Fail> {
-    let object: Box<dyn Allocative> = Box::new(
-        rt.alloc(),
-        IdRc::new(rt.alloc(), 1u64, Identity::from(7))?,
-    )?;
-    expect_exact(
-        &rt,
-        rt.alloc(),
-        &*object,
-        "Rc;ptr 8\nRcInner 16\nRcInner;u64 8\n",
-    )
+    let number = IdRc::new(rt.alloc(), 1u64, Identity::from(7))?;
+    let object: Box<dyn Allocative> = Box::new(rt.alloc(), number)?;
+    expect_exact(&rt, &*object, "Rc;ptr 8\nRcInner 16\nRcInner;u64 8\n")
 }
 
 #[test]
 fn a_boxed_arc(rt: HostRuntime) -> Result<(), Fail> {
-    let object: Box<dyn Allocative> = Box::new(
-        rt.alloc(),
-        IdArc::new(rt.alloc(), 1u64, Identity::from(7))?,
-    )?;
-    expect_exact(
-        &rt,
-        rt.alloc(),
-        &*object,
-        "Arc;ptr 8\nArcInner 16\nArcInner;u64 8\n",
-    )
+    let number = IdArc::new(rt.alloc(), 1u64, Identity::from(7))?;
+    let object: Box<dyn Allocative> = Box::new(rt.alloc(), number)?;
+    expect_exact(&rt, &*object, "Arc;ptr 8\nArcInner 16\nArcInner;u64 8\n")
 }
 
 #[test]
 fn a_boxed_choice(rt: HostRuntime) -> Result<(), Fail> {
     let none: Option<HashMap<u8, Vec<u8>>> = None;
     let object: Box<dyn Allocative> = Box::new(rt.alloc(), none)?;
-    expect_exact(&rt, rt.alloc(), &*object, "Option 56\n")
+    expect_exact(&rt, &*object, "Option 56\n")
 }
 
 #[test]
 fn a_boxed_kept_value(rt: HostRuntime) -> Result<(), Fail> {
     let object: Box<dyn Allocative> = Box::new(rt.alloc(), ManuallyDrop::new(1u16))?;
-    expect_exact(&rt, rt.alloc(), &*object, "ManuallyDrop;inner;u16 2\n")
+    expect_exact(&rt, &*object, "ManuallyDrop;inner;u16 2\n")
 }
 
 #[test]
 fn a_boxed_array(rt: HostRuntime) -> Result<(), Fail> {
     let object: Box<dyn Allocative> = Box::new(rt.alloc(), [1u16, 2])?;
-    expect_exact(&rt, rt.alloc(), &*object, "u16;data;u16 4\n")
+    expect_exact(&rt, &*object, "u16;data;u16 4\n")
 }
 
 #[test]
 fn a_boxed_tree_map(rt: HostRuntime) -> Result<(), Fail> {
-    let object: Box<dyn Allocative> = Box::new(
-        rt.alloc(),
-        BTreeMap::<u8, String>::new(rt.alloc()),
-    )?;
-    expect_exact(&rt, rt.alloc(), &*object, "BTreeMap 16\nBTreeMap;data 8\n")
+    let map = BTreeMap::<u8, String>::new(rt.alloc());
+    let object: Box<dyn Allocative> = Box::new(rt.alloc(), map)?;
+    expect_exact(&rt, &*object, "BTreeMap 16\nBTreeMap;data 8\n")
 }
 
 #[test]
 fn an_array_of_vectors(rt: HostRuntime) -> Result<(), Fail> {
     let array = [[1u8].to_vec(rt.alloc())?, [2u8].to_vec(rt.alloc())?];
-    expect_exact(
-        &rt,
-        rt.alloc(),
-        &array,
-        "Vec;data;Vec 32\nVec;data;Vec;ptr 16\nVec;data;Vec;ptr;u8 2\n",
-    )
+    let text = "Vec;data;Vec 32\nVec;data;Vec;ptr 16\nVec;data;Vec;ptr;u8 2\n";
+    expect_exact(&rt, &array, text)
 }

@@ -1,19 +1,15 @@
 //! The text of one visit.
 use allocative::{Allocative, FlameGraphBuilder, FlameGraphOutput};
-use std::alloc::Global;
+use std::alloc::{AllocGlobal, Global};
 use std::process::Abort;
 use std::test::Fail;
-
-fn has_warnings(output: &FlameGraphOutput) -> Result<bool, Fail> {
-    Ok(!output.warnings()?.is_empty())
-}
 
 /// The text of one visit that gives no warning.
 pub(crate) fn text_of(alloc: Global, root: &dyn Allocative) -> Result<String, Fail> {
     let mut builder = FlameGraphBuilder::new(alloc)?;
     builder.visit_root(root)?;
     let output = builder.finish()?;
-    if has_warnings(&output)? {
+    if !output.warnings_text().is_empty() {
         return Err(Fail::new("a warning"));
     }
     Ok(output.flamegraph().write()?)
@@ -34,24 +30,22 @@ fn exact_text(alloc: Global, root: &dyn Allocative) -> Result<String, Fail> {
 
 /// Asserts the text of one visit.
 pub(crate) fn expect_text(
-    rt: &impl Abort,
-    alloc: Global,
+    rt: &(impl Abort + AllocGlobal),
     root: &dyn Allocative,
     want: &str,
 ) -> Result<(), Fail> {
-    let text = text_of(alloc, root)?;
+    let text = text_of(rt.alloc(), root)?;
     assert_eq!(rt; text.as_str(), want);
     Ok(())
 }
 
 /// Asserts the text of one visit without the lines of unused capacity.
 pub(crate) fn expect_exact(
-    rt: &impl Abort,
-    alloc: Global,
+    rt: &(impl Abort + AllocGlobal),
     root: &dyn Allocative,
     want: &str,
 ) -> Result<(), Fail> {
-    let text = exact_text(alloc, root)?;
+    let text = exact_text(rt.alloc(), root)?;
     assert_eq!(rt; text.as_str(), want);
     Ok(())
 }
