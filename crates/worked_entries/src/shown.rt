@@ -39,12 +39,28 @@ pub(crate) fn output_shown(alloc: Global, output: FlameGraphOutput) -> Result<Sh
     })
 }
 
+/// Adds the keys of a path, with `;` between them.
+fn push_path(text: &mut String, path: &[&'static str]) -> Result<(), AllocError> {
+    for (place, key) in path.iter().enumerate() {
+        if place > 0 {
+            text.push_str(";")?;
+        }
+        text.push_str(key)?;
+    }
+    Ok(())
+}
+
 /// The warnings of an output, made of its paths that have one.
 fn told(alloc: Global, output: &FlameGraphOutput) -> Result<String, AllocError> {
     let mut text = String::new(alloc);
     for warned in output.warned_paths() {
-        warned.push_warning(&mut text)?;
-        text.push_str("\n")?;
+        text.push_str("Incorrect size declaration for node `")?;
+        push_path(&mut text, &warned.path)?;
+        let (own, inside) = (warned.self_size, warned.children_size);
+        write!(
+            text,
+            "`, size of self: {own}, size of inline children: {inside}\n"
+        )?;
     }
     Ok(text)
 }
