@@ -23,10 +23,9 @@ pub use Rattle.allocative.specs.Closures.{called, refused_inside}
 pub use Rattle.allocative.specs.Exact.{CanTake, HasRoomFor, IsDeclared, MayRefuse, MayRefuseProfile, RefusesRightly, RunsRightly, ShowsContents, all_bytes, has_added, has_refused}
 pub use Rattle.allocative.specs.JsonShows.{stored_string}
 pub use Rattle.allocative.specs.Kinds.{state_of}
-pub use Rattle.allocative.specs.Lending.{LendsEntered}
 pub use Rattle.allocative.specs.Levels.{levels_shown}
 pub use Rattle.allocative.specs.Making.{Done, EntersFirst, Entry, KeepsCause, Makes, MakesOrGives, MakesPlan, Plan, entry_refused, first_refused, gives, inside_refused, made, made_none, makes, one}
-pub use Rattle.allocative.specs.Nested.{EndsWith, EndsWithout, IsRefusedSized, LendsCollector, LendsNested, LendsNestedSized, NestsSized, with_state}
+pub use Rattle.allocative.specs.Nested.{EndsWith, EndsWithout, IsRefusedSized, LendsCollector, LendsNestedSized, NestsSized, with_state}
 pub use Rattle.allocative.specs.Runs.{CountsRun, deref_entry, field_of, pair_shows}
 pub use Rattle.allocative.specs.Shared.{AnswersShared, told, turned}
 pub use Rattle.allocative.specs.StdShows.{in_any_order}
