@@ -1,14 +1,9 @@
 -- What is known of a document that was put, when the call returns later.
 use Rattle.std.proofs.Common.{◌≡◌, ℕ, List, Bool, true, Option, inl, inr, refl, subst, Result, Ok, Err}
-use Rattle.std.specs.Prelude.{IfOk, IsErr, IsOk, MatchBool, OnErr, OnOk, is_ok}
+use Rattle.std.specs.Prelude.{IfOk, IsErr, IsOk, MatchBool}
 use Rattle.allocative.specs.Shows.{Showing}
 use Rattle.allocative_service.specs.declared.ledger.Ledger.{Ledger}
 use Rattle.order_service.specs.Answers.{PutsDocument}
-
--- Whether a call succeeds says which of its clauses holds.
-pub answers : {A E : Type 0} (r : Result A E) (P Q : Type 0) → OnOk r P → OnErr r Q → MatchBool (is_ok r) P Q
-answers (Ok a) P Q p q = p
-answers (Err e) P Q p q = q
 
 -- An answer of true carries what it stands for.
 pub entered : {E : Type 0} (r : Result Bool E) (P Q : Type 0) → IfOk r (λ is. MatchBool is P Q) → r ≡ Ok true → P

@@ -47,10 +47,6 @@ abbrev pub EntersDocument : List ℕ → ℕ → Option ℕ → Showing → Ledg
 EntersDocument tenant key size p old new = (bytes : ℕ) × (had : Option ℕ) × (total : ℕ)
     × Declares (measure_of old) size p bytes × Enters tenant key bytes had total old new
 
--- Some bytes are entered for the tenant under the key.
-abbrev pub EntersBytes : List ℕ → ℕ → Ledger → Ledger → Type 0
-EntersBytes tenant key old new = (bytes : ℕ) × (had : Option ℕ) × (total : ℕ) × Enters tenant key bytes had total old new
-
 -- The note has the tenant's name, the key and the text, in strings of any capacity.
 abbrev pub IsNote : List ℕ → ℕ → List ℕ → Note → Type 0
 IsNote tenant key text note = (string_bytes note.tenant ≡ tenant) × (note.key ≡ key) × (string_bytes note.text ≡ text)
@@ -58,6 +54,14 @@ IsNote tenant key text note = (string_bytes note.tenant ≡ tenant) × (note.key
 -- The order has the tenant's name, in a string of any capacity, and the key. Nothing is said of its items.
 abbrev pub IsOrder : List ℕ → ℕ → Order → Type 0
 IsOrder tenant key order = (string_bytes order.tenant ≡ tenant) × (order.key ≡ key)
+
+module _ (note_size order_size : Option ℕ) (note_shows : Note → Showing) (order_shows : Order → Showing) where
+  -- The bytes that a document of the draft declares are entered for the tenant under the key.
+  abbrev pub EntersDraft : List ℕ → ℕ → Draft → Ledger → Ledger → Type 0
+  EntersDraft tenant key (drafts.Note text) old new =
+      (note : Note) × IsNote tenant key text.now note × EntersDocument tenant key note_size (note_shows note) old new
+  EntersDraft tenant key (drafts.Order places) old new =
+      (order : Order) × IsOrder tenant key order × EntersDocument tenant key order_size (order_shows order) old new
 
 -- The tenant has an account with this limit and no document. It had none before.
 abbrev pub OpensAccount : List ℕ → ℕ → Ledger → Ledger → Type 0
@@ -169,18 +173,19 @@ module _ {A E : Type 0} (result : Result A E) (old new : Pages) where
   LosesPagesOf tenant account =
       (keys : List ℕ) × LosesPages tenant old keys new × OnOk result (keys ≡ keys_of account.entries)
 
-  module _ (before after : Ledger) where
+  module _ (before after : Ledger) (note_size order_size : Option ℕ) (note_shows : Note → Showing) (order_shows : Order → Showing) where
     -- Where a document is entered into the ledger, its page is removed and may be taken anew. The pages are unchanged only
     -- where nothing is entered or an error is returned.
-    abbrev pub PutsPage : List ℕ → ℕ → Type 0
-    PutsPage tenant key = ((new ≡ old) × (IsUnchanged before after ⊎ IsErr result))
-        ⊎ (EntersBytes tenant key before after × RenewsPage result old new tenant key)
+    abbrev pub PutsPage : List ℕ → ℕ → Draft → Type 0
+    PutsPage tenant key draft = ((new ≡ old) × (IsUnchanged before after ⊎ IsErr result))
+        ⊎ (EntersDraft note_size order_size note_shows order_shows tenant key draft before after
+        × RenewsPage result old new tenant key)
 
     -- What a request does to the pages, where the ledger was `before` and is `after` now. Only a request for a document or
     -- for the pages changes them.
     abbrev pub AnswersPages : Request → Type 0
     AnswersPages (asks.Close tenant) = MatchOption (account_of tenant.now before) (new ≡ old) (LosesPagesOf tenant.now)
-    AnswersPages (asks.Put tenant key draft) = PutsPage tenant.now key
+    AnswersPages (asks.Put tenant key draft) = PutsPage tenant.now key draft
     AnswersPages (asks.Get tenant key) = UsesPage result old new tenant.now key
     AnswersPages (asks.Drop tenant key) = LosesPage result old new tenant.now key
     AnswersPages (asks.Bound bytes) = SetsBound bytes old new

@@ -1,7 +1,7 @@
 //! A service that keeps documents of its tenants, within a limit for each, and says what it holds.
 ghost use Rattle.std.specs.Prelude.{◌≡◌, MatchBool, MatchOption, IfErr, IfOk, OnErr, OnOk, is_some};
 ghost use Rattle.allocative_service.specs.Accounts.{IsUnchanged, account_of};
-ghost use Rattle.order_service.specs.Answers.{AnswersLedger, AnswersLimit, AnswersOpen, AnswersPages, ClosesAccount, EntersBytes, EntersDocument, IsPlace, IsTold, LosesPage, LosesPagesOf, PutsDocument, PutsDraft, PutsPage, RejectsDocument, ReleasesDocument, RenewsPage, SetsBound, TakesPage, UsesPage, entered_bytes};
+ghost use Rattle.order_service.specs.Answers.{AnswersLedger, AnswersLimit, AnswersOpen, AnswersPages, ClosesAccount, EntersDocument, IsPlace, IsTold, LosesPage, LosesPagesOf, PutsDocument, PutsDraft, PutsPage, RejectsDocument, ReleasesDocument, RenewsPage, SetsBound, TakesPage, UsesPage, entered_bytes};
 
 use crate::documents::{Held, Note, Order};
 use crate::request::{Draft, Request};
@@ -55,7 +55,9 @@ impl Service {
         ensures ledger { AnswersLedger result self.old.ledger self.new.ledger
             ⟦<Note as Described>⟧.size ⟦<Order as Described>⟧.size
             ⟦<Note as Allocative>⟧.may_show ⟦<Order as Allocative>⟧.may_show request.now }
-        ensures pages { AnswersPages result self.old.pages self.new.pages self.old.ledger self.new.ledger request.now }
+        ensures pages { AnswersPages result self.old.pages self.new.pages self.old.ledger self.new.ledger
+            ⟦<Note as Described>⟧.size ⟦<Order as Described>⟧.size
+            ⟦<Note as Allocative>⟧.may_show ⟦<Order as Allocative>⟧.may_show request.now }
     {
         match *request {
             Request::Open { tenant, limit } => self.open(rt, tenant, limit),
@@ -103,7 +105,9 @@ impl Service {
         ensures ledger { PutsDraft result self.old.ledger self.new.ledger
             ⟦<Note as Described>⟧.size ⟦<Order as Described>⟧.size
             ⟦<Note as Allocative>⟧.may_show ⟦<Order as Allocative>⟧.may_show tenant.now key draft.entry }
-        ensures pages { PutsPage result self.old.pages self.new.pages self.old.ledger self.new.ledger tenant.now key }
+        ensures pages { PutsPage result self.old.pages self.new.pages self.old.ledger self.new.ledger
+            ⟦<Note as Described>⟧.size ⟦<Order as Described>⟧.size
+            ⟦<Note as Allocative>⟧.may_show ⟦<Order as Allocative>⟧.may_show tenant.now key draft.entry }
     {
         match draft {
             Draft::Note(text) => {
@@ -138,7 +142,8 @@ impl Service {
         ensures ledger { PutsDocument result self.old.ledger self.new.ledger tenant.now key T.is_exact T.size
             (T.may_show document.now) }
         ensures answer { IfOk result (λ is_entered. MatchBool is_entered
-            (EntersBytes tenant.now key self.old.ledger self.new.ledger) (IsUnchanged self.old.ledger self.new.ledger)) }
+            (EntersDocument tenant.now key T.size (T.may_show document.now) self.old.ledger self.new.ledger)
+            (IsUnchanged self.old.ledger self.new.ledger)) }
         ensures pages { self.new.pages ≡ self.old.pages }
     {
         let answer = self.measure(tenant, key, document);
