@@ -15,10 +15,19 @@ from gate.verdicts import Check
 
 # Before a command that gets what other commands leave of the processors: the proofs that all else waits for go first.
 LAST = ["nice", "-n", "19"]
+# What a check may take, in bytes.
+MEMORY_OF_A_CHECK = 5_000_000_000
 # More than the bytes of any crate.
 WEIGHT_OF_A_PROGRAM = 2**40
 # The folders of a crate that a check reads.
 PARTS = ("src", "specs", "proofs", "c")
+
+
+def lanes_of_host() -> int:
+    """Returns how many checks run side by side: one a processor, as far as the free memory lasts."""
+    with open("/proc/meminfo", encoding="utf-8") as file:
+        free = next(int(it.split()[1]) * 1024 for it in file if it.startswith("MemAvailable:"))
+    return max(1, min(len(os.sched_getaffinity(0)), free // MEMORY_OF_A_CHECK))
 
 
 def libraries_of(top: str) -> dict[str, list[str]]:
