@@ -35,7 +35,7 @@ pub use Rattle.allocative_graph.specs.Representation.Children.{AddsUp, AddsUpInP
 pub use Rattle.allocative_graph.specs.Representation.Merged.{Added, Merged}
 pub use Rattle.allocative_graph.specs.Representation.Node.{IsNode, weight}
 pub use Rattle.allocative_graph.specs.Representation.NodeRows.{both, entries-node, first, len-child, node_sorted, second}
-pub use Rattle.allocative_graph.specs.Representation.PathRows.{HasRootAlone, IsSumByPath, joined_on, line_from, lines_below, sum_of_rows}
+pub use Rattle.allocative_graph.specs.Representation.PathRows.{IsSumByPath, joined_on, line_from, lines_below, sum_of_rows}
 pub use Rattle.allocative_graph.specs.Representation.Stacks.{nested, one_stack, sum_of_stacks}
 pub use Rattle.allocative_graph.specs.Sums.{Node, Sums, add, add_all, below, bytes_in, is_entered_in, is_unique_in, node_of, sums_of, together}
 pub use Rattle.allocative_graph.specs.declared.flamegraph.Child.{Child}

@@ -1,13 +1,11 @@
 //! Flame graphs: maps from paths of keys to sizes.
 ghost use Rattle.std.specs.Prelude.{◌≡◌, ◌+◌, ◌^◌, ◌<◌, ◌≤◌, ◌↔◌, ◌++◌, [], ◌∷◌, IfOk, IfErr, IfSome, IfNone, OnOk, OnErr, IsErrOf, string_bytes, map, length, is_ok};
-ghost use Rattle.std.specs.Bool.{OnFalse};
 ghost use Rattle.std.specs.List.{insert};
-ghost use Rattle.std.specs.Vec.{vec_capacity};
 ghost use Rattle.std.specs.FinMap as map;
 ghost use Rattle.allocative_graph.specs.Path.{key_cmp};
 ghost use Rattle.allocative_graph.specs.Format.{semicolon};
 ghost use Rattle.allocative_graph.specs.Graph.{add_self, total, text, default, sum_of, under, joined, IsTree, IsPartOfSum};
-ghost use Rattle.allocative_graph.specs.Representation.PathRows.{size_text, lines_from, lines_below, HasRootAlone};
+ghost use Rattle.allocative_graph.specs.Representation.PathRows.{size_text, lines_from, lines_below};
 ghost use Rattle.allocative_graph.specs.Reads.{AreChildren};
 ghost use Rattle.allocative_graph.specs.Representation.Node.{weight};
 ghost use Rattle.allocative_graph.specs.Representation.Children.{front_order, InOrder, IsFound, IsChildGap};
@@ -215,10 +213,7 @@ impl FlameGraph {
             };
             return put_child(&mut self.children, &mut self.children_size, child);
         }
-        let alloc = *self.children.allocator();
-        let merged = Vec::with_capacity(alloc, self.children.len() + children.len())?;
-        let mine = mem::replace(&mut self.children, merged);
-        interleave(mine, children, &mut self.children, &mut self.children_size)
+        interleave(&mut self.children, &mut self.children_size, children)
     }
 
     /// The collapsed stacks that `flamegraph.pl` reads: one line for each path but the root with a size other
@@ -233,27 +228,30 @@ impl FlameGraph {
         let alloc = *self.children.allocator();
         let mut text = String::new(alloc);
         let mut start = String::new(alloc);
-        match self.write_below(&mut start, &mut text) {
+        match self.write_below("", &mut start, &mut text) {
             Ok(()) => Ok(text),
             Err(_) => Err(Refusal::Memory),
         }
     }
 
-    // Appends the lines of all paths but the root, each after the given start of a line.
-    fn write_below(&self, start: &mut String, text: &mut String) -> Result<(), AllocError>
+    // Appends the lines of all paths but the root, each after the given start of a line and the separator.
+    fn write_below(
+        &self,
+        separator: &str,
+        start: &mut String,
+        text: &mut String,
+    ) -> Result<(), AllocError>
         ensures start { OnOk result (string_bytes start.new ≡ string_bytes start.old) }
         ensures text { OnOk result
             (string_bytes text.new
-            ≡ string_bytes text.old ++ lines_below (string_bytes start.old) (map.entries self.now)) }
+            ≡ string_bytes text.old ++ lines_below (string_bytes start.old ++ separator.now) (map.entries self.now)) }
     {
         let length = start.len();
         for child in &self.children {
+            start.push_str(separator)?;
             start.push_str(child.key.as_str())?;
             child.graph.write_own(start.as_str(), text)?;
-            if child.graph.has_children() {
-                start.push(';')?;
-                child.graph.write_below(start, text)?;
-            }
+            child.graph.write_below(";", start, text)?;
             start.truncate(length);
         }
         Ok(())
@@ -269,13 +267,6 @@ impl FlameGraph {
             push_line(path, self.node_size, text)?;
         }
         Ok(())
-    }
-
-    // Whether there are paths other than the root.
-    fn has_children(&self) -> bool
-        ensures { OnFalse result (HasRootAlone self.now) }
-    {
-        !self.children.is_empty()
     }
 }
 
@@ -345,12 +336,12 @@ fn place_of(children: &[Child], key: &Key) -> Result<usize, usize>
             Ordering::Greater => {}
         }
     }
-    place_by_halving(children, key)
+    place_by_halving(children, key.as_str())
 }
 
 // The place of the key among the children, or else the place where it belongs, by binary search.
 #[inline(never)]
-fn place_by_halving(children: &[Child], key: &Key) -> Result<usize, usize>
+fn place_by_halving(children: &[Child], key: &str) -> Result<usize, usize>
     requires { InOrder children.now }
     ensures found { IfOk result (IsFound children.now key.now) }
     ensures missing { IfErr result (IsChildGap children.now key.now) }
@@ -358,7 +349,7 @@ fn place_by_halving(children: &[Child], key: &Key) -> Result<usize, usize>
     children.binary_search_by(
         |child: &Child| -> Ordering
             ensures { result ≡ key_cmp child.entry.now.key key.entry.now }
-        { child.key.cmp(key) },
+        { child.key.as_str().cmp(key) },
     )
 }
 
@@ -405,25 +396,25 @@ fn put_at(children: &mut Vec<Child>, at: usize, child: Child) -> Result<(), Allo
     Ok(())
 }
 
-// Puts the merge of both lists into `children`, which has room for all. After an error it continues,
-// so that no child is lost. It is a call of its own, so that a merge of one child takes less of the stack.
+// Merges other children into `children`. After a refusal on the way it continues, so that no child is lost. It is a
+// call of its own, so that a merge of one child takes less of the stack.
 #[inline(never)]
 #[cycle(merge)]
 fn interleave(
-    mine: Vec<Child>,
-    theirs: Vec<Child>,
     children: &mut Vec<Child>,
     size: &mut usize,
+    theirs: Vec<Child>,
 ) -> Result<(), AllocError>
-    requires empty { children.old.items ≡ [] }
-    requires room { length mine.items + length theirs.items ≤ vec_capacity children.old }
-    requires mine { AreChildren mine.items }
+    requires mine { AreChildren children.old.items }
+    requires exact { size.old ≡ weight children.old.items }
     requires theirs { AreChildren theirs.items }
-    requires fits { weight mine.items + weight theirs.items < 2 ^ 64 }
-    ensures merged { Merged (is_ok result) mine.items theirs.items children.new.items }
+    requires fits { size.old + weight theirs.items < 2 ^ 64 }
+    ensures merged { Merged (is_ok result) children.old.items theirs.items children.new.items }
     ensures exact { size.new ≡ weight children.new.items }
 {
-    let mut mine = VecDeque::from(mine);
+    let alloc = *children.allocator();
+    let merged = Vec::with_capacity(alloc, children.len() + theirs.len())?;
+    let mut mine = VecDeque::from(mem::replace(children, merged));
     let mut theirs = VecDeque::from(theirs);
     let mut result = Ok(());
     *size = 0;

@@ -1,6 +1,6 @@
 -- Rows, which are paths with their sizes, and the sum of two graphs path by path.
 use Rattle.std.specs.Prelude.{◌≡◌, ℕ, ◌+◌, ◌||◌, ◌==◌, if◌then◌else◌, List, [], ◌∷◌, ◌++◌, flat_map, decimal}
-use Rattle.std.specs.FinMap.{contains_key, entries}
+use Rattle.std.specs.FinMap.{contains_key}
 use Rattle.allocative_graph.specs.Path.{Path}
 use Rattle.allocative_graph.specs.Format.{semicolon, space, newline}
 use Rattle.allocative_graph.specs.Graph.{Graph, size_at, is_root, joined}
@@ -34,10 +34,6 @@ line_below t r = if is_root r.0 || r.1 == 0 then [] else (t ++ (joined r.0 ++ si
 -- The lines of some paths, with t before each.
 abbrev pub lines_below : List ℕ → List (Path × ℕ) → List ℕ
 lines_below t rs = flat_map (line_below t) rs
-
--- The root is the only path.
-abbrev pub HasRootAlone : Graph → Type 0
-HasRootAlone g = (n : ℕ) × (entries g ≡ ([], n) ∷ [])
 
 -- Path by path r is the sum of g and h, and it has the paths of both.
 abbrev pub IsSumByPath : Graph → Graph → Graph → Type 0
