@@ -24,12 +24,12 @@ merged_none = record {
 }
 
 -- Children that did not change are a part of the sum.
-pub not_merged : (cs ds : List Child) → AreChildren cs → Merged false cs ds cs
-not_merged cs ds h = record {
+pub not_merged : {all : Bool} → all ≡ false → (cs ds : List Child) → AreChildren cs → Merged all cs ds cs
+not_merged failed cs ds h = record {
   children = h;
   above = λ k p q. p;
   part = λ k p. part_of_none (size_under cs k p) (size_under ds k p);
-  sum = λ w. absurd (true≢false (sym w));
+  sum = λ w. absurd (true≢false (sym w ∙ failed));
   at_most = omega arith;
 }
 

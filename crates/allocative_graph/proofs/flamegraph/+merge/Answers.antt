@@ -11,7 +11,7 @@ FlameGraph::merge-overflow_add-self t c = omega (arith, total_of_both c.self.vie
 -- The sums fit, since the totals do.
 pub FlameGraph::merge-invariant_of-self : goal.FlameGraph::merge-invariant_of-self
 FlameGraph::merge-invariant_of-self t c =
-    merged_node c.self.view_is c.self.invariant c.other.view_is c.other.invariant refl refl c.requires (not_merged _ c.other.inside.children.items c.self.invariant.children) c.self.invariant.exact
+    merged_node c.self.view_is c.self.invariant c.other.view_is c.other.invariant refl refl c.requires (not_merged refl _ c.other.inside.children.items c.self.invariant.children) c.self.invariant.exact
 
 pub FlameGraph::merge-returns-in_default : goal.FlameGraph::merge-returns-in_default
 FlameGraph::merge-returns-in_default t c =
@@ -34,37 +34,25 @@ FlameGraph::merge-invariant_of-self-then-len-lt2 t c =
     let one = one_of_length _ c.pop.new.self.items c.in-Some.child c.in-Some.ensures.items (omega (arith, c.len.ensures, c.other.inside.children.ok.0, c.if-len-lt2.true)) in
     merged_node c.self.view_is c.self.invariant c.other.view_is c.other.invariant refl (sym one) c.requires c.put_child.ensures.merged c.put_child.ensures.exact
 
-pub FlameGraph::merge-invariant_of-self-in_err-merged : goal.FlameGraph::merge-invariant_of-self-in_err-merged
-FlameGraph::merge-invariant_of-self-in_err-merged t c =
-    merged_node c.self.view_is c.self.invariant c.other.view_is c.other.invariant refl refl c.requires (not_merged _ c.other.inside.children.items c.self.invariant.children) c.self.invariant.exact
-
-pub FlameGraph::merge-returns-in_err-merged : goal.FlameGraph::merge-returns-in_err-merged
-FlameGraph::merge-returns-in_err-merged t c =
-    let err : is_ok c.from_residual.result ≡ false = search rules in
-    subst (λ b. Added b c.args.self.now c.args.other (node (c.self.inside.node_size + c.other.inside.node_size) c.self.inside.children.items)) (sym err)
-    (merged_graph c.self.view_is c.self.invariant c.other.view_is c.other.invariant refl refl (not_merged _ _ c.self.invariant.children))
-
 pub FlameGraph::merge-interleave-requires : goal.FlameGraph::merge-interleave-requires
 FlameGraph::merge-interleave-requires t c =
-    let ds = c.other.inside.children.items in
-    let fits = total_of_both c.self.view_is c.self.invariant c.other.view_is c.other.invariant in (
-      omega (arith, c.decreases, len_of_node c.other.view_is c.other.invariant),
-      (
-        ap (λ v. v.items) c.replace-mine.ensures.after ∙ c.in_ok-merged.ensures.items,
-        subst (λ (l : List Child). (length l + length ds ≤ vec_capacity c.replace-mine.new.dest) × (AreChildren l × (AreChildren ds × (weight l + weight ds < 2 ^ 64)))) (sym (ap (λ v. v.items) c.replace-mine.ensures.value)) (
-          omega (arith, c.in_ok-merged.ensures.capacity, c.len.ensures, c.len-2.ensures, c.self.inside.children.ok.0, c.other.inside.children.ok.0, ap vec_capacity c.replace-mine.ensures.after),
-          (c.self.invariant.children, (c.other.invariant.children, omega (arith, fits, c.requires))),
-        ),
-      ),
-    )
+    let fits = total_of_both c.self.view_is c.self.invariant c.other.view_is c.other.invariant in
+    (omega (arith, c.decreases, len_of_node c.other.view_is c.other.invariant), (c.self.invariant.children, (c.self.invariant.exact, (c.other.invariant.children, omega (arith, fits, c.self.invariant.exact, c.requires)))))
 
 pub FlameGraph::merge-invariant_of-self-2 : goal.FlameGraph::merge-invariant_of-self-2
 FlameGraph::merge-invariant_of-self-2 t c =
-    merged_node c.self.view_is c.self.invariant c.other.view_is c.other.invariant (ap (λ v. v.items) c.replace-mine.ensures.value) refl c.requires c.interleave.ensures.merged c.interleave.ensures.exact
+    merged_node c.self.view_is c.self.invariant c.other.view_is c.other.invariant refl refl c.requires c.interleave.ensures.merged c.interleave.ensures.exact
 
 pub FlameGraph::merge-returns : goal.FlameGraph::merge-returns
 FlameGraph::merge-returns t c =
-    merged_graph c.self.view_is c.self.invariant c.other.view_is c.other.invariant (ap (λ v. v.items) c.replace-mine.ensures.value) refl c.interleave.ensures.merged
+    merged_graph c.self.view_is c.self.invariant c.other.view_is c.other.invariant refl refl c.interleave.ensures.merged
+
+pub interleave-returns-in_err-merged-clause-merged : goal.interleave-returns-in_err-merged-clause-merged
+interleave-returns-in_err-merged-clause-merged t c = not_merged (search rules) _ c.args.theirs.items c.requires.mine
+
+pub interleave-loop-child-init : goal.interleave-loop-child-init
+interleave-loop-child-init t c =
+    rw (c.from-mine.ensures.0, ap (λ v. v.items) c.replace.ensures.value, c.from-theirs.ensures.0, c.replace.ensures.after, c.in_ok-merged.ensures.items) (search rules)
 
 pub interleave-loop-child-preserved : goal.interleave-loop-child-preserved
 interleave-loop-child-preserved t c =
