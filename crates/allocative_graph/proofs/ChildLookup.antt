@@ -1,12 +1,11 @@
 -- The sizes in the graph of a node are its own and those under the keys of its children.
 use Rattle.std.proofs.Common.{◌≡◌, ℕ, ◌+◌, ◌&&◌, true, false, cond, List, [], ◌∷◌, ◌++◌, Option, Some, None, refl, sym, ap, ◌∙◌, append-nil}
-use Rattle.allocative_graph.proofs.Common.{Less, Equal, Greater, eq_by_cmp, is_eq, ordering_then, get, entries, from_entries, same_entries_map, get-from_sorted, get-entries, find, Child, under, IsPartOfSum, under_rows, node, rows_of, IsSumByPath, Key, Path, key_cmp, path_cmp, node_sorted, entries-node, size_under, InOrder}
+use Rattle.allocative_graph.proofs.Common.{Less, Equal, Greater, eq_by_cmp, is_eq, ordering_then, get, entries, from_entries, same_entries_map, get-from_sorted, get-entries, find, Child, under, under_rows, node, rows_of, Key, Path, key_cmp, path_cmp, node_sorted, entries-node, size_under, InOrder}
 use Rattle.std.specs.declared.cmp.Ordering.{Ordering}
 use Rattle.std.specs.List.Sorted.{IsStrictlySortedBy}
 use Rattle.allocative_graph.proofs.Basics.{on_test}
 use Rattle.allocative_graph.proofs.Listing.{entries-from_entries-sorted}
-use Rattle.allocative_graph.specs.Representation.Children.{AreSum, ArePartOfSum}
-use Rattle.allocative_graph.proofs.ChildSizes.{none_above, part_of_sum}
+use Rattle.allocative_graph.proofs.ChildSizes.{none_above}
 
 -- The first option, or the second one where the first is None.
 abbrev or_else : Option ℕ → Option ℕ → Option ℕ
@@ -54,14 +53,11 @@ get-root n cs h = get-from_sorted path_cmp (([], n) ∷ rows_of cs) [] (node_sor
 pub get-under : (n : ℕ) (cs : List Child) (k : Key) (p : Path) → InOrder cs → get (node n cs) (k ∷ p) ≡ size_under cs k p
 get-under n cs k p h = get-from_sorted path_cmp (([], n) ∷ rows_of cs) (k ∷ p) (node_sorted n cs h) ∙ find-rows cs k p h
 
--- Nodes add up where their own sizes and their children do.
-pub node_sum : (m n : ℕ) (cs ds es : List Child) → InOrder cs → InOrder ds → InOrder es → AreSum cs ds es → IsSumByPath (node m cs) (node n ds) (node (m + n) es)
-node_sum m n cs ds es a b c s [] = rw (get-root m cs a, get-root n ds b, get-root (m + n) es c) (refl, refl)
-node_sum m n cs ds es a b c s (k ∷ p) = rw (get-under m cs k p a, get-under n ds k p b, get-under (m + n) es k p c) (s k p)
-
-pub node_part : (m n : ℕ) (cs ds es : List Child) → InOrder cs → InOrder ds → InOrder es → ArePartOfSum cs ds es → IsPartOfSum (node m cs) (node n ds) (node (m + n) es)
-node_part m n cs ds es a b c s [] = rw (get-root m cs a, get-root n ds b, get-root (m + n) es c) (part_of_sum (Some m) (Some n) (Some (m + n)) (refl, refl))
-node_part m n cs ds es a b c s (k ∷ p) = rw (get-under m cs k p a, get-under n ds k p b, get-under (m + n) es k p c) (s k p)
+-- What holds of the sizes of three nodes and of their children holds of what is at each path.
+pub node_each : (P : Option ℕ → Option ℕ → Option ℕ → Type 0) (l m n : ℕ) (cs ds es : List Child) → InOrder cs → InOrder ds → InOrder es → P (Some l) (Some m) (Some n)
+    → ((k : Key) (p : Path) → P (size_under cs k p) (size_under ds k p) (size_under es k p)) → (q : Path) → P (get (node l cs) q) (get (node m ds) q) (get (node n es) q)
+node_each P l m n cs ds es a b c own each [] = rw (get-root l cs a, get-root m ds b, get-root n es c) own
+node_each P l m n cs ds es a b c own each (k ∷ p) = rw (get-under l cs k p a, get-under m ds k p b, get-under n es k p c) (each k p)
 
 -- One child alone is in order.
 pub one_sorted : (c : Child) → InOrder (c ∷ [])

@@ -8,8 +8,7 @@ ghost use Rattle.allocative_graph.specs.Graph.{add_self, total, text, default, s
 ghost use Rattle.allocative_graph.specs.Representation.PathRows.{size_text, lines_from, lines_below};
 ghost use Rattle.allocative_graph.specs.Reads.{AreChildren};
 ghost use Rattle.allocative_graph.specs.Representation.Node.{weight};
-ghost use Rattle.allocative_graph.specs.Representation.Children.{front_order, InOrder, IsFound, IsChildGap};
-ghost use Rattle.allocative_graph.specs.Representation.Merged.{Added, Merged, IsNext};
+ghost use Rattle.allocative_graph.specs.Representation.Children.{front_order, InOrder, IsFound, IsChildGap, Added, Merged, IsNext};
 ghost use Rattle.allocative_graph.specs.declared.flamegraph.Child.{Child};
 
 use crate::key::Key;

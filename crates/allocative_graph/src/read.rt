@@ -4,7 +4,7 @@ ghost use Rattle.std.specs.Option.{SomeIff};
 ghost use Rattle.std.specs.List.Sorted.{IsPermutation};
 ghost use Rattle.allocative_graph.specs.Graph.{default};
 ghost use Rattle.allocative_graph.specs.Read.{keys_of, seen, IsStack, IsWrong, Means, IsFault, IsRead, Exceeds, ReadsBack};
-ghost use Rattle.allocative_graph.specs.Representation.Stacks.{one_stack, sum_of_stacks};
+ghost use Rattle.allocative_graph.specs.Representation.PathRows.{one_stack, sum_of_stacks};
 
 use crate::flamegraph::FlameGraph;
 use crate::key::Key;
@@ -173,6 +173,7 @@ fn read_lines(alloc: Global, text: &'static str) -> Result<Vec<Line>, ReadFault>
 }
 
 // The bytes of all lines together, or `None` where they do not fit.
+#[tactic(auto, using(std::proofs::Common::take_all))]
 fn total_of(lines: &[Line]) -> Option<usize>
     ensures { SomeIff result (sum_by (λ l. l.size) lines.now < 2 ^ 64) (sum_by (λ l. l.size) lines.now) }
 {
@@ -192,6 +193,7 @@ fn sort(lines: &mut Vec<Line>)
 }
 
 // The sum of the graphs of some lines.
+#[tactic(auto, using(std::proofs::Common::take_all))]
 fn add_up(alloc: Global, lines: &[Line]) -> Result<FlameGraph, Refusal>
     ensures { IfOk result (λ graph. graph ≡ sum_of_stacks default (map seen lines.now)) }
 {

@@ -37,6 +37,7 @@ impl FlameGraph {
 }
 
 // The sum of the totals of some children, or `None` where it does not fit.
+#[tactic(auto, using(std::proofs::Common::take_all))]
 fn total_size_of(children: &[Child]) -> Option<usize>
     ensures { SomeIff result (total_of children.now < 2 ^ 64) (total_of children.now) }
 {

@@ -1,8 +1,7 @@
 -- Where the last key is below the key, all keys are.
 use Rattle.std.proofs.Common.{◌≡◌, ◌-◌, ◌<◌, length, suc, sym, ap, subst, ◌∙◌, arith}
 use Rattle.allocative_graph.proofs.Common.{Less, Child, key_cmp}
-use Rattle.allocative_graph.proofs.ChildOrder.{key_same}
-use Rattle.allocative_graph.proofs.ChildSearch.{behind_last, at_last}
+use Rattle.allocative_graph.proofs.ChildOrder.{key_same, behind_last, at_last}
 use Rattle.allocative_graph.proofs.flamegraph.place_of.Goals as goal
 
 pub returns-in-Less-clause-missing : goal.returns-in-Less-clause-missing

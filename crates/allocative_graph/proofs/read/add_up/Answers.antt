@@ -1,5 +1,5 @@
-use Rattle.std.proofs.Common.{List, map, ap, arith, ◌∙◌, take_all}
-use Rattle.allocative_graph.proofs.Common.{Line, default, sum_of, sum_of_stacks, take_more, seen}
+use Rattle.std.proofs.Common.{ap, arith, ◌∙◌}
+use Rattle.allocative_graph.proofs.Common.{sum_of, take_more}
 use Rattle.allocative_graph.proofs.StackSums.{line-more}
 use Rattle.allocative_graph.proofs.read.add_up.Goals as goal
 
@@ -8,6 +8,3 @@ loop-line-preserved c =
     let ls = c.args.lines.now in
     let i = c.loop-line.line-index in
     line-more ls i _ c.loop-line.graph c.add.new.self (take_more ls i _ (omega arith)) c.loop-line.invariant (c.in_ok-add.ensures.sum ∙ ap (sum_of c.loop-line.graph) c.in_ok-graph.ensures)
-
-pub returns : goal.returns
-returns c = c.loop-line.invariant ∙ ap (λ (ls : List Line). sum_of_stacks default (map seen ls)) (take_all c.loop-line.line-index c.args.lines.now (omega arith))

@@ -2,7 +2,7 @@ use Rattle.std.proofs.Common.{◌≡◌, length, sym, ◌∙◌, arith, lit<}
 use Rattle.allocative_graph.proofs.Common.{YieldsList-from_str_split}
 use Rattle.std.proofs.lemmas.Iterator.Consumers.{count_from_yields_List}
 use Rattle.allocative_graph.specs.Read.{keys_of}
-use Rattle.allocative_graph.proofs.Stacks.{no_space, cut_of, no_path, not_zero, stack_of}
+use Rattle.allocative_graph.proofs.ReadLines.{no_space, cut_of, no_path, not_zero, stack_of}
 use Rattle.allocative_graph.proofs.read.read_line.Goals as goal
 
 pub returns-in_default-clause-wrong : goal.returns-in_default-clause-wrong
