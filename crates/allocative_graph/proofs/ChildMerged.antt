@@ -204,12 +204,10 @@ module _ (c x : Child) (g : Graph) {cs ds : List Child} {i : ℕ} (same : ds ≡
       let same_key : c.key ≡ x.key = sym (here.same x) ∙ ap (λ (z : Child). z.key) (sym there) in
       subst₂ (λ l r. Merged all l (c ∷ []) r) (sym was) (sym now) (changed all (take i cs) (drop (suc i) cs) x c g (subst AreChildren was h) same_key sum)
 
-  pub weight_at_found : weight (set cs i (with_graph x g)) + total x.graph ≡ weight cs + total g
-  weight_at_found =
-      omega (arith, ap weight now ∙ weight-split (take i cs) (drop (suc i) cs) (with_graph x g), ap weight was ∙ weight-split (take i cs) (drop (suc i) cs) x)
-
-  pub weight_of_found : total x.graph ≤ weight cs
-  weight_of_found = omega (arith, ap weight was ∙ weight-split (take i cs) (drop (suc i) cs) x)
+  pub weights_found : (weight (set cs i (with_graph x g)) + total x.graph ≡ weight cs + total g) × (total x.graph ≤ weight cs)
+  weights_found =
+      let before = ap weight was ∙ weight-split (take i cs) (drop (suc i) cs) x in
+      (omega (arith, before, ap weight now ∙ weight-split (take i cs) (drop (suc i) cs) (with_graph x g)), omega (arith, before))
 
 -- ---- the key of c was not found, and belongs at i
 module _ (c : Child) {cs ds es : List Child} {i : ℕ} (same : ds ≡ cs) (missing : IsChildGap ds c.key i) (put : es ≡ take i cs ++ c ∷ drop i cs) where

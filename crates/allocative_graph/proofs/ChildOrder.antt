@@ -15,9 +15,6 @@ key_same = slice_cmp-IsAntisymmetric nat_cmp-IsAntisymmetric
 pub key_turn : (k l : Key) → key_cmp k l ≡ Greater → key_cmp l k ≡ Less
 key_turn k l h = nat_list_cmp_total.antisymm l k ∙ ap ordering_reverse h
 
-pub key_trans : (k l m : Key) → key_cmp k l ≡ Less → key_cmp l m ≡ Less → key_cmp k m ≡ Less
-key_trans = nat_list_cmp_total.trans
-
 -- ---- the first child, and those after it
 pub first_below : (c : Child) (cs : List Child) → AreChildren (c ∷ cs) → AllAbove cs c.key
 unfolding IsStrictlySortedBy
@@ -43,7 +40,7 @@ one_child c t = with_first c [] tt t no_children
 
 -- A key below that of the first child is below those of all.
 pub above_all : (k : Key) (c : Child) (cs : List Child) → key_cmp k c.key ≡ Less → AreChildren (c ∷ cs) → AllAbove (c ∷ cs) k
-above_all k c cs less h = (less, each-implies _ _ (λ l q. key_trans k c.key l less q) (keys_of cs) (first_below c cs h))
+above_all k c cs less h = (less, each-implies _ _ (λ l q. nat_list_cmp_total.trans k c.key l less q) (keys_of cs) (first_below c cs h))
 
 -- ---- a child in the middle
 pub all-at : (P : Key → Type 0) (a b : List Child) (x : Child) → AllByRecursion P (keys_of (a ++ x ∷ b)) → P x.key

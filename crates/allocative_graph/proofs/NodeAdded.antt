@@ -1,7 +1,6 @@
 -- Nodes are trees, and add up where their own sizes and their children do.
 use Rattle.std.proofs.Common.{◌≡◌, ℕ, ◌+◌, ◌<◌, ◌^◌, Bool, true, cond, List, [], ◌∷◌, ◌++◌, length, length-append, Some, refl, unwrap_or, sym, ap, subst, subst₂, ◌∙◌, arith}
-use Rattle.allocative_graph.proofs.Common.{is_some, eq_by_cmp, get, contains_key, entries, len, len-entries, Child, Key, Path, key_cmp, Graph, IsTree, size_at, total, under, node, rows_of, rows_of_child, AreChildren, IsNode, weight, size_under, AddsUp, AddsUpInPart, Added, Merged, entries-node, len-child}
-use Rattle.allocative_graph.specs.Reads.{AllTrees}
+use Rattle.allocative_graph.proofs.Common.{AllByRecursion, is_some, eq_by_cmp, get, contains_key, entries, len, len-entries, Child, Key, Path, key_cmp, Graph, IsTree, size_at, total, under, node, rows_of, rows_of_child, AreChildren, IsNode, weight, size_under, AddsUp, AddsUpInPart, Added, Merged, entries-node, len-child}
 use Rattle.allocative_graph.proofs.Basics.{on_test}
 use Rattle.allocative_graph.proofs.ChildLookup.{get-root, get-under, node_each, node_of_one}
 use Rattle.allocative_graph.proofs.ChildOrder.{one_child, first_tree}
@@ -9,7 +8,7 @@ use Rattle.allocative_graph.proofs.ChildRows.{weight-one}
 use Rattle.allocative_graph.proofs.ChildSizes.{part_of_sum}
 use Rattle.allocative_graph.proofs.NodeSizes.{total-node}
 
-has_parent : (cs : List Child) (l : Key) (p : Path) (k : Key) → AllTrees cs → is_some (size_under cs l (p ++ k ∷ [])) ≡ true → is_some (size_under cs l p) ≡ true
+has_parent : (cs : List Child) (l : Key) (p : Path) (k : Key) → AllByRecursion (λ (c : Child). IsTree c.graph) cs → is_some (size_under cs l (p ++ k ∷ [])) ≡ true → is_some (size_under cs l p) ≡ true
 has_parent [] l p k h e = e
 has_parent (c ∷ cs) l p k h e =
     on_test (λ b. is_some (cond b (get c.graph (p ++ k ∷ [])) (size_under cs l (p ++ k ∷ []))) ≡ true → is_some (cond b (get c.graph p) (size_under cs l p)) ≡ true) (eq_by_cmp key_cmp l c.key)

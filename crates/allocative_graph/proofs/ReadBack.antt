@@ -78,7 +78,7 @@ entries_read [] good [] h = refl
 entries_read [] good (s ∷ ss) h = absurd h
 entries_read (e ∷ es) good ss h =
     let f = stacks-first (body e) (map body es) ss (omega (arith, length-append (joined e.0) (32 ∷ decimal e.1))) h in
-    f.is ∙ (λ i. entry_read e good.0 f.first f.read i ∷ entries_read es good.1 f.others f.behind i)
+    f.2 ∙ (λ i. entry_read e good.0 f.0 f.3 i ∷ entries_read es good.1 f.1 f.4 i)
 
 lines-text : (g : Graph) → HasPlainKeys g → HasWords g → lines (text g) ≡ map body (shown g)
 lines-text g plain fits = ap lines (shown_lines (entries g)) ∙ lines-full (shown g) (each-implies Good _ (λ e good. good.plain) (shown g) (shown_good g plain fits))
@@ -144,7 +144,7 @@ said_stacks (e ∷ es) good h = stacks-cons (body e) (map body es) (said e) (map
 
 -- Where each line is a stack, none is not.
 no_fault : (before : List (List ℕ)) (line : List ℕ) (rest : List (List ℕ)) (ss : List Stack) → AreStacks (before ++ line ∷ rest) ss → 0 < length line → ((s : Stack) → IsStack line s → ⊥) → ⊥
-no_fault [] line rest ss h some none = let f = stacks-first line rest ss some h in none f.first f.read
+no_fault [] line rest ss h some none = let f = stacks-first line rest ss some h in none f.0 f.3
 no_fault ([] ∷ before) line rest ss h some none = no_fault before line rest ss h some none
 no_fault ((b ∷ bs) ∷ before) line rest [] h some none = h
 no_fault ((b ∷ bs) ∷ before) line rest (s ∷ ss) h some none = no_fault before line rest ss h.1 some none

@@ -2,6 +2,8 @@
 use Rattle.std.proofs.Common.{◌≡◌, ◌≢◌, ℕ, zero, suc, ◌+◌, ◌<◌, ◌≤◌, ◌==◌, true, false, cond, List, [], ◌∷◌, ◌++◌, length, get_or, take, drop, None, Some, refl, ap, sym, ◌∙◌, subst, arith, Bor, eqb-true, true≢false, take-append-drop, Bool, map, subst₂, append-nil, drop-cons}
 use Rattle.allocative_graph.proofs.Common.{LEVELS, LineFault, NoSpace, Lacks, Stack, IsStack, IsNumber, IsCut, IsWrong, number_of, nil_from_length, slice_split, lines, lines_of_parts, Line, AreStacks, IsFault, map_push, length-map, seen}
 use Rattle.std.specs.Str.Pattern.{RFindsChar}
+use Rattle.std.proofs.lemmas.Bool.{eqb-false}
+use Rattle.std.proofs.lemmas.List.Elements.{All-from_get_or, recursion_from_All}
 use Rattle.std.specs.Str.Parse.{AllDigits}
 use Rattle.std.specs.Char.{digit_value}
 use Rattle.std.proofs.lemmas.Str.Pattern.{NoCharPasses-char, drop_at_char}
@@ -14,8 +16,7 @@ use Rattle.std.proofs.lemmas.List.Sums.{count_by-le-length}
 use Rattle.allocative_graph.proofs.NodeText.{texts}
 
 lacks_from : (c : ℕ) (bs : List ℕ) → ((i : ℕ) → i < length bs → get_or bs i 0 ≢ c) → Lacks c bs
-lacks_from c [] h = tt
-lacks_from c (b ∷ bs) h = (h 0 (omega arith), lacks_from c bs (λ i l. h (suc i) (omega (arith, l))))
+lacks_from c bs h = recursion_from_All (λ b. b ≢ c) bs (All-from_get_or (λ b. b ≢ c) bs 0 h)
 
 -- What `rsplit_once` gives at a space.
 pub no_space : (bs : List ℕ) → RFindsChar 32 bs None → Lacks 32 bs
@@ -60,8 +61,7 @@ pub no_path : {line front back : List ℕ} → IsCut line front back → (length
 no_path {line = line} {front = front} {back = back} cut e = (back, subst (λ (f : List ℕ). IsCut line f back) (nil_from_length front (eqb-true (length front) 0 e)) cut)
 
 pub not_zero : (n : ℕ) → (n == 0) ≡ false → 0 < n
-not_zero zero e = absurd (true≢false e)
-not_zero (suc n) e = omega arith
+not_zero n e = omega (arith, eqb-false n 0 e)
 
 -- A line whose last space stands behind a path and before a number is a stack.
 pub stack_of : {line front back : List ℕ} {n : ℕ} → IsCut line front back → (length front == 0) ≡ false → IsNumber back × (n ≡ number_of back) → length (keys_of front) ≤ LEVELS
@@ -93,18 +93,12 @@ pub stacks-cons : (l : List ℕ) (ls : List (List ℕ)) (s : Stack) (ss : List S
 stacks-cons [] ls s ss is h = absurd (wrong_is_none NoSpace [] tt s is)
 stacks-cons (b ∷ bs) ls s ss is h = (is, h)
 
--- The first line is not blank, and these are its stack and those of the other lines.
-pub record IsFirst (l : List ℕ) (ls : List (List ℕ)) (ss : List Stack) : Type 0 where
-  pub first : Stack
-  pub others : List Stack
-  pub is : ss ≡ first ∷ others
-  pub read : IsStack l first
-  pub behind : AreStacks ls others
-
-pub stacks-first : (l : List ℕ) (ls : List (List ℕ)) (ss : List Stack) → 0 < length l → AreStacks (l ∷ ls) ss → IsFirst l ls ss
+-- Where the first line is not blank, there is its stack, and then those of the other lines.
+pub stacks-first : (l : List ℕ) (ls : List (List ℕ)) (ss : List Stack) → 0 < length l → AreStacks (l ∷ ls) ss
+    → (s : Stack) × (others : List Stack) × (ss ≡ s ∷ others) × IsStack l s × AreStacks ls others
 stacks-first [] ls ss some h = absurd (omega (arith, some))
 stacks-first (b ∷ bs) ls [] some h = absurd h
-stacks-first (b ∷ bs) ls (s ∷ ss) some h = record { first = s; others = ss; is = refl; read = h.0; behind = h.1 }
+stacks-first (b ∷ bs) ls (s ∷ ss) some h = (s, ss, refl, h.0, h.1)
 
 stacks-append : (ls : List (List ℕ)) (ss : List Stack) (ks : List (List ℕ)) (ts : List Stack) → AreStacks ls ss → AreStacks ks ts → AreStacks (ls ++ ks) (ss ++ ts)
 stacks-append [] [] ks ts h g = g

@@ -108,6 +108,7 @@ impl FlameGraph {
     }
 
     /// The sum of the sizes of all paths in bytes, including the root's own.
+    #[tactic(auto, using(crate::proofs::NodeAdded::total_of_node))]
     pub fn total_size(&self) -> usize
         ensures total { result ≡ total self.now }
 
@@ -120,6 +121,7 @@ impl FlameGraph {
     /// Adds bytes to the size of the root. It allocates nothing.
     ///
     /// It returns `TooLarge` exactly where the total would exceed `usize::MAX`, and then changes nothing.
+    #[tactic(auto, using(crate::proofs::NodeAdded::total_of_node))]
     pub fn add_self(&mut self, size: usize) -> Result<(), Refusal>
         ensures sum { OnOk result (self.new ≡ add_self size self.old) }
         ensures too_large { IsErrOf result Refusal.TooLarge ↔ (2 ^ 64 ≤ total self.old + size) }
@@ -158,6 +160,7 @@ impl FlameGraph {
     /// time quadratic in their number. [`add_children`](FlameGraph::add_children) adds many at once.
     ///
     /// The errors, and what they leave, are those of [`add`](FlameGraph::add).
+    #[tactic(auto, using(crate::proofs::NodeAdded::total_of_node))]
     pub fn add_child(&mut self, key: Key, child: FlameGraph) -> Result<(), Refusal>
         ensures sum { OnOk result (self.new ≡ sum_of self.old (under key child)) }
         ensures too_large { IsErrOf result Refusal.TooLarge ↔ (2 ^ 64 ≤ total self.old + total child) }
@@ -195,6 +198,7 @@ impl FlameGraph {
 
     // Adds another graph where the totals are known to fit.
     #[cycle(merge)]
+    #[tactic(auto, using(crate::proofs::NodeAdded::total_of_both))]
     fn merge(&mut self, other: FlameGraph) -> Result<(), AllocError>
         requires { total self.old + total other < 2 ^ 64 }
         ensures { Added (is_ok result) self.old other self.new }
@@ -227,10 +231,8 @@ impl FlameGraph {
         let alloc = *self.children.allocator();
         let mut text = String::new(alloc);
         let mut start = String::new(alloc);
-        match self.write_below("", &mut start, &mut text) {
-            Ok(()) => Ok(text),
-            Err(_) => Err(Refusal::Memory),
-        }
+        self.write_below("", &mut start, &mut text)?;
+        Ok(text)
     }
 
     // Appends the lines of all paths but the root, each after the given start of a line and the separator.

@@ -20,6 +20,7 @@ pub struct Row {
 
 impl FlameGraph {
     /// The size of the root alone, in bytes.
+    #[tactic(auto, using(crate::proofs::NodeAdded::own_of_node))]
     pub fn self_size(&self) -> usize
         ensures { result ≡ size_at self.now [] }
     {

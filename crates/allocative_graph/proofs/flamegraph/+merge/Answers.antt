@@ -1,11 +1,8 @@
 use Rattle.std.proofs.Common.{◌≡◌, ℕ, ◌+◌, ◌^◌, ◌<◌, ◌≤◌, false, rules, List, [], length, Some, refl, sym, ap, subst, ◌∙◌, arith, is_ok}
 use Rattle.allocative_graph.proofs.Common.{vec_capacity, Child, node, AreChildren, weight, Added, nil_from_length}
-use Rattle.allocative_graph.proofs.ChildMerged.{going_next, going_end, is_ok-and, not_merged, merged_same, next_less, next_greater, next_equal, both_fit, rows_fit, front_is, one_of_length, put_at_found, weight_at_found, weight_of_found, put_at_gap, weight_at_gap}
+use Rattle.allocative_graph.proofs.ChildMerged.{going_next, going_end, is_ok-and, not_merged, merged_same, next_less, next_greater, next_equal, both_fit, rows_fit, front_is, one_of_length, put_at_found, weights_found, put_at_gap, weight_at_gap}
 use Rattle.allocative_graph.proofs.NodeAdded.{len_of_node, total_of_both, merged_node, merged_graph, child_of_one}
 use Rattle.allocative_graph.proofs.flamegraph.+merge.Goals as goal
-
-pub FlameGraph::merge-overflow_add-self : goal.FlameGraph::merge-overflow_add-self
-FlameGraph::merge-overflow_add-self t c = omega (arith, total_of_both c.self.view_is c.self.invariant c.other.view_is c.other.invariant, c.requires)
 
 -- The sums fit, since the totals do.
 pub FlameGraph::merge-invariant_of-self : goal.FlameGraph::merge-invariant_of-self
@@ -86,14 +83,14 @@ take_next-returns-in-Equal-clause-next t c =
 pub put_child-merge-result-requires : goal.put_child-merge-result-requires
 put_child-merge-result-requires t c =
     let x : Child = c.index_mut-here.result.now in
-    let part = weight_of_found c.args.child x x.graph c.deref.ensures.value c.in-Ok.ensures.found c.index_mut-here.ensures.value in
-    (omega (arith, c.decreases), omega (arith, part, c.requires.exact, c.requires.fits))
+    let weights = weights_found c.args.child x x.graph c.deref.ensures.value c.in-Ok.ensures.found c.index_mut-here.ensures.value in
+    (omega (arith, c.decreases), omega (arith, weights.1, c.requires.exact, c.requires.fits))
 
 pub put_child-overflow_sub-size : goal.put_child-overflow_sub-size
 put_child-overflow_sub-size t c =
     let x : Child = c.index_mut-here.result.now in
-    let part = weight_of_found c.args.child x x.graph c.deref.ensures.value c.in-Ok.ensures.found c.index_mut-here.ensures.value in
-    omega (arith, part, c.requires.exact, c.total_size-before.ensures.total)
+    let weights = weights_found c.args.child x x.graph c.deref.ensures.value c.in-Ok.ensures.found c.index_mut-here.ensures.value in
+    omega (arith, weights.1, c.requires.exact, c.total_size-before.ensures.total)
 
 pub put_child-returns-in-Ok-clause-merged : goal.put_child-returns-in-Ok-clause-merged
 put_child-returns-in-Ok-clause-merged t c =
@@ -103,9 +100,8 @@ pub put_child-returns-in-Ok-clause-exact : goal.put_child-returns-in-Ok-clause-e
 put_child-returns-in-Ok-clause-exact t c =
     let x : Child = c.index_mut-here.result.now in
     let g = c.merge-result.new.self in
-    let part = weight_of_found c.args.child x g c.deref.ensures.value c.in-Ok.ensures.found c.index_mut-here.ensures.value in
-    let change = weight_at_found c.args.child x g c.deref.ensures.value c.in-Ok.ensures.found c.index_mut-here.ensures.value in
-    omega (arith, part, change, c.requires.exact, c.total_size-before.ensures.total, c.total_size.ensures.total)
+    let weights = weights_found c.args.child x g c.deref.ensures.value c.in-Ok.ensures.found c.index_mut-here.ensures.value in
+    omega (arith, weights.0, weights.1, c.requires.exact, c.total_size-before.ensures.total, c.total_size.ensures.total)
 
 pub put_child-returns-in_ok-put_at-in-Err-clause-merged : goal.put_child-returns-in_ok-put_at-in-Err-clause-merged
 put_child-returns-in_ok-put_at-in-Err-clause-merged t c =

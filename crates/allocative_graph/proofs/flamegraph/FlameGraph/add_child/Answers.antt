@@ -9,9 +9,6 @@ use Rattle.allocative_graph.proofs.flamegraph.FlameGraph.add_child.Goals as goal
 grown : {all : Bool} {cs es : List Child} {d : Child} {size n : ℕ} → Merged all cs (d ∷ []) es → size ≡ weight es → n + weight cs + total d.graph < 2 ^ 64 → IsNode es size n
 grown {d = d} m exact fits = record { children = m.children; exact = exact; fits = omega (arith, m.at_most, weight-one d, exact, fits) }
 
-pub put_child-requires-clause-fits : goal.put_child-requires-clause-fits
-put_child-requires-clause-fits c = omega (arith, total_of_node c.self.view_is c.self.invariant, c.self.invariant.exact, c.total_size.ensures.total, c.total_size-2.ensures.total, c.if-total_size.false)
-
 pub invariant_of-self : goal.invariant_of-self
 invariant_of-self c =
     grown c.put_child.ensures.merged c.put_child.ensures.exact (omega (arith, total_of_node c.self.view_is c.self.invariant, c.total_size.ensures.total, c.total_size-2.ensures.total, c.if-total_size.false))

@@ -10,7 +10,7 @@ returns-then-is_none-clause-too_large c = λ e.
 
 pub returns-in-Ok-clause-graph : goal.returns-in-Ok-clause-graph
 returns-in-Ok-clause-graph c =
-    is_read c.args.text.now c.in_ok-lines.lines.items c.sort.new.lines.items c.in-Ok.graph c.in_ok-lines.ensures.ok c.sort.ensures
+    is_read c.args.text.now c.in_ok-lines.lines.items c.sort_unstable_by.new.self.items c.in-Ok.graph c.in_ok-lines.ensures.ok c.sort_unstable_by.ensures.permutation
     (c.in-Ok.ensures ∙ ap (λ (xs : List Line). sum_of_stacks default (map seen xs)) c.as_slice-2.ensures.value)
 
 pub returns-in-Ok-clause-reads_back : goal.returns-in-Ok-clause-reads_back
