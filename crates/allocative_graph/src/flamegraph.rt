@@ -198,7 +198,7 @@ impl FlameGraph {
 
     // Adds another graph where the totals are known to fit.
     #[cycle(merge)]
-    #[tactic(auto, using(crate::proofs::NodeAdded::total_of_both))]
+    #[tactic(auto, using(crate::proofs::NodeAdded::total_of_both, crate::proofs::NodeAdded::merged_node))]
     fn merge(&mut self, other: FlameGraph) -> Result<(), AllocError>
         requires { total self.old + total other < 2 ^ 64 }
         ensures { Added (is_ok result) self.old other self.new }
@@ -356,6 +356,7 @@ fn place_by_halving(children: &[Child], key: &str) -> Result<usize, usize>
 
 // Adds a child: to the child with its key, or at its place among the others.
 #[cycle(merge)]
+#[tactic(auto, using(crate::proofs::ChildMerged::weight_at_gap))]
 fn put_child(children: &mut Vec<Child>, size: &mut usize, child: Child) -> Result<(), AllocError>
     requires children { AreChildren children.old.items }
     requires exact { size.old ≡ weight children.old.items }
@@ -401,6 +402,7 @@ fn put_at(children: &mut Vec<Child>, at: usize, child: Child) -> Result<(), Allo
 // call of its own, so that a merge of one child takes less of the stack.
 #[inline(never)]
 #[cycle(merge)]
+#[tactic(auto, using(crate::proofs::ChildMerged::not_merged))]
 fn interleave(
     children: &mut Vec<Child>,
     size: &mut usize,

@@ -4,11 +4,6 @@ use Rattle.allocative_graph.proofs.ChildMerged.{going_next, going_end, is_ok-and
 use Rattle.allocative_graph.proofs.NodeAdded.{len_of_node, total_of_both, merged_node, merged_graph, child_of_one}
 use Rattle.allocative_graph.proofs.flamegraph.+merge.Goals as goal
 
--- The sums fit, since the totals do.
-pub FlameGraph::merge-invariant_of-self : goal.FlameGraph::merge-invariant_of-self
-FlameGraph::merge-invariant_of-self t c =
-    merged_node c.self.view_is c.self.invariant c.other.view_is c.other.invariant refl refl c.requires (not_merged refl _ c.other.inside.children.items c.self.invariant.children) c.self.invariant.exact
-
 pub FlameGraph::merge-returns-in_default : goal.FlameGraph::merge-returns-in_default
 FlameGraph::merge-returns-in_default t c =
     let none : [] ≡ c.other.inside.children.items = sym (nil_from_length _ (sym c.other.inside.children.ok.0 ∙ c.in_default.ensures.cases.0)) in
@@ -35,16 +30,9 @@ FlameGraph::merge-interleave-requires t c =
     let fits = total_of_both c.self.view_is c.self.invariant c.other.view_is c.other.invariant in
     (omega (arith, c.decreases, len_of_node c.other.view_is c.other.invariant), (c.self.invariant.children, (c.self.invariant.exact, (c.other.invariant.children, omega (arith, fits, c.self.invariant.exact, c.requires)))))
 
-pub FlameGraph::merge-invariant_of-self-2 : goal.FlameGraph::merge-invariant_of-self-2
-FlameGraph::merge-invariant_of-self-2 t c =
-    merged_node c.self.view_is c.self.invariant c.other.view_is c.other.invariant refl refl c.requires c.interleave.ensures.merged c.interleave.ensures.exact
-
 pub FlameGraph::merge-returns : goal.FlameGraph::merge-returns
 FlameGraph::merge-returns t c =
     merged_graph c.self.view_is c.self.invariant c.other.view_is c.other.invariant refl refl c.interleave.ensures.merged
-
-pub interleave-returns-in_err-merged-clause-merged : goal.interleave-returns-in_err-merged-clause-merged
-interleave-returns-in_err-merged-clause-merged t c = not_merged (search rules) _ c.args.theirs.items c.requires.mine
 
 pub interleave-loop-child-init : goal.interleave-loop-child-init
 interleave-loop-child-init t c =
@@ -106,8 +94,3 @@ put_child-returns-in-Ok-clause-exact t c =
 pub put_child-returns-in_ok-put_at-in-Err-clause-merged : goal.put_child-returns-in_ok-put_at-in-Err-clause-merged
 put_child-returns-in_ok-put_at-in-Err-clause-merged t c =
     put_at_gap c.args.child c.deref.ensures.value c.in-Err.ensures.missing c.in_ok-put_at-in-Err.ensures.items c.requires.children c.requires.tree
-
-pub put_child-returns-in_ok-put_at-in-Err-clause-exact : goal.put_child-returns-in_ok-put_at-in-Err-clause-exact
-put_child-returns-in_ok-put_at-in-Err-clause-exact t c =
-    let more = weight_at_gap c.args.child c.deref.ensures.value c.in-Err.ensures.missing c.in_ok-put_at-in-Err.ensures.items in
-    omega (arith, more, c.requires.exact, c.total_size-added.ensures.total)
