@@ -1,6 +1,6 @@
 -- A node's graph with another size at its root, and its total.
 use Rattle.std.proofs.Common.{◌≡◌, ℕ, ◌+◌, List, [], ◌∷◌, refl, sym, ap, ◌∙◌}
-use Rattle.allocative_graph.proofs.Common.{entries-insert, entries-from_sorted, same_entries_map, put, Child, Graph, entries, total, default, sum_of_rows, key_cmp, path_cmp, node, rows_of, entries-node, node_sorted, insert, keys_of}
+use Rattle.allocative_graph.proofs.Common.{entries-insert, entries-from_sorted, same_entries_map, put, Child, Graph, entries, total, default, sum_of_rows, key_cmp, path_cmp, node, rows_of, entries-node, insert, keys_of}
 use Rattle.std.specs.List.Sorted.{IsStrictlySortedBy}
 use Rattle.allocative_graph.proofs.Basics.{path_total}
 use Rattle.std.proofs.lemmas.List.Recursion.{is_sum_by}

@@ -1,5 +1,5 @@
 -- The lines of a text that is read: where one is cut, which are none, and one after another.
-use Rattle.std.proofs.Common.{◌≡◌, ◌≢◌, ℕ, zero, suc, ◌+◌, ◌<◌, ◌≤◌, ◌==◌, true, false, cond, List, [], ◌∷◌, ◌++◌, length, get_or, take, drop, None, Some, refl, ap, sym, ◌∙◌, subst, arith, Bor, eqb-true, true≢false, take-append-drop, Bool, map, subst₂, append-nil, drop-cons}
+use Rattle.std.proofs.Common.{◌≡◌, ◌≢◌, ℕ, suc, ◌+◌, ◌<◌, ◌≤◌, ◌==◌, true, false, cond, List, [], ◌∷◌, ◌++◌, length, get_or, take, drop, None, Some, refl, ap, sym, ◌∙◌, subst, arith, Bor, eqb-true, take-append-drop, Bool, map, subst₂, append-nil, drop-cons}
 use Rattle.allocative_graph.proofs.Common.{LEVELS, LineFault, NoSpace, Lacks, Stack, IsStack, IsNumber, IsCut, IsWrong, number_of, nil_from_length, slice_split, lines, lines_of_parts, Line, AreStacks, IsFault, map_push, length-map, seen}
 use Rattle.std.specs.Str.Pattern.{RFindsChar}
 use Rattle.std.proofs.lemmas.Bool.{eqb-false}

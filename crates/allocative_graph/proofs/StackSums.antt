@@ -1,5 +1,5 @@
 -- The graphs of stacks, path by path, and what they add up to in any order.
-use Rattle.std.proofs.Common.{◌≡◌, ℕ, ◌+◌, ◌^◌, ◌<◌, ◌≤◌, ◌||◌, ◌&&◌, Bool, true, false, cond, List, [], ◌∷◌, ◌++◌, map, take, Option, Some, None, is_some, refl, sym, ap, ◌∙◌, subst, true≢false, unwrap_or, sum_by, arith, zero-add}
+use Rattle.std.proofs.Common.{◌≡◌, ℕ, ◌+◌, ◌^◌, ◌<◌, ◌||◌, ◌&&◌, Bool, true, false, cond, List, [], ◌∷◌, ◌++◌, map, take, Option, Some, None, is_some, refl, sym, ap, ◌∙◌, subst, true≢false, unwrap_or, sum_by, arith, zero-add}
 use Rattle.allocative_graph.proofs.Common.{list_any, IsPermutation, is_eq, get, contains_key, get-insert, Line, Key, Path, key_cmp, path_cmp, is_same_path, Graph, size_at, total, begins, is_root, default, sum_of, under, add_self, Means, IsRead, Stack, bytes_at, is_path_of, all_bytes, nested, one_stack, sum_of_stacks, map_push, fold-map}
 use Rattle.std.specs.Option.{SomeIff}
 use Rattle.std.proofs.lemmas.List.Sums.{fold-append}

@@ -1,5 +1,5 @@
 -- The rows of a node are in the order of paths. They are therefore the entries of its graph, and each child has fewer.
-use Rattle.std.specs.Prelude.{◌≡◌, ℕ, ◌+◌, ◌≤◌, T, Bool, true, false, ◌&&◌, List, [], ◌∷◌, ◌++◌, length}
+use Rattle.std.specs.Prelude.{◌≡◌, ℕ, ◌+◌, ◌≤◌, T, Bool, ◌&&◌, List, [], ◌∷◌, ◌++◌, length}
 use Rattle.std.proofs.Common.{arith, length-append, ap, sym, subst, ◌∙◌}
 use Rattle.std.proofs.Math.Facts.{and_yes}
 pub use Rattle.std.proofs.Math.Facts.{yes_and as both}

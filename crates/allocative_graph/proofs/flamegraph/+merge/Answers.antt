@@ -1,6 +1,6 @@
-use Rattle.std.proofs.Common.{◌≡◌, ℕ, ◌+◌, ◌^◌, ◌<◌, ◌≤◌, false, rules, List, [], length, Some, refl, sym, ap, subst, ◌∙◌, arith, is_ok}
-use Rattle.allocative_graph.proofs.Common.{vec_capacity, Child, node, AreChildren, weight, Added, nil_from_length}
-use Rattle.allocative_graph.proofs.ChildMerged.{going_next, going_end, is_ok-and, not_merged, merged_same, next_less, next_greater, next_equal, both_fit, rows_fit, front_is, one_of_length, put_at_found, weights_found, put_at_gap, weight_at_gap}
+use Rattle.std.proofs.Common.{◌≡◌, ℕ, ◌+◌, rules, [], Some, refl, sym, ap, ◌∙◌, arith, is_ok}
+use Rattle.allocative_graph.proofs.Common.{Child, nil_from_length}
+use Rattle.allocative_graph.proofs.ChildMerged.{going_next, going_end, is_ok-and, merged_same, next_less, next_greater, next_equal, both_fit, rows_fit, front_is, one_of_length, put_at_found, weights_found, put_at_gap}
 use Rattle.allocative_graph.proofs.NodeAdded.{len_of_node, total_of_both, merged_node, merged_graph, child_of_one}
 use Rattle.allocative_graph.proofs.flamegraph.+merge.Goals as goal
 

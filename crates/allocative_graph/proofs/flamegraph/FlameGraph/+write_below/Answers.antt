@@ -1,5 +1,5 @@
 -- The start of a line is cut back to its length, and the lines of each child follow those before.
-use Rattle.std.proofs.Common.{◌≡◌, ◌++◌, [], ◌∷◌, List, ℕ, take, length, arith, ap, sym, subst, ◌∙◌, append_assoc, take_all, string_bytes}
+use Rattle.std.proofs.Common.{◌≡◌, ◌++◌, List, ℕ, take, arith, ap, sym, subst, ◌∙◌, append_assoc, take_all, string_bytes}
 use Rattle.std.proofs.lemmas.Str.{IsUtf8-append, IsCharBoundary-at_seam}
 use Rattle.std.specs.Str.{IsCharBoundary}
 use Rattle.allocative_graph.proofs.NodeAdded.{entries_of_node}

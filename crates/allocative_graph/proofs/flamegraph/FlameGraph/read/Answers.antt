@@ -1,4 +1,4 @@
-use Rattle.std.proofs.Common.{◌≡◌, ℕ, List, not, map, ap, subst, ◌∙◌}
+use Rattle.std.proofs.Common.{ℕ, List, not, map, ap, subst, ◌∙◌}
 use Rattle.allocative_graph.proofs.Common.{Line, default, IsRead, sum_of_stacks, seen}
 use Rattle.allocative_graph.proofs.ReadBack.{reads_back}
 use Rattle.allocative_graph.proofs.StackSums.{is_read, sum_exceeds}
