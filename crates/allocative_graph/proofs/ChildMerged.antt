@@ -37,11 +37,6 @@ module _ (P : Option ℕ → Option ℕ → Option ℕ → Type 0) (c : Child) (
       (λ e. subst (λ (y : Option ℕ). P (get c.graph p) y (get c.graph p)) (sym (none_above k c.key p ds e h)) (alone (get c.graph p)))
       (λ e. rest)
 
-  at_second : AllAbove cs c.key → ((y : Option ℕ) → P None y y) → P (size_under cs k p) (size_under (c ∷ ds) k p) (size_under (c ∷ es) k p)
-  at_second h alone = on_test (λ t. P (size_under cs k p) (cond t (get c.graph p) (size_under ds k p)) (cond t (get c.graph p) (size_under es k p))) (eq_by_cmp key_cmp k c.key)
-      (λ e. subst (λ (x : Option ℕ). P x (get c.graph p) (get c.graph p)) (sym (none_above k c.key p cs e h)) (alone (get c.graph p)))
-      (λ e. rest)
-
   at_both : (d : Child) (g : Graph) → d.key ≡ c.key → P (get c.graph p) (get d.graph p) (get g p) → P (size_under (c ∷ cs) k p) (size_under (d ∷ ds) k p) (size_under (with_graph c g ∷ es) k p)
   at_both d g same one = subst (λ l. P (size_under (c ∷ cs) k p) (cond (eq_by_cmp key_cmp k l) (get d.graph p) (size_under ds k p)) (size_under (with_graph c g ∷ es) k p)) (sym same)
       (on_test (λ t. P (cond t (get c.graph p) (size_under cs k p)) (cond t (get d.graph p) (size_under ds k p)) (cond t (get g p) (size_under es k p))) (eq_by_cmp key_cmp k c.key) (λ e. one) (λ e. rest))
@@ -60,8 +55,8 @@ module _ (b : Bool) (c : Child) (cs ds es : List Child) (m : Merged b cs ds es) 
   merged_second h g = record {
     children = with_first c es (m.above c.key h g) t m.children;
     above = λ k p q. (q.0, m.above k p q.1);
-    part = λ k p. at_second AddsUpInPart c cs ds es k p (m.part k p) h (λ y. part_of_sum None y y (AddsUp-second y));
-    sum = λ w k p. at_second AddsUp c cs ds es k p (m.sum w k p) h AddsUp-second;
+    part = λ k p. at_first (λ x y z. AddsUpInPart y x z) c ds cs es k p (m.part k p) h (λ y. part_of_sum None y y (AddsUp-second y));
+    sum = λ w k p. at_first (λ x y z. AddsUp y x z) c ds cs es k p (m.sum w k p) h AddsUp-second;
     at_most = omega (arith, m.at_most, weight-cons c ds, weight-cons c es);
   }
 

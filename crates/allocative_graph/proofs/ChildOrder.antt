@@ -1,5 +1,5 @@
 -- Children in the order of their keys: what the order says of the parts of a list, and what a search for a key finds.
-use Rattle.std.proofs.Common.{◌≡◌, ℕ, zero, suc, ◌<◌, List, [], ◌∷◌, ◌++◌, length, get_or, ap, subst₂, ◌∙◌, arith, ◌+◌, ◌≤◌, take, drop, Result, Ok, Err, IfOk, IfErr, refl, sym, subst}
+use Rattle.std.proofs.Common.{◌≡◌, ℕ, zero, suc, ◌<◌, List, [], ◌∷◌, ◌++◌, length, get_or, ap, subst₂, ◌∙◌, arith, ◌+◌, ◌-◌, ◌≤◌, take, drop, Result, Ok, Err, IfOk, IfErr, refl, sym, subst}
 use Rattle.allocative_graph.proofs.Common.{AllByRecursion, Less, Equal, Greater, ordering_reverse, nat_list_cmp_total, nat_cmp-IsAntisymmetric, slice_cmp-IsAntisymmetric, Child, Key, key_cmp, IsTree, AreChildren, InOrder, AllBelow, AllAbove, length-map, keys_of, is_lt, IsFound, IsChildGap}
 use Rattle.std.specs.List.Sorted.{IsStrictlySortedBy, IsSearchInRange, IsBinarySearchResult, IsNonDecreasingBy, IsSortedBy}
 use Rattle.std.proofs.lemmas.List.{get_or-map, drop_all, get_or_default}
@@ -86,13 +86,16 @@ module _ (cs : List Child) (o : InOrder cs) (k : Key) where
   }
 
   -- A key above the last one is above all, and belongs at the end.
-  pub behind_last : (n : ℕ) (d : Child) → length cs ≡ suc n → key_cmp (get_or cs n d).key k ≡ Less → IsChildGap cs k (length cs)
-  behind_last n d len less = record {
-    within = omega arith;
-    below = below_from cs (length cs) k (omega arith) (λ j e h. first_index _ (omega (arith, comparisons_rise j n e (omega arith) (omega arith), ap ordering_index (subst (λ (c : Child). key_cmp c.key k ≡ Less) (get_or_default cs n d e (omega arith)) less))));
-    above = subst (λ (s : List Child). AllAbove s k) (sym (drop_all (length cs) cs (omega arith))) tt;
-  }
+  pub behind_last : (d : Child) → 0 < length cs → key_cmp (get_or cs (length cs - 1) d).key k ≡ Less → IsChildGap cs k (length cs)
+  behind_last d some less =
+      let last = length cs - 1 in
+      let lower : (e : Child) → ordering_index (key_cmp (get_or cs last e).key k) ≡ 0 = λ e. ap ordering_index (subst (λ (c : Child). key_cmp c.key k ≡ Less) (get_or_default cs last d e (omega arith)) less) in
+      record {
+        within = omega arith;
+        below = below_from cs (length cs) k (omega arith) (λ j e h. first_index _ (omega (arith, comparisons_rise j last e (omega arith) (omega arith), lower e)));
+        above = subst (λ (s : List Child). AllAbove s k) (sym (drop_all (length cs) cs (omega arith))) tt;
+      }
 
--- A key that is at a place is found there.
-pub at_last : (cs : List Child) (k : Key) (n : ℕ) (d : Child) → n < length cs → (get_or cs n d).key ≡ k → IsFound cs k n
-at_last cs k n d within e = record { within = within; same = λ x. ap (λ (c : Child). c.key) (get_or_default cs n x d within) ∙ e }
+-- The key of the last child is found at the end.
+pub at_last : (cs : List Child) (k : Key) (d : Child) → 0 < length cs → (get_or cs (length cs - 1) d).key ≡ k → IsFound cs k (length cs - 1)
+at_last cs k d some e = record { within = omega arith; same = λ x. ap (λ (c : Child). c.key) (get_or_default cs (length cs - 1) x d (omega arith)) ∙ e }

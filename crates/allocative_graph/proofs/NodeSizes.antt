@@ -10,8 +10,8 @@ pub total-rows : (g : Graph) → total g ≡ sum_of_rows (entries g)
 total-rows g = sym (is_sum_by sum_of_rows (λ e. e.1) refl (λ e es. refl) (entries g))
 
 -- A node with no children has only the root.
-pub node-nil : node 0 [] ≡ default
-node-nil = same_entries_map _ _ (entries-from_sorted path_cmp (([], 0) ∷ []) tt ∙ sym (entries-from_entries-sorted (([], 0) ∷ []) tt))
+pub node_nil : node 0 [] ≡ default
+node_nil = same_entries_map _ _ (entries-from_sorted path_cmp (([], 0) ∷ []) tt ∙ sym (entries-from_entries-sorted (([], 0) ∷ []) tt))
 
 -- Changing a node's own size is changing the size at its root.
 pub node-insert : (n m : ℕ) (cs : List Child) → IsStrictlySortedBy key_cmp (keys_of cs) → node m cs ≡ insert (node n cs) [] m

@@ -12,7 +12,7 @@ use Rattle.std.proofs.lemmas.List.Filters.{sum_by-filter_both}
 use Rattle.std.proofs.lemmas.List.Splits.{slice_split_none, slice_split_at, length-slice_split}
 use Rattle.allocative_graph.specs.Read.{Exceeds, CanBeRead, keys_of}
 use Rattle.allocative_graph.proofs.Basics.{each-implies, false_from_ne_true, on_test, or_parts}
-use Rattle.allocative_graph.proofs.Text.{Plain, Sized, Good, is_shown, full, body, shown, shown_good, size_shown, shown_lines, full_body, body_lacks, decimal_lacks, bytes_in}
+use Rattle.allocative_graph.proofs.Text.{Plain, Sized, Good, is_shown, full, body, shown, good_entries, size_shown, shown_lines, full_body, body_lacks, decimal_lacks, bytes_in}
 use Rattle.allocative_graph.proofs.ReadLines.{stacks-cons, stacks-first, one_cut, cut_once}
 use Rattle.allocative_graph.proofs.StackSums.{same_begins}
 
@@ -81,7 +81,7 @@ entries_read (e ∷ es) good ss h =
     f.2 ∙ (λ i. entry_read e good.0 f.0 f.3 i ∷ entries_read es good.1 f.1 f.4 i)
 
 lines-text : (g : Graph) → HasPlainKeys g → HasWords g → lines (text g) ≡ map body (shown g)
-lines-text g plain fits = ap lines (shown_lines (entries g)) ∙ lines-full (shown g) (each-implies Good _ (λ e good. good.plain) (shown g) (shown_good g plain fits))
+lines-text g plain fits = ap lines (shown_lines (entries g)) ∙ lines-full (shown g) (each-implies Good _ (λ e good. good.plain) (shown g) (good_entries (entries g) plain fits))
 
 -- Graphs with one text have the same entries with a line.
 same_entry : (e f : Sized) → Good e → Good f → body e ≡ body f → e ≡ f
@@ -98,12 +98,12 @@ same_entries (e ∷ es) (f ∷ fs) a b h = λ i. same_entry e f a.0 b.0 (cc) i �
 
 pub text_tells : (g h : Graph) → HasPlainKeys g → HasPlainKeys h → HasWords g → HasWords h → text g ≡ text h → (k : Key) (p : Path) → size_at g (k ∷ p) ≡ size_at h (k ∷ p)
 text_tells g h a b v w e k p =
-    let same = same_entries (shown g) (shown h) (shown_good g a v) (shown_good h b w) (sym (lines-text g a v) ∙ ap lines e ∙ lines-text h b w) in
+    let same = same_entries (shown g) (shown h) (good_entries (entries g) a v) (good_entries (entries h) b w) (sym (lines-text g a v) ∙ ap lines e ∙ lines-text h b w) in
     size_shown g k p ∙ ap (λ es. bytes_in es (k ∷ p)) same ∙ sym (size_shown h k p)
 
 -- The stacks of the text of a graph are its entries that have a line.
 stacks_of_text : (g : Graph) → HasPlainKeys g → HasWords g → (ss : List Stack) → Means (text g) ss → ss ≡ map said (shown g)
-stacks_of_text g plain fits ss h = entries_read (shown g) (shown_good g plain fits) ss (subst (λ (ls : List (List ℕ)). AreStacks ls ss) (lines-text g plain fits) h)
+stacks_of_text g plain fits ss h = entries_read (shown g) (good_entries (entries g) plain fits) ss (subst (λ (ls : List (List ℕ)). AreStacks ls ss) (lines-text g plain fits) h)
 
 -- ---- the bytes at a path
 -- Stacks none of which begins with a path have no bytes there.
@@ -152,7 +152,7 @@ no_fault ((b ∷ bs) ∷ before) line rest (s ∷ ss) h some none = no_fault bef
 pub never_refused : (g : Graph) → HasPlainKeys g → HasWords g → CanBeRead g → (n : ℕ) (w : LineFault) → IsFault (text g) n w → ⊥
 never_refused g plain fits can n w fault =
     no_fault fault.before fault.line fault.rest (map said (shown g))
-    (subst (λ (ls : List (List ℕ)). AreStacks ls (map said (shown g))) (sym (lines-text g plain fits) ∙ fault.parts) (said_stacks (shown g) (shown_good g plain fits) can)) fault.some fault.none
+    (subst (λ (ls : List (List ℕ)). AreStacks ls (map said (shown g))) (sym (lines-text g plain fits) ∙ fault.parts) (said_stacks (shown g) (good_entries (entries g) plain fits) can)) fault.some fault.none
 
 -- ---- its bytes fit
 pub never_exceeds : (g : Graph) → HasPlainKeys g → HasWords g → Exceeds (text g) → ⊥

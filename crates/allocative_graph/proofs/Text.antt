@@ -77,15 +77,12 @@ body_lacks e h = each-append (λ b. b ≢ 10) (joined e.0) _ (joined_lacks e.0 h
 abbrev pub shown : Graph → List Sized
 shown g = filter is_shown (entries g)
 
-good_entries : (es : List Sized) → AllByRecursion (λ p. AllByRecursion Plain p) (map (λ e. e.0) es) → sum_by (λ e. e.1) es < 2 ^ 64 → AllByRecursion Good (filter is_shown es)
+pub good_entries : (es : List Sized) → AllByRecursion (λ p. AllByRecursion Plain p) (map (λ e. e.0) es) → sum_by (λ e. e.1) es < 2 ^ 64 → AllByRecursion Good (filter is_shown es)
 good_entries [] a b = tt
 good_entries (e ∷ es) a b =
     let parts = sum_by-cons (λ e. e.1) e es in
     let rest = good_entries es a.1 (omega (arith, parts)) in
     on_test (λ t. AllByRecursion Good (cond t (e ∷ filter is_shown es) (filter is_shown es))) (is_shown e) (λ h. (record { seen = h; plain = a.0; word = omega (arith, parts) }, rest)) (λ h. rest)
-
-pub shown_good : (g : Graph) → HasPlainKeys g → HasWords g → AllByRecursion Good (shown g)
-shown_good g plain fits = good_entries (entries g) plain fits
 
 -- ---- a size is that of the line at its path
 -- The bytes of some entries at a path.

@@ -87,6 +87,7 @@ impl Model for FlameGraph {
 impl FlameGraph {
     /// The graph that has only the root, with size 0. It allocates nothing; it keeps the
     /// allocator for what is added later.
+    #[tactic(auto, using(crate::proofs::NodeSizes::node_nil, crate::proofs::ChildOrder::no_children))]
     pub fn default(alloc: Global) -> FlameGraph
         ensures { result ≡ default }
     {

@@ -29,6 +29,7 @@ impl FlameGraph {
 
     /// The children of the root, in the order of their keys. No two have the same key. Together with the root's
     /// own size they are the whole graph. Each child has fewer paths, so a function may call itself on it.
+    #[tactic(auto, using(crate::proofs::NodeAdded::own_of_node))]
     pub fn children(&self) -> &[Child]
         ensures whole { self.now ≡ node (size_at self.now []) result.now }
         ensures children { AreChildren result.now }
