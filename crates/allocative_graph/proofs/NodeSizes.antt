@@ -14,9 +14,9 @@ pub node_nil : node 0 [] ≡ default
 node_nil = same_entries_map _ _ (entries-from_sorted path_cmp (([], 0) ∷ []) tt ∙ sym (entries-from_entries-sorted (([], 0) ∷ []) tt))
 
 -- Changing a node's own size is changing the size at its root.
-pub node-insert : (n m : ℕ) (cs : List Child) → IsStrictlySortedBy key_cmp (keys_of cs) → node m cs ≡ insert (node n cs) [] m
-node-insert n m cs h =
-    same_entries_map _ _ (entries-node m cs h ∙ sym (entries-insert path_total (node n cs) [] m ∙ ap (put path_cmp [] m) (entries-node n cs h)))
+pub insert_root : (n m : ℕ) (cs : List Child) → IsStrictlySortedBy key_cmp (keys_of cs) → insert (node n cs) [] m ≡ node m cs
+insert_root n m cs h =
+    same_entries_map _ _ (entries-insert path_total (node n cs) [] m ∙ ap (put path_cmp [] m) (entries-node n cs h) ∙ sym (entries-node m cs h))
 
 pub total-node : (n : ℕ) (cs : List Child) → IsStrictlySortedBy key_cmp (keys_of cs) → total (node n cs) ≡ n + sum_of_rows (rows_of cs)
 total-node n cs h = total-rows (node n cs) ∙ ap sum_of_rows (entries-node n cs h)

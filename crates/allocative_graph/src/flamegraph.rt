@@ -122,7 +122,7 @@ impl FlameGraph {
     /// Adds bytes to the size of the root. It allocates nothing.
     ///
     /// It returns `TooLarge` exactly where the total would exceed `usize::MAX`, and then changes nothing.
-    #[tactic(auto, using(crate::proofs::NodeAdded::total_of_node))]
+    #[tactic(auto, using(crate::proofs::NodeAdded::total_of_node, crate::proofs::NodeAdded::own_of_node, crate::proofs::NodeSizes::insert_root))]
     pub fn add_self(&mut self, size: usize) -> Result<(), Refusal>
         ensures sum { OnOk result (self.new ≡ add_self size self.old) }
         ensures too_large { IsErrOf result Refusal.TooLarge ↔ (2 ^ 64 ≤ total self.old + size) }

@@ -120,6 +120,7 @@ impl Line {
 }
 
 // Reads one line.
+#[tactic(auto, using(crate::proofs::ReadLines::no_space))]
 fn read_line(line: &'static str) -> Result<Line, LineFault>
     ensures ok { IfOk result (λ read. IsStack line.now (seen read)) }
     ensures wrong { IfErr result (λ w. IsWrong w line.now) }
