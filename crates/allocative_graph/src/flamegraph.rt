@@ -141,6 +141,7 @@ impl FlameGraph {
     /// It returns `TooLarge` exactly where the sum of the two totals exceeds `usize::MAX`, and then changes
     /// nothing. After `Memory` each path has its old size or that of the sum, all old paths are still there,
     /// and there is no path that the sum does not have. After an error `other` is dropped.
+    #[tactic(auto, using(crate::proofs::NodeAdded::added_sum))]
     pub fn add(&mut self, other: FlameGraph) -> Result<(), Refusal>
         ensures sum { OnOk result (self.new ≡ sum_of self.old other) }
         ensures too_large { IsErrOf result Refusal.TooLarge ↔ (2 ^ 64 ≤ total self.old + total other) }
@@ -182,6 +183,7 @@ impl FlameGraph {
 
     // A copy of the graph where it has only the root. It allocates nothing and makes no further call.
     #[inline(always)]
+    #[tactic(auto, using(std::proofs::lemmas::List::nil_from_length, crate::proofs::ChildOrder::no_children))]
     fn root_alone(&self) -> Option<FlameGraph>
         ensures { IfSome result (λ root. root ≡ self.now) }
     {

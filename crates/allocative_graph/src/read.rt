@@ -104,6 +104,7 @@ struct Line {
 
 impl Line {
     // The graph of the line alone.
+    #[tactic(auto, using(std::proofs::lemmas::List::nil_from_length))]
     fn graph(&self, alloc: Global) -> Result<FlameGraph, Refusal>
         ensures { IfOk result (λ graph. graph ≡ one_stack (seen self.now)) }
     {

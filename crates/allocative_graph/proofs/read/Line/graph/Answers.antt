@@ -21,8 +21,3 @@ loop-key-preserved c =
     ∙ sym (nested-push (texts rest) key.now c.loop-key.graph)
     ∙ ap (λ (ks : Path). nested ks c.loop-key.graph) (sym (ap texts c.in-Some.ensures.items ∙ map_push (λ (k : Bor (List ℕ)). k.now) rest key))
     ∙ c.loop-key.invariant
-
-pub returns : goal.returns
-returns c =
-    let none : c.loop-key.keys.items ≡ [] = nil_from_length c.loop-key.keys.items (omega (arith, c.in_default.ensures.cases.0, c.loop-key.keys.ok.0)) in
-    ap (λ (ks : List (Bor (List ℕ))). nested (texts ks) c.loop-key.graph) (sym none) ∙ c.loop-key.invariant
