@@ -98,9 +98,9 @@ is_read t ls sorted g means moved e =
 
 -- ---- the steps of the code
 -- One line more is added.
-pub line-more : (ls : List Line) (i : ℕ) (l : Line) (g h : Graph) → take (i + 1) ls ≡ take i ls ++ l ∷ [] → g ≡ sum_of_stacks default (map seen (take i ls)) → h ≡ sum_of g (one_stack (seen l))
+pub line_more : (ls : List Line) (i : ℕ) (l : Line) (g h : Graph) → take (i + 1) ls ≡ take i ls ++ l ∷ [] → g ≡ sum_of_stacks default (map seen (take i ls)) → h ≡ sum_of g (one_stack (seen l))
     → h ≡ sum_of_stacks default (map seen (take (i + 1) ls))
-line-more ls i l g h more was is =
+line_more ls i l g h more was is =
     is ∙ ap (λ (f : Graph). sum_of f (one_stack (seen l))) was
     ∙ sym (ap (λ xs. sum_of_stacks default (map seen xs)) more ∙ ap (sum_of_stacks default) (map_push seen (take i ls) l) ∙ fold-append (λ h s. sum_of h (one_stack s)) default (map seen (take i ls)) (seen l ∷ []))
 

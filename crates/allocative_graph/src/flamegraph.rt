@@ -262,6 +262,7 @@ impl FlameGraph {
     }
 
     // Appends the root's own line after the keys of its path.
+    #[tactic(auto, using(crate::proofs::NodeText::own_written, crate::proofs::NodeText::line_of_some, crate::proofs::NodeText::nothing_written))]
     fn write_own(&self, path: &str, text: &mut String) -> Result<(), AllocError>
         ensures { OnOk result
             (string_bytes text.new ++ lines_below (path.now ++ semicolon ∷ []) (map.entries self.now)

@@ -175,7 +175,7 @@ fn total_of(lines: &[Line]) -> Option<usize>
 }
 
 // The sum of the graphs of some lines.
-#[tactic(auto, using(std::proofs::Common::take_all))]
+#[tactic(auto, using(std::proofs::Common::take_all, crate::proofs::StackSums::line_more))]
 fn add_up(alloc: Global, lines: &[Line]) -> Result<FlameGraph, Refusal>
     ensures { IfOk result (λ graph. graph ≡ sum_of_stacks default (map seen lines.now)) }
 {
