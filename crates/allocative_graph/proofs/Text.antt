@@ -1,7 +1,7 @@
 -- A text determines the sizes: it splits into lines at the line feeds, a line at its last space, and a path at each
 -- `;`.
 use Rattle.std.proofs.Common.{◌≡◌, ◌≢◌, ℕ, zero, suc, ◌+◌, ◌^◌, ◌<◌, ◌≤◌, ◌/◌, ◌%◌, ◌==◌, Bool, false, cond, not, ◌||◌, T, IsTrue, List, [], ◌∷◌, ◌++◌, map, flat_map, filter, Some, refl, ap, sym, ◌∙◌, subst, arith, add-zero, zero-add, unwrap_or, append_assoc, decimal, sum_by, nat_lt, eqb-true, if◌then◌else◌}
-use Rattle.allocative_graph.proofs.Common.{AllByRecursion, entries, get-entries, entries_sorted, find, is_sorted, below_all, first, second, Key, Path, path_cmp, is_same_path, Graph, text_of_entries, joined, is_root, size_at, Lacks, HasPlainKeys, HasWords, sum_by-cons}
+use Rattle.allocative_graph.proofs.Common.{AllByRecursion, entries, get-entries, entries_sorted, find, is_sorted, below_all, first, second, Key, Path, path_cmp, is_same_path, Graph, text_of_entries, joined, is_root, size_at, Lacks, sum_by-cons}
 use Rattle.std.specs.Fmt.{digits, digits_onto, digit_glyph}
 use Rattle.std.proofs.lemmas.Bool.{not-false, not-true}
 use Rattle.std.proofs.lemmas.List.Elements.{All-weaker, filter_passes}

@@ -1,6 +1,5 @@
-use Rattle.std.proofs.Common.{sym, subst, ◌∙◌}
-use Rattle.allocative_graph.proofs.Common.{node, AreChildren}
-use Rattle.allocative_graph.proofs.NodeAdded.{own_of_node}
+use Rattle.std.proofs.Common.{sym, subst}
+use Rattle.allocative_graph.proofs.Common.{AreChildren}
 use Rattle.allocative_graph.proofs.Behind.{smaller_child}
 use Rattle.allocative_graph.proofs.flamegraph.FlameGraph.children.Goals as goal
 

@@ -1,5 +1,5 @@
-use Rattle.std.proofs.Common.{◌≡◌, [], List, Bor, ℕ, sym, ap, ◌∙◌, arith, lit<, Ok}
-use Rattle.allocative_graph.proofs.Common.{YieldsList-from_str_split, Path, default, sum_of, under, add_self, nested, map_push, nil_from_length}
+use Rattle.std.proofs.Common.{◌≡◌, List, Bor, ℕ, sym, ap, ◌∙◌, lit<, Ok}
+use Rattle.allocative_graph.proofs.Common.{YieldsList-from_str_split, Path, default, sum_of, under, add_self, nested, map_push}
 use Rattle.std.proofs.lemmas.Iterator.Consumers.{map_from_collect}
 use Rattle.allocative_graph.proofs.NodeText.{texts}
 use Rattle.allocative_graph.proofs.StackSums.{nested-push}
