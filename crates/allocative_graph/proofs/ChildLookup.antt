@@ -31,7 +31,8 @@ find-under : (k l : Key) (p : Path) (rs rest : List (Path × ℕ))
     → find path_cmp (k ∷ p) (under_rows l rs ++ rest) ≡ cond (eq_by_cmp key_cmp k l) (or_else (find path_cmp p rs) (find path_cmp (k ∷ p) rest)) (find path_cmp (k ∷ p) rest)
 find-under k l p [] rest = on_test (λ b. find path_cmp (k ∷ p) rest ≡ cond b (find path_cmp (k ∷ p) rest) (find path_cmp (k ∷ p) rest)) (eq_by_cmp key_cmp k l) (λ e. refl) (λ e. refl)
 find-under k l p (r ∷ rs) rest =
-    (λ i. cond (tie (key_cmp k l) (path_cmp p r.0) i) (Some r.1) (find-under k l p rs rest i)) ∙ one_more (eq_by_cmp key_cmp k l) (eq_by_cmp path_cmp p r.0) r.1 (find path_cmp p rs) (find path_cmp (k ∷ p) rest)
+    (λ i. cond (tie (key_cmp k l) (path_cmp p r.0) i) (Some r.1) (find-under k l p rs rest i))
+    ∙ one_more (eq_by_cmp key_cmp k l) (eq_by_cmp path_cmp p r.0) r.1 (find path_cmp p rs) (find path_cmp (k ∷ p) rest)
 
 pub find-rows : (cs : List Child) (k : Key) (p : Path) → InOrder cs → find path_cmp (k ∷ p) (rows_of cs) ≡ size_under cs k p
 unfolding IsStrictlySortedBy

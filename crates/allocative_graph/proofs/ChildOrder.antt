@@ -67,7 +67,8 @@ first_index Greater e = absurd (omega arith)
 module _ (cs : List Child) (o : InOrder cs) (k : Key) where
   sorted : IsSortedBy (λ (a b : Child). is_lt (key_cmp a.key b.key)) cs
   sorted i d low high =
-      let keys : key_cmp (get_or (keys_of cs) i []) (get_or (keys_of cs) (i + 1) []) ≡ Less = Less-from_sorted key_cmp (keys_of cs) i (i + 1) [] o (omega arith) (omega (arith, length-map {B = Key} cs (λ c. c.key))) in
+      let keys : key_cmp (get_or (keys_of cs) i []) (get_or (keys_of cs) (i + 1) []) ≡ Less =
+      Less-from_sorted key_cmp (keys_of cs) i (i + 1) [] o (omega arith) (omega (arith, length-map {B = Key} cs (λ c. c.key))) in
       let up = subst₂ (λ a b. key_cmp a b ≡ Less) (get_or-map (λ (c : Child). c.key) cs i d [] (omega arith)) (get_or-map (λ (c : Child). c.key) cs (i + 1) d [] (omega arith)) keys in
       ap is_lt (nat_list_cmp_total.antisymm (get_or cs (i + 1) d).key (get_or cs i d).key ∙ ap ordering_reverse up)
 
@@ -89,7 +90,8 @@ module _ (cs : List Child) (o : InOrder cs) (k : Key) where
   pub behind_last : (d : Child) → 0 < length cs → key_cmp (get_or cs (length cs - 1) d).key k ≡ Less → IsChildGap cs k (length cs)
   behind_last d some less =
       let last = length cs - 1 in
-      let lower : (e : Child) → ordering_index (key_cmp (get_or cs last e).key k) ≡ 0 = λ e. ap ordering_index (subst (λ (c : Child). key_cmp c.key k ≡ Less) (get_or_default cs last d e (omega arith)) less) in
+      let lower : (e : Child) → ordering_index (key_cmp (get_or cs last e).key k) ≡ 0 =
+      λ e. ap ordering_index (subst (λ (c : Child). key_cmp c.key k ≡ Less) (get_or_default cs last d e (omega arith)) less) in
       record {
         within = omega arith;
         below = below_from cs (length cs) k (omega arith) (λ j e h. first_index _ (omega (arith, comparisons_rise j last e (omega arith) (omega arith), lower e)));

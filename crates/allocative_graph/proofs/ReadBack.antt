@@ -152,7 +152,8 @@ no_fault ((b ∷ bs) ∷ before) line rest (s ∷ ss) h some none = no_fault bef
 pub never_refused : (g : Graph) → HasPlainKeys g → HasWords g → CanBeRead g → (n : ℕ) (w : LineFault) → IsFault (text g) n w → ⊥
 never_refused g plain fits can n w fault =
     no_fault fault.before fault.line fault.rest (map said (shown g))
-    (subst (λ (ls : List (List ℕ)). AreStacks ls (map said (shown g))) (sym (lines-text g plain fits) ∙ fault.parts) (said_stacks (shown g) (good_entries (entries g) plain fits) can)) fault.some fault.none
+    (subst (λ (ls : List (List ℕ)). AreStacks ls (map said (shown g))) (sym (lines-text g plain fits) ∙ fault.parts) (said_stacks (shown g) (good_entries (entries g) plain fits) can))
+    fault.some fault.none
 
 -- ---- its bytes fit
 pub never_exceeds : (g : Graph) → HasPlainKeys g → HasWords g → Exceeds (text g) → ⊥

@@ -110,7 +110,8 @@ nested-push [] k g = refl
 nested-push (l ∷ ks) k g = ap (λ (h : Graph). sum_of default (under l h)) (nested-push ks k g)
 
 -- Where the bytes of lines were added up in vain, they exceed a word.
-pub sum_exceeds : (t : List ℕ) (ls given : List Line) (o : Option ℕ) → Means t (map seen ls) → given ≡ ls → SomeIff o (sum_by (λ l. l.size) given < 2 ^ 64) (sum_by (λ l. l.size) given) → is_some o ≡ false → Exceeds t
+pub sum_exceeds : (t : List ℕ) (ls given : List Line) (o : Option ℕ) → Means t (map seen ls) → given ≡ ls
+    → SomeIff o (sum_by (λ l. l.size) given < 2 ^ 64) (sum_by (λ l. l.size) given) → is_some o ≡ false → Exceeds t
 sum_exceeds t ls given None means e h none =
     record { stacks = map seen ls; means = means; exceeds = omega (arith, h, ap (λ (xs : List Line). sum_by (λ l. l.size) xs) e, fold-map (λ n (s : Stack). n + s.size) seen 0 ls) }
 sum_exceeds t ls given (Some n) means e h none = absurd (true≢false none)

@@ -28,7 +28,8 @@ FlameGraph::merge-invariant_of-self-then-len-lt2 t c =
 pub FlameGraph::merge-interleave-requires : goal.FlameGraph::merge-interleave-requires
 FlameGraph::merge-interleave-requires t c =
     let fits = total_of_both c.self.view_is c.self.invariant c.other.view_is c.other.invariant in
-    (omega (arith, c.decreases, len_of_node c.other.view_is c.other.invariant), (c.self.invariant.children, (c.self.invariant.exact, (c.other.invariant.children, omega (arith, fits, c.self.invariant.exact, c.requires)))))
+    let rows = len_of_node c.other.view_is c.other.invariant in
+    (omega (arith, c.decreases, rows), (c.self.invariant.children, (c.self.invariant.exact, (c.other.invariant.children, omega (arith, fits, c.self.invariant.exact, c.requires)))))
 
 pub FlameGraph::merge-returns : goal.FlameGraph::merge-returns
 FlameGraph::merge-returns t c =

@@ -15,7 +15,8 @@ truncate-requires t c =
     let start = string_bytes c.args.start.now in
     let key = c.as_str.result.now in
     let now = longer c.args.separator.now key c.loop-child.invariant.start c.in_ok-push_str.ensures.bytes c.in_ok-push_str-2.ensures.bytes in
-    let place = IsCharBoundary-at_seam (string_bytes c.write_below.new.start) start (c.args.separator.now ++ key) (c.in_ok-write_below.ensures.start ∙ now) (IsUtf8-append c.args.separator.now key c.requires.0.1.0 c.as_str.utf8) in
+    let more = IsUtf8-append c.args.separator.now key c.requires.0.1.0 c.as_str.utf8 in
+    let place = IsCharBoundary-at_seam (string_bytes c.write_below.new.start) start (c.args.separator.now ++ key) (c.in_ok-write_below.ensures.start ∙ now) more in
     let at = subst (IsCharBoundary (string_bytes c.write_below.new.start)) (sym (c.len-length.ensures ∙ c.args.start.now.bytes.ok.0)) place in
     λ _. (at.0, λ _ within. at.1 within)
 
@@ -27,10 +28,11 @@ loop-child-preserved t c =
     let now = longer separator c.as_str.result.now c.loop-child.invariant.start c.in_ok-push_str.ensures.bytes c.in_ok-push_str-2.ensures.bytes in
     let line = now ∙ sym (append_assoc start separator c.as_str.result.now) ∙ ap (λ k. (start ++ separator) ++ k) c.as_str.ensures in
     let own = rw (c.as_str-in-loop-child.ensures.value, line) at c.in_ok-write_own.ensures in
+    let more = child_written (start ++ separator) c.deref-child-items.result.now c.loop-child.child-index child (string_bytes c.args.text.now) (omega arith) in
     let below = rw line at c.in_ok-write_below.ensures.text in
     record {
       start = c.truncate.ensures.bytes ∙ ap (take c.len-length.result) (c.in_ok-write_below.ensures.start ∙ now) ∙ cut_back start _ _ (c.len-length.ensures ∙ c.args.start.now.bytes.ok.0);
-      text = below ∙ own ∙ rw (c.loop-child.invariant.text, c.child-item.is) (child_written (start ++ separator) c.deref-child-items.result.now c.loop-child.child-index child (string_bytes c.args.text.now) (omega arith));
+      text = below ∙ own ∙ rw (c.loop-child.invariant.text, c.child-item.is) more;
     }
 
 pub returns-clause-text : goal.returns-clause-text

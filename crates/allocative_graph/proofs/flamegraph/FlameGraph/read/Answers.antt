@@ -6,7 +6,8 @@ use Rattle.allocative_graph.proofs.flamegraph.FlameGraph.read.Goals as goal
 
 pub returns-then-is_none-clause-too_large : goal.returns-then-is_none-clause-too_large
 returns-then-is_none-clause-too_large c = λ e.
-    sum_exceeds c.args.text.now c.in_ok-lines.lines.items c.as_slice.result.now c.total_of.result c.in_ok-lines.ensures.ok c.as_slice.ensures.value c.total_of.ensures (c.is_none.ensures ∙ ap not c.if-is_none.true)
+    sum_exceeds c.args.text.now c.in_ok-lines.lines.items c.as_slice.result.now c.total_of.result
+    c.in_ok-lines.ensures.ok c.as_slice.ensures.value c.total_of.ensures (c.is_none.ensures ∙ ap not c.if-is_none.true)
 
 pub returns-in-Ok-clause-graph : goal.returns-in-Ok-clause-graph
 returns-in-Ok-clause-graph c =

@@ -8,7 +8,8 @@ use Rattle.allocative_graph.proofs.read.Line.graph.Goals as goal
 pub loop-key-init : goal.loop-key-init
 loop-key-init c =
     let graph : c.add_self.new.self ≡ add_self c.args.self.now.size default = c.in_ok-add_self.ensures.sum ∙ ap (add_self c.args.self.now.size) c.default-graph.ensures in
-    let keys = map_from_collect {E = Unit {0}} (Ok c.in_ok-keys.keys) c.in_ok-keys.ensures.ran (YieldsList-from_str_split 59 c.args.self.now.path.now (lit< tt) c.split.ensures.text c.split.ensures.has_more c.split.ensures.pattern) in
+    let road = YieldsList-from_str_split 59 c.args.self.now.path.now (lit< tt) c.split.ensures.text c.split.ensures.has_more c.split.ensures.pattern in
+    let keys = map_from_collect {E = Unit {0}} (Ok c.in_ok-keys.keys) c.in_ok-keys.ensures.ran road in
     (λ i. nested (keys i) (graph i))
 
 pub loop-key-preserved : goal.loop-key-preserved
