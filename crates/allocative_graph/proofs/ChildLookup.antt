@@ -1,12 +1,11 @@
 -- The sizes in the graph of a node are its own and those under the keys of its children.
-use Rattle.std.proofs.Common.{◌≡◌, ℕ, ◌+◌, ◌&&◌, true, false, cond, List, [], ◌∷◌, ◌++◌, Option, Some, None, refl, sym, ap, ◌∙◌, append-nil}
-use Rattle.allocative_graph.proofs.Common.{Less, Equal, Greater, eq_by_cmp, is_eq, ordering_then, get, entries, from_entries, same_entries_map, get-from_sorted, get-entries, find, Child, under, IsPartOfSum, under_rows, node, rows_of, IsSumByPath, Key, Path, key_cmp, path_cmp, node_sorted, entries-node, size_under, InOrder}
+use Rattle.std.proofs.Common.{◌≡◌, ℕ, ◌&&◌, Bool, true, false, cond, List, [], ◌∷◌, ◌++◌, Option, Some, None, refl, sym, ap, ◌∙◌, append-nil}
+use Rattle.allocative_graph.proofs.Common.{Less, Equal, Greater, eq_by_cmp, is_eq, ordering_then, get, entries, from_entries, same_entries_map, get-from_sorted, get-entries, find, Child, under, under_rows, node, rows_of, Key, Path, key_cmp, path_cmp, node_sorted, entries-node, size_under, InOrder}
 use Rattle.std.specs.declared.cmp.Ordering.{Ordering}
 use Rattle.std.specs.List.Sorted.{IsStrictlySortedBy}
 use Rattle.allocative_graph.proofs.Basics.{on_test}
 use Rattle.allocative_graph.proofs.Listing.{entries-from_entries-sorted}
-use Rattle.allocative_graph.specs.Representation.Children.{AreSum, ArePartOfSum}
-use Rattle.allocative_graph.proofs.ChildSizes.{none_above, part_of_sum}
+use Rattle.allocative_graph.proofs.ChildSizes.{none_above}
 
 -- The first option, or the second one where the first is None.
 abbrev or_else : Option ℕ → Option ℕ → Option ℕ
@@ -22,31 +21,27 @@ tie Less r = refl
 tie Equal r = refl
 tie Greater r = refl
 
--- Under another key nothing is found.
-find-other : (k l : Key) (p : Path) (rs rest : List (Path × ℕ)) → eq_by_cmp key_cmp k l ≡ false
-    → find path_cmp (k ∷ p) (under_rows l rs ++ rest) ≡ find path_cmp (k ∷ p) rest
-find-other k l p [] rest e = refl
-find-other k l p (r ∷ rs) rest e =
-    ap (λ b. cond b (Some r.1) (find path_cmp (k ∷ p) (under_rows l rs ++ rest))) (tie (key_cmp k l) (path_cmp p r.0) ∙ ap (λ b. b && is_eq (path_cmp p r.0)) e) ∙ find-other k l p rs rest e
+one_more : (a b : Bool) (n : ℕ) (x y : Option ℕ) → cond (a && b) (Some n) (cond a (or_else x y) y) ≡ cond a (or_else (cond b (Some n) x) y) y
+one_more true true n x y = refl
+one_more true false n x y = refl
+one_more false b n x y = refl
 
--- Under the key that is looked up, the search is that of the rest of the path.
-find-same : (k l : Key) (p : Path) (rs rest : List (Path × ℕ)) → eq_by_cmp key_cmp k l ≡ true
-    → find path_cmp (k ∷ p) (under_rows l rs ++ rest) ≡ or_else (find path_cmp p rs) (find path_cmp (k ∷ p) rest)
-find-same k l p [] rest e = refl
-find-same k l p (r ∷ rs) rest e =
-    ap (λ b. cond b (Some r.1) (find path_cmp (k ∷ p) (under_rows l rs ++ rest))) (tie (key_cmp k l) (path_cmp p r.0) ∙ ap (λ b. b && is_eq (path_cmp p r.0)) e)
-    ∙ ap (λ o. cond (eq_by_cmp path_cmp p r.0) (Some r.1) o) (find-same k l p rs rest e)
-    ∙ on_test (λ b. cond b (Some r.1) (or_else (find path_cmp p rs) (find path_cmp (k ∷ p) rest)) ≡ or_else (cond b (Some r.1) (find path_cmp p rs)) (find path_cmp (k ∷ p) rest)) (eq_by_cmp path_cmp p r.0) (λ t. refl) (λ t. refl)
+-- Under the key that is looked up, the search is that of the rest of the path, and under another key nothing is found.
+find-under : (k l : Key) (p : Path) (rs rest : List (Path × ℕ))
+    → find path_cmp (k ∷ p) (under_rows l rs ++ rest) ≡ cond (eq_by_cmp key_cmp k l) (or_else (find path_cmp p rs) (find path_cmp (k ∷ p) rest)) (find path_cmp (k ∷ p) rest)
+find-under k l p [] rest = on_test (λ b. find path_cmp (k ∷ p) rest ≡ cond b (find path_cmp (k ∷ p) rest) (find path_cmp (k ∷ p) rest)) (eq_by_cmp key_cmp k l) (λ e. refl) (λ e. refl)
+find-under k l p (r ∷ rs) rest =
+    (λ i. cond (tie (key_cmp k l) (path_cmp p r.0) i) (Some r.1) (find-under k l p rs rest i))
+    ∙ one_more (eq_by_cmp key_cmp k l) (eq_by_cmp path_cmp p r.0) r.1 (find path_cmp p rs) (find path_cmp (k ∷ p) rest)
 
 pub find-rows : (cs : List Child) (k : Key) (p : Path) → InOrder cs → find path_cmp (k ∷ p) (rows_of cs) ≡ size_under cs k p
 unfolding IsStrictlySortedBy
 find-rows [] k p h = refl
-find-rows (c ∷ cs) k p h = on_test (λ b. eq_by_cmp key_cmp k c.key ≡ b → find path_cmp (k ∷ p) (rows_of (c ∷ cs)) ≡ cond b (get c.graph p) (size_under cs k p)) (eq_by_cmp key_cmp k c.key)
-    (λ e s.
-    find-same k c.key p (entries c.graph) (rows_of cs) e
-    ∙ ap (λ o. or_else (find path_cmp p (entries c.graph)) o) (find-rows cs k p h.1 ∙ none_above k c.key p cs e h.0)
-    ∙ or_else-none _ ∙ sym (get-entries c.graph p))
-    (λ e s. find-other k c.key p (entries c.graph) (rows_of cs) e ∙ find-rows cs k p h.1) refl
+find-rows (c ∷ cs) k p h =
+    let mine = find path_cmp p (entries c.graph) in
+    find-under k c.key p (entries c.graph) (rows_of cs) ∙ ap (λ o. cond (eq_by_cmp key_cmp k c.key) (or_else mine o) o) (find-rows cs k p h.1)
+    ∙ on_test (λ b. cond b (or_else mine (size_under cs k p)) (size_under cs k p) ≡ cond b (get c.graph p) (size_under cs k p)) (eq_by_cmp key_cmp k c.key)
+    (λ e. ap (or_else mine) (none_above k c.key p cs e h.0) ∙ or_else-none mine ∙ sym (get-entries c.graph p)) (λ e. refl)
 
 pub get-root : (n : ℕ) (cs : List Child) → InOrder cs → get (node n cs) [] ≡ Some n
 get-root n cs h = get-from_sorted path_cmp (([], n) ∷ rows_of cs) [] (node_sorted n cs h)
@@ -54,14 +49,11 @@ get-root n cs h = get-from_sorted path_cmp (([], n) ∷ rows_of cs) [] (node_sor
 pub get-under : (n : ℕ) (cs : List Child) (k : Key) (p : Path) → InOrder cs → get (node n cs) (k ∷ p) ≡ size_under cs k p
 get-under n cs k p h = get-from_sorted path_cmp (([], n) ∷ rows_of cs) (k ∷ p) (node_sorted n cs h) ∙ find-rows cs k p h
 
--- Nodes add up where their own sizes and their children do.
-pub node_sum : (m n : ℕ) (cs ds es : List Child) → InOrder cs → InOrder ds → InOrder es → AreSum cs ds es → IsSumByPath (node m cs) (node n ds) (node (m + n) es)
-node_sum m n cs ds es a b c s [] = rw (get-root m cs a, get-root n ds b, get-root (m + n) es c) (refl, refl)
-node_sum m n cs ds es a b c s (k ∷ p) = rw (get-under m cs k p a, get-under n ds k p b, get-under (m + n) es k p c) (s k p)
-
-pub node_part : (m n : ℕ) (cs ds es : List Child) → InOrder cs → InOrder ds → InOrder es → ArePartOfSum cs ds es → IsPartOfSum (node m cs) (node n ds) (node (m + n) es)
-node_part m n cs ds es a b c s [] = rw (get-root m cs a, get-root n ds b, get-root (m + n) es c) (part_of_sum (Some m) (Some n) (Some (m + n)) (refl, refl))
-node_part m n cs ds es a b c s (k ∷ p) = rw (get-under m cs k p a, get-under n ds k p b, get-under (m + n) es k p c) (s k p)
+-- What holds of the sizes of three nodes and of their children holds of what is at each path.
+pub node_each : (P : Option ℕ → Option ℕ → Option ℕ → Type 0) (l m n : ℕ) (cs ds es : List Child) → InOrder cs → InOrder ds → InOrder es → P (Some l) (Some m) (Some n)
+    → ((k : Key) (p : Path) → P (size_under cs k p) (size_under ds k p) (size_under es k p)) → (q : Path) → P (get (node l cs) q) (get (node m ds) q) (get (node n es) q)
+node_each P l m n cs ds es a b c own each [] = rw (get-root l cs a, get-root m ds b, get-root n es c) own
+node_each P l m n cs ds es a b c own each (k ∷ p) = rw (get-under l cs k p a, get-under m ds k p b, get-under n es k p c) (each k p)
 
 -- One child alone is in order.
 pub one_sorted : (c : Child) → InOrder (c ∷ [])

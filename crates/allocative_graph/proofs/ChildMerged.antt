@@ -1,48 +1,40 @@
--- Merging children: what the next child adds, and what is there at the end.
-use Rattle.std.proofs.Common.{◌≡◌, ℕ, ◌+◌, ◌<◌, ◌≤◌, ◌^◌, ◌&&◌, Bool, true, false, cond, List, [], ◌∷◌, ◌++◌, length, length-append, append_assoc, Option, Some, None, refl, sym, ap, subst, subst₂, ◌∙◌, arith, true≢false, Result, Ok, Err, append-nil, is_ok}
-use Rattle.allocative_graph.proofs.Common.{eq_by_cmp, Less, Equal, Greater, get, len, len-child, Child, Key, Path, key_cmp, Graph, IsTree, total, rows_of, rows_of_child, AreChildren, weight, size_under, AddsUp, AddsUpInPart, AllAbove, Added, Merged}
+-- Merging children: what the next child adds, what is there at the end, and one child put among others.
+use Rattle.std.proofs.Common.{◌≡◌, ℕ, ◌+◌, ◌<◌, ◌≤◌, ◌^◌, ◌&&◌, Bool, true, false, cond, List, [], ◌∷◌, ◌++◌, length, length-append, append_assoc, Option, Some, None, refl, sym, ap, subst, subst₂, ◌∙◌, arith, true≢false, Result, Ok, Err, append-nil, is_ok, suc, take, drop, drop-cons, set, get_or, take-append-drop}
+use Rattle.allocative_graph.proofs.Common.{eq_by_cmp, Less, Equal, Greater, get, len, len-child, Child, Key, Path, key_cmp, Graph, IsTree, total, rows_of, rows_of_child, AreChildren, weight, size_under, AddsUp, AddsUpInPart, AllAbove, Added, Merged, IsFound, IsChildGap, AllBelow}
 use Rattle.std.specs.Result.{result_and}
 use Rattle.std.specs.Option.{option_to_list}
-use Rattle.allocative_graph.specs.Representation.Children.{front_order}
-use Rattle.allocative_graph.specs.Representation.Merged.{IsNext}
+use Rattle.allocative_graph.specs.Representation.Children.{front_order, IsNext}
 use Rattle.allocative_graph.proofs.Basics.{on_test, and_assoc, and-true, and_parts}
-use Rattle.allocative_graph.proofs.ChildOrder.{first_below, first_tree, others, with_first, no_children, above_all, key_same, key_turn}
-use Rattle.allocative_graph.proofs.ChildRows.{weight-cons, weight-one, weight-append}
+use Rattle.allocative_graph.proofs.ChildOrder.{first_below, first_tree, others, with_first, no_children, above_all, key_same, key_turn, all-at}
+use Rattle.allocative_graph.proofs.ChildRows.{weight-cons, weight-one, weight-append, weight-split}
 use Rattle.allocative_graph.proofs.ChildSizes.{none_above, AddsUp-first, AddsUp-second, part_of_sum, part_of_none}
+use Rattle.std.proofs.lemmas.List.{set_split}
 
 -- A child with another graph.
 abbrev pub with_graph : Child → Graph → Child
 with_graph c g = record { key = c.key; graph = g }
 
-pub merged_none : Merged true [] [] []
-merged_none = record {
-  children = no_children;
-  above = λ k p q. tt;
-  part = λ k p. part_of_none None None;
-  sum = λ w k p. AddsUp-first None;
-  at_most = omega arith;
-}
-
--- Children that did not change are a part of the sum.
-pub not_merged : (cs ds : List Child) → AreChildren cs → Merged false cs ds cs
-not_merged cs ds h = record {
+-- Adding no child changes nothing. Children that did not change are a part of any sum.
+unchanged : {all : Bool} (cs ds : List Child) → AreChildren cs → (all ≡ true → [] ≡ ds) → Merged all cs ds cs
+unchanged cs ds h none = record {
   children = h;
   above = λ k p q. p;
   part = λ k p. part_of_none (size_under cs k p) (size_under ds k p);
-  sum = λ w. absurd (true≢false (sym w));
+  sum = λ w k p. subst (λ l. AddsUp (size_under cs k p) (size_under l k p) (size_under cs k p)) (none w) (AddsUp-first (size_under cs k p));
   at_most = omega arith;
 }
+
+pub merged_same : (cs : List Child) → AreChildren cs → Merged true cs [] cs
+merged_same cs h = unchanged cs [] h (λ w. refl)
+
+pub not_merged : {all : Bool} → all ≡ false → (cs ds : List Child) → AreChildren cs → Merged all cs ds cs
+not_merged failed cs ds h = unchanged cs ds h (λ w. absurd (true≢false (sym w ∙ failed)))
 
 -- ---- one child more at the front, of either list or of both
 module _ (P : Option ℕ → Option ℕ → Option ℕ → Type 0) (c : Child) (cs ds es : List Child) (k : Key) (p : Path) (rest : P (size_under cs k p) (size_under ds k p) (size_under es k p)) where
   at_first : AllAbove ds c.key → ((x : Option ℕ) → P x None x) → P (size_under (c ∷ cs) k p) (size_under ds k p) (size_under (c ∷ es) k p)
   at_first h alone = on_test (λ t. P (cond t (get c.graph p) (size_under cs k p)) (size_under ds k p) (cond t (get c.graph p) (size_under es k p))) (eq_by_cmp key_cmp k c.key)
       (λ e. subst (λ (y : Option ℕ). P (get c.graph p) y (get c.graph p)) (sym (none_above k c.key p ds e h)) (alone (get c.graph p)))
-      (λ e. rest)
-
-  at_second : AllAbove cs c.key → ((y : Option ℕ) → P None y y) → P (size_under cs k p) (size_under (c ∷ ds) k p) (size_under (c ∷ es) k p)
-  at_second h alone = on_test (λ t. P (size_under cs k p) (cond t (get c.graph p) (size_under ds k p)) (cond t (get c.graph p) (size_under es k p))) (eq_by_cmp key_cmp k c.key)
-      (λ e. subst (λ (x : Option ℕ). P x (get c.graph p) (get c.graph p)) (sym (none_above k c.key p cs e h)) (alone (get c.graph p)))
       (λ e. rest)
 
   at_both : (d : Child) (g : Graph) → d.key ≡ c.key → P (get c.graph p) (get d.graph p) (get g p) → P (size_under (c ∷ cs) k p) (size_under (d ∷ ds) k p) (size_under (with_graph c g ∷ es) k p)
@@ -63,8 +55,8 @@ module _ (b : Bool) (c : Child) (cs ds es : List Child) (m : Merged b cs ds es) 
   merged_second h g = record {
     children = with_first c es (m.above c.key h g) t m.children;
     above = λ k p q. (q.0, m.above k p q.1);
-    part = λ k p. at_second AddsUpInPart c cs ds es k p (m.part k p) h (λ y. part_of_sum None y y (AddsUp-second y));
-    sum = λ w k p. at_second AddsUp c cs ds es k p (m.sum w k p) h AddsUp-second;
+    part = λ k p. at_first (λ x y z. AddsUpInPart y x z) c ds cs es k p (m.part k p) h (λ y. part_of_sum None y y (AddsUp-second y));
+    sum = λ w k p. at_first (λ x y z. AddsUp y x z) c ds cs es k p (m.sum w k p) h AddsUp-second;
     at_most = omega (arith, m.at_most, weight-cons c ds, weight-cons c es);
   }
 
@@ -77,11 +69,6 @@ merged_both a b c d g cs ds es m same sum below_cs below_ds = record {
   sum = λ w k p. at_both AddsUp c cs ds es k p (m.sum (and_parts a b w).1 k p) d g same (sum.sum (and_parts a b w).0 p);
   at_most = omega (arith, m.at_most, sum.at_most, weight-cons c cs, weight-cons d ds, weight-cons (with_graph c g) es);
 }
-
--- Adding no child changes nothing.
-pub merged_same : (cs : List Child) → AreChildren cs → Merged true cs [] cs
-merged_same [] h = merged_none
-merged_same (c ∷ cs) h = merged_first true c cs [] cs (merged_same cs (others c cs h)) (first_tree c cs h) (first_below c cs h) tt
 
 -- ---- the next child
 -- Where the first key of cs is less than that of ds, the first child of cs is next.
@@ -169,7 +156,7 @@ going_next {all = all} {a = a} {cs = cs} {ds = ds} {out = out} {c = c} g n all_i
 
 pub going_end : {all : Bool} {cs ds out cs' ds' : List Child} {size room : ℕ} → Going all cs ds out cs' ds' size room → cs' ≡ [] → ds' ≡ [] → Merged all cs ds out
 going_end {all = all} {cs = cs} {ds = ds} {out = out} g c d =
-    subst₂ (λ v r. Merged v cs ds r) (and-true all) (append-nil out) (g.goes_on true [] (subst₂ (λ x y. Merged true x y []) (sym c) (sym d) merged_none))
+    subst₂ (λ v r. Merged v cs ds r) (and-true all) (append-nil out) (g.goes_on true [] (subst₂ (λ x y. Merged true x y []) (sym c) (sym d) (merged_same [] no_children)))
 
 pub is_ok-and : {E : Type 0} (r s : Result (Unit {0}) E) → is_ok (result_and r s) ≡ (is_ok r && is_ok s)
 is_ok-and (Ok x) s = refl
@@ -182,3 +169,51 @@ front_is {rest = rest} e h = e ∙ ap (λ p. option_to_list p ++ rest) h
 pub one_of_length : {X : Type 0} (xs rest : List X) (x : X) → xs ≡ rest ++ x ∷ [] → length xs < 2 → xs ≡ x ∷ []
 one_of_length xs [] x e h = e
 one_of_length xs (y ∷ rest) x e h = absurd (omega (arith, ap length e, length-append rest (x ∷ [])))
+
+-- ---- one child put among others: added to the one that has its key, or in its place
+inserted : (a b : List Child) (c : Child) → AreChildren (a ++ b) → IsTree c.graph → AllBelow a c.key → AllAbove b c.key → Merged true (a ++ b) (c ∷ []) (a ++ c ∷ b)
+inserted [] b c h t below above = merged_second true c b [] b (merged_same b h) t above tt
+inserted (x ∷ a) b c h t below above =
+    merged_first true x (a ++ b) (c ∷ []) (a ++ c ∷ b) (inserted a b c (others x (a ++ b) h) t below.1 above) (first_tree x (a ++ b) h) (first_below x (a ++ b) h) (below.0, tt)
+
+changed : (all : Bool) (a b : List Child) (x c : Child) (g : Graph) → AreChildren (a ++ x ∷ b) → c.key ≡ x.key → Added all x.graph c.graph g → Merged all (a ++ x ∷ b) (c ∷ []) (a ++ with_graph x g ∷ b)
+changed all [] b x c g h same sum =
+    subst (λ (v : Bool). Merged v (x ∷ b) (c ∷ []) (with_graph x g ∷ b)) (and-true all) (merged_both all true x c g b [] b (merged_same b (others x b h)) same sum (first_below x b h) tt)
+changed all (z ∷ a) b x c g h same sum =
+    let less : key_cmp z.key c.key ≡ Less = subst (λ (k : Key). key_cmp z.key k ≡ Less) (sym same) (all-at (λ l. key_cmp z.key l ≡ Less) a b x (first_below z (a ++ x ∷ b) h)) in
+    merged_first all z (a ++ x ∷ b) (c ∷ []) (a ++ with_graph x g ∷ b) (changed all a b x c g (others z (a ++ x ∷ b) h) same sum) (first_tree z (a ++ x ∷ b) h) (first_below z (a ++ x ∷ b) h) (less, tt)
+
+-- ---- the key of c was found at i, where x is, and x gets the graph g
+module _ (c x : Child) (g : Graph) {cs ds : List Child} {i : ℕ} (same : ds ≡ cs) (found : IsFound ds c.key i) (there : x ≡ get_or cs i x) where
+  here : IsFound cs c.key i
+  here = subst (λ l. IsFound l c.key i) same found
+
+  was : cs ≡ take i cs ++ x ∷ drop (suc i) cs
+  was = sym (take-append-drop i cs) ∙ ap (λ s. take i cs ++ s) (drop-cons cs i x here.within) ∙ ap (λ z. take i cs ++ z ∷ drop (suc i) cs) (sym there)
+
+  now : set cs i (with_graph x g) ≡ take i cs ++ with_graph x g ∷ drop (suc i) cs
+  now = set_split cs i (with_graph x g) here.within
+
+  pub put_at_found : {all : Bool} → AreChildren cs → Added all x.graph c.graph g → Merged all cs (c ∷ []) (set cs i (with_graph x g))
+  put_at_found {all = all} h sum =
+      let same_key : c.key ≡ x.key = sym (here.same x) ∙ ap (λ (z : Child). z.key) (sym there) in
+      subst₂ (λ l r. Merged all l (c ∷ []) r) (sym was) (sym now) (changed all (take i cs) (drop (suc i) cs) x c g (subst AreChildren was h) same_key sum)
+
+  pub weights_found : (weight (set cs i (with_graph x g)) + total x.graph ≡ weight cs + total g) × (total x.graph ≤ weight cs)
+  weights_found =
+      let before = ap weight was ∙ weight-split (take i cs) (drop (suc i) cs) x in
+      (omega (arith, before, ap weight now ∙ weight-split (take i cs) (drop (suc i) cs) (with_graph x g)), omega (arith, before))
+
+-- ---- the key of c was not found, and belongs at i
+module _ (c : Child) {cs ds es : List Child} {i : ℕ} (same : ds ≡ cs) (missing : IsChildGap ds c.key i) (put : es ≡ take i cs ++ c ∷ drop i cs) where
+  gap : IsChildGap cs c.key i
+  gap = subst (λ l. IsChildGap l c.key i) same missing
+
+  parts : cs ≡ take i cs ++ drop i cs
+  parts = sym (take-append-drop i cs)
+
+  pub put_at_gap : AreChildren cs → IsTree c.graph → Merged true cs (c ∷ []) es
+  put_at_gap h t = subst₂ (λ l r. Merged true l (c ∷ []) r) (sym parts) (sym put) (inserted (take i cs) (drop i cs) c (subst AreChildren parts h) t gap.below gap.above)
+
+  pub weight_at_gap : weight es ≡ weight cs + total c.graph
+  weight_at_gap = omega (arith, ap weight put, weight-split (take i cs) (drop i cs) c, ap weight parts ∙ weight-append (take i cs) (drop i cs))

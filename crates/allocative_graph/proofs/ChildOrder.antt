@@ -1,19 +1,19 @@
--- Children in the order of their keys: what the order says of the parts of a list.
-use Rattle.std.proofs.Common.{◌≡◌, ℕ, zero, suc, ◌<◌, List, [], ◌∷◌, ◌++◌, length, get_or, ap, subst₂, ◌∙◌, arith}
-use Rattle.allocative_graph.proofs.Common.{AllByRecursion, Less, Equal, Greater, ordering_reverse, nat_list_cmp_total, nat_cmp-IsAntisymmetric, slice_cmp-IsAntisymmetric, Child, Key, key_cmp, IsTree, AreChildren, InOrder, AllBelow, AllAbove, length-map, keys_of}
-use Rattle.std.specs.List.Sorted.{IsStrictlySortedBy}
-use Rattle.std.proofs.lemmas.List.{get_or-map}
+-- Children in the order of their keys: what the order says of the parts of a list, and what a search for a key finds.
+use Rattle.std.proofs.Common.{◌≡◌, ℕ, zero, suc, ◌<◌, List, [], ◌∷◌, ◌++◌, length, get_or, ap, subst₂, ◌∙◌, arith, ◌+◌, ◌-◌, ◌≤◌, take, drop, Result, Ok, Err, IfOk, IfErr, refl, sym, subst}
+use Rattle.allocative_graph.proofs.Common.{AllByRecursion, Less, Equal, Greater, ordering_reverse, nat_list_cmp_total, nat_cmp-IsAntisymmetric, slice_cmp-IsAntisymmetric, Child, Key, key_cmp, IsTree, AreChildren, InOrder, AllBelow, AllAbove, length-map, keys_of, is_lt, IsFound, IsChildGap}
+use Rattle.std.specs.List.Sorted.{IsStrictlySortedBy, IsSearchInRange, IsBinarySearchResult, IsNonDecreasingBy, IsSortedBy}
+use Rattle.std.proofs.lemmas.List.{get_or-map, drop_all, get_or_default}
 use Rattle.std.proofs.lemmas.Map.Keys.{Less-from_sorted}
 use Rattle.allocative_graph.proofs.Basics.{each-implies}
+use Rattle.std.specs.declared.cmp.Ordering.{Ordering}
+use Rattle.std.proofs.lemmas.List.Sorted.{searchable_from_sorted}
+use Rattle.std.specs.Ordering.{ordering_index}
 
 pub key_same : (k l : Key) → key_cmp k l ≡ Equal → k ≡ l
 key_same = slice_cmp-IsAntisymmetric nat_cmp-IsAntisymmetric
 
 pub key_turn : (k l : Key) → key_cmp k l ≡ Greater → key_cmp l k ≡ Less
 key_turn k l h = nat_list_cmp_total.antisymm l k ∙ ap ordering_reverse h
-
-pub key_trans : (k l m : Key) → key_cmp k l ≡ Less → key_cmp l m ≡ Less → key_cmp k m ≡ Less
-key_trans = nat_list_cmp_total.trans
 
 -- ---- the first child, and those after it
 pub first_below : (c : Child) (cs : List Child) → AreChildren (c ∷ cs) → AllAbove cs c.key
@@ -40,27 +40,64 @@ one_child c t = with_first c [] tt t no_children
 
 -- A key below that of the first child is below those of all.
 pub above_all : (k : Key) (c : Child) (cs : List Child) → key_cmp k c.key ≡ Less → AreChildren (c ∷ cs) → AllAbove (c ∷ cs) k
-above_all k c cs less h = (less, each-implies _ _ (λ l q. key_trans k c.key l less q) (keys_of cs) (first_below c cs h))
+above_all k c cs less h = (less, each-implies _ _ (λ l q. nat_list_cmp_total.trans k c.key l less q) (keys_of cs) (first_below c cs h))
 
 -- ---- a child in the middle
 pub all-at : (P : Key → Type 0) (a b : List Child) (x : Child) → AllByRecursion P (keys_of (a ++ x ∷ b)) → P x.key
 all-at P [] b x h = h.0
 all-at P (y ∷ a) b x h = all-at P a b x h.1
 
--- ---- the last child, and neighbors
--- Where the key of the last child is below k, those of all children are.
-pub below_last : (cs : List Child) (k : Key) (n : ℕ) (d : Child) → length cs ≡ suc n → InOrder cs → key_cmp (get_or cs n d).key k ≡ Less → AllBelow cs k
-unfolding IsStrictlySortedBy
-below_last [] k n d len o less = absurd (omega arith)
-below_last (c ∷ []) k zero d len o less = (less, tt)
-below_last (c ∷ []) k (suc n) d len o less = absurd (omega arith)
-below_last (c ∷ e ∷ cs) k zero d len o less = absurd (omega arith)
-below_last (c ∷ e ∷ cs) k (suc n) d len o less =
-    let rest = below_last (e ∷ cs) k n d (omega arith) o.1 less in
-    (key_trans c.key e.key k o.0.0 rest.0, rest)
+-- ---- a search for a key
+below_from : (cs : List Child) (i : ℕ) (k : Key) → i ≤ length cs → ((j : ℕ) (d : Child) → j < i → key_cmp (get_or cs j d).key k ≡ Less) → AllBelow (take i cs) k
+below_from cs zero k within f = tt
+below_from [] (suc i) k within f = absurd (omega arith)
+below_from (c ∷ cs) (suc i) k within f = (f 0 c (omega arith), below_from cs i k (omega arith) (λ j d h. f (suc j) d (omega arith)))
 
--- Each child is below the next one.
-pub neighbors : (cs : List Child) (i : ℕ) (d : Child) → InOrder cs → suc i < length cs → key_cmp (get_or cs i d).key (get_or cs (suc i) d).key ≡ Less
-neighbors cs i d o h =
-    subst₂ (λ a b. key_cmp a b ≡ Less) (get_or-map (λ (c : Child). c.key) cs i d [] (omega arith)) (get_or-map (λ (c : Child). c.key) cs (suc i) d [] h)
-    (Less-from_sorted key_cmp (keys_of cs) i (suc i) [] o (omega arith) (omega (arith, length-map {B = Key} cs (λ c. c.key))))
+above_from : (cs : List Child) (i : ℕ) (k : Key) → ((j : ℕ) (d : Child) → i ≤ j → j < length cs → key_cmp (get_or cs j d).key k ≡ Greater) → AllAbove (drop i cs) k
+above_from [] zero k f = tt
+above_from [] (suc i) k f = tt
+above_from (c ∷ cs) zero k f = (key_turn c.key k (f 0 c (omega arith) (omega arith)), above_from cs zero k (λ j d a b. f (suc j) d (omega arith) (omega arith)))
+above_from (c ∷ cs) (suc i) k f = above_from cs i k (λ j d a b. f (suc j) d (omega arith) (omega arith))
+
+first_index : (o : Ordering) → ordering_index o ≡ 0 → o ≡ Less
+first_index Less e = refl
+first_index Equal e = absurd (omega arith)
+first_index Greater e = absurd (omega arith)
+
+module _ (cs : List Child) (o : InOrder cs) (k : Key) where
+  sorted : IsSortedBy (λ (a b : Child). is_lt (key_cmp a.key b.key)) cs
+  sorted i d low high =
+      let keys : key_cmp (get_or (keys_of cs) i []) (get_or (keys_of cs) (i + 1) []) ≡ Less =
+      Less-from_sorted key_cmp (keys_of cs) i (i + 1) [] o (omega arith) (omega (arith, length-map {B = Key} cs (λ c. c.key))) in
+      let up = subst₂ (λ a b. key_cmp a b ≡ Less) (get_or-map (λ (c : Child). c.key) cs i d [] (omega arith)) (get_or-map (λ (c : Child). c.key) cs (i + 1) d [] (omega arith)) keys in
+      ap is_lt (nat_list_cmp_total.antisymm (get_or cs (i + 1) d).key (get_or cs i d).key ∙ ap ordering_reverse up)
+
+  comparisons_rise : IsNonDecreasingBy (λ (c : Child). ordering_index (key_cmp c.key k)) cs
+  comparisons_rise = searchable_from_sorted nat_list_cmp_total (λ (c : Child). c.key) cs k sorted
+
+  pub searched : (r : Result ℕ ℕ) → IsSearchInRange r (length cs) → IsBinarySearchResult (λ (c : Child). key_cmp c.key k) cs r → record { found : IfOk r (IsFound cs k); missing : IfErr r (IsChildGap cs k) }
+  searched (Ok i) in_range equal = record { found = record { within = in_range; same = λ d. key_same _ _ (equal d) }; missing = tt }
+  searched (Err i) in_range parted = record {
+    found = tt;
+    missing = record {
+      within = in_range;
+      below = below_from cs i k in_range (λ j d h. (parted comparisons_rise).0 j d (omega arith) h);
+      above = above_from cs i k (λ j d a b. (parted comparisons_rise).1 j d a b);
+    };
+  }
+
+  -- A key above the last one is above all, and belongs at the end.
+  pub behind_last : (d : Child) → 0 < length cs → key_cmp (get_or cs (length cs - 1) d).key k ≡ Less → IsChildGap cs k (length cs)
+  behind_last d some less =
+      let last = length cs - 1 in
+      let lower : (e : Child) → ordering_index (key_cmp (get_or cs last e).key k) ≡ 0 =
+      λ e. ap ordering_index (subst (λ (c : Child). key_cmp c.key k ≡ Less) (get_or_default cs last d e (omega arith)) less) in
+      record {
+        within = omega arith;
+        below = below_from cs (length cs) k (omega arith) (λ j e h. first_index _ (omega (arith, comparisons_rise j last e (omega arith) (omega arith), lower e)));
+        above = subst (λ (s : List Child). AllAbove s k) (sym (drop_all (length cs) cs (omega arith))) tt;
+      }
+
+-- The key of the last child is found at the end.
+pub at_last : (cs : List Child) (k : Key) (d : Child) → 0 < length cs → (get_or cs (length cs - 1) d).key ≡ k → IsFound cs k (length cs - 1)
+at_last cs k d some e = record { within = omega arith; same = λ x. ap (λ (c : Child). c.key) (get_or_default cs (length cs - 1) x d (omega arith)) ∙ e }

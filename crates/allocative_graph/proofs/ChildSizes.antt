@@ -1,8 +1,8 @@
 -- The sizes below a key that a child has, and below a key that no child has.
-use Rattle.std.proofs.Common.{◌≡◌, ℕ, inl, inr, true, false, cond, List, [], ◌∷◌, Option, None, Some, refl, sym, ap, subst, ◌∙◌, arith}
+use Rattle.std.proofs.Common.{◌≡◌, ℕ, inl, inr, true, false, cond, List, [], ◌∷◌, Option, None, refl, sym, ap, subst, ◌∙◌, arith}
 use Rattle.allocative_graph.proofs.Common.{is_some, AllByRecursion, eq_by_cmp, is_eq, get, Child, Key, Path, key_cmp, size_under, AddsUp, AddsUpInPart, AllAbove, keys_of}
 use Rattle.std.specs.Cmp.{Equal-is}
-use Rattle.allocative_graph.proofs.Basics.{each-implies, or_left}
+use Rattle.allocative_graph.proofs.Basics.{each-implies, or_left, or-false}
 use Rattle.allocative_graph.proofs.ChildOrder.{key_same}
 
 -- No child has the key k.
@@ -22,12 +22,10 @@ none_above k l p cs e h = size_under-lacks cs k p (subst (λ m. Lacks m cs) (sym
 
 -- ---- sums of sizes
 pub AddsUp-first : (x : Option ℕ) → AddsUp x None x
-AddsUp-first None = (refl, refl)
-AddsUp-first (Some n) = (omega arith, refl)
+AddsUp-first x = (omega arith, sym (or-false (is_some x)))
 
 pub AddsUp-second : (y : Option ℕ) → AddsUp None y y
-AddsUp-second None = (refl, refl)
-AddsUp-second (Some n) = (omega arith, refl)
+AddsUp-second y = (omega arith, refl)
 
 pub part_of_sum : (x y z : Option ℕ) → AddsUp x y z → AddsUpInPart x y z
 part_of_sum x y z h = (inr h.0, (λ e. h.1 ∙ or_left (is_some x) (is_some y) e), (λ e. sym h.1 ∙ e))

@@ -8,7 +8,6 @@ pub use Rattle.std.proofs.lemmas.List.Folds.{fold-map, list_any-append}
 pub use Rattle.std.proofs.lemmas.List.Sorted.{IsPermutation-append_comm, IsPermutation-append_left, IsPermutation-append_right, IsPermutation-refl, IsPermutation-sym, IsPermutation-trans, list_any-IsPermutation, sum_by-IsPermutation}
 pub use Rattle.std.proofs.lemmas.List.Sums.{sum_by-cons}
 pub use lib.Chars.{codes}
-pub use Rattle.std.specs.Bool.{OnFalse}
 pub use Rattle.std.specs.Cmp.{tied_itself}
 pub use Rattle.std.specs.Cmp.Lexicographic.{nat_list_cmp_total, slice_cmp}
 pub use Rattle.std.specs.FinMap.{IsAntisymmetric, contains_key, empty, entries, entries-from_sorted, entries-insert, entries_sorted, from_entries, get, get-entries, get-from_entries, get-from_sorted, get-insert, insert, keys, len, len-entries, nat_cmp-IsAntisymmetric, same_entries_map, same_map, slice_cmp-IsAntisymmetric}
@@ -24,19 +23,17 @@ pub use Rattle.std.specs.Vec.{vec_capacity}
 pub use Rattle.std.specs.declared.cmp.Ordering.TheVariants.{Equal, Greater, Less}
 pub use Rattle.allocative_graph.specs.Collector.{added}
 pub use Rattle.allocative_graph.specs.Forest.{Again, AsInline, AsShared, AsUnique, Bag, Empty, Entry, First, Fits, Forest, Inline, Unique, all, content_entries, contents, followed_by, insert_all, met_after, own, own_behind, shown}
-pub use Rattle.allocative_graph.specs.Graph.{CanBeAdded, Graph, HasNothing, HasPlainKeys, HasWords, IsBehind, IsPartOfSum, IsTree, Lacks, add_self, begins, default, graph, is_root, joined, remaining, size_at, sizes, sum_of, text, text_of_entries, total, total_at, under, warnings}
+pub use Rattle.allocative_graph.specs.Graph.{CanBeAdded, Graph, HasNothing, HasPlainKeys, HasWords, IsBehind, IsTree, Lacks, add_self, begins, default, graph, is_root, joined, remaining, size_at, sizes, sum_of, text, text_of_entries, total, total_at, under, warnings}
 pub use Rattle.allocative_graph.specs.Identity.{Identities, Identity, identity_cmp, is_same_identity}
 pub use Rattle.allocative_graph.specs.Many.{sum_of_all, total_of}
 pub use Rattle.allocative_graph.specs.Meaning.{IsMeaning, IsWhole, Reached, content_of, has_mark, inside, is_among, is_mark_of, marked}
 pub use Rattle.allocative_graph.specs.Path.{Key, Path, is_one_below, is_same_path, key_cmp, path_cmp}
 pub use Rattle.allocative_graph.specs.Read.{AreStacks, IsCut, IsFault, IsNumber, IsRead, IsStack, IsWrong, Means, Stack, all_bytes, bytes_at, is_path_of, number_of, seen}
 pub use Rattle.allocative_graph.specs.Reads.{AreChildren, Figures, figures_behind, keys_of, node, rows_of, rows_of_child, under_rows}
-pub use Rattle.allocative_graph.specs.Representation.Children.{AddsUp, AddsUpInPart, AllAbove, AllBelow, InOrder, IsChildGap, IsFound, size_under}
-pub use Rattle.allocative_graph.specs.Representation.Merged.{Added, Merged}
+pub use Rattle.allocative_graph.specs.Representation.Children.{AddsUp, AddsUpInPart, AllAbove, AllBelow, InOrder, IsChildGap, IsFound, size_under, Added, Merged}
 pub use Rattle.allocative_graph.specs.Representation.Node.{IsNode, weight}
 pub use Rattle.allocative_graph.specs.Representation.NodeRows.{both, entries-node, first, len-child, node_sorted, second}
-pub use Rattle.allocative_graph.specs.Representation.PathRows.{HasRootAlone, IsSumByPath, joined_on, line_from, lines_below, sum_of_rows}
-pub use Rattle.allocative_graph.specs.Representation.Stacks.{nested, one_stack, sum_of_stacks}
+pub use Rattle.allocative_graph.specs.Representation.PathRows.{IsSumByPath, joined_on, line_from, lines_below, sum_of_rows, nested, one_stack, sum_of_stacks}
 pub use Rattle.allocative_graph.specs.Sums.{Node, Sums, add, add_all, below, bytes_in, is_entered_in, is_unique_in, node_of, sums_of, together}
 pub use Rattle.allocative_graph.specs.declared.flamegraph.Child.{Child}
 pub use Rattle.allocative_graph.specs.declared.read.Line.{Line}

@@ -1,14 +1,15 @@
 -- Nodes are trees, and add up where their own sizes and their children do.
-use Rattle.std.proofs.Common.{◌≡◌, ℕ, ◌+◌, ◌<◌, ◌^◌, Bool, true, cond, List, [], ◌∷◌, ◌++◌, length, length-append, sym, ap, subst, subst₂, ◌∙◌, arith}
-use Rattle.allocative_graph.proofs.Common.{is_some, eq_by_cmp, get, contains_key, entries, len, len-entries, Child, Key, Path, key_cmp, Graph, IsTree, size_at, total, under, node, rows_of, rows_of_child, AreChildren, IsNode, weight, size_under, Added, Merged, entries-node, len-child}
-use Rattle.allocative_graph.specs.Reads.{AllTrees}
+use Rattle.std.proofs.Common.{◌≡◌, ℕ, ◌+◌, ◌<◌, ◌^◌, Bool, true, cond, List, [], ◌∷◌, ◌++◌, length, length-append, Some, refl, unwrap_or, sym, ap, subst, subst₂, ◌∙◌, arith}
+use Rattle.allocative_graph.proofs.Common.{AllByRecursion, is_some, eq_by_cmp, get, contains_key, entries, len, len-entries, Child, Key, Path, key_cmp, Graph, IsTree, size_at, sum_of, total, under, node, rows_of, rows_of_child, AreChildren, IsNode, weight, size_under, AddsUp, AddsUpInPart, Added, Merged, entries-node, len-child}
 use Rattle.allocative_graph.proofs.Basics.{on_test}
-use Rattle.allocative_graph.proofs.ChildLookup.{get-root, get-under, node_sum, node_part, node_of_one}
+use Rattle.allocative_graph.proofs.ChildLookup.{get-root, get-under, node_each, node_of_one}
 use Rattle.allocative_graph.proofs.ChildOrder.{one_child, first_tree}
 use Rattle.allocative_graph.proofs.ChildRows.{weight-one}
-use Rattle.allocative_graph.proofs.NodeSizes.{total-node, size_at-root}
+use Rattle.allocative_graph.proofs.ChildSizes.{part_of_sum}
+use Rattle.allocative_graph.proofs.Graphs.{is_sum_of}
+use Rattle.allocative_graph.proofs.NodeSizes.{total-node}
 
-has_parent : (cs : List Child) (l : Key) (p : Path) (k : Key) → AllTrees cs → is_some (size_under cs l (p ++ k ∷ [])) ≡ true → is_some (size_under cs l p) ≡ true
+has_parent : (cs : List Child) (l : Key) (p : Path) (k : Key) → AllByRecursion (λ (c : Child). IsTree c.graph) cs → is_some (size_under cs l (p ++ k ∷ [])) ≡ true → is_some (size_under cs l p) ≡ true
 has_parent [] l p k h e = e
 has_parent (c ∷ cs) l p k h e =
     on_test (λ b. is_some (cond b (get c.graph (p ++ k ∷ [])) (size_under cs l (p ++ k ∷ []))) ≡ true → is_some (cond b (get c.graph p) (size_under cs l p)) ≡ true) (eq_by_cmp key_cmp l c.key)
@@ -24,10 +25,14 @@ node_tree n cs h = record { root = ap is_some (get-root n cs h.sorted); closed =
 pub added_node : (all : Bool) (m n : ℕ) (cs ds es : List Child) → AreChildren cs → AreChildren ds → Merged all cs ds es → Added all (node m cs) (node n ds) (node (m + n) es)
 added_node all m n cs ds es a b h = record {
   tree = node_tree (m + n) es h.children;
-  part = node_part m n cs ds es a.sorted b.sorted h.children.sorted h.part;
-  sum = λ w. node_sum m n cs ds es a.sorted b.sorted h.children.sorted (h.sum w);
+  part = node_each AddsUpInPart m n (m + n) cs ds es a.sorted b.sorted h.children.sorted (part_of_sum (Some m) (Some n) (Some (m + n)) (refl, refl)) h.part;
+  sum = λ w. node_each AddsUp m n (m + n) cs ds es a.sorted b.sorted h.children.sorted (refl, refl) (h.sum w);
   at_most = omega (arith, h.at_most, total-node m cs a.sorted, total-node n ds b.sorted, total-node (m + n) es h.children.sorted);
 }
+
+-- Where all was added, the result is the sum.
+pub added_sum : {all : Bool} {g h r : Graph} → Added all g h r → all ≡ true → r ≡ sum_of g h
+added_sum {g = g} {h = h} {r = r} added done = is_sum_of g h r (added.sum done)
 
 -- With one child merged into its children, a node has the graph under that child's key added.
 pub added_under : {all : Bool} {m s : ℕ} {cs es : List Child} {g : Graph} (c : Child) → node m cs ≡ g → IsNode cs s m → IsTree c.graph → Merged all cs (c ∷ []) es → Added all g (under c.key c.graph) (node m es)
@@ -44,7 +49,7 @@ module _ {n s : ℕ} {cs : List Child} {g : Graph} (view : node n cs ≡ g) (h :
   total_of_node = ap total (sym view) ∙ total-node n cs h.children.sorted
 
   pub own_of_node : size_at g [] ≡ n
-  own_of_node = ap (λ x. size_at x []) (sym view) ∙ size_at-root n cs h.children.sorted
+  own_of_node = ap (λ x. size_at x []) (sym view) ∙ ap (λ o. unwrap_or o 0) (get-root n cs h.children.sorted)
 
   pub entries_of_node : entries g ≡ ([], n) ∷ rows_of cs
   entries_of_node = ap entries (sym view) ∙ entries-node n cs h.children.sorted

@@ -1,9 +1,10 @@
 -- What the walk of `write` has written so far.
 use Rattle.std.proofs.Common.{◌≡◌, ◌≢◌, ℕ, ◌+◌, ◌<◌, Bool, List, [], ◌∷◌, ◌++◌, map, take, length, get_or, Bor, cond, refl, sym, ap, ◌∙◌, append_assoc, arith, ◌-◌, length-append, append-nil, ne_eqb}
-use Rattle.allocative_graph.proofs.Common.{Child, Key, Path, under_rows, rows_of, rows_of_child, joined, joined_on, line_from, lines_below, entries, take_more, map-append, flat_map-append}
+use Rattle.allocative_graph.proofs.Common.{Graph, IsNode, node, Child, Key, Path, under_rows, rows_of, rows_of_child, joined, joined_on, line_from, lines_below, entries, take_more, map-append, flat_map-append}
 use Rattle.std.proofs.Math.Seq.{take-append_seam}
 use Rattle.allocative_graph.specs.Representation.PathRows.{size_text, lines_from, line_below}
 use Rattle.allocative_graph.proofs.ChildRows.{rows-more}
+use Rattle.allocative_graph.proofs.NodeAdded.{entries_of_node}
 
 -- The texts of the keys.
 abbrev pub texts : List (Bor (List ℕ)) → List (List ℕ)
@@ -49,9 +50,15 @@ pub line_of_some : (t : List ℕ) (n : ℕ) → n ≢ 0 → line_from t ([], n) 
 line_of_some t n some = ap (λ (b : Bool). cond b [] (t ++ size_text n)) (ne_eqb n 0 some)
 
 -- The text after the root's own line, to which the lines below it are still to be added.
-pub own_written : (t before after : List ℕ) (n : ℕ) (cs : List Child) (rs : List (Path × ℕ)) → rs ≡ ([], n) ∷ rows_of cs → after ≡ before ++ line_from t ([], n) → after ++ lines_below (t ++ 59 ∷ []) rs ≡ before ++ lines_from t rs
-own_written t before after n cs rs is wrote =
-    rw (is, wrote, rows_lines t cs) (append_assoc before (line_from t ([], n)) _)
+pub own_written : {n s : ℕ} {cs : List Child} {g : Graph} (t before after : List ℕ) → node n cs ≡ g → IsNode cs s n
+    → after ≡ before ++ line_from t ([], n) → after ++ lines_below (t ++ 59 ∷ []) (entries g) ≡ before ++ lines_from t (entries g)
+own_written {n = n} {cs = cs} t before after view h wrote =
+    rw (entries_of_node view h, wrote, rows_lines t cs) (append_assoc before (line_from t ([], n)) _)
+
+-- Where a node has no bytes of its own, it has no line of its own.
+pub nothing_written : {n s : ℕ} {cs : List Child} {g : Graph} (t before : List ℕ) → node n cs ≡ g → IsNode cs s n → n ≡ 0
+    → before ++ lines_below (t ++ 59 ∷ []) (entries g) ≡ before ++ lines_from t (entries g)
+nothing_written t before view h none = own_written t before before view h (sym (append-nil before) ∙ ap (λ (m : ℕ). before ++ line_from t ([], m)) (sym none))
 
 -- Cutting back the start of a line returns it.
 pub cut_back : (t more : List ℕ) (n : ℕ) → n ≡ length t → take n (t ++ more) ≡ t

@@ -1,10 +1,10 @@
 -- A text determines the sizes, and a text of a graph that is read is the graph again.
 use Rattle.std.proofs.Common.{◌≡◌, ◌≢◌, ℕ, ◌+◌, ◌-◌, ◌^◌, ◌<◌, ◌≤◌, ◌==◌, Bool, false, cond, not, List, [], ◌∷◌, ◌++◌, map, flat_map, length, length-append, take, get_or, Some, None, refl, ap, sym, ◌∙◌, subst, true≢false, arith, unwrap_or, decimal, ne_eqb, if◌then◌else◌}
-use Rattle.allocative_graph.proofs.Common.{AllByRecursion, list_any, slice_split, lines, lines_of_parts, get, entries, LEVELS, LineFault, Key, Path, is_same_path, Graph, text, joined, begins, size_at, Lacks, HasPlainKeys, HasWords, Stack, IsStack, IsNumber, AreStacks, Means, IsFault, IsRead, number_of, bytes_at, is_path_of, all_bytes, All-from_recursion, fold-map, sum_by-cons}
+use Rattle.allocative_graph.proofs.Common.{AllByRecursion, list_any, slice_split, lines, lines_of_parts, get, entries, LEVELS, LineFault, Key, Path, is_same_path, Graph, text, joined, begins, size_at, Lacks, HasPlainKeys, HasWords, Stack, IsStack, IsCut, IsNumber, AreStacks, Means, IsFault, IsRead, number_of, bytes_at, is_path_of, all_bytes, All-from_recursion, fold-map, sum_by-cons}
 use Rattle.std.specs.List.{All}
 use Rattle.std.specs.Str.Lines.{strip_carriage_return}
 use Rattle.std.specs.Str.Parse.{IsNumeral, digits_value}
-use Rattle.std.proofs.lemmas.Fmt.{decimal_injective, decimal_is_IsNumeral, decimal_nonempty}
+use Rattle.std.proofs.lemmas.Fmt.{decimal_is_IsNumeral, decimal_nonempty}
 use Rattle.std.proofs.lemmas.Str.Parse.{without_leading_plus_none}
 use Rattle.std.proofs.lemmas.List.{get_or-append_right}
 use Rattle.std.proofs.lemmas.List.Elements.{All-weaker}
@@ -12,9 +12,8 @@ use Rattle.std.proofs.lemmas.List.Filters.{sum_by-filter_both}
 use Rattle.std.proofs.lemmas.List.Splits.{slice_split_none, slice_split_at, length-slice_split}
 use Rattle.allocative_graph.specs.Read.{Exceeds, CanBeRead, keys_of}
 use Rattle.allocative_graph.proofs.Basics.{each-implies, false_from_ne_true, on_test, or_parts}
-use Rattle.allocative_graph.proofs.Text.{Plain, Sized, Good, is_shown, full, body, shown, shown_good, size_shown, shown_lines, full_body, body_lacks, decimal_lacks, bytes_in, last_split}
-use Rattle.allocative_graph.proofs.ReadLines.{stacks-cons, stacks-first}
-use Rattle.allocative_graph.proofs.Stacks.{cut_once}
+use Rattle.allocative_graph.proofs.Text.{Plain, Sized, Good, is_shown, full, body, shown, good_entries, size_shown, shown_lines, full_body, body_lacks, decimal_lacks, bytes_in}
+use Rattle.allocative_graph.proofs.ReadLines.{stacks-cons, stacks-first, one_cut, cut_once}
 use Rattle.allocative_graph.proofs.StackSums.{same_begins}
 
 -- ---- lists that lack a byte
@@ -62,31 +61,34 @@ number-decimal n w =
 abbrev said : Sized → Stack
 said e = record { path = e.0; size = e.1 }
 
+saying : (e : Sized) → Good e → ◌≡◌ {A = Stack} (record { path = keys_of (joined e.0); size = number_of (decimal e.1) }) (said e)
+saying ([], n) good = absurd (true≢false (sym good.seen))
+saying (k ∷ p, n) good = λ i. record { path = keys-joined k p good.plain i; size = (number-decimal n good.word).1 i }
+
+body_cut : (e : Sized) → IsCut (body e) (joined e.0) (decimal e.1)
+body_cut e = record { parts = refl; last = decimal_lacks 32 e.1 (omega arith) }
+
 entry_read : (e : Sized) → Good e → (s : Stack) → IsStack (body e) s → s ≡ said e
-entry_read ([], n) good s is = absurd (true≢false (sym good.seen))
-entry_read (k ∷ p, n) good s is =
-    let both = cut_once (body (k ∷ p, n)) (joined (k ∷ p)) (decimal n) s (record { parts = refl; last = decimal_lacks 32 n (omega arith) }) is in
-    let path : keys_of is.path ≡ k ∷ p = ap keys_of (sym both.0) ∙ keys-joined k p good.plain in
-    let size : number_of is.number ≡ n = ap number_of (sym both.1) ∙ (number-decimal n good.word).1 in
-    is.is ∙ (λ i. record { path = path i; size = size i })
+entry_read e good s is =
+    let both = cut_once (body_cut e) is in
+    is.is ∙ (λ i. record { path = keys_of (sym both.0 i); size = number_of (sym both.1 i) }) ∙ saying e good
 
 entries_read : (es : List Sized) → AllByRecursion Good es → (ss : List Stack) → AreStacks (map body es) ss → ss ≡ map said es
 entries_read [] good [] h = refl
 entries_read [] good (s ∷ ss) h = absurd h
 entries_read (e ∷ es) good ss h =
     let f = stacks-first (body e) (map body es) ss (omega (arith, length-append (joined e.0) (32 ∷ decimal e.1))) h in
-    f.is ∙ (λ i. entry_read e good.0 f.first f.read i ∷ entries_read es good.1 f.others f.behind i)
+    f.2 ∙ (λ i. entry_read e good.0 f.0 f.3 i ∷ entries_read es good.1 f.1 f.4 i)
 
 lines-text : (g : Graph) → HasPlainKeys g → HasWords g → lines (text g) ≡ map body (shown g)
-lines-text g plain fits = ap lines (shown_lines (entries g)) ∙ lines-full (shown g) (each-implies Good _ (λ e good. good.plain) (shown g) (shown_good g plain fits))
+lines-text g plain fits = ap lines (shown_lines (entries g)) ∙ lines-full (shown g) (each-implies Good _ (λ e good. good.plain) (shown g) (good_entries (entries g) plain fits))
 
 -- Graphs with one text have the same entries with a line.
 same_entry : (e f : Sized) → Good e → Good f → body e ≡ body f → e ≡ f
-same_entry ([], n) f a b h = absurd (true≢false (sym a.seen))
-same_entry (k ∷ p, n) ([], m) a b h = absurd (true≢false (sym b.seen))
-same_entry (k ∷ p, n) (l ∷ q, m) a b h =
-    let parts = last_split 32 (joined (k ∷ p)) (joined (l ∷ q)) (decimal n) (decimal m) (decimal_lacks 32 n (omega arith)) (decimal_lacks 32 m (omega arith)) h in
-    λ i. ((sym (keys-joined k p a.plain) ∙ ap keys_of parts.0 ∙ keys-joined l q b.plain) i, decimal_injective n m a.word b.word parts.1 i)
+same_entry e f a b h =
+    let both = one_cut (body_cut e) (subst (λ l. IsCut l (joined f.0) (decimal f.1)) (sym h) (body_cut f)) in
+    let told = sym (saying e a) ∙ (λ i. record { path = keys_of (both.0 i); size = number_of (both.1 i) }) ∙ saying f b in
+    λ i. ((told i).path, (told i).size)
 
 same_entries : (es fs : List Sized) → AllByRecursion Good es → AllByRecursion Good fs → map body es ≡ map body fs → es ≡ fs
 same_entries [] [] a b h = refl
@@ -96,12 +98,12 @@ same_entries (e ∷ es) (f ∷ fs) a b h = λ i. same_entry e f a.0 b.0 (cc) i �
 
 pub text_tells : (g h : Graph) → HasPlainKeys g → HasPlainKeys h → HasWords g → HasWords h → text g ≡ text h → (k : Key) (p : Path) → size_at g (k ∷ p) ≡ size_at h (k ∷ p)
 text_tells g h a b v w e k p =
-    let same = same_entries (shown g) (shown h) (shown_good g a v) (shown_good h b w) (sym (lines-text g a v) ∙ ap lines e ∙ lines-text h b w) in
+    let same = same_entries (shown g) (shown h) (good_entries (entries g) a v) (good_entries (entries h) b w) (sym (lines-text g a v) ∙ ap lines e ∙ lines-text h b w) in
     size_shown g k p ∙ ap (λ es. bytes_in es (k ∷ p)) same ∙ sym (size_shown h k p)
 
 -- The stacks of the text of a graph are its entries that have a line.
 stacks_of_text : (g : Graph) → HasPlainKeys g → HasWords g → (ss : List Stack) → Means (text g) ss → ss ≡ map said (shown g)
-stacks_of_text g plain fits ss h = entries_read (shown g) (shown_good g plain fits) ss (subst (λ (ls : List (List ℕ)). AreStacks ls ss) (lines-text g plain fits) h)
+stacks_of_text g plain fits ss h = entries_read (shown g) (good_entries (entries g) plain fits) ss (subst (λ (ls : List (List ℕ)). AreStacks ls ss) (lines-text g plain fits) h)
 
 -- ---- the bytes at a path
 -- Stacks none of which begins with a path have no bytes there.
@@ -126,19 +128,15 @@ reads_back g h plain fits read k p =
 
 -- ---- nothing in the text of a graph is refused
 said_stack : (e : Sized) → Good e → (length e.0 ≤ LEVELS) × (0 < length (joined e.0)) → IsStack (body e) (said e)
-said_stack ([], n) good h = absurd (true≢false (sym good.seen))
-said_stack (k ∷ p, n) good h =
-    let number = number-decimal n good.word in
-    let path : keys_of (joined (k ∷ p)) ≡ k ∷ p = keys-joined k p good.plain in
-    record {
-      path = joined (k ∷ p);
-      number = decimal n;
-      parts = refl;
-      some = h.1;
-      reads = number.0;
-      fits = omega (arith, h.0, ap (λ (q : Path). length q) path);
-      is = λ i. record { path = sym path i; size = sym number.1 i };
-    }
+said_stack e good h = record {
+  path = joined e.0;
+  number = decimal e.1;
+  parts = refl;
+  some = h.1;
+  reads = (number-decimal e.1 good.word).0;
+  fits = omega (arith, h.0, ap (λ (s : Stack). length s.path) (saying e good));
+  is = sym (saying e good);
+}
 
 said_stacks : (es : List Sized) → AllByRecursion Good es → AllByRecursion (λ e. (length e.0 ≤ LEVELS) × (0 < length (joined e.0))) es → AreStacks (map body es) (map said es)
 said_stacks [] good h = tt
@@ -146,7 +144,7 @@ said_stacks (e ∷ es) good h = stacks-cons (body e) (map body es) (said e) (map
 
 -- Where each line is a stack, none is not.
 no_fault : (before : List (List ℕ)) (line : List ℕ) (rest : List (List ℕ)) (ss : List Stack) → AreStacks (before ++ line ∷ rest) ss → 0 < length line → ((s : Stack) → IsStack line s → ⊥) → ⊥
-no_fault [] line rest ss h some none = let f = stacks-first line rest ss some h in none f.first f.read
+no_fault [] line rest ss h some none = let f = stacks-first line rest ss some h in none f.0 f.3
 no_fault ([] ∷ before) line rest ss h some none = no_fault before line rest ss h some none
 no_fault ((b ∷ bs) ∷ before) line rest [] h some none = h
 no_fault ((b ∷ bs) ∷ before) line rest (s ∷ ss) h some none = no_fault before line rest ss h.1 some none
@@ -154,7 +152,8 @@ no_fault ((b ∷ bs) ∷ before) line rest (s ∷ ss) h some none = no_fault bef
 pub never_refused : (g : Graph) → HasPlainKeys g → HasWords g → CanBeRead g → (n : ℕ) (w : LineFault) → IsFault (text g) n w → ⊥
 never_refused g plain fits can n w fault =
     no_fault fault.before fault.line fault.rest (map said (shown g))
-    (subst (λ (ls : List (List ℕ)). AreStacks ls (map said (shown g))) (sym (lines-text g plain fits) ∙ fault.parts) (said_stacks (shown g) (shown_good g plain fits) can)) fault.some fault.none
+    (subst (λ (ls : List (List ℕ)). AreStacks ls (map said (shown g))) (sym (lines-text g plain fits) ∙ fault.parts) (said_stacks (shown g) (good_entries (entries g) plain fits) can))
+    fault.some fault.none
 
 -- ---- its bytes fit
 pub never_exceeds : (g : Graph) → HasPlainKeys g → HasWords g → Exceeds (text g) → ⊥

@@ -1,10 +1,10 @@
 -- The graphs of stacks, path by path, and what they add up to in any order.
-use Rattle.std.proofs.Common.{◌≡◌, ℕ, ◌+◌, ◌^◌, ◌<◌, ◌≤◌, ◌||◌, ◌&&◌, Bool, true, false, cond, List, [], ◌∷◌, ◌++◌, map, take, Option, Some, None, is_some, refl, sym, ap, ◌∙◌, subst, true≢false, unwrap_or, sum_by, arith, zero-add}
-use Rattle.allocative_graph.proofs.Common.{list_any, IsPermutation, is_eq, get, contains_key, get-insert, Line, Key, Path, key_cmp, path_cmp, is_same_path, Graph, size_at, total, begins, is_root, default, sum_of, under, add_self, Stack, bytes_at, is_path_of, all_bytes, nested, one_stack, sum_of_stacks, map_push, fold-map}
+use Rattle.std.proofs.Common.{◌≡◌, ℕ, ◌+◌, ◌^◌, ◌<◌, ◌||◌, ◌&&◌, Bool, true, false, cond, List, [], ◌∷◌, ◌++◌, map, take, Option, Some, None, is_some, refl, sym, ap, ◌∙◌, subst, true≢false, unwrap_or, sum_by, arith, zero-add}
+use Rattle.allocative_graph.proofs.Common.{list_any, IsPermutation, is_eq, get, contains_key, get-insert, Line, Key, Path, key_cmp, path_cmp, is_same_path, Graph, size_at, total, begins, is_root, default, sum_of, under, add_self, Means, IsRead, Stack, bytes_at, is_path_of, all_bytes, nested, one_stack, sum_of_stacks, map_push, fold-map}
 use Rattle.std.specs.Option.{SomeIff}
 use Rattle.std.proofs.lemmas.List.Sums.{fold-append}
 use Rattle.std.proofs.lemmas.List.Sorted.{IsPermutation-map}
-use Rattle.allocative_graph.specs.Read.{seen, IsGraphOfStacks}
+use Rattle.allocative_graph.specs.Read.{seen, IsGraphOfStacks, Exceeds}
 use Rattle.allocative_graph.proofs.Basics.{on_test, path_total, same_path}
 use Rattle.allocative_graph.proofs.ChildLookup.{tie}
 use Rattle.allocative_graph.proofs.PathOrder.{key_itself}
@@ -84,25 +84,23 @@ graph-stacks ss p =
     from_parts (get (sum_of_stacks default ss) p) (is_path_of ss p) (bytes_at ss p) (has-stacks ss p) (omega (arith, size_at-added_up one_stack default ss p, size_at-default p, each))
 
 -- ---- lines in any order
--- What lines add up to in another order has the paths, the sizes and the bytes of their stacks.
-pub record IsSum (ss : List Stack) (g : Graph) : Type 0 where
-  pub graph : IsGraphOfStacks ss g
-  pub bytes : total g ≡ all_bytes ss
-
-pub sum_is : (ls sorted : List Line) (g : Graph) → IsPermutation ls sorted → g ≡ sum_of_stacks default (map seen sorted) → IsSum (map seen ls) g
-sum_is ls sorted g moved e =
+-- What lines add up to in another order is what their text is read as.
+pub is_read : (t : List ℕ) (ls sorted : List Line) (g : Graph) → Means t (map seen ls) → IsPermutation ls sorted → g ≡ sum_of_stacks default (map seen sorted) → IsRead t g
+is_read t ls sorted g means moved e =
     let ss = map seen ls in
     let each : sum_by (λ s. total (one_stack s)) ss ≡ all_bytes ss = λ i. sum_by (λ s. total-one s i) ss in
-    subst (IsSum ss) (sym (e ∙ added_up-permuted one_stack default ss (map seen sorted) (IsPermutation-map seen ls sorted moved))) (record {
+    subst (IsRead t) (sym (e ∙ added_up-permuted one_stack default ss (map seen sorted) (IsPermutation-map seen ls sorted moved))) (record {
+      stacks = ss;
+      means = means;
       graph = graph-stacks ss;
       bytes = omega (arith, total-added_up one_stack default ss, total-default, each);
     })
 
 -- ---- the steps of the code
 -- One line more is added.
-pub line-more : (ls : List Line) (i : ℕ) (l : Line) (g h : Graph) → take (i + 1) ls ≡ take i ls ++ l ∷ [] → g ≡ sum_of_stacks default (map seen (take i ls)) → h ≡ sum_of g (one_stack (seen l))
+pub line_more : (ls : List Line) (i : ℕ) (l : Line) (g h : Graph) → take (i + 1) ls ≡ take i ls ++ l ∷ [] → g ≡ sum_of_stacks default (map seen (take i ls)) → h ≡ sum_of g (one_stack (seen l))
     → h ≡ sum_of_stacks default (map seen (take (i + 1) ls))
-line-more ls i l g h more was is =
+line_more ls i l g h more was is =
     is ∙ ap (λ (f : Graph). sum_of f (one_stack (seen l))) was
     ∙ sym (ap (λ xs. sum_of_stacks default (map seen xs)) more ∙ ap (sum_of_stacks default) (map_push seen (take i ls) l) ∙ fold-append (λ h s. sum_of h (one_stack s)) default (map seen (take i ls)) (seen l ∷ []))
 
@@ -112,6 +110,8 @@ nested-push [] k g = refl
 nested-push (l ∷ ks) k g = ap (λ (h : Graph). sum_of default (under l h)) (nested-push ks k g)
 
 -- Where the bytes of lines were added up in vain, they exceed a word.
-pub sum_exceeds : (ls given : List Line) (o : Option ℕ) → given ≡ ls → SomeIff o (sum_by (λ l. l.size) given < 2 ^ 64) (sum_by (λ l. l.size) given) → is_some o ≡ false → 2 ^ 64 ≤ all_bytes (map seen ls)
-sum_exceeds ls given None e h none = omega (arith, h, ap (λ (xs : List Line). sum_by (λ l. l.size) xs) e, fold-map (λ n (s : Stack). n + s.size) seen 0 ls)
-sum_exceeds ls given (Some n) e h none = absurd (true≢false none)
+pub sum_exceeds : (t : List ℕ) (ls given : List Line) (o : Option ℕ) → Means t (map seen ls) → given ≡ ls
+    → SomeIff o (sum_by (λ l. l.size) given < 2 ^ 64) (sum_by (λ l. l.size) given) → is_some o ≡ false → Exceeds t
+sum_exceeds t ls given None means e h none =
+    record { stacks = map seen ls; means = means; exceeds = omega (arith, h, ap (λ (xs : List Line). sum_by (λ l. l.size) xs) e, fold-map (λ n (s : Stack). n + s.size) seen 0 ls) }
+sum_exceeds t ls given (Some n) means e h none = absurd (true≢false none)

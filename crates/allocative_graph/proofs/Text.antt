@@ -1,11 +1,14 @@
 -- A text determines the sizes: it splits into lines at the line feeds, a line at its last space, and a path at each
 -- `;`.
-use Rattle.std.proofs.Common.{◌≡◌, ◌≢◌, ℕ, zero, suc, ◌+◌, ◌^◌, ◌<◌, ◌≤◌, ◌/◌, ◌%◌, ◌==◌, Bool, false, cond, not, ◌||◌, T, IsTrue, List, [], ◌∷◌, ◌++◌, map, flat_map, filter, Some, refl, ap, sym, ◌∙◌, subst, arith, add-zero, zero-add, unwrap_or, append_assoc, decimal, sum_by, nat_lt, eqb-true, if◌then◌else◌, Less}
-use Rattle.allocative_graph.proofs.Common.{AllByRecursion, is_eq, is_lt, entries, get-entries, entries_sorted, find, is_sorted, below_all, first, second, Key, Path, path_cmp, is_same_path, Graph, text_of_entries, joined, is_root, size_at, Lacks, HasPlainKeys, HasWords, sum_by-cons}
+use Rattle.std.proofs.Common.{◌≡◌, ◌≢◌, ℕ, zero, suc, ◌+◌, ◌^◌, ◌<◌, ◌≤◌, ◌/◌, ◌%◌, ◌==◌, Bool, false, cond, not, ◌||◌, T, IsTrue, List, [], ◌∷◌, ◌++◌, map, flat_map, filter, Some, refl, ap, sym, ◌∙◌, subst, arith, add-zero, zero-add, unwrap_or, append_assoc, decimal, sum_by, nat_lt, eqb-true, if◌then◌else◌}
+use Rattle.allocative_graph.proofs.Common.{AllByRecursion, entries, get-entries, entries_sorted, find, is_sorted, below_all, first, second, Key, Path, path_cmp, is_same_path, Graph, text_of_entries, joined, is_root, size_at, Lacks, sum_by-cons}
 use Rattle.std.specs.Fmt.{digits, digits_onto, digit_glyph}
-use Rattle.std.proofs.lemmas.Bool.{not-false}
+use Rattle.std.proofs.lemmas.Bool.{not-false, not-true}
+use Rattle.std.proofs.lemmas.List.Elements.{All-weaker, filter_passes}
+use Rattle.std.proofs.lemmas.List.Filters.{sum_by-filter_both}
+use Rattle.std.proofs.lemmas.List.Sums.{sum_by-le}
 use Rattle.allocative_graph.proofs.Basics.{each-append, each-implies, on_test, same_path}
-use Rattle.allocative_graph.proofs.Below.{is_lt-Less}
+use Rattle.allocative_graph.proofs.Below.{find-below_all}
 
 -- ---- lists parted at a byte
 pub lacks_not : (c : ℕ) (a x : List ℕ) → Lacks c (a ++ c ∷ x) → ⊥
@@ -74,15 +77,12 @@ body_lacks e h = each-append (λ b. b ≢ 10) (joined e.0) _ (joined_lacks e.0 h
 abbrev pub shown : Graph → List Sized
 shown g = filter is_shown (entries g)
 
-good_entries : (es : List Sized) → AllByRecursion (λ p. AllByRecursion Plain p) (map (λ e. e.0) es) → sum_by (λ e. e.1) es < 2 ^ 64 → AllByRecursion Good (filter is_shown es)
+pub good_entries : (es : List Sized) → AllByRecursion (λ p. AllByRecursion Plain p) (map (λ e. e.0) es) → sum_by (λ e. e.1) es < 2 ^ 64 → AllByRecursion Good (filter is_shown es)
 good_entries [] a b = tt
 good_entries (e ∷ es) a b =
     let parts = sum_by-cons (λ e. e.1) e es in
     let rest = good_entries es a.1 (omega (arith, parts)) in
     on_test (λ t. AllByRecursion Good (cond t (e ∷ filter is_shown es) (filter is_shown es))) (is_shown e) (λ h. (record { seen = h; plain = a.0; word = omega (arith, parts) }, rest)) (λ h. rest)
-
-pub shown_good : (g : Graph) → HasPlainKeys g → HasWords g → AllByRecursion Good (shown g)
-shown_good g plain fits = good_entries (entries g) plain fits
 
 -- ---- a size is that of the line at its path
 -- The bytes of some entries at a path.
@@ -99,17 +99,9 @@ unseen (l ∷ q, n) k p h = zero_at (is_same_path (k ∷ p) (l ∷ q)) (eqb-true
 
 -- The sum over the items that pass a test is that over all, where the others have none.
 sum-filter : {X : Type 0} (t : X → Bool) (f : X → ℕ) → ((x : X) → t x ≡ false → f x ≡ 0) → (xs : List X) → sum_by f (filter t xs) ≡ sum_by f xs
-sum-filter t f none [] = refl
-sum-filter t f none (x ∷ xs) = on_test (λ b. sum_by f (cond b (x ∷ filter t xs) (filter t xs)) ≡ sum_by f (x ∷ xs)) (t x)
-    (λ e. omega (arith, sum-filter t f none xs, sum_by-cons f x (filter t xs), sum_by-cons f x xs))
-    (λ e. omega (arith, sum-filter t f none xs, sum_by-cons f x xs, none x e))
-
-bytes-below : (q : Path) (es : List Sized) → T (below_all path_cmp q es) → bytes_in es q ≡ 0
-bytes-below q [] h = refl
-bytes-below q (e ∷ es) h =
-    let less : path_cmp q e.0 ≡ Less = is_lt-Less (path_cmp q e.0) (first (is_lt (path_cmp q e.0)) (below_all path_cmp q es) h) in
-    sum_by-cons (λ (x : Sized). cond (is_same_path q x.0) x.1 0) e es
-    ∙ (λ i. cond (is_eq (less i)) e.1 0 + bytes-below q es (second (is_lt (path_cmp q e.0)) (below_all path_cmp q es) h) i)
+sum-filter t f none xs =
+    let nothing = All-weaker _ (λ x. f x ≤ 0) (λ x h. omega (arith, none x (not-true (t x) h))) _ (filter_passes (λ x. not (t x)) xs) in
+    omega (arith, sum_by-filter_both t (λ x. not (t x)) (λ x. refl) f xs, sum_by-le f 0 (filter (λ x. not (t x)) xs) nothing)
 
 -- The bytes of entries in order at a path are the size that is found there.
 bytes-find : (q : Path) (es : List Sized) → T (is_sorted path_cmp es) → bytes_in es q ≡ unwrap_or (find path_cmp q es) 0
@@ -119,7 +111,7 @@ bytes-find q (e ∷ es) h =
     let above = first (below_all path_cmp e.0 es) (is_sorted path_cmp es) h in
     sum_by-cons (λ (x : Sized). cond (is_same_path q x.0) x.1 0) e es
     ∙ on_test (λ t. cond t e.1 0 + bytes_in es q ≡ unwrap_or (cond t (Some e.1) (find path_cmp q es)) 0) (is_same_path q e.0)
-    (λ same. ap (λ n. e.1 + n) (bytes-below q es (subst (λ (p : Path). T (below_all path_cmp p es)) (sym (same_path q e.0 same)) above)) ∙ add-zero e.1)
+    (λ same. ap (λ n. e.1 + n) (rest ∙ ap (λ o. unwrap_or o 0) (find-below_all q es (subst (λ (p : Path). T (below_all path_cmp p es)) (sym (same_path q e.0 same)) above))) ∙ add-zero e.1)
     (λ apart. zero-add (bytes_in es q) ∙ rest)
 
 -- A size of a graph, but for the root's, is that of the lines.

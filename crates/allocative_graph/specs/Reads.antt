@@ -29,14 +29,10 @@ node n cs = from_sorted (([], n) ∷ rows_of cs)
 abbrev pub keys_of : List Child → List Key
 keys_of cs = map (λ c. c.key) cs
 
--- The graph of each child has its root and, with each path, every prefix of it.
-abbrev pub AllTrees : List Child → Type 0
-AllTrees cs = AllByRecursion (λ c. IsTree c.graph) cs
-
 -- What holds of the children of every root: each key is below those after it, and each graph is a tree.
 pub record AreChildren (cs : List Child) : Type 0 where
   pub sorted : IsStrictlySortedBy key_cmp (keys_of cs)
-  pub trees : AllTrees cs
+  pub trees : AllByRecursion (λ c. IsTree c.graph) cs
 
 -- Each child has fewer paths than g.
 abbrev pub AllSmaller : List Child → Graph → Type 0

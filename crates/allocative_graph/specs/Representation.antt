@@ -4,5 +4,3 @@ pub mod PathRows
 pub mod Node
 pub mod NodeRows
 pub mod Children
-pub mod Merged
-pub mod Stacks

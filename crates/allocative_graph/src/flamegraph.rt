@@ -1,17 +1,14 @@
 //! Flame graphs: maps from paths of keys to sizes.
 ghost use Rattle.std.specs.Prelude.{◌≡◌, ◌+◌, ◌^◌, ◌<◌, ◌≤◌, ◌↔◌, ◌++◌, [], ◌∷◌, IfOk, IfErr, IfSome, IfNone, OnOk, OnErr, IsErrOf, string_bytes, map, length, is_ok};
-ghost use Rattle.std.specs.Bool.{OnFalse};
 ghost use Rattle.std.specs.List.{insert};
-ghost use Rattle.std.specs.Vec.{vec_capacity};
 ghost use Rattle.std.specs.FinMap as map;
 ghost use Rattle.allocative_graph.specs.Path.{key_cmp};
 ghost use Rattle.allocative_graph.specs.Format.{semicolon};
 ghost use Rattle.allocative_graph.specs.Graph.{add_self, total, text, default, sum_of, under, joined, IsTree, IsPartOfSum};
-ghost use Rattle.allocative_graph.specs.Representation.PathRows.{size_text, lines_from, lines_below, HasRootAlone};
+ghost use Rattle.allocative_graph.specs.Representation.PathRows.{size_text, lines_from, lines_below};
 ghost use Rattle.allocative_graph.specs.Reads.{AreChildren};
 ghost use Rattle.allocative_graph.specs.Representation.Node.{weight};
-ghost use Rattle.allocative_graph.specs.Representation.Children.{front_order, InOrder, IsFound, IsChildGap};
-ghost use Rattle.allocative_graph.specs.Representation.Merged.{Added, Merged, IsNext};
+ghost use Rattle.allocative_graph.specs.Representation.Children.{front_order, InOrder, IsFound, IsChildGap, Added, Merged, IsNext};
 ghost use Rattle.allocative_graph.specs.declared.flamegraph.Child.{Child};
 
 use crate::key::Key;
@@ -90,6 +87,7 @@ impl Model for FlameGraph {
 impl FlameGraph {
     /// The graph that has only the root, with size 0. It allocates nothing; it keeps the
     /// allocator for what is added later.
+    #[tactic(auto, using(crate::proofs::NodeSizes::node_nil, crate::proofs::ChildOrder::no_children))]
     pub fn default(alloc: Global) -> FlameGraph
         ensures { result ≡ default }
     {
@@ -111,6 +109,7 @@ impl FlameGraph {
     }
 
     /// The sum of the sizes of all paths in bytes, including the root's own.
+    #[tactic(auto, using(crate::proofs::NodeAdded::total_of_node))]
     pub fn total_size(&self) -> usize
         ensures total { result ≡ total self.now }
 
@@ -123,6 +122,7 @@ impl FlameGraph {
     /// Adds bytes to the size of the root. It allocates nothing.
     ///
     /// It returns `TooLarge` exactly where the total would exceed `usize::MAX`, and then changes nothing.
+    #[tactic(auto, using(crate::proofs::NodeAdded::total_of_node, crate::proofs::NodeAdded::own_of_node, crate::proofs::NodeSizes::insert_root))]
     pub fn add_self(&mut self, size: usize) -> Result<(), Refusal>
         ensures sum { OnOk result (self.new ≡ add_self size self.old) }
         ensures too_large { IsErrOf result Refusal.TooLarge ↔ (2 ^ 64 ≤ total self.old + size) }
@@ -141,6 +141,7 @@ impl FlameGraph {
     /// It returns `TooLarge` exactly where the sum of the two totals exceeds `usize::MAX`, and then changes
     /// nothing. After `Memory` each path has its old size or that of the sum, all old paths are still there,
     /// and there is no path that the sum does not have. After an error `other` is dropped.
+    #[tactic(auto, using(crate::proofs::NodeAdded::added_sum))]
     pub fn add(&mut self, other: FlameGraph) -> Result<(), Refusal>
         ensures sum { OnOk result (self.new ≡ sum_of self.old other) }
         ensures too_large { IsErrOf result Refusal.TooLarge ↔ (2 ^ 64 ≤ total self.old + total other) }
@@ -161,6 +162,7 @@ impl FlameGraph {
     /// time quadratic in their number. [`add_children`](FlameGraph::add_children) adds many at once.
     ///
     /// The errors, and what they leave, are those of [`add`](FlameGraph::add).
+    #[tactic(auto, using(crate::proofs::NodeAdded::total_of_node))]
     pub fn add_child(&mut self, key: Key, child: FlameGraph) -> Result<(), Refusal>
         ensures sum { OnOk result (self.new ≡ sum_of self.old (under key child)) }
         ensures too_large { IsErrOf result Refusal.TooLarge ↔ (2 ^ 64 ≤ total self.old + total child) }
@@ -181,6 +183,7 @@ impl FlameGraph {
 
     // A copy of the graph where it has only the root. It allocates nothing and makes no further call.
     #[inline(always)]
+    #[tactic(auto, using(std::proofs::lemmas::List::nil_from_length, crate::proofs::ChildOrder::no_children))]
     fn root_alone(&self) -> Option<FlameGraph>
         ensures { IfSome result (λ root. root ≡ self.now) }
     {
@@ -198,6 +201,7 @@ impl FlameGraph {
 
     // Adds another graph where the totals are known to fit.
     #[cycle(merge)]
+    #[tactic(auto, using(crate::proofs::NodeAdded::total_of_both, crate::proofs::NodeAdded::merged_node))]
     fn merge(&mut self, other: FlameGraph) -> Result<(), AllocError>
         requires { total self.old + total other < 2 ^ 64 }
         ensures { Added (is_ok result) self.old other self.new }
@@ -215,10 +219,7 @@ impl FlameGraph {
             };
             return put_child(&mut self.children, &mut self.children_size, child);
         }
-        let alloc = *self.children.allocator();
-        let merged = Vec::with_capacity(alloc, self.children.len() + children.len())?;
-        let mine = mem::replace(&mut self.children, merged);
-        interleave(mine, children, &mut self.children, &mut self.children_size)
+        interleave(&mut self.children, &mut self.children_size, children)
     }
 
     /// The collapsed stacks that `flamegraph.pl` reads: one line for each path but the root with a size other
@@ -233,33 +234,35 @@ impl FlameGraph {
         let alloc = *self.children.allocator();
         let mut text = String::new(alloc);
         let mut start = String::new(alloc);
-        match self.write_below(&mut start, &mut text) {
-            Ok(()) => Ok(text),
-            Err(_) => Err(Refusal::Memory),
-        }
+        self.write_below("", &mut start, &mut text)?;
+        Ok(text)
     }
 
-    // Appends the lines of all paths but the root, each after the given start of a line.
-    fn write_below(&self, start: &mut String, text: &mut String) -> Result<(), AllocError>
+    // Appends the lines of all paths but the root, each after the given start of a line and the separator.
+    fn write_below(
+        &self,
+        separator: &str,
+        start: &mut String,
+        text: &mut String,
+    ) -> Result<(), AllocError>
         ensures start { OnOk result (string_bytes start.new ≡ string_bytes start.old) }
         ensures text { OnOk result
             (string_bytes text.new
-            ≡ string_bytes text.old ++ lines_below (string_bytes start.old) (map.entries self.now)) }
+            ≡ string_bytes text.old ++ lines_below (string_bytes start.old ++ separator.now) (map.entries self.now)) }
     {
         let length = start.len();
         for child in &self.children {
+            start.push_str(separator)?;
             start.push_str(child.key.as_str())?;
             child.graph.write_own(start.as_str(), text)?;
-            if child.graph.has_children() {
-                start.push(';')?;
-                child.graph.write_below(start, text)?;
-            }
+            child.graph.write_below(";", start, text)?;
             start.truncate(length);
         }
         Ok(())
     }
 
     // Appends the root's own line after the keys of its path.
+    #[tactic(auto, using(crate::proofs::NodeText::own_written, crate::proofs::NodeText::line_of_some, crate::proofs::NodeText::nothing_written))]
     fn write_own(&self, path: &str, text: &mut String) -> Result<(), AllocError>
         ensures { OnOk result
             (string_bytes text.new ++ lines_below (path.now ++ semicolon ∷ []) (map.entries self.now)
@@ -269,13 +272,6 @@ impl FlameGraph {
             push_line(path, self.node_size, text)?;
         }
         Ok(())
-    }
-
-    // Whether there are paths other than the root.
-    fn has_children(&self) -> bool
-        ensures { OnFalse result (HasRootAlone self.now) }
-    {
-        !self.children.is_empty()
     }
 }
 
@@ -345,12 +341,12 @@ fn place_of(children: &[Child], key: &Key) -> Result<usize, usize>
             Ordering::Greater => {}
         }
     }
-    place_by_halving(children, key)
+    place_by_halving(children, key.as_str())
 }
 
 // The place of the key among the children, or else the place where it belongs, by binary search.
 #[inline(never)]
-fn place_by_halving(children: &[Child], key: &Key) -> Result<usize, usize>
+fn place_by_halving(children: &[Child], key: &str) -> Result<usize, usize>
     requires { InOrder children.now }
     ensures found { IfOk result (IsFound children.now key.now) }
     ensures missing { IfErr result (IsChildGap children.now key.now) }
@@ -358,12 +354,13 @@ fn place_by_halving(children: &[Child], key: &Key) -> Result<usize, usize>
     children.binary_search_by(
         |child: &Child| -> Ordering
             ensures { result ≡ key_cmp child.entry.now.key key.entry.now }
-        { child.key.cmp(key) },
+        { child.key.as_str().cmp(key) },
     )
 }
 
 // Adds a child: to the child with its key, or at its place among the others.
 #[cycle(merge)]
+#[tactic(auto, using(crate::proofs::ChildMerged::weight_at_gap))]
 fn put_child(children: &mut Vec<Child>, size: &mut usize, child: Child) -> Result<(), AllocError>
     requires children { AreChildren children.old.items }
     requires exact { size.old ≡ weight children.old.items }
@@ -405,25 +402,26 @@ fn put_at(children: &mut Vec<Child>, at: usize, child: Child) -> Result<(), Allo
     Ok(())
 }
 
-// Puts the merge of both lists into `children`, which has room for all. After an error it continues,
-// so that no child is lost. It is a call of its own, so that a merge of one child takes less of the stack.
+// Merges other children into `children`. After a refusal on the way it continues, so that no child is lost. It is a
+// call of its own, so that a merge of one child takes less of the stack.
 #[inline(never)]
 #[cycle(merge)]
+#[tactic(auto, using(crate::proofs::ChildMerged::not_merged))]
 fn interleave(
-    mine: Vec<Child>,
-    theirs: Vec<Child>,
     children: &mut Vec<Child>,
     size: &mut usize,
+    theirs: Vec<Child>,
 ) -> Result<(), AllocError>
-    requires empty { children.old.items ≡ [] }
-    requires room { length mine.items + length theirs.items ≤ vec_capacity children.old }
-    requires mine { AreChildren mine.items }
+    requires mine { AreChildren children.old.items }
+    requires exact { size.old ≡ weight children.old.items }
     requires theirs { AreChildren theirs.items }
-    requires fits { weight mine.items + weight theirs.items < 2 ^ 64 }
-    ensures merged { Merged (is_ok result) mine.items theirs.items children.new.items }
+    requires fits { size.old + weight theirs.items < 2 ^ 64 }
+    ensures merged { Merged (is_ok result) children.old.items theirs.items children.new.items }
     ensures exact { size.new ≡ weight children.new.items }
 {
-    let mut mine = VecDeque::from(mine);
+    let alloc = *children.allocator();
+    let merged = Vec::with_capacity(alloc, children.len() + theirs.len())?;
+    let mut mine = VecDeque::from(mem::replace(children, merged));
     let mut theirs = VecDeque::from(theirs);
     let mut result = Ok(());
     *size = 0;

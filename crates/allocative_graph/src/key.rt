@@ -82,9 +82,7 @@ impl Key {
     pub fn copy(&self) -> Key
         ensures { result ≡ self.now }
     {
-        Key {
-            text: self.text.copy(),
-        }
+        Key::new(self.as_str())
     }
 }
 

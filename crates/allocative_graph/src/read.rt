@@ -1,10 +1,10 @@
 //! Reading the text of a flame graph: collapsed stacks, of this library or of any other profiler.
 ghost use Rattle.std.specs.Prelude.{◌≡◌, ◌+◌, ◌^◌, ◌<◌, ◌≤◌, ℕ, IfOk, IfErr, IsErrOf, map, sum_by};
 ghost use Rattle.std.specs.Option.{SomeIff};
-ghost use Rattle.std.specs.List.Sorted.{IsPermutation};
 ghost use Rattle.allocative_graph.specs.Graph.{default};
-ghost use Rattle.allocative_graph.specs.Read.{keys_of, seen, IsStack, IsWrong, Means, IsFault, IsRead, Exceeds, ReadsBack};
-ghost use Rattle.allocative_graph.specs.Representation.Stacks.{one_stack, sum_of_stacks};
+ghost use Rattle.allocative_graph.specs.declared.read.ReadFault.TheVariants.{Memory};
+ghost use Rattle.allocative_graph.specs.Read.{seen, IsStack, IsWrong, Means, IsFault, IsRead, Exceeds, ReadsBack};
+ghost use Rattle.allocative_graph.specs.Representation.PathRows.{one_stack, sum_of_stacks};
 
 use crate::flamegraph::FlameGraph;
 use crate::key::Key;
@@ -49,9 +49,6 @@ pub enum ReadFault {
 }
 
 impl From<AllocError> for ReadFault {
-    ghost use Rattle.allocative_graph.specs.declared.read.ReadFault.TheVariants.{Memory};
-    ghost use Rattle.std.specs.Prelude.{◌≡◌};
-
     ghost from_gives = { λ _ f. f ≡ Memory };
 
     fn from(_refused: AllocError) -> ReadFault {
@@ -60,9 +57,6 @@ impl From<AllocError> for ReadFault {
 }
 
 impl<T: Drop> From<AllocFailed<T>> for ReadFault {
-    ghost use Rattle.allocative_graph.specs.declared.read.ReadFault.TheVariants.{Memory};
-    ghost use Rattle.std.specs.Prelude.{◌≡◌};
-
     ghost from_gives = { λ _ f. f ≡ Memory };
 
     fn from(_refused: AllocFailed<T>) -> ReadFault {
@@ -89,7 +83,8 @@ impl FlameGraph {
         if total_of(lines.as_slice()).is_none() {
             return Err(ReadFault::TooLarge);
         }
-        sort(&mut lines);
+        // Almost every key is then added behind those that are there. The result of a sum does not depend on it.
+        lines.sort_unstable_by(|a: &Line, b: &Line| a.path.cmp(b.path));
         // The sizes fit, so the only error is that memory runs out.
         match add_up(alloc, lines.as_slice()) {
             Ok(graph) => Ok(graph),
@@ -108,20 +103,14 @@ struct Line {
 }
 
 impl Line {
-    // The keys of the path.
-    fn keys(&self, alloc: Global) -> Result<Vec<&'static str>, AllocError>
-        ensures { IfOk result (λ keys. map (λ k. k.now) keys.items ≡ keys_of self.now.path.now) }
-    {
-        self.path.split(';').collect(alloc)
-    }
-
     // The graph of the line alone.
+    #[tactic(auto, using(std::proofs::lemmas::List::nil_from_length))]
     fn graph(&self, alloc: Global) -> Result<FlameGraph, Refusal>
         ensures { IfOk result (λ graph. graph ≡ one_stack (seen self.now)) }
     {
         let mut graph = FlameGraph::default(alloc);
         graph.add_self(self.size)?;
-        let mut keys = self.keys(alloc)?;
+        let mut keys: Vec<&'static str> = self.path.split(';').collect(alloc)?;
         while let Some(key) = keys.pop() {
             let mut parent = FlameGraph::with_capacity(alloc, 1)?;
             parent.add_child(Key::new(key), graph)?;
@@ -132,6 +121,7 @@ impl Line {
 }
 
 // Reads one line.
+#[tactic(auto, using(crate::proofs::ReadLines::no_space))]
 fn read_line(line: &'static str) -> Result<Line, LineFault>
     ensures ok { IfOk result (λ read. IsStack line.now (seen read)) }
     ensures wrong { IfErr result (λ w. IsWrong w line.now) }
@@ -173,6 +163,7 @@ fn read_lines(alloc: Global, text: &'static str) -> Result<Vec<Line>, ReadFault>
 }
 
 // The bytes of all lines together, or `None` where they do not fit.
+#[tactic(auto, using(std::proofs::Common::take_all))]
 fn total_of(lines: &[Line]) -> Option<usize>
     ensures { SomeIff result (sum_by (λ l. l.size) lines.now < 2 ^ 64) (sum_by (λ l. l.size) lines.now) }
 {
@@ -183,15 +174,8 @@ fn total_of(lines: &[Line]) -> Option<usize>
     Some(sum)
 }
 
-// Sorts lines by the bytes of their paths, so that almost every key is added behind those that are there. The result
-// of a sum does not depend on it.
-fn sort(lines: &mut Vec<Line>)
-    ensures { IsPermutation lines.old.items lines.new.items }
-{
-    lines.sort_unstable_by(|a: &Line, b: &Line| a.path.cmp(b.path));
-}
-
 // The sum of the graphs of some lines.
+#[tactic(auto, using(std::proofs::Common::take_all, crate::proofs::StackSums::line_more))]
 fn add_up(alloc: Global, lines: &[Line]) -> Result<FlameGraph, Refusal>
     ensures { IfOk result (λ graph. graph ≡ sum_of_stacks default (map seen lines.now)) }
 {

@@ -1,4 +1,7 @@
 //! Why a call refuses.
+ghost use Rattle.std.specs.Prelude.{◌≡◌};
+ghost use Rattle.allocative_graph.specs.declared.refusal.Refusal.TheVariants.{Memory};
+
 use std::alloc::{AllocError, AllocFailed};
 use thiserror::Error;
 
@@ -17,9 +20,6 @@ pub enum Refusal {
 }
 
 impl From<AllocError> for Refusal {
-    ghost use Rattle.allocative_graph.specs.declared.refusal.Refusal.TheVariants.{Memory};
-    ghost use Rattle.std.specs.Prelude.{◌≡◌};
-
     ghost from_gives = { λ _ r. r ≡ Memory };
 
     fn from(_refused: AllocError) -> Refusal {
@@ -28,9 +28,6 @@ impl From<AllocError> for Refusal {
 }
 
 impl<T: Drop> From<AllocFailed<T>> for Refusal {
-    ghost use Rattle.allocative_graph.specs.declared.refusal.Refusal.TheVariants.{Memory};
-    ghost use Rattle.std.specs.Prelude.{◌≡◌};
-
     ghost from_gives = { λ _ r. r ≡ Memory };
 
     fn from(_refused: AllocFailed<T>) -> Refusal {

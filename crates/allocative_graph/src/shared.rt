@@ -56,8 +56,6 @@ impl Identity {
 
 /// A number alone is an identity of the maker 0.
 impl From<u64> for Identity {
-    ghost use Rattle.std.specs.Prelude.{◌≡◌};
-
     ghost from_gives = { λ n i. i ≡ record { maker = 0; number = n } };
 
     fn from(number: u64) -> Identity {

@@ -4,14 +4,12 @@
 //! closure or kept in another struct, gets no generated proof. A key, which collectors hold, therefore keeps
 //! its text as a pointer and a length, beside a ghost right to read there forever.
 //!
-//! Proved by hand, in `proofs/static_text`, are the three functions of [`ReadRight`] that make the right,
-//! copy it and read by it, and that the right can be copied and sent to other threads. All other proofs
-//! are generated from these.
+//! Proved by hand, in `proofs/static_text`, are the two functions of [`ReadRight`] that make the right and read
+//! by it, and that the right can be shared and sent to other threads. All other proofs are generated from these.
 ghost use Rattle.std.specs.Prelude.{◌≡◌, ℕ, ◌^◌, ◌<◌, ◌≤◌, List, [], length, IsUtf8};
 ghost use denote.RawPtr.{Ptr};
 ghost use Rattle.allocative_graph.specs.Static.{IsPlaced, static_owns};
 
-use std::alloc::AllocError;
 use std::marker::Model;
 use std::{slice, str};
 
@@ -35,13 +33,6 @@ impl ReadRight {
         ensures { (result.1.ptr ≡ result.0) × (result.1.items ≡ bytes.now) }
     {
         (bytes.as_ptr(), ReadRight {})
-    }
-
-    /// A copy of the right: reading takes nothing away from another reader.
-    pub(crate) fn copy(&self) -> ReadRight
-        ensures { result ≡ self.now }
-    {
-        ReadRight {}
     }
 
     /// The bytes at the pointer.
@@ -95,26 +86,5 @@ impl StaticText {
         ensures { result.now ≡ self.now }
     {
         unsafe { str::from_utf8_unchecked(self.right.read(self.at, self.len)) }
-    }
-
-    /// A copy of the text. It never fails.
-    pub fn copy(&self) -> StaticText
-        ensures { result ≡ self.now }
-    {
-        StaticText {
-            at: self.at,
-            len: self.len,
-            right: self.right.copy(),
-        }
-    }
-}
-
-impl Clone for StaticText {
-    ghost is_clone = { λ s c. c ≡ s };
-
-    ghost is_infallible = { λ _. Unit {0} };
-
-    fn clone(&self) -> Result<StaticText, AllocError> {
-        Ok(self.copy())
     }
 }

@@ -1,5 +1,6 @@
--- Lists of children, as maps from a key and the path below it to a size.
-use Rattle.std.specs.Prelude.{◌≡◌, ℕ, ◌+◌, ◌<◌, ◌≤◌, ◌||◌, ◌⊎◌, true, cond, List, [], ◌∷◌, Option, Some, None, is_some, take, drop, length, slice_index_or}
+-- Lists of children, as maps from a key and the path below it to a size, and what adding graphs and merging children
+-- leave, also where memory runs out on the way.
+use Rattle.std.specs.Prelude.{◌≡◌, ℕ, ◌+◌, ◌<◌, ◌≤◌, ◌||◌, ◌⊎◌, true, cond, List, [], ◌∷◌, Option, Some, None, is_some, take, drop, length, slice_index_or, ◌&&◌, Bool}
 use Rattle.std.specs.Option.{unwrap_or}
 use Rattle.std.specs.List.{AllByRecursion}
 use Rattle.std.specs.List.Sorted.{IsStrictlySortedBy}
@@ -9,7 +10,10 @@ use Rattle.std.specs.Ordering.{eq_by_cmp}
 use Rattle.std.specs.FinMap.{get}
 use Rattle.allocative_graph.specs.declared.flamegraph.Child.{Child}
 use Rattle.allocative_graph.specs.Path.{Key, Path, key_cmp}
-use Rattle.allocative_graph.specs.Reads.{keys_of}
+use Rattle.allocative_graph.specs.Reads.{keys_of, rows_of, AreChildren}
+use Rattle.allocative_graph.specs.Graph.{Graph, IsTree, total, IsPartOfSum}
+use Rattle.allocative_graph.specs.Representation.PathRows.{IsSumByPath}
+use Rattle.allocative_graph.specs.Representation.Node.{weight}
 
 -- The size at the path p below the child with the key k, or None where there is no such path.
 abbrev pub size_under : List Child → Key → Path → Option ℕ
@@ -26,14 +30,6 @@ AddsUpInPart x y z =
     ((unwrap_or z 0 ≡ unwrap_or x 0) ⊎ (unwrap_or z 0 ≡ unwrap_or x 0 + unwrap_or y 0))
     × (is_some x ≡ true → is_some z ≡ true)
     × (is_some z ≡ true → (is_some x || is_some y) ≡ true)
-
--- Below each key, the sizes of es are the sums of those of cs and ds.
-abbrev pub AreSum : List Child → List Child → List Child → Type 0
-AreSum cs ds es = (k : Key) (p : Path) → AddsUp (size_under cs k p) (size_under ds k p) (size_under es k p)
-
--- Below each key, each size of es is that of cs or the sum of those of cs and ds.
-abbrev pub ArePartOfSum : List Child → List Child → List Child → Type 0
-ArePartOfSum cs ds es = (k : Key) (p : Path) → AddsUpInPart (size_under cs k p) (size_under ds k p) (size_under es k p)
 
 -- Each key is below those after it.
 abbrev pub InOrder : List Child → Type 0
@@ -65,3 +61,28 @@ front_order [] [] = None
 front_order [] (d ∷ ds) = Some Greater
 front_order (c ∷ cs) [] = Some Less
 front_order (c ∷ cs) (d ∷ ds) = Some (key_cmp c.key d.key)
+
+-- ---- what adding and merging leave
+-- h was added to g, with the result r: a part of their sum, and where all was added the sum itself.
+pub record Added (all : Bool) (g h r : Graph) : Type 0 where
+  pub tree : IsTree r
+  pub part : IsPartOfSum g h r
+  pub sum : all ≡ true → IsSumByPath g h r
+  pub at_most : total r ≤ total g + total h
+
+-- ds were merged into cs, with the result es: below each key a part of their sum, and where all was added the sum itself.
+pub record Merged (all : Bool) (cs ds es : List Child) : Type 0 where
+  pub children : AreChildren es
+  pub above : (k : Key) → AllAbove cs k → AllAbove ds k → AllAbove es k
+  pub part : (k : Key) (p : Path) → AddsUpInPart (size_under cs k p) (size_under ds k p) (size_under es k p)
+  pub sum : all ≡ true → (k : Key) (p : Path) → AddsUp (size_under cs k p) (size_under ds k p) (size_under es k p)
+  pub at_most : weight es ≤ weight cs + weight ds
+
+-- c is the next child in the merge of cs and ds, and cs' and ds' remain: c comes before whatever these merge to.
+pub record IsNext (all : Bool) (cs ds : List Child) (c : Child) (cs' ds' : List Child) : Type 0 where
+  pub goes_on : (b : Bool) (es : List Child) → Merged b cs' ds' es → Merged (all && b) cs ds (c ∷ es)
+  pub mine : AreChildren cs'
+  pub theirs : AreChildren ds'
+  pub fewer : length cs' + length ds' < length cs + length ds
+  pub fewer_rows : length (rows_of ds') ≤ length (rows_of ds)
+  pub fits : total c.graph + (weight cs' + weight ds') ≤ weight cs + weight ds

@@ -1,6 +1,8 @@
 -- The rows of a node are in the order of paths. They are therefore the entries of its graph, and each child has fewer.
-use Rattle.std.specs.Prelude.{◌≡◌, ℕ, ◌+◌, ◌≤◌, T, Bool, true, false, ◌&&◌, List, [], ◌∷◌, ◌++◌, length}
+use Rattle.std.specs.Prelude.{◌≡◌, ℕ, ◌+◌, ◌≤◌, T, Bool, ◌&&◌, List, [], ◌∷◌, ◌++◌, length}
 use Rattle.std.proofs.Common.{arith, length-append, ap, sym, subst, ◌∙◌}
+use Rattle.std.proofs.Math.Facts.{and_yes}
+pub use Rattle.std.proofs.Math.Facts.{yes_and as both}
 use Rattle.std.proofs.lemmas.List.{length-map}
 use Rattle.std.specs.List.{AllByRecursion}
 use Rattle.std.specs.List.Sorted.{IsStrictlySortedBy}
@@ -16,27 +18,16 @@ use Rattle.allocative_graph.specs.Reads.{under_rows, rows_of, rows_of_child, key
 use Rattle.allocative_graph.specs.Path.{Key, Path, key_cmp, path_cmp}
 use denote.Param.Weighed.{most}
 
--- A list of paths with their sizes.
-abbrev Rows : Type 0
-Rows = List (Path × ℕ)
-
--- The conjunction of two tests that hold holds.
-pub both : (a b : Bool) → T a → T b → T (a && b)
-both true b p q = q
-both false b p q = p
-
 -- Where a conjunction holds, its first test holds.
 pub first : (a b : Bool) → T (a && b) → T a
-first true b p = tt
-first false b p = p
+first a b p = (and_yes a b p).0
 
 -- Where a conjunction holds, its second test holds.
 pub second : (a b : Bool) → T (a && b) → T b
-second true b p = p
-second false b p = absurd p
+second a b p = (and_yes a b p).1
 
 -- A path before each path that starts with k is before some of them, followed by rows that it is before.
-below_every : (x : Path) (k : Key) (rs rest : Rows) → ((p : Path) → T (is_lt (path_cmp x (k ∷ p))))
+below_every : (x : Path) (k : Key) (rs rest : List (Path × ℕ)) → ((p : Path) → T (is_lt (path_cmp x (k ∷ p))))
     → T (below_all path_cmp x rest) → T (below_all path_cmp x (under_rows k rs ++ rest))
 below_every x k [] rest f g = g
 below_every x k (r ∷ rs) rest f g = both _ _ (f r.0) (below_every x k rs rest f g)
@@ -54,15 +45,15 @@ below-later k p (c ∷ cs) h = below_every (k ∷ p) c.key (entries c.graph) (ro
     (λ q. subst (λ o. T (is_lt (ordering_then o (path_cmp p q)))) (sym h.0) tt) (below-later k p cs h.1)
 
 -- A path before some rows is before them when one key is put before all, and rows follow that it is before.
-below-under : (k : Key) (p : Path) (rs rest : Rows) → T (below_all path_cmp p rs)
+below-under : (k : Key) (p : Path) (rs rest : List (Path × ℕ)) → T (below_all path_cmp p rs)
     → T (below_all path_cmp (k ∷ p) rest) → T (below_all path_cmp (k ∷ p) (under_rows k rs ++ rest))
 below-under k p [] rest h g = g
 below-under k p (r ∷ rs) rest h g =
     both _ _ (subst (λ o. T (is_lt (ordering_then o (path_cmp p r.0)))) (sym (tied_itself nat_list_cmp_total k)) (first _ _ h))
     (below-under k p rs rest (second _ _ h) g)
 
--- Rows in order with a key before them, followed by rows that come after these, are in order.
-sorted-under : (k : Key) (rs rest : Rows) → T (is_sorted path_cmp rs) → T (is_sorted path_cmp rest)
+-- List (Path × ℕ) in order with a key before them, followed by rows that come after these, are in order.
+sorted-under : (k : Key) (rs rest : List (Path × ℕ)) → T (is_sorted path_cmp rs) → T (is_sorted path_cmp rest)
     → ((p : Path) → T (below_all path_cmp (k ∷ p) rest)) → T (is_sorted path_cmp (under_rows k rs ++ rest))
 sorted-under k [] rest p q h = q
 sorted-under k (r ∷ rs) rest p q h =

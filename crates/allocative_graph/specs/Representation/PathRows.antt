@@ -1,9 +1,10 @@
--- Rows, which are paths with their sizes, and the sum of two graphs path by path.
-use Rattle.std.specs.Prelude.{◌≡◌, ℕ, ◌+◌, ◌||◌, ◌==◌, if◌then◌else◌, List, [], ◌∷◌, ◌++◌, flat_map, decimal}
-use Rattle.std.specs.FinMap.{contains_key, entries}
+-- Rows, which are paths with their sizes, the sum of two graphs path by path, and the graphs of stacks.
+use Rattle.std.specs.Prelude.{◌≡◌, ℕ, ◌+◌, ◌||◌, ◌==◌, if◌then◌else◌, List, [], ◌∷◌, ◌++◌, flat_map, decimal, fold}
+use Rattle.std.specs.FinMap.{contains_key}
 use Rattle.allocative_graph.specs.Path.{Path}
 use Rattle.allocative_graph.specs.Format.{semicolon, space, newline}
-use Rattle.allocative_graph.specs.Graph.{Graph, size_at, is_root, joined}
+use Rattle.allocative_graph.specs.Graph.{Graph, size_at, is_root, joined, default, sum_of, under, add_self}
+use Rattle.allocative_graph.specs.Read.{Stack}
 
 -- The sum of the sizes of some rows.
 abbrev pub sum_of_rows : List (Path × ℕ) → ℕ
@@ -35,11 +36,21 @@ line_below t r = if is_root r.0 || r.1 == 0 then [] else (t ++ (joined r.0 ++ si
 abbrev pub lines_below : List ℕ → List (Path × ℕ) → List ℕ
 lines_below t rs = flat_map (line_below t) rs
 
--- The root is the only path.
-abbrev pub HasRootAlone : Graph → Type 0
-HasRootAlone g = (n : ℕ) × (entries g ≡ ([], n) ∷ [])
-
 -- Path by path r is the sum of g and h, and it has the paths of both.
 abbrev pub IsSumByPath : Graph → Graph → Graph → Type 0
 IsSumByPath g h r = (p : Path)
     → (size_at r p ≡ size_at g p + size_at h p) × (contains_key r p ≡ (contains_key g p || contains_key h p))
+
+-- ---- the graphs of stacks, one added to another
+-- The graph g with the keys of a path put before each of its paths, one after another from the last on.
+abbrev pub nested : Path → Graph → Graph
+nested [] g = g
+nested (k ∷ p) g = sum_of default (under k (nested p g))
+
+-- The graph of one stack.
+abbrev pub one_stack : Stack → Graph
+one_stack s = nested s.path (add_self s.size default)
+
+-- The graph g with the graphs of some stacks added, one after another.
+abbrev pub sum_of_stacks : Graph → List Stack → Graph
+sum_of_stacks g ss = fold (λ h s. sum_of h (one_stack s)) g ss

@@ -37,6 +37,7 @@ impl FlameGraph {
 }
 
 // The sum of the totals of some children, or `None` where it does not fit.
+#[tactic(auto, using(std::proofs::Common::take_all))]
 fn total_size_of(children: &[Child]) -> Option<usize>
     ensures { SomeIff result (total_of children.now < 2 ^ 64) (total_of children.now) }
 {
@@ -49,6 +50,7 @@ fn total_size_of(children: &[Child]) -> Option<usize>
 
 // A graph that has only the children. They are added in the order of their keys, so that each is put at the
 // end.
+#[tactic(auto, using(std::proofs::lemmas::List::nil_from_length, crate::proofs::Gathered::all_permuted))]
 fn gather(alloc: Global, children: Vec<Child>) -> Result<FlameGraph, AllocError>
     requires { total_of children.items < 2 ^ 64 }
     ensures { IfOk result (λ graph. graph ≡ sum_of_all default children.items) }

@@ -1,14 +1,11 @@
 //! Reading a flame graph: its children, the graph at a path, and the rows of all paths.
 ghost use Rattle.std.specs.Prelude.{◌≡◌, ◌++◌, [], IfOk, IfErr, IfSome, IfNone, OnOk, map};
-ghost use Rattle.allocative_graph.specs.Path.{key_cmp};
 ghost use Rattle.allocative_graph.specs.Graph.{size_at, total_at, IsBehind, HasNothing};
-ghost use Rattle.allocative_graph.specs.Representation.Children.{InOrder, IsFound, IsChildGap};
 ghost use Rattle.allocative_graph.specs.Reads.{AllSmaller, seen, figures, figures_behind, node, AreChildren};
 
-use crate::flamegraph::{Child, FlameGraph};
+use crate::flamegraph::{Child, FlameGraph, place_by_halving};
 use crate::refusal::Refusal;
 use std::alloc::{AllocError, Global};
-use std::cmp::Ordering;
 
 /// A path of a flame graph, with its sizes in bytes.
 #[derive(Drop)]
@@ -23,6 +20,7 @@ pub struct Row {
 
 impl FlameGraph {
     /// The size of the root alone, in bytes.
+    #[tactic(auto, using(crate::proofs::NodeAdded::own_of_node))]
     pub fn self_size(&self) -> usize
         ensures { result ≡ size_at self.now [] }
     {
@@ -31,6 +29,7 @@ impl FlameGraph {
 
     /// The children of the root, in the order of their keys. No two have the same key. Together with the root's
     /// own size they are the whole graph. Each child has fewer paths, so a function may call itself on it.
+    #[tactic(auto, using(crate::proofs::NodeAdded::own_of_node))]
     pub fn children(&self) -> &[Child]
         ensures whole { self.now ≡ node (size_at self.now []) result.now }
         ensures children { AreChildren result.now }
@@ -49,7 +48,7 @@ impl FlameGraph {
         let Some((key, rest)) = path.split_first() else {
             return Some(self);
         };
-        let Ok(place) = place_of_text(children, key) else {
+        let Ok(place) = place_by_halving(children, key) else {
             return None;
         };
         children[place].graph.get(rest)
@@ -103,17 +102,4 @@ impl FlameGraph {
         }
         Ok(())
     }
-}
-
-// The place of the child whose key has the text, or else the place where it belongs.
-fn place_of_text(children: &[Child], text: &str) -> Result<usize, usize>
-    requires { InOrder children.now }
-    ensures found { IfOk result (IsFound children.now text.now) }
-    ensures missing { IfErr result (IsChildGap children.now text.now) }
-{
-    children.binary_search_by(
-        |child: &Child| -> Ordering
-            ensures { result ≡ key_cmp child.entry.now.key text.entry.now }
-        { child.key.as_str().cmp(text) },
-    )
 }

@@ -1,17 +1,8 @@
-use Rattle.std.proofs.Common.{◌≡◌, ℕ, ◌+◌, ◌^◌, ◌<◌, ◌≤◌, false, rules, List, [], length, Some, refl, sym, ap, subst, ◌∙◌, arith, is_ok}
-use Rattle.allocative_graph.proofs.Common.{vec_capacity, Child, node, AreChildren, weight, Added, nil_from_length}
-use Rattle.allocative_graph.proofs.ChildMerged.{going_next, going_end, is_ok-and, not_merged, merged_same, next_less, next_greater, next_equal, both_fit, rows_fit, front_is, one_of_length}
-use Rattle.allocative_graph.proofs.ChildPut.{put_at_found, weight_at_found, weight_of_found, put_at_gap, weight_at_gap}
+use Rattle.std.proofs.Common.{◌≡◌, ℕ, ◌+◌, rules, [], Some, refl, sym, ap, ◌∙◌, arith, is_ok}
+use Rattle.allocative_graph.proofs.Common.{Child, nil_from_length}
+use Rattle.allocative_graph.proofs.ChildMerged.{going_next, going_end, is_ok-and, merged_same, next_less, next_greater, next_equal, both_fit, rows_fit, front_is, one_of_length, put_at_found, weights_found, put_at_gap}
 use Rattle.allocative_graph.proofs.NodeAdded.{len_of_node, total_of_both, merged_node, merged_graph, child_of_one}
 use Rattle.allocative_graph.proofs.flamegraph.+merge.Goals as goal
-
-pub FlameGraph::merge-overflow_add-self : goal.FlameGraph::merge-overflow_add-self
-FlameGraph::merge-overflow_add-self t c = omega (arith, total_of_both c.self.view_is c.self.invariant c.other.view_is c.other.invariant, c.requires)
-
--- The sums fit, since the totals do.
-pub FlameGraph::merge-invariant_of-self : goal.FlameGraph::merge-invariant_of-self
-FlameGraph::merge-invariant_of-self t c =
-    merged_node c.self.view_is c.self.invariant c.other.view_is c.other.invariant refl refl c.requires (not_merged _ c.other.inside.children.items c.self.invariant.children) c.self.invariant.exact
 
 pub FlameGraph::merge-returns-in_default : goal.FlameGraph::merge-returns-in_default
 FlameGraph::merge-returns-in_default t c =
@@ -34,37 +25,19 @@ FlameGraph::merge-invariant_of-self-then-len-lt2 t c =
     let one = one_of_length _ c.pop.new.self.items c.in-Some.child c.in-Some.ensures.items (omega (arith, c.len.ensures, c.other.inside.children.ok.0, c.if-len-lt2.true)) in
     merged_node c.self.view_is c.self.invariant c.other.view_is c.other.invariant refl (sym one) c.requires c.put_child.ensures.merged c.put_child.ensures.exact
 
-pub FlameGraph::merge-invariant_of-self-in_err-merged : goal.FlameGraph::merge-invariant_of-self-in_err-merged
-FlameGraph::merge-invariant_of-self-in_err-merged t c =
-    merged_node c.self.view_is c.self.invariant c.other.view_is c.other.invariant refl refl c.requires (not_merged _ c.other.inside.children.items c.self.invariant.children) c.self.invariant.exact
-
-pub FlameGraph::merge-returns-in_err-merged : goal.FlameGraph::merge-returns-in_err-merged
-FlameGraph::merge-returns-in_err-merged t c =
-    let err : is_ok c.from_residual.result ≡ false = search rules in
-    subst (λ b. Added b c.args.self.now c.args.other (node (c.self.inside.node_size + c.other.inside.node_size) c.self.inside.children.items)) (sym err)
-    (merged_graph c.self.view_is c.self.invariant c.other.view_is c.other.invariant refl refl (not_merged _ _ c.self.invariant.children))
-
 pub FlameGraph::merge-interleave-requires : goal.FlameGraph::merge-interleave-requires
 FlameGraph::merge-interleave-requires t c =
-    let ds = c.other.inside.children.items in
-    let fits = total_of_both c.self.view_is c.self.invariant c.other.view_is c.other.invariant in (
-      omega (arith, c.decreases, len_of_node c.other.view_is c.other.invariant),
-      (
-        ap (λ v. v.items) c.replace-mine.ensures.after ∙ c.in_ok-merged.ensures.items,
-        subst (λ (l : List Child). (length l + length ds ≤ vec_capacity c.replace-mine.new.dest) × (AreChildren l × (AreChildren ds × (weight l + weight ds < 2 ^ 64)))) (sym (ap (λ v. v.items) c.replace-mine.ensures.value)) (
-          omega (arith, c.in_ok-merged.ensures.capacity, c.len.ensures, c.len-2.ensures, c.self.inside.children.ok.0, c.other.inside.children.ok.0, ap vec_capacity c.replace-mine.ensures.after),
-          (c.self.invariant.children, (c.other.invariant.children, omega (arith, fits, c.requires))),
-        ),
-      ),
-    )
-
-pub FlameGraph::merge-invariant_of-self-2 : goal.FlameGraph::merge-invariant_of-self-2
-FlameGraph::merge-invariant_of-self-2 t c =
-    merged_node c.self.view_is c.self.invariant c.other.view_is c.other.invariant (ap (λ v. v.items) c.replace-mine.ensures.value) refl c.requires c.interleave.ensures.merged c.interleave.ensures.exact
+    let fits = total_of_both c.self.view_is c.self.invariant c.other.view_is c.other.invariant in
+    let rows = len_of_node c.other.view_is c.other.invariant in
+    (omega (arith, c.decreases, rows), (c.self.invariant.children, (c.self.invariant.exact, (c.other.invariant.children, omega (arith, fits, c.self.invariant.exact, c.requires)))))
 
 pub FlameGraph::merge-returns : goal.FlameGraph::merge-returns
 FlameGraph::merge-returns t c =
-    merged_graph c.self.view_is c.self.invariant c.other.view_is c.other.invariant (ap (λ v. v.items) c.replace-mine.ensures.value) refl c.interleave.ensures.merged
+    merged_graph c.self.view_is c.self.invariant c.other.view_is c.other.invariant refl refl c.interleave.ensures.merged
+
+pub interleave-loop-child-init : goal.interleave-loop-child-init
+interleave-loop-child-init t c =
+    rw (c.from-mine.ensures.0, ap (λ v. v.items) c.replace.ensures.value, c.from-theirs.ensures.0, c.replace.ensures.after, c.in_ok-merged.ensures.items) (search rules)
 
 pub interleave-loop-child-preserved : goal.interleave-loop-child-preserved
 interleave-loop-child-preserved t c =
@@ -99,14 +72,14 @@ take_next-returns-in-Equal-clause-next t c =
 pub put_child-merge-result-requires : goal.put_child-merge-result-requires
 put_child-merge-result-requires t c =
     let x : Child = c.index_mut-here.result.now in
-    let part = weight_of_found c.args.child x x.graph c.deref.ensures.value c.in-Ok.ensures.found c.index_mut-here.ensures.value in
-    (omega (arith, c.decreases), omega (arith, part, c.requires.exact, c.requires.fits))
+    let weights = weights_found c.args.child x x.graph c.deref.ensures.value c.in-Ok.ensures.found c.index_mut-here.ensures.value in
+    (omega (arith, c.decreases), omega (arith, weights.1, c.requires.exact, c.requires.fits))
 
 pub put_child-overflow_sub-size : goal.put_child-overflow_sub-size
 put_child-overflow_sub-size t c =
     let x : Child = c.index_mut-here.result.now in
-    let part = weight_of_found c.args.child x x.graph c.deref.ensures.value c.in-Ok.ensures.found c.index_mut-here.ensures.value in
-    omega (arith, part, c.requires.exact, c.total_size-before.ensures.total)
+    let weights = weights_found c.args.child x x.graph c.deref.ensures.value c.in-Ok.ensures.found c.index_mut-here.ensures.value in
+    omega (arith, weights.1, c.requires.exact, c.total_size-before.ensures.total)
 
 pub put_child-returns-in-Ok-clause-merged : goal.put_child-returns-in-Ok-clause-merged
 put_child-returns-in-Ok-clause-merged t c =
@@ -116,15 +89,9 @@ pub put_child-returns-in-Ok-clause-exact : goal.put_child-returns-in-Ok-clause-e
 put_child-returns-in-Ok-clause-exact t c =
     let x : Child = c.index_mut-here.result.now in
     let g = c.merge-result.new.self in
-    let part = weight_of_found c.args.child x g c.deref.ensures.value c.in-Ok.ensures.found c.index_mut-here.ensures.value in
-    let change = weight_at_found c.args.child x g c.deref.ensures.value c.in-Ok.ensures.found c.index_mut-here.ensures.value in
-    omega (arith, part, change, c.requires.exact, c.total_size-before.ensures.total, c.total_size.ensures.total)
+    let weights = weights_found c.args.child x g c.deref.ensures.value c.in-Ok.ensures.found c.index_mut-here.ensures.value in
+    omega (arith, weights.0, weights.1, c.requires.exact, c.total_size-before.ensures.total, c.total_size.ensures.total)
 
 pub put_child-returns-in_ok-put_at-in-Err-clause-merged : goal.put_child-returns-in_ok-put_at-in-Err-clause-merged
 put_child-returns-in_ok-put_at-in-Err-clause-merged t c =
     put_at_gap c.args.child c.deref.ensures.value c.in-Err.ensures.missing c.in_ok-put_at-in-Err.ensures.items c.requires.children c.requires.tree
-
-pub put_child-returns-in_ok-put_at-in-Err-clause-exact : goal.put_child-returns-in_ok-put_at-in-Err-clause-exact
-put_child-returns-in_ok-put_at-in-Err-clause-exact t c =
-    let more = weight_at_gap c.args.child c.deref.ensures.value c.in-Err.ensures.missing c.in_ok-put_at-in-Err.ensures.items in
-    omega (arith, more, c.requires.exact, c.total_size-added.ensures.total)

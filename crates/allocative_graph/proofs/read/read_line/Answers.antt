@@ -2,11 +2,8 @@ use Rattle.std.proofs.Common.{◌≡◌, length, sym, ◌∙◌, arith, lit<}
 use Rattle.allocative_graph.proofs.Common.{YieldsList-from_str_split}
 use Rattle.std.proofs.lemmas.Iterator.Consumers.{count_from_yields_List}
 use Rattle.allocative_graph.specs.Read.{keys_of}
-use Rattle.allocative_graph.proofs.Stacks.{no_space, cut_of, no_path, not_zero, stack_of}
+use Rattle.allocative_graph.proofs.ReadLines.{cut_of, no_path, not_zero, stack_of}
 use Rattle.allocative_graph.proofs.read.read_line.Goals as goal
-
-pub returns-in_default-clause-wrong : goal.returns-in_default-clause-wrong
-returns-in_default-clause-wrong c = no_space c.args.line.now c.in_default.ensures.cases
 
 pub returns-then-is_empty-clause-wrong : goal.returns-then-is_empty-clause-wrong
 returns-then-is_empty-clause-wrong c = no_path (cut_of (c.in-Some.path, c.in-Some.size) c.in-Some.ensures.cases) (sym c.is_empty.ensures ∙ c.if-is_empty.true)

@@ -2,8 +2,7 @@ use Rattle.std.proofs.Common.{◌≡◌, ◌+◌, length, sym, ◌∙◌, arith,
 use Rattle.std.proofs.lemmas.Iterator.Splits.{YieldsList-from_lines}
 use Rattle.std.proofs.lemmas.Iterator.Consumers.{YieldsList-so_far, YieldsList-turn, YieldsList-end}
 use Rattle.std.proofs.lemmas.List.{length_push}
-use Rattle.allocative_graph.proofs.ReadLines.{lines_fit, read-more, read-blank, fault_at}
-use Rattle.allocative_graph.proofs.Stacks.{not_zero}
+use Rattle.allocative_graph.proofs.ReadLines.{lines_fit, read-more, read-blank, fault_at, not_zero}
 use Rattle.allocative_graph.proofs.read.read_lines.Goals as goal
 
 pub returns-in-Err-clause-line : goal.returns-in-Err-clause-line
@@ -18,22 +17,18 @@ returns-in-Err-clause-line c = λ n w is.
 
 pub loop-line-preserved : goal.loop-line-preserved
 loop-line-preserved c =
-    let road = YieldsList-from_lines c.args.text.now cc in
-    let xs = c.loop-line.yielded in
-    let t = YieldsList-turn road xs _ c.loop-line.yielded_by _ _ c.in-Some.line c.in-Some.is c.next.ensures.steps in
+    let t = YieldsList-turn (YieldsList-from_lines c.args.text.now cc) c.loop-line.yielded _ c.loop-line.yielded_by _ _ c.in-Some.line c.in-Some.is c.next.ensures.steps in
     record {
-      number = omega (arith, t.0, lines_fit c.args.text.now, length_push xs c.in-Some.line);
-      came = read-more xs c.in-Some.line c.loop-line.lines.items c.push.new.self.items c.in-Ok.read c.loop-line.invariant.came c.in-Ok.ensures.ok (search rules);
+      number = omega (arith, t.0, lines_fit c.args.text.now, length_push c.loop-line.yielded c.in-Some.line);
+      came = read-more c.loop-line.yielded c.in-Some.line c.loop-line.lines.items c.push.new.self.items c.in-Ok.read c.loop-line.invariant.came c.in-Ok.ensures.ok (search rules);
     }
 
 pub loop-line-preserved-then-is_empty : goal.loop-line-preserved-then-is_empty
 loop-line-preserved-then-is_empty c =
-    let road = YieldsList-from_lines c.args.text.now cc in
-    let xs = c.loop-line.yielded in
-    let t = YieldsList-turn road xs _ c.loop-line.yielded_by _ _ c.in-Some.line c.in-Some.is c.next.ensures.steps in
+    let t = YieldsList-turn (YieldsList-from_lines c.args.text.now cc) c.loop-line.yielded _ c.loop-line.yielded_by _ _ c.in-Some.line c.in-Some.is c.next.ensures.steps in
     record {
-      number = omega (arith, t.0, lines_fit c.args.text.now, length_push xs c.in-Some.line);
-      came = read-blank xs c.in-Some.line c.loop-line.lines.items c.loop-line.invariant.came (eqb-true _ 0 (sym c.is_empty.ensures ∙ c.if-is_empty.true));
+      number = omega (arith, t.0, lines_fit c.args.text.now, length_push c.loop-line.yielded c.in-Some.line);
+      came = read-blank c.loop-line.yielded c.in-Some.line c.loop-line.lines.items c.loop-line.invariant.came (eqb-true _ 0 (sym c.is_empty.ensures ∙ c.if-is_empty.true));
     }
 
 pub returns-clause-ok : goal.returns-clause-ok

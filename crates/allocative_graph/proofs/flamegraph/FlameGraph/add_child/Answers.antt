@@ -1,16 +1,12 @@
 use Rattle.std.proofs.Common.{◌≡◌, ℕ, ◌+◌, ◌^◌, ◌<◌, Bool, List, [], ◌∷◌, refl, arith}
 use Rattle.allocative_graph.proofs.Common.{Child, IsNode, Merged, total, weight}
 use Rattle.allocative_graph.proofs.ChildRows.{weight-one}
-use Rattle.allocative_graph.proofs.Graphs.{is_sum_of}
-use Rattle.allocative_graph.proofs.NodeAdded.{added_under, total_of_node}
+use Rattle.allocative_graph.proofs.NodeAdded.{added_sum, added_under, total_of_node}
 use Rattle.allocative_graph.proofs.flamegraph.FlameGraph.add_child.Goals as goal
 
 -- With one child merged into its children, a node is a node where the bytes fit.
 grown : {all : Bool} {cs es : List Child} {d : Child} {size n : ℕ} → Merged all cs (d ∷ []) es → size ≡ weight es → n + weight cs + total d.graph < 2 ^ 64 → IsNode es size n
 grown {d = d} m exact fits = record { children = m.children; exact = exact; fits = omega (arith, m.at_most, weight-one d, exact, fits) }
-
-pub put_child-requires-clause-fits : goal.put_child-requires-clause-fits
-put_child-requires-clause-fits c = omega (arith, total_of_node c.self.view_is c.self.invariant, c.self.invariant.exact, c.total_size.ensures.total, c.total_size-2.ensures.total, c.if-total_size.false)
 
 pub invariant_of-self : goal.invariant_of-self
 invariant_of-self c =
@@ -28,4 +24,4 @@ invariant_of-self-2 c =
 pub returns-clause-sum : goal.returns-clause-sum
 returns-clause-sum c =
     let child : Child = record { key = c.args.key; graph = c.args.child } in
-    is_sum_of _ _ _ ((added_under child c.self.view_is c.self.invariant c.total_size.ensures.tree c.in_ok-put_child.ensures.merged).sum refl)
+    added_sum (added_under child c.self.view_is c.self.invariant c.total_size.ensures.tree c.in_ok-put_child.ensures.merged) refl

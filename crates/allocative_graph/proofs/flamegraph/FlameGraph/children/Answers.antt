@@ -1,11 +1,7 @@
-use Rattle.std.proofs.Common.{sym, subst, ◌∙◌}
-use Rattle.allocative_graph.proofs.Common.{node, AreChildren}
-use Rattle.allocative_graph.proofs.NodeAdded.{own_of_node}
+use Rattle.std.proofs.Common.{sym, subst}
+use Rattle.allocative_graph.proofs.Common.{AreChildren}
 use Rattle.allocative_graph.proofs.Behind.{smaller_child}
 use Rattle.allocative_graph.proofs.flamegraph.FlameGraph.children.Goals as goal
-
-pub returns-clause-whole : goal.returns-clause-whole
-returns-clause-whole c = sym c.self.view_is ∙ (λ i. node (sym (own_of_node c.self.view_is c.self.invariant) i) (sym c.as_slice.ensures.value i))
 
 pub returns-clause-children : goal.returns-clause-children
 returns-clause-children c = subst AreChildren (sym c.as_slice.ensures.value) c.self.invariant.children

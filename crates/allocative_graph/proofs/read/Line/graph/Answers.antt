@@ -1,5 +1,6 @@
-use Rattle.std.proofs.Common.{◌≡◌, [], List, Bor, ℕ, sym, ap, ◌∙◌, arith}
-use Rattle.allocative_graph.proofs.Common.{Path, default, sum_of, under, add_self, nested, map_push, nil_from_length}
+use Rattle.std.proofs.Common.{◌≡◌, List, Bor, ℕ, sym, ap, ◌∙◌, lit<, Ok}
+use Rattle.allocative_graph.proofs.Common.{YieldsList-from_str_split, Path, default, sum_of, under, add_self, nested, map_push}
+use Rattle.std.proofs.lemmas.Iterator.Consumers.{map_from_collect}
 use Rattle.allocative_graph.proofs.NodeText.{texts}
 use Rattle.allocative_graph.proofs.StackSums.{nested-push}
 use Rattle.allocative_graph.proofs.read.Line.graph.Goals as goal
@@ -7,7 +8,9 @@ use Rattle.allocative_graph.proofs.read.Line.graph.Goals as goal
 pub loop-key-init : goal.loop-key-init
 loop-key-init c =
     let graph : c.add_self.new.self ≡ add_self c.args.self.now.size default = c.in_ok-add_self.ensures.sum ∙ ap (add_self c.args.self.now.size) c.default-graph.ensures in
-    (λ i. nested (c.in_ok-keys.ensures i) (graph i))
+    let road = YieldsList-from_str_split 59 c.args.self.now.path.now (lit< tt) c.split.ensures.text c.split.ensures.has_more c.split.ensures.pattern in
+    let keys = map_from_collect {E = Unit {0}} (Ok c.in_ok-keys.keys) c.in_ok-keys.ensures.ran road in
+    (λ i. nested (keys i) (graph i))
 
 pub loop-key-preserved : goal.loop-key-preserved
 loop-key-preserved c =
@@ -19,8 +22,3 @@ loop-key-preserved c =
     ∙ sym (nested-push (texts rest) key.now c.loop-key.graph)
     ∙ ap (λ (ks : Path). nested ks c.loop-key.graph) (sym (ap texts c.in-Some.ensures.items ∙ map_push (λ (k : Bor (List ℕ)). k.now) rest key))
     ∙ c.loop-key.invariant
-
-pub returns : goal.returns
-returns c =
-    let none : c.loop-key.keys.items ≡ [] = nil_from_length c.loop-key.keys.items (omega (arith, c.in_default.ensures.cases.0, c.loop-key.keys.ok.0)) in
-    ap (λ (ks : List (Bor (List ℕ))). nested (texts ks) c.loop-key.graph) (sym none) ∙ c.loop-key.invariant
