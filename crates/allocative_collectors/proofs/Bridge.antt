@@ -4,7 +4,7 @@ use Rattle.allocative_collectors.proofs.Common.{Sums, get, find, Key, Path, path
 use Rattle.std.specs.FinMap.{from_entries, get-from_entries, insert}
 use Rattle.std.specs.Option.{option_map}
 use Rattle.std.proofs.lemmas.Bool.Decides.{nat_tests}
-use Rattle.std.proofs.lemmas.Bool.{cases_Bool, cond-true, cond-false}
+use Rattle.std.proofs.lemmas.Bool.{cond-true, cond-false}
 use Rattle.std.proofs.lemmas.List.Sums.{sum_by-cons}
 use Rattle.allocative_graph.specs.Forest.{Mark, Entry, AsInline, AsUnique}
 use Rattle.allocative_graph.specs.Sums.{Node, together, node_of}
@@ -18,7 +18,7 @@ use Rattle.allocative_graph.proofs.Merge.{get-graph, get-graph-root}
 use Rattle.allocative_collectors.specs.Listed.{rows}
 use Rattle.allocative_collectors.proofs.Orders.{same_path-same, same_path-apart}
 
-pub get-map_of : (s : Listed) (q : Path) → get (map_of s) q ≡ find path_cmp q (rows s)
+get-map_of : (s : Listed) (q : Path) → get (map_of s) q ≡ find path_cmp q (rows s)
 get-map_of s q = get-from_entries path_total (rows s) q
 
 tail_apart : (r e : ℕ) → suc r ≡ suc e → r ≡ e
@@ -77,19 +77,12 @@ find_none : (q : Path) (s : Listed) → ((i : ℕ) → i < length s → path_at 
 find_none q [] other = refl
 find_none q (e ∷ s) other = cond-false (is_same_path q e.path) _ _ (same_path-apart q e.path (λ w. other 0 (omega arith) (sym w))) ∙ find_none q s (λ i h. other (suc i) (omega arith))
 
-pub find_at : (s : Listed) → Distinct s → (i : ℕ) → i < length s → find path_cmp (path_at s i) (map row s) ≡ Some (row (sum_at s i)).1
+find_at : (s : Listed) → Distinct s → (i : ℕ) → i < length s → find path_cmp (path_at s i) (map row s) ≡ Some (row (sum_at s i)).1
 find_at [] apart i h = absurd (omega arith)
 find_at (e ∷ s) apart zero h = cond-true (is_same_path e.path e.path) _ _ (same_path-same e.path e.path refl)
 find_at (e ∷ s) apart (suc i) h =
     cond-false (is_same_path (path_at s i) e.path) _ _ (same_path-apart (path_at s i) e.path (λ w. (let same : suc i ≡ 0 = apart (suc i) 0 h (omega arith) w in omega arith)))
     ∙ find_at s (tail_distinct e s apart) i (omega arith)
-
-pub found_at : (q : Path) (s : Listed) (v : Node) → find path_cmp q (map row s) ≡ Some v → (i : ℕ) × (i < length s) × (path_at s i ≡ q)
-found_at q [] v w = absurd (cc)
-found_at q (e ∷ s) v w = elim (cases_Bool (is_same_path q e.path)) [
-  | inl hit ↦ (0, omega arith, sym (same_path q e.path hit))
-  | inr miss ↦ (let later = found_at q s v (sym (cond-false (is_same_path q e.path) (Some (row e).1) (find path_cmp q (map row s)) miss) ∙ w) in (suc later.0, omega (arith, later.1), later.2))
-]
 
 -- ---- what the map has
 pub get_at : (s : Listed) → IsListing s → (i : ℕ) → 0 < i → i < length s → get (map_of s) (path_at s i) ≡ Some (row (sum_at s i)).1
@@ -97,16 +90,12 @@ get_at [] ok i pos h = absurd (omega arith)
 get_at (r ∷ s) ok zero pos h = absurd (omega arith)
 get_at (r ∷ s) ok (suc i) pos h = get-map_of (r ∷ s) (path_at s i) ∙ find_at s (tail_distinct r s ok.apart) i (omega arith)
 
-pub get_none : (s : Listed) → (q : Path) → ((i : ℕ) → i < length s → path_at s i ≢ q) → get (map_of s) q ≡ None
+pub get_none : (s : Listed) → (q : Path) → ((i : ℕ) → 0 < i → i < length s → path_at s i ≢ q) → get (map_of s) q ≡ None
 get_none [] q other = get-map_of [] q
-get_none (r ∷ s) q other = get-map_of (r ∷ s) q ∙ find_none q s (λ i h. other (suc i) (omega arith))
-
-pub got : (s : Listed) (q : Path) (v : Node) → get (map_of s) q ≡ Some v → (i : ℕ) × (0 < i) × (i < length s) × (path_at s i ≡ q)
-got [] q v w = (let a = found_at q [] v (sym (get-map_of [] q) ∙ w) in absurd (omega (arith, a.1)))
-got (r ∷ s) q v w = (let a = found_at q s v (sym (get-map_of (r ∷ s) q) ∙ w) in (suc a.0, omega arith, omega (arith, a.1), a.2))
+get_none (r ∷ s) q other = get-map_of (r ∷ s) q ∙ find_none q s (λ i h. other (suc i) (omega arith) (omega arith))
 
 -- ---- the graph
-nothing_left : (u : Bool) (n b : ℕ) → n ≡ 0 → cond u n (n - b) ≡ 0
+pub nothing_left : (u : Bool) (n b : ℕ) → n ≡ 0 → cond u n (n - b) ≡ 0
 nothing_left u n b e = grind (arith, nat_tests)
 
 pub graph_hit : (s : Listed) → IsListing s → (i : ℕ) → i < length s → get (graph (map_of s)) (path_at s i) ≡ Some (size_at_place s i)
@@ -124,7 +113,7 @@ graph_hit s ok (suc i) h = by (path_at s (suc i)) refl
 
 pub graph_none : (s : Listed) → IsListing s → (q : Path) → ((i : ℕ) → i < length s → path_at s i ≢ q) → get (graph (map_of s)) q ≡ None
 graph_none s ok [] other = absurd (other 0 ok.rooted ok.root_path)
-graph_none s ok (k ∷ q) other = get-graph (map_of s) k q ∙ ap (option_map (remaining (map_of s) (k ∷ q))) (get_none s (k ∷ q) other)
+graph_none s ok (k ∷ q) other = get-graph (map_of s) k q ∙ ap (option_map (remaining (map_of s) (k ∷ q))) (get_none s (k ∷ q) (λ i pos. other i))
 
 -- ---- sums over the map
 abbrev pub mark_of : Bool → Mark

@@ -1,10 +1,11 @@
 -- What a search among a node's children says of the sums.
-use Rattle.std.proofs.Common.{◌≡◌, ◌≢◌, ℕ, zero, suc, ◌<◌, false, List, [], ◌∷◌, ◌++◌, length, sym, ap, subst, ◌∙◌, arith, inl, inr}
+use Rattle.std.proofs.Common.{◌≡◌, ◌≢◌, ℕ, zero, suc, ◌<◌, false, List, [], ◌∷◌, ◌++◌, length, sym, ap, subst, ◌∙◌, arith, inl, inr, refl, true, append_assoc}
 use Rattle.allocative_collectors.proofs.Common.{Equal, Key, Path, key_cmp, path_at, IsEntered, Listed, root_sum, Shape, sums, keys_at, key_in, key_at, parent_at, IsChild, IsArena, IsKeyGap}
 use Rattle.std.proofs.lemmas.List.{get_or-map, get_or_push, same_from_push}
 use Rattle.std.proofs.lemmas.Cmp.{tied_itself}
 use Rattle.std.proofs.lemmas.Bool.{cases_lt}
 use Rattle.allocative_collectors.proofs.Orders.{key_total}
+use Rattle.allocative_collectors.proofs.Parts.{among, among_at}
 use Rattle.allocative_collectors.proofs.Adds.{put_nothing}
 use Rattle.allocative_collectors.proofs.Labels.{bare, path_of, sums_same, sums_push, put_push, length_sums, not_nil, root_at, step, key_place, distinct}
 use Rattle.allocative_collectors.proofs.Grown.{leaf, grown, length_grown, stood, written}
@@ -17,6 +18,11 @@ gap_none ks k g gap j h e =
       | inl lt ↦ let less = gap.smaller_before j lt in cc
       | inr ge ↦ let more = gap.greater_after j ge h in cc
     ]
+
+-- a nonempty path is a beginning and a last key
+last_of : (k : Key) (q : Path) → (q' : Path) × (l : Key) × (k ∷ q ≡ q' ++ l ∷ [])
+last_of k [] = ([], k, refl)
+last_of k (x ∷ q) = let more = last_of x q in (k ∷ more.0, more.1, ap (λ (y : Path). k ∷ y) more.2)
 
 module _ (ns : List Shape) (ok : IsArena ns) (p : ℕ) (hp : p < length ns) (k : Key) where
   -- an entry of 0 bytes at a child with the key
@@ -39,6 +45,20 @@ module _ (ns : List Shape) (ok : IsArena ns) (p : ℕ) (hp : p < length ns) (k :
       let parts = same_from_push _ _ _ _ (sym (step ns ok (suc i) (omega arith) hi) ∙ path) in
       let before = ok.parents (suc i) (omega arith) hi in
       (record { not_root = omega arith; in_range = hi; parent = distinct ns ok (parent_at ns (suc i)) p (omega arith) hp parts.0 }, parts.1)
+
+  -- a child of p has the key where a path begins with p's and the key
+  pub on_way : (n i : ℕ) → i < n → i < length ns → (q : Path) → path_at (sums ns) i ≡ path_at (sums ns) p ++ k ∷ q → among (keys_at ns p) (length (keys_at ns p)) k ≡ true
+  on_way zero i lt hi q e = absurd (omega arith)
+  on_way (suc n) zero lt hi q e = absurd (not_nil _ _ _ (sym e ∙ root_at ns))
+  on_way (suc n) (suc i) lt hi [] e =
+      let child = child_of (suc i) hi e in
+      let place = key_place ns ok p (suc i) child.0 in
+      among_at (keys_at ns p) _ _ k place.0 (place.1 ∙ child.1)
+  on_way (suc n) (suc i) lt hi (x ∷ q) e =
+      let up = ok.parents (suc i) (omega arith) hi in
+      let l = last_of x q in
+      let split = ap (λ (y : Path). path_at (sums ns) p ++ k ∷ y) l.2 ∙ sym (append_assoc (path_at (sums ns) p) (k ∷ l.0) (l.1 ∷ [])) in
+      on_way n (parent_at ns (suc i)) (omega arith) (omega arith) l.0 (same_from_push _ _ _ _ (sym (step ns ok (suc i) (omega arith) hi) ∙ (e ∙ split))).0
 
   module _ (g : ℕ) (gap : IsKeyGap (keys_at ns p) k g) where
     -- the path of a key in a gap was not entered before

@@ -1,6 +1,7 @@
 pub mod Common
 pub mod Keys
 pub mod Orders
+pub mod Parts
 pub mod Labels
 pub mod Grown
 pub mod Raised
@@ -9,10 +10,7 @@ pub mod Child
 pub mod Searched
 pub mod NodeReads
 pub mod Bridge
-pub mod Walked
 pub mod Below
-pub mod Bags
-pub mod Graphs
 pub mod Whole
 pub mod Made
 pub mod Collect

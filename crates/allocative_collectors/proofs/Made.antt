@@ -1,82 +1,167 @@
 -- What `make` has made, child by child.
-use Rattle.std.proofs.Common.{◌≡◌, ℕ, ◌+◌, ◌<◌, ◌≤◌, Bool, false, cond, List, [], ◌∷◌, ◌++◌, map, flat_map, length, get_or, refl, sym, ap, subst, ◌∙◌, arith, sum_by, Result, Ok, Err, append-nil}
-use Rattle.allocative_collectors.proofs.Common.{Key, Path, Graph, Warned, sum_of, under, default, add_self, Refusal, Memory, TooLarge, Open, shape, sums_of, IsTree, Listed, sum_at, path_at, map_of, below, sums, key_in, children_at, keys_at, KeysRise, size_at_place, is_short, warned_at, IsWalk}
-use Rattle.std.proofs.lemmas.List.Elements.{All-cons}
-use Rattle.std.proofs.lemmas.List.Sums.{sum_by-cons, sum_by-append}
-use Rattle.allocative_graph.specs.Graph.{total}
+use Rattle.std.proofs.Common.{◌≡◌, ◌≢◌, ℕ, zero, suc, ◌+◌, ◌<◌, ◌≤◌, Bool, true, false, cond, ◌||◌, List, [], ◌∷◌, ◌++◌, map, flat_map, length, get_or, Option, Some, None, unwrap_or, refl, sym, ap, subst, ◌∙◌, arith, inl, inr, sum_by, Result, Ok, Err, append_assoc, append-nil, true≢false}
+use Rattle.allocative_collectors.proofs.Common.{Key, Path, is_same_path, Graph, Warned, graph, sum_of, under, default, add_self, get, entries, Refusal, Memory, TooLarge, Open, shape, sums_of, IsTree, Listed, row, sum_at, path_at, map_of, below, entered, sums, key_in, children_at, keys_at, KeysRise, IsArena, Shape, size_at_place, is_short}
+use Rattle.std.specs.FinMap.{get-insert, entries_sorted}
+use Rattle.std.proofs.lemmas.Bool.{cases_Bool, cond_both, false_from_ne_true}
+use Rattle.std.proofs.lemmas.Grind.{flat_map-append}
+use Rattle.std.proofs.lemmas.List.Filters.{sum_by-filter_both}
+use Rattle.std.proofs.lemmas.List.Sums.{sum_by-cons, sum_by-append, sum_by-le-sum_by}
+use Rattle.allocative_graph.specs.Graph.{total, remaining, warned, size_at}
+use Rattle.allocative_graph.specs.Sums.{Node}
+use Rattle.allocative_graph.proofs.Basics.{path_total}
 use Rattle.allocative_graph.proofs.Listing.{entries-from_entries-sorted}
-use Rattle.allocative_graph.proofs.Graphs.{total-sum_of, total-under, total-add_at}
+use Rattle.allocative_graph.proofs.Merge.{get-sum_of}
+use Rattle.allocative_graph.proofs.Graphs.{sizes_together, get-under, get-under-root, get-default, total-sum_of, total-under, total-add_at}
 use Rattle.std.specs.Result.{IsErrAnd, IfErr}
-use Rattle.allocative_collectors.specs.declared.tree.Node.{Node}
-use Rattle.allocative_collectors.specs.Listed.{total as total_listed}
-use Rattle.allocative_collectors.specs.Finishing.{MakesGraph}
-use Rattle.allocative_collectors.proofs.Labels.{step}
-use Rattle.allocative_collectors.proofs.Walked.{IsPart, part_none, part_more, part_all, part_rise, more_warned}
-use Rattle.allocative_collectors.proofs.Graphs.{HasPart, part_start, part_step, graph_all, graph_at}
-use Rattle.allocative_collectors.proofs.Bags.{sizes_le_total}
+use Rattle.allocative_collectors.specs.declared.tree.Node as nodes
+use Rattle.allocative_collectors.specs.Finishing.{MakesPart, MakesGraph, behind, rows_behind}
+use Rattle.allocative_collectors.proofs.Bridge.{IsListing, graph_hit, graph_none, get_at, get_none, nothing_left}
+use Rattle.allocative_collectors.proofs.Below.{listing}
+use Rattle.allocative_collectors.proofs.Labels.{length_sums, step}
+use Rattle.allocative_collectors.proofs.Orders.{key_not_before}
+use Rattle.allocative_collectors.proofs.Child.{on_way}
+use Rattle.allocative_collectors.proofs.Parts.{same_key, same_key_is, among, among_before, begun, behind_more, passed_before, kept_both, rows_same, rows_own, row_at}
 use Rattle.allocative_collectors.proofs.NodeReads.{length_nodes, in_shapes, child_seen}
-
--- The node's own size and warning, and the graphs of its first j children with the paths that have a warning.
-pub record HalfMade (s : Listed) (i : ℕ) (ks : List Key) (j : ℕ) (w w' : List Warned) (g : Graph) : Type 0 where
-  pub ys : List ℕ
-  pub part : IsPart s (path_at s i) ks j ys
-  pub warned_are : w' ≡ w ++ flat_map (warned_at s) (i ∷ ys)
-  pub has : HasPart s (path_at s i) (size_at_place s i) ks j g
-  pub total_is : total g ≡ sum_by (size_at_place s) (i ∷ ys)
 
 pub total-default : total default ≡ 0
 total-default = ap (sum_by (λ e. e.1)) (entries-from_entries-sorted (([], 0) ∷ []) tt)
 
-pub total-alone : (n : ℕ) → total (add_self n default) ≡ n
-total-alone n = omega (arith, total-add_at default ([], n), total-default)
+abbrev size_in : Listed → Path × Node → ℕ
+size_in s e = remaining (map_of s) e.0 e.1
 
-pub half_none : (s : Listed) (i : ℕ) (ks : List Key) (w w' : List Warned) (g : Graph) → g ≡ add_self (size_at_place s i) default → w' ≡ w ++ warned_at s i → HalfMade s i ks 0 w w' g
-half_none s i ks w w' g is written = record {
-  ys = [];
-  part = part_none s (path_at s i) ks;
-  warned_are = written ∙ ap (λ (l : List Warned). w ++ l) (sym (append-nil (warned_at s i)));
-  has = part_start s (path_at s i) (size_at_place s i) ks g is;
-  total_is = ap total is ∙ omega (arith, total-alone (size_at_place s i), sum_by-cons (size_at_place s) i []);
-}
+-- a size and a missing one
+some_more : (m n : ℕ) → m ≡ n → ◌≡◌ {A = Option ℕ} (Some m) (Some n)
+some_more m n e = ap (λ (x : ℕ). Some x) e
 
-module _ (s : Listed) (i : ℕ) (ks : List Key) (j : ℕ) (hj : j < length ks) (rise : KeysRise ks) (m : ℕ) (there : path_at s m ≡ path_at s i ++ key_in ks j ∷ []) where
-  pub half_more : (w w' w'' : List Warned) (g h c : Graph) → HalfMade s i ks j w w' g → MakesGraph s m w' w'' c → h ≡ sum_of g (under (key_in ks j) c) → HalfMade s i ks (j + 1) w w'' h
-  half_more w w' w'' g h c half child is =
-      let walk : IsWalk s (path_at s i ++ key_in ks j ∷ []) (m ∷ child.others) = subst (λ (p : Path). IsWalk s p (m ∷ child.others)) there child.walk in
-      record {
-        ys = half.ys ++ m ∷ child.others;
-        part = part_more s (path_at s i) ks j hj rise half.ys (m ∷ child.others) half.part walk;
-        warned_are = more_warned s w w' w'' (i ∷ half.ys) (m ∷ child.others) half.warned_are child.warned_are;
-        has = part_step s (path_at s i) (size_at_place s i) ks j hj rise g h c half.has (λ q. child.graph_is q ∙ ap (λ (p : Path). graph_at s (p ++ q)) there) is;
-        total_is =
-            let f = size_at_place s in
-            let zs = m ∷ child.others in
-            ap total is ∙ omega (arith, total-sum_of g (under (key_in ks j) c), total-under (key_in ks j) c, half.total_is, child.total_is, sum_by-cons f i half.ys, sum_by-cons f i (half.ys ++ zs), sum_by-append f half.ys zs);
+with_none : (x : Option ℕ) → sizes_together x None ≡ x
+with_none None = refl
+with_none (Some n) = some_more (n + 0) n (omega arith)
+
+none_with : (x : Option ℕ) → sizes_together None x ≡ x
+none_with None = refl
+none_with (Some n) = some_more (0 + n) n (omega arith)
+
+-- sizes that pass one of two tests, but not both
+one_of : (a b : Bool) (x y : Option ℕ) → (b ≡ true → (a ≡ false) × (y ≡ x)) → sizes_together (cond a x None) (cond b y None) ≡ cond (a || b) x None
+one_of true true x y h = absurd (true≢false (h refl).0)
+one_of true false x y h = with_none x
+one_of false true x y h = none_with y ∙ (h refl).1
+one_of false false x y h = refl
+
+-- the sizes that were found are within the bytes of all entries
+rows_fit : (s : Listed) (p : Path) (t : Path → Bool) → sum_by (size_in s) (rows_behind s p t) ≤ entered (map_of s)
+rows_fit s p t =
+    let both = sum_by-filter_both (λ (e : Path × Node). behind p t e.0) _ (λ e. refl) (size_in s) (entries (map_of s)) in
+    let each = sum_by-le-sum_by (size_in s) (λ (e : Path × Node). e.1.bytes) (entries (map_of s)) (λ e. cond_both e.1.is_unique e.1.bytes _ (λ (n : ℕ). n ≤ e.1.bytes) (λ _. omega arith) (λ _. omega arith)) in
+    omega arith
+
+pub part_fits : {s : Listed} {p : Path} {t : Path → Bool} {w w' : List Warned} {g : Graph} → MakesPart s p t w w' g → total g ≤ entered (map_of s)
+part_fits {s} {p} {t} part = omega (arith, part.total_is, rows_fit s p t)
+
+abbrev pub warned_at : Listed → ℕ → List Warned
+warned_at s i = warned (map_of s) (row (sum_at s i))
+
+module _ (s : Listed) (ok : IsListing s) where
+  -- the row of a place has its size and its warning
+  row_of : (i : ℕ) → i < length s → let rows = row_at (path_at s i) (get (map_of s) (path_at s i)) in (sum_by (size_in s) rows ≡ size_at_place s i) × (flat_map (warned (map_of s)) rows ≡ warned_at s i)
+  row_of zero h =
+      let e = sum_at s 0 in
+      let none = get_none s (path_at s 0) (λ i pos hi w. (let same = ok.apart i 0 hi h w in omega arith)) in
+      rw none (sym (nothing_left e.is_unique e.bytes _ ok.root_bytes), sym (ap (λ (p : Path). warned (map_of s) (p, (row e).1)) ok.root_path))
+  row_of (suc i) h =
+      let e = row (sum_at s (suc i)) in
+      rw (get_at s ok (suc i) (omega arith) h) (omega (arith, sum_by-cons (size_in s) e []), append-nil (warned (map_of s) e))
+
+  module _ (i : ℕ) (hi : i < length s) (ks : List Key) where
+    start : {A : Type 0} (f : List (Path × Node) → A) → f (rows_behind s (path_at s i) (begun ks 0)) ≡ f (row_at (path_at s i) (get (map_of s) (path_at s i)))
+    start f = ap f (rows_own (map_of s) (path_at s i) ks)
+
+    pub own_fits : size_at_place s i ≤ entered (map_of s)
+    own_fits = omega (arith, rows_fit s (path_at s i) (begun ks 0), start (sum_by (size_in s)), (row_of i hi).0)
+
+    pub part_start : (w w' : List Warned) (g : Graph) → g ≡ add_self (size_at_place s i) default → w' ≡ w ++ warned_at s i → MakesPart s (path_at s i) (begun ks 0) w w' g
+    part_start w w' g is written = record {
+      warned_are = written ∙ ap (λ (l : List Warned). w ++ l) (sym (start (flat_map (warned (map_of s))) ∙ (row_of i hi).1));
+      graph_is = graph_is;
+      total_is = ap total is ∙ omega (arith, total-add_at default ([], size_at_place s i), total-default, start (sum_by (size_in s)), (row_of i hi).0);
+    }
+      where
+        sizes : (q : Path) → get g q ≡ cond (is_same_path q []) (Some (size_at default [] + size_at_place s i)) (get default q)
+        sizes q = ap (λ (x : Graph). get x q) is ∙ get-insert path_total default [] (size_at default [] + size_at_place s i) q
+
+        graph_is : (q : Path) → get g q ≡ cond (begun ks 0 q) (get (graph (map_of s)) (path_at s i ++ q)) None
+        graph_is [] =
+            let nothing : size_at default [] ≡ 0 = ap (λ (o : Option ℕ). unwrap_or o 0) (get-default []) in
+            sizes [] ∙ (some_more _ (size_at_place s i) (omega arith) ∙ sym (ap (get (graph (map_of s))) (append-nil (path_at s i)) ∙ graph_hit s ok i hi))
+        graph_is (k ∷ r) = sizes (k ∷ r) ∙ get-default (k ∷ r)
+
+    -- one child more
+    module _ (rise : KeysRise ks) (j : ℕ) (hj : j < length ks) where
+      abbrev p : Path
+      p = path_at s i
+
+      abbrev k : Key
+      k = key_in ks j
+
+      abbrev f : Path × Node → List Warned
+      f = warned (map_of s)
+
+      abbrev before : List (Path × Node)
+      before = rows_behind s p (begun ks j)
+
+      abbrev next : List (Path × Node)
+      next = rows_behind s (p ++ k ∷ []) (λ r. true)
+
+      more : rows_behind s p (begun ks (suc j)) ≡ before ++ next
+      more = kept_both _ _ _ (behind_more p ks j) (passed_before p ks j hj rise) (entries (map_of s)) (entries_sorted (map_of s))
+
+      pub part_more : (c : ℕ) → path_at s c ≡ p ++ k ∷ [] → (w w' w'' : List Warned) (g h d : Graph) → MakesPart s p (begun ks j) w w' g → MakesGraph s c w' w'' d → h ≡ sum_of g (under k d) → MakesPart s p (begun ks (suc j)) w w'' h
+      part_more c there w w' w'' g h d part made is = record {
+        warned_are = child.warned_are ∙ (ap (λ (l : List Warned). l ++ flat_map f next) part.warned_are
+            ∙ (append_assoc w (flat_map f before) (flat_map f next) ∙ ap (λ (l : List Warned). w ++ l) (sym (ap (flat_map f) more ∙ flat_map-append f before next))));
+        graph_is = λ q. ap (λ (x : Graph). get x q) is ∙ (get-sum_of g (under k d) q ∙ by q);
+        total_is = ap total is ∙ omega (arith, total-sum_of g (under k d), total-under k d, part.total_is, child.total_is, ap (sum_by (size_in s)) more, sum_by-append (size_in s) before next);
       }
+        where
+          child : MakesPart s (p ++ k ∷ []) (λ r. true) w' w'' d
+          child = subst (λ (q : Path). MakesPart s q (λ r. true) w' w'' d) there made
 
--- ---- totals
-pub half_total : (s : Listed) (i : ℕ) (ks : List Key) (j : ℕ) (w w' : List Warned) (g : Graph) → i < length s → HalfMade s i ks j w w' g → total g ≤ total_listed s
-half_total s i ks j w w' g hi half =
-    let most = sizes_le_total s (i ∷ half.ys) (part_rise s i ks j half.ys half.part) (All-cons (λ i. i < length s) i half.ys hi half.part.within) in
-    let is = half.total_is in
-    omega arith
-
-pub own_fits : (s : Listed) (i : ℕ) → i < length s → size_at_place s i ≤ total_listed s
-own_fits s i hi =
-    let alone = total-alone (size_at_place s i) in
-    let most = half_total s i [] 0 [] ([] ++ warned_at s i) (add_self (size_at_place s i) default) hi (half_none s i [] [] ([] ++ warned_at s i) (add_self (size_at_place s i) default) refl refl) in
-    omega (arith, alone, most)
-
-pub made_total : (s : Listed) (i : ℕ) (w w' : List Warned) (g : Graph) → MakesGraph s i w w' g → total g ≤ total_listed s
-made_total s i w w' g made =
-    let most = sizes_le_total s (i ∷ made.others) made.walk.rise made.walk.within in
-    let is = made.total_is in
-    omega arith
+          by : (q : Path) → sizes_together (get g q) (get (under k d) q) ≡ cond (begun ks (suc j) q) (get (graph (map_of s)) (p ++ q)) None
+          by [] =
+              let own = part.graph_is [] ∙ (ap (get (graph (map_of s))) (append-nil p) ∙ graph_hit s ok i hi) in
+              (λ x. sizes_together (own x) (get-under-root k d x)) ∙ (some_more _ (size_at_place s i) (omega arith) ∙ (sym own ∙ part.graph_is []))
+          by (l ∷ r) =
+              (λ x. sizes_together (part.graph_is (l ∷ r) x) (get-under k d l r x))
+              ∙ one_of (among ks j l) (same_key l k) _ _ (λ e.
+                  let same = same_key_is l k e in (
+                    false_from_ne_true (among ks j l) (λ earlier. key_not_before l k same (among_before ks rise j j l hj (omega arith) earlier)),
+                    child.graph_is r ∙ ap (get (graph (map_of s))) (append_assoc p (k ∷ []) r ∙ ap (λ (x : Key). p ++ x ∷ r) (sym same)),
+                  ))
 
 -- ---- at the nodes
-module _ (items : List Node) (ok : IsTree items) {v : Listed} (view : sums_of items ≡ v) (p : ℕ) where
+module _ (ns : List Shape) (ok : IsArena ns) (i : ℕ) (hi : i < length ns) where
+  -- after the last child, nothing is left
+  passed_all : {X : Type 0} (f : Path → Option X) → ((q : Path) → ((a : ℕ) → a < length (sums ns) → path_at (sums ns) a ≢ q) → f q ≡ None) → (r : Path)
+      → cond (begun (keys_at ns i) (length (keys_at ns i)) r) (f (path_at (sums ns) i ++ r)) None ≡ f (path_at (sums ns) i ++ r)
+  passed_all f none [] = refl
+  passed_all f none (k ∷ r) = elim (cases_Bool (among (keys_at ns i) (length (keys_at ns i)) k)) [
+    | inl e ↦ rw e refl
+    | inr e ↦ rw e (sym (none _ (λ a h path. true≢false (sym (on_way ns ok i hi k (suc a) a (omega arith) (omega (arith, length_sums ns)) r path) ∙ e))))
+  ]
+
+  part_all : (w w' : List Warned) (g : Graph) → MakesPart (sums ns) (path_at (sums ns) i) (begun (keys_at ns i) (length (keys_at ns i))) w w' g → MakesGraph (sums ns) i w w' g
+  part_all w w' g part =
+      let m = map_of (sums ns) in
+      let same = rows_same m (path_at (sums ns) i) (begun (keys_at ns i) (length (keys_at ns i))) (λ r. true) (passed_all (get m) (λ q other. get_none (sums ns) q (λ a pos. other a))) in
+      record {
+        warned_are = part.warned_are ∙ ap (λ (rs : List (Path × Node)). w ++ flat_map (warned m) rs) same;
+        graph_is = λ q. part.graph_is q ∙ passed_all (get (graph m)) (graph_none (sums ns) (listing ns ok)) q;
+        total_is = part.total_is ∙ ap (sum_by (size_in (sums ns))) same;
+      }
+
+module _ (items : List nodes.Node) (ok : IsTree items) {v : Listed} (view : sums_of items ≡ v) (p : ℕ) where
   -- a child of a node, in the sums, and its key
-  pub child_read : (xs : List ℕ) → children_at (map shape items) p ≡ xs → (j : ℕ) → j < length xs → let i = get_or xs j 0 in (p < i) × (i < length v) × (path_at v i ≡ path_at v p ++ key_in (keys_at (map shape items) p) j ∷ []) × ((d : Node) → (let m = get_or items i d in m.key ≡ key_in (keys_at (map shape items) p) j))
+  pub child_read : (xs : List ℕ) → children_at (map shape items) p ≡ xs → (j : ℕ) → j < length xs → let i = get_or xs j 0 in (p < i) × (i < length v) × (path_at v i ≡ path_at v p ++ key_in (keys_at (map shape items) p) j ∷ []) × ((d : nodes.Node) → (let m = get_or items i d in m.key ≡ key_in (keys_at (map shape items) p) j))
   child_read xs is j hj =
       let ns = map shape items in
       let c = child_seen items ok p xs is j hj in
@@ -86,19 +171,11 @@ module _ (items : List Node) (ok : IsTree items) {v : Listed} (view : sums_of it
       let key = key_in (keys_at ns p) j in
       (omega (arith, c.0.parent), omega (arith, c.1, length_nodes items), subst (λ (s : Listed). path_at s (get_or xs j 0) ≡ path_at s p ++ key ∷ []) view path, λ d. sym (c.2 ∙ c.3 d))
 
-  pub made_all : p < length v → (w w' : List Warned) (g : Graph) (j : ℕ) → j ≡ length (keys_at (map shape items) p) → HalfMade v p (keys_at (map shape items) p) j w w' g → MakesGraph v p w w' g
-  made_all hp w w' g j whole half =
-      let ns = map shape items in
-      let inside = in_shapes items p view hp in
-      let all : HalfMade (sums_of items) p (keys_at ns p) (length (keys_at ns p)) w w' g = subst (λ (s : Listed). HalfMade s p (keys_at ns p) (length (keys_at ns p)) w w' g) (sym view) (subst (λ (n : ℕ). HalfMade v p (keys_at ns p) n w w' g) whole half) in
-      subst (λ (s : Listed). MakesGraph s p w w' g) view
-      (record {
-        others = all.ys;
-        walk = part_all ns ok.arena p inside all.ys all.part;
-        warned_are = all.warned_are;
-        graph_is = graph_all ns ok.arena p inside g all.has;
-        total_is = all.total_is;
-      })
+  pub made_all : p < length v → (w w' : List Warned) (g : Graph) (j : ℕ) → j ≡ length (keys_at (map shape items) p) → MakesPart v (path_at v p) (begun (keys_at (map shape items) p) j) w w' g → MakesGraph v p w w' g
+  made_all hp w w' g j whole part =
+      let ks = keys_at (map shape items) p in
+      subst (λ (s : Listed). MakesGraph s p w w' g) view (part_all (map shape items) ok.arena p (in_shapes items p view hp) w w' g
+      (subst (λ (e : Listed × ℕ). MakesPart e.0 (path_at e.0 p) (begun ks e.1) w w' g) (λ x. (sym view x, whole x)) part))
 
 -- ---- warnings
 -- the warning of place i, where it has one

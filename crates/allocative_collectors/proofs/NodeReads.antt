@@ -6,7 +6,8 @@ use Rattle.std.proofs.lemmas.List.{get_or-map, length-map, map-set, map_push, le
 use Rattle.allocative_collectors.specs.declared.tree.Node.{Node}
 use Rattle.allocative_collectors.specs.Listed.{total}
 use Rattle.allocative_collectors.proofs.Keys.{key_in-keys_of, touched}
-use Rattle.allocative_collectors.proofs.Below.{below_is, has_key}
+use Rattle.allocative_collectors.proofs.Bridge.{IsListing}
+use Rattle.allocative_collectors.proofs.Below.{listing, below_is, has_key}
 use Rattle.allocative_collectors.proofs.Labels.{length_sums, figures_sums, raise_shape}
 use Rattle.allocative_collectors.proofs.Raised.{more_below, raised, bytes_le_total, below_le_total}
 use Rattle.allocative_collectors.proofs.Grown.{leaf, with_children, grown}
@@ -49,6 +50,9 @@ module _ (items : List Node) where
   -- a tree whose nodes have the shapes of an arena
   pub tree_of : {ns : List Shape} → map shape items ≡ ns → IsArena ns → IsTree items
   tree_of same ok = record { arena = subst IsArena (sym same) ok; size = length_nodes }
+
+pub listing_of : (items : List Node) → IsTree items → {v : Listed} → sums_of items ≡ v → IsListing v
+listing_of items ok view = subst IsListing view (listing (map shape items) ok.arena)
 
 pub same_tree : (items : List Node) (i : ℕ) (n m : Node) → i < length items → n ≡ get_or items i n → shape m ≡ shape n → IsTree items → IsTree (set items i m)
 same_tree items i n m h read same ok = tree_of (set items i m) (same_shapes items i n m h read same) ok.arena

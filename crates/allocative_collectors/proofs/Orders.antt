@@ -1,6 +1,6 @@
 -- Keys are in a total order, in which only equal ones tie; and tests of paths against equations.
-use Rattle.std.proofs.Common.{◌≡◌, true, false, sym, subst}
-use Rattle.allocative_collectors.proofs.Common.{Less, Equal, Key, Path, key_cmp, is_same_path}
+use Rattle.std.proofs.Common.{◌≡◌, Bool, true, false, ◌&&◌, refl, sym, subst}
+use Rattle.allocative_collectors.proofs.Common.{Ordering, Less, Equal, Greater, is_eq, ordering_then, Key, Path, key_cmp, is_same_path}
 use Rattle.std.specs.Cmp.{IsTotalOrder}
 use Rattle.std.specs.FinMap.{nat_cmp-IsAntisymmetric, slice_cmp-IsAntisymmetric}
 use Rattle.std.proofs.lemmas.Cmp.{nat_cmp_total, lists_total, tied_itself}
@@ -25,3 +25,9 @@ key_not_before k l e less =
     let tied : key_cmp k k ≡ Equal = tied_itself key_total k in
     let before : key_cmp k k ≡ Less = subst (λ x. key_cmp k x ≡ Less) (sym e) less in
     cc
+
+-- two parts tie where both do
+pub tied : (o r : Ordering) → (is_eq o && is_eq r) ≡ is_eq (ordering_then o r)
+tied Less r = refl
+tied Equal r = refl
+tied Greater r = refl

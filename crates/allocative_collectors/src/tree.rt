@@ -1,6 +1,7 @@
 //! The paths that were entered, as an arena of nodes that refer to one another by number.
 ghost use Rattle.std.specs.Prelude.{◌≡◌, ◌+◌, ◌^◌, ◌<◌, ◌≤◌, ℕ, [], ◌∷◌, ◌++◌, length, map, slice_index, EachIndex, IfOk, IfErr, IfSome, IfNone, OnOk, OnErr, IsTrue, ◌↔◌, false};
 ghost use Rattle.allocative_graph.specs.Graph.{total as graph_total};
+ghost use Rattle.allocative_graph.specs.Sums.{entered};
 ghost use Rattle.allocative_graph.specs.Visits.{IsProfile};
 ghost use Rattle.allocative_collectors.specs.Listed.{root_sum, put, total, path_at, map_of, IsEntered, IsAbove};
 ghost use Rattle.allocative_collectors.specs.Finishing.{size_at_place, is_short, MakesGraph, MakesGraphAlone};
@@ -114,7 +115,7 @@ impl Tree {
     ///
     /// One walk makes the graph and lists the paths that have a warning. The text is made from the list.
     pub(crate) fn finish(&self) -> Result<FlameGraphOutput, Refusal>
-        requires { total self.now < 2 ^ 63 }
+        requires { entered (map_of self.now) < 2 ^ 63 }
         ensures made { IfOk result (IsProfile (map_of self.now)) }
         ensures total { IfOk result (λ o. graph_total o.graph < 2 ^ 63) }
         ensures err { IfErr result (λ e. e ≡ Refusal.Memory) }
@@ -134,7 +135,7 @@ impl Tree {
         warned: &mut Vec<WarnedPath>,
     ) -> Result<FlameGraph, Refusal>
         requires within { at < length self.now }
-        requires fits { total self.now < 2 ^ 63 }
+        requires fits { entered (map_of self.now) < 2 ^ 63 }
         requires keys { map (λ k. k.now) keys.old.items ≡ path_at self.now at }
         ensures keys { OnOk result (keys.new.items ≡ keys.old.items) }
         ensures made { IfOk result (MakesGraph self.now at (map seen warned.old.items) (map seen warned.new.items)) }
