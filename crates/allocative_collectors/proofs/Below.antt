@@ -2,10 +2,12 @@
 use Rattle.std.proofs.Common.{◌≡◌, ℕ, zero, suc, ◌<◌, Bool, true, false, not, ◌&&◌, List, [], ◌∷◌, ◌++◌, length, get_or, sum_by, refl, sym, ap, ◌∙◌, arith, inl, inr, cond, eqb, ltb, eq-eqb, ne_eqb, lt-ltb}
 use Rattle.allocative_collectors.proofs.Common.{Ordering, Less, Equal, Greater, is_eq, ordering_then, ordering_reverse, Key, Path, key_cmp, path_cmp, is_same_path, Sum, root_sum, sum_at, path_at, map_of, Shape, no_shape, at, sums, key_at, parent_at, bytes_at, below_at, share, IsArena, is_one_below, is_root, below}
 use Rattle.std.specs.Ordering.{eq_by_cmp}
+use Rattle.std.proofs.lemmas.Cmp.{eq_by_cmp_equiv}
+use Rattle.std.proofs.Math.Bool.{and-false}
 use Rattle.std.proofs.lemmas.List.Sums.{sum_by-cons}
 use Rattle.std.proofs.lemmas.Bool.{cases_eq, cond-true, cond-false}
 use Rattle.allocative_collectors.proofs.Bridge.{IsListing, below_listed, not_below_root}
-use Rattle.allocative_collectors.proofs.Orders.{key_total, same_path-same, same_path-apart}
+use Rattle.allocative_collectors.proofs.Orders.{key_total, same_path-same, same_path-apart, tied}
 use Rattle.allocative_collectors.proofs.Labels.{length_sums, figures_sums, root_at, step, distinct}
 
 -- two sums are equal where their terms are
@@ -22,21 +24,8 @@ step_push : (p q : Path) (k : Key) → is_one_below p (q ++ k ∷ []) ≡ is_sam
 step_push [] [] k = refl
 step_push [] (l ∷ []) k = refl
 step_push [] (l ∷ m ∷ q) k = refl
-step_push (j ∷ p) [] k = ap (λ (b : Bool). eq_by_cmp key_cmp j k && b) (none p) ∙ and_false (eq_by_cmp key_cmp j k)
-  where
-    none : (p : Path) → is_one_below p [] ≡ false
-    none [] = refl
-    none (x ∷ p) = refl
-
-    and_false : (b : Bool) → (b && false) ≡ false
-    and_false true = refl
-    and_false false = refl
-step_push (j ∷ p) (l ∷ q) k = ap (λ (b : Bool). eq_by_cmp key_cmp j l && b) (step_push p q k) ∙ by (key_cmp j l) (key_cmp l j) (path_cmp q p) (key_total.antisymm j l)
-  where
-    by : (a b r : Ordering) → a ≡ ordering_reverse b → (is_eq a && is_eq r) ≡ is_eq (ordering_then b r)
-    by a Less r e = ap (λ (o : Ordering). is_eq o && is_eq r) e
-    by a Equal r e = ap (λ (o : Ordering). is_eq o && is_eq r) e
-    by a Greater r e = ap (λ (o : Ordering). is_eq o && is_eq r) e
+step_push (j ∷ p) [] k = ap (λ (b : Bool). eq_by_cmp key_cmp j k && b) (not_below_root p) ∙ and-false (eq_by_cmp key_cmp j k)
+step_push (j ∷ p) (l ∷ q) k = (λ i. (eq_by_cmp_equiv key_total).symm j l i && step_push p q k i) ∙ tied (key_cmp l j) (path_cmp q p)
 
 pub listing : (ns : List Shape) → IsArena ns → IsListing (sums ns)
 listing ns ok = record {

@@ -46,19 +46,26 @@ find-put (suc i) p q n u (e ∷ s) is sole =
     swapped : (a b : Bool) (x y z : Option Node) → (a ≡ true → b ≡ true → ⊥) → cond a x (cond b y z) ≡ cond b y (cond a x z)
     swapped a b x y z apart = grind (arith, nat_tests)
 
+abbrev pub mark_of : Bool → Mark
+mark_of u = cond u AsUnique AsInline
+
+mark_is : (u : Bool) → is_unique_mark (mark_of u) ≡ u
+mark_is true = refl
+mark_is false = refl
+
 -- an entry below the root is added to the map too
-pub map_of-entered : {old new : Listed} {at : ℕ} {k : Key} {n : ℕ} {u : Bool} {i : ℕ} → IsEntered old new at k n u i → 0 < length old → (m : Mark) → is_unique_mark m ≡ u → map_of new ≡ bag.add (map_of old) (record { path = path_at old at ++ k ∷ []; size = n; mark = m })
-map_of-entered {old} {at = at} {k = k} {n = n} {u = u} {i = i} entered some m mark =
+pub map_of-entered : {old new : Listed} {at : ℕ} {k : Key} {n : ℕ} {u : Bool} {i : ℕ} → IsEntered old new at k n u i → 0 < length old → map_of new ≡ bag.add (map_of old) (record { path = path_at old at ++ k ∷ []; size = n; mark = mark_of u })
+map_of-entered {old} {at = at} {k = k} {n = n} {u = u} {i = i} entered some =
     ap map_of entered.sums ∙ by old i entered.not_root some (ap (λ (s : Listed). path_at s i) (sym entered.sums) ∙ entered.path) entered.sole
   where
-    by : (s : Listed) (i : ℕ) → 0 < i → 0 < length s → path_at (put i (path_at old at ++ k ∷ []) n u s) i ≡ path_at old at ++ k ∷ [] → ((j : ℕ) → j < length s → path_at s j ≡ path_at old at ++ k ∷ [] → j ≡ i) → map_of (put i (path_at old at ++ k ∷ []) n u s) ≡ bag.add (map_of s) (record { path = path_at old at ++ k ∷ []; size = n; mark = m })
+    by : (s : Listed) (i : ℕ) → 0 < i → 0 < length s → path_at (put i (path_at old at ++ k ∷ []) n u s) i ≡ path_at old at ++ k ∷ [] → ((j : ℕ) → j < length s → path_at s j ≡ path_at old at ++ k ∷ [] → j ≡ i) → map_of (put i (path_at old at ++ k ∷ []) n u s) ≡ bag.add (map_of s) (record { path = path_at old at ++ k ∷ []; size = n; mark = mark_of u })
     by s zero pos some is sole = absurd (omega arith)
     by [] (suc i) pos some is sole = absurd (omega arith)
     by (r ∷ s) (suc i) pos some is sole =
         let p : Path = path_at old at ++ k ∷ [] in
         same_sums _ _ (λ q. get-from_entries path_total (map row (put i p n u s)) q ∙ (find-put i p q n u s is (λ j h w. tail_apart j i (sole (suc j) (omega arith) w))
-        ∙ (λ x. cond (is_same_path q p) (Some (together (sym (get-from_entries path_total (map row s) p) x) (record { bytes = n; is_unique = sym mark x }))) (sym (get-from_entries path_total (map row s) q) x))
-        ∙ sym (get-add (map_of (r ∷ s)) (record { path = p; size = n; mark = m }) q)))
+        ∙ (λ x. cond (is_same_path q p) (Some (together (sym (get-from_entries path_total (map row s) p) x) (record { bytes = n; is_unique = sym (mark_is u) x }))) (sym (get-from_entries path_total (map row s) q) x))
+        ∙ sym (get-add (map_of (r ∷ s)) (record { path = p; size = n; mark = mark_of u }) q)))
 
 -- ---- the places of different paths
 abbrev pub Distinct : Listed → Type 0
@@ -116,13 +123,6 @@ graph_none s ok [] other = absurd (other 0 ok.rooted ok.root_path)
 graph_none s ok (k ∷ q) other = get-graph (map_of s) k q ∙ ap (option_map (remaining (map_of s) (k ∷ q))) (get_none s (k ∷ q) (λ i pos. other i))
 
 -- ---- sums over the map
-abbrev pub mark_of : Bool → Mark
-mark_of u = cond u AsUnique AsInline
-
-pub mark_is : (u : Bool) → is_unique_mark (mark_of u) ≡ u
-mark_is true = refl
-mark_is false = refl
-
 -- rows with different paths have the same bytes below p as their map
 below_rows : (s : Listed) → Distinct s → (p : Path) → bag.below (from_entries (map row s)) p ≡ sum_by (λ e. cond (is_one_below p e.path) e.bytes 0) s
 below_rows [] apart p = ap (sum_by (λ (e : Path × Node). cond (is_one_below p e.0) e.1.bytes 0)) entries-empty

@@ -7,7 +7,7 @@ use Rattle.std.proofs.lemmas.List.{map-append, reverse-append, length-map, lengt
 use Rattle.std.proofs.lemmas.Bool.{cases_lt}
 use Rattle.std.proofs.lemmas.Bool.Decides.{nat_tests}
 use Rattle.allocative_graph.specs.Identity.{Identity, identity_cmp, is_same_identity}
-use Rattle.allocative_graph.specs.Forest.{Mark, AsShared, Entry}
+use Rattle.allocative_graph.specs.Forest.{Entry}
 use Rattle.allocative_graph.specs.Sums as bag
 use Rattle.allocative_graph.specs.Collector.{last_of, without_last}
 use Rattle.allocative_graph.proofs.Basics.{identity_total, identity_antisymmetric, same_identity_turned}
@@ -15,7 +15,7 @@ use Rattle.allocative_collectors.specs.Places.{to_root, outside, back_from, back
 use Rattle.allocative_collectors.proofs.Adds.{total_entered, length_entered, path_entered}
 use Rattle.allocative_graph.proofs.Below.{entered-add}
 use Rattle.allocative_collectors.proofs.Keys.{map_same}
-use Rattle.allocative_collectors.proofs.Bridge.{map_of-entered, mark_of, mark_is}
+use Rattle.allocative_collectors.proofs.Bridge.{map_of-entered, mark_of}
 
 -- ---- the identities
 -- equal in both parts
@@ -82,18 +82,19 @@ module _ (t : Listed) (met : List Identity) where
       let stack : back_at t current [] true ≡ path_at t current ∷ back_at t current [] false = (λ i. outside (root i) ++ [] ∷ []) ∙ (λ i. sym root i ∷ outside (sym root i) ++ []) in
       λ i. record { sums = map_of t; met = from_list met; here = root i; back = stack i; open_visitors = length (stack i) }
 
+-- a content that was met for the first time
+pub gone_in : (t : Listed) (met now : List Identity) (current : ℕ) (places : List ℕ) (rooted : Bool) (i : Identity) → path_at t 0 ≡ [] → from_list {R = identity_cmp} now ≡ insert (from_list met) i → live t now 0 (places ++ current ∷ []) rooted ≡ go [] (record (live t met current places rooted) { met = insert (from_list met) i })
+gone_in t met now current places rooted i root one_new =
+    went t now current 0 places (places ++ current ∷ []) rooted (one_out t now current 0 places (places ++ current ∷ []) rooted root refl)
+    ∙ (λ j. go (root j) (record (live t met current places rooted) { met = one_new j }))
+
 -- ---- no visitor is open
-length_outside : (p : Path) → length (outside p) ≡ length p
-length_outside [] = refl
-length_outside (k ∷ p) = omega (arith, length-append (map (λ (q : Path). k ∷ q) (outside p)) ([] ∷ []), length-map (outside p) (λ (q : Path). k ∷ q), length_outside p)
-
-not_rooted : (rooted : Bool) → length (to_root rooted) ≡ 0 → rooted ≡ false
-not_rooted true e = absurd (omega arith)
-not_rooted false e = refl
-
-length_from : (ps last : List Path) → length ps + length last ≤ length (back_from ps last)
-length_from [] last = omega arith
-length_from (p ∷ ps) last = omega (arith, length-append (outside p) (back_from ps last), length_from ps last)
+-- where there is no path to go back to
+none_back : (p : Path) (ps : List Path) (rooted : Bool) → length (outside p ++ back_from ps (to_root rooted)) ≡ 0 → (p ≡ []) × (length ps ≡ 0) × (rooted ≡ false)
+none_back [] [] true e = absurd (omega arith)
+none_back [] [] false e = (refl, refl, refl)
+none_back [] (p ∷ ps) rooted e = absurd (omega arith)
+none_back (k ∷ p) ps rooted e = absurd (omega (arith, e, length-append (outside (k ∷ p)) (back_from ps (to_root rooted)), length-append (map (λ (q : Path). k ∷ q) (outside p)) ([] ∷ [])))
 
 -- the current place is the root, and no content and no root visitor is open
 pub record IsOut (t : Listed) (current : ℕ) (places : List ℕ) (rooted : Bool) : Type 0 where
@@ -102,44 +103,19 @@ pub record IsOut (t : Listed) (current : ℕ) (places : List ℕ) (rooted : Bool
   pub no_visitor : rooted ≡ false
 
 module _ (t : Listed) (current : ℕ) (places : List ℕ) (rooted : Bool) where
-  length_back : length (path_at t current) + (length places + length (to_root rooted)) ≤ length (back_at t current places rooted)
-  length_back =
-      let ps = reverse (map (path_at t) places) in
-      let many : length ps ≡ length places = length-reverse (map (path_at t) places) ∙ length-map places (path_at t) in
-      omega (arith, length-append (outside (path_at t current)) (back_from ps (to_root rooted)), length_outside (path_at t current), length_from ps (to_root rooted), many)
-
-  pub not_closed : (outer : ℕ) (k : Key) → path_at t current ≡ path_at t outer ++ k ∷ [] → length (back_at t current places rooted) ≢ 0
-  not_closed outer k path none = let longer = ap length path in omega (arith, length_back, none, length-append (path_at t outer) (k ∷ []))
-
   pub closed : length (back_at t current places rooted) ≡ 0 → IsOut t current places rooted
-  closed none = record {
-    root = nil_from_length (path_at t current) (omega (arith, length_back, none));
-    no_place = nil_from_length places (omega (arith, length_back, none));
-    no_visitor = not_rooted rooted (omega (arith, length_back, none));
-  }
+  closed none =
+      let out = none_back (path_at t current) (reverse (map (path_at t) places)) rooted none in
+      record {
+        root = out.0;
+        no_place = nil_from_length places (omega (arith, out.1, length-reverse (map (path_at t) places), length-map places (path_at t)));
+        no_visitor = out.2;
+      }
 
   pub nothing_back : IsOut t current places rooted → back_at t current places rooted ≡ []
   nothing_back o =
       ap (λ (q : Path). outside q ++ back_from (reverse (map (path_at t) places)) (to_root rooted)) o.root
       ∙ (ap (λ (l : List ℕ). back_from (reverse (map (path_at t) l)) (to_root rooted)) o.no_place ∙ ap to_root o.no_visitor)
-
--- ---- the places
-pub placed_at : {t : Listed} {current : ℕ} {places : List ℕ} {n : ℕ} → IsPlaced t current places n → (node : ℕ) → node < length t → (ps : List ℕ) → ((j : ℕ) → j < length ps → get_or ps j 0 < length t) → IsPlaced t node ps n
-placed_at ok node h ps back = record {
-  here = h;
-  back = back;
-  entered_is = ok.entered_is;
-  total_is = ok.total_is;
-  bound = ok.bound;
-  rooted = ok.rooted;
-  root_path = ok.root_path;
-}
-
-pub placed_gone : {t : Listed} {current : ℕ} {places : List ℕ} {n : ℕ} → IsPlaced t current places n → (node : ℕ) → node < length t → IsPlaced t node (places ++ current ∷ []) n
-placed_gone {current = current} {places = places} ok node h = placed_at ok node h (places ++ current ∷ []) (λ j hj. elim (cases_lt j (length places)) [
-  | inl lt ↦ rw (get_or_append_left places (current ∷ []) 0 j lt) (ok.back j lt)
-  | inr ge ↦ rw (get_or_push places current 0 j (omega (arith, length_push places current))) ok.here
-])
 
 -- ---- a whole step
 pub enter_is : (u : Bool) (k : Key) (n : ℕ) (c : Live) → go (c.here ++ k ∷ []) (record c { sums = bag.add c.sums (record { path = c.here ++ k ∷ []; size = n; mark = mark_of u }) }) ≡ enter_live u k n c
@@ -148,16 +124,16 @@ enter_is false k n c = refl
 
 module _ {t new : Listed} {current : ℕ} {places : List ℕ} {n : ℕ} (ok : IsPlaced t current places n) {k : Key} {size : ℕ} {u : Bool} {more node : ℕ} (entered : AddedAt t new current k size u n more node) where
   -- the entry in the bag
-  abbrev one : Mark → Entry
-  one m = record { path = path_at t current ++ k ∷ []; size = size; mark = m }
+  abbrev one : Entry
+  one = record { path = path_at t current ++ k ∷ []; size = size; mark = mark_of u }
 
-  pub placed_added : IsPlaced new current places more
-  placed_added = record {
-    here = omega (arith, length_entered entered.is, ok.here);
+  -- the current place may stay or be that of the entry
+  pub placed_added : (now : ℕ) → now < length new → IsPlaced new now places more
+  placed_added now within = record {
+    here = within;
     back = λ j h. let old = ok.back j h in omega (arith, length_entered entered.is);
     entered_is =
-        let same = ap bag.entered (map_of-entered entered.is ok.rooted (mark_of u) (mark_is u)) in
-        omega (arith, ok.entered_is, entered.count, same, entered-add (map_of t) (one (mark_of u)));
+        omega (arith, ok.entered_is, entered.count, ap bag.entered (map_of-entered entered.is ok.rooted), entered-add (map_of t) one);
     total_is = omega (arith, ok.total_is, entered.count, total_entered entered.is);
     bound = omega (arith, entered.fits, entered.count);
     rooted = omega (arith, length_entered entered.is, ok.rooted);
@@ -168,9 +144,9 @@ module _ {t new : Listed} {current : ℕ} {places : List ℕ} {n : ℕ} (ok : Is
   fits_map = omega (arith, ok.entered_is, entered.fits)
 
   module _ (met : List Identity) (rooted : Bool) where
-    live_added : (m : Mark) → is_unique_mark m ≡ u → live new met current places rooted ≡ record (live t met current places rooted) { sums = bag.add (map_of t) (one m) }
-    live_added m mark = λ i. record {
-      sums = map_of-entered entered.is ok.rooted m mark i;
+    pub live_added : live new met current places rooted ≡ record (live t met current places rooted) { sums = bag.add (map_of t) one }
+    live_added = λ i. record {
+      sums = map_of-entered entered.is ok.rooted i;
       met = from_list met;
       here = path_entered entered.is current ok.here i;
       back = back i;
@@ -183,16 +159,5 @@ module _ {t new : Listed} {current : ℕ} {places : List ℕ} {n : ℕ} (ok : Is
     pub gone_down : live new met node places rooted ≡ enter_live u k size (live t met current places rooted)
     gone_down =
         went new met current node places places rooted (one_up new met current node places rooted k (entered.is.path ∙ ap (λ (q : Path). q ++ k ∷ []) (sym (path_entered entered.is current ok.here))))
-        ∙ (λ i. go (entered.is.path i) (live_added (mark_of u) (mark_is u) i))
+        ∙ (λ i. go (entered.is.path i) (live_added i))
         ∙ enter_is u k size (live t met current places rooted)
-
-    pub gone_first : (i : Identity) (now : List Identity) → from_list {R = identity_cmp} now ≡ insert (from_list met) i → u ≡ false → live new now 0 (places ++ current ∷ []) rooted ≡ enter_first k size i (live t met current places rooted)
-    gone_first i now one_new plain =
-        went new now current 0 places (places ++ current ∷ []) rooted (one_out new now current 0 places (places ++ current ∷ []) rooted placed_added.root_path refl)
-        ∙ (λ j. go (placed_added.root_path j) (record (live_added (AsShared i) (sym plain) j) { met = one_new j }))
-
-    pub stayed_simple : u ≡ false → live new met current places rooted ≡ leave_live (enter_live false k size (live t met current places rooted))
-    stayed_simple plain = live_added AsInline (sym plain)
-
-    pub stayed : (i : Identity) → u ≡ false → live new met current places rooted ≡ enter_again k size i (live t met current places rooted)
-    stayed i plain = live_added (AsShared i) (sym plain)

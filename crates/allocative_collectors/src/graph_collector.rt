@@ -115,12 +115,11 @@ impl GraphCollector {
         ensures err { IfErr result (Refuses false size (OfGraph self.old)) }
         ensures kept { IfErr result (λ e. e ≡ Refusal.TooLarge → self.new ≡ self.old) }
     {
-        let here = self.current;
-        add(&mut self.tree, &mut self.entered, here, key, size, false)?;
+        self.enter_simple(key, size)?;
         if !self.met.insert(id)? {
             return Ok(false);
         }
-        self.places.push(here)?;
+        self.places.push(self.current)?;
         self.current = 0;
         Ok(true)
     }
