@@ -1,6 +1,6 @@
 -- An arena with one more node, which has no entry yet.
 use Rattle.std.proofs.Common.{◌≡◌, ◌≢◌, ℕ, ◌+◌, ◌-◌, ◌<◌, ◌≤◌, false, List, [], ◌∷◌, ◌++◌, length, get_or, set, take, drop, refl, sym, ap, subst, ◌∙◌, arith, inl, inr, get_or-set_same, get_or-set_other, length-set}
-use Rattle.allocative_collectors.proofs.Common.{key_at, Less, ordering_reverse, Key, key_cmp, Shape, no_shape, at, children_at, keys_of, keys_at, key_in, parent_at, below_of, share, KeysRise, StandsIn, IsChild, IsArena, IsKeyGap}
+use Rattle.allocative_collectors.proofs.Common.{key_at, Less, ordering_reverse, Key, key_cmp, Shape, leaf, no_shape, at, children_at, keys_of, keys_at, key_in, parent_at, below_of, share, KeysRise, StandsIn, IsChild, IsArena, IsKeyGap}
 use Rattle.std.specs.List.{All, insert}
 use Rattle.std.proofs.lemmas.List.Elements.{All-append, All-cons, All-drop, All-take, All-weaker}
 use Rattle.std.proofs.lemmas.List.{get_or_append_left, get_or_push, length_push}
@@ -10,16 +10,12 @@ use Rattle.std.proofs.lemmas.Bool.{cases_order, cases_eq}
 use Rattle.allocative_collectors.proofs.Orders.{key_total}
 use Rattle.allocative_collectors.proofs.Keys.{length-keys_of, map_same, keys_of-insert, insert_above, stands_insert, touched, pushed}
 
--- a node with no bytes and no children
-abbrev pub leaf : ℕ → Key → Shape
-leaf p k = record { key = k; parent = p; children = []; bytes = 0; is_unique = false; below = 0 }
-
 abbrev pub with_children : List ℕ → Shape → Shape
 with_children xs n = record n { children = xs }
 
 -- the arena with a new node under p, whose key k is put at place g among the children
 abbrev pub grown : List Shape → ℕ → Key → ℕ → List Shape
-grown ns p k g = set (ns ++ leaf p k ∷ []) p (with_children (insert (children_at ns p) g (length ns)) (at ns p))
+grown ns p k g = set ns p (with_children (insert (children_at ns p) g (length ns)) (at ns p)) ++ leaf p k ∷ []
 
 -- keys stay in order when a key is put into its gap
 rise_insert : (ks : List Key) (k : Key) (g : ℕ) → IsKeyGap ks k g → KeysRise ks → KeysRise (insert ks g k)
@@ -41,34 +37,37 @@ module _ (ns : List Shape) (ok : IsArena ns) (p : ℕ) (hp : p < length ns) (k :
   abbrev new : List Shape
   new = grown ns p k g
 
-  abbrev pub written : Shape
+  abbrev written : Shape
   written = with_children (insert (children_at ns p) g (length ns)) (at ns p)
 
-  pub length_grown : length (grown ns p k g) ≡ length ns + 1
-  length_grown = omega (arith, length-set (ns ++ leaf p k ∷ []) p written, length_push ns (leaf p k))
+  abbrev rest : List Shape
+  rest = set ns p written
 
-  pub stood : (i : ℕ) → i < length ns → at (ns ++ leaf p k ∷ []) i ≡ at ns i
-  stood i h = get_or_append_left ns _ no_shape i h
+  length_rest : length rest ≡ length ns
+  length_rest = length-set ns p written
+
+  pub length_grown : length (grown ns p k g) ≡ length ns + 1
+  length_grown = omega (arith, length_rest, length_push rest (leaf p k))
 
   at_leaf : at new (length ns) ≡ leaf p k
-  at_leaf = get_or-set_other (ns ++ leaf p k ∷ []) p (length ns) _ no_shape (omega arith) ∙ get_or_push ns (leaf p k) no_shape (length ns) refl
+  at_leaf = get_or_push rest (leaf p k) no_shape (length ns) length_rest
 
   -- what does not depend on the children is unchanged
   before : {X : Type 0} (f : Shape → X) → f written ≡ f (at ns p) → (i : ℕ) → i < length ns → f (at new i) ≡ f (at ns i)
-  before f same i h = touched f (ns ++ leaf p k ∷ []) p written (same ∙ ap f (sym (stood p hp))) i ∙ ap f (stood i h)
+  before f same i h = ap f (get_or_append_left rest _ no_shape i (omega (arith, length_rest))) ∙ touched f ns p written same i
 
   -- and at each place, where a leaf has what a missing node has
   everywhere : (f : Shape → ℕ) → f written ≡ f (at ns p) → f (leaf p k) ≡ f no_shape → (i : ℕ) → f (at new i) ≡ f (at ns i)
-  everywhere f same none i = touched f (ns ++ leaf p k ∷ []) p written (same ∙ ap f (sym (stood p hp))) i ∙ pushed f ns (leaf p k) none i
+  everywhere f same none i = pushed f rest (leaf p k) none i ∙ touched f ns p written same i
 
   parent_before : (i : ℕ) → i < length ns → parent_at new i ≡ parent_at ns i
   parent_before = before (λ n. n.parent) refl
 
   children_other : (q : ℕ) → q ≢ p → children_at new q ≡ children_at ns q
-  children_other q ne = ap (λ (n : Shape). n.children) (get_or-set_other (ns ++ leaf p k ∷ []) p q _ no_shape ne) ∙ pushed (λ n. n.children) ns (leaf p k) refl q
+  children_other q ne = pushed (λ n. n.children) rest (leaf p k) refl q ∙ ap (λ (n : Shape). n.children) (get_or-set_other ns p q _ no_shape ne)
 
   children_parent : children_at new p ≡ insert (children_at ns p) g (length ns)
-  children_parent = ap (λ (n : Shape). n.children) (get_or-set_same (ns ++ leaf p k ∷ []) p written no_shape (omega (arith, length_push ns (leaf p k))))
+  children_parent = ap (λ (n : Shape). n.children) (get_or_append_left rest _ no_shape p (omega (arith, length_rest)) ∙ get_or-set_same ns p written no_shape hp)
 
   -- the keys of the children before
   keys_stood : (q : ℕ) → keys_of new (children_at ns q) ≡ keys_at ns q
@@ -104,11 +103,8 @@ module _ (ns : List Shape) (ok : IsArena ns) (p : ℕ) (hp : p < length ns) (k :
 
   below_of_grown : (q : ℕ) → below_of q new ≡ below_of q ns
   below_of_grown q =
-      let pushed = sum_by_push (share q) ns (leaf p k) in
       let none : share q (leaf p k) ≡ 0 = elim (cases_eq p q) [ inl e ↦ grind arith | inr ne ↦ grind arith ] in
-      let written = sum_by-set (share q) (ns ++ leaf p k ∷ []) p written no_shape (omega (arith, length_push ns (leaf p k))) in
-      let stood = ap (share q) (stood p hp) in
-      omega arith
+      omega (arith, sum_by_push (share q) rest (leaf p k), sum_by-set (share q) ns p written no_shape hp)
 
   pub arena_grown : IsArena (grown ns p k g)
   arena_grown = record {

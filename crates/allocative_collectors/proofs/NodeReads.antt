@@ -1,6 +1,6 @@
 -- What a read of a node says of the arena.
 use Rattle.std.proofs.Common.{◌≡◌, ℕ, ◌+◌, ◌<◌, ◌≤◌, Bool, ◌||◌, not, ltb, List, [], ◌∷◌, ◌++◌, map, length, get_or, set, take, ◌-◌, sym, ap, subst, ◌∙◌, arith, refl, length-set, take_at}
-use Rattle.allocative_collectors.proofs.Common.{Key, Shape, IsChild, IsArena, sums, keys_at, no_shape, at, children_at, key_in, key_at, parent_at, below_at, shape, sums_of, IsTree, below, is_root, Listed, sum_at, map_of}
+use Rattle.allocative_collectors.proofs.Common.{Key, Shape, leaf, IsChild, IsArena, sums, keys_at, no_shape, at, children_at, key_in, key_at, parent_at, below_at, shape, sums_of, IsTree, below, is_root, Listed, sum_at, map_of}
 use Rattle.std.specs.List.{insert}
 use Rattle.std.proofs.lemmas.List.{get_or-map, length-map, map-set, map_push, length_push, get_or_append_left, set-get_or, take-map}
 use Rattle.allocative_collectors.specs.declared.tree.Node.{Node}
@@ -10,7 +10,7 @@ use Rattle.allocative_collectors.proofs.Bridge.{IsListing}
 use Rattle.allocative_collectors.proofs.Below.{listing, below_is, has_key}
 use Rattle.allocative_collectors.proofs.Labels.{length_sums, figures_sums, raise_shape}
 use Rattle.allocative_collectors.proofs.Raised.{more_below, raised, bytes_le_total, below_le_total}
-use Rattle.allocative_collectors.proofs.Grown.{leaf, with_children, grown}
+use Rattle.allocative_collectors.proofs.Grown.{with_children, grown}
 
 module _ (items : List Node) where
   pub length_nodes : length (sums_of items) ≡ length items
@@ -95,32 +95,11 @@ module _ (items : List Node) (ok : IsTree items) {v : Listed} (view : sums_of it
         ∙ (λ j. let q = sym is j in set (mid j) q.parent (more_below size (at (mid j) q.parent))))
 
 -- the two writes of a new node, seen as shapes
-module _ (items longer : List Node) (fresh : Node) (pushed : longer ≡ items ++ fresh ∷ []) (p : ℕ) (hp : p < length items) (n : Node) (read : n ≡ get_or longer p n) where
-  longer_length : length longer ≡ length items + 1
-  longer_length = ap length pushed ∙ length_push items fresh
-
-  stood_at : at (map shape items) p ≡ shape n
-  stood_at =
-      sym (get_or_append_left (map shape items) (shape fresh ∷ []) no_shape p (omega (arith, length-map items shape)))
-      ∙ (ap (λ (l : List Shape). at l p) (sym (ap (map shape) pushed ∙ map_push shape items fresh)) ∙ shape_read longer p n (omega (arith, longer_length)) read)
-
-  pub grown_nodes : (k : Key) (g : ℕ) (m : Node) → shape fresh ≡ leaf p k → shape m ≡ with_children (insert n.children.items g (length items)) (shape n) → map shape (set longer p m) ≡ grown (map shape items) p k g
-  grown_nodes k g m fresh_is m_is =
-      let ns = map shape items in
-      let mapped : map shape longer ≡ ns ++ leaf p k ∷ [] = ap (map shape) pushed ∙ (map_push shape items fresh ∙ ap (λ (s : Shape). ns ++ s ∷ []) fresh_is) in
-      let same : shape m ≡ with_children (insert (children_at ns p) g (length ns)) (at ns p) =
-      m_is ∙ (ap (λ (s : Shape). with_children (insert s.children g (length items)) s) (sym stood_at) ∙ ap (λ (l : ℕ). with_children (insert (children_at ns p) g l) (at ns p)) (sym (length-map items shape))) in
-      map-set shape longer p m ∙ (ap (λ (l : List Shape). set l p (shape m)) mapped ∙ ap (set (ns ++ leaf p k ∷ []) p) same)
-
-  -- after a push that is undone
-  pub kept_nodes : (m : Node) → shape m ≡ shape n → map shape (take (length longer - 1) (set longer p m)) ≡ map shape items
-  kept_nodes m m_is =
-      let ns = map shape items in
-      let len : length longer - 1 ≡ length ns = omega (arith, longer_length, length-map items shape) in
-      let same = same_shapes longer p n m (omega (arith, longer_length)) read m_is in
-      sym (take-map shape (length longer - 1) (set longer p m))
-      ∙ (ap (λ (l : List Shape). take (length longer - 1) l) (same ∙ (ap (map shape) pushed ∙ map_push shape items fresh))
-      ∙ take_at ns (shape fresh ∷ []) (length longer - 1) (sym len))
+pub grown_nodes : (items : List Node) (p : ℕ) → p < length items → (n : Node) → n ≡ get_or items p n → (k : Key) (g : ℕ) (m fresh : Node) → shape fresh ≡ leaf p k → shape m ≡ with_children (insert n.children.items g (length items)) (shape n) → map shape (set items p m ++ fresh ∷ []) ≡ grown (map shape items) p k g
+grown_nodes items p hp n read k g m fresh fresh_is m_is =
+    let is = shape_read items p n hp read in
+    let same = m_is ∙ (λ j. (let s = sym is j in with_children (insert s.children g (sym (length-map items shape) j)) s)) in
+    map_push shape (set items p m) fresh ∙ (λ j. (map-set shape items p m ∙ ap (set (map shape items) p) same) j ++ fresh_is j ∷ [])
 
 -- what the sums say of a node that was read
 pub figures_read : (items : List Node) (ok : IsTree items) (v : Listed) (view : sums_of items ≡ v) (i : ℕ) (h : i < length v) (n : Node) (read : n ≡ get_or items i n) → (let e = sum_at v i in (e.bytes ≡ n.bytes) × (e.is_unique ≡ n.is_unique) × (below (map_of v) e.path ≡ n.below) × (not (is_root e.path) ≡ ltb 0 i))

@@ -15,9 +15,13 @@ pub record Shape : Type 0 where
   pub is_unique : Bool
   pub below : ℕ
 
+-- A node with no bytes and no children.
+abbrev pub leaf : ℕ → Key → Shape
+leaf p k = record { key = k; parent = p; children = []; bytes = 0; is_unique = false; below = 0 }
+
 -- The node that stands for a missing one.
 abbrev pub no_shape : Shape
-no_shape = record { key = []; parent = 0; children = []; bytes = 0; is_unique = false; below = 0 }
+no_shape = leaf 0 []
 
 -- The node with the number i.
 abbrev pub at : List Shape → ℕ → Shape
