@@ -28,19 +28,24 @@ abbrev pub at : List Shape → ℕ → Shape
 at ns i = slice_index_or ns i no_shape
 
 -- ---- the sums
--- What a node stands for, where ps are the paths of the nodes before it: its path is its parent's with one more key.
+-- The path of a node with parent i and key k, where ps are the paths of the nodes before it: its parent's with one more
+-- key. The first node is the root.
+abbrev pub path_from : List Path → ℕ → Key → Path
+path_from [] i k = []
+path_from (p ∷ ps) i k = slice_index_or (p ∷ ps) i [] ++ k ∷ []
+
+-- What a node stands for, where ps are the paths of the nodes before it.
 abbrev pub sum_from : List Path → Shape → Sum
-sum_from ps n = record { path = slice_index_or ps n.parent [] ++ n.key ∷ []; bytes = n.bytes; is_unique = n.is_unique }
+sum_from ps n = record { path = path_from ps n.parent n.key; bytes = n.bytes; is_unique = n.is_unique }
 
 -- What the nodes ns stand for, where ps are the paths of the nodes before them.
 abbrev pub grow : List Path → List Shape → Listed
 grow ps [] = []
 grow ps (n ∷ ns) = let e = sum_from ps n in e ∷ grow (ps ++ e.path ∷ []) ns
 
--- The sums that the nodes stand for. The first node is the root.
+-- The sums that the nodes stand for.
 abbrev pub sums : List Shape → Listed
-sums [] = []
-sums (n ∷ ns) = record { path = []; bytes = n.bytes; is_unique = n.is_unique } ∷ grow ([] ∷ []) ns
+sums ns = grow [] ns
 
 -- ---- what a node has
 -- The key of node i.
