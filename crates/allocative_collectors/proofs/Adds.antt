@@ -1,6 +1,7 @@
 -- What one more entry leaves as it was.
-use Rattle.std.proofs.Common.{◌≡◌, ℕ, zero, suc, ◌+◌, ◌<◌, ◌≤◌, Bool, true, false, ◌||◌, [], ◌∷◌, ◌++◌, length, refl, ap, ◌∙◌, arith}
+use Rattle.std.proofs.Common.{◌≡◌, ℕ, zero, suc, ◌+◌, ◌<◌, ◌≤◌, Bool, false, add-zero, zero-add, [], ◌∷◌, ◌++◌, length, refl, ap, ◌∙◌, arith}
 use Rattle.allocative_collectors.proofs.Common.{Key, Path, Sum, Listed, raise, put, path_at, IsEntered}
+use Rattle.std.proofs.Math.Bool.{or-false}
 use Rattle.std.proofs.lemmas.List.Sums.{sum_by-cons}
 use Rattle.allocative_collectors.specs.Listed.{total}
 
@@ -25,18 +26,12 @@ length_put (suc i) p n u (e ∷ s) = let more = length_put i p n u s in (omega (
 -- an entry of 0 bytes at a place that is there changes nothing
 pub put_nothing : (i : ℕ) (p : Path) (s : Listed) → i < length s → put i p 0 false s ≡ s
 put_nothing i p [] h = absurd (omega arith)
-put_nothing zero p (e ∷ s) h =
-    let same : e.bytes + 0 ≡ e.bytes = omega arith in
-    λ k. record { path = e.path; bytes = same k; is_unique = or_false e.is_unique k } ∷ s
-  where
-    or_false : (b : Bool) → (b || false) ≡ b
-    or_false true = refl
-    or_false false = refl
+put_nothing zero p (e ∷ s) h = λ k. record { path = e.path; bytes = add-zero e.bytes k; is_unique = or-false e.is_unique k } ∷ s
 put_nothing (suc i) p (e ∷ s) h = ap (λ (t : Listed). e ∷ t) (put_nothing i p s (omega arith))
 
 -- an entry of 0 bytes before another one changes nothing
 put_put : (i : ℕ) (p : Path) (n : ℕ) (u : Bool) (s : Listed) → i ≤ length s → put i p n u (put i p 0 false s) ≡ put i p n u s
-put_put zero p n u [] h = let start : 0 + n ≡ n = omega arith in ap (λ (m : ℕ). record { path = p; bytes = m; is_unique = u } ∷ []) start
+put_put zero p n u [] h = ap (λ (m : ℕ). record { path = p; bytes = m; is_unique = u } ∷ []) (zero-add n)
 put_put (suc i) p n u [] h = absurd (omega arith)
 put_put zero p n u (e ∷ s) h = ap (put zero p n u) (put_nothing zero p (e ∷ s) (omega arith))
 put_put (suc i) p n u (e ∷ s) h = ap (λ (t : Listed). e ∷ t) (put_put i p n u s (omega arith))

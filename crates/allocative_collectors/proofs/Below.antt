@@ -59,14 +59,11 @@ module _ (ns : List Shape) (ok : IsArena ns) (i : ℕ) (hi : i < length ns) wher
   pub below_is : below_at ns i ≡ below (map_of (sums ns)) (path_at (sums ns) i)
   below_is = ok.below i ∙ (same_sum (share i) (λ (e : Sum). part e.path e.bytes) no_shape root_sum ns (sums ns) (sym (length_sums ns)) term ∙ below_listed (sums ns) (listing ns ok) (path_at (sums ns) i))
 
-  -- the root alone has the empty path
-  pub has_key : not (is_root (path_at (sums ns) i)) ≡ ltb 0 i
-  has_key = by_place i hi
-    where
-      pushed : (p : Path) (k : Key) → is_root (p ++ k ∷ []) ≡ false
-      pushed [] k = refl
-      pushed (l ∷ p) k = refl
+is_root-push : (p : Path) (k : Key) → is_root (p ++ k ∷ []) ≡ false
+is_root-push [] k = refl
+is_root-push (l ∷ p) k = refl
 
-      by_place : (i : ℕ) → i < length ns → not (is_root (path_at (sums ns) i)) ≡ ltb 0 i
-      by_place zero h = ap (λ (p : Path). not (is_root p)) (root_at ns)
-      by_place (suc j) h = ap (λ (p : Path). not (is_root p)) (step ns ok (suc j) (omega arith) h) ∙ (ap not (pushed _ (key_at ns (suc j))) ∙ sym (lt-ltb 0 (suc j) (omega arith)))
+-- the root alone has the empty path
+pub has_key : (ns : List Shape) → IsArena ns → (i : ℕ) → i < length ns → not (is_root (path_at (sums ns) i)) ≡ ltb 0 i
+has_key ns ok zero h = ap (λ (p : Path). not (is_root p)) (root_at ns)
+has_key ns ok (suc j) h = ap (λ (p : Path). not (is_root p)) (step ns ok (suc j) (omega arith) h) ∙ (ap not (is_root-push _ (key_at ns (suc j))) ∙ sym (lt-ltb 0 (suc j) (omega arith)))

@@ -1,11 +1,10 @@
 -- What a search among a node's children says of the sums.
-use Rattle.std.proofs.Common.{◌≡◌, ◌≢◌, ℕ, zero, suc, ◌<◌, false, List, [], ◌∷◌, ◌++◌, length, sym, ap, subst, ◌∙◌, arith, inl, inr, refl, true, append_assoc, map, set, length-set}
+use Rattle.std.proofs.Common.{◌≡◌, ◌≢◌, ℕ, zero, suc, ◌<◌, false, List, [], ◌∷◌, ◌++◌, length, sym, ap, subst, ◌∙◌, arith, inl, inr, refl, append_assoc, map, set, length-set}
 use Rattle.allocative_collectors.proofs.Common.{Equal, Key, Path, key_cmp, path_at, IsEntered, Listed, root_sum, Shape, leaf, at, children_at, sums, keys_at, key_in, key_at, parent_at, IsChild, IsArena, IsKeyGap}
 use Rattle.std.proofs.lemmas.List.{length-map, get_or-map, get_or_push, same_from_push}
 use Rattle.std.proofs.lemmas.Cmp.{tied_itself}
 use Rattle.std.proofs.lemmas.Bool.{cases_lt}
 use Rattle.allocative_collectors.proofs.Orders.{key_total}
-use Rattle.allocative_collectors.proofs.Parts.{among, among_at}
 use Rattle.allocative_collectors.proofs.Adds.{put_nothing}
 use Rattle.allocative_collectors.proofs.Labels.{path_of, path_from-some, grow_same, sums_push, put_push, length_sums, not_nil, root_at, step, key_place, distinct}
 use Rattle.allocative_collectors.proofs.Grown.{grown, length_grown, with_children}
@@ -49,13 +48,13 @@ module _ (ns : List Shape) (ok : IsArena ns) (p : ℕ) (hp : p < length ns) (k :
       (record { not_root = omega arith; in_range = hi; parent = distinct ns ok (parent_at ns (suc i)) p (omega arith) hp parts.0 }, parts.1)
 
   -- a child of p has the key where a path begins with p's and the key
-  pub on_way : (n i : ℕ) → i < n → i < length ns → (q : Path) → path_at (sums ns) i ≡ path_at (sums ns) p ++ k ∷ q → among (keys_at ns p) (length (keys_at ns p)) k ≡ true
+  pub on_way : (n i : ℕ) → i < n → i < length ns → (q : Path) → path_at (sums ns) i ≡ path_at (sums ns) p ++ k ∷ q → (a : ℕ) × (a < length (keys_at ns p)) × (key_in (keys_at ns p) a ≡ k)
   on_way zero i lt hi q e = absurd (omega arith)
   on_way (suc n) zero lt hi q e = absurd (not_nil _ _ _ (sym e ∙ root_at ns))
   on_way (suc n) (suc i) lt hi [] e =
       let child = child_of (suc i) hi e in
       let place = key_place ns ok p (suc i) child.0 in
-      among_at (keys_at ns p) _ _ k place.0 (place.1 ∙ child.1)
+      (_, place.0, place.1 ∙ child.1)
   on_way (suc n) (suc i) lt hi (x ∷ q) e =
       let up = ok.parents (suc i) (omega arith) hi in
       let l = last_of x q in

@@ -1,7 +1,6 @@
 pub mod Common
 pub mod Keys
 pub mod Orders
-pub mod Parts
 pub mod Labels
 pub mod Grown
 pub mod Raised
@@ -11,6 +10,5 @@ pub mod Searched
 pub mod NodeReads
 pub mod Bridge
 pub mod Below
-pub mod Whole
 pub mod Made
 pub mod Collect

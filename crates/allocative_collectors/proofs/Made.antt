@@ -1,45 +1,186 @@
--- What `make` has made, child by child.
-use Rattle.std.proofs.Common.{◌≡◌, ◌≢◌, ℕ, zero, suc, ◌+◌, ◌<◌, ◌≤◌, Bool, true, false, cond, ◌||◌, List, [], ◌∷◌, ◌++◌, map, flat_map, length, get_or, Option, Some, None, unwrap_or, refl, sym, ap, subst, ◌∙◌, arith, inl, inr, sum_by, Result, Ok, Err, append_assoc, append-nil, true≢false}
-use Rattle.allocative_collectors.proofs.Common.{Key, Path, is_same_path, Graph, Warned, graph, sum_of, under, default, add_self, get, entries, Refusal, Memory, TooLarge, Open, shape, sums_of, IsTree, Listed, row, sum_at, path_at, map_of, below, entered, sums, key_in, children_at, keys_at, KeysRise, IsArena, Shape, size_at_place, is_short}
-use Rattle.std.specs.FinMap.{get-insert, entries_sorted}
-use Rattle.std.proofs.lemmas.Bool.{cases_Bool, cond_both, false_from_ne_true}
+-- What the walk of `make` has passed behind a node's path, child by child: the rows of the map, and the graph that it has made.
+use Rattle.std.proofs.Common.{◌≡◌, ◌≢◌, ℕ, zero, suc, ◌<◌, ◌≤◌, Bool, true, false, cond, T, ◌&&◌, ◌||◌, List, [], ◌∷◌, ◌++◌, length, Option, Some, None, refl, sym, ap, subst, ◌∙◌, arith, inl, inr, ◌⊎◌, true≢false, append_assoc, ◌+◌, map, flat_map, get_or, unwrap_or, sum_by, Result, Ok, Err, append-nil, add-zero, zero-add}
+use Rattle.allocative_collectors.proofs.Common.{Ordering, Less, Equal, Greater, is_eq, is_lt, ordering_then, Key, Path, key_cmp, path_cmp, key_in, KeysRise, is_same_path, Graph, Warned, graph, sum_of, under, default, add_self, get, entries, Refusal, Memory, TooLarge, Open, shape, sums_of, IsTree, Listed, row, sum_at, path_at, map_of, below, entered, sums, children_at, keys_at, IsArena, Shape, size_at_place, is_short, ordering_reverse}
+use Rattle.std.specs.FinMap.{FinMap, entries_sorted, find, get-entries, get-insert}
+use Rattle.std.specs.FinMap.Entries.{is_sorted, below_all, is_sorted-where_key, find-where_key, same_entries}
+use Rattle.std.specs.List.{filter}
+use Rattle.std.proofs.lemmas.Cmp.{tied_itself}
+use Rattle.std.proofs.lemmas.Bool.{and_parts, or_cases, or_left, or_right, cases_Bool, cases_eq, cond-true, cond-false, false_from_ne_true, cond_both}
+use Rattle.std.proofs.Math.Bool.{and-true, and-or_distrib_left}
+use Rattle.allocative_graph.proofs.Basics.{path_total, path_antisymmetric, same_path, is_eq-Equal}
+use Rattle.allocative_collectors.specs.Finishing.{behind, MakesPart, MakesGraph, rows_behind}
+use Rattle.allocative_collectors.proofs.Orders.{key_total, key_same, tied, key_not_before}
 use Rattle.std.proofs.lemmas.Grind.{flat_map-append}
 use Rattle.std.proofs.lemmas.List.Filters.{sum_by-filter_both}
 use Rattle.std.proofs.lemmas.List.Sums.{sum_by-cons, sum_by-append, sum_by-le-sum_by}
 use Rattle.allocative_graph.specs.Graph.{total, remaining, warned, size_at}
 use Rattle.allocative_graph.specs.Sums.{Node}
-use Rattle.allocative_graph.proofs.Basics.{path_total}
 use Rattle.allocative_graph.proofs.Listing.{entries-from_entries-sorted}
 use Rattle.allocative_graph.proofs.Merge.{get-sum_of}
 use Rattle.allocative_graph.proofs.Graphs.{sizes_together, get-under, get-under-root, get-default, total-sum_of, total-under, total-add_at}
 use Rattle.std.specs.Result.{IsErrAnd, IfErr}
 use Rattle.allocative_collectors.specs.declared.tree.Node as nodes
-use Rattle.allocative_collectors.specs.Finishing.{MakesPart, MakesGraph, behind, rows_behind}
 use Rattle.allocative_collectors.proofs.Bridge.{IsListing, graph_hit, graph_none, get_at, get_none, nothing_left}
 use Rattle.allocative_collectors.proofs.Below.{listing}
 use Rattle.allocative_collectors.proofs.Labels.{length_sums, step}
-use Rattle.allocative_collectors.proofs.Orders.{key_not_before}
 use Rattle.allocative_collectors.proofs.Child.{on_way}
-use Rattle.allocative_collectors.proofs.Parts.{same_key, same_key_is, among, among_before, begun, behind_more, passed_before, kept_both, rows_same, rows_own, row_at}
 use Rattle.allocative_collectors.proofs.NodeReads.{length_nodes, in_shapes, child_seen}
 
+-- ---- keys
+abbrev same_key : Key → Key → Bool
+same_key k l = is_eq (key_cmp k l)
+
+same_key-same : (k l : Key) → k ≡ l → same_key k l ≡ true
+same_key-same k l e = rw (← e) (ap is_eq (tied_itself key_total k))
+
+same_key_is : (k l : Key) → same_key k l ≡ true → k ≡ l
+same_key_is k l h = key_same k l (is_eq-Equal (key_cmp k l) h)
+
+-- whether one of the first j keys is l
+abbrev among : List Key → ℕ → Key → Bool
+among ks zero l = false
+among ks (suc j) l = among ks j l || same_key l (key_in ks j)
+
+among_at : (ks : List Key) (a j : ℕ) (l : Key) → a < j → key_in ks a ≡ l → among ks j l ≡ true
+among_at ks a zero l h e = absurd (omega arith)
+among_at ks a (suc j) l h e = elim (cases_eq a j) [
+  | inl same ↦ or_right (among ks j l) _ (same_key-same l (key_in ks j) (sym e ∙ ap (key_in ks) same))
+  | inr other ↦ or_left _ _ (among_at ks a j l (omega arith) e)
+]
+
+among_before : (ks : List Key) → KeysRise ks → (i j : ℕ) (l : Key) → i < length ks → j ≤ i → among ks j l ≡ true → key_cmp l (key_in ks i) ≡ Less
+among_before ks rise i zero l hi le h = absurd (true≢false (sym h))
+among_before ks rise i (suc j) l hi le h = elim (or_cases (among ks j l) _ h) [
+  | inl before ↦ among_before ks rise i j l hi (omega arith) before
+  | inr same ↦ rw (same_key_is l (key_in ks j) same) (rise j i (omega arith) hi)
+]
+
+-- ---- paths
+-- the empty path, and those that begin with one of the first j keys
+abbrev pub begun : List Key → ℕ → Path → Bool
+begun ks j [] = true
+begun ks j (l ∷ q) = among ks j l
+
+behind_is : (p : Path) (t : Path → Bool) (q : Path) → behind p t q ≡ true → (r : Path) × (q ≡ p ++ r) × (t r ≡ true)
+behind_is [] t q h = (q, refl, h)
+behind_is (k ∷ p) t [] h = absurd (true≢false (sym h))
+behind_is (k ∷ p) t (l ∷ q) h =
+    let parts = and_parts (same_key l k) (behind p t q) h in
+    let rest = behind_is p t q parts.1 in
+    (rest.0, (λ i. same_key_is l k parts.0 i ∷ rest.1 i), rest.2)
+
+-- a change of the test changes nothing where no path behind p is affected
+behind_same : {X : Type 0} (p : Path) (t u : Path → Bool) (f : Path → Option X) → ((r : Path) → cond (t r) (f (p ++ r)) None ≡ cond (u r) (f (p ++ r)) None) → (q : Path) → cond (behind p t q) (f q) None ≡ cond (behind p u q) (f q) None
+behind_same [] t u f same q = same q
+behind_same (k ∷ p) t u f same [] = refl
+behind_same (k ∷ p) t u f same (l ∷ q) = elim (cases_Bool (same_key l k)) [
+  | inl e ↦ rw e (subst (λ (x : Key). cond (behind p t q) (f (x ∷ q)) None ≡ cond (behind p u q) (f (x ∷ q)) None) (sym (same_key_is l k e)) (behind_same p t u (λ r. f (k ∷ r)) same q))
+  | inr e ↦ rw e refl
+]
+
+behind_own : (p : Path) (ks : List Key) (q : Path) → behind p (begun ks 0) q ≡ is_same_path q p
+behind_own [] ks [] = refl
+behind_own [] ks (l ∷ q) = refl
+behind_own (k ∷ p) ks [] = refl
+behind_own (k ∷ p) ks (l ∷ q) = ap (λ (b : Bool). same_key l k && b) (behind_own p ks q) ∙ tied (key_cmp l k) (path_cmp q p)
+
+-- one child more
+behind_more : (p : Path) (ks : List Key) (j : ℕ) (q : Path) → behind p (begun ks (suc j)) q ≡ (behind p (begun ks j) q || behind (p ++ key_in ks j ∷ []) (λ r. true) q)
+behind_more [] ks j [] = refl
+behind_more [] ks j (l ∷ q) = ap (λ (b : Bool). among ks j l || b) (sym (and-true (same_key l (key_in ks j))))
+behind_more (k ∷ p) ks j [] = refl
+behind_more (k ∷ p) ks j (l ∷ q) = ap (λ (b : Bool). same_key l k && b) (behind_more p ks j q) ∙ and-or_distrib_left (same_key l k) _ _
+
+-- two paths with a common beginning compare as the rest of both
+after_common : (p x y : Path) → path_cmp (p ++ x) (p ++ y) ≡ path_cmp x y
+after_common [] x y = refl
+after_common (k ∷ p) x y = ap (λ (o : Ordering). ordering_then o (path_cmp (p ++ x) (p ++ y))) (tied_itself key_total k) ∙ after_common p x y
+
+-- what was passed is before the next child
+passed_before : (p : Path) (ks : List Key) (j : ℕ) → j < length ks → KeysRise ks → (a b : Path) → behind p (begun ks j) a ≡ true → behind (p ++ key_in ks j ∷ []) (λ r. true) b ≡ true → path_cmp a b ≡ Less
+passed_before p ks j hj rise a b ha hb =
+    let x = behind_is p (begun ks j) a ha in
+    let y = behind_is (p ++ key_in ks j ∷ []) (λ r. true) b hb in
+    rw (x.1, y.1, append_assoc p (key_in ks j ∷ []) y.0, after_common p x.0 (key_in ks j ∷ y.0)) (first x.0 y.0 x.2)
+  where
+    first : (r q : Path) → begun ks j r ≡ true → path_cmp r (key_in ks j ∷ q) ≡ Less
+    first [] q h = refl
+    first (l ∷ r) q h = ap (λ (o : Ordering). ordering_then o (path_cmp r q)) (among_before ks rise j j l hj (omega arith) h)
+
+-- ---- rows in the order of paths
+both_parts : (a b : Bool) → T (a && b) → T a × T b
+both_parts true b h = (tt, h)
+both_parts false b h = absurd h
+
+not_before : (p q : Path) → path_cmp p q ≡ Less → T (is_lt (path_cmp q p)) → ⊥
+not_before p q less h = subst (λ (o : Ordering). T (is_lt o)) (path_total.antisymm q p ∙ ap ordering_reverse less) h
+
+module _ {X : Type 0} where
+  abbrev kept : (Path → Bool) → List (Path × X) → List (Path × X)
+  kept t es = filter (λ e. t e.0) es
+
+  found_kept : (t : Path → Bool) (q : Path) (es : List (Path × X)) → find path_cmp q (kept t es) ≡ cond (t q) (find path_cmp q es) None
+  found_kept t q es = find-where_key path_cmp t q (λ x e. ap t (sym (path_antisymmetric q x e))) es
+
+  -- the rows of a map that pass a test are those that are found
+  kept_are : (t : Path → Bool) (m : FinMap path_cmp X) (rs : List (Path × X)) → T (is_sorted path_cmp rs) → ((q : Path) → cond (t q) (get m q) None ≡ find path_cmp q rs) → kept t (entries m) ≡ rs
+  kept_are t m rs sorted found = same_entries path_cmp path_total path_antisymmetric (kept t (entries m)) rs (is_sorted-where_key path_cmp t (entries m) (entries_sorted m)) sorted
+      (λ q. found_kept t q (entries m) ∙ (ap (λ (o : Option X). cond (t q) o None) (sym (get-entries m q)) ∙ found q))
+
+  none_kept : (t u : Path → Bool) (p : Path) (es : List (Path × X)) → ((a b : Path) → t a ≡ true → u b ≡ true → path_cmp a b ≡ Less) → u p ≡ true → T (below_all path_cmp p es) → kept t es ≡ []
+  none_kept t u p [] before h below = refl
+  none_kept t u p (e ∷ es) before h below =
+      let parts = both_parts (is_lt (path_cmp p e.0)) _ below in
+      rw (false_from_ne_true (t e.0) (λ hit. not_before e.0 p (before e.0 p hit h) parts.0)) (none_kept t u p es before h parts.1)
+
+  -- rows that pass one of two tests, where those that pass the first are before those that pass the second
+  kept_both : (t u v : Path → Bool) → ((q : Path) → v q ≡ (t q || u q)) → ((a b : Path) → t a ≡ true → u b ≡ true → path_cmp a b ≡ Less) → (es : List (Path × X)) → T (is_sorted path_cmp es) → kept v es ≡ kept t es ++ kept u es
+  kept_both t u v both before [] s = refl
+  kept_both t u v both before (e ∷ es) s =
+      let parts = both_parts (below_all path_cmp e.0 es) _ s in
+      let rest = kept_both t u v both before es parts.1 in
+      elim (cases_Bool (t e.0)) [
+        | inl hit ↦ rw (both e.0, hit, false_from_ne_true (u e.0) (λ h. let less = before e.0 e.0 hit h in not_before e.0 e.0 less (subst (λ (o : Ordering). T (is_lt o)) (sym less) tt))) (ap (λ (rs : List (Path × X)). e ∷ rs) rest)
+        | inr miss ↦ elim (cases_Bool (u e.0)) [
+          | inl found ↦ rw (both e.0, miss, found, rest, none_kept t u e.0 es before found parts.0) refl
+          | inr missed ↦ rw (both e.0, miss, missed) rest
+        ]
+      ]
+
+-- ---- the rows of a map
+-- the rows behind p, where the test passes other paths but no other of the map
+rows_same : {X : Type 0} (m : FinMap path_cmp X) (p : Path) (t u : Path → Bool) → ((r : Path) → cond (t r) (get m (p ++ r)) None ≡ cond (u r) (get m (p ++ r)) None) → kept (behind p t) (entries m) ≡ kept (behind p u) (entries m)
+rows_same m p t u same = kept_are (behind p t) m (kept (behind p u) (entries m)) (is_sorted-where_key path_cmp (behind p u) (entries m) (entries_sorted m))
+    (λ q. behind_same p t u (get m) same q ∙ (ap (λ (o : Option _). cond (behind p u q) o None) (get-entries m q) ∙ sym (found_kept (behind p u) q (entries m))))
+
+-- before the first child there is the row of p itself
+module _ {X : Type 0} (m : FinMap path_cmp X) (p : Path) (ks : List Key) where
+  rows_none : get m p ≡ None → kept (behind p (begun ks 0)) (entries m) ≡ []
+  rows_none w = kept_are (behind p (begun ks 0)) m [] tt (λ q. rw (behind_own p ks q) (elim (cases_Bool (is_same_path q p)) [
+    | inl e ↦ cond-true _ _ _ e ∙ (ap (get m) (same_path q p e) ∙ w)
+    | inr e ↦ cond-false _ _ _ e
+  ]))
+
+  rows_one : (x : X) → get m p ≡ Some x → kept (behind p (begun ks 0)) (entries m) ≡ (p, x) ∷ []
+  rows_one x w = kept_are (behind p (begun ks 0)) m ((p, x) ∷ []) tt (λ q. rw (behind_own p ks q) (elim (cases_Bool (is_same_path q p)) [
+    | inl e ↦ rw e (ap (get m) (same_path q p e) ∙ w)
+    | inr e ↦ rw e refl
+  ]))
+
+-- ---- sizes
 pub total-default : total default ≡ 0
 total-default = ap (sum_by (λ e. e.1)) (entries-from_entries-sorted (([], 0) ∷ []) tt)
 
 abbrev size_in : Listed → Path × Node → ℕ
 size_in s e = remaining (map_of s) e.0 e.1
 
--- a size and a missing one
-some_more : (m n : ℕ) → m ≡ n → ◌≡◌ {A = Option ℕ} (Some m) (Some n)
-some_more m n e = ap (λ (x : ℕ). Some x) e
-
 with_none : (x : Option ℕ) → sizes_together x None ≡ x
 with_none None = refl
-with_none (Some n) = some_more (n + 0) n (omega arith)
+with_none (Some n) = ap Some (add-zero n)
 
 none_with : (x : Option ℕ) → sizes_together None x ≡ x
 none_with None = refl
-none_with (Some n) = some_more (0 + n) n (omega arith)
+none_with (Some n) = ap Some (zero-add n)
 
 -- sizes that pass one of two tests, but not both
 one_of : (a b : Bool) (x y : Option ℕ) → (b ≡ true → (a ≡ false) × (y ≡ x)) → sizes_together (cond a x None) (cond b y None) ≡ cond (a || b) x None
@@ -63,27 +204,24 @@ warned_at s i = warned (map_of s) (row (sum_at s i))
 
 module _ (s : Listed) (ok : IsListing s) where
   -- the row of a place has its size and its warning
-  row_of : (i : ℕ) → i < length s → let rows = row_at (path_at s i) (get (map_of s) (path_at s i)) in (sum_by (size_in s) rows ≡ size_at_place s i) × (flat_map (warned (map_of s)) rows ≡ warned_at s i)
-  row_of zero h =
+  own_row : (i : ℕ) → i < length s → (ks : List Key) → let rows = rows_behind s (path_at s i) (begun ks 0) in (sum_by (size_in s) rows ≡ size_at_place s i) × (flat_map (warned (map_of s)) rows ≡ warned_at s i)
+  own_row zero h ks =
       let e = sum_at s 0 in
       let none = get_none s (path_at s 0) (λ i pos hi w. (let same = ok.apart i 0 hi h w in omega arith)) in
-      rw none (sym (nothing_left e.is_unique e.bytes _ ok.root_bytes), sym (ap (λ (p : Path). warned (map_of s) (p, (row e).1)) ok.root_path))
-  row_of (suc i) h =
+      rw (rows_none (map_of s) (path_at s 0) ks none) (sym (nothing_left e.is_unique e.bytes _ ok.root_bytes), sym (ap (λ (p : Path). warned (map_of s) (p, (row e).1)) ok.root_path))
+  own_row (suc i) h ks =
       let e = row (sum_at s (suc i)) in
-      rw (get_at s ok (suc i) (omega arith) h) (omega (arith, sum_by-cons (size_in s) e []), append-nil (warned (map_of s) e))
+      rw (rows_one (map_of s) e.0 ks e.1 (get_at s ok (suc i) (omega arith) h)) (omega (arith, sum_by-cons (size_in s) e []), append-nil (warned (map_of s) e))
 
   module _ (i : ℕ) (hi : i < length s) (ks : List Key) where
-    start : {A : Type 0} (f : List (Path × Node) → A) → f (rows_behind s (path_at s i) (begun ks 0)) ≡ f (row_at (path_at s i) (get (map_of s) (path_at s i)))
-    start f = ap f (rows_own (map_of s) (path_at s i) ks)
-
     pub own_fits : size_at_place s i ≤ entered (map_of s)
-    own_fits = omega (arith, rows_fit s (path_at s i) (begun ks 0), start (sum_by (size_in s)), (row_of i hi).0)
+    own_fits = omega (arith, rows_fit s (path_at s i) (begun ks 0), (own_row i hi ks).0)
 
     pub part_start : (w w' : List Warned) (g : Graph) → g ≡ add_self (size_at_place s i) default → w' ≡ w ++ warned_at s i → MakesPart s (path_at s i) (begun ks 0) w w' g
     part_start w w' g is written = record {
-      warned_are = written ∙ ap (λ (l : List Warned). w ++ l) (sym (start (flat_map (warned (map_of s))) ∙ (row_of i hi).1));
+      warned_are = written ∙ ap (λ (l : List Warned). w ++ l) (sym (own_row i hi ks).1);
       graph_is = graph_is;
-      total_is = ap total is ∙ omega (arith, total-add_at default ([], size_at_place s i), total-default, start (sum_by (size_in s)), (row_of i hi).0);
+      total_is = ap total is ∙ omega (arith, total-add_at default ([], size_at_place s i), total-default, (own_row i hi ks).0);
     }
       where
         sizes : (q : Path) → get g q ≡ cond (is_same_path q []) (Some (size_at default [] + size_at_place s i)) (get default q)
@@ -92,7 +230,7 @@ module _ (s : Listed) (ok : IsListing s) where
         graph_is : (q : Path) → get g q ≡ cond (begun ks 0 q) (get (graph (map_of s)) (path_at s i ++ q)) None
         graph_is [] =
             let nothing : size_at default [] ≡ 0 = ap (λ (o : Option ℕ). unwrap_or o 0) (get-default []) in
-            sizes [] ∙ (some_more _ (size_at_place s i) (omega arith) ∙ sym (ap (get (graph (map_of s))) (append-nil (path_at s i)) ∙ graph_hit s ok i hi))
+            sizes [] ∙ (ap Some (omega arith) ∙ sym (ap (get (graph (map_of s))) (append-nil (path_at s i)) ∙ graph_hit s ok i hi))
         graph_is (k ∷ r) = sizes (k ∷ r) ∙ get-default (k ∷ r)
 
     -- one child more
@@ -129,7 +267,7 @@ module _ (s : Listed) (ok : IsListing s) where
           by : (q : Path) → sizes_together (get g q) (get (under k d) q) ≡ cond (begun ks (suc j) q) (get (graph (map_of s)) (p ++ q)) None
           by [] =
               let own = part.graph_is [] ∙ (ap (get (graph (map_of s))) (append-nil p) ∙ graph_hit s ok i hi) in
-              (λ x. sizes_together (own x) (get-under-root k d x)) ∙ (some_more _ (size_at_place s i) (omega arith) ∙ (sym own ∙ part.graph_is []))
+              (λ x. sizes_together (own x) (get-under-root k d x)) ∙ (ap Some (omega arith) ∙ (sym own ∙ part.graph_is []))
           by (l ∷ r) =
               (λ x. sizes_together (part.graph_is (l ∷ r) x) (get-under k d l r x))
               ∙ one_of (among ks j l) (same_key l k) _ _ (λ e.
@@ -146,7 +284,8 @@ module _ (ns : List Shape) (ok : IsArena ns) (i : ℕ) (hi : i < length ns) wher
   passed_all f none [] = refl
   passed_all f none (k ∷ r) = elim (cases_Bool (among (keys_at ns i) (length (keys_at ns i)) k)) [
     | inl e ↦ rw e refl
-    | inr e ↦ rw e (sym (none _ (λ a h path. true≢false (sym (on_way ns ok i hi k (suc a) a (omega arith) (omega (arith, length_sums ns)) r path) ∙ e))))
+    | inr e ↦ rw e (sym (none _ (λ a h path. let way = on_way ns ok i hi k (suc a) a (omega arith) (omega (arith, length_sums ns)) r path in
+        true≢false (sym (among_at (keys_at ns i) way.0 _ k way.1 way.2) ∙ e))))
   ]
 
   part_all : (w w' : List Warned) (g : Graph) → MakesPart (sums ns) (path_at (sums ns) i) (begun (keys_at ns i) (length (keys_at ns i))) w w' g → MakesGraph (sums ns) i w w' g

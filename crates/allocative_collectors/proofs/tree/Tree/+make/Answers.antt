@@ -7,7 +7,7 @@ use Rattle.allocative_collectors.specs.declared.tree.Node.{Node}
 use Rattle.allocative_collectors.proofs.Keys.{length-keys_of}
 use Rattle.allocative_collectors.proofs.NodeReads.{in_nodes, children_read, figures_read, listing_of}
 use Rattle.allocative_collectors.proofs.Made.{part_start, part_more, part_fits, made_all, child_read, none_warned, own_warning, own_fits, warned_at, total-default, memory_alone, passed_on}
-use Rattle.allocative_collectors.proofs.Parts.{begun}
+use Rattle.allocative_collectors.proofs.Made.{begun}
 use Rattle.allocative_collectors.specs.Finishing.{MakesPart}
 use Rattle.allocative_graph.proofs.NodeText.{popped, texts}
 use Rattle.allocative_collectors.proofs.tree.Tree.+make.Goals as goal

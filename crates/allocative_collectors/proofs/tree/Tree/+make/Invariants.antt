@@ -2,7 +2,7 @@
 use Rattle.std.proofs.Common.{◌≡◌, ◌-◌, length, map}
 use Rattle.allocative_collectors.proofs.Common.{keys_at, path_at, shape, seen}
 use Rattle.allocative_collectors.specs.Finishing.{MakesPart}
-use Rattle.allocative_collectors.proofs.Parts.{begun}
+use Rattle.allocative_collectors.proofs.Made.{begun}
 use Rattle.allocative_collectors.proofs.tree.Tree.+make.Given as goal
 
 abbrev pub decreases-make : goal.decreases-make

@@ -1,14 +1,42 @@
 -- The walk from the root has all paths.
-use Rattle.std.proofs.Common.{arith, ◌≡◌, ◌<◌, ◌^◌, ℕ, true, List, ◌++◌, map, Bor, sym, ap, subst, ◌∙◌, flat_map}
-use Rattle.allocative_collectors.proofs.Common.{get, Path, Graph, graph, warned_paths, map_of, WarnedPath, seen, warning_lines}
+use Rattle.std.proofs.Common.{arith, ◌≡◌, ◌<◌, ◌^◌, ℕ, true, List, ◌++◌, map, Bor, sym, ap, subst, ◌∙◌, flat_map, Bool, false, not, ◌&&◌, cond, [], ◌∷◌, refl, nat_lt, append-nil}
+use Rattle.allocative_collectors.proofs.Common.{get, Path, Graph, graph, warned_paths, map_of, WarnedPath, seen, warning_lines, entries, newline, Sums, below, Warned, is_root, warning_text, Listed}
 use Rattle.std.specs.FinMap.{same_map}
-use Rattle.allocative_graph.specs.Graph.{total, warned}
+use Rattle.allocative_graph.specs.Graph.{total, warned, warning, warning_line, warnings}
 use Rattle.allocative_graph.proofs.Basics.{path_total, path_antisymmetric}
 use Rattle.allocative_collectors.specs.Finishing.{rows_behind}
 use Rattle.allocative_collectors.proofs.Made.{part_fits}
 use Rattle.allocative_collectors.proofs.NodeReads.{listing_of}
-use Rattle.allocative_collectors.proofs.Whole.{warned_walk, lines-warned_paths}
+use Rattle.std.specs.List.{filter}
+use Rattle.std.proofs.lemmas.Grind.{flat_map-append}
+use Rattle.allocative_graph.specs.Sums.{Node}
 use Rattle.allocative_collectors.proofs.tree.Tree.finish.Goals as goal
+
+all_kept : {X : Type 0} (xs : List X) → filter (λ x. true) xs ≡ xs
+all_kept [] = refl
+all_kept (x ∷ xs) = ap (λ (ys : List _). x ∷ ys) (all_kept xs)
+
+-- The rows of a walk from the root are all rows.
+warned_walk : (s : Listed) → flat_map (warned (map_of s)) (rows_behind s [] (λ q. true)) ≡ warned_paths (map_of s)
+warned_walk s = ap (flat_map (warned (map_of s))) (all_kept (entries (map_of s)))
+
+-- ---- the text of the warnings
+line_of : (s : Sums) (e : Path × Node) → warning_lines (warned s e) ≡ warning s e
+line_of s e = by (not (is_root e.0) && not e.1.is_unique && nat_lt e.1.bytes (below s e.0))
+  where
+    by : (b : Bool) → warning_lines (cond b (record { path = e.0; self_size = e.1.bytes; children_size = below s e.0 } ∷ []) []) ≡ cond b (warning_line e.0 e.1.bytes (below s e.0)) []
+    by true = append-nil (warning_line e.0 e.1.bytes (below s e.0))
+    by false = refl
+
+lines_of : (s : Sums) (es : List (Path × Node)) → warning_lines (flat_map (warned s) es) ≡ flat_map (warning s) es
+lines_of s [] = refl
+lines_of s (e ∷ es) =
+    flat_map-append (λ w. warning_text w ++ newline ∷ []) (warned s e) (flat_map (warned s) es)
+    ∙ (λ i. line_of s e i ++ lines_of s es i)
+
+-- The lines of the paths that have a warning are the text of the warnings.
+lines-warned_paths : (s : Sums) → warning_lines (warned_paths s) ≡ warnings s
+lines-warned_paths s = lines_of s (entries s)
 
 pub make-requires-clause-within : goal.make-requires-clause-within
 make-requires-clause-within c = (listing_of c.self.inside.nodes.items c.self.invariant c.self.view_is).rooted
