@@ -105,22 +105,20 @@ get_none (r ∷ s) q other = get-map_of (r ∷ s) q ∙ find_none q s (λ i h. o
 pub nothing_left : (u : Bool) (n b : ℕ) → n ≡ 0 → cond u n (n - b) ≡ 0
 nothing_left u n b e = grind (arith, nat_tests)
 
+graph_get : (m : Sums) (q : Path) → q ≢ [] → get (graph m) q ≡ option_map (remaining m q) (get m q)
+graph_get m [] other = absurd (other refl)
+graph_get m (k ∷ q) other = get-graph m k q
+
 pub graph_hit : (s : Listed) → IsListing s → (i : ℕ) → i < length s → get (graph (map_of s)) (path_at s i) ≡ Some (size_at_place s i)
 graph_hit s ok zero h =
     ap (get (graph (map_of s))) ok.root_path ∙ get-graph-root (map_of s)
     ∙ ap (λ (n : ℕ). Some n) (sym (let e = sum_at s 0 in nothing_left e.is_unique e.bytes (bag.below (map_of s) e.path) ok.root_bytes))
-graph_hit s ok (suc i) h = by (path_at s (suc i)) refl
-  where
-    by : (q : Path) → path_at s (suc i) ≡ q → get (graph (map_of s)) (path_at s (suc i)) ≡ Some (size_at_place s (suc i))
-    by [] w = (let same : suc i ≡ 0 = ok.apart (suc i) 0 h ok.rooted (w ∙ sym ok.root_path) in absurd (omega arith))
-    by (k ∷ q) w =
-        ap (get (graph (map_of s))) w ∙ get-graph (map_of s) k q
-        ∙ ap (λ (p : Path). option_map (remaining (map_of s) p) (get (map_of s) p)) (sym w)
-        ∙ ap (option_map (remaining (map_of s) (path_at s (suc i)))) (get_at s ok (suc i) (omega arith) h)
+graph_hit s ok (suc i) h =
+    let p = path_at s (suc i) in
+    graph_get (map_of s) p (λ w. (let same : suc i ≡ 0 = ok.apart (suc i) 0 h ok.rooted (w ∙ sym ok.root_path) in omega arith)) ∙ ap (option_map (remaining (map_of s) p)) (get_at s ok (suc i) (omega arith) h)
 
 pub graph_none : (s : Listed) → IsListing s → (q : Path) → ((i : ℕ) → i < length s → path_at s i ≢ q) → get (graph (map_of s)) q ≡ None
-graph_none s ok [] other = absurd (other 0 ok.rooted ok.root_path)
-graph_none s ok (k ∷ q) other = get-graph (map_of s) k q ∙ ap (option_map (remaining (map_of s) (k ∷ q))) (get_none s (k ∷ q) (λ i pos. other i))
+graph_none s ok q other = graph_get (map_of s) q (λ w. other 0 ok.rooted (ok.root_path ∙ sym w)) ∙ ap (option_map (remaining (map_of s) q)) (get_none s q (λ i pos. other i))
 
 -- ---- sums over the map
 -- rows with different paths have the same bytes below p as their map

@@ -73,8 +73,15 @@ module _ (ns : List Shape) (ok : IsArena ns) (p : ℕ) (hp : p < length ns) (k :
   keys_stood : (q : ℕ) → keys_of new (children_at ns q) ≡ keys_at ns q
   keys_stood q = map_same (key_at new) (key_at ns) (children_at ns q) (λ j h. before (λ n. n.key) refl (get_or (children_at ns q) j 0) (ok.children q j 0 h).in_range)
 
-  keys_parent : keys_at new p ≡ insert (keys_at ns p) g k
-  keys_parent = ap (keys_of new) children_parent ∙ (keys_of-insert new (children_at ns p) g (length ns) ∙ (λ i. insert (keys_stood p i) g (ap (λ (n : Shape). n.key) at_leaf i)))
+  keys_parent : keys_of new (insert (children_at ns p) g (length ns)) ≡ insert (keys_at ns p) g k
+  keys_parent = keys_of-insert new (children_at ns p) g (length ns) ∙ (λ i. insert (keys_stood p i) g (ap (λ (n : Shape). n.key) at_leaf i))
+
+  -- what holds of the new children of p and of the others as they were
+  by_parent : (P : ℕ → List ℕ → Type 0) → P p (insert (children_at ns p) g (length ns)) → ((q : ℕ) → q ≢ p → P q (children_at ns q)) → (q : ℕ) → P q (children_at new q)
+  by_parent P here others q = elim (cases_eq q p) [
+    | inl e ↦ subst (λ (x : ℕ). P x (children_at new x)) (sym e) (subst (P p) (sym children_parent) here)
+    | inr ne ↦ subst (P q) (sym (children_other q ne)) (others q ne)
+  ]
 
   gap_within : g ≤ length (children_at ns p)
   gap_within = omega (arith, gap.in_range, length-keys_of ns (children_at ns p))
@@ -82,24 +89,22 @@ module _ (ns : List Shape) (ok : IsArena ns) (p : ℕ) (hp : p < length ns) (k :
   child_before : (q i : ℕ) → IsChild ns q i → IsChild new q i
   child_before q i old = record { not_root = old.not_root; in_range = omega (arith, length_grown, old.in_range); parent = parent_before i old.in_range ∙ old.parent }
 
+  stood : (q i : ℕ) → i ≢ length ns → IsChild new q i → StandsIn (children_at ns q) i
+  stood q i ne c =
+      let inside : i < length ns = omega (arith, length_grown, c.in_range) in
+      ok.listed q i (record { not_root = c.not_root; in_range = inside; parent = sym (parent_before i inside) ∙ c.parent })
+
   listed : (q i : ℕ) → IsChild new q i → StandsIn (children_at new q) i
-  listed q i c = elim (cases_eq i (length ns)) [
-    | inl e ↦
-        let parent : p ≡ q = sym (ap (λ (n : Shape). n.parent) at_leaf) ∙ (ap (parent_at new) (sym e) ∙ c.parent) in
-        subst (λ (x : ℕ). StandsIn (children_at new x) i) parent (subst (λ (xs : List ℕ). StandsIn xs i) (sym children_parent) (record {
-          place = g;
-          in_range = omega (arith, gap_within, length-insert (children_at ns p) g (length ns) gap_within);
-          is = get_or-insert_at (children_at ns p) g (length ns) 0 gap_within ∙ sym e;
-        }))
-    | inr ne ↦
-        let inside : i < length ns = omega (arith, length_grown, c.in_range) in
-        let old = ok.listed q i (record { not_root = c.not_root; in_range = inside; parent = sym (parent_before i inside) ∙ c.parent }) in
-        elim (cases_eq q p) [
-          | inl e ↦ subst (λ (x : ℕ). StandsIn (children_at new x) i) (sym e) (subst (λ (xs : List ℕ). StandsIn xs i) (sym children_parent)
-              (stands_insert (children_at ns p) g (length ns) i gap_within (subst (λ (x : ℕ). StandsIn (children_at ns x) i) e old)))
-          | inr other ↦ subst (λ (xs : List ℕ). StandsIn xs i) (sym (children_other q other)) old
-        ]
-  ]
+  listed q i = by_parent (λ x xs. IsChild new x i → StandsIn xs i)
+      (λ c. elim (cases_eq i (length ns)) [
+        | inl e ↦ record {
+            place = g;
+            in_range = omega (arith, gap_within, length-insert (children_at ns p) g (length ns) gap_within);
+            is = get_or-insert_at (children_at ns p) g (length ns) 0 gap_within ∙ sym e;
+          }
+        | inr ne ↦ stands_insert (children_at ns p) g (length ns) i gap_within (stood p i ne c)
+      ])
+      (λ q other c. stood q i (λ e. other (sym c.parent ∙ (ap (parent_at new) e ∙ ap (λ (n : Shape). n.parent) at_leaf))) c) q
 
   below_of_grown : (q : ℕ) → below_of q new ≡ below_of q ns
   below_of_grown q =
@@ -116,18 +121,12 @@ module _ (ns : List Shape) (ok : IsArena ns) (p : ℕ) (hp : p < length ns) (k :
       | inr ne ↦ let old : i < length ns = omega (arith, length_grown) in rw (parent_before i old) (ok.parents i pos old)
     ];
     listed = listed;
-    children = λ q. elim (cases_eq q p) [
-      | inl e ↦
-          let xs = children_at ns p in
-          let old = All-weaker (IsChild ns p) (IsChild new p) (child_before p) xs (ok.children p) in
-          let one : IsChild new p (length ns) = record { not_root = ok.rooted; in_range = omega (arith, length_grown); parent = ap (λ (n : Shape). n.parent) at_leaf } in
-          subst (λ (x : ℕ). All (IsChild new x) (children_at new x)) (sym e) (subst (All (IsChild new p)) (sym children_parent)
-          (All-append (IsChild new p) (take g xs) (length ns ∷ drop g xs) (All-take (IsChild new p) g xs old) (All-cons (IsChild new p) (length ns) (drop g xs) one (All-drop (IsChild new p) g xs old))))
-      | inr ne ↦ subst (All (IsChild new q)) (sym (children_other q ne)) (All-weaker (IsChild ns q) (IsChild new q) (child_before q) (children_at ns q) (ok.children q))
-    ];
-    rise = λ q. elim (cases_eq q p) [
-      | inl e ↦ subst KeysRise (sym (ap (keys_at new) e ∙ keys_parent)) (rise_insert (keys_at ns p) k g gap (ok.rise p))
-      | inr ne ↦ subst KeysRise (sym (ap (keys_of new) (children_other q ne) ∙ keys_stood q)) (ok.rise q)
-    ];
+    children = by_parent (λ q. All (IsChild new q))
+        (let xs = children_at ns p in
+        let old = All-weaker (IsChild ns p) (IsChild new p) (child_before p) xs (ok.children p) in
+        let one : IsChild new p (length ns) = record { not_root = ok.rooted; in_range = omega (arith, length_grown); parent = ap (λ (n : Shape). n.parent) at_leaf } in
+        All-append (IsChild new p) (take g xs) (length ns ∷ drop g xs) (All-take (IsChild new p) g xs old) (All-cons (IsChild new p) (length ns) (drop g xs) one (All-drop (IsChild new p) g xs old)))
+        (λ q ne. All-weaker (IsChild ns q) (IsChild new q) (child_before q) (children_at ns q) (ok.children q));
+    rise = by_parent (λ q xs. KeysRise (keys_of new xs)) (subst KeysRise (sym keys_parent) (rise_insert (keys_at ns p) k g gap (ok.rise p))) (λ q ne. subst KeysRise (sym (keys_stood q)) (ok.rise q));
     below = λ q. everywhere (λ n. n.below) refl refl q ∙ (ok.below q ∙ sym (below_of_grown q));
   }
