@@ -16,7 +16,7 @@ use Rattle.allocative_graph.proofs.Computed.{entries-empty}
 use Rattle.allocative_graph.proofs.Below.{below-add}
 use Rattle.allocative_graph.proofs.Merge.{get-graph, get-graph-root}
 use Rattle.allocative_collectors.specs.Listed.{rows}
-use Rattle.allocative_collectors.proofs.Orders.{same_path-same, same_path-apart}
+use Rattle.allocative_collectors.proofs.Keys.{same_path-same, same_path-apart}
 
 get-map_of : (s : Listed) (q : Path) → get (map_of s) q ≡ find path_cmp q (rows s)
 get-map_of s q = get-from_entries path_total (rows s) q

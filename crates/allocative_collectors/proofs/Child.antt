@@ -4,9 +4,9 @@ use Rattle.allocative_collectors.proofs.Common.{Equal, Key, Path, key_cmp, path_
 use Rattle.std.proofs.lemmas.List.{length-map, get_or-map, get_or_push, same_from_push}
 use Rattle.std.proofs.lemmas.Cmp.{tied_itself}
 use Rattle.std.proofs.lemmas.Bool.{cases_lt}
-use Rattle.allocative_collectors.proofs.Orders.{key_total}
+use Rattle.allocative_collectors.proofs.Keys.{key_total}
 use Rattle.allocative_collectors.proofs.Adds.{put_nothing}
-use Rattle.allocative_collectors.proofs.Labels.{path_of, path_from-some, grow_same, sums_push, put_push, length_sums, not_nil, root_at, step, key_place, distinct}
+use Rattle.allocative_collectors.proofs.Labels.{path_of, path_from-some, grow_same, grow_push, put_push, length_sums, not_nil, root_at, step, key_place, distinct}
 use Rattle.allocative_collectors.proofs.Grown.{grown, length_grown, with_children}
 use Rattle.std.specs.List.{insert}
 use Rattle.allocative_collectors.specs.Shapes.{sum_from}
@@ -76,7 +76,7 @@ module _ (ns : List Shape) (ok : IsArena ns) (p : ℕ) (hp : p < length ns) (k :
         let rest = set ns p (with_children (insert (children_at ns p) g (length ns)) (at ns p)) in
         let len = length_grown ns ok p hp k g gap in
         let all : sums (grown ns p k g) ≡ sums ns ++ record { path = Q; bytes = 0; is_unique = false } ∷ [] =
-        sums_push rest (leaf p k) ∙ (ap (λ (s : Listed). s ++ sum_from (map path_of s) (leaf p k) ∷ []) (grow_same [] ns p _ refl) ∙ (ap (λ (x : Path). sums ns ++ record { path = x; bytes = 0; is_unique = false } ∷ [])
+        grow_push [] rest (leaf p k) ∙ (ap (λ (s : Listed). s ++ sum_from (map path_of s) (leaf p k) ∷ []) (grow_same [] ns p _ refl) ∙ (ap (λ (x : Path). sums ns ++ record { path = x; bytes = 0; is_unique = false } ∷ [])
         (path_from-some (map path_of (sums ns)) p k (omega (arith, ok.rooted, length_sums ns, length-map (sums ns) path_of)) ∙ ap (λ (x : Path). x ++ k ∷ []) (get_or-map path_of (sums ns) p root_sum [] (omega (arith, length_sums ns)))))) in
         record {
           sums = all ∙ sym (put_push (length ns) Q 0 false (sums ns) (sym (length_sums ns)));

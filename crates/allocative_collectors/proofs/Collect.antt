@@ -37,11 +37,8 @@ met_more old new i more = same_set identity_total identity_antisymmetric _ _ (λ
     sym (among new q) ∙ (more q ∙ (one_more (is_equal i q) (list_any (is_equal q) old)
     ∙ ((λ k. (one_identity i q ∙ same_identity_turned i q) k || among old q k) ∙ sym (contains-insert identity_total (from_list old) i q)))))
 
-pub not_met : (ks : List Identity) (i : Identity) → true ≡ not (list_any (is_equal i) ks) → contains (from_list {R = identity_cmp} ks) i ≡ false
-not_met ks i e = sym (among ks i) ∙ grind arith
-
-pub was_met : (ks : List Identity) (i : Identity) → false ≡ not (list_any (is_equal i) ks) → contains (from_list {R = identity_cmp} ks) i ≡ true
-was_met ks i e = sym (among ks i) ∙ grind arith
+pub met_is : (ks : List Identity) (i : Identity) (new : Bool) → new ≡ not (list_any (is_equal i) ks) → contains (from_list {R = identity_cmp} ks) i ≡ not new
+met_is ks i new e = sym (among ks i) ∙ grind arith
 
 -- ---- going down and back
 outside_push : (p : Path) (k : Key) → outside (p ++ k ∷ []) ≡ p ∷ outside p

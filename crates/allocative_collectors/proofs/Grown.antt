@@ -7,8 +7,7 @@ use Rattle.std.proofs.lemmas.List.{get_or_append_left, get_or_push, length_push}
 use Rattle.std.proofs.lemmas.List.Edits.{length-insert, get_or-insert_below, get_or-insert_at}
 use Rattle.std.proofs.lemmas.List.Sums.{sum_by_push, sum_by-set}
 use Rattle.std.proofs.lemmas.Bool.{cases_order, cases_eq}
-use Rattle.allocative_collectors.proofs.Orders.{key_total}
-use Rattle.allocative_collectors.proofs.Keys.{length-keys_of, map_same, keys_of-insert, insert_above, stands_insert, touched, pushed}
+use Rattle.allocative_collectors.proofs.Keys.{length-keys_of, map_same, keys_of-insert, insert_above, stands_insert, touched, pushed, key_total}
 
 abbrev pub with_children : List ℕ → Shape → Shape
 with_children xs n = record n { children = xs }

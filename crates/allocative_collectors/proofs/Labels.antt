@@ -5,8 +5,7 @@ use Rattle.std.proofs.lemmas.List.{get_or_append_left, get_or-map, length_push, 
 use Rattle.std.proofs.lemmas.List.Sums.{sum_by-cons}
 use Rattle.std.proofs.lemmas.Bool.{cases_order}
 use Rattle.allocative_collectors.specs.Listed.{total}
-use Rattle.allocative_collectors.proofs.Keys.{length-keys_of, key_in-keys_of}
-use Rattle.allocative_collectors.proofs.Orders.{key_not_before}
+use Rattle.allocative_collectors.proofs.Keys.{length-keys_of, key_in-keys_of, key_not_before}
 use Rattle.allocative_collectors.specs.Shapes.{grow, path_from, sum_from}
 
 abbrev pub unique_at : List Shape → ℕ → Bool
@@ -46,13 +45,13 @@ path-grow ps (n ∷ ns) (suc j) h some lt =
     path-grow (ps ++ p ∷ []) ns j (omega arith) (omega arith) (omega arith) ∙ ap (λ (l : List Path). get_or l (parent_at ns j) [] ++ key_at ns j ∷ []) (append_assoc ps (p ∷ []) _)
 
 -- a node's own figures
-figures-grow : (ps : List Path) (ns : List Shape) (j : ℕ) → (let e = get_or (grow ps ns) j root_sum in (e.bytes ≡ bytes_at ns j) × (e.is_unique ≡ unique_at ns j))
+pub figures-grow : (ps : List Path) (ns : List Shape) (j : ℕ) → (let e = get_or (grow ps ns) j root_sum in (e.bytes ≡ bytes_at ns j) × (e.is_unique ≡ unique_at ns j))
 figures-grow ps [] j = (refl, refl)
 figures-grow ps (n ∷ ns) zero = (refl, refl)
 figures-grow ps (n ∷ ns) (suc j) = figures-grow (ps ++ path_of (sum_from ps n) ∷ []) ns j
 
 -- a node at the end adds its sum at the end
-grow_push : (ps : List Path) (ns : List Shape) (n : Shape) → grow ps (ns ++ n ∷ []) ≡ grow ps ns ++ sum_from (ps ++ map path_of (grow ps ns)) n ∷ []
+pub grow_push : (ps : List Path) (ns : List Shape) (n : Shape) → grow ps (ns ++ n ∷ []) ≡ grow ps ns ++ sum_from (ps ++ map path_of (grow ps ns)) n ∷ []
 grow_push ps [] n = ap (λ (l : List Path). sum_from l n ∷ []) (sym (append-nil ps))
 grow_push ps (m ∷ ns) n =
     let p = path_of (sum_from ps m) in
@@ -83,12 +82,6 @@ total-grow ps (n ∷ ns) =
 -- ---- all nodes
 pub length_sums : (ns : List Shape) → length (sums ns) ≡ length ns
 length_sums = length-grow []
-
-pub figures_sums : (ns : List Shape) (i : ℕ) → (let e = get_or (sums ns) i root_sum in (e.bytes ≡ bytes_at ns i) × (e.is_unique ≡ unique_at ns i))
-figures_sums = figures-grow []
-
-pub sums_push : (ns : List Shape) (n : Shape) → sums (ns ++ n ∷ []) ≡ sums ns ++ sum_from (map path_of (sums ns)) n ∷ []
-sums_push = grow_push []
 
 pub root_at : (ns : List Shape) → path_at (sums ns) 0 ≡ []
 root_at [] = refl

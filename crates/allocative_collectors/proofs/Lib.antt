@@ -1,6 +1,5 @@
 pub mod Common
 pub mod Keys
-pub mod Orders
 pub mod Labels
 pub mod Grown
 pub mod Raised
@@ -9,6 +8,5 @@ pub mod Child
 pub mod Searched
 pub mod NodeReads
 pub mod Bridge
-pub mod Below
 pub mod Made
 pub mod Collect

@@ -9,7 +9,7 @@ use Rattle.std.proofs.lemmas.Bool.{and_parts, or_cases, or_left, or_right, cases
 use Rattle.std.proofs.Math.Bool.{and-true, and-or_distrib_left}
 use Rattle.allocative_graph.proofs.Basics.{path_total, path_antisymmetric, same_path, is_eq-Equal}
 use Rattle.allocative_collectors.specs.Finishing.{behind, MakesPart, MakesGraph, rows_behind}
-use Rattle.allocative_collectors.proofs.Orders.{key_total, key_same, tied, key_not_before}
+use Rattle.allocative_collectors.proofs.Keys.{key_total, key_same, tied, key_not_before}
 use Rattle.std.proofs.lemmas.Grind.{flat_map-append}
 use Rattle.std.proofs.lemmas.List.Filters.{sum_by-filter_both}
 use Rattle.std.proofs.lemmas.List.Sums.{sum_by-cons, sum_by-append, sum_by-le-sum_by}
@@ -21,10 +21,9 @@ use Rattle.allocative_graph.proofs.Graphs.{sizes_together, get-under, get-under-
 use Rattle.std.specs.Result.{IsErrAnd, IfErr}
 use Rattle.allocative_collectors.specs.declared.tree.Node as nodes
 use Rattle.allocative_collectors.proofs.Bridge.{IsListing, graph_hit, graph_none, get_at, get_none, nothing_left}
-use Rattle.allocative_collectors.proofs.Below.{listing}
 use Rattle.allocative_collectors.proofs.Labels.{length_sums, step}
 use Rattle.allocative_collectors.proofs.Child.{on_way}
-use Rattle.allocative_collectors.proofs.NodeReads.{length_nodes, in_shapes, child_seen}
+use Rattle.allocative_collectors.proofs.NodeReads.{length_nodes, in_shapes, child_seen, listing}
 
 -- ---- keys
 abbrev same_key : Key → Key → Bool
@@ -61,14 +60,6 @@ abbrev pub begun : List Key → ℕ → Path → Bool
 begun ks j [] = true
 begun ks j (l ∷ q) = among ks j l
 
-behind_is : (p : Path) (t : Path → Bool) (q : Path) → behind p t q ≡ true → (r : Path) × (q ≡ p ++ r) × (t r ≡ true)
-behind_is [] t q h = (q, refl, h)
-behind_is (k ∷ p) t [] h = absurd (true≢false (sym h))
-behind_is (k ∷ p) t (l ∷ q) h =
-    let parts = and_parts (same_key l k) (behind p t q) h in
-    let rest = behind_is p t q parts.1 in
-    (rest.0, (λ i. same_key_is l k parts.0 i ∷ rest.1 i), rest.2)
-
 -- a change of the test changes nothing where no path behind p is affected
 behind_same : {X : Type 0} (p : Path) (t u : Path → Bool) (f : Path → Option X) → ((r : Path) → cond (t r) (f (p ++ r)) None ≡ cond (u r) (f (p ++ r)) None) → (q : Path) → cond (behind p t q) (f q) None ≡ cond (behind p u q) (f q) None
 behind_same [] t u f same q = same q
@@ -91,21 +82,20 @@ behind_more [] ks j (l ∷ q) = ap (λ (b : Bool). among ks j l || b) (sym (and-
 behind_more (k ∷ p) ks j [] = refl
 behind_more (k ∷ p) ks j (l ∷ q) = ap (λ (b : Bool). same_key l k && b) (behind_more p ks j q) ∙ and-or_distrib_left (same_key l k) _ _
 
--- two paths with a common beginning compare as the rest of both
-after_common : (p x y : Path) → path_cmp (p ++ x) (p ++ y) ≡ path_cmp x y
-after_common [] x y = refl
-after_common (k ∷ p) x y = ap (λ (o : Ordering). ordering_then o (path_cmp (p ++ x) (p ++ y))) (tied_itself key_total k) ∙ after_common p x y
-
 -- what was passed is before the next child
-passed_before : (p : Path) (ks : List Key) (j : ℕ) → j < length ks → KeysRise ks → (a b : Path) → behind p (begun ks j) a ≡ true → behind (p ++ key_in ks j ∷ []) (λ r. true) b ≡ true → path_cmp a b ≡ Less
-passed_before p ks j hj rise a b ha hb =
-    let x = behind_is p (begun ks j) a ha in
-    let y = behind_is (p ++ key_in ks j ∷ []) (λ r. true) b hb in
-    rw (x.1, y.1, append_assoc p (key_in ks j ∷ []) y.0, after_common p x.0 (key_in ks j ∷ y.0)) (first x.0 y.0 x.2)
-  where
-    first : (r q : Path) → begun ks j r ≡ true → path_cmp r (key_in ks j ∷ q) ≡ Less
-    first [] q h = refl
-    first (l ∷ r) q h = ap (λ (o : Ordering). ordering_then o (path_cmp r q)) (among_before ks rise j j l hj (omega arith) h)
+module _ (ks : List Key) (rise : KeysRise ks) (j : ℕ) (hj : j < length ks) where
+  passed_before : (p a b : Path) → behind p (begun ks j) a ≡ true → behind (p ++ key_in ks j ∷ []) (λ r. true) b ≡ true → path_cmp a b ≡ Less
+  passed_before [] [] [] ha hb = absurd (true≢false (sym hb))
+  passed_before [] [] (m ∷ b) ha hb = refl
+  passed_before [] (l ∷ a) [] ha hb = absurd (true≢false (sym hb))
+  passed_before [] (l ∷ a) (m ∷ b) ha hb =
+      rw (same_key_is m (key_in ks j) (and_parts _ _ hb).0) (ap (λ (o : Ordering). ordering_then o (path_cmp a b)) (among_before ks rise j j l hj (omega arith) ha))
+  passed_before (k ∷ p) [] b ha hb = absurd (true≢false (sym ha))
+  passed_before (k ∷ p) (l ∷ a) [] ha hb = absurd (true≢false (sym hb))
+  passed_before (k ∷ p) (l ∷ a) (m ∷ b) ha hb =
+      let x = and_parts (same_key l k) _ ha in
+      let y = and_parts (same_key m k) _ hb in
+      rw (same_key_is l k x.0, same_key_is m k y.0, tied_itself key_total k) (passed_before p a b x.1 y.1)
 
 -- ---- rows in the order of paths
 both_parts : (a b : Bool) → T (a && b) → T a × T b
@@ -251,7 +241,7 @@ module _ (s : Listed) (ok : IsListing s) where
       next = rows_behind s (p ++ k ∷ []) (λ r. true)
 
       more : rows_behind s p (begun ks (suc j)) ≡ before ++ next
-      more = kept_both _ _ _ (behind_more p ks j) (passed_before p ks j hj rise) (entries (map_of s)) (entries_sorted (map_of s))
+      more = kept_both _ _ _ (behind_more p ks j) (passed_before ks rise j hj p) (entries (map_of s)) (entries_sorted (map_of s))
 
       pub part_more : (c : ℕ) → path_at s c ≡ p ++ k ∷ [] → (w w' w'' : List Warned) (g h d : Graph) → MakesPart s p (begun ks j) w w' g → MakesGraph s c w' w'' d → h ≡ sum_of g (under k d) → MakesPart s p (begun ks (suc j)) w w'' h
       part_more c there w w' w'' g h d part made is = record {

@@ -2,9 +2,8 @@
 use Rattle.std.proofs.Common.{◌≡◌, ◌+◌, ◌-◌, ◌/◌, ◌<◌, ℕ, true, length, get_or, map, arith, sym, ap, ◌∙◌, refl}
 use Rattle.allocative_collectors.proofs.Common.{Less, Equal, Greater, Ordering, is_lt, Key, key_cmp, key_at, keys_at, key_in, IsChild, children_at, shape}
 use Rattle.allocative_collectors.specs.declared.tree.Node.{Node}
-use Rattle.allocative_collectors.proofs.Keys.{length-keys_of}
+use Rattle.allocative_collectors.proofs.Keys.{length-keys_of, key_same}
 use Rattle.allocative_collectors.proofs.NodeReads.{children_read, child_seen}
-use Rattle.allocative_collectors.proofs.Orders.{key_same}
 use Rattle.allocative_collectors.proofs.Searched.{between_up, between_down, gap_behind}
 use Rattle.allocative_collectors.proofs.tree.find.Goals as goal
 use Rattle.allocative_collectors.proofs.tree.find.Goals.{After-as_slice-children}
