@@ -5,7 +5,7 @@ use Rattle.std.proofs.lemmas.List.{length-map, get_or-map, get_or_push, same_fro
 use Rattle.std.proofs.lemmas.Cmp.{tied_itself}
 use Rattle.std.proofs.lemmas.Bool.{cases_lt}
 use Rattle.allocative_collectors.proofs.Keys.{key_total}
-use Rattle.allocative_collectors.proofs.Adds.{put_nothing}
+use Rattle.allocative_collectors.proofs.Entries.{put_nothing}
 use Rattle.allocative_collectors.proofs.Labels.{path_of, path_from-some, grow_same, grow_push, put_push, length_sums, not_nil, root_at, step, key_place, distinct}
 use Rattle.allocative_collectors.proofs.Grown.{grown, length_grown, with_children}
 use Rattle.std.specs.List.{insert}

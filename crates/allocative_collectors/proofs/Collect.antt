@@ -12,10 +12,9 @@ use Rattle.allocative_graph.specs.Sums as bag
 use Rattle.allocative_graph.specs.Collector.{last_of, without_last}
 use Rattle.allocative_graph.proofs.Basics.{identity_total, identity_antisymmetric, same_identity_turned}
 use Rattle.allocative_collectors.specs.Places.{to_root, outside, back_from, back_at, AddedAt}
-use Rattle.allocative_collectors.proofs.Adds.{total_entered, length_entered, path_entered}
+use Rattle.allocative_collectors.proofs.Entries.{total_entered, length_entered, path_entered, map_of-entered, mark_of}
 use Rattle.allocative_graph.proofs.Below.{entered-add}
 use Rattle.allocative_collectors.proofs.Keys.{map_same}
-use Rattle.allocative_collectors.proofs.Bridge.{map_of-entered, mark_of}
 
 -- ---- the identities
 -- equal in both parts
@@ -45,9 +44,6 @@ outside_push : (p : Path) (k : Key) → outside (p ++ k ∷ []) ≡ p ∷ outsid
 outside_push [] k = refl
 outside_push (x ∷ p) k = ap (λ (l : List Path). map (λ (q : Path). x ∷ q) l ++ [] ∷ []) (outside_push p k)
 
-turned : (f : ℕ → Path) (places : List ℕ) (current : ℕ) → reverse (map f (places ++ current ∷ [])) ≡ f current ∷ reverse (map f places)
-turned f places current = ap reverse (map-append f places (current ∷ [])) ∙ reverse-append (map f places) (f current ∷ [])
-
 module _ (t : Listed) (met : List Identity) where
   module _ (outer inner : ℕ) (before after : List ℕ) (rooted : Bool) (stack : back_at t inner after rooted ≡ path_at t outer ∷ back_at t outer before rooted) where
     pub went : live t met inner after rooted ≡ go (path_at t inner) (live t met outer before rooted)
@@ -68,12 +64,6 @@ module _ (t : Listed) (met : List Identity) where
       let rest = back_from (reverse (map (path_at t) places)) (to_root rooted) in
       ap (λ (q : Path). outside q ++ rest) path ∙ ap (λ (l : List Path). l ++ rest) (outside_push (path_at t outer) k)
 
-  -- a content's root and the place where it was entered
-  pub one_out : (outer inner : ℕ) (before after : List ℕ) (rooted : Bool) → path_at t inner ≡ [] → after ≡ before ++ outer ∷ [] → back_at t inner after rooted ≡ path_at t outer ∷ back_at t outer before rooted
-  one_out outer inner before after rooted root is =
-      ap (λ (q : Path). outside q ++ back_from (reverse (map (path_at t) after)) (to_root rooted)) root
-      ∙ ap (λ (l : List Path). back_from l (to_root rooted)) (ap (λ (l : List ℕ). reverse (map (path_at t) l)) is ∙ turned (path_at t) before outer)
-
   pub at_root : (current : ℕ) → path_at t current ≡ [] → live t met current [] true ≡ go [] (live t met current [] false)
   at_root current root =
       let stack : back_at t current [] true ≡ path_at t current ∷ back_at t current [] false = (λ i. outside (root i) ++ [] ∷ []) ∙ (λ i. sym root i ∷ outside (sym root i) ++ []) in
@@ -82,7 +72,7 @@ module _ (t : Listed) (met : List Identity) where
 -- a content that was met for the first time
 pub gone_in : (t : Listed) (met now : List Identity) (current : ℕ) (places : List ℕ) (rooted : Bool) (i : Identity) → path_at t 0 ≡ [] → from_list {R = identity_cmp} now ≡ insert (from_list met) i → live t now 0 (places ++ current ∷ []) rooted ≡ go [] (record (live t met current places rooted) { met = insert (from_list met) i })
 gone_in t met now current places rooted i root one_new =
-    went t now current 0 places (places ++ current ∷ []) rooted (one_out t now current 0 places (places ++ current ∷ []) rooted root refl)
+    went t now current 0 places (places ++ current ∷ []) rooted (rw (root, map-append (path_at t) places (current ∷ []), reverse-append (map (path_at t) places) (path_at t current ∷ [])) refl)
     ∙ (λ j. go (root j) (record (live t met current places rooted) { met = one_new j }))
 
 -- ---- no visitor is open

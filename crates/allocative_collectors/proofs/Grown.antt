@@ -3,11 +3,11 @@ use Rattle.std.proofs.Common.{◌≡◌, ◌≢◌, ℕ, ◌+◌, ◌-◌, ◌<�
 use Rattle.allocative_collectors.proofs.Common.{key_at, Less, ordering_reverse, Key, key_cmp, Shape, leaf, no_shape, at, children_at, keys_of, keys_at, key_in, parent_at, below_of, share, KeysRise, StandsIn, IsChild, IsArena, IsKeyGap}
 use Rattle.std.specs.List.{All, insert}
 use Rattle.std.proofs.lemmas.List.Elements.{All-append, All-cons, All-drop, All-take, All-weaker}
-use Rattle.std.proofs.lemmas.List.{get_or_append_left, get_or_push, length_push}
+use Rattle.std.proofs.lemmas.List.{length-map, get_or_append_left, get_or_push, length_push}
 use Rattle.std.proofs.lemmas.List.Edits.{length-insert, get_or-insert_below, get_or-insert_at}
 use Rattle.std.proofs.lemmas.List.Sums.{sum_by_push, sum_by-set}
 use Rattle.std.proofs.lemmas.Bool.{cases_order, cases_eq}
-use Rattle.allocative_collectors.proofs.Keys.{length-keys_of, map_same, keys_of-insert, insert_above, stands_insert, touched, pushed, key_total}
+use Rattle.allocative_collectors.proofs.Keys.{map_same, keys_of-insert, insert_above, stands_insert, touched, pushed, key_total}
 
 abbrev pub with_children : List ℕ → Shape → Shape
 with_children xs n = record n { children = xs }
@@ -83,7 +83,7 @@ module _ (ns : List Shape) (ok : IsArena ns) (p : ℕ) (hp : p < length ns) (k :
   ]
 
   gap_within : g ≤ length (children_at ns p)
-  gap_within = omega (arith, gap.in_range, length-keys_of ns (children_at ns p))
+  gap_within = omega (arith, gap.in_range, length-map (children_at ns p) (key_at ns))
 
   child_before : (q i : ℕ) → IsChild ns q i → IsChild new q i
   child_before q i old = record { not_root = old.not_root; in_range = omega (arith, length_grown, old.in_range); parent = parent_before i old.in_range ∙ old.parent }

@@ -35,12 +35,6 @@ tied Less r = refl
 tied Equal r = refl
 tied Greater r = refl
 
-pub length-keys_of : (ns : List Shape) (xs : List ℕ) → length (keys_of ns xs) ≡ length xs
-length-keys_of ns xs = length-map xs (key_at ns)
-
-pub key_in-keys_of : (ns : List Shape) (xs : List ℕ) (j : ℕ) → j < length xs → key_in (keys_of ns xs) j ≡ key_at ns (get_or xs j 0)
-key_in-keys_of ns xs j h = get_or-map (key_at ns) xs j 0 [] h
-
 -- two functions that agree at the numbers of a list
 pub map_same : {X : Type 0} (f g : ℕ → X) (xs : List ℕ) → ((j : ℕ) → j < length xs → f (get_or xs j 0) ≡ g (get_or xs j 0)) → map f xs ≡ map g xs
 map_same f g [] same = refl

@@ -1,11 +1,11 @@
 -- The sums that an arena stands for, and what one more entry does to a list of sums.
 use Rattle.std.proofs.Common.{◌≡◌, ℕ, zero, suc, ◌+◌, ◌<◌, ◌||◌, Bool, List, [], ◌∷◌, ◌++◌, length, get_or, set, map, append_assoc, append-nil, sum_by, refl, sym, ap, ◌∙◌, arith, inl, inr}
 use Rattle.allocative_collectors.proofs.Common.{Key, Path, Sum, Listed, root_sum, put, path_at, Shape, at, sums, bytes_at, children_at, key_at, key_in, keys_at, parent_at, IsArena, IsChild, KeysRise}
-use Rattle.std.proofs.lemmas.List.{get_or_append_left, get_or-map, length_push, same_from_push}
+use Rattle.std.proofs.lemmas.List.{length-map, get_or_append_left, get_or-map, length_push, same_from_push}
 use Rattle.std.proofs.lemmas.List.Sums.{sum_by-cons}
 use Rattle.std.proofs.lemmas.Bool.{cases_order}
 use Rattle.allocative_collectors.specs.Listed.{total}
-use Rattle.allocative_collectors.proofs.Keys.{length-keys_of, key_in-keys_of, key_not_before}
+use Rattle.allocative_collectors.proofs.Keys.{key_not_before}
 use Rattle.allocative_collectors.specs.Shapes.{grow, path_from, sum_from}
 
 abbrev pub unique_at : List Shape → ℕ → Bool
@@ -110,7 +110,7 @@ module _ (ns : List Shape) (ok : IsArena ns) where
   pub key_place : (p i : ℕ) (c : IsChild ns p i) → (let a = ok.listed p i c in (a.place < length (keys_at ns p)) × (key_in (keys_at ns p) a.place ≡ key_at ns i))
   key_place p i c =
       let a = ok.listed p i c in
-      (omega (arith, length-keys_of ns (children_at ns p), a.in_range), key_in-keys_of ns (children_at ns p) a.place a.in_range ∙ ap (key_at ns) a.is)
+      (omega (arith, length-map (children_at ns p) (key_at ns), a.in_range), get_or-map (key_at ns) (children_at ns p) a.place 0 [] a.in_range ∙ ap (key_at ns) a.is)
 
   -- two children of one parent with one key are one
   one_child : (p i j : ℕ) → IsChild ns p i → IsChild ns p j → key_at ns i ≡ key_at ns j → i ≡ j

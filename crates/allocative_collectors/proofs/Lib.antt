@@ -3,10 +3,9 @@ pub mod Keys
 pub mod Labels
 pub mod Grown
 pub mod Raised
-pub mod Adds
 pub mod Child
 pub mod Searched
 pub mod NodeReads
-pub mod Bridge
 pub mod Made
 pub mod Collect
+pub mod Entries

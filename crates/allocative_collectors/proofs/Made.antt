@@ -20,7 +20,7 @@ use Rattle.allocative_graph.proofs.Merge.{get-sum_of}
 use Rattle.allocative_graph.proofs.Graphs.{sizes_together, get-under, get-under-root, get-default, total-sum_of, total-under, total-add_at}
 use Rattle.std.specs.Result.{IsErrAnd, IfErr}
 use Rattle.allocative_collectors.specs.declared.tree.Node as nodes
-use Rattle.allocative_collectors.proofs.Bridge.{IsListing, graph_hit, graph_none, get_at, get_none, nothing_left}
+use Rattle.allocative_collectors.proofs.Entries.{IsListing, graph_hit, graph_none, get_at, get_none, nothing_left}
 use Rattle.allocative_collectors.proofs.Labels.{length_sums, step}
 use Rattle.allocative_collectors.proofs.Child.{on_way}
 use Rattle.allocative_collectors.proofs.NodeReads.{length_nodes, in_shapes, child_seen, listing}

@@ -6,13 +6,13 @@ use Rattle.std.proofs.lemmas.Cmp.{eq_by_cmp_equiv}
 use Rattle.std.proofs.Math.Bool.{and-false}
 use Rattle.std.proofs.lemmas.List.Sums.{sum_by-cons}
 use Rattle.std.proofs.lemmas.Bool.{cases_eq, cond-true, cond-false}
-use Rattle.allocative_collectors.proofs.Bridge.{IsListing, below_listed, not_below_root}
+use Rattle.allocative_collectors.proofs.Entries.{IsListing, below_listed, not_below_root}
 use Rattle.allocative_collectors.proofs.Labels.{length_sums, figures-grow, root_at, step, distinct, raise_shape}
 use Rattle.std.specs.List.{insert}
 use Rattle.std.proofs.lemmas.List.{get_or-map, length-map, map-set, map_push, length_push, get_or_append_left, set-get_or, take-map}
 use Rattle.allocative_collectors.specs.declared.tree.Node.{Node}
 use Rattle.allocative_collectors.specs.Listed.{total}
-use Rattle.allocative_collectors.proofs.Keys.{key_in-keys_of, touched, key_total, same_path-same, same_path-apart, tied}
+use Rattle.allocative_collectors.proofs.Keys.{touched, key_total, same_path-same, same_path-apart, tied}
 use Rattle.allocative_collectors.proofs.Raised.{more_below, raised, bytes_le_total, below_le_total}
 use Rattle.allocative_collectors.proofs.Grown.{with_children, grown}
 
@@ -99,7 +99,7 @@ module _ (items : List Node) where
       let child = ok.arena.children p j 0 inside in
       let within : get_or (children_at ns p) j 0 < length items = omega (arith, child.in_range, length-map items shape) in
       subst (λ (l : List ℕ). let i = get_or l j 0 in (IsChild ns p i) × (i < length items) × (key_in (keys_at ns p) j ≡ key_at ns i) × ((d : Node) → (let m = get_or items i d in key_at ns i ≡ m.key))) is
-      (child, within, key_in-keys_of ns (children_at ns p) j inside, λ d. ap (λ (s : Shape). s.key) (get_or-map shape items (get_or (children_at ns p) j 0) d no_shape within))
+      (child, within, get_or-map (key_at ns) (children_at ns p) j 0 [] inside, λ d. ap (λ (s : Shape). s.key) (get_or-map shape items (get_or (children_at ns p) j 0) d no_shape within))
 
   -- a node replaced by one of the same shape
   same_shapes : (i : ℕ) (n m : Node) → i < length items → n ≡ get_or items i n → shape m ≡ shape n → map shape (set items i m) ≡ map shape items

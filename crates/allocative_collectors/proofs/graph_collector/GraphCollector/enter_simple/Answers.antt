@@ -1,7 +1,7 @@
 -- The tree has one more entry, and the current place stays.
 use Rattle.std.proofs.Common.{◌≡◌, ◌+◌, ◌<◌, ◌^◌, false, subst, arith}
 use Rattle.allocative_collectors.proofs.Common.{entered, Live, enter_live, leave_live, live}
-use Rattle.allocative_collectors.proofs.Adds.{length_entered}
+use Rattle.allocative_collectors.proofs.Entries.{length_entered}
 use Rattle.allocative_collectors.proofs.Collect.{placed_added, fits_map, live_added}
 use Rattle.allocative_collectors.proofs.graph_collector.GraphCollector.enter_simple.Goals as goal
 

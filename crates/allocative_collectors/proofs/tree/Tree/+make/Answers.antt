@@ -1,10 +1,9 @@
 -- A node's own size and warning, and then the graph of each child with the paths that have a warning.
 use Rattle.std.proofs.Common.{◌≡◌, ◌-◌, ◌+◌, ◌<◌, ℕ, Bool, cond, List, [], ◌∷◌, ◌++◌, map, length, get_or, Bor, Vec, Global, arith, sym, ap, subst, ◌∙◌, refl, Err, IfErr, IsErrOf, ◌↔◌, ◌^◌, ◌≤◌, add-one}
-use Rattle.allocative_collectors.proofs.Common.{Key, under, sum_of, default, add_self, WarnedPath, shape, path_at, keys_at, children_at, key_in, map_of, entered, size_at_place, seen, Refusal, Memory, TooLarge, Open}
-use Rattle.std.proofs.lemmas.List.{map-append}
+use Rattle.allocative_collectors.proofs.Common.{Key, under, sum_of, default, add_self, WarnedPath, shape, path_at, keys_at, key_at, children_at, key_in, map_of, entered, size_at_place, seen, Refusal, Memory, TooLarge, Open}
+use Rattle.std.proofs.lemmas.List.{length-map, map-append}
 use Rattle.allocative_graph.specs.Graph.{total}
 use Rattle.allocative_collectors.specs.declared.tree.Node.{Node}
-use Rattle.allocative_collectors.proofs.Keys.{length-keys_of}
 use Rattle.allocative_collectors.proofs.NodeReads.{in_nodes, children_read, figures_read, listing_of}
 use Rattle.allocative_collectors.proofs.Made.{part_start, part_more, part_fits, made_all, child_read, none_warned, own_warning, own_fits, warned_at, total-default, memory_alone, passed_on}
 use Rattle.allocative_collectors.proofs.Made.{begun}
@@ -19,7 +18,7 @@ children t c = children_read c.self.inside.nodes.items c.args.at c.index-node.re
 
 -- there are as many keys as children
 count : (t : ℕ) (c : After-as_slice-child-items t) → length (keys_at (map shape c.self.inside.nodes.items) c.args.at) ≡ length c.as_slice-child-items.result.now
-count t c = length-keys_of (map shape c.self.inside.nodes.items) (children_at (map shape c.self.inside.nodes.items) c.args.at) ∙ ap length (children t c)
+count t c = length-map (children_at (map shape c.self.inside.nodes.items) c.args.at) (key_at (map shape c.self.inside.nodes.items)) ∙ ap length (children t c)
 
 child : (t : ℕ) (c : After-as_slice-child-items t) (j : ℕ) → j < length c.as_slice-child-items.result.now → let i = get_or c.as_slice-child-items.result.now j 0 in (c.args.at < i) × (i < length c.args.self.now) × (path_at c.args.self.now i ≡ path_at c.args.self.now c.args.at ++ key_in (keys_at (map shape c.self.inside.nodes.items) c.args.at) j ∷ []) × ((d : Node) → (let m = get_or c.self.inside.nodes.items i d in m.key ≡ key_in (keys_at (map shape c.self.inside.nodes.items) c.args.at) j))
 child t c = child_read c.self.inside.nodes.items c.self.invariant c.self.view_is c.args.at c.as_slice-child-items.result.now (children t c)
