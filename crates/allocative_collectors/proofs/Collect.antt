@@ -1,10 +1,9 @@
 -- The parts of a flame graph's collector after each step: an entry, a visitor that is entered or left, an identity that is met.
-use Rattle.std.proofs.Common.{◌≡◌, ◌≢◌, ℕ, pred, ◌+◌, ◌^◌, ◌<◌, ◌≤◌, Bool, true, false, cond, not, ◌||◌, ◌&&◌, ◌==◌, List, [], ◌∷◌, ◌++◌, map, reverse, length, get_or, refl, sym, ap, ◌∙◌, arith, inl, inr, length-append}
-use Rattle.allocative_collectors.proofs.Common.{contains, Key, Path, AsInline, is_unique_mark, Live, go, leave_live, enter_live, enter_again, enter_first, Listed, path_at, map_of, live, IsPlaced}
+use Rattle.std.proofs.Common.{◌≡◌, ℕ, pred, ◌+◌, ◌^◌, ◌<◌, Bool, true, false, cond, not, ◌||◌, ◌&&◌, ◌==◌, List, [], ◌∷◌, ◌++◌, map, reverse, length, refl, sym, ap, ◌∙◌, arith, length-append}
+use Rattle.allocative_collectors.proofs.Common.{contains, Key, Path, Live, go, leave_live, enter_live, Listed, path_at, map_of, live, IsPlaced}
 use Rattle.std.specs.List.{list_any}
 use Rattle.std.specs.FinSet.{from_list, insert, same_set, contains-from_list, contains-insert}
-use Rattle.std.proofs.lemmas.List.{map-append, reverse-append, length-map, length-reverse, get_or_append_left, get_or_push, length_push, nil_from_length}
-use Rattle.std.proofs.lemmas.Bool.{cases_lt}
+use Rattle.std.proofs.lemmas.List.{map-append, reverse-append, length-map, length-reverse, nil_from_length}
 use Rattle.std.proofs.lemmas.Bool.Decides.{nat_tests}
 use Rattle.allocative_graph.specs.Identity.{Identity, identity_cmp, is_same_identity}
 use Rattle.allocative_graph.specs.Forest.{Entry}

@@ -1,5 +1,5 @@
 -- One more entry in the listed sums: what it leaves as it was, and what the map has at each place and after it.
-use Rattle.std.proofs.Common.{◌≡◌, ℕ, zero, suc, ◌+◌, ◌<◌, ◌≤◌, Bool, false, add-zero, zero-add, [], ◌∷◌, ◌++◌, length, refl, ap, ◌∙◌, arith, ◌≢◌, ◌-◌, true, cond, map, Option, Some, None, sym, inl, inr, sum_by}
+use Rattle.std.proofs.Common.{◌≡◌, ℕ, zero, suc, ◌+◌, ◌<◌, ◌≤◌, Bool, false, add-zero, zero-add, [], ◌∷◌, ◌++◌, length, refl, ap, ◌∙◌, arith, ◌≢◌, ◌-◌, true, cond, map, Option, Some, None, sym, sum_by}
 use Rattle.allocative_collectors.proofs.Common.{Key, Path, Sum, Listed, raise, put, path_at, IsEntered, Sums, get, find, path_cmp, is_same_path, is_one_below, is_unique_mark, graph, sum_at, row, map_of, size_at_place}
 use Rattle.std.proofs.Math.Bool.{or-false}
 use Rattle.std.proofs.lemmas.List.Sums.{sum_by-cons}

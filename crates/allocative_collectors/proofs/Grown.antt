@@ -1,5 +1,5 @@
 -- An arena with one more node, which has no entry yet.
-use Rattle.std.proofs.Common.{◌≡◌, ◌≢◌, ℕ, ◌+◌, ◌-◌, ◌<◌, ◌≤◌, false, List, [], ◌∷◌, ◌++◌, length, get_or, set, take, drop, refl, sym, ap, subst, ◌∙◌, arith, inl, inr, get_or-set_same, get_or-set_other, length-set}
+use Rattle.std.proofs.Common.{◌≡◌, ◌≢◌, ℕ, ◌+◌, ◌-◌, ◌<◌, ◌≤◌, List, [], ◌∷◌, ◌++◌, length, get_or, set, take, drop, refl, sym, ap, subst, ◌∙◌, arith, inl, inr, get_or-set_same, get_or-set_other, length-set}
 use Rattle.allocative_collectors.proofs.Common.{key_at, Less, ordering_reverse, Key, key_cmp, Shape, leaf, no_shape, at, children_at, keys_of, keys_at, key_in, parent_at, below_of, share, KeysRise, StandsIn, IsChild, IsArena, IsKeyGap}
 use Rattle.std.specs.List.{All, insert}
 use Rattle.std.proofs.lemmas.List.Elements.{All-append, All-cons, All-drop, All-take, All-weaker}
@@ -97,10 +97,10 @@ module _ (ns : List Shape) (ok : IsArena ns) (p : ℕ) (hp : p < length ns) (k :
   listed q i = by_parent (λ x xs. IsChild new x i → StandsIn xs i)
       (λ c. elim (cases_eq i (length ns)) [
         | inl e ↦ record {
-            place = g;
-            in_range = omega (arith, gap_within, length-insert (children_at ns p) g (length ns) gap_within);
-            is = get_or-insert_at (children_at ns p) g (length ns) 0 gap_within ∙ sym e;
-          }
+          place = g;
+          in_range = omega (arith, gap_within, length-insert (children_at ns p) g (length ns) gap_within);
+          is = get_or-insert_at (children_at ns p) g (length ns) 0 gap_within ∙ sym e;
+        }
         | inr ne ↦ stands_insert (children_at ns p) g (length ns) i gap_within (stood p i ne c)
       ])
       (λ q other c. stood q i (λ e. other (sym c.parent ∙ (ap (parent_at new) e ∙ ap (λ (n : Shape). n.parent) at_leaf))) c) q

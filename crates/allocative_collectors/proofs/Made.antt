@@ -1,6 +1,6 @@
 -- What the walk of `make` has passed behind a node's path, child by child: the rows of the map, and the graph that it has made.
-use Rattle.std.proofs.Common.{◌≡◌, ◌≢◌, ℕ, zero, suc, ◌<◌, ◌≤◌, Bool, true, false, cond, T, ◌&&◌, ◌||◌, List, [], ◌∷◌, ◌++◌, length, Option, Some, None, refl, sym, ap, subst, ◌∙◌, arith, inl, inr, ◌⊎◌, true≢false, append_assoc, ◌+◌, map, flat_map, get_or, unwrap_or, sum_by, Result, Ok, Err, append-nil, add-zero, zero-add}
-use Rattle.allocative_collectors.proofs.Common.{Ordering, Less, Equal, Greater, is_eq, is_lt, ordering_then, Key, Path, key_cmp, path_cmp, key_in, KeysRise, is_same_path, Graph, Warned, graph, sum_of, under, default, add_self, get, entries, Refusal, Memory, TooLarge, Open, shape, sums_of, IsTree, Listed, row, sum_at, path_at, map_of, below, entered, sums, children_at, keys_at, IsArena, Shape, size_at_place, is_short, ordering_reverse}
+use Rattle.std.proofs.Common.{◌≡◌, ◌≢◌, ℕ, zero, suc, ◌<◌, ◌≤◌, Bool, true, false, cond, T, ◌&&◌, ◌||◌, List, [], ◌∷◌, ◌++◌, length, Option, Some, None, refl, sym, ap, subst, ◌∙◌, arith, inl, inr, true≢false, append_assoc, ◌+◌, map, flat_map, get_or, unwrap_or, sum_by, Result, Ok, Err, append-nil, add-zero, zero-add}
+use Rattle.allocative_collectors.proofs.Common.{Ordering, Less, is_eq, is_lt, ordering_then, Key, Path, key_cmp, path_cmp, key_in, KeysRise, is_same_path, Graph, Warned, graph, sum_of, under, default, add_self, get, entries, Refusal, Memory, TooLarge, Open, shape, sums_of, IsTree, Listed, row, sum_at, path_at, map_of, below, entered, sums, children_at, keys_at, IsArena, Shape, size_at_place, is_short, ordering_reverse}
 use Rattle.std.specs.FinMap.{FinMap, entries_sorted, find, get-entries, get-insert}
 use Rattle.std.specs.FinMap.Entries.{is_sorted, below_all, is_sorted-where_key, find-where_key, same_entries}
 use Rattle.std.specs.List.{filter}
@@ -261,10 +261,10 @@ module _ (s : Listed) (ok : IsListing s) where
           by (l ∷ r) =
               (λ x. sizes_together (part.graph_is (l ∷ r) x) (get-under k d l r x))
               ∙ one_of (among ks j l) (same_key l k) _ _ (λ e.
-                  let same = same_key_is l k e in (
-                    false_from_ne_true (among ks j l) (λ earlier. key_not_before l k same (among_before ks rise j j l hj (omega arith) earlier)),
-                    child.graph_is r ∙ ap (get (graph (map_of s))) (append_assoc p (k ∷ []) r ∙ ap (λ (x : Key). p ++ x ∷ r) (sym same)),
-                  ))
+              let same = same_key_is l k e in (
+                false_from_ne_true (among ks j l) (λ earlier. key_not_before l k same (among_before ks rise j j l hj (omega arith) earlier)),
+                child.graph_is r ∙ ap (get (graph (map_of s))) (append_assoc p (k ∷ []) r ∙ ap (λ (x : Key). p ++ x ∷ r) (sym same)),
+              ))
 
 -- ---- at the nodes
 module _ (ns : List Shape) (ok : IsArena ns) (i : ℕ) (hi : i < length ns) where

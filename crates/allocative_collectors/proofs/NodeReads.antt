@@ -1,6 +1,6 @@
 -- What a read of a node says of the arena and of the sums: the bytes that it stores as those of its children are those one key below.
-use Rattle.std.proofs.Common.{◌≡◌, ℕ, zero, suc, ◌<◌, Bool, true, false, not, ◌&&◌, List, [], ◌∷◌, ◌++◌, length, get_or, sum_by, refl, sym, ap, ◌∙◌, arith, inl, inr, cond, eqb, ltb, eq-eqb, ne_eqb, lt-ltb, ◌+◌, ◌≤◌, ◌||◌, map, set, take, ◌-◌, subst, length-set, take_at}
-use Rattle.allocative_collectors.proofs.Common.{Ordering, Less, Equal, Greater, is_eq, ordering_then, ordering_reverse, Key, Path, key_cmp, path_cmp, is_same_path, Sum, root_sum, sum_at, path_at, map_of, Shape, no_shape, at, sums, key_at, parent_at, bytes_at, below_at, share, IsArena, is_one_below, is_root, below, leaf, IsChild, keys_at, children_at, key_in, shape, sums_of, IsTree, Listed}
+use Rattle.std.proofs.Common.{◌≡◌, ℕ, zero, suc, ◌<◌, Bool, false, not, ◌&&◌, List, [], ◌∷◌, ◌++◌, length, get_or, sum_by, refl, sym, ap, ◌∙◌, arith, inl, inr, cond, eqb, ltb, eq-eqb, ne_eqb, lt-ltb, ◌+◌, ◌≤◌, ◌||◌, map, set, subst, length-set}
+use Rattle.allocative_collectors.proofs.Common.{Key, Path, key_cmp, path_cmp, is_same_path, Sum, root_sum, sum_at, path_at, map_of, Shape, no_shape, at, sums, key_at, parent_at, bytes_at, below_at, share, IsArena, is_one_below, is_root, below, leaf, IsChild, keys_at, children_at, key_in, shape, sums_of, IsTree, Listed}
 use Rattle.std.specs.Ordering.{eq_by_cmp}
 use Rattle.std.proofs.lemmas.Cmp.{eq_by_cmp_equiv}
 use Rattle.std.proofs.Math.Bool.{and-false}
@@ -9,7 +9,7 @@ use Rattle.std.proofs.lemmas.Bool.{cases_eq, cond-true, cond-false}
 use Rattle.allocative_collectors.proofs.Entries.{IsListing, below_listed, not_below_root}
 use Rattle.allocative_collectors.proofs.Labels.{length_sums, figures-grow, root_at, step, distinct, raise_shape}
 use Rattle.std.specs.List.{insert}
-use Rattle.std.proofs.lemmas.List.{get_or-map, length-map, map-set, map_push, length_push, get_or_append_left, set-get_or, take-map}
+use Rattle.std.proofs.lemmas.List.{get_or-map, length-map, map-set, map_push, set-get_or}
 use Rattle.allocative_collectors.specs.declared.tree.Node.{Node}
 use Rattle.allocative_collectors.specs.Listed.{total}
 use Rattle.allocative_collectors.proofs.Keys.{touched, key_total, same_path-same, same_path-apart, tied}

@@ -6,8 +6,6 @@ use Rattle.allocative_graph.specs.Graph.{total}
 use Rattle.allocative_collectors.specs.declared.tree.Node.{Node}
 use Rattle.allocative_collectors.proofs.NodeReads.{in_nodes, children_read, figures_read, listing_of}
 use Rattle.allocative_collectors.proofs.Made.{part_start, part_more, part_fits, made_all, child_read, none_warned, own_warning, own_fits, warned_at, total-default, memory_alone, passed_on}
-use Rattle.allocative_collectors.proofs.Made.{begun}
-use Rattle.allocative_collectors.specs.Finishing.{MakesPart}
 use Rattle.allocative_graph.proofs.NodeText.{popped, texts}
 use Rattle.allocative_collectors.proofs.tree.Tree.+make.Goals as goal
 use Rattle.allocative_collectors.proofs.tree.Tree.+make.Goals.{then-is_short+in_ok-push_warned, else-is_short, After-as_slice-child-items}
@@ -85,7 +83,7 @@ loop-child-preserved t c =
     let kept : c.pop.new.self.items ≡ c.args.keys.now.items = popped c.loop-child.keys.items c.make.new.keys.items c.pop.new.self.items c.as_str.result _ c.pop.ensures.rest c.make.new.keys.ok.0 (c.in_ok-below.ensures.keys ∙ c.in_ok-push.ensures.items) ∙ c.loop-child.invariant.keys in
     let is : c.add_child.new.self ≡ sum_of c.loop-child.graph (under (key_in ks j) c.in_ok-below.below) = c.in_ok-add_child.ensures.sum ∙ ap (λ (k : Key). sum_of c.loop-child.graph (under k c.in_ok-below.below)) (c.copy.ensures ∙ ap (λ (n : Node). n.key) c.index.ensures ∙ there.3 c.index.result.now) in
     let more = part_more c.args.self.now (listing_of c.self.inside.nodes.items c.self.invariant c.self.view_is) c.args.at c.requires.within ks (c.self.invariant.arena.rise c.args.at) j (omega (arith, c.loop-child-test.true, count t here)) _ there.2
-        (map seen c.args.warned.now.items) (map seen c.loop-child.warned.items) (map seen c.make.new.warned.items) c.loop-child.graph c.add_child.new.self c.in_ok-below.below c.loop-child.invariant.made c.in_ok-below.ensures.made is in
+    (map seen c.args.warned.now.items) (map seen c.loop-child.warned.items) (map seen c.make.new.warned.items) c.loop-child.graph c.add_child.new.self c.in_ok-below.below c.loop-child.invariant.made c.in_ok-below.ensures.made is in
     record { keys = kept; made = rw (add-one j) more }
 
 pub returns-clause-made : goal.returns-clause-made

@@ -1,5 +1,5 @@
 -- The child that was found, and the new one.
-use Rattle.std.proofs.Common.{◌≡◌, ℕ, false, List, length, map, set, get_or, [], ◌∷◌, ◌++◌, sym, ap, subst, ◌∙◌, refl}
+use Rattle.std.proofs.Common.{◌≡◌, ℕ, false, List, length, map, set, get_or, [], ◌∷◌, ◌++◌, sym, ap, subst, ◌∙◌}
 use Rattle.allocative_collectors.proofs.Common.{shape, leaf, Listed, IsEntered, IsTree, IsChild, keys_at, key_at, IsKeyGap, sums}
 use Rattle.std.proofs.lemmas.List.{length-map}
 use Rattle.std.specs.List.{insert}
