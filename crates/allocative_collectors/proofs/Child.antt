@@ -76,8 +76,9 @@ module _ (ns : List Shape) (ok : IsArena ns) (p : ℕ) (hp : p < length ns) (k :
         let rest = set ns p (with_children (insert (children_at ns p) g (length ns)) (at ns p)) in
         let len = length_grown ns ok p hp k g gap in
         let all : sums (grown ns p k g) ≡ sums ns ++ record { path = Q; bytes = 0; is_unique = false } ∷ [] =
-        grow_push [] rest (leaf p k) ∙ (ap (λ (s : Listed). s ++ sum_from (map path_of s) (leaf p k) ∷ []) (grow_same [] ns p _ refl) ∙ (ap (λ (x : Path). sums ns ++ record { path = x; bytes = 0; is_unique = false } ∷ [])
-        (path_from-some (map path_of (sums ns)) p k (omega (arith, ok.rooted, length_sums ns, length-map (sums ns) path_of)) ∙ ap (λ (x : Path). x ++ k ∷ []) (get_or-map path_of (sums ns) p root_sum [] (omega (arith, length_sums ns)))))) in
+        grow_push [] rest (leaf p k) ∙ (ap (λ (s : Listed). s ++ sum_from (map path_of s) (leaf p k) ∷ []) (grow_same [] ns p _ refl)
+        ∙ (ap (λ (x : Path). sums ns ++ record { path = x; bytes = 0; is_unique = false } ∷ []) (path_from-some (map path_of (sums ns)) p k (omega (arith, ok.rooted, length_sums ns, length-map (sums ns) path_of))
+        ∙ ap (λ (x : Path). x ++ k ∷ []) (get_or-map path_of (sums ns) p root_sum [] (omega (arith, length_sums ns)))))) in
         record {
           sums = all ∙ sym (put_push (length ns) Q 0 false (sums ns) (sym (length_sums ns)));
           not_root = ok.rooted;

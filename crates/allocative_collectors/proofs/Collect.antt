@@ -69,7 +69,8 @@ module _ (t : Listed) (met : List Identity) where
       λ i. record { sums = map_of t; met = from_list met; here = root i; back = stack i; open_visitors = length (stack i) }
 
 -- a content that was met for the first time
-pub gone_in : (t : Listed) (met now : List Identity) (current : ℕ) (places : List ℕ) (rooted : Bool) (i : Identity) → path_at t 0 ≡ [] → from_list {R = identity_cmp} now ≡ insert (from_list met) i → live t now 0 (places ++ current ∷ []) rooted ≡ go [] (record (live t met current places rooted) { met = insert (from_list met) i })
+pub gone_in : (t : Listed) (met now : List Identity) (current : ℕ) (places : List ℕ) (rooted : Bool) (i : Identity) → path_at t 0 ≡ []
+    → from_list {R = identity_cmp} now ≡ insert (from_list met) i → live t now 0 (places ++ current ∷ []) rooted ≡ go [] (record (live t met current places rooted) { met = insert (from_list met) i })
 gone_in t met now current places rooted i root one_new =
     went t now current 0 places (places ++ current ∷ []) rooted (rw (root, map-append (path_at t) places (current ∷ []), reverse-append (map (path_at t) places) (path_at t current ∷ [])) refl)
     ∙ (λ j. go (root j) (record (live t met current places rooted) { met = one_new j }))

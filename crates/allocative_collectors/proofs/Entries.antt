@@ -113,17 +113,20 @@ mark_is true = refl
 mark_is false = refl
 
 -- an entry below the root is added to the map too
-pub map_of-entered : {old new : Listed} {at : ℕ} {k : Key} {n : ℕ} {u : Bool} {i : ℕ} → IsEntered old new at k n u i → 0 < length old → map_of new ≡ bag.add (map_of old) (record { path = path_at old at ++ k ∷ []; size = n; mark = mark_of u })
+pub map_of-entered : {old new : Listed} {at : ℕ} {k : Key} {n : ℕ} {u : Bool} {i : ℕ} → IsEntered old new at k n u i → 0 < length old
+    → map_of new ≡ bag.add (map_of old) (record { path = path_at old at ++ k ∷ []; size = n; mark = mark_of u })
 map_of-entered {old} {at = at} {k = k} {n = n} {u = u} {i = i} entered some =
     ap map_of entered.sums ∙ by old i entered.not_root some (ap (λ (s : Listed). path_at s i) (sym entered.sums) ∙ entered.path) entered.sole
   where
-    by : (s : Listed) (i : ℕ) → 0 < i → 0 < length s → path_at (put i (path_at old at ++ k ∷ []) n u s) i ≡ path_at old at ++ k ∷ [] → ((j : ℕ) → j < length s → path_at s j ≡ path_at old at ++ k ∷ [] → j ≡ i) → map_of (put i (path_at old at ++ k ∷ []) n u s) ≡ bag.add (map_of s) (record { path = path_at old at ++ k ∷ []; size = n; mark = mark_of u })
+    by : (s : Listed) (i : ℕ) → 0 < i → 0 < length s → path_at (put i (path_at old at ++ k ∷ []) n u s) i ≡ path_at old at ++ k ∷ []
+        → ((j : ℕ) → j < length s → path_at s j ≡ path_at old at ++ k ∷ [] → j ≡ i)
+        → map_of (put i (path_at old at ++ k ∷ []) n u s) ≡ bag.add (map_of s) (record { path = path_at old at ++ k ∷ []; size = n; mark = mark_of u })
     by s zero pos some is sole = absurd (omega arith)
     by [] (suc i) pos some is sole = absurd (omega arith)
     by (r ∷ s) (suc i) pos some is sole =
         let p : Path = path_at old at ++ k ∷ [] in
         same_sums _ _ (λ q. get-from_entries path_total (map row (put i p n u s)) q ∙ (find-put i p q n u s is (λ j h w. tail_apart j i (sole (suc j) (omega arith) w))
-        ∙ (λ x. cond (is_same_path q p) (Some (together (sym (get-from_entries path_total (map row s) p) x) (record { bytes = n; is_unique = sym (mark_is u) x }))) (sym (get-from_entries path_total (map row s) q) x))
+        ∙ (λ x. cond (is_same_path q p) (Some (together (sym (get-from_entries path_total (map row s) p) x) (new_node n (sym (mark_is u) x)))) (sym (get-from_entries path_total (map row s) q) x))
         ∙ sym (get-add (map_of (r ∷ s)) (record { path = p; size = n; mark = mark_of u }) q)))
 
 -- ---- the places of different paths
@@ -174,7 +177,7 @@ graph_hit s ok zero h =
     ∙ ap (λ (n : ℕ). Some n) (sym (let e = sum_at s 0 in nothing_left e.is_unique e.bytes (bag.below (map_of s) e.path) ok.root_bytes))
 graph_hit s ok (suc i) h =
     let p = path_at s (suc i) in
-    graph_get (map_of s) p (λ w. (let same : suc i ≡ 0 = ok.apart (suc i) 0 h ok.rooted (w ∙ sym ok.root_path) in omega arith)) ∙ ap (option_map (remaining (map_of s) p)) (get_at s ok (suc i) (omega arith) h)
+    graph_get (map_of s) p (λ w. (let same = ok.apart (suc i) 0 h ok.rooted (w ∙ sym ok.root_path) in omega arith)) ∙ ap (option_map (remaining (map_of s) p)) (get_at s ok (suc i) (omega arith) h)
 
 pub graph_none : (s : Listed) → IsListing s → (q : Path) → ((i : ℕ) → i < length s → path_at s i ≢ q) → get (graph (map_of s)) q ≡ None
 graph_none s ok q other = graph_get (map_of s) q (λ w. other 0 ok.rooted (ok.root_path ∙ sym w)) ∙ ap (option_map (remaining (map_of s) q)) (get_none s q (λ i pos. other i))

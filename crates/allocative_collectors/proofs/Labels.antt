@@ -36,7 +36,8 @@ path_from-some [] i k some = absurd (omega arith)
 path_from-some (p ∷ ps) i k some = refl
 
 -- the path of a node after the first comes from that of a node before it
-path-grow : (ps : List Path) (ns : List Shape) (j : ℕ) → j < length ns → 0 < length ps + j → parent_at ns j < length ps + j → path_at (grow ps ns) j ≡ get_or (ps ++ map path_of (grow ps ns)) (parent_at ns j) [] ++ key_at ns j ∷ []
+path-grow : (ps : List Path) (ns : List Shape) (j : ℕ) → j < length ns → 0 < length ps + j → parent_at ns j < length ps + j
+    → path_at (grow ps ns) j ≡ get_or (ps ++ map path_of (grow ps ns)) (parent_at ns j) [] ++ key_at ns j ∷ []
 path-grow ps [] j h some lt = absurd (omega arith)
 path-grow ps (n ∷ ns) zero h some lt = path_from-some ps n.parent n.key (omega arith) ∙ ap (λ (p : Path). p ++ n.key ∷ []) (sym (get_or_append_left ps _ [] n.parent (omega arith)))
 path-grow ps (n ∷ ns) (suc j) h some lt =
@@ -104,7 +105,8 @@ module _ (ns : List Shape) (ok : IsArena ns) where
   -- the path of another node is its parent's with one more key
   pub step : (i : ℕ) → 0 < i → i < length ns → path_at (sums ns) i ≡ path_at (sums ns) (parent_at ns i) ++ key_at ns i ∷ []
   step i pos h =
-      path-grow [] ns i h (omega arith) (omega (arith, ok.parents i pos h)) ∙ ap (λ (p : Path). p ++ key_at ns i ∷ []) (get_or-map path_of (sums ns) (parent_at ns i) root_sum [] (omega (arith, length_sums ns)))
+      path-grow [] ns i h (omega arith) (omega (arith, ok.parents i pos h))
+      ∙ ap (λ (p : Path). p ++ key_at ns i ∷ []) (get_or-map path_of (sums ns) (parent_at ns i) root_sum [] (omega (arith, length_sums ns)))
 
   -- the key at a child's place
   pub key_place : (p i : ℕ) (c : IsChild ns p i) → (let a = ok.listed p i c in (a.place < length (keys_at ns p)) × (key_in (keys_at ns p) a.place ≡ key_at ns i))

@@ -61,7 +61,8 @@ begun ks j [] = true
 begun ks j (l ∷ q) = among ks j l
 
 -- a change of the test changes nothing where no path behind p is affected
-behind_same : {X : Type 0} (p : Path) (t u : Path → Bool) (f : Path → Option X) → ((r : Path) → cond (t r) (f (p ++ r)) None ≡ cond (u r) (f (p ++ r)) None) → (q : Path) → cond (behind p t q) (f q) None ≡ cond (behind p u q) (f q) None
+behind_same : {X : Type 0} (p : Path) (t u : Path → Bool) (f : Path → Option X) → ((r : Path) → cond (t r) (f (p ++ r)) None ≡ cond (u r) (f (p ++ r)) None) → (q : Path)
+    → cond (behind p t q) (f q) None ≡ cond (behind p u q) (f q) None
 behind_same [] t u f same q = same q
 behind_same (k ∷ p) t u f same [] = refl
 behind_same (k ∷ p) t u f same (l ∷ q) = elim (cases_Bool (same_key l k)) [
@@ -124,13 +125,16 @@ module _ {X : Type 0} where
       rw (false_from_ne_true (t e.0) (λ hit. not_before e.0 p (before e.0 p hit h) parts.0)) (none_kept t u p es before h parts.1)
 
   -- rows that pass one of two tests, where those that pass the first are before those that pass the second
-  kept_both : (t u v : Path → Bool) → ((q : Path) → v q ≡ (t q || u q)) → ((a b : Path) → t a ≡ true → u b ≡ true → path_cmp a b ≡ Less) → (es : List (Path × X)) → T (is_sorted path_cmp es) → kept v es ≡ kept t es ++ kept u es
+  kept_both : (t u v : Path → Bool) → ((q : Path) → v q ≡ (t q || u q)) → ((a b : Path) → t a ≡ true → u b ≡ true → path_cmp a b ≡ Less) → (es : List (Path × X)) → T (is_sorted path_cmp es)
+      → kept v es ≡ kept t es ++ kept u es
   kept_both t u v both before [] s = refl
   kept_both t u v both before (e ∷ es) s =
       let parts = both_parts (below_all path_cmp e.0 es) _ s in
       let rest = kept_both t u v both before es parts.1 in
       elim (cases_Bool (t e.0)) [
-        | inl hit ↦ rw (both e.0, hit, false_from_ne_true (u e.0) (λ h. let less = before e.0 e.0 hit h in not_before e.0 e.0 less (subst (λ (o : Ordering). T (is_lt o)) (sym less) tt))) (ap (λ (rs : List (Path × X)). e ∷ rs) rest)
+        | inl hit ↦
+            let other = false_from_ne_true (u e.0) (λ h. let less = before e.0 e.0 hit h in not_before e.0 e.0 less (subst (λ (o : Ordering). T (is_lt o)) (sym less) tt)) in
+            rw (both e.0, hit, other) (ap (λ (rs : List (Path × X)). e ∷ rs) rest)
         | inr miss ↦ elim (cases_Bool (u e.0)) [
           | inl found ↦ rw (both e.0, miss, found, rest, none_kept t u e.0 es before found parts.0) refl
           | inr missed ↦ rw (both e.0, miss, missed) rest
@@ -139,7 +143,8 @@ module _ {X : Type 0} where
 
 -- ---- the rows of a map
 -- the rows behind p, where the test passes other paths but no other of the map
-rows_same : {X : Type 0} (m : FinMap path_cmp X) (p : Path) (t u : Path → Bool) → ((r : Path) → cond (t r) (get m (p ++ r)) None ≡ cond (u r) (get m (p ++ r)) None) → kept (behind p t) (entries m) ≡ kept (behind p u) (entries m)
+rows_same : {X : Type 0} (m : FinMap path_cmp X) (p : Path) (t u : Path → Bool) → ((r : Path) → cond (t r) (get m (p ++ r)) None ≡ cond (u r) (get m (p ++ r)) None)
+    → kept (behind p t) (entries m) ≡ kept (behind p u) (entries m)
 rows_same m p t u same = kept_are (behind p t) m (kept (behind p u) (entries m)) (is_sorted-where_key path_cmp (behind p u) (entries m) (entries_sorted m))
     (λ q. behind_same p t u (get m) same q ∙ (ap (λ (o : Option _). cond (behind p u q) o None) (get-entries m q) ∙ sym (found_kept (behind p u) q (entries m))))
 
@@ -183,7 +188,8 @@ one_of false false x y h = refl
 rows_fit : (s : Listed) (p : Path) (t : Path → Bool) → sum_by (size_in s) (rows_behind s p t) ≤ entered (map_of s)
 rows_fit s p t =
     let both = sum_by-filter_both (λ (e : Path × Node). behind p t e.0) _ (λ e. refl) (size_in s) (entries (map_of s)) in
-    let each = sum_by-le-sum_by (size_in s) (λ (e : Path × Node). e.1.bytes) (entries (map_of s)) (λ e. cond_both e.1.is_unique e.1.bytes _ (λ (n : ℕ). n ≤ e.1.bytes) (λ _. omega arith) (λ _. omega arith)) in
+    let each = sum_by-le-sum_by (size_in s) (λ (e : Path × Node). e.1.bytes) (entries (map_of s))
+        (λ e. cond_both e.1.is_unique e.1.bytes _ (λ (n : ℕ). n ≤ e.1.bytes) (λ _. omega arith) (λ _. omega arith)) in
     omega arith
 
 pub part_fits : {s : Listed} {p : Path} {t : Path → Bool} {w w' : List Warned} {g : Graph} → MakesPart s p t w w' g → total g ≤ entered (map_of s)
@@ -243,7 +249,8 @@ module _ (s : Listed) (ok : IsListing s) where
       more : rows_behind s p (begun ks (suc j)) ≡ before ++ next
       more = kept_both _ _ _ (behind_more p ks j) (passed_before ks rise j hj p) (entries (map_of s)) (entries_sorted (map_of s))
 
-      pub part_more : (c : ℕ) → path_at s c ≡ p ++ k ∷ [] → (w w' w'' : List Warned) (g h d : Graph) → MakesPart s p (begun ks j) w w' g → MakesGraph s c w' w'' d → h ≡ sum_of g (under k d) → MakesPart s p (begun ks (suc j)) w w'' h
+      pub part_more : (c : ℕ) → path_at s c ≡ p ++ k ∷ [] → (w w' w'' : List Warned) (g h d : Graph) → MakesPart s p (begun ks j) w w' g → MakesGraph s c w' w'' d → h ≡ sum_of g (under k d)
+          → MakesPart s p (begun ks (suc j)) w w'' h
       part_more c there w w' w'' g h d part made is = record {
         warned_are = child.warned_are ∙ (ap (λ (l : List Warned). l ++ flat_map f next) part.warned_are
             ∙ (append_assoc w (flat_map f before) (flat_map f next) ∙ ap (λ (l : List Warned). w ++ l) (sym (ap (flat_map f) more ∙ flat_map-append f before next))));
@@ -290,7 +297,8 @@ module _ (ns : List Shape) (ok : IsArena ns) (i : ℕ) (hi : i < length ns) wher
 
 module _ (items : List nodes.Node) (ok : IsTree items) {v : Listed} (view : sums_of items ≡ v) (p : ℕ) where
   -- a child of a node, in the sums, and its key
-  pub child_read : (xs : List ℕ) → children_at (map shape items) p ≡ xs → (j : ℕ) → j < length xs → let i = get_or xs j 0 in (p < i) × (i < length v) × (path_at v i ≡ path_at v p ++ key_in (keys_at (map shape items) p) j ∷ []) × ((d : nodes.Node) → (let m = get_or items i d in m.key ≡ key_in (keys_at (map shape items) p) j))
+  pub child_read : (xs : List ℕ) → children_at (map shape items) p ≡ xs → (j : ℕ) → j < length xs
+      → let i = get_or xs j 0 in (p < i) × (i < length v) × (path_at v i ≡ path_at v p ++ key_in (keys_at (map shape items) p) j ∷ []) × ((d : nodes.Node) → (let m = get_or items i d in m.key ≡ key_in (keys_at (map shape items) p) j))
   child_read xs is j hj =
       let ns = map shape items in
       let c = child_seen items ok p xs is j hj in
@@ -300,7 +308,8 @@ module _ (items : List nodes.Node) (ok : IsTree items) {v : Listed} (view : sums
       let key = key_in (keys_at ns p) j in
       (omega (arith, c.0.parent), omega (arith, c.1, length_nodes items), subst (λ (s : Listed). path_at s (get_or xs j 0) ≡ path_at s p ++ key ∷ []) view path, λ d. sym (c.2 ∙ c.3 d))
 
-  pub made_all : p < length v → (w w' : List Warned) (g : Graph) (j : ℕ) → j ≡ length (keys_at (map shape items) p) → MakesPart v (path_at v p) (begun (keys_at (map shape items) p) j) w w' g → MakesGraph v p w w' g
+  pub made_all : p < length v → (w w' : List Warned) (g : Graph) (j : ℕ) → j ≡ length (keys_at (map shape items) p) → MakesPart v (path_at v p) (begun (keys_at (map shape items) p) j) w w' g
+      → MakesGraph v p w w' g
   made_all hp w w' g j whole part =
       let ks = keys_at (map shape items) p in
       subst (λ (s : Listed). MakesGraph s p w w' g) view (part_all (map shape items) ok.arena p (in_shapes items p view hp) w w' g

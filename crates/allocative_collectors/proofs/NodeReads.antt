@@ -56,7 +56,8 @@ module _ (ns : List Shape) (ok : IsArena ns) (i : ℕ) (hi : i < length ns) wher
   term (suc j) h =
       let q = parent_at ns (suc j) in
       let lt = ok.parents (suc j) (omega arith) h in
-      let right = (λ k. part (step ns ok (suc j) (omega arith) h k) ((figures-grow [] ns (suc j)).0 k)) ∙ ap (λ (b : Bool). cond b (bytes_at ns (suc j)) 0) (step_push (path_at (sums ns) i) (path_at (sums ns) q) (key_at ns (suc j))) in
+      let right = (λ k. part (step ns ok (suc j) (omega arith) h k) ((figures-grow [] ns (suc j)).0 k))
+          ∙ ap (λ (b : Bool). cond b (bytes_at ns (suc j)) 0) (step_push (path_at (sums ns) i) (path_at (sums ns) q) (key_at ns (suc j))) in
       elim (cases_eq q i) [
         | inl same ↦ cond-true (eqb q i) _ _ (eq-eqb q i same) ∙ sym (right ∙ cond-true _ _ _ (same_path-same _ _ (ap (path_at (sums ns)) same)))
         | inr other ↦ cond-false (eqb q i) _ _ (ne_eqb q i other) ∙ sym (right ∙ cond-false _ _ _ (same_path-apart _ _ (λ s. other (distinct ns ok q i (omega arith) hi s))))
@@ -157,7 +158,8 @@ module _ (items : List Node) (ok : IsTree items) {v : Listed} (view : sums_of it
         ∙ (λ j. let q = sym is j in set (mid j) q.parent (more_below size (at (mid j) q.parent))))
 
 -- the two writes of a new node, seen as shapes
-pub grown_nodes : (items : List Node) (p : ℕ) → p < length items → (n : Node) → n ≡ get_or items p n → (k : Key) (g : ℕ) (m fresh : Node) → shape fresh ≡ leaf p k → shape m ≡ with_children (insert n.children.items g (length items)) (shape n) → map shape (set items p m ++ fresh ∷ []) ≡ grown (map shape items) p k g
+pub grown_nodes : (items : List Node) (p : ℕ) → p < length items → (n : Node) → n ≡ get_or items p n → (k : Key) (g : ℕ) (m fresh : Node) → shape fresh ≡ leaf p k
+    → shape m ≡ with_children (insert n.children.items g (length items)) (shape n) → map shape (set items p m ++ fresh ∷ []) ≡ grown (map shape items) p k g
 grown_nodes items p hp n read k g m fresh fresh_is m_is =
     let is = shape_read items p n hp read in
     let same = m_is ∙ (λ j. (let s = sym is j in with_children (insert s.children g (sym (length-map items shape) j)) s)) in

@@ -78,15 +78,8 @@ impl GraphCollector {
         ensures err { IfErr result (Refuses is_unique size (OfGraph self.old)) }
         ensures kept { OnErr result (self.new ≡ self.old) }
     {
-        let here = self.current;
-        self.current = add(
-            &mut self.tree,
-            &mut self.entered,
-            here,
-            key,
-            size,
-            is_unique,
-        )?;
+        let at = self.current;
+        self.current = add(&mut self.tree, &mut self.entered, at, key, size, is_unique)?;
         Ok(())
     }
 

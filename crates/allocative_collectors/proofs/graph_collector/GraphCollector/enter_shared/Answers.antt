@@ -28,7 +28,8 @@ returns-clause-ok c =
       (
         sym (ap (λ (v : Live). contains v.met c.args.id) now) ∙ met_is i.met.keys c.args.id _ c.in_ok-insert.ensures.added ∙ ap not c.if-not-branch.false,
         (λ j. live i.tree c.insert.new.self.keys 0 (c.in_ok-push.ensures.items j) i.is_rooted)
-            ∙ gone_in i.tree i.met.keys c.insert.new.self.keys i.current i.places.items i.is_rooted c.args.id c.self.invariant.root_path (met_more i.met.keys c.insert.new.self.keys c.args.id c.in_ok-insert.ensures.updates.0)
+            ∙ gone_in i.tree i.met.keys c.insert.new.self.keys i.current i.places.items i.is_rooted c.args.id
+            c.self.invariant.root_path (met_more i.met.keys c.insert.new.self.keys c.args.id c.in_ok-insert.ensures.updates.0)
             ∙ ap (λ (v : Live). go [] (record v { met = insert v.met c.args.id })) now,
       ),
     )

@@ -5,7 +5,7 @@ use Rattle.std.proofs.lemmas.List.{length-map, map-append}
 use Rattle.allocative_graph.specs.Graph.{total}
 use Rattle.allocative_collectors.specs.declared.tree.Node.{Node}
 use Rattle.allocative_collectors.proofs.NodeReads.{in_nodes, children_read, figures_read, listing_of}
-use Rattle.allocative_collectors.proofs.Made.{part_start, part_more, part_fits, made_all, child_read, none_warned, own_warning, own_fits, warned_at, total-default, memory_alone, passed_on}
+use Rattle.allocative_collectors.proofs.Made.{begun, part_start, part_more, part_fits, made_all, child_read, none_warned, own_warning, own_fits, warned_at, total-default, memory_alone, passed_on}
 use Rattle.allocative_graph.proofs.NodeText.{popped, texts}
 use Rattle.allocative_collectors.proofs.tree.Tree.+make.Goals as goal
 use Rattle.allocative_collectors.proofs.tree.Tree.+make.Goals.{then-is_short+in_ok-push_warned, else-is_short, After-as_slice-child-items}
@@ -29,9 +29,9 @@ index-requires t c =
 pub returns-in_err-add_self-clause-err : goal.returns-in_err-add_self-clause-err
 returns-in_err-add_self-clause-err t c =
     let large : 2 ^ 64 ≤ total c.in_ok-graph.graph + c.size.result = c.in_err-add_self.ensures.too_large.0 (ap (λ (r : Refusal). Err r) c.in_err-add_self.ensures.no_other) in
-    let own : c.size.result ≤ entered (map_of c.args.self.now) = subst (λ (n : ℕ). n ≤ entered (map_of c.args.self.now)) (sym c.size.ensures) (own_fits c.args.self.now (listing_of c.self.inside.nodes.items c.self.invariant c.self.view_is) c.args.at c.requires.within []) in
+    let own = own_fits c.args.self.now (listing_of c.self.inside.nodes.items c.self.invariant c.self.view_is) c.args.at c.requires.within [] in
     let none : total c.in_ok-graph.graph ≡ 0 = ap total c.in_ok-graph.ensures ∙ total-default in
-    absurd {A = IfErr c.from_residual-in_err-add_self.result (λ e. e ≡ Memory)} (omega (arith, large, own, none, c.requires.fits))
+    absurd {A = IfErr c.from_residual-in_err-add_self.result (λ e. e ≡ Memory)} (omega (arith, large, own, none, c.size.ensures, c.requires.fits))
 
 pub loop-child-init : goal.loop-child-init
 loop-child-init t c =
@@ -49,7 +49,7 @@ loop-child-init t c =
           ∙ ap (λ (b : Bool). start ++ cond b (own_warning v i) []) w.if-is_short.ensures)))
       | else-is_short w ↦ ap (λ (x : Vec WarnedPath Global). map seen x.items) w.warned-is ∙ none_warned v i start w.if-is_short.ensures
     ] in
-    record { keys = refl; made = part_start v (listing_of c.self.inside.nodes.items c.self.invariant c.self.view_is) i c.requires.within (keys_at (map shape c.self.inside.nodes.items) i) start (map seen c.if-is_short.warned.items) c.add_self.new.self is found }
+    record { keys = refl; made = part_start v (listing_of c.self.inside.nodes.items c.self.invariant c.self.view_is) i c.requires.within (keys_at (map shape c.self.inside.nodes.items) i) _ _ _ is found }
 
 pub make-requires : goal.make-requires
 make-requires t c =
@@ -66,12 +66,11 @@ make-requires t c =
 pub returns-in_err-add_child-clause-err : goal.returns-in_err-add_child-clause-err
 returns-in_err-add_child-clause-err t c =
     let is : c.add_child.result ≡ Err c.in_err-add_child.field-0.0 = c.in_err-add_child.was in
-    let large : IsErrOf c.add_child.result TooLarge ↔ (2 ^ 64 ≤ total c.loop-child.graph + total c.in_ok-below.below) = c.add_child.ensures.too_large in
-    let never : ¬ (IsErrOf c.add_child.result Open) = c.add_child.ensures.never_open in
+    let fits : total c.loop-child.graph ≤ entered (map_of c.args.self.now) = part_fits {t = begun (keys_at (map shape c.self.inside.nodes.items) c.args.at) c.loop-child.child-index} c.loop-child.invariant.made in
     let memory : c.in_err-add_child.field-0.0 ≡ Memory =
     memory_alone c.in_err-add_child.field-0.0
-    (λ e. (let most = large.0 (is ∙ ap (λ (r : Refusal). Err r) e) in omega (arith, most, part_fits c.loop-child.invariant.made, part_fits c.in_ok-below.ensures.made, c.requires.fits)))
-    (λ e. never (is ∙ ap (λ (r : Refusal). Err r) e)) in
+    (λ e. (let most = c.add_child.ensures.too_large.0 (is ∙ ap (λ (r : Refusal). Err r) e) in omega (arith, most, fits, part_fits c.in_ok-below.ensures.made, c.requires.fits)))
+    (λ e. c.add_child.ensures.never_open (is ∙ ap (λ (r : Refusal). Err r) e)) in
     passed_on c.from_residual-in_err-add_child.result _ c.from_residual-in_err-add_child.ensures.1 (λ e w. w ∙ memory)
 
 pub loop-child-preserved : goal.loop-child-preserved
@@ -82,9 +81,12 @@ loop-child-preserved t c =
     let there = child t here j c.loop-child-test.true in
     let kept : c.pop.new.self.items ≡ c.args.keys.now.items = popped c.loop-child.keys.items c.make.new.keys.items c.pop.new.self.items c.as_str.result _ c.pop.ensures.rest c.make.new.keys.ok.0 (c.in_ok-below.ensures.keys ∙ c.in_ok-push.ensures.items) ∙ c.loop-child.invariant.keys in
     let is : c.add_child.new.self ≡ sum_of c.loop-child.graph (under (key_in ks j) c.in_ok-below.below) = c.in_ok-add_child.ensures.sum ∙ ap (λ (k : Key). sum_of c.loop-child.graph (under k c.in_ok-below.below)) (c.copy.ensures ∙ ap (λ (n : Node). n.key) c.index.ensures ∙ there.3 c.index.result.now) in
-    let more = part_more c.args.self.now (listing_of c.self.inside.nodes.items c.self.invariant c.self.view_is) c.args.at c.requires.within ks (c.self.invariant.arena.rise c.args.at) j (omega (arith, c.loop-child-test.true, count t here)) _ there.2
-    (map seen c.args.warned.now.items) (map seen c.loop-child.warned.items) (map seen c.make.new.warned.items) c.loop-child.graph c.add_child.new.self c.in_ok-below.below c.loop-child.invariant.made c.in_ok-below.ensures.made is in
-    record { keys = kept; made = rw (add-one j) more }
+    let listed = listing_of c.self.inside.nodes.items c.self.invariant c.self.view_is in
+    record {
+      keys = kept;
+      made = rw (add-one j) (part_more c.args.self.now listed c.args.at c.requires.within ks (c.self.invariant.arena.rise c.args.at) j (omega (arith, c.loop-child-test.true, count t here)) _ there.2
+          _ _ _ _ _ _ c.loop-child.invariant.made c.in_ok-below.ensures.made is);
+    }
 
 pub returns-clause-made : goal.returns-clause-made
-returns-clause-made t c = made_all c.self.inside.nodes.items c.self.invariant c.self.view_is c.args.at c.requires.within (map seen c.args.warned.now.items) (map seen c.loop-child.warned.items) c.loop-child.graph c.loop-child.child-index (let ended = c.loop-child.auto.child-index-end in omega (arith, count t (goal.at.returns-clause-made t c).After-as_slice-child-items)) c.loop-child.invariant.made
+returns-clause-made t c = made_all c.self.inside.nodes.items c.self.invariant c.self.view_is c.args.at c.requires.within _ _ _ c.loop-child.child-index (let ended = c.loop-child.auto.child-index-end in omega (arith, count t (goal.at.returns-clause-made t c).After-as_slice-child-items)) c.loop-child.invariant.made

@@ -29,7 +29,8 @@ made c =
     let index = c.in-Ok-try_from.ensures.1 ∙ (c.len-node.ensures ∙ c.self.inside.nodes.ok.0) in
     ap (map shape) c.in_ok-push-in-Err.ensures.items
     ∙ ((λ j. map shape (set (room j) c.args.at (record n { children = c.insert.new.self }) ++ c.new.result ∷ []))
-    ∙ grown_nodes items c.args.at (in_nodes items c.args.at c.self.view_is c.requires) n (c.index_mut.ensures.value ∙ ap (λ (l : List Node). get_or l c.args.at n) room) c.args.key.now c.in-Err.place _ c.new.result
+    ∙ grown_nodes items c.args.at (in_nodes items c.args.at c.self.view_is c.requires) n (c.index_mut.ensures.value ∙ ap (λ (l : List Node). get_or l c.args.at n) room)
+    c.args.key.now c.in-Err.place _ c.new.result
     (c.new.ensures ∙ ap (leaf c.args.at) c.copy.ensures)
     (λ j. with_children ((c.in_ok-insert-in-Err.ensures.ok ∙ ap (insert n.children.items c.in-Err.place) index) j) (shape n)))
 
