@@ -110,7 +110,6 @@ pub record IsChild (ns : List Shape) (p i : ℕ) : Type 0 where
 pub record IsArena (ns : List Shape) : Type 0 where
   pub rooted : 0 < length ns
   pub root_empty : bytes_at ns 0 ≡ 0
-  pub root_parent : parent_at ns 0 ≡ 0
   pub parents : (i : ℕ) → 0 < i → i < length ns → parent_at ns i < i
   pub listed : (p i : ℕ) → IsChild ns p i → StandsIn (children_at ns p) i
   pub children : (p : ℕ) → All (IsChild ns p) (children_at ns p)
