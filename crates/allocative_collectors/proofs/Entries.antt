@@ -1,15 +1,15 @@
 -- One more entry in the listed sums: what it leaves as it was, and what the map has at each place and after it.
 use Rattle.std.proofs.Common.{◌≡◌, ℕ, zero, suc, ◌+◌, ◌<◌, ◌≤◌, Bool, false, add-zero, zero-add, [], ◌∷◌, ◌++◌, length, refl, ap, ◌∙◌, arith, ◌≢◌, ◌-◌, true, cond, map, Option, Some, None, sym, sum_by}
-use Rattle.allocative_collectors.proofs.Common.{Key, Path, Sum, Listed, raise, put, path_at, IsEntered, Sums, get, find, path_cmp, is_same_path, is_one_below, is_unique_mark, graph, sum_at, row, map_of, size_at_place}
+use Rattle.allocative_collectors.proofs.Common.{Key, Path, Sum, Listed, put, path_at, IsEntered, Sums, get, path_cmp, is_same_path, is_one_below, graph, sum_at, row, map_of, size_at_place}
 use Rattle.std.proofs.Math.Bool.{or-false}
 use Rattle.std.proofs.lemmas.List.Sums.{sum_by-cons}
-use Rattle.allocative_collectors.specs.Listed.{total, rows}
-use Rattle.std.specs.FinMap.{from_entries, get-from_entries, insert}
+use Rattle.allocative_collectors.specs.Listed.{total, rows, raise}
+use Rattle.std.specs.FinMap.{from_entries, get-from_entries, insert, find}
 use Rattle.std.specs.Option.{option_map}
 use Rattle.std.proofs.lemmas.Bool.Decides.{nat_tests}
 use Rattle.std.proofs.lemmas.Bool.{cond-true, cond-false}
 use Rattle.allocative_graph.specs.Forest.{Mark, Entry, AsInline, AsUnique}
-use Rattle.allocative_graph.specs.Sums.{Node, together, node_of}
+use Rattle.allocative_graph.specs.Sums.{Node, together, node_of, is_unique_mark}
 use Rattle.allocative_graph.specs.Sums as bag
 use Rattle.allocative_graph.specs.Graph.{remaining}
 use Rattle.allocative_graph.proofs.Basics.{path_total, same_path}

@@ -1,6 +1,6 @@
 -- What the walk of `make` has passed behind a node's path, child by child: the rows of the map, and the graph that it has made.
 use Rattle.std.proofs.Common.{◌≡◌, ◌≢◌, ℕ, zero, suc, ◌<◌, ◌≤◌, Bool, true, false, cond, T, ◌&&◌, ◌||◌, List, [], ◌∷◌, ◌++◌, length, Option, Some, None, refl, sym, ap, subst, ◌∙◌, arith, inl, inr, true≢false, append_assoc, ◌+◌, map, flat_map, get_or, unwrap_or, sum_by, Result, Ok, Err, append-nil, add-zero, zero-add}
-use Rattle.allocative_collectors.proofs.Common.{Ordering, Less, is_eq, is_lt, ordering_then, Key, Path, key_cmp, path_cmp, key_in, KeysRise, is_same_path, Graph, Warned, graph, sum_of, under, default, add_self, get, entries, Refusal, Memory, TooLarge, Open, shape, sums_of, IsTree, Listed, row, sum_at, path_at, map_of, below, entered, sums, children_at, keys_at, IsArena, Shape, size_at_place, is_short, ordering_reverse}
+use Rattle.allocative_collectors.proofs.Common.{Ordering, Less, is_eq, is_lt, ordering_then, Key, Path, key_cmp, path_cmp, key_in, KeysRise, is_same_path, Graph, graph, sum_of, under, default, add_self, get, entries, Refusal, Memory, TooLarge, Open, shape, sums_of, IsTree, Listed, row, sum_at, path_at, map_of, below, entered, sums, children_at, keys_at, IsArena, Shape, size_at_place, ordering_reverse}
 use Rattle.std.specs.FinMap.{FinMap, entries_sorted, find, get-entries, get-insert}
 use Rattle.std.specs.FinMap.Entries.{is_sorted, below_all, is_sorted-where_key, find-where_key, same_entries}
 use Rattle.std.specs.List.{filter}
@@ -8,12 +8,12 @@ use Rattle.std.proofs.lemmas.Cmp.{tied_itself}
 use Rattle.std.proofs.lemmas.Bool.{and_parts, or_cases, or_left, or_right, cases_Bool, cases_eq, cond-true, cond-false, false_from_ne_true, cond_both}
 use Rattle.std.proofs.Math.Bool.{and-true, and-or_distrib_left}
 use Rattle.allocative_graph.proofs.Basics.{path_total, path_antisymmetric, same_path, is_eq-Equal}
-use Rattle.allocative_collectors.specs.Finishing.{behind, MakesPart, MakesGraph, rows_behind}
+use Rattle.allocative_collectors.specs.Finishing.{behind, MakesPart, MakesGraph, rows_behind, is_short}
 use Rattle.allocative_collectors.proofs.Keys.{key_total, key_same, tied, key_not_before}
 use Rattle.std.proofs.lemmas.Grind.{flat_map-append}
 use Rattle.std.proofs.lemmas.List.Filters.{sum_by-filter_both}
 use Rattle.std.proofs.lemmas.List.Sums.{sum_by-cons, sum_by-append, sum_by-le-sum_by}
-use Rattle.allocative_graph.specs.Graph.{total, remaining, warned, size_at}
+use Rattle.allocative_graph.specs.Graph.{total, remaining, warned, size_at, Warned}
 use Rattle.allocative_graph.specs.Sums.{Node}
 use Rattle.allocative_graph.proofs.Listing.{entries-from_entries-sorted}
 use Rattle.allocative_graph.proofs.Merge.{get-sum_of}

@@ -1,8 +1,8 @@
 -- The walk from the root has all paths.
 use Rattle.std.proofs.Common.{arith, ◌≡◌, ◌<◌, ◌^◌, ℕ, true, List, ◌++◌, map, Bor, sym, ap, subst, ◌∙◌, flat_map, Bool, false, not, ◌&&◌, cond, [], ◌∷◌, refl, nat_lt, append-nil}
-use Rattle.allocative_collectors.proofs.Common.{get, Path, Graph, graph, warned_paths, map_of, seen, warning_lines, entries, newline, Sums, below, is_root, warning_text, Listed}
+use Rattle.allocative_collectors.proofs.Common.{get, Path, Graph, graph, map_of, seen, warning_lines, entries, newline, Sums, below, is_root, warning_text, Listed}
 use Rattle.std.specs.FinMap.{same_map}
-use Rattle.allocative_graph.specs.Graph.{total, warned, warning, warning_line, warnings}
+use Rattle.allocative_graph.specs.Graph.{total, warned, warning, warning_line, warnings, warned_paths}
 use Rattle.allocative_graph.proofs.Basics.{path_total, path_antisymmetric}
 use Rattle.allocative_collectors.specs.Finishing.{rows_behind}
 use Rattle.allocative_collectors.proofs.Made.{part_fits}
