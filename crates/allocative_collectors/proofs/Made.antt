@@ -189,7 +189,7 @@ rows_fit : (s : Listed) (p : Path) (t : Path → Bool) → sum_by (size_in s) (r
 rows_fit s p t =
     let both = sum_by-filter_both (λ (e : Path × Node). behind p t e.0) _ (λ e. refl) (size_in s) (entries (map_of s)) in
     let each = sum_by-le-sum_by (size_in s) (λ (e : Path × Node). e.1.bytes) (entries (map_of s))
-        (λ e. cond_both e.1.is_unique e.1.bytes _ (λ (n : ℕ). n ≤ e.1.bytes) (λ _. omega arith) (λ _. omega arith)) in
+    (λ e. cond_both e.1.is_unique e.1.bytes _ (λ (n : ℕ). n ≤ e.1.bytes) (λ _. omega arith) (λ _. omega arith)) in
     omega arith
 
 pub part_fits : {s : Listed} {p : Path} {t : Path → Bool} {w w' : List Warned} {g : Graph} → MakesPart s p t w w' g → total g ≤ entered (map_of s)

@@ -57,7 +57,7 @@ module _ (ns : List Shape) (ok : IsArena ns) (i : ℕ) (hi : i < length ns) wher
       let q = parent_at ns (suc j) in
       let lt = ok.parents (suc j) (omega arith) h in
       let right = (λ k. part (step ns ok (suc j) (omega arith) h k) ((figures-grow [] ns (suc j)).0 k))
-          ∙ ap (λ (b : Bool). cond b (bytes_at ns (suc j)) 0) (step_push (path_at (sums ns) i) (path_at (sums ns) q) (key_at ns (suc j))) in
+      ∙ ap (λ (b : Bool). cond b (bytes_at ns (suc j)) 0) (step_push (path_at (sums ns) i) (path_at (sums ns) q) (key_at ns (suc j))) in
       elim (cases_eq q i) [
         | inl same ↦ cond-true (eqb q i) _ _ (eq-eqb q i same) ∙ sym (right ∙ cond-true _ _ _ (same_path-same _ _ (ap (path_at (sums ns)) same)))
         | inr other ↦ cond-false (eqb q i) _ _ (ne_eqb q i other) ∙ sym (right ∙ cond-false _ _ _ (same_path-apart _ _ (λ s. other (distinct ns ok q i (omega arith) hi s))))

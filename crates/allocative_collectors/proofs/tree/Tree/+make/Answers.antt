@@ -1,6 +1,6 @@
 -- A node's own size and warning, and then the graph of each child with the paths that have a warning.
-use Rattle.std.proofs.Common.{◌≡◌, ◌-◌, ◌+◌, ◌<◌, ℕ, Bool, cond, List, [], ◌∷◌, ◌++◌, map, length, get_or, Bor, Vec, Global, arith, sym, ap, subst, ◌∙◌, refl, Err, IfErr, IsErrOf, ◌↔◌, ◌^◌, ◌≤◌, add-one}
-use Rattle.allocative_collectors.proofs.Common.{Key, under, sum_of, default, add_self, WarnedPath, shape, path_at, keys_at, key_at, children_at, key_in, map_of, entered, size_at_place, seen, Refusal, Memory, TooLarge, Open}
+use Rattle.std.proofs.Common.{◌≡◌, ◌-◌, ◌+◌, ◌<◌, ℕ, Bool, cond, List, [], ◌∷◌, ◌++◌, map, length, get_or, Bor, Vec, Global, arith, sym, ap, ◌∙◌, refl, Err, IfErr, ◌^◌, ◌≤◌, add-one}
+use Rattle.allocative_collectors.proofs.Common.{Key, under, sum_of, default, add_self, WarnedPath, shape, path_at, keys_at, key_at, children_at, key_in, map_of, entered, size_at_place, seen, Refusal, Memory}
 use Rattle.std.proofs.lemmas.List.{length-map, map-append}
 use Rattle.allocative_graph.specs.Graph.{total}
 use Rattle.allocative_collectors.specs.declared.tree.Node.{Node}
