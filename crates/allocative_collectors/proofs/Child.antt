@@ -1,13 +1,15 @@
 -- What a search among a node's children says of the sums.
-use Rattle.std.proofs.Common.{◌≡◌, ◌≢◌, ℕ, zero, suc, ◌<◌, false, List, [], ◌∷◌, ◌++◌, length, sym, ap, subst, ◌∙◌, arith, inl, inr}
-use Rattle.allocative_collectors.proofs.Common.{Equal, Key, Path, key_cmp, path_at, IsEntered, Listed, root_sum, Shape, sums, keys_at, key_in, key_at, parent_at, IsChild, IsArena, IsKeyGap}
-use Rattle.std.proofs.lemmas.List.{get_or-map, get_or_push, same_from_push}
+use Rattle.std.proofs.Common.{◌≡◌, ◌≢◌, ℕ, zero, suc, ◌<◌, false, List, [], ◌∷◌, ◌++◌, length, sym, ap, subst, ◌∙◌, arith, inl, inr, refl, append_assoc, map, set}
+use Rattle.allocative_collectors.proofs.Common.{Equal, Key, Path, key_cmp, path_at, IsEntered, Listed, root_sum, Shape, leaf, at, children_at, sums, keys_at, key_in, key_at, parent_at, IsChild, IsArena, IsKeyGap}
+use Rattle.std.proofs.lemmas.List.{length-map, get_or-map, get_or_push, same_from_push}
 use Rattle.std.proofs.lemmas.Cmp.{tied_itself}
 use Rattle.std.proofs.lemmas.Bool.{cases_lt}
-use Rattle.allocative_collectors.proofs.Orders.{key_total}
-use Rattle.allocative_collectors.proofs.Adds.{put_nothing}
-use Rattle.allocative_collectors.proofs.Labels.{bare, path_of, sums_same, sums_push, put_push, length_sums, not_nil, root_at, step, key_place, distinct}
-use Rattle.allocative_collectors.proofs.Grown.{leaf, grown, length_grown, stood, written}
+use Rattle.allocative_collectors.proofs.Keys.{key_total}
+use Rattle.allocative_collectors.proofs.Entries.{put_nothing}
+use Rattle.allocative_collectors.proofs.Labels.{path_of, path_from-some, grow_same, grow_push, put_push, length_sums, not_nil, root_at, step, key_place, distinct}
+use Rattle.allocative_collectors.proofs.Grown.{grown, length_grown, with_children}
+use Rattle.std.specs.List.{insert}
+use Rattle.allocative_collectors.specs.Shapes.{sum_from}
 
 -- at a gap no child has the key
 gap_none : (ks : List Key) (k : Key) (g : ℕ) → IsKeyGap ks k g → (j : ℕ) → j < length ks → key_in ks j ≡ k → ⊥
@@ -17,6 +19,11 @@ gap_none ks k g gap j h e =
       | inl lt ↦ let less = gap.smaller_before j lt in cc
       | inr ge ↦ let more = gap.greater_after j ge h in cc
     ]
+
+-- a nonempty path is a beginning and a last key
+last_of : (k : Key) (q : Path) → (q' : Path) × (l : Key) × (k ∷ q ≡ q' ++ l ∷ [])
+last_of k [] = ([], k, refl)
+last_of k (x ∷ q) = let more = last_of x q in (k ∷ more.0, more.1, ap (λ (y : Path). k ∷ y) more.2)
 
 module _ (ns : List Shape) (ok : IsArena ns) (p : ℕ) (hp : p < length ns) (k : Key) where
   -- an entry of 0 bytes at a child with the key
@@ -40,6 +47,20 @@ module _ (ns : List Shape) (ok : IsArena ns) (p : ℕ) (hp : p < length ns) (k :
       let before = ok.parents (suc i) (omega arith) hi in
       (record { not_root = omega arith; in_range = hi; parent = distinct ns ok (parent_at ns (suc i)) p (omega arith) hp parts.0 }, parts.1)
 
+  -- a child of p has the key where a path begins with p's and the key
+  pub on_way : (n i : ℕ) → i < n → i < length ns → (q : Path) → path_at (sums ns) i ≡ path_at (sums ns) p ++ k ∷ q → (a : ℕ) × (a < length (keys_at ns p)) × (key_in (keys_at ns p) a ≡ k)
+  on_way zero i lt hi q e = absurd (omega arith)
+  on_way (suc n) zero lt hi q e = absurd (not_nil _ _ _ (sym e ∙ root_at ns))
+  on_way (suc n) (suc i) lt hi [] e =
+      let child = child_of (suc i) hi e in
+      let place = key_place ns ok p (suc i) child.0 in
+      (_, place.0, place.1 ∙ child.1)
+  on_way (suc n) (suc i) lt hi (x ∷ q) e =
+      let up = ok.parents (suc i) (omega arith) hi in
+      let l = last_of x q in
+      let split = ap (λ (y : Path). path_at (sums ns) p ++ k ∷ y) l.2 ∙ sym (append_assoc (path_at (sums ns) p) (k ∷ l.0) (l.1 ∷ [])) in
+      on_way n (parent_at ns (suc i)) (omega arith) (omega arith) l.0 (same_from_push _ _ _ _ (sym (step ns ok (suc i) (omega arith) hi) ∙ (e ∙ split))).0
+
   module _ (g : ℕ) (gap : IsKeyGap (keys_at ns p) k g) where
     -- the path of a key in a gap was not entered before
     path_new : (i : ℕ) → i < length (sums ns) → path_at (sums ns) i ≢ path_at (sums ns) p ++ k ∷ []
@@ -52,12 +73,12 @@ module _ (ns : List Shape) (ok : IsArena ns) (p : ℕ) (hp : p < length ns) (k :
     pub now_entered : IsEntered (sums ns) (sums (grown ns p k g)) p k 0 false (length ns)
     now_entered =
         let Q = path_at (sums ns) p ++ k ∷ [] in
-        let longer = ns ++ leaf p k ∷ [] in
-        let kept = stood ns ok p hp k g gap p hp in
+        let rest = set ns p (with_children (insert (children_at ns p) g (length ns)) (at ns p)) in
         let len = length_grown ns ok p hp k g gap in
         let all : sums (grown ns p k g) ≡ sums ns ++ record { path = Q; bytes = 0; is_unique = false } ∷ [] =
-        sums_same longer p (written ns ok p hp k g gap) (ap bare (sym kept))
-        ∙ (sums_push ns (leaf p k) ok.rooted ∙ ap (λ (x : Path). sums ns ++ record { path = x ++ k ∷ []; bytes = 0; is_unique = false } ∷ []) (get_or-map path_of (sums ns) p root_sum [] (omega (arith, length_sums ns)))) in
+        grow_push [] rest (leaf p k) ∙ (ap (λ (s : Listed). s ++ sum_from (map path_of s) (leaf p k) ∷ []) (grow_same [] ns p _ refl)
+        ∙ (ap (λ (x : Path). sums ns ++ record { path = x; bytes = 0; is_unique = false } ∷ []) (path_from-some (map path_of (sums ns)) p k (omega (arith, ok.rooted, length_sums ns, length-map (sums ns) path_of))
+        ∙ ap (λ (x : Path). x ++ k ∷ []) (get_or-map path_of (sums ns) p root_sum [] (omega (arith, length_sums ns)))))) in
         record {
           sums = all ∙ sym (put_push (length ns) Q 0 false (sums ns) (sym (length_sums ns)));
           not_root = ok.rooted;

@@ -1,21 +1,19 @@
 -- The parts of a flame graph's collector after each step: an entry, a visitor that is entered or left, an identity that is met.
-use Rattle.std.proofs.Common.{◌≡◌, ◌≢◌, ℕ, pred, ◌+◌, ◌^◌, ◌<◌, ◌≤◌, Bool, true, false, cond, not, ◌||◌, ◌&&◌, ◌==◌, List, [], ◌∷◌, ◌++◌, map, reverse, length, get_or, refl, sym, ap, ◌∙◌, arith, inl, inr, length-append}
-use Rattle.allocative_collectors.proofs.Common.{contains, Key, Path, AsInline, is_unique_mark, Live, go, leave_live, enter_live, enter_again, enter_first, Listed, path_at, map_of, live, IsPlaced}
+use Rattle.std.proofs.Common.{◌≡◌, ℕ, pred, ◌+◌, ◌^◌, ◌<◌, Bool, true, false, cond, not, ◌||◌, ◌&&◌, ◌==◌, List, [], ◌∷◌, ◌++◌, map, reverse, length, refl, sym, ap, ◌∙◌, arith, length-append}
+use Rattle.allocative_collectors.proofs.Common.{contains, Key, Path, Live, go, leave_live, enter_live, Listed, path_at, map_of, live, IsPlaced}
 use Rattle.std.specs.List.{list_any}
 use Rattle.std.specs.FinSet.{from_list, insert, same_set, contains-from_list, contains-insert}
-use Rattle.std.proofs.lemmas.List.{map-append, reverse-append, length-map, length-reverse, get_or_append_left, get_or_push, length_push, nil_from_length}
-use Rattle.std.proofs.lemmas.Bool.{cases_lt}
+use Rattle.std.proofs.lemmas.List.{map-append, reverse-append, length-map, length-reverse, nil_from_length}
 use Rattle.std.proofs.lemmas.Bool.Decides.{nat_tests}
 use Rattle.allocative_graph.specs.Identity.{Identity, identity_cmp, is_same_identity}
-use Rattle.allocative_graph.specs.Forest.{Mark, AsShared, Entry}
+use Rattle.allocative_graph.specs.Forest.{Entry}
 use Rattle.allocative_graph.specs.Sums as bag
 use Rattle.allocative_graph.specs.Collector.{last_of, without_last}
 use Rattle.allocative_graph.proofs.Basics.{identity_total, identity_antisymmetric, same_identity_turned}
 use Rattle.allocative_collectors.specs.Places.{to_root, outside, back_from, back_at, AddedAt}
-use Rattle.allocative_collectors.proofs.Adds.{total_entered, length_entered, path_entered}
+use Rattle.allocative_collectors.proofs.Entries.{total_entered, length_entered, path_entered, map_of-entered, mark_of}
 use Rattle.allocative_graph.proofs.Below.{entered-add}
 use Rattle.allocative_collectors.proofs.Keys.{map_same}
-use Rattle.allocative_collectors.proofs.Bridge.{map_of-entered, mark_of, mark_is}
 
 -- ---- the identities
 -- equal in both parts
@@ -37,19 +35,13 @@ met_more old new i more = same_set identity_total identity_antisymmetric _ _ (λ
     sym (among new q) ∙ (more q ∙ (one_more (is_equal i q) (list_any (is_equal q) old)
     ∙ ((λ k. (one_identity i q ∙ same_identity_turned i q) k || among old q k) ∙ sym (contains-insert identity_total (from_list old) i q)))))
 
-pub not_met : (ks : List Identity) (i : Identity) → true ≡ not (list_any (is_equal i) ks) → contains (from_list {R = identity_cmp} ks) i ≡ false
-not_met ks i e = sym (among ks i) ∙ grind arith
-
-pub was_met : (ks : List Identity) (i : Identity) → false ≡ not (list_any (is_equal i) ks) → contains (from_list {R = identity_cmp} ks) i ≡ true
-was_met ks i e = sym (among ks i) ∙ grind arith
+pub met_is : (ks : List Identity) (i : Identity) (new : Bool) → new ≡ not (list_any (is_equal i) ks) → contains (from_list {R = identity_cmp} ks) i ≡ not new
+met_is ks i new e = sym (among ks i) ∙ grind arith
 
 -- ---- going down and back
 outside_push : (p : Path) (k : Key) → outside (p ++ k ∷ []) ≡ p ∷ outside p
 outside_push [] k = refl
 outside_push (x ∷ p) k = ap (λ (l : List Path). map (λ (q : Path). x ∷ q) l ++ [] ∷ []) (outside_push p k)
-
-turned : (f : ℕ → Path) (places : List ℕ) (current : ℕ) → reverse (map f (places ++ current ∷ [])) ≡ f current ∷ reverse (map f places)
-turned f places current = ap reverse (map-append f places (current ∷ [])) ∙ reverse-append (map f places) (f current ∷ [])
 
 module _ (t : Listed) (met : List Identity) where
   module _ (outer inner : ℕ) (before after : List ℕ) (rooted : Bool) (stack : back_at t inner after rooted ≡ path_at t outer ∷ back_at t outer before rooted) where
@@ -71,29 +63,25 @@ module _ (t : Listed) (met : List Identity) where
       let rest = back_from (reverse (map (path_at t) places)) (to_root rooted) in
       ap (λ (q : Path). outside q ++ rest) path ∙ ap (λ (l : List Path). l ++ rest) (outside_push (path_at t outer) k)
 
-  -- a content's root and the place where it was entered
-  pub one_out : (outer inner : ℕ) (before after : List ℕ) (rooted : Bool) → path_at t inner ≡ [] → after ≡ before ++ outer ∷ [] → back_at t inner after rooted ≡ path_at t outer ∷ back_at t outer before rooted
-  one_out outer inner before after rooted root is =
-      ap (λ (q : Path). outside q ++ back_from (reverse (map (path_at t) after)) (to_root rooted)) root
-      ∙ ap (λ (l : List Path). back_from l (to_root rooted)) (ap (λ (l : List ℕ). reverse (map (path_at t) l)) is ∙ turned (path_at t) before outer)
-
   pub at_root : (current : ℕ) → path_at t current ≡ [] → live t met current [] true ≡ go [] (live t met current [] false)
   at_root current root =
       let stack : back_at t current [] true ≡ path_at t current ∷ back_at t current [] false = (λ i. outside (root i) ++ [] ∷ []) ∙ (λ i. sym root i ∷ outside (sym root i) ++ []) in
       λ i. record { sums = map_of t; met = from_list met; here = root i; back = stack i; open_visitors = length (stack i) }
 
+-- a content that was met for the first time
+pub gone_in : (t : Listed) (met now : List Identity) (current : ℕ) (places : List ℕ) (rooted : Bool) (i : Identity) → path_at t 0 ≡ []
+    → from_list {R = identity_cmp} now ≡ insert (from_list met) i → live t now 0 (places ++ current ∷ []) rooted ≡ go [] (record (live t met current places rooted) { met = insert (from_list met) i })
+gone_in t met now current places rooted i root one_new =
+    went t now current 0 places (places ++ current ∷ []) rooted (rw (root, map-append (path_at t) places (current ∷ []), reverse-append (map (path_at t) places) (path_at t current ∷ [])) refl)
+    ∙ (λ j. go (root j) (record (live t met current places rooted) { met = one_new j }))
+
 -- ---- no visitor is open
-length_outside : (p : Path) → length (outside p) ≡ length p
-length_outside [] = refl
-length_outside (k ∷ p) = omega (arith, length-append (map (λ (q : Path). k ∷ q) (outside p)) ([] ∷ []), length-map (outside p) (λ (q : Path). k ∷ q), length_outside p)
-
-not_rooted : (rooted : Bool) → length (to_root rooted) ≡ 0 → rooted ≡ false
-not_rooted true e = absurd (omega arith)
-not_rooted false e = refl
-
-length_from : (ps last : List Path) → length ps + length last ≤ length (back_from ps last)
-length_from [] last = omega arith
-length_from (p ∷ ps) last = omega (arith, length-append (outside p) (back_from ps last), length_from ps last)
+-- where there is no path to go back to
+none_back : (p : Path) (ps : List Path) (rooted : Bool) → length (outside p ++ back_from ps (to_root rooted)) ≡ 0 → (p ≡ []) × (length ps ≡ 0) × (rooted ≡ false)
+none_back [] [] true e = absurd (omega arith)
+none_back [] [] false e = (refl, refl, refl)
+none_back [] (p ∷ ps) rooted e = absurd (omega arith)
+none_back (k ∷ p) ps rooted e = absurd (omega (arith, e, length-append (outside (k ∷ p)) (back_from ps (to_root rooted)), length-append (map (λ (q : Path). k ∷ q) (outside p)) ([] ∷ [])))
 
 -- the current place is the root, and no content and no root visitor is open
 pub record IsOut (t : Listed) (current : ℕ) (places : List ℕ) (rooted : Bool) : Type 0 where
@@ -102,44 +90,19 @@ pub record IsOut (t : Listed) (current : ℕ) (places : List ℕ) (rooted : Bool
   pub no_visitor : rooted ≡ false
 
 module _ (t : Listed) (current : ℕ) (places : List ℕ) (rooted : Bool) where
-  length_back : length (path_at t current) + (length places + length (to_root rooted)) ≤ length (back_at t current places rooted)
-  length_back =
-      let ps = reverse (map (path_at t) places) in
-      let many : length ps ≡ length places = length-reverse (map (path_at t) places) ∙ length-map places (path_at t) in
-      omega (arith, length-append (outside (path_at t current)) (back_from ps (to_root rooted)), length_outside (path_at t current), length_from ps (to_root rooted), many)
-
-  pub not_closed : (outer : ℕ) (k : Key) → path_at t current ≡ path_at t outer ++ k ∷ [] → length (back_at t current places rooted) ≢ 0
-  not_closed outer k path none = let longer = ap length path in omega (arith, length_back, none, length-append (path_at t outer) (k ∷ []))
-
   pub closed : length (back_at t current places rooted) ≡ 0 → IsOut t current places rooted
-  closed none = record {
-    root = nil_from_length (path_at t current) (omega (arith, length_back, none));
-    no_place = nil_from_length places (omega (arith, length_back, none));
-    no_visitor = not_rooted rooted (omega (arith, length_back, none));
-  }
+  closed none =
+      let out = none_back (path_at t current) (reverse (map (path_at t) places)) rooted none in
+      record {
+        root = out.0;
+        no_place = nil_from_length places (omega (arith, out.1, length-reverse (map (path_at t) places), length-map places (path_at t)));
+        no_visitor = out.2;
+      }
 
   pub nothing_back : IsOut t current places rooted → back_at t current places rooted ≡ []
   nothing_back o =
       ap (λ (q : Path). outside q ++ back_from (reverse (map (path_at t) places)) (to_root rooted)) o.root
       ∙ (ap (λ (l : List ℕ). back_from (reverse (map (path_at t) l)) (to_root rooted)) o.no_place ∙ ap to_root o.no_visitor)
-
--- ---- the places
-pub placed_at : {t : Listed} {current : ℕ} {places : List ℕ} {n : ℕ} → IsPlaced t current places n → (node : ℕ) → node < length t → (ps : List ℕ) → ((j : ℕ) → j < length ps → get_or ps j 0 < length t) → IsPlaced t node ps n
-placed_at ok node h ps back = record {
-  here = h;
-  back = back;
-  entered_is = ok.entered_is;
-  total_is = ok.total_is;
-  bound = ok.bound;
-  rooted = ok.rooted;
-  root_path = ok.root_path;
-}
-
-pub placed_gone : {t : Listed} {current : ℕ} {places : List ℕ} {n : ℕ} → IsPlaced t current places n → (node : ℕ) → node < length t → IsPlaced t node (places ++ current ∷ []) n
-placed_gone {current = current} {places = places} ok node h = placed_at ok node h (places ++ current ∷ []) (λ j hj. elim (cases_lt j (length places)) [
-  | inl lt ↦ rw (get_or_append_left places (current ∷ []) 0 j lt) (ok.back j lt)
-  | inr ge ↦ rw (get_or_push places current 0 j (omega (arith, length_push places current))) ok.here
-])
 
 -- ---- a whole step
 pub enter_is : (u : Bool) (k : Key) (n : ℕ) (c : Live) → go (c.here ++ k ∷ []) (record c { sums = bag.add c.sums (record { path = c.here ++ k ∷ []; size = n; mark = mark_of u }) }) ≡ enter_live u k n c
@@ -148,16 +111,16 @@ enter_is false k n c = refl
 
 module _ {t new : Listed} {current : ℕ} {places : List ℕ} {n : ℕ} (ok : IsPlaced t current places n) {k : Key} {size : ℕ} {u : Bool} {more node : ℕ} (entered : AddedAt t new current k size u n more node) where
   -- the entry in the bag
-  abbrev one : Mark → Entry
-  one m = record { path = path_at t current ++ k ∷ []; size = size; mark = m }
+  abbrev one : Entry
+  one = record { path = path_at t current ++ k ∷ []; size = size; mark = mark_of u }
 
-  pub placed_added : IsPlaced new current places more
-  placed_added = record {
-    here = omega (arith, length_entered entered.is, ok.here);
+  -- the current place may stay or be that of the entry
+  pub placed_added : (now : ℕ) → now < length new → IsPlaced new now places more
+  placed_added now within = record {
+    here = within;
     back = λ j h. let old = ok.back j h in omega (arith, length_entered entered.is);
     entered_is =
-        let same = ap bag.entered (map_of-entered entered.is ok.rooted (mark_of u) (mark_is u)) in
-        omega (arith, ok.entered_is, entered.count, same, entered-add (map_of t) (one (mark_of u)));
+        omega (arith, ok.entered_is, entered.count, ap bag.entered (map_of-entered entered.is ok.rooted), entered-add (map_of t) one);
     total_is = omega (arith, ok.total_is, entered.count, total_entered entered.is);
     bound = omega (arith, entered.fits, entered.count);
     rooted = omega (arith, length_entered entered.is, ok.rooted);
@@ -168,9 +131,9 @@ module _ {t new : Listed} {current : ℕ} {places : List ℕ} {n : ℕ} (ok : Is
   fits_map = omega (arith, ok.entered_is, entered.fits)
 
   module _ (met : List Identity) (rooted : Bool) where
-    live_added : (m : Mark) → is_unique_mark m ≡ u → live new met current places rooted ≡ record (live t met current places rooted) { sums = bag.add (map_of t) (one m) }
-    live_added m mark = λ i. record {
-      sums = map_of-entered entered.is ok.rooted m mark i;
+    pub live_added : live new met current places rooted ≡ record (live t met current places rooted) { sums = bag.add (map_of t) one }
+    live_added = λ i. record {
+      sums = map_of-entered entered.is ok.rooted i;
       met = from_list met;
       here = path_entered entered.is current ok.here i;
       back = back i;
@@ -183,16 +146,5 @@ module _ {t new : Listed} {current : ℕ} {places : List ℕ} {n : ℕ} (ok : Is
     pub gone_down : live new met node places rooted ≡ enter_live u k size (live t met current places rooted)
     gone_down =
         went new met current node places places rooted (one_up new met current node places rooted k (entered.is.path ∙ ap (λ (q : Path). q ++ k ∷ []) (sym (path_entered entered.is current ok.here))))
-        ∙ (λ i. go (entered.is.path i) (live_added (mark_of u) (mark_is u) i))
+        ∙ (λ i. go (entered.is.path i) (live_added i))
         ∙ enter_is u k size (live t met current places rooted)
-
-    pub gone_first : (i : Identity) (now : List Identity) → from_list {R = identity_cmp} now ≡ insert (from_list met) i → u ≡ false → live new now 0 (places ++ current ∷ []) rooted ≡ enter_first k size i (live t met current places rooted)
-    gone_first i now one_new plain =
-        went new now current 0 places (places ++ current ∷ []) rooted (one_out new now current 0 places (places ++ current ∷ []) rooted placed_added.root_path refl)
-        ∙ (λ j. go (placed_added.root_path j) (record (live_added (AsShared i) (sym plain) j) { met = one_new j }))
-
-    pub stayed_simple : u ≡ false → live new met current places rooted ≡ leave_live (enter_live false k size (live t met current places rooted))
-    stayed_simple plain = live_added AsInline (sym plain)
-
-    pub stayed : (i : Identity) → u ≡ false → live new met current places rooted ≡ enter_again k size i (live t met current places rooted)
-    stayed i plain = live_added (AsShared i) (sym plain)

@@ -1,25 +1,20 @@
 -- An arena with one more node, which has no entry yet.
-use Rattle.std.proofs.Common.{◌≡◌, ◌≢◌, ℕ, ◌+◌, ◌-◌, ◌<◌, ◌≤◌, false, List, [], ◌∷◌, ◌++◌, length, get_or, set, take, drop, refl, sym, ap, subst, ◌∙◌, arith, inl, inr, get_or-set_same, get_or-set_other, length-set}
-use Rattle.allocative_collectors.proofs.Common.{key_at, Less, ordering_reverse, Key, key_cmp, Shape, no_shape, at, children_at, keys_of, keys_at, key_in, parent_at, below_of, share, KeysRise, StandsIn, IsChild, IsArena, IsKeyGap}
+use Rattle.std.proofs.Common.{◌≡◌, ◌≢◌, ℕ, ◌+◌, ◌-◌, ◌<◌, ◌≤◌, List, [], ◌∷◌, ◌++◌, length, get_or, set, take, drop, refl, sym, ap, subst, ◌∙◌, arith, inl, inr, get_or-set_same, get_or-set_other, length-set}
+use Rattle.allocative_collectors.proofs.Common.{key_at, Less, ordering_reverse, Key, key_cmp, Shape, leaf, no_shape, at, children_at, keys_of, keys_at, key_in, parent_at, below_of, share, KeysRise, StandsIn, IsChild, IsArena, IsKeyGap}
 use Rattle.std.specs.List.{All, insert}
 use Rattle.std.proofs.lemmas.List.Elements.{All-append, All-cons, All-drop, All-take, All-weaker}
-use Rattle.std.proofs.lemmas.List.{get_or_append_left, get_or_push, length_push}
+use Rattle.std.proofs.lemmas.List.{length-map, get_or_append_left, get_or_push, length_push}
 use Rattle.std.proofs.lemmas.List.Edits.{length-insert, get_or-insert_below, get_or-insert_at}
 use Rattle.std.proofs.lemmas.List.Sums.{sum_by_push, sum_by-set}
 use Rattle.std.proofs.lemmas.Bool.{cases_order, cases_eq}
-use Rattle.allocative_collectors.proofs.Orders.{key_total}
-use Rattle.allocative_collectors.proofs.Keys.{length-keys_of, map_same, keys_of-insert, insert_above, stands_insert, touched, pushed}
-
--- a node with no bytes and no children
-abbrev pub leaf : ℕ → Key → Shape
-leaf p k = record { key = k; parent = p; children = []; bytes = 0; is_unique = false; below = 0 }
+use Rattle.allocative_collectors.proofs.Keys.{map_same, keys_of-insert, insert_above, stands_insert, touched, pushed, key_total}
 
 abbrev pub with_children : List ℕ → Shape → Shape
 with_children xs n = record n { children = xs }
 
 -- the arena with a new node under p, whose key k is put at place g among the children
 abbrev pub grown : List Shape → ℕ → Key → ℕ → List Shape
-grown ns p k g = set (ns ++ leaf p k ∷ []) p (with_children (insert (children_at ns p) g (length ns)) (at ns p))
+grown ns p k g = set ns p (with_children (insert (children_at ns p) g (length ns)) (at ns p)) ++ leaf p k ∷ []
 
 -- keys stay in order when a key is put into its gap
 rise_insert : (ks : List Key) (k : Key) (g : ℕ) → IsKeyGap ks k g → KeysRise ks → KeysRise (insert ks g k)
@@ -41,97 +36,95 @@ module _ (ns : List Shape) (ok : IsArena ns) (p : ℕ) (hp : p < length ns) (k :
   abbrev new : List Shape
   new = grown ns p k g
 
-  abbrev pub written : Shape
+  abbrev written : Shape
   written = with_children (insert (children_at ns p) g (length ns)) (at ns p)
 
-  pub length_grown : length (grown ns p k g) ≡ length ns + 1
-  length_grown = omega (arith, length-set (ns ++ leaf p k ∷ []) p written, length_push ns (leaf p k))
+  abbrev rest : List Shape
+  rest = set ns p written
 
-  pub stood : (i : ℕ) → i < length ns → at (ns ++ leaf p k ∷ []) i ≡ at ns i
-  stood i h = get_or_append_left ns _ no_shape i h
+  length_rest : length rest ≡ length ns
+  length_rest = length-set ns p written
+
+  pub length_grown : length (grown ns p k g) ≡ length ns + 1
+  length_grown = omega (arith, length_rest, length_push rest (leaf p k))
 
   at_leaf : at new (length ns) ≡ leaf p k
-  at_leaf = get_or-set_other (ns ++ leaf p k ∷ []) p (length ns) _ no_shape (omega arith) ∙ get_or_push ns (leaf p k) no_shape (length ns) refl
+  at_leaf = get_or_push rest (leaf p k) no_shape (length ns) length_rest
 
   -- what does not depend on the children is unchanged
   before : {X : Type 0} (f : Shape → X) → f written ≡ f (at ns p) → (i : ℕ) → i < length ns → f (at new i) ≡ f (at ns i)
-  before f same i h = touched f (ns ++ leaf p k ∷ []) p written (same ∙ ap f (sym (stood p hp))) i ∙ ap f (stood i h)
+  before f same i h = ap f (get_or_append_left rest _ no_shape i (omega (arith, length_rest))) ∙ touched f ns p written same i
 
   -- and at each place, where a leaf has what a missing node has
   everywhere : (f : Shape → ℕ) → f written ≡ f (at ns p) → f (leaf p k) ≡ f no_shape → (i : ℕ) → f (at new i) ≡ f (at ns i)
-  everywhere f same none i = touched f (ns ++ leaf p k ∷ []) p written (same ∙ ap f (sym (stood p hp))) i ∙ pushed f ns (leaf p k) none i
+  everywhere f same none i = pushed f rest (leaf p k) none i ∙ touched f ns p written same i
 
   parent_before : (i : ℕ) → i < length ns → parent_at new i ≡ parent_at ns i
   parent_before = before (λ n. n.parent) refl
 
   children_other : (q : ℕ) → q ≢ p → children_at new q ≡ children_at ns q
-  children_other q ne = ap (λ (n : Shape). n.children) (get_or-set_other (ns ++ leaf p k ∷ []) p q _ no_shape ne) ∙ pushed (λ n. n.children) ns (leaf p k) refl q
+  children_other q ne = pushed (λ n. n.children) rest (leaf p k) refl q ∙ ap (λ (n : Shape). n.children) (get_or-set_other ns p q _ no_shape ne)
 
   children_parent : children_at new p ≡ insert (children_at ns p) g (length ns)
-  children_parent = ap (λ (n : Shape). n.children) (get_or-set_same (ns ++ leaf p k ∷ []) p written no_shape (omega (arith, length_push ns (leaf p k))))
+  children_parent = ap (λ (n : Shape). n.children) (get_or_append_left rest _ no_shape p (omega (arith, length_rest)) ∙ get_or-set_same ns p written no_shape hp)
 
   -- the keys of the children before
   keys_stood : (q : ℕ) → keys_of new (children_at ns q) ≡ keys_at ns q
   keys_stood q = map_same (key_at new) (key_at ns) (children_at ns q) (λ j h. before (λ n. n.key) refl (get_or (children_at ns q) j 0) (ok.children q j 0 h).in_range)
 
-  keys_parent : keys_at new p ≡ insert (keys_at ns p) g k
-  keys_parent = ap (keys_of new) children_parent ∙ (keys_of-insert new (children_at ns p) g (length ns) ∙ (λ i. insert (keys_stood p i) g (ap (λ (n : Shape). n.key) at_leaf i)))
+  keys_parent : keys_of new (insert (children_at ns p) g (length ns)) ≡ insert (keys_at ns p) g k
+  keys_parent = keys_of-insert new (children_at ns p) g (length ns) ∙ (λ i. insert (keys_stood p i) g (ap (λ (n : Shape). n.key) at_leaf i))
+
+  -- what holds of the new children of p and of the others as they were
+  by_parent : (P : ℕ → List ℕ → Type 0) → P p (insert (children_at ns p) g (length ns)) → ((q : ℕ) → q ≢ p → P q (children_at ns q)) → (q : ℕ) → P q (children_at new q)
+  by_parent P here others q = elim (cases_eq q p) [
+    | inl e ↦ subst (λ (x : ℕ). P x (children_at new x)) (sym e) (subst (P p) (sym children_parent) here)
+    | inr ne ↦ subst (P q) (sym (children_other q ne)) (others q ne)
+  ]
 
   gap_within : g ≤ length (children_at ns p)
-  gap_within = omega (arith, gap.in_range, length-keys_of ns (children_at ns p))
+  gap_within = omega (arith, gap.in_range, length-map (children_at ns p) (key_at ns))
 
   child_before : (q i : ℕ) → IsChild ns q i → IsChild new q i
   child_before q i old = record { not_root = old.not_root; in_range = omega (arith, length_grown, old.in_range); parent = parent_before i old.in_range ∙ old.parent }
 
+  stood : (q i : ℕ) → i ≢ length ns → IsChild new q i → StandsIn (children_at ns q) i
+  stood q i ne c =
+      let inside : i < length ns = omega (arith, length_grown, c.in_range) in
+      ok.listed q i (record { not_root = c.not_root; in_range = inside; parent = sym (parent_before i inside) ∙ c.parent })
+
   listed : (q i : ℕ) → IsChild new q i → StandsIn (children_at new q) i
-  listed q i c = elim (cases_eq i (length ns)) [
-    | inl e ↦
-        let parent : p ≡ q = sym (ap (λ (n : Shape). n.parent) at_leaf) ∙ (ap (parent_at new) (sym e) ∙ c.parent) in
-        subst (λ (x : ℕ). StandsIn (children_at new x) i) parent (subst (λ (xs : List ℕ). StandsIn xs i) (sym children_parent) (record {
+  listed q i = by_parent (λ x xs. IsChild new x i → StandsIn xs i)
+      (λ c. elim (cases_eq i (length ns)) [
+        | inl e ↦ record {
           place = g;
           in_range = omega (arith, gap_within, length-insert (children_at ns p) g (length ns) gap_within);
           is = get_or-insert_at (children_at ns p) g (length ns) 0 gap_within ∙ sym e;
-        }))
-    | inr ne ↦
-        let inside : i < length ns = omega (arith, length_grown, c.in_range) in
-        let old = ok.listed q i (record { not_root = c.not_root; in_range = inside; parent = sym (parent_before i inside) ∙ c.parent }) in
-        elim (cases_eq q p) [
-          | inl e ↦ subst (λ (x : ℕ). StandsIn (children_at new x) i) (sym e) (subst (λ (xs : List ℕ). StandsIn xs i) (sym children_parent)
-              (stands_insert (children_at ns p) g (length ns) i gap_within (subst (λ (x : ℕ). StandsIn (children_at ns x) i) e old)))
-          | inr other ↦ subst (λ (xs : List ℕ). StandsIn xs i) (sym (children_other q other)) old
-        ]
-  ]
+        }
+        | inr ne ↦ stands_insert (children_at ns p) g (length ns) i gap_within (stood p i ne c)
+      ])
+      (λ q other c. stood q i (λ e. other (sym c.parent ∙ (ap (parent_at new) e ∙ ap (λ (n : Shape). n.parent) at_leaf))) c) q
 
   below_of_grown : (q : ℕ) → below_of q new ≡ below_of q ns
   below_of_grown q =
-      let pushed = sum_by_push (share q) ns (leaf p k) in
       let none : share q (leaf p k) ≡ 0 = elim (cases_eq p q) [ inl e ↦ grind arith | inr ne ↦ grind arith ] in
-      let written = sum_by-set (share q) (ns ++ leaf p k ∷ []) p written no_shape (omega (arith, length_push ns (leaf p k))) in
-      let stood = ap (share q) (stood p hp) in
-      omega arith
+      omega (arith, sum_by_push (share q) rest (leaf p k), sum_by-set (share q) ns p written no_shape hp)
 
   pub arena_grown : IsArena (grown ns p k g)
   arena_grown = record {
     rooted = omega (arith, length_grown);
     root_empty = everywhere (λ n. n.bytes) refl refl 0 ∙ ok.root_empty;
-    root_parent = parent_before 0 ok.rooted ∙ ok.root_parent;
     parents = λ i pos h. elim (cases_eq i (length ns)) [
       | inl e ↦ rw e (rw (ap (λ (n : Shape). n.parent) at_leaf) hp)
       | inr ne ↦ let old : i < length ns = omega (arith, length_grown) in rw (parent_before i old) (ok.parents i pos old)
     ];
     listed = listed;
-    children = λ q. elim (cases_eq q p) [
-      | inl e ↦
-          let xs = children_at ns p in
-          let old = All-weaker (IsChild ns p) (IsChild new p) (child_before p) xs (ok.children p) in
-          let one : IsChild new p (length ns) = record { not_root = ok.rooted; in_range = omega (arith, length_grown); parent = ap (λ (n : Shape). n.parent) at_leaf } in
-          subst (λ (x : ℕ). All (IsChild new x) (children_at new x)) (sym e) (subst (All (IsChild new p)) (sym children_parent)
-          (All-append (IsChild new p) (take g xs) (length ns ∷ drop g xs) (All-take (IsChild new p) g xs old) (All-cons (IsChild new p) (length ns) (drop g xs) one (All-drop (IsChild new p) g xs old))))
-      | inr ne ↦ subst (All (IsChild new q)) (sym (children_other q ne)) (All-weaker (IsChild ns q) (IsChild new q) (child_before q) (children_at ns q) (ok.children q))
-    ];
-    rise = λ q. elim (cases_eq q p) [
-      | inl e ↦ subst KeysRise (sym (ap (keys_at new) e ∙ keys_parent)) (rise_insert (keys_at ns p) k g gap (ok.rise p))
-      | inr ne ↦ subst KeysRise (sym (ap (keys_of new) (children_other q ne) ∙ keys_stood q)) (ok.rise q)
-    ];
+    children = by_parent (λ q. All (IsChild new q))
+        (let xs = children_at ns p in
+        let old = All-weaker (IsChild ns p) (IsChild new p) (child_before p) xs (ok.children p) in
+        let one : IsChild new p (length ns) = record { not_root = ok.rooted; in_range = omega (arith, length_grown); parent = ap (λ (n : Shape). n.parent) at_leaf } in
+        All-append (IsChild new p) (take g xs) (length ns ∷ drop g xs) (All-take (IsChild new p) g xs old) (All-cons (IsChild new p) (length ns) (drop g xs) one (All-drop (IsChild new p) g xs old)))
+        (λ q ne. All-weaker (IsChild ns q) (IsChild new q) (child_before q) (children_at ns q) (ok.children q));
+    rise = by_parent (λ q xs. KeysRise (keys_of new xs)) (subst KeysRise (sym keys_parent) (rise_insert (keys_at ns p) k g gap (ok.rise p))) (λ q ne. subst KeysRise (sym (keys_stood q)) (ok.rise q));
     below = λ q. everywhere (λ n. n.below) refl refl q ∙ (ok.below q ∙ sym (below_of_grown q));
   }

@@ -1,16 +1,39 @@
--- The keys of numbered nodes, and what an insertion does to a list.
-use Rattle.std.proofs.Common.{◌≡◌, ℕ, zero, suc, set, inl, inr, ◌+◌, ◌-◌, ◌<◌, ◌≤◌, List, [], ◌∷◌, ◌++◌, length, map, get_or, drop, take, refl, sym, subst, ◌∙◌, arith}
-use Rattle.allocative_collectors.proofs.Common.{Shape, no_shape, at, key_at, keys_of, key_in, StandsIn}
+-- Keys are in a total order, in which only equal ones tie; tests of paths against equations; and the keys of numbered nodes.
+use Rattle.std.proofs.Common.{◌≡◌, true, false, ◌&&◌, refl, sym, subst, ℕ, zero, suc, set, inl, inr, ◌+◌, ◌-◌, ◌<◌, ◌≤◌, List, [], ◌∷◌, ◌++◌, length, map, get_or, drop, take, ◌∙◌, arith}
+use Rattle.allocative_collectors.proofs.Common.{Ordering, Less, Equal, Greater, is_eq, ordering_then, Key, Path, key_cmp, is_same_path, Shape, no_shape, at, key_at, keys_of, StandsIn}
+use Rattle.std.specs.Cmp.{IsTotalOrder}
+use Rattle.std.specs.FinMap.{nat_cmp-IsAntisymmetric, slice_cmp-IsAntisymmetric}
+use Rattle.std.proofs.lemmas.Cmp.{nat_cmp_total, lists_total, tied_itself}
+use Rattle.std.proofs.lemmas.Bool.{false_from_ne_true, cases_lt}
+use Rattle.allocative_graph.proofs.Basics.{same_path, same_path_itself}
 use Rattle.std.specs.List.{insert}
-use Rattle.std.proofs.lemmas.List.{length-map, get_or-map, map-append, take-map, drop-map}
-use Rattle.std.proofs.lemmas.Bool.{cases_lt}
+use Rattle.std.proofs.lemmas.List.{map-append, take-map, drop-map}
 use Rattle.std.proofs.lemmas.List.Edits.{length-insert, get_or-insert_below, get_or-insert_above}
 
-pub length-keys_of : (ns : List Shape) (xs : List ℕ) → length (keys_of ns xs) ≡ length xs
-length-keys_of ns xs = length-map xs (key_at ns)
+pub key_total : IsTotalOrder key_cmp
+key_total = lists_total nat_cmp_total
 
-pub key_in-keys_of : (ns : List Shape) (xs : List ℕ) (j : ℕ) → j < length xs → key_in (keys_of ns xs) j ≡ key_at ns (get_or xs j 0)
-key_in-keys_of ns xs j h = get_or-map (key_at ns) xs j 0 [] h
+pub key_same : (k l : Key) → key_cmp k l ≡ Equal → k ≡ l
+key_same = slice_cmp-IsAntisymmetric nat_cmp-IsAntisymmetric
+
+pub same_path-same : (p q : Path) → p ≡ q → is_same_path p q ≡ true
+same_path-same p q e = rw (← e) (same_path_itself p)
+
+pub same_path-apart : (p q : Path) → (p ≡ q → ⊥) → is_same_path p q ≡ false
+same_path-apart p q ne = false_from_ne_true _ (λ e. ne (same_path p q e))
+
+-- a key is not before itself
+pub key_not_before : (k l : Key) → k ≡ l → key_cmp k l ≡ Less → ⊥
+key_not_before k l e less =
+    let tied : key_cmp k k ≡ Equal = tied_itself key_total k in
+    let before : key_cmp k k ≡ Less = subst (λ x. key_cmp k x ≡ Less) (sym e) less in
+    cc
+
+-- two parts tie where both do
+pub tied : (o r : Ordering) → (is_eq o && is_eq r) ≡ is_eq (ordering_then o r)
+tied Less r = refl
+tied Equal r = refl
+tied Greater r = refl
 
 -- two functions that agree at the numbers of a list
 pub map_same : {X : Type 0} (f g : ℕ → X) (xs : List ℕ) → ((j : ℕ) → j < length xs → f (get_or xs j 0) ≡ g (get_or xs j 0)) → map f xs ≡ map g xs

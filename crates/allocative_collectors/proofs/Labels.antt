@@ -1,13 +1,12 @@
 -- The sums that an arena stands for, and what one more entry does to a list of sums.
 use Rattle.std.proofs.Common.{◌≡◌, ℕ, zero, suc, ◌+◌, ◌<◌, ◌||◌, Bool, List, [], ◌∷◌, ◌++◌, length, get_or, set, map, append_assoc, append-nil, sum_by, refl, sym, ap, ◌∙◌, arith, inl, inr}
 use Rattle.allocative_collectors.proofs.Common.{Key, Path, Sum, Listed, root_sum, put, path_at, Shape, at, sums, bytes_at, children_at, key_at, key_in, keys_at, parent_at, IsArena, IsChild, KeysRise}
-use Rattle.std.proofs.lemmas.List.{get_or_append_left, get_or-map, length_push, same_from_push}
+use Rattle.std.proofs.lemmas.List.{length-map, get_or_append_left, get_or-map, length_push, same_from_push}
 use Rattle.std.proofs.lemmas.List.Sums.{sum_by-cons}
 use Rattle.std.proofs.lemmas.Bool.{cases_order}
 use Rattle.allocative_collectors.specs.Listed.{total}
-use Rattle.allocative_collectors.proofs.Keys.{length-keys_of, key_in-keys_of}
-use Rattle.allocative_collectors.proofs.Orders.{key_not_before}
-use Rattle.allocative_collectors.specs.Shapes.{grow, sum_from}
+use Rattle.allocative_collectors.proofs.Keys.{key_not_before}
+use Rattle.allocative_collectors.specs.Shapes.{grow, path_from, sum_from}
 
 abbrev pub unique_at : List Shape → ℕ → Bool
 unique_at ns i = let n = at ns i in n.is_unique
@@ -26,87 +25,64 @@ put_push (suc i) q n u (x ∷ s) e = ap (λ (t : Listed). x ∷ t) (put_push i q
 abbrev pub path_of : Sum → Path
 path_of e = e.path
 
+-- ---- the nodes ns, where ps are the paths of the nodes before them
+-- the sums have a place for each node
 length-grow : (ps : List Path) (ns : List Shape) → length (grow ps ns) ≡ length ns
 length-grow ps [] = refl
 length-grow ps (n ∷ ns) = ap suc (length-grow (ps ++ path_of (sum_from ps n) ∷ []) ns)
 
--- the sums have a place for each node
-pub length_sums : (ns : List Shape) → length (sums ns) ≡ length ns
-length_sums [] = refl
-length_sums (n ∷ ns) = ap suc (length-grow ([] ∷ []) ns)
+pub path_from-some : (ps : List Path) (i : ℕ) (k : Key) → 0 < length ps → path_from ps i k ≡ get_or ps i [] ++ k ∷ []
+path_from-some [] i k some = absurd (omega arith)
+path_from-some (p ∷ ps) i k some = refl
 
-grow_at : (ps : List Path) (ns : List Shape) (j : ℕ) → j < length ns → parent_at ns j < length ps + j → get_or (grow ps ns) j root_sum ≡ sum_from (ps ++ map path_of (grow ps ns)) (at ns j)
-grow_at ps [] j h lt = absurd (omega arith)
-grow_at ps (n ∷ ns) zero h lt = ap (λ (p : Path). record { path = p ++ n.key ∷ []; bytes = n.bytes; is_unique = n.is_unique }) (sym (get_or_append_left ps _ [] n.parent (omega arith)))
-grow_at ps (n ∷ ns) (suc j) h lt =
+-- the path of a node after the first comes from that of a node before it
+path-grow : (ps : List Path) (ns : List Shape) (j : ℕ) → j < length ns → 0 < length ps + j → parent_at ns j < length ps + j
+    → path_at (grow ps ns) j ≡ get_or (ps ++ map path_of (grow ps ns)) (parent_at ns j) [] ++ key_at ns j ∷ []
+path-grow ps [] j h some lt = absurd (omega arith)
+path-grow ps (n ∷ ns) zero h some lt = path_from-some ps n.parent n.key (omega arith) ∙ ap (λ (p : Path). p ++ n.key ∷ []) (sym (get_or_append_left ps _ [] n.parent (omega arith)))
+path-grow ps (n ∷ ns) (suc j) h some lt =
     let p = path_of (sum_from ps n) in
     let len = length_push ps p in
-    grow_at (ps ++ p ∷ []) ns j (omega arith) (omega arith) ∙ ap (λ (l : List Path). sum_from l (at ns j)) (append_assoc ps (p ∷ []) _)
-
-sums_at : (ns : List Shape) (i : ℕ) → 0 < i → i < length ns → parent_at ns i < i → get_or (sums ns) i root_sum ≡ sum_from (map path_of (sums ns)) (at ns i)
-sums_at [] i pos h lt = absurd (omega arith)
-sums_at (n ∷ ns) zero pos h lt = absurd (omega arith)
-sums_at (n ∷ ns) (suc j) pos h lt = grow_at ([] ∷ []) ns j (omega arith) (omega arith)
+    path-grow (ps ++ p ∷ []) ns j (omega arith) (omega arith) (omega arith) ∙ ap (λ (l : List Path). get_or l (parent_at ns j) [] ++ key_at ns j ∷ []) (append_assoc ps (p ∷ []) _)
 
 -- a node's own figures
-figures-grow : (ps : List Path) (ns : List Shape) (j : ℕ) → (let e = get_or (grow ps ns) j root_sum in (e.bytes ≡ bytes_at ns j) × (e.is_unique ≡ unique_at ns j))
+pub figures-grow : (ps : List Path) (ns : List Shape) (j : ℕ) → (let e = get_or (grow ps ns) j root_sum in (e.bytes ≡ bytes_at ns j) × (e.is_unique ≡ unique_at ns j))
 figures-grow ps [] j = (refl, refl)
 figures-grow ps (n ∷ ns) zero = (refl, refl)
 figures-grow ps (n ∷ ns) (suc j) = figures-grow (ps ++ path_of (sum_from ps n) ∷ []) ns j
 
-pub figures_sums : (ns : List Shape) (i : ℕ) → (let e = get_or (sums ns) i root_sum in (e.bytes ≡ bytes_at ns i) × (e.is_unique ≡ unique_at ns i))
-figures_sums [] i = (refl, refl)
-figures_sums (n ∷ ns) zero = (refl, refl)
-figures_sums (n ∷ ns) (suc j) = figures-grow ([] ∷ []) ns j
-
-grow_push : (ps : List Path) (ns : List Shape) (n : Shape) → grow ps (ns ++ n ∷ []) ≡ grow ps ns ++ sum_from (ps ++ map path_of (grow ps ns)) n ∷ []
+-- a node at the end adds its sum at the end
+pub grow_push : (ps : List Path) (ns : List Shape) (n : Shape) → grow ps (ns ++ n ∷ []) ≡ grow ps ns ++ sum_from (ps ++ map path_of (grow ps ns)) n ∷ []
 grow_push ps [] n = ap (λ (l : List Path). sum_from l n ∷ []) (sym (append-nil ps))
 grow_push ps (m ∷ ns) n =
     let p = path_of (sum_from ps m) in
     ap (λ (t : Listed). sum_from ps m ∷ t) (grow_push (ps ++ p ∷ []) ns n ∙ ap (λ (l : List Path). grow (ps ++ p ∷ []) ns ++ sum_from l n ∷ []) (append_assoc ps (p ∷ []) _))
 
--- a node at the end adds its sum at the end
-pub sums_push : (ns : List Shape) (n : Shape) → 0 < length ns → sums (ns ++ n ∷ []) ≡ sums ns ++ sum_from (map path_of (sums ns)) n ∷ []
-sums_push [] n pos = absurd (omega arith)
-sums_push (m ∷ ns) n pos = ap (λ (t : Listed). record { path = []; bytes = m.bytes; is_unique = m.is_unique } ∷ t) (grow_push ([] ∷ []) ns n)
-
 -- an entry at a node is one at its place
-grow_raise : (ps : List Path) (ns : List Shape) (i : ℕ) (q : Path) (n : ℕ) (u : Bool) → i < length ns → grow ps (set ns i (raise_shape n u (at ns i))) ≡ put i q n u (grow ps ns)
+pub grow_raise : (ps : List Path) (ns : List Shape) (i : ℕ) (q : Path) (n : ℕ) (u : Bool) → i < length ns → grow ps (set ns i (raise_shape n u (at ns i))) ≡ put i q n u (grow ps ns)
 grow_raise ps [] i q n u h = absurd (omega arith)
 grow_raise ps (m ∷ ns) zero q n u h = refl
 grow_raise ps (m ∷ ns) (suc i) q n u h = ap (λ (t : Listed). sum_from ps m ∷ t) (grow_raise (ps ++ path_of (sum_from ps m) ∷ []) ns i q n u (omega arith))
-
-pub sums_raise : (ns : List Shape) (i : ℕ) (q : Path) (n : ℕ) (u : Bool) → i < length ns → sums (set ns i (raise_shape n u (at ns i))) ≡ put i q n u (sums ns)
-sums_raise [] i q n u h = absurd (omega arith)
-sums_raise (m ∷ ns) zero q n u h = refl
-sums_raise (m ∷ ns) (suc i) q n u h = ap (λ (t : Listed). record { path = []; bytes = m.bytes; is_unique = m.is_unique } ∷ t) (grow_raise ([] ∷ []) ns i q n u (omega arith))
 
 -- what a node's sum depends on
 abbrev pub bare : Shape → Shape
 bare n = record n { children = []; below = 0 }
 
 -- a write that keeps it keeps the sums
-grow_same : (ps : List Path) (ns : List Shape) (i : ℕ) (m : Shape) → bare m ≡ bare (at ns i) → grow ps (set ns i m) ≡ grow ps ns
+pub grow_same : (ps : List Path) (ns : List Shape) (i : ℕ) (m : Shape) → bare m ≡ bare (at ns i) → grow ps (set ns i m) ≡ grow ps ns
 grow_same ps [] i m e = refl
 grow_same ps (n ∷ ns) zero m e = λ k. grow ps (e k ∷ ns)
 grow_same ps (n ∷ ns) (suc i) m e = ap (λ (t : Listed). sum_from ps n ∷ t) (grow_same (ps ++ path_of (sum_from ps n) ∷ []) ns i m e)
 
-pub sums_same : (ns : List Shape) (i : ℕ) (m : Shape) → bare m ≡ bare (at ns i) → sums (set ns i m) ≡ sums ns
-sums_same [] i m e = refl
-sums_same (n ∷ ns) zero m e = λ k. sums (e k ∷ ns)
-sums_same (n ∷ ns) (suc i) m e = ap (λ (t : Listed). record { path = []; bytes = n.bytes; is_unique = n.is_unique } ∷ t) (grow_same ([] ∷ []) ns i m e)
-
-total-grow : (ps : List Path) (ns : List Shape) → total (grow ps ns) ≡ sum_by (λ (n : Shape). n.bytes) ns
+pub total-grow : (ps : List Path) (ns : List Shape) → total (grow ps ns) ≡ sum_by (λ (n : Shape). n.bytes) ns
 total-grow ps [] = refl
 total-grow ps (n ∷ ns) =
     let more = ps ++ path_of (sum_from ps n) ∷ [] in
     omega (arith, total-grow more ns, sum_by-cons (λ (s : Sum). s.bytes) (sum_from ps n) (grow more ns), sum_by-cons (λ (m : Shape). m.bytes) n ns)
 
-pub total_sums : (ns : List Shape) → total (sums ns) ≡ sum_by (λ (n : Shape). n.bytes) ns
-total_sums [] = refl
-total_sums (n ∷ ns) =
-    let root : Sum = record { path = []; bytes = n.bytes; is_unique = n.is_unique } in
-    omega (arith, total-grow ([] ∷ []) ns, sum_by-cons (λ (s : Sum). s.bytes) root (grow ([] ∷ []) ns), sum_by-cons (λ (m : Shape). m.bytes) n ns)
+-- ---- all nodes
+pub length_sums : (ns : List Shape) → length (sums ns) ≡ length ns
+length_sums = length-grow []
 
 pub root_at : (ns : List Shape) → path_at (sums ns) 0 ≡ []
 root_at [] = refl
@@ -129,14 +105,14 @@ module _ (ns : List Shape) (ok : IsArena ns) where
   -- the path of another node is its parent's with one more key
   pub step : (i : ℕ) → 0 < i → i < length ns → path_at (sums ns) i ≡ path_at (sums ns) (parent_at ns i) ++ key_at ns i ∷ []
   step i pos h =
-      let lt = ok.parents i pos h in
-      ap path_of (sums_at ns i pos h lt) ∙ ap (λ (p : Path). p ++ key_at ns i ∷ []) (get_or-map path_of (sums ns) (parent_at ns i) root_sum [] (omega (arith, length_sums ns)))
+      path-grow [] ns i h (omega arith) (omega (arith, ok.parents i pos h))
+      ∙ ap (λ (p : Path). p ++ key_at ns i ∷ []) (get_or-map path_of (sums ns) (parent_at ns i) root_sum [] (omega (arith, length_sums ns)))
 
   -- the key at a child's place
   pub key_place : (p i : ℕ) (c : IsChild ns p i) → (let a = ok.listed p i c in (a.place < length (keys_at ns p)) × (key_in (keys_at ns p) a.place ≡ key_at ns i))
   key_place p i c =
       let a = ok.listed p i c in
-      (omega (arith, length-keys_of ns (children_at ns p), a.in_range), key_in-keys_of ns (children_at ns p) a.place a.in_range ∙ ap (key_at ns) a.is)
+      (omega (arith, length-map (children_at ns p) (key_at ns), a.in_range), get_or-map (key_at ns) (children_at ns p) a.place 0 [] a.in_range ∙ ap (key_at ns) a.is)
 
   -- two children of one parent with one key are one
   one_child : (p i j : ℕ) → IsChild ns p i → IsChild ns p j → key_at ns i ≡ key_at ns j → i ≡ j

@@ -1,5 +1,5 @@
 -- An arena after one more entry at a node.
-use Rattle.std.proofs.Common.{◌≡◌, ◌≢◌, ℕ, ◌+◌, ◌<◌, ◌≤◌, Bool, List, length, get_or, set, refl, sym, ap, subst, ◌∙◌, arith, inl, inr, get_or-set_same, get_or-set_other, length-set, eq-eqb, ne_eqb}
+use Rattle.std.proofs.Common.{◌≡◌, ◌≢◌, ℕ, ◌+◌, ◌<◌, ◌≤◌, Bool, List, [], length, get_or, set, refl, sym, ap, subst, ◌∙◌, arith, inl, inr, get_or-set_same, get_or-set_other, length-set, eq-eqb, ne_eqb}
 use Rattle.allocative_collectors.proofs.Common.{key_at, put, path_at, Shape, no_shape, at, sums, StandsIn, children_at, keys_of, keys_at, parent_at, bytes_at, below_at, share, below_of, KeysRise, IsChild, IsArena}
 use Rattle.std.specs.List.{All}
 use Rattle.std.proofs.lemmas.List.Elements.{All-weaker}
@@ -7,7 +7,7 @@ use Rattle.std.proofs.lemmas.List.Sums.{sum_by-set, sum_by-le-sum_by, get_or-le-
 use Rattle.std.proofs.lemmas.Bool.{cases_eq}
 use Rattle.allocative_collectors.specs.Listed.{total}
 use Rattle.allocative_collectors.proofs.Keys.{map_same, touched}
-use Rattle.allocative_collectors.proofs.Labels.{raise_shape, sums_raise, sums_same, total_sums}
+use Rattle.allocative_collectors.proofs.Labels.{raise_shape, grow_raise, grow_same, total-grow}
 
 abbrev pub more_below : ℕ → Shape → Shape
 more_below n m = record m { below = m.below + n }
@@ -18,10 +18,10 @@ raised ns i q n u = let mid = set ns i (raise_shape n u (at ns i)) in set mid q 
 
 -- the bytes below a node are at most all bytes
 pub below_le_total : (ns : List Shape) (q : ℕ) → below_of q ns ≤ total (sums ns)
-below_le_total ns q = rw (total_sums ns) (sum_by-le-sum_by (share q) (λ (n : Shape). n.bytes) ns (λ n. grind arith))
+below_le_total ns q = rw (total-grow [] ns) (sum_by-le-sum_by (share q) (λ (n : Shape). n.bytes) ns (λ n. grind arith))
 
 pub bytes_le_total : (ns : List Shape) (i : ℕ) → i < length ns → bytes_at ns i ≤ total (sums ns)
-bytes_le_total ns i h = rw (total_sums ns) (get_or-le-sum_by (λ (n : Shape). n.bytes) ns i no_shape h)
+bytes_le_total ns i h = rw (total-grow [] ns) (get_or-le-sum_by (λ (n : Shape). n.bytes) ns i no_shape h)
 
 module _ (ns : List Shape) (ok : IsArena ns) (i : ℕ) (pos : 0 < i) (hi : i < length ns) (n : ℕ) (u : Bool) where
   abbrev mid : List Shape
@@ -83,7 +83,6 @@ module _ (ns : List Shape) (ok : IsArena ns) (i : ℕ) (pos : 0 < i) (hi : i < l
   arena_raised = record {
     rooted = omega (arith, length_raised, ok.rooted);
     root_empty = bytes_before 0 (λ e. omega arith) ∙ ok.root_empty;
-    root_parent = parent_before 0 ∙ ok.root_parent;
     parents = λ j pj hj. rw (parent_before j) (ok.parents j pj (omega (arith, length_raised)));
     listed = λ p j c. subst (λ (xs : List ℕ). StandsIn xs j) (sym (children_before p))
         (ok.listed p j (record { not_root = c.not_root; in_range = omega (arith, length_raised, c.in_range); parent = sym (parent_before j) ∙ c.parent }));
@@ -95,4 +94,4 @@ module _ (ns : List Shape) (ok : IsArena ns) (i : ℕ) (pos : 0 < i) (hi : i < l
 
   -- the bytes are added at the node's place
   pub sums_raised : sums (raised ns i (parent_at ns i) n u) ≡ put i (path_at (sums ns) i) n u (sums ns)
-  sums_raised = sums_same mid (parent_at ns i) (more_below n (at mid (parent_at ns i))) refl ∙ sums_raise ns i (path_at (sums ns) i) n u hi
+  sums_raised = grow_same [] mid (parent_at ns i) (more_below n (at mid (parent_at ns i))) refl ∙ grow_raise [] ns i (path_at (sums ns) i) n u hi

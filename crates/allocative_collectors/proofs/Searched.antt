@@ -2,7 +2,7 @@
 use Rattle.std.proofs.Common.{◌≡◌, ℕ, ◌+◌, ◌<◌, ◌≤◌, List, length, ap, ◌∙◌, arith, inl, inr}
 use Rattle.allocative_collectors.proofs.Common.{Less, Greater, ordering_reverse, Key, key_cmp, key_in, KeysRise, IsKeyGap}
 use Rattle.std.proofs.lemmas.Bool.{cases_eq}
-use Rattle.allocative_collectors.proofs.Orders.{key_total}
+use Rattle.allocative_collectors.proofs.Keys.{key_total}
 
 -- the keys before place low are smaller than k, and those from place high on are greater
 pub record IsBetween (ks : List Key) (k : Key) (low high : ℕ) : Type 0 where

@@ -1,11 +1,12 @@
--- The graph of the sums and the paths that have a warning, place by place.
-use Rattle.std.specs.Prelude.{◌≡◌, ℕ, ◌∷◌, ◌++◌, List, Bool, not, ◌&&◌, nat_lt, sum_by, flat_map}
-use Rattle.std.specs.FinMap.{get}
-use Rattle.allocative_graph.specs.Path.{Path}
-use Rattle.allocative_graph.specs.Sums.{below}
+-- The graph of the sums and the paths that have a warning, place by place and path by path.
+use Rattle.std.specs.Prelude.{◌≡◌, ℕ, [], ◌∷◌, ◌++◌, List, Bool, true, false, cond, not, ◌&&◌, nat_lt, None, sum_by, flat_map}
+use Rattle.std.specs.List.{filter}
+use Rattle.std.specs.FinMap.{get, entries}
+use Rattle.std.specs.Ordering.{eq_by_cmp}
+use Rattle.allocative_graph.specs.Path.{Path, key_cmp}
+use Rattle.allocative_graph.specs.Sums.{Node, below}
 use Rattle.allocative_graph.specs.Graph.{Graph, Warned, graph, total, remaining, is_root, warned}
 use Rattle.allocative_collectors.specs.Listed.{Listed, sum_at, path_at, row, map_of}
-use Rattle.allocative_collectors.specs.Walks.{IsWalk}
 
 -- The size that the graph has at place i.
 abbrev pub size_at_place : Listed → ℕ → ℕ
@@ -15,18 +16,28 @@ size_at_place s i = let e = sum_at s i in remaining (map_of s) e.path (row e).1
 abbrev pub is_short : Listed → ℕ → Bool
 is_short s i = let e = sum_at s i in not (is_root e.path) && not e.is_unique && nat_lt e.bytes (below (map_of s) e.path)
 
--- The path of place i with both figures where it has a warning, otherwise nothing.
-abbrev pub warned_at : Listed → ℕ → List Warned
-warned_at s i = warned (map_of s) (row (sum_at s i))
+-- Whether the second path is the first one followed by a path that passes the test.
+abbrev pub behind : Path → (Path → Bool) → Path → Bool
+behind [] test q = test q
+behind (k ∷ p) test [] = false
+behind (k ∷ p) test (l ∷ q) = eq_by_cmp key_cmp l k && behind p test q
 
--- A walk of the paths from that of place i on made the graph g. It appended those that have a warning to `found`.
-pub record MakesGraph (s : Listed) (i : ℕ) (found found' : List Warned) (g : Graph) : Type 0 where
-  pub others : List ℕ
-  pub walk : IsWalk s (path_at s i) (i ∷ others)
-  pub warned_are : found' ≡ found ++ flat_map (warned_at s) (i ∷ others)
-  pub graph_is : (q : Path) → get g q ≡ get (graph (map_of s)) (path_at s i ++ q)
-  pub total_is : total g ≡ sum_by (size_at_place s) (i ∷ others)
+-- What was entered at p followed by any path that passes the test, in the order of paths.
+abbrev pub rows_behind : Listed → Path → (Path → Bool) → List (Path × Node)
+rows_behind s p test = filter (λ e. behind p test e.0) (entries (map_of s))
 
--- A walk of the paths from that of place i on made the graph g, and none of them has a warning.
+-- g has what the graph has at p followed by any path that passes the test. Those of these paths that have a warning were
+-- appended to `found`.
+pub record MakesPart (s : Listed) (p : Path) (test : Path → Bool) (found found' : List Warned) (g : Graph) : Type 0 where
+  pub warned_are : found' ≡ found ++ flat_map (warned (map_of s)) (rows_behind s p test)
+  pub graph_is : (q : Path) → get g q ≡ cond (test q) (get (graph (map_of s)) (p ++ q)) None
+  pub total_is : total g ≡ sum_by (λ e. remaining (map_of s) e.0 e.1) (rows_behind s p test)
+
+-- g has what the graph has at the path of place i and below it. Those of these paths that have a warning were appended
+-- to `found`.
+abbrev pub MakesGraph : Listed → ℕ → List Warned → List Warned → Graph → Type 0
+MakesGraph s i found found' g = MakesPart s (path_at s i) (λ q. true) found found' g
+
+-- The same for a path with no warning at it or below it.
 abbrev pub MakesGraphAlone : Listed → ℕ → Graph → Type 0
 MakesGraphAlone s i g = (found : List Warned) → MakesGraph s i found found g

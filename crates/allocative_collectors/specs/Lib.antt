@@ -1,7 +1,6 @@
 pub mod Listed
 pub mod Shapes
 pub mod Nodes
-pub mod Walks
 pub mod Finishing
 pub mod Places
 pub mod Meets

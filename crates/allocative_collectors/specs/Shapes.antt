@@ -15,28 +15,37 @@ pub record Shape : Type 0 where
   pub is_unique : Bool
   pub below : ℕ
 
+-- A node with no bytes and no children.
+abbrev pub leaf : ℕ → Key → Shape
+leaf p k = record { key = k; parent = p; children = []; bytes = 0; is_unique = false; below = 0 }
+
 -- The node that stands for a missing one.
 abbrev pub no_shape : Shape
-no_shape = record { key = []; parent = 0; children = []; bytes = 0; is_unique = false; below = 0 }
+no_shape = leaf 0 []
 
 -- The node with the number i.
 abbrev pub at : List Shape → ℕ → Shape
 at ns i = slice_index_or ns i no_shape
 
 -- ---- the sums
--- What a node stands for, where ps are the paths of the nodes before it: its path is its parent's with one more key.
+-- The path of a node with parent i and key k, where ps are the paths of the nodes before it: its parent's with one more
+-- key. The first node is the root.
+abbrev pub path_from : List Path → ℕ → Key → Path
+path_from [] i k = []
+path_from (p ∷ ps) i k = slice_index_or (p ∷ ps) i [] ++ k ∷ []
+
+-- What a node stands for, where ps are the paths of the nodes before it.
 abbrev pub sum_from : List Path → Shape → Sum
-sum_from ps n = record { path = slice_index_or ps n.parent [] ++ n.key ∷ []; bytes = n.bytes; is_unique = n.is_unique }
+sum_from ps n = record { path = path_from ps n.parent n.key; bytes = n.bytes; is_unique = n.is_unique }
 
 -- What the nodes ns stand for, where ps are the paths of the nodes before them.
 abbrev pub grow : List Path → List Shape → Listed
 grow ps [] = []
 grow ps (n ∷ ns) = let e = sum_from ps n in e ∷ grow (ps ++ e.path ∷ []) ns
 
--- The sums that the nodes stand for. The first node is the root.
+-- The sums that the nodes stand for.
 abbrev pub sums : List Shape → Listed
-sums [] = []
-sums (n ∷ ns) = record { path = []; bytes = n.bytes; is_unique = n.is_unique } ∷ grow ([] ∷ []) ns
+sums ns = grow [] ns
 
 -- ---- what a node has
 -- The key of node i.
@@ -101,7 +110,6 @@ pub record IsChild (ns : List Shape) (p i : ℕ) : Type 0 where
 pub record IsArena (ns : List Shape) : Type 0 where
   pub rooted : 0 < length ns
   pub root_empty : bytes_at ns 0 ≡ 0
-  pub root_parent : parent_at ns 0 ≡ 0
   pub parents : (i : ℕ) → 0 < i → i < length ns → parent_at ns i < i
   pub listed : (p i : ℕ) → IsChild ns p i → StandsIn (children_at ns p) i
   pub children : (p : ℕ) → All (IsChild ns p) (children_at ns p)

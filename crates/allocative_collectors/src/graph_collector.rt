@@ -78,15 +78,8 @@ impl GraphCollector {
         ensures err { IfErr result (Refuses is_unique size (OfGraph self.old)) }
         ensures kept { OnErr result (self.new ≡ self.old) }
     {
-        let here = self.current;
-        self.current = add(
-            &mut self.tree,
-            &mut self.entered,
-            here,
-            key,
-            size,
-            is_unique,
-        )?;
+        let at = self.current;
+        self.current = add(&mut self.tree, &mut self.entered, at, key, size, is_unique)?;
         Ok(())
     }
 
@@ -115,12 +108,11 @@ impl GraphCollector {
         ensures err { IfErr result (Refuses false size (OfGraph self.old)) }
         ensures kept { IfErr result (λ e. e ≡ Refusal.TooLarge → self.new ≡ self.old) }
     {
-        let here = self.current;
-        add(&mut self.tree, &mut self.entered, here, key, size, false)?;
+        self.enter_simple(key, size)?;
         if !self.met.insert(id)? {
             return Ok(false);
         }
-        self.places.push(here)?;
+        self.places.push(self.current)?;
         self.current = 0;
         Ok(true)
     }

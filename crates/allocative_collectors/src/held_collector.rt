@@ -54,12 +54,8 @@ impl HeldCollector {
     {
         let outer = self.is_in_unique;
         let held = if outer && !is_unique { size } else { 0 };
-        let Some(sum) = self.sum.checked_add(held) else {
-            return Err(Refusal::TooLarge);
-        };
-        let Some(visitors) = self.visitors.checked_add(1) else {
-            return Err(Refusal::TooLarge);
-        };
+        let sum = self.sum.checked_add(held).ok_or(Refusal::TooLarge)?;
+        let visitors = self.visitors.checked_add(1).ok_or(Refusal::TooLarge)?;
         *self = HeldCollector {
             sum,
             visitors,

@@ -96,11 +96,7 @@ impl FlameGraphOutput {
     pub fn into_flamegraph(self) -> FlameGraph
         ensures { result ≡ self.graph }
     {
-        let FlameGraphOutput {
-            flamegraph,
-            warnings: _,
-            warned: _,
-        } = self;
+        let FlameGraphOutput { flamegraph, .. } = self;
         flamegraph
     }
 

@@ -1,10 +1,11 @@
 //! The paths that were entered, as an arena of nodes that refer to one another by number.
 ghost use Rattle.std.specs.Prelude.{◌≡◌, ◌+◌, ◌^◌, ◌<◌, ◌≤◌, ℕ, [], ◌∷◌, ◌++◌, length, map, slice_index, EachIndex, IfOk, IfErr, IfSome, IfNone, OnOk, OnErr, IsTrue, ◌↔◌, false};
 ghost use Rattle.allocative_graph.specs.Graph.{total as graph_total};
+ghost use Rattle.allocative_graph.specs.Sums.{entered};
 ghost use Rattle.allocative_graph.specs.Visits.{IsProfile};
 ghost use Rattle.allocative_collectors.specs.Listed.{root_sum, put, total, path_at, map_of, IsEntered, IsAbove};
 ghost use Rattle.allocative_collectors.specs.Finishing.{size_at_place, is_short, MakesGraph, MakesGraphAlone};
-ghost use Rattle.allocative_collectors.specs.Shapes.{keys_at, key_at, IsChild, IsKeyGap};
+ghost use Rattle.allocative_collectors.specs.Shapes.{leaf, keys_at, key_at, IsChild, IsKeyGap};
 ghost use Rattle.allocative_collectors.specs.Nodes.{shape, IsTree};
 ghost use Rattle.allocative_collectors.specs.Warned.{seen};
 
@@ -36,6 +37,25 @@ struct Node {
     is_unique: bool,
 }
 
+impl Node {
+    /// A node with no bytes and no children. It allocates nothing.
+    fn new(alloc: Global, key: Key, parent: usize) -> Node
+        ensures { shape result ≡ leaf parent key }
+    {
+        Node {
+            key,
+            parent,
+            children: SmallVec::new(alloc),
+            bytes: 0,
+            below: 0,
+            last: 0,
+            next: 0,
+            follower: 0,
+            is_unique: false,
+        }
+    }
+}
+
 /// The paths that were entered, each with its bytes and whether it was ever entered as unique.
 ///
 /// A path is named by the number of its node, which is its place in the order of first entries. The root is number 0.
@@ -63,17 +83,7 @@ impl Tree {
         ensures { IfOk result (λ t. t ≡ root_sum ∷ []) }
     {
         let mut nodes = Vec::new(alloc);
-        nodes.push(Node {
-            key: Key::new(""),
-            parent: 0,
-            children: SmallVec::new(alloc),
-            bytes: 0,
-            below: 0,
-            last: 0,
-            next: 0,
-            follower: 0,
-            is_unique: false,
-        })?;
+        nodes.push(Node::new(alloc, Key::new(""), 0))?;
         Ok(Tree { alloc, nodes })
     }
 
@@ -114,7 +124,7 @@ impl Tree {
     ///
     /// One walk makes the graph and lists the paths that have a warning. The text is made from the list.
     pub(crate) fn finish(&self) -> Result<FlameGraphOutput, Refusal>
-        requires { total self.now < 2 ^ 63 }
+        requires { entered (map_of self.now) < 2 ^ 63 }
         ensures made { IfOk result (IsProfile (map_of self.now)) }
         ensures total { IfOk result (λ o. graph_total o.graph < 2 ^ 63) }
         ensures err { IfErr result (λ e. e ≡ Refusal.Memory) }
@@ -134,7 +144,7 @@ impl Tree {
         warned: &mut Vec<WarnedPath>,
     ) -> Result<FlameGraph, Refusal>
         requires within { at < length self.now }
-        requires fits { total self.now < 2 ^ 63 }
+        requires fits { entered (map_of self.now) < 2 ^ 63 }
         requires keys { map (λ k. k.now) keys.old.items ≡ path_at self.now at }
         ensures keys { OnOk result (keys.new.items ≡ keys.old.items) }
         ensures made { IfOk result (MakesGraph self.now at (map seen warned.old.items) (map seen warned.new.items)) }
@@ -269,24 +279,10 @@ impl Tree {
                 let Ok(number) = u32::try_from(node) else {
                     return Err(AllocError);
                 };
-                self.nodes.push(Node {
-                    key: key.copy(),
-                    parent: at,
-                    children: SmallVec::new(self.alloc),
-                    bytes: 0,
-                    below: 0,
-                    last: 0,
-                    next: 0,
-                    follower: 0,
-                    is_unique: false,
-                })?;
-                match self.nodes[at].children.insert(place, number) {
-                    Ok(()) => Ok(node),
-                    Err(_) => {
-                        let _ = self.nodes.pop();
-                        Err(AllocError)
-                    }
-                }
+                self.nodes.reserve(1)?;
+                self.nodes[at].children.insert(place, number)?;
+                self.nodes.push(Node::new(self.alloc, key.copy(), at))?;
+                Ok(node)
             }
         }
     }

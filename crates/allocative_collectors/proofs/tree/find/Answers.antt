@@ -1,10 +1,10 @@
 -- What the key of the last child, and then the one in the middle, says of the others.
 use Rattle.std.proofs.Common.{◌≡◌, ◌+◌, ◌-◌, ◌/◌, ◌<◌, ℕ, true, length, get_or, map, arith, sym, ap, ◌∙◌, refl}
 use Rattle.allocative_collectors.proofs.Common.{Less, Equal, Greater, Ordering, is_lt, Key, key_cmp, key_at, keys_at, key_in, IsChild, children_at, shape}
+use Rattle.std.proofs.lemmas.List.{length-map}
 use Rattle.allocative_collectors.specs.declared.tree.Node.{Node}
-use Rattle.allocative_collectors.proofs.Keys.{length-keys_of}
+use Rattle.allocative_collectors.proofs.Keys.{key_same}
 use Rattle.allocative_collectors.proofs.NodeReads.{children_read, child_seen}
-use Rattle.allocative_collectors.proofs.Orders.{key_same}
 use Rattle.allocative_collectors.proofs.Searched.{between_up, between_down, gap_behind}
 use Rattle.allocative_collectors.proofs.tree.find.Goals as goal
 use Rattle.allocative_collectors.proofs.tree.find.Goals.{After-as_slice-children}
@@ -19,7 +19,7 @@ children c = children_read c.args.nodes.now c.args.at c.index-nodes-at.result c.
 
 -- there are as many keys as children
 count : (c : After-as_slice-children) → length (keys_at (map shape c.args.nodes.now) c.args.at) ≡ length c.as_slice-children.result.now
-count c = length-keys_of (map shape c.args.nodes.now) (children_at (map shape c.args.nodes.now) c.args.at) ∙ ap length (children c)
+count c = length-map (children_at (map shape c.args.nodes.now) c.args.at) (key_at (map shape c.args.nodes.now)) ∙ ap length (children c)
 
 -- the child at place j
 seen : (c : After-as_slice-children) (j : ℕ) → j < length c.as_slice-children.result.now → let i = get_or c.as_slice-children.result.now j 0 in (IsChild (map shape c.args.nodes.now) c.args.at i) × (i < length c.args.nodes.now) × (key_in (keys_at (map shape c.args.nodes.now) c.args.at) j ≡ key_at (map shape c.args.nodes.now) i) × ((d : Node) → (let m = get_or c.args.nodes.now i d in key_at (map shape c.args.nodes.now) i ≡ m.key))

@@ -1,14 +1,11 @@
 -- The tree has one more entry, and the current place is that of the entry.
 use Rattle.std.proofs.Common.{◌≡◌, ◌+◌, ◌<◌, ◌^◌, subst}
 use Rattle.allocative_collectors.proofs.Common.{entered, Live, enter_live, live}
-use Rattle.allocative_collectors.proofs.Collect.{placed_added, placed_at, fits_map, gone_down}
+use Rattle.allocative_collectors.proofs.Collect.{placed_added, fits_map, gone_down}
 use Rattle.allocative_collectors.proofs.graph_collector.GraphCollector.enter.Goals as goal
 
 pub invariant_of-self-2 : goal.invariant_of-self-2
-invariant_of-self-2 c =
-    let ok = c.in_ok-self-inside in
-    let placed = placed_added c.self.invariant ok.ensures.ok in
-    placed_at placed ok.field-0 ok.ensures.ok.is.within c.self.inside.places.items placed.back
+invariant_of-self-2 c = placed_added c.self.invariant c.in_ok-self-inside.ensures.ok c.in_ok-self-inside.field-0 c.in_ok-self-inside.ensures.ok.is.within
 
 pub returns-clause-ok : goal.returns-clause-ok
 returns-clause-ok c =

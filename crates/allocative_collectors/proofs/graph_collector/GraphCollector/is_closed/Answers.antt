@@ -2,7 +2,8 @@
 use Rattle.std.proofs.Common.{◌≡◌, length, true≢false, sym, ap, ◌∙◌, arith, eqb-true, eq-eqb}
 use Rattle.allocative_collectors.proofs.Common.{Live}
 use Rattle.std.proofs.lemmas.List.{nil_from_length}
-use Rattle.allocative_collectors.proofs.Collect.{closed, not_closed, nothing_back, IsOut}
+use Rattle.allocative_collectors.proofs.Collect.{closed, nothing_back, IsOut}
+use Rattle.allocative_collectors.proofs.Labels.{not_nil}
 use Rattle.allocative_collectors.proofs.graph_collector.GraphCollector.is_closed.Goals as goal
 
 pub returns-in-Some-clause-closed : goal.returns-in-Some-clause-closed
@@ -11,7 +12,7 @@ returns-in-Some-clause-closed c =
     let above = c.in-Some.ensures.above in
     let visitors = ap (λ (v : Live). v.open_visitors) c.self.view_is in (
       (λ is. absurd (true≢false (sym is))),
-      (λ none. absurd (not_closed i.tree i.current i.places.items i.is_rooted c.in-Some.field-0 above.key above.path (visitors ∙ none))),
+      (λ none. let out = closed i.tree i.current i.places.items i.is_rooted (visitors ∙ none) in absurd (not_nil _ _ _ (sym above.path ∙ out.root))),
     )
 
 pub returns-in-None-clause-closed : goal.returns-in-None-clause-closed

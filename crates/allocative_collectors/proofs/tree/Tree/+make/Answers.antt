@@ -1,13 +1,11 @@
 -- A node's own size and warning, and then the graph of each child with the paths that have a warning.
-use Rattle.std.proofs.Common.{◌≡◌, ◌-◌, ◌+◌, ◌<◌, ℕ, Bool, cond, List, [], ◌∷◌, ◌++◌, map, length, get_or, Bor, Vec, Global, arith, sym, ap, subst, ◌∙◌, refl, Err, IfErr, IsErrOf, ◌↔◌, ◌^◌, ◌≤◌}
-use Rattle.allocative_collectors.proofs.Common.{Key, under, sum_of, default, add_self, WarnedPath, shape, path_at, keys_at, children_at, key_in, size_at_place, warned_at, seen, Refusal, Memory, TooLarge, Open}
-use Rattle.std.proofs.lemmas.List.{map-append}
+use Rattle.std.proofs.Common.{◌≡◌, ◌-◌, ◌+◌, ◌<◌, ℕ, Bool, cond, List, [], ◌∷◌, ◌++◌, map, length, get_or, Bor, Vec, Global, arith, sym, ap, ◌∙◌, refl, Err, IfErr, ◌^◌, ◌≤◌, add-one}
+use Rattle.allocative_collectors.proofs.Common.{Key, under, sum_of, default, add_self, WarnedPath, shape, path_at, keys_at, key_at, children_at, key_in, map_of, entered, size_at_place, seen, Refusal, Memory}
+use Rattle.std.proofs.lemmas.List.{length-map, map-append}
 use Rattle.allocative_graph.specs.Graph.{total}
 use Rattle.allocative_collectors.specs.declared.tree.Node.{Node}
-use Rattle.allocative_collectors.specs.Listed.{total as total_listed}
-use Rattle.allocative_collectors.proofs.Keys.{length-keys_of}
-use Rattle.allocative_collectors.proofs.NodeReads.{in_nodes, children_read, figures_read}
-use Rattle.allocative_collectors.proofs.Made.{half_none, half_more, half_total, made_total, made_all, child_read, none_warned, own_warning, own_fits, total-default, memory_alone, passed_on}
+use Rattle.allocative_collectors.proofs.NodeReads.{in_nodes, children_read, figures_read, listing_of}
+use Rattle.allocative_collectors.proofs.Made.{begun, part_start, part_more, part_fits, made_all, child_read, none_warned, own_warning, own_fits, warned_at, total-default, memory_alone, passed_on}
 use Rattle.allocative_graph.proofs.NodeText.{popped, texts}
 use Rattle.allocative_collectors.proofs.tree.Tree.+make.Goals as goal
 use Rattle.allocative_collectors.proofs.tree.Tree.+make.Goals.{then-is_short+in_ok-push_warned, else-is_short, After-as_slice-child-items}
@@ -18,7 +16,7 @@ children t c = children_read c.self.inside.nodes.items c.args.at c.index-node.re
 
 -- there are as many keys as children
 count : (t : ℕ) (c : After-as_slice-child-items t) → length (keys_at (map shape c.self.inside.nodes.items) c.args.at) ≡ length c.as_slice-child-items.result.now
-count t c = length-keys_of (map shape c.self.inside.nodes.items) (children_at (map shape c.self.inside.nodes.items) c.args.at) ∙ ap length (children t c)
+count t c = length-map (children_at (map shape c.self.inside.nodes.items) c.args.at) (key_at (map shape c.self.inside.nodes.items)) ∙ ap length (children t c)
 
 child : (t : ℕ) (c : After-as_slice-child-items t) (j : ℕ) → j < length c.as_slice-child-items.result.now → let i = get_or c.as_slice-child-items.result.now j 0 in (c.args.at < i) × (i < length c.args.self.now) × (path_at c.args.self.now i ≡ path_at c.args.self.now c.args.at ++ key_in (keys_at (map shape c.self.inside.nodes.items) c.args.at) j ∷ []) × ((d : Node) → (let m = get_or c.self.inside.nodes.items i d in m.key ≡ key_in (keys_at (map shape c.self.inside.nodes.items) c.args.at) j))
 child t c = child_read c.self.inside.nodes.items c.self.invariant c.self.view_is c.args.at c.as_slice-child-items.result.now (children t c)
@@ -31,9 +29,9 @@ index-requires t c =
 pub returns-in_err-add_self-clause-err : goal.returns-in_err-add_self-clause-err
 returns-in_err-add_self-clause-err t c =
     let large : 2 ^ 64 ≤ total c.in_ok-graph.graph + c.size.result = c.in_err-add_self.ensures.too_large.0 (ap (λ (r : Refusal). Err r) c.in_err-add_self.ensures.no_other) in
-    let own : c.size.result ≤ total_listed c.args.self.now = subst (λ (n : ℕ). n ≤ total_listed c.args.self.now) (sym c.size.ensures) (own_fits c.args.self.now c.args.at c.requires.within) in
+    let own = own_fits c.args.self.now (listing_of c.self.inside.nodes.items c.self.invariant c.self.view_is) c.args.at c.requires.within [] in
     let none : total c.in_ok-graph.graph ≡ 0 = ap total c.in_ok-graph.ensures ∙ total-default in
-    absurd {A = IfErr c.from_residual-in_err-add_self.result (λ e. e ≡ Memory)} (omega (arith, large, own, none, c.requires.fits))
+    absurd {A = IfErr c.from_residual-in_err-add_self.result (λ e. e ≡ Memory)} (omega (arith, large, own, none, c.size.ensures, c.requires.fits))
 
 pub loop-child-init : goal.loop-child-init
 loop-child-init t c =
@@ -51,7 +49,7 @@ loop-child-init t c =
           ∙ ap (λ (b : Bool). start ++ cond b (own_warning v i) []) w.if-is_short.ensures)))
       | else-is_short w ↦ ap (λ (x : Vec WarnedPath Global). map seen x.items) w.warned-is ∙ none_warned v i start w.if-is_short.ensures
     ] in
-    record { keys = refl; made = half_none v i (keys_at (map shape c.self.inside.nodes.items) i) start (map seen c.if-is_short.warned.items) c.add_self.new.self is found }
+    record { keys = refl; made = part_start v (listing_of c.self.inside.nodes.items c.self.invariant c.self.view_is) i c.requires.within (keys_at (map shape c.self.inside.nodes.items) i) _ _ _ is found }
 
 pub make-requires : goal.make-requires
 make-requires t c =
@@ -67,16 +65,12 @@ make-requires t c =
 
 pub returns-in_err-add_child-clause-err : goal.returns-in_err-add_child-clause-err
 returns-in_err-add_child-clause-err t c =
-    let v = c.args.self.now in
-    let half = half_total v c.args.at (keys_at (map shape c.self.inside.nodes.items) c.args.at) c.loop-child.child-index (map seen c.args.warned.now.items) (map seen c.loop-child.warned.items) c.loop-child.graph c.requires.within c.loop-child.invariant.made in
-    let more = made_total v _ (map seen c.loop-child.warned.items) (map seen c.make.new.warned.items) c.in_ok-below.below c.in_ok-below.ensures.made in
     let is : c.add_child.result ≡ Err c.in_err-add_child.field-0.0 = c.in_err-add_child.was in
-    let large : IsErrOf c.add_child.result TooLarge ↔ (2 ^ 64 ≤ total c.loop-child.graph + total c.in_ok-below.below) = c.add_child.ensures.too_large in
-    let never : ¬ (IsErrOf c.add_child.result Open) = c.add_child.ensures.never_open in
+    let fits : total c.loop-child.graph ≤ entered (map_of c.args.self.now) = part_fits {t = begun (keys_at (map shape c.self.inside.nodes.items) c.args.at) c.loop-child.child-index} c.loop-child.invariant.made in
     let memory : c.in_err-add_child.field-0.0 ≡ Memory =
     memory_alone c.in_err-add_child.field-0.0
-    (λ e. (let most = large.0 (is ∙ ap (λ (r : Refusal). Err r) e) in omega (arith, most, half, more, c.requires.fits)))
-    (λ e. never (is ∙ ap (λ (r : Refusal). Err r) e)) in
+    (λ e. (let most = c.add_child.ensures.too_large.0 (is ∙ ap (λ (r : Refusal). Err r) e) in omega (arith, most, fits, part_fits c.in_ok-below.ensures.made, c.requires.fits)))
+    (λ e. c.add_child.ensures.never_open (is ∙ ap (λ (r : Refusal). Err r) e)) in
     passed_on c.from_residual-in_err-add_child.result _ c.from_residual-in_err-add_child.ensures.1 (λ e w. w ∙ memory)
 
 pub loop-child-preserved : goal.loop-child-preserved
@@ -87,10 +81,12 @@ loop-child-preserved t c =
     let there = child t here j c.loop-child-test.true in
     let kept : c.pop.new.self.items ≡ c.args.keys.now.items = popped c.loop-child.keys.items c.make.new.keys.items c.pop.new.self.items c.as_str.result _ c.pop.ensures.rest c.make.new.keys.ok.0 (c.in_ok-below.ensures.keys ∙ c.in_ok-push.ensures.items) ∙ c.loop-child.invariant.keys in
     let is : c.add_child.new.self ≡ sum_of c.loop-child.graph (under (key_in ks j) c.in_ok-below.below) = c.in_ok-add_child.ensures.sum ∙ ap (λ (k : Key). sum_of c.loop-child.graph (under k c.in_ok-below.below)) (c.copy.ensures ∙ ap (λ (n : Node). n.key) c.index.ensures ∙ there.3 c.index.result.now) in
+    let listed = listing_of c.self.inside.nodes.items c.self.invariant c.self.view_is in
     record {
       keys = kept;
-      made = half_more c.args.self.now c.args.at ks j (omega (arith, c.loop-child-test.true, count t here)) (c.self.invariant.arena.rise c.args.at) _ there.2 (map seen c.args.warned.now.items) (map seen c.loop-child.warned.items) (map seen c.make.new.warned.items) c.loop-child.graph c.add_child.new.self c.in_ok-below.below c.loop-child.invariant.made c.in_ok-below.ensures.made is;
+      made = rw (add-one j) (part_more c.args.self.now listed c.args.at c.requires.within ks (c.self.invariant.arena.rise c.args.at) j (omega (arith, c.loop-child-test.true, count t here)) _ there.2
+          _ _ _ _ _ _ c.loop-child.invariant.made c.in_ok-below.ensures.made is);
     }
 
 pub returns-clause-made : goal.returns-clause-made
-returns-clause-made t c = made_all c.self.inside.nodes.items c.self.invariant c.self.view_is c.args.at c.requires.within (map seen c.args.warned.now.items) (map seen c.loop-child.warned.items) c.loop-child.graph c.loop-child.child-index (let ended = c.loop-child.auto.child-index-end in omega (arith, count t (goal.at.returns-clause-made t c).After-as_slice-child-items)) c.loop-child.invariant.made
+returns-clause-made t c = made_all c.self.inside.nodes.items c.self.invariant c.self.view_is c.args.at c.requires.within _ _ _ c.loop-child.child-index (let ended = c.loop-child.auto.child-index-end in omega (arith, count t (goal.at.returns-clause-made t c).After-as_slice-child-items)) c.loop-child.invariant.made

@@ -1,6 +1,6 @@
 -- An entry of 0 bytes, and then one of all bytes.
 use Rattle.std.proofs.Common.{arith}
-use Rattle.allocative_collectors.proofs.Adds.{total_entered, entered_twice}
+use Rattle.allocative_collectors.proofs.Entries.{total_entered, entered_twice}
 use Rattle.allocative_collectors.proofs.tree.Tree.enter.Goals as goal
 
 pub raise-requires-clause-not_root : goal.raise-requires-clause-not_root

@@ -1,38 +1,63 @@
--- The walk from the root has all places.
-use Rattle.std.proofs.Common.{arith, ◌≡◌, ◌<◌, ◌^◌, ℕ, List, [], ◌∷◌, ◌++◌, map, Bor, sym, ap, subst, ◌∙◌, flat_map}
-use Rattle.allocative_collectors.proofs.Common.{get, Path, Graph, graph, warned_paths, map_of, warned_at, shape, WarnedPath, IsWalk, seen, warning_lines}
+-- The walk from the root has all paths.
+use Rattle.std.proofs.Common.{arith, ◌≡◌, ◌<◌, ◌^◌, ℕ, true, List, ◌++◌, map, Bor, sym, ap, subst, ◌∙◌, flat_map, Bool, false, not, ◌&&◌, cond, [], ◌∷◌, refl, nat_lt, append-nil}
+use Rattle.allocative_collectors.proofs.Common.{get, Path, Graph, graph, map_of, seen, warning_lines, entries, newline, Sums, below, is_root, warning_text, Listed}
 use Rattle.std.specs.FinMap.{same_map}
-use Rattle.allocative_graph.specs.Graph.{total}
+use Rattle.allocative_graph.specs.Graph.{total, warned, warning, warning_line, warnings, warned_paths}
 use Rattle.allocative_graph.proofs.Basics.{path_total, path_antisymmetric}
-use Rattle.allocative_collectors.proofs.Bridge.{IsListing}
-use Rattle.allocative_collectors.proofs.Below.{listing}
-use Rattle.allocative_collectors.proofs.Made.{made_total}
-use Rattle.allocative_collectors.proofs.Whole.{warned_walk, lines-warned_paths}
+use Rattle.allocative_collectors.specs.Finishing.{rows_behind}
+use Rattle.allocative_collectors.proofs.Made.{part_fits}
+use Rattle.allocative_collectors.proofs.NodeReads.{listing_of}
+use Rattle.std.specs.List.{filter}
+use Rattle.std.proofs.lemmas.Grind.{flat_map-append}
+use Rattle.allocative_graph.specs.Sums.{Node}
 use Rattle.allocative_collectors.proofs.tree.Tree.finish.Goals as goal
 
+all_kept : {X : Type 0} (xs : List X) → filter (λ x. true) xs ≡ xs
+all_kept [] = refl
+all_kept (x ∷ xs) = ap (λ (ys : List _). x ∷ ys) (all_kept xs)
+
+-- The rows of a walk from the root are all rows.
+warned_walk : (s : Listed) → flat_map (warned (map_of s)) (rows_behind s [] (λ q. true)) ≡ warned_paths (map_of s)
+warned_walk s = ap (flat_map (warned (map_of s))) (all_kept (entries (map_of s)))
+
+-- ---- the text of the warnings
+line_of : (s : Sums) (e : Path × Node) → warning_lines (warned s e) ≡ warning s e
+line_of s e = by (not (is_root e.0) && not e.1.is_unique && nat_lt e.1.bytes (below s e.0))
+  where
+    by : (b : Bool) → warning_lines (cond b (record { path = e.0; self_size = e.1.bytes; children_size = below s e.0 } ∷ []) []) ≡ cond b (warning_line e.0 e.1.bytes (below s e.0)) []
+    by true = append-nil (warning_line e.0 e.1.bytes (below s e.0))
+    by false = refl
+
+lines_of : (s : Sums) (es : List (Path × Node)) → warning_lines (flat_map (warned s) es) ≡ flat_map (warning s) es
+lines_of s [] = refl
+lines_of s (e ∷ es) =
+    flat_map-append (λ w. warning_text w ++ newline ∷ []) (warned s e) (flat_map (warned s) es)
+    ∙ (λ i. line_of s e i ++ lines_of s es i)
+
+-- The lines of the paths that have a warning are the text of the warnings.
+lines-warned_paths : (s : Sums) → warning_lines (warned_paths s) ≡ warnings s
+lines-warned_paths s = lines_of s (entries s)
+
 pub make-requires-clause-within : goal.make-requires-clause-within
-make-requires-clause-within c = (subst IsListing c.self.view_is (listing (map shape c.self.inside.nodes.items) c.self.invariant.arena)).rooted
+make-requires-clause-within c = (listing_of c.self.inside.nodes.items c.self.invariant c.self.view_is).rooted
 
 pub make-requires-clause-keys : goal.make-requires-clause-keys
 make-requires-clause-keys c =
-    let all : IsListing c.args.self.now = subst IsListing c.self.view_is (listing (map shape c.self.inside.nodes.items) c.self.invariant.arena) in
-    ap (map (λ (k : Bor (List ℕ)). k.now)) c.new-keys.ensures.items ∙ sym all.root_path
+    ap (map (λ (k : Bor (List ℕ)). k.now)) c.new-keys.ensures.items ∙ sym (listing_of c.self.inside.nodes.items c.self.invariant c.self.view_is).root_path
 
 pub returns-clause-made : goal.returns-clause-made
 returns-clause-made c =
     let v = c.args.self.now in
-    let all : IsListing v = subst IsListing c.self.view_is (listing (map shape c.self.inside.nodes.items) c.self.invariant.arena) in
+    let root = (listing_of c.self.inside.nodes.items c.self.invariant c.self.view_is).root_path in
     let made = c.in_ok-graph.ensures.made in
-    let walk : IsWalk v [] (0 ∷ made.others) = subst (λ (p : Path). IsWalk v p (0 ∷ made.others)) all.root_path made.walk in
-    let warned : map seen c.make.new.warned.items ≡ warned_paths (map_of v) =
-    made.warned_are ∙ (ap (λ (x : List WarnedPath). map seen x ++ flat_map (warned_at v) (0 ∷ made.others)) c.new-warned.ensures.items ∙ warned_walk v all made.others walk) in (
-      c.in_ok-new.ensures.graph ∙ same_map path_total path_antisymmetric c.in_ok-graph.graph (graph (map_of v)) (λ q. made.graph_is q ∙ ap (λ (p : Path). get (graph (map_of v)) (p ++ q)) all.root_path),
-      c.in_ok-new.ensures.warnings ∙ (ap warning_lines warned ∙ lines-warned_paths (map_of v)),
-      c.in_ok-new.ensures.warned ∙ warned,
+    let found : map seen c.make.new.warned.items ≡ warned_paths (map_of v) =
+    made.warned_are ∙ ((λ j. map seen (c.new-warned.ensures.items j) ++ flat_map (warned (map_of v)) (rows_behind v (root j) (λ q. true))) ∙ warned_walk v) in (
+      c.in_ok-new.ensures.graph ∙ same_map path_total path_antisymmetric c.in_ok-graph.graph (graph (map_of v)) (λ q. made.graph_is q ∙ ap (λ (p : Path). get (graph (map_of v)) (p ++ q)) root),
+      c.in_ok-new.ensures.warnings ∙ (ap warning_lines found ∙ lines-warned_paths (map_of v)),
+      c.in_ok-new.ensures.warned ∙ found,
     )
 
 pub returns-clause-total : goal.returns-clause-total
 returns-clause-total c =
-    let most = made_total c.args.self.now 0 _ _ c.in_ok-graph.graph c.in_ok-graph.ensures.made in
-    let small : total c.in_ok-graph.graph < 2 ^ 63 = omega (arith, most, c.requires) in
+    let small : total c.in_ok-graph.graph < 2 ^ 63 = omega (arith, part_fits c.in_ok-graph.ensures.made, c.requires) in
     subst (λ (g : Graph). total g < 2 ^ 63) (sym c.in_ok-new.ensures.graph) small
