@@ -17,12 +17,8 @@ pub mod by_hand;
 pub mod collector;
 pub mod entries;
 
-use crate::allocative_trait::Allocative;
 use crate::visitor::collector::Collector;
-use allocative_described::Described;
-use allocative_graph::key::Key;
-use allocative_graph::refusal::Refusal;
-use allocative_graph::shared::Identity;
+use crate::{Allocative, Described, Identity, Key, Refusal};
 
 /// A place in a collector. Dropping it, or calling `exit`, goes one step back.
 pub struct Visitor<'a> {

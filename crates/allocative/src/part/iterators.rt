@@ -11,13 +11,8 @@ ghost use Rattle.allocative.specs.Visited.{Entered};
 ghost use Rattle.allocative.specs.Bodies.{are_shown_each};
 ghost use Rattle.allocative.specs.Runs.{IsOfRun, RefusesAlong, RefusesCounted, CountsRun, field_of, pair_shows, deref_entry, value_shows};
 
-use crate::allocative_trait::Allocative;
-use crate::part::Part;
 use crate::part::slices::are_shown_each;
-use crate::visitor::Visitor;
-use allocative_described::Described;
-use allocative_graph::key::Key;
-use allocative_graph::refusal::Refusal;
+use crate::{Allocative, Described, Key, Part, Refusal, Visitor};
 
 // A count plus one, or `None` where it does not fit.
 fn one_more(count: Option<usize>) -> Option<usize>

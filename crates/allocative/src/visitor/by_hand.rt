@@ -33,11 +33,8 @@ ghost use Rattle.allocative.specs.Nested.{LendsCollector};
 ghost use Rattle.allocative.specs.Shared.{AnswersShared, told};
 ghost use Rattle.allocative.specs.Visited.{collector_of as state_of};
 
-use crate::visitor::Visitor;
 use crate::visitor::collector::Collector;
-use allocative_graph::key::Key;
-use allocative_graph::refusal::Refusal;
-use allocative_graph::shared::Identity;
+use crate::{Identity, Key, Refusal, Visitor};
 
 /// The collector of the visitor. The visitor ends with what is left of it; nothing else of the visitor changes.
 pub fn collector_of<'b>(visitor: &'b mut Visitor<'_>) -> &'b mut Collector

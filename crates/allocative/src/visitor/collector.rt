@@ -10,12 +10,9 @@ ghost use Rattle.allocative.specs.Kinds.{kind_of};
 ghost use Rattle.allocative.specs.Built.{as_graph};
 ghost use Rattle.allocative.specs.Making.{Makes, Done, one};
 
+use crate::{FlameGraphOutput, Identity, Key, Refusal};
 use allocative_collectors::graph_collector::GraphCollector;
 use allocative_collectors::held_collector::HeldCollector;
-use allocative_collectors::output::FlameGraphOutput;
-use allocative_graph::key::Key;
-use allocative_graph::refusal::Refusal;
-use allocative_graph::shared::Identity;
 use std::alloc::{AllocError, Global};
 use std::marker::Model;
 

@@ -7,12 +7,7 @@ ghost use Rattle.allocative.specs.Making.{MakesPlan, MakesFirst, one};
 ghost use Rattle.allocative.specs.Visited.{Entered};
 ghost use Rattle.allocative.specs.Closures.{KeepsVisitor, CalledInside};
 
-use crate::allocative_trait::Allocative;
-use crate::part::Part;
-use crate::visitor::Visitor;
-use allocative_described::Described;
-use allocative_graph::key::Key;
-use allocative_graph::refusal::Refusal;
+use crate::{Allocative, Described, Key, Part, Refusal, Visitor};
 
 impl Visitor<'_> {
     /// One inline entry of the declared name and size of `T`. It is `TooLarge` where there is no size; its

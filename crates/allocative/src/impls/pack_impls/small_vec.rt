@@ -5,13 +5,7 @@ ghost use Rattle.std.specs.Prelude.{codes};
 ghost use Rattle.allocative_graph.specs.Shows as shows;
 ghost use Rattle.allocative.specs.PackShows.{small_vec_inside};
 
-use crate::allocative_trait::Allocative;
-use crate::part::containers::FieldEach;
-use crate::part::{Declared, Part, Unique};
-use crate::visitor::Visitor;
-use allocative_described::Described;
-use allocative_graph::key::Key;
-use allocative_graph::refusal::Refusal;
+use crate::{Allocative, Declared, Described, FieldEach, Key, Part, Refusal, Unique, Visitor};
 use smallvec::SmallVec;
 
 impl<T: Allocative + Described, const N: usize> Allocative for SmallVec<T, N> {

@@ -5,12 +5,7 @@ ghost use Rattle.std.specs.Prelude.{◌&&◌, codes};
 ghost use Rattle.allocative_graph.specs.Shows as shows;
 ghost use Rattle.allocative.specs.StdShows.{option_inside, result_inside};
 
-use crate::allocative_trait::Allocative;
-use crate::part::{Declared, Field, Part};
-use crate::visitor::Visitor;
-use allocative_described::Described;
-use allocative_graph::key::Key;
-use allocative_graph::refusal::Refusal;
+use crate::{Allocative, Declared, Described, Field, Key, Part, Refusal, Visitor};
 
 impl<T: Allocative + Described> Allocative for Option<T> {
     ghost may_show = { λ o. shows.Field (codes "Option") ⟦<Option<T> as Described>⟧.size

@@ -8,13 +8,11 @@ ghost use Rattle.allocative.specs.Bodies.{buffer_shows, cut_shows};
 ghost use Rattle.allocative.specs.Runs.{field_of, pair_shows};
 ghost use Rattle.allocative.specs.StdShows.{in_any_order};
 
-use crate::allocative_trait::Allocative;
-use crate::part::containers::{Buffer, Cut, FieldEach, Items, Pairs};
-use crate::part::{Declared, Inside, Part};
-use crate::visitor::Visitor;
-use allocative_described::Described;
-use allocative_graph::key::Key;
-use allocative_graph::refusal::Refusal;
+use crate::part::containers::Cut;
+use crate::{
+    Allocative, Buffer, Declared, Described, FieldEach, Inside, Items, Key, Pairs, Part, Refusal,
+    Visitor,
+};
 use std::collections::{BTreeMap, BTreeSet, HashMap, HashSet, VecDeque};
 use std::hash::Hash;
 

@@ -5,12 +5,7 @@ ghost use Rattle.std.specs.Prelude.{true, codes};
 ghost use Rattle.std.specs.Mem.{manually_drop_value};
 ghost use Rattle.allocative_graph.specs.Shows as shows;
 
-use crate::allocative_trait::Allocative;
-use crate::part::{Declared, Field, Part};
-use crate::visitor::Visitor;
-use allocative_described::Described;
-use allocative_graph::key::Key;
-use allocative_graph::refusal::Refusal;
+use crate::{Allocative, Declared, Described, Field, Key, Part, Refusal, Visitor};
 use std::marker::PhantomData;
 use std::mem::ManuallyDrop;
 

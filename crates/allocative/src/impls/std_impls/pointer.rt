@@ -4,12 +4,7 @@
 ghost use Rattle.std.specs.Prelude.{true, codes, Some};
 ghost use Rattle.allocative_graph.specs.Shows as shows;
 
-use crate::allocative_trait::Allocative;
-use crate::part::{Declared, Part, Unique};
-use crate::visitor::Visitor;
-use allocative_described::Described;
-use allocative_graph::key::Key;
-use allocative_graph::refusal::Refusal;
+use crate::{Allocative, Declared, Described, Key, Part, Refusal, Unique, Visitor};
 
 impl<T: Allocative> Allocative for Box<T> {
     ghost may_show = { λ b. shows.Field (codes "Box") (Some 8)

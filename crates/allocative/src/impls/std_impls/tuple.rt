@@ -5,12 +5,7 @@ ghost use Rattle.std.specs.Prelude.{◌&&◌, codes};
 ghost use Rattle.allocative_graph.specs.Shows as shows;
 ghost use Rattle.allocative.specs.Bodies.{slice_of};
 
-use crate::allocative_trait::Allocative;
-use crate::part::{Declared, Field, Part};
-use crate::visitor::Visitor;
-use allocative_described::Described;
-use allocative_graph::key::Key;
-use allocative_graph::refusal::Refusal;
+use crate::{Allocative, Declared, Described, Field, Key, Part, Refusal, Visitor};
 
 impl<A: Allocative + Described> Allocative for (A,) {
     ghost may_show = { λ p. shows.Field (codes "tuple1") ⟦<(A,) as Described>⟧.size
