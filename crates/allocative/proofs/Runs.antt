@@ -121,14 +121,10 @@ plain_run v name size count needs_drop p e (xs, d, i) h =
     let up = λ (f : Forest) (g : Field name (size_product size (checked (length xs))) Nothing f). plain_slice name size needs_drop p (map v xs) e f (rw length-map (bytes_counted name size (length xs) f g)) in
     entered_run v (slice_shows name size needs_drop p) xs d (entered_if h' exact_never (loosely (up)))
 
-each_run : {S A T : Type 0} {steps : S → Option A → S → Type 0} {s : S} (v : A → T) (name : Key) (size : Option ℕ) (needs_drop : Bool) (p : T → Showing) → are_shown_each needs_drop size ≡ true →
-    (f : Forest) → IsOfRun steps s v (each_shows p) f → IsOfRun steps s v (slice_shows name size needs_drop p) f
-each_run v name size needs_drop p e f o =
-    record { given = o.given; drained = o.drained; shown = each_slice name size needs_drop p (map v o.given) e f o.shown }
-
 pub items_run : {S A T : Type 0} {e : Bool} {steps : S → Option A → S → Type 0} {s : S} (v : A → T) (name : Key) (size : Option ℕ) (needs_drop : Bool) (p : T → Showing) {a b : Visitor} {r : Result (Unit {0}) Refusal} →
     are_shown_each needs_drop size ≡ true → Entered e (IsOfRun steps s v (each_shows p)) a b r → Entered false (IsOfRun steps s v (slice_shows name size needs_drop p)) a b r
-items_run v name size needs_drop p e h = entered_if h exact_never (loosely (each_run v name size needs_drop p e))
+items_run {steps = steps} {s = s} v name size needs_drop p e h = entered_if h exact_never (loosely (λ f (o : IsOfRun steps s v (each_shows p) f).
+    record { given = o.given; drained = o.drained; shown = each_slice name size needs_drop p (map v o.given) e f o.shown }))
 
 -- ---- what a counted slice refuses
 fits_by : (s n : ℕ) → (s ≡ 0 → n < 2 ^ 64) → s * n < 2 ^ 64 → n < 2 ^ 64

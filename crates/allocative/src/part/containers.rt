@@ -183,10 +183,7 @@ impl Part for Unused {
 
     #[inline(always)]
     fn enter(self, visitor: &mut Visitor<'_>) -> Result<(), Refusal> {
-        let bytes = match self.item_size {
-            Some(size) => size.checked_mul(self.count),
-            None => None,
-        };
+        let bytes = self.item_size.and_then(|size| size.checked_mul(self.count));
         Declared("unused_capacity", bytes, ()).enter(visitor)
     }
 }

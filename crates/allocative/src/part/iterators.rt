@@ -14,13 +14,6 @@ ghost use Rattle.allocative.specs.Runs.{IsOfRun, RefusesAlong, RefusesCounted, C
 use crate::part::slices::are_shown_each;
 use crate::{Allocative, Described, Key, Part, Refusal, Visitor};
 
-// A count plus one, or `None` where it does not fit.
-fn one_more(count: Option<usize>) -> Option<usize>
-    ensures { result ≡ size_sum count (Some 1) }
-{
-    count?.checked_add(1)
-}
-
 // The number of items that the iterator gives, or `None` where it does not fit.
 fn count_of<A: Drop, I: Iterator<Item = A> + Drop>(items: I) -> Option<usize>
     requires can { I.can_next items }
@@ -29,7 +22,7 @@ fn count_of<A: Drop, I: Iterator<Item = A> + Drop>(items: I) -> Option<usize>
 {
     let mut count = Some(0);
     for _item in items {
-        count = one_more(count);
+        count = count.and_then(|before: usize| before.checked_add(1));
     }
     count
 }

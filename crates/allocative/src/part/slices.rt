@@ -22,10 +22,7 @@ pub(crate) fn bytes_of<T: Described>(count: Option<usize>) -> Option<usize>
 pub(crate) fn are_shown_each<T: Described>() -> bool
     ensures { result ≡ are_shown_each T.needs_drop T.size }
 {
-    match T::size() {
-        Some(size) => T::needs_drop() && size != 0,
-        None => false,
-    }
+    T::needs_drop() && !matches!(&T::size(), None | Some(0))
 }
 
 impl Visitor<'_> {

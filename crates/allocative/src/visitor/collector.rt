@@ -172,13 +172,11 @@ impl Collector {
         if let Some(cause) = self.failed {
             return Err(cause);
         }
-        match self.kind.enter(key, size, is_unique) {
-            Ok(outer) => Ok(outer),
-            Err(refusal) => {
-                self.failed = Some(refusal);
-                Err(refusal)
-            }
+        let entered = self.kind.enter(key, size, is_unique);
+        if let Err(refusal) = entered {
+            self.failed = Some(refusal);
         }
+        entered
     }
 
     // One more inline entry with nothing inside it.
@@ -190,13 +188,11 @@ impl Collector {
         if let Some(cause) = self.failed {
             return Err(cause);
         }
-        match self.kind.enter_simple(key, size) {
-            Ok(()) => Ok(()),
-            Err(refusal) => {
-                self.failed = Some(refusal);
-                Err(refusal)
-            }
+        let entered = self.kind.enter_simple(key, size);
+        if let Err(refusal) = entered {
+            self.failed = Some(refusal);
         }
+        entered
     }
 
     // One more shared entry. It returns whether the content is to be shown.

@@ -7,6 +7,7 @@ ghost use Rattle.allocative.specs.Making.{MakesPlan, MakesFirst, one};
 ghost use Rattle.allocative.specs.Visited.{Entered};
 ghost use Rattle.allocative.specs.Closures.{KeepsVisitor, CalledInside};
 
+use crate::by_hand::enter;
 use crate::{Allocative, Described, Key, Part, Refusal, Visitor};
 
 impl Visitor<'_> {
@@ -53,7 +54,7 @@ impl Visitor<'_> {
         requires keeps { KeepsVisitor F.FnOnce visit }
         ensures { CalledInside F.FnOnce visit name size self.old self.new result }
     {
-        let mut inner = self.collector.enter(name, size)?;
+        let mut inner = enter(self.collector, name, size)?;
         if let Err(refusal) = visit(&mut inner) {
             return Err(inner.refuse(refusal));
         }

@@ -5,7 +5,7 @@ ghost use Rattle.std.specs.Prelude.{true, codes};
 ghost use Rattle.std.specs.Mem.{manually_drop_value};
 ghost use Rattle.allocative_graph.specs.Shows as shows;
 
-use crate::{Allocative, Declared, Described, Field, Key, Part, Refusal, Visitor};
+use crate::{Allocative, Described, Field, Part, Refusal, Visitor, Whole};
 use std::marker::PhantomData;
 use std::mem::ManuallyDrop;
 
@@ -16,9 +16,7 @@ impl<T: Allocative + Described> Allocative for ManuallyDrop<T> {
     ghost is_exact = { T.is_exact };
 
     fn visit(&self, visitor: &mut Visitor<'_>) -> Result<(), Refusal> {
-        let inner = Field("inner", &**self);
-        let name = Key::for_type_name::<ManuallyDrop<T>>();
-        Declared(name, <ManuallyDrop<T>>::size(), inner).enter(visitor)
+        Whole(self, Field("inner", &**self)).enter(visitor)
     }
 }
 

@@ -6,7 +6,7 @@ ghost use Rattle.allocative_graph.specs.Shows as shows;
 ghost use Rattle.allocative.specs.StdShows.{shared_inside};
 
 use crate::{
-    Allocative, Declared, Described, IdArc, IdRc, Key, Part, Refusal, Shared, Visitor,
+    Allocative, Declared, Described, IdArc, IdRc, Key, Part, Refusal, Shared, Visitor, Whole,
     shared_inner_size,
 };
 
@@ -23,7 +23,7 @@ impl<T: Allocative + Described> Allocative for IdRc<T> {
             identity: self.id(),
             content: Declared("RcInner", shared_inner_size::<T>(), self.get()),
         };
-        Declared(Key::for_type_name::<IdRc<T>>(), <IdRc<T>>::size(), pointer).enter(visitor)
+        Whole(self, pointer).enter(visitor)
     }
 }
 
@@ -40,11 +40,6 @@ impl<T: Allocative + Described> Allocative for IdArc<T> {
             identity: self.id(),
             content: Declared("ArcInner", shared_inner_size::<T>(), self.get()),
         };
-        Declared(
-            Key::for_type_name::<IdArc<T>>(),
-            <IdArc<T>>::size(),
-            pointer,
-        )
-        .enter(visitor)
+        Whole(self, pointer).enter(visitor)
     }
 }

@@ -5,7 +5,7 @@ ghost use Rattle.std.specs.Prelude.{◌&&◌, codes};
 ghost use Rattle.allocative_graph.specs.Shows as shows;
 ghost use Rattle.allocative.specs.Bodies.{slice_of};
 
-use crate::{Allocative, Declared, Described, Field, Key, Part, Refusal, Visitor};
+use crate::{Allocative, Described, Field, Part, Refusal, Visitor, Whole};
 
 impl<A: Allocative + Described> Allocative for (A,) {
     ghost may_show = { λ p. shows.Field (codes "tuple1") ⟦<(A,) as Described>⟧.size
@@ -14,9 +14,7 @@ impl<A: Allocative + Described> Allocative for (A,) {
     ghost is_exact = { A.is_exact };
 
     fn visit(&self, visitor: &mut Visitor<'_>) -> Result<(), Refusal> {
-        let first = Field("0", &self.0);
-        let name = Key::for_type_name::<(A,)>();
-        Declared(name, <(A,)>::size(), first).enter(visitor)
+        Whole(self, Field("0", &self.0)).enter(visitor)
     }
 }
 
@@ -28,10 +26,7 @@ impl<A: Allocative + Described, B: Allocative + Described> Allocative for (A, B)
     ghost is_exact = { A.is_exact && B.is_exact };
 
     fn visit(&self, visitor: &mut Visitor<'_>) -> Result<(), Refusal> {
-        let first = Field("0", &self.0);
-        let second = Field("1", &self.1);
-        let name = Key::for_type_name::<(A, B)>();
-        Declared(name, <(A, B)>::size(), (first, second)).enter(visitor)
+        Whole(self, (Field("0", &self.0), Field("1", &self.1))).enter(visitor)
     }
 }
 
@@ -45,11 +40,12 @@ impl<A: Allocative + Described, B: Allocative + Described, C: Allocative + Descr
     ghost is_exact = { A.is_exact && (B.is_exact && C.is_exact) };
 
     fn visit(&self, visitor: &mut Visitor<'_>) -> Result<(), Refusal> {
-        let first = Field("0", &self.0);
-        let second = Field("1", &self.1);
-        let third = Field("2", &self.2);
-        let name = Key::for_type_name::<(A, B, C)>();
-        Declared(name, <(A, B, C)>::size(), (first, second, third)).enter(visitor)
+        let fields = (
+            Field("0", &self.0),
+            Field("1", &self.1),
+            Field("2", &self.2),
+        );
+        Whole(self, fields).enter(visitor)
     }
 }
 
@@ -72,8 +68,7 @@ impl<
         let second = Field("1", &self.1);
         let third = Field("2", &self.2);
         let fourth = Field("3", &self.3);
-        let name = Key::for_type_name::<(A, B, C, D)>();
-        Declared(name, <(A, B, C, D)>::size(), (first, second, third, fourth)).enter(visitor)
+        Whole(self, (first, second, third, fourth)).enter(visitor)
     }
 }
 
@@ -99,13 +94,7 @@ impl<
         let third = Field("2", &self.2);
         let fourth = Field("3", &self.3);
         let fifth = Field("4", &self.4);
-        let name = Key::for_type_name::<(A, B, C, D, E)>();
-        Declared(
-            name,
-            <(A, B, C, D, E)>::size(),
-            (first, second, third, fourth, fifth),
-        )
-        .enter(visitor)
+        Whole(self, (first, second, third, fourth, fifth)).enter(visitor)
     }
 }
 
