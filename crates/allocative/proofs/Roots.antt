@@ -8,7 +8,6 @@ use Rattle.allocative_graph.specs.Graph.{Graph, graph, warnings, warned_paths, s
 use Rattle.allocative_graph.specs.Collector.{added as added_entries, IsClosed, IsAtRoot, no_entries}
 use Rattle.allocative_graph.specs.Visits.{added, Ends, IsProfile, IsSumOfTwo}
 use Rattle.allocative_graph.proofs.Plus.{plus-nothing, plus-following, takes_nothing, takes_both, visitors-plus, visitors-leave, is_graph-plus, is_graph-leave, is_graph-begin}
-use Rattle.allocative.specs.SizeOf.{IsSizeOfUnique}
 use Rattle.allocative.proofs.Showing.{left_by, each_and_one}
 use Rattle.allocative_graph.proofs.Reach.{all_is_meaning, reaches_exactly}
 use Rattle.allocative_graph.proofs.OneMeaning.{one_sums}
@@ -108,12 +107,6 @@ held_by_run p (Going b) (Going c) u n e (z, f, a, t, g) k =
     let k' : n ≡ 0 + (held f + 0) = subst (λ (x : Kind). IsHeldSum (Going x) n) g' k in
     (f, a, t', omega (arith, k'))
 
--- The same with a declared size beside it.
-pub sized_by_run : {size : Option ℕ} {mine m : ℕ} (n : ℕ) (p : Showing) (s t : State) (u : Unit) → Runs p s (Ok u) t → size ≡ Some mine → s ≡ Going (OfHeld nothing_held) → IsHeldSum t n → m ≡ n + mine → IsSizeOfUnique size p m
-sized_by_run {mine = mine} n p s t u h d e k i =
-    let is = held_by_run p s t u n e h k in
-    (mine, d, is.0, is.1, is.2, i ∙ ap (λ (x : ℕ). x + mine) is.3)
-
 -- ---- one root after another
 pub runs_nothing : (s : State) (u : Unit) → Settles s (Ok u) → Runs Nothing s (Ok u) s
 runs_nothing (Failed r) u h = absurd (cc)
@@ -199,4 +192,4 @@ pub profile_not_finished : (x : Bool) (p : Showing) (s t : State) (u : Unit) (e 
 profile_not_finished x p s t u e i h k = profile_not_begun x p e (ended_by_memory p t u e (subst (λ (z : State). Runs p z (Ok u) t) i h) k)
 
 -- The rules for visits of roots.
-pub ruleset running = (run_shows, run_refused, held_by_run, runs_nothing, runs_unsettled, runs_err, run_rightly_refused, run_rightly_unsettled, run_rightly_as_graph, rightly_ok, profile_ended, sum_of_profiles, profile_not_begun, profile_not_run, profile_not_finished)
+pub ruleset running = (run_shows, run_refused, held_by_run, runs_nothing, runs_one_more, runs_unsettled, runs_err, run_rightly_refused, run_rightly_unsettled, run_rightly_as_graph, rightly_ok, profile_ended, sum_of_profiles, profile_not_begun, profile_not_run, profile_not_finished)

@@ -69,10 +69,9 @@ impl Collector {
         ensures now { result.collector.now ≡ self.old }
     {
         // Only a flame graph's collector shows contents, and it keeps its own places.
-        let outer_is_unique = false;
         Visitor {
             collector: self,
-            outer_is_unique,
+            outer_is_unique: false,
         }
     }
 
@@ -150,10 +149,7 @@ impl Visitor<'_> {
     }
 
     /// Enters inline with a declared size: one more entry of `size` bytes under the key, and a nested visitor
-    /// at it.
-    ///
-    /// Where there is no size the call returns `TooLarge`; the other errors are those of `enter`. After `Ok`
-    /// this visitor ends with what the nested one leaves; nothing else of it changes.
+    /// at it. Where there is no size the call returns `TooLarge`; all else is as in `enter`.
     #[inline(always)]
     pub fn enter_sized(&mut self, key: Key, size: Option<usize>) -> Result<Visitor<'_>, Refusal>
         ensures* lent { sem 𝓛 (LendsNestedSized key size self.entry result) }
@@ -164,8 +160,7 @@ impl Visitor<'_> {
     }
 
     /// Enters inline with the declared name and size of `T`. Where there is no size the call returns
-    /// `TooLarge`; the other errors are those of `enter`. After `Ok` this visitor ends with what the nested one
-    /// leaves; nothing else of it changes.
+    /// `TooLarge`; all else is as in `enter`.
     #[inline(always)]
     pub fn enter_self_sized<T: Described>(&mut self) -> Result<Visitor<'_>, Refusal>
         ensures* lent { sem 𝓛 (LendsNestedSized T.name T.size self.entry result) }

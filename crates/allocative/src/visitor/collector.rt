@@ -33,12 +33,11 @@ pub struct Collector {
 impl Model for Collector {
     ghost use Rattle.allocative_graph.specs.Collector.{State};
     ghost use Rattle.allocative_graph.specs.Representation.Codes.{state_code};
+    ghost use Rattle.allocative.specs.Kinds.{kind_of, state_of};
 
     ghost Value = { State };
 
     ghost coded = { state_code };
-
-    ghost use Rattle.allocative.specs.Kinds.{kind_of, state_of};
 
     ghost view = { λ c. state_of c.failed (kind_of c.kind) };
 }
