@@ -1,5 +1,5 @@
 -- What a visit by a root visitor amounts to.
-use Rattle.std.proofs.Common.{◌≡◌, ℕ, suc, ◌+◌, ◌<◌, inl, inr, List, length, take, get_or, Bool, IsTrue, Result, Ok, Err, refl, ap, sym, subst, ◌∙◌, arith, IfOk, Option, Some}
+use Rattle.std.proofs.Common.{◌≡◌, ℕ, suc, ◌+◌, ◌<◌, inl, inr, List, length, take, get_or, Bool, IsTrue, Result, Ok, Err, refl, ap, sym, subst, ◌∙◌, arith, IfOk}
 use Rattle.allocative.proofs.Common.{Refusal, Memory, Forest, Empty, followed_by, add_all, held, ShowsNoContent, Kind, OfGraph, OfHeld, State, Failed, Going, leave, plus, Takes, visitors, is_graph, begin, is_in_unique, left, nothing_held, Showing, Nothing, Both, each_shows, Shows, refused, hidden, forgotten, Leaves, Begins, Settles, Runs, Profile, IsProfileOf, IsHeldSum, MayRefuse, MayRefuseProfile, RefusesRightly, has_added, has_refused, RunsRightly, as_graph}
 use Rattle.allocative_graph.specs.Forest.{met_after, Fits, own, all}
 use Rattle.allocative_graph.specs.Sums.{sums_of}
