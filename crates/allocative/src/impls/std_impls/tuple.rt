@@ -40,12 +40,10 @@ impl<A: Allocative + Described, B: Allocative + Described, C: Allocative + Descr
     ghost is_exact = { A.is_exact && (B.is_exact && C.is_exact) };
 
     fn visit(&self, visitor: &mut Visitor<'_>) -> Result<(), Refusal> {
-        let fields = (
-            Field("0", &self.0),
-            Field("1", &self.1),
-            Field("2", &self.2),
-        );
-        Whole(self, fields).enter(visitor)
+        let first = Field("0", &self.0);
+        let second = Field("1", &self.1);
+        let third = Field("2", &self.2);
+        Whole(self, (first, second, third)).enter(visitor)
     }
 }
 

@@ -15,19 +15,13 @@ abbrev Answer : Lfts 1 → RattleType
 Answer κs = result_row (visitor_row (named_lft 1 0 tt κs)) refusal_row
 
 -- How the builder ends, with a loan and without.
-abbrev EndsBegun : Result Visitor Refusal → State → State → Type 0
-EndsBegun r w b = OnOk r (b ≡ as_graph w)
-
-abbrev EndsRefused : State → Result Visitor Refusal → State → Type 0
-EndsRefused s r b = IfErr r (λ e. Begins s (Err e) b)
-
-ends_begun : (r : Result Visitor Refusal) (w z : State) → OnOk r (z ≡ w) → EndsBegun r w (as_graph z)
+ends_begun : (r : Result Visitor Refusal) (w z : State) → OnOk r (z ≡ w) → OnOk r (as_graph z ≡ as_graph w)
 ends_begun (Ok v) w z h = ap as_graph h
 ends_begun (Err e) w z h = h
 
-ends_refused : (s c : State) → s ≡ as_graph c → (r : Result Visitor Refusal) (z : State) → OnErr r (IfErr r (λ e. Begins (as_graph c) (Err e) (as_graph z))) → EndsRefused s r (as_graph z)
+ends_refused : (s c : State) → s ≡ as_graph c → (r : Result Visitor Refusal) (z : State) → OnErr r (IfErr r (λ e. Begins (as_graph c) (Err e) (as_graph z))) → IfErr r (λ e. Begins s (Err e) (as_graph z))
 ends_refused s c i (Ok v) z h = h
-ends_refused s c i (Err e) z h = let P : State → Type 0 = λ x. Begins x (Err e) (as_graph z) in subst P (sym i) h
+ends_refused s c i (Err e) z h = rw i h
 
 abbrev stayed : Stays f.ended.signature.params f.ended.kept
 stayed = (stay_dropped _ no, tt)
@@ -75,7 +69,7 @@ root_visitor_spec 𝓤 𝓛 𝓜 𝓡 wired =
     -- [what the part ends as; the token; the result; what the builder ends as]
     move ! (3 ∷ 0 ∷ []) $ use2 𝓛 (‵ (LendsRoot s res))
     (nest 𝓛 builder.the_row collector_row as_graph s.ghost_name r.ghost_name
-    (λ w x'. OnOk res (x' ≡ w)) (λ x'. OnErr res (IfErr res (λ w. Begins (as_graph r.now) (Err w) (as_graph x')))) (EndsBegun res) (EndsRefused s.now res) (ends_begun res) (ends_refused s.now r.now same res)
+    (λ w x'. OnOk res (x' ≡ w)) (λ x'. OnErr res (IfErr res (λ w. Begins (as_graph r.now) (Err w) (as_graph x')))) (λ w b. OnOk res (b ≡ as_graph w)) (λ b. IfErr res (λ e. Begins s.now (Err e) b)) (ends_begun res) (ends_refused s.now r.now same res)
     (name_if_ok (λ w. w.collector.ghost_name) res)) $
     move ! (2 ∷ []) $ peeks ! (Answer κs) _ (shows 𝓛 (Answer κs)) res (u ∷ []) (λ told.
     let good = (((result_laws _ _ (visitor_laws (named_lft 1 0 tt κs)) refusal_laws).lawful 𝓛).typed res (u ∷ []) told).0 in
