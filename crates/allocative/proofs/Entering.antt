@@ -1,37 +1,14 @@
--- A call that enters: it lends the visitor's collector to a call of the collector, and a nested visitor may hold it.
-use Rattle.allocative.proofs.Lent.{Lender, Answer, key_laws, refusal_laws, result_laws, visitor_laws, nest, one_value, at_values, ◌≡◌, List, [], ◌∷◌, refl, ap, subst, MutBor, proved_at, says_two, Goes-blank, id⊢, ftrue, flft, named, Val, fact, tables, ‵, raw, ◌⊛◌, some, later, ◌$◌, ◌∵◌, !, qed, done, move, keep, drop, use1, use2, split, join, fsplit, fjoin, feq_i, feq_l, pick, await, suffices, frame, enter, addr, stop, no_more, and_then, returns, alloc_all, pass_all, free_all, look_at, get, through, sets, lands_as, yes, no, shows, MutRef, mut_vals, mut_Tells, plain, named_lft, nothing, heard, peeks, only, calls_at, Lasts, lasts, triple_of, framed, Stays, stay_dropped, Goes-spent_ref, ends_at}
-use Rattle.std.proofs.Common.{Bool, Result, Ok, Err, IfOk, IfErr, OnOk, OnErr}
-use Rattle.allocative.proofs.Common.{name_if_ok, Refusal, Key, State, Visitor, LendsCollector, with_state}
-use Rattle.std.specs.Borrow.{Fml, RestsIfErr, follows_so}
-use Rattle.allocative_graph.specs.contracts.key.Key as key
-use Rattle.allocative.specs.contracts.visitor.Visitor as visitor
-use Rattle.allocative.specs.contracts.visitor.collector.Collector as collector
-use Rattle.allocative_graph.specs.contracts.refusal.Refusal as refusal
-use Rattle.std.specs.contracts.result.Result as result
+-- A call that enters: it lends the visitor's collector to a call of `by_hand`, and a nested visitor may hold it.
+use Rattle.allocative.proofs.Lent.{visitor_row, collector_row, refusal_row, result_row, key_row, Lender, Answer, key_laws, refusal_laws, result_laws, visitor_laws, nest, one_value, at_values, ◌≡◌, List, [], ◌∷◌, refl, ap, subst, MutBor, proved_at, says_two, Goes-blank, id⊢, ftrue, flft, named, Val, fact, tables, ‵, raw, ◌⊛◌, some, later, ◌$◌, ◌∵◌, !, qed, done, move, keep, drop, use1, use2, split, join, fsplit, fjoin, feq_i, feq_l, pick, await, suffices, frame, enter, addr, stop, no_more, and_then, returns, alloc_all, pass_all, free_all, look_at, get, through, sets, lands_as, yes, no, shows, MutRef, mut_vals, mut_Tells, plain, named_lft, nothing, heard, peeks, only, calls_at, Lasts, lasts, triple_of, framed, Stays, stay_dropped, Goes-spent_ref, ends_at, Bool, Result, Ok, Err, IfOk, IfErr, OnOk, OnErr, name_if_ok, Refusal, Key, State, Visitor, LendsCollector, with_state, Fml, RestsIfErr, follows_so, Ura, sep, emp, Logic, sem, Running, WpFn, Closed, Ty, Lifetime, erased, Fn, Callee, local, value_local, seq, assign, addr_of, deref, call, copy, place, return, Is, Typed, RattleType, RefMutOf, rest, layout, Laws, Ended, Clauses, closing, Meets, walk_of, Goes}
 use mathlib.Core.List.{map}
-use seplogic.Ra.Ura.{Ura}
-use base.Logic.{sep, emp}
-use types.Logic.{Logic, sem}
-use contract.Running.{Running}
 use prog.Model.{Model}
-use prog.Wp.{WpFn, Closed}
-use mir.Syntax.{Ty, Lifetime, erased, Fn, Callee, local, value_local, seq, assign, addr_of, deref, call, copy, place, return}
-use denote.Laws.{Is, Typed}
-use denote.RattleType.{RattleType}
-use denote.Builtin.{RefMutOf}
-use denote.Exit.{rest}
-use denote.Param.{layout}
-use denote.Param.Laws.{Laws}
-use denote.Triple.Clauses.{Ended, Clauses, closing}
-use denote.Triple.Spec.{Meets}
-use denote.Triple.Walked.{walk_of, Goes}
 use Rattle.allocative.specs.contracts.visitor.Visitor.enter as f
-use Rattle.allocative.specs.contracts.visitor.Visitor.reborrow as g
-use Rattle.allocative.specs.contracts.visitor.collector.Collector.enter as i
+use Rattle.allocative.specs.contracts.visitor.by_hand.collector_of as g
+use Rattle.allocative.specs.contracts.visitor.by_hand.enter as i
 
 -- A visitor at a lifetime, as the code names it.
 abbrev At : Lifetime → RattleType
-At ℓ = visitor.the_row (record { mir = ℓ; lft = [] })
+At ℓ = visitor_row (record { mir = ℓ; lft = [] })
 
 -- How the lender ends, with a loan and without.
 ends_entered : (s : Visitor) (r : Result Visitor Refusal) (w z : State) → OnOk r (z ≡ w) → OnOk r (with_state s z ≡ with_state s w)
@@ -56,7 +33,7 @@ module _ (N : RattleType) (told : Laws N) (In : Key → N.Denot → State → Re
     ty_params = [];
     givens = 0;
     params = 3;
-    locals = map (λ T. local (layout T) value_local) (result.the_row (At (named 0)) refusal.the_row ∷ MutRef (named 0) [] (At (named 1)) ∷ key.the_row ∷ N ∷ MutRef erased [] collector.the_row ∷ MutRef erased [] (At erased) ∷ []);
+    locals = map (λ T. local (layout T) value_local) (result_row (At (named 0)) refusal_row ∷ MutRef (named 0) [] (At (named 1)) ∷ key_row ∷ N ∷ MutRef erased [] collector_row ∷ MutRef erased [] (At erased) ∷ []);
     body = seq (assign (place 5 []) (addr_of (place 1 (deref (layout (At erased)) ∷ [])))) (seq (call g.Key.name (copy (place 5 []) ∷ []) (place 4 []))
         (seq (call h (copy (place 4 []) ∷ copy (place 2 []) ∷ copy (place 3 []) ∷ []) (place 0 [])) return));
   }
@@ -64,23 +41,23 @@ module _ (N : RattleType) (told : Laws N) (In : Key → N.Denot → State → Re
   -- The contract, and that of the collector's call.
   abbrev Outer : Ended
   Outer = record {
-    signature = record f.signature { params = RefMutOf (0 ∷ []) tt (plain Lender) (λ κs. tt) ∷ plain (λ κs. key.the_row) ∷ plain (λ κs. N) ∷ [] };
+    signature = record f.signature { params = RefMutOf (0 ∷ []) tt (plain Lender) (λ κs. tt) ∷ plain (λ κs. key_row) ∷ plain (λ κs. N) ∷ [] };
     kept = (no, (yes, (yes, tt)));
   }
 
   abbrev Inner : Ended
   Inner = record {
-    signature = record i.signature { params = RefMutOf (0 ∷ []) tt (plain (λ κs. collector.the_row)) (λ κs. tt) ∷ plain (λ κs. key.the_row) ∷ plain (λ κs. N) ∷ [] };
+    signature = record i.signature { params = RefMutOf (0 ∷ []) tt (plain (λ κs. collector_row)) (λ κs. tt) ∷ plain (λ κs. key_row) ∷ plain (λ κs. N) ∷ [] };
     kept = (no, (yes, (yes, tt)));
   }
 
   abbrev NestsBy : Key → N.Denot → MutBor Visitor → Result Visitor Refusal → Fml
   NestsBy k n s r =
-      follows_so (visitor.the_row (record { mir = named 1; lft = [] })) collector.the_row s.ghost_name (name_if_ok (λ v. v.collector.ghost_name) r)
+      follows_so (visitor_row (record { mir = named 1; lft = [] })) collector_row s.ghost_name (name_if_ok (λ v. v.collector.ghost_name) r)
       (λ w v. OnOk r (v ≡ with_state s.now w)) (λ v. IfErr r (λ e. In k n s.now.collector.now (Err e) v.collector.now × (v ≡ with_state s.now v.collector.now)))
 
   abbrev LendsBy : Key → N.Denot → MutBor State → Result Visitor Refusal → Fml
-  LendsBy k n s r = RestsIfErr collector.the_row s (λ v. v.collector.ghost_name) r (λ t. IfErr r (λ e. In k n s.now (Err e) t))
+  LendsBy k n s r = RestsIfErr collector_row s (λ v. v.collector.ghost_name) r (λ t. IfErr r (λ e. In k n s.now (Err e) t))
 
   abbrev outer : {M : Type 1} {𝓤 : Ura M} → Logic 𝓤 → Clauses 𝓤 Outer
   outer {𝓤 = 𝓤} 𝓛 κs a = record {
@@ -104,29 +81,29 @@ module _ (N : RattleType) (told : Laws N) (In : Key → N.Denot → State → Re
   abbrev stayed : Stays Outer.signature.params Outer.kept
   stayed = (stay_dropped _ no, (stay_dropped _ yes, (stay_dropped _ yes, tt)))
 
-  pub enters : {M : Type 1} (𝓤 : Ura M) (𝓛 : Logic 𝓤) (𝓜 : Model 𝓤 𝓛.H) (𝓡 : Running 𝓤 𝓛.H 𝓜) → Goes 𝓛 2 (plain (λ κs. N)) yes (stay_dropped (plain (λ κs. N)) yes) → (name h : Callee) →
+  pub enters : {M : Type 1} (𝓤 : Ura M) (𝓛 : Logic 𝓤) (𝓜 : Model 𝓤 𝓛.H) (𝓡 : Running 𝓤 𝓛.H 𝓜) → Goes 𝓛 2 (plain (λ κs. N)) yes (stay_dropped (plain (λ κs. N)) yes) → {name h : Callee} →
       Closed 𝓤 𝓛.H (tables 𝓤 𝓛.H 𝓜 𝓡 𝓡.env).C (tables 𝓤 𝓛.H 𝓜 𝓡 𝓡.env).Λ name (function h) →
       Meets 𝓛 g.signature ((tables 𝓤 𝓛.H 𝓜 𝓡 𝓡.env).C g.Key.name) (g.spec 𝓛 𝓜.mem 𝓡.returns) →
       Meets 𝓛 Inner.signature ((tables 𝓤 𝓛.H 𝓜 𝓡 𝓡.env).C h) (closing 𝓛 Inner (inner 𝓛)) →
       Meets 𝓛 Outer.signature ((tables 𝓤 𝓛.H 𝓜 𝓡 𝓡.env).C name) (closing 𝓛 Outer (outer 𝓛))
-  enters 𝓤 𝓛 𝓜 𝓡 goes name h closed lent met =
+  enters 𝓤 𝓛 𝓜 𝓡 goes {name = name} {h = h} closed lent met =
       let c = outer 𝓛 in
       let 𝓣 = tables 𝓤 𝓛.H 𝓜 𝓡 𝓡.env in
-      proved_at 𝓛 Outer stayed c 𝓜 𝓡 (Goes-spent_ref 𝓛 2 (0 ∷ []) tt (plain Lender), (Goes-blank 𝓛 2 (plain (λ _. key.the_row)) yes (λ κs x w. tt), (goes, tt)))
+      proved_at 𝓛 Outer stayed c 𝓜 𝓡 (Goes-spent_ref 𝓛 2 (0 ∷ []) tt (plain Lender), (Goes-blank 𝓛 2 (plain (λ _. key_row)) yes (λ κs x w. tt), (goes, tt)))
       name (function h) closed (λ y₀ are.
       let κs = y₀.0.0 in let qs = y₀.0.1 in let bounds = y₀.0.2 in let a = y₀.0.3 in
       let κ = κs.0 in let q = qs.0 in let s = a.0 in let k = a.1.0 in let n = a.1.1.0 in
       let kv = one_value y₀.0.4.1.0 (key_laws.single k y₀.0.4.1.0 are.1.0) in
       let nv = one_value y₀.0.4.1.1.0 (told.single n y₀.0.4.1.1.0 are.1.1.0) in
       let e : y₀.0.4 ≡ (mut_vals s, (kv.0 ∷ [], (nv.0 ∷ [], tt))) = λ i. (mut_Tells (named 0) κ (Lender κs) s y₀.0.4.0 are.0 i, (kv.1 i, (nv.1 i, tt))) in
-      let kis = subst (λ (us : List Val). Is key.the_row k us) kv.1 are.1.0 in
+      let kis = subst (λ (us : List Val). Is key_row k us) kv.1 are.1.0 in
       let ktyped = ((key_laws.lawful 𝓛).typed k (kv.0 ∷ []) kis).0 in
       let nis = subst (λ (us : List Val). Is N n us) nv.1 are.1.1.0 in
       let ntyped = (subst (λ (τs : List Ty). Typed τs (nv.0 ∷ [])) told.one ((told.lawful 𝓛).typed n (nv.0 ∷ []) nis)).0 in
       at_values 𝓛 Outer stayed c (WpFn 𝓤 𝓛.H 𝓣.C 𝓣.Λ (function h)) y₀ (mut_vals s, (kv.0 ∷ [], (nv.0 ∷ [], tt))) e (
       let y : (walk_of 𝓛 Outer stayed c).Ghost = ((κs, qs, bounds, a, (mut_vals s, (kv.0 ∷ [], (nv.0 ∷ [], tt)))), tt) in
       let Self = ‵ ((MutRef (named 0) κ (Lender κs)).own_val s (mut_vals s)) in
-      qed 𝓛 (((‵ (flft κ q) ⊛ ‵ (flft κs.1.0 qs.1.0) ⊛ ‵ ftrue) ⊛ Self ⊛ ‵ (key.the_row.own_val k (kv.0 ∷ [])) ⊛ ‵ (N.own_val n (nv.0 ∷ [])) ⊛ ‵ ftrue) ∷ ‵ ftrue ∷ []) ∵
+      qed 𝓛 (((‵ (flft κ q) ⊛ ‵ (flft κs.1.0 qs.1.0) ⊛ ‵ ftrue) ⊛ Self ⊛ ‵ (key_row.own_val k (kv.0 ∷ [])) ⊛ ‵ (N.own_val n (nv.0 ∷ [])) ⊛ ‵ ftrue) ∷ ‵ ftrue ∷ []) ∵
       split ! $ move ! (1 ∷ []) $ split ! $ keep ! (0 ∷ 1 ∷ 2 ∷ []) $
       enter ! _ _ _ _ _ $ alloc_all ! (λ l. pass_all ! refl ((tt, tt), (ktyped, (ntyped, tt))) $
       sets ! (addr ! (through ! refl (stop !))) refl (tt, tt) $
@@ -138,7 +115,7 @@ module _ (N : RattleType) (told : Laws N) (In : Key → N.Denot → State → Re
       calls_at ! fm G lent x
       (and_then ! (get ! refl) (no_more !)) (λ v.
       let Tokens = ‵ (flft κ q) ⊛ ‵ (flft κs.1.0 qs.1.0) ⊛ ‵ ftrue in
-      let Part = MutRef (named 0) κ collector.the_row in
+      let Part = MutRef (named 0) κ collector_row in
       use1 𝓛 (later (some (λ (r : MutBor State). (Tokens ⊛ ‵ (Part.own_val r (v ∷ []))) ⊛
       some (λ (ws : Lasts g.ended κs (s, tt)). ‵ (lasts g.ended κs (s, tt) ws) ⊛ ‵ (LendsCollector s r) ⊛ raw (fact 𝓤 (r.now ≡ s.now.collector.now)))))) (id⊢ 𝓤 _) $
       await ! tt $ pick ! (λ r. split ! $ split ! $ move ! (2 ∷ []) $ pick ! (λ ws. split ! $ drop ! $ split ! $ move ! (1 ∷ []) $ heard ! _ (λ same.
@@ -161,7 +138,7 @@ module _ (N : RattleType) (told : Laws N) (In : Key → N.Denot → State → Re
       move ! (1 ∷ []) $ split ! $ heard ! _ (λ _. split ! $ heard ! _ (λ entered. heard ! _ (λ refused.
       -- [what the part ends as; the token; the result; the other tokens; what self ends as]
       move ! (4 ∷ 0 ∷ []) $ use2 𝓛 (‵ (NestsBy k n s res))
-      (nest 𝓛 (visitor.the_row (record { mir = named 1; lft = [] })) collector.the_row (with_state s.now) s.ghost_name r.ghost_name
+      (nest 𝓛 (visitor_row (record { mir = named 1; lft = [] })) collector_row (with_state s.now) s.ghost_name r.ghost_name
       (λ w x'. OnOk res (x' ≡ w)) (λ x'. OnErr res (IfErr res (λ w. In k n r.now (Err w) x'))) (λ w x'. OnOk res (x' ≡ with_state s.now w)) (EndsRefused (In k n) s.now res) (ends_entered s.now res) (ends_refused (In k n) s.now r.now same res)
       (name_if_ok (λ w. w.collector.ghost_name) res)) $
       move ! (2 ∷ []) $ peeks ! (Answer κs) _ (shows 𝓛 (Answer κs)) res (u ∷ []) (λ told.

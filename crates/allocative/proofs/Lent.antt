@@ -1,71 +1,75 @@
 -- What the hand-written proofs of calls that lend a collector cite: the steps of a walk, the one machine value of a
 -- parameter, and what such a call passes on.
-pub use Rattle.std.proofs.Common.{◌≡◌, ℕ, List, [], ◌∷◌, refl, sym, ap, subst, MutBor}
+pub use Rattle.std.proofs.Common.{◌≡◌, ℕ, List, [], ◌∷◌, refl, sym, ap, subst, MutBor, Bool, Result, Ok, Err, IfOk, IfErr, OnOk, OnErr, true, false, Option, None, Some, IfSome}
 pub use Rattle.std.proofs.raw_atomic.Walks.{proved, proved_at}
 pub use Rattle.std.proofs.mem.Facts.{says_two, says_three}
 pub use Rattle.std.proofs.alloc.Calls.{Goes-blank}
-pub use base.Logic.{id⊢}
-pub use base.Fml.{ftrue, flft}
-pub use mir.Syntax.{named, w64}
+pub use base.Logic.{id⊢, ent, sep, emp}
+pub use base.Fml.{ftrue, flft, Fml, GName, fres}
+pub use mir.Syntax.{named, w64, Ty, Lifetime, erased, Fn, Callee, local, value_local, seq, assign, addr_of, deref, call, copy, place, return, Args, Dict, a_type, dcons, dnil}
 pub use mir.Val.{Val}
 pub use contract.Lifetimes.{Lfts}
-pub use contract.Monad.{fact}
-pub use contract.Running.{tables}
-pub use types.Kit.{‵, raw, ◌⊛◌, some, later, ◌$◌, ◌∵◌, !, qed, done, move, keep, drop, use1, use2, split, join, fsplit, fjoin, feq_i, feq_l, pick, await, rewrite, suffices, frame}
+pub use contract.Monad.{fact, Fun, fact_i}
+pub use contract.Running.{tables, Running}
+pub use types.Kit.{‵, raw, ◌⊛◌, some, later, ◌$◌, ◌∵◌, !, qed, done, move, keep, drop, use1, use2, split, join, fsplit, fjoin, feq_i, feq_l, pick, await, rewrite, suffices, frame, fpick, fpack, use0, use3}
 pub use types.Run.{enter, addr, stop, no_more, and_then, returns}
 pub use types.ByLocal.{alloc_all, pass_all, free_all, look_at, get, through, sets, lands_as}
-pub use denote.Builtin.{usize}
-pub use denote.Exit.{yes, no}
-pub use denote.Laws.{shows}
+pub use denote.Builtin.{usize, RefMutOf, RefOf}
+pub use denote.Exit.{yes, no, rest}
+pub use denote.Laws.{shows, Is, Typed}
 pub use denote.Plain.{uint_vals, uint_Tells}
 pub use denote.RattleType.{RattleType}
-pub use denote.Ref.{MutRef, mut_vals, mut_Tells}
-pub use denote.Signature.{plain, named_lft}
+pub use denote.Ref.{MutRef, mut_vals, mut_Tells, ShrRef, shr_vals, shr_Tells}
+pub use denote.Signature.{plain, named_lft, Slot}
 pub use denote.Steps.{nothing, heard, peeks, only}
 pub use denote.Triple.Call.{calls_at}
-pub use denote.Triple.Clauses.{Lasts, lasts}
-pub use denote.Triple.Spec.{triple_of}
+pub use denote.Triple.Clauses.{Lasts, lasts, Ended, Clauses, closing}
+pub use denote.Triple.Spec.{triple_of, Meets}
 pub use denote.Triple.Table.{framed}
 pub use Rattle.allocative_graph.proofs.key.Key.TheLaws.{the_row_laws as key_laws}
 pub use Rattle.allocative_graph.proofs.refusal.Refusal.TheLaws.{the_row_laws as refusal_laws}
 pub use Rattle.std.proofs.option.Option.TheLaws.{the_row_laws as option_laws}
 pub use Rattle.std.proofs.result.Result.TheLaws.{the_row_laws as result_laws}
 pub use Rattle.allocative.proofs.visitor.Visitor.TheLaws.{the_row_laws as visitor_laws}
-pub use denote.Triple.Walked.{Stays, stay_dropped, Goes-dropped, Goes-spent_ref, ends_at}
-use seplogic.Ra.Ura.{Ura}
-use base.Logic.{ent, sep}
-use base.Fml.{Fml, GName, fres}
-use types.Logic.{Logic, sem}
-use types.Kit.{fpick, fpack}
-use contract.Monad.{Fun}
+pub use denote.Triple.Walked.{Stays, stay_dropped, Goes-dropped, Goes-spent_ref, ends_at, walk_of, Goes}
+pub use seplogic.Ra.Ura.{Ura}
+pub use types.Logic.{Logic, sem}
 use denote.Struct.Members.{Lone}
-use denote.Triple.Clauses.{Ended, Clauses}
 use denote.Triple.Entry.{Vals}
-use denote.Triple.Walked.{walk_of}
-use denote.Follow.{follows, follows_so, follows_by, such_by, followed, follows_then}
-use mathlib.Core.Option as maybe
-use denote.Param.Laws.{Laws, of_field}
+pub use denote.Follow.{follows, follows_so, follows_by, such_by, followed, follows_then}
+pub use denote.Param.Laws.{Laws, of_field}
 use denote.Param.Shared.{copy_shared}
 use denote.Struct.Field.{usize-field}
 use denote.Struct.Laws.{usize-laws, usize-copy}
-use Rattle.allocative_graph.specs.contracts.refusal.Refusal as refusal
-use Rattle.std.specs.contracts.option.Option as option
-use Rattle.std.specs.contracts.result.Result as result
-use Rattle.allocative.specs.contracts.visitor.Visitor as visitor
+pub use Rattle.allocative.proofs.Common.{name_if_ok, Refusal, Key, State, Visitor, LendsCollector, with_state, Begins, Settles, as_graph, EntersShared, EndsWith, EndsWithout, AnswersShared, told, turned, Identity, enters_first, LendsNestedSized, NestsSized, IsRefusedSized, Enters, Answers, Failed, EntersSized}
+pub use Rattle.std.specs.Borrow.{RestsIfErr}
+pub use prog.Wp.{WpFn, Closed}
+pub use denote.Param.{layout, bounded, param}
+pub use Rattle.allocative.specs.Lending.{LendsBegunGraph, LendsPointed, PointsAt}
+pub use contract.BorrowLft.{◌⊑◌}
+pub use mir.MapTy.{inst_fn}
+pub use Rattle.allocative.specs.contracts.visitor.collector.Collector.{the_row as collector_row}
+pub use Rattle.allocative_graph.specs.contracts.key.Key.{the_row as key_row}
+pub use Rattle.std.specs.contracts.option.Option.{the_row as option_row}
+pub use Rattle.allocative_graph.specs.contracts.refusal.Refusal.{the_row as refusal_row}
+pub use Rattle.std.specs.contracts.result.Result.{the_row as result_row}
+pub use Rattle.allocative.specs.contracts.visitor.Visitor.{the_row as visitor_row}
+pub use Rattle.allocative_described.specs.declared.described.Described.{Ghosts}
+use mathlib.Core.Option as maybe
 
 -- The lender, whose own lifetime is the second one, and the result, whose visitor has the first.
 abbrev pub Lender : Lfts 2 → RattleType
-Lender κs = visitor.the_row (named_lft 2 1 tt κs)
+Lender κs = visitor_row (named_lft 2 1 tt κs)
 
 abbrev pub Nested : Lfts 2 → RattleType
-Nested κs = visitor.the_row (named_lft 2 0 tt κs)
+Nested κs = visitor_row (named_lft 2 0 tt κs)
 
 abbrev pub Answer : Lfts 2 → RattleType
-Answer κs = result.the_row (Nested κs) refusal.the_row
+Answer κs = result_row (Nested κs) refusal_row
 
 -- The type of a declared size.
 abbrev pub Size : RattleType
-Size = option.the_row usize
+Size = option_row usize
 
 pub number_laws : Laws usize
 number_laws = of_field usize-field usize-laws refl (copy_shared usize-field usize-copy)

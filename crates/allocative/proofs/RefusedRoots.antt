@@ -15,15 +15,12 @@ room_begun : (b : Kind) (f g : Forest) → HasRoomFor (plus (begin b) f) g → H
 room_begun (OfGraph c) f g h = subst (λ (n : ℕ). n + all_bytes g < 2 ^ 63) (entered-plus (go [] c) f ∙ sym (entered-plus c f)) h
 room_begun (OfHeld k) f g h = h
 
--- So what could be taken there can be taken by a root visitor that is opened after them.
-can_begun : {q : Showing} (b : Kind) (f : Forest) → CanTake (plus (begin b) f) q → CanTake (begin (plus b f)) q
-can_begun b f w = (w.0, λ g y. room_begun b f g (w.1 g y))
-
 -- Where all roots can be taken, so can one of them after those before it.
 can_among : {T : Type 0} (p : T → Showing) (front : List T) (x : T) (back : List T) (b : Kind) (f : Forest) → each_shows p front f → CanTake (begin b) (each_shows p (front ++ x ∷ back)) → CanTake (begin (plus b f)) (p x)
 can_among p front x back b f a w =
     let both : CanTake (begin b) (Both (each_shows p front) (each_shows p (x ∷ back))) = (declared_append p front (x ∷ back) w.0, λ g y. w.1 g (each_append p front (x ∷ back) g y)) in
-    can_first (begin (plus b f)) (can_begun b f (can_second (begin b) f a both))
+    let after = can_second (begin b) f a both in
+    can_first (begin (plus b f)) (after.0, λ g y. room_begun b f g (after.1 g y))
 
 -- A root that is refused may be refused as one of all roots. What is exact of all is exact of it.
 rightly_among : {T : Type 0} (w y : Bool) (p : T → Showing) (front : List T) (x : T) (back : List T) (s m t : State) (u : Unit) (e : Refusal) → (IsTrue w → IsTrue y) →

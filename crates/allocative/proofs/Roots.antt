@@ -1,5 +1,5 @@
 -- What a visit by a root visitor amounts to.
-use Rattle.std.proofs.Common.{◌≡◌, ℕ, suc, ◌+◌, ◌<◌, inl, inr, List, length, take, get_or, Bool, IsTrue, Result, Ok, Err, refl, ap, sym, subst, ◌∙◌, arith, IfOk, Option, Some}
+use Rattle.std.proofs.Common.{◌≡◌, ℕ, suc, ◌+◌, ◌<◌, inl, inr, List, length, take, get_or, Bool, IsTrue, Result, Ok, Err, refl, ap, sym, subst, ◌∙◌, arith, IfOk}
 use Rattle.allocative.proofs.Common.{Refusal, Memory, Forest, Empty, followed_by, add_all, held, ShowsNoContent, Kind, OfGraph, OfHeld, State, Failed, Going, leave, plus, Takes, visitors, is_graph, begin, is_in_unique, left, nothing_held, Showing, Nothing, Both, each_shows, Shows, refused, hidden, forgotten, Leaves, Begins, Settles, Runs, Profile, IsProfileOf, IsHeldSum, MayRefuse, MayRefuseProfile, RefusesRightly, has_added, has_refused, RunsRightly, as_graph}
 use Rattle.allocative_graph.specs.Forest.{met_after, Fits, own, all}
 use Rattle.allocative_graph.specs.Sums.{sums_of}
@@ -8,7 +8,6 @@ use Rattle.allocative_graph.specs.Graph.{Graph, graph, warnings, warned_paths, s
 use Rattle.allocative_graph.specs.Collector.{added as added_entries, IsClosed, IsAtRoot, no_entries}
 use Rattle.allocative_graph.specs.Visits.{added, Ends, IsProfile, IsSumOfTwo}
 use Rattle.allocative_graph.proofs.Plus.{plus-nothing, plus-following, takes_nothing, takes_both, visitors-plus, visitors-leave, is_graph-plus, is_graph-leave, is_graph-begin}
-use Rattle.allocative.specs.SizeOf.{IsSizeOfUnique}
 use Rattle.allocative.proofs.Showing.{left_by, each_and_one}
 use Rattle.allocative_graph.proofs.Reach.{all_is_meaning, reaches_exactly}
 use Rattle.allocative_graph.proofs.OneMeaning.{one_sums}
@@ -28,15 +27,12 @@ takes_begin : (b : Kind) (f : Forest) → Takes (begin b) f → Takes b f
 takes_begin (OfGraph c) f t = t
 takes_begin (OfHeld k) f t = t
 
-ended : (p : Showing) (b : Kind) (x : Refusal) (q : Result Unit Refusal) → IsClosed b → Settles (Failed x) q → Runs p (Going b) q (Failed x)
-ended p b x q h k = rw k (h, refl)
-
 closed_before : (b c : Kind) (f : Forest) → c ≡ plus b f → IsClosed c → IsClosed b
 closed_before b c f e h = sym (ap visitors e ∙ visitors-plus b f) ∙ h
 
 run_going : {p : Showing} (b e : Kind) {c : State} {r : Result Unit Refusal} (q : Result Unit Refusal) → IsClosed b → IsAtRoot b → e ≡ begin b → Shows p (Going e) r c → Settles (left (is_in_unique b) c) q → Runs p (Going b) q (left (is_in_unique b) c)
-run_going b e q h here i (refused {r = x}) k = ended _ b x q h k
-run_going b e q h here i (hidden {r = x}) k = ended _ b x q h k
+run_going b e q h here i refused k = rw k (h, refl)
+run_going b e q h here i hidden k = rw k (h, refl)
 run_going b e (Err x) h here i (forgotten {c = c} j l) k = (k.0, k.1, (λ n. absurd (n h)), is_graph-leave (is_in_unique b) c ∙ j ∙ ap is_graph i ∙ is_graph-begin b)
 run_going b e (Ok u) h here i (forgotten {c = c} j l) k =
     let d : visitors e ≡ 1 = ap visitors i ∙ visitors-begin b h in
@@ -59,8 +55,7 @@ run_shows (Going b) q {p} {c = c} {r = r} h i v l e k =
 
 pub run_refused : (p : Showing) (s : State) (e : Refusal) (t : State) → Begins s (Err e) t → Runs p s (Err e) t
 run_refused p (Failed r) e t (h, i) = (ap Err h, i)
-run_refused p (Going b) e (Failed r) (h, n, i) = absurd (cc)
-run_refused p (Going b) e (Going c) (h, n, i) = let j : c ≡ b = cc in (h, rw j n, (λ m. j), ap is_graph j)
+run_refused p (Going b) e t (h, n, i) = rw i (h, n, (λ m. refl), refl)
 
 -- An exact visit that was opened by a root visitor leaves its collector closed, or failed with what it returned.
 rightly_going : {p : Showing} (b e : Kind) {c : State} {r : Result Unit Refusal} (q : Refusal) → IsClosed b → IsAtRoot b → e ≡ begin b → RefusesRightly p (Going e) r c → Settles (left (is_in_unique b) c) (Err q) → (left (is_in_unique b) c ≡ Failed q) × MayRefuse p (begin b) q
@@ -112,40 +107,26 @@ held_by_run p (Going b) (Going c) u n e (z, f, a, t, g) k =
     let k' : n ≡ 0 + (held f + 0) = subst (λ (x : Kind). IsHeldSum (Going x) n) g' k in
     (f, a, t', omega (arith, k'))
 
--- The same with a declared size beside it.
-pub sized_by_run : {size : Option ℕ} {mine m : ℕ} (n : ℕ) (p : Showing) (s t : State) (u : Unit) → size ≡ Some mine → s ≡ Going (OfHeld nothing_held) → Runs p s (Ok u) t → IsHeldSum t n → m ≡ n + mine → IsSizeOfUnique size p m
-sized_by_run {mine = mine} n p s t u d e h k i =
-    let is = held_by_run p s t u n e h k in
-    (mine, d, is.0, is.1, is.2, i ∙ ap (λ (x : ℕ). x + mine) is.3)
-
 -- ---- one root after another
 pub runs_nothing : (s : State) (u : Unit) → Settles s (Ok u) → Runs Nothing s (Ok u) s
 runs_nothing (Failed r) u h = absurd (cc)
 runs_nothing (Going b) u h = (h, Empty, refl, takes_nothing b, sym (plus-nothing b))
 
-pub runs_weaker : (p q : Showing) (s : State) (r : Result Unit Refusal) (t : State) → ((f : Forest) → p f → q f) → Runs p s r t → Runs q s r t
-runs_weaker p q (Failed x) r t up h = h
-runs_weaker p q (Going b) (Ok u) (Failed x) up h = h
-runs_weaker p q (Going b) (Ok u) (Going c) up (z, f, a, t, e) = (z, f, up f a, t, e)
-runs_weaker p q (Going b) (Err e) (Failed r) up h = h
-runs_weaker p q (Going b) (Err e) (Going c) up h = h
-
-pub runs_both : (p q : Showing) (s m t : State) (u : Unit) (r : Result Unit Refusal) → Runs p s (Ok u) m → Runs q m r t → Runs (Both p q) s r t
-runs_both p q (Failed x) m t u r g h = absurd (cc)
-runs_both p q (Going b) (Failed x) t u r g h = absurd g
-runs_both p q (Going b) (Going c) (Failed x) u (Ok v) g h = h
-runs_both p q (Going b) (Going c) (Failed x) u (Err e) (z, f, a, t, k) h = (closed_before b c f k z, h.1)
-runs_both p q (Going b) (Going c) (Going d) u (Err e) (z, f, a, t, k) h = (h.0, h.1, (λ n. absurd (n (closed_before b c f k z))), h.3 ∙ ap is_graph k ∙ is_graph-plus b f)
-runs_both p q (Going b) (Going c) (Going d) u (Ok v) (z, f, a, t, k) (y, g, b', t', k') =
+-- Two runs are one of all that r allows, where r allows what both show.
+runs_joined : {p q r : Showing} (s m t : State) (u v w : Unit) → ((f : Forest) → Both p q f → r f) → Runs p s (Ok u) m → Runs q m (Ok v) t → Runs r s (Ok w) t
+runs_joined (Failed x) m t u v w up g h = absurd (cc)
+runs_joined (Going b) (Failed x) t u v w up g h = absurd g
+runs_joined (Going b) (Going c) (Failed x) u v w up g h = h
+runs_joined (Going b) (Going c) (Going d) u v w up (z, f, a, t, k) (y, g, b', t', k') =
     let taken : Takes (plus b f) g = subst (λ (x : Kind). Takes x g) k t' in
-    (y, followed_by f g, (f, g, a, b', refl), takes_both b f g t taken, cc (plus-following b f g))
+    (y, followed_by f g, up (followed_by f g) (f, g, a, b', refl), takes_both b f g t taken, cc (plus-following b f g))
 
 -- One step of a loop runs one more root, and a root that is refused ends it.
 pub runs_one_more : {T : Type 0} (p : T → Showing) (xs : List T) (i : ℕ) (x : T) (s m t : State) (u v w : Unit) →
     Runs (each_shows p (take i xs)) s (Ok u) m → Runs (p x) m (Ok v) t → i < length xs → x ≡ get_or xs i x → Runs (each_shows p (take (i + 1) xs)) s (Ok w) t
 runs_one_more p xs i x s m t u v w f g h e =
     let e' = take_more xs i x h in
-    rw (e', ← e) (runs_weaker _ _ s (Ok w) t (each_and_one p (take i xs) x) (runs_both (each_shows p (take i xs)) (p x) s m t u (Ok w) f g))
+    rw (e', ← e) (runs_joined s m t u v w (each_and_one p (take i xs) x) f g)
 
 pub runs_err : (p q r : Showing) (s m t : State) (u : Unit) (e x : Refusal) → Runs p s (Ok u) m → Runs q m (Err e) t → x ≡ e → Runs r s (Err x) t
 runs_err p q r (Failed y) m t u e x g h i = absurd (cc)
@@ -159,10 +140,11 @@ runs_unsettled p (Failed r) e h = (h, refl)
 runs_unsettled p (Going b) e h = (h.0, h.1, (λ n. refl), refl)
 
 -- ---- a whole run
-pub profile_by_run : (p : Showing) (s t : State) (u : Unit) (o : Profile) → s ≡ Going (OfGraph no_entries) → Runs p s (Ok u) t → Ends IsProfile t (Ok o) → IsProfileOf p o
-profile_by_run p (Failed r) t u o e h k = absurd (cc)
-profile_by_run p (Going b) (Failed r) u o e h k = absurd h
-profile_by_run p (Going b) (Going c) u o e (z, f, a, t, g) k =
+pub profile_ended : (p : Showing) (s t : State) (u : Unit) (r : Result Profile Refusal) → Runs p s (Ok u) t → s ≡ Going (OfGraph no_entries) → Ends IsProfile t r → IfOk r (IsProfileOf p)
+profile_ended p (Failed x) t u r h e k = absurd (cc)
+profile_ended p (Going b) (Failed x) u r h e k = absurd h
+profile_ended p (Going b) (Going c) u (Err x) h e k = tt
+profile_ended p (Going b) (Going c) u (Ok o) (z, f, a, t, g) e k =
     let i : b ≡ OfGraph no_entries = cc in
     let w : Fits no_entries.met f = subst (λ (x : Kind). Takes x f) i t in
     let g' : c ≡ plus (OfGraph no_entries) f = rw i at g in
@@ -178,10 +160,6 @@ profile_by_run p (Going b) (Going c) u o e (z, f, a, t, g) k =
       warnings_are = λ m im. k'.1.1 ∙ ap warnings (one_sums (own f) (content_of f) (all f) m is im);
       warned_are = λ m im. k'.1.2 ∙ ap warned_paths (one_sums (own f) (content_of f) (all f) m is im);
     }
-
-pub profile_ended : (p : Showing) (s t : State) (u : Unit) (r : Result Profile Refusal) → s ≡ Going (OfGraph no_entries) → Runs p s (Ok u) t → Ends IsProfile t r → IfOk r (IsProfileOf p)
-profile_ended p s t u (Ok o) e h k = profile_by_run p s t u o e h k
-profile_ended p s t u (Err e) i h k = tt
 
 pub sum_of_profiles : (p q : Showing) (o o' : Profile) (m : Graph) → IsProfileOf p o → IsProfileOf q o' → m ≡ sum_of o.graph o'.graph → IsSumOfTwo p q m
 sum_of_profiles p q o o' m a b e =
@@ -214,4 +192,4 @@ pub profile_not_finished : (x : Bool) (p : Showing) (s t : State) (u : Unit) (e 
 profile_not_finished x p s t u e i h k = profile_not_begun x p e (ended_by_memory p t u e (subst (λ (z : State). Runs p z (Ok u) t) i h) k)
 
 -- The rules for visits of roots.
-pub ruleset running = (run_shows, run_refused, held_by_run, runs_nothing, runs_unsettled, runs_err, run_rightly_refused, run_rightly_unsettled, run_rightly_as_graph, rightly_ok, profile_by_run, sum_of_profiles, profile_not_begun, profile_not_run, profile_not_finished)
+pub ruleset running = (run_shows, run_refused, held_by_run, runs_nothing, runs_one_more, runs_unsettled, runs_err, run_rightly_refused, run_rightly_unsettled, run_rightly_as_graph, rightly_ok, profile_ended, sum_of_profiles, profile_not_begun, profile_not_run, profile_not_finished)

@@ -103,16 +103,15 @@ entered_any_order {p = p} {all = all} y h k =
     entered_as (entered_list {q = each_shows p} y h k) (record { means = λ f x. (all, IsPermutation-refl all, x); declared = λ i d. any_order_declared p all d })
 
 -- ---- the count of a run
-is_counted : (n : ℕ) → (checked n ≡ Some n) ⊎ (checked n ≡ None)
-is_counted n = grind (arith, nat_tests)
-
 none_counted : (name : Key) (size : Option ℕ) (f : Forest) → Field name (size_product size None) Nothing f → ⊥
 none_counted name None f h = none_of_it h
 none_counted name (Some s) f h = none_of_it h
 
 -- Bytes computed from a count are the bytes of the items.
 bytes_counted : (name : Key) (size : Option ℕ) (n : ℕ) (f : Forest) → Field name (size_product size (checked n)) Nothing f → bytes_shown name size n f
-bytes_counted name size n f h = elim (is_counted n) [ inl e ↦ rw e at h | inr e ↦ absurd (none_counted name size f (rw e at h)) ]
+bytes_counted name size n f h =
+    let cases : (checked n ≡ Some n) ⊎ (checked n ≡ None) = grind (arith, nat_tests) in
+    elim cases [ inl e ↦ rw e at h | inr e ↦ absurd (none_counted name size f (rw e at h)) ]
 
 pub plain_run : {S A T : Type 0} {e : Bool} {steps : S → Option A → S → Type 0} {s : S} (v : A → T) (name : Key) (size count : Option ℕ) (needs_drop : Bool) (p : T → Showing) {a b : Visitor} {r : Result (Unit {0}) Refusal} →
     are_shown_each needs_drop size ≡ false → CountsRun steps s count → Entered e (Field name (size_product size count) Nothing) a b r → Entered false (IsOfRun steps s v (slice_shows name size needs_drop p)) a b r
@@ -121,14 +120,10 @@ plain_run v name size count needs_drop p e (xs, d, i) h =
     let up = λ (f : Forest) (g : Field name (size_product size (checked (length xs))) Nothing f). plain_slice name size needs_drop p (map v xs) e f (rw length-map (bytes_counted name size (length xs) f g)) in
     entered_run v (slice_shows name size needs_drop p) xs d (entered_if h' exact_never (loosely (up)))
 
-each_run : {S A T : Type 0} {steps : S → Option A → S → Type 0} {s : S} (v : A → T) (name : Key) (size : Option ℕ) (needs_drop : Bool) (p : T → Showing) → are_shown_each needs_drop size ≡ true →
-    (f : Forest) → IsOfRun steps s v (each_shows p) f → IsOfRun steps s v (slice_shows name size needs_drop p) f
-each_run v name size needs_drop p e f o =
-    record { given = o.given; drained = o.drained; shown = each_slice name size needs_drop p (map v o.given) e f o.shown }
-
 pub items_run : {S A T : Type 0} {e : Bool} {steps : S → Option A → S → Type 0} {s : S} (v : A → T) (name : Key) (size : Option ℕ) (needs_drop : Bool) (p : T → Showing) {a b : Visitor} {r : Result (Unit {0}) Refusal} →
     are_shown_each needs_drop size ≡ true → Entered e (IsOfRun steps s v (each_shows p)) a b r → Entered false (IsOfRun steps s v (slice_shows name size needs_drop p)) a b r
-items_run v name size needs_drop p e h = entered_if h exact_never (loosely (each_run v name size needs_drop p e))
+items_run {steps = steps} {s = s} v name size needs_drop p e h = entered_if h exact_never (loosely (λ f (o : IsOfRun steps s v (each_shows p) f).
+    record { given = o.given; drained = o.drained; shown = each_slice name size needs_drop p (map v o.given) e f o.shown }))
 
 -- ---- what a counted slice refuses
 fits_by : (s n : ℕ) → (s ≡ 0 → n < 2 ^ 64) → s * n < 2 ^ 64 → n < 2 ^ 64
@@ -137,9 +132,6 @@ fits_by (suc k) n h l =
     let e : suc k * n ≡ n + k * n = grind arith in
     omega (arith, e, l)
 
-product_counted : (s n : ℕ) → n < 2 ^ 64 → s * n < 2 ^ 64 → size_product (Some s) (checked n) ≡ Some (s * n)
-product_counted s n h l = rw (checked_fits n h) (checked_fits (s * n) l)
-
 counted_declared : {T : Type 0} (name : Key) (size : Option ℕ) (needs_drop : Bool) (p : T → Showing) (ys : List T) → are_shown_each needs_drop size ≡ false → CanCount size (length ys) →
     (b : Kind) → CanTake b (slice_shows name size needs_drop p ys) → IsDeclared (Field name (size_product size (checked (length ys))) Nothing)
 counted_declared name None needs_drop p ys e fits b (d, room) = absurd d.1
@@ -147,7 +139,8 @@ counted_declared name (Some s) needs_drop p ys e fits b w =
     let w' : CanTake b (Inside name (s * length ys) Nothing) = rw (e, slice_shows) at w in
     let l = entry_fits false name (s * length ys) b w' in
     let n = fits_by s (length ys) (λ z. fits (ap Some z)) l in
-    entry_declared name (s * length ys) _ (product_counted s (length ys) n l)
+    let is : size_product (Some s) (checked (length ys)) ≡ Some (s * length ys) = rw (checked_fits (length ys) n) (checked_fits (s * length ys) l) in
+    entry_declared name (s * length ys) _ is
 
 -- Items that are counted are refused rightly where they can be counted.
 pub counted_plain : {S A T : Type 0} {e : Bool} {steps : S → Option A → S → Type 0} {s : S} (v : A → T) (name : Key) (size count : Option ℕ) (needs_drop : Bool) (p : T → Showing) {a b : Visitor} {r : Result (Unit {0}) Refusal} →

@@ -3,8 +3,7 @@ ghost use Rattle.std.specs.Prelude.{Bool, false};
 ghost use Rattle.allocative_graph.specs.Forest.{Forest};
 ghost use Rattle.allocative.specs.Visited.{Visited};
 
-use crate::visitor::Visitor;
-use allocative_graph::refusal::Refusal;
+use crate::{Refusal, Visitor};
 
 /// A value that shows what it holds.
 ///

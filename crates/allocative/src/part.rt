@@ -15,12 +15,7 @@ mod iterators;
 pub mod named;
 pub(crate) mod slices;
 
-use crate::allocative_trait::Allocative;
-use crate::visitor::Visitor;
-use allocative_described::Described;
-use allocative_graph::key::Key;
-use allocative_graph::refusal::Refusal;
-use allocative_graph::shared::Identity;
+use crate::{Allocative, Described, Identity, Key, Refusal, Visitor};
 use either::Either;
 
 /// The key that a part takes: a text, as in `Field("name", &self.name)`, or a key, as in

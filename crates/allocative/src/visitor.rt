@@ -17,12 +17,8 @@ pub mod by_hand;
 pub mod collector;
 pub mod entries;
 
-use crate::allocative_trait::Allocative;
 use crate::visitor::collector::Collector;
-use allocative_described::Described;
-use allocative_graph::key::Key;
-use allocative_graph::refusal::Refusal;
-use allocative_graph::shared::Identity;
+use crate::{Allocative, Described, Identity, Key, Refusal};
 
 /// A place in a collector. Dropping it, or calling `exit`, goes one step back.
 pub struct Visitor<'a> {
@@ -45,43 +41,8 @@ impl Drop for Visitor<'_> {
 }
 
 impl Collector {
-    /// Enters inline: one more entry of `size` bytes under the key, and a visitor at it.
-    ///
-    /// A collector that has failed returns its first cause. Otherwise the call returns `TooLarge` exactly where
-    /// a bound would be exceeded, which is tested before anything is allocated. A flame graph's collector may
-    /// otherwise return `Memory`. After an error the collector has failed.
-    #[inline(always)]
-    pub(crate) fn enter(&mut self, key: Key, size: usize) -> Result<Visitor<'_>, Refusal>
-        ensures* lent { sem 𝓛 (LendsEntered false key size self.entry result) }
-        ensures same_reference { IfOk result (λ v. v.collector.ghost_name ≡ self.entry.ghost_name) }
-        ensures entered { IfOk result (λ v. Enters false key size self.old (Ok v.outer_is_unique) v.collector.now) }
-        ensures refused { IfErr result (λ e. Answers false size self.old (Err e)) }
-    {
-        let outer_is_unique = self.open_entry(key, size)?;
-        Ok(Visitor {
-            collector: self,
-            outer_is_unique,
-        })
-    }
-
-    /// Enters as unique: one more unique entry of `size` bytes under the key, and a visitor at it. The
-    /// errors are those of `enter`.
-    #[inline(always)]
-    pub(crate) fn enter_unique(&mut self, key: Key, size: usize) -> Result<Visitor<'_>, Refusal>
-        ensures* lent { sem 𝓛 (LendsEntered true key size self.entry result) }
-        ensures same_reference { IfOk result (λ v. v.collector.ghost_name ≡ self.entry.ghost_name) }
-        ensures entered { IfOk result (λ v. Enters true key size self.old (Ok v.outer_is_unique) v.collector.now) }
-        ensures refused { IfErr result (λ e. Answers true size self.old (Err e)) }
-    {
-        let outer_is_unique = self.open_unique(key, size)?;
-        Ok(Visitor {
-            collector: self,
-            outer_is_unique,
-        })
-    }
-
     /// Enters inline with a declared size: one more entry of that size under the key, and a visitor at it. It
-    /// returns `TooLarge` where there is no size; the other errors are those of `enter`.
+    /// returns `TooLarge` where there is no size; the other errors are those of `by_hand::enter`.
     #[inline(always)]
     pub(crate) fn enter_sized(
         &mut self,
@@ -108,34 +69,9 @@ impl Collector {
         ensures now { result.collector.now ≡ self.old }
     {
         // Only a flame graph's collector shows contents, and it keeps its own places.
-        let outer_is_unique = false;
         Visitor {
             collector: self,
-            outer_is_unique,
-        }
-    }
-
-    /// One more pointer, and a visitor at the content of the shared value where that is to be
-    /// shown, otherwise `Err(None)`.
-    pub(crate) fn enter_content(
-        &mut self,
-        key: Key,
-        size: usize,
-        id: Identity,
-    ) -> Result<Visitor<'_>, Option<Refusal>>
-        ensures* lent { sem 𝓛 (LendsPointed key size id self.entry result) }
-        ensures same_reference { IfOk result (λ v. v.collector.ghost_name ≡ self.entry.ghost_name) }
-        ensures outer { IfOk result (λ v. v.outer_is_unique ≡ false) }
-        ensures entered { IfOk result (λ v. EntersShared key size id self.old (Ok true) v.collector.now) }
-        ensures refused { IfErr result (λ o. AnswersShared key size id self.old (told o)) }
-    {
-        match self.open_shared(key, size, id) {
-            Ok(true) => Ok(Visitor {
-                collector: self,
-                outer_is_unique: false,
-            }),
-            Ok(false) => Err(None),
-            Err(refusal) => Err(Some(refusal)),
+            outer_is_unique: false,
         }
     }
 
@@ -181,15 +117,6 @@ fn turned_round<'a>(
 }
 
 impl Visitor<'_> {
-    /// A mutable borrow of the collector.
-    #[inline(always)]
-    pub(crate) fn reborrow(&mut self) -> &mut Collector
-        ensures* lent { sem 𝓛 (LendsCollector self.entry result) }
-        ensures now { result.now ≡ self.old.collector.now }
-    {
-        &mut *self.collector
-    }
-
     /// Enters inline: one more entry of `size` bytes under the key, and a nested visitor at it.
     ///
     /// A collector that has failed returns its first cause. Otherwise the call returns `TooLarge` exactly where
@@ -207,7 +134,7 @@ impl Visitor<'_> {
         ensures entered { IfOk result (Nests false key size self.old) }
         ensures refused { IfErr result (IsRefused false size self.old) }
     {
-        self.reborrow().enter(key, size)
+        by_hand::enter(by_hand::collector_of(self), key, size)
     }
 
     /// Enters as unique: one more unique entry of `size` bytes under the key, and a nested visitor at it. The
@@ -218,26 +145,22 @@ impl Visitor<'_> {
         ensures entered { IfOk result (Nests true key size self.old) }
         ensures refused { IfErr result (IsRefused true size self.old) }
     {
-        self.reborrow().enter_unique(key, size)
+        by_hand::enter_unique(by_hand::collector_of(self), key, size)
     }
 
     /// Enters inline with a declared size: one more entry of `size` bytes under the key, and a nested visitor
-    /// at it.
-    ///
-    /// Where there is no size the call returns `TooLarge`; the other errors are those of `enter`. After `Ok`
-    /// this visitor ends with what the nested one leaves; nothing else of it changes.
+    /// at it. Where there is no size the call returns `TooLarge`; all else is as in `enter`.
     #[inline(always)]
     pub fn enter_sized(&mut self, key: Key, size: Option<usize>) -> Result<Visitor<'_>, Refusal>
         ensures* lent { sem 𝓛 (LendsNestedSized key size self.entry result) }
         ensures entered { IfOk result (NestsSized key size self.old) }
         ensures refused { IfErr result (IsRefusedSized key size self.old) }
     {
-        self.reborrow().enter_sized(key, size)
+        by_hand::collector_of(self).enter_sized(key, size)
     }
 
     /// Enters inline with the declared name and size of `T`. Where there is no size the call returns
-    /// `TooLarge`; the other errors are those of `enter`. After `Ok` this visitor ends with what the nested one
-    /// leaves; nothing else of it changes.
+    /// `TooLarge`; all else is as in `enter`.
     #[inline(always)]
     pub fn enter_self_sized<T: Described>(&mut self) -> Result<Visitor<'_>, Refusal>
         ensures* lent { sem 𝓛 (LendsNestedSized T.name T.size self.entry result) }
@@ -280,11 +203,9 @@ impl Visitor<'_> {
         ensures entered { IfOk result (λ o. IfSome o (NestsContent key size id self.old)) }
         ensures answer { AnswersShared key size id (collector_of self.old) (answered result) }
     {
-        turned_round(self.reborrow().enter_content(key, size, id))
+        turned_round(by_hand::enter_content(by_hand::collector_of(self), key, size, id))
     }
-}
 
-impl Visitor<'_> {
     /// Goes one step back, as the end of its scope does. It allocates nothing and never fails.
     #[inline(always)]
     pub fn exit(self)

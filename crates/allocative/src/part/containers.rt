@@ -8,11 +8,10 @@ ghost use Rattle.allocative.specs.PackShows.{index_data_shows};
 ghost use Rattle.allocative.specs.Runs.{field_of, pair_shows};
 ghost use Rattle.allocative.specs.StdShows.{in_any_order};
 
-use crate::allocative_trait::Allocative;
-use crate::part::{Declared, Inside, IntoKey, Part, Unique};
-use crate::visitor::Visitor;
-use allocative_described::{Described, raw_table_alloc_size_for_len};
-use allocative_graph::refusal::Refusal;
+use crate::{
+    Allocative, Declared, Described, Inside, IntoKey, Part, Refusal, Unique, Visitor,
+    raw_table_alloc_size_for_len,
+};
 use indexmap::{IndexMap, IndexSet};
 use std::collections::{BTreeMap, BTreeSet, HashMap, HashSet};
 use std::hash::Hash;
@@ -184,10 +183,7 @@ impl Part for Unused {
 
     #[inline(always)]
     fn enter(self, visitor: &mut Visitor<'_>) -> Result<(), Refusal> {
-        let bytes = match self.item_size {
-            Some(size) => size.checked_mul(self.count),
-            None => None,
-        };
+        let bytes = self.item_size.and_then(|size| size.checked_mul(self.count));
         Declared("unused_capacity", bytes, ()).enter(visitor)
     }
 }

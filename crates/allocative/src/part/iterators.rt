@@ -11,20 +11,8 @@ ghost use Rattle.allocative.specs.Visited.{Entered};
 ghost use Rattle.allocative.specs.Bodies.{are_shown_each};
 ghost use Rattle.allocative.specs.Runs.{IsOfRun, RefusesAlong, RefusesCounted, CountsRun, field_of, pair_shows, deref_entry, value_shows};
 
-use crate::allocative_trait::Allocative;
-use crate::part::Part;
 use crate::part::slices::are_shown_each;
-use crate::visitor::Visitor;
-use allocative_described::Described;
-use allocative_graph::key::Key;
-use allocative_graph::refusal::Refusal;
-
-// A count plus one, or `None` where it does not fit.
-fn one_more(count: Option<usize>) -> Option<usize>
-    ensures { result ≡ size_sum count (Some 1) }
-{
-    count?.checked_add(1)
-}
+use crate::{Allocative, Described, Key, Part, Refusal, Visitor};
 
 // The number of items that the iterator gives, or `None` where it does not fit.
 fn count_of<A: Drop, I: Iterator<Item = A> + Drop>(items: I) -> Option<usize>
@@ -34,7 +22,7 @@ fn count_of<A: Drop, I: Iterator<Item = A> + Drop>(items: I) -> Option<usize>
 {
     let mut count = Some(0);
     for _item in items {
-        count = one_more(count);
+        count = count.and_then(|before: usize| before.checked_add(1));
     }
     count
 }

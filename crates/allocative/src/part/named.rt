@@ -3,12 +3,7 @@
 
 ghost use Rattle.allocative_graph.specs.Shows as shows;
 
-use crate::allocative_trait::Allocative;
-use crate::part::{Field, Part};
-use crate::visitor::Visitor;
-use allocative_described::Described;
-use allocative_graph::key::Key;
-use allocative_graph::refusal::Refusal;
+use crate::{Allocative, Described, Field, Key, Part, Refusal, Visitor};
 
 /// A value under a name: one inline entry with the key, of the value's declared size in bytes, with what
 /// the value shows inside it.

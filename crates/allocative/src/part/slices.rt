@@ -8,11 +8,7 @@ ghost use Rattle.allocative.specs.Making.{MakesPlan, MakesFirst, Keeps, Done, on
 ghost use Rattle.allocative.specs.Visited.{Entered};
 ghost use Rattle.allocative.specs.Bodies.{are_shown_each, bytes_shown, vec_body, data_shows, slice_of};
 
-use crate::allocative_trait::Allocative;
-use crate::visitor::Visitor;
-use allocative_described::Described;
-use allocative_graph::key::Key;
-use allocative_graph::refusal::Refusal;
+use crate::{Allocative, Described, Key, Refusal, Visitor};
 
 /// The bytes of `count` items. `None` where an item has no size, where there is no count, or
 /// where the bytes do not fit.
@@ -26,10 +22,7 @@ pub(crate) fn bytes_of<T: Described>(count: Option<usize>) -> Option<usize>
 pub(crate) fn are_shown_each<T: Described>() -> bool
     ensures { result ≡ are_shown_each T.needs_drop T.size }
 {
-    match T::size() {
-        Some(size) => T::needs_drop() && size != 0,
-        None => false,
-    }
+    T::needs_drop() && !matches!(&T::size(), None | Some(0))
 }
 
 impl Visitor<'_> {

@@ -11,11 +11,8 @@ ghost use Rattle.allocative.specs.Rooted.{LendsBuilt, LendsRoot};
 ghost use Rattle.allocative.specs.Visited.{BeginsAt};
 ghost use Rattle.std.specs.Borrow.{sem};
 
-use crate::allocative_trait::Allocative;
-use crate::visitor::Visitor;
 use crate::visitor::collector::Collector;
-use allocative_collectors::output::FlameGraphOutput;
-use allocative_graph::refusal::Refusal;
+use crate::{Allocative, FlameGraphOutput, Refusal, Visitor};
 use std::alloc::Global;
 use std::marker::Model;
 

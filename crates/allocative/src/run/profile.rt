@@ -7,10 +7,7 @@ ghost use Rattle.allocative_graph.specs.Shows.{each_shows};
 ghost use Rattle.allocative_graph.specs.Visits.{Runs, IsProfileOf};
 ghost use Rattle.allocative.specs.Exact.{MayRefuseProfile, RunsRightly};
 
-use crate::allocative_trait::Allocative;
-use crate::run::builder::FlameGraphBuilder;
-use allocative_collectors::output::FlameGraphOutput;
-use allocative_graph::refusal::Refusal;
+use crate::{Allocative, FlameGraphBuilder, FlameGraphOutput, Refusal};
 use std::alloc::Global;
 
 impl FlameGraphBuilder {

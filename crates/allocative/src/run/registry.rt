@@ -8,10 +8,7 @@ ghost use Rattle.allocative_graph.specs.Visits.{Runs, IsProfileOf};
 ghost use Rattle.allocative.specs.Exact.{MayRefuseProfile, RunsRightly};
 ghost use Rattle.std.specs.List.{list_all};
 
-use crate::allocative_trait::Allocative;
-use crate::run::builder::FlameGraphBuilder;
-use allocative_collectors::output::FlameGraphOutput;
-use allocative_graph::refusal::Refusal;
+use crate::{Allocative, FlameGraphBuilder, FlameGraphOutput, Refusal};
 use std::alloc::Global;
 
 /// A list of boxed roots.
@@ -29,8 +26,6 @@ pub struct Registry {
 }
 
 impl Registry {
-    ghost use Rattle.allocative.specs.Roots.{roots_of};
-
     /// No roots. It takes no memory.
     pub fn new(alloc: Global) -> Registry
         ensures { roots_of result ≡ [] }
@@ -72,8 +67,6 @@ impl Registry {
 }
 
 impl FlameGraphBuilder {
-    ghost use Rattle.allocative.specs.Roots.{roots_of};
-
     /// Visits the registry's roots in order, up to the first refusal, each as `visit_root` does.
     ///
     /// Where the types of all roots are exact, a builder that has not failed and has no open visitor refuses them only
@@ -87,28 +80,12 @@ impl FlameGraphBuilder {
             (each_shows (λ b. (⟦<dyn Allocative as Allocative>⟧ b.vtable).may_show b.value)
             (roots_of registry.now)) self.old result self.new }
     {
-        self.visit_boxes(registry.roots())
-    }
-
-    fn visit_boxes(&mut self, roots: &[Box<dyn Allocative>]) -> Result<(), Refusal>
-        ensures runs { Runs (each_shows (λ b. may_show b) roots.now) self.old result self.new }
-        ensures rightly { RunsRightly
-            (list_all (λ b. (⟦<dyn Allocative as Allocative>⟧ b.vtable).is_exact) roots.now)
-            (each_shows (λ b. may_show b) roots.now) self.old result self.new }
-    {
         self.check()?;
+        let roots = registry.roots();
         for root in roots {
-            self.visit_box(root)?;
+            self.visit_root(&**root)?;
         }
         Ok(())
-    }
-
-    fn visit_box(&mut self, root: &Box<dyn Allocative>) -> Result<(), Refusal>
-        ensures runs { Runs (may_show root.now) self.old result self.new }
-        ensures rightly { RunsRightly (⟦<dyn Allocative as Allocative>⟧ root.now.vtable).is_exact
-            (may_show root.now) self.old result self.new }
-    {
-        self.visit_root(&**root)
     }
 }
 

@@ -4,10 +4,8 @@
 ghost use Rattle.allocative_graph.specs.Visits.{Runs};
 ghost use Rattle.allocative.specs.Exact.{RunsRightly};
 
-use crate::allocative_trait::Allocative;
-use crate::part::Part;
 use crate::visitor::collector::Collector;
-use allocative_graph::refusal::Refusal;
+use crate::{Allocative, Part, Refusal};
 
 impl Collector {
     /// Visits an object by a root visitor. What the visit returns is not looked at: the collector keeps the first

@@ -7,11 +7,8 @@ ghost use Rattle.allocative_graph.specs.Held.{held, ShowsNoContent};
 ghost use Rattle.allocative.specs.Closures.{KeepsVisitor, CalledAt, CalledAtRoot};
 ghost use Rattle.allocative.specs.SizeOf.{IsSizeOfUnique, MayRefuseHeld, MayRefuseSize};
 
-use crate::allocative_trait::Allocative;
-use crate::visitor::Visitor;
 use crate::visitor::collector::Collector;
-use allocative_described::Described;
-use allocative_graph::refusal::Refusal;
+use crate::{Allocative, Described, Refusal, Visitor};
 
 impl Visitor<'_> {
     // Calls the closure at this visitor. Its refusal is the first cause where nothing had failed.

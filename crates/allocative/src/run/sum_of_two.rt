@@ -6,11 +6,7 @@ ghost use Rattle.allocative_graph.specs.Shows.{each_shows};
 ghost use Rattle.allocative_graph.specs.Visits.{IsSumOfTwo};
 ghost use Rattle.allocative.specs.InTwo.{RefusesInTwo};
 
-use crate::allocative_trait::Allocative;
-use crate::run::profile::profile_values;
-use allocative_described::Described;
-use allocative_graph::flamegraph::FlameGraph;
-use allocative_graph::refusal::Refusal;
+use crate::{Allocative, Described, FlameGraph, Refusal, profile_values};
 use std::alloc::Global;
 
 /// The sum of the graphs of two collections: the left items are collected in a builder of their own, then the right

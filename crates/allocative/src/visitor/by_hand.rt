@@ -33,32 +33,36 @@ ghost use Rattle.allocative.specs.Nested.{LendsCollector};
 ghost use Rattle.allocative.specs.Shared.{AnswersShared, told};
 ghost use Rattle.allocative.specs.Visited.{collector_of as state_of};
 
-use crate::visitor::Visitor;
 use crate::visitor::collector::Collector;
-use allocative_graph::key::Key;
-use allocative_graph::refusal::Refusal;
-use allocative_graph::shared::Identity;
+use crate::{Identity, Key, Refusal, Visitor};
 
 /// The collector of the visitor. The visitor ends with what is left of it; nothing else of the visitor changes.
+#[inline(always)]
 pub fn collector_of<'b>(visitor: &'b mut Visitor<'_>) -> &'b mut Collector
     ensures* lent { sem 𝓛 (LendsCollector visitor.entry result) }
     ensures now { result.now ≡ state_of visitor.old }
 {
-    visitor.reborrow()
+    &mut *visitor.collector
 }
 
 /// Enters inline, as `Visitor::enter` does, and with its errors: one more entry of `size` bytes under the key, and a
 /// visitor at it.
+#[inline(always)]
 pub fn enter(collector: &mut Collector, key: Key, size: usize) -> Result<Visitor<'_>, Refusal>
     ensures* lent { sem 𝓛 (LendsEntered false key size collector.entry result) }
     ensures same_reference { IfOk result (Borrows collector.entry) }
     ensures entered { IfOk result (EntersAt false key size collector.old) }
     ensures refused { IfErr result (λ e. Answers false size collector.old (Err e)) }
 {
-    collector.enter(key, size)
+    let outer_is_unique = collector.open_entry(key, size)?;
+    Ok(Visitor {
+        collector,
+        outer_is_unique,
+    })
 }
 
 /// Enters as unique, as `Visitor::enter_unique` does, and with its errors.
+#[inline(always)]
 pub fn enter_unique(
     collector: &mut Collector,
     key: Key,
@@ -69,7 +73,11 @@ pub fn enter_unique(
     ensures entered { IfOk result (EntersAt true key size collector.old) }
     ensures refused { IfErr result (λ e. Answers true size collector.old (Err e)) }
 {
-    collector.enter_unique(key, size)
+    let outer_is_unique = collector.open_unique(key, size)?;
+    Ok(Visitor {
+        collector,
+        outer_is_unique,
+    })
 }
 
 /// One more pointer of `size` bytes to the shared value with the identity `id`, as `Visitor::enter_shared` makes it, and
@@ -86,5 +94,9 @@ pub fn enter_content(
     ensures entered { IfOk result (PointsAt key size id collector.old) }
     ensures refused { IfErr result (λ o. AnswersShared key size id collector.old (told o)) }
 {
-    collector.enter_content(key, size, id)
+    match collector.open_shared(key, size, id) {
+        Ok(true) => Ok(collector.content()),
+        Ok(false) => Err(None),
+        Err(refusal) => Err(Some(refusal)),
+    }
 }

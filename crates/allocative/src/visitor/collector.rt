@@ -10,12 +10,9 @@ ghost use Rattle.allocative.specs.Kinds.{kind_of};
 ghost use Rattle.allocative.specs.Built.{as_graph};
 ghost use Rattle.allocative.specs.Making.{Makes, Done, one};
 
+use crate::{FlameGraphOutput, Identity, Key, Refusal};
 use allocative_collectors::graph_collector::GraphCollector;
 use allocative_collectors::held_collector::HeldCollector;
-use allocative_collectors::output::FlameGraphOutput;
-use allocative_graph::key::Key;
-use allocative_graph::refusal::Refusal;
-use allocative_graph::shared::Identity;
 use std::alloc::{AllocError, Global};
 use std::marker::Model;
 
@@ -36,12 +33,11 @@ pub struct Collector {
 impl Model for Collector {
     ghost use Rattle.allocative_graph.specs.Collector.{State};
     ghost use Rattle.allocative_graph.specs.Representation.Codes.{state_code};
+    ghost use Rattle.allocative.specs.Kinds.{kind_of, state_of};
 
     ghost Value = { State };
 
     ghost coded = { state_code };
-
-    ghost use Rattle.allocative.specs.Kinds.{kind_of, state_of};
 
     ghost view = { λ c. state_of c.failed (kind_of c.kind) };
 }
@@ -175,13 +171,11 @@ impl Collector {
         if let Some(cause) = self.failed {
             return Err(cause);
         }
-        match self.kind.enter(key, size, is_unique) {
-            Ok(outer) => Ok(outer),
-            Err(refusal) => {
-                self.failed = Some(refusal);
-                Err(refusal)
-            }
+        let entered = self.kind.enter(key, size, is_unique);
+        if let Err(refusal) = entered {
+            self.failed = Some(refusal);
         }
+        entered
     }
 
     // One more inline entry with nothing inside it.
@@ -193,13 +187,11 @@ impl Collector {
         if let Some(cause) = self.failed {
             return Err(cause);
         }
-        match self.kind.enter_simple(key, size) {
-            Ok(()) => Ok(()),
-            Err(refusal) => {
-                self.failed = Some(refusal);
-                Err(refusal)
-            }
+        let entered = self.kind.enter_simple(key, size);
+        if let Err(refusal) = entered {
+            self.failed = Some(refusal);
         }
+        entered
     }
 
     // One more shared entry. It returns whether the content is to be shown.

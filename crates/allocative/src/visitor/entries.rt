@@ -7,12 +7,8 @@ ghost use Rattle.allocative.specs.Making.{MakesPlan, MakesFirst, one};
 ghost use Rattle.allocative.specs.Visited.{Entered};
 ghost use Rattle.allocative.specs.Closures.{KeepsVisitor, CalledInside};
 
-use crate::allocative_trait::Allocative;
-use crate::part::Part;
-use crate::visitor::Visitor;
-use allocative_described::Described;
-use allocative_graph::key::Key;
-use allocative_graph::refusal::Refusal;
+use crate::by_hand::enter;
+use crate::{Allocative, Described, Key, Part, Refusal, Visitor};
 
 impl Visitor<'_> {
     /// One inline entry of the declared name and size of `T`. It is `TooLarge` where there is no size; its
@@ -58,7 +54,7 @@ impl Visitor<'_> {
         requires keeps { KeepsVisitor F.FnOnce visit }
         ensures { CalledInside F.FnOnce visit name size self.old self.new result }
     {
-        let mut inner = self.collector.enter(name, size)?;
+        let mut inner = enter(self.collector, name, size)?;
         if let Err(refusal) = visit(&mut inner) {
             return Err(inner.refuse(refusal));
         }

@@ -5,12 +5,7 @@ ghost use Rattle.std.specs.Prelude.{◌&&◌, codes};
 ghost use Rattle.allocative_graph.specs.Shows as shows;
 ghost use Rattle.allocative.specs.PackShows.{either_inside};
 
-use crate::allocative_trait::Allocative;
-use crate::part::{Declared, Field, Part};
-use crate::visitor::Visitor;
-use allocative_described::Described;
-use allocative_graph::key::Key;
-use allocative_graph::refusal::Refusal;
+use crate::{Allocative, Described, Field, Part, Refusal, Visitor, Whole};
 use either::{Either, Left, Right};
 
 impl<L: Allocative + Described, R: Allocative + Described> Allocative for Either<L, R> {
@@ -20,11 +15,9 @@ impl<L: Allocative + Described, R: Allocative + Described> Allocative for Either
     ghost is_exact = { L.is_exact && R.is_exact };
 
     fn visit(&self, visitor: &mut Visitor<'_>) -> Result<(), Refusal> {
-        let name = Key::for_type_name::<Either<L, R>>();
-        let size = <Either<L, R>>::size();
         match self {
-            Left(left) => Declared(name, size, Field("Left", left)).enter(visitor),
-            Right(right) => Declared(name, size, Field("Right", right)).enter(visitor),
+            Left(left) => Whole(self, Field("Left", left)).enter(visitor),
+            Right(right) => Whole(self, Field("Right", right)).enter(visitor),
         }
     }
 }

@@ -4,10 +4,7 @@
 ghost use Rattle.std.specs.Prelude.{true};
 ghost use Rattle.allocative_graph.specs.Shows.{Nothing};
 
-use crate::allocative_trait::Allocative;
-use crate::part::Part;
-use crate::visitor::Visitor;
-use allocative_graph::refusal::Refusal;
+use crate::{Allocative, Part, Refusal, Visitor};
 
 impl Allocative for anyhow::Error {
     ghost may_show = { λ e. Nothing };

@@ -6,12 +6,8 @@ ghost use Rattle.indexmap.specs.IndexMap.{spare};
 ghost use Rattle.allocative_graph.specs.Shows as shows;
 ghost use Rattle.allocative.specs.PackShows.{index_map_inside};
 
-use crate::allocative_trait::Allocative;
-use crate::part::containers::{IndexData, Pairs, Table, Unused};
-use crate::part::{Inside, Part};
-use crate::visitor::Visitor;
-use allocative_described::Described;
-use allocative_graph::refusal::Refusal;
+use crate::part::containers::{IndexData, Table};
+use crate::{Allocative, Described, Inside, Pairs, Part, Refusal, Unused, Visitor};
 use indexmap::IndexMap;
 use std::hash::Hash;
 

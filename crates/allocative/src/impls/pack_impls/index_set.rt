@@ -6,12 +6,8 @@ ghost use Rattle.indexmap.specs.IndexSet.{spare};
 ghost use Rattle.allocative_graph.specs.Shows as shows;
 ghost use Rattle.allocative.specs.PackShows.{index_set_inside};
 
-use crate::allocative_trait::Allocative;
-use crate::part::containers::{FieldEach, IndexData, Table, Unused};
-use crate::part::{Inside, Part};
-use crate::visitor::Visitor;
-use allocative_described::Described;
-use allocative_graph::refusal::Refusal;
+use crate::part::containers::{IndexData, Table};
+use crate::{Allocative, Described, FieldEach, Inside, Part, Refusal, Unused, Visitor};
 use indexmap::IndexSet;
 use std::hash::Hash;
 

@@ -6,12 +6,9 @@ ghost use Rattle.allocative.specs.JsonShows.{number_shows, stored_members, store
 ghost use Rattle.allocative.specs.Making.{MakesFirst};
 ghost use Rattle.allocative.specs.Visited.{Entered};
 
-use crate::allocative_trait::Allocative;
-use crate::part::containers::{Buffer, Each};
-use crate::part::{Declared, Field, Inside, Part, Unique};
-use crate::visitor::Visitor;
-use allocative_graph::key::Key;
-use allocative_graph::refusal::Refusal;
+use crate::{
+    Allocative, Buffer, Declared, Each, Field, Inside, Key, Part, Refusal, Unique, Visitor,
+};
 use serde_json::{Map, Number, Value};
 
 impl Allocative for Number {

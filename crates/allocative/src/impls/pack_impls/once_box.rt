@@ -5,10 +5,7 @@ ghost use Rattle.std.specs.Prelude.{codes};
 ghost use Rattle.allocative_graph.specs.Shows as shows;
 ghost use Rattle.allocative.specs.PackShows.{once_inside};
 
-use crate::allocative_trait::Allocative;
-use crate::part::{Inside, Part, Unique};
-use crate::visitor::Visitor;
-use allocative_graph::refusal::Refusal;
+use crate::{Allocative, Inside, Part, Refusal, Unique, Visitor};
 use once_cell::race::OnceBox;
 
 impl<T: Allocative> Allocative for OnceBox<T> {

@@ -6,14 +6,8 @@ ghost use Rattle.slab.specs.Slab.{values};
 ghost use Rattle.allocative_graph.specs.Shows as shows;
 ghost use Rattle.allocative.specs.PackShows.{slab_inside};
 
-use crate::allocative_trait::Allocative;
-use crate::part::containers::Buffer;
 use crate::part::slices::are_shown_each;
-use crate::part::{Inside, Part};
-use crate::visitor::Visitor;
-use allocative_described::Described;
-use allocative_graph::key::Key;
-use allocative_graph::refusal::Refusal;
+use crate::{Allocative, Buffer, Described, Inside, Key, Part, Refusal, Visitor};
 use slab::Slab;
 
 /// The slice of a slab's values, in the order of their keys.

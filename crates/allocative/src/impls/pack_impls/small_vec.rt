@@ -5,13 +5,7 @@ ghost use Rattle.std.specs.Prelude.{codes};
 ghost use Rattle.allocative_graph.specs.Shows as shows;
 ghost use Rattle.allocative.specs.PackShows.{small_vec_inside};
 
-use crate::allocative_trait::Allocative;
-use crate::part::containers::FieldEach;
-use crate::part::{Declared, Part, Unique};
-use crate::visitor::Visitor;
-use allocative_described::Described;
-use allocative_graph::key::Key;
-use allocative_graph::refusal::Refusal;
+use crate::{Allocative, Described, FieldEach, Part, Refusal, Unique, Visitor, Whole};
 use smallvec::SmallVec;
 
 impl<T: Allocative + Described, const N: usize> Allocative for SmallVec<T, N> {
@@ -21,13 +15,11 @@ impl<T: Allocative + Described, const N: usize> Allocative for SmallVec<T, N> {
     ghost is_exact = { T.is_exact };
 
     fn visit(&self, visitor: &mut Visitor<'_>) -> Result<(), Refusal> {
-        let name = Key::for_type_name::<SmallVec<T, N>>();
-        let size = <SmallVec<T, N>>::size();
         let items = FieldEach("data", self.as_slice());
         if self.spilled() {
-            Declared(name, size, Unique("ptr", 8, items)).enter(visitor)
+            Whole(self, Unique("ptr", 8, items)).enter(visitor)
         } else {
-            Declared(name, size, items).enter(visitor)
+            Whole(self, items).enter(visitor)
         }
     }
 }

@@ -5,12 +5,7 @@ ghost use Rattle.std.specs.Prelude.{◌&&◌, codes};
 ghost use Rattle.allocative_graph.specs.Shows as shows;
 ghost use Rattle.allocative.specs.StdShows.{option_inside, result_inside};
 
-use crate::allocative_trait::Allocative;
-use crate::part::{Declared, Field, Part};
-use crate::visitor::Visitor;
-use allocative_described::Described;
-use allocative_graph::key::Key;
-use allocative_graph::refusal::Refusal;
+use crate::{Allocative, Described, Field, Part, Refusal, Visitor, Whole};
 
 impl<T: Allocative + Described> Allocative for Option<T> {
     ghost may_show = { λ o. shows.Field (codes "Option") ⟦<Option<T> as Described>⟧.size
@@ -19,11 +14,9 @@ impl<T: Allocative + Described> Allocative for Option<T> {
     ghost is_exact = { T.is_exact };
 
     fn visit(&self, visitor: &mut Visitor<'_>) -> Result<(), Refusal> {
-        let name = Key::for_type_name::<Option<T>>();
-        let size = <Option<T>>::size();
         match self {
-            None => Declared(name, size, ()).enter(visitor),
-            Some(value) => Declared(name, size, Field("Some", value)).enter(visitor),
+            None => Whole(self, ()).enter(visitor),
+            Some(value) => Whole(self, Field("Some", value)).enter(visitor),
         }
     }
 }
@@ -35,11 +28,9 @@ impl<T: Allocative + Described, E: Allocative + Described> Allocative for Result
     ghost is_exact = { T.is_exact && E.is_exact };
 
     fn visit(&self, visitor: &mut Visitor<'_>) -> Result<(), Refusal> {
-        let name = Key::for_type_name::<Result<T, E>>();
-        let size = <Result<T, E>>::size();
         match self {
-            Ok(value) => Declared(name, size, Field("Ok", value)).enter(visitor),
-            Err(error) => Declared(name, size, Field("Err", error)).enter(visitor),
+            Ok(value) => Whole(self, Field("Ok", value)).enter(visitor),
+            Err(error) => Whole(self, Field("Err", error)).enter(visitor),
         }
     }
 }

@@ -8,13 +8,10 @@ ghost use Rattle.allocative.specs.Bodies.{buffer_shows, cut_shows};
 ghost use Rattle.allocative.specs.Runs.{field_of, pair_shows};
 ghost use Rattle.allocative.specs.StdShows.{in_any_order};
 
-use crate::allocative_trait::Allocative;
-use crate::part::containers::{Buffer, Cut, FieldEach, Items, Pairs};
-use crate::part::{Declared, Inside, Part};
-use crate::visitor::Visitor;
-use allocative_described::Described;
-use allocative_graph::key::Key;
-use allocative_graph::refusal::Refusal;
+use crate::part::containers::Cut;
+use crate::{
+    Allocative, Buffer, Described, FieldEach, Inside, Items, Pairs, Part, Refusal, Visitor, Whole,
+};
 use std::collections::{BTreeMap, BTreeSet, HashMap, HashSet, VecDeque};
 use std::hash::Hash;
 
@@ -32,7 +29,7 @@ impl<T: Allocative + Described> Allocative for Vec<T> {
             count: self.len(),
             capacity: self.capacity(),
         };
-        Declared(Key::for_type_name::<Vec<T>>(), <Vec<T>>::size(), buffer).enter(visitor)
+        Whole(self, buffer).enter(visitor)
     }
 }
 
@@ -45,14 +42,13 @@ impl<T: Allocative + Described> Allocative for VecDeque<T> {
 
     fn visit(&self, visitor: &mut Visitor<'_>) -> Result<(), Refusal> {
         let (front, back) = self.as_slices();
-        let buffer = Buffer {
+        let ring = Buffer {
             items: Cut(front, back),
             item_size: T::size(),
             count: self.len(),
             capacity: self.capacity(),
         };
-        let name = Key::for_type_name::<VecDeque<T>>();
-        Declared(name, <VecDeque<T>>::size(), buffer).enter(visitor)
+        Whole(self, ring).enter(visitor)
     }
 }
 
@@ -63,9 +59,7 @@ impl<K: Allocative + Described + Ord, V: Allocative + Described> Allocative for 
     ghost is_exact = { K.is_exact && V.is_exact };
 
     fn visit(&self, visitor: &mut Visitor<'_>) -> Result<(), Refusal> {
-        let pairs = Inside("data", 8, Pairs(self));
-        let name = Key::for_type_name::<BTreeMap<K, V>>();
-        Declared(name, <BTreeMap<K, V>>::size(), pairs).enter(visitor)
+        Whole(self, Inside("data", 8, Pairs(self))).enter(visitor)
     }
 }
 
@@ -76,9 +70,7 @@ impl<K: Allocative + Described + Ord> Allocative for BTreeSet<K> {
     ghost is_exact = { K.is_exact };
 
     fn visit(&self, visitor: &mut Visitor<'_>) -> Result<(), Refusal> {
-        let keys = Inside("data", 8, FieldEach("key", self));
-        let name = Key::for_type_name::<BTreeSet<K>>();
-        Declared(name, <BTreeSet<K>>::size(), keys).enter(visitor)
+        Whole(self, Inside("data", 8, FieldEach("key", self))).enter(visitor)
     }
 }
 
@@ -91,8 +83,7 @@ impl<K: Allocative + Described + Eq + Hash, V: Allocative + Described> Allocativ
 
     fn visit(&self, visitor: &mut Visitor<'_>) -> Result<(), Refusal> {
         let pairs = Inside("data", 8, Pairs(self));
-        let name = Key::for_type_name::<HashMap<K, V>>();
-        Declared(name, <HashMap<K, V>>::size(), pairs).enter(visitor)
+        Whole(self, pairs).enter(visitor)
     }
 }
 
@@ -104,7 +95,6 @@ impl<K: Allocative + Described + Eq + Hash> Allocative for HashSet<K> {
 
     fn visit(&self, visitor: &mut Visitor<'_>) -> Result<(), Refusal> {
         let keys = Inside("data", 8, FieldEach("key", self));
-        let name = Key::for_type_name::<HashSet<K>>();
-        Declared(name, <HashSet<K>>::size(), keys).enter(visitor)
+        Whole(self, keys).enter(visitor)
     }
 }

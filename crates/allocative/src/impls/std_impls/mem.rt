@@ -5,12 +5,7 @@ ghost use Rattle.std.specs.Prelude.{true, codes};
 ghost use Rattle.std.specs.Mem.{manually_drop_value};
 ghost use Rattle.allocative_graph.specs.Shows as shows;
 
-use crate::allocative_trait::Allocative;
-use crate::part::{Declared, Field, Part};
-use crate::visitor::Visitor;
-use allocative_described::Described;
-use allocative_graph::key::Key;
-use allocative_graph::refusal::Refusal;
+use crate::{Allocative, Described, Field, Part, Refusal, Visitor, Whole};
 use std::marker::PhantomData;
 use std::mem::ManuallyDrop;
 
@@ -21,9 +16,7 @@ impl<T: Allocative + Described> Allocative for ManuallyDrop<T> {
     ghost is_exact = { T.is_exact };
 
     fn visit(&self, visitor: &mut Visitor<'_>) -> Result<(), Refusal> {
-        let inner = Field("inner", &**self);
-        let name = Key::for_type_name::<ManuallyDrop<T>>();
-        Declared(name, <ManuallyDrop<T>>::size(), inner).enter(visitor)
+        Whole(self, Field("inner", &**self)).enter(visitor)
     }
 }
 

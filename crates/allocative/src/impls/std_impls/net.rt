@@ -4,9 +4,7 @@
 ghost use Rattle.std.specs.Prelude.{true, codes};
 ghost use Rattle.allocative.specs.StdShows.{Leaf};
 
-use crate::allocative_trait::Allocative;
-use crate::visitor::Visitor;
-use allocative_graph::refusal::Refusal;
+use crate::{Allocative, Refusal, Visitor};
 use std::net::{IpAddr, Ipv4Addr, Ipv6Addr};
 
 impl Allocative for IpAddr {

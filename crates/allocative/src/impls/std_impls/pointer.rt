@@ -4,12 +4,7 @@
 ghost use Rattle.std.specs.Prelude.{true, codes, Some};
 ghost use Rattle.allocative_graph.specs.Shows as shows;
 
-use crate::allocative_trait::Allocative;
-use crate::part::{Declared, Part, Unique};
-use crate::visitor::Visitor;
-use allocative_described::Described;
-use allocative_graph::key::Key;
-use allocative_graph::refusal::Refusal;
+use crate::{Allocative, Part, Refusal, Unique, Visitor, Whole};
 
 impl<T: Allocative> Allocative for Box<T> {
     ghost may_show = { λ b. shows.Field (codes "Box") (Some 8)
@@ -18,8 +13,7 @@ impl<T: Allocative> Allocative for Box<T> {
     ghost is_exact = { T.is_exact };
 
     fn visit(&self, visitor: &mut Visitor<'_>) -> Result<(), Refusal> {
-        let pointer = Unique("ptr", 8, &**self);
-        Declared(Key::for_type_name::<Box<T>>(), <Box<T>>::size(), pointer).enter(visitor)
+        Whole(self, Unique("ptr", 8, &**self)).enter(visitor)
     }
 }
 

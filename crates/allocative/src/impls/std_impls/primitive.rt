@@ -4,9 +4,7 @@
 ghost use Rattle.std.specs.Prelude.{true, codes};
 ghost use Rattle.allocative.specs.StdShows.{Leaf};
 
-use crate::allocative_trait::Allocative;
-use crate::visitor::Visitor;
-use allocative_graph::refusal::Refusal;
+use crate::{Allocative, Refusal, Visitor};
 use std::num::{
     NonZeroI8, NonZeroI16, NonZeroI32, NonZeroI64, NonZeroIsize, NonZeroU8, NonZeroU16, NonZeroU32,
     NonZeroU64, NonZeroUsize,

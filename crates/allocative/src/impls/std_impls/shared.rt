@@ -5,13 +5,10 @@ ghost use Rattle.std.specs.Prelude.{codes, Some};
 ghost use Rattle.allocative_graph.specs.Shows as shows;
 ghost use Rattle.allocative.specs.StdShows.{shared_inside};
 
-use crate::allocative_trait::Allocative;
-use crate::part::{Declared, Part, Shared};
-use crate::visitor::Visitor;
-use allocative_described::{Described, shared_inner_size};
-use allocative_graph::key::Key;
-use allocative_graph::refusal::Refusal;
-use allocative_graph::shared::{IdArc, IdRc};
+use crate::{
+    Allocative, Declared, Described, IdArc, IdRc, Key, Part, Refusal, Shared, Visitor, Whole,
+    shared_inner_size,
+};
 
 impl<T: Allocative + Described> Allocative for IdRc<T> {
     ghost may_show = { λ s. shows.Field (codes "Rc") (Some 8)
@@ -26,7 +23,7 @@ impl<T: Allocative + Described> Allocative for IdRc<T> {
             identity: self.id(),
             content: Declared("RcInner", shared_inner_size::<T>(), self.get()),
         };
-        Declared(Key::for_type_name::<IdRc<T>>(), <IdRc<T>>::size(), pointer).enter(visitor)
+        Whole(self, pointer).enter(visitor)
     }
 }
 
@@ -43,11 +40,6 @@ impl<T: Allocative + Described> Allocative for IdArc<T> {
             identity: self.id(),
             content: Declared("ArcInner", shared_inner_size::<T>(), self.get()),
         };
-        Declared(
-            Key::for_type_name::<IdArc<T>>(),
-            <IdArc<T>>::size(),
-            pointer,
-        )
-        .enter(visitor)
+        Whole(self, pointer).enter(visitor)
     }
 }

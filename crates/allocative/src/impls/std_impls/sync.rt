@@ -4,9 +4,7 @@
 ghost use Rattle.std.specs.Prelude.{true, codes};
 ghost use Rattle.allocative.specs.StdShows.{Leaf};
 
-use crate::allocative_trait::Allocative;
-use crate::visitor::Visitor;
-use allocative_graph::refusal::Refusal;
+use crate::{Allocative, Refusal, Visitor};
 use std::sync::atomic::{
     AtomicBool, AtomicI8, AtomicI16, AtomicI32, AtomicI64, AtomicIsize, AtomicU8, AtomicU16,
     AtomicU32, AtomicU64, AtomicUsize,

@@ -5,13 +5,7 @@ ghost use Rattle.std.specs.Prelude.{true, codes, length, string_bytes, string_ca
 ghost use Rattle.allocative_graph.specs.Shows as shows;
 ghost use Rattle.allocative.specs.Bodies.{text_shows};
 
-use crate::allocative_trait::Allocative;
-use crate::part::containers::Text;
-use crate::part::{Declared, Part};
-use crate::visitor::Visitor;
-use allocative_described::Described;
-use allocative_graph::key::Key;
-use allocative_graph::refusal::Refusal;
+use crate::{Allocative, Part, Refusal, Text, Visitor, Whole};
 
 impl Allocative for String {
     ghost may_show = { λ s. shows.Field (codes "String") (Some 24)
@@ -20,6 +14,6 @@ impl Allocative for String {
     ghost is_exact = { true };
 
     fn visit(&self, visitor: &mut Visitor<'_>) -> Result<(), Refusal> {
-        Declared(Key::for_type_name::<String>(), <String>::size(), Text(self)).enter(visitor)
+        Whole(self, Text(self)).enter(visitor)
     }
 }

@@ -5,12 +5,7 @@ ghost use Rattle.std.specs.Prelude.{◌&&◌, codes};
 ghost use Rattle.allocative_graph.specs.Shows as shows;
 ghost use Rattle.allocative.specs.Bodies.{slice_of};
 
-use crate::allocative_trait::Allocative;
-use crate::part::{Declared, Field, Part};
-use crate::visitor::Visitor;
-use allocative_described::Described;
-use allocative_graph::key::Key;
-use allocative_graph::refusal::Refusal;
+use crate::{Allocative, Described, Field, Part, Refusal, Visitor, Whole};
 
 impl<A: Allocative + Described> Allocative for (A,) {
     ghost may_show = { λ p. shows.Field (codes "tuple1") ⟦<(A,) as Described>⟧.size
@@ -19,9 +14,7 @@ impl<A: Allocative + Described> Allocative for (A,) {
     ghost is_exact = { A.is_exact };
 
     fn visit(&self, visitor: &mut Visitor<'_>) -> Result<(), Refusal> {
-        let first = Field("0", &self.0);
-        let name = Key::for_type_name::<(A,)>();
-        Declared(name, <(A,)>::size(), first).enter(visitor)
+        Whole(self, Field("0", &self.0)).enter(visitor)
     }
 }
 
@@ -33,10 +26,7 @@ impl<A: Allocative + Described, B: Allocative + Described> Allocative for (A, B)
     ghost is_exact = { A.is_exact && B.is_exact };
 
     fn visit(&self, visitor: &mut Visitor<'_>) -> Result<(), Refusal> {
-        let first = Field("0", &self.0);
-        let second = Field("1", &self.1);
-        let name = Key::for_type_name::<(A, B)>();
-        Declared(name, <(A, B)>::size(), (first, second)).enter(visitor)
+        Whole(self, (Field("0", &self.0), Field("1", &self.1))).enter(visitor)
     }
 }
 
@@ -53,8 +43,7 @@ impl<A: Allocative + Described, B: Allocative + Described, C: Allocative + Descr
         let first = Field("0", &self.0);
         let second = Field("1", &self.1);
         let third = Field("2", &self.2);
-        let name = Key::for_type_name::<(A, B, C)>();
-        Declared(name, <(A, B, C)>::size(), (first, second, third)).enter(visitor)
+        Whole(self, (first, second, third)).enter(visitor)
     }
 }
 
@@ -77,8 +66,7 @@ impl<
         let second = Field("1", &self.1);
         let third = Field("2", &self.2);
         let fourth = Field("3", &self.3);
-        let name = Key::for_type_name::<(A, B, C, D)>();
-        Declared(name, <(A, B, C, D)>::size(), (first, second, third, fourth)).enter(visitor)
+        Whole(self, (first, second, third, fourth)).enter(visitor)
     }
 }
 
@@ -104,13 +92,7 @@ impl<
         let third = Field("2", &self.2);
         let fourth = Field("3", &self.3);
         let fifth = Field("4", &self.4);
-        let name = Key::for_type_name::<(A, B, C, D, E)>();
-        Declared(
-            name,
-            <(A, B, C, D, E)>::size(),
-            (first, second, third, fourth, fifth),
-        )
-        .enter(visitor)
+        Whole(self, (first, second, third, fourth, fifth)).enter(visitor)
     }
 }
 

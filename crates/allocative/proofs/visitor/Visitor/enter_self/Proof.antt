@@ -1,19 +1,5 @@
 -- A hand-written proof of `enter_self`: it passes on what `enter_self_sized` states of the visitor outside.
-use Rattle.allocative.proofs.Lent.{Answer, refusal_laws, result_laws, visitor_laws, [], ◌∷◌, refl, proved, says_two, id⊢, ftrue, flft, named, Lfts, fact, tables, ‵, raw, ◌⊛◌, some, later, ◌$◌, ◌∵◌, !, qed, done, move, keep, drop, use1, split, join, fjoin, pick, await, suffices, frame, enter, addr, stop, no_more, and_then, returns, alloc_all, pass_all, free_all, look_at, get, through, sets, lands_as, yes, no, shows, RattleType, MutRef, mut_vals, mut_Tells, plain, named_lft, nothing, heard, peeks, calls_at, Lasts, lasts, triple_of, framed, Stays, stay_dropped, Goes-dropped, Goes-spent_ref, ends_at}
-use Rattle.std.proofs.Common.{Result, IfOk, IfErr}
-use Rattle.allocative.proofs.Common.{Refusal, Visitor, LendsNestedSized, NestsSized, IsRefusedSized}
-use Rattle.allocative.specs.contracts.visitor.Visitor as visitor
-use base.Logic.{emp}
-use contract.BorrowLft.{◌⊑◌}
-use contract.Monad.{fact_i}
-use denote.Builtin.{RefOf}
-use denote.Param.{bounded, param}
-use denote.Ref.{ShrRef, shr_vals, shr_Tells}
-use denote.Signature.{Slot}
-use mir.MapTy.{inst_fn}
-use mir.Syntax.{Args, Fn, Dict, a_type, dcons, dnil}
-use types.Kit.{use0, use3}
-use Rattle.allocative_described.specs.declared.described.Described as described
+use Rattle.allocative.proofs.Lent.{Ghosts, visitor_row, Answer, refusal_laws, result_laws, visitor_laws, [], ◌∷◌, refl, proved, says_two, id⊢, ftrue, flft, named, Lfts, fact, tables, ‵, raw, ◌⊛◌, some, later, ◌$◌, ◌∵◌, !, qed, done, move, keep, drop, use1, split, join, fjoin, pick, await, suffices, frame, enter, addr, stop, no_more, and_then, returns, alloc_all, pass_all, free_all, look_at, get, through, sets, lands_as, yes, no, shows, RattleType, MutRef, mut_vals, mut_Tells, plain, named_lft, nothing, heard, peeks, calls_at, Lasts, lasts, triple_of, framed, Stays, stay_dropped, Goes-dropped, Goes-spent_ref, ends_at, Result, IfOk, IfErr, Refusal, Visitor, LendsNestedSized, NestsSized, IsRefusedSized, emp, ◌⊑◌, fact_i, RefOf, bounded, param, ShrRef, shr_vals, shr_Tells, Slot, inst_fn, Args, Fn, Dict, a_type, dcons, dnil, use0, use3}
 use Rattle.allocative.specs.contracts.visitor.Visitor.enter_self as f
 use Rattle.allocative.proofs.visitor.Visitor.enter_self.Statement.{statement}
 use Rattle.allocative.proofs.visitor.Visitor.enter_self.Code as code
@@ -22,7 +8,7 @@ use Rattle.allocative.proofs.visitor.Visitor.enter_self_sized.Met as h-met
 
 -- The lender, whose own lifetime is the second of four, and the value.
 abbrev Lender : Lfts 4 → RattleType
-Lender κs = visitor.the_row (named_lft 4 1 tt κs)
+Lender κs = visitor_row (named_lft 4 1 tt κs)
 
 abbrev This : RattleType → Slot 4
 This T = RefOf (2 ∷ []) tt (plain (λ _. param 0 T)) (λ _. tt)
@@ -33,7 +19,7 @@ args T d = bounded (a_type ∷ []) (T, tt) (dcons d dnil)
 abbrev function : RattleType → Dict → Fn
 function T d = inst_fn (args T d) code.function
 
-abbrev stayed : (T : RattleType) (g : described.Ghosts T.Denot) (d : Dict) → Stays (f.ended T g d).signature.params (f.ended T g d).kept
+abbrev stayed : (T : RattleType) (g : Ghosts T.Denot) (d : Dict) → Stays (f.ended T g d).signature.params (f.ended T g d).kept
 stayed T g d = (stay_dropped _ no, (stay_dropped (This T) yes, tt))
 
 pub enter_self_spec : {M : Type 1} → statement M

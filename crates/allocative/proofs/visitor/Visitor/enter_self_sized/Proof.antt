@@ -1,18 +1,6 @@
 -- A hand-written proof of `enter_self_sized`: it passes on what `enter_sized` states of the visitor outside, at the
 -- declared name and size.
-use Rattle.allocative.proofs.Lent.{Answer, Size, size_laws, key_laws, refusal_laws, result_laws, visitor_laws, ◌≡◌, ℕ, [], ◌∷◌, refl, subst, proved, says_two, id⊢, ftrue, flft, named, Lfts, fact, tables, ‵, raw, ◌⊛◌, some, later, ◌$◌, ◌∵◌, !, qed, done, move, keep, drop, use1, use2, split, join, fjoin, pick, await, rewrite, suffices, frame, enter, addr, stop, no_more, and_then, returns, alloc_all, pass_all, free_all, look_at, get, through, sets, lands_as, no, shows, RattleType, MutRef, mut_vals, mut_Tells, plain, named_lft, nothing, heard, peeks, calls_at, Lasts, lasts, triple_of, framed, Stays, stay_dropped, Goes-spent_ref, ends_at}
-use Rattle.std.proofs.Common.{Option, Result, IfOk, IfErr}
-use Rattle.allocative.proofs.Common.{Refusal, Key, Visitor, LendsNestedSized, NestsSized, IsRefusedSized}
-use Rattle.allocative_graph.specs.contracts.key.Key as key
-use Rattle.allocative.specs.contracts.visitor.Visitor as visitor
-use base.Logic.{emp}
-use contract.BorrowLft.{◌⊑◌}
-use contract.Monad.{fact_i}
-use denote.Param.{bounded}
-use mir.MapTy.{inst_fn}
-use mir.Syntax.{Args, Fn, Dict, a_type, dcons, dnil}
-use types.Kit.{use0, use3}
-use Rattle.allocative_described.specs.declared.described.Described as described
+use Rattle.allocative.proofs.Lent.{Ghosts, visitor_row, key_row, Answer, Size, size_laws, key_laws, refusal_laws, result_laws, visitor_laws, ◌≡◌, ℕ, [], ◌∷◌, refl, subst, proved, says_two, id⊢, ftrue, flft, named, Lfts, fact, tables, ‵, raw, ◌⊛◌, some, later, ◌$◌, ◌∵◌, !, qed, done, move, keep, drop, use1, use2, split, join, fjoin, pick, await, rewrite, suffices, frame, enter, addr, stop, no_more, and_then, returns, alloc_all, pass_all, free_all, look_at, get, through, sets, lands_as, no, shows, RattleType, MutRef, mut_vals, mut_Tells, plain, named_lft, nothing, heard, peeks, calls_at, Lasts, lasts, triple_of, framed, Stays, stay_dropped, Goes-spent_ref, ends_at, Option, Result, IfOk, IfErr, Refusal, Key, Visitor, LendsNestedSized, NestsSized, IsRefusedSized, emp, ◌⊑◌, fact_i, bounded, inst_fn, Args, Fn, Dict, a_type, dcons, dnil, use0, use3}
 use Rattle.allocative.specs.contracts.visitor.Visitor.enter_self_sized as f
 use Rattle.allocative.proofs.visitor.Visitor.enter_self_sized.Statement.{statement}
 use Rattle.allocative.proofs.visitor.Visitor.enter_self_sized.Code as code
@@ -24,7 +12,7 @@ use Rattle.allocative.proofs.visitor.Visitor.enter_sized.Met as h-met
 
 -- The lender, whose own lifetime is the second of three.
 abbrev Lender : Lfts 3 → RattleType
-Lender κs = visitor.the_row (named_lft 3 1 tt κs)
+Lender κs = visitor_row (named_lft 3 1 tt κs)
 
 abbrev args : RattleType → Dict → Args
 args T d = bounded (a_type ∷ []) (T, tt) (dcons d dnil)
@@ -32,7 +20,7 @@ args T d = bounded (a_type ∷ []) (T, tt) (dcons d dnil)
 abbrev function : RattleType → Dict → Fn
 function T d = inst_fn (args T d) code.function
 
-abbrev stayed : (T : RattleType) (g : described.Ghosts T.Denot) (d : Dict) → Stays (f.ended T g d).signature.params (f.ended T g d).kept
+abbrev stayed : (T : RattleType) (g : Ghosts T.Denot) (d : Dict) → Stays (f.ended T g d).signature.params (f.ended T g d).kept
 stayed T g d = (stay_dropped _ no, tt)
 
 pub enter_self_sized_spec : {M : Type 1} → statement M
@@ -57,10 +45,10 @@ enter_self_sized_spec 𝓤 𝓛 𝓜 𝓡 wired T laws g d bound =
     nothing ! $ move ! (1 ∷ 0 ∷ []) $ join ! $ nothing ! $ use0 𝓛 (raw (fact 𝓤 (ρ ⊑ T.lives))) (fact_i 𝓤 (ρ ⊑ T.lives) (emp 𝓤) lives) $
     move ! (2 ∷ 0 ∷ 1 ∷ []) $ use3 𝓛 (raw (K.pre x)) (id⊢ 𝓤 _) $
     calls_at ! fm K (k-met.met 𝓤 𝓛 𝓜 𝓡 (code.calls-allocative_graph::key::Key::for_type_name 𝓡.env wired) T laws g d bound) x (no_more !) (λ v.
-    use1 𝓛 (later (some (λ (name : Key). (Token ⊛ ‵ (key.the_row.own_val name (v ∷ []))) ⊛
+    use1 𝓛 (later (some (λ (name : Key). (Token ⊛ ‵ (key_row.own_val name (v ∷ []))) ⊛
     some (λ (ws : Lasts (k.ended T g d) (ρ, tt) tt). ‵ (lasts (k.ended T g d) (ρ, tt) tt ws) ⊛ raw (fact 𝓤 (name ≡ g.name)))))) (id⊢ 𝓤 _) $
     await ! tt $ pick ! (λ name. split ! $ split ! $ move ! (2 ∷ []) $ pick ! (λ ws. split ! $ drop ! $ heard ! _ (λ is_name.
-    move ! (1 ∷ []) $ peeks ! key.the_row _ (shows 𝓛 key.the_row) name (v ∷ []) (λ name_told.
+    move ! (1 ∷ []) $ peeks ! key_row _ (shows 𝓛 key_row) name (v ∷ []) (λ name_told.
     lands_as ! refl refl ((key_laws.lawful 𝓛).typed name (v ∷ []) name_told).0 $
     -- [the key; the token of T; the second token; the first token; self]
     let J = triple_of 𝓛 (m.signature T) (m.spec T g d 𝓛 𝓜.mem 𝓡.returns) in

@@ -1,31 +1,18 @@
 -- A hand-written proof of `enter_shared`: the collector is lent, a visitor of the content may hold it, and the result
 -- is converted.
-use Rattle.allocative.proofs.Lent.{Lfts, RattleType, Lender, Nested, ℕ, key_laws, option_laws, refusal_laws, result_laws, visitor_laws, nest, one_value, at_values, ◌≡◌, List, [], ◌∷◌, refl, sym, ap, subst, MutBor, proved_at, says_three, rewrite, Goes-blank, id⊢, ftrue, flft, named, w64, Val, fact, tables, ‵, raw, ◌⊛◌, some, later, ◌$◌, ◌∵◌, !, qed, done, move, keep, drop, use1, use2, split, join, fsplit, fjoin, feq_i, feq_l, pick, await, suffices, frame, enter, addr, stop, no_more, and_then, returns, alloc_all, pass_all, free_all, look_at, get, through, sets, lands_as, usize, yes, no, shows, uint_vals, uint_Tells, MutRef, mut_vals, mut_Tells, plain, named_lft, nothing, heard, peeks, only, calls_at, Lasts, lasts, triple_of, framed, Stays, stay_dropped, Goes-dropped, Goes-spent_ref, ends_at}
-use Rattle.std.proofs.Common.{true, false, Ok, IfOk, IfErr, OnOk, OnErr, Option, None, Some, Result, Err, IfSome}
-use Rattle.allocative.proofs.Common.{name_if_ok, State, EntersShared, LendsCollector, EndsWith, EndsWithout, with_state, AnswersShared, told, turned, Refusal, Key, Identity, enters_first, Visitor}
-use Rattle.std.specs.Borrow.{GName, follows_so}
+use Rattle.allocative.proofs.Lent.{visitor_row, collector_row, refusal_row, result_row, option_row, key_row, Lfts, RattleType, Lender, Nested, ℕ, key_laws, option_laws, refusal_laws, result_laws, visitor_laws, nest, one_value, at_values, ◌≡◌, List, [], ◌∷◌, refl, sym, ap, subst, MutBor, proved_at, says_three, rewrite, Goes-blank, id⊢, ftrue, flft, named, w64, Val, fact, tables, ‵, raw, ◌⊛◌, some, later, ◌$◌, ◌∵◌, !, qed, done, move, keep, drop, use1, use2, split, join, fsplit, fjoin, feq_i, feq_l, pick, await, suffices, frame, enter, addr, stop, no_more, and_then, returns, alloc_all, pass_all, free_all, look_at, get, through, sets, lands_as, usize, yes, no, shows, uint_vals, uint_Tells, MutRef, mut_vals, mut_Tells, plain, named_lft, nothing, heard, peeks, only, calls_at, Lasts, lasts, triple_of, framed, Stays, stay_dropped, Goes-dropped, Goes-spent_ref, ends_at, true, false, Ok, IfOk, IfErr, OnOk, OnErr, Option, None, Some, Result, Err, IfSome, name_if_ok, State, EntersShared, LendsCollector, EndsWith, EndsWithout, with_state, AnswersShared, told, turned, Refusal, Key, Identity, enters_first, Visitor, GName, follows_so, LendsPointed, PointsAt, WpFn, Is, walk_of}
 use mathlib.Core.Option as maybe
-use Rattle.allocative.specs.Lending.{LendsPointed}
-use Rattle.allocative.specs.Nested.{LendsShared, name_in}
+use Rattle.allocative.specs.Nested.{IsContents, LendsShared, NestsContent, name_in}
 use Rattle.allocative.specs.Shared.{answered}
-use Rattle.allocative_graph.specs.contracts.refusal.Refusal as refusal
-use Rattle.std.specs.contracts.option.Option as option
-use Rattle.std.specs.contracts.result.Result as result
-use Rattle.allocative_graph.specs.contracts.key.Key as key
 use Rattle.allocative_graph.specs.contracts.shared.Identity as identity
-use Rattle.allocative.specs.contracts.visitor.Visitor as visitor
-use Rattle.allocative.specs.contracts.visitor.collector.Collector as collector
 use Rattle.allocative_graph.proofs.shared.Identity.TheLaws.{the_row_laws as identity_laws}
-use prog.Wp.{WpFn}
-use denote.Laws.{Is}
-use denote.Triple.Walked.{walk_of}
 use Rattle.allocative.specs.contracts.visitor.Visitor.enter_shared as f
 use Rattle.allocative.proofs.visitor.Visitor.enter_shared.Statement.{statement}
 use Rattle.allocative.proofs.visitor.Visitor.enter_shared.Code as code
-use Rattle.allocative.specs.contracts.visitor.Visitor.reborrow as g
-use Rattle.allocative.proofs.visitor.Visitor.reborrow.Met as g-met
-use Rattle.allocative.specs.contracts.visitor.collector.Collector.enter_content as h
-use Rattle.allocative.proofs.visitor.collector.Collector.enter_content.Met as h-met
+use Rattle.allocative.specs.contracts.visitor.by_hand.collector_of as g
+use Rattle.allocative.proofs.visitor.by_hand.collector_of.Met as g-met
+use Rattle.allocative.specs.contracts.visitor.by_hand.enter_content as h
+use Rattle.allocative.proofs.visitor.by_hand.enter_content.Met as h-met
 use Rattle.allocative.specs.contracts.visitor.turned_round as t
 use Rattle.allocative.proofs.visitor.turned_round.Met as t-met
 
@@ -37,10 +24,10 @@ abbrev Given : Type 0
 Given = Result (Option Visitor) Refusal
 
 abbrev TryAnswer : Lfts 2 → RattleType
-TryAnswer κs = result.the_row (Nested κs) (option.the_row refusal.the_row)
+TryAnswer κs = result_row (Nested κs) (option_row refusal_row)
 
 abbrev SharedAnswer : Lfts 2 → RattleType
-SharedAnswer κs = result.the_row (option.the_row (Nested κs)) refusal.the_row
+SharedAnswer κs = result_row (option_row (Nested κs)) refusal_row
 
 same_name : (r : Try) → name_if_ok (λ v. v.collector.ghost_name) r ≡ name_in (turned r)
 same_name (Ok v) = refl
@@ -57,21 +44,18 @@ ends_without k n i s c e (Ok v) z h = tt
 ends_without k n i s c e (Err None) z h = let P : State → Type 0 = λ x. EntersShared k n i x (Ok false) z in (subst P e h, refl)
 ends_without k n i s c e (Err (Some x)) z h = let P : State → Type 0 = λ y. EntersShared k n i y (Err x) z in (subst P e h, refl)
 
-shown_by : (P : Visitor → Type 0) (r : Try) (g : Given) → g ≡ turned r → IfOk r P → IfOk g (λ o. IfSome o P)
-shown_by P (Ok v) g e h = rw e h
-shown_by P (Err None) g e h = rw e tt
-shown_by P (Err (Some x)) g e h = rw e tt
+shown_by : (P Q : Visitor → Type 0) (r : Try) (g : Given) → g ≡ turned r → ((v : Visitor) → P v → Q v) → IfOk r P → IfOk g (λ o. IfSome o Q)
+shown_by P Q (Ok v) g e w h = rw e (w v h)
+shown_by P Q (Err None) g e w h = rw e tt
+shown_by P Q (Err (Some x)) g e w h = rw e tt
 
 shown_answer : (k : Key) (n : ℕ) (i : Identity) {c t : State} → EntersShared k n i c (Ok true) t → AnswersShared k n i c (Ok true)
 shown_answer k n i (enters_first r h e) = (r, h)
 
-answer_at : (k : Key) (n : ℕ) (i : Identity) (r : Try) (c : State) → IfOk r (λ v. EntersShared k n i c (Ok true) v.collector.now) → IfErr r (λ o. AnswersShared k n i c (told o)) → AnswersShared k n i c (answered (turned r))
-answer_at k n i (Ok v) c h j = shown_answer k n i h
+answer_at : (k : Key) (n : ℕ) (i : Identity) (r : Try) (c : State) → IfOk r (PointsAt k n i c) → IfErr r (λ o. AnswersShared k n i c (told o)) → AnswersShared k n i c (answered (turned r))
+answer_at k n i (Ok v) c h j = shown_answer k n i h.1
 answer_at k n i (Err None) c h j = j
 answer_at k n i (Err (Some e)) c h j = j
-
-answer_by : (k : Key) (n : ℕ) (i : Identity) (r : Try) (g : Given) → g ≡ turned r → (c d : State) → c ≡ d → IfOk r (λ v. EntersShared k n i c (Ok true) v.collector.now) → IfErr r (λ o. AnswersShared k n i c (told o)) → AnswersShared k n i d (answered g)
-answer_by k n i r g e c d f h j = rw (e, ← f) (answer_at k n i r c h j)
 
 abbrev stayed : Stays f.ended.signature.params f.ended.kept
 stayed = (stay_dropped _ no, (stay_dropped _ yes, (stay_dropped _ yes, (stay_dropped _ yes, tt))))
@@ -80,21 +64,21 @@ pub enter_shared_spec : {M : Type 1} → statement M
 enter_shared_spec 𝓤 𝓛 𝓜 𝓡 wired =
     let c = f.clauses 𝓛 𝓜.mem 𝓡.returns in
     let 𝓣 = tables 𝓤 𝓛.H 𝓜 𝓡 𝓡.env in
-    proved_at 𝓛 f.ended stayed c 𝓜 𝓡 (Goes-spent_ref 𝓛 2 (0 ∷ []) tt (plain Lender), (Goes-blank 𝓛 2 (plain (λ _. key.the_row)) yes (λ κs x w. tt), (Goes-dropped 𝓛 2 (plain (λ _. usize)) yes (λ κs x w. refl), (Goes-blank 𝓛 2 (plain (λ _. identity.the_row)) yes (λ κs x w. tt), tt))))
+    proved_at 𝓛 f.ended stayed c 𝓜 𝓡 (Goes-spent_ref 𝓛 2 (0 ∷ []) tt (plain Lender), (Goes-blank 𝓛 2 (plain (λ _. key_row)) yes (λ κs x w. tt), (Goes-dropped 𝓛 2 (plain (λ _. usize)) yes (λ κs x w. refl), (Goes-blank 𝓛 2 (plain (λ _. identity.the_row)) yes (λ κs x w. tt), tt))))
     f.Key.name code.function (code.unfolded 𝓤 𝓛.H 𝓜 𝓡 wired) (λ y₀ are.
     let κs = y₀.0.0 in let qs = y₀.0.1 in let bounds = y₀.0.2 in let a = y₀.0.3 in
     let κ = κs.0 in let q = qs.0 in let s = a.0 in let k = a.1.0 in let n = a.1.1.0 in let j = a.1.1.1.0 in
     let kv = one_value y₀.0.4.1.0 (key_laws.single k y₀.0.4.1.0 are.1.0) in
     let jv = one_value y₀.0.4.1.1.1.0 (identity_laws.single j y₀.0.4.1.1.1.0 are.1.1.1.0) in
     let e : y₀.0.4 ≡ (mut_vals s, (kv.0 ∷ [], (uint_vals w64 n, (jv.0 ∷ [], tt)))) = λ i. (mut_Tells (named 0) κ (Lender κs) s y₀.0.4.0 are.0 i, (kv.1 i, (uint_Tells w64 n y₀.0.4.1.1.0 are.1.1.0 i, (jv.1 i, tt)))) in
-    let kis = subst (λ (us : List Val). Is key.the_row k us) kv.1 are.1.0 in
+    let kis = subst (λ (us : List Val). Is key_row k us) kv.1 are.1.0 in
     let ktyped = ((key_laws.lawful 𝓛).typed k (kv.0 ∷ []) kis).0 in
     let jis = subst (λ (us : List Val). Is identity.the_row j us) jv.1 are.1.1.1.0 in
     let jtyped = ((identity_laws.lawful 𝓛).typed j (jv.0 ∷ []) jis).0 in
     at_values 𝓛 f.ended stayed c (WpFn 𝓤 𝓛.H 𝓣.C 𝓣.Λ code.function) y₀ (mut_vals s, (kv.0 ∷ [], (uint_vals w64 n, (jv.0 ∷ [], tt)))) e (
     let y : (walk_of 𝓛 f.ended stayed c).Ghost = ((κs, qs, bounds, a, (mut_vals s, (kv.0 ∷ [], (uint_vals w64 n, (jv.0 ∷ [], tt))))), tt) in
     let Self = ‵ ((MutRef (named 0) κ (Lender κs)).own_val s (mut_vals s)) in
-    let Rest = ‵ (key.the_row.own_val k (kv.0 ∷ [])) ⊛ ‵ (usize.own_val n (uint_vals w64 n)) ⊛ ‵ (identity.the_row.own_val j (jv.0 ∷ [])) ⊛ ‵ ftrue in
+    let Rest = ‵ (key_row.own_val k (kv.0 ∷ [])) ⊛ ‵ (usize.own_val n (uint_vals w64 n)) ⊛ ‵ (identity.the_row.own_val j (jv.0 ∷ [])) ⊛ ‵ ftrue in
     let Tokens = ‵ (flft κ q) ⊛ ‵ (flft κs.1.0 qs.1.0) ⊛ ‵ ftrue in
     qed 𝓛 ((Tokens ⊛ Self ⊛ Rest) ∷ ‵ ftrue ∷ []) ∵
     split ! $ move ! (1 ∷ []) $ split ! $ keep ! (0 ∷ 1 ∷ 2 ∷ []) $
@@ -105,9 +89,9 @@ enter_shared_spec 𝓤 𝓛 𝓜 𝓡 wired =
     let G = triple_of 𝓛 g.signature (g.spec 𝓛 𝓜.mem 𝓡.returns) in
     let x : G.Ghost = ((κs, qs, bounds, (s, tt), (mut_vals s, tt)), tt) in
     nothing ! $ move ! (1 ∷ 0 ∷ []) $ join ! $ move ! (2 ∷ 0 ∷ []) $ join ! $ nothing ! $ move ! (1 ∷ 0 ∷ []) $ use2 𝓛 (raw (G.pre x)) (id⊢ 𝓤 _) $
-    calls_at ! fm G (g-met.met 𝓤 𝓛 𝓜 𝓡 (code.calls-allocative::visitor::Visitor::reborrow 𝓡.env wired)) x
+    calls_at ! fm G (g-met.met 𝓤 𝓛 𝓜 𝓡 (code.calls-allocative::visitor::by_hand::collector_of 𝓡.env wired)) x
     (and_then ! (get ! refl) (no_more !)) (λ v.
-    let Part = MutRef (named 0) κ collector.the_row in
+    let Part = MutRef (named 0) κ collector_row in
     use1 𝓛 (later (some (λ (r : MutBor State). (Tokens ⊛ ‵ (Part.own_val r (v ∷ []))) ⊛
     some (λ (ws : Lasts g.ended κs (s, tt)). ‵ (lasts g.ended κs (s, tt) ws) ⊛ ‵ (LendsCollector s r) ⊛ raw (fact 𝓤 (r.now ≡ s.now.collector.now)))))) (id⊢ 𝓤 _) $
     await ! tt $ pick ! (λ r. split ! $ split ! $ move ! (2 ∷ []) $ pick ! (λ ws. split ! $ drop ! $ split ! $ move ! (1 ∷ []) $ heard ! _ (λ same.
@@ -120,23 +104,23 @@ enter_shared_spec 𝓤 𝓛 𝓜 𝓡 wired =
     move ! (0 ∷ 3 ∷ []) $ join ! $ move ! (2 ∷ []) $ split ! $ nothing ! $ move ! (1 ∷ 0 ∷ []) $ join ! $ move ! (0 ∷ 2 ∷ []) $ join ! $
     nothing ! $ move ! (1 ∷ 0 ∷ []) $ use2 𝓛 (raw (H.pre z)) (id⊢ 𝓤 _) $
     -- [what the call asks; the other tokens; what self ends as]
-    calls_at ! fm H (h-met.met 𝓤 𝓛 𝓜 𝓡 (code.calls-allocative::visitor::collector::Collector::enter_content 𝓡.env wired)) z
+    calls_at ! fm H (h-met.met 𝓤 𝓛 𝓜 𝓡 (code.calls-allocative::visitor::by_hand::enter_content 𝓡.env wired)) z
     (and_then ! (get ! refl) (and_then ! (get ! refl) (and_then ! (get ! refl) (and_then ! (get ! refl) (no_more !))))) (λ u.
     use1 𝓛 (later (some (λ (res : Try). ((‵ (flft κ q) ⊛ ‵ ftrue) ⊛ ‵ ((TryAnswer κs).own_val res (u ∷ []))) ⊛
     some (λ (vs : Lasts h.ended (κ, tt) z.0.3). ‵ (lasts h.ended (κ, tt) z.0.3 vs) ⊛ ‵ (LendsPointed k n j r res) ⊛
-    raw (fact 𝓤 (IfOk res (λ w. w.collector.ghost_name ≡ r.ghost_name))) ⊛ raw (fact 𝓤 (IfOk res (λ w. w.outer_is_unique ≡ false))) ⊛
-    raw (fact 𝓤 (IfOk res (λ w. EntersShared k n j r.now (Ok true) w.collector.now))) ⊛ raw (fact 𝓤 (IfErr res (λ w. AnswersShared k n j r.now (told w)))))))) (id⊢ 𝓤 _) $
+    raw (fact 𝓤 (IfOk res (λ w. w.collector.ghost_name ≡ r.ghost_name))) ⊛ raw (fact 𝓤 (IfOk res (PointsAt k n j r.now))) ⊛
+    raw (fact 𝓤 (IfErr res (λ w. AnswersShared k n j r.now (told w)))))))) (id⊢ 𝓤 _) $
     await ! tt $ pick ! (λ res. split ! $ split ! $ move ! (2 ∷ []) $ pick ! (λ vs. split ! $ drop ! $ split ! $
-    move ! (1 ∷ []) $ split ! $ heard ! _ (λ _. split ! $ heard ! _ (λ outer. split ! $ heard ! _ (λ content. heard ! _ (λ refused.
+    move ! (1 ∷ []) $ split ! $ heard ! _ (λ _. split ! $ heard ! _ (λ content. heard ! _ (λ refused.
     -- [what the part ends as; the token; the answer; the other tokens; what self ends as]
-    let Ends = λ (m : maybe.Option GName). ‵ (follows_so (visitor.the_row (record { mir = named 1; lft = [] })) collector.the_row s.ghost_name m (EndsWith s.now (turned res)) (EndsWithout k n j s.now (turned res))) in
+    let Ends = λ (m : maybe.Option GName). ‵ (follows_so (visitor_row (record { mir = named 1; lft = [] })) collector_row s.ghost_name m (EndsWith s.now (turned res)) (EndsWithout k n j s.now (turned res))) in
     move ! (4 ∷ 0 ∷ []) $ use2 𝓛 (Ends (name_if_ok (λ w. w.collector.ghost_name) res))
-    (nest 𝓛 (visitor.the_row (record { mir = named 1; lft = [] })) collector.the_row (with_state s.now) s.ghost_name r.ghost_name
+    (nest 𝓛 (visitor_row (record { mir = named 1; lft = [] })) collector_row (with_state s.now) s.ghost_name r.ghost_name
     (λ w x'. OnOk res (x' ≡ w)) (λ x'. OnErr res (IfErr res (λ w. EntersShared k n j r.now (told w) x'))) (EndsWith s.now (turned res)) (EndsWithout k n j s.now (turned res)) (ends_with s.now res) (ends_without k n j s.now r.now same res)
     (name_if_ok (λ w. w.collector.ghost_name) res)) $
     rewrite ! 0 Ends (same_name res) refl $
-    move ! (2 ∷ []) $ peeks ! (TryAnswer κs) _ (shows 𝓛 (TryAnswer κs)) res (u ∷ []) (λ told.
-    let good = (((result_laws _ _ (visitor_laws (named_lft 2 0 tt κs)) (option_laws _ refusal_laws)).lawful 𝓛).typed res (u ∷ []) told).0 in
+    move ! (2 ∷ []) $ peeks ! (TryAnswer κs) _ (shows 𝓛 (TryAnswer κs)) res (u ∷ []) (λ known.
+    let good = (((result_laws _ _ (visitor_laws (named_lft 2 0 tt κs)) (option_laws _ refusal_laws)).lawful 𝓛).typed res (u ∷ []) known).0 in
     lands_as ! refl refl good $
     -- [the answer; what self ends as; the token; the other tokens]
     let T = triple_of 𝓛 t.signature (t.spec 𝓛 𝓜.mem 𝓡.returns) in
@@ -159,8 +143,9 @@ enter_shared_spec 𝓤 𝓛 𝓜 𝓡 wired =
     move ! (2 ∷ []) $ split ! $ move ! (0 ∷ 4 ∷ []) $ join ! $ move ! (1 ∷ []) $ nothing ! $ fjoin ! $ nothing ! $ fjoin ! $ nothing ! $ fjoin ! $ nothing ! $ fjoin ! $
     -- [nothing of the parameters; the tokens; what self ends as; the result]
     move ! (0 ∷ 3 ∷ []) $ join ! $ move ! (1 ∷ 0 ∷ []) $ join ! $ frame ! $
+    let entered = subst (λ (x : State). IfOk res (PointsAt k n j x)) same content in
     says_three ! (
-      shown_by (λ w. w.outer_is_unique ≡ false) res out is_turned outer,
-      shown_by (λ w. EntersShared k n j s.now.collector.now (Ok true) w.collector.now) res out is_turned (subst (λ (x : State). IfOk res (λ w. EntersShared k n j x (Ok true) w.collector.now)) same content),
-      answer_by k n j res out is_turned _ _ same content refused,
-    ) $ done !)))))))))))))))))))))
+      shown_by (PointsAt k n j s.now.collector.now) IsContents res out is_turned (λ v h. h.0) entered,
+      shown_by (PointsAt k n j s.now.collector.now) (NestsContent k n j s.now) res out is_turned (λ v h. h.1) entered,
+      rw is_turned (answer_at k n j res s.now.collector.now entered (subst (λ (x : State). IfErr res (λ o. AnswersShared k n j x (told o))) same refused)),
+    ) $ done !))))))))))))))))))))

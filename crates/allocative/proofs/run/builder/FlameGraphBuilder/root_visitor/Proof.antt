@@ -1,13 +1,7 @@
 -- A hand-written proof of `root_visitor`: the collector is lent, and a root visitor may hold it.
-use Rattle.allocative.proofs.Lent.{refusal_laws, result_laws, visitor_laws, nest, ◌≡◌, List, [], ◌∷◌, refl, sym, ap, subst, MutBor, proved, says_two, id⊢, ftrue, flft, named, Lfts, fact, tables, ‵, raw, ◌⊛◌, some, later, ◌$◌, ◌∵◌, !, qed, done, move, keep, drop, use1, use2, split, join, fsplit, fjoin, feq_i, feq_l, pick, await, suffices, frame, enter, addr, stop, no_more, and_then, returns, alloc_all, pass_all, free_all, look_at, get, through, sets, lands_as, no, shows, RattleType, MutRef, mut_vals, mut_Tells, plain, named_lft, nothing, heard, peeks, only, calls_at, Lasts, lasts, triple_of, framed, Stays, stay_dropped, Goes-spent_ref, ends_at}
-use Rattle.std.proofs.Common.{Result, Ok, Err, IfOk, IfErr, OnOk, OnErr}
-use Rattle.allocative.proofs.Common.{name_if_ok, Refusal, State, Begins, Settles, Visitor, as_graph}
-use Rattle.allocative.specs.Lending.{LendsBegunGraph}
+use Rattle.allocative.proofs.Lent.{visitor_row, collector_row, refusal_row, result_row, refusal_laws, result_laws, visitor_laws, nest, ◌≡◌, List, [], ◌∷◌, refl, sym, ap, subst, MutBor, proved, says_two, id⊢, ftrue, flft, named, Lfts, fact, tables, ‵, raw, ◌⊛◌, some, later, ◌$◌, ◌∵◌, !, qed, done, move, keep, drop, use1, use2, split, join, fsplit, fjoin, feq_i, feq_l, pick, await, suffices, frame, enter, addr, stop, no_more, and_then, returns, alloc_all, pass_all, free_all, look_at, get, through, sets, lands_as, no, shows, RattleType, MutRef, mut_vals, mut_Tells, plain, named_lft, nothing, heard, peeks, only, calls_at, Lasts, lasts, triple_of, framed, Stays, stay_dropped, Goes-spent_ref, ends_at, Result, Ok, Err, IfOk, IfErr, OnOk, OnErr, name_if_ok, Refusal, State, Begins, Settles, Visitor, as_graph, LendsBegunGraph}
 use Rattle.allocative.specs.Rooted.{LendsBuilt, LendsRoot}
-use Rattle.allocative_graph.specs.contracts.refusal.Refusal as refusal
-use Rattle.std.specs.contracts.result.Result as result
-use Rattle.allocative.specs.contracts.visitor.Visitor as visitor
-use Rattle.allocative.specs.contracts.visitor.collector.Collector as collector
+use Rattle.allocative.specs.Visited.{BeginsAt}
 use Rattle.allocative.specs.contracts.run.builder.FlameGraphBuilder as builder
 use Rattle.allocative.specs.contracts.run.builder.FlameGraphBuilder.root_visitor as f
 use Rattle.allocative.proofs.run.builder.FlameGraphBuilder.root_visitor.Statement.{statement}
@@ -18,28 +12,16 @@ use Rattle.allocative.specs.contracts.visitor.collector.Collector.graph_root_vis
 use Rattle.allocative.proofs.visitor.collector.Collector.graph_root_visitor.Met as h-met
 
 abbrev Answer : Lfts 1 → RattleType
-Answer κs = result.the_row (visitor.the_row (named_lft 1 0 tt κs)) refusal.the_row
+Answer κs = result_row (visitor_row (named_lft 1 0 tt κs)) refusal_row
 
 -- How the builder ends, with a loan and without.
-abbrev EndsBegun : Result Visitor Refusal → State → State → Type 0
-EndsBegun r w b = OnOk r (b ≡ as_graph w)
-
-abbrev EndsRefused : State → Result Visitor Refusal → State → Type 0
-EndsRefused s r b = IfErr r (λ e. Begins s (Err e) b)
-
-ends_begun : (r : Result Visitor Refusal) (w z : State) → OnOk r (z ≡ w) → EndsBegun r w (as_graph z)
+ends_begun : (r : Result Visitor Refusal) (w z : State) → OnOk r (z ≡ w) → OnOk r (as_graph z ≡ as_graph w)
 ends_begun (Ok v) w z h = ap as_graph h
 ends_begun (Err e) w z h = h
 
-ends_refused : (s c : State) → s ≡ as_graph c → (r : Result Visitor Refusal) (z : State) → OnErr r (IfErr r (λ e. Begins (as_graph c) (Err e) (as_graph z))) → EndsRefused s r (as_graph z)
+ends_refused : (s c : State) → s ≡ as_graph c → (r : Result Visitor Refusal) (z : State) → OnErr r (IfErr r (λ e. Begins (as_graph c) (Err e) (as_graph z))) → IfErr r (λ e. Begins s (Err e) (as_graph z))
 ends_refused s c i (Ok v) z h = h
-ends_refused s c i (Err e) z h = let P : State → Type 0 = λ x. Begins x (Err e) (as_graph z) in subst P (sym i) h
-
-begun_by : (r : Result Visitor Refusal) (s c : State) → s ≡ as_graph c → IfOk r (λ v. Begins (as_graph c) (Ok v.outer_is_unique) v.collector.now) → IfOk r (λ v. Begins s (Ok v.outer_is_unique) v.collector.now)
-begun_by r s c e h = let P : State → Type 0 = λ x. IfOk r (λ v. Begins x (Ok v.outer_is_unique) v.collector.now) in subst P (sym e) h
-
-refused_by : (r : Result Visitor Refusal) (s c : State) → s ≡ as_graph c → IfErr r (λ e. Settles (as_graph c) (Err e)) → IfErr r (λ e. Settles s (Err e))
-refused_by r s c e h = let P : State → Type 0 = λ x. IfErr r (λ e'. Settles x (Err e')) in subst P (sym e) h
+ends_refused s c i (Err e) z h = rw i h
 
 abbrev stayed : Stays f.ended.signature.params f.ended.kept
 stayed = (stay_dropped _ no, tt)
@@ -64,7 +46,7 @@ root_visitor_spec 𝓤 𝓛 𝓜 𝓡 wired =
     calls_at ! fm G (g-met.met 𝓤 𝓛 𝓜 𝓡 (code.calls-allocative::run::builder::FlameGraphBuilder::lend 𝓡.env wired)) x
     (and_then ! (get ! refl) (no_more !)) (λ v.
     let Token = ‵ (flft κ q) ⊛ ‵ ftrue in
-    let Part = MutRef (named 0) κ collector.the_row in
+    let Part = MutRef (named 0) κ collector_row in
     use1 𝓛 (later (some (λ (r : MutBor State). (Token ⊛ ‵ (Part.own_val r (v ∷ []))) ⊛
     some (λ (ws : Lasts g.ended κs (s, tt)). ‵ (lasts g.ended κs (s, tt) ws) ⊛ ‵ (LendsBuilt s r) ⊛ raw (fact 𝓤 (s.now ≡ as_graph r.now)))))) (id⊢ 𝓤 _) $
     await ! tt $ pick ! (λ r. split ! $ split ! $ move ! (2 ∷ []) $ pick ! (λ ws. split ! $ drop ! $ split ! $ move ! (1 ∷ []) $ heard ! _ (λ same.
@@ -80,14 +62,14 @@ root_visitor_spec 𝓤 𝓛 𝓜 𝓡 wired =
     (and_then ! (get ! refl) (no_more !)) (λ u.
     use1 𝓛 (later (some (λ (res : Result Visitor Refusal). (Token ⊛ ‵ ((Answer κs).own_val res (u ∷ []))) ⊛
     some (λ (vs : Lasts h.ended κs z.0.3). ‵ (lasts h.ended κs z.0.3 vs) ⊛ ‵ (LendsBegunGraph r res) ⊛
-    raw (fact 𝓤 (IfOk res (λ w. w.collector.ghost_name ≡ r.ghost_name))) ⊛ raw (fact 𝓤 (IfOk res (λ w. Begins (as_graph r.now) (Ok w.outer_is_unique) w.collector.now))) ⊛
+    raw (fact 𝓤 (IfOk res (λ w. w.collector.ghost_name ≡ r.ghost_name))) ⊛ raw (fact 𝓤 (IfOk res (BeginsAt (as_graph r.now)))) ⊛
     raw (fact 𝓤 (IfErr res (λ w. Settles (as_graph r.now) (Err w)))))))) (id⊢ 𝓤 _) $
     await ! tt $ pick ! (λ res. split ! $ split ! $ move ! (2 ∷ []) $ pick ! (λ vs. split ! $ drop ! $ split ! $
     move ! (1 ∷ []) $ split ! $ heard ! _ (λ _. split ! $ heard ! _ (λ begun. heard ! _ (λ refused.
     -- [what the part ends as; the token; the result; what the builder ends as]
     move ! (3 ∷ 0 ∷ []) $ use2 𝓛 (‵ (LendsRoot s res))
-    (nest 𝓛 builder.the_row collector.the_row as_graph s.ghost_name r.ghost_name
-    (λ w x'. OnOk res (x' ≡ w)) (λ x'. OnErr res (IfErr res (λ w. Begins (as_graph r.now) (Err w) (as_graph x')))) (EndsBegun res) (EndsRefused s.now res) (ends_begun res) (ends_refused s.now r.now same res)
+    (nest 𝓛 builder.the_row collector_row as_graph s.ghost_name r.ghost_name
+    (λ w x'. OnOk res (x' ≡ w)) (λ x'. OnErr res (IfErr res (λ w. Begins (as_graph r.now) (Err w) (as_graph x')))) (λ w b. OnOk res (b ≡ as_graph w)) (λ b. IfErr res (λ e. Begins s.now (Err e) b)) (ends_begun res) (ends_refused s.now r.now same res)
     (name_if_ok (λ w. w.collector.ghost_name) res)) $
     move ! (2 ∷ []) $ peeks ! (Answer κs) _ (shows 𝓛 (Answer κs)) res (u ∷ []) (λ told.
     let good = (((result_laws _ _ (visitor_laws (named_lft 1 0 tt κs)) refusal_laws).lawful 𝓛).typed res (u ∷ []) told).0 in
@@ -95,4 +77,4 @@ root_visitor_spec 𝓤 𝓛 𝓜 𝓡 wired =
     -- [the result; what the builder ends as; the token]
     suffices ! _ (ends_at 𝓛 f.ended stayed c ((κs, qs, bounds, a, (mut_vals s, tt)), tt) u res (tt, tt) (tt, tt)) $
     nothing ! $ nothing ! $ fjoin ! $ join ! $ move ! (2 ∷ 0 ∷ []) $ join ! $ frame ! $
-    says_two ! (begun_by res _ _ same begun, refused_by res _ _ same refused) $ done !))))))))))))))
+    says_two ! (subst (λ (x : State). IfOk res (BeginsAt x)) (sym same) begun, subst (λ (x : State). IfErr res (λ e. Settles x (Err e))) (sym same) refused) $ done !))))))))))))))

@@ -1,4 +1,19 @@
+-- One more root is visited, or refused.
+use Rattle.std.proofs.Common.{rules}
+use Rattle.allocative.proofs.Roots.{runs_one_more}
+use Rattle.allocative.proofs.RefusedRoots.{same_err, rightly_indexed, one_of_exact}
 use Rattle.allocative.proofs.run.builder.FlameGraphBuilder.visit_global_roots.Goals as goal
 
-pub returns-clause-rightly : goal.returns-clause-rightly
-returns-clause-rightly g c = rw c.roots.ensures at c.visit_boxes.ensures.rightly
+pub loop-root-preserved : goal.loop-root-preserved
+loop-root-preserved g c =
+    runs_one_more (λ b. (goal.Allocative-dyn g (b.vtable, b.value)).may_show b.value) c.roots-roots.result.now c.loop-root.root-index c.root-item.result
+    c.args.self.now c.loop-root.self c.visit_root.new.self tt tt tt
+    c.loop-root.invariant (rw c.deref_box-1.ensures.1 at c.in_ok-visit_root.ensures.runs) c.loop-root-test.true c.root-item.is
+
+pub returns-in_err-visit_root-clause-rightly : goal.returns-in_err-visit_root-clause-rightly
+returns-in_err-visit_root-clause-rightly g c = rw (← c.roots-roots.ensures)
+    (rightly_indexed _ _ (λ b. (goal.Allocative-dyn g (b.vtable, b.value)).may_show b.value) c.roots-roots.result.now c.loop-root.root-index c.root-item.result
+    c.args.self.now c.loop-root.self c.visit_root.new.self tt
+    (one_of_exact (λ b. (goal.Allocative-dyn g (b.vtable, b.value)).is_exact) c.roots-roots.result.now c.loop-root.root-index c.root-item.result c.loop-root-test.true c.root-item.is)
+    (same_err {e = c.in_err-visit_root.field-0.0} _ c.from_residual-in_err-visit_root.ensures.0 (search rules))
+    c.loop-root.invariant (rw c.deref_box-1.ensures.1 at c.in_err-visit_root.ensures.rightly) c.loop-root-test.true c.root-item.is)

@@ -1,14 +1,7 @@
 -- One more root is visited, or refused.
 use Rattle.std.proofs.Common.{rules}
-use Rattle.allocative.proofs.Roots.{runs_one_more}
 use Rattle.allocative.proofs.RefusedRoots.{same_err, rightly_indexed}
 use Rattle.allocative.proofs.run.builder.FlameGraphBuilder.visit_values.Goals as goal
-
-pub loop-root-preserved : goal.loop-root-preserved
-loop-root-preserved g c =
-    runs_one_more g.T.Allocative.may_show c.args.roots.now c.loop-root.root-index c.root-item.result
-    c.args.self.now c.loop-root.self c.visit_value.new.self tt tt tt
-    c.loop-root.invariant c.in_ok-visit_value.ensures.runs c.loop-root-test.true c.root-item.is
 
 pub returns-in_err-visit_value-clause-rightly : goal.returns-in_err-visit_value-clause-rightly
 returns-in_err-visit_value-clause-rightly g c =

@@ -1,7 +1,7 @@
 -- The roots so far were visited.
 use Rattle.std.proofs.Common.{Ok, take}
 use Rattle.allocative.proofs.Common.{each_shows, Runs}
-use Rattle.allocative.proofs.run.builder.FlameGraphBuilder.visit_boxes.Given as goal
+use Rattle.allocative.proofs.run.builder.FlameGraphBuilder.visit_global_roots.Given as goal
 
 abbrev pub invariant-loop-root : goal.invariant-loop-root
 invariant-loop-root g l =
