@@ -5,7 +5,7 @@ use Rattle.std.proofs.lemmas.List.Sums.{sum_by-cons}
 use Rattle.std.specs.Option.{is_some}
 use Rattle.std.specs.FinMap.{contains_key, get-entries}
 use Rattle.std.specs.FinMap.Entries.{find}
-use Rattle.allocative_graph.proofs.Basics.{same_path}
+use Rattle.allocative_graph.proofs.Basics.{on_test, same_path}
 use Rattle.allocative_picture.specs.Boxes.{element}
 use Rattle.allocative_picture.specs.Laws.{boxes}
 use Rattle.allocative_picture.proofs.Placing.{less_than, in_order}
@@ -35,10 +35,8 @@ once p [] h f = absurd (cc)
 once p (e ∷ es) h f =
     let parts = in_order e es h in
     times-cons p e es
-    ∙ (elim (is_same_path p e.0) as (λ b. is_same_path p e.0 ≡ b → is_some (cond b (Some e.1) (find path_cmp p es)) ≡ true → cond b 1 0 + times p es ≡ 1) [
-      | true ↦ λ same _. ap (λ n. 1 + n) (subst (λ k. times k es ≡ 0) (sym (same_path p e.0 same)) (never e.0 es parts.0))
-      | false ↦ λ _ g. ap (λ n. 0 + n) (once p es parts.1 g)
-    ]) refl f
+    ∙ on_test (λ b. is_some (cond b (Some e.1) (find path_cmp p es)) ≡ true → cond b 1 0 + times p es ≡ 1) (is_same_path p e.0)
+    (λ same _. ap (λ n. 1 + n) (subst (λ k. times k es ≡ 0) (sym (same_path p e.0 same)) (never e.0 es parts.0))) (λ _ g. ap (λ n. 0 + n) (once p es parts.1 g)) f
 
 -- A path of a graph occurs once among its entries.
 pub stands_once : (g : Graph) (p : Path) → contains_key g p ≡ true → times p (entries g) ≡ 1
