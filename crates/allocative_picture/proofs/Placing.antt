@@ -1,6 +1,6 @@
 -- The bytes before a path are the own bytes of the rows before its row.
-use Rattle.std.proofs.Common.{◌≡◌, ℕ, ◌+◌, ◌&&◌, Bool, true, false, cond, List, [], ◌∷◌, ◌++◌, map, sum_by, length, refl, sym, ap, subst, ◌∙◌, append_assoc, T, arith}
-use Rattle.allocative_picture.proofs.Common.{is_lt, ordering_reverse, Ordering, Less, Equal, Greater, entries, entries_sorted, is_sorted, below_all, Path, path_cmp, Graph, total_at, Figures, Mark, before_in, row_of, rows_from}
+use Rattle.std.proofs.Common.{◌≡◌, ℕ, ◌+◌, cond, List, [], ◌∷◌, ◌++◌, map, sum_by, length, refl, sym, ap, subst, ◌∙◌, append_assoc, T, arith}
+use Rattle.allocative_picture.proofs.Common.{is_lt, ordering_reverse, Less, Greater, entries, entries_sorted, is_sorted, below_all, Path, path_cmp, Graph, total_at, Figures, Mark, before_in, row_of, rows_from}
 use Rattle.std.proofs.lemmas.List.Sums.{sum_by-cons, sum_by-append}
 use Rattle.std.specs.Cmp.{tied_itself}
 use Rattle.allocative_graph.specs.Reads.{figures}

@@ -1,9 +1,9 @@
 -- The rows of a graph are that of its root and then those of its children, one child after another.
-use Rattle.std.proofs.Common.{◌≡◌, refl, ℕ, ◌+◌, ◌<◌, ◌≤◌, ◌++◌, [], ◌∷◌, List, get_or, take, drop, length, length-append, arith, ap, sym, ◌∙◌, take-append-drop, append-nil}
-use Rattle.allocative_picture.proofs.Common.{entries, len, Child, Path, Graph, total, total_at, Figures, figures_behind, node, weight, Mark, Seen, row_of, row_from, rows_from}
+use Rattle.std.proofs.Common.{◌≡◌, refl, ℕ, ◌+◌, ◌<◌, ◌≤◌, ◌++◌, [], ◌∷◌, List, get_or, take, drop, length, length-append, arith, ap, sym, ◌∙◌, take-append-drop}
+use Rattle.allocative_picture.proofs.Common.{entries, len, Child, Path, Graph, total, total_at, Figures, figures_behind, weight, Mark, Seen, row_of, row_from, rows_from}
 use Rattle.std.proofs.lemmas.List.{take_more, length-map}
 use Rattle.std.specs.FinMap.{len-entries}
-use Rattle.allocative_graph.specs.Reads.{rows_of}
+use Rattle.allocative_graph.specs.Reads.{node, rows_of}
 use Rattle.allocative_graph.specs.Representation.Children.{InOrder}
 use Rattle.allocative_graph.specs.Representation.NodeRows.{len-child}
 use Rattle.allocative_graph.specs.Representation.PathRows.{sum_of_rows}

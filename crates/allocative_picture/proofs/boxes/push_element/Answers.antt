@@ -1,5 +1,5 @@
 use Rattle.std.proofs.Common.{append_assoc, string_bytes}
-use Rattle.allocative_picture.specs.Boxes.{frame, element}
+use Rattle.allocative_picture.specs.Boxes.{element}
 use Rattle.allocative_picture.proofs.boxes.push_element.Goals as goal
 
 pub returns : goal.returns
