@@ -4,17 +4,14 @@ pub use Rattle.std.specs.FinMap.Entries.{below_all, is_sorted}
 pub use Rattle.std.specs.Ordering.{is_eq, is_lt, ordering_reverse, ordering_then}
 pub use Rattle.std.specs.declared.cmp.Ordering.{Ordering}
 pub use Rattle.std.specs.declared.cmp.Ordering.TheVariants.{Equal, Greater, Less}
-pub use Rattle.allocative_collectors.specs.declared.output.WarnedPath.{WarnedPath}
 pub use Rattle.allocative_graph.specs.Graph.{Graph, total, total_at}
 pub use Rattle.allocative_graph.specs.Path.{Path, is_same_path, key_cmp, path_cmp}
-pub use Rattle.allocative_graph.specs.Reads.{Figures, figures_behind, node}
+pub use Rattle.allocative_graph.specs.Reads.{Figures, figures_behind}
 pub use Rattle.allocative_graph.specs.Representation.Node.{weight}
 pub use Rattle.allocative_graph.specs.declared.flamegraph.Child.{Child}
-pub use Rattle.allocative_picture.specs.Boxes.{box, fit_text, is_drawn, left, upper}
-pub use Rattle.allocative_picture.specs.Escape.{escaped, escaped_char}
-pub use Rattle.allocative_picture.specs.Figures.{place_text}
+pub use Rattle.allocative_picture.specs.Boxes.{is_drawn}
+pub use Rattle.allocative_picture.specs.Escape.{escaped_char}
 pub use Rattle.allocative_picture.specs.Marks.{mark_of}
-pub use Rattle.allocative_picture.specs.Page.{level_of, warning_lines}
+pub use Rattle.allocative_picture.specs.Page.{warning_lines}
 pub use Rattle.allocative_picture.specs.Rows.{Seen, before_in, row_from, row_of, rows_from, seen}
 pub use Rattle.allocative_picture.specs.declared.row.Mark.{Mark}
-pub use Rattle.allocative_picture.specs.declared.row.Row.{Row}

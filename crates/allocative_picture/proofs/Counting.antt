@@ -1,13 +1,13 @@
 -- Which rows have a box, and how often a path occurs.
 use Rattle.std.proofs.Common.{◌≡◌, ℕ, ◌+◌, Bool, true, false, cond, List, [], ◌∷◌, ◌++◌, Some, refl, sym, ap, subst, ◌∙◌, T, filter, flat_map, count_by}
-use Rattle.allocative_picture.proofs.Common.{is_eq, entries, entries_sorted, is_sorted, below_all, Path, path_cmp, is_same_path, Graph, Seen, is_drawn, box}
+use Rattle.allocative_picture.proofs.Common.{is_eq, entries, entries_sorted, is_sorted, below_all, Path, path_cmp, is_same_path, Graph, Seen, is_drawn}
 use Rattle.std.proofs.lemmas.List.Sums.{sum_by-cons}
 use Rattle.std.specs.Option.{is_some}
 use Rattle.std.specs.FinMap.{contains_key, get-entries}
 use Rattle.std.specs.FinMap.Entries.{find}
-use Rattle.allocative_graph.proofs.Basics.{same_path}
+use Rattle.allocative_graph.proofs.Basics.{on_test, same_path}
 use Rattle.allocative_picture.specs.Boxes.{element}
-use Rattle.allocative_picture.specs.Page.{boxes}
+use Rattle.allocative_picture.specs.Laws.{boxes}
 use Rattle.allocative_picture.proofs.Placing.{less_than, in_order}
 
 one : (b : Bool) (x rest : List ℕ) (all : ℕ) (r : Seen) (rs : List Seen) → x ≡ element all r → rest ≡ flat_map (element all) rs → cond b x [] ++ rest ≡ flat_map (element all) (cond b (r ∷ rs) rs)
@@ -16,9 +16,8 @@ one false x rest all r rs e f = f
 
 -- The boxes of some rows are the elements of those that are wide enough.
 pub boxes_are : (least all : ℕ) (rs : List Seen) → boxes least all rs ≡ flat_map (element all) (filter (is_drawn least all) rs)
-unfolding boxes
 boxes_are least all [] = refl
-boxes_are least all (r ∷ rs) = one (is_drawn least all r) (element all r) (flat_map (box least all) rs) all r (filter (is_drawn least all) rs) refl (boxes_are least all rs)
+boxes_are least all (r ∷ rs) = one (is_drawn least all r) (element all r) (boxes least all rs) all r (filter (is_drawn least all) rs) refl (boxes_are least all rs)
 
 -- How often a path occurs in a list of entries.
 abbrev times : Path → List (Path × ℕ) → ℕ
@@ -36,10 +35,8 @@ once p [] h f = absurd (cc)
 once p (e ∷ es) h f =
     let parts = in_order e es h in
     times-cons p e es
-    ∙ (elim (is_same_path p e.0) as (λ b. is_same_path p e.0 ≡ b → is_some (cond b (Some e.1) (find path_cmp p es)) ≡ true → cond b 1 0 + times p es ≡ 1) [
-      | true ↦ λ same _. ap (λ n. 1 + n) (subst (λ k. times k es ≡ 0) (sym (same_path p e.0 same)) (never e.0 es parts.0))
-      | false ↦ λ _ g. ap (λ n. 0 + n) (once p es parts.1 g)
-    ]) refl f
+    ∙ on_test (λ b. is_some (cond b (Some e.1) (find path_cmp p es)) ≡ true → cond b 1 0 + times p es ≡ 1) (is_same_path p e.0)
+    (λ same _. ap (λ n. 1 + n) (subst (λ k. times k es ≡ 0) (sym (same_path p e.0 same)) (never e.0 es parts.0))) (λ _ g. ap (λ n. 0 + n) (once p es parts.1 g)) f
 
 -- A path of a graph occurs once among its entries.
 pub stands_once : (g : Graph) (p : Path) → contains_key g p ≡ true → times p (entries g) ≡ 1

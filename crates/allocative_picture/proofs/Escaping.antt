@@ -42,19 +42,9 @@ High bs = AllByRecursion (λ b. 128 ≤ b) bs
 
 high : (bs : List ℕ) → High bs → IsMarkup bs bs
 high [] h = (tt, λ m t r. r)
-high (b ∷ bs) h = (
-  (
-    record {
-      no_less = λ e. omega (arith, h.0);
-      no_greater = λ e. omega (arith, h.0);
-      no_quote = λ e. omega (arith, h.0);
-      no_apostrophe = λ e. omega (arith, h.0);
-      no_control = omega (arith, h.0);
-    },
-    (high bs h.1).0,
-  ),
-  λ m t r. itself b (bs ++ m) (bs ++ t) (λ e. omega (arith, h.0)) (λ e. omega (arith, h.0)) ((high bs h.1).1 m t r),
-)
+high (b ∷ bs) h =
+    let low : 128 ≤ b = h.0 in
+    ((plain_by b (grind (arith, nat_tests)), (high bs h.1).0), λ m t r. itself b (bs ++ m) (bs ++ t) (λ e. omega arith) (λ e. omega arith) ((high bs h.1).1 m t r))
 
 abbrev legible_char : ℕ → List ℕ
 legible_char c = cond (is_unfit c) (encode_utf8 65533) (encode_utf8 c)

@@ -1,13 +1,13 @@
 -- How boxes are placed relative to one another.
 use Rattle.std.proofs.Common.{◌≡◌, ℕ, zero, suc, ◌+◌, ◌*◌, ◌<◌, ◌≤◌, ◌&&◌, cond, List, [], ◌∷◌, ◌++◌, sum_by, refl, ap, ◌∙◌, arith}
-use Rattle.allocative_picture.proofs.Common.{Ordering, Less, Equal, Greater, is_eq, is_lt, ordering_then, ordering_reverse, entries, Path, key_cmp, path_cmp, Graph, total, Mark, before_in, left}
+use Rattle.allocative_picture.proofs.Common.{Ordering, Less, Equal, Greater, is_eq, is_lt, ordering_then, ordering_reverse, entries, Path, key_cmp, path_cmp, total, before_in}
 use Rattle.std.proofs.Math.Nat.{mul-div_cancel_left, div-zero}
 use Rattle.std.proofs.lemmas.List.Sums.{sum_by-cons, sum_by-le-sum_by}
 use Rattle.std.specs.Cmp.Lexicographic.{nat_list_cmp_total}
 use Rattle.allocative_graph.specs.Path.{Key}
 use Rattle.allocative_graph.specs.Graph.{begins}
-use Rattle.allocative_picture.specs.Boxes.{edge, right}
-use Rattle.allocative_picture.specs.Laws.{row_at, IsInside}
+use Rattle.allocative_picture.specs.Boxes.{edge}
+use Rattle.allocative_picture.specs.Laws.{InsideLaw, ApartLaw, WithinLaw}
 
 -- The bytes of a path and of all paths below it, among some entries.
 abbrev whole_in : List (Path × ℕ) → Path → ℕ
@@ -93,7 +93,7 @@ edges-le : (all a b : ℕ) → a ≤ b → edge all a ≤ edge all b
 edges-le zero a b h = omega (arith, div-zero (a * 1000000), div-zero (b * 1000000))
 edges-le (suc n) a b h = edge-le (suc n) a b (omega arith) h
 
-pub is_inside : (M : Path → Mark) (g : Graph) (p : Path) (k : Key) → IsInside (total g) (row_at M g p) (row_at M g (p ++ k ∷ []))
+pub is_inside : InsideLaw
 is_inside M g p k = record {
   starts = edges-le (total g) _ _ (sum_by-le-sum_by (lowers p) (lowers (p ++ k ∷ [])) (entries g) (λ e. longer e.1 e.0 p (k ∷ [])));
   ends = edges-le (total g) _ _ (
@@ -102,10 +102,10 @@ is_inside M g p k = record {
       );
 }
 
-pub is_apart : (M : Path → Mark) (g : Graph) (p : Path) (k l : Key) → key_cmp k l ≡ Less → right (total g) (row_at M g (p ++ k ∷ [])) ≤ left (total g) (row_at M g (p ++ l ∷ []))
+pub is_apart : ApartLaw
 is_apart M g p k l h = edges-le (total g) _ _ (rw (reached (p ++ k ∷ []) (entries g)) (sum_by-le-sum_by (reaches (p ++ k ∷ [])) (lowers (p ++ l ∷ [])) (entries g) (λ e. beside e.1 e.0 p k l h)))
 
-pub is_within : (M : Path → Mark) (g : Graph) (p : Path) → 0 < total g → right (total g) (row_at M g p) ≤ 1000000
+pub is_within : WithinLaw
 is_within M g p some =
     let le = sum_by-le-sum_by (reaches p) (λ e. e.1) (entries g) (λ e. once e.1 e.0 p) in
     omega (arith, mul-div_cancel_left 1000000 some, edges-le (total g) (before_in (entries g) p + whole_in (entries g) p) (total g) (omega (arith, le, reached p (entries g))))

@@ -2,7 +2,6 @@ pub mod Common
 pub mod Escaping
 pub mod Placing
 pub mod Walking
-pub mod Wide
 pub mod Geometry
 pub mod Counting
 pub mod Warnings

@@ -1,31 +1,24 @@
 -- The bytes before a path are the own bytes of the rows before its row.
-use Rattle.std.proofs.Common.{◌≡◌, ℕ, ◌+◌, ◌&&◌, Bool, true, false, cond, List, [], ◌∷◌, ◌++◌, map, sum_by, length, refl, sym, ap, subst, ◌∙◌, append_assoc, T, arith}
-use Rattle.allocative_picture.proofs.Common.{is_lt, ordering_reverse, Ordering, Less, Equal, Greater, entries, entries_sorted, is_sorted, below_all, Path, path_cmp, Graph, total_at, Figures, Mark, before_in, row_of, rows_from}
+use Rattle.std.proofs.Common.{◌≡◌, ℕ, ◌+◌, cond, List, [], ◌∷◌, ◌++◌, map, sum_by, length, refl, sym, ap, subst, ◌∙◌, append_assoc, T, arith}
+use Rattle.allocative_picture.proofs.Common.{is_lt, ordering_reverse, Less, Greater, entries, entries_sorted, is_sorted, below_all, Path, path_cmp, Graph, total_at, Figures, Mark, before_in, row_of, rows_from}
 use Rattle.std.proofs.lemmas.List.Sums.{sum_by-cons, sum_by-append}
 use Rattle.std.specs.Cmp.{tied_itself}
 use Rattle.allocative_graph.specs.Reads.{figures}
+use Rattle.allocative_graph.specs.Representation.NodeRows.{first, second}
 use Rattle.allocative_graph.proofs.Basics.{path_total}
+use Rattle.allocative_graph.proofs.Below.{is_lt-Less}
 use Rattle.allocative_picture.specs.Rows.{rows_of}
 
 abbrev Sizes : Type 0
 Sizes = List (Path × ℕ)
 
-both : (a b : Bool) → T (a && b) → T a × T b
-both true b h = (tt, h)
-both false b h = absurd h
-
-is_less : (o : Ordering) → T (is_lt o) → o ≡ Less
-is_less Less h = refl
-is_less Equal h = absurd h
-is_less Greater h = absurd h
-
 -- A path that is less than all entries is less than the first one and than all others.
 pub less_than : (p : Path) (e : Path × ℕ) (es : Sizes) → T (below_all path_cmp p (e ∷ es)) → (path_cmp p e.0 ≡ Less) × T (below_all path_cmp p es)
-less_than p e es h = (is_less _ (both _ _ h).0, (both _ _ h).1)
+less_than p e es h = (is_lt-Less _ (first _ (below_all path_cmp p es) h), second (is_lt (path_cmp p e.0)) _ h)
 
 -- In a sorted list, the path of the first entry is less than all others, and these are sorted.
 pub in_order : (e : Path × ℕ) (es : Sizes) → T (is_sorted path_cmp (e ∷ es)) → T (below_all path_cmp e.0 es) × T (is_sorted path_cmp es)
-in_order e es h = both _ _ h
+in_order e es h = (first _ (is_sorted path_cmp es) h, second (below_all path_cmp e.0 es) _ h)
 
 -- The bytes of some entries together.
 abbrev pub bytes_of : Sizes → ℕ

@@ -1,13 +1,13 @@
 -- The rows of a graph are that of its root and then those of its children, one child after another.
-use Rattle.std.proofs.Common.{◌≡◌, refl, ℕ, ◌+◌, ◌<◌, ◌≤◌, ◌++◌, [], ◌∷◌, List, get_or, take, drop, length, length-append, arith, ap, sym, ◌∙◌, take-append-drop, append-nil}
-use Rattle.allocative_picture.proofs.Common.{entries, len, Child, Path, Graph, total, total_at, Figures, figures_behind, node, weight, Mark, Seen, row_of, row_from, rows_from}
+use Rattle.std.proofs.Common.{◌≡◌, refl, ℕ, ◌+◌, ◌<◌, ◌≤◌, ◌++◌, [], ◌∷◌, List, get_or, take, drop, length, length-append, arith, ap, sym, ◌∙◌, take-append-drop}
+use Rattle.allocative_picture.proofs.Common.{entries, len, Child, Path, Graph, total, total_at, Figures, figures_behind, weight, Mark, Seen, row_of, row_from, rows_from}
 use Rattle.std.proofs.lemmas.List.{take_more, length-map}
-use Rattle.std.proofs.lemmas.Grind.{flat_map-append}
 use Rattle.std.specs.FinMap.{len-entries}
-use Rattle.allocative_graph.specs.Reads.{rows_of, rows_of_child}
+use Rattle.allocative_graph.specs.Reads.{node, rows_of}
 use Rattle.allocative_graph.specs.Representation.Children.{InOrder}
+use Rattle.allocative_graph.specs.Representation.NodeRows.{len-child}
 use Rattle.allocative_graph.specs.Representation.PathRows.{sum_of_rows}
-use Rattle.allocative_graph.proofs.ChildRows.{weight-append, weight-one}
+use Rattle.allocative_graph.proofs.ChildRows.{rows-more, weight-append, weight-one}
 use Rattle.allocative_graph.proofs.ReadRows.{child_read, figured, node_read}
 use Rattle.allocative_picture.specs.Rows as picture
 use Rattle.allocative_picture.proofs.Placing.{own_bytes, own-cons}
@@ -31,9 +31,7 @@ weight_within cs i = omega (arith, weight-append (take i cs) (drop i cs), ap wei
 
 -- The rows of the children up to a place, and of the child there, are as many as its paths more.
 pub rows_more : (cs : List Child) (i : ℕ) (d : Child) → i < length cs → d ≡ get_or cs i d → length (rows_of (take (i + 1) cs)) ≡ length (rows_of (take i cs)) + len d.graph
-rows_more cs i d h at =
-    let paths = length-map {B = Path × ℕ} (entries d.graph) (λ r. (d.key ∷ r.0, r.1)) ∙ sym (len-entries d.graph) in
-    rw (take_more cs i d h, ← at, flat_map-append rows_of_child (take i cs) (d ∷ []), append-nil (rows_of_child d), length-append, paths) refl
+rows_more cs i d h at = rw (rows-more cs i d h, ← at, length-append, len-child d) refl
 
 module _ (M : Path → Mark) (b n : ℕ) (g : Graph) (cs : List Child) (is : g ≡ node n cs) (ks : Path) (o : InOrder cs) where
   -- The rows of one child more.

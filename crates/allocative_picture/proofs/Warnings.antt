@@ -1,11 +1,12 @@
 -- Paths that have a warning.
 use Rattle.std.proofs.Common.{◌≡◌, ℕ, Bool, ◌&&◌, ◌||◌, List, Bor, [], ◌∷◌, map, refl, sym, ◌∙◌, nat_eq}
-use Rattle.allocative_picture.proofs.Common.{is_eq, ordering_then, Ordering, Less, Equal, Greater, key_cmp, path_cmp, is_same_path, WarnedPath}
+use Rattle.allocative_picture.proofs.Common.{is_eq, ordering_then, Ordering, Less, Equal, Greater, key_cmp, path_cmp, is_same_path}
 use Rattle.std.specs.List.{list_any}
 use Rattle.std.specs.Cmp.Lexicographic.{pointwise}
 use Rattle.std.proofs.lemmas.Map.Text.{is_eq-slice_cmp}
 use Rattle.allocative_graph.proofs.NodeText.{texts}
 use Rattle.allocative_collectors.specs.Warned as held
+use Rattle.allocative_collectors.specs.declared.output.WarnedPath.{WarnedPath}
 
 both : (r s : Ordering) → is_eq (ordering_then r s) ≡ (is_eq r && is_eq s)
 both Less s = refl

@@ -21,36 +21,22 @@ unit_name n =
     (cond (nat_lt n 0x4000000000000) (codes "TiB")
     (cond (nat_lt n 0x1000000000000000) (codes "PiB") (codes "EiB"))))))
 
--- The number of units in n bytes: a whole number below 1 KiB, and otherwise with one decimal, rounded down.
-abbrev pub units_text : ℕ → List ℕ
-units_text n =
+-- Bytes in their greatest binary unit, for example `1.5 KiB`: a whole number below 1 KiB, and otherwise with one decimal,
+-- rounded down.
+unfoldable pub size_text : ℕ → List ℕ
+size_text n =
     cond (nat_lt n 0x400) (decimal n)
     (decimal (n / unit_bytes n) ++ codes "." ++ decimal (n % unit_bytes n * 10 / unit_bytes n))
-
--- Bytes in their greatest binary unit, for example `1.5 KiB`.
-unfoldable pub size_text : ℕ → List ℕ
-size_text n = units_text n ++ codes " " ++ unit_name n
+    ++ codes " " ++ unit_name n
 
 -- Bytes in their greatest binary unit and in full, for example `1.5 KiB (1536 bytes)`.
 unfoldable pub bytes_text : ℕ → List ℕ
 bytes_text n = size_text n ++ codes " (" ++ decimal n ++ codes " bytes)"
 
--- A part of all in hundredths of a percent, rounded down.
-abbrev pub hundredths : ℕ → ℕ → ℕ
-hundredths part all = part * 10000 / all
-
--- A share in percent with two decimals, for example `12.34%`.
-unfoldable pub share_text : ℕ → ℕ → List ℕ
-share_text part all =
-    decimal (hundredths part all / 100) ++ codes "." ++ decimal (hundredths part all / 10 % 10)
-    ++ decimal (hundredths part all % 10) ++ codes "%"
-
--- A part of all in bytes, and its share, for example `1.5 KiB (1536 bytes), 12.34% of all`.
-unfoldable pub part_text : ℕ → ℕ → List ℕ
-part_text part all = bytes_text part ++ codes ", " ++ share_text part all ++ codes " of all"
+-- Millionths of all as a number of percent with two decimals, rounded down, for example `12.34`.
+unfoldable pub percent_text : ℕ → List ℕ
+percent_text u = decimal (u / 10000) ++ codes "." ++ decimal (u / 1000 % 10) ++ decimal (u / 100 % 10)
 
 -- Millionths of the width in percent with four decimals, for example `12.3456%`.
 unfoldable pub place_text : ℕ → List ℕ
-place_text u =
-    decimal (u / 10000) ++ codes "." ++ decimal (u / 1000 % 10) ++ decimal (u / 100 % 10) ++ decimal (u / 10 % 10)
-    ++ decimal (u % 10) ++ codes "%"
+place_text u = percent_text u ++ decimal (u / 10 % 10) ++ decimal (u % 10) ++ codes "%"

@@ -1,5 +1,5 @@
 -- The laws of pictures, as statements.
-use Rattle.std.specs.Prelude.{◌≡◌, ℕ, ◌+◌, ◌*◌, ◌<◌, ◌≤◌, true, List, [], ◌∷◌, ◌++◌, filter, flat_map, count_by}
+use Rattle.std.specs.Prelude.{◌≡◌, ℕ, ◌+◌, ◌*◌, ◌<◌, ◌≤◌, true, cond, List, [], ◌∷◌, ◌++◌, filter, flat_map, count_by}
 use Rattle.std.specs.declared.cmp.Ordering.TheVariants.{Less}
 use Rattle.std.specs.FinMap.{entries, contains_key}
 use Rattle.allocative_graph.specs.Path.{Key, Path, key_cmp, is_same_path}
@@ -7,7 +7,6 @@ use Rattle.allocative_graph.specs.Graph.{Graph, total, total_at, sum_of, size_at
 use Rattle.allocative_picture.specs.declared.row.Mark.{Mark}
 use Rattle.allocative_picture.specs.Rows.{Seen, row_of}
 use Rattle.allocative_picture.specs.Boxes.{left, right, width, is_drawn, element}
-use Rattle.allocative_picture.specs.Page.{boxes}
 
 -- The row of a path of a graph.
 abbrev pub row_at : (Path → Mark) → Graph → Path → Seen
@@ -40,6 +39,10 @@ ShareLaw = (all : ℕ) (r : Seen) → 0 < all → IsShare all r
 -- No box extends past the right edge of the picture.
 abbrev pub WithinLaw : Type 0
 WithinLaw = (M : Path → Mark) (g : Graph) (p : Path) → 0 < total g → right (total g) (row_at M g p) ≤ 1000000
+
+-- The boxes of some rows, one after another: the element of a row, or no text where it has none.
+abbrev pub boxes : ℕ → ℕ → List Seen → List ℕ
+boxes least all rs = flat_map (λ r. cond (is_drawn least all r) (element all r) []) rs
 
 -- The boxes are the elements of the rows that are wide enough, each once and in the order of the rows.
 abbrev pub BoxesLaw : Type 0

@@ -3,8 +3,6 @@ pub mod Figures
 pub mod Rows
 pub mod Marks
 pub mod Boxes
-pub mod Classes
-pub mod Fixed
 pub mod Page
 pub mod Picture
 pub mod Laws

@@ -1,13 +1,12 @@
 //! The boxes of rows.
-ghost use Rattle.std.specs.Prelude.{◌≡◌, ◌+◌, ◌*◌, ◌^◌, ◌<◌, ◌≤◌, ◌++◌, ℕ, Some, OnOk, length, string_bytes};
-ghost use Rattle.allocative_picture.specs.Figures.{place_text};
+ghost use Rattle.std.specs.Prelude.{◌≡◌, ◌+◌, ◌*◌, ◌^◌, ◌<◌, ◌≤◌, ◌++◌, ℕ, Some, OnOk, string_bytes};
 ghost use Rattle.allocative_picture.specs.Rows.{seen};
-ghost use Rattle.allocative_picture.specs.Boxes.{edge, left, width, upper, is_drawn, class_text, fit_text, paint_text, figure_text, declared_text, title_text, frame, title, face, label, element, box};
+ghost use Rattle.allocative_picture.specs.Boxes.{edge, left, width, is_drawn, figure_text, declared_text, title_text, frame, element};
 
 use crate::change::{Change, Comparison, Paint};
-use crate::class::{Class, Fit};
+use crate::class::{Class, fit};
 use crate::escape::escaped;
-use crate::figures::{Bytes, Part, Place, Share, Size};
+use crate::figures::{Bytes, Percent, Place, Size};
 use crate::row::{Mark, Row};
 use std::alloc::{AllocError, Global};
 use std::fmt;
@@ -46,25 +45,28 @@ pub(crate) fn is_drawn(least: u32, all: u128, row: &Row<'_>) -> bool
     width != 0 && width >= least as u128
 }
 
-/// A row and the bytes of all rows, printed as the row's bytes and their share of all.
+/// A row and the share of its bytes, printed as the row's bytes and their share of all.
 #[derive(Clone, Copy)]
 struct Declared<'a> {
-    all: u128,
+    share: Percent,
     row: Row<'a>,
 }
 
 #[tactic(auto, unfolding(crate::specs::Boxes::declared_text))]
 impl fmt::Display for Declared<'_> {
-    ghost output = { λ d. Some (declared_text d.all (seen d.row)) };
+    ghost output = { λ d. Some (declared_text d.share.0 (seen d.row)) };
 
     fn fmt<W: fmt::Write>(&self, f: &mut fmt::Formatter<W>) -> fmt::Result {
         let Row { own, whole, .. } = self.row;
-        let all = self.all;
-        let part = Part(Share { part: whole, all });
+        let (share, whole_bytes) = (self.share, Bytes(whole));
         if own == whole {
-            return write!(f, "{part}");
+            return write!(f, "{whole_bytes}, {share}% of all");
         }
-        write!(f, "{part}\n{} of its own", Bytes(own))
+        write!(
+            f,
+            "{whole_bytes}, {share}% of all\n{} of its own",
+            Bytes(own)
+        )
     }
 }
 
@@ -74,7 +76,7 @@ struct Title<'a>(Declared<'a>);
 
 #[tactic(auto, unfolding(crate::specs::Boxes::title_text))]
 impl fmt::Display for Title<'_> {
-    ghost output = { λ t. Some (title_text t.0.all (seen t.0.row)) };
+    ghost output = { λ t. Some (title_text t.0.share.0 t.0.row.mark (seen t.0.row)) };
 
     fn fmt<W: fmt::Write>(&self, f: &mut fmt::Formatter<W>) -> fmt::Result {
         let declared = self.0;
@@ -86,8 +88,7 @@ impl fmt::Display for Title<'_> {
             ),
             Mark::Changed { was } => {
                 let is = declared.row.whole.saturating_sub(was);
-                let comparison = Comparison(Change { was, is });
-                write!(f, "{comparison}")
+                write!(f, "{}", Comparison(Change { was, is }))
             }
         }
     }
@@ -99,7 +100,7 @@ struct Figure<'a>(Row<'a>);
 
 #[tactic(auto, unfolding(crate::specs::Boxes::figure_text))]
 impl fmt::Display for Figure<'_> {
-    ghost output = { λ g. Some (figure_text (seen g.0)) };
+    ghost output = { λ g. Some (figure_text g.0.mark (seen g.0)) };
 
     fn fmt<W: fmt::Write>(&self, f: &mut fmt::Formatter<W>) -> fmt::Result {
         let whole = self.0.whole;
@@ -113,33 +114,12 @@ impl fmt::Display for Figure<'_> {
     }
 }
 
-/// A row, printed as the paint of its box.
-#[derive(Clone, Copy)]
-struct Fill<'a>(Row<'a>);
-
-#[tactic(auto, unfolding(crate::specs::Boxes::paint_text))]
-impl fmt::Display for Fill<'_> {
-    ghost output = { λ p. Some (paint_text (seen p.0)) };
-
-    fn fmt<W: fmt::Write>(&self, f: &mut fmt::Formatter<W>) -> fmt::Result {
-        match self.0.mark {
-            Mark::Plain | Mark::Warned => Ok(()),
-            Mark::Changed { was } => {
-                let is = self.0.whole.saturating_sub(was);
-                write!(f, "{}", Paint(Change { was, is }))
-            }
-        }
-    }
-}
-
 /// Appends the beginning of a row's box.
 fn push_frame(all: u128, row: &Row<'_>, text: &mut String) -> Result<(), AllocError>
-    ensures { OnOk result (string_bytes text.new ≡ string_bytes text.old
-        ++ frame (class_text (seen row.now)) (fit_text (width all (seen row.now)) (length row.now.key.now))
-        (place_text (left all (seen row.now))) (upper (seen row.now)) (place_text (width all (seen row.now)))) }
+    ensures { OnOk result (string_bytes text.new ≡ string_bytes text.old ++ frame all (seen row.now)) }
 {
     let units = width(all, row);
-    let (class, fit) = (Class::of(row), Fit::of(units, row.key.len()));
+    let (class, fit) = (Class(*row), fit(units, row.key.len()));
     let (x, y, width) = (
         Place(left(all, row)),
         54 + 18 * row.depth as u128,
@@ -152,45 +132,8 @@ fn push_frame(all: u128, row: &Row<'_>, text: &mut String) -> Result<(), AllocEr
     Ok(())
 }
 
-/// Appends the title of a row's box. The key is given as markup.
-#[tactic(auto, unfolding(crate::specs::Boxes::title))]
-fn push_title(all: u128, row: &Row<'_>, key: &str, text: &mut String) -> Result<(), AllocError>
-    ensures { OnOk result (string_bytes text.new ≡ string_bytes text.old
-        ++ title key.now (title_text all (seen row.now))) }
-{
-    let said = Title(Declared { all, row: *row });
-    write!(text, "<title>{key}\n{said}</title>")?;
-    Ok(())
-}
-
-/// Appends the rectangle of a row's box.
-#[tactic(auto, unfolding(crate::specs::Boxes::face))]
-fn push_face(row: &Row<'_>, text: &mut String) -> Result<(), AllocError>
-    ensures { OnOk result (string_bytes text.new ≡ string_bytes text.old ++ face (paint_text (seen row.now))) }
-{
-    let fill = Fill(*row);
-    write!(
-        text,
-        "<rect width=\"100%\" height=\"100%\" rx=\"2\"{fill}/>"
-    )?;
-    Ok(())
-}
-
-/// Appends the label of a row's box and the end of the box. The key is given as markup.
-fn push_label(row: &Row<'_>, key: &str, text: &mut String) -> Result<(), AllocError>
-    ensures { OnOk result (string_bytes text.new ≡ string_bytes text.old
-        ++ label key.now (figure_text (seen row.now))) }
-{
-    let figure = Figure(*row);
-    write!(
-        text,
-        "<text x=\"4\" y=\"13\">{key}<tspan class=\"n\" dx=\"8\">{figure}</tspan></text></svg>\n"
-    )?;
-    Ok(())
-}
-
-/// Appends the element of a row's box.
-fn push_element(
+/// Appends the box of a row. The only error is that memory runs out.
+pub(crate) fn push_element(
     alloc: Global,
     all: u128,
     row: &Row<'_>,
@@ -198,26 +141,15 @@ fn push_element(
 ) -> Result<(), AllocError>
     ensures { OnOk result (string_bytes text.new ≡ string_bytes text.old ++ element all (seen row.now)) }
 {
-    let key = escaped(alloc, row.key)?;
     push_frame(all, row, text)?;
-    push_title(all, row, key.as_str(), text)?;
-    push_face(row, text)?;
-    push_label(row, key.as_str(), text)?;
-    Ok(())
-}
-
-/// Appends the box of a row, where it has one. The only error is that memory runs out.
-pub(crate) fn push_box(
-    alloc: Global,
-    least: u32,
-    all: u128,
-    row: &Row<'_>,
-    text: &mut String,
-) -> Result<(), AllocError>
-    ensures { OnOk result (string_bytes text.new ≡ string_bytes text.old ++ box least all (seen row.now)) }
-{
-    if is_drawn(least, all, row) {
-        push_element(alloc, all, row, text)?;
-    }
+    let key = escaped(alloc, row.key)?;
+    let share = Percent(edge(all, row.whole as u128));
+    let title = Title(Declared { share, row: *row });
+    let (paint, figure) = (Paint(*row), Figure(*row));
+    write!(
+        text,
+        "<title>{key}\n{title}</title><rect width=\"100%\" height=\"100%\" rx=\"2\"{paint}/>\
+        <text x=\"4\" y=\"13\">{key}<tspan class=\"n\" dx=\"8\">{figure}</tspan></text></svg>\n"
+    )?;
     Ok(())
 }

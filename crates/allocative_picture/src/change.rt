@@ -1,8 +1,10 @@
 //! How the bytes of a path changed.
 ghost use Rattle.std.specs.Prelude.{◌≡◌, ◌+◌, ◌-◌, ◌*◌, ◌^◌, ◌<◌, ◌≤◌, ℕ, Some};
-ghost use Rattle.allocative_picture.specs.Boxes.{shade, change_paint, change_text, both_text};
+ghost use Rattle.allocative_picture.specs.Rows.{seen};
+ghost use Rattle.allocative_picture.specs.Boxes.{shade, paint_text, change_text, both_text};
 
 use crate::figures::Size;
+use crate::row::{Mark, Row};
 use std::fmt;
 
 /// The bytes of a path in an earlier profile and in a later one. They are printed as their difference with a sign, for
@@ -17,10 +19,10 @@ pub(crate) struct Change {
 #[derive(Clone, Copy)]
 pub(crate) struct Comparison(pub Change);
 
-/// A change, printed as the paint of its box: red where bytes grew, blue where they shrank, and none where they are
-/// equal.
+/// A row, printed as the paint of its box: red where bytes grew, blue where they shrank, and none where they are equal
+/// or the class gives the colour.
 #[derive(Clone, Copy)]
-pub(crate) struct Paint(pub Change);
+pub(crate) struct Paint<'a>(pub Row<'a>);
 
 /// One component of a colour. It is 236 where nothing changed, and reaches `full` where `change` is `all`.
 fn shade(full: u128, change: usize, all: u128) -> u128
@@ -60,12 +62,15 @@ impl fmt::Display for Comparison {
     }
 }
 
-#[tactic(auto, unfolding(crate::specs::Boxes::change_paint))]
-impl fmt::Display for Paint {
-    ghost output = { λ p. Some (change_paint p.0.was p.0.is) };
+#[tactic(auto, unfolding(crate::specs::Boxes::paint_text, crate::specs::Boxes::change_paint))]
+impl fmt::Display for Paint<'_> {
+    ghost output = { λ p. Some (paint_text (p.0).mark (seen p.0)) };
 
     fn fmt<W: fmt::Write>(&self, f: &mut fmt::Formatter<W>) -> fmt::Result {
-        let Change { was, is } = self.0;
+        let Mark::Changed { was } = self.0.mark else {
+            return Ok(());
+        };
+        let is = self.0.whole.saturating_sub(was);
         if was == is {
             return Ok(());
         }

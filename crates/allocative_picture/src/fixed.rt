@@ -1,11 +1,7 @@
 //! The texts that all pictures share.
-ghost use Rattle.std.specs.Prelude.{◌≡◌, ◌++◌, OnOk, string_bytes};
-ghost use Rattle.allocative_picture.specs.Fixed.{style, tools, legend, closing};
-
-use std::alloc::AllocError;
 
 /// The style sheet, the pattern for unused capacity, and the background.
-const STYLE: &str = r#"<style>
+pub(crate) const STYLE: &str = r#"<style>
 svg{font:12px ui-sans-serif,system-ui,"Segoe UI","DejaVu Sans",Helvetica,Arial,sans-serif;fill:#1d2330}
 .paper{fill:#fff}
 .title{font-size:17px;font-weight:600}
@@ -38,17 +34,17 @@ svg{font:12px ui-sans-serif,system-ui,"Segoe UI","DejaVu Sans",Helvetica,Arial,s
 "#;
 
 /// The labels `Find` and `Whole`, which the script makes clickable.
-const TOOLS: &str =
+pub(crate) const TOOLS: &str =
     r#"<svg width="100%" overflow="visible"><text class="tool find" x="100%" dx="-8" y="22" text-anchor="end">Find</text><text class="tool back" x="100%" dx="-48" y="22" text-anchor="end" style="display:none">Whole</text></svg>
 "#;
 
 /// The legend of the colours of a change.
-const LEGEND: &str =
+pub(crate) const LEGEND: &str =
     r#"<svg width="100%" overflow="visible"><text class="sum legend" x="100%" dx="-8" y="42" text-anchor="end"><tspan style="fill:#1d5fbf">shrank</tspan><tspan dx="8">same</tspan><tspan dx="8" style="fill:#d62828">grew</tspan></text></svg>
 "#;
 
 /// The script and the end of the document. A viewer that runs no script shows the same boxes.
-const CLOSING: &str = r#"<script><![CDATA[
+pub(crate) const CLOSING: &str = r#"<script><![CDATA[
 (function(){
 var svg=document.currentScript.ownerSVGElement,all=[].slice.call(svg.querySelectorAll('.b')),say=svg.querySelector('.say'),back=svg.querySelector('.back'),find=svg.querySelector('.find'),first=say.textContent,was=first;
 function units(b,a){return Math.round(parseFloat(b.getAttribute(a))*1e4)}
@@ -77,35 +73,3 @@ window.addEventListener('resize',fit);fit();
 ]]></script>
 </svg>
 "#;
-
-/// Appends the style sheet, the pattern for unused capacity, and the background.
-#[tactic(auto, unfolding(crate::specs::Fixed::style))]
-pub(crate) fn push_style(text: &mut String) -> Result<(), AllocError>
-    ensures { OnOk result (string_bytes text.new ≡ string_bytes text.old ++ style) }
-{
-    text.push_str(STYLE)
-}
-
-/// Appends the labels that the script makes clickable.
-#[tactic(auto, unfolding(crate::specs::Fixed::tools))]
-pub(crate) fn push_tools(text: &mut String) -> Result<(), AllocError>
-    ensures { OnOk result (string_bytes text.new ≡ string_bytes text.old ++ tools) }
-{
-    text.push_str(TOOLS)
-}
-
-/// Appends the legend of the colours of a change.
-#[tactic(auto, unfolding(crate::specs::Fixed::legend))]
-pub(crate) fn push_legend(text: &mut String) -> Result<(), AllocError>
-    ensures { OnOk result (string_bytes text.new ≡ string_bytes text.old ++ legend) }
-{
-    text.push_str(LEGEND)
-}
-
-/// Appends the script and the end of the document.
-#[tactic(auto, unfolding(crate::specs::Fixed::closing))]
-pub(crate) fn push_closing(text: &mut String) -> Result<(), AllocError>
-    ensures { OnOk result (string_bytes text.new ≡ string_bytes text.old ++ closing) }
-{
-    text.push_str(CLOSING)
-}

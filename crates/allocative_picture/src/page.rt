@@ -1,15 +1,15 @@
 //! The parts of a picture around its boxes.
-ghost use Rattle.std.specs.Prelude.{◌≡◌, ◌++◌, ◌+◌, ◌*◌, ◌^◌, ◌<◌, ◌≤◌, Some, OnOk, IfOk, string_bytes, map, count_by};
+ghost use Rattle.std.specs.Prelude.{◌≡◌, ◌++◌, ◌+◌, ◌*◌, ◌^◌, ◌<◌, ◌≤◌, Some, OnOk, string_bytes, map, flat_map};
 ghost use Rattle.allocative_collectors.specs.Warned as held;
 ghost use Rattle.allocative_picture.specs.Rows.{seen};
-ghost use Rattle.allocative_picture.specs.Boxes.{is_drawn};
-ghost use Rattle.allocative_picture.specs.Page.{all_of, subject_text, opening, heading, summary, warning_line, warning_lines, level_of, levels, tools_of, boxes};
+ghost use Rattle.allocative_picture.specs.Boxes.{element};
+ghost use Rattle.allocative_picture.specs.Page.{all_of, legend_of, subject_text, levels, opening, heading, warning_line, warning_lines};
 
-use crate::boxes::{is_drawn, push_box};
+use crate::boxes::push_element;
 use crate::change::{Change, Comparison};
 use crate::escape::escaped;
 use crate::figures::Bytes;
-use crate::fixed::{push_legend, push_tools};
+use crate::fixed::{LEGEND, STYLE, TOOLS};
 use crate::row::Row;
 use allocative_collectors::output::WarnedPath;
 use std::alloc::{AllocError, Global};
@@ -42,6 +42,15 @@ impl Subject {
             Subject::Change { before, after } => before as u128 + after as u128,
         }
     }
+    /// The legend of the colours of a change, and no text for a profile.
+    pub(crate) fn legend(self) -> &'static str
+        ensures { result.now ≡ legend_of self }
+    {
+        match self {
+            Subject::Profile { .. } => "",
+            Subject::Change { .. } => LEGEND,
+        }
+    }
 }
 
 #[tactic(auto, unfolding(crate::specs::Page::subject_text))]
@@ -62,104 +71,66 @@ impl fmt::Display for Subject {
     }
 }
 
-/// The number of rows that have a box.
-pub(crate) fn drawn(least: u32, all: u128, rows: &[Row<'_>]) -> usize
-    ensures { result ≡ count_by (is_drawn least all) (map seen rows.now) }
-{
-    rows.iter().filter(|row| is_drawn(least, all, row)).count()
-}
-
-/// The number of levels of boxes after one more row.
-fn level_of(least: u32, all: u128, levels: u128, row: &Row<'_>) -> u128
-    ensures level { result ≡ level_of least all levels (seen row.now) }
-    ensures bound { levels ≤ 2 ^ 64 → result ≤ 2 ^ 64 }
-{
-    if is_drawn(least, all, row) {
-        levels.max(row.depth as u128 + 1)
-    } else {
-        levels
-    }
-}
-
 /// The number of levels of boxes that the rows need.
 #[tactic(auto, unfolding(crate::specs::Page::levels))]
-pub(crate) fn levels(least: u32, all: u128, rows: &[Row<'_>]) -> u128
-    ensures levels { result ≡ levels least all (map seen rows.now) }
+pub(crate) fn levels(rows: &[Row<'_>]) -> u128
+    ensures levels { result ≡ levels (map seen rows.now) }
     ensures bound { result ≤ 2 ^ 64 }
 {
     let mut levels = 0u128;
     for row in rows {
-        levels = level_of(least, all, levels, row);
+        levels = levels.max(row.depth as u128 + 1);
     }
     levels
 }
 
-/// Appends the beginning of a picture. Its height is in pixels.
+/// Appends the beginning of a picture, with the style. Its height is in pixels.
 #[tactic(auto, unfolding(crate::specs::Page::opening))]
 pub(crate) fn push_opening(height: u128, text: &mut String) -> Result<(), AllocError>
     ensures { OnOk result (string_bytes text.new ≡ string_bytes text.old ++ opening height) }
 {
     write!(
         text,
-        "<svg xmlns=\"http://www.w3.org/2000/svg\" width=\"100%\" height=\"{height}\" font-size=\"12\">\n"
+        "<svg xmlns=\"http://www.w3.org/2000/svg\" width=\"100%\" height=\"{height}\" font-size=\"12\">\n{STYLE}"
     )?;
     Ok(())
 }
 
-/// Appends the title of a picture.
-pub(crate) fn push_heading(alloc: Global, title: &str, text: &mut String) -> Result<(), AllocError>
-    ensures { OnOk result (string_bytes text.new ≡ string_bytes text.old ++ heading title.now) }
-{
-    let title = escaped(alloc, title)?;
-    write!(
-        text,
-        "<text class=\"title\" x=\"8\" y=\"22\">{title}</text>\n"
-    )?;
-    Ok(())
-}
-
-/// Appends the totals of a picture, the number of paths with a box, and the number of paths that are too narrow for
-/// one.
-pub(crate) fn push_summary(
+/// Appends the title of a picture, the totals, the number of paths with a box, the number of the others, which are too
+/// narrow for one, and the labels that the script makes clickable.
+pub(crate) fn push_heading(
+    alloc: Global,
+    title: &str,
     subject: Subject,
     drawn: usize,
-    narrow: usize,
+    paths: usize,
     text: &mut String,
 ) -> Result<(), AllocError>
-    ensures { OnOk result (string_bytes text.new ≡ string_bytes text.old ++ summary subject drawn narrow) }
+    ensures { OnOk result
+        (string_bytes text.new ≡ string_bytes text.old ++ heading title.now subject drawn paths) }
 {
+    let title = escaped(alloc, title)?;
+    let narrow = paths.saturating_sub(drawn);
     write!(
         text,
-        "<text class=\"sum say\" x=\"8\" y=\"42\">{subject}; {drawn} paths drawn, {narrow} too narrow</text>\n"
+        "<text class=\"title\" x=\"8\" y=\"22\">{title}</text>\n\
+        <text class=\"sum say\" x=\"8\" y=\"42\">{subject}; {drawn} paths drawn, {narrow} too narrow</text>\n{TOOLS}"
     )?;
     Ok(())
 }
 
-/// Appends the labels that the script makes clickable and, for a change, the legend of its colours.
-#[tactic(auto, unfolding(crate::specs::Page::tools_of))]
-pub(crate) fn push_tools_of(subject: Subject, text: &mut String) -> Result<(), AllocError>
-    ensures { OnOk result (string_bytes text.new ≡ string_bytes text.old ++ tools_of subject) }
-{
-    push_tools(text)?;
-    match subject {
-        Subject::Profile { .. } => Ok(()),
-        Subject::Change { .. } => push_legend(text),
-    }
-}
-
-/// Appends the boxes of some rows.
-#[tactic(auto, unfolding(crate::specs::Page::boxes))]
+/// Appends the boxes of rows.
 pub(crate) fn push_boxes(
     alloc: Global,
-    least: u32,
     all: u128,
     rows: &[Row<'_>],
     text: &mut String,
 ) -> Result<(), AllocError>
-    ensures { OnOk result (string_bytes text.new ≡ string_bytes text.old ++ boxes least all (map seen rows.now)) }
+    ensures { OnOk result
+        (string_bytes text.new ≡ string_bytes text.old ++ flat_map (element all) (map seen rows.now)) }
 {
     for row in rows {
-        push_box(alloc, least, all, row, text)?;
+        push_element(alloc, all, row, text)?;
     }
     Ok(())
 }

@@ -1,17 +1,15 @@
 //! The pictures of profiles and of changes.
 ghost use Rattle.std.specs.Prelude.{◌≡◌, ◌+◌, ◌^◌, ◌≤◌, ◌↔◌, IfOk, IfErr, IsErrOf, string_bytes, map};
 ghost use Rattle.allocative_graph.specs.Graph.{total};
-ghost use Rattle.allocative_picture.specs.Rows.{seen};
+ghost use Rattle.allocative_picture.specs.Rows.{seen, rows_of};
+ghost use Rattle.allocative_picture.specs.Marks.{mark_of};
 ghost use Rattle.allocative_picture.specs.Picture.{drawing, drawing_of, profile_drawing, change_drawing};
 
-use crate::fixed::{push_closing, push_style};
+use crate::fixed::CLOSING;
 use crate::options::Options;
-use crate::page::{
-    Subject, drawn, levels, push_boxes, push_heading, push_opening, push_summary, push_tools_of,
-    push_warnings,
-};
+use crate::page::{Subject, levels, push_boxes, push_heading, push_opening, push_warnings};
 use crate::row::Row;
-use crate::rows::{Marks, Shown, wide_rows};
+use crate::rows::{Marks, Shown, push_rows, push_wide};
 use allocative_graph::flamegraph::FlameGraph;
 use allocative_graph::refusal::Refusal;
 use std::alloc::{AllocError, Global};
@@ -27,13 +25,8 @@ pub fn picture(alloc: Global, graph: &FlameGraph, options: &Options<'_>) -> Resu
     let subject = Subject::Profile {
         bytes: graph.total_size(),
     };
-    let shown = Shown {
-        marks: Marks::Warned(options.warned),
-        least: options.narrowest,
-        all: subject.all(),
-    };
-    let rows = wide_rows(alloc, &shown, graph)?;
-    Ok(draw_wide(alloc, subject, rows.wide.as_slice(), rows.paths, options)?)
+    let marks = Marks::Warned(options.warned);
+    Ok(draw_graph(alloc, subject, marks, graph, options)?)
 }
 
 /// The picture of the change from one flame graph to another, as the text of an SVG document.
@@ -62,13 +55,31 @@ pub fn change_picture(
     }
     let mut both = before.clone()?;
     both.add(after.clone()?)?;
+    let marks = Marks::Earlier(before);
+    Ok(draw_graph(alloc, subject, marks, &both, options)?)
+}
+
+// The picture of the rows of a flame graph.
+fn draw_graph(
+    alloc: Global,
+    subject: Subject,
+    marks: Marks<'_>,
+    graph: &FlameGraph,
+    options: &Options<'_>,
+) -> Result<String, AllocError>
+    ensures { IfOk result
+        (λ made. string_bytes made ≡ drawing subject options.now (rows_of (mark_of marks.entry) graph.now)) }
+{
     let shown = Shown {
-        marks: Marks::Earlier(before),
+        marks,
         least: options.narrowest,
         all: subject.all(),
     };
-    let rows = wide_rows(alloc, &shown, &both)?;
-    Ok(draw_wide(alloc, subject, rows.wide.as_slice(), rows.paths, options)?)
+    let (mut path, mut wide) = (Vec::new(alloc), Vec::new(alloc));
+    let (mut before, mut paths) = (0, 0);
+    let _all = graph.total_size();
+    push_rows(&shown, graph, &mut path, &mut before, &mut paths, &mut wide)?;
+    draw_wide(alloc, subject, wide.as_slice(), paths, options)
 }
 
 /// The picture of some rows, as the text of an SVG document. The rows are expected in the order of paths, with the
@@ -83,10 +94,14 @@ pub fn draw(
 ) -> Result<String, AllocError>
     ensures { IfOk result (λ made. string_bytes made ≡ drawing subject options.now (map seen rows.now)) }
 {
-    draw_wide(alloc, subject, rows, rows.len(), options)
+    let mut wide = Vec::new(alloc);
+    for row in rows {
+        push_wide(options.narrowest, subject.all(), *row, &mut wide)?;
+    }
+    draw_wide(alloc, subject, wide.as_slice(), rows.len(), options)
 }
 
-// The picture of so many paths, where the rows have all that are wide enough for a box.
+// The picture of so many paths, where the rows are those that are wide enough for a box.
 fn draw_wide(
     alloc: Global,
     subject: Subject,
@@ -96,17 +111,14 @@ fn draw_wide(
 ) -> Result<String, AllocError>
     ensures { IfOk result (λ made. string_bytes made ≡ drawing_of subject options.now (map seen rows.now) paths) }
 {
-    let (least, all) = (options.narrowest, subject.all());
-    let drawn = drawn(least, all, rows);
-    let bottom = 64 + 18 * levels(least, all, rows);
+    let bottom = 64 + 18 * levels(rows);
+    let height = bottom + 8 + 16 * options.warned.len() as u128;
     let mut text = String::new(alloc);
-    push_opening(bottom + 8 + 16 * options.warned.len() as u128, &mut text)?;
-    push_style(&mut text)?;
-    push_heading(alloc, options.title, &mut text)?;
-    push_summary(subject, drawn, paths.saturating_sub(drawn), &mut text)?;
-    push_tools_of(subject, &mut text)?;
-    push_boxes(alloc, least, all, rows, &mut text)?;
+    push_opening(height, &mut text)?;
+    push_heading(alloc, options.title, subject, rows.len(), paths, &mut text)?;
+    text.push_str(subject.legend())?;
+    push_boxes(alloc, subject.all(), rows, &mut text)?;
     push_warnings(alloc, bottom + 14, options.warned, &mut text)?;
-    push_closing(&mut text)?;
+    text.push_str(CLOSING)?;
     Ok(text)
 }

@@ -1,11 +1,11 @@
 //! The rows of a flame graph.
-ghost use Rattle.std.specs.Prelude.{◌≡◌, ◌+◌, ◌<◌, ◌^◌, ◌++◌, [], ◌∷◌, IfOk, IfErr, OnOk, map, filter, length};
+ghost use Rattle.std.specs.Prelude.{◌≡◌, ◌+◌, ◌<◌, ◌^◌, ◌++◌, [], ◌∷◌, OnOk, map, filter};
 ghost use Rattle.std.specs.FinMap.{len};
 ghost use Rattle.allocative_graph.specs.Graph.{total, size_at};
 ghost use Rattle.allocative_graph.specs.Reads as reads;
 ghost use Rattle.allocative_graph.specs.Reads.{figures_behind};
 ghost use Rattle.allocative_collectors.specs.Warned as held;
-ghost use Rattle.allocative_picture.specs.Rows.{seen, shown_key, rows_of, rows_from, row_from, is_warned};
+ghost use Rattle.allocative_picture.specs.Rows.{seen, shown_key, rows_from, row_from, is_warned};
 ghost use Rattle.allocative_picture.specs.Boxes.{is_drawn};
 ghost use Rattle.allocative_picture.specs.Marks.{mark_of};
 
@@ -13,8 +13,7 @@ use crate::boxes::is_drawn;
 use crate::row::{Mark, Row};
 use allocative_collectors::output::WarnedPath;
 use allocative_graph::flamegraph::FlameGraph;
-use allocative_graph::refusal::Refusal;
-use std::alloc::{AllocError, Global};
+use std::alloc::AllocError;
 
 /// What the marks of the paths of a flame graph come from.
 #[derive(Clone, Copy)]
@@ -34,15 +33,6 @@ pub(crate) struct Shown<'a> {
     pub least: u32,
     /// The bytes that the whole width stands for.
     pub all: u128,
-}
-
-/// The rows of a flame graph that are wide enough for a box.
-#[derive(Drop)]
-pub(crate) struct WideRows {
-    /// These rows, in the order of paths.
-    pub wide: Vec<Row<'static>>,
-    /// The number of all paths.
-    pub paths: usize,
 }
 
 impl Marks<'_> {
@@ -102,57 +92,25 @@ fn row_from(
     }
 }
 
-/// The rows of a flame graph that are wide enough for a box, in the order of paths. The only error is that memory runs
-/// out.
-pub(crate) fn wide_rows(
-    alloc: Global,
-    shown: &Shown<'_>,
-    graph: &FlameGraph,
-) -> Result<WideRows, Refusal>
-    ensures rows { IfOk result (λ rows. map seen rows.wide.items
-        ≡ filter (is_drawn shown.now.least shown.now.all) (rows_of (mark_of shown.now.marks) graph.now)) }
-    ensures paths { IfOk result (λ rows. rows.paths ≡ length (rows_of (mark_of shown.now.marks) graph.now)) }
-    ensures memory { IfErr result (λ r. r ≡ Refusal.Memory) }
-{
-    let mut path: Vec<&'static str> = Vec::new(alloc);
-    let mut wide: Vec<Row<'static>> = Vec::new(alloc);
-    let mut before = 0usize;
-    let mut paths = 0usize;
-    let _all = graph.total_size();
-    push_rows(shown, graph, &mut path, &mut before, &mut paths, &mut wide)?;
-    Ok(WideRows { wide, paths })
-}
-
-// Appends a row, where it is wide enough for a box.
-fn push_wide(
-    shown: &Shown<'_>,
-    row: Row<'static>,
-    rows: &mut Vec<Row<'static>>,
+/// Appends a row, where it is wide enough for a box.
+pub(crate) fn push_wide<'a>(
+    least: u32,
+    all: u128,
+    row: Row<'a>,
+    rows: &mut Vec<Row<'a>>,
 ) -> Result<(), AllocError>
-    ensures { OnOk result
-        (map seen rows.new.items
-        ≡ map seen rows.old.items ++ filter (is_drawn shown.now.least shown.now.all) (seen row.entry ∷ [])) }
+    ensures { OnOk result (map seen rows.new.items
+        ≡ map seen rows.old.items ++ filter (is_drawn least all) (seen row.entry ∷ [])) }
 {
-    if !is_drawn(shown.least, shown.all, &row) {
-        return Ok(());
+    if is_drawn(least, all, &row) {
+        rows.push(row)?;
     }
-    rows.push(row)?;
     Ok(())
 }
 
-// The next number. More paths than numbers do not fit into memory.
-fn next(paths: usize) -> Result<usize, AllocError>
-    ensures { IfOk result (λ n. n ≡ paths + 1) }
-{
-    match paths.checked_add(1) {
-        Some(next) => Ok(next),
-        None => Err(AllocError),
-    }
-}
-
-// Appends the rows of all paths of a graph that are wide enough, each after the given keys. `before` has the bytes of
-// all paths before, and `paths` their number.
-fn push_rows(
+/// Appends the rows of all paths of a graph that are wide enough, each after the given keys. `before` has the bytes of
+/// all paths before, and `paths` their number.
+pub(crate) fn push_rows(
     shown: &Shown<'_>,
     graph: &FlameGraph,
     path: &mut Vec<&'static str>,
@@ -172,9 +130,9 @@ fn push_rows(
 {
     let children = graph.children();
     let row = row_from(&shown.marks, *before, path.as_slice(), graph);
-    push_wide(shown, row, rows)?;
+    push_wide(shown.least, shown.all, row, rows)?;
     *before += graph.self_size();
-    *paths = next(*paths)?;
+    *paths = paths.checked_add(1).ok_or(AllocError)?;
     for child in children {
         path.push(child.key.as_str())?;
         push_rows(shown, &child.graph, path, before, paths, rows)?;

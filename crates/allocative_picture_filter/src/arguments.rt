@@ -1,6 +1,7 @@
 //! The arguments of the program.
 use crate::fault::Fault;
 use std::alloc::Global;
+use std::mem;
 
 /// What the arguments ask for.
 #[derive(Drop)]
@@ -19,41 +20,6 @@ pub struct Arguments<'a> {
     pub reads_input: bool,
 }
 
-// What the next argument is.
-#[derive(Clone, Copy, PartialEq, Eq)]
-enum Awaited {
-    // A word or the name of a file.
-    Any,
-    // The title.
-    Title,
-    // The name of a file of the earlier profile.
-    Before,
-}
-
-impl<'a> Arguments<'a> {
-    // Takes an argument that is a word or the name of a file, and returns what the next one is.
-    fn take(&mut self, argument: &'a str) -> Result<Awaited, Fault<'a>> {
-        if argument == "--title" {
-            return Ok(Awaited::Title);
-        }
-        if argument == "--before" {
-            return Ok(Awaited::Before);
-        }
-        if argument == "--help" {
-            self.help = true;
-        } else if argument == "--text" {
-            self.as_text = true;
-        } else if argument == "-" && !self.reads_input {
-            self.reads_input = true;
-        } else if argument.starts_with('-') {
-            return Err(Fault::Arguments);
-        } else {
-            self.after.push(argument)?;
-        }
-        Ok(Awaited::Any)
-    }
-}
-
 /// Reads the arguments: `--help`, `--text`, `--title` with a text, `--before` with the name of a file, names of files,
 /// and `-` for the input, which is also read where no file of the profile is named. It fails with `Fault::Arguments` if
 /// another argument begins with `-`, if `-` is repeated, if nothing follows `--title` or `--before`, or if the text of a
@@ -67,23 +33,23 @@ pub fn read_arguments(alloc: Global, arguments: &[String]) -> Result<Arguments<'
         after: Vec::new(alloc),
         reads_input: false,
     };
-    let mut awaited = Awaited::Any;
+    // The word `--title` or `--before` whose text comes next, or no text.
+    let mut awaited = "";
     for argument in arguments {
         let argument = argument.as_str();
-        let next = match awaited {
-            Awaited::Any => asked.take(argument)?,
-            Awaited::Title => {
-                asked.title = argument;
-                Awaited::Any
-            }
-            Awaited::Before => {
-                asked.before.push(argument)?;
-                Awaited::Any
-            }
-        };
-        awaited = next;
+        let word = mem::replace(&mut awaited, "");
+        match (word, argument) {
+            ("--title", title) => asked.title = title,
+            ("--before", name) => asked.before.push(name)?,
+            (_, "--title" | "--before") => awaited = argument,
+            (_, "--help") => asked.help = true,
+            (_, "--text") => asked.as_text = true,
+            (_, "-") if !asked.reads_input => asked.reads_input = true,
+            (_, unknown) if unknown.starts_with('-') => return Err(Fault::Arguments),
+            (_, name) => asked.after.push(name)?,
+        }
     }
-    if awaited != Awaited::Any || asked.as_text && !asked.before.is_empty() {
+    if !awaited.is_empty() || asked.as_text && !asked.before.is_empty() {
         return Err(Fault::Arguments);
     }
     if asked.after.is_empty() {

@@ -6,7 +6,7 @@ mod arguments;
 mod fault;
 mod run;
 
-use arguments::{Arguments, read_arguments};
+use arguments::read_arguments;
 use fault::{Fault, Source};
 use run::{Text, read_text, run, show_usage, tell};
 use std::env;
@@ -45,25 +45,22 @@ fn read_files<'a, R: Files + AllocGlobal>(
     Ok(texts)
 }
 
-// Reads the files that the arguments name, and runs the program on them.
-fn run_on_files<'a, S: Files + AllocGlobal, R: Read, W: Write, E: Write>(
+// Does what the arguments ask for, and returns the status.
+fn run_on_arguments<'a, S: Files + AllocGlobal, R: Read, W: Write, E: Write>(
     rt: &S,
-    asked: &Arguments<'a>,
+    arguments: &'a [String],
     input: &mut R,
     output: &mut W,
     errors: &mut E,
 ) -> Result<u8, Fault<'a>> {
+    let asked = read_arguments(rt.alloc(), arguments)?;
+    if asked.help {
+        return Ok(show_usage(output, errors));
+    }
     let before = read_files(rt, asked.before.as_slice())?;
     let after = read_files(rt, asked.after.as_slice())?;
-    Ok(run(
-        rt.alloc(),
-        asked,
-        before.as_slice(),
-        after.as_slice(),
-        input,
-        output,
-        errors,
-    ))
+    let (before, after) = (before.as_slice(), after.as_slice());
+    Ok(run(rt.alloc(), &asked, before, after, input, output, errors))
 }
 
 fn main(rt: HostRuntime) -> ExitCode {
@@ -74,14 +71,8 @@ fn main(rt: HostRuntime) -> ExitCode {
         Ok(arguments) => arguments,
         Err(fault) => return ExitCode::from(tell(&mut errors, fault)),
     };
-    let asked = match read_arguments(rt.alloc(), arguments.as_slice()) {
-        Ok(asked) => asked,
-        Err(fault) => return ExitCode::from(tell(&mut errors, fault)),
-    };
-    if asked.help {
-        return ExitCode::from(show_usage(&mut output, &mut errors));
-    }
-    let status = match run_on_files(&rt, &asked, &mut input, &mut output, &mut errors) {
+    let words = arguments.as_slice();
+    let status = match run_on_arguments(&rt, words, &mut input, &mut output, &mut errors) {
         Ok(status) => status,
         Err(fault) => tell(&mut errors, fault),
     };

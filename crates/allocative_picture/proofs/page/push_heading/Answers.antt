@@ -3,4 +3,4 @@ use Rattle.allocative_picture.proofs.page.push_heading.Goals as goal
 
 pub returns : goal.returns
 unfolding heading
-returns c = rw (← c.in_ok-title.ensures) c.in_ok-write.ensures.bytes
+returns c = rw (← c.in_ok-title.ensures, ← c.saturating_sub-narrow.ensures) c.in_ok-write.ensures.bytes

@@ -1,4 +1,4 @@
-use Rattle.std.proofs.Common.{◌≡◌, refl, ℕ, ◌+◌, ◌<◌, ◌++◌, [], ◌∷◌, List, Bor, map, arith, ap, sym, subst, append_assoc, ◌∙◌, filter, length, take_all}
+use Rattle.std.proofs.Common.{rules, ◌≡◌, refl, ℕ, ◌+◌, ◌<◌, ◌++◌, [], ◌∷◌, List, Bor, map, arith, ap, sym, subst, append_assoc, ◌∙◌, filter, length, take_all}
 use Rattle.allocative_picture.proofs.Common.{is_drawn, len, Child, total, total_at, weight, Seen, seen, rows_from, row_from, mark_of}
 use Rattle.std.proofs.lemmas.List.{map-append}
 use Rattle.std.proofs.lemmas.List.Elements.{filter-append}
@@ -58,7 +58,8 @@ returns-clause-before t c =
 pub returns-clause-paths : goal.returns-clause-paths
 returns-clause-paths t c =
     let cs = c.children-children.result.now in
-    omega (arith, c.loop-child.invariant.paths, ap (λ (ds : List Child). length (rows_of ds)) (take_all c.loop-child.child-index cs (omega arith)), ap len c.children-children.ensures.whole, rows_of_node (size_at c.args.graph.now []) cs c.children-children.ensures.children, c.in_ok-paths.ensures)
+    let count : c.in_ok-paths.field-0 ≡ c.args.paths.now + 1 = search rules in
+    omega (arith, c.loop-child.invariant.paths, ap (λ (ds : List Child). length (rows_of ds)) (take_all c.loop-child.child-index cs (omega arith)), ap len c.children-children.ensures.whole, rows_of_node (size_at c.args.graph.now []) cs c.children-children.ensures.children)
 
 pub returns-clause-rows : goal.returns-clause-rows
 returns-clause-rows t c =
