@@ -43,12 +43,15 @@ module _ {F K V : Type 0} (step : F → K → V → F → Type 0) (went : F) (ro
         let parts : h ∷ rest ≡ cut.0 ++ e ∷ [] = cut.2 ∙ ap (λ y. cut.0 ++ y ∷ []) it in
         let stay : take (length (h ∷ rest) - 1) (h ∷ rest) ≡ cut.0 = ap (λ l. take (length l - 1) l) cut.2 ∙ last.1 in
         let sum = ap (λ (l : Entries K V). bytes_of l) parts ∙ bytes_of-push cut.0 e in
-        rw stay (omega (arith, sum), λ g called. record {
-          gone = e ∷ s.gone;
-          parts = s.parts ∙ ap (λ l. l ++ s.gone) parts ∙ append_assoc cut.0 (e ∷ []) s.gone;
-          needed = omega (arith, sum, more);
-          handed = (f, s.handed, called);
-        })
+        rw stay (
+          omega (arith, sum),
+          λ g called. record {
+            gone = e ∷ s.gone;
+            parts = s.parts ∙ ap (λ l. l ++ s.gone) parts ∙ append_assoc cut.0 (e ∷ []) s.gone;
+            needed = omega (arith, sum, more);
+            handed = (f, s.handed, called);
+          },
+        )
 
   -- Where the first entry has room by itself, it stays, and the others are evicted as far as it leaves no room for them.
   pub first_stays : (k : K × Kept V) (rest after : Entries K V) → k.1.bytes ≤ room → KeepsRecent step went room (k ∷ rest) after → (others : Entries K V) × (after ≡ k ∷ others) × KeepsRecent step went (room - k.1.bytes) rest others
