@@ -59,7 +59,8 @@ pub IfNone-weaker : {T P Q : Type 0} (r : Option T) → (P → Q) → IfNone r P
 IfNone-weaker None f h = f h
 IfNone-weaker (Some x) f h = tt
 
--- What holds in any case holds where the result is Some.
-pub closes : {P : Type 0} (r : Option Holding) → P → OnSome r P
-closes None h = tt
-closes (Some now) h = h
+-- Taking an account out of the map changes it and no other.
+pub closes : (tenant : List ℕ) (old : Ledger) (accounts : BTreeMap (String Global) Holding) (r : Option Holding) → UpdatesBy string_cmp (λ k. slice_cmp nat_cmp tenant (string_bytes k)) old.accounts accounts None
+    → OnSome r (ChangesAccount tenant None old (with_accounts old accounts))
+closes tenant old accounts None h = tt
+closes tenant old accounts (Some now) h = changes tenant None old accounts h

@@ -170,6 +170,7 @@ impl<K: Eq + Hash + Drop, V: Allocative + Described> BoundedCache<K, V> {
     }
 
     /// Removes the key and returns it with its value. Where there is no such key, it returns None and nothing changes.
+    #[tactic(auto, using(crate::proofs::Using::removing))]
     pub fn remove(&mut self, key: &K) -> Option<(K, V)>
         ensures value { result ≡ option_map (λ e. (e.0, e.1.value)) (lookup_entry (K.eq key.now) self.old.entries) }
         ensures others { self.new ≡ without (K.eq key.now) self.old }

@@ -64,6 +64,7 @@ impl Ledger {
     }
 
     /// Removes the account of a tenant and returns it. Where there is none, it returns None and nothing changes.
+    #[tactic(auto, using(crate::proofs::Accounts::closes))]
     pub fn close(&mut self, tenant: &str) -> Option<Account>
         ensures value { result ≡ account_of tenant.now self.old }
         ensures closed { OnSome result (ChangesAccount tenant.now None self.old self.new) }
