@@ -4,7 +4,7 @@ ghost use Rattle.std.specs.Ordering.{int_cmp};
 ghost use Rattle.std.specs.BTreeSet.{IsOrdered};
 ghost use Rattle.serde_json.specs.View.{view, items_view, members_view};
 ghost use Rattle.allocative_json.specs.Numbers.{is_whole, are_whole, have_whole, has_number, items_have, members_have, AddsKeys, IsIndexOf};
-ghost use Rattle.allocative_json.specs.Roots.{IsWholeDocument, AreRoots, RefusesInput};
+ghost use Rattle.allocative_json.specs.Roots.{AreRoots, RefusesInput};
 
 use crate::fault::Fault;
 use serde_json::{Map, Value};
@@ -95,19 +95,6 @@ fn index_of(alloc: Global, document: &Value) -> Result<BTreeSet<i128>, AllocErro
     Ok(set)
 }
 
-// The document of the input, where its numbers are whole.
-fn read_document(alloc: Global, input: &[u8]) -> Result<Value, Fault>
-    ensures ok { IfOk result (λ document. IsWholeDocument input.now (view document)) }
-    ensures err { IfErr result (RefusesInput input.now) }
-{
-    let document = Value::from_slice(alloc, input)?;
-    if is_whole_value(&document) {
-        Ok(document)
-    } else {
-        Err(Fault::NotWhole)
-    }
-}
-
 /// The document that `serde_json` reads from the input and, exactly with `index`, the set of its whole
 /// numbers at any depth.
 ///
@@ -123,7 +110,10 @@ pub fn read_roots(
     ensures ok { IfOk result (λ roots. AreRoots input.now index (view roots.0) roots.1) }
     ensures err { IfErr result (RefusesInput input.now) }
 {
-    let document = read_document(alloc, input)?;
+    let document = Value::from_slice(alloc, input)?;
+    if !is_whole_value(&document) {
+        return Err(Fault::NotWhole);
+    }
     let set = if index {
         Some(index_of(alloc, &document)?)
     } else {
