@@ -65,3 +65,5 @@ module _ {V : Type 0} (size : Option ℕ) (may_show : V → Forest → Type 0) w
     within = let s = sum_by-remove_entry (λ (k : Kept V). k.bytes) test c.entries in omega (arith, s, h.within);
     measured = All-map-remove_entry test (λ (e : K × Kept V). e.1) (IsMeasured size may_show c.measure) c.entries h.measured;
   }
+
+pub ruleset putting = (bytes_of-remove_entry)
