@@ -1,8 +1,7 @@
 -- The ledger after one of its accounts has changed.
 use Rattle.std.proofs.Common.{◌≡◌, ◌∙◌, ℕ, ◌+◌, false, List, Option, Some, None, refl, sym, ap, subst, nat_cmp, string_bytes, IfNone, IfSome, OnSome, String, unwrap_or, Global}
-use Rattle.allocative_service.proofs.Common.{is_at, Holding, ChangesAccount}
+use Rattle.allocative_service.proofs.Common.{Holding, ChangesAccount}
 use Rattle.std.specs.BTreeMap.{BTreeMap, UpdatesBy, WritesThrough}
-use Rattle.std.specs.Map.{set_value}
 use Rattle.std.proofs.lemmas.Map.Steps.{set_value_same}
 use Rattle.std.specs.Cmp.Lexicographic.{slice_cmp}
 use Rattle.std.specs.Str.{bytes_eq}
