@@ -9,11 +9,11 @@ use Rattle.serde_json.proofs.OnLiterals.{serde_json_on_literals}
 use Rattle.allocative.specs.Refusal.{Refusal}
 use Rattle.allocative.specs.Refusal.TheVariants as refused
 use Rattle.allocative_json.specs.Fault.{status_of, fault_of}
-use Rattle.allocative.specs.Forest.{Forest, Empty, Inline, Unique, First, Again, followed_by}
+use Rattle.allocative.specs.Forest.{Forest, followed_by}
 use Rattle.allocative.specs.Shows.{Nothing, Both, each_shows}
 use Rattle.allocative.specs.Collector.{Kind, OfGraph, begin, no_entries}
 use Rattle.allocative.specs.Exact.{CanTake, MayRefuseProfile}
-use Rattle.allocative.proofs.Exact.{may_refuse}
+use Rattle.allocative.proofs.Exact.{each_one, followed_by-empty, may_refuse}
 use Rattle.allocative.specs.Visits.{Profile, IsProfileOf}
 use Rattle.allocative_json.specs.declared.fault.Fault.{Fault}
 use Rattle.allocative_json.specs.declared.fault.Fault.TheVariants.{Memory, NotJson, NotWhole, TooLarge, Reading, Writing, Open}
@@ -78,38 +78,37 @@ profile_weaker p q o up h = record {
   warned_are = h.warned_are;
 }
 
-followed_by-empty : (f : Forest) → followed_by f Empty ≡ f
-followed_by-empty Empty = refl
-followed_by-empty (Inline k n i a) = ap (Inline k n i) (followed_by-empty a)
-followed_by-empty (Unique k n i a) = ap (Unique k n i) (followed_by-empty a)
-followed_by-empty (First k n j i a) = ap (First k n j i) (followed_by-empty a)
-followed_by-empty (Again k n j a) = ap (Again k n j) (followed_by-empty a)
-
 two_shown : {T : Type 0} (p : T → Showing) (a b : T) (f : Forest) → each_shows p (a ∷ b ∷ []) f → Both (p a) (p b) f
 two_shown p a b f (g, h, here, (k, none, there, empty, e), d) = (g, k, here, there, d ∙ ap (followed_by g) (e ∙ ap (followed_by k) empty ∙ followed_by-empty k))
 
 both_shown : {T : Type 0} (p : T → Showing) (a b : T) (f : Forest) → Both (p a) (p b) f → each_shows p (a ∷ b ∷ []) f
-both_shown p a b f (g, h, here, there, e) = (g, h, here, (h, Empty, there, refl, sym (followed_by-empty h)), e)
+both_shown p a b f (g, h, here, there, e) = (g, h, here, each_one p b h there, e)
 
--- Two roots of exact types: what is profiled of them is what both show, and they are refused where both together may be.
-pub two_profiled : {T : Type 0} (p : T → Showing) (t : T → Bool) (roots : List T) (a b : T) (q r : Showing) (x : Result Profile Refusal)
-    → roots ≡ a ∷ b ∷ [] → p a ≡ q → p b ≡ r → t a ≡ true → t b ≡ true
-    → IfOk x (IsProfileOf (each_shows p roots)) → IfErr x (MayRefuseProfile (list_all t roots) (each_shows p roots))
-    → IfOk x (IsProfileOf (Both q r)) × IfErr x (MayRefuseProfile true (Both q r))
-two_profiled p t roots a b q r x is first last one other made refused =
-    let k : Kind = begin (OfGraph no_entries) in
-    let can : CanTake k (Both (p a) (p b)) → CanTake k (each_shows p (a ∷ b ∷ [])) = λ w. ((w.0.0, both_shown p a b w.0.0 w.0.1, w.0.2), λ f y. w.1 f (two_shown p a b f y)) in
-    rw (← first, ← last) (
-      IfOk-weaker x _ _ (λ o h. profile_weaker (each_shows p (a ∷ b ∷ [])) (Both (p a) (p b)) o (two_shown p a b) h) (rw is at made),
-      IfErr-weaker x _ _ (λ e h _. may_refuse k k can refl e (h refl)) (rw (is, one, other) at refused),
-    )
+-- Roots of exact types: what is profiled of two is what both show, and what is profiled of one is what it shows, followed by
+-- nothing. They are refused where all together may be.
+module _ {T : Type 0} (shows : T → Showing × Bool) (roots : List T) (x : Result Profile Refusal) where
+  abbrev IsProfiledAs : Bool → Showing → Type 0
+  IsProfiledAs is_exact p = record { profile : IfOk x (IsProfileOf p); refused : IfErr x (MayRefuseProfile is_exact p) }
 
--- One root of an exact type: what is profiled of it is what it shows, followed by nothing.
-pub one_profiled : {T : Type 0} (p : T → Showing) (t : T → Bool) (roots : List T) (a : T) (q : Showing) (x : Result Profile Refusal)
-    → roots ≡ a ∷ [] → p a ≡ q → t a ≡ true
-    → IfOk x (IsProfileOf (each_shows p roots)) → IfErr x (MayRefuseProfile (list_all t roots) (each_shows p roots))
-    → IfOk x (IsProfileOf (Both q Nothing)) × IfErr x (MayRefuseProfile true (Both q Nothing))
-one_profiled p t roots a q x is same one made refused = rw (← same) (rw is at made, rw (is, one) at refused)
+  abbrev IsProfiled : Type 0
+  IsProfiled = IsProfiledAs (list_all (λ y. (shows y).1) roots) (each_shows (λ y. (shows y).0) roots)
+
+  pub two_profiled : (a b : T) (q r : Showing) → roots ≡ a ∷ b ∷ [] → shows a ≡ (q, true) → shows b ≡ (r, true) → IsProfiled → IsProfiledAs true (Both q r)
+  two_profiled a b q r is first last h =
+      let p : T → Showing = λ y. (shows y).0 in
+      let k : Kind = begin (OfGraph no_entries) in
+      let can : CanTake k (Both (p a) (p b)) → CanTake k (each_shows p (a ∷ b ∷ [])) = λ w. ((w.0.0, both_shown p a b w.0.0 w.0.1, w.0.2), λ f y. w.1 f (two_shown p a b f y)) in
+      let exact = ap (λ (y : Showing × Bool). y.1) first in
+      let other = ap (λ (y : Showing × Bool). y.1) last in
+      rw (← ap (λ (y : Showing × Bool). y.0) first, ← ap (λ (y : Showing × Bool). y.0) last) (record {
+        profile = IfOk-weaker x _ _ (λ o g. profile_weaker (each_shows p (a ∷ b ∷ [])) (Both (p a) (p b)) o (two_shown p a b) g) (rw is at h.profile);
+        refused = IfErr-weaker x _ _ (λ e g _. may_refuse k k can refl e (g refl)) (rw (is, exact, other) at h.refused);
+      })
+
+  pub one_profiled : (a : T) (q : Showing) → roots ≡ a ∷ [] → shows a ≡ (q, true) → IsProfiled → IsProfiledAs true (Both q Nothing)
+  one_profiled a q is first h =
+      let exact = ap (λ (y : Showing × Bool). y.1) first in
+      rw (← ap (λ (y : Showing × Bool). y.0) first) (record { profile = rw is at h.profile; refused = rw (is, exact) at h.refused })
 
 -- ---- reports of a run
 pub report_for : (texts : List Word) (known : Option (List ℕ)) (input : List ℕ) (asked : Words) (r : Result Report Fault) → AreWords texts → Asks texts asked → IfSome known (λ bytes. input ≡ bytes) → IfOk r (IsRightReport input asked.index asked.exact) → IfOk r (IsReportFor texts known)

@@ -4,13 +4,9 @@ use Rattle.std.specs.Ordering.{eq_by_cmp}
 use Rattle.allocative.specs.Path.{key_cmp}
 use Rattle.allocative.specs.Report.{last_key, without_lines}
 
--- Whether the last key of a line is `unused_capacity`.
-abbrev pub is_unused : List ℕ → Bool
-is_unused l = eq_by_cmp key_cmp (codes "unused_capacity") (last_key l)
-
 -- A line with its line feed, or nothing where its last key is `unused_capacity`.
 abbrev pub kept_line : List ℕ → List ℕ
-kept_line l = cond (is_unused l) [] (l ++ 10 ∷ [])
+kept_line l = cond (eq_by_cmp key_cmp (codes "unused_capacity") (last_key l)) [] (l ++ 10 ∷ [])
 
 -- A text without the lines whose last key is `unused_capacity`.
 abbrev pub kept_lines : List ℕ → List ℕ

@@ -48,15 +48,11 @@ fn profile_by_registry(
     ensures refused { IfErr result (MayRefuseProfile true (roots_show document numbers)) }
 {
     let mut registry = Registry::new(alloc);
-    if registry.register_root(Box::new(alloc, document)?).is_err() {
-        return Err(Refusal::Memory);
-    }
+    registry.add_root(Box::new(alloc, document)?)?;
     let Some(numbers) = numbers else {
         return profile_roots(&registry);
     };
-    if registry.register_root(Box::new(alloc, numbers)?).is_err() {
-        return Err(Refusal::Memory);
-    }
+    registry.add_root(Box::new(alloc, numbers)?)?;
     profile_roots(&registry)
 }
 

@@ -1,10 +1,10 @@
 //! Reads a document and its numbers.
-ghost use Rattle.std.specs.Prelude.{◌≡◌, true, false, OnOk, IfOk, IfErr, MatchResult};
+ghost use Rattle.std.specs.Prelude.{◌≡◌, OnOk, IfOk, IfErr};
 ghost use Rattle.std.specs.Ordering.{int_cmp};
 ghost use Rattle.std.specs.BTreeSet.{IsOrdered};
 ghost use Rattle.serde_json.specs.View.{view, items_view, members_view};
 ghost use Rattle.allocative_json.specs.Numbers.{is_whole, are_whole, have_whole, has_number, items_have, members_have, AddsKeys, IsIndexOf};
-ghost use Rattle.allocative_json.specs.Roots.{IsWholeDocument, AreRoots, RefusesInput};
+ghost use Rattle.allocative_json.specs.Roots.{AreRoots, RefusesInput};
 
 use crate::fault::Fault;
 use serde_json::{Map, Value};
@@ -29,8 +29,7 @@ fn are_whole_items(items: &Vec<Value>) -> bool
 {
     let mut all_whole = true;
     for item in items {
-        let next = is_whole_value(item);
-        all_whole = all_whole & next;
+        all_whole = all_whole & is_whole_value(item);
     }
     all_whole
 }
@@ -41,8 +40,7 @@ fn are_whole_members(members: &Map<String, Value>) -> bool
 {
     let mut all_whole = true;
     for (_key, member) in members.iter() {
-        let next = is_whole_value(member);
-        all_whole = all_whole & next;
+        all_whole = all_whole & is_whole_value(member);
     }
     all_whole
 }
@@ -97,29 +95,6 @@ fn index_of(alloc: Global, document: &Value) -> Result<BTreeSet<i128>, AllocErro
     Ok(set)
 }
 
-// `Ok` exactly where each number is an i64 or a u64, otherwise `Fault::NotWhole`.
-fn check_numbers(document: &Value) -> Result<(), Fault>
-    ensures { MatchResult result
-        (λ _. is_whole (view document.now) ≡ true)
-        (λ f. (f ≡ Fault.NotWhole) × (is_whole (view document.now) ≡ false)) }
-{
-    if is_whole_value(document) {
-        Ok(())
-    } else {
-        Err(Fault::NotWhole)
-    }
-}
-
-// The document of the input, where its numbers are whole.
-fn read_document(alloc: Global, input: &[u8]) -> Result<Value, Fault>
-    ensures ok { IfOk result (λ document. IsWholeDocument input.now (view document)) }
-    ensures err { IfErr result (RefusesInput input.now) }
-{
-    let document = Value::from_slice(alloc, input)?;
-    check_numbers(&document)?;
-    Ok(document)
-}
-
 /// The document that `serde_json` reads from the input and, exactly with `index`, the set of its whole
 /// numbers at any depth.
 ///
@@ -135,7 +110,10 @@ pub fn read_roots(
     ensures ok { IfOk result (λ roots. AreRoots input.now index (view roots.0) roots.1) }
     ensures err { IfErr result (RefusesInput input.now) }
 {
-    let document = read_document(alloc, input)?;
+    let document = Value::from_slice(alloc, input)?;
+    if !is_whole_value(&document) {
+        return Err(Fault::NotWhole);
+    }
     let set = if index {
         Some(index_of(alloc, &document)?)
     } else {

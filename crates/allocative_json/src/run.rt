@@ -1,5 +1,5 @@
 //! The whole program, over any reader and two writers.
-ghost use Rattle.std.specs.Prelude.{◌≡◌, ◌≢◌, ◌⊎◌, OnOk, OnErr, IfOk, IfErr, IfSome, IsOkAnd, string_bytes};
+ghost use Rattle.std.specs.Prelude.{◌≡◌, ◌≢◌, ◌⊎◌, true, OnErr, IfOk, IfErr, IfSome, IsOkAnd, string_bytes};
 ghost use Rattle.std.specs.Io.KnownBytes.{Appends};
 ghost use Rattle.allocative_json.specs.Fault.{status_of};
 ghost use Rattle.allocative_json.specs.Profile.{IsRightReport, RefusesReport};
@@ -36,30 +36,11 @@ fn read_input<R: Read>(alloc: Global, input: &mut R) -> Result<Vec<u8>, Fault>
     Err(Fault::Reading)
 }
 
-// Writes and flushes the whole text.
-fn write_text<W: Write>(output: &mut W, text: &str) -> Result<(), Fault>
-    ensures ok { OnOk result (Appends (W.contents output.old) (W.contents output.new) text.now) }
-    ensures err { IfErr result (λ f. f ≡ Fault.Writing) }
+// Writes and flushes the whole text, and returns whether all of it was written.
+fn write_text<W: Write>(output: &mut W, text: &str) -> bool
+    ensures { result ≡ true → Appends (W.contents output.old) (W.contents output.new) text.now }
 {
-    if output.write_all(text.as_bytes()).is_err() || output.flush().is_err() {
-        return Err(Fault::Writing);
-    }
-    Ok(())
-}
-
-// Writes the profile, and then the warnings. It returns `Fault::Writing` where a write fails.
-fn write_report<W: Write, E: Write>(
-    made: &Report,
-    output: &mut W,
-    errors: &mut E,
-) -> Result<(), Fault>
-    ensures ok { OnOk result
-        (IsWritten (W.contents output.old) (W.contents output.new) (E.contents errors.old) (E.contents errors.new)
-        made.now) }
-    ensures err { IfErr result (λ f. f ≡ Fault.Writing) }
-{
-    write_text(output, made.profile.as_str())?;
-    write_text(errors, made.warnings.as_str())
+    output.write_all(text.as_bytes()).is_ok() && output.flush().is_ok()
 }
 
 // Writes a line after the program's name, and returns whether all of it was written.
@@ -135,10 +116,14 @@ fn finish<W: Write, E: Write>(
     ensures untouched { OnErr made (output.new ≡ output.old) }
 {
     match made {
-        Ok(texts) => match write_report(&texts, output, errors) {
-            Ok(()) => 0,
-            Err(fault) => tell(errors, fault),
-        },
+        Ok(texts) => {
+            if write_text(output, texts.profile.as_str())
+                && write_text(errors, texts.warnings.as_str())
+            {
+                return 0;
+            }
+            tell(errors, Fault::Writing)
+        }
         Err(fault) => tell_of_input(alloc, errors, fault, input),
     }
 }

@@ -1,7 +1,7 @@
 //! The texts that a run writes.
 ghost use Rattle.std.specs.Prelude.{◌≡◌, ◌++◌, OnOk, IfOk, MatchResult, string_bytes};
 ghost use Rattle.allocative.specs.Report.{last_key};
-ghost use Rattle.allocative_json.specs.Lines.{is_unused, kept_line, kept_lines};
+ghost use Rattle.allocative_json.specs.Lines.{kept_line, kept_lines};
 ghost use Rattle.allocative_json.specs.Profile.{AreTexts};
 
 use crate::fault::Fault;
@@ -22,18 +22,11 @@ fn last_key(line: &str) -> &str
     }
 }
 
-// Whether a line is one of unused capacity.
-fn is_unused(line: &str) -> bool
-    ensures { result ≡ is_unused line.now }
-{
-    "unused_capacity" == last_key(line)
-}
-
 // Appends a line, unless it is one of unused capacity.
 fn push_line(line: &str, text: &mut String) -> Result<(), AllocError>
     ensures { OnOk result (string_bytes text.new ≡ string_bytes text.old ++ kept_line line.now) }
 {
-    if !is_unused(line) {
+    if "unused_capacity" != last_key(line) {
         write!(text, "{line}\n")?;
     }
     Ok(())

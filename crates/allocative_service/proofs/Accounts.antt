@@ -1,8 +1,7 @@
 -- The ledger after one of its accounts has changed.
 use Rattle.std.proofs.Common.{◌≡◌, ◌∙◌, ℕ, ◌+◌, false, List, Option, Some, None, refl, sym, ap, subst, nat_cmp, string_bytes, IfNone, IfSome, OnSome, String, unwrap_or, Global}
-use Rattle.allocative_service.proofs.Common.{is_at, Holding, ChangesAccount}
-use Rattle.std.specs.BTreeMap.{BTreeMap, UpdatesBy}
-use Rattle.std.specs.Map.{set_value}
+use Rattle.allocative_service.proofs.Common.{Holding, ChangesAccount}
+use Rattle.std.specs.BTreeMap.{BTreeMap, UpdatesBy, WritesThrough}
 use Rattle.std.proofs.lemmas.Map.Steps.{set_value_same}
 use Rattle.std.specs.Cmp.Lexicographic.{slice_cmp}
 use Rattle.std.specs.Str.{bytes_eq}
@@ -29,9 +28,15 @@ changes tenant now old accounts h = record {
   measure = refl;
 }
 
--- Where the account that `get_mut` lends stays unchanged, so does the ledger.
-pub unchanged : (tenant : List ℕ) (before now : Holding) (old : Ledger) (accounts : BTreeMap (String Global) Holding) → account_of tenant old ≡ Some before → accounts.entries ≡ set_value (is_at (λ k. slice_cmp nat_cmp tenant (string_bytes k))) (accounts_of old) now → now ≡ before → IsUnchanged old (with_accounts old accounts)
-unchanged tenant before now old accounts account is same = (is ∙ set_value_same _ (accounts_of old) now (account ∙ ap Some (sym same)), refl)
+-- Writing through what `get_mut` lends changes the account of the tenant and no other. Where the account stays as it is, so does
+-- the ledger.
+pub written : (tenant : List ℕ) (before now : Holding) (old : Ledger) (accounts : BTreeMap (String Global) Holding) → Some before ≡ account_of tenant old
+    → WritesThrough string_cmp (λ k. slice_cmp nat_cmp tenant (string_bytes k)) old.accounts now accounts
+    → ChangesAccount tenant (Some now) old (with_accounts old accounts) × (now ≡ before → IsUnchanged old (with_accounts old accounts))
+written tenant before now old accounts account w = (
+  changes tenant (Some now) old accounts (w.3 (rw (← account) refl)),
+  λ same. (w.0 ∙ set_value_same _ (accounts_of old) now (sym account ∙ ap Some (sym same)), refl),
+)
 
 -- Releasing an entry takes its bytes off the account of the tenant.
 pub released : (tenant : List ℕ) (number : ℕ) (before now : Holding) (old new : Ledger) (r : Option ℕ) → account_of tenant old ≡ Some before → ChangesAccount tenant (Some now) old new → r ≡ bytes_at number before → now ≡ without number before → sum_of now.entries + unwrap_or r 0 ≡ sum_of before.entries → IfSome r (λ bytes. Releases tenant number bytes old new)
@@ -53,7 +58,8 @@ pub IfNone-weaker : {T P Q : Type 0} (r : Option T) → (P → Q) → IfNone r P
 IfNone-weaker None f h = f h
 IfNone-weaker (Some x) f h = tt
 
--- What holds in any case holds where the result is Some.
-pub closes : {P : Type 0} (r : Option Holding) → P → OnSome r P
-closes None h = tt
-closes (Some now) h = h
+-- Taking an account out of the map changes it and no other.
+pub closes : (tenant : List ℕ) (old : Ledger) (accounts : BTreeMap (String Global) Holding) (r : Option Holding) → UpdatesBy string_cmp (λ k. slice_cmp nat_cmp tenant (string_bytes k)) old.accounts accounts None
+    → OnSome r (ChangesAccount tenant None old (with_accounts old accounts))
+closes tenant old accounts None h = tt
+closes tenant old accounts (Some now) h = changes tenant None old accounts h

@@ -1,6 +1,6 @@
 -- The entries after an insertion.
 use Rattle.std.proofs.Common.{◌≡◌, ℕ, ◌+◌, ◌-◌, ◌<◌, ◌≤◌, Bool, true, false, Option, Some, None, [], ◌∷◌, length, refl, ap, ◌∙◌, subst, arith, take_all}
-use Rattle.allocative_service.proofs.Common.{lookup, lookup_entry, remove_entry, values_of, Forest, Kept, Entries, bytes_of, Bounded, bounded, KeepsRecent, EvictsTo, IsBounded, IsMeasured}
+use Rattle.allocative_service.proofs.Common.{lookup, lookup_entry, remove_entry, values_of, Forest, Kept, Entries, bytes_of, Bounded, bounded, KeepsRecent, IsBounded, IsMeasured}
 use Rattle.std.specs.Option.{option_map, unwrap_or}
 use Rattle.std.proofs.lemmas.List.Elements.{All-cons}
 use Rattle.std.proofs.lemmas.List.Sums.{sum_by-cons}
@@ -8,7 +8,7 @@ use Rattle.std.proofs.lemmas.Map.Entries.{sum_by-remove_entry}
 use Rattle.std.proofs.lemmas.Map.Views.{All-map-remove_entry}
 use Rattle.lru.specs.LruCache.{lru_cache, put_entries}
 use Rattle.allocative_service.specs.Entries.{kept, with_entries, without, stored_key, IsFigure, Inserts}
-use Rattle.allocative_service.proofs.Evicting.{bytes_of-cons, evicted_rest, All-recent}
+use Rattle.allocative_service.proofs.Evicting.{bytes_of-cons, first_stays, All-recent}
 
 module _ {K V : Type 0} where
   -- Nothing is removed where no key passes the test.
@@ -32,23 +32,15 @@ module _ {K V : Type 0} where
 
 module _ {V : Type 0} (size : Option ℕ) (may_show : V → Forest → Type 0) where
   module _ {F K : Type 0} (eq : K → K → Bool) (step : F → K → V → F → Type 0) where
-    -- Putting a value first and then evicting others is an insertion, and the sum of the bytes is that of all entries.
-    pub insertion : (went : F) (key : K) (v : V) (n bytes left : ℕ) (old : Bounded K V) (put now : Entries K V) → IsFigure size may_show old.measure v n → n ≤ old.bound → put ≡ (stored_key eq key old.entries, kept v n) ∷ remove_entry (eq key) old.entries → bytes ≡ bytes_of (remove_entry (eq key) old.entries) → left ≤ old.bound - n → EvictsTo step went bytes (old.bound - n) put now left
-        → (n + left ≡ bytes_of now) × Inserts size may_show eq step went key v old (with_entries old now)
-    insertion went key v n bytes left old put now figure fits is counted within evicted =
+    -- Putting a value first and then evicting others is an insertion.
+    pub insertion : (went : F) (key : K) (v : V) (n : ℕ) (old : Bounded K V) (put now : Entries K V) → IsFigure size may_show old.measure v n → n ≤ old.bound
+        → put ≡ (stored_key eq key old.entries, kept v n) ∷ remove_entry (eq key) old.entries → KeepsRecent step went old.bound put now → bytes_of now ≤ old.bound
+        → Inserts size may_show eq step went key v old (with_entries old now)
+    insertion went key v n old put now figure fits is recent within =
         let k : K × Kept V = (stored_key eq key old.entries, kept v n) in
-        let e = evicted_rest step went bytes (old.bound - n) k (remove_entry (eq key) old.entries) now left counted (subst (λ (l : Entries K V). EvictsTo step went bytes (old.bound - n) l now left) is evicted) in
-        let sum = ap (λ (l : Entries K V). bytes_of l) e.1 ∙ bytes_of-cons k e.0 in (
-          omega (arith, sum, e.2),
-          record {
-            bytes = n;
-            others = e.0;
-            figure = figure;
-            fits = omega (arith, e.2, within, fits);
-            recent = e.3;
-            is = ap (λ (l : Entries K V). with_entries old l) e.1;
-          },
-        )
+        let e = first_stays step went old.bound k (remove_entry (eq key) old.entries) now fits (subst (λ (l : Entries K V). KeepsRecent step went old.bound l now) is recent) in
+        let sum = ap (λ (l : Entries K V). bytes_of l) e.1 ∙ bytes_of-cons k e.0 in
+        record { bytes = n; others = e.0; figure = figure; fits = omega (arith, sum, within); recent = e.2; is = ap (λ (l : Entries K V). with_entries old l) e.1 }
 
     -- After an insertion the cache is still within its bound.
     pub Inserts-bounded : (went : F) (key : K) (v : V) (old new : Bounded K V) → Inserts size may_show eq step went key v old new → IsBounded size may_show old → IsBounded size may_show new
@@ -61,9 +53,9 @@ module _ {V : Type 0} (size : Option ℕ) (may_show : V → Forest → Type 0) w
         })
 
     -- After evictions down to another bound the cache is within that one.
-    pub evicts-bounded : (went : F) (bound left : ℕ) (old : Bounded K V) (now : Entries K V) → left ≡ bytes_of now → left ≤ bound → KeepsRecent step went bound old.entries now → IsBounded size may_show old → IsBounded size may_show (bounded now bound old.measure)
-    evicts-bounded went bound left old now sum within recent h = record {
-      within = omega (arith, sum, within);
+    pub evicts-bounded : (went : F) (bound : ℕ) (old : Bounded K V) (now : Entries K V) → bytes_of now ≤ bound → KeepsRecent step went bound old.entries now → IsBounded size may_show old → IsBounded size may_show (bounded now bound old.measure)
+    evicts-bounded went bound old now within recent h = record {
+      within = within;
       measured = All-recent step went bound (IsMeasured size may_show old.measure) _ _ recent h.measured;
     }
 
@@ -73,3 +65,5 @@ module _ {V : Type 0} (size : Option ℕ) (may_show : V → Forest → Type 0) w
     within = let s = sum_by-remove_entry (λ (k : Kept V). k.bytes) test c.entries in omega (arith, s, h.within);
     measured = All-map-remove_entry test (λ (e : K × Kept V). e.1) (IsMeasured size may_show c.measure) c.entries h.measured;
   }
+
+pub ruleset putting = (bytes_of-remove_entry)

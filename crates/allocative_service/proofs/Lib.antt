@@ -4,6 +4,5 @@ mod Each
 mod Evicting
 mod Inserting
 mod Most
-mod Rejections
 mod Sums
 mod Using

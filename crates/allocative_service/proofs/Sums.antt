@@ -1,5 +1,5 @@
 -- The sum of an account's entries after each change of them.
-use Rattle.std.proofs.Common.{◌≡◌, ℕ, ◌+◌, List, nat_cmp}
+use Rattle.std.proofs.Common.{◌≡◌, ℕ, ◌+◌, ◌≤◌, List, arith, nat_cmp}
 use Rattle.allocative_service.proofs.Common.{is_at, lookup, remove_entry}
 use Rattle.std.specs.BTreeMap.{insert_entry}
 use Rattle.std.specs.Cmp.{nat_cmp_total}
@@ -16,4 +16,8 @@ sum_of-insert_entry number bytes entries sorted = rw option_map_id at (sum_by-in
 pub sum_of-remove_entry : (number : ℕ) (entries : List (ℕ × ℕ)) → sum_of (remove_entry (is_at (nat_cmp number)) entries) + unwrap_or (lookup (is_at (nat_cmp number)) entries) 0 ≡ sum_of entries
 sum_of-remove_entry number entries = rw option_map_id at (sum_by-remove_entry (λ n. n) (is_at (nat_cmp number)) entries)
 
-pub ruleset sums = (sum_of-remove_entry)
+-- The bytes under a number are part of the sum.
+pub had_within : (number : ℕ) (entries : List (ℕ × ℕ)) → unwrap_or (lookup (is_at (nat_cmp number)) entries) 0 ≤ sum_of entries
+had_within number entries = omega (arith, sum_of-remove_entry number entries)
+
+pub ruleset sums = (sum_of-remove_entry, sum_of-insert_entry, had_within)

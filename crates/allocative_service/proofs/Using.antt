@@ -9,7 +9,7 @@ use Rattle.lru.proofs.CallerLemmas.{Contains-lookup_entry}
 use Rattle.lru.proofs.Pairs.{lookup-lookup_entry}
 use Rattle.allocative_service.specs.Entries.{used}
 use Rattle.allocative_service.proofs.Evicting.{bytes_of-cons}
-use Rattle.allocative_service.proofs.Inserting.{bytes_of-remove_entry}
+use Rattle.allocative_service.proofs.Inserting.{bytes_of-remove_entry, none_removed}
 
 module _ {K V : Type 0} (test : K → Bool) (es : Entries K V) where
   -- The bytes of a removed entry and those of the remaining entries are the bytes of all.
@@ -47,3 +47,5 @@ taken {K} {V} (Some e) key v is =
     let first = ap (λ (o : Option (K × V)). (unwrap_or o (e.0, e.1.value)).0) is in
     let second = ap (λ (o : Option (K × V)). (unwrap_or o (e.0, e.1.value)).1) is in
     (e.1, ap (λ (k : K). Some (k, e.1)) (sym first), sym second)
+
+pub ruleset removing = (bytes_of-taken, none_removed)

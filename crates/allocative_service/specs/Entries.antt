@@ -1,13 +1,12 @@
 -- The model of a cache, and what its calls do.
-use Rattle.std.specs.Prelude.{◌≡◌, ℕ, ◌+◌, ◌-◌, ◌<◌, ◌≤◌, Bool, Option, Some, List, [], ◌∷◌, ◌++◌, All, sum_by, option_map, refl, ⊤}
+use Rattle.std.specs.Prelude.{◌≡◌, ℕ, ◌+◌, ◌-◌, ◌<◌, ◌≤◌, Bool, Option, Some, List, [], ◌∷◌, ◌++◌, All, sum_by, option_map, ⊤}
 use Rattle.std.specs.Borrow.{Fml, RattleType, MutBor, follows_so}
-use Rattle.std.specs.Coded.{Coded, code_by, coded×, coded_list, coded_ℕ}
 use Rattle.std.specs.Map.{lookup, lookup_entry, remove_entry, values_of}
 use Rattle.std.specs.Option.{option_map_or}
 use mathlib.Core.Option.{none}
 use Rattle.allocative.specs.Forest.{Forest}
 use Rattle.lru.specs.LruCache.{promoted}
-use Rattle.allocative_service.specs.Measured.{Declares, MayRefuseMeasure, measure_code}
+use Rattle.allocative_service.specs.Measured.{Declares, MayRefuseMeasure}
 use Rattle.allocative_service.specs.declared.cache.Kept.{Kept}
 use Rattle.allocative_service.specs.declared.measure.Measure.{Measure}
 use Rattle.allocative_service.specs.declared.cache.error.Refused.{Refused}
@@ -49,16 +48,6 @@ bounded es n m = record { entries = es; bound = n; measure = m }
 abbrev pub with_entries : {K V : Type 0} → Bounded K V → Entries K V → Bounded K V
 with_entries c es = bounded es c.bound c.measure
 
--- A kept value is encoded as the pair of its fields.
-abbrev pub kept_code : {V : Type 0} → Coded V → Coded (Kept V)
-kept_code {V} v = code_by (V × ℕ) (coded× v coded_ℕ) (λ k. (k.value, k.bytes)) (λ p. kept p.0 p.1) (λ _. refl)
-
--- A cache is encoded as the pair of its fields.
-abbrev pub bounded_code : {K V : Type 0} → Coded K → Coded V → Coded (Bounded K V)
-bounded_code {K} {V} k v =
-    code_by (Entries K V × (ℕ × Measure)) (coded× (coded_list (coded× k (kept_code v))) (coded× coded_ℕ measure_code))
-    (λ c. (c.entries, (c.bound, c.measure))) (λ p. bounded p.0 p.1.0 p.1.1) (λ _. refl)
-
 -- ---- the order
 -- The cache after a use of the key that passes the test: its entry comes first, and the others stay in their order.
 abbrev pub used : {K V : Type 0} → (K → Bool) → Bounded K V → Bounded K V
@@ -92,34 +81,6 @@ pub record KeepsRecent {F K V : Type 0} (step : F → K → V → F → Type 0) 
   pub needed : IsNeeded room after gone
   pub last : F
   pub handed : HandsBack step went gone last
-
--- Evicting more than `room` of so many bytes took these entries, the last one first: before the first of them went, more
--- than `room` were left.
-abbrev pub IsOwed : {K V : Type 0} → ℕ → ℕ → Entries K V → Type 0
-IsOwed bytes room [] = ⊤
-IsOwed bytes room (e ∷ more) = room + bytes_of more < bytes
-
--- The entries after are the most recently used of those before, and `left` is what is left of the bytes without those of
--- the evicted ones. Each of these had to go, and calls with them took the closure to its state now.
-pub record Evicts {F K V : Type 0} (step : F → K → V → F → Type 0) (went : F) (bytes room : ℕ)
-    (before after : Entries K V) (left : ℕ) (now : F) : Type 0 where
-  pub gone : Entries K V
-  pub parts : before ≡ after ++ gone
-  pub left_is : left ≡ bytes - bytes_of gone
-  pub owed : IsOwed bytes room gone
-  pub handed : HandsBack step went gone now
-
--- The entries were evicted so, and the closure is in some state.
-abbrev pub EvictsTo : {F K V : Type 0} → (F → K → V → F → Type 0) → F → ℕ → ℕ → Entries K V → Entries K V → ℕ → Type 0
-EvictsTo {F} step went bytes room before after left = (now : F) × Evicts step went bytes room before after left now
-
--- ---- refusals
--- Why a cache with this bound refuses a value of so many bytes: they exceed the bound, or they are within it and memory
--- runs out.
-abbrev pub RefusesBytes : ℕ → ℕ → CacheError → Type 0
-RefusesBytes bytes bound (TooLarge told most) = (told ≡ bytes) × (most ≡ bound) × (bound < bytes)
-RefusesBytes bytes bound (NotMeasured e) = ⊥
-RefusesBytes bytes bound Memory = bytes ≤ bound
 
 module _ {V : Type 0} (size : Option ℕ) (may_show : V → Forest → Type 0) where
   -- ---- the figures

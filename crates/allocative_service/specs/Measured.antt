@@ -1,6 +1,5 @@
 -- The bytes that are counted of a value.
-use Rattle.std.specs.Prelude.{◌≡◌, ℕ, Bool, Option, zero, suc, refl}
-use Rattle.std.specs.Coded.{Coded, code_by, coded_ℕ}
+use Rattle.std.specs.Prelude.{◌≡◌, ℕ, Bool, Option}
 use Rattle.allocative.specs.Exact.{MayRefuseProfile}
 use Rattle.allocative.specs.Graph.{Graph, total}
 use Rattle.allocative.specs.Refusal.{Refusal}
@@ -23,22 +22,3 @@ Declares Unique size p bytes = IsSizeOfUnique size p bytes
 abbrev pub MayRefuseMeasure : Measure → Bool → Option ℕ → Showing → Refusal → Type 0
 MayRefuseMeasure Shown is_exact size p e = MayRefuseProfile is_exact p e
 MayRefuseMeasure Unique is_exact size p e = MayRefuseSize is_exact size p e
-
--- A measure as a number, for its code.
-abbrev pub of_measure : Measure → ℕ
-of_measure Shown = 0
-of_measure Unique = 1
-
--- The measure of such a number.
-abbrev pub to_measure : ℕ → Measure
-to_measure zero = Shown
-to_measure (suc n) = Unique
-
--- Converting a measure to its number and back returns it.
-pub measure_back : (m : Measure) → to_measure (of_measure m) ≡ m
-measure_back Shown = refl
-measure_back Unique = refl
-
--- The code of a measure.
-abbrev pub measure_code : Coded Measure
-measure_code = code_by ℕ coded_ℕ of_measure to_measure measure_back

@@ -6,14 +6,14 @@ ghost use Rattle.std.specs.Fn.{FnOnceReturnsAtMut};
 ghost use Rattle.std.specs.List.{IsDistinct};
 ghost use Rattle.std.specs.Map.{lookup, lookup_entry, remove_entry, keys_of};
 ghost use Rattle.std.specs.Map.Iter.{ShowsInOrder, deref_pair};
-ghost use Rattle.allocative_service.specs.Entries.{bytes_of, KeepsRecent, EvictsTo, bounded, with_entries, IsBounded, IsFigure, Inserts, Changes, RefusesBytes, RefusesInsert, RefusesChange, stored_key, value_at, used, without, ends_as};
+ghost use Rattle.allocative_service.specs.Entries.{bytes_of, KeepsRecent, bounded, with_entries, IsBounded, IsFigure, Inserts, Changes, RefusesInsert, RefusesChange, stored_key, value_at, used, without, ends_as};
 ghost use Rattle.allocative_service.specs.Measured.{MayRefuseMeasure};
 
 pub mod error;
 
 pub use crate::cache::error::{CacheError, Refused};
 use crate::measure::Measure;
-use allocative::{Allocative, Described, Refusal};
+use allocative::{Allocative, Described};
 use lru::{Iter, LruCache};
 use std::alloc::{AllocError, AllocFailed, Global};
 use std::hash::Hash;
@@ -41,11 +41,9 @@ pub struct BoundedCache<K: Eq + Hash, V: Allocative + Described> {
 
 impl<K: Eq + Hash, V: Allocative + Described> Model for BoundedCache<K, V> {
     ghost use Rattle.std.specs.Prelude.{◌≡◌, ◌-◌, ◌^◌};
-    ghost use Rattle.allocative_service.specs.Entries.{Bounded, bounded, bounded_code, bytes_of, IsBounded};
+    ghost use Rattle.allocative_service.specs.Entries.{Bounded, bounded, bytes_of, IsBounded};
 
     ghost Value = { Bounded K V };
-
-    ghost coded = { bounded_code K.code V.code };
 
     ghost view = { λ c. bounded c.entries.entries c.bound c.measure };
 
@@ -55,6 +53,7 @@ impl<K: Eq + Hash, V: Allocative + Described> Model for BoundedCache<K, V> {
 
 /// Puts the pair first, in place of an entry with an equal key. It returns the old value and its bytes. The other
 /// entries stay: a list is never so long that the capacity would evict one.
+#[tactic(auto, using(crate::proofs::Inserting::putting))]
 fn put<K: Eq + Hash + Drop, V: Drop>(
     entries: &mut LruCache<K, Kept<V>>,
     key: K,
@@ -79,30 +78,30 @@ fn put<K: Eq + Hash + Drop, V: Drop>(
     }
 }
 
-/// Evicts the least recently used entries, until at most `room` of `bytes` bytes are left. It passes each evicted entry
-/// to the closure, and returns what is left of the bytes.
+/// Evicts the least recently used entries, until all have at most `room` bytes. It passes each evicted entry to the
+/// closure, and returns the bytes of those that stay.
 fn evict<K: Eq + Hash, V: Drop, F: FnMut(K, V)>(
     entries: &mut LruCache<K, Kept<V>>,
-    bytes: usize,
+    bytes: u128,
     room: usize,
     mut went: F,
 ) -> usize
     requires callable { F.IsAlwaysCallable went }
-    requires enough { bytes ≤ bytes_of entries.old.entries }
-    ensures evicted { EvictsTo (λ f k v g. F.step f k v tt g) went bytes room entries.old.entries
-        entries.new.entries result }
+    requires bytes { bytes ≡ bytes_of entries.old.entries }
+    ensures recent { KeepsRecent (λ f k v g. F.step f k v tt g) went room entries.old.entries entries.new.entries }
+    ensures bytes { result ≡ bytes_of entries.new.entries }
     ensures fits { result ≤ room }
     ensures capacity { entries.new.cap ≡ entries.old.cap }
 {
     let mut left = bytes;
-    while left > room {
+    while left > room as u128 {
         let Some((key, gone)) = entries.pop_lru() else {
-            return left;
+            return 0;
         };
-        left = left.saturating_sub(gone.bytes);
+        left = left.saturating_sub(gone.bytes as u128);
         went(key, gone.value);
     }
-    left
+    left as usize
 }
 
 impl<K: Eq + Hash + Drop, V: Allocative + Described> BoundedCache<K, V> {
@@ -145,40 +144,8 @@ impl<K: Eq + Hash + Drop, V: Allocative + Described> BoundedCache<K, V> {
         ensures err { OnErr result (self.new ≡ self.old) }
         ensures bounded { IsBounded V.size V.may_show self.new }
     {
-        let measured = self.size_of(&value);
-        self.keep(key, value, measured, went)
-    }
-
-    /// The bytes of a value, as the cache counts them.
-    fn size_of(&self, value: &V) -> Result<usize, Refusal>
-        ensures measured { IfOk result (IsFigure V.size V.may_show self.now.measure value.now) }
-        ensures refused { IfErr result (MayRefuseMeasure self.now.measure V.is_exact V.size (V.may_show value.now)) }
-    {
-        self.measure.size_of(self.alloc, value)
-    }
-
-    /// Inserts the value under the key, given the result of measuring it.
-    fn keep<F: FnMut(K, V)>(
-        &mut self,
-        key: K,
-        value: V,
-        measured: Result<usize, Refusal>,
-        went: F,
-    ) -> Result<Option<V>, Refused<K, V>>
-        requires callable { F.IsAlwaysCallable went }
-        requires measured { IfOk measured (IsFigure V.size V.may_show self.old.measure value) }
-        ensures ok { OnOk result
-            (Inserts V.size V.may_show K.eq (λ f k v g. F.step f k v tt g) went key value self.old self.new) }
-        ensures had { IfOk result (λ had. had ≡ value_at (K.eq key) self.old.entries) }
-        ensures refused { MatchResult measured
-            (λ bytes. IfErr result (λ r. RefusesBytes bytes self.old.bound r.error))
-            (λ e. result ≡ Err (record { error = CacheError.NotMeasured e; key = key; value = value })) }
-        ensures returned { IfErr result (λ r. (r.key ≡ key) × (r.value ≡ value)) }
-        ensures err { OnErr result (self.new ≡ self.old) }
-        ensures bounded { IsBounded V.size V.may_show self.new }
-    {
         let bound = self.bound;
-        let bytes = match measured {
+        let bytes = match self.measure.size_of(self.alloc, &value) {
             Ok(bytes) => bytes,
             Err(refusal) => {
                 let error = CacheError::NotMeasured(refusal);
@@ -191,9 +158,8 @@ impl<K: Eq + Hash + Drop, V: Allocative + Described> BoundedCache<K, V> {
         }
         match put(&mut self.entries, key, Kept { value, bytes }) {
             Ok((had, replaced)) => {
-                let room = bound - bytes;
-                let others = evict(&mut self.entries, self.bytes - replaced, room, went);
-                self.bytes = bytes + others;
+                let all = (self.bytes - replaced) as u128 + bytes as u128;
+                self.bytes = evict(&mut self.entries, all, bound, went);
                 Ok(had)
             }
             Err(AllocFailed { value: (key, kept) }) => {
@@ -205,6 +171,7 @@ impl<K: Eq + Hash + Drop, V: Allocative + Described> BoundedCache<K, V> {
     }
 
     /// Removes the key and returns it with its value. Where there is no such key, it returns None and nothing changes.
+    #[tactic(auto, using(crate::proofs::Using::removing))]
     pub fn remove(&mut self, key: &K) -> Option<(K, V)>
         ensures value { result ≡ option_map (λ e. (e.0, e.1.value)) (lookup_entry (K.eq key.now) self.old.entries) }
         ensures others { self.new ≡ without (K.eq key.now) self.old }
@@ -232,7 +199,7 @@ impl<K: Eq + Hash + Drop, V: Allocative + Described> BoundedCache<K, V> {
         ensures set { self.new ≡ bounded self.new.entries bound self.old.measure }
         ensures bounded { IsBounded V.size V.may_show self.new }
     {
-        self.bytes = evict(&mut self.entries, self.bytes, bound, went);
+        self.bytes = evict(&mut self.entries, self.bytes as u128, bound, went);
         self.bound = bound;
     }
 

@@ -64,6 +64,7 @@ impl Ledger {
     }
 
     /// Removes the account of a tenant and returns it. Where there is none, it returns None and nothing changes.
+    #[tactic(auto, using(crate::proofs::Accounts::closes))]
     pub fn close(&mut self, tenant: &str) -> Option<Account>
         ensures value { result ≡ account_of tenant.now self.old }
         ensures closed { OnSome result (ChangesAccount tenant.now None self.old self.new) }
@@ -131,16 +132,6 @@ impl Ledger {
         ensures unchanged { OnErr result (IsUnchanged self.old self.new) }
     {
         let bytes = self.measure.size_of(self.alloc, value)?;
-        self.enter(tenant, number, bytes)
-    }
-
-    /// Adds an entry for the tenant, under a number that has none.
-    fn enter(&mut self, tenant: &str, number: u64, bytes: usize) -> Result<usize, Rejection>
-        ensures entered { IfOk result (λ total. Enters tenant.now number bytes None total self.old self.new) }
-        ensures rejected { IfErr result
-            (RejectsIn (RejectsNew number bytes) (account_of tenant.now self.old)) }
-        ensures unchanged { OnErr result (IsUnchanged self.old self.new) }
-    {
         let Some(account) = self.accounts.get_mut(tenant) else {
             return Err(Rejection::NoAccount);
         };
@@ -167,17 +158,6 @@ impl Ledger {
         ensures unchanged { OnErr result (IsUnchanged self.old self.new) }
     {
         let bytes = self.measure.size_of(self.alloc, value)?;
-        self.change(tenant, number, bytes)
-    }
-
-    /// Replaces the bytes of the tenant's entry under the number.
-    fn change(&mut self, tenant: &str, number: u64, bytes: usize) -> Result<usize, Rejection>
-        ensures changed { IfOk result
-            (λ total. (had : ℕ) × Enters tenant.now number bytes (Some had) total self.old self.new) }
-        ensures rejected { IfErr result
-            (RejectsIn (RejectsChange number bytes) (account_of tenant.now self.old)) }
-        ensures unchanged { OnErr result (IsUnchanged self.old self.new) }
-    {
         let Some(account) = self.accounts.get_mut(tenant) else {
             return Err(Rejection::NoAccount);
         };

@@ -1,5 +1,5 @@
 -- What a request does to the ledger and to the pages of the service.
-use Rattle.std.specs.Prelude.{◌≡◌, ◌⊎◌, ℕ, ◌-◌, Bool, true, List, [], ◌∷◌, ◌++◌, Option, Some, None, Result, OnOk, IsErr, MatchOption, String, string_bytes, string_eq, codes, decimal, ⊤}
+use Rattle.std.specs.Prelude.{◌≡◌, ◌⊎◌, ℕ, ◌-◌, Bool, true, List, [], ◌∷◌, ◌++◌, Option, Some, None, Result, OnOk, IsErr, MatchOption, MatchResult, String, string_bytes, string_eq, codes, decimal, ⊤}
 use Rattle.std.specs.Global.{Global}
 use Rattle.std.specs.Map.{keys_of, remove_entry}
 use Rattle.std.specs.Option.{option_and_then}
@@ -148,9 +148,10 @@ module _ {A E : Type 0} (result : Result A E) (old new : Pages) where
   abbrev pub ChangesAt : List ℕ → ℕ → (String Global → Type 0) → Type 0
   ChangesAt tenant key P = (IsErr result × (new ≡ old)) ⊎ ((place : String Global) × IsPlace tenant key place × P place)
 
-  -- The page of a document is removed.
+  -- The page of a document is removed. Where an error is returned, the pages are unchanged.
   abbrev pub LosesPage : List ℕ → ℕ → Type 0
-  LosesPage tenant key = ChangesAt tenant key (λ place. new ≡ without (string_eq place) old)
+  LosesPage tenant key = MatchResult result
+      (λ _. (place : String Global) × IsPlace tenant key place × (new ≡ without (string_eq place) old)) (λ _. new ≡ old)
 
   -- The page of a document becomes the most recently used one, or is made and taken.
   abbrev pub UsesPage : List ℕ → ℕ → Type 0

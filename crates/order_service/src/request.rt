@@ -12,41 +12,24 @@ pub enum Draft<'a> {
 /// What a line asks for.
 #[derive(Clone, Copy)]
 pub enum Request<'a> {
-    Open {
-        tenant: &'a str,
-        limit: usize,
-    },
-    Limit {
-        tenant: &'a str,
-        limit: usize,
-    },
-    Close {
-        tenant: &'a str,
-    },
-    Put {
-        tenant: &'a str,
-        key: u64,
-        draft: Draft<'a>,
-    },
-    Get {
-        tenant: &'a str,
-        key: u64,
-    },
-    Drop {
-        tenant: &'a str,
-        key: u64,
-    },
-    Bound {
-        bytes: usize,
-    },
+    /// An account for a tenant, with a limit.
+    Open(&'a str, usize),
+    /// Another limit for a tenant.
+    Limit(&'a str, usize),
+    Close(&'a str),
+    /// A document of a tenant under a key.
+    Put(&'a str, u64, Draft<'a>),
+    Get(&'a str, u64),
+    Drop(&'a str, u64),
+    /// Another bound on the bytes of all pages.
+    Bound(usize),
     Clear,
     Pages,
     Bill,
     Profile,
     Report,
-    Most {
-        count: usize,
-    },
+    /// So many of the paths that grew most.
+    Most(usize),
     Picture,
     Change,
 }
@@ -62,13 +45,9 @@ pub fn read_request(line: &str) -> Option<Request<'_>> {
         "report" => Some(Request::Report),
         "picture" => Some(Request::Picture),
         "change" => Some(Request::Change),
-        "close" => Some(Request::Close { tenant: rest }),
-        "bound" => Some(Request::Bound {
-            bytes: rest.parse::<usize>().ok()?,
-        }),
-        "most" => Some(Request::Most {
-            count: rest.parse::<usize>().ok()?,
-        }),
+        "close" => Some(Request::Close(rest)),
+        "bound" => Some(Request::Bound(rest.parse::<usize>().ok()?)),
+        "most" => Some(Request::Most(rest.parse::<usize>().ok()?)),
         _ => read_of_tenant(word, rest),
     }
 }
@@ -80,15 +59,11 @@ fn read_of_tenant<'a>(word: &str, rest: &'a str) -> Option<Request<'a>> {
     let limit = number.parse::<usize>().ok()?;
     let key = limit as u64;
     match word {
-        "open" => Some(Request::Open { tenant, limit }),
-        "limit" => Some(Request::Limit { tenant, limit }),
-        "get" => Some(Request::Get { tenant, key }),
-        "drop" => Some(Request::Drop { tenant, key }),
-        "put" => Some(Request::Put {
-            tenant,
-            key,
-            draft: read_draft(value)?,
-        }),
+        "open" => Some(Request::Open(tenant, limit)),
+        "limit" => Some(Request::Limit(tenant, limit)),
+        "get" => Some(Request::Get(tenant, key)),
+        "drop" => Some(Request::Drop(tenant, key)),
+        "put" => Some(Request::Put(tenant, key, read_draft(value)?)),
         _ => None,
     }
 }

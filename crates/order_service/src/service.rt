@@ -1,7 +1,8 @@
 //! A service that keeps documents of its tenants, within a limit for each, and says what it holds.
-ghost use Rattle.std.specs.Prelude.{◌≡◌, MatchBool, MatchOption, IfErr, IfOk, OnErr, OnOk, is_some};
+ghost use Rattle.std.specs.Prelude.{◌≡◌, MatchBool, MatchOption, IfErr, IfOk, OnErr, OnOk, is_some, string_eq};
 ghost use Rattle.allocative_service.specs.Accounts.{IsUnchanged, account_of};
-ghost use Rattle.order_service.specs.Answers.{AnswersLedger, AnswersLimit, AnswersOpen, AnswersPages, ClosesAccount, EntersDocument, IsPlace, IsTold, LosesPage, LosesPagesOf, PutsDocument, PutsDraft, PutsPage, RejectsDocument, ReleasesDocument, RenewsPage, SetsBound, TakesPage, UsesPage, entered_bytes};
+ghost use Rattle.allocative_service.specs.Entries.{without};
+ghost use Rattle.order_service.specs.Answers.{AnswersLedger, AnswersLimit, AnswersOpen, AnswersPages, ClosesAccount, EntersDocument, IsPlace, IsTold, LosesPage, LosesPagesOf, PutsDocument, PutsDraft, PutsPage, RejectsDocument, ReleasesDocument, SetsBound, TakesPage, UsesPage, entered_bytes};
 
 use crate::documents::{Held, Note, Order};
 use crate::request::{Draft, Request};
@@ -60,19 +61,19 @@ impl Service {
             ⟦<Note as Allocative>⟧.may_show ⟦<Order as Allocative>⟧.may_show request.now }
     {
         match *request {
-            Request::Open { tenant, limit } => self.open(rt, tenant, limit),
-            Request::Limit { tenant, limit } => self.set_limit(rt, tenant, limit),
-            Request::Close { tenant } => self.close(rt, tenant),
-            Request::Put { tenant, key, draft } => self.put(rt, tenant, key, draft),
-            Request::Get { tenant, key } => self.get(rt, tenant, key),
-            Request::Drop { tenant, key } => self.remove(rt, tenant, key),
-            Request::Bound { bytes } => self.set_bound(rt, bytes),
+            Request::Open(tenant, limit) => self.open(rt, tenant, limit),
+            Request::Limit(tenant, limit) => self.set_limit(rt, tenant, limit),
+            Request::Close(tenant) => self.close(rt, tenant),
+            Request::Put(tenant, key, draft) => self.put(rt, tenant, key, draft),
+            Request::Get(tenant, key) => self.get(rt, tenant, key),
+            Request::Drop(tenant, key) => self.remove(rt, tenant, key),
+            Request::Bound(bytes) => self.set_bound(rt, bytes),
             Request::Clear => Ok(self.pages.clear()),
             Request::Pages => self.list_pages(rt),
             Request::Bill => self.bill(rt),
             Request::Profile => self.profile(rt),
             Request::Report => self.report(rt),
-            Request::Most { count } => self.tell_most(rt, count),
+            Request::Most(count) => self.tell_most(rt, count),
             Request::Picture => self.draw(rt),
             Request::Change => self.draw_change(rt),
         }
@@ -109,6 +110,7 @@ impl Service {
             ⟦<Note as Described>⟧.size ⟦<Order as Described>⟧.size
             ⟦<Note as Allocative>⟧.may_show ⟦<Order as Allocative>⟧.may_show tenant.now key draft.entry }
     {
+        let place = self.place_of(tenant, key)?;
         match draft {
             Draft::Note(text) => {
                 let note = Note::new(self.alloc, tenant, key, text)?;
@@ -117,7 +119,7 @@ impl Service {
                 }
                 self.forget(tenant, key);
                 self.held.notes.push(note)?;
-                self.renew_page(rt, tenant, key)
+                self.renew_page(rt, place, tenant, key)
             }
             Draft::Order(places) => {
                 let order = Order::new(self.alloc, tenant, key, &self.held.catalogue, places)?;
@@ -126,7 +128,7 @@ impl Service {
                 }
                 self.forget(tenant, key);
                 self.held.orders.push(order)?;
-                self.renew_page(rt, tenant, key)
+                self.renew_page(rt, place, tenant, key)
             }
         }
     }
@@ -241,9 +243,16 @@ impl Service {
     {
         let place = self.place_of(tenant, key)?;
         self.pages.promote(&place);
+        self.show_page(rt, place, tenant, key)
+    }
+
+    /// Shows the page that is kept at a place, or makes the page of the document and keeps it there.
+    fn show_page(&mut self, rt: &impl Print, place: String, tenant: &str, key: u64) -> Result<()>
+        ensures ledger { self.new.ledger ≡ self.old.ledger }
+        ensures pages { TakesPage place self.old.pages self.new.pages }
+    {
         if let Some(page) = self.pages.peek(&place) {
-            println!(rt; "{page} (kept)")?;
-            return Ok(());
+            return Ok(println!(rt; "{page} (kept)")?);
         }
         match self.page_of(tenant, key)? {
             Some(page) => {
@@ -295,11 +304,10 @@ impl Service {
     }
 
     /// Replaces the page of a document that has changed, where it is kept, and prints which pages go for it.
-    fn renew_page(&mut self, rt: &impl Print, tenant: &str, key: u64) -> Result<()>
+    fn renew_page(&mut self, rt: &impl Print, place: String, tenant: &str, key: u64) -> Result<()>
         ensures ledger { self.new.ledger ≡ self.old.ledger }
-        ensures pages { RenewsPage result self.old.pages self.new.pages tenant.now key }
+        ensures pages { TakesPage place (without (string_eq place) self.old.pages) self.new.pages }
     {
-        let place = self.place_of(tenant, key)?;
         if self.pages.remove(&place).is_none() {
             return Ok(());
         }

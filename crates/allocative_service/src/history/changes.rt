@@ -1,7 +1,7 @@
 //! The differences between two profiles, path by path.
-ghost use Rattle.std.specs.Prelude.{◌≡◌, ◌+◌, ◌-◌, ◌^◌, ◌≤◌, ◌↔◌, ◌++◌, OnOk, IfOk, IsErrOf, map};
+ghost use Rattle.std.specs.Prelude.{◌≡◌, ◌+◌, ◌-◌, ◌^◌, ◌≤◌, ◌↔◌, IfOk, IsErrOf, map};
 ghost use Rattle.allocative.specs.Graph.{total};
-ghost use Rattle.allocative_service.specs.Changes.{seen, is_kind, growth, changes_of, change_of, HasEach, GrewMost, path_of};
+ghost use Rattle.allocative_service.specs.Changes.{seen, is_kind, growth, changes_of, HasEach, GrewMost};
 
 use allocative::{FlameGraph, Refusal, Row};
 use std::alloc::{AllocError, Global};
@@ -87,34 +87,18 @@ pub fn compare(
     let mut rows = VecDeque::from(both.rows()?);
     let mut changes = Vec::new(alloc);
     while let Some(row) = rows.pop_front() {
-        push_change(earlier, later, row, &mut changes)?;
+        let Row { path, .. } = row;
+        let before = earlier.size_at(path.as_slice());
+        let after = later.size_at(path.as_slice());
+        if before != after {
+            changes.push(Change {
+                path,
+                earlier: before,
+                later: after,
+            })?;
+        }
     }
     Ok(changes)
-}
-
-/// Appends the change of a row's path, where its bytes differ.
-fn push_change(
-    earlier: &FlameGraph,
-    later: &FlameGraph,
-    row: Row,
-    changes: &mut Vec<Change>,
-) -> Result<(), AllocError>
-    ensures { OnOk result (map seen changes.new.items ≡ map seen changes.old.items
-        ++ change_of earlier.now later.now (path_of row)) }
-{
-    let Row { path, .. } = row;
-    let (before, after) = (
-        earlier.size_at(path.as_slice()),
-        later.size_at(path.as_slice()),
-    );
-    if before != after {
-        changes.push(Change {
-            path,
-            earlier: before,
-            later: after,
-        })?;
-    }
-    Ok(())
 }
 
 /// The changes of the paths that grew most, up to a count, the greatest growth first. A path that had no bytes before

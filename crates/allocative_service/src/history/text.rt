@@ -1,6 +1,6 @@
 //! Changes as text.
 ghost use Rattle.std.specs.Prelude.{◌≡◌, ◌++◌, OnOk, IfOk, map, string_bytes};
-ghost use Rattle.allocative_service.specs.Changes.{seen, line_of, heading_of, section_of, AppendsMost, Reports};
+ghost use Rattle.allocative_service.specs.Changes.{seen, line_of, section_of, AppendsMost, Reports};
 
 use crate::history::changes::{Change, Kind, grew_most};
 use allocative::push_path;
@@ -21,18 +21,6 @@ pub fn report(alloc: Global, changes: &[Change]) -> Result<String, AllocError>
     Ok(text)
 }
 
-/// The heading of the changes of a kind.
-fn heading(kind: Kind) -> &'static str
-    ensures { result.now ≡ heading_of kind }
-{
-    match kind {
-        Kind::Grew => "grew\n",
-        Kind::Shrank => "shrank\n",
-        Kind::Came => "came\n",
-        Kind::Went => "went\n",
-    }
-}
-
 /// Appends the line of a change.
 fn push_line(change: &Change, text: &mut String) -> Result<(), AllocError>
     ensures { OnOk result (string_bytes text.new ≡ string_bytes text.old ++ line_of (seen change.now)) }
@@ -49,7 +37,12 @@ fn push_line(change: &Change, text: &mut String) -> Result<(), AllocError>
 fn push_section(kind: Kind, changes: &[Change], text: &mut String) -> Result<(), AllocError>
     ensures { OnOk result (string_bytes text.new ≡ string_bytes text.old ++ section_of kind (map seen changes.now)) }
 {
-    text.push_str(heading(kind))?;
+    text.push_str(match kind {
+        Kind::Grew => "grew\n",
+        Kind::Shrank => "shrank\n",
+        Kind::Came => "came\n",
+        Kind::Went => "went\n",
+    })?;
     for change in changes {
         if change.is(kind) {
             push_line(change, text)?;

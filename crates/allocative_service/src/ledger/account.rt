@@ -111,6 +111,7 @@ impl Account {
     }
 
     /// Stores the bytes under the number, in place of the `had` bytes that it has.
+    #[tactic(auto, using(crate::proofs::Sums::sums))]
     fn put(&mut self, number: u64, had: usize, bytes: usize) -> Result<usize, Rejection>
         requires { had ≡ unwrap_or (bytes_at number self.old) 0 }
         ensures put { IfOk result (λ total. Puts number bytes (bytes_at number self.old) total self.old self.new) }

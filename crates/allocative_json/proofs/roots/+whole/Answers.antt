@@ -5,8 +5,8 @@ use Rattle.allocative_json.proofs.roots.+whole.Goals as goal
 
 pub are_whole_items-loop-item-preserved : goal.are_whole_items-loop-item-preserved
 are_whole_items-loop-item-preserved t c =
-    rw (take_more _ _ c.item-item.result c.loop-item-test.true, ← c.item-item.is, are_whole-snoc, ← c.loop-item.invariant, ← c.is_whole_value-next.ensures) refl
+    rw (take_more _ _ c.item-item.result c.loop-item-test.true, ← c.item-item.is, are_whole-snoc, ← c.loop-item.invariant, ← c.is_whole_value-all_whole.ensures) refl
 
 pub are_whole_members-loop-key-preserved : goal.are_whole_members-loop-key-preserved
 are_whole_members-loop-key-preserved t c =
-    rw (map-append, have_whole-snoc, ← c.loop-key.invariant, ← c.is_whole_value-next.ensures) refl
+    rw (map-append, have_whole-snoc, ← c.loop-key.invariant, ← c.is_whole_value-all_whole.ensures) refl

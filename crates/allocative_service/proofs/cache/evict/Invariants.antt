@@ -1,13 +1,16 @@
 -- What evicting leaves so far, and each round removes an entry.
 use Rattle.std.proofs.Common.{◌≡◌, length}
-use Rattle.allocative_service.proofs.Common.{Evicts}
+use Rattle.allocative_service.proofs.Common.{bytes_of}
+use Rattle.allocative_service.proofs.Evicting.{Evicts}
 use Rattle.allocative_service.proofs.cache.evict.Given as goal
 
 abbrev pub invariant-loop-left : goal.invariant-loop-left
-invariant-loop-left g l =
-    goal.F-IsAlwaysCallable g l.went
-    × Evicts (λ f k v h. goal.F-step g f k v tt h) l.fn.went l.bytes l.room l.initial.entries.entries l.entries.entries l.left l.went
-    × (l.entries.cap ≡ l.initial.entries.cap)
+invariant-loop-left g l = record {
+  callable : goal.F-IsAlwaysCallable g l.went;
+  evicted : Evicts (λ f k v h. goal.F-step g f k v tt h) l.fn.went l.room l.initial.entries.entries l.entries.entries l.went;
+  left : l.left ≡ bytes_of l.entries.entries;
+  capacity : l.entries.cap ≡ l.initial.entries.cap;
+}
 
 abbrev pub decreases-loop-left : goal.decreases-loop-left
 decreases-loop-left g l = length l.entries.entries

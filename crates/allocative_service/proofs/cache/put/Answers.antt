@@ -1,16 +1,10 @@
--- The entries after `put`, and the bytes that were under the key.
-use Rattle.std.proofs.Common.{ap, ◌∙◌, sym, arith}
-use Rattle.allocative_service.proofs.Inserting.{put_entries-unbounded, bytes_of-remove_entry}
+-- The entries after `put`.
+use Rattle.std.proofs.Common.{ap, ◌∙◌, arith}
+use Rattle.allocative_service.proofs.Inserting.{put_entries-unbounded}
 use Rattle.allocative_service.proofs.cache.put.Goals as goal
 
 pub returns-in-Ok-Some-clause-first : goal.returns-in-Ok-Some-clause-first
 returns-in-Ok-Some-clause-first g c = ap (λ m. m.entries) c.in-Ok-Some.ensures.entries ∙ put_entries-unbounded g.K.PartialEq.eq c.args.key c.args.kept c.args.entries.now.entries c.args.entries.now.cap (omega (arith, c.len-count.ensures.fits, c.len-count.ensures.len))
 
-pub returns-in-Ok-Some-clause-bytes : goal.returns-in-Ok-Some-clause-bytes
-returns-in-Ok-Some-clause-bytes g c = bytes_of-remove_entry (g.K.PartialEq.eq c.args.key) c.args.entries.now.entries _ (sym c.in-Ok-Some.field-0-is ∙ c.in-Ok-Some.ensures.old)
-
 pub returns-in-Ok-None-clause-first : goal.returns-in-Ok-None-clause-first
 returns-in-Ok-None-clause-first g c = ap (λ m. m.entries) c.in-Ok-None.ensures.entries ∙ put_entries-unbounded g.K.PartialEq.eq c.args.key c.args.kept c.args.entries.now.entries c.args.entries.now.cap (omega (arith, c.len-count.ensures.fits, c.len-count.ensures.len))
-
-pub returns-in-Ok-None-clause-bytes : goal.returns-in-Ok-None-clause-bytes
-returns-in-Ok-None-clause-bytes g c = bytes_of-remove_entry (g.K.PartialEq.eq c.args.key) c.args.entries.now.entries _ (sym c.in-Ok-None.field-0-is ∙ c.in-Ok-None.ensures.old)

@@ -1,0 +1,18 @@
+-- Putting a value first and then evicting others is an insertion, and keeps the cache within its bound.
+use Rattle.std.proofs.Common.{arith}
+use Rattle.allocative_service.proofs.Common.{bounded}
+use Rattle.allocative_service.proofs.Inserting.{insertion, Inserts-bounded}
+use Rattle.allocative_service.proofs.cache.BoundedCache.insert.Goals as goal
+
+pub returns-in-Ok-put-clause-ok : goal.returns-in-Ok-put-clause-ok
+returns-in-Ok-put-clause-ok g c =
+    let old = bounded c.self.inside.entries.entries c.self.inside.bound c.self.inside.measure in
+    rw (← c.self.view_is) (insertion g.V.Described.size g.V.Allocative.may_show g.K.PartialEq.eq _ _ c.args.key c.args.value c.in-Ok.bytes old _ _ c.in-Ok.ensures.measured (omega arith) c.in-Ok-put.ensures.first c.evict-self-inside.ensures.recent (omega arith))
+
+pub invariant_of-self : goal.invariant_of-self
+invariant_of-self g c =
+    let made = rw (← c.self.view_is) at (returns-in-Ok-put-clause-ok g c) in
+    (omega (arith, c.evict-self-inside.ensures.capacity, c.put.ensures.capacity, c.self.invariant.0), c.evict-self-inside.ensures.bytes, Inserts-bounded g.V.Described.size g.V.Allocative.may_show _ _ _ _ _ _ _ made c.self.invariant.2)
+
+pub returns-in-Ok-put-clause-bounded : goal.returns-in-Ok-put-clause-bounded
+returns-in-Ok-put-clause-bounded g c = (invariant_of-self g c).2
