@@ -1,11 +1,13 @@
 -- Small facts about tests, lists, paths and identities.
 use Rattle.std.proofs.Common.{◌≡◌, Bool, true, false, ◌||◌, IsTrue, inl, inr, List, [], ◌∷◌, ◌++◌, map, refl, sym, ◌∙◌, true≢false, Ordering, Less, Equal, Greater}
 use Rattle.allocative_graph.proofs.Common.{list_any, AllByRecursion, is_eq, ordering_then, nat_list_cmp_total, IsAntisymmetric, nat_cmp-IsAntisymmetric, slice_cmp-IsAntisymmetric, Path, path_cmp, is_same_path, Identity, identity_cmp, is_same_identity, list_any-append}
-use Rattle.std.specs.Cmp.{IsTotalOrder}
+use Rattle.std.specs.Cmp.{IsTotalOrder, Equal-is}
+use Rattle.std.proofs.lemmas.Map.Lookups.{exact_pairs}
 use Rattle.std.specs.Ordering.{nat_cmp}
 use Rattle.std.specs.Cmp.Lexicographic.{lists_total}
 use Rattle.std.proofs.lemmas.Cmp.{nat_cmp_total, on_total, then_total, eq_by_cmp_equiv}
 pub use mathlib.Core.Bool.{or_assoc, or_comm, or-false, and_assoc, and-true}
+pub use Rattle.std.specs.Cmp.{both_ways}
 pub use Rattle.std.proofs.lemmas.Bool.{and_parts, or_cases, or_left, or_right, or_parts, false_from_ne_true}
 
 -- ---- tests
@@ -14,28 +16,17 @@ pub on_test : (P : Bool → Type 0) (t : Bool) → (t ≡ true → P true) → (
 on_test P true f g = f refl
 on_test P false f g = g refl
 
-pub both_ways : (a b : Bool) → (IsTrue a → IsTrue b) → (IsTrue b → IsTrue a) → a ≡ b
-both_ways true b f g = sym (f refl)
-both_ways false true f g = g refl
-both_ways false false f g = refl
-
 pub is_eq-Equal : (r : Ordering) → IsTrue (is_eq r) → r ≡ Equal
-is_eq-Equal Less h = absurd (true≢false (sym h))
-is_eq-Equal Equal h = refl
-is_eq-Equal Greater h = absurd (true≢false (sym h))
+is_eq-Equal r = (Equal-is r).0
 
 -- ---- lists
 pub each-append : {X : Type 0} (P : X → Type 0) (xs ys : List X) → AllByRecursion P xs → AllByRecursion P ys → AllByRecursion P (xs ++ ys)
 each-append P [] ys h g = g
 each-append P (x ∷ xs) ys h g = (h.0, each-append P xs ys h.1 g)
 
-pub each-left : {X : Type 0} (P : X → Type 0) (xs ys : List X) → AllByRecursion P (xs ++ ys) → AllByRecursion P xs
-each-left P [] ys h = tt
-each-left P (x ∷ xs) ys h = (h.0, each-left P xs ys h.1)
-
-pub each-right : {X : Type 0} (P : X → Type 0) (xs ys : List X) → AllByRecursion P (xs ++ ys) → AllByRecursion P ys
-each-right P [] ys h = h
-each-right P (x ∷ xs) ys h = each-right P xs ys h.1
+pub each-parts : {X : Type 0} (P : X → Type 0) (xs ys : List X) → AllByRecursion P (xs ++ ys) → AllByRecursion P xs × AllByRecursion P ys
+each-parts P [] ys h = (tt, h)
+each-parts P (x ∷ xs) ys h = let rest = each-parts P xs ys h.1 in ((h.0, rest.0), rest.1)
 
 pub each-implies : {X : Type 0} (P Q : X → Type 0) → ((x : X) → P x → Q x) → (xs : List X) → AllByRecursion P xs → AllByRecursion Q xs
 each-implies P Q f [] h = tt
@@ -77,15 +68,10 @@ same_path_itself p = (eq_by_cmp_equiv path_total).refl p
 pub identity_total : IsTotalOrder identity_cmp
 identity_total = then_total (on_total (λ (i : Identity). i.maker) nat_cmp_total) (on_total (λ (i : Identity). i.number) nat_cmp_total)
 
-then_equal : (a b : Ordering) → ordering_then a b ≡ Equal → (a ≡ Equal) × (b ≡ Equal)
-then_equal Less b e = absurd (cc)
-then_equal Equal b e = (refl, e)
-then_equal Greater b e = absurd (cc)
-
 pub identity_antisymmetric : IsAntisymmetric identity_cmp
 identity_antisymmetric i j e =
-    let parts = then_equal (nat_cmp i.maker j.maker) (nat_cmp i.number j.number) e in
-    λ k. record { maker = nat_cmp-IsAntisymmetric i.maker j.maker parts.0 k; number = nat_cmp-IsAntisymmetric i.number j.number parts.1 k }
+    let same = exact_pairs nat_cmp nat_cmp nat_cmp-IsAntisymmetric nat_cmp-IsAntisymmetric (i.maker, i.number) (j.maker, j.number) e in
+    λ k. record { maker = (same k).0; number = (same k).1 }
 
 pub same_identity : (i j : Identity) → IsTrue (is_same_identity i j) → i ≡ j
 same_identity i j h = identity_antisymmetric i j (is_eq-Equal _ h)

@@ -1,5 +1,5 @@
 -- The maps of a bag as plain lists, on which texts compute.
-use Rattle.std.proofs.Common.{◌≡◌, ℕ, ◌+◌, unwrap_or, ◌-◌, cond, List, [], ◌∷◌, ◌++◌, map, sum_by, flat_map, refl, ap, sym, ◌∙◌, nat_lt, not, ◌&&◌}
+use Rattle.std.proofs.Common.{◌≡◌, ℕ, ◌+◌, unwrap_or, ◌-◌, cond, List, [], ◌∷◌, ◌++◌, map, sum_by, flat_map, refl, ap, sym, ◌∙◌, nat_lt, not, ◌&&◌, Ordering}
 use Rattle.allocative_graph.proofs.Common.{nil_from_length, keys, entries, from_entries, get-entries, entries-insert, len-entries, put, find, Path, path_cmp, is_one_below, Entry, Bag, Node, Sums, add, add_all, sums_of, together, node_of, Graph, graph, sizes, size_at, sum_of, text, text_of_entries, warnings, is_root}
 use Rattle.std.specs.FinMap.{empty, len-empty}
 use Rattle.allocative_graph.proofs.Basics.{path_total}
@@ -23,8 +23,11 @@ abbrev pub put_all : {X : Type 0} → List (Path × X) → List (Path × X)
 put_all [] = []
 put_all (e ∷ es) = put path_cmp e.0 e.1 (put_all es)
 
+pub no_entries : {K : Type 0} (R : K → K → Ordering) (X : Type 0) → entries (empty {X = X} {R = R}) ≡ []
+no_entries R X = nil_from_length _ (sym (len-entries (empty {X = X} {R = R})) ∙ len-empty R X)
+
 pub entries-empty : {X : Type 0} → entries (empty {X = X} {R = path_cmp}) ≡ []
-entries-empty {X} = nil_from_length _ (sym (len-entries (empty {X = X} {R = path_cmp})) ∙ len-empty path_cmp X)
+entries-empty {X} = no_entries path_cmp X
 
 pub entries-from_entries : {X : Type 0} (es : List (Path × X)) → entries (from_entries {R = path_cmp} es) ≡ put_all es
 entries-from_entries [] = entries-empty

@@ -2,7 +2,7 @@
 use Rattle.std.proofs.Common.{◌≡◌, ℕ, ◌+◌, Bool, true, false, cond, ◌||◌, ◌&&◌, T, IsTrue, ◌⊎◌, inl, inr, List, [], ◌∷◌, ◌++◌, fold, Option, Some, None, is_some, refl, ap, sym, ◌∙◌, arith, add-zero, unwrap_or, sum_by}
 use Rattle.allocative_graph.proofs.Common.{option_map, eq_by_cmp, is_eq, get, entries, get-entries, get-insert, get-from_entries, entries-insert, entries_sorted, contains_key, same_map, find, is_sorted, below_all, first, second, Key, Child, node, IsSumByPath, Path, key_cmp, path_cmp, is_same_path, is_one_below, Forest, all, Bag, is_entered_in, sums_of, Graph, graph, remaining, size_at, total_at, begins, total, sum_of, under, default, IsTree, sum_by-cons, insert}
 use Rattle.allocative_graph.proofs.Basics.{path_total, path_antisymmetric, same_path, each-found, on_test, or_assoc, or_comm, or-false, or_left}
-pub use Rattle.allocative_graph.proofs.Below.{find-below_all, weights-put}
+use Rattle.allocative_graph.proofs.Below.{find-below_all, weights-insert}
 use Rattle.allocative_graph.proofs.Merge.{get-sum_of, get-graph, get-graph-root}
 use Rattle.allocative_graph.proofs.Lookups.{get-sums_of}
 use Rattle.allocative_graph.proofs.Closed.{closed_all, ParentIn, not_root}
@@ -23,9 +23,7 @@ in_both false None n = refl
 in_both false (Some m) n = refl
 
 total_at-add_at : (q : Path) (g : Graph) (e : Path × ℕ) → total_at (add_at g e) q ≡ total_at g q + cond (begins q e.0) e.1 0
-total_at-add_at q g e = ap (sum_by (λ r. cond (begins q r.0) r.1 0)) (entries-insert path_total g e.0 (size_at g e.0 + e.1))
-    ∙ weights-put (λ p n. cond (begins q p) n 0) e.0 (size_at g e.0 + e.1) (cond (begins q e.0) e.1 0) (entries g) (entries_sorted g)
-    (ap (λ o. cond (begins q e.0) (unwrap_or o 0 + e.1) 0) (get-entries g e.0) ∙ in_both (begins q e.0) (find path_cmp e.0 (entries g)) e.1)
+total_at-add_at q g e = weights-insert path_total path_antisymmetric (λ p n. cond (begins q p) n 0) g e.0 _ _ (in_both (begins q e.0) (get g e.0) e.1)
 
 -- The total is the bytes of the root and of all below it.
 pub total-add_at : (g : Graph) (e : Path × ℕ) → total (add_at g e) ≡ total g + e.1
@@ -54,7 +52,7 @@ get-add_list g [] h q = kept (get g q)
 get-add_list g (e ∷ es) h q =
     rw (get-add_list (add_at g e) es (second (below_all path_cmp e.0 es) _ h) q, get-insert path_total g e.0 (size_at g e.0 + e.1) q)
     (on_test (λ t. sizes_together (cond t (Some (size_at g e.0 + e.1)) (get g q)) (find path_cmp q es) ≡ sizes_together (get g q) (cond t (Some e.1) (find path_cmp q es))) (is_same_path q e.0)
-    (λ s. rw (same_path q e.0 s, find-below_all e.0 es (first (below_all path_cmp e.0 es) (is_sorted path_cmp es) h)) (now_there (get g e.0) e.1)) (λ s. refl))
+    (λ s. rw (same_path q e.0 s, find-below_all path_cmp e.0 es (first (below_all path_cmp e.0 es) (is_sorted path_cmp es) h)) (now_there (get g e.0) e.1)) (λ s. refl))
 
 sum_of-list : (g h : Graph) → sum_of g h ≡ add_list g (entries h)
 sum_of-list g h = same_map path_total path_antisymmetric _ _ (λ q. get-sum_of g h q ∙ sym (get-add_list g (entries h) (entries_sorted h) q ∙ ap (sizes_together (get g q)) (sym (get-entries h q))))

@@ -1,6 +1,7 @@
 -- What a bag adds to the sums, path by path, whatever its order.
-use Rattle.std.proofs.Common.{◌≡◌, ℕ, ◌+◌, Bool, false, cond, ◌||◌, [], ◌∷◌, ◌++◌, Option, Some, None, refl, ap, sym, ◌∙◌, IsPermutation, add-zero, zero-add, add_assoc}
-use Rattle.allocative_graph.proofs.Common.{get, get-insert, same_map, Path, path_cmp, is_same_path, Entry, Bag, Node, Sums, bytes_in, is_unique_in, is_entered_in, together, node_of, add, add_all, sums_of, sum_by-cons, sum_by-IsPermutation, list_any-IsPermutation}
+use Rattle.std.proofs.Common.{◌≡◌, ℕ, ◌+◌, Bool, false, cond, ◌||◌, [], ◌∷◌, ◌++◌, Option, Some, None, refl, ap, sym, ◌∙◌, add-zero, zero-add, add_assoc, sum_by, arith, nat_lt}
+use Rattle.allocative_graph.proofs.Common.{get, get-insert, same_map, Path, path_cmp, is_same_path, Entry, Bag, Node, Sums, bytes_in, is_unique_in, is_entered_in, together, node_of, add, add_all, sums_of, sum_by-cons, list_any}
+use Rattle.std.proofs.lemmas.Bool.Decides.{nat_tests}
 use Rattle.std.specs.FinMap.{empty, get-empty}
 use Rattle.allocative_graph.specs.Sums.{is_unique_mark}
 use Rattle.allocative_graph.proofs.Basics.{path_total, path_antisymmetric, same_path, on_test, or_assoc, or-false, or_parts}
@@ -55,12 +56,23 @@ get-sums_of b q = get-add_all empty b q ∙ ap (λ o. merge o (node_in b q)) (ge
 pub same_sums : (s t : Sums) → ((q : Path) → get s q ≡ get t q) → s ≡ t
 same_sums s t is = same_map path_total path_antisymmetric s t is
 
-pub node_in-permutation : (b c : Bag) → IsPermutation b c → (q : Path) → node_in b q ≡ node_in c q
-node_in-permutation b c p q = λ i. cond (list_any-IsPermutation (λ e. is_same_path q e.path) b c p i)
-    (Some (node (sym (sum_by-IsPermutation (λ e. cond (is_same_path q e.path) e.size 0) b c p) i) (list_any-IsPermutation (λ e. cond (is_same_path q e.path) (is_unique_mark e.mark) false) b c p i))) None
+-- ---- bags with the same sums, whatever is added up of their entries
+abbrev pub SameSums : Bag → Bag → Type 0
+SameSums b c = (w : Entry → ℕ) → sum_by w b ≡ sum_by w c
 
-pub add_all-permutation : (s : Sums) (b c : Bag) → IsPermutation b c → add_all s b ≡ add_all s c
-add_all-permutation s b c p = same_sums _ _ (λ q. get-add_all s b q ∙ ap (merge (get s q)) (node_in-permutation b c p q) ∙ sym (get-add_all s c q))
+any_counted : (test : Entry → Bool) (b : Bag) → list_any test b ≡ nat_lt 0 (sum_by (λ e. cond (test e) 1 0) b)
+any_counted test [] = refl
+any_counted test (e ∷ b) = rw (any_counted test b, sum_by-cons (λ e. cond (test e) 1 0) e b) (grind (arith, nat_tests))
+
+any_same : (test : Entry → Bool) (b c : Bag) → SameSums b c → list_any test b ≡ list_any test c
+any_same test b c h = any_counted test b ∙ ap (nat_lt 0) (h (λ e. cond (test e) 1 0)) ∙ sym (any_counted test c)
+
+node_in-same : (b c : Bag) → SameSums b c → (q : Path) → node_in b q ≡ node_in c q
+node_in-same b c h q = λ i. cond (any_same (λ e. is_same_path q e.path) b c h i)
+    (Some (node (h (λ e. cond (is_same_path q e.path) e.size 0) i) (any_same (λ e. cond (is_same_path q e.path) (is_unique_mark e.mark) false) b c h i))) None
+
+pub add_all-same : (s : Sums) (b c : Bag) → SameSums b c → add_all s b ≡ add_all s c
+add_all-same s b c h = same_sums _ _ (λ q. get-add_all s b q ∙ ap (merge (get s q)) (node_in-same b c h q) ∙ sym (get-add_all s c q))
 
 pub add_all-append : (s : Sums) (b c : Bag) → add_all s (b ++ c) ≡ add_all (add_all s b) c
 add_all-append s [] c = refl

@@ -1,13 +1,13 @@
 -- Where no identity is reached by both and the sums can be added, the graphs add up.
 use Rattle.std.proofs.Common.{◌≡◌, ℕ, ◌+◌, ◌-◌, ◌≤◌, Bool, true, false, cond, ◌||◌, IsTrue, ◌⊎◌, List, [], ◌∷◌, ◌++◌, map, Option, Some, None, is_some, refl, ap, sym, ◌∙◌, true≢false, arith, unwrap_or}
-use Rattle.allocative_graph.proofs.Common.{option_map, list_any, get, entries, keys, get-entries, get-from_entries, same_map, find, Key, Path, path_cmp, is_same_path, Identity, Forest, all, shown, followed_by, met_after, is_among, IsWhole, Node, Sums, is_entered_in, add_all, sums_of, below, Graph, graph, sizes, remaining, size_at, sum_of, CanBeAdded, list_any-append}
+use Rattle.allocative_graph.proofs.Common.{option_map, list_any, get, entries, keys, get-entries, get-from_entries, same_map, find, Key, Path, path_cmp, is_same_path, Identity, Forest, all, contents, shown, followed_by, met_after, is_among, IsWhole, Node, Sums, is_entered_in, add_all, sums_of, below, Graph, graph, sizes, remaining, size_at, sum_of, CanBeAdded, list_any-append}
 use Rattle.std.specs.FinMap.{empty, contains_key-keys}
 use Rattle.std.specs.FinSet as set
 use Rattle.allocative_graph.specs.Meaning.{ReachApart}
 use Rattle.allocative_graph.proofs.Basics.{path_total, path_antisymmetric, same_path, on_test, false_from_ne_true}
-use Rattle.allocative_graph.proofs.Reach.{reaches_exactly, contains-insert_all}
-use Rattle.allocative_graph.proofs.Lookups.{merge, get-add_all, get-sums_of, add_all-permutation, add_all-append}
-use Rattle.allocative_graph.proofs.Below.{below-add_all, below-sums_of}
+use Rattle.allocative_graph.proofs.Reach.{reaches_exactly, contains-insert_all, shown_each}
+use Rattle.allocative_graph.proofs.Lookups.{merge, get-add_all, get-sums_of}
+use Rattle.allocative_graph.proofs.Below.{find-keys, below-add_all, below-sums_of}
 use Rattle.allocative_graph.proofs.Closed.{absent_below}
 use Rattle.allocative_graph.proofs.Following.{fits-following, fits_more, added-following}
 
@@ -24,14 +24,8 @@ get-graph s k p = get-from_entries path_total (sizes s) (k ∷ p) ∙ find-mappe
 pub get-graph-root : (s : Sums) → get (graph s) [] ≡ Some 0
 get-graph-root s = get-from_entries path_total (sizes s) []
 
-find-keys : {Y : Type 0} (v : Path → Y) (ks : List Path) (q : Path) → find path_cmp q (map (λ p. (p, v p)) ks) ≡ cond (list_any (is_same_path q) ks) (Some (v q)) None
-find-keys v [] q = refl
-find-keys v (k ∷ ks) q = on_test (λ t. cond t (Some (v k)) (find path_cmp q (map (λ p. (p, v p)) ks)) ≡ cond (t || list_any (is_same_path q) ks) (Some (v q)) None) (is_same_path q k)
-    (λ h. ap (λ p. Some (v p)) (sym (same_path q k h)))
-    (λ h. find-keys v ks q)
-
 pub get-sum_of : (g h : Graph) (q : Path) → get (sum_of g h) q ≡ cond (is_some (get g q) || is_some (get h q)) (Some (size_at g q + size_at h q)) None
-get-sum_of g h q = get-from_entries path_total _ q ∙ find-keys (λ p. size_at g p + size_at h p) (keys g ++ keys h) q
+get-sum_of g h q = get-from_entries path_total _ q ∙ find-keys path_total path_antisymmetric (λ p. size_at g p + size_at h p) (keys g ++ keys h) q
     ∙ ap (λ b. cond b (Some (size_at g q + size_at h q)) None) (list_any-append (is_same_path q) (keys g) (keys h) ∙ (λ i. sym (contains_key-keys g q) i || sym (contains_key-keys h q) i))
 
 -- ---- at one path
@@ -64,9 +58,6 @@ no_node false n e = refl
 absent_sums : (f : Forest) (k : Key) (p : Path) → get (sums_of (all f)) (k ∷ p) ≡ None → below (sums_of (all f)) (k ∷ p) ≡ 0
 absent_sums f k p h = below-sums_of (all f) (k ∷ p) ∙ absent_below f k p (no_node (is_entered_in (all f) (k ∷ p)) _ (sym (get-sums_of (all f) (k ∷ p)) ∙ h))
 
-pub sums_following : (f g : Forest) → sums_of (all (followed_by f g)) ≡ add_all (sums_of (all f)) (all g)
-sums_following f g = add_all-permutation empty _ _ (added-following [] f g) ∙ add_all-append empty (all f) (all g)
-
 pub graphs_add : (f g : Forest) → CanBeAdded (sums_of (all f)) (sums_of (all g)) → sum_of (graph (sums_of (all f))) (graph (sums_of (all g))) ≡ graph (sums_of (all (followed_by f g)))
 graphs_add f g can = same_map path_total path_antisymmetric _ _ each
   where
@@ -78,11 +69,9 @@ graphs_add f g can = same_map path_total path_antisymmetric _ _ each
         let q = k ∷ p in
         let below_both : below s q + below t q ≡ below (add_all s (all g)) q = ap (λ n. below s q + n) (below-sums_of (all g) q) ∙ sym (below-add_all s (all g) q) in
         let node_both : merge (get s q) (get t q) ≡ get (add_all s (all g)) q = ap (merge (get s q)) (get-sums_of (all g) q) ∙ sym (get-add_all s (all g) q) in
-        rw (get-sum_of (graph s) (graph t) q, get-graph s k p, get-graph t k p, ap (λ x. get (graph x) q) (sums_following f g), get-graph (add_all s (all g)) k p)
+        rw (get-sum_of (graph s) (graph t) q, get-graph s k p, get-graph t k p, ap (λ x. get (graph x) q) (added-following empty [] f g), get-graph (add_all s (all g)) k p)
         (at_path (below s q) (below t q) (get s q) (get t q) (absent_sums f k p) (absent_sums g k p) (can q) ∙ (λ i. option_map (rest_of (below_both i)) (node_both i)))
 
 pub whole_following : (f g : Forest) → IsWhole f → IsWhole g → ReachApart f g → IsWhole (followed_by f g)
-whole_following f g v w apart = (fits-following set.empty f g).1 (v, fits_more (λ i. is_among i (shown f)) set.empty (met_after set.empty f) g (contains-insert_all set.empty (shown f)) away w)
-  where
-    away : (i : Identity) → IsTrue (is_among i (shown g)) → is_among i (shown f) ≡ false
-    away i h = false_from_ne_true _ (λ there. apart i ((reaches_exactly f v i).0 there) ((reaches_exactly g w i).0 h))
+whole_following f g v w apart = (fits-following set.empty f g).1 (v, fits_more (λ i. is_among i (shown f)) set.empty (met_after set.empty f) g (contains-insert_all set.empty (shown f))
+    (shown_each (λ i. is_among i (shown f) ≡ false) (contents g) (λ i h. false_from_ne_true _ (λ there. apart i ((reaches_exactly f v i).0 there) ((reaches_exactly g w i).0 h)))) w)

@@ -4,15 +4,12 @@ use Rattle.allocative_graph.proofs.Common.{contains, Key, Path, Identities, Sums
 use Rattle.std.specs.FinSet.{insert}
 use Rattle.allocative_graph.specs.Forest.{entry_of}
 use Rattle.allocative_graph.specs.Collector.{Live, Holding, Kind, OfGraph, OfHeld, plus_live, plus_holding, leave_holding, enter_first, enter_holding, plus, Takes, enter, leave, begin, is_graph, visitors, is_in_unique}
-use Rattle.allocative_graph.specs.Held.{held, inline_bytes, ShowsNoContent}
-use Rattle.allocative_graph.proofs.Lookups.{add_all-permutation, add_all-append}
-use Rattle.allocative_graph.proofs.Following.{added-following, met-following, fits-following}
+use Rattle.allocative_graph.specs.Held.{held, inline_bytes}
+use Rattle.allocative_graph.proofs.Following.{added-following, contents-following, met-following, fits-following}
+use Rattle.allocative_graph.proofs.Basics.{each-append, each-parts}
 
 live-following : (c : Live) (f g : Forest) → plus_live c (followed_by f g) ≡ plus_live (plus_live c f) g
-live-following c f g = λ i. record c {
-  sums = (add_all-permutation c.sums _ _ (added-following c.here f g) ∙ add_all-append c.sums (added c.here f) (added c.here g)) i;
-  met = met-following c.met f g i;
-}
+live-following c f g = λ i. record c { sums = added-following c.sums c.here f g i; met = met-following c.met f g i }
 
 -- What an entry has inside it where none follows it.
 alone : (f : Forest) (c : Live) (s : Sums) (t : Identities) (p : Path) → record c { sums = add_all s (own_behind p f ++ content_entries f); met = insert_all t (shown f) }
@@ -22,25 +19,15 @@ alone f c s t p =
     λ i. record c { sums = add_all s (sym (append-nil (own_behind p f)) i ++ flat_map (λ c. c.1) (same i)); met = insert_all t (map (λ c. c.0) (same i)) }
 
 -- ---- the collector of held bytes
-inline_bytes-following : (f g : Forest) → inline_bytes (followed_by f g) ≡ inline_bytes f + inline_bytes g
-inline_bytes-following Empty g = omega arith
-inline_bytes-following (Inline k n f after) g = omega (arith, inline_bytes-following after g)
-inline_bytes-following (Unique k n f after) g = inline_bytes-following after g
-inline_bytes-following (First k n j f after) g = inline_bytes-following after g
-inline_bytes-following (Again k n j after) g = inline_bytes-following after g
-
-held-following : (f g : Forest) → held (followed_by f g) ≡ held f + held g
-held-following Empty g = omega arith
-held-following (Inline k n f after) g = omega (arith, held-following after g)
-held-following (Unique k n f after) g = omega (arith, held-following after g)
-held-following (First k n j f after) g = held-following after g
-held-following (Again k n j after) g = held-following after g
-
 abbrev held_in : Bool → Forest → ℕ
 held_in u f = held f + cond u (inline_bytes f) 0
 
 held_in-following : (u : Bool) (f g : Forest) → held_in u (followed_by f g) ≡ held_in u f + held_in u g
-held_in-following u f g = grind (arith, held-following f g, inline_bytes-following f g)
+held_in-following u Empty g = grind arith
+held_in-following u (Inline k n f after) g = grind (arith, held_in-following u after g)
+held_in-following u (Unique k n f after) g = grind (arith, held_in-following u after g)
+held_in-following u (First k n j f after) g = held_in-following u after g
+held_in-following u (Again k n j after) g = held_in-following u after g
 
 holding-following : (h : Holding) (f g : Forest) → plus_holding h (followed_by f g) ≡ plus_holding (plus_holding h f) g
 holding-following h f g = λ i. record h { sum = (ap (λ n. h.sum + n) (held_in-following h.is_in_unique f g) ∙ sym (add_assoc h.sum (held_in h.is_in_unique f) (held_in h.is_in_unique g))) i }
@@ -50,13 +37,6 @@ holding-nothing h = λ i. record h { sum = none h.is_in_unique h.sum i }
   where
     none : (u : Bool) (n : ℕ) → n + (0 + cond u 0 0) ≡ n
     none u n = grind arith
-
-no_content-following : (f g : Forest) → ShowsNoContent (followed_by f g) ↔ (ShowsNoContent f × ShowsNoContent g)
-no_content-following Empty g = (λ w. (tt, w), λ w. w.1)
-no_content-following (Inline k n f after) g = let rest = no_content-following after g in (λ w. let x = rest.0 w.1 in ((w.0, x.0), x.1), λ w. (w.0.0, rest.1 (w.0.1, w.1)))
-no_content-following (Unique k n f after) g = let rest = no_content-following after g in (λ w. let x = rest.0 w.1 in ((w.0, x.0), x.1), λ w. (w.0.0, rest.1 (w.0.1, w.1)))
-no_content-following (First k n j f after) g = (λ w. absurd w, λ w. absurd w.0)
-no_content-following (Again k n j after) g = no_content-following after g
 
 -- The forest f is inside an inline entry, and therefore not directly inside a unique one.
 inline_sum : (u : Bool) (s n h : ℕ) → (s + cond u n 0) + (h + 0) ≡ s + ((h + 0) + cond u (n + 0) 0)
@@ -84,7 +64,7 @@ takes_nothing (OfHeld h) = tt
 
 pub takes_following : (c : Kind) (f g : Forest) → Takes c (followed_by f g) ↔ (Takes c f × Takes (plus c f) g)
 takes_following (OfGraph c) f g = fits-following c.met f g
-takes_following (OfHeld h) f g = no_content-following f g
+takes_following (OfHeld h) f g = rw (contents-following f g) (each-parts (λ c. ⊥) (contents f) (contents g), λ w. each-append (λ c. ⊥) (contents f) (contents g) w.0 w.1)
 
 pub takes_both : (c : Kind) (f g : Forest) → Takes c f → Takes (plus c f) g → Takes c (followed_by f g)
 takes_both c f g v w = (takes_following c f g).1 (v, w)
@@ -98,8 +78,8 @@ inside_entry u k n (OfHeld h) f = ap OfHeld (holding-inside u h k n f)
 pub takes_entry : (u : Bool) (k : Key) (n : ℕ) (c : Kind) (f : Forest) → Takes (enter u k n c) f → Takes c (entry_of u k n f)
 takes_entry true k n (OfGraph c) f w = (w, tt)
 takes_entry false k n (OfGraph c) f w = (w, tt)
-takes_entry true k n (OfHeld h) f w = (w, tt)
-takes_entry false k n (OfHeld h) f w = (w, tt)
+takes_entry true k n (OfHeld h) f w = each-append (λ c. ⊥) (contents f) [] w tt
+takes_entry false k n (OfHeld h) f w = each-append (λ c. ⊥) (contents f) [] w tt
 
 -- The content of a shared entry starts at the root.
 pub inside_first : (k : Key) (n : ℕ) (j : Identity) (c : Live) (f : Forest) (outer : Bool) → leave outer (plus (OfGraph (enter_first k n j c)) f) ≡ plus (OfGraph c) (First k n j f Empty)

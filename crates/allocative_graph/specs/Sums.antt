@@ -3,7 +3,7 @@ use Rattle.std.specs.Prelude.{ℕ, ◌+◌, Bool, true, false, cond, ◌||◌, [
 use Rattle.std.specs.List.{list_any}
 use Rattle.std.specs.FinMap.{FinMap, get, insert, entries, empty}
 use Rattle.allocative_graph.specs.Path.{Path, path_cmp, is_same_path, is_one_below}
-use Rattle.allocative_graph.specs.Forest.{Mark, AsInline, AsUnique, AsShared, Entry, Bag}
+use Rattle.allocative_graph.specs.Forest.{Mark, AsUnique, Entry, Bag}
 
 -- What was entered at a path: the bytes of all its entries, and whether one of them is unique.
 pub record Node : Type 0 where
@@ -16,9 +16,8 @@ Sums = FinMap path_cmp Node
 
 -- Whether an entry with this mark is unique.
 abbrev pub is_unique_mark : Mark → Bool
-is_unique_mark AsInline = false
 is_unique_mark AsUnique = true
-is_unique_mark (AsShared i) = false
+is_unique_mark m = false
 
 -- ---- of a bag
 -- The bytes of the entries of b at p.
