@@ -48,10 +48,6 @@ any_left p xs ys h = list_any-append p xs ys ∙ or_left _ (list_any p ys) h
 pub any_right : {X : Type 0} (p : X → Bool) (xs ys : List X) → IsTrue (list_any p ys) → IsTrue (list_any p (xs ++ ys))
 any_right p xs ys h = list_any-append p xs ys ∙ or_right (list_any p xs) _ h
 
-pub each-found : {X : Type 0} (P : X → Type 0) (Q : Type 0) (test : X → Bool) → ((x : X) → P x → IsTrue (test x) → Q) → (xs : List X) → AllByRecursion P xs → IsTrue (list_any test xs) → Q
-each-found P Q test f [] h g = absurd (true≢false (sym g))
-each-found P Q test f (x ∷ xs) h g = or_both (test x) (list_any test xs) (f x h.0) (each-found P Q test f xs h.1) g
-
 -- ---- orders
 pub path_total : IsTotalOrder path_cmp
 path_total = lists_total nat_list_cmp_total

@@ -55,10 +55,7 @@ module _ {K X : Type 0} {R : K → K → Ordering} (total : IsTotalOrder R) (sam
 
 -- The bytes that count of two nodes together are those of both.
 bytes_together : (b : Bool) (o : Option Node) (n : Node) → cond b (together o n).bytes 0 ≡ unwrap_or (option_map (λ m. cond b m.bytes 0) o) 0 + cond b n.bytes 0
-bytes_together true None n = omega arith
-bytes_together true (Some m) n = refl
-bytes_together false None n = refl
-bytes_together false (Some m) n = refl
+bytes_together b o n = grind arith
 
 -- The bytes at the paths that count, after one more entry.
 added_bytes : (counts : Path → Bool) (s : Sums) (e : Entry) → sum_by (λ x. cond (counts x.0) x.1.bytes 0) (entries (add s e)) ≡ sum_by (λ x. cond (counts x.0) x.1.bytes 0) (entries s) + cond (counts e.path) e.size 0

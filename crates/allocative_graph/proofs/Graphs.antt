@@ -1,15 +1,14 @@
 -- Graphs as maps: their sums, their totals, and graphs under a key.
 use Rattle.std.proofs.Common.{◌≡◌, ℕ, ◌+◌, Bool, true, false, cond, ◌||◌, ◌&&◌, T, IsTrue, ◌⊎◌, inl, inr, List, [], ◌∷◌, ◌++◌, fold, Option, Some, None, is_some, refl, ap, sym, ◌∙◌, arith, add-zero, unwrap_or, sum_by}
 use Rattle.allocative_graph.proofs.Common.{option_map, eq_by_cmp, is_eq, get, entries, get-entries, get-insert, get-from_entries, entries-insert, entries_sorted, contains_key, same_map, find, is_sorted, below_all, first, second, Key, Child, node, IsSumByPath, Path, key_cmp, path_cmp, is_same_path, is_one_below, Forest, all, Bag, is_entered_in, sums_of, Graph, graph, remaining, size_at, total_at, begins, total, sum_of, under, default, IsTree, sum_by-cons, insert}
-use Rattle.allocative_graph.proofs.Basics.{path_total, path_antisymmetric, same_path, each-found, on_test, or_assoc, or_comm, or-false, or_left}
+use Rattle.allocative_graph.proofs.Basics.{path_total, path_antisymmetric, same_path, on_test, or_assoc, or_comm, or-false, or_left}
 use Rattle.allocative_graph.proofs.Below.{find-below_all, weights-insert}
 use Rattle.allocative_graph.proofs.Merge.{get-sum_of, get-graph, get-graph-root}
 use Rattle.allocative_graph.proofs.Lookups.{get-sums_of}
-use Rattle.allocative_graph.proofs.Closed.{closed_all, ParentIn, not_root}
+use Rattle.allocative_graph.proofs.Closed.{below_entered, parent_entered}
 use Rattle.allocative_graph.proofs.ChildLookup.{get-root, get-under as get-below, node_of_one, one_sorted}
 use Rattle.allocative_graph.proofs.ChildRows.{weight-one}
 use Rattle.allocative_graph.proofs.NodeSizes.{total-node}
-use Rattle.allocative_graph.proofs.PathOrder.{key_itself}
 
 -- ---- one size more at a path
 abbrev add_at : Graph → Path × ℕ → Graph
@@ -17,10 +16,7 @@ add_at g e = insert g e.0 (size_at g e.0 + e.1)
 
 -- The bytes of a path and of all below it, after one size more.
 in_both : (b : Bool) (o : Option ℕ) (n : ℕ) → cond b (unwrap_or o 0 + n) 0 ≡ unwrap_or (option_map (λ x. cond b x 0) o) 0 + cond b n 0
-in_both true None n = refl
-in_both true (Some m) n = refl
-in_both false None n = refl
-in_both false (Some m) n = refl
+in_both b o n = grind arith
 
 total_at-add_at : (q : Path) (g : Graph) (e : Path × ℕ) → total_at (add_at g e) q ≡ total_at g q + cond (begins q e.0) e.1 0
 total_at-add_at q g e = weights-insert path_total path_antisymmetric (λ p n. cond (begins q p) n 0) g e.0 _ _ (in_both (begins q e.0) (get g e.0) e.1)
@@ -40,12 +36,10 @@ abbrev pub sizes_together : Option ℕ → Option ℕ → Option ℕ
 sizes_together x y = cond (is_some x || is_some y) (Some (unwrap_or x 0 + unwrap_or y 0)) None
 
 now_there : (x : Option ℕ) (n : ℕ) → ◌≡◌ {A = Option ℕ} (Some ((unwrap_or x 0 + n) + 0)) (cond (is_some x || true) (Some (unwrap_or x 0 + n)) None)
-now_there None n = ap Some (add-zero (0 + n))
-now_there (Some m) n = ap Some (add-zero (m + n))
+now_there x n = grind arith
 
 kept : (x : Option ℕ) → x ≡ sizes_together x None
-kept None = refl
-kept (Some m) = ap Some (sym (add-zero m))
+kept x = grind arith
 
 get-add_list : (g : Graph) (es : List (Path × ℕ)) → T (is_sorted path_cmp es) → (q : Path) → get (add_list g es) q ≡ sizes_together (get g q) (find path_cmp q es)
 get-add_list g [] h q = kept (get g q)
@@ -65,13 +59,10 @@ total-sum_of g h = total_at-sum_of g h []
 
 -- ---- the sum of graphs, path by path
 together_size : (x y : Option ℕ) → unwrap_or (sizes_together x y) 0 ≡ unwrap_or x 0 + unwrap_or y 0
-together_size None None = refl
-together_size None (Some n) = refl
-together_size (Some m) y = refl
+together_size x y = grind arith
 
 pub is_some-cond : {X : Type 0} (b : Bool) (x : X) → is_some (cond b (Some x) None) ≡ b
-is_some-cond true x = refl
-is_some-cond false x = refl
+is_some-cond b x = grind arith
 
 pub size_at-sum_of : (g h : Graph) (p : Path) → size_at (sum_of g h) p ≡ size_at g p + size_at h p
 size_at-sum_of g h p = ap (λ o. unwrap_or o 0) (get-sum_of g h p) ∙ together_size (get g p) (get h p)
@@ -84,10 +75,7 @@ pub same_graph : (g h : Graph) → ((p : Path) → size_at g p ≡ size_at h p) 
 same_graph g h sizes paths = same_map path_total path_antisymmetric g h (λ p. same_option (get g p) (get h p) (sizes p) (paths p))
   where
     same_option : (x y : Option ℕ) → unwrap_or x 0 ≡ unwrap_or y 0 → is_some x ≡ is_some y → x ≡ y
-    same_option None None e s = refl
-    same_option None (Some n) e s = absurd (cc)
-    same_option (Some m) None e s = absurd (cc)
-    same_option (Some m) (Some n) e s = ap Some e
+    same_option x y e s = grind arith
 
 -- A graph that has the sums path by path is the sum.
 pub is_sum_of : (g h r : Graph) → IsSumByPath g h r → r ≡ sum_of g h
@@ -135,17 +123,8 @@ module _ (k : Key) (g : Graph) where
   total-under = omega (arith, ap total as_node, total-node 0 (only ∷ []) (one_sorted only), weight-one only)
 
 -- ---- the graph of a showing
-one_below_self : (p : Path) (k : Key) → IsTrue (is_one_below p (p ++ k ∷ []))
-one_below_self [] k = refl
-one_below_self (l ∷ p) k = (λ i. is_eq (key_itself l i) && is_one_below p (p ++ k ∷ [])) ∙ one_below_self p k
-
-parent_entered : (f : Forest) (p : Path) (k : Key) → IsTrue (is_entered_in (all f) (p ++ k ∷ [])) → (p ≡ []) ⊎ IsTrue (is_entered_in (all f) p)
-parent_entered f p k h = each-found (ParentIn (λ p. IsTrue (is_entered_in (all f) p)) []) ((p ≡ []) ⊎ IsTrue (is_entered_in (all f) p)) (λ e. is_same_path (p ++ k ∷ []) e.path)
-    (λ e w s. w p (ap (is_one_below p) (sym (same_path (p ++ k ∷ []) e.path s)) ∙ one_below_self p k)) (all f) (closed_all f) h
-
 is_some-map : {X Y : Type 0} (r : X → Y) (o : Option X) → is_some (option_map r o) ≡ is_some o
-is_some-map r None = refl
-is_some-map r (Some x) = refl
+is_some-map r o = grind arith
 
 in_graph : (b : Bag) (k : Key) (p : Path) → contains_key (graph (sums_of b)) (k ∷ p) ≡ is_entered_in b (k ∷ p)
 in_graph b k p = ap is_some (get-graph (sums_of b) k p) ∙ is_some-map (remaining (sums_of b) (k ∷ p)) (get (sums_of b) (k ∷ p)) ∙ ap is_some (get-sums_of b (k ∷ p)) ∙ is_some-cond (is_entered_in b (k ∷ p)) _
@@ -155,4 +134,4 @@ graph-tree f = record { root = ap is_some (get-graph-root (sums_of (all f))); cl
   where
     closed : (p : Path) (k : Key) → IsTrue (contains_key (graph (sums_of (all f))) (p ++ k ∷ [])) → IsTrue (contains_key (graph (sums_of (all f))) p)
     closed [] k h = ap is_some (get-graph-root (sums_of (all f)))
-    closed (l ∷ p) k h = in_graph (all f) l p ∙ elim (parent_entered f (l ∷ p) k (sym (in_graph (all f) l (p ++ k ∷ [])) ∙ h)) [ inl e ↦ absurd (not_root l p e) | inr e ↦ e ]
+    closed (l ∷ p) k h = in_graph (all f) l p ∙ parent_entered f l p (below_entered (l ∷ p) k (all f) (sym (in_graph (all f) l (p ++ k ∷ [])) ∙ h))

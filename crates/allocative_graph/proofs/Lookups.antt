@@ -19,23 +19,21 @@ bytes-cons e b q = sum_by-cons (λ e. cond (is_same_path q e.path) e.size 0) e b
 
 bytes_none : (b : Bag) (q : Path) → is_entered_in b q ≡ false → bytes_in b q ≡ 0
 bytes_none [] q h = refl
-bytes_none (e ∷ b) q h = let no = or_parts (is_same_path q e.path) _ h in bytes-cons e b q ∙ (λ i. cond (no.0 i) e.size 0 + bytes_none b q no.1 i)
+bytes_none (e ∷ b) q h = grind (arith, bytes_none b q, bytes-cons e b q)
 
 unique_none : (b : Bag) (q : Path) → is_entered_in b q ≡ false → is_unique_in b q ≡ false
 unique_none [] q h = refl
-unique_none (e ∷ b) q h = let no = or_parts (is_same_path q e.path) _ h in (λ i. cond (no.0 i) (is_unique_mark e.mark) false || unique_none b q no.1 i)
+unique_none (e ∷ b) q h = grind (arith, unique_none b q)
 
 abbrev node : ℕ → Bool → Node
 node n u = record { bytes = n; is_unique = u }
 
 -- A node that is there is merged with what the bag has there, also where that is nothing.
 merge_there : (m : Node) (b : Bag) (q : Path) → merge (Some m) (node_in b q) ≡ Some (node (m.bytes + bytes_in b q) (m.is_unique || is_unique_in b q))
-merge_there m b q = on_test (λ t. merge (Some m) (cond t (Some (node (bytes_in b q) (is_unique_in b q))) None) ≡ Some (node (m.bytes + bytes_in b q) (m.is_unique || is_unique_in b q))) (is_entered_in b q) (λ e. refl)
-    (λ e i. Some (node ((sym (add-zero m.bytes) ∙ ap (λ n. m.bytes + n) (sym (bytes_none b q e))) i) ((sym (or-false m.is_unique) ∙ ap (λ u. m.is_unique || u) (sym (unique_none b q e))) i)))
+merge_there m b q = grind (arith, bytes_none b q, unique_none b q)
 
 together_step : (o : Option Node) (n m : ℕ) (u v : Bool) → Some (node ((together o (node n u)).bytes + m) ((together o (node n u)).is_unique || v)) ≡ Some (together o (node (n + m) (u || v)))
-together_step None n m u v = refl
-together_step (Some old) n m u v = λ i. Some (node (add_assoc old.bytes n m i) (or_assoc old.is_unique u v i))
+together_step o n m u v = grind arith
 
 pub get-add : (s : Sums) (e : Entry) (q : Path) → get (add s e) q ≡ cond (is_same_path q e.path) (Some (together (get s e.path) (node_of e))) (get s q)
 get-add s e q = get-insert path_total s e.path _ q
@@ -50,11 +48,10 @@ get-add_all s (e ∷ b) q =
     (λ h. rw (zero-add (bytes_in b q))))
 
 pub get-sums_of : (b : Bag) (q : Path) → get (sums_of b) q ≡ node_in b q
-get-sums_of b q = get-add_all empty b q ∙ ap (λ o. merge o (node_in b q)) (get-empty path_cmp q)
-    ∙ on_test (λ t. merge None (cond t (Some (node (bytes_in b q) (is_unique_in b q))) None) ≡ cond t (Some (node (bytes_in b q) (is_unique_in b q))) None) (is_entered_in b q) (λ e. refl) (λ e. refl)
+get-sums_of b q = get-add_all empty b q ∙ ap (λ o. merge o (node_in b q)) (get-empty path_cmp q) ∙ grind arith
 
 pub same_sums : (s t : Sums) → ((q : Path) → get s q ≡ get t q) → s ≡ t
-same_sums s t is = same_map path_total path_antisymmetric s t is
+same_sums = same_map path_total path_antisymmetric
 
 -- ---- bags with the same sums, whatever is added up of their entries
 abbrev pub SameSums : Bag → Bag → Type 0

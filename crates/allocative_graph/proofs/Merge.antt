@@ -32,28 +32,13 @@ get-sum_of g h q = get-from_entries path_total _ q ∙ find-keys path_total path
 abbrev rest_of : ℕ → Node → ℕ
 rest_of under m = cond m.is_unique m.bytes (m.bytes - under)
 
-abbrev Fit : ℕ → ℕ → Node → Node → Type 0
-Fit a b m n = (m.is_unique ≡ n.is_unique) × (m.is_unique ≡ false → (a ≤ m.bytes) × (b ≤ n.bytes) ⊎ (m.bytes ≤ a) × (n.bytes ≤ b))
-
-two_nodes : (a b m n : ℕ) (u v : Bool) → u ≡ v → (u ≡ false → (a ≤ m) × (b ≤ n) ⊎ (m ≤ a) × (n ≤ b)) → cond u m (m - a) + cond v n (n - b) ≡ cond (u || v) (m + n) ((m + n) - (a + b))
-two_nodes a b m n u v e f = grind arith
-
-one_node : (a b m : ℕ) (u : Bool) → b ≡ 0 → cond u m (m - a) + 0 ≡ cond u m (m - (a + b))
-one_node a b m u e = grind arith
-
-other_node : (a b m : ℕ) (u : Bool) → a ≡ 0 → 0 + cond u m (m - b) ≡ cond u m (m - (a + b))
-other_node a b m u e = grind arith
-
-at_path : (a b : ℕ) (x y : Option Node) → (x ≡ None → a ≡ 0) → (y ≡ None → b ≡ 0) → ((m n : Node) → x ≡ Some m → y ≡ Some n → Fit a b m n)
+at_path : (a b : ℕ) (x y : Option Node) → (x ≡ None → a ≡ 0) → (y ≡ None → b ≡ 0)
+    → ((m n : Node) → x ≡ Some m → y ≡ Some n → (m.is_unique ≡ n.is_unique) × (m.is_unique ≡ false → (a ≤ m.bytes) × (b ≤ n.bytes) ⊎ (m.bytes ≤ a) × (n.bytes ≤ b)))
     → cond (is_some (option_map (rest_of a) x) || is_some (option_map (rest_of b) y)) (Some (unwrap_or (option_map (rest_of a) x) 0 + unwrap_or (option_map (rest_of b) y) 0)) None ≡ option_map (rest_of (a + b)) (merge x y)
-at_path a b None None f g h = refl
-at_path a b None (Some n) f g h = ap Some (other_node a b n.bytes n.is_unique (f refl))
-at_path a b (Some m) None f g h = ap Some (one_node a b m.bytes m.is_unique (g refl))
-at_path a b (Some m) (Some n) f g h = let w = h m n refl refl in ap Some (two_nodes a b m.bytes n.bytes m.is_unique n.is_unique w.0 w.1)
+at_path a b x y f g h = grind (arith, h)
 
 no_node : (t : Bool) (n : Node) → ◌≡◌ {A = Option Node} (cond t (Some n) None) None → t ≡ false
-no_node true n e = absurd (true≢false (ap is_some e))
-no_node false n e = refl
+no_node t n e = grind arith
 
 absent_sums : (f : Forest) (k : Key) (p : Path) → get (sums_of (all f)) (k ∷ p) ≡ None → below (sums_of (all f)) (k ∷ p) ≡ 0
 absent_sums f k p h = below-sums_of (all f) (k ∷ p) ∙ absent_below f k p (no_node (is_entered_in (all f) (k ∷ p)) _ (sym (get-sums_of (all f) (k ∷ p)) ∙ h))

@@ -37,8 +37,7 @@ absent : (i : Identity) (is : List Identity) → AllByRecursion (λ j. is_same_i
 absent i is h = list_any_none (is_same_identity i) is (All-from_recursion _ is h)
 
 cond_agree : {X : Type 0} (b : Bool) (x y : X) → (IsTrue b → x ≡ y) → cond b (Some x) None ≡ cond b (Some y) None
-cond_agree true x y h = ap Some (h refl)
-cond_agree false x y h = refl
+cond_agree b x y h = grind arith
 
 module _ (v : Identity → ℕ) where
   abbrev Listed : List Identity → FinMap identity_cmp ℕ

@@ -3,7 +3,7 @@ use Rattle.std.proofs.Common.{◌≡◌, ◌↔◌, ◌≤◌, suc, ℕ, ◌+◌
 use Rattle.allocative_graph.proofs.Common.{contains, Key, Path, Identities, Sums, content_entries, shown, Identity, Forest, Empty, Inline, Unique, First, Again, AsInline, AsUnique, AsShared, own_behind, contents, followed_by, insert_all, add, add_all, added}
 use Rattle.std.specs.FinSet.{insert}
 use Rattle.allocative_graph.specs.Forest.{entry_of}
-use Rattle.allocative_graph.specs.Collector.{Live, Holding, Kind, OfGraph, OfHeld, plus_live, plus_holding, leave_holding, enter_first, enter_holding, plus, Takes, enter, leave, begin, is_graph, visitors, is_in_unique}
+use Rattle.allocative_graph.specs.Collector.{Live, Holding, Kind, OfGraph, OfHeld, plus_live, plus_holding, leave_holding, enter_first, enter_holding, held_bytes, plus, Takes, enter, leave, begin, is_graph, visitors, is_in_unique}
 use Rattle.allocative_graph.specs.Held.{held, inline_bytes}
 use Rattle.allocative_graph.proofs.Following.{added-following, contents-following, met-following, fits-following}
 use Rattle.allocative_graph.proofs.Basics.{each-append, each-parts}
@@ -38,16 +38,13 @@ holding-nothing h = λ i. record h { sum = none h.is_in_unique h.sum i }
     none : (u : Bool) (n : ℕ) → n + (0 + cond u 0 0) ≡ n
     none u n = grind arith
 
--- The forest f is inside an inline entry, and therefore not directly inside a unique one.
-inline_sum : (u : Bool) (s n h : ℕ) → (s + cond u n 0) + (h + 0) ≡ s + ((h + 0) + cond u (n + 0) 0)
-inline_sum u s n h = grind arith
-
-unique_sum : (u : Bool) (s h b : ℕ) → (s + cond u 0 0) + (h + b) ≡ s + ((b + h + 0) + cond u 0 0)
-unique_sum u s h b = grind arith
+-- What an entry adds, and what is inside it, is what the entry with all inside it adds.
+inside_sum : (is_in_unique is_unique : Bool) (s n h b : ℕ) → (s + held_bytes is_in_unique is_unique n) + (h + cond is_unique b 0) ≡ s + (cond is_unique (b + h + 0) (h + 0) + cond is_in_unique (cond is_unique 0 (n + 0)) 0)
+inside_sum v u s n h b = grind arith
 
 holding-inside : (u : Bool) (h : Holding) (k : Key) (n : ℕ) (f : Forest) → leave_holding h.is_in_unique (plus_holding (enter_holding u n h) f) ≡ plus_holding h (entry_of u k n f)
-holding-inside true h k n f = λ i. record h { sum = unique_sum h.is_in_unique h.sum (held f) (inline_bytes f) i }
-holding-inside false h k n f = λ i. record h { sum = inline_sum h.is_in_unique h.sum n (held f) i }
+holding-inside true h k n f = λ i. record h { sum = inside_sum h.is_in_unique true h.sum n (held f) (inline_bytes f) i }
+holding-inside false h k n f = λ i. record h { sum = inside_sum h.is_in_unique false h.sum n (held f) (inline_bytes f) i }
 
 -- ---- either
 pub plus-nothing : (c : Kind) → plus c Empty ≡ c
