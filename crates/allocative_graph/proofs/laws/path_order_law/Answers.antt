@@ -3,4 +3,4 @@ use Rattle.allocative_graph.proofs.PathOrder.{path_order, key_order}
 use Rattle.allocative_graph.proofs.laws.path_order_law.Goals as goal
 
 pub returns : goal.returns
-returns c p q k l = record { paths = path_order p q; keys = key_order k l }
+returns c = record { paths = path_order; keys = key_order }
