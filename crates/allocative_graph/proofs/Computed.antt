@@ -12,12 +12,10 @@ abbrev pub nodes_add_all : List (Path × Node) → Bag → List (Path × Node)
 nodes_add_all es [] = es
 nodes_add_all es (e ∷ b) = nodes_add_all (nodes_add es e) b
 
-pub entries-add : (s : Sums) (e : Entry) → entries (add s e) ≡ nodes_add (entries s) e
-entries-add s e = entries-insert path_total s e.path _ ∙ ap (λ o. put path_cmp e.path (together o (node_of e)) (entries s)) (get-entries s e.path)
-
-pub entries-add_all : (s : Sums) (b : Bag) → entries (add_all s b) ≡ nodes_add_all (entries s) b
+entries-add_all : (s : Sums) (b : Bag) → entries (add_all s b) ≡ nodes_add_all (entries s) b
 entries-add_all s [] = refl
-entries-add_all s (e ∷ b) = entries-add_all (add s e) b ∙ ap (λ es. nodes_add_all es b) (entries-add s e)
+entries-add_all s (e ∷ b) = entries-add_all (add s e) b
+    ∙ ap (λ es. nodes_add_all es b) (entries-insert path_total s e.path _ ∙ ap (λ o. put path_cmp e.path (together o (node_of e)) (entries s)) (get-entries s e.path))
 
 abbrev pub put_all : {X : Type 0} → List (Path × X) → List (Path × X)
 put_all [] = []
@@ -58,12 +56,8 @@ warnings-computed b = ap warnings_list (entries-sums_of b)
 abbrev pub added_list : List (Path × ℕ) → List (Path × ℕ) → List (Path × ℕ)
 added_list es fs = put_all (map (λ p. (p, unwrap_or (find path_cmp p es) 0 + unwrap_or (find path_cmp p fs) 0)) (map (λ e. e.0) es ++ map (λ e. e.0) fs))
 
-sum_listed : (g h : Graph) → (ps : List Path) → map {B = Path × ℕ} (λ p. (p, size_at g p + size_at h p)) ps ≡ map (λ p. (p, unwrap_or (find path_cmp p (entries g)) 0 + unwrap_or (find path_cmp p (entries h)) 0)) ps
-sum_listed g h [] = refl
-sum_listed g h (p ∷ ps) = λ i. (p, unwrap_or (get-entries g p i) 0 + unwrap_or (get-entries h p i) 0) ∷ sum_listed g h ps i
-
-pub entries-sum_of : (g h : Graph) → entries (sum_of g h) ≡ added_list (entries g) (entries h)
-entries-sum_of g h = entries-from_entries _ ∙ ap put_all (sum_listed g h (keys g ++ keys h))
+entries-sum_of : (g h : Graph) → entries (sum_of g h) ≡ added_list (entries g) (entries h)
+entries-sum_of g h = entries-from_entries _ ∙ (λ i. put_all (map (λ p. (p, unwrap_or (get-entries g p i) 0 + unwrap_or (get-entries h p i) 0)) (keys g ++ keys h)))
 
 pub text_added : (b c : Bag) → text (sum_of (graph (sums_of b)) (graph (sums_of c))) ≡ text_of_entries (added_list (sizes_list (nodes_of b)) (sizes_list (nodes_of c)))
 text_added b c = ap text_of_entries (entries-sum_of (graph (sums_of b)) (graph (sums_of c)) ∙ (λ i. added_list ((entries-from_entries (sizes (sums_of b)) ∙ ap sizes_list (entries-sums_of b)) i) ((entries-from_entries (sizes (sums_of c)) ∙ ap sizes_list (entries-sums_of c)) i)))

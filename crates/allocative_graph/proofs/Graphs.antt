@@ -58,24 +58,18 @@ pub total-sum_of : (g h : Graph) → total (sum_of g h) ≡ total g + total h
 total-sum_of g h = total_at-sum_of g h []
 
 -- ---- the sum of graphs, path by path
-together_size : (x y : Option ℕ) → unwrap_or (sizes_together x y) 0 ≡ unwrap_or x 0 + unwrap_or y 0
-together_size x y = grind arith
-
 pub is_some-cond : {X : Type 0} (b : Bool) (x : X) → is_some (cond b (Some x) None) ≡ b
 is_some-cond b x = grind arith
 
 pub size_at-sum_of : (g h : Graph) (p : Path) → size_at (sum_of g h) p ≡ size_at g p + size_at h p
-size_at-sum_of g h p = ap (λ o. unwrap_or o 0) (get-sum_of g h p) ∙ together_size (get g p) (get h p)
+size_at-sum_of g h p = rw (get-sum_of g h p) (grind arith)
 
 pub has-sum_of : (g h : Graph) (p : Path) → contains_key (sum_of g h) p ≡ (contains_key g p || contains_key h p)
 has-sum_of g h p = ap is_some (get-sum_of g h p) ∙ is_some-cond (contains_key g p || contains_key h p) _
 
 -- Graphs with the same sizes and the same paths are one.
 pub same_graph : (g h : Graph) → ((p : Path) → size_at g p ≡ size_at h p) → ((p : Path) → contains_key g p ≡ contains_key h p) → g ≡ h
-same_graph g h sizes paths = same_map path_total path_antisymmetric g h (λ p. same_option (get g p) (get h p) (sizes p) (paths p))
-  where
-    same_option : (x y : Option ℕ) → unwrap_or x 0 ≡ unwrap_or y 0 → is_some x ≡ is_some y → x ≡ y
-    same_option x y e s = grind arith
+same_graph g h sizes paths = same_map path_total path_antisymmetric g h (λ p. grind (arith, sizes p, paths p))
 
 -- A graph that has the sums path by path is the sum.
 pub is_sum_of : (g h r : Graph) → IsSumByPath g h r → r ≡ sum_of g h
@@ -94,15 +88,10 @@ pub get-default : (q : Path) → get default q ≡ cond (is_same_path q []) (Som
 get-default q = get-from_entries path_total (([], 0) ∷ []) q
 
 pub size_at-default : (q : Path) → size_at default q ≡ 0
-size_at-default [] = ap (λ o. unwrap_or o 0) (get-default [])
-size_at-default (k ∷ q) = ap (λ o. unwrap_or o 0) (get-default (k ∷ q))
+size_at-default q = grind (arith, get-default q)
 
 pub sum_of-default : (g : Graph) → IsTree g → sum_of g default ≡ g
-sum_of-default g t = sym (is_sum_of g default g (λ p. (omega (arith, size_at-default p), paths p)))
-  where
-    paths : (p : Path) → contains_key g p ≡ (contains_key g p || contains_key default p)
-    paths [] = t.root ∙ sym (or_left _ _ t.root)
-    paths (k ∷ p) = sym (or-false _) ∙ ap (λ o. contains_key g (k ∷ p) || is_some o) (sym (get-default (k ∷ p)))
+sum_of-default g t = sym (is_sum_of g default g (λ p. (omega (arith, size_at-default p), grind (arith, get-default p, same_path p [], t.root))))
 
 -- ---- put under a key
 -- A graph under a key is a node with one child.
@@ -123,11 +112,8 @@ module _ (k : Key) (g : Graph) where
   total-under = omega (arith, ap total as_node, total-node 0 (only ∷ []) (one_sorted only), weight-one only)
 
 -- ---- the graph of a showing
-is_some-map : {X Y : Type 0} (r : X → Y) (o : Option X) → is_some (option_map r o) ≡ is_some o
-is_some-map r o = grind arith
-
 in_graph : (b : Bag) (k : Key) (p : Path) → contains_key (graph (sums_of b)) (k ∷ p) ≡ is_entered_in b (k ∷ p)
-in_graph b k p = ap is_some (get-graph (sums_of b) k p) ∙ is_some-map (remaining (sums_of b) (k ∷ p)) (get (sums_of b) (k ∷ p)) ∙ ap is_some (get-sums_of b (k ∷ p)) ∙ is_some-cond (is_entered_in b (k ∷ p)) _
+in_graph b k p = rw (get-graph (sums_of b) k p, get-sums_of b (k ∷ p)) (grind arith)
 
 pub graph-tree : (f : Forest) → IsTree (graph (sums_of (all f)))
 graph-tree f = record { root = ap is_some (get-graph-root (sums_of (all f))); closed = closed }
