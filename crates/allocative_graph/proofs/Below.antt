@@ -53,13 +53,9 @@ module _ {K X : Type 0} {R : K → K → Ordering} (total : IsTotalOrder R) (sam
     pub weights-insert : (m : FinMap R X) (k : K) (v : X) (d : ℕ) → Changes k v d (get m k) → sum_by weigh (entries (insert m k v)) ≡ sum_by weigh (entries m) + d
     weights-insert m k v d e = ap (sum_by weigh) (entries-insert total m k v) ∙ weights-put k v d (entries m) (entries_sorted m) (subst (Changes k v d) (get-entries m k) e)
 
--- The bytes that count of two nodes together are those of both.
-bytes_together : (b : Bool) (o : Option Node) (n : Node) → cond b (together o n).bytes 0 ≡ unwrap_or (option_map (λ m. cond b m.bytes 0) o) 0 + cond b n.bytes 0
-bytes_together b o n = grind arith
-
 -- The bytes at the paths that count, after one more entry.
 added_bytes : (counts : Path → Bool) (s : Sums) (e : Entry) → sum_by (λ x. cond (counts x.0) x.1.bytes 0) (entries (add s e)) ≡ sum_by (λ x. cond (counts x.0) x.1.bytes 0) (entries s) + cond (counts e.path) e.size 0
-added_bytes counts s e = weights-insert path_total path_antisymmetric (λ p n. cond (counts p) n.bytes 0) s e.path _ _ (bytes_together (counts e.path) (get s e.path) (node_of e))
+added_bytes counts s e = weights-insert path_total path_antisymmetric (λ p n. cond (counts p) n.bytes 0) s e.path (together (get s e.path) (node_of e)) (cond (counts e.path) e.size 0) (grind arith)
 
 pub below-add : (s : Sums) (e : Entry) (p : Path) → below (add s e) p ≡ below s p + cond (is_one_below p e.path) e.size 0
 below-add s e p = added_bytes (is_one_below p) s e

@@ -14,12 +14,8 @@ use Rattle.allocative_graph.proofs.NodeSizes.{total-node}
 abbrev add_at : Graph → Path × ℕ → Graph
 add_at g e = insert g e.0 (size_at g e.0 + e.1)
 
--- The bytes of a path and of all below it, after one size more.
-in_both : (b : Bool) (o : Option ℕ) (n : ℕ) → cond b (unwrap_or o 0 + n) 0 ≡ unwrap_or (option_map (λ x. cond b x 0) o) 0 + cond b n 0
-in_both b o n = grind arith
-
 total_at-add_at : (q : Path) (g : Graph) (e : Path × ℕ) → total_at (add_at g e) q ≡ total_at g q + cond (begins q e.0) e.1 0
-total_at-add_at q g e = weights-insert path_total path_antisymmetric (λ p n. cond (begins q p) n 0) g e.0 _ _ (in_both (begins q e.0) (get g e.0) e.1)
+total_at-add_at q g e = weights-insert path_total path_antisymmetric (λ p n. cond (begins q p) n 0) g e.0 (size_at g e.0 + e.1) (cond (begins q e.0) e.1 0) (grind arith)
 
 -- The total is the bytes of the root and of all below it.
 pub total-add_at : (g : Graph) (e : Path × ℕ) → total (add_at g e) ≡ total g + e.1
@@ -79,10 +75,8 @@ pub sum_of-commutes : (g h : Graph) → sum_of g h ≡ sum_of h g
 sum_of-commutes g h = is_sum_of h g (sum_of g h) (λ p. (omega (arith, size_at-sum_of g h p), has-sum_of g h p ∙ or_comm (contains_key g p) (contains_key h p)))
 
 pub sum_of-associates : (g h k : Graph) → sum_of (sum_of g h) k ≡ sum_of g (sum_of h k)
-sum_of-associates g h k = is_sum_of g (sum_of h k) _ (λ p. (
-  omega (arith, size_at-sum_of (sum_of g h) k p, size_at-sum_of g h p, size_at-sum_of h k p),
-  has-sum_of (sum_of g h) k p ∙ ap (λ b. b || contains_key k p) (has-sum_of g h p) ∙ or_assoc (contains_key g p) _ _ ∙ ap (λ b. contains_key g p || b) (sym (has-sum_of h k p)),
-))
+sum_of-associates g h k = is_sum_of g (sum_of h k) _
+    (λ p. (omega (arith, size_at-sum_of (sum_of g h) k p, size_at-sum_of g h p, size_at-sum_of h k p), grind (arith, has-sum_of (sum_of g h) k p, has-sum_of g h p, has-sum_of h k p)))
 
 pub get-default : (q : Path) → get default q ≡ cond (is_same_path q []) (Some 0) None
 get-default q = get-from_entries path_total (([], 0) ∷ []) q

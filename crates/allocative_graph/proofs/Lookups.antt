@@ -1,5 +1,5 @@
 -- What a bag adds to the sums, path by path, whatever its order.
-use Rattle.std.proofs.Common.{◌≡◌, ℕ, ◌+◌, Bool, false, cond, ◌||◌, [], ◌∷◌, ◌++◌, Option, Some, None, refl, ap, sym, ◌∙◌, add-zero, zero-add, add_assoc, sum_by, arith, nat_lt}
+use Rattle.std.proofs.Common.{◌≡◌, ℕ, ◌+◌, Bool, true, false, cond, ◌||◌, [], ◌∷◌, ◌++◌, Option, Some, None, refl, ap, sym, ◌∙◌, add-zero, zero-add, add_assoc, sum_by, arith, nat_lt}
 use Rattle.allocative_graph.proofs.Common.{get, get-insert, same_map, Path, path_cmp, is_same_path, Entry, Bag, Node, Sums, bytes_in, is_unique_in, is_entered_in, together, node_of, add, add_all, sums_of, sum_by-cons, list_any}
 use Rattle.std.proofs.lemmas.Bool.Decides.{nat_tests}
 use Rattle.std.specs.FinMap.{empty, get-empty}
@@ -28,24 +28,18 @@ unique_none (e ∷ b) q h = grind (arith, unique_none b q)
 abbrev node : ℕ → Bool → Node
 node n u = record { bytes = n; is_unique = u }
 
--- A node that is there is merged with what the bag has there, also where that is nothing.
-merge_there : (m : Node) (b : Bag) (q : Path) → merge (Some m) (node_in b q) ≡ Some (node (m.bytes + bytes_in b q) (m.is_unique || is_unique_in b q))
-merge_there m b q = grind (arith, bytes_none b q, unique_none b q)
-
-together_step : (o : Option Node) (n m : ℕ) (u v : Bool) → Some (node ((together o (node n u)).bytes + m) ((together o (node n u)).is_unique || v)) ≡ Some (together o (node (n + m) (u || v)))
-together_step o n m u v = grind arith
+-- An entry of n bytes at the path where t holds, before a bag with the node m and v there.
+merge_step : (t : Bool) (x y : Option Node) (n : ℕ) (u is_there : Bool) (m : ℕ) (v : Bool) → (t ≡ true → x ≡ y) → (is_there ≡ false → m ≡ 0) → (is_there ≡ false → v ≡ false)
+    → merge (cond t (Some (together x (node n u))) y) (cond is_there (Some (node m v)) None) ≡ merge y (cond (t || is_there) (Some (node (cond t n 0 + m) (cond t u false || v))) None)
+merge_step t x y n u is_there m v same no_bytes not_unique = grind arith
 
 pub get-add : (s : Sums) (e : Entry) (q : Path) → get (add s e) q ≡ cond (is_same_path q e.path) (Some (together (get s e.path) (node_of e))) (get s q)
 get-add s e q = get-insert path_total s e.path _ q
 
 pub get-add_all : (s : Sums) (b : Bag) (q : Path) → get (add_all s b) q ≡ merge (get s q) (node_in b q)
 get-add_all s [] q = refl
-get-add_all s (e ∷ b) q =
-    rw (get-add_all (add s e) b q, get-add s e q, bytes-cons e b q)
-    (on_test (λ t. merge (cond t (Some (together (get s e.path) (node_of e))) (get s q)) (node_in b q)
-    ≡ merge (get s q) (cond (t || is_entered_in b q) (Some (node (cond t e.size 0 + bytes_in b q) (cond t (is_unique_mark e.mark) false || is_unique_in b q))) None)) (is_same_path q e.path)
-    (λ h. merge_there (together (get s e.path) (node_of e)) b q ∙ rw (same_path q e.path h) (together_step (get s e.path) e.size (bytes_in b e.path) (is_unique_mark e.mark) (is_unique_in b e.path)))
-    (λ h. rw (zero-add (bytes_in b q))))
+get-add_all s (e ∷ b) q = rw (get-add_all (add s e) b q, get-add s e q, bytes-cons e b q)
+    (merge_step (is_same_path q e.path) (get s e.path) (get s q) e.size (is_unique_mark e.mark) (is_entered_in b q) (bytes_in b q) (is_unique_in b q) (λ h. ap (get s) (sym (same_path q e.path h))) (bytes_none b q) (unique_none b q))
 
 pub get-sums_of : (b : Bag) (q : Path) → get (sums_of b) q ≡ node_in b q
 get-sums_of b q = get-add_all empty b q ∙ ap (λ o. merge o (node_in b q)) (get-empty path_cmp q) ∙ grind arith

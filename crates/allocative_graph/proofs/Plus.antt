@@ -8,16 +8,6 @@ use Rattle.allocative_graph.specs.Held.{held, inline_bytes}
 use Rattle.allocative_graph.proofs.Following.{added-following, contents-following, met-following, fits-following}
 use Rattle.allocative_graph.proofs.Basics.{each-append, each-parts}
 
-live-following : (c : Live) (f g : Forest) → plus_live c (followed_by f g) ≡ plus_live (plus_live c f) g
-live-following c f g = λ i. record c { sums = added-following c.sums c.here f g i; met = met-following c.met f g i }
-
--- What an entry has inside it where none follows it.
-alone : (f : Forest) (c : Live) (s : Sums) (t : Identities) (p : Path) → record c { sums = add_all s (own_behind p f ++ content_entries f); met = insert_all t (shown f) }
-    ≡ record c { sums = add_all s ((own_behind p f ++ []) ++ flat_map (λ c. c.1) (contents f ++ [])); met = insert_all t (map (λ c. c.0) (contents f ++ [])) }
-alone f c s t p =
-    let same = sym (append-nil (contents f)) in
-    λ i. record c { sums = add_all s (sym (append-nil (own_behind p f)) i ++ flat_map (λ c. c.1) (same i)); met = insert_all t (map (λ c. c.0) (same i)) }
-
 -- ---- the collector of held bytes
 abbrev held_in : Bool → Forest → ℕ
 held_in u f = held f + cond u (inline_bytes f) 0
@@ -29,22 +19,12 @@ held_in-following u (Unique k n f after) g = grind (arith, held_in-following u a
 held_in-following u (First k n j f after) g = held_in-following u after g
 held_in-following u (Again k n j after) g = held_in-following u after g
 
-holding-following : (h : Holding) (f g : Forest) → plus_holding h (followed_by f g) ≡ plus_holding (plus_holding h f) g
-holding-following h f g = λ i. record h { sum = (ap (λ n. h.sum + n) (held_in-following h.is_in_unique f g) ∙ sym (add_assoc h.sum (held_in h.is_in_unique f) (held_in h.is_in_unique g))) i }
-
 holding-nothing : (h : Holding) → plus_holding h Empty ≡ h
-holding-nothing h = λ i. record h { sum = none h.is_in_unique h.sum i }
-  where
-    none : (u : Bool) (n : ℕ) → n + (0 + cond u 0 0) ≡ n
-    none u n = grind arith
+holding-nothing h = let same : h.sum + (0 + cond h.is_in_unique 0 0) ≡ h.sum = grind arith in λ i. record h { sum = same i }
 
 -- What an entry adds, and what is inside it, is what the entry with all inside it adds.
 inside_sum : (is_in_unique is_unique : Bool) (s n h b : ℕ) → (s + held_bytes is_in_unique is_unique n) + (h + cond is_unique b 0) ≡ s + (cond is_unique (b + h + 0) (h + 0) + cond is_in_unique (cond is_unique 0 (n + 0)) 0)
 inside_sum v u s n h b = grind arith
-
-holding-inside : (u : Bool) (h : Holding) (k : Key) (n : ℕ) (f : Forest) → leave_holding h.is_in_unique (plus_holding (enter_holding u n h) f) ≡ plus_holding h (entry_of u k n f)
-holding-inside true h k n f = λ i. record h { sum = inside_sum h.is_in_unique true h.sum n (held f) (inline_bytes f) i }
-holding-inside false h k n f = λ i. record h { sum = inside_sum h.is_in_unique false h.sum n (held f) (inline_bytes f) i }
 
 -- ---- either
 pub plus-nothing : (c : Kind) → plus c Empty ≡ c
@@ -52,8 +32,8 @@ plus-nothing (OfGraph c) = refl
 plus-nothing (OfHeld h) = ap OfHeld (holding-nothing h)
 
 pub plus-following : (c : Kind) (f g : Forest) → plus c (followed_by f g) ≡ plus (plus c f) g
-plus-following (OfGraph c) f g = ap OfGraph (live-following c f g)
-plus-following (OfHeld h) f g = ap OfHeld (holding-following h f g)
+plus-following (OfGraph c) f g = λ i. OfGraph (record c { sums = added-following c.sums c.here f g i; met = met-following c.met f g i })
+plus-following (OfHeld h) f g = λ i. OfHeld (record h { sum = (ap (λ n. h.sum + n) (held_in-following h.is_in_unique f g) ∙ sym (add_assoc h.sum (held_in h.is_in_unique f) (held_in h.is_in_unique g))) i })
 
 pub takes_nothing : (c : Kind) → Takes c Empty
 takes_nothing (OfGraph c) = tt
@@ -68,9 +48,10 @@ takes_both c f g v w = (takes_following c f g).1 (v, w)
 
 -- An entry with f inside it is entering, adding f and one step back.
 pub inside_entry : (u : Bool) (k : Key) (n : ℕ) (c : Kind) (f : Forest) → leave (is_in_unique c) (plus (enter u k n c) f) ≡ plus c (entry_of u k n f)
-inside_entry true k n (OfGraph c) f = ap OfGraph (alone f c (add c.sums (record { path = c.here ++ k ∷ []; size = n; mark = AsUnique })) c.met (c.here ++ k ∷ []))
-inside_entry false k n (OfGraph c) f = ap OfGraph (alone f c (add c.sums (record { path = c.here ++ k ∷ []; size = n; mark = AsInline })) c.met (c.here ++ k ∷ []))
-inside_entry u k n (OfHeld h) f = ap OfHeld (holding-inside u h k n f)
+inside_entry true k n (OfGraph c) f = rw (append-nil (own_behind (c.here ++ k ∷ []) f), append-nil (contents f))
+inside_entry false k n (OfGraph c) f = rw (append-nil (own_behind (c.here ++ k ∷ []) f), append-nil (contents f))
+inside_entry true k n (OfHeld h) f = λ i. OfHeld (record h { sum = inside_sum h.is_in_unique true h.sum n (held f) (inline_bytes f) i })
+inside_entry false k n (OfHeld h) f = λ i. OfHeld (record h { sum = inside_sum h.is_in_unique false h.sum n (held f) (inline_bytes f) i })
 
 pub takes_entry : (u : Bool) (k : Key) (n : ℕ) (c : Kind) (f : Forest) → Takes (enter u k n c) f → Takes c (entry_of u k n f)
 takes_entry true k n (OfGraph c) f w = (w, tt)
@@ -80,10 +61,7 @@ takes_entry false k n (OfHeld h) f w = each-append (λ c. ⊥) (contents f) [] w
 
 -- The content of a shared entry starts at the root.
 pub inside_first : (k : Key) (n : ℕ) (j : Identity) (c : Live) (f : Forest) (outer : Bool) → leave outer (plus (OfGraph (enter_first k n j c)) f) ≡ plus (OfGraph c) (First k n j f Empty)
-inside_first k n j c f outer = λ i. OfGraph (record c {
-  sums = add_all (add c.sums (record { path = c.here ++ k ∷ []; size = n; mark = AsShared j })) (own_behind [] f ++ flat_map (λ c. c.1) (sym (append-nil (contents f)) i));
-  met = insert_all (insert c.met j) (map (λ c. c.0) (sym (append-nil (contents f)) i));
-})
+inside_first k n j c f outer = rw (append-nil (contents f))
 
 pub takes_shared : (k : Key) (n : ℕ) (j : Identity) (c : Live) (f : Forest) → contains c.met j ≡ false → Takes (OfGraph (enter_first k n j c)) f → Takes (OfGraph c) (First k n j f Empty)
 takes_shared k n j c f new w = (new, w, tt)
