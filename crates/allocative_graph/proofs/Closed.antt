@@ -31,7 +31,7 @@ closed_append r b c x y p = any_both (λ e. is_one_below p e.path) b c
 -- An entry at r ++ k ∷ [], with others inside it and after it.
 closed_entry : (r : Path) (k : Key) (n : ℕ) (m : Mark) (b c : Bag) → Closed (r ++ k ∷ []) b → Closed r c → Closed r (record { path = r ++ k ∷ []; size = n; mark = m } ∷ (b ++ c))
 closed_entry r k n m b c x y p h = or_both (is_one_below p (r ++ k ∷ [])) (has_below (b ++ c) p) (λ w. inl (one_below_child p r k w)) (any_both (λ e. is_one_below p e.path) b c
-    (λ w. inr (elim (x p w) [ inl q ↦ or_left _ _ (ap (is_same_path p) (sym q) ∙ same_path_itself p) | inr q ↦ or_right (is_same_path p (r ++ k ∷ [])) _ (any_left (λ e. is_same_path p e.path) b c q) ]))
+    (λ w. inr (elim (x p w) [ inl q ↦ or_left _ _ (ap (is_same_path p) (sym q) ∙ same_path_itself p) | inr q ↦ or_right _ _ (any_left (λ e. is_same_path p e.path) b c q) ]))
     (λ w. elim (y p w) [ inl q ↦ inl q | inr q ↦ inr (or_right (is_same_path p (r ++ k ∷ [])) _ (any_right (λ e. is_same_path p e.path) b c q)) ])) h
 
 closed_none : (r : Path) → Closed r []

@@ -58,6 +58,7 @@ drop_each key ((k ∷ p, n) ∷ es) h =
 pub exact_is : (g : Graph) → HasPlainKeys g → exact_text g ≡ without_lines (codes "unused_capacity") (text g)
 exact_is g h =
     let plain = each-map (AllByRecursion Plain) (λ e. e.0) (entries g) h in
-    let kept = recursion_from_All (λ e. AllByRecursion Plain e.0) (filter is_shown (entries g)) (All-filter is_shown (λ e. AllByRecursion Plain e.0) (entries g) (All-from_recursion _ (entries g) plain)) in
-    drop_each (codes "unused_capacity") (entries g) plain
-    ∙ ap (flat_map (λ l. cond (eq_by_cmp key_cmp (codes "unused_capacity") (last_key l)) [] (l ++ 10 ∷ []))) (sym (ap (lines_from []) (shown_lines (entries g)) ∙ lines_read (filter is_shown (entries g)) kept))
+    let kept = recursion_from_All (λ e. AllByRecursion Plain e.0) (filter is_shown (entries g))
+        (All-filter is_shown (λ e. AllByRecursion Plain e.0) (entries g) (All-from_recursion _ (entries g) plain)) in
+    let lines = ap (lines_from []) (shown_lines (entries g)) ∙ lines_read (filter is_shown (entries g)) kept in
+    drop_each (codes "unused_capacity") (entries g) plain ∙ ap (flat_map (λ l. cond (eq_by_cmp key_cmp (codes "unused_capacity") (last_key l)) [] (l ++ 10 ∷ []))) (sym lines)

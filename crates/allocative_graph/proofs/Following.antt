@@ -5,7 +5,7 @@ use Rattle.std.specs.FinSet.{insert}
 use Rattle.allocative_graph.proofs.Basics.{or_assoc, or_left, each-parts, identity_total}
 use Rattle.allocative_graph.proofs.Lookups.{add_all-same, add_all-append}
 use Rattle.std.proofs.lemmas.List.Sums.{sum_by-append}
-use Rattle.allocative_graph.proofs.Reach.{Contents, ids, met-append, among-append}
+use Rattle.allocative_graph.proofs.Reach.{Contents, ids, met-append}
 
 pub own-following : (p : Path) (f g : Forest) → own_behind p (followed_by f g) ≡ own_behind p f ++ own_behind p g
 own-following p Empty g = refl
@@ -26,7 +26,8 @@ met-following s f g = rw (contents-following f g) (met-append s (contents f) (co
 
 pub added-following : (s : Sums) (p : Path) (f g : Forest) → add_all s (added p (followed_by f g)) ≡ add_all (add_all s (added p f)) (added p g)
 added-following s p f g = add_all-same s (added p (followed_by f g)) (added p f ++ added p g)
-    (λ w. rw (own-following p f g, contents-following f g, flat_map-append (λ (c : Identity × Bag). c.1) (contents f) (contents g)) (simp sum_by-append (omega arith))) ∙ add_all-append s (added p f) (added p g)
+    (λ w. rw (own-following p f g, contents-following f g, flat_map-append (λ (c : Identity × Bag). c.1) (contents f) (contents g)) (simp sum_by-append (omega arith)))
+    ∙ add_all-append s (added p f) (added p g)
 
 -- ---- fitting
 fits_inside : (s : Identities) (f after g : Forest) → Fits (met_after s f) (followed_by after g) ↔ (Fits (met_after s f) after × Fits (met_after (met_after s f) after) g)
@@ -50,7 +51,7 @@ module _ (more : Identity → Bool) where
   HasMore s t = (i : Identity) → contains t i ≡ (contains s i || more i)
 
   more-insert : (s t : Identities) (j : Identity) → HasMore s t → HasMore (insert s j) (insert t j)
-  more-insert s t j h i = contains-insert identity_total t j i ∙ ap (λ b. is_same_identity i j || b) (h i) ∙ sym (or_assoc (is_same_identity i j) (contains s i) (more i)) ∙ ap (λ b. b || more i) (sym (contains-insert identity_total s j i))
+  more-insert s t j h i = grind (arith, contains-insert identity_total t j i, contains-insert identity_total s j i, h i)
 
   more-insert_all : (s t : Identities) (is : List Identity) → HasMore s t → HasMore (insert_all s is) (insert_all t is)
   more-insert_all s t [] h = h
@@ -67,5 +68,6 @@ module _ (more : Identity → Bool) where
   fits_more s t (First k n j f after) h a w =
       let xs = each-parts (λ c. more c.0 ≡ false) (contents f) (contents after) a.1 in
       let up = more-insert s t j h in
-      (h j ∙ ap (λ c. c || more j) w.0 ∙ a.0, fits_more (insert s j) (insert t j) f up xs.0 w.1, fits_more (met_after (insert s j) f) (met_after (insert t j) f) after (more-insert_all (insert s j) (insert t j) (shown f) up) xs.1 w.2)
+      (h j ∙ ap (λ c. c || more j) w.0 ∙ a.0, fits_more (insert s j) (insert t j) f up xs.0 w.1,
+      fits_more (met_after (insert s j) f) (met_after (insert t j) f) after (more-insert_all (insert s j) (insert t j) (shown f) up) xs.1 w.2)
   fits_more s t (Again k n j after) h a w = (h j ∙ or_left _ (more j) w.0, fits_more s t after h a w.1)

@@ -39,7 +39,8 @@ get-add s e q = get-insert path_total s e.path _ q
 pub get-add_all : (s : Sums) (b : Bag) (q : Path) → get (add_all s b) q ≡ merge (get s q) (node_in b q)
 get-add_all s [] q = refl
 get-add_all s (e ∷ b) q = rw (get-add_all (add s e) b q, get-add s e q, bytes-cons e b q)
-    (merge_step (is_same_path q e.path) (get s e.path) (get s q) e.size (is_unique_mark e.mark) (is_entered_in b q) (bytes_in b q) (is_unique_in b q) (λ h. ap (get s) (sym (same_path q e.path h))) (bytes_none b q) (unique_none b q))
+    (merge_step (is_same_path q e.path) (get s e.path) (get s q) e.size (is_unique_mark e.mark) (is_entered_in b q) (bytes_in b q) (is_unique_in b q)
+    (λ h. ap (get s) (sym (same_path q e.path h))) (bytes_none b q) (unique_none b q))
 
 pub get-sums_of : (b : Bag) (q : Path) → get (sums_of b) q ≡ node_in b q
 get-sums_of b q = get-add_all empty b q ∙ ap (λ o. merge o (node_in b q)) (get-empty path_cmp q) ∙ grind arith

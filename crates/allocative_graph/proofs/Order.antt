@@ -53,23 +53,25 @@ module _ (v : Identity → ℕ) where
       let new : v i ≡ unwrap_or (option_map (λ n. n) (get (Listed is) i)) 0 + v i = rw (get-listed is i, absent i is d.0) (omega arith) in
       omega (arith, weights-insert identity_total identity_antisymmetric (λ i n. n) (Listed is) i (v i) (v i) new, sum-listed is d.1, sum_by-cons v i is)
 
--- Over lists of the same identities, each of which is listed once, a sum is the same.
-same_sum : (u v : Identity → ℕ) (is js : List Identity) → IsDistinct is_same_identity is → IsDistinct is_same_identity js → ((k : Identity) → is_among k is ≡ is_among k js) → ((k : Identity) → IsTrue (is_among k js) → u k ≡ v k) → sum_by u is ≡ sum_by v js
-same_sum u v is js d e m each = sym (sum-listed u is d) ∙ ap (λ l. sum_by (λ e. e.1) (entries l)) (same_map identity_total identity_antisymmetric _ _
-    (λ q. get-listed u is q ∙ ap (λ b. cond b (Some (u q)) None) (m q) ∙ cond_agree (is_among q js) _ _ (each q) ∙ sym (get-listed v js q))) ∙ sum-listed v js e
-
 sum-flat : (w : Entry → ℕ) (T : Identity → Bag) (is : List Identity) → sum_by w (flat_map T is) ≡ sum_by (λ i. sum_by w (T i)) is
 sum-flat w T [] = refl
 sum-flat w T (i ∷ is) = omega (arith, sum_by-append w (T i) (flat_map T is), sum-flat w T is, sum_by-cons (λ i. sum_by w (T i)) i is)
 
-pub same_flat : (S T : Identity → Bag) (is js : List Identity) → IsDistinct is_same_identity is → IsDistinct is_same_identity js → ((k : Identity) → is_among k is ≡ is_among k js) → ((k : Identity) → IsTrue (is_among k js) → IsPermutation (S k) (T k)) → SameSums (flat_map S is) (flat_map T js)
-same_flat S T is js d e m each w = sum-flat w S is ∙ same_sum (λ i. sum_by w (S i)) (λ i. sum_by w (T i)) is js d e m (λ k h. sym (sum_by-IsPermutation w _ _ (each k h))) ∙ sym (sum-flat w T js)
+-- Over lists of the same identities, each of which is listed once, sums are the same.
+module _ (is js : List Identity) (d : IsDistinct is_same_identity is) (e : IsDistinct is_same_identity js) (same : (k : Identity) → is_among k is ≡ is_among k js) where
+  same_sum : (u v : Identity → ℕ) → ((k : Identity) → IsTrue (is_among k js) → u k ≡ v k) → sum_by u is ≡ sum_by v js
+  same_sum u v each = sym (sum-listed u is d) ∙ ap (λ l. sum_by (λ e. e.1) (entries l)) (same_map identity_total identity_antisymmetric _ _
+      (λ q. get-listed u is q ∙ ap (λ b. cond b (Some (u q)) None) (same q) ∙ cond_agree (is_among q js) _ _ (each q) ∙ sym (get-listed v js q))) ∙ sum-listed v js e
+
+  pub same_flat : (S T : Identity → Bag) → ((k : Identity) → IsTrue (is_among k js) → IsPermutation (S k) (T k)) → SameSums (flat_map S is) (flat_map T js)
+  same_flat S T each w = sum-flat w S is ∙ same_sum (λ i. sum_by w (S i)) (λ i. sum_by w (T i)) (λ k h. sym (sum_by-IsPermutation w _ _ (each k h))) ∙ sym (sum-flat w T js)
 
 same_all : (f g : Forest) → IsWhole f → IsWhole g → Agree f g → SameSums (all f) (all g)
 same_all f g v w a x =
-    let flat : SameSums (content_entries f) (content_entries g) = rw (← as_flat f v, ← as_flat g w) (same_flat (content_of f) (content_of g) (shown f) (shown g) (shown_distinct f v) (shown_distinct g w) (same_shown f g v w a)
-        (λ k h. a.same_content k (same_shown f g v w a k ∙ h) h)) in
-    omega (arith, sum_by-append x (own f) (content_entries f), sum_by-append x (own g) (content_entries g), sum_by-IsPermutation x _ _ a.own_entries, flat x)
+    let flat = same_flat (shown f) (shown g) (shown_distinct f v) (shown_distinct g w) (same_shown f g v w a) (content_of f) (content_of g)
+        (λ k h. a.same_content k (same_shown f g v w a k ∙ h) h) x in
+    omega (arith, sum_by-append x (own f) (content_entries f), sum_by-append x (own g) (content_entries g), sum_by-IsPermutation x _ _ a.own_entries,
+    ap (sum_by x) (as_flat f v), ap (sum_by x) (as_flat g w), flat)
 
 pub same_sums_of : (f g : Forest) → IsWhole f → IsWhole g → Agree f g → sums_of (all f) ≡ sums_of (all g)
 same_sums_of f g v w a = add_all-same empty (all f) (all g) (same_all f g v w a)

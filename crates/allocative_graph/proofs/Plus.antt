@@ -23,7 +23,8 @@ holding-nothing : (h : Holding) → plus_holding h Empty ≡ h
 holding-nothing h = let same : h.sum + (0 + cond h.is_in_unique 0 0) ≡ h.sum = grind arith in λ i. record h { sum = same i }
 
 -- What an entry adds, and what is inside it, is what the entry with all inside it adds.
-inside_sum : (is_in_unique is_unique : Bool) (s n h b : ℕ) → (s + held_bytes is_in_unique is_unique n) + (h + cond is_unique b 0) ≡ s + (cond is_unique (b + h + 0) (h + 0) + cond is_in_unique (cond is_unique 0 (n + 0)) 0)
+inside_sum : (is_in_unique is_unique : Bool) (s n h b : ℕ) → (s + held_bytes is_in_unique is_unique n) + (h + cond is_unique b 0)
+    ≡ s + (cond is_unique (b + h + 0) (h + 0) + cond is_in_unique (cond is_unique 0 (n + 0)) 0)
 inside_sum v u s n h b = grind arith
 
 -- ---- either
@@ -33,7 +34,9 @@ plus-nothing (OfHeld h) = ap OfHeld (holding-nothing h)
 
 pub plus-following : (c : Kind) (f g : Forest) → plus c (followed_by f g) ≡ plus (plus c f) g
 plus-following (OfGraph c) f g = λ i. OfGraph (record c { sums = added-following c.sums c.here f g i; met = met-following c.met f g i })
-plus-following (OfHeld h) f g = λ i. OfHeld (record h { sum = (ap (λ n. h.sum + n) (held_in-following h.is_in_unique f g) ∙ sym (add_assoc h.sum (held_in h.is_in_unique f) (held_in h.is_in_unique g))) i })
+plus-following (OfHeld h) f g =
+    let both : h.sum + held_in h.is_in_unique (followed_by f g) ≡ (h.sum + held_in h.is_in_unique f) + held_in h.is_in_unique g = omega (arith, held_in-following h.is_in_unique f g) in
+    λ i. OfHeld (record h { sum = both i })
 
 pub takes_nothing : (c : Kind) → Takes c Empty
 takes_nothing (OfGraph c) = tt

@@ -1,5 +1,5 @@
 -- The identities that a whole showing shows are exactly those reached.
-use Rattle.std.proofs.Common.{◌≡◌, false, cond, ◌||◌, IsTrue, true, List, [], ◌∷◌, ◌++◌, map, flat_map, refl, ap, sym, ◌∙◌, subst, true≢false, IsPermutation, Some, unwrap_or, ◌⊎◌, inl, inr, Bool}
+use Rattle.std.proofs.Common.{◌≡◌, false, cond, ◌||◌, IsTrue, true, List, [], ◌∷◌, ◌++◌, map, flat_map, refl, ap, sym, ◌∙◌, subst, true≢false, IsPermutation, Some, unwrap_or, ◌⊎◌, inl, inr, Bool, arith}
 use Rattle.allocative_graph.proofs.Common.{⊤, AllByRecursion, All-from_recursion, contains, contains-insert, contains-empty, Path, Identities, Identity, identity_cmp, is_same_identity, Forest, Empty, Inline, Unique, First, Again, Bag, Entry, own, own_behind, contents, all, shown, insert_all, met_after, Fits, is_mark_of, has_mark, is_among, Reached, marked, inside, IsMeaning, content_of, IsWhole, IsPermutation-refl, list_any, list_any-append, map-append}
 use Rattle.std.specs.List.{Contains, IsDistinct}
 use Rattle.std.specs.Map.{lookup}
@@ -16,15 +16,12 @@ Contents = List (Identity × Bag)
 abbrev pub ids : Contents → List Identity
 ids cs = map (λ c. c.0) cs
 
-pub among-append : (i : Identity) (cs ds : Contents) → is_among i (ids (cs ++ ds)) ≡ (is_among i (ids cs) || is_among i (ids ds))
-among-append i cs ds = ap (is_among i) (map-append (λ c. c.0) cs ds) ∙ list_any-append (is_same_identity i) (ids cs) (ids ds)
-
 pub met-append : (s : Identities) (cs ds : Contents) → insert_all s (ids (cs ++ ds)) ≡ insert_all (insert_all s (ids cs)) (ids ds)
 met-append s [] ds = refl
 met-append s (c ∷ cs) ds = met-append (insert s c.0) cs ds
 
 among_both : {Q : Type 0} (i : Identity) (cs ds : Contents) → (IsTrue (is_among i (ids cs)) → Q) → (IsTrue (is_among i (ids ds)) → Q) → IsTrue (is_among i (ids (cs ++ ds))) → Q
-among_both i cs ds f g h = or_both (is_among i (ids cs)) (is_among i (ids ds)) f g (sym (among-append i cs ds) ∙ h)
+among_both i cs ds f g h = or_both (is_among i (ids cs)) (is_among i (ids ds)) f g (sym (ap (is_among i) (map-append (λ c. c.0) cs ds) ∙ list_any-append (is_same_identity i) (ids cs) (ids ds)) ∙ h)
 
 pub shown_each : (P : Identity → Type 0) (cs : Contents) → ((i : Identity) → IsTrue (is_among i (ids cs)) → P i) → AllByRecursion (λ c. P c.0) cs
 shown_each P [] h = tt
@@ -35,14 +32,15 @@ marks i e = is_mark_of i e.mark
 
 pub contains-insert_all : (s : Identities) (is : List Identity) (i : Identity) → contains (insert_all s is) i ≡ (contains s i || is_among i is)
 contains-insert_all s [] i = sym (or-false _)
-contains-insert_all s (j ∷ is) i = contains-insert_all (insert s j) is i ∙ ap (λ b. b || is_among i is) (contains-insert identity_total s j i) ∙ ap (λ b. b || is_among i is) (or_comm (is_same_identity i j) (contains s i)) ∙ or_assoc (contains s i) _ _
+contains-insert_all s (j ∷ is) i = grind (arith, contains-insert_all (insert s j) is i, contains-insert identity_total s j i)
 
 pub grows : (s : Identities) (is : List Identity) (i : Identity) → IsTrue (contains s i) → IsTrue (contains (insert_all s is) i)
 grows s is i h = contains-insert_all s is i ∙ or_left _ _ h
 
 -- ---- each identity shown is reached
 module _ (b : Bag) (content : Identity → Bag) where
-  reach : (p : Path) (f : Forest) → ((i : Identity) → IsTrue (has_mark i (own_behind p f)) → Reached b content i) → AllByRecursion (λ c. content c.0 ≡ c.1) (contents f) → (i : Identity) → IsTrue (is_among i (shown f)) → Reached b content i
+  reach : (p : Path) (f : Forest) → ((i : Identity) → IsTrue (has_mark i (own_behind p f)) → Reached b content i)
+      → AllByRecursion (λ c. content c.0 ≡ c.1) (contents f) → (i : Identity) → IsTrue (is_among i (shown f)) → Reached b content i
   reach p Empty m g i h = absurd (true≢false (sym h))
   reach p (Inline k n f after) m g i h =
       let gs = each-parts (λ c. content c.0 ≡ c.1) (contents f) (contents after) g in
@@ -63,27 +61,34 @@ module _ (b : Bag) (content : Identity → Bag) where
 abbrev in_content : Identity → Contents → Bool
 in_content i cs = list_any (λ c. has_mark i c.1) cs
 
-fits_marks : (p : Path) (s : Identities) (f : Forest) → Fits s f → (i : Identity) → IsTrue (has_mark i (own_behind p f)) ⊎ IsTrue (in_content i (contents f)) → IsTrue (contains (met_after s f) i)
+abbrev Marked : Identity → Bag → Contents → Type 0
+Marked i b cs = IsTrue (has_mark i b) ⊎ IsTrue (in_content i cs)
+
+two_marked : {Q : Type 0} (i : Identity) (a b : Bag) (cs ds : Contents) → (Marked i a cs → Q) → (Marked i b ds → Q) → Marked i (a ++ b) (cs ++ ds) → Q
+two_marked i a b cs ds f g (inl m) = any_both (marks i) a b (λ w. f (inl w)) (λ w. g (inl w)) m
+two_marked i a b cs ds f g (inr m) = any_both (λ c. has_mark i c.1) cs ds (λ w. f (inr w)) (λ w. g (inr w)) m
+
+fits_marks : (p : Path) (s : Identities) (f : Forest) → Fits s f → (i : Identity) → Marked i (own_behind p f) (contents f) → IsTrue (contains (met_after s f) i)
 fits_marks p s Empty w i h = absurd (true≢false (sym (elim h [ inl m ↦ m | inr m ↦ m ])))
-fits_marks p s (Inline k n f after) w i h = ap (λ t. contains t i) (met-append s (contents f) (contents after)) ∙ elim h [
-    | inl m ↦ any_both (marks i) (own_behind (p ++ k ∷ []) f) (own_behind p after) (λ a. grows _ (shown after) i (fits_marks (p ++ k ∷ []) s f w.0 i (inl a))) (λ b. fits_marks p (met_after s f) after w.1 i (inl b)) m
-    | inr m ↦ any_both (λ c. has_mark i c.1) (contents f) (contents after) (λ a. grows _ (shown after) i (fits_marks (p ++ k ∷ []) s f w.0 i (inr a))) (λ b. fits_marks p (met_after s f) after w.1 i (inr b)) m
-  ]
-fits_marks p s (Unique k n f after) w i h = ap (λ t. contains t i) (met-append s (contents f) (contents after)) ∙ elim h [
-    | inl m ↦ any_both (marks i) (own_behind (p ++ k ∷ []) f) (own_behind p after) (λ a. grows _ (shown after) i (fits_marks (p ++ k ∷ []) s f w.0 i (inl a))) (λ b. fits_marks p (met_after s f) after w.1 i (inl b)) m
-    | inr m ↦ any_both (λ c. has_mark i c.1) (contents f) (contents after) (λ a. grows _ (shown after) i (fits_marks (p ++ k ∷ []) s f w.0 i (inr a))) (λ b. fits_marks p (met_after s f) after w.1 i (inr b)) m
-  ]
-fits_marks p s (First k n j f after) w i h = ap (λ t. contains t i) (met-append (insert s j) (contents f) (contents after)) ∙ elim h [
-    | inl m ↦ or_both (is_same_identity i j) _ (λ a. grows _ (shown after) i (grows _ (shown f) i (contains-insert identity_total s j i ∙ or_left _ _ a))) (λ b. fits_marks p (met_after (insert s j) f) after w.2 i (inl b)) m
-    | inr m ↦ or_both (has_mark i (own f)) _ (λ a. grows _ (shown after) i (fits_marks [] (insert s j) f w.1 i (inl a)))
-        (any_both (λ c. has_mark i c.1) (contents f) (contents after) (λ a. grows _ (shown after) i (fits_marks [] (insert s j) f w.1 i (inr a))) (λ b. fits_marks p (met_after (insert s j) f) after w.2 i (inr b))) m
-  ]
-fits_marks p s (Again k n j after) w i (inl m) = or_both (is_same_identity i j) _ (λ a. grows s (shown after) i (ap (contains s) (same_identity i j a) ∙ w.0)) (λ b. fits_marks p s after w.1 i (inl b)) m
+fits_marks p s (Inline k n f after) w i h = ap (λ t. contains t i) (met-append s (contents f) (contents after)) ∙ two_marked i (own_behind (p ++ k ∷ []) f) (own_behind p after)
+    (contents f) (contents after) (λ a. grows _ (shown after) i (fits_marks (p ++ k ∷ []) s f w.0 i a)) (fits_marks p (met_after s f) after w.1 i) h
+fits_marks p s (Unique k n f after) w i h = ap (λ t. contains t i) (met-append s (contents f) (contents after)) ∙ two_marked i (own_behind (p ++ k ∷ []) f) (own_behind p after)
+    (contents f) (contents after) (λ a. grows _ (shown after) i (fits_marks (p ++ k ∷ []) s f w.0 i a)) (fits_marks p (met_after s f) after w.1 i) h
+fits_marks p s (First k n j f after) w i h =
+    let inner = λ (a : Marked i (own f) (contents f)). grows _ (shown after) i (fits_marks [] (insert s j) f w.1 i a) in
+    let outer = λ (b : Marked i (own_behind p after) (contents after)). fits_marks p (met_after (insert s j) f) after w.2 i b in
+    ap (λ t. contains t i) (met-append (insert s j) (contents f) (contents after)) ∙ elim h [
+      | inl m ↦ or_both (is_same_identity i j) _ (λ a. grows _ (shown after) i (grows _ (shown f) i (contains-insert identity_total s j i ∙ or_left _ _ a))) (λ b. outer (inl b)) m
+      | inr m ↦ or_both (has_mark i (own f)) _ (λ a. inner (inl a)) (any_both (λ c. has_mark i c.1) (contents f) (contents after) (λ a. inner (inr a)) (λ b. outer (inr b))) m
+    ]
+fits_marks p s (Again k n j after) w i (inl m) =
+    or_both (is_same_identity i j) _ (λ a. grows s (shown after) i (ap (contains s) (same_identity i j a) ∙ w.0)) (λ b. fits_marks p s after w.1 i (inl b)) m
 fits_marks p s (Again k n j after) w i (inr m) = fits_marks p s after w.1 i (inr m)
 
 marks_content : (cs : Contents) (i j : Identity) → IsTrue (has_mark i (unwrap_or (lookup (is_same_identity j) cs) [])) → IsTrue (in_content i cs)
 marks_content [] i j h = h
-marks_content (c ∷ cs) i j h = on_test (λ t. IsTrue (has_mark i (unwrap_or (cond t (Some c.1) (lookup (is_same_identity j) cs)) [])) → IsTrue (has_mark i c.1 || in_content i cs)) (is_same_identity j c.0)
+marks_content (c ∷ cs) i j h =
+    on_test (λ t. IsTrue (has_mark i (unwrap_or (cond t (Some c.1) (lookup (is_same_identity j) cs)) [])) → IsTrue (has_mark i c.1 || in_content i cs)) (is_same_identity j c.0)
     (λ e. or_left (has_mark i c.1) _) (λ e w. or_right (has_mark i c.1) _ (marks_content cs i j w)) h
 
 -- ---- an identity is shown once
@@ -107,7 +112,7 @@ unfolding IsDistinct
 fresh_distinct s [] h = (tt, tt)
 fresh_distinct s (c ∷ cs) h =
     let rest = fresh_distinct (insert s c.0) cs h.1 in
-    let apart : (j : Identity) → contains (insert s c.0) j ≡ false → (is_same_identity j c.0 ≡ false) × (contains s j ≡ false) = λ j g. or_parts _ _ (sym (contains-insert identity_total s c.0 j) ∙ g) in
+    let apart = λ (j : Identity) (g : contains (insert s c.0) j ≡ false). or_parts (is_same_identity j c.0) (contains s j) (sym (contains-insert identity_total s c.0 j) ∙ g) in
     ((h.0, each-implies _ _ (λ j g. (apart j g).1) (ids cs) rest.0), (each-implies _ _ (λ j g. same_identity_turned c.0 j ∙ (apart j g).0) (ids cs) rest.0, rest.1))
 
 pub shown_distinct : (f : Forest) → IsWhole f → IsDistinct is_same_identity (shown f)

@@ -11,7 +11,7 @@ use Rattle.allocative_graph.specs.Identity.{Identity}
 use Rattle.allocative_graph.specs.Forest.{Forest, Empty, First, Again, Bag, own, all, followed_by, entry_of}
 use Rattle.allocative_graph.specs.Meaning.{Reached, IsMeaning, ReachesExactly, content_of, IsWhole, Agree, ReachApart}
 use Rattle.allocative_graph.specs.Sums.{Sums, bytes_in, below_in, is_unique_in, is_entered_in, sums_of, below}
-use Rattle.allocative_graph.specs.Graph.{Graph, graph, total, under, default, IsTree, text, warnings, warned_paths, sum_of, size_at, CanBeAdded, HasPlainKeys, HasWords}
+use Rattle.allocative_graph.specs.Graph.{Graph, graph, remaining, total, under, default, IsTree, text, warnings, warned_paths, sum_of, size_at, CanBeAdded, HasPlainKeys, HasWords}
 use Rattle.allocative_graph.specs.Collector.{Live, Holding, Kind, OfGraph, OfHeld, plus, Takes, enter, enter_first, enter_again, leave, is_in_unique}
 use Rattle.allocative_graph.specs.Report.{exact_text, without_lines}
 use Rattle.allocative_graph.specs.Read.{IsRead, IsFault, Exceeds, CanBeRead}
@@ -68,9 +68,7 @@ pub record ReadLaw : Type 0 where
 -- The sums of a bag have, at exactly the paths of its entries, the sum of the sizes there and whether one of the
 -- entries is unique. The bytes one key below a path are the sum of the sizes there.
 abbrev pub SumsLaw : Type 0
-SumsLaw = (b : Bag) (p : Path)
-    → (get (sums_of b) p
-    ≡ cond (is_entered_in b p)
+SumsLaw = (b : Bag) (p : Path) → (get (sums_of b) p ≡ cond (is_entered_in b p)
     (Some (record { bytes = bytes_in b p; is_unique = is_unique_in b p })) None) × (below (sums_of b) p ≡ below_in b p)
 
 -- ---- of the collectors
@@ -117,6 +115,5 @@ pub record GraphSumsLaw : Type 0 where
 -- graph of a showing has each prefix of its paths.
 pub record GraphLaw : Type 0 where
   pub root : (s : Sums) → get (graph s) [] ≡ Some 0
-  pub paths : (s : Sums) (k : Key) (p : Path) → get (graph s) (k ∷ p)
-      ≡ option_map (λ m. cond m.is_unique m.bytes (m.bytes - below s (k ∷ p))) (get s (k ∷ p))
+  pub paths : (s : Sums) (k : Key) (p : Path) → get (graph s) (k ∷ p) ≡ option_map (remaining s (k ∷ p)) (get s (k ∷ p))
   pub is_tree : (f : Forest) → IsTree (graph (sums_of (all f)))

@@ -32,5 +32,6 @@ returns c = record {
   shared_ring_whole = (contains-empty identity_cmp one, (contains-insert identity_total empty one one, tt), tt);
   unique_in_unique_held = refl;
   vec_body_held = refl;
-  inline_and_unique_cannot_be_added = λ can. true≢false (sym (can (codes "n" ∷ []) (record { bytes = 8; is_unique = false }) (record { bytes = 8; is_unique = true }) (get-sums_of (all part_inline) (codes "n" ∷ [])) (get-sums_of (all part_unique) (codes "n" ∷ []))).0);
+  inline_and_unique_cannot_be_added = λ can. true≢false (sym (can (codes "n" ∷ []) (record { bytes = 8; is_unique = false }) (record { bytes = 8; is_unique = true })
+      (get-sums_of (all part_inline) (codes "n" ∷ [])) (get-sums_of (all part_unique) (codes "n" ∷ []))).0);
 }
