@@ -2,6 +2,7 @@
 use Rattle.std.proofs.Common.{◌≡◌, Bool, true, false, ◌||◌, IsTrue, inl, inr, List, [], ◌∷◌, ◌++◌, map, refl, sym, ◌∙◌, true≢false, Ordering, Less, Equal, Greater}
 use Rattle.allocative_graph.proofs.Common.{list_any, AllByRecursion, is_eq, ordering_then, nat_list_cmp_total, IsAntisymmetric, nat_cmp-IsAntisymmetric, slice_cmp-IsAntisymmetric, Path, path_cmp, is_same_path, Identity, identity_cmp, is_same_identity, list_any-append}
 use Rattle.std.specs.Cmp.{IsTotalOrder, Equal-is}
+use Rattle.std.proofs.lemmas.List.Elements.{All-append, All-from_recursion, All-weaker, recursion_from_All}
 use Rattle.std.proofs.lemmas.Map.Lookups.{exact_pairs}
 use Rattle.std.specs.Ordering.{nat_cmp}
 use Rattle.std.specs.Cmp.Lexicographic.{lists_total}
@@ -21,16 +22,14 @@ is_eq-Equal r = (Equal-is r).0
 
 -- ---- lists
 pub each-append : {X : Type 0} (P : X → Type 0) (xs ys : List X) → AllByRecursion P xs → AllByRecursion P ys → AllByRecursion P (xs ++ ys)
-each-append P [] ys h g = g
-each-append P (x ∷ xs) ys h g = (h.0, each-append P xs ys h.1 g)
+each-append P xs ys h g = recursion_from_All P (xs ++ ys) (All-append P xs ys (All-from_recursion P xs h) (All-from_recursion P ys g))
 
 pub each-parts : {X : Type 0} (P : X → Type 0) (xs ys : List X) → AllByRecursion P (xs ++ ys) → AllByRecursion P xs × AllByRecursion P ys
 each-parts P [] ys h = (tt, h)
 each-parts P (x ∷ xs) ys h = let rest = each-parts P xs ys h.1 in ((h.0, rest.0), rest.1)
 
 pub each-implies : {X : Type 0} (P Q : X → Type 0) → ((x : X) → P x → Q x) → (xs : List X) → AllByRecursion P xs → AllByRecursion Q xs
-each-implies P Q f [] h = tt
-each-implies P Q f (x ∷ xs) h = (f x h.0, each-implies P Q f xs h.1)
+each-implies P Q f xs h = recursion_from_All Q xs (All-weaker P Q f xs (All-from_recursion P xs h))
 
 pub each-map : {X Y : Type 0} (P : Y → Type 0) (f : X → Y) (xs : List X) → AllByRecursion P (map f xs) → AllByRecursion (λ x. P (f x)) xs
 each-map P f [] h = tt

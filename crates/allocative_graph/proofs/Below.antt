@@ -10,8 +10,7 @@ use Rattle.allocative_graph.proofs.Computed.{below_list, entries-empty}
 
 pub is_lt-Less : (r : Ordering) → T (is_lt r) → r ≡ Less
 is_lt-Less Less h = refl
-is_lt-Less Equal h = absurd h
-is_lt-Less Greater h = absurd h
+is_lt-Less r h = absurd h
 
 pub find-below_all : {K X : Type 0} (R : K → K → Ordering) (k : K) (es : List (K × X)) → T (below_all R k es) → find R k es ≡ None
 find-below_all R k [] h = refl

@@ -1,8 +1,8 @@
 -- A path with an entry one key below it has an entry itself, or is the root.
-use Rattle.std.proofs.Common.{◌≡◌, ℕ, ◌+◌, false, cond, IsTrue, ◌⊎◌, inl, inr, List, [], ◌∷◌, ◌++◌, flat_map, refl, ap, sym, ◌∙◌, ◌&&◌, Bool, true≢false}
-use Rattle.allocative_graph.proofs.Common.{AllByRecursion, is_eq, list_any, eq_by_cmp, nat_cmp-IsAntisymmetric, slice_cmp-IsAntisymmetric, Key, Path, key_cmp, is_same_path, is_one_below, Identity, Forest, Empty, Inline, Unique, First, Again, AsInline, AsUnique, AsShared, Bag, own, own_behind, contents, content_entries, all, is_entered_in, sum_by-cons}
+use Rattle.std.proofs.Common.{◌≡◌, ℕ, ◌+◌, false, cond, IsTrue, ◌⊎◌, inl, inr, List, [], ◌∷◌, ◌++◌, flat_map, refl, ap, sym, ◌∙◌, ◌&&◌, ◌||◌, Bool, true≢false, arith}
+use Rattle.allocative_graph.proofs.Common.{AllByRecursion, is_eq, list_any, list_any-append, eq_by_cmp, nat_cmp-IsAntisymmetric, slice_cmp-IsAntisymmetric, Key, Path, key_cmp, is_same_path, is_one_below, Identity, Forest, Empty, Inline, Unique, First, Again, AsInline, AsUnique, AsShared, Bag, own, own_behind, contents, content_entries, all, is_entered_in, sum_by-cons}
 use Rattle.allocative_graph.specs.Forest.{Mark}
-use Rattle.allocative_graph.proofs.Basics.{each-append, and_parts, any_both, any_left, any_right, or_both, or_left, or_right, or_parts, false_from_ne_true, is_eq-Equal, same_path, same_path_itself}
+use Rattle.allocative_graph.proofs.Basics.{each-append, and_parts, or_both, or_left, or_right, or_parts, false_from_ne_true, is_eq-Equal, same_path, same_path_itself}
 use Rattle.allocative_graph.proofs.PathOrder.{key_itself}
 use Rattle.allocative_graph.proofs.Below.{below_in}
 
@@ -22,17 +22,15 @@ has_below b p = list_any (λ e. is_one_below p e.path) b
 
 -- A path with an entry one key below it is r, or is entered.
 abbrev Closed : Path → Bag → Type 0
-Closed r b = (p : Path) → IsTrue (has_below b p) → (p ≡ r) ⊎ IsTrue (is_entered_in b p)
+Closed r b = (p : Path) → IsTrue (has_below b p) → IsTrue (is_same_path p r || is_entered_in b p)
 
 closed_append : (r : Path) (b c : Bag) → Closed r b → Closed r c → Closed r (b ++ c)
-closed_append r b c x y p = any_both (λ e. is_one_below p e.path) b c
-    (λ w. elim (x p w) [ inl q ↦ inl q | inr q ↦ inr (any_left (λ e. is_same_path p e.path) b c q) ]) (λ w. elim (y p w) [ inl q ↦ inl q | inr q ↦ inr (any_right (λ e. is_same_path p e.path) b c q) ])
+closed_append r b c x y p = rw (list_any-append (λ e. is_one_below p e.path) b c, list_any-append (λ e. is_same_path p e.path) b c) (λ h. grind (arith, x p, y p))
 
 -- An entry at r ++ k ∷ [], with others inside it and after it.
 closed_entry : (r : Path) (k : Key) (n : ℕ) (m : Mark) (b c : Bag) → Closed (r ++ k ∷ []) b → Closed r c → Closed r (record { path = r ++ k ∷ []; size = n; mark = m } ∷ (b ++ c))
-closed_entry r k n m b c x y p h = or_both (is_one_below p (r ++ k ∷ [])) (has_below (b ++ c) p) (λ w. inl (one_below_child p r k w)) (any_both (λ e. is_one_below p e.path) b c
-    (λ w. inr (elim (x p w) [ inl q ↦ or_left _ _ (ap (is_same_path p) (sym q) ∙ same_path_itself p) | inr q ↦ or_right _ _ (any_left (λ e. is_same_path p e.path) b c q) ]))
-    (λ w. elim (y p w) [ inl q ↦ inl q | inr q ↦ inr (or_right (is_same_path p (r ++ k ∷ [])) _ (any_right (λ e. is_same_path p e.path) b c q)) ])) h
+closed_entry r k n m b c x y p = rw (list_any-append (λ e. is_one_below p e.path) b c, list_any-append (λ e. is_same_path p e.path) b c)
+    (λ h. let here = λ (w : IsTrue (is_one_below p (r ++ k ∷ []))). ap (is_same_path p) (sym (one_below_child p r k w)) ∙ same_path_itself p in grind (arith, x p, y p, here))
 
 closed_none : (r : Path) → Closed r []
 closed_none r p h = absurd (true≢false (sym h))
@@ -69,7 +67,7 @@ below_entered p k (e ∷ b) h = or_both (is_same_path (p ++ k ∷ []) e.path) _
 
 -- A path other than the root is entered where one key below it is, and otherwise nothing is below it.
 pub parent_entered : (f : Forest) (l : Key) (p : Path) → IsTrue (has_below (all f) (l ∷ p)) → IsTrue (is_entered_in (all f) (l ∷ p))
-parent_entered f l p h = elim (closed_all f (l ∷ p) h) [ inl q ↦ absurd (cc) | inr q ↦ q ]
+parent_entered f l p h = closed_all f (l ∷ p) h
 
 below_none : (b : Bag) (p : Path) → has_below b p ≡ false → below_in b p ≡ 0
 below_none [] p h = refl

@@ -44,8 +44,11 @@ below_list es p = sum_by (λ e. cond (is_one_below p e.0) e.1.bytes 0) es
 abbrev pub sizes_list : List (Path × Node) → List (Path × ℕ)
 sizes_list es = put_all (([], 0) ∷ map (λ e. (e.0, cond e.1.is_unique e.1.bytes (e.1.bytes - below_list es e.0))) es)
 
+entries-graph : (b : Bag) → entries (graph (sums_of b)) ≡ sizes_list (nodes_of b)
+entries-graph b = entries-from_entries (sizes (sums_of b)) ∙ ap sizes_list (entries-sums_of b)
+
 pub text-computed : (b : Bag) → text (graph (sums_of b)) ≡ text_of_entries (sizes_list (nodes_of b))
-text-computed b = ap text_of_entries (entries-from_entries (sizes (sums_of b)) ∙ ap sizes_list (entries-sums_of b))
+text-computed b = ap text_of_entries (entries-graph b)
 
 abbrev pub warnings_list : List (Path × Node) → List ℕ
 warnings_list es = flat_map (λ e. cond (not (is_root e.0) && not e.1.is_unique && nat_lt e.1.bytes (below_list es e.0)) (warning_line e.0 e.1.bytes (below_list es e.0)) []) es
@@ -60,4 +63,4 @@ entries-sum_of : (g h : Graph) → entries (sum_of g h) ≡ added_list (entries 
 entries-sum_of g h = entries-from_entries _ ∙ (λ i. put_all (map (λ p. (p, unwrap_or (get-entries g p i) 0 + unwrap_or (get-entries h p i) 0)) (keys g ++ keys h)))
 
 pub text_added : (b c : Bag) → text (sum_of (graph (sums_of b)) (graph (sums_of c))) ≡ text_of_entries (added_list (sizes_list (nodes_of b)) (sizes_list (nodes_of c)))
-text_added b c = ap text_of_entries (entries-sum_of (graph (sums_of b)) (graph (sums_of c)) ∙ (λ i. added_list ((entries-from_entries (sizes (sums_of b)) ∙ ap sizes_list (entries-sums_of b)) i) ((entries-from_entries (sizes (sums_of c)) ∙ ap sizes_list (entries-sums_of c)) i)))
+text_added b c = ap text_of_entries (entries-sum_of (graph (sums_of b)) (graph (sums_of c)) ∙ (λ i. added_list (entries-graph b i) (entries-graph c i)))

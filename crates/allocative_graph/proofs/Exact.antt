@@ -22,8 +22,7 @@ none_before c best acc [] h = refl
 none_before c best acc (b ∷ d) h = ap (λ t. cond t (before_last c acc (acc ++ b ∷ []) d) (before_last c best (acc ++ b ∷ []) d)) (ne_eqb b c h.0) ∙ none_before c best (acc ++ b ∷ []) d h.1
 
 same_cond : {A : Type 0} (t : Bool) (x y z : A) → x ≡ z → y ≡ z → cond t x y ≡ z
-same_cond true x y z p q = p
-same_cond false x y z p q = q
+same_cond t x y z p q = grind arith
 
 before_read : (best acc x d : List ℕ) → Lacks 32 d → before_last 32 best acc (x ++ 32 ∷ d) ≡ acc ++ x
 before_read best acc [] d h = none_before 32 acc (acc ++ 32 ∷ []) d h ∙ sym (append-nil acc)

@@ -1,10 +1,10 @@
 -- One forest followed by another: their entries, their contents, and what they fit.
 use Rattle.std.proofs.Common.{◌≡◌, ◌↔◌, Bool, false, ◌||◌, IsTrue, List, [], ◌∷◌, ◌++◌, refl, ap, sym, ◌∙◌, subst, append_assoc, arith}
-use Rattle.allocative_graph.proofs.Common.{AllByRecursion, Sums, add_all, contains, contains-insert, Path, Entry, Identities, Identity, is_same_identity, Forest, Empty, Inline, Unique, First, Again, AsInline, AsUnique, AsShared, Bag, own_behind, contents, content_entries, shown, followed_by, insert_all, met_after, Fits, is_among, added, flat_map-append, IsPermutation-append_left, IsPermutation-append_right, IsPermutation-append_comm}
+use Rattle.allocative_graph.proofs.Common.{AllByRecursion, Sums, add, add_all, contains, contains-insert, Path, Entry, Identities, Identity, is_same_identity, Forest, Empty, Inline, Unique, First, Again, AsInline, AsUnique, AsShared, Bag, own_behind, contents, content_entries, shown, followed_by, insert_all, met_after, Fits, is_among, added, flat_map-append, IsPermutation-append_left, IsPermutation-append_right, IsPermutation-append_comm}
 use Rattle.std.specs.FinSet.{insert}
 use Rattle.allocative_graph.proofs.Basics.{or_assoc, or_left, each-parts, identity_total}
-use Rattle.allocative_graph.proofs.Lookups.{add_all-same, add_all-append}
-use Rattle.std.proofs.lemmas.List.Sums.{sum_by-append}
+use Rattle.allocative_graph.proofs.Lookups.{add_all-same}
+use Rattle.std.proofs.lemmas.List.Sums.{fold-append, sum_by-append}
 use Rattle.allocative_graph.proofs.Reach.{Contents, ids, met-append}
 
 pub own-following : (p : Path) (f g : Forest) → own_behind p (followed_by f g) ≡ own_behind p f ++ own_behind p g
@@ -27,7 +27,7 @@ met-following s f g = rw (contents-following f g) (met-append s (contents f) (co
 pub added-following : (s : Sums) (p : Path) (f g : Forest) → add_all s (added p (followed_by f g)) ≡ add_all (add_all s (added p f)) (added p g)
 added-following s p f g = add_all-same s (added p (followed_by f g)) (added p f ++ added p g)
     (λ w. rw (own-following p f g, contents-following f g, flat_map-append (λ (c : Identity × Bag). c.1) (contents f) (contents g)) (simp sum_by-append (omega arith)))
-    ∙ add_all-append s (added p f) (added p g)
+    ∙ fold-append add s (added p f) (added p g)
 
 -- ---- fitting
 fits_inside : (s : Identities) (f after g : Forest) → Fits (met_after s f) (followed_by after g) ↔ (Fits (met_after s f) after × Fits (met_after (met_after s f) after) g)

@@ -19,10 +19,7 @@ module _ {X : Type 0} (made : X → Graph) where
 
   pub has-added_up : (g : Graph) (xs : List X) (p : Path) → contains_key (added_up g xs) p ≡ (contains_key g p || list_any (λ x. contains_key (made x) p) xs)
   has-added_up g [] p = sym (or-false _)
-  has-added_up g (x ∷ xs) p =
-      has-added_up (sum_of g (made x)) xs p
-      ∙ ap (λ b. b || list_any (λ x. contains_key (made x) p) xs) (has-sum_of g (made x) p)
-      ∙ or_assoc (contains_key g p) (contains_key (made x) p) (list_any (λ x. contains_key (made x) p) xs)
+  has-added_up g (x ∷ xs) p = grind (arith, has-added_up (sum_of g (made x)) xs p, has-sum_of g (made x) p)
 
   pub total-added_up : (g : Graph) (xs : List X) → total (added_up g xs) ≡ total g + sum_by (λ x. total (made x)) xs
   total-added_up g [] = omega arith
@@ -30,9 +27,9 @@ module _ {X : Type 0} (made : X → Graph) where
 
   -- The order of the items does not matter.
   pub added_up-permuted : (g : Graph) (xs ys : List X) → IsPermutation xs ys → added_up g ys ≡ added_up g xs
-  added_up-permuted g xs ys h =
-      same_graph _ _ (λ p. omega (arith, size_at-added_up g ys p, size_at-added_up g xs p, sum_by-IsPermutation (λ x. size_at (made x) p) xs ys h))
-      (λ p. has-added_up g ys p ∙ ap (λ b. contains_key g p || b) (sym (list_any-IsPermutation (λ x. contains_key (made x) p) xs ys h)) ∙ sym (has-added_up g xs p))
+  added_up-permuted g xs ys h = same_graph _ _
+      (λ p. omega (arith, size_at-added_up g ys p, size_at-added_up g xs p, sum_by-IsPermutation (λ x. size_at (made x) p) xs ys h))
+      (λ p. grind (arith, has-added_up g ys p, has-added_up g xs p, list_any-IsPermutation (λ x. contains_key (made x) p) xs ys h))
 
   pub added_up-onto : (g h : Graph) (xs : List X) → sum_of g (added_up h xs) ≡ added_up (sum_of g h) xs
   added_up-onto g h [] = refl

@@ -65,7 +65,3 @@ node_in-same b c h q = λ i. cond (any_same (λ e. is_same_path q e.path) b c h 
 
 pub add_all-same : (s : Sums) (b c : Bag) → SameSums b c → add_all s b ≡ add_all s c
 add_all-same s b c h = same_sums _ _ (λ q. get-add_all s b q ∙ ap (merge (get s q)) (node_in-same b c h q) ∙ sym (get-add_all s c q))
-
-pub add_all-append : (s : Sums) (b c : Bag) → add_all s (b ++ c) ≡ add_all (add_all s b) c
-add_all-append s [] c = refl
-add_all-append s (e ∷ b) c = add_all-append (add s e) b c

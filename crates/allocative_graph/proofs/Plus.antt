@@ -74,31 +74,24 @@ held_again k n j h = ap OfHeld (holding-nothing h)
 
 -- ---- the count of visitors
 pub visitors-plus : (c : Kind) (f : Forest) → visitors (plus c f) ≡ visitors c
-visitors-plus (OfGraph c) f = refl
-visitors-plus (OfHeld h) f = refl
+visitors-plus c f = grind arith
 
 pub visitors-enter : (u : Bool) (k : Key) (n : ℕ) (c : Kind) → visitors (enter u k n c) ≡ suc (visitors c)
-visitors-enter u k n (OfGraph c) = refl
-visitors-enter u k n (OfHeld h) = refl
+visitors-enter u k n c = grind arith
 
 -- Leaving takes at most one open visitor away.
 pub visitors-leave : (outer : Bool) (c : Kind) → visitors c ≤ suc (visitors (leave outer c))
-visitors-leave outer (OfGraph c) = grind arith
-visitors-leave outer (OfHeld h) = grind arith
+visitors-leave outer c = grind arith
 
 -- ---- which of the two it is
 pub is_graph-plus : (c : Kind) (f : Forest) → is_graph (plus c f) ≡ is_graph c
-is_graph-plus (OfGraph c) f = refl
-is_graph-plus (OfHeld h) f = refl
+is_graph-plus c f = grind arith
 
 pub is_graph-enter : (u : Bool) (k : Key) (n : ℕ) (c : Kind) → is_graph (enter u k n c) ≡ is_graph c
-is_graph-enter u k n (OfGraph c) = refl
-is_graph-enter u k n (OfHeld h) = refl
+is_graph-enter u k n c = grind arith
 
 pub is_graph-leave : (outer : Bool) (c : Kind) → is_graph (leave outer c) ≡ is_graph c
-is_graph-leave outer (OfGraph c) = refl
-is_graph-leave outer (OfHeld h) = refl
+is_graph-leave outer c = grind arith
 
 pub is_graph-begin : (c : Kind) → is_graph (begin c) ≡ is_graph c
-is_graph-begin (OfGraph c) = refl
-is_graph-begin (OfHeld h) = refl
+is_graph-begin c = grind arith

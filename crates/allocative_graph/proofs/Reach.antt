@@ -6,6 +6,7 @@ use Rattle.std.specs.Map.{lookup}
 use Rattle.std.specs.FinSet.{insert, empty}
 use Rattle.std.proofs.lemmas.Cmp.{eq_by_cmp_equiv}
 use Rattle.std.proofs.lemmas.List.Elements.{All-contains_itself, All-weaker, recursion_from_All}
+use Rattle.std.proofs.lemmas.List.Sums.{fold-append}
 use Rattle.std.proofs.lemmas.Map.Views.{lookup-from_Contains}
 use Rattle.allocative_graph.specs.Meaning.{ReachesExactly}
 use Rattle.allocative_graph.proofs.Basics.{or_both, or_left, or_right, or_assoc, or_comm, or_parts, or-false, on_test, any_both, any_left, any_right, each-parts, each-implies, identity_total, same_identity, same_identity_itself, same_identity_turned}
@@ -17,8 +18,7 @@ abbrev pub ids : Contents → List Identity
 ids cs = map (λ c. c.0) cs
 
 pub met-append : (s : Identities) (cs ds : Contents) → insert_all s (ids (cs ++ ds)) ≡ insert_all (insert_all s (ids cs)) (ids ds)
-met-append s [] ds = refl
-met-append s (c ∷ cs) ds = met-append (insert s c.0) cs ds
+met-append s cs ds = ap (insert_all s) (map-append (λ c. c.0) cs ds) ∙ fold-append insert s (ids cs) (ids ds)
 
 among_both : {Q : Type 0} (i : Identity) (cs ds : Contents) → (IsTrue (is_among i (ids cs)) → Q) → (IsTrue (is_among i (ids ds)) → Q) → IsTrue (is_among i (ids (cs ++ ds))) → Q
 among_both i cs ds f g h = or_both (is_among i (ids cs)) (is_among i (ids ds)) f g (sym (ap (is_among i) (map-append (λ c. c.0) cs ds) ∙ list_any-append (is_same_identity i) (ids cs) (ids ds)) ∙ h)
