@@ -5,7 +5,7 @@ use Rattle.std.specs.FinSet.{insert}
 use Rattle.allocative_graph.proofs.Basics.{or_assoc, or_left, each-parts, identity_total}
 use Rattle.allocative_graph.proofs.Lookups.{add_all-same}
 use Rattle.std.proofs.lemmas.List.Sums.{fold-append, sum_by-append}
-use Rattle.allocative_graph.proofs.Reach.{Contents, ids, met-append}
+use Rattle.allocative_graph.proofs.Reach.{Contents, ids, met-append, contains-insert_all}
 
 pub own-following : (p : Path) (f g : Forest) → own_behind p (followed_by f g) ≡ own_behind p f ++ own_behind p g
 own-following p Empty g = refl
@@ -32,9 +32,8 @@ added-following s p f g = add_all-same s (added p (followed_by f g)) (added p f 
 -- ---- fitting
 fits_inside : (s : Identities) (f after g : Forest) → Fits (met_after s f) (followed_by after g) ↔ (Fits (met_after s f) after × Fits (met_after (met_after s f) after) g)
     → (Fits s f × Fits (met_after s f) (followed_by after g)) ↔ ((Fits s f × Fits (met_after s f) after) × Fits (insert_all s (ids (contents f ++ contents after))) g)
-fits_inside s f after g rest =
-    let met = ap (λ t. Fits t g) (met-append s (contents f) (contents after)) in
-    (λ w. let x = rest.0 w.1 in ((w.0, x.0), subst (λ X. X) (sym met) x.1), λ w. (w.0.0, rest.1 (w.0.1, subst (λ X. X) met w.1)))
+fits_inside s f after g rest = rw (met-append s (contents f) (contents after))
+    (λ w. let x = rest.0 w.1 in ((w.0, x.0), x.1), λ w. (w.0.0, rest.1 (w.0.1, w.1)))
 
 pub fits-following : (s : Identities) (f g : Forest) → Fits s (followed_by f g) ↔ (Fits s f × Fits (met_after s f) g)
 fits-following s Empty g = (λ w. (tt, w), λ w. w.1)
@@ -47,15 +46,11 @@ fits-following s (Again k n j after) g = let rest = fits-following s after g in 
 
 -- ---- a set with more identities, of which none is shown
 module _ (more : Identity → Bool) where
-  abbrev pub HasMore : Identities → Identities → Type 0
+  abbrev HasMore : Identities → Identities → Type 0
   HasMore s t = (i : Identity) → contains t i ≡ (contains s i || more i)
 
-  more-insert : (s t : Identities) (j : Identity) → HasMore s t → HasMore (insert s j) (insert t j)
-  more-insert s t j h i = grind (arith, contains-insert identity_total t j i, contains-insert identity_total s j i, h i)
-
   more-insert_all : (s t : Identities) (is : List Identity) → HasMore s t → HasMore (insert_all s is) (insert_all t is)
-  more-insert_all s t [] h = h
-  more-insert_all s t (i ∷ is) h = more-insert_all (insert s i) (insert t i) is (more-insert s t i h)
+  more-insert_all s t is h i = grind (arith, contains-insert_all s is i, contains-insert_all t is i, h i)
 
   pub fits_more : (s t : Identities) (f : Forest) → HasMore s t → AllByRecursion (λ c. more c.0 ≡ false) (contents f) → Fits s f → Fits t f
   fits_more s t Empty h a w = tt
@@ -67,7 +62,7 @@ module _ (more : Identity → Bool) where
       (fits_more s t f h xs.0 w.0, fits_more (met_after s f) (met_after t f) after (more-insert_all s t (shown f) h) xs.1 w.1)
   fits_more s t (First k n j f after) h a w =
       let xs = each-parts (λ c. more c.0 ≡ false) (contents f) (contents after) a.1 in
-      let up = more-insert s t j h in
+      let up = more-insert_all s t (j ∷ []) h in
       (h j ∙ ap (λ c. c || more j) w.0 ∙ a.0, fits_more (insert s j) (insert t j) f up xs.0 w.1,
       fits_more (met_after (insert s j) f) (met_after (insert t j) f) after (more-insert_all (insert s j) (insert t j) (shown f) up) xs.1 w.2)
   fits_more s t (Again k n j after) h a w = (h j ∙ or_left _ (more j) w.0, fits_more s t after h a w.1)

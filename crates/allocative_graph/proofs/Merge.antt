@@ -37,11 +37,8 @@ at_path : (a b : ℕ) (x y : Option Node) → (x ≡ None → a ≡ 0) → (y �
     → cond (is_some (option_map (rest_of a) x) || is_some (option_map (rest_of b) y)) (Some (unwrap_or (option_map (rest_of a) x) 0 + unwrap_or (option_map (rest_of b) y) 0)) None ≡ option_map (rest_of (a + b)) (merge x y)
 at_path a b x y f g h = grind (arith, h)
 
-no_node : (t : Bool) (n : Node) → ◌≡◌ {A = Option Node} (cond t (Some n) None) None → t ≡ false
-no_node t n e = grind arith
-
 absent_sums : (f : Forest) (k : Key) (p : Path) → get (sums_of (all f)) (k ∷ p) ≡ None → below (sums_of (all f)) (k ∷ p) ≡ 0
-absent_sums f k p h = below-sums_of (all f) (k ∷ p) ∙ absent_below f k p (no_node (is_entered_in (all f) (k ∷ p)) _ (sym (get-sums_of (all f) (k ∷ p)) ∙ h))
+absent_sums f k p h = below-sums_of (all f) (k ∷ p) ∙ absent_below f k p (grind (arith, get-sums_of (all f) (k ∷ p), h))
 
 pub graphs_add : (f g : Forest) → CanBeAdded (sums_of (all f)) (sums_of (all g)) → sum_of (graph (sums_of (all f))) (graph (sums_of (all g))) ≡ graph (sums_of (all (followed_by f g)))
 graphs_add f g can = same_map path_total path_antisymmetric _ _ each

@@ -12,14 +12,11 @@ use Rattle.allocative_graph.proofs.Computed.{no_entries}
 use Rattle.allocative_graph.proofs.Reach.{shown_distinct, as_flat, reaches_exactly}
 use Rattle.allocative_graph.proofs.Lookups.{SameSums, add_all-same}
 
-has_mark-permutation : (i : Identity) (b c : Bag) → IsPermutation b c → has_mark i b ≡ has_mark i c
-has_mark-permutation i b c p = list_any-IsPermutation (λ e. is_mark_of i e.mark) b c p
-
 pub same_reached : (f g : Forest) → IsWhole f → IsWhole g → Agree f g → (i : Identity) → Reached (own f) (content_of f) i → Reached (own g) (content_of g) i
-same_reached f g v w a i (marked h) = marked (sym (has_mark-permutation i (own f) (own g) a.own_entries) ∙ h)
+same_reached f g v w a i (marked h) = marked (sym (list_any-IsPermutation (λ e. is_mark_of i e.mark) (own f) (own g) a.own_entries) ∙ h)
 same_reached f g v w a i (inside j r h) =
     let there = same_reached f g v w a j r in
-    inside j there (sym (has_mark-permutation i (content_of f j) (content_of g j) (a.same_content j ((reaches_exactly f v j).1 r) ((reaches_exactly g w j).1 there))) ∙ h)
+    inside j there (sym (list_any-IsPermutation (λ e. is_mark_of i e.mark) (content_of f j) (content_of g j) (a.same_content j ((reaches_exactly f v j).1 r) ((reaches_exactly g w j).1 there))) ∙ h)
 
 pub agree_back : (f g : Forest) → Agree f g → Agree g f
 agree_back f g a = record {
@@ -33,12 +30,6 @@ same_shown f g v w a i = both_ways _ _
     (λ h. (reaches_exactly f v i).1 (same_reached g f w v (agree_back f g a) i ((reaches_exactly g w i).0 h)))
 
 -- ---- two lists of the same identities, each with none twice
-absent : (i : Identity) (is : List Identity) → AllByRecursion (λ j. is_same_identity i j ≡ false) is → is_among i is ≡ false
-absent i is h = list_any_none (is_same_identity i) is (All-from_recursion _ is h)
-
-cond_agree : {X : Type 0} (b : Bool) (x y : X) → (IsTrue b → x ≡ y) → cond b (Some x) None ≡ cond b (Some y) None
-cond_agree b x y h = grind arith
-
 module _ (v : Identity → ℕ) where
   abbrev Listed : List Identity → FinMap identity_cmp ℕ
   Listed is = from_entries (map (λ i. (i, v i)) is)
@@ -50,7 +41,7 @@ module _ (v : Identity → ℕ) where
   unfolding IsDistinct
   sum-listed [] d = ap (sum_by (λ e. e.1)) (no_entries identity_cmp ℕ)
   sum-listed (i ∷ is) d =
-      let new : v i ≡ unwrap_or (option_map (λ n. n) (get (Listed is) i)) 0 + v i = rw (get-listed is i, absent i is d.0) (omega arith) in
+      let new : v i ≡ unwrap_or (option_map (λ n. n) (get (Listed is) i)) 0 + v i = rw (get-listed is i, list_any_none (is_same_identity i) is (All-from_recursion _ is d.0)) (omega arith) in
       omega (arith, weights-insert identity_total identity_antisymmetric (λ i n. n) (Listed is) i (v i) (v i) new, sum-listed is d.1, sum_by-cons v i is)
 
 sum-flat : (w : Entry → ℕ) (T : Identity → Bag) (is : List Identity) → sum_by w (flat_map T is) ≡ sum_by (λ i. sum_by w (T i)) is
@@ -61,7 +52,7 @@ sum-flat w T (i ∷ is) = omega (arith, sum_by-append w (T i) (flat_map T is), s
 module _ (is js : List Identity) (d : IsDistinct is_same_identity is) (e : IsDistinct is_same_identity js) (same : (k : Identity) → is_among k is ≡ is_among k js) where
   same_sum : (u v : Identity → ℕ) → ((k : Identity) → IsTrue (is_among k js) → u k ≡ v k) → sum_by u is ≡ sum_by v js
   same_sum u v each = sym (sum-listed u is d) ∙ ap (λ l. sum_by (λ e. e.1) (entries l)) (same_map identity_total identity_antisymmetric _ _
-      (λ q. get-listed u is q ∙ ap (λ b. cond b (Some (u q)) None) (same q) ∙ cond_agree (is_among q js) _ _ (each q) ∙ sym (get-listed v js q))) ∙ sum-listed v js e
+      (λ q. rw (get-listed u is q, get-listed v js q, same q) (grind (arith, each q)))) ∙ sum-listed v js e
 
   pub same_flat : (S T : Identity → Bag) → ((k : Identity) → IsTrue (is_among k js) → IsPermutation (S k) (T k)) → SameSums (flat_map S is) (flat_map T js)
   same_flat S T each w = sum-flat w S is ∙ same_sum (λ i. sum_by w (S i)) (λ i. sum_by w (T i)) (λ k h. sym (sum_by-IsPermutation w _ _ (each k h))) ∙ sym (sum-flat w T js)

@@ -123,14 +123,11 @@ own_content f w = recursion_from_All _ (contents f) (All-weaker (Contains (conte
     (λ c h. ap (λ o. unwrap_or o []) (lookup-from_Contains (eq_by_cmp_equiv identity_total) c.0 c.1 (contents f) (shown_distinct f w) h)) (contents f) (All-contains_itself (contents f)))
 
 -- ---- the theorem
-reached_is_met : (f : Forest) → IsWhole f → (i : Identity) → Reached (own f) (content_of f) i → IsTrue (contains (met_after empty f) i)
-reached_is_met f w i (marked h) = fits_marks [] empty f w i (inl h)
-reached_is_met f w i (inside j r h) = fits_marks [] empty f w i (inr (marks_content (contents f) i j h))
-
 pub reaches_exactly : (f : Forest) → IsWhole f → ReachesExactly f
 reaches_exactly f w i = (
   reach (own f) (content_of f) [] f (λ j h. marked h) (own_content f w) i,
-  λ r. sym (contains-insert_all empty (shown f) i ∙ ap (λ b. b || is_among i (shown f)) (contains-empty identity_cmp i)) ∙ reached_is_met f w i r,
+  λ r. sym (contains-insert_all empty (shown f) i ∙ ap (λ b. b || is_among i (shown f)) (contains-empty identity_cmp i))
+      ∙ fits_marks [] empty f w i (elim r [ marked h ↦ inl h | inside j q h ↦ inr (marks_content (contents f) i j h) ]),
 )
 
 -- The entries of all contents are those of the content of each identity shown.
