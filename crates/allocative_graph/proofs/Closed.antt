@@ -1,5 +1,5 @@
 -- A path with an entry one key below it has an entry itself, or is the root.
-use Rattle.std.proofs.Common.{◌≡◌, ℕ, ◌+◌, false, cond, IsTrue, ◌⊎◌, inl, inr, List, [], ◌∷◌, ◌++◌, flat_map, refl, ap, sym, ◌∙◌, ◌&&◌, ◌||◌, Bool, true≢false, arith}
+use Rattle.std.proofs.Common.{◌≡◌, ℕ, ◌+◌, false, cond, IsTrue, List, [], ◌∷◌, ◌++◌, flat_map, refl, ap, sym, ◌∙◌, ◌&&◌, ◌||◌, Bool, true≢false, arith}
 use Rattle.allocative_graph.proofs.Common.{AllByRecursion, is_eq, list_any, list_any-append, eq_by_cmp, nat_cmp-IsAntisymmetric, slice_cmp-IsAntisymmetric, Key, Path, key_cmp, is_same_path, is_one_below, Identity, Forest, Empty, Inline, Unique, First, Again, AsInline, AsUnique, AsShared, Bag, own, own_behind, contents, content_entries, all, is_entered_in, sum_by-cons}
 use Rattle.allocative_graph.specs.Forest.{Mark}
 use Rattle.allocative_graph.proofs.Basics.{each-append, and_parts, or_both, or_left, or_right, or_parts, false_from_ne_true, is_eq-Equal, same_path, same_path_itself}

@@ -1,6 +1,6 @@
 -- The maps of a bag as plain lists, on which texts compute.
 use Rattle.std.proofs.Common.{◌≡◌, ℕ, ◌+◌, unwrap_or, ◌-◌, cond, List, [], ◌∷◌, ◌++◌, map, sum_by, flat_map, refl, ap, sym, ◌∙◌, nat_lt, not, ◌&&◌, Ordering}
-use Rattle.allocative_graph.proofs.Common.{nil_from_length, keys, entries, from_entries, get-entries, entries-insert, len-entries, put, find, Path, path_cmp, is_one_below, Entry, Bag, Node, Sums, add, add_all, sums_of, together, node_of, Graph, graph, sizes, size_at, sum_of, text, text_of_entries, warnings, is_root}
+use Rattle.allocative_graph.proofs.Common.{nil_from_length, keys, entries, from_entries, get-entries, entries-insert, len-entries, put, find, Path, path_cmp, is_one_below, Entry, Bag, Node, Sums, add, add_all, sums_of, together, node_of, Graph, graph, sizes, sum_of, text, text_of_entries, warnings, is_root}
 use Rattle.std.specs.FinMap.{empty, len-empty}
 use Rattle.allocative_graph.proofs.Basics.{path_total}
 use Rattle.allocative_graph.specs.Graph.{warning_line}

@@ -1,5 +1,5 @@
 -- Lines dropped from a text are paths left out of it.
-use Rattle.std.proofs.Common.{◌≡◌, ℕ, ◌==◌, Bool, true, false, cond, not, List, [], ◌∷◌, ◌++◌, map, flat_map, filter, refl, ap, sym, ◌∙◌, append_assoc, append-nil, decimal, ne_eqb, arith}
+use Rattle.std.proofs.Common.{◌≡◌, ℕ, ◌==◌, Bool, cond, not, List, [], ◌∷◌, ◌++◌, map, flat_map, filter, refl, ap, sym, ◌∙◌, append_assoc, append-nil, decimal, ne_eqb, arith}
 use Rattle.allocative_graph.proofs.Common.{AllByRecursion, All-from_recursion, eq_by_cmp, entries, Key, Path, key_cmp, Graph, text, joined, Lacks, HasPlainKeys, codes}
 use Rattle.allocative_graph.specs.Graph.{line}
 use Rattle.allocative_graph.specs.Report.{ends_in, exact_text, lines_from, before_last, after_last, last_key, without_lines}
@@ -58,6 +58,6 @@ pub exact_is : (g : Graph) → HasPlainKeys g → exact_text g ≡ without_lines
 exact_is g h =
     let plain = each-map (AllByRecursion Plain) (λ e. e.0) (entries g) h in
     let kept = recursion_from_All (λ e. AllByRecursion Plain e.0) (filter is_shown (entries g))
-        (All-filter is_shown (λ e. AllByRecursion Plain e.0) (entries g) (All-from_recursion _ (entries g) plain)) in
+    (All-filter is_shown (λ e. AllByRecursion Plain e.0) (entries g) (All-from_recursion _ (entries g) plain)) in
     let lines = ap (lines_from []) (shown_lines (entries g)) ∙ lines_read (filter is_shown (entries g)) kept in
     drop_each (codes "unused_capacity") (entries g) plain ∙ ap (flat_map (λ l. cond (eq_by_cmp key_cmp (codes "unused_capacity") (last_key l)) [] (l ++ 10 ∷ []))) (sym lines)

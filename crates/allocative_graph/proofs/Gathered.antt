@@ -1,7 +1,7 @@
 -- Graphs added one after another, each made from an item: their sizes, paths and totals in any order of the items.
 use Rattle.std.proofs.Common.{◌≡◌, ◌+◌, ◌||◌, List, [], ◌∷◌, fold, refl, sym, ap, ◌∙◌, sum_by, arith}
 use Rattle.allocative_graph.proofs.Common.{list_any, IsPermutation, contains_key, Child, Path, Graph, IsTree, size_at, total, sum_of, under, default, sum_of_all, total_of, sum_by-cons, sum_by-IsPermutation, list_any-IsPermutation}
-use Rattle.allocative_graph.proofs.Basics.{or_assoc, or-false}
+use Rattle.allocative_graph.proofs.Basics.{or-false}
 use Rattle.allocative_graph.proofs.Graphs.{total-sum_of, total-under, sum_of-associates, sum_of-default, same_graph, size_at-sum_of, has-sum_of}
 use Rattle.allocative_graph.proofs.Listing.{entries-from_entries-sorted}
 

@@ -1,7 +1,7 @@
 -- Graphs as maps: their sums, their totals, and graphs under a key.
-use Rattle.std.proofs.Common.{◌≡◌, ℕ, ◌+◌, Bool, true, false, cond, ◌||◌, ◌&&◌, T, IsTrue, ◌⊎◌, inl, inr, List, [], ◌∷◌, ◌++◌, fold, Option, Some, None, is_some, refl, ap, sym, ◌∙◌, arith, add-zero, unwrap_or, sum_by}
-use Rattle.allocative_graph.proofs.Common.{option_map, eq_by_cmp, is_eq, get, entries, get-entries, get-insert, get-from_entries, entries-insert, entries_sorted, contains_key, same_map, find, is_sorted, below_all, first, second, Key, Child, node, IsSumByPath, Path, key_cmp, path_cmp, is_same_path, is_one_below, Forest, all, Bag, is_entered_in, sums_of, Graph, graph, remaining, size_at, total_at, begins, total, sum_of, under, default, IsTree, sum_by-cons, insert}
-use Rattle.allocative_graph.proofs.Basics.{path_total, path_antisymmetric, same_path, on_test, or_assoc, or_comm, or-false, or_left}
+use Rattle.std.proofs.Common.{◌≡◌, ℕ, ◌+◌, Bool, true, cond, ◌||◌, T, IsTrue, List, [], ◌∷◌, ◌++◌, fold, Option, Some, None, is_some, ap, sym, ◌∙◌, arith, unwrap_or, sum_by}
+use Rattle.allocative_graph.proofs.Common.{eq_by_cmp, get, entries, get-entries, get-insert, get-from_entries, entries_sorted, contains_key, same_map, find, is_sorted, below_all, first, second, Key, Child, node, IsSumByPath, Path, key_cmp, path_cmp, is_same_path, Forest, all, Bag, is_entered_in, sums_of, Graph, graph, size_at, total_at, begins, total, sum_of, under, default, IsTree, sum_by-cons, insert}
+use Rattle.allocative_graph.proofs.Basics.{path_total, path_antisymmetric, same_path, or_comm}
 use Rattle.allocative_graph.proofs.Below.{find-below_all, weights-insert}
 use Rattle.allocative_graph.proofs.Merge.{get-sum_of, get-graph, get-graph-root}
 use Rattle.allocative_graph.proofs.Lookups.{get-sums_of}

@@ -1,6 +1,6 @@
 -- Where no identity is reached by both and the sums can be added, the graphs add up.
-use Rattle.std.proofs.Common.{◌≡◌, ℕ, ◌+◌, ◌-◌, ◌≤◌, Bool, true, false, cond, ◌||◌, IsTrue, ◌⊎◌, List, [], ◌∷◌, ◌++◌, map, Option, Some, None, is_some, refl, ap, sym, ◌∙◌, true≢false, arith, unwrap_or}
-use Rattle.allocative_graph.proofs.Common.{option_map, list_any, get, entries, keys, get-entries, get-from_entries, same_map, find, Key, Path, path_cmp, is_same_path, Identity, Forest, all, contents, shown, followed_by, met_after, is_among, IsWhole, Node, Sums, is_entered_in, add_all, sums_of, below, Graph, graph, sizes, remaining, size_at, sum_of, CanBeAdded, list_any-append}
+use Rattle.std.proofs.Common.{◌≡◌, ℕ, ◌+◌, ◌-◌, ◌≤◌, false, cond, ◌||◌, ◌⊎◌, List, [], ◌∷◌, ◌++◌, map, Option, Some, None, is_some, refl, ap, sym, ◌∙◌, arith, unwrap_or}
+use Rattle.allocative_graph.proofs.Common.{option_map, get, entries, keys, get-entries, get-from_entries, same_map, find, Key, Path, path_cmp, is_same_path, Forest, all, contents, shown, followed_by, met_after, is_among, IsWhole, Node, Sums, add_all, sums_of, below, Graph, graph, sizes, remaining, size_at, sum_of, CanBeAdded, list_any-append}
 use Rattle.std.specs.FinMap.{empty, contains_key-keys}
 use Rattle.std.specs.FinSet as set
 use Rattle.allocative_graph.specs.Meaning.{ReachApart}
@@ -49,11 +49,12 @@ graphs_add f g can = same_map path_total path_antisymmetric _ _ each
         let s = sums_of (all f) in
         let t = sums_of (all g) in
         let q = k ∷ p in
-        let below_both : below s q + below t q ≡ below (add_all s (all g)) q = ap (λ n. below s q + n) (below-sums_of (all g) q) ∙ sym (below-add_all s (all g) q) in
-        let node_both : merge (get s q) (get t q) ≡ get (add_all s (all g)) q = ap (merge (get s q)) (get-sums_of (all g) q) ∙ sym (get-add_all s (all g) q) in
+        let below_both : below s q + below t q ≡ below (add_all s (all g)) q = omega (arith, below-sums_of (all g) q, below-add_all s (all g) q) in
         rw (get-sum_of (graph s) (graph t) q, get-graph s k p, get-graph t k p, ap (λ x. get (graph x) q) (added-following empty [] f g), get-graph (add_all s (all g)) k p)
-        (at_path (below s q) (below t q) (get s q) (get t q) (absent_sums f k p) (absent_sums g k p) (can q) ∙ (λ i. option_map (rest_of (below_both i)) (node_both i)))
+        (rw (get-add_all s (all g) q, ← get-sums_of (all g) q) (at_path (below s q) (below t q) (get s q) (get t q) (absent_sums f k p) (absent_sums g k p) (can q)
+        ∙ (λ i. option_map (rest_of (below_both i)) (merge (get s q) (get t q)))))
 
 pub whole_following : (f g : Forest) → IsWhole f → IsWhole g → ReachApart f g → IsWhole (followed_by f g)
-whole_following f g v w apart = (fits-following set.empty f g).1 (v, fits_more (λ i. is_among i (shown f)) set.empty (met_after set.empty f) g (contains-insert_all set.empty (shown f))
-    (shown_each (λ i. is_among i (shown f) ≡ false) (contents g) (λ i h. false_from_ne_true _ (λ there. apart i ((reaches_exactly f v i).0 there) ((reaches_exactly g w i).0 h)))) w)
+whole_following f g v w apart =
+    let away = shown_each (λ i. is_among i (shown f) ≡ false) (contents g) (λ i h. false_from_ne_true _ (λ there. apart i ((reaches_exactly f v i).0 there) ((reaches_exactly g w i).0 h))) in
+    (fits-following set.empty f g).1 (v, fits_more (λ i. is_among i (shown f)) set.empty (met_after set.empty f) g (contains-insert_all set.empty (shown f)) away w)

@@ -1,6 +1,6 @@
 -- Two whole showings that agree reach the same identities and have equal sums.
-use Rattle.std.proofs.Common.{◌≡◌, ℕ, ◌+◌, Bool, true, false, cond, IsTrue, List, [], ◌∷◌, map, flat_map, Some, None, unwrap_or, refl, ap, sym, ◌∙◌, sum_by, arith, IsPermutation}
-use Rattle.allocative_graph.proofs.Common.{AllByRecursion, option_map, entries, from_entries, get, get-from_entries, same_map, Identity, identity_cmp, is_same_identity, Forest, Bag, Entry, own, content_entries, all, shown, is_mark_of, has_mark, is_among, Reached, marked, inside, content_of, IsWhole, sums_of, sum_by-cons, sum_by-IsPermutation, IsPermutation-sym, list_any-IsPermutation, All-from_recursion}
+use Rattle.std.proofs.Common.{◌≡◌, ℕ, ◌+◌, cond, IsTrue, List, [], ◌∷◌, map, flat_map, Some, None, unwrap_or, refl, ap, sym, ◌∙◌, sum_by, arith, IsPermutation}
+use Rattle.allocative_graph.proofs.Common.{option_map, entries, from_entries, get, get-from_entries, same_map, Identity, identity_cmp, is_same_identity, Forest, Bag, Entry, own, content_entries, all, shown, is_mark_of, is_among, Reached, marked, inside, content_of, IsWhole, sums_of, sum_by-cons, sum_by-IsPermutation, IsPermutation-sym, list_any-IsPermutation, All-from_recursion}
 use Rattle.std.specs.FinMap.{FinMap, empty}
 use Rattle.std.specs.List.{IsDistinct}
 use Rattle.std.proofs.lemmas.List.Folds.{list_any_none}
@@ -60,9 +60,9 @@ module _ (is js : List Identity) (d : IsDistinct is_same_identity is) (e : IsDis
 same_all : (f g : Forest) → IsWhole f → IsWhole g → Agree f g → SameSums (all f) (all g)
 same_all f g v w a x =
     let flat = same_flat (shown f) (shown g) (shown_distinct f v) (shown_distinct g w) (same_shown f g v w a) (content_of f) (content_of g)
-        (λ k h. a.same_content k (same_shown f g v w a k ∙ h) h) x in
-    omega (arith, sum_by-append x (own f) (content_entries f), sum_by-append x (own g) (content_entries g), sum_by-IsPermutation x _ _ a.own_entries,
-    ap (sum_by x) (as_flat f v), ap (sum_by x) (as_flat g w), flat)
+    (λ k h. a.same_content k (same_shown f g v w a k ∙ h) h) x in
+    let inner = sym (ap (sum_by x) (as_flat f v)) ∙ flat ∙ ap (sum_by x) (as_flat g w) in
+    omega (arith, sum_by-append x (own f) (content_entries f), sum_by-append x (own g) (content_entries g), sum_by-IsPermutation x _ _ a.own_entries, inner)
 
 pub same_sums_of : (f g : Forest) → IsWhole f → IsWhole g → Agree f g → sums_of (all f) ≡ sums_of (all g)
 same_sums_of f g v w a = add_all-same empty (all f) (all g) (same_all f g v w a)

@@ -1,7 +1,7 @@
 -- The order of paths: a prefix comes first; otherwise the first keys that differ decide, by the bytes of their texts.
-use Rattle.std.proofs.Common.{◌≡◌, ◌↔◌, List, [], ◌∷◌, ◌++◌, refl, ap, sym, ◌∙◌, subst, true≢false, append-nil, Ordering, Less, Equal, Greater, nat_cmp}
-use Rattle.allocative_graph.proofs.Common.{is_lt, ordering_then, slice_cmp, nat_list_cmp_total, IsAntisymmetric, nat_cmp-IsAntisymmetric, slice_cmp-IsAntisymmetric, Key, Path, key_cmp, path_cmp}
-use Rattle.std.specs.Cmp.{nat_cmp_total, tied_itself}
+use Rattle.std.proofs.Common.{◌≡◌, ◌↔◌, List, [], ◌∷◌, ◌++◌, refl, ap, sym, ◌∙◌, subst, true≢false, append-nil, Ordering, Less, Equal, Greater}
+use Rattle.allocative_graph.proofs.Common.{is_lt, ordering_then, slice_cmp, nat_list_cmp_total, IsAntisymmetric, Key, key_cmp}
+use Rattle.std.specs.Cmp.{tied_itself}
 use Rattle.allocative_graph.specs.Path.{ComesBefore, longer, parts}
 
 module _ {X : Type 0} (R : X → X → Ordering) (same : IsAntisymmetric R) (itself : (x : X) → R x x ≡ Equal) where

@@ -1,9 +1,8 @@
 -- What a collector has after forests, entries and leaving.
-use Rattle.std.proofs.Common.{◌≡◌, ◌↔◌, ◌≤◌, suc, ℕ, ◌+◌, Bool, true, false, cond, [], ◌∷◌, ◌++◌, map, flat_map, refl, ap, sym, ◌∙◌, arith, add_assoc, append-nil}
-use Rattle.allocative_graph.proofs.Common.{contains, Key, Path, Identities, Sums, content_entries, shown, Identity, Forest, Empty, Inline, Unique, First, Again, AsInline, AsUnique, AsShared, own_behind, contents, followed_by, insert_all, add, add_all, added}
-use Rattle.std.specs.FinSet.{insert}
+use Rattle.std.proofs.Common.{◌≡◌, ◌↔◌, ◌≤◌, suc, ℕ, ◌+◌, Bool, true, false, cond, [], ◌∷◌, ◌++◌, refl, ap, arith, append-nil}
+use Rattle.allocative_graph.proofs.Common.{contains, Key, Identity, Forest, Empty, Inline, Unique, First, Again, own_behind, contents, followed_by}
 use Rattle.allocative_graph.specs.Forest.{entry_of}
-use Rattle.allocative_graph.specs.Collector.{Live, Holding, Kind, OfGraph, OfHeld, plus_live, plus_holding, leave_holding, enter_first, enter_holding, held_bytes, plus, Takes, enter, leave, begin, is_graph, visitors, is_in_unique}
+use Rattle.allocative_graph.specs.Collector.{Live, Holding, Kind, OfGraph, OfHeld, plus_holding, enter_first, held_bytes, plus, Takes, enter, leave, begin, is_graph, visitors, is_in_unique}
 use Rattle.allocative_graph.specs.Held.{held, inline_bytes}
 use Rattle.allocative_graph.proofs.Following.{added-following, contents-following, met-following, fits-following}
 use Rattle.allocative_graph.proofs.Basics.{each-append, each-parts}

@@ -1,6 +1,6 @@
 -- The identities that a whole showing shows are exactly those reached.
-use Rattle.std.proofs.Common.{◌≡◌, false, cond, ◌||◌, IsTrue, true, List, [], ◌∷◌, ◌++◌, map, flat_map, refl, ap, sym, ◌∙◌, subst, true≢false, IsPermutation, Some, unwrap_or, ◌⊎◌, inl, inr, Bool, arith}
-use Rattle.allocative_graph.proofs.Common.{⊤, AllByRecursion, All-from_recursion, contains, contains-insert, contains-empty, Path, Identities, Identity, identity_cmp, is_same_identity, Forest, Empty, Inline, Unique, First, Again, Bag, Entry, own, own_behind, contents, all, shown, insert_all, met_after, Fits, is_mark_of, has_mark, is_among, Reached, marked, inside, IsMeaning, content_of, IsWhole, IsPermutation-refl, list_any, list_any-append, map-append}
+use Rattle.std.proofs.Common.{◌≡◌, false, cond, ◌||◌, IsTrue, List, [], ◌∷◌, ◌++◌, map, flat_map, refl, ap, sym, ◌∙◌, subst, true≢false, IsPermutation, Some, unwrap_or, ◌⊎◌, inl, inr, Bool, arith}
+use Rattle.allocative_graph.proofs.Common.{⊤, AllByRecursion, contains, contains-insert, contains-empty, Path, Identities, Identity, identity_cmp, is_same_identity, Forest, Empty, Inline, Unique, First, Again, Bag, Entry, own, own_behind, contents, all, shown, insert_all, met_after, Fits, is_mark_of, has_mark, is_among, Reached, marked, inside, IsMeaning, content_of, IsWhole, IsPermutation-refl, list_any, list_any-append, map-append}
 use Rattle.std.specs.List.{Contains, IsDistinct}
 use Rattle.std.specs.Map.{lookup}
 use Rattle.std.specs.FinSet.{insert, empty}
@@ -9,7 +9,7 @@ use Rattle.std.proofs.lemmas.List.Elements.{All-contains_itself, All-weaker, rec
 use Rattle.std.proofs.lemmas.List.Sums.{fold-append}
 use Rattle.std.proofs.lemmas.Map.Views.{lookup-from_Contains}
 use Rattle.allocative_graph.specs.Meaning.{ReachesExactly}
-use Rattle.allocative_graph.proofs.Basics.{or_both, or_left, or_right, or_assoc, or_comm, or_parts, or-false, on_test, any_both, any_left, any_right, each-parts, each-implies, identity_total, same_identity, same_identity_itself, same_identity_turned}
+use Rattle.allocative_graph.proofs.Basics.{or_both, or_left, or_right, or_parts, or-false, on_test, any_both, any_left, any_right, each-parts, each-implies, identity_total, same_identity, same_identity_itself, same_identity_turned}
 
 abbrev pub Contents : Type 0
 Contents = List (Identity × Bag)
