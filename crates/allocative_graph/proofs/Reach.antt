@@ -20,8 +20,11 @@ ids cs = map (λ c. c.0) cs
 pub met-append : (s : Identities) (cs ds : Contents) → insert_all s (ids (cs ++ ds)) ≡ insert_all (insert_all s (ids cs)) (ids ds)
 met-append s cs ds = ap (insert_all s) (map-append (λ c. c.0) cs ds) ∙ fold-append insert s (ids cs) (ids ds)
 
+among-append : (i : Identity) (cs ds : Contents) → is_among i (ids (cs ++ ds)) ≡ (is_among i (ids cs) || is_among i (ids ds))
+among-append i cs ds = ap (is_among i) (map-append (λ c. c.0) cs ds) ∙ list_any-append (is_same_identity i) (ids cs) (ids ds)
+
 among_both : {Q : Type 0} (i : Identity) (cs ds : Contents) → (IsTrue (is_among i (ids cs)) → Q) → (IsTrue (is_among i (ids ds)) → Q) → IsTrue (is_among i (ids (cs ++ ds))) → Q
-among_both i cs ds f g h = or_both (is_among i (ids cs)) (is_among i (ids ds)) f g (sym (ap (is_among i) (map-append (λ c. c.0) cs ds) ∙ list_any-append (is_same_identity i) (ids cs) (ids ds)) ∙ h)
+among_both i cs ds f g h = or_both (is_among i (ids cs)) (is_among i (ids ds)) f g (sym (among-append i cs ds) ∙ h)
 
 pub shown_each : (P : Identity → Type 0) (cs : Contents) → ((i : Identity) → IsTrue (is_among i (ids cs)) → P i) → AllByRecursion (λ c. P c.0) cs
 shown_each P [] h = tt
@@ -33,9 +36,6 @@ marks i e = is_mark_of i e.mark
 pub contains-insert_all : (s : Identities) (is : List Identity) (i : Identity) → contains (insert_all s is) i ≡ (contains s i || is_among i is)
 contains-insert_all s [] i = sym (or-false _)
 contains-insert_all s (j ∷ is) i = grind (arith, contains-insert_all (insert s j) is i, contains-insert identity_total s j i)
-
-pub grows : (s : Identities) (is : List Identity) (i : Identity) → IsTrue (contains s i) → IsTrue (contains (insert_all s is) i)
-grows s is i h = contains-insert_all s is i ∙ or_left _ _ h
 
 -- ---- each identity shown is reached
 module _ (b : Bag) (content : Identity → Bag) where
@@ -58,38 +58,28 @@ module _ (b : Bag) (content : Identity → Bag) where
   reach p (Again k n j after) m g i h = reach p after (λ l w. m l (or_right (is_same_identity l j) _ w)) g i h
 
 -- ---- each identity that a showing marks, also in a content, is met after it
-abbrev in_content : Identity → Contents → Bool
-in_content i cs = list_any (λ c. has_mark i c.1) cs
+abbrev marked_in : Identity → Bag → Contents → Bool
+marked_in i b cs = has_mark i b || list_any (λ c. has_mark i c.1) cs
 
-abbrev Marked : Identity → Bag → Contents → Type 0
-Marked i b cs = IsTrue (has_mark i b) ⊎ IsTrue (in_content i cs)
+two_marked : (i : Identity) (s : Identities) (a b : Bag) (cs ds : Contents) → (IsTrue (marked_in i a cs) → IsTrue (contains s i || is_among i (ids cs)))
+    → (IsTrue (marked_in i b ds) → IsTrue (contains (insert_all s (ids cs)) i || is_among i (ids ds))) → IsTrue (marked_in i (a ++ b) (cs ++ ds)) → IsTrue (contains s i || is_among i (ids (cs ++ ds)))
+two_marked i s a b cs ds f g h = grind (arith, f, g, h, list_any-append (marks i) a b, list_any-append (λ c. has_mark i c.1) cs ds, among-append i cs ds, contains-insert_all s (ids cs) i)
 
-two_marked : {Q : Type 0} (i : Identity) (a b : Bag) (cs ds : Contents) → (Marked i a cs → Q) → (Marked i b ds → Q) → Marked i (a ++ b) (cs ++ ds) → Q
-two_marked i a b cs ds f g (inl m) = any_both (marks i) a b (λ w. f (inl w)) (λ w. g (inl w)) m
-two_marked i a b cs ds f g (inr m) = any_both (λ c. has_mark i c.1) cs ds (λ w. f (inr w)) (λ w. g (inr w)) m
-
-fits_marks : (p : Path) (s : Identities) (f : Forest) → Fits s f → (i : Identity) → Marked i (own_behind p f) (contents f) → IsTrue (contains (met_after s f) i)
-fits_marks p s Empty w i h = absurd (true≢false (sym (elim h [ inl m ↦ m | inr m ↦ m ])))
-fits_marks p s (Inline k n f after) w i h = ap (λ t. contains t i) (met-append s (contents f) (contents after)) ∙ two_marked i (own_behind (p ++ k ∷ []) f) (own_behind p after)
-    (contents f) (contents after) (λ a. grows _ (shown after) i (fits_marks (p ++ k ∷ []) s f w.0 i a)) (fits_marks p (met_after s f) after w.1 i) h
-fits_marks p s (Unique k n f after) w i h = ap (λ t. contains t i) (met-append s (contents f) (contents after)) ∙ two_marked i (own_behind (p ++ k ∷ []) f) (own_behind p after)
-    (contents f) (contents after) (λ a. grows _ (shown after) i (fits_marks (p ++ k ∷ []) s f w.0 i a)) (fits_marks p (met_after s f) after w.1 i) h
+fits_marks : (p : Path) (s : Identities) (f : Forest) → Fits s f → (i : Identity) → IsTrue (marked_in i (own_behind p f) (contents f)) → IsTrue (contains s i || is_among i (shown f))
+fits_marks p s Empty w i h = absurd (true≢false (sym h))
+fits_marks p s (Inline k n f after) w i h =
+    two_marked i s (own_behind (p ++ k ∷ []) f) (own_behind p after) (contents f) (contents after) (fits_marks (p ++ k ∷ []) s f w.0 i) (fits_marks p (met_after s f) after w.1 i) h
+fits_marks p s (Unique k n f after) w i h =
+    two_marked i s (own_behind (p ++ k ∷ []) f) (own_behind p after) (contents f) (contents after) (fits_marks (p ++ k ∷ []) s f w.0 i) (fits_marks p (met_after s f) after w.1 i) h
 fits_marks p s (First k n j f after) w i h =
-    let inner = λ (a : Marked i (own f) (contents f)). grows _ (shown after) i (fits_marks [] (insert s j) f w.1 i a) in
-    let outer = λ (b : Marked i (own_behind p after) (contents after)). fits_marks p (met_after (insert s j) f) after w.2 i b in
-    ap (λ t. contains t i) (met-append (insert s j) (contents f) (contents after)) ∙ elim h [
-      | inl m ↦ or_both (is_same_identity i j) _ (λ a. grows _ (shown after) i (grows _ (shown f) i (contains-insert identity_total s j i ∙ or_left _ _ a))) (λ b. outer (inl b)) m
-      | inr m ↦ or_both (has_mark i (own f)) _ (λ a. inner (inl a)) (any_both (λ c. has_mark i c.1) (contents f) (contents after) (λ a. inner (inr a)) (λ b. outer (inr b))) m
-    ]
-fits_marks p s (Again k n j after) w i (inl m) =
-    or_both (is_same_identity i j) _ (λ a. grows s (shown after) i (ap (contains s) (same_identity i j a) ∙ w.0)) (λ b. fits_marks p s after w.1 i (inl b)) m
-fits_marks p s (Again k n j after) w i (inr m) = fits_marks p s after w.1 i (inr m)
+    let rest = two_marked i (insert s j) (own f) (own_behind p after) (contents f) (contents after) (fits_marks [] (insert s j) f w.1 i) (fits_marks p (met_after (insert s j) f) after w.2 i) in
+    grind (arith, rest, h, contains-insert identity_total s j i, list_any-append (marks i) (own f) (own_behind p after))
+fits_marks p s (Again k n j after) w i h =
+    let met = λ (a : IsTrue (is_same_identity i j)). ap (contains s) (same_identity i j a) ∙ w.0 in grind (arith, met, h, fits_marks p s after w.1 i)
 
-marks_content : (cs : Contents) (i j : Identity) → IsTrue (has_mark i (unwrap_or (lookup (is_same_identity j) cs) [])) → IsTrue (in_content i cs)
+marks_content : (cs : Contents) (i j : Identity) → IsTrue (has_mark i (unwrap_or (lookup (is_same_identity j) cs) [])) → IsTrue (list_any (λ c. has_mark i c.1) cs)
 marks_content [] i j h = h
-marks_content (c ∷ cs) i j h =
-    on_test (λ t. IsTrue (has_mark i (unwrap_or (cond t (Some c.1) (lookup (is_same_identity j) cs)) [])) → IsTrue (has_mark i c.1 || in_content i cs)) (is_same_identity j c.0)
-    (λ e. or_left (has_mark i c.1) _) (λ e w. or_right (has_mark i c.1) _ (marks_content cs i j w)) h
+marks_content (c ∷ cs) i j h = grind (arith, marks_content cs i j, h)
 
 -- ---- an identity is shown once
 abbrev Fresh : Identities → Contents → Type 0
@@ -124,11 +114,8 @@ own_content f w = recursion_from_All _ (contents f) (All-weaker (Contains (conte
 
 -- ---- the theorem
 pub reaches_exactly : (f : Forest) → IsWhole f → ReachesExactly f
-reaches_exactly f w i = (
-  reach (own f) (content_of f) [] f (λ j h. marked h) (own_content f w) i,
-  λ r. sym (contains-insert_all empty (shown f) i ∙ ap (λ b. b || is_among i (shown f)) (contains-empty identity_cmp i))
-      ∙ fits_marks [] empty f w i (elim r [ marked h ↦ inl h | inside j q h ↦ inr (marks_content (contents f) i j h) ]),
-)
+reaches_exactly f w i = (reach (own f) (content_of f) [] f (λ j h. marked h) (own_content f w) i, λ r. sym (ap (λ b. b || is_among i (shown f)) (contains-empty identity_cmp i))
+    ∙ fits_marks [] empty f w i (elim r [ marked h ↦ or_left _ _ h | inside j q h ↦ or_right (has_mark i (own f)) _ (marks_content (contents f) i j h) ]))
 
 -- The entries of all contents are those of the content of each identity shown.
 pub as_flat : (f : Forest) → IsWhole f → flat_map (content_of f) (shown f) ≡ flat_map (λ c. c.1) (contents f)
