@@ -38,9 +38,6 @@ each-map P f (x ∷ xs) h = (h.0, each-map P f xs h.1)
 pub or_both : {Q : Type 0} (a b : Bool) → (IsTrue a → Q) → (IsTrue b → Q) → IsTrue (a || b) → Q
 or_both a b f g h = elim (or_cases a b h) [ inl x ↦ f x | inr x ↦ g x ]
 
-pub any_both : {X : Type 0} {Q : Type 0} (p : X → Bool) (xs ys : List X) → (IsTrue (list_any p xs) → Q) → (IsTrue (list_any p ys) → Q) → IsTrue (list_any p (xs ++ ys)) → Q
-any_both p xs ys f g h = or_both (list_any p xs) (list_any p ys) f g (sym (list_any-append p xs ys) ∙ h)
-
 pub any_left : {X : Type 0} (p : X → Bool) (xs ys : List X) → IsTrue (list_any p xs) → IsTrue (list_any p (xs ++ ys))
 any_left p xs ys h = list_any-append p xs ys ∙ or_left _ (list_any p ys) h
 

@@ -1,5 +1,5 @@
 -- Sums over the entries of a map, and the sum of the bytes one key below a path.
-use Rattle.std.proofs.Common.{◌≡◌, ℕ, ◌+◌, Bool, true, cond, T, List, [], ◌∷◌, Option, Some, None, refl, ap, sym, ◌∙◌, subst, unwrap_or, sum_by, arith, map, ◌||◌, Ordering, Less, Equal, Greater}
+use Rattle.std.proofs.Common.{◌≡◌, IsTrue, ℕ, ◌+◌, Bool, true, cond, T, List, [], ◌∷◌, Option, Some, None, refl, ap, sym, ◌∙◌, subst, unwrap_or, sum_by, arith, map, ◌||◌, Ordering, Less, Equal, Greater}
 use Rattle.allocative_graph.proofs.Common.{option_map, eq_by_cmp, is_eq, is_lt, list_any, IsAntisymmetric, get, get-entries, insert, entries-insert, entries, entries_sorted, put, find, is_sorted, below_all, by_order, Path, is_one_below, Entry, Bag, Sums, together, node_of, add, add_all, sums_of, below, both, first, second, sum_by-cons, empty}
 pub use Rattle.allocative_graph.specs.Sums.{below_in}
 use Rattle.allocative_graph.specs.Sums.{entered}
@@ -21,9 +21,7 @@ module _ {K X : Type 0} {R : K → K → Ordering} (total : IsTotalOrder R) (sam
   -- The value of a key is given where the key is listed.
   pub find-keys : (v : K → X) (ks : List K) (q : K) → find R q (map (λ k. (k, v k)) ks) ≡ cond (list_any (eq_by_cmp R q) ks) (Some (v q)) None
   find-keys v [] q = refl
-  find-keys v (k ∷ ks) q = on_test (λ t. cond t (Some (v k)) (find R q (map (λ k. (k, v k)) ks)) ≡ cond (t || list_any (eq_by_cmp R q) ks) (Some (v q)) None) (eq_by_cmp R q k)
-      (λ h. ap (λ p. Some (v p)) (sym (same q k (is_eq-Equal _ h))))
-      (λ h. find-keys v ks q)
+  find-keys v (k ∷ ks) q = let tied = λ (h : IsTrue (eq_by_cmp R q k)). same q k (is_eq-Equal _ h) in grind (arith, tied, find-keys v ks q)
 
   below_all-less : (k p : K) (es : List (K × X)) → R k p ≡ Less → T (below_all R p es) → T (below_all R k es)
   below_all-less k p [] h g = tt

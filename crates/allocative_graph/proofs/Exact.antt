@@ -47,12 +47,7 @@ last_key_of key k p n h = ap (λ l. eq_by_cmp key_cmp key (after_last 59 [] l)) 
 drop_each : (key : Key) (es : List Sized) → AllByRecursion (λ e. AllByRecursion Plain e.0) es → flat_map (λ e. cond (ends_in key e.0) [] (line e)) es ≡ flat_map (λ l. cond (eq_by_cmp key_cmp key (last_key l)) [] (l ++ 10 ∷ [])) (map body (filter is_shown es))
 drop_each key [] h = refl
 drop_each key (([], n) ∷ es) h = drop_each key es h.1
-drop_each key ((k ∷ p, n) ∷ es) h =
-    let kept : List ℕ → List ℕ = λ l. cond (eq_by_cmp key_cmp key (last_key l)) [] (l ++ 10 ∷ []) in
-    let rest = drop_each key es h.1 in
-    on_test (λ z. cond (ends_in key (k ∷ p)) [] (cond z [] (full (k ∷ p, n))) ++ flat_map (λ e. cond (ends_in key e.0) [] (line e)) es ≡ flat_map kept (map body (cond (not z) ((k ∷ p, n) ∷ filter is_shown es) (filter is_shown es)))) (n == 0)
-    (λ e. on_test (λ t. cond t [] [] ++ flat_map (λ e. cond (ends_in key e.0) [] (line e)) es ≡ flat_map (λ e. cond (ends_in key e.0) [] (line e)) es) (ends_in key (k ∷ p)) (λ t. refl) (λ t. refl) ∙ rest)
-    (λ e i. cond (sym (last_key_of key k p n h.0) i) [] (full (k ∷ p, n)) ++ rest i)
+drop_each key ((k ∷ p, n) ∷ es) h = grind (arith, drop_each key es h.1, last_key_of key k p n h.0)
 
 pub exact_is : (g : Graph) → HasPlainKeys g → exact_text g ≡ without_lines (codes "unused_capacity") (text g)
 exact_is g h =

@@ -14,9 +14,7 @@ use Rattle.allocative_graph.proofs.Following.{fits-following, fits_more, added-f
 -- ---- what a graph has at a path
 find-mapped : {X Y : Type 0} (r : Path → X → Y) (es : List (Path × X)) (q : Path) → find path_cmp q (map (λ e. (e.0, r e.0 e.1)) es) ≡ option_map (r q) (find path_cmp q es)
 find-mapped r [] q = refl
-find-mapped r (e ∷ es) q = on_test (λ t. cond t (Some (r e.0 e.1)) (find path_cmp q (map (λ e. (e.0, r e.0 e.1)) es)) ≡ option_map (r q) (cond t (Some e.1) (find path_cmp q es))) (is_same_path q e.0)
-    (λ h. ap (λ p. Some (r p e.1)) (sym (same_path q e.0 h)))
-    (λ h. find-mapped r es q)
+find-mapped r (e ∷ es) q = grind (arith, same_path q e.0, find-mapped r es q)
 
 pub get-graph : (s : Sums) (k : Key) (p : Path) → get (graph s) (k ∷ p) ≡ option_map (remaining s (k ∷ p)) (get s (k ∷ p))
 get-graph s k p = get-from_entries path_total (sizes s) (k ∷ p) ∙ find-mapped (remaining s) (entries s) (k ∷ p) ∙ ap (option_map (remaining s (k ∷ p))) (sym (get-entries s (k ∷ p)))

@@ -9,7 +9,7 @@ use Rattle.std.proofs.lemmas.List.Elements.{All-contains_itself, All-weaker, rec
 use Rattle.std.proofs.lemmas.List.Sums.{fold-append}
 use Rattle.std.proofs.lemmas.Map.Views.{lookup-from_Contains}
 use Rattle.allocative_graph.specs.Meaning.{ReachesExactly}
-use Rattle.allocative_graph.proofs.Basics.{or_both, or_left, or_right, or_parts, or-false, on_test, any_both, any_left, any_right, each-parts, each-implies, identity_total, same_identity, same_identity_itself, same_identity_turned}
+use Rattle.allocative_graph.proofs.Basics.{or_both, or_left, or_right, or_parts, or-false, on_test, any_left, any_right, each-parts, each-implies, identity_total, same_identity, same_identity_itself, same_identity_turned}
 
 abbrev pub Contents : Type 0
 Contents = List (Identity × Bag)
