@@ -31,18 +31,12 @@ total_at-add_list q g (e ∷ es) = omega (arith, total_at-add_list q (add_at g e
 abbrev pub sizes_together : Option ℕ → Option ℕ → Option ℕ
 sizes_together x y = cond (is_some x || is_some y) (Some (unwrap_or x 0 + unwrap_or y 0)) None
 
--- One size more at the path where t holds, before a list with the size z there.
-size_step : (t : Bool) (x y z : Option ℕ) (n : ℕ) → (t ≡ true → x ≡ y) → (t ≡ true → z ≡ None) → sizes_together (cond t (Some (unwrap_or x 0 + n)) y) z ≡ sizes_together y (cond t (Some n) z)
-size_step t x y z n same none = grind arith
-
-kept : (x : Option ℕ) → x ≡ sizes_together x None
-kept x = grind arith
-
 get-add_list : (g : Graph) (es : List (Path × ℕ)) → T (is_sorted path_cmp es) → (q : Path) → get (add_list g es) q ≡ sizes_together (get g q) (find path_cmp q es)
-get-add_list g [] h q = kept (get g q)
-get-add_list g (e ∷ es) h q = rw (get-add_list (add_at g e) es (second (below_all path_cmp e.0 es) _ h) q, get-insert path_total g e.0 (size_at g e.0 + e.1) q)
-    (size_step (is_same_path q e.0) (get g e.0) (get g q) (find path_cmp q es) e.1 (λ s. ap (get g) (sym (same_path q e.0 s)))
-    (λ s. ap (λ p. find path_cmp p es) (same_path q e.0 s) ∙ find-below_all path_cmp e.0 es (first (below_all path_cmp e.0 es) (is_sorted path_cmp es) h)))
+get-add_list g [] h q = grind arith
+get-add_list g (e ∷ es) h q =
+    let rest = get-add_list (add_at g e) es (second (below_all path_cmp e.0 es) _ h) q in
+    let none = find-below_all path_cmp e.0 es (first (below_all path_cmp e.0 es) (is_sorted path_cmp es) h) in
+    grind (arith, rest, none, get-insert path_total g e.0 (size_at g e.0 + e.1) q, same_path q e.0)
 
 sum_of-list : (g h : Graph) → sum_of g h ≡ add_list g (entries h)
 sum_of-list g h = same_map path_total path_antisymmetric _ _ (λ q. get-sum_of g h q ∙ sym (get-add_list g (entries h) (entries_sorted h) q ∙ ap (sizes_together (get g q)) (sym (get-entries h q))))

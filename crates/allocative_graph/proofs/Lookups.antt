@@ -28,19 +28,12 @@ unique_none (e ∷ b) q h = grind (arith, unique_none b q)
 abbrev node : ℕ → Bool → Node
 node n u = record { bytes = n; is_unique = u }
 
--- An entry of n bytes at the path where t holds, before a bag with the node m and v there.
-merge_step : (t : Bool) (x y : Option Node) (n : ℕ) (u is_there : Bool) (m : ℕ) (v : Bool) → (t ≡ true → x ≡ y) → (is_there ≡ false → m ≡ 0) → (is_there ≡ false → v ≡ false)
-    → merge (cond t (Some (together x (node n u))) y) (cond is_there (Some (node m v)) None) ≡ merge y (cond (t || is_there) (Some (node (cond t n 0 + m) (cond t u false || v))) None)
-merge_step t x y n u is_there m v same no_bytes not_unique = grind arith
-
 pub get-add : (s : Sums) (e : Entry) (q : Path) → get (add s e) q ≡ cond (is_same_path q e.path) (Some (together (get s e.path) (node_of e))) (get s q)
 get-add s e q = get-insert path_total s e.path _ q
 
 pub get-add_all : (s : Sums) (b : Bag) (q : Path) → get (add_all s b) q ≡ merge (get s q) (node_in b q)
 get-add_all s [] q = refl
-get-add_all s (e ∷ b) q = rw (get-add_all (add s e) b q, get-add s e q, bytes-cons e b q)
-    (merge_step (is_same_path q e.path) (get s e.path) (get s q) e.size (is_unique_mark e.mark) (is_entered_in b q) (bytes_in b q) (is_unique_in b q)
-    (λ h. ap (get s) (sym (same_path q e.path h))) (bytes_none b q) (unique_none b q))
+get-add_all s (e ∷ b) q = grind (arith, get-add_all (add s e) b q, get-add s e q, bytes-cons e b q, same_path q e.path, bytes_none b q, unique_none b q)
 
 pub get-sums_of : (b : Bag) (q : Path) → get (sums_of b) q ≡ node_in b q
 get-sums_of b q = get-add_all empty b q ∙ ap (λ o. merge o (node_in b q)) (get-empty path_cmp q) ∙ grind arith

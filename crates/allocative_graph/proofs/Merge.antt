@@ -26,15 +26,7 @@ pub get-sum_of : (g h : Graph) (q : Path) → get (sum_of g h) q ≡ cond (is_so
 get-sum_of g h q = get-from_entries path_total _ q ∙ find-keys path_total path_antisymmetric (λ p. size_at g p + size_at h p) (keys g ++ keys h) q
     ∙ ap (λ b. cond b (Some (size_at g q + size_at h q)) None) (list_any-append (is_same_path q) (keys g) (keys h) ∙ (λ i. sym (contains_key-keys g q) i || sym (contains_key-keys h q) i))
 
--- ---- at one path
-abbrev rest_of : ℕ → Node → ℕ
-rest_of under m = cond m.is_unique m.bytes (m.bytes - under)
-
-at_path : (a b : ℕ) (x y : Option Node) → (x ≡ None → a ≡ 0) → (y ≡ None → b ≡ 0)
-    → ((m n : Node) → x ≡ Some m → y ≡ Some n → (m.is_unique ≡ n.is_unique) × (m.is_unique ≡ false → (a ≤ m.bytes) × (b ≤ n.bytes) ⊎ (m.bytes ≤ a) × (n.bytes ≤ b)))
-    → cond (is_some (option_map (rest_of a) x) || is_some (option_map (rest_of b) y)) (Some (unwrap_or (option_map (rest_of a) x) 0 + unwrap_or (option_map (rest_of b) y) 0)) None ≡ option_map (rest_of (a + b)) (merge x y)
-at_path a b x y f g h = grind (arith, h)
-
+-- ---- where sums can be added
 absent_sums : (f : Forest) (k : Key) (p : Path) → get (sums_of (all f)) (k ∷ p) ≡ None → below (sums_of (all f)) (k ∷ p) ≡ 0
 absent_sums f k p h = below-sums_of (all f) (k ∷ p) ∙ absent_below f k p (grind (arith, get-sums_of (all f) (k ∷ p), h))
 
@@ -49,8 +41,7 @@ graphs_add f g can = same_map path_total path_antisymmetric _ _ each
         let q = k ∷ p in
         let below_both : below s q + below t q ≡ below (add_all s (all g)) q = omega (arith, below-sums_of (all g) q, below-add_all s (all g) q) in
         rw (get-sum_of (graph s) (graph t) q, get-graph s k p, get-graph t k p, ap (λ x. get (graph x) q) (added-following empty [] f g), get-graph (add_all s (all g)) k p)
-        (rw (get-add_all s (all g) q, ← get-sums_of (all g) q) (at_path (below s q) (below t q) (get s q) (get t q) (absent_sums f k p) (absent_sums g k p) (can q)
-        ∙ (λ i. option_map (rest_of (below_both i)) (merge (get s q) (get t q)))))
+        (rw (get-add_all s (all g) q, ← get-sums_of (all g) q) (grind (arith, below_both, absent_sums f k p, absent_sums g k p, can q)))
 
 pub whole_following : (f g : Forest) → IsWhole f → IsWhole g → ReachApart f g → IsWhole (followed_by f g)
 whole_following f g v w apart =
