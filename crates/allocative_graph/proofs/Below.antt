@@ -37,15 +37,10 @@ module _ {K X : Type 0} {R : K → K → Ordering} (total : IsTotalOrder R) (sam
 
     weights-put : (k : K) (v : X) (d : ℕ) (es : List (K × X)) → T (is_sorted R es) → Changes k v d (find R k es) → sum_by weigh (put R k v es) ≡ sum_by weigh es + d
     weights-put k v d [] h e = omega (arith, e)
-    weights-put k v d (x ∷ es) h e = by (R k x.0) refl e (weights-put k v d es (second (below_all R x.0 es) _ h))
-      where
-        by : (r : Ordering) → R k x.0 ≡ r → Changes k v d (cond (is_eq r) (Some x.1) (find R k es)) → (Changes k v d (find R k es) → sum_by weigh (put R k v es) ≡ sum_by weigh es + d)
-            → sum_by weigh (by_order r ((k, v) ∷ x ∷ es) ((x.0, v) ∷ es) (x ∷ put R k v es)) ≡ sum_by weigh (x ∷ es) + d
-        by Less q e rest =
-            let none = find-below_all R k es (below_all-less k x.0 es q (first (below_all R x.0 es) (is_sorted R es) h)) in
-            omega (arith, sum_by-cons weigh (k, v) (x ∷ es), e ∙ ap (λ o. unwrap_or (option_map (weight k) o) 0 + d) none)
-        by Equal q e rest = omega (arith, sum_by-cons weigh (x.0, v) es, sum_by-cons weigh x es, subst (λ p. weight p v ≡ weight p x.1 + d) (same k x.0 q) e)
-        by Greater q e rest = omega (arith, sum_by-cons weigh x (put R k v es), sum_by-cons weigh x es, rest e)
+    weights-put k v d (x ∷ es) h e =
+        let none = λ (q : R k x.0 ≡ Less). find-below_all R k es (below_all-less k x.0 es q (first (below_all R x.0 es) (is_sorted R es) h)) in
+        let rest = weights-put k v d es (second (below_all R x.0 es) _ h) in
+        grind (arith, none, rest, same k x.0, e, sum_by-cons weigh (k, v) (x ∷ es), sum_by-cons weigh (x.0, v) es, sum_by-cons weigh x es, sum_by-cons weigh x (put R k v es))
 
     pub weights-insert : (m : FinMap R X) (k : K) (v : X) (d : ℕ) → Changes k v d (get m k) → sum_by weigh (entries (insert m k v)) ≡ sum_by weigh (entries m) + d
     weights-insert m k v d e = ap (sum_by weigh) (entries-insert total m k v) ∙ weights-put k v d (entries m) (entries_sorted m) (subst (Changes k v d) (get-entries m k) e)
