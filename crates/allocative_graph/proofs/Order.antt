@@ -19,10 +19,7 @@ same_reached f g v w a i (inside j r h) =
     inside j there (sym (list_any-IsPermutation (λ e. is_mark_of i e.mark) (content_of f j) (content_of g j) (a.same_content j ((reaches_exactly f v j).1 r) ((reaches_exactly g w j).1 there))) ∙ h)
 
 pub agree_back : (f g : Forest) → Agree f g → Agree g f
-agree_back f g a = record {
-  own_entries = IsPermutation-sym _ _ a.own_entries;
-  same_content = λ i p q. IsPermutation-sym _ _ (a.same_content i q p);
-}
+agree_back f g a = record { own_entries = IsPermutation-sym _ _ a.own_entries; same_content = λ i p q. IsPermutation-sym _ _ (a.same_content i q p) }
 
 same_shown : (f g : Forest) → IsWhole f → IsWhole g → Agree f g → (i : Identity) → is_among i (shown f) ≡ is_among i (shown g)
 same_shown f g v w a i = both_ways _ _

@@ -126,9 +126,6 @@ as_flat f w = each (contents f) (own_content f w)
     each (c ∷ cs) h = λ k. h.0 k ++ each cs h.1 k
 
 pub all_is_meaning : (f : Forest) → IsWhole f → IsMeaning (own f) (content_of f) (all f)
-all_is_meaning f w = record {
-  identities = shown f;
-  once = shown_distinct f w;
-  reached = reaches_exactly f w;
-  is = subst (λ b. IsPermutation (own f ++ b) (all f)) (sym (as_flat f w)) (IsPermutation-refl (all f));
-}
+all_is_meaning f w =
+    let same = subst (λ b. IsPermutation (own f ++ b) (all f)) (sym (as_flat f w)) (IsPermutation-refl (all f)) in
+    record { identities = shown f; once = shown_distinct f w; reached = reaches_exactly f w; is = same }
