@@ -1,5 +1,5 @@
 -- Small facts about tests, lists, paths and identities.
-use Rattle.std.proofs.Common.{◌≡◌, Bool, true, false, ◌||◌, IsTrue, inl, inr, List, [], ◌∷◌, ◌++◌, map, refl, sym, ◌∙◌, Ordering, Equal}
+use Rattle.std.proofs.Common.{◌≡◌, Bool, true, false, ◌||◌, IsTrue, inl, inr, List, [], ◌∷◌, ◌++◌, map, refl, ◌∙◌, Ordering, Equal}
 use Rattle.allocative_graph.proofs.Common.{list_any, AllByRecursion, is_eq, nat_list_cmp_total, IsAntisymmetric, nat_cmp-IsAntisymmetric, slice_cmp-IsAntisymmetric, Path, path_cmp, is_same_path, Identity, identity_cmp, is_same_identity, list_any-append}
 use Rattle.std.specs.Cmp.{IsTotalOrder, Equal-is}
 use Rattle.std.proofs.lemmas.List.Elements.{All-append, All-from_recursion, All-weaker, recursion_from_All}

@@ -1,11 +1,11 @@
 -- Sums over the entries of a map, and the sum of the bytes one key below a path.
-use Rattle.std.proofs.Common.{◌≡◌, IsTrue, ℕ, ◌+◌, Bool, true, cond, T, List, [], ◌∷◌, Option, Some, None, refl, ap, sym, ◌∙◌, subst, unwrap_or, sum_by, arith, map, ◌||◌, Ordering, Less, Equal, Greater}
-use Rattle.allocative_graph.proofs.Common.{option_map, eq_by_cmp, is_eq, is_lt, list_any, IsAntisymmetric, get, get-entries, insert, entries-insert, entries, entries_sorted, put, find, is_sorted, below_all, by_order, Path, is_one_below, Entry, Bag, Sums, together, node_of, add, add_all, sums_of, below, both, first, second, sum_by-cons, empty}
+use Rattle.std.proofs.Common.{◌≡◌, IsTrue, ℕ, ◌+◌, Bool, true, cond, T, List, [], ◌∷◌, Option, Some, None, refl, ap, sym, ◌∙◌, subst, unwrap_or, sum_by, arith, map, Ordering, Less}
+use Rattle.allocative_graph.proofs.Common.{option_map, eq_by_cmp, is_eq, is_lt, list_any, IsAntisymmetric, get, get-entries, insert, entries-insert, entries, entries_sorted, put, find, is_sorted, below_all, Path, is_one_below, Entry, Bag, Sums, together, node_of, add, add_all, sums_of, below, both, first, second, sum_by-cons, empty}
 pub use Rattle.allocative_graph.specs.Sums.{below_in}
 use Rattle.allocative_graph.specs.Sums.{entered}
 use Rattle.std.specs.Cmp.{IsTotalOrder}
 use Rattle.std.specs.FinMap.{FinMap}
-use Rattle.allocative_graph.proofs.Basics.{path_total, path_antisymmetric, on_test, is_eq-Equal}
+use Rattle.allocative_graph.proofs.Basics.{path_total, path_antisymmetric, is_eq-Equal}
 use Rattle.allocative_graph.proofs.Computed.{below_list, entries-empty}
 
 pub is_lt-Less : (r : Ordering) → T (is_lt r) → r ≡ Less

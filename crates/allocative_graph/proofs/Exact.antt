@@ -1,10 +1,10 @@
 -- Lines dropped from a text are paths left out of it.
-use Rattle.std.proofs.Common.{◌≡◌, ℕ, ◌==◌, Bool, cond, not, List, [], ◌∷◌, ◌++◌, map, flat_map, filter, refl, ap, sym, ◌∙◌, append_assoc, append-nil, decimal, ne_eqb, arith}
+use Rattle.std.proofs.Common.{◌≡◌, ℕ, ◌==◌, Bool, cond, List, [], ◌∷◌, ◌++◌, map, flat_map, filter, refl, ap, sym, ◌∙◌, append_assoc, append-nil, decimal, ne_eqb, arith}
 use Rattle.allocative_graph.proofs.Common.{AllByRecursion, All-from_recursion, eq_by_cmp, entries, Key, Path, key_cmp, Graph, text, joined, Lacks, HasPlainKeys, codes}
 use Rattle.allocative_graph.specs.Graph.{line}
 use Rattle.allocative_graph.specs.Report.{ends_in, exact_text, lines_from, before_last, after_last, last_key, without_lines}
 use Rattle.std.proofs.lemmas.List.Elements.{All-filter, recursion_from_All}
-use Rattle.allocative_graph.proofs.Basics.{each-map, on_test}
+use Rattle.allocative_graph.proofs.Basics.{each-map}
 use Rattle.allocative_graph.proofs.Text.{Plain, Sized, is_shown, full, body, shown_lines, full_body, body_lacks, decimal_lacks}
 
 -- ---- the lines

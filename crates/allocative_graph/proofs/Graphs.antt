@@ -1,5 +1,5 @@
 -- Graphs as maps: their sums, their totals, and graphs under a key.
-use Rattle.std.proofs.Common.{◌≡◌, ℕ, ◌+◌, Bool, true, cond, ◌||◌, T, IsTrue, List, [], ◌∷◌, ◌++◌, fold, Option, Some, None, is_some, ap, sym, ◌∙◌, arith, unwrap_or, sum_by}
+use Rattle.std.proofs.Common.{◌≡◌, ℕ, ◌+◌, Bool, cond, ◌||◌, T, IsTrue, List, [], ◌∷◌, ◌++◌, fold, Option, Some, None, is_some, ap, sym, ◌∙◌, arith, unwrap_or, sum_by}
 use Rattle.allocative_graph.proofs.Common.{eq_by_cmp, get, entries, get-entries, get-insert, get-from_entries, entries_sorted, contains_key, same_map, find, is_sorted, below_all, first, second, Key, Child, node, IsSumByPath, Path, key_cmp, path_cmp, is_same_path, Forest, all, Bag, is_entered_in, sums_of, Graph, graph, size_at, total_at, begins, total, sum_of, under, default, IsTree, sum_by-cons, insert}
 use Rattle.allocative_graph.proofs.Basics.{path_total, path_antisymmetric, same_path, or_comm}
 use Rattle.allocative_graph.proofs.Below.{find-below_all, weights-insert}

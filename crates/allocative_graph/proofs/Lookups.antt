@@ -1,5 +1,5 @@
 -- What a bag adds to the sums, path by path, whatever its order.
-use Rattle.std.proofs.Common.{◌≡◌, ℕ, ◌+◌, Bool, true, false, cond, ◌||◌, [], ◌∷◌, Option, Some, None, refl, ap, sym, ◌∙◌, sum_by, arith, nat_lt}
+use Rattle.std.proofs.Common.{◌≡◌, ℕ, ◌+◌, Bool, false, cond, [], ◌∷◌, Option, Some, None, refl, ap, sym, ◌∙◌, sum_by, arith, nat_lt}
 use Rattle.allocative_graph.proofs.Common.{get, get-insert, same_map, Path, path_cmp, is_same_path, Entry, Bag, Node, Sums, bytes_in, is_unique_in, is_entered_in, together, node_of, add, add_all, sums_of, sum_by-cons, list_any}
 use Rattle.std.proofs.lemmas.Bool.Decides.{nat_tests}
 use Rattle.std.specs.FinMap.{empty, get-empty}

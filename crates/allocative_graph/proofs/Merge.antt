@@ -1,12 +1,12 @@
 -- Where no identity is reached by both and the sums can be added, the graphs add up.
-use Rattle.std.proofs.Common.{◌≡◌, ℕ, ◌+◌, ◌-◌, ◌≤◌, false, cond, ◌||◌, ◌⊎◌, List, [], ◌∷◌, ◌++◌, map, Option, Some, None, is_some, refl, ap, sym, ◌∙◌, arith, unwrap_or}
-use Rattle.allocative_graph.proofs.Common.{option_map, get, entries, keys, get-entries, get-from_entries, same_map, find, Key, Path, path_cmp, is_same_path, Forest, all, contents, shown, followed_by, met_after, is_among, IsWhole, Node, Sums, add_all, sums_of, below, Graph, graph, sizes, remaining, size_at, sum_of, CanBeAdded, list_any-append}
+use Rattle.std.proofs.Common.{◌≡◌, ◌+◌, false, cond, ◌||◌, List, [], ◌∷◌, ◌++◌, map, Some, None, is_some, refl, ap, sym, ◌∙◌, arith}
+use Rattle.allocative_graph.proofs.Common.{option_map, get, entries, keys, get-entries, get-from_entries, same_map, find, Key, Path, path_cmp, is_same_path, Forest, all, contents, shown, followed_by, met_after, is_among, IsWhole, Sums, add_all, sums_of, below, Graph, graph, sizes, remaining, size_at, sum_of, CanBeAdded, list_any-append}
 use Rattle.std.specs.FinMap.{empty, contains_key-keys}
 use Rattle.std.specs.FinSet as set
 use Rattle.allocative_graph.specs.Meaning.{ReachApart}
-use Rattle.allocative_graph.proofs.Basics.{path_total, path_antisymmetric, same_path, on_test, false_from_ne_true}
+use Rattle.allocative_graph.proofs.Basics.{path_total, path_antisymmetric, same_path, false_from_ne_true}
 use Rattle.allocative_graph.proofs.Reach.{reaches_exactly, contains-insert_all, shown_each}
-use Rattle.allocative_graph.proofs.Lookups.{merge, get-add_all, get-sums_of}
+use Rattle.allocative_graph.proofs.Lookups.{get-add_all, get-sums_of}
 use Rattle.allocative_graph.proofs.Below.{find-keys, below-add_all, below-sums_of}
 use Rattle.allocative_graph.proofs.Closed.{absent_below}
 use Rattle.allocative_graph.proofs.Following.{fits-following, fits_more, added-following}

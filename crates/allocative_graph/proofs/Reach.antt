@@ -1,5 +1,5 @@
 -- The identities that a whole showing shows are exactly those reached.
-use Rattle.std.proofs.Common.{◌≡◌, false, cond, ◌||◌, IsTrue, List, [], ◌∷◌, ◌++◌, map, flat_map, refl, ap, sym, ◌∙◌, subst, true≢false, IsPermutation, Some, unwrap_or, ◌⊎◌, inl, inr, Bool, arith}
+use Rattle.std.proofs.Common.{◌≡◌, false, ◌||◌, IsTrue, List, [], ◌∷◌, ◌++◌, map, flat_map, refl, ap, sym, ◌∙◌, subst, true≢false, IsPermutation, unwrap_or, Bool, arith}
 use Rattle.allocative_graph.proofs.Common.{⊤, AllByRecursion, contains, contains-insert, contains-empty, Path, Identities, Identity, identity_cmp, is_same_identity, Forest, Empty, Inline, Unique, First, Again, Bag, Entry, own, own_behind, contents, all, shown, insert_all, met_after, Fits, is_mark_of, has_mark, is_among, Reached, marked, inside, IsMeaning, content_of, IsWhole, IsPermutation-refl, list_any, list_any-append, map-append}
 use Rattle.std.specs.List.{Contains, IsDistinct}
 use Rattle.std.specs.Map.{lookup}
@@ -9,7 +9,7 @@ use Rattle.std.proofs.lemmas.List.Elements.{All-contains_itself, All-weaker, rec
 use Rattle.std.proofs.lemmas.List.Sums.{fold-append}
 use Rattle.std.proofs.lemmas.Map.Views.{lookup-from_Contains}
 use Rattle.allocative_graph.specs.Meaning.{ReachesExactly}
-use Rattle.allocative_graph.proofs.Basics.{or_both, or_left, or_right, or_parts, or-false, on_test, any_left, any_right, each-parts, each-implies, identity_total, same_identity, same_identity_itself, same_identity_turned}
+use Rattle.allocative_graph.proofs.Basics.{or_both, or_left, or_right, or_parts, or-false, any_left, any_right, each-parts, each-implies, identity_total, same_identity, same_identity_itself, same_identity_turned}
 
 abbrev pub Contents : Type 0
 Contents = List (Identity × Bag)
@@ -114,8 +114,11 @@ own_content f w = recursion_from_All _ (contents f) (All-weaker (Contains (conte
 
 -- ---- the theorem
 pub reaches_exactly : (f : Forest) → IsWhole f → ReachesExactly f
-reaches_exactly f w i = (reach (own f) (content_of f) [] f (λ j h. marked h) (own_content f w) i, λ r. sym (ap (λ b. b || is_among i (shown f)) (contains-empty identity_cmp i))
-    ∙ fits_marks [] empty f w i (elim r [ marked h ↦ or_left _ _ h | inside j q h ↦ or_right (has_mark i (own f)) _ (marks_content (contents f) i j h) ]))
+reaches_exactly f w i = (
+  reach (own f) (content_of f) [] f (λ j h. marked h) (own_content f w) i,
+  λ r. sym (ap (λ b. b || is_among i (shown f)) (contains-empty identity_cmp i))
+      ∙ fits_marks [] empty f w i (elim r [ marked h ↦ or_left _ _ h | inside j q h ↦ or_right (has_mark i (own f)) _ (marks_content (contents f) i j h) ]),
+)
 
 -- The entries of all contents are those of the content of each identity shown.
 pub as_flat : (f : Forest) → IsWhole f → flat_map (content_of f) (shown f) ≡ flat_map (λ c. c.1) (contents f)
