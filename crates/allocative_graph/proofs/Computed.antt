@@ -1,5 +1,5 @@
 -- The maps of a bag as plain lists, on which texts compute.
-use Rattle.std.proofs.Common.{◌≡◌, ℕ, ◌+◌, unwrap_or, ◌-◌, cond, List, [], ◌∷◌, ◌++◌, map, sum_by, flat_map, refl, ap, sym, ◌∙◌, nat_lt, not, ◌&&◌, Ordering}
+use Rattle.std.proofs.Common.{◌≡◌, ℕ, ◌+◌, unwrap_or, ◌-◌, cond, List, [], ◌∷◌, ◌++◌, fold, map, sum_by, flat_map, refl, ap, sym, ◌∙◌, nat_lt, not, ◌&&◌, Ordering}
 use Rattle.allocative_graph.proofs.Common.{nil_from_length, keys, entries, from_entries, get-entries, entries-insert, len-entries, put, find, Path, path_cmp, is_one_below, Entry, Bag, Node, Sums, add, add_all, sums_of, together, node_of, Graph, graph, sizes, sum_of, text, text_of_entries, warnings, is_root}
 use Rattle.std.specs.FinMap.{empty, len-empty}
 use Rattle.allocative_graph.proofs.Basics.{path_total}
@@ -9,8 +9,7 @@ abbrev pub nodes_add : List (Path × Node) → Entry → List (Path × Node)
 nodes_add es e = put path_cmp e.path (together (find path_cmp e.path es) (node_of e)) es
 
 abbrev pub nodes_add_all : List (Path × Node) → Bag → List (Path × Node)
-nodes_add_all es [] = es
-nodes_add_all es (e ∷ b) = nodes_add_all (nodes_add es e) b
+nodes_add_all es b = fold nodes_add es b
 
 entries-add_all : (s : Sums) (b : Bag) → entries (add_all s b) ≡ nodes_add_all (entries s) b
 entries-add_all s [] = refl

@@ -36,15 +36,12 @@ module _ {X : Type 0} (made : X → Graph) where
   added_up-onto g h (x ∷ xs) = added_up-onto g (sum_of h (made x)) xs ∙ ap (λ s. added_up s xs) (sym (sum_of-associates g h (made x)))
 
 -- ---- children
-abbrev made_of : Child → Graph
-made_of c = under c.key c.graph
-
 -- The order of the children does not matter.
 pub all_permuted : (g : Graph) (cs ds : List Child) → IsPermutation cs ds → sum_of_all g ds ≡ sum_of_all g cs
-all_permuted = added_up-permuted made_of
+all_permuted = added_up-permuted (λ (c : Child). under c.key c.graph)
 
 pub total-all : (g : Graph) (cs : List Child) → total (sum_of_all g cs) ≡ total g + total_of cs
-total-all g cs = total-added_up made_of g cs ∙ (λ i. total g + sum_by (λ c. total-under c.key c.graph i) cs)
+total-all g cs = total-added_up (λ (c : Child). under c.key c.graph) g cs ∙ (λ i. total g + sum_by (λ c. total-under c.key c.graph i) cs)
 
 -- The total of the graph of some children.
 pub total-gathered : (cs : List Child) → total (sum_of_all default cs) ≡ total_of cs
@@ -52,4 +49,4 @@ total-gathered cs = omega (arith, total-all default cs, total-default)
 
 -- Adding the graph of some children is adding the children.
 pub sum_of-all : (g : Graph) (cs : List Child) → IsTree g → sum_of g (sum_of_all default cs) ≡ sum_of_all g cs
-sum_of-all g cs t = added_up-onto made_of g default cs ∙ ap (λ (s : Graph). sum_of_all s cs) (sum_of-default g t)
+sum_of-all g cs t = added_up-onto (λ (c : Child). under c.key c.graph) g default cs ∙ ap (λ (s : Graph). sum_of_all s cs) (sum_of-default g t)
