@@ -1,11 +1,14 @@
 -- Small facts about tests, lists, paths and identities.
-use Rattle.std.proofs.Common.{◌≡◌, Bool, true, false, ◌||◌, IsTrue, inl, inr, List, [], ◌∷◌, ◌++◌, map, refl, sym, ◌∙◌, true≢false, Ordering, Less, Equal, Greater}
-use Rattle.allocative_graph.proofs.Common.{list_any, AllByRecursion, is_eq, ordering_then, nat_list_cmp_total, IsAntisymmetric, nat_cmp-IsAntisymmetric, slice_cmp-IsAntisymmetric, Path, path_cmp, is_same_path, Identity, identity_cmp, is_same_identity, list_any-append}
-use Rattle.std.specs.Cmp.{IsTotalOrder}
+use Rattle.std.proofs.Common.{◌≡◌, Bool, true, false, ◌||◌, IsTrue, inl, inr, List, [], ◌∷◌, ◌++◌, map, refl, ◌∙◌, Ordering, Equal}
+use Rattle.allocative_graph.proofs.Common.{list_any, AllByRecursion, is_eq, nat_list_cmp_total, IsAntisymmetric, nat_cmp-IsAntisymmetric, slice_cmp-IsAntisymmetric, Path, path_cmp, is_same_path, Identity, identity_cmp, is_same_identity, list_any-append}
+use Rattle.std.specs.Cmp.{IsTotalOrder, Equal-is}
+use Rattle.std.proofs.lemmas.List.Elements.{All-append, All-from_recursion, All-weaker, recursion_from_All}
+use Rattle.std.proofs.lemmas.Map.Lookups.{exact_pairs}
 use Rattle.std.specs.Ordering.{nat_cmp}
 use Rattle.std.specs.Cmp.Lexicographic.{lists_total}
 use Rattle.std.proofs.lemmas.Cmp.{nat_cmp_total, on_total, then_total, eq_by_cmp_equiv}
 pub use mathlib.Core.Bool.{or_assoc, or_comm, or-false, and_assoc, and-true}
+pub use Rattle.std.specs.Cmp.{both_ways}
 pub use Rattle.std.proofs.lemmas.Bool.{and_parts, or_cases, or_left, or_right, or_parts, false_from_ne_true}
 
 -- ---- tests
@@ -14,32 +17,19 @@ pub on_test : (P : Bool → Type 0) (t : Bool) → (t ≡ true → P true) → (
 on_test P true f g = f refl
 on_test P false f g = g refl
 
-pub both_ways : (a b : Bool) → (IsTrue a → IsTrue b) → (IsTrue b → IsTrue a) → a ≡ b
-both_ways true b f g = sym (f refl)
-both_ways false true f g = g refl
-both_ways false false f g = refl
-
 pub is_eq-Equal : (r : Ordering) → IsTrue (is_eq r) → r ≡ Equal
-is_eq-Equal Less h = absurd (true≢false (sym h))
-is_eq-Equal Equal h = refl
-is_eq-Equal Greater h = absurd (true≢false (sym h))
+is_eq-Equal r = (Equal-is r).0
 
 -- ---- lists
 pub each-append : {X : Type 0} (P : X → Type 0) (xs ys : List X) → AllByRecursion P xs → AllByRecursion P ys → AllByRecursion P (xs ++ ys)
-each-append P [] ys h g = g
-each-append P (x ∷ xs) ys h g = (h.0, each-append P xs ys h.1 g)
+each-append P xs ys h g = recursion_from_All P (xs ++ ys) (All-append P xs ys (All-from_recursion P xs h) (All-from_recursion P ys g))
 
-pub each-left : {X : Type 0} (P : X → Type 0) (xs ys : List X) → AllByRecursion P (xs ++ ys) → AllByRecursion P xs
-each-left P [] ys h = tt
-each-left P (x ∷ xs) ys h = (h.0, each-left P xs ys h.1)
-
-pub each-right : {X : Type 0} (P : X → Type 0) (xs ys : List X) → AllByRecursion P (xs ++ ys) → AllByRecursion P ys
-each-right P [] ys h = h
-each-right P (x ∷ xs) ys h = each-right P xs ys h.1
+pub each-parts : {X : Type 0} (P : X → Type 0) (xs ys : List X) → AllByRecursion P (xs ++ ys) → AllByRecursion P xs × AllByRecursion P ys
+each-parts P [] ys h = (tt, h)
+each-parts P (x ∷ xs) ys h = let rest = each-parts P xs ys h.1 in ((h.0, rest.0), rest.1)
 
 pub each-implies : {X : Type 0} (P Q : X → Type 0) → ((x : X) → P x → Q x) → (xs : List X) → AllByRecursion P xs → AllByRecursion Q xs
-each-implies P Q f [] h = tt
-each-implies P Q f (x ∷ xs) h = (f x h.0, each-implies P Q f xs h.1)
+each-implies P Q f xs h = recursion_from_All Q xs (All-weaker P Q f xs (All-from_recursion P xs h))
 
 pub each-map : {X Y : Type 0} (P : Y → Type 0) (f : X → Y) (xs : List X) → AllByRecursion P (map f xs) → AllByRecursion (λ x. P (f x)) xs
 each-map P f [] h = tt
@@ -48,18 +38,11 @@ each-map P f (x ∷ xs) h = (h.0, each-map P f xs h.1)
 pub or_both : {Q : Type 0} (a b : Bool) → (IsTrue a → Q) → (IsTrue b → Q) → IsTrue (a || b) → Q
 or_both a b f g h = elim (or_cases a b h) [ inl x ↦ f x | inr x ↦ g x ]
 
-pub any_both : {X : Type 0} {Q : Type 0} (p : X → Bool) (xs ys : List X) → (IsTrue (list_any p xs) → Q) → (IsTrue (list_any p ys) → Q) → IsTrue (list_any p (xs ++ ys)) → Q
-any_both p xs ys f g h = or_both (list_any p xs) (list_any p ys) f g (sym (list_any-append p xs ys) ∙ h)
-
 pub any_left : {X : Type 0} (p : X → Bool) (xs ys : List X) → IsTrue (list_any p xs) → IsTrue (list_any p (xs ++ ys))
 any_left p xs ys h = list_any-append p xs ys ∙ or_left _ (list_any p ys) h
 
 pub any_right : {X : Type 0} (p : X → Bool) (xs ys : List X) → IsTrue (list_any p ys) → IsTrue (list_any p (xs ++ ys))
 any_right p xs ys h = list_any-append p xs ys ∙ or_right (list_any p xs) _ h
-
-pub each-found : {X : Type 0} (P : X → Type 0) (Q : Type 0) (test : X → Bool) → ((x : X) → P x → IsTrue (test x) → Q) → (xs : List X) → AllByRecursion P xs → IsTrue (list_any test xs) → Q
-each-found P Q test f [] h g = absurd (true≢false (sym g))
-each-found P Q test f (x ∷ xs) h g = or_both (test x) (list_any test xs) (f x h.0) (each-found P Q test f xs h.1) g
 
 -- ---- orders
 pub path_total : IsTotalOrder path_cmp
@@ -77,15 +60,10 @@ same_path_itself p = (eq_by_cmp_equiv path_total).refl p
 pub identity_total : IsTotalOrder identity_cmp
 identity_total = then_total (on_total (λ (i : Identity). i.maker) nat_cmp_total) (on_total (λ (i : Identity). i.number) nat_cmp_total)
 
-then_equal : (a b : Ordering) → ordering_then a b ≡ Equal → (a ≡ Equal) × (b ≡ Equal)
-then_equal Less b e = absurd (cc)
-then_equal Equal b e = (refl, e)
-then_equal Greater b e = absurd (cc)
-
 pub identity_antisymmetric : IsAntisymmetric identity_cmp
 identity_antisymmetric i j e =
-    let parts = then_equal (nat_cmp i.maker j.maker) (nat_cmp i.number j.number) e in
-    λ k. record { maker = nat_cmp-IsAntisymmetric i.maker j.maker parts.0 k; number = nat_cmp-IsAntisymmetric i.number j.number parts.1 k }
+    let same = exact_pairs nat_cmp nat_cmp nat_cmp-IsAntisymmetric nat_cmp-IsAntisymmetric (i.maker, i.number) (j.maker, j.number) e in
+    λ k. record { maker = (same k).0; number = (same k).1 }
 
 pub same_identity : (i j : Identity) → IsTrue (is_same_identity i j) → i ≡ j
 same_identity i j h = identity_antisymmetric i j (is_eq-Equal _ h)

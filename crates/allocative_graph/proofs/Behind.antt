@@ -105,21 +105,15 @@ module _ {n s : ℕ} {cs ds : List Child} {g : Graph} {path : Path} {k : Key} {p
 
     -- Where the child has nothing at p, the node has nothing at the path.
     pub missing_child : HasNothing (get_or ds i d).graph p → HasNothing g path
-    missing_child m = subst₂ HasNothing (ap (node n) same ∙ view) (sym is) (record {
-      missing = ap is_some (at p) ∙ m.missing;
-      below = λ q. ap is_some (at (p ++ q)) ∙ m.below q;
-      nothing = whole p ∙ m.nothing;
-    })
+    missing_child m = subst₂ HasNothing (ap (node n) same ∙ view) (sym is)
+        (record { missing = ap is_some (at p) ∙ m.missing; below = λ q. ap is_some (at (p ++ q)) ∙ m.below q; nothing = whole p ∙ m.nothing })
 
   -- Where a key was not found, the node has nothing at the path and below it.
   pub missing_key : {i : ℕ} → IsChildGap ds k i → HasNothing g path
   missing_key {i = i} gap =
       let none = gap-lacks ds i k gap in
-      subst₂ HasNothing (ap (node n) same ∙ view) (sym is) (record {
-        missing = ap is_some (get-under n ds k p in_order ∙ size_under-lacks ds k p none);
-        below = λ q. ap is_some (get-under n ds k (p ++ q) in_order ∙ size_under-lacks ds k (p ++ q) none);
-        nothing = whole-node n ds k p in_order ∙ whole-lacks k p ds none;
-      })
+      let missing = λ (q : Path). ap is_some (get-under n ds k q in_order ∙ size_under-lacks ds k q none) in
+      subst₂ HasNothing (ap (node n) same ∙ view) (sym is) (record { missing = missing p; below = λ q. missing (p ++ q); nothing = whole-node n ds k p in_order ∙ whole-lacks k p ds none })
 
 -- ---- in terms of what a call returns
 -- Where P implies Q, P in the absence of a value implies Q in its absence.

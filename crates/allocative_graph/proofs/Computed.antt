@@ -1,6 +1,6 @@
 -- The maps of a bag as plain lists, on which texts compute.
-use Rattle.std.proofs.Common.{◌≡◌, ℕ, ◌+◌, unwrap_or, ◌-◌, cond, List, [], ◌∷◌, ◌++◌, map, sum_by, flat_map, refl, ap, sym, ◌∙◌, nat_lt, not, ◌&&◌}
-use Rattle.allocative_graph.proofs.Common.{nil_from_length, keys, entries, from_entries, get-entries, entries-insert, len-entries, put, find, Path, path_cmp, is_one_below, Entry, Bag, Node, Sums, add, add_all, sums_of, together, node_of, Graph, graph, sizes, size_at, sum_of, text, text_of_entries, warnings, is_root}
+use Rattle.std.proofs.Common.{◌≡◌, ℕ, ◌+◌, unwrap_or, ◌-◌, cond, List, [], ◌∷◌, ◌++◌, fold, map, sum_by, flat_map, refl, ap, sym, ◌∙◌, nat_lt, not, ◌&&◌, Ordering}
+use Rattle.allocative_graph.proofs.Common.{nil_from_length, keys, entries, from_entries, get-entries, entries-insert, len-entries, put, find, Path, path_cmp, is_one_below, Entry, Bag, Node, Sums, add, add_all, sums_of, together, node_of, Graph, graph, sizes, sum_of, text, text_of_entries, warnings, is_root}
 use Rattle.std.specs.FinMap.{empty, len-empty}
 use Rattle.allocative_graph.proofs.Basics.{path_total}
 use Rattle.allocative_graph.specs.Graph.{warning_line}
@@ -9,22 +9,22 @@ abbrev pub nodes_add : List (Path × Node) → Entry → List (Path × Node)
 nodes_add es e = put path_cmp e.path (together (find path_cmp e.path es) (node_of e)) es
 
 abbrev pub nodes_add_all : List (Path × Node) → Bag → List (Path × Node)
-nodes_add_all es [] = es
-nodes_add_all es (e ∷ b) = nodes_add_all (nodes_add es e) b
+nodes_add_all es b = fold nodes_add es b
 
-pub entries-add : (s : Sums) (e : Entry) → entries (add s e) ≡ nodes_add (entries s) e
-entries-add s e = entries-insert path_total s e.path _ ∙ ap (λ o. put path_cmp e.path (together o (node_of e)) (entries s)) (get-entries s e.path)
-
-pub entries-add_all : (s : Sums) (b : Bag) → entries (add_all s b) ≡ nodes_add_all (entries s) b
+entries-add_all : (s : Sums) (b : Bag) → entries (add_all s b) ≡ nodes_add_all (entries s) b
 entries-add_all s [] = refl
-entries-add_all s (e ∷ b) = entries-add_all (add s e) b ∙ ap (λ es. nodes_add_all es b) (entries-add s e)
+entries-add_all s (e ∷ b) = entries-add_all (add s e) b
+    ∙ ap (λ es. nodes_add_all es b) (entries-insert path_total s e.path _ ∙ ap (λ o. put path_cmp e.path (together o (node_of e)) (entries s)) (get-entries s e.path))
 
 abbrev pub put_all : {X : Type 0} → List (Path × X) → List (Path × X)
 put_all [] = []
 put_all (e ∷ es) = put path_cmp e.0 e.1 (put_all es)
 
+pub no_entries : {K : Type 0} (R : K → K → Ordering) (X : Type 0) → entries (empty {X = X} {R = R}) ≡ []
+no_entries R X = nil_from_length _ (sym (len-entries (empty {X = X} {R = R})) ∙ len-empty R X)
+
 pub entries-empty : {X : Type 0} → entries (empty {X = X} {R = path_cmp}) ≡ []
-entries-empty {X} = nil_from_length _ (sym (len-entries (empty {X = X} {R = path_cmp})) ∙ len-empty path_cmp X)
+entries-empty {X} = no_entries path_cmp X
 
 pub entries-from_entries : {X : Type 0} (es : List (Path × X)) → entries (from_entries {R = path_cmp} es) ≡ put_all es
 entries-from_entries [] = entries-empty
@@ -43,8 +43,11 @@ below_list es p = sum_by (λ e. cond (is_one_below p e.0) e.1.bytes 0) es
 abbrev pub sizes_list : List (Path × Node) → List (Path × ℕ)
 sizes_list es = put_all (([], 0) ∷ map (λ e. (e.0, cond e.1.is_unique e.1.bytes (e.1.bytes - below_list es e.0))) es)
 
+entries-graph : (b : Bag) → entries (graph (sums_of b)) ≡ sizes_list (nodes_of b)
+entries-graph b = entries-from_entries (sizes (sums_of b)) ∙ ap sizes_list (entries-sums_of b)
+
 pub text-computed : (b : Bag) → text (graph (sums_of b)) ≡ text_of_entries (sizes_list (nodes_of b))
-text-computed b = ap text_of_entries (entries-from_entries (sizes (sums_of b)) ∙ ap sizes_list (entries-sums_of b))
+text-computed b = ap text_of_entries (entries-graph b)
 
 abbrev pub warnings_list : List (Path × Node) → List ℕ
 warnings_list es = flat_map (λ e. cond (not (is_root e.0) && not e.1.is_unique && nat_lt e.1.bytes (below_list es e.0)) (warning_line e.0 e.1.bytes (below_list es e.0)) []) es
@@ -55,12 +58,8 @@ warnings-computed b = ap warnings_list (entries-sums_of b)
 abbrev pub added_list : List (Path × ℕ) → List (Path × ℕ) → List (Path × ℕ)
 added_list es fs = put_all (map (λ p. (p, unwrap_or (find path_cmp p es) 0 + unwrap_or (find path_cmp p fs) 0)) (map (λ e. e.0) es ++ map (λ e. e.0) fs))
 
-sum_listed : (g h : Graph) → (ps : List Path) → map {B = Path × ℕ} (λ p. (p, size_at g p + size_at h p)) ps ≡ map (λ p. (p, unwrap_or (find path_cmp p (entries g)) 0 + unwrap_or (find path_cmp p (entries h)) 0)) ps
-sum_listed g h [] = refl
-sum_listed g h (p ∷ ps) = λ i. (p, unwrap_or (get-entries g p i) 0 + unwrap_or (get-entries h p i) 0) ∷ sum_listed g h ps i
-
-pub entries-sum_of : (g h : Graph) → entries (sum_of g h) ≡ added_list (entries g) (entries h)
-entries-sum_of g h = entries-from_entries _ ∙ ap put_all (sum_listed g h (keys g ++ keys h))
+entries-sum_of : (g h : Graph) → entries (sum_of g h) ≡ added_list (entries g) (entries h)
+entries-sum_of g h = entries-from_entries _ ∙ (λ i. put_all (map (λ p. (p, unwrap_or (get-entries g p i) 0 + unwrap_or (get-entries h p i) 0)) (keys g ++ keys h)))
 
 pub text_added : (b c : Bag) → text (sum_of (graph (sums_of b)) (graph (sums_of c))) ≡ text_of_entries (added_list (sizes_list (nodes_of b)) (sizes_list (nodes_of c)))
-text_added b c = ap text_of_entries (entries-sum_of (graph (sums_of b)) (graph (sums_of c)) ∙ (λ i. added_list ((entries-from_entries (sizes (sums_of b)) ∙ ap sizes_list (entries-sums_of b)) i) ((entries-from_entries (sizes (sums_of c)) ∙ ap sizes_list (entries-sums_of c)) i)))
+text_added b c = ap text_of_entries (entries-sum_of (graph (sums_of b)) (graph (sums_of c)) ∙ (λ i. added_list (entries-graph b i) (entries-graph c i)))

@@ -1,9 +1,10 @@
 -- Lines dropped from a text are paths left out of it.
-use Rattle.std.proofs.Common.{◌≡◌, ℕ, ◌==◌, Bool, true, false, cond, not, List, [], ◌∷◌, ◌++◌, map, flat_map, filter, refl, ap, sym, ◌∙◌, append_assoc, append-nil, decimal, ne_eqb, arith}
-use Rattle.allocative_graph.proofs.Common.{AllByRecursion, eq_by_cmp, entries, Key, Path, key_cmp, Graph, text, joined, Lacks, HasPlainKeys, codes}
+use Rattle.std.proofs.Common.{◌≡◌, ℕ, ◌==◌, Bool, cond, List, [], ◌∷◌, ◌++◌, map, flat_map, filter, refl, ap, sym, ◌∙◌, append_assoc, append-nil, decimal, ne_eqb, arith}
+use Rattle.allocative_graph.proofs.Common.{AllByRecursion, All-from_recursion, eq_by_cmp, entries, Key, Path, key_cmp, Graph, text, joined, Lacks, HasPlainKeys, codes}
 use Rattle.allocative_graph.specs.Graph.{line}
 use Rattle.allocative_graph.specs.Report.{ends_in, exact_text, lines_from, before_last, after_last, last_key, without_lines}
-use Rattle.allocative_graph.proofs.Basics.{each-map, on_test}
+use Rattle.std.proofs.lemmas.List.Elements.{All-filter, recursion_from_All}
+use Rattle.allocative_graph.proofs.Basics.{each-map}
 use Rattle.allocative_graph.proofs.Text.{Plain, Sized, is_shown, full, body, shown_lines, full_body, body_lacks, decimal_lacks}
 
 -- ---- the lines
@@ -21,8 +22,7 @@ none_before c best acc [] h = refl
 none_before c best acc (b ∷ d) h = ap (λ t. cond t (before_last c acc (acc ++ b ∷ []) d) (before_last c best (acc ++ b ∷ []) d)) (ne_eqb b c h.0) ∙ none_before c best (acc ++ b ∷ []) d h.1
 
 same_cond : {A : Type 0} (t : Bool) (x y z : A) → x ≡ z → y ≡ z → cond t x y ≡ z
-same_cond true x y z p q = p
-same_cond false x y z p q = q
+same_cond t x y z p q = grind arith
 
 before_read : (best acc x d : List ℕ) → Lacks 32 d → before_last 32 best acc (x ++ 32 ∷ d) ≡ acc ++ x
 before_read best acc [] d h = none_before 32 acc (acc ++ 32 ∷ []) d h ∙ sym (append-nil acc)
@@ -47,20 +47,12 @@ last_key_of key k p n h = ap (λ l. eq_by_cmp key_cmp key (after_last 59 [] l)) 
 drop_each : (key : Key) (es : List Sized) → AllByRecursion (λ e. AllByRecursion Plain e.0) es → flat_map (λ e. cond (ends_in key e.0) [] (line e)) es ≡ flat_map (λ l. cond (eq_by_cmp key_cmp key (last_key l)) [] (l ++ 10 ∷ [])) (map body (filter is_shown es))
 drop_each key [] h = refl
 drop_each key (([], n) ∷ es) h = drop_each key es h.1
-drop_each key ((k ∷ p, n) ∷ es) h =
-    let kept : List ℕ → List ℕ = λ l. cond (eq_by_cmp key_cmp key (last_key l)) [] (l ++ 10 ∷ []) in
-    let rest = drop_each key es h.1 in
-    on_test (λ z. cond (ends_in key (k ∷ p)) [] (cond z [] (full (k ∷ p, n))) ++ flat_map (λ e. cond (ends_in key e.0) [] (line e)) es ≡ flat_map kept (map body (cond (not z) ((k ∷ p, n) ∷ filter is_shown es) (filter is_shown es)))) (n == 0)
-    (λ e. on_test (λ t. cond t [] [] ++ flat_map (λ e. cond (ends_in key e.0) [] (line e)) es ≡ flat_map (λ e. cond (ends_in key e.0) [] (line e)) es) (ends_in key (k ∷ p)) (λ t. refl) (λ t. refl) ∙ rest)
-    (λ e i. cond (sym (last_key_of key k p n h.0) i) [] (full (k ∷ p, n)) ++ rest i)
-
-each_filtered : (es : List Sized) → AllByRecursion (λ e. AllByRecursion Plain e.0) es → AllByRecursion (λ e. AllByRecursion Plain e.0) (filter is_shown es)
-each_filtered [] h = tt
-each_filtered (e ∷ es) h = on_test (λ t. AllByRecursion (λ e. AllByRecursion Plain e.0) (cond t (e ∷ filter is_shown es) (filter is_shown es))) (is_shown e)
-    (λ t. (h.0, each_filtered es h.1)) (λ t. each_filtered es h.1)
+drop_each key ((k ∷ p, n) ∷ es) h = grind (arith, drop_each key es h.1, last_key_of key k p n h.0)
 
 pub exact_is : (g : Graph) → HasPlainKeys g → exact_text g ≡ without_lines (codes "unused_capacity") (text g)
 exact_is g h =
     let plain = each-map (AllByRecursion Plain) (λ e. e.0) (entries g) h in
-    drop_each (codes "unused_capacity") (entries g) plain
-    ∙ ap (flat_map (λ l. cond (eq_by_cmp key_cmp (codes "unused_capacity") (last_key l)) [] (l ++ 10 ∷ []))) (sym (ap (lines_from []) (shown_lines (entries g)) ∙ lines_read (filter is_shown (entries g)) (each_filtered (entries g) plain)))
+    let kept = recursion_from_All (λ e. AllByRecursion Plain e.0) (filter is_shown (entries g))
+    (All-filter is_shown (λ e. AllByRecursion Plain e.0) (entries g) (All-from_recursion _ (entries g) plain)) in
+    let lines = ap (lines_from []) (shown_lines (entries g)) ∙ lines_read (filter is_shown (entries g)) kept in
+    drop_each (codes "unused_capacity") (entries g) plain ∙ ap (flat_map (λ l. cond (eq_by_cmp key_cmp (codes "unused_capacity") (last_key l)) [] (l ++ 10 ∷ []))) (sym lines)

@@ -1,9 +1,11 @@
 -- One forest followed by another: their entries, their contents, and what they fit.
-use Rattle.std.proofs.Common.{◌≡◌, ◌↔◌, Bool, false, ◌||◌, IsTrue, List, [], ◌∷◌, ◌++◌, refl, ap, sym, ◌∙◌, subst, append_assoc, IsPermutation}
-use Rattle.allocative_graph.proofs.Common.{contains, contains-insert, Path, Identities, Identity, is_same_identity, Forest, Empty, Inline, Unique, First, Again, AsInline, AsUnique, AsShared, Bag, own_behind, contents, content_entries, shown, followed_by, insert_all, met_after, Fits, is_among, added, flat_map-append, IsPermutation-append_left, IsPermutation-append_right, IsPermutation-append_comm}
+use Rattle.std.proofs.Common.{◌≡◌, ◌↔◌, Bool, false, ◌||◌, List, [], ◌∷◌, ◌++◌, refl, ap, sym, ◌∙◌, append_assoc, arith}
+use Rattle.allocative_graph.proofs.Common.{AllByRecursion, Sums, add, add_all, contains, Path, Identities, Identity, Forest, Empty, Inline, Unique, First, Again, AsInline, AsUnique, AsShared, Bag, own_behind, contents, shown, followed_by, insert_all, met_after, Fits, added, flat_map-append}
 use Rattle.std.specs.FinSet.{insert}
-use Rattle.allocative_graph.proofs.Basics.{or_assoc, or_left, or_right, identity_total, same_identity_itself}
-use Rattle.allocative_graph.proofs.Reach.{Contents, ids, met-append, among-append}
+use Rattle.allocative_graph.proofs.Basics.{or_left, each-parts}
+use Rattle.allocative_graph.proofs.Lookups.{add_all-same}
+use Rattle.std.proofs.lemmas.List.Sums.{fold-append, sum_by-append}
+use Rattle.allocative_graph.proofs.Reach.{ids, met-append, contains-insert_all}
 
 pub own-following : (p : Path) (f g : Forest) → own_behind p (followed_by f g) ≡ own_behind p f ++ own_behind p g
 own-following p Empty g = refl
@@ -22,20 +24,16 @@ contents-following (Again k n j after) g = contents-following after g
 pub met-following : (s : Identities) (f g : Forest) → met_after s (followed_by f g) ≡ met_after (met_after s f) g
 met-following s f g = rw (contents-following f g) (met-append s (contents f) (contents g))
 
-across : (a b c d : Bag) → IsPermutation ((a ++ b) ++ (c ++ d)) ((a ++ c) ++ (b ++ d))
-across a b c d = subst (λ x. IsPermutation x ((a ++ c) ++ (b ++ d))) (sym (append_assoc a b (c ++ d))) (subst (IsPermutation (a ++ (b ++ (c ++ d)))) (sym (append_assoc a c (b ++ d)))
-    (IsPermutation-append_right a _ _ (subst (λ x. IsPermutation x (c ++ (b ++ d))) (append_assoc b c d) (subst (IsPermutation ((b ++ c) ++ d)) (append_assoc c b d) (IsPermutation-append_left d (b ++ c) (c ++ b) (IsPermutation-append_comm b c))))))
-
-pub added-following : (p : Path) (f g : Forest) → IsPermutation (added p (followed_by f g)) (added p f ++ added p g)
-added-following p f g = rw (own-following p f g, contents-following f g, flat_map-append (λ (c : Identity × Bag). c.1) (contents f) (contents g))
-    (across (own_behind p f) (own_behind p g) (content_entries f) (content_entries g))
+pub added-following : (s : Sums) (p : Path) (f g : Forest) → add_all s (added p (followed_by f g)) ≡ add_all (add_all s (added p f)) (added p g)
+added-following s p f g = add_all-same s (added p (followed_by f g)) (added p f ++ added p g)
+    (λ w. rw (own-following p f g, contents-following f g, flat_map-append (λ (c : Identity × Bag). c.1) (contents f) (contents g)) (simp sum_by-append (omega arith)))
+    ∙ fold-append add s (added p f) (added p g)
 
 -- ---- fitting
 fits_inside : (s : Identities) (f after g : Forest) → Fits (met_after s f) (followed_by after g) ↔ (Fits (met_after s f) after × Fits (met_after (met_after s f) after) g)
     → (Fits s f × Fits (met_after s f) (followed_by after g)) ↔ ((Fits s f × Fits (met_after s f) after) × Fits (insert_all s (ids (contents f ++ contents after))) g)
-fits_inside s f after g rest =
-    let met = ap (λ t. Fits t g) (met-append s (contents f) (contents after)) in
-    (λ w. let x = rest.0 w.1 in ((w.0, x.0), subst (λ X. X) (sym met) x.1), λ w. (w.0.0, rest.1 (w.0.1, subst (λ X. X) met w.1)))
+fits_inside s f after g rest = rw (met-append s (contents f) (contents after))
+    (λ w. let x = rest.0 w.1 in ((w.0, x.0), x.1), λ w. (w.0.0, rest.1 (w.0.1, w.1)))
 
 pub fits-following : (s : Identities) (f g : Forest) → Fits s (followed_by f g) ↔ (Fits s f × Fits (met_after s f) g)
 fits-following s Empty g = (λ w. (tt, w), λ w. w.1)
@@ -48,37 +46,23 @@ fits-following s (Again k n j after) g = let rest = fits-following s after g in 
 
 -- ---- a set with more identities, of which none is shown
 module _ (more : Identity → Bool) where
-  abbrev pub HasMore : Identities → Identities → Type 0
+  abbrev HasMore : Identities → Identities → Type 0
   HasMore s t = (i : Identity) → contains t i ≡ (contains s i || more i)
 
-  more-insert : (s t : Identities) (j : Identity) → HasMore s t → HasMore (insert s j) (insert t j)
-  more-insert s t j h i = contains-insert identity_total t j i ∙ ap (λ b. is_same_identity i j || b) (h i) ∙ sym (or_assoc (is_same_identity i j) (contains s i) (more i)) ∙ ap (λ b. b || more i) (sym (contains-insert identity_total s j i))
-
   more-insert_all : (s t : Identities) (is : List Identity) → HasMore s t → HasMore (insert_all s is) (insert_all t is)
-  more-insert_all s t [] h = h
-  more-insert_all s t (i ∷ is) h = more-insert_all (insert s i) (insert t i) is (more-insert s t i h)
+  more-insert_all s t is h i = grind (arith, contains-insert_all s is i, contains-insert_all t is i, h i)
 
-  abbrev pub Apart : List Identity → Type 0
-  Apart is = (i : Identity) → IsTrue (is_among i is) → more i ≡ false
-
-  left : (cs ds : Contents) → Apart (ids (cs ++ ds)) → Apart (ids cs)
-  left cs ds a i h = a i (among-append i cs ds ∙ or_left _ (is_among i (ids ds)) h)
-
-  right : (cs ds : Contents) → Apart (ids (cs ++ ds)) → Apart (ids ds)
-  right cs ds a i h = a i (among-append i cs ds ∙ or_right (is_among i (ids cs)) _ h)
-
-  tail : (j : Identity) (is : List Identity) → Apart (j ∷ is) → Apart is
-  tail j is a i h = a i (or_right (is_same_identity i j) _ h)
-
-  pub fits_more : (s t : Identities) (f : Forest) → HasMore s t → Apart (shown f) → Fits s f → Fits t f
+  pub fits_more : (s t : Identities) (f : Forest) → HasMore s t → AllByRecursion (λ c. more c.0 ≡ false) (contents f) → Fits s f → Fits t f
   fits_more s t Empty h a w = tt
-  fits_more s t (Inline k n f after) h a w = (fits_more s t f h (left (contents f) (contents after) a) w.0, fits_more (met_after s f) (met_after t f) after (more-insert_all s t (shown f) h) (right (contents f) (contents after) a) w.1)
-  fits_more s t (Unique k n f after) h a w = (fits_more s t f h (left (contents f) (contents after) a) w.0, fits_more (met_after s f) (met_after t f) after (more-insert_all s t (shown f) h) (right (contents f) (contents after) a) w.1)
+  fits_more s t (Inline k n f after) h a w =
+      let xs = each-parts (λ c. more c.0 ≡ false) (contents f) (contents after) a in
+      (fits_more s t f h xs.0 w.0, fits_more (met_after s f) (met_after t f) after (more-insert_all s t (shown f) h) xs.1 w.1)
+  fits_more s t (Unique k n f after) h a w =
+      let xs = each-parts (λ c. more c.0 ≡ false) (contents f) (contents after) a in
+      (fits_more s t f h xs.0 w.0, fits_more (met_after s f) (met_after t f) after (more-insert_all s t (shown f) h) xs.1 w.1)
   fits_more s t (First k n j f after) h a w =
-      let b = tail j (ids (contents f ++ contents after)) a in
-      let up = more-insert s t j h in (
-        h j ∙ ap (λ c. c || more j) w.0 ∙ a j (or_left _ (is_among j (ids (contents f ++ contents after))) (same_identity_itself j)),
-        fits_more (insert s j) (insert t j) f up (left (contents f) (contents after) b) w.1,
-        fits_more (met_after (insert s j) f) (met_after (insert t j) f) after (more-insert_all (insert s j) (insert t j) (shown f) up) (right (contents f) (contents after) b) w.2,
-      )
+      let xs = each-parts (λ c. more c.0 ≡ false) (contents f) (contents after) a.1 in
+      let up = more-insert_all s t (j ∷ []) h in
+      let rest = fits_more (met_after (insert s j) f) (met_after (insert t j) f) after (more-insert_all (insert s j) (insert t j) (shown f) up) xs.1 w.2 in
+      (h j ∙ ap (λ c. c || more j) w.0 ∙ a.0, fits_more (insert s j) (insert t j) f up xs.0 w.1, rest)
   fits_more s t (Again k n j after) h a w = (h j ∙ or_left _ (more j) w.0, fits_more s t after h a w.1)

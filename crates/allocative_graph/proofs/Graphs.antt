@@ -1,31 +1,21 @@
 -- Graphs as maps: their sums, their totals, and graphs under a key.
-use Rattle.std.proofs.Common.{◌≡◌, ℕ, ◌+◌, Bool, true, false, cond, ◌||◌, ◌&&◌, T, IsTrue, ◌⊎◌, inl, inr, List, [], ◌∷◌, ◌++◌, fold, Option, Some, None, is_some, refl, ap, sym, ◌∙◌, arith, add-zero, unwrap_or, sum_by}
-use Rattle.allocative_graph.proofs.Common.{option_map, eq_by_cmp, is_eq, get, entries, get-entries, get-insert, get-from_entries, entries-insert, entries_sorted, contains_key, same_map, find, is_sorted, below_all, first, second, Key, Child, node, IsSumByPath, Path, key_cmp, path_cmp, is_same_path, is_one_below, Forest, all, Bag, is_entered_in, sums_of, Graph, graph, remaining, size_at, total_at, begins, total, sum_of, under, default, IsTree, sum_by-cons, insert}
-use Rattle.allocative_graph.proofs.Basics.{path_total, path_antisymmetric, same_path, each-found, on_test, or_assoc, or_comm, or-false, or_left}
-pub use Rattle.allocative_graph.proofs.Below.{find-below_all, weights-put}
+use Rattle.std.proofs.Common.{◌≡◌, ℕ, ◌+◌, Bool, cond, ◌||◌, T, IsTrue, List, [], ◌∷◌, ◌++◌, fold, Option, Some, None, is_some, ap, sym, ◌∙◌, arith, unwrap_or, sum_by}
+use Rattle.allocative_graph.proofs.Common.{eq_by_cmp, get, entries, get-entries, get-insert, get-from_entries, entries_sorted, contains_key, same_map, find, is_sorted, below_all, first, second, Key, Child, node, IsSumByPath, Path, key_cmp, path_cmp, is_same_path, Forest, all, Bag, is_entered_in, sums_of, Graph, graph, size_at, total_at, begins, total, sum_of, under, default, IsTree, sum_by-cons, insert}
+use Rattle.allocative_graph.proofs.Basics.{path_total, path_antisymmetric, same_path, or_comm}
+use Rattle.allocative_graph.proofs.Below.{find-below_all, weights-insert}
 use Rattle.allocative_graph.proofs.Merge.{get-sum_of, get-graph, get-graph-root}
 use Rattle.allocative_graph.proofs.Lookups.{get-sums_of}
-use Rattle.allocative_graph.proofs.Closed.{closed_all, ParentIn, not_root}
+use Rattle.allocative_graph.proofs.Closed.{below_entered, parent_entered}
 use Rattle.allocative_graph.proofs.ChildLookup.{get-root, get-under as get-below, node_of_one, one_sorted}
 use Rattle.allocative_graph.proofs.ChildRows.{weight-one}
 use Rattle.allocative_graph.proofs.NodeSizes.{total-node}
-use Rattle.allocative_graph.proofs.PathOrder.{key_itself}
 
 -- ---- one size more at a path
 abbrev add_at : Graph → Path × ℕ → Graph
 add_at g e = insert g e.0 (size_at g e.0 + e.1)
 
--- The bytes of a path and of all below it, after one size more.
-in_both : (b : Bool) (o : Option ℕ) (n : ℕ) → cond b (unwrap_or o 0 + n) 0 ≡ unwrap_or (option_map (λ x. cond b x 0) o) 0 + cond b n 0
-in_both true None n = refl
-in_both true (Some m) n = refl
-in_both false None n = refl
-in_both false (Some m) n = refl
-
 total_at-add_at : (q : Path) (g : Graph) (e : Path × ℕ) → total_at (add_at g e) q ≡ total_at g q + cond (begins q e.0) e.1 0
-total_at-add_at q g e = ap (sum_by (λ r. cond (begins q r.0) r.1 0)) (entries-insert path_total g e.0 (size_at g e.0 + e.1))
-    ∙ weights-put (λ p n. cond (begins q p) n 0) e.0 (size_at g e.0 + e.1) (cond (begins q e.0) e.1 0) (entries g) (entries_sorted g)
-    (ap (λ o. cond (begins q e.0) (unwrap_or o 0 + e.1) 0) (get-entries g e.0) ∙ in_both (begins q e.0) (find path_cmp e.0 (entries g)) e.1)
+total_at-add_at q g e = weights-insert path_total path_antisymmetric (λ p n. cond (begins q p) n 0) g e.0 (size_at g e.0 + e.1) (cond (begins q e.0) e.1 0) (grind arith)
 
 -- The total is the bytes of the root and of all below it.
 pub total-add_at : (g : Graph) (e : Path × ℕ) → total (add_at g e) ≡ total g + e.1
@@ -41,20 +31,12 @@ total_at-add_list q g (e ∷ es) = omega (arith, total_at-add_list q (add_at g e
 abbrev pub sizes_together : Option ℕ → Option ℕ → Option ℕ
 sizes_together x y = cond (is_some x || is_some y) (Some (unwrap_or x 0 + unwrap_or y 0)) None
 
-now_there : (x : Option ℕ) (n : ℕ) → ◌≡◌ {A = Option ℕ} (Some ((unwrap_or x 0 + n) + 0)) (cond (is_some x || true) (Some (unwrap_or x 0 + n)) None)
-now_there None n = ap Some (add-zero (0 + n))
-now_there (Some m) n = ap Some (add-zero (m + n))
-
-kept : (x : Option ℕ) → x ≡ sizes_together x None
-kept None = refl
-kept (Some m) = ap Some (sym (add-zero m))
-
 get-add_list : (g : Graph) (es : List (Path × ℕ)) → T (is_sorted path_cmp es) → (q : Path) → get (add_list g es) q ≡ sizes_together (get g q) (find path_cmp q es)
-get-add_list g [] h q = kept (get g q)
+get-add_list g [] h q = grind arith
 get-add_list g (e ∷ es) h q =
-    rw (get-add_list (add_at g e) es (second (below_all path_cmp e.0 es) _ h) q, get-insert path_total g e.0 (size_at g e.0 + e.1) q)
-    (on_test (λ t. sizes_together (cond t (Some (size_at g e.0 + e.1)) (get g q)) (find path_cmp q es) ≡ sizes_together (get g q) (cond t (Some e.1) (find path_cmp q es))) (is_same_path q e.0)
-    (λ s. rw (same_path q e.0 s, find-below_all e.0 es (first (below_all path_cmp e.0 es) (is_sorted path_cmp es) h)) (now_there (get g e.0) e.1)) (λ s. refl))
+    let rest = get-add_list (add_at g e) es (second (below_all path_cmp e.0 es) _ h) q in
+    let none = find-below_all path_cmp e.0 es (first (below_all path_cmp e.0 es) (is_sorted path_cmp es) h) in
+    grind (arith, rest, none, get-insert path_total g e.0 (size_at g e.0 + e.1) q, same_path q e.0)
 
 sum_of-list : (g h : Graph) → sum_of g h ≡ add_list g (entries h)
 sum_of-list g h = same_map path_total path_antisymmetric _ _ (λ q. get-sum_of g h q ∙ sym (get-add_list g (entries h) (entries_sorted h) q ∙ ap (sizes_together (get g q)) (sym (get-entries h q))))
@@ -66,30 +48,18 @@ pub total-sum_of : (g h : Graph) → total (sum_of g h) ≡ total g + total h
 total-sum_of g h = total_at-sum_of g h []
 
 -- ---- the sum of graphs, path by path
-together_size : (x y : Option ℕ) → unwrap_or (sizes_together x y) 0 ≡ unwrap_or x 0 + unwrap_or y 0
-together_size None None = refl
-together_size None (Some n) = refl
-together_size (Some m) y = refl
-
 pub is_some-cond : {X : Type 0} (b : Bool) (x : X) → is_some (cond b (Some x) None) ≡ b
-is_some-cond true x = refl
-is_some-cond false x = refl
+is_some-cond b x = grind arith
 
 pub size_at-sum_of : (g h : Graph) (p : Path) → size_at (sum_of g h) p ≡ size_at g p + size_at h p
-size_at-sum_of g h p = ap (λ o. unwrap_or o 0) (get-sum_of g h p) ∙ together_size (get g p) (get h p)
+size_at-sum_of g h p = rw (get-sum_of g h p) (grind arith)
 
 pub has-sum_of : (g h : Graph) (p : Path) → contains_key (sum_of g h) p ≡ (contains_key g p || contains_key h p)
 has-sum_of g h p = ap is_some (get-sum_of g h p) ∙ is_some-cond (contains_key g p || contains_key h p) _
 
 -- Graphs with the same sizes and the same paths are one.
 pub same_graph : (g h : Graph) → ((p : Path) → size_at g p ≡ size_at h p) → ((p : Path) → contains_key g p ≡ contains_key h p) → g ≡ h
-same_graph g h sizes paths = same_map path_total path_antisymmetric g h (λ p. same_option (get g p) (get h p) (sizes p) (paths p))
-  where
-    same_option : (x y : Option ℕ) → unwrap_or x 0 ≡ unwrap_or y 0 → is_some x ≡ is_some y → x ≡ y
-    same_option None None e s = refl
-    same_option None (Some n) e s = absurd (cc)
-    same_option (Some m) None e s = absurd (cc)
-    same_option (Some m) (Some n) e s = ap Some e
+same_graph g h sizes paths = same_map path_total path_antisymmetric g h (λ p. grind (arith, sizes p, paths p))
 
 -- A graph that has the sums path by path is the sum.
 pub is_sum_of : (g h r : Graph) → IsSumByPath g h r → r ≡ sum_of g h
@@ -99,24 +69,17 @@ pub sum_of-commutes : (g h : Graph) → sum_of g h ≡ sum_of h g
 sum_of-commutes g h = is_sum_of h g (sum_of g h) (λ p. (omega (arith, size_at-sum_of g h p), has-sum_of g h p ∙ or_comm (contains_key g p) (contains_key h p)))
 
 pub sum_of-associates : (g h k : Graph) → sum_of (sum_of g h) k ≡ sum_of g (sum_of h k)
-sum_of-associates g h k = is_sum_of g (sum_of h k) _ (λ p. (
-  omega (arith, size_at-sum_of (sum_of g h) k p, size_at-sum_of g h p, size_at-sum_of h k p),
-  has-sum_of (sum_of g h) k p ∙ ap (λ b. b || contains_key k p) (has-sum_of g h p) ∙ or_assoc (contains_key g p) _ _ ∙ ap (λ b. contains_key g p || b) (sym (has-sum_of h k p)),
-))
+sum_of-associates g h k = is_sum_of g (sum_of h k) _
+    (λ p. (omega (arith, size_at-sum_of (sum_of g h) k p, size_at-sum_of g h p, size_at-sum_of h k p), grind (arith, has-sum_of (sum_of g h) k p, has-sum_of g h p, has-sum_of h k p)))
 
 pub get-default : (q : Path) → get default q ≡ cond (is_same_path q []) (Some 0) None
 get-default q = get-from_entries path_total (([], 0) ∷ []) q
 
 pub size_at-default : (q : Path) → size_at default q ≡ 0
-size_at-default [] = ap (λ o. unwrap_or o 0) (get-default [])
-size_at-default (k ∷ q) = ap (λ o. unwrap_or o 0) (get-default (k ∷ q))
+size_at-default q = grind (arith, get-default q)
 
 pub sum_of-default : (g : Graph) → IsTree g → sum_of g default ≡ g
-sum_of-default g t = sym (is_sum_of g default g (λ p. (omega (arith, size_at-default p), paths p)))
-  where
-    paths : (p : Path) → contains_key g p ≡ (contains_key g p || contains_key default p)
-    paths [] = t.root ∙ sym (or_left _ _ t.root)
-    paths (k ∷ p) = sym (or-false _) ∙ ap (λ o. contains_key g (k ∷ p) || is_some o) (sym (get-default (k ∷ p)))
+sum_of-default g t = sym (is_sum_of g default g (λ p. (omega (arith, size_at-default p), grind (arith, get-default p, same_path p [], t.root))))
 
 -- ---- put under a key
 -- A graph under a key is a node with one child.
@@ -137,24 +100,12 @@ module _ (k : Key) (g : Graph) where
   total-under = omega (arith, ap total as_node, total-node 0 (only ∷ []) (one_sorted only), weight-one only)
 
 -- ---- the graph of a showing
-one_below_self : (p : Path) (k : Key) → IsTrue (is_one_below p (p ++ k ∷ []))
-one_below_self [] k = refl
-one_below_self (l ∷ p) k = (λ i. is_eq (key_itself l i) && is_one_below p (p ++ k ∷ [])) ∙ one_below_self p k
-
-parent_entered : (f : Forest) (p : Path) (k : Key) → IsTrue (is_entered_in (all f) (p ++ k ∷ [])) → (p ≡ []) ⊎ IsTrue (is_entered_in (all f) p)
-parent_entered f p k h = each-found (ParentIn (λ p. IsTrue (is_entered_in (all f) p)) []) ((p ≡ []) ⊎ IsTrue (is_entered_in (all f) p)) (λ e. is_same_path (p ++ k ∷ []) e.path)
-    (λ e w s. w p (ap (is_one_below p) (sym (same_path (p ++ k ∷ []) e.path s)) ∙ one_below_self p k)) (all f) (closed_all f) h
-
-is_some-map : {X Y : Type 0} (r : X → Y) (o : Option X) → is_some (option_map r o) ≡ is_some o
-is_some-map r None = refl
-is_some-map r (Some x) = refl
-
 in_graph : (b : Bag) (k : Key) (p : Path) → contains_key (graph (sums_of b)) (k ∷ p) ≡ is_entered_in b (k ∷ p)
-in_graph b k p = ap is_some (get-graph (sums_of b) k p) ∙ is_some-map (remaining (sums_of b) (k ∷ p)) (get (sums_of b) (k ∷ p)) ∙ ap is_some (get-sums_of b (k ∷ p)) ∙ is_some-cond (is_entered_in b (k ∷ p)) _
+in_graph b k p = rw (get-graph (sums_of b) k p, get-sums_of b (k ∷ p)) (grind arith)
 
 pub graph-tree : (f : Forest) → IsTree (graph (sums_of (all f)))
 graph-tree f = record { root = ap is_some (get-graph-root (sums_of (all f))); closed = closed }
   where
     closed : (p : Path) (k : Key) → IsTrue (contains_key (graph (sums_of (all f))) (p ++ k ∷ [])) → IsTrue (contains_key (graph (sums_of (all f))) p)
     closed [] k h = ap is_some (get-graph-root (sums_of (all f)))
-    closed (l ∷ p) k h = in_graph (all f) l p ∙ elim (parent_entered f (l ∷ p) k (sym (in_graph (all f) l (p ++ k ∷ [])) ∙ h)) [ inl e ↦ absurd (not_root l p e) | inr e ↦ e ]
+    closed (l ∷ p) k h = in_graph (all f) l p ∙ parent_entered f l p (below_entered (l ∷ p) k (all f) (sym (in_graph (all f) l (p ++ k ∷ [])) ∙ h))

@@ -1,7 +1,6 @@
 pub mod Common
 pub mod Basics
 pub mod Computed
-pub mod WorkedExamples
 pub mod Reach
 pub mod Lookups
 pub mod Order

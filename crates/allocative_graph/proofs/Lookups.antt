@@ -1,9 +1,10 @@
 -- What a bag adds to the sums, path by path, whatever its order.
-use Rattle.std.proofs.Common.{◌≡◌, ℕ, ◌+◌, Bool, false, cond, ◌||◌, [], ◌∷◌, ◌++◌, Option, Some, None, refl, ap, sym, ◌∙◌, IsPermutation, add-zero, zero-add, add_assoc}
-use Rattle.allocative_graph.proofs.Common.{get, get-insert, same_map, Path, path_cmp, is_same_path, Entry, Bag, Node, Sums, bytes_in, is_unique_in, is_entered_in, together, node_of, add, add_all, sums_of, sum_by-cons, sum_by-IsPermutation, list_any-IsPermutation}
+use Rattle.std.proofs.Common.{◌≡◌, ℕ, ◌+◌, Bool, false, cond, [], ◌∷◌, Option, Some, None, refl, ap, sym, ◌∙◌, sum_by, arith, nat_lt}
+use Rattle.allocative_graph.proofs.Common.{get, get-insert, same_map, Path, path_cmp, is_same_path, Entry, Bag, Node, Sums, bytes_in, is_unique_in, is_entered_in, together, node_of, add, add_all, sums_of, sum_by-cons, list_any}
+use Rattle.std.proofs.lemmas.Bool.Decides.{nat_tests}
 use Rattle.std.specs.FinMap.{empty, get-empty}
 use Rattle.allocative_graph.specs.Sums.{is_unique_mark}
-use Rattle.allocative_graph.proofs.Basics.{path_total, path_antisymmetric, same_path, on_test, or_assoc, or-false, or_parts}
+use Rattle.allocative_graph.proofs.Basics.{path_total, path_antisymmetric, same_path}
 
 -- What a bag has at a path.
 abbrev pub node_in : Bag → Path → Option Node
@@ -18,50 +19,42 @@ bytes-cons e b q = sum_by-cons (λ e. cond (is_same_path q e.path) e.size 0) e b
 
 bytes_none : (b : Bag) (q : Path) → is_entered_in b q ≡ false → bytes_in b q ≡ 0
 bytes_none [] q h = refl
-bytes_none (e ∷ b) q h = let no = or_parts (is_same_path q e.path) _ h in bytes-cons e b q ∙ (λ i. cond (no.0 i) e.size 0 + bytes_none b q no.1 i)
+bytes_none (e ∷ b) q h = grind (arith, bytes_none b q, bytes-cons e b q)
 
 unique_none : (b : Bag) (q : Path) → is_entered_in b q ≡ false → is_unique_in b q ≡ false
 unique_none [] q h = refl
-unique_none (e ∷ b) q h = let no = or_parts (is_same_path q e.path) _ h in (λ i. cond (no.0 i) (is_unique_mark e.mark) false || unique_none b q no.1 i)
+unique_none (e ∷ b) q h = grind (arith, unique_none b q)
 
 abbrev node : ℕ → Bool → Node
 node n u = record { bytes = n; is_unique = u }
-
--- A node that is there is merged with what the bag has there, also where that is nothing.
-merge_there : (m : Node) (b : Bag) (q : Path) → merge (Some m) (node_in b q) ≡ Some (node (m.bytes + bytes_in b q) (m.is_unique || is_unique_in b q))
-merge_there m b q = on_test (λ t. merge (Some m) (cond t (Some (node (bytes_in b q) (is_unique_in b q))) None) ≡ Some (node (m.bytes + bytes_in b q) (m.is_unique || is_unique_in b q))) (is_entered_in b q) (λ e. refl)
-    (λ e i. Some (node ((sym (add-zero m.bytes) ∙ ap (λ n. m.bytes + n) (sym (bytes_none b q e))) i) ((sym (or-false m.is_unique) ∙ ap (λ u. m.is_unique || u) (sym (unique_none b q e))) i)))
-
-together_step : (o : Option Node) (n m : ℕ) (u v : Bool) → Some (node ((together o (node n u)).bytes + m) ((together o (node n u)).is_unique || v)) ≡ Some (together o (node (n + m) (u || v)))
-together_step None n m u v = refl
-together_step (Some old) n m u v = λ i. Some (node (add_assoc old.bytes n m i) (or_assoc old.is_unique u v i))
 
 pub get-add : (s : Sums) (e : Entry) (q : Path) → get (add s e) q ≡ cond (is_same_path q e.path) (Some (together (get s e.path) (node_of e))) (get s q)
 get-add s e q = get-insert path_total s e.path _ q
 
 pub get-add_all : (s : Sums) (b : Bag) (q : Path) → get (add_all s b) q ≡ merge (get s q) (node_in b q)
 get-add_all s [] q = refl
-get-add_all s (e ∷ b) q =
-    rw (get-add_all (add s e) b q, get-add s e q, bytes-cons e b q)
-    (on_test (λ t. merge (cond t (Some (together (get s e.path) (node_of e))) (get s q)) (node_in b q)
-    ≡ merge (get s q) (cond (t || is_entered_in b q) (Some (node (cond t e.size 0 + bytes_in b q) (cond t (is_unique_mark e.mark) false || is_unique_in b q))) None)) (is_same_path q e.path)
-    (λ h. merge_there (together (get s e.path) (node_of e)) b q ∙ rw (same_path q e.path h) (together_step (get s e.path) e.size (bytes_in b e.path) (is_unique_mark e.mark) (is_unique_in b e.path)))
-    (λ h. rw (zero-add (bytes_in b q))))
+get-add_all s (e ∷ b) q = grind (arith, get-add_all (add s e) b q, get-add s e q, bytes-cons e b q, same_path q e.path, bytes_none b q, unique_none b q)
 
 pub get-sums_of : (b : Bag) (q : Path) → get (sums_of b) q ≡ node_in b q
-get-sums_of b q = get-add_all empty b q ∙ ap (λ o. merge o (node_in b q)) (get-empty path_cmp q)
-    ∙ on_test (λ t. merge None (cond t (Some (node (bytes_in b q) (is_unique_in b q))) None) ≡ cond t (Some (node (bytes_in b q) (is_unique_in b q))) None) (is_entered_in b q) (λ e. refl) (λ e. refl)
+get-sums_of b q = get-add_all empty b q ∙ ap (λ o. merge o (node_in b q)) (get-empty path_cmp q) ∙ grind arith
 
 pub same_sums : (s t : Sums) → ((q : Path) → get s q ≡ get t q) → s ≡ t
-same_sums s t is = same_map path_total path_antisymmetric s t is
+same_sums = same_map path_total path_antisymmetric
 
-pub node_in-permutation : (b c : Bag) → IsPermutation b c → (q : Path) → node_in b q ≡ node_in c q
-node_in-permutation b c p q = λ i. cond (list_any-IsPermutation (λ e. is_same_path q e.path) b c p i)
-    (Some (node (sym (sum_by-IsPermutation (λ e. cond (is_same_path q e.path) e.size 0) b c p) i) (list_any-IsPermutation (λ e. cond (is_same_path q e.path) (is_unique_mark e.mark) false) b c p i))) None
+-- ---- bags with the same sums, whatever is added up of their entries
+abbrev pub SameSums : Bag → Bag → Type 0
+SameSums b c = (w : Entry → ℕ) → sum_by w b ≡ sum_by w c
 
-pub add_all-permutation : (s : Sums) (b c : Bag) → IsPermutation b c → add_all s b ≡ add_all s c
-add_all-permutation s b c p = same_sums _ _ (λ q. get-add_all s b q ∙ ap (merge (get s q)) (node_in-permutation b c p q) ∙ sym (get-add_all s c q))
+any_counted : (test : Entry → Bool) (b : Bag) → list_any test b ≡ nat_lt 0 (sum_by (λ e. cond (test e) 1 0) b)
+any_counted test [] = refl
+any_counted test (e ∷ b) = rw (any_counted test b, sum_by-cons (λ e. cond (test e) 1 0) e b) (grind (arith, nat_tests))
 
-pub add_all-append : (s : Sums) (b c : Bag) → add_all s (b ++ c) ≡ add_all (add_all s b) c
-add_all-append s [] c = refl
-add_all-append s (e ∷ b) c = add_all-append (add s e) b c
+any_same : (test : Entry → Bool) (b c : Bag) → SameSums b c → list_any test b ≡ list_any test c
+any_same test b c h = any_counted test b ∙ ap (nat_lt 0) (h (λ e. cond (test e) 1 0)) ∙ sym (any_counted test c)
+
+node_in-same : (b c : Bag) → SameSums b c → (q : Path) → node_in b q ≡ node_in c q
+node_in-same b c h q = λ i. cond (any_same (λ e. is_same_path q e.path) b c h i)
+    (Some (node (h (λ e. cond (is_same_path q e.path) e.size 0) i) (any_same (λ e. cond (is_same_path q e.path) (is_unique_mark e.mark) false) b c h i))) None
+
+pub add_all-same : (s : Sums) (b c : Bag) → SameSums b c → add_all s b ≡ add_all s c
+add_all-same s b c h = same_sums _ _ (λ q. get-add_all s b q ∙ ap (merge (get s q)) (node_in-same b c h q) ∙ sym (get-add_all s c q))

@@ -1,22 +1,20 @@
 -- Where no identity is reached by both and the sums can be added, the graphs add up.
-use Rattle.std.proofs.Common.{◌≡◌, ℕ, ◌+◌, ◌-◌, ◌≤◌, Bool, true, false, cond, ◌||◌, IsTrue, ◌⊎◌, List, [], ◌∷◌, ◌++◌, map, Option, Some, None, is_some, refl, ap, sym, ◌∙◌, true≢false, arith, unwrap_or}
-use Rattle.allocative_graph.proofs.Common.{option_map, list_any, get, entries, keys, get-entries, get-from_entries, same_map, find, Key, Path, path_cmp, is_same_path, Identity, Forest, all, shown, followed_by, met_after, is_among, IsWhole, Node, Sums, is_entered_in, add_all, sums_of, below, Graph, graph, sizes, remaining, size_at, sum_of, CanBeAdded, list_any-append}
+use Rattle.std.proofs.Common.{◌≡◌, ◌+◌, false, cond, ◌||◌, List, [], ◌∷◌, ◌++◌, map, Some, None, is_some, refl, ap, sym, ◌∙◌, arith}
+use Rattle.allocative_graph.proofs.Common.{option_map, get, entries, keys, get-entries, get-from_entries, same_map, find, Key, Path, path_cmp, is_same_path, Forest, all, contents, shown, followed_by, met_after, is_among, IsWhole, Sums, add_all, sums_of, below, Graph, graph, sizes, remaining, size_at, sum_of, CanBeAdded, list_any-append}
 use Rattle.std.specs.FinMap.{empty, contains_key-keys}
 use Rattle.std.specs.FinSet as set
 use Rattle.allocative_graph.specs.Meaning.{ReachApart}
-use Rattle.allocative_graph.proofs.Basics.{path_total, path_antisymmetric, same_path, on_test, false_from_ne_true}
-use Rattle.allocative_graph.proofs.Reach.{reaches_exactly, contains-insert_all}
-use Rattle.allocative_graph.proofs.Lookups.{merge, get-add_all, get-sums_of, add_all-permutation, add_all-append}
-use Rattle.allocative_graph.proofs.Below.{below-add_all, below-sums_of}
+use Rattle.allocative_graph.proofs.Basics.{path_total, path_antisymmetric, same_path, false_from_ne_true}
+use Rattle.allocative_graph.proofs.Reach.{reaches_exactly, contains-insert_all, shown_each}
+use Rattle.allocative_graph.proofs.Lookups.{get-add_all, get-sums_of}
+use Rattle.allocative_graph.proofs.Below.{find-keys, below-add_all, below-sums_of}
 use Rattle.allocative_graph.proofs.Closed.{absent_below}
 use Rattle.allocative_graph.proofs.Following.{fits-following, fits_more, added-following}
 
 -- ---- what a graph has at a path
 find-mapped : {X Y : Type 0} (r : Path → X → Y) (es : List (Path × X)) (q : Path) → find path_cmp q (map (λ e. (e.0, r e.0 e.1)) es) ≡ option_map (r q) (find path_cmp q es)
 find-mapped r [] q = refl
-find-mapped r (e ∷ es) q = on_test (λ t. cond t (Some (r e.0 e.1)) (find path_cmp q (map (λ e. (e.0, r e.0 e.1)) es)) ≡ option_map (r q) (cond t (Some e.1) (find path_cmp q es))) (is_same_path q e.0)
-    (λ h. ap (λ p. Some (r p e.1)) (sym (same_path q e.0 h)))
-    (λ h. find-mapped r es q)
+find-mapped r (e ∷ es) q = grind (arith, same_path q e.0, find-mapped r es q)
 
 pub get-graph : (s : Sums) (k : Key) (p : Path) → get (graph s) (k ∷ p) ≡ option_map (remaining s (k ∷ p)) (get s (k ∷ p))
 get-graph s k p = get-from_entries path_total (sizes s) (k ∷ p) ∙ find-mapped (remaining s) (entries s) (k ∷ p) ∙ ap (option_map (remaining s (k ∷ p))) (sym (get-entries s (k ∷ p)))
@@ -24,48 +22,13 @@ get-graph s k p = get-from_entries path_total (sizes s) (k ∷ p) ∙ find-mappe
 pub get-graph-root : (s : Sums) → get (graph s) [] ≡ Some 0
 get-graph-root s = get-from_entries path_total (sizes s) []
 
-find-keys : {Y : Type 0} (v : Path → Y) (ks : List Path) (q : Path) → find path_cmp q (map (λ p. (p, v p)) ks) ≡ cond (list_any (is_same_path q) ks) (Some (v q)) None
-find-keys v [] q = refl
-find-keys v (k ∷ ks) q = on_test (λ t. cond t (Some (v k)) (find path_cmp q (map (λ p. (p, v p)) ks)) ≡ cond (t || list_any (is_same_path q) ks) (Some (v q)) None) (is_same_path q k)
-    (λ h. ap (λ p. Some (v p)) (sym (same_path q k h)))
-    (λ h. find-keys v ks q)
-
 pub get-sum_of : (g h : Graph) (q : Path) → get (sum_of g h) q ≡ cond (is_some (get g q) || is_some (get h q)) (Some (size_at g q + size_at h q)) None
-get-sum_of g h q = get-from_entries path_total _ q ∙ find-keys (λ p. size_at g p + size_at h p) (keys g ++ keys h) q
+get-sum_of g h q = get-from_entries path_total _ q ∙ find-keys path_total path_antisymmetric (λ p. size_at g p + size_at h p) (keys g ++ keys h) q
     ∙ ap (λ b. cond b (Some (size_at g q + size_at h q)) None) (list_any-append (is_same_path q) (keys g) (keys h) ∙ (λ i. sym (contains_key-keys g q) i || sym (contains_key-keys h q) i))
 
--- ---- at one path
-abbrev rest_of : ℕ → Node → ℕ
-rest_of under m = cond m.is_unique m.bytes (m.bytes - under)
-
-abbrev Fit : ℕ → ℕ → Node → Node → Type 0
-Fit a b m n = (m.is_unique ≡ n.is_unique) × (m.is_unique ≡ false → (a ≤ m.bytes) × (b ≤ n.bytes) ⊎ (m.bytes ≤ a) × (n.bytes ≤ b))
-
-two_nodes : (a b m n : ℕ) (u v : Bool) → u ≡ v → (u ≡ false → (a ≤ m) × (b ≤ n) ⊎ (m ≤ a) × (n ≤ b)) → cond u m (m - a) + cond v n (n - b) ≡ cond (u || v) (m + n) ((m + n) - (a + b))
-two_nodes a b m n u v e f = grind arith
-
-one_node : (a b m : ℕ) (u : Bool) → b ≡ 0 → cond u m (m - a) + 0 ≡ cond u m (m - (a + b))
-one_node a b m u e = grind arith
-
-other_node : (a b m : ℕ) (u : Bool) → a ≡ 0 → 0 + cond u m (m - b) ≡ cond u m (m - (a + b))
-other_node a b m u e = grind arith
-
-at_path : (a b : ℕ) (x y : Option Node) → (x ≡ None → a ≡ 0) → (y ≡ None → b ≡ 0) → ((m n : Node) → x ≡ Some m → y ≡ Some n → Fit a b m n)
-    → cond (is_some (option_map (rest_of a) x) || is_some (option_map (rest_of b) y)) (Some (unwrap_or (option_map (rest_of a) x) 0 + unwrap_or (option_map (rest_of b) y) 0)) None ≡ option_map (rest_of (a + b)) (merge x y)
-at_path a b None None f g h = refl
-at_path a b None (Some n) f g h = ap Some (other_node a b n.bytes n.is_unique (f refl))
-at_path a b (Some m) None f g h = ap Some (one_node a b m.bytes m.is_unique (g refl))
-at_path a b (Some m) (Some n) f g h = let w = h m n refl refl in ap Some (two_nodes a b m.bytes n.bytes m.is_unique n.is_unique w.0 w.1)
-
-no_node : (t : Bool) (n : Node) → ◌≡◌ {A = Option Node} (cond t (Some n) None) None → t ≡ false
-no_node true n e = absurd (true≢false (ap is_some e))
-no_node false n e = refl
-
+-- ---- where sums can be added
 absent_sums : (f : Forest) (k : Key) (p : Path) → get (sums_of (all f)) (k ∷ p) ≡ None → below (sums_of (all f)) (k ∷ p) ≡ 0
-absent_sums f k p h = below-sums_of (all f) (k ∷ p) ∙ absent_below f k p (no_node (is_entered_in (all f) (k ∷ p)) _ (sym (get-sums_of (all f) (k ∷ p)) ∙ h))
-
-pub sums_following : (f g : Forest) → sums_of (all (followed_by f g)) ≡ add_all (sums_of (all f)) (all g)
-sums_following f g = add_all-permutation empty _ _ (added-following [] f g) ∙ add_all-append empty (all f) (all g)
+absent_sums f k p h = below-sums_of (all f) (k ∷ p) ∙ absent_below f k p (grind (arith, get-sums_of (all f) (k ∷ p), h))
 
 pub graphs_add : (f g : Forest) → CanBeAdded (sums_of (all f)) (sums_of (all g)) → sum_of (graph (sums_of (all f))) (graph (sums_of (all g))) ≡ graph (sums_of (all (followed_by f g)))
 graphs_add f g can = same_map path_total path_antisymmetric _ _ each
@@ -76,13 +39,11 @@ graphs_add f g can = same_map path_total path_antisymmetric _ _ each
         let s = sums_of (all f) in
         let t = sums_of (all g) in
         let q = k ∷ p in
-        let below_both : below s q + below t q ≡ below (add_all s (all g)) q = ap (λ n. below s q + n) (below-sums_of (all g) q) ∙ sym (below-add_all s (all g) q) in
-        let node_both : merge (get s q) (get t q) ≡ get (add_all s (all g)) q = ap (merge (get s q)) (get-sums_of (all g) q) ∙ sym (get-add_all s (all g) q) in
-        rw (get-sum_of (graph s) (graph t) q, get-graph s k p, get-graph t k p, ap (λ x. get (graph x) q) (sums_following f g), get-graph (add_all s (all g)) k p)
-        (at_path (below s q) (below t q) (get s q) (get t q) (absent_sums f k p) (absent_sums g k p) (can q) ∙ (λ i. option_map (rest_of (below_both i)) (node_both i)))
+        let below_both : below s q + below t q ≡ below (add_all s (all g)) q = omega (arith, below-sums_of (all g) q, below-add_all s (all g) q) in
+        rw (get-sum_of (graph s) (graph t) q, get-graph s k p, get-graph t k p, ap (λ x. get (graph x) q) (added-following empty [] f g), get-graph (add_all s (all g)) k p)
+        (rw (get-add_all s (all g) q, ← get-sums_of (all g) q) (grind (arith, below_both, absent_sums f k p, absent_sums g k p, can q)))
 
 pub whole_following : (f g : Forest) → IsWhole f → IsWhole g → ReachApart f g → IsWhole (followed_by f g)
-whole_following f g v w apart = (fits-following set.empty f g).1 (v, fits_more (λ i. is_among i (shown f)) set.empty (met_after set.empty f) g (contains-insert_all set.empty (shown f)) away w)
-  where
-    away : (i : Identity) → IsTrue (is_among i (shown g)) → is_among i (shown f) ≡ false
-    away i h = false_from_ne_true _ (λ there. apart i ((reaches_exactly f v i).0 there) ((reaches_exactly g w i).0 h))
+whole_following f g v w apart =
+    let away = shown_each (λ i. is_among i (shown f) ≡ false) (contents g) (λ i h. false_from_ne_true _ (λ there. apart i ((reaches_exactly f v i).0 there) ((reaches_exactly g w i).0 h))) in
+    (fits-following set.empty f g).1 (v, fits_more (λ i. is_among i (shown f)) set.empty (met_after set.empty f) g (contains-insert_all set.empty (shown f)) away w)

@@ -1,73 +1,30 @@
 -- What a collector has after forests, entries and leaving.
-use Rattle.std.proofs.Common.{◌≡◌, ◌↔◌, ◌≤◌, suc, ℕ, ◌+◌, Bool, true, false, cond, [], ◌∷◌, ◌++◌, map, flat_map, refl, ap, sym, ◌∙◌, arith, add_assoc, append-nil}
-use Rattle.allocative_graph.proofs.Common.{contains, Key, Path, Identities, Sums, content_entries, shown, Identity, Forest, Empty, Inline, Unique, First, Again, AsInline, AsUnique, AsShared, own_behind, contents, followed_by, insert_all, add, add_all, added}
-use Rattle.std.specs.FinSet.{insert}
+use Rattle.std.proofs.Common.{◌≡◌, ◌↔◌, ◌≤◌, suc, ℕ, ◌+◌, Bool, true, false, cond, [], ◌∷◌, ◌++◌, refl, ap, arith, append-nil}
+use Rattle.allocative_graph.proofs.Common.{contains, Key, Identity, Forest, Empty, Inline, Unique, First, Again, own_behind, contents, followed_by}
 use Rattle.allocative_graph.specs.Forest.{entry_of}
-use Rattle.allocative_graph.specs.Collector.{Live, Holding, Kind, OfGraph, OfHeld, plus_live, plus_holding, leave_holding, enter_first, enter_holding, plus, Takes, enter, leave, begin, is_graph, visitors, is_in_unique}
-use Rattle.allocative_graph.specs.Held.{held, inline_bytes, ShowsNoContent}
-use Rattle.allocative_graph.proofs.Lookups.{add_all-permutation, add_all-append}
-use Rattle.allocative_graph.proofs.Following.{added-following, met-following, fits-following}
-
-live-following : (c : Live) (f g : Forest) → plus_live c (followed_by f g) ≡ plus_live (plus_live c f) g
-live-following c f g = λ i. record c {
-  sums = (add_all-permutation c.sums _ _ (added-following c.here f g) ∙ add_all-append c.sums (added c.here f) (added c.here g)) i;
-  met = met-following c.met f g i;
-}
-
--- What an entry has inside it where none follows it.
-alone : (f : Forest) (c : Live) (s : Sums) (t : Identities) (p : Path) → record c { sums = add_all s (own_behind p f ++ content_entries f); met = insert_all t (shown f) }
-    ≡ record c { sums = add_all s ((own_behind p f ++ []) ++ flat_map (λ c. c.1) (contents f ++ [])); met = insert_all t (map (λ c. c.0) (contents f ++ [])) }
-alone f c s t p =
-    let same = sym (append-nil (contents f)) in
-    λ i. record c { sums = add_all s (sym (append-nil (own_behind p f)) i ++ flat_map (λ c. c.1) (same i)); met = insert_all t (map (λ c. c.0) (same i)) }
+use Rattle.allocative_graph.specs.Collector.{Live, Holding, Kind, OfGraph, OfHeld, plus_holding, enter_first, held_bytes, plus, Takes, enter, leave, begin, is_graph, visitors, is_in_unique}
+use Rattle.allocative_graph.specs.Held.{held, inline_bytes}
+use Rattle.allocative_graph.proofs.Following.{added-following, contents-following, met-following, fits-following}
+use Rattle.allocative_graph.proofs.Basics.{each-append, each-parts}
 
 -- ---- the collector of held bytes
-inline_bytes-following : (f g : Forest) → inline_bytes (followed_by f g) ≡ inline_bytes f + inline_bytes g
-inline_bytes-following Empty g = omega arith
-inline_bytes-following (Inline k n f after) g = omega (arith, inline_bytes-following after g)
-inline_bytes-following (Unique k n f after) g = inline_bytes-following after g
-inline_bytes-following (First k n j f after) g = inline_bytes-following after g
-inline_bytes-following (Again k n j after) g = inline_bytes-following after g
-
-held-following : (f g : Forest) → held (followed_by f g) ≡ held f + held g
-held-following Empty g = omega arith
-held-following (Inline k n f after) g = omega (arith, held-following after g)
-held-following (Unique k n f after) g = omega (arith, held-following after g)
-held-following (First k n j f after) g = held-following after g
-held-following (Again k n j after) g = held-following after g
-
 abbrev held_in : Bool → Forest → ℕ
 held_in u f = held f + cond u (inline_bytes f) 0
 
 held_in-following : (u : Bool) (f g : Forest) → held_in u (followed_by f g) ≡ held_in u f + held_in u g
-held_in-following u f g = grind (arith, held-following f g, inline_bytes-following f g)
-
-holding-following : (h : Holding) (f g : Forest) → plus_holding h (followed_by f g) ≡ plus_holding (plus_holding h f) g
-holding-following h f g = λ i. record h { sum = (ap (λ n. h.sum + n) (held_in-following h.is_in_unique f g) ∙ sym (add_assoc h.sum (held_in h.is_in_unique f) (held_in h.is_in_unique g))) i }
+held_in-following u Empty g = grind arith
+held_in-following u (Inline k n f after) g = grind (arith, held_in-following u after g)
+held_in-following u (Unique k n f after) g = grind (arith, held_in-following u after g)
+held_in-following u (First k n j f after) g = held_in-following u after g
+held_in-following u (Again k n j after) g = held_in-following u after g
 
 holding-nothing : (h : Holding) → plus_holding h Empty ≡ h
-holding-nothing h = λ i. record h { sum = none h.is_in_unique h.sum i }
-  where
-    none : (u : Bool) (n : ℕ) → n + (0 + cond u 0 0) ≡ n
-    none u n = grind arith
+holding-nothing h = let same : h.sum + (0 + cond h.is_in_unique 0 0) ≡ h.sum = grind arith in λ i. record h { sum = same i }
 
-no_content-following : (f g : Forest) → ShowsNoContent (followed_by f g) ↔ (ShowsNoContent f × ShowsNoContent g)
-no_content-following Empty g = (λ w. (tt, w), λ w. w.1)
-no_content-following (Inline k n f after) g = let rest = no_content-following after g in (λ w. let x = rest.0 w.1 in ((w.0, x.0), x.1), λ w. (w.0.0, rest.1 (w.0.1, w.1)))
-no_content-following (Unique k n f after) g = let rest = no_content-following after g in (λ w. let x = rest.0 w.1 in ((w.0, x.0), x.1), λ w. (w.0.0, rest.1 (w.0.1, w.1)))
-no_content-following (First k n j f after) g = (λ w. absurd w, λ w. absurd w.0)
-no_content-following (Again k n j after) g = no_content-following after g
-
--- The forest f is inside an inline entry, and therefore not directly inside a unique one.
-inline_sum : (u : Bool) (s n h : ℕ) → (s + cond u n 0) + (h + 0) ≡ s + ((h + 0) + cond u (n + 0) 0)
-inline_sum u s n h = grind arith
-
-unique_sum : (u : Bool) (s h b : ℕ) → (s + cond u 0 0) + (h + b) ≡ s + ((b + h + 0) + cond u 0 0)
-unique_sum u s h b = grind arith
-
-holding-inside : (u : Bool) (h : Holding) (k : Key) (n : ℕ) (f : Forest) → leave_holding h.is_in_unique (plus_holding (enter_holding u n h) f) ≡ plus_holding h (entry_of u k n f)
-holding-inside true h k n f = λ i. record h { sum = unique_sum h.is_in_unique h.sum (held f) (inline_bytes f) i }
-holding-inside false h k n f = λ i. record h { sum = inline_sum h.is_in_unique h.sum n (held f) i }
+-- What an entry adds, and what is inside it, is what the entry with all inside it adds.
+inside_sum : (is_in_unique is_unique : Bool) (s n h b : ℕ) → (s + held_bytes is_in_unique is_unique n) + (h + cond is_unique b 0)
+    ≡ s + (cond is_unique (b + h + 0) (h + 0) + cond is_in_unique (cond is_unique 0 (n + 0)) 0)
+inside_sum v u s n h b = grind arith
 
 -- ---- either
 pub plus-nothing : (c : Kind) → plus c Empty ≡ c
@@ -75,8 +32,10 @@ plus-nothing (OfGraph c) = refl
 plus-nothing (OfHeld h) = ap OfHeld (holding-nothing h)
 
 pub plus-following : (c : Kind) (f g : Forest) → plus c (followed_by f g) ≡ plus (plus c f) g
-plus-following (OfGraph c) f g = ap OfGraph (live-following c f g)
-plus-following (OfHeld h) f g = ap OfHeld (holding-following h f g)
+plus-following (OfGraph c) f g = λ i. OfGraph (record c { sums = added-following c.sums c.here f g i; met = met-following c.met f g i })
+plus-following (OfHeld h) f g =
+    let both : h.sum + held_in h.is_in_unique (followed_by f g) ≡ (h.sum + held_in h.is_in_unique f) + held_in h.is_in_unique g = omega (arith, held_in-following h.is_in_unique f g) in
+    λ i. OfHeld (record h { sum = both i })
 
 pub takes_nothing : (c : Kind) → Takes c Empty
 takes_nothing (OfGraph c) = tt
@@ -84,29 +43,27 @@ takes_nothing (OfHeld h) = tt
 
 pub takes_following : (c : Kind) (f g : Forest) → Takes c (followed_by f g) ↔ (Takes c f × Takes (plus c f) g)
 takes_following (OfGraph c) f g = fits-following c.met f g
-takes_following (OfHeld h) f g = no_content-following f g
+takes_following (OfHeld h) f g = rw (contents-following f g) (each-parts (λ c. ⊥) (contents f) (contents g), λ w. each-append (λ c. ⊥) (contents f) (contents g) w.0 w.1)
 
 pub takes_both : (c : Kind) (f g : Forest) → Takes c f → Takes (plus c f) g → Takes c (followed_by f g)
 takes_both c f g v w = (takes_following c f g).1 (v, w)
 
 -- An entry with f inside it is entering, adding f and one step back.
 pub inside_entry : (u : Bool) (k : Key) (n : ℕ) (c : Kind) (f : Forest) → leave (is_in_unique c) (plus (enter u k n c) f) ≡ plus c (entry_of u k n f)
-inside_entry true k n (OfGraph c) f = ap OfGraph (alone f c (add c.sums (record { path = c.here ++ k ∷ []; size = n; mark = AsUnique })) c.met (c.here ++ k ∷ []))
-inside_entry false k n (OfGraph c) f = ap OfGraph (alone f c (add c.sums (record { path = c.here ++ k ∷ []; size = n; mark = AsInline })) c.met (c.here ++ k ∷ []))
-inside_entry u k n (OfHeld h) f = ap OfHeld (holding-inside u h k n f)
+inside_entry true k n (OfGraph c) f = rw (append-nil (own_behind (c.here ++ k ∷ []) f), append-nil (contents f))
+inside_entry false k n (OfGraph c) f = rw (append-nil (own_behind (c.here ++ k ∷ []) f), append-nil (contents f))
+inside_entry true k n (OfHeld h) f = λ i. OfHeld (record h { sum = inside_sum h.is_in_unique true h.sum n (held f) (inline_bytes f) i })
+inside_entry false k n (OfHeld h) f = λ i. OfHeld (record h { sum = inside_sum h.is_in_unique false h.sum n (held f) (inline_bytes f) i })
 
 pub takes_entry : (u : Bool) (k : Key) (n : ℕ) (c : Kind) (f : Forest) → Takes (enter u k n c) f → Takes c (entry_of u k n f)
 takes_entry true k n (OfGraph c) f w = (w, tt)
 takes_entry false k n (OfGraph c) f w = (w, tt)
-takes_entry true k n (OfHeld h) f w = (w, tt)
-takes_entry false k n (OfHeld h) f w = (w, tt)
+takes_entry true k n (OfHeld h) f w = each-append (λ c. ⊥) (contents f) [] w tt
+takes_entry false k n (OfHeld h) f w = each-append (λ c. ⊥) (contents f) [] w tt
 
 -- The content of a shared entry starts at the root.
 pub inside_first : (k : Key) (n : ℕ) (j : Identity) (c : Live) (f : Forest) (outer : Bool) → leave outer (plus (OfGraph (enter_first k n j c)) f) ≡ plus (OfGraph c) (First k n j f Empty)
-inside_first k n j c f outer = λ i. OfGraph (record c {
-  sums = add_all (add c.sums (record { path = c.here ++ k ∷ []; size = n; mark = AsShared j })) (own_behind [] f ++ flat_map (λ c. c.1) (sym (append-nil (contents f)) i));
-  met = insert_all (insert c.met j) (map (λ c. c.0) (sym (append-nil (contents f)) i));
-})
+inside_first k n j c f outer = rw (append-nil (contents f))
 
 pub takes_shared : (k : Key) (n : ℕ) (j : Identity) (c : Live) (f : Forest) → contains c.met j ≡ false → Takes (OfGraph (enter_first k n j c)) f → Takes (OfGraph c) (First k n j f Empty)
 takes_shared k n j c f new w = (new, w, tt)
@@ -116,31 +73,24 @@ held_again k n j h = ap OfHeld (holding-nothing h)
 
 -- ---- the count of visitors
 pub visitors-plus : (c : Kind) (f : Forest) → visitors (plus c f) ≡ visitors c
-visitors-plus (OfGraph c) f = refl
-visitors-plus (OfHeld h) f = refl
+visitors-plus c f = grind arith
 
 pub visitors-enter : (u : Bool) (k : Key) (n : ℕ) (c : Kind) → visitors (enter u k n c) ≡ suc (visitors c)
-visitors-enter u k n (OfGraph c) = refl
-visitors-enter u k n (OfHeld h) = refl
+visitors-enter u k n c = grind arith
 
 -- Leaving takes at most one open visitor away.
 pub visitors-leave : (outer : Bool) (c : Kind) → visitors c ≤ suc (visitors (leave outer c))
-visitors-leave outer (OfGraph c) = grind arith
-visitors-leave outer (OfHeld h) = grind arith
+visitors-leave outer c = grind arith
 
 -- ---- which of the two it is
 pub is_graph-plus : (c : Kind) (f : Forest) → is_graph (plus c f) ≡ is_graph c
-is_graph-plus (OfGraph c) f = refl
-is_graph-plus (OfHeld h) f = refl
+is_graph-plus c f = grind arith
 
 pub is_graph-enter : (u : Bool) (k : Key) (n : ℕ) (c : Kind) → is_graph (enter u k n c) ≡ is_graph c
-is_graph-enter u k n (OfGraph c) = refl
-is_graph-enter u k n (OfHeld h) = refl
+is_graph-enter u k n c = grind arith
 
 pub is_graph-leave : (outer : Bool) (c : Kind) → is_graph (leave outer c) ≡ is_graph c
-is_graph-leave outer (OfGraph c) = refl
-is_graph-leave outer (OfHeld h) = refl
+is_graph-leave outer c = grind arith
 
 pub is_graph-begin : (c : Kind) → is_graph (begin c) ≡ is_graph c
-is_graph-begin (OfGraph c) = refl
-is_graph-begin (OfHeld h) = refl
+is_graph-begin c = grind arith

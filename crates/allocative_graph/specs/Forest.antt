@@ -1,5 +1,5 @@
 -- What a visit shows: a list of entries, each with the entries inside it.
-use Rattle.std.specs.Prelude.{◌≡◌, ℕ, true, false, cond, Bool, List, [], ◌∷◌, ◌++◌, map, flat_map, ⊤}
+use Rattle.std.specs.Prelude.{◌≡◌, ℕ, true, false, cond, Bool, List, [], ◌∷◌, ◌++◌, map, flat_map, fold, ⊤}
 use Rattle.std.specs.FinSet.{contains, insert}
 use Rattle.allocative_graph.specs.Path.{Key, Path}
 use Rattle.allocative_graph.specs.Identity.{Identity, Identities}
@@ -78,8 +78,7 @@ shown f = map (λ c. c.0) (contents f)
 
 -- A set of identities with those of a list added.
 abbrev pub insert_all : Identities → List Identity → Identities
-insert_all s [] = s
-insert_all s (i ∷ is) = insert_all (insert s i) is
+insert_all s is = fold insert s is
 
 -- The identities met once f is shown, where those of s were met before.
 abbrev pub met_after : Identities → Forest → Identities

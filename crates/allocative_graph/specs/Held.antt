@@ -1,6 +1,7 @@
 -- What a value holds on the heap: the inline entries directly inside unique ones, with nothing below a shared one.
-use Rattle.std.specs.Prelude.{ℕ, ◌+◌, ⊤}
-use Rattle.allocative_graph.specs.Forest.{Forest, Empty, Inline, Unique, First, Again}
+use Rattle.std.specs.Prelude.{ℕ, ◌+◌}
+use Rattle.std.specs.List.{AllByRecursion}
+use Rattle.allocative_graph.specs.Forest.{Forest, Empty, Inline, Unique, First, Again, contents}
 
 -- The bytes of the inline entries at the top.
 abbrev pub inline_bytes : Forest → ℕ
@@ -18,10 +19,6 @@ held (Unique k n inside after) = inline_bytes inside + held inside + held after
 held (First k n i inside after) = held after
 held (Again k n i after) = held after
 
--- No shared entry shows its content.
+-- No shared entry shows its content: there are no contents.
 abbrev pub ShowsNoContent : Forest → Type 0
-ShowsNoContent Empty = ⊤
-ShowsNoContent (Inline k n inside after) = ShowsNoContent inside × ShowsNoContent after
-ShowsNoContent (Unique k n inside after) = ShowsNoContent inside × ShowsNoContent after
-ShowsNoContent (First k n i inside after) = ⊥
-ShowsNoContent (Again k n i after) = ShowsNoContent after
+ShowsNoContent f = AllByRecursion (λ c. ⊥) (contents f)

@@ -1,15 +1,16 @@
 -- Which contents belong to a bag of entries, and when two showings agree.
-use Rattle.std.specs.Prelude.{Bool, false, cond, List, [], ◌∷◌, ◌++◌, flat_map, ◌↔◌, IsPermutation, IsTrue}
+use Rattle.std.specs.Prelude.{Bool, false, List, [], ◌++◌, flat_map, ◌↔◌, IsPermutation, IsTrue}
 use Rattle.std.specs.List.{list_any, IsDistinct}
+use Rattle.std.specs.Map.{lookup}
+use Rattle.std.specs.Option.{unwrap_or}
 use Rattle.std.specs.FinSet as set
 use Rattle.allocative_graph.specs.Identity.{Identity, is_same_identity}
-use Rattle.allocative_graph.specs.Forest.{Forest, Mark, AsInline, AsUnique, AsShared, Bag, own, contents, shown, Fits}
+use Rattle.allocative_graph.specs.Forest.{Forest, Mark, AsShared, Bag, own, contents, shown, Fits}
 
 -- Whether a mark is that of a pointer to i.
 abbrev pub is_mark_of : Identity → Mark → Bool
-is_mark_of i AsInline = false
-is_mark_of i AsUnique = false
 is_mark_of i (AsShared j) = is_same_identity i j
+is_mark_of i m = false
 
 -- Whether an entry of the bag points to i.
 abbrev pub has_mark : Identity → Bag → Bool
@@ -32,14 +33,9 @@ pub record IsMeaning (b : Bag) (content : Identity → Bag) (m : Bag) : Type 0 w
   pub reached : (i : Identity) → IsTrue (is_among i identities) ↔ Reached b content i
   pub is : IsPermutation (b ++ flat_map content identities) m
 
--- The first bag listed for i, or no entries where i is absent.
-abbrev pub content_in : List (Identity × Bag) → Identity → Bag
-content_in [] i = []
-content_in (c ∷ cs) i = cond (is_same_identity i c.0) c.1 (content_in cs i)
-
--- The content that f shows of an identity.
+-- The content that f shows of an identity, or no entries where it shows none.
 abbrev pub content_of : Forest → Identity → Bag
-content_of f = content_in (contents f)
+content_of f i = unwrap_or (lookup (is_same_identity i) (contents f)) []
 
 -- f is a whole showing: it fits where no identity was met before.
 abbrev pub IsWhole : Forest → Type 0

@@ -27,11 +27,9 @@ is_same_path = eq_by_cmp path_cmp
 
 -- Whether the second path is the first one with one more key.
 abbrev pub is_one_below : Path → Path → Bool
-is_one_below [] [] = false
 is_one_below [] (k ∷ []) = true
-is_one_below [] (k ∷ l ∷ q) = false
-is_one_below (k ∷ p) [] = false
 is_one_below (k ∷ p) (l ∷ q) = eq_by_cmp key_cmp k l && is_one_below p q
+is_one_below p q = false
 
 -- The first list is a proper prefix of the second, or the first elements that differ are in the order R.
 pub data ComesBefore {X : Type 0} (R : X → X → Ordering) (p q : List X) : Type 0 where

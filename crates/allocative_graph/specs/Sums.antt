@@ -1,9 +1,9 @@
 -- The sums of a bag of entries, path by path.
-use Rattle.std.specs.Prelude.{ℕ, ◌+◌, Bool, true, false, cond, ◌||◌, [], ◌∷◌, Option, Some, None, sum_by}
+use Rattle.std.specs.Prelude.{ℕ, ◌+◌, Bool, true, false, cond, ◌||◌, Option, Some, None, fold, sum_by}
 use Rattle.std.specs.List.{list_any}
 use Rattle.std.specs.FinMap.{FinMap, get, insert, entries, empty}
 use Rattle.allocative_graph.specs.Path.{Path, path_cmp, is_same_path, is_one_below}
-use Rattle.allocative_graph.specs.Forest.{Mark, AsInline, AsUnique, AsShared, Entry, Bag}
+use Rattle.allocative_graph.specs.Forest.{Mark, AsUnique, Entry, Bag}
 
 -- What was entered at a path: the bytes of all its entries, and whether one of them is unique.
 pub record Node : Type 0 where
@@ -16,9 +16,8 @@ Sums = FinMap path_cmp Node
 
 -- Whether an entry with this mark is unique.
 abbrev pub is_unique_mark : Mark → Bool
-is_unique_mark AsInline = false
 is_unique_mark AsUnique = true
-is_unique_mark (AsShared i) = false
+is_unique_mark m = false
 
 -- ---- of a bag
 -- The bytes of the entries of b at p.
@@ -53,8 +52,7 @@ add s e = insert s e.path (together (get s e.path) (node_of e))
 
 -- The sums s with the entries of b added.
 abbrev pub add_all : Sums → Bag → Sums
-add_all s [] = s
-add_all s (e ∷ b) = add_all (add s e) b
+add_all s b = fold add s b
 
 -- The sums of b. `SumsLaw` states their closed form.
 abbrev pub sums_of : Bag → Sums

@@ -4,4 +4,4 @@ use Rattle.allocative_graph.proofs.Graphs.{graph-tree}
 use Rattle.allocative_graph.proofs.laws.graph_law.Goals as goal
 
 pub returns : goal.returns
-returns c s f k p = record { root = get-graph-root s; paths = get-graph s k p; is_tree = graph-tree f }
+returns c = record { root = get-graph-root; paths = get-graph; is_tree = graph-tree }

@@ -3,10 +3,4 @@ use Rattle.allocative_graph.proofs.Graphs.{total-sum_of, sum_of-commutes, sum_of
 use Rattle.allocative_graph.proofs.laws.graph_sums_law.Goals as goal
 
 pub returns : goal.returns
-returns c g h i k = record {
-  same_total = total-sum_of g h;
-  commutes = sum_of-commutes g h;
-  associates = sum_of-associates g h i;
-  unchanged = sum_of-default g;
-  under_total = total-under k g;
-}
+returns c = record { same_total = total-sum_of; commutes = sum_of-commutes; associates = sum_of-associates; unchanged = sum_of-default; under_total = total-under }

@@ -6,10 +6,11 @@ use Rattle.allocative_graph.proofs.Order.{same_reached, same_sums_of, agree_back
 use Rattle.allocative_graph.proofs.laws.order_law.Goals as goal
 
 pub returns : goal.returns
-returns c f g v w a = record {
-  reached = λ i. (same_reached f g v w a i, same_reached g f w v (agree_back f g a) i);
-  same_graph = ap graph (same_sums_of f g v w a);
-  same_text = ap (λ s. text (graph s)) (same_sums_of f g v w a);
-  same_warnings = ap warnings (same_sums_of f g v w a);
-  same_warned = ap warned_paths (same_sums_of f g v w a);
-}
+returns c f g v w a =
+    let same = same_sums_of f g v w a in record {
+      reached = λ i. (same_reached f g v w a i, same_reached g f w v (agree_back f g a) i);
+      same_graph = ap graph same;
+      same_text = ap (λ s. text (graph s)) same;
+      same_warnings = ap warnings same;
+      same_warned = ap warned_paths same;
+    }

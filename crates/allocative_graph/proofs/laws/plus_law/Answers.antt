@@ -3,10 +3,4 @@ use Rattle.allocative_graph.proofs.Plus.{plus-nothing, plus-following, takes_fol
 use Rattle.allocative_graph.proofs.laws.plus_law.Goals as goal
 
 pub returns : goal.returns
-returns c b k n f g = record {
-  nothing = plus-nothing b;
-  following = plus-following b f g;
-  following_taken = takes_following b f g;
-  inside = λ u. inside_entry u k n b f;
-  inside_taken = λ u w. takes_entry u k n b f w;
-}
+returns c = record { nothing = plus-nothing; following = plus-following; following_taken = takes_following; inside = inside_entry; inside_taken = takes_entry }
