@@ -90,9 +90,9 @@ new_node n u = record { bytes = n; is_unique = u }
 find-put : (i : ℕ) (p q : Path) (n : ℕ) (u : Bool) (s : Listed) → path_at (put i p n u s) i ≡ p → ((j : ℕ) → j < length s → path_at s j ≡ p → j ≡ i) → find path_cmp q (map row (put i p n u s)) ≡ cond (is_same_path q p) (Some (together (find path_cmp p (map row s)) (new_node n u))) (find path_cmp q (map row s))
 find-put i p q n u [] is sole = refl
 find-put zero p q n u (e ∷ s) is sole =
-    let seen : is_same_path q e.path ≡ is_same_path q p = ap (is_same_path q) is in
+    let warning_of : is_same_path q e.path ≡ is_same_path q p = ap (is_same_path q) is in
     let itself : is_same_path p e.path ≡ true = same_path-same p e.path (sym is) in
-    rw (seen, itself) (both (is_same_path q p) _ _ _)
+    rw (warning_of, itself) (both (is_same_path q p) _ _ _)
   where
     both : (b : Bool) (x y z : Option Node) → cond b x z ≡ cond b x (cond b y z)
     both b x y z = grind (arith, nat_tests)

@@ -5,8 +5,8 @@ use Rattle.allocative_graph.specs.Graph.{Warned, warning_text}
 use Rattle.allocative_collectors.specs.declared.output.WarnedPath.{WarnedPath}
 
 -- The path and the two figures of a value of code.
-abbrev pub seen : WarnedPath → Warned
-seen w = record { path = map (λ k. k.now) w.path.items; self_size = w.self_size; children_size = w.children_size }
+abbrev pub warning_of : WarnedPath → Warned
+warning_of w = record { path = map (λ k. k.now) w.path.items; self_size = w.self_size; children_size = w.children_size }
 
 -- The warnings of some paths, each with a line feed.
 abbrev pub warning_lines : List Warned → List ℕ

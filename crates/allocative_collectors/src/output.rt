@@ -1,6 +1,6 @@
 //! What a finished collector returns: a flame graph and its warnings.
 ghost use Rattle.std.specs.Prelude.{◌≡◌, ◌++◌, IfOk, OnOk, MatchResult, string_bytes, map};
-ghost use Rattle.allocative_collectors.specs.Warned.{seen, warning_lines};
+ghost use Rattle.allocative_collectors.specs.Warned.{warning_of, warning_lines};
 
 use allocative_graph::flamegraph::{FlameGraph, push_path};
 use allocative_graph::refusal::Refusal;
@@ -20,12 +20,12 @@ pub struct WarnedPath {
 
 impl WarnedPath {
     ghost use Rattle.allocative_graph.specs.Graph.{warning_text};
-    ghost use Rattle.allocative_collectors.specs.Warned.{seen};
+    ghost use Rattle.allocative_collectors.specs.Warned.{warning_of};
 
     /// Appends the warning of the path, without a line feed. The only error is that memory runs out; then the text may
     /// have a part of it.
     pub fn push_warning(&self, text: &mut String) -> Result<(), AllocError>
-        ensures { OnOk result (string_bytes text.new ≡ string_bytes text.old ++ warning_text (seen self.now)) }
+        ensures { OnOk result (string_bytes text.new ≡ string_bytes text.old ++ warning_text (warning_of self.now)) }
     {
         let (own, parts) = (self.self_size, self.children_size);
         text.push_str("Incorrect size declaration for node `")?;
@@ -50,7 +50,7 @@ impl Model for FlameGraphOutput {
     ghost use Rattle.std.specs.Prelude.{string_bytes, map};
     ghost use Rattle.allocative_graph.specs.Visits.{Profile};
     ghost use Rattle.allocative_graph.specs.Representation.Codes.{profile_code};
-    ghost use Rattle.allocative_collectors.specs.Warned.{seen};
+    ghost use Rattle.allocative_collectors.specs.Warned.{warning_of};
 
     ghost Value = { Profile };
 
@@ -59,12 +59,12 @@ impl Model for FlameGraphOutput {
     ghost view = { λ o. record {
       graph = o.flamegraph;
       warnings = string_bytes o.warnings;
-      warned = map seen o.warned.items;
+      warned = map warning_of o.warned.items;
     } };
 }
 
 impl FlameGraphOutput {
-    ghost use Rattle.allocative_collectors.specs.Warned.{seen, warning_lines};
+    ghost use Rattle.allocative_collectors.specs.Warned.{warning_of, warning_lines};
 
     /// The graph, the paths that have a warning, and the text of the warnings, which is made from the paths. The only
     /// error is that memory runs out.
@@ -74,8 +74,8 @@ impl FlameGraphOutput {
         warned: Vec<WarnedPath>,
     ) -> Result<FlameGraphOutput, AllocError>
         ensures graph { IfOk result (λ o. o.graph ≡ flamegraph) }
-        ensures warnings { IfOk result (λ o. o.warnings ≡ warning_lines (map seen warned.items)) }
-        ensures warned { IfOk result (λ o. o.warned ≡ map seen warned.items) }
+        ensures warnings { IfOk result (λ o. o.warnings ≡ warning_lines (map warning_of warned.items)) }
+        ensures warned { IfOk result (λ o. o.warned ≡ map warning_of warned.items) }
     {
         let warnings = warning_lines(alloc, warned.as_slice())?;
         Ok(FlameGraphOutput {
@@ -117,7 +117,7 @@ impl FlameGraphOutput {
     /// The paths that have a warning, in the order of paths, which is that of the lines of the text. It allocates
     /// nothing.
     pub fn warned_paths(&self) -> &[WarnedPath]
-        ensures { map seen result.now ≡ self.now.warned }
+        ensures { map warning_of result.now ≡ self.now.warned }
     {
         self.warned.as_slice()
     }
@@ -125,7 +125,7 @@ impl FlameGraphOutput {
 
 /// The text of the warnings of some paths: a line for each, in their order.
 fn warning_lines(alloc: Global, warned: &[WarnedPath]) -> Result<String, AllocError>
-    ensures { IfOk result (λ text. string_bytes text ≡ warning_lines (map seen warned.now)) }
+    ensures { IfOk result (λ text. string_bytes text ≡ warning_lines (map warning_of warned.now)) }
 {
     let mut text = String::new(alloc);
     for one in warned {

@@ -7,7 +7,7 @@ ghost use Rattle.allocative_collectors.specs.Listed.{root_sum, put, total, path_
 ghost use Rattle.allocative_collectors.specs.Finishing.{size_at_place, is_short, MakesGraph, MakesGraphAlone};
 ghost use Rattle.allocative_collectors.specs.Shapes.{leaf, keys_at, key_at, IsChild, IsKeyGap};
 ghost use Rattle.allocative_collectors.specs.Nodes.{shape, IsTree};
-ghost use Rattle.allocative_collectors.specs.Warned.{seen};
+ghost use Rattle.allocative_collectors.specs.Warned.{warning_of};
 
 use crate::output::{FlameGraphOutput, WarnedPath};
 use allocative_graph::flamegraph::FlameGraph;
@@ -147,7 +147,7 @@ impl Tree {
         requires fits { entered (map_of self.now) < 2 ^ 63 }
         requires keys { map (λ k. k.now) keys.old.items ≡ path_at self.now at }
         ensures keys { OnOk result (keys.new.items ≡ keys.old.items) }
-        ensures made { IfOk result (MakesGraph self.now at (map seen warned.old.items) (map seen warned.new.items)) }
+        ensures made { IfOk result (MakesGraph self.now at (map warning_of warned.old.items) (map warning_of warned.new.items)) }
         ensures err { IfErr result (λ e. e ≡ Refusal.Memory) }
     {
         if let Some(leaf) = self.leaf(at) {
@@ -349,7 +349,7 @@ fn push_warned(
     below: usize,
     warned: &mut Vec<WarnedPath>,
 ) -> Result<(), AllocError>
-    ensures { OnOk result (map seen warned.new.items ≡ map seen warned.old.items
+    ensures { OnOk result (map warning_of warned.new.items ≡ map warning_of warned.old.items
         ++ record { path = map (λ k. k.now) keys.now; self_size = bytes; children_size = below } ∷ []) }
 {
     let path = Vec::from_slice(*warned.allocator(), keys)?;

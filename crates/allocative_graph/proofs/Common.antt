@@ -28,7 +28,7 @@ pub use Rattle.allocative_graph.specs.Identity.{Identities, Identity, identity_c
 pub use Rattle.allocative_graph.specs.Many.{sum_of_all, total_of}
 pub use Rattle.allocative_graph.specs.Meaning.{IsMeaning, IsWhole, Reached, content_of, has_mark, inside, is_among, is_mark_of, marked}
 pub use Rattle.allocative_graph.specs.Path.{Key, Path, is_one_below, is_same_path, key_cmp, path_cmp}
-pub use Rattle.allocative_graph.specs.Read.{AreStacks, IsCut, IsFault, IsNumber, IsRead, IsStack, IsWrong, Means, Stack, all_bytes, bytes_at, is_path_of, number_of, seen}
+pub use Rattle.allocative_graph.specs.Read.{AreStacks, IsCut, IsFault, IsNumber, IsRead, IsStack, IsWrong, Means, Stack, all_bytes, bytes_at, is_path_of, number_of, line_stack}
 pub use Rattle.allocative_graph.specs.Reads.{AreChildren, Figures, figures_behind, keys_of, node, rows_of, rows_of_child, under_rows}
 pub use Rattle.allocative_graph.specs.Representation.Children.{AddsUp, AddsUpInPart, AllAbove, AllBelow, InOrder, IsChildGap, IsFound, size_under, Added, Merged}
 pub use Rattle.allocative_graph.specs.Representation.Node.{IsNode, weight}

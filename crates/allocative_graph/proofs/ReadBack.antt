@@ -62,7 +62,7 @@ abbrev said : Sized → Stack
 said e = record { path = e.0; size = e.1 }
 
 saying : (e : Sized) → Good e → ◌≡◌ {A = Stack} (record { path = keys_of (joined e.0); size = number_of (decimal e.1) }) (said e)
-saying ([], n) good = absurd (true≢false (sym good.seen))
+saying ([], n) good = absurd (true≢false (sym good.shows))
 saying (k ∷ p, n) good = λ i. record { path = keys-joined k p good.plain i; size = (number-decimal n good.word).1 i }
 
 body_cut : (e : Sized) → IsCut (body e) (joined e.0) (decimal e.1)

@@ -1,6 +1,6 @@
 -- The lines of a text that is read: where one is cut, which are none, and one after another.
 use Rattle.std.proofs.Common.{◌≡◌, ◌≢◌, ℕ, suc, ◌+◌, ◌<◌, ◌≤◌, ◌==◌, true, false, cond, List, [], ◌∷◌, ◌++◌, length, get_or, take, drop, None, Some, refl, ap, sym, ◌∙◌, subst, arith, Bor, eqb-true, take-append-drop, Bool, map, subst₂, append-nil, drop-cons}
-use Rattle.allocative_graph.proofs.Common.{LEVELS, LineFault, NoSpace, Lacks, Stack, IsStack, IsNumber, IsCut, IsWrong, number_of, nil_from_length, slice_split, lines, lines_of_parts, Line, AreStacks, IsFault, map_push, length-map, seen}
+use Rattle.allocative_graph.proofs.Common.{LEVELS, LineFault, NoSpace, Lacks, Stack, IsStack, IsNumber, IsCut, IsWrong, number_of, nil_from_length, slice_split, lines, lines_of_parts, Line, AreStacks, IsFault, map_push, length-map, line_stack}
 use Rattle.std.specs.Str.Pattern.{RFindsChar}
 use Rattle.std.proofs.lemmas.Bool.{eqb-false}
 use Rattle.std.proofs.lemmas.List.Elements.{All-from_get_or, recursion_from_All}
@@ -108,26 +108,26 @@ stacks-append ((b ∷ bs) ∷ ls) [] ks ts h g = absurd h
 stacks-append ((b ∷ bs) ∷ ls) (s ∷ ss) ks ts h g = (h.0, stacks-append ls ss ks ts h.1 g)
 
 -- One line more was read.
-pub read-more : (xs : List (Bor (List ℕ))) (x : Bor (List ℕ)) (now then : List Line) (line : Line) → AreStacks (texts xs) (map seen now) → IsStack x.now (seen line) → then ≡ now ++ line ∷ []
-    → AreStacks (texts (xs ++ x ∷ [])) (map seen then)
+pub read-more : (xs : List (Bor (List ℕ))) (x : Bor (List ℕ)) (now then : List Line) (line : Line) → AreStacks (texts xs) (map line_stack now) → IsStack x.now (line_stack line) → then ≡ now ++ line ∷ []
+    → AreStacks (texts (xs ++ x ∷ [])) (map line_stack then)
 read-more xs x now then line h is e =
-    rw (e, map_push (λ (x : Bor (List ℕ)). x.now) xs x, map_push seen now line)
-    (stacks-append (texts xs) (map seen now) (x.now ∷ []) (seen line ∷ []) h (stacks-cons x.now [] (seen line) [] is tt))
+    rw (e, map_push (λ (x : Bor (List ℕ)). x.now) xs x, map_push line_stack now line)
+    (stacks-append (texts xs) (map line_stack now) (x.now ∷ []) (line_stack line ∷ []) h (stacks-cons x.now [] (line_stack line) [] is tt))
 
 -- A blank line was passed over.
-pub read-blank : (xs : List (Bor (List ℕ))) (x : Bor (List ℕ)) (now : List Line) → AreStacks (texts xs) (map seen now) → length x.now ≡ 0 → AreStacks (texts (xs ++ x ∷ [])) (map seen now)
+pub read-blank : (xs : List (Bor (List ℕ))) (x : Bor (List ℕ)) (now : List Line) → AreStacks (texts xs) (map line_stack now) → length x.now ≡ 0 → AreStacks (texts (xs ++ x ∷ [])) (map line_stack now)
 read-blank xs x now h e =
     let blank : AreStacks (x.now ∷ []) [] = subst (λ l. AreStacks (l ∷ []) []) (sym (nil_from_length x.now e)) tt in
-    subst₂ AreStacks (sym (map_push (λ (x : Bor (List ℕ)). x.now) xs x)) (append-nil (map seen now)) (stacks-append (texts xs) (map seen now) (x.now ∷ []) [] h blank)
+    subst₂ AreStacks (sym (map_push (λ (x : Bor (List ℕ)). x.now) xs x)) (append-nil (map line_stack now)) (stacks-append (texts xs) (map line_stack now) (x.now ∷ []) [] h blank)
 
 -- The line behind those that were read is the first that is none.
 pub fault_at : (text : List ℕ) (xs : List (Bor (List ℕ))) (x : Bor (List ℕ)) (n : ℕ) (w : LineFault) (ls : List Line) → texts xs ≡ take (length xs) (lines text)
-    → (length xs < length (lines text)) × (x.now ≡ get_or (lines text) (length xs) x.now) → AreStacks (texts xs) (map seen ls) → 0 < length x.now → IsWrong w x.now → n ≡ length xs + 1 → IsFault text n w
+    → (length xs < length (lines text)) × (x.now ≡ get_or (lines text) (length xs) x.now) → AreStacks (texts xs) (map line_stack ls) → 0 < length x.now → IsWrong w x.now → n ≡ length xs + 1 → IsFault text n w
 fault_at text xs x n w ls front at h some wrong e = let next : suc (length xs) ≡ length xs + 1 = omega arith in record {
   before = texts xs;
   line = x.now;
   rest = drop (length xs + 1) (lines text);
-  stacks = map seen ls;
+  stacks = map line_stack ls;
   parts =
       sym (take-append-drop (length xs) (lines text))
       ∙ (λ i. sym front i ++ drop-cons (lines text) (length xs) x.now at.0 i)

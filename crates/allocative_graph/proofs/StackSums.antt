@@ -4,7 +4,7 @@ use Rattle.allocative_graph.proofs.Common.{list_any, IsPermutation, is_eq, get, 
 use Rattle.std.specs.Option.{SomeIff}
 use Rattle.std.proofs.lemmas.List.Sums.{fold-append}
 use Rattle.std.proofs.lemmas.List.Sorted.{IsPermutation-map}
-use Rattle.allocative_graph.specs.Read.{seen, IsGraphOfStacks, Exceeds}
+use Rattle.allocative_graph.specs.Read.{line_stack, IsGraphOfStacks, Exceeds}
 use Rattle.allocative_graph.proofs.Basics.{on_test, path_total, same_path}
 use Rattle.allocative_graph.proofs.ChildLookup.{tie}
 use Rattle.allocative_graph.proofs.PathOrder.{key_itself}
@@ -85,11 +85,11 @@ graph-stacks ss p =
 
 -- ---- lines in any order
 -- What lines add up to in another order is what their text is read as.
-pub is_read : (t : List ℕ) (ls sorted : List Line) (g : Graph) → Means t (map seen ls) → IsPermutation ls sorted → g ≡ sum_of_stacks default (map seen sorted) → IsRead t g
+pub is_read : (t : List ℕ) (ls sorted : List Line) (g : Graph) → Means t (map line_stack ls) → IsPermutation ls sorted → g ≡ sum_of_stacks default (map line_stack sorted) → IsRead t g
 is_read t ls sorted g means moved e =
-    let ss = map seen ls in
+    let ss = map line_stack ls in
     let each : sum_by (λ s. total (one_stack s)) ss ≡ all_bytes ss = λ i. sum_by (λ s. total-one s i) ss in
-    subst (IsRead t) (sym (e ∙ added_up-permuted one_stack default ss (map seen sorted) (IsPermutation-map seen ls sorted moved))) (record {
+    subst (IsRead t) (sym (e ∙ added_up-permuted one_stack default ss (map line_stack sorted) (IsPermutation-map line_stack ls sorted moved))) (record {
       stacks = ss;
       means = means;
       graph = graph-stacks ss;
@@ -98,11 +98,11 @@ is_read t ls sorted g means moved e =
 
 -- ---- the steps of the code
 -- One line more is added.
-pub line_more : (ls : List Line) (i : ℕ) (l : Line) (g h : Graph) → take (i + 1) ls ≡ take i ls ++ l ∷ [] → g ≡ sum_of_stacks default (map seen (take i ls)) → h ≡ sum_of g (one_stack (seen l))
-    → h ≡ sum_of_stacks default (map seen (take (i + 1) ls))
+pub line_more : (ls : List Line) (i : ℕ) (l : Line) (g h : Graph) → take (i + 1) ls ≡ take i ls ++ l ∷ [] → g ≡ sum_of_stacks default (map line_stack (take i ls)) → h ≡ sum_of g (one_stack (line_stack l))
+    → h ≡ sum_of_stacks default (map line_stack (take (i + 1) ls))
 line_more ls i l g h more was is =
-    is ∙ ap (λ (f : Graph). sum_of f (one_stack (seen l))) was
-    ∙ sym (ap (λ xs. sum_of_stacks default (map seen xs)) more ∙ ap (sum_of_stacks default) (map_push seen (take i ls) l) ∙ fold-append (λ h s. sum_of h (one_stack s)) default (map seen (take i ls)) (seen l ∷ []))
+    is ∙ ap (λ (f : Graph). sum_of f (one_stack (line_stack l))) was
+    ∙ sym (ap (λ xs. sum_of_stacks default (map line_stack xs)) more ∙ ap (sum_of_stacks default) (map_push line_stack (take i ls) l) ∙ fold-append (λ h s. sum_of h (one_stack s)) default (map line_stack (take i ls)) (line_stack l ∷ []))
 
 -- The last key of a path is put before a graph first.
 pub nested-push : (ks : Path) (k : Key) (g : Graph) → nested (ks ++ k ∷ []) g ≡ nested ks (sum_of default (under k g))
@@ -110,8 +110,8 @@ nested-push [] k g = refl
 nested-push (l ∷ ks) k g = ap (λ (h : Graph). sum_of default (under l h)) (nested-push ks k g)
 
 -- Where the bytes of lines were added up in vain, they exceed a word.
-pub sum_exceeds : (t : List ℕ) (ls given : List Line) (o : Option ℕ) → Means t (map seen ls) → given ≡ ls
+pub sum_exceeds : (t : List ℕ) (ls given : List Line) (o : Option ℕ) → Means t (map line_stack ls) → given ≡ ls
     → SomeIff o (sum_by (λ l. l.size) given < 2 ^ 64) (sum_by (λ l. l.size) given) → is_some o ≡ false → Exceeds t
 sum_exceeds t ls given None means e h none =
-    record { stacks = map seen ls; means = means; exceeds = omega (arith, h, ap (λ (xs : List Line). sum_by (λ l. l.size) xs) e, fold-map (λ n (s : Stack). n + s.size) seen 0 ls) }
+    record { stacks = map line_stack ls; means = means; exceeds = omega (arith, h, ap (λ (xs : List Line). sum_by (λ l. l.size) xs) e, fold-map (λ n (s : Stack). n + s.size) line_stack 0 ls) }
 sum_exceeds t ls given (Some n) means e h none = absurd (true≢false none)

@@ -66,7 +66,7 @@ pub full_body : (e : Sized) (rest : List ℕ) → full e ++ rest ≡ body e ++ 1
 full_body e rest = append_assoc (body e) (10 ∷ []) rest
 
 pub record Good (e : Sized) : Type 0 where
-  pub seen : IsTrue (is_shown e)
+  pub shows : IsTrue (is_shown e)
   pub plain : AllByRecursion Plain e.0
   pub word : e.1 < 2 ^ 64
 
@@ -82,7 +82,7 @@ good_entries [] a b = tt
 good_entries (e ∷ es) a b =
     let parts = sum_by-cons (λ e. e.1) e es in
     let rest = good_entries es a.1 (omega (arith, parts)) in
-    on_test (λ t. AllByRecursion Good (cond t (e ∷ filter is_shown es) (filter is_shown es))) (is_shown e) (λ h. (record { seen = h; plain = a.0; word = omega (arith, parts) }, rest)) (λ h. rest)
+    on_test (λ t. AllByRecursion Good (cond t (e ∷ filter is_shown es) (filter is_shown es))) (is_shown e) (λ h. (record { shows = h; plain = a.0; word = omega (arith, parts) }, rest)) (λ h. rest)
 
 -- ---- a size is that of the line at its path
 -- The bytes of some entries at a path.

@@ -24,8 +24,8 @@ abbrev pub keys_of : List ℕ → Path
 keys_of p = slice_split (λ b. b == semicolon) p
 
 -- What a line of code says.
-abbrev pub seen : Line → Stack
-seen l = record { path = keys_of l.path.now; size = l.size }
+abbrev pub line_stack : Line → Stack
+line_stack l = record { path = keys_of l.path.now; size = l.size }
 
 -- The text is one digit or more, perhaps behind a plus, and the number that they write is a word.
 abbrev pub IsNumber : List ℕ → Type 0

@@ -46,8 +46,8 @@ pub record Figures : Type 0 where
   pub total_size : ℕ
 
 -- What a contract sees of a row.
-abbrev pub seen : Row → Figures
-seen r = record { path = map (λ k. k.now) r.path.items; self_size = r.self_size; total_size = r.total_size }
+abbrev pub row_figures : Row → Figures
+row_figures r = record { path = map (λ k. k.now) r.path.items; self_size = r.self_size; total_size = r.total_size }
 
 -- The figures of each path of g, with some keys before it, in the order of paths.
 abbrev pub figures_behind : Path → Graph → List Figures

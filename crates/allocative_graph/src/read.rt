@@ -3,7 +3,7 @@ ghost use Rattle.std.specs.Prelude.{◌≡◌, ◌+◌, ◌^◌, ◌<◌, ◌≤
 ghost use Rattle.std.specs.Option.{SomeIff};
 ghost use Rattle.allocative_graph.specs.Graph.{default};
 ghost use Rattle.allocative_graph.specs.declared.read.ReadFault.TheVariants.{Memory};
-ghost use Rattle.allocative_graph.specs.Read.{seen, IsStack, IsWrong, Means, IsFault, IsRead, Exceeds, ReadsBack};
+ghost use Rattle.allocative_graph.specs.Read.{line_stack, IsStack, IsWrong, Means, IsFault, IsRead, Exceeds, ReadsBack};
 ghost use Rattle.allocative_graph.specs.Representation.PathRows.{one_stack, sum_of_stacks};
 
 use crate::flamegraph::FlameGraph;
@@ -106,7 +106,7 @@ impl Line {
     // The graph of the line alone.
     #[tactic(auto, using(std::proofs::lemmas::List::nil_from_length))]
     fn graph(&self, alloc: Global) -> Result<FlameGraph, Refusal>
-        ensures { IfOk result (λ graph. graph ≡ one_stack (seen self.now)) }
+        ensures { IfOk result (λ graph. graph ≡ one_stack (line_stack self.now)) }
     {
         let mut graph = FlameGraph::default(alloc);
         graph.add_self(self.size)?;
@@ -123,7 +123,7 @@ impl Line {
 // Reads one line.
 #[tactic(auto, using(crate::proofs::ReadLines::no_space))]
 fn read_line(line: &'static str) -> Result<Line, LineFault>
-    ensures ok { IfOk result (λ read. IsStack line.now (seen read)) }
+    ensures ok { IfOk result (λ read. IsStack line.now (line_stack read)) }
     ensures wrong { IfErr result (λ w. IsWrong w line.now) }
 {
     let Some((path, size)) = line.rsplit_once(' ') else {
@@ -143,7 +143,7 @@ fn read_line(line: &'static str) -> Result<Line, LineFault>
 
 // Reads the lines of a text up to the first that is none. Blank lines are counted, and passed over.
 fn read_lines(alloc: Global, text: &'static str) -> Result<Vec<Line>, ReadFault>
-    ensures ok { IfOk result (λ lines. Means text.now (map seen lines.items)) }
+    ensures ok { IfOk result (λ lines. Means text.now (map line_stack lines.items)) }
     ensures line { (n : ℕ) (w : LineFault) → IsErrOf result (ReadFault.Line n w) → IsFault text.now n w }
     ensures fits { ¬ (IsErrOf result ReadFault.TooLarge) }
 {
@@ -177,7 +177,7 @@ fn total_of(lines: &[Line]) -> Option<usize>
 // The sum of the graphs of some lines.
 #[tactic(auto, using(std::proofs::Common::take_all, crate::proofs::StackSums::line_more))]
 fn add_up(alloc: Global, lines: &[Line]) -> Result<FlameGraph, Refusal>
-    ensures { IfOk result (λ graph. graph ≡ sum_of_stacks default (map seen lines.now)) }
+    ensures { IfOk result (λ graph. graph ≡ sum_of_stacks default (map line_stack lines.now)) }
 {
     let mut graph = FlameGraph::default(alloc);
     for line in lines {

@@ -13,5 +13,5 @@ pub use Rattle.allocative_picture.specs.Boxes.{is_drawn}
 pub use Rattle.allocative_picture.specs.Escape.{escaped_char}
 pub use Rattle.allocative_picture.specs.Marks.{mark_of}
 pub use Rattle.allocative_picture.specs.Page.{warning_lines}
-pub use Rattle.allocative_picture.specs.Rows.{Seen, before_in, row_from, row_of, rows_from, seen}
+pub use Rattle.allocative_picture.specs.Rows.{RowData, before_in, row_from, row_of, rows_from, row_data}
 pub use Rattle.allocative_picture.specs.declared.row.Mark.{Mark}

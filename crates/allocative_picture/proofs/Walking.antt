@@ -1,6 +1,6 @@
 -- The rows of a graph are that of its root and then those of its children, one child after another.
 use Rattle.std.proofs.Common.{◌≡◌, refl, ℕ, ◌+◌, ◌<◌, ◌≤◌, ◌++◌, [], ◌∷◌, List, get_or, take, drop, length, length-append, arith, ap, sym, ◌∙◌, take-append-drop}
-use Rattle.allocative_picture.proofs.Common.{entries, len, Child, Path, Graph, total, total_at, Figures, figures_behind, weight, Mark, Seen, row_of, row_from, rows_from}
+use Rattle.allocative_picture.proofs.Common.{entries, len, Child, Path, Graph, total, total_at, Figures, figures_behind, weight, Mark, RowData, row_of, row_from, rows_from}
 use Rattle.std.proofs.lemmas.List.{take_more, length-map}
 use Rattle.std.specs.FinMap.{len-entries}
 use Rattle.allocative_graph.specs.Reads.{node, rows_of}
@@ -16,7 +16,7 @@ rows_from-append : (M : Path → Mark) (b : ℕ) (fs gs : List Figures) → rows
 rows_from-append M b [] gs = ap (λ n. rows_from M n gs) (let e : b ≡ b + 0 = omega arith in e)
 rows_from-append M b (f ∷ fs) gs =
     let e : b + f.self_size + own_bytes fs ≡ b + own_bytes (f ∷ fs) = omega (arith, own-cons f fs) in
-    ap (λ (s : List Seen). row_from M b f ∷ s) (rows_from-append M (b + f.self_size) fs gs ∙ ap (λ n. rows_from M (b + f.self_size) fs ++ rows_from M n gs) e)
+    ap (λ (s : List RowData). row_from M b f ∷ s) (rows_from-append M (b + f.self_size) fs gs ∙ ap (λ n. rows_from M (b + f.self_size) fs ++ rows_from M n gs) e)
 
 own-figured : (t : Path → ℕ) (ks : Path) (rs : List (Path × ℕ)) → own_bytes (figured t ks rs) ≡ sum_of_rows rs
 own-figured t ks [] = omega arith
@@ -53,4 +53,4 @@ module _ (M : Path → Mark) (b n : ℕ) (g : Graph) (cs : List Child) (is : g �
 -- A graph has a row for each path.
 pub length-rows_of : (M : Path → Mark) (g : Graph) → length (picture.rows_of M g) ≡ len g
 unfolding picture.rows_of
-length-rows_of M g = length-map {B = Seen} (entries g) (row_of M g) ∙ sym (len-entries g)
+length-rows_of M g = length-map {B = RowData} (entries g) (row_of M g) ∙ sym (len-entries g)

@@ -25,6 +25,6 @@ same_keys (x ∷ xs) (y ∷ ys) =
     sym (both (key_cmp x.now y.now) (path_cmp (texts xs) (texts ys)) ∙ (λ i. is_eq-slice_cmp x.now y.now i && sym (same_keys xs ys) i))
 
 -- Comparing keys by `==` finds a path among the warned paths exactly where it is one of them.
-pub any_held : (ws : List WarnedPath) (p : List (Bor (List ℕ))) → list_any (λ w. are_equal w.path.items p) ws ≡ list_any (λ w. is_same_path w.path (texts p)) (map held.seen ws)
+pub any_held : (ws : List WarnedPath) (p : List (Bor (List ℕ))) → list_any (λ w. are_equal w.path.items p) ws ≡ list_any (λ w. is_same_path w.path (texts p)) (map held.warning_of ws)
 any_held [] p = refl
 any_held (w ∷ ws) p = λ i. same_keys w.path.items p i || any_held ws p i

@@ -6,7 +6,7 @@ use Rattle.allocative_graph.specs.Path.{Key}
 use Rattle.allocative_graph.specs.Fnv.{fnv}
 use Rattle.allocative_picture.specs.Escape.{escaped}
 use Rattle.allocative_picture.specs.Figures.{size_text, bytes_text, percent_text, place_text}
-use Rattle.allocative_picture.specs.Rows.{Seen}
+use Rattle.allocative_picture.specs.Rows.{RowData}
 use Rattle.allocative_picture.specs.declared.row.Mark.{Mark}
 use Rattle.allocative_picture.specs.declared.row.Mark.TheVariants.{Plain, Warned, Changed}
 
@@ -17,19 +17,19 @@ abbrev pub edge : ℕ → ℕ → ℕ
 edge all bytes = bytes * 1000000 / all
 
 -- The left edge of a row's box, in units.
-abbrev pub left : ℕ → Seen → ℕ
+abbrev pub left : ℕ → RowData → ℕ
 left all r = edge all r.before
 
 -- The right edge of a row's box, in units.
-abbrev pub right : ℕ → Seen → ℕ
+abbrev pub right : ℕ → RowData → ℕ
 right all r = edge all (r.before + r.whole)
 
 -- The width of a row's box, in units.
-abbrev pub width : ℕ → Seen → ℕ
+abbrev pub width : ℕ → RowData → ℕ
 width all r = right all r - left all r
 
 -- Whether a row has a box: its width is neither 0 nor less than the least width.
-abbrev pub is_drawn : ℕ → ℕ → Seen → Bool
+abbrev pub is_drawn : ℕ → ℕ → RowData → Bool
 is_drawn least all r = not (width all r == 0) && not (nat_lt (width all r) least)
 
 -- ---- classes
@@ -48,7 +48,7 @@ key_class depth k =
     (cond (bytes_eq k (codes "unused_capacity")) (codes "spare") (codes "k" ++ decimal (fnv k % 12)))
 
 -- The class of a row's box, by its mark.
-unfoldable pub class_text : Mark → Seen → List ℕ
+unfoldable pub class_text : Mark → RowData → List ℕ
 class_text Plain r = key_class r.depth r.key
 class_text Warned r = codes "warned"
 class_text (Changed was) r = change_class was (r.whole - was)
@@ -80,7 +80,7 @@ change_paint was is =
     (codes " style=\"fill:rgb(" ++ colour_text 29 95 191 (was - is) (was + is) ++ codes ")\""))
 
 -- The paint of a row's box, by its mark. There is none where the class gives the colour.
-unfoldable pub paint_text : Mark → Seen → List ℕ
+unfoldable pub paint_text : Mark → RowData → List ℕ
 paint_text Plain r = []
 paint_text Warned r = []
 paint_text (Changed was) r = change_paint was (r.whole - was)
@@ -93,14 +93,14 @@ change_text was is =
     (cond (nat_lt was is) (codes "+" ++ size_text (is - was)) (codes "-" ++ size_text (was - is)))
 
 -- The figure after the key in a row's box, by its mark.
-unfoldable pub figure_text : Mark → Seen → List ℕ
+unfoldable pub figure_text : Mark → RowData → List ℕ
 figure_text Plain r = size_text r.whole
 figure_text Warned r = size_text r.whole
 figure_text (Changed was) r = change_text was (r.whole - was)
 
 -- The bytes of a path and all below it, their share of all in millionths, and the path's own bytes where they differ from
 -- these.
-unfoldable pub declared_text : ℕ → Seen → List ℕ
+unfoldable pub declared_text : ℕ → RowData → List ℕ
 declared_text u r =
     concat (bytes_text r.whole ∷ codes ", " ∷ percent_text u
     ∷ cond (r.own == r.whole) (codes "% of all") (codes "% of all\n" ++ bytes_text r.own ++ codes " of its own") ∷ [])
@@ -112,14 +112,14 @@ both_text was is =
     ++ (codes " (" ++ decimal was ++ codes " and " ++ decimal is ++ codes " bytes)\n" ++ change_text was is)
 
 -- The title of a row's box after the key, by its mark, from the share of its bytes in millionths.
-unfoldable pub title_text : ℕ → Mark → Seen → List ℕ
+unfoldable pub title_text : ℕ → Mark → RowData → List ℕ
 title_text u Plain r = declared_text u r
 title_text u Warned r = declared_text u r ++ codes "\ndeclared smaller than its parts: see the warnings"
 title_text u (Changed was) r = both_text was (r.whole - was)
 
 -- ---- the element
 -- The beginning of a row's box, a viewport that clips its texts.
-unfoldable pub frame : ℕ → Seen → List ℕ
+unfoldable pub frame : ℕ → RowData → List ℕ
 frame all r =
     concat (codes "<svg class=\"b " ∷ class_text r.mark r ∷ fit_text (width all r) (length r.key)
     ∷ codes "\" x=\"" ∷ place_text (left all r) ∷ codes "\" y=\"" ∷ decimal (54 + 18 * r.depth)
@@ -127,7 +127,7 @@ frame all r =
 
 -- The element of a row's box: its beginning, the title with the key, the rectangle with its paint, and the label with the
 -- key and the figure. The key stands there as markup.
-unfoldable pub element : ℕ → Seen → List ℕ
+unfoldable pub element : ℕ → RowData → List ℕ
 element all r =
     frame all r
     ++ concat (codes "<title>" ∷ escaped r.key ∷ codes "\n" ∷ title_text (edge all r.whole) r.mark r

@@ -5,15 +5,15 @@ use Rattle.std.specs.FinMap.{entries, contains_key}
 use Rattle.allocative_graph.specs.Path.{Key, Path, key_cmp, is_same_path}
 use Rattle.allocative_graph.specs.Graph.{Graph, total, total_at, sum_of, size_at}
 use Rattle.allocative_picture.specs.declared.row.Mark.{Mark}
-use Rattle.allocative_picture.specs.Rows.{Seen, row_of}
+use Rattle.allocative_picture.specs.Rows.{RowData, row_of}
 use Rattle.allocative_picture.specs.Boxes.{left, right, width, is_drawn, element}
 
 -- The row of a path of a graph.
-abbrev pub row_at : (Path → Mark) → Graph → Path → Seen
+abbrev pub row_at : (Path → Mark) → Graph → Path → RowData
 row_at M g p = row_of M g (p, size_at g p)
 
 -- The second box lies within the first, from left to right.
-pub record IsInside (all : ℕ) (outer inner : Seen) : Type 0 where
+pub record IsInside (all : ℕ) (outer inner : RowData) : Type 0 where
   pub starts : left all outer ≤ left all inner
   pub ends : right all inner ≤ right all outer
 
@@ -28,26 +28,26 @@ ApartLaw = (M : Path → Mark) (g : Graph) (p : Path) (k l : Key) → key_cmp k 
     → right (total g) (row_at M g (p ++ k ∷ [])) ≤ left (total g) (row_at M g (p ++ l ∷ []))
 
 -- The width of a box differs from the share of its bytes, in units of a millionth of all, by less than one unit.
-pub record IsShare (all : ℕ) (r : Seen) : Type 0 where
+pub record IsShare (all : ℕ) (r : RowData) : Type 0 where
   pub not_wider : width all r * all < r.whole * 1000000 + all
   pub not_narrower : r.whole * 1000000 < width all r * all + all
 
 -- The width of each box is its share of all bytes, to less than one unit.
 abbrev pub ShareLaw : Type 0
-ShareLaw = (all : ℕ) (r : Seen) → 0 < all → IsShare all r
+ShareLaw = (all : ℕ) (r : RowData) → 0 < all → IsShare all r
 
 -- No box extends past the right edge of the picture.
 abbrev pub WithinLaw : Type 0
 WithinLaw = (M : Path → Mark) (g : Graph) (p : Path) → 0 < total g → right (total g) (row_at M g p) ≤ 1000000
 
 -- The boxes of some rows, one after another: the element of a row, or no text where it has none.
-abbrev pub boxes : ℕ → ℕ → List Seen → List ℕ
+abbrev pub boxes : ℕ → ℕ → List RowData → List ℕ
 boxes least all rs = flat_map (λ r. cond (is_drawn least all r) (element all r) []) rs
 
 -- The boxes are the elements of the rows that are wide enough, each once and in the order of the rows.
 abbrev pub BoxesLaw : Type 0
 BoxesLaw =
-    (least all : ℕ) (rs : List Seen) → boxes least all rs ≡ flat_map (element all) (filter (is_drawn least all) rs)
+    (least all : ℕ) (rs : List RowData) → boxes least all rs ≡ flat_map (element all) (filter (is_drawn least all) rs)
 
 -- Each path of a graph occurs once among the graph's entries, from which the rows are made.
 abbrev pub OnceLaw : Type 0

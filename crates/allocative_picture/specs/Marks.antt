@@ -9,5 +9,5 @@ use Rattle.allocative_picture.specs.declared.rows.Marks.TheVariants.{Warned, Ear
 
 -- The mark of a path.
 abbrev pub mark_of : Marks → Path → Mark
-mark_of (Warned ws) p = warned_mark (map held.seen ws.now) p
+mark_of (Warned ws) p = warned_mark (map held.warning_of ws.now) p
 mark_of (Earlier g) p = changed_mark g.now p

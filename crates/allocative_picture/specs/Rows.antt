@@ -12,7 +12,7 @@ use Rattle.allocative_picture.specs.declared.row.Mark.TheVariants.{Plain, Change
 use Rattle.allocative_picture.specs.declared.row.Mark.TheVariants as mark
 
 -- A row whose key is a text, not a borrow.
-pub record Seen : Type 0 where
+pub record RowData : Type 0 where
   pub depth : ℕ
   pub key : Key
   pub own : ℕ
@@ -21,8 +21,8 @@ pub record Seen : Type 0 where
   pub mark : Mark
 
 -- What a `Row` of the code shows.
-abbrev pub seen : Row → Seen
-seen r = record { depth = r.depth; key = r.key.now; own = r.own; whole = r.whole; before = r.before; mark = r.mark }
+abbrev pub row_data : Row → RowData
+row_data r = record { depth = r.depth; key = r.key.now; own = r.own; whole = r.whole; before = r.before; mark = r.mark }
 
 -- The key that a picture shows for a path: the last one, and `all` for the root.
 abbrev pub shown_key : Path → Key
@@ -35,7 +35,7 @@ abbrev pub before_in : List (Path × ℕ) → Path → ℕ
 before_in rs p = sum_by (λ e. cond (is_lt (path_cmp e.0 p)) e.1 0) rs
 
 -- The row of an entry of g, where M gives the mark of each path.
-abbrev pub row_of : (Path → Mark) → Graph → Path × ℕ → Seen
+abbrev pub row_of : (Path → Mark) → Graph → Path × ℕ → RowData
 row_of M g e = record {
   depth = length e.0;
   key = shown_key e.0;
@@ -46,11 +46,11 @@ row_of M g e = record {
 }
 
 -- The rows of g: one for each path, in the order of paths.
-unfoldable pub rows_of : (Path → Mark) → Graph → List Seen
+unfoldable pub rows_of : (Path → Mark) → Graph → List RowData
 rows_of M g = map (row_of M g) (entries g)
 
 -- The row of a path with its figures, where `before` bytes come before it.
-abbrev pub row_from : (Path → Mark) → ℕ → Figures → Seen
+abbrev pub row_from : (Path → Mark) → ℕ → Figures → RowData
 row_from M before f = record {
   depth = length f.path;
   key = shown_key f.path;
@@ -61,7 +61,7 @@ row_from M before f = record {
 }
 
 -- The rows of some figures, where b bytes come before the first.
-abbrev pub rows_from : (Path → Mark) → ℕ → List Figures → List Seen
+abbrev pub rows_from : (Path → Mark) → ℕ → List Figures → List RowData
 rows_from M b [] = []
 rows_from M b (f ∷ fs) = row_from M b f ∷ rows_from M (b + f.self_size) fs
 

@@ -1,6 +1,6 @@
 //! The boxes of rows.
 ghost use Rattle.std.specs.Prelude.{◌≡◌, ◌+◌, ◌*◌, ◌^◌, ◌<◌, ◌≤◌, ◌++◌, ℕ, Some, OnOk, string_bytes};
-ghost use Rattle.allocative_picture.specs.Rows.{seen};
+ghost use Rattle.allocative_picture.specs.Rows.{row_data};
 ghost use Rattle.allocative_picture.specs.Boxes.{edge, left, width, is_drawn, figure_text, declared_text, title_text, frame, element};
 
 use crate::change::{Change, Comparison, Paint};
@@ -24,14 +24,14 @@ fn edge(all: u128, bytes: u128) -> u128
 
 /// The left edge of a row's box.
 fn left(all: u128, row: &Row<'_>) -> u128
-    ensures { result ≡ left all (seen row.now) }
+    ensures { result ≡ left all (row_data row.now) }
 {
     edge(all, row.before as u128)
 }
 
 /// The width of a row's box.
 fn width(all: u128, row: &Row<'_>) -> u128
-    ensures { result ≡ width all (seen row.now) }
+    ensures { result ≡ width all (row_data row.now) }
 {
     let right = edge(all, row.before as u128 + row.whole as u128);
     right.saturating_sub(left(all, row))
@@ -39,7 +39,7 @@ fn width(all: u128, row: &Row<'_>) -> u128
 
 /// Whether a row has a box: its width is neither 0 nor less than the least width.
 pub(crate) fn is_drawn(least: u32, all: u128, row: &Row<'_>) -> bool
-    ensures { result ≡ is_drawn least all (seen row.now) }
+    ensures { result ≡ is_drawn least all (row_data row.now) }
 {
     let width = width(all, row);
     width != 0 && width >= least as u128
@@ -54,7 +54,7 @@ struct Declared<'a> {
 
 #[tactic(auto, unfolding(crate::specs::Boxes::declared_text))]
 impl fmt::Display for Declared<'_> {
-    ghost output = { λ d. Some (declared_text d.share.0 (seen d.row)) };
+    ghost output = { λ d. Some (declared_text d.share.0 (row_data d.row)) };
 
     fn fmt<W: fmt::Write>(&self, f: &mut fmt::Formatter<W>) -> fmt::Result {
         let Row { own, whole, .. } = self.row;
@@ -76,7 +76,7 @@ struct Title<'a>(Declared<'a>);
 
 #[tactic(auto, unfolding(crate::specs::Boxes::title_text))]
 impl fmt::Display for Title<'_> {
-    ghost output = { λ t. Some (title_text t.0.share.0 t.0.row.mark (seen t.0.row)) };
+    ghost output = { λ t. Some (title_text t.0.share.0 t.0.row.mark (row_data t.0.row)) };
 
     fn fmt<W: fmt::Write>(&self, f: &mut fmt::Formatter<W>) -> fmt::Result {
         let declared = self.0;
@@ -100,7 +100,7 @@ struct Figure<'a>(Row<'a>);
 
 #[tactic(auto, unfolding(crate::specs::Boxes::figure_text))]
 impl fmt::Display for Figure<'_> {
-    ghost output = { λ g. Some (figure_text g.0.mark (seen g.0)) };
+    ghost output = { λ g. Some (figure_text g.0.mark (row_data g.0)) };
 
     fn fmt<W: fmt::Write>(&self, f: &mut fmt::Formatter<W>) -> fmt::Result {
         let whole = self.0.whole;
@@ -116,7 +116,7 @@ impl fmt::Display for Figure<'_> {
 
 /// Appends the beginning of a row's box.
 fn push_frame(all: u128, row: &Row<'_>, text: &mut String) -> Result<(), AllocError>
-    ensures { OnOk result (string_bytes text.new ≡ string_bytes text.old ++ frame all (seen row.now)) }
+    ensures { OnOk result (string_bytes text.new ≡ string_bytes text.old ++ frame all (row_data row.now)) }
 {
     let units = width(all, row);
     let (class, fit) = (Class(*row), fit(units, row.key.len()));
@@ -139,7 +139,7 @@ pub(crate) fn push_element(
     row: &Row<'_>,
     text: &mut String,
 ) -> Result<(), AllocError>
-    ensures { OnOk result (string_bytes text.new ≡ string_bytes text.old ++ element all (seen row.now)) }
+    ensures { OnOk result (string_bytes text.new ≡ string_bytes text.old ++ element all (row_data row.now)) }
 {
     push_frame(all, row, text)?;
     let key = escaped(alloc, row.key)?;

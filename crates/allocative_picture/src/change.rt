@@ -1,6 +1,6 @@
 //! How the bytes of a path changed.
 ghost use Rattle.std.specs.Prelude.{◌≡◌, ◌+◌, ◌-◌, ◌*◌, ◌^◌, ◌<◌, ◌≤◌, ℕ, Some};
-ghost use Rattle.allocative_picture.specs.Rows.{seen};
+ghost use Rattle.allocative_picture.specs.Rows.{row_data};
 ghost use Rattle.allocative_picture.specs.Boxes.{shade, paint_text, change_text, both_text};
 
 use crate::figures::Size;
@@ -64,7 +64,7 @@ impl fmt::Display for Comparison {
 
 #[tactic(auto, unfolding(crate::specs::Boxes::paint_text, crate::specs::Boxes::change_paint))]
 impl fmt::Display for Paint<'_> {
-    ghost output = { λ p. Some (paint_text (p.0).mark (seen p.0)) };
+    ghost output = { λ p. Some (paint_text (p.0).mark (row_data p.0)) };
 
     fn fmt<W: fmt::Write>(&self, f: &mut fmt::Formatter<W>) -> fmt::Result {
         let Mark::Changed { was } = self.0.mark else {

@@ -1,6 +1,6 @@
 //! The classes of boxes.
 ghost use Rattle.std.specs.Prelude.{◌≡◌, ◌+◌, ◌-◌, ◌*◌, ◌^◌, ◌<◌, ◌≤◌, ℕ, Some};
-ghost use Rattle.allocative_picture.specs.Rows.{seen};
+ghost use Rattle.allocative_picture.specs.Rows.{row_data};
 ghost use Rattle.allocative_picture.specs.Boxes.{class_text, change_class, fit_text};
 
 use crate::row::{Mark, Row};
@@ -13,7 +13,7 @@ pub(crate) struct Class<'a>(pub Row<'a>);
 
 #[tactic(auto, unfolding(crate::specs::Boxes::class_text, crate::specs::Boxes::key_class))]
 impl fmt::Display for Class<'_> {
-    ghost output = { λ c. Some (class_text (c.0).mark (seen c.0)) };
+    ghost output = { λ c. Some (class_text (c.0).mark (row_data c.0)) };
 
     fn fmt<W: fmt::Write>(&self, f: &mut fmt::Formatter<W>) -> fmt::Result {
         let Row {

@@ -1,7 +1,7 @@
 //! The parts of a picture around its boxes.
 ghost use Rattle.std.specs.Prelude.{◌≡◌, ◌++◌, ◌+◌, ◌*◌, ◌^◌, ◌<◌, ◌≤◌, Some, OnOk, string_bytes, map, flat_map};
 ghost use Rattle.allocative_collectors.specs.Warned as held;
-ghost use Rattle.allocative_picture.specs.Rows.{seen};
+ghost use Rattle.allocative_picture.specs.Rows.{row_data};
 ghost use Rattle.allocative_picture.specs.Boxes.{element};
 ghost use Rattle.allocative_picture.specs.Page.{all_of, legend_of, subject_text, levels, opening, heading, warning_line, warning_lines};
 
@@ -74,7 +74,7 @@ impl fmt::Display for Subject {
 /// The number of levels of boxes that the rows need.
 #[tactic(auto, unfolding(crate::specs::Page::levels))]
 pub(crate) fn levels(rows: &[Row<'_>]) -> u128
-    ensures levels { result ≡ levels (map seen rows.now) }
+    ensures levels { result ≡ levels (map row_data rows.now) }
     ensures bound { result ≤ 2 ^ 64 }
 {
     let mut levels = 0u128;
@@ -127,7 +127,7 @@ pub(crate) fn push_boxes(
     text: &mut String,
 ) -> Result<(), AllocError>
     ensures { OnOk result
-        (string_bytes text.new ≡ string_bytes text.old ++ flat_map (element all) (map seen rows.now)) }
+        (string_bytes text.new ≡ string_bytes text.old ++ flat_map (element all) (map row_data rows.now)) }
 {
     for row in rows {
         push_element(alloc, all, row, text)?;
@@ -142,7 +142,7 @@ fn push_warning(
     warned: &WarnedPath,
     text: &mut String,
 ) -> Result<(), AllocError>
-    ensures { OnOk result (string_bytes text.new ≡ string_bytes text.old ++ warning_line y (held.seen warned.now)) }
+    ensures { OnOk result (string_bytes text.new ≡ string_bytes text.old ++ warning_line y (held.warning_of warned.now)) }
 {
     let mut said = String::new(alloc);
     warned.push_warning(&mut said)?;
@@ -163,7 +163,7 @@ pub(crate) fn push_warnings(
 ) -> Result<(), AllocError>
     requires { top < 2 ^ 80 }
     ensures { OnOk result (string_bytes text.new ≡ string_bytes text.old
-        ++ warning_lines top (map held.seen warned.now)) }
+        ++ warning_lines top (map held.warning_of warned.now)) }
 {
     for (index, one) in warned.iter().enumerate() {
         push_warning(alloc, top + 16 * index as u128, one, text)?;

@@ -1,7 +1,7 @@
 //! The pictures of profiles and of changes.
 ghost use Rattle.std.specs.Prelude.{◌≡◌, ◌+◌, ◌^◌, ◌≤◌, ◌↔◌, IfOk, IfErr, IsErrOf, string_bytes, map};
 ghost use Rattle.allocative_graph.specs.Graph.{total};
-ghost use Rattle.allocative_picture.specs.Rows.{seen, rows_of};
+ghost use Rattle.allocative_picture.specs.Rows.{row_data, rows_of};
 ghost use Rattle.allocative_picture.specs.Marks.{mark_of};
 ghost use Rattle.allocative_picture.specs.Picture.{drawing, drawing_of, profile_drawing, change_drawing};
 
@@ -92,7 +92,7 @@ pub fn draw(
     rows: &[Row<'_>],
     options: &Options<'_>,
 ) -> Result<String, AllocError>
-    ensures { IfOk result (λ made. string_bytes made ≡ drawing subject options.now (map seen rows.now)) }
+    ensures { IfOk result (λ made. string_bytes made ≡ drawing subject options.now (map row_data rows.now)) }
 {
     let mut wide = Vec::new(alloc);
     for row in rows {
@@ -109,7 +109,7 @@ fn draw_wide(
     paths: usize,
     options: &Options<'_>,
 ) -> Result<String, AllocError>
-    ensures { IfOk result (λ made. string_bytes made ≡ drawing_of subject options.now (map seen rows.now) paths) }
+    ensures { IfOk result (λ made. string_bytes made ≡ drawing_of subject options.now (map row_data rows.now) paths) }
 {
     let bottom = 64 + 18 * levels(rows);
     let height = bottom + 8 + 16 * options.warned.len() as u128;

@@ -5,7 +5,7 @@ ghost use Rattle.allocative_graph.specs.Graph.{total, size_at};
 ghost use Rattle.allocative_graph.specs.Reads as reads;
 ghost use Rattle.allocative_graph.specs.Reads.{figures_behind};
 ghost use Rattle.allocative_collectors.specs.Warned as held;
-ghost use Rattle.allocative_picture.specs.Rows.{seen, shown_key, rows_from, row_from, is_warned};
+ghost use Rattle.allocative_picture.specs.Rows.{row_data, shown_key, rows_from, row_from, is_warned};
 ghost use Rattle.allocative_picture.specs.Boxes.{is_drawn};
 ghost use Rattle.allocative_picture.specs.Marks.{mark_of};
 
@@ -57,7 +57,7 @@ impl Marks<'_> {
 
 /// Whether a path is one of those that have a warning.
 fn is_warned(warned: &[WarnedPath], path: &[&str]) -> bool
-    ensures { result ≡ is_warned (map held.seen warned.now) (map (λ k. k.now) path.now) }
+    ensures { result ≡ is_warned (map held.warning_of warned.now) (map (λ k. k.now) path.now) }
 {
     warned.iter().any(|one| one.path.as_slice() == path)
 }
@@ -79,7 +79,7 @@ fn row_from(
     path: &[&'static str],
     graph: &FlameGraph,
 ) -> Row<'static>
-    ensures { seen result ≡ row_from (mark_of marks.now) before
+    ensures { row_data result ≡ row_from (mark_of marks.now) before
         (record { path = map (λ k. k.now) path.now; self_size = size_at graph.now []; total_size = total graph.now }) }
 {
     Row {
@@ -99,8 +99,8 @@ pub(crate) fn push_wide<'a>(
     row: Row<'a>,
     rows: &mut Vec<Row<'a>>,
 ) -> Result<(), AllocError>
-    ensures { OnOk result (map seen rows.new.items
-        ≡ map seen rows.old.items ++ filter (is_drawn least all) (seen row.entry ∷ [])) }
+    ensures { OnOk result (map row_data rows.new.items
+        ≡ map row_data rows.old.items ++ filter (is_drawn least all) (row_data row.entry ∷ [])) }
 {
     if is_drawn(least, all, &row) {
         rows.push(row)?;
@@ -123,8 +123,8 @@ pub(crate) fn push_rows(
     ensures before { OnOk result (before.new ≡ before.old + total graph.now) }
     ensures paths { OnOk result (paths.new ≡ paths.old + len graph.now) }
     ensures rows { OnOk result
-        (map seen rows.new.items
-        ≡ map seen rows.old.items
+        (map row_data rows.new.items
+        ≡ map row_data rows.old.items
         ++ filter (is_drawn shown.now.least shown.now.all)
         (rows_from (mark_of shown.now.marks) before.old (figures_behind (map (λ k. k.now) path.old.items) graph.now))) }
 {

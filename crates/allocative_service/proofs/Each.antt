@@ -22,11 +22,11 @@ abbrev pub changes_in : Graph → Graph → List read.Row → List Changed
 changes_in g h rs = flat_map (λ r. change_of g h (path_of r)) rs
 
 -- The changes of the rows of a sum are the changes of its paths.
-pub changes_read : (g h : Graph) (rs : List read.Row) → map reads.seen rs ≡ reads.figures (sum_of g h) → changes_in g h rs ≡ changes_of g h
+pub changes_read : (g h : Graph) (rs : List read.Row) → map reads.row_figures rs ≡ reads.figures (sum_of g h) → changes_in g h rs ≡ changes_of g h
 changes_read g h rs e =
     let of_figures : reads.Figures → List Changed = λ f. change_of g h f.path in
     let es = entries (sum_of g h) in
-    sym (flat_map-map of_figures reads.seen rs) ∙ ap (flat_map of_figures) e
+    sym (flat_map-map of_figures reads.row_figures rs) ∙ ap (flat_map of_figures) e
     ∙ flat_map-map of_figures (λ (e : Path × ℕ). record { path = e.0; self_size = e.1; total_size = total_at (sum_of g h) e.0 }) es
     ∙ sym (flat_map-map (change_of g h) (λ (e : Path × ℕ). e.0) es)
 

@@ -16,8 +16,8 @@ pub record Changed : Type 0 where
   pub later : ℕ
 
 -- What a `Change` of the code says.
-abbrev pub seen : Change → Changed
-seen c = record { path = map (λ k. k.now) c.path.items; earlier = c.earlier; later = c.later }
+abbrev pub change_data : Change → Changed
+change_data c = record { path = map (λ k. k.now) c.path.items; earlier = c.earlier; later = c.later }
 
 -- The path of a row of a graph.
 abbrev pub path_of : Row → Path

@@ -3,7 +3,7 @@ ghost use Rattle.std.specs.Prelude.{◌≡◌, ◌+◌, ◌^◌, ◌≤◌, ◌�
 ghost use Rattle.std.specs.Map.Iter.{deref_pair};
 ghost use Rattle.allocative.specs.Exact.{MayRefuseProfile};
 ghost use Rattle.allocative.specs.Graph.{total};
-ghost use Rattle.allocative_service.specs.Changes.{seen, changes_of};
+ghost use Rattle.allocative_service.specs.Changes.{change_data, changes_of};
 ghost use Rattle.allocative_service.specs.History.{profiles_of, most_of, two_of, Keeps, TakesProfile, GrewMostBetween};
 
 pub mod changes;
@@ -88,7 +88,7 @@ impl History {
         earlier: usize,
         later: usize,
     ) -> Result<Option<Vec<Change>>, Refusal>
-        ensures changes { IfOk result (λ found. option_map (λ changes. map seen changes.items) found
+        ensures changes { IfOk result (λ found. option_map (λ changes. map change_data changes.items) found
             ≡ option_map (λ pair. changes_of pair.0 pair.1) (two_of self.now earlier later)) }
         ensures too_large { IsErrOf result Refusal.TooLarge
             ↔ IsSomeAnd (two_of self.now earlier later) (λ pair. 2 ^ 64 ≤ total pair.0 + total pair.1) }
@@ -105,7 +105,7 @@ impl History {
     /// is None where there are fewer than two profiles. The errors are those of `between`.
     pub fn grew_most(&self, alloc: Global, count: usize) -> Result<Option<Vec<Change>>, Refusal>
         ensures grew { IfOk result (λ top. GrewMostBetween count (two_of self.now 1 0)
-            (option_map (λ changes. map seen changes.items) top)) }
+            (option_map (λ changes. map change_data changes.items) top)) }
         ensures too_large { IsErrOf result Refusal.TooLarge
             ↔ IsSomeAnd (two_of self.now 1 0) (λ pair. 2 ^ 64 ≤ total pair.0 + total pair.1) }
         ensures never_open { ¬ (IsErrOf result Refusal.Open) }

@@ -1,7 +1,7 @@
 //! Reading a flame graph: its children, the graph at a path, and the rows of all paths.
 ghost use Rattle.std.specs.Prelude.{◌≡◌, ◌++◌, [], IfOk, IfErr, IfSome, IfNone, OnOk, map};
 ghost use Rattle.allocative_graph.specs.Graph.{size_at, total_at, IsBehind, HasNothing};
-ghost use Rattle.allocative_graph.specs.Reads.{AllSmaller, seen, figures, figures_behind, node, AreChildren};
+ghost use Rattle.allocative_graph.specs.Reads.{AllSmaller, row_figures, figures, figures_behind, node, AreChildren};
 
 use crate::flamegraph::{Child, FlameGraph, place_by_halving};
 use crate::refusal::Refusal;
@@ -73,7 +73,7 @@ impl FlameGraph {
     ///
     /// It returns an error only when memory runs out.
     pub fn rows(&self) -> Result<Vec<Row>, Refusal>
-        ensures rows { IfOk result (λ rows. map seen rows.items ≡ figures self.now) }
+        ensures rows { IfOk result (λ rows. map row_figures rows.items ≡ figures self.now) }
         ensures memory { IfErr result (λ r. r ≡ Refusal.Memory) }
     {
         let alloc = *self.children.allocator();
@@ -87,8 +87,8 @@ impl FlameGraph {
     fn push_rows(&self, path: &mut Vec<&'static str>, rows: &mut Vec<Row>) -> Result<(), AllocError>
         ensures path { OnOk result (path.new.items ≡ path.old.items) }
         ensures rows { OnOk result
-            (map seen rows.new.items
-            ≡ map seen rows.old.items ++ figures_behind (map (λ k. k.now) path.old.items) self.now) }
+            (map row_figures rows.new.items
+            ≡ map row_figures rows.old.items ++ figures_behind (map (λ k. k.now) path.old.items) self.now) }
     {
         rows.push(Row {
             path: path.clone()?,

@@ -1,7 +1,7 @@
 //! The differences between two profiles, path by path.
 ghost use Rattle.std.specs.Prelude.{◌≡◌, ◌+◌, ◌-◌, ◌^◌, ◌≤◌, ◌↔◌, IfOk, IsErrOf, map};
 ghost use Rattle.allocative.specs.Graph.{total};
-ghost use Rattle.allocative_service.specs.Changes.{seen, is_kind, growth, changes_of, HasEach, GrewMost};
+ghost use Rattle.allocative_service.specs.Changes.{change_data, is_kind, growth, changes_of, HasEach, GrewMost};
 
 use allocative::{FlameGraph, Refusal, Row};
 use std::alloc::{AllocError, Global};
@@ -34,7 +34,7 @@ pub enum Kind {
 impl Change {
     /// Whether the change is of this kind.
     pub fn is(&self, kind: Kind) -> bool
-        ensures { result ≡ is_kind kind (seen self.now) }
+        ensures { result ≡ is_kind kind (change_data self.now) }
     {
         let Change { earlier, later, .. } = self;
         match kind {
@@ -47,7 +47,7 @@ impl Change {
 
     /// A copy of the change. The only error is that memory runs out.
     pub fn copy(&self) -> Result<Change, AllocError>
-        ensures { IfOk result (λ change. seen change ≡ seen self.now) }
+        ensures { IfOk result (λ change. change_data change ≡ change_data self.now) }
     {
         Ok(Change {
             path: self.path.clone()?,
@@ -58,7 +58,7 @@ impl Change {
 
     /// The number of bytes by which the path grew, which is 0 where it shrank.
     pub fn growth(&self) -> usize
-        ensures { result ≡ growth (seen self.now) }
+        ensures { result ≡ growth (change_data self.now) }
     {
         self.later.saturating_sub(self.earlier)
     }
@@ -74,8 +74,8 @@ pub fn compare(
     earlier: &FlameGraph,
     later: &FlameGraph,
 ) -> Result<Vec<Change>, Refusal>
-    ensures each { IfOk result (λ changes. HasEach earlier.now later.now (map seen changes.items)) }
-    ensures ordered { IfOk result (λ changes. map seen changes.items ≡ changes_of earlier.now later.now) }
+    ensures each { IfOk result (λ changes. HasEach earlier.now later.now (map change_data changes.items)) }
+    ensures ordered { IfOk result (λ changes. map change_data changes.items ≡ changes_of earlier.now later.now) }
     ensures too_large { IsErrOf result Refusal.TooLarge ↔ (2 ^ 64 ≤ total earlier.now + total later.now) }
     ensures never_open { ¬ (IsErrOf result Refusal.Open) }
 {
@@ -104,7 +104,7 @@ pub fn compare(
 /// The changes of the paths that grew most, up to a count, the greatest growth first. A path that had no bytes before
 /// counts as grown. The only error is that memory runs out.
 pub fn grew_most(alloc: Global, changes: &[Change], count: usize) -> Result<Vec<Change>, AllocError>
-    ensures { IfOk result (λ top. GrewMost count (map seen changes.now) (map seen top.items)) }
+    ensures { IfOk result (λ top. GrewMost count (map change_data changes.now) (map change_data top.items)) }
 {
     let mut grown = Vec::new(alloc);
     for change in changes {
@@ -114,7 +114,7 @@ pub fn grew_most(alloc: Global, changes: &[Change], count: usize) -> Result<Vec<
     }
     grown.sort_by_key(
         |change: &Change| -> usize
-            ensures { result ≡ 2 ^ 64 - 1 - growth (seen change.entry.now) }
+            ensures { result ≡ 2 ^ 64 - 1 - growth (change_data change.entry.now) }
         { usize::MAX - change.growth() },
     )?;
     grown.truncate(count);

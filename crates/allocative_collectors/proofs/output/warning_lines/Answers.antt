@@ -1,20 +1,20 @@
 -- One more line.
 use Rattle.std.proofs.Common.{◌≡◌, ℕ, ◌+◌, ◌<◌, List, [], ◌∷◌, ◌++◌, map, take, length, get_or, append_assoc, ap, sym, ◌∙◌, arith, string_bytes, append-nil}
-use Rattle.allocative_collectors.proofs.Common.{newline, warning_text, WarnedPath, seen, warning_lines}
+use Rattle.allocative_collectors.proofs.Common.{newline, warning_text, WarnedPath, warning_of, warning_lines}
 use Rattle.std.proofs.lemmas.List.{take_more, map-append}
 use Rattle.std.proofs.lemmas.Grind.{flat_map-append}
 use Rattle.allocative_collectors.proofs.output.warning_lines.Goals as goal
 
-lines-more : (ws : List WarnedPath) (i : ℕ) (w : WarnedPath) (before after : List ℕ) → i < length ws → w ≡ get_or ws i w → before ≡ warning_lines (map seen (take i ws)) → after ≡ (before ++ warning_text (seen w)) ++ newline ∷ [] → after ≡ warning_lines (map seen (take (i + 1) ws))
+lines-more : (ws : List WarnedPath) (i : ℕ) (w : WarnedPath) (before after : List ℕ) → i < length ws → w ≡ get_or ws i w → before ≡ warning_lines (map warning_of (take i ws)) → after ≡ (before ++ warning_text (warning_of w)) ++ newline ∷ [] → after ≡ warning_lines (map warning_of (take (i + 1) ws))
 lines-more ws i w before after h read was is =
-    let xs = map seen (take i ws) in
-    let line = warning_text (seen w) ++ newline ∷ [] in
-    let taken : map seen (take (i + 1) ws) ≡ xs ++ seen w ∷ [] =
-    ap (map seen) (take_more ws i w h) ∙ map-append seen (take i ws) (get_or ws i w ∷ []) ∙ ap (λ (x : WarnedPath). xs ++ seen x ∷ []) (sym read) in
+    let xs = map warning_of (take i ws) in
+    let line = warning_text (warning_of w) ++ newline ∷ [] in
+    let taken : map warning_of (take (i + 1) ws) ≡ xs ++ warning_of w ∷ [] =
+    ap (map warning_of) (take_more ws i w h) ∙ map-append warning_of (take i ws) (get_or ws i w ∷ []) ∙ ap (λ (x : WarnedPath). xs ++ warning_of x ∷ []) (sym read) in
     is
-    ∙ append_assoc before (warning_text (seen w)) (newline ∷ [])
+    ∙ append_assoc before (warning_text (warning_of w)) (newline ∷ [])
     ∙ (λ j. was j ++ sym (append-nil line) j)
-    ∙ sym (flat_map-append (λ v. warning_text v ++ newline ∷ []) xs (seen w ∷ []))
+    ∙ sym (flat_map-append (λ v. warning_text v ++ newline ∷ []) xs (warning_of w ∷ []))
     ∙ ap warning_lines (sym taken)
 
 pub loop-one-preserved : goal.loop-one-preserved

@@ -1,5 +1,5 @@
 use Rattle.std.proofs.Common.{◌≡◌, length, map}
-use Rattle.allocative_graph.proofs.Common.{AreStacks, seen}
+use Rattle.allocative_graph.proofs.Common.{AreStacks, line_stack}
 use Rattle.allocative_graph.proofs.NodeText.{texts}
 use Rattle.allocative_graph.proofs.read.read_lines.Given as goal
 
@@ -7,5 +7,5 @@ use Rattle.allocative_graph.proofs.read.read_lines.Given as goal
 abbrev pub invariant-loop-line : goal.invariant-loop-line
 invariant-loop-line l = record {
   number : l.number ≡ length l.yielded;
-  came : AreStacks (texts l.yielded) (map seen l.lines.items);
+  came : AreStacks (texts l.yielded) (map line_stack l.lines.items);
 }

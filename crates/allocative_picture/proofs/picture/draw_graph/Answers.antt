@@ -1,5 +1,5 @@
 use Rattle.std.proofs.Common.{◌≡◌, ◌++◌, map, ap, ◌∙◌, filter, arith}
-use Rattle.allocative_picture.proofs.Common.{figures_behind, is_drawn, len, mark_of, rows_from, seen}
+use Rattle.allocative_picture.proofs.Common.{figures_behind, is_drawn, len, mark_of, rows_from, row_data}
 use Rattle.allocative_graph.proofs.NodeText.{texts}
 use Rattle.allocative_picture.specs.Page.{all_of}
 use Rattle.allocative_picture.proofs.Placing.{rows_from-figures}
@@ -12,7 +12,7 @@ returns c =
     let g = c.args.graph.now in
     let least = c.args.options.now.narrowest in
     let paths : c.push_rows.new.paths ≡ len g = omega (arith, c.in_ok-push_rows.ensures.paths) in
-    let rows = ap (map seen) c.as_slice.ensures.value ∙ c.in_ok-push_rows.ensures.rows
-    ∙ (λ i. map seen (c.new-wide.ensures.items i) ++ filter (is_drawn least (c.all.ensures i)) (rows_from M 0 (figures_behind (texts (c.new-path.ensures.items i)) g)))
+    let rows = ap (map row_data) c.as_slice.ensures.value ∙ c.in_ok-push_rows.ensures.rows
+    ∙ (λ i. map row_data (c.new-wide.ensures.items i) ++ filter (is_drawn least (c.all.ensures i)) (rows_from M 0 (figures_behind (texts (c.new-path.ensures.items i)) g)))
     ∙ ap (filter (is_drawn least (all_of c.args.subject))) (rows_from-figures M g) in
     rw (← rows, length-rows_of M g, ← paths) c.draw_wide.ensures

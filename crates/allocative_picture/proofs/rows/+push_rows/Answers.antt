@@ -1,5 +1,5 @@
 use Rattle.std.proofs.Common.{rules, ◌≡◌, refl, ℕ, ◌+◌, ◌<◌, ◌++◌, [], ◌∷◌, List, Bor, map, arith, ap, sym, subst, append_assoc, ◌∙◌, filter, length, take_all}
-use Rattle.allocative_picture.proofs.Common.{is_drawn, len, Child, total, total_at, weight, Seen, seen, rows_from, row_from, mark_of}
+use Rattle.allocative_picture.proofs.Common.{is_drawn, len, Child, total, total_at, weight, RowData, row_data, rows_from, row_from, mark_of}
 use Rattle.std.proofs.lemmas.List.{map-append}
 use Rattle.std.proofs.lemmas.List.Elements.{filter-append}
 use Rattle.allocative_graph.proofs.NodeAdded.{rows_of_node}
@@ -39,7 +39,7 @@ loop-child-preserved t c =
     let ks = texts c.args.path.now.items in
     let b = c.args.before.now + c.self_size.result in
     let wide = is_drawn c.args.shown.now.least c.args.shown.now.all in
-    let start = map seen c.push_wide.new.rows.items in
+    let start = map row_data c.push_wide.new.rows.items in
     let pushed : c.push.new.self.items ≡ c.args.path.now.items ++ c.as_str.result ∷ [] = rw (c.in_ok-push.ensures.items, c.loop-child.invariant.path) refl in
     let behind_it : texts c.push.new.self.items ≡ ks ++ d.key ∷ [] = rw (pushed, map-append, c.as_str.ensures) refl in
     let came = child_rows M b n g cs c.children-children.ensures.whole ks c.children-children.ensures.children.sorted i d (omega arith) c.child-item.is in
@@ -70,13 +70,13 @@ returns-clause-rows t c =
     let wide = is_drawn c.args.shown.now.least c.args.shown.now.all in
     let ks = texts c.args.path.now.items in
     let b = c.args.before.now in
-    let start = map seen c.args.rows.now.items in
-    let root : Seen = row_from M b (record { path = ks; self_size = n; total_size = total g }) in
+    let start = map row_data c.args.rows.now.items in
+    let root : RowData = row_from M b (record { path = ks; self_size = n; total_size = total g }) in
     let whole = node_rows M b n g cs c.children-children.ensures.whole ks c.children-children.ensures.children.sorted in
-    let below : List Seen = rows_from M (b + n) (figured (total_at g) ks (rows_of cs)) in
-    let row : seen c.row_from-row.result ≡ root = c.row_from-row.ensures ∙ ap (λ (p : List (Bor (List ℕ))). row_from M b (record { path = texts p; self_size = n; total_size = total g })) c.as_slice.ensures.value in
+    let below : List RowData = rows_from M (b + n) (figured (total_at g) ks (rows_of cs)) in
+    let row : row_data c.row_from-row.result ≡ root = c.row_from-row.ensures ∙ ap (λ (p : List (Bor (List ℕ))). row_from M b (record { path = texts p; self_size = n; total_size = total g })) c.as_slice.ensures.value in
     c.loop-child.invariant.rows
-    ∙ (λ j. map seen c.push_wide.new.rows.items ++ filter wide (rows_from M (b + c.self_size.ensures j) (figured (total_at g) ks (rows_of (take_all c.loop-child.child-index cs (omega arith) j)))))
-    ∙ ap (λ (rs : List Seen). rs ++ filter wide below) (c.in_ok-push_wide.ensures ∙ ap (λ (r : Seen). start ++ filter wide (r ∷ [])) row)
+    ∙ (λ j. map row_data c.push_wide.new.rows.items ++ filter wide (rows_from M (b + c.self_size.ensures j) (figured (total_at g) ks (rows_of (take_all c.loop-child.child-index cs (omega arith) j)))))
+    ∙ ap (λ (rs : List RowData). rs ++ filter wide below) (c.in_ok-push_wide.ensures ∙ ap (λ (r : RowData). start ++ filter wide (r ∷ [])) row)
     ∙ append_assoc start (filter wide (root ∷ [])) (filter wide below)
-    ∙ ap (λ (rs : List Seen). start ++ rs) (sym (filter-append wide (root ∷ []) below) ∙ ap (filter wide) whole)
+    ∙ ap (λ (rs : List RowData). start ++ rs) (sym (filter-append wide (root ∷ []) below) ∙ ap (filter wide) whole)

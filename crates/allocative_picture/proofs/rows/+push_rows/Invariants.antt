@@ -1,5 +1,5 @@
 use Rattle.std.proofs.Common.{◌≡◌, ◌+◌, ◌++◌, map, take, length, filter}
-use Rattle.allocative_picture.proofs.Common.{len, total_at, weight, seen, rows_from, is_drawn, mark_of}
+use Rattle.allocative_picture.proofs.Common.{len, total_at, weight, row_data, rows_from, is_drawn, mark_of}
 use Rattle.allocative_graph.specs.Reads.{rows_of}
 use Rattle.allocative_graph.proofs.ReadRows.{figured}
 use Rattle.allocative_picture.proofs.rows.+push_rows.Given as goal
@@ -13,6 +13,6 @@ invariant-loop-child l = record {
   path : l.path.items ≡ l.initial.path.items;
   before : l.before ≡ l.initial.before + weight (take l.child-index l.children);
   paths : l.paths ≡ l.initial.paths + length (rows_of (take l.child-index l.children));
-  rows : map seen l.rows.items ≡ map seen l.initial.rows.items
+  rows : map row_data l.rows.items ≡ map row_data l.initial.rows.items
       ++ filter (is_drawn l.shown.least l.shown.all) (rows_from (mark_of l.shown.marks) l.initial.before (figured (total_at l.graph) (map (λ k. k.now) l.initial.path.items) (rows_of (take l.child-index l.children))));
 }

@@ -1,6 +1,6 @@
 -- The pieces of the text, one after another.
 use Rattle.std.proofs.Common.{◌≡◌, ℕ, List, ◌++◌, append_assoc, ap, ◌∙◌, rules, string_bytes, decimal, codes}
-use Rattle.allocative_collectors.proofs.Common.{seen}
+use Rattle.allocative_collectors.proofs.Common.{warning_of}
 use Rattle.allocative_graph.specs.Graph.{joined}
 use Rattle.allocative_collectors.proofs.output.WarnedPath.push_warning.Goals as goal
 
@@ -9,7 +9,7 @@ pieces start a j b m c n = simp append_assoc
 
 pub returns : goal.returns
 returns c =
-    let w = seen c.args.self.now in
+    let w = warning_of c.args.self.now in
     let start = string_bytes c.args.text.now in
     let first = codes "Incorrect size declaration for node `" in
     let last = codes "`, size of self: " ++ (decimal w.self_size ++ (codes ", size of inline children: " ++ decimal w.children_size)) in

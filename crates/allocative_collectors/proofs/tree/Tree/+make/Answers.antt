@@ -1,6 +1,6 @@
 -- A node's own size and warning, and then the graph of each child with the paths that have a warning.
 use Rattle.std.proofs.Common.{◌≡◌, ◌-◌, ◌+◌, ◌<◌, ℕ, Bool, cond, List, [], ◌∷◌, ◌++◌, map, length, get_or, Bor, Vec, Global, arith, sym, ap, ◌∙◌, refl, Err, IfErr, ◌^◌, ◌≤◌, add-one}
-use Rattle.allocative_collectors.proofs.Common.{Key, under, sum_of, default, add_self, WarnedPath, shape, path_at, keys_at, key_at, children_at, key_in, map_of, entered, size_at_place, seen, Refusal, Memory}
+use Rattle.allocative_collectors.proofs.Common.{Key, under, sum_of, default, add_self, WarnedPath, shape, path_at, keys_at, key_at, children_at, key_in, map_of, entered, size_at_place, warning_of, Refusal, Memory}
 use Rattle.std.proofs.lemmas.List.{length-map, map-append}
 use Rattle.allocative_graph.specs.Graph.{total}
 use Rattle.allocative_collectors.specs.declared.tree.Node.{Node}
@@ -37,17 +37,17 @@ pub loop-child-init : goal.loop-child-init
 loop-child-init t c =
     let v = c.args.self.now in
     let i = c.args.at in
-    let start = map seen c.args.warned.now.items in
+    let start = map warning_of c.args.warned.now.items in
     let figures = figures_read c.self.inside.nodes.items c.self.invariant v c.self.view_is i c.requires.within c.index-node.result.now c.index-node.ensures in
     let is : c.add_self.new.self ≡ add_self (size_at_place v i) default = c.in_ok-add_self.ensures.sum ∙ (λ j. add_self (c.size.ensures j) (c.in_ok-graph.ensures j)) in
-    let found : map seen c.if-is_short.warned.items ≡ start ++ warned_at v i = elim c.if-is_short.branch [
+    let found : map warning_of c.if-is_short.warned.items ≡ start ++ warned_at v i = elim c.if-is_short.branch [
       | then-is_short+in_ok-push_warned w ↦
           (let keys : texts w.as_slice.result.now ≡ path_at v i = ap texts w.as_slice.ensures.value ∙ c.requires.keys in
-          ap (λ (x : Vec WarnedPath Global). map seen x.items) w.warned-is
+          ap (λ (x : Vec WarnedPath Global). map warning_of x.items) w.warned-is
           ∙ (w.in_ok-push_warned.ensures
           ∙ ((λ j. start ++ record { path = keys j; self_size = sym figures.0 j; children_size = sym figures.2 j } ∷ [])
           ∙ ap (λ (b : Bool). start ++ cond b (own_warning v i) []) w.if-is_short.ensures)))
-      | else-is_short w ↦ ap (λ (x : Vec WarnedPath Global). map seen x.items) w.warned-is ∙ none_warned v i start w.if-is_short.ensures
+      | else-is_short w ↦ ap (λ (x : Vec WarnedPath Global). map warning_of x.items) w.warned-is ∙ none_warned v i start w.if-is_short.ensures
     ] in
     record { keys = refl; made = part_start v (listing_of c.self.inside.nodes.items c.self.invariant c.self.view_is) i c.requires.within (keys_at (map shape c.self.inside.nodes.items) i) _ _ _ is found }
 

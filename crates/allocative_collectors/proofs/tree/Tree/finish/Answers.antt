@@ -1,6 +1,6 @@
 -- The walk from the root has all paths.
 use Rattle.std.proofs.Common.{arith, ◌≡◌, ◌<◌, ◌^◌, ℕ, true, List, ◌++◌, map, Bor, sym, ap, subst, ◌∙◌, flat_map, Bool, false, not, ◌&&◌, cond, [], ◌∷◌, refl, nat_lt, append-nil}
-use Rattle.allocative_collectors.proofs.Common.{get, Path, Graph, graph, map_of, seen, warning_lines, entries, newline, Sums, below, is_root, warning_text, Listed}
+use Rattle.allocative_collectors.proofs.Common.{get, Path, Graph, graph, map_of, warning_of, warning_lines, entries, newline, Sums, below, is_root, warning_text, Listed}
 use Rattle.std.specs.FinMap.{same_map}
 use Rattle.allocative_graph.specs.Graph.{total, warned, warning, warning_line, warnings, warned_paths}
 use Rattle.allocative_graph.proofs.Basics.{path_total, path_antisymmetric}
@@ -50,8 +50,8 @@ returns-clause-made c =
     let v = c.args.self.now in
     let root = (listing_of c.self.inside.nodes.items c.self.invariant c.self.view_is).root_path in
     let made = c.in_ok-graph.ensures.made in
-    let found : map seen c.make.new.warned.items ≡ warned_paths (map_of v) =
-    made.warned_are ∙ ((λ j. map seen (c.new-warned.ensures.items j) ++ flat_map (warned (map_of v)) (rows_behind v (root j) (λ q. true))) ∙ warned_walk v) in (
+    let found : map warning_of c.make.new.warned.items ≡ warned_paths (map_of v) =
+    made.warned_are ∙ ((λ j. map warning_of (c.new-warned.ensures.items j) ++ flat_map (warned (map_of v)) (rows_behind v (root j) (λ q. true))) ∙ warned_walk v) in (
       c.in_ok-new.ensures.graph ∙ same_map path_total path_antisymmetric c.in_ok-graph.graph (graph (map_of v)) (λ q. made.graph_is q ∙ ap (λ (p : Path). get (graph (map_of v)) (p ++ q)) root),
       c.in_ok-new.ensures.warnings ∙ (ap warning_lines found ∙ lines-warned_paths (map_of v)),
       c.in_ok-new.ensures.warned ∙ found,

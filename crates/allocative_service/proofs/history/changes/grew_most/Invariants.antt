@@ -1,11 +1,11 @@
 use Rattle.std.proofs.Common.{◌≡◌, map, take, filter, All}
-use Rattle.allocative_service.proofs.Common.{seen, is_grown}
+use Rattle.allocative_service.proofs.Common.{change_data, is_grown}
 use Rattle.allocative_service.proofs.Most.{IsWord}
 use Rattle.allocative_service.proofs.history.changes.grew_most.Given as goal
 
 -- The list has the changes so far that grew, and the growth of each fits a word.
 abbrev pub invariant-loop-change : goal.invariant-loop-change
 invariant-loop-change l = record {
-  grown : map seen l.grown.items ≡ filter is_grown (map seen (take l.change-index l.changes));
+  grown : map change_data l.grown.items ≡ filter is_grown (map change_data (take l.change-index l.changes));
   words : All IsWord l.grown.items;
 }
