@@ -1,5 +1,5 @@
 -- Lemmas for the helpers of slices, and for the parts of buffers and tables.
-use Rattle.std.proofs.Common.{codes, if◌then◌else◌, Bool, true, false, length, List, Option, None, Some, ◌≡◌, ℕ, ◌+◌, ◌-◌, ◌*◌, ◌<◌, ◌^◌, Result, inl, inr, subst, arith}
+use Rattle.std.proofs.Common.{codes, if◌then◌else◌, Bool, true, false, length, List, Option, None, Some, ◌≡◌, ℕ, ◌+◌, ◌-◌, ◌*◌, ◌<◌, ◌^◌, Result, inl, inr, ◌∙◌, ap, arith}
 use Rattle.allocative.proofs.Common.{checked, Refusal, Key, Forest, Kind, Showing, Nothing, Both, Inside, InsideUnique, Field, IsField, sized, each_shows, slice_shows, are_shown_each, bytes_shown, without_size, without_room, with_room, buffer_shows, table_shows, IsDeclared, CanTake, Visitor, Entered, Means}
 use Rattle.std.proofs.lemmas.Bool.{false≢true}
 use Rattle.std.proofs.lemmas.Bool.Decides.{nat_tests}
@@ -7,8 +7,8 @@ use Rattle.allocative_described.specs.RawTable.{IsRawTableSize}
 use Rattle.allocative_described.proofs.Buckets.{raw_table_size_same}
 use Rattle.allocative.specs.Bodies.{buffer_entry, is_text, text_shows}
 use Rattle.allocative.proofs.Exact.{declared_nothing, declared_entry, entry_fits, rightly_as}
-use Rattle.allocative.proofs.Showing.{shows_weaker}
-use Rattle.allocative.proofs.Meaning.{entered_as}
+use Rattle.allocative.proofs.Visits.{shows_weaker}
+use Rattle.allocative.proofs.Meaning.{entered_as, means_either}
 
 -- ---- slices
 field_of_product : (k : Key) (p : Showing) (m : ℕ) (b : Bool) (f : Forest) → IsField k p (if b then Some m else None) f → Inside k m p f
@@ -61,50 +61,43 @@ each_declared name (Some s) needs_drop p xs e d = rw (e, slice_shows) at d
 pub entered_one_by_one : {T : Type 0} {x : Bool} (name : Key) (size : Option ℕ) (needs_drop : Bool) (p : T → Showing) (xs : List T) {a b : Visitor} {r : Result (Unit {0}) Refusal} →
     are_shown_each needs_drop size ≡ true → Entered x (each_shows p xs) a b r → Entered x (slice_shows name size needs_drop p xs) a b r
 entered_one_by_one name size needs_drop p xs e s =
-    entered_as s (record { means = each_slice name size needs_drop p xs e; declared = λ i d. each_declared name size needs_drop p xs e d })
+    entered_as s (record { means = each_slice name size needs_drop p xs e; declared = λ i. each_declared name size needs_drop p xs e })
 
 -- ---- buffers
 pub means_without_size : {x : Bool} {p : Showing} {n c s : ℕ} {size : Option ℕ} → size ≡ Some s → s ≡ 0 → Means x Nothing (buffer_shows size p n c)
-means_without_size e z = rw (e, z) (record { means = λ f h. without_size h; declared = λ i d. declared_nothing })
+means_without_size e z = record { means = λ f h. without_size (e ∙ ap Some z) h; declared = λ i d. declared_nothing }
 
 pub means_without_room : {x : Bool} {p : Showing} {n c s : ℕ} {size : Option ℕ} → size ≡ Some s → n ≡ 0 → c ≡ 0 → Means x Nothing (buffer_shows size p n c)
-means_without_room e z y = rw e (record { means = λ f h. without_room z y h; declared = λ i d. declared_nothing })
+means_without_room e z y = record { means = λ f h. without_room e z y h; declared = λ i d. declared_nothing }
 
 -- Where there is room, a buffer is declared only as its entry.
-room_declared : {p : Showing} {n c s : ℕ} → 0 < s → 0 < n + c → IsDeclared (buffer_shows (Some s) p n c) → IsDeclared (buffer_entry (Some s) p (c - n))
-room_declared h l (f, without_size e, d) = absurd (omega (arith, h))
-room_declared h l (f, without_room y z e, d) = absurd (omega (arith, l, y, z))
-room_declared h l (f, with_room y z x, d) = (f, x, d)
+in_room : {size : Option ℕ} {p : Showing} {n c s : ℕ} → size ≡ Some s → 0 < s → 0 < n + c → (f : Forest) → buffer_shows size p n c f → buffer_entry size p (c - n) f
+in_room {s = s} is h l f (without_size i e) = let z : s ≡ 0 = cc in absurd (omega (arith, h, z))
+in_room is h l f (without_room i y z e) = absurd (omega (arith, l, y, z))
+in_room is h l f (with_room i y z x) = x
 
 pub means_with_room : {x : Bool} {p : Showing} {n c s u : ℕ} {size : Option ℕ} → size ≡ Some s → 0 < s → 0 < n + c → u ≡ c - n → Means x (buffer_entry size p u) (buffer_shows size p n c)
-means_with_room e z y i = rw (e, i) (record { means = λ f g. with_room z y g; declared = λ j d. room_declared z y d })
+means_with_room e z y i = rw i (means_either (λ f x. with_room e z y x) (in_room e z y))
 
 -- Items without a size have no buffer.
 pub no_buffer : {p : Showing} {n c : ℕ} {size : Option ℕ} → size ≡ None → IsDeclared (buffer_shows size p n c) → ⊥
-no_buffer {p} {n} {c} e d = in_none (subst (λ (y : Option ℕ). IsDeclared (buffer_shows y p n c)) e d)
-  where
-    in_none : IsDeclared (buffer_shows None p n c) → ⊥
-    in_none (f, x, s) = elim x [ ]
+no_buffer e (f, without_size i z, s) = cc
+no_buffer e (f, without_room i y z w, s) = cc
+no_buffer e (f, with_room i y z x, s) = cc
 
 -- ---- texts
 pub means_text : {x : Bool} {n l m c u : ℕ} → n ≡ l → m ≡ c → u ≡ c - l →
     Means x (InsideUnique (codes "ptr") 8 (Inside (codes "capacity") m (Both (Inside (codes "u8") n Nothing) (Inside (codes "unused_capacity") u Nothing)))) (text_shows l c)
-means_text i j k = rw (i, j, k) (record { means = λ f x. is_text x; declared = λ h d. text_declared d })
-  where
-    text_declared : {l c : ℕ} → IsDeclared (text_shows l c) →
-        IsDeclared (InsideUnique (codes "ptr") 8 (Inside (codes "capacity") c (Both (Inside (codes "u8") l Nothing) (Inside (codes "unused_capacity") (c - l) Nothing))))
-    text_declared (f, is_text x, s) = (f, x, s)
+means_text i j k = rw (i, j, k) (means_either (λ f x. is_text x) (λ f x. elim x [ is_text y ↦ y ]))
 
 -- ---- tables
 pub means_no_table : {x : Bool} {n : ℕ} → n ≡ 0 → Means x Nothing (table_shows n)
 means_no_table e = record { means = λ f h. inl (e, h); declared = λ i d. declared_nothing }
 
 -- The table of some items is declared only with its one size.
-table_declared : {n : ℕ} {bytes : Option ℕ} → 0 < n → IsRawTableSize (Some 8) n bytes → IsDeclared (table_shows n) → IsDeclared (InsideUnique (codes "raw_table") 8 (Field (codes "alloc") bytes Nothing))
-table_declared h is (f, inl (none, x), s) = absurd (omega (arith, h, none))
-table_declared {n} {bytes} h is (f, inr (some, (b, of, x)), s) =
-    let e : b ≡ bytes = raw_table_size_same (Some 8) n b bytes of is in
-    (f, subst (λ (y : Option ℕ). InsideUnique (codes "raw_table") 8 (Field (codes "alloc") y Nothing) f) e x, s)
+in_table : {n : ℕ} {bytes : Option ℕ} → 0 < n → IsRawTableSize (Some 8) n bytes → (f : Forest) → table_shows n f → InsideUnique (codes "raw_table") 8 (Field (codes "alloc") bytes Nothing) f
+in_table h is f (inl (none, x)) = absurd (omega (arith, h, none))
+in_table {n} {bytes} h is f (inr (some, (b, of, x))) = rw (raw_table_size_same (Some 8) n b bytes of is) at x
 
 pub means_some_table : {x : Bool} {n : ℕ} {bytes : Option ℕ} → 0 < n → IsRawTableSize (Some 8) n bytes → Means x (InsideUnique (codes "raw_table") 8 (Field (codes "alloc") bytes Nothing)) (table_shows n)
-means_some_table {bytes = bytes} h is = record { means = λ f x. inr (h, (bytes, is, x)); declared = λ i d. table_declared h is d }
+means_some_table {bytes = bytes} h is = means_either (λ f x. inr (h, (bytes, is, x))) (in_table h is)

@@ -2,7 +2,7 @@
 use Rattle.std.proofs.Common.{◌≡◌, ℕ, suc, Bool, true, false, Result, Ok, refl, ap, subst, arith}
 use Rattle.allocative.proofs.Common.{Refusal, Key, Identity, Live, State, Showing, Both, Shows, forgotten, EntersShared, enters_first, Visitor, with_state, Visited, Entered}
 use Rattle.allocative.proofs.Exact.{inexact}
-use Rattle.allocative.proofs.Showing.{shows_both}
+use Rattle.allocative.proofs.Visits.{shows_both}
 
 -- What the collector was shown, the visit shows.
 pub shown_by_hand : {p : Showing} {a : Visitor} {s t : State} {r : Result (Unit {0}) Refusal} → s ≡ a.collector.now → Shows p s r t → Visited false p a (with_state a t) r

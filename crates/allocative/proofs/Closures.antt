@@ -1,21 +1,12 @@
 -- What a caller of `visit_field_with` learns from the closure's outcome.
-use Rattle.std.proofs.Common.{◌≡◌, ℕ, Bool, Result, Ok, Err, MutBor, IsErr, false, subst, refl, sym, ap}
+use Rattle.std.proofs.Common.{◌≡◌, ℕ, Bool, Result, Ok, Err, MutBor, false, subst, refl}
 use Rattle.allocative.proofs.Common.{Refusal, Key, Forest, held, ShowsNoContent, State, Going, OfHeld, nothing_held, left, Showing, Inside, Shows, Enters, Leaves, Settles, Visitor, called, refused_inside, IsHeldSum}
 use Rattle.std.specs.Fn.{Once}
-use Rattle.std.proofs.lemmas.Bool.{false≢true}
 use Rattle.allocative.specs.Closures.{CallShows, CallsInside, not_called, CalledAtRoot, AnswersSum, after_told}
-use Rattle.allocative.proofs.Showing.{left_by, inline_shows, entry_err, not_entered, shows_refused_err}
+use Rattle.allocative.proofs.Visits.{left_by, inline_shows, entry_err, not_entered, shows_refused_err}
 use Rattle.allocative.proofs.Steps.{leaves_by_left}
+pub use Rattle.allocative.proofs.Within.{err_or, same_err}
 use Rattle.allocative.proofs.Roots.{run_shows, held_by_run}
-
-abbrev pub err_or : {T : Type 0} → Refusal → Result T Refusal → Refusal
-err_or e (Ok u) = e
-err_or e (Err x) = x
-
--- A result that is some Err is that Err.
-pub same_err : {T : Type 0} {e : Refusal} (r : Result T Refusal) → IsErr r → e ≡ err_or e r → r ≡ Err e
-same_err (Ok u) h i = absurd (false≢true h)
-same_err (Err x) h i = ap Err (sym i)
 
 -- what is answered once the visitor is left
 pub sum_answered : (o : Bool) (c : State) (n : ℕ) {t : State} {q : Result (Unit {0}) Refusal} → Leaves o c t → Settles t q → q ≡ Ok tt → IsHeldSum t n → AnswersSum (left o c) (Ok n)

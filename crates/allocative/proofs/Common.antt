@@ -17,14 +17,14 @@ pub use Rattle.allocative_graph.specs.declared.refusal.Refusal.TheVariants.{Memo
 pub use Rattle.serde_json.specs.declared.value.Value.{out-Value, the_lemmas}
 pub use Rattle.serde_json.specs.declared.value.Value.TheOpen.{Value-F}
 pub use Rattle.slab.specs.Slab.{values}
-pub use Rattle.allocative.specs.Bodies.{IsBuffer, are_shown_each, buffer_shows, bytes_shown, table_shows, with_room, without_room, without_size}
+pub use Rattle.allocative.specs.Bodies.{are_shown_each, buffer_shows, bytes_shown, table_shows, with_room, without_room, without_size}
 pub use Rattle.allocative.specs.Built.{as_graph}
 pub use Rattle.allocative.specs.Closures.{called, refused_inside}
 pub use Rattle.allocative.specs.Exact.{CanTake, HasRoomFor, IsDeclared, MayRefuse, MayRefuseProfile, RefusesRightly, RunsRightly, ShowsContents, all_bytes, has_added, has_refused}
 pub use Rattle.allocative.specs.JsonShows.{stored_string}
 pub use Rattle.allocative.specs.Kinds.{state_of}
 pub use Rattle.allocative.specs.Levels.{levels_shown}
-pub use Rattle.allocative.specs.Making.{Done, EntersFirst, Entry, KeepsCause, Makes, MakesOrGives, MakesPlan, Plan, entry_refused, first_refused, gives, inside_refused, made, made_none, makes, one}
+pub use Rattle.allocative.specs.Making.{Done, Entry, Makes, MakesPlan, Plan, entry_refused, gives, inside_refused, made, made_none, makes, one}
 pub use Rattle.allocative.specs.Nested.{EndsWith, EndsWithout, IsRefusedSized, LendsCollector, LendsNestedSized, NestsSized, with_state}
 pub use Rattle.allocative.specs.Runs.{CountsRun, deref_entry, field_of, pair_shows}
 pub use Rattle.allocative.specs.Shared.{AnswersShared, told, turned}

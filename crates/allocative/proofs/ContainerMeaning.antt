@@ -1,35 +1,31 @@
 -- How the showing of a container follows from its parts.
-use Rattle.std.proofs.Common.{codes, ◌≡◌, ℕ, Bool, true, false, List, ◌++◌, Option, None, Some, refl, subst}
-use Rattle.allocative.proofs.Common.{Key, Forest, Showing, Nothing, Both, InsideUnique, each_shows, slice_shows, IsBuffer, without_size, without_room, with_room, buffer_shows, bytes_shown, table_shows, IsDeclared, Means}
+use Rattle.std.proofs.Common.{codes, ◌≡◌, ℕ, ◌-◌, Bool, true, false, List, ◌++◌, Option, None, Some, refl, subst}
+use Rattle.allocative.proofs.Common.{Key, Forest, Showing, Nothing, Both, InsideUnique, each_shows, slice_shows, without_size, without_room, with_room, buffer_shows, bytes_shown, table_shows, IsDeclared, Means}
 use Rattle.std.proofs.lemmas.Bool.{false≢true}
 use Rattle.smallvec.specs.SmallVec.{SmallVec, IsSpilled}
 use Rattle.allocative_graph.specs.Shows.{is_shown_each}
-use Rattle.allocative.specs.Bodies.{cut_shows, is_cut, data_shows}
-use Rattle.allocative.specs.PackShows.{once_inside, is_not_set, is_set, small_vec_inside, lies_inline, is_spilled, index_data_shows, IsIndexData, is_index_data}
-use Rattle.allocative.proofs.Exact.{declared_first, declared_second, declared_both, declared_inside, declared_entry, declared_nothing, each_append, declared_append}
-use Rattle.allocative.proofs.Meaning.{means_same}
+use Rattle.allocative.specs.Bodies.{buffer_entry, cut_shows, is_cut, data_shows}
+use Rattle.allocative.specs.PackShows.{once_inside, is_not_set, is_set, small_vec_inside, lies_inline, is_spilled, index_data_shows, is_index_data}
+use Rattle.allocative.proofs.Exact.{declared_both, declared_entry, declared_nothing, each_append, declared_append}
+use Rattle.allocative.proofs.Meaning.{means_same, means_both, means_unique, means_then, means_either}
 
 -- ---- buffers
-in_buffer : {x : Bool} {p q : Showing} (y : Option ℕ) (n c : ℕ) → Means x p q → (f : Forest) → IsBuffer p n c y f → IsBuffer q n c y f
-in_buffer y n c m f (without_size e) = without_size e
-in_buffer y n c m f (without_room z r e) = without_room z r e
-in_buffer y n c m f (with_room some room (g, (h, k, shown, unused, i), e)) = with_room some room (g, (h, k, m.means h shown, unused, i), e)
+-- An entry with p and something else inside it means one with q and the other, where p means q.
+in_entry : {x : Bool} (k : Key) {p q r : Showing} → Means x p q → Means x (InsideUnique k 8 (Both p r)) (InsideUnique k 8 (Both q r))
+in_entry k m = means_unique refl (means_both m means_same)
 
--- An entry with p and something else inside it is declared where p and the other are.
-entry_declared : (k : Key) (n : ℕ) {p q r : Showing} → (IsDeclared q → IsDeclared p) → IsDeclared (InsideUnique k n (Both q r)) → IsDeclared (InsideUnique k n (Both p r))
-entry_declared k n up d =
-    let both = declared_inside true k n d in
-    declared_entry true k n (declared_both (up (declared_first both)) (declared_second both))
+in_buffer : {p q : Showing} {y : Option ℕ} {n c : ℕ} → ((f : Forest) → buffer_entry y p (c - n) f → buffer_entry y q (c - n) f) → (f : Forest) → buffer_shows y p n c f → buffer_shows y q n c f
+in_buffer up f (without_size i e) = without_size i e
+in_buffer up f (without_room i z r e) = without_room i z r e
+in_buffer up f (with_room i some room x) = with_room i some room (up f x)
 
-buffer_declared : {p q : Showing} (y : Option ℕ) (n c : ℕ) → (IsDeclared q → IsDeclared p) → IsDeclared (buffer_shows y q n c) → IsDeclared (buffer_shows y p n c)
-buffer_declared y n c up (f, without_size e, s) = (f, without_size e, s)
-buffer_declared y n c up (f, without_room z r e, s) = (f, without_room z r e, s)
-buffer_declared y n c up (f, with_room some room x, s) =
-    let d = entry_declared (codes "ptr") 8 up (f, x, s) in
-    (d.0, with_room some room d.1, d.2)
+buffer_declared : {p q : Showing} {y : Option ℕ} {n c : ℕ} → (IsDeclared (buffer_entry y q (c - n)) → IsDeclared (buffer_entry y p (c - n))) → IsDeclared (buffer_shows y q n c) → IsDeclared (buffer_shows y p n c)
+buffer_declared up (f, without_size i e, s) = (f, without_size i e, s)
+buffer_declared up (f, without_room i z r e, s) = (f, without_room i z r e, s)
+buffer_declared up (f, with_room i some room x, s) = let d = up (f, x, s) in (d.0, with_room i some room d.1, d.2)
 
 pub means_buffer : {x : Bool} {y z : Option ℕ} {n l c d : ℕ} {p q : Showing} → y ≡ z → n ≡ l → c ≡ d → Means x p q → Means x (buffer_shows y p n c) (buffer_shows z q l d)
-means_buffer {z = z} {l = l} {d = d} e i j m = rw (e, i, j) (record { means = λ f x. in_buffer z l d m f x; declared = λ h y. buffer_declared z l d (m.declared h) y })
+means_buffer e i j m = let w = in_entry (codes "ptr") m in rw (e, i, j) (record { means = in_buffer w.means; declared = λ h. buffer_declared (w.declared h) })
 
 -- The slices of a list that was cut in two are those of the list.
 pub means_cut : {T : Type 0} {x : Bool} {name : Key} {size : Option ℕ} {needs_drop : Bool} {p : T → Showing} {xs ys : List T} → xs ≡ ys → Means x (cut_shows name size needs_drop p xs) (cut_shows name size needs_drop p ys)
@@ -54,44 +50,25 @@ means_both_cut {name = name} {size = size} {needs_drop = needs_drop} {p = p} xs 
     rw (← e) (record { means = λ f h. is_cut xs ys refl h; declared = λ i d. cut_declared name size needs_drop p xs ys d })
 
 -- ---- containers in order of insertion
-in_index_data : {x : Bool} {p q : Showing} (y : Option ℕ) (u : ℕ) → Means x p q → (f : Forest) → IsIndexData y p u f → IsIndexData y q u f
-in_index_data y u m f (is_index_data (g, (h, k, shown, unused, i), e)) = is_index_data (g, (h, k, m.means h shown, unused, i), e)
-
-index_declared : {p q : Showing} (y : Option ℕ) (u : ℕ) → (IsDeclared q → IsDeclared p) → IsDeclared (index_data_shows y q u) → IsDeclared (index_data_shows y p u)
-index_declared y u up (f, is_index_data x, s) =
-    let d = entry_declared (codes "data") 8 up (f, x, s) in
-    (d.0, is_index_data d.1, d.2)
-
-pub means_index_data : {x : Bool} {y z : Option ℕ} {u w : ℕ} {p q : Showing} → y ≡ z → u ≡ w → Means x p q → Means x (index_data_shows y p u) (index_data_shows z q w)
-means_index_data {z = z} {w = w} e i m = rw (e, i) (record { means = λ f x. in_index_data z w m f x; declared = λ h y. index_declared z w (m.declared h) y })
-
 -- The data of a container is its entry.
 pub means_data_entry : {x : Bool} {size : Option ℕ} {p : Showing} {u : ℕ} → Means x (InsideUnique (codes "data") 8 (Both p (bytes_shown (codes "unused_capacity") size u))) (index_data_shows size p u)
-means_data_entry = record { means = λ f h. is_index_data h; declared = λ i d. of_data d }
-  where
-    of_data : {size : Option ℕ} {p : Showing} {u : ℕ} → IsDeclared (index_data_shows size p u) → IsDeclared (InsideUnique (codes "data") 8 (Both p (bytes_shown (codes "unused_capacity") size u)))
-    of_data (f, is_index_data x, s) = (f, x, s)
+means_data_entry = means_either (λ f x. is_index_data x) (λ f x. elim x [ is_index_data y ↦ y ])
+
+pub means_index_data : {x : Bool} {y z : Option ℕ} {u w : ℕ} {p q : Showing} → y ≡ z → u ≡ w → Means x p q → Means x (index_data_shows y p u) (index_data_shows z q w)
+means_index_data e i m =
+    rw (e, i) (means_then (means_either (λ f x. elim x [ is_index_data y ↦ y ]) (λ f x. is_index_data x)) (means_then (in_entry (codes "data") m) means_data_entry))
 
 pub means_table : {x : Bool} {n l : ℕ} → n ≡ l → Means x (table_shows n) (table_shows l)
 means_table e = rw e means_same
 
 -- ---- small vectors and cells that are set once
-spilled_declared : {T : Type 0} {n : ℕ} {y : Option ℕ} {p : T → Showing} {v : SmallVec T} {q : Showing} → IsSpilled n v → (IsDeclared (data_shows y p v.items) → IsDeclared q) → IsDeclared (small_vec_inside n y p v) →
-    IsDeclared (InsideUnique (codes "ptr") 8 q)
-spilled_declared is up (f, lies_inline not x, s) = absurd (not is)
-spilled_declared is up (f, is_spilled _ x, s) = declared_entry true (codes "ptr") 8 (up (declared_inside true (codes "ptr") 8 (f, x, s)))
-
 pub means_spilled : {T : Type 0} {x : Bool} {n : ℕ} {y : Option ℕ} {p : T → Showing} {v : SmallVec T} {k : Key} {q : Showing} → IsSpilled n v → k ≡ codes "ptr" → Means x q (data_shows y p v.items) →
     Means x (InsideUnique k 8 q) (small_vec_inside n y p v)
-means_spilled is e m = rw e (record { means = λ f x. is_spilled is (x.0, m.means x.0 x.1, x.2); declared = λ h d. spilled_declared is (m.declared h) d })
-
-inline_declared : {T : Type 0} {n : ℕ} {y : Option ℕ} {p : T → Showing} {v : SmallVec T} {q : Showing} → ¬ IsSpilled n v → (IsDeclared (data_shows y p v.items) → IsDeclared q) → IsDeclared (small_vec_inside n y p v) → IsDeclared q
-inline_declared is up (f, lies_inline not x, s) = up (f, x, s)
-inline_declared is up (f, is_spilled so x, s) = absurd (is so)
+means_spilled is e m = means_then (means_unique e m) (means_either (λ f x. is_spilled is x) (λ f x. elim x [ lies_inline not y ↦ absurd (not is) | is_spilled so y ↦ y ]))
 
 pub means_inline : {T : Type 0} {x : Bool} {n : ℕ} {y : Option ℕ} {p : T → Showing} {v : SmallVec T} {q : Showing} → ¬ IsSpilled n v → Means x q (data_shows y p v.items) →
     Means x q (small_vec_inside n y p v)
-means_inline is m = record { means = λ f x. lies_inline is (m.means f x); declared = λ h d. inline_declared is (m.declared h) d }
+means_inline is m = means_then m (means_either (λ f x. lies_inline is x) (λ f x. elim x [ lies_inline not y ↦ y | is_spilled so y ↦ absurd (is so) ]))
 
 -- A contract does not see whether the cell is set, so its visits are not exact.
 pub means_not_set : {T : Type 0} {p : T → Showing} → Means false Nothing (once_inside p)

@@ -1,7 +1,7 @@
 -- How visits that refuse only where they must compose: one after another, inside an entry, and as a shared content.
-use Rattle.std.proofs.Common.{◌≡◌, ℕ, ◌+◌, ◌<◌, ◌^◌, Bool, true, false, IsTrue, cond, List, [], ◌∷◌, ◌++◌, flat_map, Option, Some, None, inl, inr, Result, Ok, Err, refl, sym, ◌∙◌, ap, subst, arith}
-use Rattle.allocative.proofs.Common.{Refusal, Memory, TooLarge, Key, Identity, Forest, Empty, First, Again, followed_by, entry_of, add_all, held, Live, Kind, OfGraph, OfHeld, State, Failed, Going, plus, enter, enter_first, Takes, is_graph, is_in_unique, leave, left, failed_with, Showing, Nothing, Both, InsideAs, Inside, sized, Field, SharedWith, each_shows, HasFailed, Enters, stays_failed, is_refused, is_entered, EntersSized, stays_unsized, is_unsized, is_sized, EntersShared, stays_shared, is_refused_shared, goes_past, enters_first, enters_again, all_bytes, HasRoomFor, ShowsContents, IsDeclared, CanTake, MayRefuse, RefusesRightly, has_added, has_refused}
-use Rattle.std.proofs.lemmas.Bool.{false≢true}
+use Rattle.std.proofs.Common.{◌≡◌, ℕ, ◌+◌, ◌<◌, ◌^◌, Bool, true, false, ◌&&◌, IsTrue, cond, List, [], ◌∷◌, ◌++◌, flat_map, Option, Some, None, inl, inr, Result, Ok, Err, refl, sym, ◌∙◌, ap, subst, arith}
+use Rattle.allocative.proofs.Common.{Refusal, Memory, TooLarge, Key, Identity, Forest, Empty, First, Again, followed_by, entry_of, add_all, held, Live, Kind, OfGraph, OfHeld, State, Failed, Going, plus, enter, enter_first, Takes, is_graph, is_in_unique, leave, left, failed_with, Showing, Nothing, Both, InsideAs, Inside, InsideUnique, sized, Field, SharedWith, each_shows, HasFailed, Enters, stays_failed, is_refused, is_entered, EntersSized, stays_unsized, is_unsized, is_sized, EntersShared, stays_shared, is_refused_shared, goes_past, enters_first, enters_again, all_bytes, HasRoomFor, ShowsContents, IsDeclared, CanTake, MayRefuse, RefusesRightly, has_added, has_refused}
+use Rattle.std.proofs.lemmas.Bool.{false≢true, and_parts}
 use Rattle.std.proofs.lemmas.Grind.{flat_map-append}
 use Rattle.allocative_graph.specs.declared.refusal.Refusal.TheVariants.{Open}
 use Rattle.allocative_graph.specs.Path.{Path}
@@ -11,6 +11,7 @@ use Rattle.allocative_graph.specs.Held.{inline_bytes}
 use Rattle.allocative_graph.specs.Collector.{added, plus_live}
 use Rattle.allocative_graph.specs.Visits.{HasRoom, Refuses}
 use Rattle.allocative_graph.proofs.Below.{entered-add}
+use Rattle.allocative_graph.proofs.Following.{own-following, contents-following}
 use Rattle.allocative_graph.proofs.Plus.{plus-nothing, plus-following, takes_nothing, takes_both, inside_entry, takes_entry, inside_first, takes_shared, held_again, is_graph-plus, is_graph-enter}
 use Rattle.allocative.specs.Exact.{FitsWords, had_failed}
 
@@ -32,25 +33,19 @@ contents-append f g = ap bag_bytes (flat_map-append (λ c. c.1) (contents f) (co
 
 bytes_of_all : (p : Path) (f : Forest) → bag_bytes (own_behind p f) + bag_bytes (content_entries f) ≡ all_bytes f
 bytes_of_all p Empty = refl
-bytes_of_all p (Inline k n inside after) =
-    let q = p ++ k ∷ [] in
-    omega (arith, bag-append (own_behind q inside) (own_behind p after), contents-append inside after, bytes_of_all q inside, bytes_of_all p after)
-bytes_of_all p (Unique k n inside after) =
-    let q = p ++ k ∷ [] in
-    omega (arith, bag-append (own_behind q inside) (own_behind p after), contents-append inside after, bytes_of_all q inside, bytes_of_all p after)
-bytes_of_all p (First k n i inside after) =
-    omega (arith, bag-append (own_behind [] inside) (flat_map (λ c. c.1) (contents inside ++ contents after)), contents-append inside after, bytes_of_all [] inside, bytes_of_all p after)
+bytes_of_all p (Inline k n inside after) = omega (arith, bag-append, contents-append inside after, bytes_of_all (p ++ k ∷ []) inside, bytes_of_all p after)
+bytes_of_all p (Unique k n inside after) = omega (arith, bag-append, contents-append inside after, bytes_of_all (p ++ k ∷ []) inside, bytes_of_all p after)
+bytes_of_all p (First k n i inside after) = omega (arith, bag-append, contents-append inside after, bytes_of_all [] inside, bytes_of_all p after)
 bytes_of_all p (Again k n i after) = omega (arith, bytes_of_all p after)
 
 pub entered-plus : (c : Live) (f : Forest) → entered (plus_live c f).sums ≡ entered c.sums + all_bytes f
 entered-plus c f = entered-add_all c.sums (added c.here f) ∙ ap (λ n. entered c.sums + n) (bag-append (own_behind c.here f) (content_entries f) ∙ bytes_of_all c.here f)
 
 all_bytes-following : (f g : Forest) → all_bytes (followed_by f g) ≡ all_bytes f + all_bytes g
-all_bytes-following Empty g = omega arith
-all_bytes-following (Inline k n f after) g = omega (arith, all_bytes-following after g)
-all_bytes-following (Unique k n f after) g = omega (arith, all_bytes-following after g)
-all_bytes-following (First k n i f after) g = omega (arith, all_bytes-following after g)
-all_bytes-following (Again k n i after) g = omega (arith, all_bytes-following after g)
+all_bytes-following f g =
+    let own = ap bag_bytes (own-following [] f g) ∙ bag-append (own_behind [] f) (own_behind [] g) in
+    let shared = ap (λ cs. bag_bytes (flat_map (λ c. c.1) cs)) (contents-following f g) ∙ contents-append f g in
+    omega (arith, own, shared, bytes_of_all [] (followed_by f g), bytes_of_all [] f, bytes_of_all [] g)
 
 -- ---- room
 words_both : (o : ℕ) (f g : Forest) → FitsWords o (followed_by f g) → FitsWords o f × FitsWords o g
@@ -65,32 +60,25 @@ sum_in (OfGraph c) = 0
 sum_in (OfHeld h) = h.sum
 
 -- What is added first has room, and what comes after it has room then.
-pub room_first : (b : Kind) (f g : Forest) → HasRoomFor b (followed_by f g) → HasRoomFor b f
-room_first (OfGraph c) f g h = omega (arith, h, all_bytes-following f g)
-room_first (OfHeld d) f g h = let e = ap sum_in (plus-following (OfHeld d) f g) in let l = h.0 in (omega (arith, e, l), (words_both d.open_visitors f g h.1).0)
-
-pub room_second : (b : Kind) (f g : Forest) → HasRoomFor b (followed_by f g) → HasRoomFor (plus b f) g
-room_second (OfGraph c) f g h = omega (arith, h, all_bytes-following f g, entered-plus c f)
-room_second (OfHeld d) f g h = (subst (λ (n : ℕ). n < 2 ^ 64) (ap sum_in (plus-following (OfHeld d) f g)) h.0, (words_both d.open_visitors f g h.1).1)
+room_apart : (b : Kind) (f g : Forest) → HasRoomFor b (followed_by f g) → HasRoomFor b f × HasRoomFor (plus b f) g
+room_apart (OfGraph c) f g h = (omega (arith, h, all_bytes-following f g), omega (arith, h, all_bytes-following f g, entered-plus c f))
+room_apart (OfHeld d) f g (h, l) =
+    let h' : sum_in (plus (plus (OfHeld d) f) g) < 2 ^ 64 = subst (λ (n : ℕ). n < 2 ^ 64) (ap sum_in (plus-following (OfHeld d) f g)) h in
+    let w = words_both d.open_visitors f g l in
+    ((omega (arith, h'), w.0), (h', w.1))
 
 inline_room : (u : Bool) (m s n x : ℕ) → s + ((x + 0) + cond u (n + 0) 0) < m → s + cond u n 0 < m
 inline_room true m s n x h = omega (arith, h)
 inline_room false m s n x h = omega (arith, h)
 
-pub room_entry : (u : Bool) (k : Key) (n : ℕ) (b : Kind) (f : Forest) → HasRoomFor b (entry_of u k n f) → HasRoom u n b
-room_entry true k n (OfGraph c) f h = omega (arith, h)
-room_entry false k n (OfGraph c) f h = omega (arith, h)
-room_entry true k n (OfHeld d) f h = (inline_room d.is_in_unique _ d.sum 0 (inline_bytes f + held f) h.0, h.1.1)
-room_entry false k n (OfHeld d) f h = (inline_room d.is_in_unique _ d.sum n (held f) h.0, h.1.1)
-
-pub room_inside : (u : Bool) (k : Key) (n : ℕ) (b : Kind) (f : Forest) → HasRoomFor b (entry_of u k n f) → HasRoomFor (enter u k n b) f
-room_inside true k n (OfGraph c) f h = omega (arith, h, entered-plus c (Unique k n Empty Empty))
-room_inside false k n (OfGraph c) f h = omega (arith, h, entered-plus c (Inline k n Empty Empty))
-room_inside true k n (OfHeld d) f h = (subst (λ (m : ℕ). m < 2 ^ 64) (sym (ap sum_in (inside_entry true k n (OfHeld d) f))) h.0, h.1.2)
-room_inside false k n (OfHeld d) f h = (subst (λ (m : ℕ). m < 2 ^ 64) (sym (ap sum_in (inside_entry false k n (OfHeld d) f))) h.0, h.1.2)
-
-room_content : (k : Key) (n : ℕ) (i : Identity) (c : Live) (f : Forest) → HasRoomFor (OfGraph c) (First k n i f Empty) → HasRoomFor (OfGraph (enter_first k n i c)) f
-room_content k n i c f h = omega (arith, h, entered-plus c (First k n i Empty Empty))
+-- An entry has room, and so has then what is inside it.
+room_within : (u : Bool) (k : Key) (n : ℕ) (b : Kind) (f : Forest) → HasRoomFor b (entry_of u k n f) → HasRoom u n b × HasRoomFor (enter u k n b) f
+room_within true k n (OfGraph c) f h = (omega (arith, h), omega (arith, h, entered-plus c (Unique k n Empty Empty)))
+room_within false k n (OfGraph c) f h = (omega (arith, h), omega (arith, h, entered-plus c (Inline k n Empty Empty)))
+room_within true k n (OfHeld d) f (h, l) =
+    ((inline_room d.is_in_unique _ d.sum 0 (inline_bytes f + held f) h, l.1), (subst (λ (m : ℕ). m < 2 ^ 64) (sym (ap sum_in (inside_entry true k n (OfHeld d) f))) h, l.2))
+room_within false k n (OfHeld d) f (h, l) =
+    ((inline_room d.is_in_unique _ d.sum n (held f) h, l.1), (subst (λ (m : ℕ). m < 2 ^ 64) (sym (ap sum_in (inside_entry false k n (OfHeld d) f))) h, l.2))
 
 -- ---- contents
 contents_apart : (f g : Forest) → ShowsContents (followed_by f g) → ShowsContents f × ShowsContents g
@@ -107,14 +95,6 @@ contents_both (Unique k n f after) g h l = (h.0, contents_both after g h.1 l)
 contents_both (First k n i f after) g h l = (h.0, contents_both after g h.1 l)
 contents_both (Again k n i after) g h l = absurd h
 
-contents_entry : (u : Bool) (k : Key) (n : ℕ) (f : Forest) → ShowsContents f → ShowsContents (entry_of u k n f)
-contents_entry true k n f h = (h, tt)
-contents_entry false k n f h = (h, tt)
-
-contents_inside : (u : Bool) (k : Key) (n : ℕ) (f : Forest) → ShowsContents (entry_of u k n f) → ShowsContents f
-contents_inside true k n f h = h.0
-contents_inside false k n f h = h.0
-
 -- ---- what is declared
 pub declared_nothing : IsDeclared Nothing
 declared_nothing = (Empty, refl, tt)
@@ -129,10 +109,12 @@ pub declared_both : {p q : Showing} → IsDeclared p → IsDeclared q → IsDecl
 declared_both (f, x, s) (g, y, t) = (followed_by f g, (f, g, x, y, refl), contents_both f g s t)
 
 pub declared_inside : (u : Bool) (k : Key) (n : ℕ) {p : Showing} → IsDeclared (InsideAs u k n p) → IsDeclared p
-declared_inside u k n (f, (g, x, e), s) = (g, x, contents_inside u k n g (subst ShowsContents e s))
+declared_inside true k n (f, (g, x, e), s) = (g, x, (subst ShowsContents e s).0)
+declared_inside false k n (f, (g, x, e), s) = (g, x, (subst ShowsContents e s).0)
 
 pub declared_entry : (u : Bool) (k : Key) (n : ℕ) {p : Showing} → IsDeclared p → IsDeclared (InsideAs u k n p)
-declared_entry u k n (f, x, s) = (entry_of u k n f, (f, x, refl), contents_entry u k n f s)
+declared_entry true k n (f, x, s) = (entry_of true k n f, (f, x, refl), (s, tt))
+declared_entry false k n (f, x, s) = (entry_of false k n f, (f, x, refl), (s, tt))
 
 pub declared_content : (k : Key) (n : ℕ) (i : Identity) {p : Showing} → IsDeclared (SharedWith k n i p) → IsDeclared p
 declared_content k n i (f, inl (g, x, e), s) = (g, x, (subst ShowsContents e s).0)
@@ -145,21 +127,21 @@ declared_shared k n i (g, x, s) = (First k n i g Empty, inl (g, x, refl), (s, tt
 pub can_first : {p q : Showing} (b : Kind) → CanTake b (Both p q) → CanTake b p
 can_first b (d, room) =
     let r = declared_second d in
-    (declared_first d, λ f x. room_first b f r.0 (room (followed_by f r.0) (f, r.0, x, r.1, refl)))
+    (declared_first d, λ f x. (room_apart b f r.0 (room (followed_by f r.0) (f, r.0, x, r.1, refl))).0)
 
 pub can_second : {p q : Showing} (b : Kind) (f : Forest) → p f → CanTake b (Both p q) → CanTake (plus b f) q
-can_second b f x (d, room) = (declared_second d, λ g y. room_second b f g (room (followed_by f g) (f, g, x, y, refl)))
+can_second b f x (d, room) = (declared_second d, λ g y. (room_apart b f g (room (followed_by f g) (f, g, x, y, refl))).1)
 
 can_inside : {p : Showing} (u : Bool) (k : Key) (n : ℕ) (b : Kind) → CanTake b (InsideAs u k n p) → CanTake (enter u k n b) p
-can_inside u k n b (d, room) = (declared_inside u k n d, λ f x. room_inside u k n b f (room (entry_of u k n f) (f, x, refl)))
+can_inside u k n b (d, room) = (declared_inside u k n d, λ f x. (room_within u k n b f (room (entry_of u k n f) (f, x, refl))).1)
 
 can_entry : {p : Showing} (u : Bool) (k : Key) (n : ℕ) (b : Kind) → CanTake b (InsideAs u k n p) → HasRoom u n b
 can_entry u k n b (d, room) =
     let r = declared_inside u k n d in
-    room_entry u k n b r.0 (room (entry_of u k n r.0) (r.0, r.1, refl))
+    (room_within u k n b r.0 (room (entry_of u k n r.0) (r.0, r.1, refl))).0
 
 can_content : {p : Showing} (k : Key) (n : ℕ) (i : Identity) (c : Live) → CanTake (OfGraph c) (SharedWith k n i p) → CanTake (OfGraph (enter_first k n i c)) p
-can_content k n i c (d, room) = (declared_content k n i d, λ f x. room_content k n i c f (room (First k n i f Empty) (inl (f, x, refl))))
+can_content k n i c (d, room) = (declared_content k n i d, λ f x. let h = room (First k n i f Empty) (inl (f, x, refl)) in omega (arith, h, entered-plus c (First k n i Empty Empty)))
 
 can_pointer : {p : Showing} (k : Key) (n : ℕ) (i : Identity) (c : Live) → CanTake (OfGraph c) (SharedWith k n i p) → entered c.sums + n < 2 ^ 63
 can_pointer k n i c (d, room) = let h = room (Again k n i Empty) (inr refl) in omega (arith, h)
@@ -237,6 +219,31 @@ rightly_not_sized stays_unsized = had_failed
 rightly_not_sized {p} {k} (is_unsized {b = b} i) = has_refused (subst (MayRefuse (Field k None p) b) (sym i) (λ w. not_declared w.0))
 rightly_not_sized (is_sized g) = rightly_weaker (λ f x. sized x) in_sized (rightly_not_within g)
 
+pub rightly_inside : {p : Showing} {k : Key} {n : ℕ} {o : Bool} {s t c d : State} {r : Result Unit Refusal} →
+    Enters false k n s (Ok o) t → RefusesRightly p t r c → d ≡ left o c → RefusesRightly (Inside k n p) s r d
+rightly_inside = rightly_within
+
+pub rightly_unique : {p : Showing} {k : Key} {n : ℕ} {o : Bool} {s t c d : State} {r : Result Unit Refusal} →
+    Enters true k n s (Ok o) t → RefusesRightly p t r c → d ≡ left o c → RefusesRightly (InsideUnique k n p) s r d
+rightly_unique = rightly_within
+
+pub rightly_field : {p : Showing} {k : Key} {size : Option ℕ} {o : Bool} {s t c d : State} {r : Result Unit Refusal} →
+    EntersSized k size s (Ok o) t → RefusesRightly p t r c → d ≡ left o c → RefusesRightly (Field k size p) s r d
+rightly_field (is_sized g) h e = rightly_weaker (λ f x. sized x) in_sized (rightly_within g h e)
+
+pub rightly_not_inside : {p : Showing} {k : Key} {n : ℕ} {s t : State} {e : Refusal} → Enters false k n s (Err e) t → RefusesRightly (Inside k n p) s (Err e) t
+rightly_not_inside = rightly_not_within
+
+pub rightly_not_unique : {p : Showing} {k : Key} {n : ℕ} {s t : State} {e : Refusal} → Enters true k n s (Err e) t → RefusesRightly (InsideUnique k n p) s (Err e) t
+rightly_not_unique = rightly_not_within
+
+-- Where both have to be exact.
+pub first_exact : (d e : Bool) → IsTrue (d && e) → IsTrue d
+first_exact d e h = (and_parts d e h).0
+
+pub second_exact : (d e : Bool) → IsTrue (d && e) → IsTrue e
+second_exact d e h = (and_parts d e h).1
+
 -- ---- items one after another
 pub followed_by-empty : (f : Forest) → followed_by f Empty ≡ f
 followed_by-empty Empty = refl
@@ -279,9 +286,10 @@ rightly_content {p} {k} {n} {i} o g is h l = inner (rw is at g) h l
         let w' : MayRefuse p (OfGraph (enter_first k n i b)) r = subst (λ (z : Live). MayRefuse p (OfGraph z) r) e w in
         rw m (has_refused (may_refuse (OfGraph (enter_first k n i b)) (OfGraph b) (can_content k n i b) refl r w'))
 
-pub rightly_again : {p : Showing} {k : Key} {n : ℕ} {i : Identity} {s t : State} {x : Unit} → EntersShared k n i s (Ok false) t → RefusesRightly (SharedWith k n i p) s (Ok x) t
-rightly_again {k = k} {n = n} {i = i} (goes_past {h = h}) = has_added (Again k n i Empty) (inr refl) tt (sym (held_again k n i h))
-rightly_again {k = k} {n = n} {i = i} (enters_again {c = c} r h e) = has_added (Again k n i Empty) (inr refl) (h, tt) (ap OfGraph e)
+pub rightly_again : {p : Showing} {k : Key} {n : ℕ} {i : Identity} {is_first : Bool} {s t : State} {x : Unit} → EntersShared k n i s (Ok is_first) t → is_first ≡ false → RefusesRightly (SharedWith k n i p) s (Ok x) t
+rightly_again {k = k} {n = n} {i = i} (goes_past {h = h}) is = has_added (Again k n i Empty) (inr refl) tt (sym (held_again k n i h))
+rightly_again {k = k} {n = n} {i = i} (enters_again {c = c} r h e) is = has_added (Again k n i Empty) (inr refl) (h, tt) (ap OfGraph e)
+rightly_again (enters_first r h e) is = absurd (false≢true (sym is))
 
 pub rightly_not_shared : {p : Showing} {k : Key} {n : ℕ} {i : Identity} {s t : State} {e : Refusal} → EntersShared k n i s (Err e) t → RefusesRightly (SharedWith k n i p) s (Err e) t
 rightly_not_shared stays_shared = had_failed

@@ -1,6 +1,6 @@
 -- What a level shows of values of any number of levels is what a value of any number of levels shows.
 use Rattle.std.proofs.Common.{◌≡◌, ℕ, Bool, true, false, codes, zero, suc, ◌+◌, ◌-◌, List, [], ◌∷◌, Option, None, Some, refl, arith}
-use Rattle.allocative.proofs.Common.{Key, Forest, Showing, IsField, sized, each_shows, InsideAs, Both, IsBuffer, bytes_shown, without_size, without_room, with_room, in_any_order, IsDeclared, ShowsContents, Means, levels_shown}
+use Rattle.allocative.proofs.Common.{Key, Forest, Showing, Field, sized, each_shows, InsideAs, Both, buffer_shows, bytes_shown, without_size, without_room, with_room, in_any_order, IsDeclared, ShowsContents, Means, levels_shown}
 use Rattle.std.proofs.Math.Nat.{add_comm}
 use Rattle.std.proofs.lemmas.Bool.{false≢true}
 use Rattle.allocative.specs.StdShows.{option_inside}
@@ -54,7 +54,7 @@ Found p q = (f : Forest) → q f → (k : ℕ) × p k f
 inside_found : (u : Bool) (k : Key) (n : ℕ) {p : ℕ → Showing} {q : Showing} → Found p q → Found (λ i. InsideAs u k n (p i)) (InsideAs u k n q)
 inside_found u k n s f (g, x, e) = let m = s g x in (m.0, (g, m.1, e))
 
-field_found : (k : Key) (y : Option ℕ) {p : ℕ → Showing} {q : Showing} → Found p q → (f : Forest) → IsField k q y f → (i : ℕ) × IsField k (p i) y f
+field_found : (k : Key) (y : Option ℕ) {p : ℕ → Showing} {q : Showing} → Found p q → Found (λ i. Field k y (p i)) (Field k y q)
 field_found k y s f (sized {n} x) = let m = inside_found false k n s f x in (m.0, sized m.1)
 
 both_found : {p r : ℕ → Showing} {q s : Showing} → ((k j : ℕ) → Means false (p k) (p (k + j))) → ((k j : ℕ) → Means false (r k) (r (k + j))) → Found p q → Found r s → Found (λ k. Both (p k) (r k)) (Both q s)
@@ -63,13 +63,13 @@ both_found more_p more_r a b f (g, h, x, y, e) =
     let n = b h y in
     (m.0 + n.0, (g, h, (more_p m.0 n.0).means g m.1, rw (add_comm m.0 n.0) ((more_r n.0 m.0).means h n.1), e))
 
-buffer_found : (y : Option ℕ) (n c : ℕ) {p : ℕ → Showing} {q : Showing} → ((k j : ℕ) → Means false (p k) (p (k + j))) → Found p q → (f : Forest) → IsBuffer q n c y f → (k : ℕ) × IsBuffer (p k) n c y f
-buffer_found y n c more s f (without_size e) = (0, without_size e)
-buffer_found y n c more s f (without_room h r e) = (0, without_room h r e)
-buffer_found y n c {q = q} more found f (with_room {s = z} l h x) =
-    let unused = bytes_shown (codes "unused_capacity") (Some z) (c - n) in
+buffer_found : (y : Option ℕ) (n c : ℕ) {p : ℕ → Showing} {q : Showing} → ((k j : ℕ) → Means false (p k) (p (k + j))) → Found p q → Found (λ k. buffer_shows y (p k) n c) (buffer_shows y q n c)
+buffer_found y n c more s f (without_size i e) = (0, without_size i e)
+buffer_found y n c more s f (without_room i h r e) = (0, without_room i h r e)
+buffer_found y n c {q = q} more found f (with_room i l h x) =
+    let unused = bytes_shown (codes "unused_capacity") y (c - n) in
     let m = inside_found true (codes "ptr") 8 (both_found {r = λ k. unused} {q = q} {s = unused} more (λ k j. means_same) found (λ f z. (0, z))) f x in
-    (m.0, with_room l h m.1)
+    (m.0, with_room i l h m.1)
 
 each_found : {A : Type 0} {p : ℕ → A → Showing} {q : A → Showing} → ((k j : ℕ) (x : A) → Means false (p k x) (p (k + j) x)) → ((x : A) → Found (λ k. p k x) (q x)) →
     (xs : List A) → Found (λ k. each_shows (p k) xs) (each_shows q xs)

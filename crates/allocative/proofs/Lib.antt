@@ -5,10 +5,11 @@ pub mod Runs
 pub mod Bodies
 pub mod Steps
 pub mod Exact
-pub mod Showing
+pub mod Visits
 pub mod Meaning
 pub mod ContainerMeaning
 pub mod Within
+pub mod Showing
 pub mod Levels
 pub mod Parts
 pub mod Roots

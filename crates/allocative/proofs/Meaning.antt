@@ -4,7 +4,7 @@ use Rattle.allocative.proofs.Common.{Refusal, TooLarge, Key, Identity, Forest, S
 use Rattle.std.proofs.lemmas.Bool.{false≢true, and_parts, and_from}
 use Rattle.allocative.specs.Visited.{Refused}
 use Rattle.allocative.proofs.Exact.{declared_first, declared_second, declared_both, declared_inside, declared_entry, declared_content, declared_shared, rightly_nothing, rightly_weaker, rightly_refused, rightly_undeclared, inexact}
-use Rattle.allocative.proofs.Showing.{shows_weaker, shows_nothing, shows_refused, shows_refused_err}
+use Rattle.allocative.proofs.Visits.{shows_weaker, shows_nothing, shows_refused, shows_refused_err}
 
 -- ---- which visits are exact
 pub exact_never : {e : Bool} → OnlyIf false e
@@ -28,6 +28,13 @@ exact_second {e = e} d r = record { follows = λ h. r.follows (and_parts d e h).
 -- ---- what a part means
 pub means_same : {x : Bool} {p : Showing} → Means x p p
 means_same = record { means = λ f a. a; declared = λ h d. d }
+
+pub means_then : {x : Bool} {p q r : Showing} → Means x p q → Means x q r → Means x p r
+means_then m l = record { means = λ f a. l.means f (m.means f a); declared = λ h d. m.declared h (l.declared h d) }
+
+-- Where both allow the same forests.
+pub means_either : {x : Bool} {p q : Showing} → ((f : Forest) → p f → q f) → ((f : Forest) → q f → p f) → Means x p q
+means_either up down = record { means = up; declared = λ h d. (d.0, down d.0 d.1, d.2) }
 
 inside_as : (u : Bool) (k : Key) (n : ℕ) {x : Bool} {p q : Showing} → Means x p q → Means x (InsideAs u k n p) (InsideAs u k n q)
 inside_as u k n m = record {

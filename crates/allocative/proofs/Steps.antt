@@ -1,6 +1,6 @@
 -- The collector's own steps as the relations of visits, whose arguments are found by search.
 use Rattle.std.proofs.Common.{◌≡◌, ℕ, Bool, true, false, None, Some, Result, Ok, Err, refl}
-use Rattle.allocative.proofs.Common.{Refusal, TooLarge, Key, Identity, Kind, OfGraph, OfHeld, State, Failed, Going, failed_with, left, HasFailed, Enters, stays_failed, is_refused, is_entered, EntersSized, stays_unsized, is_unsized, is_sized, EntersShared, stays_shared, is_refused_shared, goes_past, enters_first, enters_again, Leaves, leaves_failed, leaves_going, StepsInShared, one, Makes, made_none, made, entry_refused}
+use Rattle.allocative.proofs.Common.{Refusal, TooLarge, Key, Identity, OfGraph, OfHeld, State, Failed, Going, failed_with, left, HasFailed, Enters, stays_failed, is_refused, is_entered, EntersSized, stays_unsized, is_unsized, is_sized, EntersShared, stays_shared, is_refused_shared, goes_past, enters_first, enters_again, Leaves, leaves_failed, leaves_going, StepsInShared, Done, one, Makes, made_none, made, entry_refused}
 use Rattle.allocative.specs.Steps.{StepsIn, StepsSimple}
 use Rattle.allocative.specs.Making.{had_failed}
 
@@ -29,6 +29,17 @@ made_by_step k n (Failed q) r t (e, f) = rw (e, f) had_failed
 made_by_step k n (Going b) (Ok u) t (r, f) = rw f (made (is_sized (is_entered r refl refl)) (made_none {u = tt}) (leaves_going refl) made_none)
 made_by_step k n (Going b) (Err x) t (r, f) = rw f (entry_refused (is_sized (is_refused r)))
 
+-- Whether the collector has failed, as a call returns it.
+abbrev pub ReturnsCause : State → Result Unit Refusal → Type 0
+ReturnsCause (Failed q) r = r ≡ Err q
+ReturnsCause (Going b) (Ok u) = Unit {0}
+ReturnsCause (Going b) (Err e) = ⊥
+
+pub made_by_cause : (s : State) (r : Result Unit Refusal) → ReturnsCause s r → Makes Done s r s
+made_by_cause (Failed q) r e = rw e had_failed
+made_by_cause (Going b) (Ok u) h = made_none
+made_by_cause (Going b) (Err e) h = absurd h
+
 pub unsized_by_cause : (k : Key) (s : State) (e : Refusal) (t : State) → t ≡ failed_with TooLarge s → HasFailed t e → Makes (one k None) s (Err e) t
 unsized_by_cause k s e t h i = entry_refused (unsized_by_refusal k s e t h i)
 
@@ -37,4 +48,4 @@ leaves_by_left o (Failed r) t e = rw e leaves_failed
 leaves_by_left o (Going b) t e = rw e (leaves_going refl)
 
 -- The rules for the collector's own calls.
-pub ruleset steps = (leaves_by_left, is_sized, enters_by_step, made_by_step, unsized_by_cause, shared_by_step, unsized_by_refusal)
+pub ruleset steps = (leaves_by_left, is_sized, enters_by_step, made_by_step, made_by_cause, unsized_by_cause, shared_by_step, unsized_by_refusal)

@@ -32,38 +32,27 @@ buffer_entry size p unused = InsideUnique (codes "ptr") 8 (Both p (bytes_shown (
 -- What a container shows of the buffer of its n items of a declared size, with room for `capacity` items: no entry
 -- where the items have size 0, or where there is neither an item nor room for one; otherwise a buffer, whose unused
 -- places are those that no item takes. Where there is no size, there is no forest.
-pub data IsBuffer (p : Showing) (n capacity : ℕ) : Option ℕ → Forest → Type 0 where
-  without_size : {f : Forest} → f ≡ Empty → IsBuffer p n capacity (Some 0) f
-  without_room : {s : ℕ} {f : Forest} → n ≡ 0 → capacity ≡ 0 → f ≡ Empty → IsBuffer p n capacity (Some s) f
-  with_room : {s : ℕ} {f : Forest} → 0 < s → 0 < n + capacity → buffer_entry (Some s) p (capacity - n) f
-      → IsBuffer p n capacity (Some s) f
-
--- The showing of the buffer of n items of a declared size, with room for `capacity` items.
-abbrev pub buffer_shows : Option ℕ → Showing → ℕ → ℕ → Showing
-buffer_shows size p n capacity = IsBuffer p n capacity size
+pub data buffer_shows (size : Option ℕ) (p : Showing) (n capacity : ℕ) : Forest → Type 0 where
+  without_size : {f : Forest} → size ≡ Some 0 → f ≡ Empty → buffer_shows size p n capacity f
+  without_room : {s : ℕ} {f : Forest} → size ≡ Some s → n ≡ 0 → capacity ≡ 0 → f ≡ Empty
+      → buffer_shows size p n capacity f
+  with_room : {s : ℕ} {f : Forest} → size ≡ Some s → 0 < s → 0 < n + capacity → buffer_entry size p (capacity - n) f
+      → buffer_shows size p n capacity f
 
 -- The slice of a list that was cut in two anywhere: the slice of the front followed by that of the back.
-pub data IsCut {T : Type 0} (name : Key) (size : Option ℕ) (needs_drop : Bool) (p : T → Showing) (xs : List T) : Forest
-    → Type 0 where
+pub data cut_shows {T : Type 0} (name : Key) (size : Option ℕ) (needs_drop : Bool) (p : T → Showing) (xs : List T)
+    : Forest → Type 0 where
   is_cut : {f : Forest} (front back : List T) → front ++ back ≡ xs
       → Both (slice_shows name size needs_drop p front) (slice_shows name size needs_drop p back) f
-      → IsCut name size needs_drop p xs f
-
--- The showing of a list that was cut in two anywhere.
-abbrev pub cut_shows : {T : Type 0} → Key → Option ℕ → Bool → (T → Showing) → List T → Showing
-cut_shows name size needs_drop p xs = IsCut name size needs_drop p xs
+      → cut_shows name size needs_drop p xs f
 
 -- What a text of n bytes shows of its buffer, with room for `capacity` bytes: a unique entry of a pointer's bytes,
 -- inside it an entry of the capacity, and inside that one of the text's bytes and one of the bytes that are left.
-pub data IsText (n capacity : ℕ) : Forest → Type 0 where
+pub data text_shows (n capacity : ℕ) : Forest → Type 0 where
   is_text : {f : Forest}
       → InsideUnique (codes "ptr") 8 (Inside (codes "capacity") capacity
       (Both (Inside (codes "u8") n Nothing) (Inside (codes "unused_capacity") (capacity - n) Nothing))) f
-      → IsText n capacity f
-
--- The showing of the buffer of a text of n bytes, with room for `capacity` bytes.
-abbrev pub text_shows : ℕ → ℕ → Showing
-text_shows n capacity = IsText n capacity
+      → text_shows n capacity f
 
 -- A field `data` for each item.
 abbrev pub data_shows : {T : Type 0} → Option ℕ → (T → Showing) → List T → Showing

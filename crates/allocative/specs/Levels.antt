@@ -39,14 +39,10 @@ abbrev pub levels_shown : {T : Type 0} → (T → Level T) → ℕ → T → Sho
 levels_shown w zero x = λ f. ⊥
 levels_shown w (suc k) x = level_shows (levels_shown w k) (w x)
 
--- The forests of a value of any number of levels.
-pub record IsOfLevels {T : Type 0} (w : T → Level T) (x : T) (f : Forest) : Type 0 where
+-- What a value that holds values of its own type may show, where w gives one level: the forests of any number of levels.
+pub record recursive {T : Type 0} (w : T → Level T) (x : T) (f : Forest) : Type 0 where
   pub depth : ℕ
   pub shown : levels_shown w depth x f
-
--- What a value that holds values of its own type may show, where w gives one level.
-abbrev pub recursive : {T : Type 0} → (T → Level T) → T → Showing
-recursive w x = IsOfLevels w x
 
 -- What a `Vec` shows of its items, which need a drop and have the declared size s, not 0, where w gives the level of an
 -- item.

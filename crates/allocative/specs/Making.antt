@@ -4,7 +4,7 @@ use Rattle.allocative_described.specs.Sizes.{size_product}
 use Rattle.allocative_graph.specs.declared.refusal.Refusal.{Refusal}
 use Rattle.allocative_graph.specs.Path.{Key}
 use Rattle.allocative_graph.specs.Collector.{Kind, State, Failed, Going}
-use Rattle.allocative_graph.specs.Visits.{EntersSized, Leaves}
+use Rattle.allocative_graph.specs.Visits.{EntersSized, HasFailed, Leaves}
 use Rattle.allocative.specs.Bodies.{are_shown_each}
 use Rattle.allocative.specs.Runs.{CountsRun}
 use Rattle.allocative.specs.declared.visitor.Visitor.{Visitor}
@@ -35,18 +35,6 @@ pub data Makes : Plan → State → Result Unit Refusal → State → Type 0 whe
   inside_refused : {k : Key} {size : Option ℕ} {inside after : Plan} {s t c : State} {o : Bool} {e : Refusal}
       → EntersSized k size s (Ok o) t → Makes inside t (Err e) c → Makes (Entry k size inside after) s (Err e) c
 
--- What a call that makes an entry of its own first does: the entry is refused as entering says, and nothing else is
--- entered; or it is entered, and anything may follow.
-pub data EntersFirst (k : Key) (size : Option ℕ) (s : State) : Result Unit Refusal → State → Type 0 where
-  first_refused : {e : Refusal} {t : State} → EntersSized k size s (Err e) t → EntersFirst k size s (Err e) t
-  first_entered : {o : Bool} {w t : State} {r : Result Unit Refusal} → EntersSized k size s (Ok o) w
-      → EntersFirst k size s r t
-
--- A failed collector returns its first cause and stays as it is. Nothing is said of one that has not failed.
-pub data KeepsCause : State → Result Unit Refusal → State → Type 0 where
-  keeps_failed : {r : Refusal} → KeepsCause (Failed r) (Err r) (Failed r)
-  keeps_going : {b : Kind} {result : Result Unit Refusal} {t : State} → KeepsCause (Going b) result t
-
 -- No item of a slice is visited: there is none, or they are not shown one by one.
 abbrev pub VisitsNone : {T : Type 0} → Bool → Option ℕ → List T → Type 0
 VisitsNone needs_drop size xs = are_shown_each needs_drop size ≡ true → length xs ≡ 0
@@ -67,42 +55,35 @@ abbrev pub vec_plan : {T : Type 0} → Key → Option ℕ → Bool → List T �
 vec_plan name size needs_drop xs n =
     Entry (codes "capacity") (size_product size (Some n)) (room_plan name size needs_drop xs n) Done
 
--- What a call over an iterator does: it makes the entries of a plan, or the iterator, at s, may give an item.
-pub data MakesOrGives {S A : Type 0} (steps : S → Option A → S → Type 0) (s : S) (p : Plan) (a : State)
-    (r : Result Unit Refusal) (b : State) : Type 0 where
-  makes : Makes p a r b → MakesOrGives steps s p a r b
-  gives : (x : A) (t : S) → steps s (Some x) t → MakesOrGives steps s p a r b
-
--- What `visit_iter` does where it visits no item. Items that are not shown one by one are counted, and one entry of
--- their bytes is made. Otherwise the iterator gives none, and no entry is made.
-pub data MakesRun {S A : Type 0} (steps : S → Option A → S → Type 0) (s : S) (name : Key) (size : Option ℕ) : Bool
-    → State → Result Unit Refusal → State → Type 0 where
-  counted : {a b : State} {r : Result Unit Refusal} (count : Option ℕ) → CountsRun steps s count
-      → Makes (one name (size_product size count)) a r b → MakesRun steps s name size false a r b
-  in_turn : {a b : State} {r : Result Unit Refusal} → MakesOrGives steps s Done a r b
-      → MakesRun steps s name size true a r b
-
 -- ---- of visitors
 -- What making the entries of a plan at a visitor does to its collector.
 abbrev pub MakesPlan : Plan → Visitor → Visitor → Result Unit Refusal → Type 0
 MakesPlan p old new r = Makes p old.collector.now r new.collector.now
 
--- What a call that makes an entry of its own first does to the collector of its visitor.
-abbrev pub MakesFirst : Key → Option ℕ → Visitor → Visitor → Result Unit Refusal → Type 0
-MakesFirst k size old new r = EntersFirst k size old.collector.now r new.collector.now
+-- What a call that makes an entry of its own first does to the collector of its visitor: the entry is refused as
+-- entering says, and nothing else is entered; or it is entered, and anything may follow.
+pub data MakesFirst (k : Key) (size : Option ℕ) (old new : Visitor) : Result Unit Refusal → Type 0 where
+  first_refused : {e : Refusal} → EntersSized k size old.collector.now (Err e) new.collector.now
+      → MakesFirst k size old new (Err e)
+  first_entered : {o : Bool} {w : State} {r : Result Unit Refusal} → EntersSized k size old.collector.now (Ok o) w
+      → MakesFirst k size old new r
 
--- A visitor whose collector had failed returns its first cause, and the collector stays as it is.
-abbrev pub Keeps : Visitor → Visitor → Result Unit Refusal → Type 0
-Keeps old new r = KeepsCause old.collector.now r new.collector.now
+-- A visitor whose collector had failed returns its first cause, and the collector stays as it is. Nothing is said of
+-- one that has not failed.
+pub record Keeps (old new : Visitor) (r : Result Unit Refusal) : Type 0 where
+  pub keeps : (e : Refusal) → HasFailed old.collector.now e → (r ≡ Err e) × HasFailed new.collector.now e
 
 -- What a call at a visitor over an iterator does to its collector: it makes the entries of a plan, or the iterator, at
 -- s, may give an item.
-abbrev pub MakesPlanOrGives : {S A : Type 0} → (S → Option A → S → Type 0) → S → Plan → Visitor → Visitor
-    → Result Unit Refusal → Type 0
-MakesPlanOrGives steps s p old new r = MakesOrGives steps s p old.collector.now r new.collector.now
+pub data MakesPlanOrGives {S A : Type 0} (steps : S → Option A → S → Type 0) (s : S) (p : Plan) (old new : Visitor)
+    (r : Result Unit Refusal) : Type 0 where
+  makes : MakesPlan p old new r → MakesPlanOrGives steps s p old new r
+  gives : (x : A) (t : S) → steps s (Some x) t → MakesPlanOrGives steps s p old new r
 
--- What `visit_iter` at a visitor does to its collector where it visits no item.
+-- What `visit_iter` at a visitor does to its collector where it visits no item. Items that are shown one by one are none,
+-- and no entry is made. Others are counted, and one entry of their bytes is made.
 abbrev pub MakesPlanRun : {S A : Type 0} → (S → Option A → S → Type 0) → S → Key → Option ℕ → Bool → Visitor → Visitor
     → Result Unit Refusal → Type 0
-MakesPlanRun steps s name size is_each old new r =
-    MakesRun steps s name size is_each old.collector.now r new.collector.now
+MakesPlanRun steps s name size true old new r = MakesPlanOrGives steps s Done old new r
+MakesPlanRun steps s name size false old new r =
+    (count : Option ℕ) × CountsRun steps s count × MakesPlan (one name (size_product size count)) old new r

@@ -1,5 +1,5 @@
 -- How a visitor ends after a nested visitor borrowed its collector.
-use Rattle.std.specs.Prelude.{◌≡◌, ℕ, [], Bool, true, false, Option, None, Some, Result, Ok, Err, IfErr, OnOk, ⊤}
+use Rattle.std.specs.Prelude.{◌≡◌, ℕ, [], Bool, true, false, Option, None, Some, Result, Ok, Err, IfErr, IfOk, IfSome, OnOk, ⊤}
 use Rattle.std.specs.Borrow.{Fml, GName, MutBor, Lends, follows_so, name_if_ok}
 use mathlib.Core.Option as maybe
 use mir.Syntax.{named}
@@ -8,6 +8,7 @@ use Rattle.allocative_graph.specs.Path.{Key}
 use Rattle.allocative_graph.specs.Identity.{Identity}
 use Rattle.allocative_graph.specs.Collector.{State, Failed}
 use Rattle.allocative_graph.specs.Visits.{Enters, EntersSized, EntersShared, Answers}
+use Rattle.allocative.specs.Shared.{answered}
 use Rattle.allocative.specs.declared.visitor.Visitor.{Visitor}
 use Rattle.allocative.specs.contracts.visitor.Visitor as visitor
 use Rattle.allocative.specs.contracts.visitor.collector.Collector as collector
@@ -22,26 +23,21 @@ LendsCollector s r =
     Lends (visitor.the_row (record { mir = named 1; lft = [] })) collector.the_row s r (with_state s.now)
 
 -- The visitor ends with what the nested visitor leaves of the collector or, where the entry was refused, with what
--- entering says. Nothing else of it changes.
-abbrev pub LendsNested : Bool → Key → ℕ → MutBor Visitor → Result Visitor Refusal → Fml
-LendsNested is_unique k n s r =
+-- `enters` says. Nothing else of it changes.
+abbrev pub LendsAs : (State → Result Bool Refusal → State → Type 0) → MutBor Visitor → Result Visitor Refusal → Fml
+LendsAs enters s r =
     follows_so (visitor.the_row (record { mir = named 1; lft = [] })) collector.the_row s.ghost_name
     (name_if_ok (λ v. v.collector.ghost_name) r)
     (λ w v. OnOk r (v ≡ with_state s.now w))
-    (λ v. IfErr r
-    (λ e. Enters is_unique k n s.now.collector.now (Err e) v.collector.now
-    × (v ≡ with_state s.now v.collector.now)))
+    (λ v. IfErr r (λ e. enters s.now.collector.now (Err e) v.collector.now × (v ≡ with_state s.now v.collector.now)))
 
--- The visitor ends with what the nested visitor leaves of the collector or, where the entry of a declared size was
--- refused, with what entering says. Nothing else of it changes.
+-- As `LendsAs`, of an entry of n bytes.
+abbrev pub LendsNested : Bool → Key → ℕ → MutBor Visitor → Result Visitor Refusal → Fml
+LendsNested is_unique k n = LendsAs (Enters is_unique k n)
+
+-- As `LendsAs`, of an entry of a declared size.
 abbrev pub LendsNestedSized : Key → Option ℕ → MutBor Visitor → Result Visitor Refusal → Fml
-LendsNestedSized k size s r =
-    follows_so (visitor.the_row (record { mir = named 1; lft = [] })) collector.the_row s.ghost_name
-    (name_if_ok (λ v. v.collector.ghost_name) r)
-    (λ w v. OnOk r (v ≡ with_state s.now w))
-    (λ v. IfErr r
-    (λ e. EntersSized k size s.now.collector.now (Err e) v.collector.now
-    × (v ≡ with_state s.now v.collector.now)))
+LendsNestedSized k size = LendsAs (EntersSized k size)
 
 -- The nested visitor v is at the entry that was entered at s.
 abbrev pub Nests : Bool → Key → ℕ → Visitor → Visitor → Type 0
@@ -75,17 +71,13 @@ name_in (Err e) = maybe.none
 
 -- Where a visitor is returned, v is s with what that visitor leaves of the collector.
 abbrev pub EndsWith : Visitor → Result (Option Visitor) Refusal → State → Visitor → Type 0
-EndsWith s (Ok (Some x)) w v = v ≡ with_state s w
-EndsWith s (Ok None) w v = ⊤
-EndsWith s (Err e) w v = ⊤
+EndsWith s r w v = IfOk r (λ o. IfSome o (λ x. v ≡ with_state s w))
 
 -- Where no visitor is returned, v is s with what entering says.
 abbrev pub EndsWithout : Key → ℕ → Identity → Visitor → Result (Option Visitor) Refusal → Visitor → Type 0
 EndsWithout k n i s (Ok (Some x)) v = ⊤
-EndsWithout k n i s (Ok None) v = EntersShared k n i s.collector.now (Ok false) v.collector.now
-    × (v ≡ with_state s v.collector.now)
-EndsWithout k n i s (Err e) v = EntersShared k n i s.collector.now (Err e) v.collector.now
-    × (v ≡ with_state s v.collector.now)
+EndsWithout k n i s r v =
+    EntersShared k n i s.collector.now (answered r) v.collector.now × (v ≡ with_state s v.collector.now)
 
 -- The visitor ends with what the visitor at a shared value's content leaves of the collector or, where none is
 -- returned, with what entering says. Nothing else of it changes.

@@ -16,24 +16,17 @@ either_inside s p t q (Left x) = Field (codes "Left") s (p x)
 either_inside s p t q (Right y) = Field (codes "Right") t (q y)
 
 -- What is inside the own entry of a cell that is set once: nothing, or a pointer to some value.
-pub data IsOnce {T : Type 0} (p : T → Showing) : Forest → Type 0 where
-  is_not_set : {f : Forest} → Nothing f → IsOnce p f
-  is_set : (x : T) {f : Forest} → InsideUnique (codes "ptr") 8 (p x) f → IsOnce p f
-
--- The showing of the inside of a cell that is set once.
-abbrev pub once_inside : {T : Type 0} → (T → Showing) → Showing
-once_inside p = IsOnce p
+pub data once_inside {T : Type 0} (p : T → Showing) : Forest → Type 0 where
+  is_not_set : {f : Forest} → Nothing f → once_inside p f
+  is_set : (x : T) {f : Forest} → InsideUnique (codes "ptr") 8 (p x) f → once_inside p f
 
 -- What is inside the own entry of a small vector with n places of its own and items of a declared size: a field `data`
 -- for each item, inside a pointer where the items are in an allocation.
-pub data IsSmallVec {T : Type 0} (n : ℕ) (size : Option ℕ) (p : T → Showing) (v : SmallVec T) : Forest → Type 0 where
-  lies_inline : {f : Forest} → ¬ IsSpilled n v → data_shows size p v.items f → IsSmallVec n size p v f
-  is_spilled : {f : Forest} → IsSpilled n v → InsideUnique (codes "ptr") 8 (data_shows size p v.items) f
-      → IsSmallVec n size p v f
-
--- The showing of the inside of a small vector.
-abbrev pub small_vec_inside : {T : Type 0} → ℕ → Option ℕ → (T → Showing) → SmallVec T → Showing
-small_vec_inside n size p v = IsSmallVec n size p v
+pub data small_vec_inside {T : Type 0} (n : ℕ) (size : Option ℕ) (p : T → Showing) (v : SmallVec T) : Forest → Type 0
+  where
+    lies_inline : {f : Forest} → ¬ IsSpilled n v → data_shows size p v.items f → small_vec_inside n size p v f
+    is_spilled : {f : Forest} → IsSpilled n v → InsideUnique (codes "ptr") 8 (data_shows size p v.items) f
+        → small_vec_inside n size p v f
 
 -- What is inside the own entry of a slab with items of a declared name and size: the buffer of its values, in the order
 -- of their keys.
@@ -43,14 +36,10 @@ slab_inside name size needs_drop p s =
 
 -- The data of a container in insertion order: a unique entry with what p shows, and the entry of the bytes of so many
 -- unused places for items of a declared size.
-pub data IsIndexData (size : Option ℕ) (p : Showing) (unused : ℕ) : Forest → Type 0 where
+pub data index_data_shows (size : Option ℕ) (p : Showing) (unused : ℕ) : Forest → Type 0 where
   is_index_data : {f : Forest}
       → InsideUnique (codes "data") 8 (Both p (bytes_shown (codes "unused_capacity") size unused)) f
-      → IsIndexData size p unused f
-
--- The showing of the data of a container in insertion order.
-abbrev pub index_data_shows : Option ℕ → Showing → ℕ → Showing
-index_data_shows size p unused = IsIndexData size p unused
+      → index_data_shows size p unused f
 
 -- What is inside the own entry of an `IndexMap` with keys, values and pairs of declared sizes, and so many unused places.
 abbrev pub index_map_inside : {K V : Type 0} → Option ℕ → (K → Showing) → Option ℕ → (V → Showing) → Option ℕ

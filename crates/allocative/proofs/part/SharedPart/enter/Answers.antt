@@ -1,8 +1,9 @@
 -- A pointer to a value met for the first time: what its content shows, and its errors.
 use Rattle.std.proofs.Common.{rules}
 use Rattle.allocative.proofs.Common.{Memory}
-use Rattle.allocative.proofs.Within.{content_refused, content_added, pointer_refused, pointer_again, same_err}
-use Rattle.allocative.proofs.Showing.{showing, any_err, content_shows, shared_err}
+use Rattle.allocative.proofs.Within.{content_refused, content_added, same_err}
+use Rattle.allocative.proofs.Visits.{any_err, content_shows, shared_err}
+use Rattle.allocative.proofs.Showing.{showing}
 use Rattle.allocative.proofs.part.SharedPart.enter.Goals as goal
 
 pub returns-in_err-enter : goal.returns-in_err-enter
@@ -11,7 +12,8 @@ returns-in_err-enter g c = record {
   same_outer = search rules;
   shown = any_err {e = Memory} _ c.from_residual-in_err-enter.ensures.0 (shared_err (rw (c.if-is_first.true) at c.in_ok-is_first.ensures.enters) c.content-content.ensures.now c.in_err-enter.ensures.shown c.drop-content.ensures);
   cause = search (rules, showing);
-  rightly = λ i. content_refused (same_err {e = c.in_err-enter.field-0.0} _ c.from_residual-in_err-enter.ensures.0 (search rules)) c.in_ok-is_first.ensures.enters c.if-is_first.true c.content-content.ensures.now (c.in_err-enter.ensures.rightly i) c.drop-content.ensures;
+  rightly = λ i. rw (same_err {e = c.in_err-enter.field-0.0} _ c.from_residual-in_err-enter.ensures.0 (search rules))
+      (content_refused c.in_ok-is_first.ensures.enters c.if-is_first.true c.content-content.ensures.now (c.in_err-enter.ensures.rightly i) c.drop-content.ensures);
 }
 
 pub returns-in_ok-enter : goal.returns-in_ok-enter
@@ -22,9 +24,3 @@ returns-in_ok-enter g c = record {
   cause = tt;
   rightly = λ i. content_added c.in_ok-is_first.ensures.enters c.if-is_first.true c.content-content.ensures.now (c.in_ok-enter.ensures.rightly i) c.exit.ensures;
 }
-
-pub returns-in_err-is_first : goal.returns-in_err-is_first
-returns-in_err-is_first g c = pointer_refused (same_err {e = c.in_err-is_first.field-0.0} _ c.from_residual.ensures.0 (search rules)) c.in_err-is_first.ensures.enters (search rules)
-
-pub returns-else-is_first : goal.returns-else-is_first
-returns-else-is_first g c = pointer_again c.in_ok-is_first.ensures.enters (search rules)

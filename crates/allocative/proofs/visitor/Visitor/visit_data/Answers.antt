@@ -2,12 +2,8 @@
 use Rattle.std.proofs.Common.{codes}
 use Rattle.allocative.proofs.Common.{each_shows, field_of}
 use Rattle.std.proofs.lemmas.Iterator.{YieldsList-from_slice}
-use Rattle.allocative.proofs.Making.{makes_none}
 use Rattle.allocative.proofs.Runs.{entered_list}
 use Rattle.allocative.proofs.visitor.Visitor.visit_data.Goals as goal
 
 pub returns-clause-entered : goal.returns-clause-entered
 returns-clause-entered g c = entered_list {q = each_shows (field_of (codes "data") g.T.Described.size g.T.Allocative.may_show)} (YieldsList-from_slice _ c.iter.ensures.rest) (rw c.new.ensures at c.visit_fields.ensures.entered) (rw c.new.ensures at c.visit_fields.ensures.rightly)
-
-pub returns-clause-exact : goal.returns-clause-exact
-returns-clause-exact g c = λ h. makes_none c.args.items.now h (YieldsList-from_slice _ c.iter.ensures.rest) c.visit_fields.ensures.exact

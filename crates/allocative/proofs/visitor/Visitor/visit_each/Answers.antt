@@ -1,12 +1,8 @@
 -- The iterator gives the items.
 use Rattle.allocative.proofs.Common.{each_shows}
 use Rattle.std.proofs.lemmas.Iterator.{YieldsList-from_slice}
-use Rattle.allocative.proofs.Making.{makes_none}
 use Rattle.allocative.proofs.Runs.{entered_list}
 use Rattle.allocative.proofs.visitor.Visitor.visit_each.Goals as goal
 
 pub returns-clause-entered : goal.returns-clause-entered
 returns-clause-entered g c = entered_list {q = each_shows g.T.Allocative.may_show} (YieldsList-from_slice _ c.iter.ensures.rest) c.visit_items.ensures.entered c.visit_items.ensures.rightly
-
-pub returns-clause-exact : goal.returns-clause-exact
-returns-clause-exact g c = λ h. makes_none c.args.items.now h (YieldsList-from_slice _ c.iter.ensures.rest) c.visit_items.ensures.exact

@@ -1,7 +1,8 @@
 use Rattle.std.proofs.Common.{rules, ◌≡◌, refl, Ok, Err}
 use Rattle.allocative.proofs.Common.{FnOnceReturnsAtMut, called, refused_inside}
 use Rattle.allocative.proofs.Closures.{not_called_by, same_err}
-use Rattle.allocative.proofs.Showing.{left_cause, showing}
+use Rattle.allocative.proofs.Visits.{left_cause}
+use Rattle.allocative.proofs.Showing.{showing}
 use Rattle.allocative.proofs.visitor.Visitor.visit_field_with.Goals as goal
 
 pub returns-in_err-inner : goal.returns-in_err-inner

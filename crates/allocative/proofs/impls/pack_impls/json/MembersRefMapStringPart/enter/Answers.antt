@@ -1,5 +1,5 @@
 -- One more member is shown, and the map ends.
-use Rattle.std.proofs.Common.{String, Global, Some, [], ◌∷◌, ◌++◌, sym, ap, append_assoc, ◌∙◌, rules, append-nil}
+use Rattle.std.proofs.Common.{String, Global, Some, [], ◌∷◌, ◌++◌, sym, ap, append_assoc, ◌∙◌, rules}
 use Rattle.allocative.proofs.Common.{Showing, pair_shows, stored_string}
 use Rattle.allocative.proofs.Meaning.{entered_none, means_same}
 use Rattle.allocative.proofs.Within.{entered_snoc, item_refused, same_err}
@@ -20,11 +20,6 @@ loop-key-preserved g c =
       l.invariant.1 ∙ ap (λ es. done ++ es) c.in-Some.ensures.steps ∙ sym (append_assoc done (e ∷ []) c.next.new.self),
       entered_snoc (shown g.V.Allocative.may_show) done e l.invariant.2 c.in_ok-enter.ensures,
     )
-
-pub returns : goal.returns
-returns g c =
-    let all = rw (c.in-None.ensures.steps.0, append-nil) at c.loop-key.invariant.1 in
-    rw all c.loop-key.invariant.2
 
 pub returns-in_err-enter : goal.returns-in_err-enter
 returns-in_err-enter g c =
