@@ -1,7 +1,6 @@
 //! Runs a row, and prints what differs.
 #![tactic(auto, using(allocative::proofs::Parts::parts))]
 
-use crate::fault::Fault;
 use crate::forest::Forest;
 use crate::notation::{push_roots, root_of};
 use crate::row::{Row, Wanted, cut, held_of, refusal_of};
@@ -9,20 +8,14 @@ use crate::shown::Shown;
 use crate::ways::{Way, collect};
 use allocative::{Part, Refusal, size_of_entries, size_of_unique, size_of_unique_allocated_data};
 use std::alloc::Global;
-use std::io;
+use std::io::{self, ErrorKind};
 
 /// Prints what the roots of a row answer in a way.
 fn tell(rt: &impl Print, row: Row, way: Way, answer: &Result<Shown, Refusal>) -> io::Result<()> {
-    let (name, way) = (row.name(), way.name());
+    let name = row.name();
     match answer {
-        Ok(shown) => {
-            println!(rt;
-                "{name}: {way}: total {:?}, warnings {:?}",
-                shown.total, shown.warnings
-            )?;
-            println!(rt; "{}", shown.text)
-        }
-        Err(refusal) => println!(rt; "{name}: {way}: {refusal}"),
+        Ok(shown) => println!(rt; "{name}: {way:?}: {shown:?}"),
+        Err(refusal) => println!(rt; "{name}: {way:?}: {refusal}"),
     }
 }
 
@@ -40,75 +33,56 @@ fn answer_of(
     row: Row,
     is_reversed: bool,
     way: Way,
-) -> Result<Result<Shown, Refusal>, Fault> {
+) -> io::Result<Result<Shown, Refusal>> {
     let mut roots = Vec::new(alloc);
     push_roots(alloc, &mut roots, row.roots())?;
     let left = roots.len();
-    push_roots(alloc, &mut roots, row.section("right").unwrap_or(""))?;
+    push_roots(alloc, &mut roots, row.section("right"))?;
     if is_reversed {
         roots.reverse();
     }
     Ok(collect(alloc, roots, left, way))
 }
 
-/// Whether the roots answer as they have to in one way.
+/// The ways of one collection.
+const ONE: [Way; 4] = [Way::ByHand, Way::Visited, Way::Values, Way::Registered];
+
+/// The ways of two collections.
+const TWO: [Way; 2] = [Way::Added, Way::InTwo];
+
+/// Whether the roots answer as they have to in each of these ways.
 fn is_answered(
     rt: &impl Print,
     alloc: Global,
     row: Row,
     is_reversed: bool,
-    way: Way,
+    ways: &[Way],
     wanted: Wanted,
-) -> Result<bool, Fault> {
-    let answer = answer_of(alloc, row, is_reversed, way)?;
-    let is_right = is_wanted(&answer, wanted, row.section("warnings").unwrap_or(""));
-    if !is_right {
-        tell(rt, row, way, &answer)?;
-    }
-    Ok(is_right)
-}
-
-/// Whether one collection of the roots answers as it has to in every way.
-fn is_one(
-    rt: &impl Print,
-    alloc: Global,
-    row: Row,
-    is_reversed: bool,
-    wanted: Wanted,
-) -> Result<bool, Fault> {
+) -> io::Result<bool> {
     let mut is_right = true;
-    for way in [Way::ByHand, Way::Visited, Way::Values, Way::Registered] {
-        is_right &= is_answered(rt, alloc, row, is_reversed, way, wanted)?;
+    for &way in ways {
+        let answer = answer_of(alloc, row, is_reversed, way)?;
+        if !is_wanted(&answer, wanted, row.section("warnings")) {
+            is_right = false;
+            tell(rt, row, way, &answer)?;
+        }
     }
     Ok(is_right)
 }
 
-/// Whether two collections add up to a graph with these lines as its text, in either way.
-fn is_sum(rt: &impl Print, alloc: Global, row: Row, lines: &'static str) -> Result<bool, Fault> {
-    let mut is_right = true;
-    for way in [Way::Added, Way::InTwo] {
-        is_right &= is_answered(rt, alloc, row, false, way, Wanted::Text(lines))?;
-    }
-    Ok(is_right)
-}
-
-/// The held bytes together with the byte that a root declares.
-fn whole(held: Result<usize, Refusal>) -> Result<usize, Refusal> {
-    held?.checked_add(1).ok_or(Refusal::TooLarge)
-}
-
-/// Whether a root holds what it has to, by each call that says so.
+/// Whether a root holds what it has to, by each call that says so. The last one counts the byte that the root declares.
 fn holds(root: &Forest, wanted: Result<usize, Refusal>) -> bool {
+    let whole = wanted.and_then(|held| held.checked_add(1).ok_or(Refusal::TooLarge));
     size_of_unique_allocated_data(root) == wanted
         && size_of_entries(|visitor| root.enter(visitor)) == wanted
-        && size_of_unique(root) == whole(wanted)
+        && size_of_unique(root) == whole
 }
 
 /// Whether the only root of a row holds what a word says.
-fn is_held(rt: &impl Print, alloc: Global, row: Row, word: &str) -> Result<bool, Fault> {
+fn is_held(rt: &impl Print, alloc: Global, row: Row, word: &str) -> io::Result<bool> {
     let wanted = held_of(word)?;
     if row.roots().contains('\n') {
-        return Err(Fault::Malformed);
+        return Err(ErrorKind::InvalidData.into());
     }
     let root = root_of(alloc, row.roots())?;
     let is_right = holds(&root, wanted);
@@ -126,20 +100,23 @@ fn is_right_section(
     row: Row,
     heading: &str,
     lines: &'static str,
-) -> Result<bool, Fault> {
+) -> io::Result<bool> {
     match heading {
-        "text" => is_one(rt, alloc, row, false, Wanted::Text(lines)),
-        "reversed" => is_one(rt, alloc, row, true, Wanted::Text(lines)),
-        "refused" => is_one(rt, alloc, row, false, Wanted::Refused(refusal_of(lines)?)),
-        "sum" => is_sum(rt, alloc, row, lines),
+        "text" => is_answered(rt, alloc, row, false, &ONE, Wanted::Text(lines)),
+        "reversed" => is_answered(rt, alloc, row, true, &ONE, Wanted::Text(lines)),
+        "refused" => {
+            let wanted = Wanted::Refused(refusal_of(lines)?);
+            is_answered(rt, alloc, row, false, &ONE, wanted)
+        }
+        "sum" => is_answered(rt, alloc, row, false, &TWO, Wanted::Text(lines)),
         "held" => is_held(rt, alloc, row, lines),
         "right" | "warnings" => Ok(true),
-        _ => Err(Fault::Malformed),
+        _ => Err(ErrorKind::InvalidData.into()),
     }
 }
 
 /// Whether a row is right, which asks something of its roots. If not, it prints what they answer.
-pub(crate) fn is_right(rt: &impl Print, alloc: Global, row: Row) -> Result<bool, Fault> {
+pub(crate) fn is_right(rt: &impl Print, alloc: Global, row: Row) -> io::Result<bool> {
     let mut is_right = true;
     let mut asks = false;
     for section in row.0.split("\n-- ").skip(1) {
@@ -148,7 +125,7 @@ pub(crate) fn is_right(rt: &impl Print, alloc: Global, row: Row) -> Result<bool,
         is_right &= is_right_section(rt, alloc, row, heading, lines)?;
     }
     if !asks {
-        return Err(Fault::Malformed);
+        return Err(ErrorKind::InvalidData.into());
     }
     Ok(is_right)
 }

@@ -5,7 +5,6 @@
 #![tactic(auto)]
 
 mod checks;
-mod fault;
 mod forest;
 mod notation;
 mod row;
@@ -13,7 +12,6 @@ mod shown;
 mod ways;
 
 use checks::is_right;
-use fault::Fault;
 use row::Row;
 use std::alloc::Global;
 use std::io;
@@ -22,8 +20,8 @@ use std::io;
 fn is_right_row(rt: &impl Print, alloc: Global, row: Row) -> io::Result<bool> {
     match is_right(rt, alloc, row) {
         Ok(is_right) => Ok(is_right),
-        Err(fault) => {
-            println!(rt; "{}: {fault:?}", row.name())?;
+        Err(error) => {
+            println!(rt; "{}: {error}", row.name())?;
             Ok(false)
         }
     }
@@ -44,17 +42,17 @@ fn run(rt: &impl Print, alloc: Global, rows: &'static str) -> io::Result<(u64, u
 }
 
 /// The text of standard input. Keys last as long as the program, so it is never freed.
-fn read_rows(rt: &(impl Input + AllocGlobal)) -> Result<&'static str, Fault> {
+fn read_rows(rt: &(impl Input + AllocGlobal)) -> io::Result<&'static str> {
     let input = io::read_to_string(rt.alloc(), rt.reader())?;
-    str::from_utf8(input.into_bytes().leak()).or(Err(Fault::Malformed))
+    Ok(str::from_utf8(input.into_bytes().leak()).or(Err(io::ErrorKind::InvalidData))?)
 }
 
-fn main(rt: HostRuntime) -> Result<(), Fault> {
+fn main(rt: HostRuntime) -> io::Result<()> {
     let rows = read_rows(&rt)?;
     let (count, wrong) = run(&rt, rt.alloc(), rows)?;
     if wrong > 0 {
         println!(rt; "{wrong} of {count} rows are wrong")?;
-        return Err(Fault::Wrong);
+        return Err(io::Error::other("a row is wrong"));
     }
     println!(rt; "{count} rows are right")?;
     Ok(())

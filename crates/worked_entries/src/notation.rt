@@ -1,8 +1,8 @@
 //! Reads the roots of a row, as `T 8 {unique ptr 8 {u8 3}, shared p 8 #1 {C 16}}`.
-use crate::fault::Fault;
 use crate::forest::{Forest, Kind};
 use allocative::{Identity, Key};
 use std::alloc::{AllocError, Global};
+use std::io::{self, ErrorKind};
 
 /// One entry. The deeper entries directly after it are inside it, or in its content where it is a pointer to a
 /// shared value.
@@ -55,46 +55,38 @@ fn entry_of(depth: u8, text: &'static str) -> Option<Entry> {
 
 impl Entries {
     /// Reads a text without braces.
-    fn read_list(&mut self, text: &'static str) -> Result<(), Fault> {
+    fn read_list(&mut self, text: &'static str) -> io::Result<()> {
         for text in text.split(", ") {
             let text = text.trim();
             if !text.is_empty() {
-                let entry = entry_of(self.depth, text).ok_or(Fault::Malformed)?;
+                let entry = entry_of(self.depth, text).ok_or(ErrorKind::InvalidData)?;
                 self.list.push(entry)?;
             }
         }
         Ok(())
     }
 
-    /// Reads a text in which no brace is opened.
-    fn read_closing(&mut self, text: &'static str) -> Result<(), Fault> {
-        for (place, text) in text.split('}').enumerate() {
-            if place > 0 {
-                self.depth = self.depth.checked_sub(1).ok_or(Fault::Malformed)?;
-            }
-            self.read_list(text)?;
+    /// Opens a brace after the last entry.
+    fn open(&mut self) -> io::Result<()> {
+        if self.list.last().map(|entry| entry.depth) != Some(self.depth) {
+            return Err(ErrorKind::InvalidData.into());
         }
+        self.depth = self.depth.checked_add(1).ok_or(ErrorKind::InvalidData)?;
         Ok(())
     }
 
-    /// Opens a brace after the last entry.
-    fn open(&mut self) -> Result<(), Fault> {
-        match self.list.last() {
-            Some(entry) if entry.depth == self.depth => {
-                self.depth = self.depth.checked_add(1).ok_or(Fault::Malformed)?;
-                Ok(())
-            }
-            _ => Err(Fault::Malformed),
-        }
-    }
-
     /// Reads a line. Each brace is opened after the entry that has what is in it.
-    fn read(&mut self, line: &'static str) -> Result<(), Fault> {
-        for (place, text) in line.split('{').enumerate() {
+    fn read(&mut self, line: &'static str) -> io::Result<()> {
+        for (place, opened) in line.split('{').enumerate() {
             if place > 0 {
                 self.open()?;
             }
-            self.read_closing(text)?;
+            for (place, text) in opened.split('}').enumerate() {
+                if place > 0 {
+                    self.depth = self.depth.checked_sub(1).ok_or(ErrorKind::InvalidData)?;
+                }
+                self.read_list(text)?;
+            }
         }
         Ok(())
     }
@@ -119,7 +111,7 @@ fn forest_of(alloc: Global, entries: &[Entry], depth: usize) -> Result<Forest, A
 }
 
 /// The root of a line. The line `nothing` is a root without entries.
-pub(crate) fn root_of(alloc: Global, line: &'static str) -> Result<Forest, Fault> {
+pub(crate) fn root_of(alloc: Global, line: &'static str) -> io::Result<Forest> {
     let mut entries = Entries {
         list: Vec::new(alloc),
         depth: 0,
@@ -128,7 +120,7 @@ pub(crate) fn root_of(alloc: Global, line: &'static str) -> Result<Forest, Fault
         entries.read(line)?;
     }
     if entries.depth > 0 {
-        return Err(Fault::Malformed);
+        return Err(ErrorKind::InvalidData.into());
     }
     Ok(forest_of(alloc, &entries.list, 0)?)
 }
@@ -138,7 +130,7 @@ pub(crate) fn push_roots(
     alloc: Global,
     roots: &mut Vec<Forest>,
     lines: &'static str,
-) -> Result<(), Fault> {
+) -> io::Result<()> {
     for line in lines.lines() {
         roots.push(root_of(alloc, line)?)?;
     }

@@ -1,6 +1,6 @@
 //! A row: its name, its roots, and what they have to answer.
-use crate::fault::Fault;
 use allocative::Refusal;
+use std::io::{self, ErrorKind};
 
 /// What roots have to answer: the text of their graph, or a refusal.
 #[derive(Clone, Copy)]
@@ -22,17 +22,17 @@ pub(crate) fn cut(lines: &'static str) -> (&'static str, &'static str) {
 }
 
 /// The refusal of a word.
-pub(crate) fn refusal_of(word: &str) -> Result<Refusal, Fault> {
+pub(crate) fn refusal_of(word: &str) -> io::Result<Refusal> {
     match word {
         "Memory" => Ok(Refusal::Memory),
         "TooLarge" => Ok(Refusal::TooLarge),
         "Open" => Ok(Refusal::Open),
-        _ => Err(Fault::Malformed),
+        _ => Err(ErrorKind::InvalidData.into()),
     }
 }
 
 /// The held bytes of a word, or its refusal.
-pub(crate) fn held_of(word: &str) -> Result<Result<usize, Refusal>, Fault> {
+pub(crate) fn held_of(word: &str) -> io::Result<Result<usize, Refusal>> {
     match word.parse::<usize>() {
         Ok(held) => Ok(Ok(held)),
         Err(_) => Ok(Err(refusal_of(word)?)),
@@ -47,20 +47,17 @@ impl Row {
 
     /// The lines with the roots.
     pub(crate) fn roots(self) -> &'static str {
-        match self.0.split_once("\n-- ") {
-            Some((roots, _sections)) => cut(roots).1,
-            None => cut(self.0).1,
-        }
+        cut(self.0.split_once("\n-- ").unwrap_or((self.0, "")).0).1
     }
 
-    /// The lines of a section, where the row has it.
-    pub(crate) fn section(self, heading: &str) -> Option<&'static str> {
+    /// The lines of a section, and none where the row does not have it.
+    pub(crate) fn section(self, heading: &str) -> &'static str {
         for section in self.0.split("\n-- ").skip(1) {
             let (first, lines) = cut(section);
             if first == heading {
-                return Some(lines);
+                return lines;
             }
         }
-        None
+        ""
     }
 }

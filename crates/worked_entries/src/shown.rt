@@ -3,20 +3,11 @@ use allocative::{FlameGraph, FlameGraphOutput, Refusal};
 use std::alloc::{AllocError, Global};
 
 /// The text of a graph. Where it is of a whole graph, the graph's total, and of a whole output, the warnings.
-#[derive(Drop)]
+#[derive(Debug, Drop)]
 pub(crate) struct Shown {
     pub(crate) text: String,
     pub(crate) total: Option<usize>,
     pub(crate) warnings: Option<String>,
-}
-
-/// What a text alone shows.
-pub(crate) fn text_shown(text: String) -> Shown {
-    Shown {
-        text,
-        total: None,
-        warnings: None,
-    }
 }
 
 /// What a graph shows.
@@ -30,12 +21,10 @@ pub(crate) fn graph_shown(graph: FlameGraph) -> Result<Shown, Refusal> {
 
 /// What an output shows.
 pub(crate) fn output_shown(alloc: Global, output: FlameGraphOutput) -> Result<Shown, Refusal> {
-    let warnings = warnings_of(alloc, &output)?;
-    let graph = output.into_flamegraph();
+    let warnings = Some(warnings_of(alloc, &output)?);
     Ok(Shown {
-        text: graph.write()?,
-        total: Some(graph.total_size()),
-        warnings: Some(warnings),
+        warnings,
+        ..graph_shown(output.into_flamegraph())?
     })
 }
 
@@ -78,10 +67,8 @@ fn warnings_of(alloc: Global, output: &FlameGraphOutput) -> Result<String, Refus
 
 /// Whether a text has these lines and no other, each with its line feed.
 fn has_lines(text: &str, lines: &str) -> bool {
-    match text.strip_suffix('\n') {
-        Some(found) => found == lines,
-        None => text.is_empty() && lines.is_empty(),
-    }
+    let is_empty = text.is_empty() && lines.is_empty();
+    is_empty || text.strip_suffix('\n') == Some(lines)
 }
 
 /// The sum of the numbers at the ends of the lines.
@@ -97,10 +84,7 @@ fn sum_of(lines: &str) -> Option<usize> {
 impl Shown {
     /// Whether the text has these lines, the total is their sum, and the warnings are as wanted.
     pub(crate) fn is_wanted(&self, lines: &str, warnings: &str) -> bool {
-        let has_total = match self.total {
-            Some(total) => sum_of(lines) == Some(total),
-            None => true,
-        };
+        let has_total = self.total.is_none() || self.total == sum_of(lines);
         let has_warnings = match &self.warnings {
             Some(text) => has_lines(text.as_str(), warnings),
             None => true,

@@ -1,6 +1,6 @@
 //! The ways in which the roots of a row are collected.
 use crate::forest::{Forest, Kind};
-use crate::shown::{Shown, graph_shown, output_shown, text_shown};
+use crate::shown::{Shown, graph_shown, output_shown};
 use allocative::{
     FlameGraph, FlameGraphBuilder, FlameGraphOutput, Key, Refusal, Registry, Visitor,
     profile_in_two, profile_roots,
@@ -8,7 +8,7 @@ use allocative::{
 use std::alloc::Global;
 
 /// How roots are collected.
-#[derive(Clone, Copy)]
+#[derive(Clone, Copy, Debug)]
 pub(crate) enum Way {
     /// Entered by hand, each at a root visitor of its own.
     ByHand,
@@ -22,20 +22,6 @@ pub(crate) enum Way {
     Added,
     /// Visited in two collections, whose graphs are added.
     InTwo,
-}
-
-impl Way {
-    /// The words for the way in a message.
-    pub(crate) fn name(self) -> &'static str {
-        match self {
-            Way::ByHand => "entered by hand",
-            Way::Visited => "visited",
-            Way::Values => "visited as values",
-            Way::Registered => "registered",
-            Way::Added => "added",
-            Way::InTwo => "collected in two",
-        }
-    }
 }
 
 /// Enters a forest by hand.
@@ -74,19 +60,19 @@ fn enter_entry(
     }
 }
 
-/// Enters each root by hand.
-fn enter_roots(builder: &mut FlameGraphBuilder, roots: &[Forest]) -> Result<(), Refusal> {
+/// Enters each root by hand at a root visitor of its own, or visits it.
+fn enter_roots(
+    builder: &mut FlameGraphBuilder,
+    roots: &[Forest],
+    is_by_hand: bool,
+) -> Result<(), Refusal> {
     for root in roots {
-        let mut visitor = builder.root_visitor()?;
-        enter(&mut visitor, root)?;
-    }
-    Ok(())
-}
-
-/// Visits each root.
-fn visit_roots(builder: &mut FlameGraphBuilder, roots: &[Forest]) -> Result<(), Refusal> {
-    for root in roots {
-        builder.visit_root(root)?;
+        if is_by_hand {
+            let mut visitor = builder.root_visitor()?;
+            enter(&mut visitor, root)?;
+        } else {
+            builder.visit_root(root)?;
+        }
     }
     Ok(())
 }
@@ -108,23 +94,22 @@ fn finish(
     Err(Refusal::Open)
 }
 
-fn by_hand(alloc: Global, roots: &[Forest]) -> Result<FlameGraphOutput, Refusal> {
+/// What roots show that are entered by hand, or visited.
+fn entered(alloc: Global, roots: &[Forest], is_by_hand: bool) -> Result<FlameGraphOutput, Refusal> {
     let mut builder = FlameGraphBuilder::new(alloc)?;
-    let entered = enter_roots(&mut builder, roots);
-    finish(builder, entered)
-}
-
-fn visited(alloc: Global, roots: &[Forest]) -> Result<FlameGraphOutput, Refusal> {
-    let mut builder = FlameGraphBuilder::new(alloc)?;
-    let entered = visit_roots(&mut builder, roots);
+    let entered = enter_roots(&mut builder, roots, is_by_hand);
     finish(builder, entered)
 }
 
 /// The text alone, by the call that returns nothing else.
-fn values(alloc: Global, roots: &[Forest]) -> Result<String, Refusal> {
+fn values(alloc: Global, roots: &[Forest]) -> Result<Shown, Refusal> {
     let mut builder = FlameGraphBuilder::new(alloc)?;
     builder.visit_values(roots)?;
-    builder.finish_and_write_flame_graph()
+    Ok(Shown {
+        text: builder.finish_and_write_flame_graph()?,
+        total: None,
+        warnings: None,
+    })
 }
 
 fn registered(alloc: Global, roots: Vec<Forest>) -> Result<FlameGraphOutput, Refusal> {
@@ -136,8 +121,8 @@ fn registered(alloc: Global, roots: Vec<Forest>) -> Result<FlameGraphOutput, Ref
 }
 
 fn added(alloc: Global, left: &[Forest], right: &[Forest]) -> Result<FlameGraph, Refusal> {
-    let mut sum = by_hand(alloc, left)?.into_flamegraph();
-    sum.add(by_hand(alloc, right)?.into_flamegraph())?;
+    let mut sum = entered(alloc, left, true)?.into_flamegraph();
+    sum.add(entered(alloc, right, true)?.into_flamegraph())?;
     Ok(sum)
 }
 
@@ -150,9 +135,9 @@ pub(crate) fn collect(
 ) -> Result<Shown, Refusal> {
     let middle = left.min(roots.len());
     match way {
-        Way::ByHand => output_shown(alloc, by_hand(alloc, &roots)?),
-        Way::Visited => output_shown(alloc, visited(alloc, &roots)?),
-        Way::Values => Ok(text_shown(values(alloc, &roots)?)),
+        Way::ByHand => output_shown(alloc, entered(alloc, &roots, true)?),
+        Way::Visited => output_shown(alloc, entered(alloc, &roots, false)?),
+        Way::Values => values(alloc, &roots),
         Way::Registered => output_shown(alloc, registered(alloc, roots)?),
         Way::Added => graph_shown(added(alloc, &roots[..middle], &roots[middle..])?),
         Way::InTwo => graph_shown(profile_in_two(alloc, &roots[..middle], &roots[middle..])?),
