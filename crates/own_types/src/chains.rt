@@ -5,8 +5,7 @@ ghost use Rattle.std.specs.Prelude.{codes, Some, true};
 ghost use Rattle.allocative.specs.Levels.{recursive};
 ghost use Rattle.own_types.specs.Chains.{chain_level};
 
-use allocative::part::{Field, Inside, Part, Unique};
-use allocative::{Allocative, Refusal, Visitor};
+use allocative::{Allocative, Field, Inside, Part, Refusal, Unique, Visitor};
 
 /// A text and what follows it, or the end.
 #[derive(Drop)]

@@ -4,8 +4,7 @@
 ghost use Rattle.std.specs.Prelude.{true, codes, Some};
 ghost use Rattle.allocative.specs.Shows.{Nothing, Inside, Field, Both};
 
-use allocative::part::{Field, Inside, Part};
-use allocative::{Allocative, Refusal, Visitor};
+use allocative::{Allocative, Field, Inside, Part, Refusal, Visitor};
 
 /// A request of a client to a store.
 #[derive(Drop)]

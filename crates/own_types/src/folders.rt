@@ -9,8 +9,7 @@ ghost use Rattle.allocative.specs.Levels.{recursive, child, inside, field, pair_
 ghost use Rattle.own_types.specs.declared.folders.Folder.{out-Folder};
 ghost use Rattle.own_types.specs.declared.folders.Index.{out-Index};
 
-use allocative::part::{Field, Inside, Part};
-use allocative::{Allocative, Described, Refusal, Visitor};
+use allocative::{Allocative, Described, Field, Inside, Part, Refusal, Visitor};
 use std::collections::{BTreeMap, HashMap};
 
 /// Folders by their numbers.

@@ -4,8 +4,7 @@
 ghost use Rattle.std.specs.Prelude.{codes, Some};
 ghost use Rattle.allocative.specs.Shows.{Inside, Field, Both};
 
-use allocative::part::{Field, Inside, Part};
-use allocative::{Allocative, Refusal, Visitor};
+use allocative::{Allocative, Field, Inside, Part, Refusal, Visitor};
 
 /// What someone buys.
 #[derive(Drop)]

@@ -7,8 +7,7 @@ ghost use Rattle.allocative.specs.StdShows.{Leaf};
 ghost use Rattle.allocative.specs.Levels.{recursive, plain, child, both, inside, field, box_of, option_of};
 ghost use Rattle.own_types.specs.declared.links.Link.{out-Link};
 
-use allocative::part::{Field, Inside, Part};
-use allocative::{Allocative, Described, Refusal, Visitor};
+use allocative::{Allocative, Described, Field, Inside, Part, Refusal, Visitor};
 
 /// A value, and the links after it.
 #[derive(Drop)]

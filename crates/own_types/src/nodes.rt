@@ -7,8 +7,7 @@ ghost use Rattle.allocative.specs.StdShows.{Leaf};
 ghost use Rattle.allocative.specs.Levels.{recursive, plain, child, both, inside, field, vec_of};
 ghost use Rattle.own_types.specs.declared.nodes.Node.{out-Node};
 
-use allocative::part::{Field, Inside, Part};
-use allocative::{Allocative, Described, Refusal, Visitor};
+use allocative::{Allocative, Described, Field, Inside, Part, Refusal, Visitor};
 
 /// A node and the nodes below it.
 #[derive(Drop)]

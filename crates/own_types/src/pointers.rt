@@ -4,8 +4,9 @@
 ghost use Rattle.std.specs.Prelude.{codes, Some};
 ghost use Rattle.allocative.specs.Shows.{Inside, Field, Both, SharedWith};
 
-use allocative::part::{Field, Inside, Part, Shared};
-use allocative::{Allocative, Described, IdRc, Identity, Key, Refusal, Visitor};
+use allocative::{
+    Allocative, Described, Field, IdRc, Identity, Inside, Key, Part, Refusal, Shared, Visitor,
+};
 use std::rc::Rc;
 
 /// Two owners, who may share one table.

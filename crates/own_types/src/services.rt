@@ -5,10 +5,9 @@ ghost use Rattle.std.specs.Prelude.{◌≡◌, ◌++◌, ◌∷◌, [], codes, f
 ghost use Rattle.allocative.specs.Shows.{Inside, Field, Both, each_shows};
 ghost use Rattle.allocative.specs.Visits.{IsProfileOf};
 
-use allocative::part::{Field, Inside, Part};
 use allocative::{
-    Allocative, Described, FlameGraphOutput, Key, Named, Refusal, Registry, Visitor, profile_roots,
-    profile_value, profile_values,
+    Allocative, Described, Field, FlameGraphOutput, Inside, Key, Named, Part, Refusal, Registry,
+    Visitor, profile_roots, profile_value, profile_values,
 };
 use std::alloc::Global;
 use std::mem;

@@ -5,8 +5,7 @@ ghost use Rattle.std.specs.Prelude.{codes, Some, true};
 ghost use Rattle.allocative.specs.Levels.{recursive};
 ghost use Rattle.own_types.specs.Trees.{tree_level};
 
-use allocative::part::{Field, Inside, Part};
-use allocative::{Allocative, Described, Refusal, Visitor};
+use allocative::{Allocative, Described, Field, Inside, Part, Refusal, Visitor};
 
 /// A number, or two trees.
 #[derive(Drop)]

@@ -4,8 +4,7 @@
 ghost use Rattle.std.specs.Prelude.{codes, Some};
 ghost use Rattle.allocative.specs.Shows.{Nothing, Inside, InsideUnique, Field, Both};
 
-use allocative::part::{Field, Inside, Part, Unique};
-use allocative::{Allocative, Refusal, Visitor};
+use allocative::{Allocative, Field, Inside, Part, Refusal, Unique, Visitor};
 use std::path::PathBuf;
 
 /// A colour, as the amounts of red, green and blue.

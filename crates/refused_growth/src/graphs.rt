@@ -11,25 +11,13 @@ type Size = (&'static str, usize);
 /// The text and the total of a graph.
 type Written = (&'static str, usize);
 
-/// A graph of this many bytes, without children.
-fn leaf(alloc: Global, size: usize) -> Result<FlameGraph, Refusal> {
-    let mut graph = FlameGraph::default(alloc);
-    graph.add_self(size)?;
-    Ok(graph)
-}
-
-fn child(alloc: Global, key: &'static str, size: usize) -> Result<Child, Refusal> {
-    Ok(Child {
-        key: Key::new(key),
-        graph: leaf(alloc, size)?,
-    })
-}
-
 /// Children in this order.
 fn children(alloc: Global, sizes: &[Size]) -> Result<Vec<Child>, Fault> {
     let mut children = Vec::new(alloc);
-    for size in sizes {
-        children.push(child(alloc, size.0, size.1)?)?;
+    for &(key, size) in sizes {
+        let (key, mut graph) = (Key::new(key), FlameGraph::default(alloc));
+        graph.add_self(size)?;
+        children.push(Child { key, graph })?;
     }
     Ok(children)
 }
@@ -45,19 +33,14 @@ fn graph(rt: &(impl Abort + AllocGlobal), sizes: &[Size]) -> FlameGraph {
     made(rt, || try_graph(rt.alloc(), sizes))
 }
 
-/// Whether a graph with this text and this total is one of these.
-fn is_one_of(graphs: &[Written], text: &str, total: usize) -> bool {
-    for graph in graphs {
-        if graph.1 == total && graph.0 == text {
-            return true;
-        }
-    }
-    false
-}
-
+/// Asserts that a graph has the text and the total of one of these.
 fn assert_one_of(rt: &impl Abort, graph: &FlameGraph, wanted: &[Written]) {
-    let text = written(rt, graph);
-    assert!(rt; is_one_of(wanted, text.as_str(), graph.total_size()));
+    let (text, total) = (written(rt, graph), graph.total_size());
+    assert!(rt;
+        wanted
+            .iter()
+            .any(|one| one.0 == text.as_str() && one.1 == total)
+    );
 }
 
 /// Asserts that a graph that was added to is the sum, or after an error one of the parts of the sum.

@@ -6,15 +6,9 @@ use allocative_json::run_json;
 use std::alloc::{AllocError, AllocGlobal, Global};
 use std::process::Abort;
 
-/// A run: its words, its input, and what it ends with.
-#[derive(Drop)]
-struct Row {
-    words: &'static str,
-    input: &'static str,
-    status: u8,
-    output: &'static str,
-    errors: &'static str,
-}
+/// The words and the input of a run, and the status, the output and the errors that it ends with.
+#[derive(Clone, Copy)]
+struct Row(&'static str, &'static str, u8, &'static str, &'static str);
 
 /// How a run ended, and what it wrote.
 #[derive(Drop)]
@@ -25,24 +19,15 @@ struct Ran {
 }
 
 fn words_of(alloc: Global, text: &str) -> Result<Vec<String>, AllocError> {
-    let mut words = Vec::new(alloc);
-    for word in text.split_ascii_whitespace() {
-        words.push(String::from_str(alloc, word)?)?;
-    }
-    Ok(words)
+    text.split_ascii_whitespace()
+        .map(|word| String::from_str(alloc, word))
+        .try_collect(alloc)
 }
 
-fn try_run(alloc: Global, row: &Row) -> Result<Ran, AllocError> {
-    let words = words_of(alloc, row.words)?;
+fn try_run(alloc: Global, row: Row) -> Result<Ran, AllocError> {
+    let (words, mut input) = (words_of(alloc, row.0)?, row.1.as_bytes());
     let (mut output, mut errors) = (Vec::new(alloc), Vec::new(alloc));
-    let mut input = row.input.as_bytes();
-    let status = run_json(
-        alloc,
-        words.as_slice(),
-        &mut input,
-        &mut output,
-        &mut errors,
-    );
+    let status = run_json(alloc, &words, &mut input, &mut output, &mut errors);
     Ok(Ran {
         status,
         output,
@@ -50,25 +35,21 @@ fn try_run(alloc: Global, row: &Row) -> Result<Ran, AllocError> {
     })
 }
 
-/// Whether a run ended as the row says, with its whole message.
-fn is_whole(ran: &Ran, row: &Row) -> bool {
-    ran.status == row.status && ran.errors.as_slice() == row.errors.as_bytes()
-}
-
 /// Whether a run ended as one with a refused growth may: for want of memory, with nothing written to its output; in a
-/// write; or with the row's fault and a part of its message.
-fn is_refused(ran: &Ran, row: &Row) -> bool {
-    let is_cut = ran.status == row.status && row.errors.as_bytes().starts_with(&ran.errors);
+/// write; or with the row's status and a part of its message.
+fn is_refused(ran: &Ran, status: u8, errors: &str) -> bool {
+    let is_cut = ran.status == status && errors.as_bytes().starts_with(&ran.errors);
     (ran.status == 1 || is_cut) && ran.output.is_empty() || ran.status == 7
 }
 
 /// A run of the row. Where a growth is refused, it is run anew.
-fn run(rt: &(impl Abort + AllocGlobal), row: &Row) -> Ran {
+fn run(rt: &(impl Abort + AllocGlobal), row: Row) -> Ran {
+    let Row(_, _, status, _, errors) = row;
     if let Ok(ran) = try_run(rt.alloc(), row) {
-        if is_whole(&ran, row) {
+        if ran.status == status && ran.errors.as_slice() == errors.as_bytes() {
             return ran;
         }
-        assert!(rt; is_refused(&ran, row));
+        assert!(rt; is_refused(&ran, status, errors));
     }
     try_run(rt.alloc(), row).expect(rt, "a run")
 }
@@ -77,38 +58,12 @@ fn assert_bytes(rt: &impl Abort, bytes: &[u8], want: &str) {
     assert_same(rt, str::from_utf8(bytes).expect(rt, "a text"), want);
 }
 
-fn assert_row(rt: &(impl Abort + AllocGlobal), row: &Row) {
+fn assert_row(rt: &(impl Abort + AllocGlobal), row: Row) {
     let ran = run(rt, row);
-    assert!(rt; ran.status == row.status);
-    assert_bytes(rt, ran.output.as_slice(), row.output);
-    assert_bytes(rt, ran.errors.as_slice(), row.errors);
-}
-
-/// A run that ends well.
-fn well(
-    words: &'static str,
-    input: &'static str,
-    output: &'static str,
-    errors: &'static str,
-) -> Row {
-    Row {
-        words,
-        input,
-        status: 0,
-        output,
-        errors,
-    }
-}
-
-/// A run that ends with a fault.
-fn faulty(words: &'static str, input: &'static str, status: u8, errors: &'static str) -> Row {
-    Row {
-        words,
-        input,
-        status,
-        output: "",
-        errors,
-    }
+    let Row(_, _, status, output, errors) = row;
+    assert!(rt; ran.status == status);
+    assert_bytes(rt, ran.output.as_slice(), output);
+    assert_bytes(rt, ran.errors.as_slice(), errors);
 }
 
 #[test]
@@ -121,21 +76,22 @@ fn rows_that_end_well(rt: HostRuntime) {
     let no_member = "Value 8\nValue;Object;Map 16\nValue;Object;Map;data 8\n";
     let no_number = "BTreeSet 16\nBTreeSet;data 8\nValue 32\n";
     for row in [
-        well("exact index", "[7,8]", two, SHORT_DATA),
-        well("exact", "{\"ab\":1}", member, ""),
-        well("registry", "true", "Value 32\n", ""),
-        well("exact", "\"\"", no_text, ""),
-        well("exact", "{}", no_member, ""),
-        well("index", "true", no_number, ""),
-        well("exact index", FAR_NUMBERS, THREE_NUMBERS, SHORT_DATA),
-        well(
+        Row("exact index", "[7,8]", 0, two, SHORT_DATA),
+        Row("exact", "{\"ab\":1}", 0, member, ""),
+        Row("registry", "true", 0, "Value 32\n", ""),
+        Row("exact", "\"\"", 0, no_text, ""),
+        Row("exact", "{}", 0, no_member, ""),
+        Row("index", "true", 0, no_number, ""),
+        Row("exact index", FAR_NUMBERS, 0, THREE_NUMBERS, SHORT_DATA),
+        Row(
             "exact index registry",
             FAR_NUMBERS,
+            0,
             THREE_NUMBERS,
             SHORT_DATA,
         ),
     ] {
-        assert_row(&rt, &row);
+        assert_row(&rt, row);
     }
 }
 
@@ -147,12 +103,12 @@ fn rows_that_end_with_a_fault(rt: HostRuntime) {
     let not_whole = "allocative-json: a number is not a 64-bit whole number\n";
     let no_word = "allocative-json: unknown or repeated word\n";
     for row in [
-        faulty("", "[1", 2, cut_off),
-        faulty("", "", 2, empty),
-        faulty("", "1.5", 3, not_whole),
-        faulty("all", "true", 5, no_word),
-        faulty("exact exact", "true", 5, no_word),
+        Row("", "[1", 2, "", cut_off),
+        Row("", "", 2, "", empty),
+        Row("", "1.5", 3, "", not_whole),
+        Row("all", "true", 5, "", no_word),
+        Row("exact exact", "true", 5, "", no_word),
     ] {
-        assert_row(&rt, &row);
+        assert_row(&rt, row);
     }
 }

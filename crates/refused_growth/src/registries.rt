@@ -23,8 +23,7 @@ fn registering_is_refused(rt: HostRuntime) {
         assert!(rt; registry.register_root(back).is_ok());
     }
     assert_count(&rt, registry.roots().len(), 1);
-    let nothing: Option<u32> = None;
-    if let Err(back) = registry.register_root(boxed(&rt, nothing)) {
+    if let Err(back) = registry.register_root(boxed(&rt, None::<u32>)) {
         assert_count(&rt, registry.roots().len(), 1);
         assert!(rt; registry.register_root(back).is_ok());
     }
@@ -43,8 +42,7 @@ impl Allocative for TestGlobalRoot {
         (shows.Field (codes "x") (Some 4) (shows.Field (codes "u32") (Some 4) shows.Nothing)) };
 
     fn visit(&self, visitor: &mut Visitor<'_>) -> Result<(), Refusal> {
-        let x = Field("x", &self.x);
-        Inside("TestGlobalRoot", 4, x).enter(visitor)
+        Inside("TestGlobalRoot", 4, Field("x", &self.x)).enter(visitor)
     }
 }
 

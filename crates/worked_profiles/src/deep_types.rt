@@ -27,10 +27,9 @@ fn four_entries_inside_one_another(rt: HostRuntime) -> Result<(), Fail> {
 
 #[test]
 fn a_foreign_part_is_passed_over(rt: HostRuntime) -> Result<(), Fail> {
-    let alloc = rt.alloc();
     let document = Document {
-        title: String::new(alloc),
-        path: PathBuf::from_str(alloc, "a/b")?,
+        title: String::new(rt.alloc()),
+        path: PathBuf::from_str(rt.alloc(), "a/b")?,
         pages: 3,
     };
     let text =
@@ -47,8 +46,7 @@ fn a_part_is_shown_by_its_size(rt: HostRuntime) -> Result<(), Fail> {
 
 #[test]
 fn two_owners_of_one_table(rt: HostRuntime) -> Result<(), Fail> {
-    let alloc = rt.alloc();
-    let first = IdRc::new(alloc, Vec::new(alloc), Identity::from(1))?;
+    let first = IdRc::new(rt.alloc(), Vec::new(rt.alloc()), Identity::from(1))?;
     let second = first.clone()?;
     let text = "Owners;first;Rc;ptr 8\nOwners;second;Rc;ptr 8\nRcInner 16\nRcInner;Vec 24\n";
     expect(&rt, &Owners { first, second }, text, 56)
@@ -86,16 +84,14 @@ fn a_tree_of_vectors(rt: HostRuntime) -> Result<(), Fail> {
 
 #[test]
 fn a_tree_and_what_it_holds(rt: HostRuntime) -> Result<(), Fail> {
-    let size = size_of_unique(&node(rt.alloc())?)?;
-    assert_eq!(rt; size, 64);
+    assert_eq!(rt; size_of_unique(&node(rt.alloc())?)?, 64);
     Ok(())
 }
 
 #[test]
 fn a_tree_of_boxes(rt: HostRuntime) -> Result<(), Fail> {
-    let alloc = rt.alloc();
-    let left = Box::new(alloc, Tree::Leaf(1))?;
-    let right = Box::new(alloc, Tree::Leaf(2))?;
+    let left = Box::new(rt.alloc(), Tree::Leaf(1))?;
+    let right = Box::new(rt.alloc(), Tree::Leaf(2))?;
     let text =
         "Tree 8\nTree;left;Box;ptr 8\nTree;left;Box;ptr;Tree 16\nTree;left;Box;ptr;Tree;Leaf;u64 8\nTree;right;Box;ptr 8\nTree;right;Box;ptr;Tree 16\nTree;right;Box;ptr;Tree;Leaf;u64 8\n";
     expect_holding(&rt, &Tree::Fork(left, right), text, 72, 48)
@@ -118,21 +114,18 @@ fn a_linked_list(rt: HostRuntime) -> Result<(), Fail> {
 
 #[test]
 fn a_chain_without_entries_of_boxes(rt: HostRuntime) -> Result<(), Fail> {
-    let alloc = rt.alloc();
-    let end = Box::new(alloc, Chain::End)?;
-    let chain = Chain::Text(String::new(alloc), end);
+    let end = Box::new(rt.alloc(), Chain::End)?;
+    let chain = Chain::Text(String::new(rt.alloc()), end);
     let text = "Chain;ptr 8\nChain;ptr;Chain 32\nChain;text;String 16\nChain;text;String;ptr 8\n";
     expect_holding(&rt, &chain, text, 64, 32)
 }
 
 #[test]
 fn a_hashed_map_of_its_own_type(rt: HostRuntime) -> Result<(), Fail> {
-    let alloc = rt.alloc();
     let below = Folder {
-        inner: HashMap::new(alloc),
+        inner: HashMap::new(rt.alloc()),
     };
-    let mut inner = HashMap::new(alloc);
-    inner.insert(1, below)?;
+    let inner = [(1, below)].into_iter().collect(rt.alloc())?;
     let folder = Folder { inner };
     let text =
         "Folder;inner;HashMap 40\nFolder;inner;HashMap;data;key;u32 4\nFolder;inner;HashMap;data;value;Folder;inner;HashMap 40\nFolder;inner;HashMap;data;value;Folder;inner;HashMap;data 8\n";

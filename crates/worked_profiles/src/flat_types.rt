@@ -32,10 +32,9 @@ fn three_fields_one_of_them_generic(rt: HostRuntime) -> Result<(), Fail> {
 
 #[test]
 fn five_fields(rt: HostRuntime) -> Result<(), Fail> {
-    let alloc = rt.alloc();
     let session = Session {
-        user: String::new(alloc),
-        scores: vec![in alloc; 1, 2]?,
+        user: String::new(rt.alloc()),
+        scores: vec![in rt.alloc(); 1, 2]?,
         limit: Some(9),
         place: (1, 2),
         is_open: true,
@@ -91,9 +90,7 @@ fn a_struct_over_a_vector(rt: HostRuntime) -> Result<(), Fail> {
 
 #[test]
 fn a_struct_over_a_hashed_map(rt: HostRuntime) -> Result<(), Fail> {
-    let mut values = HashMap::new(rt.alloc());
-    values.insert(1u8, 2u8)?;
-    values.insert(3, 4)?;
+    let values: HashMap<u8, u8> = [(1, 2), (3, 4)].into_iter().collect(rt.alloc())?;
     let text =
         "Catalog;asked;u64 8\nCatalog;values;HashMap 40\nCatalog;values;HashMap;data 4\nCatalog;values;HashMap;data;key;u8 2\nCatalog;values;HashMap;data;value;u8 2\n";
     expect(&rt, &Catalog { values, asked: 5 }, text, 56)

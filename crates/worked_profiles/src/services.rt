@@ -27,12 +27,8 @@ fn a_service_is_one_root(rt: HostRuntime) -> Result<(), Fail> {
 fn registered(alloc: Global) -> Result<Sensors, Refusal> {
     let mut sensors = Sensors::new(alloc);
     for (name, count) in [("door", 1), ("wall", 2)] {
-        if sensors
-            .register(Named(Key::new(name), Sensor { count }))
-            .is_err()
-        {
-            return Err(Refusal::Memory);
-        }
+        let sensor = Named(Key::new(name), Sensor { count });
+        sensors.register(sensor).or(Err(Refusal::Memory))?;
     }
     Ok(sensors)
 }

@@ -16,12 +16,11 @@ fn one_field_and_none(rt: HostRuntime) -> Result<(), Fail> {
 
 #[test]
 fn eight_fields(rt: HostRuntime) -> Result<(), Fail> {
-    let alloc = rt.alloc();
     let value = OfEight {
         number: 1,
-        name: String::new(alloc),
+        name: String::new(rt.alloc()),
         count: 2,
-        marks: Vec::new(alloc),
+        marks: Vec::new(rt.alloc()),
         is_open: true,
         limit: None,
         place: (3, 4),
@@ -85,10 +84,8 @@ fn a_variant_of_five_fields(rt: HostRuntime) -> Result<(), Fail> {
 
 #[test]
 fn a_size_follows_from_the_parameters(rt: HostRuntime) -> Result<(), Fail> {
-    let alloc = rt.alloc();
-    let values: HashMap<u32, u16> = HashMap::new(alloc);
     let table = Table {
-        values,
+        values: HashMap::<u32, u16>::new(rt.alloc()),
         last: 1,
         spare: None,
     };
@@ -96,7 +93,7 @@ fn a_size_follows_from_the_parameters(rt: HostRuntime) -> Result<(), Fail> {
         "Table 2\nTable;last;u16 2\nTable;spare;Option 4\nTable;values;HashMap 40\nTable;values;HashMap;data 8\n";
     expect(&rt, &table, text, 56)?;
     let page: Page<u64> = Page {
-        items: Vec::new(alloc),
+        items: Vec::new(rt.alloc()),
         first: None,
         total: 1,
     };
@@ -139,11 +136,9 @@ fn a_lifetime_and_a_number(rt: HostRuntime) -> Result<(), Fail> {
 #[test]
 fn implementations_in_place(rt: HostRuntime) -> Result<(), Fail> {
     let alloc = rt.alloc();
-    let pair = Pair {
-        first: 1u32,
-        second: 2u32,
-    };
-    expect(&rt, &pair, "Pair;first;u32 4\nPair;second;u32 4\n", 8)?;
+    let (first, second) = (1u32, 2u32);
+    let text = "Pair;first;u32 4\nPair;second;u32 4\n";
+    expect(&rt, &Pair { first, second }, text, 8)?;
     let post = Post::Sent {
         number: 7,
         name: String::new(alloc),
@@ -188,9 +183,9 @@ fn values_in_boxes(rt: HostRuntime) -> Result<(), Fail> {
     expect_holding(&rt, &boxed, text, 160, 80)?;
     let left = Box::new(alloc, Tree::Leaf(1))?;
     let right = Box::new(alloc, Tree::Leaf(2))?;
+    let fork = Tree::Fork(left, right);
     let text =
         "Tree 8\nTree;0;Box;ptr 8\nTree;0;Box;ptr;Tree 16\nTree;0;Box;ptr;Tree;Leaf;u64 8\nTree;1;Box;ptr 8\nTree;1;Box;ptr;Tree 16\nTree;1;Box;ptr;Tree;Leaf;u64 8\n";
-    let fork = Tree::Fork(left, right);
     expect_holding(&rt, &fork, text, 72, 48)?;
     let maybe = Json::Maybe {
         first: None,

@@ -4,11 +4,10 @@
 ghost use Rattle.std.specs.Prelude.{codes, ◌≡◌, ◌^◌, ◌-◌};
 ghost use Rattle.allocative.specs.Shows as shows;
 
-use crate::expected::{is_answer, is_refused};
-use crate::huge::Huge;
+use crate::expected::{Unsized, holds, is_answer, is_refused};
 use allocative::{
     Allocative, Described, Identity, Inside, Key, Part, Refusal, Shared, Unique, Visitor,
-    size_of_entries, size_of_unique_allocated_data,
+    size_of_entries,
 };
 use std::test::Fail;
 
@@ -31,10 +30,10 @@ struct HidesUnsized;
 
 impl Allocative for HidesUnsized {
     ghost may_show = { λ _.
-        shows.Field ⟦<Option<Huge> as Described>⟧.name ⟦<Option<Huge> as Described>⟧.size shows.Nothing };
+        shows.Field ⟦<Unsized as Described>⟧.name ⟦<Unsized as Described>⟧.size shows.Nothing };
 
     fn visit(&self, visitor: &mut Visitor<'_>) -> Result<(), Refusal> {
-        let _hidden = visitor.visit_simple_sized::<Option<Huge>>();
+        let _hidden = visitor.visit_simple_sized::<Unsized>();
         Ok(())
     }
 }
@@ -51,32 +50,6 @@ impl Allocative for Refuses {
     }
 }
 
-/// Fails by hand and returns `Ok`.
-#[derive(Drop)]
-struct RefusesInSilence;
-
-impl Allocative for RefusesInSilence {
-    ghost may_show = { λ _ _. ⊥ };
-
-    fn visit(&self, visitor: &mut Visitor<'_>) -> Result<(), Refusal> {
-        let _told = visitor.refuse(Refusal::Open);
-        Ok(())
-    }
-}
-
-/// Fails twice by hand, and returns what the second `refuse` returned.
-#[derive(Drop)]
-struct RefusesTwice;
-
-impl Allocative for RefusesTwice {
-    ghost may_show = { λ _ _. ⊥ };
-
-    fn visit(&self, visitor: &mut Visitor<'_>) -> Result<(), Refusal> {
-        let _first = visitor.refuse(Refusal::TooLarge);
-        Err(visitor.refuse(Refusal::Memory))
-    }
-}
-
 /// A pointer of 8 bytes to the shared value 1, with a part as its content.
 fn shared_pointer<P: Part>(content: P) -> Shared<P>
     ensures { result
@@ -90,44 +63,47 @@ fn shared_pointer<P: Part>(content: P) -> Shared<P>
     }
 }
 
-/// Fails by hand, with `Open` where the content of a shared value is shown, and otherwise with `Memory`.
+/// What never shows anything.
 #[derive(Drop)]
-struct Tells;
-
-impl Allocative for Tells {
-    ghost may_show = { λ _ _. ⊥ };
-
-    fn visit(&self, visitor: &mut Visitor<'_>) -> Result<(), Refusal> {
-        let content = Refuses(Refusal::Open);
-        Unique("p", 8, shared_pointer(&content)).enter(visitor)?;
-        Err(visitor.refuse(Refusal::Memory))
-    }
+enum Never {
+    /// Fails by hand and returns `Ok`.
+    InSilence,
+    /// Fails twice by hand, and returns what the second `refuse` returned.
+    Twice,
+    /// Fails by hand, with `Open` where the content of a shared value is shown, and otherwise with `Memory`.
+    InContent,
+    /// Shows a field by a closure that only returns an error.
+    ByClosure,
+    /// Shows a field by a closure that hides `TooLarge` and returns another error.
+    ByHidingClosure,
 }
 
-/// Shows a field by a closure that only returns an error.
-#[derive(Drop)]
-struct ClosureRefuses;
-
-impl Allocative for ClosureRefuses {
+impl Allocative for Never {
     ghost may_show = { λ _ _. ⊥ };
 
     fn visit(&self, visitor: &mut Visitor<'_>) -> Result<(), Refusal> {
-        visitor.visit_field_with(Key::new("f"), 4, |_inner| Err(Refusal::Open))
-    }
-}
-
-/// Shows a field by a closure that hides `TooLarge` and returns another error.
-#[derive(Drop)]
-struct ClosureHides;
-
-impl Allocative for ClosureHides {
-    ghost may_show = { λ _ _. ⊥ };
-
-    fn visit(&self, visitor: &mut Visitor<'_>) -> Result<(), Refusal> {
-        visitor.visit_field_with(Key::new("f"), 4, |inner| {
-            let _hidden = inner.visit_simple_sized::<Option<Huge>>();
-            Err(Refusal::Memory)
-        })
+        match self {
+            Never::InSilence => {
+                let _told = visitor.refuse(Refusal::Open);
+                Ok(())
+            }
+            Never::Twice => {
+                let _first = visitor.refuse(Refusal::TooLarge);
+                Err(visitor.refuse(Refusal::Memory))
+            }
+            Never::InContent => {
+                let content = Refuses(Refusal::Open);
+                Unique("p", 8, shared_pointer(&content)).enter(visitor)?;
+                Err(visitor.refuse(Refusal::Memory))
+            }
+            Never::ByClosure => {
+                visitor.visit_field_with(Key::new("f"), 4, |_inner| Err(Refusal::Open))
+            }
+            Never::ByHidingClosure => visitor.visit_field_with(Key::new("f"), 4, |inner| {
+                let _hidden = inner.visit_simple_sized::<Unsized>();
+                Err(Refusal::Memory)
+            }),
+        }
     }
 }
 
@@ -138,17 +114,17 @@ fn bad_implementations_fail_their_collector(rt: HostRuntime) -> Result<(), Fail>
         // What the collector of held bytes does not count has no bound there.
         (&Hides, large, Ok(0)),
         (&HidesUnsized, large, Err(large)),
-        (&RefusesTwice, large, Err(large)),
-        (&ClosureHides, large, Err(large)),
-        (&RefusesInSilence, open, Err(open)),
-        (&ClosureRefuses, open, Err(open)),
+        (&Never::Twice, large, Err(large)),
+        (&Never::ByHidingClosure, large, Err(large)),
+        (&Never::InSilence, open, Err(open)),
+        (&Never::ByClosure, open, Err(open)),
         (&Refuses(Refusal::Memory), memory, Err(memory)),
         // The collector of held bytes shows no content.
-        (&Tells, open, Err(memory)),
+        (&Never::InContent, open, Err(memory)),
     ];
     for (root, cause, held) in roots {
         is_refused(rt.alloc(), root, cause)?;
-        is_answer(size_of_unique_allocated_data(root), held)?;
+        holds(root, held)?;
     }
     Ok(())
 }
@@ -158,7 +134,7 @@ fn the_first_refusal_of_a_closure_is_answered() -> Result<(), Fail> {
     let failed = size_of_entries(|_visitor| Err(Refusal::Open));
     is_answer(failed, Err(Refusal::Open))?;
     let hidden = size_of_entries(|visitor| {
-        let _hidden = visitor.visit_simple_sized::<Option<Huge>>();
+        let _hidden = visitor.visit_simple_sized::<Unsized>();
         Err(Refusal::Memory)
     });
     is_answer(hidden, Err(Refusal::TooLarge))

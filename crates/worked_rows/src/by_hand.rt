@@ -6,12 +6,10 @@ ghost use Rattle.allocative.specs.Shows as shows;
 ghost use Rattle.allocative.specs.Visits.{Shows};
 ghost use Rattle.allocative.specs.Visited.{Visited};
 
-use crate::expected::{is_answer, is_refused};
+use crate::expected::{holds, is_refused};
 use allocative::by_hand::{collector_of, enter, enter_content, enter_unique};
 use allocative::collector::Collector;
-use allocative::{
-    Allocative, Declared, Identity, Key, Part, Refusal, Visitor, size_of_unique_allocated_data,
-};
+use allocative::{Allocative, Declared, Identity, Key, Part, Refusal, Visitor};
 use std::mem::ManuallyDrop;
 use std::test::Fail;
 
@@ -152,11 +150,6 @@ fn a_visit_that_forgets_leaves_its_builder_open(rt: HostRuntime) -> Result<(), F
     is_refused(rt.alloc(), &ForgetsNested, Refusal::Open)?;
     is_refused(rt.alloc(), &ForgetsContent, Refusal::Open)?;
     is_refused(rt.alloc(), &ForgetsFirst, Refusal::TooLarge)
-}
-
-/// Fails where the held bytes of a value are other ones.
-fn holds(root: &dyn Allocative, want: Result<usize, Refusal>) -> Result<(), Fail> {
-    is_answer(size_of_unique_allocated_data(root), want)
 }
 
 #[test]

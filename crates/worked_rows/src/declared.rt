@@ -1,31 +1,58 @@
-//! Keys and entries that a type or an identifier names.
-use crate::expected::{is_text, told};
+//! Entries and keys that a type or an identifier names, and the warnings of the paths that have one, told one by one.
+use crate::expected::{is_text, tells};
 use allocative::{FlameGraphBuilder, FlameGraphOutput, Key, Refusal};
 use std::alloc::Global;
 use std::test::Fail;
 
 /// Enters one entry by a value, one by its type, and one by a declared size.
-fn enter(builder: &mut FlameGraphBuilder) -> Result<(), Refusal> {
+fn declared(alloc: Global) -> Result<FlameGraphOutput, Refusal> {
+    let mut builder = FlameGraphBuilder::new(alloc)?;
     let mut root = builder.root_visitor()?;
     root.enter_self(&7u8)?.exit();
     root.enter_self_sized::<u8>()?.exit();
     root.enter_sized(Key::new("table"), Some(5))?.exit();
-    Ok(())
-}
-
-fn entered(alloc: Global) -> Result<FlameGraphOutput, Refusal> {
-    let mut builder = FlameGraphBuilder::new(alloc)?;
-    enter(&mut builder)?;
+    root.exit();
     builder.finish()
 }
 
 #[test]
 fn a_type_declares_its_entry(rt: HostRuntime) -> Result<(), Fail> {
-    let text = told(&entered(rt.alloc())?)?;
-    is_text(text.as_str(), "table 5\nu8 2\n")
+    tells(&declared(rt.alloc())?, "table 5\nu8 2\n")
 }
 
 #[test]
 fn an_identifier_is_a_key() -> Result<(), Fail> {
     is_text(allocative::ident_key!(foo).as_str(), "foo")
+}
+
+/// Enters `a 1 {x 4}`, and then `b 2 {y 3}`.
+fn warned(alloc: Global) -> Result<FlameGraphOutput, Refusal> {
+    let mut builder = FlameGraphBuilder::new(alloc)?;
+    let mut root = builder.root_visitor()?;
+    root.enter(Key::new("a"), 1)?
+        .visit_simple(Key::new("x"), 4)?;
+    root.enter(Key::new("b"), 2)?
+        .visit_simple(Key::new("y"), 3)?;
+    root.exit();
+    builder.finish()
+}
+
+/// The warning of each path, each followed by a semicolon.
+fn warnings_of(alloc: Global, output: &FlameGraphOutput) -> Result<String, Refusal> {
+    let mut text = String::new(alloc);
+    for path in output.warned_paths() {
+        path.push_warning(&mut text)?;
+        text.push_str("; ")?;
+    }
+    Ok(text)
+}
+
+#[test]
+fn a_path_tells_its_warning(rt: HostRuntime) -> Result<(), Fail> {
+    let text = warnings_of(rt.alloc(), &warned(rt.alloc())?)?;
+    is_text(
+        text.as_str(),
+        "Incorrect size declaration for node `a`, size of self: 1, size of inline children: 4; \
+         Incorrect size declaration for node `b`, size of self: 2, size of inline children: 3; ",
+    )
 }

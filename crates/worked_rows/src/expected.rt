@@ -1,26 +1,15 @@
 //! What a value shows, compared with what it has to show by functions that all tests share.
-use allocative::{Allocative, FlameGraphBuilder, FlameGraphOutput, Refusal};
+use allocative::{
+    Allocative, FlameGraphBuilder, FlameGraphOutput, Record, Refusal, size_of_unique_allocated_data,
+};
 use std::alloc::Global;
 use std::test::Fail;
 
-/// The text of an output, followed by its warnings.
-pub(crate) fn told(output: &FlameGraphOutput) -> Result<String, Refusal> {
-    let mut text = output.flamegraph().write()?;
-    text.push_str(output.warnings_text())?;
-    Ok(text)
-}
+/// An array of 2^62 bytes.
+type Quarter = [u64; 576_460_752_303_423_488];
 
-/// What one visit of a value collects.
-fn collected(alloc: Global, root: &dyn Allocative) -> Result<FlameGraphOutput, Refusal> {
-    let mut builder = FlameGraphBuilder::new(alloc)?;
-    builder.visit_root(root)?;
-    builder.finish()
-}
-
-/// The text of one visit of a value, followed by its warnings.
-pub(crate) fn text_of(alloc: Global, root: &dyn Allocative) -> Result<String, Refusal> {
-    told(&collected(alloc, root)?)
-}
+/// A type of 2^64 bytes, a size that does not fit a word.
+pub(crate) type Unsized = Record<(Quarter, (Quarter, (Quarter, (Quarter, ()))))>;
 
 /// Fails with a text that is not the wanted one.
 pub(crate) fn is_text(text: &str, want: &str) -> Result<(), Fail> {
@@ -30,10 +19,18 @@ pub(crate) fn is_text(text: &str, want: &str) -> Result<(), Fail> {
     Err(Fail::new(text))
 }
 
+/// Fails where an output has another text than this one, followed by its warnings.
+pub(crate) fn tells(output: &FlameGraphOutput, want: &str) -> Result<(), Fail> {
+    let mut text = output.flamegraph().write()?;
+    text.push_str(output.warnings_text())?;
+    is_text(text.as_str(), want)
+}
+
 /// Fails where one visit of a value has another text than this one, followed by its warnings.
 pub(crate) fn shows(alloc: Global, root: &dyn Allocative, want: &str) -> Result<(), Fail> {
-    let text = text_of(alloc, root)?;
-    is_text(text.as_str(), want)
+    let mut builder = FlameGraphBuilder::new(alloc)?;
+    builder.visit_root(root)?;
+    tells(&builder.finish()?, want)
 }
 
 /// Fails with an answer that is not the wanted one.
@@ -45,6 +42,11 @@ pub(crate) fn is_answer(
         return Ok(());
     }
     Err(Fail::new(format_args!("{answer:?}")))
+}
+
+/// Fails where the held bytes of a value are other ones.
+pub(crate) fn holds(root: &dyn Allocative, want: Result<usize, Refusal>) -> Result<(), Fail> {
+    is_answer(size_of_unique_allocated_data(root), want)
 }
 
 /// Fails where `visit_root` and then `finish` do not both return this error for a root.

@@ -1,5 +1,5 @@
 //! Builders that fail or stay open for good, and what they then return.
-use crate::huge::Huge;
+use crate::expected::Unsized;
 use allocative::{FlameGraphBuilder, Identity, Key, Refusal, Visitor};
 use std::alloc::Global;
 use std::mem::{ManuallyDrop, forget};
@@ -44,8 +44,8 @@ fn pass_the_bound_by_entries(root: &mut Visitor<'_>) -> Result<Told, Refusal> {
 
 /// Enters a value without a size, with parts and without.
 fn enter_unsized(root: &mut Visitor<'_>) -> Told {
-    let entered = root.enter_self_sized::<Option<Huge>>().err();
-    let after = root.visit_simple_sized::<Option<Huge>>().err();
+    let entered = root.enter_self_sized::<Unsized>().err();
+    let after = root.visit_simple_sized::<Unsized>().err();
     [entered, after]
 }
 
@@ -66,8 +66,8 @@ fn refuse_by_closure(root: &mut Visitor<'_>) -> Told {
 /// Forgets a nested visitor, and then enters values without a size.
 fn forget_and_enter_unsized(root: &mut Visitor<'_>) -> Result<Told, Refusal> {
     forget(root.enter(Key::new("a"), 1)?);
-    let first = root.visit_simple_sized::<Option<Huge>>().err();
-    let second = root.visit_simple_sized::<Option<Huge>>().err();
+    let first = root.visit_simple_sized::<Unsized>().err();
+    let second = root.visit_simple_sized::<Unsized>().err();
     Ok([first, second])
 }
 

@@ -1,18 +1,10 @@
 //! What no clause says: worked examples, printed texts, and what is left where memory runs out.
-use crate::made_graphs::{own, with_children};
-use allocative_graph::flamegraph::{Child, FlameGraph, push_path};
+use crate::made_graphs::{children_of, own, with_children, with_paths};
+use allocative::{FlameGraph, IdArc, IdMaker, IdRc, Identity, Key, Refusal, push_path};
 use allocative_graph::ident_key;
-use allocative_graph::key::Key;
-use allocative_graph::refusal::Refusal;
-use allocative_graph::shared::{IdArc, IdMaker, IdRc, Identity};
 use std::alloc::Global;
 use std::hash::{DefaultHasher, Hash, Hasher};
 use std::process::Abort;
-
-// A graph with one child, whose own size is given.
-fn one(alloc: Global, key: &'static str, size: usize) -> Result<FlameGraph, Refusal> {
-    with_children(alloc, &[(key, size)])
-}
 
 // Asserts the text of a graph and its total.
 fn assert_graph(
@@ -33,66 +25,52 @@ fn the_root_has_no_line(rt: HostRuntime) -> Result<(), Refusal> {
 
 #[test]
 fn children_of_one_key_add_up(rt: HostRuntime) -> Result<(), Refusal> {
-    let mut graph = one(rt.alloc(), "a", 3)?;
-    graph.add_child(Key::new("a"), own(rt.alloc(), 4)?)?;
+    let graph = with_children(rt.alloc(), &[("a", 3), ("a", 4)])?;
     assert_graph(&rt, &graph, "a 7\n", 7)
-}
-
-// The child `b` with 1, and below `a` the child `c` with 2.
-fn two_levels(alloc: Global) -> Result<FlameGraph, Refusal> {
-    let mut graph = one(alloc, "b", 1)?;
-    graph.add_child(Key::new("a"), one(alloc, "c", 2)?)?;
-    Ok(graph)
 }
 
 #[test]
 fn lines_stand_in_the_order_of_keys(rt: HostRuntime) -> Result<(), Refusal> {
-    assert_graph(&rt, &two_levels(rt.alloc())?, "a;c 2\nb 1\n", 3)
+    let graph = with_paths(rt.alloc(), &[("b", 1), ("a;c", 2)])?;
+    assert_graph(&rt, &graph, "a;c 2\nb 1\n", 3)
 }
 
 #[test]
 fn a_copy_has_the_same_lines(rt: HostRuntime) -> Result<(), Refusal> {
-    let graph = two_levels(rt.alloc())?;
+    let graph = with_paths(rt.alloc(), &[("b", 1), ("a;c", 2)])?;
     assert_graph(&rt, &graph.clone()?, "a;c 2\nb 1\n", 3)
 }
 
 #[test]
 fn keys_and_not_joined_texts_decide(rt: HostRuntime) -> Result<(), Refusal> {
-    let mut a = one(rt.alloc(), "x", 1)?;
-    a.add_self(2)?;
-    let mut graph = one(rt.alloc(), "a!", 2)?;
-    graph.add_child(Key::new("a"), a)?;
+    let graph = with_paths(rt.alloc(), &[("a!", 2), ("a;x", 1), ("a", 2)])?;
     assert_graph(&rt, &graph, "a 2\na;x 1\na! 2\n", 5)
 }
 
 #[test]
 fn an_empty_graph_takes_all_of_another(rt: HostRuntime) -> Result<(), Refusal> {
     let mut graph = FlameGraph::default(rt.alloc());
-    graph.add(one(rt.alloc(), "x", 10)?)?;
+    graph.add(with_children(rt.alloc(), &[("x", 10)])?)?;
     assert_graph(&rt, &graph, "x 10\n", 10)
 }
 
 #[test]
 fn graphs_add_up_path_by_path(rt: HostRuntime) -> Result<(), Refusal> {
-    let alloc = rt.alloc();
-    let mut left = one(alloc, "c", 2)?;
-    left.add_child(Key::new("a"), one(alloc, "x", 1)?)?;
-    let mut right = with_children(alloc, &[("b", 8), ("d", 16)])?;
-    right.add_child(Key::new("a"), one(alloc, "x", 4)?)?;
-    left.add(right)?;
+    let mut left = with_paths(rt.alloc(), &[("c", 2), ("a;x", 1)])?;
+    left.add(with_paths(rt.alloc(), &[("b", 8), ("d", 16), ("a;x", 4)])?)?;
     assert_graph(&rt, &left, "a;x 5\nb 8\nc 2\nd 16\n", 31)
 }
 
 #[test]
 fn a_key_with_a_semicolon_looks_like_a_path(rt: HostRuntime) -> Result<(), Refusal> {
-    assert_graph(&rt, &one(rt.alloc(), "a;b", 1)?, "a;b 1\n", 1)
+    let graph = with_children(rt.alloc(), &[("a;b", 1)])?;
+    assert_graph(&rt, &graph, "a;b 1\n", 1)
 }
 
 #[test]
 fn a_path_looks_like_a_key_with_a_semicolon(rt: HostRuntime) -> Result<(), Refusal> {
-    let mut nested = FlameGraph::default(rt.alloc());
-    nested.add_child(Key::new("a"), one(rt.alloc(), "b", 1)?)?;
-    assert_graph(&rt, &nested, "a;b 1\n", 1)
+    let graph = with_paths(rt.alloc(), &[("a;b", 1)])?;
+    assert_graph(&rt, &graph, "a;b 1\n", 1)
 }
 
 #[test]
@@ -102,7 +80,7 @@ fn a_total_past_the_bound_is_refused(rt: HostRuntime) -> Result<(), Refusal> {
     assert_eq!(rt; graph.total_size(), usize::MAX);
     let by_a_child = graph.add_child(Key::new("a"), own(rt.alloc(), 1)?);
     assert_eq!(rt; by_a_child, Err(Refusal::TooLarge));
-    let by_a_graph = graph.add(one(rt.alloc(), "a", 1)?);
+    let by_a_graph = graph.add(with_children(rt.alloc(), &[("a", 1)])?);
     assert_eq!(rt; by_a_graph, Err(Refusal::TooLarge));
     assert_graph(&rt, &graph, "", usize::MAX)
 }
@@ -137,11 +115,8 @@ fn after_memory_each_size_is_old_or_summed(rt: HostRuntime) -> Result<(), Refusa
 
 // The root with 1, `a` with 2, `a;x` with 4 and `b` with 8.
 fn read_sample(alloc: Global) -> Result<FlameGraph, Refusal> {
-    let mut a = one(alloc, "x", 4)?;
-    a.add_self(2)?;
-    let mut graph = one(alloc, "b", 8)?;
+    let mut graph = with_paths(alloc, &[("b", 8), ("a;x", 4), ("a", 2)])?;
     graph.add_self(1)?;
-    graph.add_child(Key::new("a"), a)?;
     Ok(graph)
 }
 
@@ -153,10 +128,8 @@ fn a_path_has_its_figures(rt: HostRuntime) -> Result<(), Refusal> {
     assert_eq!(rt; [graph.size_at(&[]), graph.total_at(&[])], [1, 15]);
     assert_eq!(rt; [graph.size_at(&["a"]), graph.total_at(&["a"])], [2, 6]);
     assert_eq!(rt; graph.size_at(&["a", "x"]), 4);
-    assert_eq!(rt;
-        [graph.size_at(&["x"]), graph.total_at(&["b", "x"])],
-        [0, 0]
-    );
+    assert_eq!(rt; graph.size_at(&["x"]), 0);
+    assert_eq!(rt; graph.total_at(&["b", "x"]), 0);
     Ok(())
 }
 
@@ -164,12 +137,7 @@ fn a_path_has_its_figures(rt: HostRuntime) -> Result<(), Refusal> {
 fn the_graph_at_a_path_has_what_stands_below_it(rt: HostRuntime) -> Result<(), Refusal> {
     let graph = read_sample(rt.alloc())?;
     assert!(rt; graph.get(&["b", "x"]).is_none());
-    let mut found = String::new(rt.alloc());
-    if let Some(a) = graph.get(&["a"]) {
-        found = a.write()?;
-    }
-    assert_eq!(rt; found.as_str(), "x 4\n");
-    Ok(())
+    assert_graph(&rt, graph.get(&["a"]).expect(&rt, "a graph"), "x 4\n", 6)
 }
 
 #[test]
@@ -177,8 +145,7 @@ fn children_stand_in_the_order_of_keys(rt: HostRuntime) -> Result<(), Refusal> {
     let graph = read_sample(rt.alloc())?;
     let mut text = String::new(rt.alloc());
     for child in graph.children() {
-        let key = child.key.as_str();
-        let total = child.graph.total_size();
+        let (key, total) = (child.key.as_str(), child.graph.total_size());
         write!(text, "{key} {total}\n")?;
     }
     assert_eq!(rt; text.as_str(), "a 6\nb 8\n");
@@ -197,21 +164,9 @@ fn rows_stand_in_the_order_of_paths(rt: HostRuntime) -> Result<(), Refusal> {
     Ok(())
 }
 
-// Children with these keys and sizes.
-fn children_of(alloc: Global, sizes: &[(&'static str, usize)]) -> Result<Vec<Child>, Refusal> {
-    let mut children = Vec::new(alloc);
-    for &(key, size) in sizes {
-        children.push(Child {
-            key: Key::new(key),
-            graph: own(alloc, size)?,
-        })?;
-    }
-    Ok(children)
-}
-
 #[test]
 fn many_children_are_added_at_once(rt: HostRuntime) -> Result<(), Refusal> {
-    let mut graph = one(rt.alloc(), "b", 16)?;
+    let mut graph = with_children(rt.alloc(), &[("b", 16)])?;
     graph.add_children(children_of(rt.alloc(), &[("c", 1), ("a", 2), ("c", 4), ("b", 8)])?)?;
     assert_graph(&rt, &graph, "a 2\nb 24\nc 5\n", 31)
 }
@@ -256,9 +211,8 @@ fn an_identifier_is_a_key(rt: HostRuntime) {
     assert!(rt; key == Key::new_unchecked(Key::hash_of("foo"), "foo"));
     let mut hasher = DefaultHasher::new();
     hasher.write_u64(Key::hash_of("foo"));
-    let expected = hasher.finish();
-    assert_eq!(rt; hashed(&key), expected);
-    assert_eq!(rt; hashed(&Key::new("foo")), expected);
+    let hashes = [hashed(&key), hashed(&Key::new("foo"))];
+    assert_eq!(rt; hashes, [hasher.finish(); 2]);
 }
 
 #[test]
@@ -284,11 +238,8 @@ fn identities_have_a_maker_and_a_number(rt: HostRuntime) {
 #[test]
 fn a_maker_counts_from_zero(rt: HostRuntime) {
     let mut maker = IdMaker::new(5);
-    let made = [maker.fresh(), maker.fresh()];
-    assert_eq!(rt;
-        made,
-        [Some(Identity::new(5, 0)), Some(Identity::new(5, 1))]
-    );
+    assert_eq!(rt; maker.fresh(), Some(Identity::new(5, 0)));
+    assert_eq!(rt; maker.fresh(), Some(Identity::new(5, 1)));
 }
 
 #[test]
@@ -316,9 +267,8 @@ fn a_value_that_threads_share_keeps_its_identity(rt: HostRuntime) -> Result<(), 
 
 #[test]
 fn refusals_have_their_numbers(rt: HostRuntime) {
-    assert_eq!(rt; Refusal::Memory as u8, 1);
-    assert_eq!(rt; Refusal::TooLarge as u8, 2);
-    assert_eq!(rt; Refusal::Open as u8, 3);
+    let (memory, large, open) = (Refusal::Memory, Refusal::TooLarge, Refusal::Open);
+    assert_eq!(rt; [memory as u8, large as u8, open as u8], [1, 2, 3]);
 }
 
 #[test]

@@ -1,20 +1,20 @@
-//! What values hold on the heap.
+//! What values hold on the heap, and what a box shows in a type of a user's own.
 #![tactic(auto, using(allocative::proofs::Parts::parts))]
 
-ghost use Rattle.std.specs.Prelude.{codes, Some, true, false, length, ◌≡◌};
-ghost use Rattle.allocative.specs.Bodies.{slice_of, vec_body};
+ghost use Rattle.std.specs.Prelude.{codes, Some, true, ◌≡◌};
+ghost use Rattle.allocative.specs.Bodies.{slice_of};
 ghost use Rattle.allocative.specs.Shows as shows;
 
-use crate::expected::{is_answer, shows};
+use crate::expected::{holds, is_answer, shows};
 use allocative::{
-    Allocative, Described, Field, Identity, Inside, Key, Part, Refusal, Unique, Visitor,
-    size_of_entries, size_of_unique, size_of_unique_allocated_data,
+    Allocative, Described, Field, Identity, Inside, Key, Part, Refusal, Unique, Visitor, Whole,
+    size_of_entries, size_of_unique,
 };
 use std::test::Fail;
 
 /// Shows items as a slice with an entry of its own.
 #[derive(Drop)]
-pub(crate) struct SliceOf<'a, T>(pub(crate) &'a Vec<T>);
+struct SliceOf<'a, T>(&'a Vec<T>);
 
 impl<'a, T: Allocative + Described> Part for SliceOf<'a, T> {
     ghost may_show = { λ s. slice_of T.name T.size T.may_show s.0.now.items };
@@ -24,13 +24,11 @@ impl<'a, T: Allocative + Described> Part for SliceOf<'a, T> {
     }
 }
 
-/// Shows `Box 16 {unique ptr 16 {..}}` of a slice of three numbers.
+/// A value of 16 bytes, which shows `Box 16 {unique ptr 16 {..}}` of a slice.
 #[derive(Drop)]
-struct BoxedSlice {
-    numbers: Vec<u32>,
-}
+struct BoxedSlice<T>(Vec<T>);
 
-impl Described for BoxedSlice {
+impl<T> Described for BoxedSlice<T> {
     ghost name = { codes "Box" };
 
     ghost align = { 8 };
@@ -56,25 +54,81 @@ impl Described for BoxedSlice {
     }
 }
 
-impl Allocative for BoxedSlice {
+impl<T: Allocative + Described> Allocative for BoxedSlice<T> {
     ghost may_show = { λ b. shows.Inside (codes "Box") 16
-        (shows.InsideUnique (codes "ptr") 16
-        (slice_of (codes "u32") (Some 4) ⟦<u32 as Allocative>⟧.may_show b.numbers.items)) };
+        (shows.InsideUnique (codes "ptr") 16 (slice_of T.name T.size T.may_show b.0.items)) };
 
     fn visit(&self, visitor: &mut Visitor<'_>) -> Result<(), Refusal> {
-        let pointer = Unique("ptr", 16, SliceOf(&self.numbers));
-        Inside("Box", 16, pointer).enter(visitor)
+        Inside("Box", 16, Unique("ptr", 16, SliceOf(&self.0))).enter(visitor)
     }
 }
 
-/// Shows `Boxed 16 {data 16 {..}}` of a boxed slice.
+/// A value with one field, of a box. It declares what the box declares.
 #[derive(Drop)]
-struct Boxed {
-    data: BoxedSlice,
+struct Boxed<T> {
+    data: T,
 }
 
-impl Described for Boxed {
+impl<T: Described> Described for Boxed<T> {
     ghost name = { codes "Boxed" };
+
+    ghost align = { T.align };
+
+    ghost needs_drop = { T.needs_drop };
+
+    ghost size = { T.size };
+
+    fn name() -> &'static str {
+        "Boxed"
+    }
+
+    fn align() -> usize {
+        T::align()
+    }
+
+    fn needs_drop() -> bool {
+        T::needs_drop()
+    }
+
+    fn size() -> Option<usize> {
+        T::size()
+    }
+}
+
+impl<T: Allocative + Described> Allocative for Boxed<T> {
+    ghost may_show = { λ b. shows.Field (codes "Boxed") T.size
+        (shows.Field (codes "data") T.size (T.may_show b.data)) };
+
+    fn visit(&self, visitor: &mut Visitor<'_>) -> Result<(), Refusal> {
+        Whole(self, Field("data", &self.data)).enter(visitor)
+    }
+}
+
+#[test]
+fn a_boxed_slice_holds_its_items(rt: HostRuntime) -> Result<(), Fail> {
+    let data = BoxedSlice([1u32, 2, 3].to_vec(rt.alloc())?);
+    let boxed = Boxed { data };
+    holds(&boxed, Ok(12))?;
+    is_answer(size_of_unique(&boxed), Ok(28))
+}
+
+#[test]
+fn a_box_holds_its_number(rt: HostRuntime) -> Result<(), Fail> {
+    let data = Box::new(rt.alloc(), 7u32)?;
+    let boxed = Boxed { data };
+    holds(&boxed, Ok(4))?;
+    is_answer(size_of_unique(&boxed), Ok(12))
+}
+
+/// A value of 16 bytes, with a byte and a box.
+#[derive(Drop)]
+struct Data {
+    a: u8,
+    b: Box<u32>,
+}
+
+impl Described for Data {
+    ghost name = { codes "Data" };
 
     ghost align = { 8 };
 
@@ -83,7 +137,7 @@ impl Described for Boxed {
     ghost size = { Some 16 };
 
     fn name() -> &'static str {
-        "Boxed"
+        "Data"
     }
 
     fn align() -> usize {
@@ -99,112 +153,50 @@ impl Described for Boxed {
     }
 }
 
-impl Allocative for Boxed {
-    ghost may_show = { λ b. shows.Inside (codes "Boxed") 16
-        (shows.Field (codes "data") (Some 16) (⟦<BoxedSlice as Allocative>⟧.may_show b.data)) };
+impl Allocative for Data {
+    ghost may_show = { λ d. shows.Inside (codes "Data") 16
+        (shows.Both (shows.Field (codes "a") (Some 1) (⟦<u8 as Allocative>⟧.may_show d.a))
+        (shows.Field (codes "b") (Some 8) (⟦<Box<u32> as Allocative>⟧.may_show d.b))) };
 
     fn visit(&self, visitor: &mut Visitor<'_>) -> Result<(), Refusal> {
-        let data = Field("data", &self.data);
-        Inside("Boxed", 16, data).enter(visitor)
+        let (a, b) = (Field("a", &self.a), Field("b", &self.b));
+        Inside("Data", 16, (a, b)).enter(visitor)
     }
 }
 
 #[test]
-fn a_boxed_slice_holds_its_items(rt: HostRuntime) -> Result<(), Fail> {
-    let numbers = [1u32, 2, 3].to_vec(rt.alloc())?;
-    let boxed = Boxed {
-        data: BoxedSlice { numbers },
-    };
-    is_answer(size_of_unique_allocated_data(&boxed), Ok(12))?;
+fn what_boxes_hold(rt: HostRuntime) -> Result<(), Fail> {
+    let b = Box::new(rt.alloc(), 7u32)?;
+    let data = Box::new(rt.alloc(), Data { a: 1, b })?;
+    let boxed = Boxed { data };
+    holds(&boxed, Ok(20))?;
     is_answer(size_of_unique(&boxed), Ok(28))
 }
 
-/// A value of 8 bytes: a box of a number.
+/// A value of 24 bytes: bytes as a boxed slice, and a byte.
 #[derive(Drop)]
-struct BoxedNumber {
-    data: Box<u32>,
+struct TestData {
+    data: BoxedSlice<u8>,
+    b: u8,
 }
 
-impl Described for BoxedNumber {
-    ghost name = { codes "BoxedNumber" };
-
-    ghost align = { 8 };
-
-    ghost needs_drop = { true };
-
-    ghost size = { Some 8 };
-
-    fn name() -> &'static str {
-        "BoxedNumber"
-    }
-
-    fn align() -> usize {
-        8
-    }
-
-    fn needs_drop() -> bool {
-        true
-    }
-
-    fn size() -> Option<usize> {
-        Some(8)
-    }
-}
-
-impl Allocative for BoxedNumber {
-    ghost may_show = { λ b. shows.Inside (codes "BoxedNumber") 8
-        (shows.Field (codes "data") (Some 8) (⟦<Box<u32> as Allocative>⟧.may_show b.data)) };
+impl Allocative for TestData {
+    ghost may_show = { λ t. shows.Inside (codes "TestData") 24 (shows.Both
+        (shows.Field (codes "data") (Some 16) (⟦<BoxedSlice<u8> as Allocative>⟧.may_show t.data))
+        (shows.Field (codes "b") (Some 1) (⟦<u8 as Allocative>⟧.may_show t.b))) };
 
     fn visit(&self, visitor: &mut Visitor<'_>) -> Result<(), Refusal> {
-        let data = Field("data", &self.data);
-        Inside("BoxedNumber", 8, data).enter(visitor)
+        let (data, b) = (Field("data", &self.data), Field("b", &self.b));
+        Inside("TestData", 24, (data, b)).enter(visitor)
     }
 }
 
 #[test]
-fn a_box_holds_its_number(rt: HostRuntime) -> Result<(), Fail> {
-    let boxed = BoxedNumber {
-        data: Box::new(rt.alloc(), 7u32)?,
-    };
-    is_answer(size_of_unique_allocated_data(&boxed), Ok(4))?;
-    is_answer(size_of_unique(&boxed), Ok(12))
-}
-
-/// Shows the body of a vector of bytes with no unused room.
-#[derive(Drop)]
-struct FullBody<'a>(&'a Vec<u8>);
-
-impl<'a> Part for FullBody<'a> {
-    ghost may_show = { λ b. vec_body (codes "u8") (Some 1) false ⟦<u8 as Allocative>⟧.may_show b.0.now.items
-        (length b.0.now.items) };
-
-    fn enter(self, visitor: &mut Visitor<'_>) -> Result<(), Refusal> {
-        visitor.visit_vec_like_body(self.0, self.0.len())
-    }
-}
-
-/// Shows a buffer of bytes with no unused room.
-#[derive(Drop)]
-struct Buffer {
-    bytes: Vec<u8>,
-}
-
-impl Allocative for Buffer {
-    ghost may_show = { λ b. shows.InsideUnique (codes "ptr") 8
-        (vec_body (codes "u8") (Some 1) false ⟦<u8 as Allocative>⟧.may_show b.bytes.items (length b.bytes.items)) };
-
-    fn visit(&self, visitor: &mut Visitor<'_>) -> Result<(), Refusal> {
-        Unique("ptr", 8, FullBody(&self.bytes)).enter(visitor)
-    }
-}
-
-#[test]
-fn a_full_buffer_holds_its_bytes(rt: HostRuntime) -> Result<(), Fail> {
-    let buffer = Buffer {
-        bytes: [1u8, 2, 3].to_vec(rt.alloc())?,
-    };
-    is_answer(size_of_unique_allocated_data(&buffer), Ok(3))?;
-    shows(rt.alloc(), &buffer, "ptr 8\nptr;capacity;u8 3\n")
+fn bytes_of_a_boxed_slice(rt: HostRuntime) -> Result<(), Fail> {
+    let data = BoxedSlice([0u8; 100].to_vec(rt.alloc())?);
+    let want =
+        "TestData 7\nTestData;b;u8 1\nTestData;data;Box;ptr 16\nTestData;data;Box;ptr;u8;data;u8 100\n";
+    shows(rt.alloc(), &TestData { data, b: 1 }, want)
 }
 
 #[test]

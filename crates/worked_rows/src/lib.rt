@@ -6,8 +6,6 @@
 #[cfg(test)]
 mod bad;
 #[cfg(test)]
-mod boxes;
-#[cfg(test)]
 mod by_hand;
 #[cfg(test)]
 mod declared;
@@ -20,8 +18,6 @@ mod graphs;
 #[cfg(test)]
 mod held;
 #[cfg(test)]
-mod huge;
-#[cfg(test)]
 mod made_graphs;
 #[cfg(test)]
 mod own_types;
@@ -30,14 +26,10 @@ mod pictures;
 #[cfg(test)]
 mod reads;
 #[cfg(test)]
-mod room;
-#[cfg(test)]
 mod session;
 #[cfg(test)]
 mod two;
 #[cfg(test)]
 mod values;
-#[cfg(test)]
-mod warned;
 #[cfg(test)]
 mod wide;

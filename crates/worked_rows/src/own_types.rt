@@ -4,7 +4,7 @@
 ghost use Rattle.std.specs.Prelude.{codes, Some};
 ghost use Rattle.allocative.specs.Shows as shows;
 
-use crate::expected::{is_text, shows, told};
+use crate::expected::{shows, tells};
 use allocative::{
     Allocative, Described, Field, IdRc, Identity, Inside, Key, Part, Refusal, Visitor,
     profile_values,
@@ -49,8 +49,7 @@ impl<T: Allocative + Described> Allocative for Wrapped<T> {
         (shows.Field (codes "value") T.size (T.may_show w.value)) };
 
     fn visit(&self, visitor: &mut Visitor<'_>) -> Result<(), Refusal> {
-        let value = Field("value", &self.value);
-        Inside("Wrapped", 16, value).enter(visitor)
+        Inside("Wrapped", 16, Field("value", &self.value)).enter(visitor)
     }
 }
 
@@ -65,8 +64,7 @@ impl Allocative for Handle {
         (shows.Field (codes "table") (Some 8) (⟦<IdRc<u64> as Allocative>⟧.may_show h.table)) };
 
     fn visit(&self, visitor: &mut Visitor<'_>) -> Result<(), Refusal> {
-        let table = Field("table", &self.table);
-        Inside("Handle", 8, table).enter(visitor)
+        Inside("Handle", 8, Field("table", &self.table)).enter(visitor)
     }
 }
 
@@ -98,8 +96,7 @@ fn a_shared_part_counts_once(rt: HostRuntime) -> Result<(), Fail> {
     let first = Handle {
         table: table.clone()?,
     };
-    let handles = [first, Handle { table }];
-    let text = told(&profile_values(rt.alloc(), &handles)?)?;
+    let output = profile_values(rt.alloc(), &[first, Handle { table }])?;
     let want = "Handle;table;Rc;ptr 16\nRcInner 16\nRcInner;u64 8\n";
-    is_text(text.as_str(), want)
+    tells(&output, want)
 }

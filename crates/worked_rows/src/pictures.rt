@@ -1,9 +1,7 @@
 //! What no clause says: whole pictures, as a browser gets them.
-use crate::made_graphs::{own, with_children};
+use crate::made_graphs::{own, with_children, with_paths};
+use allocative::Refusal;
 use allocative_collectors::output::WarnedPath;
-use allocative_graph::flamegraph::FlameGraph;
-use allocative_graph::key::Key;
-use allocative_graph::refusal::Refusal;
 use allocative_picture::options::Options;
 use allocative_picture::page::Subject;
 use allocative_picture::picture::{change_picture, draw, picture};
@@ -11,74 +9,59 @@ use allocative_picture::row::{Mark, Row};
 use std::alloc::{AllocError, Global};
 use std::process::Abort;
 
-/// A path that has a warning.
-fn warned_path(
-    alloc: Global,
-    path: &[&'static str],
-    self_size: usize,
-    children_size: usize,
-) -> Result<WarnedPath, AllocError> {
-    Ok(WarnedPath {
-        path: path.to_vec(alloc)?,
-        self_size,
-        children_size,
-    })
+/// Asserts that a text has these parts.
+fn assert_parts(rt: &impl Abort, text: &str, parts: &[&str]) {
+    for part in parts {
+        assert!(rt; text.contains(part), "{part}");
+    }
 }
 
 /// Asserts that a picture has this height, this title, this line of totals and exactly these boxes.
-fn assert_picture(
-    rt: &impl Abort,
-    text: &str,
-    height: &str,
-    title: &str,
-    totals: &str,
-    boxes: &str,
-) {
-    assert!(rt; text.starts_with(height), "height");
-    assert!(rt; text.contains(title), "title");
-    assert!(rt; text.contains(totals), "totals");
-    assert!(rt; text.contains(boxes), "boxes");
+fn assert_picture(rt: &impl Abort, text: &str, wanted: &[&str; 4]) {
+    assert!(rt; text.starts_with(wanted[0]), "height");
+    assert_parts(rt, text, wanted);
     assert!(rt; text.ends_with("]]></script>\n</svg>\n"), "end");
 }
 
-const PROFILE_BOXES: &str = "Whole</text></svg>\n\
+const PROFILE: [&str; 4] = [
+    "<svg xmlns=\"http://www.w3.org/2000/svg\" width=\"100%\" height=\"126\" font-size=\"12\">\n<style>",
+    "<text class=\"title\" x=\"8\" y=\"22\">Declared bytes</text>\n",
+    "<text class=\"sum say\" x=\"8\" y=\"42\">7 B (7 bytes) declared; 4 paths drawn, 0 too narrow</text>\n",
+    "Whole</text></svg>\n\
 <svg class=\"b root\" x=\"0.0000%\" y=\"54\" width=\"100.0000%\" height=\"18\"><title>all\n7 B (7 bytes), 100.00% of all\n0 B (0 bytes) of its own</title><rect width=\"100%\" height=\"100%\" rx=\"2\"/><text x=\"4\" y=\"13\">all<tspan class=\"n\" dx=\"8\">7 B</tspan></text></svg>\n\
 <svg class=\"b k10\" x=\"0.0000%\" y=\"72\" width=\"57.1428%\" height=\"18\"><title>Vec&lt;u8&gt;\u{fffd}\n4 B (4 bytes), 57.14% of all</title><rect width=\"100%\" height=\"100%\" rx=\"2\"/><text x=\"4\" y=\"13\">Vec&lt;u8&gt;\u{fffd}<tspan class=\"n\" dx=\"8\">4 B</tspan></text></svg>\n\
 <svg class=\"b k1\" x=\"57.1428%\" y=\"72\" width=\"42.8572%\" height=\"18\"><title>b\n3 B (3 bytes), 42.85% of all\n1 B (1 bytes) of its own</title><rect width=\"100%\" height=\"100%\" rx=\"2\"/><text x=\"4\" y=\"13\">b<tspan class=\"n\" dx=\"8\">3 B</tspan></text></svg>\n\
-<svg class=\"b k3\" x=\"71.4285%\" y=\"90\" width=\"28.5715%\" height=\"18\"><title>&lt;/title&gt;&lt;script&gt;\n2 B (2 bytes), 28.57% of all</title><rect width=\"100%\" height=\"100%\" rx=\"2\"/><text x=\"4\" y=\"13\">&lt;/title&gt;&lt;script&gt;<tspan class=\"n\" dx=\"8\">2 B</tspan></text></svg>\n<script>";
+<svg class=\"b k3\" x=\"71.4285%\" y=\"90\" width=\"28.5715%\" height=\"18\"><title>&lt;/title&gt;&lt;script&gt;\n2 B (2 bytes), 28.57% of all</title><rect width=\"100%\" height=\"100%\" rx=\"2\"/><text x=\"4\" y=\"13\">&lt;/title&gt;&lt;script&gt;<tspan class=\"n\" dx=\"8\">2 B</tspan></text></svg>\n<script>",
+];
 
-const CHANGE_BOXES: &str = "grew</tspan></text></svg>\n\
+const CHANGE: [&str; 4] = [
+    "<svg xmlns=\"http://www.w3.org/2000/svg\" width=\"100%\" height=\"108\" font-size=\"12\">\n<style>",
+    "<text class=\"title\" x=\"8\" y=\"22\">Declared bytes</text>\n",
+    "<text class=\"sum say\" x=\"8\" y=\"42\">5 B before, 4 B after (5 and 4 bytes)\n-1 B; 3 paths drawn, 0 too narrow</text>\n",
+    "grew</tspan></text></svg>\n\
 <svg class=\"b moved\" x=\"0.0000%\" y=\"54\" width=\"100.0000%\" height=\"18\"><title>all\n5 B before, 4 B after (5 and 4 bytes)\n-1 B</title><rect width=\"100%\" height=\"100%\" rx=\"2\" style=\"fill:rgb(213,221,231)\"/><text x=\"4\" y=\"13\">all<tspan class=\"n\" dx=\"8\">-1 B</tspan></text></svg>\n\
 <svg class=\"b moved\" x=\"0.0000%\" y=\"72\" width=\"66.6666%\" height=\"18\"><title>a\n2 B before, 4 B after (2 and 4 bytes)\n+2 B</title><rect width=\"100%\" height=\"100%\" rx=\"2\" style=\"fill:rgb(229,171,171)\"/><text x=\"4\" y=\"13\">a<tspan class=\"n\" dx=\"8\">+2 B</tspan></text></svg>\n\
-<svg class=\"b full\" x=\"66.6666%\" y=\"72\" width=\"33.3334%\" height=\"18\"><title>b\n3 B before, 0 B after (3 and 0 bytes)\n-3 B</title><rect width=\"100%\" height=\"100%\" rx=\"2\" style=\"fill:rgb(29,95,191)\"/><text x=\"4\" y=\"13\">b<tspan class=\"n\" dx=\"8\">-3 B</tspan></text></svg>\n<script>";
+<svg class=\"b full\" x=\"66.6666%\" y=\"72\" width=\"33.3334%\" height=\"18\"><title>b\n3 B before, 0 B after (3 and 0 bytes)\n-3 B</title><rect width=\"100%\" height=\"100%\" rx=\"2\" style=\"fill:rgb(29,95,191)\"/><text x=\"4\" y=\"13\">b<tspan class=\"n\" dx=\"8\">-3 B</tspan></text></svg>\n<script>",
+];
 
-const MARKED_BOXES: &str = "Whole</text></svg>\n\
+const MARKED: [&str; 4] = [
+    "<svg xmlns=\"http://www.w3.org/2000/svg\" width=\"100%\" height=\"158\" font-size=\"12\">\n<style>",
+    "<text class=\"title\" x=\"8\" y=\"22\">A &amp; B</text>\n",
+    "<text class=\"sum say\" x=\"8\" y=\"42\">3.0 KiB (3072 bytes) declared; 3 paths drawn, 1 too narrow</text>\n",
+    "Whole</text></svg>\n\
 <svg class=\"b root\" x=\"0.0000%\" y=\"54\" width=\"100.0000%\" height=\"18\"><title>all\n3.0 KiB (3072 bytes), 100.00% of all\n0 B (0 bytes) of its own</title><rect width=\"100%\" height=\"100%\" rx=\"2\"/><text x=\"4\" y=\"13\">all<tspan class=\"n\" dx=\"8\">3.0 KiB</tspan></text></svg>\n\
 <svg class=\"b warned\" x=\"0.0000%\" y=\"72\" width=\"100.0000%\" height=\"18\"><title>Map\n3.0 KiB (3072 bytes), 100.00% of all\n1000 B (1000 bytes) of its own\ndeclared smaller than its parts: see the warnings</title><rect width=\"100%\" height=\"100%\" rx=\"2\"/><text x=\"4\" y=\"13\">Map<tspan class=\"n\" dx=\"8\">3.0 KiB</tspan></text></svg>\n\
 <svg class=\"b spare\" x=\"32.5846%\" y=\"90\" width=\"67.4154%\" height=\"18\"><title>unused_capacity\n2.0 KiB (2071 bytes), 67.41% of all</title><rect width=\"100%\" height=\"100%\" rx=\"2\"/><text x=\"4\" y=\"13\">unused_capacity<tspan class=\"n\" dx=\"8\">2.0 KiB</tspan></text></svg>\n<text class=\"warn\" x=\"8\" y=\"132\">Incorrect size declaration for node `Map`, size of self: 1, size of inline children: 2</text>\n\
-<text class=\"warn\" x=\"8\" y=\"148\">Incorrect size declaration for node `Map;&lt;thin&gt;`, size of self: 30, size of inline children: 400</text>\n<script>";
+<text class=\"warn\" x=\"8\" y=\"148\">Incorrect size declaration for node `Map;&lt;thin&gt;`, size of self: 30, size of inline children: 400</text>\n<script>",
+];
 
-/// Two children, of which the second has a size of its own and a child with a key that is no markup.
-fn two_levels(alloc: Global) -> Result<FlameGraph, Refusal> {
-    let mut inner = with_children(alloc, &[("</title><script>", 2)])?;
-    inner.add_self(1)?;
-    let mut graph = with_children(alloc, &[("Vec<u8>\n", 4)])?;
-    graph.add_child(Key::new("b"), inner)?;
-    Ok(graph)
-}
-
+/// The second child has a size of its own and a child with a key that is no markup.
 #[test]
 fn boxes_stand_by_their_bytes(rt: HostRuntime) -> Result<(), Refusal> {
-    let graph = two_levels(rt.alloc())?;
+    let sizes = [("Vec<u8>\n", 4), ("b", 1), ("b;</title><script>", 2)];
+    let graph = with_paths(rt.alloc(), &sizes)?;
     let text = picture(rt.alloc(), &graph, &Options::default())?;
-    assert_picture(
-        &rt,
-        text.as_str(),
-        "<svg xmlns=\"http://www.w3.org/2000/svg\" width=\"100%\" height=\"126\" font-size=\"12\">\n<style>",
-        "<text class=\"title\" x=\"8\" y=\"22\">Declared bytes</text>\n",
-        "<text class=\"sum say\" x=\"8\" y=\"42\">7 B (7 bytes) declared; 4 paths drawn, 0 too narrow</text>\n",
-        PROFILE_BOXES,
-    );
+    assert_picture(&rt, text.as_str(), &PROFILE);
     Ok(())
 }
 
@@ -87,33 +70,31 @@ fn what_went_and_what_came_is_drawn(rt: HostRuntime) -> Result<(), Refusal> {
     let before = with_children(rt.alloc(), &[("a", 2), ("b", 3)])?;
     let after = with_children(rt.alloc(), &[("a", 4)])?;
     let text = change_picture(rt.alloc(), &before, &after, &Options::default())?;
-    assert_picture(
-        &rt,
-        text.as_str(),
-        "<svg xmlns=\"http://www.w3.org/2000/svg\" width=\"100%\" height=\"108\" font-size=\"12\">\n<style>",
-        "<text class=\"title\" x=\"8\" y=\"22\">Declared bytes</text>\n",
-        "<text class=\"sum say\" x=\"8\" y=\"42\">5 B before, 4 B after (5 and 4 bytes)\n-1 B; 3 paths drawn, 0 too narrow</text>\n",
-        CHANGE_BOXES,
-    );
+    assert_picture(&rt, text.as_str(), &CHANGE);
     Ok(())
 }
 
-/// The child `Map` with unused capacity and a child too narrow to be drawn.
-fn one_map(alloc: Global) -> Result<FlameGraph, Refusal> {
-    let mut map = with_children(alloc, &[("thin", 1), ("unused_capacity", 2071)])?;
-    map.add_self(1000)?;
-    let mut graph = FlameGraph::default(alloc);
-    graph.add_child(Key::new("Map"), map)?;
-    Ok(graph)
-}
-
+/// The child `Map` has unused capacity and a child too narrow to be drawn.
 #[test]
 fn warned_and_unused_paths_are_marked(rt: HostRuntime) -> Result<(), Refusal> {
     let alloc = rt.alloc();
-    let graph = one_map(alloc)?;
+    let sizes = [
+        ("Map", 1000),
+        ("Map;thin", 1),
+        ("Map;unused_capacity", 2071),
+    ];
+    let graph = with_paths(alloc, &sizes)?;
     let warned = [
-        warned_path(alloc, &["Map"], 1, 2)?,
-        warned_path(alloc, &["Map", "<thin>"], 30, 400)?,
+        WarnedPath {
+            path: ["Map"].to_vec(alloc)?,
+            self_size: 1,
+            children_size: 2,
+        },
+        WarnedPath {
+            path: ["Map", "<thin>"].to_vec(alloc)?,
+            self_size: 30,
+            children_size: 400,
+        },
     ];
     let options = Options {
         title: "A & B",
@@ -121,14 +102,7 @@ fn warned_and_unused_paths_are_marked(rt: HostRuntime) -> Result<(), Refusal> {
         narrowest: 500,
     };
     let text = picture(alloc, &graph, &options)?;
-    assert_picture(
-        &rt,
-        text.as_str(),
-        "<svg xmlns=\"http://www.w3.org/2000/svg\" width=\"100%\" height=\"158\" font-size=\"12\">\n<style>",
-        "<text class=\"title\" x=\"8\" y=\"22\">A &amp; B</text>\n",
-        "<text class=\"sum say\" x=\"8\" y=\"42\">3.0 KiB (3072 bytes) declared; 3 paths drawn, 1 too narrow</text>\n",
-        MARKED_BOXES,
-    );
+    assert_picture(&rt, text.as_str(), &MARKED);
     Ok(())
 }
 
@@ -136,11 +110,8 @@ fn warned_and_unused_paths_are_marked(rt: HostRuntime) -> Result<(), Refusal> {
 fn a_graph_without_bytes_has_no_box(rt: HostRuntime) -> Result<(), Refusal> {
     let alloc = rt.alloc();
     let text = picture(alloc, &own(alloc, 0)?, &Options::default())?;
-    assert!(rt;
-        text.as_str()
-            .contains("0 B (0 bytes) declared; 0 paths drawn, 1 too narrow")
-    );
-    assert!(rt; text.as_str().contains("Whole</text></svg>\n<script>"));
+    let said = "0 B (0 bytes) declared; 0 paths drawn, 1 too narrow";
+    assert_parts(&rt, text.as_str(), &[said, "Whole</text></svg>\n<script>"]);
     Ok(())
 }
 
@@ -168,10 +139,7 @@ fn row<'a>(key: &'a str, before: usize) -> Row<'a> {
 #[test]
 fn hostile_keys_stay_text(rt: HostRuntime) -> Result<(), AllocError> {
     let alloc = rt.alloc();
-    let mut long = String::new(alloc);
-    for _ in 0..10_000 {
-        long.push('x')?;
-    }
+    let long: String = (0..10_000).map(|_| 'x').collect(alloc)?;
     let rows = [
         row("<script>alert(1)</script>", 0),
         row("\"'&", 1),
@@ -182,17 +150,15 @@ fn hostile_keys_stay_text(rt: HostRuntime) -> Result<(), AllocError> {
     ];
     let subject = Subject::Profile { bytes: 6 };
     let text = draw(alloc, subject, &rows, &Options::default())?;
-    let text = text.as_str();
-    for part in [
+    let parts = [
         "<title>&lt;script&gt;alert(1)&lt;/script&gt;\n1 B (1 bytes), 16.66% of all</title>",
         "<title>&quot;&#39;&amp;\n",
         "<title>]]&gt;\n",
         "<title>\u{fffd}\u{fffd}\u{fffd}\u{fffd}\n",
         "<title>\n1 B",
         "xxxxx\n1 B",
-    ] {
-        assert!(rt; text.contains(part), "{part}");
-    }
-    assert!(rt; !text.contains("<script>alert"));
+    ];
+    assert_parts(&rt, text.as_str(), &parts);
+    assert!(rt; !text.as_str().contains("<script>alert"));
     Ok(())
 }

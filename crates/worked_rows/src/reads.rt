@@ -1,9 +1,6 @@
 //! Collapsed stacks that are read: the graph of each text, and which line is refused.
-use crate::made_graphs::own;
-use allocative_graph::flamegraph::FlameGraph;
-use allocative_graph::key::Key;
-use allocative_graph::read::{LEVELS, LineFault, ReadFault};
-use allocative_graph::refusal::Refusal;
+use crate::made_graphs::with_paths;
+use allocative::{FlameGraph, LEVELS, LineFault, ReadFault, Refusal};
 use std::alloc::{AllocError, Global};
 use std::process::Abort;
 
@@ -14,13 +11,8 @@ fn kept(text: String) -> Result<&'static str, AllocError> {
 
 // Asserts the text of the graph of some lines.
 fn assert_read(rt: &(impl Abort + AllocGlobal), text: &'static str, wanted: &str) {
-    match FlameGraph::read(rt.alloc(), text) {
-        Ok(graph) => assert_eq!(rt;
-            graph.write().unwrap_or(String::new(rt.alloc())).as_str(),
-            wanted
-        ),
-        Err(_) => assert!(rt; false),
-    }
+    let graph = FlameGraph::read(rt.alloc(), text).expect(rt, "a graph");
+    assert_eq!(rt; graph.write().expect(rt, "a text").as_str(), wanted);
 }
 
 // Asserts why a text is refused.
@@ -78,10 +70,7 @@ fn bytes_beyond_a_word_are_refused(rt: HostRuntime) {
 
 // A text of one line, whose path has this many keys.
 fn deep(alloc: Global, keys: usize) -> Result<&'static str, AllocError> {
-    let mut text = String::new(alloc);
-    for _ in 1..keys {
-        text.push_str("a;")?;
-    }
+    let mut text: String = (1..keys).map(|_| "a;").collect(alloc)?;
     text.push_str("a 1\n")?;
     kept(text)
 }
@@ -95,26 +84,12 @@ fn a_path_may_have_so_many_keys_and_no_more(rt: HostRuntime) -> Result<(), Alloc
     Ok(())
 }
 
-// A graph with a size at its root and at some paths, one of which is empty.
-fn some_graph(alloc: Global) -> Result<FlameGraph, Refusal> {
-    let leaf = own(alloc, 3)?;
-    let mut node = FlameGraph::default(alloc);
-    node.add_child(Key::new("y z"), leaf.clone()?)?;
-    let mut graph = own(alloc, 7)?;
-    graph.add_child(Key::new("x"), node)?;
-    graph.add_child(Key::new("a"), leaf)?;
-    graph.add_child(Key::new("empty"), FlameGraph::default(alloc))?;
-    Ok(graph)
-}
-
+// The graph has a size at its root and at some paths, one of which is empty.
 #[test]
 fn a_text_is_its_graph_again_but_for_the_root(rt: HostRuntime) -> Result<(), Refusal> {
-    let graph = some_graph(rt.alloc())?;
-    let text = kept(graph.write()?)?;
-    let Ok(read) = FlameGraph::read(rt.alloc(), text) else {
-        assert!(rt; false);
-        return Ok(());
-    };
+    let mut graph = with_paths(rt.alloc(), &[("x;y z", 3), ("a", 3), ("empty", 0)])?;
+    graph.add_self(7)?;
+    let read = FlameGraph::read(rt.alloc(), kept(graph.write()?)?).expect(&rt, "a graph");
     assert_eq!(rt; read.write()?.as_str(), "a 3\nx;y z 3\n");
     assert_eq!(rt; read.size_at(&["x", "y z"]), 3);
     assert_eq!(rt; read.size_at(&[]), 0);
@@ -134,12 +109,9 @@ fn faults_say_why(rt: HostRuntime) -> Result<(), AllocError> {
         (LineFault::TooDeep, "the path has more than 10000 keys"),
     ];
     for (wrong, text) in why {
-        let fault = ReadFault::Line(3, wrong);
-        let shown = format!(in rt.alloc(); "{fault}")?;
-        let wanted = format!(in rt.alloc();
-            "line 3 is not a path, a space and a number of bytes: {text}"
-        )?;
-        assert_eq!(rt; shown.as_str(), wanted.as_str());
+        let shown = format!(in rt.alloc(); "{}", ReadFault::Line(3, wrong))?;
+        let wanted = "line 3 is not a path, a space and a number of bytes: ";
+        assert_eq!(rt; shown.strip_prefix(wanted), Some(text));
     }
     Ok(())
 }

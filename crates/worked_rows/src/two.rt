@@ -93,10 +93,8 @@ fn is_refused(alloc: Global, size: usize, want: Refusal) -> Result<(), Fail> {
     let left = Item { size, refuses };
     let refuses = true;
     let right = Item { size, refuses };
-    match profile_in_two(alloc, &[left], &[right]) {
-        Ok(sum) => is_answer(Ok(sum.total_size()), Err(want)),
-        Err(refusal) => is_answer(Err(refusal), Err(want)),
-    }
+    let sum = profile_in_two(alloc, &[left], &[right]);
+    is_answer(sum.map(|sum| sum.total_size()), Err(want))
 }
 
 #[test]

@@ -1,9 +1,7 @@
 //! Nodes with few and with many children, which are entered in rising, falling and mixed order, one by one and at once.
-ghost use Rattle.std.specs.Prelude.{◌<◌};
-
 use crate::expected::is_text;
-use crate::made_graphs::own;
-use allocative::{Child, FlameGraph, FlameGraphBuilder, Key, Refusal, Visitor};
+use crate::made_graphs::{Size, children_of, with_children};
+use allocative::{FlameGraph, FlameGraphBuilder, Key, Refusal, Visitor};
 use std::alloc::{AllocError, Global};
 use std::test::Fail;
 
@@ -37,24 +35,23 @@ fn key_of(number: usize) -> &'static str {
 
 /// The first `count` keys, sorted by their bytes.
 fn sorted_keys(alloc: Global, count: usize) -> Result<Vec<&'static str>, AllocError> {
-    let mut keys = Vec::with_capacity(alloc, count)?;
-    for number in 0..count {
-        keys.push(key_of(number))?;
-    }
+    let mut keys: Vec<&'static str> = (0..count).map(key_of).collect(alloc)?;
     keys.sort()?;
     Ok(keys)
 }
 
-/// The place of the key that comes at a turn, of so many keys.
-fn place_at(turn: usize, count: usize, order: Order) -> usize
-    requires { turn < count }
-    ensures { result < count }
-{
-    match order {
-        Order::Rising => turn,
-        Order::Falling => count - 1 - turn,
-        Order::Mixed => turn.wrapping_mul(48_271) % count,
+/// The keys in an order, each with its place as its size, from 1 on.
+fn in_order(alloc: Global, keys: &[&'static str], order: Order) -> Result<Vec<Size>, AllocError> {
+    let mut sizes = Vec::new(alloc);
+    for turn in 0..keys.len() {
+        let place = match order {
+            Order::Rising => turn,
+            Order::Falling => keys.len() - 1 - turn,
+            Order::Mixed => turn.wrapping_mul(48_271) % keys.len(),
+        };
+        sizes.push((keys[place], place.wrapping_add(1)))?;
     }
+    Ok(sizes)
 }
 
 /// The lines of the children, where each was added `times` times.
@@ -67,64 +64,32 @@ fn lines_of(alloc: Global, keys: &[&'static str], times: usize) -> Result<String
     Ok(text)
 }
 
-/// Enters the keys in the order. The size of the least key is 1.
-fn enter(root: &mut Visitor<'_>, keys: &[&'static str], order: Order) -> Result<(), Refusal> {
-    for turn in 0..keys.len() {
-        let place = place_at(turn, keys.len(), order);
-        root.visit_simple(Key::new(keys[place]), place.wrapping_add(1))?;
+/// Enters each key with its size.
+fn enter(root: &mut Visitor<'_>, sizes: &[Size]) -> Result<(), Refusal> {
+    for &(key, size) in sizes {
+        root.visit_simple(Key::new(key), size)?;
     }
     Ok(())
 }
 
 /// Enters the keys twice at a root visitor.
-fn enter_twice(
-    builder: &mut FlameGraphBuilder,
-    keys: &[&'static str],
-    order: Order,
-) -> Result<(), Refusal> {
+fn enter_twice(builder: &mut FlameGraphBuilder, sizes: &[Size]) -> Result<(), Refusal> {
     let mut root = builder.root_visitor()?;
-    enter(&mut root, keys, order)?;
-    enter(&mut root, keys, order)
+    enter(&mut root, sizes)?;
+    enter(&mut root, sizes)
 }
 
 /// The text of a builder into which the keys are entered twice.
-fn text_of_entries(alloc: Global, keys: &[&'static str], order: Order) -> Result<String, Refusal> {
+fn text_of_entries(alloc: Global, sizes: &[Size]) -> Result<String, Refusal> {
     let mut builder = FlameGraphBuilder::new(alloc)?;
-    enter_twice(&mut builder, keys, order)?;
+    enter_twice(&mut builder, sizes)?;
     builder.finish_and_write_flame_graph()
 }
 
-/// The text of a graph to which the children are added one by one.
-fn text_one_by_one(alloc: Global, keys: &[&'static str], order: Order) -> Result<String, Refusal> {
-    let mut graph = FlameGraph::default(alloc);
-    for turn in 0..keys.len() {
-        let place = place_at(turn, keys.len(), order);
-        graph.add_child(Key::new(keys[place]), own(alloc, place.wrapping_add(1))?)?;
-    }
-    graph.write()
-}
-
-/// Adds the children to a list.
-fn push_children(
-    list: &mut Vec<Child>,
-    alloc: Global,
-    keys: &[&'static str],
-    order: Order,
-) -> Result<(), Refusal> {
-    for turn in 0..keys.len() {
-        let place = place_at(turn, keys.len(), order);
-        let graph = own(alloc, place.wrapping_add(1))?;
-        let key = Key::new(keys[place]);
-        list.push(Child { key, graph })?;
-    }
-    Ok(())
-}
-
 /// The text of a graph to which the children are added at once, each of them twice.
-fn text_at_once(alloc: Global, keys: &[&'static str], order: Order) -> Result<String, Refusal> {
-    let mut list = Vec::new(alloc);
-    push_children(&mut list, alloc, keys, order)?;
-    push_children(&mut list, alloc, keys, order)?;
+fn text_at_once(alloc: Global, sizes: &[Size]) -> Result<String, Refusal> {
+    let mut list = children_of(alloc, sizes)?;
+    list.append(&mut children_of(alloc, sizes)?)?;
     let mut graph = FlameGraph::default(alloc);
     graph.add_children(list)?;
     graph.write()
@@ -133,17 +98,13 @@ fn text_at_once(alloc: Global, keys: &[&'static str], order: Order) -> Result<St
 /// Fails where so many children in an order come out wrong: entered twice, added one by one, or added at once twice.
 fn come_out_right(alloc: Global, count: usize, order: Order) -> Result<(), Fail> {
     let keys = sorted_keys(alloc, count)?;
+    let sizes = in_order(alloc, &keys, order)?;
     let once = lines_of(alloc, &keys, 1)?;
     let twice = lines_of(alloc, &keys, 2)?;
-    is_text(
-        text_of_entries(alloc, &keys, order)?.as_str(),
-        twice.as_str(),
-    )?;
-    is_text(
-        text_one_by_one(alloc, &keys, order)?.as_str(),
-        once.as_str(),
-    )?;
-    is_text(text_at_once(alloc, &keys, order)?.as_str(), twice.as_str())
+    is_text(text_of_entries(alloc, &sizes)?.as_str(), twice.as_str())?;
+    let one_by_one = with_children(alloc, &sizes)?.write()?;
+    is_text(one_by_one.as_str(), once.as_str())?;
+    is_text(text_at_once(alloc, &sizes)?.as_str(), twice.as_str())
 }
 
 #[test]

@@ -1,7 +1,7 @@
 //! The texts of the helpers, and that a visit with them can succeed.
 #![tactic(auto, using(allocative::proofs::Parts::parts))]
 
-ghost use Rattle.std.specs.Prelude.{codes, true, false, Some, length, string_bytes};
+ghost use Rattle.std.specs.Prelude.{codes, false, Some, length, string_bytes};
 ghost use Rattle.allocative.specs.Shows as shows;
 ghost use Rattle.allocative.specs.Bodies.{slice_of, vec_body};
 ghost use Rattle.allocative.specs.Runs.{pair_shows, field_of};
@@ -9,58 +9,21 @@ ghost use Rattle.allocative.specs.Runs.{pair_shows, field_of};
 use crate::texts::expect_text;
 use allocative::{
     Allocative, Described, FlameGraphBuilder, Inside, Key, Part, Refusal, Unique, Visitor,
+    size_of_unique_allocated_data,
 };
 use std::collections::BTreeMap;
 use std::test::Fail;
 
-/// A byte that declares what `u8` declares.
-#[derive(Clone, Copy, Debug, PartialEq, Eq, PartialOrd, Ord, Drop)]
-struct Byte(u8);
-
-impl Described for Byte {
-    ghost name = { codes "u8" };
-
-    ghost align = { 1 };
-
-    ghost needs_drop = { false };
-
-    ghost size = { Some 1 };
-
-    fn name() -> &'static str {
-        "u8"
-    }
-
-    fn align() -> usize {
-        1
-    }
-
-    fn needs_drop() -> bool {
-        false
-    }
-
-    fn size() -> Option<usize> {
-        Some(1)
-    }
-}
-
-impl Allocative for Byte {
-    ghost may_show = { λ _. shows.Field (codes "u8") (Some 1) shows.Nothing };
-
-    fn visit(&self, visitor: &mut Visitor<'_>) -> Result<(), Refusal> {
-        visitor.visit_simple_sized::<Byte>()
-    }
-}
-
-/// A pair that declares that it needs no drop.
+/// A pair that declares whether it needs a drop.
 #[derive(Drop)]
-struct Pair;
+struct Pair<const DROPS: bool>;
 
-impl Described for Pair {
+impl<const DROPS: bool> Described for Pair<DROPS> {
     ghost name = { codes "Pair" };
 
     ghost align = { 1 };
 
-    ghost needs_drop = { false };
+    ghost needs_drop = { DROPS };
 
     ghost size = { Some 4 };
 
@@ -73,7 +36,7 @@ impl Described for Pair {
     }
 
     fn needs_drop() -> bool {
-        false
+        DROPS
     }
 
     fn size() -> Option<usize> {
@@ -81,50 +44,11 @@ impl Described for Pair {
     }
 }
 
-impl Allocative for Pair {
+impl<const DROPS: bool> Allocative for Pair<DROPS> {
     ghost may_show = { λ _. shows.Inside (codes "Pair") 4 (shows.Inside (codes "a") 1 shows.Nothing) };
 
     fn visit(&self, visitor: &mut Visitor<'_>) -> Result<(), Refusal> {
-        let a = Inside("a", 1, ());
-        Inside("Pair", 4, a).enter(visitor)
-    }
-}
-
-/// A pair that declares that it needs a drop.
-#[derive(Drop)]
-struct DropPair(Pair);
-
-impl Described for DropPair {
-    ghost name = { codes "Pair" };
-
-    ghost align = { 1 };
-
-    ghost needs_drop = { true };
-
-    ghost size = { Some 4 };
-
-    fn name() -> &'static str {
-        "Pair"
-    }
-
-    fn align() -> usize {
-        1
-    }
-
-    fn needs_drop() -> bool {
-        true
-    }
-
-    fn size() -> Option<usize> {
-        Some(4)
-    }
-}
-
-impl Allocative for DropPair {
-    ghost may_show = { λ _. shows.Inside (codes "Pair") 4 (shows.Inside (codes "a") 1 shows.Nothing) };
-
-    fn visit(&self, visitor: &mut Visitor<'_>) -> Result<(), Refusal> {
-        self.0.visit(visitor)
+        Inside("Pair", 4, Inside("a", 1, ())).enter(visitor)
     }
 }
 
@@ -154,7 +78,7 @@ impl<T: Allocative + Described> Allocative for Iterated<T> {
 
 /// Shows its entries by `visit_generic_map_fields`.
 #[derive(Drop)]
-struct MapFields(BTreeMap<Byte, Byte>);
+struct MapFields(BTreeMap<u8, u8>);
 
 impl Allocative for MapFields {
     ghost may_show = { λ m. shows.Inside (codes "data") 8
@@ -168,7 +92,7 @@ impl Allocative for MapFields {
 
 /// Shows its keys by `visit_generic_set_fields`.
 #[derive(Drop)]
-struct SetFields(Vec<Byte>);
+struct SetFields(Vec<u8>);
 
 impl Allocative for SetFields {
     ghost may_show = { λ s. shows.Inside (codes "data") 8
@@ -194,7 +118,7 @@ impl Allocative for Text {
 
 /// Shows a byte as a boxed object.
 #[derive(Drop)]
-struct Boxed(Byte);
+struct Boxed(u8);
 
 impl Allocative for Boxed {
     ghost may_show = { λ _. shows.Inside (codes "Box") 8
@@ -207,7 +131,7 @@ impl Allocative for Boxed {
 
 /// Shows a byte as a field.
 #[derive(Drop)]
-struct WithField(Byte);
+struct WithField(u8);
 
 impl Allocative for WithField {
     ghost may_show = { λ _. shows.Field (codes "f") (Some 1) (shows.Field (codes "u8") (Some 1) shows.Nothing) };
@@ -249,7 +173,7 @@ impl Allocative for WithSteps {
 
 /// Shows a slice with an entry of its own.
 #[derive(Drop)]
-struct SliceOf(Vec<Byte>);
+struct SliceOf(Vec<u8>);
 
 impl Allocative for SliceOf {
     ghost may_show = { λ s. slice_of (codes "u8") (Some 1)
@@ -262,7 +186,7 @@ impl Allocative for SliceOf {
 
 /// Shows the body of a vector of bytes with no unused room.
 #[derive(Drop)]
-struct FullBody<'a>(&'a Vec<Byte>);
+struct FullBody<'a>(&'a Vec<u8>);
 
 impl<'a> Part for FullBody<'a> {
     ghost may_show = { λ b. vec_body (codes "u8") (Some 1) false
@@ -275,7 +199,7 @@ impl<'a> Part for FullBody<'a> {
 
 /// Shows a buffer with no unused room.
 #[derive(Drop)]
-struct Body(Vec<Byte>);
+struct Body(Vec<u8>);
 
 impl Allocative for Body {
     ghost may_show = { λ s. shows.InsideUnique (codes "ptr") 8
@@ -289,46 +213,44 @@ impl Allocative for Body {
 
 #[test]
 fn a_slice_shows_its_size(rt: HostRuntime) -> Result<(), Fail> {
-    let items = vec![in rt.alloc(); Pair, Pair, Pair]?;
+    let items = vec![in rt.alloc(); Pair::<false>, Pair, Pair]?;
     expect_text(&rt, &Slice(items), "Pair 12\n")
 }
 
 #[test]
 fn a_slice_shows_each_item_that_needs_a_drop(rt: HostRuntime) -> Result<(), Fail> {
-    let items = vec![in rt.alloc(); DropPair(Pair), DropPair(Pair), DropPair(Pair)]?;
+    let items = vec![in rt.alloc(); Pair::<true>, Pair, Pair]?;
     expect_text(&rt, &Slice(items), "Pair 9\nPair;a 3\n")
 }
 
 #[test]
 fn an_empty_slice_shows_nothing(rt: HostRuntime) -> Result<(), Fail> {
-    let empty: Slice<Byte> = Slice(Vec::new(rt.alloc()));
+    let empty: Slice<u8> = Slice(Vec::new(rt.alloc()));
     expect_text(&rt, &empty, "")
 }
 
 #[test]
 fn an_iterator_shows_its_size(rt: HostRuntime) -> Result<(), Fail> {
-    let items = vec![in rt.alloc(); Pair, Pair, Pair]?;
+    let items = vec![in rt.alloc(); Pair::<false>, Pair, Pair]?;
     expect_text(&rt, &Iterated(items), "Pair 12\n")
 }
 
 #[test]
 fn an_iterator_shows_each_item_that_needs_a_drop(rt: HostRuntime) -> Result<(), Fail> {
-    let items = vec![in rt.alloc(); DropPair(Pair), DropPair(Pair), DropPair(Pair)]?;
+    let items = vec![in rt.alloc(); Pair::<true>, Pair, Pair]?;
     expect_text(&rt, &Iterated(items), "Pair 9\nPair;a 3\n")
 }
 
 #[test]
 fn a_map_shows_data(rt: HostRuntime) -> Result<(), Fail> {
-    let mut entries = BTreeMap::new(rt.alloc());
-    entries.insert(Byte(1), Byte(2))?;
-    entries.insert(Byte(3), Byte(4))?;
+    let entries = [(1, 2), (3, 4)].into_iter().collect(rt.alloc())?;
     let text = "data 4\ndata;key;u8 2\ndata;value;u8 2\n";
     expect_text(&rt, &MapFields(entries), text)
 }
 
 #[test]
 fn a_set_shows_data(rt: HostRuntime) -> Result<(), Fail> {
-    let keys = vec![in rt.alloc(); Byte(1), Byte(2)]?;
+    let keys = vec![in rt.alloc(); 1u8, 2]?;
     expect_text(&rt, &SetFields(keys), "data 6\ndata;key;u8 2\n")
 }
 
@@ -345,8 +267,8 @@ fn an_empty_str_shows_no_line(rt: HostRuntime) -> Result<(), Fail> {
 
 #[test]
 fn boxes_and_fields(rt: HostRuntime) -> Result<(), Fail> {
-    expect_text(&rt, &Boxed(Byte(1)), "Box;ptr 8\nBox;ptr;u8 1\n")?;
-    expect_text(&rt, &WithField(Byte(1)), "f;u8 1\n")
+    expect_text(&rt, &Boxed(1), "Box;ptr 8\nBox;ptr;u8 1\n")?;
+    expect_text(&rt, &WithField(1), "f;u8 1\n")
 }
 
 #[test]
@@ -358,9 +280,9 @@ fn closures(rt: HostRuntime) -> Result<(), Fail> {
 /// Enters one byte three times, by each call that enters a type's own name and size.
 fn enter_selves(builder: &mut FlameGraphBuilder) -> Result<(), Refusal> {
     let mut root = builder.root_visitor()?;
-    root.enter_self(&Byte(1))?.exit();
-    root.enter_self_sized::<Byte>()?.exit();
-    root.visit_simple_sized::<Byte>()
+    root.enter_self(&1u8)?.exit();
+    root.enter_self_sized::<u8>()?.exit();
+    root.visit_simple_sized::<u8>()
 }
 
 #[test]
@@ -374,12 +296,19 @@ fn entries_of_a_declared_type(rt: HostRuntime) -> Result<(), Fail> {
 
 #[test]
 fn a_slice_by_itself(rt: HostRuntime) -> Result<(), Fail> {
-    let items = vec![in rt.alloc(); Byte(1), Byte(2), Byte(3)]?;
+    let items = vec![in rt.alloc(); 1u8, 2, 3]?;
     expect_text(&rt, &SliceOf(items), "u8;data;u8 3\n")
 }
 
 #[test]
 fn a_body(rt: HostRuntime) -> Result<(), Fail> {
-    let items = vec![in rt.alloc(); Byte(1), Byte(2), Byte(3)]?;
+    let items = vec![in rt.alloc(); 1u8, 2, 3]?;
     expect_text(&rt, &Body(items), "ptr 8\nptr;capacity;u8 3\n")
+}
+
+#[test]
+fn a_full_buffer_holds_its_bytes(rt: HostRuntime) -> Result<(), Fail> {
+    let buffer = Body([1u8, 2, 3].to_vec(rt.alloc())?);
+    assert_eq!(rt; size_of_unique_allocated_data(&buffer)?, 3);
+    expect_text(&rt, &buffer, "ptr 8\nptr;capacity;u8 3\n")
 }

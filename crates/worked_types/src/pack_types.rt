@@ -3,7 +3,7 @@
 ghost use Rattle.std.specs.Prelude.{true};
 ghost use Rattle.allocative.specs.JsonShows.{stored_map};
 
-use crate::texts::{expect_exact, expect_text, text_of};
+use crate::texts::{expect_exact, expect_room, expect_text};
 use allocative::{Allocative, Refusal, Visitor, visit_json_map};
 use either::Either;
 use indexmap::{IndexMap, IndexSet};
@@ -11,24 +11,7 @@ use once_cell::race::OnceBox;
 use serde_json::{Map, Value};
 use slab::Slab;
 use smallvec::SmallVec;
-use std::alloc::Global;
 use std::test::Fail;
-
-/// The number in the only line of unused capacity in the text of one visit. The line begins with `path`.
-fn amount_at(alloc: Global, root: &dyn Allocative, path: &str) -> Result<usize, Fail> {
-    let text = text_of(alloc, root)?;
-    let mut found = None;
-    for line in text.lines() {
-        if line.contains(";unused_capacity ") {
-            if found.is_some() {
-                return Err(Fail::new("two lines"));
-            }
-            let amount = line.strip_prefix(path).ok_or("another line")?;
-            found = Some(amount.parse::<usize>()?);
-        }
-    }
-    Ok(found.ok_or("no line")?)
-}
 
 /// A map that shows itself by the call for maps.
 #[derive(Drop)]
@@ -127,17 +110,13 @@ fn a_cell_shows_its_value_once_set(rt: HostRuntime) -> Result<(), Fail> {
 
 #[test]
 fn a_small_vector_shows_what_it_has_in_place(rt: HostRuntime) -> Result<(), Fail> {
-    let mut items: SmallVec<u64, 2> = SmallVec::new(rt.alloc());
-    items.push(1)?;
+    let items: SmallVec<u64, 2> = [1].into_iter().collect(rt.alloc())?;
     expect_text(&rt, &items, "SmallVec 16\nSmallVec;data;u64 8\n")
 }
 
 #[test]
 fn a_small_vector_shows_what_it_has_moved_out(rt: HostRuntime) -> Result<(), Fail> {
-    let mut items: SmallVec<u64, 2> = SmallVec::new(rt.alloc());
-    for number in [1, 2, 3] {
-        items.push(number)?;
-    }
+    let items: SmallVec<u64, 2> = [1, 2, 3].into_iter().collect(rt.alloc())?;
     let text = "SmallVec 16\nSmallVec;ptr 8\nSmallVec;ptr;data;u64 24\n";
     expect_text(&rt, &items, text)
 }
@@ -157,9 +136,8 @@ fn a_slab_shows_its_room(rt: HostRuntime) -> Result<(), Fail> {
         three.insert(value)?;
     }
     three.reserve(100)?;
-    let unused = amount_at(rt.alloc(), &three, "Slab;ptr;unused_capacity ")?;
-    assert_eq!(rt; Some(unused), three.capacity().checked_sub(3));
-    Ok(())
+    let room = three.capacity().checked_sub(3);
+    expect_room(&rt, &three, "Slab;ptr;unused_capacity ", room)
 }
 
 #[test]
@@ -170,8 +148,7 @@ fn an_index_map_with_no_pair_shows_no_table(rt: HostRuntime) -> Result<(), Fail>
 
 #[test]
 fn an_index_map_shows_its_pairs(rt: HostRuntime) -> Result<(), Fail> {
-    let mut one: IndexMap<u64, u64> = IndexMap::new(rt.alloc());
-    one.insert(1, 2)?;
+    let one: IndexMap<u64, u64> = [(1, 2)].into_iter().collect(rt.alloc())?;
     let text =
         "IndexMap 56\nIndexMap;data 8\nIndexMap;data;key;u64 8\nIndexMap;data;value;u64 8\nIndexMap;raw_table 8\nIndexMap;raw_table;alloc 36\n";
     expect_exact(&rt, &one, text)
@@ -179,23 +156,16 @@ fn an_index_map_shows_its_pairs(rt: HostRuntime) -> Result<(), Fail> {
 
 #[test]
 fn an_index_map_shows_its_room(rt: HostRuntime) -> Result<(), Fail> {
-    let mut three: IndexMap<u8, u8> = IndexMap::new(rt.alloc());
-    for key in [1u8, 2, 3] {
-        three.insert(key, 0)?;
-    }
+    let pairs = [(1, 0), (2, 0), (3, 0)];
+    let mut three: IndexMap<u8, u8> = pairs.into_iter().collect(rt.alloc())?;
     three.reserve(100)?;
-    let unused = amount_at(rt.alloc(), &three, "IndexMap;data;unused_capacity ")?;
-    let room = three.capacity() - three.len();
-    assert_eq!(rt; Some(unused), room.checked_mul(2));
-    Ok(())
+    let room = (three.capacity() - three.len()).checked_mul(2);
+    expect_room(&rt, &three, "IndexMap;data;unused_capacity ", room)
 }
 
 #[test]
 fn an_index_set_shows_its_values(rt: HostRuntime) -> Result<(), Fail> {
-    let mut five: IndexSet<u16> = IndexSet::new(rt.alloc());
-    for value in [1u16, 2, 3, 4, 5] {
-        five.insert(value)?;
-    }
+    let five: IndexSet<u16> = [1, 2, 3, 4, 5].into_iter().collect(rt.alloc())?;
     let text =
         "IndexSet 56\nIndexSet;data 8\nIndexSet;data;value;u16 10\nIndexSet;raw_table 8\nIndexSet;raw_table;alloc 72\n";
     expect_exact(&rt, &five, text)
@@ -203,12 +173,8 @@ fn an_index_set_shows_its_values(rt: HostRuntime) -> Result<(), Fail> {
 
 #[test]
 fn an_index_set_shows_its_room(rt: HostRuntime) -> Result<(), Fail> {
-    let mut three: IndexSet<u8> = IndexSet::new(rt.alloc());
-    for value in [1u8, 2, 3] {
-        three.insert(value)?;
-    }
+    let mut three: IndexSet<u8> = [1, 2, 3].into_iter().collect(rt.alloc())?;
     three.reserve(100)?;
-    let unused = amount_at(rt.alloc(), &three, "IndexSet;data;unused_capacity ")?;
-    assert_eq!(rt; unused, three.capacity() - three.len());
-    Ok(())
+    let room = three.capacity() - three.len();
+    expect_room(&rt, &three, "IndexSet;data;unused_capacity ", Some(room))
 }

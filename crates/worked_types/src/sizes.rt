@@ -1,7 +1,11 @@
 //! The tables and the rules at concrete types, and sizes that do not fit.
+#![tactic(auto, using(allocative::proofs::Parts::parts))]
 
 ghost use Rattle.std.specs.Prelude.{Some, false, codes};
+ghost use Rattle.allocative.specs.Shows as shows;
 
+use crate::texts::expect_text;
+use allocative::{Allocative, Field, IdArc, Identity, Inside, Part, Refusal, Visitor};
 use allocative_described::{
     And, Described, Or, Record, raw_table_alloc_size_for_len, shared_inner_size,
 };
@@ -24,6 +28,7 @@ use std::sync::atomic::{
     AtomicBool, AtomicI8, AtomicI16, AtomicI32, AtomicI64, AtomicIsize, AtomicU8, AtomicU16,
     AtomicU32, AtomicU64, AtomicUsize,
 };
+use std::test::Fail;
 use std::time::{Duration, Instant, SystemTime};
 
 // A type of the greatest size. As the layout of an array it is not proved.
@@ -55,8 +60,9 @@ impl Described for Huge {
     }
 }
 
-// A type whose alignment is greater than that of a pointer.
-struct CacheLine;
+/// A value of one field, with an alignment that is greater than that of a pointer.
+#[derive(Drop)]
+struct CacheLine(u8);
 
 impl Described for CacheLine {
     ghost name = { codes "CacheLine" };
@@ -82,6 +88,22 @@ impl Described for CacheLine {
     fn size() -> Option<usize> {
         Some(64)
     }
+}
+
+impl Allocative for CacheLine {
+    ghost may_show = { λ _. shows.Inside (codes "CacheLine") 64
+        (shows.Field (codes "0") (Some 1) (shows.Field (codes "u8") (Some 1) shows.Nothing)) };
+
+    fn visit(&self, visitor: &mut Visitor<'_>) -> Result<(), Refusal> {
+        Inside("CacheLine", 64, Field("0", &self.0)).enter(visitor)
+    }
+}
+
+#[test]
+fn a_shared_value_stands_beside_its_pointer(rt: HostRuntime) -> Result<(), Fail> {
+    let shared = IdArc::new(rt.alloc(), CacheLine(1), Identity::from(1))?;
+    let want = "Arc;ptr 8\nArcInner 64\nArcInner;CacheLine 63\nArcInner;CacheLine;0;u8 1\n";
+    expect_text(&rt, &shared, want)
 }
 
 // Whether a type declares this name, size, alignment and need of a drop.

@@ -1,5 +1,5 @@
 //! The text of each type at a concrete type, without the lines of unused capacity.
-use crate::texts::expect_exact;
+use crate::texts::{expect_exact, expect_room};
 use allocative::{
     Allocative, IdArc, IdRc, Identity, size_of_unique, size_of_unique_allocated_data,
 };
@@ -204,13 +204,30 @@ fn a_vector_holds_its_capacity(rt: HostRuntime) -> Result<(), Fail> {
 }
 
 #[test]
+fn the_room_of_a_vector_is_what_its_capacity_leaves(rt: HostRuntime) -> Result<(), Fail> {
+    let mut bytes: Vec<u8> = Vec::with_capacity(rt.alloc(), 100)?;
+    bytes.extend_from_slice(&[1, 2, 3])?;
+    assert!(rt; bytes.capacity() >= 100);
+    let room = bytes.capacity().checked_sub(3);
+    expect_room(&rt, &bytes, "Vec;ptr;unused_capacity ", room)
+}
+
+#[test]
 fn a_deque_shows_its_items(rt: HostRuntime) -> Result<(), Fail> {
-    let mut deque: VecDeque<u16> = VecDeque::new(rt.alloc());
-    for number in [1, 2, 3] {
-        deque.push_back(number)?;
-    }
+    let deque: VecDeque<u16> = [1, 2, 3].into_iter().collect(rt.alloc())?;
     let text = "VecDeque 24\nVecDeque;ptr 8\nVecDeque;ptr;u16 6\n";
     expect_exact(&rt, &deque, text)
+}
+
+#[test]
+fn the_room_of_a_deque_is_what_its_capacity_leaves(rt: HostRuntime) -> Result<(), Fail> {
+    let mut deque: VecDeque<u8> = VecDeque::with_capacity(rt.alloc(), 100)?;
+    for byte in [1, 2, 3] {
+        deque.push_back(byte)?;
+    }
+    assert!(rt; deque.capacity() >= 100);
+    let room = deque.capacity().checked_sub(3);
+    expect_room(&rt, &deque, "VecDeque;ptr;unused_capacity ", room)
 }
 
 #[test]
@@ -221,35 +238,36 @@ fn a_text_shows_its_bytes(rt: HostRuntime) -> Result<(), Fail> {
 }
 
 #[test]
+fn the_room_of_a_text_is_what_its_capacity_leaves(rt: HostRuntime) -> Result<(), Fail> {
+    let mut name = String::with_capacity(rt.alloc(), 100)?;
+    name.push_str("abc")?;
+    assert!(rt; name.capacity() >= 100);
+    let room = name.capacity().checked_sub(3);
+    expect_room(&rt, &name, "String;ptr;capacity;unused_capacity ", room)
+}
+
+#[test]
 fn a_hash_set_shows_its_keys(rt: HostRuntime) -> Result<(), Fail> {
-    let mut set: HashSet<u32> = HashSet::new(rt.alloc());
-    set.insert(1)?;
-    set.insert(2)?;
+    let set: HashSet<u32> = [1, 2].into_iter().collect(rt.alloc())?;
     expect_exact(&rt, &set, "HashSet 40\nHashSet;data;key;u32 8\n")
 }
 
 #[test]
 fn a_hash_map_shows_its_pairs(rt: HostRuntime) -> Result<(), Fail> {
-    let mut map: HashMap<u8, u8> = HashMap::new(rt.alloc());
-    map.insert(1, 1)?;
-    map.insert(2, 2)?;
+    let map: HashMap<u8, u8> = [(1, 1), (2, 2)].into_iter().collect(rt.alloc())?;
     let text = "HashMap 40\nHashMap;data 4\nHashMap;data;key;u8 2\nHashMap;data;value;u8 2\n";
     expect_exact(&rt, &map, text)
 }
 
 #[test]
 fn a_tree_set_shows_its_keys(rt: HostRuntime) -> Result<(), Fail> {
-    let mut set: BTreeSet<u32> = BTreeSet::new(rt.alloc());
-    set.insert(1)?;
-    set.insert(2)?;
+    let set: BTreeSet<u32> = [1, 2].into_iter().collect(rt.alloc())?;
     expect_exact(&rt, &set, "BTreeSet 16\nBTreeSet;data;key;u32 8\n")
 }
 
 #[test]
 fn a_tree_map_shows_its_pairs(rt: HostRuntime) -> Result<(), Fail> {
-    let mut map: BTreeMap<u8, u8> = BTreeMap::new(rt.alloc());
-    map.insert(1, 1)?;
-    map.insert(2, 2)?;
+    let map: BTreeMap<u8, u8> = [(1, 1), (2, 2)].into_iter().collect(rt.alloc())?;
     let text = "BTreeMap 16\nBTreeMap;data 4\nBTreeMap;data;key;u8 2\nBTreeMap;data;value;u8 2\n";
     expect_exact(&rt, &map, text)
 }

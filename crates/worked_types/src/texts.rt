@@ -5,7 +5,7 @@ use std::process::Abort;
 use std::test::Fail;
 
 /// The text of one visit that gives no warning.
-pub(crate) fn text_of(alloc: Global, root: &dyn Allocative) -> Result<String, Fail> {
+fn text_of(alloc: Global, root: &dyn Allocative) -> Result<String, Fail> {
     let mut builder = FlameGraphBuilder::new(alloc)?;
     builder.visit_root(root)?;
     let output = builder.finish()?;
@@ -47,5 +47,23 @@ pub(crate) fn expect_exact(
 ) -> Result<(), Fail> {
     let text = exact_text(rt.alloc(), root)?;
     assert_eq!(rt; text.as_str(), want);
+    Ok(())
+}
+
+/// Asserts the number in the only line of unused capacity in the text of one visit. The line begins with `path`.
+pub(crate) fn expect_room(
+    rt: &(impl Abort + AllocGlobal),
+    root: &dyn Allocative,
+    path: &str,
+    want: Option<usize>,
+) -> Result<(), Fail> {
+    let text = text_of(rt.alloc(), root)?;
+    let mut lines = text
+        .lines()
+        .filter(|line| line.contains(";unused_capacity "));
+    let line = lines.next().ok_or("no line")?;
+    let amount = line.strip_prefix(path).ok_or("another line")?;
+    assert_eq!(rt; Some(amount.parse::<usize>()?), want);
+    assert!(rt; lines.next().is_none());
     Ok(())
 }
