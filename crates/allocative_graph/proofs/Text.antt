@@ -111,7 +111,7 @@ bytes-find q (e ∷ es) h =
     let above = first (below_all path_cmp e.0 es) (is_sorted path_cmp es) h in
     sum_by-cons (λ (x : Sized). cond (is_same_path q x.0) x.1 0) e es
     ∙ on_test (λ t. cond t e.1 0 + bytes_in es q ≡ unwrap_or (cond t (Some e.1) (find path_cmp q es)) 0) (is_same_path q e.0)
-    (λ same. ap (λ n. e.1 + n) (rest ∙ ap (λ o. unwrap_or o 0) (find-below_all q es (subst (λ (p : Path). T (below_all path_cmp p es)) (sym (same_path q e.0 same)) above))) ∙ add-zero e.1)
+    (λ same. ap (λ n. e.1 + n) (rest ∙ ap (λ o. unwrap_or o 0) (find-below_all path_cmp q es (subst (λ (p : Path). T (below_all path_cmp p es)) (sym (same_path q e.0 same)) above))) ∙ add-zero e.1)
     (λ apart. zero-add (bytes_in es q) ∙ rest)
 
 -- A size of a graph, but for the root's, is that of the lines.
