@@ -36,9 +36,9 @@ is_drawn least all r = not (width all r == 0) && not (nat_lt (width all r) least
 -- The class of a change: `same`, `full` where the difference is more than half of the bytes before and after together,
 -- and otherwise `moved`.
 unfoldable pub change_class : ℕ → ℕ → List ℕ
-change_class was is =
-    cond (was == is) (codes "same")
-    (cond (nat_lt (was + is) (2 * (is - was + (was - is)))) (codes "full") (codes "moved"))
+change_class before after =
+    cond (before == after) (codes "same")
+    (cond (nat_lt (before + after) (2 * (after - before + (before - after)))) (codes "full") (codes "moved"))
 
 -- The class of a path by its depth and its last key: `root`, `spare`, or one of twelve by the hash of the key. So a key
 -- has the same colour in all pictures.
@@ -51,7 +51,7 @@ key_class depth k =
 unfoldable pub class_text : Mark → RowData → List ℕ
 class_text Plain r = key_class r.depth r.key
 class_text Warned r = codes "warned"
-class_text (Changed was) r = change_class was (r.whole - was)
+class_text (Changed before) r = change_class before (r.whole - before)
 
 -- The classes that hide texts, in a window of 1000 pixels: both texts in a box below 24 pixels, and otherwise the
 -- figure where it may not fit beside a key of so many bytes.
@@ -73,30 +73,30 @@ colour_text red green blue change all =
 -- The paint of a change: red where bytes grew, blue where they shrank, and the fuller the greater the difference is
 -- relative to the sum. There is none where nothing changed.
 unfoldable pub change_paint : ℕ → ℕ → List ℕ
-change_paint was is =
-    cond (was == is) []
-    (cond (nat_lt was is)
-    (codes " style=\"fill:rgb(" ++ colour_text 214 40 40 (is - was) (was + is) ++ codes ")\"")
-    (codes " style=\"fill:rgb(" ++ colour_text 29 95 191 (was - is) (was + is) ++ codes ")\""))
+change_paint before after =
+    cond (before == after) []
+    (cond (nat_lt before after)
+    (codes " style=\"fill:rgb(" ++ colour_text 214 40 40 (after - before) (before + after) ++ codes ")\"")
+    (codes " style=\"fill:rgb(" ++ colour_text 29 95 191 (before - after) (before + after) ++ codes ")\""))
 
 -- The paint of a row's box, by its mark. There is none where the class gives the colour.
 unfoldable pub paint_text : Mark → RowData → List ℕ
 paint_text Plain r = []
 paint_text Warned r = []
-paint_text (Changed was) r = change_paint was (r.whole - was)
+paint_text (Changed before) r = change_paint before (r.whole - before)
 
 -- ---- figures
 -- The difference between two numbers of bytes, with a sign.
 unfoldable pub change_text : ℕ → ℕ → List ℕ
-change_text was is =
-    cond (was == is) (codes "unchanged")
-    (cond (nat_lt was is) (codes "+" ++ size_text (is - was)) (codes "-" ++ size_text (was - is)))
+change_text before after =
+    cond (before == after) (codes "unchanged")
+    (cond (nat_lt before after) (codes "+" ++ size_text (after - before)) (codes "-" ++ size_text (before - after)))
 
 -- The figure after the key in a row's box, by its mark.
 unfoldable pub figure_text : Mark → RowData → List ℕ
 figure_text Plain r = size_text r.whole
 figure_text Warned r = size_text r.whole
-figure_text (Changed was) r = change_text was (r.whole - was)
+figure_text (Changed before) r = change_text before (r.whole - before)
 
 -- The bytes of a path and all below it, their share of all in millionths, and the path's own bytes where they differ from
 -- these.
@@ -107,15 +107,15 @@ declared_text u r =
 
 -- The bytes of a path in the earlier profile and in the later one, and their difference.
 unfoldable pub both_text : ℕ → ℕ → List ℕ
-both_text was is =
-    (size_text was ++ codes " before, " ++ size_text is ++ codes " after")
-    ++ (codes " (" ++ decimal was ++ codes " and " ++ decimal is ++ codes " bytes)\n" ++ change_text was is)
+both_text before after =
+    (size_text before ++ codes " before, " ++ size_text after ++ codes " after")
+    ++ (codes " (" ++ decimal before ++ codes " and " ++ decimal after ++ codes " bytes)\n" ++ change_text before after)
 
 -- The title of a row's box after the key, by its mark, from the share of its bytes in millionths.
 unfoldable pub title_text : ℕ → Mark → RowData → List ℕ
 title_text u Plain r = declared_text u r
 title_text u Warned r = declared_text u r ++ codes "\ndeclared smaller than its parts: see the warnings"
-title_text u (Changed was) r = both_text was (r.whole - was)
+title_text u (Changed before) r = both_text before (r.whole - before)
 
 -- ---- the element
 -- The beginning of a row's box, a viewport that clips its texts.

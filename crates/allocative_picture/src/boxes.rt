@@ -87,8 +87,8 @@ impl fmt::Display for Title<'_> {
                 "{declared}\ndeclared smaller than its parts: see the warnings"
             ),
             Mark::Changed { was } => {
-                let is = declared.row.whole.saturating_sub(was);
-                write!(f, "{}", Comparison(Change { was, is }))
+                let after = declared.row.whole.saturating_sub(was);
+                write!(f, "{}", Comparison(Change { before: was, after }))
             }
         }
     }
@@ -107,8 +107,8 @@ impl fmt::Display for Figure<'_> {
         match self.0.mark {
             Mark::Plain | Mark::Warned => write!(f, "{}", Size(whole)),
             Mark::Changed { was } => {
-                let is = whole.saturating_sub(was);
-                write!(f, "{}", Change { was, is })
+                let after = whole.saturating_sub(was);
+                write!(f, "{}", Change { before: was, after })
             }
         }
     }

@@ -11,8 +11,8 @@ use std::fmt;
 /// example `+1.5 KiB`, or as `unchanged`.
 #[derive(Clone, Copy)]
 pub(crate) struct Change {
-    pub was: usize,
-    pub is: usize,
+    pub before: usize,
+    pub after: usize,
 }
 
 /// A change, printed as the title of its box says it.
@@ -35,30 +35,30 @@ fn shade(full: u128, change: usize, all: u128) -> u128
 
 #[tactic(auto, unfolding(crate::specs::Boxes::change_text))]
 impl fmt::Display for Change {
-    ghost output = { λ c. Some (change_text c.was c.is) };
+    ghost output = { λ c. Some (change_text c.before c.after) };
 
     fn fmt<W: fmt::Write>(&self, f: &mut fmt::Formatter<W>) -> fmt::Result {
-        let Change { was, is } = *self;
-        if was == is {
+        let Change { before, after } = *self;
+        if before == after {
             write!(f, "unchanged")
-        } else if was < is {
-            write!(f, "+{}", Size(is - was))
+        } else if before < after {
+            write!(f, "+{}", Size(after - before))
         } else {
-            write!(f, "-{}", Size(was - is))
+            write!(f, "-{}", Size(before - after))
         }
     }
 }
 
 #[tactic(auto, unfolding(crate::specs::Boxes::both_text))]
 impl fmt::Display for Comparison {
-    ghost output = { λ c. Some (both_text c.0.was c.0.is) };
+    ghost output = { λ c. Some (both_text c.0.before c.0.after) };
 
     fn fmt<W: fmt::Write>(&self, f: &mut fmt::Formatter<W>) -> fmt::Result {
         let change = self.0;
-        let Change { was, is } = change;
-        let (before, after) = (Size(was), Size(is));
-        write!(f, "{before} before, {after} after")?;
-        write!(f, " ({was} and {is} bytes)\n{change}")
+        let Change { before, after } = change;
+        let (earlier, later) = (Size(before), Size(after));
+        write!(f, "{earlier} before, {later} after")?;
+        write!(f, " ({before} and {after} bytes)\n{change}")
     }
 }
 
@@ -70,15 +70,15 @@ impl fmt::Display for Paint<'_> {
         let Mark::Changed { was } = self.0.mark else {
             return Ok(());
         };
-        let is = self.0.whole.saturating_sub(was);
-        if was == is {
+        let (before, after) = (was, self.0.whole.saturating_sub(was));
+        if before == after {
             return Ok(());
         }
-        let all = was as u128 + is as u128;
-        let ((red, green, blue), change) = if was < is {
-            ((214, 40, 40), is - was)
+        let all = before as u128 + after as u128;
+        let ((red, green, blue), change) = if before < after {
+            ((214, 40, 40), after - before)
         } else {
-            ((29, 95, 191), was - is)
+            ((29, 95, 191), before - after)
         };
         let (red, green, blue) = (
             shade(red, change, all),

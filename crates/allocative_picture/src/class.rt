@@ -35,13 +35,17 @@ impl fmt::Display for Class<'_> {
 
 /// The class of a path by its bytes before and after.
 #[tactic(auto, unfolding(crate::specs::Boxes::change_class))]
-fn change_class(was: usize, is: usize) -> &'static str
-    ensures { result.now ≡ change_class was is }
+fn change_class(before: usize, after: usize) -> &'static str
+    ensures { result.now ≡ change_class before after }
 {
-    let difference = if was < is { is - was } else { was - is };
-    if was == is {
+    let difference = if before < after {
+        after - before
+    } else {
+        before - after
+    };
+    if before == after {
         "same"
-    } else if was as u128 + (is as u128) < 2 * difference as u128 {
+    } else if before as u128 + (after as u128) < 2 * difference as u128 {
         "full"
     } else {
         "moved"

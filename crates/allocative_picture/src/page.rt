@@ -61,11 +61,7 @@ impl fmt::Display for Subject {
         match *self {
             Subject::Profile { bytes } => write!(f, "{} declared", Bytes(bytes)),
             Subject::Change { before, after } => {
-                let change = Change {
-                    was: before,
-                    is: after,
-                };
-                write!(f, "{}", Comparison(change))
+                write!(f, "{}", Comparison(Change { before, after }))
             }
         }
     }

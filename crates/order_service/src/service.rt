@@ -290,13 +290,13 @@ impl Service {
         ensures ledger { self.new.ledger ≡ self.old.ledger }
         ensures pages { TakesPage place self.old.pages self.new.pages }
     {
-        let mut told = Ok(());
+        let mut written = Ok(());
         let kept = self.pages.insert(place, page, |place: String, _page| {
-            if told.is_ok() {
-                told = println!(rt; "page {place} goes");
+            if written.is_ok() {
+                written = println!(rt; "page {place} goes");
             }
         });
-        told?;
+        written?;
         match kept {
             Ok(_had) => Ok(()),
             Err(refused) => tell_page(rt, refused.error),
@@ -322,13 +322,13 @@ impl Service {
         ensures ledger { self.new.ledger ≡ self.old.ledger }
         ensures pages { SetsBound bytes self.old.pages self.new.pages }
     {
-        let mut told = Ok(());
+        let mut written = Ok(());
         self.pages.set_bound(bytes, |place: String, _page| {
-            if told.is_ok() {
-                told = println!(rt; "page {place} goes");
+            if written.is_ok() {
+                written = println!(rt; "page {place} goes");
             }
         });
-        Ok(told?)
+        Ok(written?)
     }
 
     /// Prints the pages that are kept, the most recently used first.

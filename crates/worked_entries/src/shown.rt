@@ -40,7 +40,7 @@ fn push_path(text: &mut String, path: &[&'static str]) -> Result<(), AllocError>
 }
 
 /// The warnings of an output, made of its paths that have one.
-fn told(alloc: Global, output: &FlameGraphOutput) -> Result<String, AllocError> {
+fn text_of(alloc: Global, output: &FlameGraphOutput) -> Result<String, AllocError> {
     let mut text = String::new(alloc);
     for warned in output.warned_paths() {
         text.push_str("Incorrect size declaration for node `")?;
@@ -56,10 +56,10 @@ fn told(alloc: Global, output: &FlameGraphOutput) -> Result<String, AllocError> 
 
 /// The text of an output's warnings, with a line more where the copy of it or what its paths tell is another one.
 fn warnings_of(alloc: Global, output: &FlameGraphOutput) -> Result<String, Refusal> {
-    let told = told(alloc, output)?;
+    let written = text_of(alloc, output)?;
     let mut copy = output.warnings()?;
     let text = output.warnings_text();
-    if copy.as_str() != text || told.as_str() != text {
+    if copy.as_str() != text || written.as_str() != text {
         copy.push_str("the warnings do not agree\n")?;
     }
     Ok(copy)

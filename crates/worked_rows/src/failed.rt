@@ -58,9 +58,9 @@ fn refuse_twice(root: &mut Visitor<'_>) -> Told {
 
 /// Enters by a closure that returns an error, and then an entry.
 fn refuse_by_closure(root: &mut Visitor<'_>) -> Told {
-    let told = root.visit_field_with(Key::new("f"), 4, |_inner| Err(Refusal::Open));
+    let refusal = root.visit_field_with(Key::new("f"), 4, |_inner| Err(Refusal::Open));
     let after = root.visit_simple(Key::new("a"), 1);
-    [told.err(), after.err()]
+    [refusal.err(), after.err()]
 }
 
 /// Forgets a nested visitor, and then enters values without a size.
@@ -134,20 +134,20 @@ fn ended(mut builder: FlameGraphBuilder) -> [Option<Refusal>; 3] {
 /// What the act was told, and what its builder returns afterwards.
 fn answers(alloc: Global, act: Act) -> Result<(Told, [Option<Refusal>; 3]), Refusal> {
     let mut builder = FlameGraphBuilder::new(alloc)?;
-    let told = act_on(&mut builder, act);
+    let refusal = act_on(&mut builder, act);
     let ended = ended(builder);
-    Ok((told?, ended))
+    Ok((refusal?, ended))
 }
 
 /// Fails where both calls of an act were not told this, or where its builder does not end with that.
 fn ends(
     alloc: Global,
     act: Act,
-    told: Option<Refusal>,
+    refusal: Option<Refusal>,
     ended: Option<Refusal>,
 ) -> Result<(), Fail> {
     let found = answers(alloc, act)?;
-    if found.0 == [told; 2] && found.1 == [ended; 3] {
+    if found.0 == [refusal; 2] && found.1 == [ended; 3] {
         return Ok(());
     }
     Err(Fail::new(format_args!("{found:?}")))
@@ -157,7 +157,7 @@ fn ends(
 fn a_builder_returns_its_first_cause_for_good(rt: HostRuntime) -> Result<(), Fail> {
     let large = Some(Refusal::TooLarge);
     let open = Some(Refusal::Open);
-    for (act, told, ended) in [
+    for (act, refusal, ended) in [
         (Act::PassTheBound, large, large),
         (Act::PassTheBoundByEntries, large, large),
         (Act::EnterUnsized, large, large),
@@ -170,7 +170,7 @@ fn a_builder_returns_its_first_cause_for_good(rt: HostRuntime) -> Result<(), Fai
         (Act::ForgetBelow, None, open),
         (Act::ForgetContent, None, open),
     ] {
-        ends(rt.alloc(), act, told, ended)?;
+        ends(rt.alloc(), act, refusal, ended)?;
     }
     Ok(())
 }
