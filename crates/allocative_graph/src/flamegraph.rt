@@ -1,11 +1,12 @@
 //! Flame graphs: maps from paths of keys to sizes.
 ghost use Rattle.std.specs.Prelude.{◌≡◌, ◌+◌, ◌^◌, ◌<◌, ◌≤◌, ◌↔◌, ◌++◌, [], ◌∷◌, IfOk, IfErr, IfSome, IfNone, OnOk, OnErr, IsErrOf, string_bytes, map, length, is_ok};
+ghost use Rattle.std.specs.Bool.{OnFalse};
 ghost use Rattle.std.specs.List.{insert};
 ghost use Rattle.std.specs.FinMap as map;
 ghost use Rattle.allocative_graph.specs.Path.{key_cmp};
 ghost use Rattle.allocative_graph.specs.Format.{semicolon};
 ghost use Rattle.allocative_graph.specs.Graph.{add_self, total, text, default, sum_of, under, joined, IsTree, IsPartOfSum};
-ghost use Rattle.allocative_graph.specs.Representation.PathRows.{size_text, lines_from, lines_below};
+ghost use Rattle.allocative_graph.specs.Representation.PathRows.{size_text, lines_from, lines_below, HasRootAlone};
 ghost use Rattle.allocative_graph.specs.Reads.{AreChildren};
 ghost use Rattle.allocative_graph.specs.Representation.Node.{weight};
 ghost use Rattle.allocative_graph.specs.Representation.Children.{front_order, InOrder, IsFound, IsChildGap, Added, Merged, IsNext};
@@ -234,28 +235,25 @@ impl FlameGraph {
         let alloc = *self.children.allocator();
         let mut text = String::new(alloc);
         let mut start = String::new(alloc);
-        self.write_below("", &mut start, &mut text)?;
+        self.write_below(&mut start, &mut text)?;
         Ok(text)
     }
 
-    // Appends the lines of all paths but the root, each after the given start of a line and the separator.
-    fn write_below(
-        &self,
-        separator: &str,
-        start: &mut String,
-        text: &mut String,
-    ) -> Result<(), AllocError>
+    // Appends the lines of all paths but the root, each after the given start of a line.
+    fn write_below(&self, start: &mut String, text: &mut String) -> Result<(), AllocError>
         ensures start { OnOk result (string_bytes start.new ≡ string_bytes start.old) }
         ensures text { OnOk result
             (string_bytes text.new
-            ≡ string_bytes text.old ++ lines_below (string_bytes start.old ++ separator.now) (map.entries self.now)) }
+            ≡ string_bytes text.old ++ lines_below (string_bytes start.old) (map.entries self.now)) }
     {
         let length = start.len();
         for child in &self.children {
-            start.push_str(separator)?;
             start.push_str(child.key.as_str())?;
             child.graph.write_own(start.as_str(), text)?;
-            child.graph.write_below(";", start, text)?;
+            if child.graph.has_children() {
+                start.push(';')?;
+                child.graph.write_below(start, text)?;
+            }
             start.truncate(length);
         }
         Ok(())
@@ -272,6 +270,13 @@ impl FlameGraph {
             push_line(path, self.node_size, text)?;
         }
         Ok(())
+    }
+
+    // Whether there are paths other than the root.
+    fn has_children(&self) -> bool
+        ensures { OnFalse result (HasRootAlone self.now) }
+    {
+        !self.children.is_empty()
     }
 }
 

@@ -1,6 +1,6 @@
 -- Rows, which are paths with their sizes, the sum of two graphs path by path, and the graphs of stacks.
 use Rattle.std.specs.Prelude.{◌≡◌, ℕ, ◌+◌, ◌||◌, ◌==◌, if◌then◌else◌, List, [], ◌∷◌, ◌++◌, flat_map, decimal, fold}
-use Rattle.std.specs.FinMap.{contains_key}
+use Rattle.std.specs.FinMap.{contains_key, entries}
 use Rattle.allocative_graph.specs.Path.{Path}
 use Rattle.allocative_graph.specs.Format.{semicolon, space, newline}
 use Rattle.allocative_graph.specs.Graph.{Graph, size_at, is_root, joined, default, sum_of, under, add_self}
@@ -35,6 +35,10 @@ line_below t r = if is_root r.0 || r.1 == 0 then [] else (t ++ (joined r.0 ++ si
 -- The lines of some paths, with t before each.
 abbrev pub lines_below : List ℕ → List (Path × ℕ) → List ℕ
 lines_below t rs = flat_map (line_below t) rs
+
+-- The root is the only path.
+abbrev pub HasRootAlone : Graph → Type 0
+HasRootAlone g = (n : ℕ) × (entries g ≡ ([], n) ∷ [])
 
 -- Path by path r is the sum of g and h, and it has the paths of both.
 abbrev pub IsSumByPath : Graph → Graph → Graph → Type 0
