@@ -5,7 +5,7 @@ use Rattle.std.specs.Fn.{Once}
 use Rattle.allocative.specs.Closures.{CallShows, CallsInside, not_called, CalledAtRoot, AnswersSum, after_told}
 use Rattle.allocative.proofs.Visits.{left_by, inline_shows, entry_err, not_entered, shows_refused_err}
 use Rattle.allocative.proofs.Steps.{leaves_by_left}
-pub use Rattle.allocative.proofs.Within.{err_or, same_err}
+pub use Rattle.allocative.proofs.Within.{same_err}
 use Rattle.allocative.proofs.Roots.{run_shows, held_by_run}
 
 -- what is answered once the visitor is left

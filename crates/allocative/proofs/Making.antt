@@ -2,7 +2,6 @@
 use Rattle.std.proofs.Common.{ℕ, Bool, true, false, List, [], ◌∷◌, ◌++◌, length, ◌≡◌, Option, Some, Result, Ok, Err, refl, sym, ◌∙◌, subst, ap, arith, length-append}
 use Rattle.allocative.proofs.Common.{Yields, Refusal, Key, State, Failed, Going, left, HasFailed, stays_failed, is_entered, EntersSized, stays_unsized, is_sized, Leaves, leaves_failed, leaves_going, Plan, Done, Entry, Makes, MakesPlan, made_none, made, entry_refused, inside_refused, Visitor}
 use Rattle.std.proofs.lemmas.Bool.{false≢true}
-use Rattle.std.proofs.lemmas.Iterator.{YieldsList}
 use Rattle.allocative.specs.Making.{followed_by_plan, had_failed, Keeps, MakesPlanOrGives, makes, gives}
 use Rattle.allocative.proofs.Visits.{not_sized_cause, left_by}
 
@@ -62,12 +61,6 @@ run_gives steps t (y ∷ ys) h g = gives y h.0 h.1
 pub run_ends : {S A : Type 0} (steps : S → Option A → S → Type 0) {s : S} (t : S) {p : Plan} {a b : Visitor} {r : Result Unit Refusal} (xs : List A) → Yields steps s xs t → (length xs ≡ 0 → MakesPlan p a b r) → MakesPlanOrGives steps s p a b r
 run_ends steps t [] h m = makes (m refl)
 run_ends steps t (y ∷ ys) h m = gives y h.0 h.1
-
--- A run over no items makes the entries of the plan.
-pub makes_none : {S A B : Type 0} {steps : S → Option A → S → Type 0} {v : A → B} {s : S} (ys : List B) {p : Plan} {a b : Visitor} {r : Result Unit Refusal} → length ys ≡ 0 → YieldsList steps v s ys → MakesPlanOrGives steps s p a b r → MakesPlan p a b r
-makes_none ys h y (makes m) = m
-makes_none [] h y (gives x t g) = absurd (y.runs x t g)
-makes_none (z ∷ zs) h y (gives x t g) = absurd (omega (arith, h))
 
 -- ---- a collector that had failed
 pub failed_makes : {p : Plan} {e : Refusal} {t : State} {r : Result Unit Refusal} → Makes p (Failed e) r t → (r ≡ Err e) × HasFailed t e

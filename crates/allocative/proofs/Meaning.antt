@@ -1,10 +1,10 @@
 -- How the showing of a value follows from the part that enters it, word by word.
-use Rattle.std.proofs.Common.{◌≡◌, ℕ, Bool, true, false, ◌&&◌, Option, Some, None, Result, inl, inr, ◌∙◌, Ok, Err, refl}
+use Rattle.std.proofs.Common.{◌≡◌, ℕ, Bool, true, false, ◌&&◌, Option, Some, None, Result, inl, inr, Ok, Err, refl}
 use Rattle.allocative.proofs.Common.{Refusal, TooLarge, Key, Identity, Forest, Showing, Nothing, Both, InsideAs, Inside, InsideUnique, Field, IsField, sized, SharedWith, IsDeclared, Visitor, Visited, Entered, Means, OnlyIf}
 use Rattle.std.proofs.lemmas.Bool.{false≢true, and_parts, and_from}
 use Rattle.allocative.specs.Visited.{Refused}
-use Rattle.allocative.proofs.Exact.{declared_first, declared_second, declared_both, declared_inside, declared_entry, declared_content, declared_shared, rightly_nothing, rightly_weaker, rightly_refused, rightly_undeclared, inexact}
-use Rattle.allocative.proofs.Visits.{shows_weaker, shows_nothing, shows_refused, shows_refused_err}
+use Rattle.allocative.proofs.Exact.{declared_first, declared_second, declared_both, declared_inside, declared_entry, declared_content, declared_shared, rightly_nothing, rightly_weaker, rightly_undeclared, inexact}
+use Rattle.allocative.proofs.Visits.{shows_weaker, shows_nothing, shows_refused}
 
 -- ---- which visits are exact
 pub exact_never : {e : Bool} → OnlyIf false e
@@ -119,16 +119,6 @@ entered_none a m =
 -- An error that is returned by hand, which need not be one that must be.
 pub entered_refused : {p : Showing} {q e : Refusal} {a b : Visitor} → Refused q a b e → Entered false p a b (Err e)
 entered_refused {q = q} {e = e} h = record { same_reference = h.same_reference; same_outer = h.same_outer; shown = shows_refused _ e q _ h.after; cause = h.is_cause; rightly = inexact }
-
--- A value's own refusal is the collector's first cause.
-pub value_refused : {x : Bool} {p : Showing} {y e : Refusal} {a b c : Visitor} → Visited x p a b (Err y) → Refused y b c e → Entered x p a c (Err e)
-value_refused {y = y} {e = e} {c = c} h k = record {
-  same_reference = k.same_reference ∙ h.same_reference;
-  same_outer = k.same_outer ∙ h.same_outer;
-  shown = shows_refused_err y h.shown k.after;
-  cause = k.is_cause;
-  rightly = λ i. rightly_refused c.collector.now e (h.rightly i) k.after k.is_cause;
-}
 
 -- A part that is declared nowhere is refused as TooLarge.
 pub undeclared_refused : {x : Bool} {p : Showing} {e : Refusal} {a b : Visitor} → (IsDeclared p → ⊥) → Refused TooLarge a b e → Entered x p a b (Err e)

@@ -13,9 +13,9 @@ use Rattle.std.specs.List.{All}
 use Rattle.slab.specs.Slab.{Slab, entries_from, entries}
 use Rattle.allocative.specs.Runs.{RefusesAlong, RefusesCounted, CanCount, IsOfRun, value_shows}
 use Rattle.allocative.proofs.Meaning.{entered_if, entered_as, exact_never}
-use Rattle.allocative.proofs.Exact.{declared_nothing, declared_first, declared_second, declared_both, entry_fits, rightly_as, rightly_weaker, rightly_within}
+use Rattle.allocative.proofs.Exact.{declared_nothing, declared_first, declared_second, declared_both, entry_fits, rightly_as, rightly_within}
 use Rattle.allocative.proofs.Within.{item_refused, entered_snoc}
-use Rattle.allocative.proofs.Bodies.{plain_slice, each_slice, each_declared, entry_declared, checked_fits, none_of_it}
+use Rattle.allocative.proofs.Bodies.{plain_slice, each_slice, entry_declared, checked_fits, none_of_it}
 use Rattle.allocative.proofs.Showing.{shows_weaker}
 
 -- One step of a loop shows one more item.
@@ -154,11 +154,6 @@ counted_plain {steps = steps} {s = s} v name size count needs_drop p {a = a} {b 
       let counted : RefusesRightly (Field name (size_product size (checked (length ys))) Nothing) a.collector.now r b.collector.now = rw (i, n) at told in
       rightly_as (λ f g. plain_slice name size needs_drop p ys e f (bytes_counted name size (length ys) f g)) (counted_declared name size needs_drop p ys e fits) counted;
 }
-
--- Items that are shown one by one need no count.
-pub counted_each : {S A T : Type 0} {e : Bool} {steps : S → Option A → S → Type 0} {s : S} {v : A → T} (name : Key) (size : Option ℕ) (needs_drop : Bool) (p : T → Showing) {a b : Visitor} {r : Result (Unit {0}) Refusal} →
-    are_shown_each needs_drop size ≡ true → RefusesAlong e steps s v (each_shows p) a b r → RefusesCounted e size steps s v (slice_shows name size needs_drop p) a b r
-counted_each name size needs_drop p e h = record { along = λ i ys y fits. rightly_weaker (each_slice name size needs_drop p ys e) (each_declared name size needs_drop p ys e) (h.along i ys y) }
 
 -- ---- a slab's values
 values_from : {T : Type 0} (p : T → Showing) (key : ℕ) (slots : List (Option T)) → each_shows (value_shows p) (entries_from key slots) ≡ each_shows p (filter_map (λ slot. slot) slots)

@@ -4,13 +4,13 @@
 ghost use Rattle.std.specs.Prelude.{◌≡◌, IfOk, IfErr, IfSome, Ok, Err, Some, true, false};
 ghost use Rattle.allocative_graph.specs.Collector.{Failed};
 ghost use Rattle.allocative_graph.specs.Shows.{Inside, Nothing};
-ghost use Rattle.allocative_graph.specs.Visits.{Enters, EntersSized, EntersShared, Answers, Settles};
-ghost use Rattle.allocative.specs.Lending.{LendsEntered, LendsSized, LendsPointed, LendsBegun, LendsBegunGraph};
+ghost use Rattle.allocative_graph.specs.Visits.{EntersSized, Settles};
+ghost use Rattle.allocative.specs.Lending.{LendsSized, LendsBegun, LendsBegunGraph};
 ghost use Rattle.allocative.specs.Built.{as_graph};
 ghost use Rattle.allocative.specs.Making.{MakesPlan, one};
 ghost use Rattle.allocative.specs.Visited.{Entered, Refused, Exits, BeginsAt, collector_of};
-ghost use Rattle.allocative.specs.Nested.{LendsCollector, LendsNested, LendsNestedSized, LendsShared, Nests, NestsSized, NestsContent, IsContents, IsRefused, IsRefusedSized};
-ghost use Rattle.allocative.specs.Shared.{AnswersShared, told, turned, answered};
+ghost use Rattle.allocative.specs.Nested.{LendsNested, LendsNestedSized, LendsShared, Nests, NestsSized, NestsContent, IsContents, IsRefused, IsRefusedSized};
+ghost use Rattle.allocative.specs.Shared.{AnswersShared, turned, answered};
 ghost use Rattle.std.specs.Borrow.{sem};
 
 pub mod by_hand;

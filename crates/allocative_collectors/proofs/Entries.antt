@@ -9,7 +9,7 @@ use Rattle.std.specs.Option.{option_map}
 use Rattle.std.proofs.lemmas.Bool.Decides.{nat_tests}
 use Rattle.std.proofs.lemmas.Bool.{cond-true, cond-false}
 use Rattle.allocative_graph.specs.Forest.{Mark, Entry, AsInline, AsUnique}
-use Rattle.allocative_graph.specs.Sums.{Node, together, node_of, is_unique_mark}
+use Rattle.allocative_graph.specs.Sums.{Node, together, is_unique_mark}
 use Rattle.allocative_graph.specs.Sums as bag
 use Rattle.allocative_graph.specs.Graph.{remaining}
 use Rattle.allocative_graph.proofs.Basics.{path_total, same_path}

@@ -1,6 +1,6 @@
 //! The state of a collector of held bytes. It allocates nothing.
-ghost use Rattle.std.specs.Prelude.{◌≡◌, ◌+◌, ◌^◌, ◌<◌, suc, IfOk, IfErr, OnErr, IsTrue, ◌↔◌};
-ghost use Rattle.allocative_graph.specs.Collector.{OfHeld, enter_holding, leave_holding, nothing_held, IsClosed, IsAtRoot};
+ghost use Rattle.std.specs.Prelude.{◌≡◌, ◌+◌, ◌<◌, suc, IfOk, IfErr, OnErr, IsTrue, ◌↔◌};
+ghost use Rattle.allocative_graph.specs.Collector.{OfHeld, enter_holding, leave_holding, nothing_held, IsClosed};
 ghost use Rattle.allocative_graph.specs.Visits.{HasRoom, Refuses};
 
 use allocative_graph::refusal::Refusal;

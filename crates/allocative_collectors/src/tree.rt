@@ -1,5 +1,5 @@
 //! The paths that were entered, as an arena of nodes that refer to one another by number.
-ghost use Rattle.std.specs.Prelude.{◌≡◌, ◌+◌, ◌^◌, ◌<◌, ◌≤◌, ℕ, [], ◌∷◌, ◌++◌, length, map, slice_index, EachIndex, IfOk, IfErr, IfSome, IfNone, OnOk, OnErr, IsTrue, ◌↔◌, false};
+ghost use Rattle.std.specs.Prelude.{◌≡◌, ◌+◌, ◌^◌, ◌<◌, ◌≤◌, [], ◌∷◌, ◌++◌, length, map, IfOk, IfErr, IfSome, IfNone, OnOk, OnErr, IsTrue, ◌↔◌, false};
 ghost use Rattle.allocative_graph.specs.Graph.{total as graph_total};
 ghost use Rattle.allocative_graph.specs.Sums.{entered};
 ghost use Rattle.allocative_graph.specs.Visits.{IsProfile};

@@ -7,7 +7,7 @@ use Rattle.std.proofs.lemmas.Map.Lookups.{exact_pairs}
 use Rattle.std.specs.Ordering.{nat_cmp}
 use Rattle.std.specs.Cmp.Lexicographic.{lists_total}
 use Rattle.std.proofs.lemmas.Cmp.{nat_cmp_total, on_total, then_total, eq_by_cmp_equiv}
-pub use mathlib.Core.Bool.{or_assoc, or_comm, or-false, and_assoc, and-true}
+pub use mathlib.Core.Bool.{or_comm, or-false, and_assoc, and-true}
 pub use Rattle.std.specs.Cmp.{both_ways}
 pub use Rattle.std.proofs.lemmas.Bool.{and_parts, or_cases, or_left, or_right, or_parts, false_from_ne_true}
 

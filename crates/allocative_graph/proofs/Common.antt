@@ -11,7 +11,7 @@ pub use lib.Chars.{codes}
 pub use Rattle.std.specs.Cmp.{tied_itself}
 pub use Rattle.std.specs.Cmp.Lexicographic.{nat_list_cmp_total, slice_cmp}
 pub use Rattle.std.specs.FinMap.{IsAntisymmetric, contains_key, empty, entries, entries-from_sorted, entries-insert, entries_sorted, from_entries, get, get-entries, get-from_entries, get-from_sorted, get-insert, insert, keys, len, len-entries, nat_cmp-IsAntisymmetric, same_entries_map, same_map, slice_cmp-IsAntisymmetric}
-pub use Rattle.std.specs.FinMap.Entries.{below_all, by_order, find, is_sorted, put}
+pub use Rattle.std.specs.FinMap.Entries.{below_all, find, is_sorted, put}
 pub use Rattle.std.specs.FinSet.{contains, contains-empty, contains-insert}
 pub use Rattle.std.specs.List.{AllByRecursion, list_any, slice_split}
 pub use Rattle.std.specs.List.Sorted.{IsPermutation}

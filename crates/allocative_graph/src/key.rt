@@ -1,5 +1,5 @@
 //! Keys: static texts.
-ghost use Rattle.std.specs.Prelude.{◌≡◌, List, ℕ, Some, ◌==◌, IfOk};
+ghost use Rattle.std.specs.Prelude.{◌≡◌, List, ℕ, Some, ◌==◌};
 ghost use Rattle.std.proofs.Common.{rules};
 ghost use Rattle.std.specs.Cmp.Rules.{comparing, hashing};
 ghost use Rattle.std.specs.Ordering.{nat_cmp};

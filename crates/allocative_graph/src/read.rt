@@ -1,5 +1,5 @@
 //! Reading the text of a flame graph: collapsed stacks, of this library or of any other profiler.
-ghost use Rattle.std.specs.Prelude.{◌≡◌, ◌+◌, ◌^◌, ◌<◌, ◌≤◌, ℕ, IfOk, IfErr, IsErrOf, map, sum_by};
+ghost use Rattle.std.specs.Prelude.{◌≡◌, ◌^◌, ◌<◌, ℕ, IfOk, IfErr, IsErrOf, map, sum_by};
 ghost use Rattle.std.specs.Option.{SomeIff};
 ghost use Rattle.allocative_graph.specs.Graph.{default};
 ghost use Rattle.allocative_graph.specs.declared.read.ReadFault.TheVariants.{Memory};

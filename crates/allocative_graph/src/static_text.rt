@@ -6,7 +6,7 @@
 //!
 //! Proved by hand, in `proofs/static_text`, are the two functions of [`ReadRight`] that make the right and read
 //! by it, and that the right can be shared and sent to other threads. All other proofs are generated from these.
-ghost use Rattle.std.specs.Prelude.{◌≡◌, ℕ, ◌^◌, ◌<◌, ◌≤◌, List, [], length, IsUtf8};
+ghost use Rattle.std.specs.Prelude.{◌≡◌, ℕ, ◌^◌, ◌<◌, List, length, IsUtf8};
 ghost use denote.RawPtr.{Ptr};
 ghost use Rattle.allocative_graph.specs.Static.{IsPlaced, static_owns};
 

@@ -1,5 +1,5 @@
 //! How the bytes of a path changed.
-ghost use Rattle.std.specs.Prelude.{◌≡◌, ◌+◌, ◌-◌, ◌*◌, ◌^◌, ◌<◌, ◌≤◌, ℕ, Some};
+ghost use Rattle.std.specs.Prelude.{◌≡◌, ◌+◌, ◌-◌, ◌*◌, ◌<◌, ◌≤◌, Some};
 ghost use Rattle.allocative_picture.specs.Rows.{row_data};
 ghost use Rattle.allocative_picture.specs.Boxes.{shade, paint_text, change_text, both_text};
 

@@ -1,5 +1,5 @@
 //! The classes of boxes.
-ghost use Rattle.std.specs.Prelude.{◌≡◌, ◌+◌, ◌-◌, ◌*◌, ◌^◌, ◌<◌, ◌≤◌, ℕ, Some};
+ghost use Rattle.std.specs.Prelude.{◌≡◌, ◌+◌, ◌-◌, ◌*◌, ◌<◌, Some};
 ghost use Rattle.allocative_picture.specs.Rows.{row_data};
 ghost use Rattle.allocative_picture.specs.Boxes.{class_text, change_class, fit_text};
 

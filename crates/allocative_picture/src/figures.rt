@@ -1,5 +1,5 @@
 //! Figures as texts.
-ghost use Rattle.std.specs.Prelude.{◌≡◌, ◌+◌, ◌*◌, ◌^◌, ◌<◌, ℕ, Some, codes};
+ghost use Rattle.std.specs.Prelude.{◌≡◌, ◌*◌, ◌<◌, Some};
 ghost use Rattle.allocative_picture.specs.Figures.{unit_bytes, unit_name, size_text, bytes_text, percent_text, place_text};
 
 use std::fmt;

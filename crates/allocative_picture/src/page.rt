@@ -42,6 +42,7 @@ impl Subject {
             Subject::Change { before, after } => before as u128 + after as u128,
         }
     }
+
     /// The legend of the colours of a change, and no text for a profile.
     pub(crate) fn legend(self) -> &'static str
         ensures { result.now ≡ legend_of self }

@@ -1,7 +1,6 @@
 //! The arguments of the program.
 use crate::fault::Fault;
 use std::alloc::Global;
-use std::mem;
 
 /// What the arguments ask for.
 #[derive(Drop)]
@@ -33,23 +32,22 @@ pub fn read_arguments(alloc: Global, arguments: &[String]) -> Result<Arguments<'
         after: Vec::new(alloc),
         reads_input: false,
     };
-    // The word `--title` or `--before` whose text comes next, or no text.
-    let mut awaited = "";
-    for argument in arguments {
-        let argument = argument.as_str();
-        let word = mem::replace(&mut awaited, "");
-        match (word, argument) {
-            ("--title", title) => asked.title = title,
-            ("--before", name) => asked.before.push(name)?,
-            (_, "--title" | "--before") => awaited = argument,
-            (_, "--help") => asked.help = true,
-            (_, "--text") => asked.as_text = true,
-            (_, "-") if !asked.reads_input => asked.reads_input = true,
-            (_, unknown) if unknown.starts_with('-') => return Err(Fault::Arguments),
-            (_, name) => asked.after.push(name)?,
+    let mut words = arguments.iter();
+    while let Some(word) = words.next() {
+        match word.as_str() {
+            "--title" => asked.title = words.next().ok_or(Fault::Arguments)?.as_str(),
+            "--before" => {
+                let name = words.next().ok_or(Fault::Arguments)?;
+                asked.before.push(name.as_str())?;
+            }
+            "--help" => asked.help = true,
+            "--text" => asked.as_text = true,
+            "-" if !asked.reads_input => asked.reads_input = true,
+            unknown if unknown.starts_with('-') => return Err(Fault::Arguments),
+            name => asked.after.push(name)?,
         }
     }
-    if !awaited.is_empty() || asked.as_text && !asked.before.is_empty() {
+    if asked.as_text && !asked.before.is_empty() {
         return Err(Fault::Arguments);
     }
     if asked.after.is_empty() {

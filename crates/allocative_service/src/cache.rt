@@ -1,13 +1,12 @@
 //! A cache bounded by declared bytes. Contracts see it as its `entries`, the most recently used first, its `bound` and
 //! its `measure`.
-ghost use Rattle.std.specs.Prelude.{◌≡◌, ◌+◌, ◌-◌, ◌^◌, ◌≤◌, Some, [], ◌∷◌, length, take, drop, OnOk, OnErr, IfOk, IfErr, IfNone, IfSome, MatchBool, MatchResult, Err, None, option_copied, ◌↔◌, IsTrue, is_some, option_map};
+ghost use Rattle.std.specs.Prelude.{◌≡◌, ◌+◌, ◌-◌, ◌^◌, ◌≤◌, Some, [], ◌∷◌, length, OnOk, OnErr, IfOk, IfErr, IfNone, MatchBool, Err, None, option_copied, ◌↔◌, IsTrue, is_some, option_map};
 ghost use Rattle.std.specs.Borrow.{sem};
 ghost use Rattle.std.specs.Fn.{FnOnceReturnsAtMut};
 ghost use Rattle.std.specs.List.{IsDistinct};
-ghost use Rattle.std.specs.Map.{lookup, lookup_entry, remove_entry, keys_of};
+ghost use Rattle.std.specs.Map.{lookup_entry, remove_entry, keys_of};
 ghost use Rattle.std.specs.Map.Iter.{ShowsInOrder, deref_pair};
-ghost use Rattle.allocative_service.specs.Entries.{bytes_of, KeepsRecent, bounded, with_entries, IsBounded, IsFigure, Inserts, Changes, RefusesInsert, RefusesChange, stored_key, value_at, used, without, ends_as};
-ghost use Rattle.allocative_service.specs.Measured.{MayRefuseMeasure};
+ghost use Rattle.allocative_service.specs.Entries.{bytes_of, KeepsRecent, bounded, with_entries, IsBounded, Inserts, Changes, RefusesInsert, RefusesChange, stored_key, value_at, used, without, ends_as};
 
 pub mod error;
 

@@ -1,7 +1,6 @@
 //! An enum that holds itself behind a pointer, with no entry of the box.
 #![tactic(auto, using(allocative::proofs::Parts::parts))]
 
-ghost use Rattle.std.specs.Prelude.{codes, Some, true};
 ghost use Rattle.allocative.specs.Levels.{recursive};
 ghost use Rattle.own_types.specs.Chains.{chain_level};
 

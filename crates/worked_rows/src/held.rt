@@ -1,7 +1,7 @@
 //! What values hold on the heap, and what a box shows in a type of a user's own.
 #![tactic(auto, using(allocative::proofs::Parts::parts))]
 
-ghost use Rattle.std.specs.Prelude.{codes, Some, true, ◌≡◌};
+ghost use Rattle.std.specs.Prelude.{codes, Some, true};
 ghost use Rattle.allocative.specs.Bodies.{slice_of};
 ghost use Rattle.allocative.specs.Shows as shows;
 

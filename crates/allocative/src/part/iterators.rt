@@ -1,11 +1,10 @@
 //! What containers of pairs and of keys enter: the items that an iterator gives.
 #![tactic(auto, using(crate::proofs::Showing::showing))]
 
-ghost use Rattle.std.specs.Prelude.{false, ◌&&◌, codes, ◌≡◌, Some};
+ghost use Rattle.std.specs.Prelude.{false, ◌&&◌, codes, Some};
 ghost use Rattle.std.specs.Iterator.{IsFinite};
 ghost use Rattle.std.specs.Map.Iter.{deref, deref_pair};
 ghost use Rattle.allocative_graph.specs.Shows.{Inside, each_shows, slice_shows};
-ghost use Rattle.allocative_described.specs.Sizes.{size_sum};
 ghost use Rattle.allocative.specs.Making.{MakesPlanOrGives, MakesFirst, Keeps, MakesPlanRun, Done, one};
 ghost use Rattle.allocative.specs.Visited.{Entered};
 ghost use Rattle.allocative.specs.Bodies.{are_shown_each};

@@ -1,8 +1,8 @@
 //! The collectors: that of a flame graph, and that of held bytes.
 #![tactic(auto, using(crate::proofs::Steps::steps))]
 
-ghost use Rattle.std.specs.Prelude.{◌≡◌, ◌+◌, ◌<◌, ◌^◌, true, false, IfOk, IfErr, OnOk, IsTrue, ◌↔◌};
-ghost use Rattle.allocative_graph.specs.Collector.{State, Failed, Going, OfGraph, OfHeld, no_entries, nothing_held, enter, leave, begin, is_in_unique, failed_with, left, IsClosed, IsAtRoot};
+ghost use Rattle.std.specs.Prelude.{◌≡◌, ◌<◌, ◌^◌, true, false, IfOk, IfErr, OnOk, IsTrue, ◌↔◌};
+ghost use Rattle.allocative_graph.specs.Collector.{State, Going, OfGraph, OfHeld, no_entries, nothing_held, enter, leave, begin, is_in_unique, failed_with, left, IsClosed, IsAtRoot};
 ghost use Rattle.allocative_graph.specs.Graph.{total};
 ghost use Rattle.allocative_graph.specs.Visits.{HasFailed, HasRoom, Refuses, Enters, EntersSized, EntersShared, Begins, Settles, Ends, IsProfile};
 ghost use Rattle.allocative.specs.Steps.{StepsIn, StepsSimple, StepsInShared, IsHeldSum};

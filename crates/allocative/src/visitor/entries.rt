@@ -1,7 +1,7 @@
 //! What implementations enter: entries with their parts.
 #![tactic(auto, using(crate::proofs::Showing::showing))]
 
-ghost use Rattle.std.specs.Prelude.{true, false, codes, length, Some};
+ghost use Rattle.std.specs.Prelude.{true, codes, length, Some};
 ghost use Rattle.allocative_graph.specs.Shows.{Inside, InsideUnique, Field, Nothing};
 ghost use Rattle.allocative.specs.Making.{MakesPlan, MakesFirst, one};
 ghost use Rattle.allocative.specs.Visited.{Entered};
