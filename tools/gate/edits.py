@@ -74,8 +74,9 @@ class Edit:
     functions: tuple[Function, ...]
 
     @property
-    def is_of_one_function(self) -> bool:
-        return len(self.functions) == 1
+    def keys(self) -> set[tuple[str, ...]]:
+        """What no other edit of the same check may change."""
+        return {it.key for it in self.functions}
 
     def covers(self, file: str, line: int) -> bool:
         """Whether a line, counted from 1, is one of the edit's functions' or one that it changes."""
@@ -248,13 +249,12 @@ def calls(caller: Edit, callee: Edit, folder: str) -> bool:
 
 
 def batches_of(edits: list[Edit], folder: str) -> list[list[Edit]]:
-    """Puts edits into as few batches as each function's being changed once in a batch allows, and by itself what is not of one function."""
+    """Puts edits into as few batches as each function's being changed once in a batch allows, and by itself what is not of functions."""
     batches: list[list[Edit]] = []
-    alone = [[it] for it in edits if not it.is_of_one_function]
-    for edit in (it for it in edits if it.is_of_one_function):
+    alone = [[it] for it in edits if not it.functions]
+    for edit in (it for it in edits if it.functions):
         for batch in batches:
-            keys = {it.functions[0].key for it in batch}
-            if edit.functions[0].key not in keys and not any(calls(edit, it, folder) or calls(it, edit, folder) for it in batch):
+            if all(edit.keys.isdisjoint(it.keys) and not calls(edit, it, folder) and not calls(it, edit, folder) for it in batch):
                 batch.append(edit)
                 break
         else:

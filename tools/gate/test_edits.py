@@ -102,10 +102,16 @@ class Edits(unittest.TestCase):
         edits = [self.read("helper", ("    size + 1", "    size + 2")), self.read("caller", ("    helper(size)", "    helper(size) + 1"))]
         self.assertEqual(len(batches_of(edits, self.room.name)), 2)
 
-    def test_an_edit_of_two_functions_is_alone(self) -> None:
+    def test_an_edit_of_two_functions_is_apart_from_one_of_either(self) -> None:
         both = self.read("both", ("let size = 8;", "let size = 9;"), ("text.key()", "Key::new()"))
+        either = self.read("either", ("text.key()", "text.keys()"))
         other = self.read("other", ("    helper(size)", "    helper(size) + 1"))
-        self.assertEqual([[it.name for it in batch] for batch in batches_of([both, other], self.room.name)], [["other"], ["both"]])
+        batches = batches_of([both, either, other], self.room.name)
+        self.assertEqual([[it.name for it in batch] for batch in batches], [["both", "other"], ["either"]])
+
+    def test_an_edit_of_a_type_is_alone(self) -> None:
+        edits = [self.read("type", ("struct Field<K, V>(K, V);", "struct Field<K, V>(V, K);")), self.read("size", ("let size = 8;", "let size = 9;"))]
+        self.assertEqual([[it.name for it in batch] for batch in batches_of(edits, self.room.name)], [["size"], ["type"]])
 
     def test_a_text_that_is_not_there(self) -> None:
         with self.assertRaisesRegex(Unreadable, "0 times"):

@@ -6,7 +6,10 @@ from gate.edits import Edit, Function, Item
 from gate.verdicts import Check, Kind, judge, judge_alone
 
 ITEM = Item("fn", 9, 20, "    fn add(&mut self)")
-EDIT = Edit("graph", "added_twice", {("src/tree.rt", 11): ""}, (Function("graph", "src/tree.rt", ITEM, "graph::tree", "Tree", "", True),))
+ADD = Function("graph", "src/tree.rt", ITEM, "graph::tree", "Tree", "", True)
+EDIT = Edit("graph", "added_twice", {("src/tree.rt", 11): ""}, (ADD,))
+CHILD = Function("graph", "src/tree.rt", Item("fn", 30, 40, "    fn child(&self)"), "graph::tree", "Tree", "", True)
+OF_BOTH = Edit("graph", "child_of_another", {("src/tree.rt", 11): "", ("src/tree.rt", 31): ""}, (ADD, CHILD))
 END = "\nlogic=not-proved\n"
 
 
@@ -43,6 +46,13 @@ class Judging(unittest.TestCase):
     def test_an_error_of_another_function_says_nothing(self) -> None:
         error = "./proofs/tree/Tree/child/Answers.antt:7:5: error: `returns`: as printed, the two types differ\n"
         self.assertIsNone(self.kind(error + "fn graph::tree::Tree::add: proved"))
+
+    def test_an_edit_of_two_functions_is_refused_where_one_of_them_is(self) -> None:
+        add = "fn graph::tree::Tree::add: proved\n"
+        child = "fn graph::tree::Tree::child: no proof: expected answers in ./proofs/tree/Tree/child/Answers.antt; `search` did not prove `returns`"
+        self.assertEqual(judge(Check(1, add + child + END), OF_BOTH).kind, Kind.REFUSED)
+        self.assertIsNone(judge(Check(1, add + "fn graph::tree::Tree::child: proved" + END), OF_BOTH))
+        self.assertIsNone(judge(Check(1, add + END), OF_BOTH))
 
     def test_a_text_that_does_not_compile(self) -> None:
         check = Check(1, "src/tree.rt:12:9: error[unknown-name]: there is no `totals` here\n")

@@ -121,22 +121,24 @@ def unread(check: Check, edit: Edit) -> str:
 
 
 def judge(check: Check, edit: Edit) -> Verdict | None:
-    """Returns what a check says of an edit that it tried with edits of other functions, by its own function's lines.
+    """Returns what a check says of an edit that it tried with edits of other functions, by the lines of its own functions.
 
-    None where these say nothing: where the function is proved, or rests on a function that is not, or its proof names what is
+    None where these say nothing: where the functions are proved, or rest on one that is not, or their proofs name what is
     not there, which another edit may have taken away."""
     why = unread(check, edit)
     if why:
         return Verdict(Kind.BAD, why)
-    function = edit.functions[0]
-    names = function.names_among(check.functions)
-    if not check.is_judged or not names:
+    named = [(it, it.names_among(check.functions)) for it in edit.functions]
+    if not check.is_judged or not all(names for _, names in named):
         return None
-    goals, errors = goals_of(check, names), errors_of(check, function, names)
-    proper = [it for it in errors if not NAMES.search(re.sub(r"`[^`]*`: ", "", it.text, count=1))]
-    if goals:
-        return Verdict(Kind.REFUSED, "at " + "; ".join(where(check, function, it) for it in goals[:2]))
-    return Verdict(Kind.REFUSED, f"at {proper[0].text}") if proper else None
+    for function, names in named:
+        goals, errors = goals_of(check, names), errors_of(check, function, names)
+        proper = [it for it in errors if not NAMES.search(re.sub(r"`[^`]*`: ", "", it.text, count=1))]
+        if goals:
+            return Verdict(Kind.REFUSED, "at " + "; ".join(where(check, function, it) for it in goals[:2]))
+        if proper:
+            return Verdict(Kind.REFUSED, f"at {proper[0].text}")
+    return None
 
 
 def judge_alone(check: Check, edit: Edit) -> Verdict:

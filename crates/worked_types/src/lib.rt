@@ -1,13 +1,24 @@
-//! Tests of declared names and sizes, and of the text of each type and of each helper.
+//! Tests of declared names and sizes, of the text of each type and of each helper, and of the profiles of the types of
+//! `own_types` and of `implemented_types`.
 #![tactic(auto)]
 
+#[cfg(test)]
+mod deep_types;
+#[cfg(test)]
+mod flat_types;
 #[cfg(test)]
 mod helpers;
 #[cfg(test)]
 mod pack_types;
+#[cfg(test)]
+mod profiles;
+#[cfg(test)]
+mod services;
 #[cfg(test)]
 mod sizes;
 #[cfg(test)]
 mod std_types;
 #[cfg(test)]
 mod texts;
+#[cfg(test)]
+mod written_types;

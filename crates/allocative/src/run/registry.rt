@@ -83,7 +83,7 @@ impl FlameGraphBuilder {
         self.check()?;
         let roots = registry.roots();
         for root in roots {
-            self.visit_root(&**root)?;
+            self.visit_root(root.as_ref())?;
         }
         Ok(())
     }

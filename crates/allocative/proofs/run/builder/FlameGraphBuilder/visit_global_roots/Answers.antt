@@ -8,7 +8,7 @@ pub loop-root-preserved : goal.loop-root-preserved
 loop-root-preserved g c =
     runs_one_more (λ b. (goal.Allocative-dyn g (b.vtable, b.value)).may_show b.value) c.roots-roots.result.now c.loop-root.root-index c.root-item.result
     c.args.self.now c.loop-root.self c.visit_root.new.self tt tt tt
-    c.loop-root.invariant (rw c.deref_box-1.ensures.1 at c.in_ok-visit_root.ensures.runs) c.loop-root-test.true c.root-item.is
+    c.loop-root.invariant (rw c.as_ref.ensures.1 at c.in_ok-visit_root.ensures.runs) c.loop-root-test.true c.root-item.is
 
 pub returns-in_err-visit_root-clause-rightly : goal.returns-in_err-visit_root-clause-rightly
 returns-in_err-visit_root-clause-rightly g c = rw (← c.roots-roots.ensures)
@@ -16,4 +16,4 @@ returns-in_err-visit_root-clause-rightly g c = rw (← c.roots-roots.ensures)
     c.args.self.now c.loop-root.self c.visit_root.new.self tt
     (one_of_exact (λ b. (goal.Allocative-dyn g (b.vtable, b.value)).is_exact) c.roots-roots.result.now c.loop-root.root-index c.root-item.result c.loop-root-test.true c.root-item.is)
     (same_err {e = c.in_err-visit_root.field-0.0} _ c.from_residual-in_err-visit_root.ensures.0 (search rules))
-    c.loop-root.invariant (rw c.deref_box-1.ensures.1 at c.in_err-visit_root.ensures.rightly) c.loop-root-test.true c.root-item.is)
+    c.loop-root.invariant (rw c.as_ref.ensures.1 at c.in_err-visit_root.ensures.rightly) c.loop-root-test.true c.root-item.is)
