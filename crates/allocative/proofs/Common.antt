@@ -26,7 +26,7 @@ pub use Rattle.allocative.specs.Kinds.{state_of}
 pub use Rattle.allocative.specs.Levels.{levels_shown}
 pub use Rattle.allocative.specs.Making.{Done, Entry, Makes, MakesPlan, Plan, entry_refused, gives, inside_refused, made, made_none, makes, one}
 pub use Rattle.allocative.specs.Nested.{EndsWith, EndsWithout, IsRefusedSized, LendsCollector, LendsNestedSized, NestsSized, with_state}
-pub use Rattle.allocative.specs.Runs.{CountsRun, deref_entry, field_of, pair_shows}
+pub use Rattle.allocative.specs.Runs.{CountsRun, field_of, pair_shows}
 pub use Rattle.allocative.specs.Shared.{AnswersShared, told, turned}
 pub use Rattle.allocative.specs.StdShows.{in_any_order}
 pub use Rattle.allocative.specs.Steps.{IsHeldSum, StepsInShared}

@@ -1,8 +1,8 @@
 -- How entries are made one after another and inside each other, by calls that visit no part.
-use Rattle.std.proofs.Common.{ℕ, Bool, true, false, List, [], ◌∷◌, ◌++◌, length, ◌≡◌, Option, Some, Result, Ok, Err, refl, sym, ◌∙◌, subst, ap, arith, length-append}
+use Rattle.std.proofs.Common.{ℕ, Bool, true, false, List, [], ◌∷◌, ◌≡◌, Option, Some, Result, Ok, Err, refl, sym, ◌∙◌, subst, ap}
 use Rattle.allocative.proofs.Common.{Yields, Refusal, Key, State, Failed, Going, left, HasFailed, stays_failed, is_entered, EntersSized, stays_unsized, is_sized, Leaves, leaves_failed, leaves_going, Plan, Done, Entry, Makes, MakesPlan, made_none, made, entry_refused, inside_refused, Visitor}
 use Rattle.std.proofs.lemmas.Bool.{false≢true}
-use Rattle.allocative.specs.Making.{followed_by_plan, had_failed, Keeps, MakesPlanOrGives, makes, gives}
+use Rattle.allocative.specs.Making.{followed_by_plan, had_failed, Keeps, MakesPlanOrGives, gives}
 use Rattle.allocative.proofs.Visits.{not_sized_cause, left_by}
 
 -- ---- what was made goes on, and what was refused has failed
@@ -48,19 +48,10 @@ then_refused q (entry_refused g) = entry_refused g
 then_refused q (inside_refused g m) = inside_refused g m
 
 -- ---- iterators
--- A list with one more item is not empty.
-pub not_none : {A : Type 0} {Q : Type 0} (xs : List A) (x : A) → length (xs ++ x ∷ []) ≡ 0 → Q
-not_none xs x h = absurd (omega (arith, h, length-append xs (x ∷ [])))
-
 -- A run that gave one more item gives an item.
 pub run_gives : {S A : Type 0} (steps : S → Option A → S → Type 0) {s u : S} (t : S) {x : A} {p : Plan} {a b : Visitor} {r : Result Unit Refusal} (xs : List A) → Yields steps s xs t → steps t (Some x) u → MakesPlanOrGives steps s p a b r
 run_gives steps {u = u} t {x = x} [] e g = gives x u (subst (λ v. steps v (Some x) u) (sym e) g)
 run_gives steps t (y ∷ ys) h g = gives y h.0 h.1
-
--- A run that ended either gave an item or makes the entries of the plan.
-pub run_ends : {S A : Type 0} (steps : S → Option A → S → Type 0) {s : S} (t : S) {p : Plan} {a b : Visitor} {r : Result Unit Refusal} (xs : List A) → Yields steps s xs t → (length xs ≡ 0 → MakesPlan p a b r) → MakesPlanOrGives steps s p a b r
-run_ends steps t [] h m = makes (m refl)
-run_ends steps t (y ∷ ys) h m = gives y h.0 h.1
 
 -- ---- a collector that had failed
 pub failed_makes : {p : Plan} {e : Refusal} {t : State} {r : Result Unit Refusal} → Makes p (Failed e) r t → (r ≡ Err e) × HasFailed t e

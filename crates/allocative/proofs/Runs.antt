@@ -1,6 +1,6 @@
 -- How a loop over an iterator shows one more item, and what a whole run of it shows.
 use Rattle.std.proofs.Common.{Bool, false, true, ℕ, zero, suc, ◌+◌, ◌*◌, ◌<◌, ◌^◌, length, filter_map, cond, count_by, is_some, arith, ◌⊎◌, inl, inr, List, [], ◌∷◌, ◌++◌, map, ◌≡◌, Option, None, Some, Result, Ok, Err, refl, sym, ◌∙◌, ap, subst}
-use Rattle.allocative.proofs.Common.{Yields, values, Refusal, Key, Forest, Kind, State, left, Showing, Nothing, Both, InsideAs, Inside, Field, each_shows, slice_shows, Enters, checked, size_product, are_shown_each, bytes_shown, CountsRun, in_any_order, Visitor, IsDeclared, CanTake, RefusesRightly, with_state, Entered, Means}
+use Rattle.allocative.proofs.Common.{Yields, Refusal, Key, Forest, Kind, State, left, Showing, Nothing, Both, InsideAs, Inside, Field, each_shows, slice_shows, Enters, checked, size_product, are_shown_each, bytes_shown, CountsRun, in_any_order, Visitor, IsDeclared, CanTake, RefusesRightly, with_state, Entered, Means}
 use Rattle.std.proofs.lemmas.List.{map-append, length-map}
 use Rattle.std.proofs.lemmas.List.Sums.{sum_by-cons}
 use Rattle.std.proofs.lemmas.List.Elements.{All-nil, All-cons, All-head, All-tail}
@@ -10,44 +10,44 @@ use Rattle.std.proofs.lemmas.List.Sorted.{IsPermutation-refl, IsPermutation-sym,
 use Rattle.std.proofs.lemmas.Iterator.{YieldsList, items_from_drains}
 use Rattle.std.specs.Iterator.{Drains, AlwaysYields}
 use Rattle.std.specs.List.{All}
-use Rattle.slab.specs.Slab.{Slab, entries_from, entries}
-use Rattle.allocative.specs.Runs.{RefusesAlong, RefusesCounted, CanCount, IsOfRun, value_shows}
-use Rattle.allocative.proofs.Meaning.{entered_if, entered_as, exact_never}
-use Rattle.allocative.proofs.Exact.{declared_nothing, declared_first, declared_second, declared_both, entry_fits, rightly_as, rightly_within}
-use Rattle.allocative.proofs.Within.{item_refused, entered_snoc}
+use Rattle.slab.specs.Slab.{entries_from}
+use Rattle.allocative.specs.Runs.{RefusesAlong, RefusesCounted, CanCount, IsOfRun}
+use Rattle.allocative.proofs.Meaning.{entered_if, entered_as, exact_never, exact_same}
+use Rattle.allocative.proofs.Exact.{declared_nothing, declared_first, declared_second, declared_both, declared_append, each_append, each_one, entry_fits, rightly_as, rightly_within}
+use Rattle.allocative.proofs.Within.{entered_both, entered_passed}
 use Rattle.allocative.proofs.Bodies.{plain_slice, each_slice, entry_declared, checked_fits, none_of_it}
 use Rattle.allocative.proofs.Showing.{shows_weaker}
+
+-- Items in two runs are the items one after another.
+means_append : {T : Type 0} {d : Bool} (p : T → Showing) (xs ys : List T) → Means d (Both (each_shows p xs) (each_shows p ys)) (each_shows p (xs ++ ys))
+means_append p xs ys = record { means = each_append p xs ys; declared = λ i d. declared_append p xs ys d }
 
 -- One step of a loop shows one more item.
 pub entered_next : {A B : Type 0} {e : Bool} (v : A → B) (p : B → Showing) (xs : List A) (x : A) {a b c : Visitor} {u w y : Unit {0}} →
     Entered e (each_shows p (map v xs)) a b (Ok u) → Entered e (p (v x)) b c (Ok w) → Entered e (each_shows p (map v (xs ++ x ∷ []))) a c (Ok y)
-entered_next v p xs x f s = rw map-append (entered_snoc p (map v xs) (v x) f s)
+entered_next v p xs x f s =
+    let one : Means _ (p (v x)) (each_shows p (v x ∷ [])) = record { means = each_one p (v x); declared = λ i d. declared_first d } in
+    rw map-append (entered_as (entered_both exact_same exact_same f (entered_as s one)) (means_append p (map v xs) (v x ∷ [])))
 
 -- What is not exact is only allowed.
 loosely : {p q : Showing} → ((f : Forest) → p f → q f) → Means false p q
 loosely up = record { means = up; declared = λ i d. absurd (false≢true i) }
 
-pub entered_run : {S A B : Type 0} {e : Bool} {steps : S → Option A → S → Type 0} {s : S} (v : A → B) (q : List B → Showing) (xs : List A) {a b : Visitor} {r : Result (Unit {0}) Refusal} →
+pub entered_run : {S A B : Type 0} {e : Bool} {steps : S → Option A → S → Type 0} {s : S} {v : A → B} {q : List B → Showing} (xs : List A) {a b : Visitor} {r : Result (Unit {0}) Refusal} →
     Drains steps s xs → Entered e (q (map v xs)) a b r → Entered false (IsOfRun steps s v q) a b r
-entered_run v q xs d h = entered_if h exact_never (loosely (λ f g. record { given = xs; drained = d; shown = g }))
-
-of_list : {S A B : Type 0} {steps : S → Option A → S → Type 0} {s : S} {v : A → B} {q : List B → Showing} {all : List B} → YieldsList steps v s all → (f : Forest) → IsOfRun steps s v q f → q all f
-of_list {q = q} y f o =
-    let e = items_from_drains o.given (o.drained.1.0, o.drained.1.1, λ _. (o.drained.0, o.drained.1.2)) y in
-    subst (λ ys. q ys f) e o.shown
-
--- What was entered for each list of items that the iterator may give.
-pub along_all : {S A B : Type 0} {e : Bool} {steps : S → Option A → S → Type 0} {s : S} {v : A → B} {q : List B → Showing} {a b : Visitor} {r : Result (Unit {0}) Refusal} →
-    ((ys : List B) → AlwaysYields steps v s ys → Entered e (q ys) a b r) → RefusesAlong e steps s v q a b r
-along_all h = record { along = λ i ys y. (h ys y).rightly i }
+entered_run xs d h = entered_if h exact_never (loosely (λ f g. record { given = xs; drained = d; shown = g }))
 
 -- The items of a whole run are those that every run gives.
-pub along_run : {S A B : Type 0} {e : Bool} {steps : S → Option A → S → Type 0} {s : S} (v : A → B) (q : List B → Showing) (xs : List A) {a b : Visitor} {r : Result (Unit {0}) Refusal} →
+same_items : {S A B : Type 0} {steps : S → Option A → S → Type 0} {s : S} {v : A → B} (xs : List A) {ys : List B} → Drains steps s xs → YieldsList steps v s ys → map v xs ≡ ys
+same_items xs d y = items_from_drains xs (d.1.0, d.1.1, λ _. (d.0, d.1.2)) y
+
+of_list : {S A B : Type 0} {steps : S → Option A → S → Type 0} {s : S} {v : A → B} {q : List B → Showing} {all : List B} →
+    YieldsList steps v s all → (f : Forest) → IsOfRun steps s v q f → q all f
+of_list {q = q} y f o = subst (λ ys. q ys f) (same_items o.given o.drained y) o.shown
+
+pub along_run : {S A B : Type 0} {e : Bool} {steps : S → Option A → S → Type 0} {s : S} {v : A → B} {q : List B → Showing} (xs : List A) {a b : Visitor} {r : Result (Unit {0}) Refusal} →
     Drains steps s xs → Entered e (q (map v xs)) a b r → RefusesAlong e steps s v q a b r
-along_run {e = e} {steps = steps} {s = s} v q xs {a = a} {b = b} {r = r} d h = along_all (λ ys y.
-    let yields : YieldsList steps v s ys = record { runs = y } in
-    let is : map v xs ≡ ys = items_from_drains xs (d.1.0, d.1.1, λ _. (d.0, d.1.2)) yields in
-    subst (λ zs. Entered e (q zs) a b r) is h)
+along_run {steps = steps} {s = s} xs d h = record { along = λ i ys y. rw (← same_items {steps = steps} {s = s} xs d (record { runs = y })) (h.rightly i) }
 
 -- The items so far and the next one begin the list that every run gives.
 begins : {S A B : Type 0} (steps : S → Option A → S → Type 0) (v : A → B) (s : S) {u : S} (t : S) {x : A} (xs : List A) (ys : List B) → Yields steps s xs t → steps t (Some x) u → AlwaysYields steps v s ys →
@@ -60,11 +60,15 @@ begins steps v s t (w ∷ xs) (z ∷ zs) h g y =
     let more = begins steps v h.0 t xs zs h.2 g next.1 in
     (more.0, (λ i. next.0 i ∷ more.1 i))
 
-pub along_refused : {S A B : Type 0} {d : Bool} (steps : S → Option A → S → Type 0) {s u : S} (t : S) (v : A → B) (p : B → Showing) {x : A} (xs : List A) {a b c : Visitor} {w : Unit {0}} {e : Refusal} {r : Result (Unit {0}) Refusal} → r ≡ Err e →
-    Yields steps s xs t → steps t (Some x) u → Entered d (each_shows p (map v xs)) a b (Ok w) → Entered d (p (v x)) b c (Err e) → RefusesAlong d steps s v (each_shows p) a c r
-along_refused steps {s = s} t v p {x = x} xs is g n f z = along_all (λ ys y.
-    let split = begins steps v s t xs ys g n y in
-    item_refused p (map v xs) (v x) split.0 is f z split.1)
+pub along_refused : {S A B : Type 0} {d : Bool} (steps : S → Option A → S → Type 0) {s u : S} (t : S) {v : A → B} {p : B → Showing} {x : A} (xs : List A)
+    {a b c : Visitor} {w : Unit {0}} {e : Refusal} {r : Result (Unit {0}) Refusal} → r ≡ Err e → Yields steps s xs t → steps t (Some x) u →
+    Entered d (each_shows p (map v xs)) a b (Ok w) → Entered d (p (v x)) b c (Err e) → RefusesAlong d steps s v (each_shows p) a c r
+along_refused steps {s = s} t {v} {p} {x} xs is g n f z = record {
+  along = λ i ys y.
+      let split = begins steps v s t xs ys g n y in
+      let both = entered_both exact_same exact_same f (entered_passed is exact_same z) in
+      rw (← split.1) ((entered_as both (means_append p (map v xs) (v x ∷ split.0))).rightly i);
+}
 
 -- What is entered inside an entry.
 pub along_within : {S A B : Type 0} {u e : Bool} {steps : S → Option A → S → Type 0} {s : S} {v : A → B} {q : List B → Showing} {k : Key} {n : ℕ} {o : Bool} {a b : Visitor} {t d : State} {r : Result (Unit {0}) Refusal} →
@@ -118,7 +122,7 @@ pub plain_run : {S A T : Type 0} {e : Bool} {steps : S → Option A → S → Ty
 plain_run v name size count needs_drop p e (xs, d, i) h =
     let h' = rw i at h in
     let up = λ (f : Forest) (g : Field name (size_product size (checked (length xs))) Nothing f). plain_slice name size needs_drop p (map v xs) e f (rw length-map (bytes_counted name size (length xs) f g)) in
-    entered_run v (slice_shows name size needs_drop p) xs d (entered_if h' exact_never (loosely (up)))
+    entered_run xs d (entered_if h' exact_never (loosely (up)))
 
 pub items_run : {S A T : Type 0} {e : Bool} {steps : S → Option A → S → Type 0} {s : S} (v : A → T) (name : Key) (size : Option ℕ) (needs_drop : Bool) (p : T → Showing) {a b : Visitor} {r : Result (Unit {0}) Refusal} →
     are_shown_each needs_drop size ≡ true → Entered e (IsOfRun steps s v (each_shows p)) a b r → Entered false (IsOfRun steps s v (slice_shows name size needs_drop p)) a b r
@@ -147,8 +151,7 @@ pub counted_plain : {S A T : Type 0} {e : Bool} {steps : S → Option A → S �
     are_shown_each needs_drop size ≡ false → CountsRun steps s count → Entered true (Field name (size_product size count) Nothing) a b r → RefusesCounted e size steps s v (slice_shows name size needs_drop p) a b r
 counted_plain {steps = steps} {s = s} v name size count needs_drop p {a = a} {b = b} {r = r} e (xs, d, i) h = record {
   along = λ j ys y fits.
-      let yields : YieldsList steps v s ys = record { runs = y } in
-      let is : map v xs ≡ ys = items_from_drains xs (d.1.0, d.1.1, λ _. (d.0, d.1.2)) yields in
+      let is : map v xs ≡ ys = same_items {steps = steps} {s = s} xs d (record { runs = y }) in
       let n : length xs ≡ length ys = sym (length-map xs v) ∙ ap length is in
       let told = h.rightly refl in
       let counted : RefusesRightly (Field name (size_product size (checked (length ys))) Nothing) a.collector.now r b.collector.now = rw (i, n) at told in
@@ -156,17 +159,10 @@ counted_plain {steps = steps} {s = s} v name size count needs_drop p {a = a} {b 
 }
 
 -- ---- a slab's values
-values_from : {T : Type 0} (p : T → Showing) (key : ℕ) (slots : List (Option T)) → each_shows (value_shows p) (entries_from key slots) ≡ each_shows p (filter_map (λ slot. slot) slots)
-values_from p key [] = refl
-values_from p key (None ∷ rest) = values_from p (key + 1) rest
-values_from p key (Some x ∷ rest) = ap (Both (p x)) (values_from p (key + 1) rest)
-
--- What the values of a slab's entries show, its values show.
-pub entered_slab : {S A T : Type 0} {d e : Bool} {steps : S → Option A → S → Type 0} {s : S} {v : A → ℕ × T} (p : T → Showing) (slab : Slab T) {a b : Visitor} {r : Result (Unit {0}) Refusal} →
-    YieldsList steps v s (entries slab) → Entered e (IsOfRun steps s v (each_shows (value_shows p))) a b r → RefusesAlong d steps s v (each_shows (value_shows p)) a b r → Entered d (each_shows p (values slab)) a b r
-entered_slab p slab y h k =
-    let shown = entered_list {q = each_shows (value_shows p)} y h k in
-    rw (values_from p 0 slab.slots) at shown
+pub values_from : {T : Type 0} (key : ℕ) (slots : List (Option T)) → map (λ e. e.1) (entries_from key slots) ≡ filter_map (λ slot. slot) slots
+values_from key [] = refl
+values_from key (None ∷ rest) = values_from (key + 1) rest
+values_from key (Some x ∷ rest) = ap (λ xs. x ∷ xs) (values_from (key + 1) rest)
 
 pub values_count : {T : Type 0} (slots : List (Option T)) → length (filter_map (λ slot. slot) slots) ≡ count_by is_some slots
 values_count [] = refl

@@ -1,14 +1,14 @@
 -- One entry with what is inside it: the collector enters it, the same visitor enters what is inside, and the collector
 -- steps back.
-use Rattle.std.proofs.Common.{[], ◌≡◌, ℕ, ◌+◌, ◌<◌, Bool, true, false, List, ◌∷◌, ◌++◌, take, drop, length, get_or, Option, Some, Result, Ok, Err, IsErr, refl, sym, ◌∙◌, ap, subst, take-append-drop}
-use Rattle.allocative.proofs.Common.{Refusal, Key, Identity, State, Failed, Going, left, Showing, Nothing, Both, Inside, Field, sized, SharedWith, each_shows, already, Enters, EntersSized, is_sized, EntersShared, Leaves, leaves_going, Plan, Done, Entry, Makes, made_none, made, entry_refused, inside_refused, makes, gives, one, Visitor, with_state, RefusesRightly, Entered, Means, OnlyIf}
+use Rattle.std.proofs.Common.{◌≡◌, ℕ, ◌+◌, ◌<◌, Bool, true, false, List, ◌∷◌, ◌++◌, take, drop, length, get_or, Option, Some, Result, Ok, Err, IsErr, refl, sym, ◌∙◌, ap, subst, take-append-drop}
+use Rattle.allocative.proofs.Common.{Refusal, Key, Identity, State, Failed, Going, left, Showing, Nothing, Both, Inside, Field, sized, SharedWith, already, Enters, EntersSized, is_sized, EntersShared, Leaves, leaves_going, Plan, Done, Entry, Makes, made_none, made, entry_refused, inside_refused, makes, gives, one, Visitor, with_state, RefusesRightly, Entered, OnlyIf}
 use Rattle.std.proofs.lemmas.Bool.{false≢true}
 use Rattle.std.proofs.lemmas.List.{drop_more}
 use Rattle.allocative.specs.Making.{had_failed, MakesFirst, MakesPlanOrGives, first_refused, first_entered}
 use Rattle.allocative.specs.Exact as refuses
 use Rattle.allocative.proofs.Making.{goes_on, nothing_inside, makes_entry, makes_failed, failed_left}
-use Rattle.allocative.proofs.Exact.{rightly_nothing, rightly_field, rightly_not_sized, rightly_first, rightly_both, each_append, declared_append, declared_first, each_one, rightly_content}
-use Rattle.allocative.proofs.Meaning.{exact_same, entered_as}
+use Rattle.allocative.proofs.Exact.{rightly_nothing, rightly_field, rightly_not_sized, rightly_first, rightly_both, rightly_content}
+use Rattle.allocative.proofs.Meaning.{entered_as}
 use Rattle.allocative.proofs.Visits.{shows_nothing, shows_both, shows_err, field_shows, left_by, not_sized, not_sized_cause}
 use Rattle.allocative.proofs.Steps.{leaves_by_left}
 
@@ -78,22 +78,6 @@ entered_both o w f s = record {
   cause = s.cause;
   rightly = λ i. rightly_both (f.rightly (o.follows i)) (s.rightly (w.follows i));
 }
-
--- Items in two runs are the items one after another.
-means_append : {T : Type 0} {d : Bool} (p : T → Showing) (xs ys : List T) → Means d (Both (each_shows p xs) (each_shows p ys)) (each_shows p (xs ++ ys))
-means_append p xs ys = record { means = each_append p xs ys; declared = λ i d. declared_append p xs ys d }
-
--- One step of a loop shows one more item.
-pub entered_snoc : {T : Type 0} {d : Bool} (p : T → Showing) (xs : List T) (x : T) {a b c : Visitor} {u v w : Unit {0}} →
-    Entered d (each_shows p xs) a b (Ok u) → Entered d (p x) b c (Ok v) → Entered d (each_shows p (xs ++ x ∷ [])) a c (Ok w)
-entered_snoc p xs x f s =
-    let one : Means _ (p x) (each_shows p (x ∷ [])) = record { means = each_one p x; declared = λ i d. declared_first d } in
-    entered_as (entered_both exact_same exact_same f (entered_as s one)) (means_append p xs (x ∷ []))
-
--- An item that is refused, after the items before it.
-pub item_refused : {T : Type 0} {d : Bool} (p : T → Showing) (front : List T) (x : T) (back : List T) {xs : List T} {a b c : Visitor} {u : Unit} {e : Refusal} {r : Result Unit Refusal} → r ≡ Err e →
-    Entered d (each_shows p front) a b (Ok u) → Entered d (p x) b c (Err e) → front ++ x ∷ back ≡ xs → Entered d (each_shows p xs) a c r
-item_refused p front x back is f s j = rw (← j) (entered_as (entered_both exact_same exact_same f (entered_passed is exact_same s)) (means_append p front (x ∷ back)))
 
 -- The list is the items before the one with this index, that item, and those after it.
 pub around_item : {T : Type 0} (xs : List T) (i : ℕ) (x : T) → i < length xs → x ≡ get_or xs i x → take i xs ++ x ∷ drop (i + 1) xs ≡ xs

@@ -1,7 +1,6 @@
 -- What is shown of the items that an iterator gives.
 use Rattle.std.specs.Prelude.{◌≡◌, ℕ, ◌<◌, ◌^◌, Bool, IsTrue, List, map, length, Option, Some, Result, codes}
 use Rattle.std.specs.Iterator.{Drains, AlwaysYields}
-use denote.Ref.{Bor}
 use Rattle.allocative_described.specs.Sizes.{checked}
 use Rattle.allocative_graph.specs.declared.refusal.Refusal.{Refusal}
 use Rattle.allocative_graph.specs.Path.{Key}
@@ -47,11 +46,3 @@ pair_shows key_size p value_size q e =
 -- The number of items of some whole run, or None where it does not fit a word.
 abbrev pub CountsRun : {S A : Type 0} → (S → Option A → S → Type 0) → S → Option ℕ → Type 0
 CountsRun {A = A} steps s n = (xs : List A) × Drains steps s xs × (n ≡ checked (length xs))
-
--- What a contract sees of an entry of a key and a reference.
-abbrev pub deref_entry : {T : Type 0} → ℕ × Bor T → ℕ × T
-deref_entry e = (e.0, e.1.now)
-
--- What p says of the value of an entry.
-abbrev pub value_shows : {T : Type 0} → (T → Showing) → ℕ × T → Showing
-value_shows p e = p e.1

@@ -11,7 +11,7 @@ ghost use Rattle.allocative.specs.Visited.{Entered};
 ghost use Rattle.allocative.specs.Parts.{optional_shows, either_shows};
 
 pub mod containers;
-mod iterators;
+pub(crate) mod iterators;
 pub mod named;
 pub(crate) mod slices;
 

@@ -8,6 +8,7 @@ ghost use Rattle.allocative.specs.PackShows.{index_data_shows};
 ghost use Rattle.allocative.specs.Runs.{field_of, pair_shows};
 ghost use Rattle.allocative.specs.StdShows.{in_any_order};
 
+use crate::part::iterators::{FieldUnder, KeyAndValue};
 use crate::{
     Allocative, Declared, Described, Inside, IntoKey, Part, Refusal, Unique, Visitor,
     raw_table_alloc_size_for_len,
@@ -49,7 +50,7 @@ impl<'a, T: Allocative> Part for Each<&'a Vec<T>> {
     ghost is_exact = { T.is_exact };
 
     fn enter(self, visitor: &mut Visitor<'_>) -> Result<(), Refusal> {
-        visitor.visit_items(self.0.iter())
+        visitor.visit_each(self.0)
     }
 }
 
@@ -84,7 +85,7 @@ impl<'a, K: IntoKey, T: Allocative + Described> Part for FieldEach<K, &'a [T]> {
 
     fn enter(self, visitor: &mut Visitor<'_>) -> Result<(), Refusal> {
         let FieldEach(key, items) = self;
-        visitor.visit_fields(key.into_key(), items.iter())
+        visitor.visit_run(FieldUnder(key.into_key()), items.iter())
     }
 }
 
@@ -95,7 +96,7 @@ impl<'a, K: IntoKey, T: Allocative + Described + Ord> Part for FieldEach<K, &'a 
 
     fn enter(self, visitor: &mut Visitor<'_>) -> Result<(), Refusal> {
         let FieldEach(key, set) = self;
-        visitor.visit_fields(key.into_key(), set.iter())
+        visitor.visit_run(FieldUnder(key.into_key()), set.iter())
     }
 }
 
@@ -106,7 +107,7 @@ impl<'a, K: IntoKey, T: Allocative + Described + Eq + Hash> Part for FieldEach<K
 
     fn enter(self, visitor: &mut Visitor<'_>) -> Result<(), Refusal> {
         let FieldEach(key, hashed) = self;
-        visitor.visit_fields(key.into_key(), hashed.iter())
+        visitor.visit_run(FieldUnder(key.into_key()), hashed.iter())
     }
 }
 
@@ -117,7 +118,7 @@ impl<'a, K: IntoKey, T: Allocative + Described + Eq + Hash> Part for FieldEach<K
 
     fn enter(self, visitor: &mut Visitor<'_>) -> Result<(), Refusal> {
         let FieldEach(key, indexed) = self;
-        visitor.visit_fields(key.into_key(), indexed.iter())
+        visitor.visit_run(FieldUnder(key.into_key()), indexed.iter())
     }
 }
 
@@ -138,7 +139,7 @@ impl<'a, K: Allocative + Described + Ord, V: Allocative + Described> Part
 
     fn enter(self, visitor: &mut Visitor<'_>) -> Result<(), Refusal> {
         let Pairs(map) = self;
-        visitor.visit_pairs(map.iter())
+        visitor.visit_run(KeyAndValue, map.iter())
     }
 }
 
@@ -150,7 +151,7 @@ impl<'a, K: Allocative + Described + Eq + Hash, V: Allocative + Described> Part
 
     fn enter(self, visitor: &mut Visitor<'_>) -> Result<(), Refusal> {
         let Pairs(hashed) = self;
-        visitor.visit_pairs(hashed.iter())
+        visitor.visit_run(KeyAndValue, hashed.iter())
     }
 }
 
@@ -162,7 +163,7 @@ impl<'a, K: Allocative + Described + Eq + Hash, V: Allocative + Described> Part
 
     fn enter(self, visitor: &mut Visitor<'_>) -> Result<(), Refusal> {
         let Pairs(indexed) = self;
-        visitor.visit_pairs(indexed.iter())
+        visitor.visit_run(KeyAndValue, indexed.iter())
     }
 }
 

@@ -1,14 +1,15 @@
-//! What containers of pairs and of keys enter: the items that an iterator gives.
+//! What is entered of the items that an iterator gives: one loop, which `EnterItem` tells how to enter each.
 #![tactic(auto, using(crate::proofs::Showing::showing))]
 
-ghost use Rattle.std.specs.Prelude.{false, ◌&&◌, codes, Some};
+ghost use Rattle.std.specs.Prelude.{Bool, false, ◌&&◌, codes, Some};
 ghost use Rattle.std.specs.Iterator.{IsFinite};
 ghost use Rattle.std.specs.Map.Iter.{deref, deref_pair};
+ghost use Rattle.allocative_graph.specs.Forest.{Forest};
 ghost use Rattle.allocative_graph.specs.Shows.{Inside, each_shows, slice_shows};
 ghost use Rattle.allocative.specs.Making.{MakesPlanOrGives, MakesFirst, Keeps, MakesPlanRun, Done, one};
 ghost use Rattle.allocative.specs.Visited.{Entered};
 ghost use Rattle.allocative.specs.Bodies.{are_shown_each};
-ghost use Rattle.allocative.specs.Runs.{IsOfRun, RefusesAlong, RefusesCounted, CountsRun, field_of, pair_shows, deref_entry, value_shows};
+ghost use Rattle.allocative.specs.Runs.{IsOfRun, RefusesAlong, RefusesCounted, CountsRun, field_of, pair_shows};
 
 use crate::part::slices::are_shown_each;
 use crate::{Allocative, Described, Key, Part, Refusal, Visitor};
@@ -26,23 +27,101 @@ fn count_of<A: Drop, I: Iterator<Item = A> + Drop>(items: I) -> Option<usize>
     count
 }
 
+/// How a loop enters each item that an iterator gives.
+pub(crate) trait EnterItem<A>: Drop {
+    ghost Seen: { Type 0 };
+
+    /// What a contract sees of an item.
+    ghost seen: { A → Seen };
+
+    ghost may_show: { Self → Seen → Forest → Type 0 };
+
+    ghost is_exact: { Bool };
+
+    /// Enters the item at the visitor.
+    fn enter_item(&self, item: A, visitor: &mut Visitor<'_>) -> Result<(), Refusal>
+        ensures { Entered is_exact (may_show self.now (seen item)) visitor.old visitor.new result };
+}
+
+/// What the item shows, with no entry of its own.
+#[derive(Drop)]
+pub(crate) struct Itself;
+
+impl<'a, T: Allocative> EnterItem<&'a T> for Itself {
+    ghost Seen = { T };
+
+    ghost seen = { deref };
+
+    ghost may_show = { λ _. T.may_show };
+
+    ghost is_exact = { T.is_exact };
+
+    #[inline(always)]
+    fn enter_item(&self, item: &'a T, visitor: &mut Visitor<'_>) -> Result<(), Refusal> {
+        item.enter(visitor)
+    }
+}
+
+/// A field under the key.
+#[derive(Drop)]
+pub(crate) struct FieldUnder(pub(crate) Key);
+
+impl<'a, T: Allocative + Described> EnterItem<&'a T> for FieldUnder {
+    ghost Seen = { T };
+
+    ghost seen = { deref };
+
+    ghost may_show = { λ f. field_of f.0 T.size T.may_show };
+
+    ghost is_exact = { T.is_exact };
+
+    #[inline(always)]
+    fn enter_item(&self, item: &'a T, visitor: &mut Visitor<'_>) -> Result<(), Refusal> {
+        visitor.visit_field(self.0.copy(), item)
+    }
+}
+
+/// The fields `key` and `value` of a pair.
+#[derive(Drop)]
+pub(crate) struct KeyAndValue;
+
+impl<'a, K: Allocative + Described, V: Allocative + Described> EnterItem<(&'a K, &'a V)>
+    for KeyAndValue {
+    ghost Seen = { K × V };
+
+    ghost seen = { deref_pair };
+
+    ghost may_show = { λ _. pair_shows K.size K.may_show V.size V.may_show };
+
+    ghost is_exact = { K.is_exact && V.is_exact };
+
+    #[inline(always)]
+    fn enter_item(&self, item: (&'a K, &'a V), visitor: &mut Visitor<'_>) -> Result<(), Refusal> {
+        let (key, value) = item;
+        visitor.visit_field(Key::new("key"), key)?;
+        visitor.visit_field(Key::new("value"), value)
+    }
+}
+
 impl Visitor<'_> {
-    /// What each item that the iterator gives shows, in order.
-    pub(crate) fn visit_items<'a, T: Allocative + 'a, I: Iterator<Item = &'a T> + Drop>(
+    /// What is entered of each item that the iterator gives, in order.
+    pub(crate) fn visit_run<A: Drop, E: EnterItem<A>, I: Iterator<Item = A> + Drop>(
         &mut self,
+        how: E,
         items: I,
     ) -> Result<(), Refusal>
         requires can { I.can_next items }
         requires ends { IsFinite (I.remaining items) }
-        ensures entered { Entered false (IsOfRun I.next_gives items deref (each_shows T.may_show)) self.old self.new result }
-        ensures rightly { RefusesAlong T.is_exact
-            I.next_gives items deref (each_shows T.may_show) self.old self.new result }
+        ensures entered { Entered false
+            (IsOfRun I.next_gives items E.seen (each_shows (E.may_show how))) self.old self.new result }
+        ensures rightly { RefusesAlong E.is_exact
+            I.next_gives items E.seen (each_shows (E.may_show how)) self.old self.new result }
         ensures kept { Keeps self.old self.new result }
         ensures exact { MakesPlanOrGives I.next_gives items Done self.old self.new result }
     {
         self.collector.go_on()?;
         for item in items {
-            item.enter(self)?;
+            how.enter_item(item, self)?;
         }
         Ok(())
     }
@@ -70,103 +149,10 @@ impl Visitor<'_> {
             (are_shown_each T.needs_drop T.size) self.old self.new result }
     {
         if are_shown_each::<T>() {
-            return self.visit_items(items);
+            return self.visit_run(Itself, items);
         }
         let count = count_of(items);
         self.visit_counted::<T>(Key::for_type_name::<T>(), count)
-    }
-
-    /// What the value of each entry that the iterator gives shows, in order.
-    pub(crate) fn visit_each_value<
-        'a,
-        T: Allocative + 'a,
-        I: Iterator<Item = (usize, &'a T)> + Drop,
-    >(&mut self, entries: I) -> Result<(), Refusal>
-        requires can { I.can_next entries }
-        requires ends { IsFinite (I.remaining entries) }
-        ensures entered { Entered false
-            (IsOfRun I.next_gives entries deref_entry (each_shows (value_shows T.may_show))) self.old self.new result }
-        ensures rightly { RefusesAlong T.is_exact
-            I.next_gives entries deref_entry (each_shows (value_shows T.may_show)) self.old self.new result }
-    {
-        for (_key, value) in entries {
-            value.enter(self)?;
-        }
-        Ok(())
-    }
-
-    /// A field under the name for each item that the iterator gives, in order.
-    pub(crate) fn visit_fields<
-        'a,
-        T: Allocative + Described + 'a,
-        I: Iterator<Item = &'a T> + Drop,
-    >(&mut self, name: Key, items: I) -> Result<(), Refusal>
-        requires can { I.can_next items }
-        requires ends { IsFinite (I.remaining items) }
-        ensures entered { Entered false
-            (IsOfRun I.next_gives items deref (each_shows (field_of name T.size T.may_show))) self.old self.new result }
-        ensures rightly { RefusesAlong T.is_exact
-            I.next_gives items deref (each_shows (field_of name T.size T.may_show)) self.old self.new result }
-        ensures exact { MakesPlanOrGives I.next_gives items Done self.old self.new result }
-    {
-        self.collector.go_on()?;
-        for item in items {
-            self.visit_field(name.copy(), item)?;
-        }
-        Ok(())
-    }
-
-    /// A field `key` for each key that the iterator gives, in order.
-    pub(crate) fn visit_keys<'a, K: Allocative + Described + 'a, I: Iterator<Item = &'a K> + Drop>(
-        &mut self,
-        keys: I,
-    ) -> Result<(), Refusal>
-        requires can { I.can_next keys }
-        requires ends { IsFinite (I.remaining keys) }
-        ensures entered { Entered false
-            (IsOfRun I.next_gives keys deref
-            (each_shows (field_of (codes "key") K.size K.may_show))) self.old self.new result }
-        ensures rightly { RefusesAlong K.is_exact
-            I.next_gives keys deref (each_shows (field_of (codes "key") K.size K.may_show)) self.old self.new result }
-        ensures exact { MakesPlanOrGives I.next_gives keys Done self.old self.new result }
-    {
-        self.visit_fields(Key::new("key"), keys)
-    }
-
-    // The fields `key` and `value` of a pair.
-    fn visit_pair<K: Allocative + Described, V: Allocative + Described>(
-        &mut self,
-        key: &K,
-        value: &V,
-    ) -> Result<(), Refusal>
-        ensures { Entered (K.is_exact && V.is_exact)
-            (pair_shows K.size K.may_show V.size V.may_show (key.now, value.now)) self.old self.new result }
-    {
-        self.visit_field(Key::new("key"), key)?;
-        self.visit_field(Key::new("value"), value)
-    }
-
-    /// The fields `key` and `value` for each pair that the iterator gives, in order.
-    pub(crate) fn visit_pairs<
-        'a,
-        K: Allocative + Described + 'a,
-        V: Allocative + Described + 'a,
-        I: Iterator<Item = (&'a K, &'a V)> + Drop,
-    >(&mut self, pairs: I) -> Result<(), Refusal>
-        requires can { I.can_next pairs }
-        requires ends { IsFinite (I.remaining pairs) }
-        ensures entered { Entered false
-            (IsOfRun I.next_gives pairs deref_pair
-            (each_shows (pair_shows K.size K.may_show V.size V.may_show))) self.old self.new result }
-        ensures rightly { RefusesAlong (K.is_exact && V.is_exact) I.next_gives pairs deref_pair
-            (each_shows (pair_shows K.size K.may_show V.size V.may_show)) self.old self.new result }
-        ensures exact { MakesPlanOrGives I.next_gives pairs Done self.old self.new result }
-    {
-        self.collector.go_on()?;
-        for (key, value) in pairs {
-            self.visit_pair(key, value)?;
-        }
-        Ok(())
     }
 
     /// The inline entry `data` of 8 bytes, with the fields `key` and `value` for each pair that the
@@ -194,7 +180,7 @@ impl Visitor<'_> {
         ensures exact { MakesPlanOrGives I.next_gives entries (one (codes "data") (Some 8)) self.old self.new result }
     {
         let outer = self.collector.open_entry(Key::new("data"), 8)?;
-        let answer = self.visit_pairs(entries);
+        let answer = self.visit_run(KeyAndValue, entries);
         self.collector.close_entry(outer);
         answer
     }
@@ -219,7 +205,7 @@ impl Visitor<'_> {
         ensures exact { MakesPlanOrGives I.next_gives entries (one (codes "data") (Some 8)) self.old self.new result }
     {
         let outer = self.collector.open_entry(Key::new("data"), 8)?;
-        let answer = self.visit_keys(entries);
+        let answer = self.visit_run(FieldUnder(Key::new("key")), entries);
         self.collector.close_entry(outer);
         answer
     }

@@ -8,6 +8,7 @@ ghost use Rattle.allocative.specs.Making.{MakesPlan, MakesFirst, Keeps, Done, on
 ghost use Rattle.allocative.specs.Visited.{Entered};
 ghost use Rattle.allocative.specs.Bodies.{are_shown_each, bytes_shown, vec_body, data_shows, slice_of};
 
+use crate::part::iterators::{FieldUnder, Itself};
 use crate::{Allocative, Described, Key, Refusal, Visitor};
 
 /// The bytes of `count` items. `None` where an item has no size, where there is no count, or
@@ -57,13 +58,14 @@ impl Visitor<'_> {
         self.visit_counted::<T>(Key::new("unused_capacity"), Some(count))
     }
 
-    // What each item shows, in order.
-    fn visit_each<T: Allocative>(&mut self, items: &[T]) -> Result<(), Refusal>
+    /// What each item shows, in order.
+    #[inline(always)]
+    pub(crate) fn visit_each<T: Allocative>(&mut self, items: &[T]) -> Result<(), Refusal>
         ensures entered { Entered T.is_exact (each_shows T.may_show items.now) self.old self.new result }
         ensures kept { Keeps self.old self.new result }
         ensures exact { length items.now ≡ 0 → MakesPlan Done self.old self.new result }
     {
-        self.visit_items(items.iter())
+        self.visit_run(Itself, items.iter())
     }
 
     /// One inline entry with the item's name and all bytes where the items need no drop or have size 0,
@@ -92,7 +94,7 @@ impl Visitor<'_> {
         ensures entered { Entered T.is_exact (data_shows T.size T.may_show items.now) self.old self.new result }
         ensures exact { length items.now ≡ 0 → MakesPlan Done self.old self.new result }
     {
-        self.visit_fields(Key::new("data"), items.iter())
+        self.visit_run(FieldUnder(Key::new("data")), items.iter())
     }
 
     /// One inline entry with the item's name and the bytes of all items, with a field `data` for each item

@@ -1,11 +1,15 @@
 //! JSON values, their numbers, and their maps.
 #![tactic(auto, using(crate::proofs::Parts::parts))]
 
-ghost use Rattle.std.specs.Prelude.{true, Some, codes};
-ghost use Rattle.allocative.specs.JsonShows.{number_shows, stored_members, stored_value, stored_map};
+ghost use Rattle.std.specs.Prelude.{true, Some, codes, String};
+ghost use Rattle.std.specs.declared.alloc.Global.{Global};
+ghost use Rattle.std.specs.Map.Iter.{deref_pair};
+ghost use Rattle.allocative.specs.JsonShows.{number_shows, stored_string, stored_members, stored_value, stored_map};
 ghost use Rattle.allocative.specs.Making.{MakesFirst};
+ghost use Rattle.allocative.specs.Runs.{pair_shows};
 ghost use Rattle.allocative.specs.Visited.{Entered};
 
+use crate::part::iterators::EnterItem;
 use crate::{
     Allocative, Buffer, Declared, Each, Field, Inside, Key, Part, Refusal, Unique, Visitor,
 };
@@ -21,7 +25,32 @@ impl Allocative for Number {
     }
 }
 
-// The fields `key` and `value` for each member of an object. Each value has 32 bytes.
+// The fields `key` and `value` of a member. Each value has 32 bytes.
+#[derive(Drop)]
+struct MemberFields;
+
+impl<'a, V: Allocative> EnterItem<(&'a String, &'a V)> for MemberFields {
+    ghost Seen = { String Global × V };
+
+    ghost seen = { deref_pair };
+
+    ghost may_show = { λ _. pair_shows (Some 24) stored_string (Some 32) V.may_show };
+
+    ghost is_exact = { V.is_exact };
+
+    #[inline(always)]
+    fn enter_item(
+        &self,
+        member: (&'a String, &'a V),
+        visitor: &mut Visitor<'_>,
+    ) -> Result<(), Refusal> {
+        let key = Field("key", member.0);
+        let value = Declared("value", Some(32), member.1);
+        (key, value).enter(visitor)
+    }
+}
+
+// The fields of each member of an object.
 #[derive(Drop)]
 struct Members<M>(M);
 
@@ -30,14 +59,8 @@ impl<'a, V: Allocative> Part for Members<&'a Map<String, V>> {
 
     ghost is_exact = { V.is_exact };
 
-    #[tactic(auto, using(crate::proofs::Showing::showing))]
     fn enter(self, visitor: &mut Visitor<'_>) -> Result<(), Refusal> {
-        for (key, value) in self.0.iter() {
-            let key = Field("key", key);
-            let value = Declared("value", Some(32), value);
-            (key, value).enter(visitor)?;
-        }
-        Ok(())
+        visitor.visit_run(MemberFields, self.0.iter())
     }
 }
 

@@ -6,6 +6,7 @@ ghost use Rattle.slab.specs.Slab.{values};
 ghost use Rattle.allocative_graph.specs.Shows as shows;
 ghost use Rattle.allocative.specs.PackShows.{slab_inside};
 
+use crate::part::iterators::Itself;
 use crate::part::slices::are_shown_each;
 use crate::{Allocative, Buffer, Described, Inside, Key, Part, Refusal, Visitor};
 use slab::Slab;
@@ -22,7 +23,8 @@ impl<'a, T: Allocative + Described> Part for Values<'a, T> {
     #[tactic(auto, using(crate::proofs::Showing::showing))]
     fn enter(self, visitor: &mut Visitor<'_>) -> Result<(), Refusal> {
         if are_shown_each::<T>() {
-            return visitor.visit_each_value(self.0.iter());
+            let values = self.0.iter().map(|(_key, value)| value);
+            return visitor.visit_run(Itself, values);
         }
         visitor.visit_counted::<T>(Key::for_type_name::<T>(), Some(self.0.len()))
     }

@@ -1,9 +1,7 @@
 -- The iterator gives the items.
-use Rattle.std.proofs.Common.{codes}
-use Rattle.allocative.proofs.Common.{each_shows, field_of}
 use Rattle.std.proofs.lemmas.Iterator.{YieldsList-from_slice}
 use Rattle.allocative.proofs.Runs.{entered_list}
 use Rattle.allocative.proofs.visitor.Visitor.visit_data.Goals as goal
 
 pub returns-clause-entered : goal.returns-clause-entered
-returns-clause-entered g c = entered_list {q = each_shows (field_of (codes "data") g.T.Described.size g.T.Allocative.may_show)} (YieldsList-from_slice _ c.iter.ensures.rest) (rw c.new.ensures at c.visit_fields.ensures.entered) (rw c.new.ensures at c.visit_fields.ensures.rightly)
+returns-clause-entered g c = entered_list (YieldsList-from_slice _ c.iter.ensures.rest) (rw c.new.ensures at c.visit_run.ensures.entered) (rw c.new.ensures at c.visit_run.ensures.rightly)

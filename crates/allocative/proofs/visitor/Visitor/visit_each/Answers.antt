@@ -1,8 +1,7 @@
 -- The iterator gives the items.
-use Rattle.allocative.proofs.Common.{each_shows}
 use Rattle.std.proofs.lemmas.Iterator.{YieldsList-from_slice}
 use Rattle.allocative.proofs.Runs.{entered_list}
 use Rattle.allocative.proofs.visitor.Visitor.visit_each.Goals as goal
 
 pub returns-clause-entered : goal.returns-clause-entered
-returns-clause-entered g c = entered_list {q = each_shows g.T.Allocative.may_show} (YieldsList-from_slice _ c.iter.ensures.rest) c.visit_items.ensures.entered c.visit_items.ensures.rightly
+returns-clause-entered g c = entered_list (YieldsList-from_slice _ c.iter.ensures.rest) c.visit_run.ensures.entered c.visit_run.ensures.rightly

@@ -8,7 +8,7 @@ returns-in_err-outer-clause-exact g c =
     rw (same_err {e = c.in_err-outer.field-0.0} _ c.from_residual.ensures.0 (search rules)) (gives_refused (rw c.new.ensures at c.in_err-outer.ensures.enters))
 
 pub returns-clause-exact : goal.returns-clause-exact
-returns-clause-exact g c = gives_within (rw c.new.ensures at c.in_ok-outer.ensures.enters) c.visit_pairs-answer.ensures.exact c.close_entry.ensures
+returns-clause-exact g c = gives_within (rw c.new.ensures at c.in_ok-outer.ensures.enters) c.visit_run-answer.ensures.exact c.close_entry.ensures
 
 pub returns-clause-rightly : goal.returns-clause-rightly
-returns-clause-rightly g c = along_within (rw c.new.ensures at c.in_ok-outer.ensures.enters) c.visit_pairs-answer.ensures.rightly c.close_entry.ensures
+returns-clause-rightly g c = along_within (rw c.new.ensures at c.in_ok-outer.ensures.enters) c.visit_run-answer.ensures.rightly c.close_entry.ensures

@@ -6,7 +6,7 @@ use Rattle.allocative.proofs.visitor.Visitor.visit_iter.Goals as goal
 
 pub returns-then-are_shown_each-clause-entered : goal.returns-then-are_shown_each-clause-entered
 returns-then-are_shown_each-clause-entered g c =
-    items_run deref g.T.Described.name g.T.Described.size g.T.Described.needs_drop g.T.Allocative.may_show (search rules) c.visit_items.ensures.entered
+    items_run deref g.T.Described.name g.T.Described.size g.T.Described.needs_drop g.T.Allocative.may_show (search rules) c.visit_run.ensures.entered
 
 pub returns-clause-entered : goal.returns-clause-entered
 returns-clause-entered g c =
@@ -15,7 +15,7 @@ returns-clause-entered g c =
 pub returns-then-are_shown_each-clause-exact : goal.returns-then-are_shown_each-clause-exact
 returns-then-are_shown_each-clause-exact g c =
     let e : are_shown_each g.T.Described.needs_drop g.T.Described.size ≡ true = search rules in
-    rw (e, MakesPlanRun) c.visit_items.ensures.exact
+    rw (e, MakesPlanRun) c.visit_run.ensures.exact
 
 pub returns-clause-exact : goal.returns-clause-exact
 returns-clause-exact g c =

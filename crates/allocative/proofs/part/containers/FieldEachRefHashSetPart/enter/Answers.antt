@@ -1,8 +1,7 @@
 -- The iterator gives the items.
-use Rattle.allocative.proofs.Common.{field_of}
 use Rattle.std.proofs.lemmas.Iterator.Consumers.{YieldsList-from_rest}
 use Rattle.allocative.proofs.Runs.{entered_any_order}
 use Rattle.allocative.proofs.part.containers.FieldEachRefHashSetPart.enter.Goals as goal
 
 pub returns : goal.returns
-returns g c = entered_any_order {p = field_of (g.K.IntoKey.key c.args.self.0) g.T.Described.size g.T.Allocative.may_show} (YieldsList-from_rest _ c.iter.ensures.rest) (rw c.into_key.ensures at c.visit_fields.ensures.entered) (rw c.into_key.ensures at c.visit_fields.ensures.rightly)
+returns g c = entered_any_order (YieldsList-from_rest _ c.iter.ensures.rest) (rw c.into_key.ensures at c.visit_run.ensures.entered) (rw c.into_key.ensures at c.visit_run.ensures.rightly)
