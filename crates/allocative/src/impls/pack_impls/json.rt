@@ -30,7 +30,6 @@ impl<'a, V: Allocative> Part for Members<&'a Map<String, V>> {
 
     ghost is_exact = { V.is_exact };
 
-    #[tactic(auto, using(crate::proofs::Showing::showing))]
     fn enter(self, visitor: &mut Visitor<'_>) -> Result<(), Refusal> {
         for (key, value) in self.0.iter() {
             let key = Field("key", key);

@@ -19,7 +19,6 @@ impl<'a, T: Allocative + Described> Part for Values<'a, T> {
 
     ghost is_exact = { T.is_exact };
 
-    #[tactic(auto, using(crate::proofs::Showing::showing))]
     fn enter(self, visitor: &mut Visitor<'_>) -> Result<(), Refusal> {
         if are_shown_each::<T>() {
             return visitor.visit_each_value(self.0.iter());
