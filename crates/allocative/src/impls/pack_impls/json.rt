@@ -1,5 +1,4 @@
 //! JSON values, their numbers, and their maps.
-#![tactic(auto, using(crate::proofs::Parts::parts))]
 
 ghost use Rattle.std.specs.Prelude.{true, Some, codes};
 ghost use Rattle.allocative.specs.JsonShows.{number_shows, stored_members, stored_value, stored_map};

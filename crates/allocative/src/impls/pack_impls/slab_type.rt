@@ -1,5 +1,4 @@
 //! `Slab`: the buffer of its values, in the order of their keys.
-#![tactic(auto, using(crate::proofs::Parts::parts))]
 
 ghost use Rattle.std.specs.Prelude.{codes};
 ghost use Rattle.slab.specs.Slab.{values};

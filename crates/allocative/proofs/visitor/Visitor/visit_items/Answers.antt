@@ -17,7 +17,8 @@ loop-item-preserved g c = (
 )
 
 pub returns-in_err-go_on : goal.returns-in_err-go_on
-returns-in_err-go_on g c = record { entered = grind (arith, showing); rightly = record { along = λ i ys y. rightly_failed c.in_err-go_on.ensures }; kept = grind (arith, showing); exact = grind (arith, showing) }
+returns-in_err-go_on g c =
+    record { entered = grind (arith, showing); rightly = record { along = λ i ys y. rightly_failed c.in_err-go_on.ensures }; kept = grind (arith, showing); exact = grind (arith, showing) }
 
 pub returns-in_err-enter : goal.returns-in_err-enter
 returns-in_err-enter g c =
