@@ -1,13 +1,13 @@
 -- What a visit by a root visitor amounts to.
-use Rattle.std.proofs.Common.{◌≡◌, ℕ, suc, ◌+◌, ◌<◌, inl, inr, List, length, take, get_or, Bool, IsTrue, Result, Ok, Err, refl, ap, sym, subst, ◌∙◌, arith, IfOk}
-use Rattle.allocative.proofs.Common.{Refusal, Memory, Forest, Empty, followed_by, add_all, held, ShowsNoContent, Kind, OfGraph, OfHeld, State, Failed, Going, leave, plus, Takes, visitors, is_graph, begin, is_in_unique, left, nothing_held, Showing, Nothing, Both, each_shows, Shows, refused, hidden, forgotten, Leaves, Begins, Settles, Runs, Profile, IsProfileOf, IsHeldSum, MayRefuse, MayRefuseProfile, RefusesRightly, has_added, has_refused, RunsRightly, as_graph}
+use Rattle.std.proofs.Common.{◌≡◌, ℕ, suc, ◌+◌, ◌<◌, List, length, take, get_or, Bool, IsTrue, Result, Ok, Err, refl, ap, sym, subst, ◌∙◌, arith, IfOk}
+use Rattle.allocative.proofs.Common.{Refusal, Forest, followed_by, add_all, held, ShowsNoContent, Kind, OfGraph, OfHeld, State, Failed, Going, leave, plus, Takes, visitors, is_graph, begin, is_in_unique, left, nothing_held, Showing, Both, each_shows, Shows, refused, hidden, forgotten, Leaves, Begins, Settles, Runs, Profile, IsProfileOf, IsHeldSum, MayRefuse, RefusesRightly, has_added, has_refused, RunsRightly}
 use Rattle.allocative_graph.specs.Forest.{met_after, Fits, own, all}
 use Rattle.allocative_graph.specs.Sums.{sums_of}
 use Rattle.allocative_graph.specs.Meaning.{content_of}
 use Rattle.allocative_graph.specs.Graph.{Graph, graph, warnings, warned_paths, sum_of}
 use Rattle.allocative_graph.specs.Collector.{added as added_entries, IsClosed, IsAtRoot, no_entries}
 use Rattle.allocative_graph.specs.Visits.{added, Ends, IsProfile, IsSumOfTwo}
-use Rattle.allocative_graph.proofs.Plus.{plus-nothing, plus-following, takes_nothing, takes_both, visitors-plus, visitors-leave, is_graph-plus, is_graph-leave, is_graph-begin}
+use Rattle.allocative_graph.proofs.Plus.{plus-following, takes_both, visitors-plus, visitors-leave, is_graph-plus, is_graph-leave, is_graph-begin}
 use Rattle.allocative.proofs.Showing.{left_by, each_and_one}
 use Rattle.allocative_graph.proofs.Reach.{all_is_meaning, reaches_exactly}
 use Rattle.allocative_graph.proofs.OneMeaning.{one_sums}
@@ -26,9 +26,6 @@ out_of_begin (OfHeld k) f h = refl
 takes_begin : (b : Kind) (f : Forest) → Takes (begin b) f → Takes b f
 takes_begin (OfGraph c) f t = t
 takes_begin (OfHeld k) f t = t
-
-closed_before : (b c : Kind) (f : Forest) → c ≡ plus b f → IsClosed c → IsClosed b
-closed_before b c f e h = sym (ap visitors e ∙ visitors-plus b f) ∙ h
 
 run_going : {p : Showing} (b e : Kind) {c : State} {r : Result Unit Refusal} (q : Result Unit Refusal) → IsClosed b → IsAtRoot b → e ≡ begin b → Shows p (Going e) r c → Settles (left (is_in_unique b) c) q → Runs p (Going b) q (left (is_in_unique b) c)
 run_going b e q h here i refused k = rw k (h, refl)
@@ -53,10 +50,6 @@ run_shows (Going b) q {p} {c = c} {r = r} h i v l e k =
     let k' : Settles (left (is_in_unique b) c) q = rw d at k in
     rw d (run_going b (begin b) q h.0 h.1 refl v' k')
 
-pub run_refused : (p : Showing) (s : State) (e : Refusal) (t : State) → Begins s (Err e) t → Runs p s (Err e) t
-run_refused p (Failed r) e t (h, i) = (ap Err h, i)
-run_refused p (Going b) e t (h, n, i) = rw i (h, n, (λ m. refl), refl)
-
 -- An exact visit that was opened by a root visitor leaves its collector closed, or failed with what it returned.
 rightly_going : {p : Showing} (b e : Kind) {c : State} {r : Result Unit Refusal} (q : Refusal) → IsClosed b → IsAtRoot b → e ≡ begin b → RefusesRightly p (Going e) r c → Settles (left (is_in_unique b) c) (Err q) → (left (is_in_unique b) c ≡ Failed q) × MayRefuse p (begin b) q
 rightly_going {p} b e q h here i (has_added {c = c} f x t g) k =
@@ -76,26 +69,6 @@ run_rightly (Going b) (Err z) {p} {c = c} {d = d} {r = r} h i v l e k = λ exact
     let k' : Settles (left (is_in_unique b) c) (Err z) = rw g at k in
     rw g (rightly_going b (begin b) z closed h.1 refl v' k')
 
--- Where no root visitor is opened, a visitor is open or the collector had failed.
-pub run_rightly_refused : (x : Bool) (p : Showing) (s : State) (e : Refusal) (t : State) → Begins s (Err e) t → RunsRightly x p s (Err e) t
-run_rightly_refused x p (Failed r) e t h = tt
-run_rightly_refused x p (Going b) e t h = λ exact closed. absurd (h.1 closed)
-
-pub run_rightly_unsettled : (x : Bool) (p : Showing) (s : State) (e : Refusal) → Settles s (Err e) → RunsRightly x p s (Err e) s
-run_rightly_unsettled x p (Failed r) e h = tt
-run_rightly_unsettled x p (Going b) e h = λ exact closed. absurd (h.1 closed)
-
-pub rightly_ok : (x : Bool) (p : Showing) (s : State) (u : Unit) (t : State) → RunsRightly x p s (Ok u) t
-rightly_ok x p (Failed r) u t = tt
-rightly_ok x p (Going b) u t = tt
-
--- A collector refuses as rightly where it is seen as that of a flame graph.
-pub run_rightly_as_graph : (x : Bool) (p : Showing) (s : State) (r : Result Unit Refusal) (t : State) → RunsRightly x p s r t → RunsRightly x p (as_graph s) r (as_graph t)
-run_rightly_as_graph x p (Failed q) r t h = tt
-run_rightly_as_graph x p (Going (OfGraph c)) (Ok u) t h = tt
-run_rightly_as_graph x p (Going (OfGraph c)) (Err e) t h = λ exact closed. let m = h exact closed in (ap as_graph m.0, m.1)
-run_rightly_as_graph x p (Going (OfHeld k)) r t h = tt
-
 -- The sum of a run of held bytes.
 pub held_by_run : (p : Showing) (s t : State) (u : Unit) (n : ℕ) → s ≡ Going (OfHeld nothing_held) → Runs p s (Ok u) t → IsHeldSum t n → (f : Forest) × p f × ShowsNoContent f × (n ≡ held f)
 held_by_run p (Failed r) t u n e h k = absurd (cc)
@@ -106,11 +79,6 @@ held_by_run p (Going b) (Going c) u n e (z, f, a, t, g) k =
     let g' : c ≡ plus (OfHeld nothing_held) f = rw i at g in
     let k' : n ≡ 0 + (held f + 0) = subst (λ (x : Kind). IsHeldSum (Going x) n) g' k in
     (f, a, t', omega (arith, k'))
-
--- ---- one root after another
-pub runs_nothing : (s : State) (u : Unit) → Settles s (Ok u) → Runs Nothing s (Ok u) s
-runs_nothing (Failed r) u h = absurd (cc)
-runs_nothing (Going b) u h = (h, Empty, refl, takes_nothing b, sym (plus-nothing b))
 
 -- Two runs are one of all that r allows, where r allows what both show.
 runs_joined : {p q r : Showing} (s m t : State) (u v w : Unit) → ((f : Forest) → Both p q f → r f) → Runs p s (Ok u) m → Runs q m (Ok v) t → Runs r s (Ok w) t
@@ -127,17 +95,6 @@ pub runs_one_more : {T : Type 0} (p : T → Showing) (xs : List T) (i : ℕ) (x 
 runs_one_more p xs i x s m t u v w f g h e =
     let e' = take_more xs i x h in
     rw (e', ← e) (runs_joined s m t u v w (each_and_one p (take i xs) x) f g)
-
-pub runs_err : (p q r : Showing) (s m t : State) (u : Unit) (e x : Refusal) → Runs p s (Ok u) m → Runs q m (Err e) t → x ≡ e → Runs r s (Err x) t
-runs_err p q r (Failed y) m t u e x g h i = absurd (cc)
-runs_err p q r (Going b) (Failed y) t u e x g h i = absurd g
-runs_err p q r (Going b) (Going c) (Failed y) u e x (z, f, a, t, k) h i = (closed_before b c f k z, i ∙ h.1)
-runs_err p q r (Going b) (Going c) (Going d) u e x (z, f, a, t, k) h i = (i ∙ h.0, h.1, (λ n. absurd (n (closed_before b c f k z))), h.3 ∙ ap is_graph k ∙ is_graph-plus b f)
-
--- A collector that has failed or has an open visitor stays as it is.
-pub runs_unsettled : (p : Showing) (s : State) (e : Refusal) → Settles s (Err e) → Runs p s (Err e) s
-runs_unsettled p (Failed r) e h = (h, refl)
-runs_unsettled p (Going b) e h = (h.0, h.1, (λ n. refl), refl)
 
 -- ---- a whole run
 pub profile_ended : (p : Showing) (s t : State) (u : Unit) (r : Result Profile Refusal) → Runs p s (Ok u) t → s ≡ Going (OfGraph no_entries) → Ends IsProfile t r → IfOk r (IsProfileOf p)
@@ -175,21 +132,5 @@ sum_of_profiles p q o o' m a b e =
       is_one = λ apart can. (whole_following a.shown b.shown a.whole b.whole apart, is ∙ graphs_add a.shown b.shown can);
     }
 
--- ---- why the profile of an exact value is refused
-pub profile_not_begun : (x : Bool) (p : Showing) (e : Refusal) → e ≡ Memory → MayRefuseProfile x p e
-profile_not_begun x p e i = λ h. subst (MayRefuse p (begin (OfGraph no_entries))) (sym i) refl
-
-pub profile_not_run : (x : Bool) (p : Showing) (s : State) (e : Refusal) (t : State) → s ≡ Going (OfGraph no_entries) → RunsRightly x p s (Err e) t → MayRefuseProfile x p e
-profile_not_run x p s e t i r = λ h. (subst (λ (z : State). RunsRightly x p z (Err e) t) i r h refl).1
-
-ended_by_memory : (p : Showing) (t : State) (u : Unit) (e : Refusal) → Runs p (Going (OfGraph no_entries)) (Ok u) t → Ends IsProfile t (Err e) → e ≡ Memory
-ended_by_memory p (Failed r) u e h k = absurd h
-ended_by_memory p (Going (OfGraph c)) u e h (inl (i, n)) = absurd (n h.0)
-ended_by_memory p (Going (OfGraph c)) u e h (inr (i, n)) = i
-ended_by_memory p (Going (OfHeld c)) u e h k = absurd k
-
-pub profile_not_finished : (x : Bool) (p : Showing) (s t : State) (u : Unit) (e : Refusal) → s ≡ Going (OfGraph no_entries) → Runs p s (Ok u) t → Ends IsProfile t (Err e) → MayRefuseProfile x p e
-profile_not_finished x p s t u e i h k = profile_not_begun x p e (ended_by_memory p t u e (subst (λ (z : State). Runs p z (Ok u) t) i h) k)
-
 -- The rules for visits of roots.
-pub ruleset running = (run_shows, run_refused, held_by_run, runs_nothing, runs_one_more, runs_unsettled, runs_err, run_rightly_refused, run_rightly_unsettled, run_rightly_as_graph, rightly_ok, profile_ended, sum_of_profiles, profile_not_begun, profile_not_run, profile_not_finished)
+pub ruleset running = (runs_one_more, profile_ended, sum_of_profiles)

@@ -1,5 +1,4 @@
 //! Parts of containers: what their items, pairs, texts and buffers show.
-#![tactic(auto, using(crate::proofs::Parts::parts))]
 
 ghost use Rattle.std.specs.Prelude.{true, ◌&&◌, codes, length, string_bytes, string_capacity, ◌++◌};
 ghost use Rattle.allocative_graph.specs.Shows as shows;

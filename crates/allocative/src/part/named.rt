@@ -1,5 +1,4 @@
 //! Values under a name.
-#![tactic(auto, using(crate::proofs::Parts::parts))]
 
 ghost use Rattle.allocative_graph.specs.Shows as shows;
 

@@ -1,5 +1,4 @@
 //! Builders of flame graphs.
-#![tactic(auto, using(crate::proofs::Roots::running))]
 
 ghost use Rattle.std.specs.Prelude.{◌<◌, ◌^◌, ◌≡◌, Ok, Err, IfOk, IfErr, MatchResult, string_bytes};
 ghost use Rattle.allocative_graph.specs.Graph.{text, graph, total};

@@ -1,5 +1,4 @@
 //! Visits of whole roots.
-#![tactic(auto, using(crate::proofs::Roots::running))]
 
 ghost use Rattle.allocative_graph.specs.Visits.{Runs};
 ghost use Rattle.allocative.specs.Exact.{RunsRightly};

@@ -1,5 +1,4 @@
 //! The bytes that values hold on the heap.
-#![tactic(auto, using(crate::proofs::Roots::running))]
 
 ghost use Rattle.std.specs.Prelude.{◌≡◌, IfOk, IfErr};
 ghost use Rattle.allocative_graph.specs.Forest.{Forest};

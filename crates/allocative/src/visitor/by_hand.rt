@@ -23,7 +23,6 @@
 //!     }
 //! }
 //! ```
-#![tactic(auto, using(crate::proofs::Showing::showing))]
 
 ghost use Rattle.std.specs.Prelude.{◌≡◌, IfOk, IfErr, Err, true, false};
 ghost use Rattle.std.specs.Borrow.{sem};

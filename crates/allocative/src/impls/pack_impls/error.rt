@@ -1,5 +1,4 @@
 //! `anyhow::Error` shows nothing.
-#![tactic(auto, using(crate::proofs::Meaning::visited))]
 
 ghost use Rattle.std.specs.Prelude.{true};
 ghost use Rattle.allocative_graph.specs.Shows.{Nothing};

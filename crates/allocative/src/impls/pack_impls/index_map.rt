@@ -1,5 +1,4 @@
 //! `IndexMap`: its pairs in the order of the map, and its table.
-#![tactic(auto, using(crate::proofs::Parts::parts))]
 
 ghost use Rattle.std.specs.Prelude.{◌&&◌, codes};
 ghost use Rattle.indexmap.specs.IndexMap.{spare};

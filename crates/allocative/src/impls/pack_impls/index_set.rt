@@ -1,5 +1,4 @@
 //! `IndexSet`: its values in the order of the set, and its table.
-#![tactic(auto, using(crate::proofs::Parts::parts))]
 
 ghost use Rattle.std.specs.Prelude.{codes};
 ghost use Rattle.indexmap.specs.IndexSet.{spare};

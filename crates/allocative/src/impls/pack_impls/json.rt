@@ -1,5 +1,4 @@
 //! JSON values, their numbers, and their maps.
-#![tactic(auto, using(crate::proofs::Parts::parts))]
 
 ghost use Rattle.std.specs.Prelude.{true, Some, codes, String};
 ghost use Rattle.std.specs.declared.alloc.Global.{Global};

@@ -1,5 +1,4 @@
 //! `Slab`: the buffer of its values, in the order of their keys.
-#![tactic(auto, using(crate::proofs::Parts::parts))]
 
 ghost use Rattle.std.specs.Prelude.{codes};
 ghost use Rattle.slab.specs.Slab.{values};
@@ -20,7 +19,6 @@ impl<'a, T: Allocative + Described> Part for Values<'a, T> {
 
     ghost is_exact = { T.is_exact };
 
-    #[tactic(auto, using(crate::proofs::Showing::showing))]
     fn enter(self, visitor: &mut Visitor<'_>) -> Result<(), Refusal> {
         if are_shown_each::<T>() {
             let values = self.0.iter().map(|(_key, value)| value);

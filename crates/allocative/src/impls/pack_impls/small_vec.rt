@@ -1,5 +1,4 @@
 //! `SmallVec`: a field for each item, inside a pointer where the items are in an allocation.
-#![tactic(auto, using(crate::proofs::Parts::parts))]
 
 ghost use Rattle.std.specs.Prelude.{codes};
 ghost use Rattle.allocative_graph.specs.Shows as shows;

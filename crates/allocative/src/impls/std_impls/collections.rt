@@ -1,5 +1,4 @@
 //! Vectors, deques, and maps and sets of `std`.
-#![tactic(auto, using(crate::proofs::Parts::parts))]
 
 ghost use Rattle.std.specs.Prelude.{◌&&◌, codes, length, vec_capacity, Some};
 ghost use Rattle.std.specs.VecDeque.{deque_capacity};

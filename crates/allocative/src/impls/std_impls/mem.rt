@@ -1,5 +1,4 @@
 //! `ManuallyDrop` and `PhantomData`.
-#![tactic(auto, using(crate::proofs::Parts::parts))]
 
 ghost use Rattle.std.specs.Prelude.{true, codes};
 ghost use Rattle.std.specs.Mem.{manually_drop_value};

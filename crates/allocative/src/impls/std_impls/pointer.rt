@@ -1,5 +1,4 @@
 //! Boxes and references.
-#![tactic(auto, using(crate::proofs::Parts::parts))]
 
 ghost use Rattle.std.specs.Prelude.{true, codes, Some};
 ghost use Rattle.allocative_graph.specs.Shows as shows;

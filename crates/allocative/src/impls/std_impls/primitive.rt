@@ -1,5 +1,4 @@
 //! Whole numbers, numbers that are not zero, `bool` and the unit type: one entry each.
-#![tactic(auto, using(crate::proofs::Meaning::visited))]
 
 ghost use Rattle.std.specs.Prelude.{true, codes};
 ghost use Rattle.allocative.specs.StdShows.{Leaf};

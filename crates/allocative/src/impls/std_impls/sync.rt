@@ -1,5 +1,4 @@
 //! Atomics: one entry each, of the declared size. No atomic is read.
-#![tactic(auto, using(crate::proofs::Meaning::visited))]
 
 ghost use Rattle.std.specs.Prelude.{true, codes};
 ghost use Rattle.allocative.specs.StdShows.{Leaf};

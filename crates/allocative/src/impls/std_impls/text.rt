@@ -1,5 +1,4 @@
 //! `String`.
-#![tactic(auto, using(crate::proofs::Parts::parts))]
 
 ghost use Rattle.std.specs.Prelude.{true, codes, length, string_bytes, string_capacity, Some};
 ghost use Rattle.allocative_graph.specs.Shows as shows;

@@ -1,5 +1,4 @@
 //! Times and durations: one entry each.
-#![tactic(auto, using(crate::proofs::Meaning::visited))]
 
 ghost use Rattle.std.specs.Prelude.{true, codes};
 ghost use Rattle.allocative.specs.StdShows.{Leaf};

@@ -1,5 +1,4 @@
 //! Tuples, with one entry for each field, named by its position, and arrays.
-#![tactic(auto, using(crate::proofs::Parts::parts))]
 
 ghost use Rattle.std.specs.Prelude.{◌&&◌, codes};
 ghost use Rattle.allocative_graph.specs.Shows as shows;
