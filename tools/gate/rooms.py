@@ -18,7 +18,7 @@ LAST = ["nice", "-n", "19"]
 # What a check may take, in bytes.
 MEMORY_OF_A_CHECK = 5_000_000_000
 # More than the bytes of any crate.
-WEIGHT_OF_A_TOP = 2**40
+WEIGHT_OF_A_PROGRAM = 2**40
 # The folders of a crate that a check reads.
 PARTS = ("src", "specs", "proofs", "c")
 
@@ -110,10 +110,9 @@ class Rooms:
     """The copies of one run. `base` has the crates as they stand. Each library is built in a room of its own, since builds
     in one repository wait for one another."""
 
-    def __init__(self, top: str, work: str, jobs: int, tried: Iterable[str], logs: str | None = None) -> None:
+    def __init__(self, top: str, work: str, jobs: int, logs: str | None = None) -> None:
         self.work, self.base, self.logs = work, os.path.join(work, "base"), logs
         self.libraries = libraries_of(top)
-        self.needed = {library for it in tried for library in below(self.libraries, it)}
         self.lanes = Lanes(jobs)
         self.seconds = 0.0
         self.numbers = iter(range(1_000_000))
@@ -133,11 +132,14 @@ class Rooms:
         if os.path.isfile(f"{top}/HANDLES"):
             shutil.copyfile(f"{top}/HANDLES", f"{to}/HANDLES")
 
+    def is_program(self, crate: str) -> bool:
+        return os.path.isfile(f"{self.base}/crates/{crate}/src/main.rt")
+
     def weight_of(self, crate: str) -> int:
-        """How early a check of a crate goes: by the bytes that it reads of the crate itself, and before all others where no crate that
-        is tried stands on it, since its first check begins from nothing and the others wait for it."""
+        """How early a check of a crate goes: by the bytes that it reads of the crate itself, and a program's before all those of
+        libraries, since its first check begins from nothing and the others wait for it."""
         files = (os.path.join(folder, it) for folder, _, names in os.walk(f"{self.base}/crates/{crate}") for it in names)
-        return sum(map(os.path.getsize, files)) + (0 if crate in self.needed else WEIGHT_OF_A_TOP)
+        return sum(map(os.path.getsize, files)) + (WEIGHT_OF_A_PROGRAM if self.is_program(crate) else 0)
 
     def run(self, command: list[str], folder: str, weight: float) -> Check:
         """Runs a command in a lane of its own, and once more where it was killed, most likely for memory."""

@@ -77,7 +77,7 @@ fn draw_graph(
     };
     let (mut path, mut wide) = (Vec::new(alloc), Vec::new(alloc));
     let (mut before, mut paths) = (0, 0);
-    // Its contract says that all bytes fit a word, so that no sum below overflows.
+    // The contract of `total_size` says that all bytes fit a `usize`, so no sum below overflows.
     let _all = graph.total_size();
     push_rows(&shown, graph, &mut path, &mut before, &mut paths, &mut wide)?;
     draw_wide(alloc, subject, wide.as_slice(), paths, options)
