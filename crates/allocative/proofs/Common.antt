@@ -2,7 +2,7 @@
 pub use Rattle.std.specs.Borrow.{name_if_ok}
 pub use Rattle.std.specs.Fn.{FnOnceReturnsAtMut}
 pub use Rattle.std.specs.Iterator.{Yields}
-pub use Rattle.std.specs.Map.Iter.{deref, deref_pair}
+pub use Rattle.std.specs.Map.Iter.{deref}
 pub use Rattle.allocative_described.specs.Sizes.{checked, size_product}
 pub use Rattle.allocative_graph.specs.Collector.{Failed, Going, Kind, Live, OfGraph, OfHeld, State, Takes, begin, enter, enter_first, failed_with, is_graph, is_in_unique, leave, left, nothing_held, plus, visitors}
 pub use Rattle.allocative_graph.specs.Forest.{Again, Empty, First, Forest, entry_of, followed_by}
@@ -20,13 +20,12 @@ pub use Rattle.slab.specs.Slab.{values}
 pub use Rattle.allocative.specs.Bodies.{are_shown_each, buffer_shows, bytes_shown, table_shows, with_room, without_room, without_size}
 pub use Rattle.allocative.specs.Built.{as_graph}
 pub use Rattle.allocative.specs.Closures.{called, refused_inside}
-pub use Rattle.allocative.specs.Exact.{CanTake, HasRoomFor, IsDeclared, MayRefuse, MayRefuseProfile, RefusesRightly, RunsRightly, ShowsContents, all_bytes, has_added, has_refused}
-pub use Rattle.allocative.specs.JsonShows.{stored_string}
+pub use Rattle.allocative.specs.Exact.{CanTake, HasRoomFor, IsDeclared, MayRefuse, RefusesRightly, RunsRightly, ShowsContents, all_bytes, has_added, has_refused}
 pub use Rattle.allocative.specs.Kinds.{state_of}
 pub use Rattle.allocative.specs.Levels.{levels_shown}
 pub use Rattle.allocative.specs.Making.{Done, Entry, Makes, MakesPlan, Plan, entry_refused, gives, inside_refused, made, made_none, makes, one}
 pub use Rattle.allocative.specs.Nested.{EndsWith, EndsWithout, IsRefusedSized, LendsCollector, LendsNestedSized, NestsSized, with_state}
-pub use Rattle.allocative.specs.Runs.{CountsRun, field_of, pair_shows}
+pub use Rattle.allocative.specs.Runs.{CountsRun}
 pub use Rattle.allocative.specs.Shared.{AnswersShared, told, turned}
 pub use Rattle.allocative.specs.StdShows.{in_any_order}
 pub use Rattle.allocative.specs.Steps.{IsHeldSum, StepsInShared}

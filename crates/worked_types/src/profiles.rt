@@ -1,8 +1,17 @@
 //! The profile of a value by both collectors.
-use allocative::{Allocative, FlameGraphBuilder, size_of_unique_allocated_data};
-use std::alloc::AllocGlobal;
+use allocative::{
+    Allocative, FlameGraphBuilder, FlameGraphOutput, Refusal, size_of_unique_allocated_data,
+};
+use std::alloc::{AllocGlobal, Global};
 use std::process::Abort;
 use std::test::Fail;
+
+/// The profile of one visit of a value.
+pub fn profile_of(alloc: Global, root: &dyn Allocative) -> Result<FlameGraphOutput, Refusal> {
+    let mut builder = FlameGraphBuilder::new(alloc)?;
+    builder.visit_root(root)?;
+    builder.finish()
+}
 
 /// Asserts the text of a value's flame graph with its total, and its warnings.
 pub fn expect_warned(
@@ -12,9 +21,7 @@ pub fn expect_warned(
     total: usize,
     warnings: &str,
 ) -> Result<(), Fail> {
-    let mut builder = FlameGraphBuilder::new(rt.alloc())?;
-    builder.visit_root(root)?;
-    let output = builder.finish()?;
+    let output = profile_of(rt.alloc(), root)?;
     assert_eq!(rt; output.flamegraph().total_size(), total);
     assert_eq!(rt; output.warnings_text(), warnings);
     assert_eq!(rt; output.flamegraph().write()?.as_str(), text);

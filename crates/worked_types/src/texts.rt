@@ -1,14 +1,13 @@
 //! The text of one visit.
-use allocative::{Allocative, FlameGraphBuilder, FlameGraphOutput};
+use crate::profiles::profile_of;
+use allocative::Allocative;
 use std::alloc::{AllocGlobal, Global};
 use std::process::Abort;
 use std::test::Fail;
 
 /// The text of one visit that gives no warning.
 fn text_of(alloc: Global, root: &dyn Allocative) -> Result<String, Fail> {
-    let mut builder = FlameGraphBuilder::new(alloc)?;
-    builder.visit_root(root)?;
-    let output = builder.finish()?;
+    let output = profile_of(alloc, root)?;
     if !output.warnings_text().is_empty() {
         return Err(Fail::new("a warning"));
     }

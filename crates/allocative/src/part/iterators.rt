@@ -29,13 +29,16 @@ fn count_of<A: Drop, I: Iterator<Item = A> + Drop>(items: I) -> Option<usize>
 
 /// How a loop enters each item that an iterator gives.
 pub(crate) trait EnterItem<A>: Drop {
+    /// The values that contracts see as items.
     ghost Seen: { Type 0 };
 
-    /// What a contract sees of an item.
+    /// What contracts see of an item.
     ghost seen: { A → Seen };
 
+    /// The forests that entering an item may add.
     ghost may_show: { Self → Seen → Forest → Type 0 };
 
+    /// Whether entering refuses only where it must, as `Part` says.
     ghost is_exact: { Bool };
 
     /// Enters the item at the visitor.

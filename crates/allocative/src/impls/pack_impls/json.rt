@@ -43,9 +43,9 @@ impl<'a, V: Allocative> EnterItem<(&'a String, &'a V)> for MemberFields {
         member: (&'a String, &'a V),
         visitor: &mut Visitor<'_>,
     ) -> Result<(), Refusal> {
-        let key = Field("key", member.0);
-        let value = Declared("value", Some(32), member.1);
-        (key, value).enter(visitor)
+        let (key, value) = member;
+        let value = Declared("value", Some(32), value);
+        (Field("key", key), value).enter(visitor)
     }
 }
 
