@@ -1,7 +1,6 @@
 //! Types whose implementations `bin/implement` wrote.
 #![tactic(auto)]
 
-pub mod drawn;
 pub mod nested;
 pub mod order;
 pub mod placed;

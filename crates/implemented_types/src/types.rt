@@ -12,19 +12,6 @@ pub struct OfOne {
     pub number: u64,
 }
 
-/// A struct of 8 fields.
-#[derive(Drop)]
-pub struct OfEight {
-    pub number: u64,
-    pub name: String,
-    pub count: u32,
-    pub marks: Vec<u32>,
-    pub is_open: bool,
-    pub limit: Option<u64>,
-    pub place: (u32, u32),
-    pub width: u16,
-}
-
 /// A struct of 25 fields, of a type that is known only where it is used.
 #[derive(Drop)]
 pub struct OfTwentyFive<T> {
@@ -152,18 +139,6 @@ pub struct Found<'a, const N: usize> {
     pub text: &'a str,
     pub places: [u32; N],
     pub counts: BTreeMap<u64, Vec<Request>>,
-}
-
-/// More fields than stand in one part, of a type that is known only where it is used.
-#[derive(Drop)]
-pub struct Route<T> {
-    pub name: String,
-    pub first: T,
-    pub last: T,
-    pub between: Option<T>,
-    pub steps: Vec<T>,
-    pub length: u64,
-    pub is_round: bool,
 }
 
 /// What is written by hand is left alone.

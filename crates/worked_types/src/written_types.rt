@@ -2,9 +2,7 @@
 use crate::profiles::{expect, expect_holding};
 use implemented_types::nested::{Category, Chain, Chapter, Json, Note, Page, Tree};
 use implemented_types::placed::{Letter, Pair, Parcel, Post};
-use implemented_types::types::{
-    Found, Mark, Named, Nowhere, OfEight, OfOne, Point, Request, Route, Sextet, Table,
-};
+use implemented_types::types::{Found, Mark, Named, Nowhere, OfOne, Point, Request, Sextet, Table};
 use std::collections::{BTreeMap, HashMap};
 use std::test::Fail;
 
@@ -12,23 +10,6 @@ use std::test::Fail;
 fn one_field_and_none(rt: HostRuntime) -> Result<(), Fail> {
     expect(&rt, &OfOne { number: 5 }, "OfOne;number;u64 8\n", 8)?;
     expect(&rt, &Nowhere, "", 0)
-}
-
-#[test]
-fn eight_fields(rt: HostRuntime) -> Result<(), Fail> {
-    let value = OfEight {
-        number: 1,
-        name: String::new(rt.alloc()),
-        count: 2,
-        marks: Vec::new(rt.alloc()),
-        is_open: true,
-        limit: None,
-        place: (3, 4),
-        width: 5,
-    };
-    let text =
-        "OfEight 1\nOfEight;count;u32 4\nOfEight;is_open;bool 1\nOfEight;limit;Option 16\nOfEight;marks;Vec 24\nOfEight;name;String 16\nOfEight;name;String;ptr 8\nOfEight;number;u64 8\nOfEight;place;tuple2;0;u32 4\nOfEight;place;tuple2;1;u32 4\nOfEight;width;u16 2\n";
-    expect(&rt, &value, text, 88)
 }
 
 #[test]
@@ -102,21 +83,8 @@ fn a_size_follows_from_the_parameters(rt: HostRuntime) -> Result<(), Fail> {
 }
 
 #[test]
-fn parameters_of_a_large_struct_and_of_an_enum(rt: HostRuntime) -> Result<(), Fail> {
-    let alloc = rt.alloc();
-    let route: Route<u8> = Route {
-        name: String::new(alloc),
-        first: 1,
-        last: 2,
-        between: None,
-        steps: Vec::new(alloc),
-        length: 9,
-        is_round: false,
-    };
-    let text =
-        "Route 3\nRoute;between;Option 2\nRoute;first;u8 1\nRoute;is_round;bool 1\nRoute;last;u8 1\nRoute;length;u64 8\nRoute;name;String 16\nRoute;name;String;ptr 8\nRoute;steps;Vec 24\n";
-    expect(&rt, &route, text, 64)?;
-    let named = Named::Somebody(String::new(alloc), 5u16);
+fn a_parameter_of_an_enum(rt: HostRuntime) -> Result<(), Fail> {
+    let named = Named::Somebody(String::new(rt.alloc()), 5u16);
     let text = "Named 6\nNamed;0;String 16\nNamed;0;String;ptr 8\nNamed;1;u16 2\n";
     expect(&rt, &named, text, 32)
 }

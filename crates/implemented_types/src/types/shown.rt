@@ -49,64 +49,6 @@ impl Allocative for OfOne {
     }
 }
 
-type OfEightLayout = Record<
-    And<(u64, (String, (u32, (Vec<u32>, (bool, ()))))), (Option<u64>, ((u32, u32), (u16, ())))>,
->;
-
-impl Described for OfEight {
-    ghost name = { codes "OfEight" };
-
-    ghost align = { ⟦<OfEightLayout as Described>⟧.align };
-
-    ghost needs_drop = { ⟦<OfEightLayout as Described>⟧.needs_drop };
-
-    ghost size = { ⟦<OfEightLayout as Described>⟧.size };
-
-    fn name() -> &'static str {
-        "OfEight"
-    }
-
-    fn align() -> usize {
-        <OfEightLayout>::align()
-    }
-
-    fn needs_drop() -> bool {
-        <OfEightLayout>::needs_drop()
-    }
-
-    fn size() -> Option<usize> {
-        <OfEightLayout>::size()
-    }
-}
-
-impl Allocative for OfEight {
-    ghost may_show = { λ x. shows.Field (codes "OfEight") ⟦<OfEightLayout as Described>⟧.size (shows.Both
-        (shows.Both
-        (shows.Field (codes "number") ⟦<u64 as Described>⟧.size (⟦<u64 as Allocative>⟧.may_show x.number)) (shows.Both
-        (shows.Field (codes "name") ⟦<String as Described>⟧.size (⟦<String as Allocative>⟧.may_show x.name)) (shows.Both
-        (shows.Field (codes "count") ⟦<u32 as Described>⟧.size (⟦<u32 as Allocative>⟧.may_show x.count)) (shows.Both
-        (shows.Field (codes "marks") ⟦<Vec<u32> as Described>⟧.size (⟦<Vec<u32> as Allocative>⟧.may_show x.marks))
-        (shows.Field (codes "is_open") ⟦<bool as Described>⟧.size (⟦<bool as Allocative>⟧.may_show x.is_open))))))
-        (shows.Both
-        (shows.Field (codes "limit") ⟦<Option<u64> as Described>⟧.size (⟦<Option<u64> as Allocative>⟧.may_show x.limit)) (shows.Both
-        (shows.Field (codes "place") ⟦<(u32, u32) as Described>⟧.size (⟦<(u32, u32) as Allocative>⟧.may_show x.place))
-        (shows.Field (codes "width") ⟦<u16 as Described>⟧.size (⟦<u16 as Allocative>⟧.may_show x.width))))) };
-
-    ghost is_exact = { true };
-
-    fn visit(&self, visitor: &mut Visitor<'_>) -> Result<(), Refusal> {
-        let a = Field("number", &self.number);
-        let b = Field("name", &self.name);
-        let c = Field("count", &self.count);
-        let d = Field("marks", &self.marks);
-        let e = Field("is_open", &self.is_open);
-        let f = Field("limit", &self.limit);
-        let g = Field("place", &self.place);
-        let h = Field("width", &self.width);
-        Whole(self, ((a, b, c, d, e), (f, g, h))).enter(visitor)
-    }
-}
-
 type OfTwentyFiveLayout<T> = Record<
     And<
         (T, (Vec<T>, (String, (T, (bool, ()))))),
@@ -639,63 +581,5 @@ impl<'a, const N: usize> Allocative for Found<'a, N> {
         let places = Field("places", &self.places);
         let counts = Field("counts", &self.counts);
         Declared("Found", <FoundLayout<N>>::size(), (places, counts)).enter(visitor)
-    }
-}
-
-type RouteLayout<T> = Record<And<(String, (T, (T, (Option<T>, (Vec<T>, ()))))), (u64, (bool, ()))>>;
-
-impl<T: Allocative + Described> Described for Route<T> {
-    ghost name = { codes "Route" };
-
-    ghost align = { ⟦<RouteLayout<T> as Described>⟧.align };
-
-    ghost needs_drop = { ⟦<RouteLayout<T> as Described>⟧.needs_drop };
-
-    ghost size = { ⟦<RouteLayout<T> as Described>⟧.size };
-
-    fn name() -> &'static str {
-        "Route"
-    }
-
-    fn align() -> usize {
-        <RouteLayout<T>>::align()
-    }
-
-    fn needs_drop() -> bool {
-        <RouteLayout<T>>::needs_drop()
-    }
-
-    fn size() -> Option<usize> {
-        <RouteLayout<T>>::size()
-    }
-}
-
-impl<T: Allocative + Described> Allocative for Route<T> {
-    ghost may_show = { λ x. shows.Field (codes "Route") ⟦<RouteLayout<T> as Described>⟧.size (shows.Both
-        (shows.Both
-        (shows.Field (codes "name") ⟦<String as Described>⟧.size (⟦<String as Allocative>⟧.may_show x.name)) (shows.Both
-        (shows.Field (codes "first") ⟦<T as Described>⟧.size (⟦<T as Allocative>⟧.may_show x.first)) (shows.Both
-        (shows.Field (codes "last") ⟦<T as Described>⟧.size (⟦<T as Allocative>⟧.may_show x.last)) (shows.Both
-        (shows.Field (codes "between") ⟦<Option<T> as Described>⟧.size (⟦<Option<T> as Allocative>⟧.may_show x.between))
-        (shows.Field (codes "steps") ⟦<Vec<T> as Described>⟧.size (⟦<Vec<T> as Allocative>⟧.may_show x.steps))))))
-        (shows.Both
-        (shows.Field (codes "length") ⟦<u64 as Described>⟧.size (⟦<u64 as Allocative>⟧.may_show x.length))
-        (shows.Field (codes "is_round") ⟦<bool as Described>⟧.size (⟦<bool as Allocative>⟧.may_show x.is_round)))) };
-
-    ghost is_exact = { (⟦<String as Allocative>⟧.is_exact && (⟦<T as Allocative>⟧.is_exact && (⟦<T as Allocative>⟧.is_exact && (⟦<Option<T> as Allocative>⟧.is_exact && (⟦<Vec<T> as Allocative>⟧.is_exact))))) && ((⟦<u64 as Allocative>⟧.is_exact && (⟦<bool as Allocative>⟧.is_exact))) };
-
-    fn visit(&self, visitor: &mut Visitor<'_>) -> Result<(), Refusal> {
-        let name = Field("name", &self.name);
-        let first = Field("first", &self.first);
-        let last = Field("last", &self.last);
-        let between = Field("between", &self.between);
-        let steps = Field("steps", &self.steps);
-        let length = Field("length", &self.length);
-        let is_round = Field("is_round", &self.is_round);
-        Whole(
-            self,
-            ((name, first, last, between, steps), (length, is_round)),
-        )
-        .enter(visitor)
     }
 }
