@@ -1,7 +1,6 @@
 //! What no clause says: worked examples, printed texts, and what is left where memory runs out.
 use crate::made_graphs::{children_of, own, with_children, with_paths};
 use allocative::{FlameGraph, IdArc, IdMaker, IdRc, Identity, Key, Refusal, push_path};
-use allocative_graph::ident_key;
 use std::alloc::Global;
 use std::hash::{DefaultHasher, Hash, Hasher};
 use std::process::Abort;
@@ -201,18 +200,6 @@ fn hashed(key: &Key) -> u64 {
     let mut hasher = DefaultHasher::new();
     key.hash(&mut hasher);
     hasher.finish()
-}
-
-#[test]
-fn an_identifier_is_a_key(rt: HostRuntime) {
-    let key = ident_key!(foo);
-    assert_eq!(rt; key.as_str(), "foo");
-    assert!(rt; key == Key::new("foo"));
-    assert!(rt; key == Key::new_unchecked(Key::hash_of("foo"), "foo"));
-    let mut hasher = DefaultHasher::new();
-    hasher.write_u64(Key::hash_of("foo"));
-    let hashes = [hashed(&key), hashed(&Key::new("foo"))];
-    assert_eq!(rt; hashes, [hasher.finish(); 2]);
 }
 
 #[test]

@@ -4,10 +4,9 @@
 ghost use Rattle.std.specs.Prelude.{codes, Some};
 ghost use Rattle.allocative.specs.Shows as shows;
 
-use crate::expected::{holds, is_answer, shows, tells};
+use crate::expected::{shows, tells};
 use allocative::{
     Allocative, Field, Inside, Part, Refusal, Registry, Visitor, profile_roots, profile_value,
-    size_of_unique,
 };
 use std::collections::BTreeMap;
 use std::test::Fail;
@@ -19,14 +18,6 @@ fn a_map_of_one_pair_warns(rt: HostRuntime) -> Result<(), Fail> {
     let want = "BTreeMap 16\nBTreeMap;data;key;u64 8\nBTreeMap;data;value;u64 8\n\
         Incorrect size declaration for node `BTreeMap;data`, size of self: 8, size of inline children: 16\n";
     shows(rt.alloc(), &map, want)
-}
-
-#[test]
-fn a_vector_holds_its_bytes_and_its_room(rt: HostRuntime) -> Result<(), Fail> {
-    let mut bytes: Vec<u8> = Vec::with_capacity(rt.alloc(), 100)?;
-    bytes.extend_from_slice(&[1, 2, 3])?;
-    holds(&bytes, Ok(bytes.capacity()))?;
-    is_answer(size_of_unique(&bytes), Ok(bytes.capacity() + 24))
 }
 
 #[test]

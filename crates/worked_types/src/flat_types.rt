@@ -3,19 +3,13 @@ use crate::profiles::{expect, expect_holding};
 use indexmap::IndexMap;
 use own_types::containers::{Catalog, Journal, Shelf};
 use own_types::enums::Request;
-use own_types::structs::{Meter, Named, Point, Session};
+use own_types::structs::{Meter, Named, Session};
 use std::collections::HashMap;
 use std::test::Fail;
 
 #[test]
 fn one_field(rt: HostRuntime) -> Result<(), Fail> {
     expect(&rt, &Meter { reading: 5 }, "Meter;reading;u64 8\n", 8)
-}
-
-#[test]
-fn two_fields(rt: HostRuntime) -> Result<(), Fail> {
-    let text = "Point;x;u32 4\nPoint;y;u32 4\n";
-    expect(&rt, &Point { x: 1, y: 2 }, text, 8)
 }
 
 #[test]
@@ -53,20 +47,6 @@ fn a_variant_without_fields(rt: HostRuntime) -> Result<(), Fail> {
 fn a_variant_of_one_field(rt: HostRuntime) -> Result<(), Fail> {
     let text = "Request 32\nRequest;Count;u64 8\n";
     expect(&rt, &Request::Count(5), text, 40)
-}
-
-#[test]
-fn a_variant_of_two_fields(rt: HostRuntime) -> Result<(), Fail> {
-    let text = "Request 32\nRequest;from;u32 4\nRequest;to;u32 4\n";
-    expect(&rt, &Request::Move(1, 2), text, 40)
-}
-
-#[test]
-fn a_variant_of_three_fields(rt: HostRuntime) -> Result<(), Fail> {
-    let text =
-        "Request 8\nRequest;by;String 16\nRequest;by;String;ptr 8\nRequest;from;u32 4\nRequest;to;u32 4\n";
-    let swap = Request::Swap(1, String::new(rt.alloc()), 2);
-    expect(&rt, &swap, text, 40)
 }
 
 #[test]

@@ -1,8 +1,6 @@
 //! The text of each type at a concrete type, without the lines of unused capacity.
 use crate::texts::{expect_exact, expect_room};
-use allocative::{
-    Allocative, IdArc, IdRc, Identity, size_of_unique, size_of_unique_allocated_data,
-};
+use allocative::{Allocative, IdArc, IdRc, Identity, size_of_unique_allocated_data};
 use std::alloc::AllocGlobal;
 use std::collections::{BTreeMap, BTreeSet, HashMap, HashSet, VecDeque};
 use std::marker::PhantomData;
@@ -149,13 +147,6 @@ fn choices_arrays_and_what_has_no_parts(rt: HostRuntime) -> Result<(), Fail> {
 }
 
 #[test]
-fn a_reference_holds_no_bytes_of_its_own(rt: HostRuntime) -> Result<(), Fail> {
-    let number: &'static u8 = &7;
-    assert_eq!(rt; size_of_unique(&number)?, 8);
-    Ok(())
-}
-
-#[test]
 fn a_box_shows_its_value(rt: HostRuntime) -> Result<(), Fail> {
     let boxed = Box::new(rt.alloc(), 1u64)?;
     expect_exact(&rt, &boxed, "Box;ptr 8\nBox;ptr;u64 8\n")
@@ -270,46 +261,6 @@ fn a_tree_map_shows_its_pairs(rt: HostRuntime) -> Result<(), Fail> {
     let map: BTreeMap<u8, u8> = [(1, 1), (2, 2)].into_iter().collect(rt.alloc())?;
     let text = "BTreeMap 16\nBTreeMap;data 4\nBTreeMap;data;key;u8 2\nBTreeMap;data;value;u8 2\n";
     expect_exact(&rt, &map, text)
-}
-
-#[test]
-fn a_boxed_rc(rt: HostRuntime) -> Result<(), Fail> {
-    let number = IdRc::new(rt.alloc(), 1u64, Identity::from(7))?;
-    let object: Box<dyn Allocative> = Box::new(rt.alloc(), number)?;
-    expect_exact(&rt, &*object, "Rc;ptr 8\nRcInner 16\nRcInner;u64 8\n")
-}
-
-#[test]
-fn a_boxed_arc(rt: HostRuntime) -> Result<(), Fail> {
-    let number = IdArc::new(rt.alloc(), 1u64, Identity::from(7))?;
-    let object: Box<dyn Allocative> = Box::new(rt.alloc(), number)?;
-    expect_exact(&rt, &*object, "Arc;ptr 8\nArcInner 16\nArcInner;u64 8\n")
-}
-
-#[test]
-fn a_boxed_choice(rt: HostRuntime) -> Result<(), Fail> {
-    let none: Option<HashMap<u8, Vec<u8>>> = None;
-    let object: Box<dyn Allocative> = Box::new(rt.alloc(), none)?;
-    expect_exact(&rt, &*object, "Option 56\n")
-}
-
-#[test]
-fn a_boxed_kept_value(rt: HostRuntime) -> Result<(), Fail> {
-    let object: Box<dyn Allocative> = Box::new(rt.alloc(), ManuallyDrop::new(1u16))?;
-    expect_exact(&rt, &*object, "ManuallyDrop;inner;u16 2\n")
-}
-
-#[test]
-fn a_boxed_array(rt: HostRuntime) -> Result<(), Fail> {
-    let object: Box<dyn Allocative> = Box::new(rt.alloc(), [1u16, 2])?;
-    expect_exact(&rt, &*object, "u16;data;u16 4\n")
-}
-
-#[test]
-fn a_boxed_tree_map(rt: HostRuntime) -> Result<(), Fail> {
-    let map = BTreeMap::<u8, String>::new(rt.alloc());
-    let object: Box<dyn Allocative> = Box::new(rt.alloc(), map)?;
-    expect_exact(&rt, &*object, "BTreeMap 16\nBTreeMap;data 8\n")
 }
 
 #[test]
