@@ -83,8 +83,10 @@ impl GraphCollector {
         Ok(())
     }
 
-    /// One more inline entry of `size` bytes under the key, with nothing inside it: no visitor goes there. The errors are
-    /// those of `enter`. An error changes nothing.
+    /// One more inline entry of `size` bytes under the key, with nothing inside it: no visitor goes there.
+    ///
+    /// The errors are those of `enter`: `TooLarge` exactly where the bytes would exceed `isize::MAX`, and `Memory`, also
+    /// where there would be more than 2^32 - 1 paths. An error changes nothing.
     #[inline(always)]
     pub fn enter_simple(&mut self, key: &Key, size: usize) -> Result<(), Refusal>
         ensures ok { OnOk result ((entered self.old.sums + size < 2 ^ 63)
@@ -100,8 +102,9 @@ impl GraphCollector {
     /// One more inline entry of `size` bytes under the key: a pointer to the content with the identity `id`.
     ///
     /// It returns whether the identity is met for the first time. Then a visitor is open at the content, whose paths
-    /// start at the root. The errors are those of `enter`. `TooLarge` changes nothing. After `Memory` the entry may
-    /// have been counted.
+    /// start at the root. The errors are those of `enter`: `TooLarge` exactly where the bytes would exceed `isize::MAX`,
+    /// and `Memory`, also where there would be more than 2^32 - 1 paths. `TooLarge` changes nothing. After `Memory` the
+    /// entry may have been counted.
     pub fn enter_shared(&mut self, key: &Key, size: usize, id: Identity) -> Result<bool, Refusal>
         ensures ok { IfOk result (λ new. (entered self.old.sums + size < 2 ^ 63)
             × MeetsAs key.now size id self.old new self.new) }

@@ -2,7 +2,7 @@
 ghost use Rattle.std.specs.Prelude.{◌≡◌, ◌++◌, IfOk, OnOk, MatchResult, string_bytes, map};
 ghost use Rattle.allocative_collectors.specs.Warned.{warning_of, warning_lines};
 
-use allocative_graph::flamegraph::{FlameGraph, push_path};
+use allocative_graph::flamegraph::FlameGraph;
 use allocative_graph::refusal::Refusal;
 use std::alloc::{AllocError, Global};
 use std::marker::Model;
@@ -22,19 +22,20 @@ impl WarnedPath {
     ghost use Rattle.allocative_graph.specs.Graph.{warning_text};
     ghost use Rattle.allocative_collectors.specs.Warned.{warning_of};
 
-    /// Appends the warning of the path, without a line feed. The only error is that memory runs out; then the text may
-    /// have a part of it.
+    /// Appends the warning of the path, without a line feed. The only error is that memory runs out, and then the text
+    /// is as it was.
     pub fn push_warning(&self, text: &mut String) -> Result<(), AllocError>
-        ensures { OnOk result (string_bytes text.new ≡ string_bytes text.old ++ warning_text (warning_of self.now)) }
+        ensures { MatchResult result
+            (λ _. string_bytes text.new ≡ string_bytes text.old ++ warning_text (warning_of self.now))
+            (λ _. string_bytes text.new ≡ string_bytes text.old) }
     {
-        let (own, parts) = (self.self_size, self.children_size);
-        text.push_str("Incorrect size declaration for node `")?;
-        push_path(self.path.as_slice(), text)?;
-        write!(
-            text,
-            "`, size of self: {own}, size of inline children: {parts}"
+        let alloc = *text.allocator();
+        let path = self.path.join(alloc, ";")?;
+        let (path, own, parts) = (path.as_str(), self.self_size, self.children_size);
+        let warning = format!(in alloc;
+            "Incorrect size declaration for node `{path}`, size of self: {own}, size of inline children: {parts}"
         )?;
-        Ok(())
+        text.push_str(warning.as_str())
     }
 }
 

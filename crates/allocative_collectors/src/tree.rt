@@ -88,6 +88,8 @@ impl Tree {
     }
 
     /// Enters `size` bytes under the key at the node `at`, and returns the node of that path.
+    ///
+    /// It fails where memory runs out, or where there would be more than 2^32 - 1 paths beside the root.
     #[inline(always)]
     pub(crate) fn enter(
         &mut self,

@@ -1,6 +1,7 @@
 -- What the walk of `write` has written so far.
 use Rattle.std.proofs.Common.{◌≡◌, ◌≢◌, ℕ, ◌+◌, ◌<◌, Bool, List, [], ◌∷◌, ◌++◌, map, take, length, get_or, Bor, cond, refl, sym, ap, ◌∙◌, append_assoc, arith, ◌-◌, length-append, append-nil, ne_eqb}
 use Rattle.allocative_graph.proofs.Common.{Graph, IsNode, node, Child, Key, Path, under_rows, rows_of, rows_of_child, joined, joined_on, line_from, lines_below, entries, take_more, map-append, flat_map-append}
+use Rattle.std.specs.List.{join_by}
 use Rattle.std.proofs.Math.Seq.{take-append_seam}
 use Rattle.allocative_graph.specs.Representation.PathRows.{size_text, lines_from, line_below}
 use Rattle.allocative_graph.proofs.ChildRows.{rows-more}
@@ -10,15 +11,16 @@ use Rattle.allocative_graph.proofs.NodeAdded.{entries_of_node}
 abbrev pub texts : List (Bor (List ℕ)) → List (List ℕ)
 texts ks = map (λ k. k.now) ks
 
+-- A path with a first key is that key and, after a `;` each, the others.
 pub joined-keys : (k : Key) (ks : Path) → joined (k ∷ ks) ≡ k ++ joined_on ks
 joined-keys k [] = sym (append-nil k)
 joined-keys k (l ∷ ks) = ap (λ t. k ++ 59 ∷ t) (joined-keys l ks)
 
-pub joined_more : (t : List ℕ) (ks : List (Bor (List ℕ))) (i : ℕ) (d : Bor (List ℕ)) → i < length ks
-    → ((t ++ joined_on (texts (take i ks))) ++ 59 ∷ []) ++ (get_or ks i d).now ≡ t ++ joined_on (texts (take (i + 1) ks))
-joined_more t ks i d h =
-    rw (take_more ks i d h, map-append (λ (k : Bor (List ℕ)). k.now) (take i ks) (get_or ks i d ∷ []), flat_map-append (λ (k : Key). 59 ∷ k) (texts (take i ks)) ((get_or ks i d).now ∷ []))
-    (simp (append_assoc, append-nil))
+-- The texts of the keys, joined by `;`, are the path's text.
+pub joined_by_semicolons : (ks : List (Bor (List ℕ))) → join_by (λ k. k.now) (59 ∷ []) ks ≡ joined (texts ks)
+joined_by_semicolons [] = refl
+joined_by_semicolons (k ∷ []) = append-nil k.now
+joined_by_semicolons (k ∷ l ∷ ks) = ap (λ t. k.now ++ 59 ∷ t) (joined_by_semicolons (l ∷ ks))
 
 -- The lines of one child.
 pub child_lines : (t : List ℕ) (k : Key) (rs : List (Path × ℕ)) → lines_below t (under_rows k rs) ≡ lines_from (t ++ k) rs

@@ -1,5 +1,5 @@
 //! Flame graphs: maps from paths of keys to sizes.
-ghost use Rattle.std.specs.Prelude.{◌≡◌, ◌+◌, ◌^◌, ◌<◌, ◌≤◌, ◌↔◌, ◌++◌, [], ◌∷◌, IfOk, IfErr, IfSome, IfNone, OnOk, OnErr, IsErrOf, string_bytes, map, length, is_ok};
+ghost use Rattle.std.specs.Prelude.{◌≡◌, ◌+◌, ◌^◌, ◌<◌, ◌≤◌, ◌↔◌, ◌++◌, [], ◌∷◌, IfOk, IfErr, IfSome, IfNone, OnOk, OnErr, IsErrOf, MatchResult, string_bytes, map, length, is_ok};
 ghost use Rattle.std.specs.Bool.{OnFalse};
 ghost use Rattle.std.specs.List.{insert};
 ghost use Rattle.std.specs.FinMap as map;
@@ -99,8 +99,8 @@ impl FlameGraph {
         }
     }
 
-    /// The graph that has only the root, with size 0, and room for `children` children of the root: adding that
-    /// many allocates nothing for the list of children. It returns an error only when memory runs out.
+    /// The graph that has only the root, with size 0. `children` is a hint: how many children of the root will be
+    /// added. No contract says what room there is. It returns an error only when memory runs out.
     pub fn with_capacity(alloc: Global, children: usize) -> Result<FlameGraph, AllocError>
         ensures { IfOk result (λ graph. graph ≡ default) }
     {
@@ -316,20 +316,16 @@ fn push_line(path: &str, size: usize, text: &mut String) -> Result<(), AllocErro
     Ok(())
 }
 
-/// Appends the keys to the text, with `;` between them. It returns an error only when memory runs out; the text
-/// may then have some of them.
+/// Appends the keys to the text, with `;` between them. It returns an error only when memory runs out, and then the
+/// text is as it was.
+#[tactic(auto, using(crate::proofs::NodeText::joined_by_semicolons))]
 pub fn push_path(keys: &[&str], text: &mut String) -> Result<(), AllocError>
-    ensures { OnOk result (string_bytes text.new ≡ string_bytes text.old ++ joined (map (λ k. k.now) keys.now)) }
+    ensures { MatchResult result
+        (λ _. string_bytes text.new ≡ string_bytes text.old ++ joined (map (λ k. k.now) keys.now))
+        (λ _. string_bytes text.new ≡ string_bytes text.old) }
 {
-    let Some((first, rest)) = keys.split_first() else {
-        return Ok(());
-    };
-    text.push_str(first)?;
-    for key in rest {
-        text.push(';')?;
-        text.push_str(key)?;
-    }
-    Ok(())
+    let path = keys.join(*text.allocator(), ";")?;
+    text.push_str(path.as_str())
 }
 
 // The place of the key among the children, or else the place where it belongs. One comparison recognizes the last key
