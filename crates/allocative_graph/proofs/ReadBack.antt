@@ -3,9 +3,7 @@ use Rattle.std.proofs.Common.{◌≡◌, ◌≢◌, ℕ, ◌+◌, ◌-◌, ◌^�
 use Rattle.allocative_graph.proofs.Common.{AllByRecursion, list_any, slice_split, lines, lines_of_parts, get, entries, LEVELS, LineFault, Key, Path, is_same_path, Graph, text, joined, begins, size_at, Lacks, HasPlainKeys, HasWords, Stack, IsStack, IsCut, IsNumber, AreStacks, Means, IsFault, IsRead, number_of, bytes_at, is_path_of, all_bytes, All-from_recursion, fold-map, sum_by-cons}
 use Rattle.std.specs.List.{All}
 use Rattle.std.specs.Str.Lines.{strip_carriage_return}
-use Rattle.std.specs.Str.Parse.{IsNumeral, digits_value}
-use Rattle.std.proofs.lemmas.Fmt.{decimal_is_IsNumeral, decimal_nonempty}
-use Rattle.std.proofs.lemmas.Str.Parse.{without_leading_plus_none}
+use Rattle.std.proofs.lemmas.Fmt.{decimal_is_IsNumeral}
 use Rattle.std.proofs.lemmas.List.{get_or-append_right}
 use Rattle.std.proofs.lemmas.List.Elements.{All-weaker}
 use Rattle.std.proofs.lemmas.List.Filters.{sum_by-filter_both}
@@ -52,10 +50,8 @@ keys-joined k (l ∷ p) h = slice_split_at (λ b. b == 59) k 59 (joined (l ∷ p
 
 number-decimal : (n : ℕ) → n < 2 ^ 64 → IsNumber (decimal n) × (number_of (decimal n) ≡ n)
 number-decimal n w =
-    let unsigned = without_leading_plus_none (decimal n) (lacks_at 43 (decimal n) 0 (decimal_lacks 43 n (omega arith)) (decimal_nonempty n w)) in
     let read = decimal_is_IsNumeral n w in
-    let value : number_of (decimal n) ≡ n = ap (digits_value 10) unsigned ∙ read.1 in
-    ((subst (IsNumeral 10) (sym unsigned) read.0, omega (arith, value, w)), value)
+    ((read.0, omega (arith, read.1, w)), read.1)
 
 -- What an entry says.
 abbrev said : Sized → Stack

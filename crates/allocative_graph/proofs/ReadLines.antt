@@ -1,13 +1,13 @@
 -- The lines of a text that is read: where one is cut, which are none, and one after another.
-use Rattle.std.proofs.Common.{◌≡◌, ◌≢◌, ℕ, suc, ◌+◌, ◌<◌, ◌≤◌, ◌==◌, true, false, cond, List, [], ◌∷◌, ◌++◌, length, get_or, take, drop, None, Some, refl, ap, sym, ◌∙◌, subst, arith, Bor, eqb-true, take-append-drop, Bool, map, subst₂, append-nil, drop-cons}
+use Rattle.std.proofs.Common.{◌≡◌, ◌≢◌, ℕ, suc, ◌+◌, ◌^◌, ◌<◌, ◌≤◌, ◌==◌, true, false, cond, List, [], ◌∷◌, ◌++◌, length, get_or, take, drop, None, Some, refl, ap, sym, ◌∙◌, subst, arith, Bor, eqb-true, take-append-drop, Bool, map, subst₂, append-nil, drop-cons}
 use Rattle.allocative_graph.proofs.Common.{LEVELS, LineFault, NoSpace, Lacks, Stack, IsStack, IsNumber, IsCut, IsWrong, number_of, nil_from_length, slice_split, lines, lines_of_parts, Line, AreStacks, IsFault, map_push, length-map, line_stack}
 use Rattle.std.specs.Str.Pattern.{RFindsChar}
 use Rattle.std.proofs.lemmas.Bool.{eqb-false}
 use Rattle.std.proofs.lemmas.List.Elements.{All-from_get_or, recursion_from_All}
-use Rattle.std.specs.Str.Parse.{AllDigits}
-use Rattle.std.specs.Char.{digit_value}
+use Rattle.std.specs.Str.Parse.{IsNumeral, without_leading_plus}
+use Rattle.std.proofs.lemmas.Str.Parse.{digit_at, without_leading_plus_none}
 use Rattle.std.proofs.lemmas.Str.Pattern.{NoCharPasses-char, drop_at_char}
-use Rattle.allocative_graph.specs.declared.read.LineFault.TheVariants.{NoPath, NoNumber, TooDeep}
+use Rattle.allocative_graph.specs.declared.read.LineFault.TheVariants.{NoPath, NoNumber, TooLarge, TooDeep}
 use Rattle.allocative_graph.specs.Read.{keys_of}
 use Rattle.allocative_graph.proofs.Basics.{on_test}
 use Rattle.allocative_graph.proofs.Text.{lacks_not, last_split}
@@ -27,16 +27,17 @@ cut_of {bs = bs} x (i, j, finds, front, back, ordered, one, other) =
     let whole : take i bs ++ 32 ∷ drop j bs ≡ bs = ap (λ l. take i bs ++ l) (sym (drop_at_char 32 bs i j finds.1 (omega arith))) ∙ take-append-drop i bs in
     record { parts = sym whole ∙ (λ k. sym front k ++ 32 ∷ sym back k); last = subst (Lacks 32) (sym back) (lacks_from 32 (drop j bs) (λ k. NoCharPasses-char 32 (drop j bs) k finds.0 (omega arith))) }
 
-digits_lack : (ds : List ℕ) → AllDigits 10 ds → Lacks 32 ds
-digits_lack [] h = tt
-digits_lack (d ∷ ds) h = ((λ e. let low : digit_value 32 < 10 = subst (λ (c : ℕ). digit_value c < 10) e h.0 in omega arith), digits_lack ds h.1)
-
 -- No space stands in a number.
 number_lacks : (bs : List ℕ) → IsNumber bs → Lacks 32 bs
-number_lacks [] h = tt
-number_lacks (b ∷ bs) h = on_test (λ t. AllDigits 10 (drop (cond t 1 0) (b ∷ bs)) → (b == 43) ≡ t → Lacks 32 (b ∷ bs)) (b == 43)
-    (λ e digits t. ((λ s. omega (arith, s, eqb-true b 43 e)), digits_lack bs digits))
-    (λ e digits t. digits_lack (b ∷ bs) digits) h.0.1 refl
+number_lacks bs h = lacks_from 32 bs (λ i within e. omega (arith, digit_at bs i h.0.1 within, e))
+
+-- Digits alone have no plus.
+pub unsigned : (bs : List ℕ) → IsNumeral 10 bs → without_leading_plus bs ≡ bs
+unsigned bs h = without_leading_plus_none bs (λ e. omega (arith, digit_at bs 0 h.1 h.0, e))
+
+-- The number of digits that are not parsed exceeds a word.
+pub too_large : (bs : List ℕ) → IsNumeral 10 bs → ¬ IsNumber bs → 2 ^ 64 ≤ number_of bs
+too_large bs digits none = let exceeds : number_of bs < 2 ^ 64 → ⊥ = λ fits. none (digits, fits) in omega (arith, exceeds)
 
 -- A line is cut at its last space in one way.
 pub one_cut : {line a b x y : List ℕ} → IsCut line a x → IsCut line b y → (a ≡ b) × (x ≡ y)
@@ -52,7 +53,8 @@ wrong_is_none NoSpace line h s is = lacks_not 32 is.path is.number (subst (Lacks
 wrong_is_none NoPath line (back, cut) s is =
     let both = cut_once cut is in
     omega (arith, is.some, ap length both.0)
-wrong_is_none NoNumber line (front, back, cut, some, none) s is = none (subst IsNumber (sym (cut_once cut is).1) is.reads)
+wrong_is_none NoNumber line (front, back, cut, some, none) s is = none (subst (IsNumeral 10) (sym (cut_once cut is).1) is.reads.0)
+wrong_is_none TooLarge line (front, back, cut, some, digits, large) s is = omega (arith, is.reads.1, large, ap number_of (cut_once cut is).1)
 wrong_is_none TooDeep line (front, back, cut, reads, deep) s is =
     omega (arith, is.fits, deep, ap (λ (p : List ℕ). length (keys_of p)) (cut_once cut is).0)
 

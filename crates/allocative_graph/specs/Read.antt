@@ -3,12 +3,12 @@ use Rattle.std.specs.Prelude.{◌≡◌, ℕ, ◌+◌, ◌^◌, ◌<◌, ◌≤�
 use Rattle.std.specs.Bool.{⊤}
 use Rattle.std.specs.List.{AllByRecursion, list_any, slice_split}
 use Rattle.std.specs.Str.Lines.{lines}
-use Rattle.std.specs.Str.Parse.{IsNumeral, digits_value, without_leading_plus}
+use Rattle.std.specs.Str.Parse.{IsNumeral, digits_value}
 use Rattle.std.specs.FinMap.{get, entries}
 use Rattle.allocative_graph.specs.declared.read.TheConstants.{LEVELS}
 use Rattle.allocative_graph.specs.declared.read.Line.{Line}
 use Rattle.allocative_graph.specs.declared.read.LineFault.{LineFault}
-use Rattle.allocative_graph.specs.declared.read.LineFault.TheVariants.{NoSpace, NoPath, NoNumber, TooDeep}
+use Rattle.allocative_graph.specs.declared.read.LineFault.TheVariants.{NoSpace, NoPath, NoNumber, TooLarge, TooDeep}
 use Rattle.allocative_graph.specs.Path.{Key, Path, is_same_path}
 use Rattle.allocative_graph.specs.Format.{semicolon, space}
 use Rattle.allocative_graph.specs.Graph.{Graph, size_at, total, begins, is_root, joined, text, Lacks, HasPlainKeys, HasWords}
@@ -27,13 +27,13 @@ keys_of p = slice_split (λ b. b == semicolon) p
 abbrev pub line_stack : Line → Stack
 line_stack l = record { path = keys_of l.path.now; size = l.size }
 
--- The text is one digit or more, perhaps behind a plus, and the number that they write is a word.
-abbrev pub IsNumber : List ℕ → Type 0
-IsNumber bs = IsNumeral 10 (without_leading_plus bs) × (digits_value 10 (without_leading_plus bs) < 2 ^ 64)
-
 -- The number that a text writes.
 abbrev pub number_of : List ℕ → ℕ
-number_of bs = digits_value 10 (without_leading_plus bs)
+number_of bs = digits_value 10 bs
+
+-- The text is one digit or more, and nothing else, and the number that they write is a word.
+abbrev pub IsNumber : List ℕ → Type 0
+IsNumber bs = IsNumeral 10 bs × (number_of bs < 2 ^ 64)
 
 -- The line is a path of at least one byte and at most `LEVELS` keys, a space and a number of bytes, and says that.
 pub record IsStack (line : List ℕ) (s : Stack) : Type 0 where
@@ -50,12 +50,15 @@ pub record IsCut (line path number : List ℕ) : Type 0 where
   pub parts : line ≡ path ++ space ∷ number
   pub last : Lacks space number
 
--- What is wrong with the line: it has no space; nothing stands before its last one; no number stands behind it; or the
--- path has too many keys.
+-- What is wrong with the line: it has no space; nothing stands before its last one; no digits alone stand behind it; the
+-- number exceeds a word; or the path has too many keys.
 abbrev pub IsWrong : LineFault → List ℕ → Type 0
 IsWrong NoSpace line = Lacks space line
 IsWrong NoPath line = (number : List ℕ) × IsCut line [] number
-IsWrong NoNumber line = (path : List ℕ) × (number : List ℕ) × IsCut line path number × (0 < length path) × ¬ IsNumber number
+IsWrong NoNumber line = (path : List ℕ) × (number : List ℕ) × IsCut line path number × (0 < length path)
+    × ¬ IsNumeral 10 number
+IsWrong TooLarge line = (path : List ℕ) × (number : List ℕ) × IsCut line path number × (0 < length path)
+    × IsNumeral 10 number × (2 ^ 64 ≤ number_of number)
 IsWrong TooDeep line = (path : List ℕ) × (number : List ℕ) × IsCut line path number × IsNumber number
     × (LEVELS < length (keys_of path))
 

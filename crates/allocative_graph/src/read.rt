@@ -1,6 +1,7 @@
 //! Reading the text of a flame graph: collapsed stacks, of this library or of any other profiler.
-ghost use Rattle.std.specs.Prelude.{◌≡◌, ◌^◌, ◌<◌, ℕ, IfOk, IfErr, IsErrOf, map, sum_by};
+ghost use Rattle.std.specs.Prelude.{◌≡◌, ◌^◌, ◌<◌, ◌↔◌, ℕ, IsTrue, IfOk, IfErr, IsErrOf, map, sum_by};
 ghost use Rattle.std.specs.Option.{SomeIff};
+ghost use Rattle.std.specs.Str.Parse.{IsNumeral};
 ghost use Rattle.allocative_graph.specs.Graph.{default};
 ghost use Rattle.allocative_graph.specs.declared.read.ReadFault.TheVariants.{Memory};
 ghost use Rattle.allocative_graph.specs.Read.{line_stack, IsStack, IsWrong, Means, IsFault, IsRead, Exceeds, ReadsBack};
@@ -25,9 +26,12 @@ pub enum LineFault {
     /// Nothing stands before the last space.
     #[error("there is no path before the last space")]
     NoPath,
-    /// What stands behind the last space is no decimal number below 2^64.
+    /// What stands behind the last space is not digits alone.
     #[error("there is no number of bytes behind the last space")]
     NoNumber,
+    /// The number exceeds `usize::MAX`.
+    #[error("the number of bytes exceeds usize::MAX")]
+    TooLarge,
     /// The path has more than `LEVELS` keys.
     #[error("the path has more than 10000 keys")]
     TooDeep,
@@ -65,8 +69,8 @@ impl<T: Drop> From<AllocFailed<T>> for ReadFault {
 }
 
 impl FlameGraph {
-    /// The graph of collapsed stacks. Each line of the text is a path, its last space and the bytes of that path as a
-    /// decimal number. A path is its keys with `;` between them. Lines with equal paths add up, in whatever order they
+    /// The graph of collapsed stacks. Each line of the text is a path, its last space and the bytes of that path in
+    /// decimal digits. A path is its keys with `;` between them. Lines with equal paths add up, in whatever order they
     /// come. The keys are parts of the text, so nothing of it is copied.
     ///
     /// A line ends at a line feed, or at a carriage return and a line feed; the last one may end with the text. A key
@@ -120,6 +124,13 @@ impl Line {
     }
 }
 
+// Whether a text is one decimal digit or more, and nothing else.
+fn is_numeral(text: &str) -> bool
+    ensures { IsTrue result ↔ IsNumeral 10 text.now }
+{
+    !text.is_empty() && text.as_bytes().iter().all(|b| b.is_ascii_digit())
+}
+
 // Reads one line.
 #[tactic(auto, using(crate::proofs::ReadLines::no_space))]
 fn read_line(line: &'static str) -> Result<Line, LineFault>
@@ -132,8 +143,11 @@ fn read_line(line: &'static str) -> Result<Line, LineFault>
     if path.is_empty() {
         return Err(LineFault::NoPath);
     }
-    let Ok(size) = size.parse::<usize>() else {
+    if !is_numeral(size) {
         return Err(LineFault::NoNumber);
+    }
+    let Ok(size) = size.parse::<usize>() else {
+        return Err(LineFault::TooLarge);
     };
     if path.split(';').count() > LEVELS {
         return Err(LineFault::TooDeep);

@@ -1,16 +1,18 @@
 -- Faults and their status.
 use Rattle.std.proofs.Common.{◌≡◌, inl, inr, ℕ, ◌^◌, ◌≤◌, List, [], ◌∷◌, Option, None, Some, Ok, Err, Result, refl, ap, arith, IfSome, IfErr, IsErrOf, IsErrAnd}
-use Rattle.allocative_picture_filter.proofs.Common.{Graph, sum_of, Fault, Text, Sourced, StopsAddingUp}
+use Rattle.allocative_picture_filter.proofs.Common.{Graph, Fault, Text, Sourced, StopsAddingUp}
+use Rattle.allocative_graph.specs.declared.read.LineFault.TheVariants as line
 use Rattle.allocative_graph.specs.declared.refusal.Refusal as refusal
 use Rattle.allocative_graph.specs.declared.refusal.Refusal.TheVariants as refused
 use Rattle.allocative_picture_filter.specs.declared.arguments.Arguments as words
-use Rattle.allocative_picture_filter.specs.declared.fault.Fault.TheVariants.{Writing}
+use Rattle.allocative_picture_filter.specs.declared.fault.Fault.TheVariants.{Line, Writing}
 use Rattle.allocative_picture_filter.specs.Fault.{status_of, fault_of}
 use Rattle.allocative_picture_filter.specs.Run.{StopsJoining, Stops}
 
 -- A fault with status 7 is one of writing.
 is-writing : (f : Fault) → status_of f ≡ 7 → f ≡ Writing
 is-writing Writing e = refl
+is-writing (Line s n line.TooLarge) e = absurd (omega (arith, e))
 is-writing f e = absurd (omega (arith, e))
 
 -- Texts are added up without writing.
@@ -18,13 +20,13 @@ added-unwritten : (g : Graph) (ts : List Sourced) → StopsAddingUp g ts Writing
 added-unwritten g [] h = h
 added-unwritten g (t ∷ ts) (inl (inl h)) = h
 added-unwritten g (t ∷ ts) (inl (inr (read, is, h))) = h
-added-unwritten g (t ∷ ts) (inr (read, is, h)) = added-unwritten (sum_of g read) ts h
+added-unwritten g (t ∷ ts) (inr (next, adds, h)) = added-unwritten next ts h
 
 made-unwritten : (asked : words.Arguments) (before after : List Text) (known : List ℕ) → Stops asked before after known Writing → ⊥
 made-unwritten asked before after known (inl h) = added-unwritten _ _ h
-made-unwritten asked before after known (inr (inl (inl h))) = added-unwritten _ _ h
-made-unwritten asked before after known (inr (inl (inr (b, e)))) = absurd (omega (arith, ap status_of e))
-made-unwritten asked before after known (inr (inr (g, h, earlier, later, joins))) = joins
+made-unwritten asked before after known (inr (g, up, inl (inl h))) = added-unwritten _ _ h
+made-unwritten asked before after known (inr (g, up, inl (inr (h, files, b, e)))) = absurd (omega (arith, ap status_of e))
+made-unwritten asked before after known (inr (g, up, inr (h, later, joins))) = joins
 
 -- What stops a run before it writes has another status than a failed write.
 pub stops-unwritten : (asked : words.Arguments) (before after : List Text) (known : List ℕ) (f : Fault) → Stops asked before after known f → status_of f ≡ 7 → ⊥

@@ -1,55 +1,55 @@
 -- The graphs of some texts, one added after another, and what stops that.
 use Rattle.std.proofs.Common.{◌≡◌, ℕ, zero, suc, ◌+◌, ◌<◌, ◌==◌, ◌⊎◌, inl, inr, Bool, true, cond, List, [], ◌∷◌, ◌++◌, map, take, length, get_or, refl, sym, ap, subst, ◌∙◌, arith}
-use Rattle.allocative_picture_filter.proofs.Common.{Graph, default, sum_of, IsRead, Options, Fault, Memory, Reading, Text, Sourced, sourced, AddUp, StopsAddingUp}
+use Rattle.allocative_picture_filter.proofs.Common.{Graph, default, Options, Fault, Memory, Reading, Text, Sourced, sourced, AddUp, StopsAddingUp}
 use Rattle.std.proofs.lemmas.List.{map-append, take_more}
 use Rattle.allocative_picture_filter.specs.declared.arguments.Arguments.{Arguments}
 use Rattle.allocative_picture_filter.specs.declared.fault.Source.TheVariants.{Input}
-use Rattle.allocative_picture_filter.specs.Run.{AddUpOnto, StopsAdding, StopsProfile, IsMade, written_of}
+use Rattle.allocative_picture_filter.specs.Run.{without_mark, Adds, AddUpOnto, StopsAdding, StopsProfile, IsMade, written_of}
 
 -- ---- one text after another
 -- One text more is added.
-pub add-push : (f : Graph) (ts : List Sourced) (t : Sourced) (g h read : Graph) → AddUpOnto f ts g → IsRead t.1 read → h ≡ sum_of g read → AddUpOnto f (ts ++ t ∷ []) h
-add-push f [] t g h read up is e = (read, is, e ∙ ap (λ (x : Graph). sum_of x read) up)
-add-push f (s ∷ ts) t g h read (first, first_is, up) is e = (first, first_is, add-push (sum_of f first) ts t g h read up is e)
+pub add-push : (f : Graph) (ts : List Sourced) (t : Sourced) (g h : Graph) → AddUpOnto f ts g → Adds g t h → AddUpOnto f (ts ++ t ∷ []) h
+add-push f [] t g h up adds = (h, subst (λ (x : Graph). Adds x t h) up adds, refl)
+add-push f (s ∷ ts) t g h (next, first, up) adds = (next, first, add-push next ts t g h up adds)
 
 -- One text more of a list is added.
-pub add-more : (xs : List Text) (i : ℕ) (d : Text) (g h read : Graph) → i < length xs → AddUp (map sourced (take i xs)) g → IsRead (get_or xs i d).bytes.now read → h ≡ sum_of g read
+pub add-more : (xs : List Text) (i : ℕ) (d : Text) (g h : Graph) → i < length xs → AddUp (map sourced (take i xs)) g → Adds g (sourced (get_or xs i d)) h
     → AddUp (map sourced (take (i + 1) xs)) h
-add-more xs i d g h read within up is e =
+add-more xs i d g h within up adds =
     let more : map sourced (take (i + 1) xs) ≡ map sourced (take i xs) ++ sourced (get_or xs i d) ∷ [] =
     ap (map sourced) (take_more xs i d within) ∙ map-append sourced (take i xs) (get_or xs i d ∷ []) in
-    subst (λ (ts : List Sourced). AddUp ts h) (sym more) (add-push default (map sourced (take i xs)) (sourced (get_or xs i d)) g h read up is e)
+    subst (λ (ts : List Sourced). AddUp ts h) (sym more) (add-push default (map sourced (take i xs)) (sourced (get_or xs i d)) g h up adds)
 
 -- What stops a text, once those before it are added, stops them all.
 pub stops-at : (b : Graph) (xs : List Text) (i : ℕ) (d : Text) (g : Graph) (f : Fault) → i < length xs → AddUpOnto b (map sourced (take i xs)) g → StopsAdding g (sourced (get_or xs i d)) f → StopsAddingUp b (map sourced xs) f
 stops-at b [] i d g f within up h = absurd (omega arith)
 stops-at b (y ∷ xs) zero d g f within up h = inl (subst (λ (x : Graph). StopsAdding x (sourced y) f) up h)
-stops-at b (y ∷ xs) (suc i) d g f within (read, is, up) h = inr (read, is, stops-at (sum_of b read) xs i d g f (omega arith) up h)
+stops-at b (y ∷ xs) (suc i) d g f within (next, adds, up) h = inr (next, adds, stops-at next xs i d g f (omega arith) up h)
 
 -- What stops the first texts stops them all.
 stops-before : (b : Graph) (ts us : List Sourced) (f : Fault) → StopsAddingUp b ts f → StopsAddingUp b (ts ++ us) f
 stops-before b [] us f h = absurd h
 stops-before b (t ∷ ts) us f (inl h) = inl h
-stops-before b (t ∷ ts) us f (inr (read, is, h)) = inr (read, is, stops-before (sum_of b read) ts us f h)
+stops-before b (t ∷ ts) us f (inr (next, adds, h)) = inr (next, adds, stops-before next ts us f h)
 
 -- What stops a text behind others, once these are added, stops them all.
 stops-last : (b : Graph) (ts : List Sourced) (u : Sourced) (g : Graph) (f : Fault) → AddUpOnto b ts g → StopsAdding g u f → StopsAddingUp b (ts ++ u ∷ []) f
 stops-last b [] u g f up h = inl (subst (λ (x : Graph). StopsAdding x u f) up h)
-stops-last b (t ∷ ts) u g f (read, is, up) h = inr (read, is, stops-last (sum_of b read) ts u g f up h)
+stops-last b (t ∷ ts) u g f (next, adds, up) h = inr (next, adds, stops-last next ts u g f up h)
 
 -- ---- with the input and without
 -- What stops the files stops the profile.
 pub stops-files : (xs : List Text) (b : Bool) (known : List ℕ) (f : Fault) → StopsAddingUp default (map sourced xs) f → StopsProfile xs b known f
-stops-files xs b known f h = inl (stops-before default (map sourced xs) (cond b ((Input, known) ∷ []) []) f h)
+stops-files xs b known f h = inl (stops-before default (map sourced xs) (cond b ((Input, without_mark known) ∷ []) []) f h)
 
 -- What stops the input, once the files are added, stops the profile.
-pub stops-input : (xs : List Text) (b : Bool) (known : List ℕ) (g : Graph) (f : Fault) → b ≡ true → AddUp (map sourced xs) g → StopsAdding g (Input, known) f → StopsProfile xs b known f
-stops-input xs b known g f e up h = rw e (inl (stops-last default (map sourced xs) (Input, known) g f up h))
+pub stops-input : (xs : List Text) (b : Bool) (known : List ℕ) (g : Graph) (f : Fault) → b ≡ true → AddUp (map sourced xs) g → StopsAdding g (Input, without_mark known) f → StopsProfile xs b known f
+stops-input xs b known g f e up h = rw e (inl (stops-last default (map sourced xs) (Input, without_mark known) g f up h))
 
 -- An input that is not read stops the profile.
 pub stops-unread : (xs : List Text) (b : Bool) (known : List ℕ) (g : Graph) (f : Fault) → b ≡ true → AddUp (map sourced xs) g → (f ≡ Memory) ⊎ (f ≡ Reading Input) → StopsProfile xs b known f
 stops-unread xs b known g f e up (inl m) = stops-input xs b known g f e up (inl (rw m tt))
-stops-unread xs b known g f e up (inr r) = inr (e, r)
+stops-unread xs b known g f e up (inr r) = inr (g, up, e, r)
 
 -- ---- what is written
 -- What is written of some graphs is what the arguments ask for.

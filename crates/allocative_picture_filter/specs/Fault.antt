@@ -1,5 +1,6 @@
 -- What status a fault ends the program with.
 use Rattle.std.specs.Prelude.{ℕ}
+use Rattle.allocative_graph.specs.declared.read.LineFault.TheVariants as line
 use Rattle.allocative_graph.specs.declared.refusal.Refusal as refusal
 use Rattle.allocative_graph.specs.declared.refusal.Refusal.TheVariants as refused
 use Rattle.allocative_picture_filter.specs.declared.fault.Fault.{Fault}
@@ -8,6 +9,7 @@ use Rattle.allocative_picture_filter.specs.declared.fault.Fault.TheVariants.{Mem
 -- The status of a fault.
 abbrev pub status_of : Fault → ℕ
 status_of Memory = 1
+status_of (Line s n line.TooLarge) = 4
 status_of (Line s n w) = 2
 status_of (NotText s) = 3
 status_of TooLarge = 4

@@ -1,5 +1,6 @@
 -- What a run makes of its texts, and what stops it.
-use Rattle.std.specs.Prelude.{◌≡◌, ℕ, ◌+◌, ◌^◌, ◌≤◌, ◌==◌, ◌⊎◌, ◌||◌, Bool, true, cond, List, [], ◌∷◌, ◌++◌, length, map, IsUtf8, ⊤}
+use Rattle.std.specs.Prelude.{◌≡◌, ℕ, ◌+◌, ◌^◌, ◌<◌, ◌≤◌, ◌==◌, ◌⊎◌, ◌||◌, Bool, true, cond, List, [], ◌∷◌, ◌++◌, length, drop, map, nat_eq, IsUtf8, ⊤}
+use Rattle.std.specs.List.{starts_with}
 use Rattle.allocative_graph.specs.Graph.{Graph, default, sum_of, text, total}
 use Rattle.allocative_graph.specs.Read.{IsRead, IsFault, Exceeds}
 use Rattle.allocative_picture.specs.Picture.{profile_drawing, change_drawing}
@@ -13,6 +14,14 @@ use Rattle.allocative_picture_filter.specs.declared.fault.Source.TheVariants.{In
 use Rattle.allocative_picture_filter.specs.declared.run.Text.{Text}
 
 -- ---- texts
+-- The byte-order mark U+FEFF in UTF-8.
+abbrev pub mark : List ℕ
+mark = 239 ∷ 187 ∷ 191 ∷ []
+
+-- The bytes behind a byte-order mark at their beginning, or all of them where there is none.
+abbrev pub without_mark : List ℕ → List ℕ
+without_mark bs = cond (starts_with nat_eq bs mark) (drop 3 bs) bs
+
 -- Where a text comes from, and its bytes.
 abbrev pub Sourced : Type 0
 Sourced = Source × List ℕ
@@ -21,14 +30,25 @@ Sourced = Source × List ℕ
 abbrev pub sourced : Text → Sourced
 sourced t = (t.source, t.bytes.now)
 
--- The texts of a profile: those of its files, and the input where it belongs to them.
+-- The texts of a profile: those of its files, and then the input where it belongs to them.
 abbrev pub later_texts : List Text → Bool → List ℕ → List Sourced
-later_texts ts reads_input known = map sourced ts ++ cond reads_input ((Input, known) ∷ []) []
+later_texts ts reads_input known = map sourced ts ++ cond reads_input ((Input, without_mark known) ∷ []) []
+
+-- The text is UTF-8, and the graph is read of it.
+abbrev pub Reads : Sourced → Graph → Type 0
+Reads t g = IsUtf8 t.1 × IsRead t.1 g
+
+-- The graph g with that of the text is h, and their bytes together are a word.
+pub record Adds (g : Graph) (t : Sourced) (h : Graph) : Type 0 where
+  pub read : Graph
+  pub reads : Reads t read
+  pub fits : total g + total read < 2 ^ 64
+  pub is : h ≡ sum_of g read
 
 -- The graph g with those of some texts, one added after another, is h.
 abbrev pub AddUpOnto : Graph → List Sourced → Graph → Type 0
 AddUpOnto g [] h = h ≡ g
-AddUpOnto g (t ∷ ts) h = (read : Graph) × IsRead t.1 read × AddUpOnto (sum_of g read) ts h
+AddUpOnto g (t ∷ ts) h = (next : Graph) × Adds g t next × AddUpOnto next ts h
 
 -- The graphs of some texts add up to h.
 abbrev pub AddUp : List Sourced → Graph → Type 0
@@ -54,12 +74,12 @@ pub record IsMade (asked : Arguments) (before : List Text) (after : List Sourced
   pub is : made ≡ written_of asked.as_text (length before == 0) options earlier later
 
 -- ---- what stops a run
--- Why no graph is read of a text: memory runs out; a line of it is none; it is not UTF-8; or its bytes exceed a word.
+-- Why no graph is read of a text: memory runs out; it is not UTF-8; a line of it is none; or its bytes exceed a word.
 abbrev pub StopsReading : Sourced → Fault → Type 0
 StopsReading t Memory = ⊤
-StopsReading t (Line s n w) = (s ≡ t.0) × IsFault t.1 n w
+StopsReading t (Line s n w) = (s ≡ t.0) × IsUtf8 t.1 × IsFault t.1 n w
 StopsReading t (NotText s) = (s ≡ t.0) × ¬ IsUtf8 t.1
-StopsReading t TooLarge = Exceeds t.1
+StopsReading t TooLarge = IsUtf8 t.1 × Exceeds t.1
 StopsReading t _ = ⊥
 
 -- Why two graphs with so many bytes together are not joined: memory runs out, or these exceed a word.
@@ -70,29 +90,31 @@ StopsJoining bytes _ = ⊥
 
 -- Why a text is not added to the graph g.
 abbrev pub StopsAdding : Graph → Sourced → Fault → Type 0
-StopsAdding g t f = StopsReading t f ⊎ ((read : Graph) × IsRead t.1 read × StopsJoining (total g + total read) f)
+StopsAdding g t f = StopsReading t f ⊎ ((read : Graph) × Reads t read × StopsJoining (total g + total read) f)
 
 -- Why some texts are not added to the graph g, one after another: one of them is not, once those before it are.
 abbrev pub StopsAddingUp : Graph → List Sourced → Fault → Type 0
 StopsAddingUp g [] f = ⊥
-StopsAddingUp g (t ∷ ts) f = StopsAdding g t f ⊎ ((read : Graph) × IsRead t.1 read × StopsAddingUp (sum_of g read) ts f)
+StopsAddingUp g (t ∷ ts) f = StopsAdding g t f ⊎ ((next : Graph) × Adds g t next × StopsAddingUp next ts f)
 
--- Why there is no graph of the profile: its texts are not added up, or the input belongs to them and is not read.
+-- Why there is no graph of the profile: its texts are not added up; or its files are, and the input, which belongs to
+-- them, is not read.
 abbrev pub StopsProfile : List Text → Bool → List ℕ → Fault → Type 0
-StopsProfile ts reads_input known f =
-    StopsAddingUp default (later_texts ts reads_input known) f ⊎ ((reads_input ≡ true) × (f ≡ Reading Input))
+StopsProfile ts reads_input known f = StopsAddingUp default (later_texts ts reads_input known) f
+    ⊎ ((h : Graph) × AddUp (map sourced ts) h × (reads_input ≡ true) × (f ≡ Reading Input))
 
--- Why nothing is made of the graphs of all texts: memory runs out, or a change is asked for, and their bytes together
--- exceed a word.
-abbrev pub StopsWriting : Arguments → List Text → List Sourced → Fault → Type 0
-StopsWriting asked before after f = (g : Graph) × (h : Graph) × AddUp (map sourced before) g × AddUp after h
-    × StopsJoining (cond (asked.as_text || (length before == 0)) 0 (total g + total h)) f
+-- Why nothing is made of the graph g of the earlier texts and of that of the others: memory runs out, or a change is
+-- asked for, and their bytes together exceed a word.
+abbrev pub StopsWriting : Bool → Graph → List Sourced → Fault → Type 0
+StopsWriting is_alone g after f =
+    (h : Graph) × AddUp after h × StopsJoining (cond is_alone 0 (total g + total h)) f
 
--- Why nothing is made: there is no graph of the earlier texts, or none of the profile, or nothing is made of them.
+-- Why nothing is made: the earlier texts are not added up; or they are, and there is no graph of the profile, or
+-- nothing is made of both. So the first fault in the order of the texts is told.
 abbrev pub Stops : Arguments → List Text → List Text → List ℕ → Fault → Type 0
 Stops asked before after known f = StopsAddingUp default (map sourced before) f
-    ⊎ (StopsProfile after asked.reads_input known f
-    ⊎ StopsWriting asked before (later_texts after asked.reads_input known) f)
+    ⊎ ((g : Graph) × AddUp (map sourced before) g × (StopsProfile after asked.reads_input known f
+    ⊎ StopsWriting (asked.as_text || (length before == 0)) g (later_texts after asked.reads_input known) f))
 
 -- The status is that of a fault which stops the run.
 abbrev pub IsStopped : Arguments → List Text → List Text → List ℕ → ℕ → Type 0

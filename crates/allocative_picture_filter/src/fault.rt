@@ -42,6 +42,7 @@ impl Fault<'_> {
     {
         match self {
             Fault::Memory => 1,
+            Fault::Line(_, _, LineFault::TooLarge) => 4,
             Fault::Line(_, _, _) => 2,
             Fault::NotText(_) => 3,
             Fault::TooLarge => 4,
@@ -66,6 +67,12 @@ impl fmt::Display for Fault<'_> {
     fn fmt<W: fmt::Write>(&self, f: &mut fmt::Formatter<W>) -> fmt::Result {
         match *self {
             Fault::Memory => write!(f, "out of memory"),
+            Fault::Line(source, number, LineFault::TooLarge) => {
+                write!(
+                    f,
+                    "line {number} of {source} has a number that does not fit"
+                )
+            }
             Fault::Line(source, number, LineFault::TooDeep) => {
                 write!(f, "line {number} of {source} has more than {LEVELS} keys")
             }

@@ -1,10 +1,9 @@
 //! The whole program, over any reader and two writers.
 ghost use Rattle.std.specs.Prelude.{◌≡◌, ◌≢◌, ◌⊎◌, ℕ, OnOk, IfOk, IfErr, IfSome, List, map, string_bytes};
 ghost use Rattle.std.specs.Io.KnownBytes.{Appends};
-ghost use Rattle.allocative_graph.specs.Graph.{Graph, default, sum_of};
-ghost use Rattle.allocative_graph.specs.Read.{IsRead};
+ghost use Rattle.allocative_graph.specs.Graph.{default};
 ghost use Rattle.allocative_picture_filter.specs.Fault.{status_of};
-ghost use Rattle.allocative_picture_filter.specs.Run.{sourced, later_texts, AddUp, StopsReading, StopsAdding, StopsAddingUp, StopsProfile, Stops, IsMade, IsStopped};
+ghost use Rattle.allocative_picture_filter.specs.Run.{sourced, without_mark, later_texts, Reads, Adds, AddUp, StopsReading, StopsAdding, StopsAddingUp, StopsProfile, Stops, IsMade, IsStopped};
 
 use crate::arguments::Arguments;
 use crate::fault::{Fault, Source};
@@ -21,18 +20,29 @@ use std::io::{ErrorKind, Read, Write};
 pub struct Text<'a> {
     /// Where the text comes from.
     pub source: Source<'a>,
-    /// The bytes.
+    /// The bytes, without a byte-order mark at their beginning.
     pub bytes: &'static [u8],
 }
 
-/// Reads all bytes of a reader. It fails with `Fault::Reading` if a read fails. The only other error is
+// The bytes behind a byte-order mark at their beginning, or all of them where there is none.
+fn without_mark(bytes: &'static [u8]) -> &'static [u8]
+    ensures { result.now ≡ without_mark bytes.now }
+{
+    if bytes.starts_with(b"\xEF\xBB\xBF") {
+        &bytes[3..]
+    } else {
+        bytes
+    }
+}
+
+/// Reads all bytes of a reader, and leaves out a byte-order mark at their beginning. It fails with `Fault::Reading` if a read fails. The only other error is
 /// `Fault::Memory`. An interrupted read is repeated.
 pub fn read_text<'a, R: Read>(
     alloc: Global,
     source: Source<'a>,
     input: &mut R,
 ) -> Result<Text<'a>, Fault<'a>>
-    ensures ok { IfOk result (λ text. IfSome (R.remaining input.old) (λ known. text.bytes.now ≡ known)) }
+    ensures ok { IfOk result (λ text. IfSome (R.remaining input.old) (λ known. text.bytes.now ≡ without_mark known)) }
     ensures source { IfOk result (λ text. text.source ≡ source.entry) }
     ensures err { IfErr result (λ f. (f ≡ Fault.Memory) ⊎ (f ≡ Fault.Reading source.entry)) }
 {
@@ -43,7 +53,7 @@ pub fn read_text<'a, R: Read>(
             Ok(0) => {
                 return Ok(Text {
                     source,
-                    bytes: bytes.leak(),
+                    bytes: without_mark(bytes.leak()),
                 });
             }
             Ok(count) => bytes.extend_from_slice(&piece[..count])?,
@@ -86,7 +96,7 @@ pub fn show_usage<W: Write, E: Write>(output: &mut W, errors: &mut E) -> u8 {
 
 // The graph of a text.
 fn graph_of<'a>(alloc: Global, text: &Text<'a>) -> Result<FlameGraph, Fault<'a>>
-    ensures ok { IfOk result (IsRead text.now.bytes.now) }
+    ensures ok { IfOk result (Reads (sourced text.now)) }
     ensures stops { IfErr result (StopsReading (sourced text.now)) }
 {
     let Ok(lines) = str::from_utf8(text.bytes) else {
@@ -102,7 +112,7 @@ fn graph_of<'a>(alloc: Global, text: &Text<'a>) -> Result<FlameGraph, Fault<'a>>
 
 // Adds the graph of a text to another.
 fn add_text<'a>(alloc: Global, text: &Text<'a>, graph: &mut FlameGraph) -> Result<(), Fault<'a>>
-    ensures ok { OnOk result ((read : Graph) × IsRead text.now.bytes.now read × (graph.new ≡ sum_of graph.old read)) }
+    ensures ok { OnOk result (Adds graph.old (sourced text.now) graph.new) }
     ensures stops { IfErr result (StopsAdding graph.old (sourced text.now)) }
 {
     graph.add(graph_of(alloc, text)?)?;
@@ -175,11 +185,12 @@ fn make<'a, R: Read>(
 ///
 /// With status 0 what the arguments ask for is on the output: the picture of the graph that all texts add up to, that of
 /// the change to it from the graph of the earlier texts, or its text. With any other status the line of the fault goes
-/// to the errors, and nothing goes to the output, except for status 7. The status says why:
+/// to the errors, and nothing goes to the output, except for status 7. The earlier texts are added up first, then the
+/// others, and the input last. The status is that of the first fault:
 /// - 1 that memory runs out,
-/// - 2 that a line of one of the texts is not a path, a space and a number of bytes, or has too many keys,
-/// - 3 that one of the texts is not UTF-8,
-/// - 4 that the bytes of a text, of some texts together, or of both graphs of a change exceed `usize::MAX`,
+/// - 2 that a line of a text is not a path, a space and a number of bytes, or has too many keys,
+/// - 3 that a text is not UTF-8,
+/// - 4 that a number, the bytes of a text, of some texts together, or of both graphs of a change exceed `usize::MAX`,
 /// - 6 that the input is not read,
 /// - 7 that all this is made, and cannot be written.
 pub fn run<'a, R: Read, W: Write, E: Write>(

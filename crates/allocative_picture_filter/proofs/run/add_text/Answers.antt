@@ -1,4 +1,4 @@
-use Rattle.std.proofs.Common.{◌+◌, inl, inr}
+use Rattle.std.proofs.Common.{◌+◌, ◌^◌, ◌≤◌, inl, inr, arith}
 use Rattle.allocative_picture_filter.proofs.Common.{total}
 use Rattle.allocative_picture_filter.proofs.Faults.{stops-joining, holds-of}
 use Rattle.allocative_picture_filter.proofs.run.add_text.Goals as goal
@@ -14,4 +14,11 @@ returns-in_err-add-clause-stops c =
     (inr (read, c.in_ok-graph_of.ensures.ok, stops-joining (total c.args.graph.now + total read) c.in_err-add.field-0.0 c.in_err-add.ensures.too_large.0))
 
 pub returns-clause-ok : goal.returns-clause-ok
-returns-clause-ok c = (c.in_ok-graph_of.field-0, c.in_ok-graph_of.ensures.ok, c.in_ok-add.ensures.sum)
+returns-clause-ok c =
+    let read = c.in_ok-graph_of.field-0 in
+    let added : 2 ^ 64 ≤ total c.args.graph.now + total read → ⊥ = λ exceeds. let refused = c.in_ok-add.ensures.too_large.1 exceeds in cc in record {
+      read = read;
+      reads = c.in_ok-graph_of.ensures.ok;
+      fits = omega (arith, added);
+      is = c.in_ok-add.ensures.sum;
+    }

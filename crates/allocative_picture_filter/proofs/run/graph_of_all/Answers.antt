@@ -5,9 +5,7 @@ use Rattle.allocative_picture_filter.proofs.Sums.{add-more, stops-at}
 use Rattle.allocative_picture_filter.proofs.run.graph_of_all.Goals as goal
 
 pub loop-text-preserved : goal.loop-text-preserved
-loop-text-preserved c =
-    let added = c.in_ok-add_text.ensures.ok in
-    add-more c.args.texts.now c.loop-text.text-index _ c.loop-text.graph _ added.0 (omega arith) c.loop-text.invariant added.1 added.2
+loop-text-preserved c = add-more c.args.texts.now c.loop-text.text-index _ c.loop-text.graph _ (omega arith) c.loop-text.invariant c.in_ok-add_text.ensures.ok
 
 pub returns-in_err-add_text-clause-stops : goal.returns-in_err-add_text-clause-stops
 returns-in_err-add_text-clause-stops c =

@@ -3,6 +3,7 @@ use Rattle.allocative_picture_filter.proofs.Common.{default, sourced}
 use Rattle.std.proofs.lemmas.Option.{IfSome_then}
 use Rattle.allocative_picture_filter.proofs.Faults.{of_each, holds-of}
 use Rattle.allocative_picture_filter.proofs.Sums.{add-push, stops-files, stops-input, stops-unread}
+use Rattle.allocative_picture_filter.specs.Run.{without_mark}
 use Rattle.allocative_picture_filter.specs.declared.fault.Source.TheVariants.{Input}
 use Rattle.allocative_picture_filter.proofs.run.later_graph.Goals as goal
 
@@ -23,7 +24,6 @@ returns-in_err-add_text-clause-stops g c =
 
 pub returns-clause-ok : goal.returns-clause-ok
 returns-clause-ok g c =
-    let added = c.in_ok-add_text.ensures.ok in
     IfSome_then (g.R.Read.remaining c.args.input.now) c.in_ok-text.ensures.ok
     (λ known e. rw c.if-not-reads_input.false
-    (add-push default (map sourced c.args.texts.now) (Input, known) c.in_ok-graph.graph c.add_text.new.graph added.0 c.in_ok-graph.ensures.ok (rw e at added.1) added.2))
+    (add-push default (map sourced c.args.texts.now) (Input, without_mark known) c.in_ok-graph.graph c.add_text.new.graph c.in_ok-graph.ensures.ok (rw (c.in_ok-text.ensures.source, e) at c.in_ok-add_text.ensures.ok)))

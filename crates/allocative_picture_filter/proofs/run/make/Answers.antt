@@ -11,25 +11,25 @@ returns-in_err-earlier-clause-stops g c =
 
 pub returns-in_err-later-clause-stops : goal.returns-in_err-later-clause-stops
 returns-in_err-later-clause-stops g c =
-    holds-of c.from_residual-in_err-later.result _ _ c.from_residual-in_err-later.ensures.1 (IfSome_then (g.R.Read.remaining c.args.input.now) c.in_err-later.ensures.stops (λ known h. inr (inl h)))
+    holds-of c.from_residual-in_err-later.result _ _ c.from_residual-in_err-later.ensures.1 (IfSome_then (g.R.Read.remaining c.args.input.now) c.in_err-later.ensures.stops (λ known h. inr (c.in_ok-earlier.earlier, c.in_ok-earlier.ensures.ok, inl h)))
 
 pub returns-in_err-write-clause-stops : goal.returns-in_err-write-clause-stops
 returns-in_err-write-clause-stops g c =
     holds-of c.from_residual-in_err-write.result _ _ c.from_residual-in_err-write.ensures.1
     (rw c.in_err-write.ensures.memory (IfSome_then (g.R.Read.remaining c.args.input.now) c.in_ok-later.ensures.ok
-    (λ known up. inr (inr (c.in_ok-earlier.earlier, c.in_ok-later.later, c.in_ok-earlier.ensures.ok, up, tt)))))
+    (λ known up. inr (c.in_ok-earlier.earlier, c.in_ok-earlier.ensures.ok, inr (c.in_ok-later.later, up, tt)))))
 
 pub returns-in_err-picture-clause-stops : goal.returns-in_err-picture-clause-stops
 returns-in_err-picture-clause-stops g c =
     holds-of c.from_residual-in_err-picture.result _ _ c.from_residual-in_err-picture.ensures.1
     (rw c.in_err-picture.ensures.memory (IfSome_then (g.R.Read.remaining c.args.input.now) c.in_ok-later.ensures.ok
-    (λ known up. inr (inr (c.in_ok-earlier.earlier, c.in_ok-later.later, c.in_ok-earlier.ensures.ok, up, tt)))))
+    (λ known up. inr (c.in_ok-earlier.earlier, c.in_ok-earlier.ensures.ok, inr (c.in_ok-later.later, up, tt)))))
 
 pub returns-in_err-change_picture-clause-stops : goal.returns-in_err-change_picture-clause-stops
 returns-in_err-change_picture-clause-stops g c =
     let joins = stops-joining (total c.in_ok-earlier.earlier + total c.in_ok-later.later) c.in_err-change_picture.field-0.0 c.in_err-change_picture.ensures.too_large.0 in
     holds-of c.from_residual-in_err-change_picture.result _ _ c.from_residual-in_err-change_picture.ensures.1 (IfSome_then (g.R.Read.remaining c.args.input.now) c.in_ok-later.ensures.ok
-    (λ known up. inr (inr (c.in_ok-earlier.earlier, c.in_ok-later.later, c.in_ok-earlier.ensures.ok, up, rw (c.if-asked.false, sym c.is_empty.ensures ∙ c.if-is_empty.false) joins))))
+    (λ known up. inr (c.in_ok-earlier.earlier, c.in_ok-earlier.ensures.ok, inr (c.in_ok-later.later, up, rw (c.if-asked.false, sym c.is_empty.ensures ∙ c.if-is_empty.false) joins))))
 
 pub returns-then-asked-clause-ok : goal.returns-then-asked-clause-ok
 returns-then-asked-clause-ok g c =
