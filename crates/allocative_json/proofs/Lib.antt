@@ -2,4 +2,5 @@ pub mod Common
 pub mod NumbersLemmas
 pub mod Reports
 pub mod LinesLemmas
+pub mod Writes
 pub mod WordsLemmas

@@ -1,5 +1,5 @@
 -- How reports of roots are reports of an input, and how their errors are those of a run.
-use Rattle.std.proofs.Common.{◌≡◌, ℕ, ◌<◌, ℤ, length, arith, Bool, true, List, [], ◌∷◌, Option, None, Some, Result, Ok, Err, IfOk, IfErr, IsErrAnd, IsOkAnd, IfSome, MatchResult, refl, ap, ◌∙◌, sym, subst}
+use Rattle.std.proofs.Common.{◌≡◌, ℕ, ◌<◌, ℤ, length, arith, Bool, true, List, [], ◌∷◌, Option, None, Some, Result, Ok, Err, IfOk, IfErr, IsErrAnd, IfSome, MatchResult, refl, ap, ◌∙◌, sym, subst}
 use Rattle.allocative_json.proofs.Common.{BTreeSet, view, Value, Showing, roots_show, Word, AreWords}
 use Rattle.std.specs.List.{list_all}
 use Rattle.std.proofs.lemmas.Result.{IfOk-weaker, IfErr-weaker}
@@ -8,7 +8,7 @@ use Rattle.serde_json.specs.Read.{read}
 use Rattle.serde_json.proofs.OnLiterals.{serde_json_on_literals}
 use Rattle.allocative.specs.Refusal.{Refusal}
 use Rattle.allocative.specs.Refusal.TheVariants as refused
-use Rattle.allocative_json.specs.Fault.{status_of, fault_of}
+use Rattle.allocative_json.specs.Fault.{fault_of}
 use Rattle.allocative.specs.Forest.{Forest, followed_by}
 use Rattle.allocative.specs.Shows.{Nothing, Both, each_shows}
 use Rattle.allocative.specs.Collector.{Kind, OfGraph, begin, no_entries}
@@ -22,7 +22,7 @@ use Rattle.allocative_json.specs.declared.printed.Report.{Report}
 use Rattle.allocative_json.specs.declared.words.Words.{Words}
 use Rattle.allocative_json.specs.Profile.{AreTexts, IsReportOf, IsRightReport, RefusesRoots, RefusesReport}
 use Rattle.allocative_json.specs.Roots.{IsWholeDocument, AreRoots}
-use Rattle.allocative_json.specs.Run.{IsReportFor, IsWritten, IsReported, EndsWell, MayEndRun}
+use Rattle.allocative_json.specs.Run.{IsReportFor, MayEndRun}
 use Rattle.allocative_json.specs.Words.{Asks}
 
 -- ---- reports of roots
@@ -128,19 +128,5 @@ refused_run texts known input asked f w a e h = record { words = w; asked = aske
 
 pub refuses_run : {T : Type 0} (texts : List Word) (known : Option (List ℕ)) (input : List ℕ) (asked : Words) (r : Result T Fault) → AreWords texts → Asks texts asked → IfSome known (λ bytes. input ≡ bytes) → IfErr r (RefusesReport input asked.index) → IfErr r (MayEndRun texts known)
 refuses_run texts known input asked r w a e = IfErr-weaker r _ _ (λ f h. refused_run texts known input asked f w a e h)
-
--- ---- how a run ends
-pub ends_well : (texts : List Word) (known output output' errors errors' : Option (List ℕ)) (made : Result Report Fault) → IfOk made (IsReportFor texts known) → IsOkAnd made (IsWritten output output' errors errors') → EndsWell texts known output output' errors errors'
-ends_well texts known output output' errors errors' (Ok m) h w = record { made = m; report = h; written = w }
-ends_well texts known output output' errors errors' (Err f) h w = absurd w
-
-no_fault_of_writing : (texts : List Word) (known : Option (List ℕ)) (f : Fault) → status_of f ≡ 7 → MayEndRun texts known f → ⊥
-no_fault_of_writing texts known Writing e h = h
-no_fault_of_writing texts known f e h = omega (arith, e)
-
--- A write fails only where there is a report to write.
-pub is_reported : (texts : List Word) (known : Option (List ℕ)) (made : Result Report Fault) (status : ℕ) → IfOk made (IsReportFor texts known) → IfErr made (MayEndRun texts known) → IfErr made (λ f. status ≡ status_of f) → status ≡ 7 → IsReported texts known
-is_reported texts known (Ok m) status h k e i = record { made = m; report = h }
-is_reported texts known (Err f) status h k e i = absurd (no_fault_of_writing texts known f (sym e ∙ i) k)
 
 pub ruleset reporting = (report_made, refused_profile, refused_texts)

@@ -1,5 +1,5 @@
--- The status of each fault, and the fault of each refusal.
-use Rattle.std.specs.Prelude.{ℕ}
+-- The status and the line of each fault, and the fault of each refusal.
+use Rattle.std.specs.Prelude.{ℕ, List, ◌++◌, codes}
 use Rattle.allocative.specs.Refusal.{Refusal}
 use Rattle.allocative.specs.Refusal.TheVariants as refused
 use Rattle.allocative_json.specs.declared.fault.Fault.{Fault}
@@ -15,6 +15,21 @@ status_of Words = 5
 status_of Reading = 6
 status_of Writing = 7
 status_of Open = 8
+
+-- The message of a fault.
+abbrev pub message_of : Fault → List ℕ
+message_of Memory = codes "out of memory"
+message_of NotJson = codes "input is not JSON"
+message_of NotWhole = codes "a number is not a 64-bit whole number"
+message_of TooLarge = codes "sizes do not fit"
+message_of Words = codes "unknown or repeated word"
+message_of Reading = codes "cannot read input"
+message_of Writing = codes "cannot write output"
+message_of Open = codes "a visitor was forgotten"
+
+-- The line of a fault on standard error: the name of the program, the message, and a line feed.
+abbrev pub line_of : Fault → List ℕ
+line_of f = codes "allocative-json: " ++ message_of f ++ codes "\n"
 
 -- The fault of a refusal: the one with its name.
 abbrev pub fault_of : Refusal → Fault

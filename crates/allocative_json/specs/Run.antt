@@ -1,12 +1,12 @@
 -- What a whole run does.
-use Rattle.std.specs.Prelude.{◌≡◌, ℕ, ◌<◌, ⊤, List, length, Option, IfSome, string_bytes}
+use Rattle.std.specs.Prelude.{◌≡◌, ℕ, ◌<◌, ⊤, ◌⊎◌, List, ◌++◌, length, Option, IfSome, string_bytes}
 use Rattle.std.specs.Io.KnownBytes.{Appends}
 use Rattle.allocative_json.specs.declared.fault.Fault.{Fault}
 use Rattle.allocative_json.specs.declared.fault.Fault.TheVariants.{Memory, Reading, Writing, Open}
 use Rattle.allocative_json.specs.declared.fault.Fault.TheVariants as fault
 use Rattle.allocative_json.specs.declared.printed.Report.{Report}
 use Rattle.allocative_json.specs.declared.words.Words.{Words}
-use Rattle.allocative_json.specs.Fault.{status_of}
+use Rattle.allocative_json.specs.Fault.{status_of, line_of}
 use Rattle.allocative_json.specs.Profile.{IsRightReport, RefusesReport}
 use Rattle.allocative_json.specs.Words.{Word, AreWords, Asks}
 
@@ -19,21 +19,42 @@ pub record IsReportFor (texts : List Word) (known : Option (List ℕ)) (made : R
   pub is_read : IfSome known (λ bytes. input ≡ bytes)
   pub right : IsRightReport input asked.index asked.exact made
 
+-- What is written of a text, all but its rest, follows what the writer held, where that is known.
+pub record IsWrittenUpTo (old new : Option (List ℕ)) (text rest : List ℕ) : Type 0 where
+  pub written : List ℕ
+  pub split : text ≡ written ++ rest
+  pub follows : Appends old new written
+
+-- A beginning of a text, maybe all of it or nothing, follows what the writer held, where that is known.
+abbrev pub AppendsBeginning : Option (List ℕ) → Option (List ℕ) → List ℕ → Type 0
+AppendsBeginning old new text = (rest : List ℕ) × IsWrittenUpTo old new text rest
+
 -- The report follows what the two writers held, where that is known.
 pub record IsWritten (output output' errors errors' : Option (List ℕ)) (made : Report) : Type 0 where
   pub profile : Appends output output' (string_bytes made.profile)
   pub warnings : Appends errors errors' (string_bytes made.warnings)
 
--- Some report is right for what is read.
-pub record IsReported (texts : List Word) (known : Option (List ℕ)) : Type 0 where
-  pub made : Report
-  pub report : IsReportFor texts known made
+-- A beginning of the profile follows what the output held, and the errors are as they were; or all of the profile, and a
+-- beginning of the warnings follows what the errors held.
+abbrev pub IsBegun : Option (List ℕ) → Option (List ℕ) → Option (List ℕ) → Option (List ℕ) → Report → Type 0
+IsBegun output output' errors errors' made =
+    (AppendsBeginning output output' (string_bytes made.profile) × (errors' ≡ errors))
+    ⊎ (Appends output output' (string_bytes made.profile) × AppendsBeginning errors errors' (string_bytes made.warnings))
 
 -- A report is right for what is read, and follows what the two writers held.
 pub record EndsWell (texts : List Word) (known output output' errors errors' : Option (List ℕ)) : Type 0 where
   pub made : Report
   pub report : IsReportFor texts known made
   pub written : IsWritten output output' errors errors' made
+
+-- A report is right for what is read, and a beginning of it follows what the two writers held. A beginning of the line of a
+-- failed write follows what the errors then hold.
+pub record EndsCutOff (texts : List Word) (known output output' errors errors' : Option (List ℕ)) : Type 0 where
+  pub made : Report
+  pub report : IsReportFor texts known made
+  pub warned : Option (List ℕ)
+  pub begun : IsBegun output output' errors warned made
+  pub told : AppendsBeginning warned errors' (line_of Writing)
 
 -- The faults that reading the input may return: Memory only where the input is not empty; or Reading.
 abbrev pub StopsReading : Option (List ℕ) → Fault → Type 0
@@ -57,8 +78,10 @@ MayEndRun texts known Writing = ⊥
 MayEndRun texts known Open = ⊥
 MayEndRun texts known f = IsRefused texts known f
 
--- The status is that of a fault that may end the run before anything is written.
-pub record EndsIn (texts : List Word) (known : Option (List ℕ)) (status : ℕ) : Type 0 where
+-- The status is that of a fault that may end the run before anything is written, and a beginning of its line follows what
+-- the errors held.
+pub record EndsIn (texts : List Word) (known errors errors' : Option (List ℕ)) (status : ℕ) : Type 0 where
   pub cause : Fault
   pub is_status : status ≡ status_of cause
   pub refuses : MayEndRun texts known cause
+  pub told : AppendsBeginning errors errors' (line_of cause)

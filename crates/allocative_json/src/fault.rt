@@ -1,37 +1,30 @@
 //! Why a run fails.
 ghost use Rattle.std.specs.Prelude.{◌≡◌};
-ghost use Rattle.allocative_json.specs.Fault.{status_of};
+ghost use Rattle.allocative_json.specs.Fault.{status_of, message_of};
 
 use allocative::Refusal;
 use std::alloc::{AllocError, AllocFailed};
-use thiserror::Error;
+use std::error::Error;
+use std::fmt;
 
-/// Why a run failed. `Display` writes the message for standard error, without the program's name.
-#[derive(Clone, Copy, Debug, PartialEq, Eq, Error)]
+/// Why a run failed.
+#[derive(Clone, Copy, Debug, PartialEq, Eq)]
 pub enum Fault {
     /// Memory ran out.
-    #[error("out of memory")]
     Memory,
     /// The input is not JSON.
-    #[error("input is not JSON")]
     NotJson,
     /// The document has a number that is neither an i64 nor a u64.
-    #[error("a number is not a 64-bit whole number")]
     NotWhole,
     /// The declared sizes exceed their bound.
-    #[error("sizes do not fit")]
     TooLarge,
     /// A word is unknown or repeated.
-    #[error("unknown or repeated word")]
     Words,
     /// A read failed.
-    #[error("cannot read input")]
     Reading,
     /// A write failed.
-    #[error("cannot write output")]
     Writing,
     /// A visitor was entered but neither left nor dropped.
-    #[error("a visitor was forgotten")]
     Open,
 }
 
@@ -51,7 +44,36 @@ impl Fault {
             Fault::Open => 8,
         }
     }
+
+    /// The message for standard error, without the program's name.
+    pub fn message(self) -> &'static str
+        ensures { result.now ≡ message_of self }
+    {
+        match self {
+            Fault::Memory => "out of memory",
+            Fault::NotJson => "input is not JSON",
+            Fault::NotWhole => "a number is not a 64-bit whole number",
+            Fault::TooLarge => "sizes do not fit",
+            Fault::Words => "unknown or repeated word",
+            Fault::Reading => "cannot read input",
+            Fault::Writing => "cannot write output",
+            Fault::Open => "a visitor was forgotten",
+        }
+    }
 }
+
+impl fmt::Display for Fault {
+    ghost use Rattle.std.specs.Prelude.{Some};
+    ghost use Rattle.allocative_json.specs.Fault.{message_of};
+
+    ghost output = { λ f. Some (message_of f) };
+
+    fn fmt<W: fmt::Write>(&self, f: &mut fmt::Formatter<W>) -> fmt::Result {
+        f.write_str(self.message())
+    }
+}
+
+impl Error for Fault {}
 
 impl From<Refusal> for Fault {
     ghost use Rattle.std.specs.Prelude.{◌≡◌};

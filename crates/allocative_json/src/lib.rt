@@ -2,7 +2,6 @@
 //! two writers.
 #![tactic(auto)]
 
-mod cause;
 pub mod fault;
 pub mod printed;
 pub mod profile;

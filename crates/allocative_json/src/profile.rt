@@ -92,8 +92,10 @@ pub(crate) fn report_by_registry(
 /// by their own `visit`.
 ///
 /// It returns `Fault::NotJson` and `Fault::NotWhole` where `read_roots` does, and `Fault::TooLarge` only where the
-/// numbers of the document are whole and the declared sizes of the roots exceed the bound of a flame graph. Otherwise
-/// the error is `Fault::Memory`, which an empty input never causes.
+/// numbers of the document are whole and the sizes of the roots exceed the bound of a flame graph, with some room in its
+/// texts and arrays. No contract of `serde_json` bounds the room that its reader leaves. So the clause says nothing of
+/// `Fault::TooLarge` for a document with a text, an array or a member of an object. Otherwise the error is
+/// `Fault::Memory`, which an empty input never causes.
 #[tactic(auto, using(crate::proofs::Reports::refused_report))]
 pub fn profile_json(alloc: Global, input: &[u8], index: bool, exact: bool) -> Result<Report, Fault>
     ensures ok { IfOk result (IsRightReport input.now index exact) }

@@ -1,5 +1,5 @@
 //! Reads a document and its numbers.
-ghost use Rattle.std.specs.Prelude.{◌≡◌, OnOk, IfOk, IfErr};
+ghost use Rattle.std.specs.Prelude.{◌≡◌, true, false, OnOk, IfOk, IfErr, MatchResult};
 ghost use Rattle.std.specs.Ordering.{int_cmp};
 ghost use Rattle.std.specs.BTreeSet.{IsOrdered};
 ghost use Rattle.serde_json.specs.View.{view, items_view, members_view};
@@ -45,6 +45,18 @@ fn are_whole_members(members: &Map<String, Value>) -> bool
     all_whole
 }
 
+// Fails with `Fault::NotWhole` exactly where a number of the document is neither an i64 nor a u64.
+fn check_numbers(document: &Value) -> Result<(), Fault>
+    ensures { MatchResult result (λ _. is_whole (view document.now) ≡ true)
+        (λ f. (f ≡ Fault.NotWhole) × (is_whole (view document.now) ≡ false)) }
+{
+    if is_whole_value(document) {
+        Ok(())
+    } else {
+        Err(Fault::NotWhole)
+    }
+}
+
 // Adds each whole number of the document to the set.
 #[cycle(numbers)]
 fn add_numbers(value: &Value, set: &mut BTreeSet<i128>) -> Result<(), AllocError>
@@ -66,7 +78,8 @@ fn add_numbers(value: &Value, set: &mut BTreeSet<i128>) -> Result<(), AllocError
 
 #[cycle(numbers)]
 fn add_items(items: &Vec<Value>, set: &mut BTreeSet<i128>) -> Result<(), AllocError>
-    ensures keys { OnOk result (AddsKeys (items_have (items_view items.now.items)) set.old set.new) }
+    ensures keys { OnOk result
+        (AddsKeys (items_have (items_view items.now.items)) set.old set.new) }
     ensures ordered { IsOrdered int_cmp set.old → IsOrdered int_cmp set.new }
 {
     for item in items {
@@ -77,7 +90,8 @@ fn add_items(items: &Vec<Value>, set: &mut BTreeSet<i128>) -> Result<(), AllocEr
 
 #[cycle(numbers)]
 fn add_members(members: &Map<String, Value>, set: &mut BTreeSet<i128>) -> Result<(), AllocError>
-    ensures keys { OnOk result (AddsKeys (members_have (members_view members.now.entries)) set.old set.new) }
+    ensures keys { OnOk result
+        (AddsKeys (members_have (members_view members.now.entries)) set.old set.new) }
     ensures ordered { IsOrdered int_cmp set.old → IsOrdered int_cmp set.new }
 {
     for (_key, member) in members.iter() {
@@ -111,9 +125,7 @@ pub fn read_roots(
     ensures err { IfErr result (RefusesInput input.now) }
 {
     let document = Value::from_slice(alloc, input)?;
-    if !is_whole_value(&document) {
-        return Err(Fault::NotWhole);
-    }
+    check_numbers(&document)?;
     let set = if index {
         Some(index_of(alloc, &document)?)
     } else {
