@@ -2,7 +2,7 @@
 use Rattle.std.proofs.Common.{◌≡◌, ℕ, Bool, true, false, ◌&&◌, Option, Some, None, Result, inl, inr, Ok, Err, refl}
 use Rattle.allocative.proofs.Common.{Refusal, TooLarge, Key, Identity, Forest, Showing, Nothing, Both, InsideAs, Inside, InsideUnique, Field, IsField, sized, SharedWith, IsDeclared, Visitor, Visited, Entered, Means, OnlyIf}
 use Rattle.std.proofs.lemmas.Bool.{false≢true, and_parts, and_from}
-use Rattle.allocative.specs.Visited.{Refused}
+use Rattle.allocative.specs.Visited.{AnyEffect, Refused}
 use Rattle.allocative.proofs.Exact.{declared_first, declared_second, declared_both, declared_inside, declared_entry, declared_content, declared_shared, rightly_nothing, rightly_weaker, rightly_undeclared, inexact}
 use Rattle.allocative.proofs.Visits.{shows_weaker, shows_nothing, shows_refused}
 
@@ -94,22 +94,22 @@ pub entered_loosely : {e : Bool} {p : Showing} {a b : Visitor} {r : Result (Unit
 entered_loosely h = entered_if h exact_never means_same
 
 -- A part that was entered is the visit of a value, exact where the part is.
-pub visited_as : {d : Bool} {p q : Showing} {a b : Visitor} {r : Result (Unit {0}) Refusal} → Entered d p a b r → Means d p q → Visited d q a b r
+pub visited_as : {d : Bool} {p q : Showing} {a b : Visitor} {r : Result (Unit {0}) Refusal} → Entered d p a b r → Means d p q → Visited d q AnyEffect a b r
 visited_as h m =
     let w = entered_as h m in
-    record { same_reference = w.same_reference; same_outer = w.same_outer; shown = w.shown; rightly = w.rightly }
+    record { same_reference = w.same_reference; same_outer = w.same_outer; shown = w.shown; rightly = w.rightly; takes_effect = tt }
 
 -- An exact part is the visit of a value that need not be. Search needs the two flags as they are.
-pub visited_of_exact : {p q : Showing} {a b : Visitor} {r : Result (Unit {0}) Refusal} → Entered true p a b r → Means false p q → Visited false q a b r
+pub visited_of_exact : {p q : Showing} {a b : Visitor} {r : Result (Unit {0}) Refusal} → Entered true p a b r → Means false p q → Visited false q AnyEffect a b r
 visited_of_exact h m = visited_as (entered_loosely h) m
 
 -- The visit of a value that is exact only where the part is.
-pub visited_if : {d e : Bool} {p q : Showing} {a b : Visitor} {r : Result (Unit {0}) Refusal} → Entered e p a b r → OnlyIf d e → Means d p q → Visited d q a b r
+pub visited_if : {d e : Bool} {p q : Showing} {a b : Visitor} {r : Result (Unit {0}) Refusal} → Entered e p a b r → OnlyIf d e → Means d p q → Visited d q AnyEffect a b r
 visited_if h o m = visited_as (entered_if h o means_same) m
 
 -- Entering a part that shows exactly p is a visit that shows p.
-pub visited : {x : Bool} {p : Showing} {a b : Visitor} {r : Result (Unit {0}) Refusal} → Entered x p a b r → Visited x p a b r
-visited h = record { same_reference = h.same_reference; same_outer = h.same_outer; shown = h.shown; rightly = h.rightly }
+pub visited : {x : Bool} {p : Showing} {a b : Visitor} {r : Result (Unit {0}) Refusal} → Entered x p a b r → Visited x p AnyEffect a b r
+visited h = record { same_reference = h.same_reference; same_outer = h.same_outer; shown = h.shown; rightly = h.rightly; takes_effect = tt }
 
 -- A call that enters nothing, and one that returns an error by hand.
 pub entered_none : {x : Bool} {p : Showing} (a : Visitor) → Means x Nothing p → Entered x p a a (Ok tt)

@@ -1,6 +1,10 @@
 -- What a visit by a root visitor amounts to.
-use Rattle.std.proofs.Common.{◌≡◌, ℕ, suc, ◌+◌, ◌<◌, List, length, take, get_or, Bool, IsTrue, Result, Ok, Err, refl, ap, sym, subst, ◌∙◌, arith, IfOk}
-use Rattle.allocative.proofs.Common.{Refusal, Forest, followed_by, add_all, held, ShowsNoContent, Kind, OfGraph, OfHeld, State, Failed, Going, leave, plus, Takes, visitors, is_graph, begin, is_in_unique, left, nothing_held, Showing, Both, each_shows, Shows, refused, hidden, forgotten, Leaves, Begins, Settles, Runs, Profile, IsProfileOf, IsHeldSum, MayRefuse, RefusesRightly, has_added, has_refused, RunsRightly}
+use Rattle.std.proofs.Common.{◌≡◌, ℕ, suc, ◌+◌, ◌<◌, ◌≤◌, ◌^◌, inl, inr, Option, Some, None, List, length, take, get_or, Bool, IsTrue, Result, Ok, Err, IsErr, refl, ap, sym, subst, ◌∙◌, arith, IfOk}
+use Rattle.allocative.proofs.Common.{Refusal, TooLarge, Forest, followed_by, add_all, held, ShowsNoContent, Kind, OfGraph, OfHeld, State, Failed, Going, leave, plus, Takes, visitors, is_graph, begin, is_in_unique, left, nothing_held, Showing, Both, each_shows, Shows, refused, hidden, forgotten, Leaves, Begins, Settles, Runs, Profile, IsProfileOf, IsHeldSum, MayRefuse, RefusesRightly, has_added, has_refused, RunsRightly}
+use Rattle.allocative.specs.SizeOf.{AnswersSize, AnswersVisit}
+use Rattle.allocative.specs.Closures.{AnswersSum}
+use Rattle.allocative.proofs.Within.{err_or, same_err}
+use Rattle.allocative.specs.Visited.{Effect, WasVisited, VisitsRoot, not_begun, root_visited}
 use Rattle.allocative_graph.specs.Forest.{met_after, Fits, own, all}
 use Rattle.allocative_graph.specs.Sums.{sums_of}
 use Rattle.allocative_graph.specs.Meaning.{content_of}
@@ -79,6 +83,49 @@ held_by_run p (Going b) (Going c) u n e (z, f, a, t, g) k =
     let g' : c ≡ plus (OfHeld nothing_held) f = rw i at g in
     let k' : n ≡ 0 + (held f + 0) = subst (λ (x : Kind). IsHeldSum (Going x) n) g' k in
     (f, a, t', omega (arith, k'))
+
+-- What is answered of the held bytes that a visit left.
+visit_answered : {p : Showing} {effect : Effect} (answers : State → Result ℕ Refusal → Type 0) {s t : State} {q : Result Unit Refusal} {r : Result ℕ Refusal} →
+    s ≡ Going (OfHeld nothing_held) → VisitsRoot p effect s t q → (Settles t q → answers t r) → AnswersVisit p effect answers r
+visit_answered answers is (not_begun x b) up = absurd ((rw is at b).1 refl)
+visit_answered {p} {effect} answers {r = r} is (root_visited {o = o} {a = a} {c = c} b v l e k) up =
+    let b' : Begins (Going (OfHeld nothing_held)) (Ok o) a = rw is at b in
+    record {
+      after = c;
+      visited = subst (λ (x : State). WasVisited p effect x c) b'.3 v;
+      answer = subst (λ (x : State). answers x r) (left_by l ∙ ap (λ (w : Bool). left w c) (e ∙ b'.2)) (up k);
+    }
+
+pub held_answered : {p : Showing} {effect : Effect} {s t : State} {u : Unit} {n : ℕ} →
+    s ≡ Going (OfHeld nothing_held) → VisitsRoot p effect s t (Ok u) → IsHeldSum t n → AnswersVisit p effect AnswersSum (Ok n)
+held_answered is v h = visit_answered AnswersSum is v (λ k. (k, h))
+
+pub held_refused : {p : Showing} {effect : Effect} {s t : State} {e : Refusal} {r : Result ℕ Refusal} →
+    s ≡ Going (OfHeld nothing_held) → VisitsRoot p effect s t (Err e) → IsErr r → e ≡ err_or e r → AnswersVisit p effect AnswersSum r
+held_refused is v h i = rw (same_err _ h i) (visit_answered AnswersSum is v (λ k. k))
+
+pub size_answered : {p : Showing} {effect : Effect} {size : Option ℕ} {s t : State} {u : Unit} (n : ℕ) {own m : ℕ} →
+    s ≡ Going (OfHeld nothing_held) → VisitsRoot p effect s t (Ok u) → IsHeldSum t n → size ≡ Some own → m ≡ n + own → AnswersVisit p effect (AnswersSize size) (Ok m)
+size_answered {size = size} n {own = own} is v h y e = visit_answered (AnswersSize size) is v (λ k. (n, own, (k, h), y, e))
+
+pub size_refused : {p : Showing} {effect : Effect} {size : Option ℕ} {s t : State} {e : Refusal} {r : Result ℕ Refusal} →
+    s ≡ Going (OfHeld nothing_held) → VisitsRoot p effect s t (Err e) → IsErr r → e ≡ err_or e r → AnswersVisit p effect (AnswersSize size) r
+size_refused {size = size} is v h i = rw (same_err _ h i) (visit_answered (AnswersSize size) is v (λ k. inl k))
+
+pub size_not_there : {p : Showing} {effect : Effect} {size : Option ℕ} {s t : State} {u : Unit} (n : ℕ) →
+    s ≡ Going (OfHeld nothing_held) → VisitsRoot p effect s t (Ok u) → IsHeldSum t n → size ≡ None → AnswersVisit p effect (AnswersSize size) (Err TooLarge)
+size_not_there {size = size} n is v h y = visit_answered (AnswersSize size) is v (λ k. inr (n, (k, h), refl, λ own z. absurd (cc)))
+
+pub size_too_large : {p : Showing} {effect : Effect} {size : Option ℕ} {s t : State} {u : Unit} (n : ℕ) {own : ℕ} →
+    s ≡ Going (OfHeld nothing_held) → VisitsRoot p effect s t (Ok u) → IsHeldSum t n → size ≡ Some own → 2 ^ 64 ≤ n + own → AnswersVisit p effect (AnswersSize size) (Err TooLarge)
+size_too_large {size = size} n {own = own} is v h y l = visit_answered (AnswersSize size) is v (λ k. inr (
+  n,
+  (k, h),
+  refl,
+  λ x z.
+      let same : own ≡ x = cc in
+      rw (← same) l,
+))
 
 -- Two runs are one of all that r allows, where r allows what both show.
 runs_joined : {p q r : Showing} (s m t : State) (u v w : Unit) → ((f : Forest) → Both p q f → r f) → Runs p s (Ok u) m → Runs q m (Ok v) t → Runs r s (Ok w) t

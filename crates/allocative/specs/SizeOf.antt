@@ -1,12 +1,15 @@
 -- What `size_of_unique` returns, and why it is refused.
-use Rattle.std.specs.Prelude.{◌≡◌, ℕ, ◌+◌, ◌<◌, ◌^◌, Bool, IsTrue, Option, Some}
+use Rattle.std.specs.Prelude.{◌≡◌, ℕ, ◌+◌, ◌<◌, ◌≤◌, ◌^◌, ◌⊎◌, Bool, false, IsTrue, Option, Some, Result, Ok, Err}
 use Rattle.allocative_graph.specs.declared.refusal.Refusal.{Refusal}
 use Rattle.allocative_graph.specs.declared.refusal.Refusal.TheVariants.{TooLarge}
 use Rattle.allocative_graph.specs.Forest.{Forest}
 use Rattle.allocative_graph.specs.Held.{held, ShowsNoContent}
-use Rattle.allocative_graph.specs.Collector.{OfHeld, begin, nothing_held}
+use Rattle.allocative_graph.specs.Collector.{State, Going, OfHeld, begin, left, nothing_held}
 use Rattle.allocative_graph.specs.Shows.{Showing}
+use Rattle.allocative_graph.specs.Visits.{Settles}
 use Rattle.allocative.specs.Exact.{CanTake}
+use Rattle.allocative.specs.Closures.{AnswersSum}
+use Rattle.allocative.specs.Visited.{Effect, WasVisited}
 
 -- The bytes of a value: those that it holds, by some forest that p allows, and those of its own declared size.
 abbrev pub IsSizeOfUnique : Option ℕ → Showing → ℕ → Type 0
@@ -30,3 +33,18 @@ CanBeSized size p = CanBeHeld p × (own : ℕ) × (size ≡ Some own) × ((f : F
 -- size.
 abbrev pub MayRefuseSize : Bool → Option ℕ → Showing → Refusal → Type 0
 MayRefuseSize is_exact size p e = IsTrue is_exact → (e ≡ TooLarge) × ¬ CanBeSized size p
+
+-- What is answered of a collector of held bytes and a declared size: the bytes of both; the first cause, or Open where a
+-- visitor is out; or TooLarge, where there is no declared size or it does not fit a word together with the sum.
+abbrev pub AnswersSize : Option ℕ → State → Result ℕ Refusal → Type 0
+AnswersSize size s (Ok n) = (sum own : ℕ) × AnswersSum s (Ok sum) × (size ≡ Some own) × (n ≡ sum + own)
+AnswersSize size s (Err e) = Settles s (Err e) ⊎ ((sum : ℕ) × AnswersSum s (Ok sum) × (e ≡ TooLarge)
+    × ((own : ℕ) → size ≡ Some own → 2 ^ 64 ≤ sum + own))
+
+-- A visit of this effect, which shows p, was made by a root visitor of a collector that holds nothing, and the visitor was
+-- left. The result is what is answered of the collector then.
+pub record AnswersVisit (p : Showing) (effect : Effect) (answers : State → Result ℕ Refusal → Type 0)
+    (result : Result ℕ Refusal) : Type 0 where
+  pub after : State
+  pub visited : WasVisited p effect (Going (begin (OfHeld nothing_held))) after
+  pub answer : answers (left false after) result

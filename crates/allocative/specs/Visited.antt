@@ -1,19 +1,30 @@
 -- What a visit does to the visitor that it was given.
-use Rattle.std.specs.Prelude.{◌≡◌, Bool, IsTrue, Result, Ok, IfErr}
+use Rattle.std.specs.Prelude.{◌≡◌, Bool, IsTrue, Result, Ok, Err, IfErr, ⊤}
 use Rattle.allocative_graph.specs.declared.refusal.Refusal.{Refusal}
 use Rattle.allocative_graph.specs.Forest.{Forest}
 use Rattle.allocative_graph.specs.Shows.{Showing}
 use Rattle.allocative_graph.specs.Collector.{State, failed_with}
-use Rattle.allocative_graph.specs.Visits.{Shows, HasFailed, Begins, Leaves}
+use Rattle.allocative_graph.specs.Visits.{Shows, HasFailed, Begins, Leaves, Settles}
 use Rattle.allocative.specs.declared.visitor.Visitor.{Visitor}
 use Rattle.allocative.specs.Exact.{IsDeclared, RefusesRightly}
 
--- The visitor stays where it was, and its collector was shown what p allows. An exact visit refuses only where it must.
-pub record Visited (is_exact : Bool) (p : Showing) (old new : Visitor) (r : Result (Unit {0}) Refusal) : Type 0 where
+-- What a visit does to its collector: a relation of the collector before, the answer and the collector after.
+abbrev pub Effect : Type 1
+Effect = State → Result (Unit {0}) Refusal → State → Type 0
+
+-- An effect of which nothing is said.
+abbrev pub AnyEffect : Effect
+AnyEffect s r t = ⊤
+
+-- The visitor stays where it was, and its collector was shown what p allows, by a visit of this effect. An exact visit
+-- refuses only where it must.
+pub record Visited (is_exact : Bool) (p : Showing) (effect : Effect) (old new : Visitor) (r : Result (Unit {0}) Refusal)
+    : Type 0 where
   pub same_reference : new.collector.ghost_name ≡ old.collector.ghost_name
   pub same_outer : new.outer_is_unique ≡ old.outer_is_unique
   pub shown : Shows p old.collector.now r new.collector.now
   pub rightly : IsTrue is_exact → RefusesRightly p old.collector.now r new.collector.now
+  pub takes_effect : effect old.collector.now r new.collector.now
 
 -- The visitor stays where it was, its collector was shown what p allows, and an Err is the collector's first cause. What
 -- is exact refuses only where it must.
@@ -40,6 +51,12 @@ collector_of v = v.collector.now
 abbrev pub Exits : Visitor → State → Type 0
 Exits v t = Leaves v.outer_is_unique v.collector.now t
 
+-- A visit of this effect, which shows p, was made at s and left the collector as t.
+pub record WasVisited (p : Showing) (effect : Effect) (s t : State) : Type 0 where
+  pub told : Result (Unit {0}) Refusal
+  pub shown : Shows p s told t
+  pub takes_effect : effect s told t
+
 -- The root visitor v was opened at s.
 abbrev pub BeginsAt : State → Visitor → Type 0
 BeginsAt s v = Begins s (Ok v.outer_is_unique) v.collector.now
@@ -52,3 +69,10 @@ pub record Means (is_exact : Bool) (p q : Showing) : Type 0 where
 -- The first visit is exact only where the second is.
 pub record OnlyIf (is_exact is_exact' : Bool) : Type 0 where
   pub follows : IsTrue is_exact → IsTrue is_exact'
+
+-- A visit of this effect by a root visitor, which shows p: no root visitor could be opened; or it was opened, the visit
+-- was made there, the visitor was left, and the answer is what the collector settles.
+pub data VisitsRoot (p : Showing) (effect : Effect) (s t : State) (r : Result (Unit {0}) Refusal) : Type 0 where
+  not_begun : (e : Refusal) → Settles s (Err e) → VisitsRoot p effect s t r
+  root_visited : {o w : Bool} {a c : State} → Begins s (Ok o) a → WasVisited p effect a c → Leaves w c t → w ≡ o
+      → Settles t r → VisitsRoot p effect s t r

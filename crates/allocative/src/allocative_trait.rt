@@ -1,7 +1,7 @@
 //! The trait of values that show what they hold.
 ghost use Rattle.std.specs.Prelude.{Bool, false};
 ghost use Rattle.allocative_graph.specs.Forest.{Forest};
-ghost use Rattle.allocative.specs.Visited.{Visited};
+ghost use Rattle.allocative.specs.Visited.{Visited, Effect, AnyEffect};
 
 use crate::{Refusal, Visitor};
 
@@ -45,11 +45,15 @@ pub trait Allocative: Drop {
     /// states `true`. One with a parameter states the flags of its parts, joined in their order.
     ghost is_exact: { Bool } = { false };
 
+    /// What more each visit does than `visit` says, as a relation of the collector before, the answer and the collector
+    /// after. A type states one only to promise more. Calls that answer what a visit left name it.
+    ghost effect: { Self → Effect } = { λ value. AnyEffect };
+
     /// Enters what the value holds.
     ///
     /// After `Err` the collector has failed. After `Ok` it has failed (an error was hidden), or has more open
     /// visitors than before (one was forgotten), or has one more forest, which the value may show. A collector
     /// that had failed stays as it was. The visitor stays where it was.
     fn visit(&self, visitor: &mut Visitor<'_>) -> Result<(), Refusal>
-        ensures { Visited is_exact (may_show self.now) visitor.old visitor.new result };
+        ensures { Visited is_exact (may_show self.now) (effect self.now) visitor.old visitor.new result };
 }

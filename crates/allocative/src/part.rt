@@ -82,10 +82,7 @@ impl<'a, T: Allocative> Part for &'a T {
     ghost is_exact = { T.is_exact };
 
     fn enter(self, visitor: &mut Visitor<'_>) -> Result<(), Refusal> {
-        if let Err(refusal) = self.visit(visitor) {
-            return Err(visitor.refuse(refusal));
-        }
-        Ok(())
+        visitor.visit_value(self)
     }
 }
 

@@ -8,7 +8,7 @@ ghost use Rattle.allocative_graph.specs.Visits.{EntersSized, Settles};
 ghost use Rattle.allocative.specs.Lending.{LendsSized, LendsBegun, LendsBegunGraph};
 ghost use Rattle.allocative.specs.Built.{as_graph};
 ghost use Rattle.allocative.specs.Making.{MakesPlan, one};
-ghost use Rattle.allocative.specs.Visited.{Entered, Refused, Exits, BeginsAt, collector_of};
+ghost use Rattle.allocative.specs.Visited.{Entered, WasVisited, Refused, Exits, BeginsAt, collector_of};
 ghost use Rattle.allocative.specs.Nested.{LendsNested, LendsNestedSized, LendsShared, Nests, NestsSized, NestsContent, IsContents, IsRefused, IsRefusedSized};
 ghost use Rattle.allocative.specs.Shared.{AnswersShared, turned, answered};
 ghost use Rattle.std.specs.Borrow.{sem};
@@ -121,8 +121,9 @@ impl Visitor<'_> {
     ///
     /// A collector that has failed returns its first cause. Otherwise the call returns `TooLarge` exactly where
     /// a bound would be exceeded, which is tested before anything is allocated. A flame graph's collector may
-    /// otherwise return `Memory`. After an error the collector has failed. After `Ok` this visitor ends with
-    /// what the nested one leaves; nothing else of it changes.
+    /// otherwise return `Memory`: where memory runs out, or where the graph would have more than 2^32 - 1 paths. After
+    /// an error the collector has failed. After `Ok` this visitor ends with what the nested one leaves; nothing else
+    /// of it changes.
     ///
     /// An implementation of `Allocative` enters a part, such as `Inside`, which the checker follows in every
     /// caller. After this call a caller's proof knows the result and the nested visitor. Of this visitor it
@@ -234,10 +235,24 @@ impl Visitor<'_> {
     /// What an object shows. This is the only call through the `dyn`, whose clauses callers cite. It is exact where the
     /// type of the object is.
     pub(crate) fn visit_object(&mut self, object: &dyn Allocative) -> Result<(), Refusal>
-        ensures { Entered (⟦<dyn Allocative as Allocative>⟧ object.now.0).is_exact
+        ensures entered { Entered (⟦<dyn Allocative as Allocative>⟧ object.now.0).is_exact
             (may_show object.now) self.old self.new result }
+        ensures visited { WasVisited (may_show object.now) (effect object.now)
+            self.old.collector.now self.new.collector.now }
     {
         if let Err(refusal) = object.visit(self) {
+            return Err(self.refuse(refusal));
+        }
+        Ok(())
+    }
+
+    /// What a value of a known type shows. It is exact where the type is.
+    pub(crate) fn visit_value<T: Allocative>(&mut self, value: &T) -> Result<(), Refusal>
+        ensures entered { Entered T.is_exact (T.may_show value.now) self.old self.new result }
+        ensures visited { WasVisited (T.may_show value.now) (T.effect value.now)
+            self.old.collector.now self.new.collector.now }
+    {
+        if let Err(refusal) = value.visit(self) {
             return Err(self.refuse(refusal));
         }
         Ok(())

@@ -8,50 +8,53 @@ use Rattle.allocative.specs.Shows.{Showing, Nothing}
 use Rattle.allocative.specs.Visits.{Shows, refused, Enters, is_entered, Leaves}
 use Rattle.allocative.specs.declared.visitor.Visitor.{Visitor}
 use Rattle.allocative.specs.Closures.{CallsInside, not_called, called, refused_inside, CalledInside}
-use Rattle.allocative.specs.Visited.{Visited, Entered, Refused, Means}
+use Rattle.allocative.specs.Visited.{Visited, AnyEffect, Entered, Refused, Means}
 use Rattle.allocative.proofs.Exact.{inexact}
 use Rattle.allocative.proofs.Meaning.{visited, entered_refused}
 use Rattle.allocative.proofs.Showing.{left_by, not_entered, shows_weaker, shows_hidden, shows_refused, shows_refused_err, shows_both_err, shows_err}
 
 -- An error that is returned by hand.
-pub refused_by_hand : {p : Showing} {q e : Refusal} {a b : Visitor} → Refused q a b e → Visited false p a b (Err e)
+pub refused_by_hand : {p : Showing} {q e : Refusal} {a b : Visitor} → Refused q a b e → Visited false p AnyEffect a b (Err e)
 refused_by_hand h = visited (entered_refused h)
 
 -- An error that is made by hand and hidden.
-pub refused_in_silence : {p : Showing} {q e : Refusal} {a b : Visitor} {u : Unit {0}} → Refused q a b e → Visited false p a b (Ok u)
+pub refused_in_silence : {p : Showing} {q e : Refusal} {a b : Visitor} {u : Unit {0}} → Refused q a b e → Visited false p AnyEffect a b (Ok u)
 refused_in_silence {q = q} {e = e} h = record {
   same_reference = h.same_reference;
   same_outer = h.same_outer;
   shown = shows_hidden {p = Nothing} (shows_refused _ e q _ h.after);
   rightly = inexact;
+  takes_effect = tt;
 }
 
 -- An error that is made by hand after another one.
-pub refused_again : {p : Showing} {q r e x : Refusal} {a b c : Visitor} → Refused q a b e → Refused r b c x → Visited false p a c (Err x)
+pub refused_again : {p : Showing} {q r e x : Refusal} {a b c : Visitor} → Refused q a b e → Refused r b c x → Visited false p AnyEffect a c (Err x)
 refused_again {q = q} {r = r} {e = e} f h = record {
   same_reference = h.same_reference ∙ f.same_reference;
   same_outer = h.same_outer ∙ f.same_outer;
   shown = shows_refused_err r (shows_refused _ e q _ f.after) h.after;
   rightly = inexact;
+  takes_effect = tt;
 }
 
 -- An error that is made by hand after a part.
-pub refused_after : {p s : Showing} {q e : Refusal} {a b c : Visitor} {u : Unit {0}} → Entered false s a b (Ok u) → Refused q b c e → Visited false p a c (Err e)
+pub refused_after : {p s : Showing} {q e : Refusal} {a b c : Visitor} {u : Unit {0}} → Entered false s a b (Ok u) → Refused q b c e → Visited false p AnyEffect a c (Err e)
 refused_after {q = q} {e = e} f h = record {
   same_reference = h.same_reference ∙ f.same_reference;
   same_outer = h.same_outer ∙ f.same_outer;
   shown = shows_both_err f.shown (shows_refused {q = Nothing} _ e q _ h.after);
   rightly = inexact;
+  takes_effect = tt;
 }
 
 -- An error of a part that comes first.
-pub refused_first : {p s : Showing} {e : Refusal} {a b : Visitor} → Entered false s a b (Err e) → Visited false p a b (Err e)
-refused_first h = record { same_reference = h.same_reference; same_outer = h.same_outer; shown = shows_err h.shown; rightly = inexact }
+pub refused_first : {p s : Showing} {e : Refusal} {a b : Visitor} → Entered false s a b (Err e) → Visited false p AnyEffect a b (Err e)
+refused_first h = record { same_reference = h.same_reference; same_outer = h.same_outer; shown = shows_err h.shown; rightly = inexact; takes_effect = tt }
 
 -- A part whose error is hidden.
-pub hides : {p s : Showing} {a b : Visitor} {r : Result (Unit {0}) Refusal} {u : Unit {0}} → Entered true s a b r → Means false s p → Visited false p a b (Ok u)
-hides {r = Ok v} h m = record { same_reference = h.same_reference; same_outer = h.same_outer; shown = shows_weaker m.means h.shown; rightly = inexact }
-hides {r = Err e} h m = record { same_reference = h.same_reference; same_outer = h.same_outer; shown = shows_hidden h.shown; rightly = inexact }
+pub hides : {p s : Showing} {a b : Visitor} {r : Result (Unit {0}) Refusal} {u : Unit {0}} → Entered true s a b r → Means false s p → Visited false p AnyEffect a b (Ok u)
+hides {r = Ok v} h m = record { same_reference = h.same_reference; same_outer = h.same_outer; shown = shows_weaker m.means h.shown; rightly = inexact; takes_effect = tt }
+hides {r = Err e} h m = record { same_reference = h.same_reference; same_outer = h.same_outer; shown = shows_hidden h.shown; rightly = inexact; takes_effect = tt }
 
 -- An error that is made by hand, after which a visitor is left.
 refused_left : {p : Showing} {b : Kind} {e : Refusal} (q : Bool) (x : Refusal) (z : State) → Shows p (Going b) (Err e) (left q (failed_with x z))
@@ -70,8 +73,8 @@ module _ {F : Type 0} (g : Once F (MutBor Visitor × Unit {0}) (Result (Unit {0}
   closure_shows p (refused_inside x y z c w i m e l) never = closure_err c y.collector.now w e l
 
   -- A visit by a closure that never returns Ok.
-  pub closure_refuses : {p : Showing} {k : Key} {n : ℕ} {a b : Visitor} {r : Result (Unit {0}) Refusal} → CalledInside g f k n a b r → ((x y : Visitor) → FnOnceReturnsAtMut g f x (Ok tt) y → ⊥) → Visited false p a b r
-  closure_refuses {p = p} h never = record { same_reference = h.same_reference; same_outer = h.same_outer; shown = closure_shows p h.calls never; rightly = inexact }
+  pub closure_refuses : {p : Showing} {k : Key} {n : ℕ} {a b : Visitor} {r : Result (Unit {0}) Refusal} → CalledInside g f k n a b r → ((x y : Visitor) → FnOnceReturnsAtMut g f x (Ok tt) y → ⊥) → Visited false p AnyEffect a b r
+  closure_refuses {p = p} h never = record { same_reference = h.same_reference; same_outer = h.same_outer; shown = closure_shows p h.calls never; rightly = inexact; takes_effect = tt }
 
 -- The rules for implementations that return an error of their own, or hide an error.
 pub ruleset refusals = (refused_by_hand, refused_in_silence, refused_again, refused_after, refused_first, hides)

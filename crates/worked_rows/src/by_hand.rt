@@ -4,7 +4,7 @@
 ghost use Rattle.std.specs.Prelude.{codes, None, false};
 ghost use Rattle.allocative.specs.Shows as shows;
 ghost use Rattle.allocative.specs.Visits.{Shows};
-ghost use Rattle.allocative.specs.Visited.{Visited};
+ghost use Rattle.allocative.specs.Visited.{Visited, AnyEffect};
 
 use crate::expected::{holds, is_refused};
 use allocative::by_hand::{collector_of, enter, enter_content, enter_unique};
@@ -88,7 +88,7 @@ fn enter_last(collector: &mut Collector) -> Result<(), Refusal>
 fn enter_parts(visitor: &mut Visitor<'_>, room: usize) -> Result<(), Refusal>
     ensures { Visited false
         (shows.Both (shows.Inside (codes "x") room shows.Nothing) (shows.Inside (codes "b") 1 shows.Nothing))
-        visitor.old visitor.new result }
+        AnyEffect visitor.old visitor.new result }
 {
     visitor.visit_simple(Key::new("x"), room)?;
     enter_last(collector_of(visitor))

@@ -15,7 +15,8 @@ use crate::{Allocative, FlameGraphOutput, Refusal, Visitor};
 use std::alloc::Global;
 use std::marker::Model;
 
-/// Collects what values show, and finishes as their flame graph.
+/// Collects what values show, and finishes as their flame graph. It has at most 2^32 - 1 paths: an entry on one more is
+/// refused with `Memory`, even if memory is left.
 ///
 /// ```
 /// let mut builder = FlameGraphBuilder::new(alloc)?;

@@ -2,9 +2,10 @@
 
 ghost use Rattle.allocative_graph.specs.Visits.{Runs};
 ghost use Rattle.allocative.specs.Exact.{RunsRightly};
+ghost use Rattle.allocative.specs.Visited.{VisitsRoot};
 
 use crate::visitor::collector::Collector;
-use crate::{Allocative, Part, Refusal};
+use crate::{Allocative, Refusal};
 
 impl Collector {
     /// Visits an object by a root visitor. What the visit returns is not looked at: the collector keeps the first
@@ -13,6 +14,7 @@ impl Collector {
         ensures runs { Runs (may_show root.now) self.old result self.new }
         ensures rightly { RunsRightly (⟦<dyn Allocative as Allocative>⟧ root.now.0).is_exact
             (may_show root.now) self.old result self.new }
+        ensures visited { VisitsRoot (may_show root.now) (effect root.now) self.old self.new result }
     {
         let mut visitor = self.root_visitor()?;
         let _told = visitor.visit_object(root);
@@ -24,9 +26,10 @@ impl Collector {
     pub(crate) fn visit_value<T: Allocative>(&mut self, root: &T) -> Result<(), Refusal>
         ensures runs { Runs (T.may_show root.now) self.old result self.new }
         ensures rightly { RunsRightly T.is_exact (T.may_show root.now) self.old result self.new }
+        ensures visited { VisitsRoot (T.may_show root.now) (T.effect root.now) self.old self.new result }
     {
         let mut visitor = self.root_visitor()?;
-        let _told = root.enter(&mut visitor);
+        let _told = visitor.visit_value(root);
         visitor.exit();
         self.check()
     }

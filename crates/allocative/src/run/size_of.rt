@@ -3,8 +3,8 @@
 ghost use Rattle.std.specs.Prelude.{◌≡◌, IfOk, IfErr};
 ghost use Rattle.allocative_graph.specs.Forest.{Forest};
 ghost use Rattle.allocative_graph.specs.Held.{held, ShowsNoContent};
-ghost use Rattle.allocative.specs.Closures.{KeepsVisitor, CalledAt, CalledAtRoot};
-ghost use Rattle.allocative.specs.SizeOf.{IsSizeOfUnique, MayRefuseHeld, MayRefuseSize};
+ghost use Rattle.allocative.specs.Closures.{KeepsVisitor, CalledAt, CalledAtRoot, AnswersSum};
+ghost use Rattle.allocative.specs.SizeOf.{IsSizeOfUnique, MayRefuseHeld, MayRefuseSize, AnswersSize, AnswersVisit};
 
 use crate::visitor::collector::Collector;
 use crate::{Allocative, Described, Refusal, Visitor};
@@ -25,9 +25,9 @@ impl Visitor<'_> {
 /// The bytes that the root holds on the heap: the sum of the inline entries whose direct parent is a unique entry, with
 /// nothing below a shared entry.
 ///
-/// It takes no memory. It is refused with TooLarge where the sum or a declared size does not fit, with Open where a
-/// visitor was forgotten, and else with the first cause of the visit. The entries of std's maps and sets are declared
-/// inline, so of them only what the keys and values hold counts.
+/// It takes no memory, and has no refusal of its own. It is refused with TooLarge where the sum or a declared size does
+/// not fit, with Open where a visitor was forgotten and nothing was refused, and else with the first cause of the
+/// visit. The entries of std's maps and sets are declared inline, so of them only what the keys and values hold counts.
 ///
 /// An object of an exact type is refused with TooLarge alone: where what it may show asks for a declared size that is
 /// not there, or where some of what it may show does not fit.
@@ -35,13 +35,16 @@ pub fn size_of_unique_allocated_data(root: &dyn Allocative) -> Result<usize, Ref
     ensures held { IfOk result (λ s. (f : Forest) × may_show root.now f × ShowsNoContent f × (s ≡ held f)) }
     ensures refused { IfErr result
         (MayRefuseHeld (⟦<dyn Allocative as Allocative>⟧ root.now.0).is_exact (may_show root.now)) }
+    ensures answer { AnswersVisit (may_show root.now) (effect root.now) AnswersSum result }
 {
     let mut collector = Collector::held();
     collector.visit_object(root)?;
     Ok(collector.sum())
 }
 
-/// The same plus the declared size of the root. It visits the value itself, and makes no trait object.
+/// The same plus the declared size of the root. It visits the value itself, and makes no trait object. Its only refusal of
+/// its own is TooLarge, after a visit that is not refused: where the root has no declared size, or where it does not fit
+/// together with what the root holds.
 ///
 /// An exact type is refused with TooLarge alone: where it has no declared size, where what the value may show asks for
 /// a declared size that is not there, or where some of what it may show does not fit, by itself or together with the
@@ -54,13 +57,15 @@ pub fn size_of_unique_allocated_data(root: &dyn Allocative) -> Result<usize, Ref
 pub fn size_of_unique<T: Allocative + Described>(root: &T) -> Result<usize, Refusal>
     ensures held { IfOk result (IsSizeOfUnique T.size (T.may_show root.now)) }
     ensures refused { IfErr result (MayRefuseSize T.is_exact T.size (T.may_show root.now)) }
+    ensures answer { AnswersVisit (T.may_show root.now) (T.effect root.now) (AnswersSize T.size) result }
 {
     let mut collector = Collector::held();
     collector.visit_value(root)?;
+    let held = collector.sum();
     let Some(own) = T::size() else {
         return Err(Refusal::TooLarge);
     };
-    let Some(sum) = collector.sum().checked_add(own) else {
+    let Some(sum) = held.checked_add(own) else {
         return Err(Refusal::TooLarge);
     };
     Ok(sum)
