@@ -43,8 +43,8 @@ impl History {
         self.profiles.len()
     }
 
-    /// Adds a profile as the latest, and drops the earliest where there would be too many. The only error is that
-    /// memory runs out, and then the history is unchanged.
+    /// Adds a profile as the latest. The earliest goes where there would be too many. The only error is that memory runs
+    /// out, and then the history is unchanged.
     pub fn keep(&mut self, profile: FlameGraph) -> Result<(), AllocError>
         ensures kept { OnOk result (Keeps profile self.old self.new) }
         ensures unchanged { OnErr result (profiles_of self.new ≡ profiles_of self.old) }

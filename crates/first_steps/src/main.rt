@@ -1,6 +1,8 @@
 //! The short programs of the pages: a first profile, its heaviest paths, the children of one path, and a budget.
 #![tactic(auto)]
 
+#[cfg(test)]
+mod drops;
 mod services;
 
 use allocative::{FlameGraph, FlameGraphOutput, profile_value, push_path};

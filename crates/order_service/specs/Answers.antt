@@ -1,19 +1,22 @@
--- What a request does to the ledger and to the pages of the service.
-use Rattle.std.specs.Prelude.{◌≡◌, ◌⊎◌, ℕ, ◌-◌, Bool, true, List, [], ◌∷◌, ◌++◌, Option, Some, None, Result, OnOk, IsErr, MatchOption, MatchResult, String, string_bytes, string_eq, codes, decimal, ⊤}
+-- What a request does to the ledger, to the pages and to the profiles of the service, and what is said of it.
+use Rattle.std.specs.Prelude.{◌≡◌, ◌⊎◌, ℕ, ◌-◌, Bool, true, List, [], ◌∷◌, ◌++◌, ◌==◌, Option, Some, None, Result, Ok, Err, IfOk, OnOk, IsErr, MatchOption, MatchResult, String, string_bytes, string_eq, length, codes, decimal, ⊤}
 use Rattle.std.specs.Global.{Global}
+use Rattle.std.specs.List.{slice_split}
 use Rattle.std.specs.Map.{keys_of, remove_entry}
 use Rattle.std.specs.Option.{option_and_then}
-use Rattle.allocative.specs.Refusal.TheVariants.{Memory}
+use Rattle.std.specs.Str.Parse.{ParsesUnsigned}
 use Rattle.allocative.specs.Shows.{Showing}
-use Rattle.allocative_service.specs.Accounts.{ChangesAccount, Enters, IsUnchanged, Releases, SetsLimit, account_of, measure_of}
+use Rattle.allocative_service.specs.Accounts.{accounts_of, ChangesAccount, Enters, IsUnchanged, Releases, SetsLimit, account_of, measure_of}
 use Rattle.allocative_service.specs.Entries.{Bounded, Entries, IsNeeded, bounded, stored_key, used, with_entries, without}
+use Rattle.allocative_service.specs.History.{TakesProfile, most_of, profiles_of, two_of}
 use Rattle.allocative_service.specs.Holding.{Holding, bytes_at}
 use Rattle.allocative_service.specs.Measured.{Declares}
 use Rattle.allocative_service.specs.Rejected.{RejectsChange, RejectsIn, RejectsLimit, RejectsMeasured, RejectsNew, RejectsOpening}
 use Rattle.allocative_service.specs.declared.cache.Kept.{Kept}
+use Rattle.allocative_service.specs.declared.history.History.{History}
 use Rattle.allocative_service.specs.declared.ledger.Ledger.{Ledger}
 use Rattle.allocative_service.specs.declared.ledger.rejection.Rejection.{Rejection}
-use Rattle.allocative_service.specs.declared.ledger.rejection.Rejection.TheVariants.{NotKept, NotMeasured}
+use Rattle.order_service.specs.Lines.{BeginsWith, IsChangePicture, IsMost, IsPicture, IsReport, IsToldAs, bill_of, closed_line, entered_line, list_of, profiles_line, released_line}
 use Rattle.order_service.specs.declared.documents.Note.{Note}
 use Rattle.order_service.specs.declared.documents.Order.{Order}
 use Rattle.order_service.specs.declared.request.Draft.{Draft}
@@ -22,12 +25,6 @@ use Rattle.order_service.specs.declared.request.Request.{Request}
 use Rattle.order_service.specs.declared.request.Request.TheVariants as asks
 
 -- ---- the ledger
--- The rejection does not say that memory ran out.
-abbrev pub IsTold : Rejection → Type 0
-IsTold NotKept = ⊥
-IsTold (NotMeasured Memory) = ⊥
-IsTold _ = ⊤
-
 -- The bytes of the tenant's document under the key.
 abbrev pub entered_bytes : List ℕ → ℕ → Ledger → Option ℕ
 entered_bytes tenant key l = option_and_then (bytes_at key) (account_of tenant l)
@@ -41,27 +38,36 @@ RejectsDocument tenant key old is_exact size p r = MatchOption (entered_bytes te
     (λ had. RejectsMeasured (measure_of old) is_exact size p
     (λ bytes. RejectsIn (RejectsChange key bytes) (account_of tenant old)) r)
 
--- The bytes that a document declares are entered for the tenant under the key, in place of those that it had. The document
--- is of a type with this declared size, and may show what p allows.
-abbrev pub EntersDocument : List ℕ → ℕ → Option ℕ → Showing → Ledger → Ledger → Type 0
-EntersDocument tenant key size p old new = (bytes : ℕ) × (had : Option ℕ) × (total : ℕ)
+-- The bytes that a document declares are entered for the tenant under the key, in place of those that it had. All bytes of
+-- the tenant are `total`. The document is of a type with this declared size, and may show what p allows.
+abbrev pub EntersDocument : List ℕ → ℕ → Option ℕ → Showing → ℕ → Ledger → Ledger → Type 0
+EntersDocument tenant key size p total old new = (bytes : ℕ) × (had : Option ℕ)
     × Declares (measure_of old) size p bytes × Enters tenant key bytes had total old new
 
 -- The note has the tenant's name, the key and the text, in strings of any capacity.
 abbrev pub IsNote : List ℕ → ℕ → List ℕ → Note → Type 0
 IsNote tenant key text note = (string_bytes note.tenant ≡ tenant) × (note.key ≡ key) × (string_bytes note.text ≡ text)
 
--- The order has the tenant's name, in a string of any capacity, and the key. Nothing is said of its items.
-abbrev pub IsOrder : List ℕ → ℕ → Order → Type 0
-IsOrder tenant key order = (string_bytes order.tenant ≡ tenant) × (order.key ≡ key)
+-- The numbers that these words write, in their order. A word that writes no number of 64 bits is left out.
+pub data ReadsNumbers : List (List ℕ) → List ℕ → Type 0 where
+  reads_none : ReadsNumbers [] []
+  reads_number : {words : List (List ℕ)} {numbers : List ℕ} (word : List ℕ) (n : ℕ) → ReadsNumbers words numbers →
+      ParsesUnsigned {E = ⊤} 64 10 word (Ok n) → ReadsNumbers (words ++ (word ∷ [])) (numbers ++ (n ∷ []))
+  reads_other : {words : List (List ℕ)} {numbers : List ℕ} (word : List ℕ) → ReadsNumbers words numbers →
+      ParsesUnsigned {E = ⊤} 64 10 word (Err tt) → ReadsNumbers (words ++ (word ∷ [])) numbers
+
+-- The order has the tenant's name, in a string of any capacity, the key, and the numbers of the text, between spaces.
+abbrev pub IsOrder : List ℕ → ℕ → List ℕ → Order → Type 0
+IsOrder tenant key places order = (string_bytes order.tenant ≡ tenant) × (order.key ≡ key)
+    × ReadsNumbers (slice_split (λ b. b == 32) places) order.items.items
 
 module _ (note_size order_size : Option ℕ) (note_shows : Note → Showing) (order_shows : Order → Showing) where
   -- The bytes that a document of the draft declares are entered for the tenant under the key.
   abbrev pub EntersDraft : List ℕ → ℕ → Draft → Ledger → Ledger → Type 0
-  EntersDraft tenant key (drafts.Note text) old new =
-      (note : Note) × IsNote tenant key text.now note × EntersDocument tenant key note_size (note_shows note) old new
-  EntersDraft tenant key (drafts.Order places) old new =
-      (order : Order) × IsOrder tenant key order × EntersDocument tenant key order_size (order_shows order) old new
+  EntersDraft tenant key (drafts.Note text) old new = (note : Note) × IsNote tenant key text.now note
+      × (total : ℕ) × EntersDocument tenant key note_size (note_shows note) total old new
+  EntersDraft tenant key (drafts.Order places) old new = (order : Order) × IsOrder tenant key places.now order
+      × (total : ℕ) × EntersDocument tenant key order_size (order_shows order) total old new
 
 -- The tenant has an account with this limit and no document. It had none before.
 abbrev pub OpensAccount : List ℕ → ℕ → Ledger → Ledger → Type 0
@@ -77,33 +83,41 @@ abbrev pub ReleasesDocument : List ℕ → ℕ → Ledger → Ledger → Type 0
 ReleasesDocument tenant key old new = ((entered_bytes tenant key old ≡ None) × IsUnchanged old new)
     ⊎ ((bytes : ℕ) × Releases tenant key bytes old new)
 
-module _ {A E : Type 0} (result : Result A E) (old new : Ledger) where
-  -- The request is rejected, as P says, and the ledger is unchanged. Where memory runs out, an error is returned.
+module _ {E : Type 0} (result : Result (String Global) E) (old new : Ledger) where
+  -- The request is rejected, as P says, and the ledger is unchanged. The text tells the rejection. Where memory runs out, an
+  -- error is returned.
   abbrev pub IsRejected : (Rejection → Type 0) → Type 0
-  IsRejected P = (r : Rejection) × P r × OnOk result (IsTold r) × IsUnchanged old new
+  IsRejected P =
+      (r : Rejection) × P r × IfOk result (λ text. IsToldAs r (string_bytes text)) × IsUnchanged old new
+
+  -- Nothing is said.
+  abbrev pub IsSilent : Type 0
+  IsSilent = IfOk result (λ text. string_bytes text ≡ [])
 
   -- An account is opened, or that is rejected.
   abbrev pub AnswersOpen : List ℕ → ℕ → Type 0
-  AnswersOpen tenant limit = IsRejected (RejectsOpening (account_of tenant old)) ⊎ OpensAccount tenant limit old new
+  AnswersOpen tenant limit =
+      IsRejected (RejectsOpening (account_of tenant old)) ⊎ (OpensAccount tenant limit old new × IsSilent)
 
   -- The limit of an account is set, or that is rejected.
   abbrev pub AnswersLimit : List ℕ → ℕ → Type 0
   AnswersLimit tenant limit =
-      IsRejected (RejectsIn (RejectsLimit limit) (account_of tenant old)) ⊎ SetsLimit tenant limit old new
+      IsRejected (RejectsIn (RejectsLimit limit) (account_of tenant old)) ⊎ (SetsLimit tenant limit old new × IsSilent)
 
-  -- A document is entered, or that is rejected.
-  abbrev pub PutsDocument : List ℕ → ℕ → Bool → Option ℕ → Showing → Type 0
-  PutsDocument tenant key is_exact size p =
-      IsRejected (RejectsDocument tenant key old is_exact size p) ⊎ EntersDocument tenant key size p old new
+  -- A document is entered and the text begins with all bytes of the tenant, or that is rejected.
+  abbrev pub PutsDocument : List ℕ → ℕ → Option ℕ → Showing → Type 0
+  PutsDocument tenant key size p = IsRejected (RejectsDocument tenant key old true size p)
+      ⊎ ((total : ℕ) × EntersDocument tenant key size p total old new
+      × IfOk result (λ text. BeginsWith (entered_line tenant total) (string_bytes text)))
 
   module _ (note_size order_size : Option ℕ) (note_shows : Note → Showing) (order_shows : Order → Showing) where
     -- A document is made of the draft and entered, or that is rejected. Where memory runs out before that, the ledger is
     -- unchanged and an error is returned.
     abbrev pub PutsDraft : List ℕ → ℕ → Draft → Type 0
     PutsDraft tenant key (drafts.Note text) = (IsErr result × IsUnchanged old new)
-        ⊎ ((note : Note) × IsNote tenant key text.now note × PutsDocument tenant key true note_size (note_shows note))
+        ⊎ ((note : Note) × IsNote tenant key text.now note × PutsDocument tenant key note_size (note_shows note))
     PutsDraft tenant key (drafts.Order places) = (IsErr result × IsUnchanged old new)
-        ⊎ ((order : Order) × IsOrder tenant key order × PutsDocument tenant key true order_size (order_shows order))
+        ⊎ ((order : Order) × IsOrder tenant key places.now order × PutsDocument tenant key order_size (order_shows order))
 
     -- What a request does to the ledger. A request that asks for nothing of the ledger leaves it as it is.
     abbrev pub AnswersLedger : Request → Type 0
@@ -192,3 +206,32 @@ module _ {A E : Type 0} (result : Result A E) (old new : Pages) where
     AnswersPages (asks.Bound bytes) = SetsBound bytes old new
     AnswersPages asks.Clear = new ≡ with_entries old []
     AnswersPages _ = new ≡ old
+
+-- ---- the profiles
+module _ {A E : Type 0} (result : Result A E) (old new : History) (p : Showing) where
+  -- A profile of what p allows is kept as the latest. Where it is not, an error is returned.
+  abbrev pub TakesOrFails : Type 0
+  TakesOrFails = (most_of new ≡ most_of old)
+      × ((IsErr result × (profiles_of new ≡ profiles_of old)) ⊎ TakesProfile p old new)
+
+  -- What a request does to the profiles. Only one for a profile changes them.
+  abbrev pub AnswersHistory : Request → Type 0
+  AnswersHistory asks.Profile = TakesOrFails
+  AnswersHistory _ = new ≡ old
+
+-- ---- the text
+-- What is said where the ledger and the pages were these, and the profiles are these now. Nothing is said here of a request
+-- that may be rejected, of which the ledger tells more, nor of the pages that go for another.
+abbrev pub AnswersText : Ledger → Pages → History → List ℕ → Request → Type 0
+AnswersText ledger pages history text (asks.Close tenant) = text ≡ closed_line tenant.now (account_of tenant.now ledger)
+AnswersText ledger pages history text (asks.Drop tenant key) =
+    text ≡ released_line tenant.now key (entered_bytes tenant.now key ledger)
+AnswersText ledger pages history text asks.Clear = text ≡ []
+AnswersText ledger pages history text asks.Pages = text ≡ list_of pages
+AnswersText ledger pages history text asks.Bill = text ≡ bill_of (accounts_of ledger)
+AnswersText ledger pages history text asks.Profile = text ≡ profiles_line (length (profiles_of history))
+AnswersText ledger pages history text asks.Report = IsReport (two_of history 1 0) text
+AnswersText ledger pages history text (asks.Most count) = IsMost count (two_of history 1 0) text
+AnswersText ledger pages history text asks.Picture = IsPicture (two_of history 0 0) text
+AnswersText ledger pages history text asks.Change = IsChangePicture (two_of history 1 0) text
+AnswersText _ _ _ _ _ = ⊤

@@ -51,7 +51,7 @@ impl Note {
 }
 
 impl Order {
-    /// An order of the items at these places of the catalogue, with spaces between them. What is no place is left out.
+    /// An order of the items at these places of the catalogue, with spaces between them. What is no number is left out.
     pub fn new(
         alloc: Global,
         tenant: &str,
@@ -59,7 +59,7 @@ impl Order {
         catalogue: &IdRc<Vec<String>>,
         places: &str,
     ) -> Result<Order, AllocError>
-        ensures { IfOk result (IsOrder tenant.now key) }
+        ensures { IfOk result (IsOrder tenant.now key places.now) }
     {
         let mut items = Vec::new(alloc);
         for place in places.split(' ') {

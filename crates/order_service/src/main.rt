@@ -18,7 +18,7 @@ fn main(rt: HostRuntime) -> Result<()> {
     for line in input.lines() {
         println!(rt; "> {line}")?;
         match read_request(line) {
-            Some(request) => service.answer(&rt, &request)?,
+            Some(request) => print!(rt; "{}", service.answer(&request)?)?,
             None => println!(rt; "not understood")?,
         }
     }

@@ -1,35 +1,51 @@
 //! Why data is not admitted.
 use allocative::Refusal;
-use thiserror::Error;
+use std::error::Error;
+use std::fmt;
 
 /// Why data is not admitted. Making one allocates nothing.
-#[derive(Clone, Copy, Debug, PartialEq, Eq, Error)]
+#[derive(Clone, Copy, Debug, PartialEq, Eq)]
 pub enum Rejection {
     /// The data would hold more bytes than the limit allows.
-    #[error("{bytes} bytes exceed a limit of {limit}")]
     OverBudget { bytes: usize, limit: usize },
     /// The data could not be measured.
-    #[error("not measured: {0}")]
     NotMeasured(Refusal),
     /// The bytes of the tenant's data together do not fit a word.
-    #[error("sizes do not fit")]
     TooLarge,
     /// The ledger's own memory could not grow.
-    #[error("out of memory")]
     NotKept,
     /// The tenant has no account.
-    #[error("there is no account")]
     NoAccount,
     /// The tenant already has an account.
-    #[error("there is an account already")]
     HasAccount,
     /// The number already has an entry.
-    #[error("there is an entry {number} already")]
     Taken { number: u64 },
     /// The number has no entry.
-    #[error("there is no entry {number}")]
     NotThere { number: u64 },
 }
+
+impl fmt::Display for Rejection {
+    ghost use Rattle.allocative_service.specs.Told.{told_as};
+
+    ghost output = { told_as };
+
+    fn fmt<W: fmt::Write>(&self, f: &mut fmt::Formatter<W>) -> fmt::Result {
+        match *self {
+            Rejection::OverBudget { bytes, limit } => {
+                write!(f, "{bytes} bytes exceed a limit of {limit}")
+            }
+            Rejection::NotMeasured(refusal) => write!(f, "not measured: {refusal}"),
+            Rejection::TooLarge => write!(f, "sizes do not fit"),
+            Rejection::NotKept => write!(f, "out of memory"),
+            Rejection::NoAccount => write!(f, "there is no account"),
+            Rejection::HasAccount => write!(f, "there is an account already"),
+            Rejection::Taken { number } => write!(f, "there is an entry {number} already"),
+            Rejection::NotThere { number } => write!(f, "there is no entry {number}"),
+        }
+    }
+}
+
+impl Error for Rejection {}
 
 impl From<Refusal> for Rejection {
     ghost use Rattle.std.specs.Prelude.{◌≡◌};

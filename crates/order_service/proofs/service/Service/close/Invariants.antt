@@ -4,9 +4,10 @@ use Rattle.std.specs.Map.Iter.{deref_pair}
 use Rattle.order_service.specs.Answers.{LosesPages}
 use Rattle.order_service.proofs.service.Service.close.Given as goal
 
--- The ledger is as it was, and the pages of the documents so far are removed.
+-- The ledger and the profiles are as they were, and the pages of the documents so far are removed.
 abbrev pub invariant-loop-key : goal.invariant-loop-key
-invariant-loop-key g l = record {
+invariant-loop-key l = record {
   ledger : l.self.ledger ≡ l.initial.self.ledger;
+  history : l.self.history ≡ l.initial.self.history;
   pages : LosesPages l.tenant l.initial.self.pages (keys_of (map deref_pair l.yielded)) l.self.pages;
 }
