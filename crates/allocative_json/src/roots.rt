@@ -1,5 +1,5 @@
 //! Reads a document and its numbers.
-ghost use Rattle.std.specs.Prelude.{◌≡◌, true, false, OnOk, IfOk, IfErr, MatchResult};
+ghost use Rattle.std.specs.Prelude.{◌≡◌, true, false, OnOk, OnErr, IfOk, IfErr};
 ghost use Rattle.std.specs.Ordering.{int_cmp};
 ghost use Rattle.std.specs.BTreeSet.{IsOrdered};
 ghost use Rattle.serde_json.specs.View.{view, items_view, members_view};
@@ -47,8 +47,9 @@ fn are_whole_members(members: &Map<String, Value>) -> bool
 
 // Fails with `Fault::NotWhole` exactly where a number of the document is neither an i64 nor a u64.
 fn check_numbers(document: &Value) -> Result<(), Fault>
-    ensures { MatchResult result (λ _. is_whole (view document.now) ≡ true)
-        (λ f. (f ≡ Fault.NotWhole) × (is_whole (view document.now) ≡ false)) }
+    ensures ok { OnOk result (is_whole (view document.now) ≡ true) }
+    ensures not_whole { OnErr result (is_whole (view document.now) ≡ false) }
+    ensures err { IfErr result (λ f. f ≡ Fault.NotWhole) }
 {
     if is_whole_value(document) {
         Ok(())
