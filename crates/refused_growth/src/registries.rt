@@ -11,8 +11,10 @@ use allocative::{
     profile_in_two, profile_roots,
 };
 use std::alloc::AllocGlobal;
+use std::cell::Cell;
 use std::collections::BTreeMap;
 use std::process::Abort;
+use std::rc::Rc;
 
 /// A root that is refused is handed back. The others are still there, and it is registered then.
 #[test]
@@ -107,4 +109,61 @@ fn shared_values_are_refused(rt: HostRuntime) {
         Ok(value) => assert_count(&rt, *value.get(), 5),
         Err(refusal) => assert_refused(&rt, refusal),
     }
+}
+
+/// Shows nothing, and counts its drops.
+struct Counted {
+    drops: Rc<Cell<u8>>,
+}
+
+impl Drop for Counted {
+    fn drop(self) {
+        let Counted { drops } = self;
+        drops.set(drops.get().wrapping_add(1));
+    }
+}
+
+impl Allocative for Counted {
+    ghost may_show = { λ _. shows.Nothing };
+
+    fn visit(&self, visitor: &mut Visitor<'_>) -> Result<(), Refusal> {
+        ().enter(visitor)
+    }
+}
+
+/// A counter, and a value that counts its drops there.
+fn with_counter(rt: &(impl Abort + AllocGlobal)) -> (Rc<Cell<u8>>, Counted) {
+    let drops = match Rc::new(rt.alloc(), Cell::new(0)) {
+        Ok(made) => made,
+        Err(refused) => Rc::new(rt.alloc(), refused.value).expect(rt, "a counter"),
+    };
+    let value = Counted {
+        drops: drops.clone().expect(rt, "one more pointer"),
+    };
+    (drops, value)
+}
+
+/// Asserts that a counted value is kept or, where the call that took it was refused, was dropped once.
+fn assert_kept_or_dropped<T>(rt: &impl Abort, drops: &Cell<u8>, taken: &Result<T, Refusal>) {
+    match taken {
+        Ok(_) => assert_eq!(rt; drops.get(), 0),
+        Err(refusal) => {
+            assert_refused(rt, *refusal);
+            assert_eq!(rt; drops.get(), 1);
+        }
+    }
+}
+
+#[test]
+fn refused_values_are_dropped(rt: HostRuntime) {
+    let (drops, value) = with_counter(&rt);
+    let shared = IdRc::new(rt.alloc(), value, Identity::from(1));
+    assert_kept_or_dropped(&rt, &drops, &shared);
+    let (drops, value) = with_counter(&rt);
+    let shared = IdArc::new(rt.alloc(), value, Identity::from(2));
+    assert_kept_or_dropped(&rt, &drops, &shared);
+    let (drops, value) = with_counter(&rt);
+    let mut registry = Registry::new(rt.alloc());
+    let added = registry.add_root(boxed(&rt, value));
+    assert_kept_or_dropped(&rt, &drops, &added);
 }

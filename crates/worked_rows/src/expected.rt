@@ -1,15 +1,45 @@
 //! What a value shows, compared with what it has to show by functions that all tests share.
+
+ghost use Rattle.std.specs.Prelude.{Some, false, codes};
+
 use allocative::{
-    Allocative, FlameGraphBuilder, FlameGraphOutput, Record, Refusal, size_of_unique_allocated_data,
+    Allocative, Described, FlameGraphBuilder, FlameGraphOutput, Refusal,
+    size_of_unique_allocated_data,
 };
 use std::alloc::Global;
 use std::test::Fail;
 
-/// An array of 2^62 bytes.
-type Quarter = [u64; 576_460_752_303_423_488];
+/// A type of the greatest declared size.
+pub(crate) struct Huge;
 
-/// A type of 2^64 bytes, a size that does not fit a word.
-pub(crate) type Unsized = Record<(Quarter, (Quarter, (Quarter, (Quarter, ()))))>;
+impl Described for Huge {
+    ghost name = { codes "Huge" };
+
+    ghost align = { 1 };
+
+    ghost needs_drop = { false };
+
+    ghost size = { Some 18446744073709551615 };
+
+    fn name() -> &'static str {
+        "Huge"
+    }
+
+    fn align() -> usize {
+        1
+    }
+
+    fn needs_drop() -> bool {
+        false
+    }
+
+    fn size() -> Option<usize> {
+        Some(usize::MAX)
+    }
+}
+
+/// A type whose size does not fit a word, so that it declares none.
+pub(crate) type Unsized = Option<Huge>;
 
 /// Fails with a text that is not the wanted one.
 pub(crate) fn is_text(text: &str, want: &str) -> Result<(), Fail> {
