@@ -26,7 +26,7 @@ pub struct Arguments<'a> {
 /// another argument begins with `-`, if `-` is repeated, if nothing follows `--title` or `--before`, or if the text of a
 /// change is asked for. Of several titles the last one counts. The only other error is `Fault::Memory`.
 pub fn read_arguments(alloc: Global, arguments: &[String]) -> Result<Arguments<'_>, Fault<'_>>
-    ensures no_text_of_a_change { IfOk result (λ asked. IsTrue asked.as_text → asked.before.items ≡ []) }
+    ensures text_alone { IfOk result (λ asked. IsTrue asked.as_text → asked.before.items ≡ []) }
     ensures some_input { IfOk result (λ asked. asked.after.items ≡ [] → IsTrue asked.reads_input) }
     ensures err { IfErr result (λ f. (f ≡ Fault.Arguments) ⊎ (f ≡ Fault.Memory)) }
 {

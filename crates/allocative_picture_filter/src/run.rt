@@ -42,7 +42,8 @@ pub fn read_text<'a, R: Read>(
     source: Source<'a>,
     input: &mut R,
 ) -> Result<Text<'a>, Fault<'a>>
-    ensures ok { IfOk result (λ text. IfSome (R.remaining input.old) (λ known. text.bytes.now ≡ without_mark known)) }
+    ensures ok { IfOk result
+        (λ text. IfSome (R.remaining input.old) (λ known. text.bytes.now ≡ without_mark known)) }
     ensures source { IfOk result (λ text. text.source ≡ source.entry) }
     ensures err { IfErr result (λ f. (f ≡ Fault.Memory) ⊎ (f ≡ Fault.Reading source.entry)) }
 {
