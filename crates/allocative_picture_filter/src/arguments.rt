@@ -1,4 +1,6 @@
 //! The arguments of the program.
+ghost use Rattle.std.specs.Prelude.{◌≡◌, ◌⊎◌, IsTrue, IfOk, IfErr, []};
+
 use crate::fault::Fault;
 use std::alloc::Global;
 
@@ -23,7 +25,11 @@ pub struct Arguments<'a> {
 /// and `-` for the input, which is also read where no file of the profile is named. It fails with `Fault::Arguments` if
 /// another argument begins with `-`, if `-` is repeated, if nothing follows `--title` or `--before`, or if the text of a
 /// change is asked for. Of several titles the last one counts. The only other error is `Fault::Memory`.
-pub fn read_arguments(alloc: Global, arguments: &[String]) -> Result<Arguments<'_>, Fault<'_>> {
+pub fn read_arguments(alloc: Global, arguments: &[String]) -> Result<Arguments<'_>, Fault<'_>>
+    ensures text_alone { IfOk result (λ asked. IsTrue asked.as_text → asked.before.items ≡ []) }
+    ensures some_input { IfOk result (λ asked. asked.after.items ≡ [] → IsTrue asked.reads_input) }
+    ensures err { IfErr result (λ f. (f ≡ Fault.Arguments) ⊎ (f ≡ Fault.Memory)) }
+{
     let mut asked = Arguments {
         help: false,
         as_text: false,

@@ -42,7 +42,8 @@ pub fn read_text<'a, R: Read>(
     source: Source<'a>,
     input: &mut R,
 ) -> Result<Text<'a>, Fault<'a>>
-    ensures ok { IfOk result (λ text. IfSome (R.remaining input.old) (λ known. text.bytes.now ≡ without_mark known)) }
+    ensures ok { IfOk result
+        (λ text. IfSome (R.remaining input.old) (λ known. text.bytes.now ≡ without_mark known)) }
     ensures source { IfOk result (λ text. text.source ≡ source.entry) }
     ensures err { IfErr result (λ f. (f ≡ Fault.Memory) ⊎ (f ≡ Fault.Reading source.entry)) }
 {
@@ -84,8 +85,10 @@ pub fn tell<E: Write>(errors: &mut E, fault: Fault<'_>) -> u8
     fault.status()
 }
 
-/// Writes how the program is used, and returns the status.
-pub fn show_usage<W: Write, E: Write>(output: &mut W, errors: &mut E) -> u8 {
+/// Writes how the program is used, and returns the status: 0, or 7 if that cannot be written.
+pub fn show_usage<W: Write, E: Write>(output: &mut W, errors: &mut E) -> u8
+    ensures { result ≢ 0 → result ≡ 7 }
+{
     let usage =
         "usage: allocative-picture [--title TEXT] [--text] [--before EARLIER].. [FILE | -]..\n\nAdds up collapsed stacks, lines of keys joined by `;`, a space and a number of bytes, and writes their picture to\nstandard output. They are read from the files, and from standard input where `-` or no file is named. With files of\nearlier stacks the picture is that of the change. With --text the added lines are written in place of a picture.\n";
     match write_text(output, usage) {
