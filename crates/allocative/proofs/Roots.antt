@@ -86,9 +86,9 @@ held_by_run p (Going b) (Going c) u n e (z, f, a, t, g) k =
 
 -- What is answered of the held bytes that a visit left.
 visit_answered : {p : Showing} {effect : Effect} (answers : State → Result ℕ Refusal → Type 0) {s t : State} {q : Result Unit Refusal} {r : Result ℕ Refusal} →
-    s ≡ Going (OfHeld nothing_held) → VisitsRoot p effect s t q → (Settles t q → answers t r) → AnswersVisit p effect answers r
-visit_answered answers is (not_begun x b) up = absurd ((rw is at b).1 refl)
-visit_answered {p} {effect} answers {r = r} is (root_visited {o = o} {a = a} {c = c} b v l e k) up =
+    VisitsRoot p effect s t q → s ≡ Going (OfHeld nothing_held) → (Settles t q → answers t r) → AnswersVisit p effect answers r
+visit_answered answers (not_begun x b) is up = absurd ((rw is at b).1 refl)
+visit_answered {p} {effect} answers {r = r} (root_visited {o = o} {a = a} {c = c} b v l e k) is up =
     let b' : Begins (Going (OfHeld nothing_held)) (Ok o) a = rw is at b in
     record {
       after = c;
@@ -97,28 +97,28 @@ visit_answered {p} {effect} answers {r = r} is (root_visited {o = o} {a = a} {c 
     }
 
 pub held_answered : {p : Showing} {effect : Effect} {s t : State} {u : Unit} {n : ℕ} →
-    s ≡ Going (OfHeld nothing_held) → VisitsRoot p effect s t (Ok u) → IsHeldSum t n → AnswersVisit p effect AnswersSum (Ok n)
-held_answered is v h = visit_answered AnswersSum is v (λ k. (k, h))
+    VisitsRoot p effect s t (Ok u) → s ≡ Going (OfHeld nothing_held) → IsHeldSum t n → AnswersVisit p effect AnswersSum (Ok n)
+held_answered v is h = visit_answered AnswersSum v is (λ k. (k, h))
 
 pub held_refused : {p : Showing} {effect : Effect} {s t : State} {e : Refusal} {r : Result ℕ Refusal} →
-    s ≡ Going (OfHeld nothing_held) → VisitsRoot p effect s t (Err e) → IsErr r → e ≡ err_or e r → AnswersVisit p effect AnswersSum r
-held_refused is v h i = rw (same_err _ h i) (visit_answered AnswersSum is v (λ k. k))
+    VisitsRoot p effect s t (Err e) → s ≡ Going (OfHeld nothing_held) → IsErr r → e ≡ err_or e r → AnswersVisit p effect AnswersSum r
+held_refused v is h i = rw (same_err _ h i) (visit_answered AnswersSum v is (λ k. k))
 
 pub size_answered : {p : Showing} {effect : Effect} {size : Option ℕ} {s t : State} {u : Unit} (n : ℕ) {own m : ℕ} →
-    s ≡ Going (OfHeld nothing_held) → VisitsRoot p effect s t (Ok u) → IsHeldSum t n → size ≡ Some own → m ≡ n + own → AnswersVisit p effect (AnswersSize size) (Ok m)
-size_answered {size = size} n {own = own} is v h y e = visit_answered (AnswersSize size) is v (λ k. (n, own, (k, h), y, e))
+    VisitsRoot p effect s t (Ok u) → s ≡ Going (OfHeld nothing_held) → IsHeldSum t n → size ≡ Some own → m ≡ n + own → AnswersVisit p effect (AnswersSize size) (Ok m)
+size_answered {size = size} n {own = own} v is h y e = visit_answered (AnswersSize size) v is (λ k. (n, own, (k, h), y, e))
 
 pub size_refused : {p : Showing} {effect : Effect} {size : Option ℕ} {s t : State} {e : Refusal} {r : Result ℕ Refusal} →
-    s ≡ Going (OfHeld nothing_held) → VisitsRoot p effect s t (Err e) → IsErr r → e ≡ err_or e r → AnswersVisit p effect (AnswersSize size) r
-size_refused {size = size} is v h i = rw (same_err _ h i) (visit_answered (AnswersSize size) is v (λ k. inl k))
+    VisitsRoot p effect s t (Err e) → s ≡ Going (OfHeld nothing_held) → IsErr r → e ≡ err_or e r → AnswersVisit p effect (AnswersSize size) r
+size_refused {size = size} v is h i = rw (same_err _ h i) (visit_answered (AnswersSize size) v is (λ k. inl k))
 
 pub size_not_there : {p : Showing} {effect : Effect} {size : Option ℕ} {s t : State} {u : Unit} (n : ℕ) →
-    s ≡ Going (OfHeld nothing_held) → VisitsRoot p effect s t (Ok u) → IsHeldSum t n → size ≡ None → AnswersVisit p effect (AnswersSize size) (Err TooLarge)
-size_not_there {size = size} n is v h y = visit_answered (AnswersSize size) is v (λ k. inr (n, (k, h), refl, λ own z. absurd (cc)))
+    VisitsRoot p effect s t (Ok u) → s ≡ Going (OfHeld nothing_held) → IsHeldSum t n → size ≡ None → AnswersVisit p effect (AnswersSize size) (Err TooLarge)
+size_not_there {size = size} n v is h y = visit_answered (AnswersSize size) v is (λ k. inr (n, (k, h), refl, λ own z. absurd (cc)))
 
 pub size_too_large : {p : Showing} {effect : Effect} {size : Option ℕ} {s t : State} {u : Unit} (n : ℕ) {own : ℕ} →
-    s ≡ Going (OfHeld nothing_held) → VisitsRoot p effect s t (Ok u) → IsHeldSum t n → size ≡ Some own → 2 ^ 64 ≤ n + own → AnswersVisit p effect (AnswersSize size) (Err TooLarge)
-size_too_large {size = size} n {own = own} is v h y l = visit_answered (AnswersSize size) is v (λ k. inr (
+    VisitsRoot p effect s t (Ok u) → s ≡ Going (OfHeld nothing_held) → IsHeldSum t n → size ≡ Some own → 2 ^ 64 ≤ n + own → AnswersVisit p effect (AnswersSize size) (Err TooLarge)
+size_too_large {size = size} n {own = own} v is h y l = visit_answered (AnswersSize size) v is (λ k. inr (
   n,
   (k, h),
   refl,
