@@ -1,6 +1,6 @@
 -- What the walk of `write` has written so far.
 use Rattle.std.proofs.Common.{◌≡◌, ◌≢◌, ℕ, ◌+◌, ◌<◌, Bool, List, [], ◌∷◌, ◌++◌, map, take, length, get_or, Bor, cond, refl, sym, ap, ◌∙◌, append_assoc, arith, ◌-◌, length-append, append-nil, ne_eqb}
-use Rattle.allocative_graph.proofs.Common.{Graph, IsNode, node, Child, Key, Path, under_rows, rows_of, rows_of_child, joined, joined_on, line_from, lines_below, entries, take_more, map-append, flat_map-append}
+use Rattle.allocative_graph.proofs.Common.{Graph, IsNode, node, Child, Key, Path, under_rows, rows_of, rows_of_child, joined, joined_on, line_from, lines_below, entries, flat_map-append}
 use Rattle.std.specs.List.{join_by}
 use Rattle.std.proofs.Math.Seq.{take-append_seam}
 use Rattle.allocative_graph.specs.Representation.PathRows.{size_text, lines_from, line_below}
