@@ -1,3 +1,0 @@
-BTreeSet 16
-BTreeSet;data 8
-Value 32
