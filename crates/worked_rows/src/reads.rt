@@ -54,8 +54,9 @@ fn the_first_line_that_is_none_is_named(rt: HostRuntime) {
     assert_refused(
         &rt,
         "a 18446744073709551616\n",
-        ReadFault::Line(1, LineFault::NoNumber),
+        ReadFault::Line(1, LineFault::TooLarge),
     );
+    assert_refused(&rt, "a +1\n", ReadFault::Line(1, LineFault::NoNumber));
 }
 
 #[test]
@@ -105,6 +106,10 @@ fn faults_say_why(rt: HostRuntime) -> Result<(), AllocError> {
         (
             LineFault::NoNumber,
             "there is no number of bytes behind the last space",
+        ),
+        (
+            LineFault::TooLarge,
+            "the number of bytes exceeds usize::MAX",
         ),
         (LineFault::TooDeep, "the path has more than 10000 keys"),
     ];
