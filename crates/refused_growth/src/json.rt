@@ -6,8 +6,8 @@ use std::alloc::{AllocGlobal, Global};
 use std::collections::BTreeSet;
 use std::process::Abort;
 
-pub(crate) const FAR_NUMBERS: &str =
-    "[18446744073709551615,-9223372036854775808,18446744073709551615]";
+pub(crate) const FAR_NUMBERS: &[u8] =
+    b"[18446744073709551615,-9223372036854775808,18446744073709551615]";
 
 pub(crate) const THREE_NUMBERS: &str =
     "BTreeSet 16\nBTreeSet;data;key;i128 32\nValue 8\nValue;Array;Vec 16\nValue;Array;Vec;ptr 8\nValue;Array;Vec;ptr;Value 48\nValue;Array;Vec;ptr;Value;Number;Number 48\n";
@@ -22,10 +22,7 @@ fn assert_texts(rt: &impl Abort, report: &Report, profile: &str, warnings: &str)
 
 #[test]
 fn a_profile_of_json_is_refused(rt: HostRuntime) {
-    let report = made(
-        &rt,
-        || profile_json(rt.alloc(), FAR_NUMBERS.as_bytes(), true, true),
-    );
+    let report = made(&rt, || profile_json(rt.alloc(), FAR_NUMBERS, true, true));
     assert_texts(&rt, &report, THREE_NUMBERS, SHORT_DATA);
 }
 
@@ -73,7 +70,7 @@ fn a_report_of_a_boxed_document_is_refused(rt: HostRuntime) {
 
 #[test]
 fn a_report_of_boxed_numbers_is_refused(rt: HostRuntime) {
-    let output = made(&rt, || boxed(rt.alloc(), FAR_NUMBERS.as_bytes(), true));
+    let output = made(&rt, || boxed(rt.alloc(), FAR_NUMBERS, true));
     assert_texts(&rt, &reported(&rt, &output), THREE_NUMBERS, SHORT_DATA);
 }
 
@@ -101,28 +98,4 @@ fn a_report_without_some_lines_is_refused(rt: HostRuntime) {
     let text = "b\nc unused_capacity 3\nunused_capacity\nd 4\n";
     let output = made(&rt, || odd_keys(rt.alloc()));
     assert_texts(&rt, &reported(&rt, &output), text, "");
-}
-
-/// The printed text of a fault. Where a growth is refused, it is printed anew.
-fn printed(rt: &(impl Abort + AllocGlobal), fault: Fault) -> String {
-    match format!(in rt.alloc(); "{fault}") {
-        Ok(text) => text,
-        Err(_) => format!(in rt.alloc(); "{fault}").expect(rt, "a text"),
-    }
-}
-
-#[test]
-fn texts_of_faults_are_refused(rt: HostRuntime) {
-    for (fault, text) in [
-        (Fault::Memory, "out of memory"),
-        (Fault::NotJson, "input is not JSON"),
-        (Fault::NotWhole, "a number is not a 64-bit whole number"),
-        (Fault::TooLarge, "sizes do not fit"),
-        (Fault::Words, "unknown or repeated word"),
-        (Fault::Reading, "cannot read input"),
-        (Fault::Writing, "cannot write output"),
-        (Fault::Open, "a visitor was forgotten"),
-    ] {
-        assert_same(&rt, printed(&rt, fault).as_str(), text);
-    }
 }
