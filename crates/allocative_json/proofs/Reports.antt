@@ -26,6 +26,7 @@ use Rattle.allocative_json.specs.Run.{IsReportFor, MayEndRun}
 use Rattle.allocative_json.specs.Words.{Asks}
 
 -- ---- reports of roots
+-- The texts of a profile of what p allows are a report of it.
 pub report_made : (p : Showing) (exact : Bool) (o : Profile) (r : Result Report Fault) → IsProfileOf p o
     → MatchResult r (AreTexts exact o) (λ f. f ≡ Memory) → IfOk r (IsReportOf p exact)
 report_made p exact o (Ok made) h t = record { output = o; is_profile = h; texts = t }
@@ -111,6 +112,7 @@ module _ {T : Type 0} (shows : T → Showing × Bool) (roots : List T) (x : Resu
       rw (← ap (λ (y : Showing × Bool). y.0) first) (record { profile = rw is at h.profile; refused = rw (is, exact) at h.refused })
 
 -- ---- reports of a run
+-- A right report of the input that was read is one for the reader's bytes.
 pub report_for : (texts : List Word) (known : Option (List ℕ)) (input : List ℕ) (asked : Words) (r : Result Report Fault) → AreWords texts → Asks texts asked → IfSome known (λ bytes. input ≡ bytes) → IfOk r (IsRightReport input asked.index asked.exact) → IfOk r (IsReportFor texts known)
 report_for texts known input asked r w a e = IfOk-weaker r _ _ (λ made h. record { words = w; asked = asked; asks = a; input = input; is_read = e; right = h })
 
@@ -126,6 +128,7 @@ refused_run texts known input asked Writing w a e h = absurd h.3
 refused_run texts known input asked Open w a e h = absurd h.3
 refused_run texts known input asked f w a e h = record { words = w; asked = asked; asks = a; refuses = read_so known input (λ bytes. RefusesReport bytes asked.index f) e h }
 
+-- A fault of making the report of the input that was read may end the run.
 pub refuses_run : {T : Type 0} (texts : List Word) (known : Option (List ℕ)) (input : List ℕ) (asked : Words) (r : Result T Fault) → AreWords texts → Asks texts asked → IfSome known (λ bytes. input ≡ bytes) → IfErr r (RefusesReport input asked.index) → IfErr r (MayEndRun texts known)
 refuses_run texts known input asked r w a e = IfErr-weaker r _ _ (λ f h. refused_run texts known input asked f w a e h)
 

@@ -16,12 +16,14 @@ at_word texts i t h e =
 abbrev IsAccepted : List Word → Word → Type 0
 IsAccepted ws w = IsKnown w × (Contains ws w → ⊥)
 
+-- Accepted words with one more accepted word are accepted.
 pub one_more : (ws : List Word) (w : Word) → AreWords ws → IsAccepted ws w → AreWords (ws ++ w ∷ [])
 one_more ws w a h = record {
   known = All-push IsKnown ws w a.known h.0;
   once = all_pairs_push (λ u v. u ≢ v) ws w a.once (λ i d l e. let P : Word → Type 0 = λ v. Contains ws v in h.1 (subst P e (Contains-get_or ws i d l)));
 }
 
+-- Each word of accepted words is accepted after those before it.
 pub each_accepted : (ws rest : List Word) (w : Word) → AreWords (ws ++ w ∷ rest) → IsAccepted ws w
 each_accepted ws rest w a = (
   All-contains IsKnown _ w a.known (Contains-append_right ws (w ∷ rest) w (0, omega arith, refl)),
