@@ -55,5 +55,6 @@ pub trait Allocative: Drop {
     /// visitors than before (one was forgotten), or has one more forest, which the value may show. A collector
     /// that had failed stays as it was. The visitor stays where it was.
     fn visit(&self, visitor: &mut Visitor<'_>) -> Result<(), Refusal>
-        ensures { Visited is_exact (may_show self.now) (effect self.now) visitor.old visitor.new result };
+        ensures { Visited is_exact (may_show self.now) (effect self.now)
+            visitor.old visitor.new result };
 }

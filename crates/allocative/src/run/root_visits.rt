@@ -14,7 +14,8 @@ impl Collector {
         ensures runs { Runs (may_show root.now) self.old result self.new }
         ensures rightly { RunsRightly (⟦<dyn Allocative as Allocative>⟧ root.now.0).is_exact
             (may_show root.now) self.old result self.new }
-        ensures visited { VisitsRoot (may_show root.now) (effect root.now) self.old self.new result }
+        ensures visited { VisitsRoot (may_show root.now) (effect root.now)
+            self.old self.new result }
     {
         let mut visitor = self.root_visitor()?;
         let _told = visitor.visit_object(root);
@@ -26,7 +27,8 @@ impl Collector {
     pub(crate) fn visit_value<T: Allocative>(&mut self, root: &T) -> Result<(), Refusal>
         ensures runs { Runs (T.may_show root.now) self.old result self.new }
         ensures rightly { RunsRightly T.is_exact (T.may_show root.now) self.old result self.new }
-        ensures visited { VisitsRoot (T.may_show root.now) (T.effect root.now) self.old self.new result }
+        ensures visited { VisitsRoot (T.may_show root.now) (T.effect root.now)
+            self.old self.new result }
     {
         let mut visitor = self.root_visitor()?;
         let _told = visitor.visit_value(root);

@@ -57,7 +57,8 @@ pub fn size_of_unique_allocated_data(root: &dyn Allocative) -> Result<usize, Ref
 pub fn size_of_unique<T: Allocative + Described>(root: &T) -> Result<usize, Refusal>
     ensures held { IfOk result (IsSizeOfUnique T.size (T.may_show root.now)) }
     ensures refused { IfErr result (MayRefuseSize T.is_exact T.size (T.may_show root.now)) }
-    ensures answer { AnswersVisit (T.may_show root.now) (T.effect root.now) (AnswersSize T.size) result }
+    ensures answer { AnswersVisit (T.may_show root.now) (T.effect root.now) (AnswersSize T.size)
+        result }
 {
     let mut collector = Collector::held();
     collector.visit_value(root)?;
