@@ -167,6 +167,8 @@ class Reader:
         self.tokens = tokens
         self.words = tokens.words
         self.at = 0
+        # What `Self` stands for in the fields that are read.
+        self.own = "Self"
 
     # ---- tokens
     def word(self, ahead: int = 0) -> str:
@@ -216,7 +218,7 @@ class Reader:
 
     def type(self, end: int) -> Type:
         """The type that stands from here to an end."""
-        words, self.at = " ".join(self.words[self.at : end]), end
+        words, self.at = " ".join(self.own if word == "Self" else word for word in self.words[self.at : end]), end
         return type_of(LOOSE_BEFORE.sub(r"\1", LOOSE_AFTER.sub(r"\1", words)) if " " in words else words)
 
     def entries(self, close: int) -> Iterator[int]:
@@ -247,6 +249,8 @@ class Reader:
         name = self.name("a type")
         try:
             parameters = self.parameters()
+            arguments = ", ".join(parameter.name for parameter in parameters)
+            self.own = f"{name}<{arguments}>" if arguments else name
             where = self.where()
             if is_enum and self.word() != "{":
                 raise self.fault("an enum without `{`: write its variants in braces")

@@ -36,6 +36,11 @@ class ShapesTest(unittest.TestCase):
             with self.subTest(text):
                 self.assertEqual(fields(f"a: {text}"), [("a", *wanted)])
 
+    def test_self_is_the_type(self) -> None:
+        self.assertEqual(fields("a: Vec<Self>, b: Option<Box<Self>>")[0], ("a", "path", "Vec<A>"))
+        generic = read("enum B<'a, T: Ord> { C(Box<Self>), D(&'a T) }").types["B"]
+        self.assertEqual(generic.members[0].type.text, "Box<B<'a, T>>")
+
     def test_structs(self) -> None:
         text = "/// Doc {.\n#[derive(Clone, Drop)]\n#[allow(x)]\npub(crate) struct A<'a, T: Ord + Eq, const N: usize> where T: Copy, { pub a: T, #[x] b: [u8; N] }"
         found = read(text).types["A"]
