@@ -13,4 +13,5 @@ returns c =
       same_outer = called.same_outer;
       shown = with_shows _ _ (Inside (codes "x") 1 Nothing) (rw c.new.ensures at called.calls) (λ x y r h. search rules);
       rightly = inexact;
+      takes_effect = tt;
     }

@@ -14,4 +14,5 @@ returns c =
       same_outer = called.same_outer;
       shown = with_shows _ _ (Both (Inside (codes "x") 1 Nothing) (Inside (codes "y") 2 Nothing)) (rw c.new.ensures at called.calls) (λ x y r h. search (rules, showing));
       rightly = inexact;
+      takes_effect = tt;
     }
