@@ -132,4 +132,5 @@ refused_run texts known input asked f w a e h = record { words = w; asked = aske
 pub refuses_run : {T : Type 0} (texts : List Word) (known : Option (List ℕ)) (input : List ℕ) (asked : Words) (r : Result T Fault) → AreWords texts → Asks texts asked → IfSome known (λ bytes. input ≡ bytes) → IfErr r (RefusesReport input asked.index) → IfErr r (MayEndRun texts known)
 refuses_run texts known input asked r w a e = IfErr-weaker r _ _ (λ f h. refused_run texts known input asked f w a e h)
 
+-- The lemmas by which a profile and its errors are those of a report.
 pub ruleset reporting = (report_made, refused_profile, refused_texts)

@@ -41,4 +41,5 @@ begins_second old mid new a b w (rest, h) = (
   },
 )
 
+-- The lemmas on what a writer holds.
 pub ruleset writing = (written_none, written_more, written_kept, written_all)

@@ -6,6 +6,7 @@ use Rattle.std.proofs.lemmas.Iterator.Consumers.{YieldsList-from_rest}
 use Rattle.allocative_json.proofs.NumbersLemmas.{AddsKeys-more, items_have-snoc, members_have-snoc}
 use Rattle.allocative_json.proofs.roots.+numbers.Goals as goal
 
+-- One item more has its numbers in the set.
 pub add_items-loop-item-preserved : goal.add_items-loop-item-preserved
 add_items-loop-item-preserved t c = record {
   keys = rw (take_more _ _ c.item-item.result c.loop-item-test.true, ← c.item-item.is)
@@ -13,6 +14,7 @@ add_items-loop-item-preserved t c = record {
   ordered = λ h. c.add_numbers.ensures.ordered (c.loop-item.invariant.ordered h);
 }
 
+-- One member more has its numbers in the set.
 pub add_members-loop-key-preserved : goal.add_members-loop-key-preserved
 add_members-loop-key-preserved t c = record {
   keys = rw map-append
@@ -20,6 +22,7 @@ add_members-loop-key-preserved t c = record {
   ordered = λ h. c.add_numbers.ensures.ordered (c.loop-key.invariant.ordered h);
 }
 
+-- After the last member the set has the numbers of all.
 pub add_members-returns-clause-keys : goal.add_members-returns-clause-keys
 add_members-returns-clause-keys t c =
     let e = items_from_drains c.loop-key.yielded (c.loop-key._key-iterator, c.loop-key.yielded_by, λ _. (c.next.new.self, c.in-None.ensures.steps)) (YieldsList-from_rest _ (c.into_iter-key-iterator.ensures.into_iter_gives ∙ c.iter-key-items.ensures.rest)) in

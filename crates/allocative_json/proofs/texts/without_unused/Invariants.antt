@@ -8,5 +8,6 @@ use Rattle.allocative_json.proofs.texts.without_unused.Given as goal
 abbrev pub invariant-loop-line : goal.invariant-loop-line
 invariant-loop-line l = shadow (Utf8 l.rest) × (string_bytes l.kept ++ kept_lines l.rest ≡ kept_lines l.text)
 
+-- Each round takes a line off the rest.
 abbrev pub decreases-loop-line : goal.decreases-loop-line
 decreases-loop-line l = length l.rest

@@ -7,6 +7,7 @@ use Rattle.std.proofs.lemmas.Slice.Eq.{bytes_eq-Decides}
 use Rattle.allocative_json.proofs.WordsLemmas.{at_word}
 use Rattle.allocative_json.proofs.words.has.Goals as goal
 
+-- A word that is equal is among the words.
 pub returns-then-eq : goal.returns-then-eq
 returns-then-eq c =
     let texts = c.args.words.now in
@@ -15,6 +16,7 @@ returns-then-eq c =
     let same : string_bytes other ≡ c.args.word.now = sym c.as_str.ensures.value ∙ (bytes_eq-Decides _ _).0 (sym c.eq.ensures ∙ c.if-eq.true) in
     (λ _. rw (at_word texts i other c.loop-other-test.true c.other-item.is) (Contains-append_right (words_of (take i texts)) (string_bytes other ∷ words_of (drop (i + 1) texts)) _ (0, omega arith, same)), λ _. refl)
 
+-- The word is not among one word more.
 pub loop-other-preserved : goal.loop-other-preserved
 loop-other-preserved c =
     rw (take_more _ _ c.other-item.result c.loop-other-test.true, ← c.other-item.is, map-append)
@@ -23,5 +25,6 @@ loop-other-preserved c =
       | inr e ↦ true≢false (sym ((bytes_eq-Decides _ _).1 (c.as_str.ensures.value ∙ e)) ∙ sym c.eq.ensures ∙ c.if-eq.false)
     ])
 
+-- If none was equal, the word is not among the words.
 pub returns : goal.returns
 returns c = ((λ t. absurd (true≢false (sym t))), λ k. absurd (c.loop-other.invariant (rw (take_all c.loop-other.other-index c.args.words.now (omega arith)) k)))

@@ -5,6 +5,7 @@ use Rattle.std.proofs.lemmas.List.{map-append, take_more}
 use Rattle.allocative_json.proofs.WordsLemmas.{at_word, one_more, each_accepted}
 use Rattle.allocative_json.proofs.words.read_words.Goals as goal
 
+-- A word that is not accepted is an error.
 pub returns-then-not-is_accepted : goal.returns-then-not-is_accepted
 returns-then-not-is_accepted c =
     let texts = c.args.words.now in
@@ -16,6 +17,7 @@ returns-then-not-is_accepted c =
           true≢false (sym ((rw c.as_str.ensures.value at c.is_accepted.ensures).1 accepted) ∙ c.if-not-is_accepted.true),
     )
 
+-- One word more is accepted.
 pub loop-at-preserved : goal.loop-at-preserved
 loop-at-preserved c =
     rw (take_more _ _ c.index-words-at.result c.loop-at-test.true, ← c.index-words-at.is, map-append)
