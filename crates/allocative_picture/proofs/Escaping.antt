@@ -68,5 +68,6 @@ markup : (cs : List ℕ) → AllByRecursion IsPlain (flat_map escaped_char cs) �
 markup [] = (tt, end)
 markup (c ∷ cs) = (each-append IsPlain (escaped_char c) (flat_map escaped_char cs) (char c).0 (markup cs).0, (char c).1 _ _ (markup cs).1)
 
+-- Markup of a text has plain bytes only, and reads as that text.
 pub escapes : (t : List ℕ) → EscapeLaws t
 escapes t = record { plain = (markup (chars t)).0; reads = (markup (chars t)).1 }

@@ -93,6 +93,7 @@ edges-le : (all a b : ℕ) → a ≤ b → edge all a ≤ edge all b
 edges-le zero a b h = omega (arith, div-zero (a * 1000000), div-zero (b * 1000000))
 edges-le (suc n) a b h = edge-le (suc n) a b (omega arith) h
 
+-- A box is within the box of its parent.
 pub is_inside : InsideLaw
 is_inside M g p k = record {
   starts = edges-le (total g) _ _ (sum_by-le-sum_by (lowers p) (lowers (p ++ k ∷ [])) (entries g) (λ e. longer e.1 e.0 p (k ∷ [])));
@@ -102,9 +103,11 @@ is_inside M g p k = record {
       );
 }
 
+-- Boxes with one parent are beside one another, in the order of their keys.
 pub is_apart : ApartLaw
 is_apart M g p k l h = edges-le (total g) _ _ (rw (reached (p ++ k ∷ []) (entries g)) (sum_by-le-sum_by (reaches (p ++ k ∷ [])) (lowers (p ++ l ∷ [])) (entries g) (λ e. beside e.1 e.0 p k l h)))
 
+-- No box extends past the right edge.
 pub is_within : WithinLaw
 is_within M g p some =
     let le = sum_by-le-sum_by (reaches p) (λ e. e.1) (entries g) (λ e. once e.1 e.0 p) in

@@ -50,6 +50,7 @@ before-middle (x ∷ a) c e h =
 abbrev pub own_bytes : List Figures → ℕ
 own_bytes fs = sum_by (λ f. f.self_size) fs
 
+-- The own bytes of some figures are those of the first and of the others.
 pub own-cons : (f : Figures) (fs : List Figures) → own_bytes (f ∷ fs) ≡ f.self_size + own_bytes fs
 own-cons f fs = sum_by-cons (λ (x : Figures). x.self_size) f fs
 

@@ -26,6 +26,7 @@ own-figured t ks (r ∷ rs) = omega (arith, own-cons (record { path = ks ++ r.0;
 pub weight_more : (cs : List Child) (i : ℕ) (d : Child) → i < length cs → d ≡ get_or cs i d → weight (take (i + 1) cs) ≡ weight (take i cs) + total d.graph
 weight_more cs i d h at = rw (take_more cs i d h, ← at, weight-append (take i cs) (d ∷ []), weight-one d) refl
 
+-- The first children have at most the bytes of all.
 pub weight_within : (cs : List Child) (i : ℕ) → weight (take i cs) ≤ weight cs
 weight_within cs i = omega (arith, weight-append (take i cs) (drop i cs), ap weight (take-append-drop i cs))
 

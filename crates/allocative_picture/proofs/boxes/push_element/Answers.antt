@@ -2,6 +2,7 @@ use Rattle.std.proofs.Common.{append_assoc, string_bytes}
 use Rattle.allocative_picture.specs.Boxes.{element}
 use Rattle.allocative_picture.proofs.boxes.push_element.Goals as goal
 
+-- The element of a box is appended.
 pub returns : goal.returns
 unfolding element
 returns c =

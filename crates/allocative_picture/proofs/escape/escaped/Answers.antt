@@ -9,6 +9,7 @@ same_items : (xs : List ℕ) → map (λ x. x) xs ≡ xs
 same_items [] = refl
 same_items (x ∷ xs) = ap (λ s. x ∷ s) (same_items xs)
 
+-- After the last character the markup of the whole text is made.
 pub returns : goal.returns
 returns c =
     let t = YieldsList-end (YieldsList-from_chars c.args.text.now c.utf8.text cc) c.loop-c.yielded _ c.loop-c.yielded_by _ _ c.in-None.is c.next.ensures.steps in

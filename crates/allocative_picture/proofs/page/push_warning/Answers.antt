@@ -1,6 +1,7 @@
 use Rattle.allocative_picture.specs.Page.{warning_line}
 use Rattle.allocative_picture.proofs.page.push_warning.Goals as goal
 
+-- The line of a warning is appended.
 pub returns : goal.returns
 unfolding warning_line
 returns c =

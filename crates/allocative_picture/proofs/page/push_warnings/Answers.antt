@@ -13,5 +13,6 @@ lines-more y (v ∷ ws) w =
     ap (λ s. warning_line y v ++ s) (lines-more (y + 16) ws w ∙ ap (λ n. warning_lines (y + 16) ws ++ warning_line n w) e)
     ∙ sym (append_assoc (warning_line y v) (warning_lines (y + 16) ws) (warning_line (y + 16 * length (v ∷ ws)) w))
 
+-- One line more is appended.
 pub loop-index-preserved : goal.loop-index-preserved
 loop-index-preserved c = grind (arith, common_steps, lines-more)

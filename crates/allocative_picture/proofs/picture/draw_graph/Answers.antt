@@ -6,6 +6,7 @@ use Rattle.allocative_picture.proofs.Placing.{rows_from-figures}
 use Rattle.allocative_picture.proofs.Walking.{length-rows_of}
 use Rattle.allocative_picture.proofs.picture.draw_graph.Goals as goal
 
+-- The rows that are drawn are the wide ones among the graph's.
 pub returns : goal.returns
 returns c =
     let M = mark_of c.args.marks in

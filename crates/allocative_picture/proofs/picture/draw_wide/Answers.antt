@@ -3,6 +3,7 @@ use Rattle.std.proofs.lemmas.List.{length-map}
 use Rattle.allocative_picture.specs.Picture.{drawing_of}
 use Rattle.allocative_picture.proofs.picture.draw_wide.Goals as goal
 
+-- The parts of the drawing are appended in order.
 pub returns : goal.returns
 unfolding drawing_of
 returns c =

@@ -11,11 +11,13 @@ use Rattle.allocative_graph.proofs.ReadRows.{figured}
 use Rattle.allocative_picture.proofs.Walking.{weight_more, weight_within, rows_more, child_rows, node_rows}
 use Rattle.allocative_picture.proofs.rows.+push_rows.Goals as goal
 
+-- The bytes before the children fit, since all bytes do.
 pub overflow_add-before : goal.overflow_add-before
 overflow_add-before t c =
     let cs = c.children-children.result.now in
     omega (arith, ap total c.children-children.ensures.whole, total-node (size_at c.args.graph.now []) cs c.children-children.ensures.children.sorted, c.self_size.ensures, c.requires)
 
+-- A child has fewer paths, and its bytes fit with those before it.
 pub push_rows-requires : goal.push_rows-requires
 push_rows-requires t c =
     let g = c.args.graph.now in
@@ -28,6 +30,7 @@ push_rows-requires t c =
       omega (arith, ap total c.children-children.ensures.whole, total-node (size_at g []) cs c.children-children.ensures.children.sorted, c.self_size.ensures, c.requires, c.loop-child.invariant.before, weight_more cs i d (omega arith) c.child-item.is, weight_within cs (i + 1)),
     )
 
+-- The rows of one child more are appended.
 pub loop-child-preserved : goal.loop-child-preserved
 loop-child-preserved t c =
     let g = c.args.graph.now in
@@ -50,17 +53,20 @@ loop-child-preserved t c =
       rows = rw (← came, filter-append, ← append_assoc, ← c.loop-child.invariant.rows, ← c.loop-child.invariant.before, ← behind_it) c.in_ok-push_rows.ensures.rows;
     }
 
+-- After the last child all bytes of the graph are counted.
 pub returns-clause-before : goal.returns-clause-before
 returns-clause-before t c =
     let cs = c.children-children.result.now in
     omega (arith, c.loop-child.invariant.before, ap weight (take_all c.loop-child.child-index cs (omega arith)), ap total c.children-children.ensures.whole, total-node (size_at c.args.graph.now []) cs c.children-children.ensures.children.sorted, c.self_size.ensures)
 
+-- After the last child all paths of the graph are counted.
 pub returns-clause-paths : goal.returns-clause-paths
 returns-clause-paths t c =
     let cs = c.children-children.result.now in
     let count : c.in_ok-paths.field-0 ≡ c.args.paths.now + 1 = search rules in
     omega (arith, c.loop-child.invariant.paths, ap (λ (ds : List Child). length (rows_of ds)) (take_all c.loop-child.child-index cs (omega arith)), ap len c.children-children.ensures.whole, rows_of_node (size_at c.args.graph.now []) cs c.children-children.ensures.children)
 
+-- After the last child the wide rows of the graph are appended.
 pub returns-clause-rows : goal.returns-clause-rows
 returns-clause-rows t c =
     let g = c.args.graph.now in

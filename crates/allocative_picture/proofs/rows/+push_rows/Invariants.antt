@@ -4,6 +4,7 @@ use Rattle.allocative_graph.specs.Reads.{rows_of}
 use Rattle.allocative_graph.proofs.ReadRows.{figured}
 use Rattle.allocative_picture.proofs.rows.+push_rows.Given as goal
 
+-- Each call is for a graph with fewer paths.
 abbrev pub decreases-push_rows : goal.decreases-push_rows
 decreases-push_rows l = len l.graph.now
 

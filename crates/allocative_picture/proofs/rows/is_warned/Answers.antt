@@ -6,6 +6,7 @@ use Rattle.allocative_picture.proofs.Warnings.{are_equal, any_held}
 use Rattle.allocative_picture.proofs.rows.is_warned.Goals as goal
 use borrow.Author.Tests.{tests}
 
+-- The answer is whether a warned path is equal to this one.
 pub returns : goal.returns
 unfolding is_warned
 returns c =

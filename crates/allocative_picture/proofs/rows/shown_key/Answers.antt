@@ -9,6 +9,7 @@ last_shown [] i d some at = absurd (omega arith)
 last_shown (k ∷ []) i d some at = rw at refl
 last_shown (k ∷ l ∷ ks) i d some at = let e : i ≡ suc (length ks) = omega (arith, at) in rw e (last_shown (l ∷ ks) (length ks) d (omega arith) (omega arith))
 
+-- The key that is shown is the last one of the path.
 pub returns-in-Some : goal.returns-in-Some
 returns-in-Some c =
     let ks = c.args.path.now in
