@@ -66,4 +66,5 @@ module _ {V : Type 0} (size : Option ℕ) (may_show : V → Forest → Type 0) w
     measured = All-map-remove_entry test (λ (e : K × Kept V). e.1) (IsMeasured size may_show c.measure) c.entries h.measured;
   }
 
+-- The lemma on the bytes of entries without one.
 pub ruleset putting = (bytes_of-remove_entry)

@@ -48,4 +48,5 @@ taken {K} {V} (Some e) key v is =
     let second = ap (λ (o : Option (K × V)). (unwrap_or o (e.0, e.1.value)).1) is in
     (e.1, ap (λ (k : K). Some (k, e.1)) (sym first), sym second)
 
+-- The lemmas on the bytes after a removal.
 pub ruleset removing = (bytes_of-taken, none_removed)

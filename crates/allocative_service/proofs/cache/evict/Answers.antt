@@ -4,6 +4,7 @@ use Rattle.std.proofs.lemmas.Option.{gets}
 use Rattle.allocative_service.proofs.Evicting.{goes}
 use Rattle.allocative_service.proofs.cache.evict.Goals as goal
 
+-- One entry more is evicted.
 pub loop-left-preserved : goal.loop-left-preserved
 loop-left-preserved g c =
     let step = goes _ _ _ _ _ _ (c.in-Some.key, c.in-Some.gone) c.loop-left.invariant.evicted (omega arith) (sym c.in-Some.ensures.value) in
@@ -17,5 +18,6 @@ loop-left-preserved g c =
 none_left : {X : Type 0} (es : List X) → slice_get es (length es - 1) ≡ None → length es ≡ 0
 none_left es none = grind (arith, gets)
 
+-- If no entry is left, no bytes are.
 pub returns-in_default-clause-bytes : goal.returns-in_default-clause-bytes
 returns-in_default-clause-bytes g c = rw (c.in_default.ensures.entries, none_left _ (sym c.in_default.ensures.value)) refl

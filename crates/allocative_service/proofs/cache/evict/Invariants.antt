@@ -4,6 +4,7 @@ use Rattle.allocative_service.proofs.Common.{bytes_of}
 use Rattle.allocative_service.proofs.Evicting.{Evicts}
 use Rattle.allocative_service.proofs.cache.evict.Given as goal
 
+-- The entries so far are what evicting leaves, and the count has their bytes.
 abbrev pub invariant-loop-left : goal.invariant-loop-left
 invariant-loop-left g l = record {
   callable : goal.F-IsAlwaysCallable g l.went;
@@ -12,5 +13,6 @@ invariant-loop-left g l = record {
   capacity : l.entries.cap ≡ l.initial.entries.cap;
 }
 
+-- Each round takes off an entry.
 abbrev pub decreases-loop-left : goal.decreases-loop-left
 decreases-loop-left g l = length l.entries.entries

@@ -2,6 +2,7 @@ use Rattle.std.proofs.Common.{rules}
 use Rattle.allocative_service.proofs.Using.{taken}
 use Rattle.allocative_service.proofs.cache.BoundedCache.change.Goals as goal
 
+-- The value is changed and inserted again.
 pub returns-in-Ok-clause-ok : goal.returns-in-Ok-clause-ok
 returns-in-Ok-clause-ok g c =
     let t = taken _ c.in-Some.key c.in-Some.value c.in-Some.ensures.value in
@@ -14,6 +15,7 @@ returns-in-Ok-clause-ok g c =
       inserts = rw c.remove.ensures.others at c.in-Ok.ensures.ok;
     }
 
+-- The value is changed, and refused as an insertion is.
 pub returns-in-Err-clause-refused : goal.returns-in-Err-clause-refused
 returns-in-Err-clause-refused g c =
     let t = taken _ c.in-Some.key c.in-Some.value c.in-Some.ensures.value in

@@ -2,6 +2,7 @@ use Rattle.std.proofs.Common.{◌∷◌, take, ap, ◌∙◌}
 use Rattle.allocative_service.proofs.Common.{Graph}
 use Rattle.allocative_service.proofs.history.History.take_profile.Goals as goal
 
+-- The profile of the value is kept as the latest.
 pub returns-clause-taken : goal.returns-clause-taken
 returns-clause-taken g c =
     let old = c.args.self.now in

@@ -17,8 +17,10 @@ ordered c =
     let are : map reads.row_figures c.in_ok-rows.field-0.items ≡ reads.figures (sum_of g h) = c.in_ok-rows.ensures.rows ∙ ap (λ (s : Graph). reads.figures s) sum in
     sym (ap (λ (rs : List read.Row). map change_data c.loop-row.changes.items ++ changes_in g h rs) empty ∙ append-nil (map change_data c.loop-row.changes.items)) ∙ c.loop-row.invariant ∙ ap (changes_in g h) start ∙ changes_read g h c.in_ok-rows.field-0.items are
 
+-- The changes are those of the two graphs, in order.
 pub returns-clause-ordered : goal.returns-clause-ordered
 returns-clause-ordered c = ordered c
 
+-- Each path that differs has one change.
 pub returns-clause-each : goal.returns-clause-each
 returns-clause-each c = subst (HasEach c.args.earlier.now c.args.later.now) (sym (ordered c)) (has_each c.args.earlier.now c.args.later.now)

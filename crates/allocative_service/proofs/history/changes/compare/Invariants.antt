@@ -7,5 +7,6 @@ use Rattle.allocative_service.proofs.history.changes.compare.Given as goal
 abbrev pub invariant-loop-row : goal.invariant-loop-row
 invariant-loop-row l = map change_data l.changes.items ++ changes_in l.earlier l.later l.rows.items ≡ changes_in l.earlier l.later l.initial.rows.items
 
+-- Each round takes off a row.
 abbrev pub decreases-loop-row : goal.decreases-loop-row
 decreases-loop-row l = length l.rows.items

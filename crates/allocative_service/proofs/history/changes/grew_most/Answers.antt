@@ -4,6 +4,7 @@ use Rattle.std.proofs.lemmas.List.Sorted.{IsNonDecreasingBy-from_sort_by_key}
 use Rattle.allocative_service.proofs.Most.{rank, grew_first}
 use Rattle.allocative_service.proofs.history.changes.grew_most.Goals as goal
 
+-- The first of the sorted changes are those that grew most.
 pub returns : goal.returns
 returns c =
     let cs = map change_data c.args.changes.now in
