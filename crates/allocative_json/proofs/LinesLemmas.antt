@@ -7,29 +7,35 @@ use Rattle.allocative.specs.Graph.{Lacks}
 use Rattle.allocative.specs.Report.{lines_from, before_last}
 use Rattle.allocative_json.specs.Lines.{kept_line}
 
+-- Bytes of which none is c lack c.
 lacks_from : (c : ℕ) (bs : List ℕ) → ((i : ℕ) → i < length bs → get_or bs i 0 ≢ c) → Lacks c bs
 lacks_from c [] h = tt
 lacks_from c (b ∷ bs) h = (h 0 (omega arith), lacks_from c bs (λ i l. h (suc i) (omega (arith, l))))
 
+-- A choice of two equal values is either.
 same_cond : {A : Type 0} (t : Bool) (x y z : A) → x ≡ z → y ≡ z → cond t x y ≡ z
 same_cond true x y z p q = p
 same_cond false x y z p q = q
 
 -- ---- the last key
+-- Bytes without c end no text before c.
 none_before : (c : ℕ) (best acc d : List ℕ) → Lacks c d → before_last c best acc d ≡ best
 none_before c best acc [] h = refl
 none_before c best acc (b ∷ d) h = rw (ne_eqb b c h.0) (none_before c best (acc ++ b ∷ []) d h.1)
 
+-- The text before the last c is read.
 before_read : (c : ℕ) (best acc x d : List ℕ) → Lacks c d → before_last c best acc (x ++ c ∷ d) ≡ acc ++ x
 before_read c best acc [] d h = rw (eq-eqb c c refl, none_before c acc (acc ++ c ∷ []) d h) (sym (append-nil acc))
 before_read c best acc (b ∷ x) d h =
     same_cond (b == c) _ _ _ (before_read c acc (acc ++ b ∷ []) x d h ∙ append_assoc acc (b ∷ []) x)
     (before_read c best (acc ++ b ∷ []) x d h ∙ append_assoc acc (b ∷ []) x)
 
+-- Without c all bytes follow.
 after_lacking : (c : ℕ) (acc a : List ℕ) → Lacks c a → after_last c acc a ≡ acc ++ a
 after_lacking c acc [] h = sym (append-nil acc)
 after_lacking c acc (b ∷ a) h = rw (ne_eqb b c h.0) (after_lacking c (acc ++ b ∷ []) a h.1 ∙ append_assoc acc (b ∷ []) a)
 
+-- The text after the last c is read.
 after_read : (c : ℕ) (acc x d : List ℕ) → Lacks c d → after_last c acc (x ++ c ∷ d) ≡ d
 after_read c acc [] d h = rw (eq-eqb c c refl) (after_lacking c [] d h)
 after_read c acc (b ∷ x) d h = same_cond (b == c) _ _ _ (after_read c [] x d h) (after_read c (acc ++ b ∷ []) x d h)
@@ -39,6 +45,7 @@ abbrev pub IsRsplit : ℕ → List ℕ → Option (Bor (List ℕ) × Bor (List �
 IsRsplit c bs r = MatchOption r (RFindsChar c bs None)
     (λ x. (i : ℕ) × (j : ℕ) × RFindsChar c bs (Some (i, j)) × (x.0.now ≡ take i bs) × (x.1.now ≡ drop j bs) × (i ≤ j) × (length x.0.now ≡ i) × (length x.1.now + j ≡ length bs))
 
+-- The two parts of a split, of which the second lacks c.
 rsplit_parts : (c : ℕ) (bs : List ℕ) (r : Option (Bor (List ℕ) × Bor (List ℕ))) → IsRsplit c bs r → c < 128
     → MatchOption r (Lacks c bs) (λ x. (bs ≡ x.0.now ++ c ∷ x.1.now) × Lacks c x.1.now)
 rsplit_parts c bs None h low = lacks_from c bs (λ i. NoCharPasses-char c bs i h low)
@@ -56,10 +63,12 @@ rsplit_read c bs (Some x) h low =
     (ap (before_last c [] []) p.0 ∙ before_read c [] [] x.0.now x.1.now p.1, ap (after_last c []) p.0 ∙ after_read c [] x.0.now x.1.now p.1)
 
 -- ---- the lines
+-- The first line ends at the first line feed.
 line_read : (acc a rest : List ℕ) → Lacks 10 a → lines_from acc (a ++ 10 ∷ rest) ≡ (acc ++ a) ∷ lines_from [] rest
 line_read acc [] rest h = rw (append-nil acc) refl
 line_read acc (b ∷ a) rest h = rw (ne_eqb b 10 h.0) (line_read (acc ++ b ∷ []) a rest h.1 ∙ ap (λ l. l ∷ lines_from [] rest) (append_assoc acc (b ∷ []) a))
 
+-- Bytes without a line feed are no line.
 no_line : (acc a : List ℕ) → Lacks 10 a → lines_from acc a ≡ []
 no_line acc [] h = refl
 no_line acc (b ∷ a) h = rw (ne_eqb b 10 h.0) (no_line (acc ++ b ∷ []) a h.1)

@@ -37,6 +37,7 @@ pub refused_texts : (p : Showing) (exact : Bool) (o : Profile) (r : Result Repor
 refused_texts p exact o (Ok made) m = tt
 refused_texts p exact o (Err f) m = subst (RefusesRoots p) (sym m) tt
 
+-- A refusal of a profile is a fault that may come for its roots.
 refused_so : (p : Showing) (r : Refusal) → MayRefuseProfile true p r → RefusesRoots p (fault_of r)
 refused_so p refused.Memory h = tt
 refused_so p refused.TooLarge h = h refl
@@ -48,6 +49,7 @@ refused_profile p refusal (Ok x) e h = tt
 refused_profile p refusal (Err f) e h = subst (RefusesRoots p) (sym e) (refused_so p refusal h)
 
 -- ---- input
+-- No document is empty.
 nothing_read : (d : Data) → read [] ≡ Some d → ⊥
 unfolding serde_json_on_literals
 nothing_read d e = cc
@@ -57,6 +59,7 @@ pub some_input : (input : List ℕ) (d : Data) → IsWholeDocument input d → 0
 some_input [] d h = absurd (nothing_read d h.document.is_read)
 some_input (b ∷ bs) d h = omega arith
 
+-- A fault of the roots is one of their input.
 refused_roots : (input : List ℕ) (index : Bool) (v : Value) (n : Option (BTreeSet ℤ)) (f : Fault) → AreRoots input index (view v) n → RefusesRoots (roots_show v n) f → RefusesReport input index f
 refused_roots input index v n Memory h r = some_input input (view v) h.document
 refused_roots input index v n TooLarge h r = (v, n, h, r)
@@ -79,9 +82,11 @@ profile_weaker p q o up h = record {
   warned_are = h.warned_are;
 }
 
+-- What a list of two shows is what both show.
 two_shown : {T : Type 0} (p : T → Showing) (a b : T) (f : Forest) → each_shows p (a ∷ b ∷ []) f → Both (p a) (p b) f
 two_shown p a b f (g, h, here, (k, none, there, empty, e), d) = (g, k, here, there, d ∙ ap (followed_by g) (e ∙ ap (followed_by k) empty ∙ followed_by-empty k))
 
+-- What two show is what the list of both shows.
 both_shown : {T : Type 0} (p : T → Showing) (a b : T) (f : Forest) → Both (p a) (p b) f → each_shows p (a ∷ b ∷ []) f
 both_shown p a b f (g, h, here, there, e) = (g, h, here, each_one p b h there, e)
 
@@ -117,10 +122,12 @@ pub report_for : (texts : List Word) (known : Option (List ℕ)) (input : List �
 report_for texts known input asked r w a e = IfOk-weaker r _ _ (λ made h. record { words = w; asked = asked; asks = a; input = input; is_read = e; right = h })
 
 -- ---- refusals of a run
+-- What holds of the input holds of the known bytes.
 read_so : (known : Option (List ℕ)) (input : List ℕ) (P : List ℕ → Type 0) → IfSome known (λ bytes. input ≡ bytes) → P input → IfSome known P
 read_so None input P e h = tt
 read_so (Some bytes) input P e h = subst P e h
 
+-- A fault of the report may end the run.
 refused_run : (texts : List Word) (known : Option (List ℕ)) (input : List ℕ) (asked : Words) (f : Fault) → AreWords texts → Asks texts asked → IfSome known (λ bytes. input ≡ bytes) → RefusesReport input asked.index f → MayEndRun texts known f
 refused_run texts known input asked fault.Words w a e h = absurd h.3
 refused_run texts known input asked Reading w a e h = absurd h.3

@@ -10,6 +10,7 @@ use Rattle.allocative_picture.specs.Boxes.{element}
 use Rattle.allocative_picture.specs.Laws.{boxes}
 use Rattle.allocative_picture.proofs.Placing.{less_than, in_order}
 
+-- A row has its element if it is drawn.
 one : (b : Bool) (x rest : List ℕ) (all : ℕ) (r : RowData) (rs : List RowData) → x ≡ element all r → rest ≡ flat_map (element all) rs → cond b x [] ++ rest ≡ flat_map (element all) (cond b (r ∷ rs) rs)
 one true x rest all r rs e f = λ i. e i ++ f i
 one false x rest all r rs e f = f
@@ -23,13 +24,16 @@ boxes_are least all (r ∷ rs) = one (is_drawn least all r) (element all r) (box
 abbrev times : Path → List (Path × ℕ) → ℕ
 times p es = count_by (λ e. is_same_path p e.0) es
 
+-- A path occurs in a list as often as in its first entry and in the others.
 times-cons : (p : Path) (e : Path × ℕ) (es : List (Path × ℕ)) → times p (e ∷ es) ≡ cond (is_same_path p e.0) 1 0 + times p es
 times-cons p e es = sum_by-cons (λ (x : Path × ℕ). cond (is_same_path p x.0) 1 0) e es
 
+-- A path that comes before all entries is not among them.
 never : (p : Path) (es : List (Path × ℕ)) → T (below_all path_cmp p es) → times p es ≡ 0
 never p [] h = refl
 never p (e ∷ es) h = times-cons p e es ∙ (λ i. cond (is_eq ((less_than p e es h).0 i)) 1 0 + never p es (less_than p e es h).1 i)
 
+-- A path that is found in a sorted list occurs once.
 once : (p : Path) (es : List (Path × ℕ)) → T (is_sorted path_cmp es) → is_some (find path_cmp p es) ≡ true → times p es ≡ 1
 once p [] h f = absurd (cc)
 once p (e ∷ es) h f =

@@ -8,14 +8,17 @@ use Rattle.std.specs.Str.{chars}
 use Rattle.allocative_graph.proofs.Basics.{each-append}
 use Rattle.allocative_picture.specs.Escape.{is_unfit, IsPlain, Reads, end, ampersand, less, greater, quote, apostrophe, itself, EscapeLaws}
 
+-- What holds in both cases holds of a choice.
 by_cond : {X : Type 0} (P : X → Type 0) (b : Bool) (x y : X) → (b ≡ true → P x) → (b ≡ false → P y) → P (cond b x y)
 by_cond P true x y f g = f refl
 by_cond P false x y f g = g refl
 
 -- ---- plain bytes
+-- Whether a byte is plain, by tests.
 abbrev is_plain : ℕ → Bool
 is_plain b = not (b == 60) && not (b == 62) && not (b == 34) && not (b == 39) && not (nat_lt b 32)
 
+-- A byte that passes the tests is plain.
 plain_by : (b : ℕ) → is_plain b ≡ true → IsPlain b
 plain_by b e = record {
   no_less = λ s. grind (arith, nat_tests);
@@ -25,9 +28,11 @@ plain_by b e = record {
   no_control = grind (arith, nat_tests);
 }
 
+-- A character that is not unfit is no control.
 fit : (c : ℕ) → is_unfit c ≡ false → nat_lt c 32 ≡ false
 fit c e = grind (arith, nat_tests)
 
+-- Bytes that pass the tests are plain.
 all_plain_by : (bs : List ℕ) → list_all is_plain bs ≡ true → AllByRecursion IsPlain bs
 all_plain_by [] e = tt
 all_plain_by (b ∷ bs) e = (plain_by b (and_parts _ _ e).0, all_plain_by bs (and_parts _ _ e).1)
@@ -37,15 +42,18 @@ all_plain_by (b ∷ bs) e = (plain_by b (and_parts _ _ e).0, all_plain_by bs (an
 abbrev IsMarkup : List ℕ → List ℕ → Type 0
 IsMarkup x s = AllByRecursion IsPlain x × ((m t : List ℕ) → Reads m t → Reads (x ++ m) (s ++ t))
 
+-- All bytes are from 128 on.
 abbrev High : List ℕ → Type 0
 High bs = AllByRecursion (λ b. 128 ≤ b) bs
 
+-- Bytes from 128 on are markup of themselves.
 high : (bs : List ℕ) → High bs → IsMarkup bs bs
 high [] h = (tt, λ m t r. r)
 high (b ∷ bs) h =
     let low : 128 ≤ b = h.0 in
     ((plain_by b (grind (arith, nat_tests)), (high bs h.1).0), λ m t r. itself b (bs ++ m) (bs ++ t) (λ e. omega arith) (λ e. omega arith) ((high bs h.1).1 m t r))
 
+-- The bytes that a reader finds for a character.
 abbrev legible_char : ℕ → List ℕ
 legible_char c = cond (is_unfit c) (encode_utf8 65533) (encode_utf8 c)
 
@@ -64,6 +72,7 @@ char c =
     (λ _. high _ (by_cond High (nat_lt c 2048) _ _ (λ _. (omega arith, (omega arith, tt))) (λ _.
     by_cond High (nat_lt c 65536) _ _ (λ _. (omega arith, (omega arith, (omega arith, tt)))) (λ _. (omega arith, (omega arith, (omega arith, (omega arith, tt))))))))))))))
 
+-- The markup of some characters has plain bytes only, and reads as these characters.
 markup : (cs : List ℕ) → AllByRecursion IsPlain (flat_map escaped_char cs) × Reads (flat_map escaped_char cs) (flat_map legible_char cs)
 markup [] = (tt, end)
 markup (c ∷ cs) = (each-append IsPlain (escaped_char c) (flat_map escaped_char cs) (char c).0 (markup cs).0, (char c).1 _ _ (markup cs).1)

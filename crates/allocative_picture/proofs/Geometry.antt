@@ -17,6 +17,7 @@ whole_in rs p = sum_by (λ e. cond (begins p e.0) e.1 0) rs
 abbrev lower : ℕ → Path → Path → ℕ
 lower n q p = cond (is_lt (path_cmp q p)) n 0
 
+-- The bytes n of the path q, if p is a beginning of q.
 abbrev below : ℕ → Path → Path → ℕ
 below n q p = cond (begins p q) n 0
 
@@ -24,12 +25,15 @@ below n q p = cond (begins p q) n 0
 abbrev lower_by : Ordering → ℕ → Path → Path → ℕ
 lower_by o n q p = cond (is_lt (ordering_then o (path_cmp q p))) n 0
 
+-- The bytes n of q as `below` counts them, if the first keys compare as o.
 abbrev below_by : Ordering → ℕ → Path → Path → ℕ
 below_by o n q p = cond (is_eq (ordering_reverse o) && begins p q) n 0
 
+-- `below` goes by the order of the first keys.
 below-cons : (n : ℕ) (l k : Key) (q p : Path) → below n (l ∷ q) (k ∷ p) ≡ below_by (key_cmp l k) n q p
 below-cons n l k q p = ap (λ o. cond (is_eq o && begins p q) n 0) (nat_list_cmp_total.antisymm k l)
 
+-- No path comes before the root.
 never_lower : (n : ℕ) (q : Path) → lower n q [] ≡ 0
 never_lower n [] = refl
 never_lower n (l ∷ q) = refl
@@ -77,6 +81,7 @@ beside n (m ∷ q) (j ∷ p) k l h =
 abbrev lowers : Path → Path × ℕ → ℕ
 lowers p e = lower e.1 e.0 p
 
+-- The bytes of an entry that come before a path, or are its own or below it.
 abbrev reaches : Path → Path × ℕ → ℕ
 reaches p e = lower e.1 e.0 p + below e.1 e.0 p
 
@@ -86,9 +91,11 @@ reached p [] = omega arith
 reached p (r ∷ rs) = omega (arith, sum_by-cons (lowers p) r rs, sum_by-cons (λ e. below e.1 e.0 p) r rs, sum_by-cons (reaches p) r rs, reached p rs)
 
 -- ---- edges
+-- More bytes have no lower edge, if there are bytes at all.
 edge-le : (all a b : ℕ) → 0 < all → a ≤ b → edge all a ≤ edge all b
 edge-le all a b some h = grind arith
 
+-- More bytes have no lower edge.
 edges-le : (all a b : ℕ) → a ≤ b → edge all a ≤ edge all b
 edges-le zero a b h = omega (arith, div-zero (a * 1000000), div-zero (b * 1000000))
 edges-le (suc n) a b h = edge-le (suc n) a b (omega arith) h

@@ -9,6 +9,7 @@ use Rattle.allocative_graph.proofs.Basics.{path_total}
 use Rattle.allocative_graph.proofs.Below.{is_lt-Less}
 use Rattle.allocative_picture.specs.Rows.{rows_of}
 
+-- Paths with their sizes.
 abbrev Sizes : Type 0
 Sizes = List (Path × ℕ)
 
@@ -24,6 +25,7 @@ in_order e es h = (first _ (is_sorted path_cmp es) h, second (below_all path_cmp
 abbrev pub bytes_of : Sizes → ℕ
 bytes_of es = sum_by (λ e. e.1) es
 
+-- The bytes before a path are those of the first entry, if it comes before, and of the others.
 before-cons : (p : Path) (e : Path × ℕ) (es : Sizes) → before_in (e ∷ es) p ≡ cond (is_lt (path_cmp e.0 p)) e.1 0 + before_in es p
 before-cons p e es = sum_by-cons (λ (x : Path × ℕ). cond (is_lt (path_cmp x.0 p)) x.1 0) e es
 
@@ -54,9 +56,11 @@ own_bytes fs = sum_by (λ f. f.self_size) fs
 pub own-cons : (f : Figures) (fs : List Figures) → own_bytes (f ∷ fs) ≡ f.self_size + own_bytes fs
 own-cons f fs = sum_by-cons (λ (x : Figures). x.self_size) f fs
 
+-- The figures of an entry of a graph.
 abbrev figure : Graph → Path × ℕ → Figures
 figure g e = record { path = e.0; self_size = e.1; total_size = total_at g e.0 }
 
+-- Each row of a graph begins at the bytes of the entries to its left.
 placed : (M : Path → Mark) (g : Graph) (a c : Sizes) → entries g ≡ a ++ c → rows_from M (bytes_of a) (map (figure g) c) ≡ map (row_of M g) c
 placed M g a [] e = refl
 placed M g a (x ∷ c) e =

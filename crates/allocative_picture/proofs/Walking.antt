@@ -12,12 +12,14 @@ use Rattle.allocative_graph.proofs.ReadRows.{child_read, figured, node_read}
 use Rattle.allocative_picture.specs.Rows as picture
 use Rattle.allocative_picture.proofs.Placing.{own_bytes, own-cons}
 
+-- The second of two lists of rows begins behind the bytes of the first.
 rows_from-append : (M : Path → Mark) (b : ℕ) (fs gs : List Figures) → rows_from M b (fs ++ gs) ≡ rows_from M b fs ++ rows_from M (b + own_bytes fs) gs
 rows_from-append M b [] gs = ap (λ n. rows_from M n gs) (let e : b ≡ b + 0 = omega arith in e)
 rows_from-append M b (f ∷ fs) gs =
     let e : b + f.self_size + own_bytes fs ≡ b + own_bytes (f ∷ fs) = omega (arith, own-cons f fs) in
     ap (λ (s : List RowData). row_from M b f ∷ s) (rows_from-append M (b + f.self_size) fs gs ∙ ap (λ n. rows_from M (b + f.self_size) fs ++ rows_from M n gs) e)
 
+-- The own bytes of figures are the sizes of their entries.
 own-figured : (t : Path → ℕ) (ks : Path) (rs : List (Path × ℕ)) → own_bytes (figured t ks rs) ≡ sum_of_rows rs
 own-figured t ks [] = omega arith
 own-figured t ks (r ∷ rs) = omega (arith, own-cons (record { path = ks ++ r.0; self_size = r.1; total_size = t r.0 }) (figured t ks rs), own-figured t ks rs)

@@ -8,6 +8,7 @@ use Rattle.allocative_graph.proofs.NodeText.{texts}
 use Rattle.allocative_collectors.specs.Warned as held
 use Rattle.allocative_collectors.specs.declared.output.WarnedPath.{WarnedPath}
 
+-- Two comparisons together are equal if each is.
 both : (r s : Ordering) → is_eq (ordering_then r s) ≡ (is_eq r && is_eq s)
 both Less s = refl
 both Equal s = refl
@@ -17,6 +18,7 @@ both Greater s = refl
 abbrev pub are_equal : List (Bor (List ℕ)) → List (Bor (List ℕ)) → Bool
 are_equal = pointwise (λ x y. pointwise nat_eq x.now y.now)
 
+-- Lists of keys are equal exactly if their paths are.
 same_keys : (xs ys : List (Bor (List ℕ))) → are_equal xs ys ≡ is_same_path (texts xs) (texts ys)
 same_keys [] [] = refl
 same_keys [] (y ∷ ys) = refl

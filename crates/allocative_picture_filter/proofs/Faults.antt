@@ -22,6 +22,7 @@ added-unwritten g (t ∷ ts) (inl (inl h)) = h
 added-unwritten g (t ∷ ts) (inl (inr (read, is, h))) = h
 added-unwritten g (t ∷ ts) (inr (next, adds, h)) = added-unwritten next ts h
 
+-- A run is not stopped by a write before it writes.
 made-unwritten : (asked : words.Arguments) (before after : List Text) (known : List ℕ) → Stops asked before after known Writing → ⊥
 made-unwritten asked before after known (inl h) = added-unwritten _ _ h
 made-unwritten asked before after known (inr (g, up, inl (inl h))) = added-unwritten _ _ h

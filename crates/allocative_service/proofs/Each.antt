@@ -35,15 +35,18 @@ changes_read g h rs e =
 abbrev is_of : Path → Changed → Bool
 is_of p c = is_same_path p c.path
 
+-- Two tests that hold together each hold.
 both : (a b : Bool) → T (a && b) → T a × T b
 both true b h = (tt, h)
 both false b h = absurd h
 
+-- What is less is not equal.
 is_less : (o : Ordering) → T (is_lt o) → is_eq o ≡ false
 is_less Less h = refl
 is_less Equal h = absurd h
 is_less Greater h = absurd h
 
+-- A change is found if it is one of the path.
 one_of : (p : Path) (c : Changed) (b s : Bool) → is_of p c ≡ s → filter (is_of p) (cond b [] (c ∷ [])) ≡ cond s (cond b [] (c ∷ [])) []
 one_of p c true true e = refl
 one_of p c true false e = refl
@@ -60,10 +63,12 @@ parted g h p e es s is =
     filter-append (is_of p) (change_of g h e.0) (of_entries g h es)
     ∙ ap (λ cs. cs ++ filter (is_of p) (of_entries g h es)) (one_of p (record { path = e.0; earlier = size_at g e.0; later = size_at h e.0 }) (size_at g e.0 == size_at h e.0) s is)
 
+-- A path that comes before all entries has no change among them.
 never : (g h : Graph) (p : Path) (es : List (Path × ℕ)) → T (below_all path_cmp p es) → filter (is_of p) (of_entries g h es) ≡ []
 never g h p [] t = refl
 never g h p (e ∷ es) t = parted g h p e es false (is_less _ (both _ _ t).0) ∙ never g h p es (both (is_lt (path_cmp p e.0)) _ t).1
 
+-- A path has its change exactly if it is found among the sorted entries.
 found : (g h : Graph) (p : Path) (es : List (Path × ℕ)) → T (is_sorted path_cmp es) → filter (is_of p) (of_entries g h es) ≡ cond (is_some (find path_cmp p es)) (change_of g h p) []
 found g h p [] t = refl
 found g h p (e ∷ es) t =

@@ -13,11 +13,13 @@ use Rattle.allocative_service.specs.Entries.{HandsBack, IsNeeded}
 pub bytes_of-cons : {K V : Type 0} (e : K × Kept V) (es : Entries K V) → bytes_of (e ∷ es) ≡ e.1.bytes + bytes_of es
 bytes_of-cons {K} {V} e es = sum_by-cons (λ (k : Kept V). k.bytes) e.1 (values_of es)
 
+-- One entry more adds its bytes.
 bytes_of-push : {K V : Type 0} (us : Entries K V) (e : K × Kept V) → bytes_of (us ++ e ∷ []) ≡ bytes_of us + e.1.bytes
 bytes_of-push {K} {V} us e =
     let last = bytes_of-cons e [] in
     rw (map-append (λ (e : K × Kept V). e.1) us (e ∷ [])) (sum_by-append (λ (k : Kept V). k.bytes) (values_of us) (e.1 ∷ []) ∙ omega (arith, last))
 
+-- Entries that had to go beside another have to go from the room that it leaves.
 less_needed : {K V : Type 0} (room : ℕ) (k : K × Kept V) (others gone : Entries K V) → k.1.bytes ≤ room → IsNeeded room (k ∷ others) gone → IsNeeded (room - k.1.bytes) others gone
 less_needed room k others [] fits h = tt
 less_needed room k others (e ∷ more) fits h = omega (arith, fits, h, bytes_of-cons k others)

@@ -16,6 +16,7 @@ IsWord c = growth (change_data c) < 2 ^ 64
 abbrev pub rank : Change → ℕ
 rank c = 2 ^ 64 - 1 - growth (change_data c)
 
+-- In a sorted list no later change grew more.
 falls : (xs : List Change) → All IsWord xs → IsNonDecreasingBy rank xs → (i j : ℕ) (d e : Changed) → i ≤ j → j < length (map change_data xs) → growth (get_or (map change_data xs) j e) ≤ growth (get_or (map change_data xs) i d)
 falls [] w h i j d e le lt = absurd (omega arith)
 falls (x ∷ xs) w h i j d e le lt =

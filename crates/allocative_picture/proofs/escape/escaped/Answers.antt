@@ -5,6 +5,7 @@ use Rattle.std.proofs.lemmas.Iterator.{YieldsList-from_chars}
 use Rattle.std.proofs.lemmas.Iterator.Consumers.{YieldsList-end}
 use Rattle.allocative_picture.proofs.escape.escaped.Goals as goal
 
+-- A list read item by item is the list.
 same_items : (xs : List ℕ) → map (λ x. x) xs ≡ xs
 same_items [] = refl
 same_items (x ∷ xs) = ap (λ s. x ∷ s) (same_items xs)

@@ -15,6 +15,7 @@ loop-left-preserved g c =
       capacity = c.loop-left.invariant.capacity;
     })
 
+-- A list without a last entry is empty.
 none_left : {X : Type 0} (es : List X) → slice_get es (length es - 1) ≡ None → length es ≡ 0
 none_left es none = grind (arith, gets)
 
