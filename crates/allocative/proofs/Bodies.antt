@@ -6,8 +6,8 @@ use Rattle.std.proofs.lemmas.Bool.Decides.{nat_tests}
 use Rattle.allocative_described.specs.RawTable.{IsRawTableSize}
 use Rattle.allocative_described.proofs.Buckets.{raw_table_size_same}
 use Rattle.allocative.specs.Bodies.{buffer_entry, is_text, text_shows}
-use Rattle.allocative.proofs.Exact.{declared_nothing, declared_entry, entry_fits, rightly_as}
-use Rattle.allocative.proofs.Visits.{shows_weaker}
+use Rattle.allocative.proofs.Exact.{declared_nothing, declared_entry, entry_fits, only_if_full_as}
+use Rattle.allocative.proofs.Visits.{adds_weaker}
 use Rattle.allocative.proofs.Meaning.{entered_as, means_either}
 
 -- ---- slices
@@ -43,9 +43,9 @@ pub entered_plain : {T : Type 0} {x : Bool} (name : Key) (size : Option ℕ) (ne
 entered_plain name size needs_drop p xs e s = record {
   same_reference = s.same_reference;
   same_outer = s.same_outer;
-  shown = shows_weaker (plain_slice name size needs_drop p xs e) s.shown;
+  shown = adds_weaker (plain_slice name size needs_drop p xs e) s.shown;
   cause = s.cause;
-  rightly = λ i. rightly_as (plain_slice name size needs_drop p xs e) (plain_declared name size needs_drop p xs e) (s.rightly i);
+  only_if_full = λ i. only_if_full_as (plain_slice name size needs_drop p xs e) (plain_declared name size needs_drop p xs e) (s.only_if_full i);
 }
 
 pub each_slice : {T : Type 0} (name : Key) (size : Option ℕ) (needs_drop : Bool) (p : T → Showing) (xs : List T) → are_shown_each needs_drop size ≡ true →

@@ -1,40 +1,39 @@
 -- What a caller of `visit_field_with` learns from the closure's outcome.
-use Rattle.std.proofs.Common.{◌≡◌, ℕ, Bool, Result, Ok, Err, MutBor, false, subst, refl}
-use Rattle.allocative.proofs.Common.{Refusal, Key, Forest, held, ShowsNoContent, State, Going, OfHeld, nothing_held, left, Showing, Inside, Shows, Enters, Leaves, Settles, Visitor, called, refused_inside, IsHeldSum}
+use Rattle.std.proofs.Common.{◌≡◌, ℕ, Bool, Result, Ok, Err, MutBor, false, subst, refl, Some}
+use Rattle.allocative.proofs.Common.{Outer, Refusal, Key, Forest, held, ShowsNoContent, State, Going, OfHeld, nothing_held, close_entry, Showing, Inside, AddsForest, OpensEntry, Settles, Visitor, called, refused_inside, IsHeldSum, ClosesEntry}
 use Rattle.std.specs.Fn.{Once}
 use Rattle.allocative.specs.Closures.{CallShows, CallsInside, not_called, CalledAtRoot, AnswersSum, after_told}
-use Rattle.allocative.proofs.Visits.{left_by, inline_shows, entry_err, not_entered, shows_refused_err}
-use Rattle.allocative.proofs.Steps.{leaves_by_left}
+use Rattle.allocative.proofs.Visits.{adds_inline, entry_err, not_entered, adds_refused_err}
 pub use Rattle.allocative.proofs.Within.{same_err}
-use Rattle.allocative.proofs.Roots.{run_shows, held_by_run}
+use Rattle.allocative.proofs.Roots.{visits_root, held_by_visit}
 
 -- what is answered once the visitor is left
-pub sum_answered : (o : Bool) (c : State) (n : ℕ) {t : State} {q : Result (Unit {0}) Refusal} → Leaves o c t → Settles t q → q ≡ Ok tt → IsHeldSum t n → AnswersSum (left o c) (Ok n)
-sum_answered o c n {t} l k e s = rw (← left_by l) (subst (Settles t) e k, s)
+pub sum_answered : (o : Outer) (c : State) (n : ℕ) {t : State} {q : Result (Unit {0}) Refusal} → ClosesEntry o c t → Settles t q → q ≡ Ok tt → IsHeldSum t n → AnswersSum (close_entry o c) (Ok n)
+sum_answered o c n {t} l k e s = rw (← l.closes) (subst (Settles t) e k, s)
 
-pub refusal_answered : (o : Bool) (c : State) {e : Refusal} {r : Result ℕ Refusal} {t : State} {q : Result (Unit {0}) Refusal} → r ≡ Err e → Leaves o c t → Settles t q → q ≡ Err e → AnswersSum (left o c) r
-refusal_answered o c {t = t} is l k f = rw (← left_by l, is) (subst (Settles t) f k)
+pub refusal_answered : (o : Outer) (c : State) {e : Refusal} {r : Result ℕ Refusal} {t : State} {q : Result (Unit {0}) Refusal} → r ≡ Err e → ClosesEntry o c t → Settles t q → q ≡ Err e → AnswersSum (close_entry o c) r
+refusal_answered o c {t = t} is l k f = rw (← l.closes, is) (subst (Settles t) f k)
 
 -- what a closure showed, with its refusal as the first cause
-told_shows : {p : Showing} {s c : State} (r : Result (Unit {0}) Refusal) → Shows p s r c → Shows p s r (after_told r c)
+told_shows : {p : Showing} {s c : State} (r : Result (Unit {0}) Refusal) → AddsForest p s r c → AddsForest p s r (after_told r c)
 told_shows (Ok u) h = h
-told_shows (Err e) h = shows_refused_err e h refl
+told_shows (Err e) h = adds_refused_err e h refl
 
 module _ {F : Type 0} (g : Once F (MutBor Visitor × Unit {0}) (Result (Unit {0}) Refusal × (MutBor Visitor × Unit {0}))) (f : F) where
-  pub not_called_by : {k : Key} {n : ℕ} {s t : State} {e : Refusal} {r : Result (Unit {0}) Refusal} → r ≡ Err e → Enters false k n s (Err e) t → CallsInside g f k n s t r
+  pub not_called_by : {k : Key} {n : ℕ} {s t : State} {e : Refusal} {r : Result (Unit {0}) Refusal} → r ≡ Err e → OpensEntry false k (Some n) s (Err e) t → CallsInside g f k n s t r
   not_called_by is w = rw is (not_called w)
 
   -- The call shows an entry with the closure's forest inside it, where each call of the closure shows one of p.
-  pub with_shows : (p : Showing) {k : Key} {n : ℕ} {s t : State} {r : Result (Unit {0}) Refusal} → CallsInside g f k n s t r → CallShows g f p → Shows (Inside k n p) s r t
+  pub with_shows : (p : Showing) {k : Key} {n : ℕ} {s t : State} {r : Result (Unit {0}) Refusal} → CallsInside g f k n s t r → CallShows g f p → AddsForest (Inside k n p) s r t
   with_shows p (not_called w) each = not_entered w
-  with_shows p (called x y w i c l o) each = inline_shows w i (each x y _ c) l o
-  with_shows p (refused_inside x y z c w i m e l) each = entry_err {y = c} w i (shows_refused_err c (each x y _ m) e) l
+  with_shows p (called x y w i c l o) each = adds_inline w i (each x y _ c) l o
+  with_shows p (refused_inside x y z c w i m e l) each = entry_err {z = c} w i (adds_refused_err c (each x y _ m) e) l
 
   -- the sum of a closure's entries, where each call of it shows one of p
   pub held_with_shows : (p : Showing) (n : ℕ) → CalledAtRoot g f (Ok n) → CallShows g f p → (t : Forest) × p t × ShowsNoContent t × (n ≡ held t)
   held_with_shows p n h each =
       let c = h.called in
-      let shown : Shows p h.before.collector.now c.told h.after.collector.now = rw c.now (told_shows c.told (each h.before c.after c.told c.calls)) in
+      let shown : AddsForest p h.before.collector.now c.told h.after.collector.now = rw c.now (told_shows c.told (each h.before c.after c.told c.calls)) in
       let begun = Going (OfHeld nothing_held) in
-      let end = left h.after.outer_is_unique h.after.collector.now in
-      held_by_run p begun end tt n refl (run_shows begun (Ok tt) h.begun refl shown (leaves_by_left h.after.outer_is_unique h.after.collector.now end refl) c.same_outer h.answers.0) h.answers.1
+      let end = close_entry h.after.outer h.after.collector.now in
+      held_by_visit p begun end tt n refl (visits_root begun (Ok tt) h.begun refl shown (record { closes = refl }) c.same_outer h.answers.0) h.answers.1

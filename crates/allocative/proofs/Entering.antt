@@ -64,7 +64,7 @@ module _ (N : RattleType) (told : Laws N) (In : Key → N.Denot → State → Re
     ghost = Unit {0};
     requires = λ g. emp 𝓤;
     ensures = λ g r e. sep 𝓤 (sem 𝓛 (NestsBy a.1.0 a.1.1.0 a.0 r)) (sep 𝓤
-        (fact 𝓤 (IfOk r (λ v. In a.1.0 a.1.1.0 a.0.now.collector.now (Ok v.outer_is_unique) v.collector.now)))
+        (fact 𝓤 (IfOk r (λ v. In a.1.0 a.1.1.0 a.0.now.collector.now (Ok v.outer) v.collector.now)))
         (fact 𝓤 (IfErr r (No a.1.0 a.1.1.0 a.0.now.collector.now))));
   }
 
@@ -74,7 +74,7 @@ module _ (N : RattleType) (told : Laws N) (In : Key → N.Denot → State → Re
     requires = λ g. emp 𝓤;
     ensures = λ g r e. sep 𝓤 (sem 𝓛 (LendsBy a.1.0 a.1.1.0 a.0 r)) (sep 𝓤
         (fact 𝓤 (IfOk r (λ v. v.collector.ghost_name ≡ a.0.ghost_name))) (sep 𝓤
-        (fact 𝓤 (IfOk r (λ v. In a.1.0 a.1.1.0 a.0.now (Ok v.outer_is_unique) v.collector.now)))
+        (fact 𝓤 (IfOk r (λ v. In a.1.0 a.1.1.0 a.0.now (Ok v.outer) v.collector.now)))
         (fact 𝓤 (IfErr r (No a.1.0 a.1.1.0 a.0.now)))));
   }
 
@@ -132,7 +132,7 @@ module _ (N : RattleType) (told : Laws N) (In : Key → N.Denot → State → Re
       (and_then ! (get ! refl) (and_then ! (get ! refl) (and_then ! (get ! refl) (no_more !)))) (λ u.
       use1 𝓛 (later (some (λ (res : Result Visitor Refusal). ((‵ (flft κ q) ⊛ ‵ ftrue) ⊛ ‵ ((Answer κs).own_val res (u ∷ []))) ⊛
       some (λ (vs : Lasts Inner (κ, tt) z.0.3). ‵ (lasts Inner (κ, tt) z.0.3 vs) ⊛ ‵ (LendsBy k n r res) ⊛
-      raw (fact 𝓤 (IfOk res (λ w. w.collector.ghost_name ≡ r.ghost_name))) ⊛ raw (fact 𝓤 (IfOk res (λ w. In k n r.now (Ok w.outer_is_unique) w.collector.now))) ⊛
+      raw (fact 𝓤 (IfOk res (λ w. w.collector.ghost_name ≡ r.ghost_name))) ⊛ raw (fact 𝓤 (IfOk res (λ w. In k n r.now (Ok w.outer) w.collector.now))) ⊛
       raw (fact 𝓤 (IfErr res (No k n r.now))))))) (id⊢ 𝓤 _) $
       await ! tt $ pick ! (λ res. split ! $ split ! $ move ! (2 ∷ []) $ pick ! (λ vs. split ! $ drop ! $ split ! $
       move ! (1 ∷ []) $ split ! $ heard ! _ (λ _. split ! $ heard ! _ (λ entered. heard ! _ (λ refused.
@@ -148,4 +148,4 @@ module _ (N : RattleType) (told : Laws N) (In : Key → N.Denot → State → Re
       suffices ! _ (ends_at 𝓛 Outer stayed c y u res (tt, (tt, (rest (N.exit yes) n, tt))) (tt, (tt, (tt, tt)))) $
       move ! (2 ∷ []) $ split ! $ move ! (0 ∷ 4 ∷ []) $ join ! $ move ! (1 ∷ []) $ nothing ! $ fjoin ! $ nothing ! $ fjoin ! $ nothing ! $ fjoin ! $
       move ! (0 ∷ 2 ∷ []) $ join ! $ move ! (1 ∷ 0 ∷ []) $ join ! $ frame ! $
-      says_two ! (subst (λ (x : State). IfOk res (λ w. In k n x (Ok w.outer_is_unique) w.collector.now)) same entered, subst (λ (x : State). IfErr res (No k n x)) same refused) $ done !)))))))))))))))
+      says_two ! (subst (λ (x : State). IfOk res (λ w. In k n x (Ok w.outer) w.collector.now)) same entered, subst (λ (x : State). IfErr res (No k n x)) same refused) $ done !)))))))))))))))

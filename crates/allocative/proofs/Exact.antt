@@ -1,6 +1,6 @@
 -- How visits that refuse only where they must compose: one after another, inside an entry, and as a shared content.
 use Rattle.std.proofs.Common.{◌≡◌, ℕ, ◌+◌, ◌<◌, ◌^◌, Bool, true, false, ◌&&◌, IsTrue, cond, List, [], ◌∷◌, ◌++◌, flat_map, Option, Some, None, inl, inr, Result, Ok, Err, refl, sym, ◌∙◌, ap, subst, arith}
-use Rattle.allocative.proofs.Common.{Refusal, Memory, TooLarge, Key, Identity, Forest, Empty, First, Again, followed_by, entry_of, add_all, held, Live, Kind, OfGraph, OfHeld, State, Failed, Going, plus, enter, enter_first, Takes, is_graph, is_in_unique, leave, left, failed_with, Showing, Nothing, Both, InsideAs, Inside, InsideUnique, sized, Field, SharedWith, each_shows, HasFailed, Enters, stays_failed, is_refused, is_entered, EntersSized, stays_unsized, is_unsized, is_sized, EntersShared, stays_shared, is_refused_shared, goes_past, enters_first, enters_again, all_bytes, HasRoomFor, ShowsContents, IsDeclared, CanTake, MayRefuse, RefusesRightly, has_added, has_refused}
+use Rattle.allocative.proofs.Common.{Outer, Refusal, Memory, TooLarge, Key, Identity, Forest, Empty, First, Again, followed_by, entry_of, add_all, held, Live, Kind, OfGraph, OfHeld, State, Failed, Going, plus, enter, enter_first, Takes, is_graph, outer_of, leave, close_entry, failed_with, Showing, Nothing, Both, InsideAs, Inside, InsideUnique, sized, Field, SharedWith, each_shows, HasFailed, OpensEntry, stays_failed, is_refused, is_entered, is_unsized, OpensShared, stays_shared, is_refused_shared, goes_past, enters_first, enters_again, all_bytes, HasRoomFor, ShowsContents, IsDeclared, CanTake, MayRefuse, FailsOnlyIfFull, has_added, has_refused, ClosesEntry}
 use Rattle.std.proofs.lemmas.Bool.{false≢true, and_parts}
 use Rattle.std.proofs.lemmas.Grind.{flat_map-append}
 use Rattle.allocative_graph.specs.declared.refusal.Refusal.TheVariants.{Open}
@@ -8,7 +8,7 @@ use Rattle.allocative_graph.specs.Path.{Path}
 use Rattle.allocative_graph.specs.Forest.{Inline, Unique, Bag, own_behind, contents, content_entries}
 use Rattle.allocative_graph.specs.Sums.{Sums, entered, add}
 use Rattle.allocative_graph.specs.Held.{inline_bytes}
-use Rattle.allocative_graph.specs.Collector.{added, plus_live}
+use Rattle.allocative_graph.specs.Collector.{entries_at, plus_live}
 use Rattle.allocative_graph.specs.Visits.{HasRoom, Refuses}
 use Rattle.allocative_graph.proofs.Below.{entered-add}
 use Rattle.allocative_graph.proofs.Following.{own-following, contents-following}
@@ -39,7 +39,7 @@ bytes_of_all p (First k n i inside after) = omega (arith, bag-append, contents-a
 bytes_of_all p (Again k n i after) = omega (arith, bytes_of_all p after)
 
 pub entered-plus : (c : Live) (f : Forest) → entered (plus_live c f).sums ≡ entered c.sums + all_bytes f
-entered-plus c f = entered-add_all c.sums (added c.here f) ∙ ap (λ n. entered c.sums + n) (bag-append (own_behind c.here f) (content_entries f) ∙ bytes_of_all c.here f)
+entered-plus c f = entered-add_all c.sums (entries_at c.here f) ∙ ap (λ n. entered c.sums + n) (bag-append (own_behind c.here f) (content_entries f) ∙ bytes_of_all c.here f)
 
 all_bytes-following : (f g : Forest) → all_bytes (followed_by f g) ≡ all_bytes f + all_bytes g
 all_bytes-following f g =
@@ -163,18 +163,18 @@ pointer_refuses p k n i c e (inl (j, h)) = subst (MayRefuse (SharedWith k n i p)
 pointer_refuses p k n i c e (inr (j, h)) = subst (MayRefuse (SharedWith k n i p) (OfGraph c)) (sym j) refl
 
 -- ---- visits
-pub rightly_nothing : (s : State) (u : Unit) → RefusesRightly Nothing s (Ok u) s
-rightly_nothing (Failed r) u = had_failed
-rightly_nothing (Going b) u = has_added Empty refl (takes_nothing b) (sym (plus-nothing b))
+pub only_if_full_nothing : (s : State) (u : Unit) → FailsOnlyIfFull Nothing s (Ok u) s
+only_if_full_nothing (Failed r) u = had_failed
+only_if_full_nothing (Going b) u = has_added Empty refl (takes_nothing b) (sym (plus-nothing b))
 
--- What refuses rightly as p does so as q, where p allows no more than q, and is declared where q can be added.
-pub rightly_as : {p q : Showing} {a b : State} {r : Result Unit Refusal} → ((f : Forest) → p f → q f) → ((k : Kind) → CanTake k q → IsDeclared p) → RefusesRightly p a r b → RefusesRightly q a r b
-rightly_as up down had_failed = had_failed
-rightly_as up down (has_added f x t e) = has_added f (up f x) t e
-rightly_as up down (has_refused {b = b} {e = e} m) = has_refused (may_refuse b b (λ w. (down b w, λ f x. w.1 f (up f x))) refl e m)
+-- What fails as p only if full does so as q, if p allows no more than q, and is declared if q can be added.
+pub only_if_full_as : {p q : Showing} {a b : State} {r : Result Unit Refusal} → ((f : Forest) → p f → q f) → ((k : Kind) → CanTake k q → IsDeclared p) → FailsOnlyIfFull p a r b → FailsOnlyIfFull q a r b
+only_if_full_as up down had_failed = had_failed
+only_if_full_as up down (has_added f x t e) = has_added f (up f x) t e
+only_if_full_as up down (has_refused {b = b} {e = e} m) = has_refused (may_refuse b b (λ w. (down b w, λ f x. w.1 f (up f x))) refl e m)
 
-pub rightly_weaker : {p q : Showing} {a b : State} {r : Result Unit Refusal} → ((f : Forest) → p f → q f) → (IsDeclared q → IsDeclared p) → RefusesRightly p a r b → RefusesRightly q a r b
-rightly_weaker up down = rightly_as up (λ k w. down w.0)
+pub only_if_full_weaker : {p q : Showing} {a b : State} {r : Result Unit Refusal} → ((f : Forest) → p f → q f) → (IsDeclared q → IsDeclared p) → FailsOnlyIfFull p a r b → FailsOnlyIfFull q a r b
+only_if_full_weaker up down = only_if_full_as up (λ k w. down w.0)
 
 -- The bytes of an entry that can be added fit a word.
 pub entry_fits : {p : Showing} (u : Bool) (k : Key) (n : ℕ) (b : Kind) → CanTake b (InsideAs u k n p) → n < 2 ^ 64
@@ -182,60 +182,62 @@ entry_fits u k n (OfGraph c) w = omega (arith, can_entry u k n (OfGraph c) w)
 entry_fits true k n (OfHeld d) w = let r = declared_inside true k n w.0 in (w.1 (entry_of true k n r.0) (r.0, r.1, refl)).1.0
 entry_fits false k n (OfHeld d) w = let r = declared_inside false k n w.0 in (w.1 (entry_of false k n r.0) (r.0, r.1, refl)).1.0
 
-pub rightly_both : {p q : Showing} {a b c : State} {u : Unit} {r : Result Unit Refusal} → RefusesRightly p a (Ok u) b → RefusesRightly q b r c → RefusesRightly (Both p q) a r c
-rightly_both had_failed s = had_failed
-rightly_both (has_added {b = b} f x t e) (has_added {c = c} g y s k) =
+pub only_if_full_both : {p q : Showing} {a b c : State} {u : Unit} {r : Result Unit Refusal} → FailsOnlyIfFull p a (Ok u) b → FailsOnlyIfFull q b r c → FailsOnlyIfFull (Both p q) a r c
+only_if_full_both had_failed s = had_failed
+only_if_full_both (has_added {b = b} f x t e) (has_added {c = c} g y s k) =
     let s' : Takes (plus b f) g = subst (λ (z : Kind). Takes z g) e s in
     has_added (followed_by f g) (f, g, x, y, refl) (takes_both b f g t s') (cc (plus-following b f g))
-rightly_both {q = q} (has_added {b = b} f x t e) (has_refused {e = r} m) =
+only_if_full_both {q = q} (has_added {b = b} f x t e) (has_refused {e = r} m) =
     let m' : MayRefuse q (plus b f) r = subst (λ (z : Kind). MayRefuse q z r) e m in
     has_refused (may_refuse (plus b f) b (can_second b f x) (sym (is_graph-plus b f)) r m')
 
-pub rightly_first : {p q : Showing} {a b : State} {e : Refusal} → RefusesRightly p a (Err e) b → RefusesRightly (Both p q) a (Err e) b
-rightly_first had_failed = had_failed
-rightly_first (has_refused {b = b} {e = e} m) = has_refused (may_refuse b b (can_first b) refl e m)
+pub only_if_full_first : {p q : Showing} {a b : State} {e : Refusal} → FailsOnlyIfFull p a (Err e) b → FailsOnlyIfFull (Both p q) a (Err e) b
+only_if_full_first had_failed = had_failed
+only_if_full_first (has_refused {b = b} {e = e} m) = has_refused (may_refuse b b (can_first b) refl e m)
 
-pub rightly_within : {u : Bool} {p : Showing} {k : Key} {n : ℕ} {o : Bool} {s t c d : State} {r : Result Unit Refusal} →
-    Enters u k n s (Ok o) t → RefusesRightly p t r c → d ≡ left o c → RefusesRightly (InsideAs u k n p) s r d
-rightly_within {u} {p} {k} {n} (is_entered {b = b} h f e) (has_added {c = c} g x t i) l =
+-- A visit inside an entry that was opened, and an entry that is refused.
+pub only_if_full_within : {u : Bool} {p : Showing} {k : Key} {n : ℕ} {o : Outer} {s t c d : State} {r : Result Unit Refusal} →
+    OpensEntry u k (Some n) s (Ok o) t → FailsOnlyIfFull p t r c → ClosesEntry o c d → FailsOnlyIfFull (InsideAs u k n p) s r d
+only_if_full_within {u} {p} {k} {n} (is_entered {b = b} h f e) (has_added {c = c} g x t i) l =
     let t' : Takes (enter u k n b) g = subst (λ (z : Kind). Takes z g) e t in
-    rw (l, f) (has_added {c = leave (is_in_unique b) c} (entry_of u k n g) (g, x, refl) (takes_entry u k n b g t') (cc (inside_entry u k n b g)))
-rightly_within {u} {p} {k} {n} (is_entered {b = b} h f e) (has_refused {e = r} m) l =
+    rw (l.closes, f) (has_added {c = leave (outer_of b) c} (entry_of u k n g) (g, x, refl) (takes_entry u k n b g t') (cc (inside_entry u k n b g)))
+only_if_full_within {u} {p} {k} {n} (is_entered {b = b} h f e) (has_refused {e = r} m) l =
     let m' : MayRefuse p (enter u k n b) r = subst (λ (z : Kind). MayRefuse p z r) e m in
-    rw l (has_refused (may_refuse (enter u k n b) b (can_inside u k n b) (sym (is_graph-enter u k n b)) r m'))
+    rw l.closes (has_refused (may_refuse (enter u k n b) b (can_inside u k n b) (sym (is_graph-enter u k n b)) r m'))
 
-pub rightly_not_within : {u : Bool} {p : Showing} {k : Key} {n : ℕ} {s t : State} {e : Refusal} → Enters u k n s (Err e) t → RefusesRightly (InsideAs u k n p) s (Err e) t
-rightly_not_within stays_failed = had_failed
-rightly_not_within {u} {k = k} {n = n} (is_refused {b = b} {e = e} h) = has_refused (entry_refuses _ u k n b e h)
+pub only_if_full_not_within : {u : Bool} {p : Showing} {k : Key} {n : ℕ} {s t : State} {e : Refusal} → OpensEntry u k (Some n) s (Err e) t → FailsOnlyIfFull (InsideAs u k n p) s (Err e) t
+only_if_full_not_within stays_failed = had_failed
+only_if_full_not_within {u} {k = k} {n = n} (is_refused {b = b} {e = e} h) = has_refused (entry_refuses _ u k n b e h)
 
-pub in_sized : {k : Key} {n : ℕ} {p : Showing} → IsDeclared (Field k (Some n) p) → IsDeclared (Inside k n p)
+pub only_if_full_inside : {p : Showing} {k : Key} {n : ℕ} {o : Outer} {s t c d : State} {r : Result Unit Refusal} →
+    OpensEntry false k (Some n) s (Ok o) t → FailsOnlyIfFull p t r c → ClosesEntry o c d → FailsOnlyIfFull (Inside k n p) s r d
+only_if_full_inside = only_if_full_within
+
+pub only_if_full_unique : {p : Showing} {k : Key} {n : ℕ} {o : Outer} {s t c d : State} {r : Result Unit Refusal} →
+    OpensEntry true k (Some n) s (Ok o) t → FailsOnlyIfFull p t r c → ClosesEntry o c d → FailsOnlyIfFull (InsideUnique k n p) s r d
+only_if_full_unique = only_if_full_within
+
+pub only_if_full_not_inside : {p : Showing} {k : Key} {n : ℕ} {s t : State} {e : Refusal} → OpensEntry false k (Some n) s (Err e) t → FailsOnlyIfFull (Inside k n p) s (Err e) t
+only_if_full_not_inside = only_if_full_not_within
+
+pub only_if_full_not_unique : {p : Showing} {k : Key} {n : ℕ} {s t : State} {e : Refusal} → OpensEntry true k (Some n) s (Err e) t → FailsOnlyIfFull (InsideUnique k n p) s (Err e) t
+only_if_full_not_unique = only_if_full_not_within
+
+in_sized : {k : Key} {n : ℕ} {p : Showing} → IsDeclared (Field k (Some n) p) → IsDeclared (Inside k n p)
 in_sized (f, sized x, s) = (f, x, s)
 
 not_declared : {k : Key} {p : Showing} → IsDeclared (Field k None p) → ⊥
 not_declared (f, x, s) = elim x [ ]
 
-pub rightly_not_sized : {p : Showing} {k : Key} {size : Option ℕ} {s t : State} {e : Refusal} → EntersSized k size s (Err e) t → RefusesRightly (Field k size p) s (Err e) t
-rightly_not_sized stays_unsized = had_failed
-rightly_not_sized {p} {k} (is_unsized {b = b} i) = has_refused (subst (MayRefuse (Field k None p) b) (sym i) (λ w. not_declared w.0))
-rightly_not_sized (is_sized g) = rightly_weaker (λ f x. sized x) in_sized (rightly_not_within g)
+pub only_if_full_field : {p : Showing} {k : Key} {y : Option ℕ} {o : Outer} {s t c d : State} {r : Result Unit Refusal} →
+    OpensEntry false k y s (Ok o) t → FailsOnlyIfFull p t r c → ClosesEntry o c d → FailsOnlyIfFull (Field k y p) s r d
+only_if_full_field {y = None} g h e = elim g [ ]
+only_if_full_field {y = Some n} g h e = only_if_full_weaker (λ f x. sized x) in_sized (only_if_full_within g h e)
 
-pub rightly_inside : {p : Showing} {k : Key} {n : ℕ} {o : Bool} {s t c d : State} {r : Result Unit Refusal} →
-    Enters false k n s (Ok o) t → RefusesRightly p t r c → d ≡ left o c → RefusesRightly (Inside k n p) s r d
-rightly_inside = rightly_within
-
-pub rightly_unique : {p : Showing} {k : Key} {n : ℕ} {o : Bool} {s t c d : State} {r : Result Unit Refusal} →
-    Enters true k n s (Ok o) t → RefusesRightly p t r c → d ≡ left o c → RefusesRightly (InsideUnique k n p) s r d
-rightly_unique = rightly_within
-
-pub rightly_field : {p : Showing} {k : Key} {size : Option ℕ} {o : Bool} {s t c d : State} {r : Result Unit Refusal} →
-    EntersSized k size s (Ok o) t → RefusesRightly p t r c → d ≡ left o c → RefusesRightly (Field k size p) s r d
-rightly_field (is_sized g) h e = rightly_weaker (λ f x. sized x) in_sized (rightly_within g h e)
-
-pub rightly_not_inside : {p : Showing} {k : Key} {n : ℕ} {s t : State} {e : Refusal} → Enters false k n s (Err e) t → RefusesRightly (Inside k n p) s (Err e) t
-rightly_not_inside = rightly_not_within
-
-pub rightly_not_unique : {p : Showing} {k : Key} {n : ℕ} {s t : State} {e : Refusal} → Enters true k n s (Err e) t → RefusesRightly (InsideUnique k n p) s (Err e) t
-rightly_not_unique = rightly_not_within
+pub only_if_full_not_field : {p : Showing} {k : Key} {y : Option ℕ} {s t : State} {e : Refusal} → OpensEntry false k y s (Err e) t → FailsOnlyIfFull (Field k y p) s (Err e) t
+only_if_full_not_field stays_failed = had_failed
+only_if_full_not_field {p} {k} (is_unsized {b = b} i) = has_refused (subst (MayRefuse (Field k None p) b) (sym i) (λ w. not_declared w.0))
+only_if_full_not_field {k = k} (is_refused h) = only_if_full_weaker (λ f x. sized x) in_sized (only_if_full_not_within {u = false} {k = k} (is_refused h))
 
 -- Where both have to be exact.
 pub first_exact : (d e : Bool) → IsTrue (d && e) → IsTrue d
@@ -274,42 +276,42 @@ pub each_one : {T : Type 0} (p : T → Showing) (x : T) (f : Forest) → p x f �
 each_one p x f h = (f, Empty, h, refl, sym (followed_by-empty f))
 
 -- ---- a shared entry
-pub rightly_content : {p : Showing} {k : Key} {n : ℕ} {i : Identity} {is_first : Bool} (o : Bool) {s t c d : State} {r : Result Unit Refusal} →
-    EntersShared k n i s (Ok is_first) t → is_first ≡ true → RefusesRightly p t r c → d ≡ left o c → RefusesRightly (SharedWith k n i p) s r d
-rightly_content {p} {k} {n} {i} o g is h l = inner (rw is at g) h l
+pub only_if_full_content : {p : Showing} {k : Key} {n : ℕ} {i : Identity} {is_first : Bool} (o : Outer) {s t c d : State} {r : Result Unit Refusal} →
+    OpensShared k n i s (Ok is_first) t → is_first ≡ true → FailsOnlyIfFull p t r c → ClosesEntry o c d → FailsOnlyIfFull (SharedWith k n i p) s r d
+only_if_full_content {p} {k} {n} {i} o g is h l = inner (rw is at g) h l
   where
-    inner : {s t c d : State} {r : Result Unit Refusal} → EntersShared k n i s (Ok true) t → RefusesRightly p t r c → d ≡ left o c → RefusesRightly (SharedWith k n i p) s r d
+    inner : {s t c d : State} {r : Result Unit Refusal} → OpensShared k n i s (Ok true) t → FailsOnlyIfFull p t r c → ClosesEntry o c d → FailsOnlyIfFull (SharedWith k n i p) s r d
     inner (enters_first {c = b} room new e) (has_added {c = c} f x t j) m =
         let t' : Takes (OfGraph (enter_first k n i b)) f = subst (λ (z : Live). Takes (OfGraph z) f) e t in
-        rw m (has_added {b = OfGraph b} {c = leave o c} (First k n i f Empty) (inl (f, x, refl)) (takes_shared k n i b f new t') (cc (inside_first k n i b f o)))
+        rw m.closes (has_added {b = OfGraph b} {c = leave o c} (First k n i f Empty) (inl (f, x, refl)) (takes_shared k n i b f new t') (cc (inside_first k n i b f o)))
     inner (enters_first {c = b} room new e) (has_refused {e = r} w) m =
         let w' : MayRefuse p (OfGraph (enter_first k n i b)) r = subst (λ (z : Live). MayRefuse p (OfGraph z) r) e w in
-        rw m (has_refused (may_refuse (OfGraph (enter_first k n i b)) (OfGraph b) (can_content k n i b) refl r w'))
+        rw m.closes (has_refused (may_refuse (OfGraph (enter_first k n i b)) (OfGraph b) (can_content k n i b) refl r w'))
 
-pub rightly_again : {p : Showing} {k : Key} {n : ℕ} {i : Identity} {is_first : Bool} {s t : State} {x : Unit} → EntersShared k n i s (Ok is_first) t → is_first ≡ false → RefusesRightly (SharedWith k n i p) s (Ok x) t
-rightly_again {k = k} {n = n} {i = i} (goes_past {h = h}) is = has_added (Again k n i Empty) (inr refl) tt (sym (held_again k n i h))
-rightly_again {k = k} {n = n} {i = i} (enters_again {c = c} r h e) is = has_added (Again k n i Empty) (inr refl) (h, tt) (ap OfGraph e)
-rightly_again (enters_first r h e) is = absurd (false≢true (sym is))
+pub only_if_full_again : {p : Showing} {k : Key} {n : ℕ} {i : Identity} {is_first : Bool} {s t : State} {x : Unit} → OpensShared k n i s (Ok is_first) t → is_first ≡ false → FailsOnlyIfFull (SharedWith k n i p) s (Ok x) t
+only_if_full_again {k = k} {n = n} {i = i} (goes_past {h = h}) is = has_added (Again k n i Empty) (inr refl) tt (sym (held_again k n i h))
+only_if_full_again {k = k} {n = n} {i = i} (enters_again {c = c} r h e) is = has_added (Again k n i Empty) (inr refl) (h, tt) (ap OfGraph e)
+only_if_full_again (enters_first r h e) is = absurd (false≢true (sym is))
 
-pub rightly_not_shared : {p : Showing} {k : Key} {n : ℕ} {i : Identity} {s t : State} {e : Refusal} → EntersShared k n i s (Err e) t → RefusesRightly (SharedWith k n i p) s (Err e) t
-rightly_not_shared stays_shared = had_failed
-rightly_not_shared {k = k} {n = n} {i = i} (is_refused_shared {c = c} {e = e} h) = has_refused (pointer_refuses _ k n i c e h)
+pub only_if_full_not_shared : {p : Showing} {k : Key} {n : ℕ} {i : Identity} {s t : State} {e : Refusal} → OpensShared k n i s (Err e) t → FailsOnlyIfFull (SharedWith k n i p) s (Err e) t
+only_if_full_not_shared stays_shared = had_failed
+only_if_full_not_shared {k = k} {n = n} {i = i} (is_refused_shared {c = c} {e = e} h) = has_refused (pointer_refuses _ k n i c e h)
 
 -- Of a visit that is not exact nothing is asked.
-pub inexact : {p : Showing} {a b : State} {r : Result Unit Refusal} → IsTrue false → RefusesRightly p a r b
+pub inexact : {p : Showing} {a b : State} {r : Result Unit Refusal} → IsTrue false → FailsOnlyIfFull p a r b
 inexact h = absurd (false≢true h)
 
 -- ---- errors that are returned by hand
 -- A visit that is refused, followed by refusing with the same error.
-pub rightly_refused : {p : Showing} {a b : State} {y : Refusal} (c : State) (x : Refusal) → RefusesRightly p a (Err y) b → c ≡ failed_with y b → HasFailed c x → RefusesRightly p a (Err x) c
-rightly_refused c x had_failed e h = had_failed
-rightly_refused {p} c x (has_refused {b = b} {e = y} m) e h =
+pub only_if_full_refused : {p : Showing} {a b : State} {y : Refusal} (c : State) (x : Refusal) → FailsOnlyIfFull p a (Err y) b → c ≡ failed_with y b → HasFailed c x → FailsOnlyIfFull p a (Err x) c
+only_if_full_refused c x had_failed e h = had_failed
+only_if_full_refused {p} c x (has_refused {b = b} {e = y} m) e h =
     let i : y ≡ x = cc in
     rw h (has_refused (subst (MayRefuse p b) i m))
 
 -- What is declared nowhere may be refused as TooLarge.
-pub rightly_undeclared : {p : Showing} (a b : State) (e : Refusal) → (IsDeclared p → ⊥) → b ≡ failed_with TooLarge a → HasFailed b e → RefusesRightly p a (Err e) b
-rightly_undeclared (Failed q) b e n i h = had_failed
-rightly_undeclared {p} (Going k) b e n i h =
+pub only_if_full_undeclared : {p : Showing} (a b : State) (e : Refusal) → (IsDeclared p → ⊥) → b ≡ failed_with TooLarge a → HasFailed b e → FailsOnlyIfFull p a (Err e) b
+only_if_full_undeclared (Failed q) b e n i h = had_failed
+only_if_full_undeclared {p} (Going k) b e n i h =
     let j : TooLarge ≡ e = cc in
     rw h (has_refused (subst (MayRefuse p k) j (λ w. n w.0)))

@@ -41,11 +41,11 @@ pub use denote.Param.Laws.{Laws, of_field}
 use denote.Param.Shared.{copy_shared}
 use denote.Struct.Field.{usize-field}
 use denote.Struct.Laws.{usize-laws, usize-copy}
-pub use Rattle.allocative.proofs.Common.{name_if_ok, Refusal, Key, State, Visitor, LendsCollector, with_state, Begins, Settles, as_graph, EntersShared, EndsWith, EndsWithout, AnswersShared, told, turned, Identity, enters_first, LendsNestedSized, NestsSized, IsRefusedSized, Enters, Answers, Failed, EntersSized}
+pub use Rattle.allocative.proofs.Common.{name_if_ok, Refusal, Key, State, Visitor, LendsCollector, with_state, OpensRoot, Settles, as_graph, OpensShared, EndsWith, EndsWithout, AnswersShared, told, turned, Identity, enters_first, LendsNested, Nests, IsRefused, OpensEntry, RefusesEntry, Failed}
 pub use Rattle.std.specs.Borrow.{RestsIfErr}
 pub use prog.Wp.{WpFn, Closed}
 pub use denote.Param.{layout, bounded, param}
-pub use Rattle.allocative.specs.Lending.{LendsBegunGraph, LendsPointed, PointsAt}
+pub use Rattle.allocative.specs.Lending.{LendsBegunGraph, LendsPointed, OpensSharedAt}
 pub use contract.BorrowLft.{◌⊑◌}
 pub use mir.MapTy.{inst_fn}
 pub use Rattle.allocative.specs.contracts.visitor.collector.Collector.{the_row as collector_row}

@@ -1,9 +1,9 @@
 -- How entries are made one after another and inside each other, by calls that visit no part.
 use Rattle.std.proofs.Common.{ℕ, Bool, true, false, List, [], ◌∷◌, ◌≡◌, Option, Some, Result, Ok, Err, refl, sym, ◌∙◌, subst, ap}
-use Rattle.allocative.proofs.Common.{Yields, Refusal, Key, State, Failed, Going, left, HasFailed, stays_failed, is_entered, EntersSized, stays_unsized, is_sized, Leaves, leaves_failed, leaves_going, Plan, Done, Entry, Makes, MakesPlan, made_none, made, entry_refused, inside_refused, Visitor}
+use Rattle.allocative.proofs.Common.{Outer, Yields, Refusal, Key, State, Failed, Going, close_entry, HasFailed, stays_failed, is_entered, OpensEntry, Plan, Done, Entry, Makes, MakesPlan, made_none, made, entry_refused, inside_refused, Visitor, ClosesEntry}
 use Rattle.std.proofs.lemmas.Bool.{false≢true}
+use Rattle.allocative.proofs.Visits.{not_entered_cause}
 use Rattle.allocative.specs.Making.{followed_by_plan, had_failed, Keeps, MakesPlanOrGives, gives}
-use Rattle.allocative.proofs.Visits.{not_sized_cause, left_by}
 
 -- ---- what was made goes on, and what was refused has failed
 abbrev pub is_going : State → Bool
@@ -14,27 +14,25 @@ pub goes_on : {p : Plan} {s t : State} {u : Unit} → Makes p s (Ok u) t → is_
 goes_on made_none = refl
 goes_on (made g i l a) = goes_on a
 
-going_left : {o : Bool} {t d : State} (v : Unit) → is_going t ≡ true → Leaves o t d → Makes Done d (Ok v) d
-going_left v e leaves_failed = absurd (false≢true e)
-going_left v e (leaves_going i) = made_none
+going_closed : (o : Outer) (t : State) (v : Unit) → is_going t ≡ true → Makes Done (close_entry o t) (Ok v) (close_entry o t)
+going_closed o (Failed r) v e = absurd (false≢true e)
+going_closed o (Going b) v e = made_none
 
 pub makes_failed : {p : Plan} {s t : State} {e : Refusal} → Makes p s (Err e) t → HasFailed t e
 makes_failed had_failed = refl
 makes_failed (made g i l a) = makes_failed a
-makes_failed (entry_refused g) = not_sized_cause g
+makes_failed (entry_refused g) = not_entered_cause g
 makes_failed (inside_refused g m) = makes_failed m
 
-pub failed_left : {o : Bool} {c d : State} {e : Refusal} → HasFailed c e → Leaves o c d → d ≡ c
-failed_left {o} h l = left_by l ∙ ap (left o) h ∙ sym h
+pub failed_closed : {o : Outer} {c d : State} {e : Refusal} → HasFailed c e → ClosesEntry o c d → d ≡ c
+failed_closed {o} h l = l.closes ∙ ap (close_entry o) h ∙ sym h
 
 -- ---- one entry
-pub nothing_inside : {k : Key} {size : Option ℕ} {s t : State} {o : Bool} (u : Unit) → EntersSized k size s (Ok o) t → Makes Done t (Ok u) t
-nothing_inside u (is_sized (is_entered r f e)) = made_none
+pub nothing_inside : {k : Key} {size : Option ℕ} {s t : State} {o : Outer} (u : Unit) → OpensEntry false k size s (Ok o) t → Makes Done t (Ok u) t
+nothing_inside u (is_entered r f e) = made_none
 
-pub makes_entry : {k : Key} {size : Option ℕ} {inside : Plan} {s t c d : State} {o q : Bool} {v x : Unit} → EntersSized k size s (Ok o) t → Makes inside t (Ok v) c → Leaves q c d → q ≡ o → Makes (Entry k size inside Done) s (Ok x) d
-makes_entry {c = c} {d = d} {x = x} g m l e =
-    let l' = subst (λ q. Leaves q c d) e l in
-    made g m l' (going_left x (goes_on m) l')
+pub makes_entry : {k : Key} {size : Option ℕ} {inside : Plan} {s t c d : State} {o q : Outer} {v x : Unit} → OpensEntry false k size s (Ok o) t → Makes inside t (Ok v) c → ClosesEntry q c d → q ≡ o → Makes (Entry k size inside Done) s (Ok x) d
+makes_entry {c = c} {o = o} {x = x} g m l e = rw (l.closes, e) (made g m (record { closes = refl }) (going_closed o c x (goes_on m)))
 
 -- ---- one plan after another
 pub makes_then : {p q : Plan} {s t d : State} {u : Unit} {r : Result Unit Refusal} → Makes p s (Ok u) t → Makes q t r d → Makes (followed_by_plan p q) s r d
@@ -56,10 +54,9 @@ run_gives steps t (y ∷ ys) h g = gives y h.0 h.1
 -- ---- a collector that had failed
 pub failed_makes : {p : Plan} {e : Refusal} {t : State} {r : Result Unit Refusal} → Makes p (Failed e) r t → (r ≡ Err e) × HasFailed t e
 failed_makes had_failed = (refl, refl)
-failed_makes (made (is_sized g) i l a) = elim g [ ]
-failed_makes (entry_refused stays_unsized) = (refl, refl)
-failed_makes (entry_refused (is_sized stays_failed)) = (refl, refl)
-failed_makes (inside_refused (is_sized g) m) = elim g [ ]
+failed_makes (made g i l a) = elim g [ ]
+failed_makes (entry_refused stays_failed) = (refl, refl)
+failed_makes (inside_refused g m) = elim g [ ]
 
 -- Making entries keeps the cause of a failed collector.
 pub makes_keeps : {p : Plan} {a b : Visitor} {r : Result Unit Refusal} → MakesPlan p a b r → Keeps a b r

@@ -3,8 +3,8 @@ use Rattle.std.proofs.Common.{◌≡◌, ℕ, Bool, true, false, ◌&&◌, Optio
 use Rattle.allocative.proofs.Common.{Refusal, TooLarge, Key, Identity, Forest, Showing, Nothing, Both, InsideAs, Inside, InsideUnique, Field, IsField, sized, SharedWith, IsDeclared, Visitor, Visited, Entered, Means, OnlyIf}
 use Rattle.std.proofs.lemmas.Bool.{false≢true, and_parts, and_from}
 use Rattle.allocative.specs.Visited.{AnyEffect, Refused}
-use Rattle.allocative.proofs.Exact.{declared_first, declared_second, declared_both, declared_inside, declared_entry, declared_content, declared_shared, rightly_nothing, rightly_weaker, rightly_undeclared, inexact}
-use Rattle.allocative.proofs.Visits.{shows_weaker, shows_nothing, shows_refused}
+use Rattle.allocative.proofs.Exact.{declared_first, declared_second, declared_both, declared_inside, declared_entry, declared_content, declared_shared, only_if_full_nothing, only_if_full_weaker, only_if_full_undeclared, inexact}
+use Rattle.allocative.proofs.Visits.{adds_weaker, adds_nothing, adds_refused}
 
 -- ---- which visits are exact
 pub exact_never : {e : Bool} → OnlyIf false e
@@ -81,9 +81,9 @@ pub entered_if : {d e : Bool} {p q : Showing} {a b : Visitor} {r : Result (Unit 
 entered_if h o m = record {
   same_reference = h.same_reference;
   same_outer = h.same_outer;
-  shown = shows_weaker m.means h.shown;
+  shown = adds_weaker m.means h.shown;
   cause = h.cause;
-  rightly = λ i. rightly_weaker m.means (m.declared i) (h.rightly (o.follows i));
+  only_if_full = λ i. only_if_full_weaker m.means (m.declared i) (h.only_if_full (o.follows i));
 }
 
 pub entered_as : {d : Bool} {p q : Showing} {a b : Visitor} {r : Result (Unit {0}) Refusal} → Entered d p a b r → Means d p q → Entered d q a b r
@@ -97,7 +97,7 @@ entered_loosely h = entered_if h exact_never means_same
 pub visited_as : {d : Bool} {p q : Showing} {a b : Visitor} {r : Result (Unit {0}) Refusal} → Entered d p a b r → Means d p q → Visited d q AnyEffect a b r
 visited_as h m =
     let w = entered_as h m in
-    record { same_reference = w.same_reference; same_outer = w.same_outer; shown = w.shown; rightly = w.rightly; takes_effect = tt }
+    record { same_reference = w.same_reference; same_outer = w.same_outer; shown = w.shown; only_if_full = w.only_if_full; takes_effect = tt }
 
 -- An exact part is the visit of a value that need not be. Search needs the two flags as they are.
 pub visited_of_exact : {p q : Showing} {a b : Visitor} {r : Result (Unit {0}) Refusal} → Entered true p a b r → Means false p q → Visited false q AnyEffect a b r
@@ -109,23 +109,23 @@ visited_if h o m = visited_as (entered_if h o means_same) m
 
 -- Entering a part that shows exactly p is a visit that shows p.
 pub visited : {x : Bool} {p : Showing} {a b : Visitor} {r : Result (Unit {0}) Refusal} → Entered x p a b r → Visited x p AnyEffect a b r
-visited h = record { same_reference = h.same_reference; same_outer = h.same_outer; shown = h.shown; rightly = h.rightly; takes_effect = tt }
+visited h = record { same_reference = h.same_reference; same_outer = h.same_outer; shown = h.shown; only_if_full = h.only_if_full; takes_effect = tt }
 
 -- A call that enters nothing, and one that returns an error by hand.
 pub entered_none : {x : Bool} {p : Showing} (a : Visitor) → Means x Nothing p → Entered x p a a (Ok tt)
 entered_none a m =
-    entered_as {p = Nothing} (record { same_reference = refl; same_outer = refl; shown = shows_nothing _ tt; cause = tt; rightly = λ i. rightly_nothing _ tt }) m
+    entered_as {p = Nothing} (record { same_reference = refl; same_outer = refl; shown = adds_nothing _ tt; cause = tt; only_if_full = λ i. only_if_full_nothing _ tt }) m
 
 -- An error that is returned by hand, which need not be one that must be.
 pub entered_refused : {p : Showing} {q e : Refusal} {a b : Visitor} → Refused q a b e → Entered false p a b (Err e)
-entered_refused {q = q} {e = e} h = record { same_reference = h.same_reference; same_outer = h.same_outer; shown = shows_refused _ e q _ h.after; cause = h.is_cause; rightly = inexact }
+entered_refused {q = q} {e = e} h = record { same_reference = h.same_reference; same_outer = h.same_outer; shown = adds_refused _ e q _ h.after; cause = h.is_cause; only_if_full = inexact }
 
 -- A part that is declared nowhere is refused as TooLarge.
 pub undeclared_refused : {x : Bool} {p : Showing} {e : Refusal} {a b : Visitor} → (IsDeclared p → ⊥) → Refused TooLarge a b e → Entered x p a b (Err e)
 undeclared_refused {e = e} {a = a} {b = b} n h = record {
   same_reference = h.same_reference;
   same_outer = h.same_outer;
-  shown = shows_refused _ e TooLarge _ h.after;
+  shown = adds_refused _ e TooLarge _ h.after;
   cause = h.is_cause;
-  rightly = λ i. rightly_undeclared a.collector.now b.collector.now e n h.after h.is_cause;
+  only_if_full = λ i. only_if_full_undeclared a.collector.now b.collector.now e n h.after h.is_cause;
 }

@@ -1,6 +1,6 @@
 -- A root that is refused after others: it may be refused only where the whole list of roots may be.
 use Rattle.std.proofs.Common.{◌≡◌, ℕ, ◌+◌, ◌<◌, ◌^◌, List, [], ◌∷◌, ◌++◌, length, take, drop, get_or, Bool, true, false, IsTrue, Result, Ok, Err, refl, ap, sym, subst, ◌∙◌}
-use Rattle.allocative.proofs.Common.{Refusal, Forest, Kind, OfGraph, OfHeld, State, Failed, Going, plus, is_graph, begin, Showing, Both, each_shows, Runs, all_bytes, HasRoomFor, CanTake, MayRefuse, RunsRightly}
+use Rattle.allocative.proofs.Common.{Refusal, Forest, Kind, OfGraph, OfHeld, State, Failed, Going, plus, is_graph, begin, Showing, Both, each_shows, VisitsRoot, all_bytes, HasRoomFor, CanTake, MayRefuse, RootFailsOnlyIfFull}
 use Rattle.std.specs.List.{list_all}
 use Rattle.std.proofs.lemmas.Bool.{false≢true}
 use Rattle.std.proofs.lemmas.List.Folds.{list_all_at}
@@ -23,21 +23,21 @@ can_among p front x back b f a w =
     can_first (begin (plus b f)) (after.0, λ g y. room_begun b f g (after.1 g y))
 
 -- A root that is refused may be refused as one of all roots. What is exact of all is exact of it.
-rightly_among : {T : Type 0} (w y : Bool) (p : T → Showing) (front : List T) (x : T) (back : List T) (s m t : State) (u : Unit) (e : Refusal) → (IsTrue w → IsTrue y) →
-    Runs (each_shows p front) s (Ok u) m → RunsRightly y (p x) m (Err e) t → RunsRightly w (each_shows p (front ++ x ∷ back)) s (Err e) t
-rightly_among w y p front x back (Failed r) m t u e only g h = tt
-rightly_among w y p front x back (Going b) (Failed r) t u e only g h = absurd g
-rightly_among w y p front x back (Going b) (Going c) t u e only (z, f, a, k, i) h = λ exact closed.
+only_if_full_among : {T : Type 0} (w y : Bool) (p : T → Showing) (front : List T) (x : T) (back : List T) (s m t : State) (u : Unit) (e : Refusal) → (IsTrue w → IsTrue y) →
+    VisitsRoot (each_shows p front) s (Ok u) m → RootFailsOnlyIfFull y (p x) m (Err e) t → RootFailsOnlyIfFull w (each_shows p (front ++ x ∷ back)) s (Err e) t
+only_if_full_among w y p front x back (Failed r) m t u e only g h = tt
+only_if_full_among w y p front x back (Going b) (Failed r) t u e only g h = absurd g
+only_if_full_among w y p front x back (Going b) (Going c) t u e only (z, f, a, k, i) h = λ exact closed.
     let r = h (only exact) z in
     let m : MayRefuse (p x) (begin (plus b f)) e = subst (λ (v : Kind). MayRefuse (p x) (begin v) e) i r.1 in
     let same : is_graph (begin b) ≡ is_graph (begin (plus b f)) = is_graph-begin b ∙ sym (is_graph-plus b f) ∙ sym (is_graph-begin (plus b f)) in
     (r.0, may_refuse (begin (plus b f)) (begin b) (can_among p front x back b f a) same e m)
 
 -- The root with this index is refused, where the roots before it were visited.
-pub rightly_indexed : {T : Type 0} (w y : Bool) (p : T → Showing) (xs : List T) (i : ℕ) (x : T) (s m t : State) (u : Unit) {e : Refusal} {r : Result Unit Refusal} → (IsTrue w → IsTrue y) → r ≡ Err e →
-    Runs (each_shows p (take i xs)) s (Ok u) m → RunsRightly y (p x) m (Err e) t → i < length xs → x ≡ get_or xs i x → RunsRightly w (each_shows p xs) s r t
-rightly_indexed w y p xs i x s m t u {e} only err g k l is =
-    rw (← around_item xs i x l is, err) (rightly_among w y p (take i xs) x (drop (i + 1) xs) s m t u e only g k)
+pub only_if_full_indexed : {T : Type 0} (w y : Bool) (p : T → Showing) (xs : List T) (i : ℕ) (x : T) (s m t : State) (u : Unit) {e : Refusal} {r : Result Unit Refusal} → (IsTrue w → IsTrue y) → r ≡ Err e →
+    VisitsRoot (each_shows p (take i xs)) s (Ok u) m → RootFailsOnlyIfFull y (p x) m (Err e) t → i < length xs → x ≡ get_or xs i x → RootFailsOnlyIfFull w (each_shows p xs) s r t
+only_if_full_indexed w y p xs i x s m t u {e} only err g k l is =
+    rw (← around_item xs i x l is, err) (only_if_full_among w y p (take i xs) x (drop (i + 1) xs) s m t u e only g k)
 
 -- Where all roots are exact, so is the one with this index.
 pub one_of_exact : {T : Type 0} (q : T → Bool) (xs : List T) (i : ℕ) (x : T) → i < length xs → x ≡ get_or xs i x → IsTrue (list_all q xs) → IsTrue (q x)

@@ -1,18 +1,18 @@
 -- What a visit by a root visitor amounts to.
 use Rattle.std.proofs.Common.{◌≡◌, ℕ, suc, ◌+◌, ◌<◌, ◌≤◌, ◌^◌, inl, inr, Option, Some, None, List, length, take, get_or, Bool, IsTrue, Result, Ok, Err, IsErr, refl, ap, sym, subst, ◌∙◌, arith, IfOk}
-use Rattle.allocative.proofs.Common.{Refusal, TooLarge, Forest, followed_by, add_all, held, ShowsNoContent, Kind, OfGraph, OfHeld, State, Failed, Going, leave, plus, Takes, visitors, is_graph, begin, is_in_unique, left, nothing_held, Showing, Both, each_shows, Shows, refused, hidden, forgotten, Leaves, Begins, Settles, Runs, Profile, IsProfileOf, IsHeldSum, MayRefuse, RefusesRightly, has_added, has_refused, RunsRightly}
+use Rattle.allocative.proofs.Common.{Outer, Refusal, TooLarge, Forest, followed_by, add_all, held, ShowsNoContent, Kind, OfGraph, OfHeld, State, Failed, Going, leave, plus, Takes, visitors, is_graph, begin, outer_of, close_entry, nothing_held, Showing, Both, each_shows, AddsForest, refused, hidden, forgotten, OpensRoot, Settles, VisitsRoot, Profile, IsProfileOf, IsHeldSum, MayRefuse, FailsOnlyIfFull, has_added, has_refused, RootFailsOnlyIfFull, ClosesEntry}
 use Rattle.allocative.specs.SizeOf.{AnswersSize, AnswersVisit}
 use Rattle.allocative.specs.Closures.{AnswersSum}
 use Rattle.allocative.proofs.Within.{err_or, same_err}
-use Rattle.allocative.specs.Visited.{Effect, WasVisited, VisitsRoot, not_begun, root_visited}
+use Rattle.allocative.specs.Visited.{Effect, WasVisited, VisitsRootWithEffect, not_begun, root_visited}
 use Rattle.allocative_graph.specs.Forest.{met_after, Fits, own, all}
 use Rattle.allocative_graph.specs.Sums.{sums_of}
 use Rattle.allocative_graph.specs.Meaning.{content_of}
 use Rattle.allocative_graph.specs.Graph.{Graph, graph, warnings, warned_paths, sum_of}
-use Rattle.allocative_graph.specs.Collector.{added as added_entries, IsClosed, IsAtRoot, no_entries}
+use Rattle.allocative_graph.specs.Collector.{entries_at, IsClosed, IsAtRoot, no_entries}
 use Rattle.allocative_graph.specs.Visits.{added, Ends, IsProfile, IsSumOfTwo}
 use Rattle.allocative_graph.proofs.Plus.{plus-following, takes_both, visitors-plus, visitors-leave, is_graph-plus, is_graph-leave, is_graph-begin}
-use Rattle.allocative.proofs.Showing.{left_by, each_and_one}
+use Rattle.allocative.proofs.Showing.{each_and_one}
 use Rattle.allocative_graph.proofs.Reach.{all_is_meaning, reaches_exactly}
 use Rattle.allocative_graph.proofs.OneMeaning.{one_sums}
 use Rattle.allocative_graph.proofs.Merge.{whole_following, graphs_add}
@@ -23,61 +23,61 @@ visitors-begin (OfGraph c) h = ap suc h
 visitors-begin (OfHeld k) h = ap suc h
 
 -- The entries of a root visitor, and its end.
-out_of_begin : (b : Kind) (f : Forest) → IsAtRoot b → leave (is_in_unique b) (plus (begin b) f) ≡ plus b f
-out_of_begin (OfGraph c) f h = λ i. OfGraph (record c { sums = add_all c.sums (added_entries (sym h.0 i) f); met = met_after c.met f })
+out_of_begin : (b : Kind) (f : Forest) → IsAtRoot b → leave (outer_of b) (plus (begin b) f) ≡ plus b f
+out_of_begin (OfGraph c) f h = λ i. OfGraph (record c { sums = add_all c.sums (entries_at (sym h.0 i) f); met = met_after c.met f })
 out_of_begin (OfHeld k) f h = refl
 
 takes_begin : (b : Kind) (f : Forest) → Takes (begin b) f → Takes b f
 takes_begin (OfGraph c) f t = t
 takes_begin (OfHeld k) f t = t
 
-run_going : {p : Showing} (b e : Kind) {c : State} {r : Result Unit Refusal} (q : Result Unit Refusal) → IsClosed b → IsAtRoot b → e ≡ begin b → Shows p (Going e) r c → Settles (left (is_in_unique b) c) q → Runs p (Going b) q (left (is_in_unique b) c)
-run_going b e q h here i refused k = rw k (h, refl)
-run_going b e q h here i hidden k = rw k (h, refl)
-run_going b e (Err x) h here i (forgotten {c = c} j l) k = (k.0, k.1, (λ n. absurd (n h)), is_graph-leave (is_in_unique b) c ∙ j ∙ ap is_graph i ∙ is_graph-begin b)
-run_going b e (Ok u) h here i (forgotten {c = c} j l) k =
+visits_going : {p : Showing} (b e : Kind) {c : State} {r : Result Unit Refusal} (q : Result Unit Refusal) → IsClosed b → IsAtRoot b → e ≡ begin b → AddsForest p (Going e) r c → Settles (close_entry (outer_of b) c) q → VisitsRoot p (Going b) q (close_entry (outer_of b) c)
+visits_going b e q h here i refused k = rw k (h, refl)
+visits_going b e q h here i hidden k = rw k (h, refl)
+visits_going b e (Err x) h here i (forgotten {c = c} j l) k = (k.0, k.1, (λ n. absurd (n h)), is_graph-leave (outer_of b) c ∙ j ∙ ap is_graph i ∙ is_graph-begin b)
+visits_going b e (Ok u) h here i (forgotten {c = c} j l) k =
     let d : visitors e ≡ 1 = ap visitors i ∙ visitors-begin b h in
-    let z : visitors (leave (is_in_unique b) c) ≡ 0 = k in
-    let g = visitors-leave (is_in_unique b) c in
+    let z : visitors (leave (outer_of b) c) ≡ 0 = k in
+    let g = visitors-leave (outer_of b) c in
     absurd (omega (arith, d, z, g, l))
-run_going b e (Err x) h here i (added {c = c} f p t g) k = (k.0, k.1, (λ n. absurd (n h)), is_graph-leave (is_in_unique b) c ∙ ap is_graph g ∙ is_graph-plus e f ∙ ap is_graph i ∙ is_graph-begin b)
-run_going b e (Ok u) h here i (added {c = c} f p t g) k =
+visits_going b e (Err x) h here i (added {c = c} f p t g) k = (k.0, k.1, (λ n. absurd (n h)), is_graph-leave (outer_of b) c ∙ ap is_graph g ∙ is_graph-plus e f ∙ ap is_graph i ∙ is_graph-begin b)
+visits_going b e (Ok u) h here i (added {c = c} f p t g) k =
     let t' : Takes (begin b) f = subst (λ (x : Kind). Takes x f) i t in
     (k, f, p, takes_begin b f t', cc (out_of_begin b f here))
 
 -- A root visitor that was opened, what was shown there, leaving, and the result are a run.
-pub run_shows : (s : State) (q : Result Unit Refusal) {p : Showing} {t a c d : State} {o w : Bool} {r : Result Unit Refusal} → Begins s (Ok o) t → a ≡ t → Shows p a r c → Leaves w c d → w ≡ o → Settles d q → Runs p s q d
-run_shows (Failed x) q h i v l e k = absurd h
-run_shows (Going b) q {p} {c = c} {r = r} h i v l e k =
-    let d = left_by l ∙ ap (λ (o : Bool). left o c) (e ∙ h.2) in
-    let v' : Shows p (Going (begin b)) r c = subst (λ (z : State). Shows p z r c) (i ∙ h.3) v in
-    let k' : Settles (left (is_in_unique b) c) q = rw d at k in
-    rw d (run_going b (begin b) q h.0 h.1 refl v' k')
+pub visits_root : (s : State) (q : Result Unit Refusal) {p : Showing} {t a c d : State} {o w : Outer} {r : Result Unit Refusal} → OpensRoot s (Ok o) t → a ≡ t → AddsForest p a r c → ClosesEntry w c d → w ≡ o → Settles d q → VisitsRoot p s q d
+visits_root (Failed x) q h i v l e k = absurd h
+visits_root (Going b) q {p} {c = c} {r = r} h i v l e k =
+    let d = l.closes ∙ ap (λ (o : Outer). close_entry o c) (e ∙ h.2) in
+    let v' : AddsForest p (Going (begin b)) r c = subst (λ (z : State). AddsForest p z r c) (i ∙ h.3) v in
+    let k' : Settles (close_entry (outer_of b) c) q = rw d at k in
+    rw d (visits_going b (begin b) q h.0 h.1 refl v' k')
 
 -- An exact visit that was opened by a root visitor leaves its collector closed, or failed with what it returned.
-rightly_going : {p : Showing} (b e : Kind) {c : State} {r : Result Unit Refusal} (q : Refusal) → IsClosed b → IsAtRoot b → e ≡ begin b → RefusesRightly p (Going e) r c → Settles (left (is_in_unique b) c) (Err q) → (left (is_in_unique b) c ≡ Failed q) × MayRefuse p (begin b) q
-rightly_going {p} b e q h here i (has_added {c = c} f x t g) k =
-    let same : leave (is_in_unique b) c ≡ plus b f = cc (out_of_begin b f here) in
+only_if_full_going : {p : Showing} (b e : Kind) {c : State} {r : Result Unit Refusal} (q : Refusal) → IsClosed b → IsAtRoot b → e ≡ begin b → FailsOnlyIfFull p (Going e) r c → Settles (close_entry (outer_of b) c) (Err q) → (close_entry (outer_of b) c ≡ Failed q) × MayRefuse p (begin b) q
+only_if_full_going {p} b e q h here i (has_added {c = c} f x t g) k =
+    let same : leave (outer_of b) c ≡ plus b f = cc (out_of_begin b f here) in
     absurd (k.1 (ap visitors same ∙ visitors-plus b f ∙ h))
-rightly_going {p} b e q h here i (has_refused {e = y} m) k =
+only_if_full_going {p} b e q h here i (has_refused {e = y} m) k =
     let is : q ≡ y = cc in
     (ap Failed (sym is), subst (MayRefuse p (begin b)) (sym is) (subst (λ (z : Kind). MayRefuse p z y) i m))
 
 -- A root visitor that was opened, an exact visit there, leaving, and the result refuse only where they must.
-pub run_rightly : (s : State) (q : Result Unit Refusal) {x : Bool} {p : Showing} {t a c d : State} {o w : Bool} {r : Result Unit Refusal} → Begins s (Ok o) t → a ≡ t → (IsTrue x → RefusesRightly p a r c) → Leaves w c d → w ≡ o → Settles d q → RunsRightly x p s q d
-run_rightly (Failed z) q h i v l e k = tt
-run_rightly (Going b) (Ok u) h i v l e k = tt
-run_rightly (Going b) (Err z) {p} {c = c} {d = d} {r = r} h i v l e k = λ exact closed.
-    let g : d ≡ left (is_in_unique b) c = left_by l ∙ ap (λ (o : Bool). left o c) (e ∙ h.2) in
-    let v' : RefusesRightly p (Going (begin b)) r c = subst (λ (y : State). RefusesRightly p y r c) (i ∙ h.3) (v exact) in
-    let k' : Settles (left (is_in_unique b) c) (Err z) = rw g at k in
-    rw g (rightly_going b (begin b) z closed h.1 refl v' k')
+pub root_only_if_full : (s : State) (q : Result Unit Refusal) {x : Bool} {p : Showing} {t a c d : State} {o w : Outer} {r : Result Unit Refusal} → OpensRoot s (Ok o) t → a ≡ t → (IsTrue x → FailsOnlyIfFull p a r c) → ClosesEntry w c d → w ≡ o → Settles d q → RootFailsOnlyIfFull x p s q d
+root_only_if_full (Failed z) q h i v l e k = tt
+root_only_if_full (Going b) (Ok u) h i v l e k = tt
+root_only_if_full (Going b) (Err z) {p} {c = c} {d = d} {r = r} h i v l e k = λ exact closed.
+    let g : d ≡ close_entry (outer_of b) c = l.closes ∙ ap (λ (o : Outer). close_entry o c) (e ∙ h.2) in
+    let v' : FailsOnlyIfFull p (Going (begin b)) r c = subst (λ (y : State). FailsOnlyIfFull p y r c) (i ∙ h.3) (v exact) in
+    let k' : Settles (close_entry (outer_of b) c) (Err z) = rw g at k in
+    rw g (only_if_full_going b (begin b) z closed h.1 refl v' k')
 
 -- The sum of a run of held bytes.
-pub held_by_run : (p : Showing) (s t : State) (u : Unit) (n : ℕ) → s ≡ Going (OfHeld nothing_held) → Runs p s (Ok u) t → IsHeldSum t n → (f : Forest) × p f × ShowsNoContent f × (n ≡ held f)
-held_by_run p (Failed r) t u n e h k = absurd (cc)
-held_by_run p (Going b) (Failed r) u n e h k = absurd h
-held_by_run p (Going b) (Going c) u n e (z, f, a, t, g) k =
+pub held_by_visit : (p : Showing) (s t : State) (u : Unit) (n : ℕ) → s ≡ Going (OfHeld nothing_held) → VisitsRoot p s (Ok u) t → IsHeldSum t n → (f : Forest) × p f × ShowsNoContent f × (n ≡ held f)
+held_by_visit p (Failed r) t u n e h k = absurd (cc)
+held_by_visit p (Going b) (Failed r) u n e h k = absurd h
+held_by_visit p (Going b) (Going c) u n e (z, f, a, t, g) k =
     let i : b ≡ OfHeld nothing_held = cc in
     let t' : Takes (OfHeld nothing_held) f = subst (λ (x : Kind). Takes x f) i t in
     let g' : c ≡ plus (OfHeld nothing_held) f = rw i at g in
@@ -86,38 +86,38 @@ held_by_run p (Going b) (Going c) u n e (z, f, a, t, g) k =
 
 -- What is answered of the held bytes that a visit left.
 visit_answered : {p : Showing} {effect : Effect} (answers : State → Result ℕ Refusal → Type 0) {s t : State} {q : Result Unit Refusal} {r : Result ℕ Refusal} →
-    VisitsRoot p effect s t q → s ≡ Going (OfHeld nothing_held) → (Settles t q → answers t r) → AnswersVisit p effect answers r
+    VisitsRootWithEffect p effect s t q → s ≡ Going (OfHeld nothing_held) → (Settles t q → answers t r) → AnswersVisit p effect answers r
 visit_answered answers (not_begun x b) is up = absurd ((rw is at b).1 refl)
 visit_answered {p} {effect} answers {r = r} (root_visited {o = o} {a = a} {c = c} b v l e k) is up =
-    let b' : Begins (Going (OfHeld nothing_held)) (Ok o) a = rw is at b in
+    let b' : OpensRoot (Going (OfHeld nothing_held)) (Ok o) a = rw is at b in
     record {
       after = c;
       visited = subst (λ (x : State). WasVisited p effect x c) b'.3 v;
-      answer = subst (λ (x : State). answers x r) (left_by l ∙ ap (λ (w : Bool). left w c) (e ∙ b'.2)) (up k);
+      answer = subst (λ (x : State). answers x r) (l.closes ∙ ap (λ (w : Outer). close_entry w c) (e ∙ b'.2)) (up k);
     }
 
 pub held_answered : {p : Showing} {effect : Effect} {s t : State} {u : Unit} {n : ℕ} →
-    VisitsRoot p effect s t (Ok u) → s ≡ Going (OfHeld nothing_held) → IsHeldSum t n → AnswersVisit p effect AnswersSum (Ok n)
+    VisitsRootWithEffect p effect s t (Ok u) → s ≡ Going (OfHeld nothing_held) → IsHeldSum t n → AnswersVisit p effect AnswersSum (Ok n)
 held_answered v is h = visit_answered AnswersSum v is (λ k. (k, h))
 
 pub held_refused : {p : Showing} {effect : Effect} {s t : State} {e : Refusal} {r : Result ℕ Refusal} →
-    VisitsRoot p effect s t (Err e) → s ≡ Going (OfHeld nothing_held) → IsErr r → e ≡ err_or e r → AnswersVisit p effect AnswersSum r
+    VisitsRootWithEffect p effect s t (Err e) → s ≡ Going (OfHeld nothing_held) → IsErr r → e ≡ err_or e r → AnswersVisit p effect AnswersSum r
 held_refused v is h i = rw (same_err _ h i) (visit_answered AnswersSum v is (λ k. k))
 
 pub size_answered : {p : Showing} {effect : Effect} {size : Option ℕ} {s t : State} {u : Unit} (n : ℕ) {own m : ℕ} →
-    VisitsRoot p effect s t (Ok u) → s ≡ Going (OfHeld nothing_held) → IsHeldSum t n → size ≡ Some own → m ≡ n + own → AnswersVisit p effect (AnswersSize size) (Ok m)
+    VisitsRootWithEffect p effect s t (Ok u) → s ≡ Going (OfHeld nothing_held) → IsHeldSum t n → size ≡ Some own → m ≡ n + own → AnswersVisit p effect (AnswersSize size) (Ok m)
 size_answered {size = size} n {own = own} v is h y e = visit_answered (AnswersSize size) v is (λ k. (n, own, (k, h), y, e))
 
 pub size_refused : {p : Showing} {effect : Effect} {size : Option ℕ} {s t : State} {e : Refusal} {r : Result ℕ Refusal} →
-    VisitsRoot p effect s t (Err e) → s ≡ Going (OfHeld nothing_held) → IsErr r → e ≡ err_or e r → AnswersVisit p effect (AnswersSize size) r
+    VisitsRootWithEffect p effect s t (Err e) → s ≡ Going (OfHeld nothing_held) → IsErr r → e ≡ err_or e r → AnswersVisit p effect (AnswersSize size) r
 size_refused {size = size} v is h i = rw (same_err _ h i) (visit_answered (AnswersSize size) v is (λ k. inl k))
 
 pub size_not_there : {p : Showing} {effect : Effect} {size : Option ℕ} {s t : State} {u : Unit} (n : ℕ) →
-    VisitsRoot p effect s t (Ok u) → s ≡ Going (OfHeld nothing_held) → IsHeldSum t n → size ≡ None → AnswersVisit p effect (AnswersSize size) (Err TooLarge)
+    VisitsRootWithEffect p effect s t (Ok u) → s ≡ Going (OfHeld nothing_held) → IsHeldSum t n → size ≡ None → AnswersVisit p effect (AnswersSize size) (Err TooLarge)
 size_not_there {size = size} n v is h y = visit_answered (AnswersSize size) v is (λ k. inr (n, (k, h), refl, λ own z. absurd (cc)))
 
 pub size_too_large : {p : Showing} {effect : Effect} {size : Option ℕ} {s t : State} {u : Unit} (n : ℕ) {own : ℕ} →
-    VisitsRoot p effect s t (Ok u) → s ≡ Going (OfHeld nothing_held) → IsHeldSum t n → size ≡ Some own → 2 ^ 64 ≤ n + own → AnswersVisit p effect (AnswersSize size) (Err TooLarge)
+    VisitsRootWithEffect p effect s t (Ok u) → s ≡ Going (OfHeld nothing_held) → IsHeldSum t n → size ≡ Some own → 2 ^ 64 ≤ n + own → AnswersVisit p effect (AnswersSize size) (Err TooLarge)
 size_too_large {size = size} n {own = own} v is h y l = visit_answered (AnswersSize size) v is (λ k. inr (
   n,
   (k, h),
@@ -128,23 +128,23 @@ size_too_large {size = size} n {own = own} v is h y l = visit_answered (AnswersS
 ))
 
 -- Two runs are one of all that r allows, where r allows what both show.
-runs_joined : {p q r : Showing} (s m t : State) (u v w : Unit) → ((f : Forest) → Both p q f → r f) → Runs p s (Ok u) m → Runs q m (Ok v) t → Runs r s (Ok w) t
-runs_joined (Failed x) m t u v w up g h = absurd (cc)
-runs_joined (Going b) (Failed x) t u v w up g h = absurd g
-runs_joined (Going b) (Going c) (Failed x) u v w up g h = h
-runs_joined (Going b) (Going c) (Going d) u v w up (z, f, a, t, k) (y, g, b', t', k') =
+visits_joined : {p q r : Showing} (s m t : State) (u v w : Unit) → ((f : Forest) → Both p q f → r f) → VisitsRoot p s (Ok u) m → VisitsRoot q m (Ok v) t → VisitsRoot r s (Ok w) t
+visits_joined (Failed x) m t u v w up g h = absurd (cc)
+visits_joined (Going b) (Failed x) t u v w up g h = absurd g
+visits_joined (Going b) (Going c) (Failed x) u v w up g h = h
+visits_joined (Going b) (Going c) (Going d) u v w up (z, f, a, t, k) (y, g, b', t', k') =
     let taken : Takes (plus b f) g = subst (λ (x : Kind). Takes x g) k t' in
     (y, followed_by f g, up (followed_by f g) (f, g, a, b', refl), takes_both b f g t taken, cc (plus-following b f g))
 
 -- One step of a loop runs one more root, and a root that is refused ends it.
-pub runs_one_more : {T : Type 0} (p : T → Showing) (xs : List T) (i : ℕ) (x : T) (s m t : State) (u v w : Unit) →
-    Runs (each_shows p (take i xs)) s (Ok u) m → Runs (p x) m (Ok v) t → i < length xs → x ≡ get_or xs i x → Runs (each_shows p (take (i + 1) xs)) s (Ok w) t
-runs_one_more p xs i x s m t u v w f g h e =
+pub visits_one_more : {T : Type 0} (p : T → Showing) (xs : List T) (i : ℕ) (x : T) (s m t : State) (u v w : Unit) →
+    VisitsRoot (each_shows p (take i xs)) s (Ok u) m → VisitsRoot (p x) m (Ok v) t → i < length xs → x ≡ get_or xs i x → VisitsRoot (each_shows p (take (i + 1) xs)) s (Ok w) t
+visits_one_more p xs i x s m t u v w f g h e =
     let e' = take_more xs i x h in
-    rw (e', ← e) (runs_joined s m t u v w (each_and_one p (take i xs) x) f g)
+    rw (e', ← e) (visits_joined s m t u v w (each_and_one p (take i xs) x) f g)
 
 -- ---- a whole run
-pub profile_ended : (p : Showing) (s t : State) (u : Unit) (r : Result Profile Refusal) → Runs p s (Ok u) t → s ≡ Going (OfGraph no_entries) → Ends IsProfile t r → IfOk r (IsProfileOf p)
+pub profile_ended : (p : Showing) (s t : State) (u : Unit) (r : Result Profile Refusal) → VisitsRoot p s (Ok u) t → s ≡ Going (OfGraph no_entries) → Ends IsProfile t r → IfOk r (IsProfileOf p)
 profile_ended p (Failed x) t u r h e k = absurd (cc)
 profile_ended p (Going b) (Failed x) u r h e k = absurd h
 profile_ended p (Going b) (Going c) u (Err x) h e k = tt
@@ -180,4 +180,4 @@ sum_of_profiles p q o o' m a b e =
     }
 
 -- The rules for visits of roots.
-pub ruleset running = (runs_one_more, profile_ended, sum_of_profiles)
+pub ruleset running = (visits_one_more, profile_ended, sum_of_profiles)

@@ -1,6 +1,6 @@
 -- How a loop over an iterator shows one more item, and what a whole run of it shows.
 use Rattle.std.proofs.Common.{Bool, false, true, ℕ, zero, suc, ◌+◌, ◌*◌, ◌<◌, ◌^◌, length, filter_map, cond, count_by, is_some, arith, ◌⊎◌, inl, inr, List, [], ◌∷◌, ◌++◌, map, ◌≡◌, Option, None, Some, Result, Ok, Err, refl, sym, ◌∙◌, ap, subst}
-use Rattle.allocative.proofs.Common.{Yields, Refusal, Key, Forest, Kind, State, left, Showing, Nothing, Both, InsideAs, Inside, Field, each_shows, slice_shows, Enters, checked, size_product, are_shown_each, bytes_shown, CountsRun, in_any_order, Visitor, IsDeclared, CanTake, RefusesRightly, with_state, Entered, Means}
+use Rattle.allocative.proofs.Common.{Outer, Yields, Refusal, Key, Forest, Kind, State, close_entry, Showing, Nothing, Both, InsideAs, Inside, Field, each_shows, slice_shows, OpensEntry, checked, size_product, are_shown_each, bytes_shown, CountsRun, in_any_order, Visitor, IsDeclared, CanTake, FailsOnlyIfFull, with_state, Entered, Means, ClosesEntry}
 use Rattle.std.proofs.lemmas.List.{map-append, length-map}
 use Rattle.std.proofs.lemmas.List.Sums.{sum_by-cons}
 use Rattle.std.proofs.lemmas.List.Elements.{All-nil, All-cons, All-head, All-tail}
@@ -13,10 +13,10 @@ use Rattle.std.specs.List.{All}
 use Rattle.slab.specs.Slab.{entries_from}
 use Rattle.allocative.specs.Runs.{RefusesAlong, RefusesCounted, CanCount, IsOfRun}
 use Rattle.allocative.proofs.Meaning.{entered_if, entered_as, exact_never, exact_same}
-use Rattle.allocative.proofs.Exact.{declared_nothing, declared_first, declared_second, declared_both, declared_append, each_append, each_one, entry_fits, rightly_as, rightly_within}
+use Rattle.allocative.proofs.Exact.{declared_nothing, declared_first, declared_second, declared_both, declared_append, each_append, each_one, entry_fits, only_if_full_as, only_if_full_within}
 use Rattle.allocative.proofs.Within.{entered_both, entered_passed}
 use Rattle.allocative.proofs.Bodies.{plain_slice, each_slice, entry_declared, checked_fits, none_of_it}
-use Rattle.allocative.proofs.Showing.{shows_weaker}
+use Rattle.allocative.proofs.Showing.{adds_weaker}
 
 -- Items in two runs are the items one after another.
 means_append : {T : Type 0} {d : Bool} (p : T → Showing) (xs ys : List T) → Means d (Both (each_shows p xs) (each_shows p ys)) (each_shows p (xs ++ ys))
@@ -47,7 +47,7 @@ of_list {q = q} y f o = subst (λ ys. q ys f) (same_items o.given o.drained y) o
 
 pub along_run : {S A B : Type 0} {e : Bool} {steps : S → Option A → S → Type 0} {s : S} {v : A → B} {q : List B → Showing} (xs : List A) {a b : Visitor} {r : Result (Unit {0}) Refusal} →
     Drains steps s xs → Entered e (q (map v xs)) a b r → RefusesAlong e steps s v q a b r
-along_run {steps = steps} {s = s} xs d h = record { along = λ i ys y. rw (← same_items {steps = steps} {s = s} xs d (record { runs = y })) (h.rightly i) }
+along_run {steps = steps} {s = s} xs d h = record { along = λ i ys y. rw (← same_items {steps = steps} {s = s} xs d (record { runs = y })) (h.only_if_full i) }
 
 -- The items so far and the next one begin the list that every run gives.
 begins : {S A B : Type 0} (steps : S → Option A → S → Type 0) (v : A → B) (s : S) {u : S} (t : S) {x : A} (xs : List A) (ys : List B) → Yields steps s xs t → steps t (Some x) u → AlwaysYields steps v s ys →
@@ -67,13 +67,13 @@ along_refused steps {s = s} t {v} {p} {x} xs is g n f z = record {
   along = λ i ys y.
       let split = begins steps v s t xs ys g n y in
       let both = entered_both exact_same exact_same f (entered_passed is exact_same z) in
-      rw (← split.1) ((entered_as both (means_append p (map v xs) (v x ∷ split.0))).rightly i);
+      rw (← split.1) ((entered_as both (means_append p (map v xs) (v x ∷ split.0))).only_if_full i);
 }
 
 -- What is entered inside an entry.
-pub along_within : {S A B : Type 0} {u e : Bool} {steps : S → Option A → S → Type 0} {s : S} {v : A → B} {q : List B → Showing} {k : Key} {n : ℕ} {o : Bool} {a b : Visitor} {t d : State} {r : Result (Unit {0}) Refusal} →
-    Enters u k n a.collector.now (Ok o) t → RefusesAlong e steps s v q (with_state a t) b r → d ≡ left o b.collector.now → RefusesAlong e steps s v (λ ys. InsideAs u k n (q ys)) a (with_state b d) r
-along_within g h e = record { along = λ i ys y. rightly_within g (h.along i ys y) e }
+pub along_within : {S A B : Type 0} {u e : Bool} {steps : S → Option A → S → Type 0} {s : S} {v : A → B} {q : List B → Showing} {k : Key} {n : ℕ} {o : Outer} {a b : Visitor} {t d : State} {r : Result (Unit {0}) Refusal} →
+    OpensEntry u k (Some n) a.collector.now (Ok o) t → RefusesAlong e steps s v q (with_state a t) b r → ClosesEntry o b.collector.now d → RefusesAlong e steps s v (λ ys. InsideAs u k n (q ys)) a (with_state b d) r
+along_within g h e = record { along = λ i ys y. only_if_full_within g (h.along i ys y) e }
 
 -- ---- for callers: where the run is known
 pub entered_list : {S A B : Type 0} {d e : Bool} {steps : S → Option A → S → Type 0} {s : S} {v : A → B} {q : List B → Showing} {all : List B} {a b : Visitor} {r : Result (Unit {0}) Refusal} →
@@ -81,9 +81,9 @@ pub entered_list : {S A B : Type 0} {d e : Bool} {steps : S → Option A → S �
 entered_list {q = q} {all = all} y h k = record {
   same_reference = h.same_reference;
   same_outer = h.same_outer;
-  shown = shows_weaker (of_list {q = q} y) h.shown;
+  shown = adds_weaker (of_list {q = q} y) h.shown;
   cause = h.cause;
-  rightly = λ i. k.along i all y.runs;
+  only_if_full = λ i. k.along i all y.runs;
 }
 
 pub list_entered : {S A B : Type 0} {e : Bool} {steps : S → Option A → S → Type 0} {s : S} {v : A → B} {q : List B → Showing} {all : List B} {a b : Visitor} {r : Result (Unit {0}) Refusal} →
@@ -153,9 +153,9 @@ counted_plain {steps = steps} {s = s} v name size count needs_drop p {a = a} {b 
   along = λ j ys y fits.
       let is : map v xs ≡ ys = same_items {steps = steps} {s = s} xs d (record { runs = y }) in
       let n : length xs ≡ length ys = sym (length-map xs v) ∙ ap length is in
-      let told = h.rightly refl in
-      let counted : RefusesRightly (Field name (size_product size (checked (length ys))) Nothing) a.collector.now r b.collector.now = rw (i, n) at told in
-      rightly_as (λ f g. plain_slice name size needs_drop p ys e f (bytes_counted name size (length ys) f g)) (counted_declared name size needs_drop p ys e fits) counted;
+      let told = h.only_if_full refl in
+      let counted : FailsOnlyIfFull (Field name (size_product size (checked (length ys))) Nothing) a.collector.now r b.collector.now = rw (i, n) at told in
+      only_if_full_as (λ f g. plain_slice name size needs_drop p ys e f (bytes_counted name size (length ys) f g)) (counted_declared name size needs_drop p ys e fits) counted;
 }
 
 -- ---- a slab's values

@@ -1,15 +1,15 @@
 -- What a closure that visits does to its visitor.
-use Rattle.std.specs.Prelude.{◌≡◌, ℕ, Bool, false, Result, Ok, Err, IfErr}
+use Rattle.std.specs.Prelude.{◌≡◌, ℕ, Bool, false, Result, Ok, Err, IfErr, Some}
 use Rattle.std.specs.Borrow.{MutBor}
 use Rattle.std.specs.Fn.{Once, FnOnceReturnsAtMut}
 use Rattle.allocative_graph.specs.declared.refusal.Refusal.{Refusal}
 use Rattle.allocative_graph.specs.Path.{Key}
-use Rattle.allocative_graph.specs.Collector.{State, Going, OfHeld, nothing_held, failed_with, left}
+use Rattle.allocative_graph.specs.Collector.{State, Going, OfHeld, Outer, nothing_held, failed_with, close_entry}
 use Rattle.allocative_graph.specs.Shows.{Showing}
-use Rattle.allocative_graph.specs.Visits.{Shows, HasFailed, Enters, Leaves, Settles}
+use Rattle.allocative_graph.specs.Visits.{AddsForest, HasFailed, OpensEntry, Settles, ClosesEntry}
 use Rattle.allocative.specs.declared.visitor.Visitor.{Visitor}
 use Rattle.allocative.specs.Steps.{IsHeldSum}
-use Rattle.allocative.specs.Visited.{BeginsAt}
+use Rattle.allocative.specs.Visited.{OpensRootAt}
 
 -- The collector after a closure told this: its own refusal is the first cause where nothing had failed.
 abbrev pub after_told : Result (Unit {0}) Refusal → State → State
@@ -27,30 +27,30 @@ module _ {F : Type 0}
   -- A call returns the visitor with the collector that it was given, and at its place.
   abbrev pub KeepsVisitor : Type 0
   KeepsVisitor = (x y : Visitor) (r : Result (Unit {0}) Refusal) → FnOnceReturnsAtMut g f x r y
-      → (y.collector.ghost_name ≡ x.collector.ghost_name) × (y.outer_is_unique ≡ x.outer_is_unique)
+      → (y.collector.ghost_name ≡ x.collector.ghost_name) × (y.outer ≡ x.outer)
 
   -- Each call shows what p allows.
   abbrev pub CallShows : Showing → Type 0
   CallShows p = (x y : Visitor) (r : Result (Unit {0}) Refusal) → FnOnceReturnsAtMut g f x r y
-      → Shows p x.collector.now r y.collector.now
+      → AddsForest p x.collector.now r y.collector.now
 
   -- The closure's entry is refused as entering says. Or the closure is called at the entry's visitor and returns Ok,
   -- and the visitor is left. Or the closure returns Err with a cause, the collector fails with that cause unless it had
   -- failed before, and the visitor is left.
   pub data CallsInside (k : Key) (n : ℕ) (s : State) (t : State) : Result (Unit {0}) Refusal → Type 0 where
-    not_called : {e : Refusal} → Enters false k n s (Err e) t → CallsInside k n s t (Err e)
-    called : {o : Bool} {w : State} {u : Unit} (x y : Visitor) → Enters false k n s (Ok o) w → x.collector.now ≡ w
-        → FnOnceReturnsAtMut g f x (Ok tt) y → Leaves y.outer_is_unique y.collector.now t → y.outer_is_unique ≡ o
+    not_called : {e : Refusal} → OpensEntry false k (Some n) s (Err e) t → CallsInside k n s t (Err e)
+    called : {o : Outer} {w : State} {u : Unit} (x y : Visitor) → OpensEntry false k (Some n) s (Ok o) w → x.collector.now ≡ w
+        → FnOnceReturnsAtMut g f x (Ok tt) y → ClosesEntry y.outer y.collector.now t → y.outer ≡ o
         → CallsInside k n s t (Ok u)
-    refused_inside : {o q : Bool} {w : State} {e : Refusal} (x y : Visitor) (z : State) (cause : Refusal)
-        → Enters false k n s (Ok o) w → x.collector.now ≡ w → FnOnceReturnsAtMut g f x (Err cause) y
-        → z ≡ failed_with cause y.collector.now → Leaves q z t → CallsInside k n s t (Err e)
+    refused_inside : {o q : Outer} {w : State} {e : Refusal} (x y : Visitor) (z : State) (cause : Refusal)
+        → OpensEntry false k (Some n) s (Ok o) w → x.collector.now ≡ w → FnOnceReturnsAtMut g f x (Err cause) y
+        → z ≡ failed_with cause y.collector.now → ClosesEntry q z t → CallsInside k n s t (Err e)
 
   -- The visitor stays where it was, the closure was called inside an entry as `CallsInside` says, and an Err is the
   -- collector's first cause.
   pub record CalledInside (k : Key) (n : ℕ) (old new : Visitor) (r : Result (Unit {0}) Refusal) : Type 0 where
     pub same_reference : new.collector.ghost_name ≡ old.collector.ghost_name
-    pub same_outer : new.outer_is_unique ≡ old.outer_is_unique
+    pub same_outer : new.outer ≡ old.outer
     pub calls : CallsInside k n old.collector.now new.collector.now r
     pub cause : IfErr r (HasFailed new.collector.now)
 
@@ -61,7 +61,7 @@ module _ {F : Type 0}
     pub after : Visitor
     pub calls : FnOnceReturnsAtMut g f old told after
     pub same_reference : new.collector.ghost_name ≡ old.collector.ghost_name
-    pub same_outer : new.outer_is_unique ≡ old.outer_is_unique
+    pub same_outer : new.outer ≡ old.outer
     pub now : new.collector.now ≡ after_told told after.collector.now
 
   -- The closure was called at a root visitor of a collector that holds nothing, and the visitor was left; the answer
@@ -69,6 +69,6 @@ module _ {F : Type 0}
   pub record CalledAtRoot (answer : Result ℕ Refusal) : Type 0 where
     pub before : Visitor
     pub after : Visitor
-    pub begun : BeginsAt (Going (OfHeld nothing_held)) before
+    pub begun : OpensRootAt (Going (OfHeld nothing_held)) before
     pub called : CalledAt before after
-    pub answers : AnswersSum (left after.outer_is_unique after.collector.now) answer
+    pub answers : AnswersSum (close_entry after.outer after.collector.now) answer

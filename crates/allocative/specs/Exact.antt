@@ -59,19 +59,19 @@ MayRefuse p b Open = ⊥
 -- A visit that shows p refuses only where it must. After Ok the collector has one more forest, which p allows and the
 -- collector takes. An Err is the collector's cause, and says why the visit may be refused. Nothing is said of a
 -- collector that had failed.
-pub data RefusesRightly (p : Showing) : State → Result Unit Refusal → State → Type 0 where
-  had_failed : {r : Refusal} {result : Result Unit Refusal} {t : State} → RefusesRightly p (Failed r) result t
+pub data FailsOnlyIfFull (p : Showing) : State → Result Unit Refusal → State → Type 0 where
+  had_failed : {r : Refusal} {result : Result Unit Refusal} {t : State} → FailsOnlyIfFull p (Failed r) result t
   has_added : {b c : Kind} {u : Unit} (f : Forest) → p f → Takes b f → c ≡ plus b f
-      → RefusesRightly p (Going b) (Ok u) (Going c)
-  has_refused : {b : Kind} {e : Refusal} → MayRefuse p b e → RefusesRightly p (Going b) (Err e) (Failed e)
+      → FailsOnlyIfFull p (Going b) (Ok u) (Going c)
+  has_refused : {b : Kind} {e : Refusal} → MayRefuse p b e → FailsOnlyIfFull p (Going b) (Err e) (Failed e)
 
 -- A visit of p by a root visitor refuses only where it must. Where the visit is exact, and the collector was going with
 -- no open visitor, an Err is the collector's cause, and says why p may be refused with the root visitor open. What else
--- may happen is said by `Runs`.
-abbrev pub RunsRightly : Bool → Showing → State → Result Unit Refusal → State → Type 0
-RunsRightly is_exact p (Failed r) result t = ⊤
-RunsRightly is_exact p (Going b) (Ok u) t = ⊤
-RunsRightly is_exact p (Going b) (Err e) t =
+-- may happen is said by `VisitsRoot`.
+abbrev pub RootFailsOnlyIfFull : Bool → Showing → State → Result Unit Refusal → State → Type 0
+RootFailsOnlyIfFull is_exact p (Failed r) result t = ⊤
+RootFailsOnlyIfFull is_exact p (Going b) (Ok u) t = ⊤
+RootFailsOnlyIfFull is_exact p (Going b) (Err e) t =
     IsTrue is_exact → IsClosed b → (t ≡ Failed e) × MayRefuse p (begin b) e
 
 -- Why the profile of an exact p is refused: with Memory, or with TooLarge, where an empty collector of a flame graph with

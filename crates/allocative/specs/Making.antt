@@ -3,8 +3,8 @@ use Rattle.std.specs.Prelude.{◌≡◌, ℕ, ◌-◌, Bool, true, false, List, 
 use Rattle.allocative_described.specs.Sizes.{size_product}
 use Rattle.allocative_graph.specs.declared.refusal.Refusal.{Refusal}
 use Rattle.allocative_graph.specs.Path.{Key}
-use Rattle.allocative_graph.specs.Collector.{Kind, State, Failed, Going}
-use Rattle.allocative_graph.specs.Visits.{EntersSized, HasFailed, Leaves}
+use Rattle.allocative_graph.specs.Collector.{Kind, State, Failed, Going, Outer}
+use Rattle.allocative_graph.specs.Visits.{OpensEntry, HasFailed, ClosesEntry}
 use Rattle.allocative.specs.Bodies.{are_shown_each}
 use Rattle.allocative.specs.Runs.{CountsRun}
 use Rattle.allocative.specs.declared.visitor.Visitor.{Visitor}
@@ -24,16 +24,16 @@ followed_by_plan Done q = q
 followed_by_plan (Entry k size inside after) q = Entry k size inside (followed_by_plan after q)
 
 -- What making the entries of a plan in reading order does. A failed collector returns its first cause. Otherwise each
--- entry is refused as `EntersSized` says, and the first error is returned; or it is entered, those inside it are made,
+-- entry is refused as `OpensEntry` says, and the first error is returned; or it is entered, those inside it are made,
 -- it is left, and those after it are made.
 pub data Makes : Plan → State → Result Unit Refusal → State → Type 0 where
   had_failed : {p : Plan} {r : Refusal} → Makes p (Failed r) (Err r) (Failed r)
   made_none : {b : Kind} {u : Unit} → Makes Done (Going b) (Ok u) (Going b)
-  made : {k : Key} {size : Option ℕ} {inside after : Plan} {s t c d z : State} {o : Bool} {v : Unit} {r : Result Unit Refusal} → EntersSized k size s (Ok o) t → Makes inside t (Ok v) c → Leaves o c d → Makes after d r z → Makes (Entry k size inside after) s r z
+  made : {k : Key} {size : Option ℕ} {inside after : Plan} {s t c d z : State} {o : Outer} {v : Unit} {r : Result Unit Refusal} → OpensEntry false k size s (Ok o) t → Makes inside t (Ok v) c → ClosesEntry o c d → Makes after d r z → Makes (Entry k size inside after) s r z
   entry_refused : {k : Key} {size : Option ℕ} {inside after : Plan} {s t : State} {e : Refusal}
-      → EntersSized k size s (Err e) t → Makes (Entry k size inside after) s (Err e) t
-  inside_refused : {k : Key} {size : Option ℕ} {inside after : Plan} {s t c : State} {o : Bool} {e : Refusal}
-      → EntersSized k size s (Ok o) t → Makes inside t (Err e) c → Makes (Entry k size inside after) s (Err e) c
+      → OpensEntry false k size s (Err e) t → Makes (Entry k size inside after) s (Err e) t
+  inside_refused : {k : Key} {size : Option ℕ} {inside after : Plan} {s t c : State} {o : Outer} {e : Refusal}
+      → OpensEntry false k size s (Ok o) t → Makes inside t (Err e) c → Makes (Entry k size inside after) s (Err e) c
 
 -- No item of a slice is visited: there is none, or they are not shown one by one.
 abbrev pub VisitsNone : {T : Type 0} → Bool → Option ℕ → List T → Type 0
@@ -63,9 +63,9 @@ MakesPlan p old new r = Makes p old.collector.now r new.collector.now
 -- What a call that makes an entry of its own first does to the collector of its visitor: the entry is refused as
 -- entering says, and nothing else is entered; or it is entered, and anything may follow.
 pub data MakesFirst (k : Key) (size : Option ℕ) (old new : Visitor) : Result Unit Refusal → Type 0 where
-  first_refused : {e : Refusal} → EntersSized k size old.collector.now (Err e) new.collector.now
+  first_refused : {e : Refusal} → OpensEntry false k size old.collector.now (Err e) new.collector.now
       → MakesFirst k size old new (Err e)
-  first_entered : {o : Bool} {w : State} {r : Result Unit Refusal} → EntersSized k size old.collector.now (Ok o) w
+  first_entered : {o : Outer} {w : State} {r : Result Unit Refusal} → OpensEntry false k size old.collector.now (Ok o) w
       → MakesFirst k size old new r
 
 -- A visitor whose collector had failed returns its first cause, and the collector stays as it is. Nothing is said of

@@ -6,8 +6,8 @@ use mir.Syntax.{named}
 use Rattle.allocative_graph.specs.declared.refusal.Refusal.{Refusal}
 use Rattle.allocative_graph.specs.Path.{Key}
 use Rattle.allocative_graph.specs.Identity.{Identity}
-use Rattle.allocative_graph.specs.Collector.{State, Failed}
-use Rattle.allocative_graph.specs.Visits.{Enters, EntersSized, EntersShared, Answers}
+use Rattle.allocative_graph.specs.Collector.{State, Outer, no_outer}
+use Rattle.allocative_graph.specs.Visits.{OpensEntry, OpensShared, RefusesEntry}
 use Rattle.allocative.specs.Shared.{answered}
 use Rattle.allocative.specs.declared.visitor.Visitor.{Visitor}
 use Rattle.allocative.specs.contracts.visitor.Visitor as visitor
@@ -23,45 +23,33 @@ LendsCollector s r =
     Lends (visitor.the_row (record { mir = named 1; lft = [] })) collector.the_row s r (with_state s.now)
 
 -- The visitor ends with what the nested visitor leaves of the collector or, where the entry was refused, with what
--- `enters` says. Nothing else of it changes.
-abbrev pub LendsAs : (State → Result Bool Refusal → State → Type 0) → MutBor Visitor → Result Visitor Refusal → Fml
-LendsAs enters s r =
+-- `opens` says. Nothing else of it changes.
+abbrev pub LendsAs : (State → Result Outer Refusal → State → Type 0) → MutBor Visitor → Result Visitor Refusal → Fml
+LendsAs opens s r =
     follows_so (visitor.the_row (record { mir = named 1; lft = [] })) collector.the_row s.ghost_name
     (name_if_ok (λ v. v.collector.ghost_name) r)
     (λ w v. OnOk r (v ≡ with_state s.now w))
-    (λ v. IfErr r (λ e. enters s.now.collector.now (Err e) v.collector.now × (v ≡ with_state s.now v.collector.now)))
-
--- As `LendsAs`, of an entry of n bytes.
-abbrev pub LendsNested : Bool → Key → ℕ → MutBor Visitor → Result Visitor Refusal → Fml
-LendsNested is_unique k n = LendsAs (Enters is_unique k n)
+    (λ v. IfErr r (λ e. opens s.now.collector.now (Err e) v.collector.now × (v ≡ with_state s.now v.collector.now)))
 
 -- As `LendsAs`, of an entry of a declared size.
-abbrev pub LendsNestedSized : Key → Option ℕ → MutBor Visitor → Result Visitor Refusal → Fml
-LendsNestedSized k size = LendsAs (EntersSized k size)
+abbrev pub LendsNested : Bool → Key → Option ℕ → MutBor Visitor → Result Visitor Refusal → Fml
+LendsNested is_unique k size = LendsAs (OpensEntry is_unique k size)
 
--- The nested visitor v is at the entry that was entered at s.
-abbrev pub Nests : Bool → Key → ℕ → Visitor → Visitor → Type 0
-Nests is_unique k n s v = Enters is_unique k n s.collector.now (Ok v.outer_is_unique) v.collector.now
-
--- The nested visitor v is at the entry of a declared size that was entered at s.
-abbrev pub NestsSized : Key → Option ℕ → Visitor → Visitor → Type 0
-NestsSized k size s v = EntersSized k size s.collector.now (Ok v.outer_is_unique) v.collector.now
+-- The nested visitor v is at the entry that was opened at s.
+abbrev pub Nests : Bool → Key → Option ℕ → Visitor → Visitor → Type 0
+Nests is_unique k size s v = OpensEntry is_unique k size s.collector.now (Ok v.outer) v.collector.now
 
 -- The visitor v is at the content of the shared value that was entered at s.
 abbrev pub NestsContent : Key → ℕ → Identity → Visitor → Visitor → Type 0
-NestsContent k n i s v = EntersShared k n i s.collector.now (Ok true) v.collector.now
+NestsContent k n i s v = OpensShared k n i s.collector.now (Ok true) v.collector.now
 
--- A visitor at the content of a shared value keeps the flag false.
+-- Leaving the content of a shared value restores nothing.
 abbrev pub IsContents : Visitor → Type 0
-IsContents v = v.outer_is_unique ≡ false
-
--- An entry of n bytes at s is refused with e.
-abbrev pub IsRefused : Bool → ℕ → Visitor → Refusal → Type 0
-IsRefused is_unique n s e = Answers is_unique n s.collector.now (Err e)
+IsContents v = v.outer ≡ no_outer
 
 -- An entry of a declared size at s is refused with e.
-abbrev pub IsRefusedSized : Key → Option ℕ → Visitor → Refusal → Type 0
-IsRefusedSized k size s e = EntersSized k size s.collector.now (Err e) (Failed e)
+abbrev pub IsRefused : Bool → Option ℕ → Visitor → Refusal → Type 0
+IsRefused is_unique size s e = RefusesEntry is_unique size s.collector.now e
 
 -- The name of the reference in the visitor that is returned.
 abbrev pub name_in : Result (Option Visitor) Refusal → maybe.Option GName
@@ -77,7 +65,7 @@ EndsWith s r w v = IfOk r (λ o. IfSome o (λ x. v ≡ with_state s w))
 abbrev pub EndsWithout : Key → ℕ → Identity → Visitor → Result (Option Visitor) Refusal → Visitor → Type 0
 EndsWithout k n i s (Ok (Some x)) v = ⊤
 EndsWithout k n i s r v =
-    EntersShared k n i s.collector.now (answered r) v.collector.now × (v ≡ with_state s v.collector.now)
+    OpensShared k n i s.collector.now (answered r) v.collector.now × (v ≡ with_state s v.collector.now)
 
 -- The visitor ends with what the visitor at a shared value's content leaves of the collector or, where none is
 -- returned, with what entering says. Nothing else of it changes.

@@ -6,7 +6,7 @@ use Rattle.allocative_graph.specs.declared.refusal.Refusal.{Refusal}
 use Rattle.allocative_graph.specs.Path.{Key}
 use Rattle.allocative_graph.specs.Forest.{Forest}
 use Rattle.allocative_graph.specs.Shows.{Showing, Both, Field}
-use Rattle.allocative.specs.Exact.{RefusesRightly}
+use Rattle.allocative.specs.Exact.{FailsOnlyIfFull}
 use Rattle.allocative.specs.declared.visitor.Visitor.{Visitor}
 
 -- A forest that q allows for the items of some whole run of an iterator that starts at s; v is what a contract sees of
@@ -22,7 +22,7 @@ pub record IsOfRun {S A B : Type 0} (steps : S → Option A → S → Type 0) (s
 pub record RefusesAlong {S A B : Type 0} (is_exact : Bool) (steps : S → Option A → S → Type 0) (s : S) (v : A → B)
     (q : List B → Showing) (old new : Visitor) (r : Result (Unit {0}) Refusal) : Type 0 where
   pub along : IsTrue is_exact → (ys : List B) → AlwaysYields steps v s ys
-      → RefusesRightly (q ys) old.collector.now r new.collector.now
+      → FailsOnlyIfFull (q ys) old.collector.now r new.collector.now
 
 -- So many items of a declared size can be counted: where items have size 0, their number fits a word.
 abbrev pub CanCount : Option ℕ → ℕ → Type 0
@@ -32,7 +32,7 @@ CanCount size n = size ≡ Some 0 → n < 2 ^ 64
 pub record RefusesCounted {S A B : Type 0} (is_exact : Bool) (size : Option ℕ) (steps : S → Option A → S → Type 0)
     (s : S) (v : A → B) (q : List B → Showing) (old new : Visitor) (r : Result (Unit {0}) Refusal) : Type 0 where
   pub along : IsTrue is_exact → (ys : List B) → AlwaysYields steps v s ys → CanCount size (length ys)
-      → RefusesRightly (q ys) old.collector.now r new.collector.now
+      → FailsOnlyIfFull (q ys) old.collector.now r new.collector.now
 
 -- A field with its name and declared size, with what p says of the value inside it.
 abbrev pub field_of : {T : Type 0} → Key → Option ℕ → (T → Showing) → T → Showing

@@ -4,7 +4,7 @@ use Rattle.allocative_graph.specs.declared.refusal.Refusal.{Refusal}
 use Rattle.allocative_graph.specs.declared.refusal.Refusal.TheVariants.{TooLarge}
 use Rattle.allocative_graph.specs.Forest.{Forest}
 use Rattle.allocative_graph.specs.Held.{held, ShowsNoContent}
-use Rattle.allocative_graph.specs.Collector.{State, Going, OfHeld, begin, left, nothing_held}
+use Rattle.allocative_graph.specs.Collector.{State, Going, OfHeld, begin, close_entry, no_outer, nothing_held}
 use Rattle.allocative_graph.specs.Shows.{Showing}
 use Rattle.allocative_graph.specs.Visits.{Settles}
 use Rattle.allocative.specs.Exact.{CanTake}
@@ -47,4 +47,4 @@ pub record AnswersVisit (p : Showing) (effect : Effect) (answers : State → Res
     (result : Result ℕ Refusal) : Type 0 where
   pub after : State
   pub visited : WasVisited p effect (Going (begin (OfHeld nothing_held))) after
-  pub answer : answers (left false after) result
+  pub answer : answers (close_entry no_outer after) result

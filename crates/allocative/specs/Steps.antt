@@ -4,20 +4,20 @@ use Rattle.allocative_graph.specs.declared.refusal.Refusal.{Refusal}
 use Rattle.allocative_graph.specs.Path.{Key}
 use Rattle.allocative_graph.specs.Identity.{Identity}
 use Rattle.allocative_graph.specs.Sums.{entered}
-use Rattle.allocative_graph.specs.Collector.{Live, OfGraph, OfHeld, State, Failed, Going, enter, leave, is_in_unique}
+use Rattle.allocative_graph.specs.Collector.{Live, OfGraph, OfHeld, State, Failed, Going, enter, leave, outer_of, Outer}
 use Rattle.allocative_graph.specs.Visits.{HasRoom, Refuses}
 use Rattle.allocative_collectors.specs.Meets.{MeetsAs}
 
 -- One entry is entered, or refused.
-abbrev pub StepsIn : Bool → Key → ℕ → State → Result Bool Refusal → State → Type 0
+abbrev pub StepsIn : Bool → Key → ℕ → State → Result Outer Refusal → State → Type 0
 StepsIn u k n (Failed r) result t = (result ≡ Err r) × (t ≡ Failed r)
-StepsIn u k n (Going b) (Ok outer) t = HasRoom u n b × (outer ≡ is_in_unique b) × (t ≡ Going (enter u k n b))
+StepsIn u k n (Going b) (Ok outer) t = HasRoom u n b × (outer ≡ outer_of b) × (t ≡ Going (enter u k n b))
 StepsIn u k n (Going b) (Err e) t = Refuses u n b e × (t ≡ Failed e)
 
 -- One inline entry with nothing inside it is made, or refused.
 abbrev pub StepsSimple : Key → ℕ → State → Result Unit Refusal → State → Type 0
 StepsSimple k n (Failed r) result t = (result ≡ Err r) × (t ≡ Failed r)
-StepsSimple k n (Going b) (Ok u) t = HasRoom false n b × (t ≡ Going (leave (is_in_unique b) (enter false k n b)))
+StepsSimple k n (Going b) (Ok u) t = HasRoom false n b × (t ≡ Going (leave (outer_of b) (enter false k n b)))
 StepsSimple k n (Going b) (Err e) t = Refuses false n b e × (t ≡ Failed e)
 
 -- One shared entry is entered, or refused.

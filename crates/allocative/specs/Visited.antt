@@ -3,10 +3,10 @@ use Rattle.std.specs.Prelude.{◌≡◌, Bool, IsTrue, Result, Ok, Err, IfErr, �
 use Rattle.allocative_graph.specs.declared.refusal.Refusal.{Refusal}
 use Rattle.allocative_graph.specs.Forest.{Forest}
 use Rattle.allocative_graph.specs.Shows.{Showing}
-use Rattle.allocative_graph.specs.Collector.{State, failed_with}
-use Rattle.allocative_graph.specs.Visits.{Shows, HasFailed, Begins, Leaves, Settles}
+use Rattle.allocative_graph.specs.Collector.{State, Outer, failed_with}
+use Rattle.allocative_graph.specs.Visits.{AddsForest, HasFailed, OpensRoot, Settles, ClosesEntry}
 use Rattle.allocative.specs.declared.visitor.Visitor.{Visitor}
-use Rattle.allocative.specs.Exact.{IsDeclared, RefusesRightly}
+use Rattle.allocative.specs.Exact.{IsDeclared, FailsOnlyIfFull}
 
 -- What a visit does to its collector: a relation of the collector before, the answer and the collector after.
 abbrev pub Effect : Type 1
@@ -21,25 +21,25 @@ AnyEffect s r t = ⊤
 pub record Visited (is_exact : Bool) (p : Showing) (effect : Effect) (old new : Visitor) (r : Result (Unit {0}) Refusal)
     : Type 0 where
   pub same_reference : new.collector.ghost_name ≡ old.collector.ghost_name
-  pub same_outer : new.outer_is_unique ≡ old.outer_is_unique
-  pub shown : Shows p old.collector.now r new.collector.now
-  pub rightly : IsTrue is_exact → RefusesRightly p old.collector.now r new.collector.now
+  pub same_outer : new.outer ≡ old.outer
+  pub shown : AddsForest p old.collector.now r new.collector.now
+  pub only_if_full : IsTrue is_exact → FailsOnlyIfFull p old.collector.now r new.collector.now
   pub takes_effect : effect old.collector.now r new.collector.now
 
 -- The visitor stays where it was, its collector was shown what p allows, and an Err is the collector's first cause. What
 -- is exact refuses only where it must.
 pub record Entered (is_exact : Bool) (p : Showing) (old new : Visitor) (r : Result (Unit {0}) Refusal) : Type 0 where
   pub same_reference : new.collector.ghost_name ≡ old.collector.ghost_name
-  pub same_outer : new.outer_is_unique ≡ old.outer_is_unique
-  pub shown : Shows p old.collector.now r new.collector.now
+  pub same_outer : new.outer ≡ old.outer
+  pub shown : AddsForest p old.collector.now r new.collector.now
   pub cause : IfErr r (HasFailed new.collector.now)
-  pub rightly : IsTrue is_exact → RefusesRightly p old.collector.now r new.collector.now
+  pub only_if_full : IsTrue is_exact → FailsOnlyIfFull p old.collector.now r new.collector.now
 
 -- The visitor stays where it was; its collector has failed with r unless it had failed before, and the first cause is
 -- returned.
 pub record Refused (r : Refusal) (old new : Visitor) (cause : Refusal) : Type 0 where
   pub same_reference : new.collector.ghost_name ≡ old.collector.ghost_name
-  pub same_outer : new.outer_is_unique ≡ old.outer_is_unique
+  pub same_outer : new.outer ≡ old.outer
   pub after : new.collector.now ≡ failed_with r old.collector.now
   pub is_cause : HasFailed new.collector.now cause
 
@@ -47,19 +47,19 @@ pub record Refused (r : Refusal) (old new : Visitor) (cause : Refusal) : Type 0 
 abbrev pub collector_of : Visitor → State
 collector_of v = v.collector.now
 
--- Dropping the visitor v leaves its collector as t: one step back, with the flag that v keeps.
+-- Dropping the visitor v leaves its collector as t: one step back.
 abbrev pub Exits : Visitor → State → Type 0
-Exits v t = Leaves v.outer_is_unique v.collector.now t
+Exits v t = ClosesEntry v.outer v.collector.now t
 
 -- A visit of this effect, which shows p, was made at s and left the collector as t.
 pub record WasVisited (p : Showing) (effect : Effect) (s t : State) : Type 0 where
   pub told : Result (Unit {0}) Refusal
-  pub shown : Shows p s told t
+  pub shown : AddsForest p s told t
   pub takes_effect : effect s told t
 
 -- The root visitor v was opened at s.
-abbrev pub BeginsAt : State → Visitor → Type 0
-BeginsAt s v = Begins s (Ok v.outer_is_unique) v.collector.now
+abbrev pub OpensRootAt : State → Visitor → Type 0
+OpensRootAt s v = OpensRoot s (Ok v.outer) v.collector.now
 
 -- Every forest that p allows, q allows. For an exact visit, p is also declared where q is.
 pub record Means (is_exact : Bool) (p q : Showing) : Type 0 where
@@ -72,7 +72,7 @@ pub record OnlyIf (is_exact is_exact' : Bool) : Type 0 where
 
 -- A visit of this effect by a root visitor, which shows p: no root visitor could be opened; or it was opened, the visit
 -- was made there, the visitor was left, and the answer is what the collector settles.
-pub data VisitsRoot (p : Showing) (effect : Effect) (s t : State) (r : Result (Unit {0}) Refusal) : Type 0 where
-  not_begun : (e : Refusal) → Settles s (Err e) → VisitsRoot p effect s t r
-  root_visited : {o w : Bool} {a c : State} → Begins s (Ok o) a → WasVisited p effect a c → Leaves w c t → w ≡ o
-      → Settles t r → VisitsRoot p effect s t r
+pub data VisitsRootWithEffect (p : Showing) (effect : Effect) (s t : State) (r : Result (Unit {0}) Refusal) : Type 0 where
+  not_begun : (e : Refusal) → Settles s (Err e) → VisitsRootWithEffect p effect s t r
+  root_visited : {o w : Outer} {a c : State} → OpensRoot s (Ok o) a → WasVisited p effect a c → ClosesEntry w c t → w ≡ o
+      → Settles t r → VisitsRootWithEffect p effect s t r

@@ -1,15 +1,15 @@
 //! Visitors: places in a collector where values enter what they hold.
 #![tactic(auto, using(crate::proofs::Showing::showing))]
 
-ghost use Rattle.std.specs.Prelude.{◌≡◌, IfOk, IfErr, IfSome, Ok, Err, Some, true, false};
-ghost use Rattle.allocative_graph.specs.Collector.{Failed};
+ghost use Rattle.std.specs.Prelude.{◌≡◌, IfOk, IfErr, IfSome, Err, Some, true, false};
+ghost use Rattle.allocative_graph.specs.Collector.{no_outer};
 ghost use Rattle.allocative_graph.specs.Shows.{Inside, Nothing};
-ghost use Rattle.allocative_graph.specs.Visits.{EntersSized, Settles};
-ghost use Rattle.allocative.specs.Lending.{LendsSized, LendsBegun, LendsBegunGraph};
+ghost use Rattle.allocative_graph.specs.Visits.{RefusesEntry, Settles};
+ghost use Rattle.allocative.specs.Lending.{LendsEntered, OpensEntryAt, LendsBegun, LendsBegunGraph};
 ghost use Rattle.allocative.specs.Built.{as_graph};
 ghost use Rattle.allocative.specs.Making.{MakesPlan, one};
-ghost use Rattle.allocative.specs.Visited.{Entered, WasVisited, Refused, Exits, BeginsAt, collector_of};
-ghost use Rattle.allocative.specs.Nested.{LendsNested, LendsNestedSized, LendsShared, Nests, NestsSized, NestsContent, IsContents, IsRefused, IsRefusedSized};
+ghost use Rattle.allocative.specs.Visited.{Entered, WasVisited, Refused, Exits, OpensRootAt, collector_of};
+ghost use Rattle.allocative.specs.Nested.{LendsNested, LendsShared, Nests, NestsContent, IsContents, IsRefused};
 ghost use Rattle.allocative.specs.Shared.{AnswersShared, turned, answered};
 ghost use Rattle.std.specs.Borrow.{sem};
 
@@ -23,8 +23,8 @@ use crate::{Allocative, Described, Identity, Key, Refusal};
 /// A place in a collector. Dropping it, or calling `exit`, goes one step back.
 pub struct Visitor<'a> {
     pub(crate) collector: &'a mut Collector,
-    // Whether the visitor outside is that of a unique entry. It is used only when counting held bytes.
-    outer_is_unique: bool,
+    // What leaving the entry restores. It is used only when counting held bytes.
+    outer: bool,
 }
 
 impl Drop for Visitor<'_> {
@@ -32,11 +32,8 @@ impl Drop for Visitor<'_> {
     fn drop(self)
         ensures { Exits self.entry self.exit.0.now }
     {
-        let Visitor {
-            collector,
-            outer_is_unique,
-        } = self;
-        collector.close_entry(outer_is_unique);
+        let Visitor { collector, outer } = self;
+        collector.close_entry(outer);
     }
 }
 
@@ -49,15 +46,15 @@ impl Collector {
         key: Key,
         size: Option<usize>,
     ) -> Result<Visitor<'_>, Refusal>
-        ensures* lent { sem 𝓛 (LendsSized key size self.entry result) }
+        ensures* lent { sem 𝓛 (LendsEntered false key size self.entry result) }
         ensures same_reference { IfOk result (λ v. v.collector.ghost_name ≡ self.entry.ghost_name) }
-        ensures entered { IfOk result (λ v. EntersSized key size self.old (Ok v.outer_is_unique) v.collector.now) }
-        ensures refused { IfErr result (λ e. EntersSized key size self.old (Err e) (Failed e)) }
+        ensures entered { IfOk result (OpensEntryAt false key size self.old) }
+        ensures refused { IfErr result (RefusesEntry false size self.old) }
     {
-        let outer_is_unique = self.open_sized(key, size)?;
+        let outer = self.open_sized(key, size)?;
         Ok(Visitor {
             collector: self,
-            outer_is_unique,
+            outer,
         })
     }
 
@@ -65,13 +62,13 @@ impl Collector {
     /// shown. It allocates nothing.
     pub(crate) fn content(&mut self) -> Visitor<'_>
         ensures same_reference { result.collector.ghost_name ≡ self.entry.ghost_name }
-        ensures outer { result.outer_is_unique ≡ false }
+        ensures outer { result.outer ≡ no_outer }
         ensures now { result.collector.now ≡ self.old }
     {
         // Only a flame graph's collector shows contents, and it keeps its own places.
         Visitor {
             collector: self,
-            outer_is_unique: false,
+            outer: false,
         }
     }
 
@@ -80,13 +77,13 @@ impl Collector {
     pub(crate) fn root_visitor(&mut self) -> Result<Visitor<'_>, Refusal>
         ensures* lent { sem 𝓛 (LendsBegun self.entry result) }
         ensures same_reference { IfOk result (λ v. v.collector.ghost_name ≡ self.entry.ghost_name) }
-        ensures begun { IfOk result (BeginsAt self.old) }
+        ensures begun { IfOk result (OpensRootAt self.old) }
         ensures refused { IfErr result (λ e. Settles self.old (Err e)) }
     {
-        let outer_is_unique = self.begin()?;
+        let outer = self.begin()?;
         Ok(Visitor {
             collector: self,
-            outer_is_unique,
+            outer,
         })
     }
 
@@ -95,7 +92,7 @@ impl Collector {
     pub(crate) fn graph_root_visitor(&mut self) -> Result<Visitor<'_>, Refusal>
         ensures* lent { sem 𝓛 (LendsBegunGraph self.entry result) }
         ensures same_reference { IfOk result (λ v. v.collector.ghost_name ≡ self.entry.ghost_name) }
-        ensures begun { IfOk result (BeginsAt (as_graph self.old)) }
+        ensures begun { IfOk result (OpensRootAt (as_graph self.old)) }
         ensures refused { IfErr result (λ e. Settles (as_graph self.old) (Err e)) }
     {
         self.check_graph()?;
@@ -131,9 +128,9 @@ impl Visitor<'_> {
     /// forgets it, enters by the functions of the module `by_hand`, which the checker follows too.
     #[inline(always)]
     pub fn enter(&mut self, key: Key, size: usize) -> Result<Visitor<'_>, Refusal>
-        ensures* lent { sem 𝓛 (LendsNested false key size self.entry result) }
-        ensures entered { IfOk result (Nests false key size self.old) }
-        ensures refused { IfErr result (IsRefused false size self.old) }
+        ensures* lent { sem 𝓛 (LendsNested false key (Some size) self.entry result) }
+        ensures entered { IfOk result (Nests false key (Some size) self.old) }
+        ensures refused { IfErr result (IsRefused false (Some size) self.old) }
     {
         by_hand::enter(by_hand::collector_of(self), key, size)
     }
@@ -142,9 +139,9 @@ impl Visitor<'_> {
     /// errors are those of `enter`.
     #[inline(always)]
     pub fn enter_unique(&mut self, key: Key, size: usize) -> Result<Visitor<'_>, Refusal>
-        ensures* lent { sem 𝓛 (LendsNested true key size self.entry result) }
-        ensures entered { IfOk result (Nests true key size self.old) }
-        ensures refused { IfErr result (IsRefused true size self.old) }
+        ensures* lent { sem 𝓛 (LendsNested true key (Some size) self.entry result) }
+        ensures entered { IfOk result (Nests true key (Some size) self.old) }
+        ensures refused { IfErr result (IsRefused true (Some size) self.old) }
     {
         by_hand::enter_unique(by_hand::collector_of(self), key, size)
     }
@@ -153,9 +150,9 @@ impl Visitor<'_> {
     /// at it. Where there is no size the call returns `TooLarge`; all else is as in `enter`.
     #[inline(always)]
     pub fn enter_sized(&mut self, key: Key, size: Option<usize>) -> Result<Visitor<'_>, Refusal>
-        ensures* lent { sem 𝓛 (LendsNestedSized key size self.entry result) }
-        ensures entered { IfOk result (NestsSized key size self.old) }
-        ensures refused { IfErr result (IsRefusedSized key size self.old) }
+        ensures* lent { sem 𝓛 (LendsNested false key size self.entry result) }
+        ensures entered { IfOk result (Nests false key size self.old) }
+        ensures refused { IfErr result (IsRefused false size self.old) }
     {
         by_hand::collector_of(self).enter_sized(key, size)
     }
@@ -164,9 +161,9 @@ impl Visitor<'_> {
     /// `TooLarge`; all else is as in `enter`.
     #[inline(always)]
     pub fn enter_self_sized<T: Described>(&mut self) -> Result<Visitor<'_>, Refusal>
-        ensures* lent { sem 𝓛 (LendsNestedSized T.name T.size self.entry result) }
-        ensures entered { IfOk result (NestsSized T.name T.size self.old) }
-        ensures refused { IfErr result (IsRefusedSized T.name T.size self.old) }
+        ensures* lent { sem 𝓛 (LendsNested false T.name T.size self.entry result) }
+        ensures entered { IfOk result (Nests false T.name T.size self.old) }
+        ensures refused { IfErr result (IsRefused false T.size self.old) }
     {
         self.enter_sized(Key::for_type_name::<T>(), T::size())
     }
@@ -174,9 +171,9 @@ impl Visitor<'_> {
     /// Enters inline with the declared name and size of the value's type, as `enter_self_sized` does.
     #[inline(always)]
     pub fn enter_self<T: Described>(&mut self, _this: &T) -> Result<Visitor<'_>, Refusal>
-        ensures* lent { sem 𝓛 (LendsNestedSized T.name T.size self.entry result) }
-        ensures entered { IfOk result (NestsSized T.name T.size self.old) }
-        ensures refused { IfErr result (IsRefusedSized T.name T.size self.old) }
+        ensures* lent { sem 𝓛 (LendsNested false T.name T.size self.entry result) }
+        ensures entered { IfOk result (Nests false T.name T.size self.old) }
+        ensures refused { IfErr result (IsRefused false T.size self.old) }
     {
         self.enter_self_sized::<T>()
     }

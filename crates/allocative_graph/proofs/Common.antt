@@ -21,7 +21,7 @@ pub use Rattle.std.specs.Prelude.{⊤}
 pub use Rattle.std.specs.Str.Lines.{lines, lines_of_parts}
 pub use Rattle.std.specs.Vec.{vec_capacity}
 pub use Rattle.std.specs.declared.cmp.Ordering.TheVariants.{Equal, Greater, Less}
-pub use Rattle.allocative_graph.specs.Collector.{added}
+pub use Rattle.allocative_graph.specs.Collector.{entries_at}
 pub use Rattle.allocative_graph.specs.Forest.{Again, AsInline, AsShared, AsUnique, Bag, Empty, Entry, First, Fits, Forest, Inline, Unique, all, content_entries, contents, followed_by, insert_all, met_after, own, own_behind, shown}
 pub use Rattle.allocative_graph.specs.Graph.{CanBeAdded, Graph, HasNothing, HasPlainKeys, HasWords, IsBehind, IsTree, Lacks, add_self, begins, default, graph, is_root, joined, remaining, size_at, sizes, sum_of, text, text_of_entries, total, total_at, under, warnings}
 pub use Rattle.allocative_graph.specs.Identity.{Identities, Identity, identity_cmp, is_same_identity}

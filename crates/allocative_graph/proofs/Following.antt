@@ -1,6 +1,6 @@
 -- One forest followed by another: their entries, their contents, and what they fit.
 use Rattle.std.proofs.Common.{◌≡◌, ◌↔◌, Bool, false, ◌||◌, List, [], ◌∷◌, ◌++◌, refl, ap, sym, ◌∙◌, append_assoc, arith}
-use Rattle.allocative_graph.proofs.Common.{AllByRecursion, Sums, add, add_all, contains, Path, Identities, Identity, Forest, Empty, Inline, Unique, First, Again, AsInline, AsUnique, AsShared, Bag, own_behind, contents, shown, followed_by, insert_all, met_after, Fits, added, flat_map-append}
+use Rattle.allocative_graph.proofs.Common.{AllByRecursion, Sums, add, add_all, contains, Path, Identities, Identity, Forest, Empty, Inline, Unique, First, Again, AsInline, AsUnique, AsShared, Bag, own_behind, contents, shown, followed_by, insert_all, met_after, Fits, entries_at, flat_map-append}
 use Rattle.std.specs.FinSet.{insert}
 use Rattle.allocative_graph.proofs.Basics.{or_left, each-parts}
 use Rattle.allocative_graph.proofs.Lookups.{add_all-same}
@@ -24,10 +24,10 @@ contents-following (Again k n j after) g = contents-following after g
 pub met-following : (s : Identities) (f g : Forest) → met_after s (followed_by f g) ≡ met_after (met_after s f) g
 met-following s f g = rw (contents-following f g) (met-append s (contents f) (contents g))
 
-pub added-following : (s : Sums) (p : Path) (f g : Forest) → add_all s (added p (followed_by f g)) ≡ add_all (add_all s (added p f)) (added p g)
-added-following s p f g = add_all-same s (added p (followed_by f g)) (added p f ++ added p g)
+pub entries_at-following : (s : Sums) (p : Path) (f g : Forest) → add_all s (entries_at p (followed_by f g)) ≡ add_all (add_all s (entries_at p f)) (entries_at p g)
+entries_at-following s p f g = add_all-same s (entries_at p (followed_by f g)) (entries_at p f ++ entries_at p g)
     (λ w. rw (own-following p f g, contents-following f g, flat_map-append (λ (c : Identity × Bag). c.1) (contents f) (contents g)) (simp sum_by-append (omega arith)))
-    ∙ fold-append add s (added p f) (added p g)
+    ∙ fold-append add s (entries_at p f) (entries_at p g)
 
 -- ---- fitting
 fits_inside : (s : Identities) (f after g : Forest) → Fits (met_after s f) (followed_by after g) ↔ (Fits (met_after s f) after × Fits (met_after (met_after s f) after) g)

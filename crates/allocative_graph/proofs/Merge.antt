@@ -9,7 +9,7 @@ use Rattle.allocative_graph.proofs.Reach.{reaches_exactly, contains-insert_all, 
 use Rattle.allocative_graph.proofs.Lookups.{get-add_all, get-sums_of}
 use Rattle.allocative_graph.proofs.Below.{find-keys, below-add_all, below-sums_of}
 use Rattle.allocative_graph.proofs.Closed.{absent_below}
-use Rattle.allocative_graph.proofs.Following.{fits-following, fits_more, added-following}
+use Rattle.allocative_graph.proofs.Following.{fits-following, fits_more, entries_at-following}
 
 -- ---- what a graph has at a path
 find-mapped : {X Y : Type 0} (r : Path → X → Y) (es : List (Path × X)) (q : Path) → find path_cmp q (map (λ e. (e.0, r e.0 e.1)) es) ≡ option_map (r q) (find path_cmp q es)
@@ -40,7 +40,7 @@ graphs_add f g can = same_map path_total path_antisymmetric _ _ each
         let t = sums_of (all g) in
         let q = k ∷ p in
         let below_both : below s q + below t q ≡ below (add_all s (all g)) q = omega (arith, below-sums_of (all g) q, below-add_all s (all g) q) in
-        rw (get-sum_of (graph s) (graph t) q, get-graph s k p, get-graph t k p, ap (λ x. get (graph x) q) (added-following empty [] f g), get-graph (add_all s (all g)) k p)
+        rw (get-sum_of (graph s) (graph t) q, get-graph s k p, get-graph t k p, ap (λ x. get (graph x) q) (entries_at-following empty [] f g), get-graph (add_all s (all g)) k p)
         (rw (get-add_all s (all g) q, ← get-sums_of (all g) q) (grind (arith, below_both, absent_sums f k p, absent_sums g k p, can q)))
 
 pub whole_following : (f g : Forest) → IsWhole f → IsWhole g → ReachApart f g → IsWhole (followed_by f g)

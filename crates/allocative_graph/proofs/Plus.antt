@@ -2,9 +2,9 @@
 use Rattle.std.proofs.Common.{◌≡◌, ◌↔◌, ◌≤◌, suc, ℕ, ◌+◌, Bool, true, false, cond, [], ◌∷◌, ◌++◌, refl, ap, arith, append-nil}
 use Rattle.allocative_graph.proofs.Common.{contains, Key, Identity, Forest, Empty, Inline, Unique, First, Again, own_behind, contents, followed_by}
 use Rattle.allocative_graph.specs.Forest.{entry_of}
-use Rattle.allocative_graph.specs.Collector.{Live, Holding, Kind, OfGraph, OfHeld, plus_holding, enter_first, held_bytes, plus, Takes, enter, leave, begin, is_graph, visitors, is_in_unique}
+use Rattle.allocative_graph.specs.Collector.{Live, Holding, Kind, OfGraph, OfHeld, plus_holding, enter_first, held_bytes, plus, Takes, enter, leave, begin, is_graph, visitors, Outer, outer_of}
 use Rattle.allocative_graph.specs.Held.{held, inline_bytes}
-use Rattle.allocative_graph.proofs.Following.{added-following, contents-following, met-following, fits-following}
+use Rattle.allocative_graph.proofs.Following.{entries_at-following, contents-following, met-following, fits-following}
 use Rattle.allocative_graph.proofs.Basics.{each-append, each-parts}
 
 -- ---- the collector of held bytes
@@ -32,7 +32,7 @@ plus-nothing (OfGraph c) = refl
 plus-nothing (OfHeld h) = ap OfHeld (holding-nothing h)
 
 pub plus-following : (c : Kind) (f g : Forest) → plus c (followed_by f g) ≡ plus (plus c f) g
-plus-following (OfGraph c) f g = λ i. OfGraph (record c { sums = added-following c.sums c.here f g i; met = met-following c.met f g i })
+plus-following (OfGraph c) f g = λ i. OfGraph (record c { sums = entries_at-following c.sums c.here f g i; met = met-following c.met f g i })
 plus-following (OfHeld h) f g =
     let both : h.sum + held_in h.is_in_unique (followed_by f g) ≡ (h.sum + held_in h.is_in_unique f) + held_in h.is_in_unique g = omega (arith, held_in-following h.is_in_unique f g) in
     λ i. OfHeld (record h { sum = both i })
@@ -49,7 +49,7 @@ pub takes_both : (c : Kind) (f g : Forest) → Takes c f → Takes (plus c f) g 
 takes_both c f g v w = (takes_following c f g).1 (v, w)
 
 -- An entry with f inside it is entering, adding f and one step back.
-pub inside_entry : (u : Bool) (k : Key) (n : ℕ) (c : Kind) (f : Forest) → leave (is_in_unique c) (plus (enter u k n c) f) ≡ plus c (entry_of u k n f)
+pub inside_entry : (u : Bool) (k : Key) (n : ℕ) (c : Kind) (f : Forest) → leave (outer_of c) (plus (enter u k n c) f) ≡ plus c (entry_of u k n f)
 inside_entry true k n (OfGraph c) f = rw (append-nil (own_behind (c.here ++ k ∷ []) f), append-nil (contents f))
 inside_entry false k n (OfGraph c) f = rw (append-nil (own_behind (c.here ++ k ∷ []) f), append-nil (contents f))
 inside_entry true k n (OfHeld h) f = λ i. OfHeld (record h { sum = inside_sum h.is_in_unique true h.sum n (held f) (inline_bytes f) i })
@@ -62,7 +62,7 @@ takes_entry true k n (OfHeld h) f w = each-append (λ c. ⊥) (contents f) [] w 
 takes_entry false k n (OfHeld h) f w = each-append (λ c. ⊥) (contents f) [] w tt
 
 -- The content of a shared entry starts at the root.
-pub inside_first : (k : Key) (n : ℕ) (j : Identity) (c : Live) (f : Forest) (outer : Bool) → leave outer (plus (OfGraph (enter_first k n j c)) f) ≡ plus (OfGraph c) (First k n j f Empty)
+pub inside_first : (k : Key) (n : ℕ) (j : Identity) (c : Live) (f : Forest) (outer : Outer) → leave outer (plus (OfGraph (enter_first k n j c)) f) ≡ plus (OfGraph c) (First k n j f Empty)
 inside_first k n j c f outer = rw (append-nil (contents f))
 
 pub takes_shared : (k : Key) (n : ℕ) (j : Identity) (c : Live) (f : Forest) → contains c.met j ≡ false → Takes (OfGraph (enter_first k n j c)) f → Takes (OfGraph c) (First k n j f Empty)
@@ -79,7 +79,7 @@ pub visitors-enter : (u : Bool) (k : Key) (n : ℕ) (c : Kind) → visitors (ent
 visitors-enter u k n c = grind arith
 
 -- Leaving takes at most one open visitor away.
-pub visitors-leave : (outer : Bool) (c : Kind) → visitors c ≤ suc (visitors (leave outer c))
+pub visitors-leave : (outer : Outer) (c : Kind) → visitors c ≤ suc (visitors (leave outer c))
 visitors-leave outer c = grind arith
 
 -- ---- which of the two it is
@@ -89,7 +89,7 @@ is_graph-plus c f = grind arith
 pub is_graph-enter : (u : Bool) (k : Key) (n : ℕ) (c : Kind) → is_graph (enter u k n c) ≡ is_graph c
 is_graph-enter u k n c = grind arith
 
-pub is_graph-leave : (outer : Bool) (c : Kind) → is_graph (leave outer c) ≡ is_graph c
+pub is_graph-leave : (outer : Outer) (c : Kind) → is_graph (leave outer c) ≡ is_graph c
 is_graph-leave outer c = grind arith
 
 pub is_graph-begin : (c : Kind) → is_graph (begin c) ≡ is_graph c

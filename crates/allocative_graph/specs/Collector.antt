@@ -25,6 +25,14 @@ pub record Holding : Type 0 where
   pub open_visitors : ℕ
   pub is_in_unique : Bool
 
+-- What leaving an entry restores: whether the visitor outside it is that of a unique entry.
+abbrev pub Outer : Type 0
+Outer = Bool
+
+-- What is restored if nothing outside counts.
+abbrev pub no_outer : Outer
+no_outer = false
+
 -- A collector of one of the two kinds.
 pub data Kind : Type 0 where
   OfGraph : Live → Kind
@@ -37,12 +45,12 @@ pub data State : Type 0 where
 
 -- ---- the collector of a flame graph
 -- The entries that f adds where the current path is p: its own after p, and those of its contents from the root.
-abbrev pub added : Path → Forest → Bag
-added p f = own_behind p f ++ content_entries f
+abbrev pub entries_at : Path → Forest → Bag
+entries_at p f = own_behind p f ++ content_entries f
 
 -- c with the forest f at its current path.
 abbrev pub plus_live : Live → Forest → Live
-plus_live c f = record c { sums = add_all c.sums (added c.here f); met = met_after c.met f }
+plus_live c f = record c { sums = add_all c.sums (entries_at c.here f); met = met_after c.met f }
 
 -- One more visitor, at the path p.
 abbrev pub go : Path → Live → Live
@@ -92,8 +100,8 @@ enter_holding is_unique n h = record {
   is_in_unique = is_unique;
 }
 
--- One visitor less; `outer` says whether the visitor outside it is that of a unique entry.
-abbrev pub leave_holding : Bool → Holding → Holding
+-- One visitor less; `outer` is what leaving it restores.
+abbrev pub leave_holding : Outer → Holding → Holding
 leave_holding outer h = record { sum = h.sum; open_visitors = pred h.open_visitors; is_in_unique = outer }
 
 -- ---- either collector
@@ -107,11 +115,10 @@ abbrev pub visitors : Kind → ℕ
 visitors (OfGraph c) = c.open_visitors
 visitors (OfHeld h) = h.open_visitors
 
--- The flag that leaving restores: whether the current visitor is that of a unique entry, in the collector of held
--- bytes. The collector of a flame graph needs none.
-abbrev pub is_in_unique : Kind → Bool
-is_in_unique (OfGraph c) = false
-is_in_unique (OfHeld h) = h.is_in_unique
+-- What leaving an entry that is opened now restores. The collector of a flame graph needs nothing.
+abbrev pub outer_of : Kind → Outer
+outer_of (OfGraph c) = no_outer
+outer_of (OfHeld h) = h.is_in_unique
 
 -- The collector with the forest f at its current place.
 abbrev pub plus : Kind → Forest → Kind
@@ -129,8 +136,8 @@ abbrev pub enter : Bool → Key → ℕ → Kind → Kind
 enter is_unique k n (OfGraph c) = OfGraph (enter_live is_unique k n c)
 enter is_unique k n (OfHeld h) = OfHeld (enter_holding is_unique n h)
 
--- One visitor less; `outer` says whether the visitor outside it is that of a unique entry.
-abbrev pub leave : Bool → Kind → Kind
+-- One visitor less; `outer` is what leaving it restores.
+abbrev pub leave : Outer → Kind → Kind
 leave outer (OfGraph c) = OfGraph (leave_live c)
 leave outer (OfHeld h) = OfHeld (leave_holding outer h)
 
@@ -161,7 +168,7 @@ abbrev pub failed_with : Refusal → State → State
 failed_with r (Failed q) = Failed q
 failed_with r (Going k) = Failed r
 
--- One visitor less, where the collector has not failed.
-abbrev pub left : Bool → State → State
-left outer (Failed r) = Failed r
-left outer (Going k) = Going (leave outer k)
+-- One visitor less, if the collector has not failed; `outer` is what leaving it restores.
+abbrev pub close_entry : Outer → State → State
+close_entry outer (Failed r) = Failed r
+close_entry outer (Going k) = Going (leave outer k)

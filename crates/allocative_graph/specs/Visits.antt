@@ -9,19 +9,20 @@ use Rattle.allocative_graph.specs.Forest.{Forest, Bag, own, all, followed_by}
 use Rattle.allocative_graph.specs.Meaning.{IsWhole, IsMeaning, ReachesExactly, ReachApart, content_of}
 use Rattle.allocative_graph.specs.Sums.{Sums, entered, sums_of}
 use Rattle.allocative_graph.specs.Graph.{Graph, Warned, graph, warnings, warned_paths, sum_of, CanBeAdded}
-use Rattle.allocative_graph.specs.Collector.{Live, Holding, Kind, OfGraph, OfHeld, State, Failed, Going, held_bytes, enter, enter_first, enter_again, leave, plus, Takes, is_graph, visitors, is_in_unique, begin, IsClosed, IsAtRoot}
+use Rattle.allocative_graph.specs.Collector.{Live, Holding, Kind, OfGraph, OfHeld, State, Failed, Going, held_bytes, enter, enter_first, enter_again, plus, Takes, is_graph, visitors, Outer, outer_of, begin, close_entry, IsClosed, IsAtRoot}
 use Rattle.allocative_graph.specs.Shows.{Showing}
 
 -- What visiting a value does to a collector, where p is what the value may show. A failed collector stays as it is.
 -- After Err it has failed. After Ok it has failed (an error was hidden), or has more open visitors than before (one
 -- was forgotten), or has one more forest, which p allows and the collector takes.
-pub data Shows (p : Showing) : State → Result Unit Refusal → State → Type 0 where
-  already : {r : Refusal} {result : Result Unit Refusal} → Shows p (Failed r) result (Failed r)
-  refused : {b : Kind} {e r : Refusal} → Shows p (Going b) (Err e) (Failed r)
-  hidden : {b : Kind} {u : Unit} {r : Refusal} → Shows p (Going b) (Ok u) (Failed r)
+pub data AddsForest (p : Showing) : State → Result Unit Refusal → State → Type 0 where
+  already : {r : Refusal} {result : Result Unit Refusal} → AddsForest p (Failed r) result (Failed r)
+  refused : {b : Kind} {e r : Refusal} → AddsForest p (Going b) (Err e) (Failed r)
+  hidden : {b : Kind} {u : Unit} {r : Refusal} → AddsForest p (Going b) (Ok u) (Failed r)
   forgotten : {b c : Kind} {u : Unit} → is_graph c ≡ is_graph b → visitors b < visitors c
-      → Shows p (Going b) (Ok u) (Going c)
-  added : {b c : Kind} {u : Unit} → (f : Forest) → p f → Takes b f → c ≡ plus b f → Shows p (Going b) (Ok u) (Going c)
+      → AddsForest p (Going b) (Ok u) (Going c)
+  added : {b c : Kind} {u : Unit} → (f : Forest) → p f → Takes b f → c ≡ plus b f
+      → AddsForest p (Going b) (Ok u) (Going c)
 
 -- s has failed, with the first cause r.
 abbrev pub HasFailed : State → Refusal → Type 0
@@ -42,55 +43,48 @@ Refuses is_unique n (OfGraph c) e = ((e ≡ TooLarge) × (2 ^ 63 ≤ entered c.s
 Refuses is_unique n (OfHeld h) e = (e ≡ TooLarge)
     × ((2 ^ 64 ≤ h.sum + held_bytes h.is_in_unique is_unique n) ⊎ (2 ^ 64 ≤ suc h.open_visitors))
 
--- What entering does. A failed collector returns its first cause. Otherwise the entry is refused exactly as `Refuses`
--- says, and the collector has failed; or there is one more entry and a visitor at it, and the call returns the flag
--- that leaving restores.
-pub data Enters (is_unique : Bool) (k : Key) (n : ℕ) : State → Result Bool Refusal → State → Type 0 where
-  stays_failed : {r : Refusal} → Enters is_unique k n (Failed r) (Err r) (Failed r)
-  is_refused : {b : Kind} {e : Refusal} → Refuses is_unique n b e → Enters is_unique k n (Going b) (Err e) (Failed e)
-  is_entered : {b c : Kind} {outer : Bool} → HasRoom is_unique n b → outer ≡ is_in_unique b → c ≡ enter is_unique k n b
-      → Enters is_unique k n (Going b) (Ok outer) (Going c)
+-- What opening an entry of a declared size does. A failed collector returns its first cause. Otherwise the call returns
+-- TooLarge if there is no size, or is refused exactly as `Refuses` says, and the collector has failed; or there is one
+-- more entry and a visitor at it, and the call returns what leaving it restores.
+pub data OpensEntry (is_unique : Bool) (k : Key) : Option ℕ → State → Result Outer Refusal → State → Type 0 where
+  stays_failed : {size : Option ℕ} {r : Refusal} → OpensEntry is_unique k size (Failed r) (Err r) (Failed r)
+  is_unsized : {b : Kind} {e : Refusal} → e ≡ TooLarge → OpensEntry is_unique k None (Going b) (Err e) (Failed e)
+  is_refused : {n : ℕ} {b : Kind} {e : Refusal} → Refuses is_unique n b e
+      → OpensEntry is_unique k (Some n) (Going b) (Err e) (Failed e)
+  is_entered : {n : ℕ} {b c : Kind} {outer : Outer} → HasRoom is_unique n b → outer ≡ outer_of b
+      → c ≡ enter is_unique k n b → OpensEntry is_unique k (Some n) (Going b) (Ok outer) (Going c)
 
--- What entering an inline entry of a declared size does. Where there is no size, the call returns TooLarge.
-pub data EntersSized (k : Key) : Option ℕ → State → Result Bool Refusal → State → Type 0 where
-  stays_unsized : {r : Refusal} → EntersSized k None (Failed r) (Err r) (Failed r)
-  is_unsized : {b : Kind} {e : Refusal} → e ≡ TooLarge → EntersSized k None (Going b) (Err e) (Failed e)
-  is_sized : {n : ℕ} {s t : State} {result : Result Bool Refusal} → Enters false k n s result t
-      → EntersSized k (Some n) s result t
+-- An entry of a declared size is refused with e, as opening it says.
+abbrev pub RefusesEntry : Bool → Option ℕ → State → Refusal → Type 0
+RefusesEntry is_unique size (Failed r) e = e ≡ r
+RefusesEntry is_unique None (Going b) e = e ≡ TooLarge
+RefusesEntry is_unique (Some n) (Going b) e = Refuses is_unique n b e
 
--- What entering a shared entry does. The call returns whether its content is to be shown: in a flame graph's collector,
--- exactly where the identity was not met. The collector of held bytes stays as it is.
-pub data EntersShared (k : Key) (n : ℕ) (i : Identity) : State → Result Bool Refusal → State → Type 0 where
-  stays_shared : {r : Refusal} → EntersShared k n i (Failed r) (Err r) (Failed r)
+-- What opening a shared entry does. The call returns whether its content is to be shown: in a flame graph's collector,
+-- exactly if the identity was not met. The collector of held bytes stays as it is.
+pub data OpensShared (k : Key) (n : ℕ) (i : Identity) : State → Result Bool Refusal → State → Type 0 where
+  stays_shared : {r : Refusal} → OpensShared k n i (Failed r) (Err r) (Failed r)
   is_refused_shared : {c : Live} {e : Refusal} → Refuses false n (OfGraph c) e
-      → EntersShared k n i (Going (OfGraph c)) (Err e) (Failed e)
-  goes_past : {h : Holding} → EntersShared k n i (Going (OfHeld h)) (Ok false) (Going (OfHeld h))
+      → OpensShared k n i (Going (OfGraph c)) (Err e) (Failed e)
+  goes_past : {h : Holding} → OpensShared k n i (Going (OfHeld h)) (Ok false) (Going (OfHeld h))
   enters_first : {c d : Live} → entered c.sums + n < 2 ^ 63 → contains c.met i ≡ false → d ≡ enter_first k n i c
-      → EntersShared k n i (Going (OfGraph c)) (Ok true) (Going (OfGraph d))
+      → OpensShared k n i (Going (OfGraph c)) (Ok true) (Going (OfGraph d))
   enters_again : {c d : Live} → entered c.sums + n < 2 ^ 63 → contains c.met i ≡ true → d ≡ enter_again k n i c
-      → EntersShared k n i (Going (OfGraph c)) (Ok false) (Going (OfGraph d))
+      → OpensShared k n i (Going (OfGraph c)) (Ok false) (Going (OfGraph d))
 
--- What a call that makes one entry returns: Ok only where no bound is exceeded, and Err as entering does.
-abbrev pub Answers : Bool → ℕ → State → Result Unit Refusal → Type 0
-Answers is_unique n (Failed r) result = result ≡ Err r
-Answers is_unique n (Going b) (Ok u) = HasRoom is_unique n b
-Answers is_unique n (Going b) (Err e) = Refuses is_unique n b e
-
--- ---- leaving
--- One visitor is left; `outer` says whether the visitor outside it is that of a unique entry. A failed collector stays
--- as it is.
-pub data Leaves (outer : Bool) : State → State → Type 0 where
-  leaves_failed : {r : Refusal} → Leaves outer (Failed r) (Failed r)
-  leaves_going : {b c : Kind} → c ≡ leave outer b → Leaves outer (Going b) (Going c)
+-- ---- closing
+-- An entry is closed: one visitor less. `outer` is what closing restores. A failed collector stays as it is.
+pub record ClosesEntry (outer : Outer) (s t : State) : Type 0 where
+  pub closes : t ≡ close_entry outer s
 
 -- ---- root visitors
--- A root visitor is opened. The call returns the first cause; or Open where a visitor is open, and nothing changes; or
--- the flag that leaving restores.
-abbrev pub Begins : State → Result Bool Refusal → State → Type 0
-Begins (Failed r) (Ok outer) t = ⊥
-Begins (Failed r) (Err e) t = (e ≡ r) × (t ≡ Failed r)
-Begins (Going b) (Ok outer) t = IsClosed b × IsAtRoot b × (outer ≡ is_in_unique b) × (t ≡ Going (begin b))
-Begins (Going b) (Err e) t = (e ≡ Open) × ¬ IsClosed b × (t ≡ Going b)
+-- A root visitor is opened. The call returns the first cause; or Open if a visitor is open, and nothing changes; or
+-- what leaving it restores.
+abbrev pub OpensRoot : State → Result Outer Refusal → State → Type 0
+OpensRoot (Failed r) (Ok outer) t = ⊥
+OpensRoot (Failed r) (Err e) t = (e ≡ r) × (t ≡ Failed r)
+OpensRoot (Going b) (Ok outer) t = IsClosed b × IsAtRoot b × (outer ≡ outer_of b) × (t ≡ Going (begin b))
+OpensRoot (Going b) (Err e) t = (e ≡ Open) × ¬ IsClosed b × (t ≡ Going b)
 
 -- What is returned where nothing else is asked of a collector: Ok where it has not failed and no visitor is open,
 -- otherwise the first cause, or Open.
@@ -104,12 +98,13 @@ Settles (Going b) (Err e) = (e ≡ Open) × ¬ IsClosed b
 -- Otherwise it returns Ok exactly where the collector afterwards has not failed and has no open visitor, and then the
 -- collector has one more forest; it returns the cause where the collector has failed, and Open where a visitor is
 -- open.
-abbrev pub Runs : Showing → State → Result Unit Refusal → State → Type 0
-Runs p (Failed r) result t = (result ≡ Err r) × (t ≡ Failed r)
-Runs p (Going b) (Ok u) (Failed r) = ⊥
-Runs p (Going b) (Ok u) (Going c) = IsClosed c × (f : Forest) × p f × Takes b f × (c ≡ plus b f)
-Runs p (Going b) (Err e) (Failed r) = IsClosed b × (e ≡ r)
-Runs p (Going b) (Err e) (Going c) = (e ≡ Open) × ¬ IsClosed c × (¬ IsClosed b → c ≡ b) × (is_graph c ≡ is_graph b)
+abbrev pub VisitsRoot : Showing → State → Result Unit Refusal → State → Type 0
+VisitsRoot p (Failed r) result t = (result ≡ Err r) × (t ≡ Failed r)
+VisitsRoot p (Going b) (Ok u) (Failed r) = ⊥
+VisitsRoot p (Going b) (Ok u) (Going c) = IsClosed c × (f : Forest) × p f × Takes b f × (c ≡ plus b f)
+VisitsRoot p (Going b) (Err e) (Failed r) = IsClosed b × (e ≡ r)
+VisitsRoot p (Going b) (Err e) (Going c) = (e ≡ Open) × ¬ IsClosed c × (¬ IsClosed b → c ≡ b)
+    × (is_graph c ≡ is_graph b)
 
 -- ---- whole runs
 -- The result of a finished run: the graph, the text of the warnings, and the paths that have one.

@@ -3,7 +3,7 @@
 
 ghost use Rattle.std.specs.Prelude.{codes, None, false};
 ghost use Rattle.allocative.specs.Shows as shows;
-ghost use Rattle.allocative.specs.Visits.{Shows};
+ghost use Rattle.allocative.specs.Visits.{AddsForest};
 ghost use Rattle.allocative.specs.Visited.{Visited, AnyEffect};
 
 use crate::expected::{holds, is_refused};
@@ -15,7 +15,7 @@ use std::test::Fail;
 
 /// Enters `a 1`, and forgets its visitor.
 fn forget_entry(collector: &mut Collector) -> Result<(), Refusal>
-    ensures { Shows shows.Nothing collector.old result collector.new }
+    ensures { AddsForest shows.Nothing collector.old result collector.new }
 {
     let inner = enter(collector, Key::new("a"), 1)?;
     let _forgotten = ManuallyDrop::new(inner);
@@ -36,7 +36,7 @@ impl Allocative for ForgetsNested {
 
 /// Enters a pointer to the shared value 1, and forgets the visitor of its content.
 fn forget_content(collector: &mut Collector) -> Result<(), Refusal>
-    ensures { Shows (shows.SharedWith (codes "p") 8 (record { maker = 0; number = 1 }) shows.Nothing)
+    ensures { AddsForest (shows.SharedWith (codes "p") 8 (record { maker = 0; number = 1 }) shows.Nothing)
         collector.old result collector.new }
 {
     match enter_content(collector, Key::new("p"), 8, Identity::from(1)) {
@@ -77,7 +77,7 @@ impl Allocative for ForgetsFirst {
 
 /// Enters `b 1`.
 fn enter_last(collector: &mut Collector) -> Result<(), Refusal>
-    ensures { Shows (shows.Inside (codes "b") 1 shows.Nothing) collector.old result collector.new }
+    ensures { AddsForest (shows.Inside (codes "b") 1 shows.Nothing) collector.old result collector.new }
 {
     let inner = enter(collector, Key::new("b"), 1)?;
     inner.exit();
@@ -96,7 +96,7 @@ fn enter_parts(visitor: &mut Visitor<'_>, room: usize) -> Result<(), Refusal>
 
 /// Enters `unique p 0 {x room, b 1}`. Where `b` does not fit, the visitor of `p` is held as the error comes.
 fn stop(collector: &mut Collector, room: usize) -> Result<(), Refusal>
-    ensures { Shows (shows.InsideUnique (codes "p") 0
+    ensures { AddsForest (shows.InsideUnique (codes "p") 0
         (shows.Both (shows.Inside (codes "x") room shows.Nothing) (shows.Inside (codes "b") 1 shows.Nothing)))
         collector.old result collector.new }
 {
@@ -123,7 +123,7 @@ impl Allocative for StopsByHand {
 
 /// Visits a value inside the entry `T 0`.
 fn visit_inside<T: Allocative>(collector: &mut Collector, part: &T) -> Result<(), Refusal>
-    ensures { Shows (shows.Inside (codes "T") 0 (T.may_show part.now)) collector.old result collector.new }
+    ensures { AddsForest (shows.Inside (codes "T") 0 (T.may_show part.now)) collector.old result collector.new }
 {
     let mut outer = enter(collector, Key::new("T"), 0)?;
     part.enter(&mut outer)?;

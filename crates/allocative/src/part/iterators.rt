@@ -117,7 +117,7 @@ impl Visitor<'_> {
         requires ends { IsFinite (I.remaining items) }
         ensures entered { Entered false
             (IsOfRun I.next_gives items E.seen (each_shows (E.may_show how))) self.old self.new result }
-        ensures rightly { RefusesAlong E.is_exact
+        ensures only_if_full { RefusesAlong E.is_exact
             I.next_gives items E.seen (each_shows (E.may_show how)) self.old self.new result }
         ensures kept { Keeps self.old self.new result }
         ensures exact { MakesPlanOrGives I.next_gives items Done self.old self.new result }
@@ -145,7 +145,7 @@ impl Visitor<'_> {
         ensures entered { Entered false
             (IsOfRun I.next_gives items deref
             (slice_shows T.name T.size T.needs_drop T.may_show)) self.old self.new result }
-        ensures rightly { RefusesCounted T.is_exact T.size I.next_gives items deref
+        ensures only_if_full { RefusesCounted T.is_exact T.size I.next_gives items deref
             (slice_shows T.name T.size T.needs_drop T.may_show) self.old self.new result }
         ensures kept { Keeps self.old self.new result }
         ensures exact { MakesPlanRun I.next_gives items T.name T.size
@@ -176,7 +176,7 @@ impl Visitor<'_> {
             (Inside (codes "data") 8
             (IsOfRun I.next_gives entries deref_pair
             (each_shows (pair_shows K.size K.may_show V.size V.may_show)))) self.old self.new result }
-        ensures rightly { RefusesAlong (K.is_exact && V.is_exact) I.next_gives entries deref_pair
+        ensures only_if_full { RefusesAlong (K.is_exact && V.is_exact) I.next_gives entries deref_pair
             (λ es. Inside (codes "data") 8
             (each_shows (pair_shows K.size K.may_show V.size V.may_show) es)) self.old self.new result }
         ensures first { MakesFirst (codes "data") (Some 8) self.old self.new result }
@@ -201,7 +201,7 @@ impl Visitor<'_> {
             (Inside (codes "data") 8
             (IsOfRun I.next_gives entries deref
             (each_shows (field_of (codes "key") K.size K.may_show)))) self.old self.new result }
-        ensures rightly { RefusesAlong K.is_exact I.next_gives entries deref
+        ensures only_if_full { RefusesAlong K.is_exact I.next_gives entries deref
             (λ ks. Inside (codes "data") 8
             (each_shows (field_of (codes "key") K.size K.may_show) ks)) self.old self.new result }
         ensures first { MakesFirst (codes "data") (Some 8) self.old self.new result }

@@ -3,11 +3,11 @@
 ghost use Rattle.std.specs.Prelude.{◌<◌, ◌^◌, ◌≡◌, Ok, Err, IfOk, IfErr, MatchResult, string_bytes};
 ghost use Rattle.allocative_graph.specs.Graph.{text, graph, total};
 ghost use Rattle.allocative_graph.specs.Collector.{Going, OfGraph, no_entries};
-ghost use Rattle.allocative_graph.specs.Visits.{Runs, Settles, Ends, IsProfile};
+ghost use Rattle.allocative_graph.specs.Visits.{VisitsRoot, Settles, Ends, IsProfile};
 ghost use Rattle.allocative.specs.Built.{as_graph};
-ghost use Rattle.allocative.specs.Exact.{RunsRightly};
+ghost use Rattle.allocative.specs.Exact.{RootFailsOnlyIfFull};
 ghost use Rattle.allocative.specs.Rooted.{LendsBuilt, LendsRoot};
-ghost use Rattle.allocative.specs.Visited.{BeginsAt};
+ghost use Rattle.allocative.specs.Visited.{OpensRootAt};
 ghost use Rattle.std.specs.Borrow.{sem};
 
 use crate::visitor::collector::Collector;
@@ -70,7 +70,7 @@ impl FlameGraphBuilder {
     /// afterwards. From `visit_root` it learns that as well.
     pub fn root_visitor(&mut self) -> Result<Visitor<'_>, Refusal>
         ensures* lent { sem 𝓛 (LendsRoot self.entry result) }
-        ensures begun { IfOk result (BeginsAt self.old) }
+        ensures begun { IfOk result (OpensRootAt self.old) }
         ensures refused { IfErr result (λ e. Settles self.old (Err e)) }
     {
         self.lend().graph_root_visitor()
@@ -86,8 +86,8 @@ impl FlameGraphBuilder {
     /// A builder that has not failed and has no open visitor refuses a root of an exact type only with `Memory`, or
     /// with `TooLarge` where not all that the root may show can be added.
     pub fn visit_root(&mut self, root: &dyn Allocative) -> Result<(), Refusal>
-        ensures runs { Runs (may_show root.now) self.old result self.new }
-        ensures rightly { RunsRightly (⟦<dyn Allocative as Allocative>⟧ root.now.0).is_exact
+        ensures visits_root { VisitsRoot (may_show root.now) self.old result self.new }
+        ensures only_if_full { RootFailsOnlyIfFull (⟦<dyn Allocative as Allocative>⟧ root.now.0).is_exact
             (may_show root.now) self.old result self.new }
     {
         self.check()?;
@@ -97,8 +97,8 @@ impl FlameGraphBuilder {
     /// Visits a root whose type is known, without a trait object. What it returns and changes, and what a root of an
     /// exact type is refused for, is as in `visit_root`.
     pub fn visit_value<T: Allocative>(&mut self, root: &T) -> Result<(), Refusal>
-        ensures runs { Runs (T.may_show root.now) self.old result self.new }
-        ensures rightly { RunsRightly T.is_exact (T.may_show root.now) self.old result self.new }
+        ensures visits_root { VisitsRoot (T.may_show root.now) self.old result self.new }
+        ensures only_if_full { RootFailsOnlyIfFull T.is_exact (T.may_show root.now) self.old result self.new }
     {
         self.check()?;
         self.collector.visit_value(root)

@@ -4,8 +4,8 @@
 ghost use Rattle.std.specs.Prelude.{◌<◌, ◌^◌, IfOk, IfErr};
 ghost use Rattle.allocative_graph.specs.Graph.{total};
 ghost use Rattle.allocative_graph.specs.Shows.{each_shows};
-ghost use Rattle.allocative_graph.specs.Visits.{Runs, IsProfileOf};
-ghost use Rattle.allocative.specs.Exact.{MayRefuseProfile, RunsRightly};
+ghost use Rattle.allocative_graph.specs.Visits.{VisitsRoot, IsProfileOf};
+ghost use Rattle.allocative.specs.Exact.{MayRefuseProfile, RootFailsOnlyIfFull};
 
 use crate::{Allocative, FlameGraphBuilder, FlameGraphOutput, Refusal};
 use std::alloc::Global;
@@ -16,8 +16,8 @@ impl FlameGraphBuilder {
     /// A builder that has not failed and has no open visitor refuses roots of an exact type only with `Memory`, or with
     /// `TooLarge` where not all that the roots may show together can be added.
     pub fn visit_values<T: Allocative>(&mut self, roots: &[T]) -> Result<(), Refusal>
-        ensures runs { Runs (each_shows T.may_show roots.now) self.old result self.new }
-        ensures rightly { RunsRightly T.is_exact (each_shows T.may_show roots.now) self.old result self.new }
+        ensures visits_root { VisitsRoot (each_shows T.may_show roots.now) self.old result self.new }
+        ensures only_if_full { RootFailsOnlyIfFull T.is_exact (each_shows T.may_show roots.now) self.old result self.new }
     {
         self.check()?;
         for root in roots {

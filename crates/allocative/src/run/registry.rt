@@ -4,8 +4,8 @@
 ghost use Rattle.std.specs.Prelude.{◌≡◌, ◌++◌, ◌∷◌, [], MatchResult, IfOk, IfErr};
 ghost use Rattle.allocative_graph.specs.Shows.{each_shows};
 ghost use Rattle.allocative.specs.Roots.{roots_of};
-ghost use Rattle.allocative_graph.specs.Visits.{Runs, IsProfileOf};
-ghost use Rattle.allocative.specs.Exact.{MayRefuseProfile, RunsRightly};
+ghost use Rattle.allocative_graph.specs.Visits.{VisitsRoot, IsProfileOf};
+ghost use Rattle.allocative.specs.Exact.{MayRefuseProfile, RootFailsOnlyIfFull};
 ghost use Rattle.std.specs.List.{list_all};
 
 use crate::{Allocative, FlameGraphBuilder, FlameGraphOutput, Refusal};
@@ -72,10 +72,10 @@ impl FlameGraphBuilder {
     /// Where the types of all roots are exact, a builder that has not failed and has no open visitor refuses them only
     /// with `Memory`, or with `TooLarge` where not all that the roots may show together can be added.
     pub fn visit_global_roots(&mut self, registry: &Registry) -> Result<(), Refusal>
-        ensures runs { Runs
+        ensures visits_root { VisitsRoot
             (each_shows (λ b. (⟦<dyn Allocative as Allocative>⟧ b.vtable).may_show b.value)
             (roots_of registry.now)) self.old result self.new }
-        ensures rightly { RunsRightly
+        ensures only_if_full { RootFailsOnlyIfFull
             (list_all (λ b. (⟦<dyn Allocative as Allocative>⟧ b.vtable).is_exact) (roots_of registry.now))
             (each_shows (λ b. (⟦<dyn Allocative as Allocative>⟧ b.vtable).may_show b.value)
             (roots_of registry.now)) self.old result self.new }

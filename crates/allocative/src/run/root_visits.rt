@@ -1,8 +1,8 @@
 //! Visits of whole roots.
 
-ghost use Rattle.allocative_graph.specs.Visits.{Runs};
-ghost use Rattle.allocative.specs.Exact.{RunsRightly};
-ghost use Rattle.allocative.specs.Visited.{VisitsRoot};
+ghost use Rattle.allocative_graph.specs.Visits.{VisitsRoot};
+ghost use Rattle.allocative.specs.Exact.{RootFailsOnlyIfFull};
+ghost use Rattle.allocative.specs.Visited.{VisitsRootWithEffect};
 
 use crate::visitor::collector::Collector;
 use crate::{Allocative, Refusal};
@@ -11,10 +11,10 @@ impl Collector {
     /// Visits an object by a root visitor. What the visit returns is not looked at: the collector keeps the first
     /// cause. A collector that is closed refuses an object of an exact type only where it must.
     pub(crate) fn visit_object(&mut self, root: &dyn Allocative) -> Result<(), Refusal>
-        ensures runs { Runs (may_show root.now) self.old result self.new }
-        ensures rightly { RunsRightly (⟦<dyn Allocative as Allocative>⟧ root.now.0).is_exact
+        ensures visits_root { VisitsRoot (may_show root.now) self.old result self.new }
+        ensures only_if_full { RootFailsOnlyIfFull (⟦<dyn Allocative as Allocative>⟧ root.now.0).is_exact
             (may_show root.now) self.old result self.new }
-        ensures visited { VisitsRoot (may_show root.now) (effect root.now)
+        ensures visited { VisitsRootWithEffect (may_show root.now) (effect root.now)
             self.old self.new result }
     {
         let mut visitor = self.root_visitor()?;
@@ -25,9 +25,9 @@ impl Collector {
 
     /// Visits a value of a known type by a root visitor, with no trait object.
     pub(crate) fn visit_value<T: Allocative>(&mut self, root: &T) -> Result<(), Refusal>
-        ensures runs { Runs (T.may_show root.now) self.old result self.new }
-        ensures rightly { RunsRightly T.is_exact (T.may_show root.now) self.old result self.new }
-        ensures visited { VisitsRoot (T.may_show root.now) (T.effect root.now)
+        ensures visits_root { VisitsRoot (T.may_show root.now) self.old result self.new }
+        ensures only_if_full { RootFailsOnlyIfFull T.is_exact (T.may_show root.now) self.old result self.new }
+        ensures visited { VisitsRootWithEffect (T.may_show root.now) (T.effect root.now)
             self.old self.new result }
     {
         let mut visitor = self.root_visitor()?;

@@ -8,7 +8,7 @@
 //! #![tactic(auto, using(allocative::proofs::Showing::showing, allocative::proofs::ByHand::by_hand))]
 //!
 //! fn show_number(collector: &mut Collector) -> Result<(), Refusal>
-//!     ensures { Shows (Inside (codes "number") 8 Nothing) collector.old result collector.new }
+//!     ensures { AddsForest (Inside (codes "number") 8 Nothing) collector.old result collector.new }
 //! {
 //!     let inner = enter(collector, Key::new("number"), 8)?;
 //!     inner.exit();
@@ -24,10 +24,10 @@
 //! }
 //! ```
 
-ghost use Rattle.std.specs.Prelude.{◌≡◌, IfOk, IfErr, Err, true, false};
+ghost use Rattle.std.specs.Prelude.{◌≡◌, IfOk, IfErr, Some, true, false};
 ghost use Rattle.std.specs.Borrow.{sem};
-ghost use Rattle.allocative_graph.specs.Visits.{Answers};
-ghost use Rattle.allocative.specs.Lending.{LendsEntered, LendsPointed, Borrows, EntersAt, PointsAt};
+ghost use Rattle.allocative_graph.specs.Visits.{RefusesEntry};
+ghost use Rattle.allocative.specs.Lending.{LendsEntered, LendsPointed, Borrows, OpensEntryAt, OpensSharedAt};
 ghost use Rattle.allocative.specs.Nested.{LendsCollector};
 ghost use Rattle.allocative.specs.Shared.{AnswersShared, told};
 ghost use Rattle.allocative.specs.Visited.{collector_of as state_of};
@@ -48,16 +48,13 @@ pub fn collector_of<'b>(visitor: &'b mut Visitor<'_>) -> &'b mut Collector
 /// visitor at it.
 #[inline(always)]
 pub fn enter(collector: &mut Collector, key: Key, size: usize) -> Result<Visitor<'_>, Refusal>
-    ensures* lent { sem 𝓛 (LendsEntered false key size collector.entry result) }
+    ensures* lent { sem 𝓛 (LendsEntered false key (Some size) collector.entry result) }
     ensures same_reference { IfOk result (Borrows collector.entry) }
-    ensures entered { IfOk result (EntersAt false key size collector.old) }
-    ensures refused { IfErr result (λ e. Answers false size collector.old (Err e)) }
+    ensures entered { IfOk result (OpensEntryAt false key (Some size) collector.old) }
+    ensures refused { IfErr result (RefusesEntry false (Some size) collector.old) }
 {
-    let outer_is_unique = collector.open_entry(key, size)?;
-    Ok(Visitor {
-        collector,
-        outer_is_unique,
-    })
+    let outer = collector.open_entry(key, size)?;
+    Ok(Visitor { collector, outer })
 }
 
 /// Enters as unique, as `Visitor::enter_unique` does, and with its errors.
@@ -67,16 +64,13 @@ pub fn enter_unique(
     key: Key,
     size: usize,
 ) -> Result<Visitor<'_>, Refusal>
-    ensures* lent { sem 𝓛 (LendsEntered true key size collector.entry result) }
+    ensures* lent { sem 𝓛 (LendsEntered true key (Some size) collector.entry result) }
     ensures same_reference { IfOk result (Borrows collector.entry) }
-    ensures entered { IfOk result (EntersAt true key size collector.old) }
-    ensures refused { IfErr result (λ e. Answers true size collector.old (Err e)) }
+    ensures entered { IfOk result (OpensEntryAt true key (Some size) collector.old) }
+    ensures refused { IfErr result (RefusesEntry true (Some size) collector.old) }
 {
-    let outer_is_unique = collector.open_unique(key, size)?;
-    Ok(Visitor {
-        collector,
-        outer_is_unique,
-    })
+    let outer = collector.open_unique(key, size)?;
+    Ok(Visitor { collector, outer })
 }
 
 /// One more pointer of `size` bytes to the shared value with the identity `id`, as `Visitor::enter_shared` makes it, and
@@ -90,7 +84,7 @@ pub fn enter_content(
 ) -> Result<Visitor<'_>, Option<Refusal>>
     ensures* lent { sem 𝓛 (LendsPointed key size id collector.entry result) }
     ensures same_reference { IfOk result (Borrows collector.entry) }
-    ensures entered { IfOk result (PointsAt key size id collector.old) }
+    ensures entered { IfOk result (OpensSharedAt key size id collector.old) }
     ensures refused { IfErr result (λ o. AnswersShared key size id collector.old (told o)) }
 {
     match collector.open_shared(key, size, id) {

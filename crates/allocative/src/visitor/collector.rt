@@ -1,10 +1,10 @@
 //! The collectors: that of a flame graph, and that of held bytes.
 #![tactic(auto, using(crate::proofs::Steps::steps))]
 
-ghost use Rattle.std.specs.Prelude.{◌≡◌, ◌<◌, ◌^◌, true, false, IfOk, IfErr, OnOk, IsTrue, ◌↔◌};
-ghost use Rattle.allocative_graph.specs.Collector.{State, Going, OfGraph, OfHeld, no_entries, nothing_held, enter, leave, begin, is_in_unique, failed_with, left, IsClosed, IsAtRoot};
+ghost use Rattle.std.specs.Prelude.{◌≡◌, ◌<◌, ◌^◌, Some, true, false, IfOk, IfErr, OnOk, IsTrue, ◌↔◌};
+ghost use Rattle.allocative_graph.specs.Collector.{State, Going, OfGraph, OfHeld, no_entries, nothing_held, enter, leave, begin, outer_of, failed_with, IsClosed, IsAtRoot};
 ghost use Rattle.allocative_graph.specs.Graph.{total};
-ghost use Rattle.allocative_graph.specs.Visits.{HasFailed, HasRoom, Refuses, Enters, EntersSized, EntersShared, Begins, Settles, Ends, IsProfile};
+ghost use Rattle.allocative_graph.specs.Visits.{HasFailed, HasRoom, Refuses, OpensEntry, ClosesEntry, OpensShared, OpensRoot, Settles, Ends, IsProfile};
 ghost use Rattle.allocative.specs.Steps.{StepsIn, StepsSimple, StepsInShared, IsHeldSum};
 ghost use Rattle.allocative.specs.Kinds.{kind_of};
 ghost use Rattle.allocative.specs.Built.{as_graph};
@@ -43,11 +43,11 @@ impl Model for Collector {
 }
 
 impl Kind {
-    // One more entry, and a visitor at it. It returns the flag that `close_entry` restores.
+    // One more entry, and a visitor at it. It returns what `close_entry` restores.
     #[inline(always)]
     fn enter(&mut self, key: &Key, size: usize, is_unique: bool) -> Result<bool, Refusal>
         ensures ok { IfOk result
-            (λ outer. HasRoom is_unique size (kind_of self.old) × (outer ≡ is_in_unique (kind_of self.old))
+            (λ outer. HasRoom is_unique size (kind_of self.old) × (outer ≡ outer_of (kind_of self.old))
             × (kind_of self.new ≡ enter is_unique key.now size (kind_of self.old))) }
         ensures err { IfErr result (Refuses is_unique size (kind_of self.old)) }
     {
@@ -65,7 +65,7 @@ impl Kind {
     fn enter_simple(&mut self, key: &Key, size: usize) -> Result<(), Refusal>
         ensures ok { OnOk result (HasRoom false size (kind_of self.old)
             × (kind_of self.new
-            ≡ leave (is_in_unique (kind_of self.old)) (enter false key.now size (kind_of self.old)))) }
+            ≡ leave (outer_of (kind_of self.old)) (enter false key.now size (kind_of self.old)))) }
         ensures err { IfErr result (Refuses false size (kind_of self.old)) }
     {
         match self {
@@ -100,10 +100,10 @@ impl Kind {
         }
     }
 
-    // One more root visitor, where no visitor is open. It returns the flag that `close_entry` restores.
+    // One more root visitor, where no visitor is open. It returns what `close_entry` restores.
     fn begin(&mut self) -> bool
         requires { IsClosed (kind_of self.old) }
-        ensures outer { result ≡ is_in_unique (kind_of self.old) }
+        ensures outer { result ≡ outer_of (kind_of self.old) }
         ensures begun { kind_of self.new ≡ begin (kind_of self.old) }
     {
         match self {
@@ -162,7 +162,7 @@ impl Collector {
         Ok(())
     }
 
-    // One more entry, unique or inline. It returns the flag that `close_entry` restores.
+    // One more entry, unique or inline. It returns what `close_entry` restores.
     #[inline(always)]
     fn open_by_cases(&mut self, key: &Key, size: usize, is_unique: bool) -> Result<bool, Refusal>
         ensures enters { StepsIn is_unique key.now size self.old result self.new }
@@ -219,29 +219,29 @@ impl Collector {
         }
     }
 
-    /// One more inline entry of `size` bytes, and a visitor at it. It returns the flag that `close_entry` restores.
+    /// One more inline entry of `size` bytes, and a visitor at it. It returns what `close_entry` restores.
     #[inline(always)]
     pub(crate) fn open_entry(&mut self, key: Key, size: usize) -> Result<bool, Refusal>
-        ensures enters { Enters false key size self.old result self.new }
+        ensures enters { OpensEntry false key (Some size) self.old result self.new }
         ensures cause { IfErr result (HasFailed self.new) }
     {
         self.open_by_cases(&key, size, false)
     }
 
-    /// One more unique entry of `size` bytes, and a visitor at it. It returns the flag that `close_entry` restores.
+    /// One more unique entry of `size` bytes, and a visitor at it. It returns what `close_entry` restores.
     #[inline(always)]
     pub(crate) fn open_unique(&mut self, key: Key, size: usize) -> Result<bool, Refusal>
-        ensures enters { Enters true key size self.old result self.new }
+        ensures enters { OpensEntry true key (Some size) self.old result self.new }
         ensures cause { IfErr result (HasFailed self.new) }
     {
         self.open_by_cases(&key, size, true)
     }
 
-    /// One more inline entry of a declared size, and a visitor at it. It returns the flag that `close_entry`
+    /// One more inline entry of a declared size, and a visitor at it. It returns what `close_entry`
     /// restores, and `TooLarge` where there is no size.
     #[inline(always)]
     pub(crate) fn open_sized(&mut self, key: Key, size: Option<usize>) -> Result<bool, Refusal>
-        ensures enters { EntersSized key size self.old result self.new }
+        ensures enters { OpensEntry false key size self.old result self.new }
         ensures cause { IfErr result (HasFailed self.new) }
     {
         match size {
@@ -271,26 +271,26 @@ impl Collector {
         size: usize,
         id: Identity,
     ) -> Result<bool, Refusal>
-        ensures enters { EntersShared key size id self.old result self.new }
+        ensures enters { OpensShared key size id self.old result self.new }
         ensures cause { IfErr result (HasFailed self.new) }
     {
         self.open_shared_by_cases(&key, size, id)
     }
 
-    /// One visitor less; `outer` says whether the visitor outside it is that of a unique entry.
+    /// One visitor less; `outer` is what leaving it restores.
     #[inline(always)]
     pub(crate) fn close_entry(&mut self, outer: bool)
-        ensures { self.new ≡ left outer self.old }
+        ensures { ClosesEntry outer self.old self.new }
     {
         if self.failed.is_none() {
             self.kind.close_entry(outer);
         }
     }
 
-    /// One more root visitor. It returns the flag that `close_entry` restores, the first cause where the collector
+    /// One more root visitor. It returns what `close_entry` restores, the first cause where the collector
     /// has failed, or `Open` where a visitor is open.
     pub(crate) fn begin(&mut self) -> Result<bool, Refusal>
-        ensures { Begins self.old result self.new }
+        ensures { OpensRoot self.old result self.new }
     {
         if let Some(cause) = self.failed {
             return Err(cause);

@@ -1,5 +1,5 @@
 -- A hand-written proof of `enter_self`: it passes on what `enter_self_sized` states of the visitor outside.
-use Rattle.allocative.proofs.Lent.{Ghosts, visitor_row, Answer, refusal_laws, result_laws, visitor_laws, [], ◌∷◌, refl, proved, says_two, id⊢, ftrue, flft, named, Lfts, fact, tables, ‵, raw, ◌⊛◌, some, later, ◌$◌, ◌∵◌, !, qed, done, move, keep, drop, use1, split, join, fjoin, pick, await, suffices, frame, enter, addr, stop, no_more, and_then, returns, alloc_all, pass_all, free_all, look_at, get, through, sets, lands_as, yes, no, shows, RattleType, MutRef, mut_vals, mut_Tells, plain, named_lft, nothing, heard, peeks, calls_at, Lasts, lasts, triple_of, framed, Stays, stay_dropped, Goes-dropped, Goes-spent_ref, ends_at, Result, IfOk, IfErr, Refusal, Visitor, LendsNestedSized, NestsSized, IsRefusedSized, emp, ◌⊑◌, fact_i, RefOf, bounded, param, ShrRef, shr_vals, shr_Tells, Slot, inst_fn, Args, Fn, Dict, a_type, dcons, dnil, use0, use3}
+use Rattle.allocative.proofs.Lent.{Ghosts, visitor_row, Answer, refusal_laws, result_laws, visitor_laws, [], ◌∷◌, refl, proved, says_two, id⊢, ftrue, flft, named, Lfts, fact, tables, ‵, raw, ◌⊛◌, some, later, ◌$◌, ◌∵◌, !, qed, done, move, keep, drop, use1, split, join, fjoin, pick, await, suffices, frame, enter, addr, stop, no_more, and_then, returns, alloc_all, pass_all, free_all, look_at, get, through, sets, lands_as, yes, no, shows, RattleType, MutRef, mut_vals, mut_Tells, plain, named_lft, nothing, heard, peeks, calls_at, Lasts, lasts, triple_of, framed, Stays, stay_dropped, Goes-dropped, Goes-spent_ref, ends_at, Result, IfOk, IfErr, Refusal, Visitor, false, LendsNested, Nests, IsRefused, emp, ◌⊑◌, fact_i, RefOf, bounded, param, ShrRef, shr_vals, shr_Tells, Slot, inst_fn, Args, Fn, Dict, a_type, dcons, dnil, use0, use3}
 use Rattle.allocative.specs.contracts.visitor.Visitor.enter_self as f
 use Rattle.allocative.proofs.visitor.Visitor.enter_self.Statement.{statement}
 use Rattle.allocative.proofs.visitor.Visitor.enter_self.Code as code
@@ -48,8 +48,8 @@ enter_self_spec 𝓤 𝓛 𝓜 𝓡 wired T laws g d bound =
     calls_at ! fm H (h-met.met 𝓤 𝓛 𝓜 𝓡 (code.calls-allocative::visitor::Visitor::enter_self_sized 𝓡.env wired) T laws g d bound) z
     (and_then ! (get ! refl) (no_more !)) (λ u.
     use1 𝓛 (later (some (λ (res : Result Visitor Refusal). (Tokens ⊛ ‵ ((Answer (κ, (μ, tt))).own_val res (u ∷ []))) ⊛
-    some (λ (vs : Lasts (h.ended T g d) z.0.0 z.0.3). ‵ (lasts (h.ended T g d) z.0.0 z.0.3 vs) ⊛ ‵ (LendsNestedSized g.name g.size s res) ⊛
-    raw (fact 𝓤 (IfOk res (NestsSized g.name g.size s.now))) ⊛ raw (fact 𝓤 (IfErr res (IsRefusedSized g.name g.size s.now))))))) (id⊢ 𝓤 _) $
+    some (λ (vs : Lasts (h.ended T g d) z.0.0 z.0.3). ‵ (lasts (h.ended T g d) z.0.0 z.0.3 vs) ⊛ ‵ (LendsNested false g.name g.size s res) ⊛
+    raw (fact 𝓤 (IfOk res (Nests false g.name g.size s.now))) ⊛ raw (fact 𝓤 (IfErr res (IsRefused false g.size s.now))))))) (id⊢ 𝓤 _) $
     await ! tt $ pick ! (λ res. split ! $ split ! $ move ! (2 ∷ []) $ pick ! (λ vs. split ! $ drop ! $ split ! $
     move ! (1 ∷ []) $ split ! $ heard ! _ (λ entered. heard ! _ (λ refused.
     -- [what self ends as; the tokens; the result; the third token]

@@ -1,6 +1,6 @@
 -- A hand-written proof of `enter_self_sized`: it passes on what `enter_sized` states of the visitor outside, at the
 -- declared name and size.
-use Rattle.allocative.proofs.Lent.{Ghosts, visitor_row, key_row, Answer, Size, size_laws, key_laws, refusal_laws, result_laws, visitor_laws, ◌≡◌, ℕ, [], ◌∷◌, refl, subst, proved, says_two, id⊢, ftrue, flft, named, Lfts, fact, tables, ‵, raw, ◌⊛◌, some, later, ◌$◌, ◌∵◌, !, qed, done, move, keep, drop, use1, use2, split, join, fjoin, pick, await, rewrite, suffices, frame, enter, addr, stop, no_more, and_then, returns, alloc_all, pass_all, free_all, look_at, get, through, sets, lands_as, no, shows, RattleType, MutRef, mut_vals, mut_Tells, plain, named_lft, nothing, heard, peeks, calls_at, Lasts, lasts, triple_of, framed, Stays, stay_dropped, Goes-spent_ref, ends_at, Option, Result, IfOk, IfErr, Refusal, Key, Visitor, LendsNestedSized, NestsSized, IsRefusedSized, emp, ◌⊑◌, fact_i, bounded, inst_fn, Args, Fn, Dict, a_type, dcons, dnil, use0, use3}
+use Rattle.allocative.proofs.Lent.{Ghosts, visitor_row, key_row, Answer, Size, size_laws, key_laws, refusal_laws, result_laws, visitor_laws, ◌≡◌, ℕ, [], ◌∷◌, refl, subst, proved, says_two, id⊢, ftrue, flft, named, Lfts, fact, tables, ‵, raw, ◌⊛◌, some, later, ◌$◌, ◌∵◌, !, qed, done, move, keep, drop, use1, use2, split, join, fjoin, pick, await, rewrite, suffices, frame, enter, addr, stop, no_more, and_then, returns, alloc_all, pass_all, free_all, look_at, get, through, sets, lands_as, no, shows, RattleType, MutRef, mut_vals, mut_Tells, plain, named_lft, nothing, heard, peeks, calls_at, Lasts, lasts, triple_of, framed, Stays, stay_dropped, Goes-spent_ref, ends_at, Option, Result, IfOk, IfErr, Refusal, Key, Visitor, false, LendsNested, Nests, IsRefused, emp, ◌⊑◌, fact_i, bounded, inst_fn, Args, Fn, Dict, a_type, dcons, dnil, use0, use3}
 use Rattle.allocative.specs.contracts.visitor.Visitor.enter_self_sized as f
 use Rattle.allocative.proofs.visitor.Visitor.enter_self_sized.Statement.{statement}
 use Rattle.allocative.proofs.visitor.Visitor.enter_self_sized.Code as code
@@ -73,13 +73,13 @@ enter_self_sized_spec 𝓤 𝓛 𝓜 𝓡 wired T laws g d bound =
     calls_at ! fm H (h-met.met 𝓤 𝓛 𝓜 𝓡 (code.calls-allocative::visitor::Visitor::enter_sized 𝓡.env wired)) z
     (and_then ! (get ! refl) (and_then ! (get ! refl) (and_then ! (get ! refl) (no_more !)))) (λ u.
     use1 𝓛 (later (some (λ (res : Result Visitor Refusal). (Tokens ⊛ ‵ ((Answer z.0.0).own_val res (u ∷ []))) ⊛
-    some (λ (vs : Lasts h.ended z.0.0 z.0.3). ‵ (lasts h.ended z.0.0 z.0.3 vs) ⊛ ‵ (LendsNestedSized name size s res) ⊛
-    raw (fact 𝓤 (IfOk res (NestsSized name size s.now))) ⊛ raw (fact 𝓤 (IfErr res (IsRefusedSized name size s.now))))))) (id⊢ 𝓤 _) $
+    some (λ (vs : Lasts h.ended z.0.0 z.0.3). ‵ (lasts h.ended z.0.0 z.0.3 vs) ⊛ ‵ (LendsNested false name size s res) ⊛
+    raw (fact 𝓤 (IfOk res (Nests false name size s.now))) ⊛ raw (fact 𝓤 (IfErr res (IsRefused false size s.now))))))) (id⊢ 𝓤 _) $
     await ! tt $ pick ! (λ res. split ! $ split ! $ move ! (2 ∷ []) $ pick ! (λ vs. split ! $ drop ! $ split ! $
     move ! (1 ∷ []) $ split ! $ heard ! _ (λ entered. heard ! _ (λ refused.
     -- [what self ends as; the two tokens; the result; the token of T]
-    rewrite ! 0 (λ (k' : Key). ‵ (LendsNestedSized k' size s res)) is_name refl $
-    rewrite ! 0 (λ (n : Option ℕ). ‵ (LendsNestedSized g.name n s res)) is_size refl $
+    rewrite ! 0 (λ (k' : Key). ‵ (LendsNested false k' size s res)) is_name refl $
+    rewrite ! 0 (λ (n : Option ℕ). ‵ (LendsNested false g.name n s res)) is_size refl $
     move ! (2 ∷ []) $ peeks ! (Answer z.0.0) _ (shows 𝓛 (Answer z.0.0)) res (u ∷ []) (λ told.
     let good = (((result_laws _ _ (visitor_laws (named_lft 2 0 tt z.0.0)) refusal_laws).lawful 𝓛).typed res (u ∷ []) told).0 in
     lands_as ! refl refl good $ returns ! (look_at ! 0 refl) $ free_all ! refl $
@@ -87,4 +87,4 @@ enter_self_sized_spec 𝓤 𝓛 𝓜 𝓡 wired T laws g d bound =
     suffices ! _ (ends_at 𝓛 (f.ended T g d) (stayed T g d) c ((κs, qs, bounds, a, (mut_vals s, tt)), tt) u res (tt, tt) (tt, tt)) $
     move ! (2 ∷ []) $ split ! $ move ! (1 ∷ []) $ split ! $ move ! (0 ∷ 5 ∷ []) $ join ! $ move ! (2 ∷ 0 ∷ []) $ join ! $
     move ! (1 ∷ []) $ nothing ! $ fjoin ! $ move ! (0 ∷ 2 ∷ []) $ join ! $ move ! (1 ∷ 0 ∷ []) $ join ! $ frame ! $
-    says_two ! (subst (λ (n : Option ℕ). IfOk res (NestsSized g.name n s.now)) is_size (subst (λ (k' : Key). IfOk res (NestsSized k' size s.now)) is_name entered), subst (λ (n : Option ℕ). IfErr res (IsRefusedSized g.name n s.now)) is_size (subst (λ (k' : Key). IfErr res (IsRefusedSized k' size s.now)) is_name refused)) $ done !)))))))))))))))))))
+    says_two ! (subst (λ (n : Option ℕ). IfOk res (Nests false g.name n s.now)) is_size (subst (λ (k' : Key). IfOk res (Nests false k' size s.now)) is_name entered), subst (λ (n : Option ℕ). IfErr res (IsRefused false n s.now)) is_size refused) $ done !)))))))))))))))))))

@@ -1,6 +1,6 @@
 -- A hand-written proof of `enter_shared`: the collector is lent, a visitor of the content may hold it, and the result
 -- is converted.
-use Rattle.allocative.proofs.Lent.{visitor_row, collector_row, refusal_row, result_row, option_row, key_row, Lfts, RattleType, Lender, Nested, ℕ, key_laws, option_laws, refusal_laws, result_laws, visitor_laws, nest, one_value, at_values, ◌≡◌, List, [], ◌∷◌, refl, sym, ap, subst, MutBor, proved_at, says_three, rewrite, Goes-blank, id⊢, ftrue, flft, named, w64, Val, fact, tables, ‵, raw, ◌⊛◌, some, later, ◌$◌, ◌∵◌, !, qed, done, move, keep, drop, use1, use2, split, join, fsplit, fjoin, feq_i, feq_l, pick, await, suffices, frame, enter, addr, stop, no_more, and_then, returns, alloc_all, pass_all, free_all, look_at, get, through, sets, lands_as, usize, yes, no, shows, uint_vals, uint_Tells, MutRef, mut_vals, mut_Tells, plain, named_lft, nothing, heard, peeks, only, calls_at, Lasts, lasts, triple_of, framed, Stays, stay_dropped, Goes-dropped, Goes-spent_ref, ends_at, true, false, Ok, IfOk, IfErr, OnOk, OnErr, Option, None, Some, Result, Err, IfSome, name_if_ok, State, EntersShared, LendsCollector, EndsWith, EndsWithout, with_state, AnswersShared, told, turned, Refusal, Key, Identity, enters_first, Visitor, GName, follows_so, LendsPointed, PointsAt, WpFn, Is, walk_of}
+use Rattle.allocative.proofs.Lent.{visitor_row, collector_row, refusal_row, result_row, option_row, key_row, Lfts, RattleType, Lender, Nested, ℕ, key_laws, option_laws, refusal_laws, result_laws, visitor_laws, nest, one_value, at_values, ◌≡◌, List, [], ◌∷◌, refl, sym, ap, subst, MutBor, proved_at, says_three, rewrite, Goes-blank, id⊢, ftrue, flft, named, w64, Val, fact, tables, ‵, raw, ◌⊛◌, some, later, ◌$◌, ◌∵◌, !, qed, done, move, keep, drop, use1, use2, split, join, fsplit, fjoin, feq_i, feq_l, pick, await, suffices, frame, enter, addr, stop, no_more, and_then, returns, alloc_all, pass_all, free_all, look_at, get, through, sets, lands_as, usize, yes, no, shows, uint_vals, uint_Tells, MutRef, mut_vals, mut_Tells, plain, named_lft, nothing, heard, peeks, only, calls_at, Lasts, lasts, triple_of, framed, Stays, stay_dropped, Goes-dropped, Goes-spent_ref, ends_at, true, false, Ok, IfOk, IfErr, OnOk, OnErr, Option, None, Some, Result, Err, IfSome, name_if_ok, State, OpensShared, LendsCollector, EndsWith, EndsWithout, with_state, AnswersShared, told, turned, Refusal, Key, Identity, enters_first, Visitor, GName, follows_so, LendsPointed, OpensSharedAt, WpFn, Is, walk_of}
 use mathlib.Core.Option as maybe
 use Rattle.allocative.specs.Nested.{IsContents, LendsShared, NestsContent, name_in}
 use Rattle.allocative.specs.Shared.{answered}
@@ -39,20 +39,20 @@ ends_with s (Ok v) w z h = ap (with_state s) h
 ends_with s (Err None) w z h = tt
 ends_with s (Err (Some e)) w z h = tt
 
-ends_without : (k : Key) (n : ℕ) (i : Identity) (s : Visitor) (c : State) → c ≡ s.collector.now → (r : Try) (z : State) → OnErr r (IfErr r (λ o. EntersShared k n i c (told o) z)) → EndsWithout k n i s (turned r) (with_state s z)
+ends_without : (k : Key) (n : ℕ) (i : Identity) (s : Visitor) (c : State) → c ≡ s.collector.now → (r : Try) (z : State) → OnErr r (IfErr r (λ o. OpensShared k n i c (told o) z)) → EndsWithout k n i s (turned r) (with_state s z)
 ends_without k n i s c e (Ok v) z h = tt
-ends_without k n i s c e (Err None) z h = let P : State → Type 0 = λ x. EntersShared k n i x (Ok false) z in (subst P e h, refl)
-ends_without k n i s c e (Err (Some x)) z h = let P : State → Type 0 = λ y. EntersShared k n i y (Err x) z in (subst P e h, refl)
+ends_without k n i s c e (Err None) z h = let P : State → Type 0 = λ x. OpensShared k n i x (Ok false) z in (subst P e h, refl)
+ends_without k n i s c e (Err (Some x)) z h = let P : State → Type 0 = λ y. OpensShared k n i y (Err x) z in (subst P e h, refl)
 
 shown_by : (P Q : Visitor → Type 0) (r : Try) (g : Given) → g ≡ turned r → ((v : Visitor) → P v → Q v) → IfOk r P → IfOk g (λ o. IfSome o Q)
 shown_by P Q (Ok v) g e w h = rw e (w v h)
 shown_by P Q (Err None) g e w h = rw e tt
 shown_by P Q (Err (Some x)) g e w h = rw e tt
 
-shown_answer : (k : Key) (n : ℕ) (i : Identity) {c t : State} → EntersShared k n i c (Ok true) t → AnswersShared k n i c (Ok true)
+shown_answer : (k : Key) (n : ℕ) (i : Identity) {c t : State} → OpensShared k n i c (Ok true) t → AnswersShared k n i c (Ok true)
 shown_answer k n i (enters_first r h e) = (r, h)
 
-answer_at : (k : Key) (n : ℕ) (i : Identity) (r : Try) (c : State) → IfOk r (PointsAt k n i c) → IfErr r (λ o. AnswersShared k n i c (told o)) → AnswersShared k n i c (answered (turned r))
+answer_at : (k : Key) (n : ℕ) (i : Identity) (r : Try) (c : State) → IfOk r (OpensSharedAt k n i c) → IfErr r (λ o. AnswersShared k n i c (told o)) → AnswersShared k n i c (answered (turned r))
 answer_at k n i (Ok v) c h j = shown_answer k n i h.1
 answer_at k n i (Err None) c h j = j
 answer_at k n i (Err (Some e)) c h j = j
@@ -108,7 +108,7 @@ enter_shared_spec 𝓤 𝓛 𝓜 𝓡 wired =
     (and_then ! (get ! refl) (and_then ! (get ! refl) (and_then ! (get ! refl) (and_then ! (get ! refl) (no_more !))))) (λ u.
     use1 𝓛 (later (some (λ (res : Try). ((‵ (flft κ q) ⊛ ‵ ftrue) ⊛ ‵ ((TryAnswer κs).own_val res (u ∷ []))) ⊛
     some (λ (vs : Lasts h.ended (κ, tt) z.0.3). ‵ (lasts h.ended (κ, tt) z.0.3 vs) ⊛ ‵ (LendsPointed k n j r res) ⊛
-    raw (fact 𝓤 (IfOk res (λ w. w.collector.ghost_name ≡ r.ghost_name))) ⊛ raw (fact 𝓤 (IfOk res (PointsAt k n j r.now))) ⊛
+    raw (fact 𝓤 (IfOk res (λ w. w.collector.ghost_name ≡ r.ghost_name))) ⊛ raw (fact 𝓤 (IfOk res (OpensSharedAt k n j r.now))) ⊛
     raw (fact 𝓤 (IfErr res (λ w. AnswersShared k n j r.now (told w)))))))) (id⊢ 𝓤 _) $
     await ! tt $ pick ! (λ res. split ! $ split ! $ move ! (2 ∷ []) $ pick ! (λ vs. split ! $ drop ! $ split ! $
     move ! (1 ∷ []) $ split ! $ heard ! _ (λ _. split ! $ heard ! _ (λ content. heard ! _ (λ refused.
@@ -116,7 +116,7 @@ enter_shared_spec 𝓤 𝓛 𝓜 𝓡 wired =
     let Ends = λ (m : maybe.Option GName). ‵ (follows_so (visitor_row (record { mir = named 1; lft = [] })) collector_row s.ghost_name m (EndsWith s.now (turned res)) (EndsWithout k n j s.now (turned res))) in
     move ! (4 ∷ 0 ∷ []) $ use2 𝓛 (Ends (name_if_ok (λ w. w.collector.ghost_name) res))
     (nest 𝓛 (visitor_row (record { mir = named 1; lft = [] })) collector_row (with_state s.now) s.ghost_name r.ghost_name
-    (λ w x'. OnOk res (x' ≡ w)) (λ x'. OnErr res (IfErr res (λ w. EntersShared k n j r.now (told w) x'))) (EndsWith s.now (turned res)) (EndsWithout k n j s.now (turned res)) (ends_with s.now res) (ends_without k n j s.now r.now same res)
+    (λ w x'. OnOk res (x' ≡ w)) (λ x'. OnErr res (IfErr res (λ w. OpensShared k n j r.now (told w) x'))) (EndsWith s.now (turned res)) (EndsWithout k n j s.now (turned res)) (ends_with s.now res) (ends_without k n j s.now r.now same res)
     (name_if_ok (λ w. w.collector.ghost_name) res)) $
     rewrite ! 0 Ends (same_name res) refl $
     move ! (2 ∷ []) $ peeks ! (TryAnswer κs) _ (shows 𝓛 (TryAnswer κs)) res (u ∷ []) (λ known.
@@ -143,9 +143,9 @@ enter_shared_spec 𝓤 𝓛 𝓜 𝓡 wired =
     move ! (2 ∷ []) $ split ! $ move ! (0 ∷ 4 ∷ []) $ join ! $ move ! (1 ∷ []) $ nothing ! $ fjoin ! $ nothing ! $ fjoin ! $ nothing ! $ fjoin ! $ nothing ! $ fjoin ! $
     -- [nothing of the parameters; the tokens; what self ends as; the result]
     move ! (0 ∷ 3 ∷ []) $ join ! $ move ! (1 ∷ 0 ∷ []) $ join ! $ frame ! $
-    let entered = subst (λ (x : State). IfOk res (PointsAt k n j x)) same content in
+    let entered = subst (λ (x : State). IfOk res (OpensSharedAt k n j x)) same content in
     says_three ! (
-      shown_by (PointsAt k n j s.now.collector.now) IsContents res out is_turned (λ v h. h.0) entered,
-      shown_by (PointsAt k n j s.now.collector.now) (NestsContent k n j s.now) res out is_turned (λ v h. h.1) entered,
+      shown_by (OpensSharedAt k n j s.now.collector.now) IsContents res out is_turned (λ v h. h.0) entered,
+      shown_by (OpensSharedAt k n j s.now.collector.now) (NestsContent k n j s.now) res out is_turned (λ v h. h.1) entered,
       rw is_turned (answer_at k n j res s.now.collector.now entered (subst (λ (x : State). IfErr res (λ o. AnswersShared k n j x (told o))) same refused)),
     ) $ done !))))))))))))))))))))

@@ -1,7 +1,7 @@
 use Rattle.std.proofs.Common.{rules, ◌≡◌, refl, Ok, Err}
 use Rattle.allocative.proofs.Common.{FnOnceReturnsAtMut, called, refused_inside}
 use Rattle.allocative.proofs.Closures.{not_called_by, same_err}
-use Rattle.allocative.proofs.Visits.{left_cause}
+use Rattle.allocative.proofs.Visits.{close_cause}
 use Rattle.allocative.proofs.Showing.{showing}
 use Rattle.allocative.proofs.visitor.Visitor.visit_field_with.Goals as goal
 
@@ -21,15 +21,15 @@ returns-in-Err g c =
     let m : c.visit.new.arg2.collector.ghost_name ≡ c.in_ok-inner.inner.collector.ghost_name = (c.requires.keeps _ _ _ p).0 in record {
       same_reference = search rules;
       same_outer = search rules;
-      calls = refused_inside {q = c.refuse.new.self.outer_is_unique} c.in_ok-inner.inner c.visit.new.arg2 c.refuse.new.self.collector.now c.in-Err.refusal c.in_ok-inner.ensures.entered refl q c.refuse.ensures.after (search rules);
-      cause = left_cause {o = c.refuse.new.self.outer_is_unique} {c = c.refuse.new.self.collector.now} (search rules) c.refuse.ensures.is_cause;
+      calls = refused_inside {q = c.refuse.new.self.outer} c.in_ok-inner.inner c.visit.new.arg2 c.refuse.new.self.collector.now c.in-Err.refusal c.in_ok-inner.ensures.entered refl q c.refuse.ensures.after (search rules);
+      cause = close_cause {o = c.refuse.new.self.outer} {c = c.refuse.new.self.collector.now} (search rules) c.refuse.ensures.is_cause;
     }
 
 pub returns : goal.returns
 returns g c =
     let p : FnOnceReturnsAtMut g.F.FnOnce c.args.visit c.in_ok-inner.inner c.visit.result c.visit.new.arg2 =
     record { shown = _; shows = refl; left = _; met = c.visit.ensures; leaves = refl } in
-    let n : c.visit.new.arg2.outer_is_unique ≡ c.in_ok-inner.inner.outer_is_unique = (c.requires.keeps _ _ _ p).1 in
+    let n : c.visit.new.arg2.outer ≡ c.in_ok-inner.inner.outer = (c.requires.keeps _ _ _ p).1 in
     let q : FnOnceReturnsAtMut g.F.FnOnce c.args.visit c.in_ok-inner.inner (Ok tt) c.visit.new.arg2 = rw c.in_default.is at p in
     let m : c.visit.new.arg2.collector.ghost_name ≡ c.in_ok-inner.inner.collector.ghost_name = (c.requires.keeps _ _ _ p).0 in record {
       same_reference = search rules;

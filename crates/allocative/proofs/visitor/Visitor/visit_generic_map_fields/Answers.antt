@@ -10,5 +10,5 @@ returns-in_err-outer-clause-exact g c =
 pub returns-clause-exact : goal.returns-clause-exact
 returns-clause-exact g c = gives_within (rw c.new.ensures at c.in_ok-outer.ensures.enters) c.visit_run-answer.ensures.exact c.close_entry.ensures
 
-pub returns-clause-rightly : goal.returns-clause-rightly
-returns-clause-rightly g c = along_within (rw c.new.ensures at c.in_ok-outer.ensures.enters) c.visit_run-answer.ensures.rightly c.close_entry.ensures
+pub returns-clause-only_if_full : goal.returns-clause-only_if_full
+returns-clause-only_if_full g c = along_within (rw c.new.ensures at c.in_ok-outer.ensures.enters) c.visit_run-answer.ensures.only_if_full c.close_entry.ensures

@@ -22,6 +22,6 @@ returns-clause-exact g c =
     let e : are_shown_each g.T.Described.needs_drop g.T.Described.size ≡ false = search rules in
     rw (e, MakesPlanRun) (c.count_of-count.result, c.count_of-count.ensures, rw c.for_type_name.ensures at c.visit_counted.ensures.exact)
 
-pub returns-clause-rightly : goal.returns-clause-rightly
-returns-clause-rightly g c =
+pub returns-clause-only_if_full : goal.returns-clause-only_if_full
+returns-clause-only_if_full g c =
     counted_plain deref g.T.Described.name g.T.Described.size c.count_of-count.result g.T.Described.needs_drop g.T.Allocative.may_show (search rules) c.count_of-count.ensures (rw c.for_type_name.ensures at c.visit_counted.ensures.entered)

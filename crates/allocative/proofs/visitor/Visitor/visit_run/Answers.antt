@@ -1,6 +1,6 @@
 -- One more item is entered, and the run ends.
 use Rattle.std.proofs.Common.{rules}
-use Rattle.allocative.proofs.Within.{rightly_failed, same_err}
+use Rattle.allocative.proofs.Within.{only_if_full_failed, same_err}
 use Rattle.allocative.proofs.Runs.{entered_next, entered_run, along_run, along_refused}
 use Rattle.allocative.proofs.Making.{kept_after, run_gives}
 use Rattle.allocative.proofs.visitor.Visitor.visit_run.Goals as goal
@@ -11,11 +11,11 @@ loop-item-preserved g c = (
   run_gives _ c.loop-item.item-iterator c.loop-item.yielded c.loop-item.yielded_by c.in-Some.ensures.steps,
 )
 
-pub returns-in_err-go_on-clause-rightly : goal.returns-in_err-go_on-clause-rightly
-returns-in_err-go_on-clause-rightly g c = record { along = λ i ys y. rightly_failed c.in_err-go_on.ensures }
+pub returns-in_err-go_on-clause-only_if_full : goal.returns-in_err-go_on-clause-only_if_full
+returns-in_err-go_on-clause-only_if_full g c = record { along = λ i ys y. only_if_full_failed c.in_err-go_on.ensures }
 
-pub returns-in_err-enter_item-clause-rightly : goal.returns-in_err-enter_item-clause-rightly
-returns-in_err-enter_item-clause-rightly g c =
+pub returns-in_err-enter_item-clause-only_if_full : goal.returns-in_err-enter_item-clause-only_if_full
+returns-in_err-enter_item-clause-only_if_full g c =
     let l = c.loop-item in
     let is = same_err {e = c.in_err-enter_item.field-0.0} _ c.from_residual-in_err-enter_item.ensures.0 (search rules) in
     rw (← c.into_iter-item-iterator.ensures.into_iter_gives) (along_refused _ l.item-iterator l.yielded is l.yielded_by c.in-Some.ensures.steps l.invariant.0 c.in_err-enter_item.ensures)
@@ -29,7 +29,7 @@ returns g c =
     let l = c.loop-item in
     rw (← c.into_iter-item-iterator.ensures.into_iter_gives) (record {
       entered = entered_run l.yielded (c.next.new.self, (l.item-iterator, l.yielded_by, c.in-None.ensures.steps)) l.invariant.0;
-      rightly = along_run l.yielded (c.next.new.self, (l.item-iterator, l.yielded_by, c.in-None.ensures.steps)) l.invariant.0;
+      only_if_full = along_run l.yielded (c.next.new.self, (l.item-iterator, l.yielded_by, c.in-None.ensures.steps)) l.invariant.0;
       kept = kept_after c.in_ok-go_on.ensures;
       exact = l.invariant.1;
     })

@@ -12,6 +12,6 @@ returns c =
       same_reference = called.same_reference;
       same_outer = called.same_outer;
       shown = with_shows _ _ (Inside (codes "x") 1 Nothing) (rw c.new.ensures at called.calls) (λ x y r h. search rules);
-      rightly = inexact;
+      only_if_full = inexact;
       takes_effect = tt;
     }

@@ -1,7 +1,7 @@
 -- A hand-written proof of `root_visitor`: the collector is lent, and a root visitor may hold it.
-use Rattle.allocative.proofs.Lent.{visitor_row, collector_row, refusal_row, result_row, refusal_laws, result_laws, visitor_laws, nest, ◌≡◌, List, [], ◌∷◌, refl, sym, ap, subst, MutBor, proved, says_two, id⊢, ftrue, flft, named, Lfts, fact, tables, ‵, raw, ◌⊛◌, some, later, ◌$◌, ◌∵◌, !, qed, done, move, keep, drop, use1, use2, split, join, fsplit, fjoin, feq_i, feq_l, pick, await, suffices, frame, enter, addr, stop, no_more, and_then, returns, alloc_all, pass_all, free_all, look_at, get, through, sets, lands_as, no, shows, RattleType, MutRef, mut_vals, mut_Tells, plain, named_lft, nothing, heard, peeks, only, calls_at, Lasts, lasts, triple_of, framed, Stays, stay_dropped, Goes-spent_ref, ends_at, Result, Ok, Err, IfOk, IfErr, OnOk, OnErr, name_if_ok, Refusal, State, Begins, Settles, Visitor, as_graph, LendsBegunGraph}
+use Rattle.allocative.proofs.Lent.{visitor_row, collector_row, refusal_row, result_row, refusal_laws, result_laws, visitor_laws, nest, ◌≡◌, List, [], ◌∷◌, refl, sym, ap, subst, MutBor, proved, says_two, id⊢, ftrue, flft, named, Lfts, fact, tables, ‵, raw, ◌⊛◌, some, later, ◌$◌, ◌∵◌, !, qed, done, move, keep, drop, use1, use2, split, join, fsplit, fjoin, feq_i, feq_l, pick, await, suffices, frame, enter, addr, stop, no_more, and_then, returns, alloc_all, pass_all, free_all, look_at, get, through, sets, lands_as, no, shows, RattleType, MutRef, mut_vals, mut_Tells, plain, named_lft, nothing, heard, peeks, only, calls_at, Lasts, lasts, triple_of, framed, Stays, stay_dropped, Goes-spent_ref, ends_at, Result, Ok, Err, IfOk, IfErr, OnOk, OnErr, name_if_ok, Refusal, State, OpensRoot, Settles, Visitor, as_graph, LendsBegunGraph}
 use Rattle.allocative.specs.Rooted.{LendsBuilt, LendsRoot}
-use Rattle.allocative.specs.Visited.{BeginsAt}
+use Rattle.allocative.specs.Visited.{OpensRootAt}
 use Rattle.allocative.specs.contracts.run.builder.FlameGraphBuilder as builder
 use Rattle.allocative.specs.contracts.run.builder.FlameGraphBuilder.root_visitor as f
 use Rattle.allocative.proofs.run.builder.FlameGraphBuilder.root_visitor.Statement.{statement}
@@ -19,7 +19,7 @@ ends_begun : (r : Result Visitor Refusal) (w z : State) → OnOk r (z ≡ w) →
 ends_begun (Ok v) w z h = ap as_graph h
 ends_begun (Err e) w z h = h
 
-ends_refused : (s c : State) → s ≡ as_graph c → (r : Result Visitor Refusal) (z : State) → OnErr r (IfErr r (λ e. Begins (as_graph c) (Err e) (as_graph z))) → IfErr r (λ e. Begins s (Err e) (as_graph z))
+ends_refused : (s c : State) → s ≡ as_graph c → (r : Result Visitor Refusal) (z : State) → OnErr r (IfErr r (λ e. OpensRoot (as_graph c) (Err e) (as_graph z))) → IfErr r (λ e. OpensRoot s (Err e) (as_graph z))
 ends_refused s c i (Ok v) z h = h
 ends_refused s c i (Err e) z h = rw i h
 
@@ -62,14 +62,14 @@ root_visitor_spec 𝓤 𝓛 𝓜 𝓡 wired =
     (and_then ! (get ! refl) (no_more !)) (λ u.
     use1 𝓛 (later (some (λ (res : Result Visitor Refusal). (Token ⊛ ‵ ((Answer κs).own_val res (u ∷ []))) ⊛
     some (λ (vs : Lasts h.ended κs z.0.3). ‵ (lasts h.ended κs z.0.3 vs) ⊛ ‵ (LendsBegunGraph r res) ⊛
-    raw (fact 𝓤 (IfOk res (λ w. w.collector.ghost_name ≡ r.ghost_name))) ⊛ raw (fact 𝓤 (IfOk res (BeginsAt (as_graph r.now)))) ⊛
+    raw (fact 𝓤 (IfOk res (λ w. w.collector.ghost_name ≡ r.ghost_name))) ⊛ raw (fact 𝓤 (IfOk res (OpensRootAt (as_graph r.now)))) ⊛
     raw (fact 𝓤 (IfErr res (λ w. Settles (as_graph r.now) (Err w)))))))) (id⊢ 𝓤 _) $
     await ! tt $ pick ! (λ res. split ! $ split ! $ move ! (2 ∷ []) $ pick ! (λ vs. split ! $ drop ! $ split ! $
     move ! (1 ∷ []) $ split ! $ heard ! _ (λ _. split ! $ heard ! _ (λ begun. heard ! _ (λ refused.
     -- [what the part ends as; the token; the result; what the builder ends as]
     move ! (3 ∷ 0 ∷ []) $ use2 𝓛 (‵ (LendsRoot s res))
     (nest 𝓛 builder.the_row collector_row as_graph s.ghost_name r.ghost_name
-    (λ w x'. OnOk res (x' ≡ w)) (λ x'. OnErr res (IfErr res (λ w. Begins (as_graph r.now) (Err w) (as_graph x')))) (λ w b. OnOk res (b ≡ as_graph w)) (λ b. IfErr res (λ e. Begins s.now (Err e) b)) (ends_begun res) (ends_refused s.now r.now same res)
+    (λ w x'. OnOk res (x' ≡ w)) (λ x'. OnErr res (IfErr res (λ w. OpensRoot (as_graph r.now) (Err w) (as_graph x')))) (λ w b. OnOk res (b ≡ as_graph w)) (λ b. IfErr res (λ e. OpensRoot s.now (Err e) b)) (ends_begun res) (ends_refused s.now r.now same res)
     (name_if_ok (λ w. w.collector.ghost_name) res)) $
     move ! (2 ∷ []) $ peeks ! (Answer κs) _ (shows 𝓛 (Answer κs)) res (u ∷ []) (λ told.
     let good = (((result_laws _ _ (visitor_laws (named_lft 1 0 tt κs)) refusal_laws).lawful 𝓛).typed res (u ∷ []) told).0 in
@@ -77,4 +77,4 @@ root_visitor_spec 𝓤 𝓛 𝓜 𝓡 wired =
     -- [the result; what the builder ends as; the token]
     suffices ! _ (ends_at 𝓛 f.ended stayed c ((κs, qs, bounds, a, (mut_vals s, tt)), tt) u res (tt, tt) (tt, tt)) $
     nothing ! $ nothing ! $ fjoin ! $ join ! $ move ! (2 ∷ 0 ∷ []) $ join ! $ frame ! $
-    says_two ! (subst (λ (x : State). IfOk res (BeginsAt x)) (sym same) begun, subst (λ (x : State). IfErr res (λ e. Settles x (Err e))) (sym same) refused) $ done !))))))))))))))
+    says_two ! (subst (λ (x : State). IfOk res (OpensRootAt x)) (sym same) begun, subst (λ (x : State). IfErr res (λ e. Settles x (Err e))) (sym same) refused) $ done !))))))))))))))
