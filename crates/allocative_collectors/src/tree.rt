@@ -10,7 +10,7 @@ ghost use Rattle.allocative_collectors.specs.Nodes.{shape, IsTree};
 ghost use Rattle.allocative_collectors.specs.Warned.{warning_of};
 
 use crate::output::{FlameGraphOutput, WarnedPath};
-use allocative_graph::flamegraph::FlameGraph;
+use allocative_graph::flamegraph::{FlameGraph, push_child};
 use allocative_graph::key::Key;
 use allocative_graph::refusal::Refusal;
 use smallvec::SmallVec;
@@ -165,7 +165,7 @@ impl Tree {
             let key = &self.nodes[child as usize].key;
             keys.push(key.as_str())?;
             let below = self.make(child as usize, keys, warned)?;
-            graph.add_child(key.copy(), below)?;
+            push_child(&mut graph, key.copy(), below)?;
             let _ = keys.pop();
         }
         Ok(graph)
@@ -268,6 +268,7 @@ impl Tree {
     }
 
     /// The child of the node `at` that has the key, found by a search. It is made where there is none.
+    #[cold]
     #[inline(never)]
     fn search_child(&mut self, at: usize, key: &Key) -> Result<usize, AllocError>
         requires { at < length self.old }

@@ -1,11 +1,12 @@
 -- A node's own size and warning, and then the graph of each child with the paths that have a warning.
-use Rattle.std.proofs.Common.{◌≡◌, ◌-◌, ◌+◌, ◌<◌, ℕ, Bool, cond, List, [], ◌∷◌, ◌++◌, map, length, get_or, Bor, Vec, Global, arith, sym, ap, ◌∙◌, refl, Err, IfErr, ◌^◌, ◌≤◌, add-one}
-use Rattle.allocative_collectors.proofs.Common.{Key, under, sum_of, default, add_self, WarnedPath, shape, path_at, keys_at, key_at, children_at, key_in, map_of, entered, size_at_place, warning_of, Refusal, Memory}
+use Rattle.std.proofs.Common.{◌≡◌, ◌-◌, ◌+◌, ◌<◌, ℕ, Bool, cond, List, [], ◌∷◌, ◌++◌, map, length, get_or, Bor, Vec, Global, arith, sym, ap, subst, ◌∙◌, refl, Err, IfErr, ◌^◌, ◌≤◌, add-one}
+use Rattle.allocative_collectors.proofs.Common.{Key, under, sum_of, default, add_self, WarnedPath, shape, path_at, keys_at, key_at, children_at, key_in, size_at_place, warning_of, Refusal, Memory}
 use Rattle.std.proofs.lemmas.List.{length-map, map-append}
 use Rattle.allocative_graph.specs.Graph.{total}
+use Rattle.allocative_graph.specs.Many.{ComesLast}
 use Rattle.allocative_collectors.specs.declared.tree.Node.{Node}
 use Rattle.allocative_collectors.proofs.NodeReads.{in_nodes, children_read, figures_read, listing_of}
-use Rattle.allocative_collectors.proofs.Made.{begun, part_start, part_more, part_fits, made_all, child_read, none_warned, own_warning, own_fits, warned_at, total-default, memory_alone, passed_on}
+use Rattle.allocative_collectors.proofs.Made.{part_start, part_more, part_fits, made_all, child_read, none_warned, own_warning, own_fits, warned_at, total-default, comes_last}
 use Rattle.allocative_graph.proofs.NodeText.{popped, texts}
 use Rattle.allocative_collectors.proofs.tree.Tree.+make.Goals as goal
 use Rattle.allocative_collectors.proofs.tree.Tree.+make.Goals.{then-is_short+in_ok-push_warned, else-is_short, After-as_slice-child-items}
@@ -63,15 +64,18 @@ make-requires t c =
     ∙ ((λ j. (ap (map text) c.loop-child.invariant.keys ∙ c.requires.keys) j ++ (c.as_str.ensures ∙ ap (λ (n : Node). n.key) c.index.ensures ∙ there.3 c.index.result.now) j ∷ []) ∙ sym there.2)) in
     (lt, (there.1, (c.requires.fits, keys)))
 
-pub returns-in_err-add_child-clause-err : goal.returns-in_err-add_child-clause-err
-returns-in_err-add_child-clause-err t c =
-    let is : c.add_child.result ≡ Err c.in_err-add_child.field-0.0 = c.in_err-add_child.was in
-    let fits : total c.loop-child.graph ≤ entered (map_of c.args.self.now) = part_fits {t = begun (keys_at (map shape c.self.inside.nodes.items) c.args.at) c.loop-child.child-index} c.loop-child.invariant.made in
-    let memory : c.in_err-add_child.field-0.0 ≡ Memory =
-    memory_alone c.in_err-add_child.field-0.0
-    (λ e. (let most = c.add_child.ensures.too_large.0 (is ∙ ap (λ (r : Refusal). Err r) e) in omega (arith, most, fits, part_fits c.in_ok-below.ensures.made, c.requires.fits)))
-    (λ e. c.add_child.ensures.never_open (is ∙ ap (λ (r : Refusal). Err r) e)) in
-    passed_on c.from_residual-in_err-add_child.result _ c.from_residual-in_err-add_child.ensures.1 (λ e w. w ∙ memory)
+pub push_child-requires : goal.push_child-requires
+push_child-requires t c =
+    let here = (goal.at.push_child-requires t c).After-as_slice-child-items in
+    let ks = keys_at (map shape c.self.inside.nodes.items) c.args.at in
+    let j = c.loop-child.child-index in
+    let there = child t here j c.loop-child-test.true in
+    let key : c.copy.result ≡ key_in ks j = c.copy.ensures ∙ ap (λ (n : Node). n.key) c.index.ensures ∙ there.3 c.index.result.now in
+    let last = comes_last ks (c.self.invariant.arena.rise c.args.at) j (omega (arith, c.loop-child-test.true, count t here)) c.loop-child.invariant.made in
+    record {
+      last = subst (ComesLast c.loop-child.graph) (sym key) last;
+      fits = omega (arith, part_fits c.loop-child.invariant.made, part_fits c.in_ok-below.ensures.made, c.requires.fits);
+    }
 
 pub loop-child-preserved : goal.loop-child-preserved
 loop-child-preserved t c =
@@ -80,7 +84,7 @@ loop-child-preserved t c =
     let j = c.loop-child.child-index in
     let there = child t here j c.loop-child-test.true in
     let kept : c.pop.new.self.items ≡ c.args.keys.now.items = popped c.loop-child.keys.items c.make.new.keys.items c.pop.new.self.items c.as_str.result _ c.pop.ensures.rest c.make.new.keys.ok.0 (c.in_ok-below.ensures.keys ∙ c.in_ok-push.ensures.items) ∙ c.loop-child.invariant.keys in
-    let is : c.add_child.new.self ≡ sum_of c.loop-child.graph (under (key_in ks j) c.in_ok-below.below) = c.in_ok-add_child.ensures.sum ∙ ap (λ (k : Key). sum_of c.loop-child.graph (under k c.in_ok-below.below)) (c.copy.ensures ∙ ap (λ (n : Node). n.key) c.index.ensures ∙ there.3 c.index.result.now) in
+    let is : c.push_child.new.graph ≡ sum_of c.loop-child.graph (under (key_in ks j) c.in_ok-below.below) = c.in_ok-push_child.ensures.sum ∙ ap (λ (k : Key). sum_of c.loop-child.graph (under k c.in_ok-below.below)) (c.copy.ensures ∙ ap (λ (n : Node). n.key) c.index.ensures ∙ there.3 c.index.result.now) in
     let listed = listing_of c.self.inside.nodes.items c.self.invariant c.self.view_is in
     record {
       keys = kept;
