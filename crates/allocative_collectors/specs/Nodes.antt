@@ -12,7 +12,6 @@ shape n = record {
   children = n.children.items;
   bytes = n.bytes;
   is_unique = n.is_unique;
-  below = n.below;
 }
 
 -- The sums that a tree's nodes stand for.

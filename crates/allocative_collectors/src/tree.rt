@@ -1,7 +1,7 @@
 //! The paths that were entered, as an arena of nodes that refer to one another by number.
 ghost use Rattle.std.specs.Prelude.{◌≡◌, ◌+◌, ◌^◌, ◌<◌, ◌≤◌, [], ◌∷◌, ◌++◌, length, map, IfOk, IfErr, IfSome, IfNone, OnOk, OnErr, IsTrue, ◌↔◌, false};
 ghost use Rattle.allocative_graph.specs.Graph.{total as graph_total};
-ghost use Rattle.allocative_graph.specs.Sums.{entered};
+ghost use Rattle.allocative_graph.specs.Sums.{entered, below as bytes_below};
 ghost use Rattle.allocative_graph.specs.Visits.{IsProfile};
 ghost use Rattle.allocative_collectors.specs.Listed.{root_sum, put, total, path_at, map_of, IsEntered, IsAbove};
 ghost use Rattle.allocative_collectors.specs.Finishing.{size_at_place, is_short, MakesGraph, MakesGraphAlone};
@@ -26,8 +26,6 @@ struct Node {
     /// The numbers of the nodes one key below, in the order of their keys. Up to four are stored in the node itself.
     children: SmallVec<u32, 4>,
     bytes: usize,
-    /// The bytes of the children.
-    below: usize,
     /// The child that was entered last.
     last: u32,
     /// The child that is expected next. It is a guess, and is tested before it is used.
@@ -47,7 +45,6 @@ impl Node {
             parent,
             children: SmallVec::new(alloc),
             bytes: 0,
-            below: 0,
             last: 0,
             next: 0,
             follower: 0,
@@ -156,10 +153,11 @@ impl Tree {
             return Ok(leaf);
         }
         let node = &self.nodes[at];
+        let size_below = self.size_below(at);
         let mut graph = FlameGraph::with_capacity(self.alloc, node.children.len())?;
-        graph.add_self(self.size(at))?;
-        if self.is_short(at) {
-            push_warned(keys.as_slice(), node.bytes, node.below, warned)?;
+        graph.add_self(self.size(at, size_below))?;
+        if self.is_short(at, size_below) {
+            push_warned(keys.as_slice(), node.bytes, size_below, warned)?;
         }
         for &child in node.children.as_slice() {
             let key = &self.nodes[child as usize].key;
@@ -171,42 +169,58 @@ impl Tree {
         Ok(graph)
     }
 
-    /// The graph of a node that has no children and no warning. It allocates nothing.
+    /// The graph of a node that has no children, and so no warning. It allocates nothing.
     #[inline(always)]
     fn leaf(&self, at: usize) -> Option<FlameGraph>
         requires { at < length self.now }
         ensures { IfSome result (λ graph. MakesGraphAlone self.now at graph) }
     {
-        if !self.nodes[at].children.is_empty() || self.is_short(at) {
+        let node = &self.nodes[at];
+        if !node.children.is_empty() {
             return None;
         }
         let mut graph = FlameGraph::default(self.alloc);
-        match graph.add_self(self.size(at)) {
+        match graph.add_self(node.bytes) {
             Ok(()) => Some(graph),
             Err(_) => None,
         }
     }
 
-    /// The size that the graph has at the path of a node.
-    fn size(&self, at: usize) -> usize
-        requires { at < length self.now }
+    /// The bytes of a node's children together.
+    fn size_below(&self, at: usize) -> usize
+        requires within { at < length self.now }
+        requires fits { entered (map_of self.now) < 2 ^ 63 }
+        ensures { result ≡ bytes_below (map_of self.now) (path_at self.now at) }
+    {
+        let mut sum = 0;
+        for &child in self.nodes[at].children.as_slice() {
+            sum += self.nodes[child as usize].bytes;
+        }
+        sum
+    }
+
+    /// The size that the graph has at the path of a node whose children have `size_below` bytes.
+    fn size(&self, at: usize, size_below: usize) -> usize
+        requires within { at < length self.now }
+        requires below { size_below ≡ bytes_below (map_of self.now) (path_at self.now at) }
         ensures { result ≡ size_at_place self.now at }
     {
         let node = &self.nodes[at];
         if node.is_unique {
             node.bytes
         } else {
-            node.bytes.saturating_sub(node.below)
+            node.bytes.saturating_sub(size_below)
         }
     }
 
-    /// Whether a node has a warning.
-    fn is_short(&self, at: usize) -> bool
-        requires { at < length self.now }
+    /// Whether a node whose children have `size_below` bytes has a warning.
+    fn is_short(&self, at: usize, size_below: usize) -> bool
+        requires within { at < length self.now }
+        requires below { size_below ≡ bytes_below (map_of self.now) (path_at self.now at) }
         ensures { result ≡ is_short self.now at }
     {
         let node = &self.nodes[at];
-        at != 0 && !node.is_unique && node.bytes < node.below
+        at != 0 && !node.is_unique && node.bytes < size_below
     }
 
     /// The child of the node `at` that has the key. It is made where there is none.
@@ -301,9 +315,6 @@ impl Tree {
         let entered = &mut self.nodes[node];
         entered.bytes += size;
         entered.is_unique = entered.is_unique || is_unique;
-        let at = entered.parent;
-        let parent = &mut self.nodes[at];
-        parent.below += size;
     }
 }
 

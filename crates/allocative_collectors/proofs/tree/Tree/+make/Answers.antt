@@ -46,7 +46,7 @@ loop-child-init t c =
           (let keys : texts w.as_slice.result.now ≡ path_at v i = ap texts w.as_slice.ensures.value ∙ c.requires.keys in
           ap (λ (x : Vec WarnedPath Global). map warning_of x.items) w.warned-is
           ∙ (w.in_ok-push_warned.ensures
-          ∙ ((λ j. start ++ record { path = keys j; self_size = sym figures.0 j; children_size = sym figures.2 j } ∷ [])
+          ∙ ((λ j. start ++ record { path = keys j; self_size = sym figures.0 j; children_size = c.size_below-size_below.ensures j } ∷ [])
           ∙ ap (λ (b : Bool). start ++ cond b (own_warning v i) []) w.if-is_short.ensures)))
       | else-is_short w ↦ ap (λ (x : Vec WarnedPath Global). map warning_of x.items) w.warned-is ∙ none_warned v i start w.if-is_short.ensures
     ] in
