@@ -11,6 +11,7 @@ use Rattle.allocative_collectors.proofs.Labels.{length_sums, figures-grow, root_
 use Rattle.std.specs.List.{insert}
 use Rattle.std.proofs.lemmas.List.{get_or-map, length-map, map-set, map_push, set-get_or}
 use Rattle.allocative_collectors.specs.declared.tree.Node.{Node}
+use Rattle.allocative_collectors.specs.Chunked.{numbers}
 use Rattle.allocative_collectors.specs.Listed.{total}
 use Rattle.allocative_collectors.proofs.Keys.{key_not_before, key_total, same_path-same, same_path-apart, tied}
 use Rattle.allocative_collectors.proofs.Raised.{raised, bytes_le_total}
@@ -128,7 +129,7 @@ module _ (items : List Node) where
   pub shape_read : (i : ℕ) (n : Node) → i < length items → n ≡ get_or items i n → at (map shape items) i ≡ shape n
   shape_read i n h read = get_or-map shape items i n no_shape h ∙ ap shape (sym read)
 
-  pub children_read : (p : ℕ) (n : Node) → p < length items → n ≡ get_or items p n → children_at (map shape items) p ≡ n.children.items
+  pub children_read : (p : ℕ) (n : Node) → p < length items → n ≡ get_or items p n → children_at (map shape items) p ≡ numbers n.children
   children_read p n h read = ap (λ (s : Shape). s.children) (shape_read p n h read)
 
   -- the child at place j, and its key
@@ -178,7 +179,7 @@ module _ (items : List Node) {v : Listed} (view : sums_of items ≡ v) (i : ℕ)
 
 -- the two writes of a new node, seen as shapes
 pub grown_nodes : (items : List Node) (p : ℕ) → p < length items → (n : Node) → n ≡ get_or items p n → (k : Key) (g : ℕ) (m fresh : Node) → shape fresh ≡ leaf p k
-    → shape m ≡ with_children (insert n.children.items g (length items)) (shape n) → map shape (set items p m ++ fresh ∷ []) ≡ grown (map shape items) p k g
+    → shape m ≡ with_children (insert (numbers n.children) g (length items)) (shape n) → map shape (set items p m ++ fresh ∷ []) ≡ grown (map shape items) p k g
 grown_nodes items p hp n read k g m fresh fresh_is m_is =
     let is = shape_read items p n hp read in
     let same = m_is ∙ (λ j. (let s = sym is j in with_children (insert s.children g (sym (length-map items shape) j)) s)) in

@@ -86,6 +86,10 @@ pub record StandsIn (xs : List ℕ) (i : ℕ) : Type 0 where
   pub in_range : place < length xs
   pub is : slice_index xs place ≡ i
 
+-- The number i is in the list, and is that of a node with the key k.
+abbrev pub HasKey : List Shape → List ℕ → Key → ℕ → Type 0
+HasKey ns xs k i = StandsIn xs i × (key_at ns i ≡ k)
+
 -- Node i is not the root, and its parent is p.
 pub record IsChild (ns : List Shape) (p i : ℕ) : Type 0 where
   pub not_root : 0 < i

@@ -1,8 +1,8 @@
 -- The graph of a node with no children has its own size alone, and no warning.
-use Rattle.std.proofs.Common.{◌≡◌, false, [], length, map, sum_by, sym, ap, ◌∙◌, arith, eqb-true}
+use Rattle.std.proofs.Common.{◌≡◌, false, [], length, map, sum_by, sym, ap, ◌∙◌, arith}
 use Rattle.std.proofs.lemmas.Bool.Decides.{nat_tests}
 use Rattle.std.proofs.lemmas.Grind.{common_steps}
-use Rattle.std.proofs.lemmas.List.{length-map, nil_from_length}
+use Rattle.std.proofs.lemmas.List.{length-map}
 use Rattle.allocative_collectors.proofs.Common.{add_self, default, below, shape, bytes_at, keys_at, key_at, children_at, path_at, map_of, size_at_place}
 use Rattle.allocative_collectors.specs.Finishing.{is_short}
 use Rattle.allocative_collectors.proofs.NodeReads.{in_nodes, children_read, below_read, figures_read, listing_of}
@@ -18,8 +18,7 @@ returns-in-Ok c =
     let n = c.index-node.result.now in
     let listed = listing_of items c.self.invariant c.self.view_is in
     let figures = figures_read items c.self.invariant v c.self.view_is i c.requires n c.index-node.ensures in
-    let empty : length n.children.items ≡ 0 = eqb-true _ 0 (sym c.is_empty.ensures ∙ c.if-not-is_empty.false) in
-    let none : children_at ns i ≡ [] = children_read items i n (in_nodes items i c.self.view_is c.requires) c.index-node.ensures ∙ nil_from_length n.children.items empty in
+    let none : children_at ns i ≡ [] = children_read items i n (in_nodes items i c.self.view_is c.requires) c.index-node.ensures ∙ c.is_empty.ensures c.if-not-is_empty.false in
     let nothing : below (map_of v) (path_at v i) ≡ 0 = sym (below_read items c.self.invariant c.self.view_is i c.requires) ∙ ap (sum_by (bytes_at ns)) none in
     let size : n.bytes ≡ size_at_place v i = grind (arith, common_steps, figures, nothing) in
     let short : false ≡ is_short v i = grind (arith, nat_tests, common_steps, nothing) in
