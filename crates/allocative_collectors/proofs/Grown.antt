@@ -1,11 +1,10 @@
 -- An arena with one more node, which has no entry yet.
 use Rattle.std.proofs.Common.{◌≡◌, ◌≢◌, ℕ, ◌+◌, ◌-◌, ◌<◌, ◌≤◌, List, [], ◌∷◌, ◌++◌, length, get_or, set, take, drop, refl, sym, ap, subst, ◌∙◌, arith, inl, inr, get_or-set_same, get_or-set_other, length-set}
-use Rattle.allocative_collectors.proofs.Common.{key_at, Less, ordering_reverse, Key, key_cmp, Shape, leaf, no_shape, at, children_at, keys_of, keys_at, key_in, parent_at, below_of, share, KeysRise, StandsIn, IsChild, IsArena, IsKeyGap}
+use Rattle.allocative_collectors.proofs.Common.{key_at, Less, ordering_reverse, Key, key_cmp, Shape, leaf, no_shape, at, children_at, keys_of, keys_at, key_in, parent_at, KeysRise, StandsIn, IsChild, IsArena, IsKeyGap}
 use Rattle.std.specs.List.{All, insert}
 use Rattle.std.proofs.lemmas.List.Elements.{All-append, All-cons, All-drop, All-take, All-weaker}
 use Rattle.std.proofs.lemmas.List.{length-map, get_or_append_left, get_or_push, length_push}
 use Rattle.std.proofs.lemmas.List.Edits.{length-insert, get_or-insert_below, get_or-insert_at}
-use Rattle.std.proofs.lemmas.List.Sums.{sum_by_push, sum_by-set}
 use Rattle.std.proofs.lemmas.Bool.{cases_order, cases_eq}
 use Rattle.allocative_collectors.proofs.Keys.{map_same, keys_of-insert, insert_above, stands_insert, touched, pushed, key_total}
 
@@ -55,10 +54,6 @@ module _ (ns : List Shape) (ok : IsArena ns) (p : ℕ) (hp : p < length ns) (k :
   before : {X : Type 0} (f : Shape → X) → f written ≡ f (at ns p) → (i : ℕ) → i < length ns → f (at new i) ≡ f (at ns i)
   before f same i h = ap f (get_or_append_left rest _ no_shape i (omega (arith, length_rest))) ∙ touched f ns p written same i
 
-  -- and at each place, where a leaf has what a missing node has
-  everywhere : (f : Shape → ℕ) → f written ≡ f (at ns p) → f (leaf p k) ≡ f no_shape → (i : ℕ) → f (at new i) ≡ f (at ns i)
-  everywhere f same none i = pushed f rest (leaf p k) none i ∙ touched f ns p written same i
-
   parent_before : (i : ℕ) → i < length ns → parent_at new i ≡ parent_at ns i
   parent_before = before (λ n. n.parent) refl
 
@@ -105,15 +100,10 @@ module _ (ns : List Shape) (ok : IsArena ns) (p : ℕ) (hp : p < length ns) (k :
       ])
       (λ q other c. stood q i (λ e. other (sym c.parent ∙ (ap (parent_at new) e ∙ ap (λ (n : Shape). n.parent) at_leaf))) c) q
 
-  below_of_grown : (q : ℕ) → below_of q new ≡ below_of q ns
-  below_of_grown q =
-      let none : share q (leaf p k) ≡ 0 = elim (cases_eq p q) [ inl e ↦ grind arith | inr ne ↦ grind arith ] in
-      omega (arith, sum_by_push (share q) rest (leaf p k), sum_by-set (share q) ns p written no_shape hp)
-
   pub arena_grown : IsArena (grown ns p k g)
   arena_grown = record {
     rooted = omega (arith, length_grown);
-    root_empty = everywhere (λ n. n.bytes) refl refl 0 ∙ ok.root_empty;
+    root_empty = before (λ n. n.bytes) refl 0 ok.rooted ∙ ok.root_empty;
     parents = λ i pos h. elim (cases_eq i (length ns)) [
       | inl e ↦ rw e (rw (ap (λ (n : Shape). n.parent) at_leaf) hp)
       | inr ne ↦ let old : i < length ns = omega (arith, length_grown) in rw (parent_before i old) (ok.parents i pos old)
@@ -126,5 +116,4 @@ module _ (ns : List Shape) (ok : IsArena ns) (p : ℕ) (hp : p < length ns) (k :
         All-append (IsChild new p) (take g xs) (length ns ∷ drop g xs) (All-take (IsChild new p) g xs old) (All-cons (IsChild new p) (length ns) (drop g xs) one (All-drop (IsChild new p) g xs old)))
         (λ q ne. All-weaker (IsChild ns q) (IsChild new q) (child_before q) (children_at ns q) (ok.children q));
     rise = by_parent (λ q xs. KeysRise (keys_of new xs)) (subst KeysRise (sym keys_parent) (rise_insert (keys_at ns p) k g gap (ok.rise p))) (λ q ne. subst KeysRise (sym (keys_stood q)) (ok.rise q));
-    below = λ q. everywhere (λ n. n.below) refl refl q ∙ (ok.below q ∙ sym (below_of_grown q));
   }

@@ -66,7 +66,7 @@ grow_raise ps (m ∷ ns) (suc i) q n u h = ap (λ (t : Listed). sum_from ps m �
 
 -- what a node's sum depends on
 abbrev pub bare : Shape → Shape
-bare n = record n { children = []; below = 0 }
+bare n = record n { children = [] }
 
 -- a write that keeps it keeps the sums
 pub grow_same : (ps : List Path) (ns : List Shape) (i : ℕ) (m : Shape) → bare m ≡ bare (at ns i) → grow ps (set ns i m) ≡ grow ps ns

@@ -5,6 +5,7 @@ pub mod Grown
 pub mod Raised
 pub mod Child
 pub mod Searched
+pub mod Chunks
 pub mod NodeReads
 pub mod Made
 pub mod Collect

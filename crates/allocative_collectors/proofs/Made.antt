@@ -1,6 +1,6 @@
 -- What the walk of `make` has passed behind a node's path, child by child: the rows of the map, and the graph that it has made.
-use Rattle.std.proofs.Common.{◌≡◌, ◌≢◌, ℕ, zero, suc, ◌<◌, ◌≤◌, Bool, true, false, cond, T, ◌&&◌, ◌||◌, List, [], ◌∷◌, ◌++◌, length, Option, Some, None, refl, sym, ap, subst, ◌∙◌, arith, inl, inr, true≢false, append_assoc, ◌+◌, map, flat_map, get_or, unwrap_or, sum_by, Result, Ok, Err, append-nil, add-zero, zero-add}
-use Rattle.allocative_collectors.proofs.Common.{Ordering, Less, is_eq, is_lt, ordering_then, Key, Path, key_cmp, path_cmp, key_in, KeysRise, is_same_path, Graph, graph, sum_of, under, default, add_self, get, entries, Refusal, Memory, TooLarge, Open, shape, sums_of, IsTree, Listed, row, sum_at, path_at, map_of, below, entered, sums, children_at, keys_at, IsArena, Shape, size_at_place, ordering_reverse}
+use Rattle.std.proofs.Common.{◌≡◌, ◌≢◌, ℕ, zero, suc, ◌<◌, ◌≤◌, Bool, true, false, cond, T, ◌&&◌, ◌||◌, List, [], ◌∷◌, ◌++◌, length, Option, Some, None, refl, sym, ap, subst, ◌∙◌, arith, inl, inr, true≢false, append_assoc, ◌+◌, map, flat_map, get_or, unwrap_or, sum_by, append-nil, add-zero, zero-add}
+use Rattle.allocative_collectors.proofs.Common.{Ordering, Less, is_eq, is_lt, ordering_then, Key, Path, key_cmp, path_cmp, key_in, KeysRise, is_same_path, is_one_below, Sums, Graph, graph, sum_of, under, default, add_self, get, entries, shape, sums_of, IsTree, Listed, row, sum_at, path_at, map_of, below, entered, sums, children_at, keys_at, IsArena, Shape, size_at_place, ordering_reverse}
 use Rattle.std.specs.FinMap.{FinMap, entries_sorted, find, get-entries, get-insert}
 use Rattle.std.specs.FinMap.Entries.{is_sorted, below_all, is_sorted-where_key, find-where_key, same_entries}
 use Rattle.std.specs.List.{filter}
@@ -14,11 +14,12 @@ use Rattle.std.proofs.lemmas.Grind.{flat_map-append}
 use Rattle.std.proofs.lemmas.List.Filters.{sum_by-filter_both}
 use Rattle.std.proofs.lemmas.List.Sums.{sum_by-cons, sum_by-append, sum_by-le-sum_by}
 use Rattle.allocative_graph.specs.Graph.{total, remaining, warned, size_at, Warned}
+use Rattle.allocative_graph.specs.Many.{ComesLast}
 use Rattle.allocative_graph.specs.Sums.{Node}
 use Rattle.allocative_graph.proofs.Listing.{entries-from_entries-sorted}
 use Rattle.allocative_graph.proofs.Merge.{get-sum_of}
 use Rattle.allocative_graph.proofs.Graphs.{sizes_together, get-under, get-under-root, get-default, total-sum_of, total-under, total-add_at}
-use Rattle.std.specs.Result.{IsErrAnd, IfErr}
+use Rattle.std.specs.Option.{is_some}
 use Rattle.allocative_collectors.specs.declared.tree.Node as nodes
 use Rattle.allocative_collectors.proofs.Entries.{IsListing, graph_hit, graph_none, get_at, get_none, nothing_left}
 use Rattle.allocative_collectors.proofs.Labels.{length_sums, step}
@@ -192,6 +193,11 @@ rows_fit s p t =
     (λ e. cond_both e.1.is_unique e.1.bytes _ (λ (n : ℕ). n ≤ e.1.bytes) (λ _. omega arith) (λ _. omega arith)) in
     omega arith
 
+-- the bytes one key below a path are within those of all entries
+pub below_fits : (m : Sums) (p : Path) → below m p ≤ entered m
+below_fits m p = sum_by-le-sum_by (λ e. cond (is_one_below p e.0) e.1.bytes 0) (λ (e : Path × Node). e.1.bytes) (entries m)
+    (λ e. cond_both (is_one_below p e.0) e.1.bytes 0 (λ (n : ℕ). n ≤ e.1.bytes) (λ _. omega arith) (λ _. omega arith))
+
 pub part_fits : {s : Listed} {p : Path} {t : Path → Bool} {w w' : List Warned} {g : Graph} → MakesPart s p t w w' g → total g ≤ entered (map_of s)
 part_fits {s} {p} {t} part = omega (arith, part.total_is, rows_fit s p t)
 
@@ -273,6 +279,13 @@ module _ (s : Listed) (ok : IsListing s) where
                 child.graph_is r ∙ ap (get (graph (map_of s))) (append_assoc p (k ∷ []) r ∙ ap (λ (x : Key). p ++ x ∷ r) (sym same)),
               ))
 
+-- the next key comes after those of the graph so far
+pub comes_last : {s : Listed} {p : Path} {w w' : List Warned} {g : Graph} (ks : List Key) → KeysRise ks → (j : ℕ) → j < length ks → MakesPart s p (begun ks j) w w' g → ComesLast g (key_in ks j)
+comes_last {s} {p} ks rise j hj part l q there = elim (cases_Bool (among ks j l)) [
+  | inl e ↦ among_before ks rise j j l hj (omega arith) e
+  | inr e ↦ absurd (true≢false (sym there ∙ ap is_some (part.graph_is (l ∷ q) ∙ ap (λ (b : Bool). cond b (get (graph (map_of s)) (p ++ l ∷ q)) None) e)))
+]
+
 -- ---- at the nodes
 module _ (ns : List Shape) (ok : IsArena ns) (i : ℕ) (hi : i < length ns) where
   -- after the last child, nothing is left
@@ -322,13 +335,3 @@ own_warning s i = let e = sum_at s i in record { path = e.path; self_size = e.by
 
 pub none_warned : (s : Listed) (i : ℕ) (w : List Warned) → false ≡ is_short s i → w ≡ w ++ warned_at s i
 none_warned s i w e = sym (append-nil w) ∙ ap (λ (b : Bool). w ++ cond b (own_warning s i) []) e
-
--- ---- causes
-pub memory_alone : (r : Refusal) → (r ≡ TooLarge → ⊥) → (r ≡ Open → ⊥) → r ≡ Memory
-memory_alone Memory large never = refl
-memory_alone TooLarge large never = absurd (large refl)
-memory_alone Open large never = absurd (never refl)
-
-pub passed_on : {A : Type 0} (r : Result A Refusal) (P : Refusal → Type 0) → IsErrAnd r P → ((e : Refusal) → P e → e ≡ Memory) → IfErr r (λ e. e ≡ Memory)
-passed_on (Ok x) P h f = tt
-passed_on (Err e) P h f = f e h

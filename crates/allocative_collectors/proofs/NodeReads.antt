@@ -1,19 +1,20 @@
--- What a read of a node says of the arena and of the sums: the bytes that it stores as those of its children are those one key below.
-use Rattle.std.proofs.Common.{◌≡◌, ℕ, zero, suc, ◌<◌, Bool, false, not, ◌&&◌, List, [], ◌∷◌, ◌++◌, length, get_or, sum_by, refl, sym, ap, ◌∙◌, arith, inl, inr, cond, eqb, ltb, eq-eqb, ne_eqb, lt-ltb, ◌+◌, ◌≤◌, ◌||◌, map, set, subst, length-set}
-use Rattle.allocative_collectors.proofs.Common.{Key, Path, key_cmp, path_cmp, is_same_path, Sum, root_sum, sum_at, path_at, map_of, Shape, no_shape, at, sums, key_at, parent_at, bytes_at, below_at, share, IsArena, is_one_below, is_root, below, leaf, IsChild, keys_at, children_at, key_in, shape, sums_of, IsTree, Listed}
+-- What a read of a node says of the arena and of the sums: the bytes of its children are those one key below its path.
+use Rattle.std.proofs.Common.{◌≡◌, ◌≢◌, ℕ, zero, suc, ◌<◌, Bool, false, not, ◌&&◌, List, [], ◌∷◌, ◌++◌, length, get_or, sum_by, refl, sym, ap, ◌∙◌, arith, inl, inr, cond, ltb, lt-ltb, ◌+◌, ◌≤◌, ◌||◌, map, set, subst, length-set, get_or-set_same, get_or-set_other}
+use Rattle.allocative_collectors.proofs.Common.{Key, Path, key_cmp, path_cmp, is_same_path, Sum, root_sum, sum_at, path_at, map_of, Shape, no_shape, at, sums, key_at, parent_at, bytes_at, IsArena, is_one_below, is_root, below, leaf, IsChild, keys_at, children_at, key_in, shape, sums_of, IsTree, Listed}
 use Rattle.std.specs.Ordering.{eq_by_cmp}
 use Rattle.std.proofs.lemmas.Cmp.{eq_by_cmp_equiv}
 use Rattle.std.proofs.Math.Bool.{and-false}
-use Rattle.std.proofs.lemmas.List.Sums.{sum_by-cons}
+use Rattle.std.proofs.lemmas.List.Sums.{sum_by-cons, sum_by-set}
 use Rattle.std.proofs.lemmas.Bool.{cases_eq, cond-true, cond-false}
 use Rattle.allocative_collectors.proofs.Entries.{IsListing, below_listed, not_below_root}
 use Rattle.allocative_collectors.proofs.Labels.{length_sums, figures-grow, root_at, step, distinct, raise_shape}
 use Rattle.std.specs.List.{insert}
 use Rattle.std.proofs.lemmas.List.{get_or-map, length-map, map-set, map_push, set-get_or}
 use Rattle.allocative_collectors.specs.declared.tree.Node.{Node}
+use Rattle.allocative_collectors.specs.Chunked.{numbers}
 use Rattle.allocative_collectors.specs.Listed.{total}
-use Rattle.allocative_collectors.proofs.Keys.{touched, key_total, same_path-same, same_path-apart, tied}
-use Rattle.allocative_collectors.proofs.Raised.{more_below, raised, bytes_le_total, below_le_total}
+use Rattle.allocative_collectors.proofs.Keys.{key_not_before, key_total, same_path-same, same_path-apart, tied}
+use Rattle.allocative_collectors.proofs.Raised.{raised, bytes_le_total}
 use Rattle.allocative_collectors.proofs.Grown.{with_children, grown}
 
 -- two sums are equal where their terms are
@@ -41,30 +42,69 @@ listing ns ok = record {
   apart = λ i j hi hj. distinct ns ok i j (omega (arith, length_sums ns)) (omega (arith, length_sums ns));
 }
 
+-- numbers of a list that are all different, and the places of which alone have a size, have its whole sum
+all_zero : {X : Type 0} (f : X → ℕ) (d : X) (ys : List X) → ((i : ℕ) → i < length ys → f (get_or ys i d) ≡ 0) → sum_by f ys ≡ 0
+all_zero f d [] none = refl
+all_zero f d (y ∷ ys) none =
+    let first : f y ≡ 0 = none 0 (omega arith) in
+    omega (arith, sum_by-cons f y ys, first, all_zero f d ys (λ i h. none (suc i) (omega arith)))
+
+abbrev Apart : List ℕ → Type 0
+Apart xs = (a b : ℕ) → a < b → b < length xs → get_or xs a 0 ≢ get_or xs b 0
+
+sum_at_numbers : {X : Type 0} (f : X → ℕ) (d : X) → f d ≡ 0 → (ys : List X) (xs : List ℕ) → ((a : ℕ) → a < length xs → get_or xs a 0 < length ys) → Apart xs
+    → ((i : ℕ) → i < length ys → ((a : ℕ) → a < length xs → get_or xs a 0 ≢ i) → f (get_or ys i d) ≡ 0) → sum_by (λ i. f (get_or ys i d)) xs ≡ sum_by f ys
+sum_at_numbers f d none ys [] within apart others = sym (all_zero f d ys (λ i h. others i h (λ a lt. absurd (omega arith))))
+sum_at_numbers f d none ys (x ∷ xs) within apart others =
+    let hx : x < length ys = within 0 (omega arith) in
+    let rest = set ys x d in
+    let len = length-set ys x d in
+    let other : (a : ℕ) → a < length xs → get_or xs a 0 ≢ x = λ a h e. apart 0 (suc a) (omega arith) (omega arith) (sym e) in
+    let same = same_sum (λ i. f (get_or ys i d)) (λ i. f (get_or rest i d)) 0 0 xs xs refl (λ a h. ap f (sym (get_or-set_other ys x (get_or xs a 0) d d (other a h)))) in
+    let more = sum_at_numbers f d none rest xs (λ a h. let lt : get_or xs a 0 < length ys = within (suc a) (omega arith) in omega arith) (λ a b lt h. apart (suc a) (suc b) (omega arith) (omega arith))
+    (λ i h absent. elim (cases_eq i x) [
+      | inl e ↦ ap f (ap (λ (q : ℕ). get_or rest q d) e ∙ get_or-set_same ys x d d hx) ∙ none
+      | inr ne ↦ ap f (get_or-set_other ys x i d d ne) ∙ others i (omega arith) (missing x xs i ne absent)
+    ]) in
+    omega (arith, sum_by-cons (λ i. f (get_or ys i d)) x xs, sum_by-set f ys x d d hx, none, same, more)
+  where
+    missing : (x : ℕ) (xs : List ℕ) (i : ℕ) → i ≢ x → ((a : ℕ) → a < length xs → get_or xs a 0 ≢ i) → (a : ℕ) → a < length (x ∷ xs) → get_or (x ∷ xs) a 0 ≢ i
+    missing x xs i ne absent zero h e = ne (sym e)
+    missing x xs i ne absent (suc a) h e = absent a (omega arith) e
+
 module _ (ns : List Shape) (ok : IsArena ns) (i : ℕ) (hi : i < length ns) where
-  -- the bytes of a node below a path, with its own path and bytes
-  abbrev part : Path → ℕ → ℕ
-  part q n = cond (is_one_below (path_at (sums ns) i) q) n 0
+  -- the bytes of a sum that is one key below node i
+  abbrev part : Sum → ℕ
+  part e = cond (is_one_below (path_at (sums ns) i) e.path) e.bytes 0
 
-  term : (j : ℕ) → j < length ns → share i (at ns j) ≡ (let e = sum_at (sums ns) j in part e.path e.bytes)
-  term zero h =
-      let none : share i (at ns 0) ≡ 0 = elim (cases_eq (parent_at ns 0) i) [
-        | inl same ↦ cond-true (eqb (parent_at ns 0) i) _ _ (eq-eqb (parent_at ns 0) i same) ∙ ok.root_empty
-        | inr other ↦ cond-false (eqb (parent_at ns 0) i) _ _ (ne_eqb (parent_at ns 0) i other)
-      ] in
-      none ∙ sym ((λ k. part (root_at ns k) ((figures-grow [] ns 0).0 k)) ∙ ap (λ (b : Bool). cond b (bytes_at ns 0) 0) (not_below_root (path_at (sums ns) i)))
-  term (suc j) h =
-      let q = parent_at ns (suc j) in
-      let lt = ok.parents (suc j) (omega arith) h in
-      let right = (λ k. part (step ns ok (suc j) (omega arith) h k) ((figures-grow [] ns (suc j)).0 k))
-      ∙ ap (λ (b : Bool). cond b (bytes_at ns (suc j)) 0) (step_push (path_at (sums ns) i) (path_at (sums ns) q) (key_at ns (suc j))) in
-      elim (cases_eq q i) [
-        | inl same ↦ cond-true (eqb q i) _ _ (eq-eqb q i same) ∙ sym (right ∙ cond-true _ _ _ (same_path-same _ _ (ap (path_at (sums ns)) same)))
-        | inr other ↦ cond-false (eqb q i) _ _ (ne_eqb q i other) ∙ sym (right ∙ cond-false _ _ _ (same_path-apart _ _ (λ s. other (distinct ns ok q i (omega arith) hi s))))
-      ]
+  -- a node other than the root has a part where its parent is i
+  part_is : (j : ℕ) → 0 < j → j < length ns → part (sum_at (sums ns) j) ≡ cond (is_same_path (path_at (sums ns) (parent_at ns j)) (path_at (sums ns) i)) (bytes_at ns j) 0
+  part_is j pos h =
+      (λ k. cond (is_one_below (path_at (sums ns) i) (step ns ok j pos h k)) ((figures-grow [] ns j).0 k) 0)
+      ∙ ap (λ (b : Bool). cond b (bytes_at ns j) 0) (step_push (path_at (sums ns) i) (path_at (sums ns) (parent_at ns j)) (key_at ns j))
 
-  pub below_is : below_at ns i ≡ below (map_of (sums ns)) (path_at (sums ns) i)
-  below_is = ok.below i ∙ (same_sum (share i) (λ (e : Sum). part e.path e.bytes) no_shape root_sum ns (sums ns) (sym (length_sums ns)) term ∙ below_listed (sums ns) (listing ns ok) (path_at (sums ns) i))
+  part_child : (j : ℕ) → IsChild ns i j → part (sum_at (sums ns) j) ≡ bytes_at ns j
+  part_child j c = part_is j c.not_root c.in_range ∙ cond-true _ _ _ (same_path-same _ _ (ap (path_at (sums ns)) c.parent))
+
+  part_other : (j : ℕ) → j < length ns → (IsChild ns i j → ⊥) → part (sum_at (sums ns) j) ≡ 0
+  part_other zero h not = ap (λ (b : Bool). cond b (sum_at (sums ns) 0).bytes 0) (ap (is_one_below (path_at (sums ns) i)) (root_at ns) ∙ not_below_root (path_at (sums ns) i))
+  part_other (suc j) h not =
+      part_is (suc j) (omega arith) h
+      ∙ cond-false _ _ _ (same_path-apart _ _ (λ s. not (record { not_root = omega arith; in_range = h; parent = distinct ns ok _ i (omega (arith, ok.parents (suc j) (omega arith) h)) hi s })))
+
+  apart : Apart (children_at ns i)
+  apart a b lt h e =
+      let len = length-map (children_at ns i) (key_at ns) in
+      key_not_before _ _ (get_or-map (key_at ns) (children_at ns i) a 0 [] (omega arith) ∙ (ap (key_at ns) e ∙ sym (get_or-map (key_at ns) (children_at ns i) b 0 [] h))) (ok.rise i a b lt (omega arith))
+
+  pub below_is : sum_by (bytes_at ns) (children_at ns i) ≡ below (map_of (sums ns)) (path_at (sums ns) i)
+  below_is =
+      let xs = children_at ns i in
+      let child : (a : ℕ) → a < length xs → IsChild ns i (get_or xs a 0) = λ a h. ok.children i a 0 h in
+      same_sum (bytes_at ns) (λ j. part (sum_at (sums ns) j)) 0 0 xs xs refl (λ a h. sym (part_child _ (child a h)))
+      ∙ (sum_at_numbers part root_sum (ap (λ (b : Bool). cond b 0 0) (not_below_root (path_at (sums ns) i))) (sums ns) xs (λ a h. omega (arith, length_sums ns, (child a h).in_range)) apart
+      (λ j h absent. part_other j (omega (arith, length_sums ns)) (λ c. let s = ok.listed i j c in absent s.place s.in_range s.is))
+      ∙ below_listed (sums ns) (listing ns ok) (path_at (sums ns) i))
 
 is_root-push : (p : Path) (k : Key) → is_root (p ++ k ∷ []) ≡ false
 is_root-push [] k = refl
@@ -89,7 +129,7 @@ module _ (items : List Node) where
   pub shape_read : (i : ℕ) (n : Node) → i < length items → n ≡ get_or items i n → at (map shape items) i ≡ shape n
   shape_read i n h read = get_or-map shape items i n no_shape h ∙ ap shape (sym read)
 
-  pub children_read : (p : ℕ) (n : Node) → p < length items → n ≡ get_or items p n → children_at (map shape items) p ≡ n.children.items
+  pub children_read : (p : ℕ) (n : Node) → p < length items → n ≡ get_or items p n → children_at (map shape items) p ≡ numbers n.children
   children_read p n h read = ap (λ (s : Shape). s.children) (shape_read p n h read)
 
   -- the child at place j, and its key
@@ -123,57 +163,39 @@ same_tree items i n m h read same ok = tree_of (set items i m) (same_shapes item
 abbrev pub raise_node : ℕ → Bool → Node → Node
 raise_node size b n = record n { bytes = n.bytes + size; is_unique = b }
 
-abbrev pub below_node : ℕ → Node → Node
-below_node size n = record n { below = n.below + size }
-
--- an entry at the node i, which was read as n: the node's bytes and those below its parent, which was read as m, are within the total
-module _ (items : List Node) (ok : IsTree items) {v : Listed} (view : sums_of items ≡ v) (i : ℕ) (pos : 0 < i) (h : i < length v) (n : Node) (read : n ≡ get_or items i n) where
+-- an entry at the node i, which was read as n
+module _ (items : List Node) {v : Listed} (view : sums_of items ≡ v) (i : ℕ) (h : i < length v) (n : Node) (read : n ≡ get_or items i n) where
   is : at (map shape items) i ≡ shape n
   is = shape_read items i n (in_nodes items i view h) read
-
-  pub parent_before : n.parent < i
-  parent_before = let same = ap (λ (s : Shape). s.parent) is in let lt = ok.arena.parents i pos (in_shapes items i view h) in omega arith
 
   pub bytes_fit : n.bytes ≤ total v
   bytes_fit = let same = ap (λ (s : Shape). s.bytes) is in omega (arith, bytes_le_total (map shape items) i (in_shapes items i view h), ap total view)
 
-  module _ (size : ℕ) (u b : Bool) (mark : b ≡ (n.is_unique || u)) (m : Node) (read_m : m ≡ get_or (set items i (raise_node size b n)) n.parent m) where
-    there : at (map shape (set items i (raise_node size b n))) n.parent ≡ shape m
-    there = shape_read (set items i (raise_node size b n)) n.parent m (omega (arith, parent_before, in_nodes items i view h, length-set items i (raise_node size b n))) read_m
-
-    pub below_fits : m.below ≤ total v
-    below_fits =
-        let kept : m.below ≡ below_at (map shape items) n.parent =
-        ap (λ (s : Shape). s.below) (sym there)
-        ∙ (ap (λ (l : List Shape). below_at l n.parent) (map-set shape items i (raise_node size b n)) ∙ touched (λ s. s.below) (map shape items) i (shape (raise_node size b n)) (ap (λ (s : Shape). s.below) (sym is)) n.parent) in
-        omega (arith, ok.arena.below n.parent, below_le_total (map shape items) n.parent, ap total view)
-
-    -- both writes, seen as shapes
-    pub raised_nodes : map shape (set (set items i (raise_node size b n)) n.parent (below_node size m)) ≡ raised (map shape items) i (parent_at (map shape items) i) size u
-    raised_nodes =
-        let one : shape (raise_node size b n) ≡ raise_shape size u (at (map shape items) i) = rw (mark, is) refl in
-        let mid : map shape (set items i (raise_node size b n)) ≡ set (map shape items) i (raise_shape size u (at (map shape items) i)) = map-set shape items i (raise_node size b n) ∙ ap (set (map shape items) i) one in
-        map-set shape (set items i (raise_node size b n)) n.parent (below_node size m)
-        ∙ (ap (λ (s : Shape). set (map shape (set items i (raise_node size b n))) n.parent (more_below size s)) (sym there)
-        ∙ (λ j. let q = sym is j in set (mid j) q.parent (more_below size (at (mid j) q.parent))))
+  -- the write, seen as shapes
+  pub raised_nodes : (size : ℕ) (u b : Bool) → b ≡ (n.is_unique || u) → map shape (set items i (raise_node size b n)) ≡ raised (map shape items) i size u
+  raised_nodes size u b mark =
+      let one : shape (raise_node size b n) ≡ raise_shape size u (at (map shape items) i) = rw (mark, is) refl in
+      map-set shape items i (raise_node size b n) ∙ ap (set (map shape items) i) one
 
 -- the two writes of a new node, seen as shapes
 pub grown_nodes : (items : List Node) (p : ℕ) → p < length items → (n : Node) → n ≡ get_or items p n → (k : Key) (g : ℕ) (m fresh : Node) → shape fresh ≡ leaf p k
-    → shape m ≡ with_children (insert n.children.items g (length items)) (shape n) → map shape (set items p m ++ fresh ∷ []) ≡ grown (map shape items) p k g
+    → shape m ≡ with_children (insert (numbers n.children) g (length items)) (shape n) → map shape (set items p m ++ fresh ∷ []) ≡ grown (map shape items) p k g
 grown_nodes items p hp n read k g m fresh fresh_is m_is =
     let is = shape_read items p n hp read in
     let same = m_is ∙ (λ j. (let s = sym is j in with_children (insert s.children g (sym (length-map items shape) j)) s)) in
     map_push shape (set items p m) fresh ∙ (λ j. (map-set shape items p m ∙ ap (set (map shape items) p) same) j ++ fresh_is j ∷ [])
 
 -- what the sums say of a node that was read
-pub figures_read : (items : List Node) (ok : IsTree items) (v : Listed) (view : sums_of items ≡ v) (i : ℕ) (h : i < length v) (n : Node) (read : n ≡ get_or items i n) → (let e = sum_at v i in (e.bytes ≡ n.bytes) × (e.is_unique ≡ n.is_unique) × (below (map_of v) e.path ≡ n.below) × (not (is_root e.path) ≡ ltb 0 i))
+pub figures_read : (items : List Node) (ok : IsTree items) (v : Listed) (view : sums_of items ≡ v) (i : ℕ) (h : i < length v) (n : Node) (read : n ≡ get_or items i n) → (let e = sum_at v i in (e.bytes ≡ n.bytes) × (e.is_unique ≡ n.is_unique) × (not (is_root e.path) ≡ ltb 0 i))
 figures_read items ok v view i h n read =
     let ns = map shape items in
-    let inside = in_shapes items i view h in
     let is = shape_read items i n (in_nodes items i view h) read in
-    subst (λ (s : Listed). (let e = sum_at s i in (e.bytes ≡ n.bytes) × (e.is_unique ≡ n.is_unique) × (below (map_of s) e.path ≡ n.below) × (not (is_root e.path) ≡ ltb 0 i))) view (
+    subst (λ (s : Listed). (let e = sum_at s i in (e.bytes ≡ n.bytes) × (e.is_unique ≡ n.is_unique) × (not (is_root e.path) ≡ ltb 0 i))) view (
       (figures-grow [] ns i).0 ∙ ap (λ (s : Shape). s.bytes) is,
       (figures-grow [] ns i).1 ∙ ap (λ (s : Shape). s.is_unique) is,
-      sym (below_is ns ok.arena i inside) ∙ ap (λ (s : Shape). s.below) is,
-      has_key ns ok.arena i inside,
+      has_key ns ok.arena i (in_shapes items i view h),
     )
+
+-- the bytes of the children of a node, read one by one
+pub below_read : (items : List Node) (ok : IsTree items) {v : Listed} (view : sums_of items ≡ v) (i : ℕ) → i < length v → sum_by (bytes_at (map shape items)) (children_at (map shape items) i) ≡ below (map_of v) (path_at v i)
+below_read items ok view i h = below_is (map shape items) ok.arena i (in_shapes items i view h) ∙ ap (λ (s : Listed). below (map_of s) (path_at s i)) view

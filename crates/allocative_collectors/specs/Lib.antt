@@ -1,4 +1,5 @@
 pub mod Listed
+pub mod Chunked
 pub mod Shapes
 pub mod Nodes
 pub mod Finishing

@@ -1,6 +1,7 @@
 -- The nodes of a tree, as shapes.
 use Rattle.std.specs.Prelude.{◌≡◌, List, length, map}
 use Rattle.allocative_collectors.specs.declared.tree.Node.{Node}
+use Rattle.allocative_collectors.specs.Chunked.{numbers}
 use Rattle.allocative_collectors.specs.Listed.{Listed}
 use Rattle.allocative_collectors.specs.Shapes.{Shape, sums, IsArena}
 
@@ -9,10 +10,9 @@ abbrev pub shape : Node → Shape
 shape n = record {
   key = n.key;
   parent = n.parent;
-  children = n.children.items;
+  children = numbers n.children;
   bytes = n.bytes;
   is_unique = n.is_unique;
-  below = n.below;
 }
 
 -- The sums that a tree's nodes stand for.

@@ -1,23 +1,22 @@
 -- An arena of nodes, as plain values.
-use Rattle.std.specs.Prelude.{◌≡◌, ℕ, ◌<◌, ◌≤◌, List, [], ◌∷◌, ◌++◌, Bool, false, ◌==◌, if◌then◌else◌, slice_index, slice_index_or, sum_by, length, map}
+use Rattle.std.specs.Prelude.{◌≡◌, ℕ, ◌<◌, ◌≤◌, List, [], ◌∷◌, ◌++◌, Bool, false, slice_index, slice_index_or, length, map}
 use Rattle.std.specs.List.{All}
 use Rattle.std.specs.declared.cmp.Ordering.TheVariants.{Less, Greater}
 use Rattle.allocative_graph.specs.Path.{Key, Path, key_cmp}
 use Rattle.allocative_collectors.specs.Listed.{Listed, Sum}
 
--- A node: its key, the number of its parent, the numbers of its children, the bytes entered at it, whether it was ever
--- entered as unique, and the bytes entered at its children.
+-- A node: its key, the number of its parent, the numbers of its children, the bytes entered at it, and whether it was
+-- ever entered as unique.
 pub record Shape : Type 0 where
   pub key : Key
   pub parent : ℕ
   pub children : List ℕ
   pub bytes : ℕ
   pub is_unique : Bool
-  pub below : ℕ
 
 -- A node with no bytes and no children.
 abbrev pub leaf : ℕ → Key → Shape
-leaf p k = record { key = k; parent = p; children = []; bytes = 0; is_unique = false; below = 0 }
+leaf p k = record { key = k; parent = p; children = []; bytes = 0; is_unique = false }
 
 -- The node that stands for a missing one.
 abbrev pub no_shape : Shape
@@ -64,10 +63,6 @@ children_at ns i = let n = at ns i in n.children
 abbrev pub bytes_at : List Shape → ℕ → ℕ
 bytes_at ns i = let n = at ns i in n.bytes
 
--- The bytes that node i stores as those entered at its children.
-abbrev pub below_at : List Shape → ℕ → ℕ
-below_at ns i = let n = at ns i in n.below
-
 -- The keys of the nodes that have the numbers xs.
 abbrev pub keys_of : List Shape → List ℕ → List Key
 keys_of ns xs = map (key_at ns) xs
@@ -75,14 +70,6 @@ keys_of ns xs = map (key_at ns) xs
 -- The keys of the children of node p.
 abbrev pub keys_at : List Shape → ℕ → List Key
 keys_at ns p = keys_of ns (children_at ns p)
-
--- The bytes of the node n where its parent is p, otherwise 0.
-abbrev pub share : ℕ → Shape → ℕ
-share p n = if n.parent == p then n.bytes else 0
-
--- The bytes of all nodes whose parent is p.
-abbrev pub below_of : ℕ → List Shape → ℕ
-below_of p ns = sum_by (share p) ns
 
 -- ---- the arena
 -- The key at place j.
@@ -99,6 +86,10 @@ pub record StandsIn (xs : List ℕ) (i : ℕ) : Type 0 where
   pub in_range : place < length xs
   pub is : slice_index xs place ≡ i
 
+-- The number i is in the list, and is that of a node with the key k.
+abbrev pub HasKey : List Shape → List ℕ → Key → ℕ → Type 0
+HasKey ns xs k i = StandsIn xs i × (key_at ns i ≡ k)
+
 -- Node i is not the root, and its parent is p.
 pub record IsChild (ns : List Shape) (p i : ℕ) : Type 0 where
   pub not_root : 0 < i
@@ -106,7 +97,7 @@ pub record IsChild (ns : List Shape) (p i : ℕ) : Type 0 where
   pub parent : parent_at ns i ≡ p
 
 -- The root comes first and has no bytes. Each other node comes after its parent and is one of its children. Children
--- are in the order of their keys, and each node stores the bytes of its children.
+-- are in the order of their keys.
 pub record IsArena (ns : List Shape) : Type 0 where
   pub rooted : 0 < length ns
   pub root_empty : bytes_at ns 0 ≡ 0
@@ -114,7 +105,6 @@ pub record IsArena (ns : List Shape) : Type 0 where
   pub listed : (p i : ℕ) → IsChild ns p i → StandsIn (children_at ns p) i
   pub children : (p : ℕ) → All (IsChild ns p) (children_at ns p)
   pub rise : (p : ℕ) → KeysRise (keys_at ns p)
-  pub below : (p : ℕ) → below_at ns p ≡ below_of p ns
 
 -- ---- a search
 -- The key k is missing, and belongs at place i: the keys before that place are smaller, those from it on are greater.

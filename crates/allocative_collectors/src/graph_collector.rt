@@ -132,6 +132,7 @@ impl GraphCollector {
     }
 
     // Leaves a visitor at the root: back to where its content was entered, or the root visitor is closed.
+    #[cold]
     #[inline(never)]
     fn leave_root(&mut self)
         requires { self.old.here ≡ [] }

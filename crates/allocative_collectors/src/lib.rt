@@ -5,6 +5,7 @@
 //! `FlameGraphOutput`, so its users need not name this crate. All sizes are in bytes.
 #![tactic(auto)]
 
+mod children;
 pub mod graph_collector;
 pub mod held_collector;
 pub mod output;

@@ -1,19 +1,22 @@
 //! The paths that were entered, as an arena of nodes that refer to one another by number.
-ghost use Rattle.std.specs.Prelude.{◌≡◌, ◌+◌, ◌^◌, ◌<◌, ◌≤◌, [], ◌∷◌, ◌++◌, length, map, IfOk, IfErr, IfSome, IfNone, OnOk, OnErr, IsTrue, ◌↔◌, false};
+ghost use Rattle.std.specs.Prelude.{◌≡◌, ◌+◌, ◌^◌, ◌<◌, ◌≤◌, [], ◌∷◌, ◌++◌, length, map, IfOk, IfErr, IfSome, IfNone, OnOk, OnErr, IsTrue, ◌↔◌, false, sum_by};
+ghost use Rattle.std.specs.List.{All};
 ghost use Rattle.allocative_graph.specs.Graph.{total as graph_total};
-ghost use Rattle.allocative_graph.specs.Sums.{entered};
+ghost use Rattle.allocative_graph.specs.Sums.{entered, below as bytes_below};
+ghost use Rattle.allocative_graph.specs.Path.{key_cmp};
 ghost use Rattle.allocative_graph.specs.Visits.{IsProfile};
 ghost use Rattle.allocative_collectors.specs.Listed.{root_sum, put, total, path_at, map_of, IsEntered, IsAbove};
 ghost use Rattle.allocative_collectors.specs.Finishing.{size_at_place, is_short, MakesGraph, MakesGraphAlone};
-ghost use Rattle.allocative_collectors.specs.Shapes.{leaf, keys_at, key_at, IsChild, IsKeyGap};
+ghost use Rattle.allocative_collectors.specs.Shapes.{leaf, bytes_at, keys_of, key_at, KeysRise, HasKey, IsKeyGap};
+ghost use Rattle.allocative_collectors.specs.Chunked.{numbers, flat, IsPlace, IsPlaceIn, place_in, flat_place};
 ghost use Rattle.allocative_collectors.specs.Nodes.{shape, IsTree};
 ghost use Rattle.allocative_collectors.specs.Warned.{warning_of};
 
+use crate::children::{Children, Chunk, Place};
 use crate::output::{FlameGraphOutput, WarnedPath};
-use allocative_graph::flamegraph::FlameGraph;
+use allocative_graph::flamegraph::{FlameGraph, push_child};
 use allocative_graph::key::Key;
 use allocative_graph::refusal::Refusal;
-use smallvec::SmallVec;
 use std::alloc::{AllocError, Global};
 use std::cmp::Ordering;
 use std::marker::Model;
@@ -23,11 +26,9 @@ use std::marker::Model;
 struct Node {
     key: Key,
     parent: usize,
-    /// The numbers of the nodes one key below, in the order of their keys. Up to four are stored in the node itself.
-    children: SmallVec<u32, 4>,
+    /// The numbers of the nodes one key below, in the order of their keys.
+    children: Children,
     bytes: usize,
-    /// The bytes of the children.
-    below: usize,
     /// The child that was entered last.
     last: u32,
     /// The child that is expected next. It is a guess, and is tested before it is used.
@@ -45,9 +46,8 @@ impl Node {
         Node {
             key,
             parent,
-            children: SmallVec::new(alloc),
+            children: Children::new(alloc),
             bytes: 0,
-            below: 0,
             last: 0,
             next: 0,
             follower: 0,
@@ -156,57 +156,63 @@ impl Tree {
             return Ok(leaf);
         }
         let node = &self.nodes[at];
-        let mut graph = FlameGraph::with_capacity(self.alloc, node.children.len())?;
-        graph.add_self(self.size(at))?;
-        if self.is_short(at) {
-            push_warned(keys.as_slice(), node.bytes, node.below, warned)?;
+        let mut room = Vec::new(self.alloc);
+        let children = node.children.list(&mut room)?;
+        let size_below = bytes_of(&self.nodes, children);
+        let mut graph = FlameGraph::with_capacity(self.alloc, children.len())?;
+        graph.add_self(self.size(at, size_below))?;
+        if self.is_short(at, size_below) {
+            push_warned(keys.as_slice(), node.bytes, size_below, warned)?;
         }
-        for &child in node.children.as_slice() {
+        for &child in children {
             let key = &self.nodes[child as usize].key;
             keys.push(key.as_str())?;
             let below = self.make(child as usize, keys, warned)?;
-            graph.add_child(key.copy(), below)?;
+            push_child(&mut graph, key.copy(), below)?;
             let _ = keys.pop();
         }
         Ok(graph)
     }
 
-    /// The graph of a node that has no children and no warning. It allocates nothing.
+    /// The graph of a node that has no children, and so no warning. It allocates nothing.
     #[inline(always)]
     fn leaf(&self, at: usize) -> Option<FlameGraph>
         requires { at < length self.now }
         ensures { IfSome result (λ graph. MakesGraphAlone self.now at graph) }
     {
-        if !self.nodes[at].children.is_empty() || self.is_short(at) {
+        let node = &self.nodes[at];
+        if !node.children.is_empty() {
             return None;
         }
         let mut graph = FlameGraph::default(self.alloc);
-        match graph.add_self(self.size(at)) {
+        match graph.add_self(node.bytes) {
             Ok(()) => Some(graph),
             Err(_) => None,
         }
     }
 
-    /// The size that the graph has at the path of a node.
-    fn size(&self, at: usize) -> usize
-        requires { at < length self.now }
+    /// The size that the graph has at the path of a node whose children have `size_below` bytes.
+    fn size(&self, at: usize, size_below: usize) -> usize
+        requires within { at < length self.now }
+        requires below { size_below ≡ bytes_below (map_of self.now) (path_at self.now at) }
         ensures { result ≡ size_at_place self.now at }
     {
         let node = &self.nodes[at];
         if node.is_unique {
             node.bytes
         } else {
-            node.bytes.saturating_sub(node.below)
+            node.bytes.saturating_sub(size_below)
         }
     }
 
-    /// Whether a node has a warning.
-    fn is_short(&self, at: usize) -> bool
-        requires { at < length self.now }
+    /// Whether a node whose children have `size_below` bytes has a warning.
+    fn is_short(&self, at: usize, size_below: usize) -> bool
+        requires within { at < length self.now }
+        requires below { size_below ≡ bytes_below (map_of self.now) (path_at self.now at) }
         ensures { result ≡ is_short self.now at }
     {
         let node = &self.nodes[at];
-        at != 0 && !node.is_unique && node.bytes < node.below
+        at != 0 && !node.is_unique && node.bytes < size_below
     }
 
     /// The child of the node `at` that has the key. It is made where there is none.
@@ -268,14 +274,15 @@ impl Tree {
     }
 
     /// The child of the node `at` that has the key, found by a search. It is made where there is none.
+    #[cold]
     #[inline(never)]
     fn search_child(&mut self, at: usize, key: &Key) -> Result<usize, AllocError>
         requires { at < length self.old }
         ensures entered { IfOk result (IsEntered self.old self.new at key.now 0 false) }
         ensures err { OnErr result (self.new ≡ self.old) }
     {
-        match find(&self.nodes, at, key) {
-            Ok(child) => Ok(child),
+        match find(&self.nodes, &self.nodes[at].children, key) {
+            Ok(child) => Ok(child as usize),
             Err(place) => {
                 let node = self.nodes.len();
                 let Ok(number) = u32::try_from(node) else {
@@ -300,9 +307,6 @@ impl Tree {
         let entered = &mut self.nodes[node];
         entered.bytes += size;
         entered.is_unique = entered.is_unique || is_unique;
-        let at = entered.parent;
-        let parent = &mut self.nodes[at];
-        parent.below += size;
     }
 }
 
@@ -315,31 +319,95 @@ fn guess(number: usize) -> u32
     u32::try_from(number).unwrap_or(0)
 }
 
-/// The child of the node `at` that has the key, or the place where the key belongs among the children, which are in the
-/// order of their keys.
-fn find(nodes: &[Node], at: usize, key: &Key) -> Result<usize, usize>
-    requires within { at < length nodes.now }
-    requires tree { IsTree nodes.now }
-    ensures found { IfOk result (λ i. IsChild (map shape nodes.now) at i × (key_at (map shape nodes.now) i ≡ key.now)) }
-    ensures absent { IfErr result (IsKeyGap (keys_at (map shape nodes.now) at) key.now) }
+/// How the key of a node compares with a key. A node that is missing has the empty key.
+fn compare(nodes: &[Node], number: u32, key: &Key) -> Ordering
+    ensures { result ≡ key_cmp (key_at (map shape nodes.now) number) key.now }
 {
-    let children = nodes[at].children.as_slice();
+    match nodes.get(number as usize) {
+        Some(node) => node.key.cmp(key),
+        None => "".cmp(key.as_str()),
+    }
+}
+
+/// The one of the children that has the key, or the place where the key belongs among them.
+fn find(nodes: &[Node], children: &Children, key: &Key) -> Result<u32, Place>
+    requires rise { KeysRise (keys_of (map shape nodes.now) (numbers children.now)) }
+    ensures found { IfOk result (HasKey (map shape nodes.now) (numbers children.now) key.now) }
+    ensures place { IfErr result (IsPlace children.now) }
+    ensures absent { IfErr result (λ place.
+        IsKeyGap (keys_of (map shape nodes.now) (numbers children.now)) key.now (flat_place children.now place)) }
+{
     // A key that comes in order needs one comparison.
-    let mut high = children.len();
-    if high != 0 && nodes[children[high - 1] as usize].key.cmp(key).is_lt() {
-        return Err(high);
+    if let Some((last, end)) = children.last()
+        && compare(nodes, last, key).is_lt()
+    {
+        return Err(end);
     }
-    let mut low = 0;
-    while low < high {
-        let middle = low + (high - low) / 2;
-        let child = children[middle] as usize;
-        match nodes[child].key.cmp(key) {
-            Ordering::Less => low = middle + 1,
-            Ordering::Equal => return Ok(child),
-            Ordering::Greater => high = middle,
-        }
+    match children {
+        Children::Few(list) => match find_in_list(nodes, list.as_slice(), key) {
+            Ok(number) => Ok(number),
+            Err(index) => Err(Place { chunk: 0, index }),
+        },
+        Children::Many(chunks) => find_in_chunks(nodes, chunks.as_slice(), key),
     }
-    Err(low)
+}
+
+/// The one of some numbers whose node has the key, or the place where the key belongs among them.
+fn find_in_list(nodes: &[Node], list: &[u32], key: &Key) -> Result<u32, usize>
+    requires rise { KeysRise (keys_of (map shape nodes.now) list.now) }
+    ensures found { IfOk result (HasKey (map shape nodes.now) list.now key.now) }
+    ensures absent { IfErr result (IsKeyGap (keys_of (map shape nodes.now) list.now) key.now) }
+{
+    match list.binary_search_by(
+        |number: &u32| -> Ordering
+            ensures { result ≡ key_cmp (key_at (map shape nodes.entry.now) number.entry.now) key.entry.now }
+        { compare(nodes, *number, key) },
+    ) {
+        Ok(place) => Ok(list[place]),
+        Err(place) => Err(place),
+    }
+}
+
+/// The same for numbers in chunks. First the chunk is found, by the key of its first number.
+fn find_in_chunks(nodes: &[Node], chunks: &[Chunk], key: &Key) -> Result<u32, Place>
+    requires rise { KeysRise (keys_of (map shape nodes.now) (flat chunks.now)) }
+    ensures found { IfOk result (HasKey (map shape nodes.now) (flat chunks.now) key.now) }
+    ensures place { IfErr result (IsPlaceIn chunks.now) }
+    ensures absent { IfErr result (λ place.
+        IsKeyGap (keys_of (map shape nodes.now) (flat chunks.now)) key.now (place_in chunks.now place)) }
+{
+    let after = match chunks.binary_search_by(
+        |chunk: &Chunk| -> Ordering
+            ensures { result ≡ key_cmp (key_at (map shape nodes.entry.now) chunk.entry.now.first) key.entry.now }
+        { compare(nodes, chunk.first, key) },
+    ) {
+        Ok(chunk) => return Ok(chunks[chunk].first),
+        Err(after) => after,
+    };
+    if after == 0 {
+        return Err(Place { chunk: 0, index: 0 });
+    }
+    let chunk = after - 1;
+    match find_in_list(nodes, chunks[chunk].rest.as_slice(), key) {
+        Ok(number) => Ok(number),
+        Err(index) => Err(Place {
+            chunk,
+            index: index + 1,
+        }),
+    }
+}
+
+/// The bytes of some nodes together.
+fn bytes_of(nodes: &[Node], numbers: &[u32]) -> usize
+    requires within { All (λ i. i < length nodes.now) numbers.now }
+    requires fits { sum_by (bytes_at (map shape nodes.now)) numbers.now < 2 ^ 63 }
+    ensures { result ≡ sum_by (bytes_at (map shape nodes.now)) numbers.now }
+{
+    let mut sum = 0;
+    for &number in numbers {
+        sum += nodes[number as usize].bytes;
+    }
+    sum
 }
 
 /// Appends the path `keys`, which has a warning, with its own bytes and those one key below. It is no part of the walk's

@@ -217,3 +217,7 @@ module _ (c : Child) {cs ds es : List Child} {i : ℕ} (same : ds ≡ cs) (missi
 
   pub weight_at_gap : weight es ≡ weight cs + total c.graph
   weight_at_gap = omega (arith, ap weight put, weight-split (take i cs) (drop i cs) c, ap weight parts ∙ weight-append (take i cs) (drop i cs))
+
+-- A child is put after all others.
+pub merged_last : (cs : List Child) (c : Child) → AreChildren cs → IsTree c.graph → AllBelow cs c.key → Merged true cs (c ∷ []) (cs ++ c ∷ [])
+merged_last cs c h t below = subst (λ (l : List Child). Merged true l (c ∷ []) (cs ++ c ∷ [])) (append-nil cs) (inserted cs [] c (subst AreChildren (sym (append-nil cs)) h) t below tt)

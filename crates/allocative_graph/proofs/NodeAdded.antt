@@ -1,10 +1,12 @@
 -- Nodes are trees, and add up where their own sizes and their children do.
 use Rattle.std.proofs.Common.{◌≡◌, ℕ, ◌+◌, ◌<◌, ◌^◌, Bool, true, cond, List, [], ◌∷◌, ◌++◌, length, length-append, Some, refl, unwrap_or, sym, ap, subst, subst₂, ◌∙◌, arith}
-use Rattle.allocative_graph.proofs.Common.{AllByRecursion, is_some, eq_by_cmp, get, contains_key, entries, len, len-entries, Child, Key, Path, key_cmp, Graph, IsTree, size_at, sum_of, total, under, node, rows_of, rows_of_child, AreChildren, IsNode, weight, size_under, AddsUp, AddsUpInPart, Added, Merged, entries-node, len-child}
+use Rattle.allocative_graph.proofs.Common.{AllByRecursion, is_some, eq_by_cmp, get, contains_key, entries, len, len-entries, Child, Key, Path, key_cmp, Graph, IsTree, size_at, sum_of, total, under, node, rows_of, rows_of_child, AreChildren, IsNode, weight, size_under, AddsUp, AddsUpInPart, Added, Merged, entries-node, len-child, is_eq, Less, keys_of, tied_itself, nat_list_cmp_total}
+use Rattle.allocative_graph.specs.Many.{ComesLast}
+use Rattle.allocative_graph.proofs.ChildMerged.{merged_last}
 use Rattle.allocative_graph.proofs.Basics.{on_test}
 use Rattle.allocative_graph.proofs.ChildLookup.{get-root, get-under, node_each, node_of_one}
 use Rattle.allocative_graph.proofs.ChildOrder.{one_child, first_tree}
-use Rattle.allocative_graph.proofs.ChildRows.{weight-one}
+use Rattle.allocative_graph.proofs.ChildRows.{weight-append, weight-one}
 use Rattle.allocative_graph.proofs.ChildSizes.{part_of_sum}
 use Rattle.allocative_graph.proofs.Graphs.{is_sum_of}
 use Rattle.allocative_graph.proofs.NodeSizes.{total-node}
@@ -40,6 +42,14 @@ added_under {all = all} {m = m} {cs = cs} {es = es} {g = g} c view a t h =
     let no_more : m + 0 ≡ m = omega arith in
     subst (λ f. Added all f (under c.key c.graph) (node m es)) view (subst₂ (λ f n. Added all (node m cs) f (node n es)) (node_of_one c) no_more (added_node all m 0 cs (c ∷ []) es a.children (one_child c t) h))
 
+-- What holds of each key below the root of a node holds of the keys of its children.
+each_child : (P : Key → Type 0) (cs : List Child) → AllByRecursion (λ (c : Child). IsTree c.graph) cs → ((l : Key) → is_some (size_under cs l []) ≡ true → P l) → AllByRecursion P (keys_of cs)
+each_child P [] t f = tt
+each_child P (c ∷ cs) t f = (
+  f c.key (subst (λ (b : Bool). is_some (cond b (get c.graph []) (size_under cs c.key [])) ≡ true) (sym (ap is_eq (tied_itself nat_list_cmp_total c.key))) t.0.root),
+  each_child P cs t.1 (λ l e. f l (on_test (λ b. is_some (cond b (get c.graph []) (size_under cs l [])) ≡ true) (eq_by_cmp key_cmp l c.key) (λ s. t.0.root) (λ s. e))),
+)
+
 pub rows_of_node : (n : ℕ) (cs : List Child) → AreChildren cs → len (node n cs) ≡ length (rows_of cs) + 1
 rows_of_node n cs h = omega (arith, len-entries (node n cs), ap length (entries-node n cs h.sorted))
 
@@ -59,6 +69,20 @@ module _ {n s : ℕ} {cs : List Child} {g : Graph} (view : node n cs ≡ g) (h :
 
   pub len_of_node : len g ≡ length (rows_of cs) + 1
   len_of_node = ap len (sym view) ∙ rows_of_node n cs h.children
+
+-- ---- a child that comes after all others
+module _ {n s : ℕ} {cs : List Child} {g : Graph} (view : node n cs ≡ g) (h : IsNode cs s n) (c : Child) (t : IsTree c.graph) (last : ComesLast g c.key) where
+  pushed : Merged true cs (c ∷ []) (cs ++ c ∷ [])
+  pushed = merged_last cs c h.children t (each_child (λ l. key_cmp l c.key ≡ Less) cs h.children.trees
+      (λ l e. last l [] (subst (λ (x : Graph). contains_key x (l ∷ []) ≡ true) view (ap is_some (get-under n cs l [] h.children.sorted) ∙ e))))
+
+  pub node_pushed : total g + total c.graph < 2 ^ 64 → IsNode (cs ++ c ∷ []) (s + total c.graph) n
+  node_pushed fits =
+      let more = weight-append cs (c ∷ []) in
+      record { children = pushed.children; exact = omega (arith, more, weight-one c, h.exact); fits = omega (arith, total_of_node view h, fits, h.exact) }
+
+  pub sum_pushed : node n (cs ++ c ∷ []) ≡ sum_of g (under c.key c.graph)
+  sum_pushed = added_sum (added_under c view h t pushed) refl
 
 -- ---- two nodes with the graphs g and h, whose children merge to es, also where equal lists are named
 module _ {g h : Graph} {m n s t : ℕ} {cs ds : List Child} (mine : node m cs ≡ g) (a : IsNode cs s m) (theirs : node n ds ≡ h) (b : IsNode ds t n) where

@@ -21,9 +21,11 @@ use std::collections::VecDeque;
 use std::marker::Model;
 use std::mem;
 
+mod in_order;
 mod many;
 mod reads;
 
+pub use in_order::push_child;
 pub use reads::Row;
 
 /// A map from paths of keys to sizes in bytes.

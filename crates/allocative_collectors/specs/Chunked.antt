@@ -1,0 +1,54 @@
+-- The numbers of a node's children, as one list or in chunks, and places among them.
+use Rattle.std.specs.Prelude.{◌≡◌, ℕ, ◌+◌, ◌-◌, ◌<◌, ◌≤◌, List, [], ◌∷◌, length, take, slice_index_or, zero, suc}
+use Rattle.std.specs.List.{flat_map}
+use Rattle.allocative_collectors.specs.declared.children.Children.{Children}
+use Rattle.allocative_collectors.specs.declared.children.Children.TheVariants.{Few, Many}
+use Rattle.allocative_collectors.specs.declared.children.Chunk.{Chunk}
+use Rattle.allocative_collectors.specs.declared.children.Place.{Place}
+
+-- The numbers of a chunk.
+abbrev pub numbers_in : Chunk → List ℕ
+numbers_in c = c.first ∷ c.rest.items
+
+-- The numbers of some chunks.
+abbrev pub flat : List Chunk → List ℕ
+flat cs = flat_map numbers_in cs
+
+-- All numbers.
+abbrev pub numbers : Children → List ℕ
+numbers (Few v) = v.items
+numbers (Many cs) = flat cs.items
+
+-- How many numbers stand before chunk i.
+abbrev pub before : List Chunk → ℕ → ℕ
+before cs i = length (flat (take i cs))
+
+-- The numbers of chunk i; none where there is no such chunk.
+abbrev pub chunk_at : List Chunk → ℕ → List ℕ
+chunk_at [] i = []
+chunk_at (c ∷ cs) zero = numbers_in c
+chunk_at (c ∷ cs) (suc i) = chunk_at cs i
+
+-- The place is that of a number of a chunk, or behind the last one.
+abbrev pub IsPlaceIn : List Chunk → Place → Type 0
+IsPlaceIn cs p = p.index ≤ length (chunk_at cs p.chunk)
+
+-- The same among all numbers. One list counts as one chunk.
+abbrev pub IsPlace : Children → Place → Type 0
+IsPlace (Few v) p = (p.chunk ≡ 0) × (p.index ≤ length v.items)
+IsPlace (Many cs) p = IsPlaceIn cs.items p
+
+-- A place in a chunk, as one among the numbers of all chunks.
+abbrev pub place_in : List Chunk → Place → ℕ
+place_in cs p = before cs p.chunk + p.index
+
+-- A place, as one among all numbers.
+abbrev pub flat_place : Children → Place → ℕ
+flat_place (Few v) p = p.index
+flat_place (Many cs) p = place_in cs.items p
+
+-- The number n is the last one, and i is the place behind it.
+pub record IsLast (xs : List ℕ) (n i : ℕ) : Type 0 where
+  pub some : 0 < length xs
+  pub is : slice_index_or xs (length xs - 1) 0 ≡ n
+  pub behind : i ≡ length xs
