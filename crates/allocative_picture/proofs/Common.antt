@@ -11,7 +11,6 @@ pub use Rattle.allocative_graph.specs.Representation.Node.{weight}
 pub use Rattle.allocative_graph.specs.declared.flamegraph.Child.{Child}
 pub use Rattle.allocative_picture.specs.Boxes.{is_drawn}
 pub use Rattle.allocative_picture.specs.Escape.{escaped_char}
-pub use Rattle.allocative_picture.specs.Marks.{mark_of}
 pub use Rattle.allocative_picture.specs.Page.{warning_lines}
 pub use Rattle.allocative_picture.specs.Rows.{RowData, before_in, row_from, row_of, rows_from, row_data}
 pub use Rattle.allocative_picture.specs.declared.row.Mark.{Mark}

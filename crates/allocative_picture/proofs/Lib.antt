@@ -5,3 +5,4 @@ pub mod Walking
 pub mod Geometry
 pub mod Counting
 pub mod Warnings
+pub mod Marking

@@ -1,25 +1,28 @@
 -- The rows of a graph are that of its root and then those of its children, one child after another.
-use Rattle.std.proofs.Common.{◌≡◌, refl, ℕ, ◌+◌, ◌<◌, ◌≤◌, ◌++◌, [], ◌∷◌, List, get_or, take, drop, length, length-append, arith, ap, sym, ◌∙◌, take-append-drop}
+use Rattle.std.proofs.Common.{◌≡◌, refl, ℕ, ◌+◌, ◌<◌, ◌≤◌, ◌++◌, [], ◌∷◌, List, Bor, get_or, take, drop, length, length-append, arith, ap, sym, ◌∙◌, take-append-drop}
 use Rattle.allocative_picture.proofs.Common.{entries, len, Child, Path, Graph, total, total_at, Figures, figures_behind, weight, Mark, RowData, row_of, row_from, rows_from}
-use Rattle.std.proofs.lemmas.List.{take_more, length-map}
+use Rattle.std.proofs.lemmas.List.{map-append, take_more, length-map}
 use Rattle.std.specs.FinMap.{len-entries}
 use Rattle.allocative_graph.specs.Reads.{node, rows_of}
 use Rattle.allocative_graph.specs.Representation.Children.{InOrder}
 use Rattle.allocative_graph.specs.Representation.NodeRows.{len-child}
 use Rattle.allocative_graph.specs.Representation.PathRows.{sum_of_rows}
 use Rattle.allocative_graph.proofs.ChildRows.{rows-more, weight-append, weight-one}
+use Rattle.allocative_graph.proofs.NodeText.{texts}
 use Rattle.allocative_graph.proofs.ReadRows.{child_read, figured, node_read}
 use Rattle.allocative_picture.specs.Rows as picture
 use Rattle.allocative_picture.proofs.Placing.{own_bytes, own-cons}
 
--- The second of two lists of rows begins behind the bytes of the first.
+-- A key that is pushed stands behind the others.
+pub pushed_key : (xs ys : List (Bor (List ℕ))) (k : Bor (List ℕ)) (key : List ℕ) → ys ≡ xs ++ k ∷ [] → k.now ≡ key → texts ys ≡ texts xs ++ key ∷ []
+pushed_key xs ys k key push is = rw (push, map-append) (ap (λ (l : List ℕ). texts xs ++ l ∷ []) is)
+
 rows_from-append : (M : Path → Mark) (b : ℕ) (fs gs : List Figures) → rows_from M b (fs ++ gs) ≡ rows_from M b fs ++ rows_from M (b + own_bytes fs) gs
 rows_from-append M b [] gs = ap (λ n. rows_from M n gs) (let e : b ≡ b + 0 = omega arith in e)
 rows_from-append M b (f ∷ fs) gs =
     let e : b + f.self_size + own_bytes fs ≡ b + own_bytes (f ∷ fs) = omega (arith, own-cons f fs) in
     ap (λ (s : List RowData). row_from M b f ∷ s) (rows_from-append M (b + f.self_size) fs gs ∙ ap (λ n. rows_from M (b + f.self_size) fs ++ rows_from M n gs) e)
 
--- The own bytes of figures are the sizes of their entries.
 own-figured : (t : Path → ℕ) (ks : Path) (rs : List (Path × ℕ)) → own_bytes (figured t ks rs) ≡ sum_of_rows rs
 own-figured t ks [] = omega arith
 own-figured t ks (r ∷ rs) = omega (arith, own-cons (record { path = ks ++ r.0; self_size = r.1; total_size = t r.0 }) (figured t ks rs), own-figured t ks rs)
@@ -28,7 +31,6 @@ own-figured t ks (r ∷ rs) = omega (arith, own-cons (record { path = ks ++ r.0;
 pub weight_more : (cs : List Child) (i : ℕ) (d : Child) → i < length cs → d ≡ get_or cs i d → weight (take (i + 1) cs) ≡ weight (take i cs) + total d.graph
 weight_more cs i d h at = rw (take_more cs i d h, ← at, weight-append (take i cs) (d ∷ []), weight-one d) refl
 
--- The first children have at most the bytes of all.
 pub weight_within : (cs : List Child) (i : ℕ) → weight (take i cs) ≤ weight cs
 weight_within cs i = omega (arith, weight-append (take i cs) (drop i cs), ap weight (take-append-drop i cs))
 

@@ -1,13 +1,23 @@
--- The marks of paths.
-use Rattle.std.specs.Prelude.{map}
+-- The marks of paths, by their bytes in another graph.
+use Rattle.std.specs.Prelude.{ℕ, ◌==◌, cond, Option, None, Some}
 use Rattle.allocative_graph.specs.Path.{Path}
-use Rattle.allocative_collectors.specs.Warned as held
-use Rattle.allocative_picture.specs.Rows.{warned_mark, changed_mark}
+use Rattle.allocative_graph.specs.Graph.{Graph, size_at, total_at}
 use Rattle.allocative_picture.specs.declared.row.Mark.{Mark}
+use Rattle.allocative_picture.specs.declared.row.Mark.TheVariants.{Plain, Changed}
+use Rattle.allocative_picture.specs.declared.row.Mark.TheVariants as mark
 use Rattle.allocative_picture.specs.declared.rows.Marks.{Marks}
 use Rattle.allocative_picture.specs.declared.rows.Marks.TheVariants.{Warned, Earlier}
 
--- The mark of a path.
-abbrev pub mark_of : Marks → Path → Mark
-mark_of (Warned ws) p = warned_mark (map held.warning_of ws.now) p
-mark_of (Earlier g) p = changed_mark g.now p
+-- The mark of a path with so many bytes of its own in the other graph, and so many with all below it.
+abbrev pub mark_with : Marks → ℕ → ℕ → Mark
+mark_with Warned own whole = cond (own == 0) Plain mark.Warned
+mark_with Earlier own whole = Changed whole
+
+-- The mark of a path, by its bytes in the graph g.
+abbrev pub mark_by : Marks → Graph → Path → Mark
+mark_by m g p = mark_with m (size_at g p) (total_at g p)
+
+-- The mark of a path, by its bytes in a graph where there is one, and else by none.
+abbrev pub mark_in : Marks → Option Graph → Path → Mark
+mark_in m None p = mark_with m 0 0
+mark_in m (Some g) p = mark_by m g p

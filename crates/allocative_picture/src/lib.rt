@@ -15,3 +15,4 @@ pub mod page;
 pub mod picture;
 pub mod row;
 mod rows;
+mod warned;

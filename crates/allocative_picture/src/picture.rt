@@ -2,7 +2,7 @@
 ghost use Rattle.std.specs.Prelude.{◌≡◌, ◌+◌, ◌^◌, ◌≤◌, ◌↔◌, IfOk, IfErr, IsErrOf, string_bytes, map};
 ghost use Rattle.allocative_graph.specs.Graph.{total};
 ghost use Rattle.allocative_picture.specs.Rows.{row_data, rows_of};
-ghost use Rattle.allocative_picture.specs.Marks.{mark_of};
+ghost use Rattle.allocative_picture.specs.Marks.{mark_by};
 ghost use Rattle.allocative_picture.specs.Picture.{drawing, drawing_of, profile_drawing, change_drawing};
 
 use crate::fixed::CLOSING;
@@ -10,6 +10,7 @@ use crate::options::Options;
 use crate::page::{Subject, levels, push_boxes, push_heading, push_opening, push_warnings};
 use crate::row::Row;
 use crate::rows::{Marks, Shown, push_rows, push_wide};
+use crate::warned::graph_of_warned;
 use allocative_graph::flamegraph::FlameGraph;
 use allocative_graph::refusal::Refusal;
 use std::alloc::{AllocError, Global};
@@ -25,8 +26,8 @@ pub fn picture(alloc: Global, graph: &FlameGraph, options: &Options<'_>) -> Resu
     let subject = Subject::Profile {
         bytes: graph.total_size(),
     };
-    let marks = Marks::Warned(options.warned);
-    Ok(draw_graph(alloc, subject, marks, graph, options)?)
+    let warned = graph_of_warned(alloc, options.warned)?;
+    Ok(draw_graph(alloc, subject, Marks::Warned, &warned, graph, options)?)
 }
 
 /// The picture of the change from one flame graph to another, as the text of an SVG document.
@@ -55,23 +56,24 @@ pub fn change_picture(
     }
     let mut both = before.clone()?;
     both.add(after.clone()?)?;
-    let marks = Marks::Earlier(before);
-    Ok(draw_graph(alloc, subject, marks, &both, options)?)
+    Ok(draw_graph(alloc, subject, Marks::Earlier, before, &both, options)?)
 }
 
-// The picture of the rows of a flame graph.
+// The picture of the rows of a flame graph, with the marks that another one gives.
 fn draw_graph(
     alloc: Global,
     subject: Subject,
-    marks: Marks<'_>,
+    marks: Marks,
+    other: &FlameGraph,
     graph: &FlameGraph,
     options: &Options<'_>,
 ) -> Result<String, AllocError>
     ensures { IfOk result
-        (λ made. string_bytes made ≡ drawing subject options.now (rows_of (mark_of marks.entry) graph.now)) }
+        (λ made. string_bytes made ≡ drawing subject options.now (rows_of (mark_by marks other.now) graph.now)) }
 {
     let shown = Shown {
         marks,
+        other,
         least: options.narrowest,
         all: subject.all(),
     };
@@ -79,7 +81,15 @@ fn draw_graph(
     let (mut before, mut paths) = (0, 0);
     // The contract of `total_size` says that all bytes fit a `usize`, so no sum below overflows.
     let _all = graph.total_size();
-    push_rows(&shown, graph, &mut path, &mut before, &mut paths, &mut wide)?;
+    push_rows(
+        &shown,
+        graph,
+        Some(other),
+        &mut path,
+        &mut before,
+        &mut paths,
+        &mut wide,
+    )?;
     draw_wide(alloc, subject, wide.as_slice(), paths, options)
 }
 

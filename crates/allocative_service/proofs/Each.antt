@@ -6,29 +6,13 @@ use Rattle.std.specs.declared.cmp.Ordering.TheVariants.{Less, Equal, Greater}
 use Rattle.std.specs.Ordering.{is_eq, is_lt}
 use Rattle.std.specs.Option.{is_some}
 use Rattle.std.proofs.lemmas.List.Elements.{filter-append}
-use Rattle.std.proofs.lemmas.List.Folds.{flat_map-map}
 use Rattle.std.specs.FinMap.{entries, get, get-entries, entries_sorted}
 use Rattle.std.specs.FinMap.Entries.{find, is_sorted, below_all}
 use Rattle.allocative.proofs.Basics.{same_path}
 use Rattle.allocative.proofs.Merge.{get-sum_of}
 use Rattle.allocative.specs.Path.{Path, path_cmp, is_same_path}
-use Rattle.allocative.specs.Graph.{size_at, sum_of, total_at}
-use Rattle.allocative.specs.Reads as reads
-use Rattle.allocative.specs.Row as read
-use Rattle.allocative_service.specs.Changes.{change_of, path_of}
-
--- The changes of the paths of some rows.
-abbrev pub changes_in : Graph → Graph → List read.Row → List Changed
-changes_in g h rs = flat_map (λ r. change_of g h (path_of r)) rs
-
--- The changes of the rows of a sum are the changes of its paths.
-pub changes_read : (g h : Graph) (rs : List read.Row) → map reads.row_figures rs ≡ reads.figures (sum_of g h) → changes_in g h rs ≡ changes_of g h
-changes_read g h rs e =
-    let of_figures : reads.Figures → List Changed = λ f. change_of g h f.path in
-    let es = entries (sum_of g h) in
-    sym (flat_map-map of_figures reads.row_figures rs) ∙ ap (flat_map of_figures) e
-    ∙ flat_map-map of_figures (λ (e : Path × ℕ). record { path = e.0; self_size = e.1; total_size = total_at (sum_of g h) e.0 }) es
-    ∙ sym (flat_map-map (change_of g h) (λ (e : Path × ℕ). e.0) es)
+use Rattle.allocative.specs.Graph.{size_at, sum_of}
+use Rattle.allocative_service.specs.Changes.{change_of}
 
 -- ---- the change of one path
 -- Whether a change is that of the path p.

@@ -6,3 +6,4 @@ mod Inserting
 mod Most
 mod Sums
 mod Using
+mod Walk

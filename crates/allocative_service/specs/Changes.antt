@@ -4,7 +4,6 @@ use Rattle.std.specs.List.Sorted.{IsPermutation}
 use Rattle.std.specs.FinMap.{keys}
 use Rattle.allocative.specs.Path.{Path, is_same_path}
 use Rattle.allocative.specs.Graph.{Graph, size_at, sum_of, joined}
-use Rattle.allocative.specs.Row.{Row}
 use Rattle.allocative_service.specs.declared.history.changes.Change.{Change}
 use Rattle.allocative_service.specs.declared.history.changes.Kind.{Kind}
 use Rattle.allocative_service.specs.declared.history.changes.Kind.TheVariants.{Grew, Shrank, Came, Went}
@@ -18,10 +17,6 @@ pub record Changed : Type 0 where
 -- What a `Change` of the code says.
 abbrev pub change_data : Change → Changed
 change_data c = record { path = map (λ k. k.now) c.path.items; earlier = c.earlier; later = c.later }
-
--- The path of a row of a graph.
-abbrev pub path_of : Row → Path
-path_of r = map (λ k. k.now) r.path.items
 
 -- The change of a path from g to h. There is none where its bytes are the same in both.
 abbrev pub change_of : Graph → Graph → Path → List Changed

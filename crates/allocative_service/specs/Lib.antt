@@ -5,4 +5,5 @@ pub mod Rejected
 pub mod Told
 pub mod Entries
 pub mod Changes
+pub mod Walk
 pub mod History

@@ -8,6 +8,7 @@ ghost use Rattle.allocative_service.specs.History.{profiles_of, most_of, two_of,
 
 pub mod changes;
 pub mod text;
+mod walk;
 
 pub use crate::history::changes::{Change, Kind, compare, grew_most};
 pub use crate::history::text::report;

@@ -3,9 +3,9 @@ ghost use Rattle.std.specs.Prelude.{◌≡◌, ◌+◌, ◌-◌, ◌^◌, ◌≤
 ghost use Rattle.allocative.specs.Graph.{total};
 ghost use Rattle.allocative_service.specs.Changes.{change_data, is_kind, growth, changes_of, HasEach, GrewMost};
 
-use allocative::{FlameGraph, Refusal, Row};
+use crate::history::walk::changes_of;
+use allocative::{FlameGraph, Refusal};
 use std::alloc::{AllocError, Global};
-use std::collections::VecDeque;
 
 /// A path whose own bytes differ between two profiles. A path that a profile does not have counts as 0 bytes there.
 #[derive(Drop)]
@@ -84,21 +84,7 @@ pub fn compare(
     }
     let mut both = earlier.clone()?;
     both.add(later.clone()?)?;
-    let mut rows = VecDeque::from(both.rows()?);
-    let mut changes = Vec::new(alloc);
-    while let Some(row) = rows.pop_front() {
-        let Row { path, .. } = row;
-        let before = earlier.size_at(path.as_slice());
-        let after = later.size_at(path.as_slice());
-        if before != after {
-            changes.push(Change {
-                path,
-                earlier: before,
-                later: after,
-            })?;
-        }
-    }
-    Ok(changes)
+    Ok(changes_of(alloc, &both, earlier, later)?)
 }
 
 /// The changes of the paths that grew most, up to a count, the greatest growth first. A path that had no bytes before

@@ -1,7 +1,8 @@
 use Rattle.std.proofs.Common.{◌≡◌, ◌++◌, map, ap, ◌∙◌, filter, arith}
-use Rattle.allocative_picture.proofs.Common.{figures_behind, is_drawn, len, mark_of, rows_from, row_data}
+use Rattle.allocative_picture.proofs.Common.{figures_behind, is_drawn, len, rows_from, row_data}
 use Rattle.allocative_graph.proofs.NodeText.{texts}
 use Rattle.allocative_picture.specs.Page.{all_of}
+use Rattle.allocative_picture.specs.Marks.{mark_by}
 use Rattle.allocative_picture.proofs.Placing.{rows_from-figures}
 use Rattle.allocative_picture.proofs.Walking.{length-rows_of}
 use Rattle.allocative_picture.proofs.picture.draw_graph.Goals as goal
@@ -9,7 +10,7 @@ use Rattle.allocative_picture.proofs.picture.draw_graph.Goals as goal
 -- The rows that are drawn are the wide ones among the graph's.
 pub returns : goal.returns
 returns c =
-    let M = mark_of c.args.marks in
+    let M = mark_by c.args.marks c.args.other.now in
     let g = c.args.graph.now in
     let least = c.args.options.now.narrowest in
     let paths : c.push_rows.new.paths ≡ len g = omega (arith, c.in_ok-push_rows.ensures.paths) in

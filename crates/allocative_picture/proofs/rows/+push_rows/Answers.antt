@@ -1,6 +1,5 @@
-use Rattle.std.proofs.Common.{rules, ◌≡◌, refl, ℕ, ◌+◌, ◌<◌, ◌++◌, [], ◌∷◌, List, Bor, map, arith, ap, sym, subst, append_assoc, ◌∙◌, filter, length, take_all}
-use Rattle.allocative_picture.proofs.Common.{is_drawn, len, Child, total, total_at, weight, RowData, row_data, rows_from, row_from, mark_of}
-use Rattle.std.proofs.lemmas.List.{map-append}
+use Rattle.std.proofs.Common.{rules, ◌≡◌, refl, ◌+◌, ◌<◌, ◌++◌, [], ◌∷◌, List, map, arith, ap, sym, subst, append_assoc, append-nil, ◌∙◌, filter, length, take_all}
+use Rattle.allocative_picture.proofs.Common.{is_drawn, len, Child, Path, total, total_at, weight, RowData, row_data, rows_from, row_from}
 use Rattle.std.proofs.lemmas.List.Elements.{filter-append}
 use Rattle.allocative_graph.proofs.NodeAdded.{rows_of_node}
 use Rattle.allocative_graph.specs.Graph.{size_at}
@@ -8,14 +7,15 @@ use Rattle.allocative_graph.specs.Reads.{rows_of}
 use Rattle.allocative_graph.proofs.NodeSizes.{total-node}
 use Rattle.allocative_graph.proofs.NodeText.{texts, popped}
 use Rattle.allocative_graph.proofs.ReadRows.{figured}
-use Rattle.allocative_picture.proofs.Walking.{weight_more, weight_within, rows_more, child_rows, node_rows}
+use Rattle.allocative_picture.specs.Marks.{mark_by}
+use Rattle.allocative_picture.proofs.Walking.{pushed_key, weight_more, weight_within, rows_more, child_rows, node_rows}
 use Rattle.allocative_picture.proofs.rows.+push_rows.Goals as goal
 
 -- The bytes before the children fit, since all bytes do.
 pub overflow_add-before : goal.overflow_add-before
 overflow_add-before t c =
     let cs = c.children-children.result.now in
-    omega (arith, ap total c.children-children.ensures.whole, total-node (size_at c.args.graph.now []) cs c.children-children.ensures.children.sorted, c.self_size.ensures, c.requires)
+    omega (arith, ap total c.children-children.ensures.whole, total-node (size_at c.args.graph.now []) cs c.children-children.ensures.children.sorted, c.self_size.ensures, c.requires.fits)
 
 -- A child has fewer paths, and its bytes fit with those before it.
 pub push_rows-requires : goal.push_rows-requires
@@ -25,9 +25,16 @@ push_rows-requires t c =
     let i = c.loop-child.child-index in
     let d = c.child-item.result in
     let small : len d.graph < len g = subst (λ (x : Child). len x.graph < len g) (sym c.child-item.is) (c.children-children.ensures.smaller i d (omega arith)) in
+    let M = mark_by c.args.shown.now.marks c.args.shown.now.other.now in
+    let ks = texts c.args.path.now.items in
+    let pushed : c.push.new.self.items ≡ c.args.path.now.items ++ c.as_str.result ∷ [] = rw (c.in_ok-push.ensures.items, c.loop-child.invariant.path) refl in
+    let behind_it = pushed_key _ _ c.as_str.result d.key pushed c.as_str.ensures in
     let falls = c.decreases in (
       omega (arith, small, falls),
-      omega (arith, ap total c.children-children.ensures.whole, total-node (size_at g []) cs c.children-children.ensures.children.sorted, c.self_size.ensures, c.requires, c.loop-child.invariant.before, weight_more cs i d (omega arith) c.child-item.is, weight_within cs (i + 1)),
+      (
+        omega (arith, ap total c.children-children.ensures.whole, total-node (size_at g []) cs c.children-children.ensures.children.sorted, c.self_size.ensures, c.requires.fits, c.loop-child.invariant.before, weight_more cs i d (omega arith) c.child-item.is, weight_within cs (i + 1)),
+        λ p. ap (λ (q : Path). M (q ++ p)) behind_it ∙ ap M (append_assoc ks (d.key ∷ []) p) ∙ c.requires.other (d.key ∷ p) ∙ c.below-below.ensures c.args.shown.now.marks p,
+      ),
     )
 
 -- The rows of one child more are appended.
@@ -38,13 +45,13 @@ loop-child-preserved t c =
     let cs = c.children-children.result.now in
     let i = c.loop-child.child-index in
     let d = c.child-item.result in
-    let M = mark_of c.args.shown.now.marks in
+    let M = mark_by c.args.shown.now.marks c.args.shown.now.other.now in
     let ks = texts c.args.path.now.items in
     let b = c.args.before.now + c.self_size.result in
     let wide = is_drawn c.args.shown.now.least c.args.shown.now.all in
     let start = map row_data c.push_wide.new.rows.items in
     let pushed : c.push.new.self.items ≡ c.args.path.now.items ++ c.as_str.result ∷ [] = rw (c.in_ok-push.ensures.items, c.loop-child.invariant.path) refl in
-    let behind_it : texts c.push.new.self.items ≡ ks ++ d.key ∷ [] = rw (pushed, map-append, c.as_str.ensures) refl in
+    let behind_it = pushed_key _ _ c.as_str.result d.key pushed c.as_str.ensures in
     let came = child_rows M b n g cs c.children-children.ensures.whole ks c.children-children.ensures.children.sorted i d (omega arith) c.child-item.is in
     record {
       path = popped _ _ _ c.as_str.result _ c.pop.ensures.rest c.push_rows.new.path.ok.0 (c.in_ok-push_rows.ensures.path ∙ pushed);
@@ -72,7 +79,7 @@ returns-clause-rows t c =
     let g = c.args.graph.now in
     let n = size_at g [] in
     let cs = c.children-children.result.now in
-    let M = mark_of c.args.shown.now.marks in
+    let M = mark_by c.args.shown.now.marks c.args.shown.now.other.now in
     let wide = is_drawn c.args.shown.now.least c.args.shown.now.all in
     let ks = texts c.args.path.now.items in
     let b = c.args.before.now in
@@ -80,7 +87,8 @@ returns-clause-rows t c =
     let root : RowData = row_from M b (record { path = ks; self_size = n; total_size = total g }) in
     let whole = node_rows M b n g cs c.children-children.ensures.whole ks c.children-children.ensures.children.sorted in
     let below : List RowData = rows_from M (b + n) (figured (total_at g) ks (rows_of cs)) in
-    let row : row_data c.row_from-row.result ≡ root = c.row_from-row.ensures ∙ ap (λ (p : List (Bor (List ℕ))). row_from M b (record { path = texts p; self_size = n; total_size = total g })) c.as_slice.ensures.value in
+    let mark : c.of-mark.result ≡ M ks = c.of-mark.ensures ∙ sym (c.requires.other []) ∙ ap M (append-nil ks) in
+    let row : row_data c.row_from-row.result ≡ root = c.row_from-row.ensures ∙ (λ j. row_from (λ _. mark j) b (record { path = texts (c.as_slice.ensures.value j); self_size = n; total_size = total g })) in
     c.loop-child.invariant.rows
     ∙ (λ j. map row_data c.push_wide.new.rows.items ++ filter wide (rows_from M (b + c.self_size.ensures j) (figured (total_at g) ks (rows_of (take_all c.loop-child.child-index cs (omega arith) j)))))
     ∙ ap (λ (rs : List RowData). rs ++ filter wide below) (c.in_ok-push_wide.ensures ∙ ap (λ (r : RowData). start ++ filter wide (r ∷ [])) row)

@@ -1,7 +1,8 @@
 use Rattle.std.proofs.Common.{◌≡◌, ◌+◌, ◌++◌, map, take, length, filter}
-use Rattle.allocative_picture.proofs.Common.{len, total_at, weight, row_data, rows_from, is_drawn, mark_of}
+use Rattle.allocative_picture.proofs.Common.{len, total_at, weight, row_data, rows_from, is_drawn}
 use Rattle.allocative_graph.specs.Reads.{rows_of}
 use Rattle.allocative_graph.proofs.ReadRows.{figured}
+use Rattle.allocative_picture.specs.Marks.{mark_by}
 use Rattle.allocative_picture.proofs.rows.+push_rows.Given as goal
 
 -- Each call is for a graph with fewer paths.
@@ -15,5 +16,5 @@ invariant-loop-child l = record {
   before : l.before ≡ l.initial.before + weight (take l.child-index l.children);
   paths : l.paths ≡ l.initial.paths + length (rows_of (take l.child-index l.children));
   rows : map row_data l.rows.items ≡ map row_data l.initial.rows.items
-      ++ filter (is_drawn l.shown.least l.shown.all) (rows_from (mark_of l.shown.marks) l.initial.before (figured (total_at l.graph) (map (λ k. k.now) l.initial.path.items) (rows_of (take l.child-index l.children))));
+      ++ filter (is_drawn l.shown.least l.shown.all) (rows_from (mark_by l.shown.marks l.shown.other.now) l.initial.before (figured (total_at l.graph) (map (λ k. k.now) l.initial.path.items) (rows_of (take l.child-index l.children))));
 }
