@@ -122,7 +122,6 @@ module _ {t new : Listed} {current : ℕ} {places : List ℕ} {n : ℕ} (ok : Is
     entered_is =
         omega (arith, ok.entered_is, entered.count, ap bag.entered (map_of-entered entered.is ok.rooted), entered-add (map_of t) one);
     total_is = omega (arith, ok.total_is, entered.count, total_entered entered.is);
-    bound = omega (arith, entered.fits, entered.count);
     rooted = omega (arith, length_entered entered.is, ok.rooted);
     root_path = path_entered entered.is 0 ok.rooted ∙ ok.root_path;
   }

@@ -104,6 +104,7 @@ module _ (ns : List Shape) (ok : IsArena ns) (p : ℕ) (hp : p < length ns) (k :
   arena_grown = record {
     rooted = omega (arith, length_grown);
     root_empty = before (λ n. n.bytes) refl 0 ok.rooted ∙ ok.root_empty;
+    root_parent = parent_before 0 ok.rooted ∙ ok.root_parent;
     parents = λ i pos h. elim (cases_eq i (length ns)) [
       | inl e ↦ rw e (rw (ap (λ (n : Shape). n.parent) at_leaf) hp)
       | inr ne ↦ let old : i < length ns = omega (arith, length_grown) in rw (parent_before i old) (ok.parents i pos old)

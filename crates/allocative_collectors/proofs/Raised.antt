@@ -39,6 +39,7 @@ module _ (ns : List Shape) (ok : IsArena ns) (i : ℕ) (pos : 0 < i) (hi : i < l
   arena_raised = record {
     rooted = omega (arith, length_raised, ok.rooted);
     root_empty = ap (λ (m : Shape). m.bytes) (get_or-set_other ns i 0 _ no_shape (λ e. omega arith)) ∙ ok.root_empty;
+    root_parent = parent_before 0 ∙ ok.root_parent;
     parents = λ j pj hj. rw (parent_before j) (ok.parents j pj (omega (arith, length_raised)));
     listed = λ p j c. subst (λ (xs : List ℕ). StandsIn xs j) (sym (children_before p))
         (ok.listed p j (record { not_root = c.not_root; in_range = omega (arith, length_raised, c.in_range); parent = sym (parent_before j) ∙ c.parent }));

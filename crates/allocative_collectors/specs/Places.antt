@@ -39,24 +39,23 @@ live t met current places is_rooted = record {
   open_visitors = length (back_at t current places is_rooted);
 }
 
--- The places are those of the list, which begins with the root. The bytes of all entries are n, which is below 2^63.
-pub record IsPlaced (t : Listed) (current : ℕ) (places : List ℕ) (n : ℕ) : Type 0 where
+-- The places are those of the list, which begins with the root. The bytes of all entries and `room` are 2^63 - 1.
+pub record IsPlaced (t : Listed) (current : ℕ) (places : List ℕ) (room : ℕ) : Type 0 where
   pub here : current < length t
   pub back : (j : ℕ) → j < length places → slice_index places j < length t
-  pub entered_is : n ≡ entered (map_of t)
-  pub total_is : n ≡ total t
-  pub bound : n < 2 ^ 63
+  pub entered_is : entered (map_of t) + room + 1 ≡ 2 ^ 63
+  pub total_is : total t + room + 1 ≡ 2 ^ 63
   pub rooted : 0 < length t
   pub root_path : path_at t 0 ≡ []
 
--- The bytes of all entries stay below 2^63: they were `was`, and are `now` with one more entry of n bytes under k at
--- the path of place `at`. The place of the entry is `node`.
+-- There was room for `was` bytes, and with one more entry of n bytes under k at the path of place `at` there is room
+-- for `now`. The place of the entry is `node`.
 pub record AddedAt (old new : Listed) (at : ℕ) (k : Key) (n : ℕ) (u : Bool) (was now : ℕ) (node : ℕ) : Type 0 where
-  pub fits : was + n < 2 ^ 63
-  pub count : now ≡ was + n
+  pub fits : n ≤ was
+  pub count : was ≡ now + n
   pub is : IsEntered old new at k n u node
 
--- An entry of n bytes, after `was` bytes, is refused with e. Either e is TooLarge and the bound would be exceeded, or e
--- is Memory and the bound would not be exceeded.
+-- An entry of n bytes is refused with e, where there is room for so many. Either e is TooLarge and there is no room, or
+-- e is Memory and there is.
 abbrev pub TellsWhy : ℕ → ℕ → Refusal → Type 0
-TellsWhy was n e = ((e ≡ TooLarge) × (2 ^ 63 ≤ was + n)) ⊎ ((e ≡ Memory) × (was + n < 2 ^ 63))
+TellsWhy room n e = ((e ≡ TooLarge) × (room < n)) ⊎ ((e ≡ Memory) × (n ≤ room))

@@ -1,5 +1,5 @@
 -- An arena of nodes, as plain values.
-use Rattle.std.specs.Prelude.{◌≡◌, ℕ, ◌<◌, ◌≤◌, List, [], ◌∷◌, ◌++◌, Bool, false, slice_index, slice_index_or, length, map}
+use Rattle.std.specs.Prelude.{◌≡◌, ℕ, ◌-◌, ◌^◌, ◌<◌, ◌≤◌, List, [], ◌∷◌, ◌++◌, Bool, false, slice_index, slice_index_or, length, map}
 use Rattle.std.specs.List.{All}
 use Rattle.std.specs.declared.cmp.Ordering.TheVariants.{Less, Greater}
 use Rattle.allocative_graph.specs.Path.{Key, Path, key_cmp}
@@ -96,11 +96,12 @@ pub record IsChild (ns : List Shape) (p i : ℕ) : Type 0 where
   pub in_range : i < length ns
   pub parent : parent_at ns i ≡ p
 
--- The root comes first and has no bytes. Each other node comes after its parent and is one of its children. Children
+-- The root comes first and has no bytes and no parent, which is the number 2^64 - 1. Each other node comes after its parent and is one of its children. Children
 -- are in the order of their keys.
 pub record IsArena (ns : List Shape) : Type 0 where
   pub rooted : 0 < length ns
   pub root_empty : bytes_at ns 0 ≡ 0
+  pub root_parent : parent_at ns 0 ≡ 2 ^ 64 - 1
   pub parents : (i : ℕ) → 0 < i → i < length ns → parent_at ns i < i
   pub listed : (p i : ℕ) → IsChild ns p i → StandsIn (children_at ns p) i
   pub children : (p : ℕ) → All (IsChild ns p) (children_at ns p)

@@ -31,8 +31,8 @@ pub struct GraphCollector {
     met: HashSet<Identity>,
     // Whether a root visitor is open.
     is_rooted: bool,
-    // The bytes of all entries.
-    entered: usize,
+    // The bytes that may still be entered: `isize::MAX` less those of all entries.
+    room: usize,
 }
 
 impl Model for GraphCollector {
@@ -47,7 +47,7 @@ impl Model for GraphCollector {
 
     ghost view = { λ c. live c.tree c.met.keys c.current c.places.items c.is_rooted };
 
-    ghost invariant = { λ c. IsPlaced c.tree c.current c.places.items c.entered };
+    ghost invariant = { λ c. IsPlaced c.tree c.current c.places.items c.room };
 }
 
 impl GraphCollector {
@@ -62,7 +62,7 @@ impl GraphCollector {
             places: Vec::new(alloc),
             met: HashSet::new(alloc),
             is_rooted: false,
-            entered: 0,
+            room: isize::MAX as usize,
         })
     }
 
@@ -79,7 +79,7 @@ impl GraphCollector {
         ensures kept { OnErr result (self.new ≡ self.old) }
     {
         let at = self.current;
-        self.current = add(&mut self.tree, &mut self.entered, at, key, size, is_unique)?;
+        self.current = add(&mut self.tree, &mut self.room, at, key, size, is_unique)?;
         Ok(())
     }
 
@@ -95,7 +95,7 @@ impl GraphCollector {
         ensures kept { OnErr result (self.new ≡ self.old) }
     {
         let at = self.current;
-        add(&mut self.tree, &mut self.entered, at, key, size, false)?;
+        add(&mut self.tree, &mut self.room, at, key, size, false)?;
         Ok(())
     }
 
@@ -174,28 +174,27 @@ impl GraphCollector {
     }
 }
 
-// One more entry under the node `at`, where the bytes fit. It returns the entry's node. The bound is tested before
+// One more entry under the node `at`, if `room` has its bytes, which are taken from it. It returns the entry's node. The bound is tested before
 // memory is allocated.
 #[inline(always)]
 fn add(
     tree: &mut Tree,
-    entered: &mut usize,
+    room: &mut usize,
     at: usize,
     key: &Key,
     size: usize,
     is_unique: bool,
 ) -> Result<usize, Refusal>
     requires within { at < length tree.old }
-    requires count { entered.old ≡ total tree.old }
-    requires bound { entered.old < 2 ^ 63 }
-    ensures ok { IfOk result (AddedAt tree.old tree.new at key.now size is_unique entered.old entered.new) }
-    ensures err { IfErr result (TellsWhy entered.old size) }
-    ensures kept { OnErr result ((tree.new ≡ tree.old) × (entered.new ≡ entered.old)) }
+    requires count { total tree.old + room.old + 1 ≡ 2 ^ 63 }
+    ensures ok { IfOk result (AddedAt tree.old tree.new at key.now size is_unique room.old room.new) }
+    ensures err { IfErr result (TellsWhy room.old size) }
+    ensures kept { OnErr result ((tree.new ≡ tree.old) × (room.new ≡ room.old)) }
 {
-    if size > isize::MAX as usize - *entered {
+    if size > *room {
         return Err(Refusal::TooLarge);
     }
     let node = tree.enter(at, key, size, is_unique)?;
-    *entered += size;
+    *room -= size;
     Ok(node)
 }

@@ -25,6 +25,7 @@ use std::marker::Model;
 #[derive(Drop)]
 struct Node {
     key: Key,
+    /// The number of the node one key above. That of the root is no number of a node, so it is nobody's child.
     parent: usize,
     /// The numbers of the nodes one key below, in the order of their keys.
     children: Children,
@@ -83,7 +84,7 @@ impl Tree {
         ensures { IfOk result (λ t. t ≡ root_sum ∷ []) }
     {
         let mut nodes = Vec::new(alloc);
-        nodes.push(Node::new(alloc, Key::new(""), 0))?;
+        nodes.push(Node::new(alloc, Key::new(""), usize::MAX))?;
         Ok(Tree { alloc, nodes })
     }
 
@@ -242,7 +243,7 @@ impl Tree {
     {
         match self.nodes.get(number) {
             // The length of `key` is mostly a constant of the caller. On the left it spares the comparison a call.
-            Some(node) => number != 0 && node.parent == at && *key == node.key,
+            Some(node) => node.parent == at && *key == node.key,
             None => false,
         }
     }

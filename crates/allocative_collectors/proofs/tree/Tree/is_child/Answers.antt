@@ -1,13 +1,13 @@
 -- A node with this parent and this key is the child, and no other node is.
-use Rattle.std.proofs.Common.{◌≡◌, ◌≢◌, ◌<◌, ◌↔◌, false, List, length, map, get_or, not, true≢false, arith, sym, ap, subst, ◌∙◌, eqb-true, eq-eqb}
-use Rattle.allocative_collectors.proofs.Common.{shape, Shape, Listed, IsEntered}
+use Rattle.std.proofs.Common.{◌≡◌, ◌≢◌, ◌-◌, ◌^◌, ◌<◌, ◌↔◌, false, List, length, map, get_or, true≢false, arith, sym, ap, subst, ◌∙◌, eqb-true}
+use Rattle.allocative_collectors.proofs.Common.{shape, Shape, Listed, IsEntered, parent_at}
 use Rattle.std.proofs.lemmas.List.{length-map}
 use Rattle.std.proofs.lemmas.Slice.Eq.{bytes_eq-Decides}
 use Rattle.allocative_collectors.specs.declared.tree.Node.{Node}
-use Rattle.allocative_collectors.proofs.NodeReads.{length_nodes, in_shapes, shape_read}
+use Rattle.allocative_collectors.proofs.NodeReads.{length_nodes, in_nodes, in_shapes, shape_read}
 use Rattle.allocative_collectors.proofs.Child.{was_entered, child_of}
 use Rattle.allocative_collectors.proofs.tree.Tree.is_child.Goals as goal
-use Rattle.allocative_collectors.proofs.tree.Tree.is_child.Goals.{In-Some, then-number-ne0, else-number-ne0}
+use Rattle.allocative_collectors.proofs.tree.Tree.is_child.Goals.{In-Some}
 
 -- The node that was read is the child exactly where it is not the root and its parent and its key are right.
 guess : (c : In-Some) → let n = c.in-Some.node.now in IsEntered c.args.self.now c.args.self.now c.args.at c.args.key.now 0 false c.args.number ↔ ((0 < c.args.number) × (n.parent ≡ c.args.at) × (n.key ≡ c.args.key.now))
@@ -27,26 +27,31 @@ guess c =
       (λ right. was_entered (map shape items) c.self.invariant.arena c.args.at here c.args.key.now i (record { not_root = right.0; in_range = deep; parent = parent ∙ right.1 }) (key ∙ right.2)),
     )
 
+-- the root's parent is no node
+not_root : (c : In-Some) → c.in-Some.node.now.parent ≡ c.args.at → c.args.number ≢ 0
+not_root c parent root =
+    let items = c.self.inside.nodes.items in
+    let n = c.in-Some.node.now in
+    let node = c.in-Some.ensures.lookup.3 in
+    let inside : c.args.number < length items = subst (λ (l : List Node). c.args.number < length l) c.deref.ensures.value node.0 in
+    let is = shape_read items c.args.number n inside (node.1 n ∙ ap (λ (l : List Node). get_or l c.args.number n) c.deref.ensures.value) in
+    let far : n.parent ≡ 2 ^ 64 - 1 = sym (ap (λ (s : Shape). s.parent) is) ∙ (ap (parent_at (map shape items)) root ∙ c.self.invariant.arena.root_parent) in
+    omega (arith, in_nodes items c.args.at c.self.view_is c.requires, c.self.inside.nodes.ok.0, far)
+
 pub returns-then-node-at : goal.returns-then-node-at
 returns-then-node-at c =
+    let here = (goal.at.returns-then-node-at c).In-Some in
     let n = c.in-Some.node.now in
     let same_keys = bytes_eq-Decides c.args.key.now n.key in
-    let tests : (c.args.number ≢ 0) × (n.parent ≡ c.args.at) = elim c.if-number-ne0.branch [
-      | then-number-ne0 w ↦ (w.if-number-ne0.true, eqb-true _ _ (sym w.value-is ∙ c.if-node-at.true))
-      | else-number-ne0 w ↦ absurd (true≢false (sym (sym w.value-is ∙ c.if-node-at.true) ∙ ap not (eq-eqb c.args.number 0 w.if-number-ne0.false)))
-    ] in
-    let not_root : c.args.number ≢ 0 = tests.0 in (
-      (λ same. (guess (goal.at.returns-then-node-at c).In-Some).1 (omega arith, tests.1, sym (same_keys.0 (sym c.eq.ensures ∙ same)))),
-      (λ entered. c.eq.ensures ∙ same_keys.1 (sym ((guess (goal.at.returns-then-node-at c).In-Some).0 entered).2)),
+    let some : c.args.number ≢ 0 = not_root here c.if-node-at.true in (
+      (λ same. (guess here).1 (omega arith, c.if-node-at.true, sym (same_keys.0 (sym c.eq.ensures ∙ same)))),
+      (λ entered. c.eq.ensures ∙ same_keys.1 (sym ((guess here).0 entered).2)),
     )
 
 pub returns-else-node-at : goal.returns-else-node-at
 returns-else-node-at c = (
-  (λ is. absurd (true≢false (sym is ∙ c.if-node-at.false))),
-  (λ entered. elim c.if-number-ne0.branch [
-    | then-number-ne0 w ↦ w.value-is ∙ eq-eqb c.in-Some.node.now.parent c.args.at ((guess (goal.at.returns-else-node-at c).In-Some).0 entered).1
-    | else-number-ne0 w ↦ absurd (omega (arith, w.if-number-ne0.false, entered.not_root))
-  ]),
+  (λ is. absurd (c.if-node-at.false (eqb-true _ _ is))),
+  (λ entered. absurd (c.if-node-at.false ((guess (goal.at.returns-else-node-at c).In-Some).0 entered).1)),
 )
 
 pub returns-in-None : goal.returns-in-None
