@@ -1,5 +1,5 @@
 -- The box of a row: its place and its element.
-use Rattle.std.specs.Prelude.{ℕ, ◌+◌, ◌-◌, ◌*◌, ◌/◌, ◌%◌, ◌==◌, ◌&&◌, Bool, not, cond, nat_lt, length, List, [], ◌∷◌, ◌++◌, codes, decimal}
+use Rattle.std.specs.Prelude.{ℕ, ◌+◌, ◌-◌, ◌*◌, ◌/◌, ◌%◌, ◌==◌, ◌&&◌, Bool, not, cond, nat_lt, max, length, List, [], ◌∷◌, ◌++◌, codes, decimal}
 use Rattle.std.specs.List.{concat}
 use Rattle.std.specs.Str.{bytes_eq}
 use Rattle.allocative_graph.specs.Path.{Key}
@@ -53,11 +53,12 @@ class_text Plain r = key_class r.depth r.key
 class_text Warned r = codes "warned"
 class_text (Changed before) r = change_class before (r.whole - before)
 
--- The classes that hide texts, in a window of 1000 pixels: both texts in a box below 24 pixels, and otherwise the
--- figure where it may not fit beside a key of so many bytes.
+-- The classes that hide texts, in a window of 1000 pixels: both texts in a box below 24 pixels or too narrow for a key of
+-- so many bytes, and otherwise the figure where it may not fit beside the key.
 unfoldable pub fit_text : ℕ → ℕ → List ℕ
 fit_text units bytes =
-    cond (nat_lt units 24000) (codes " thin brief") (cond (nat_lt units (1000 * (8 * bytes + 120))) (codes " brief") [])
+    cond (nat_lt units (1000 * max 24 (8 * bytes + 8))) (codes " thin brief")
+    (cond (nat_lt units (1000 * (8 * bytes + 120))) (codes " brief") [])
 
 -- ---- colours of a change
 -- One component of a colour. It is 236 where nothing changed, and reaches `full` where `change` is `all`.

@@ -41,7 +41,7 @@ unfoldable pub heading : List ℕ → Subject → ℕ → ℕ → List ℕ
 heading title s drawn paths =
     concat (codes "<text class=\"title\" x=\"8\" y=\"22\">" ∷ escaped title
     ∷ codes "</text>\n<text class=\"sum say\" x=\"8\" y=\"42\">" ∷ subject_text s ∷ codes "; " ∷ decimal drawn
-    ∷ codes " paths drawn, " ∷ decimal (paths - drawn) ∷ codes " too narrow</text>\n" ∷ TOOLS.now ∷ [])
+    ∷ codes " paths drawn, " ∷ decimal (paths - drawn) ∷ codes " too narrow even for zoom</text>\n" ∷ TOOLS.now ∷ [])
 
 -- The line of a path's warning at a height.
 unfoldable pub warning_line : ℕ → Warned → List ℕ

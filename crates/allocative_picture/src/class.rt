@@ -53,12 +53,13 @@ fn change_class(before: usize, after: usize) -> &'static str
 }
 
 /// The classes that hide the texts which do not fit into a box that is so many millionths wide, in a window of 1000
-/// pixels, with a key of so many bytes.
+/// pixels, with a key of so many bytes: the key and the figure, or the figure alone.
 #[tactic(auto, unfolding(crate::specs::Boxes::fit_text))]
 pub(crate) fn fit(units: u128, bytes: usize) -> &'static str
     ensures { result.now ≡ fit_text units bytes }
 {
-    if units < 24_000 {
+    let key = 24_u128.max(8 * bytes as u128 + 8);
+    if units < 1000 * key {
         " thin brief"
     } else if units < 1000 * (8 * bytes as u128 + 120) {
         " brief"

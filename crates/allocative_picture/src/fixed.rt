@@ -25,6 +25,7 @@ svg{font:12px ui-sans-serif,system-ui,"Segoe UI","DejaVu Sans",Helvetica,Arial,s
 .b.full>text,.b.full .n{fill:#fff;fill-opacity:1}
 @media(max-width:760px){.legend{display:none}}
 .warn{fill:#b3261e}
+@media(max-width:480px){.sum,.warn{font-size:8px}}
 .b.warned>rect{fill:#ffd9d4;stroke:#b3261e;stroke-width:2}
 .tool{cursor:pointer;fill:#3b5bdb}
 @media(prefers-color-scheme:dark){.paper{fill:#14171d}svg{fill:#e7eaf0}.sum{fill:#9aa3b2}.tool{fill:#8ea2ff}.b text{fill:#1d2330}.b rect{stroke:#14171d}.root text,.root rect{fill:#1d2330}.root rect{fill:#aab3c2}}
@@ -46,27 +47,40 @@ pub(crate) const LEGEND: &str =
 /// The script and the end of the document. A viewer that runs no script shows the same boxes.
 pub(crate) const CLOSING: &str = r#"<script><![CDATA[
 (function(){
-var svg=document.currentScript.ownerSVGElement,all=[].slice.call(svg.querySelectorAll('.b')),say=svg.querySelector('.say'),back=svg.querySelector('.back'),find=svg.querySelector('.find'),first=say.textContent,was=first;
+var svg=document.currentScript.ownerSVGElement,all=[].slice.call(svg.querySelectorAll('.b')),lines=[].slice.call(svg.querySelectorAll('.say,.warn')),say=svg.querySelector('.say'),back=svg.querySelector('.back'),find=svg.querySelector('.find'),first=say.textContent,was=first;
 function units(b,a){return Math.round(parseFloat(b.getAttribute(a))*1e4)}
 function key(b){return b.querySelector('title').textContent.split('\n')[0]}
 function above(b,z){return b.l<=z.l&&b.r>=z.r&&b.d<z.d}
 function path(z){return all.filter(function(b,i){return i>0&&(b===z||above(b,z))}).map(key).join(';')||'all'}
 function tell(b){return path(b)+'  \u00b7  '+b.querySelector('title').textContent.split('\n').slice(1).join('  \u00b7  ')}
-all.forEach(function(b){b.l=units(b,'x');b.r=b.l+units(b,'width');b.d=+b.getAttribute('y')});
+function squeeze(t){t.style.fontSize='';var room=svg.getBoundingClientRect().width-16,long=t.getComputedTextLength();
+if(room>0&&long>room)t.style.fontSize=parseFloat(getComputedStyle(t).fontSize)*room/long+'px'}
+function write(s){say.textContent=s;squeeze(say)}
+all.forEach(function(b){var t=b.querySelector('text').firstChild;b.t=t.nodeType===3?t:{data:''};b.k=b.t.data;b.l=units(b,'x');b.r=b.l+units(b,'width');b.d=+b.getAttribute('y')});
 function zoom(z){
 if(!z)return;
 all.forEach(function(b){var inside=b.l>=z.l&&b.r<=z.r&&b.d>=z.d,over=above(b,z);
 b.style.display=inside||over?'':'none';b.classList.toggle('past',over);
 b.setAttribute('x',over?'0%':(b.l-z.l)/(z.r-z.l)*100+'%');b.setAttribute('width',over?'100%':(b.r-b.l)/(z.r-z.l)*100+'%')});
 back.style.display=z===all[0]?'none':'';fit()}
-function fit(){all.map(function(b){var room=b.getBoundingClientRect().width;b.classList.remove('thin','brief');
-return[b,room<24,b.querySelector('text').getComputedTextLength()+16>room]}).forEach(function(m){m[0].classList.toggle('thin',m[1]);m[0].classList.toggle('brief',m[2])})}
+function label(b){var room=b.getBoundingClientRect().width,t=b.querySelector('text'),n=b.k.length,long,cut;
+if(room<24)return{thin:true,brief:true,key:b.k};
+if(t.getComputedTextLength()+16<=room)return{thin:false,brief:false,key:b.k};
+long=n?t.getSubStringLength(0,n):0;
+if(long+8<=room)return{thin:false,brief:true,key:b.k};
+cut=Math.min(n-1,Math.ceil(n*(room-16)/long));
+while(cut>0&&t.getSubStringLength(0,cut)+16>room)cut--;
+if(cut>0&&b.k.charCodeAt(cut-1)>>10===54)cut--;
+return{thin:cut<1,brief:true,key:b.k.slice(0,cut)+'..'}}
+function fit(){all.forEach(function(b){b.classList.remove('thin','brief');b.t.data=b.k});
+all.map(label).forEach(function(m,i){var b=all[i];b.t.data=m.key;b.classList.toggle('thin',m.thin);b.classList.toggle('brief',m.brief)});
+lines.forEach(squeeze)}
 function mark(q){var n=0,last=0;
 all.forEach(function(b){var hit=q&&key(b).toLowerCase().indexOf(q)>=0;b.classList.toggle('hit',!!hit);if(hit&&b.l>=last){n+=b.r-b.l;last=b.r}});
-was=q?'"'+q+'" and below: '+(n/1e4).toFixed(2)+'% of all':first;say.textContent=was}
+was=q?'"'+q+'" and below: '+(n/1e4).toFixed(2)+'% of all':first;write(was)}
 function ask(){var q=prompt('Part of a key','');if(q!==null)mark(q.toLowerCase())}
 svg.addEventListener('click',function(e){var b=e.target.closest('.b');if(b)zoom(b);else if(e.target===back)zoom(all[0]);else if(e.target===find)ask()});
-svg.addEventListener('mouseover',function(e){var b=e.target.closest('.b');say.textContent=b?tell(b):was});
+svg.addEventListener('mouseover',function(e){var b=e.target.closest('.b');write(b?tell(b):was)});
 document.addEventListener('keydown',function(e){if(e.key==='Escape'){zoom(all[0]);mark('')}else if(e.key==='/'){e.preventDefault();ask()}});
 window.addEventListener('resize',fit);fit();
 })();

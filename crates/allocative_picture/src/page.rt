@@ -111,7 +111,7 @@ pub(crate) fn push_heading(
     write!(
         text,
         "<text class=\"title\" x=\"8\" y=\"22\">{title}</text>\n\
-        <text class=\"sum say\" x=\"8\" y=\"42\">{subject}; {drawn} paths drawn, {narrow} too narrow</text>\n{TOOLS}"
+        <text class=\"sum say\" x=\"8\" y=\"42\">{subject}; {drawn} paths drawn, {narrow} too narrow even for zoom</text>\n{TOOLS}"
     )?;
     Ok(())
 }

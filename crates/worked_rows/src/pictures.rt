@@ -26,7 +26,7 @@ fn assert_picture(rt: &impl Abort, text: &str, wanted: &[&str; 4]) {
 const PROFILE: [&str; 4] = [
     "<svg xmlns=\"http://www.w3.org/2000/svg\" width=\"100%\" height=\"126\" font-size=\"12\">\n<style>",
     "<text class=\"title\" x=\"8\" y=\"22\">Declared bytes</text>\n",
-    "<text class=\"sum say\" x=\"8\" y=\"42\">7 B (7 bytes) declared; 4 paths drawn, 0 too narrow</text>\n",
+    "<text class=\"sum say\" x=\"8\" y=\"42\">7 B (7 bytes) declared; 4 paths drawn, 0 too narrow even for zoom</text>\n",
     "Whole</text></svg>\n\
 <svg class=\"b root\" x=\"0.0000%\" y=\"54\" width=\"100.0000%\" height=\"18\"><title>all\n7 B (7 bytes), 100.00% of all\n0 B (0 bytes) of its own</title><rect width=\"100%\" height=\"100%\" rx=\"2\"/><text x=\"4\" y=\"13\">all<tspan class=\"n\" dx=\"8\">7 B</tspan></text></svg>\n\
 <svg class=\"b k10\" x=\"0.0000%\" y=\"72\" width=\"57.1428%\" height=\"18\"><title>Vec&lt;u8&gt;\u{fffd}\n4 B (4 bytes), 57.14% of all</title><rect width=\"100%\" height=\"100%\" rx=\"2\"/><text x=\"4\" y=\"13\">Vec&lt;u8&gt;\u{fffd}<tspan class=\"n\" dx=\"8\">4 B</tspan></text></svg>\n\
@@ -37,7 +37,7 @@ const PROFILE: [&str; 4] = [
 const CHANGE: [&str; 4] = [
     "<svg xmlns=\"http://www.w3.org/2000/svg\" width=\"100%\" height=\"108\" font-size=\"12\">\n<style>",
     "<text class=\"title\" x=\"8\" y=\"22\">Declared bytes</text>\n",
-    "<text class=\"sum say\" x=\"8\" y=\"42\">5 B before, 4 B after (5 and 4 bytes)\n-1 B; 3 paths drawn, 0 too narrow</text>\n",
+    "<text class=\"sum say\" x=\"8\" y=\"42\">5 B before, 4 B after (5 and 4 bytes)\n-1 B; 3 paths drawn, 0 too narrow even for zoom</text>\n",
     "grew</tspan></text></svg>\n\
 <svg class=\"b moved\" x=\"0.0000%\" y=\"54\" width=\"100.0000%\" height=\"18\"><title>all\n5 B before, 4 B after (5 and 4 bytes)\n-1 B</title><rect width=\"100%\" height=\"100%\" rx=\"2\" style=\"fill:rgb(213,221,231)\"/><text x=\"4\" y=\"13\">all<tspan class=\"n\" dx=\"8\">-1 B</tspan></text></svg>\n\
 <svg class=\"b moved\" x=\"0.0000%\" y=\"72\" width=\"66.6666%\" height=\"18\"><title>a\n2 B before, 4 B after (2 and 4 bytes)\n+2 B</title><rect width=\"100%\" height=\"100%\" rx=\"2\" style=\"fill:rgb(229,171,171)\"/><text x=\"4\" y=\"13\">a<tspan class=\"n\" dx=\"8\">+2 B</tspan></text></svg>\n\
@@ -47,7 +47,7 @@ const CHANGE: [&str; 4] = [
 const MARKED: [&str; 4] = [
     "<svg xmlns=\"http://www.w3.org/2000/svg\" width=\"100%\" height=\"158\" font-size=\"12\">\n<style>",
     "<text class=\"title\" x=\"8\" y=\"22\">A &amp; B</text>\n",
-    "<text class=\"sum say\" x=\"8\" y=\"42\">3.0 KiB (3072 bytes) declared; 3 paths drawn, 1 too narrow</text>\n",
+    "<text class=\"sum say\" x=\"8\" y=\"42\">3.0 KiB (3072 bytes) declared; 3 paths drawn, 1 too narrow even for zoom</text>\n",
     "Whole</text></svg>\n\
 <svg class=\"b root\" x=\"0.0000%\" y=\"54\" width=\"100.0000%\" height=\"18\"><title>all\n3.0 KiB (3072 bytes), 100.00% of all\n0 B (0 bytes) of its own</title><rect width=\"100%\" height=\"100%\" rx=\"2\"/><text x=\"4\" y=\"13\">all<tspan class=\"n\" dx=\"8\">3.0 KiB</tspan></text></svg>\n\
 <svg class=\"b warned\" x=\"0.0000%\" y=\"72\" width=\"100.0000%\" height=\"18\"><title>Map\n3.0 KiB (3072 bytes), 100.00% of all\n1000 B (1000 bytes) of its own\ndeclared smaller than its parts: see the warnings</title><rect width=\"100%\" height=\"100%\" rx=\"2\"/><text x=\"4\" y=\"13\">Map<tspan class=\"n\" dx=\"8\">3.0 KiB</tspan></text></svg>\n\
@@ -110,7 +110,7 @@ fn warned_and_unused_paths_are_marked(rt: HostRuntime) -> Result<(), Refusal> {
 fn a_graph_without_bytes_has_no_box(rt: HostRuntime) -> Result<(), Refusal> {
     let alloc = rt.alloc();
     let text = picture(alloc, &own(alloc, 0)?, &Options::default())?;
-    let said = "0 B (0 bytes) declared; 0 paths drawn, 1 too narrow";
+    let said = "0 B (0 bytes) declared; 0 paths drawn, 1 too narrow even for zoom";
     assert_parts(&rt, text.as_str(), &[said, "Whole</text></svg>\n<script>"]);
     Ok(())
 }
