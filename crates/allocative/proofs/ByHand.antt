@@ -1,9 +1,9 @@
 -- What a visit shows that takes the collector out of its visitor and enters by hand.
-use Rattle.std.proofs.Common.{◌≡◌, ℕ, suc, Bool, true, false, Result, Ok, refl, ap, subst, arith}
-use Rattle.allocative.proofs.Common.{Refusal, Key, Identity, Live, State, Showing, Both, AddsForest, forgotten, OpensShared, enters_first, Visitor, with_state, Visited, Entered}
+use Rattle.std.proofs.Common.{◌≡◌, ℕ, suc, Bool, true, false, Some, Result, Ok, refl, ap, subst, arith}
+use Rattle.allocative.proofs.Common.{Refusal, Key, Identity, Live, Outer, State, Showing, Nothing, Both, Inside, InsideUnique, AddsForest, forgotten, OpensEntry, ClosesEntry, OpensShared, enters_first, Visitor, with_state, Visited, Entered}
 use Rattle.allocative.specs.Visited.{AnyEffect}
 use Rattle.allocative.proofs.Exact.{inexact}
-use Rattle.allocative.proofs.Visits.{adds_both}
+use Rattle.allocative.proofs.Visits.{adds_nothing, adds_both, adds_inline, adds_unique}
 
 -- What the collector was shown, the visit shows.
 pub shown_by_hand : {p : Showing} {a : Visitor} {s t : State} {r : Result (Unit {0}) Refusal} → s ≡ a.collector.now → AddsForest p s r t → Visited false p AnyEffect a (with_state a t) r
@@ -17,6 +17,13 @@ shown_before {p} {a = a} {t = t} {u = u} e h k =
     let P : State → Type 0 = λ s. AddsForest p s (Ok u) t in
     record { same_reference = k.same_reference; same_outer = k.same_outer; shown = adds_both (subst P e h) k.shown; only_if_full = inexact; takes_effect = tt }
 
+-- An entry with nothing inside it.
+pub inline_alone : {k : Key} {n : ℕ} {o q : Outer} {s t d : State} {x : Unit {0}} → OpensEntry false k (Some n) s (Ok o) t → ClosesEntry q t d → q ≡ o → AddsForest (Inside k n Nothing) s (Ok x) d
+inline_alone g l e = adds_inline g refl (adds_nothing _ tt) l e
+
+pub unique_alone : {k : Key} {n : ℕ} {o q : Outer} {s t d : State} {x : Unit {0}} → OpensEntry true k (Some n) s (Ok o) t → ClosesEntry q t d → q ≡ o → AddsForest (InsideUnique k n Nothing) s (Ok x) d
+unique_alone g l e = adds_unique g refl (adds_nothing _ tt) l e
+
 -- A shared value's content whose visitor is forgotten: more visitors are open than before.
 pub content_forgotten : {q : Showing} {k : Key} {n : ℕ} {i : Identity} {s t : State} {v : Unit {0}} → OpensShared k n i s (Ok true) t → AddsForest q s (Ok v) t
 content_forgotten (enters_first {c = c} {d = d} r h e) =
@@ -24,4 +31,4 @@ content_forgotten (enters_first {c = c} {d = d} r h e) =
     forgotten refl (omega (arith, f))
 
 -- The rules for implementations that enter by hand.
-pub ruleset by_hand = (shown_by_hand, shown_before, content_forgotten)
+pub ruleset by_hand = (shown_by_hand, shown_before, inline_alone, unique_alone, content_forgotten)

@@ -11,7 +11,7 @@ pub use Rattle.allocative_graph.specs.Identity.{Identity}
 pub use Rattle.allocative_graph.specs.Path.{Key}
 pub use Rattle.allocative_graph.specs.Shows.{Both, Field, Inside, InsideAs, InsideUnique, IsField, Nothing, SharedWith, Showing, each_shows, sized, slice_shows}
 pub use Rattle.allocative_graph.specs.Sums.{add_all}
-pub use Rattle.allocative_graph.specs.Visits.{RefusesEntry, OpensRoot, OpensEntry, OpensShared, HasFailed, IsProfileOf, Profile, VisitsRoot, Settles, AddsForest, already, enters_again, enters_first, forgotten, goes_past, hidden, is_entered, is_refused, is_refused_shared, is_unsized, refused, stays_failed, stays_shared, ClosesEntry}
+pub use Rattle.allocative_graph.specs.Visits.{RefusesEntry, OpensRoot, OpensEntry, OpensShared, HasFailed, IsProfileOf, Profile, VisitsRoot, Settles, AddsForest, already, enters_again, enters_first, forgotten, goes_past, hidden, is_entered, is_refused, is_refused_shared, RefusesSized, refused, stays_failed, stays_shared, ClosesEntry}
 pub use Rattle.allocative_graph.specs.declared.refusal.Refusal.{Refusal}
 pub use Rattle.allocative_graph.specs.declared.refusal.Refusal.TheVariants.{Memory, TooLarge}
 pub use Rattle.serde_json.specs.declared.value.Value.{out-Value, the_lemmas}
@@ -21,13 +21,12 @@ pub use Rattle.allocative.specs.Bodies.{are_shown_each, buffer_shows, bytes_show
 pub use Rattle.allocative.specs.Built.{as_graph}
 pub use Rattle.allocative.specs.Closures.{called, refused_inside}
 pub use Rattle.allocative.specs.Exact.{CanTake, HasRoomFor, IsDeclared, MayRefuse, FailsOnlyIfFull, RootFailsOnlyIfFull, ShowsContents, all_bytes, has_added, has_refused}
-pub use Rattle.allocative.specs.Kinds.{state_of}
+pub use Rattle.allocative.specs.Kinds.{HasEntered, HasMade, IsHeldSum, state_of}
 pub use Rattle.allocative.specs.Levels.{levels_shown}
 pub use Rattle.allocative.specs.Making.{Done, Entry, Makes, MakesPlan, Plan, entry_refused, gives, inside_refused, made, made_none, makes, one}
 pub use Rattle.allocative.specs.Nested.{EndsWith, EndsWithout, IsRefused, LendsCollector, LendsNested, Nests, with_state}
 pub use Rattle.allocative.specs.Runs.{CountsRun}
 pub use Rattle.allocative.specs.Shared.{AnswersShared, told, turned}
 pub use Rattle.allocative.specs.StdShows.{in_any_order}
-pub use Rattle.allocative.specs.Steps.{IsHeldSum, StepsInShared}
 pub use Rattle.allocative.specs.Visited.{Entered, Means, OnlyIf, Visited}
 pub use Rattle.allocative.specs.declared.visitor.Visitor.{Visitor}

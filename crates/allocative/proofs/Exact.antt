@@ -1,6 +1,6 @@
 -- How visits that refuse only where they must compose: one after another, inside an entry, and as a shared content.
 use Rattle.std.proofs.Common.{◌≡◌, ℕ, ◌+◌, ◌<◌, ◌^◌, Bool, true, false, ◌&&◌, IsTrue, cond, List, [], ◌∷◌, ◌++◌, flat_map, Option, Some, None, inl, inr, Result, Ok, Err, refl, sym, ◌∙◌, ap, subst, arith}
-use Rattle.allocative.proofs.Common.{Outer, Refusal, Memory, TooLarge, Key, Identity, Forest, Empty, First, Again, followed_by, entry_of, add_all, held, Live, Kind, OfGraph, OfHeld, State, Failed, Going, plus, enter, enter_first, Takes, is_graph, outer_of, leave, close_entry, failed_with, Showing, Nothing, Both, InsideAs, Inside, InsideUnique, sized, Field, SharedWith, each_shows, HasFailed, OpensEntry, stays_failed, is_refused, is_entered, is_unsized, OpensShared, stays_shared, is_refused_shared, goes_past, enters_first, enters_again, all_bytes, HasRoomFor, ShowsContents, IsDeclared, CanTake, MayRefuse, FailsOnlyIfFull, has_added, has_refused, ClosesEntry}
+use Rattle.allocative.proofs.Common.{Outer, Refusal, Memory, TooLarge, Key, Identity, Forest, Empty, First, Again, followed_by, entry_of, add_all, held, Live, Kind, OfGraph, OfHeld, State, Failed, Going, plus, enter, enter_first, Takes, is_graph, outer_of, leave, close_entry, failed_with, Showing, Nothing, Both, InsideAs, Inside, InsideUnique, sized, Field, SharedWith, each_shows, HasFailed, OpensEntry, stays_failed, is_refused, is_entered, OpensShared, stays_shared, is_refused_shared, goes_past, enters_first, enters_again, all_bytes, HasRoomFor, ShowsContents, IsDeclared, CanTake, MayRefuse, FailsOnlyIfFull, has_added, has_refused, ClosesEntry}
 use Rattle.std.proofs.lemmas.Bool.{false≢true, and_parts}
 use Rattle.std.proofs.lemmas.Grind.{flat_map-append}
 use Rattle.allocative_graph.specs.declared.refusal.Refusal.TheVariants.{Open}
@@ -236,8 +236,8 @@ only_if_full_field {y = Some n} g h e = only_if_full_weaker (λ f x. sized x) in
 
 pub only_if_full_not_field : {p : Showing} {k : Key} {y : Option ℕ} {s t : State} {e : Refusal} → OpensEntry false k y s (Err e) t → FailsOnlyIfFull (Field k y p) s (Err e) t
 only_if_full_not_field stays_failed = had_failed
-only_if_full_not_field {p} {k} (is_unsized {b = b} i) = has_refused (subst (MayRefuse (Field k None p) b) (sym i) (λ w. not_declared w.0))
-only_if_full_not_field {k = k} (is_refused h) = only_if_full_weaker (λ f x. sized x) in_sized (only_if_full_not_within {u = false} {k = k} (is_refused h))
+only_if_full_not_field {p} {k} {y = None} (is_refused {b = b} i) = has_refused (subst (MayRefuse (Field k None p) b) (sym i) (λ w. not_declared w.0))
+only_if_full_not_field {k = k} {y = Some n} (is_refused h) = only_if_full_weaker (λ f x. sized x) in_sized (only_if_full_not_within {u = false} {k = k} (is_refused h))
 
 -- Where both have to be exact.
 pub first_exact : (d e : Bool) → IsTrue (d && e) → IsTrue d

@@ -3,7 +3,7 @@ pub mod Making
 pub mod Closures
 pub mod Runs
 pub mod Bodies
-pub mod Steps
+pub mod Opening
 pub mod Exact
 pub mod Visits
 pub mod Meaning

@@ -1,6 +1,6 @@
 -- How visits compose: one after another, and inside an entry.
 use Rattle.std.proofs.Common.{Bool, true, false, inl, inr, Option, ◌≡◌, ℕ, suc, List, [], ◌∷◌, ◌++◌, Result, Ok, Err, refl, sym, ◌∙◌, IsErr, ap, subst, arith, Some, None}
-use Rattle.allocative.proofs.Common.{Outer, Refusal, Key, Identity, Forest, Empty, First, Again, followed_by, entry_of, Live, Kind, OfGraph, State, Failed, Going, enter, enter_first, plus, Takes, is_graph, visitors, outer_of, failed_with, close_entry, Showing, Nothing, Both, InsideAs, Inside, InsideUnique, Field, sized, SharedWith, each_shows, AddsForest, already, refused, hidden, forgotten, HasFailed, OpensEntry, stays_failed, is_refused, is_entered, is_unsized, OpensShared, stays_shared, is_refused_shared, goes_past, enters_first, enters_again, RefusesEntry, ClosesEntry}
+use Rattle.allocative.proofs.Common.{Outer, Refusal, Key, Identity, Forest, Empty, First, Again, followed_by, entry_of, Live, Kind, OfGraph, State, Failed, Going, enter, enter_first, plus, Takes, is_graph, visitors, outer_of, failed_with, close_entry, Showing, Nothing, Both, InsideAs, Inside, InsideUnique, Field, sized, SharedWith, each_shows, AddsForest, already, refused, hidden, forgotten, HasFailed, OpensEntry, stays_failed, is_refused, is_entered, OpensShared, stays_shared, is_refused_shared, goes_past, enters_first, enters_again, RefusesEntry, ClosesEntry}
 use Rattle.std.proofs.lemmas.Bool.{false≢true}
 use Rattle.std.specs.FinSet.{contains}
 use Rattle.allocative_graph.specs.Visits.{added}
@@ -133,13 +133,11 @@ any_err (Err x) h refused = refused
 -- An entry that is refused shows nothing more.
 pub not_entered : {u : Bool} {q : Showing} {k : Key} {y : Option ℕ} {s t : State} {e : Refusal} → OpensEntry u k y s (Err e) t → AddsForest q s (Err e) t
 not_entered stays_failed = already
-not_entered (is_unsized r) = refused
 not_entered (is_refused r) = refused
 
 -- After an entry that is refused, the collector has failed with the cause.
 pub not_entered_cause : {u : Bool} {k : Key} {y : Option ℕ} {s t : State} {e : Refusal} → OpensEntry u k y s (Err e) t → HasFailed t e
 not_entered_cause stays_failed = refl
-not_entered_cause (is_unsized r) = refl
 not_entered_cause (is_refused r) = refl
 
 pub not_shared : {q : Showing} {k : Key} {n : ℕ} {i : Identity} {s t : State} {e : Refusal} → OpensShared k n i s (Err e) t → AddsForest q s (Err e) t
@@ -171,7 +169,6 @@ close_cause {o = o} l h = l.closes ∙ ap (close_entry o) h
 -- What a refused entry returns.
 pub refuses_entry : {u : Bool} {k : Key} {y : Option ℕ} {s t : State} {e : Refusal} → OpensEntry u k y s (Err e) t → RefusesEntry u y s e
 refuses_entry stays_failed = refl
-refuses_entry (is_unsized r) = r
 refuses_entry (is_refused r) = r
 
 -- ---- loops

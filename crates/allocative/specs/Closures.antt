@@ -8,7 +8,7 @@ use Rattle.allocative_graph.specs.Collector.{State, Going, OfHeld, Outer, nothin
 use Rattle.allocative_graph.specs.Shows.{Showing}
 use Rattle.allocative_graph.specs.Visits.{AddsForest, HasFailed, OpensEntry, Settles, ClosesEntry}
 use Rattle.allocative.specs.declared.visitor.Visitor.{Visitor}
-use Rattle.allocative.specs.Steps.{IsHeldSum}
+use Rattle.allocative.specs.Kinds.{IsHeldSum}
 use Rattle.allocative.specs.Visited.{OpensRootAt}
 
 -- The collector after a closure told this: its own refusal is the first cause where nothing had failed.

@@ -6,7 +6,6 @@ pub mod Making
 pub mod Closures
 pub mod Runs
 pub mod Bodies
-pub mod Steps
 pub mod StdShows
 pub mod JsonShows
 pub mod PackShows

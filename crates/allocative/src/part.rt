@@ -102,7 +102,9 @@ impl<K: IntoKey, P: Part> Part for Inside<K, P> {
 
     #[inline(always)]
     fn enter(self, visitor: &mut Visitor<'_>) -> Result<(), Refusal> {
-        let outer = visitor.collector.open_entry(self.0.into_key(), self.1)?;
+        let outer = visitor
+            .collector
+            .open_entry(self.0.into_key(), Some(self.1), false)?;
         let answer = self.2.enter(visitor);
         visitor.collector.close_entry(outer);
         answer
@@ -126,7 +128,9 @@ impl<K: IntoKey, P: Part> Part for Declared<K, P> {
 
     #[inline(always)]
     fn enter(self, visitor: &mut Visitor<'_>) -> Result<(), Refusal> {
-        let outer = visitor.collector.open_sized(self.0.into_key(), self.1)?;
+        let outer = visitor
+            .collector
+            .open_entry(self.0.into_key(), self.1, false)?;
         let answer = self.2.enter(visitor);
         visitor.collector.close_entry(outer);
         answer
@@ -171,7 +175,9 @@ impl<K: IntoKey, P: Part> Part for Unique<K, P> {
 
     #[inline(always)]
     fn enter(self, visitor: &mut Visitor<'_>) -> Result<(), Refusal> {
-        let outer = visitor.collector.open_unique(self.0.into_key(), self.1)?;
+        let outer = visitor
+            .collector
+            .open_entry(self.0.into_key(), Some(self.1), true)?;
         let answer = self.2.enter(visitor);
         visitor.collector.close_entry(outer);
         answer

@@ -51,7 +51,7 @@ impl Collector {
         ensures entered { IfOk result (OpensEntryAt false key size self.old) }
         ensures refused { IfErr result (RefusesEntry false size self.old) }
     {
-        let outer = self.open_sized(key, size)?;
+        let outer = self.open_entry(key, size, false)?;
         Ok(Visitor {
             collector: self,
             outer,

@@ -43,22 +43,25 @@ Refuses is_unique n (OfGraph c) e = ((e ≡ TooLarge) × (2 ^ 63 ≤ entered c.s
 Refuses is_unique n (OfHeld h) e = (e ≡ TooLarge)
     × ((2 ^ 64 ≤ h.sum + held_bytes h.is_in_unique is_unique n) ⊎ (2 ^ 64 ≤ suc h.open_visitors))
 
--- What opening an entry of a declared size does. A failed collector returns its first cause. Otherwise the call returns
--- TooLarge if there is no size, or is refused exactly as `Refuses` says, and the collector has failed; or there is one
--- more entry and a visitor at it, and the call returns what leaving it restores.
+-- An entry of a declared size is refused with e: with TooLarge if there is no size, otherwise as `Refuses` says.
+abbrev pub RefusesSized : Bool → Option ℕ → Kind → Refusal → Type 0
+RefusesSized is_unique None b e = e ≡ TooLarge
+RefusesSized is_unique (Some n) b e = Refuses is_unique n b e
+
+-- What opening an entry of a declared size does. A failed collector returns its first cause. Otherwise the entry is
+-- refused exactly as `RefusesSized` says, and the collector has failed; or there is one more entry and a visitor at it,
+-- and the call returns what closing it restores.
 pub data OpensEntry (is_unique : Bool) (k : Key) : Option ℕ → State → Result Outer Refusal → State → Type 0 where
   stays_failed : {size : Option ℕ} {r : Refusal} → OpensEntry is_unique k size (Failed r) (Err r) (Failed r)
-  is_unsized : {b : Kind} {e : Refusal} → e ≡ TooLarge → OpensEntry is_unique k None (Going b) (Err e) (Failed e)
-  is_refused : {n : ℕ} {b : Kind} {e : Refusal} → Refuses is_unique n b e
-      → OpensEntry is_unique k (Some n) (Going b) (Err e) (Failed e)
+  is_refused : {size : Option ℕ} {b : Kind} {e : Refusal} → RefusesSized is_unique size b e
+      → OpensEntry is_unique k size (Going b) (Err e) (Failed e)
   is_entered : {n : ℕ} {b c : Kind} {outer : Outer} → HasRoom is_unique n b → outer ≡ outer_of b
       → c ≡ enter is_unique k n b → OpensEntry is_unique k (Some n) (Going b) (Ok outer) (Going c)
 
 -- An entry of a declared size is refused with e, as opening it says.
 abbrev pub RefusesEntry : Bool → Option ℕ → State → Refusal → Type 0
 RefusesEntry is_unique size (Failed r) e = e ≡ r
-RefusesEntry is_unique None (Going b) e = e ≡ TooLarge
-RefusesEntry is_unique (Some n) (Going b) e = Refuses is_unique n b e
+RefusesEntry is_unique size (Going b) e = RefusesSized is_unique size b e
 
 -- What opening a shared entry does. The call returns whether its content is to be shown: in a flame graph's collector,
 -- exactly if the identity was not met. The collector of held bytes stays as it is.

@@ -182,7 +182,7 @@ impl Visitor<'_> {
         ensures first { MakesFirst (codes "data") (Some 8) self.old self.new result }
         ensures exact { MakesPlanOrGives I.next_gives entries (one (codes "data") (Some 8)) self.old self.new result }
     {
-        let outer = self.collector.open_entry(Key::new("data"), 8)?;
+        let outer = self.collector.open_entry(Key::new("data"), Some(8), false)?;
         let answer = self.visit_run(KeyAndValue, entries);
         self.collector.close_entry(outer);
         answer
@@ -207,7 +207,7 @@ impl Visitor<'_> {
         ensures first { MakesFirst (codes "data") (Some 8) self.old self.new result }
         ensures exact { MakesPlanOrGives I.next_gives entries (one (codes "data") (Some 8)) self.old self.new result }
     {
-        let outer = self.collector.open_entry(Key::new("data"), 8)?;
+        let outer = self.collector.open_entry(Key::new("data"), Some(8), false)?;
         let answer = self.visit_run(FieldUnder(Key::new("key")), entries);
         self.collector.close_entry(outer);
         answer

@@ -109,7 +109,9 @@ impl Visitor<'_> {
             → MakesPlan (one T.name (size_product T.size (Some 0))) self.old self.new result }
     {
         let bytes = bytes_of::<T>(Some(items.len()));
-        let outer = self.collector.open_sized(Key::for_type_name::<T>(), bytes)?;
+        let outer = self
+            .collector
+            .open_entry(Key::for_type_name::<T>(), bytes, false)?;
         let answer = self.visit_data(items);
         self.collector.close_entry(outer);
         answer
@@ -151,7 +153,9 @@ impl Visitor<'_> {
             → MakesPlan (vec_plan T.name T.size T.needs_drop items.now capacity) self.old self.new result }
     {
         let bytes = bytes_of::<T>(Some(capacity));
-        let outer = self.collector.open_sized(Key::new("capacity"), bytes)?;
+        let outer = self
+            .collector
+            .open_entry(Key::new("capacity"), bytes, false)?;
         let answer = self.visit_with_room(items, capacity);
         self.collector.close_entry(outer);
         answer

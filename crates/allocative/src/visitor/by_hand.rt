@@ -53,7 +53,7 @@ pub fn enter(collector: &mut Collector, key: Key, size: usize) -> Result<Visitor
     ensures entered { IfOk result (OpensEntryAt false key (Some size) collector.old) }
     ensures refused { IfErr result (RefusesEntry false (Some size) collector.old) }
 {
-    let outer = collector.open_entry(key, size)?;
+    let outer = collector.open_entry(key, Some(size), false)?;
     Ok(Visitor { collector, outer })
 }
 
@@ -69,7 +69,7 @@ pub fn enter_unique(
     ensures entered { IfOk result (OpensEntryAt true key (Some size) collector.old) }
     ensures refused { IfErr result (RefusesEntry true (Some size) collector.old) }
 {
-    let outer = collector.open_unique(key, size)?;
+    let outer = collector.open_entry(key, Some(size), true)?;
     Ok(Visitor { collector, outer })
 }
 

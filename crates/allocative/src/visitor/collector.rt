@@ -1,12 +1,11 @@
 //! The collectors: that of a flame graph, and that of held bytes.
-#![tactic(auto, using(crate::proofs::Steps::steps))]
+#![tactic(auto, using(crate::proofs::Opening::opening))]
 
 ghost use Rattle.std.specs.Prelude.{◌≡◌, ◌<◌, ◌^◌, Some, true, false, IfOk, IfErr, OnOk, IsTrue, ◌↔◌};
 ghost use Rattle.allocative_graph.specs.Collector.{State, Going, OfGraph, OfHeld, no_entries, nothing_held, enter, leave, begin, outer_of, failed_with, IsClosed, IsAtRoot};
 ghost use Rattle.allocative_graph.specs.Graph.{total};
-ghost use Rattle.allocative_graph.specs.Visits.{HasFailed, HasRoom, Refuses, OpensEntry, ClosesEntry, OpensShared, OpensRoot, Settles, Ends, IsProfile};
-ghost use Rattle.allocative.specs.Steps.{StepsIn, StepsSimple, StepsInShared, IsHeldSum};
-ghost use Rattle.allocative.specs.Kinds.{kind_of};
+ghost use Rattle.allocative_graph.specs.Visits.{HasFailed, RefusesSized, OpensEntry, ClosesEntry, OpensShared, OpensRoot, Settles, Ends, IsProfile};
+ghost use Rattle.allocative.specs.Kinds.{kind_of, HasEntered, HasMade, IsHeldSum};
 ghost use Rattle.allocative.specs.Built.{as_graph};
 ghost use Rattle.allocative.specs.Making.{Makes, Done, one};
 
@@ -43,14 +42,16 @@ impl Model for Collector {
 }
 
 impl Kind {
-    // One more entry, and a visitor at it. It returns what `close_entry` restores.
+    // One more entry of a declared size, and a visitor at it. It returns what `close_entry` restores.
     #[inline(always)]
-    fn enter(&mut self, key: &Key, size: usize, is_unique: bool) -> Result<bool, Refusal>
+    fn enter(&mut self, key: &Key, size: Option<usize>, is_unique: bool) -> Result<bool, Refusal>
         ensures ok { IfOk result
-            (λ outer. HasRoom is_unique size (kind_of self.old) × (outer ≡ outer_of (kind_of self.old))
-            × (kind_of self.new ≡ enter is_unique key.now size (kind_of self.old))) }
-        ensures err { IfErr result (Refuses is_unique size (kind_of self.old)) }
+            (λ outer. HasEntered is_unique key.now size (kind_of self.old) outer (kind_of self.new)) }
+        ensures err { IfErr result (RefusesSized is_unique size (kind_of self.old)) }
     {
+        let Some(size) = size else {
+            return Err(Refusal::TooLarge);
+        };
         match self {
             Kind::Graph(graph) => {
                 graph.enter(key, size, is_unique)?;
@@ -60,14 +61,15 @@ impl Kind {
         }
     }
 
-    // One more inline entry with nothing inside it.
+    // One more inline entry of a declared size, with nothing inside it.
     #[inline(always)]
-    fn enter_simple(&mut self, key: &Key, size: usize) -> Result<(), Refusal>
-        ensures ok { OnOk result (HasRoom false size (kind_of self.old)
-            × (kind_of self.new
-            ≡ leave (outer_of (kind_of self.old)) (enter false key.now size (kind_of self.old)))) }
-        ensures err { IfErr result (Refuses false size (kind_of self.old)) }
+    fn enter_simple(&mut self, key: &Key, size: Option<usize>) -> Result<(), Refusal>
+        ensures ok { OnOk result (HasMade key.now size (kind_of self.old) (kind_of self.new)) }
+        ensures err { IfErr result (RefusesSized false size (kind_of self.old)) }
     {
+        let Some(size) = size else {
+            return Err(Refusal::TooLarge);
+        };
         match self {
             Kind::Graph(graph) => graph.enter_simple(key, size),
             Kind::Held(held) => {
@@ -162,46 +164,53 @@ impl Collector {
         Ok(())
     }
 
-    // One more entry, unique or inline. It returns what `close_entry` restores.
+    /// Opens an entry of a declared size: one more entry, unique or inline, and a visitor at it. It returns what
+    /// `close_entry` restores, and `TooLarge` if there is no size.
     #[inline(always)]
-    fn open_by_cases(&mut self, key: &Key, size: usize, is_unique: bool) -> Result<bool, Refusal>
-        ensures enters { StepsIn is_unique key.now size self.old result self.new }
-        ensures cause { IfErr result (HasFailed self.new) }
-    {
-        if let Some(cause) = self.failed {
-            return Err(cause);
-        }
-        let entered = self.kind.enter(key, size, is_unique);
-        if let Err(refusal) = entered {
-            self.failed = Some(refusal);
-        }
-        entered
-    }
-
-    // One more inline entry with nothing inside it.
-    #[inline(always)]
-    fn enter_simple_by_cases(&mut self, key: &Key, size: usize) -> Result<(), Refusal>
-        ensures enters { StepsSimple key.now size self.old result self.new }
-        ensures cause { IfErr result (HasFailed self.new) }
-    {
-        if let Some(cause) = self.failed {
-            return Err(cause);
-        }
-        let entered = self.kind.enter_simple(key, size);
-        if let Err(refusal) = entered {
-            self.failed = Some(refusal);
-        }
-        entered
-    }
-
-    // One more shared entry. It returns whether the content is to be shown.
-    fn open_shared_by_cases(
+    pub(crate) fn open_entry(
         &mut self,
-        key: &Key,
+        key: Key,
+        size: Option<usize>,
+        is_unique: bool,
+    ) -> Result<bool, Refusal>
+        ensures opens { OpensEntry is_unique key size self.old result self.new }
+        ensures cause { IfErr result (HasFailed self.new) }
+    {
+        if let Some(cause) = self.failed {
+            return Err(cause);
+        }
+        let opened = self.kind.enter(&key, size, is_unique);
+        if let Err(refusal) = opened {
+            self.failed = Some(refusal);
+        }
+        opened
+    }
+
+    /// One more inline entry of a declared size, with nothing inside it. It is `TooLarge` if there is no size.
+    #[inline(always)]
+    pub(crate) fn enter_simple(&mut self, key: Key, size: Option<usize>) -> Result<(), Refusal>
+        ensures made { Makes (one key size) self.old result self.new }
+        ensures cause { IfErr result (HasFailed self.new) }
+    {
+        if let Some(cause) = self.failed {
+            return Err(cause);
+        }
+        let entered = self.kind.enter_simple(&key, size);
+        if let Err(refusal) = entered {
+            self.failed = Some(refusal);
+        }
+        entered
+    }
+
+    /// One more pointer of `size` bytes to the shared value with the identity `id`. It returns whether the content is
+    /// to be shown.
+    pub(crate) fn open_shared(
+        &mut self,
+        key: Key,
         size: usize,
         id: Identity,
     ) -> Result<bool, Refusal>
-        ensures enters { StepsInShared key.now size id self.old result self.new }
+        ensures opens { OpensShared key size id self.old result self.new }
         ensures cause { IfErr result (HasFailed self.new) }
     {
         if let Some(cause) = self.failed {
@@ -209,7 +218,7 @@ impl Collector {
         }
         match &mut self.kind {
             Kind::Held(_) => Ok(false),
-            Kind::Graph(graph) => match graph.enter_shared(key, size, id) {
+            Kind::Graph(graph) => match graph.enter_shared(&key, size, id) {
                 Ok(is_first) => Ok(is_first),
                 Err(refusal) => {
                     self.failed = Some(refusal);
@@ -217,64 +226,6 @@ impl Collector {
                 }
             },
         }
-    }
-
-    /// One more inline entry of `size` bytes, and a visitor at it. It returns what `close_entry` restores.
-    #[inline(always)]
-    pub(crate) fn open_entry(&mut self, key: Key, size: usize) -> Result<bool, Refusal>
-        ensures enters { OpensEntry false key (Some size) self.old result self.new }
-        ensures cause { IfErr result (HasFailed self.new) }
-    {
-        self.open_by_cases(&key, size, false)
-    }
-
-    /// One more unique entry of `size` bytes, and a visitor at it. It returns what `close_entry` restores.
-    #[inline(always)]
-    pub(crate) fn open_unique(&mut self, key: Key, size: usize) -> Result<bool, Refusal>
-        ensures enters { OpensEntry true key (Some size) self.old result self.new }
-        ensures cause { IfErr result (HasFailed self.new) }
-    {
-        self.open_by_cases(&key, size, true)
-    }
-
-    /// One more inline entry of a declared size, and a visitor at it. It returns what `close_entry`
-    /// restores, and `TooLarge` where there is no size.
-    #[inline(always)]
-    pub(crate) fn open_sized(&mut self, key: Key, size: Option<usize>) -> Result<bool, Refusal>
-        ensures enters { OpensEntry false key size self.old result self.new }
-        ensures cause { IfErr result (HasFailed self.new) }
-    {
-        match size {
-            Some(size) => self.open_entry(key, size),
-            None => Err(self.refuse(Refusal::TooLarge)),
-        }
-    }
-
-    /// One more inline entry of a declared size, with nothing inside it: it is entered and left at once. It is
-    /// `TooLarge` where there is no size.
-    #[inline(always)]
-    pub(crate) fn enter_simple(&mut self, key: Key, size: Option<usize>) -> Result<(), Refusal>
-        ensures made { Makes (one key size) self.old result self.new }
-        ensures cause { IfErr result (HasFailed self.new) }
-    {
-        match size {
-            Some(size) => self.enter_simple_by_cases(&key, size),
-            None => Err(self.refuse(Refusal::TooLarge)),
-        }
-    }
-
-    /// One more pointer of `size` bytes to the shared value with the identity `id`. It returns whether
-    /// the content is to be shown.
-    pub(crate) fn open_shared(
-        &mut self,
-        key: Key,
-        size: usize,
-        id: Identity,
-    ) -> Result<bool, Refusal>
-        ensures enters { OpensShared key size id self.old result self.new }
-        ensures cause { IfErr result (HasFailed self.new) }
-    {
-        self.open_shared_by_cases(&key, size, id)
     }
 
     /// One visitor less; `outer` is what leaving it restores.

@@ -33,7 +33,7 @@ impl Visitor<'_> {
         ensures entered { Entered T.is_exact (Field name T.size (T.may_show field.now)) self.old self.new result }
         ensures first { MakesFirst name T.size self.old self.new result }
     {
-        let outer = self.collector.open_sized(name, T::size())?;
+        let outer = self.collector.open_entry(name, T::size(), false)?;
         let answer = field.enter(self);
         self.collector.close_entry(outer);
         answer
@@ -75,7 +75,7 @@ impl Visitor<'_> {
         ensures { Entered (⟦<dyn Allocative as Allocative>⟧ object.now.0).is_exact
             (InsideUnique (codes "ptr") 8 (may_show object.now)) self.old self.new result }
     {
-        let outer = self.collector.open_unique(Key::new("ptr"), 8)?;
+        let outer = self.collector.open_entry(Key::new("ptr"), Some(8), true)?;
         let answer = self.visit_object(object);
         self.collector.close_entry(outer);
         answer
@@ -91,7 +91,7 @@ impl Visitor<'_> {
             (Inside (codes "Box") 8 (InsideUnique (codes "ptr") 8 (may_show object.now))) self.old self.new result }
         ensures first { MakesFirst (codes "Box") (Some 8) self.old self.new result }
     {
-        let outer = self.collector.open_entry(Key::new("Box"), 8)?;
+        let outer = self.collector.open_entry(Key::new("Box"), Some(8), false)?;
         let answer = self.visit_object_pointer(object);
         self.collector.close_entry(outer);
         answer

@@ -105,7 +105,9 @@ pub fn visit_json_map(visitor: &mut Visitor<'_>, map: &Map<String, Value>) -> Re
     ensures entered { Entered true (stored_map map.now.entries) visitor.old visitor.new result }
     ensures first { MakesFirst (codes "Map") (Some 24) visitor.old visitor.new result }
 {
-    let outer = visitor.collector.open_entry(Key::new("Map"), 24)?;
+    let outer = visitor
+        .collector
+        .open_entry(Key::new("Map"), Some(24), false)?;
     let answer = Unique("data", 8, Members(map)).enter(visitor);
     visitor.collector.close_entry(outer);
     answer

@@ -1,0 +1,54 @@
+-- What the collector's own calls do, by what they find: the collector had failed, or it was going.
+use Rattle.std.proofs.Common.{◌≡◌, ℕ, ◌+◌, ◌<◌, ◌^◌, Bool, true, false, None, Some, Option, Result, Ok, Err, refl}
+use Rattle.allocative.proofs.Common.{Outer, Refusal, Key, Identity, Live, Kind, OfGraph, OfHeld, State, Failed, Going, OpensEntry, stays_failed, is_refused, is_entered, RefusesSized, OpensShared, stays_shared, is_refused_shared, goes_past, enters_first, enters_again, HasEntered, HasMade, Done, one, Makes, made_none, made, entry_refused}
+use Rattle.allocative_collectors.specs.Meets.{MeetsAs}
+use Rattle.allocative_graph.specs.Collector.{Holding}
+use Rattle.allocative_graph.specs.Sums.{entered}
+use Rattle.allocative_graph.specs.Visits.{Refuses}
+use Rattle.allocative.specs.Making.{had_failed}
+
+-- ---- opening an entry
+pub opens_failed : {u : Bool} {k : Key} {y : Option ℕ} {s t : State} {r : Refusal} → s ≡ Failed r → t ≡ Failed r → OpensEntry u k y s (Err r) t
+opens_failed i j = rw (i, j) stays_failed
+
+pub opens_refused : {u : Bool} {k : Key} {y : Option ℕ} (b : Kind) {s t : State} {e : Refusal} → s ≡ Going b → RefusesSized u y b e → t ≡ Failed e → OpensEntry u k y s (Err e) t
+opens_refused b i h j = rw (i, j) (is_refused h)
+
+pub opens_entered : {u : Bool} {k : Key} (y : Option ℕ) (b c : Kind) {o : Outer} {s t : State} → s ≡ Going b → HasEntered u k y b o c → t ≡ Going c → OpensEntry u k y s (Ok o) t
+opens_entered None b c i h j = absurd h
+opens_entered (Some n) b c i h j = rw (i, j) (is_entered h.0 h.1 h.2)
+
+-- ---- making an entry
+pub makes_failed_entry : {k : Key} {y : Option ℕ} {s t : State} {r : Refusal} → s ≡ Failed r → t ≡ Failed r → Makes (one k y) s (Err r) t
+makes_failed_entry i j = rw (i, j) had_failed
+
+pub makes_refused_entry : {k : Key} {y : Option ℕ} (b : Kind) {s t : State} {e : Refusal} → s ≡ Going b → RefusesSized false y b e → t ≡ Failed e → Makes (one k y) s (Err e) t
+makes_refused_entry b i h j = entry_refused (opens_refused b i h j)
+
+pub makes_one : {k : Key} (y : Option ℕ) (b c : Kind) {u : Unit} {s t : State} → s ≡ Going b → HasMade k y b c → t ≡ Going c → Makes (one k y) s (Ok u) t
+makes_one None b c i h j = absurd h
+makes_one (Some n) b c i h j = rw (i, j, h.1) (made (is_entered h.0 refl refl) (made_none {u = tt}) (record { closes = refl }) made_none)
+
+-- ---- no entry
+pub none_failed : {s : State} {r : Refusal} → s ≡ Failed r → Makes Done s (Err r) s
+none_failed i = rw i had_failed
+
+pub none_made : (b : Kind) {u : Unit} {s : State} → s ≡ Going b → Makes Done s (Ok u) s
+none_made b i = rw i made_none
+
+-- ---- opening a shared entry
+pub shared_failed : {k : Key} {n : ℕ} {i : Identity} {s t : State} {r : Refusal} → s ≡ Failed r → t ≡ Failed r → OpensShared k n i s (Err r) t
+shared_failed i j = rw (i, j) stays_shared
+
+pub shared_held : {k : Key} {n : ℕ} {i : Identity} (h : Holding) {s t : State} → s ≡ Going (OfHeld h) → t ≡ Going (OfHeld h) → OpensShared k n i s (Ok false) t
+shared_held h i j = rw (i, j) goes_past
+
+pub shared_refused : {k : Key} {n : ℕ} {i : Identity} (c : Live) {s t : State} {e : Refusal} → s ≡ Going (OfGraph c) → Refuses false n (OfGraph c) e → t ≡ Failed e → OpensShared k n i s (Err e) t
+shared_refused c i h j = rw (i, j) (is_refused_shared h)
+
+pub shared_met : {k : Key} {n : ℕ} {i : Identity} (c d : Live) (is_first : Bool) {s t : State} → s ≡ Going (OfGraph c) → entered c.sums + n < 2 ^ 63 → MeetsAs k n i c is_first d → t ≡ Going (OfGraph d) → OpensShared k n i s (Ok is_first) t
+shared_met c d true i r m j = rw (i, j) (enters_first r m.0 m.1)
+shared_met c d false i r m j = rw (i, j) (enters_again r m.0 m.1)
+
+-- The rules for the collector's own calls.
+pub ruleset opening = (opens_failed, opens_refused, opens_entered, makes_failed_entry, makes_refused_entry, makes_one, none_failed, none_made, shared_failed, shared_held, shared_refused, shared_met)
