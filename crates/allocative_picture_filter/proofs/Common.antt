@@ -4,5 +4,5 @@ pub use Rattle.allocative_graph.specs.Read.{IsRead}
 pub use Rattle.allocative_picture.specs.declared.options.Options.{Options}
 pub use Rattle.allocative_picture_filter.specs.Run.{AddUp, Sourced, StopsAddingUp, sourced}
 pub use Rattle.allocative_picture_filter.specs.declared.fault.Fault.{Fault}
-pub use Rattle.allocative_picture_filter.specs.declared.fault.Fault.TheVariants.{Memory, Reading}
+pub use Rattle.allocative_picture_filter.specs.declared.fault.Fault.TheVariants.{Memory}
 pub use Rattle.allocative_picture_filter.specs.declared.run.Text.{Text}

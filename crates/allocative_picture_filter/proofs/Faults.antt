@@ -1,5 +1,5 @@
 -- Faults and their status.
-use Rattle.std.proofs.Common.{◌≡◌, inl, inr, ℕ, ◌^◌, ◌≤◌, List, [], ◌∷◌, Option, None, Some, Ok, Err, Result, refl, ap, arith, IfSome, IfErr, IsErrOf, IsErrAnd}
+use Rattle.std.proofs.Common.{◌≡◌, inl, inr, ℕ, ◌^◌, ◌<◌, ◌≤◌, ◌==◌, ◌&&◌, Bool, true, false, IsTrue, List, [], ◌∷◌, Option, None, Some, Ok, Err, Result, refl, ap, arith, IfSome, IfErr, IsErrOf, IsErrAnd}
 use Rattle.allocative_picture_filter.proofs.Common.{Graph, Fault, Text, Sourced, StopsAddingUp}
 use Rattle.allocative_graph.specs.declared.read.LineFault.TheVariants as line
 use Rattle.allocative_graph.specs.declared.refusal.Refusal as refusal
@@ -26,8 +26,9 @@ added-unwritten g (t ∷ ts) (inr (next, adds, h)) = added-unwritten next ts h
 made-unwritten : (asked : words.Arguments) (before after : List Text) (known : List ℕ) → Stops asked before after known Writing → ⊥
 made-unwritten asked before after known (inl h) = added-unwritten _ _ h
 made-unwritten asked before after known (inr (g, up, inl (inl h))) = added-unwritten _ _ h
-made-unwritten asked before after known (inr (g, up, inl (inr (h, files, b, e)))) = absurd (omega (arith, ap status_of e))
-made-unwritten asked before after known (inr (g, up, inr (h, later, joins))) = joins
+made-unwritten asked before after known (inr (g, up, inl (inr (h, files, b, e)))) = e
+made-unwritten asked before after known (inr (g, up, inr (inl (h, later, b, none, e)))) = absurd (omega (arith, ap status_of e))
+made-unwritten asked before after known (inr (g, up, inr (inr (h, later, joins)))) = joins
 
 -- What stops a run before it writes has another status than a failed write.
 pub stops-unwritten : (asked : words.Arguments) (before after : List Text) (known : List ℕ) (f : Fault) → Stops asked before after known f → status_of f ≡ 7 → ⊥
@@ -48,3 +49,13 @@ of_each (Some a) f = f a
 pub holds-of : {T : Type 0} (r : Result T Fault) (P : Fault → Type 0) (f : Fault) → IsErrAnd r (λ e. e ≡ f) → P f → IfErr r P
 holds-of (Ok x) P f is h = tt
 holds-of (Err e) P f is h = rw is h
+
+-- A profile is refused where it is asked not to be empty and has 0 bytes.
+pub is-empty : (b : Bool) (n : ℕ) → (b && (n == 0)) ≡ true → IsTrue b × (n ≡ 0)
+is-empty true n h = (cc, grind arith)
+is-empty false n h = absurd (cc)
+
+-- A profile that is not refused has bytes, where it is asked not to be empty.
+pub has-bytes : (b : Bool) (n : ℕ) → (b && (n == 0)) ≡ false → IsTrue b → 0 < n
+has-bytes true n h t = grind arith
+has-bytes false n h t = absurd (cc)

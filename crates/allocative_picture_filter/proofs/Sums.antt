@@ -1,9 +1,11 @@
 -- The graphs of some texts, one added after another, and what stops that.
-use Rattle.std.proofs.Common.{◌≡◌, ℕ, zero, suc, ◌+◌, ◌<◌, ◌==◌, ◌⊎◌, inl, inr, Bool, true, cond, List, [], ◌∷◌, ◌++◌, map, take, length, get_or, refl, sym, ap, subst, ◌∙◌, arith}
-use Rattle.allocative_picture_filter.proofs.Common.{Graph, default, Options, Fault, Memory, Reading, Text, Sourced, sourced, AddUp, StopsAddingUp}
+use Rattle.std.proofs.Common.{◌≡◌, ℕ, zero, suc, ◌+◌, ◌<◌, ◌==◌, ◌⊎◌, inl, inr, Bool, true, false, ◌&&◌, cond, List, [], ◌∷◌, ◌++◌, map, take, length, get_or, refl, sym, ap, subst, ◌∙◌, arith}
+use Rattle.allocative_picture_filter.proofs.Common.{Graph, default, total, Options, Fault, Memory, Text, Sourced, sourced, AddUp, StopsAddingUp}
 use Rattle.std.proofs.lemmas.List.{map-append, take_more}
 use Rattle.allocative_picture_filter.specs.declared.arguments.Arguments.{Arguments}
 use Rattle.allocative_picture_filter.specs.declared.fault.Source.TheVariants.{Input}
+use Rattle.allocative_picture_filter.specs.Fault.{IsUnread}
+use Rattle.allocative_picture_filter.proofs.Faults.{has-bytes}
 use Rattle.allocative_picture_filter.specs.Run.{without_mark, Adds, AddUpOnto, StopsAdding, StopsProfile, IsMade, written_of}
 
 -- ---- one text after another
@@ -47,23 +49,24 @@ pub stops-input : (xs : List Text) (b : Bool) (known : List ℕ) (g : Graph) (f 
 stops-input xs b known g f e up h = rw e (inl (stops-last default (map sourced xs) (Input, without_mark known) g f up h))
 
 -- An input that is not read stops the profile.
-pub stops-unread : (xs : List Text) (b : Bool) (known : List ℕ) (g : Graph) (f : Fault) → b ≡ true → AddUp (map sourced xs) g → (f ≡ Memory) ⊎ (f ≡ Reading Input) → StopsProfile xs b known f
+pub stops-unread : (xs : List Text) (b : Bool) (known : List ℕ) (g : Graph) (f : Fault) → b ≡ true → AddUp (map sourced xs) g → (f ≡ Memory) ⊎ IsUnread Input f → StopsProfile xs b known f
 stops-unread xs b known g f e up (inl m) = stops-input xs b known g f e up (inl (rw m tt))
 stops-unread xs b known g f e up (inr r) = inr (g, up, e, r)
 
 -- ---- what is written
 -- What is written of some graphs is what the arguments ask for.
 pub made-so : (asked : Arguments) (before : List Text) (after : List Sourced) (made : List ℕ) (g h : Graph) (o : Options)
-    → AddUp (map sourced before) g → o.warned.now ≡ [] → o.narrowest ≡ 500 → AddUp after h
-    → made ≡ written_of asked.as_text (length before == 0) (record { title = asked.title; warned = o.warned; narrowest = o.narrowest }) g h → IsMade asked before after made
-made-so asked before after made g h o earlier warned narrowest later is = record {
+    → AddUp (map sourced before) g → o.warned.now ≡ [] → AddUp after h → (asked.not_empty && (total h == 0)) ≡ false
+    → made ≡ written_of asked.as_text (length before == 0) (record { title = asked.title; warned = o.warned; narrowest = asked.narrowest }) g h → IsMade asked before after made
+made-so asked before after made g h o earlier warned later some is = record {
   earlier = g;
   later = h;
   earlier_read = earlier;
   later_read = later;
-  options = record { title = asked.title; warned = o.warned; narrowest = o.narrowest };
+  options = record { title = asked.title; warned = o.warned; narrowest = asked.narrowest };
   title = refl;
   warned = warned;
-  narrowest = narrowest;
+  narrowest = refl;
+  some = has-bytes asked.not_empty (total h) some;
   is = is;
 }

@@ -1,14 +1,14 @@
 -- What a run makes of its texts, and what stops it.
-use Rattle.std.specs.Prelude.{◌≡◌, ℕ, ◌+◌, ◌^◌, ◌<◌, ◌≤◌, ◌==◌, ◌⊎◌, ◌||◌, Bool, true, cond, List, [], ◌∷◌, ◌++◌, length, drop, map, nat_eq, IsUtf8, ⊤}
+use Rattle.std.specs.Prelude.{◌≡◌, ℕ, ◌+◌, ◌^◌, ◌<◌, ◌≤◌, ◌==◌, ◌⊎◌, ◌||◌, Bool, true, cond, List, [], ◌∷◌, ◌++◌, length, drop, map, nat_eq, IsUtf8, ⊤, IsTrue}
 use Rattle.std.specs.List.{starts_with}
 use Rattle.allocative_graph.specs.Graph.{Graph, default, sum_of, text, total}
 use Rattle.allocative_graph.specs.Read.{IsRead, IsFault, Exceeds}
 use Rattle.allocative_picture.specs.Picture.{profile_drawing, change_drawing}
 use Rattle.allocative_picture.specs.declared.options.Options.{Options}
-use Rattle.allocative_picture_filter.specs.Fault.{status_of}
+use Rattle.allocative_picture_filter.specs.Fault.{status_of, IsUnread}
 use Rattle.allocative_picture_filter.specs.declared.arguments.Arguments.{Arguments}
 use Rattle.allocative_picture_filter.specs.declared.fault.Fault.{Fault}
-use Rattle.allocative_picture_filter.specs.declared.fault.Fault.TheVariants.{Memory, Line, NotText, TooLarge, Reading}
+use Rattle.allocative_picture_filter.specs.declared.fault.Fault.TheVariants.{Memory, Line, NotText, TooLarge, Empty}
 use Rattle.allocative_picture_filter.specs.declared.fault.Source.{Source}
 use Rattle.allocative_picture_filter.specs.declared.fault.Source.TheVariants.{Input}
 use Rattle.allocative_picture_filter.specs.declared.run.Text.{Text}
@@ -60,8 +60,8 @@ abbrev pub written_of : Bool → Bool → Options → Graph → Graph → List �
 written_of as_text is_alone o g h = cond as_text (text h) (cond is_alone (profile_drawing o h) (change_drawing o g h))
 
 -- What is written of these texts is what the arguments ask for: the text of the graph that they add up to; its picture;
--- or, where there are earlier texts, that of the change from the graph of these. A picture has the title that is asked
--- for, no warned path, and boxes of at least a two-thousandth of its width.
+-- or, where there are earlier texts, that of the change from the graph of these. A picture has the title and the width of
+-- the narrowest box that are asked for, and no warned path. The graph has bytes where it is asked not to be empty.
 pub record IsMade (asked : Arguments) (before : List Text) (after : List Sourced) (made : List ℕ) : Type 0 where
   pub earlier : Graph
   pub later : Graph
@@ -70,7 +70,8 @@ pub record IsMade (asked : Arguments) (before : List Text) (after : List Sourced
   pub options : Options
   pub title : options.title ≡ asked.title
   pub warned : options.warned.now ≡ []
-  pub narrowest : options.narrowest ≡ 500
+  pub narrowest : options.narrowest ≡ asked.narrowest
+  pub some : IsTrue asked.not_empty → 0 < total later
   pub is : made ≡ written_of asked.as_text (length before == 0) options earlier later
 
 -- ---- what stops a run
@@ -101,7 +102,7 @@ StopsAddingUp g (t ∷ ts) f = StopsAdding g t f ⊎ ((next : Graph) × Adds g t
 -- them, is not read.
 abbrev pub StopsProfile : List Text → Bool → List ℕ → Fault → Type 0
 StopsProfile ts reads_input known f = StopsAddingUp default (later_texts ts reads_input known) f
-    ⊎ ((h : Graph) × AddUp (map sourced ts) h × (reads_input ≡ true) × (f ≡ Reading Input))
+    ⊎ ((h : Graph) × AddUp (map sourced ts) h × (reads_input ≡ true) × IsUnread Input f)
 
 -- Why nothing is made of the graph g of the earlier texts and of that of the others: memory runs out, or a change is
 -- asked for, and their bytes together exceed a word.
@@ -109,11 +110,17 @@ abbrev pub StopsWriting : Bool → Graph → List Sourced → Fault → Type 0
 StopsWriting is_alone g after f =
     (h : Graph) × AddUp after h × StopsJoining (cond is_alone 0 (total g + total h)) f
 
--- Why nothing is made: the earlier texts are not added up; or they are, and there is no graph of the profile, or
--- nothing is made of both. So the first fault in the order of the texts is told.
+-- Why a profile is refused: it has 0 bytes, and is asked not to be empty.
+abbrev pub StopsEmpty : Bool → List Sourced → Fault → Type 0
+StopsEmpty not_empty after f =
+    (h : Graph) × AddUp after h × IsTrue not_empty × (total h ≡ 0) × (f ≡ Empty)
+
+-- Why nothing is made: the earlier texts are not added up; or they are, and there is no graph of the profile, or it is
+-- refused, or nothing is made of both. So the first fault in the order of the texts is told.
 abbrev pub Stops : Arguments → List Text → List Text → List ℕ → Fault → Type 0
 Stops asked before after known f = StopsAddingUp default (map sourced before) f
     ⊎ ((g : Graph) × AddUp (map sourced before) g × (StopsProfile after asked.reads_input known f
+    ⊎ StopsEmpty asked.not_empty (later_texts after asked.reads_input known) f
     ⊎ StopsWriting (asked.as_text || (length before == 0)) g (later_texts after asked.reads_input known) f))
 
 -- The status is that of a fault which stops the run.

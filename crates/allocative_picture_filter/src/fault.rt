@@ -2,10 +2,12 @@
 ghost use Rattle.std.specs.Prelude.{◌≡◌};
 ghost use Rattle.allocative_picture_filter.specs.Fault.{status_of};
 
+use crate::arguments::Misuse;
 use allocative_graph::read::{LEVELS, LineFault};
 use allocative_graph::refusal::Refusal;
 use std::alloc::{AllocError, AllocFailed};
 use std::fmt;
+use std::io::ErrorKind;
 
 /// Where a text comes from.
 #[derive(Clone, Copy, Debug, PartialEq, Eq)]
@@ -27,12 +29,14 @@ pub enum Fault<'a> {
     NotText(Source<'a>),
     /// The bytes of all lines together exceed `usize::MAX`.
     TooLarge,
-    /// An argument is unknown, repeated or incomplete.
-    Arguments,
-    /// A read failed.
-    Reading(Source<'a>),
+    /// The arguments are none, and this is wrong with them.
+    Arguments(Misuse<'a>),
+    /// A read failed, with an error of this kind.
+    Reading(Source<'a>, ErrorKind),
     /// A write failed.
     Writing,
+    /// The profile has 0 bytes, and is asked to have some.
+    Empty,
 }
 
 impl Fault<'_> {
@@ -46,10 +50,21 @@ impl Fault<'_> {
             Fault::Line(_, _, _) => 2,
             Fault::NotText(_) => 3,
             Fault::TooLarge => 4,
-            Fault::Arguments => 5,
-            Fault::Reading(_) => 6,
+            Fault::Arguments(_) => 5,
+            Fault::Reading(_, _) => 6,
             Fault::Writing => 7,
+            Fault::Empty => 8,
         }
+    }
+}
+
+// Why a read failed, as the end of a line, where there is more to say than that it did.
+fn cause(kind: ErrorKind) -> &'static str {
+    match kind {
+        ErrorKind::NotFound => ": no such file",
+        ErrorKind::PermissionDenied => ": no permission",
+        ErrorKind::IsADirectory => ": it is a directory",
+        _ => "",
     }
 }
 
@@ -85,10 +100,11 @@ impl fmt::Display for Fault<'_> {
             Fault::NotText(Source::Input) => write!(f, "a text is not UTF-8"),
             Fault::NotText(source) => write!(f, "{source} is not UTF-8"),
             Fault::TooLarge => write!(f, "sizes do not fit"),
-            Fault::Arguments => write!(f, "unknown or repeated word"),
-            Fault::Reading(Source::Input) => write!(f, "cannot read input"),
-            Fault::Reading(source) => write!(f, "cannot read {source}"),
+            Fault::Arguments(misuse) => write!(f, "{misuse}"),
+            Fault::Reading(Source::Input, kind) => write!(f, "cannot read input{}", cause(kind)),
+            Fault::Reading(source, kind) => write!(f, "cannot read {source}{}", cause(kind)),
             Fault::Writing => write!(f, "cannot write output"),
+            Fault::Empty => write!(f, "the profile has 0 bytes"),
         }
     }
 }

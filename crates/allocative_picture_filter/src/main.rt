@@ -6,7 +6,7 @@ mod arguments;
 mod fault;
 mod run;
 
-use arguments::read_arguments;
+use arguments::{Misuse, read_arguments};
 use fault::{Fault, Source};
 use run::{Text, read_text, run, show_usage, tell};
 use std::env;
@@ -20,7 +20,7 @@ fn arguments_of<R: Env + AllocGlobal>(rt: &R) -> Result<Vec<String>, Fault<'stat
     match env::args(rt) {
         Ok(args) => Ok(args.skip(1).collect(rt.alloc())?),
         Err(error) if error.kind() == ErrorKind::OutOfMemory => Err(Fault::Memory),
-        Err(_) => Err(Fault::Arguments),
+        Err(_) => Err(Fault::Arguments(Misuse::NotText)),
     }
 }
 
@@ -29,7 +29,7 @@ fn read_file<'a, R: Files + AllocGlobal>(rt: &R, name: &'a str) -> Result<Text<'
     match File::open(rt, name) {
         Ok(mut file) => read_text(rt.alloc(), Source::File(name), &mut file),
         Err(error) if error.kind() == ErrorKind::OutOfMemory => Err(Fault::Memory),
-        Err(_) => Err(Fault::Reading(Source::File(name))),
+        Err(error) => Err(Fault::Reading(Source::File(name), error.kind())),
     }
 }
 

@@ -1,8 +1,8 @@
 //! The whole program, over any reader and two writers.
-ghost use Rattle.std.specs.Prelude.{◌≡◌, ◌≢◌, ◌⊎◌, ℕ, OnOk, IfOk, IfErr, IfSome, List, map, string_bytes};
+ghost use Rattle.std.specs.Prelude.{◌≡◌, ◌≢◌, ◌⊎◌, ◌&&◌, ◌==◌, ℕ, OnOk, IfOk, IfErr, IfSome, List, map, string_bytes};
 ghost use Rattle.std.specs.Io.KnownBytes.{Appends};
-ghost use Rattle.allocative_graph.specs.Graph.{default};
-ghost use Rattle.allocative_picture_filter.specs.Fault.{status_of};
+ghost use Rattle.allocative_graph.specs.Graph.{default, total};
+ghost use Rattle.allocative_picture_filter.specs.Fault.{status_of, IsUnread};
 ghost use Rattle.allocative_picture_filter.specs.Run.{sourced, without_mark, later_texts, Reads, Adds, AddUp, StopsReading, StopsAdding, StopsAddingUp, StopsProfile, Stops, IsMade, IsStopped};
 
 use crate::arguments::Arguments;
@@ -35,8 +35,8 @@ fn without_mark(bytes: &'static [u8]) -> &'static [u8]
     }
 }
 
-/// Reads all bytes of a reader, and leaves out a byte-order mark at their beginning. It fails with `Fault::Reading` if a read fails. The only other error is
-/// `Fault::Memory`. An interrupted read is repeated.
+/// Reads all bytes of a reader, and leaves out a byte-order mark at their beginning. It fails with `Fault::Reading` if a
+/// read fails. The only other error is `Fault::Memory`. An interrupted read is repeated.
 pub fn read_text<'a, R: Read>(
     alloc: Global,
     source: Source<'a>,
@@ -45,7 +45,7 @@ pub fn read_text<'a, R: Read>(
     ensures ok { IfOk result
         (λ text. IfSome (R.remaining input.old) (λ known. text.bytes.now ≡ without_mark known)) }
     ensures source { IfOk result (λ text. text.source ≡ source.entry) }
-    ensures err { IfErr result (λ f. (f ≡ Fault.Memory) ⊎ (f ≡ Fault.Reading source.entry)) }
+    ensures err { IfErr result (λ f. (f ≡ Fault.Memory) ⊎ IsUnread source.entry f) }
 {
     let mut bytes = Vec::new(alloc);
     let mut piece = [0u8; 4096];
@@ -59,10 +59,10 @@ pub fn read_text<'a, R: Read>(
             }
             Ok(count) => bytes.extend_from_slice(&piece[..count])?,
             Err(error) if error.kind() == ErrorKind::Interrupted => {}
-            Err(_) => return Err(Fault::Reading(source)),
+            Err(error) => return Err(Fault::Reading(source, error.kind())),
         }
     }
-    Err(Fault::Reading(source))
+    Err(Fault::Reading(source, ErrorKind::Other))
 }
 
 // Writes the whole text.
@@ -90,7 +90,7 @@ pub fn show_usage<W: Write, E: Write>(output: &mut W, errors: &mut E) -> u8
     ensures { result ≢ 0 → result ≡ 7 }
 {
     let usage =
-        "usage: allocative-picture [--title TEXT] [--text] [--before EARLIER].. [FILE | -]..\n\nAdds up collapsed stacks, lines of keys joined by `;`, a space and a number of bytes, and writes their picture to\nstandard output. They are read from the files, and from standard input where `-` or no file is named. With files of\nearlier stacks the picture is that of the change. With --text the added lines are written in place of a picture.\n";
+        "usage: allocative-picture [--title TEXT] [--narrowest WIDTH] [--text] [--not-empty] [--before EARLIER].. [FILE | -]..\n\nAdds up collapsed stacks, lines of keys joined by `;`, a space and a number of bytes, and writes their picture to\nstandard output. They are read from the files, and from standard input where `-` or no file is named. With files of\nearlier stacks the picture is that of the change. With --text the added lines are written in place of a picture.\nWIDTH is that of the narrowest box, in millionths of the picture's width. With --not-empty a profile of 0 bytes is\nrefused.\n";
     match write_text(output, usage) {
         Ok(()) => 0,
         Err(fault) => tell(errors, fault),
@@ -155,6 +155,13 @@ fn later_graph<'a, R: Read>(
     Ok(graph)
 }
 
+// Whether a profile is asked not to be empty, and has 0 bytes.
+fn is_refused(not_empty: bool, profile: &FlameGraph) -> bool
+    ensures { result ≡ (not_empty && (total profile.now == 0)) }
+{
+    not_empty && profile.total_size() == 0
+}
+
 // Makes what the arguments ask for: the added text, the picture, or that of a change.
 fn make<'a, R: Read>(
     alloc: Global,
@@ -173,8 +180,12 @@ fn make<'a, R: Read>(
     let later = later_graph(alloc, after, asked.reads_input, input)?;
     let options = Options {
         title: asked.title,
+        narrowest: asked.narrowest,
         ..Options::default()
     };
+    if is_refused(asked.not_empty, &later) {
+        return Err(Fault::Empty);
+    }
     if asked.as_text {
         Ok(later.write()?)
     } else if before.is_empty() {
@@ -195,7 +206,8 @@ fn make<'a, R: Read>(
 /// - 3 that a text is not UTF-8,
 /// - 4 that a number, the bytes of a text, of some texts together, or of both graphs of a change exceed `usize::MAX`,
 /// - 6 that the input is not read,
-/// - 7 that all this is made, and cannot be written.
+/// - 7 that all this is made, and cannot be written,
+/// - 8 that the profile has 0 bytes, and is asked not to be empty.
 pub fn run<'a, R: Read, W: Write, E: Write>(
     alloc: Global,
     asked: &Arguments<'a>,
