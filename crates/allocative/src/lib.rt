@@ -7,7 +7,7 @@
 
 pub mod allocative_trait;
 pub mod impls;
-pub mod part;
+mod part;
 pub mod run;
 pub mod visitor;
 
@@ -15,9 +15,7 @@ pub use crate::allocative_trait::Allocative;
 pub use crate::impls::pack_impls::json::visit_json_map;
 pub use crate::part::containers::{Buffer, Each, FieldEach, Items, Pairs, Text, Unused};
 pub use crate::part::named::Named;
-pub use crate::part::{
-    Declared, Field, Inside, IntoKey, Part, Shared, Unique, Whole, containers, named,
-};
+pub use crate::part::{Declared, Field, Inside, IntoKey, Part, Shared, Unique, Whole};
 pub use crate::run::builder::FlameGraphBuilder;
 pub use crate::run::profile::{profile_value, profile_values};
 pub use crate::run::registry::{Registry, profile_roots};

@@ -4,8 +4,7 @@
 ghost use Rattle.std.specs.Prelude.{◌&&◌, true, codes, Some};
 ghost use Rattle.allocative.specs.Shows.{Inside, Field, Both};
 
-use allocative::part::{Field, Inside, Part};
-use allocative::{Allocative, Described, Refusal, Visitor};
+use allocative::{Allocative, Described, Field, Inside, Part, Refusal, Visitor};
 
 /// A count of what passed.
 #[derive(Drop)]

@@ -132,6 +132,13 @@ fn whole_numbers(rt: HostRuntime) {
 }
 
 #[test]
+fn fractions_and_letters(rt: HostRuntime) {
+    assert!(rt; is::<f32>("f32", 4, 4, false));
+    assert!(rt; is::<f64>("f64", 8, 8, false));
+    assert!(rt; is::<char>("char", 4, 4, false));
+}
+
+#[test]
 fn numbers_that_are_not_zero(rt: HostRuntime) {
     assert!(rt; is::<NonZeroU8>("NonZeroU8", 1, 1, false));
     assert!(rt; is::<NonZeroU16>("NonZeroU16", 2, 2, false));

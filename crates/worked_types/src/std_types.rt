@@ -51,6 +51,18 @@ fn numbers(rt: HostRuntime) -> Result<(), Fail> {
 }
 
 #[test]
+fn fractions_and_letters(rt: HostRuntime) -> Result<(), Fail> {
+    let rows: [(&dyn Allocative, &str); 5] = [
+        (&1.5f32, "f32 4\n"),
+        (&1.5f64, "f64 8\n"),
+        (&'a', "char 4\n"),
+        (&Some(1.5f64), "Option 8\nOption;Some;f64 8\n"),
+        (&[1.5f32, 2.5], "f32;data;f32 8\n"),
+    ];
+    expect_each(&rt, &rows)
+}
+
+#[test]
 fn unsigned_numbers_that_are_not_zero(rt: HostRuntime) -> Result<(), Fail> {
     let rows: [(&dyn Allocative, &str); 5] = [
         (&NonZeroU8::new(1).ok_or("zero")?, "NonZeroU8 1\n"),

@@ -1,4 +1,4 @@
-//! Whole numbers, `bool`, numbers that are not zero, and `()`: each number is as large as its alignment, a number
+//! Numbers, `char`, `bool`, numbers that are not zero, and `()`: each number is as large as its alignment, a number
 //! that is not zero is as large as the number, and nothing has a drop.
 
 ghost use Rattle.std.specs.Prelude.{Some, false, codes};
@@ -318,6 +318,84 @@ impl Described for isize {
 
     fn size() -> Option<usize> {
         Some(8)
+    }
+}
+
+impl Described for f32 {
+    ghost name = { codes "f32" };
+
+    ghost align = { 4 };
+
+    ghost needs_drop = { false };
+
+    ghost size = { Some 4 };
+
+    fn name() -> &'static str {
+        "f32"
+    }
+
+    fn align() -> usize {
+        4
+    }
+
+    fn needs_drop() -> bool {
+        false
+    }
+
+    fn size() -> Option<usize> {
+        Some(4)
+    }
+}
+
+impl Described for f64 {
+    ghost name = { codes "f64" };
+
+    ghost align = { 8 };
+
+    ghost needs_drop = { false };
+
+    ghost size = { Some 8 };
+
+    fn name() -> &'static str {
+        "f64"
+    }
+
+    fn align() -> usize {
+        8
+    }
+
+    fn needs_drop() -> bool {
+        false
+    }
+
+    fn size() -> Option<usize> {
+        Some(8)
+    }
+}
+
+impl Described for char {
+    ghost name = { codes "char" };
+
+    ghost align = { 4 };
+
+    ghost needs_drop = { false };
+
+    ghost size = { Some 4 };
+
+    fn name() -> &'static str {
+        "char"
+    }
+
+    fn align() -> usize {
+        4
+    }
+
+    fn needs_drop() -> bool {
+        false
+    }
+
+    fn size() -> Option<usize> {
+        Some(4)
     }
 }
 

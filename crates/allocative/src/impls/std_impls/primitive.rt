@@ -1,4 +1,4 @@
-//! Whole numbers, numbers that are not zero, `bool` and the unit type: one entry each.
+//! Numbers, numbers that are not zero, `char`, `bool` and the unit type: one entry each.
 
 ghost use Rattle.std.specs.Prelude.{true, codes};
 ghost use Rattle.allocative.specs.StdShows.{Leaf};
@@ -126,6 +126,36 @@ impl Allocative for isize {
 
     fn visit(&self, visitor: &mut Visitor<'_>) -> Result<(), Refusal> {
         visitor.visit_simple_sized::<isize>()
+    }
+}
+
+impl Allocative for f32 {
+    ghost may_show = { λ _. Leaf (codes "f32") 4 };
+
+    ghost is_exact = { true };
+
+    fn visit(&self, visitor: &mut Visitor<'_>) -> Result<(), Refusal> {
+        visitor.visit_simple_sized::<f32>()
+    }
+}
+
+impl Allocative for f64 {
+    ghost may_show = { λ _. Leaf (codes "f64") 8 };
+
+    ghost is_exact = { true };
+
+    fn visit(&self, visitor: &mut Visitor<'_>) -> Result<(), Refusal> {
+        visitor.visit_simple_sized::<f64>()
+    }
+}
+
+impl Allocative for char {
+    ghost may_show = { λ _. Leaf (codes "char") 4 };
+
+    ghost is_exact = { true };
+
+    fn visit(&self, visitor: &mut Visitor<'_>) -> Result<(), Refusal> {
+        visitor.visit_simple_sized::<char>()
     }
 }
 
