@@ -89,6 +89,10 @@ entered_if h o m = record {
 pub entered_as : {d : Bool} {p q : Showing} {a b : Visitor} {r : Result (Unit {0}) Refusal} → Entered d p a b r → Means d p q → Entered d q a b r
 entered_as h m = entered_if h exact_same m
 
+-- An entry of a size that is there is an inline entry.
+pub entered_inline : {d : Bool} {k : Key} {n : ℕ} {p : Showing} {a b : Visitor} {r : Result (Unit {0}) Refusal} → Entered d (Field k (Some n) p) a b r → Entered d (Inside k n p) a b r
+entered_inline h = entered_as h (means_either (λ f x. elim x [ sized y ↦ y ]) (λ f x. sized x))
+
 -- What was entered need not be exact.
 pub entered_loosely : {e : Bool} {p : Showing} {a b : Visitor} {r : Result (Unit {0}) Refusal} → Entered e p a b r → Entered false p a b r
 entered_loosely h = entered_if h exact_never means_same

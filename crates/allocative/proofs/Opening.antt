@@ -6,6 +6,7 @@ use Rattle.allocative_graph.specs.Collector.{Holding}
 use Rattle.allocative_graph.specs.Sums.{entered}
 use Rattle.allocative_graph.specs.Visits.{Refuses}
 use Rattle.allocative.specs.Making.{had_failed}
+use Rattle.allocative.proofs.Visits.{refuses_entry}
 
 -- ---- opening an entry
 pub opens_failed : {u : Bool} {k : Key} {y : Option ℕ} {s t : State} {r : Refusal} → s ≡ Failed r → t ≡ Failed r → OpensEntry u k y s (Err r) t
@@ -51,4 +52,4 @@ shared_met c d true i r m j = rw (i, j) (enters_first r m.0 m.1)
 shared_met c d false i r m j = rw (i, j) (enters_again r m.0 m.1)
 
 -- The rules for the collector's own calls.
-pub ruleset opening = (opens_failed, opens_refused, opens_entered, makes_failed_entry, makes_refused_entry, makes_one, none_failed, none_made, shared_failed, shared_held, shared_refused, shared_met)
+pub ruleset opening = (opens_failed, opens_refused, opens_entered, makes_failed_entry, makes_refused_entry, makes_one, none_failed, none_made, shared_failed, shared_held, shared_refused, shared_met, refuses_entry)

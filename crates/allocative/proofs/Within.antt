@@ -8,7 +8,7 @@ use Rattle.allocative.specs.Making.{had_failed, MakesFirst, MakesPlanOrGives, fi
 use Rattle.allocative.specs.Exact as refuses
 use Rattle.allocative.proofs.Making.{goes_on, nothing_inside, makes_entry, makes_failed, failed_closed}
 use Rattle.allocative.proofs.Exact.{only_if_full_nothing, only_if_full_field, only_if_full_not_field, only_if_full_first, only_if_full_both, only_if_full_content}
-use Rattle.allocative.proofs.Meaning.{entered_as}
+use Rattle.allocative.proofs.Meaning.{entered_inline}
 use Rattle.allocative.proofs.Visits.{adds_nothing, adds_both, adds_err, adds_field, not_entered, not_entered_cause}
 
 -- A result that is some Err is that Err.
@@ -33,7 +33,7 @@ entered_alone_sized (entry_refused g) = record { same_reference = refl; same_out
 entered_alone_sized (inside_refused g had_failed) = absurd (stays_in g)
 
 pub entered_alone : {x : Bool} {k : Key} {n : ℕ} {a : Visitor} {t : State} {r : Result Unit Refusal} → Makes (one k (Some n)) a.collector.now r t → Entered x (Inside k n Nothing) a (with_state a t) r
-entered_alone m = entered_as (entered_alone_sized m) (record { means = λ f x. elim x [ sized y ↦ y ]; declared = λ i d. (d.0, sized d.1, d.2) })
+entered_alone m = entered_inline (entered_alone_sized m)
 
 -- ---- the entries that are made
 pub makes_within : {k : Key} {size : Option ℕ} {inside : Plan} {o : Outer} {s t c d : State} {r : Result Unit Refusal} → OpensEntry false k size s (Ok o) t → Makes inside t r c → ClosesEntry o c d → Makes (Entry k size inside Done) s r d

@@ -11,9 +11,7 @@ ghost use Rattle.allocative.specs.Visited.{Entered};
 ghost use Rattle.allocative.specs.Parts.{optional_shows, either_shows};
 
 pub mod containers;
-pub(crate) mod iterators;
 pub mod named;
-pub(crate) mod slices;
 
 use crate::{Allocative, Described, Identity, Key, Refusal, Visitor};
 use either::Either;
@@ -102,12 +100,7 @@ impl<K: IntoKey, P: Part> Part for Inside<K, P> {
 
     #[inline(always)]
     fn enter(self, visitor: &mut Visitor<'_>) -> Result<(), Refusal> {
-        let outer = visitor
-            .collector
-            .open_entry(self.0.into_key(), Some(self.1), false)?;
-        let answer = self.2.enter(visitor);
-        visitor.collector.close_entry(outer);
-        answer
+        visitor.visit_inside(self.0.into_key(), Some(self.1), self.2)
     }
 }
 
@@ -128,12 +121,7 @@ impl<K: IntoKey, P: Part> Part for Declared<K, P> {
 
     #[inline(always)]
     fn enter(self, visitor: &mut Visitor<'_>) -> Result<(), Refusal> {
-        let outer = visitor
-            .collector
-            .open_entry(self.0.into_key(), self.1, false)?;
-        let answer = self.2.enter(visitor);
-        visitor.collector.close_entry(outer);
-        answer
+        visitor.visit_inside(self.0.into_key(), self.1, self.2)
     }
 }
 

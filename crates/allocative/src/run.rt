@@ -3,6 +3,5 @@
 pub mod builder;
 pub mod profile;
 pub mod registry;
-mod root_visits;
 pub mod size_of;
 pub mod sum_of_two;

@@ -1,14 +1,10 @@
 //! Visitors: places in a collector where values enter what they hold.
 #![tactic(auto, using(crate::proofs::Showing::showing))]
 
-ghost use Rattle.std.specs.Prelude.{◌≡◌, IfOk, IfErr, IfSome, Err, Some, true, false};
-ghost use Rattle.allocative_graph.specs.Collector.{no_outer};
+ghost use Rattle.std.specs.Prelude.{◌≡◌, IfOk, IfErr, IfSome, Some, true, false};
 ghost use Rattle.allocative_graph.specs.Shows.{Inside, Nothing};
-ghost use Rattle.allocative_graph.specs.Visits.{RefusesEntry, Settles};
-ghost use Rattle.allocative.specs.Lending.{LendsEntered, OpensEntryAt, LendsBegun, LendsBegunGraph};
-ghost use Rattle.allocative.specs.Built.{as_graph};
 ghost use Rattle.allocative.specs.Making.{MakesPlan, one};
-ghost use Rattle.allocative.specs.Visited.{Entered, WasVisited, Refused, Exits, OpensRootAt, collector_of};
+ghost use Rattle.allocative.specs.Visited.{Entered, WasVisited, Refused, Exits, collector_of};
 ghost use Rattle.allocative.specs.Nested.{LendsNested, LendsShared, Nests, NestsContent, IsContents, IsRefused};
 ghost use Rattle.allocative.specs.Shared.{AnswersShared, turned, answered};
 ghost use Rattle.std.specs.Borrow.{sem};
@@ -16,6 +12,8 @@ ghost use Rattle.std.specs.Borrow.{sem};
 pub mod by_hand;
 pub mod collector;
 pub mod entries;
+pub(crate) mod iterators;
+pub(crate) mod slices;
 
 use crate::visitor::collector::Collector;
 use crate::{Allocative, Described, Identity, Key, Refusal};
@@ -24,7 +22,7 @@ use crate::{Allocative, Described, Identity, Key, Refusal};
 pub struct Visitor<'a> {
     pub(crate) collector: &'a mut Collector,
     // What leaving the entry restores. It is used only when counting held bytes.
-    outer: bool,
+    pub(crate) outer: bool,
 }
 
 impl Drop for Visitor<'_> {
@@ -34,69 +32,6 @@ impl Drop for Visitor<'_> {
     {
         let Visitor { collector, outer } = self;
         collector.close_entry(outer);
-    }
-}
-
-impl Collector {
-    /// Enters inline with a declared size: one more entry of that size under the key, and a visitor at it. It
-    /// returns `TooLarge` where there is no size; the other errors are those of `by_hand::enter`.
-    #[inline(always)]
-    pub(crate) fn enter_sized(
-        &mut self,
-        key: Key,
-        size: Option<usize>,
-    ) -> Result<Visitor<'_>, Refusal>
-        ensures* lent { sem 𝓛 (LendsEntered false key size self.entry result) }
-        ensures same_reference { IfOk result (λ v. v.collector.ghost_name ≡ self.entry.ghost_name) }
-        ensures entered { IfOk result (OpensEntryAt false key size self.old) }
-        ensures refused { IfErr result (RefusesEntry false size self.old) }
-    {
-        let outer = self.open_entry(key, size, false)?;
-        Ok(Visitor {
-            collector: self,
-            outer,
-        })
-    }
-
-    /// A visitor at the content of a shared value, where `open_shared` returned that it is to be
-    /// shown. It allocates nothing.
-    pub(crate) fn content(&mut self) -> Visitor<'_>
-        ensures same_reference { result.collector.ghost_name ≡ self.entry.ghost_name }
-        ensures outer { result.outer ≡ no_outer }
-        ensures now { result.collector.now ≡ self.old }
-    {
-        // Only a flame graph's collector shows contents, and it keeps its own places.
-        Visitor {
-            collector: self,
-            outer: false,
-        }
-    }
-
-    /// A visitor at the root. It returns the first cause where the collector has failed, and
-    /// `Open` where a visitor is open.
-    pub(crate) fn root_visitor(&mut self) -> Result<Visitor<'_>, Refusal>
-        ensures* lent { sem 𝓛 (LendsBegun self.entry result) }
-        ensures same_reference { IfOk result (λ v. v.collector.ghost_name ≡ self.entry.ghost_name) }
-        ensures begun { IfOk result (OpensRootAt self.old) }
-        ensures refused { IfErr result (λ e. Settles self.old (Err e)) }
-    {
-        let outer = self.begin()?;
-        Ok(Visitor {
-            collector: self,
-            outer,
-        })
-    }
-
-    /// A visitor at the root of a flame graph's collector. It returns the first cause where the collector has
-    /// failed, and `Open` where a visitor is open or the collector is that of held bytes.
-    pub(crate) fn graph_root_visitor(&mut self) -> Result<Visitor<'_>, Refusal>
-        ensures* lent { sem 𝓛 (LendsBegunGraph self.entry result) }
-        ensures same_reference { IfOk result (λ v. v.collector.ghost_name ≡ self.entry.ghost_name) }
-        ensures begun { IfOk result (OpensRootAt (as_graph self.old)) }
-        ensures refused { IfErr result (λ e. Settles (as_graph self.old) (Err e)) }
-    {
-        self.check_graph()?;
-        self.root_visitor()
     }
 }
 

@@ -7,7 +7,7 @@ ghost use Rattle.allocative.specs.PackShows.{index_data_shows};
 ghost use Rattle.allocative.specs.Runs.{field_of, pair_shows};
 ghost use Rattle.allocative.specs.StdShows.{in_any_order};
 
-use crate::part::iterators::{FieldUnder, KeyAndValue};
+use crate::visitor::iterators::{FieldUnder, KeyAndValue};
 use crate::{
     Allocative, Declared, Described, Inside, IntoKey, Part, Refusal, Unique, Visitor,
     raw_table_alloc_size_for_len,

@@ -3,24 +3,11 @@
 ghost use Rattle.std.specs.Prelude.{◌≡◌, IfOk, IfErr};
 ghost use Rattle.allocative_graph.specs.Forest.{Forest};
 ghost use Rattle.allocative_graph.specs.Held.{held, ShowsNoContent};
-ghost use Rattle.allocative.specs.Closures.{KeepsVisitor, CalledAt, CalledAtRoot, AnswersSum};
+ghost use Rattle.allocative.specs.Closures.{KeepsVisitor, CalledAtRoot, AnswersSum};
 ghost use Rattle.allocative.specs.SizeOf.{IsSizeOfUnique, MayRefuseHeld, MayRefuseSize, AnswersSize, AnswersVisit};
 
 use crate::visitor::collector::Collector;
 use crate::{Allocative, Described, Refusal, Visitor};
-
-impl Visitor<'_> {
-    // Calls the closure at this visitor. Its refusal is the first cause where nothing had failed.
-    fn call<F: FnOnce(&mut Visitor<'_>) -> Result<(), Refusal>>(&mut self, enter: F)
-        requires callable { F.IsAlwaysCallable enter }
-        requires keeps { KeepsVisitor F.FnOnce enter }
-        ensures { CalledAt F.FnOnce enter self.old self.new }
-    {
-        if let Err(refusal) = enter(self) {
-            self.refuse(refusal);
-        }
-    }
-}
 
 /// The bytes that the root holds on the heap: the sum of the inline entries whose direct parent is a unique entry, with
 /// nothing below a shared entry.

@@ -9,7 +9,7 @@ ghost use Rattle.allocative.specs.Kinds.{kind_of, HasEntered, HasMade, IsHeldSum
 ghost use Rattle.allocative.specs.Built.{as_graph};
 ghost use Rattle.allocative.specs.Making.{Makes, Done, one};
 
-use crate::{FlameGraphOutput, Identity, Key, Refusal};
+use crate::{Allocative, FlameGraphOutput, Identity, Key, Refusal, Visitor};
 use allocative_collectors::graph_collector::GraphCollector;
 use allocative_collectors::held_collector::HeldCollector;
 use std::alloc::{AllocError, Global};
@@ -298,5 +298,104 @@ impl Collector {
             Kind::Graph(graph) => graph.finish(),
             Kind::Held(_) => Err(Refusal::Open),
         }
+    }
+}
+
+impl Collector {
+    ghost use Rattle.std.specs.Borrow.{sem};
+    ghost use Rattle.std.specs.Prelude.{Err};
+    ghost use Rattle.allocative_graph.specs.Collector.{no_outer};
+    ghost use Rattle.allocative_graph.specs.Visits.{RefusesEntry, VisitsRoot};
+    ghost use Rattle.allocative.specs.Lending.{LendsEntered, OpensEntryAt, LendsBegun, LendsBegunGraph};
+    ghost use Rattle.allocative.specs.Exact.{RootFailsOnlyIfFull};
+    ghost use Rattle.allocative.specs.Visited.{OpensRootAt, VisitsRootWithEffect};
+
+    /// Enters inline with a declared size: one more entry of that size under the key, and a visitor at it. It
+    /// returns `TooLarge` where there is no size; the other errors are those of `by_hand::enter`.
+    #[inline(always)]
+    pub(crate) fn enter_sized(
+        &mut self,
+        key: Key,
+        size: Option<usize>,
+    ) -> Result<Visitor<'_>, Refusal>
+        ensures* lent { sem 𝓛 (LendsEntered false key size self.entry result) }
+        ensures same_reference { IfOk result (λ v. v.collector.ghost_name ≡ self.entry.ghost_name) }
+        ensures entered { IfOk result (OpensEntryAt false key size self.old) }
+        ensures refused { IfErr result (RefusesEntry false size self.old) }
+    {
+        let outer = self.open_entry(key, size, false)?;
+        Ok(Visitor {
+            collector: self,
+            outer,
+        })
+    }
+
+    /// A visitor at the content of a shared value, where `open_shared` returned that it is to be
+    /// shown. It allocates nothing.
+    pub(crate) fn content(&mut self) -> Visitor<'_>
+        ensures same_reference { result.collector.ghost_name ≡ self.entry.ghost_name }
+        ensures outer { result.outer ≡ no_outer }
+        ensures now { result.collector.now ≡ self.old }
+    {
+        // Only a flame graph's collector shows contents, and it keeps its own places.
+        Visitor {
+            collector: self,
+            outer: false,
+        }
+    }
+
+    /// A visitor at the root. It returns the first cause where the collector has failed, and
+    /// `Open` where a visitor is open.
+    pub(crate) fn root_visitor(&mut self) -> Result<Visitor<'_>, Refusal>
+        ensures* lent { sem 𝓛 (LendsBegun self.entry result) }
+        ensures same_reference { IfOk result (λ v. v.collector.ghost_name ≡ self.entry.ghost_name) }
+        ensures begun { IfOk result (OpensRootAt self.old) }
+        ensures refused { IfErr result (λ e. Settles self.old (Err e)) }
+    {
+        let outer = self.begin()?;
+        Ok(Visitor {
+            collector: self,
+            outer,
+        })
+    }
+
+    /// A visitor at the root of a flame graph's collector. It returns the first cause where the collector has
+    /// failed, and `Open` where a visitor is open or the collector is that of held bytes.
+    pub(crate) fn graph_root_visitor(&mut self) -> Result<Visitor<'_>, Refusal>
+        ensures* lent { sem 𝓛 (LendsBegunGraph self.entry result) }
+        ensures same_reference { IfOk result (λ v. v.collector.ghost_name ≡ self.entry.ghost_name) }
+        ensures begun { IfOk result (OpensRootAt (as_graph self.old)) }
+        ensures refused { IfErr result (λ e. Settles (as_graph self.old) (Err e)) }
+    {
+        self.check_graph()?;
+        self.root_visitor()
+    }
+
+    /// Visits an object by a root visitor. What the visit returns is not looked at: the collector keeps the first
+    /// cause. A collector that is closed refuses an object of an exact type only where it must.
+    pub(crate) fn visit_object(&mut self, root: &dyn Allocative) -> Result<(), Refusal>
+        ensures visits_root { VisitsRoot (may_show root.now) self.old result self.new }
+        ensures only_if_full { RootFailsOnlyIfFull (⟦<dyn Allocative as Allocative>⟧ root.now.0).is_exact
+            (may_show root.now) self.old result self.new }
+        ensures visited { VisitsRootWithEffect (may_show root.now) (effect root.now)
+            self.old self.new result }
+    {
+        let mut visitor = self.root_visitor()?;
+        let _told = visitor.visit_object(root);
+        visitor.exit();
+        self.check()
+    }
+
+    /// Visits a value of a known type by a root visitor, with no trait object.
+    pub(crate) fn visit_value<T: Allocative>(&mut self, root: &T) -> Result<(), Refusal>
+        ensures visits_root { VisitsRoot (T.may_show root.now) self.old result self.new }
+        ensures only_if_full { RootFailsOnlyIfFull T.is_exact (T.may_show root.now) self.old result self.new }
+        ensures visited { VisitsRootWithEffect (T.may_show root.now) (T.effect root.now)
+            self.old self.new result }
+    {
+        let mut visitor = self.root_visitor()?;
+        let _told = visitor.visit_value(root);
+        visitor.exit();
+        self.check()
     }
 }

@@ -5,7 +5,7 @@ ghost use Rattle.std.specs.Prelude.{true, codes, length, Some};
 ghost use Rattle.allocative_graph.specs.Shows.{Inside, InsideUnique, Field, Nothing};
 ghost use Rattle.allocative.specs.Making.{MakesPlan, MakesFirst, one};
 ghost use Rattle.allocative.specs.Visited.{Entered};
-ghost use Rattle.allocative.specs.Closures.{KeepsVisitor, CalledInside};
+ghost use Rattle.allocative.specs.Closures.{KeepsVisitor, CalledAt, CalledInside};
 
 use crate::by_hand::enter;
 use crate::{Allocative, Described, Key, Part, Refusal, Visitor};
@@ -21,6 +21,24 @@ impl Visitor<'_> {
         self.visit_sized(Key::for_type_name::<T>(), T::size())
     }
 
+    /// One inline entry of a declared size, with the part inside it. It is `TooLarge` if there is no size; its other
+    /// errors are those of `enter`. The part's own errors come after it.
+    #[inline(always)]
+    pub(crate) fn visit_inside<P: Part>(
+        &mut self,
+        key: Key,
+        size: Option<usize>,
+        inside: P,
+    ) -> Result<(), Refusal>
+        ensures entered { Entered P.is_exact (Field key size (P.may_show inside)) self.old self.new result }
+        ensures first { MakesFirst key size self.old self.new result }
+    {
+        let outer = self.collector.open_entry(key, size, false)?;
+        let answer = inside.enter(self);
+        self.collector.close_entry(outer);
+        answer
+    }
+
     /// One inline entry of the field's declared size in bytes, with what the field shows inside it.
     ///
     /// A collector that has failed returns its first cause. The entry is `TooLarge` where there is no size; its
@@ -33,10 +51,7 @@ impl Visitor<'_> {
         ensures entered { Entered T.is_exact (Field name T.size (T.may_show field.now)) self.old self.new result }
         ensures first { MakesFirst name T.size self.old self.new result }
     {
-        let outer = self.collector.open_entry(name, T::size(), false)?;
-        let answer = field.enter(self);
-        self.collector.close_entry(outer);
-        answer
+        self.visit_inside(name, T::size(), field)
     }
 
     /// One inline entry of `size` bytes, with what the closure enters inside it.
@@ -60,6 +75,17 @@ impl Visitor<'_> {
         }
         inner.exit();
         Ok(())
+    }
+
+    /// Calls the closure at this visitor. Its refusal is the first cause if nothing had failed.
+    pub(crate) fn call<F: FnOnce(&mut Visitor<'_>) -> Result<(), Refusal>>(&mut self, enter: F)
+        requires callable { F.IsAlwaysCallable enter }
+        requires keeps { KeepsVisitor F.FnOnce enter }
+        ensures { CalledAt F.FnOnce enter self.old self.new }
+    {
+        if let Err(refusal) = enter(self) {
+            self.refuse(refusal);
+        }
     }
 
     /// One inline entry `str` of the text's length in bytes. The errors are those of `enter`.

@@ -8,7 +8,7 @@ ghost use Rattle.allocative.specs.Making.{MakesFirst};
 ghost use Rattle.allocative.specs.Runs.{pair_shows};
 ghost use Rattle.allocative.specs.Visited.{Entered};
 
-use crate::part::iterators::EnterItem;
+use crate::visitor::iterators::EnterItem;
 use crate::{
     Allocative, Buffer, Declared, Each, Field, Inside, Key, Part, Refusal, Unique, Visitor,
 };

@@ -5,8 +5,8 @@ ghost use Rattle.slab.specs.Slab.{values};
 ghost use Rattle.allocative_graph.specs.Shows as shows;
 ghost use Rattle.allocative.specs.PackShows.{slab_inside};
 
-use crate::part::iterators::Itself;
-use crate::part::slices::are_shown_each;
+use crate::visitor::iterators::Itself;
+use crate::visitor::slices::are_shown_each;
 use crate::{Allocative, Buffer, Described, Inside, Key, Part, Refusal, Visitor};
 use slab::Slab;
 

@@ -11,7 +11,7 @@ ghost use Rattle.allocative.specs.Visited.{Entered};
 ghost use Rattle.allocative.specs.Bodies.{are_shown_each};
 ghost use Rattle.allocative.specs.Runs.{IsOfRun, RefusesAlong, RefusesCounted, CountsRun, field_of, pair_shows};
 
-use crate::part::slices::are_shown_each;
+use crate::visitor::slices::are_shown_each;
 use crate::{Allocative, Described, Key, Part, Refusal, Visitor};
 
 // The number of items that the iterator gives, or `None` where it does not fit.

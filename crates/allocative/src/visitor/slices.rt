@@ -8,7 +8,7 @@ ghost use Rattle.allocative.specs.Making.{MakesPlan, MakesFirst, Keeps, Done, on
 ghost use Rattle.allocative.specs.Visited.{Entered};
 ghost use Rattle.allocative.specs.Bodies.{are_shown_each, bytes_shown, vec_body, data_shows, slice_of};
 
-use crate::part::iterators::{FieldUnder, Itself};
+use crate::visitor::iterators::{FieldUnder, Itself};
 use crate::{Allocative, Described, Key, Refusal, Visitor};
 
 /// The bytes of `count` items. `None` where an item has no size, where there is no count, or
