@@ -1,5 +1,6 @@
 //! The laws of the definitions. Each is a function without parameters, whose contract is the law.
 ghost use Rattle.allocative_graph.specs.Laws.{OrderLaw, MeaningLaw, MergeLaw, TextLaw, SumsLaw, PlusLaw, SharedLaw, PathOrderLaw, GraphSumsLaw, GraphLaw, ExactLaw, ReadLaw};
+ghost use Rattle.allocative_graph.specs.Owned.{OwnedLaw};
 ghost use Rattle.allocative_graph.specs.WorkedExamples.{WorkedExamples};
 
 /// Two whole showings that agree up to order reach the same identities, and have the same graph, text and warnings.
@@ -67,6 +68,13 @@ pub fn graph_sums_law()
 /// bytes.
 pub fn graph_law()
     ensures { GraphLaw }
+{}
+
+/// What forests own adds up, in any order of the entries. Where the entries at each path are alike, it is the total of
+/// the graph of the own entries: either each is unique, or none is and each has at least the bytes directly inside it,
+/// or none is and each has at most those.
+pub fn owned_law()
+    ensures { OwnedLaw }
 {}
 
 /// Worked examples: what some showings print, and how many bytes some hold.
