@@ -1,10 +1,10 @@
 -- The collector's own steps as the relations of visits, whose arguments are found by search.
 use Rattle.std.proofs.Common.{◌≡◌, ℕ, Bool, true, false, None, Some, Result, Ok, Err, refl}
-use Rattle.allocative.proofs.Common.{Outer, Refusal, TooLarge, Key, Identity, OfGraph, OfHeld, State, Failed, Going, failed_with, close_entry, HasFailed, OpensEntry, stays_failed, is_refused, is_entered, is_unsized, OpensShared, stays_shared, is_refused_shared, goes_past, enters_first, enters_again, StepsInShared, Done, one, Makes, made_none, made, entry_refused}
+use Rattle.allocative.proofs.Common.{Outer, Refusal, TooLarge, Key, Identity, OfGraph, OfHeld, OfOwned, State, Failed, Going, failed_with, close_entry, HasFailed, OpensEntry, stays_failed, is_refused, is_entered, is_unsized, OpensShared, stays_shared, is_refused_shared, goes_past, is_too_large_shared, counts, enters_first, enters_again, StepsInShared, Done, one, Makes, made_none, made, entry_refused}
 use Rattle.allocative.specs.Steps.{StepsIn, StepsSimple}
 use Rattle.allocative.specs.Making.{had_failed}
 
-pub enters_by_step : (u : Bool) (k : Key) (n : ℕ) (s : State) (r : Result Bool Refusal) (t : State) → StepsIn u k n s r t → OpensEntry u k (Some n) s r t
+pub enters_by_step : (u : Bool) (k : Key) (n : ℕ) (s : State) (r : Result Outer Refusal) (t : State) → StepsIn u k n s r t → OpensEntry u k (Some n) s r t
 enters_by_step u k n (Failed q) r t (e, f) = rw (e, f) stays_failed
 enters_by_step u k n (Going b) (Ok o) t (r, e, f) = rw f (is_entered r e refl)
 enters_by_step u k n (Going b) (Err x) t (r, f) = rw f (is_refused r)
@@ -15,6 +15,9 @@ shared_by_step k n i (Going (OfHeld h)) r t (e, f) = rw (e, f) goes_past
 shared_by_step k n i (Going (OfGraph c)) (Ok true) t (r, d, (h, e), f) = rw f (enters_first r h e)
 shared_by_step k n i (Going (OfGraph c)) (Ok false) t (r, d, (h, e), f) = rw f (enters_again r h e)
 shared_by_step k n i (Going (OfGraph c)) (Err e) t (r, f) = rw f (is_refused_shared r)
+shared_by_step k n i (Going (OfOwned o)) (Ok true) t (r, e, f) = absurd (cc)
+shared_by_step k n i (Going (OfOwned o)) (Ok false) t (r, e, f) = rw f (counts r refl)
+shared_by_step k n i (Going (OfOwned o)) (Err x) t (e, r, f) = rw f (is_too_large_shared e r)
 
 -- An entry without a declared size is TooLarge.
 pub unsized_by_refusal : (k : Key) (s : State) (e : Refusal) (t : State) → t ≡ failed_with TooLarge s → HasFailed t e → OpensEntry false k None s (Err e) t

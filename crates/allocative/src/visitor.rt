@@ -19,12 +19,13 @@ pub mod entries;
 
 use crate::visitor::collector::Collector;
 use crate::{Allocative, Described, Identity, Key, Refusal};
+use allocative_graph::outer::Outer;
 
 /// A place in a collector. Dropping it, or calling `exit`, goes one step back.
 pub struct Visitor<'a> {
     pub(crate) collector: &'a mut Collector,
-    // What leaving the entry restores. It is used only when counting held bytes.
-    outer: bool,
+    // What leaving the entry restores. It is used only when bytes are counted without a graph.
+    outer: Outer,
 }
 
 impl Drop for Visitor<'_> {
@@ -68,7 +69,7 @@ impl Collector {
         // Only a flame graph's collector shows contents, and it keeps its own places.
         Visitor {
             collector: self,
-            outer: false,
+            outer: Outer::none(),
         }
     }
 
@@ -88,7 +89,7 @@ impl Collector {
     }
 
     /// A visitor at the root of a flame graph's collector. It returns the first cause where the collector has
-    /// failed, and `Open` where a visitor is open or the collector is that of held bytes.
+    /// failed, and `Open` if a visitor is open or the collector is not that of a flame graph.
     pub(crate) fn graph_root_visitor(&mut self) -> Result<Visitor<'_>, Refusal>
         ensures* lent { sem 𝓛 (LendsBegunGraph self.entry result) }
         ensures same_reference { IfOk result (λ v. v.collector.ghost_name ≡ self.entry.ghost_name) }
@@ -182,7 +183,8 @@ impl Visitor<'_> {
     ///
     /// A flame graph's collector returns a visitor at the value's content, whose paths start at the root,
     /// exactly where the identity was not met before, and `None` where it was. The collector of held bytes
-    /// always returns `None`, and adds nothing.
+    /// always returns `None`, and adds nothing. That of owned bytes adds the pointer, and returns `None`, or
+    /// `TooLarge` if the sum does not fit.
     ///
     /// A collector that has failed returns its first cause. Otherwise a flame graph's collector returns
     /// `TooLarge` exactly where the bound would be exceeded, which is tested before the identity is looked up,

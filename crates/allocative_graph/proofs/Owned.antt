@@ -110,8 +110,8 @@ below-entry q p k n m b c = rw (← one_below_is q p k) (omega (arith, sum_by-co
 inside-entry : (q p : Path) (k : Key) (n : ℕ) (m : Mark) (i : ℕ) (xs ys : List Owner) → inside_at q (record { entry = record { path = p ++ k ∷ []; size = n; mark = m }; inside = i } ∷ (xs ++ ys)) ≡ cond (is_same_path q (p ++ k ∷ [])) i 0 + (inside_at q xs + inside_at q ys)
 inside-entry q p k n m i xs ys = sum-entry (λ x. cond (is_same_path q x.entry.path) x.inside 0) (record { entry = record { path = p ++ k ∷ []; size = n; mark = m }; inside = i }) xs ys
 
--- The bytes one key below q are those directly inside the entries at q; where q is the path before all of them, those
--- at the top as well.
+-- The bytes one key below q are those directly inside the entries at q; if q is the path before all of them, those at
+-- the top as well.
 below-inside : (q p : Path) (f : Forest) → below_in (own_behind p f) q ≡ inside_at q (owners_behind p f) + cond (is_same_path q p) (direct f) 0
 below-inside q p Empty = grind arith
 below-inside q p (Inline k n f after) = omega (arith, below-entry q p k n AsInline (own_behind (p ++ k ∷ []) f) (own_behind p after), inside-entry q p k n AsInline (direct f) (owners_behind (p ++ k ∷ []) f) (owners_behind p after), below-inside q (p ++ k ∷ []) f, below-inside q p after, cond-plus (is_same_path q p) n (direct after))
@@ -119,7 +119,7 @@ below-inside q p (Unique k n f after) = omega (arith, below-entry q p k n AsUniq
 below-inside q p (First k n i f after) = omega (arith, below-entry q p k n (AsShared i) [] (own_behind p after), inside-entry q p k n (AsShared i) 0 [] (owners_behind p after), below-inside q p after, cond-plus (is_same_path q p) n (direct after), cond-zero (is_same_path q (p ++ k ∷ [])))
 below-inside q p (Again k n i after) = omega (arith, below-entry q p k n (AsShared i) [] (own_behind p after), inside-entry q p k n (AsShared i) 0 [] (owners_behind p after), below-inside q p after, cond-plus (is_same_path q p) n (direct after), cond-zero (is_same_path q (p ++ k ∷ [])))
 
--- ---- where entries are alike
+-- ---- entries that are alike
 module _ (q : Path) where
   bytes-cons : (x : Owner) (xs : List Owner) → bytes_in (entries_of (x ∷ xs)) q ≡ cond (is_same_path q x.entry.path) x.entry.size 0 + bytes_in (entries_of xs) q
   bytes-cons x xs = sum_by-cons (λ e. cond (is_same_path q e.path) e.size 0) x.entry (entries_of xs)
@@ -189,7 +189,7 @@ size-own k p f alike =
     ∙ ap (λ w. cond (is_entered_in b q) (cond (is_unique_in b q) (bytes_in b q) (bytes_in b q - w)) 0) (below-own k p f)
     ∙ remains q (owners_behind [] f) alike
 
--- Where the entries at each path are alike, the graph of the own entries has what they keep.
+-- If the entries at each path are alike, the graph of the own entries has what they keep.
 pub owned-total : (f : Forest) → ((p : Path) → AreAlike p (owners_behind [] f)) → owned f ≡ total (graph (sums_of (own f)))
 owned-total f alike =
     let xs = owners_behind [] f in
@@ -201,6 +201,7 @@ owned-total f alike =
     sizes : (q : Path) → size_at (graph (sums_of (entries_of (owners_behind [] f)))) q ≡ size_at (with_kept default (owners_behind [] f)) q
     sizes [] = ap (λ o. unwrap_or o 0) (get-graph-root (sums_of (entries_of (owners_behind [] f)))) ∙ sym (omega (arith, size-with_kept default (owners_behind [] f) [], size_at-default [], root-keeps [] f))
     sizes (k ∷ p) = omega (arith, size-own k p f (alike (k ∷ p)), size-with_kept default (owners_behind [] f) (k ∷ p), size_at-default (k ∷ p))
+
     keys : (q : Path) → contains_key (graph (sums_of (entries_of (owners_behind [] f)))) q ≡ contains_key (with_kept default (owners_behind [] f)) q
     keys [] = ap is_some (get-graph-root (sums_of (entries_of (owners_behind [] f)))) ∙ sym (grind (arith, has-with_kept default (owners_behind [] f) [], get-default []))
     keys (k ∷ p) = in_graph (entries_of (owners_behind [] f)) k p ∙ sym (grind (arith, has-with_kept default (owners_behind [] f) (k ∷ p), get-default (k ∷ p)))

@@ -14,7 +14,7 @@ direct (Unique k n inside after) = n + direct after
 direct (First k n i inside after) = n + direct after
 direct (Again k n i after) = n + direct after
 
--- The sum of what each entry keeps: all its bytes where it is unique or shared, otherwise those beyond the bytes
+-- The sum of what each entry keeps: all its bytes if it is unique or shared, otherwise those beyond the bytes
 -- directly inside it, and never less than 0. Nothing below a shared entry counts.
 abbrev pub owned : Forest → ℕ
 owned Empty = 0
@@ -66,8 +66,8 @@ pub data Reordered : Forest → Forest → Type 0 where
   beside : {f g : Forest} (h : Forest) → Reordered f g → Reordered (followed_by f h) (followed_by g h)
   in_turn : {f g h : Forest} → Reordered f g → Reordered g h → Reordered f h
 
--- What two forests own one after another adds up. The order of entries does not matter. Where the entries at each path
--- are alike, a forest owns the total of the graph of its own entries. Its top entries alone own at least their bytes.
+-- What two forests own one after another adds up. The order of entries does not matter. If the entries at each path are
+-- alike, a forest owns the total of the graph of its own entries. It owns at least the bytes of its top entries.
 pub record OwnedLaw : Type 0 where
   pub adds_up : (f g : Forest) → owned (followed_by f g) ≡ owned f + owned g
   pub in_any_order : (f g : Forest) → Reordered f g → owned f ≡ owned g

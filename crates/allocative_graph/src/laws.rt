@@ -43,13 +43,14 @@ pub fn sums_law()
     ensures { SumsLaw }
 {}
 
-/// In both collectors, one forest followed by another is both in one, and entering, adding a forest and leaving
+/// In each collector, one forest followed by another is both in one, and entering, adding a forest and leaving
 /// is the entry with the forest inside it.
 pub fn plus_law()
     ensures { PlusLaw }
 {}
 
-/// How shared entries add up: a content starts at the root, and the collector of held bytes stays as it is.
+/// How shared entries add up: a content starts at the root, the collector of held bytes stays as it is, and that of
+/// owned bytes counts the pointer.
 pub fn shared_law()
     ensures { SharedLaw }
 {}
@@ -70,8 +71,8 @@ pub fn graph_law()
     ensures { GraphLaw }
 {}
 
-/// What forests own adds up, in any order of the entries. Where the entries at each path are alike, it is the total of
-/// the graph of the own entries: either each is unique, or none is and each has at least the bytes directly inside it,
+/// What forests own adds up, in any order of the entries. It is the total of the graph of the own entries if those at
+/// each path are alike: each is unique, or none is and each has at least the bytes directly inside it,
 /// or none is and each has at most those.
 pub fn owned_law()
     ensures { OwnedLaw }
