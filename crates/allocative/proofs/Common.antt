@@ -4,14 +4,14 @@ pub use Rattle.std.specs.Fn.{FnOnceReturnsAtMut}
 pub use Rattle.std.specs.Iterator.{Yields}
 pub use Rattle.std.specs.Map.Iter.{deref}
 pub use Rattle.allocative_described.specs.Sizes.{checked, size_product}
-pub use Rattle.allocative_graph.specs.Collector.{Failed, Going, Kind, Live, OfGraph, OfHeld, Outer, State, Takes, begin, enter, enter_first, failed_with, is_graph, outer_of, leave, close_entry, nothing_held, plus, visitors}
+pub use Rattle.allocative_graph.specs.Collector.{Failed, Going, Kind, Live, OfGraph, OfHeld, OfOwned, Outer, State, Takes, begin, enter, enter_first, failed_with, is_graph, outer_of, leave, close_entry, nothing_held, nothing_owned, count_owning, plus, visitors}
 pub use Rattle.allocative_graph.specs.Forest.{Again, Empty, First, Forest, entry_of, followed_by}
 pub use Rattle.allocative_graph.specs.Held.{ShowsNoContent, held}
 pub use Rattle.allocative_graph.specs.Identity.{Identity}
 pub use Rattle.allocative_graph.specs.Path.{Key}
 pub use Rattle.allocative_graph.specs.Shows.{Both, Field, Inside, InsideAs, InsideUnique, IsField, Nothing, SharedWith, Showing, each_shows, sized, slice_shows}
 pub use Rattle.allocative_graph.specs.Sums.{add_all}
-pub use Rattle.allocative_graph.specs.Visits.{RefusesEntry, OpensRoot, OpensEntry, OpensShared, HasFailed, IsProfileOf, Profile, VisitsRoot, Settles, AddsForest, already, enters_again, enters_first, forgotten, goes_past, hidden, is_entered, is_refused, is_refused_shared, RefusesSized, refused, stays_failed, stays_shared, ClosesEntry}
+pub use Rattle.allocative_graph.specs.Visits.{RefusesEntry, OpensRoot, OpensEntry, OpensShared, HasFailed, IsProfileOf, Profile, VisitsRoot, Settles, AddsForest, already, enters_again, enters_first, forgotten, goes_past, hidden, is_entered, is_refused, is_refused_shared, RefusesSized, refused, stays_failed, stays_shared, ClosesEntry, is_too_large_shared, counts}
 pub use Rattle.allocative_graph.specs.declared.refusal.Refusal.{Refusal}
 pub use Rattle.allocative_graph.specs.declared.refusal.Refusal.TheVariants.{Memory, TooLarge}
 pub use Rattle.serde_json.specs.declared.value.Value.{out-Value, the_lemmas}

@@ -1,6 +1,7 @@
 -- A call that enters: it lends the visitor's collector to a call of `by_hand`, and a nested visitor may hold it.
-use Rattle.allocative.proofs.Lent.{visitor_row, collector_row, refusal_row, result_row, key_row, Lender, Answer, key_laws, refusal_laws, result_laws, visitor_laws, nest, one_value, at_values, ◌≡◌, List, [], ◌∷◌, refl, ap, subst, MutBor, proved_at, says_two, Goes-blank, id⊢, ftrue, flft, named, Val, fact, tables, ‵, raw, ◌⊛◌, some, later, ◌$◌, ◌∵◌, !, qed, done, move, keep, drop, use1, use2, split, join, fsplit, fjoin, feq_i, feq_l, pick, await, suffices, frame, enter, addr, stop, no_more, and_then, returns, alloc_all, pass_all, free_all, look_at, get, through, sets, lands_as, yes, no, shows, MutRef, mut_vals, mut_Tells, plain, named_lft, nothing, heard, peeks, only, calls_at, Lasts, lasts, triple_of, framed, Stays, stay_dropped, Goes-spent_ref, ends_at, Bool, Result, Ok, Err, IfOk, IfErr, OnOk, OnErr, name_if_ok, Refusal, Key, State, Visitor, LendsCollector, with_state, Fml, RestsIfErr, follows_so, Ura, sep, emp, Logic, sem, Running, WpFn, Closed, Ty, Lifetime, erased, Fn, Callee, local, value_local, seq, assign, addr_of, deref, call, copy, place, return, Is, Typed, RattleType, RefMutOf, rest, layout, Laws, Ended, Clauses, closing, Meets, walk_of, Goes}
+use Rattle.allocative.proofs.Lent.{visitor_row, collector_row, refusal_row, result_row, key_row, Lender, Answer, key_laws, refusal_laws, result_laws, visitor_laws, nest, one_value, at_values, ◌≡◌, List, [], ◌∷◌, refl, ap, subst, MutBor, proved_at, says_two, Goes-blank, id⊢, ftrue, flft, named, Val, fact, tables, ‵, raw, ◌⊛◌, some, later, ◌$◌, ◌∵◌, !, qed, done, move, keep, drop, use1, use2, split, join, fsplit, fjoin, feq_i, feq_l, pick, await, suffices, frame, enter, addr, stop, no_more, and_then, returns, alloc_all, pass_all, free_all, look_at, get, through, sets, lands_as, yes, no, shows, MutRef, mut_vals, mut_Tells, plain, named_lft, nothing, heard, peeks, only, calls_at, Lasts, lasts, triple_of, framed, Stays, stay_dropped, Goes-spent_ref, ends_at, Result, Ok, Err, IfOk, IfErr, OnOk, OnErr, name_if_ok, Refusal, Key, State, Visitor, LendsCollector, with_state, Fml, RestsIfErr, follows_so, Ura, sep, emp, Logic, sem, Running, WpFn, Closed, Ty, Lifetime, erased, Fn, Callee, local, value_local, seq, assign, addr_of, deref, call, copy, place, return, Is, Typed, RattleType, RefMutOf, rest, layout, Laws, Ended, Clauses, closing, Meets, walk_of, Goes}
 use mathlib.Core.List.{map}
+use Rattle.allocative_graph.specs.Collector as model
 use prog.Model.{Model}
 use Rattle.allocative.specs.contracts.visitor.Visitor.enter as f
 use Rattle.allocative.specs.contracts.visitor.by_hand.collector_of as g
@@ -15,7 +16,7 @@ ends_entered : (s : Visitor) (r : Result Visitor Refusal) (w z : State) → OnOk
 ends_entered s (Ok v) w z h = ap (with_state s) h
 ends_entered s (Err e) w z h = h
 
-module _ (Step : State → Result Bool Refusal → State → Type 0) (s : Visitor) where
+module _ (Step : State → Result model.Outer Refusal → State → Type 0) (s : Visitor) where
   abbrev EndsRefused : Result Visitor Refusal → Visitor → Type 0
   EndsRefused r v = IfErr r (λ e. Step s.collector.now (Err e) v.collector.now × (v ≡ with_state s v.collector.now))
 
@@ -24,7 +25,7 @@ module _ (Step : State → Result Bool Refusal → State → Type 0) (s : Visito
   ends_refused c i (Err e) z h = let P : State → Type 0 = λ x. Step x (Err e) z in (subst P i h, refl)
 
 -- N is the type of the last parameter. In says what entering does, and No how it is refused.
-module _ (N : RattleType) (told : Laws N) (In : Key → N.Denot → State → Result Bool Refusal → State → Type 0) (No : Key → N.Denot → State → Refusal → Type 0) where
+module _ (N : RattleType) (told : Laws N) (In : Key → N.Denot → State → Result model.Outer Refusal → State → Type 0) (No : Key → N.Denot → State → Refusal → Type 0) where
   -- The code, where h is the collector's call.
   abbrev function : Callee → Fn
   function h = record {

@@ -1,6 +1,6 @@
 -- How visits that refuse only where they must compose: one after another, inside an entry, and as a shared content.
-use Rattle.std.proofs.Common.{◌≡◌, ℕ, ◌+◌, ◌<◌, ◌^◌, Bool, true, false, ◌&&◌, IsTrue, cond, List, [], ◌∷◌, ◌++◌, flat_map, Option, Some, None, inl, inr, Result, Ok, Err, refl, sym, ◌∙◌, ap, subst, arith}
-use Rattle.allocative.proofs.Common.{Outer, Refusal, Memory, TooLarge, Key, Identity, Forest, Empty, First, Again, followed_by, entry_of, add_all, held, Live, Kind, OfGraph, OfHeld, State, Failed, Going, plus, enter, enter_first, Takes, is_graph, outer_of, leave, close_entry, failed_with, Showing, Nothing, Both, InsideAs, Inside, InsideUnique, sized, Field, SharedWith, each_shows, HasFailed, OpensEntry, stays_failed, is_refused, is_entered, OpensShared, stays_shared, is_refused_shared, goes_past, enters_first, enters_again, all_bytes, HasRoomFor, ShowsContents, IsDeclared, CanTake, MayRefuse, FailsOnlyIfFull, has_added, has_refused, ClosesEntry}
+use Rattle.std.proofs.Common.{◌≡◌, ℕ, ◌+◌, ◌<◌, ◌^◌, Bool, true, false, ◌&&◌, IsTrue, cond, List, [], ◌∷◌, ◌++◌, flat_map, Option, Some, None, inl, inr, Result, Ok, Err, refl, sym, ◌∙◌, ap, subst, arith, ◌-◌}
+use Rattle.allocative.proofs.Common.{Outer, Refusal, Memory, TooLarge, Key, Identity, Forest, Empty, First, Again, followed_by, entry_of, add_all, held, Live, Kind, OfGraph, OfHeld, State, Failed, Going, plus, enter, enter_first, Takes, is_graph, outer_of, leave, close_entry, failed_with, Showing, Nothing, Both, InsideAs, Inside, InsideUnique, sized, Field, SharedWith, each_shows, HasFailed, OpensEntry, stays_failed, is_refused, is_entered, OpensShared, stays_shared, is_refused_shared, goes_past, enters_first, enters_again, all_bytes, HasRoomFor, ShowsContents, IsDeclared, CanTake, MayRefuse, FailsOnlyIfFull, has_added, has_refused, ClosesEntry, OfOwned, is_too_large_shared, counts}
 use Rattle.std.proofs.lemmas.Bool.{false≢true, and_parts}
 use Rattle.std.proofs.lemmas.Grind.{flat_map-append}
 use Rattle.allocative_graph.specs.declared.refusal.Refusal.TheVariants.{Open}
@@ -8,11 +8,11 @@ use Rattle.allocative_graph.specs.Path.{Path}
 use Rattle.allocative_graph.specs.Forest.{Inline, Unique, Bag, own_behind, contents, content_entries}
 use Rattle.allocative_graph.specs.Sums.{Sums, entered, add}
 use Rattle.allocative_graph.specs.Held.{inline_bytes}
-use Rattle.allocative_graph.specs.Collector.{entries_at, plus_live}
+use Rattle.allocative_graph.specs.Collector.{Owning, entries_at, plus_live}
 use Rattle.allocative_graph.specs.Visits.{HasRoom, Refuses}
 use Rattle.allocative_graph.proofs.Below.{entered-add}
 use Rattle.allocative_graph.proofs.Following.{own-following, contents-following}
-use Rattle.allocative_graph.proofs.Plus.{plus-nothing, plus-following, takes_nothing, takes_both, inside_entry, takes_entry, inside_first, takes_shared, held_again, is_graph-plus, is_graph-enter}
+use Rattle.allocative_graph.proofs.Plus.{plus-nothing, plus-following, takes_nothing, takes_both, inside_entry, takes_entry, inside_first, takes_shared, held_again, owned_again, is_graph-plus, is_graph-enter}
 use Rattle.allocative.specs.Exact.{FitsWords, had_failed}
 
 -- ---- the bytes of all entries
@@ -58,6 +58,7 @@ words_both o (Again k n i after) g h = words_both o after g h
 abbrev sum_in : Kind → ℕ
 sum_in (OfGraph c) = 0
 sum_in (OfHeld h) = h.sum
+sum_in (OfOwned o) = o.sum
 
 -- What is added first has room, and what comes after it has room then.
 room_apart : (b : Kind) (f g : Forest) → HasRoomFor b (followed_by f g) → HasRoomFor b f × HasRoomFor (plus b f) g
@@ -66,10 +67,22 @@ room_apart (OfHeld d) f g (h, l) =
     let h' : sum_in (plus (plus (OfHeld d) f) g) < 2 ^ 64 = subst (λ (n : ℕ). n < 2 ^ 64) (ap sum_in (plus-following (OfHeld d) f g)) h in
     let w = words_both d.open_visitors f g l in
     ((omega (arith, h'), w.0), (h', w.1))
+room_apart (OfOwned d) f g (h, l) =
+    let h' : sum_in (plus (plus (OfOwned d) f) g) < 2 ^ 64 = subst (λ (n : ℕ). n < 2 ^ 64) (ap sum_in (plus-following (OfOwned d) f g)) h in
+    let w = words_both d.open_visitors f g l in
+    ((omega (arith, h'), w.0), (h', w.1))
 
 inline_room : (u : Bool) (m s n x : ℕ) → s + ((x + 0) + cond u (n + 0) 0) < m → s + cond u n 0 < m
 inline_room true m s n x h = omega (arith, h)
 inline_room false m s n x h = omega (arith, h)
+
+owned_within : (u : Bool) (k : Key) (n : ℕ) (d : Owning) (f : Forest) → sum_in (plus (OfOwned d) (entry_of u k n f)) < 2 ^ 64 → FitsWords d.open_visitors (entry_of u k n f) → HasRoom u n (OfOwned d) × HasRoomFor (enter u k n (OfOwned d)) f
+owned_within true k n d f h l =
+    let h' : sum_in (plus (enter true k n (OfOwned d)) f) < 2 ^ 64 = subst (λ (m : ℕ). m < 2 ^ 64) (sym (ap sum_in (inside_entry true k n (OfOwned d) f))) h in
+    ((omega (arith, h'), l.1), (h', l.2))
+owned_within false k n d f h l =
+    let h' : sum_in (plus (enter false k n (OfOwned d)) f) < 2 ^ 64 = subst (λ (m : ℕ). m < 2 ^ 64) (sym (ap sum_in (inside_entry false k n (OfOwned d) f))) h in
+    ((omega (arith, h'), l.1), (h', l.2))
 
 -- An entry has room, and so has then what is inside it.
 room_within : (u : Bool) (k : Key) (n : ℕ) (b : Kind) (f : Forest) → HasRoomFor b (entry_of u k n f) → HasRoom u n b × HasRoomFor (enter u k n b) f
@@ -79,6 +92,8 @@ room_within true k n (OfHeld d) f (h, l) =
     ((inline_room d.is_in_unique _ d.sum 0 (inline_bytes f + held f) h, l.1), (subst (λ (m : ℕ). m < 2 ^ 64) (sym (ap sum_in (inside_entry true k n (OfHeld d) f))) h, l.2))
 room_within false k n (OfHeld d) f (h, l) =
     ((inline_room d.is_in_unique _ d.sum n (held f) h, l.1), (subst (λ (m : ℕ). m < 2 ^ 64) (sym (ap sum_in (inside_entry false k n (OfHeld d) f))) h, l.2))
+room_within true k n (OfOwned d) f (h, l) = owned_within true k n d f h l
+room_within false k n (OfOwned d) f (h, l) = owned_within false k n d f h l
 
 -- ---- contents
 contents_apart : (f g : Forest) → ShowsContents (followed_by f g) → ShowsContents f × ShowsContents g
@@ -146,6 +161,9 @@ can_content k n i c (d, room) = (declared_content k n i d, λ f x. let h = room 
 can_pointer : {p : Showing} (k : Key) (n : ℕ) (i : Identity) (c : Live) → CanTake (OfGraph c) (SharedWith k n i p) → entered c.sums + n < 2 ^ 63
 can_pointer k n i c (d, room) = let h = room (Again k n i Empty) (inr refl) in omega (arith, h)
 
+can_count : {p : Showing} (k : Key) (n : ℕ) (i : Identity) (o : Owning) → CanTake (OfOwned o) (SharedWith k n i p) → o.sum + (n - o.spare) < 2 ^ 64
+can_count k n i o (d, room) = let h = (room (Again k n i Empty) (inr refl)).0 in omega (arith, h)
+
 -- ---- why a visit may be refused
 pub may_refuse : {p q : Showing} (b c : Kind) → (CanTake c q → CanTake b p) → is_graph c ≡ is_graph b → (e : Refusal) → MayRefuse p b e → MayRefuse q c e
 may_refuse b c up same Memory m = same ∙ m
@@ -157,6 +175,8 @@ entry_refuses p u k n (OfGraph c) e (inl (i, h)) = subst (MayRefuse (InsideAs u 
 entry_refuses p u k n (OfGraph c) e (inr (i, h)) = subst (MayRefuse (InsideAs u k n p) (OfGraph c)) (sym i) refl
 entry_refuses p u k n (OfHeld d) e (i, inl h) = subst (MayRefuse (InsideAs u k n p) (OfHeld d)) (sym i) (λ w. omega (arith, h, (can_entry u k n (OfHeld d) w).0))
 entry_refuses p u k n (OfHeld d) e (i, inr h) = subst (MayRefuse (InsideAs u k n p) (OfHeld d)) (sym i) (λ w. omega (arith, h, (can_entry u k n (OfHeld d) w).1))
+entry_refuses p u k n (OfOwned d) e (i, inl h) = subst (MayRefuse (InsideAs u k n p) (OfOwned d)) (sym i) (λ w. omega (arith, h, (can_entry u k n (OfOwned d) w).0))
+entry_refuses p u k n (OfOwned d) e (i, inr h) = subst (MayRefuse (InsideAs u k n p) (OfOwned d)) (sym i) (λ w. omega (arith, h, (can_entry u k n (OfOwned d) w).1))
 
 pointer_refuses : (p : Showing) (k : Key) (n : ℕ) (i : Identity) (c : Live) (e : Refusal) → Refuses false n (OfGraph c) e → MayRefuse (SharedWith k n i p) (OfGraph c) e
 pointer_refuses p k n i c e (inl (j, h)) = subst (MayRefuse (SharedWith k n i p) (OfGraph c)) (sym j) (λ w. omega (arith, h, can_pointer k n i c w))
@@ -181,6 +201,8 @@ pub entry_fits : {p : Showing} (u : Bool) (k : Key) (n : ℕ) (b : Kind) → Can
 entry_fits u k n (OfGraph c) w = omega (arith, can_entry u k n (OfGraph c) w)
 entry_fits true k n (OfHeld d) w = let r = declared_inside true k n w.0 in (w.1 (entry_of true k n r.0) (r.0, r.1, refl)).1.0
 entry_fits false k n (OfHeld d) w = let r = declared_inside false k n w.0 in (w.1 (entry_of false k n r.0) (r.0, r.1, refl)).1.0
+entry_fits true k n (OfOwned d) w = let r = declared_inside true k n w.0 in (w.1 (entry_of true k n r.0) (r.0, r.1, refl)).1.0
+entry_fits false k n (OfOwned d) w = let r = declared_inside false k n w.0 in (w.1 (entry_of false k n r.0) (r.0, r.1, refl)).1.0
 
 pub only_if_full_both : {p q : Showing} {a b c : State} {u : Unit} {r : Result Unit Refusal} → FailsOnlyIfFull p a (Ok u) b → FailsOnlyIfFull q b r c → FailsOnlyIfFull (Both p q) a r c
 only_if_full_both had_failed s = had_failed
@@ -200,7 +222,7 @@ pub only_if_full_within : {u : Bool} {p : Showing} {k : Key} {n : ℕ} {o : Oute
     OpensEntry u k (Some n) s (Ok o) t → FailsOnlyIfFull p t r c → ClosesEntry o c d → FailsOnlyIfFull (InsideAs u k n p) s r d
 only_if_full_within {u} {p} {k} {n} (is_entered {b = b} h f e) (has_added {c = c} g x t i) l =
     let t' : Takes (enter u k n b) g = subst (λ (z : Kind). Takes z g) e t in
-    rw (l.closes, f) (has_added {c = leave (outer_of b) c} (entry_of u k n g) (g, x, refl) (takes_entry u k n b g t') (cc (inside_entry u k n b g)))
+    rw (l.closes, f) (has_added {c = leave (outer_of n b) c} (entry_of u k n g) (g, x, refl) (takes_entry u k n b g t') (cc (inside_entry u k n b g)))
 only_if_full_within {u} {p} {k} {n} (is_entered {b = b} h f e) (has_refused {e = r} m) l =
     let m' : MayRefuse p (enter u k n b) r = subst (λ (z : Kind). MayRefuse p z r) e m in
     rw l.closes (has_refused (may_refuse (enter u k n b) b (can_inside u k n b) (sym (is_graph-enter u k n b)) r m'))
@@ -290,12 +312,14 @@ only_if_full_content {p} {k} {n} {i} o g is h l = inner (rw is at g) h l
 
 pub only_if_full_again : {p : Showing} {k : Key} {n : ℕ} {i : Identity} {is_first : Bool} {s t : State} {x : Unit} → OpensShared k n i s (Ok is_first) t → is_first ≡ false → FailsOnlyIfFull (SharedWith k n i p) s (Ok x) t
 only_if_full_again {k = k} {n = n} {i = i} (goes_past {h = h}) is = has_added (Again k n i Empty) (inr refl) tt (sym (held_again k n i h))
+only_if_full_again {k = k} {n = n} {i = i} (counts {o = o} r e) is = has_added (Again k n i Empty) (inr refl) tt (ap OfOwned e ∙ sym (owned_again k n i o))
 only_if_full_again {k = k} {n = n} {i = i} (enters_again {c = c} r h e) is = has_added (Again k n i Empty) (inr refl) (h, tt) (ap OfGraph e)
 only_if_full_again (enters_first r h e) is = absurd (false≢true (sym is))
 
 pub only_if_full_not_shared : {p : Showing} {k : Key} {n : ℕ} {i : Identity} {s t : State} {e : Refusal} → OpensShared k n i s (Err e) t → FailsOnlyIfFull (SharedWith k n i p) s (Err e) t
 only_if_full_not_shared stays_shared = had_failed
 only_if_full_not_shared {k = k} {n = n} {i = i} (is_refused_shared {c = c} {e = e} h) = has_refused (pointer_refuses _ k n i c e h)
+only_if_full_not_shared {p} {k} {n} {i} (is_too_large_shared {o = o} {e = e} j h) = has_refused (subst (MayRefuse (SharedWith k n i p) (OfOwned o)) (sym j) (λ w. omega (arith, h, can_count k n i o w)))
 
 -- Of a visit that is not exact nothing is asked.
 pub inexact : {p : Showing} {a b : State} {r : Result Unit Refusal} → IsTrue false → FailsOnlyIfFull p a r b

@@ -1,8 +1,8 @@
 -- What the collector's own calls do, by what they find: the collector had failed, or it was going.
-use Rattle.std.proofs.Common.{◌≡◌, ℕ, ◌+◌, ◌<◌, ◌^◌, Bool, true, false, None, Some, Option, Result, Ok, Err, refl}
-use Rattle.allocative.proofs.Common.{Outer, Refusal, Key, Identity, Live, Kind, OfGraph, OfHeld, State, Failed, Going, OpensEntry, stays_failed, is_refused, is_entered, RefusesSized, OpensShared, stays_shared, is_refused_shared, goes_past, enters_first, enters_again, HasEntered, HasMade, Done, one, Makes, made_none, made, entry_refused}
+use Rattle.std.proofs.Common.{◌≡◌, ℕ, ◌+◌, ◌-◌, ◌<◌, ◌≤◌, ◌^◌, Bool, true, false, None, Some, Option, Result, Ok, Err, refl}
+use Rattle.allocative.proofs.Common.{Outer, Refusal, TooLarge, Key, Identity, Live, Kind, OfGraph, OfHeld, OfOwned, count_owning, State, Failed, Going, OpensEntry, stays_failed, is_refused, is_entered, RefusesSized, OpensShared, stays_shared, is_refused_shared, goes_past, is_too_large_shared, counts, enters_first, enters_again, HasEntered, HasMade, Done, one, Makes, made_none, made, entry_refused}
 use Rattle.allocative_collectors.specs.Meets.{MeetsAs}
-use Rattle.allocative_graph.specs.Collector.{Holding}
+use Rattle.allocative_graph.specs.Collector.{Holding, Owning}
 use Rattle.allocative_graph.specs.Sums.{entered}
 use Rattle.allocative_graph.specs.Visits.{Refuses}
 use Rattle.allocative.specs.Making.{had_failed}
@@ -44,6 +44,12 @@ shared_failed i j = rw (i, j) stays_shared
 pub shared_held : {k : Key} {n : ℕ} {i : Identity} (h : Holding) {s t : State} → s ≡ Going (OfHeld h) → t ≡ Going (OfHeld h) → OpensShared k n i s (Ok false) t
 shared_held h i j = rw (i, j) goes_past
 
+pub shared_counted : {k : Key} {n : ℕ} {i : Identity} (o : Owning) {s t : State} → s ≡ Going (OfOwned o) → o.sum + (n - o.spare) < 2 ^ 64 → t ≡ Going (OfOwned (count_owning n o)) → OpensShared k n i s (Ok false) t
+shared_counted o i r j = rw (i, j) (counts r refl)
+
+pub shared_too_large : {k : Key} {n : ℕ} {i : Identity} (o : Owning) {s t : State} {e : Refusal} → s ≡ Going (OfOwned o) → e ≡ TooLarge → 2 ^ 64 ≤ o.sum + (n - o.spare) → t ≡ Failed e → OpensShared k n i s (Err e) t
+shared_too_large o i e r j = rw (i, j) (is_too_large_shared e r)
+
 pub shared_refused : {k : Key} {n : ℕ} {i : Identity} (c : Live) {s t : State} {e : Refusal} → s ≡ Going (OfGraph c) → Refuses false n (OfGraph c) e → t ≡ Failed e → OpensShared k n i s (Err e) t
 shared_refused c i h j = rw (i, j) (is_refused_shared h)
 
@@ -52,4 +58,4 @@ shared_met c d true i r m j = rw (i, j) (enters_first r m.0 m.1)
 shared_met c d false i r m j = rw (i, j) (enters_again r m.0 m.1)
 
 -- The rules for the collector's own calls.
-pub ruleset opening = (opens_failed, opens_refused, opens_entered, makes_failed_entry, makes_refused_entry, makes_one, none_failed, none_made, shared_failed, shared_held, shared_refused, shared_met, refuses_entry)
+pub ruleset opening = (opens_failed, opens_refused, opens_entered, makes_failed_entry, makes_refused_entry, makes_one, none_failed, none_made, shared_failed, shared_held, shared_counted, shared_too_large, shared_refused, shared_met, refuses_entry)

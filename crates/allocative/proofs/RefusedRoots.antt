@@ -1,6 +1,6 @@
 -- A root that is refused after others: it may be refused only where the whole list of roots may be.
 use Rattle.std.proofs.Common.{◌≡◌, ℕ, ◌+◌, ◌<◌, ◌^◌, List, [], ◌∷◌, ◌++◌, length, take, drop, get_or, Bool, true, false, IsTrue, Result, Ok, Err, refl, ap, sym, subst, ◌∙◌}
-use Rattle.allocative.proofs.Common.{Refusal, Forest, Kind, OfGraph, OfHeld, State, Failed, Going, plus, is_graph, begin, Showing, Both, each_shows, VisitsRoot, all_bytes, HasRoomFor, CanTake, MayRefuse, RootFailsOnlyIfFull}
+use Rattle.allocative.proofs.Common.{Refusal, Forest, Kind, OfGraph, OfHeld, OfOwned, State, Failed, Going, plus, is_graph, begin, Showing, Both, each_shows, VisitsRoot, all_bytes, HasRoomFor, CanTake, MayRefuse, RootFailsOnlyIfFull}
 use Rattle.std.specs.List.{list_all}
 use Rattle.std.proofs.lemmas.Bool.{false≢true}
 use Rattle.std.proofs.lemmas.List.Folds.{list_all_at}
@@ -14,6 +14,7 @@ use Rattle.allocative.proofs.Within.{around_item}
 room_begun : (b : Kind) (f g : Forest) → HasRoomFor (plus (begin b) f) g → HasRoomFor (begin (plus b f)) g
 room_begun (OfGraph c) f g h = subst (λ (n : ℕ). n + all_bytes g < 2 ^ 63) (entered-plus (go [] c) f ∙ sym (entered-plus c f)) h
 room_begun (OfHeld k) f g h = h
+room_begun (OfOwned k) f g h = h
 
 -- Where all roots can be taken, so can one of them after those before it.
 can_among : {T : Type 0} (p : T → Showing) (front : List T) (x : T) (back : List T) (b : Kind) (f : Forest) → each_shows p front f → CanTake (begin b) (each_shows p (front ++ x ∷ back)) → CanTake (begin (plus b f)) (p x)

@@ -1,7 +1,7 @@
 -- What a visit by a root visitor amounts to.
-use Rattle.std.proofs.Common.{◌≡◌, ℕ, suc, ◌+◌, ◌<◌, ◌≤◌, ◌^◌, inl, inr, Option, Some, None, List, length, take, get_or, Bool, IsTrue, Result, Ok, Err, IsErr, refl, ap, sym, subst, ◌∙◌, arith, IfOk}
-use Rattle.allocative.proofs.Common.{Outer, Refusal, TooLarge, Forest, followed_by, add_all, held, ShowsNoContent, Kind, OfGraph, OfHeld, State, Failed, Going, leave, plus, Takes, visitors, is_graph, begin, outer_of, close_entry, nothing_held, Showing, Both, each_shows, AddsForest, refused, hidden, forgotten, OpensRoot, Settles, VisitsRoot, Profile, IsProfileOf, IsHeldSum, MayRefuse, FailsOnlyIfFull, has_added, has_refused, RootFailsOnlyIfFull, ClosesEntry}
-use Rattle.allocative.specs.SizeOf.{AnswersSize, AnswersVisit}
+use Rattle.std.proofs.Common.{◌≡◌, ℕ, suc, min, ◌+◌, ◌-◌, ◌<◌, ◌≤◌, ◌^◌, inl, inr, Option, Some, None, List, length, take, get_or, Bool, IsTrue, Result, Ok, Err, IsErr, refl, ap, sym, subst, ◌∙◌, arith, IfOk}
+use Rattle.allocative.proofs.Common.{Outer, Refusal, TooLarge, Forest, followed_by, add_all, held, ShowsNoContent, Kind, OfGraph, OfHeld, OfOwned, State, Failed, Going, leave, plus, Takes, visitors, is_graph, begin, outer_of, close_entry, nothing_held, nothing_owned, Showing, Both, each_shows, AddsForest, refused, hidden, forgotten, OpensRoot, Settles, VisitsRoot, Profile, IsProfileOf, IsHeldSum, MayRefuse, FailsOnlyIfFull, has_added, has_refused, RootFailsOnlyIfFull, ClosesEntry}
+use Rattle.allocative.specs.SizeOf.{AnswersSize, AnswersVisit, AnswersVisitOf, AnswersOwned, IsSizeOfOwned}
 use Rattle.allocative.specs.Closures.{AnswersSum}
 use Rattle.allocative.proofs.Within.{err_or, same_err}
 use Rattle.allocative.specs.Visited.{Effect, WasVisited, VisitsRootWithEffect, not_begun, root_visited}
@@ -9,9 +9,10 @@ use Rattle.allocative_graph.specs.Forest.{met_after, Fits, own, all}
 use Rattle.allocative_graph.specs.Sums.{sums_of}
 use Rattle.allocative_graph.specs.Meaning.{content_of}
 use Rattle.allocative_graph.specs.Graph.{Graph, graph, warnings, warned_paths, sum_of}
-use Rattle.allocative_graph.specs.Collector.{entries_at, IsClosed, IsAtRoot, no_entries}
+use Rattle.allocative_graph.specs.Collector.{entries_at, IsClosed, IsAtRoot, no_entries, no_outer}
+use Rattle.allocative_graph.specs.Owned.{direct, owned}
 use Rattle.allocative_graph.specs.Visits.{added, Ends, IsProfile, IsSumOfTwo}
-use Rattle.allocative_graph.proofs.Plus.{plus-following, takes_both, visitors-plus, visitors-leave, is_graph-plus, is_graph-leave, is_graph-begin}
+use Rattle.allocative_graph.proofs.Plus.{plus-following, takes_both, visitors-leave, closed-visitors, closed-plus, is_graph-plus, is_graph-leave, is_graph-begin}
 use Rattle.allocative.proofs.Showing.{each_and_one}
 use Rattle.allocative_graph.proofs.Reach.{all_is_meaning, reaches_exactly}
 use Rattle.allocative_graph.proofs.OneMeaning.{one_sums}
@@ -21,26 +22,31 @@ use Rattle.std.proofs.lemmas.List.{take_more}
 visitors-begin : (b : Kind) → IsClosed b → visitors (begin b) ≡ 1
 visitors-begin (OfGraph c) h = ap suc h
 visitors-begin (OfHeld k) h = ap suc h
+visitors-begin (OfOwned k) h = ap suc h.0
 
 -- The entries of a root visitor, and its end.
-out_of_begin : (b : Kind) (f : Forest) → IsAtRoot b → leave (outer_of b) (plus (begin b) f) ≡ plus b f
+out_of_begin : (b : Kind) (f : Forest) → IsAtRoot b → leave (outer_of 0 b) (plus (begin b) f) ≡ plus b f
 out_of_begin (OfGraph c) f h = λ i. OfGraph (record c { sums = add_all c.sums (entries_at (sym h.0 i) f); met = met_after c.met f })
 out_of_begin (OfHeld k) f h = refl
+out_of_begin (OfOwned k) f h =
+    let spare : k.spare - 0 ≡ k.spare - direct f = omega (arith, h) in
+    λ i. OfOwned (record k { sum = k.sum + (owned f - min k.spare (direct f)); spare = spare i })
 
 takes_begin : (b : Kind) (f : Forest) → Takes (begin b) f → Takes b f
 takes_begin (OfGraph c) f t = t
 takes_begin (OfHeld k) f t = t
+takes_begin (OfOwned k) f t = t
 
-visits_going : {p : Showing} (b e : Kind) {c : State} {r : Result Unit Refusal} (q : Result Unit Refusal) → IsClosed b → IsAtRoot b → e ≡ begin b → AddsForest p (Going e) r c → Settles (close_entry (outer_of b) c) q → VisitsRoot p (Going b) q (close_entry (outer_of b) c)
+visits_going : {p : Showing} (b e : Kind) {c : State} {r : Result Unit Refusal} (q : Result Unit Refusal) → IsClosed b → IsAtRoot b → e ≡ begin b → AddsForest p (Going e) r c → Settles (close_entry (outer_of 0 b) c) q → VisitsRoot p (Going b) q (close_entry (outer_of 0 b) c)
 visits_going b e q h here i refused k = rw k (h, refl)
 visits_going b e q h here i hidden k = rw k (h, refl)
-visits_going b e (Err x) h here i (forgotten {c = c} j l) k = (k.0, k.1, (λ n. absurd (n h)), is_graph-leave (outer_of b) c ∙ j ∙ ap is_graph i ∙ is_graph-begin b)
+visits_going b e (Err x) h here i (forgotten {c = c} j l) k = (k.0, k.1, (λ n. absurd (n h)), is_graph-leave (outer_of 0 b) c ∙ j ∙ ap is_graph i ∙ is_graph-begin b)
 visits_going b e (Ok u) h here i (forgotten {c = c} j l) k =
     let d : visitors e ≡ 1 = ap visitors i ∙ visitors-begin b h in
-    let z : visitors (leave (outer_of b) c) ≡ 0 = k in
-    let g = visitors-leave (outer_of b) c in
+    let z : visitors (leave (outer_of 0 b) c) ≡ 0 = closed-visitors (leave (outer_of 0 b) c) k in
+    let g = visitors-leave (outer_of 0 b) c in
     absurd (omega (arith, d, z, g, l))
-visits_going b e (Err x) h here i (added {c = c} f p t g) k = (k.0, k.1, (λ n. absurd (n h)), is_graph-leave (outer_of b) c ∙ ap is_graph g ∙ is_graph-plus e f ∙ ap is_graph i ∙ is_graph-begin b)
+visits_going b e (Err x) h here i (added {c = c} f p t g) k = (k.0, k.1, (λ n. absurd (n h)), is_graph-leave (outer_of 0 b) c ∙ ap is_graph g ∙ is_graph-plus e f ∙ ap is_graph i ∙ is_graph-begin b)
 visits_going b e (Ok u) h here i (added {c = c} f p t g) k =
     let t' : Takes (begin b) f = subst (λ (x : Kind). Takes x f) i t in
     (k, f, p, takes_begin b f t', cc (out_of_begin b f here))
@@ -51,14 +57,14 @@ visits_root (Failed x) q h i v l e k = absurd h
 visits_root (Going b) q {p} {c = c} {r = r} h i v l e k =
     let d = l.closes ∙ ap (λ (o : Outer). close_entry o c) (e ∙ h.2) in
     let v' : AddsForest p (Going (begin b)) r c = subst (λ (z : State). AddsForest p z r c) (i ∙ h.3) v in
-    let k' : Settles (close_entry (outer_of b) c) q = rw d at k in
+    let k' : Settles (close_entry (outer_of 0 b) c) q = rw d at k in
     rw d (visits_going b (begin b) q h.0 h.1 refl v' k')
 
 -- An exact visit that was opened by a root visitor leaves its collector closed, or failed with what it returned.
-only_if_full_going : {p : Showing} (b e : Kind) {c : State} {r : Result Unit Refusal} (q : Refusal) → IsClosed b → IsAtRoot b → e ≡ begin b → FailsOnlyIfFull p (Going e) r c → Settles (close_entry (outer_of b) c) (Err q) → (close_entry (outer_of b) c ≡ Failed q) × MayRefuse p (begin b) q
+only_if_full_going : {p : Showing} (b e : Kind) {c : State} {r : Result Unit Refusal} (q : Refusal) → IsClosed b → IsAtRoot b → e ≡ begin b → FailsOnlyIfFull p (Going e) r c → Settles (close_entry (outer_of 0 b) c) (Err q) → (close_entry (outer_of 0 b) c ≡ Failed q) × MayRefuse p (begin b) q
 only_if_full_going {p} b e q h here i (has_added {c = c} f x t g) k =
-    let same : leave (outer_of b) c ≡ plus b f = cc (out_of_begin b f here) in
-    absurd (k.1 (ap visitors same ∙ visitors-plus b f ∙ h))
+    let same : leave (outer_of 0 b) c ≡ plus b f = cc (out_of_begin b f here) in
+    absurd (k.1 (subst IsClosed (sym same) (closed-plus b f h)))
 only_if_full_going {p} b e q h here i (has_refused {e = y} m) k =
     let is : q ≡ y = cc in
     (ap Failed (sym is), subst (MayRefuse p (begin b)) (sym is) (subst (λ (z : Kind). MayRefuse p z y) i m))
@@ -68,9 +74,9 @@ pub root_only_if_full : (s : State) (q : Result Unit Refusal) {x : Bool} {p : Sh
 root_only_if_full (Failed z) q h i v l e k = tt
 root_only_if_full (Going b) (Ok u) h i v l e k = tt
 root_only_if_full (Going b) (Err z) {p} {c = c} {d = d} {r = r} h i v l e k = λ exact closed.
-    let g : d ≡ close_entry (outer_of b) c = l.closes ∙ ap (λ (o : Outer). close_entry o c) (e ∙ h.2) in
+    let g : d ≡ close_entry (outer_of 0 b) c = l.closes ∙ ap (λ (o : Outer). close_entry o c) (e ∙ h.2) in
     let v' : FailsOnlyIfFull p (Going (begin b)) r c = subst (λ (y : State). FailsOnlyIfFull p y r c) (i ∙ h.3) (v exact) in
-    let k' : Settles (close_entry (outer_of b) c) (Err z) = rw g at k in
+    let k' : Settles (close_entry (outer_of 0 b) c) (Err z) = rw g at k in
     rw g (only_if_full_going b (begin b) z closed h.1 refl v' k')
 
 -- The sum of a run of held bytes.
@@ -84,17 +90,40 @@ held_by_visit p (Going b) (Going c) u n e (z, f, a, t, g) k =
     let k' : n ≡ 0 + (held f + 0) = subst (λ (x : Kind). IsHeldSum (Going x) n) g' k in
     (f, a, t', omega (arith, k'))
 
--- What is answered of the held bytes that a visit left.
-visit_answered : {p : Showing} {effect : Effect} (answers : State → Result ℕ Refusal → Type 0) {s t : State} {q : Result Unit Refusal} {r : Result ℕ Refusal} →
-    VisitsRootWithEffect p effect s t q → s ≡ Going (OfHeld nothing_held) → (Settles t q → answers t r) → AnswersVisit p effect answers r
-visit_answered answers (not_begun x b) is up = absurd ((rw is at b).1 refl)
-visit_answered {p} {effect} answers {r = r} (root_visited {o = o} {a = a} {c = c} b v l e k) is up =
-    let b' : OpensRoot (Going (OfHeld nothing_held)) (Ok o) a = rw is at b in
+-- The sum of a run of owned bytes.
+pub owned_by_visit : (p : Showing) (s t : State) (u : Unit) (n : ℕ) → s ≡ Going (OfOwned nothing_owned) → VisitsRoot p s (Ok u) t → IsHeldSum t n → IsSizeOfOwned p n
+owned_by_visit p (Failed r) t u n e h k = absurd (cc)
+owned_by_visit p (Going b) (Failed r) u n e h k = absurd h
+owned_by_visit p (Going b) (Going c) u n e (z, f, a, t, g) k =
+    let i : b ≡ OfOwned nothing_owned = cc in
+    let t' : Takes (OfOwned nothing_owned) f = subst (λ (x : Kind). Takes x f) i t in
+    let g' : c ≡ plus (OfOwned nothing_owned) f = rw i at g in
+    let k' : n ≡ 0 + (owned f - min 0 (direct f)) = subst (λ (x : Kind). IsHeldSum (Going x) n) g' k in
+    (f, a, t', omega (arith, k'))
+
+-- What is answered of the bytes that a visit left, from a collector to which nothing was added.
+visit_answered_of : (z : Kind) {p : Showing} {effect : Effect} (answers : State → Result ℕ Refusal → Type 0) {s t : State} {q : Result Unit Refusal} {r : Result ℕ Refusal} →
+    IsClosed z → outer_of 0 z ≡ no_outer → VisitsRootWithEffect p effect s t q → s ≡ Going z → (Settles t q → answers t r) → AnswersVisitOf z p effect answers r
+visit_answered_of z answers closed none (not_begun x b) is up = absurd ((rw is at b).1 closed)
+visit_answered_of z {p} {effect} answers {r = r} closed none (root_visited {o = o} {a = a} {c = c} b v l e k) is up =
+    let b' : OpensRoot (Going z) (Ok o) a = rw is at b in
     record {
       after = c;
       visited = subst (λ (x : State). WasVisited p effect x c) b'.3 v;
-      answer = subst (λ (x : State). answers x r) (l.closes ∙ ap (λ (w : Outer). close_entry w c) (e ∙ b'.2)) (up k);
+      answer = subst (λ (x : State). answers x r) (l.closes ∙ ap (λ (w : Outer). close_entry w c) (e ∙ b'.2 ∙ none)) (up k);
     }
+
+visit_answered : {p : Showing} {effect : Effect} (answers : State → Result ℕ Refusal → Type 0) {s t : State} {q : Result Unit Refusal} {r : Result ℕ Refusal} →
+    VisitsRootWithEffect p effect s t q → s ≡ Going (OfHeld nothing_held) → (Settles t q → answers t r) → AnswersVisit p effect answers r
+visit_answered answers = visit_answered_of (OfHeld nothing_held) answers refl refl
+
+pub owned_answered : {p : Showing} {effect : Effect} {s t : State} {u : Unit} {n : ℕ} →
+    VisitsRootWithEffect p effect s t (Ok u) → s ≡ Going (OfOwned nothing_owned) → IsHeldSum t n → AnswersOwned p effect (Ok n)
+owned_answered v is h = visit_answered_of (OfOwned nothing_owned) AnswersSum (refl, refl) refl v is (λ k. (k, h))
+
+pub owned_refused : {p : Showing} {effect : Effect} {s t : State} {e : Refusal} {r : Result ℕ Refusal} →
+    VisitsRootWithEffect p effect s t (Err e) → s ≡ Going (OfOwned nothing_owned) → IsErr r → e ≡ err_or e r → AnswersOwned p effect r
+owned_refused v is h i = rw (same_err _ h i) (visit_answered_of (OfOwned nothing_owned) AnswersSum (refl, refl) refl v is (λ k. k))
 
 pub held_answered : {p : Showing} {effect : Effect} {s t : State} {u : Unit} {n : ℕ} →
     VisitsRootWithEffect p effect s t (Ok u) → s ≡ Going (OfHeld nothing_held) → IsHeldSum t n → AnswersVisit p effect AnswersSum (Ok n)

@@ -1,10 +1,10 @@
 -- How visits compose: one after another, and inside an entry.
 use Rattle.std.proofs.Common.{Bool, true, false, inl, inr, Option, ◌≡◌, ℕ, suc, List, [], ◌∷◌, ◌++◌, Result, Ok, Err, refl, sym, ◌∙◌, IsErr, ap, subst, arith, Some, None}
-use Rattle.allocative.proofs.Common.{Outer, Refusal, Key, Identity, Forest, Empty, First, Again, followed_by, entry_of, Live, Kind, OfGraph, State, Failed, Going, enter, enter_first, plus, Takes, is_graph, visitors, outer_of, failed_with, close_entry, Showing, Nothing, Both, InsideAs, Inside, InsideUnique, Field, sized, SharedWith, each_shows, AddsForest, already, refused, hidden, forgotten, HasFailed, OpensEntry, stays_failed, is_refused, is_entered, OpensShared, stays_shared, is_refused_shared, goes_past, enters_first, enters_again, RefusesEntry, ClosesEntry}
+use Rattle.allocative.proofs.Common.{Outer, Refusal, Key, Identity, Forest, Empty, First, Again, followed_by, entry_of, Live, Kind, OfGraph, State, Failed, Going, enter, enter_first, plus, Takes, is_graph, visitors, outer_of, failed_with, close_entry, Showing, Nothing, Both, InsideAs, Inside, InsideUnique, Field, sized, SharedWith, each_shows, AddsForest, already, refused, hidden, forgotten, HasFailed, OpensEntry, stays_failed, is_refused, is_entered, OpensShared, stays_shared, is_refused_shared, goes_past, enters_first, enters_again, RefusesEntry, ClosesEntry, OfOwned, is_too_large_shared, counts}
 use Rattle.std.proofs.lemmas.Bool.{false≢true}
 use Rattle.std.specs.FinSet.{contains}
 use Rattle.allocative_graph.specs.Visits.{added}
-use Rattle.allocative_graph.proofs.Plus.{plus-nothing, plus-following, takes_nothing, takes_both, inside_entry, takes_entry, inside_first, takes_shared, held_again, visitors-plus, visitors-enter, visitors-leave, is_graph-plus, is_graph-enter, is_graph-leave}
+use Rattle.allocative_graph.proofs.Plus.{plus-nothing, plus-following, takes_nothing, takes_both, inside_entry, takes_entry, inside_first, takes_shared, held_again, owned_again, visitors-plus, visitors-enter, visitors-leave, is_graph-plus, is_graph-enter, is_graph-leave}
 use Rattle.allocative.proofs.Exact.{each_append, each_one}
 
 -- ---- one after another
@@ -51,12 +51,12 @@ adds_both_err s t = adds_err (adds_both s t)
 -- ---- inside an entry
 -- An entry, a visit inside it that returns Ok, and leaving show the entry with the visit's forest inside it.
 out_of : {p : Showing} (u : Bool) (k : Key) (n : ℕ) (b d : Kind) → d ≡ enter u k n b → {c : State} {v : Unit} (w : Unit) →
-    AddsForest p (Going d) (Ok v) c → AddsForest (InsideAs u k n p) (Going b) (Ok w) (close_entry (outer_of b) c)
+    AddsForest p (Going d) (Ok v) c → AddsForest (InsideAs u k n p) (Going b) (Ok w) (close_entry (outer_of n b) c)
 out_of u k n b d i w hidden = hidden
 out_of u k n b d i w (forgotten {c = c} j h) =
     let e : visitors d ≡ suc (visitors b) = ap visitors i ∙ visitors-enter u k n b in
-    let g = visitors-leave (outer_of b) c in
-    forgotten (is_graph-leave (outer_of b) c ∙ j ∙ ap is_graph i ∙ is_graph-enter u k n b) (omega (arith, e, g, h))
+    let g = visitors-leave (outer_of n b) c in
+    forgotten (is_graph-leave (outer_of n b) c ∙ j ∙ ap is_graph i ∙ is_graph-enter u k n b) (omega (arith, e, g, h))
 out_of u k n b d i w (added {c = c} f q t e) =
     let t' : Takes (enter u k n b) f = subst (λ (x : Kind). Takes x f) i t in
     added (entry_of u k n f) (f, q, refl) (takes_entry u k n b f t') (cc (inside_entry u k n b f))
@@ -107,6 +107,7 @@ adds_content g is z s l = adds_shared (rw is at g) z s l
 
 pub adds_again : {p : Showing} {k : Key} {n : ℕ} {i : Identity} {is_first : Bool} {s t : State} {x : Unit} → OpensShared k n i s (Ok is_first) t → is_first ≡ false → AddsForest (SharedWith k n i p) s (Ok x) t
 adds_again {k = k} {n = n} {i = i} (goes_past {h = h}) is = added (Again k n i Empty) (inr refl) tt (sym (held_again k n i h))
+adds_again {k = k} {n = n} {i = i} (counts {o = o} r e) is = added (Again k n i Empty) (inr refl) tt (ap OfOwned e ∙ sym (owned_again k n i o))
 adds_again {k = k} {n = n} {i = i} (enters_again {c = c} r h e) is = added (Again k n i Empty) (inr refl) (h, tt) (ap OfGraph e)
 adds_again (enters_first r h e) is = absurd (false≢true (sym is))
 
@@ -143,6 +144,7 @@ not_entered_cause (is_refused r) = refl
 pub not_shared : {q : Showing} {k : Key} {n : ℕ} {i : Identity} {s t : State} {e : Refusal} → OpensShared k n i s (Err e) t → AddsForest q s (Err e) t
 not_shared stays_shared = already
 not_shared (is_refused_shared r) = refused
+not_shared (is_too_large_shared i r) = refused
 
 -- An error that is returned by hand.
 pub adds_refused : {q : Showing} (s : State) (e x : Refusal) (t : State) → t ≡ failed_with x s → AddsForest q s (Err e) t

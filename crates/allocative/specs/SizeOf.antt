@@ -1,10 +1,11 @@
--- What `size_of_unique` returns, and why it is refused.
+-- What `size_of_unique` and `size_of_owned` return, and why they are refused.
 use Rattle.std.specs.Prelude.{◌≡◌, ℕ, ◌+◌, ◌<◌, ◌≤◌, ◌^◌, ◌⊎◌, Bool, false, IsTrue, Option, Some, Result, Ok, Err}
 use Rattle.allocative_graph.specs.declared.refusal.Refusal.{Refusal}
 use Rattle.allocative_graph.specs.declared.refusal.Refusal.TheVariants.{TooLarge}
 use Rattle.allocative_graph.specs.Forest.{Forest}
 use Rattle.allocative_graph.specs.Held.{held, ShowsNoContent}
-use Rattle.allocative_graph.specs.Collector.{State, Going, OfHeld, begin, close_entry, no_outer, nothing_held}
+use Rattle.allocative_graph.specs.Owned.{owned}
+use Rattle.allocative_graph.specs.Collector.{Kind, State, Going, OfHeld, OfOwned, begin, close_entry, no_outer, nothing_held, nothing_owned}
 use Rattle.allocative_graph.specs.Shows.{Showing}
 use Rattle.allocative_graph.specs.Visits.{Settles}
 use Rattle.allocative.specs.Exact.{CanTake}
@@ -41,10 +42,27 @@ AnswersSize size s (Ok n) = (sum own : ℕ) × AnswersSum s (Ok sum) × (size �
 AnswersSize size s (Err e) = Settles s (Err e) ⊎ ((sum : ℕ) × AnswersSum s (Ok sum) × (e ≡ TooLarge)
     × ((own : ℕ) → size ≡ Some own → 2 ^ 64 ≤ sum + own))
 
--- A visit of this effect, which shows p, was made by a root visitor of a collector that holds nothing, and the visitor was
--- left. The result is what is answered of the collector then.
-pub record AnswersVisit (p : Showing) (effect : Effect) (answers : State → Result ℕ Refusal → Type 0)
+-- A visit of this effect, which shows p, was made by a root visitor of the collector b, and the visitor was left. The
+-- result is what is answered of the collector then.
+pub record AnswersVisitOf (b : Kind) (p : Showing) (effect : Effect) (answers : State → Result ℕ Refusal → Type 0)
     (result : Result ℕ Refusal) : Type 0 where
   pub after : State
-  pub visited : WasVisited p effect (Going (begin (OfHeld nothing_held))) after
+  pub visited : WasVisited p effect (Going (begin b)) after
   pub answer : answers (close_entry no_outer after) result
+
+-- The same of a collector that holds nothing.
+abbrev pub AnswersVisit : Showing → Effect → (State → Result ℕ Refusal → Type 0) → Result ℕ Refusal → Type 0
+AnswersVisit = AnswersVisitOf (OfHeld nothing_held)
+
+-- The bytes that a value owns, by some forest that p allows.
+abbrev pub IsSizeOfOwned : Showing → ℕ → Type 0
+IsSizeOfOwned p bytes = (f : Forest) × p f × ShowsNoContent f × (bytes ≡ owned f)
+
+-- Why the bytes that an exact value owns are refused: only with TooLarge, if an empty collector of owned bytes with a
+-- root visitor open cannot take all that p allows.
+abbrev pub MayRefuseOwned : Bool → Showing → Refusal → Type 0
+MayRefuseOwned is_exact p e = IsTrue is_exact → (e ≡ TooLarge) × ¬ CanTake (begin (OfOwned nothing_owned)) p
+
+-- The result is what is answered of a collector of owned bytes after the visit: their sum, the first cause, or Open.
+abbrev pub AnswersOwned : Showing → Effect → Result ℕ Refusal → Type 0
+AnswersOwned p effect = AnswersVisitOf (OfOwned nothing_owned) p effect AnswersSum

@@ -19,7 +19,9 @@ pub use crate::part::{Declared, Field, Inside, IntoKey, Part, Shared, Unique, Wh
 pub use crate::run::builder::FlameGraphBuilder;
 pub use crate::run::profile::{profile_value, profile_values};
 pub use crate::run::registry::{Registry, profile_roots};
-pub use crate::run::size_of::{size_of_entries, size_of_unique, size_of_unique_allocated_data};
+pub use crate::run::size_of::{
+    size_of_entries, size_of_owned, size_of_unique, size_of_unique_allocated_data,
+};
 pub use crate::run::sum_of_two::profile_in_two;
 pub use crate::run::{builder, profile, registry, size_of, sum_of_two};
 pub use crate::visitor::{Visitor, by_hand, collector, entries};
@@ -31,8 +33,8 @@ pub use allocative_described::{
 pub use allocative_graph::flamegraph::{Child, FlameGraph, Row, push_path};
 pub use allocative_graph::key::Key;
 pub use allocative_graph::laws::{
-    exact_law, graph_law, graph_sums_law, meaning_law, merge_law, order_law, path_order_law,
-    plus_law, read_law, rows_law, shared_law, sums_law, text_law,
+    exact_law, graph_law, graph_sums_law, meaning_law, merge_law, order_law, owned_law,
+    path_order_law, plus_law, read_law, rows_law, shared_law, sums_law, text_law,
 };
 pub use allocative_graph::read::{LEVELS, LineFault, ReadFault};
 pub use allocative_graph::refusal::Refusal;

@@ -196,7 +196,7 @@ impl<'a, K: IntoKey, T: Allocative + Described> Part for Field<K, &'a T> {
 
 /// One entry of a pointer to a shared value. Where the value's identity was not met before, a
 /// part is its content, whose paths start at the root. The collector of held bytes enters neither
-/// the pointer nor the content.
+/// the pointer nor the content, and that of owned bytes the pointer alone.
 ///
 /// ```
 /// let pointer = Shared {

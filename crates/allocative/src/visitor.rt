@@ -17,12 +17,13 @@ pub(crate) mod slices;
 
 use crate::visitor::collector::Collector;
 use crate::{Allocative, Described, Identity, Key, Refusal};
+use allocative_graph::outer::Outer;
 
 /// A place in a collector. Dropping it, or calling `exit`, goes one step back.
 pub struct Visitor<'a> {
     pub(crate) collector: &'a mut Collector,
-    // What leaving the entry restores. It is used only when counting held bytes.
-    pub(crate) outer: bool,
+    // What leaving the entry restores. It is used only when bytes are counted without a graph.
+    pub(crate) outer: Outer,
 }
 
 impl Drop for Visitor<'_> {
@@ -117,7 +118,8 @@ impl Visitor<'_> {
     ///
     /// A flame graph's collector returns a visitor at the value's content, whose paths start at the root,
     /// exactly where the identity was not met before, and `None` where it was. The collector of held bytes
-    /// always returns `None`, and adds nothing.
+    /// always returns `None`, and adds nothing. That of owned bytes adds the pointer, and returns `None`, or
+    /// `TooLarge` if the sum does not fit.
     ///
     /// A collector that has failed returns its first cause. Otherwise a flame graph's collector returns
     /// `TooLarge` exactly where the bound would be exceeded, which is tested before the identity is looked up,

@@ -1,8 +1,9 @@
 //! The state of a collector of held bytes. It allocates nothing.
 ghost use Rattle.std.specs.Prelude.{◌≡◌, ◌+◌, ◌<◌, suc, IfOk, IfErr, OnErr, IsTrue, ◌↔◌};
-ghost use Rattle.allocative_graph.specs.Collector.{OfHeld, enter_holding, leave_holding, nothing_held, IsClosed};
+ghost use Rattle.allocative_graph.specs.Collector.{OfHeld, enter_holding, leave_holding, nothing_held, outer_of, IsClosed};
 ghost use Rattle.allocative_graph.specs.Visits.{HasRoom, Refuses};
 
+use allocative_graph::outer::Outer;
 use allocative_graph::refusal::Refusal;
 use std::marker::Model;
 
@@ -40,20 +41,34 @@ impl HeldCollector {
         }
     }
 
-    /// One more entry of `size` bytes, unique or inline, and a visitor at it. It returns the flag that `leave`
+    // What leaving an entry that is opened now restores.
+    fn outer(&self) -> Outer
+        ensures { result ≡ outer_of 0 (OfHeld self.now) }
+    {
+        Outer {
+            is_unique: self.is_in_unique,
+            spare: 0,
+        }
+    }
+
+    /// One more entry of `size` bytes, unique or inline, and a visitor at it. It returns what `leave`
     /// restores.
     ///
     /// The bytes are held where an inline entry is directly in a unique one. It returns `TooLarge` exactly where the
     /// sum or the number of visitors would exceed `usize::MAX`, and then nothing is changed.
-    pub fn enter(&mut self, size: usize, is_unique: bool) -> Result<bool, Refusal>
+    pub fn enter(&mut self, size: usize, is_unique: bool) -> Result<Outer, Refusal>
         ensures ok { IfOk result (λ outer. HasRoom is_unique size (OfHeld self.old)
-            × (outer ≡ self.old.is_in_unique)
+            × (outer ≡ outer_of size (OfHeld self.old))
             × (self.new ≡ enter_holding is_unique size self.old)) }
         ensures err { IfErr result (Refuses is_unique size (OfHeld self.old)) }
         ensures kept { OnErr result (self.new ≡ self.old) }
     {
-        let outer = self.is_in_unique;
-        let held = if outer && !is_unique { size } else { 0 };
+        let outer = self.outer();
+        let held = if self.is_in_unique && !is_unique {
+            size
+        } else {
+            0
+        };
         let sum = self.sum.checked_add(held).ok_or(Refusal::TooLarge)?;
         let visitors = self.visitors.checked_add(1).ok_or(Refusal::TooLarge)?;
         *self = HeldCollector {
@@ -64,12 +79,12 @@ impl HeldCollector {
         Ok(outer)
     }
 
-    /// One visitor less. `outer` says whether the visitor outside it is that of a unique entry.
-    pub fn leave(&mut self, outer: bool)
+    /// One visitor less. `outer` is what it restores: whether the visitor outside it is that of a unique entry.
+    pub fn leave(&mut self, outer: Outer)
         ensures { self.new ≡ leave_holding outer self.old }
     {
         self.visitors = self.visitors.saturating_sub(1);
-        self.is_in_unique = outer;
+        self.is_in_unique = outer.is_unique;
     }
 
     /// Whether no visitor is open.
@@ -79,14 +94,14 @@ impl HeldCollector {
         self.visitors == 0
     }
 
-    /// One more root visitor, where no visitor is open. It returns the flag that `leave` restores.
-    pub fn begin(&mut self) -> bool
+    /// One more root visitor, where no visitor is open. It returns what `leave` restores.
+    pub fn begin(&mut self) -> Outer
         requires { IsClosed (OfHeld self.old) }
-        ensures outer { result ≡ self.old.is_in_unique }
+        ensures outer { result ≡ outer_of 0 (OfHeld self.old) }
         ensures begun { self.new ≡ record self.old { open_visitors = suc self.old.open_visitors } }
     {
         self.visitors += 1;
-        self.is_in_unique
+        self.outer()
     }
 
     /// The sum of the held bytes.

@@ -6,7 +6,7 @@ use Rattle.allocative_graph.proofs.Basics.{each-append, and_parts, or_both, or_l
 use Rattle.allocative_graph.proofs.PathOrder.{key_itself}
 use Rattle.allocative_graph.proofs.Below.{below_in}
 
-one_below_child : (p r : Path) (k : Key) → IsTrue (is_one_below p (r ++ k ∷ [])) → p ≡ r
+pub one_below_child : (p r : Path) (k : Key) → IsTrue (is_one_below p (r ++ k ∷ [])) → p ≡ r
 one_below_child [] [] k h = refl
 one_below_child [] (l ∷ []) k h = absurd (true≢false (sym h))
 one_below_child [] (l ∷ m ∷ r) k h = absurd (true≢false (sym h))
@@ -56,7 +56,7 @@ closed_flat (c ∷ cs) h = closed_append [] c.1 (flat_map (λ c. c.1) cs) h.0 (c
 closed_all : (f : Forest) → Closed [] (all f)
 closed_all f = closed_append [] (own f) (content_entries f) (closed_behind [] f) (closed_flat (contents f) (closed_each f))
 
-one_below_self : (p : Path) (k : Key) → IsTrue (is_one_below p (p ++ k ∷ []))
+pub one_below_self : (p : Path) (k : Key) → IsTrue (is_one_below p (p ++ k ∷ []))
 one_below_self [] k = refl
 one_below_self (l ∷ p) k = (λ i. is_eq (key_itself l i) && is_one_below p (p ++ k ∷ [])) ∙ one_below_self p k
 

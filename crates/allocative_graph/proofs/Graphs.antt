@@ -11,7 +11,7 @@ use Rattle.allocative_graph.proofs.ChildRows.{weight-one}
 use Rattle.allocative_graph.proofs.NodeSizes.{total-node}
 
 -- ---- one size more at a path
-abbrev add_at : Graph → Path × ℕ → Graph
+abbrev pub add_at : Graph → Path × ℕ → Graph
 add_at g e = insert g e.0 (size_at g e.0 + e.1)
 
 total_at-add_at : (q : Path) (g : Graph) (e : Path × ℕ) → total_at (add_at g e) q ≡ total_at g q + cond (begins q e.0) e.1 0
@@ -100,7 +100,7 @@ module _ (k : Key) (g : Graph) where
   total-under = omega (arith, ap total as_node, total-node 0 (only ∷ []) (one_sorted only), weight-one only)
 
 -- ---- the graph of a showing
-in_graph : (b : Bag) (k : Key) (p : Path) → contains_key (graph (sums_of b)) (k ∷ p) ≡ is_entered_in b (k ∷ p)
+pub in_graph : (b : Bag) (k : Key) (p : Path) → contains_key (graph (sums_of b)) (k ∷ p) ≡ is_entered_in b (k ∷ p)
 in_graph b k p = rw (get-graph (sums_of b) k p, get-sums_of b (k ∷ p)) (grind arith)
 
 pub graph-tree : (f : Forest) → IsTree (graph (sums_of (all f)))

@@ -26,6 +26,7 @@ pub mod ChildMerged
 pub mod Behind
 pub mod ReadRows
 pub mod Gathered
+pub mod Owned
 pub mod StackSums
 pub mod ReadLines
 pub mod ReadBack

@@ -17,7 +17,7 @@ merge a (Some n) = Some (together a n)
 bytes-cons : (e : Entry) (b : Bag) (q : Path) → bytes_in (e ∷ b) q ≡ cond (is_same_path q e.path) e.size 0 + bytes_in b q
 bytes-cons e b q = sum_by-cons (λ e. cond (is_same_path q e.path) e.size 0) e b
 
-bytes_none : (b : Bag) (q : Path) → is_entered_in b q ≡ false → bytes_in b q ≡ 0
+pub bytes_none : (b : Bag) (q : Path) → is_entered_in b q ≡ false → bytes_in b q ≡ 0
 bytes_none [] q h = refl
 bytes_none (e ∷ b) q h = grind (arith, bytes_none b q, bytes-cons e b q)
 

@@ -1,8 +1,10 @@
 -- What a collector has after forests, entries and leaving.
-use Rattle.std.proofs.Common.{◌≡◌, ◌↔◌, ◌≤◌, suc, ℕ, ◌+◌, Bool, true, false, cond, [], ◌∷◌, ◌++◌, refl, ap, arith, append-nil}
+use Rattle.std.proofs.Common.{◌≡◌, ◌↔◌, ◌≤◌, suc, min, ℕ, ◌+◌, ◌-◌, Bool, true, false, cond, [], ◌∷◌, ◌++◌, refl, ap, arith, append-nil}
 use Rattle.allocative_graph.proofs.Common.{contains, Key, Identity, Forest, Empty, Inline, Unique, First, Again, own_behind, contents, followed_by}
 use Rattle.allocative_graph.specs.Forest.{entry_of}
-use Rattle.allocative_graph.specs.Collector.{Live, Holding, Kind, OfGraph, OfHeld, plus_holding, enter_first, held_bytes, plus, Takes, enter, leave, begin, is_graph, visitors, Outer, outer_of}
+use Rattle.allocative_graph.specs.Collector.{Live, Holding, Owning, Kind, OfGraph, OfHeld, OfOwned, plus_holding, plus_owning, count_owning, enter_first, held_bytes, plus, Takes, enter, leave, begin, is_graph, visitors, Outer, outer_of, IsClosed}
+use Rattle.allocative_graph.specs.Owned.{direct, owned}
+use Rattle.allocative_graph.proofs.Owned.{direct-following, owned-following, direct-owned}
 use Rattle.allocative_graph.specs.Held.{held, inline_bytes}
 use Rattle.allocative_graph.proofs.Following.{entries_at-following, contents-following, met-following, fits-following}
 use Rattle.allocative_graph.proofs.Basics.{each-append, each-parts}
@@ -26,40 +28,77 @@ inside_sum : (is_in_unique is_unique : Bool) (s n h b : ℕ) → (s + held_bytes
     ≡ s + (cond is_unique (b + h + 0) (h + 0) + cond is_in_unique (cond is_unique 0 (n + 0)) 0)
 inside_sum v u s n h b = grind arith
 
--- ---- either
+-- ---- the collector of owned bytes
+owning-nothing : (o : Owning) → plus_owning o Empty ≡ o
+owning-nothing o =
+    let sum : o.sum + (0 - min o.spare 0) ≡ o.sum = omega arith in
+    let spare : o.spare - 0 ≡ o.spare = omega arith in
+    λ i. record o { sum = sum i; spare = spare i }
+
+owning-following : (o : Owning) (f g : Forest) → plus_owning o (followed_by f g) ≡ plus_owning (plus_owning o f) g
+owning-following o f g =
+    let d = direct-following f g in
+    let w = owned-following f g in
+    let sum : o.sum + (owned (followed_by f g) - min o.spare (direct (followed_by f g))) ≡ (o.sum + (owned f - min o.spare (direct f))) + (owned g - min (o.spare - direct f) (direct g)) = omega (arith, d, w, direct-owned f, direct-owned g) in
+    let spare : o.spare - direct (followed_by f g) ≡ (o.spare - direct f) - direct g = omega (arith, d) in
+    λ i. record o { sum = sum i; spare = spare i }
+
+owning_inside : (is_unique : Bool) (s t n w d : ℕ) → d ≤ w → (s + (n - t)) + (w - min (cond is_unique 0 n) d)
+    ≡ s + ((cond is_unique n (n - d) + w + 0) - min t (n + 0))
+owning_inside true s t n w d h = omega (arith, h)
+owning_inside false s t n w d h = omega (arith, h)
+
+spare_left : (t n : ℕ) → t - n ≡ t - (n + 0)
+spare_left t n = omega arith
+
+owning-again : (k : Key) (n : ℕ) (j : Identity) (o : Owning) → plus_owning o (Again k n j Empty) ≡ count_owning n o
+owning-again k n j o =
+    let sum : o.sum + ((n + 0) - min o.spare (n + 0)) ≡ o.sum + (n - o.spare) = omega arith in
+    let spare : o.spare - (n + 0) ≡ o.spare - n = omega arith in
+    λ i. record o { sum = sum i; spare = spare i }
+
+-- ---- each
 pub plus-nothing : (c : Kind) → plus c Empty ≡ c
 plus-nothing (OfGraph c) = refl
 plus-nothing (OfHeld h) = ap OfHeld (holding-nothing h)
+plus-nothing (OfOwned o) = ap OfOwned (owning-nothing o)
 
 pub plus-following : (c : Kind) (f g : Forest) → plus c (followed_by f g) ≡ plus (plus c f) g
 plus-following (OfGraph c) f g = λ i. OfGraph (record c { sums = entries_at-following c.sums c.here f g i; met = met-following c.met f g i })
 plus-following (OfHeld h) f g =
     let both : h.sum + held_in h.is_in_unique (followed_by f g) ≡ (h.sum + held_in h.is_in_unique f) + held_in h.is_in_unique g = omega (arith, held_in-following h.is_in_unique f g) in
     λ i. OfHeld (record h { sum = both i })
+plus-following (OfOwned o) f g = ap OfOwned (owning-following o f g)
 
 pub takes_nothing : (c : Kind) → Takes c Empty
 takes_nothing (OfGraph c) = tt
 takes_nothing (OfHeld h) = tt
+takes_nothing (OfOwned o) = tt
 
 pub takes_following : (c : Kind) (f g : Forest) → Takes c (followed_by f g) ↔ (Takes c f × Takes (plus c f) g)
 takes_following (OfGraph c) f g = fits-following c.met f g
 takes_following (OfHeld h) f g = rw (contents-following f g) (each-parts (λ c. ⊥) (contents f) (contents g), λ w. each-append (λ c. ⊥) (contents f) (contents g) w.0 w.1)
+takes_following (OfOwned o) f g = rw (contents-following f g) (each-parts (λ c. ⊥) (contents f) (contents g), λ w. each-append (λ c. ⊥) (contents f) (contents g) w.0 w.1)
 
 pub takes_both : (c : Kind) (f g : Forest) → Takes c f → Takes (plus c f) g → Takes c (followed_by f g)
 takes_both c f g v w = (takes_following c f g).1 (v, w)
 
 -- An entry with f inside it is entering, adding f and one step back.
-pub inside_entry : (u : Bool) (k : Key) (n : ℕ) (c : Kind) (f : Forest) → leave (outer_of c) (plus (enter u k n c) f) ≡ plus c (entry_of u k n f)
+pub inside_entry : (u : Bool) (k : Key) (n : ℕ) (c : Kind) (f : Forest) → leave (outer_of n c) (plus (enter u k n c) f) ≡ plus c (entry_of u k n f)
 inside_entry true k n (OfGraph c) f = rw (append-nil (own_behind (c.here ++ k ∷ []) f), append-nil (contents f))
 inside_entry false k n (OfGraph c) f = rw (append-nil (own_behind (c.here ++ k ∷ []) f), append-nil (contents f))
 inside_entry true k n (OfHeld h) f = λ i. OfHeld (record h { sum = inside_sum h.is_in_unique true h.sum n (held f) (inline_bytes f) i })
 inside_entry false k n (OfHeld h) f = λ i. OfHeld (record h { sum = inside_sum h.is_in_unique false h.sum n (held f) (inline_bytes f) i })
+inside_entry true k n (OfOwned o) f = λ i. OfOwned (record o { sum = owning_inside true o.sum o.spare n (owned f) (direct f) (direct-owned f) i; spare = spare_left o.spare n i })
+inside_entry false k n (OfOwned o) f = λ i. OfOwned (record o { sum = owning_inside false o.sum o.spare n (owned f) (direct f) (direct-owned f) i; spare = spare_left o.spare n i })
 
 pub takes_entry : (u : Bool) (k : Key) (n : ℕ) (c : Kind) (f : Forest) → Takes (enter u k n c) f → Takes c (entry_of u k n f)
 takes_entry true k n (OfGraph c) f w = (w, tt)
 takes_entry false k n (OfGraph c) f w = (w, tt)
 takes_entry true k n (OfHeld h) f w = each-append (λ c. ⊥) (contents f) [] w tt
 takes_entry false k n (OfHeld h) f w = each-append (λ c. ⊥) (contents f) [] w tt
+takes_entry true k n (OfOwned o) f w = each-append (λ c. ⊥) (contents f) [] w tt
+takes_entry false k n (OfOwned o) f w = each-append (λ c. ⊥) (contents f) [] w tt
 
 -- The content of a shared entry starts at the root.
 pub inside_first : (k : Key) (n : ℕ) (j : Identity) (c : Live) (f : Forest) (outer : Outer) → leave outer (plus (OfGraph (enter_first k n j c)) f) ≡ plus (OfGraph c) (First k n j f Empty)
@@ -71,7 +110,21 @@ takes_shared k n j c f new w = (new, w, tt)
 pub held_again : (k : Key) (n : ℕ) (j : Identity) (h : Holding) → plus (OfHeld h) (Again k n j Empty) ≡ OfHeld h
 held_again k n j h = ap OfHeld (holding-nothing h)
 
+pub owned_again : (k : Key) (n : ℕ) (j : Identity) (o : Owning) → plus (OfOwned o) (Again k n j Empty) ≡ OfOwned (count_owning n o)
+owned_again k n j o = ap OfOwned (owning-again k n j o)
+
 -- ---- the count of visitors
+pub closed-visitors : (c : Kind) → IsClosed c → visitors c ≡ 0
+closed-visitors (OfGraph c) h = h
+closed-visitors (OfHeld k) h = h
+closed-visitors (OfOwned o) h = h.0
+
+-- A closed collector stays closed as forests are added.
+pub closed-plus : (c : Kind) (f : Forest) → IsClosed c → IsClosed (plus c f)
+closed-plus (OfGraph c) f h = h
+closed-plus (OfHeld k) f h = h
+closed-plus (OfOwned o) f h = (h.0, omega (arith, h.1))
+
 pub visitors-plus : (c : Kind) (f : Forest) → visitors (plus c f) ≡ visitors c
 visitors-plus c f = grind arith
 
@@ -82,7 +135,7 @@ visitors-enter u k n c = grind arith
 pub visitors-leave : (outer : Outer) (c : Kind) → visitors c ≤ suc (visitors (leave outer c))
 visitors-leave outer c = grind arith
 
--- ---- which of the two it is
+-- ---- which of them it is
 pub is_graph-plus : (c : Kind) (f : Forest) → is_graph (plus c f) ≡ is_graph c
 is_graph-plus c f = grind arith
 

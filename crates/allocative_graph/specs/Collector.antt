@@ -1,5 +1,5 @@
 -- What contracts see of a collector, and what entering, adding a forest and leaving do to it.
-use Rattle.std.specs.Prelude.{◌≡◌, ℕ, suc, pred, ◌+◌, Bool, true, false, cond, List, [], ◌∷◌, ◌++◌, ⊤}
+use Rattle.std.specs.Prelude.{◌≡◌, ℕ, suc, pred, min, ◌+◌, ◌-◌, Bool, true, false, cond, List, [], ◌∷◌, ◌++◌, ⊤}
 use Rattle.std.specs.FinMap as finmap
 use Rattle.std.specs.FinSet as set
 use Rattle.allocative_graph.specs.declared.refusal.Refusal.{Refusal}
@@ -8,6 +8,8 @@ use Rattle.allocative_graph.specs.Identity.{Identity, Identities}
 use Rattle.allocative_graph.specs.Forest.{Forest, Empty, First, Again, Bag, entry_of, own_behind, content_entries, met_after, Fits}
 use Rattle.allocative_graph.specs.Sums.{Sums, add_all}
 use Rattle.allocative_graph.specs.Held.{held, inline_bytes, ShowsNoContent}
+use Rattle.allocative_graph.specs.Owned.{direct, owned}
+use Rattle.allocative_graph.specs.declared.outer.Outer as declared
 
 -- The collector of a flame graph: the sums of what was entered, the identities met, the current path, the paths to go
 -- back to, and the number of open visitors, which were entered and not left.
@@ -25,18 +27,27 @@ pub record Holding : Type 0 where
   pub open_visitors : ℕ
   pub is_in_unique : Bool
 
--- What leaving an entry restores: whether the visitor outside it is that of a unique entry.
+-- The collector of owned bytes: their sum, the spare bytes of the current entry, which no entry directly inside it has
+-- taken, and the number of open visitors, which were entered and not left. A unique entry has no spare bytes, nor has
+-- the root.
+pub record Owning : Type 0 where
+  pub sum : ℕ
+  pub spare : ℕ
+  pub open_visitors : ℕ
+
+-- What leaving an entry restores: whether the entry outside is unique, and its spare bytes.
 abbrev pub Outer : Type 0
-Outer = Bool
+Outer = declared.Outer
 
 -- What is restored if nothing outside counts.
 abbrev pub no_outer : Outer
-no_outer = false
+no_outer = record { is_unique = false; spare = 0 }
 
--- A collector of one of the two kinds.
+-- A collector of one of the three kinds.
 pub data Kind : Type 0 where
   OfGraph : Live → Kind
   OfHeld : Holding → Kind
+  OfOwned : Owning → Kind
 
 -- What a contract sees of a collector: it has failed, with its first cause, or it is going.
 pub data State : Type 0 where
@@ -102,58 +113,91 @@ enter_holding is_unique n h = record {
 
 -- One visitor less; `outer` is what leaving it restores.
 abbrev pub leave_holding : Outer → Holding → Holding
-leave_holding outer h = record { sum = h.sum; open_visitors = pred h.open_visitors; is_in_unique = outer }
+leave_holding outer h = record { sum = h.sum; open_visitors = pred h.open_visitors; is_in_unique = outer.is_unique }
 
--- ---- either collector
+-- ---- the collector of owned bytes
+-- o with the forest f added: what f owns, less what its top entries take of the spare bytes.
+abbrev pub plus_owning : Owning → Forest → Owning
+plus_owning o f = record o { sum = o.sum + (owned f - min o.spare (direct f)); spare = o.spare - direct f }
+
+-- One more entry with nothing inside it and no visitor at it. It takes spare bytes first, and adds the others.
+abbrev pub count_owning : ℕ → Owning → Owning
+count_owning n o = record o { sum = o.sum + (n - o.spare); spare = o.spare - n }
+
+-- One more entry, and a visitor at it. Its own bytes are spare there, unless it is unique.
+abbrev pub enter_owning : Bool → ℕ → Owning → Owning
+enter_owning is_unique n o = record {
+  sum = o.sum + (n - o.spare);
+  spare = cond is_unique 0 n;
+  open_visitors = suc o.open_visitors;
+}
+
+-- One visitor less; `outer` is what leaving it restores.
+abbrev pub leave_owning : Outer → Owning → Owning
+leave_owning outer o = record { sum = o.sum; spare = outer.spare; open_visitors = pred o.open_visitors }
+
+-- ---- each collector
 -- Whether the collector is that of a flame graph.
 abbrev pub is_graph : Kind → Bool
 is_graph (OfGraph c) = true
 is_graph (OfHeld h) = false
+is_graph (OfOwned o) = false
 
 -- The number of open visitors, which were entered and not left.
 abbrev pub visitors : Kind → ℕ
 visitors (OfGraph c) = c.open_visitors
 visitors (OfHeld h) = h.open_visitors
+visitors (OfOwned o) = o.open_visitors
 
--- What leaving an entry that is opened now restores. The collector of a flame graph needs nothing.
-abbrev pub outer_of : Kind → Outer
-outer_of (OfGraph c) = no_outer
-outer_of (OfHeld h) = h.is_in_unique
+-- What leaving an entry of n bytes that is opened now restores: whether the current entry is unique, for held bytes, or
+-- its spare bytes less n, for owned bytes. The collector of a flame graph needs nothing.
+abbrev pub outer_of : ℕ → Kind → Outer
+outer_of n (OfGraph c) = no_outer
+outer_of n (OfHeld h) = record { is_unique = h.is_in_unique; spare = 0 }
+outer_of n (OfOwned o) = record { is_unique = false; spare = o.spare - n }
 
 -- The collector with the forest f at its current place.
 abbrev pub plus : Kind → Forest → Kind
 plus (OfGraph c) f = OfGraph (plus_live c f)
 plus (OfHeld h) f = OfHeld (plus_holding h f)
+plus (OfOwned o) f = OfOwned (plus_owning o f)
 
--- f can be added: for a flame graph, it shows contents exactly where their identities were not met; for held bytes, it
--- shows no content.
+-- f can be added: for a flame graph, it shows contents exactly where their identities were not met; for held and owned
+-- bytes, it shows no content.
 abbrev pub Takes : Kind → Forest → Type 0
 Takes (OfGraph c) f = Fits c.met f
 Takes (OfHeld h) f = ShowsNoContent f
+Takes (OfOwned o) f = ShowsNoContent f
 
 -- One more entry, unique or inline, and a visitor at it.
 abbrev pub enter : Bool → Key → ℕ → Kind → Kind
 enter is_unique k n (OfGraph c) = OfGraph (enter_live is_unique k n c)
 enter is_unique k n (OfHeld h) = OfHeld (enter_holding is_unique n h)
+enter is_unique k n (OfOwned o) = OfOwned (enter_owning is_unique n o)
 
 -- One visitor less; `outer` is what leaving it restores.
 abbrev pub leave : Outer → Kind → Kind
 leave outer (OfGraph c) = OfGraph (leave_live c)
 leave outer (OfHeld h) = OfHeld (leave_holding outer h)
+leave outer (OfOwned o) = OfOwned (leave_owning outer o)
 
 -- One more visitor, which is a root visitor. It is where the collector began.
 abbrev pub begin : Kind → Kind
 begin (OfGraph c) = OfGraph (go [] c)
 begin (OfHeld h) = OfHeld (record h { open_visitors = suc h.open_visitors })
+begin (OfOwned o) = OfOwned (record o { open_visitors = suc o.open_visitors })
 
--- No visitor is open.
+-- No visitor is open. For owned bytes, also none are spare, as is so once each visitor was left.
 abbrev pub IsClosed : Kind → Type 0
-IsClosed k = visitors k ≡ 0
+IsClosed (OfGraph c) = c.open_visitors ≡ 0
+IsClosed (OfHeld h) = h.open_visitors ≡ 0
+IsClosed (OfOwned o) = (o.open_visitors ≡ 0) × (o.spare ≡ 0)
 
--- The current path is the root's, with nothing to go back to.
+-- The current path is the root's, with nothing to go back to. For owned bytes, none are spare.
 abbrev pub IsAtRoot : Kind → Type 0
 IsAtRoot (OfGraph c) = (c.here ≡ []) × (c.back ≡ [])
 IsAtRoot (OfHeld h) = ⊤
+IsAtRoot (OfOwned o) = o.spare ≡ 0
 
 -- The collector of a flame graph before any call.
 abbrev pub no_entries : Live
@@ -162,6 +206,10 @@ no_entries = record { sums = finmap.empty; met = set.empty; here = []; back = []
 -- The collector of held bytes before any call.
 abbrev pub nothing_held : Holding
 nothing_held = record { sum = 0; open_visitors = 0; is_in_unique = false }
+
+-- The collector of owned bytes before any call.
+abbrev pub nothing_owned : Owning
+nothing_owned = record { sum = 0; spare = 0; open_visitors = 0 }
 
 -- A collector that has not failed fails with r. One that has failed keeps its cause.
 abbrev pub failed_with : Refusal → State → State

@@ -12,7 +12,7 @@ use Rattle.allocative_graph.specs.Forest.{Forest, Empty, First, Again, Bag, own,
 use Rattle.allocative_graph.specs.Meaning.{Reached, IsMeaning, ReachesExactly, content_of, IsWhole, Agree, ReachApart}
 use Rattle.allocative_graph.specs.Sums.{Sums, bytes_in, below_in, is_unique_in, is_entered_in, sums_of, below}
 use Rattle.allocative_graph.specs.Graph.{Graph, graph, remaining, total, under, default, IsTree, text, warnings, warned_paths, sum_of, size_at, CanBeAdded, HasPlainKeys, HasWords}
-use Rattle.allocative_graph.specs.Collector.{Live, Holding, Kind, OfGraph, OfHeld, plus, Takes, enter, enter_first, enter_again, leave, Outer, outer_of}
+use Rattle.allocative_graph.specs.Collector.{Live, Holding, Owning, Kind, OfGraph, OfHeld, OfOwned, plus, Takes, enter, enter_first, enter_again, count_owning, leave, Outer, outer_of}
 use Rattle.allocative_graph.specs.Report.{exact_text, without_lines}
 use Rattle.allocative_graph.specs.Read.{IsRead, IsFault, Exceeds, CanBeRead}
 use Rattle.allocative_graph.specs.declared.read.LineFault.{LineFault}
@@ -79,12 +79,12 @@ pub record PlusLaw : Type 0 where
   pub following : (c : Kind) (f g : Forest) → plus c (followed_by f g) ≡ plus (plus c f) g
   pub following_taken : (c : Kind) (f g : Forest) → Takes c (followed_by f g) ↔ (Takes c f × Takes (plus c f) g)
   pub inside : (is_unique : Bool) (k : Key) (n : ℕ) (c : Kind) (f : Forest)
-      → leave (outer_of c) (plus (enter is_unique k n c) f) ≡ plus c (entry_of is_unique k n f)
+      → leave (outer_of n c) (plus (enter is_unique k n c) f) ≡ plus c (entry_of is_unique k n f)
   pub inside_taken : (is_unique : Bool) (k : Key) (n : ℕ) (c : Kind) (f : Forest)
       → Takes (enter is_unique k n c) f → Takes c (entry_of is_unique k n f)
 
--- What a collector has after shared entries: a content from the root, a pointer alone, and no change in the collector
--- of held bytes.
+-- What a collector has after shared entries: a content from the root, a pointer alone, no change in the collector of
+-- held bytes, and the pointer's bytes in that of owned bytes.
 pub record SharedLaw : Type 0 where
   pub first : (k : Key) (n : ℕ) (i : Identity) (c : Live) (f : Forest) (outer : Outer)
       → leave outer (plus (OfGraph (enter_first k n i c)) f) ≡ plus (OfGraph c) (First k n i f Empty)
@@ -93,6 +93,8 @@ pub record SharedLaw : Type 0 where
   pub again : (k : Key) (n : ℕ) (i : Identity) (c : Live) → OfGraph (enter_again k n i c) ≡ plus (OfGraph c) (Again k n i Empty)
   pub again_taken : (k : Key) (n : ℕ) (i : Identity) (c : Live) → contains c.met i ≡ true → Takes (OfGraph c) (Again k n i Empty)
   pub held : (k : Key) (n : ℕ) (i : Identity) (h : Holding) → plus (OfHeld h) (Again k n i Empty) ≡ OfHeld h
+  pub owned : (k : Key) (n : ℕ) (i : Identity) (o : Owning)
+      → plus (OfOwned o) (Again k n i Empty) ≡ OfOwned (count_owning n o)
 
 -- ---- of paths
 -- A prefix of a path comes before it, and otherwise the first keys that differ decide. Keys are ordered in this way by

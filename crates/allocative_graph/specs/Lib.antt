@@ -9,6 +9,7 @@ pub mod Meaning
 pub mod Sums
 pub mod Graph
 pub mod Held
+pub mod Owned
 pub mod Collector
 pub mod Shows
 pub mod Visits

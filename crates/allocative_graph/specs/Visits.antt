@@ -1,5 +1,5 @@
 -- What calls of a collector and of its visitors do, as relations between the collector before and after a call.
-use Rattle.std.specs.Prelude.{◌≡◌, ℕ, suc, ◌+◌, ◌<◌, ◌≤◌, ◌^◌, ◌⊎◌, Bool, true, false, List, Option, None, Some, Result, Ok, Err}
+use Rattle.std.specs.Prelude.{◌≡◌, ℕ, suc, ◌+◌, ◌-◌, ◌<◌, ◌≤◌, ◌^◌, ◌⊎◌, Bool, true, false, List, Option, None, Some, Result, Ok, Err}
 use Rattle.std.specs.FinSet.{contains}
 use Rattle.allocative_graph.specs.declared.refusal.Refusal.{Refusal}
 use Rattle.allocative_graph.specs.declared.refusal.Refusal.TheVariants.{Memory, TooLarge, Open}
@@ -9,7 +9,7 @@ use Rattle.allocative_graph.specs.Forest.{Forest, Bag, own, all, followed_by}
 use Rattle.allocative_graph.specs.Meaning.{IsWhole, IsMeaning, ReachesExactly, ReachApart, content_of}
 use Rattle.allocative_graph.specs.Sums.{Sums, entered, sums_of}
 use Rattle.allocative_graph.specs.Graph.{Graph, Warned, graph, warnings, warned_paths, sum_of, CanBeAdded}
-use Rattle.allocative_graph.specs.Collector.{Live, Holding, Kind, OfGraph, OfHeld, State, Failed, Going, held_bytes, enter, enter_first, enter_again, plus, Takes, is_graph, visitors, Outer, outer_of, begin, close_entry, IsClosed, IsAtRoot}
+use Rattle.allocative_graph.specs.Collector.{Live, Holding, Owning, Kind, OfGraph, OfHeld, OfOwned, State, Failed, Going, held_bytes, enter, enter_first, enter_again, count_owning, plus, Takes, is_graph, visitors, Outer, outer_of, begin, close_entry, IsClosed, IsAtRoot}
 use Rattle.allocative_graph.specs.Shows.{Showing}
 
 -- What visiting a value does to a collector, where p is what the value may show. A failed collector stays as it is.
@@ -34,6 +34,7 @@ abbrev pub HasRoom : Bool → ℕ → Kind → Type 0
 HasRoom is_unique n (OfGraph c) = entered c.sums + n < 2 ^ 63
 HasRoom is_unique n (OfHeld h) = (h.sum + held_bytes h.is_in_unique is_unique n < 2 ^ 64)
     × (suc h.open_visitors < 2 ^ 64)
+HasRoom is_unique n (OfOwned o) = (o.sum + (n - o.spare) < 2 ^ 64) × (suc o.open_visitors < 2 ^ 64)
 
 -- An entry of n bytes is refused with e. Either e is TooLarge and a bound would be exceeded, or e is Memory and no
 -- bound would be exceeded. Memory is refused only by the collector of a flame graph.
@@ -42,6 +43,8 @@ Refuses is_unique n (OfGraph c) e = ((e ≡ TooLarge) × (2 ^ 63 ≤ entered c.s
     ⊎ ((e ≡ Memory) × (entered c.sums + n < 2 ^ 63))
 Refuses is_unique n (OfHeld h) e = (e ≡ TooLarge)
     × ((2 ^ 64 ≤ h.sum + held_bytes h.is_in_unique is_unique n) ⊎ (2 ^ 64 ≤ suc h.open_visitors))
+Refuses is_unique n (OfOwned o) e = (e ≡ TooLarge)
+    × ((2 ^ 64 ≤ o.sum + (n - o.spare)) ⊎ (2 ^ 64 ≤ suc o.open_visitors))
 
 -- An entry of a declared size is refused with e: with TooLarge if there is no size, otherwise as `Refuses` says.
 abbrev pub RefusesSized : Bool → Option ℕ → Kind → Refusal → Type 0
@@ -55,7 +58,7 @@ pub data OpensEntry (is_unique : Bool) (k : Key) : Option ℕ → State → Resu
   stays_failed : {size : Option ℕ} {r : Refusal} → OpensEntry is_unique k size (Failed r) (Err r) (Failed r)
   is_refused : {size : Option ℕ} {b : Kind} {e : Refusal} → RefusesSized is_unique size b e
       → OpensEntry is_unique k size (Going b) (Err e) (Failed e)
-  is_entered : {n : ℕ} {b c : Kind} {outer : Outer} → HasRoom is_unique n b → outer ≡ outer_of b
+  is_entered : {n : ℕ} {b c : Kind} {outer : Outer} → HasRoom is_unique n b → outer ≡ outer_of n b
       → c ≡ enter is_unique k n b → OpensEntry is_unique k (Some n) (Going b) (Ok outer) (Going c)
 
 -- An entry of a declared size is refused with e, as opening it says.
@@ -64,12 +67,17 @@ RefusesEntry is_unique size (Failed r) e = e ≡ r
 RefusesEntry is_unique size (Going b) e = RefusesSized is_unique size b e
 
 -- What opening a shared entry does. The call returns whether its content is to be shown: in a flame graph's collector,
--- exactly if the identity was not met. The collector of held bytes stays as it is.
+-- exactly if the identity was not met. The collector of held bytes stays as it is, and that of owned bytes counts the
+-- pointer.
 pub data OpensShared (k : Key) (n : ℕ) (i : Identity) : State → Result Bool Refusal → State → Type 0 where
   stays_shared : {r : Refusal} → OpensShared k n i (Failed r) (Err r) (Failed r)
   is_refused_shared : {c : Live} {e : Refusal} → Refuses false n (OfGraph c) e
       → OpensShared k n i (Going (OfGraph c)) (Err e) (Failed e)
   goes_past : {h : Holding} → OpensShared k n i (Going (OfHeld h)) (Ok false) (Going (OfHeld h))
+  is_too_large_shared : {o : Owning} {e : Refusal} → e ≡ TooLarge → 2 ^ 64 ≤ o.sum + (n - o.spare)
+      → OpensShared k n i (Going (OfOwned o)) (Err e) (Failed e)
+  counts : {o p : Owning} → o.sum + (n - o.spare) < 2 ^ 64 → p ≡ count_owning n o
+      → OpensShared k n i (Going (OfOwned o)) (Ok false) (Going (OfOwned p))
   enters_first : {c d : Live} → entered c.sums + n < 2 ^ 63 → contains c.met i ≡ false → d ≡ enter_first k n i c
       → OpensShared k n i (Going (OfGraph c)) (Ok true) (Going (OfGraph d))
   enters_again : {c d : Live} → entered c.sums + n < 2 ^ 63 → contains c.met i ≡ true → d ≡ enter_again k n i c
@@ -86,7 +94,7 @@ pub record ClosesEntry (outer : Outer) (s t : State) : Type 0 where
 abbrev pub OpensRoot : State → Result Outer Refusal → State → Type 0
 OpensRoot (Failed r) (Ok outer) t = ⊥
 OpensRoot (Failed r) (Err e) t = (e ≡ r) × (t ≡ Failed r)
-OpensRoot (Going b) (Ok outer) t = IsClosed b × IsAtRoot b × (outer ≡ outer_of b) × (t ≡ Going (begin b))
+OpensRoot (Going b) (Ok outer) t = IsClosed b × IsAtRoot b × (outer ≡ outer_of 0 b) × (t ≡ Going (begin b))
 OpensRoot (Going b) (Err e) t = (e ≡ Open) × ¬ IsClosed b × (t ≡ Going b)
 
 -- What is returned where nothing else is asked of a collector: Ok where it has not failed and no visitor is open,
@@ -123,6 +131,7 @@ Ends p (Failed r) result = result ≡ Err r
 Ends p (Going (OfGraph c)) (Ok made) = IsClosed (OfGraph c) × p c.sums made
 Ends p (Going (OfGraph c)) (Err e) = ((e ≡ Open) × ¬ IsClosed (OfGraph c)) ⊎ ((e ≡ Memory) × IsClosed (OfGraph c))
 Ends p (Going (OfHeld h)) result = ⊥
+Ends p (Going (OfOwned o)) result = ⊥
 
 -- The graph, the warnings and the paths that have one are those of the sums.
 abbrev pub IsProfile : Sums → Profile → Type 0

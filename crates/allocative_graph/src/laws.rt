@@ -1,5 +1,6 @@
 //! The laws of the definitions. Each is a function without parameters, whose contract is the law.
 ghost use Rattle.allocative_graph.specs.Laws.{OrderLaw, MeaningLaw, MergeLaw, TextLaw, SumsLaw, PlusLaw, SharedLaw, PathOrderLaw, GraphSumsLaw, GraphLaw, ExactLaw, ReadLaw};
+ghost use Rattle.allocative_graph.specs.Owned.{OwnedLaw};
 ghost use Rattle.allocative_graph.specs.WorkedExamples.{WorkedExamples};
 
 /// Two whole showings that agree up to order reach the same identities, and have the same graph, text and warnings.
@@ -42,13 +43,14 @@ pub fn sums_law()
     ensures { SumsLaw }
 {}
 
-/// In both collectors, one forest followed by another is both in one, and entering, adding a forest and leaving
+/// In each collector, one forest followed by another is both in one, and entering, adding a forest and leaving
 /// is the entry with the forest inside it.
 pub fn plus_law()
     ensures { PlusLaw }
 {}
 
-/// How shared entries add up: a content starts at the root, and the collector of held bytes stays as it is.
+/// How shared entries add up: a content starts at the root, the collector of held bytes stays as it is, and that of
+/// owned bytes counts the pointer.
 pub fn shared_law()
     ensures { SharedLaw }
 {}
@@ -67,6 +69,13 @@ pub fn graph_sums_law()
 /// bytes.
 pub fn graph_law()
     ensures { GraphLaw }
+{}
+
+/// What forests own adds up, in any order of the entries. It is the total of the graph of the own entries if those at
+/// each path are alike: each is unique, or none is and each has at least the bytes directly inside it,
+/// or none is and each has at most those.
+pub fn owned_law()
+    ensures { OwnedLaw }
 {}
 
 /// Worked examples: what some showings print, and how many bytes some hold.

@@ -8,6 +8,7 @@
 pub mod flamegraph;
 pub mod key;
 pub mod laws;
+pub mod outer;
 pub mod read;
 pub mod refusal;
 pub mod shared;

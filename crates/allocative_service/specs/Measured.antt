@@ -4,10 +4,10 @@ use Rattle.allocative.specs.Exact.{MayRefuseProfile}
 use Rattle.allocative.specs.Graph.{Graph, total}
 use Rattle.allocative.specs.Refusal.{Refusal}
 use Rattle.allocative.specs.Shows.{Showing}
-use Rattle.allocative.specs.SizeOf.{IsSizeOfUnique, MayRefuseSize}
+use Rattle.allocative.specs.SizeOf.{IsSizeOfOwned, IsSizeOfUnique, MayRefuseOwned, MayRefuseSize}
 use Rattle.allocative.specs.Visits.{IsGraphOf}
 use Rattle.allocative_service.specs.declared.measure.Measure.{Measure}
-use Rattle.allocative_service.specs.declared.measure.Measure.TheVariants.{Shown, Unique}
+use Rattle.allocative_service.specs.declared.measure.Measure.TheVariants.{Owned, Shown, Unique}
 
 -- The bytes of all that a value shows: the total of the graph of some whole showing that p allows.
 abbrev pub IsSizeOfShown : Showing → ℕ → Type 0
@@ -15,10 +15,13 @@ IsSizeOfShown p bytes = (g : Graph) × IsGraphOf p g × (bytes ≡ total g)
 
 -- By the measure, a value of a declared size that may show what p allows declares these bytes.
 abbrev pub Declares : Measure → Option ℕ → Showing → ℕ → Type 0
+Declares Owned size p bytes = IsSizeOfOwned p bytes
 Declares Shown size p bytes = IsSizeOfShown p bytes
 Declares Unique size p bytes = IsSizeOfUnique size p bytes
 
--- Why a value is not measured. One of an exact type is refused as a profile of it, or as `size_of_unique` of it.
+-- Why a value is not measured. One of an exact type is refused as `size_of_owned`
+-- of it, as a profile of it, or as `size_of_unique` of it.
 abbrev pub MayRefuseMeasure : Measure → Bool → Option ℕ → Showing → Refusal → Type 0
+MayRefuseMeasure Owned is_exact size p e = MayRefuseOwned is_exact p e
 MayRefuseMeasure Shown is_exact size p e = MayRefuseProfile is_exact p e
 MayRefuseMeasure Unique is_exact size p e = MayRefuseSize is_exact size p e

@@ -3,13 +3,18 @@ ghost use Rattle.std.specs.Prelude.{◌<◌, ◌^◌, IfOk, IfErr};
 ghost use Rattle.allocative.specs.Exact.{MayRefuseProfile};
 ghost use Rattle.allocative_service.specs.Measured.{IsSizeOfShown, Declares, MayRefuseMeasure};
 
-use allocative::{Allocative, Described, Refusal, profile_value, size_of_unique};
+use allocative::{Allocative, Described, Refusal, profile_value, size_of_owned, size_of_unique};
 use std::alloc::Global;
 
 /// Which bytes a ledger or a cache counts of a value.
-#[derive(Clone, Copy, Debug, PartialEq, Eq)]
+#[derive(Clone, Copy, Debug, Default, PartialEq, Eq)]
 pub enum Measure {
-    /// All bytes that the value declares, as `size_of_shown` returns them. This is the measure for a limit.
+    /// The bytes that the value owns, as `size_of_owned` returns them. This is the measure for a limit. It takes no
+    /// memory. It leaves out what shared pointers point to, which an entry of its own can count once.
+    #[default]
+    Owned,
+    /// All bytes that the value declares, as `size_of_shown` returns them. It makes a graph for each measuring. What a
+    /// shared pointer points to counts once for each value that has the pointer.
     Shown,
     /// Its own size and the bytes directly inside unique entries, as `size_of_unique` returns them. It takes no memory.
     /// It leaves out the entries of the maps and sets of `std`, and what shared pointers point to.
@@ -17,7 +22,7 @@ pub enum Measure {
 }
 
 impl Measure {
-    /// The bytes of a value by this measure. An error is that of `size_of_shown` or of `size_of_unique`.
+    /// The bytes of a value by this measure. An error is that of `size_of_owned`, `size_of_shown` or `size_of_unique`.
     pub fn size_of<T: Allocative + Described>(
         self,
         alloc: Global,
@@ -27,6 +32,7 @@ impl Measure {
         ensures refused { IfErr result (MayRefuseMeasure self T.is_exact T.size (T.may_show value.now)) }
     {
         match self {
+            Measure::Owned => size_of_owned(value),
             Measure::Shown => size_of_shown(alloc, value),
             Measure::Unique => size_of_unique(value),
         }

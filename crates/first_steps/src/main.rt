@@ -4,6 +4,8 @@
 #[cfg(test)]
 mod drops;
 mod services;
+#[cfg(test)]
+mod shared_catalogue;
 
 use allocative::{FlameGraph, FlameGraphOutput, profile_value, push_path};
 use anyhow::Result;

@@ -8,7 +8,7 @@ use crate::assertions::{assert_count, assert_output, assert_refused, assert_text
 use crate::builders::{assert_visited, new_builder};
 use allocative::{
     Allocative, Field, IdArc, IdRc, Identity, Inside, Part, Refusal, Registry, Visitor,
-    profile_in_two, profile_roots,
+    profile_in_two, profile_roots, size_of_owned,
 };
 use std::alloc::AllocGlobal;
 use std::cell::Cell;
@@ -97,6 +97,15 @@ fn two_collections_are_refused(rt: HostRuntime) {
         Ok(graph) => assert_text(&rt, &graph, "u8 3\n"),
         Err(refusal) => assert_refused(&rt, refusal),
     }
+}
+
+/// Measuring grows nothing, so no refused growth changes what it returns.
+#[test]
+fn owned_bytes_take_no_memory(rt: HostRuntime) {
+    let map = map_of_one(&rt);
+    assert!(rt; size_of_owned(&map) == Ok(32));
+    let boxed = boxed(&rt, map);
+    assert!(rt; size_of_owned(&boxed) == Ok(40));
 }
 
 #[test]

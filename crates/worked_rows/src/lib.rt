@@ -22,6 +22,8 @@ mod made_graphs;
 #[cfg(test)]
 mod own_types;
 #[cfg(test)]
+mod owned;
+#[cfg(test)]
 mod pictures;
 #[cfg(test)]
 mod reads;

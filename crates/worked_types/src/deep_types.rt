@@ -1,6 +1,6 @@
 //! The profiles of values with parts on the heap, with shared parts, and of types that hold themselves.
 use crate::profiles::{expect, expect_holding, expect_warned};
-use allocative::{IdRc, Identity, size_of_unique, size_of_unique_allocated_data};
+use allocative::{IdRc, Identity, size_of_owned, size_of_unique, size_of_unique_allocated_data};
 use own_types::chains::Chain;
 use own_types::folders::{Folder, Index};
 use own_types::links::Link;
@@ -85,6 +85,12 @@ fn a_tree_of_vectors(rt: HostRuntime) -> Result<(), Fail> {
 #[test]
 fn a_tree_and_what_it_holds(rt: HostRuntime) -> Result<(), Fail> {
     assert_eq!(rt; size_of_unique(&node(rt.alloc())?)?, 64);
+    Ok(())
+}
+
+#[test]
+fn a_tree_owns_the_total_of_its_graph(rt: HostRuntime) -> Result<(), Fail> {
+    assert_eq!(rt; size_of_owned(&node(rt.alloc())?)?, 64);
     Ok(())
 }
 

@@ -1,10 +1,10 @@
-//! The bytes that values hold on the heap.
+//! The bytes that values hold on the heap, and those that they own.
 
 ghost use Rattle.std.specs.Prelude.{◌≡◌, IfOk, IfErr};
 ghost use Rattle.allocative_graph.specs.Forest.{Forest};
 ghost use Rattle.allocative_graph.specs.Held.{held, ShowsNoContent};
 ghost use Rattle.allocative.specs.Closures.{KeepsVisitor, CalledAtRoot, AnswersSum};
-ghost use Rattle.allocative.specs.SizeOf.{IsSizeOfUnique, MayRefuseHeld, MayRefuseSize, AnswersSize, AnswersVisit};
+ghost use Rattle.allocative.specs.SizeOf.{IsSizeOfUnique, MayRefuseHeld, MayRefuseSize, AnswersSize, AnswersVisit, IsSizeOfOwned, MayRefuseOwned, AnswersOwned};
 
 use crate::visitor::collector::Collector;
 use crate::{Allocative, Described, Refusal, Visitor};
@@ -57,6 +57,30 @@ pub fn size_of_unique<T: Allocative + Described>(root: &T) -> Result<usize, Refu
         return Err(Refusal::TooLarge);
     };
     Ok(sum)
+}
+
+/// The bytes that the value owns: those of all that it shows, without the contents of shared pointers.
+///
+/// Each entry counts its bytes less those of the entries directly inside it, never below zero, and all of them if it is
+/// unique or shared. So the entries of std's maps and sets count, and a shared pointer counts for itself alone.
+///
+/// It takes no memory, and has no refusal of its own. It is refused with TooLarge if the sum or a declared size does not
+/// fit, with Open if a visitor was forgotten and nothing was refused, and else with the first cause of the visit. An
+/// exact type is refused with TooLarge alone: if what the value may show asks for a declared size that is not there, or
+/// if some of what it may show does not fit.
+///
+/// ```
+/// let number: Box<u32> = Box::new(alloc, 7)?;
+/// assert_eq!(rt; size_of_owned(&number)?, 12); // a pointer of 8 bytes, and 4 on the heap
+/// ```
+pub fn size_of_owned<T: Allocative>(root: &T) -> Result<usize, Refusal>
+    ensures owned { IfOk result (IsSizeOfOwned (T.may_show root.now)) }
+    ensures refused { IfErr result (MayRefuseOwned T.is_exact (T.may_show root.now)) }
+    ensures answer { AnswersOwned (T.may_show root.now) (T.effect root.now) result }
+{
+    let mut collector = Collector::owned();
+    collector.visit_value(root)?;
+    Ok(collector.sum())
 }
 
 /// The bytes that the closure's entries hold on the heap, as `size_of_unique_allocated_data` counts those of a value.

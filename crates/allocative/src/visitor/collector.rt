@@ -1,8 +1,8 @@
-//! The collectors: that of a flame graph, and that of held bytes.
+//! The collectors: that of a flame graph, that of held bytes and that of owned bytes.
 #![tactic(auto, using(crate::proofs::Opening::opening))]
 
 ghost use Rattle.std.specs.Prelude.{◌≡◌, ◌<◌, ◌^◌, Some, true, false, IfOk, IfErr, OnOk, IsTrue, ◌↔◌};
-ghost use Rattle.allocative_graph.specs.Collector.{State, Going, OfGraph, OfHeld, no_entries, nothing_held, enter, leave, begin, outer_of, failed_with, IsClosed, IsAtRoot};
+ghost use Rattle.allocative_graph.specs.Collector.{State, Going, OfGraph, OfHeld, OfOwned, no_entries, nothing_held, nothing_owned, enter, leave, begin, outer_of, failed_with, IsClosed, IsAtRoot};
 ghost use Rattle.allocative_graph.specs.Graph.{total};
 ghost use Rattle.allocative_graph.specs.Visits.{HasFailed, RefusesSized, OpensEntry, ClosesEntry, OpensShared, OpensRoot, Settles, Ends, IsProfile};
 ghost use Rattle.allocative.specs.Kinds.{kind_of, HasEntered, HasMade, IsHeldSum};
@@ -12,6 +12,8 @@ ghost use Rattle.allocative.specs.Making.{Makes, Done, one};
 use crate::{Allocative, FlameGraphOutput, Identity, Key, Refusal, Visitor};
 use allocative_collectors::graph_collector::GraphCollector;
 use allocative_collectors::held_collector::HeldCollector;
+use allocative_collectors::owned_collector::OwnedCollector;
+use allocative_graph::outer::Outer;
 use std::alloc::{AllocError, Global};
 use std::marker::Model;
 
@@ -19,9 +21,10 @@ use std::marker::Model;
 enum Kind {
     Graph(GraphCollector),
     Held(HeldCollector),
+    Owned(OwnedCollector),
 }
 
-/// What visitors enter into: the collector of a flame graph, or that of held bytes.
+/// What visitors enter into: the collector of a flame graph, of held bytes or of owned bytes.
 /// It has failed, with its first cause, or it is going. Visitors borrow it from each other.
 #[derive(Drop)]
 pub struct Collector {
@@ -44,7 +47,7 @@ impl Model for Collector {
 impl Kind {
     // One more entry of a declared size, and a visitor at it. It returns what `close_entry` restores.
     #[inline(always)]
-    fn enter(&mut self, key: &Key, size: Option<usize>, is_unique: bool) -> Result<bool, Refusal>
+    fn enter(&mut self, key: &Key, size: Option<usize>, is_unique: bool) -> Result<Outer, Refusal>
         ensures ok { IfOk result
             (λ outer. HasEntered is_unique key.now size (kind_of self.old) outer (kind_of self.new)) }
         ensures err { IfErr result (RefusesSized is_unique size (kind_of self.old)) }
@@ -55,9 +58,10 @@ impl Kind {
         match self {
             Kind::Graph(graph) => {
                 graph.enter(key, size, is_unique)?;
-                Ok(false)
+                Ok(Outer::none())
             }
             Kind::Held(held) => held.enter(size, is_unique),
+            Kind::Owned(owned) => owned.enter(size, is_unique),
         }
     }
 
@@ -77,17 +81,23 @@ impl Kind {
                 held.leave(outer);
                 Ok(())
             }
+            Kind::Owned(owned) => {
+                let outer = owned.enter(size, false)?;
+                owned.leave(outer);
+                Ok(())
+            }
         }
     }
 
     // One visitor less.
     #[inline(always)]
-    fn close_entry(&mut self, outer: bool)
+    fn close_entry(&mut self, outer: Outer)
         ensures { kind_of self.new ≡ leave outer (kind_of self.old) }
     {
         match self {
             Kind::Graph(graph) => graph.leave(),
             Kind::Held(held) => held.leave(outer),
+            Kind::Owned(owned) => owned.leave(outer),
         }
     }
 
@@ -99,21 +109,23 @@ impl Kind {
         match self {
             Kind::Graph(graph) => graph.is_closed(),
             Kind::Held(held) => held.is_closed(),
+            Kind::Owned(owned) => owned.is_closed(),
         }
     }
 
     // One more root visitor, where no visitor is open. It returns what `close_entry` restores.
-    fn begin(&mut self) -> bool
+    fn begin(&mut self) -> Outer
         requires { IsClosed (kind_of self.old) }
-        ensures outer { result ≡ outer_of (kind_of self.old) }
+        ensures outer { result ≡ outer_of 0 (kind_of self.old) }
         ensures begun { kind_of self.new ≡ begin (kind_of self.old) }
     {
         match self {
             Kind::Graph(graph) => {
                 graph.begin();
-                false
+                Outer::none()
             }
             Kind::Held(held) => held.begin(),
+            Kind::Owned(owned) => owned.begin(),
         }
     }
 }
@@ -137,6 +149,16 @@ impl Collector {
         Collector {
             failed: None,
             kind: Kind::Held(HeldCollector::new()),
+        }
+    }
+
+    /// The collector of owned bytes. It allocates nothing.
+    pub(crate) fn owned() -> Collector
+        ensures { result ≡ Going (OfOwned nothing_owned) }
+    {
+        Collector {
+            failed: None,
+            kind: Kind::Owned(OwnedCollector::new()),
         }
     }
 
@@ -172,7 +194,7 @@ impl Collector {
         key: Key,
         size: Option<usize>,
         is_unique: bool,
-    ) -> Result<bool, Refusal>
+    ) -> Result<Outer, Refusal>
         ensures opens { OpensEntry is_unique key size self.old result self.new }
         ensures cause { IfErr result (HasFailed self.new) }
     {
@@ -218,6 +240,13 @@ impl Collector {
         }
         match &mut self.kind {
             Kind::Held(_) => Ok(false),
+            Kind::Owned(owned) => match owned.count(size) {
+                Ok(()) => Ok(false),
+                Err(refusal) => {
+                    self.failed = Some(refusal);
+                    Err(refusal)
+                }
+            },
             Kind::Graph(graph) => match graph.enter_shared(&key, size, id) {
                 Ok(is_first) => Ok(is_first),
                 Err(refusal) => {
@@ -230,7 +259,7 @@ impl Collector {
 
     /// One visitor less; `outer` is what leaving it restores.
     #[inline(always)]
-    pub(crate) fn close_entry(&mut self, outer: bool)
+    pub(crate) fn close_entry(&mut self, outer: Outer)
         ensures { ClosesEntry outer self.old self.new }
     {
         if self.failed.is_none() {
@@ -240,7 +269,7 @@ impl Collector {
 
     /// One more root visitor. It returns what `close_entry` restores, the first cause where the collector
     /// has failed, or `Open` where a visitor is open.
-    pub(crate) fn begin(&mut self) -> Result<bool, Refusal>
+    pub(crate) fn begin(&mut self) -> Result<Outer, Refusal>
         ensures { OpensRoot self.old result self.new }
     {
         if let Some(cause) = self.failed {
@@ -266,29 +295,29 @@ impl Collector {
     }
 
     /// Checks the collector of a flame graph: the first cause where it has failed, `Open` where a visitor is
-    /// open, and otherwise `Ok`. A collector of held bytes counts as failed with `Open`.
+    /// open, and otherwise `Ok`. Another collector counts as failed with `Open`.
     pub(crate) fn check_graph(&self) -> Result<(), Refusal>
         ensures { Settles (as_graph self.now) result }
     {
         self.check()?;
         match &self.kind {
             Kind::Graph(_) => Ok(()),
-            Kind::Held(_) => Err(Refusal::Open),
+            Kind::Held(_) | Kind::Owned(_) => Err(Refusal::Open),
         }
     }
 
-    /// The sum of held bytes.
+    /// The sum of held or owned bytes.
     pub(crate) fn sum(&self) -> usize
         ensures { IsHeldSum self.now result }
     {
         match &self.kind {
             Kind::Graph(_) => 0,
             Kind::Held(held) => held.sum(),
+            Kind::Owned(owned) => owned.sum(),
         }
     }
 
-    /// The graph and the warnings of a flame graph's collector. A collector of held bytes counts as failed with
-    /// `Open`.
+    /// The graph and the warnings of a flame graph's collector. Another collector counts as failed with `Open`.
     pub(crate) fn finish(&self) -> Result<FlameGraphOutput, Refusal>
         ensures ends { Ends IsProfile (as_graph self.now) result }
         ensures total { IfOk result (λ o. total o.graph < 2 ^ 63) }
@@ -296,7 +325,7 @@ impl Collector {
         self.check()?;
         match &self.kind {
             Kind::Graph(graph) => graph.finish(),
-            Kind::Held(_) => Err(Refusal::Open),
+            Kind::Held(_) | Kind::Owned(_) => Err(Refusal::Open),
         }
     }
 }
@@ -340,7 +369,7 @@ impl Collector {
         // Only a flame graph's collector shows contents, and it keeps its own places.
         Visitor {
             collector: self,
-            outer: false,
+            outer: Outer::none(),
         }
     }
 
@@ -359,8 +388,8 @@ impl Collector {
         })
     }
 
-    /// A visitor at the root of a flame graph's collector. It returns the first cause where the collector has
-    /// failed, and `Open` where a visitor is open or the collector is that of held bytes.
+    /// A visitor at the root of a flame graph's collector. It returns the first cause if the collector has failed, and
+    /// `Open` if a visitor is open or the collector is not that of a flame graph.
     pub(crate) fn graph_root_visitor(&mut self) -> Result<Visitor<'_>, Refusal>
         ensures* lent { sem 𝓛 (LendsBegunGraph self.entry result) }
         ensures same_reference { IfOk result (λ v. v.collector.ghost_name ≡ self.entry.ghost_name) }

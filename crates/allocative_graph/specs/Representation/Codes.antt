@@ -10,7 +10,7 @@ use Rattle.allocative_graph.specs.Path.{Path}
 use Rattle.allocative_graph.specs.Identity.{Identity, Identities}
 use Rattle.allocative_graph.specs.Sums.{Node, Sums}
 use Rattle.allocative_graph.specs.Graph.{Graph, Warned}
-use Rattle.allocative_graph.specs.Collector.{Live, Holding, OfGraph, OfHeld, State, Failed, Going}
+use Rattle.allocative_graph.specs.Collector.{Live, Holding, Owning, OfGraph, OfHeld, OfOwned, State, Failed, Going}
 use Rattle.allocative_graph.specs.Visits.{Profile}
 
 -- The code of a path.
@@ -53,25 +53,35 @@ holding_code = code_by (ℕ × (ℕ × Bool)) (coded× coded_ℕ (coded× coded_
     (λ h. (h.sum, (h.open_visitors, h.is_in_unique)))
     (λ p. record { sum = p.0; open_visitors = p.1.0; is_in_unique = p.1.1 }) (λ _. refl)
 
+-- The code of a collector of owned bytes.
+abbrev pub owning_code : Coded Owning
+owning_code = code_by (ℕ × (ℕ × ℕ)) (coded× coded_ℕ (coded× coded_ℕ coded_ℕ))
+    (λ o. (o.sum, (o.spare, o.open_visitors)))
+    (λ p. record { sum = p.0; spare = p.1.0; open_visitors = p.1.1 }) (λ _. refl)
+
 -- A state as a sum type.
-abbrev pub of_state : State → Refusal ⊎ (Live ⊎ Holding)
+abbrev pub of_state : State → Refusal ⊎ (Live ⊎ (Holding ⊎ Owning))
 of_state (Failed r) = inl r
 of_state (Going (OfGraph c)) = inr (inl c)
-of_state (Going (OfHeld h)) = inr (inr h)
+of_state (Going (OfHeld h)) = inr (inr (inl h))
+of_state (Going (OfOwned o)) = inr (inr (inr o))
 
 -- The state of a value of that sum type.
-abbrev pub to_state : Refusal ⊎ (Live ⊎ Holding) → State
+abbrev pub to_state : Refusal ⊎ (Live ⊎ (Holding ⊎ Owning)) → State
 to_state (inl r) = Failed r
 to_state (inr (inl c)) = Going (OfGraph c)
-to_state (inr (inr h)) = Going (OfHeld h)
+to_state (inr (inr (inl h))) = Going (OfHeld h)
+to_state (inr (inr (inr o))) = Going (OfOwned o)
 
 -- Converting a state to the sum type and back returns it.
 pub state_back : (s : State) → to_state (of_state s) ≡ s
 state_back (Failed r) = refl
 state_back (Going (OfGraph c)) = refl
 state_back (Going (OfHeld h)) = refl
+state_back (Going (OfOwned o)) = refl
 
 -- The code of a state.
 abbrev pub state_code : Coded State
 state_code =
-    code_by (Refusal ⊎ (Live ⊎ Holding)) (coded⊎ (refusal.the_row).coded (coded⊎ live_code holding_code)) of_state to_state state_back
+    code_by (Refusal ⊎ (Live ⊎ (Holding ⊎ Owning)))
+    (coded⊎ (refusal.the_row).coded (coded⊎ live_code (coded⊎ holding_code owning_code))) of_state to_state state_back

@@ -1,4 +1,4 @@
--- The law holds in each of the two collectors.
+-- The law holds in each of the three collectors.
 use Rattle.allocative_graph.proofs.Plus.{plus-nothing, plus-following, takes_following, inside_entry, takes_entry}
 use Rattle.allocative_graph.proofs.laws.plus_law.Goals as goal
 
