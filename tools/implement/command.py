@@ -75,6 +75,8 @@ def run(chosen: argparse.Namespace) -> int:
         put(each, answer)
     if chosen.add_lines:
         add_lines(path, text, source, is_inline)
+    if source.passed_over:
+        say(source.passed_line())
     return 0
 
 

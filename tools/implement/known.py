@@ -1,4 +1,4 @@
-"""Which types can be shown, of the library's and of the crate, and what stands in for others."""
+"""Which types can be shown, of the library's and of the crate."""
 
 from __future__ import annotations
 
@@ -6,37 +6,29 @@ import re
 from functools import cache
 from typing import Callable, Iterable
 
-from .types import Definition, Member, Module, Type
+from .types import Definition, Module, Type
 
-STD = """u128 i128 usize isize bool String Vec Option Result Box VecDeque BTreeMap BTreeSet HashMap HashSet
-    ManuallyDrop PhantomData Duration Instant SystemTime IpAddr Ipv4Addr Ipv6Addr
-    AtomicBool AtomicUsize AtomicIsize NonZeroUsize NonZeroIsize""".split()
-for form in ("u", "i", "NonZeroU", "NonZeroI", "AtomicU", "AtomicI"):
-    STD += [f"{form}{bits}" for bits in (8, 16, 32, 64)]
+# The declared bytes of the types that are as large as their alignment.
+FORMS = ("u", "i", "NonZeroU", "NonZeroI", "AtomicU", "AtomicI")
+NUMBERS = {f"{form}{bits}": bits // 8 for form in FORMS for bits in (8, 16, 32, 64)}
+NUMBERS |= {f"{form}size": 8 for form in FORMS} | {"u128": 16, "i128": 16, "f32": 4, "f64": 8, "char": 4}
+NUMBERS |= {"bool": 1, "AtomicBool": 1}
+STD = """String Vec Option Result Box VecDeque BTreeMap BTreeSet HashMap HashSet ManuallyDrop PhantomData
+    Duration Instant SystemTime IpAddr Ipv4Addr Ipv6Addr""".split()
 # The crate of each type that the library implements.
-HOMES = dict.fromkeys(STD, "std") | {
-    "IndexMap": "indexmap",
-    "IndexSet": "indexmap",
-    "Slab": "slab",
-    "SmallVec": "smallvec",
-    "Either": "either",
-    "OnceBox": "once_cell",
-    "Value": "serde_json",
-    "Number": "serde_json",
-    "Error": "anyhow",
-    "IdRc": "allocative",
-    "IdArc": "allocative",
-}
+HOMES = dict.fromkeys((*STD, *NUMBERS), "std") | {"Slab": "slab", "SmallVec": "smallvec", "Either": "either"}
+HOMES |= {"IndexMap": "indexmap", "IndexSet": "indexmap", "Value": "serde_json", "Number": "serde_json"}
+HOMES |= {"OnceBox": "once_cell", "Error": "anyhow", "IdRc": "allocative", "IdArc": "allocative"}
+# What containers ask of their keys.
+KEYS = dict.fromkeys(("HashMap", "HashSet", "IndexMap", "IndexSet"), ("Eq", "Hash"))
+KEYS |= dict.fromkeys(("BTreeMap", "BTreeSet"), ("Ord",))
+# Traits with their paths, of which `Ord` alone implies another that a key needs.
+TRAITS = set("std cmp hash fmt Allocative Described Drop Clone Copy Debug PartialEq PartialOrd Eq Ord Hash".split())
+FUNCTIONS = ("fn(", "unsafe fn", "extern ", "unsafe extern")
 Path = tuple[str, ...]
 NOT_EXACT = {"OnceBox"}
-# Types that have no implementation: their bytes, and a type of the same size, alignment and drop.
-FOREIGN = {"f64": (8, "u64"), "f32": (4, "u32"), "char": (4, "u32")}
-FOREIGN |= {"Rc": (8, "Box<()>"), "Arc": (8, "Box<()>")}
-NUMBERS = {f"{sign}{bits}": (bits // 8, f"{sign}{bits}") for sign in "ui" for bits in (8, 16, 32, 64, 128)}
-NUMBERS |= {"usize": (8, "usize"), "isize": (8, "isize"), "bool": (1, "bool")}
-CELLS = ("Cell", "UnsafeCell")
-# A type of no bytes whose alignment and drop are those of what is not known.
-UNKNOWN = "[String; 0]"
+# Types that need no `use`.
+PRELUDE = {"String", "Vec", "Option", "Result", "Box", *(name for name in NUMBERS if name[0].islower())}
 
 
 class Scope:
@@ -85,22 +77,27 @@ class Scope:
 
     def path_reason(self, kind: Type) -> str:
         """Why a type that is named by a path cannot be shown, whatever its arguments are."""
-        definition, path, home = self.own(kind), self.path(kind), HOMES.get(kind.name, "")
-        root, is_foreign = path[0] if len(path) > 1 else "", kind.name in FOREIGN
+        definition, path = self.own(kind), self.path(kind)
         if definition:
             return self.own_reason(definition)
-        if path[0] in ("crate", "super", "self"):
-            return self.outside(path)
-        is_std = home == "std" and root in ("", "core", "alloc")
-        if is_std or (home and (root == home or (not root and self.module.globs))):
-            return ""
-        if is_foreign or kind.name in CELLS or not root:
-            where = "" if root or is_foreign else " that is seen here"
-            return f"`{kind.text}` has no implementation{where}"
+        if path[0] not in ("crate", "super", "self"):
+            if self.is_of_library(kind):
+                return ""
+            if len(path) == 1:
+                return f"`{kind.text}` has no implementation that is seen here"
         return self.outside(path)
+
+    def is_of_library(self, kind: Type) -> bool:
+        """Whether a type is one of those that the library implements."""
+        path, home = self.path(kind), HOMES.get(kind.name, "")
+        if len(path) == 1:
+            return kind.name in PRELUDE or bool(home and self.module.globs)
+        return path[0] == home
 
     def own_reason(self, definition: Definition) -> str:
         traits = self.module.implemented.get(definition.name, set())
+        if not definition.variants:
+            return f"`{definition.name}` has no value to show"
         if definition.names("lifetime"):
             return f"`{definition.name}` has a lifetime, so it declares no size"
         if definition.name in self.wanted or {"Allocative", "Described"} <= traits:
@@ -108,6 +105,29 @@ class Scope:
         if "Allocative" in traits:
             return f"`{definition.name}` has `impl Allocative` and no `impl Described`"
         return f"`{definition.name}` of this file is not among the types that are named"
+
+    def refusal(self, kind: Type, definition: Definition) -> str:
+        """Why the checker refuses a field of a type, also where it is not shown, or nothing."""
+        kind = self.real(kind)
+        if kind.form == "other" and kind.text.startswith(FUNCTIONS):
+            return f"`{kind.text}` is a function pointer, and the checker proves no implementation for a type with one"
+        keys = kind.parts[0].all() if kind.name in KEYS and kind.parts else ()
+        for key in keys:
+            if not set(KEYS[kind.name]) <= self.traits(key, definition):
+                return f"`{kind.text}` asks `{key.text}: {' + '.join(KEYS[kind.name])}`: write that bound, or derive it"
+        return next((found for part in kind.parts if (found := self.refusal(part, definition))), "")
+
+    def traits(self, kind: Type, definition: Definition) -> set[str]:
+        """The traits that a type in a definition is seen to have; of a type that is not judged here all."""
+        own = self.own(kind)
+        if own:
+            return own.derives | self.module.implemented.get(own.name, set())
+        if kind.path and kind.name in definition.names("type"):
+            bounds = [each.bounds for each in definition.parameters if each.name == kind.name]
+            bounds += re.findall(rf"\b{kind.name}\s*:([^,]*)", definition.where)
+            found = set(re.findall(r"\w+", " ".join(bounds)))
+            return found | ({"Eq"} if "Ord" in found else set()) if found <= TRAITS else TRAITS
+        return set() if kind.text in ("f32", "f64") else TRAITS
 
     def flags(self, kind: Type, parameters: Path) -> set[str]:
         """The flags on which it depends whether a type is exact; none where it is."""
@@ -142,30 +162,3 @@ def is_lasting(kind: Type) -> bool:
     """Whether a reference is `&'static` to a type of a known size."""
     text, part = kind.text, kind.parts[0]
     return re.match(r"&'static (?!mut )", text) is not None and part.form != "other" and part.text != "str"
-
-
-def known_size(kind: Type) -> tuple[int, str] | None:
-    """The bytes of a type without an implementation, and a type in its place, where both are known."""
-    if kind.form == "reference":
-        part = kind.parts[0]
-        return (16, "(u64, u64)") if part.text == "str" or part.form == "other" else (8, "u64")
-    if kind.text.startswith("*"):
-        return 8, "u64"
-    if kind.name in CELLS and len(kind.parts) == 1:
-        return known_size(kind.parts[0])
-    return NUMBERS.get(kind.text) or FOREIGN.get(kind.name)
-
-
-def stand_ins(member: Member) -> list[str]:
-    """What stands in the layout for a field that is passed over or shown by its size alone."""
-    known = known_size(member.type)
-    if member.size is None or (known and known[0] == member.size):
-        return [known[1] if known else UNKNOWN]
-    return [f"[u8; {member.size}]", f"[{known[1]}; 0]" if known else UNKNOWN]
-
-
-def advice(member: Member) -> str:
-    """What to write above a field that cannot be shown."""
-    known = known_size(member.type)
-    size = f"`// allocative: size {known[0] if known else 'N'}`"
-    return f"write above it {size}, for one entry of so many bytes, or `// allocative: skip`"

@@ -8,7 +8,8 @@ import textwrap
 from argparse import Namespace
 from functools import cached_property
 
-from .known import Scope, advice
+from .counted import Counting
+from .known import Scope
 from .text import LEVELS, WIDTH, Writer
 from .tokens import Fault, Tokens
 from .types import Definition, Member, Module, module_of, type_of
@@ -75,7 +76,8 @@ class Source:
         self.crate = Crate(folder)
         self.text = text
         self.pieces = pieces_of(text, len(self.inner))
-        self.module = self.find(blank(text, self.pieces))
+        blanks = [(*piece, LETTER.sub(" ", text[slice(*piece)])) for piece in self.pieces]
+        self.module = self.find(spliced(text, blanks))
         if self.pieces and not is_inline:
             self.module.implemented = self.find(text).implemented
         self.path = [*inside, *self.inner]
@@ -85,8 +87,11 @@ class Source:
         is_named = bool(chosen.types) and set(chosen.types) <= self.module.types.keys()
         self.faults = [] if is_named else self.module.faults
         self.notes: dict[str, str] = {}
+        self.taken = {name.lower() for name in (*self.module.types, *self.module.names, *self.module.uses)}
         wanted = self.wanted_types()
         self.scope = Scope(self.module, [each.name for each in wanted], self.crate.reason)
+        self.counting = Counting(self.scope)
+        self.passed_over: list[int | None] = []
         self.wanted = {each.name: self.judged(each) for each in wanted}
         self.module.types.update(self.wanted)
         self.scope.find_exact()
@@ -113,14 +118,21 @@ class Source:
             elif name in shown:
                 what = "it has `impl Allocative` already: remove that or the name"
                 self.fault(types[name].at, f"{name}: {what}")
-        return [each for name, each in types.items() if (name in names if names else name not in shown)]
+        chosen = names or [name for name, each in types.items() if name not in shown and each.variants]
+        return [each for name, each in types.items() if name in chosen]
 
     # ---- faults of a type
     def judged(self, definition: Definition) -> Definition:
         """A type whose fields that cannot be shown are told, or passed over where that is asked for."""
         name, at = definition.name, definition.at
-        if name in RESERVED:
-            what = "the written text uses this name: rename the type, or write its implementations by hand"
+        bounds = definition.where + "".join(each.bounds for each in definition.parameters)
+        is_const = definition.names("const") and not definition.names("lifetime")
+        faults = {
+            "the written text uses this name: rename the type, or write its implementations by hand": name in RESERVED,
+            "Rattle has no bound `?Sized`: remove it": "?" in bounds,
+            "a const parameter, whose `Described` the checker does not prove: write the number": is_const,
+        }
+        for what in (what for what, is_fault in faults.items() if is_fault):
             self.fault(at, f"{name}: {what}")
         if not (definition.derives | self.module.implemented.get(name, set())) & {"Drop", "Copy"}:
             self.fault(at, f"{name}: what is shown is `Drop`: write `#[derive(Drop)]` above it")
@@ -134,14 +146,33 @@ class Source:
     def judged_member(self, definition: Definition, of_what: str, member: Member) -> Member:
         if not self.is_inline and "::" in member.type.text:
             member = member._replace(type=type_of(OUTWARD.sub(self.outward, member.type.text)))
-        reason = self.scope.reason(member.type, definition.names("type")) if member.is_whole else ""
-        if reason and self.chosen.skip_unknown:
-            note = f"// `{member.name}` is passed over: {reason}.\n"
+        where, types = f"{of_what}.{member.name}", definition.names("type")
+        reserved = "the checker reserves this name: rename the field" if member.name == "deriving" else ""
+        refusal = reserved or self.scope.refusal(member.type, definition)
+        if refusal:
+            self.fault(member.at, f"{where}: {refusal}")
+            return member
+        reason = self.scope.reason(member.type, types) if member.is_whole else ""
+        counted = self.counting.member(member._replace(size=None), types)
+        is_passed = member.is_skipped or bool(reason and self.chosen.skip_unknown)
+        if is_passed and counted is not None:
+            self.passed_over += [each.size for each in counted]
+            note = f"// `{member.name}` is passed over: {reason}.\n" if reason else ""
             self.notes[definition.name] = self.notes.get(definition.name, "") + note
             return member._replace(is_skipped=True)
-        if reason:
-            self.fault(member.at, f"{of_what}.{member.name}: {reason}: {advice(member)}")
+        if reason or is_passed:
+            what = reason or f"the size of `{member.type.text}` is not known"
+            size = counted[0].size if counted and counted[0].size is not None else "N"
+            what += f": write above it `// allocative: size {size}`, for one entry of so many bytes"
+            self.fault(member.at, f"{where}: {what}" + (", or `// allocative: skip`" if counted else ""))
         return member
+
+    def passed_line(self) -> str:
+        """How many fields are passed over, and their bytes."""
+        known = [size for size in self.passed_over if size is not None]
+        count, more = len(self.passed_over), len(self.passed_over) - len(known)
+        line = f"{count} field{'s are' if count > 1 else ' is'} passed over: {sum(known)} bytes"
+        return line + (f", and {more} of a size that only the checker knows" if more else "")
 
     def outward(self, found: re.Match[str]) -> str:
         """The beginning of a path of the file, as the module `shown` writes it."""
@@ -153,7 +184,9 @@ class Source:
         """Refuses the types that are not written."""
         what = ""
         is_hard = definition.parameters and len(definition.members) > 2
-        if definition.is_enum and len(definition.variants) == 1 and (cycle or is_hard):
+        if not definition.variants:
+            what = "it has no variants, so there is no value to visit: leave it out"
+        elif definition.is_enum and len(definition.variants) == 1 and (cycle or is_hard):
             form = "that holds itself" if cycle else "with parameters and more than two fields"
             what = f"an enum of one variant {form}: write it as a struct"
         elif cycle and definition.parameters:
@@ -167,6 +200,14 @@ class Source:
             raise Fault(definition.at, what)
 
     # ---- what is written
+    def free(self, name: str, ending: str) -> str:
+        """A name for a layout that the module does not use, also in other letters."""
+        name += ending
+        while name.lower() in self.taken:
+            name += "Of"
+        self.taken.add(name.lower())
+        return name
+
     def writers(self) -> list[Writer]:
         """What is written for each type, in the order of the file."""
         found, reach = [], {name: self.reached(name) for name in self.wanted}
@@ -207,9 +248,8 @@ class Source:
         mine = self.module if self.is_inline else Module()
         used = {"shows"}.union(*(each.used for each in found)) - mine.ghost_uses
         used -= {name for name, path in mine.uses.items() if path[0] == "allocative"}
-        lists = [("Rattle.std.specs.Prelude", used & PRELUDE)]
-        lists += [("Rattle.allocative.specs.Shows", used & {"shows"})]
-        lists += [("Rattle.allocative.specs.Levels", used & LEVELS)]
+        words = {"std.specs.Prelude": PRELUDE, "allocative.specs.Shows": {"shows"}, "allocative.specs.Levels": LEVELS}
+        lists = [(f"Rattle.{path}", used & names) for path, names in words.items()]
         opened = sorted(word for word in used if word.startswith("out-"))
         lists += [(f"{self.declared_at}.{word[4:]}", {word}) for word in opened]
         lines = [f"ghost use {path}.{{{', '.join(sorted(names))}}};\n" for path, names in lists if names]
@@ -226,11 +266,7 @@ class Source:
             piece = f"{BEGIN}\n{imports}{imports and chr(10)}{written}{END}"
             edits.append((end, end, "\n" + textwrap.indent(piece, "    " * len(self.inner))))
             imports = ""
-        parts, at = [], 0
-        for start, end, new in sorted(edits):
-            parts += [self.text[at:start], new]
-            at = end
-        return "".join(parts) + self.text[at:]
+        return spliced(self.text, sorted(edits))
 
     def line_end(self, definition: Definition) -> int:
         """The end of the line on which a type ends, which has nothing more but a comment."""
@@ -264,22 +300,18 @@ def pieces_of(text: str, depth: int) -> list[tuple[int, int]]:
     return pieces
 
 
-def blank(text: str, pieces: list[tuple[int, int]]) -> str:
-    """A text with spaces in place of some pieces, on as many lines."""
-    parts, at = [], 0
-    for start, end in pieces:
-        parts += [text[at:start], LETTER.sub(" ", text[start:end])]
-        at = end
-    return "".join(parts) + text[at:]
+def spliced(text: str, edits: list[tuple[int, int, str]]) -> str:
+    """A text with others in place of some pieces."""
+    for start, end, new in reversed(edits):
+        text = text[:start] + new + text[end:]
+    return text
 
 
 def use_line(names: list[str]) -> str:
     """The line that imports names of the library, cut as `rt fmt` does."""
     if len(names) < 2:
         return "".join(f"use allocative::{name};\n" for name in names)
-    line = f"use allocative::{{{', '.join(names)}}};\n"
-    if len(line) <= WIDTH:
-        return line
-    indent = " " * 4
-    lines = textwrap.fill(", ".join(names), WIDTH - 1, initial_indent=indent, subsequent_indent=indent)
-    return f"use allocative::{{\n{lines},\n}};\n"
+    listed = ", ".join(names)
+    if len(listed) + len("use allocative::{};\n") <= WIDTH:
+        return f"use allocative::{{{listed}}};\n"
+    return f"use allocative::{{\n{textwrap.indent(textwrap.fill(listed, WIDTH - 5), '    ')},\n}};\n"

@@ -5,7 +5,6 @@ from __future__ import annotations
 import re
 from typing import TYPE_CHECKING, Any, Callable, Iterator
 
-from .known import stand_ins
 from .tokens import Fault
 from .types import Definition, Member, Type, Variant, split, type_of
 
@@ -92,21 +91,16 @@ class Writer:
         self.is_level = self.cycle[:1] == [self.name]
         self.nothing = "plain shows.Nothing" if self.is_level else "shows.Nothing"
         self.is_borrowed = bool(definition.names("lifetime"))
-        self.layout = self.record = self.free("Layout")
+        self.layout = self.record = source.free(self.name, "Layout")
         self.declared_at = f"{source.declared_at}.{self.name}"
         self.used = {"Allocative", "Described", "Part", "Record", "Refusal", "Visitor", "codes"}
         self.answers: dict[str, str] = {}
         members = [member for each in cycle or [definition] for member in each.shown]
         self.flags = sorted(set().union(*map(self.flags_of, members)))
-        alias, described = self.alias(), "" if self.is_borrowed else self.described()
+        self.variant_records: dict[str, str] = {}
+        self.counted: set[str] = set()
+        alias, described = self.aliases(), "" if self.is_borrowed else self.described()
         self.text = alias + described + (self.enumeration() if definition.is_enum else self.struct())
-
-    def free(self, ending: str) -> str:
-        """A name that the module does not use."""
-        name, module = self.name + ending, self.scope.module
-        while name in module.types or name in module.names or name in module.uses:
-            name += "Of"
-        return name
 
     # ---- heads
     def declared(self) -> str:
@@ -116,7 +110,8 @@ class Writer:
             bounds = [each.bounds] if each.bounds else []
             if each.kind == "type":
                 is_shown = any(holds(member.type, each.name) for member in self.members if member.is_whole)
-                mine = ["Allocative", "Described"] if is_shown else ["Drop"]
+                mine = ["Allocative", "Described"] if is_shown else ["Described"] if each.name in self.counted else []
+                mine = mine if is_shown else [*mine, "Drop"]
                 bounds = [word for word in mine if word not in each.bounds.split(" + ")] + bounds
             name = f"const {each.name}" if each.kind == "const" else each.name
             found.append(f"{name}: {' + '.join(bounds)}" if bounds else name)
@@ -130,21 +125,33 @@ class Writer:
         conditions = "".join(f"    {each},\n" for each in split(self.definition.where))
         return f"{line}\nwhere\n{conditions}{{\n" if conditions else f"{line} {{\n"
 
-    # ---- the layout
-    def alias(self) -> str:
-        """The line of the layout, the type whose size, alignment and drop are those of this one."""
-        lists = [self.fields(variant) for variant in self.definition.variants] or [EMPTY]
-        if self.definition.is_enum and self.definition.variants:
+    # ---- the layouts
+    def aliases(self) -> str:
+        """The lines of the layouts, which declare: that of the type, and one of each variant that has an entry."""
+        lists = [self.fields(variant) for variant in self.definition.variants]
+        pairs = list(zip(self.definition.variants, lists))
+        if self.definition.is_enum:
             lists = [nested([type_of("u8"), nested(lists, "Or")])]
-        layout = Type("path", f"Record<{lists[0].text}>", (), (lists[0],))
+        self.record, text = self.alias(self.layout, lists[0])
+        for variant, fields in pairs:
+            if self.definition.is_enum and variant.is_entry:
+                name = self.source.free(self.name + variant.name, "Fields")
+                self.variant_records[variant.name], more = self.alias(name, fields)
+                text += more
+        return text
+
+    def alias(self, name: str, fields: Type) -> tuple[str, str]:
+        """A layout of some fields as a type with its parameters, and its line."""
+        layout = Type("path", f"Record<{fields.text}>", (), (fields,))
         self.used |= {word for word in ("And", "Or") if f"{word}<" in layout.text}
         names = set(NAME.findall(layout.text))
+        self.counted |= names
         used = [each for each in self.definition.parameters if each.name in names]
-        self.record = self.layout + in_angles([each.name for each in used])
         declared = [f"const {each.name}: {each.bounds}".removesuffix(": ") for each in used]
         declared = [text if each.kind == "const" else each.name for each, text in zip(used, declared)]
-        head = f"type {self.layout}{in_angles(declared)} = "
-        return f"{head}{laid(layout, 0, WIDTH - len(head) - 1)};\n\n"
+        head = f"type {name}{in_angles(declared)} = "
+        line = f"{head}{laid(layout, 0, WIDTH - len(head) - 1)};\n\n"
+        return name + in_angles([each.name for each in used]), line
 
     def fields(self, variant: Variant) -> Type:
         """The types of a variant's fields, in lists of five at most."""
@@ -152,12 +159,14 @@ class Writer:
         return joined([nested([*group, EMPTY]) for group in groups], lambda lists: nested(lists, "And"))
 
     def entries(self, variant: Variant) -> Iterator[Type]:
-        """The types of a variant's fields, with `()` in place of the types that hold this one."""
+        """The types that count for a variant's fields, with `()` in place of the types that hold this one."""
+        nothing = dict.fromkeys(self.cycle, "()")
         for member in variant.members:
-            is_known = not self.scope.reason(member.type, ()) if member.is_skipped else member.size is None
-            if member.type.name != "PhantomData":
-                nothing = dict.fromkeys(self.cycle, "()")
-                yield from map(type_of, [renamed(member.type, nothing)] if is_known else stand_ins(member))
+            if member.is_whole:
+                kinds = [member.type] if member.type.name != "PhantomData" else []
+            else:
+                kinds = [type_of(each.text) for each in self.source.counting.member(member, self.types) or ()]
+            yield from (type_of(renamed(kind, nothing)) for kind in kinds)
 
     def described(self) -> str:
         """The implementation of `Described`."""
@@ -280,7 +289,7 @@ class Writer:
 
     def enter(self, parts: list[str], names: list[str], indent: str) -> str:
         """The lines that make the parts and enter them under the type's own entry."""
-        inside = joined(names, tuple_of) if names else "()"
+        inside = joined(names, tuple_of)
         word, arguments = "Whole", ["self", inside]
         if self.is_borrowed or self.cycle:
             word, arguments = "Declared", [f'"{self.name}"', f"<{self.record}>::size()", inside]
@@ -325,22 +334,33 @@ class Writer:
 
     def kept(self, variant: Variant, names: list[str]) -> list[tuple[Member, str, str]]:
         """The fields that a variant shows, with keys and names. A single one without a name has its name."""
-        keys = [variant.name] if not variant.is_named and len(variant.members) == 1 else variant.names
+        keys = [variant.name] if variant.bracket != "{" and len(variant.members) == 1 else variant.names
         return [each for each in zip(variant.members, keys, names) if not each[0].is_skipped]
 
     def word_arm(self, variant: Variant, case: str) -> str:
         letters = bound([""] * len(variant.members), 0)
-        words = [self.word(*each) for each in self.kept(variant, letters)]
-        return f"      | {' '.join([case, *letters])} ↦ {self.inside(words, ' ' * 10)}\n"
+        words = self.inside([self.word(*each) for each in self.kept(variant, letters)], " " * 10)
+        if variant.is_entry:
+            word = "field" if self.is_level else "shows.Field"
+            gap = " " if words.startswith(("both", "shows.Both")) else f"\n{' ' * 10}"
+            words = f'{word} (codes "{variant.name}") {size_of(self.variant_records[variant.name])}{gap}({words})'
+        return f"      | {' '.join([case, *letters])} ↦ {words}\n"
 
     def code_arm(self, variant: Variant) -> str:
         names, indent = bound(variant.names, 44), " " * 12
         pattern = f"{indent}{self.name}::{variant.name}{pattern_of(variant, names)}"
         kept = self.kept(variant, names)
-        if not kept:
-            return f"{pattern} => {self.enter([], [], '').rstrip()},\n"
         parts = [self.part(member, key, name, name) for member, key, name in kept]
-        return f"{pattern} => {{\n{self.enter(parts, [name for _, _, name in kept], ' ' * 16)}{indent}}}\n"
+        names = [name for _, _, name in kept]
+        if variant.is_entry:
+            record = self.variant_records[variant.name]
+            arguments = [f'"{variant.name}"', f"<{record}>::size()", joined(names, tuple_of)]
+            parts.append(kept_part("Declared", arguments, " " * 16))
+            names = ["inside"]
+            self.used.add("Declared")
+        if not parts:
+            return f"{pattern} => {self.enter([], [], '').rstrip()},\n"
+        return f"{pattern} => {{\n{self.enter(parts, names, ' ' * 16)}{indent}}}\n"
 
     # ---- answers
     def keep_answers(self, cases: list[str], listed: list[str]) -> None:
@@ -428,8 +448,9 @@ def holds(kind: Type, parameter: str) -> bool:
 def pattern_of(variant: Variant, names: list[str]) -> str:
     """What stands behind a variant's name in a pattern."""
     pairs = list(zip(variant.members, names))
-    if not variant.is_named:
-        return f"({', '.join(name if each.is_whole else '_' for each, name in pairs)})" if pairs else ""
+    if variant.bracket != "{":
+        inside = ", ".join(name if each.is_whole else "_" for each, name in pairs)
+        return f"({inside})" if variant.bracket else ""
     fields = [name if each.name == name else f"{each.name}: {name}" for each, name in pairs if each.is_whole]
     fields += [".."] if len(fields) < len(pairs) else []
     line = ", ".join(fields)
@@ -465,7 +486,20 @@ def entered(name: str, arguments: list[str], indent: str) -> str:
     if len(", ".join(arguments)) <= 60 and len(indent) + len(line) <= WIDTH:
         is_short_enough = len(indent) + len(line) + len("visitor)") <= WIDTH
         return f"{line}visitor)" if is_short_enough else f"{line}\n{indent}    visitor,\n{indent})"
+    return f"{broken(name, arguments, indent)}\n{indent}.enter(visitor)"
+
+
+def kept_part(name: str, arguments: list[str], indent: str) -> str:
+    """The line that keeps a part under the name `inside`."""
+    line = f"let inside = {name}({', '.join(arguments)});\n"
+    if len(", ".join(arguments)) <= 60 and len(indent) + len(line) <= WIDTH + 1:
+        return line
+    return f"let inside = {broken(name, arguments, indent)};\n"
+
+
+def broken(name: str, arguments: list[str], indent: str) -> str:
+    """A call with each argument on a line of its own."""
     *firsts, last = arguments
     last = laid(type_of(last), len(indent) + 4, WIDTH - len(indent) - 5)
     lines = "".join(f"{indent}    {each},\n" for each in (*firsts, last))
-    return f"{name}(\n{lines}{indent})\n{indent}.enter(visitor)"
+    return f"{name}(\n{lines}{indent})"

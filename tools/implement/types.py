@@ -110,11 +110,17 @@ class Variant(NamedTuple):
 
     name: str
     members: tuple[Member, ...] = ()
-    is_named: bool = False
+    # The bracket of its fields, or nothing.
+    bracket: str = ""
 
     @property
     def names(self) -> list[str]:
         return [member.name for member in self.members]
+
+    @property
+    def is_entry(self) -> bool:
+        """Whether a variant has an entry of its own, with its fields inside it."""
+        return len(self.members) > 1 or (self.bracket == "{" and bool(self.members))
 
 
 class Definition(NamedTuple):
@@ -289,14 +295,15 @@ class Reader:
         """The fields in braces or parentheses that stand here, or none."""
         if self.word() not in ("{", "("):
             return Variant(name)
-        is_named, close = self.word() == "{", self.open()
+        bracket = self.word()
+        is_named, close = bracket == "{", self.open()
         members: list[Member] = []
         for end in self.entries(close):
             if self.word() != "ghost" or self.word(2) != ":":
                 members.append(self.member(str(len(members)), is_named, end))
         self.refuse_directive(close)
         self.at = close + 1
-        return Variant(name, tuple(members), is_named)
+        return Variant(name, tuple(members), bracket)
 
     def member(self, name: str, is_named: bool, end: int) -> Member:
         """The field that stands here, with what a comment above it says."""

@@ -138,6 +138,8 @@ pub enum Tree {
 // allocative: begin
 type TreeLayout = Record<(u8, Or<(u64, ()), (Box<()>, (Box<()>, ()))>)>;
 
+type TreeForkFields = Record<(Box<()>, (Box<()>, ()))>;
+
 impl Described for Tree {
     ghost name = { codes "Tree" };
 
@@ -170,9 +172,9 @@ impl Allocative for Tree {
 
     ghost may_show = { recursive (λ x. field (codes "Tree") ⟦<TreeLayout as Described>⟧.size (elim (out-Tree x) [
       | Tree-F.Leaf a ↦ plain (shows.Field (codes "Leaf") ⟦<u64 as Described>⟧.size (⟦<u64 as Allocative>⟧.may_show a))
-      | Tree-F.Fork a b ↦ both
+      | Tree-F.Fork a b ↦ field (codes "Fork") ⟦<TreeForkFields as Described>⟧.size (both
           (field (codes "0") ⟦<Box<TreeLayout> as Described>⟧.size (box_of (child a.value)))
-          (field (codes "1") ⟦<Box<TreeLayout> as Described>⟧.size (box_of (child b.value)))
+          (field (codes "1") ⟦<Box<TreeLayout> as Described>⟧.size (box_of (child b.value))))
     ])) };
 
     ghost is_exact = { true };
@@ -186,7 +188,8 @@ impl Allocative for Tree {
             Tree::Fork(a, b) => {
                 let a = Field("0", a);
                 let b = Field("1", b);
-                Declared("Tree", <TreeLayout>::size(), (a, b)).enter(visitor)
+                let inside = Declared("Fork", <TreeForkFields>::size(), (a, b));
+                Declared("Tree", <TreeLayout>::size(), inside).enter(visitor)
             }
         }
     }
@@ -235,6 +238,10 @@ type JsonLayout = Record<
     ),
 >;
 
+type JsonPairFields = Record<(u64, (String, (u64, (u64, (String, ())))))>;
+
+type JsonMaybeFields = Record<(Option<Box<()>>, (u32, ()))>;
+
 impl Described for Json {
     ghost name = { codes "Json" };
 
@@ -269,19 +276,19 @@ impl Allocative for Json {
       | Json-F.Null ↦ plain shows.Nothing
       | Json-F.Bool a ↦ plain (shows.Field (codes "Bool") ⟦<bool as Described>⟧.size (⟦<bool as Allocative>⟧.may_show a))
       | Json-F.Text a ↦ plain (shows.Field (codes "Text") ⟦<String as Described>⟧.size (⟦<String as Allocative>⟧.may_show a))
-      | Json-F.Pair a b c d e ↦ both
+      | Json-F.Pair a b c d e ↦ field (codes "Pair") ⟦<JsonPairFields as Described>⟧.size (both
           (plain (shows.Field (codes "0") ⟦<u64 as Described>⟧.size (⟦<u64 as Allocative>⟧.may_show a))) (both
           (plain (shows.Field (codes "1") ⟦<String as Described>⟧.size (⟦<String as Allocative>⟧.may_show b))) (both
           (plain (shows.Field (codes "2") ⟦<u64 as Described>⟧.size (⟦<u64 as Allocative>⟧.may_show c))) (both
           (plain (shows.Field (codes "3") ⟦<u64 as Described>⟧.size (⟦<u64 as Allocative>⟧.may_show d)))
-          (plain (shows.Field (codes "4") ⟦<String as Described>⟧.size (⟦<String as Allocative>⟧.may_show e))))))
+          (plain (shows.Field (codes "4") ⟦<String as Described>⟧.size (⟦<String as Allocative>⟧.may_show e)))))))
       | Json-F.List a ↦ field (codes "List") ⟦<Vec<JsonLayout> as Described>⟧.size (vec_in ⟦<JsonLayout as Described>⟧.size child a)
       | Json-F.Table a ↦ field (codes "Table") ⟦<BTreeMap<String, JsonLayout> as Described>⟧.size (btree_map_of (pair_in ⟦<String as Described>⟧.size ⟦<String as Allocative>⟧.may_show ⟦<JsonLayout as Described>⟧.size child) a.entries)
       | Json-F.Stop ↦ plain shows.Nothing
       | Json-F.Boxed a ↦ field (codes "Boxed") ⟦<Box<JsonLayout> as Described>⟧.size (box_of (child a.value))
-      | Json-F.Maybe a b ↦ both
+      | Json-F.Maybe a b ↦ field (codes "Maybe") ⟦<JsonMaybeFields as Described>⟧.size (both
           (field (codes "first") ⟦<Option<Box<JsonLayout>> as Described>⟧.size (option_in ⟦<Option<Box<JsonLayout>> as Described>⟧.size ⟦<Box<JsonLayout> as Described>⟧.size (λ y. box_of (child y.value)) a))
-          (plain (shows.Field (codes "number") ⟦<u32 as Described>⟧.size (⟦<u32 as Allocative>⟧.may_show b)))
+          (plain (shows.Field (codes "number") ⟦<u32 as Described>⟧.size (⟦<u32 as Allocative>⟧.may_show b))))
     ])) };
 
     ghost is_exact = { true };
@@ -303,7 +310,8 @@ impl Allocative for Json {
                 let c = Field("2", c);
                 let d = Field("3", d);
                 let e = Field("4", e);
-                Declared("Json", <JsonLayout>::size(), (a, b, c, d, e)).enter(visitor)
+                let inside = Declared("Pair", <JsonPairFields>::size(), (a, b, c, d, e));
+                Declared("Json", <JsonLayout>::size(), inside).enter(visitor)
             }
             Json::List(a) => {
                 let a = Field("List", a);
@@ -321,7 +329,8 @@ impl Allocative for Json {
             Json::Maybe { first, number } => {
                 let first = Field("first", first);
                 let number = Field("number", number);
-                Declared("Json", <JsonLayout>::size(), (first, number)).enter(visitor)
+                let inside = Declared("Maybe", <JsonMaybeFields>::size(), (first, number));
+                Declared("Json", <JsonLayout>::size(), inside).enter(visitor)
             }
         }
     }

@@ -20,7 +20,7 @@ pub struct Letter {
 ghost use Rattle.std.specs.Prelude.{codes, true, ◌&&◌};
 ghost use Rattle.allocative.specs.Shows as shows;
 
-use allocative::{And, Described, Or, Part, Record, Refusal, Visitor, Whole};
+use allocative::{And, Declared, Described, Or, Part, Record, Refusal, Visitor, Whole};
 
 type LetterLayout = Record<(u64, (String, (u64, ())))>;
 
@@ -139,6 +139,8 @@ pub enum Post {
 // allocative: begin
 type PostLayout = Record<(u8, Or<(), Or<(self::Letter, ()), (u64, (String, ()))>>)>;
 
+type PostSentFields = Record<(u64, (String, ()))>;
+
 impl Described for Post {
     ghost name = { codes "Post" };
 
@@ -172,9 +174,9 @@ impl Allocative for Post {
     ghost may_show = { λ x. shows.Field (codes "Post") ⟦<PostLayout as Described>⟧.size (elim x [
       | Lost ↦ shows.Nothing
       | Sealed a ↦ shows.Field (codes "Sealed") ⟦<self::Letter as Described>⟧.size (⟦<self::Letter as Allocative>⟧.may_show a)
-      | Sent a b ↦ shows.Both
+      | Sent a b ↦ shows.Field (codes "Sent") ⟦<PostSentFields as Described>⟧.size (shows.Both
           (shows.Field (codes "number") ⟦<u64 as Described>⟧.size (⟦<u64 as Allocative>⟧.may_show a))
-          (shows.Field (codes "name") ⟦<String as Described>⟧.size (⟦<String as Allocative>⟧.may_show b))
+          (shows.Field (codes "name") ⟦<String as Described>⟧.size (⟦<String as Allocative>⟧.may_show b)))
     ]) };
 
     ghost is_exact = { true };
@@ -189,7 +191,8 @@ impl Allocative for Post {
             Post::Sent { number, name } => {
                 let number = Field("number", number);
                 let name = Field("name", name);
-                Whole(self, (number, name)).enter(visitor)
+                let inside = Declared("Sent", <PostSentFields>::size(), (number, name));
+                Whole(self, inside).enter(visitor)
             }
         }
     }

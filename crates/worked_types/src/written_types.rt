@@ -33,7 +33,7 @@ fn variants_of_none_and_one(rt: HostRuntime) -> Result<(), Fail> {
     let find = Request::Find(String::new(rt.alloc()));
     let text = "Request 16\nRequest;Find;String 16\nRequest;Find;String;ptr 8\n";
     expect(&rt, &find, text, 40)?;
-    let text = "Request 32\nRequest;0;u64 8\n";
+    let text = "Request 24\nRequest;Wait 8\nRequest;Wait;0;u64 8\n";
     expect(&rt, &Request::Wait(3, 0.5), text, 40)
 }
 
@@ -44,14 +44,15 @@ fn variants_of_named_fields(rt: HostRuntime) -> Result<(), Fail> {
         value: 3,
     };
     let text =
-        "Request 8\nRequest;name;String 16\nRequest;name;String;ptr 8\nRequest;value;u64 8\n";
+        "Request 8\nRequest;Put;name;String 16\nRequest;Put;name;String;ptr 8\nRequest;Put;value;u64 8\n";
     expect(&rt, &put, text, 40)?;
     let mix = Request::Mix {
         first: 1,
         second: 2,
         is_deep: true,
     };
-    let text = "Request 31\nRequest;first;u32 4\nRequest;is_deep;bool 1\nRequest;second;u32 4\n";
+    let text =
+        "Request 28\nRequest;Mix 3\nRequest;Mix;first;u32 4\nRequest;Mix;is_deep;bool 1\nRequest;Mix;second;u32 4\n";
     expect(&rt, &mix, text, 40)
 }
 
@@ -59,7 +60,7 @@ fn variants_of_named_fields(rt: HostRuntime) -> Result<(), Fail> {
 fn a_variant_of_five_fields(rt: HostRuntime) -> Result<(), Fail> {
     let draw = Request::Draw(1, 2, 3, 4, String::new(rt.alloc()));
     let text =
-        "Request 8\nRequest;0;u16 2\nRequest;1;u16 2\nRequest;2;u16 2\nRequest;3;u16 2\nRequest;4;String 16\nRequest;4;String;ptr 8\n";
+        "Request 8\nRequest;Draw;0;u16 2\nRequest;Draw;1;u16 2\nRequest;Draw;2;u16 2\nRequest;Draw;3;u16 2\nRequest;Draw;4;String 16\nRequest;Draw;4;String;ptr 8\n";
     expect(&rt, &draw, text, 40)
 }
 
@@ -85,7 +86,8 @@ fn a_size_follows_from_the_parameters(rt: HostRuntime) -> Result<(), Fail> {
 #[test]
 fn a_parameter_of_an_enum(rt: HostRuntime) -> Result<(), Fail> {
     let named = Named::Somebody(String::new(rt.alloc()), 5u16);
-    let text = "Named 6\nNamed;0;String 16\nNamed;0;String;ptr 8\nNamed;1;u16 2\n";
+    let text =
+        "Named;Somebody 6\nNamed;Somebody;0;String 16\nNamed;Somebody;0;String;ptr 8\nNamed;Somebody;1;u16 2\n";
     expect(&rt, &named, text, 32)
 }
 
@@ -111,7 +113,8 @@ fn implementations_in_place(rt: HostRuntime) -> Result<(), Fail> {
         number: 7,
         name: String::new(alloc),
     };
-    let text = "Post 16\nPost;name;String 16\nPost;name;String;ptr 8\nPost;number;u64 8\n";
+    let text =
+        "Post 16\nPost;Sent;name;String 16\nPost;Sent;name;String;ptr 8\nPost;Sent;number;u64 8\n";
     expect(&rt, &post, text, 48)?;
     let parcel = Parcel {
         number: 1,
@@ -153,13 +156,13 @@ fn values_in_boxes(rt: HostRuntime) -> Result<(), Fail> {
     let right = Box::new(alloc, Tree::Leaf(2))?;
     let fork = Tree::Fork(left, right);
     let text =
-        "Tree 8\nTree;0;Box;ptr 8\nTree;0;Box;ptr;Tree 16\nTree;0;Box;ptr;Tree;Leaf;u64 8\nTree;1;Box;ptr 8\nTree;1;Box;ptr;Tree 16\nTree;1;Box;ptr;Tree;Leaf;u64 8\n";
+        "Tree 8\nTree;Fork;0;Box;ptr 8\nTree;Fork;0;Box;ptr;Tree 16\nTree;Fork;0;Box;ptr;Tree;Leaf;u64 8\nTree;Fork;1;Box;ptr 8\nTree;Fork;1;Box;ptr;Tree 16\nTree;Fork;1;Box;ptr;Tree;Leaf;u64 8\n";
     expect_holding(&rt, &fork, text, 72, 48)?;
     let maybe = Json::Maybe {
         first: None,
         number: 5,
     };
-    let text = "Json 60\nJson;first;Option 16\nJson;number;u32 4\n";
+    let text = "Json 56\nJson;Maybe 4\nJson;Maybe;first;Option 16\nJson;Maybe;number;u32 4\n";
     expect(&rt, &maybe, text, 80)
 }
 

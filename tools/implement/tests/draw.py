@@ -4,7 +4,7 @@ from __future__ import annotations
 
 import random
 
-PLAIN = "u8 u16 u32 u64 i32 usize bool u128".split()
+PLAIN = "u8 u16 u32 u64 i32 usize bool u128 f64 char".split()
 CONTAINERS = (
     "String",
     "Vec<u32>",

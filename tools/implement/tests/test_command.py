@@ -51,9 +51,21 @@ class CommandTest(unittest.TestCase):
     def test_sizes_by_comment_count(self) -> None:
         text = "#[derive(Drop)]\nstruct A {\n    // allocative: size 16\n    m: &'static str,\n    // allocative: size 40\n    lock: Mutex<u8>,\n    // allocative: skip\n    mean: f64,\n}\n"
         status, output, told = self.run_it(text)
-        self.assertEqual((status, told), (0, []))
-        self.assertIn("type ALayout = Record<((u64, u64), ([u8; 40], ([String; 0], (u64, ()))))>;", output)
+        self.assertEqual((status, told), (0, ["implement: 1 field is passed over: 8 bytes"]))
+        self.assertIn("type ALayout = Record<((u64, u64), ([u8; 40], ([String; 0], (f64, ()))))>;", output)
         self.assertIn('Inside("lock", 40, ())', output)
+
+    def test_what_is_passed_over_counts(self) -> None:
+        head = "use std::collections::HashMap;\nuse std::rc::Rc;\nuse std::sync::Mutex;\n#[derive(Drop)]\nstruct A<T> {\n"
+        kinds = "Vec<Mutex<u8>>, HashMap<u8,Mutex<u8>>, Option<Rc<str>>, *const u8, [B;3], (u8,f32), T, Vec<T>, &'static str".split(", ")
+        fields = "".join(f"    // allocative: skip\n    f{number}: {kind},\n" for number, kind in enumerate(kinds))
+        own = "#[derive(Drop)]\nenum B {\n    C,\n    D(u8, u32),\n}\n"
+        status, output, told = self.run_it(f"{head}{fields}}}\n{own}")
+        self.assertEqual((status, told), (0, ["implement: 9 fields are passed over: 152 bytes, and 2 of a size that only the checker knows"]))
+        layout = output[output.index("type ALayout<T> =") : output.index("impl<")]
+        kinds = "Vec<()>", "HashMap<(), ()>", "Option<(Box<()>, u64)>", "u64", "[B; 3]", "(u8, f32)", "T", "Vec<()>", "(u64, u64)"
+        self.assertEqual([kind for kind in kinds if kind not in layout], [])
+        self.assertIn("impl<T: Described + Drop> Described for A<T>", output)
 
     def test_flags(self) -> None:
         _, output, _ = self.run_it("#[derive(Drop)]\nstruct A<T> {\n    a: T,\n    b: u8,\n}\n#[derive(Drop)]\nenum B<T> {\n    C(Vec<T>, u8),\n    D,\n}\n")
@@ -72,6 +84,15 @@ class CommandTest(unittest.TestCase):
         text = "use once_cell::race::OnceBox;\n" + two + "#[derive(Drop)]\nstruct C {\n    b: B,\n}\n"
         self.assertIn("ghost is_exact = { ⟦<B as Allocative>⟧.is_exact };", self.run_it(text)[1])
 
+    def test_variants_by_name(self) -> None:
+        variants = "    A,\n    B(u8),\n    C(u8, T),\n    D { d: u16 },\n    E(),\n"
+        _, output, _ = self.run_it(f"#[derive(Drop)]\nenum M<T> {{\n{variants}}}\n#[derive(Drop)]\nstruct MC(u8);\n")
+        self.assertIn("type MCFields<T> = Record<(u8, (T, ()))>;\n\ntype MDFields = Record<(u16, ())>;", output)
+        self.assertIn('      | C a b ↦ shows.Field (codes "C") ⟦<MCFields<T> as Described>⟧.size (shows.Both\n', output)
+        self.assertIn('let inside = Declared("C", <MCFields<T>>::size(), (a, b));\n', output)
+        self.assertIn('let inside = Declared("D", <MDFields>::size(), d);\n', output)
+        self.assertIn("M::E() => Whole(self, ()).enter(visitor),", output)
+
     def test_many_fields(self) -> None:
         fields = "".join(f"    f{number}: T,\n" for number in range(7))
         _, output, _ = self.run_it(f"#[derive(Drop)]\nstruct A<T> {{\n{fields}}}\n")
@@ -79,19 +100,39 @@ class CommandTest(unittest.TestCase):
         self.assertIn("Whole(self, ((f0, f1, f2, f3, f4), (f5, f6))).enter(visitor)", output)
 
     def test_all_faults_at_once(self) -> None:
-        text = "use std::sync::Mutex;\nstruct A {\n    a: f64,\n    b: Mutex<u8>,\n    c: u8,\n    d: Vec<Rc<u8>>,\n}\n#[derive(Drop)]\nenum B {\n    C(char),\n}\n"
+        text = "use std::sync::Mutex;\nuse std::rc::Rc;\nstruct A {\n    a: Rc<u8>,\n    b: Mutex<u8>,\n    c: u8,\n    d: Vec<Rc<u8>>,\n}\n#[derive(Drop)]\nenum B {\n    C(str),\n    D(\n    // allocative: skip\n    Option<Mutex<u8>>),\n}\n"
         status, output, told = self.run_it(text)
         self.assertEqual((status, output), (4, ""))
-        self.assertEqual([line.split(":")[0] for line in told], ["2", "3", "4", "6", "10"])
-        self.assertIn("A.a: `f64` has no implementation: write above it `// allocative: size 8`", told[1])
+        self.assertEqual([line.split(":")[0] for line in told], ["3", "4", "5", "7", "11", "14"])
+        self.assertIn("A.a: `Rc` of `std` has no implementation: write above it `// allocative: size 8`", told[1])
         self.assertIn("size N", told[2])
         self.assertIn("B::C.0", told[4])
+        self.assertIn("B::D.0: the size of `Option<Mutex<u8>>` is not known: write above it `// allocative: size N`", told[5])
 
     def test_unknown_fields_are_passed_over_where_asked(self) -> None:
-        status, output, _ = self.run_it("#[derive(Drop)]\nstruct A {\n    a: f64,\n    b: u8,\n}\n", "--skip-unknown")
+        status, output, _ = self.run_it("#[derive(Drop)]\nstruct A {\n    a: *const u8,\n    b: u8,\n}\n", "--skip-unknown")
         self.assertEqual(status, 0)
-        self.assertIn("// `a` is passed over: `f64` has no implementation.\n", output)
+        self.assertIn("// `a` is passed over: `*const u8` is no type that is read.\n", output)
         self.assertNotIn('Field("a"', output)
+
+    def test_what_the_checker_refuses_is_refused_first(self) -> None:
+        head = "use std::collections::*;\ntype Call = fn(u8) -> u8;\n#[derive(Drop)]\nstruct K(u8);\n#[derive(Drop)]\nstruct A<T, U: Ord + Clone> "
+        for kind, what in (
+            ("Option<Call>", "A.a: `fn(u8) -> u8` is a function pointer"),
+            ("HashMap<T, u8>", "A.a: `HashMap<T, u8>` asks `T: Eq + Hash`"),
+            ("Vec<BTreeMap<(T, u8), u8>>", "asks `T: Ord`"),
+            ("HashSet<f64>", "asks `f64: Eq + Hash`"),
+            ("BTreeSet<Vec<K>>", "asks `K: Ord`"),
+        ):
+            for above in ("", "    // allocative: size 8\n"):
+                status, output, told = self.run_it(f"{head}{{\n{above}    a: {kind},\n    b: T,\n    c: BTreeSet<U>,\n}}\n")
+                self.assertEqual((status, output, len(told)), (4, "", 1))
+                self.assertIn(what, told[0])
+        empty, sized, fixed = "enum A {}", "struct A<T: ?Sized>(Box<T>);", "struct A<const N: usize>([u8; N]);"
+        for text, what in ((sized, "`?Sized`"), (fixed, "a const parameter"), ("struct A { deriving: u8 }", "reserves")):
+            self.assertIn(what, self.run_it(f"#[derive(Drop)]\n{text}\n")[2][0])
+        self.assertIn("no variants", self.run_it(f"#[derive(Drop)]\n{empty}\n", "A")[2][0])
+        self.assertEqual(self.run_it(f"{POINT}#[derive(Drop)]\n{empty}\n")[0], 0)
 
     def test_types_of_other_files(self) -> None:
         self.put("src/b.rt", POINT)
@@ -107,7 +148,7 @@ class CommandTest(unittest.TestCase):
         self.assertIn("visited_as c.enter-in-Fork.ensures", self.get("proofs/a/shown/TreeAllocative/+visit/Answers.antt"))
         two = "#[derive(Drop)]\nstruct A {\n    b: Vec<B>,\n}\n#[derive(Drop)]\nstruct B {\n    a: Vec<A>,\n}\n"
         self.assertIn("#[cycle(NAME)]", self.run_it(two)[2][0])
-        self.assertIn("holds the type itself in a way", self.run_it("#[derive(Drop)]\nstruct A {\n    a: VecDeque<A>,\n}\n")[2][0])
+        self.assertIn("holds the type itself in a way", self.run_it("use std::collections::*;\n#[derive(Drop)]\nstruct A {\n    a: VecDeque<A>,\n}\n")[2][0])
 
     def test_enums_of_one_variant(self) -> None:
         self.assertEqual(self.run_it("#[derive(Drop)]\nenum E {\n    A(u8, String),\n}\n")[0], 0)
@@ -117,8 +158,8 @@ class CommandTest(unittest.TestCase):
         self.assertIn("write it as a struct", self.run_it("#[derive(Drop)]\nenum E {\n    A(Vec<E>),\n}\n")[2][0])
 
     def test_paths_of_the_module_itself(self) -> None:
-        text = POINT + "#[derive(Drop)]\nstruct A {\n    a: Vec<self::Point>,\n    // allocative: skip\n    b: super::B,\n}\n"
-        self.assertIn("type ALayout = Record<(Vec<Point>, ([String; 0], ()))>;", self.run_it(text)[1])
+        text = POINT + "#[derive(Drop)]\nstruct A {\n    a: Vec<self::Point>,\n    // allocative: size 8\n    b: super::B,\n}\n"
+        self.assertIn("type ALayout = Record<(Vec<Point>, ([u8; 8], ([String; 0], ())))>;", self.run_it(text)[1])
         self.run_it("#[derive(Drop)]\nstruct A {\n    a: Vec<self::A>,\n}\n", "--in-place")
         self.assertIn("type ALayout = Record<(Vec<()>, ())>;", self.get("src/a.rt"))
 

@@ -51,7 +51,7 @@ class ShapesTest(unittest.TestCase):
 
     def test_enums(self) -> None:
         found = read("enum A { B = 1, C(u8, String), D { e: u8 }, F {}, }").types["A"]
-        self.assertEqual([(each.name, len(each.members), each.is_named) for each in found.variants], [("B", 0, False), ("C", 2, False), ("D", 1, True), ("F", 0, True)])
+        self.assertEqual([(each.name, len(each.members), each.bracket) for each in found.variants], [("B", 0, ""), ("C", 2, "("), ("D", 1, "{"), ("F", 0, "{")])
 
     def test_directives_of_fields(self) -> None:
         text = "struct A {\n// allocative: skip\na: f64,\nb: u8,\n// allocative: size 8\npub c: f64 }"

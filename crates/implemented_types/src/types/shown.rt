@@ -298,7 +298,7 @@ impl Allocative for Sextet {
     }
 }
 
-type MarkLayout = Record<(Point, (String, (u64, (u64, (bool, ())))))>;
+type MarkLayout = Record<(Point, (String, (f64, (f64, (bool, ())))))>;
 
 impl Described for Mark {
     ghost name = { codes "Mark" };
@@ -357,7 +357,7 @@ type RequestLayout = Record<
                         (String, (u64, ())),
                         Or<
                             (u32, (u32, (bool, ()))),
-                            Or<(u16, (u16, (u16, (u16, (String, ()))))), Or<(u64, (u64, ())), ()>>,
+                            Or<(u16, (u16, (u16, (u16, (String, ()))))), Or<(u64, (f64, ())), ()>>,
                         >,
                     >,
                 >,
@@ -365,6 +365,16 @@ type RequestLayout = Record<
         >,
     ),
 >;
+
+type RequestMoveFields = Record<(u32, (u32, ()))>;
+
+type RequestPutFields = Record<(String, (u64, ()))>;
+
+type RequestMixFields = Record<(u32, (u32, (bool, ())))>;
+
+type RequestDrawFields = Record<(u16, (u16, (u16, (u16, (String, ())))))>;
+
+type RequestWaitFields = Record<(u64, (f64, ()))>;
 
 impl Described for Request {
     ghost name = { codes "Request" };
@@ -398,23 +408,24 @@ impl Allocative for Request {
     ghost may_show = { λ x. shows.Field (codes "Request") ⟦<RequestLayout as Described>⟧.size (elim x [
       | Ping ↦ shows.Nothing
       | Find a ↦ shows.Field (codes "Find") ⟦<String as Described>⟧.size (⟦<String as Allocative>⟧.may_show a)
-      | Move a b ↦ shows.Both
+      | Move a b ↦ shows.Field (codes "Move") ⟦<RequestMoveFields as Described>⟧.size (shows.Both
           (shows.Field (codes "0") ⟦<u32 as Described>⟧.size (⟦<u32 as Allocative>⟧.may_show a))
-          (shows.Field (codes "1") ⟦<u32 as Described>⟧.size (⟦<u32 as Allocative>⟧.may_show b))
-      | Put a b ↦ shows.Both
+          (shows.Field (codes "1") ⟦<u32 as Described>⟧.size (⟦<u32 as Allocative>⟧.may_show b)))
+      | Put a b ↦ shows.Field (codes "Put") ⟦<RequestPutFields as Described>⟧.size (shows.Both
           (shows.Field (codes "name") ⟦<String as Described>⟧.size (⟦<String as Allocative>⟧.may_show a))
-          (shows.Field (codes "value") ⟦<u64 as Described>⟧.size (⟦<u64 as Allocative>⟧.may_show b))
-      | Mix a b c ↦ shows.Both
+          (shows.Field (codes "value") ⟦<u64 as Described>⟧.size (⟦<u64 as Allocative>⟧.may_show b)))
+      | Mix a b c ↦ shows.Field (codes "Mix") ⟦<RequestMixFields as Described>⟧.size (shows.Both
           (shows.Field (codes "first") ⟦<u32 as Described>⟧.size (⟦<u32 as Allocative>⟧.may_show a)) (shows.Both
           (shows.Field (codes "second") ⟦<u32 as Described>⟧.size (⟦<u32 as Allocative>⟧.may_show b))
-          (shows.Field (codes "is_deep") ⟦<bool as Described>⟧.size (⟦<bool as Allocative>⟧.may_show c)))
-      | Draw a b c d e ↦ shows.Both
+          (shows.Field (codes "is_deep") ⟦<bool as Described>⟧.size (⟦<bool as Allocative>⟧.may_show c))))
+      | Draw a b c d e ↦ shows.Field (codes "Draw") ⟦<RequestDrawFields as Described>⟧.size (shows.Both
           (shows.Field (codes "0") ⟦<u16 as Described>⟧.size (⟦<u16 as Allocative>⟧.may_show a)) (shows.Both
           (shows.Field (codes "1") ⟦<u16 as Described>⟧.size (⟦<u16 as Allocative>⟧.may_show b)) (shows.Both
           (shows.Field (codes "2") ⟦<u16 as Described>⟧.size (⟦<u16 as Allocative>⟧.may_show c)) (shows.Both
           (shows.Field (codes "3") ⟦<u16 as Described>⟧.size (⟦<u16 as Allocative>⟧.may_show d))
-          (shows.Field (codes "4") ⟦<String as Described>⟧.size (⟦<String as Allocative>⟧.may_show e)))))
-      | Wait a b ↦ shows.Field (codes "0") ⟦<u64 as Described>⟧.size (⟦<u64 as Allocative>⟧.may_show a)
+          (shows.Field (codes "4") ⟦<String as Described>⟧.size (⟦<String as Allocative>⟧.may_show e))))))
+      | Wait a b ↦ shows.Field (codes "Wait") ⟦<RequestWaitFields as Described>⟧.size
+          (shows.Field (codes "0") ⟦<u64 as Described>⟧.size (⟦<u64 as Allocative>⟧.may_show a))
       | Stop ↦ shows.Nothing
     ]) };
 
@@ -430,12 +441,14 @@ impl Allocative for Request {
             Request::Move(a, b) => {
                 let a = Field("0", a);
                 let b = Field("1", b);
-                Whole(self, (a, b)).enter(visitor)
+                let inside = Declared("Move", <RequestMoveFields>::size(), (a, b));
+                Whole(self, inside).enter(visitor)
             }
             Request::Put { name, value } => {
                 let name = Field("name", name);
                 let value = Field("value", value);
-                Whole(self, (name, value)).enter(visitor)
+                let inside = Declared("Put", <RequestPutFields>::size(), (name, value));
+                Whole(self, inside).enter(visitor)
             }
             Request::Mix {
                 first,
@@ -445,7 +458,8 @@ impl Allocative for Request {
                 let first = Field("first", first);
                 let second = Field("second", second);
                 let is_deep = Field("is_deep", is_deep);
-                Whole(self, (first, second, is_deep)).enter(visitor)
+                let inside = Declared("Mix", <RequestMixFields>::size(), (first, second, is_deep));
+                Whole(self, inside).enter(visitor)
             }
             Request::Draw(a, b, c, d, e) => {
                 let a = Field("0", a);
@@ -453,11 +467,13 @@ impl Allocative for Request {
                 let c = Field("2", c);
                 let d = Field("3", d);
                 let e = Field("4", e);
-                Whole(self, (a, b, c, d, e)).enter(visitor)
+                let inside = Declared("Draw", <RequestDrawFields>::size(), (a, b, c, d, e));
+                Whole(self, inside).enter(visitor)
             }
             Request::Wait(a, _) => {
                 let a = Field("0", a);
-                Whole(self, a).enter(visitor)
+                let inside = Declared("Wait", <RequestWaitFields>::size(), a);
+                Whole(self, inside).enter(visitor)
             }
             Request::Stop => Whole(self, ()).enter(visitor),
         }
@@ -516,6 +532,8 @@ where
 
 type NamedLayout<T> = Record<(u8, Or<(), (String, (T, ()))>)>;
 
+type NamedSomebodyFields<T> = Record<(String, (T, ()))>;
+
 impl<T: Allocative + Described> Described for Named<T> {
     ghost name = { codes "Named" };
 
@@ -547,9 +565,9 @@ impl<T: Allocative + Described> Allocative for Named<T> {
 
     ghost may_show = { λ x. shows.Field (codes "Named") ⟦<NamedLayout<T> as Described>⟧.size (elim x [
       | Nobody ↦ shows.Nothing
-      | Somebody a b ↦ shows.Both
+      | Somebody a b ↦ shows.Field (codes "Somebody") ⟦<NamedSomebodyFields<T> as Described>⟧.size (shows.Both
           (shows.Field (codes "0") ⟦<String as Described>⟧.size (⟦<String as Allocative>⟧.may_show a))
-          (shows.Field (codes "1") ⟦<T as Described>⟧.size (⟦<T as Allocative>⟧.may_show b))
+          (shows.Field (codes "1") ⟦<T as Described>⟧.size (⟦<T as Allocative>⟧.may_show b)))
     ]) };
 
     ghost is_exact = { T.is_exact };
@@ -560,7 +578,8 @@ impl<T: Allocative + Described> Allocative for Named<T> {
             Named::Somebody(a, b) => {
                 let a = Field("0", a);
                 let b = Field("1", b);
-                Whole(self, (a, b)).enter(visitor)
+                let inside = Declared("Somebody", <NamedSomebodyFields<T>>::size(), (a, b));
+                Whole(self, inside).enter(visitor)
             }
         }
     }

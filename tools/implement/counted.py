@@ -1,0 +1,95 @@
+"""What counts in a layout for a field that is not shown: a type of the same declared size, alignment and drop."""
+
+from __future__ import annotations
+
+from typing import NamedTuple
+
+from .known import NUMBERS, Scope
+from .types import Member, Type
+
+# Bytes, alignment, and how many parameters of a type whose size does not depend on them.
+FIXED = {name: (size, size, 0) for name, size in NUMBERS.items()}
+FIXED |= {"String": (24, 8, 0), "Vec": (24, 8, 1), "VecDeque": (32, 8, 1), "OnceBox": (8, 8, 1), "Error": (8, 8, 0)}
+FIXED |= {"BTreeMap": (24, 8, 2), "BTreeSet": (24, 8, 1), "HashMap": (48, 8, 2), "HashSet": (48, 8, 1)}
+FIXED |= {"IndexMap": (72, 8, 2), "IndexSet": (72, 8, 1), "Slab": (40, 8, 1), "IdRc": (8, 8, 1), "IdArc": (8, 8, 1)}
+FIXED |= {"IpAddr": (17, 1, 0), "Ipv4Addr": (4, 1, 0), "Ipv6Addr": (16, 1, 0), "Infallible": (0, 1, 0)}
+FIXED |= dict.fromkeys("Duration Instant SystemTime Number".split(), (16, 8, 0)) | {"Value": (32, 8, 0)}
+CELLS = ("Cell", "UnsafeCell")
+COMPOSED = ("Option", "Result", "Either", "ManuallyDrop", *CELLS)
+POINTERS = ("Rc", "Arc", "Weak", "Box")
+# A type of no bytes whose alignment and drop are those of what is not known.
+UNKNOWN = "[String; 0]"
+
+
+class Counted(NamedTuple):
+    """The text of a type that is described, with its bytes where these are known here, and its alignment."""
+
+    text: str
+    size: int | None
+    align: int
+
+
+class Counting:
+    """Finds what counts for types in the layouts of a scope."""
+
+    def __init__(self, scope: Scope) -> None:
+        self.scope = scope
+
+    def of(self, kind: Type, parameters: tuple[str, ...]) -> Counted | None:
+        """What counts for a type with these parameters, which are described; nothing where that is not known."""
+        kind = self.scope.real(kind)
+        found = self.composed(kind, parameters)
+        return found._replace(text=kind.text) if found and not self.scope.reason(kind, ()) else found
+
+    def composed(self, kind: Type, parameters: tuple[str, ...]) -> Counted | None:
+        name, path = kind.name, "::".join(kind.path)
+        if kind.form == "reference" or (name in POINTERS and kind.parts):
+            word = "u64" if kind.form == "reference" else "Box<()>"
+            return Counted(f"({word}, u64)", 16, 8) if is_unsized(kind.parts[0]) else Counted(word, 8, 8)
+        if kind.form == "other":
+            return Counted("u64", 8, 8) if kind.text.startswith("*") else None
+        if path == name and name in parameters:
+            return Counted(name, None, 1)
+        if name in FIXED and (name == "Infallible" or self.scope.is_of_library(kind)):
+            size, align, count = FIXED[name]
+            return Counted(path + (f"<{', '.join(['()'] * count)}>" if count else ""), size, align)
+        if kind.form in ("tuple", "array") or name in COMPOSED:
+            return self.of_parts(kind, path, [self.of(part, parameters) for part in kind.parts])
+        return None if self.scope.reason(kind, ()) else Counted(kind.text, None, 8)
+
+    def of_parts(self, kind: Type, path: str, parts: list[Counted | None]) -> Counted | None:
+        """What counts for a type whose size follows from its parts."""
+        known = [part for part in parts if part]
+        if len(known) < len(parts) or len(parts) > 5:
+            return None
+        inside, (size, align) = ", ".join(part.text for part in known), laid_out(known)
+        if kind.form == "tuple":
+            return Counted(f"({inside}{',' * (len(known) == 1)})", size, align)
+        if kind.form == "array":
+            length = kind.text.rpartition("; ")[2][:-1]
+            size = size * int(length) if size is not None and length.isdigit() else None
+            return Counted(f"[{inside}; {length}]", size, align)
+        is_tagged = kind.name in ("Option", "Result", "Either")
+        return known[0] if kind.name in CELLS else Counted(f"{path}<{inside}>", *laid_out(known, int(is_tagged)))
+
+    def member(self, member: Member, parameters: tuple[str, ...]) -> list[Counted] | None:
+        """What counts for a field: nothing for a `PhantomData`, and `None` where it is not known."""
+        if member.type.name == "PhantomData":
+            return []
+        found = self.of(member.type, parameters if member.size is None else ())
+        if member.size is None or (found and found.size == member.size):
+            return [found] if found else None
+        empty = f"[{found.text}; 0]" if found else UNKNOWN
+        return [Counted(f"[u8; {member.size}]", member.size, 1), Counted(empty, 0, found.align if found else 8)]
+
+
+def laid_out(parts: list[Counted], tag: int | None = None) -> tuple[int | None, int]:
+    """The bytes and the alignment of parts: of all, or of the greatest behind a tag of some bytes."""
+    sizes, align = [part.size for part in parts if part.size is not None], max([1, *(part.align for part in parts)])
+    size = sum(sizes) if tag is None else tag + max(sizes, default=0)
+    return (-(-size // align) * align if len(sizes) == len(parts) else None), align
+
+
+def is_unsized(kind: Type) -> bool:
+    """Whether a pointer to a type has two words."""
+    return kind.name in ("str", "Path", "OsStr", "CStr") or kind.text.startswith(("dyn ", "["))
