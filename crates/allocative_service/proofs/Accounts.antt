@@ -1,65 +1,111 @@
--- The ledger after one of its accounts has changed.
-use Rattle.std.proofs.Common.{◌≡◌, ◌∙◌, ℕ, ◌+◌, false, List, Option, Some, None, refl, sym, ap, subst, nat_cmp, string_bytes, IfNone, IfSome, OnSome, String, unwrap_or, Global}
-use Rattle.allocative_service.proofs.Common.{Holding, ChangesAccount}
-use Rattle.std.specs.BTreeMap.{BTreeMap, UpdatesBy, WritesThrough}
-use Rattle.std.proofs.lemmas.Map.Steps.{set_value_same}
+-- The accounts of a ledger after one of them has changed.
+use Rattle.std.proofs.Common.{◌≡◌, ◌≢◌, ◌∙◌, ℕ, ◌+◌, ◌≤◌, Bool, false, List, Option, Some, None, refl, sym, ap, arith, subst, nat_cmp, string_bytes, IfNone, IfSome, OnErr, OnOk, Result, Ok, Err, String, unwrap_or, Global}
+use Rattle.allocative_service.proofs.Common.{Holding, ChangesAccount, is_at, lookup, remove_entry}
+use Rattle.std.specs.BTreeMap.{BTreeMap, UpdatesBy, WritesThrough, get_by_text, insert_entry}
 use Rattle.std.specs.Cmp.Lexicographic.{slice_cmp}
+use Rattle.std.specs.List.Sorted.{IsStrictlySortedBy}
+use Rattle.std.specs.Map.{keys_of, set_value}
+use Rattle.std.specs.Option.{is_some, option_and_then}
 use Rattle.std.specs.Str.{bytes_eq}
-use Rattle.std.specs.String.{string_cmp}
+use Rattle.std.specs.String.{string_cmp, string_cmp_total}
 use Rattle.std.proofs.lemmas.Bool.{false_from_ne_true}
 use Rattle.std.proofs.lemmas.Map.{update_other}
+use Rattle.std.proofs.lemmas.Map.Entries.{sum_by-insert_entry, sum_by-remove_entry, sum_by-set_value}
+use Rattle.std.proofs.lemmas.Map.Steps.{set_value_same}
 use Rattle.std.proofs.lemmas.Map.Text.{btree_map_updates_text}
 use Rattle.std.proofs.lemmas.Slice.Eq.{bytes_eq-Decides}
 use Rattle.allocative_service.specs.declared.ledger.Ledger.{Ledger}
-use Rattle.allocative_service.specs.Holding.{sum_of, bytes_at, without}
-use Rattle.allocative_service.specs.Accounts.{account_of, accounts_of, IsUnchanged, Releases}
+use Rattle.allocative_service.specs.Holding.{all_bytes, bytes_at, sum_of}
+use Rattle.allocative_service.specs.Accounts.{SameTerms}
+use Rattle.allocative_service.proofs.Sums.{had_within}
 
--- The ledger with these accounts in place of its own.
-abbrev pub with_accounts : Ledger → BTreeMap (String Global) Holding → Ledger
-with_accounts l accounts = record { alloc = l.alloc; measure = l.measure; accounts = accounts }
+-- All accounts, by their tenants' names.
+abbrev Accounts : Type 0
+Accounts = BTreeMap (String Global) Holding
 
--- Updating the map of accounts under a tenant's name changes the account of this tenant and no other.
-pub changes : (tenant : List ℕ) (now : Option Holding) (old : Ledger) (accounts : BTreeMap (String Global) Holding) → UpdatesBy string_cmp (λ k. slice_cmp nat_cmp tenant (string_bytes k)) old.accounts accounts now → ChangesAccount tenant now old (with_accounts old accounts)
-changes tenant now old accounts h = record {
+-- Whether a name is that of the tenant.
+abbrev is_tenant : List ℕ → String Global → Bool
+is_tenant tenant = is_at (λ k. slice_cmp nat_cmp tenant (string_bytes k))
+
+-- ---- one account
+-- The tenant now has this account, or none, and no other account has changed.
+pub record ChangesOne (tenant : List ℕ) (now : Option Holding) (old new : Accounts) : Type 0 where
+  pub changed : get_by_text new tenant ≡ now
+  pub others : (other : List ℕ) → other ≢ tenant → get_by_text new other ≡ get_by_text old other
+
+-- Updating the map under a tenant's name changes the account of this tenant and no other.
+pub changes : (tenant : List ℕ) (now : Option Holding) (old new : Accounts) → UpdatesBy string_cmp (λ k. slice_cmp nat_cmp tenant (string_bytes k)) old new now → ChangesOne tenant now old new
+changes tenant now old new h = record {
   changed = h.1;
   others = λ other apart.
       let differs : bytes_eq tenant other ≡ false = false_from_ne_true _ (λ same. apart (sym ((bytes_eq-Decides tenant other).0 same))) in
-      btree_map_updates_text tenant old.accounts accounts now h other ∙ update_other bytes_eq (λ (q : List ℕ). account_of q old) tenant now other differs;
-  measure = refl;
+      btree_map_updates_text tenant old new now h other ∙ update_other bytes_eq (λ (q : List ℕ). get_by_text old q) tenant now other differs;
 }
 
--- Writing through what `get_mut` lends changes the account of the tenant and no other. Where the account stays as it is, so does
--- the ledger.
-pub written : (tenant : List ℕ) (before now : Holding) (old : Ledger) (accounts : BTreeMap (String Global) Holding) → Some before ≡ account_of tenant old
-    → WritesThrough string_cmp (λ k. slice_cmp nat_cmp tenant (string_bytes k)) old.accounts now accounts
-    → ChangesAccount tenant (Some now) old (with_accounts old accounts) × (now ≡ before → IsUnchanged old (with_accounts old accounts))
-written tenant before now old accounts account w = (
-  changes tenant (Some now) old accounts (w.3 (rw (← account) refl)),
-  λ same. (w.0 ∙ set_value_same _ (accounts_of old) now (sym account ∙ ap Some (sym same)), refl),
-)
+-- A ledger whose accounts have changed so, on the same terms.
+pub in_ledger : (tenant : List ℕ) (now : Option Holding) (old new : Ledger) → ChangesOne tenant now old.accounts new.accounts → SameTerms old new → ChangesAccount tenant now old new
+in_ledger tenant now old new c same = record { changed = c.changed; others = c.others; terms = same }
 
--- Releasing an entry takes its bytes off the account of the tenant.
-pub released : (tenant : List ℕ) (number : ℕ) (before now : Holding) (old new : Ledger) (r : Option ℕ) → account_of tenant old ≡ Some before → ChangesAccount tenant (Some now) old new → r ≡ bytes_at number before → now ≡ without number before → sum_of now.entries + unwrap_or r 0 ≡ sum_of before.entries → IfSome r (λ bytes. Releases tenant number bytes old new)
-released tenant number before now old new None account change had is sum = tt
-released tenant number before now old new (Some bytes) account change had is sum = record {
-  before = before;
-  account = account;
-  had_bytes = sym had;
-  sum_is = subst (λ (h : Holding). sum_of h.entries + bytes ≡ sum_of before.entries) is sum;
-  change = subst (λ (h : Holding). ChangesAccount tenant (Some h) old new) is change;
+-- What is written through the account that `get_mut` lent: the account changes and no other. The sum of all changes by as
+-- much as that of the account. Where the account stays as it is, so do all.
+pub record Written (tenant : List ℕ) (before now : Holding) (old new : Accounts) : Type 0 where
+  pub one : ChangesOne tenant (Some now) old new
+  pub all : all_bytes new.entries + sum_of before.entries ≡ all_bytes old.entries + sum_of now.entries
+  pub same : now ≡ before → new.entries ≡ old.entries
+
+pub written : (tenant : List ℕ) (before now : Holding) (old new : Accounts) → Some before ≡ get_by_text old tenant
+    → WritesThrough string_cmp (λ k. slice_cmp nat_cmp tenant (string_bytes k)) old now new → Written tenant before now old new
+written tenant before now old new account w = record {
+  one = changes tenant (Some now) old new (w.3 (rw (← account) refl));
+  all = rw w.0 (sum_by-set_value (λ (h : Holding). sum_of h.entries) (is_tenant tenant) old.entries before now (sym account));
+  same = λ is. w.0 ∙ set_value_same _ old.entries now (sym account ∙ ap Some (sym is));
 }
 
 -- Inserting an account under a tenant's name changes the account of this tenant and no other.
-pub opens : (tenant : List ℕ) (name : String Global) (now : Holding) (old : Ledger) (accounts : BTreeMap (String Global) Holding) → string_bytes name ≡ tenant → UpdatesBy string_cmp (string_cmp name) old.accounts accounts (Some now) → ChangesAccount tenant (Some now) old (with_accounts old accounts)
-opens tenant name now old accounts same h = subst (λ (t : List ℕ). ChangesAccount t (Some now) old (with_accounts old accounts)) same (changes (string_bytes name) (Some now) old accounts h)
+pub opens : (tenant : List ℕ) (name : String Global) (now : Holding) (old new : Accounts) → string_bytes name ≡ tenant → UpdatesBy string_cmp (string_cmp name) old new (Some now) → ChangesOne tenant (Some now) old new
+opens tenant name now old new same h = subst (λ (t : List ℕ). ChangesOne t (Some now) old new) same (changes (string_bytes name) (Some now) old new h)
 
--- What holds where the result is None may be replaced by what follows from it.
+-- ---- the sum of all accounts
+-- A new account without bytes leaves the sum as it is.
+pub all_bytes-open : (tenant : List ℕ) (name : String Global) (now : Holding) (old : Accounts) → string_bytes name ≡ tenant → get_by_text old tenant ≡ None → sum_of now.entries ≡ 0 → IsStrictlySortedBy string_cmp (keys_of old.entries)
+    → all_bytes (insert_entry string_cmp old.entries name now) ≡ all_bytes old.entries
+all_bytes-open tenant name now old same none empty sorted =
+    let here : lookup (is_at (string_cmp name)) old.entries ≡ None = subst (λ (t : List ℕ). get_by_text old t ≡ None) (sym same) none in
+    let sum = rw here at (sum_by-insert_entry (λ (h : Holding). sum_of h.entries) string_cmp_total old.entries name now sorted) in
+    omega (arith, sum, empty)
+
+-- Without one account the sum is less by its bytes.
+pub all_bytes-close : (tenant : List ℕ) (old : Accounts) (h : Holding) → Some h ≡ get_by_text old tenant → all_bytes (remove_entry (is_tenant tenant) old.entries) + sum_of h.entries ≡ all_bytes old.entries
+all_bytes-close tenant old h account = rw (sym account) at (sum_by-remove_entry (λ (h : Holding). sum_of h.entries) (is_tenant tenant) old.entries)
+
+-- The bytes of one account are part of the sum.
+pub account_within : (tenant : List ℕ) (old : Accounts) (h : Holding) → get_by_text old tenant ≡ Some h → sum_of h.entries ≤ all_bytes old.entries
+account_within tenant old h account = omega (arith, all_bytes-close tenant old h (sym account))
+
+-- The bytes under a number of an account are part of its bytes.
+pub had_in_account : (number had : ℕ) (o : Option Holding) → had ≡ unwrap_or (option_and_then (bytes_at number) o) 0 → IfSome o (λ h. had ≤ sum_of h.entries)
+had_in_account number had None is = tt
+had_in_account number had (Some h) is = rw is (had_within number h.entries)
+
+-- ---- results
+-- What holds holds also where the result is an Err, or None.
+pub OnErr-always : {T E P : Type 0} (r : Result T E) → P → OnErr r P
+OnErr-always (Ok x) h = tt
+OnErr-always (Err e) h = h
+
+pub IfNone-always : {T P : Type 0} (r : Option T) → P → IfNone r P
+IfNone-always None h = h
+IfNone-always (Some x) h = tt
+
 pub IfNone-weaker : {T P Q : Type 0} (r : Option T) → (P → Q) → IfNone r P → IfNone r Q
 IfNone-weaker None f h = f h
 IfNone-weaker (Some x) f h = tt
 
--- Taking an account out of the map changes it and no other.
-pub closes : (tenant : List ℕ) (old : Ledger) (accounts : BTreeMap (String Global) Holding) (r : Option Holding) → UpdatesBy string_cmp (λ k. slice_cmp nat_cmp tenant (string_bytes k)) old.accounts accounts None
-    → OnSome r (ChangesAccount tenant None old (with_accounts old accounts))
-closes tenant old accounts None h = tt
-closes tenant old accounts (Some now) h = changes tenant None old accounts h
+pub none_where : {T : Type 0} (o : Option T) → is_some o ≡ false → o ≡ None
+none_where None h = refl
+none_where (Some x) h = absurd cc
+
+-- What follows from either outcome.
+pub either_way : {T E P Q G : Type 0} (r : Result T E) → OnOk r P → OnErr r Q → (P → G) → (Q → G) → G
+either_way (Ok x) p q f g = f p
+either_way (Err e) p q f g = g q

@@ -24,14 +24,14 @@ less_needed : {K V : Type 0} (room : ℕ) (k : K × Kept V) (others gone : Entri
 less_needed room k others [] fits h = tt
 less_needed room k others (e ∷ more) fits h = omega (arith, fits, h, bytes_of-cons k others)
 
-module _ {F K V : Type 0} (step : F → K → V → F → Type 0) (went : F) (room : ℕ) where
+module _ {F K V : Type 0} (step : F → K → V → F → Type 0) (on_evict : F) (room : ℕ) where
   module _ (before : Entries K V) where
     -- Evicting leaves these entries, and the closure in this state.
     pub record Evicts (after : Entries K V) (now : F) : Type 0 where
       pub gone : Entries K V
       pub parts : before ≡ after ++ gone
       pub needed : IsNeeded room after gone
-      pub handed : HandsBack step went gone now
+      pub handed : HandsBack step on_evict gone now
 
     -- Removing the last entry is one step of evicting, where there is no room for all.
     pub goes : (es : Entries K V) (f : F) (e : K × Kept V) → Evicts es f → room < bytes_of es → last_entry es ≡ Some e
@@ -56,7 +56,7 @@ module _ {F K V : Type 0} (step : F → K → V → F → Type 0) (went : F) (ro
         )
 
   -- Where the first entry has room by itself, it stays, and the others are evicted as far as it leaves no room for them.
-  pub first_stays : (k : K × Kept V) (rest after : Entries K V) → k.1.bytes ≤ room → KeepsRecent step went room (k ∷ rest) after → (others : Entries K V) × (after ≡ k ∷ others) × KeepsRecent step went (room - k.1.bytes) rest others
+  pub first_stays : (k : K × Kept V) (rest after : Entries K V) → k.1.bytes ≤ room → KeepsRecent step on_evict room (k ∷ rest) after → (others : Entries K V) × (after ≡ k ∷ others) × KeepsRecent step on_evict (room - k.1.bytes) rest others
   first_stays k rest [] fits r = absurd (omega (arith, fits, subst (λ (l : Entries K V). IsNeeded room [] l) (sym r.parts) r.needed))
   first_stays k rest (x ∷ others) fits r =
       let whole : k ∷ rest ≡ x ∷ (others ++ r.gone) = r.parts in
@@ -66,8 +66,8 @@ module _ {F K V : Type 0} (step : F → K → V → F → Type 0) (went : F) (ro
       (others, ap (λ y. y ∷ others) first, record { gone = r.gone; parts = parts; needed = less_needed room k others r.gone fits needed; last = r.last; handed = r.handed })
 
 -- What holds of all entries holds of those that stay.
-pub All-recent : {F K V : Type 0} (step : F → K → V → F → Type 0) (went : F) (room : ℕ) (P : Kept V → Type 0) (before after : Entries K V) → KeepsRecent step went room before after → All P (values_of before) → All P (values_of after)
-All-recent {F} {K} {V} step went room P before after recent h =
+pub All-recent : {F K V : Type 0} (step : F → K → V → F → Type 0) (on_evict : F) (room : ℕ) (P : Kept V → Type 0) (before after : Entries K V) → KeepsRecent step on_evict room before after → All P (values_of before) → All P (values_of after)
+All-recent {F} {K} {V} step on_evict room P before after recent h =
     let parted : All P (values_of (after ++ recent.gone)) = subst (λ (l : Entries K V). All P (values_of l)) recent.parts h in
     let split : values_of (after ++ recent.gone) ≡ values_of after ++ values_of recent.gone = map-append (λ (e : K × Kept V). e.1) after recent.gone in
     subst (All P) (take-append_seam (values_of after) (values_of recent.gone)) (All-take P _ _ (subst (All P) split parted))

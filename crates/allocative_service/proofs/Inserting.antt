@@ -33,30 +33,30 @@ module _ {K V : Type 0} where
 module _ {V : Type 0} (size : Option ℕ) (may_show : V → Forest → Type 0) where
   module _ {F K : Type 0} (eq : K → K → Bool) (step : F → K → V → F → Type 0) where
     -- Putting a value first and then evicting others is an insertion.
-    pub insertion : (went : F) (key : K) (v : V) (n : ℕ) (old : Bounded K V) (put now : Entries K V) → IsFigure size may_show old.measure v n → n ≤ old.bound
-        → put ≡ (stored_key eq key old.entries, kept v n) ∷ remove_entry (eq key) old.entries → KeepsRecent step went old.bound put now → bytes_of now ≤ old.bound
-        → Inserts size may_show eq step went key v old (with_entries old now)
-    insertion went key v n old put now figure fits is recent within =
+    pub insertion : (on_evict : F) (key : K) (v : V) (n : ℕ) (old : Bounded K V) (put now : Entries K V) → IsFigure size may_show old.measure v n → n ≤ old.bound
+        → put ≡ (stored_key eq key old.entries, kept v n) ∷ remove_entry (eq key) old.entries → KeepsRecent step on_evict old.bound put now → bytes_of now ≤ old.bound
+        → Inserts size may_show eq step on_evict key v old (with_entries old now)
+    insertion on_evict key v n old put now figure fits is recent within =
         let k : K × Kept V = (stored_key eq key old.entries, kept v n) in
-        let e = first_stays step went old.bound k (remove_entry (eq key) old.entries) now fits (subst (λ (l : Entries K V). KeepsRecent step went old.bound l now) is recent) in
+        let e = first_stays step on_evict old.bound k (remove_entry (eq key) old.entries) now fits (subst (λ (l : Entries K V). KeepsRecent step on_evict old.bound l now) is recent) in
         let sum = ap (λ (l : Entries K V). bytes_of l) e.1 ∙ bytes_of-cons k e.0 in
         record { bytes = n; others = e.0; figure = figure; fits = omega (arith, sum, within); recent = e.2; is = ap (λ (l : Entries K V). with_entries old l) e.1 }
 
     -- After an insertion the cache is still within its bound.
-    pub Inserts-bounded : (went : F) (key : K) (v : V) (old new : Bounded K V) → Inserts size may_show eq step went key v old new → IsBounded size may_show old → IsBounded size may_show new
-    Inserts-bounded went key v old new i h =
+    pub Inserts-bounded : (on_evict : F) (key : K) (v : V) (old new : Bounded K V) → Inserts size may_show eq step on_evict key v old new → IsBounded size may_show old → IsBounded size may_show new
+    Inserts-bounded on_evict key v old new i h =
         let P = IsMeasured size may_show old.measure in
-        let others = All-recent step went (old.bound - i.bytes) P _ _ i.recent (All-map-remove_entry (eq key) (λ (e : K × Kept V). e.1) P old.entries h.measured) in
+        let others = All-recent step on_evict (old.bound - i.bytes) P _ _ i.recent (All-map-remove_entry (eq key) (λ (e : K × Kept V). e.1) P old.entries h.measured) in
         rw i.is (record {
           within = rw sum_by-cons i.fits;
           measured = All-cons P (kept v i.bytes) (values_of i.others) i.figure others;
         })
 
     -- After evictions down to another bound the cache is within that one.
-    pub evicts-bounded : (went : F) (bound : ℕ) (old : Bounded K V) (now : Entries K V) → bytes_of now ≤ bound → KeepsRecent step went bound old.entries now → IsBounded size may_show old → IsBounded size may_show (bounded now bound old.measure)
-    evicts-bounded went bound old now within recent h = record {
+    pub evicts-bounded : (on_evict : F) (bound : ℕ) (old : Bounded K V) (now : Entries K V) → bytes_of now ≤ bound → KeepsRecent step on_evict bound old.entries now → IsBounded size may_show old → IsBounded size may_show (bounded now bound old.measure)
+    evicts-bounded on_evict bound old now within recent h = record {
       within = within;
-      measured = All-recent step went bound (IsMeasured size may_show old.measure) _ _ recent h.measured;
+      measured = All-recent step on_evict bound (IsMeasured size may_show old.measure) _ _ recent h.measured;
     }
 
   -- After an entry is removed the cache is still within its bound.

@@ -1,5 +1,6 @@
 pub mod Common
 mod Accounts
+mod Credits
 mod Each
 mod Evicting
 mod Inserting

@@ -1,10 +1,14 @@
 -- What a ledger holds, and how its calls change it.
-use Rattle.std.specs.Prelude.{◌≡◌, ◌≢◌, ℕ, ◌+◌, List, Option, Some, String}
+use Rattle.std.specs.Prelude.{◌≡◌, ◌≢◌, ℕ, ◌+◌, ◌^◌, ◌<◌, ◌≤◌, List, Option, Some, String, unwrap_or}
 use Rattle.std.specs.BTreeMap.{get_by_text}
 use Rattle.std.specs.Global.{Global}
+use Rattle.std.specs.Option.{option_and_then}
 use Rattle.allocative_service.specs.declared.ledger.Ledger.{Ledger}
+use Rattle.allocative_service.specs.declared.ledger.rejection.Rejection.{Rejection}
+use Rattle.allocative_service.specs.declared.ledger.rejection.Rejection.TheVariants.{LedgerFull, NotKept, TooLarge}
 use Rattle.allocative_service.specs.declared.measure.Measure.{Measure}
-use Rattle.allocative_service.specs.Holding.{Holding, sum_of, bytes_at, with_limit, without, Puts}
+use Rattle.allocative_service.specs.Holding.{Holding, all_bytes, bytes_at, sum_of, without, Puts}
+use Rattle.allocative_service.specs.Rejected.{RejectsBytes}
 
 -- All accounts, each with its tenant's name.
 abbrev pub accounts_of : Ledger → List (String Global × Holding)
@@ -14,19 +18,42 @@ accounts_of l = l.accounts.entries
 abbrev pub account_of : List ℕ → Ledger → Option Holding
 account_of tenant l = get_by_text l.accounts tenant
 
+-- The bytes of the tenant's entry under the number.
+abbrev pub entry_of : List ℕ → ℕ → Ledger → Option ℕ
+entry_of tenant number l = option_and_then (bytes_at number) (account_of tenant l)
+
 -- Which bytes of its values the ledger counts.
 abbrev pub measure_of : Ledger → Measure
 measure_of l = l.measure
 
--- Both ledgers have the same accounts and the same measure.
-abbrev pub IsUnchanged : Ledger → Ledger → Type 0
-IsUnchanged old new = (accounts_of new ≡ accounts_of old) × (measure_of new ≡ measure_of old)
+-- The most bytes that all accounts may have together.
+abbrev pub limit_of : Ledger → ℕ
+limit_of l = l.limit
 
--- The tenant now has this account, or none. The accounts of all other tenants and the measure are unchanged.
+-- The bytes of all accounts together.
+abbrev pub total_of : Ledger → ℕ
+total_of l = all_bytes (accounts_of l)
+
+-- Both ledgers have the same measure and the same limit.
+abbrev pub SameTerms : Ledger → Ledger → Type 0
+SameTerms old new = (measure_of new ≡ measure_of old) × (limit_of new ≡ limit_of old)
+
+-- Both ledgers have the same accounts, the same measure and the same limit.
+abbrev pub IsUnchanged : Ledger → Ledger → Type 0
+IsUnchanged old new = (accounts_of new ≡ accounts_of old) × SameTerms old new
+
+-- The tenant now has this account, or none. The accounts of all other tenants, the measure and the limit of the ledger
+-- are unchanged.
 pub record ChangesAccount (tenant : List ℕ) (now : Option Holding) (old new : Ledger) : Type 0 where
   pub changed : account_of tenant new ≡ now
   pub others : (other : List ℕ) → other ≢ tenant → account_of other new ≡ account_of other old
-  pub measure : measure_of new ≡ measure_of old
+  pub terms : SameTerms old new
+
+-- The tenant's account is now what f makes of it, and no other changes.
+pub record MapsAccount (tenant : List ℕ) (f : Holding → Holding) (old new : Ledger) : Type 0 where
+  pub before : Holding
+  pub account : account_of tenant old ≡ Some before
+  pub change : ChangesAccount tenant (Some (f before)) old new
 
 -- In the tenant's account, the number now has these bytes in place of `had`, and all bytes of that account together are
 -- `total`.
@@ -36,18 +63,24 @@ pub record Enters (tenant : List ℕ) (number bytes : ℕ) (had : Option ℕ) (t
   pub account : account_of tenant old ≡ Some before
   pub puts : Puts number bytes had total before after
   pub change : ChangesAccount tenant (Some after) old new
+  pub all_is : total_of new + unwrap_or had 0 ≡ total_of old + bytes
 
--- The number had these bytes in the tenant's account, and its entry is gone. The sum of the account is less by exactly
--- these bytes.
+-- The number had these bytes in the tenant's account, and its entry is gone. The sum of the account, and that of all
+-- accounts, is less by exactly these bytes.
 pub record Releases (tenant : List ℕ) (number bytes : ℕ) (old new : Ledger) : Type 0 where
   pub before : Holding
   pub account : account_of tenant old ≡ Some before
   pub had_bytes : bytes_at number before ≡ Some bytes
   pub sum_is : sum_of (without number before).entries + bytes ≡ sum_of before.entries
   pub change : ChangesAccount tenant (Some (without number before)) old new
+  pub all_is : total_of new + bytes ≡ total_of old
 
--- The tenant's account has this limit, and all else of it is unchanged.
-pub record SetsLimit (tenant : List ℕ) (limit : ℕ) (old new : Ledger) : Type 0 where
-  pub before : Holding
-  pub account : account_of tenant old ≡ Some before
-  pub change : ChangesAccount tenant (Some (with_limit limit before)) old new
+-- Replacing the `had` bytes of one entry of this account by `bytes` is rejected. The new sum of all accounts exceeds a
+-- word, or the account rejects it, or its new sum is within its limit and that of all accounts exceeds the ledger's.
+abbrev pub RejectsPut : Ledger → ℕ → ℕ → Holding → Rejection → Type 0
+RejectsPut l had bytes h TooLarge = 2 ^ 64 + had ≤ total_of l + bytes
+RejectsPut l had bytes h (LedgerFull b n) = (b + had ≡ total_of l + bytes) × (n ≡ limit_of l) × (limit_of l < b)
+    × (sum_of h.entries + bytes ≤ h.limit + had)
+RejectsPut l had bytes h NotKept =
+    RejectsBytes had bytes h NotKept × (total_of l + bytes ≤ limit_of l + had)
+RejectsPut l had bytes h r = RejectsBytes had bytes h r

@@ -1,5 +1,5 @@
 -- The differences between two profiles.
-use Rattle.std.specs.Prelude.{◌≡◌, ℕ, ◌-◌, ◌≤◌, ◌==◌, Bool, ◌&&◌, cond, nat_lt, List, ◌++◌, ◌∷◌, [], length, map, filter, flat_map, min, All, AllPairs, codes, decimal}
+use Rattle.std.specs.Prelude.{◌≡◌, ℕ, ◌+◌, ◌-◌, ◌^◌, ◌<◌, ◌≤◌, ◌==◌, Bool, ◌&&◌, cond, nat_lt, List, ◌++◌, ◌∷◌, [], length, map, filter, flat_map, min, sum_by, All, AllPairs, codes, decimal}
 use Rattle.std.specs.List.Sorted.{IsPermutation}
 use Rattle.std.specs.FinMap.{keys}
 use Rattle.allocative.specs.Path.{Path, is_same_path}
@@ -40,15 +40,37 @@ is_kind Shrank c = nat_lt 0 c.later && nat_lt c.later c.earlier
 is_kind Came c = c.earlier == 0
 is_kind Went c = c.later == 0
 
--- The number of bytes by which a path grew, which is 0 where it shrank.
+-- The number of bytes by which a path grew, which is 0 if it shrank.
 abbrev pub growth : Changed → ℕ
 growth c = c.later - c.earlier
+
+-- The number of bytes by which a path shrank, which is 0 if it grew.
+abbrev pub shrinkage : Changed → ℕ
+shrinkage c = c.earlier - c.later
 
 -- Whether a path has more bytes after than before.
 abbrev pub is_grown : Changed → Bool
 is_grown c = nat_lt c.earlier c.later
 
--- The list `top` has n of the changes that grew, or all where there are fewer. It is ordered by growth, the greatest
+-- ---- by growth
+-- c grew at least as much as d, or shrank at most as much.
+abbrev pub GrewAsMuch : Changed → Changed → Type 0
+GrewAsMuch c d = d.later + c.earlier ≤ c.later + d.earlier
+
+-- A number that is the less the more a path grew.
+abbrev pub rank : Changed → ℕ
+rank c = 2 ^ 64 - 1 - c.later + c.earlier
+
+-- The later bytes of a change fit a word.
+abbrev pub IsWord : Change → Type 0
+IsWord c = c.later < 2 ^ 64
+
+-- The list has each of the changes once, the greatest growth first and the greatest shrinkage last.
+pub record IsByGrowth (cs list : List Changed) : Type 0 where
+  pub same : IsPermutation cs list
+  pub falling : AllPairs GrewAsMuch list
+
+-- The list `top` has n of the changes that grew, or all if there are fewer. It is ordered by growth, the greatest
 -- first, and none of the rest grew more than any of it.
 pub record GrewMost (n : ℕ) (cs top : List Changed) : Type 0 where
   pub rest : List Changed
@@ -57,32 +79,22 @@ pub record GrewMost (n : ℕ) (cs top : List Changed) : Type 0 where
   pub falling : AllPairs (λ c d. growth d ≤ growth c) top
   pub most : All (λ c. All (λ d. growth d ≤ growth c) rest) top
 
+-- ---- the text
 -- The line of a change: the bytes before and after, and the path.
 abbrev pub line_of : Changed → List ℕ
 line_of c = decimal c.earlier ++ codes " -> " ++ decimal c.later ++ 32 ∷ joined c.path ++ 10 ∷ []
-
--- The heading of the changes of a kind.
-abbrev pub heading_of : Kind → List ℕ
-heading_of Grew = codes "grew\n"
-heading_of Shrank = codes "shrank\n"
-heading_of Came = codes "came\n"
-heading_of Went = codes "went\n"
 
 -- The lines of some changes.
 abbrev pub lines_of : List Changed → List ℕ
 lines_of cs = flat_map line_of cs
 
--- The changes of a kind, below their heading.
-unfoldable pub section_of : Kind → List Changed → List ℕ
-section_of kind cs = heading_of kind ++ lines_of (filter (is_kind kind) cs)
+-- The line of all changes together: the bytes of those that grew, and of those that shrank.
+abbrev pub total_line : List Changed → List ℕ
+total_line cs = decimal (sum_by growth cs) ++ (codes " bytes more, "
+    ++ (decimal (sum_by shrinkage cs) ++ codes " bytes less\n"))
 
--- Up to ten changes that grew, such that none of the rest grew more, are appended below their heading.
-pub record AppendsMost (cs : List Changed) (before after : List ℕ) : Type 0 where
-  pub top : List Changed
-  pub most : GrewMost 10 cs top
-  pub is : after ≡ before ++ (codes "grew most\n" ++ lines_of top)
-
--- The text has the changes of each kind, and below them up to ten that grew, such that none of the rest grew more.
-abbrev pub Reports : List Changed → List ℕ → Type 0
-Reports cs text =
-    AppendsMost cs (section_of Grew cs ++ section_of Shrank cs ++ section_of Came cs ++ section_of Went cs) text
+-- The text has the total of the changes, and below it the line of each by growth.
+pub record Reports (cs : List Changed) (text : List ℕ) : Type 0 where
+  pub list : List Changed
+  pub by_growth : IsByGrowth cs list
+  pub is : text ≡ total_line cs ++ lines_of list

@@ -1,6 +1,8 @@
 -- The model of a cache, and what its calls do.
 use Rattle.std.specs.Prelude.{◌≡◌, ℕ, ◌+◌, ◌-◌, ◌<◌, ◌≤◌, Bool, Option, Some, List, [], ◌∷◌, ◌++◌, All, sum_by, option_map, ⊤}
+use denote.Param.Members.{Once}
 use Rattle.std.specs.Borrow.{Fml, RattleType, MutBor, follows_so}
+use Rattle.std.specs.Fn.{FnOnceReturnsAtMut}
 use Rattle.std.specs.Map.{lookup, lookup_entry, remove_entry, values_of}
 use Rattle.std.specs.Option.{option_map_or}
 use mathlib.Core.Option.{none}
@@ -61,6 +63,16 @@ without test c = with_entries c (remove_entry test c.entries)
 abbrev pub ends_as : (R : RattleType) → MutBor R.Denot → R.Denot → Fml
 ends_as R c end = follows_so R R c.ghost_name none (λ _ _. ⊤) (λ n. n ≡ end)
 
+-- ---- closures
+-- One call of a closure that takes a key with its value and returns nothing: it goes from f to g.
+abbrev pub step_of : {F K V : Type 0} → (F → K → V → Unit {0} → F → Type 0) → F → K → V → F → Type 0
+step_of step f k v g = step f k v tt g
+
+-- The closure may change v to w.
+abbrev pub ChangesTo : {C V : Type 0} → Once C (MutBor V × Unit {0}) (Unit {0} × (MutBor V × Unit {0})) → C → V → V
+    → Type 0
+ChangesTo step change v w = FnOnceReturnsAtMut step change v tt w
+
 -- ---- evicted entries
 -- The first of the evicted entries has no room beside those that stay, or nothing was evicted.
 abbrev pub IsNeeded : {K V : Type 0} → ℕ → Entries K V → Entries K V → Type 0
@@ -74,13 +86,13 @@ HandsBack {F} step f (e ∷ es) g = (h : F) × HandsBack step f es h × step h e
 
 -- The entries after are the most recently used of those before. No fewer could be evicted: the first of the evicted
 -- ones has no room beside those that stay. The closure was called once with each of them.
-pub record KeepsRecent {F K V : Type 0} (step : F → K → V → F → Type 0) (went : F) (room : ℕ)
+pub record KeepsRecent {F K V : Type 0} (step : F → K → V → F → Type 0) (on_evict : F) (room : ℕ)
     (before after : Entries K V) : Type 0 where
   pub gone : Entries K V
   pub parts : before ≡ after ++ gone
   pub needed : IsNeeded room after gone
   pub last : F
-  pub handed : HandsBack step went gone last
+  pub handed : HandsBack step on_evict gone last
 
 module _ {V : Type 0} (size : Option ℕ) (may_show : V → Forest → Type 0) where
   -- ---- the figures
@@ -110,22 +122,23 @@ module _ {V : Type 0} (size : Option ℕ) (may_show : V → Forest → Type 0) w
       -- The key now has v with a figure of v, as the most recently used entry. The old entry of the key is gone. Of the
       -- others the least recently used are evicted, only as many as the bound requires, and the closure was called once
       -- with each.
-      pub record Inserts (went : F) (key : K) (v : V) (old new : Bounded K V) : Type 0 where
+      pub record Inserts (on_evict : F) (key : K) (v : V) (old new : Bounded K V) : Type 0 where
         pub bytes : ℕ
         pub others : Entries K V
         pub figure : IsFigure old.measure v bytes
         pub fits : bytes + bytes_of others ≤ old.bound
-        pub recent : KeepsRecent step went (old.bound - bytes) (remove_entry (eq key) old.entries) others
+        pub recent : KeepsRecent step on_evict (old.bound - bytes) (remove_entry (eq key) old.entries) others
         pub is : new ≡ with_entries old ((stored_key eq key old.entries, kept v bytes) ∷ others)
 
       -- The value of the key that passes the test was changed as `changed` says, measured again and inserted.
-      pub record Changes (went : F) (test : K → Bool) (changed : V → V → Type 0) (old new : Bounded K V) : Type 0 where
-        pub key : K
-        pub had : Kept V
-        pub value : V
-        pub found : lookup_entry test old.entries ≡ Some (key, had)
-        pub changes : changed had.value value
-        pub inserts : Inserts went key value (without test old) new
+      pub record Changes (on_evict : F) (test : K → Bool) (changed : V → V → Type 0) (old new : Bounded K V) : Type 0
+        where
+          pub key : K
+          pub had : Kept V
+          pub value : V
+          pub found : lookup_entry test old.entries ≡ Some (key, had)
+          pub changes : changed had.value value
+          pub inserts : Inserts on_evict key value (without test old) new
 
     -- The value of the key that passes the test was changed as `changed` says, and inserting it again is refused. The
     -- refusal has the key and the changed value.

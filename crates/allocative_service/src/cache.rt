@@ -2,11 +2,10 @@
 //! its `measure`.
 ghost use Rattle.std.specs.Prelude.{◌≡◌, ◌+◌, ◌-◌, ◌^◌, ◌≤◌, Some, [], ◌∷◌, length, OnOk, OnErr, IfOk, IfErr, IfNone, MatchBool, Err, None, option_copied, ◌↔◌, IsTrue, is_some, option_map};
 ghost use Rattle.std.specs.Borrow.{sem};
-ghost use Rattle.std.specs.Fn.{FnOnceReturnsAtMut};
 ghost use Rattle.std.specs.List.{IsDistinct};
 ghost use Rattle.std.specs.Map.{lookup_entry, remove_entry, keys_of};
 ghost use Rattle.std.specs.Map.Iter.{ShowsInOrder, deref_pair};
-ghost use Rattle.allocative_service.specs.Entries.{bytes_of, KeepsRecent, bounded, with_entries, IsBounded, Inserts, Changes, RefusesInsert, RefusesChange, stored_key, value_at, used, without, ends_as};
+ghost use Rattle.allocative_service.specs.Entries.{bytes_of, KeepsRecent, bounded, with_entries, IsBounded, Inserts, Changes, IsFigure, RefusesInsert, RefusesChange, stored_key, value_at, used, without, ends_as, step_of, ChangesTo};
 
 pub mod error;
 
@@ -27,7 +26,7 @@ pub struct Kept<V> {
     pub bytes: usize,
 }
 
-/// A map whose values have together at most as many declared bytes as its bound. Where a new value needs room, the
+/// A map whose values have together at most as many declared bytes as its bound. When a new value needs room, the
 /// least recently used values are evicted, and each of them is handed back to the caller.
 #[derive(Drop)]
 pub struct BoundedCache<K: Eq + Hash, V: Allocative + Described> {
@@ -83,11 +82,11 @@ fn evict<K: Eq + Hash, V: Drop, F: FnMut(K, V)>(
     entries: &mut LruCache<K, Kept<V>>,
     bytes: u128,
     room: usize,
-    mut went: F,
+    mut on_evict: F,
 ) -> usize
-    requires callable { F.IsAlwaysCallable went }
+    requires callable { F.IsAlwaysCallable on_evict }
     requires bytes { bytes ≡ bytes_of entries.old.entries }
-    ensures recent { KeepsRecent (λ f k v g. F.step f k v tt g) went room entries.old.entries entries.new.entries }
+    ensures recent { KeepsRecent (step_of F.step) on_evict room entries.old.entries entries.new.entries }
     ensures bytes { result ≡ bytes_of entries.new.entries }
     ensures fits { result ≤ room }
     ensures capacity { entries.new.cap ≡ entries.old.cap }
@@ -98,7 +97,7 @@ fn evict<K: Eq + Hash, V: Drop, F: FnMut(K, V)>(
             return 0;
         };
         left = left.saturating_sub(gone.bytes as u128);
-        went(key, gone.value);
+        on_evict(key, gone.value);
     }
     left as usize
 }
@@ -121,21 +120,21 @@ impl<K: Eq + Hash + Drop, V: Allocative + Described> BoundedCache<K, V> {
     }
 
     /// Measures the value and inserts it under the key, as the most recently used. It returns the value that was there
-    /// before. Of the others the least recently used are evicted, no more than necessary. Each is passed to `went` with
-    /// its key, the least recently used first.
+    /// before. Of the others the least recently used are evicted, no more than necessary. Each is passed to `on_evict`
+    /// with its key, the least recently used first.
     ///
-    /// The error is `TooLarge` where the value alone exceeds the bound, `NotMeasured` where `Measure::size_of` returns an
-    /// error, and `Memory` where the value is within the bound and memory runs out. The key and the value come with the
+    /// The error is `NotMeasured` if `Measure::size_of` returns an error, `TooLarge` if the value alone exceeds the
+    /// bound, and `Memory` if the value is within the bound and memory runs out. The key and the value come with the
     /// error, and the cache is unchanged.
     pub fn insert<F: FnMut(K, V)>(
         &mut self,
         key: K,
         value: V,
-        went: F,
+        on_evict: F,
     ) -> Result<Option<V>, Refused<K, V>>
-        requires { F.IsAlwaysCallable went }
+        requires { F.IsAlwaysCallable on_evict }
         ensures ok { OnOk result
-            (Inserts V.size V.may_show K.eq (λ f k v g. F.step f k v tt g) went key value self.old self.new) }
+            (Inserts V.size V.may_show K.eq (step_of F.step) on_evict key value self.old self.new) }
         ensures had { IfOk result (λ had. had ≡ value_at (K.eq key) self.old.entries) }
         ensures refused { IfErr result
             (λ r. RefusesInsert V.size V.may_show V.is_exact value self.old.measure self.old.bound r.error) }
@@ -143,30 +142,36 @@ impl<K: Eq + Hash + Drop, V: Allocative + Described> BoundedCache<K, V> {
         ensures err { OnErr result (self.new ≡ self.old) }
         ensures bounded { IsBounded V.size V.may_show self.new }
     {
+        let (error, key, value) = match self.figure_of(&value) {
+            Ok(bytes) => match put(&mut self.entries, key, Kept { value, bytes }) {
+                Ok((had, replaced)) => {
+                    let all = (self.bytes - replaced) as u128 + bytes as u128;
+                    self.bytes = evict(&mut self.entries, all, self.bound, on_evict);
+                    return Ok(had);
+                }
+                Err(AllocFailed { value: (key, kept) }) => (CacheError::Memory, key, kept.value),
+            },
+            Err(error) => (error, key, value),
+        };
+        Err(Refused { error, key, value })
+    }
+
+    /// The declared bytes of a value, if they are within the bound. The error is `NotMeasured` or `TooLarge`.
+    fn figure_of(&self, value: &V) -> Result<usize, CacheError>
+        ensures figure { IfOk result (IsFigure V.size V.may_show self.now.measure value.now) }
+        ensures fits { IfOk result (λ bytes. bytes ≤ self.now.bound) }
+        ensures refused { IfErr result
+            (RefusesInsert V.size V.may_show V.is_exact value.now self.now.measure self.now.bound) }
+    {
         let bound = self.bound;
-        let bytes = match self.measure.size_of(self.alloc, &value) {
+        let bytes = match self.measure.size_of(self.alloc, value) {
             Ok(bytes) => bytes,
-            Err(refusal) => {
-                let error = CacheError::NotMeasured(refusal);
-                return Err(Refused { error, key, value });
-            }
+            Err(refusal) => return Err(CacheError::NotMeasured(refusal)),
         };
         if bytes > bound {
-            let error = CacheError::TooLarge { bytes, bound };
-            return Err(Refused { error, key, value });
+            return Err(CacheError::TooLarge { bytes, bound });
         }
-        match put(&mut self.entries, key, Kept { value, bytes }) {
-            Ok((had, replaced)) => {
-                let all = (self.bytes - replaced) as u128 + bytes as u128;
-                self.bytes = evict(&mut self.entries, all, bound, went);
-                Ok(had)
-            }
-            Err(AllocFailed { value: (key, kept) }) => {
-                let error = CacheError::Memory;
-                let value = kept.value;
-                Err(Refused { error, key, value })
-            }
-        }
+        Ok(bytes)
     }
 
     /// Removes the key and returns it with its value. Where there is no such key, it returns None and nothing changes.
@@ -190,15 +195,15 @@ impl<K: Eq + Hash + Drop, V: Allocative + Described> BoundedCache<K, V> {
         self.bytes = 0;
     }
 
-    /// Replaces the bound. The least recently used values are evicted, no more than necessary. Each is passed to `went`
-    /// with its key, the least recently used first.
-    pub fn set_bound<F: FnMut(K, V)>(&mut self, bound: usize, went: F)
-        requires { F.IsAlwaysCallable went }
-        ensures recent { KeepsRecent (λ f k v g. F.step f k v tt g) went bound self.old.entries self.new.entries }
+    /// Replaces the bound. The least recently used values are evicted, no more than necessary. Each is passed to
+    /// `on_evict` with its key, the least recently used first.
+    pub fn set_bound<F: FnMut(K, V)>(&mut self, bound: usize, on_evict: F)
+        requires { F.IsAlwaysCallable on_evict }
+        ensures recent { KeepsRecent (step_of F.step) on_evict bound self.old.entries self.new.entries }
         ensures set { self.new ≡ bounded self.new.entries bound self.old.measure }
         ensures bounded { IsBounded V.size V.may_show self.new }
     {
-        self.bytes = evict(&mut self.entries, self.bytes as u128, bound, went);
+        self.bytes = evict(&mut self.entries, self.bytes as u128, bound, on_evict);
         self.bound = bound;
     }
 
@@ -211,17 +216,16 @@ impl<K: Eq + Hash + Drop, V: Allocative + Described> BoundedCache<K, V> {
         &mut self,
         key: &K,
         change: C,
-        went: F,
+        on_evict: F,
     ) -> Result<bool, Refused<K, V>>
         requires changes { C.IsAlwaysCallable change }
-        requires callable { F.IsAlwaysCallable went }
+        requires callable { F.IsAlwaysCallable on_evict }
         ensures ok { IfOk result (λ there. MatchBool there
-            (Changes V.size V.may_show K.eq (λ f k v g. F.step f k v tt g) went (K.eq key.now)
-            (λ v w. FnOnceReturnsAtMut C.FnOnce change v tt w) self.old self.new)
+            (Changes V.size V.may_show K.eq (step_of F.step) on_evict (K.eq key.now)
+            (ChangesTo C.FnOnce change) self.old self.new)
             ((lookup_entry (K.eq key.now) self.old.entries ≡ None) × (self.new ≡ self.old))) }
         ensures refused { IfErr result
-            (RefusesChange V.size V.may_show V.is_exact (K.eq key.now)
-            (λ v w. FnOnceReturnsAtMut C.FnOnce change v tt w) self.old) }
+            (RefusesChange V.size V.may_show V.is_exact (K.eq key.now) (ChangesTo C.FnOnce change) self.old) }
         ensures err { OnErr result (self.new ≡ without (K.eq key.now) self.old) }
         ensures bounded { IsBounded V.size V.may_show self.new }
     {
@@ -229,7 +233,7 @@ impl<K: Eq + Hash + Drop, V: Allocative + Described> BoundedCache<K, V> {
             return Ok(false);
         };
         change(&mut value);
-        match self.insert(key, value, went) {
+        match self.insert(key, value, on_evict) {
             Ok(_none) => Ok(true),
             Err(refused) => Err(refused),
         }

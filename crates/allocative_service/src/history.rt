@@ -10,7 +10,7 @@ pub mod changes;
 pub mod text;
 mod walk;
 
-pub use crate::history::changes::{Change, Kind, compare, grew_most};
+pub use crate::history::changes::{Change, Kind, by_growth, compare, grew_most};
 pub use crate::history::text::report;
 use allocative::{Allocative, FlameGraph, Refusal, profile_value};
 use std::alloc::{AllocError, Global};

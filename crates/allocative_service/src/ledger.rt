@@ -1,10 +1,6 @@
 //! The accounts of all tenants.
-ghost use Rattle.std.specs.Prelude.{◌≡◌, ℕ, Some, None, [], IfOk, OnOk, IfErr, OnErr, IfSome, OnSome, IfNone, IsSomeAnd, MatchOption};
-ghost use Rattle.std.specs.Option.{option_and_then};
-ghost use Rattle.allocative_service.specs.Accounts.{account_of, accounts_of, measure_of, ChangesAccount, Enters, Releases, SetsLimit, IsUnchanged};
-ghost use Rattle.allocative_service.specs.Holding.{IsSummed, bytes_at};
-ghost use Rattle.allocative_service.specs.Measured.{Declares};
-ghost use Rattle.allocative_service.specs.Rejected.{RejectsIn, RejectsMeasured, RejectsNew, RejectsChange, RejectsLimit, RejectsOpening};
+ghost use Rattle.std.specs.Prelude.{◌≡◌, ℕ, ◌+◌, ◌-◌, ◌^◌, ◌<◌, ◌≤◌, ◌↔◌, Some, None, [], IfOk, OnOk, IfErr, OnErr, IfSome, OnSome, IfNone, IsSomeAnd, IsTrue, MatchOption, option_map, unwrap_or};
+ghost use Rattle.allocative_service.specs.Holding.{all_bytes};
 
 pub mod account;
 pub mod budget;
@@ -18,35 +14,83 @@ use allocative::{Allocative, Described};
 use std::alloc::Global;
 use std::collections::BTreeMap;
 
-/// An account for each tenant, by its name, and which bytes of the tenants' values are counted.
+/// An account for each tenant, by its name, and which bytes of the tenants' values are counted. The bytes of all
+/// accounts together are stored beside them, and are never above the limit of the ledger.
 #[derive(Drop)]
 pub struct Ledger {
     alloc: Global,
     measure: Measure,
     accounts: BTreeMap<String, Account>,
+    bytes: usize,
+    limit: usize,
+    ghost summed: { bytes ≡ all_bytes accounts.entries },
+    ghost within: { bytes ≤ limit },
+    // The limit fits a word, so each sum within it does.
+    ghost fits: { limit < 2 ^ 64 },
 }
 
 impl Ledger {
-    /// A ledger with no account. It allocates nothing.
+    ghost use Rattle.allocative_service.specs.Accounts.{account_of, accounts_of, entry_of, limit_of, measure_of, total_of, ChangesAccount, Enters, IsUnchanged, MapsAccount, RejectsPut, Releases};
+    ghost use Rattle.allocative_service.specs.Holding.{IsSummed, bytes_at, new_holding, sum_of, with_limit, with_peak_reset, with_soft_limit};
+    ghost use Rattle.allocative_service.specs.Measured.{Declares};
+    ghost use Rattle.allocative_service.specs.Rejected.{IsLedgerFull, RejectsChange, RejectsCredit, RejectsIn, RejectsLimit, RejectsMeasured, RejectsNew, RejectsOpening};
+
+    /// A ledger with no account and no limit of its own. It allocates nothing.
     pub fn new(alloc: Global, measure: Measure) -> Ledger
         ensures empty { accounts_of result ≡ [] }
         ensures measure { measure_of result ≡ measure }
+        ensures limit { limit_of result ≡ 2 ^ 64 - 1 }
     {
         Ledger {
             alloc,
             measure,
             accounts: BTreeMap::new(alloc),
+            bytes: 0,
+            limit: usize::MAX,
         }
     }
 
-    /// Opens an account with no entry for a tenant.
+    /// The bytes of all accounts together.
+    pub fn bytes(&self) -> usize
+        ensures sum { result ≡ total_of self.now }
+        ensures within { result ≤ limit_of self.now }
+    {
+        self.bytes
+    }
+
+    /// The most bytes that all accounts may have together. `usize::MAX` if no limit was set.
+    pub fn limit(&self) -> usize
+        ensures { result ≡ limit_of self.now }
+    {
+        self.limit
+    }
+
+    /// Replaces the limit of the whole ledger. The error is `LedgerFull` exactly if the bytes of all accounts together
+    /// exceed the new one. All accounts are unchanged.
+    pub fn set_limit(&mut self, limit: usize) -> Result<(), Rejection>
+        ensures set { OnOk result (limit_of self.new ≡ limit) }
+        ensures rejected { IfErr result (IsLedgerFull (total_of self.old) limit) }
+        ensures unchanged { OnErr result (limit_of self.new ≡ limit_of self.old) }
+        ensures accounts { accounts_of self.new ≡ accounts_of self.old }
+        ensures measure { measure_of self.new ≡ measure_of self.old }
+    {
+        let bytes = self.bytes;
+        if bytes > limit {
+            return Err(Rejection::LedgerFull { bytes, limit });
+        }
+        self.limit = limit;
+        Ok(())
+    }
+
+    /// Opens an account with no entry and no soft limit for a tenant.
     ///
-    /// The error is `HasAccount` exactly where the tenant has one, and otherwise `NotKept` where memory runs out. After
-    /// an error all accounts are unchanged.
+    /// The error is `HasAccount` exactly if the tenant has one, and otherwise `NotKept` if memory runs out. After an
+    /// error all accounts are unchanged.
     pub fn open(&mut self, tenant: &str, budget: Budget) -> Result<(), Rejection>
         ensures opened { OnOk result
-            (ChangesAccount tenant.now (Some (record { limit = budget.limit; entries = [] })) self.old self.new) }
+            (ChangesAccount tenant.now (Some (new_holding budget.limit)) self.old self.new) }
         ensures new { OnOk result (account_of tenant.now self.old ≡ None) }
+        ensures all { total_of self.new ≡ total_of self.old }
         ensures rejected { IfErr result (RejectsOpening (account_of tenant.now self.old)) }
         ensures unchanged { OnErr result (IsUnchanged self.old self.new) }
     {
@@ -63,22 +107,25 @@ impl Ledger {
         Ok(())
     }
 
-    /// Removes the account of a tenant and returns it. Where there is none, it returns None and nothing changes.
-    #[tactic(auto, using(crate::proofs::Accounts::closes))]
+    /// Removes the account of a tenant and returns it. If there is none, it returns None and nothing changes.
     pub fn close(&mut self, tenant: &str) -> Option<Account>
         ensures value { result ≡ account_of tenant.now self.old }
         ensures closed { OnSome result (ChangesAccount tenant.now None self.old self.new) }
+        ensures all { IfSome result
+            (λ account. total_of self.new + sum_of account.entries ≡ total_of self.old) }
         ensures unchanged { IfNone result (IsUnchanged self.old self.new) }
     {
-        self.accounts.remove(tenant)
+        let account = self.accounts.remove(tenant)?;
+        self.bytes -= account.bytes();
+        Some(account)
     }
 
     /// Replaces the limit of a tenant.
     ///
-    /// The error is `NoAccount` exactly where the tenant has no account, and otherwise `OverBudget` exactly where the
-    /// bytes of all its entries exceed the new limit. After an error all accounts are unchanged.
+    /// The error is `NoAccount` exactly if the tenant has no account, and otherwise `OverBudget` exactly if the bytes
+    /// of all its entries exceed the new limit. After an error all accounts are unchanged.
     pub fn set_budget(&mut self, tenant: &str, budget: Budget) -> Result<(), Rejection>
-        ensures set { OnOk result (SetsLimit tenant.now budget.limit self.old self.new) }
+        ensures set { OnOk result (MapsAccount tenant.now (with_limit budget.limit) self.old self.new) }
         ensures rejected { IfErr result (RejectsIn (RejectsLimit budget.limit) (account_of tenant.now self.old)) }
         ensures unchanged { OnErr result (IsUnchanged self.old self.new) }
     {
@@ -88,6 +135,27 @@ impl Ledger {
         account.set_budget(budget)
     }
 
+    /// Replaces the soft limit of a tenant, which refuses nothing: `is_over` says if the tenant has more bytes. It
+    /// returns None if the tenant has no account, and then nothing changes.
+    pub fn set_soft_limit(&mut self, tenant: &str, bytes: usize) -> Option<()>
+        ensures set { OnSome result (MapsAccount tenant.now (with_soft_limit bytes) self.old self.new) }
+        ensures none { IfNone result (account_of tenant.now self.old ≡ None) }
+        ensures unchanged { IfNone result (IsUnchanged self.old self.new) }
+    {
+        let account = self.accounts.get_mut(tenant)?;
+        account.set_soft_limit(bytes);
+        Some(())
+    }
+
+    /// Whether the bytes of a tenant exceed its soft limit. None if the tenant has no account.
+    pub fn is_over(&self, tenant: &str) -> Option<bool>
+        ensures { MatchOption (account_of tenant.now self.now) (result ≡ None)
+            (λ h. IsSomeAnd result (λ over. IsTrue over ↔ (h.soft_limit < sum_of h.entries))) }
+    {
+        let account = self.accounts.get(tenant)?;
+        Some(account.is_over())
+    }
+
     /// All accounts, in the order of the tenants' names.
     pub fn accounts(&self) -> &BTreeMap<String, Account>
         ensures { result.now.entries ≡ accounts_of self.now }
@@ -95,7 +163,7 @@ impl Ledger {
         &self.accounts
     }
 
-    /// The bytes of all that was admitted for the tenant, which are within its limit. None where the tenant has no
+    /// The bytes of all that was admitted for the tenant, which are within its limit. None if the tenant has no
     /// account.
     pub fn bytes_of(&self, tenant: &str) -> Option<usize>
         ensures { MatchOption (account_of tenant.now self.now) (result ≡ None)
@@ -105,16 +173,37 @@ impl Ledger {
         Some(account.bytes())
     }
 
+    /// The most bytes that the tenant ever had, since its account was opened or its peak was reset. None if the tenant
+    /// has no account.
+    pub fn peak_of(&self, tenant: &str) -> Option<usize>
+        ensures { result ≡ option_map (λ h. h.peak) (account_of tenant.now self.now) }
+    {
+        let account = self.accounts.get(tenant)?;
+        Some(account.peak())
+    }
+
+    /// Lowers the peak of a tenant to its bytes, and returns the former peak. If the tenant has no account, it returns
+    /// None and nothing changes.
+    pub fn reset_peak(&mut self, tenant: &str) -> Option<usize>
+        ensures value { result ≡ option_map (λ h. h.peak) (account_of tenant.now self.old) }
+        ensures reset { OnSome result (MapsAccount tenant.now with_peak_reset self.old self.new) }
+        ensures unchanged { IfNone result (IsUnchanged self.old self.new) }
+    {
+        let account = self.accounts.get_mut(tenant)?;
+        Some(account.reset_peak())
+    }
+
     /// Measures a value of any type and adds an entry with its bytes for the tenant, under a number that has none. It
     /// returns the bytes of all entries of the tenant.
     ///
     /// It returns an error
-    /// - `NotMeasured` where `Measure::size_of` returns an error,
-    /// - otherwise `NoAccount` where the tenant has no account,
-    /// - otherwise `Taken` where the number has an entry,
-    /// - otherwise `TooLarge` where the bytes of all entries together do not fit a word,
-    /// - otherwise `OverBudget` where they exceed the limit,
-    /// - otherwise `NotKept` where memory runs out.
+    /// - `NoAccount` if the tenant has no account,
+    /// - otherwise `Taken` if the number has an entry; up to here nothing is measured,
+    /// - otherwise `NotMeasured` if `Measure::size_of` returns an error,
+    /// - otherwise `TooLarge` if the bytes of all accounts together do not fit a word,
+    /// - otherwise `OverBudget` if the bytes of the tenant exceed its limit,
+    /// - otherwise `LedgerFull` if the bytes of all accounts together exceed the limit of the ledger,
+    /// - otherwise `NotKept` if memory runs out.
     ///
     /// After an error all accounts are unchanged.
     pub fn admit<T: Allocative + Described>(
@@ -126,23 +215,21 @@ impl Ledger {
         ensures admitted { IfOk result
             (λ total. (bytes : ℕ) × Declares (measure_of self.old) T.size (T.may_show value.now) bytes
             × Enters tenant.now number bytes None total self.old self.new) }
-        ensures rejected { IfErr result
-            (RejectsMeasured (measure_of self.old) T.is_exact T.size (T.may_show value.now)
-            (λ bytes. RejectsIn (RejectsNew number bytes) (account_of tenant.now self.old))) }
+        ensures rejected { IfErr result (RejectsIn
+            (RejectsNew number (RejectsMeasured (measure_of self.old) T.is_exact T.size (T.may_show value.now)
+            (RejectsPut self.old 0))) (account_of tenant.now self.old)) }
         ensures unchanged { OnErr result (IsUnchanged self.old self.new) }
     {
+        self.account(tenant)?.check_free(number)?;
         let bytes = self.measure.size_of(self.alloc, value)?;
-        let Some(account) = self.accounts.get_mut(tenant) else {
-            return Err(Rejection::NoAccount);
-        };
-        account.enter(number, bytes)
+        self.put(tenant, number, 0, bytes)
     }
 
     /// Measures a value again after it has changed, and replaces the bytes of the entry under the number. It returns
     /// the bytes of all entries of the tenant.
     ///
-    /// The errors are those of `admit`, except that it returns `NotThere` where the number has no entry, and never
-    /// `Taken`. After an error all accounts are unchanged, so an entry keeps the bytes that its value declared before.
+    /// The errors are those of `admit`, in the same order, except that it returns `NotThere` if the number has no
+    /// entry, and never `Taken`. After an error all accounts are unchanged, so an entry keeps the bytes that it had.
     pub fn measure_again<T: Allocative + Described>(
         &mut self,
         tenant: &str,
@@ -152,26 +239,139 @@ impl Ledger {
         ensures measured { IfOk result
             (λ total. (bytes : ℕ) × (had : ℕ) × Declares (measure_of self.old) T.size (T.may_show value.now) bytes
             × Enters tenant.now number bytes (Some had) total self.old self.new) }
-        ensures rejected { IfErr result
-            (RejectsMeasured (measure_of self.old) T.is_exact T.size (T.may_show value.now)
-            (λ bytes. RejectsIn (RejectsChange number bytes) (account_of tenant.now self.old))) }
+        ensures rejected { IfErr result (RejectsIn
+            (RejectsChange number (λ had. RejectsMeasured (measure_of self.old) T.is_exact T.size (T.may_show value.now)
+            (RejectsPut self.old had))) (account_of tenant.now self.old)) }
         ensures unchanged { OnErr result (IsUnchanged self.old self.new) }
     {
+        let had = self.account(tenant)?.entry(number)?;
         let bytes = self.measure.size_of(self.alloc, value)?;
-        let Some(account) = self.accounts.get_mut(tenant) else {
-            return Err(Rejection::NoAccount);
-        };
-        account.change(number, bytes)
+        self.put(tenant, number, had, bytes)
     }
 
-    /// Removes the tenant's entry under the number. It returns the bytes of the entry. Where there is none, it returns
+    /// Adds an entry with bytes that the caller knows for the tenant, under a number that has none. Nothing is
+    /// measured. It returns the bytes of all entries of the tenant. The errors are those of `admit` but `NotMeasured`.
+    /// After an error all accounts are unchanged.
+    pub fn record(&mut self, tenant: &str, number: u64, bytes: usize) -> Result<usize, Rejection>
+        ensures recorded { IfOk result (λ total. Enters tenant.now number bytes None total self.old self.new) }
+        ensures rejected { IfErr result
+            (RejectsIn (RejectsNew number (RejectsPut self.old 0 bytes)) (account_of tenant.now self.old)) }
+        ensures unchanged { OnErr result (IsUnchanged self.old self.new) }
+    {
+        self.account(tenant)?.check_free(number)?;
+        self.put(tenant, number, 0, bytes)
+    }
+
+    /// Adds so many bytes to the tenant's entry under the number, for a value that has grown by as many. Nothing is
+    /// measured. It returns the bytes of all entries of the tenant. The errors are those of `measure_again` but
+    /// `NotMeasured`. After an error all accounts are unchanged.
+    pub fn charge(&mut self, tenant: &str, number: u64, more: usize) -> Result<usize, Rejection>
+        ensures charged { IfOk result
+            (λ total. (had : ℕ) × Enters tenant.now number (had + more) (Some had) total self.old self.new) }
+        ensures rejected { IfErr result
+            (RejectsIn (RejectsChange number (λ had. RejectsPut self.old had (had + more)))
+            (account_of tenant.now self.old)) }
+        ensures unchanged { OnErr result (IsUnchanged self.old self.new) }
+    {
+        let had = self.account(tenant)?.entry(number)?;
+        let Some(bytes) = had.checked_add(more) else {
+            return Err(Rejection::TooLarge);
+        };
+        self.put(tenant, number, had, bytes)
+    }
+
+    /// Takes so many bytes off the tenant's entry under the number, for a value that has shrunk by as many. Nothing is
+    /// measured. It returns the bytes of all entries of the tenant.
+    ///
+    /// The error is `NoAccount` if the tenant has no account, otherwise `NotThere` if the number has no entry,
+    /// otherwise `OverCredit` if the entry has fewer bytes, and otherwise `NotKept` if memory runs out. After an error
+    /// all accounts are unchanged.
+    pub fn credit(&mut self, tenant: &str, number: u64, less: usize) -> Result<usize, Rejection>
+        ensures credited { IfOk result (λ total. (had : ℕ) × (bytes : ℕ) × (bytes + less ≡ had)
+            × Enters tenant.now number bytes (Some had) total self.old self.new) }
+        ensures rejected { IfErr result
+            (RejectsIn (RejectsChange number (RejectsCredit less)) (account_of tenant.now self.old)) }
+        ensures unchanged { OnErr result (IsUnchanged self.old self.new) }
+    {
+        let had = self.account(tenant)?.entry(number)?;
+        let Some(bytes) = had.checked_sub(less) else {
+            return Err(Rejection::OverCredit { bytes: had, less });
+        };
+        self.put(tenant, number, had, bytes)
+    }
+
+    /// Removes the tenant's entry under the number. It returns the bytes of the entry. If there is none, it returns
     /// None and nothing changes.
     pub fn release(&mut self, tenant: &str, number: u64) -> Option<usize>
-        ensures value { result ≡ option_and_then (bytes_at number) (account_of tenant.now self.old) }
+        ensures value { result ≡ entry_of tenant.now number self.old }
         ensures released { IfSome result (λ bytes. Releases tenant.now number bytes self.old self.new) }
         ensures unchanged { IfNone result (IsUnchanged self.old self.new) }
     {
         let account = self.accounts.get_mut(tenant)?;
-        account.release(number)
+        let bytes = account.release(number)?;
+        self.bytes -= bytes;
+        Some(bytes)
+    }
+
+    /// The account of a tenant. The error is `NoAccount` exactly if there is none.
+    fn account(&self, tenant: &str) -> Result<&Account, Rejection>
+        ensures found { IfOk result (λ account. account_of tenant.now self.now ≡ Some account.now) }
+        ensures missing { IfErr result
+            (λ r. (r ≡ Rejection.NoAccount) × (account_of tenant.now self.now ≡ None)) }
+    {
+        match self.accounts.get(tenant) {
+            Some(account) => Ok(account),
+            None => Err(Rejection::NoAccount),
+        }
+    }
+
+    /// Stores the bytes for the tenant under the number, in place of the `had` bytes that it has. It returns the bytes
+    /// of all entries of the tenant.
+    fn put(
+        &mut self,
+        tenant: &str,
+        number: u64,
+        had: usize,
+        bytes: usize,
+    ) -> Result<usize, Rejection>
+        requires { had ≡ unwrap_or (entry_of tenant.now number self.old) 0 }
+        ensures put { IfOk result (λ total.
+            Enters tenant.now number bytes (entry_of tenant.now number self.old) total self.old self.new) }
+        ensures rejected { IfErr result (RejectsIn (RejectsPut self.old had bytes) (account_of tenant.now self.old)) }
+        ensures unchanged { OnErr result (IsUnchanged self.old self.new) }
+    {
+        let all = self.check(tenant, had, bytes)?;
+        let Some(account) = self.accounts.get_mut(tenant) else {
+            return Err(Rejection::NoAccount);
+        };
+        let total = account.put(number, had, bytes)?;
+        self.bytes = all;
+        Ok(total)
+    }
+
+    /// The bytes of all accounts together if `bytes` took the place of `had` bytes of the tenant. The error is
+    /// `NoAccount` if the tenant has no account, otherwise `TooLarge` if they do not fit a word, otherwise `OverBudget`
+    /// if those of the tenant exceed its limit, and otherwise `LedgerFull` if they exceed the limit of the ledger.
+    fn check(&self, tenant: &str, had: usize, bytes: usize) -> Result<usize, Rejection>
+        requires { IfSome (account_of tenant.now self.now) (λ h. had ≤ sum_of h.entries) }
+        ensures all { IfOk result (λ all. (all + had ≡ total_of self.now + bytes) × (all ≤ limit_of self.now)) }
+        ensures rejected { IfErr result (RejectsIn (RejectsPut self.now had bytes) (account_of tenant.now self.now)) }
+    {
+        let account = self.account(tenant)?;
+        let Some(all) = (self.bytes - had).checked_add(bytes) else {
+            return Err(Rejection::TooLarge);
+        };
+        let (total, limit) = (account.bytes() - had + bytes, account.limit());
+        if total > limit {
+            return Err(Rejection::OverBudget {
+                bytes: total,
+                limit,
+            });
+        }
+        let limit = self.limit;
+        if all > limit {
+            return Err(Rejection::LedgerFull { bytes: all, limit });
+        }
+        Ok(all)
     }
 }

@@ -1,15 +1,17 @@
 -- What the service says.
-use Rattle.std.specs.Prelude.{◌≡◌, ℕ, List, ◌++◌, Option, Some, None, IfSome, MatchOption, String, string_bytes, length, flat_map, codes, decimal}
+use Rattle.std.specs.Prelude.{◌≡◌, ℕ, List, ◌++◌, Option, Some, None, IfSome, MatchOption, String, string_bytes, length, flat_map, nat_lt, if◌then◌else◌, codes, decimal}
 use Rattle.std.specs.Global.{Global}
 use Rattle.allocative.specs.Graph.{Graph}
 use Rattle.allocative.specs.Refusal.TheVariants.{Memory}
 use Rattle.allocative_picture.specs.Picture.{profile_drawing, change_drawing}
 use Rattle.allocative_picture.specs.declared.options.Options.{Options}
+use Rattle.allocative_service.specs.Accounts.{accounts_of, total_of}
 use Rattle.allocative_service.specs.Changes.{Changed, GrewMost, Reports, changes_of, growth}
 use Rattle.allocative_service.specs.Entries.{Bounded, bytes_of}
 use Rattle.allocative_service.specs.Holding.{Holding, sum_of}
 use Rattle.allocative_service.specs.Told.{told_as}
 use Rattle.allocative_service.specs.declared.cache.Kept.{Kept}
+use Rattle.allocative_service.specs.declared.ledger.Ledger.{Ledger}
 use Rattle.allocative_service.specs.declared.ledger.rejection.Rejection.{Rejection}
 use Rattle.allocative_service.specs.declared.ledger.rejection.Rejection.TheVariants.{NotKept, NotMeasured}
 
@@ -38,20 +40,34 @@ abbrev pub closed_line : List ℕ → Option Holding → List ℕ
 closed_line tenant (Some h) = tenant ++ (codes " had " ++ (decimal (sum_of h.entries) ++ codes " bytes\n"))
 closed_line tenant None = codes "there is no account\n"
 
+-- The line of the most bytes that a tenant had, or that it has no account.
+abbrev pub peak_line : List ℕ → Option ℕ → List ℕ
+peak_line tenant (Some peak) = tenant ++ (codes " had at most " ++ (decimal peak ++ codes " bytes\n"))
+peak_line tenant None = codes "there is no account\n"
+
 -- ---- lists
 -- The line of a document in a bill.
 abbrev pub document_line : ℕ × ℕ → List ℕ
 document_line e = codes "  document " ++ (decimal e.0 ++ (codes ": " ++ (decimal e.1 ++ codes " bytes\n")))
 
--- The bill of a tenant: all bytes and the limit, and below them the bytes of each document.
+-- What a bill says of an account that is over its soft limit.
+abbrev pub over_mark : Holding → List ℕ
+over_mark h = if nat_lt h.soft_limit (sum_of h.entries) then codes ", over\n" else codes "\n"
+
+-- The bill of a tenant: all bytes, the limit and the most bytes that it had, and below them the bytes of each document.
 abbrev pub account_lines : List ℕ → Holding → List ℕ
 account_lines tenant h =
-    (tenant ++ (codes ": " ++ (decimal (sum_of h.entries) ++ (codes " of " ++ (decimal h.limit ++ codes " bytes\n")))))
+    (tenant ++ (codes ": " ++ (decimal (sum_of h.entries) ++ (codes " of " ++ (decimal h.limit
+    ++ (codes " bytes, at most " ++ (decimal h.peak ++ over_mark h)))))))
     ++ flat_map document_line h.entries
 
--- The bills of all tenants.
-abbrev pub bill_of : List (String Global × Holding) → List ℕ
-bill_of accounts = flat_map (λ a. account_lines (string_bytes a.0) a.1) accounts
+-- The bills of these tenants.
+abbrev pub bills_of : List (String Global × Holding) → List ℕ
+bills_of accounts = flat_map (λ a. account_lines (string_bytes a.0) a.1) accounts
+
+-- The bills of all tenants, and all of it together.
+abbrev pub bill_of : Ledger → List ℕ
+bill_of l = bills_of (accounts_of l) ++ (codes "all: " ++ (decimal (total_of l) ++ codes " bytes\n"))
 
 -- The line of a page.
 abbrev pub page_line : String Global × Kept (String Global) → List ℕ

@@ -1,8 +1,8 @@
 //! The documents of the service.
 ghost use Rattle.std.specs.Prelude.{IfOk};
-ghost use Rattle.order_service.specs.Answers.{IsNote, IsOrder};
+ghost use Rattle.order_service.specs.Answers.{Documents, IsNote, IsOrder};
 
-use allocative::IdRc;
+use allocative::{Allocative, Described, IdRc};
 use std::alloc::{AllocError, Global};
 
 mod shown;
@@ -30,6 +30,40 @@ pub struct Held {
     pub catalogue: IdRc<Vec<String>>,
     pub notes: Vec<Note>,
     pub orders: Vec<Order>,
+}
+
+/// What contracts say of the documents that are held.
+pub trait HasDocuments {
+    ghost documents: { Documents };
+}
+
+impl HasDocuments for Held {
+    ghost documents = { record {
+      note_size = ⟦<Note as Described>⟧.size;
+      order_size = ⟦<Order as Described>⟧.size;
+      note_shows = ⟦<Note as Allocative>⟧.may_show;
+      order_shows = ⟦<Order as Allocative>⟧.may_show;
+    } };
+}
+
+/// A document of the service.
+pub trait Document: Allocative + Described + Drop {
+    /// Puts the document among those that the service holds. The only error is that memory runs out.
+    fn keep(self, held: &mut Held) -> Result<(), AllocError>;
+}
+
+impl Document for Note {
+    fn keep(self, held: &mut Held) -> Result<(), AllocError> {
+        held.notes.push(self)?;
+        Ok(())
+    }
+}
+
+impl Document for Order {
+    fn keep(self, held: &mut Held) -> Result<(), AllocError> {
+        held.orders.push(self)?;
+        Ok(())
+    }
 }
 
 impl Note {

@@ -16,7 +16,18 @@ pub enum Request<'a> {
     Open(&'a str, usize),
     /// Another limit for a tenant.
     Limit(&'a str, usize),
+    /// The bytes above which a bill says that a tenant is over.
+    Soft(&'a str, usize),
+    /// Another limit for all tenants together.
+    Whole(usize),
     Close(&'a str),
+    /// What a tenant keeps elsewhere under a key, of so many bytes.
+    Attach(&'a str, u64, usize),
+    /// It grows, or it shrinks, by so many bytes.
+    Charge(&'a str, u64, usize),
+    Credit(&'a str, u64, usize),
+    /// The most bytes that a tenant ever had are counted anew.
+    Reset(&'a str),
     /// A document of a tenant under a key.
     Put(&'a str, u64, Draft<'a>),
     Get(&'a str, u64),
@@ -45,11 +56,21 @@ pub fn read_request(line: &str) -> Option<Request<'_>> {
         "report" => Some(Request::Report),
         "picture" => Some(Request::Picture),
         "change" => Some(Request::Change),
-        "close" => Some(Request::Close(rest)),
+        "close" => Some(Request::Close(read_name(rest)?)),
+        "reset" => Some(Request::Reset(read_name(rest)?)),
+        "whole" => Some(Request::Whole(rest.parse::<usize>().ok()?)),
         "bound" => Some(Request::Bound(rest.parse::<usize>().ok()?)),
         "most" => Some(Request::Most(rest.parse::<usize>().ok()?)),
         _ => read_of_tenant(word, rest),
     }
+}
+
+/// Reads the name of a tenant, which has no space in it.
+fn read_name(text: &str) -> Option<&str> {
+    if text.split_once(' ').is_some() {
+        return None;
+    }
+    Some(text)
 }
 
 /// Reads a request that names a tenant and a number.
@@ -61,6 +82,10 @@ fn read_of_tenant<'a>(word: &str, rest: &'a str) -> Option<Request<'a>> {
     match word {
         "open" => Some(Request::Open(tenant, limit)),
         "limit" => Some(Request::Limit(tenant, limit)),
+        "soft" => Some(Request::Soft(tenant, limit)),
+        "attach" => Some(Request::Attach(tenant, key, value.parse::<usize>().ok()?)),
+        "charge" => Some(Request::Charge(tenant, key, value.parse::<usize>().ok()?)),
+        "credit" => Some(Request::Credit(tenant, key, value.parse::<usize>().ok()?)),
         "get" => Some(Request::Get(tenant, key)),
         "drop" => Some(Request::Drop(tenant, key)),
         "put" => Some(Request::Put(tenant, key, read_draft(value)?)),

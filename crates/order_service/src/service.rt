@@ -1,12 +1,12 @@
 //! A service that keeps documents of its tenants, within a limit for each, and says what it holds.
-ghost use Rattle.std.specs.Prelude.{◌≡◌, ◌++◌, [], MatchOption, IfErr, IfOk, OnErr, OnOk, codes, is_some, length, string_bytes, string_eq};
-ghost use Rattle.allocative_service.specs.Accounts.{IsUnchanged, account_of, accounts_of};
+ghost use Rattle.std.specs.Prelude.{◌≡◌, ◌++◌, [], MatchOption, IfErr, IfOk, OnErr, OnOk, codes, is_some, length, option_map, string_bytes, string_eq};
+ghost use Rattle.allocative_service.specs.Accounts.{IsUnchanged, account_of, entry_of};
 ghost use Rattle.allocative_service.specs.Entries.{with_entries, without};
 ghost use Rattle.allocative_service.specs.History.{profiles_of, two_of};
-ghost use Rattle.order_service.specs.Answers.{AnswersHistory, AnswersLedger, AnswersLimit, AnswersOpen, AnswersPages, AnswersText, ClosesAccount, EntersDocument, IsPlace, LosesPage, LosesPagesOf, PutsDraft, PutsPage, RejectsDocument, ReleasesDocument, SetsBound, TakesOrFails, TakesPage, UsesPage, entered_bytes};
-ghost use Rattle.order_service.specs.Lines.{BeginsWith, IsChangePicture, IsMost, IsPicture, IsReport, IsToldAs, account_lines, bill_of, closed_line, entered_line, list_of, profiles_line, released_line};
+ghost use Rattle.order_service.specs.Answers.{AnswersAttach, AnswersCharge, AnswersCredit, AnswersHistory, AnswersLedger, AnswersLimit, AnswersOpen, AnswersPages, AnswersSoft, AnswersText, AnswersWhole, ClosesAccount, EntersDocument, IsPlace, LosesPage, LosesPagesOf, PutsDocument, PutsDraft, PutsPage, PutsPageOf, RejectsDocument, ReleasesDocument, ResetsPeak, SetsBound, TakesOrFails, TakesPage, UsesPage};
+ghost use Rattle.order_service.specs.Lines.{BeginsWith, IsChangePicture, IsMost, IsPicture, IsReport, IsToldAs, account_lines, bill_of, closed_line, entered_line, list_of, peak_line, profiles_line, released_line};
 
-use crate::documents::{Held, Note, Order};
+use crate::documents::{Document, HasDocuments, Held, Note, Order};
 use crate::request::{Draft, Request};
 use allocative::{Allocative, Described, IdRc, Identity, Refusal};
 use allocative_picture::options::Options;
@@ -17,6 +17,12 @@ use allocative_service::ledger::{Account, Budget, Ledger, Rejection};
 use allocative_service::measure::Measure;
 use anyhow::Result;
 use std::alloc::{AllocError, Global};
+
+/// The account of what all tenants share. No request can name it, since it has a space.
+const SHARED: &str = "the catalogue";
+
+/// The most bytes that the catalogue may have.
+const CATALOGUE_LIMIT: usize = 1000;
 
 /// The documents, the pages that were last shown of them, an account for each tenant, and the last profiles.
 #[derive(Drop)]
@@ -29,7 +35,9 @@ pub struct Service {
 }
 
 impl Service {
-    /// A service with a catalogue of these items and no document. It keeps pages of 150 bytes together.
+    /// A service with a catalogue of these items and no document. It keeps pages of 150 bytes together. The catalogue
+    /// has an account of its own, so it is billed once, and to no tenant: `Measure::Unique` leaves out what an order's
+    /// pointer to it points to. The documents own no map or set of `std`, which it would leave out too.
     pub fn new(alloc: Global, items: &[&str]) -> Result<Service> {
         let mut catalogue = Vec::with_capacity(alloc, items.len())?;
         for item in items {
@@ -40,11 +48,15 @@ impl Service {
             notes: Vec::new(alloc),
             orders: Vec::new(alloc),
         };
+        let mut ledger = Ledger::new(alloc, Measure::Unique);
+        let limit = CATALOGUE_LIMIT;
+        ledger.open(SHARED, Budget { limit })?;
+        ledger.admit(SHARED, 1, held.catalogue.get())?;
         Ok(Service {
             alloc,
             held,
             pages: BoundedCache::new(alloc, Measure::Shown, 150)?,
-            ledger: Ledger::new(alloc, Measure::Shown),
+            ledger,
             history: History::new(alloc, 2),
         })
     }
@@ -56,11 +68,9 @@ impl Service {
     /// only where another one is asked for.
     pub fn answer(&mut self, request: &Request<'_>) -> Result<String>
         ensures ledger { AnswersLedger result self.old.ledger self.new.ledger
-            ⟦<Note as Described>⟧.size ⟦<Order as Described>⟧.size
-            ⟦<Note as Allocative>⟧.may_show ⟦<Order as Allocative>⟧.may_show request.now }
+            ⟦<Held as HasDocuments>⟧.documents request.now }
         ensures pages { AnswersPages result self.old.pages self.new.pages self.old.ledger self.new.ledger
-            ⟦<Note as Described>⟧.size ⟦<Order as Described>⟧.size
-            ⟦<Note as Allocative>⟧.may_show ⟦<Order as Allocative>⟧.may_show request.now }
+            ⟦<Held as HasDocuments>⟧.documents request.now }
         ensures history { AnswersHistory result self.old.history self.new.history
             (⟦<Held as Allocative>⟧.may_show self.old.held) request.now }
         ensures text { IfOk result (λ text. AnswersText self.old.ledger self.old.pages self.new.history
@@ -69,6 +79,12 @@ impl Service {
         match *request {
             Request::Open(tenant, limit) => self.open(tenant, limit),
             Request::Limit(tenant, limit) => self.set_limit(tenant, limit),
+            Request::Soft(tenant, bytes) => self.set_soft_limit(tenant, bytes),
+            Request::Whole(limit) => self.set_whole_limit(limit),
+            Request::Attach(tenant, key, bytes) => self.attach(tenant, key, bytes),
+            Request::Charge(tenant, key, more) => self.charge(tenant, key, more),
+            Request::Credit(tenant, key, less) => self.credit(tenant, key, less),
+            Request::Reset(tenant) => self.reset_peak(tenant),
             Request::Close(tenant) => self.close(tenant),
             Request::Put(tenant, key, draft) => self.put(tenant, key, draft),
             Request::Get(tenant, key) => self.get(tenant, key),
@@ -109,40 +125,115 @@ impl Service {
         }
     }
 
-    /// Enters a document into the ledger, and keeps it in place of the one that the key has.
-    fn put(&mut self, tenant: &str, key: u64, draft: Draft<'_>) -> Result<String>
-        ensures ledger { PutsDraft result self.old.ledger self.new.ledger
-            ⟦<Note as Described>⟧.size ⟦<Order as Described>⟧.size
-            ⟦<Note as Allocative>⟧.may_show ⟦<Order as Allocative>⟧.may_show tenant.now key draft.entry }
-        ensures pages { PutsPage result self.old.pages self.new.pages self.old.ledger self.new.ledger
-            ⟦<Note as Described>⟧.size ⟦<Order as Described>⟧.size
-            ⟦<Note as Allocative>⟧.may_show ⟦<Order as Allocative>⟧.may_show tenant.now key draft.entry }
+    /// Changes the soft limit of a tenant.
+    fn set_soft_limit(&mut self, tenant: &str, bytes: usize) -> Result<String>
+        ensures ledger { AnswersSoft result self.old.ledger self.new.ledger tenant.now bytes }
+        ensures pages { self.new.pages ≡ self.old.pages }
         ensures history { self.new.history ≡ self.old.history }
     {
-        let place = self.place_of(tenant, key)?;
+        match self.ledger.set_soft_limit(tenant, bytes) {
+            Some(()) => Ok(String::new(self.alloc)),
+            None => tell(self.alloc, Rejection::NoAccount),
+        }
+    }
+
+    /// Changes the limit of all tenants together.
+    fn set_whole_limit(&mut self, limit: usize) -> Result<String>
+        ensures ledger { AnswersWhole result self.old.ledger self.new.ledger limit }
+        ensures pages { self.new.pages ≡ self.old.pages }
+        ensures history { self.new.history ≡ self.old.history }
+    {
+        match self.ledger.set_limit(limit) {
+            Ok(()) => Ok(String::new(self.alloc)),
+            Err(rejection) => tell(self.alloc, rejection),
+        }
+    }
+
+    /// Records what a tenant keeps elsewhere.
+    fn attach(&mut self, tenant: &str, key: u64, bytes: usize) -> Result<String>
+        ensures ledger { AnswersAttach result self.old.ledger self.new.ledger tenant.now key bytes }
+        ensures pages { self.new.pages ≡ self.old.pages }
+        ensures history { self.new.history ≡ self.old.history }
+    {
+        match self.ledger.record(tenant, key, bytes) {
+            Ok(total) => Ok(tell_entered(self.alloc, tenant, total)?),
+            Err(rejection) => tell(self.alloc, rejection),
+        }
+    }
+
+    /// Adds bytes to an entry of a tenant.
+    fn charge(&mut self, tenant: &str, key: u64, more: usize) -> Result<String>
+        ensures ledger { AnswersCharge result self.old.ledger self.new.ledger tenant.now key more }
+        ensures pages { self.new.pages ≡ self.old.pages }
+        ensures history { self.new.history ≡ self.old.history }
+    {
+        match self.ledger.charge(tenant, key, more) {
+            Ok(total) => Ok(tell_entered(self.alloc, tenant, total)?),
+            Err(rejection) => tell(self.alloc, rejection),
+        }
+    }
+
+    /// Takes bytes off an entry of a tenant.
+    fn credit(&mut self, tenant: &str, key: u64, less: usize) -> Result<String>
+        ensures ledger { AnswersCredit result self.old.ledger self.new.ledger tenant.now key less }
+        ensures pages { self.new.pages ≡ self.old.pages }
+        ensures history { self.new.history ≡ self.old.history }
+    {
+        match self.ledger.credit(tenant, key, less) {
+            Ok(total) => Ok(tell_entered(self.alloc, tenant, total)?),
+            Err(rejection) => tell(self.alloc, rejection),
+        }
+    }
+
+    /// Counts the most bytes of a tenant anew, and says how many they were.
+    fn reset_peak(&mut self, tenant: &str) -> Result<String>
+        ensures ledger { ResetsPeak tenant.now self.old.ledger self.new.ledger }
+        ensures pages { self.new.pages ≡ self.old.pages }
+        ensures history { self.new.history ≡ self.old.history }
+        ensures text { IfOk result
+            (λ text. string_bytes text
+            ≡ peak_line tenant.now (option_map (λ h. h.peak) (account_of tenant.now self.old.ledger))) }
+    {
+        let peak = self.ledger.reset_peak(tenant);
+        Ok(tell_peak(self.alloc, tenant, peak)?)
+    }
+
+    /// Makes a document of the draft, enters it into the ledger, and keeps it in place of the one that the key has.
+    fn put(&mut self, tenant: &str, key: u64, draft: Draft<'_>) -> Result<String>
+        ensures ledger { PutsDraft result self.old.ledger self.new.ledger
+            ⟦<Held as HasDocuments>⟧.documents tenant.now key draft.entry }
+        ensures pages { PutsPage result self.old.pages self.new.pages self.old.ledger self.new.ledger
+            ⟦<Held as HasDocuments>⟧.documents tenant.now key draft.entry }
+        ensures history { self.new.history ≡ self.old.history }
+    {
         match draft {
             Draft::Note(text) => {
                 let note = Note::new(self.alloc, tenant, key, text)?;
-                match self.measure(tenant, key, &note) {
-                    Ok(bytes) => {
-                        self.forget(tenant, key);
-                        self.held.notes.push(note)?;
-                        self.renew_page(place, tenant, key, bytes)
-                    }
-                    Err(rejection) => tell(self.alloc, rejection),
-                }
+                self.put_document(tenant, key, note)
             }
             Draft::Order(places) => {
                 let order = Order::new(self.alloc, tenant, key, &self.held.catalogue, places)?;
-                match self.measure(tenant, key, &order) {
-                    Ok(bytes) => {
-                        self.forget(tenant, key);
-                        self.held.orders.push(order)?;
-                        self.renew_page(place, tenant, key, bytes)
-                    }
-                    Err(rejection) => tell(self.alloc, rejection),
-                }
+                self.put_document(tenant, key, order)
             }
+        }
+    }
+
+    /// Enters a document into the ledger, and keeps it in place of the one that the key has.
+    fn put_document<D: Document>(&mut self, tenant: &str, key: u64, document: D) -> Result<String>
+        ensures ledger { PutsDocument result self.old.ledger self.new.ledger
+            tenant.now key D.is_exact D.size (D.may_show document) }
+        ensures pages { PutsPageOf result self.old.pages self.new.pages self.old.ledger self.new.ledger
+            tenant.now key D.size (D.may_show document) }
+        ensures history { self.new.history ≡ self.old.history }
+    {
+        let place = self.place_of(tenant, key)?;
+        match self.measure(tenant, key, &document) {
+            Ok(bytes) => {
+                self.forget(tenant, key);
+                document.keep(&mut self.held)?;
+                self.renew_page(place, tenant, key, bytes)
+            }
+            Err(rejection) => tell(self.alloc, rejection),
         }
     }
 
@@ -170,7 +261,7 @@ impl Service {
 
     /// Whether the ledger has an entry of the tenant under the key.
     fn has_entry(&self, tenant: &str, key: u64) -> bool
-        ensures { result ≡ is_some (entered_bytes tenant.now key self.now.ledger) }
+        ensures { result ≡ is_some (entry_of tenant.now key self.now.ledger) }
     {
         match self.ledger.accounts().get(tenant) {
             Some(account) => account.entries().contains_key(&key),
@@ -206,7 +297,7 @@ impl Service {
         ensures pages { LosesPage result self.old.pages self.new.pages tenant.now key }
         ensures history { self.new.history ≡ self.old.history }
         ensures text { IfOk result (λ text. string_bytes text
-            ≡ released_line tenant.now key (entered_bytes tenant.now key self.old.ledger)) }
+            ≡ released_line tenant.now key (entry_of tenant.now key self.old.ledger)) }
     {
         let bytes = self.ledger.release(tenant, key);
         let text = tell_released(self.alloc, tenant, key, bytes)?;
@@ -315,7 +406,7 @@ impl Service {
         ensures text { IfOk result (λ text. BeginsWith (entered_line tenant.now bytes) (string_bytes text)) }
     {
         let had = self.pages.remove(&place);
-        let mut text = format!(in self.alloc; "{tenant} has {bytes} bytes\n")?;
+        let mut text = tell_entered(self.alloc, tenant, bytes)?;
         if had.is_none() {
             return Ok(text);
         }
@@ -367,14 +458,15 @@ impl Service {
         Ok(text)
     }
 
-    /// What is billed to each tenant.
+    /// What is billed to each tenant, and all of it together.
     fn bill(&self) -> Result<String>
-        ensures { IfOk result (λ text. string_bytes text ≡ bill_of (accounts_of self.now.ledger)) }
+        ensures { IfOk result (λ text. string_bytes text ≡ bill_of self.now.ledger) }
     {
         let mut text = String::new(self.alloc);
         for (tenant, account) in self.ledger.accounts() {
             push_account(tenant.as_str(), account, &mut text)?;
         }
+        write!(text, "all: {} bytes\n", self.ledger.bytes())?;
         Ok(text)
     }
 
@@ -454,11 +546,28 @@ fn tell(alloc: Global, rejection: Rejection) -> Result<String>
     }
 }
 
+/// Says how many bytes a tenant has.
+fn tell_entered(alloc: Global, tenant: &str, bytes: usize) -> Result<String, AllocError>
+    ensures { IfOk result (λ text. string_bytes text ≡ entered_line tenant.now bytes) }
+{
+    format!(in alloc; "{tenant} has {bytes} bytes\n")
+}
+
 /// Says why a page is not kept. Where memory runs out, that is the error.
 fn tell_page(alloc: Global, error: CacheError) -> Result<String> {
     match error {
         CacheError::Memory | CacheError::NotMeasured(Refusal::Memory) => Err(error.into()),
         _ => Ok(format!(in alloc; "{error}\n")?),
+    }
+}
+
+/// Says how many bytes a tenant had at most, or that it has no account.
+fn tell_peak(alloc: Global, tenant: &str, peak: Option<usize>) -> Result<String, AllocError>
+    ensures { IfOk result (λ text. string_bytes text ≡ peak_line tenant.now peak) }
+{
+    match peak {
+        Some(peak) => format!(in alloc; "{tenant} had at most {peak} bytes\n"),
+        None => String::from_str(alloc, "there is no account\n"),
     }
 }
 
@@ -484,13 +593,19 @@ fn too_few(alloc: Global) -> Result<String>
     Ok(String::from_str(alloc, "there are fewer than two profiles\n")?)
 }
 
-/// Appends the bill of an account: its bytes and its limit, and the bytes of each document.
+/// Appends the bill of an account: its bytes, its limit, the most bytes that it had and whether it is over its soft
+/// limit, and the bytes of each document.
 fn push_account(tenant: &str, account: &Account, text: &mut String) -> Result<(), AllocError>
     ensures { OnOk result (string_bytes text.new
         ≡ string_bytes text.old ++ account_lines tenant.now account.now) }
 {
     let (bytes, limit) = (account.bytes(), account.limit());
-    write!(text, "{tenant}: {bytes} of {limit} bytes\n")?;
+    write!(
+        text,
+        "{tenant}: {bytes} of {limit} bytes, at most {}",
+        account.peak()
+    )?;
+    text.push_str(if account.is_over() { ", over\n" } else { "\n" })?;
     for (key, bytes) in account.entries() {
         write!(text, "  document {key}: {bytes} bytes\n")?;
     }

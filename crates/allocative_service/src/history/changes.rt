@@ -1,7 +1,7 @@
 //! The differences between two profiles, path by path.
-ghost use Rattle.std.specs.Prelude.{◌≡◌, ◌+◌, ◌-◌, ◌^◌, ◌≤◌, ◌↔◌, IfOk, IsErrOf, map};
+ghost use Rattle.std.specs.Prelude.{◌≡◌, ◌+◌, ◌-◌, ◌^◌, ◌≤◌, ◌↔◌, All, AllPairs, IfOk, IsErrOf, IsPermutation, OnOk, map};
 ghost use Rattle.allocative.specs.Graph.{total};
-ghost use Rattle.allocative_service.specs.Changes.{change_data, is_kind, growth, changes_of, HasEach, GrewMost};
+ghost use Rattle.allocative_service.specs.Changes.{change_data, is_kind, growth, rank, shrinkage, changes_of, GrewAsMuch, GrewMost, HasEach, IsByGrowth, IsWord};
 
 use crate::history::walk::changes_of;
 use allocative::{FlameGraph, Refusal};
@@ -56,11 +56,18 @@ impl Change {
         })
     }
 
-    /// The number of bytes by which the path grew, which is 0 where it shrank.
+    /// The number of bytes by which the path grew, which is 0 if it shrank.
     pub fn growth(&self) -> usize
         ensures { result ≡ growth (change_data self.now) }
     {
         self.later.saturating_sub(self.earlier)
+    }
+
+    /// The number of bytes by which the path shrank, which is 0 if it grew.
+    pub fn shrinkage(&self) -> usize
+        ensures { result ≡ shrinkage (change_data self.now) }
+    {
+        self.earlier.saturating_sub(self.later)
     }
 }
 
@@ -98,11 +105,33 @@ pub fn grew_most(alloc: Global, changes: &[Change], count: usize) -> Result<Vec<
             grown.push(change.copy()?)?;
         }
     }
-    grown.sort_by_key(
-        |change: &Change| -> usize
-            ensures { result ≡ 2 ^ 64 - 1 - growth (change_data change.entry.now) }
-        { usize::MAX - change.growth() },
-    )?;
+    sort_by_growth(&mut grown)?;
     grown.truncate(count);
     Ok(grown)
+}
+
+/// The changes, the greatest growth first and the greatest shrinkage last. The only error is that memory runs out.
+pub fn by_growth(alloc: Global, changes: &[Change]) -> Result<Vec<Change>, AllocError>
+    ensures { IfOk result (λ list. IsByGrowth (map change_data changes.now) (map change_data list.items)) }
+{
+    let mut list = Vec::new(alloc);
+    for change in changes {
+        list.push(change.copy()?)?;
+    }
+    sort_by_growth(&mut list)?;
+    Ok(list)
+}
+
+/// Sorts changes by growth, the greatest first.
+fn sort_by_growth(changes: &mut Vec<Change>) -> Result<(), AllocError>
+    requires { All IsWord changes.old.items }
+    ensures same { OnOk result (IsPermutation changes.old.items changes.new.items) }
+    ensures falling { OnOk result (AllPairs GrewAsMuch (map change_data changes.new.items)) }
+{
+    changes.sort_by_key(
+        |change: &Change| -> u128
+            ensures { result ≡ rank (change_data change.entry.now) }
+        { (usize::MAX - change.later) as u128 + change.earlier as u128 },
+    )?;
+    Ok(())
 }

@@ -1,6 +1,6 @@
 //! The admitted bytes of one tenant, within a limit.
-ghost use Rattle.std.specs.Prelude.{◌≡◌, ℕ, ◌+◌, Some, None, [], IfOk, IfErr, IfNone, OnOk, OnErr, unwrap_or};
-ghost use Rattle.allocative_service.specs.Holding.{IsSummed, bytes_at, sum_of, with_limit, without, Puts};
+ghost use Rattle.std.specs.Prelude.{◌≡◌, ℕ, ◌+◌, ◌<◌, ◌≤◌, ◌↔◌, Some, None, IsSome, IsTrue, IfOk, IfErr, IfNone, OnOk, OnErr, unwrap_or};
+ghost use Rattle.allocative_service.specs.Holding.{IsSummed, bytes_at, new_holding, sum_of, with_limit, with_peak_reset, with_soft_limit, without, Puts};
 ghost use Rattle.allocative_service.specs.Rejected.{RejectsBytes, RejectsNew, RejectsChange, RejectsLimit};
 
 use crate::ledger::budget::Budget;
@@ -13,7 +13,9 @@ use std::marker::Model;
 #[derive(Drop)]
 pub struct Account {
     budget: Budget,
+    soft_limit: usize,
     bytes: usize,
+    peak: usize,
     entries: BTreeMap<u64, usize>,
 }
 
@@ -22,19 +24,31 @@ impl Model for Account {
 
     ghost Value = { Holding };
 
-    ghost view = { λ a. record { limit = a.budget.limit; entries = a.entries.entries } };
+    ghost view = { λ a. record {
+      limit = a.budget.limit;
+      soft_limit = a.soft_limit;
+      peak = a.peak;
+      entries = a.entries.entries;
+    } };
 
-    ghost invariant = { λ a. IsSummed a.bytes (record { limit = a.budget.limit; entries = a.entries.entries }) };
+    ghost invariant = { λ a. IsSummed a.bytes (record {
+      limit = a.budget.limit;
+      soft_limit = a.soft_limit;
+      peak = a.peak;
+      entries = a.entries.entries;
+    }) };
 }
 
 impl Account {
-    /// An account with no entry. It allocates nothing.
+    /// An account with no entry and no soft limit. It allocates nothing.
     pub fn new(alloc: Global, budget: Budget) -> Account
-        ensures { result ≡ record { limit = budget.limit; entries = [] } }
+        ensures { result ≡ new_holding budget.limit }
     {
         Account {
             budget,
+            soft_limit: usize::MAX,
             bytes: 0,
+            peak: 0,
             entries: BTreeMap::new(alloc),
         }
     }
@@ -46,10 +60,11 @@ impl Account {
         self.budget.limit
     }
 
-    /// Replaces the limit. The error is `OverBudget` exactly where the bytes of all entries exceed the new one, and then
+    /// Replaces the limit. The error is `OverBudget` exactly if the bytes of all entries exceed the new one, and then
     /// the account is unchanged.
     pub fn set_budget(&mut self, budget: Budget) -> Result<(), Rejection>
         ensures set { OnOk result (self.new ≡ with_limit budget.limit self.old) }
+        ensures entries { self.new.entries ≡ self.old.entries }
         ensures rejected { IfErr result (RejectsLimit budget.limit self.old) }
         ensures unchanged { OnErr result (self.new ≡ self.old) }
     {
@@ -61,11 +76,50 @@ impl Account {
         Ok(())
     }
 
+    /// The bytes above which the account is over. `usize::MAX` if no soft limit was set.
+    pub fn soft_limit(&self) -> usize
+        ensures { result ≡ self.now.soft_limit }
+    {
+        self.soft_limit
+    }
+
+    /// Replaces the soft limit. It refuses nothing.
+    pub fn set_soft_limit(&mut self, bytes: usize)
+        ensures { self.new ≡ with_soft_limit bytes self.old }
+    {
+        self.soft_limit = bytes;
+    }
+
+    /// Whether the bytes of all entries exceed the soft limit.
+    pub fn is_over(&self) -> bool
+        ensures { IsTrue result ↔ (self.now.soft_limit < sum_of self.now.entries) }
+    {
+        self.bytes > self.soft_limit
+    }
+
     /// The bytes of all entries together.
     pub fn bytes(&self) -> usize
         ensures { IsSummed result self.now }
     {
         self.bytes
+    }
+
+    /// The most bytes that all entries together ever had, since the account was opened or the peak was reset.
+    pub fn peak(&self) -> usize
+        ensures peak { result ≡ self.now.peak }
+        ensures highest { sum_of self.now.entries ≤ result }
+    {
+        self.peak
+    }
+
+    /// Lowers the peak to the bytes of all entries together. It returns the former peak.
+    pub fn reset_peak(&mut self) -> usize
+        ensures peak { result ≡ self.old.peak }
+        ensures reset { self.new ≡ with_peak_reset self.old }
+    {
+        let peak = self.peak;
+        self.peak = self.bytes;
+        peak
     }
 
     /// The bytes of each entry, by its number.
@@ -75,47 +129,67 @@ impl Account {
         &self.entries
     }
 
-    /// Adds an entry with these bytes under a number that has none. It returns the bytes of all entries together.
-    ///
-    /// It returns an error
-    /// - `Taken` where the number has an entry,
-    /// - otherwise `TooLarge` where the bytes of all entries together do not fit a word,
-    /// - otherwise `OverBudget` where they exceed the limit,
-    /// - otherwise `NotKept` where memory runs out.
-    ///
-    /// After an error the account is unchanged.
-    pub fn enter(&mut self, number: u64, bytes: usize) -> Result<usize, Rejection>
-        ensures entered { IfOk result (λ total. Puts number bytes None total self.old self.new) }
-        ensures rejected { IfErr result (RejectsNew number bytes self.old) }
-        ensures unchanged { OnErr result (self.new ≡ self.old) }
+    /// Checks that the number has no entry. The error is `Taken` exactly if it has one.
+    pub fn check_free(&self, number: u64) -> Result<(), Rejection>
+        ensures free { OnOk result (bytes_at number self.now ≡ None) }
+        ensures taken { IfErr result (λ r. (r ≡ Rejection.Taken number) × IsSome (bytes_at number self.now)) }
     {
         if self.entries.contains_key(&number) {
             return Err(Rejection::Taken { number });
         }
+        Ok(())
+    }
+
+    /// The bytes of the entry under the number. The error is `NotThere` exactly if it has none.
+    pub fn entry(&self, number: u64) -> Result<usize, Rejection>
+        ensures found { IfOk result (λ bytes. bytes_at number self.now ≡ Some bytes) }
+        ensures missing { IfErr result (λ r. (r ≡ Rejection.NotThere number) × (bytes_at number self.now ≡ None)) }
+        ensures within { sum_of self.now.entries ≤ self.now.limit }
+    {
+        match self.entries.get(&number) {
+            Some(bytes) => Ok(*bytes),
+            None => Err(Rejection::NotThere { number }),
+        }
+    }
+
+    /// Adds an entry with these bytes under a number that has none. It returns the bytes of all entries together.
+    ///
+    /// It returns an error
+    /// - `Taken` if the number has an entry,
+    /// - otherwise `TooLarge` if the bytes of all entries together do not fit a word,
+    /// - otherwise `OverBudget` if they exceed the limit,
+    /// - otherwise `NotKept` if memory runs out.
+    ///
+    /// After an error the account is unchanged.
+    pub fn enter(&mut self, number: u64, bytes: usize) -> Result<usize, Rejection>
+        ensures entered { IfOk result (λ total. Puts number bytes None total self.old self.new) }
+        ensures rejected { IfErr result (RejectsNew number (RejectsBytes 0 bytes) self.old) }
+        ensures unchanged { OnErr result (self.new ≡ self.old) }
+    {
+        self.check_free(number)?;
         self.put(number, 0, bytes)
     }
 
     /// Replaces the bytes of the entry under a number. It returns the bytes of all entries together.
     ///
-    /// The error is `NotThere` where the number has no entry, and otherwise `TooLarge`, `OverBudget` or `NotKept` as
-    /// for `enter`. After an error the account is unchanged.
+    /// The error is `NotThere` if the number has no entry, and otherwise `TooLarge`, `OverBudget` or `NotKept` as for
+    /// `enter`. After an error the account is unchanged.
     pub fn change(&mut self, number: u64, bytes: usize) -> Result<usize, Rejection>
         ensures changed { IfOk result (λ total. (had : ℕ) × Puts number bytes (Some had) total self.old self.new) }
-        ensures rejected { IfErr result (RejectsChange number bytes self.old) }
+        ensures rejected { IfErr result (RejectsChange number (λ had. RejectsBytes had bytes) self.old) }
         ensures unchanged { OnErr result (self.new ≡ self.old) }
     {
-        let Some(had) = self.entries.get(&number).copied() else {
-            return Err(Rejection::NotThere { number });
-        };
+        let had = self.entry(number)?;
         self.put(number, had, bytes)
     }
 
     /// Stores the bytes under the number, in place of the `had` bytes that it has.
     #[tactic(auto, using(crate::proofs::Sums::sums))]
-    fn put(&mut self, number: u64, had: usize, bytes: usize) -> Result<usize, Rejection>
+    pub(crate) fn put(&mut self, number: u64, had: usize, bytes: usize) -> Result<usize, Rejection>
         requires { had ≡ unwrap_or (bytes_at number self.old) 0 }
         ensures put { IfOk result (λ total. Puts number bytes (bytes_at number self.old) total self.old self.new) }
-        ensures rejected { IfErr result (RejectsBytes had (sum_of self.old.entries) bytes self.old.limit) }
+        ensures sum { IfOk result (λ total. sum_of self.new.entries ≡ total) }
+        ensures rejected { IfErr result (RejectsBytes had bytes self.old) }
         ensures unchanged { OnErr result (self.new ≡ self.old) }
     {
         let Some(total) = (self.bytes - had).checked_add(bytes) else {
@@ -126,10 +200,11 @@ impl Account {
             return Err(Rejection::NotKept);
         };
         self.bytes = total;
+        self.peak = self.peak.max(total);
         Ok(total)
     }
 
-    /// Removes the entry under the number. It returns the bytes of the entry, or None where there is none.
+    /// Removes the entry under the number. It returns the bytes of the entry, or None if there is none. The peak stays.
     #[tactic(auto, using(crate::proofs::Sums::sums))]
     pub fn release(&mut self, number: u64) -> Option<usize>
         ensures value { result ≡ bytes_at number self.old }

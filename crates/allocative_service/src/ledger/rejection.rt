@@ -8,9 +8,13 @@ use std::fmt;
 pub enum Rejection {
     /// The data would hold more bytes than the limit allows.
     OverBudget { bytes: usize, limit: usize },
+    /// The data of all tenants together would hold more bytes than the ledger's limit allows.
+    LedgerFull { bytes: usize, limit: usize },
+    /// An entry has fewer bytes than are to be taken off it.
+    OverCredit { bytes: usize, less: usize },
     /// The data could not be measured.
     NotMeasured(Refusal),
-    /// The bytes of the tenant's data together do not fit a word.
+    /// The bytes of all data together do not fit a word.
     TooLarge,
     /// The ledger's own memory could not grow.
     NotKept,
@@ -33,6 +37,12 @@ impl fmt::Display for Rejection {
         match *self {
             Rejection::OverBudget { bytes, limit } => {
                 write!(f, "{bytes} bytes exceed a limit of {limit}")
+            }
+            Rejection::LedgerFull { bytes, limit } => {
+                write!(f, "{bytes} bytes in all exceed a limit of {limit}")
+            }
+            Rejection::OverCredit { bytes, less } => {
+                write!(f, "a credit of {less} bytes exceeds an entry of {bytes}")
             }
             Rejection::NotMeasured(refusal) => write!(f, "not measured: {refusal}"),
             Rejection::TooLarge => write!(f, "sizes do not fit"),

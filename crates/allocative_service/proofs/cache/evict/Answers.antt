@@ -10,7 +10,7 @@ loop-left-preserved g c =
     let step = goes _ _ _ _ _ _ (c.in-Some.key, c.in-Some.gone) c.loop-left.invariant.evicted (omega arith) (sym c.in-Some.ensures.value) in
     rw (c.in-Some.ensures.entries, c.saturating_sub-left.ensures) (record {
       callable = search of_calls;
-      evicted = step.1 c.went.new.self c.went.ensures;
+      evicted = step.1 c.on_evict.new.self c.on_evict.ensures;
       left = ap (λ n. n - c.in-Some.gone.bytes) c.loop-left.invariant.left ∙ step.0;
       capacity = c.loop-left.invariant.capacity;
     })

@@ -1,7 +1,6 @@
-use Rattle.std.proofs.Common.{◌≡◌, map, take, ap, ◌∙◌, arith, rules, filter, take_all}
+use Rattle.std.proofs.Common.{◌≡◌, map, take, ap, ◌∙◌, arith, filter, take_all}
 use Rattle.allocative_service.proofs.Common.{change_data, is_grown}
-use Rattle.std.proofs.lemmas.List.Sorted.{IsNonDecreasingBy-from_sort_by_key}
-use Rattle.allocative_service.proofs.Most.{rank, grew_first}
+use Rattle.allocative_service.proofs.Most.{grew_first}
 use Rattle.allocative_service.proofs.history.changes.grew_most.Goals as goal
 
 -- The first of the sorted changes are those that grew most.
@@ -10,5 +9,5 @@ returns c =
     let cs = map change_data c.args.changes.now in
     let all : take c.loop-change.change-index c.args.changes.now ≡ c.args.changes.now = take_all c.loop-change.change-index c.args.changes.now (omega arith) in
     let is : map change_data c.loop-change.grown.items ≡ filter is_grown cs = c.loop-change.invariant.grown ∙ ap (λ s. filter is_grown (map change_data s)) all in
-    let sorted = IsNonDecreasingBy-from_sort_by_key rank _ c.in_ok-sort_by_key.ensures.sorted (λ a r q k. search rules) in
-    rw c.truncate.ensures.items (grew_first c.args.count cs c.loop-change.grown.items c.sort_by_key.new.self.items is c.loop-change.invariant.words c.in_ok-sort_by_key.ensures.permutation sorted)
+    let sorted = c.in_ok-sort_by_growth.ensures in
+    rw c.truncate.ensures.items (grew_first c.args.count cs c.loop-change.grown.items c.sort_by_growth.new.changes.items is sorted.same sorted.falling)
