@@ -170,7 +170,8 @@ fn one_chunk(alloc: Global, list: &[u32]) -> Result<Vec<Chunk>, AllocError>
 // Puts a number at a place of the chunks.
 fn insert_in(chunks: &mut Vec<Chunk>, place: Place, number: u32) -> Result<(), AllocError>
     requires { IsPlaceIn chunks.old.items place }
-    ensures ok { OnOk result (flat chunks.new.items ≡ insert (flat chunks.old.items) (place_in chunks.old.items place) number) }
+    ensures ok { OnOk result
+        (flat chunks.new.items ≡ insert (flat chunks.old.items) (place_in chunks.old.items place) number) }
     ensures err { OnErr result (flat chunks.new.items ≡ flat chunks.old.items) }
 {
     if place.chunk < chunks.len() {

@@ -1,7 +1,0 @@
--- Written by bin/implement.
-use Rattle.std.proofs.Common.{rules}
-use Rattle.allocative.proofs.Parts.{parts}
-use Rattle.implemented_types.proofs.nested.CategoryAllocative.+visit.Goals as goal
-
-pub returns : goal.returns
-returns t c = search (rules, parts)

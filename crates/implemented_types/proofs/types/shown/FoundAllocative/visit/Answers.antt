@@ -1,7 +1,0 @@
--- Written by bin/implement.
-use Rattle.std.proofs.Common.{rules}
-use Rattle.allocative.proofs.Parts.{parts}
-use Rattle.implemented_types.proofs.types.shown.FoundAllocative.visit.Goals as goal
-
-pub returns : goal.returns
-returns g c = search (rules, parts)

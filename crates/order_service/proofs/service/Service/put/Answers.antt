@@ -1,2 +1,0 @@
-use Rattle.std.proofs.Common.{inl, inr}
-use Rattle.order_service.proofs.service.Service.put.Goals as goal

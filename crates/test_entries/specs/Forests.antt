@@ -1,0 +1,18 @@
+-- What the entries of a row show.
+use Rattle.std.specs.Prelude.{ℕ}
+use Rattle.allocative.specs.Path.{Key}
+use Rattle.allocative.specs.Shows.{Showing, Nothing, Both, Inside as inside, InsideUnique, SharedWith}
+use Rattle.test_entries.specs.declared.forest.Forest.{Forest, Empty, Entry'}
+use Rattle.test_entries.specs.declared.forest.Kind.{Kind}
+use Rattle.test_entries.specs.declared.forest.Kind.TheVariants.{Inline, Unique, Shared}
+
+-- One entry, where p is what the entries inside it or in its content show.
+abbrev pub entry_shows : Kind → Key → ℕ → Showing → Showing
+entry_shows Inline k n p = inside k n p
+entry_shows Unique k n p = InsideUnique k n p
+entry_shows (Shared i) k n p = SharedWith k n i p
+
+-- Each entry, with what is inside it or in its content, and then the entries that follow it.
+abbrev pub forest_shows : Forest → Showing
+forest_shows Empty = Nothing
+forest_shows (Entry' kind k n p content q after) = Both (entry_shows kind k n (forest_shows content)) (forest_shows after)
