@@ -4,7 +4,7 @@ ghost use Rattle.allocative_service.specs.Accounts.{IsUnchanged, account_of, ent
 ghost use Rattle.allocative_service.specs.Entries.{with_entries, without};
 ghost use Rattle.allocative_service.specs.History.{profiles_of, two_of};
 ghost use Rattle.example_service.specs.Answers.{AnswersAttach, AnswersCharge, AnswersCredit, AnswersHistory, AnswersLedger, AnswersLimit, AnswersOpen, AnswersPages, AnswersSoft, AnswersText, AnswersWhole, ClosesAccount, EntersDocument, IsPlace, LosesPage, LosesPagesOf, PutsDocument, PutsDraft, PutsPage, PutsPageOf, RejectsDocument, ReleasesDocument, ResetsPeak, SetsBound, TakesOrFails, TakesPage, UsesPage};
-ghost use Rattle.example_service.specs.Lines.{BeginsWith, IsChangePicture, IsMost, IsPicture, IsReport, IsToldAs, account_lines, bill_of, closed_line, entered_line, list_of, peak_line, profiles_line, released_line};
+ghost use Rattle.example_service.specs.Lines.{BeginsWith, IsChangePicture, IsMost, IsPicture, IsReport, IsToldAs, account_lines, bill_of, closed_line, entered_line, list_of, over_mark, peak_line, profiles_line, released_line};
 
 use crate::documents::{Document, HasDocuments, Held, Note, Order};
 use crate::request::{Draft, Request};
@@ -37,7 +37,7 @@ pub struct Service {
 impl Service {
     /// A service with a catalogue of these items and no document. It keeps pages of 150 bytes together. The catalogue
     /// has an account of its own, so it is billed once, and to no tenant: `Measure::Owned` leaves out what an order's
-    /// pointer to it points to. The documents own no map or set of `std`, which it would leave out too.
+    /// pointer to it points to.
     pub fn new(alloc: Global, items: &[&str]) -> Result<Service> {
         let mut catalogue = Vec::with_capacity(alloc, items.len())?;
         for item in items {
@@ -593,6 +593,17 @@ fn too_few(alloc: Global) -> Result<String>
     Ok(String::from_str(alloc, "there are fewer than two profiles\n")?)
 }
 
+/// The end of the first line of an account's bill, which says if the account is over its soft limit.
+#[tactic(auto, using(std::proofs::lemmas::Bool::ltb_from_iff))]
+fn over_mark(account: &Account) -> &'static str
+    ensures { result.now ≡ over_mark account.now }
+{
+    if account.is_over() {
+        return ", over\n";
+    }
+    "\n"
+}
+
 /// Appends the bill of an account: its bytes, its limit, the most bytes that it had and whether it is over its soft
 /// limit, and the bytes of each document.
 fn push_account(tenant: &str, account: &Account, text: &mut String) -> Result<(), AllocError>
@@ -605,7 +616,7 @@ fn push_account(tenant: &str, account: &Account, text: &mut String) -> Result<()
         "{tenant}: {bytes} of {limit} bytes, at most {}",
         account.peak()
     )?;
-    text.push_str(if account.is_over() { ", over\n" } else { "\n" })?;
+    text.push_str(over_mark(account))?;
     for (key, bytes) in account.entries() {
         write!(text, "  document {key}: {bytes} bytes\n")?;
     }
