@@ -611,12 +611,8 @@ fn push_account(tenant: &str, account: &Account, text: &mut String) -> Result<()
         ≡ string_bytes text.old ++ account_lines tenant.now account.now) }
 {
     let (bytes, limit) = (account.bytes(), account.limit());
-    write!(
-        text,
-        "{tenant}: {bytes} of {limit} bytes, at most {}",
-        account.peak()
-    )?;
-    text.push_str(over_mark(account))?;
+    let (peak, mark) = (account.peak(), over_mark(account));
+    write!(text, "{tenant}: {bytes} of {limit} bytes, at most {peak}{mark}")?;
     for (key, bytes) in account.entries() {
         write!(text, "  document {key}: {bytes} bytes\n")?;
     }
