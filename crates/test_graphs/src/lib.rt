@@ -20,7 +20,7 @@ mod held;
 #[cfg(test)]
 mod made_graphs;
 #[cfg(test)]
-mod example_types;
+mod own_types;
 #[cfg(test)]
 mod owned;
 #[cfg(test)]

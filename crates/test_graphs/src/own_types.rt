@@ -20,7 +20,7 @@ enum Event {
 }
 
 impl Allocative for Event {
-    ghost use Rattle.test_graphs.specs.declared.example_types.Event.TheVariants.{Stopped, Sent, Named};
+    ghost use Rattle.test_graphs.specs.declared.own_types.Event.TheVariants.{Stopped, Sent, Named};
 
     ghost may_show = { λ e. shows.Inside (codes "Event") 32 (elim e [
       | Stopped ↦ shows.Nothing

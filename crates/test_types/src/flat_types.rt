@@ -1,9 +1,9 @@
 //! The profiles of structs, enums and containers.
 use crate::profiles::{expect, expect_holding};
-use indexmap::IndexMap;
 use example_types::containers::{Catalog, Journal, Shelf};
 use example_types::enums::Request;
 use example_types::structs::{Meter, Named, Session};
+use indexmap::IndexMap;
 use std::collections::HashMap;
 use std::test::Fail;
 

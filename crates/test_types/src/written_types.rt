@@ -1,10 +1,12 @@
 //! Profiles of values whose implementations `bin/implement` wrote.
 use crate::profiles::{expect, expect_holding};
-use test_generated_types::nested::{Category, Chain, Chapter, Json, Note, Page, Tree};
-use test_generated_types::placed::{Letter, Pair, Parcel, Post};
-use test_generated_types::types::{Found, Mark, Named, Nowhere, OfOne, Point, Request, Sextet, Table};
 use std::collections::{BTreeMap, HashMap};
 use std::test::Fail;
+use test_generated_types::nested::{Category, Chain, Chapter, Json, Note, Page, Tree};
+use test_generated_types::placed::{Letter, Pair, Parcel, Post};
+use test_generated_types::types::{
+    Found, Mark, Named, Nowhere, OfOne, Point, Request, Sextet, Table,
+};
 
 #[test]
 fn one_field_and_none(rt: HostRuntime) -> Result<(), Fail> {
