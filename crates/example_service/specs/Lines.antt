@@ -54,12 +54,14 @@ document_line e = codes "  document " ++ (decimal e.0 ++ (codes ": " ++ (decimal
 abbrev pub over_mark : Holding → List ℕ
 over_mark h = if nat_lt h.soft_limit (sum_of h.entries) then codes ", over\n" else codes "\n"
 
--- The bill of a tenant: all bytes, the limit and the most bytes that it had, and below them the bytes of each document.
+-- The first line of a tenant's bill: all bytes, the limit and the most bytes that it had.
+abbrev pub account_line : List ℕ → Holding → List ℕ
+account_line tenant h = tenant ++ (codes ": " ++ (decimal (sum_of h.entries) ++ (codes " of " ++ (decimal h.limit
+    ++ (codes " bytes, at most " ++ (decimal h.peak ++ over_mark h))))))
+
+-- The bill of a tenant: its first line, and below it the bytes of each document.
 abbrev pub account_lines : List ℕ → Holding → List ℕ
-account_lines tenant h =
-    (tenant ++ (codes ": " ++ (decimal (sum_of h.entries) ++ (codes " of " ++ (decimal h.limit
-    ++ (codes " bytes, at most " ++ (decimal h.peak ++ over_mark h)))))))
-    ++ flat_map document_line h.entries
+account_lines tenant h = account_line tenant h ++ flat_map document_line h.entries
 
 -- The bills of these tenants.
 abbrev pub bills_of : List (String Global × Holding) → List ℕ

@@ -4,7 +4,7 @@ ghost use Rattle.allocative_service.specs.Accounts.{IsUnchanged, account_of, ent
 ghost use Rattle.allocative_service.specs.Entries.{with_entries, without};
 ghost use Rattle.allocative_service.specs.History.{profiles_of, two_of};
 ghost use Rattle.example_service.specs.Answers.{AnswersAttach, AnswersCharge, AnswersCredit, AnswersHistory, AnswersLedger, AnswersLimit, AnswersOpen, AnswersPages, AnswersSoft, AnswersText, AnswersWhole, ClosesAccount, EntersDocument, IsPlace, LosesPage, LosesPagesOf, PutsDocument, PutsDraft, PutsPage, PutsPageOf, RejectsDocument, ReleasesDocument, ResetsPeak, SetsBound, TakesOrFails, TakesPage, UsesPage};
-ghost use Rattle.example_service.specs.Lines.{BeginsWith, IsChangePicture, IsMost, IsPicture, IsReport, IsToldAs, account_lines, bill_of, closed_line, entered_line, list_of, over_mark, peak_line, profiles_line, released_line};
+ghost use Rattle.example_service.specs.Lines.{BeginsWith, IsChangePicture, IsMost, IsPicture, IsReport, IsToldAs, account_line, account_lines, bill_of, closed_line, entered_line, list_of, over_mark, peak_line, profiles_line, released_line};
 
 use crate::documents::{Document, HasDocuments, Held, Note, Order};
 use crate::request::{Draft, Request};
@@ -604,15 +604,27 @@ fn over_mark(account: &Account) -> &'static str
     "\n"
 }
 
-/// Appends the bill of an account: its bytes, its limit, the most bytes that it had and whether it is over its soft
-/// limit, and the bytes of each document.
+/// Appends the first line of an account's bill: its bytes, its limit, the most bytes that it had and whether it is over
+/// its soft limit.
+fn push_account_line(tenant: &str, account: &Account, text: &mut String) -> Result<(), AllocError>
+    ensures { OnOk result (string_bytes text.new
+        ≡ string_bytes text.old ++ account_line tenant.now account.now) }
+{
+    let (bytes, limit) = (account.bytes(), account.limit());
+    let (peak, mark) = (account.peak(), over_mark(account));
+    write!(
+        text,
+        "{tenant}: {bytes} of {limit} bytes, at most {peak}{mark}"
+    )?;
+    Ok(())
+}
+
+/// Appends the bill of an account: its first line, and the bytes of each document.
 fn push_account(tenant: &str, account: &Account, text: &mut String) -> Result<(), AllocError>
     ensures { OnOk result (string_bytes text.new
         ≡ string_bytes text.old ++ account_lines tenant.now account.now) }
 {
-    let (bytes, limit) = (account.bytes(), account.limit());
-    let (peak, mark) = (account.peak(), over_mark(account));
-    write!(text, "{tenant}: {bytes} of {limit} bytes, at most {peak}{mark}")?;
+    push_account_line(tenant, account, text)?;
     for (key, bytes) in account.entries() {
         write!(text, "  document {key}: {bytes} bytes\n")?;
     }

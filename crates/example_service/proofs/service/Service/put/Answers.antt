@@ -8,7 +8,7 @@ returns-in_ok-note-in-Note-clause-ledger c = rw c.in-Note.is (inr (c.in_ok-note-
 
 -- A note is made, and the pages change as for a document.
 pub returns-in_ok-note-in-Note-clause-pages : goal.returns-in_ok-note-in-Note-clause-pages
-returns-in_ok-note-in-Note-clause-pages c = rw c.in-Note.is (puts_page _ _ _ _ _ _ _ (λ entered. (c.in_ok-note-in-Note.note, c.in_ok-note-in-Note.ensures, entered.0, entered.1)) c.put_document.ensures.pages)
+returns-in_ok-note-in-Note-clause-pages c = rw c.in-Note.is (puts_page _ _ _ c.args.self.now.ledger c.put_document.new.self.ledger _ _ (λ entered. (c.in_ok-note-in-Note.note, c.in_ok-note-in-Note.ensures, entered.0, entered.1)) c.put_document.ensures.pages)
 
 -- An order is made, and the ledger changes as for a document.
 pub returns-in_ok-order-in-Order-clause-ledger : goal.returns-in_ok-order-in-Order-clause-ledger
@@ -16,4 +16,4 @@ returns-in_ok-order-in-Order-clause-ledger c = rw c.in-Order.is (inr (c.in_ok-or
 
 -- An order is made, and the pages change as for a document.
 pub returns-in_ok-order-in-Order-clause-pages : goal.returns-in_ok-order-in-Order-clause-pages
-returns-in_ok-order-in-Order-clause-pages c = rw c.in-Order.is (puts_page _ _ _ _ _ _ _ (λ entered. (c.in_ok-order-in-Order.order, c.in_ok-order-in-Order.ensures, entered.0, entered.1)) c.put_document-in-Order.ensures.pages)
+returns-in_ok-order-in-Order-clause-pages c = rw c.in-Order.is (puts_page _ _ _ c.args.self.now.ledger c.put_document-in-Order.new.self.ledger _ _ (λ entered. (c.in_ok-order-in-Order.order, c.in_ok-order-in-Order.ensures, entered.0, entered.1)) c.put_document-in-Order.ensures.pages)
