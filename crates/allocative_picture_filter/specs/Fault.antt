@@ -1,5 +1,5 @@
 -- What status a fault ends the program with.
-use Rattle.std.specs.Prelude.{◌≡◌, ℕ, ⊤}
+use Rattle.std.specs.Prelude.{◌≡◌, ℕ}
 use Rattle.allocative_graph.specs.declared.read.LineFault.TheVariants as line
 use Rattle.allocative_graph.specs.declared.refusal.Refusal as refusal
 use Rattle.allocative_graph.specs.declared.refusal.Refusal.TheVariants as refused
@@ -18,11 +18,6 @@ status_of (Arguments m) = 5
 status_of (Reading s k) = 6
 status_of Writing = 7
 status_of Empty = 8
-
--- The fault is one of the arguments.
-abbrev pub IsMisuse : Fault → Type 0
-IsMisuse (Arguments m) = ⊤
-IsMisuse f = ⊥
 
 -- The fault is that of a read of this source.
 abbrev pub IsUnread : Source → Fault → Type 0

@@ -1,6 +1,6 @@
 //! The arguments of the program.
-ghost use Rattle.std.specs.Prelude.{◌≡◌, ◌⊎◌, IsTrue, IfOk, IfErr, []};
-ghost use Rattle.allocative_picture_filter.specs.Fault.{IsMisuse};
+ghost use Rattle.std.specs.Prelude.{◌≡◌, IfOk, IfErr, Ok, Some, None, option_map, string_bytes};
+ghost use Rattle.allocative_picture_filter.specs.Arguments.{asked_by, asked_of, width_of, words_of, StopsAsking};
 
 use crate::fault::Fault;
 use std::alloc::Global;
@@ -61,7 +61,8 @@ impl fmt::Display for Misuse<'_> {
 
 // The argument that follows an option.
 fn value_of<'a>(option: &'a str, next: Option<&'a String>) -> Result<&'a str, Fault<'a>>
-    ensures { IfErr result IsMisuse }
+    ensures ok { IfOk result (λ value. option_map (λ text. string_bytes text.now) next.entry ≡ Some value.now) }
+    ensures err { IfErr result (λ f. (next.entry ≡ None) × (f ≡ Fault.Arguments (Misuse.Incomplete option.entry))) }
 {
     match next {
         Some(value) => Ok(value.as_str()),
@@ -71,7 +72,9 @@ fn value_of<'a>(option: &'a str, next: Option<&'a String>) -> Result<&'a str, Fa
 
 // The width that a text writes.
 fn width_of(text: &str) -> Result<u32, Fault<'_>>
-    ensures { IfErr result IsMisuse }
+    ensures ok { IfOk result (λ width. width_of text.now ≡ Some width) }
+    ensures err { IfErr result
+        (λ f. (width_of text.now ≡ None) × (f ≡ Fault.Arguments (Misuse.Width text.entry))) }
 {
     match text.parse::<u32>() {
         Ok(width) => Ok(width),
@@ -82,13 +85,12 @@ fn width_of(text: &str) -> Result<u32, Fault<'_>>
 /// Reads the arguments: `--help`, `--text`, `--not-empty`, `--title` with a text, `--narrowest` with a number of
 /// millionths, `--before` with the name of a file, names of files, and `-` for the input, which is also read where no
 /// file of the profile is named. It fails with `Fault::Arguments` if another argument begins with `-`, if `-` is
-/// repeated, if nothing follows `--title`, `--narrowest` or `--before`, if what follows `--narrowest` is no whole number
-/// of 32 bits, or if the text of a change is asked for. Of several titles or widths the last one counts. The only other
-/// error is `Fault::Memory`.
+/// repeated, if nothing follows `--title`, `--narrowest` or `--before`, if what follows `--narrowest` is no whole
+/// number of 32 bits, or if the text of a change is asked for. Of several words that are wrong it tells the first. Of
+/// several titles or widths the last one counts. The only other error is `Fault::Memory`.
 pub fn read_arguments(alloc: Global, arguments: &[String]) -> Result<Arguments<'_>, Fault<'_>>
-    ensures text_alone { IfOk result (λ asked. IsTrue asked.as_text → asked.before.items ≡ []) }
-    ensures some_input { IfOk result (λ asked. asked.after.items ≡ [] → IsTrue asked.reads_input) }
-    ensures err { IfErr result (λ f. IsMisuse f ⊎ (f ≡ Fault.Memory)) }
+    ensures ok { IfOk result (λ asked. asked_by (words_of arguments.now) ≡ Ok (asked_of asked)) }
+    ensures err { IfErr result (StopsAsking (asked_by (words_of arguments.now))) }
 {
     let mut asked = Arguments {
         help: false,
