@@ -17,59 +17,76 @@ pub on_test : (P : Bool → Type 0) (t : Bool) → (t ≡ true → P true) → (
 on_test P true f g = f refl
 on_test P false f g = g refl
 
+-- An ordering that tests as equal is `Equal`.
 pub is_eq-Equal : (r : Ordering) → IsTrue (is_eq r) → r ≡ Equal
 is_eq-Equal r = (Equal-is r).0
 
 -- ---- lists
+-- What holds of each item of two lists holds of each item of the lists one after another.
 pub each-append : {X : Type 0} (P : X → Type 0) (xs ys : List X) → AllByRecursion P xs → AllByRecursion P ys → AllByRecursion P (xs ++ ys)
 each-append P xs ys h g = recursion_from_All P (xs ++ ys) (All-append P xs ys (All-from_recursion P xs h) (All-from_recursion P ys g))
 
+-- What holds of each item of two lists one after another holds of each item of either.
 pub each-parts : {X : Type 0} (P : X → Type 0) (xs ys : List X) → AllByRecursion P (xs ++ ys) → AllByRecursion P xs × AllByRecursion P ys
 each-parts P [] ys h = (tt, h)
 each-parts P (x ∷ xs) ys h = let rest = each-parts P xs ys h.1 in ((h.0, rest.0), rest.1)
 
+-- If P implies Q, and each item of a list has P, each item has Q.
 pub each-implies : {X : Type 0} (P Q : X → Type 0) → ((x : X) → P x → Q x) → (xs : List X) → AllByRecursion P xs → AllByRecursion Q xs
 each-implies P Q f xs h = recursion_from_All Q xs (All-weaker P Q f xs (All-from_recursion P xs h))
 
+-- If P holds of each item of a mapped list, it holds of what f makes of each item of the list.
 pub each-map : {X Y : Type 0} (P : Y → Type 0) (f : X → Y) (xs : List X) → AllByRecursion P (map f xs) → AllByRecursion (λ x. P (f x)) xs
 each-map P f [] h = tt
 each-map P f (x ∷ xs) h = (h.0, each-map P f xs h.1)
 
+-- If each of two tests implies Q, and one of them is true, Q holds.
 pub or_both : {Q : Type 0} (a b : Bool) → (IsTrue a → Q) → (IsTrue b → Q) → IsTrue (a || b) → Q
 or_both a b f g h = elim (or_cases a b h) [ inl x ↦ f x | inr x ↦ g x ]
 
+-- If some item of the first list passes a test, so does some item of both lists one after another.
 pub any_left : {X : Type 0} (p : X → Bool) (xs ys : List X) → IsTrue (list_any p xs) → IsTrue (list_any p (xs ++ ys))
 any_left p xs ys h = list_any-append p xs ys ∙ or_left _ (list_any p ys) h
 
+-- If some item of the second list passes a test, so does some item of both lists one after another.
 pub any_right : {X : Type 0} (p : X → Bool) (xs ys : List X) → IsTrue (list_any p ys) → IsTrue (list_any p (xs ++ ys))
 any_right p xs ys h = list_any-append p xs ys ∙ or_right (list_any p xs) _ h
 
 -- ---- orders
+-- The comparison of paths is a total order.
 pub path_total : IsTotalOrder path_cmp
 path_total = lists_total nat_list_cmp_total
 
+-- Paths that compare as equal are equal.
 pub path_antisymmetric : IsAntisymmetric path_cmp
 path_antisymmetric = slice_cmp-IsAntisymmetric (slice_cmp-IsAntisymmetric nat_cmp-IsAntisymmetric)
 
+-- If the test `is_same_path` is true, the paths are equal.
 pub same_path : (p q : Path) → IsTrue (is_same_path p q) → p ≡ q
 same_path p q h = path_antisymmetric p q (is_eq-Equal _ h)
 
+-- The test `is_same_path` is true of a path and itself.
 pub same_path_itself : (p : Path) → IsTrue (is_same_path p p)
 same_path_itself p = (eq_by_cmp_equiv path_total).refl p
 
+-- The comparison of identities is a total order.
 pub identity_total : IsTotalOrder identity_cmp
 identity_total = then_total (on_total (λ (i : Identity). i.maker) nat_cmp_total) (on_total (λ (i : Identity). i.number) nat_cmp_total)
 
+-- Identities that compare as equal are equal.
 pub identity_antisymmetric : IsAntisymmetric identity_cmp
 identity_antisymmetric i j e =
     let same = exact_pairs nat_cmp nat_cmp nat_cmp-IsAntisymmetric nat_cmp-IsAntisymmetric (i.maker, i.number) (j.maker, j.number) e in
     λ k. record { maker = (same k).0; number = (same k).1 }
 
+-- If the test `is_same_identity` is true, the identities are equal.
 pub same_identity : (i j : Identity) → IsTrue (is_same_identity i j) → i ≡ j
 same_identity i j h = identity_antisymmetric i j (is_eq-Equal _ h)
 
+-- The test `is_same_identity` is true of an identity and itself.
 pub same_identity_itself : (i : Identity) → IsTrue (is_same_identity i i)
 same_identity_itself i = (eq_by_cmp_equiv identity_total).refl i
 
+-- The test `is_same_identity` does not depend on which of the two identities is first.
 pub same_identity_turned : (i j : Identity) → is_same_identity i j ≡ is_same_identity j i
 same_identity_turned i j = (eq_by_cmp_equiv identity_total).symm i j

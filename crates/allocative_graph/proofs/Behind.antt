@@ -20,12 +20,12 @@ gap-lacks cs i k g =
 
 -- ---- what is read under a key: F passes over children with other keys, and reads the child with the key
 module _ {A : Type 0} (F : List Child → A) (one : Child → A) (k : Key) (past : (c : Child) (cs : List Child) → eq_by_cmp key_cmp k c.key ≡ false → F (c ∷ cs) ≡ F cs) where
-  -- Where no child has the key, there is what there is without children.
+  -- If no child has the key, there is what there is without children.
   read-lacks : (cs : List Child) → Lacks k cs → F cs ≡ F []
   read-lacks [] h = refl
   read-lacks (c ∷ cs) h = past c cs h.0 ∙ read-lacks cs h.1
 
-  -- Where the key was found, there is what its child has.
+  -- If the key was found, there is what its child has.
   read-found : ((c : Child) (cs : List Child) → eq_by_cmp key_cmp k c.key ≡ true → F cs ≡ F [] → F (c ∷ cs) ≡ one c)
       → (cs : List Child) (i : ℕ) (d : Child) → InOrder cs → i < length cs → (get_or cs i d).key ≡ k → F cs ≡ one (get_or cs i d)
   unfolding IsStrictlySortedBy
@@ -103,12 +103,12 @@ module _ {n s : ℕ} {cs ds : List Child} {g : Graph} {path : Path} {k : Key} {p
       same_total = b.same_total ∙ sym (whole p);
     })
 
-    -- Where the child has nothing at p, the node has nothing at the path.
+    -- If the child has nothing at p, the node has nothing at the path.
     pub missing_child : HasNothing (get_or ds i d).graph p → HasNothing g path
     missing_child m = subst₂ HasNothing (ap (node n) same ∙ view) (sym is)
         (record { missing = ap is_some (at p) ∙ m.missing; below = λ q. ap is_some (at (p ++ q)) ∙ m.below q; nothing = whole p ∙ m.nothing })
 
-  -- Where a key was not found, the node has nothing at the path and below it.
+  -- If a key was not found, the node has nothing at the path and below it.
   pub missing_key : {i : ℕ} → IsChildGap ds k i → HasNothing g path
   missing_key {i = i} gap =
       let none = gap-lacks ds i k gap in
@@ -116,7 +116,7 @@ module _ {n s : ℕ} {cs ds : List Child} {g : Graph} {path : Path} {k : Key} {p
       subst₂ HasNothing (ap (node n) same ∙ view) (sym is) (record { missing = missing p; below = λ q. missing (p ++ q); nothing = whole-node n ds k p in_order ∙ whole-lacks k p ds none })
 
 -- ---- in terms of what a call returns
--- Where P implies Q, P in the absence of a value implies Q in its absence.
+-- If P implies Q, P in the absence of a value implies Q in its absence.
 pub none_implies : {X : Type 0} (P Q : Type 0) → (P → Q) → (o : Option X) → IfNone o P → IfNone o Q
 none_implies P Q f None h = f h
 none_implies P Q f (Some x) h = h

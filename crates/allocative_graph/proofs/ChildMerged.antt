@@ -24,9 +24,11 @@ unchanged cs ds h none = record {
   at_most = omega arith;
 }
 
+-- If no children are merged into cs, the result is cs, and all was added.
 pub merged_same : (cs : List Child) → AreChildren cs → Merged true cs [] cs
 merged_same cs h = unchanged cs [] h (λ w. refl)
 
+-- If not all was added, cs unchanged is a merge of any ds into cs.
 pub not_merged : {all : Bool} → all ≡ false → (cs ds : List Child) → AreChildren cs → Merged all cs ds cs
 not_merged failed cs ds h = unchanged cs ds h (λ w. absurd (true≢false (sym w ∙ failed)))
 
@@ -71,7 +73,7 @@ merged_both a b c d g cs ds es m same sum below_cs below_ds = record {
 }
 
 -- ---- the next child
--- Where the first key of cs is less than that of ds, the first child of cs is next.
+-- If the first key of cs is less than the first key of ds, or ds has no child, the first child of cs is next.
 pub next_less : {cs ds cs' : List Child} {c : Child} → cs ≡ c ∷ cs' → AreChildren cs → AreChildren ds → front_order cs ds ≡ Some Less → IsNext true cs ds c cs' ds
 next_less {cs = cs} {ds = ds} {cs' = cs'} {c = c} e mine theirs front =
     let all : AreChildren (c ∷ cs') = subst AreChildren e mine in
@@ -88,7 +90,7 @@ next_less {cs = cs} {ds = ds} {cs' = cs'} {c = c} e mine theirs front =
     above [] h f = tt
     above (d ∷ ds) h f = above_all c.key d ds (cc) h
 
--- Where it is greater, or where cs has no child, the first child of ds is next.
+-- If the first key of cs is greater than the first key of ds, or cs has no child, the first child of ds is next.
 pub next_greater : {cs ds ds' : List Child} {d : Child} → ds ≡ d ∷ ds' → AreChildren cs → AreChildren ds → front_order cs ds ≡ Some Greater → IsNext true cs ds d cs ds'
 next_greater {cs = cs} {ds = ds} {ds' = ds'} {d = d} e mine theirs front =
     let all : AreChildren (d ∷ ds') = subst AreChildren e theirs in
@@ -154,28 +156,34 @@ going_next {all = all} {a = a} {cs = cs} {ds = ds} {out = out} {c = c} g n all_i
       has_room = omega (arith, g.has_room, n.fewer, l, ap length out_is, more);
     }
 
+-- When no child of either list remains, what the loop has made is the merge of both.
 pub going_end : {all : Bool} {cs ds out cs' ds' : List Child} {size room : ℕ} → Going all cs ds out cs' ds' size room → cs' ≡ [] → ds' ≡ [] → Merged all cs ds out
 going_end {all = all} {cs = cs} {ds = ds} {out = out} g c d =
     subst₂ (λ v r. Merged v cs ds r) (and-true all) (append-nil out) (g.goes_on true [] (subst₂ (λ x y. Merged true x y []) (sym c) (sym d) (merged_same [] no_children)))
 
+-- Two results one after another are Ok exactly if each of them is.
 pub is_ok-and : {E : Type 0} (r s : Result (Unit {0}) E) → is_ok (result_and r s) ≡ (is_ok r && is_ok s)
 is_ok-and (Ok x) s = refl
 is_ok-and (Err e) s = refl
 
 -- ---- what is taken off the front
+-- If what was taken off the front of a list is x, the list is x followed by the rest.
 pub front_is : {X : Type 0} {o : Option X} {x : X} {xs rest : List X} → xs ≡ option_to_list o ++ rest → o ≡ Some x → xs ≡ x ∷ rest
 front_is {rest = rest} e h = e ∙ ap (λ p. option_to_list p ++ rest) h
 
+-- A list of fewer than two items that ends in x has x alone.
 pub one_of_length : {X : Type 0} (xs rest : List X) (x : X) → xs ≡ rest ++ x ∷ [] → length xs < 2 → xs ≡ x ∷ []
 one_of_length xs [] x e h = e
 one_of_length xs (y ∷ rest) x e h = absurd (omega (arith, ap length e, length-append rest (x ∷ [])))
 
 -- ---- one child put among others: added to the one that has its key, or in its place
+-- A child whose key is above those of a and below those of b is merged by putting it between a and b.
 inserted : (a b : List Child) (c : Child) → AreChildren (a ++ b) → IsTree c.graph → AllBelow a c.key → AllAbove b c.key → Merged true (a ++ b) (c ∷ []) (a ++ c ∷ b)
 inserted [] b c h t below above = merged_second true c b [] b (merged_same b h) t above tt
 inserted (x ∷ a) b c h t below above =
     merged_first true x (a ++ b) (c ∷ []) (a ++ c ∷ b) (inserted a b c (others x (a ++ b) h) t below.1 above) (first_tree x (a ++ b) h) (first_below x (a ++ b) h) (below.0, tt)
 
+-- A child with the key of x is merged by adding its graph to the graph of x.
 changed : (all : Bool) (a b : List Child) (x c : Child) (g : Graph) → AreChildren (a ++ x ∷ b) → c.key ≡ x.key → Added all x.graph c.graph g → Merged all (a ++ x ∷ b) (c ∷ []) (a ++ with_graph x g ∷ b)
 changed all [] b x c g h same sum =
     subst (λ (v : Bool). Merged v (x ∷ b) (c ∷ []) (with_graph x g ∷ b)) (and-true all) (merged_both all true x c g b [] b (merged_same b (others x b h)) same sum (first_below x b h) tt)

@@ -9,32 +9,40 @@ use Rattle.std.specs.declared.cmp.Ordering.{Ordering}
 use Rattle.std.proofs.lemmas.List.Sorted.{searchable_from_sorted}
 use Rattle.std.specs.Ordering.{ordering_index}
 
+-- Keys that compare as equal are equal.
 pub key_same : (k l : Key) → key_cmp k l ≡ Equal → k ≡ l
 key_same = slice_cmp-IsAntisymmetric nat_cmp-IsAntisymmetric
 
+-- If k is greater than l, then l is less than k.
 pub key_turn : (k l : Key) → key_cmp k l ≡ Greater → key_cmp l k ≡ Less
 key_turn k l h = nat_list_cmp_total.antisymm l k ∙ ap ordering_reverse h
 
 -- ---- the first child, and those after it
+-- The key of the first child is below the keys of all others.
 pub first_below : (c : Child) (cs : List Child) → AreChildren (c ∷ cs) → AllAbove cs c.key
 unfolding IsStrictlySortedBy
 first_below c cs h = h.sorted.0
 
+-- The graph of the first child is a tree.
 pub first_tree : (c : Child) (cs : List Child) → AreChildren (c ∷ cs) → IsTree c.graph
 first_tree c cs h = h.trees.0
 
+-- The children of a root without the first one can also be the children of a root.
 pub others : (c : Child) (cs : List Child) → AreChildren (c ∷ cs) → AreChildren cs
 unfolding IsStrictlySortedBy
 others c cs h = record { sorted = h.sorted.1; trees = h.trees.1 }
 
+-- A root can be without children.
 pub no_children : AreChildren []
 unfolding IsStrictlySortedBy
 no_children = record { sorted = tt; trees = tt }
 
+-- A child can be put before others if its key is below theirs and its graph is a tree.
 pub with_first : (c : Child) (cs : List Child) → AllAbove cs c.key → IsTree c.graph → AreChildren cs → AreChildren (c ∷ cs)
 unfolding IsStrictlySortedBy
 with_first c cs above t h = record { sorted = (above, h.sorted); trees = (t, h.trees) }
 
+-- A child can be the only child of a root if its graph is a tree.
 pub one_child : (c : Child) → IsTree c.graph → AreChildren (c ∷ [])
 one_child c t = with_first c [] tt t no_children
 
@@ -43,22 +51,26 @@ pub above_all : (k : Key) (c : Child) (cs : List Child) → key_cmp k c.key ≡ 
 above_all k c cs less h = (less, each-implies _ _ (λ l q. nat_list_cmp_total.trans k c.key l less q) (keys_of cs) (first_below c cs h))
 
 -- ---- a child in the middle
+-- What holds of the keys of all children holds of the key of one in the middle.
 pub all-at : (P : Key → Type 0) (a b : List Child) (x : Child) → AllByRecursion P (keys_of (a ++ x ∷ b)) → P x.key
 all-at P [] b x h = h.0
 all-at P (y ∷ a) b x h = all-at P a b x h.1
 
 -- ---- a search for a key
+-- If the key at each place before i is below k, the first i children are all below k.
 below_from : (cs : List Child) (i : ℕ) (k : Key) → i ≤ length cs → ((j : ℕ) (d : Child) → j < i → key_cmp (get_or cs j d).key k ≡ Less) → AllBelow (take i cs) k
 below_from cs zero k within f = tt
 below_from [] (suc i) k within f = absurd (omega arith)
 below_from (c ∷ cs) (suc i) k within f = (f 0 c (omega arith), below_from cs i k (omega arith) (λ j d h. f (suc j) d (omega arith)))
 
+-- If the key at each place from i on is above k, the children from i on are all above k.
 above_from : (cs : List Child) (i : ℕ) (k : Key) → ((j : ℕ) (d : Child) → i ≤ j → j < length cs → key_cmp (get_or cs j d).key k ≡ Greater) → AllAbove (drop i cs) k
 above_from [] zero k f = tt
 above_from [] (suc i) k f = tt
 above_from (c ∷ cs) zero k f = (key_turn c.key k (f 0 c (omega arith) (omega arith)), above_from cs zero k (λ j d a b. f (suc j) d (omega arith) (omega arith)))
 above_from (c ∷ cs) (suc i) k f = above_from cs i k (λ j d a b. f (suc j) d (omega arith) (omega arith))
 
+-- An ordering with the index 0 is `Less`.
 first_index : (o : Ordering) → ordering_index o ≡ 0 → o ≡ Less
 first_index Less e = refl
 first_index Equal e = absurd (omega arith)

@@ -9,9 +9,11 @@ use Rattle.allocative_graph.proofs.ChildOrder.{key_same}
 abbrev pub Lacks : Key → List Child → Type 0
 Lacks k cs = AllByRecursion (λ l. eq_by_cmp key_cmp k l ≡ false) (keys_of cs)
 
+-- No child has a key that is below the keys of all children.
 pub lacks-above : (k : Key) (cs : List Child) → AllAbove cs k → Lacks k cs
 lacks-above k cs h = each-implies _ _ (λ l. ap is_eq) (keys_of cs) h
 
+-- If no child has the key k, no size is below k.
 pub size_under-lacks : (cs : List Child) (k : Key) (p : Path) → Lacks k cs → size_under cs k p ≡ None
 size_under-lacks [] k p h = refl
 size_under-lacks (c ∷ cs) k p h = ap (λ b. cond b (get c.graph p) (size_under cs k p)) h.0 ∙ size_under-lacks cs k p h.1
@@ -21,14 +23,18 @@ pub none_above : (k l : Key) (p : Path) (cs : List Child) → eq_by_cmp key_cmp 
 none_above k l p cs e h = size_under-lacks cs k p (subst (λ m. Lacks m cs) (sym (key_same k l ((Equal-is (key_cmp k l)).0 e))) (lacks-above l cs h))
 
 -- ---- sums of sizes
+-- A size and a missing one add up to the first.
 pub AddsUp-first : (x : Option ℕ) → AddsUp x None x
 AddsUp-first x = (omega arith, sym (or-false (is_some x)))
 
+-- A missing size and another one add up to the second.
 pub AddsUp-second : (y : Option ℕ) → AddsUp None y y
 AddsUp-second y = (omega arith, refl)
 
+-- Sizes that add up also add up in part.
 pub part_of_sum : (x y z : Option ℕ) → AddsUp x y z → AddsUpInPart x y z
 part_of_sum x y z h = (inr h.0, (λ e. h.1 ∙ or_left (is_some x) (is_some y) e), (λ e. sym h.1 ∙ e))
 
+-- If the first size does not change, the two add up in part.
 pub part_of_none : (x y : Option ℕ) → AddsUpInPart x y x
 part_of_none x y = (inl refl, (λ e. e), (λ e. or_left (is_some x) (is_some y) e))

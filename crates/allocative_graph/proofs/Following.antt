@@ -7,6 +7,7 @@ use Rattle.allocative_graph.proofs.Lookups.{add_all-same}
 use Rattle.std.proofs.lemmas.List.Sums.{fold-append, sum_by-append}
 use Rattle.allocative_graph.proofs.Reach.{ids, met-append, contains-insert_all}
 
+-- The own entries of two forests one after another are those of the first, then those of the second.
 pub own-following : (p : Path) (f g : Forest) → own_behind p (followed_by f g) ≡ own_behind p f ++ own_behind p g
 own-following p Empty g = refl
 own-following p (Inline k n f after) g = λ i. record { path = p ++ k ∷ []; size = n; mark = AsInline } ∷ (ap (λ b. own_behind (p ++ k ∷ []) f ++ b) (own-following p after g) ∙ sym (append_assoc (own_behind (p ++ k ∷ []) f) (own_behind p after) (own_behind p g))) i
@@ -14,6 +15,7 @@ own-following p (Unique k n f after) g = λ i. record { path = p ++ k ∷ []; si
 own-following p (First k n j f after) g = λ i. record { path = p ++ k ∷ []; size = n; mark = AsShared j } ∷ own-following p after g i
 own-following p (Again k n j after) g = λ i. record { path = p ++ k ∷ []; size = n; mark = AsShared j } ∷ own-following p after g i
 
+-- The contents of two forests one after another are those of the first, then those of the second.
 pub contents-following : (f g : Forest) → contents (followed_by f g) ≡ contents f ++ contents g
 contents-following Empty g = refl
 contents-following (Inline k n f after) g = ap (λ b. contents f ++ b) (contents-following after g) ∙ sym (append_assoc (contents f) (contents after) (contents g))
@@ -21,20 +23,24 @@ contents-following (Unique k n f after) g = ap (λ b. contents f ++ b) (contents
 contents-following (First k n j f after) g = λ i. (j, own_behind [] f) ∷ (ap (λ b. contents f ++ b) (contents-following after g) ∙ sym (append_assoc (contents f) (contents after) (contents g))) i
 contents-following (Again k n j after) g = contents-following after g
 
+-- The identities met after two forests are those met after the first one and then the second.
 pub met-following : (s : Identities) (f g : Forest) → met_after s (followed_by f g) ≡ met_after (met_after s f) g
 met-following s f g = rw (contents-following f g) (met-append s (contents f) (contents g))
 
+-- Two forests one after another change the sums as the first one does and then the second.
 pub entries_at-following : (s : Sums) (p : Path) (f g : Forest) → add_all s (entries_at p (followed_by f g)) ≡ add_all (add_all s (entries_at p f)) (entries_at p g)
 entries_at-following s p f g = add_all-same s (entries_at p (followed_by f g)) (entries_at p f ++ entries_at p g)
     (λ w. rw (own-following p f g, contents-following f g, flat_map-append (λ (c : Identity × Bag). c.1) (contents f) (contents g)) (simp sum_by-append (omega arith)))
     ∙ fold-append add s (entries_at p f) (entries_at p g)
 
 -- ---- fitting
+-- A step of `fits-following`: if it holds of the entries after an entry, it holds with that entry too.
 fits_inside : (s : Identities) (f after g : Forest) → Fits (met_after s f) (followed_by after g) ↔ (Fits (met_after s f) after × Fits (met_after (met_after s f) after) g)
     → (Fits s f × Fits (met_after s f) (followed_by after g)) ↔ ((Fits s f × Fits (met_after s f) after) × Fits (insert_all s (ids (contents f ++ contents after))) g)
 fits_inside s f after g rest = rw (met-append s (contents f) (contents after))
     (λ w. let x = rest.0 w.1 in ((w.0, x.0), x.1), λ w. (w.0.0, rest.1 (w.0.1, w.1)))
 
+-- Two forests one after another fit exactly if the first fits, and the second fits what is met then.
 pub fits-following : (s : Identities) (f g : Forest) → Fits s (followed_by f g) ↔ (Fits s f × Fits (met_after s f) g)
 fits-following s Empty g = (λ w. (tt, w), λ w. w.1)
 fits-following s (Inline k n f after) g = fits_inside s f after g (fits-following (met_after s f) after g)

@@ -5,6 +5,7 @@ use Rattle.allocative_graph.proofs.Basics.{or-false}
 use Rattle.allocative_graph.proofs.Graphs.{total-sum_of, total-under, sum_of-associates, sum_of-default, same_graph, size_at-sum_of, has-sum_of}
 use Rattle.allocative_graph.proofs.Listing.{entries-from_entries-sorted}
 
+-- The graph that has only the root, with 0, has a total of 0.
 pub total-default : total default ≡ 0
 total-default = ap (sum_by (λ e. e.1)) (entries-from_entries-sorted (([], 0) ∷ []) tt)
 
@@ -40,6 +41,7 @@ module _ {X : Type 0} (made : X → Graph) where
 pub all_permuted : (g : Graph) (cs ds : List Child) → IsPermutation cs ds → sum_of_all g ds ≡ sum_of_all g cs
 all_permuted = added_up-permuted (λ (c : Child). under c.key c.graph)
 
+-- Adding children to a graph adds their totals to its total.
 pub total-all : (g : Graph) (cs : List Child) → total (sum_of_all g cs) ≡ total g + total_of cs
 total-all g cs = total-added_up (λ (c : Child). under c.key c.graph) g cs ∙ (λ i. total g + sum_by (λ c. total-under c.key c.graph i) cs)
 

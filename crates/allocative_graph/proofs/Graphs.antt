@@ -14,6 +14,7 @@ use Rattle.allocative_graph.proofs.NodeSizes.{total-node}
 abbrev pub add_at : Graph → Path × ℕ → Graph
 add_at g e = insert g e.0 (size_at g e.0 + e.1)
 
+-- A size added at a path counts in the total at that path and at each of its prefixes, and nowhere else.
 total_at-add_at : (q : Path) (g : Graph) (e : Path × ℕ) → total_at (add_at g e) q ≡ total_at g q + cond (begins q e.0) e.1 0
 total_at-add_at q g e = weights-insert path_total path_antisymmetric (λ p n. cond (begins q p) n 0) g e.0 (size_at g e.0 + e.1) (cond (begins q e.0) e.1 0) (grind arith)
 
@@ -24,6 +25,7 @@ total-add_at g e = total_at-add_at [] g e
 abbrev add_list : Graph → List (Path × ℕ) → Graph
 add_list g es = fold add_at g es
 
+-- Each row added to a graph counts in the total at the path q exactly if its own path begins with q.
 total_at-add_list : (q : Path) (g : Graph) (es : List (Path × ℕ)) → total_at (add_list g es) q ≡ total_at g q + sum_by (λ r. cond (begins q r.0) r.1 0) es
 total_at-add_list q g [] = omega arith
 total_at-add_list q g (e ∷ es) = omega (arith, total_at-add_list q (add_at g e) es, total_at-add_at q g e, sum_by-cons (λ r. cond (begins q r.0) r.1 0) e es)
@@ -31,6 +33,7 @@ total_at-add_list q g (e ∷ es) = omega (arith, total_at-add_list q (add_at g e
 abbrev pub sizes_together : Option ℕ → Option ℕ → Option ℕ
 sizes_together x y = cond (is_some x || is_some y) (Some (unwrap_or x 0 + unwrap_or y 0)) None
 
+-- If rows in order are added to a graph, each path has the size that it had and the size of its row together.
 get-add_list : (g : Graph) (es : List (Path × ℕ)) → T (is_sorted path_cmp es) → (q : Path) → get (add_list g es) q ≡ sizes_together (get g q) (find path_cmp q es)
 get-add_list g [] h q = grind arith
 get-add_list g (e ∷ es) h q =
@@ -38,22 +41,28 @@ get-add_list g (e ∷ es) h q =
     let none = find-below_all path_cmp e.0 es (first (below_all path_cmp e.0 es) (is_sorted path_cmp es) h) in
     grind (arith, rest, none, get-insert path_total g e.0 (size_at g e.0 + e.1) q, same_path q e.0)
 
+-- The sum of two graphs is the first one with the entries of the second added one after another.
 sum_of-list : (g h : Graph) → sum_of g h ≡ add_list g (entries h)
 sum_of-list g h = same_map path_total path_antisymmetric _ _ (λ q. get-sum_of g h q ∙ sym (get-add_list g (entries h) (entries_sorted h) q ∙ ap (sizes_together (get g q)) (sym (get-entries h q))))
 
+-- In the sum of two graphs, the bytes of a path and of all below it add up.
 pub total_at-sum_of : (g h : Graph) (q : Path) → total_at (sum_of g h) q ≡ total_at g q + total_at h q
 total_at-sum_of g h q = ap (λ s. total_at s q) (sum_of-list g h) ∙ total_at-add_list q g (entries h)
 
+-- The total of the sum of two graphs is the sum of their totals.
 pub total-sum_of : (g h : Graph) → total (sum_of g h) ≡ total g + total h
 total-sum_of g h = total_at-sum_of g h []
 
 -- ---- the sum of graphs, path by path
+-- If a test decides between `Some` and `None`, the option has a value exactly if the test is true.
 pub is_some-cond : {X : Type 0} (b : Bool) (x : X) → is_some (cond b (Some x) None) ≡ b
 is_some-cond b x = grind arith
 
+-- In the sum of two graphs, the size at a path is the sum of both sizes there.
 pub size_at-sum_of : (g h : Graph) (p : Path) → size_at (sum_of g h) p ≡ size_at g p + size_at h p
 size_at-sum_of g h p = rw (get-sum_of g h p) (grind arith)
 
+-- The sum of two graphs has a path exactly if either graph has it.
 pub has-sum_of : (g h : Graph) (p : Path) → contains_key (sum_of g h) p ≡ (contains_key g p || contains_key h p)
 has-sum_of g h p = ap is_some (get-sum_of g h p) ∙ is_some-cond (contains_key g p || contains_key h p) _
 
@@ -65,19 +74,24 @@ same_graph g h sizes paths = same_map path_total path_antisymmetric g h (λ p. g
 pub is_sum_of : (g h r : Graph) → IsSumByPath g h r → r ≡ sum_of g h
 is_sum_of g h r s = same_graph r (sum_of g h) (λ p. (s p).0 ∙ sym (size_at-sum_of g h p)) (λ p. (s p).1 ∙ sym (has-sum_of g h p))
 
+-- The order of two graphs does not change their sum.
 pub sum_of-commutes : (g h : Graph) → sum_of g h ≡ sum_of h g
 sum_of-commutes g h = is_sum_of h g (sum_of g h) (λ p. (omega (arith, size_at-sum_of g h p), has-sum_of g h p ∙ or_comm (contains_key g p) (contains_key h p)))
 
+-- Three graphs have the same sum whether the first two or the last two are added first.
 pub sum_of-associates : (g h k : Graph) → sum_of (sum_of g h) k ≡ sum_of g (sum_of h k)
 sum_of-associates g h k = is_sum_of g (sum_of h k) _
     (λ p. (omega (arith, size_at-sum_of (sum_of g h) k p, size_at-sum_of g h p, size_at-sum_of h k p), grind (arith, has-sum_of (sum_of g h) k p, has-sum_of g h p, has-sum_of h k p)))
 
+-- The default graph has 0 at the root, and no other path.
 pub get-default : (q : Path) → get default q ≡ cond (is_same_path q []) (Some 0) None
 get-default q = get-from_entries path_total (([], 0) ∷ []) q
 
+-- The default graph has the size 0 at each path.
 pub size_at-default : (q : Path) → size_at default q ≡ 0
 size_at-default q = grind (arith, get-default q)
 
+-- Adding the default graph to a tree changes nothing.
 pub sum_of-default : (g : Graph) → IsTree g → sum_of g default ≡ g
 sum_of-default g t = sym (is_sum_of g default g (λ p. (omega (arith, size_at-default p), grind (arith, get-default p, same_path p [], t.root))))
 
@@ -100,9 +114,11 @@ module _ (k : Key) (g : Graph) where
   total-under = omega (arith, ap total as_node, total-node 0 (only ∷ []) (one_sorted only), weight-one only)
 
 -- ---- the graph of a showing
+-- A bag's graph has a path other than the root exactly if the bag has an entry there.
 pub in_graph : (b : Bag) (k : Key) (p : Path) → contains_key (graph (sums_of b)) (k ∷ p) ≡ is_entered_in b (k ∷ p)
 in_graph b k p = rw (get-graph (sums_of b) k p, get-sums_of b (k ∷ p)) (grind arith)
 
+-- The graph of a forest is a tree: it has the root and, with each path, all prefixes of the path.
 pub graph-tree : (f : Forest) → IsTree (graph (sums_of (all f)))
 graph-tree f = record { root = ap is_some (get-graph-root (sums_of (all f))); closed = closed }
   where
