@@ -4,8 +4,10 @@ use Rattle.allocative_graph.proofs.Common.{get, entries, from_entries, get-from_
 use Rattle.std.specs.FinMap.{FinMap, from_sorted}
 use Rattle.allocative_graph.proofs.Basics.{path_total, path_antisymmetric}
 
+-- If a map has at each path what a sorted list has there, its entries are that list.
 pub entries_are : {X : Type 0} (m : FinMap path_cmp X) (es : List (Path × X)) → T (is_sorted path_cmp es) → ((q : Path) → get m q ≡ find path_cmp q es) → entries m ≡ es
 entries_are m es h same = ap entries (same_map path_total path_antisymmetric m (from_sorted es) (λ q. same q ∙ sym (get-from_sorted path_cmp es q h))) ∙ entries-from_sorted path_cmp es h
 
+-- The entries of a map made from a sorted list are that list.
 pub entries-from_entries-sorted : {X : Type 0} (es : List (Path × X)) → T (is_sorted path_cmp es) → entries (from_entries {R = path_cmp} es) ≡ es
 entries-from_entries-sorted es h = entries_are (from_entries es) es h (get-from_entries path_total es)

@@ -18,5 +18,6 @@ module _ {M : Type 1} {𝓤 : Ura M} (𝓛 : Logic 𝓤) where
   static_dup p xs =
       contraction 𝓛 (elements_shared u8 xs (block_of p) (count_of p)) (elements_shr_laws u8 (uint_row_laws w8) xs (block_of p) (count_of p)) []
 
+-- The right to read bytes forever names no thread.
 pub static_owns-keyless : (p : Ptr) (xs : List ℕ) → Keyless (static_owns p xs)
 static_owns-keyless p xs = ((array_sync u8 0 (search sendable)).shared xs (block_of p) (count_of p) []).1

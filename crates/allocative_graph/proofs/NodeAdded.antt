@@ -1,4 +1,4 @@
--- Nodes are trees, and add up where their own sizes and their children do.
+-- Nodes are trees, and add up if their own sizes and their children do.
 use Rattle.std.proofs.Common.{◌≡◌, ℕ, ◌+◌, ◌<◌, ◌^◌, Bool, true, cond, List, [], ◌∷◌, ◌++◌, length, length-append, Some, refl, unwrap_or, sym, ap, subst, subst₂, ◌∙◌, arith}
 use Rattle.allocative_graph.proofs.Common.{AllByRecursion, is_some, eq_by_cmp, get, contains_key, entries, len, len-entries, Child, Key, Path, key_cmp, Graph, IsTree, size_at, sum_of, total, under, node, rows_of, rows_of_child, AreChildren, IsNode, weight, size_under, AddsUp, AddsUpInPart, Added, Merged, entries-node, len-child, is_eq, Less, keys_of, tied_itself, nat_list_cmp_total}
 use Rattle.allocative_graph.specs.Many.{ComesLast}
@@ -11,12 +11,14 @@ use Rattle.allocative_graph.proofs.ChildSizes.{part_of_sum}
 use Rattle.allocative_graph.proofs.Graphs.{is_sum_of}
 use Rattle.allocative_graph.proofs.NodeSizes.{total-node}
 
+-- If all children are trees, they have with each path below a key also the path with its last key left out.
 has_parent : (cs : List Child) (l : Key) (p : Path) (k : Key) → AllByRecursion (λ (c : Child). IsTree c.graph) cs → is_some (size_under cs l (p ++ k ∷ [])) ≡ true → is_some (size_under cs l p) ≡ true
 has_parent [] l p k h e = e
 has_parent (c ∷ cs) l p k h e =
     on_test (λ b. is_some (cond b (get c.graph (p ++ k ∷ [])) (size_under cs l (p ++ k ∷ []))) ≡ true → is_some (cond b (get c.graph p) (size_under cs l p)) ≡ true) (eq_by_cmp key_cmp l c.key)
     (λ s. h.0.closed p k) (λ s. has_parent cs l p k h.1) e
 
+-- A node is a tree if its children are in the order of their keys and are trees.
 pub node_tree : (n : ℕ) (cs : List Child) → AreChildren cs → IsTree (node n cs)
 node_tree n cs h = record { root = ap is_some (get-root n cs h.sorted); closed = from }
   where
@@ -24,6 +26,7 @@ node_tree n cs h = record { root = ap is_some (get-root n cs h.sorted); closed =
     from [] k e = ap is_some (get-root n cs h.sorted)
     from (l ∷ p) k e = ap is_some (get-under n cs l p h.sorted) ∙ has_parent cs l p k h.trees (ap is_some (sym (get-under n cs l (p ++ k ∷ []) h.sorted)) ∙ e)
 
+-- If the children of two nodes were merged and their own sizes added, the second graph was added to the first.
 pub added_node : (all : Bool) (m n : ℕ) (cs ds es : List Child) → AreChildren cs → AreChildren ds → Merged all cs ds es → Added all (node m cs) (node n ds) (node (m + n) es)
 added_node all m n cs ds es a b h = record {
   tree = node_tree (m + n) es h.children;
@@ -32,7 +35,7 @@ added_node all m n cs ds es a b h = record {
   at_most = omega (arith, h.at_most, total-node m cs a.sorted, total-node n ds b.sorted, total-node (m + n) es h.children.sorted);
 }
 
--- Where all was added, the result is the sum.
+-- If all was added, the result is the sum.
 pub added_sum : {all : Bool} {g h r : Graph} → Added all g h r → all ≡ true → r ≡ sum_of g h
 added_sum {g = g} {h = h} {r = r} added done = is_sum_of g h r (added.sum done)
 
@@ -50,6 +53,7 @@ each_child P (c ∷ cs) t f = (
   each_child P cs t.1 (λ l e. f l (on_test (λ b. is_some (cond b (get c.graph []) (size_under cs l [])) ≡ true) (eq_by_cmp key_cmp l c.key) (λ s. t.0.root) (λ s. e))),
 )
 
+-- A node has one path more than its children have rows.
 pub rows_of_node : (n : ℕ) (cs : List Child) → AreChildren cs → len (node n cs) ≡ length (rows_of cs) + 1
 rows_of_node n cs h = omega (arith, len-entries (node n cs), ap length (entries-node n cs h.sorted))
 
@@ -84,7 +88,7 @@ module _ {n s : ℕ} {cs : List Child} {g : Graph} (view : node n cs ≡ g) (h :
   pub sum_pushed : node n (cs ++ c ∷ []) ≡ sum_of g (under c.key c.graph)
   sum_pushed = added_sum (added_under c view h t pushed) refl
 
--- ---- two nodes with the graphs g and h, whose children merge to es, also where equal lists are named
+-- ---- two nodes with the graphs g and h, whose children merge to es, also if equal lists are named
 module _ {g h : Graph} {m n s t : ℕ} {cs ds : List Child} (mine : node m cs ≡ g) (a : IsNode cs s m) (theirs : node n ds ≡ h) (b : IsNode ds t n) where
   pub total_of_both : total g + total h ≡ (m + n) + (weight cs + weight ds)
   total_of_both = omega (arith, total_of_node mine a, total_of_node theirs b)

@@ -57,7 +57,7 @@ pub own_written : {n s : ℕ} {cs : List Child} {g : Graph} (t before after : Li
 own_written {n = n} {cs = cs} t before after view h wrote =
     rw (entries_of_node view h, wrote, rows_lines t cs) (append_assoc before (line_from t ([], n)) _)
 
--- Where a node has no bytes of its own, it has no line of its own.
+-- If a node has no bytes of its own, it has no line of its own.
 pub nothing_written : {n s : ℕ} {cs : List Child} {g : Graph} (t before : List ℕ) → node n cs ≡ g → IsNode cs s n → n ≡ 0
     → before ++ lines_below (t ++ 59 ∷ []) (entries g) ≡ before ++ lines_from t (entries g)
 nothing_written t before view h none = own_written t before before view h (sym (append-nil before) ∙ ap (λ (m : ℕ). before ++ line_from t ([], m)) (sym none))

@@ -7,6 +7,7 @@ use Rattle.allocative_graph.proofs.Basics.{both_ways}
 use Rattle.allocative_graph.proofs.Order.{same_flat}
 use Rattle.allocative_graph.proofs.Lookups.{add_all-same}
 
+-- Two meanings of one bag, with the same contents, have equal sums.
 pub one_sums : (b : Bag) (T : Identity → Bag) (m n : Bag) → IsMeaning b T m → IsMeaning b T n → sums_of m ≡ sums_of n
 one_sums b T m n x y = add_all-same empty m n (λ w.
     let flat = same_flat x.identities y.identities x.once y.once

@@ -12,15 +12,18 @@ use Rattle.allocative_graph.proofs.Computed.{no_entries}
 use Rattle.allocative_graph.proofs.Reach.{shown_distinct, as_flat, reaches_exactly}
 use Rattle.allocative_graph.proofs.Lookups.{SameSums, add_all-same}
 
+-- If two whole showings agree, the second reaches each identity that the first reaches.
 pub same_reached : (f g : Forest) → IsWhole f → IsWhole g → Agree f g → (i : Identity) → Reached (own f) (content_of f) i → Reached (own g) (content_of g) i
 same_reached f g v w a i (marked h) = marked (sym (list_any-IsPermutation (λ e. is_mark_of i e.mark) (own f) (own g) a.own_entries) ∙ h)
 same_reached f g v w a i (inside j r h) =
     let there = same_reached f g v w a j r in
     inside j there (sym (list_any-IsPermutation (λ e. is_mark_of i e.mark) (content_of f j) (content_of g j) (a.same_content j ((reaches_exactly f v j).1 r) ((reaches_exactly g w j).1 there))) ∙ h)
 
+-- If one showing agrees with another, the other agrees with it.
 pub agree_back : (f g : Forest) → Agree f g → Agree g f
 agree_back f g a = record { own_entries = IsPermutation-sym _ _ a.own_entries; same_content = λ i p q. IsPermutation-sym _ _ (a.same_content i q p) }
 
+-- Two whole showings that agree show the contents of the same identities.
 same_shown : (f g : Forest) → IsWhole f → IsWhole g → Agree f g → (i : Identity) → is_among i (shown f) ≡ is_among i (shown g)
 same_shown f g v w a i = both_ways _ _
     (λ h. (reaches_exactly g w i).1 (same_reached f g v w a i ((reaches_exactly f v i).0 h)))
@@ -41,6 +44,7 @@ module _ (v : Identity → ℕ) where
       let new : v i ≡ unwrap_or (option_map (λ n. n) (get (Listed is) i)) 0 + v i = rw (get-listed is i, list_any_none (is_same_identity i) is (All-from_recursion _ is d.0)) (omega arith) in
       omega (arith, weights-insert identity_total identity_antisymmetric (λ i n. n) (Listed is) i (v i) (v i) new, sum-listed is d.1, sum_by-cons v i is)
 
+-- The sum over the entries of several contents is what the sums over each content add up to.
 sum-flat : (w : Entry → ℕ) (T : Identity → Bag) (is : List Identity) → sum_by w (flat_map T is) ≡ sum_by (λ i. sum_by w (T i)) is
 sum-flat w T [] = refl
 sum-flat w T (i ∷ is) = omega (arith, sum_by-append w (T i) (flat_map T is), sum-flat w T is, sum_by-cons (λ i. sum_by w (T i)) i is)
@@ -54,6 +58,7 @@ module _ (is js : List Identity) (d : IsDistinct is_same_identity is) (e : IsDis
   pub same_flat : (S T : Identity → Bag) → ((k : Identity) → IsTrue (is_among k js) → IsPermutation (S k) (T k)) → SameSums (flat_map S is) (flat_map T js)
   same_flat S T each w = sum-flat w S is ∙ same_sum (λ i. sum_by w (S i)) (λ i. sum_by w (T i)) (λ k h. sym (sum_by-IsPermutation w _ _ (each k h))) ∙ sym (sum-flat w T js)
 
+-- Whatever is added up over all entries, two whole showings that agree have the same sum.
 same_all : (f g : Forest) → IsWhole f → IsWhole g → Agree f g → SameSums (all f) (all g)
 same_all f g v w a x =
     let flat = same_flat (shown f) (shown g) (shown_distinct f v) (shown_distinct g w) (same_shown f g v w a) (content_of f) (content_of g)
@@ -61,5 +66,6 @@ same_all f g v w a x =
     let inner = sym (ap (sum_by x) (as_flat f v)) ∙ flat ∙ ap (sum_by x) (as_flat g w) in
     omega (arith, sum_by-append x (own f) (content_entries f), sum_by-append x (own g) (content_entries g), sum_by-IsPermutation x _ _ a.own_entries, inner)
 
+-- The sums of all entries are equal in two whole showings that agree.
 pub same_sums_of : (f g : Forest) → IsWhole f → IsWhole g → Agree f g → sums_of (all f) ≡ sums_of (all g)
 same_sums_of f g v w a = add_all-same empty (all f) (all g) (same_all f g v w a)

@@ -20,6 +20,7 @@ direct-following (Unique k n f after) g = omega (arith, direct-following after g
 direct-following (First k n i f after) g = omega (arith, direct-following after g)
 direct-following (Again k n i after) g = omega (arith, direct-following after g)
 
+-- The bytes that two forests own one after another add up.
 pub owned-following : (f g : Forest) → owned (followed_by f g) ≡ owned f + owned g
 owned-following Empty g = omega arith
 owned-following (Inline k n f after) g = omega (arith, owned-following after g)
@@ -43,6 +44,7 @@ direct-reordered _ _ (within false k n r) = refl
 direct-reordered _ _ (beside {f} {g} h r) = omega (arith, direct-following f h, direct-following g h, direct-reordered f g r)
 direct-reordered _ _ (in_turn {f} {g} {h} r s) = direct-reordered f g r ∙ direct-reordered g h s
 
+-- A forest owns the same bytes in each order of its entries.
 pub owned-reordered : (f g : Forest) → Reordered f g → owned f ≡ owned g
 owned-reordered _ _ (exchanged f g) = omega (arith, owned-following f g, owned-following g f)
 owned-reordered _ _ (within {f} {g} true k n r) = omega (arith, owned-reordered f g r)
@@ -65,12 +67,15 @@ at w q xs = sum_by (λ x. cond (is_same_path q x.entry.path) (w x) 0) xs
 abbrev inside_at : Path → List Owner → ℕ
 inside_at q xs = at (λ x. x.inside) q xs
 
+-- One entry more adds its weight to the sum over the entries at its path, and to no other path's.
 at-cons : (w : Owner → ℕ) (q : Path) (x : Owner) (xs : List Owner) → at w q (x ∷ xs) ≡ cond (is_same_path q x.entry.path) (w x) 0 + at w q xs
 at-cons w q x xs = sum_by-cons (λ x. cond (is_same_path q x.entry.path) (w x) 0) x xs
 
+-- The entries of two lists, one after another, are those of the first and then those of the second.
 entries-both : (xs ys : List Owner) (b c : Bag) → entries_of xs ≡ b → entries_of ys ≡ c → entries_of (xs ++ ys) ≡ b ++ c
 entries-both xs ys b c d e = map-append (λ x. x.entry) xs ys ∙ (λ i. d i ++ e i)
 
+-- The entries that `owners_behind` lists are the own entries of the forest.
 own_entries : (p : Path) (f : Forest) → entries_of (owners_behind p f) ≡ own_behind p f
 own_entries p Empty = refl
 own_entries p (Inline k n f after) = ap (λ b. record { path = p ++ k ∷ []; size = n; mark = AsInline } ∷ b) (entries-both (owners_behind (p ++ k ∷ []) f) (owners_behind p after) _ _ (own_entries (p ++ k ∷ []) f) (own_entries p after))
@@ -82,6 +87,7 @@ own_entries p (Again k n i after) = ap (λ b. record { path = p ++ k ∷ []; siz
 sum-entry : (w : Owner → ℕ) (x : Owner) (xs ys : List Owner) → sum_by w (x ∷ (xs ++ ys)) ≡ w x + (sum_by w xs + sum_by w ys)
 sum-entry w x xs ys = omega (arith, sum_by-cons w x (xs ++ ys), sum_by-append w xs ys)
 
+-- A forest owns the sum of what its own entries keep.
 kept-sum : (p : Path) (f : Forest) → sum_by kept (owners_behind p f) ≡ owned f
 kept-sum p Empty = refl
 kept-sum p (Inline k n f after) = omega (arith, kept-sum (p ++ k ∷ []) f, kept-sum p after, sum-entry kept (record { entry = record { path = p ++ k ∷ []; size = n; mark = AsInline }; inside = direct f }) (owners_behind (p ++ k ∷ []) f) (owners_behind p after))
@@ -95,18 +101,23 @@ bool_same true b f g = sym (f refl)
 bool_same false true f g = g refl
 bool_same false false f g = refl
 
+-- The path r with one more key is one key below q exactly if q is r.
 one_below_is : (q r : Path) (k : Key) → is_one_below q (r ++ k ∷ []) ≡ is_same_path q r
 one_below_is q r k = bool_same _ _ (λ h. ap (is_same_path q) (sym (one_below_child q r k h)) ∙ same_path_itself q) (λ h. ap (λ p. is_one_below q (p ++ k ∷ [])) (sym (same_path q r h)) ∙ one_below_self q k)
 
+-- A sum that counts only if a test passes is both numbers, each of which counts only if it passes.
 cond-plus : (b : Bool) (x y : ℕ) → cond b (x + y) 0 ≡ cond b x 0 + cond b y 0
 cond-plus b x y = grind arith
 
+-- A 0 that counts only if a test passes is 0 in either case.
 cond-zero : (b : Bool) → cond {A = ℕ} b 0 0 ≡ 0
 cond-zero b = grind arith
 
+-- The bytes one key below q are those of an entry, if it is one key below q, and those of the bags after it.
 below-entry : (q p : Path) (k : Key) (n : ℕ) (m : Mark) (b c : Bag) → below_in (record { path = p ++ k ∷ []; size = n; mark = m } ∷ (b ++ c)) q ≡ cond (is_same_path q p) n 0 + (below_in b q + below_in c q)
 below-entry q p k n m b c = rw (← one_below_is q p k) (omega (arith, sum_by-cons (λ e. cond (is_one_below q e.path) e.size 0) (record { path = p ++ k ∷ []; size = n; mark = m }) (b ++ c), sum_by-append (λ e. cond (is_one_below q e.path) e.size 0) b c))
 
+-- The bytes directly inside entries at q are those inside one entry, if it is at q, and those in the lists after it.
 inside-entry : (q p : Path) (k : Key) (n : ℕ) (m : Mark) (i : ℕ) (xs ys : List Owner) → inside_at q (record { entry = record { path = p ++ k ∷ []; size = n; mark = m }; inside = i } ∷ (xs ++ ys)) ≡ cond (is_same_path q (p ++ k ∷ [])) i 0 + (inside_at q xs + inside_at q ys)
 inside-entry q p k n m i xs ys = sum-entry (λ x. cond (is_same_path q x.entry.path) x.inside 0) (record { entry = record { path = p ++ k ∷ []; size = n; mark = m }; inside = i }) xs ys
 
@@ -146,25 +157,31 @@ module _ (q : Path) where
 abbrev with_kept : Graph → List Owner → Graph
 with_kept g xs = fold (λ h x. add_at h (x.entry.path, kept x)) g xs
 
+-- What entries keep, added to a graph, raises its total by their sum.
 total-with_kept : (g : Graph) (xs : List Owner) → total (with_kept g xs) ≡ total g + sum_by kept xs
 total-with_kept g [] = omega arith
 total-with_kept g (x ∷ xs) = omega (arith, total-with_kept (add_at g (x.entry.path, kept x)) xs, total-add_at g (x.entry.path, kept x), sum_by-cons kept x xs)
 
+-- What entries keep, added to a graph, raises the size at each path by what the entries there keep.
 size-with_kept : (g : Graph) (xs : List Owner) (q : Path) → size_at (with_kept g xs) q ≡ size_at g q + at kept q xs
 size-with_kept g [] q = omega arith
 size-with_kept g (x ∷ xs) q = grind (arith, size-with_kept (add_at g (x.entry.path, kept x)) xs q, get-insert path_total g x.entry.path (size_at g x.entry.path + kept x) q, same_path q x.entry.path, at-cons kept q x xs)
 
+-- A graph to which entries were added has its own paths and theirs.
 has-with_kept : (g : Graph) (xs : List Owner) (q : Path) → contains_key (with_kept g xs) q ≡ (contains_key g q || is_entered_in (entries_of xs) q)
 has-with_kept g [] q = grind arith
 has-with_kept g (x ∷ xs) q = grind (arith, has-with_kept (add_at g (x.entry.path, kept x)) xs q, get-insert path_total g x.entry.path (size_at g x.entry.path + kept x) q)
 
+-- A path that ends in a key is not the root.
 not_root : (p : Path) (k : Key) → is_same_path [] (p ++ k ∷ []) ≡ false
 not_root [] k = refl
 not_root (l ∷ p) k = refl
 
+-- An entry is never at the root, so it adds nothing to what is kept there.
 root-entry : (p : Path) (k : Key) (n i : ℕ) (m : Mark) (xs ys : List Owner) → at kept [] (record { entry = record { path = p ++ k ∷ []; size = n; mark = m }; inside = i } ∷ (xs ++ ys)) ≡ at kept [] xs + at kept [] ys
 root-entry p k n i m xs ys = grind (arith, not_root p k, sum-entry (λ x. cond (is_same_path [] x.entry.path) (kept x) 0) (record { entry = record { path = p ++ k ∷ []; size = n; mark = m }; inside = i }) xs ys)
 
+-- The entries of a forest keep nothing at the root.
 root-keeps : (p : Path) (f : Forest) → at kept [] (owners_behind p f) ≡ 0
 root-keeps p Empty = refl
 root-keeps p (Inline k n f after) = omega (arith, root-entry p k n (direct f) AsInline (owners_behind (p ++ k ∷ []) f) (owners_behind p after), root-keeps (p ++ k ∷ []) f, root-keeps p after)
@@ -172,13 +189,16 @@ root-keeps p (Unique k n f after) = omega (arith, root-entry p k n (direct f) As
 root-keeps p (First k n i f after) = omega (arith, root-entry p k n 0 (AsShared i) [] (owners_behind p after), root-keeps p after)
 root-keeps p (Again k n i after) = omega (arith, root-entry p k n 0 (AsShared i) [] (owners_behind p after), root-keeps p after)
 
+-- A path without entries has size 0. One with y bytes has all of them if it is unique, else those beyond b.
 size-found : (e u : Bool) (y b : ℕ) → unwrap_or (option_map (λ (n : Node). cond n.is_unique n.bytes (n.bytes - b)) (cond e (Some (record { bytes = y; is_unique = u })) None)) 0 ≡ cond e (cond u y (y - b)) 0
 size-found true u y b = refl
 size-found false u y b = refl
 
+-- The sums of own entries have, one key below a path but the root, the bytes directly inside the entries at it.
 below-own : (k : Key) (p : Path) (f : Forest) → below (sums_of (entries_of (owners_behind [] f))) (k ∷ p) ≡ inside_at (k ∷ p) (owners_behind [] f)
 below-own k p f = omega (arith, below-sums_of (entries_of (owners_behind [] f)) (k ∷ p), ap (λ b. below_in b (k ∷ p)) (own_entries [] f), below-inside (k ∷ p) [] f)
 
+-- If the entries at a path other than the root are alike, the graph of the own entries has there what they keep.
 size-own : (k : Key) (p : Path) (f : Forest) → AreAlike (k ∷ p) (owners_behind [] f) → size_at (graph (sums_of (entries_of (owners_behind [] f)))) (k ∷ p) ≡ at kept (k ∷ p) (owners_behind [] f)
 size-own k p f alike =
     let q = k ∷ p in

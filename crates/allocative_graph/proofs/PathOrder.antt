@@ -31,5 +31,6 @@ module _ {X : Type 0} (R : X → X → Ordering) (same : IsAntisymmetric R) (its
   pub order : (p q : List X) → (slice_cmp R p q ≡ Less) ↔ ComesBefore R p q
   order p q = (to_before p q, from_before p q)
 
+-- A key compared with itself is equal.
 pub key_itself : (k : Key) → key_cmp k k ≡ Equal
 key_itself = tied_itself nat_list_cmp_total

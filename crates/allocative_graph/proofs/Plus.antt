@@ -13,6 +13,7 @@ use Rattle.allocative_graph.proofs.Basics.{each-append, each-parts}
 abbrev held_in : Bool → Forest → ℕ
 held_in u f = held f + cond u (inline_bytes f) 0
 
+-- The bytes that two forests hold one after another add up, in a unique entry and outside of one.
 held_in-following : (u : Bool) (f g : Forest) → held_in u (followed_by f g) ≡ held_in u f + held_in u g
 held_in-following u Empty g = grind arith
 held_in-following u (Inline k n f after) g = grind (arith, held_in-following u after g)
@@ -20,6 +21,7 @@ held_in-following u (Unique k n f after) g = grind (arith, held_in-following u a
 held_in-following u (First k n j f after) g = held_in-following u after g
 held_in-following u (Again k n j after) g = held_in-following u after g
 
+-- The empty forest changes nothing in the collector of held bytes.
 holding-nothing : (h : Holding) → plus_holding h Empty ≡ h
 holding-nothing h = let same : h.sum + (0 + cond h.is_in_unique 0 0) ≡ h.sum = grind arith in λ i. record h { sum = same i }
 
@@ -35,6 +37,7 @@ owning-nothing o =
     let spare : o.spare - 0 ≡ o.spare = omega arith in
     λ i. record o { sum = sum i; spare = spare i }
 
+-- For the collector of owned bytes, adding two forests in one is adding the first and then the second.
 owning-following : (o : Owning) (f g : Forest) → plus_owning o (followed_by f g) ≡ plus_owning (plus_owning o f) g
 owning-following o f g =
     let d = direct-following f g in
@@ -43,14 +46,17 @@ owning-following o f g =
     let spare : o.spare - direct (followed_by f g) ≡ (o.spare - direct f) - direct g = omega (arith, d) in
     λ i. record o { sum = sum i; spare = spare i }
 
+-- Entering an entry and adding what is inside it gives the same owned bytes as adding the whole entry at once.
 owning_inside : (is_unique : Bool) (s t n w d : ℕ) → d ≤ w → (s + (n - t)) + (w - min (cond is_unique 0 n) d)
     ≡ s + ((cond is_unique n (n - d) + w + 0) - min t (n + 0))
 owning_inside true s t n w d h = omega (arith, h)
 owning_inside false s t n w d h = omega (arith, h)
 
+-- An entry with nothing beside it takes exactly its own bytes from the spare ones.
 spare_left : (t n : ℕ) → t - n ≡ t - (n + 0)
 spare_left t n = omega arith
 
+-- A shared entry without its content counts, for owned bytes, as an entry with nothing inside it.
 owning-again : (k : Key) (n : ℕ) (j : Identity) (o : Owning) → plus_owning o (Again k n j Empty) ≡ count_owning n o
 owning-again k n j o =
     let sum : o.sum + ((n + 0) - min o.spare (n + 0)) ≡ o.sum + (n - o.spare) = omega arith in
@@ -63,6 +69,7 @@ plus-nothing (OfGraph c) = refl
 plus-nothing (OfHeld h) = ap OfHeld (holding-nothing h)
 plus-nothing (OfOwned o) = ap OfOwned (owning-nothing o)
 
+-- A collector has after two forests in one what it has after the first and then the second.
 pub plus-following : (c : Kind) (f g : Forest) → plus c (followed_by f g) ≡ plus (plus c f) g
 plus-following (OfGraph c) f g = λ i. OfGraph (record c { sums = entries_at-following c.sums c.here f g i; met = met-following c.met f g i })
 plus-following (OfHeld h) f g =
@@ -70,16 +77,19 @@ plus-following (OfHeld h) f g =
     λ i. OfHeld (record h { sum = both i })
 plus-following (OfOwned o) f g = ap OfOwned (owning-following o f g)
 
+-- A collector takes the empty forest.
 pub takes_nothing : (c : Kind) → Takes c Empty
 takes_nothing (OfGraph c) = tt
 takes_nothing (OfHeld h) = tt
 takes_nothing (OfOwned o) = tt
 
+-- A collector takes two forests in one exactly if it takes the first and, with that added, the second.
 pub takes_following : (c : Kind) (f g : Forest) → Takes c (followed_by f g) ↔ (Takes c f × Takes (plus c f) g)
 takes_following (OfGraph c) f g = fits-following c.met f g
 takes_following (OfHeld h) f g = rw (contents-following f g) (each-parts (λ c. ⊥) (contents f) (contents g), λ w. each-append (λ c. ⊥) (contents f) (contents g) w.0 w.1)
 takes_following (OfOwned o) f g = rw (contents-following f g) (each-parts (λ c. ⊥) (contents f) (contents g), λ w. each-append (λ c. ⊥) (contents f) (contents g) w.0 w.1)
 
+-- If a collector takes a forest and, with that added, another, it takes both in one.
 pub takes_both : (c : Kind) (f g : Forest) → Takes c f → Takes (plus c f) g → Takes c (followed_by f g)
 takes_both c f g v w = (takes_following c f g).1 (v, w)
 
@@ -92,6 +102,7 @@ inside_entry false k n (OfHeld h) f = λ i. OfHeld (record h { sum = inside_sum 
 inside_entry true k n (OfOwned o) f = λ i. OfOwned (record o { sum = owning_inside true o.sum o.spare n (owned f) (direct f) (direct-owned f) i; spare = spare_left o.spare n i })
 inside_entry false k n (OfOwned o) f = λ i. OfOwned (record o { sum = owning_inside false o.sum o.spare n (owned f) (direct f) (direct-owned f) i; spare = spare_left o.spare n i })
 
+-- A collector takes an entry with a forest inside it if, once the entry is entered, it takes that forest.
 pub takes_entry : (u : Bool) (k : Key) (n : ℕ) (c : Kind) (f : Forest) → Takes (enter u k n c) f → Takes c (entry_of u k n f)
 takes_entry true k n (OfGraph c) f w = (w, tt)
 takes_entry false k n (OfGraph c) f w = (w, tt)
@@ -104,12 +115,15 @@ takes_entry false k n (OfOwned o) f w = each-append (λ c. ⊥) (contents f) [] 
 pub inside_first : (k : Key) (n : ℕ) (j : Identity) (c : Live) (f : Forest) (outer : Outer) → leave outer (plus (OfGraph (enter_first k n j c)) f) ≡ plus (OfGraph c) (First k n j f Empty)
 inside_first k n j c f outer = rw (append-nil (contents f))
 
+-- A flame graph's collector takes a shared entry with its content if the identity is new and the content fits.
 pub takes_shared : (k : Key) (n : ℕ) (j : Identity) (c : Live) (f : Forest) → contains c.met j ≡ false → Takes (OfGraph (enter_first k n j c)) f → Takes (OfGraph c) (First k n j f Empty)
 takes_shared k n j c f new w = (new, w, tt)
 
+-- A shared entry without its content leaves a collector of held bytes as it is.
 pub held_again : (k : Key) (n : ℕ) (j : Identity) (h : Holding) → plus (OfHeld h) (Again k n j Empty) ≡ OfHeld h
 held_again k n j h = ap OfHeld (holding-nothing h)
 
+-- A shared entry without its content adds to a collector of owned bytes what it has beyond the spare ones.
 pub owned_again : (k : Key) (n : ℕ) (j : Identity) (o : Owning) → plus (OfOwned o) (Again k n j Empty) ≡ OfOwned (count_owning n o)
 owned_again k n j o = ap OfOwned (owning-again k n j o)
 
@@ -125,9 +139,11 @@ closed-plus (OfGraph c) f h = h
 closed-plus (OfHeld k) f h = h
 closed-plus (OfOwned o) f h = (h.0, omega (arith, h.1))
 
+-- A forest that is added leaves the number of open visitors as it was.
 pub visitors-plus : (c : Kind) (f : Forest) → visitors (plus c f) ≡ visitors c
 visitors-plus c f = grind arith
 
+-- Entering an entry opens one visitor more.
 pub visitors-enter : (u : Bool) (k : Key) (n : ℕ) (c : Kind) → visitors (enter u k n c) ≡ suc (visitors c)
 visitors-enter u k n c = grind arith
 
@@ -139,11 +155,14 @@ visitors-leave outer c = grind arith
 pub is_graph-plus : (c : Kind) (f : Forest) → is_graph (plus c f) ≡ is_graph c
 is_graph-plus c f = grind arith
 
+-- Entering an entry does not change whether a collector is a flame graph's.
 pub is_graph-enter : (u : Bool) (k : Key) (n : ℕ) (c : Kind) → is_graph (enter u k n c) ≡ is_graph c
 is_graph-enter u k n c = grind arith
 
+-- Leaving an entry does not change whether a collector is a flame graph's.
 pub is_graph-leave : (outer : Outer) (c : Kind) → is_graph (leave outer c) ≡ is_graph c
 is_graph-leave outer c = grind arith
 
+-- Opening a root visitor does not change whether a collector is a flame graph's.
 pub is_graph-begin : (c : Kind) → is_graph (begin c) ≡ is_graph c
 is_graph-begin c = grind arith

@@ -17,15 +17,19 @@ Contents = List (Identity × Bag)
 abbrev pub ids : Contents → List Identity
 ids cs = map (λ c. c.0) cs
 
+-- The identities met after two lists of contents are those met after the first and then the second.
 pub met-append : (s : Identities) (cs ds : Contents) → insert_all s (ids (cs ++ ds)) ≡ insert_all (insert_all s (ids cs)) (ids ds)
 met-append s cs ds = ap (insert_all s) (map-append (λ c. c.0) cs ds) ∙ fold-append insert s (ids cs) (ids ds)
 
+-- An identity is among those of two lists of contents exactly if it is among those of the first or the second.
 among-append : (i : Identity) (cs ds : Contents) → is_among i (ids (cs ++ ds)) ≡ (is_among i (ids cs) || is_among i (ids ds))
 among-append i cs ds = ap (is_among i) (map-append (λ c. c.0) cs ds) ∙ list_any-append (is_same_identity i) (ids cs) (ids ds)
 
+-- What follows from an identity in either of two lists of contents follows from an identity in both together.
 among_both : {Q : Type 0} (i : Identity) (cs ds : Contents) → (IsTrue (is_among i (ids cs)) → Q) → (IsTrue (is_among i (ids ds)) → Q) → IsTrue (is_among i (ids (cs ++ ds))) → Q
 among_both i cs ds f g h = or_both (is_among i (ids cs)) (is_among i (ids ds)) f g (sym (among-append i cs ds) ∙ h)
 
+-- What holds of each identity among some contents holds of each of these contents.
 pub shown_each : (P : Identity → Type 0) (cs : Contents) → ((i : Identity) → IsTrue (is_among i (ids cs)) → P i) → AllByRecursion (λ c. P c.0) cs
 shown_each P [] h = tt
 shown_each P (c ∷ cs) h = (h c.0 (or_left _ (is_among c.0 (ids cs)) (same_identity_itself c.0)), shown_each P cs (λ i w. h i (or_right (is_same_identity i c.0) _ w)))
@@ -33,6 +37,7 @@ shown_each P (c ∷ cs) h = (h c.0 (or_left _ (is_among c.0 (ids cs)) (same_iden
 abbrev marks : Identity → Entry → Bool
 marks i e = is_mark_of i e.mark
 
+-- A set with a list of identities added has those that it had and those of the list.
 pub contains-insert_all : (s : Identities) (is : List Identity) (i : Identity) → contains (insert_all s is) i ≡ (contains s i || is_among i is)
 contains-insert_all s [] i = sym (or-false _)
 contains-insert_all s (j ∷ is) i = grind (arith, contains-insert_all (insert s j) is i, contains-insert identity_total s j i)
@@ -61,10 +66,12 @@ module _ (b : Bag) (content : Identity → Bag) where
 abbrev marked_in : Identity → Bag → Contents → Bool
 marked_in i b cs = has_mark i b || list_any (λ c. has_mark i c.1) cs
 
+-- A step of `fits_marks`: if each of two parts points only to identities met after it, so do both in one.
 two_marked : (i : Identity) (s : Identities) (a b : Bag) (cs ds : Contents) → (IsTrue (marked_in i a cs) → IsTrue (contains s i || is_among i (ids cs)))
     → (IsTrue (marked_in i b ds) → IsTrue (contains (insert_all s (ids cs)) i || is_among i (ids ds))) → IsTrue (marked_in i (a ++ b) (cs ++ ds)) → IsTrue (contains s i || is_among i (ids (cs ++ ds)))
 two_marked i s a b cs ds f g h = grind (arith, f, g, h, list_any-append (marks i) a b, list_any-append (λ c. has_mark i c.1) cs ds, among-append i cs ds, contains-insert_all s (ids cs) i)
 
+-- If a forest that fits the identities met points to an identity, it was met or the forest shows its content.
 fits_marks : (p : Path) (s : Identities) (f : Forest) → Fits s f → (i : Identity) → IsTrue (marked_in i (own_behind p f) (contents f)) → IsTrue (contains s i || is_among i (shown f))
 fits_marks p s Empty w i h = absurd (true≢false (sym h))
 fits_marks p s (Inline k n f after) w i h =
@@ -77,6 +84,7 @@ fits_marks p s (First k n j f after) w i h =
 fits_marks p s (Again k n j after) w i h =
     let met = λ (a : IsTrue (is_same_identity i j)). ap (contains s) (same_identity i j a) ∙ w.0 in grind (arith, met, h, fits_marks p s after w.1 i)
 
+-- If the content found for an identity points to i, one of the contents points to i.
 marks_content : (cs : Contents) (i j : Identity) → IsTrue (has_mark i (unwrap_or (lookup (is_same_identity j) cs) [])) → IsTrue (list_any (λ c. has_mark i c.1) cs)
 marks_content [] i j h = h
 marks_content (c ∷ cs) i j h = grind (arith, marks_content cs i j, h)
@@ -86,10 +94,12 @@ abbrev Fresh : Identities → Contents → Type 0
 Fresh s [] = ⊤
 Fresh s (c ∷ cs) = (contains s c.0 ≡ false) × Fresh (insert s c.0) cs
 
+-- If some contents are new, and more contents are new once those were met, all of them are new.
 fresh-append : (s : Identities) (cs ds : Contents) → Fresh s cs → Fresh (insert_all s (ids cs)) ds → Fresh s (cs ++ ds)
 fresh-append s [] ds h g = g
 fresh-append s (c ∷ cs) ds h g = (h.0, fresh-append (insert s c.0) cs ds h.1 g)
 
+-- The contents of a forest that fits are new: no identity was met before or is shown twice.
 fits_fresh : (s : Identities) (f : Forest) → Fits s f → Fresh s (contents f)
 fits_fresh s Empty w = tt
 fits_fresh s (Inline k n f after) w = fresh-append s (contents f) (contents after) (fits_fresh s f w.0) (fits_fresh (met_after s f) after w.1)
@@ -97,6 +107,7 @@ fits_fresh s (Unique k n f after) w = fresh-append s (contents f) (contents afte
 fits_fresh s (First k n j f after) w = (w.0, fresh-append (insert s j) (contents f) (contents after) (fits_fresh (insert s j) f w.1) (fits_fresh (met_after (insert s j) f) after w.2))
 fits_fresh s (Again k n j after) w = fits_fresh s after w.1
 
+-- The identities of new contents were not met before, and none of them is there twice.
 fresh_distinct : (s : Identities) (cs : Contents) → Fresh s cs → AllByRecursion (λ j. contains s j ≡ false) (ids cs) × IsDistinct is_same_identity (ids cs)
 unfolding IsDistinct
 fresh_distinct s [] h = (tt, tt)
@@ -105,9 +116,11 @@ fresh_distinct s (c ∷ cs) h =
     let apart = λ (j : Identity) (g : contains (insert s c.0) j ≡ false). or_parts (is_same_identity j c.0) (contains s j) (sym (contains-insert identity_total s c.0 j) ∙ g) in
     ((h.0, each-implies _ _ (λ j g. (apart j g).1) (ids cs) rest.0), (each-implies _ _ (λ j g. same_identity_turned c.0 j ∙ (apart j g).0) (ids cs) rest.0, rest.1))
 
+-- A whole showing shows the content of each identity at most once.
 pub shown_distinct : (f : Forest) → IsWhole f → IsDistinct is_same_identity (shown f)
 shown_distinct f w = (fresh_distinct empty (contents f) (fits_fresh empty f w)).1
 
+-- In a whole showing, `content_of` finds each content by its identity.
 own_content : (f : Forest) → IsWhole f → AllByRecursion (λ c. content_of f c.0 ≡ c.1) (contents f)
 own_content f w = recursion_from_All _ (contents f) (All-weaker (Contains (contents f)) _
     (λ c h. ap (λ o. unwrap_or o []) (lookup-from_Contains (eq_by_cmp_equiv identity_total) c.0 c.1 (contents f) (shown_distinct f w) h)) (contents f) (All-contains_itself (contents f)))
@@ -128,6 +141,7 @@ as_flat f w = each (contents f) (own_content f w)
     each [] h = refl
     each (c ∷ cs) h = λ k. h.0 k ++ each cs h.1 k
 
+-- All entries of a whole showing are a meaning of its own entries, with the contents that it shows.
 pub all_is_meaning : (f : Forest) → IsWhole f → IsMeaning (own f) (content_of f) (all f)
 all_is_meaning f w =
     let same = subst (λ b. IsPermutation (own f ++ b) (all f)) (sym (as_flat f w)) (IsPermutation-refl (all f)) in

@@ -18,6 +18,7 @@ use Rattle.allocative_graph.proofs.StackSums.{same_begins}
 no_byte : (c : ℕ) (xs : List ℕ) → Lacks c xs → All (λ b. (b == c) ≡ false) xs
 no_byte c xs h = All-weaker (λ b. b ≢ c) (λ b. (b == c) ≡ false) (λ b. ne_eqb b c) xs (All-from_recursion (λ b. b ≢ c) xs h)
 
+-- If a list lacks a byte, no place in the list has it.
 lacks_at : (c : ℕ) (xs : List ℕ) (i : ℕ) → Lacks c xs → i < length xs → get_or xs i 0 ≢ c
 lacks_at c xs i h l = All-from_recursion (λ b. b ≢ c) xs h i 0 l
 
@@ -33,6 +34,7 @@ kept_end a d h some =
     let other : get_or (a ++ d) (length (a ++ d) - 1) 0 ≢ 13 = λ e. lacks_at 13 d _ h (omega (arith, length-append a d)) (sym last ∙ e) in
     ap (λ (t : Bool). if t then take (length (a ++ d) - 1) (a ++ d) else (a ++ d)) (ne_eqb _ 13 other)
 
+-- If all keys are plain, a text written entry by entry has one line for each entry.
 lines-full : (es : List Sized) → AllByRecursion (λ e. AllByRecursion Plain e.0) es → lines (flat_map full es) ≡ map body es
 lines-full [] h = refl
 lines-full (e ∷ es) h =
@@ -48,6 +50,7 @@ keys-joined : (k : Key) (p : Path) → AllByRecursion Plain (k ∷ p) → keys_o
 keys-joined k [] h = slice_split_none (λ b. b == 59) k (no_byte 59 k h.0.0)
 keys-joined k (l ∷ p) h = slice_split_at (λ b. b == 59) k 59 (joined (l ∷ p)) (no_byte 59 k h.0.0) refl ∙ ap (λ (q : Path). k ∷ q) (keys-joined l p h.1)
 
+-- The decimal of a number that fits a word is read as that number.
 number-decimal : (n : ℕ) → n < 2 ^ 64 → IsNumber (decimal n) × (number_of (decimal n) ≡ n)
 number-decimal n w =
     let read = decimal_is_IsNumeral n w in
@@ -57,18 +60,22 @@ number-decimal n w =
 abbrev said : Sized → Stack
 said e = record { path = e.0; size = e.1 }
 
+-- The keys and the number read from the line of a good entry are its own.
 saying : (e : Sized) → Good e → ◌≡◌ {A = Stack} (record { path = keys_of (joined e.0); size = number_of (decimal e.1) }) (said e)
 saying ([], n) good = absurd (true≢false (sym good.shows))
 saying (k ∷ p, n) good = λ i. record { path = keys-joined k p good.plain i; size = (number-decimal n good.word).1 i }
 
+-- The last space in the line of an entry is the one between its keys and its size.
 body_cut : (e : Sized) → IsCut (body e) (joined e.0) (decimal e.1)
 body_cut e = record { parts = refl; last = decimal_lacks 32 e.1 (omega arith) }
 
+-- If the line of a good entry is a stack, the stack has the path and the size of the entry.
 entry_read : (e : Sized) → Good e → (s : Stack) → IsStack (body e) s → s ≡ said e
 entry_read e good s is =
     let both = cut_once (body_cut e) is in
     is.is ∙ (λ i. record { path = keys_of (sym both.0 i); size = number_of (sym both.1 i) }) ∙ saying e good
 
+-- If the lines of good entries are stacks, these have the paths and the sizes of the entries, in their order.
 entries_read : (es : List Sized) → AllByRecursion Good es → (ss : List Stack) → AreStacks (map body es) ss → ss ≡ map said es
 entries_read [] good [] h = refl
 entries_read [] good (s ∷ ss) h = absurd h
@@ -76,6 +83,7 @@ entries_read (e ∷ es) good ss h =
     let f = stacks-first (body e) (map body es) ss (omega (arith, length-append (joined e.0) (32 ∷ decimal e.1))) h in
     f.2 ∙ (λ i. entry_read e good.0 f.0 f.3 i ∷ entries_read es good.1 f.1 f.4 i)
 
+-- If the keys of a graph are plain and its total fits a word, its text has the lines of the entries shown.
 lines-text : (g : Graph) → HasPlainKeys g → HasWords g → lines (text g) ≡ map body (shown g)
 lines-text g plain fits = ap lines (shown_lines (entries g)) ∙ lines-full (shown g) (each-implies Good _ (λ e good. good.plain) (shown g) (good_entries (entries g) plain fits))
 
@@ -86,12 +94,14 @@ same_entry e f a b h =
     let told = sym (saying e a) ∙ (λ i. record { path = keys_of (both.0 i); size = number_of (both.1 i) }) ∙ saying f b in
     λ i. ((told i).path, (told i).size)
 
+-- Two lists of good entries with the same lines are equal.
 same_entries : (es fs : List Sized) → AllByRecursion Good es → AllByRecursion Good fs → map body es ≡ map body fs → es ≡ fs
 same_entries [] [] a b h = refl
 same_entries [] (f ∷ fs) a b h = cc
 same_entries (e ∷ es) [] a b h = cc
 same_entries (e ∷ es) (f ∷ fs) a b h = λ i. same_entry e f a.0 b.0 (cc) i ∷ same_entries es fs a.1 b.1 (cc) i
 
+-- Graphs with plain keys, totals that fit a word and one text have equal sizes at each path but the root.
 pub text_tells : (g h : Graph) → HasPlainKeys g → HasPlainKeys h → HasWords g → HasWords h → text g ≡ text h → (k : Key) (p : Path) → size_at g (k ∷ p) ≡ size_at h (k ∷ p)
 text_tells g h a b v w e k p =
     let same = same_entries (shown g) (shown h) (good_entries (entries g) a v) (good_entries (entries h) b w) (sym (lines-text g a v) ∙ ap lines e ∙ lines-text h b w) in
@@ -134,17 +144,19 @@ said_stack e good h = record {
   is = sym (saying e good);
 }
 
+-- If good entries have at most `LEVELS` keys and not one empty key alone, their lines are stacks that say the same.
 said_stacks : (es : List Sized) → AllByRecursion Good es → AllByRecursion (λ e. (length e.0 ≤ LEVELS) × (0 < length (joined e.0))) es → AreStacks (map body es) (map said es)
 said_stacks [] good h = tt
 said_stacks (e ∷ es) good h = stacks-cons (body e) (map body es) (said e) (map said es) (said_stack e good.0 h.0) (said_stacks es good.1 h.1)
 
--- Where each line is a stack, none is not.
+-- If lines are stacks, each of them that is not blank is a stack.
 no_fault : (before : List (List ℕ)) (line : List ℕ) (rest : List (List ℕ)) (ss : List Stack) → AreStacks (before ++ line ∷ rest) ss → 0 < length line → ((s : Stack) → IsStack line s → ⊥) → ⊥
 no_fault [] line rest ss h some none = let f = stacks-first line rest ss some h in none f.0 f.3
 no_fault ([] ∷ before) line rest ss h some none = no_fault before line rest ss h some none
 no_fault ((b ∷ bs) ∷ before) line rest [] h some none = h
 no_fault ((b ∷ bs) ∷ before) line rest (s ∷ ss) h some none = no_fault before line rest ss h.1 some none
 
+-- If the keys of a graph are plain, its total fits a word and it can be read, no line of its text is refused.
 pub never_refused : (g : Graph) → HasPlainKeys g → HasWords g → CanBeRead g → (n : ℕ) (w : LineFault) → IsFault (text g) n w → ⊥
 never_refused g plain fits can n w fault =
     no_fault fault.before fault.line fault.rest (map said (shown g))

@@ -15,6 +15,7 @@ use Rattle.std.proofs.lemmas.List.Splits.{length-slice_split}
 use Rattle.std.proofs.lemmas.List.Sums.{count_by-le-length}
 use Rattle.allocative_graph.proofs.NodeText.{texts}
 
+-- If no place in a list has a byte, the list lacks it.
 lacks_from : (c : ℕ) (bs : List ℕ) → ((i : ℕ) → i < length bs → get_or bs i 0 ≢ c) → Lacks c bs
 lacks_from c bs h = recursion_from_All (λ b. b ≢ c) bs (All-from_get_or (λ b. b ≢ c) bs 0 h)
 
@@ -22,6 +23,7 @@ lacks_from c bs h = recursion_from_All (λ b. b ≢ c) bs (All-from_get_or (λ b
 pub no_space : (bs : List ℕ) → RFindsChar 32 bs None → Lacks 32 bs
 no_space bs h = lacks_from 32 bs (λ i. NoCharPasses-char 32 bs i h (omega arith))
 
+-- The two parts that `rsplit_once` finds are the line cut at its last space.
 pub cut_of : {bs : List ℕ} (x : Bor (List ℕ) × Bor (List ℕ)) → (i : ℕ) × (j : ℕ) × RFindsChar 32 bs (Some (i, j)) × (x.0.now ≡ take i bs) × (x.1.now ≡ drop j bs) × (i ≤ j) × (length x.0.now ≡ i) × (length x.1.now + j ≡ length bs) → IsCut bs x.0.now x.1.now
 cut_of {bs = bs} x (i, j, finds, front, back, ordered, one, other) =
     let whole : take i bs ++ 32 ∷ drop j bs ≡ bs = ap (λ l. take i bs ++ l) (sym (drop_at_char 32 bs i j finds.1 (omega arith))) ∙ take-append-drop i bs in
@@ -62,6 +64,7 @@ wrong_is_none TooDeep line (front, back, cut, reads, deep) s is =
 pub no_path : {line front back : List ℕ} → IsCut line front back → (length front == 0) ≡ true → IsWrong NoPath line
 no_path {line = line} {front = front} {back = back} cut e = (back, subst (λ (f : List ℕ). IsCut line f back) (nil_from_length front (eqb-true (length front) 0 e)) cut)
 
+-- A number that is not 0 is above 0.
 pub not_zero : (n : ℕ) → (n == 0) ≡ false → 0 < n
 not_zero n e = omega (arith, eqb-false n 0 e)
 
@@ -95,13 +98,14 @@ pub stacks-cons : (l : List ℕ) (ls : List (List ℕ)) (s : Stack) (ss : List S
 stacks-cons [] ls s ss is h = absurd (wrong_is_none NoSpace [] tt s is)
 stacks-cons (b ∷ bs) ls s ss is h = (is, h)
 
--- Where the first line is not blank, there is its stack, and then those of the other lines.
+-- If the first line is not blank, the first stack is its own, and the others are those of the other lines.
 pub stacks-first : (l : List ℕ) (ls : List (List ℕ)) (ss : List Stack) → 0 < length l → AreStacks (l ∷ ls) ss
     → (s : Stack) × (others : List Stack) × (ss ≡ s ∷ others) × IsStack l s × AreStacks ls others
 stacks-first [] ls ss some h = absurd (omega (arith, some))
 stacks-first (b ∷ bs) ls [] some h = absurd h
 stacks-first (b ∷ bs) ls (s ∷ ss) some h = (s, ss, refl, h.0, h.1)
 
+-- If two lists of lines are stacks, both lists together are the stacks of the first and then those of the second.
 stacks-append : (ls : List (List ℕ)) (ss : List Stack) (ks : List (List ℕ)) (ts : List Stack) → AreStacks ls ss → AreStacks ks ts → AreStacks (ls ++ ks) (ss ++ ts)
 stacks-append [] [] ks ts h g = g
 stacks-append [] (s ∷ ss) ks ts h g = absurd h

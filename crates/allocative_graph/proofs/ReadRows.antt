@@ -4,8 +4,8 @@ use Rattle.allocative_graph.proofs.Common.{entries, Child, Graph, IsNode, Key, P
 use Rattle.allocative_graph.proofs.ChildRows.{rows-more}
 use Rattle.allocative_graph.proofs.Behind.{total_at-child}
 
--- The figures of some paths with their sizes, with some keys before them, where t has the bytes of each path and of all
--- below it.
+-- The figures of some paths with their sizes, with some keys before them. The bytes of each path and of all below it
+-- are those that t has.
 abbrev pub figured : (Path → ℕ) → Path → List (Path × ℕ) → List Figures
 figured t ks rs = map (λ e. record { path = ks ++ e.0; self_size = e.1; total_size = t e.0 }) rs
 
@@ -24,7 +24,7 @@ child_read n cs i d ks o w =
     rw (rows-more cs i d w, map-append {B = Figures} (λ (e : Path × ℕ). record { path = ks ++ e.0; self_size = e.1; total_size = total_at (node n cs) e.0 }) (rows_of (take i cs)) (rows_of_child c))
     (ap (λ fs. figured (total_at (node n cs)) ks (rows_of (take i cs)) ++ fs) (figured-under _ _ ks c.key (entries c.graph) (λ q. total_at-child n cs i d q o w)))
 
--- The figures after one child more was read, where g is the graph of the node.
+-- The figures after one child more was read. The graph of the node is g.
 pub rows_pushed : {n s : ℕ} {cs ds : List Child} {g : Graph} {i : ℕ} {d : Child} {qs : Path} {was now : List Figures} (ks : Path) (start : List Figures) → node n cs ≡ g → IsNode cs s n → ds ≡ cs → i < length ds → d ≡ get_or ds i d
     → was ≡ start ++ figured (total_at g) ks (rows_of (take i ds)) → qs ≡ ks ++ d.key ∷ [] → now ≡ was ++ figures_behind qs d.graph → now ≡ start ++ figured (total_at g) ks (rows_of (take (i + 1) ds))
 rows_pushed {n = n} {ds = ds} {g = g} {i = i} {d = d} ks start view h same w at was_is behind now_is =

@@ -15,6 +15,7 @@ pub lacks_not : (c : ℕ) (a x : List ℕ) → Lacks c (a ++ c ∷ x) → ⊥
 lacks_not c [] x f = f.0 refl
 lacks_not c (d ∷ a) x f = lacks_not c a x f.1
 
+-- A list can be split at the last place of a byte in only one way.
 pub last_split : (c : ℕ) (a b x y : List ℕ) → Lacks c x → Lacks c y → a ++ c ∷ x ≡ b ++ c ∷ y → (a ≡ b) × (x ≡ y)
 last_split c [] [] x y f g e = (refl, cc)
 last_split c [] (d ∷ b) x y f g e = absurd (lacks_not c b y (subst (Lacks c) (cc) f))
@@ -25,12 +26,14 @@ last_split c (d ∷ a) (e ∷ b) x y f g h = let rest = last_split c a b x y f g
 high : (d : ℕ) → 48 ≤ digit_glyph false d
 high d = on_test (λ t. 48 ≤ (if t then 48 + d else 87 + d)) (nat_lt d 10) (λ e. omega arith) (λ e. omega arith)
 
+-- If all bytes of a list are at least 48, so are all once digits are written before them.
 high_digits : (k n : ℕ) (acc : List ℕ) → AllByRecursion (λ b. 48 ≤ b) acc → AllByRecursion (λ b. 48 ≤ b) (digits_onto k 10 false n acc)
 high_digits zero n acc h = h
 high_digits (suc k) n acc h =
     on_test (λ t. AllByRecursion (λ b. 48 ≤ b) (if t then digit_glyph false (n % 10) ∷ acc else digits_onto k 10 false (n / 10) (digit_glyph false (n % 10) ∷ acc))) (n / 10 == 0)
     (λ e. (high (n % 10), h)) (λ e. high_digits k (n / 10) (digit_glyph false (n % 10) ∷ acc) (high (n % 10), h))
 
+-- The decimal of a number has no byte below 48, so neither a space nor a line feed.
 pub decimal_lacks : (c n : ℕ) → c < 48 → Lacks c (decimal n)
 unfolding digits
 decimal_lacks c n h = each-implies (λ b. 48 ≤ b) (λ b. b ≢ c) (λ b g e. omega (arith, h, g, e)) (decimal n) (high_digits 64 n [] tt)
@@ -39,6 +42,7 @@ decimal_lacks c n h = each-implies (λ b. 48 ≤ b) (λ b. b ≢ c) (λ b g e. o
 abbrev pub Plain : Key → Type 0
 Plain k = Lacks 59 k × Lacks 10 k
 
+-- If all keys of a path are plain, the joined keys have no line feed.
 joined_lacks : (p : Path) → AllByRecursion Plain p → Lacks 10 (joined p)
 joined_lacks [] h = tt
 joined_lacks (k ∷ []) h = h.0.1
@@ -57,11 +61,13 @@ full e = joined e.0 ++ 32 ∷ decimal e.1 ++ 10 ∷ []
 abbrev pub body : Sized → List ℕ
 body e = joined e.0 ++ 32 ∷ decimal e.1
 
+-- The text of some entries is the lines of those that are shown.
 pub shown_lines : (es : List Sized) → text_of_entries es ≡ flat_map full (filter is_shown es)
 shown_lines [] = refl
 shown_lines (e ∷ es) = on_test (λ t. cond t [] (full e) ++ text_of_entries es ≡ flat_map full (cond (not t) (e ∷ filter is_shown es) (filter is_shown es))) (is_root e.0 || (e.1 == 0))
     (λ h. shown_lines es) (λ h. ap (λ x. full e ++ x) (shown_lines es))
 
+-- The line of an entry is its keys and its size, and after these a line feed.
 pub full_body : (e : Sized) (rest : List ℕ) → full e ++ rest ≡ body e ++ 10 ∷ rest
 full_body e rest = append_assoc (body e) (10 ∷ []) rest
 
@@ -70,6 +76,7 @@ pub record Good (e : Sized) : Type 0 where
   pub plain : AllByRecursion Plain e.0
   pub word : e.1 < 2 ^ 64
 
+-- If the keys of an entry are plain, its line has no line feed but the one at its end.
 pub body_lacks : (e : Sized) → AllByRecursion Plain e.0 → Lacks 10 (body e)
 body_lacks e h = each-append (λ b. b ≢ 10) (joined e.0) _ (joined_lacks e.0 h) ((λ g. omega (arith, g)), decimal_lacks 10 e.1 (omega arith))
 
@@ -77,6 +84,7 @@ body_lacks e h = each-append (λ b. b ≢ 10) (joined e.0) _ (joined_lacks e.0 h
 abbrev pub shown : Graph → List Sized
 shown g = filter is_shown (entries g)
 
+-- If the keys are plain and all sizes together fit a word, each entry that is shown is good.
 pub good_entries : (es : List Sized) → AllByRecursion (λ p. AllByRecursion Plain p) (map (λ e. e.0) es) → sum_by (λ e. e.1) es < 2 ^ 64 → AllByRecursion Good (filter is_shown es)
 good_entries [] a b = tt
 good_entries (e ∷ es) a b =
@@ -89,7 +97,7 @@ good_entries (e ∷ es) a b =
 abbrev pub bytes_in : List Sized → Path → ℕ
 bytes_in es q = sum_by (λ e. cond (is_same_path q e.0) e.1 0) es
 
--- Where an entry has no line, it has no bytes at a path that is not the root.
+-- If an entry has no line, it has no bytes at a path that is not the root.
 unseen : (e : Sized) (k : Key) (p : Path) → is_shown e ≡ false → cond (is_same_path (k ∷ p) e.0) e.1 0 ≡ 0
 unseen ([], n) k p h = refl
 unseen (l ∷ q, n) k p h = zero_at (is_same_path (k ∷ p) (l ∷ q)) (eqb-true n 0 (not-false (n == 0) h))
@@ -97,7 +105,7 @@ unseen (l ∷ q, n) k p h = zero_at (is_same_path (k ∷ p) (l ∷ q)) (eqb-true
     zero_at : (t : Bool) → n ≡ 0 → cond t n 0 ≡ 0
     zero_at t e = grind arith
 
--- The sum over the items that pass a test is that over all, where the others have none.
+-- If the items that fail a test have none, the sum over the other items is the sum over all.
 sum-filter : {X : Type 0} (t : X → Bool) (f : X → ℕ) → ((x : X) → t x ≡ false → f x ≡ 0) → (xs : List X) → sum_by f (filter t xs) ≡ sum_by f xs
 sum-filter t f none xs =
     let nothing = All-weaker _ (λ x. f x ≤ 0) (λ x h. omega (arith, none x (not-true (t x) h))) _ (filter_passes (λ x. not (t x)) xs) in

@@ -20,16 +20,16 @@ pub record Live : Type 0 where
   pub back : List Path
   pub open_visitors : ℕ
 
--- The collector of held bytes: their sum, the number of open visitors, which were entered and not left, and whether the
--- current visitor is that of a unique entry.
+-- The collector of held bytes: their sum, the number of open visitors, which were entered and not left, and whether
+-- the current visitor is that of a unique entry.
 pub record Holding : Type 0 where
   pub sum : ℕ
   pub open_visitors : ℕ
   pub is_in_unique : Bool
 
--- The collector of owned bytes: their sum, the spare bytes of the current entry, which no entry directly inside it has
--- taken, and the number of open visitors, which were entered and not left. A unique entry has no spare bytes, nor has
--- the root.
+-- The collector of owned bytes: their sum, the spare bytes of the current entry, which no entry directly inside it
+-- has taken, and the number of open visitors, which were entered and not left. A unique entry has no spare bytes, nor
+-- has the root.
 pub record Owning : Type 0 where
   pub sum : ℕ
   pub spare : ℕ
@@ -55,7 +55,7 @@ pub data State : Type 0 where
   Going : Kind → State
 
 -- ---- the collector of a flame graph
--- The entries that f adds where the current path is p: its own after p, and those of its contents from the root.
+-- The entries that f adds when the current path is p: its own after p, and those of its contents from the root.
 abbrev pub entries_at : Path → Forest → Bag
 entries_at p f = own_behind p f ++ content_entries f
 
@@ -67,7 +67,7 @@ plus_live c f = record c { sums = add_all c.sums (entries_at c.here f); met = me
 abbrev pub go : Path → Live → Live
 go p c = record c { here = p; back = c.here ∷ c.back; open_visitors = suc c.open_visitors }
 
--- The path to go back to; the root where there is none.
+-- The path to go back to; the root if there is none.
 abbrev pub last_of : List Path → Path
 last_of [] = []
 last_of (p ∷ ps) = p
@@ -98,7 +98,7 @@ enter_again k n i c = plus_live c (Again k n i Empty)
 abbrev pub plus_holding : Holding → Forest → Holding
 plus_holding h f = record h { sum = h.sum + (held f + cond h.is_in_unique (inline_bytes f) 0) }
 
--- The bytes that an entry of n bytes adds: all of them where it is inline and directly in a unique entry, otherwise
+-- The bytes that an entry of n bytes adds: all of them if it is inline and directly in a unique entry, otherwise
 -- none.
 abbrev pub held_bytes : Bool → Bool → ℕ → ℕ
 held_bytes is_in_unique is_unique n = cond is_in_unique (cond is_unique 0 n) 0
@@ -149,8 +149,8 @@ visitors (OfGraph c) = c.open_visitors
 visitors (OfHeld h) = h.open_visitors
 visitors (OfOwned o) = o.open_visitors
 
--- What leaving an entry of n bytes that is opened now restores: whether the current entry is unique, for held bytes, or
--- its spare bytes less n, for owned bytes. The collector of a flame graph needs nothing.
+-- What leaving an entry of n bytes that is opened now restores: whether the current entry is unique, for held bytes,
+-- or its spare bytes less n, for owned bytes. The collector of a flame graph needs nothing.
 abbrev pub outer_of : ℕ → Kind → Outer
 outer_of n (OfGraph c) = no_outer
 outer_of n (OfHeld h) = record { is_unique = h.is_in_unique; spare = 0 }
@@ -162,7 +162,7 @@ plus (OfGraph c) f = OfGraph (plus_live c f)
 plus (OfHeld h) f = OfHeld (plus_holding h f)
 plus (OfOwned o) f = OfOwned (plus_owning o f)
 
--- f can be added: for a flame graph, it shows contents exactly where their identities were not met; for held and owned
+-- f can be added: for a flame graph, it shows contents exactly if their identities were not met; for held and owned
 -- bytes, it shows no content.
 abbrev pub Takes : Kind → Forest → Type 0
 Takes (OfGraph c) f = Fits c.met f

@@ -4,8 +4,8 @@ use Rattle.std.specs.FinSet.{contains, insert}
 use Rattle.allocative_graph.specs.Path.{Key, Path}
 use Rattle.allocative_graph.specs.Identity.{Identity, Identities}
 
--- A list of entries: its first entry, the entries inside that one, and the entries after it. `First` is a shared entry
--- that shows its content, `Again` a shared entry that does not.
+-- A list of entries: its first entry, the entries inside that one, and the entries after it. `First` is a shared
+-- entry that shows its content, `Again` a shared entry that does not.
 pub data Forest : Type 0 where
   Empty : Forest
   Inline : Key → ℕ → Forest → Forest → Forest
@@ -80,11 +80,11 @@ shown f = map (λ c. c.0) (contents f)
 abbrev pub insert_all : Identities → List Identity → Identities
 insert_all s is = fold insert s is
 
--- The identities met once f is shown, where those of s were met before.
+-- The identities met once f is shown, if those of s were met before.
 abbrev pub met_after : Identities → Forest → Identities
 met_after s f = insert_all s (shown f)
 
--- f fits the identities met: a shared entry shows its content exactly where its identity is not in s and was not met
+-- f fits the identities met: a shared entry shows its content exactly if its identity is not in s and was not met
 -- earlier in reading order.
 abbrev pub Fits : Identities → Forest → Type 0
 Fits s Empty = ⊤

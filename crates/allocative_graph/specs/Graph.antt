@@ -75,7 +75,7 @@ pub record IsTree (g : Graph) : Type 0 where
   pub closed : (p : Path) (k : Key) → IsTrue (contains_key g (p ++ k ∷ [])) → IsTrue (contains_key g p)
 
 -- ---- the graph of sums
--- What the path p keeps of its bytes: all of them where p was ever unique, otherwise those beyond the bytes one key
+-- What the path p keeps of its bytes: all of them if p was ever unique, otherwise those beyond the bytes one key
 -- below p, and never less than 0.
 abbrev pub remaining : Sums → Path → Node → ℕ
 remaining s p node = cond node.is_unique node.bytes (node.bytes - below s p)
@@ -88,7 +88,7 @@ sizes s = ([], 0) ∷ map (λ e. (e.0, remaining s e.0 e.1)) (entries s)
 abbrev pub graph : Sums → Graph
 graph s = from_entries (sizes s)
 
--- Each path that both have is unique in both or in neither. Where it is unique in neither, its bytes are at least those
+-- Each path that both have is unique in both or in neither. If it is unique in neither, its bytes are at least those
 -- one key below it in both, or at most those one key below it in both.
 abbrev pub CanBeAdded : Sums → Sums → Type 0
 CanBeAdded s t = (p : Path) (m n : Node) → get s p ≡ Some m → get t p ≡ Some n
@@ -135,7 +135,7 @@ warning_text w = codes "Incorrect size declaration for node `" ++ joined w.path 
 abbrev pub warning_line : Path → ℕ → ℕ → List ℕ
 warning_line p bytes under = warning_text (record { path = p; self_size = bytes; children_size = under }) ++ newline ∷ []
 
--- The warning of a path of the sums: there is one where the path is not the root, was never unique and has fewer bytes
+-- The warning of a path of the sums: there is one if the path is not the root, was never unique and has fewer bytes
 -- than one key below it.
 abbrev pub warning : Sums → Path × Node → List ℕ
 warning s e = cond (not (is_root e.0) && not e.1.is_unique && nat_lt e.1.bytes (below s e.0))
@@ -145,7 +145,7 @@ warning s e = cond (not (is_root e.0) && not e.1.is_unique && nat_lt e.1.bytes (
 abbrev pub warnings : Sums → List ℕ
 warnings s = flat_map (warning s) (entries s)
 
--- A path of the sums with both numbers where it has a warning, otherwise nothing.
+-- A path of the sums with both numbers if it has a warning, otherwise nothing.
 abbrev pub warned : Sums → Path × Node → List Warned
 warned s e = cond (not (is_root e.0) && not e.1.is_unique && nat_lt e.1.bytes (below s e.0))
     (record { path = e.0; self_size = e.1.bytes; children_size = below s e.0 } ∷ []) []

@@ -9,7 +9,7 @@ pub record Identity : Type 0 where
   pub maker : ℕ
   pub number : ℕ
 
--- Identities are ordered by their makers, and by their numbers where the makers are equal.
+-- Identities are ordered by their makers, and by their numbers if the makers are equal.
 abbrev pub identity_cmp : Identity → Identity → Ordering
 identity_cmp i j = ordering_then (nat_cmp i.maker j.maker) (nat_cmp i.number j.number)
 

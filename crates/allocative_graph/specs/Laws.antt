@@ -18,8 +18,8 @@ use Rattle.allocative_graph.specs.Read.{IsRead, IsFault, Exceeds, CanBeRead}
 use Rattle.allocative_graph.specs.declared.read.LineFault.{LineFault}
 
 -- ---- of showings
--- Two showings have the same result: they reach the same identities, and have the same graph, text, warnings and paths
--- with a warning.
+-- Two showings have the same result: they reach the same identities, and have the same graph, text, warnings and
+-- paths with a warning.
 pub record SameProfile (f g : Forest) : Type 0 where
   pub reached : (i : Identity) → Reached (own f) (content_of f) i ↔ Reached (own g) (content_of g) i
   pub same_graph : graph (sums_of (all f)) ≡ graph (sums_of (all g))
@@ -27,8 +27,8 @@ pub record SameProfile (f g : Forest) : Type 0 where
   pub same_warnings : warnings (sums_of (all f)) ≡ warnings (sums_of (all g))
   pub same_warned : warned_paths (sums_of (all f)) ≡ warned_paths (sums_of (all g))
 
--- Two whole showings that agree have the same result, whatever the order of roots, of entries, and of which pointer met
--- a content first.
+-- Two whole showings that agree have the same result, whatever the order of roots, of entries, and of which pointer
+-- met a content first.
 abbrev pub OrderLaw : Type 0
 OrderLaw = (f g : Forest) → IsWhole f → IsWhole g → Agree f g → SameProfile f g
 
@@ -37,27 +37,27 @@ OrderLaw = (f g : Forest) → IsWhole f → IsWhole g → Agree f g → SameProf
 abbrev pub MeaningLaw : Type 0
 MeaningLaw = (f : Forest) → IsWhole f → ReachesExactly f × IsMeaning (own f) (content_of f) (all f)
 
--- Where no identity is reached by both and their sums can be added, the graphs of two whole showings add up to the
--- graph of the showing that has both.
+-- If no identity is reached by both and their sums can be added, the graphs of two whole showings add up to the graph
+-- of the showing that has both.
 abbrev pub MergeLaw : Type 0
 MergeLaw = (f g : Forest) → IsWhole f → IsWhole g → ReachApart f g → CanBeAdded (sums_of (all f)) (sums_of (all g))
     → IsWhole (followed_by f g)
     × (sum_of (graph (sums_of (all f))) (graph (sums_of (all g))) ≡ graph (sums_of (all (followed_by f g))))
 
 -- ---- of texts
--- Where no key has a `;` or a line feed and the totals fit a word, graphs with equal texts have equal sizes at each
--- path but the root.
+-- If no key has a `;` or a line feed and the totals fit a word, graphs with equal texts have equal sizes at each path
+-- but the root.
 abbrev pub TextLaw : Type 0
 TextLaw = (g h : Graph) → HasPlainKeys g → HasPlainKeys h → HasWords g → HasWords h → text g ≡ text h
     → (k : Key) (p : Path) → size_at g (k ∷ p) ≡ size_at h (k ∷ p)
 
--- Where no key has a `;` or a line feed, the lines whose last key is `unused_capacity` are those of the paths that end
+-- If no key has a `;` or a line feed, the lines whose last key is `unused_capacity` are those of the paths that end
 -- in it.
 abbrev pub ExactLaw : Type 0
 ExactLaw = (g : Graph) → HasPlainKeys g → exact_text g ≡ without_lines (codes "unused_capacity") (text g)
 
--- Where no key has a `;` or a line feed and the total fits a word, what is read of the text of g has the sizes of g at
--- each path but the root. No line of it is refused where its paths can be read, and its bytes never exceed a word.
+-- If no key has a `;` or a line feed and the total fits a word, what is read of the text of g has the sizes of g at
+-- each path but the root. No line of it is refused if its paths can be read, and its bytes never exceed a word.
 pub record ReadLaw : Type 0 where
   pub same_sizes : (g h : Graph) → HasPlainKeys g → HasWords g → IsRead (text g) h → (k : Key) (p : Path)
       → size_at h (k ∷ p) ≡ size_at g (k ∷ p)
@@ -72,8 +72,8 @@ SumsLaw = (b : Bag) (p : Path) → (get (sums_of b) p ≡ cond (is_entered_in b 
     (Some (record { bytes = bytes_in b p; is_unique = is_unique_in b p })) None) × (below (sums_of b) p ≡ below_in b p)
 
 -- ---- of the collectors
--- What a collector has after forests: one forest followed by another is both in one, and entering, adding f and leaving
--- is the entry with f inside it.
+-- What a collector has after forests: one forest followed by another is both in one, and entering, adding f and
+-- leaving is the entry with f inside it.
 pub record PlusLaw : Type 0 where
   pub nothing : (c : Kind) → plus c Empty ≡ c
   pub following : (c : Kind) (f g : Forest) → plus c (followed_by f g) ≡ plus (plus c f) g
@@ -97,15 +97,15 @@ pub record SharedLaw : Type 0 where
       → plus (OfOwned o) (Again k n i Empty) ≡ OfOwned (count_owning n o)
 
 -- ---- of paths
--- A prefix of a path comes before it, and otherwise the first keys that differ decide. Keys are ordered in this way by
--- their bytes.
+-- A prefix of a path comes before it, and otherwise the first keys that differ decide. Keys are ordered in this way
+-- by their bytes.
 pub record PathOrderLaw : Type 0 where
   pub paths : (p q : Path) → (path_cmp p q ≡ Less) ↔ ComesBefore key_cmp p q
   pub keys : (k l : Key) → (key_cmp k l ≡ Less) ↔ ComesBefore nat_cmp k l
 
 -- ---- of graphs
--- Adding is commutative and associative, an empty graph changes nothing, and totals add up. A key put before each path
--- changes no total.
+-- Adding is commutative and associative, an empty graph changes nothing, and totals add up. A key put before each
+-- path changes no total.
 pub record GraphSumsLaw : Type 0 where
   pub same_total : (g h : Graph) → total (sum_of g h) ≡ total g + total h
   pub commutes : (g h : Graph) → sum_of g h ≡ sum_of h g
@@ -113,8 +113,8 @@ pub record GraphSumsLaw : Type 0 where
   pub unchanged : (g : Graph) → IsTree g → sum_of g default ≡ g
   pub under_total : (k : Key) (g : Graph) → total (under k g) ≡ total g
 
--- The graph of some sums has the root with 0 and exactly the paths of the sums, each with what remains of its bytes. The
--- graph of a showing has each prefix of its paths.
+-- The graph of some sums has the root with 0 and exactly the paths of the sums, each with what remains of its bytes.
+-- The graph of a showing has each prefix of its paths.
 pub record GraphLaw : Type 0 where
   pub root : (s : Sums) → get (graph s) [] ≡ Some 0
   pub paths : (s : Sums) (k : Key) (p : Path) → get (graph s) (k ∷ p) ≡ option_map (remaining s (k ∷ p)) (get s (k ∷ p))

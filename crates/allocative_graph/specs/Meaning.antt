@@ -33,11 +33,11 @@ pub record IsMeaning (b : Bag) (content : Identity → Bag) (m : Bag) : Type 0 w
   pub reached : (i : Identity) → IsTrue (is_among i identities) ↔ Reached b content i
   pub is : IsPermutation (b ++ flat_map content identities) m
 
--- The content that f shows of an identity, or no entries where it shows none.
+-- The content that f shows of an identity, or no entries if it shows none.
 abbrev pub content_of : Forest → Identity → Bag
 content_of f i = unwrap_or (lookup (is_same_identity i) (contents f)) []
 
--- f is a whole showing: it fits where no identity was met before.
+-- f is a whole showing: it fits when no identity was met before.
 abbrev pub IsWhole : Forest → Type 0
 IsWhole f = Fits set.empty f
 

@@ -66,8 +66,8 @@ pub data Reordered : Forest → Forest → Type 0 where
   beside : {f g : Forest} (h : Forest) → Reordered f g → Reordered (followed_by f h) (followed_by g h)
   in_turn : {f g h : Forest} → Reordered f g → Reordered g h → Reordered f h
 
--- What two forests own one after another adds up. The order of entries does not matter. If the entries at each path are
--- alike, a forest owns the total of the graph of its own entries. It owns at least the bytes of its top entries.
+-- What two forests own one after another adds up. The order of entries does not matter. If the entries at each path
+-- are alike, a forest owns the total of the graph of its own entries. It owns at least the bytes of its top entries.
 pub record OwnedLaw : Type 0 where
   pub adds_up : (f g : Forest) → owned (followed_by f g) ≡ owned f + owned g
   pub in_any_order : (f g : Forest) → Reordered f g → owned f ≡ owned g

@@ -50,8 +50,8 @@ pub record IsCut (line path number : List ℕ) : Type 0 where
   pub parts : line ≡ path ++ space ∷ number
   pub last : Lacks space number
 
--- What is wrong with the line: it has no space; nothing stands before its last one; no digits alone stand behind it; the
--- number exceeds a word; or the path has too many keys.
+-- What is wrong with the line: it has no space; nothing stands before its last one; no digits alone stand behind it;
+-- the number exceeds a word; or the path has too many keys.
 abbrev pub IsWrong : LineFault → List ℕ → Type 0
 IsWrong NoSpace line = Lacks space line
 IsWrong NoPath line = (number : List ℕ) × IsCut line [] number
@@ -75,8 +75,8 @@ AreStacks ((b ∷ bs) ∷ ls) (s ∷ ss) = IsStack (b ∷ bs) s × AreStacks ls 
 abbrev pub Means : List ℕ → List Stack → Type 0
 Means t ss = AreStacks (lines t) ss
 
--- The line of this number, from 1 on, is the first one of the text that is neither blank nor a stack, and this is wrong
--- with it.
+-- The line of this number, from 1 on, is the first one of the text that is neither blank nor a stack, and this is
+-- wrong with it.
 pub record IsFault (t : List ℕ) (number : ℕ) (w : LineFault) : Type 0 where
   pub before : List (List ℕ)
   pub line : List ℕ
@@ -124,8 +124,8 @@ abbrev pub CanBeRead : Graph → Type 0
 CanBeRead g = AllByRecursion (λ e. (length e.0 ≤ LEVELS) × (0 < length (joined e.0)))
     (filter (λ e. not (is_root e.0 || (e.1 == 0))) (entries g))
 
--- Where the text is that of a graph in which no key has a `;` or a line feed, h has the sizes of that graph at each
--- path but the root.
+-- If the text is that of a graph in which no key has a `;` or a line feed, h has the sizes of that graph at each path
+-- but the root.
 abbrev pub ReadsBack : List ℕ → Graph → Type 0
 ReadsBack t h = (g : Graph) → HasPlainKeys g → HasWords g → t ≡ text g
     → (k : Key) (p : Path) → size_at h (k ∷ p) ≡ size_at g (k ∷ p)

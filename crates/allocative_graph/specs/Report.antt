@@ -29,7 +29,7 @@ before_last c best before [] = best
 before_last c best before (b ∷ bs) =
     cond (b == c) (before_last c before (before ++ b ∷ []) bs) (before_last c best (before ++ b ∷ []) bs)
 
--- The bytes after the last c, or all where there is no c. `after` is what was read since the last c so far.
+-- The bytes after the last c, or all if there is no c. `after` is what was read since the last c so far.
 abbrev pub after_last : ℕ → List ℕ → List ℕ → List ℕ
 after_last c after [] = after
 after_last c after (b ∷ bs) = cond (b == c) (after_last c [] bs) (after_last c (after ++ b ∷ []) bs)

@@ -28,7 +28,7 @@ Inside = InsideAs false
 abbrev pub InsideUnique : Key → ℕ → Showing → Showing
 InsideUnique = InsideAs true
 
--- One inline entry of a declared size, with a forest of p inside it. Where there is no size, there is no forest.
+-- One inline entry of a declared size, with a forest of p inside it. If there is no size, there is no forest.
 pub data IsField (k : Key) (p : Showing) : Option ℕ → Forest → Type 0 where
   sized : {n : ℕ} {f : Forest} → Inside k n p f → IsField k p (Some n) f
 
@@ -46,12 +46,12 @@ abbrev pub each_shows : {T : Type 0} → (T → Showing) → List T → Showing
 each_shows p [] = Nothing
 each_shows p (x ∷ xs) = Both (p x) (each_shows p xs)
 
--- Whether the items of a slice are shown one by one: where they need a drop and their size is not 0.
+-- Whether the items of a slice are shown one by one: if they need a drop and their size is not 0.
 abbrev pub is_shown_each : Bool → ℕ → Bool
 is_shown_each needs_drop size = needs_drop && not (size == 0)
 
--- A slice of items of a declared name and size: the forest of each item where they are shown one by one, otherwise one
--- inline entry with the item's name and all bytes. Where there is no size, there is no forest.
+-- A slice of items of a declared name and size: the forest of each item if they are shown one by one, otherwise one
+-- inline entry with the item's name and all bytes. If there is no size, there is no forest.
 abbrev pub slice_shows : {T : Type 0} → Key → Option ℕ → Bool → (T → Showing) → List T → Showing
 slice_shows name None needs_drop p xs = λ f. ⊥
 slice_shows name (Some s) needs_drop p xs =

@@ -12,7 +12,7 @@ use Rattle.allocative_graph.specs.Graph.{Graph, Warned, graph, warnings, warned_
 use Rattle.allocative_graph.specs.Collector.{Live, Holding, Owning, Kind, OfGraph, OfHeld, OfOwned, State, Failed, Going, held_bytes, enter, enter_first, enter_again, count_owning, plus, Takes, is_graph, visitors, Outer, outer_of, begin, close_entry, IsClosed, IsAtRoot}
 use Rattle.allocative_graph.specs.Shows.{Showing}
 
--- What visiting a value does to a collector, where p is what the value may show. A failed collector stays as it is.
+-- What visiting a value does to a collector, if p is what the value may show. A failed collector stays as it is.
 -- After Err it has failed. After Ok it has failed (an error was hidden), or has more open visitors than before (one
 -- was forgotten), or has one more forest, which p allows and the collector takes.
 pub data AddsForest (p : Showing) : State → Result Unit Refusal → State → Type 0 where
@@ -52,8 +52,8 @@ RefusesSized is_unique None b e = e ≡ TooLarge
 RefusesSized is_unique (Some n) b e = Refuses is_unique n b e
 
 -- What opening an entry of a declared size does. A failed collector returns its first cause. Otherwise the entry is
--- refused exactly as `RefusesSized` says, and the collector has failed; or there is one more entry and a visitor at it,
--- and the call returns what closing it restores.
+-- refused exactly as `RefusesSized` says, and the collector has failed; or there is one more entry and a visitor at
+-- it, and the call returns what closing it restores.
 pub data OpensEntry (is_unique : Bool) (k : Key) : Option ℕ → State → Result Outer Refusal → State → Type 0 where
   stays_failed : {size : Option ℕ} {r : Refusal} → OpensEntry is_unique k size (Failed r) (Err r) (Failed r)
   is_refused : {size : Option ℕ} {b : Kind} {e : Refusal} → RefusesSized is_unique size b e
@@ -66,9 +66,9 @@ abbrev pub RefusesEntry : Bool → Option ℕ → State → Refusal → Type 0
 RefusesEntry is_unique size (Failed r) e = e ≡ r
 RefusesEntry is_unique size (Going b) e = RefusesSized is_unique size b e
 
--- What opening a shared entry does. The call returns whether its content is to be shown: in a flame graph's collector,
--- exactly if the identity was not met. The collector of held bytes stays as it is, and that of owned bytes counts the
--- pointer.
+-- What opening a shared entry does. The call returns whether its content is to be shown: in a flame graph's
+-- collector, exactly if the identity was not met. The collector of held bytes stays as it is, and that of owned bytes
+-- counts the pointer.
 pub data OpensShared (k : Key) (n : ℕ) (i : Identity) : State → Result Bool Refusal → State → Type 0 where
   stays_shared : {r : Refusal} → OpensShared k n i (Failed r) (Err r) (Failed r)
   is_refused_shared : {c : Live} {e : Refusal} → Refuses false n (OfGraph c) e
@@ -97,18 +97,17 @@ OpensRoot (Failed r) (Err e) t = (e ≡ r) × (t ≡ Failed r)
 OpensRoot (Going b) (Ok outer) t = IsClosed b × IsAtRoot b × (outer ≡ outer_of 0 b) × (t ≡ Going (begin b))
 OpensRoot (Going b) (Err e) t = (e ≡ Open) × ¬ IsClosed b × (t ≡ Going b)
 
--- What is returned where nothing else is asked of a collector: Ok where it has not failed and no visitor is open,
--- otherwise the first cause, or Open.
+-- What is returned if nothing else is asked of a collector: Ok if it has not failed and no visitor is open, otherwise
+-- the first cause, or Open.
 abbrev pub Settles : State → Result Unit Refusal → Type 0
 Settles (Failed r) result = result ≡ Err r
 Settles (Going b) (Ok u) = IsClosed b
 Settles (Going b) (Err e) = (e ≡ Open) × ¬ IsClosed b
 
--- What visiting a value by a root visitor does to a collector, where p is what the value may show. A failed collector
--- returns its first cause and stays as it is. Where a visitor is open, the call returns Open and nothing changes.
--- Otherwise it returns Ok exactly where the collector afterwards has not failed and has no open visitor, and then the
--- collector has one more forest; it returns the cause where the collector has failed, and Open where a visitor is
--- open.
+-- What visiting a value by a root visitor does to a collector, if p is what the value may show. A failed collector
+-- returns its first cause and stays as it is. If a visitor is open, the call returns Open and nothing changes.
+-- Otherwise it returns Ok exactly if the collector afterwards has not failed and has no open visitor, and then the
+-- collector has one more forest; it returns the cause if the collector has failed, and Open if a visitor is open.
 abbrev pub VisitsRoot : Showing → State → Result Unit Refusal → State → Type 0
 VisitsRoot p (Failed r) result t = (result ≡ Err r) × (t ≡ Failed r)
 VisitsRoot p (Going b) (Ok u) (Failed r) = ⊥
@@ -124,8 +123,8 @@ pub record Profile : Type 0 where
   pub warnings : List ℕ
   pub warned : List Warned
 
--- How the collector of a flame graph ends: with its first cause; with Open where a visitor is open; or with what p says
--- of its sums, or Memory where memory runs out.
+-- How the collector of a flame graph ends: with its first cause; with Open if a visitor is open; or with what p says
+-- of its sums, or Memory if memory runs out.
 abbrev pub Ends : {T : Type 0} → (Sums → T → Type 0) → State → Result T Refusal → Type 0
 Ends p (Failed r) result = result ≡ Err r
 Ends p (Going (OfGraph c)) (Ok made) = IsClosed (OfGraph c) × p c.sums made
@@ -137,9 +136,9 @@ Ends p (Going (OfOwned o)) result = ⊥
 abbrev pub IsProfile : Sums → Profile → Type 0
 IsProfile s o = (o.graph ≡ graph s) × (o.warnings ≡ warnings s) × (o.warned ≡ warned_paths s)
 
--- The profile is that of some whole showing f that p allows: f reaches exactly the identities whose contents it shows,
--- its own entries have a meaning, and the graph, the warnings and the paths that have one are those of every such
--- meaning.
+-- The profile is that of some whole showing f that p allows: f reaches exactly the identities whose contents it
+-- shows, its own entries have a meaning, and the graph, the warnings and the paths that have one are those of every
+-- such meaning.
 pub record IsProfileOf (p : Showing) (o : Profile) : Type 0 where
   pub shown : Forest
   pub allowed : p shown
@@ -157,7 +156,7 @@ pub record IsGraphOf (p : Showing) (g : Graph) : Type 0 where
   pub whole : IsWhole shown
   pub is : g ≡ graph (sums_of (all shown))
 
--- g is the sum of the graphs of a whole showing that p allows and of one that q allows. Where no identity is reached by
+-- g is the sum of the graphs of a whole showing that p allows and of one that q allows. If no identity is reached by
 -- both and their sums can be added, g is the graph of the one whole showing that has both.
 pub record IsSumOfTwo (p q : Showing) (g : Graph) : Type 0 where
   pub left : Forest

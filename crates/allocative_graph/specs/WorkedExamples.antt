@@ -52,10 +52,10 @@ pub record Prints (f : Forest) (lines complaints : List ℕ) : Type 0 where
   pub text_is : text (graph (sums_of (all f))) ≡ lines
   pub warnings_are : warnings (sums_of (all f)) ≡ complaints
 
--- What some forests print, which of them are whole, how many bytes some hold, and which cannot be added: a pointer that
--- owns one number; a struct with an inline field and one that owns its bytes; an entry that declares fewer bytes than
--- those inside it; a struct with a box of 100 bytes and one byte more; a shared value in an inner value that has more
--- bytes; a map of one pair; and those above.
+-- What some forests print, which of them are whole, how many bytes some hold, and which cannot be added: a pointer
+-- that owns one number; a struct with an inline field and one that owns its bytes; an entry that declares fewer bytes
+-- than those inside it; a struct with a box of 100 bytes and one byte more; a shared value in an inner value that has
+-- more bytes; a map of one pair; and those above.
 pub record WorkedExamples : Type 0 where
   pub unique_pointer_prints : Prints (Inline (codes "T") 8
       (Unique (codes "ptr") 8 (Inline (codes "u8") 3 Empty Empty) Empty) Empty)

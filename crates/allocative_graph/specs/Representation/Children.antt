@@ -1,5 +1,5 @@
 -- Lists of children, as maps from a key and the path below it to a size, and what adding graphs and merging children
--- leave, also where memory runs out on the way.
+-- leave, also if memory runs out on the way.
 use Rattle.std.specs.Prelude.{◌≡◌, ℕ, ◌+◌, ◌<◌, ◌≤◌, ◌||◌, ◌⊎◌, true, cond, List, [], ◌∷◌, Option, Some, None, is_some, take, drop, length, slice_index_or, ◌&&◌, Bool}
 use Rattle.std.specs.Option.{unwrap_or}
 use Rattle.std.specs.List.{AllByRecursion}
@@ -15,16 +15,16 @@ use Rattle.allocative_graph.specs.Graph.{Graph, IsTree, total, IsPartOfSum}
 use Rattle.allocative_graph.specs.Representation.PathRows.{IsSumByPath}
 use Rattle.allocative_graph.specs.Representation.Node.{weight}
 
--- The size at the path p below the child with the key k, or None where there is no such path.
+-- The size at the path p below the child with the key k, or None if there is no such path.
 abbrev pub size_under : List Child → Key → Path → Option ℕ
 size_under [] k p = None
 size_under (c ∷ cs) k p = cond (eq_by_cmp key_cmp k c.key) (get c.graph p) (size_under cs k p)
 
--- z is the sum of x and y. It is there where x or y is, and a missing one counts as 0.
+-- z is the sum of x and y. It is there if x or y is, and a missing one counts as 0.
 abbrev pub AddsUp : Option ℕ → Option ℕ → Option ℕ → Type 0
 AddsUp x y z = (unwrap_or z 0 ≡ unwrap_or x 0 + unwrap_or y 0) × (is_some z ≡ (is_some x || is_some y))
 
--- z is x or the sum of x and y. It is there where x is, and only where x or y is.
+-- z is x or the sum of x and y. It is there if x is, and only if x or y is.
 abbrev pub AddsUpInPart : Option ℕ → Option ℕ → Option ℕ → Type 0
 AddsUpInPart x y z =
     ((unwrap_or z 0 ≡ unwrap_or x 0) ⊎ (unwrap_or z 0 ≡ unwrap_or x 0 + unwrap_or y 0))
@@ -54,8 +54,8 @@ pub record IsChildGap (cs : List Child) (k : Key) (i : ℕ) : Type 0 where
   pub below : AllBelow (take i cs) k
   pub above : AllAbove (drop i cs) k
 
--- Which of two lists has the next child in the order of keys: the first (`Less`), the second (`Greater`), or both with
--- one key (`Equal`).
+-- Which of two lists has the next child in the order of keys: the first (`Less`), the second (`Greater`), or both
+-- with one key (`Equal`).
 abbrev pub front_order : List Child → List Child → Option Ordering
 front_order [] [] = None
 front_order [] (d ∷ ds) = Some Greater
@@ -63,14 +63,14 @@ front_order (c ∷ cs) [] = Some Less
 front_order (c ∷ cs) (d ∷ ds) = Some (key_cmp c.key d.key)
 
 -- ---- what adding and merging leave
--- h was added to g, with the result r: a part of their sum, and where all was added the sum itself.
+-- h was added to g, with the result r: a part of their sum, and if all was added the sum itself.
 pub record Added (all : Bool) (g h r : Graph) : Type 0 where
   pub tree : IsTree r
   pub part : IsPartOfSum g h r
   pub sum : all ≡ true → IsSumByPath g h r
   pub at_most : total r ≤ total g + total h
 
--- ds were merged into cs, with the result es: below each key a part of their sum, and where all was added the sum itself.
+-- ds were merged into cs, with the result es: below each key a part of their sum, and if all was added the sum.
 pub record Merged (all : Bool) (cs ds es : List Child) : Type 0 where
   pub children : AreChildren es
   pub above : (k : Key) → AllAbove cs k → AllAbove ds k → AllAbove es k

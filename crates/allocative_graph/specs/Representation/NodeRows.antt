@@ -1,4 +1,4 @@
--- The rows of a node are in the order of paths. They are therefore the entries of its graph, and each child has fewer.
+-- The rows of a node are in the order of paths. So they are the entries of its graph, and each child has fewer.
 use Rattle.std.specs.Prelude.{◌≡◌, ℕ, ◌+◌, ◌≤◌, T, Bool, ◌&&◌, List, [], ◌∷◌, ◌++◌, length}
 use Rattle.std.proofs.Common.{arith, length-append, ap, sym, subst, ◌∙◌}
 use Rattle.std.proofs.Math.Facts.{and_yes}
@@ -18,11 +18,11 @@ use Rattle.allocative_graph.specs.Reads.{under_rows, rows_of, rows_of_child, key
 use Rattle.allocative_graph.specs.Path.{Key, Path, key_cmp, path_cmp}
 use denote.Param.Weighed.{most}
 
--- Where a conjunction holds, its first test holds.
+-- If a conjunction holds, its first test holds.
 pub first : (a b : Bool) → T (a && b) → T a
 first a b p = (and_yes a b p).0
 
--- Where a conjunction holds, its second test holds.
+-- If a conjunction holds, its second test holds.
 pub second : (a b : Bool) → T (a && b) → T b
 second a b p = (and_yes a b p).1
 

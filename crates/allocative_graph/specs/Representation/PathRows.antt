@@ -19,7 +19,7 @@ joined_on ks = flat_map (λ k. semicolon ∷ k) ks
 abbrev pub size_text : ℕ → List ℕ
 size_text n = space ∷ (decimal n ++ newline ∷ [])
 
--- The line of a path with a size other than 0, where t is the text of its first keys: t, the other keys with a `;`
+-- The line of a path with a size other than 0, if t is the text of its first keys: t, the other keys with a `;`
 -- before each, the size.
 abbrev pub line_from : List ℕ → Path × ℕ → List ℕ
 line_from t r = if r.1 == 0 then [] else (t ++ (joined_on r.0 ++ size_text r.1))

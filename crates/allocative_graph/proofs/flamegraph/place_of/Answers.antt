@@ -1,4 +1,4 @@
--- Where the last key is below the key, all keys are.
+-- If the last key is below the key, all keys are.
 use Rattle.std.proofs.Common.{◌≡◌, sym, ap, subst, ◌∙◌}
 use Rattle.allocative_graph.proofs.Common.{Less, Child, key_cmp}
 use Rattle.allocative_graph.proofs.ChildOrder.{key_same, behind_last, at_last}

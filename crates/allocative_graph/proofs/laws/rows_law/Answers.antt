@@ -9,6 +9,7 @@ use Rattle.allocative_graph.proofs.Basics.{identity_total}
 use Rattle.allocative_graph.proofs.Computed.{nodes_of, sizes_list, warnings_list, text-computed, warnings-computed, text_added}
 use Rattle.allocative_graph.proofs.laws.rows_law.Goals as goal
 
+-- A forest prints the lines and the warnings that are computed from the list of its entries.
 prints : (f : Forest) (lines complaints : List ℕ) → text_of_entries (sizes_list (nodes_of (all f))) ≡ lines → warnings_list (nodes_of (all f)) ≡ complaints → Prints f lines complaints
 prints f lines complaints p q = record { text_is = text-computed (all f) ∙ p; warnings_are = warnings-computed (all f) ∙ q }
 

@@ -10,6 +10,7 @@ use Rattle.allocative_graph.specs.contracts.static_text.ReadRight as C
 use Rattle.allocative_graph.proofs.Loans.{static_dup}
 use Rattle.allocative_graph.proofs.static_text.ReadRight.TheLaw.Statement.{statement}
 
+-- A `&ReadRight` holds the right to read that the `ReadRight` owns.
 pub shares : statement
 shares =
     of_Lends C.struct C.the_codes C.the_heap C.the_lent

@@ -16,6 +16,7 @@ use Rattle.allocative_graph.proofs.static_text.ReadRight.forever.Code.{function,
 abbrev stayed : Stays ended.signature.params ended.kept
 stayed = (stay_dropped _ yes, tt)
 
+-- `forever` meets its contract: it returns the pointer of the slice and the right to read its bytes there.
 pub forever_spec : {M : Type 1} → statement M
 forever_spec 𝓤 𝓛 𝓜 𝓡 wired =
     let held = clauses 𝓛 𝓜.mem 𝓡.returns in

@@ -22,6 +22,7 @@ use Rattle.allocative_graph.proofs.static_text.ReadRight.read.Code.{function, un
 abbrev stayed : Stays ended.signature.params ended.kept
 stayed = (stay_dropped _ yes, (stay_dropped _ yes, (stay_dropped _ yes, tt)))
 
+-- `read` meets its contract: it returns the bytes that the right allows to read.
 pub read_spec : {M : Type 1} → statement M
 read_spec 𝓤 𝓛 𝓜 𝓡 wired =
     let held = clauses 𝓛 𝓜.mem 𝓡.returns in
