@@ -11,7 +11,7 @@ shown_by_hand {p} {t = t} {r = r} e h =
     let P : State → Type 0 = λ s. AddsForest p s r t in
     record { same_reference = refl; same_outer = refl; shown = subst P e h; only_if_full = inexact; takes_effect = tt }
 
--- The same, where a part is entered afterwards.
+-- The same, if a part is entered afterwards.
 pub shown_before : {p q : Showing} {e : Bool} {a b : Visitor} {s t : State} {u : Unit {0}} {r : Result (Unit {0}) Refusal} → s ≡ a.collector.now → AddsForest p s (Ok u) t → Entered e q (with_state a t) b r → Visited false (Both p q) AnyEffect a b r
 shown_before {p} {a = a} {t = t} {u = u} e h k =
     let P : State → Type 0 = λ s. AddsForest p s (Ok u) t in
@@ -21,6 +21,7 @@ shown_before {p} {a = a} {t = t} {u = u} e h k =
 pub inline_alone : {k : Key} {n : ℕ} {o q : Outer} {s t d : State} {x : Unit {0}} → OpensEntry false k (Some n) s (Ok o) t → ClosesEntry q t d → q ≡ o → AddsForest (Inside k n Nothing) s (Ok x) d
 inline_alone g l e = adds_inline g refl (adds_nothing _ tt) l e
 
+-- Opening a unique entry and closing it at once shows a unique entry with nothing inside it.
 pub unique_alone : {k : Key} {n : ℕ} {o q : Outer} {s t d : State} {x : Unit {0}} → OpensEntry true k (Some n) s (Ok o) t → ClosesEntry q t d → q ≡ o → AddsForest (InsideUnique k n Nothing) s (Ok x) d
 unique_alone g l e = adds_unique g refl (adds_nothing _ tt) l e
 

@@ -11,6 +11,7 @@ use Rattle.allocative.proofs.Roots.{visits_root, held_by_visit}
 pub sum_answered : (o : Outer) (c : State) (n : ℕ) {t : State} {q : Result (Unit {0}) Refusal} → ClosesEntry o c t → Settles t q → q ≡ Ok tt → IsHeldSum t n → AnswersSum (close_entry o c) (Ok n)
 sum_answered o c n {t} l k e s = rw (← l.closes) (subst (Settles t) e k, s)
 
+-- If the collector settles an error once the visitor is left, that error is the answer.
 pub refusal_answered : (o : Outer) (c : State) {e : Refusal} {r : Result ℕ Refusal} {t : State} {q : Result (Unit {0}) Refusal} → r ≡ Err e → ClosesEntry o c t → Settles t q → q ≡ Err e → AnswersSum (close_entry o c) r
 refusal_answered o c {t = t} is l k f = rw (← l.closes, is) (subst (Settles t) f k)
 
@@ -23,13 +24,13 @@ module _ {F : Type 0} (g : Once F (MutBor Visitor × Unit {0}) (Result (Unit {0}
   pub not_called_by : {k : Key} {n : ℕ} {s t : State} {e : Refusal} {r : Result (Unit {0}) Refusal} → r ≡ Err e → OpensEntry false k (Some n) s (Err e) t → CallsInside g f k n s t r
   not_called_by is w = rw is (not_called w)
 
-  -- The call shows an entry with the closure's forest inside it, where each call of the closure shows one of p.
+  -- The call shows an entry with the closure's forest inside it, if each call of the closure shows one of p.
   pub with_shows : (p : Showing) {k : Key} {n : ℕ} {s t : State} {r : Result (Unit {0}) Refusal} → CallsInside g f k n s t r → CallShows g f p → AddsForest (Inside k n p) s r t
   with_shows p (not_called w) each = not_entered w
   with_shows p (called x y w i c l o) each = adds_inline w i (each x y _ c) l o
   with_shows p (refused_inside x y z c w i m e l) each = entry_err {z = c} w i (adds_refused_err c (each x y _ m) e) l
 
-  -- the sum of a closure's entries, where each call of it shows one of p
+  -- the sum of a closure's entries, if each call of it shows one of p
   pub held_with_shows : (p : Showing) (n : ℕ) → CalledAtRoot g f (Ok n) → CallShows g f p → (t : Forest) × p t × ShowsNoContent t × (n ≡ held t)
   held_with_shows p n h each =
       let c = h.called in

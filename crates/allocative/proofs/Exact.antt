@@ -1,4 +1,4 @@
--- How visits that refuse only where they must compose: one after another, inside an entry, and as a shared content.
+-- How visits that refuse only if they must compose: one after another, inside an entry, and as a shared content.
 use Rattle.std.proofs.Common.{◌≡◌, ℕ, ◌+◌, ◌<◌, ◌^◌, Bool, true, false, ◌&&◌, IsTrue, cond, List, [], ◌∷◌, ◌++◌, flat_map, Option, Some, None, inl, inr, Result, Ok, Err, refl, sym, ◌∙◌, ap, subst, arith, ◌-◌}
 use Rattle.allocative.proofs.Common.{Outer, Refusal, Memory, TooLarge, Key, Identity, Forest, Empty, First, Again, followed_by, entry_of, add_all, held, Live, Kind, OfGraph, OfHeld, State, Failed, Going, plus, enter, enter_first, Takes, is_graph, outer_of, leave, close_entry, failed_with, Showing, Nothing, Both, InsideAs, Inside, InsideUnique, sized, Field, SharedWith, each_shows, HasFailed, OpensEntry, stays_failed, is_refused, is_entered, OpensShared, stays_shared, is_refused_shared, goes_past, enters_first, enters_again, all_bytes, HasRoomFor, ShowsContents, IsDeclared, CanTake, MayRefuse, FailsOnlyIfFull, has_added, has_refused, ClosesEntry, OfOwned, is_too_large_shared, counts}
 use Rattle.std.proofs.lemmas.Bool.{false≢true, and_parts}
@@ -20,17 +20,21 @@ abbrev bag_bytes : Bag → ℕ
 bag_bytes [] = 0
 bag_bytes (e ∷ b) = e.size + bag_bytes b
 
+-- Adding a bag to sums adds its bytes to all bytes entered.
 entered-add_all : (s : Sums) (b : Bag) → entered (add_all s b) ≡ entered s + bag_bytes b
 entered-add_all s [] = omega arith
 entered-add_all s (e ∷ b) = omega (arith, entered-add_all (add s e) b, entered-add s e)
 
+-- The bytes of two bags one after the other add up.
 bag-append : (a b : Bag) → bag_bytes (a ++ b) ≡ bag_bytes a + bag_bytes b
 bag-append [] b = omega arith
 bag-append (e ∷ a) b = omega (arith, bag-append a b)
 
+-- The bytes of the contents of two forests, listed one after the other, add up.
 contents-append : (f g : Forest) → bag_bytes (flat_map (λ c. c.1) (contents f ++ contents g)) ≡ bag_bytes (content_entries f) + bag_bytes (content_entries g)
 contents-append f g = ap bag_bytes (flat_map-append (λ c. c.1) (contents f) (contents g)) ∙ bag-append (content_entries f) (content_entries g)
 
+-- The bytes of a forest's own entries, behind any path, and those of its contents are all its bytes.
 bytes_of_all : (p : Path) (f : Forest) → bag_bytes (own_behind p f) + bag_bytes (content_entries f) ≡ all_bytes f
 bytes_of_all p Empty = refl
 bytes_of_all p (Inline k n inside after) = omega (arith, bag-append, contents-append inside after, bytes_of_all (p ++ k ∷ []) inside, bytes_of_all p after)
@@ -38,9 +42,11 @@ bytes_of_all p (Unique k n inside after) = omega (arith, bag-append, contents-ap
 bytes_of_all p (First k n i inside after) = omega (arith, bag-append, contents-append inside after, bytes_of_all [] inside, bytes_of_all p after)
 bytes_of_all p (Again k n i after) = omega (arith, bytes_of_all p after)
 
+-- A forest that is added to the collector of a flame graph adds all its bytes to those entered.
 pub entered-plus : (c : Live) (f : Forest) → entered (plus_live c f).sums ≡ entered c.sums + all_bytes f
 entered-plus c f = entered-add_all c.sums (entries_at c.here f) ∙ ap (λ n. entered c.sums + n) (bag-append (own_behind c.here f) (content_entries f) ∙ bytes_of_all c.here f)
 
+-- All bytes of two forests one after the other add up.
 all_bytes-following : (f g : Forest) → all_bytes (followed_by f g) ≡ all_bytes f + all_bytes g
 all_bytes-following f g =
     let own = ap bag_bytes (own-following [] f g) ∙ bag-append (own_behind [] f) (own_behind [] g) in
@@ -48,6 +54,7 @@ all_bytes-following f g =
     omega (arith, own, shared, bytes_of_all [] (followed_by f g), bytes_of_all [] f, bytes_of_all [] g)
 
 -- ---- room
+-- If two forests one after the other fit words, with so many visitors open, each of them does.
 words_both : (o : ℕ) (f g : Forest) → FitsWords o (followed_by f g) → FitsWords o f × FitsWords o g
 words_both o Empty g h = (tt, h)
 words_both o (Inline k n f after) g h = let r = words_both o after g h.3 in ((h.0, h.1, h.2, r.0), r.1)
@@ -72,10 +79,12 @@ room_apart (OfOwned d) f g (h, l) =
     let w = words_both d.open_visitors f g l in
     ((omega (arith, h'), w.0), (h', w.1))
 
+-- A step of `room_within`: if a sum fits with an entry and its inside, it fits with the entry alone.
 inline_room : (u : Bool) (m s n x : ℕ) → s + ((x + 0) + cond u (n + 0) 0) < m → s + cond u n 0 < m
 inline_room true m s n x h = omega (arith, h)
 inline_room false m s n x h = omega (arith, h)
 
+-- For owned bytes: if an entry with its inside fits, there is room to open it, and then for its inside.
 owned_within : (u : Bool) (k : Key) (n : ℕ) (d : Owning) (f : Forest) → sum_in (plus (OfOwned d) (entry_of u k n f)) < 2 ^ 64 → FitsWords d.open_visitors (entry_of u k n f) → HasRoom u n (OfOwned d) × HasRoomFor (enter u k n (OfOwned d)) f
 owned_within true k n d f h l =
     let h' : sum_in (plus (enter true k n (OfOwned d)) f) < 2 ^ 64 = subst (λ (m : ℕ). m < 2 ^ 64) (sym (ap sum_in (inside_entry true k n (OfOwned d) f))) h in
@@ -96,6 +105,7 @@ room_within true k n (OfOwned d) f (h, l) = owned_within true k n d f h l
 room_within false k n (OfOwned d) f (h, l) = owned_within false k n d f h l
 
 -- ---- contents
+-- If two forests one after the other show all their contents, each of them does.
 contents_apart : (f g : Forest) → ShowsContents (followed_by f g) → ShowsContents f × ShowsContents g
 contents_apart Empty g h = (tt, h)
 contents_apart (Inline k n f after) g h = let r = contents_apart after g h.1 in ((h.0, r.0), r.1)
@@ -103,6 +113,7 @@ contents_apart (Unique k n f after) g h = let r = contents_apart after g h.1 in 
 contents_apart (First k n i f after) g h = let r = contents_apart after g h.1 in ((h.0, r.0), r.1)
 contents_apart (Again k n i after) g h = absurd h
 
+-- If two forests each show all their contents, so do both one after the other.
 contents_both : (f g : Forest) → ShowsContents f → ShowsContents g → ShowsContents (followed_by f g)
 contents_both Empty g h l = l
 contents_both (Inline k n f after) g h l = (h.0, contents_both after g h.1 l)
@@ -111,65 +122,82 @@ contents_both (First k n i f after) g h l = (h.0, contents_both after g h.1 l)
 contents_both (Again k n i after) g h l = absurd h
 
 -- ---- what is declared
+-- A showing of no entry is declared.
 pub declared_nothing : IsDeclared Nothing
 declared_nothing = (Empty, refl, tt)
 
+-- If two showings one after the other are declared, the first is.
 pub declared_first : {p q : Showing} → IsDeclared (Both p q) → IsDeclared p
 declared_first (f, (g, h, x, y, e), s) = (g, x, (contents_apart g h (subst ShowsContents e s)).0)
 
+-- If two showings one after the other are declared, the second is.
 pub declared_second : {p q : Showing} → IsDeclared (Both p q) → IsDeclared q
 declared_second (f, (g, h, x, y, e), s) = (h, y, (contents_apart g h (subst ShowsContents e s)).1)
 
+-- If two showings are declared, so are both one after the other.
 pub declared_both : {p q : Showing} → IsDeclared p → IsDeclared q → IsDeclared (Both p q)
 declared_both (f, x, s) (g, y, t) = (followed_by f g, (f, g, x, y, refl), contents_both f g s t)
 
+-- If an entry with p inside it is declared, p is.
 pub declared_inside : (u : Bool) (k : Key) (n : ℕ) {p : Showing} → IsDeclared (InsideAs u k n p) → IsDeclared p
 declared_inside true k n (f, (g, x, e), s) = (g, x, (subst ShowsContents e s).0)
 declared_inside false k n (f, (g, x, e), s) = (g, x, (subst ShowsContents e s).0)
 
+-- If p is declared, so is an entry with p inside it.
 pub declared_entry : (u : Bool) (k : Key) (n : ℕ) {p : Showing} → IsDeclared p → IsDeclared (InsideAs u k n p)
 declared_entry true k n (f, x, s) = (entry_of true k n f, (f, x, refl), (s, tt))
 declared_entry false k n (f, x, s) = (entry_of false k n f, (f, x, refl), (s, tt))
 
+-- If a shared entry with p as its content is declared, p is.
 pub declared_content : (k : Key) (n : ℕ) (i : Identity) {p : Showing} → IsDeclared (SharedWith k n i p) → IsDeclared p
 declared_content k n i (f, inl (g, x, e), s) = (g, x, (subst ShowsContents e s).0)
 declared_content k n i (f, inr e, s) = absurd (subst ShowsContents e s)
 
+-- If p is declared, so is a shared entry with p as its content.
 pub declared_shared : (k : Key) (n : ℕ) (i : Identity) {p : Showing} → IsDeclared p → IsDeclared (SharedWith k n i p)
 declared_shared k n i (g, x, s) = (First k n i g Empty, inl (g, x, refl), (s, tt))
 
 -- ---- what can be added
+-- A collector that can take two showings one after the other can take the first.
 pub can_first : {p q : Showing} (b : Kind) → CanTake b (Both p q) → CanTake b p
 can_first b (d, room) =
     let r = declared_second d in
     (declared_first d, λ f x. (room_apart b f r.0 (room (followed_by f r.0) (f, r.0, x, r.1, refl))).0)
 
+-- A collector that can take p and then q can take q once a forest of p is added.
 pub can_second : {p q : Showing} (b : Kind) (f : Forest) → p f → CanTake b (Both p q) → CanTake (plus b f) q
 can_second b f x (d, room) = (declared_second d, λ g y. (room_apart b f g (room (followed_by f g) (f, g, x, y, refl))).1)
 
+-- A collector that can take an entry with p inside it can take p once the entry is opened.
 can_inside : {p : Showing} (u : Bool) (k : Key) (n : ℕ) (b : Kind) → CanTake b (InsideAs u k n p) → CanTake (enter u k n b) p
 can_inside u k n b (d, room) = (declared_inside u k n d, λ f x. (room_within u k n b f (room (entry_of u k n f) (f, x, refl))).1)
 
+-- A collector that can take an entry with p inside it has room for the entry.
 can_entry : {p : Showing} (u : Bool) (k : Key) (n : ℕ) (b : Kind) → CanTake b (InsideAs u k n p) → HasRoom u n b
 can_entry u k n b (d, room) =
     let r = declared_inside u k n d in
     (room_within u k n b r.0 (room (entry_of u k n r.0) (r.0, r.1, refl))).0
 
+-- If the collector of a flame graph can take a shared entry, it can take the content once the entry is opened.
 can_content : {p : Showing} (k : Key) (n : ℕ) (i : Identity) (c : Live) → CanTake (OfGraph c) (SharedWith k n i p) → CanTake (OfGraph (enter_first k n i c)) p
 can_content k n i c (d, room) = (declared_content k n i d, λ f x. let h = room (First k n i f Empty) (inl (f, x, refl)) in omega (arith, h, entered-plus c (First k n i Empty Empty)))
 
+-- If the collector of a flame graph can take a shared entry, the pointer's bytes exceed no bound.
 can_pointer : {p : Showing} (k : Key) (n : ℕ) (i : Identity) (c : Live) → CanTake (OfGraph c) (SharedWith k n i p) → entered c.sums + n < 2 ^ 63
 can_pointer k n i c (d, room) = let h = room (Again k n i Empty) (inr refl) in omega (arith, h)
 
+-- If the collector of owned bytes can take a shared entry, its sum with the pointer fits a word.
 can_count : {p : Showing} (k : Key) (n : ℕ) (i : Identity) (o : Owning) → CanTake (OfOwned o) (SharedWith k n i p) → o.sum + (n - o.spare) < 2 ^ 64
 can_count k n i o (d, room) = let h = (room (Again k n i Empty) (inr refl)).0 in omega (arith, h)
 
 -- ---- why a visit may be refused
+-- If b takes p whenever c takes q, and both or neither make a graph, what may refuse p at b may refuse q at c.
 pub may_refuse : {p q : Showing} (b c : Kind) → (CanTake c q → CanTake b p) → is_graph c ≡ is_graph b → (e : Refusal) → MayRefuse p b e → MayRefuse q c e
 may_refuse b c up same Memory m = same ∙ m
 may_refuse b c up same TooLarge m = λ x. m (up x)
 may_refuse b c up same Open m = m
 
+-- If a collector refuses an entry with e, a visit that shows the entry may be refused with e.
 entry_refuses : (p : Showing) (u : Bool) (k : Key) (n : ℕ) (b : Kind) (e : Refusal) → Refuses u n b e → MayRefuse (InsideAs u k n p) b e
 entry_refuses p u k n (OfGraph c) e (inl (i, h)) = subst (MayRefuse (InsideAs u k n p) (OfGraph c)) (sym i) (λ w. omega (arith, h, can_entry u k n (OfGraph c) w))
 entry_refuses p u k n (OfGraph c) e (inr (i, h)) = subst (MayRefuse (InsideAs u k n p) (OfGraph c)) (sym i) refl
@@ -178,11 +206,13 @@ entry_refuses p u k n (OfHeld d) e (i, inr h) = subst (MayRefuse (InsideAs u k n
 entry_refuses p u k n (OfOwned d) e (i, inl h) = subst (MayRefuse (InsideAs u k n p) (OfOwned d)) (sym i) (λ w. omega (arith, h, (can_entry u k n (OfOwned d) w).0))
 entry_refuses p u k n (OfOwned d) e (i, inr h) = subst (MayRefuse (InsideAs u k n p) (OfOwned d)) (sym i) (λ w. omega (arith, h, (can_entry u k n (OfOwned d) w).1))
 
+-- If the collector of a flame graph refuses a pointer with e, a visit that shows it may be refused with e.
 pointer_refuses : (p : Showing) (k : Key) (n : ℕ) (i : Identity) (c : Live) (e : Refusal) → Refuses false n (OfGraph c) e → MayRefuse (SharedWith k n i p) (OfGraph c) e
 pointer_refuses p k n i c e (inl (j, h)) = subst (MayRefuse (SharedWith k n i p) (OfGraph c)) (sym j) (λ w. omega (arith, h, can_pointer k n i c w))
 pointer_refuses p k n i c e (inr (j, h)) = subst (MayRefuse (SharedWith k n i p) (OfGraph c)) (sym j) refl
 
 -- ---- visits
+-- A visit that shows nothing, changes nothing and returns Ok fails only if full.
 pub only_if_full_nothing : (s : State) (u : Unit) → FailsOnlyIfFull Nothing s (Ok u) s
 only_if_full_nothing (Failed r) u = had_failed
 only_if_full_nothing (Going b) u = has_added Empty refl (takes_nothing b) (sym (plus-nothing b))
@@ -193,6 +223,7 @@ only_if_full_as up down had_failed = had_failed
 only_if_full_as up down (has_added f x t e) = has_added f (up f x) t e
 only_if_full_as up down (has_refused {b = b} {e = e} m) = has_refused (may_refuse b b (λ w. (down b w, λ f x. w.1 f (up f x))) refl e m)
 
+-- What fails as p only if full does so as q, if q allows all that p allows, and p is declared when q is.
 pub only_if_full_weaker : {p q : Showing} {a b : State} {r : Result Unit Refusal} → ((f : Forest) → p f → q f) → (IsDeclared q → IsDeclared p) → FailsOnlyIfFull p a r b → FailsOnlyIfFull q a r b
 only_if_full_weaker up down = only_if_full_as up (λ k w. down w.0)
 
@@ -204,6 +235,7 @@ entry_fits false k n (OfHeld d) w = let r = declared_inside false k n w.0 in (w.
 entry_fits true k n (OfOwned d) w = let r = declared_inside true k n w.0 in (w.1 (entry_of true k n r.0) (r.0, r.1, refl)).1.0
 entry_fits false k n (OfOwned d) w = let r = declared_inside false k n w.0 in (w.1 (entry_of false k n r.0) (r.0, r.1, refl)).1.0
 
+-- A visit of p that returns Ok, followed by one of q, fails only if full, if each of the two does.
 pub only_if_full_both : {p q : Showing} {a b c : State} {u : Unit} {r : Result Unit Refusal} → FailsOnlyIfFull p a (Ok u) b → FailsOnlyIfFull q b r c → FailsOnlyIfFull (Both p q) a r c
 only_if_full_both had_failed s = had_failed
 only_if_full_both (has_added {b = b} f x t e) (has_added {c = c} g y s k) =
@@ -213,6 +245,7 @@ only_if_full_both {q = q} (has_added {b = b} f x t e) (has_refused {e = r} m) =
     let m' : MayRefuse q (plus b f) r = subst (λ (z : Kind). MayRefuse q z r) e m in
     has_refused (may_refuse (plus b f) b (can_second b f x) (sym (is_graph-plus b f)) r m')
 
+-- If a visit of p returns Err and fails only if full, it fails only if full as a visit of p and then q.
 pub only_if_full_first : {p q : Showing} {a b : State} {e : Refusal} → FailsOnlyIfFull p a (Err e) b → FailsOnlyIfFull (Both p q) a (Err e) b
 only_if_full_first had_failed = had_failed
 only_if_full_first (has_refused {b = b} {e = e} m) = has_refused (may_refuse b b (can_first b) refl e m)
@@ -227,48 +260,59 @@ only_if_full_within {u} {p} {k} {n} (is_entered {b = b} h f e) (has_refused {e =
     let m' : MayRefuse p (enter u k n b) r = subst (λ (z : Kind). MayRefuse p z r) e m in
     rw l.closes (has_refused (may_refuse (enter u k n b) b (can_inside u k n b) (sym (is_graph-enter u k n b)) r m'))
 
+-- If opening an entry is refused, the visit that shows the entry fails only if full.
 pub only_if_full_not_within : {u : Bool} {p : Showing} {k : Key} {n : ℕ} {s t : State} {e : Refusal} → OpensEntry u k (Some n) s (Err e) t → FailsOnlyIfFull (InsideAs u k n p) s (Err e) t
 only_if_full_not_within stays_failed = had_failed
 only_if_full_not_within {u} {k = k} {n = n} (is_refused {b = b} {e = e} h) = has_refused (entry_refuses _ u k n b e h)
 
+-- If a visit fails only if full inside an inline entry that is opened and closed, so does the visit of the entry.
 pub only_if_full_inside : {p : Showing} {k : Key} {n : ℕ} {o : Outer} {s t c d : State} {r : Result Unit Refusal} →
     OpensEntry false k (Some n) s (Ok o) t → FailsOnlyIfFull p t r c → ClosesEntry o c d → FailsOnlyIfFull (Inside k n p) s r d
 only_if_full_inside = only_if_full_within
 
+-- If a visit fails only if full inside a unique entry that is opened and closed, so does the visit of the entry.
 pub only_if_full_unique : {p : Showing} {k : Key} {n : ℕ} {o : Outer} {s t c d : State} {r : Result Unit Refusal} →
     OpensEntry true k (Some n) s (Ok o) t → FailsOnlyIfFull p t r c → ClosesEntry o c d → FailsOnlyIfFull (InsideUnique k n p) s r d
 only_if_full_unique = only_if_full_within
 
+-- If opening an inline entry is refused, the visit that shows the entry fails only if full.
 pub only_if_full_not_inside : {p : Showing} {k : Key} {n : ℕ} {s t : State} {e : Refusal} → OpensEntry false k (Some n) s (Err e) t → FailsOnlyIfFull (Inside k n p) s (Err e) t
 only_if_full_not_inside = only_if_full_not_within
 
+-- If opening a unique entry is refused, the visit that shows the entry fails only if full.
 pub only_if_full_not_unique : {p : Showing} {k : Key} {n : ℕ} {s t : State} {e : Refusal} → OpensEntry true k (Some n) s (Err e) t → FailsOnlyIfFull (InsideUnique k n p) s (Err e) t
 only_if_full_not_unique = only_if_full_not_within
 
+-- If a field with a size is declared, so is the inline entry of that size.
 in_sized : {k : Key} {n : ℕ} {p : Showing} → IsDeclared (Field k (Some n) p) → IsDeclared (Inside k n p)
 in_sized (f, sized x, s) = (f, x, s)
 
+-- A field without a size is not declared.
 not_declared : {k : Key} {p : Showing} → IsDeclared (Field k None p) → ⊥
 not_declared (f, x, s) = elim x [ ]
 
+-- If a visit fails only if full inside a field that is opened and closed, so does the visit of the field.
 pub only_if_full_field : {p : Showing} {k : Key} {y : Option ℕ} {o : Outer} {s t c d : State} {r : Result Unit Refusal} →
     OpensEntry false k y s (Ok o) t → FailsOnlyIfFull p t r c → ClosesEntry o c d → FailsOnlyIfFull (Field k y p) s r d
 only_if_full_field {y = None} g h e = elim g [ ]
 only_if_full_field {y = Some n} g h e = only_if_full_weaker (λ f x. sized x) in_sized (only_if_full_within g h e)
 
+-- If opening a field is refused, with or without a size, the visit of the field fails only if full.
 pub only_if_full_not_field : {p : Showing} {k : Key} {y : Option ℕ} {s t : State} {e : Refusal} → OpensEntry false k y s (Err e) t → FailsOnlyIfFull (Field k y p) s (Err e) t
 only_if_full_not_field stays_failed = had_failed
 only_if_full_not_field {p} {k} {y = None} (is_refused {b = b} i) = has_refused (subst (MayRefuse (Field k None p) b) (sym i) (λ w. not_declared w.0))
 only_if_full_not_field {k = k} {y = Some n} (is_refused h) = only_if_full_weaker (λ f x. sized x) in_sized (only_if_full_not_within {u = false} {k = k} (is_refused h))
 
--- Where both have to be exact.
+-- If both of two visits have to be exact, the first has to be.
 pub first_exact : (d e : Bool) → IsTrue (d && e) → IsTrue d
 first_exact d e h = (and_parts d e h).0
 
+-- If both of two visits have to be exact, the second has to be.
 pub second_exact : (d e : Bool) → IsTrue (d && e) → IsTrue e
 second_exact d e h = (and_parts d e h).1
 
 -- ---- items one after another
+-- A forest followed by no entry stays as it is.
 pub followed_by-empty : (f : Forest) → followed_by f Empty ≡ f
 followed_by-empty Empty = refl
 followed_by-empty (Inline k n i a) = ap (Inline k n i) (followed_by-empty a)
@@ -276,6 +320,7 @@ followed_by-empty (Unique k n i a) = ap (Unique k n i) (followed_by-empty a)
 followed_by-empty (First k n j i a) = ap (First k n j i) (followed_by-empty a)
 followed_by-empty (Again k n j a) = ap (Again k n j) (followed_by-empty a)
 
+-- Three forests one after another are the same forest, whichever two of them are joined first.
 pub followed_by_assoc : (f g h : Forest) → followed_by (followed_by f g) h ≡ followed_by f (followed_by g h)
 followed_by_assoc Empty g h = refl
 followed_by_assoc (Inline k n i a) g h = ap (Inline k n i) (followed_by_assoc a g h)
@@ -283,21 +328,25 @@ followed_by_assoc (Unique k n i a) g h = ap (Unique k n i) (followed_by_assoc a 
 followed_by_assoc (First k n j i a) g h = ap (First k n j i) (followed_by_assoc a g h)
 followed_by_assoc (Again k n j a) g h = ap (Again k n j) (followed_by_assoc a g h)
 
+-- A forest of the items of one list, followed by one of another list, is a forest of both lists joined.
 pub each_append : {T : Type 0} (p : T → Showing) (xs ys : List T) (f : Forest) → Both (each_shows p xs) (each_shows p ys) f → each_shows p (xs ++ ys) f
 each_append p [] ys f (g, h, none, rest, e) = subst (each_shows p ys) (sym (e ∙ rw none refl)) rest
 each_append p (x ∷ xs) ys f (g, h, (g1, g2, first, more, e1), rest, e) =
     (g1, followed_by g2 h, first, each_append p xs ys (followed_by g2 h) (g2, h, more, rest, refl), e ∙ rw e1 (followed_by_assoc g1 g2 h))
 
+-- If the items of two lists joined are declared, so are those of one list followed by those of the other.
 pub declared_append : {T : Type 0} (p : T → Showing) (xs ys : List T) → IsDeclared (each_shows p (xs ++ ys)) → IsDeclared (Both (each_shows p xs) (each_shows p ys))
 declared_append p [] ys d = declared_both declared_nothing d
 declared_append p (x ∷ xs) ys d =
     let r = declared_append p xs ys (declared_second d) in
     declared_both (declared_both (declared_first d) (declared_first r)) (declared_second r)
 
+-- A forest of one item is a forest of the list that has only this item.
 pub each_one : {T : Type 0} (p : T → Showing) (x : T) (f : Forest) → p x f → each_shows p (x ∷ []) f
 each_one p x f h = (f, Empty, h, refl, sym (followed_by-empty f))
 
 -- ---- a shared entry
+-- If a visit fails only if full at a new content that is opened and closed, so does the visit of the shared entry.
 pub only_if_full_content : {p : Showing} {k : Key} {n : ℕ} {i : Identity} {is_first : Bool} (o : Outer) {s t c d : State} {r : Result Unit Refusal} →
     OpensShared k n i s (Ok is_first) t → is_first ≡ true → FailsOnlyIfFull p t r c → ClosesEntry o c d → FailsOnlyIfFull (SharedWith k n i p) s r d
 only_if_full_content {p} {k} {n} {i} o g is h l = inner (rw is at g) h l
@@ -310,12 +359,14 @@ only_if_full_content {p} {k} {n} {i} o g is h l = inner (rw is at g) h l
         let w' : MayRefuse p (OfGraph (enter_first k n i b)) r = subst (λ (z : Live). MayRefuse p (OfGraph z) r) e w in
         rw m.closes (has_refused (may_refuse (OfGraph (enter_first k n i b)) (OfGraph b) (can_content k n i b) refl r w'))
 
+-- If the content of an opened shared entry is not to be shown, a visit that returns Ok then fails only if full.
 pub only_if_full_again : {p : Showing} {k : Key} {n : ℕ} {i : Identity} {is_first : Bool} {s t : State} {x : Unit} → OpensShared k n i s (Ok is_first) t → is_first ≡ false → FailsOnlyIfFull (SharedWith k n i p) s (Ok x) t
 only_if_full_again {k = k} {n = n} {i = i} (goes_past {h = h}) is = has_added (Again k n i Empty) (inr refl) tt (sym (held_again k n i h))
 only_if_full_again {k = k} {n = n} {i = i} (counts {o = o} r e) is = has_added (Again k n i Empty) (inr refl) tt (ap OfOwned e ∙ sym (owned_again k n i o))
 only_if_full_again {k = k} {n = n} {i = i} (enters_again {c = c} r h e) is = has_added (Again k n i Empty) (inr refl) (h, tt) (ap OfGraph e)
 only_if_full_again (enters_first r h e) is = absurd (false≢true (sym is))
 
+-- If opening a shared entry is refused, the visit that shows the entry fails only if full.
 pub only_if_full_not_shared : {p : Showing} {k : Key} {n : ℕ} {i : Identity} {s t : State} {e : Refusal} → OpensShared k n i s (Err e) t → FailsOnlyIfFull (SharedWith k n i p) s (Err e) t
 only_if_full_not_shared stays_shared = had_failed
 only_if_full_not_shared {k = k} {n = n} {i = i} (is_refused_shared {c = c} {e = e} h) = has_refused (pointer_refuses _ k n i c e h)

@@ -71,9 +71,11 @@ Answer κs = result_row (Nested κs) refusal_row
 abbrev pub Size : RattleType
 Size = option_row usize
 
+-- A machine word obeys the laws that a proof asks of a parameter's type.
 pub number_laws : Laws usize
 number_laws = of_field usize-field usize-laws refl (copy_shared usize-field usize-copy)
 
+-- A declared size obeys the laws that a proof asks of a parameter's type.
 pub size_laws : Laws Size
 size_laws = option_laws usize number_laws
 
@@ -92,8 +94,8 @@ at_values {𝓤 = 𝓤} 𝓛 T hs c run y us e h =
     subst (λ (ws : Vals T.signature y.0.0). ent 𝓤 ((walk_of 𝓛 T hs c).pre ((y.0.0, y.0.1, y.0.2, y.0.3, ws), y.1))
     (run ((walk_of 𝓛 T hs c).args ((y.0.0, y.0.1, y.0.2, y.0.3, ws), y.1)) ((walk_of 𝓛 T hs c).post ((y.0.0, y.0.1, y.0.2, y.0.3, ws), y.1)))) (sym e) h
 
--- How a lender ends whose part is lent further by a call that may return it. The whole is V and ends as F of its part,
--- which is C. P and P₀ say how the part ends, with a loan and without; Q and Q₀ follow for the whole.
+-- How a lender ends whose part is lent further by a call that may return it. The whole is V and ends as F of its
+-- part, which is C. P and P₀ say how the part ends, with a loan and without; Q and Q₀ follow for the whole.
 module _ {M : Type 1} {𝓤 : Ura M} (𝓛 : Logic 𝓤) (V C : RattleType) (F : C.Denot → V.Denot) (γ γ' : GName)
     (P : C.Denot → C.Denot → Type 0) (P₀ : C.Denot → Type 0) (Q : C.Denot → V.Denot → Type 0) (Q₀ : V.Denot → Type 0)
     (kept : (w z : C.Denot) → P w z → Q w (F z)) (kept₀ : (z : C.Denot) → P₀ z → Q₀ (F z)) where
