@@ -10,35 +10,43 @@ abbrev pub is_going : State → Bool
 is_going (Failed r) = false
 is_going (Going b) = true
 
+-- If entries were made and Ok was returned, the collector has not failed.
 pub goes_on : {p : Plan} {s t : State} {u : Unit} → Makes p s (Ok u) t → is_going t ≡ true
 goes_on made_none = refl
 goes_on (made g i l a) = goes_on a
 
+-- After an entry is closed in a collector that has not failed, making no entry returns Ok.
 going_closed : (o : Outer) (t : State) (v : Unit) → is_going t ≡ true → Makes Done (close_entry o t) (Ok v) (close_entry o t)
 going_closed o (Failed r) v e = absurd (false≢true e)
 going_closed o (Going b) v e = made_none
 
+-- If making entries returns an error, the collector has failed with that error.
 pub makes_failed : {p : Plan} {s t : State} {e : Refusal} → Makes p s (Err e) t → HasFailed t e
 makes_failed had_failed = refl
 makes_failed (made g i l a) = makes_failed a
 makes_failed (entry_refused g) = not_entered_cause g
 makes_failed (inside_refused g m) = makes_failed m
 
+-- Closing an entry leaves a failed collector as it is.
 pub failed_closed : {o : Outer} {c d : State} {e : Refusal} → HasFailed c e → ClosesEntry o c d → d ≡ c
 failed_closed {o} h l = l.closes ∙ ap (close_entry o) h ∙ sym h
 
 -- ---- one entry
+-- After an inline entry was opened, making nothing inside it returns Ok.
 pub nothing_inside : {k : Key} {size : Option ℕ} {s t : State} {o : Outer} (u : Unit) → OpensEntry false k size s (Ok o) t → Makes Done t (Ok u) t
 nothing_inside u (is_entered r f e) = made_none
 
+-- If an inline entry is opened, its inside is made, and it is closed, then the entry is made.
 pub makes_entry : {k : Key} {size : Option ℕ} {inside : Plan} {s t c d : State} {o q : Outer} {v x : Unit} → OpensEntry false k size s (Ok o) t → Makes inside t (Ok v) c → ClosesEntry q c d → q ≡ o → Makes (Entry k size inside Done) s (Ok x) d
 makes_entry {c = c} {o = o} {x = x} g m l e = rw (l.closes, e) (made g m (record { closes = refl }) (going_closed o c x (goes_on m)))
 
 -- ---- one plan after another
+-- Making one plan with Ok and then another is making the one followed by the other.
 pub makes_then : {p q : Plan} {s t d : State} {u : Unit} {r : Result Unit Refusal} → Makes p s (Ok u) t → Makes q t r d → Makes (followed_by_plan p q) s r d
 makes_then made_none n = n
 makes_then (made g i l a) n = made g i l (makes_then a n)
 
+-- If making a plan returns an error, making it with another plan after it returns the same error.
 pub then_refused : {p : Plan} (q : Plan) {s t : State} {e : Refusal} → Makes p s (Err e) t → Makes (followed_by_plan p q) s (Err e) t
 then_refused q had_failed = had_failed
 then_refused q (made g i l a) = made g i l (then_refused q a)
@@ -52,6 +60,7 @@ run_gives steps {u = u} t {x = x} [] e g = gives x u (subst (λ v. steps v (Some
 run_gives steps t (y ∷ ys) h g = gives y h.0 h.1
 
 -- ---- a collector that had failed
+-- Making entries in a failed collector returns its cause, and the collector keeps it.
 pub failed_makes : {p : Plan} {e : Refusal} {t : State} {r : Result Unit Refusal} → Makes p (Failed e) r t → (r ≡ Err e) × HasFailed t e
 failed_makes had_failed = (refl, refl)
 failed_makes (made g i l a) = elim g [ ]

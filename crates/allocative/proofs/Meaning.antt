@@ -7,76 +7,93 @@ use Rattle.allocative.proofs.Exact.{declared_first, declared_second, declared_bo
 use Rattle.allocative.proofs.Visits.{adds_weaker, adds_nothing, adds_refused}
 
 -- ---- which visits are exact
+-- A visit that is never exact needs no exact part.
 pub exact_never : {e : Bool} → OnlyIf false e
 exact_never = record { follows = λ h. absurd (false≢true h) }
 
+-- A visit is exact only if it is exact itself.
 pub exact_same : {e : Bool} → OnlyIf e e
 exact_same = record { follows = λ h. h }
 
+-- A part that is always exact is exact whenever the visit is.
 pub exact_always : {e : Bool} → OnlyIf e true
 exact_always = record { follows = λ h. refl }
 
+-- If c is exact only if d is and only if e is, then c is exact only if both are.
 pub exact_both : {c d e : Bool} → OnlyIf c d → OnlyIf c e → OnlyIf c (d && e)
 exact_both {d = d} {e = e} l r = record { follows = λ h. and_from d e (l.follows h) (r.follows h) }
 
+-- If d is exact only if c is, then d and e are both exact only if c is.
 pub exact_first : {c d : Bool} (e : Bool) → OnlyIf d c → OnlyIf (d && e) c
 exact_first {d = d} e l = record { follows = λ h. l.follows (and_parts d e h).0 }
 
+-- If e is exact only if c is, then d and e are both exact only if c is.
 pub exact_second : {c e : Bool} (d : Bool) → OnlyIf e c → OnlyIf (d && e) c
 exact_second {e = e} d r = record { follows = λ h. r.follows (and_parts d e h).1 }
 
 -- ---- what a part means
+-- Each showing means itself.
 pub means_same : {x : Bool} {p : Showing} → Means x p p
 means_same = record { means = λ f a. a; declared = λ h d. d }
 
+-- If p means q and q means r, then p means r.
 pub means_then : {x : Bool} {p q r : Showing} → Means x p q → Means x q r → Means x p r
 means_then m l = record { means = λ f a. l.means f (m.means f a); declared = λ h d. m.declared h (l.declared h d) }
 
--- Where both allow the same forests.
+-- A showing means another that allows the same forests.
 pub means_either : {x : Bool} {p q : Showing} → ((f : Forest) → p f → q f) → ((f : Forest) → q f → p f) → Means x p q
 means_either up down = record { means = up; declared = λ h d. (d.0, down d.0 d.1, d.2) }
 
+-- If p means q, an entry with p inside it means the same entry with q inside it.
 inside_as : (u : Bool) (k : Key) (n : ℕ) {x : Bool} {p q : Showing} → Means x p q → Means x (InsideAs u k n p) (InsideAs u k n q)
 inside_as u k n m = record {
   means = λ f a. (a.0, m.means a.0 a.1, a.2);
   declared = λ h d. declared_entry u k n (m.declared h (declared_inside u k n d));
 }
 
+-- If p means q, an inline entry with p inside it means the inline entry of an equal key with q inside it.
 pub means_inside : {x : Bool} {k j : Key} {n : ℕ} {p q : Showing} → k ≡ j → Means x p q → Means x (Inside k n p) (Inside j n q)
 means_inside {j = j} {n = n} e m = rw e (inside_as false j n m)
 
+-- If p means q, a unique entry with p inside it means the unique entry of an equal key with q inside it.
 pub means_unique : {x : Bool} {k j : Key} {n : ℕ} {p q : Showing} → k ≡ j → Means x p q → Means x (InsideUnique k n p) (InsideUnique j n q)
 means_unique {j = j} {n = n} e m = rw e (inside_as true j n m)
 
+-- If p means q, each forest of a field with p inside it is a forest of the same field with q inside it.
 in_field : (k : Key) (y : Option ℕ) {x : Bool} {p q : Showing} → Means x p q → (f : Forest) → IsField k p y f → IsField k q y f
 in_field k y m f (sized {n} a) = sized ((inside_as false k n m).means f a)
 
+-- If p is declared whenever q is, a field with p inside it is declared whenever the field with q is.
 field_declared : (k : Key) (y : Option ℕ) {p q : Showing} → (IsDeclared q → IsDeclared p) → IsDeclared (Field k y q) → IsDeclared (Field k y p)
 field_declared k (Some n) up (f, sized a, s) =
     let d = declared_entry false k n (up (declared_inside false k n (f, a, s))) in
     (d.0, sized d.1, d.2)
 field_declared k None up (f, a, s) = elim a [ ]
 
+-- If p means q, a field with p inside it means the field of equal key and size with q inside it.
 pub means_field : {x : Bool} {k j : Key} {y z : Option ℕ} {p q : Showing} → k ≡ j → y ≡ z → Means x p q → Means x (Field k y p) (Field j z q)
 means_field {j = j} {z = z} e h m = rw (e, h) (record { means = λ f a. in_field j z m f a; declared = λ i d. field_declared j z (m.declared i) d })
 
+-- If p means q and r means s, then p followed by r means q followed by s.
 pub means_both : {x : Bool} {p q r s : Showing} → Means x p q → Means x r s → Means x (Both p r) (Both q s)
 means_both m l = record {
   means = λ f a. (a.0, a.1, m.means a.0 a.2, l.means a.1 a.3, a.4);
   declared = λ h d. declared_both (m.declared h (declared_first d)) (l.declared h (declared_second d));
 }
 
+-- If p means q, each forest of a shared entry of p is a forest of the same shared entry of q.
 shared_as : (k : Key) (n : ℕ) (i : Identity) {x : Bool} {p q : Showing} → Means x p q → (f : Forest) → SharedWith k n i p f → SharedWith k n i q f
 shared_as k n i m f (inl (g, a, e)) = inl (g, m.means g a, e)
 shared_as k n i m f (inr e) = inr e
 
+-- If p means q, a shared entry of p means the shared entry of q with an equal key and identity.
 pub means_shared : {x : Bool} {k j : Key} {n : ℕ} {i l : Identity} {p q : Showing} → k ≡ j → i ≡ l → Means x p q → Means x (SharedWith k n i p) (SharedWith j n l q)
 means_shared {j = j} {n = n} {l = l} e h m = rw (e, h) (record {
   means = λ f a. shared_as j n l m f a;
   declared = λ i d. declared_shared j n l (m.declared i (declared_content j n l d));
 })
 
--- What was entered as p was entered as q, where p means q and q is exact only where p is.
+-- What was entered as p was entered as q, if p means q and q is exact only if p is.
 pub entered_if : {d e : Bool} {p q : Showing} {a b : Visitor} {r : Result (Unit {0}) Refusal} → Entered e p a b r → OnlyIf d e → Means d p q → Entered d q a b r
 entered_if h o m = record {
   same_reference = h.same_reference;
@@ -86,6 +103,7 @@ entered_if h o m = record {
   only_if_full = λ i. only_if_full_weaker m.means (m.declared i) (h.only_if_full (o.follows i));
 }
 
+-- If p means q, what was entered as p was entered as q, and it is just as exact.
 pub entered_as : {d : Bool} {p q : Showing} {a b : Visitor} {r : Result (Unit {0}) Refusal} → Entered d p a b r → Means d p q → Entered d q a b r
 entered_as h m = entered_if h exact_same m
 
@@ -97,7 +115,7 @@ entered_inline h = entered_as h (means_either (λ f x. elim x [ sized y ↦ y ])
 pub entered_loosely : {e : Bool} {p : Showing} {a b : Visitor} {r : Result (Unit {0}) Refusal} → Entered e p a b r → Entered false p a b r
 entered_loosely h = entered_if h exact_never means_same
 
--- A part that was entered is the visit of a value, exact where the part is.
+-- A part that was entered is the visit of a value, exact if the part is.
 pub visited_as : {d : Bool} {p q : Showing} {a b : Visitor} {r : Result (Unit {0}) Refusal} → Entered d p a b r → Means d p q → Visited d q AnyEffect a b r
 visited_as h m =
     let w = entered_as h m in
@@ -107,7 +125,7 @@ visited_as h m =
 pub visited_of_exact : {p q : Showing} {a b : Visitor} {r : Result (Unit {0}) Refusal} → Entered true p a b r → Means false p q → Visited false q AnyEffect a b r
 visited_of_exact h m = visited_as (entered_loosely h) m
 
--- The visit of a value that is exact only where the part is.
+-- A part that was entered is the visit of a value that is exact only if the part is.
 pub visited_if : {d e : Bool} {p q : Showing} {a b : Visitor} {r : Result (Unit {0}) Refusal} → Entered e p a b r → OnlyIf d e → Means d p q → Visited d q AnyEffect a b r
 visited_if h o m = visited_as (entered_if h o means_same) m
 

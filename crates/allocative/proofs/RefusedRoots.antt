@@ -1,4 +1,4 @@
--- A root that is refused after others: it may be refused only where the whole list of roots may be.
+-- A root that is refused after others: it may be refused only if the whole list of roots may be.
 use Rattle.std.proofs.Common.{◌≡◌, ℕ, ◌+◌, ◌<◌, ◌^◌, List, [], ◌∷◌, ◌++◌, length, take, drop, get_or, Bool, true, false, IsTrue, Result, Ok, Err, refl, ap, sym, subst, ◌∙◌}
 use Rattle.allocative.proofs.Common.{Refusal, Forest, Kind, OfGraph, OfHeld, OfOwned, State, Failed, Going, plus, is_graph, begin, Showing, Both, each_shows, VisitsRoot, all_bytes, HasRoomFor, CanTake, MayRefuse, RootFailsOnlyIfFull}
 use Rattle.std.specs.List.{list_all}
@@ -16,7 +16,7 @@ room_begun (OfGraph c) f g h = subst (λ (n : ℕ). n + all_bytes g < 2 ^ 63) (e
 room_begun (OfHeld k) f g h = h
 room_begun (OfOwned k) f g h = h
 
--- Where all roots can be taken, so can one of them after those before it.
+-- If all roots can be taken, so can one of them after those before it.
 can_among : {T : Type 0} (p : T → Showing) (front : List T) (x : T) (back : List T) (b : Kind) (f : Forest) → each_shows p front f → CanTake (begin b) (each_shows p (front ++ x ∷ back)) → CanTake (begin (plus b f)) (p x)
 can_among p front x back b f a w =
     let both : CanTake (begin b) (Both (each_shows p front) (each_shows p (x ∷ back))) = (declared_append p front (x ∷ back) w.0, λ g y. w.1 g (each_append p front (x ∷ back) g y)) in
@@ -34,13 +34,13 @@ only_if_full_among w y p front x back (Going b) (Going c) t u e only (z, f, a, k
     let same : is_graph (begin b) ≡ is_graph (begin (plus b f)) = is_graph-begin b ∙ sym (is_graph-plus b f) ∙ sym (is_graph-begin (plus b f)) in
     (r.0, may_refuse (begin (plus b f)) (begin b) (can_among p front x back b f a) same e m)
 
--- The root with this index is refused, where the roots before it were visited.
+-- The root with this index is refused after the roots before it were visited.
 pub only_if_full_indexed : {T : Type 0} (w y : Bool) (p : T → Showing) (xs : List T) (i : ℕ) (x : T) (s m t : State) (u : Unit) {e : Refusal} {r : Result Unit Refusal} → (IsTrue w → IsTrue y) → r ≡ Err e →
     VisitsRoot (each_shows p (take i xs)) s (Ok u) m → RootFailsOnlyIfFull y (p x) m (Err e) t → i < length xs → x ≡ get_or xs i x → RootFailsOnlyIfFull w (each_shows p xs) s r t
 only_if_full_indexed w y p xs i x s m t u {e} only err g k l is =
     rw (← around_item xs i x l is, err) (only_if_full_among w y p (take i xs) x (drop (i + 1) xs) s m t u e only g k)
 
--- Where all roots are exact, so is the one with this index.
+-- If all roots are exact, so is the root with this index.
 pub one_of_exact : {T : Type 0} (q : T → Bool) (xs : List T) (i : ℕ) (x : T) → i < length xs → x ≡ get_or xs i x → IsTrue (list_all q xs) → IsTrue (q x)
 one_of_exact q xs i x l is all = by_case (q x) refl
   where

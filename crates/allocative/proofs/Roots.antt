@@ -19,6 +19,7 @@ use Rattle.allocative_graph.proofs.OneMeaning.{one_sums}
 use Rattle.allocative_graph.proofs.Merge.{whole_following, graphs_add}
 use Rattle.std.proofs.lemmas.List.{take_more}
 
+-- If no visitor was open, exactly one is open after a root visitor was opened.
 visitors-begin : (b : Kind) → IsClosed b → visitors (begin b) ≡ 1
 visitors-begin (OfGraph c) h = ap suc h
 visitors-begin (OfHeld k) h = ap suc h
@@ -32,11 +33,13 @@ out_of_begin (OfOwned k) f h =
     let spare : k.spare - 0 ≡ k.spare - direct f = omega (arith, h) in
     λ i. OfOwned (record k { sum = k.sum + (owned f - min k.spare (direct f)); spare = spare i })
 
+-- What a collector can take with a root visitor open, it can take without it.
 takes_begin : (b : Kind) (f : Forest) → Takes (begin b) f → Takes b f
 takes_begin (OfGraph c) f t = t
 takes_begin (OfHeld k) f t = t
 takes_begin (OfOwned k) f t = t
 
+-- A step of `visits_root`: adding at the root visitor, and then leaving it, is a visit of a root.
 visits_going : {p : Showing} (b e : Kind) {c : State} {r : Result Unit Refusal} (q : Result Unit Refusal) → IsClosed b → IsAtRoot b → e ≡ begin b → AddsForest p (Going e) r c → Settles (close_entry (outer_of 0 b) c) q → VisitsRoot p (Going b) q (close_entry (outer_of 0 b) c)
 visits_going b e q h here i refused k = rw k (h, refl)
 visits_going b e q h here i hidden k = rw k (h, refl)
@@ -69,7 +72,7 @@ only_if_full_going {p} b e q h here i (has_refused {e = y} m) k =
     let is : q ≡ y = cc in
     (ap Failed (sym is), subst (MayRefuse p (begin b)) (sym is) (subst (λ (z : Kind). MayRefuse p z y) i m))
 
--- A root visitor that was opened, an exact visit there, leaving, and the result refuse only where they must.
+-- A root visitor that was opened, an exact visit there, leaving, and the result refuse only if they must.
 pub root_only_if_full : (s : State) (q : Result Unit Refusal) {x : Bool} {p : Showing} {t a c d : State} {o w : Outer} {r : Result Unit Refusal} → OpensRoot s (Ok o) t → a ≡ t → (IsTrue x → FailsOnlyIfFull p a r c) → ClosesEntry w c d → w ≡ o → Settles d q → RootFailsOnlyIfFull x p s q d
 root_only_if_full (Failed z) q h i v l e k = tt
 root_only_if_full (Going b) (Ok u) h i v l e k = tt
@@ -113,38 +116,47 @@ visit_answered_of z {p} {effect} answers {r = r} closed none (root_visited {o = 
       answer = subst (λ (x : State). answers x r) (l.closes ∙ ap (λ (w : Outer). close_entry w c) (e ∙ b'.2 ∙ none)) (up k);
     }
 
+-- After a visit at an empty collector of held bytes, the result is what is answered of that collector.
 visit_answered : {p : Showing} {effect : Effect} (answers : State → Result ℕ Refusal → Type 0) {s t : State} {q : Result Unit Refusal} {r : Result ℕ Refusal} →
     VisitsRootWithEffect p effect s t q → s ≡ Going (OfHeld nothing_held) → (Settles t q → answers t r) → AnswersVisit p effect answers r
 visit_answered answers = visit_answered_of (OfHeld nothing_held) answers refl refl
 
+-- If a visit at an empty collector of owned bytes returns Ok, their sum is the answer.
 pub owned_answered : {p : Showing} {effect : Effect} {s t : State} {u : Unit} {n : ℕ} →
     VisitsRootWithEffect p effect s t (Ok u) → s ≡ Going (OfOwned nothing_owned) → IsHeldSum t n → AnswersOwned p effect (Ok n)
 owned_answered v is h = visit_answered_of (OfOwned nothing_owned) AnswersSum (refl, refl) refl v is (λ k. (k, h))
 
+-- If a visit at an empty collector of owned bytes returns an error, that error is the answer.
 pub owned_refused : {p : Showing} {effect : Effect} {s t : State} {e : Refusal} {r : Result ℕ Refusal} →
     VisitsRootWithEffect p effect s t (Err e) → s ≡ Going (OfOwned nothing_owned) → IsErr r → e ≡ err_or e r → AnswersOwned p effect r
 owned_refused v is h i = rw (same_err _ h i) (visit_answered_of (OfOwned nothing_owned) AnswersSum (refl, refl) refl v is (λ k. k))
 
+-- If a visit at an empty collector of held bytes returns Ok, their sum is the answer.
 pub held_answered : {p : Showing} {effect : Effect} {s t : State} {u : Unit} {n : ℕ} →
     VisitsRootWithEffect p effect s t (Ok u) → s ≡ Going (OfHeld nothing_held) → IsHeldSum t n → AnswersVisit p effect AnswersSum (Ok n)
 held_answered v is h = visit_answered AnswersSum v is (λ k. (k, h))
 
+-- If a visit at an empty collector of held bytes returns an error, that error is the answer.
 pub held_refused : {p : Showing} {effect : Effect} {s t : State} {e : Refusal} {r : Result ℕ Refusal} →
     VisitsRootWithEffect p effect s t (Err e) → s ≡ Going (OfHeld nothing_held) → IsErr r → e ≡ err_or e r → AnswersVisit p effect AnswersSum r
 held_refused v is h i = rw (same_err _ h i) (visit_answered AnswersSum v is (λ k. k))
 
+-- If the visit returns Ok, the size is the sum of the held bytes and the declared size.
 pub size_answered : {p : Showing} {effect : Effect} {size : Option ℕ} {s t : State} {u : Unit} (n : ℕ) {own m : ℕ} →
     VisitsRootWithEffect p effect s t (Ok u) → s ≡ Going (OfHeld nothing_held) → IsHeldSum t n → size ≡ Some own → m ≡ n + own → AnswersVisit p effect (AnswersSize size) (Ok m)
 size_answered {size = size} n {own = own} v is h y e = visit_answered (AnswersSize size) v is (λ k. (n, own, (k, h), y, e))
 
+-- If the visit returns an error, the size is refused with that error.
 pub size_refused : {p : Showing} {effect : Effect} {size : Option ℕ} {s t : State} {e : Refusal} {r : Result ℕ Refusal} →
     VisitsRootWithEffect p effect s t (Err e) → s ≡ Going (OfHeld nothing_held) → IsErr r → e ≡ err_or e r → AnswersVisit p effect (AnswersSize size) r
 size_refused {size = size} v is h i = rw (same_err _ h i) (visit_answered (AnswersSize size) v is (λ k. inl k))
 
+-- If the visit returns Ok and there is no declared size, the size is refused with TooLarge.
 pub size_not_there : {p : Showing} {effect : Effect} {size : Option ℕ} {s t : State} {u : Unit} (n : ℕ) →
     VisitsRootWithEffect p effect s t (Ok u) → s ≡ Going (OfHeld nothing_held) → IsHeldSum t n → size ≡ None → AnswersVisit p effect (AnswersSize size) (Err TooLarge)
 size_not_there {size = size} n v is h y = visit_answered (AnswersSize size) v is (λ k. inr (n, (k, h), refl, λ own z. absurd (cc)))
 
+-- If held bytes and declared size together do not fit a word, the size is refused with TooLarge.
 pub size_too_large : {p : Showing} {effect : Effect} {size : Option ℕ} {s t : State} {u : Unit} (n : ℕ) {own : ℕ} →
     VisitsRootWithEffect p effect s t (Ok u) → s ≡ Going (OfHeld nothing_held) → IsHeldSum t n → size ≡ Some own → 2 ^ 64 ≤ n + own → AnswersVisit p effect (AnswersSize size) (Err TooLarge)
 size_too_large {size = size} n {own = own} v is h y l = visit_answered (AnswersSize size) v is (λ k. inr (
@@ -156,7 +168,7 @@ size_too_large {size = size} n {own = own} v is h y l = visit_answered (AnswersS
       rw (← same) l,
 ))
 
--- Two runs are one of all that r allows, where r allows what both show.
+-- Two runs are one of all that r allows, if r allows what both show.
 visits_joined : {p q r : Showing} (s m t : State) (u v w : Unit) → ((f : Forest) → Both p q f → r f) → VisitsRoot p s (Ok u) m → VisitsRoot q m (Ok v) t → VisitsRoot r s (Ok w) t
 visits_joined (Failed x) m t u v w up g h = absurd (cc)
 visits_joined (Going b) (Failed x) t u v w up g h = absurd g
@@ -173,6 +185,7 @@ visits_one_more p xs i x s m t u v w f g h e =
     rw (e', ← e) (visits_joined s m t u v w (each_and_one p (take i xs) x) f g)
 
 -- ---- a whole run
+-- If p is visited in an empty collector that ends with a profile, a whole showing of p has that profile.
 pub profile_ended : (p : Showing) (s t : State) (u : Unit) (r : Result Profile Refusal) → VisitsRoot p s (Ok u) t → s ≡ Going (OfGraph no_entries) → Ends IsProfile t r → IfOk r (IsProfileOf p)
 profile_ended p (Failed x) t u r h e k = absurd (cc)
 profile_ended p (Going b) (Failed x) u r h e k = absurd h
@@ -194,6 +207,7 @@ profile_ended p (Going b) (Going c) u (Ok o) (z, f, a, t, g) e k =
       warned_are = λ m im. k'.1.2 ∙ ap warned_paths (one_sums (own f) (content_of f) (all f) m is im);
     }
 
+-- The sum of the graphs of two profiles is the sum of the graphs of two whole showings, of p and of q.
 pub sum_of_profiles : (p q : Showing) (o o' : Profile) (m : Graph) → IsProfileOf p o → IsProfileOf q o' → m ≡ sum_of o.graph o'.graph → IsSumOfTwo p q m
 sum_of_profiles p q o o' m a b e =
     let is : m ≡ sum_of (graph (sums_of (all a.shown))) (graph (sums_of (all b.shown))) = e ∙ (λ i. sum_of (a.graph_is (all a.shown) a.meaning i) (b.graph_is (all b.shown) b.meaning i)) in

@@ -33,6 +33,7 @@ entered_next v p xs x f s =
 loosely : {p q : Showing} → ((f : Forest) → p f → q f) → Means false p q
 loosely up = record { means = up; declared = λ i d. absurd (false≢true i) }
 
+-- What was entered of one whole run was entered of some whole run, but need not be exact.
 pub entered_run : {S A B : Type 0} {e : Bool} {steps : S → Option A → S → Type 0} {s : S} {v : A → B} {q : List B → Showing} (xs : List A) {a b : Visitor} {r : Result (Unit {0}) Refusal} →
     Drains steps s xs → Entered e (q (map v xs)) a b r → Entered false (IsOfRun steps s v q) a b r
 entered_run xs d h = entered_if h exact_never (loosely (λ f g. record { given = xs; drained = d; shown = g }))
@@ -41,10 +42,12 @@ entered_run xs d h = entered_if h exact_never (loosely (λ f g. record { given =
 same_items : {S A B : Type 0} {steps : S → Option A → S → Type 0} {s : S} {v : A → B} (xs : List A) {ys : List B} → Drains steps s xs → YieldsList steps v s ys → map v xs ≡ ys
 same_items xs d y = items_from_drains xs (d.1.0, d.1.1, λ _. (d.0, d.1.2)) y
 
+-- If every run gives the same list, what is shown of some whole run is shown of that list.
 of_list : {S A B : Type 0} {steps : S → Option A → S → Type 0} {s : S} {v : A → B} {q : List B → Showing} {all : List B} →
     YieldsList steps v s all → (f : Forest) → IsOfRun steps s v q f → q all f
 of_list {q = q} y f o = subst (λ ys. q ys f) (same_items o.given o.drained y) o.shown
 
+-- If a whole run's items were entered, the exact visit of a list that every run gives refuses only if it must.
 pub along_run : {S A B : Type 0} {e : Bool} {steps : S → Option A → S → Type 0} {s : S} {v : A → B} {q : List B → Showing} (xs : List A) {a b : Visitor} {r : Result (Unit {0}) Refusal} →
     Drains steps s xs → Entered e (q (map v xs)) a b r → RefusesAlong e steps s v q a b r
 along_run {steps = steps} {s = s} xs d h = record { along = λ i ys y. rw (← same_items {steps = steps} {s = s} xs d (record { runs = y })) (h.only_if_full i) }
@@ -60,6 +63,7 @@ begins steps v s t (w ∷ xs) (z ∷ zs) h g y =
     let more = begins steps v h.0 t xs zs h.2 g next.1 in
     (more.0, (λ i. next.0 i ∷ more.1 i))
 
+-- If the items so far were entered and the next one is refused, the run is refused only if it must be.
 pub along_refused : {S A B : Type 0} {d : Bool} (steps : S → Option A → S → Type 0) {s u : S} (t : S) {v : A → B} {p : B → Showing} {x : A} (xs : List A)
     {a b c : Visitor} {w : Unit {0}} {e : Refusal} {r : Result (Unit {0}) Refusal} → r ≡ Err e → Yields steps s xs t → steps t (Some x) u →
     Entered d (each_shows p (map v xs)) a b (Ok w) → Entered d (p (v x)) b c (Err e) → RefusesAlong d steps s v (each_shows p) a c r
@@ -75,7 +79,8 @@ pub along_within : {S A B : Type 0} {u e : Bool} {steps : S → Option A → S �
     OpensEntry u k (Some n) a.collector.now (Ok o) t → RefusesAlong e steps s v q (with_state a t) b r → ClosesEntry o b.collector.now d → RefusesAlong e steps s v (λ ys. InsideAs u k n (q ys)) a (with_state b d) r
 along_within g h e = record { along = λ i ys y. only_if_full_within g (h.along i ys y) e }
 
--- ---- for callers: where the run is known
+-- ---- for callers: when the run is known
+-- If every run gives the same list, what was entered of some run was entered of that list.
 pub entered_list : {S A B : Type 0} {d e : Bool} {steps : S → Option A → S → Type 0} {s : S} {v : A → B} {q : List B → Showing} {all : List B} {a b : Visitor} {r : Result (Unit {0}) Refusal} →
     YieldsList steps v s all → Entered e (IsOfRun steps s v q) a b r → RefusesAlong d steps s v q a b r → Entered d (q all) a b r
 entered_list {q = q} {all = all} y h k = record {
@@ -86,10 +91,12 @@ entered_list {q = q} {all = all} y h k = record {
   only_if_full = λ i. k.along i all y.runs;
 }
 
+-- If every run gives the same list, what was entered of some run was entered of it, but need not be exact.
 pub list_entered : {S A B : Type 0} {e : Bool} {steps : S → Option A → S → Type 0} {s : S} {v : A → B} {q : List B → Showing} {all : List B} {a b : Visitor} {r : Result (Unit {0}) Refusal} →
     YieldsList steps v s all → Entered e (IsOfRun steps s v q) a b r → Entered false (q all) a b r
 list_entered {q = q} y h = entered_if h exact_never (loosely (of_list {q = q} y))
 
+-- If items are declared in some order, they are declared in their own order.
 any_order_declared : {B : Type 0} (p : B → Showing) (xs : List B) → IsDeclared (in_any_order p xs) → IsDeclared (each_shows p xs)
 any_order_declared p xs (f, (ys, same, x), s) = each_from xs (All-permutation (λ y. IsDeclared (p y)) ys xs (IsPermutation-sym xs ys same) (all_from ys (f, x, s)))
   where
@@ -101,12 +108,14 @@ any_order_declared p xs (f, (ys, same, x), s) = each_from xs (All-permutation (�
     each_from [] h = declared_nothing
     each_from (z ∷ zs) h = declared_both (All-head (λ y. IsDeclared (p y)) z zs h) (each_from zs (All-tail (λ y. IsDeclared (p y)) z zs h))
 
+-- If every run gives the same list, what was entered of some run was entered of that list in any order.
 pub entered_any_order : {S A B : Type 0} {d e : Bool} {steps : S → Option A → S → Type 0} {s : S} {v : A → B} {p : B → Showing} {all : List B} {a b : Visitor} {r : Result (Unit {0}) Refusal} →
     YieldsList steps v s all → Entered e (IsOfRun steps s v (each_shows p)) a b r → RefusesAlong d steps s v (each_shows p) a b r → Entered d (in_any_order p all) a b r
 entered_any_order {p = p} {all = all} y h k =
     entered_as (entered_list {q = each_shows p} y h k) (record { means = λ f x. (all, IsPermutation-refl all, x); declared = λ i d. any_order_declared p all d })
 
 -- ---- the count of a run
+-- No forest is the entry of the bytes of items that could not be counted.
 none_counted : (name : Key) (size : Option ℕ) (f : Forest) → Field name (size_product size None) Nothing f → ⊥
 none_counted name None f h = none_of_it h
 none_counted name (Some s) f h = none_of_it h
@@ -117,6 +126,7 @@ bytes_counted name size n f h =
     let cases : (checked n ≡ Some n) ⊎ (checked n ≡ None) = grind (arith, nat_tests) in
     elim cases [ inl e ↦ rw e at h | inr e ↦ absurd (none_counted name size f (rw e at h)) ]
 
+-- If items are not shown one by one, entering the entry of their counted bytes enters the slice of some run.
 pub plain_run : {S A T : Type 0} {e : Bool} {steps : S → Option A → S → Type 0} {s : S} (v : A → T) (name : Key) (size count : Option ℕ) (needs_drop : Bool) (p : T → Showing) {a b : Visitor} {r : Result (Unit {0}) Refusal} →
     are_shown_each needs_drop size ≡ false → CountsRun steps s count → Entered e (Field name (size_product size count) Nothing) a b r → Entered false (IsOfRun steps s v (slice_shows name size needs_drop p)) a b r
 plain_run v name size count needs_drop p e (xs, d, i) h =
@@ -124,18 +134,21 @@ plain_run v name size count needs_drop p e (xs, d, i) h =
     let up = λ (f : Forest) (g : Field name (size_product size (checked (length xs))) Nothing f). plain_slice name size needs_drop p (map v xs) e f (rw length-map (bytes_counted name size (length xs) f g)) in
     entered_run xs d (entered_if h' exact_never (loosely (up)))
 
+-- If items are shown one by one, entering the items of some run enters the slice of some run.
 pub items_run : {S A T : Type 0} {e : Bool} {steps : S → Option A → S → Type 0} {s : S} (v : A → T) (name : Key) (size : Option ℕ) (needs_drop : Bool) (p : T → Showing) {a b : Visitor} {r : Result (Unit {0}) Refusal} →
     are_shown_each needs_drop size ≡ true → Entered e (IsOfRun steps s v (each_shows p)) a b r → Entered false (IsOfRun steps s v (slice_shows name size needs_drop p)) a b r
 items_run {steps = steps} {s = s} v name size needs_drop p e h = entered_if h exact_never (loosely (λ f (o : IsOfRun steps s v (each_shows p) f).
     record { given = o.given; drained = o.drained; shown = each_slice name size needs_drop p (map v o.given) e f o.shown }))
 
 -- ---- what a counted slice refuses
+-- If a product fits a word, so does its second factor, provided that it does when the first is 0.
 fits_by : (s n : ℕ) → (s ≡ 0 → n < 2 ^ 64) → s * n < 2 ^ 64 → n < 2 ^ 64
 fits_by zero n h l = h refl
 fits_by (suc k) n h l =
     let e : suc k * n ≡ n + k * n = grind arith in
     omega (arith, e, l)
 
+-- If a collector can take a slice of countable items as one entry, the entry of their bytes is declared.
 counted_declared : {T : Type 0} (name : Key) (size : Option ℕ) (needs_drop : Bool) (p : T → Showing) (ys : List T) → are_shown_each needs_drop size ≡ false → CanCount size (length ys) →
     (b : Kind) → CanTake b (slice_shows name size needs_drop p ys) → IsDeclared (Field name (size_product size (checked (length ys))) Nothing)
 counted_declared name None needs_drop p ys e fits b (d, room) = absurd d.1
@@ -146,7 +159,7 @@ counted_declared name (Some s) needs_drop p ys e fits b w =
     let is : size_product (Some s) (checked (length ys)) ≡ Some (s * length ys) = rw (checked_fits (length ys) n) (checked_fits (s * length ys) l) in
     entry_declared name (s * length ys) _ is
 
--- Items that are counted are refused rightly where they can be counted.
+-- Items that are counted are refused rightly if they can be counted.
 pub counted_plain : {S A T : Type 0} {e : Bool} {steps : S → Option A → S → Type 0} {s : S} (v : A → T) (name : Key) (size count : Option ℕ) (needs_drop : Bool) (p : T → Showing) {a b : Visitor} {r : Result (Unit {0}) Refusal} →
     are_shown_each needs_drop size ≡ false → CountsRun steps s count → Entered true (Field name (size_product size count) Nothing) a b r → RefusesCounted e size steps s v (slice_shows name size needs_drop p) a b r
 counted_plain {steps = steps} {s = s} v name size count needs_drop p {a = a} {b = b} {r = r} e (xs, d, i) h = record {
@@ -159,11 +172,13 @@ counted_plain {steps = steps} {s = s} v name size count needs_drop p {a = a} {b 
 }
 
 -- ---- a slab's values
+-- Without their keys, the entries of slots are the values of the filled slots, whatever the first key is.
 pub values_from : {T : Type 0} (key : ℕ) (slots : List (Option T)) → map (λ e. e.1) (entries_from key slots) ≡ filter_map (λ slot. slot) slots
 values_from key [] = refl
 values_from key (None ∷ rest) = values_from (key + 1) rest
 values_from key (Some x ∷ rest) = ap (λ xs. x ∷ xs) (values_from (key + 1) rest)
 
+-- A list of slots has as many values as filled slots.
 pub values_count : {T : Type 0} (slots : List (Option T)) → length (filter_map (λ slot. slot) slots) ≡ count_by is_some slots
 values_count [] = refl
 values_count (None ∷ rest) = omega (arith, values_count rest, sum_by-cons (λ slot. cond (is_some slot) 1 0) None rest)

@@ -8,10 +8,12 @@ use Rattle.allocative_graph.proofs.Plus.{plus-nothing, plus-following, takes_not
 use Rattle.allocative.proofs.Exact.{each_append, each_one}
 
 -- ---- one after another
+-- A visit that leaves the collector as it is and returns Ok shows no entry.
 pub adds_nothing : (s : State) (u : Unit) → AddsForest Nothing s (Ok u) s
 adds_nothing (Failed r) u = already
 adds_nothing (Going b) u = added Empty refl (takes_nothing b) (sym (plus-nothing b))
 
+-- If q allows all that p allows, a visit that shows p shows q.
 pub adds_weaker : {p q : Showing} {a b : State} {r : Result Unit Refusal} → ((f : Forest) → p f → q f) → AddsForest p a r b → AddsForest q a r b
 adds_weaker up already = already
 adds_weaker up refused = refused
@@ -19,12 +21,15 @@ adds_weaker up hidden = hidden
 adds_weaker up (forgotten g h) = forgotten g h
 adds_weaker up (added f p t e) = added f (up f p) t e
 
+-- A collector with a forest added is a flame graph's exactly if it was before.
 same_graph : (b c : Kind) (f : Forest) → c ≡ plus b f → is_graph c ≡ is_graph b
 same_graph b c f e = ap is_graph e ∙ is_graph-plus b f
 
+-- Adding a forest does not change the number of open visitors.
 same_visitors : (b c : Kind) (f : Forest) → c ≡ plus b f → visitors c ≡ visitors b
 same_visitors b c f e = ap visitors e ∙ visitors-plus b f
 
+-- If a visit that shows p returns Ok and a visit that shows q follows, both together show p followed by q.
 pub adds_both : {p q : Showing} {a b c : State} {u : Unit} {r : Result Unit Refusal} → AddsForest p a (Ok u) b → AddsForest q b r c → AddsForest (Both p q) a r c
 adds_both already already = already
 adds_both {r = Ok v} hidden already = hidden
@@ -45,6 +50,7 @@ pub adds_err : {p q : Showing} {a b : State} {e : Refusal} → AddsForest p a (E
 adds_err already = already
 adds_err refused = refused
 
+-- If a visit returns Ok and the next one returns an error, both together are a failed visit of any showing.
 pub adds_both_err : {p q r : Showing} {a b c : State} {u : Unit} {x : Refusal} → AddsForest p a (Ok u) b → AddsForest q b (Err x) c → AddsForest r a (Err x) c
 adds_both_err s t = adds_err (adds_both s t)
 
@@ -61,28 +67,32 @@ out_of u k n b d i w (added {c = c} f q t e) =
     let t' : Takes (enter u k n b) f = subst (λ (x : Kind). Takes x f) i t in
     added (entry_of u k n f) (f, q, refl) (takes_entry u k n b f t') (cc (inside_entry u k n b f))
 
--- An entry shows what is shown inside it, from the opening, the visit and the closing, if the closing restores what the
--- opening returned.
+-- An entry shows what is shown inside it, from the opening, the visit and the closing, if the closing restores what
+-- the opening returned.
 pub adds_entry : {u : Bool} {p : Showing} {k : Key} {n : ℕ} {o q : Outer} {s t a c d : State} {v x : Unit} →
     OpensEntry u k (Some n) s (Ok o) t → a ≡ t → AddsForest p a (Ok v) c → ClosesEntry q c d → q ≡ o → AddsForest (InsideAs u k n p) s (Ok x) d
 adds_entry {u} {p} {k} {n} {c = c} {v = v} {x = x} (is_entered {b = b} {c = d} r f e) i s l q =
     let s' : AddsForest p (Going d) (Ok v) c = subst (λ (z : State). AddsForest p z (Ok v) c) i s in
     rw (l.closes, q, f) (out_of u k n b d e x s')
 
+-- An inline entry shows what is shown inside it, if it is opened, the visit returns Ok, and it is closed.
 pub adds_inline : {p : Showing} {k : Key} {n : ℕ} {o q : Outer} {s t a c d : State} {v x : Unit} →
     OpensEntry false k (Some n) s (Ok o) t → a ≡ t → AddsForest p a (Ok v) c → ClosesEntry q c d → q ≡ o → AddsForest (Inside k n p) s (Ok x) d
 adds_inline = adds_entry
 
+-- A unique entry shows what is shown inside it, if it is opened, the visit returns Ok, and it is closed.
 pub adds_unique : {p : Showing} {k : Key} {n : ℕ} {o q : Outer} {s t a c d : State} {v x : Unit} →
     OpensEntry true k (Some n) s (Ok o) t → a ≡ t → AddsForest p a (Ok v) c → ClosesEntry q c d → q ≡ o → AddsForest (InsideUnique k n p) s (Ok x) d
 adds_unique = adds_entry
 
+-- A field shows what is shown inside it, if it is opened, the visit returns Ok, and it is closed.
 pub adds_field : {p : Showing} {k : Key} {y : Option ℕ} {o q : Outer} {s t a c d : State} {v x : Unit} →
     OpensEntry false k y s (Ok o) t → a ≡ t → AddsForest p a (Ok v) c → ClosesEntry q c d → q ≡ o → AddsForest (Field k y p) s (Ok x) d
 adds_field {y = None} g i s l q = elim g [ ]
 adds_field {y = Some n} g i s l q = adds_weaker (λ f h. sized h) (adds_entry g i s l q)
 
 -- ---- a shared entry
+-- A step of `adds_shared`: a shared entry with a new identity shows what was shown as its content.
 out_of_first : {p : Showing} (k : Key) (n : ℕ) (i : Identity) (b d : Live) → contains b.met i ≡ false → d ≡ enter_first k n i b → {c : State} {v : Unit} (o : Outer) (w : Unit) →
     AddsForest p (Going (OfGraph d)) (Ok v) c → AddsForest (SharedWith k n i p) (Going (OfGraph b)) (Ok w) (close_entry o c)
 out_of_first k n i b d h e o w hidden = hidden
@@ -94,6 +104,7 @@ out_of_first k n i b d h e o w (added {c = c} f q t m) =
     let t' : Takes (OfGraph (enter_first k n i b)) f = subst (λ (x : Live). Takes (OfGraph x) f) e t in
     added (First k n i f Empty) (inl (f, q, refl)) (takes_shared k n i b f h t') (cc (inside_first k n i b f o))
 
+-- A shared entry with a new identity shows its content, if the content's visit returns Ok and it is closed.
 pub adds_shared : {p : Showing} {k : Key} {n : ℕ} {i : Identity} {q : Outer} {s t a c d : State} {v x : Unit} →
     OpensShared k n i s (Ok true) t → a ≡ t → AddsForest p a (Ok v) c → ClosesEntry q c d → AddsForest (SharedWith k n i p) s (Ok x) d
 adds_shared {p} {k} {n} {i} {q} {c = c} {v = v} {x = x} (enters_first {c = b} {d = d} r h e) z s g =
@@ -105,6 +116,7 @@ pub adds_content : {p : Showing} {k : Key} {n : ℕ} {i : Identity} {q : Outer} 
     OpensShared k n i s (Ok is_first) t → is_first ≡ true → a ≡ t → AddsForest p a (Ok v) c → ClosesEntry q c d → AddsForest (SharedWith k n i p) s (Ok x) d
 adds_content g is z s l = adds_shared (rw is at g) z s l
 
+-- If a shared entry is opened and its content is not to be shown, the pointer alone is shown.
 pub adds_again : {p : Showing} {k : Key} {n : ℕ} {i : Identity} {is_first : Bool} {s t : State} {x : Unit} → OpensShared k n i s (Ok is_first) t → is_first ≡ false → AddsForest (SharedWith k n i p) s (Ok x) t
 adds_again {k = k} {n = n} {i = i} (goes_past {h = h}) is = added (Again k n i Empty) (inr refl) tt (sym (held_again k n i h))
 adds_again {k = k} {n = n} {i = i} (counts {o = o} r e) is = added (Again k n i Empty) (inr refl) tt (ap OfOwned e ∙ sym (owned_again k n i o))
@@ -112,6 +124,7 @@ adds_again {k = k} {n = n} {i = i} (enters_again {c = c} r h e) is = added (Agai
 adds_again (enters_first r h e) is = absurd (false≢true (sym is))
 
 -- ---- a visit inside an entry that returns Err
+-- If a visit inside an entry returns an error and the entry is closed, the visit around it may return an error.
 inside_failed : {p q : Showing} {b d : Kind} (o : Outer) {c : State} {y x : Refusal} → AddsForest p (Going d) (Err y) c → AddsForest q (Going b) (Err x) (close_entry o c)
 inside_failed o refused = refused
 
@@ -120,6 +133,7 @@ pub entry_err : {u : Bool} {p q : Showing} {k : Key} {y : Option ℕ} {o w : Out
     OpensEntry u k y s (Ok o) t → a ≡ t → AddsForest p a (Err z) c → ClosesEntry w c d → AddsForest q s (Err x) d
 entry_err {p = p} {w = w} {c = c} {z = y} (is_entered {c = d} r f e) i s l = rw l.closes (inside_failed w (subst (λ (z : State). AddsForest p z (Err y) c) i s))
 
+-- If the visit of a shared content returns an error and the entry is closed, the visit around it may too.
 pub shared_err : {p q : Showing} {k : Key} {n : ℕ} {i : Identity} {w : Outer} {s t a c d : State} {z x : Refusal} →
     OpensShared k n i s (Ok true) t → a ≡ t → AddsForest p a (Err z) c → ClosesEntry w c d → AddsForest q s (Err x) d
 shared_err {p = p} {w = w} {c = c} {z = y} (enters_first {d = d} r f e) i s l = rw l.closes (inside_failed w (subst (λ (z : State). AddsForest p z (Err y) c) i s))
@@ -141,6 +155,7 @@ pub not_entered_cause : {u : Bool} {k : Key} {y : Option ℕ} {s t : State} {e :
 not_entered_cause stays_failed = refl
 not_entered_cause (is_refused r) = refl
 
+-- A shared entry that is refused shows nothing more.
 pub not_shared : {q : Showing} {k : Key} {n : ℕ} {i : Identity} {s t : State} {e : Refusal} → OpensShared k n i s (Err e) t → AddsForest q s (Err e) t
 not_shared stays_shared = already
 not_shared (is_refused_shared r) = refused
@@ -161,6 +176,7 @@ pub adds_hidden : {p q : Showing} {a b : State} {e : Refusal} {u : Unit} → Add
 adds_hidden already = already
 adds_hidden refused = hidden
 
+-- A visit that opens an entry, never closes it, and returns Ok, has forgotten a visitor.
 pub adds_forgotten : {u : Bool} {q : Showing} {k : Key} {y : Option ℕ} {o : Outer} {s t : State} {v : Unit} → OpensEntry u k y s (Ok o) t → AddsForest q s (Ok v) t
 adds_forgotten {u} {k = k} (is_entered {n = n} {b = b} r f e) = let d = ap visitors e ∙ visitors-enter u k n b in forgotten (ap is_graph e ∙ is_graph-enter u k n b) (omega (arith, d))
 
@@ -174,5 +190,6 @@ refuses_entry stays_failed = refl
 refuses_entry (is_refused r) = r
 
 -- ---- loops
+-- A forest of items followed by one of another item is a forest of the items with that one at the end.
 pub each_and_one : {T : Type 0} (p : T → Showing) (xs : List T) (x : T) (f : Forest) → Both (each_shows p xs) (p x) f → each_shows p (xs ++ x ∷ []) f
 each_and_one p xs x f (g, h, all, here, e) = each_append p xs (x ∷ []) f (g, h, all, each_one p x h here, e)

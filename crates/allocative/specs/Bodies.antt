@@ -7,13 +7,13 @@ use Rattle.allocative_graph.specs.Shows.{Showing, Nothing, Both, Inside, InsideU
 use Rattle.allocative_described.specs.RawTable.{IsRawTableSize}
 use Rattle.allocative.specs.Runs.{field_of}
 
--- Whether the items of a declared size are shown one by one in a slice. They are not where they have no size.
+-- Whether the items of a declared size are shown one by one in a slice. They are not if they have no size.
 abbrev pub are_shown_each : Bool → Option ℕ → Bool
 are_shown_each needs_drop None = false
 are_shown_each needs_drop (Some s) = is_shown_each needs_drop s
 
--- One inline entry of the bytes of n items of a declared size. Where there is no size, or the bytes do not fit, there
--- is no forest.
+-- One inline entry of the bytes of n items of a declared size. If there is no size, or the bytes do not fit, there is
+-- no forest.
 abbrev pub bytes_shown : Key → Option ℕ → ℕ → Showing
 bytes_shown k size n = Field k (size_product size (Some n)) Nothing
 
@@ -29,9 +29,9 @@ vec_body name size needs_drop p xs n =
 abbrev pub buffer_entry : Option ℕ → Showing → ℕ → Showing
 buffer_entry size p unused = InsideUnique (codes "ptr") 8 (Both p (bytes_shown (codes "unused_capacity") size unused))
 
--- What a container shows of the buffer of its n items of a declared size, with room for `capacity` items: no entry
--- where the items have size 0, or where there is neither an item nor room for one; otherwise a buffer, whose unused
--- places are those that no item takes. Where there is no size, there is no forest.
+-- What a container shows of the buffer of its n items of a declared size, with room for `capacity` items: no entry if
+-- the items have size 0, or if there is neither an item nor room for one; otherwise a buffer, whose unused places are
+-- those that no item takes. If there is no size, there is no forest.
 pub data buffer_shows (size : Option ℕ) (p : Showing) (n capacity : ℕ) : Forest → Type 0 where
   without_size : {f : Forest} → size ≡ Some 0 → f ≡ Empty → buffer_shows size p n capacity f
   without_room : {s : ℕ} {f : Forest} → size ≡ Some s → n ≡ 0 → capacity ≡ 0 → f ≡ Empty
@@ -63,7 +63,7 @@ data_shows size p = each_shows (field_of (codes "data") size p)
 abbrev pub slice_of : {T : Type 0} → Key → Option ℕ → (T → Showing) → List T → Showing
 slice_of name size p xs = Field name (size_product size (Some (length xs))) (data_shows size p xs)
 
--- The hash table of n items: no entry where n is 0, otherwise a unique entry with an entry of the table's bytes inside
+-- The hash table of n items: no entry if n is 0, otherwise a unique entry with an entry of the table's bytes inside
 -- it. An item of the table has 8 bytes.
 abbrev pub table_shows : ℕ → Showing
 table_shows n f =

@@ -11,13 +11,13 @@ use Rattle.allocative.specs.declared.visitor.Visitor.{Visitor}
 use Rattle.allocative.specs.Kinds.{IsHeldSum}
 use Rattle.allocative.specs.Visited.{OpensRootAt}
 
--- The collector after a closure told this: its own refusal is the first cause where nothing had failed.
+-- The collector after a closure told this: its own refusal is the first cause if nothing had failed.
 abbrev pub after_told : Result (Unit {0}) Refusal → State → State
 after_told (Ok u) s = s
 after_told (Err e) s = failed_with e s
 
--- What is answered of a collector of held bytes: their sum where it has not failed and no visitor is out, else the
--- first cause, or Open.
+-- What is answered of a collector of held bytes: their sum if it has not failed and no visitor is out, else the first
+-- cause, or Open.
 abbrev pub AnswersSum : State → Result ℕ Refusal → Type 0
 AnswersSum s (Ok n) = Settles s (Ok tt) × IsHeldSum s n
 AnswersSum s (Err e) = Settles s (Err e)
@@ -35,8 +35,8 @@ module _ {F : Type 0}
       → AddsForest p x.collector.now r y.collector.now
 
   -- The closure's entry is refused as entering says. Or the closure is called at the entry's visitor and returns Ok,
-  -- and the visitor is left. Or the closure returns Err with a cause, the collector fails with that cause unless it had
-  -- failed before, and the visitor is left.
+  -- and the visitor is left. Or the closure returns Err with a cause, the collector fails with that cause unless it
+  -- had failed before, and the visitor is left.
   pub data CallsInside (k : Key) (n : ℕ) (s : State) (t : State) : Result (Unit {0}) Refusal → Type 0 where
     not_called : {e : Refusal} → OpensEntry false k (Some n) s (Err e) t → CallsInside k n s t (Err e)
     called : {o : Outer} {w : State} {u : Unit} (x y : Visitor) → OpensEntry false k (Some n) s (Ok o) w → x.collector.now ≡ w
@@ -54,8 +54,8 @@ module _ {F : Type 0}
     pub calls : CallsInside k n old.collector.now new.collector.now r
     pub cause : IfErr r (HasFailed new.collector.now)
 
-  -- The closure was called at the visitor, which stands where it stood; the closure's own refusal is the first cause
-  -- where nothing had failed.
+  -- The closure was called at the visitor, which stays where it was; the closure's own refusal is the first cause if
+  -- nothing had failed.
   pub record CalledAt (old new : Visitor) : Type 0 where
     pub told : Result (Unit {0}) Refusal
     pub after : Visitor

@@ -1,4 +1,4 @@
--- When a visit refuses only where it must.
+-- When a visit refuses only if it must.
 use Rattle.std.specs.Prelude.{◌≡◌, ℕ, suc, ◌+◌, ◌<◌, ◌^◌, Bool, true, IsTrue, ⊤, Result, Ok, Err}
 use Rattle.allocative_graph.specs.declared.refusal.Refusal.{Refusal}
 use Rattle.allocative_graph.specs.declared.refusal.Refusal.TheVariants.{Memory, TooLarge, Open}
@@ -15,8 +15,8 @@ all_bytes (Unique k n inside after) = n + (all_bytes inside + all_bytes after)
 all_bytes (First k n i inside after) = n + (all_bytes inside + all_bytes after)
 all_bytes (Again k n i after) = n + all_bytes after
 
--- Where so many visitors are open, the bytes of each entry of f that is not shared and not below a shared one fit a word,
--- and so does the number of visitors that are open at it.
+-- When so many visitors are open, the bytes of each entry of f that is not shared and not below a shared one fit a
+-- word, and so does the number of visitors that are open at it.
 abbrev pub FitsWords : ℕ → Forest → Type 0
 FitsWords open_visitors Empty = ⊤
 FitsWords open_visitors (Inline k n inside after) = (n < 2 ^ 64) × (suc open_visitors < 2 ^ 64)
@@ -45,19 +45,19 @@ ShowsContents (Again k n i after) = ⊥
 abbrev pub IsDeclared : Showing → Type 0
 IsDeclared p = (f : Forest) × p f × ShowsContents f
 
--- Whatever p allows can be added to the collector: p allows a forest that shows all its contents, and each forest that
--- p allows exceeds no bound.
+-- Whatever p allows can be added to the collector: p allows a forest that shows all its contents, and each forest
+-- that p allows exceeds no bound.
 abbrev pub CanTake : Kind → Showing → Type 0
 CanTake b p = IsDeclared p × ((f : Forest) → p f → HasRoomFor b f)
 
--- Why a visit that shows p may be refused at a collector: TooLarge, where not all that p allows can be added; Memory,
--- where the collector is that of a flame graph; never Open.
+-- Why a visit that shows p may be refused at a collector: TooLarge, if not all that p allows can be added; Memory, if
+-- the collector is that of a flame graph; never Open.
 abbrev pub MayRefuse : Showing → Kind → Refusal → Type 0
 MayRefuse p b Memory = is_graph b ≡ true
 MayRefuse p b TooLarge = ¬ CanTake b p
 MayRefuse p b Open = ⊥
 
--- A visit that shows p refuses only where it must. After Ok the collector has one more forest, which p allows and the
+-- A visit that shows p refuses only if it must. After Ok the collector has one more forest, which p allows and the
 -- collector takes. An Err is the collector's cause, and says why the visit may be refused. Nothing is said of a
 -- collector that had failed.
 pub data FailsOnlyIfFull (p : Showing) : State → Result Unit Refusal → State → Type 0 where
@@ -66,8 +66,8 @@ pub data FailsOnlyIfFull (p : Showing) : State → Result Unit Refusal → State
       → FailsOnlyIfFull p (Going b) (Ok u) (Going c)
   has_refused : {b : Kind} {e : Refusal} → MayRefuse p b e → FailsOnlyIfFull p (Going b) (Err e) (Failed e)
 
--- A visit of p by a root visitor refuses only where it must. Where the visit is exact, and the collector was going with
--- no open visitor, an Err is the collector's cause, and says why p may be refused with the root visitor open. What else
+-- A visit of p by a root visitor refuses only if it must. If the visit is exact, and the collector was going with no
+-- open visitor, an Err is the collector's cause, and says why p may be refused with the root visitor open. What else
 -- may happen is said by `VisitsRoot`.
 abbrev pub RootFailsOnlyIfFull : Bool → Showing → State → Result Unit Refusal → State → Type 0
 RootFailsOnlyIfFull is_exact p (Failed r) result t = ⊤
@@ -75,7 +75,7 @@ RootFailsOnlyIfFull is_exact p (Going b) (Ok u) t = ⊤
 RootFailsOnlyIfFull is_exact p (Going b) (Err e) t =
     IsTrue is_exact → IsClosed b → (t ≡ Failed e) × MayRefuse p (begin b) e
 
--- Why the profile of an exact p is refused: with Memory, or with TooLarge, where an empty collector of a flame graph with
--- a root visitor open cannot take all that p allows.
+-- Why the profile of an exact p is refused: with Memory, or with TooLarge, if an empty collector of a flame graph
+-- with a root visitor open cannot take all that p allows.
 abbrev pub MayRefuseProfile : Bool → Showing → Refusal → Type 0
 MayRefuseProfile is_exact p e = IsTrue is_exact → MayRefuse p (begin (OfGraph no_entries)) e

@@ -31,7 +31,7 @@ value_level (Value-F.Object m) = inside (codes "Object") 24
 abbrev pub json_level : Value → Level Value
 json_level v = inside (codes "Value") 32 (value_level (out-Value v))
 
--- What a value shows, where its texts and arrays have the room that they have.
+-- What a value shows, with the room that its texts and arrays have.
 abbrev pub stored_value : Value → Showing
 stored_value = recursive json_level
 

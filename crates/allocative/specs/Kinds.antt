@@ -14,7 +14,7 @@ kind_of (Graph c) = OfGraph c
 kind_of (Held h) = OfHeld h
 kind_of (Owned o) = OfOwned o
 
--- The state that a contract sees: the collector has failed where there is a cause.
+-- The state that a contract sees: the collector has failed if there is a cause.
 abbrev pub state_of : Option Refusal → model.Kind → State
 state_of None k = Going k
 state_of (Some r) k = Failed r

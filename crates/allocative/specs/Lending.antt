@@ -16,18 +16,18 @@ abbrev pub LendsEntered : Bool → Key → Option ℕ → MutBor State → Resul
 LendsEntered is_unique k size s r = RestsIfErr collector.the_row s (λ v. v.collector.ghost_name) r
     (λ t. IfErr r (λ e. OpensEntry is_unique k size s.now (Err e) t))
 
--- The collector ends as the visitor at the content of a shared value leaves it or, where no visitor is returned, as
+-- The collector ends as the visitor at the content of a shared value leaves it or, if no visitor is returned, as
 -- entering says.
 abbrev pub LendsPointed : Key → ℕ → Identity → MutBor State → Result Visitor (Option Refusal) → Fml
 LendsPointed k n i s r = RestsIfErr collector.the_row s (λ v. v.collector.ghost_name) r
     (λ t. IfErr r (λ o. OpensShared k n i s.now (told o) t))
 
--- The collector ends as the root visitor leaves it or, where no visitor is returned, as beginning says.
+-- The collector ends as the root visitor leaves it or, if no visitor is returned, as beginning says.
 abbrev pub LendsBegun : MutBor State → Result Visitor Refusal → Fml
 LendsBegun s r =
     RestsIfErr collector.the_row s (λ v. v.collector.ghost_name) r (λ t. IfErr r (λ e. OpensRoot s.now (Err e) t))
 
--- The collector, seen as that of a flame graph, ends as the root visitor leaves it or, where no visitor is returned, as
+-- The collector, seen as that of a flame graph, ends as the root visitor leaves it or, if no visitor is returned, as
 -- beginning says.
 abbrev pub LendsBegunGraph : MutBor State → Result Visitor Refusal → Fml
 LendsBegunGraph s r = RestsIfErr collector.the_row s (λ v. v.collector.ghost_name) r

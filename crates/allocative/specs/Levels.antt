@@ -7,8 +7,8 @@ use Rattle.allocative_graph.specs.Shows.{Showing, Both, Inside, InsideUnique, Fi
 use Rattle.allocative.specs.Bodies.{buffer_shows}
 use Rattle.allocative.specs.StdShows.{option_inside, in_any_order}
 
--- One level of what a value shows, built from its parts: a value of T below it is a child in it, and what names no such
--- value is plain.
+-- One level of what a value shows, built from its parts: a value of T below it is a child in it, and what names no
+-- such value is plain.
 pub data Level (T : Type 0) : Type 1 where
   plain : Showing → Level T
   child : T → Level T
@@ -39,13 +39,14 @@ abbrev pub levels_shown : {T : Type 0} → (T → Level T) → ℕ → T → Sho
 levels_shown w zero x = λ f. ⊥
 levels_shown w (suc k) x = level_shows (levels_shown w k) (w x)
 
--- What a value that holds values of its own type may show, where w gives one level: the forests of any number of levels.
+-- What a value that holds values of its own type may show, where w gives one level: the forests of any number of
+-- levels.
 pub record recursive {T : Type 0} (w : T → Level T) (x : T) (f : Forest) : Type 0 where
   pub depth : ℕ
   pub shown : levels_shown w depth x f
 
--- What a `Vec` shows of its items, which need a drop and have the declared size s, not 0, where w gives the level of an
--- item.
+-- What a `Vec` shows of its items, which need a drop and have the declared size s, not 0, where w gives the level of
+-- an item.
 abbrev pub vec_in : {T A : Type 0} → Option ℕ → (A → Level T) → Vec A → Level T
 vec_in s w v =
     field (codes "Vec") (Some 24) (buffer s (each w (vec_items v)) (length (vec_items v)) (vec_capacity v))
@@ -58,8 +59,8 @@ vec_of s w v = vec_in (Some s) w v
 abbrev pub box_of : {T : Type 0} → Level T → Level T
 box_of a = field (codes "Box") (Some 8) (unique (codes "ptr") 8 a)
 
--- What an `Option` of a declared size shows of its value, which has the declared size s, where w gives the level of the
--- value.
+-- What an `Option` of a declared size shows of its value, which has the declared size s, where w gives the level of
+-- the value.
 abbrev pub option_in : {T A : Type 0} → Option ℕ → Option ℕ → (A → Level T) → Option A → Level T
 option_in size s w o = field (codes "Option") size (optional s w o)
 

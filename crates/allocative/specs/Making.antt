@@ -50,7 +50,7 @@ room_plan name size needs_drop xs n =
     followed_by_plan (slice_plan name size needs_drop xs)
     (one (codes "unused_capacity") (size_product size (Some (n - length xs))))
 
--- The entries of the body of a vector with room for n items, where no item of its slice is visited.
+-- The entries of the body of a vector with room for n items, if no item of its slice is visited.
 abbrev pub vec_plan : {T : Type 0} → Key → Option ℕ → Bool → List T → ℕ → Plan
 vec_plan name size needs_drop xs n =
     Entry (codes "capacity") (size_product size (Some n)) (room_plan name size needs_drop xs n) Done
@@ -73,15 +73,15 @@ pub data MakesFirst (k : Key) (size : Option ℕ) (old new : Visitor) : Result U
 pub record Keeps (old new : Visitor) (r : Result Unit Refusal) : Type 0 where
   pub keeps : (e : Refusal) → HasFailed old.collector.now e → (r ≡ Err e) × HasFailed new.collector.now e
 
--- What a call at a visitor over an iterator does to its collector: it makes the entries of a plan, or the iterator, at
--- s, may give an item.
+-- What a call at a visitor over an iterator does to its collector: it makes the entries of a plan, or the iterator,
+-- at s, may give an item.
 pub data MakesPlanOrGives {S A : Type 0} (steps : S → Option A → S → Type 0) (s : S) (p : Plan) (old new : Visitor)
     (r : Result Unit Refusal) : Type 0 where
   makes : MakesPlan p old new r → MakesPlanOrGives steps s p old new r
   gives : (x : A) (t : S) → steps s (Some x) t → MakesPlanOrGives steps s p old new r
 
--- What `visit_iter` at a visitor does to its collector where it visits no item. Items that are shown one by one are none,
--- and no entry is made. Others are counted, and one entry of their bytes is made.
+-- What `visit_iter` at a visitor does to its collector if it visits no item. Items that are shown one by one are
+-- none, and no entry is made. Others are counted, and one entry of their bytes is made.
 abbrev pub MakesPlanRun : {S A : Type 0} → (S → Option A → S → Type 0) → S → Key → Option ℕ → Bool → Visitor → Visitor
     → Result Unit Refusal → Type 0
 MakesPlanRun steps s name size true old new r = MakesPlanOrGives steps s Done old new r

@@ -22,7 +22,7 @@ abbrev pub LendsCollector : MutBor Visitor → MutBor State → Fml
 LendsCollector s r =
     Lends (visitor.the_row (record { mir = named 1; lft = [] })) collector.the_row s r (with_state s.now)
 
--- The visitor ends with what the nested visitor leaves of the collector or, where the entry was refused, with what
+-- The visitor ends with what the nested visitor leaves of the collector or, if the entry was refused, with what
 -- `opens` says. Nothing else of it changes.
 abbrev pub LendsAs : (State → Result Outer Refusal → State → Type 0) → MutBor Visitor → Result Visitor Refusal → Fml
 LendsAs opens s r =
@@ -57,18 +57,18 @@ name_in (Ok (Some v)) = maybe.some v.collector.ghost_name
 name_in (Ok None) = maybe.none
 name_in (Err e) = maybe.none
 
--- Where a visitor is returned, v is s with what that visitor leaves of the collector.
+-- If a visitor is returned, v is s with what that visitor leaves of the collector.
 abbrev pub EndsWith : Visitor → Result (Option Visitor) Refusal → State → Visitor → Type 0
 EndsWith s r w v = IfOk r (λ o. IfSome o (λ x. v ≡ with_state s w))
 
--- Where no visitor is returned, v is s with what entering says.
+-- If no visitor is returned, v is s with what entering says.
 abbrev pub EndsWithout : Key → ℕ → Identity → Visitor → Result (Option Visitor) Refusal → Visitor → Type 0
 EndsWithout k n i s (Ok (Some x)) v = ⊤
 EndsWithout k n i s r v =
     OpensShared k n i s.collector.now (answered r) v.collector.now × (v ≡ with_state s v.collector.now)
 
--- The visitor ends with what the visitor at a shared value's content leaves of the collector or, where none is
--- returned, with what entering says. Nothing else of it changes.
+-- The visitor ends with what the visitor at a shared value's content leaves of the collector or, if none is returned,
+-- with what entering says. Nothing else of it changes.
 abbrev pub LendsShared : Key → ℕ → Identity → MutBor Visitor → Result (Option Visitor) Refusal → Fml
 LendsShared k n i s r =
     follows_so (visitor.the_row (record { mir = named 1; lft = [] })) collector.the_row s.ghost_name (name_in r)

@@ -10,7 +10,8 @@ use Rattle.allocative_graph.specs.Shows.{Showing, Nothing, Both, InsideUnique, F
 use Rattle.allocative.specs.Bodies.{bytes_shown, buffer_shows, data_shows, table_shows}
 use Rattle.allocative.specs.Runs.{field_of, pair_shows}
 
--- What is inside the own entry of an `Either` with parts of declared sizes: one field, named by the side that is there.
+-- What is inside the own entry of an `Either` with parts of declared sizes: one field, named by the side that is
+-- there.
 abbrev pub either_inside : {L R : Type 0} → Option ℕ → (L → Showing) → Option ℕ → (R → Showing) → Either L R → Showing
 either_inside s p t q (Left x) = Field (codes "Left") s (p x)
 either_inside s p t q (Right y) = Field (codes "Right") t (q y)
@@ -20,16 +21,16 @@ pub data once_inside {T : Type 0} (p : T → Showing) : Forest → Type 0 where
   is_not_set : {f : Forest} → Nothing f → once_inside p f
   is_set : (x : T) {f : Forest} → InsideUnique (codes "ptr") 8 (p x) f → once_inside p f
 
--- What is inside the own entry of a small vector with n places of its own and items of a declared size: a field `data`
--- for each item, inside a pointer where the items are in an allocation.
+-- What is inside the own entry of a small vector with n places of its own and items of a declared size: a field
+-- `data` for each item, inside a pointer if the items are in an allocation.
 pub data small_vec_inside {T : Type 0} (n : ℕ) (size : Option ℕ) (p : T → Showing) (v : SmallVec T) : Forest → Type 0
   where
     lies_inline : {f : Forest} → ¬ IsSpilled n v → data_shows size p v.items f → small_vec_inside n size p v f
     is_spilled : {f : Forest} → IsSpilled n v → InsideUnique (codes "ptr") 8 (data_shows size p v.items) f
         → small_vec_inside n size p v f
 
--- What is inside the own entry of a slab with items of a declared name and size: the buffer of its values, in the order
--- of their keys.
+-- What is inside the own entry of a slab with items of a declared name and size: the buffer of its values, in the
+-- order of their keys.
 abbrev pub slab_inside : {T : Type 0} → Key → Option ℕ → Bool → (T → Showing) → Slab T → Showing
 slab_inside name size needs_drop p s =
     buffer_shows size (slice_shows name size needs_drop p (values s)) (slab_len s) s.capacity
@@ -41,7 +42,8 @@ pub data index_data_shows (size : Option ℕ) (p : Showing) (unused : ℕ) : For
       → InsideUnique (codes "data") 8 (Both p (bytes_shown (codes "unused_capacity") size unused)) f
       → index_data_shows size p unused f
 
--- What is inside the own entry of an `IndexMap` with keys, values and pairs of declared sizes, and so many unused places.
+-- What is inside the own entry of an `IndexMap` with keys, values and pairs of declared sizes, and so many unused
+-- places.
 abbrev pub index_map_inside : {K V : Type 0} → Option ℕ → (K → Showing) → Option ℕ → (V → Showing) → Option ℕ
     → List (K × V) → ℕ → Showing
 index_map_inside s p t q pair es unused =

@@ -4,7 +4,7 @@ use Rattle.either.specs.declared.Either.{Either}
 use Rattle.either.specs.declared.Either.TheVariants.{Left, Right}
 use Rattle.allocative_graph.specs.Shows.{Showing, Nothing}
 
--- What p says of a value, or nothing where there is none.
+-- What p says of a value, or nothing if there is none.
 abbrev pub optional_shows : {T : Type 0} → (T → Showing) → Option T → Showing
 optional_shows p None = Nothing
 optional_shows p (Some x) = p x

@@ -13,7 +13,7 @@ use Rattle.allocative.specs.Built.{as_graph}
 abbrev pub LendsBuilt : MutBor State → MutBor State → Fml
 LendsBuilt s r = Lends builder.the_row collector.the_row s r as_graph
 
--- The builder ends as the collector that the root visitor leaves or, where no visitor is returned, as beginning says.
+-- The builder ends as the collector that the root visitor leaves or, if no visitor is returned, as beginning says.
 -- The collector is seen as that of a flame graph.
 abbrev pub LendsRoot : MutBor State → Result Visitor Refusal → Fml
 LendsRoot s r =

@@ -9,26 +9,26 @@ use Rattle.allocative_graph.specs.Shows.{Showing, Both, Field}
 use Rattle.allocative.specs.Exact.{FailsOnlyIfFull}
 use Rattle.allocative.specs.declared.visitor.Visitor.{Visitor}
 
--- A forest that q allows for the items of some whole run of an iterator that starts at s; v is what a contract sees of
--- an item.
+-- A forest that q allows for the items of some whole run of an iterator that starts at s; v is what a contract sees
+-- of an item.
 pub record IsOfRun {S A B : Type 0} (steps : S → Option A → S → Type 0) (s : S) (v : A → B) (q : List B → Showing)
     (f : Forest) : Type 0 where
   pub given : List A
   pub drained : Drains steps s given
   pub shown : q (map v given) f
 
--- Where every run of an iterator that starts at s gives items that v takes to the same list, an exact visit of the
--- forests that q allows for that list refuses only where it must.
+-- If every run of an iterator that starts at s gives items that v takes to the same list, an exact visit of the
+-- forests that q allows for that list refuses only if it must.
 pub record RefusesAlong {S A B : Type 0} (is_exact : Bool) (steps : S → Option A → S → Type 0) (s : S) (v : A → B)
     (q : List B → Showing) (old new : Visitor) (r : Result (Unit {0}) Refusal) : Type 0 where
   pub along : IsTrue is_exact → (ys : List B) → AlwaysYields steps v s ys
       → FailsOnlyIfFull (q ys) old.collector.now r new.collector.now
 
--- So many items of a declared size can be counted: where items have size 0, their number fits a word.
+-- So many items of a declared size can be counted: if items have size 0, their number fits a word.
 abbrev pub CanCount : Option ℕ → ℕ → Type 0
 CanCount size n = size ≡ Some 0 → n < 2 ^ 64
 
--- As `RefusesAlong`, for items of a declared size that are counted, where they can be.
+-- As `RefusesAlong`, for items of a declared size that are counted, if they can be.
 pub record RefusesCounted {S A B : Type 0} (is_exact : Bool) (size : Option ℕ) (steps : S → Option A → S → Type 0)
     (s : S) (v : A → B) (q : List B → Showing) (old new : Visitor) (r : Result (Unit {0}) Refusal) : Type 0 where
   pub along : IsTrue is_exact → (ys : List B) → AlwaysYields steps v s ys → CanCount size (length ys)
@@ -43,6 +43,6 @@ abbrev pub pair_shows : {K V : Type 0} → Option ℕ → (K → Showing) → Op
 pair_shows key_size p value_size q e =
     Both (Field (codes "key") key_size (p e.0)) (Field (codes "value") value_size (q e.1))
 
--- The number of items of some whole run, or None where it does not fit a word.
+-- The number of items of some whole run, or None if it does not fit a word.
 abbrev pub CountsRun : {S A : Type 0} → (S → Option A → S → Type 0) → S → Option ℕ → Type 0
 CountsRun {A = A} steps s n = (xs : List A) × Drains steps s xs × (n ≡ checked (length xs))

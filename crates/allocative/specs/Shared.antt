@@ -11,8 +11,8 @@ use Rattle.allocative_graph.specs.Visits.{Refuses}
 use Rattle.allocative.specs.declared.visitor.Visitor.{Visitor}
 
 -- What is returned for a pointer of n bytes to i. A failed collector returns its first cause. The collector of held
--- bytes always returns that nothing is shown. A flame graph's collector returns, where no bound is exceeded, that the
--- content is shown exactly where i was not met; or an error as for an inline entry. That of owned bytes counts the
+-- bytes always returns that nothing is shown. A flame graph's collector returns, if no bound is exceeded, that the
+-- content is shown exactly if i was not met; or an error as for an inline entry. That of owned bytes counts the
 -- pointer: it returns that nothing is shown, or TooLarge if the sum does not fit.
 abbrev pub AnswersShared : Key → ℕ → Identity → State → Result Bool Refusal → Type 0
 AnswersShared k n i (Failed r) result = result ≡ Err r
@@ -23,7 +23,7 @@ AnswersShared k n i (Going (OfGraph c)) (Err e) = Refuses false n (OfGraph c) e
 AnswersShared k n i (Going (OfOwned o)) (Ok is_first) = (o.sum + (n - o.spare) < 2 ^ 64) × (is_first ≡ false)
 AnswersShared k n i (Going (OfOwned o)) (Err e) = (e ≡ TooLarge) × (2 ^ 64 ≤ o.sum + (n - o.spare))
 
--- The result where no visitor is returned: nothing is shown, or an error.
+-- The result if no visitor is returned: nothing is shown, or an error.
 abbrev pub told : Option Refusal → Result Bool Refusal
 told None = Ok false
 told (Some e) = Err e

@@ -21,22 +21,22 @@ IsSizeOfUnique size p bytes = (own : ℕ) × (size ≡ Some own) × (f : Forest)
 abbrev pub CanBeHeld : Showing → Type 0
 CanBeHeld p = CanTake (begin (OfHeld nothing_held)) p
 
--- Why the bytes that an exact value holds are refused: only with TooLarge, where what it shows cannot be counted.
+-- Why the bytes that an exact value holds are refused: only with TooLarge, if what it shows cannot be counted.
 abbrev pub MayRefuseHeld : Bool → Showing → Refusal → Type 0
 MayRefuseHeld is_exact p e = IsTrue is_exact → (e ≡ TooLarge) × ¬ CanBeHeld p
 
--- What p allows can be counted, there is a declared size, and what each forest that p allows holds fits a word together
--- with that size.
+-- What p allows can be counted, there is a declared size, and what each forest that p allows holds fits a word
+-- together with that size.
 abbrev pub CanBeSized : Option ℕ → Showing → Type 0
 CanBeSized size p = CanBeHeld p × (own : ℕ) × (size ≡ Some own) × ((f : Forest) → p f → held f + own < 2 ^ 64)
 
--- Why the size of an exact value is refused: only with TooLarge, where it cannot be counted together with the declared
+-- Why the size of an exact value is refused: only with TooLarge, if it cannot be counted together with the declared
 -- size.
 abbrev pub MayRefuseSize : Bool → Option ℕ → Showing → Refusal → Type 0
 MayRefuseSize is_exact size p e = IsTrue is_exact → (e ≡ TooLarge) × ¬ CanBeSized size p
 
--- What is answered of a collector of held bytes and a declared size: the bytes of both; the first cause, or Open where a
--- visitor is out; or TooLarge, where there is no declared size or it does not fit a word together with the sum.
+-- What is answered of a collector of held bytes and a declared size: the bytes of both; the first cause, or Open if a
+-- visitor is out; or TooLarge, if there is no declared size or it does not fit a word together with the sum.
 abbrev pub AnswersSize : Option ℕ → State → Result ℕ Refusal → Type 0
 AnswersSize size s (Ok n) = (sum own : ℕ) × AnswersSum s (Ok sum) × (size ≡ Some own) × (n ≡ sum + own)
 AnswersSize size s (Err e) = Settles s (Err e) ⊎ ((sum : ℕ) × AnswersSum s (Ok sum) × (e ≡ TooLarge)

@@ -23,8 +23,8 @@ result_inside ok_size err_size p q (Err e) = Field (codes "Err") err_size (q e)
 abbrev pub in_any_order : {T : Type 0} → (T → Showing) → List T → Showing
 in_any_order {T} p xs f = (ys : List T) × IsPermutation xs ys × each_shows p ys f
 
--- A pointer to a shared value of a declared size and alignment. Its content is an entry of the counts and the value, or
--- it has no content.
+-- A pointer to a shared value of a declared size and alignment. Its content is an entry of the counts and the value,
+-- or it has no content.
 abbrev pub shared_inside : Key → Identity → Option ℕ → ℕ → Showing → Showing
 shared_inside inner_name id size align p =
     SharedWith (codes "ptr") 8 id (Field inner_name (shared_inner_size size align) p)

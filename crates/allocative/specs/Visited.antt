@@ -16,8 +16,8 @@ Effect = State → Result (Unit {0}) Refusal → State → Type 0
 abbrev pub AnyEffect : Effect
 AnyEffect s r t = ⊤
 
--- The visitor stays where it was, and its collector was shown what p allows, by a visit of this effect. An exact visit
--- refuses only where it must.
+-- The visitor stays where it was, and its collector was shown what p allows, by a visit of this effect. An exact
+-- visit refuses only if it must.
 pub record Visited (is_exact : Bool) (p : Showing) (effect : Effect) (old new : Visitor) (r : Result (Unit {0}) Refusal)
     : Type 0 where
   pub same_reference : new.collector.ghost_name ≡ old.collector.ghost_name
@@ -26,8 +26,8 @@ pub record Visited (is_exact : Bool) (p : Showing) (effect : Effect) (old new : 
   pub only_if_full : IsTrue is_exact → FailsOnlyIfFull p old.collector.now r new.collector.now
   pub takes_effect : effect old.collector.now r new.collector.now
 
--- The visitor stays where it was, its collector was shown what p allows, and an Err is the collector's first cause. What
--- is exact refuses only where it must.
+-- The visitor stays where it was, its collector was shown what p allows, and an Err is the collector's first cause.
+-- What is exact refuses only if it must.
 pub record Entered (is_exact : Bool) (p : Showing) (old new : Visitor) (r : Result (Unit {0}) Refusal) : Type 0 where
   pub same_reference : new.collector.ghost_name ≡ old.collector.ghost_name
   pub same_outer : new.outer ≡ old.outer
@@ -61,17 +61,17 @@ pub record WasVisited (p : Showing) (effect : Effect) (s t : State) : Type 0 whe
 abbrev pub OpensRootAt : State → Visitor → Type 0
 OpensRootAt s v = OpensRoot s (Ok v.outer) v.collector.now
 
--- Every forest that p allows, q allows. For an exact visit, p is also declared where q is.
+-- Every forest that p allows, q allows. For an exact visit, p is also declared if q is.
 pub record Means (is_exact : Bool) (p q : Showing) : Type 0 where
   pub means : (f : Forest) → p f → q f
   pub declared : IsTrue is_exact → IsDeclared q → IsDeclared p
 
--- The first visit is exact only where the second is.
+-- The first visit is exact only if the second is.
 pub record OnlyIf (is_exact is_exact' : Bool) : Type 0 where
   pub follows : IsTrue is_exact → IsTrue is_exact'
 
--- A visit of this effect by a root visitor, which shows p: no root visitor could be opened; or it was opened, the visit
--- was made there, the visitor was left, and the answer is what the collector settles.
+-- A visit of this effect by a root visitor, which shows p: no root visitor could be opened; or it was opened, the
+-- visit was made there, the visitor was left, and the answer is what the collector settles.
 pub data VisitsRootWithEffect (p : Showing) (effect : Effect) (s t : State) (r : Result (Unit {0}) Refusal) : Type 0 where
   not_begun : (e : Refusal) → Settles s (Err e) → VisitsRootWithEffect p effect s t r
   root_visited : {o w : Outer} {a c : State} → OpensRoot s (Ok o) a → WasVisited p effect a c → ClosesEntry w c t → w ≡ o

@@ -23,6 +23,7 @@ function T d = inst_fn (args T d) code.function
 abbrev stayed : (T : RattleType) (g : Ghosts T.Denot) (d : Dict) → Stays (f.ended T g d).signature.params (f.ended T g d).kept
 stayed T g d = (stay_dropped _ no, tt)
 
+-- The code of `enter_self_sized` meets its contract.
 pub enter_self_sized_spec : {M : Type 1} → statement M
 enter_self_sized_spec 𝓤 𝓛 𝓜 𝓡 wired T laws g d bound =
     let c = f.clauses T g d 𝓛 𝓜.mem 𝓡.returns in

@@ -29,29 +29,35 @@ TryAnswer κs = result_row (Nested κs) (option_row refusal_row)
 abbrev SharedAnswer : Lfts 2 → RattleType
 SharedAnswer κs = result_row (option_row (Nested κs)) refusal_row
 
+-- The reference in a returned visitor has the same name before and after the result is converted.
 same_name : (r : Try) → name_if_ok (λ v. v.collector.ghost_name) r ≡ name_in (turned r)
 same_name (Ok v) = refl
 same_name (Err None) = refl
 same_name (Err (Some e)) = refl
 
+-- If a visitor is returned, the lender ends with what that visitor leaves of the collector.
 ends_with : (s : Visitor) (r : Try) (w z : State) → OnOk r (z ≡ w) → EndsWith s (turned r) w (with_state s z)
 ends_with s (Ok v) w z h = ap (with_state s) h
 ends_with s (Err None) w z h = tt
 ends_with s (Err (Some e)) w z h = tt
 
+-- If no visitor is returned, the lender ends with what entering the shared value says.
 ends_without : (k : Key) (n : ℕ) (i : Identity) (s : Visitor) (c : State) → c ≡ s.collector.now → (r : Try) (z : State) → OnErr r (IfErr r (λ o. OpensShared k n i c (told o) z)) → EndsWithout k n i s (turned r) (with_state s z)
 ends_without k n i s c e (Ok v) z h = tt
 ends_without k n i s c e (Err None) z h = let P : State → Type 0 = λ x. OpensShared k n i x (Ok false) z in (subst P e h, refl)
 ends_without k n i s c e (Err (Some x)) z h = let P : State → Type 0 = λ y. OpensShared k n i y (Err x) z in (subst P e h, refl)
 
+-- If P implies Q, and P is true of a returned visitor, then Q is true of it in the converted result.
 shown_by : (P Q : Visitor → Type 0) (r : Try) (g : Given) → g ≡ turned r → ((v : Visitor) → P v → Q v) → IfOk r P → IfOk g (λ o. IfSome o Q)
 shown_by P Q (Ok v) g e w h = rw e (w v h)
 shown_by P Q (Err None) g e w h = rw e tt
 shown_by P Q (Err (Some x)) g e w h = rw e tt
 
+-- If opening a shared entry says to show its content, `AnswersShared` allows that answer.
 shown_answer : (k : Key) (n : ℕ) (i : Identity) {c t : State} → OpensShared k n i c (Ok true) t → AnswersShared k n i c (Ok true)
 shown_answer k n i (enters_first r h e) = (r, h)
 
+-- What the converted result says of the content is an answer that `AnswersShared` allows.
 answer_at : (k : Key) (n : ℕ) (i : Identity) (r : Try) (c : State) → IfOk r (OpensSharedAt k n i c) → IfErr r (λ o. AnswersShared k n i c (told o)) → AnswersShared k n i c (answered (turned r))
 answer_at k n i (Ok v) c h j = shown_answer k n i h.1
 answer_at k n i (Err None) c h j = j
@@ -60,6 +66,7 @@ answer_at k n i (Err (Some e)) c h j = j
 abbrev stayed : Stays f.ended.signature.params f.ended.kept
 stayed = (stay_dropped _ no, (stay_dropped _ yes, (stay_dropped _ yes, (stay_dropped _ yes, tt))))
 
+-- The code of `enter_shared` meets its contract.
 pub enter_shared_spec : {M : Type 1} → statement M
 enter_shared_spec 𝓤 𝓛 𝓜 𝓡 wired =
     let c = f.clauses 𝓛 𝓜.mem 𝓡.returns in

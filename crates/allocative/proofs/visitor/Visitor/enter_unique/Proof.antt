@@ -6,6 +6,7 @@ use Rattle.allocative.proofs.visitor.Visitor.enter_unique.Code as code
 use Rattle.allocative.proofs.visitor.by_hand.collector_of.Met as g
 use Rattle.allocative.proofs.visitor.by_hand.enter_unique.Met as h
 
+-- The code of `enter_unique` meets its contract.
 pub enter_unique_spec : {M : Type 1} → statement M
 enter_unique_spec 𝓤 𝓛 𝓜 𝓡 wired =
     enters usize number_laws (λ k n. OpensEntry true k (Some n)) (λ k n s. RefusesEntry true (Some n) s) 𝓤 𝓛 𝓜 𝓡 (Goes-dropped 𝓛 2 (plain (λ _. usize)) yes (λ κs x w. refl))

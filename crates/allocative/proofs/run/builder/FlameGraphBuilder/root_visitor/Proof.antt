@@ -19,6 +19,7 @@ ends_begun : (r : Result Visitor Refusal) (w z : State) → OnOk r (z ≡ w) →
 ends_begun (Ok v) w z h = ap as_graph h
 ends_begun (Err e) w z h = h
 
+-- If no root visitor is returned, the builder ends as a refused beginning says.
 ends_refused : (s c : State) → s ≡ as_graph c → (r : Result Visitor Refusal) (z : State) → OnErr r (IfErr r (λ e. OpensRoot (as_graph c) (Err e) (as_graph z))) → IfErr r (λ e. OpensRoot s (Err e) (as_graph z))
 ends_refused s c i (Ok v) z h = h
 ends_refused s c i (Err e) z h = rw i h
@@ -26,6 +27,7 @@ ends_refused s c i (Err e) z h = rw i h
 abbrev stayed : Stays f.ended.signature.params f.ended.kept
 stayed = (stay_dropped _ no, tt)
 
+-- The code of `root_visitor` meets its contract.
 pub root_visitor_spec : {M : Type 1} → statement M
 root_visitor_spec 𝓤 𝓛 𝓜 𝓡 wired =
     let c = f.clauses 𝓛 𝓜.mem 𝓡.returns in
