@@ -40,7 +40,7 @@ use crate::{Refusal, Visitor};
 pub trait Allocative: Drop {
     ghost may_show: { Self → Forest → Type 0 };
 
-    /// Whether each visit refuses only where it must: with `TooLarge` only where the collector cannot take all that
+    /// Whether each visit refuses only if it must: with `TooLarge` only if the collector cannot take all that
     /// the value may show, with `Memory` only in a flame graph, and never with `Open`. A type whose parts are exact
     /// states `true`. One with a parameter states the flags of its parts, joined in their order.
     ghost is_exact: { Bool } = { false };

@@ -49,8 +49,8 @@ impl IntoKey for &'static str {
 pub trait Part: Drop {
     ghost may_show: { Self → Forest → Type 0 };
 
-    /// Whether entering refuses only where it must, as `Allocative` says of visits. The parts of this crate are exact
-    /// where the parts and values in them are.
+    /// Whether entering refuses only if it must, as `Allocative` says of visits. The parts of this crate are exact
+    /// if the parts and values in them are.
     ghost is_exact: { Bool } = { false };
 
     /// Enters the part at the visitor.
@@ -104,7 +104,7 @@ impl<K: IntoKey, P: Part> Part for Inside<K, P> {
     }
 }
 
-/// One inline entry under a key, of a declared size in bytes, with a part inside it. Where there is no size,
+/// One inline entry under a key, of a declared size in bytes, with a part inside it. If there is no size,
 /// `enter` returns `TooLarge`.
 ///
 /// ```
@@ -126,7 +126,7 @@ impl<K: IntoKey, P: Part> Part for Declared<K, P> {
 }
 
 /// A value's own entry: one inline entry of the name and the size that the value's type declares, with a part inside
-/// it. Where the type has no size, `enter` returns `TooLarge`.
+/// it. If the type has no size, `enter` returns `TooLarge`.
 ///
 /// ```
 /// let name = Field("name", &self.name);
@@ -194,7 +194,7 @@ impl<'a, K: IntoKey, T: Allocative + Described> Part for Field<K, &'a T> {
     }
 }
 
-/// One entry of a pointer to a shared value. Where the value's identity was not met before, a
+/// One entry of a pointer to a shared value. If the value's identity was not met before, a
 /// part is its content, whose paths start at the root. The collector of held bytes enters neither
 /// the pointer nor the content, and that of owned bytes the pointer alone.
 ///
@@ -215,7 +215,7 @@ pub struct Shared<P> {
     pub size: usize,
     /// The identity of the shared value.
     pub identity: Identity,
-    /// The content, which is shown where the identity was not met.
+    /// The content, which is shown if the identity was not met.
     pub content: P,
 }
 

@@ -52,9 +52,9 @@ fn turned_round<'a>(
 impl Visitor<'_> {
     /// Enters inline: one more entry of `size` bytes under the key, and a nested visitor at it.
     ///
-    /// A collector that has failed returns its first cause. Otherwise the call returns `TooLarge` exactly where
+    /// A collector that has failed returns its first cause. Otherwise the call returns `TooLarge` exactly if
     /// a bound would be exceeded, which is tested before anything is allocated. A flame graph's collector may
-    /// otherwise return `Memory`: where memory runs out, or where the graph would have more than 2^32 - 1 paths. After
+    /// otherwise return `Memory`: if memory runs out, or if the graph would have more than 2^32 - 1 paths. After
     /// an error the collector has failed. After `Ok` this visitor ends with what the nested one leaves; nothing else
     /// of it changes.
     ///
@@ -83,7 +83,7 @@ impl Visitor<'_> {
     }
 
     /// Enters inline with a declared size: one more entry of `size` bytes under the key, and a nested visitor
-    /// at it. Where there is no size the call returns `TooLarge`; all else is as in `enter`.
+    /// at it. If there is no size the call returns `TooLarge`; all else is as in `enter`.
     #[inline(always)]
     pub fn enter_sized(&mut self, key: Key, size: Option<usize>) -> Result<Visitor<'_>, Refusal>
         ensures* lent { sem 𝓛 (LendsNested false key size self.entry result) }
@@ -93,7 +93,7 @@ impl Visitor<'_> {
         by_hand::collector_of(self).enter_sized(key, size)
     }
 
-    /// Enters inline with the declared name and size of `T`. Where there is no size the call returns
+    /// Enters inline with the declared name and size of `T`. If there is no size the call returns
     /// `TooLarge`; all else is as in `enter`.
     #[inline(always)]
     pub fn enter_self_sized<T: Described>(&mut self) -> Result<Visitor<'_>, Refusal>
@@ -117,12 +117,12 @@ impl Visitor<'_> {
     /// One more pointer of `size` bytes to the shared value with the identity `id`.
     ///
     /// A flame graph's collector returns a visitor at the value's content, whose paths start at the root,
-    /// exactly where the identity was not met before, and `None` where it was. The collector of held bytes
+    /// exactly if the identity was not met before, and `None` if it was. The collector of held bytes
     /// always returns `None`, and adds nothing. That of owned bytes adds the pointer, and returns `None`, or
     /// `TooLarge` if the sum does not fit.
     ///
     /// A collector that has failed returns its first cause. Otherwise a flame graph's collector returns
-    /// `TooLarge` exactly where the bound would be exceeded, which is tested before the identity is looked up,
+    /// `TooLarge` exactly if the bound would be exceeded, which is tested before the identity is looked up,
     /// and may otherwise return `Memory`. After an error the collector has failed. After `Some` this visitor
     /// ends with what the visitor at the content leaves; nothing else of it changes.
     ///
@@ -166,7 +166,7 @@ impl Visitor<'_> {
         self.collector.enter_simple(key, Some(size))
     }
 
-    /// What an object shows. This is the only call through the `dyn`, whose clauses callers cite. It is exact where the
+    /// What an object shows. This is the only call through the `dyn`, whose clauses callers cite. It is exact if the
     /// type of the object is.
     pub(crate) fn visit_object(&mut self, object: &dyn Allocative) -> Result<(), Refusal>
         ensures entered { Entered (⟦<dyn Allocative as Allocative>⟧ object.now.0).is_exact
@@ -180,7 +180,7 @@ impl Visitor<'_> {
         Ok(())
     }
 
-    /// What a value of a known type shows. It is exact where the type is.
+    /// What a value of a known type shows. It is exact if the type is.
     pub(crate) fn visit_value<T: Allocative>(&mut self, value: &T) -> Result<(), Refusal>
         ensures entered { Entered T.is_exact (T.may_show value.now) self.old self.new result }
         ensures visited { WasVisited (T.may_show value.now) (T.effect value.now)

@@ -47,7 +47,7 @@ module _ (ns : List Shape) (ok : IsArena ns) (p : ℕ) (hp : p < length ns) (k :
       let before = ok.parents (suc i) (omega arith) hi in
       (record { not_root = omega arith; in_range = hi; parent = distinct ns ok (parent_at ns (suc i)) p (omega arith) hp parts.0 }, parts.1)
 
-  -- a child of p has the key where a path begins with p's and the key
+  -- a child of p has the key if a path begins with p's and the key
   pub on_way : (n i : ℕ) → i < n → i < length ns → (q : Path) → path_at (sums ns) i ≡ path_at (sums ns) p ++ k ∷ q → (a : ℕ) × (a < length (keys_at ns p)) × (key_in (keys_at ns p) a ≡ k)
   on_way zero i lt hi q e = absurd (omega arith)
   on_way (suc n) zero lt hi q e = absurd (not_nil _ _ _ (sym e ∙ root_at ns))

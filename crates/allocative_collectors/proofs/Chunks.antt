@@ -1,4 +1,4 @@
--- Numbers in chunks as one list: reads, a number that is put in, a chunk that is cut in two, and what a search of the chunks finds.
+-- Numbers in chunks as one list: reads, a number that is put in, a chunk that is cut in two, and what a search finds.
 use Rattle.std.proofs.Common.{◌≡◌, ℕ, zero, suc, ◌+◌, ◌-◌, ◌<◌, ◌≤◌, List, [], ◌∷◌, ◌++◌, length, length-append, get_or, set, take, map, refl, sym, ap, subst₂, ◌∙◌, arith, inl, inr, append_assoc, append-nil}
 use Rattle.allocative_collectors.proofs.Common.{Less, Key, key_cmp, key_in, KeysRise, IsKeyGap}
 use Rattle.std.specs.List.{insert}
@@ -12,33 +12,40 @@ use Rattle.allocative_collectors.specs.Chunked.{numbers_in, flat, before, chunk_
 use Rattle.allocative_collectors.proofs.Searched.{smaller_up_to, greater_from}
 
 -- ---- how many numbers stand before a chunk
+-- If there is a chunk i, `chunk_at` has its numbers.
 pub chunk_is : (cs : List Chunk) (i : ℕ) (e : Chunk) → i < length cs → chunk_at cs i ≡ numbers_in (get_or cs i e)
 chunk_is [] i e h = absurd (omega arith)
 chunk_is (c ∷ cs) zero e h = refl
 chunk_is (c ∷ cs) (suc i) e h = chunk_is cs i e (omega arith)
 
+-- If there is no chunk i, `chunk_at` has no numbers.
 no_chunk : (cs : List Chunk) (i : ℕ) → length cs ≤ i → chunk_at cs i ≡ []
 no_chunk [] i h = refl
 no_chunk (c ∷ cs) zero h = absurd (omega arith)
 no_chunk (c ∷ cs) (suc i) h = no_chunk cs i (omega arith)
 
+-- The numbers before chunk i + 1 are those of the first chunk and those before chunk i of the rest.
 before_suc : (c : Chunk) (cs : List Chunk) (i : ℕ) → before (c ∷ cs) (suc i) ≡ length (numbers_in c) + before cs i
 before_suc c cs i = length-append (numbers_in c) (flat (take i cs))
 
+-- If there is a chunk i, the numbers before the next chunk are those before chunk i and its own.
 pub before_more : (cs : List Chunk) (i : ℕ) → i < length cs → before cs (suc i) ≡ before cs i + length (chunk_at cs i)
 before_more [] i h = absurd (omega arith)
 before_more (c ∷ cs) zero h = omega (arith, before_suc c cs 0)
 before_more (c ∷ cs) (suc i) h = omega (arith, before_suc c cs (suc i), before_suc c cs i, before_more cs i (omega arith))
 
+-- All numbers come before a place behind the last chunk.
 pub before_all : (cs : List Chunk) (i : ℕ) → length cs ≤ i → before cs i ≡ length (flat cs)
 before_all cs i h = ap (λ (l : List Chunk). length (flat l)) (take_all i cs h)
 
+-- If i is less than j, and there are at least j chunks, fewer numbers come before chunk i than before chunk j.
 before_rises : (cs : List Chunk) (i j : ℕ) → i < j → j ≤ length cs → before cs i < before cs j
 before_rises [] i j lt h = absurd (omega arith)
 before_rises (c ∷ cs) i zero lt h = absurd (omega arith)
 before_rises (c ∷ cs) zero (suc j) lt h = omega (arith, before_suc c cs j)
 before_rises (c ∷ cs) (suc i) (suc j) lt h = omega (arith, before_suc c cs i, before_suc c cs j, before_rises cs i j (omega arith) (omega arith))
 
+-- No more numbers come before a chunk than there are in all.
 before_within : (cs : List Chunk) (i : ℕ) → before cs i ≤ length (flat cs)
 before_within [] zero = omega arith
 before_within [] (suc i) = omega arith
@@ -56,6 +63,7 @@ kept_in [] i new h is = absurd (omega arith)
 kept_in (c ∷ cs) zero new h is = ap (λ (l : List ℕ). l ++ flat cs) is
 kept_in (c ∷ cs) (suc i) new h is = ap (λ (l : List ℕ). numbers_in c ++ l) (kept_in cs i new (omega arith) is)
 
+-- Putting a number at place j of chunk i puts it j places after the numbers before that chunk.
 pub put_in : (cs : List Chunk) (i j x : ℕ) (new : Chunk) → i < length cs → j ≤ length (chunk_at cs i) → numbers_in new ≡ insert (chunk_at cs i) j x → flat (set cs i new) ≡ insert (flat cs) (before cs i + j) x
 put_in [] i j x new h le is = absurd (omega arith)
 put_in (c ∷ cs) zero j x new h le is =
@@ -84,6 +92,7 @@ cut_in (c ∷ cs) zero lower upper h is = sym (append_assoc (numbers_in lower) (
 cut_in (c ∷ cs) (suc i) lower upper h is = ap (λ (l : List ℕ). numbers_in c ++ l) (cut_in cs i lower upper (omega arith) is)
 
 -- ---- keys
+-- If there is a number, there is a chunk.
 some_chunk : (cs : List Chunk) → 0 < length (flat cs) → 0 < length cs
 some_chunk [] h = absurd (omega arith)
 some_chunk (c ∷ cs) h = omega arith

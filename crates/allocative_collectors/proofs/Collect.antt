@@ -1,4 +1,5 @@
--- The parts of a flame graph's collector after each step: an entry, a visitor that is entered or left, an identity that is met.
+-- The parts of a flame graph's collector after each step: an entry, a visitor that is entered or left, an identity
+-- that is met.
 use Rattle.std.proofs.Common.{◌≡◌, ℕ, pred, ◌+◌, ◌^◌, ◌<◌, Bool, true, false, cond, not, ◌||◌, ◌&&◌, ◌==◌, List, [], ◌∷◌, ◌++◌, map, reverse, length, refl, sym, ap, ◌∙◌, arith, length-append}
 use Rattle.allocative_collectors.proofs.Common.{contains, Key, Path, Live, go, leave_live, enter_live, Listed, path_at, map_of, live, IsPlaced}
 use Rattle.std.specs.List.{list_any}
@@ -20,12 +21,15 @@ use Rattle.allocative_collectors.proofs.Keys.{map_same}
 abbrev is_equal : Identity → Identity → Bool
 is_equal i j = i.maker == j.maker && i.number == j.number
 
+-- Both parts of two identities are equal exactly if the identities are the same.
 one_identity : (i j : Identity) → is_equal i j ≡ is_same_identity i j
 one_identity i j = grind (arith, nat_tests)
 
+-- An identity equals one of a list exactly if the set of the list contains it.
 among : (is : List Identity) (q : Identity) → list_any (is_equal q) is ≡ contains (from_list {R = identity_cmp} is) q
 among is q = (λ k. list_any (λ i. one_identity q i k) is) ∙ sym (contains-from_list identity_total is q)
 
+-- True if t holds, and otherwise b, is the same as `t || b`.
 one_more : (t b : Bool) → cond t true b ≡ (t || b)
 one_more t b = grind (arith, nat_tests)
 
@@ -35,10 +39,12 @@ met_more old new i more = same_set identity_total identity_antisymmetric _ _ (λ
     sym (among new q) ∙ (more q ∙ (one_more (is_equal i q) (list_any (is_equal q) old)
     ∙ ((λ k. (one_identity i q ∙ same_identity_turned i q) k || among old q k) ∙ sym (contains-insert identity_total (from_list old) i q)))))
 
+-- If `new` says whether a list lacks i, the set of the list contains i exactly if `new` is false.
 pub met_is : (ks : List Identity) (i : Identity) (new : Bool) → new ≡ not (list_any (is_equal i) ks) → contains (from_list {R = identity_cmp} ks) i ≡ not new
 met_is ks i new e = sym (among ks i) ∙ grind arith
 
 -- ---- going down and back
+-- Above a path with one more key are the path itself and then the paths above it.
 outside_push : (p : Path) (k : Key) → outside (p ++ k ∷ []) ≡ p ∷ outside p
 outside_push [] k = refl
 outside_push (x ∷ p) k = ap (λ (l : List Path). map (λ (q : Path). x ∷ q) l ++ [] ∷ []) (outside_push p k)
@@ -76,7 +82,7 @@ gone_in t met now current places rooted i root one_new =
     ∙ (λ j. go (root j) (record (live t met current places rooted) { met = one_new j }))
 
 -- ---- no visitor is open
--- where there is no path to go back to
+-- If there is no path to go back to, the current one is the root, and no content and no root visitor is open.
 none_back : (p : Path) (ps : List Path) (rooted : Bool) → length (outside p ++ back_from ps (to_root rooted)) ≡ 0 → (p ≡ []) × (length ps ≡ 0) × (rooted ≡ false)
 none_back [] [] true e = absurd (omega arith)
 none_back [] [] false e = (refl, refl, refl)
@@ -105,6 +111,7 @@ module _ (t : Listed) (current : ℕ) (places : List ℕ) (rooted : Bool) where
       ∙ (ap (λ (l : List ℕ). back_from (reverse (map (path_at t) l)) (to_root rooted)) o.no_place ∙ ap to_root o.no_visitor)
 
 -- ---- a whole step
+-- Adding an entry to the sums and going down to its path is the same as entering it.
 pub enter_is : (u : Bool) (k : Key) (n : ℕ) (c : Live) → go (c.here ++ k ∷ []) (record c { sums = bag.add c.sums (record { path = c.here ++ k ∷ []; size = n; mark = mark_of u }) }) ≡ enter_live u k n c
 enter_is true k n c = refl
 enter_is false k n c = refl

@@ -19,6 +19,7 @@ use Rattle.allocative_graph.proofs.Below.{below-add}
 use Rattle.allocative_graph.proofs.Merge.{get-graph, get-graph-root}
 use Rattle.allocative_collectors.proofs.Keys.{same_path-same, same_path-apart}
 
+-- One more entry adds its bytes to the total.
 total_put : (i : ℕ) (p : Path) (n : ℕ) (u : Bool) (s : Listed) → total (put i p n u s) ≡ total s + n
 total_put i p n u [] = omega (arith, sum_by-cons (λ (e : Sum). e.bytes) (record { path = p; bytes = n; is_unique = u }) [])
 total_put zero p n u (e ∷ s) = omega (arith, sum_by-cons (λ (s : Sum). s.bytes) e s, sum_by-cons (λ (s : Sum). s.bytes) (raise n u e) s)
@@ -32,6 +33,7 @@ path_put zero p n u (e ∷ s) (suc j) h = refl
 path_put (suc i) p n u (e ∷ s) zero h = refl
 path_put (suc i) p n u (e ∷ s) (suc j) h = path_put i p n u s j (omega arith)
 
+-- One more entry makes the list longer by one place or leaves its length.
 length_put : (i : ℕ) (p : Path) (n : ℕ) (u : Bool) (s : Listed) → (length s ≤ length (put i p n u s)) × (length (put i p n u s) ≤ length s + 1)
 length_put i p n u [] = (omega arith, omega arith)
 length_put zero p n u (e ∷ s) = (omega arith, omega arith)
@@ -77,9 +79,11 @@ module _ {old new : Listed} {at : ℕ} {k : Key} {n : ℕ} {u : Bool} {i : ℕ} 
   pub path_entered : (j : ℕ) → j < length old → path_at new j ≡ path_at old j
   path_entered j h = ap (λ (s : Listed). path_at s j) entered.sums ∙ path_put i (path_at old at ++ k ∷ []) n u old j h
 
+-- What the map has at a path is what a search of the rows finds there.
 get-map_of : (s : Listed) (q : Path) → get (map_of s) q ≡ find path_cmp q (rows s)
 get-map_of s q = get-from_entries path_total (rows s) q
 
+-- If r + 1 equals e + 1, r equals e.
 tail_apart : (r e : ℕ) → suc r ≡ suc e → r ≡ e
 tail_apart r e w = omega arith
 
@@ -87,6 +91,7 @@ tail_apart r e w = omega arith
 abbrev new_node : ℕ → Bool → Node
 new_node n u = record { bytes = n; is_unique = u }
 
+-- After an entry at the only place of p, a search finds it added at p, and finds no change at other paths.
 find-put : (i : ℕ) (p q : Path) (n : ℕ) (u : Bool) (s : Listed) → path_at (put i p n u s) i ≡ p → ((j : ℕ) → j < length s → path_at s j ≡ p → j ≡ i) → find path_cmp q (map row (put i p n u s)) ≡ cond (is_same_path q p) (Some (together (find path_cmp p (map row s)) (new_node n u))) (find path_cmp q (map row s))
 find-put i p q n u [] is sole = refl
 find-put zero p q n u (e ∷ s) is sole =
@@ -108,6 +113,7 @@ find-put (suc i) p q n u (e ∷ s) is sole =
 abbrev pub mark_of : Bool → Mark
 mark_of u = cond u AsUnique AsInline
 
+-- The mark made from u is unique exactly if u is true.
 mark_is : (u : Bool) → is_unique_mark (mark_of u) ≡ u
 mark_is true = refl
 mark_is false = refl
@@ -133,6 +139,7 @@ map_of-entered {old} {at = at} {k = k} {n = n} {u = u} {i = i} entered some =
 abbrev pub Distinct : Listed → Type 0
 Distinct s = (i j : ℕ) → i < length s → j < length s → path_at s i ≡ path_at s j → i ≡ j
 
+-- If all paths of a list differ, so do those after the first.
 tail_distinct : (e : Sum) (s : Listed) → Distinct (e ∷ s) → Distinct s
 tail_distinct e s apart a b ha hb w = tail_apart a b (apart (suc a) (suc b) (omega arith) (omega arith) w)
 
@@ -142,10 +149,12 @@ pub record IsListing (s : Listed) : Type 0 where
   pub root_bytes : (let e = sum_at s 0 in e.bytes) ≡ 0
   pub apart : Distinct s
 
+-- If no place of a list has the path q, a search of its rows for q finds nothing.
 find_none : (q : Path) (s : Listed) → ((i : ℕ) → i < length s → path_at s i ≢ q) → find path_cmp q (map row s) ≡ None
 find_none q [] other = refl
 find_none q (e ∷ s) other = cond-false (is_same_path q e.path) _ _ (same_path-apart q e.path (λ w. other 0 (omega arith) (sym w))) ∙ find_none q s (λ i h. other (suc i) (omega arith))
 
+-- If all paths of a list differ, a search for the path of place i finds what was entered at place i.
 find_at : (s : Listed) → Distinct s → (i : ℕ) → i < length s → find path_cmp (path_at s i) (map row s) ≡ Some (row (sum_at s i)).1
 find_at [] apart i h = absurd (omega arith)
 find_at (e ∷ s) apart zero h = cond-true (is_same_path e.path e.path) _ _ (same_path-same e.path e.path refl)
@@ -154,23 +163,28 @@ find_at (e ∷ s) apart (suc i) h =
     ∙ find_at s (tail_distinct e s apart) i (omega arith)
 
 -- ---- what the map has
+-- At the path of each place but the root's, the map has what was entered there.
 pub get_at : (s : Listed) → IsListing s → (i : ℕ) → 0 < i → i < length s → get (map_of s) (path_at s i) ≡ Some (row (sum_at s i)).1
 get_at [] ok i pos h = absurd (omega arith)
 get_at (r ∷ s) ok zero pos h = absurd (omega arith)
 get_at (r ∷ s) ok (suc i) pos h = get-map_of (r ∷ s) (path_at s i) ∙ find_at s (tail_distinct r s ok.apart) i (omega arith)
 
+-- If no place but the root's has the path q, the map has nothing at q.
 pub get_none : (s : Listed) → (q : Path) → ((i : ℕ) → 0 < i → i < length s → path_at s i ≢ q) → get (map_of s) q ≡ None
 get_none [] q other = get-map_of [] q
 get_none (r ∷ s) q other = get-map_of (r ∷ s) q ∙ find_none q s (λ i h. other (suc i) (omega arith) (omega arith))
 
 -- ---- the graph
+-- If a path has 0 bytes, it keeps 0, whether it is unique or not.
 pub nothing_left : (u : Bool) (n b : ℕ) → n ≡ 0 → cond u n (n - b) ≡ 0
 nothing_left u n b e = grind (arith, nat_tests)
 
+-- At each path but the root, the graph has what remains of the bytes that the map has there.
 graph_get : (m : Sums) (q : Path) → q ≢ [] → get (graph m) q ≡ option_map (remaining m q) (get m q)
 graph_get m [] other = absurd (other refl)
 graph_get m (k ∷ q) other = get-graph m k q
 
+-- At the path of each place, the graph has the size of the place.
 pub graph_hit : (s : Listed) → IsListing s → (i : ℕ) → i < length s → get (graph (map_of s)) (path_at s i) ≡ Some (size_at_place s i)
 graph_hit s ok zero h =
     ap (get (graph (map_of s))) ok.root_path ∙ get-graph-root (map_of s)
@@ -179,6 +193,7 @@ graph_hit s ok (suc i) h =
     let p = path_at s (suc i) in
     graph_get (map_of s) p (λ w. (let same = ok.apart (suc i) 0 h ok.rooted (w ∙ sym ok.root_path) in omega arith)) ∙ ap (option_map (remaining (map_of s) p)) (get_at s ok (suc i) (omega arith) h)
 
+-- If no place has the path q, the graph has nothing at q.
 pub graph_none : (s : Listed) → IsListing s → (q : Path) → ((i : ℕ) → i < length s → path_at s i ≢ q) → get (graph (map_of s)) q ≡ None
 graph_none s ok q other = graph_get (map_of s) q (λ w. other 0 ok.rooted (ok.root_path ∙ sym w)) ∙ ap (option_map (remaining (map_of s) q)) (get_none s q (λ i pos. other i))
 
@@ -194,6 +209,7 @@ below_rows (e ∷ s) apart p =
     let rest = below_rows s (tail_distinct e s apart) p in
     ap (λ (m : Sums). bag.below m p) added ∙ (below-add (from_entries (map row s)) entry p ∙ omega (arith, sum_by-cons (λ (x : Sum). cond (is_one_below p x.path) x.bytes 0) e s))
 
+-- The root is one key below no path.
 pub not_below_root : (p : Path) → is_one_below p [] ≡ false
 not_below_root [] = refl
 not_below_root (k ∷ p) = refl

@@ -1,4 +1,4 @@
--- Keys are in a total order, in which only equal ones tie; tests of paths against equations; and the keys of numbered nodes.
+-- Keys are in a total order, in which only equal ones tie; tests and equations of paths; the keys of numbered nodes.
 use Rattle.std.proofs.Common.{◌≡◌, true, false, ◌&&◌, refl, sym, subst, ℕ, zero, suc, set, inl, inr, ◌+◌, ◌-◌, ◌<◌, ◌≤◌, List, [], ◌∷◌, ◌++◌, length, map, get_or, drop, take, ◌∙◌, arith}
 use Rattle.allocative_collectors.proofs.Common.{Ordering, Less, Equal, Greater, is_eq, ordering_then, Key, Path, key_cmp, is_same_path, Shape, no_shape, at, key_at, keys_of, StandsIn}
 use Rattle.std.specs.Cmp.{IsTotalOrder}
@@ -10,15 +10,19 @@ use Rattle.std.specs.List.{insert}
 use Rattle.std.proofs.lemmas.List.{map-append, take-map, drop-map}
 use Rattle.std.proofs.lemmas.List.Edits.{length-insert, get_or-insert_below, get_or-insert_above}
 
+-- The order of keys is total.
 pub key_total : IsTotalOrder key_cmp
 key_total = lists_total nat_cmp_total
 
+-- If two keys tie, they are equal.
 pub key_same : (k l : Key) → key_cmp k l ≡ Equal → k ≡ l
 key_same = slice_cmp-IsAntisymmetric nat_cmp-IsAntisymmetric
 
+-- If two paths are equal, the test for the same path holds.
 pub same_path-same : (p q : Path) → p ≡ q → is_same_path p q ≡ true
 same_path-same p q e = rw (← e) (same_path_itself p)
 
+-- If two paths differ, the test for the same path fails.
 pub same_path-apart : (p q : Path) → (p ≡ q → ⊥) → is_same_path p q ≡ false
 same_path-apart p q ne = false_from_ne_true _ (λ e. ne (same_path p q e))
 
@@ -29,7 +33,7 @@ key_not_before k l e less =
     let before : key_cmp k k ≡ Less = subst (λ x. key_cmp k x ≡ Less) (sym e) less in
     cc
 
--- two parts tie where both do
+-- two comparisons, one after another, tie exactly if both do
 pub tied : (o r : Ordering) → (is_eq o && is_eq r) ≡ is_eq (ordering_then o r)
 tied Less r = refl
 tied Equal r = refl
@@ -40,6 +44,7 @@ pub map_same : {X : Type 0} (f g : ℕ → X) (xs : List ℕ) → ((j : ℕ) →
 map_same f g [] same = refl
 map_same f g (x ∷ xs) same = λ i. same 0 (omega arith) i ∷ map_same f g xs (λ j h. same (suc j) (omega arith)) i
 
+-- If the number of a node is put at place g, the node's key is put at place g of the keys.
 pub keys_of-insert : (ns : List Shape) (xs : List ℕ) (g i : ℕ) → keys_of ns (insert xs g i) ≡ insert (keys_of ns xs) g (key_at ns i)
 keys_of-insert ns xs g i = map-append (key_at ns) (take g xs) (i ∷ drop g xs) ∙ (λ j. sym (take-map (key_at ns) g xs) j ++ key_at ns i ∷ sym (drop-map (key_at ns) g xs) j)
 

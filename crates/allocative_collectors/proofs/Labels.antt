@@ -25,12 +25,13 @@ put_push (suc i) q n u (x ∷ s) e = ap (λ (t : Listed). x ∷ t) (put_push i q
 abbrev pub path_of : Sum → Path
 path_of e = e.path
 
--- ---- the nodes ns, where ps are the paths of the nodes before them
+-- ---- the nodes ns, if ps are the paths of the nodes before them
 -- the sums have a place for each node
 length-grow : (ps : List Path) (ns : List Shape) → length (grow ps ns) ≡ length ns
 length-grow ps [] = refl
 length-grow ps (n ∷ ns) = ap suc (length-grow (ps ++ path_of (sum_from ps n) ∷ []) ns)
 
+-- If there is a node before it, the path of a node is its parent's path with the node's key.
 pub path_from-some : (ps : List Path) (i : ℕ) (k : Key) → 0 < length ps → path_from ps i k ≡ get_or ps i [] ++ k ∷ []
 path_from-some [] i k some = absurd (omega arith)
 path_from-some (p ∷ ps) i k some = refl
@@ -74,6 +75,7 @@ grow_same ps [] i m e = refl
 grow_same ps (n ∷ ns) zero m e = λ k. grow ps (e k ∷ ns)
 grow_same ps (n ∷ ns) (suc i) m e = ap (λ (t : Listed). sum_from ps n ∷ t) (grow_same (ps ++ path_of (sum_from ps n) ∷ []) ns i m e)
 
+-- The bytes of the sums of some nodes add up to the bytes of the nodes.
 pub total-grow : (ps : List Path) (ns : List Shape) → total (grow ps ns) ≡ sum_by (λ (n : Shape). n.bytes) ns
 total-grow ps [] = refl
 total-grow ps (n ∷ ns) =
@@ -81,9 +83,11 @@ total-grow ps (n ∷ ns) =
     omega (arith, total-grow more ns, sum_by-cons (λ (s : Sum). s.bytes) (sum_from ps n) (grow more ns), sum_by-cons (λ (m : Shape). m.bytes) n ns)
 
 -- ---- all nodes
+-- There are as many sums as nodes.
 pub length_sums : (ns : List Shape) → length (sums ns) ≡ length ns
 length_sums = length-grow []
 
+-- The path at place 0 is the root.
 pub root_at : (ns : List Shape) → path_at (sums ns) 0 ≡ []
 root_at [] = refl
 root_at (n ∷ ns) = refl

@@ -1,4 +1,5 @@
--- What the walk of `make` has passed behind a node's path, child by child: the rows of the map, and the graph that it has made.
+-- What the walk of `make` has passed behind a node's path, child by child: the rows of the map, and the graph that it
+-- has made.
 use Rattle.std.proofs.Common.{◌≡◌, ◌≢◌, ℕ, zero, suc, ◌<◌, ◌≤◌, Bool, true, false, cond, T, ◌&&◌, ◌||◌, List, [], ◌∷◌, ◌++◌, length, Option, Some, None, refl, sym, ap, subst, ◌∙◌, arith, inl, inr, true≢false, append_assoc, ◌+◌, map, flat_map, get_or, unwrap_or, sum_by, append-nil, add-zero, zero-add}
 use Rattle.allocative_collectors.proofs.Common.{Ordering, Less, is_eq, is_lt, ordering_then, Key, Path, key_cmp, path_cmp, key_in, KeysRise, is_same_path, is_one_below, Sums, Graph, graph, sum_of, under, default, add_self, get, entries, shape, sums_of, IsTree, Listed, row, sum_at, path_at, map_of, below, entered, sums, children_at, keys_at, IsArena, Shape, size_at_place, ordering_reverse}
 use Rattle.std.specs.FinMap.{FinMap, entries_sorted, find, get-entries, get-insert}
@@ -30,9 +31,11 @@ use Rattle.allocative_collectors.proofs.NodeReads.{length_nodes, in_shapes, chil
 abbrev same_key : Key → Key → Bool
 same_key k l = is_eq (key_cmp k l)
 
+-- If two keys are equal, the test for the same key holds.
 same_key-same : (k l : Key) → k ≡ l → same_key k l ≡ true
 same_key-same k l e = rw (← e) (ap is_eq (tied_itself key_total k))
 
+-- If the test for the same key holds, the keys are equal.
 same_key_is : (k l : Key) → same_key k l ≡ true → k ≡ l
 same_key_is k l h = key_same k l (is_eq-Equal (key_cmp k l) h)
 
@@ -41,6 +44,7 @@ abbrev among : List Key → ℕ → Key → Bool
 among ks zero l = false
 among ks (suc j) l = among ks j l || same_key l (key_in ks j)
 
+-- The key at a place before j is among the first j keys.
 among_at : (ks : List Key) (a j : ℕ) (l : Key) → a < j → key_in ks a ≡ l → among ks j l ≡ true
 among_at ks a zero l h e = absurd (omega arith)
 among_at ks a (suc j) l h e = elim (cases_eq a j) [
@@ -48,6 +52,7 @@ among_at ks a (suc j) l h e = elim (cases_eq a j) [
   | inr other ↦ or_left _ _ (among_at ks a j l (omega arith) e)
 ]
 
+-- If keys rise, one of the first j keys comes before the key at any place from j on.
 among_before : (ks : List Key) → KeysRise ks → (i j : ℕ) (l : Key) → i < length ks → j ≤ i → among ks j l ≡ true → key_cmp l (key_in ks i) ≡ Less
 among_before ks rise i zero l hi le h = absurd (true≢false (sym h))
 among_before ks rise i (suc j) l hi le h = elim (or_cases (among ks j l) _ h) [
@@ -61,7 +66,7 @@ abbrev pub begun : List Key → ℕ → Path → Bool
 begun ks j [] = true
 begun ks j (l ∷ q) = among ks j l
 
--- a change of the test changes nothing where no path behind p is affected
+-- a change of the test changes nothing if no path behind p is affected
 behind_same : {X : Type 0} (p : Path) (t u : Path → Bool) (f : Path → Option X) → ((r : Path) → cond (t r) (f (p ++ r)) None ≡ cond (u r) (f (p ++ r)) None) → (q : Path)
     → cond (behind p t q) (f q) None ≡ cond (behind p u q) (f q) None
 behind_same [] t u f same q = same q
@@ -71,6 +76,7 @@ behind_same (k ∷ p) t u f same (l ∷ q) = elim (cases_Bool (same_key l k)) [
   | inr e ↦ rw e refl
 ]
 
+-- Before the first child, the walk has passed only the path p itself.
 behind_own : (p : Path) (ks : List Key) (q : Path) → behind p (begun ks 0) q ≡ is_same_path q p
 behind_own [] ks [] = refl
 behind_own [] ks (l ∷ q) = refl
@@ -100,10 +106,12 @@ module _ (ks : List Key) (rise : KeysRise ks) (j : ℕ) (hj : j < length ks) whe
       rw (same_key_is l k x.0, same_key_is m k y.0, tied_itself key_total k) (passed_before p a b x.1 y.1)
 
 -- ---- rows in the order of paths
+-- If `a && b` holds, both a and b hold.
 both_parts : (a b : Bool) → T (a && b) → T a × T b
 both_parts true b h = (tt, h)
 both_parts false b h = absurd h
 
+-- If p comes before q, q does not come before p.
 not_before : (p q : Path) → path_cmp p q ≡ Less → T (is_lt (path_cmp q p)) → ⊥
 not_before p q less h = subst (λ (o : Ordering). T (is_lt o)) (path_total.antisymm q p ∙ ap ordering_reverse less) h
 
@@ -125,7 +133,7 @@ module _ {X : Type 0} where
       let parts = both_parts (is_lt (path_cmp p e.0)) _ below in
       rw (false_from_ne_true (t e.0) (λ hit. not_before e.0 p (before e.0 p hit h) parts.0)) (none_kept t u p es before h parts.1)
 
-  -- rows that pass one of two tests, where those that pass the first are before those that pass the second
+  -- rows that pass one of two tests, if those that pass the first are before those that pass the second
   kept_both : (t u v : Path → Bool) → ((q : Path) → v q ≡ (t q || u q)) → ((a b : Path) → t a ≡ true → u b ≡ true → path_cmp a b ≡ Less) → (es : List (Path × X)) → T (is_sorted path_cmp es)
       → kept v es ≡ kept t es ++ kept u es
   kept_both t u v both before [] s = refl
@@ -143,7 +151,7 @@ module _ {X : Type 0} where
       ]
 
 -- ---- the rows of a map
--- the rows behind p, where the test passes other paths but no other of the map
+-- the rows behind p stay the same if the test passes other paths but no other of the map
 rows_same : {X : Type 0} (m : FinMap path_cmp X) (p : Path) (t u : Path → Bool) → ((r : Path) → cond (t r) (get m (p ++ r)) None ≡ cond (u r) (get m (p ++ r)) None)
     → kept (behind p t) (entries m) ≡ kept (behind p u) (entries m)
 rows_same m p t u same = kept_are (behind p t) m (kept (behind p u) (entries m)) (is_sorted-where_key path_cmp (behind p u) (entries m) (entries_sorted m))
@@ -164,16 +172,19 @@ module _ {X : Type 0} (m : FinMap path_cmp X) (p : Path) (ks : List Key) where
   ]))
 
 -- ---- sizes
+-- The graph that has only the root has a total of 0.
 pub total-default : total default ≡ 0
 total-default = ap (sum_by (λ e. e.1)) (entries-from_entries-sorted (([], 0) ∷ []) tt)
 
 abbrev size_in : Listed → Path × Node → ℕ
 size_in s e = remaining (map_of s) e.0 e.1
 
+-- A size to which none is added stays the same.
 with_none : (x : Option ℕ) → sizes_together x None ≡ x
 with_none None = refl
 with_none (Some n) = ap Some (add-zero n)
 
+-- A size that is added to none stays the same.
 none_with : (x : Option ℕ) → sizes_together None x ≡ x
 none_with None = refl
 none_with (Some n) = ap Some (zero-add n)
@@ -198,6 +209,7 @@ pub below_fits : (m : Sums) (p : Path) → below m p ≤ entered m
 below_fits m p = sum_by-le-sum_by (λ e. cond (is_one_below p e.0) e.1.bytes 0) (λ (e : Path × Node). e.1.bytes) (entries m)
     (λ e. cond_both (is_one_below p e.0) e.1.bytes 0 (λ (n : ℕ). n ≤ e.1.bytes) (λ _. omega arith) (λ _. omega arith))
 
+-- A graph of a part has at most the bytes of all entries.
 pub part_fits : {s : Listed} {p : Path} {t : Path → Bool} {w w' : List Warned} {g : Graph} → MakesPart s p t w w' g → total g ≤ entered (map_of s)
 part_fits {s} {p} {t} part = omega (arith, part.total_is, rows_fit s p t)
 
@@ -329,9 +341,10 @@ module _ (items : List nodes.Node) (ok : IsTree items) {v : Listed} (view : sums
       (subst (λ (e : Listed × ℕ). MakesPart e.0 (path_at e.0 p) (begun ks e.1) w w' g) (λ x. (sym view x, whole x)) part))
 
 -- ---- warnings
--- the warning of place i, where it has one
+-- the warning of place i, if it has one
 abbrev pub own_warning : Listed → ℕ → List Warned
 own_warning s i = let e = sum_at s i in record { path = e.path; self_size = e.bytes; children_size = below (map_of s) e.path } ∷ []
 
+-- If place i has no warning, its warnings add nothing to a list.
 pub none_warned : (s : Listed) (i : ℕ) (w : List Warned) → false ≡ is_short s i → w ≡ w ++ warned_at s i
 none_warned s i w e = sym (append-nil w) ∙ ap (λ (b : Bool). w ++ cond b (own_warning s i) []) e

@@ -1,4 +1,4 @@
--- What a read of a node says of the arena and of the sums: the bytes of its children are those one key below its path.
+-- What a read of a node says of the arena and the sums: the bytes of its children are those one key below its path.
 use Rattle.std.proofs.Common.{◌≡◌, ◌≢◌, ℕ, zero, suc, ◌<◌, Bool, false, not, ◌&&◌, List, [], ◌∷◌, ◌++◌, length, get_or, sum_by, refl, sym, ap, ◌∙◌, arith, inl, inr, cond, ltb, lt-ltb, ◌+◌, ◌≤◌, ◌||◌, map, set, subst, length-set, get_or-set_same, get_or-set_other}
 use Rattle.allocative_collectors.proofs.Common.{Key, Path, key_cmp, path_cmp, is_same_path, Sum, root_sum, sum_at, path_at, map_of, Shape, no_shape, at, sums, key_at, parent_at, bytes_at, IsArena, is_one_below, is_root, below, leaf, IsChild, keys_at, children_at, key_in, shape, sums_of, IsTree, Listed}
 use Rattle.std.specs.Ordering.{eq_by_cmp}
@@ -17,7 +17,7 @@ use Rattle.allocative_collectors.proofs.Keys.{key_not_before, key_total, same_pa
 use Rattle.allocative_collectors.proofs.Raised.{raised, bytes_le_total}
 use Rattle.allocative_collectors.proofs.Grown.{with_children, grown}
 
--- two sums are equal where their terms are
+-- two sums are equal if their terms are
 pub same_sum : {X Y : Type 0} (f : X → ℕ) (g : Y → ℕ) (d : X) (e : Y) (xs : List X) (ys : List Y) → length xs ≡ length ys → ((i : ℕ) → i < length xs → f (get_or xs i d) ≡ g (get_or ys i e)) → sum_by f xs ≡ sum_by g ys
 same_sum f g d e [] [] l same = refl
 same_sum f g d e [] (y ∷ ys) l same = absurd (omega arith)
@@ -27,6 +27,7 @@ same_sum f g d e (x ∷ xs) (y ∷ ys) l same =
     let first : f x ≡ g y = same 0 (omega arith) in
     omega (arith, sum_by-cons f x xs, sum_by-cons g y ys)
 
+-- The path q with one more key is one key below p exactly if q is p.
 step_push : (p q : Path) (k : Key) → is_one_below p (q ++ k ∷ []) ≡ is_same_path q p
 step_push [] [] k = refl
 step_push [] (l ∷ []) k = refl
@@ -34,6 +35,7 @@ step_push [] (l ∷ m ∷ q) k = refl
 step_push (j ∷ p) [] k = ap (λ (b : Bool). eq_by_cmp key_cmp j k && b) (not_below_root p) ∙ and-false (eq_by_cmp key_cmp j k)
 step_push (j ∷ p) (l ∷ q) k = (λ i. (eq_by_cmp_equiv key_total).symm j l i && step_push p q k i) ∙ tied (key_cmp l j) (path_cmp q p)
 
+-- The sums of an arena are a listing: the root comes first and has no bytes, and all paths differ.
 pub listing : (ns : List Shape) → IsArena ns → IsListing (sums ns)
 listing ns ok = record {
   rooted = omega (arith, length_sums ns, ok.rooted);
@@ -42,7 +44,7 @@ listing ns ok = record {
   apart = λ i j hi hj. distinct ns ok i j (omega (arith, length_sums ns)) (omega (arith, length_sums ns));
 }
 
--- numbers of a list that are all different, and the places of which alone have a size, have its whole sum
+-- If no item of a list has a size, the sizes add up to 0.
 all_zero : {X : Type 0} (f : X → ℕ) (d : X) (ys : List X) → ((i : ℕ) → i < length ys → f (get_or ys i d) ≡ 0) → sum_by f ys ≡ 0
 all_zero f d [] none = refl
 all_zero f d (y ∷ ys) none =
@@ -52,6 +54,7 @@ all_zero f d (y ∷ ys) none =
 abbrev Apart : List ℕ → Type 0
 Apart xs = (a b : ℕ) → a < b → b < length xs → get_or xs a 0 ≢ get_or xs b 0
 
+-- If the numbers differ, and only the items at them have sizes, these items have the whole sum.
 sum_at_numbers : {X : Type 0} (f : X → ℕ) (d : X) → f d ≡ 0 → (ys : List X) (xs : List ℕ) → ((a : ℕ) → a < length xs → get_or xs a 0 < length ys) → Apart xs
     → ((i : ℕ) → i < length ys → ((a : ℕ) → a < length xs → get_or xs a 0 ≢ i) → f (get_or ys i d) ≡ 0) → sum_by (λ i. f (get_or ys i d)) xs ≡ sum_by f ys
 sum_at_numbers f d none ys [] within apart others = sym (all_zero f d ys (λ i h. others i h (λ a lt. absurd (omega arith))))
@@ -77,7 +80,7 @@ module _ (ns : List Shape) (ok : IsArena ns) (i : ℕ) (hi : i < length ns) wher
   abbrev part : Sum → ℕ
   part e = cond (is_one_below (path_at (sums ns) i) e.path) e.bytes 0
 
-  -- a node other than the root has a part where its parent is i
+  -- a node other than the root has a part if its parent is i
   part_is : (j : ℕ) → 0 < j → j < length ns → part (sum_at (sums ns) j) ≡ cond (is_same_path (path_at (sums ns) (parent_at ns j)) (path_at (sums ns) i)) (bytes_at ns j) 0
   part_is j pos h =
       (λ k. cond (is_one_below (path_at (sums ns) i) (step ns ok j pos h k)) ((figures-grow [] ns j).0 k) 0)
@@ -106,6 +109,7 @@ module _ (ns : List Shape) (ok : IsArena ns) (i : ℕ) (hi : i < length ns) wher
       (λ j h absent. part_other j (omega (arith, length_sums ns)) (λ c. let s = ok.listed i j c in absent s.place s.in_range s.is))
       ∙ below_listed (sums ns) (listing ns ok) (path_at (sums ns) i))
 
+-- A path with one more key is not the root.
 is_root-push : (p : Path) (k : Key) → is_root (p ++ k ∷ []) ≡ false
 is_root-push [] k = refl
 is_root-push (l ∷ p) k = refl
@@ -154,9 +158,11 @@ module _ (items : List Node) where
   pub tree_of : {ns : List Shape} → map shape items ≡ ns → IsArena ns → IsTree items
   tree_of same ok = record { arena = subst IsArena (sym same) ok; size = length_nodes }
 
+-- The sums of a tree are a listing.
 pub listing_of : (items : List Node) → IsTree items → {v : Listed} → sums_of items ≡ v → IsListing v
 listing_of items ok view = subst IsListing view (listing (map shape items) ok.arena)
 
+-- If a node is replaced by one of the same shape, the nodes are still a tree.
 pub same_tree : (items : List Node) (i : ℕ) (n m : Node) → i < length items → n ≡ get_or items i n → shape m ≡ shape n → IsTree items → IsTree (set items i m)
 same_tree items i n m h read same ok = tree_of (set items i m) (same_shapes items i n m h read same) ok.arena
 

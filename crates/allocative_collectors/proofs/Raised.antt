@@ -12,6 +12,7 @@ use Rattle.allocative_collectors.proofs.Labels.{raise_shape, grow_raise, total-g
 abbrev pub raised : List Shape → ℕ → ℕ → Bool → List Shape
 raised ns i n u = set ns i (raise_shape n u (at ns i))
 
+-- The bytes of a node are at most the total of the sums.
 pub bytes_le_total : (ns : List Shape) (i : ℕ) → i < length ns → bytes_at ns i ≤ total (sums ns)
 bytes_le_total ns i h = rw (total-grow [] ns) (get_or-le-sum_by (λ (n : Shape). n.bytes) ns i no_shape h)
 

@@ -1,4 +1,4 @@
--- What a comparison with one key says of the others, where keys rise, and what a binary search finds.
+-- What a comparison with one key says of the others, if keys rise, and what a binary search finds.
 use Rattle.std.proofs.Common.{◌≡◌, ℕ, zero, suc, true, refl, ◌+◌, ◌<◌, ◌≤◌, List, [], ◌∷◌, length, get_or, map, Result, Ok, Err, IfOk, IfErr, ap, subst₂, ◌∙◌, arith, inl, inr}
 use Rattle.allocative_collectors.proofs.Common.{Ordering, Less, Equal, Greater, is_lt, ordering_reverse, Key, key_cmp, key_in, KeysRise, IsKeyGap}
 use Rattle.std.specs.List.Sorted.{IsSearchInRange, IsBinarySearchResult, IsSortedBy}
@@ -7,6 +7,7 @@ use Rattle.std.proofs.lemmas.List.{get_or-map, length-map}
 use Rattle.std.proofs.lemmas.List.Sorted.{searchable_from_sorted}
 use Rattle.allocative_collectors.proofs.Keys.{key_total, key_same}
 
+-- If the test for less holds, the comparison says `Less`.
 pub less_from : (o : Ordering) → is_lt o ≡ true → o ≡ Less
 less_from Less e = refl
 less_from Equal e = cc
@@ -27,7 +28,7 @@ module _ (ks : List Key) (rise : KeysRise ks) (k : Key) where
         key_total.antisymm (key_in ks j) k ∙ ap ordering_reverse (key_total.trans k (key_in ks m) (key_in ks j) before (rise m j (omega arith) h))
   ]
 
-  -- all keys are smaller where the last one is
+  -- all keys are smaller if the last one is
   pub gap_behind : (n m : ℕ) → n ≡ length ks → m + 1 ≡ n → key_cmp (key_in ks m) k ≡ Less → IsKeyGap ks k n
   gap_behind n m all last less = record {
     in_range = omega arith;

@@ -23,7 +23,7 @@ numbers (Many cs) = flat cs.items
 abbrev pub before : List Chunk → ℕ → ℕ
 before cs i = length (flat (take i cs))
 
--- The numbers of chunk i; none where there is no such chunk.
+-- The numbers of chunk i; none if there is no such chunk.
 abbrev pub chunk_at : List Chunk → ℕ → List ℕ
 chunk_at [] i = []
 chunk_at (c ∷ cs) zero = numbers_in c

@@ -26,15 +26,15 @@ behind (k ∷ p) test (l ∷ q) = eq_by_cmp key_cmp l k && behind p test q
 abbrev pub rows_behind : Listed → Path → (Path → Bool) → List (Path × Node)
 rows_behind s p test = filter (λ e. behind p test e.0) (entries (map_of s))
 
--- g has what the graph has at p followed by any path that passes the test. Those of these paths that have a warning were
--- appended to `found`.
+-- g has what the graph has at p followed by any path that passes the test. Those of these paths that have a warning
+-- were appended to `found`.
 pub record MakesPart (s : Listed) (p : Path) (test : Path → Bool) (found found' : List Warned) (g : Graph) : Type 0 where
   pub warned_are : found' ≡ found ++ flat_map (warned (map_of s)) (rows_behind s p test)
   pub graph_is : (q : Path) → get g q ≡ cond (test q) (get (graph (map_of s)) (p ++ q)) None
   pub total_is : total g ≡ sum_by (λ e. remaining (map_of s) e.0 e.1) (rows_behind s p test)
 
--- g has what the graph has at the path of place i and below it. Those of these paths that have a warning were appended
--- to `found`.
+-- g has what the graph has at the path of place i and below it. Those of these paths that have a warning were
+-- appended to `found`.
 abbrev pub MakesGraph : Listed → ℕ → List Warned → List Warned → Graph → Type 0
 MakesGraph s i found found' g = MakesPart s (path_at s i) (λ q. true) found found' g
 

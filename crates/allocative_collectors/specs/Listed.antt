@@ -18,11 +18,11 @@ Listed = List Sum
 abbrev pub root_sum : Sum
 root_sum = record { path = []; bytes = 0; is_unique = false }
 
--- What a path has after one more entry of n bytes, which is unique where u is true.
+-- What a path has after one more entry of n bytes, which is unique if u is true.
 abbrev pub raise : ℕ → Bool → Sum → Sum
 raise n u s = record { path = s.path; bytes = s.bytes + n; is_unique = s.is_unique || u }
 
--- The list with one more entry of n bytes at place i. Where the list ends there, the path q is added at its end.
+-- The list with one more entry of n bytes at place i. If the list ends there, the path q is added at its end.
 abbrev pub put : ℕ → Path → ℕ → Bool → Listed → Listed
 put i q n u [] = record { path = q; bytes = n; is_unique = u } ∷ []
 put zero q n u (s ∷ rest) = raise n u s ∷ rest
@@ -40,8 +40,8 @@ sum_at s i = slice_index_or s i root_sum
 abbrev pub path_at : Listed → ℕ → Path
 path_at s i = let e = sum_at s i in e.path
 
--- `new` is `old` with one more entry of n bytes under k at the path of place `at`, and i is the place of the entry. No
--- other place has its path.
+-- `new` is `old` with one more entry of n bytes under k at the path of place `at`, and i is the place of the entry.
+-- No other place has its path.
 pub record IsEntered (old new : Listed) (at : ℕ) (k : Key) (n : ℕ) (u : Bool) (i : ℕ) : Type 0 where
   pub sums : new ≡ put i (path_at old at ++ k ∷ []) n u old
   pub not_root : 0 < i

@@ -9,7 +9,7 @@ use Rattle.allocative_graph.specs.Sums.{entered}
 use Rattle.allocative_graph.specs.Collector.{Live}
 use Rattle.allocative_collectors.specs.Listed.{Listed, path_at, total, map_of, IsEntered}
 
--- The path that a root visitor goes back to, where one is open.
+-- The path that a root visitor goes back to, if one is open.
 abbrev pub to_root : Bool → List Path
 to_root is_rooted = cond is_rooted ([] ∷ []) []
 
@@ -55,7 +55,7 @@ pub record AddedAt (old new : Listed) (at : ℕ) (k : Key) (n : ℕ) (u : Bool) 
   pub count : was ≡ now + n
   pub is : IsEntered old new at k n u node
 
--- An entry of n bytes is refused with e, where there is room for so many. Either e is TooLarge and there is no room, or
--- e is Memory and there is.
+-- An entry of n bytes is refused with e, and there is room for `room` bytes. Either e is TooLarge and n exceeds the
+-- room, or e is Memory and it does not.
 abbrev pub TellsWhy : ℕ → ℕ → Refusal → Type 0
 TellsWhy room n e = ((e ≡ TooLarge) × (room < n)) ⊎ ((e ≡ Memory) × (n ≤ room))

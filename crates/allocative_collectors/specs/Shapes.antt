@@ -27,17 +27,17 @@ abbrev pub at : List Shape → ℕ → Shape
 at ns i = slice_index_or ns i no_shape
 
 -- ---- the sums
--- The path of a node with parent i and key k, where ps are the paths of the nodes before it: its parent's with one more
+-- The path of a node with parent i and key k, if ps are the paths of the nodes before it: its parent's with one more
 -- key. The first node is the root.
 abbrev pub path_from : List Path → ℕ → Key → Path
 path_from [] i k = []
 path_from (p ∷ ps) i k = slice_index_or (p ∷ ps) i [] ++ k ∷ []
 
--- What a node stands for, where ps are the paths of the nodes before it.
+-- The sum of a node, if ps are the paths of the nodes before it.
 abbrev pub sum_from : List Path → Shape → Sum
 sum_from ps n = record { path = path_from ps n.parent n.key; bytes = n.bytes; is_unique = n.is_unique }
 
--- What the nodes ns stand for, where ps are the paths of the nodes before them.
+-- The sums of the nodes ns, if ps are the paths of the nodes before them.
 abbrev pub grow : List Path → List Shape → Listed
 grow ps [] = []
 grow ps (n ∷ ns) = let e = sum_from ps n in e ∷ grow (ps ++ e.path ∷ []) ns
@@ -96,8 +96,8 @@ pub record IsChild (ns : List Shape) (p i : ℕ) : Type 0 where
   pub in_range : i < length ns
   pub parent : parent_at ns i ≡ p
 
--- The root comes first and has no bytes and no parent, which is the number 2^64 - 1. Each other node comes after its parent and is one of its children. Children
--- are in the order of their keys.
+-- The root comes first and has no bytes and no parent, which is the number 2^64 - 1. Each other node comes after its
+-- parent and is one of its children. Children are in the order of their keys.
 pub record IsArena (ns : List Shape) : Type 0 where
   pub rooted : 0 < length ns
   pub root_empty : bytes_at ns 0 ≡ 0

@@ -189,7 +189,7 @@ fn insert_in(chunks: &mut Vec<Chunk>, place: Place, number: u32) -> Result<(), A
     Ok(())
 }
 
-// Cuts a chunk in two where it has more than `MOST` numbers. Where memory runs out it stays whole.
+// Cuts a chunk in two if it has more than `MOST` numbers. If memory runs out it stays whole.
 fn cut_at(chunks: &mut Vec<Chunk>, at: usize)
     requires { at < length chunks.old.items }
     ensures { flat chunks.new.items ≡ flat chunks.old.items }

@@ -68,8 +68,8 @@ impl GraphCollector {
 
     /// One more entry of `size` bytes under the key, unique or inline, and a visitor at it.
     ///
-    /// It returns `TooLarge` exactly where the bytes of all entries would exceed `isize::MAX`, and otherwise fails only
-    /// with `Memory`: where memory runs out, or where there would be more than 2^32 - 1 paths. The bound on bytes is
+    /// It returns `TooLarge` exactly if the bytes of all entries would exceed `isize::MAX`, and otherwise fails only
+    /// with `Memory`: if memory runs out, or if there would be more than 2^32 - 1 paths. The bound on bytes is
     /// tested before memory is allocated. An error changes nothing.
     #[inline(always)]
     pub fn enter(&mut self, key: &Key, size: usize, is_unique: bool) -> Result<(), Refusal>
@@ -85,8 +85,8 @@ impl GraphCollector {
 
     /// One more inline entry of `size` bytes under the key, with nothing inside it: no visitor goes there.
     ///
-    /// The errors are those of `enter`: `TooLarge` exactly where the bytes would exceed `isize::MAX`, and `Memory`, also
-    /// where there would be more than 2^32 - 1 paths. An error changes nothing.
+    /// The errors are those of `enter`: `TooLarge` exactly if the bytes would exceed `isize::MAX`, and `Memory`, also
+    /// if there would be more than 2^32 - 1 paths. An error changes nothing.
     #[inline(always)]
     pub fn enter_simple(&mut self, key: &Key, size: usize) -> Result<(), Refusal>
         ensures ok { OnOk result ((entered self.old.sums + size < 2 ^ 63)
@@ -102,8 +102,8 @@ impl GraphCollector {
     /// One more inline entry of `size` bytes under the key: a pointer to the content with the identity `id`.
     ///
     /// It returns whether the identity is met for the first time. Then a visitor is open at the content, whose paths
-    /// start at the root. The errors are those of `enter`: `TooLarge` exactly where the bytes would exceed `isize::MAX`,
-    /// and `Memory`, also where there would be more than 2^32 - 1 paths. `TooLarge` changes nothing. After `Memory` the
+    /// start at the root. The errors are those of `enter`: `TooLarge` exactly if the bytes would exceed `isize::MAX`,
+    /// and `Memory`, also if there would be more than 2^32 - 1 paths. `TooLarge` changes nothing. After `Memory` the
     /// entry may have been counted.
     pub fn enter_shared(&mut self, key: &Key, size: usize, id: Identity) -> Result<bool, Refusal>
         ensures ok { IfOk result (λ new. (entered self.old.sums + size < 2 ^ 63)
@@ -156,7 +156,7 @@ impl GraphCollector {
         }
     }
 
-    /// One more root visitor, where no visitor is open.
+    /// One more root visitor, when no visitor is open.
     pub fn begin(&mut self)
         requires { IsClosed (OfGraph self.old) }
         ensures { self.new ≡ go [] self.old }
@@ -174,8 +174,8 @@ impl GraphCollector {
     }
 }
 
-// One more entry under the node `at`, if `room` has its bytes, which are taken from it. It returns the entry's node. The bound is tested before
-// memory is allocated.
+// One more entry under the node `at`, if `room` has its bytes, which are taken from it. It returns the entry's node.
+// The bound is tested before memory is allocated.
 #[inline(always)]
 fn add(
     tree: &mut Tree,

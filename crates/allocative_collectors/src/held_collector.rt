@@ -54,7 +54,7 @@ impl HeldCollector {
     /// One more entry of `size` bytes, unique or inline, and a visitor at it. It returns what `leave`
     /// restores.
     ///
-    /// The bytes are held where an inline entry is directly in a unique one. It returns `TooLarge` exactly where the
+    /// The bytes are held if an inline entry is directly in a unique one. It returns `TooLarge` exactly if the
     /// sum or the number of visitors would exceed `usize::MAX`, and then nothing is changed.
     pub fn enter(&mut self, size: usize, is_unique: bool) -> Result<Outer, Refusal>
         ensures ok { IfOk result (λ outer. HasRoom is_unique size (OfHeld self.old)
@@ -94,7 +94,7 @@ impl HeldCollector {
         self.visitors == 0
     }
 
-    /// One more root visitor, where no visitor is open. It returns what `leave` restores.
+    /// One more root visitor, when no visitor is open. It returns what `leave` restores.
     pub fn begin(&mut self) -> Outer
         requires { IsClosed (OfHeld self.old) }
         ensures outer { result ≡ outer_of 0 (OfHeld self.old) }

@@ -90,7 +90,7 @@ impl Tree {
 
     /// Enters `size` bytes under the key at the node `at`, and returns the node of that path.
     ///
-    /// It fails where memory runs out, or where there would be more than 2^32 - 1 paths beside the root.
+    /// It fails if memory runs out, or if there would be more than 2^32 - 1 paths beside the root.
     #[inline(always)]
     pub(crate) fn enter(
         &mut self,
@@ -216,7 +216,7 @@ impl Tree {
         at != 0 && !node.is_unique && node.bytes < size_below
     }
 
-    /// The child of the node `at` that has the key. It is made where there is none.
+    /// The child of the node `at` that has the key. It is made if there is none.
     ///
     /// Entries often come in the same order as before, so the child that followed the last one is tried first.
     #[inline(always)]
@@ -274,7 +274,7 @@ impl Tree {
         self.expect_follower(at, child);
     }
 
-    /// The child of the node `at` that has the key, found by a search. It is made where there is none.
+    /// The child of the node `at` that has the key, found by a search. It is made if there is none.
     #[cold]
     #[inline(never)]
     fn search_child(&mut self, at: usize, key: &Key) -> Result<usize, AllocError>
@@ -411,8 +411,8 @@ fn bytes_of(nodes: &[Node], numbers: &[u32]) -> usize
     sum
 }
 
-/// Appends the path `keys`, which has a warning, with its own bytes and those one key below. It is no part of the walk's
-/// own function, so that a level of the walk takes less of the stack.
+/// Appends the path `keys`, which has a warning, with its own bytes and those one key below. It is no part of the
+/// walk's own function, so that a level of the walk takes less of the stack.
 #[inline(never)]
 fn push_warned(
     keys: &[&'static str],

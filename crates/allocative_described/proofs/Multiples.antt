@@ -25,6 +25,7 @@ up_next x a positive some =
     let short : a - x % a < a = omega arith in
     omega (arith, mod-eq_of_lt short, div-add-mod' x a, mod_below x a positive, add-mul (x / a) 1 a)
 
+-- If x is a multiple of a, rounding x up gives the least multiple of a that is not below x.
 least_same : (x a : ℕ) → 1 ≤ a → x % a ≡ 0 → IsLeastMultiple x a (up x a)
 least_same x a positive none =
     let same = up_same x a none in
@@ -34,6 +35,7 @@ least_same x a positive none =
       least = λ n m above. omega arith;
     }
 
+-- If x is not a multiple of a, rounding x up gives the least multiple of a that is not below x.
 least_next : (x a : ℕ) → 1 ≤ a → 0 < x % a → IsLeastMultiple x a (up x a)
 least_next x a positive some =
     let next = up_next x a positive some in
@@ -44,6 +46,7 @@ least_next x a positive some =
       least = λ n m above. omega (arith, next_multiple (x / a) a n m.0 m.1 (omega arith), add-mul (x / a) 1 a);
     }
 
+-- For each a from 1 on, rounding x up gives the least multiple of a that is not below x.
 pub least_multiple : (x a : ℕ) → 1 ≤ a → IsLeastMultiple x a (up x a)
 least_multiple x a positive =
     elim (cases_lt 0 (x % a)) [

@@ -7,7 +7,7 @@ use Rattle.std.specs.Int.{IsNextPowerOfTwo}
 use Rattle.allocative_described.specs.Sizes.{checked}
 use Rattle.allocative_described.specs.RawTable.{IsLeastPowerOfTwo}
 
--- Where 2 ^ k is below x, a power of two that is not below x is at least the power after 2 ^ k.
+-- If 2 ^ k is below x, a power of two that is not below x is at least the power after 2 ^ k.
 next_power : (x k n j : ℕ) → n ≡ 2 ^ j → 2 ^ k < x → x ≤ n → 2 ^ suc k ≤ n
 next_power x k n j is below above =
     elim (cases_lt k j) [
@@ -15,6 +15,7 @@ next_power x k n j is below above =
       | inr earlier ↦ absurd (omega (arith, pow-le-pow_right {n = 2} (omega arith) earlier))
     ]
 
+-- If x is above 2 ^ k and at most 2 ^ (k + 1), 2 ^ (k + 1) is the least power of two not below x.
 pub least_power : (x k : ℕ) → 2 ^ k < x → x ≤ 2 ^ suc k → IsLeastPowerOfTwo x (2 ^ suc k)
 least_power x k below above =
     record {

@@ -16,7 +16,7 @@ pub record IsBucketCount (len n : ℕ) : Type 0 where
   pub few : 0 < len → len < 4 → n ≡ 4
   pub many : 4 ≤ len → IsLeastPowerOfTwo len n
 
--- The bytes of the table for a length: the size of an item plus 1, times the number of buckets. None where a step does
+-- The bytes of the table for a length: the size of an item plus 1, times the number of buckets. None if a step does
 -- not fit.
 pub record IsRawTableSize (item : Option ℕ) (len : ℕ) (bytes : Option ℕ) : Type 0 where
   pub buckets : ℕ

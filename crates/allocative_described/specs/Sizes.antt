@@ -1,7 +1,7 @@
 -- Sizes in bytes, and the rules that combine the sizes of parts. `None` stands for a size that does not fit.
 use Rattle.std.specs.Prelude.{◌≡◌, ℕ, ◌+◌, ◌-◌, ◌*◌, ◌%◌, ◌^◌, ◌≤◌, max, nat_lt, if◌then◌else◌, Option, None, Some}
 
--- The size n where it fits a word of 64 bits, otherwise None.
+-- The size n if it fits a word of 64 bits, otherwise None.
 abbrev pub checked : ℕ → Option ℕ
 checked n = if nat_lt n (2 ^ 64) then Some n else None
 
@@ -23,25 +23,25 @@ up x a = x + (a - x % a) % a
 abbrev pub UpLaw : Type 0
 UpLaw = (x a : ℕ) → 1 ≤ a → IsLeastMultiple x a (up x a)
 
--- The sum of two sizes. None where one of them is None or the sum does not fit.
+-- The sum of two sizes. None if one of them is None or the sum does not fit.
 abbrev pub size_sum : Option ℕ → Option ℕ → Option ℕ
 size_sum None t = None
 size_sum (Some m) None = None
 size_sum (Some m) (Some n) = checked (m + n)
 
--- The product of two sizes. None where one of them is None or the product does not fit.
+-- The product of two sizes. None if one of them is None or the product does not fit.
 abbrev pub size_product : Option ℕ → Option ℕ → Option ℕ
 size_product None t = None
 size_product (Some m) None = None
 size_product (Some m) (Some n) = checked (m * n)
 
--- The greater of two sizes. None where one of them is None.
+-- The greater of two sizes. None if one of them is None.
 abbrev pub size_max : Option ℕ → Option ℕ → Option ℕ
 size_max None t = None
 size_max (Some m) None = None
 size_max (Some m) (Some n) = Some (max m n)
 
--- A size rounded up to a multiple of a. None where the size is None or the multiple does not fit.
+-- A size rounded up to a multiple of a. None if the size is None or the multiple does not fit.
 abbrev pub size_up : Option ℕ → ℕ → Option ℕ
 size_up None a = None
 size_up (Some x) a = checked (up x a)

@@ -15,10 +15,10 @@ pub trait Described {
     // Whether a value has something to drop.
     ghost needs_drop: { Bool };
 
-    // The size in bytes, or `None` where it does not fit a word.
+    // The size in bytes, or `None` if it does not fit a word.
     ghost size: { Option ℕ };
 
-    /// The type's name, without arguments where the type is generic: each `Vec<T>` is named `Vec`.
+    /// The type's name, without arguments if the type is generic: each `Vec<T>` is named `Vec`.
     fn name() -> &'static str
         ensures { result.now ≡ name };
 
@@ -31,7 +31,7 @@ pub trait Described {
     fn needs_drop() -> bool
         ensures { result ≡ needs_drop };
 
-    /// The size in bytes. `None` where the size of a part is `None`, or where a sum, a product or a
+    /// The size in bytes. `None` if the size of a part is `None`, or if a sum, a product or a
     /// rounding up in the type's rule exceeds `usize::MAX`.
     fn size() -> Option<usize>
         ensures { result ≡ size };
@@ -44,7 +44,7 @@ pub fn up_law()
 {}
 
 /// The size in bytes of what a shared pointer points to: two counts of 8 bytes each, then a value
-/// of type `T`. `None` where the size of `T` is `None`, or where a sum or a rounding up exceeds
+/// of type `T`. `None` if the size of `T` is `None`, or if a sum or a rounding up exceeds
 /// `usize::MAX`.
 pub fn shared_inner_size<T: Described>() -> Option<usize>
     ensures { result ≡ shared_inner_size T.size T.align }
@@ -53,14 +53,14 @@ pub fn shared_inner_size<T: Described>() -> Option<usize>
     size_up(size_sum(value_offset, T::size()), T::align().max(8))
 }
 
-/// The sum of two sizes. `None` where one of them is `None`, or where the sum exceeds `usize::MAX`.
+/// The sum of two sizes. `None` if one of them is `None`, or if the sum exceeds `usize::MAX`.
 pub(crate) fn size_sum(left: Option<usize>, right: Option<usize>) -> Option<usize>
     ensures { result ≡ size_sum left right }
 {
     left?.checked_add(right?)
 }
 
-/// The product of two sizes. `None` where one of them is `None`, or where the product exceeds
+/// The product of two sizes. `None` if one of them is `None`, or if the product exceeds
 /// `usize::MAX`.
 pub(crate) fn size_product(left: Option<usize>, right: Option<usize>) -> Option<usize>
     ensures { result ≡ size_product left right }
@@ -68,15 +68,15 @@ pub(crate) fn size_product(left: Option<usize>, right: Option<usize>) -> Option<
     left?.checked_mul(right?)
 }
 
-/// The greater of two sizes. `None` where one of them is `None`.
+/// The greater of two sizes. `None` if one of them is `None`.
 pub(crate) fn size_max(left: Option<usize>, right: Option<usize>) -> Option<usize>
     ensures { result ≡ size_max left right }
 {
     Some(left?.max(right?))
 }
 
-/// The least multiple of `align` that is not below `size`. `None` where the size is `None`, or
-/// where the multiple exceeds `usize::MAX`.
+/// The least multiple of `align` that is not below `size`. `None` if the size is `None`, or
+/// if the multiple exceeds `usize::MAX`.
 pub(crate) fn size_up(size: Option<usize>, align: usize) -> Option<usize>
     requires { 1 ≤ align }
     ensures { result ≡ size_up size align }

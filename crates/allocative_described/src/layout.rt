@@ -14,10 +14,10 @@ pub trait Fields {
     // Whether a field has something to drop.
     ghost needs_drop: { Bool };
 
-    // The sum of the sizes in bytes, or `None` where it does not fit a word.
+    // The sum of the sizes in bytes, or `None` if it does not fit a word.
     ghost sum: { Option ℕ };
 
-    /// The greatest alignment of a field in bytes, and 1 where there is no field.
+    /// The greatest alignment of a field in bytes, and 1 if there is no field.
     fn align() -> usize
         ensures value { result ≡ align }
         ensures positive { 1 ≤ result };
@@ -26,7 +26,7 @@ pub trait Fields {
     fn needs_drop() -> bool
         ensures { result ≡ needs_drop };
 
-    /// The sum of the fields' sizes in bytes. `None` where the size of a field is `None`, or where the sum
+    /// The sum of the fields' sizes in bytes. `None` if the size of a field is `None`, or if the sum
     /// exceeds `usize::MAX`.
     fn sum() -> Option<usize>
         ensures { result ≡ sum };
@@ -73,7 +73,7 @@ impl<A: Described, F: Fields> Fields for (A, F) {
 }
 
 /// The fields of one list, and those of another, as `And<(u64, (String, ())), (u8, ())>`. The proofs of a type with
-/// parameters and many fields take fewer steps where its fields stand in lists of a few.
+/// parameters and many fields take fewer steps if its fields are in lists of a few.
 pub struct And<F, G>(PhantomData<F>, PhantomData<G>);
 
 impl<F: Fields, G: Fields> Fields for And<F, G> {

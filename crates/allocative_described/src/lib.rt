@@ -1,9 +1,9 @@
 //! What types declare about themselves: a name, a size, an alignment, and whether they need a drop.
 //!
-//! The numbers are declarations, given by fixed tables and rules, for types of `std` and of the
-//! crates that this one depends on. They say nothing about how a compiler lays a value out.
-//! `Described` is the trait, and `Record` has the size of a struct or an enum from the types of its fields. `raw_table_alloc_size_for_len` returns the size of a hash map's table,
-//! and `shared_inner_size` the size of the value behind a shared pointer.
+//! The numbers are declarations, given by fixed tables and rules, for types of `std` and of the crates that this one
+//! depends on. They say nothing about how a compiler lays a value out. `Described` is the trait, and `Record` has the
+//! size of a struct or an enum from the types of its fields. `raw_table_alloc_size_for_len` returns the size of a hash
+//! map's table, and `shared_inner_size` the size of the value behind a shared pointer.
 #![tactic(auto)]
 
 mod described;

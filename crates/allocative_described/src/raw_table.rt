@@ -11,7 +11,7 @@ use crate::described::{Described, size_product, size_sum};
 /// byte, times the number of buckets. There are no buckets for the length 0, 4 for a length from 1
 /// to 3, and otherwise the least power of two that is not below `len`.
 ///
-/// `None` where the size of an item is `None`, or where the sum, the power or the product exceeds
+/// `None` if the size of an item is `None`, or if the sum, the power or the product exceeds
 /// `usize::MAX`.
 pub fn raw_table_alloc_size_for_len<T: Described>(len: usize) -> Option<usize>
     ensures { IsRawTableSize T.size len result }
@@ -24,7 +24,7 @@ pub fn raw_table_law()
     ensures { RawTableLaw }
 {}
 
-// The number of buckets for a length, or `None` where it does not fit a word.
+// The number of buckets for a length, or `None` if it does not fit a word.
 fn bucket_count(len: usize) -> Option<usize>
     ensures { (n : ℕ) × IsBucketCount len n × (result ≡ checked n) }
 {
@@ -37,7 +37,7 @@ fn bucket_count(len: usize) -> Option<usize>
     }
 }
 
-// The least power of two that is not below `number`, or `None` where it does not fit a word.
+// The least power of two that is not below `number`, or `None` if it does not fit a word.
 fn least_power_of_two(number: usize) -> Option<usize>
     requires { 2 ≤ number }
     ensures { (n : ℕ) × IsLeastPowerOfTwo number n × (result ≡ checked n) }

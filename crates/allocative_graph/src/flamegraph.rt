@@ -124,7 +124,7 @@ impl FlameGraph {
 
     /// Adds bytes to the size of the root. It allocates nothing.
     ///
-    /// It returns `TooLarge` exactly where the total would exceed `usize::MAX`, and then changes nothing.
+    /// It returns `TooLarge` exactly if the total would exceed `usize::MAX`, and then changes nothing.
     #[tactic(auto, using(crate::proofs::NodeAdded::total_of_node, crate::proofs::NodeAdded::own_of_node, crate::proofs::NodeSizes::insert_root))]
     pub fn add_self(&mut self, size: usize) -> Result<(), Refusal>
         ensures sum { OnOk result (self.new ≡ add_self size self.old) }
@@ -141,7 +141,7 @@ impl FlameGraph {
 
     /// Adds another graph, path by path. A missing path counts as 0.
     ///
-    /// It returns `TooLarge` exactly where the sum of the two totals exceeds `usize::MAX`, and then changes
+    /// It returns `TooLarge` exactly if the sum of the two totals exceeds `usize::MAX`, and then changes
     /// nothing. After `Memory` each path has its old size or that of the sum, all old paths are still there,
     /// and there is no path that the sum does not have. After an error `other` is dropped.
     #[tactic(auto, using(crate::proofs::NodeAdded::added_sum))]
@@ -184,7 +184,7 @@ impl FlameGraph {
         Ok(())
     }
 
-    // A copy of the graph where it has only the root. It allocates nothing and makes no further call.
+    // A copy of the graph if it has only the root. It allocates nothing and makes no further call.
     #[inline(always)]
     #[tactic(auto, using(std::proofs::lemmas::List::nil_from_length, crate::proofs::ChildOrder::no_children))]
     fn root_alone(&self) -> Option<FlameGraph>
@@ -202,7 +202,7 @@ impl FlameGraph {
         }
     }
 
-    // Adds another graph where the totals are known to fit.
+    // Adds another graph when the totals are known to fit.
     #[cycle(merge)]
     #[tactic(auto, using(crate::proofs::NodeAdded::total_of_both, crate::proofs::NodeAdded::merged_node))]
     fn merge(&mut self, other: FlameGraph) -> Result<(), AllocError>
@@ -438,7 +438,7 @@ fn interleave(
     result
 }
 
-// Takes the next child of the merge from the lists. Where both have its key, one is added to the other.
+// Takes the next child of the merge from the lists. If both have its key, one is added to the other.
 #[cycle(merge)]
 fn take_next(
     mine: &mut VecDeque<Child>,

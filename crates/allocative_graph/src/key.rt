@@ -19,7 +19,7 @@ use std::marker::Model;
 
 /// The name of an entry: a static text.
 ///
-/// Keys are equal where their texts are, and are ordered by the bytes of their texts. A contract sees only the
+/// Keys are equal if their texts are, and are ordered by the bytes of their texts. A contract sees only the
 /// bytes of the text. No call of a key allocates or fails.
 #[derive(Drop)]
 pub struct Key {

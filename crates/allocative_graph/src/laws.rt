@@ -14,26 +14,26 @@ pub fn meaning_law()
     ensures { MeaningLaw }
 {}
 
-/// Where no identity is reached by both and their sums can be added, the graphs of two whole showings add up.
+/// If no identity is reached by both and their sums can be added, the graphs of two whole showings add up.
 pub fn merge_law()
     ensures { MergeLaw }
 {}
 
-/// Where no key has a `;` or a line feed, graphs with equal texts have equal sizes at each path but the root.
+/// If no key has a `;` or a line feed, graphs with equal texts have equal sizes at each path but the root.
 /// The law is about graphs whose totals fit a word, as that of every `FlameGraph` does.
 pub fn text_law()
     ensures { TextLaw }
 {}
 
-/// Where no key has a `;` or a line feed, dropping the lines whose last key is `unused_capacity` drops
+/// If no key has a `;` or a line feed, dropping the lines whose last key is `unused_capacity` drops
 /// the paths that end in it.
 pub fn exact_law()
     ensures { ExactLaw }
 {}
 
-/// Where no key has a `;` or a line feed, the text of a graph is read as a graph with its sizes at each path but the
+/// If no key has a `;` or a line feed, the text of a graph is read as a graph with its sizes at each path but the
 /// root. The law is about graphs whose totals fit a word, as that of every `FlameGraph` does. No line of such a text is
-/// refused where each of its paths has at most `LEVELS` keys and is not one empty key.
+/// refused if each of its paths has at most `LEVELS` keys and is not one empty key.
 pub fn read_law()
     ensures { ReadLaw }
 {}

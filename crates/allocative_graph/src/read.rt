@@ -176,7 +176,7 @@ fn read_lines(alloc: Global, text: &'static str) -> Result<Vec<Line>, ReadFault>
     Ok(lines)
 }
 
-// The bytes of all lines together, or `None` where they do not fit.
+// The bytes of all lines together, or `None` if they do not fit.
 #[tactic(auto, using(std::proofs::Common::take_all))]
 fn total_of(lines: &[Line]) -> Option<usize>
     ensures { SomeIff result (sum_by (λ l. l.size) lines.now < 2 ^ 64) (sum_by (λ l. l.size) lines.now) }

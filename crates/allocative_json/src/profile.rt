@@ -18,7 +18,7 @@ use serde_json::Value;
 use std::alloc::Global;
 use std::collections::BTreeSet;
 
-// A document, and the set of its numbers where there is one.
+// A document, and the set of its numbers if there is one.
 #[derive(Drop)]
 struct Roots<'a> {
     document: &'a Value,
@@ -91,9 +91,9 @@ pub(crate) fn report_by_registry(
 /// warnings. With `exact` the profile is without the lines whose last key is `unused_capacity`. The roots are visited
 /// by their own `visit`.
 ///
-/// It returns `Fault::NotJson` and `Fault::NotWhole` where `read_roots` does, and `Fault::TooLarge` only where the
-/// numbers of the document are whole and the sizes of the roots exceed the bound of a flame graph, with some room in its
-/// texts and arrays. No contract of `serde_json` bounds the room that its reader leaves. So the clause says nothing of
+/// It returns `Fault::NotJson` and `Fault::NotWhole` if `read_roots` does, and `Fault::TooLarge` only if the numbers of
+/// the document are whole and the sizes of the roots exceed the bound of a flame graph, with some room in its texts and
+/// arrays. No contract of `serde_json` bounds the room that its reader leaves. So the clause says nothing of
 /// `Fault::TooLarge` for a document with a text, an array or a member of an object. Otherwise the error is
 /// `Fault::Memory`, which an empty input never causes.
 #[tactic(auto, using(crate::proofs::Reports::refused_report))]

@@ -45,7 +45,7 @@ fn are_whole_members(members: &Map<String, Value>) -> bool
     all_whole
 }
 
-// Fails with `Fault::NotWhole` exactly where a number of the document is neither an i64 nor a u64.
+// Fails with `Fault::NotWhole` exactly if a number of the document is neither an i64 nor a u64.
 fn check_numbers(document: &Value) -> Result<(), Fault>
     ensures ok { OnOk result (is_whole (view document.now) ≡ true) }
     ensures not_whole { OnErr result (is_whole (view document.now) ≡ false) }
@@ -113,8 +113,8 @@ fn index_of(alloc: Global, document: &Value) -> Result<BTreeSet<i128>, AllocErro
 /// The document that `serde_json` reads from the input and, exactly with `index`, the set of its whole
 /// numbers at any depth.
 ///
-/// It returns `Fault::NotJson` where `serde_json` refuses the input for a reason other than memory,
-/// `Fault::NotWhole` where the document has a number that is neither an i64 nor a u64, and otherwise
+/// It returns `Fault::NotJson` if `serde_json` refuses the input for a reason other than memory,
+/// `Fault::NotWhole` if the document has a number that is neither an i64 nor a u64, and otherwise
 /// `Fault::Memory`, which an empty input never causes.
 #[tactic(auto, using(crate::proofs::Reports::some_input))]
 pub fn read_roots(

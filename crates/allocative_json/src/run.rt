@@ -15,7 +15,7 @@ use std::alloc::Global;
 use std::io::{self, ErrorKind, Read, Write};
 use std::mem;
 
-// Reads to the end of the input. It returns `Fault::Reading` where a read fails, and `Fault::Memory` where memory
+// Reads to the end of the input. It returns `Fault::Reading` if a read fails, and `Fault::Memory` if memory
 // runs out, which an empty input never causes. An interrupted read is repeated.
 fn read_input<R: Read>(alloc: Global, input: &mut R) -> Result<Vec<u8>, Fault>
     ensures ok { IfOk result
@@ -35,7 +35,7 @@ fn read_input<R: Read>(alloc: Global, input: &mut R) -> Result<Vec<u8>, Fault>
     Err(Fault::Reading)
 }
 
-// Writes and flushes the whole text. Where a write fails, a beginning of it is written. An interrupted write is repeated.
+// Writes and flushes the whole text. If a write fails, a beginning of it is written. An interrupted write is repeated.
 #[tactic(auto, using(crate::proofs::Writes::writing))]
 fn write_text<W: Write>(output: &mut W, text: &str) -> io::Result<()>
     ensures whole { OnOk result (Appends (W.contents output.old) (W.contents output.new) text.now) }
@@ -65,7 +65,7 @@ fn write_line<E: Write>(errors: &mut E, fault: Fault) -> io::Result<()>
     write_text(errors, "\n")
 }
 
-/// Writes the line of the fault and returns its status, even where the line cannot be written. No more than a beginning of
+/// Writes the line of the fault and returns its status, even if the line cannot be written. No more than a beginning of
 /// the line is written then.
 pub fn tell<E: Write>(errors: &mut E, fault: Fault) -> u8
     ensures status { result ≡ status_of fault }
@@ -76,7 +76,7 @@ pub fn tell<E: Write>(errors: &mut E, fault: Fault) -> u8
     fault.status()
 }
 
-// Makes the report of the input, with a registry where it is asked for.
+// Makes the report of the input, with a registry if it is asked for.
 #[tactic(auto, using(crate::proofs::Reports::refused_report))]
 fn profile_as_asked(alloc: Global, asked: Words, input: &[u8]) -> Result<Report, Fault>
     ensures ok { IfOk result (IsRightReport input.now asked.index asked.exact) }
@@ -120,12 +120,12 @@ fn write_report<W: Write, E: Write>(
 /// Runs the whole program and returns its status. The document stays in memory until the process ends, unless a
 /// registry has it.
 ///
-/// Profile and warnings are made before anything is written. With status 0 the profile is on the output and the warnings are
-/// on the errors. With status 7 a beginning of the profile is on the output, and no warning is on the errors unless
-/// the whole profile is written. With any other status nothing is written to the output. With every status but 0
-/// the line of the fault is written last to the errors, or a beginning of it where that fails, and the status is that of
-/// the fault. It is 4 only where `profile_json` may return `Fault::TooLarge`, and never 8. With the word `registry` the
-/// roots are boxed and visited by a registry, and the same clauses hold.
+/// Profile and warnings are made before anything is written. With status 0 the profile is on the output and the
+/// warnings are on the errors. With status 7 a beginning of the profile is on the output, and no warning is on the
+/// errors unless the whole profile is written. With any other status nothing is written to the output. With every
+/// status but 0 the line of the fault is written last to the errors, or a beginning of it if that fails, and the status
+/// is that of the fault. It is 4 only if `profile_json` may return `Fault::TooLarge`, and never 8. With the word
+/// `registry` the roots are boxed and visited by a registry, and the same clauses hold.
 pub fn run_json<R: Read, W: Write, E: Write>(
     alloc: Global,
     words: &[String],

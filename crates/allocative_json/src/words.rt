@@ -35,7 +35,7 @@ fn is_accepted(word: &str, earlier: &[String]) -> bool
     is_known && !has(earlier, word)
 }
 
-/// Parses the words. It returns `Ok` exactly where each word is `exact`, `index` or `registry` and none is
+/// Parses the words. It returns `Ok` exactly if each word is `exact`, `index` or `registry` and none is
 /// repeated, and otherwise `Fault::Words`. It allocates nothing.
 pub fn read_words(words: &[String]) -> Result<Words, Fault>
     ensures { MatchResult result

@@ -57,7 +57,7 @@ high (b ∷ bs) h =
 abbrev legible_char : ℕ → List ℕ
 legible_char c = cond (is_unfit c) (encode_utf8 65533) (encode_utf8 c)
 
--- Each of the five references reads as its character. Any other character is one byte below 128, or bytes from 128 on.
+-- Each of the five references reads as its character. Other characters are one byte below 128, or bytes from 128 on.
 char : (c : ℕ) → IsMarkup (escaped_char c) (legible_char c)
 unfolding lib.Utf8.encode
 char c =

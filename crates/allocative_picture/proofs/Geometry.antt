@@ -13,7 +13,7 @@ use Rattle.allocative_picture.specs.Laws.{InsideLaw, ApartLaw, WithinLaw}
 abbrev whole_in : List (Path × ℕ) → Path → ℕ
 whole_in rs p = sum_by (λ e. cond (begins p e.0) e.1 0) rs
 
--- `lower` counts n bytes of the path q where q comes before p, `below` where p is a beginning of q.
+-- `lower` counts n bytes of the path q if q comes before p, `below` if p is a beginning of q.
 abbrev lower : ℕ → Path → Path → ℕ
 lower n q p = cond (is_lt (path_cmp q p)) n 0
 
@@ -21,7 +21,7 @@ lower n q p = cond (is_lt (path_cmp q p)) n 0
 abbrev below : ℕ → Path → Path → ℕ
 below n q p = cond (begins p q) n 0
 
--- `lower_by` and `below_by` count n bytes of q as `lower` and `below` do, where the first keys compare as o.
+-- `lower_by` and `below_by` count n bytes of q as `lower` and `below` do, if the first keys compare as o.
 abbrev lower_by : Ordering → ℕ → Path → Path → ℕ
 lower_by o n q p = cond (is_lt (ordering_then o (path_cmp q p))) n 0
 

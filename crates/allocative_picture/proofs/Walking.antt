@@ -17,12 +17,14 @@ use Rattle.allocative_picture.proofs.Placing.{own_bytes, own-cons}
 pub pushed_key : (xs ys : List (Bor (List ℕ))) (k : Bor (List ℕ)) (key : List ℕ) → ys ≡ xs ++ k ∷ [] → k.now ≡ key → texts ys ≡ texts xs ++ key ∷ []
 pushed_key xs ys k key push is = rw (push, map-append) (ap (λ (l : List ℕ). texts xs ++ l ∷ []) is)
 
+-- The rows of two lists of figures follow each other, and the second ones begin after the own bytes of the first.
 rows_from-append : (M : Path → Mark) (b : ℕ) (fs gs : List Figures) → rows_from M b (fs ++ gs) ≡ rows_from M b fs ++ rows_from M (b + own_bytes fs) gs
 rows_from-append M b [] gs = ap (λ n. rows_from M n gs) (let e : b ≡ b + 0 = omega arith in e)
 rows_from-append M b (f ∷ fs) gs =
     let e : b + f.self_size + own_bytes fs ≡ b + own_bytes (f ∷ fs) = omega (arith, own-cons f fs) in
     ap (λ (s : List RowData). row_from M b f ∷ s) (rows_from-append M (b + f.self_size) fs gs ∙ ap (λ n. rows_from M (b + f.self_size) fs ++ rows_from M n gs) e)
 
+-- The own bytes of the figures of some rows are the sum of the sizes of the rows.
 own-figured : (t : Path → ℕ) (ks : Path) (rs : List (Path × ℕ)) → own_bytes (figured t ks rs) ≡ sum_of_rows rs
 own-figured t ks [] = omega arith
 own-figured t ks (r ∷ rs) = omega (arith, own-cons (record { path = ks ++ r.0; self_size = r.1; total_size = t r.0 }) (figured t ks rs), own-figured t ks rs)
@@ -31,6 +33,7 @@ own-figured t ks (r ∷ rs) = omega (arith, own-cons (record { path = ks ++ r.0;
 pub weight_more : (cs : List Child) (i : ℕ) (d : Child) → i < length cs → d ≡ get_or cs i d → weight (take (i + 1) cs) ≡ weight (take i cs) + total d.graph
 weight_more cs i d h at = rw (take_more cs i d h, ← at, weight-append (take i cs) (d ∷ []), weight-one d) refl
 
+-- The children up to a place have at most the bytes of all children.
 pub weight_within : (cs : List Child) (i : ℕ) → weight (take i cs) ≤ weight cs
 weight_within cs i = omega (arith, weight-append (take i cs) (drop i cs), ap weight (take-append-drop i cs))
 

@@ -30,6 +30,7 @@ size_at-nested (k ∷ ks) (l ∷ p) =
 abbrev pub warnings_at : List Warned → Path → ℕ
 warnings_at ws p = count_by (λ w. is_same_path p w.path) ws
 
+-- One more warning at the front counts at its path, and at no other.
 pub warnings_at-cons : (w : Warned) (ws : List Warned) (p : Path) → warnings_at (w ∷ ws) p ≡ cond (is_same_path p w.path) 1 0 + warnings_at ws p
 warnings_at-cons w ws p = sum_by-cons (λ (v : Warned). cond (is_same_path p v.path) 1 0) w ws
 
@@ -37,13 +38,16 @@ warnings_at-cons w ws p = sum_by-cons (λ (v : Warned). cond (is_same_path p v.p
 pub warnings_at-push : (ws : List Warned) (w : Warned) (p : Path) → warnings_at (ws ++ w ∷ []) p ≡ warnings_at ws p + cond (is_same_path p w.path) 1 0
 warnings_at-push ws w p = omega (arith, sum_by-append (λ (v : Warned). cond (is_same_path p v.path) 1 0) ws (w ∷ []), sum_by-cons (λ (v : Warned). cond (is_same_path p v.path) 1 0) w [])
 
+-- Whether two paths are the same does not depend on which comes first.
 turned : (p q : Path) → is_same_path p q ≡ is_same_path q p
 turned p q = (eq_by_cmp_equiv path_total).symm p q
 
+-- The count of warnings at a path is 0 exactly if no warning has this path.
 none_counted : (ws : List Warned) (p : Path) → (warnings_at ws p == 0) ≡ not (list_any (λ w. is_same_path w.path p) ws)
 none_counted [] p = refl
 none_counted (w ∷ ws) p = rw (warnings_at-cons w ws p, turned w.path p) (grind (arith, none_counted ws p))
 
+-- If a is the opposite of b, `Plain` for a and else `Warned` is `Warned` for b and else `Plain`.
 chosen : (a b : Bool) → a ≡ not b → cond a Plain mark.Warned ≡ cond b mark.Warned Plain
 chosen a true e = ap (λ c. cond c Plain mark.Warned) e
 chosen a false e = ap (λ c. cond c Plain mark.Warned) e

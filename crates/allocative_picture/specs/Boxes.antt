@@ -11,8 +11,8 @@ use Rattle.allocative_picture.specs.declared.row.Mark.{Mark}
 use Rattle.allocative_picture.specs.declared.row.Mark.TheVariants.{Plain, Warned, Changed}
 
 -- ---- where a box is placed
--- The place of a number of bytes on a line of a million units that stands for all bytes, rounded down. It is 0 where
--- all is 0.
+-- The place of a number of bytes on a line of a million units that stands for all bytes, rounded down. It is 0 if all
+-- is 0.
 abbrev pub edge : ℕ → ℕ → ℕ
 edge all bytes = bytes * 1000000 / all
 
@@ -33,15 +33,15 @@ abbrev pub is_drawn : ℕ → ℕ → RowData → Bool
 is_drawn least all r = not (width all r == 0) && not (nat_lt (width all r) least)
 
 -- ---- classes
--- The class of a change: `same`, `full` where the difference is more than half of the bytes before and after together,
+-- The class of a change: `same`, `full` if the difference is more than half of the bytes before and after together,
 -- and otherwise `moved`.
 unfoldable pub change_class : ℕ → ℕ → List ℕ
 change_class before after =
     cond (before == after) (codes "same")
     (cond (nat_lt (before + after) (2 * (after - before + (before - after)))) (codes "full") (codes "moved"))
 
--- The class of a path by its depth and its last key: `root`, `spare`, or one of twelve by the hash of the key. So a key
--- has the same colour in all pictures.
+-- The class of a path by its depth and its last key: `root`, `spare`, or one of twelve by the hash of the key. So a
+-- key has the same colour in all pictures.
 unfoldable pub key_class : ℕ → Key → List ℕ
 key_class depth k =
     cond (depth == 0) (codes "root")
@@ -53,15 +53,15 @@ class_text Plain r = key_class r.depth r.key
 class_text Warned r = codes "warned"
 class_text (Changed before) r = change_class before (r.whole - before)
 
--- The classes that hide texts, in a window of 1000 pixels: both texts in a box below 24 pixels or too narrow for a key of
--- so many bytes, and otherwise the figure where it may not fit beside the key.
+-- The classes that hide texts, in a window of 1000 pixels: both texts in a box below 24 pixels or too narrow for a
+-- key of so many bytes, and otherwise the figure if it may not fit beside the key.
 unfoldable pub fit_text : ℕ → ℕ → List ℕ
 fit_text units bytes =
     cond (nat_lt units (1000 * max 24 (8 * bytes + 8))) (codes " thin brief")
     (cond (nat_lt units (1000 * (8 * bytes + 120))) (codes " brief") [])
 
 -- ---- colours of a change
--- One component of a colour. It is 236 where nothing changed, and reaches `full` where `change` is `all`.
+-- One component of a colour. It is 236 if nothing changed, and reaches `full` when `change` is `all`.
 abbrev pub shade : ℕ → ℕ → ℕ → ℕ
 shade full change all = 236 - (236 - full) * change / all
 
@@ -71,8 +71,8 @@ colour_text red green blue change all =
     decimal (shade red change all) ++ codes "," ++ decimal (shade green change all) ++ codes ","
     ++ decimal (shade blue change all)
 
--- The paint of a change: red where bytes grew, blue where they shrank, and the fuller the greater the difference is
--- relative to the sum. There is none where nothing changed.
+-- The paint of a change: red if bytes grew, blue if they shrank, and the fuller the greater the difference is
+-- relative to the sum. There is none if nothing changed.
 unfoldable pub change_paint : ℕ → ℕ → List ℕ
 change_paint before after =
     cond (before == after) []
@@ -80,7 +80,7 @@ change_paint before after =
     (codes " style=\"fill:rgb(" ++ colour_text 214 40 40 (after - before) (before + after) ++ codes ")\"")
     (codes " style=\"fill:rgb(" ++ colour_text 29 95 191 (before - after) (before + after) ++ codes ")\""))
 
--- The paint of a row's box, by its mark. There is none where the class gives the colour.
+-- The paint of a row's box, by its mark. There is none if the class gives the colour.
 unfoldable pub paint_text : Mark → RowData → List ℕ
 paint_text Plain r = []
 paint_text Warned r = []
@@ -99,8 +99,8 @@ figure_text Plain r = size_text r.whole
 figure_text Warned r = size_text r.whole
 figure_text (Changed before) r = change_text before (r.whole - before)
 
--- The bytes of a path and all below it, their share of all in millionths, and the path's own bytes where they differ from
--- these.
+-- The bytes of a path and all below it, their share of all in millionths, and the path's own bytes if they differ
+-- from these.
 unfoldable pub declared_text : ℕ → RowData → List ℕ
 declared_text u r =
     concat (bytes_text r.whole ∷ codes ", " ∷ percent_text u
@@ -126,8 +126,8 @@ frame all r =
     ∷ codes "\" x=\"" ∷ place_text (left all r) ∷ codes "\" y=\"" ∷ decimal (54 + 18 * r.depth)
     ∷ codes "\" width=\"" ∷ place_text (width all r) ∷ codes "\" height=\"18\">" ∷ [])
 
--- The element of a row's box: its beginning, the title with the key, the rectangle with its paint, and the label with the
--- key and the figure. The key stands there as markup.
+-- The element of a row's box: its beginning, the title with the key, the rectangle with its paint, and the label with
+-- the key and the figure. The key stands there as markup.
 unfoldable pub element : ℕ → RowData → List ℕ
 element all r =
     frame all r

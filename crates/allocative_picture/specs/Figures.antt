@@ -21,8 +21,8 @@ unit_name n =
     (cond (nat_lt n 0x4000000000000) (codes "TiB")
     (cond (nat_lt n 0x1000000000000000) (codes "PiB") (codes "EiB"))))))
 
--- Bytes in their greatest binary unit, for example `1.5 KiB`: a whole number below 1 KiB, and otherwise with one decimal,
--- rounded down.
+-- Bytes in their greatest binary unit, for example `1.5 KiB`: a whole number below 1 KiB, and otherwise with one
+-- decimal, rounded down.
 unfoldable pub size_text : ℕ → List ℕ
 size_text n =
     cond (nat_lt n 0x400) (decimal n)

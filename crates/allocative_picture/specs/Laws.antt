@@ -40,7 +40,7 @@ ShareLaw = (all : ℕ) (r : RowData) → 0 < all → IsShare all r
 abbrev pub WithinLaw : Type 0
 WithinLaw = (M : Path → Mark) (g : Graph) (p : Path) → 0 < total g → right (total g) (row_at M g p) ≤ 1000000
 
--- The boxes of some rows, one after another: the element of a row, or no text where it has none.
+-- The boxes of some rows, one after another: the element of a row, or no text if it has none.
 abbrev pub boxes : ℕ → ℕ → List RowData → List ℕ
 boxes least all rs = flat_map (λ r. cond (is_drawn least all r) (element all r) []) rs
 

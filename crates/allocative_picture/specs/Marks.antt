@@ -17,7 +17,7 @@ mark_with Earlier own whole = Changed whole
 abbrev pub mark_by : Marks → Graph → Path → Mark
 mark_by m g p = mark_with m (size_at g p) (total_at g p)
 
--- The mark of a path, by its bytes in a graph where there is one, and else by none.
+-- The mark of a path, by its bytes in a graph if there is one, and else by none.
 abbrev pub mark_in : Marks → Option Graph → Path → Mark
 mark_in m None p = mark_with m 0 0
 mark_in m (Some g) p = mark_by m g p

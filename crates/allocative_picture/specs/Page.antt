@@ -35,8 +35,8 @@ opening height =
     concat (codes "<svg xmlns=\"http://www.w3.org/2000/svg\" width=\"100%\" height=\"" ∷ decimal height
     ∷ codes "\" font-size=\"12\">\n" ∷ STYLE.now ∷ [])
 
--- The title above a picture, the totals, the number of paths with a box, the number of the others, which are too narrow
--- for one, and the labels that the script makes clickable.
+-- The title above a picture, the totals, the number of paths with a box, the number of the others, which are too
+-- narrow for one, and the labels that the script makes clickable.
 unfoldable pub heading : List ℕ → Subject → ℕ → ℕ → List ℕ
 heading title s drawn paths =
     concat (codes "<text class=\"title\" x=\"8\" y=\"22\">" ∷ escaped title

@@ -14,9 +14,9 @@ use Rattle.allocative_picture.specs.declared.page.Subject.TheVariants.{Profile, 
 abbrev pub bottom : List RowData → ℕ
 bottom ws = 64 + 18 * levels ws
 
--- The picture of n paths, where the rows are those that have a box: its beginning, the style, the title, the totals with
--- the number of paths that have a box and of those that are too narrow, the labels that the script makes clickable, the
--- legend, the boxes, the warnings and the end.
+-- The picture of n paths, if the rows are those that have a box: its beginning, the style, the title, the totals with
+-- the number of paths that have a box and of those that are too narrow, the labels that the script makes clickable,
+-- the legend, the boxes, the warnings and the end.
 unfoldable pub drawing_of : Subject → Options → List RowData → ℕ → List ℕ
 drawing_of s o ws n =
     opening (bottom ws + 8 + 16 * length o.warned.now) ++ heading o.title.now s (length ws) n ++ legend_of s

@@ -34,7 +34,7 @@ shown_key (k ∷ l ∷ p) = shown_key (l ∷ p)
 abbrev pub before_in : List (Path × ℕ) → Path → ℕ
 before_in rs p = sum_by (λ e. cond (is_lt (path_cmp e.0 p)) e.1 0) rs
 
--- The row of an entry of g, where M gives the mark of each path.
+-- The row of an entry of g, if M gives the mark of each path.
 abbrev pub row_of : (Path → Mark) → Graph → Path × ℕ → RowData
 row_of M g e = record {
   depth = length e.0;
@@ -49,7 +49,7 @@ row_of M g e = record {
 unfoldable pub rows_of : (Path → Mark) → Graph → List RowData
 rows_of M g = map (row_of M g) (entries g)
 
--- The row of a path with its figures, where `before` bytes come before it.
+-- The row of a path with its figures, if `before` bytes come before it.
 abbrev pub row_from : (Path → Mark) → ℕ → Figures → RowData
 row_from M before f = record {
   depth = length f.path;
@@ -60,7 +60,7 @@ row_from M before f = record {
   mark = M f.path;
 }
 
--- The rows of some figures, where b bytes come before the first.
+-- The rows of some figures, if b bytes come before the first.
 abbrev pub rows_from : (Path → Mark) → ℕ → List Figures → List RowData
 rows_from M b [] = []
 rows_from M b (f ∷ fs) = row_from M b f ∷ rows_from M (b + f.self_size) fs
@@ -69,7 +69,7 @@ rows_from M b (f ∷ fs) = row_from M b f ∷ rows_from M (b + f.self_size) fs
 unfoldable pub is_warned : List Warned → Path → Bool
 is_warned ws p = list_any (λ w. is_same_path w.path p) ws
 
--- The mark of a path in a profile where the paths ws have a warning.
+-- The mark of a path in a profile, if the paths ws have a warning.
 abbrev pub warned_mark : List Warned → Path → Mark
 warned_mark ws p = cond (is_warned ws p) mark.Warned Plain
 

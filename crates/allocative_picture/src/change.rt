@@ -19,12 +19,12 @@ pub(crate) struct Change {
 #[derive(Clone, Copy)]
 pub(crate) struct Comparison(pub Change);
 
-/// A row, printed as the paint of its box: red where bytes grew, blue where they shrank, and none where they are equal
+/// A row, printed as the paint of its box: red if bytes grew, blue if they shrank, and none if they are equal
 /// or the class gives the colour.
 #[derive(Clone, Copy)]
 pub(crate) struct Paint<'a>(pub Row<'a>);
 
-/// One component of a colour. It is 236 where nothing changed, and reaches `full` where `change` is `all`.
+/// One component of a colour. It is 236 if nothing changed, and reaches `full` when `change` is `all`.
 fn shade(full: u128, change: usize, all: u128) -> u128
     requires full { full ≤ 236 }
     requires some { 0 < all }

@@ -11,7 +11,7 @@ pub struct Options<'a> {
     /// The paths that have a warning, as `FlameGraphOutput::warned_paths` returns them. In the picture of a profile the
     /// box of such a path has a red edge. Each path also has a line below the picture, with both its sizes.
     pub warned: &'a [WarnedPath],
-    /// The width of the narrowest box, in millionths of the width of the picture. A path has no box where its box would
+    /// The width of the narrowest box, in millionths of the width of the picture. A path has no box if its box would
     /// be narrower, or would have no width.
     pub narrowest: u32,
 }

@@ -32,10 +32,10 @@ pub fn picture(alloc: Global, graph: &FlameGraph, options: &Options<'_>) -> Resu
 
 /// The picture of the change from one flame graph to another, as the text of an SVG document.
 ///
-/// It is the picture of their sum: a box is as wide as its bytes before and after together. It is red where bytes grew
-/// and blue where they shrank, and its colour is the fuller the greater the difference is relative to the sum.
+/// It is the picture of their sum: a box is as wide as its bytes before and after together. It is red if bytes grew
+/// and blue if they shrank, and its colour is the fuller the greater the difference is relative to the sum.
 ///
-/// It returns `TooLarge` exactly where the two totals together exceed `usize::MAX`. The only other error is that memory
+/// It returns `TooLarge` exactly if the two totals together exceed `usize::MAX`. The only other error is that memory
 /// runs out.
 pub fn change_picture(
     alloc: Global,
@@ -112,7 +112,7 @@ pub fn draw(
     draw_wide(alloc, subject, wide.as_slice(), rows.len(), options)
 }
 
-// The picture of so many paths, where the rows are those that are wide enough for a box.
+// The picture of so many paths, if the rows are those that are wide enough for a box.
 fn draw_wide(
     alloc: Global,
     subject: Subject,

@@ -70,7 +70,7 @@ fn shown_key(path: &[&'static str]) -> &'static str
     }
 }
 
-/// The row of a path, which is the root of a graph, where `before` bytes come before it.
+/// The row of a path, which is the root of a graph, if `before` bytes come before it.
 fn row_from(mark: Mark, before: usize, path: &[&'static str], graph: &FlameGraph) -> Row<'static>
     ensures { row_data result ≡ row_from (λ _. mark) before
         (record { path = map (λ k. k.now) path.now; self_size = size_at graph.now []; total_size = total graph.now }) }
@@ -85,7 +85,7 @@ fn row_from(mark: Mark, before: usize, path: &[&'static str], graph: &FlameGraph
     }
 }
 
-/// Appends a row, where it is wide enough for a box.
+/// Appends a row, if it is wide enough for a box.
 pub(crate) fn push_wide<'a>(
     least: u32,
     all: u128,

@@ -19,7 +19,7 @@ pub struct Arguments<'a> {
     pub title: &'a str,
     /// The width of the narrowest box, in millionths of the width of the picture.
     pub narrowest: u32,
-    /// The files of the earlier profile. Where there is one, the picture is that of a change.
+    /// The files of the earlier profile. If there is one, the picture is that of a change.
     pub before: Vec<&'a str>,
     /// The files of the profile.
     pub after: Vec<&'a str>,
@@ -83,7 +83,7 @@ fn width_of(text: &str) -> Result<u32, Fault<'_>>
 }
 
 /// Reads the arguments: `--help`, `--text`, `--not-empty`, `--title` with a text, `--narrowest` with a number of
-/// millionths, `--before` with the name of a file, names of files, and `-` for the input, which is also read where no
+/// millionths, `--before` with the name of a file, names of files, and `-` for the input, which is also read if no
 /// file of the profile is named. It fails with `Fault::Arguments` if another argument begins with `-`, if `-` is
 /// repeated, if nothing follows `--title`, `--narrowest` or `--before`, if what follows `--narrowest` is no whole
 /// number of 32 bits, or if the text of a change is asked for. Of several words that are wrong it tells the first. Of

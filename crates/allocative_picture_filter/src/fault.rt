@@ -58,7 +58,7 @@ impl Fault<'_> {
     }
 }
 
-// Why a read failed, as the end of a line, where there is more to say than that it did.
+// Why a read failed, as the end of a line, if there is more to say than that it did.
 fn cause(kind: ErrorKind) -> &'static str {
     match kind {
         ErrorKind::NotFound => ": no such file",

@@ -24,7 +24,7 @@ pub struct Text<'a> {
     pub bytes: &'static [u8],
 }
 
-// The bytes behind a byte-order mark at their beginning, or all of them where there is none.
+// The bytes behind a byte-order mark at their beginning, or all of them if there is none.
 fn without_mark(bytes: &'static [u8]) -> &'static [u8]
     ensures { result.now ≡ without_mark bytes.now }
 {
@@ -35,8 +35,8 @@ fn without_mark(bytes: &'static [u8]) -> &'static [u8]
     }
 }
 
-/// Reads all bytes of a reader, and leaves out a byte-order mark at their beginning. It fails with `Fault::Reading` if a
-/// read fails. The only other error is `Fault::Memory`. An interrupted read is repeated.
+/// Reads all bytes of a reader, and leaves out a byte-order mark at their beginning. It fails with `Fault::Reading` if
+/// a read fails. The only other error is `Fault::Memory`. An interrupted read is repeated.
 pub fn read_text<'a, R: Read>(
     alloc: Global,
     source: Source<'a>,
@@ -134,7 +134,7 @@ fn graph_of_all<'a>(alloc: Global, texts: &[Text<'a>]) -> Result<FlameGraph, Fau
     Ok(graph)
 }
 
-// The graph that the texts of a profile add up to, with the input where it belongs to them.
+// The graph that the texts of a profile add up to, with the input if it belongs to them.
 fn later_graph<'a, R: Read>(
     alloc: Global,
     texts: &[Text<'a>],
@@ -197,10 +197,10 @@ fn make<'a, R: Read>(
 
 /// Runs the program but for reading its arguments and files, and returns the status.
 ///
-/// With status 0 what the arguments ask for is on the output: the picture of the graph that all texts add up to, that of
-/// the change to it from the graph of the earlier texts, or its text. With any other status the line of the fault goes
-/// to the errors, and nothing goes to the output, except for status 7. The earlier texts are added up first, then the
-/// others, and the input last. The status is that of the first fault:
+/// With status 0 what the arguments ask for is on the output: the picture of the graph that all texts add up to, that
+/// of the change to it from the graph of the earlier texts, or its text. With any other status the line of the fault
+/// goes to the errors, and nothing goes to the output, except for status 7. The earlier texts are added up first, then
+/// the others, and the input last. The status is that of the first fault:
 /// - 1 that memory runs out,
 /// - 2 that a line of a text is not a path, a space and a number of bytes, or has too many keys,
 /// - 3 that a text is not UTF-8,

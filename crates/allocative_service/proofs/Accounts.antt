@@ -46,13 +46,14 @@ changes tenant now old new h = record {
 pub in_ledger : (tenant : List ℕ) (now : Option Holding) (old new : Ledger) → ChangesOne tenant now old.accounts new.accounts → SameTerms old new → ChangesAccount tenant now old new
 in_ledger tenant now old new c same = record { changed = c.changed; others = c.others; terms = same }
 
--- What is written through the account that `get_mut` lent: the account changes and no other. The sum of all changes by as
--- much as that of the account. Where the account stays as it is, so do all.
+-- What is written through the account that `get_mut` lent: the account changes and no other. The sum of all changes
+-- by as much as that of the account. If the account stays as it is, so do all.
 pub record Written (tenant : List ℕ) (before now : Holding) (old new : Accounts) : Type 0 where
   pub one : ChangesOne tenant (Some now) old new
   pub all : all_bytes new.entries + sum_of before.entries ≡ all_bytes old.entries + sum_of now.entries
   pub same : now ≡ before → new.entries ≡ old.entries
 
+-- A write through the account that `get_mut` lent changes this account, and the sum by as much.
 pub written : (tenant : List ℕ) (before now : Holding) (old new : Accounts) → Some before ≡ get_by_text old tenant
     → WritesThrough string_cmp (λ k. slice_cmp nat_cmp tenant (string_bytes k)) old now new → Written tenant before now old new
 written tenant before now old new account w = record {
@@ -88,19 +89,22 @@ had_in_account number had None is = tt
 had_in_account number had (Some h) is = rw is (had_within number h.entries)
 
 -- ---- results
--- What holds holds also where the result is an Err, or None.
+-- What holds holds also if the result is an Err.
 pub OnErr-always : {T E P : Type 0} (r : Result T E) → P → OnErr r P
 OnErr-always (Ok x) h = tt
 OnErr-always (Err e) h = h
 
+-- What holds holds also if the option is None.
 pub IfNone-always : {T P : Type 0} (r : Option T) → P → IfNone r P
 IfNone-always None h = h
 IfNone-always (Some x) h = tt
 
+-- If P implies Q, and P holds if the option is None, so does Q.
 pub IfNone-weaker : {T P Q : Type 0} (r : Option T) → (P → Q) → IfNone r P → IfNone r Q
 IfNone-weaker None f h = f h
 IfNone-weaker (Some x) f h = tt
 
+-- An option that has no value is None.
 pub none_where : {T : Type 0} (o : Option T) → is_some o ≡ false → o ≡ None
 none_where None h = refl
 none_where (Some x) h = absurd cc

@@ -40,7 +40,7 @@ one_of p c false s e = ap (λ t. cond t (c ∷ []) []) e
 abbrev of_entries : Graph → Graph → List (Path × ℕ) → List Changed
 of_entries g h es = flat_map (change_of g h) (map (λ e. e.0) es)
 
--- The change of the first path counts where this is the path p.
+-- The change of the first path counts if this is the path p.
 parted : (g h : Graph) (p : Path) (e : Path × ℕ) (es : List (Path × ℕ)) (s : Bool) → is_same_path p e.0 ≡ s
     → filter (is_of p) (of_entries g h (e ∷ es)) ≡ cond s (change_of g h e.0) [] ++ filter (is_of p) (of_entries g h es)
 parted g h p e es s is =

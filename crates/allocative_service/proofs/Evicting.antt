@@ -33,7 +33,7 @@ module _ {F K V : Type 0} (step : F → K → V → F → Type 0) (on_evict : F)
       pub needed : IsNeeded room after gone
       pub handed : HandsBack step on_evict gone now
 
-    -- Removing the last entry is one step of evicting, where there is no room for all.
+    -- Removing the last entry is one step of evicting, if there is no room for all.
     pub goes : (es : Entries K V) (f : F) (e : K × Kept V) → Evicts es f → room < bytes_of es → last_entry es ≡ Some e
         → (bytes_of es - e.1.bytes ≡ bytes_of (take (length es - 1) es)) × ((g : F) → step f e.0 e.1.value g → Evicts (take (length es - 1) es) g)
     goes [] f e s more is = absurd cc
@@ -55,7 +55,7 @@ module _ {F K V : Type 0} (step : F → K → V → F → Type 0) (on_evict : F)
           },
         )
 
-  -- Where the first entry has room by itself, it stays, and the others are evicted as far as it leaves no room for them.
+  -- If the first entry has room by itself, it stays, and the others are evicted as far as it leaves no room for them.
   pub first_stays : (k : K × Kept V) (rest after : Entries K V) → k.1.bytes ≤ room → KeepsRecent step on_evict room (k ∷ rest) after → (others : Entries K V) × (after ≡ k ∷ others) × KeepsRecent step on_evict (room - k.1.bytes) rest others
   first_stays k rest [] fits r = absurd (omega (arith, fits, subst (λ (l : Entries K V). IsNeeded room [] l) (sym r.parts) r.needed))
   first_stays k rest (x ∷ others) fits r =

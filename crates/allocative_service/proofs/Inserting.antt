@@ -11,7 +11,7 @@ use Rattle.allocative_service.specs.Entries.{kept, with_entries, without, stored
 use Rattle.allocative_service.proofs.Evicting.{bytes_of-cons, first_stays, All-recent}
 
 module _ {K V : Type 0} where
-  -- Nothing is removed where no key passes the test.
+  -- Nothing is removed if no key passes the test.
   pub none_removed : (test : K → Bool) (es : Entries K V) → lookup_entry test es ≡ None → remove_entry test es ≡ es
   none_removed test [] none = refl
   none_removed test (e ∷ es) none = (elim (test e.0) as (λ y. test e.0 ≡ y → remove_entry test (e ∷ es) ≡ e ∷ es) [

@@ -14,6 +14,7 @@ use Rattle.allocative_graph.proofs.ChildRows.{rows-more}
 use Rattle.allocative_service.specs.Changes.{Changed, change_of, changes_of}
 use Rattle.allocative_service.specs.Walk.{size_in, change_behind, changes_behind}
 
+-- A size that is missing counts as 0.
 nothing : (o : Option ℕ) → is_some o ≡ false → unwrap_or o 0 ≡ 0
 nothing None h = refl
 nothing (Some n) h = absurd (cc)
@@ -22,7 +23,7 @@ nothing (Some n) h = absurd (cc)
 pub unequal : (m n : ℕ) → m ≢ n → (m == n) ≡ false
 unequal m n h = grind (arith, nat_tests)
 
--- What is found below a key of a profile has the sizes of the profile below the key, and where nothing is found they are 0.
+-- What is found below a key of a profile has the sizes of the profile below the key. If nothing is found, they are 0.
 pub sizes_found : (g : Graph) (k : Key) (o : Option (Bor Graph)) → IfSome o (λ h. IsBehind g (k ∷ []) h.now) → IfNone o (HasNothing g (k ∷ [])) → (p : Path) → size_at g (k ∷ p) ≡ size_in (option_copied o) p
 sizes_found g k None h none p = nothing _ (none.below p)
 sizes_found g k (Some b) h none p = ap (λ o. unwrap_or o 0) (sym (h.sizes p))

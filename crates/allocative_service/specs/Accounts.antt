@@ -42,8 +42,8 @@ SameTerms old new = (measure_of new ≡ measure_of old) × (limit_of new ≡ lim
 abbrev pub IsUnchanged : Ledger → Ledger → Type 0
 IsUnchanged old new = (accounts_of new ≡ accounts_of old) × SameTerms old new
 
--- The tenant now has this account, or none. The accounts of all other tenants, the measure and the limit of the ledger
--- are unchanged.
+-- The tenant now has this account, or none. The accounts of all other tenants, the measure and the limit of the
+-- ledger are unchanged.
 pub record ChangesAccount (tenant : List ℕ) (now : Option Holding) (old new : Ledger) : Type 0 where
   pub changed : account_of tenant new ≡ now
   pub others : (other : List ℕ) → other ≢ tenant → account_of other new ≡ account_of other old
@@ -55,8 +55,8 @@ pub record MapsAccount (tenant : List ℕ) (f : Holding → Holding) (old new : 
   pub account : account_of tenant old ≡ Some before
   pub change : ChangesAccount tenant (Some (f before)) old new
 
--- In the tenant's account, the number now has these bytes in place of `had`, and all bytes of that account together are
--- `total`.
+-- In the tenant's account, the number now has these bytes in place of `had`, and all bytes of that account together
+-- are `total`.
 pub record Enters (tenant : List ℕ) (number bytes : ℕ) (had : Option ℕ) (total : ℕ) (old new : Ledger) : Type 0 where
   pub before : Holding
   pub after : Holding
@@ -75,8 +75,9 @@ pub record Releases (tenant : List ℕ) (number bytes : ℕ) (old new : Ledger) 
   pub change : ChangesAccount tenant (Some (without number before)) old new
   pub all_is : total_of new + bytes ≡ total_of old
 
--- Replacing the `had` bytes of one entry of this account by `bytes` is rejected. The new sum of all accounts exceeds a
--- word, or the account rejects it, or its new sum is within its limit and that of all accounts exceeds the ledger's.
+-- Replacing the `had` bytes of one entry of this account by `bytes` is rejected. The new sum of all accounts exceeds
+-- a word, or the account rejects it, or its new sum is within its limit and that of all accounts exceeds the
+-- ledger's.
 abbrev pub RejectsPut : Ledger → ℕ → ℕ → Holding → Rejection → Type 0
 RejectsPut l had bytes h TooLarge = 2 ^ 64 + had ≤ total_of l + bytes
 RejectsPut l had bytes h (LedgerFull b n) = (b + had ≡ total_of l + bytes) × (n ≡ limit_of l) × (limit_of l < b)

@@ -18,7 +18,7 @@ pub record Changed : Type 0 where
 abbrev pub change_data : Change → Changed
 change_data c = record { path = map (λ k. k.now) c.path.items; earlier = c.earlier; later = c.later }
 
--- The change of a path from g to h. There is none where its bytes are the same in both.
+-- The change of a path from g to h. There is none if its bytes are the same in both.
 abbrev pub change_of : Graph → Graph → Path → List Changed
 change_of g h p =
     cond (size_at g p == size_at h p) [] (record { path = p; earlier = size_at g p; later = size_at h p } ∷ [])
@@ -27,13 +27,13 @@ change_of g h p =
 abbrev pub changes_of : Graph → Graph → List Changed
 changes_of g h = flat_map (change_of g h) (keys (sum_of g h))
 
--- For each path the list has its change and no other: one with its bytes in both profiles where they differ, and none
--- where they are the same.
+-- For each path the list has its change and no other: one with its bytes in both profiles if they differ, and none if
+-- they are the same.
 abbrev pub HasEach : Graph → Graph → List Changed → Type 0
 HasEach g h cs = (p : Path) → filter (λ c. is_same_path p c.path) cs ≡ change_of g h p
 
--- Whether a change is of this kind. A path came where it had no bytes before, and went where it has none after. A path
--- that grew or shrank has bytes in both profiles.
+-- Whether a change is of this kind. A path came if it had no bytes before, and went if it has none after. A path that
+-- grew or shrank has bytes in both profiles.
 abbrev pub is_kind : Kind → Changed → Bool
 is_kind Grew c = nat_lt 0 c.earlier && nat_lt c.earlier c.later
 is_kind Shrank c = nat_lt 0 c.later && nat_lt c.later c.earlier

@@ -104,8 +104,8 @@ module _ {V : Type 0} (size : Option ℕ) (may_show : V → Forest → Type 0) w
   abbrev pub IsMeasured : Measure → Kept V → Type 0
   IsMeasured m k = IsFigure m k.value k.bytes
 
-  -- Why a cache with this measure and this bound refuses v: a figure of v exceeds the bound, or v could not be measured,
-  -- as the measure says, or a figure of v is within the bound and memory runs out.
+  -- Why a cache with this measure and this bound refuses v: a figure of v exceeds the bound, or v could not be
+  -- measured, as the measure says, or a figure of v is within the bound and memory runs out.
   abbrev pub RefusesInsert : Bool → V → Measure → ℕ → CacheError → Type 0
   RefusesInsert is_exact v m bound (TooLarge bytes most) = IsFigure m v bytes × (most ≡ bound) × (bound < bytes)
   RefusesInsert is_exact v m bound (NotMeasured e) = MayRefuseMeasure m is_exact size (may_show v) e
@@ -119,9 +119,9 @@ module _ {V : Type 0} (size : Option ℕ) (may_show : V → Forest → Type 0) w
       pub measured : All (IsMeasured c.measure) (values_of c.entries)
 
     module _ {F : Type 0} (eq : K → K → Bool) (step : F → K → V → F → Type 0) where
-      -- The key now has v with a figure of v, as the most recently used entry. The old entry of the key is gone. Of the
-      -- others the least recently used are evicted, only as many as the bound requires, and the closure was called once
-      -- with each.
+      -- The key now has v with a figure of v, as the most recently used entry. The old entry of the key is gone. Of
+      -- the others the least recently used are evicted, only as many as the bound requires, and the closure was
+      -- called once with each.
       pub record Inserts (on_evict : F) (key : K) (v : V) (old new : Bounded K V) : Type 0 where
         pub bytes : ℕ
         pub others : Entries K V

@@ -15,7 +15,7 @@ profiles_of h = h.profiles.items
 abbrev pub most_of : History → ℕ
 most_of h = h.most
 
--- The profiles at two places of a history, where both are there.
+-- The profiles at two places of a history, if both are there.
 abbrev pub two_of : History → ℕ → ℕ → Option (Graph × Graph)
 two_of h i j = option_zip (slice_get (profiles_of h) i) (slice_get (profiles_of h) j)
 
@@ -29,7 +29,7 @@ pub record TakesProfile (p : Showing) (old new : History) : Type 0 where
   pub is_profile : IsProfileOf p profile
   pub kept : Keeps profile.graph old new
 
--- n of the changes between two profiles grew most, or all that grew where there are fewer. There are none where a profile
+-- n of the changes between two profiles grew most, or all that grew if there are fewer. There are none if a profile
 -- is missing.
 abbrev pub GrewMostBetween : ℕ → Option (Graph × Graph) → Option (List Changed) → Type 0
 GrewMostBetween n None None = ⊤

@@ -55,8 +55,8 @@ without number h = record h { entries = remove_entry (is_at (nat_cmp number)) h.
 abbrev pub IsSummed : ℕ → Holding → Type 0
 IsSummed bytes h = (bytes ≡ sum_of h.entries) × (bytes ≤ h.limit) × (bytes ≤ h.peak)
 
--- The number now has these bytes in place of `had`. All bytes of the account together are `total`, which is within its
--- limit.
+-- The number now has these bytes in place of `had`. All bytes of the account together are `total`, which is within
+-- its limit.
 pub record Puts (number bytes : ℕ) (had : Option ℕ) (total : ℕ) (old new : Holding) : Type 0 where
   pub had_bytes : bytes_at number old ≡ had
   pub is : new ≡ with_bytes number bytes total old

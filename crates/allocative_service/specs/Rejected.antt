@@ -13,7 +13,7 @@ abbrev pub IsOverBudget : ℕ → ℕ → Rejection → Type 0
 IsOverBudget bytes limit (OverBudget b l) = (b ≡ bytes) × (l ≡ limit) × (limit < bytes)
 IsOverBudget bytes limit _ = ⊥
 
--- A value by itself is rejected: what it declares exceeds the limit, or it could not be measured, as the measure says.
+-- A value by itself is rejected: it declares more than the limit, or it could not be measured, as the measure says.
 abbrev pub RejectsValue : Measure → Bool → Option ℕ → Showing → ℕ → Rejection → Type 0
 RejectsValue measure is_exact size p limit (OverBudget b l) =
     Declares measure size p b × (l ≡ limit) × (limit < b)

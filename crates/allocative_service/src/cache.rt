@@ -174,7 +174,7 @@ impl<K: Eq + Hash + Drop, V: Allocative + Described> BoundedCache<K, V> {
         Ok(bytes)
     }
 
-    /// Removes the key and returns it with its value. Where there is no such key, it returns None and nothing changes.
+    /// Removes the key and returns it with its value. If there is no such key, it returns None and nothing changes.
     #[tactic(auto, using(crate::proofs::Using::removing))]
     pub fn remove(&mut self, key: &K) -> Option<(K, V)>
         ensures value { result ≡ option_map (λ e. (e.0, e.1.value)) (lookup_entry (K.eq key.now) self.old.entries) }
@@ -208,7 +208,7 @@ impl<K: Eq + Hash + Drop, V: Allocative + Described> BoundedCache<K, V> {
     }
 
     /// Changes the value under the key in place, measures it again and inserts it as `insert` does. It returns whether
-    /// the cache has the key. Where it does not, nothing changes.
+    /// the cache has the key. If it does not, nothing changes.
     ///
     /// The errors are those of `insert`. After an error the key and the value are no longer in the cache, and come with
     /// the error.

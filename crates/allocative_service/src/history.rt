@@ -44,7 +44,7 @@ impl History {
         self.profiles.len()
     }
 
-    /// Adds a profile as the latest. The earliest goes where there would be too many. The only error is that memory runs
+    /// Adds a profile as the latest. The earliest goes if there would be too many. The only error is that memory runs
     /// out, and then the history is unchanged.
     pub fn keep(&mut self, profile: FlameGraph) -> Result<(), AllocError>
         ensures kept { OnOk result (Keeps profile self.old self.new) }
@@ -56,8 +56,8 @@ impl History {
         Ok(())
     }
 
-    /// Takes a profile of a value, as `profile_value` does, and keeps its graph as the latest. It is refused where
-    /// `profile_value` is, and with `Memory` where memory runs out. After an error the history is unchanged.
+    /// Takes a profile of a value, as `profile_value` does, and keeps its graph as the latest. It is refused if
+    /// `profile_value` is, and with `Memory` if memory runs out. After an error the history is unchanged.
     pub fn take_profile<T: Allocative>(&mut self, alloc: Global, value: &T) -> Result<(), Refusal>
         ensures taken { OnOk result (TakesProfile (T.may_show value.now) self.old self.new) }
         ensures refused { IfErr result (MayRefuseProfile T.is_exact (T.may_show value.now)) }
@@ -69,7 +69,7 @@ impl History {
         Ok(())
     }
 
-    /// Two profiles by their places, where 0 is that of the latest. It is None where one of the places has no profile.
+    /// Two profiles by their places; the latest has place 0. It is None if one of the places has no profile.
     pub fn pair(&self, earlier: usize, later: usize) -> Option<(&FlameGraph, &FlameGraph)>
         ensures { option_map deref_pair result ≡ two_of self.now earlier later }
     {
@@ -78,10 +78,10 @@ impl History {
         Some((earlier, later))
     }
 
-    /// The changes between two profiles by their places, as `compare` returns them. It is None where one of the places
+    /// The changes between two profiles by their places, as `compare` returns them. It is None if one of the places
     /// has no profile.
     ///
-    /// It returns `TooLarge` exactly where the totals of the two profiles together exceed `usize::MAX`. The only other
+    /// It returns `TooLarge` exactly if the totals of the two profiles together exceed `usize::MAX`. The only other
     /// error is that memory runs out.
     pub fn between(
         &self,
@@ -102,8 +102,8 @@ impl History {
         Ok(Some(changes))
     }
 
-    /// The changes of the paths that grew most between the last two profiles, as the function `grew_most` picks them. It
-    /// is None where there are fewer than two profiles. The errors are those of `between`.
+    /// The changes of the paths that grew most between the last two profiles, as the function `grew_most` picks them.
+    /// It is None if there are fewer than two profiles. The errors are those of `between`.
     pub fn grew_most(&self, alloc: Global, count: usize) -> Result<Option<Vec<Change>>, Refusal>
         ensures grew { IfOk result (λ top. GrewMostBetween count (two_of self.now 1 0)
             (option_map (λ changes. map change_data changes.items) top)) }

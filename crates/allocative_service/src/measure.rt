@@ -42,7 +42,7 @@ impl Measure {
 /// The bytes of all that a value shows: the total of the graph that `profile_value` makes of it. What a shared pointer
 /// points to counts once for each value that is measured. The memory of the graph is given back before it returns.
 ///
-/// It returns an error where `profile_value` does. For an exact type that is `Memory`, or `TooLarge` where a flame graph
+/// It returns an error if `profile_value` does. For an exact type that is `Memory`, or `TooLarge` if a flame graph
 /// cannot take all that the value may show.
 pub fn size_of_shown<T: Allocative>(alloc: Global, value: &T) -> Result<usize, Refusal>
     ensures shown { IfOk result (IsSizeOfShown (T.may_show value.now)) }

@@ -1,4 +1,4 @@
--- What the items of an iterator show, where the list of its items is known.
+-- What the items of an iterator show, if the list of its items is known.
 use Rattle.std.proofs.Common.{false, Option, List, subst}
 use Rattle.std.proofs.lemmas.Bool.{false≢true}
 use Rattle.std.proofs.lemmas.Iterator.{YieldsList, items_from_drains}
@@ -6,6 +6,7 @@ use Rattle.allocative.specs.Shows.{Showing}
 use Rattle.allocative.specs.Runs.{IsOfRun}
 use Rattle.allocative.specs.Visited.{Means}
 
+-- If an iterator yields exactly one list, a run of it shows only what q allows for this list.
 pub means_list : {S A B : Type 0} {steps : S → Option A → S → Type 0} {s : S} {v : A → B} (q : List B → Showing) {all : List B} → YieldsList steps v s all → Means false (IsOfRun steps s v q) (q all)
 means_list q y = record {
   means = λ f o.

@@ -16,7 +16,7 @@ use indexmap::{IndexMap, IndexSet};
 use std::collections::{BTreeMap, BTreeSet, HashMap, HashSet};
 use std::hash::Hash;
 
-/// The items of a slice, as `Items(slice)`: one entry with the item's name and all bytes where the items need
+/// The items of a slice, as `Items(slice)`: one entry with the item's name and all bytes if the items need
 /// no drop or have size 0, otherwise what each item shows. The errors are those of `Visitor::visit_slice`.
 ///
 /// ```
@@ -166,7 +166,7 @@ impl<'a, K: Allocative + Described + Eq + Hash, V: Allocative + Described> Part
     }
 }
 
-/// The entry `unused_capacity`, with the bytes of `count` unused places. Where an item has no size, or the
+/// The entry `unused_capacity`, with the bytes of `count` unused places. If an item has no size, or the
 /// bytes do not fit, `enter` returns `TooLarge`.
 #[derive(Drop)]
 pub struct Unused {
@@ -188,9 +188,9 @@ impl Part for Unused {
     }
 }
 
-/// The buffer of a container on the heap: nothing where its items have size 0, or where `count` and `capacity`
+/// The buffer of a container on the heap: nothing if its items have size 0, or if `count` and `capacity`
 /// are both 0; otherwise a unique entry `ptr` of 8 bytes, with the items and the entry of the unused places
-/// inside it. Where an item has no size, `enter` returns `TooLarge`.
+/// inside it. If an item has no size, `enter` returns `TooLarge`.
 ///
 /// ```
 /// let buffer = Buffer {
@@ -274,7 +274,7 @@ impl<'a> Part for Text<'a> {
     }
 }
 
-/// The hash table of some number of items: nothing where that is 0, otherwise a unique entry `raw_table` of 8
+/// The hash table of some number of items: nothing if that is 0, otherwise a unique entry `raw_table` of 8
 /// bytes, with an entry `alloc` of the table's bytes inside it.
 #[derive(Drop)]
 pub struct Table(pub usize);

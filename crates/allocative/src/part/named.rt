@@ -8,7 +8,7 @@ use crate::{Allocative, Described, Field, Key, Part, Refusal, Visitor};
 /// the value shows inside it.
 ///
 /// It keeps roots of one type apart in a graph. The name changes neither the total of a graph nor held bytes,
-/// where the value itself shows its declared size.
+/// if the value itself shows its declared size.
 ///
 /// ```
 /// let output = profile_value(alloc, &Named(Key::new("open"), 3u32))?;

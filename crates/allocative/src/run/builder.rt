@@ -76,15 +76,15 @@ impl FlameGraphBuilder {
         self.lend().graph_root_visitor()
     }
 
-    /// Visits a root by a root visitor. It returns `Ok` exactly where the builder afterwards has not
+    /// Visits a root by a root visitor. It returns `Ok` exactly if the builder afterwards has not
     /// failed and has no open visitor.
     ///
     /// A builder that has failed returns its first cause, and one with an open visitor returns
     /// `Open`; then nothing changes. Otherwise the error is the first cause of the visit, or `Open`
-    /// where the visit forgot a visitor.
+    /// if the visit forgot a visitor.
     ///
     /// A builder that has not failed and has no open visitor refuses a root of an exact type only with `Memory`, or
-    /// with `TooLarge` where not all that the root may show can be added.
+    /// with `TooLarge` if not all that the root may show can be added.
     pub fn visit_root(&mut self, root: &dyn Allocative) -> Result<(), Refusal>
         ensures visits_root { VisitsRoot (may_show root.now) self.old result self.new }
         ensures only_if_full { RootFailsOnlyIfFull (⟦<dyn Allocative as Allocative>⟧ root.now.0).is_exact
@@ -104,7 +104,7 @@ impl FlameGraphBuilder {
         self.collector.visit_value(root)
     }
 
-    /// `Ok` where the builder has not failed and has no open visitor, otherwise its first cause, or `Open`.
+    /// `Ok` if the builder has not failed and has no open visitor, otherwise its first cause, or `Open`.
     pub(crate) fn check(&self) -> Result<(), Refusal>
         ensures { Settles self.now result }
     {

@@ -14,7 +14,7 @@ impl FlameGraphBuilder {
     /// Visits roots of one type in order, up to the first refusal, each as `visit_value` does.
     ///
     /// A builder that has not failed and has no open visitor refuses roots of an exact type only with `Memory`, or with
-    /// `TooLarge` where not all that the roots may show together can be added.
+    /// `TooLarge` if not all that the roots may show together can be added.
     pub fn visit_values<T: Allocative>(&mut self, roots: &[T]) -> Result<(), Refusal>
         ensures visits_root { VisitsRoot (each_shows T.may_show roots.now) self.old result self.new }
         ensures only_if_full { RootFailsOnlyIfFull T.is_exact (each_shows T.may_show roots.now) self.old result self.new }
@@ -32,7 +32,7 @@ impl FlameGraphBuilder {
 /// A struct that owns the parts of a service is profiled so, from a method of its own. The promise is that of
 /// `profile_roots`, for what the value may show. It makes no trait object, so any function may hold the value and
 /// pass it on. The graph's total is at most `isize::MAX` bytes. It is refused for want of memory, or as the value's
-/// own visit is. A value of an exact type is refused only with `Memory`, or with `TooLarge` where a flame graph cannot
+/// own visit is. A value of an exact type is refused only with `Memory`, or with `TooLarge` if a flame graph cannot
 /// take all that the value may show.
 ///
 /// ```

@@ -69,8 +69,8 @@ impl Registry {
 impl FlameGraphBuilder {
     /// Visits the registry's roots in order, up to the first refusal, each as `visit_root` does.
     ///
-    /// Where the types of all roots are exact, a builder that has not failed and has no open visitor refuses them only
-    /// with `Memory`, or with `TooLarge` where not all that the roots may show together can be added.
+    /// If the types of all roots are exact, a builder that has not failed and has no open visitor refuses them only
+    /// with `Memory`, or with `TooLarge` if not all that the roots may show together can be added.
     pub fn visit_global_roots(&mut self, registry: &Registry) -> Result<(), Refusal>
         ensures visits_root { VisitsRoot
             (each_shows (λ b. (⟦<dyn Allocative as Allocative>⟧ b.vtable).may_show b.value)
@@ -93,9 +93,9 @@ impl FlameGraphBuilder {
 ///
 /// The graph has exactly the paths of the roots' own entries and, once for each identity reached, of the first
 /// content shown for it; each path has its declared bytes less those declared one step below, never below zero, or
-/// all where it was ever unique. The warnings have a line for each path but the root that was never unique and has
-/// fewer bytes than stand one key below. It is refused for want of memory, or as a root's own visit is. Where the types
-/// of all roots are exact, it is refused only with `Memory`, or with `TooLarge` where a flame graph cannot take all that
+/// all if it was ever unique. The warnings have a line for each path but the root that was never unique and has
+/// fewer bytes than stand one key below. It is refused for want of memory, or as a root's own visit is. If the types
+/// of all roots are exact, it is refused only with `Memory`, or with `TooLarge` if a flame graph cannot take all that
 /// the roots may show together.
 pub fn profile_roots(registry: &Registry) -> Result<FlameGraphOutput, Refusal>
     ensures profile { IfOk result

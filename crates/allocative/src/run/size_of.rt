@@ -12,12 +12,12 @@ use crate::{Allocative, Described, Refusal, Visitor};
 /// The bytes that the root holds on the heap: the sum of the inline entries whose direct parent is a unique entry, with
 /// nothing below a shared entry.
 ///
-/// It takes no memory, and has no refusal of its own. It is refused with TooLarge where the sum or a declared size does
-/// not fit, with Open where a visitor was forgotten and nothing was refused, and else with the first cause of the
+/// It takes no memory, and has no refusal of its own. It is refused with TooLarge if the sum or a declared size does
+/// not fit, with Open if a visitor was forgotten and nothing was refused, and else with the first cause of the
 /// visit. The entries of std's maps and sets are declared inline, so of them only what the keys and values hold counts.
 ///
-/// An object of an exact type is refused with TooLarge alone: where what it may show asks for a declared size that is
-/// not there, or where some of what it may show does not fit.
+/// An object of an exact type is refused with TooLarge alone: if what it may show asks for a declared size that is
+/// not there, or if some of what it may show does not fit.
 pub fn size_of_unique_allocated_data(root: &dyn Allocative) -> Result<usize, Refusal>
     ensures held { IfOk result (λ s. (f : Forest) × may_show root.now f × ShowsNoContent f × (s ≡ held f)) }
     ensures refused { IfErr result
@@ -29,12 +29,12 @@ pub fn size_of_unique_allocated_data(root: &dyn Allocative) -> Result<usize, Ref
     Ok(collector.sum())
 }
 
-/// The same plus the declared size of the root. It visits the value itself, and makes no trait object. Its only refusal of
-/// its own is TooLarge, after a visit that is not refused: where the root has no declared size, or where it does not fit
+/// The same plus the declared size of the root. It visits the value itself, and makes no trait object. Its only refusal
+/// of its own is TooLarge, after a visit that is not refused: if the root has no declared size, or if it does not fit
 /// together with what the root holds.
 ///
-/// An exact type is refused with TooLarge alone: where it has no declared size, where what the value may show asks for
-/// a declared size that is not there, or where some of what it may show does not fit, by itself or together with the
+/// An exact type is refused with TooLarge alone: if it has no declared size, if what the value may show asks for
+/// a declared size that is not there, or if some of what it may show does not fit, by itself or together with the
 /// declared size of the root.
 ///
 /// ```
@@ -64,10 +64,10 @@ pub fn size_of_unique<T: Allocative + Described>(root: &T) -> Result<usize, Refu
 /// Each entry counts its bytes less those of the entries directly inside it, never below zero, and all of them if it is
 /// unique or shared. So the entries of std's maps and sets count, and a shared pointer counts for itself alone.
 ///
-/// It takes no memory, and has no refusal of its own. It is refused with TooLarge if the sum or a declared size does not
-/// fit, with Open if a visitor was forgotten and nothing was refused, and else with the first cause of the visit. An
-/// exact type is refused with TooLarge alone: if what the value may show asks for a declared size that is not there, or
-/// if some of what it may show does not fit.
+/// It takes no memory, and has no refusal of its own. It is refused with TooLarge if the sum or a declared size does
+/// not fit, with Open if a visitor was forgotten and nothing was refused, and else with the first cause of the visit.
+/// An exact type is refused with TooLarge alone: if what the value may show asks for a declared size that is not there,
+/// or if some of what it may show does not fit.
 ///
 /// ```
 /// let number: Box<u32> = Box::new(alloc, 7)?;
@@ -86,9 +86,9 @@ pub fn size_of_owned<T: Allocative>(root: &T) -> Result<usize, Refusal>
 /// The bytes that the closure's entries hold on the heap, as `size_of_unique_allocated_data` counts those of a value.
 ///
 /// The closure enters what it likes at a root visitor, as the parts of a value that one asks for, and hands the
-/// visitor back at the place where it got it. It takes no memory. It is refused with TooLarge where the sum or a
-/// declared size does not fit, and else with the first cause, which is the closure's refusal where nothing was
-/// refused before; with Open where a visitor was forgotten.
+/// visitor back at the place where it got it. It takes no memory. It is refused with TooLarge if the sum or a
+/// declared size does not fit, and else with the first cause, which is the closure's refusal if nothing was
+/// refused before; with Open if a visitor was forgotten.
 ///
 /// ```
 /// let number: Box<u32> = Box::new(alloc, 7)?;

@@ -73,8 +73,8 @@ pub fn enter_unique(
     Ok(Visitor { collector, outer })
 }
 
-/// One more pointer of `size` bytes to the shared value with the identity `id`, as `Visitor::enter_shared` makes it, and
-/// a visitor at the value's content. Where the content is not to be shown the call returns `Err(None)`, and otherwise
+/// One more pointer of `size` bytes to the shared value with the identity `id`, as `Visitor::enter_shared` makes it,
+/// and a visitor at the value's content. If the content is not to be shown the call returns `Err(None)`, and otherwise
 /// the errors of `Visitor::enter_shared`.
 pub fn enter_content(
     collector: &mut Collector,

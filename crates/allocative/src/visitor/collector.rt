@@ -113,7 +113,7 @@ impl Kind {
         }
     }
 
-    // One more root visitor, where no visitor is open. It returns what `close_entry` restores.
+    // One more root visitor, when no visitor is open. It returns what `close_entry` restores.
     fn begin(&mut self) -> Outer
         requires { IsClosed (kind_of self.old) }
         ensures outer { result ≡ outer_of 0 (kind_of self.old) }
@@ -176,7 +176,7 @@ impl Collector {
         }
     }
 
-    /// The first cause where the collector has failed, otherwise `Ok`.
+    /// The first cause if the collector has failed, otherwise `Ok`.
     pub(crate) fn go_on(&self) -> Result<(), Refusal>
         ensures { Makes Done self.now result self.now }
     {
@@ -267,8 +267,8 @@ impl Collector {
         }
     }
 
-    /// One more root visitor. It returns what `close_entry` restores, the first cause where the collector
-    /// has failed, or `Open` where a visitor is open.
+    /// One more root visitor. It returns what `close_entry` restores, the first cause if the collector
+    /// has failed, or `Open` if a visitor is open.
     pub(crate) fn begin(&mut self) -> Result<Outer, Refusal>
         ensures { OpensRoot self.old result self.new }
     {
@@ -281,7 +281,7 @@ impl Collector {
         Ok(self.kind.begin())
     }
 
-    /// The first cause where the collector has failed, `Open` where a visitor is open, and otherwise `Ok`.
+    /// The first cause if the collector has failed, `Open` if a visitor is open, and otherwise `Ok`.
     pub(crate) fn check(&self) -> Result<(), Refusal>
         ensures { Settles self.now result }
     {
@@ -294,7 +294,7 @@ impl Collector {
         Ok(())
     }
 
-    /// Checks the collector of a flame graph: the first cause where it has failed, `Open` where a visitor is
+    /// Checks the collector of a flame graph: the first cause if it has failed, `Open` if a visitor is
     /// open, and otherwise `Ok`. Another collector counts as failed with `Open`.
     pub(crate) fn check_graph(&self) -> Result<(), Refusal>
         ensures { Settles (as_graph self.now) result }
@@ -340,7 +340,7 @@ impl Collector {
     ghost use Rattle.allocative.specs.Visited.{OpensRootAt, VisitsRootWithEffect};
 
     /// Enters inline with a declared size: one more entry of that size under the key, and a visitor at it. It
-    /// returns `TooLarge` where there is no size; the other errors are those of `by_hand::enter`.
+    /// returns `TooLarge` if there is no size; the other errors are those of `by_hand::enter`.
     #[inline(always)]
     pub(crate) fn enter_sized(
         &mut self,
@@ -359,7 +359,7 @@ impl Collector {
         })
     }
 
-    /// A visitor at the content of a shared value, where `open_shared` returned that it is to be
+    /// A visitor at the content of a shared value, when `open_shared` returned that it is to be
     /// shown. It allocates nothing.
     pub(crate) fn content(&mut self) -> Visitor<'_>
         ensures same_reference { result.collector.ghost_name ≡ self.entry.ghost_name }
@@ -373,8 +373,8 @@ impl Collector {
         }
     }
 
-    /// A visitor at the root. It returns the first cause where the collector has failed, and
-    /// `Open` where a visitor is open.
+    /// A visitor at the root. It returns the first cause if the collector has failed, and
+    /// `Open` if a visitor is open.
     pub(crate) fn root_visitor(&mut self) -> Result<Visitor<'_>, Refusal>
         ensures* lent { sem 𝓛 (LendsBegun self.entry result) }
         ensures same_reference { IfOk result (λ v. v.collector.ghost_name ≡ self.entry.ghost_name) }
@@ -401,7 +401,7 @@ impl Collector {
     }
 
     /// Visits an object by a root visitor. What the visit returns is not looked at: the collector keeps the first
-    /// cause. A collector that is closed refuses an object of an exact type only where it must.
+    /// cause. A collector that is closed refuses an object of an exact type only if it must.
     pub(crate) fn visit_object(&mut self, root: &dyn Allocative) -> Result<(), Refusal>
         ensures visits_root { VisitsRoot (may_show root.now) self.old result self.new }
         ensures only_if_full { RootFailsOnlyIfFull (⟦<dyn Allocative as Allocative>⟧ root.now.0).is_exact

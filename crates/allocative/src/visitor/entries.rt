@@ -11,7 +11,7 @@ use crate::by_hand::enter;
 use crate::{Allocative, Described, Key, Part, Refusal, Visitor};
 
 impl Visitor<'_> {
-    /// One inline entry of the declared name and size of `T`. It is `TooLarge` where there is no size; its
+    /// One inline entry of the declared name and size of `T`. It is `TooLarge` if there is no size; its
     /// other errors are those of `enter`.
     #[inline(always)]
     pub fn visit_simple_sized<T: Described>(&mut self) -> Result<(), Refusal>
@@ -41,7 +41,7 @@ impl Visitor<'_> {
 
     /// One inline entry of the field's declared size in bytes, with what the field shows inside it.
     ///
-    /// A collector that has failed returns its first cause. The entry is `TooLarge` where there is no size; its
+    /// A collector that has failed returns its first cause. The entry is `TooLarge` if there is no size; its
     /// other errors are those of `enter`. The field's own errors come after it.
     pub fn visit_field<T: Allocative + Described>(
         &mut self,
@@ -57,7 +57,7 @@ impl Visitor<'_> {
     /// One inline entry of `size` bytes, with what the closure enters inside it.
     ///
     /// A collector that has failed returns its first cause, and the errors of the entry are those of `enter`.
-    /// Where the closure returns `Err`, the collector has failed afterwards: with the closure's error, or with
+    /// If the closure returns `Err`, the collector has failed afterwards: with the closure's error, or with
     /// the cause that it had failed with before. The closure leaves its visitor where it was.
     pub fn visit_field_with<F: FnOnce(&mut Visitor<'_>) -> Result<(), Refusal>>(
         &mut self,
@@ -111,7 +111,7 @@ impl Visitor<'_> {
     /// that what the object shows.
     ///
     /// A collector that has failed returns its first cause. The errors of each entry are those of `enter`; the
-    /// object's own errors come after them. It is exact where the type of the object is.
+    /// object's own errors come after them. It is exact if the type of the object is.
     pub fn visit_boxed_object(&mut self, object: &dyn Allocative) -> Result<(), Refusal>
         ensures entered { Entered (⟦<dyn Allocative as Allocative>⟧ object.now.0).is_exact
             (Inside (codes "Box") 8 (InsideUnique (codes "ptr") 8 (may_show object.now))) self.old self.new result }

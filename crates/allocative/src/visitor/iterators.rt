@@ -14,7 +14,7 @@ ghost use Rattle.allocative.specs.Runs.{IsOfRun, RefusesAlong, RefusesCounted, C
 use crate::visitor::slices::are_shown_each;
 use crate::{Allocative, Described, Key, Part, Refusal, Visitor};
 
-// The number of items that the iterator gives, or `None` where it does not fit.
+// The number of items that the iterator gives, or `None` if it does not fit.
 fn count_of<A: Drop, I: Iterator<Item = A> + Drop>(items: I) -> Option<usize>
     requires can { I.can_next items }
     requires ends { IsFinite (I.remaining items) }
@@ -38,7 +38,7 @@ pub(crate) trait EnterItem<A>: Drop {
     /// The forests that entering an item may add.
     ghost may_show: { Self → Seen → Forest → Type 0 };
 
-    /// Whether entering refuses only where it must, as `Part` says.
+    /// Whether entering refuses only if it must, as `Part` says.
     ghost is_exact: { Bool };
 
     /// Enters the item at the visitor.
@@ -129,13 +129,13 @@ impl Visitor<'_> {
         Ok(())
     }
 
-    /// One inline entry with the item's name and the bytes of all items where the items need no drop or have
+    /// One inline entry with the item's name and the bytes of all items if the items need no drop or have
     /// size 0, otherwise what each item shows.
     ///
-    /// A collector that has failed returns its first cause. The entry is `TooLarge` where the item has no size,
-    /// where the count does not fit, or where the bytes do not; its other errors are those of `enter`. Items of an exact
-    /// type are refused only where they must be, if no more items of size 0 are given than fit a word. The iterator is
-    /// one that can be asked for its next item and that ends.
+    /// A collector that has failed returns its first cause. The entry is `TooLarge` if the item has no size,
+    /// if the count does not fit, or if the bytes do not; its other errors are those of `enter`. If no more
+    /// items of size 0 are given than fit a word, items of an exact type are refused only if they must be. The
+    /// iterator is one that can be asked for its next item and that ends.
     pub fn visit_iter<'a, T: Allocative + Described + 'a, I: Iterator<Item = &'a T> + Drop>(
         &mut self,
         items: I,

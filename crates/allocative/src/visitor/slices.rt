@@ -11,15 +11,15 @@ ghost use Rattle.allocative.specs.Bodies.{are_shown_each, bytes_shown, vec_body,
 use crate::visitor::iterators::{FieldUnder, Itself};
 use crate::{Allocative, Described, Key, Refusal, Visitor};
 
-/// The bytes of `count` items. `None` where an item has no size, where there is no count, or
-/// where the bytes do not fit.
+/// The bytes of `count` items. `None` if an item has no size, if there is no count, or
+/// if the bytes do not fit.
 pub(crate) fn bytes_of<T: Described>(count: Option<usize>) -> Option<usize>
     ensures { result ≡ size_product T.size count }
 {
     T::size()?.checked_mul(count?)
 }
 
-/// Whether the items of a slice are shown one by one: where they need a drop and have a size other than 0.
+/// Whether the items of a slice are shown one by one: if they need a drop and have a size other than 0.
 pub(crate) fn are_shown_each<T: Described>() -> bool
     ensures { result ≡ are_shown_each T.needs_drop T.size }
 {
@@ -27,7 +27,7 @@ pub(crate) fn are_shown_each<T: Described>() -> bool
 }
 
 impl Visitor<'_> {
-    /// One inline entry of a size. It is `TooLarge` where there is no size.
+    /// One inline entry of a size. It is `TooLarge` if there is no size.
     #[inline(always)]
     pub(crate) fn visit_sized(&mut self, name: Key, size: Option<usize>) -> Result<(), Refusal>
         ensures entered { Entered true (Field name size Nothing) self.old self.new result }
@@ -36,7 +36,7 @@ impl Visitor<'_> {
         self.collector.enter_simple(name, size)
     }
 
-    /// One inline entry of the bytes of `count` items. It is `TooLarge` where `bytes_of` returns `None`.
+    /// One inline entry of the bytes of `count` items. It is `TooLarge` if `bytes_of` returns `None`.
     pub(crate) fn visit_counted<T: Described>(
         &mut self,
         name: Key,
@@ -48,7 +48,7 @@ impl Visitor<'_> {
         self.visit_sized(name, bytes_of::<T>(count))
     }
 
-    /// One inline entry of the bytes of `count` unused places. It is `TooLarge` where `bytes_of` returns
+    /// One inline entry of the bytes of `count` unused places. It is `TooLarge` if `bytes_of` returns
     /// `None`.
     pub(crate) fn visit_unused<T: Described>(&mut self, count: usize) -> Result<(), Refusal>
         ensures entered { Entered true (bytes_shown (codes "unused_capacity") T.size count) self.old self.new result }
@@ -68,10 +68,10 @@ impl Visitor<'_> {
         self.visit_run(Itself, items.iter())
     }
 
-    /// One inline entry with the item's name and all bytes where the items need no drop or have size 0,
+    /// One inline entry with the item's name and all bytes if the items need no drop or have size 0,
     /// otherwise what each item shows.
     ///
-    /// A collector that has failed returns its first cause. The entry is `TooLarge` where the item has no size
+    /// A collector that has failed returns its first cause. The entry is `TooLarge` if the item has no size
     /// or the bytes do not fit; its other errors are those of `enter`.
     pub fn visit_slice<T: Allocative + Described>(&mut self, items: &[T]) -> Result<(), Refusal>
         ensures entered { Entered T.is_exact
@@ -100,8 +100,8 @@ impl Visitor<'_> {
     /// One inline entry with the item's name and the bytes of all items, with a field `data` for each item
     /// inside it.
     ///
-    /// A collector that has failed returns its first cause. The entry is `TooLarge` where the item has no size,
-    /// even with no items, or where the bytes do not fit; its other errors are those of `enter`.
+    /// A collector that has failed returns its first cause. The entry is `TooLarge` if the item has no size,
+    /// even with no items, or if the bytes do not fit; its other errors are those of `enter`.
     pub fn visit_slice_of<T: Allocative + Described>(&mut self, items: &[T]) -> Result<(), Refusal>
         ensures entered { Entered T.is_exact (slice_of T.name T.size T.may_show items.now) self.old self.new result }
         ensures first { MakesFirst T.name (size_product T.size (Some (length items.now))) self.old self.new result }
@@ -138,7 +138,7 @@ impl Visitor<'_> {
     /// shows and an entry `unused_capacity` of the bytes of the room that is left. `capacity` is at
     /// least the number of items.
     ///
-    /// A collector that has failed returns its first cause. Each entry is `TooLarge` where an item has no size
+    /// A collector that has failed returns its first cause. Each entry is `TooLarge` if an item has no size
     /// or its bytes do not fit; its other errors are those of `enter`.
     pub fn visit_vec_like_body<T: Allocative + Described>(
         &mut self,

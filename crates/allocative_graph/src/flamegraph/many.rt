@@ -13,7 +13,7 @@ impl FlameGraph {
     /// Adds some children, each as [`add_child`](FlameGraph::add_child) does; children with one key add up.
     /// Their order does not matter: they are sorted once, and then merged with the children that are there.
     ///
-    /// It returns `TooLarge` exactly where the sum of all totals exceeds `usize::MAX`, and then changes
+    /// It returns `TooLarge` exactly if the sum of all totals exceeds `usize::MAX`, and then changes
     /// nothing. After `Memory` each path has its old size or that of the sum, all old paths are still there,
     /// and there is no path that the sum does not have. After an error the children are dropped.
     pub fn add_children(&mut self, children: Vec<Child>) -> Result<(), Refusal>
@@ -36,7 +36,7 @@ impl FlameGraph {
     }
 }
 
-// The sum of the totals of some children, or `None` where it does not fit.
+// The sum of the totals of some children, or `None` if it does not fit.
 #[tactic(auto, using(std::proofs::Common::take_all))]
 fn total_size_of(children: &[Child]) -> Option<usize>
     ensures { SomeIff result (total_of children.now < 2 ^ 64) (total_of children.now) }

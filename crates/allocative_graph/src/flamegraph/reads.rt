@@ -38,7 +38,7 @@ impl FlameGraph {
         self.children.as_slice()
     }
 
-    /// The graph at a path, whose root is that path. It returns `None` exactly where the graph has no such
+    /// The graph at a path, whose root is that path. It returns `None` exactly if the graph has no such
     /// path.
     pub fn get(&self, path: &[&str]) -> Option<&FlameGraph>
         ensures found { IfSome result (λ found. IsBehind self.now (map (λ k. k.now) path.now) found.now) }
@@ -54,14 +54,14 @@ impl FlameGraph {
         children[place].graph.get(rest)
     }
 
-    /// The size at a path, in bytes; 0 where the graph has no such path.
+    /// The size at a path, in bytes; 0 if the graph has no such path.
     pub fn size_at(&self, path: &[&str]) -> usize
         ensures { result ≡ size_at self.now (map (λ k. k.now) path.now) }
     {
         self.get(path).map_or(0, FlameGraph::self_size)
     }
 
-    /// The bytes of a path and of all paths below it; 0 where the graph has no such path.
+    /// The bytes of a path and of all paths below it; 0 if the graph has no such path.
     pub fn total_at(&self, path: &[&str]) -> usize
         ensures { result ≡ total_at self.now (map (λ k. k.now) path.now) }
     {

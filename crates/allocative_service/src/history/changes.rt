@@ -74,7 +74,7 @@ impl Change {
 /// The changes from one profile to another: exactly the paths whose bytes differ, each with its bytes in both, in the
 /// order of paths.
 ///
-/// It returns `TooLarge` exactly where the two totals together exceed `usize::MAX`. The totals of two finished profiles
+/// It returns `TooLarge` exactly if the two totals together exceed `usize::MAX`. The totals of two finished profiles
 /// never do. The only other error is that memory runs out.
 pub fn compare(
     alloc: Global,

@@ -33,14 +33,14 @@ fn below<'a>(profile: Option<&'a FlameGraph>, key: &str) -> Option<&'a FlameGrap
     profile?.get(&[key])
 }
 
-// The size of the root of a profile where there is one, and else 0.
+// The size of the root of a profile if there is one, and else 0.
 fn own_size(profile: Option<&FlameGraph>) -> usize
     ensures { result ≡ size_in (option_copied profile.entry) [] }
 {
     profile.map_or(0, FlameGraph::self_size)
 }
 
-// Appends the change of a path, where its bytes differ.
+// Appends the change of a path, if its bytes differ.
 fn push_change(
     path: &Vec<&'static str>,
     earlier: usize,

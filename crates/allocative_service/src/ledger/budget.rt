@@ -18,7 +18,7 @@ pub struct Budget {
 }
 
 impl Budget {
-    /// Returns the bytes where they are at most the limit, and otherwise `OverBudget`.
+    /// Returns the bytes if they are at most the limit, and otherwise `OverBudget`.
     pub fn check(&self, bytes: usize) -> Result<usize, Rejection>
         ensures within { IfOk result (λ checked. (checked ≡ bytes) × (bytes ≤ self.now.limit)) }
         ensures over { IfErr result (IsOverBudget bytes self.now.limit) }
@@ -32,10 +32,10 @@ impl Budget {
         Ok(bytes)
     }
 
-    /// Measures one value by itself, for example all that a tenant has. Where the bytes that it declares are within the
+    /// Measures one value by itself, for example all that a tenant has. If the bytes that it declares are within the
     /// limit, it returns them.
     ///
-    /// It returns `OverBudget` exactly where they exceed the limit, and `NotMeasured` where `Measure::size_of` returns
+    /// It returns `OverBudget` exactly if they exceed the limit, and `NotMeasured` if `Measure::size_of` returns
     /// an error.
     pub fn admit<T: Allocative + Described>(
         &self,

@@ -1,4 +1,4 @@
-//! `SmallVec`: a field for each item, inside a pointer where the items are in an allocation.
+//! `SmallVec`: a field for each item, inside a pointer if the items are in an allocation.
 
 ghost use Rattle.std.specs.Prelude.{codes};
 ghost use Rattle.allocative_graph.specs.Shows as shows;

@@ -1,4 +1,4 @@
-//! Shared values: a pointer and, where the identity was not met before, what it points to.
+//! Shared values: a pointer and, if the identity was not met before, what it points to.
 
 ghost use Rattle.std.specs.Prelude.{codes, Some};
 ghost use Rattle.allocative_graph.specs.Shows as shows;

@@ -6,6 +6,7 @@ use Rattle.allocative_collectors.proofs.Chunks.{chunk_is, kept_in, put_in, put_b
 use Rattle.allocative_collectors.proofs.children.insert_in.Goals as goal
 use Rattle.allocative_collectors.proofs.children.insert_in.Goals.{After-index_mut}
 
+-- A step of `insert_in`: if a chunk is changed, it is one of the chunks.
 within : (c : After-index_mut) → c.args.place.chunk < length c.args.chunks.now.items
 within c = omega (arith, c.if-place-len.true, c.len.ensures)
 

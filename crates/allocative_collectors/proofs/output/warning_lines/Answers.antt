@@ -5,6 +5,7 @@ use Rattle.std.proofs.lemmas.List.{take_more, map-append}
 use Rattle.std.proofs.lemmas.Grind.{flat_map-append}
 use Rattle.allocative_collectors.proofs.output.warning_lines.Goals as goal
 
+-- If a text has the lines of the first i warnings, the next warning and a line feed make it those of i + 1.
 lines-more : (ws : List WarnedPath) (i : ℕ) (w : WarnedPath) (before after : List ℕ) → i < length ws → w ≡ get_or ws i w → before ≡ warning_lines (map warning_of (take i ws)) → after ≡ (before ++ warning_text (warning_of w)) ++ newline ∷ [] → after ≡ warning_lines (map warning_of (take (i + 1) ws))
 lines-more ws i w before after h read was is =
     let xs = map warning_of (take i ws) in

@@ -38,6 +38,7 @@ within c =
     let some : c.in-Err.after ≢ 0 = c.if-after-eq0.false in
     omega (arith, c.in-Err.ensures.bound)
 
+-- A step of `find_in_chunks`: it searches the numbers of the chunk before the gap, without the first one.
 listed : (c : After-as_slice) → c.as_slice.result.now ≡ (let x = get_or c.args.chunks.now (c.in-Err.after - 1) c.index-chunks-chunk-2.result in x.rest.items)
 listed c = c.as_slice.ensures.value
 

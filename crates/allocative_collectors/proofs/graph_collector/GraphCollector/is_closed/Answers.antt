@@ -1,4 +1,4 @@
--- No visitor is open exactly where the place is the root, no content is open and no root visitor is open.
+-- No visitor is open exactly if the place is the root, no content is open and no root visitor is open.
 use Rattle.std.proofs.Common.{◌≡◌, length, true≢false, sym, ap, ◌∙◌, arith, eqb-true, eq-eqb}
 use Rattle.allocative_collectors.proofs.Common.{Live}
 use Rattle.std.proofs.lemmas.List.{nil_from_length}

@@ -21,6 +21,7 @@ children t c = children_read c.self.inside.nodes.items c.args.at c.index-node.re
 count : (t : ℕ) (c : In_ok-children t) → length (keys_at (map shape c.self.inside.nodes.items) c.args.at) ≡ length c.in_ok-children.children.now
 count t c = length-map (children_at (map shape c.self.inside.nodes.items) c.args.at) (key_at (map shape c.self.inside.nodes.items)) ∙ ap length (children t c)
 
+-- A step of `make`: child j comes later in the list than its node, and its path is the node's with key j.
 child : (t : ℕ) (c : In_ok-children t) (j : ℕ) → j < length c.in_ok-children.children.now → let i = get_or c.in_ok-children.children.now j 0 in (c.args.at < i) × (i < length c.args.self.now) × (path_at c.args.self.now i ≡ path_at c.args.self.now c.args.at ++ key_in (keys_at (map shape c.self.inside.nodes.items) c.args.at) j ∷ []) × ((d : Node) → (let m = get_or c.self.inside.nodes.items i d in m.key ≡ key_in (keys_at (map shape c.self.inside.nodes.items) c.args.at) j))
 child t c = child_read c.self.inside.nodes.items c.self.invariant c.self.view_is c.args.at c.in_ok-children.children.now (children t c)
 

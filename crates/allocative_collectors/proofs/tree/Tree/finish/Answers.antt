@@ -12,6 +12,7 @@ use Rattle.std.proofs.lemmas.Grind.{flat_map-append}
 use Rattle.allocative_graph.specs.Sums.{Node}
 use Rattle.allocative_collectors.proofs.tree.Tree.finish.Goals as goal
 
+-- A filter whose test is always true keeps the whole list.
 all_kept : {X : Type 0} (xs : List X) → filter (λ x. true) xs ≡ xs
 all_kept [] = refl
 all_kept (x ∷ xs) = ap (λ (ys : List _). x ∷ ys) (all_kept xs)
@@ -21,6 +22,7 @@ warned_walk : (s : Listed) → flat_map (warned (map_of s)) (rows_behind s [] (�
 warned_walk s = ap (flat_map (warned (map_of s))) (all_kept (entries (map_of s)))
 
 -- ---- the text of the warnings
+-- The line of an entry's warned path is the text of its warning, and empty if it has none.
 line_of : (s : Sums) (e : Path × Node) → warning_lines (warned s e) ≡ warning s e
 line_of s e = by (not (is_root e.0) && not e.1.is_unique && nat_lt e.1.bytes (below s e.0))
   where
@@ -28,6 +30,7 @@ line_of s e = by (not (is_root e.0) && not e.1.is_unique && nat_lt e.1.bytes (be
     by true = append-nil (warning_line e.0 e.1.bytes (below s e.0))
     by false = refl
 
+-- The lines of the warned paths of some entries are the texts of their warnings.
 lines_of : (s : Sums) (es : List (Path × Node)) → warning_lines (flat_map (warned s) es) ≡ flat_map (warning s) es
 lines_of s [] = refl
 lines_of s (e ∷ es) =

@@ -9,7 +9,7 @@ use Rattle.allocative_collectors.proofs.Child.{was_entered, child_of}
 use Rattle.allocative_collectors.proofs.tree.Tree.is_child.Goals as goal
 use Rattle.allocative_collectors.proofs.tree.Tree.is_child.Goals.{In-Some}
 
--- The node that was read is the child exactly where it is not the root and its parent and its key are right.
+-- The node that was read is the child exactly if it is not the root and its parent and its key are right.
 guess : (c : In-Some) → let n = c.in-Some.node.now in IsEntered c.args.self.now c.args.self.now c.args.at c.args.key.now 0 false c.args.number ↔ ((0 < c.args.number) × (n.parent ≡ c.args.at) × (n.key ≡ c.args.key.now))
 guess c =
     let items = c.self.inside.nodes.items in

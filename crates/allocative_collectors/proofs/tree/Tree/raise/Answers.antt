@@ -11,6 +11,7 @@ overflow_add-entered c =
     let le = bytes_fit c.self.inside.nodes.items c.self.view_is c.args.node c.requires.within c.index_mut-entered.result.now c.index_mut-entered.ensures.value in
     omega arith
 
+-- A step of `raise`: the new mark says whether the node was unique before or the entry is.
 mark : (c : Joined-entered) → c.if-entered.entered ≡ (c.index_mut-entered.result.now.is_unique || c.args.is_unique)
 mark c = elim c.if-entered.branch [
   | then-entered w ↦ grind arith

@@ -31,6 +31,7 @@ returns-in-Ok-clause-entered c =
 read : (c : After-index_mut) → c.index_mut.result.now ≡ get_or c.self.inside.nodes.items c.args.at c.index_mut.result.now
 read c = c.index_mut.ensures.value ∙ ap (λ (l : List Node). get_or l c.args.at c.index_mut.result.now) c.in_ok-reserve-in-Err.ensures.items
 
+-- A step of `search_child`: the node that is searched is the node that is written.
 same : (c : After-index_mut) → c.index.result.now ≡ c.index_mut.result.now
 same c = c.index.ensures ∙ (get_or_default c.self.inside.nodes.items c.args.at c.index.result.now c.index_mut.result.now (in_nodes c.self.inside.nodes.items c.args.at c.self.view_is c.requires) ∙ sym (read c))
 
