@@ -250,7 +250,7 @@ pub only_if_full_first : {p q : Showing} {a b : State} {e : Refusal} → FailsOn
 only_if_full_first had_failed = had_failed
 only_if_full_first (has_refused {b = b} {e = e} m) = has_refused (may_refuse b b (can_first b) refl e m)
 
--- A visit inside an entry that was opened, and an entry that is refused.
+-- If an entry was opened, and the visit inside it fails only if full, so does the visit of the entry.
 pub only_if_full_within : {u : Bool} {p : Showing} {k : Key} {n : ℕ} {o : Outer} {s t c d : State} {r : Result Unit Refusal} →
     OpensEntry u k (Some n) s (Ok o) t → FailsOnlyIfFull p t r c → ClosesEntry o c d → FailsOnlyIfFull (InsideAs u k n p) s r d
 only_if_full_within {u} {p} {k} {n} (is_entered {b = b} h f e) (has_added {c = c} g x t i) l =

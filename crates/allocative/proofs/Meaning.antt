@@ -133,7 +133,7 @@ visited_if h o m = visited_as (entered_if h o means_same) m
 pub visited : {x : Bool} {p : Showing} {a b : Visitor} {r : Result (Unit {0}) Refusal} → Entered x p a b r → Visited x p AnyEffect a b r
 visited h = record { same_reference = h.same_reference; same_outer = h.same_outer; shown = h.shown; only_if_full = h.only_if_full; takes_effect = tt }
 
--- A call that enters nothing, and one that returns an error by hand.
+-- A call that enters nothing and returns Ok has shown nothing.
 pub entered_none : {x : Bool} {p : Showing} (a : Visitor) → Means x Nothing p → Entered x p a a (Ok tt)
 entered_none a m =
     entered_as {p = Nothing} (record { same_reference = refl; same_outer = refl; shown = adds_nothing _ tt; cause = tt; only_if_full = λ i. only_if_full_nothing _ tt }) m

@@ -171,7 +171,7 @@ pub adds_refused_err : {p : Showing} {a b c : State} {y x : Refusal} (r : Refusa
 adds_refused_err r already e = rw e already
 adds_refused_err r refused e = rw e refused
 
--- An error that is hidden behind an Ok, and an entry that is never closed.
+-- A visit that was refused and returns Ok has hidden an error.
 pub adds_hidden : {p q : Showing} {a b : State} {e : Refusal} {u : Unit} → AddsForest p a (Err e) b → AddsForest q a (Ok u) b
 adds_hidden already = already
 adds_hidden refused = hidden

@@ -11,7 +11,7 @@ use Rattle.allocative.proofs.Exact.{only_if_full_nothing, only_if_full_field, on
 use Rattle.allocative.proofs.Meaning.{entered_inline}
 use Rattle.allocative.proofs.Visits.{adds_nothing, adds_both, adds_err, adds_field, not_entered, not_entered_cause}
 
--- A result that is some Err is that Err.
+-- The error of a result, and e if there is none.
 abbrev pub err_or : {T : Type 0} → Refusal → Result T Refusal → Refusal
 err_or e (Ok u) = e
 err_or e (Err x) = x

@@ -12,6 +12,7 @@ use Rattle.allocative_graph.proofs.Closed.{absent_below}
 use Rattle.allocative_graph.proofs.Following.{fits-following, fits_more, entries_at-following}
 
 -- ---- what a graph has at a path
+-- A lookup in a list of entries whose values were changed by path gives the changed value.
 find-mapped : {X Y : Type 0} (r : Path → X → Y) (es : List (Path × X)) (q : Path) → find path_cmp q (map (λ e. (e.0, r e.0 e.1)) es) ≡ option_map (r q) (find path_cmp q es)
 find-mapped r [] q = refl
 find-mapped r (e ∷ es) q = grind (arith, same_path q e.0, find-mapped r es q)
@@ -30,6 +31,7 @@ get-sum_of g h q = get-from_entries path_total _ q ∙ find-keys path_total path
     ∙ ap (λ b. cond b (Some (size_at g q + size_at h q)) None) (list_any-append (is_same_path q) (keys g) (keys h) ∙ (λ i. sym (contains_key-keys g q) i || sym (contains_key-keys h q) i))
 
 -- ---- if the sums can be added
+-- If a path other than the root was not entered, it has no bytes below it.
 absent_sums : (f : Forest) (k : Key) (p : Path) → get (sums_of (all f)) (k ∷ p) ≡ None → below (sums_of (all f)) (k ∷ p) ≡ 0
 absent_sums f k p h = below-sums_of (all f) (k ∷ p) ∙ absent_below f k p (grind (arith, get-sums_of (all f) (k ∷ p), h))
 

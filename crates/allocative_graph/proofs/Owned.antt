@@ -13,6 +13,7 @@ use Rattle.allocative_graph.proofs.Graphs.{add_at, total-add_at, same_graph, in_
 use Rattle.allocative_graph.proofs.Gathered.{total-default}
 
 -- ---- one after another
+-- The direct bytes of two forests one after another add up.
 pub direct-following : (f g : Forest) → direct (followed_by f g) ≡ direct f + direct g
 direct-following Empty g = omega arith
 direct-following (Inline k n f after) g = omega (arith, direct-following after g)
@@ -37,6 +38,7 @@ direct-owned (First k n i f after) = omega (arith, direct-owned after)
 direct-owned (Again k n i after) = omega (arith, direct-owned after)
 
 -- ---- in any order
+-- Reordering a forest keeps its direct bytes.
 direct-reordered : (f g : Forest) → Reordered f g → direct f ≡ direct g
 direct-reordered _ _ (exchanged f g) = omega (arith, direct-following f g, direct-following g f)
 direct-reordered _ _ (within true k n r) = refl
@@ -96,6 +98,7 @@ kept-sum p (First k n i f after) = omega (arith, kept-sum p after, sum_by-cons k
 kept-sum p (Again k n i after) = omega (arith, kept-sum p after, sum_by-cons kept (record { entry = record { path = p ++ k ∷ []; size = n; mark = AsShared i }; inside = 0 }) (owners_behind p after))
 
 -- ---- the bytes below a path
+-- Two tests that imply each other are equal.
 bool_same : (a b : Bool) → (IsTrue a → IsTrue b) → (IsTrue b → IsTrue a) → a ≡ b
 bool_same true b f g = sym (f refl)
 bool_same false true f g = g refl

@@ -31,6 +31,7 @@ inside_sum : (is_in_unique is_unique : Bool) (s n h b : ℕ) → (s + held_bytes
 inside_sum v u s n h b = grind arith
 
 -- ---- the collector of owned bytes
+-- An empty forest leaves the state of owned bytes unchanged.
 owning-nothing : (o : Owning) → plus_owning o Empty ≡ o
 owning-nothing o =
     let sum : o.sum + (0 - min o.spare 0) ≡ o.sum = omega arith in
@@ -64,6 +65,7 @@ owning-again k n j o =
     λ i. record o { sum = sum i; spare = spare i }
 
 -- ---- each
+-- An empty forest leaves a collector unchanged.
 pub plus-nothing : (c : Kind) → plus c Empty ≡ c
 plus-nothing (OfGraph c) = refl
 plus-nothing (OfHeld h) = ap OfHeld (holding-nothing h)
@@ -128,6 +130,7 @@ pub owned_again : (k : Key) (n : ℕ) (j : Identity) (o : Owning) → plus (OfOw
 owned_again k n j o = ap OfOwned (owning-again k n j o)
 
 -- ---- the count of visitors
+-- A closed collector has no open visitor.
 pub closed-visitors : (c : Kind) → IsClosed c → visitors c ≡ 0
 closed-visitors (OfGraph c) h = h
 closed-visitors (OfHeld k) h = h
@@ -152,6 +155,7 @@ pub visitors-leave : (outer : Outer) (c : Kind) → visitors c ≤ suc (visitors
 visitors-leave outer c = grind arith
 
 -- ---- which of them it is
+-- Entering a forest does not change which kind a collector is.
 pub is_graph-plus : (c : Kind) (f : Forest) → is_graph (plus c f) ≡ is_graph c
 is_graph-plus c f = grind arith
 

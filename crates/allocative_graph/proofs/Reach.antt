@@ -126,6 +126,7 @@ own_content f w = recursion_from_All _ (contents f) (All-weaker (Contains (conte
     (λ c h. ap (λ o. unwrap_or o []) (lookup-from_Contains (eq_by_cmp_equiv identity_total) c.0 c.1 (contents f) (shown_distinct f w) h)) (contents f) (All-contains_itself (contents f)))
 
 -- ---- the theorem
+-- The identities that are reached from a whole forest are exactly those that its contents show.
 pub reaches_exactly : (f : Forest) → IsWhole f → ReachesExactly f
 reaches_exactly f w i = (
   reach (own f) (content_of f) [] f (λ j h. marked h) (own_content f w) i,

@@ -15,6 +15,7 @@ use Rattle.allocative_graph.proofs.ReadLines.{stacks-cons, stacks-first, one_cut
 use Rattle.allocative_graph.proofs.StackSums.{same_begins}
 
 -- ---- lists that lack a byte
+-- In a list that lacks a byte, no byte is equal to it.
 no_byte : (c : ℕ) (xs : List ℕ) → Lacks c xs → All (λ b. (b == c) ≡ false) xs
 no_byte c xs h = All-weaker (λ b. b ≢ c) (λ b. (b == c) ≡ false) (λ b. ne_eqb b c) xs (All-from_recursion (λ b. b ≢ c) xs h)
 
@@ -23,6 +24,7 @@ lacks_at : (c : ℕ) (xs : List ℕ) (i : ℕ) → Lacks c xs → i < length xs 
 lacks_at c xs i h l = All-from_recursion (λ b. b ≢ c) xs h i 0 l
 
 -- ---- lines
+-- A part that is not the last one is a line, without a carriage return at its end.
 lines_of_parts-cons : (x : List ℕ) (parts : List (List ℕ)) → 0 < length parts → lines_of_parts (x ∷ parts) ≡ strip_carriage_return x ∷ lines_of_parts parts
 lines_of_parts-cons x [] l = absurd (omega arith)
 lines_of_parts-cons x (y ∷ more) l = refl
@@ -46,6 +48,7 @@ lines-full (e ∷ es) h =
     ∙ (λ i. kept_end (joined e.0) (32 ∷ decimal e.1) ((λ g. omega (arith, g)), decimal_lacks 13 e.1 (omega arith)) (omega arith) i ∷ lines-full es h.1 i)
 
 -- ---- one line
+-- If plain keys are joined by semicolons, the path splits into these keys again.
 keys-joined : (k : Key) (p : Path) → AllByRecursion Plain (k ∷ p) → keys_of (joined (k ∷ p)) ≡ k ∷ p
 keys-joined k [] h = slice_split_none (λ b. b == 59) k (no_byte 59 k h.0.0)
 keys-joined k (l ∷ p) h = slice_split_at (λ b. b == 59) k 59 (joined (l ∷ p)) (no_byte 59 k h.0.0) refl ∙ ap (λ (q : Path). k ∷ q) (keys-joined l p h.1)
@@ -87,7 +90,7 @@ entries_read (e ∷ es) good ss h =
 lines-text : (g : Graph) → HasPlainKeys g → HasWords g → lines (text g) ≡ map body (shown g)
 lines-text g plain fits = ap lines (shown_lines (entries g)) ∙ lines-full (shown g) (each-implies Good _ (λ e good. good.plain) (shown g) (good_entries (entries g) plain fits))
 
--- Graphs with one text have the same entries with a line.
+-- Two good entries with the same line are equal.
 same_entry : (e f : Sized) → Good e → Good f → body e ≡ body f → e ≡ f
 same_entry e f a b h =
     let both = one_cut (body_cut e) (subst (λ l. IsCut l (joined f.0) (decimal f.1)) (sym h) (body_cut f)) in
@@ -121,6 +124,7 @@ bytes-absent (s ∷ ss) q h =
     sum_by-cons (λ (t : Stack). cond (is_same_path q t.path) t.size 0) s ss ∙ (λ i. cond (apart i) s.size 0 + bytes-absent ss q no.1 i)
 
 -- ---- what is read
+-- A graph that has the bytes of some stacks at a path other than the root has their size there.
 size_at-read : (ss : List Stack) (h : Graph) (k : Key) (p : Path) → get h (k ∷ p) ≡ cond (is_path_of ss (k ∷ p)) (Some (bytes_at ss (k ∷ p))) None → size_at h (k ∷ p) ≡ bytes_at ss (k ∷ p)
 size_at-read ss h k p e =
     ap (λ o. unwrap_or o 0) e
@@ -133,6 +137,7 @@ reads_back g h plain fits read k p =
     (fold-map (λ n (s : Stack). n + cond (is_same_path (k ∷ p) s.path) s.size 0) said 0 (shown g))
 
 -- ---- nothing in the text of a graph is refused
+-- The line of a good entry is a stack with its path and its size.
 said_stack : (e : Sized) → Good e → (length e.0 ≤ LEVELS) × (0 < length (joined e.0)) → IsStack (body e) (said e)
 said_stack e good h = record {
   path = joined e.0;
@@ -164,6 +169,7 @@ never_refused g plain fits can n w fault =
     fault.some fault.none
 
 -- ---- its bytes fit
+-- The bytes in the text of a graph whose sizes are words never exceed a word.
 pub never_exceeds : (g : Graph) → HasPlainKeys g → HasWords g → Exceeds (text g) → ⊥
 never_exceeds g plain fits e =
     let is : all_bytes e.stacks ≡ all_bytes (map said (shown g)) = ap all_bytes (stacks_of_text g plain fits e.stacks e.means) in

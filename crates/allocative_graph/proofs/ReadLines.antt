@@ -61,6 +61,7 @@ wrong_is_none TooDeep line (front, back, cut, reads, deep) s is =
     omega (arith, is.fits, deep, ap (λ (p : List ℕ). length (keys_of p)) (cut_once cut is).0)
 
 -- ---- what the code finds in a line
+-- A line with nothing before its last space has no path.
 pub no_path : {line front back : List ℕ} → IsCut line front back → (length front == 0) ≡ true → IsWrong NoPath line
 no_path {line = line} {front = front} {back = back} cut e = (back, subst (λ (f : List ℕ). IsCut line f back) (nil_from_length front (eqb-true (length front) 0 e)) cut)
 
@@ -82,6 +83,7 @@ stack_of {front = front} {back = back} cut e reads fits = record {
 }
 
 -- ---- one line after another
+-- A text has at most as many lines as parts.
 parts_fit : (ps : List (List ℕ)) → length (lines_of_parts ps) ≤ length ps
 parts_fit [] = omega arith
 parts_fit (x ∷ []) = on_test (λ t. length (cond t [] (x ∷ [])) ≤ 1) (length x == 0) (λ e. omega arith) (λ e. omega arith)

@@ -13,11 +13,12 @@ use Rattle.allocative_graph.proofs.Merge.{get-sum_of}
 use Rattle.allocative_graph.proofs.Gathered.{size_at-added_up, has-added_up, total-added_up, added_up-permuted, total-default}
 
 -- ---- paths
+-- A path begins with itself.
 begins_itself : (p : Path) → begins p p ≡ true
 begins_itself [] = refl
 begins_itself (k ∷ p) = ap (λ o. is_eq o && begins p p) (key_itself k) ∙ begins_itself p
 
--- A path begins with itself.
+-- If two paths are equal, each begins with the other.
 pub same_begins : (p q : Path) → is_same_path p q ≡ true → begins p q ≡ true
 same_begins p q h = ap (begins p) (sym (same_path p q h)) ∙ begins_itself p
 
@@ -78,6 +79,7 @@ total-one : (s : Stack) → total (one_stack s) ≡ s.size
 total-one s = omega (arith, total-nested s.path (add_self s.size default), total-add_at default ([], s.size), total-default)
 
 -- ---- some stacks
+-- The sum of some stacks has a path exactly if one of them begins with it.
 has-stacks : (ss : List Stack) (p : Path) → contains_key (sum_of_stacks default ss) p ≡ is_path_of ss p
 has-stacks ss [] = has-added_up one_stack default ss [] ∙ ap (λ o. is_some o || list_any (λ s. contains_key (one_stack s) []) ss) (get-default [])
 has-stacks ss (k ∷ p) = has-added_up one_stack default ss (k ∷ p) ∙ (λ i. is_some (get-default (k ∷ p) i) || list_any (λ s. contains_key-one s (k ∷ p) i) ss)

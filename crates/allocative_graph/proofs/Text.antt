@@ -11,6 +11,7 @@ use Rattle.allocative_graph.proofs.Basics.{each-append, each-implies, on_test, s
 use Rattle.allocative_graph.proofs.Below.{find-below_all}
 
 -- ---- lists parted at a byte
+-- A list with a byte in it does not lack that byte.
 pub lacks_not : (c : ℕ) (a x : List ℕ) → Lacks c (a ++ c ∷ x) → ⊥
 lacks_not c [] x f = f.0 refl
 lacks_not c (d ∷ a) x f = lacks_not c a x f.1
@@ -23,6 +24,7 @@ last_split c (d ∷ a) [] x y f g e = absurd (lacks_not c a x (subst (Lacks c) (
 last_split c (d ∷ a) (e ∷ b) x y f g h = let rest = last_split c a b x y f g (cc) in (cc (rest.0), rest.1)
 
 -- ---- decimals
+-- The glyph of a digit is at least the glyph of 0.
 high : (d : ℕ) → 48 ≤ digit_glyph false d
 high d = on_test (λ t. 48 ≤ (if t then 48 + d else 87 + d)) (nat_lt d 10) (λ e. omega arith) (λ e. omega arith)
 

@@ -70,6 +70,7 @@ pub refused_report : {T : Type 0} (input : List ℕ) (index : Bool) (v : Value) 
 refused_report input index v n r h = IfErr-weaker r _ _ (λ f. refused_roots input index v n f h)
 
 -- ---- boxed roots
+-- If each forest of one showing is one of another, a profile of the first is a profile of the second.
 profile_weaker : (p q : Showing) (o : Profile) → ((f : Forest) → p f → q f) → IsProfileOf p o → IsProfileOf q o
 profile_weaker p q o up h = record {
   shown = h.shown;

@@ -52,7 +52,7 @@ below-under k p (r ∷ rs) rest h g =
     both _ _ (subst (λ o. T (is_lt (ordering_then o (path_cmp p r.0)))) (sym (tied_itself nat_list_cmp_total k)) (first _ _ h))
     (below-under k p rs rest (second _ _ h) g)
 
--- List (Path × ℕ) in order with a key before them, followed by rows that come after these, are in order.
+-- Rows in order, with one key put before all and followed by rows that come after them, are in order.
 sorted-under : (k : Key) (rs rest : List (Path × ℕ)) → T (is_sorted path_cmp rs) → T (is_sorted path_cmp rest)
     → ((p : Path) → T (below_all path_cmp (k ∷ p) rest)) → T (is_sorted path_cmp (under_rows k rs ++ rest))
 sorted-under k [] rest p q h = q
