@@ -10,7 +10,7 @@ extern void *__libc_malloc(size_t);
 extern void *__libc_realloc(void *, size_t);
 extern ssize_t __read(int, void *, size_t);
 
-// The number that a variable has, or another where it has none.
+// The number that a variable has, or another if it has none.
 static long number_of(const char *variable, long other) {
     const char *number = getenv(variable);
     return number ? strtol(number, 0, 10) : other;

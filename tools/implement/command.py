@@ -29,7 +29,7 @@ The status is 0, or
   4  the source has faults; standard error has a line for each, and nothing is written"""
 FLAGS = {
     "--in-place": "write into the file itself, behind each type, between two comments",
-    "--check": "write nothing, and end with status 1 where something is stale",
+    "--check": "write nothing, and end with status 1 if something is stale",
     "--skip-unknown": "pass over the fields that cannot be shown, with a comment",
     "--add-lines": "add the line `mod shown;` to the file, and allocative to the crate's line in crates.txt",
 }

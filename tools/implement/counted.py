@@ -22,7 +22,7 @@ UNKNOWN = "[String; 0]"
 
 
 class Counted(NamedTuple):
-    """The text of a type that is described, with its bytes where these are known here, and its alignment."""
+    """The text of a type that is described, with its bytes if these are known here, and its alignment."""
 
     text: str
     size: int | None
@@ -36,7 +36,7 @@ class Counting:
         self.scope = scope
 
     def of(self, kind: Type, parameters: tuple[str, ...]) -> Counted | None:
-        """What counts for a type with these parameters, which are described; nothing where that is not known."""
+        """What counts for a type with these parameters, which are described; nothing if that is not known."""
         kind = self.scope.real(kind)
         found = self.composed(kind, parameters)
         return found._replace(text=kind.text) if found and not self.scope.reason(kind, ()) else found
@@ -73,7 +73,7 @@ class Counting:
         return known[0] if kind.name in CELLS else Counted(f"{path}<{inside}>", *laid_out(known, int(is_tagged)))
 
     def member(self, member: Member, parameters: tuple[str, ...]) -> list[Counted] | None:
-        """What counts for a field: nothing for a `PhantomData`, and `None` where it is not known."""
+        """What counts for a field: nothing for a `PhantomData`, and `None` if it is not known."""
         if member.type.name == "PhantomData":
             return []
         found = self.of(member.type, parameters if member.size is None else ())

@@ -47,7 +47,7 @@ class Scope:
         return self.module.types.get(kind.name) if is_own else None
 
     def real(self, kind: Type) -> Type:
-        """The type itself, where a name of the module stands for it."""
+        """The type itself, if a name of the module stands for it."""
         seen: set[str] = set()
         while len(kind.path) == 1 and kind.name in self.module.aliases and kind.name not in seen:
             seen.add(kind.name)
@@ -107,7 +107,7 @@ class Scope:
         return f"`{definition.name}` of this file is not among the types that are named"
 
     def refusal(self, kind: Type, definition: Definition) -> str:
-        """Why the checker refuses a field of a type, also where it is not shown, or nothing."""
+        """Why the checker refuses a field of a type, also if it is not shown, or nothing."""
         kind = self.real(kind)
         if kind.form == "other" and kind.text.startswith(FUNCTIONS):
             return f"`{kind.text}` is a function pointer, and the checker proves no implementation for a type with one"
@@ -130,7 +130,7 @@ class Scope:
         return set() if kind.text in ("f32", "f64") else TRAITS
 
     def flags(self, kind: Type, parameters: Path) -> set[str]:
-        """The flags on which it depends whether a type is exact; none where it is."""
+        """The flags on which it depends whether a type is exact; none if it is."""
         kind = self.real(kind)
         if kind.form in ("lifetime", "constant", "reference") or kind.name == "PhantomData":
             return set()

@@ -66,7 +66,7 @@ class Crate:
 
 
 class Source:
-    """A source file. Reading it raises a fault where its tokens, or the module asked for, cannot be read."""
+    """A source file. Reading it raises a fault if its tokens, or the module asked for, cannot be read."""
 
     def __init__(self, text: str, chosen: Namespace, is_inline: bool) -> None:
         self.chosen = chosen
@@ -123,7 +123,7 @@ class Source:
 
     # ---- faults of a type
     def judged(self, definition: Definition) -> Definition:
-        """A type whose fields that cannot be shown are told, or passed over where that is asked for."""
+        """A type whose fields that cannot be shown are told, or passed over if that is asked for."""
         name, at = definition.name, definition.at
         bounds = definition.where + "".join(each.bounds for each in definition.parameters)
         is_const = definition.names("const") and not definition.names("lifetime")

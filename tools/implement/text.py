@@ -227,7 +227,7 @@ class Writer:
         return {each for each in found if not set(self.cycle) & set(NAME.findall(each))}
 
     def is_exact(self) -> str:
-        """The line of the flag, or nothing where it is not known."""
+        """The line of the flag, or nothing if it is not known."""
         flags = self.flags
         if flags and self.cycle:
             return ""
@@ -469,7 +469,7 @@ def is_short(kind: Type) -> bool:
 
 
 def laid(kind: Type, indent: int, room: int) -> str:
-    """A type, where its first line has some room."""
+    """A type, if its first line has some room."""
     text = kind.text
     is_whole = len(text) <= room and (len(text) <= 60 or is_short(kind))
     if is_whole or not text.endswith((")", ">")) or not kind.parts:

@@ -54,7 +54,7 @@ def split(text: str, comma: str = ",", edge: re.Pattern[str] = EDGE) -> list[str
 
 @cache
 def type_of(text: str) -> Type:
-    """The type that a text writes; `other` where it is none of the forms that are read."""
+    """The type that a text writes; `other` if it is none of the forms that are read."""
     first, last = text[:1], text[-1:]
     if first == "'":
         return Type("lifetime", text)

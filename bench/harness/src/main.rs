@@ -153,7 +153,7 @@ fn run(side: &dyn Fn(&Names) -> u64, names: &Names, before: Option<Least>) -> Le
     Least { steps, answer }
 }
 
-/// Runs both sides in turn, until the time for it is over: at least twice, or once where a round takes long.
+/// Runs both sides in turn, until the time for it is over: at least twice, or once if a round takes long.
 fn measure(workload: &Workload, names: &Names) -> (Least, Least) {
     let begun = Instant::now();
     let (mut ours, mut theirs) = (None, None);

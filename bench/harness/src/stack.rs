@@ -15,7 +15,7 @@ const NEAR: usize = 8 << 10;
 /// What the free stack is painted with.
 const PAINT: u64 = 0xa5a5_5a5a_c3c3_3c3c;
 
-/// Where the painted part begins; 0 where no stack is measured.
+/// Where the painted part begins; 0 if no stack is measured.
 static LOWEST: AtomicUsize = AtomicUsize::new(0);
 
 /// How deep each step went, in bytes below the place where it began.

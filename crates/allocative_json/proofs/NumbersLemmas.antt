@@ -4,7 +4,7 @@ use Rattle.allocative_json.proofs.Common.{BTreeSet, contains, int_cmp, view, ite
 use Rattle.std.proofs.Math.Bool.{and-true, true-and, and_assoc, or-false, or_assoc, or_comm}
 use Rattle.allocative_json.specs.Numbers.{is_whole}
 
--- The numbers of an array with one more item are whole where those of the others and of that item are.
+-- The numbers of an array with one more item are whole if those of the others and of that item are.
 pub are_whole-snoc : (vs : List Value) (v : Value) → are_whole (items_view (vs ++ v ∷ [])) ≡ (are_whole (items_view vs) && is_whole (view v))
 are_whole-snoc [] v = and-true (is_whole (view v)) ∙ sym (true-and (is_whole (view v)))
 are_whole-snoc (w ∷ vs) v = ap (λ b. is_whole (view w) && b) (are_whole-snoc vs v) ∙ sym (and_assoc (is_whole (view w)) (are_whole (items_view vs)) (is_whole (view v)))
@@ -14,7 +14,7 @@ pub have_whole-snoc : (ms : List (String Global × Value)) (k : String Global) (
 have_whole-snoc [] k v = and-true (is_whole (view v)) ∙ sym (true-and (is_whole (view v)))
 have_whole-snoc (m ∷ ms) k v = ap (λ b. is_whole (view m.1) && b) (have_whole-snoc ms k v) ∙ sym (and_assoc (is_whole (view m.1)) (have_whole (members_view ms)) (is_whole (view v)))
 
--- A number is in an array with one more item where it is in the others or in that item.
+-- A number is in an array with one more item if it is in the others or in that item.
 pub items_have-snoc : (vs : List Value) (v : Value) (k : ℤ) → items_have (items_view (vs ++ v ∷ [])) k ≡ (items_have (items_view vs) k || has_number (view v) k)
 items_have-snoc [] v k = or-false (has_number (view v) k)
 items_have-snoc (w ∷ vs) v k = ap (λ b. has_number (view w) k || b) (items_have-snoc vs v k) ∙ sym (or_assoc (has_number (view w) k) (items_have (items_view vs) k) (has_number (view v) k))

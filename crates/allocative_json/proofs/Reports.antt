@@ -92,7 +92,7 @@ both_shown : {T : Type 0} (p : T → Showing) (a b : T) (f : Forest) → Both (p
 both_shown p a b f (g, h, here, there, e) = (g, h, here, each_one p b h there, e)
 
 -- Roots of exact types: what is profiled of two is what both show, and what is profiled of one is what it shows, followed by
--- nothing. They are refused where all together may be.
+-- nothing. They are refused if all together may be.
 module _ {T : Type 0} (shows : T → Showing × Bool) (roots : List T) (x : Result Profile Refusal) where
   abbrev IsProfiledAs : Bool → Showing → Type 0
   IsProfiledAs is_exact p = record { profile : IfOk x (IsProfileOf p); refused : IfErr x (MayRefuseProfile is_exact p) }

@@ -4,7 +4,7 @@ use Rattle.std.specs.Ordering.{eq_by_cmp}
 use Rattle.allocative.specs.Path.{key_cmp}
 use Rattle.allocative.specs.Report.{last_key, without_lines}
 
--- A line with its line feed, or nothing where its last key is `unused_capacity`.
+-- A line with its line feed, or nothing if its last key is `unused_capacity`.
 abbrev pub kept_line : List ℕ → List ℕ
 kept_line l = cond (eq_by_cmp key_cmp (codes "unused_capacity") (last_key l)) [] (l ++ 10 ∷ [])
 

@@ -26,7 +26,7 @@ key_shows k = Field (codes "key") (Some 16) (Field (codes "i128") (Some 16) Noth
 abbrev pub index_shows : BTreeSet ℤ → Showing
 index_shows s = Field (codes "BTreeSet") (Some 24) (Inside (codes "data") 8 (each_shows key_shows s.keys))
 
--- What a document shows, with the room of its texts and arrays, followed by what a set shows where there is one.
+-- What a document shows, with the room of its texts and arrays, followed by what a set shows if there is one.
 abbrev pub roots_show : Value → Option (BTreeSet ℤ) → Showing
 roots_show v n = Both (stored_value v) (optional_shows index_shows n)
 
@@ -49,15 +49,15 @@ pub record IsRightReport (input : List ℕ) (index exact : Bool) (made : Report)
   pub roots : AreRoots input index (view document) numbers
   pub report : IsReportOf (roots_show document numbers) exact made
 
--- The faults that making a report of what p allows may return: Memory; and TooLarge, where an empty collector of a flame
+-- The faults that making a report of what p allows may return: Memory; and TooLarge, if an empty collector of a flame
 -- graph cannot take all that p allows.
 abbrev pub RefusesRoots : Showing → Fault → Type 0
 RefusesRoots p Memory = ⊤
 RefusesRoots p TooLarge = ¬ CanTake (begin (OfGraph no_entries)) p
 RefusesRoots p f = ⊥
 
--- The faults that making a report of the input may return: Memory only where the input is not empty; NotJson only where
--- it is no document; NotWhole only where it is a document with another number; TooLarge only where it has roots whose
+-- The faults that making a report of the input may return: Memory only if the input is not empty; NotJson only if
+-- it is no document; NotWhole only if it is a document with another number; TooLarge only if it has roots whose
 -- report may be refused so; and no other.
 abbrev pub RefusesReport : List ℕ → Bool → Fault → Type 0
 RefusesReport input index Memory = 0 < length input

@@ -17,7 +17,7 @@ pub record IsWholeDocument (input : List ℕ) (d : Data) : Type 0 where
   pub document : IsDocument input d
   pub whole : is_whole d ≡ true
 
--- The set of the document's numbers, exactly where it is asked for.
+-- The set of the document's numbers, exactly if it is asked for.
 abbrev pub IsIndexIf : Bool → Data → Option (BTreeSet ℤ) → Type 0
 IsIndexIf asked d None = asked ≡ false
 IsIndexIf asked d (Some s) = (asked ≡ true) × IsIndexOf d s
@@ -27,8 +27,8 @@ pub record AreRoots (input : List ℕ) (index : Bool) (d : Data) (n : Option (BT
   pub document : IsWholeDocument input d
   pub numbers : IsIndexIf index d n
 
--- The faults that reading the roots from the input may return: Memory only where the input is not empty; NotJson only
--- where it is no document; NotWhole only where it is a document with another number.
+-- The faults that reading the roots from the input may return: Memory only if the input is not empty; NotJson only
+-- if it is no document; NotWhole only if it is a document with another number.
 abbrev pub RefusesInput : List ℕ → Fault → Type 0
 RefusesInput input Memory = 0 < length input
 RefusesInput input NotJson = (d : Data) → ¬ IsDocument input d

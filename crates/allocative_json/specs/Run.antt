@@ -10,7 +10,7 @@ use Rattle.allocative_json.specs.Fault.{status_of, line_of}
 use Rattle.allocative_json.specs.Profile.{IsRightReport, RefusesReport}
 use Rattle.allocative_json.specs.Words.{Word, AreWords, Asks}
 
--- The words are accepted, all bytes of the reader are read where they are known, and the report of them is right.
+-- The words are accepted, all bytes of the reader are read if they are known, and the report of them is right.
 pub record IsReportFor (texts : List Word) (known : Option (List ℕ)) (made : Report) : Type 0 where
   pub words : AreWords texts
   pub asked : Words
@@ -19,17 +19,17 @@ pub record IsReportFor (texts : List Word) (known : Option (List ℕ)) (made : R
   pub is_read : IfSome known (λ bytes. input ≡ bytes)
   pub right : IsRightReport input asked.index asked.exact made
 
--- What is written of a text, all but its rest, follows what the writer held, where that is known.
+-- What is written of a text, all but its rest, follows what the writer held, if that is known.
 pub record IsWrittenUpTo (old new : Option (List ℕ)) (text rest : List ℕ) : Type 0 where
   pub written : List ℕ
   pub split : text ≡ written ++ rest
   pub follows : Appends old new written
 
--- A beginning of a text, maybe all of it or nothing, follows what the writer held, where that is known.
+-- A beginning of a text, maybe all of it or nothing, follows what the writer held, if that is known.
 abbrev pub AppendsBeginning : Option (List ℕ) → Option (List ℕ) → List ℕ → Type 0
 AppendsBeginning old new text = (rest : List ℕ) × IsWrittenUpTo old new text rest
 
--- The report follows what the two writers held, where that is known.
+-- The report follows what the two writers held, if that is known.
 pub record IsWritten (output output' errors errors' : Option (List ℕ)) (made : Report) : Type 0 where
   pub profile : Appends output output' (string_bytes made.profile)
   pub warnings : Appends errors errors' (string_bytes made.warnings)
@@ -56,7 +56,7 @@ pub record EndsCutOff (texts : List Word) (known output output' errors errors' :
   pub begun : IsBegun output output' errors warned made
   pub told : AppendsBeginning warned errors' (line_of Writing)
 
--- The faults that reading the input may return: Memory only where the input is not empty; or Reading.
+-- The faults that reading the input may return: Memory only if the input is not empty; or Reading.
 abbrev pub StopsReading : Option (List ℕ) → Fault → Type 0
 StopsReading known Memory = IfSome known (λ bytes. 0 < length bytes)
 StopsReading known Reading = ⊤
@@ -69,7 +69,7 @@ pub record IsRefused (texts : List Word) (known : Option (List ℕ)) (cause : Fa
   pub asks : Asks texts asked
   pub refuses : IfSome known (λ bytes. RefusesReport bytes asked.index cause)
 
--- The faults that may end a run before anything is written: Words exactly where the words are not accepted;
+-- The faults that may end a run before anything is written: Words exactly if the words are not accepted;
 -- otherwise a fault of reading, or of a report of the bytes that were read. Open is none of them.
 abbrev pub MayEndRun : List Word → Option (List ℕ) → Fault → Type 0
 MayEndRun texts known fault.Words = ¬ AreWords texts

@@ -20,7 +20,7 @@ pub record AreWords (ws : List Word) : Type 0 where
   pub known : All IsKnown ws
   pub once : AllPairs (λ v w. v ≢ w) ws
 
--- Each field is true exactly where its word is there.
+-- Each field is true exactly if its word is there.
 pub record Asks (ws : List Word) (asked : Words) : Type 0 where
   pub exact : IsTrue asked.exact ↔ Contains ws (codes "exact")
   pub index : IsTrue asked.index ↔ Contains ws (codes "index")

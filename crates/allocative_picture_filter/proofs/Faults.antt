@@ -45,17 +45,17 @@ pub of_each : {A : Type 0} {Q : A → Type 0} (o : Option A) → ((a : A) → Q 
 of_each None f = tt
 of_each (Some a) f = f a
 
--- What holds of a fault holds where the result is that fault.
+-- What holds of a fault holds if the result is that fault.
 pub holds-of : {T : Type 0} (r : Result T Fault) (P : Fault → Type 0) (f : Fault) → IsErrAnd r (λ e. e ≡ f) → P f → IfErr r P
 holds-of (Ok x) P f is h = tt
 holds-of (Err e) P f is h = rw is h
 
--- A profile is refused where it is asked not to be empty and has 0 bytes.
+-- A profile is refused if it is asked not to be empty and has 0 bytes.
 pub is-empty : (b : Bool) (n : ℕ) → (b && (n == 0)) ≡ true → IsTrue b × (n ≡ 0)
 is-empty true n h = (cc, grind arith)
 is-empty false n h = absurd (cc)
 
--- A profile that is not refused has bytes, where it is asked not to be empty.
+-- A profile that is not refused has bytes, if it is asked not to be empty.
 pub has-bytes : (b : Bool) (n : ℕ) → (b && (n == 0)) ≡ false → IsTrue b → 0 < n
 has-bytes true n h t = grind arith
 has-bytes false n h t = absurd (cc)

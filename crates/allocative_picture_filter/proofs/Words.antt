@@ -18,7 +18,7 @@ use Rattle.allocative_picture_filter.specs.declared.fault.Fault.TheVariants.{Arg
 digits : IsNumeralModel (λ ds. all_ascii_digits ds ≡ true) (digits_value 10)
 digits = numerals_by_value (λ ds. all_ascii_digits ds ≡ true) tells_all_ascii_digits
 
--- The test of a number holds where each of its parts does.
+-- The test of a number holds if each of its parts does.
 fits : (n v : ℕ) (b : Bool) → 0 < n → b ≡ true → v < 2 ^ 32 → (not (n == 0) && b && nat_lt v (2 ^ 32)) ≡ true
 fits n v b some all less = grind arith
 
@@ -153,7 +153,7 @@ wrong-end a l w old ws r here same next so takes =
     ∙ ap (λ (t : Bool). cond t (Err (incomplete l)) (and_then (with_word a l) in_all)) takes
 
 -- ---- behind the last word
--- The vector of names is empty where that of their words is.
+-- The vector of names is empty if the list of their words is.
 pub no-names : (v : Vec (Bor (List ℕ)) Global) (b : Bool) → b ≡ (vec_len v == 0) → (length (map (λ n. n.now) v.items) == 0) ≡ b
 no-names v b is = ap (λ (n : ℕ). n == 0) (length-map v.items (λ n. n.now) ∙ omega (arith, v.ok.0)) ∙ sym is
 
@@ -167,12 +167,12 @@ no-text false n h = refl
 no-text true n (inl e) = absurd (cc)
 no-text true n (inr e) = rw e refl
 
--- The input is read where no file is named.
+-- The input is read if no file is named.
 reads-input : (x y : Bool) → y ≡ true → (x || y) ≡ true
 reads-input true y e = refl
 reads-input false y e = e
 
--- And where it is asked for.
+-- And if it is asked for.
 reads-asked : (x y : Bool) → y ≡ false → (x || y) ≡ x
 reads-asked true y e = refl
 reads-asked false y e = e
@@ -182,11 +182,11 @@ ends : (a : Asked) (b : Bool) (r : Answer) → asked_behind a [] ≡ r → (a.as
 ends a b r so text is = sym so ∙ ap (λ (t : Bool). cond t (Err text_of_change) (Ok (record a { reads_input = a.reads_input || (length a.after == 0) }))) (no-text a.as_text (length a.before == 0) text)
     ∙ ap (λ (t : Bool). Ok (record a { reads_input = t })) is
 
--- The input is read where no file of the profile is named.
+-- The input is read if no file of the profile is named.
 pub ends-without : (a : Asked) (r : Answer) → asked_behind a [] ≡ r → (a.as_text ≡ false) ⊎ ((length a.before == 0) ≡ true) → (length a.after == 0) ≡ true → r ≡ Ok (record a { reads_input = true })
 ends-without a r so text none = ends a true r so text (reads-input a.reads_input (length a.after == 0) none)
 
--- And else where it is asked for.
+-- And else if it is asked for.
 pub ends-with : (a : Asked) (r : Answer) → asked_behind a [] ≡ r → (a.as_text ≡ false) ⊎ ((length a.before == 0) ≡ true) → (length a.after == 0) ≡ false → r ≡ Ok a
 ends-with a r so text some = ends a a.reads_input r so text (reads-asked a.reads_input (length a.after == 0) some)
 

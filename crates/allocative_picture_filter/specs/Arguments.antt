@@ -65,7 +65,7 @@ pub data Wrong : Type 0 where
 abbrev pub Answer : Type 0
 Answer = Result Asked Wrong
 
--- What is asked for next, where nothing was wrong before.
+-- What is asked for next, if nothing was wrong before.
 abbrev pub and_then : Answer → (Asked → Answer) → Answer
 and_then (Ok a) next = next a
 and_then (Err e) next = Err e
@@ -101,7 +101,7 @@ with_word a w =
     (cond (bytes_eq w (codes "-")) (cond a.reads_input (Err repeated) (Ok (record a { reads_input = true })))
     (cond (starts_with_minus w) (Err (unknown w)) (Ok (record a { after = a.after ++ w ∷ [] }))))))
 
--- What is asked for behind the last word: the input is read where no file of the profile is named.
+-- What is asked for behind the last word: the input is read if no file of the profile is named.
 abbrev pub in_all : Asked → Answer
 in_all a = cond (a.as_text && not (length a.before == 0)) (Err text_of_change)
     (Ok (record a { reads_input = a.reads_input || (length a.after == 0) }))

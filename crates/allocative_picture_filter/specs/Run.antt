@@ -18,7 +18,7 @@ use Rattle.allocative_picture_filter.specs.declared.run.Text.{Text}
 abbrev pub mark : List ℕ
 mark = 239 ∷ 187 ∷ 191 ∷ []
 
--- The bytes behind a byte-order mark at their beginning, or all of them where there is none.
+-- The bytes behind a byte-order mark at their beginning, or all of them if there is none.
 abbrev pub without_mark : List ℕ → List ℕ
 without_mark bs = cond (starts_with nat_eq bs mark) (drop 3 bs) bs
 
@@ -30,7 +30,7 @@ Sourced = Source × List ℕ
 abbrev pub sourced : Text → Sourced
 sourced t = (t.source, t.bytes.now)
 
--- The texts of a profile: those of its files, and then the input where it belongs to them.
+-- The texts of a profile: those of its files, and then the input if it belongs to them.
 abbrev pub later_texts : List Text → Bool → List ℕ → List Sourced
 later_texts ts reads_input known = map sourced ts ++ cond reads_input ((Input, without_mark known) ∷ []) []
 
@@ -60,8 +60,8 @@ abbrev pub written_of : Bool → Bool → Options → Graph → Graph → List �
 written_of as_text is_alone o g h = cond as_text (text h) (cond is_alone (profile_drawing o h) (change_drawing o g h))
 
 -- What is written of these texts is what the arguments ask for: the text of the graph that they add up to; its picture;
--- or, where there are earlier texts, that of the change from the graph of these. A picture has the title and the width of
--- the narrowest box that are asked for, and no warned path. The graph has bytes where it is asked not to be empty.
+-- or, if there are earlier texts, that of the change from the graph of these. A picture has the title and the width of
+-- the narrowest box that are asked for, and no warned path. The graph has bytes if it is asked not to be empty.
 pub record IsMade (asked : Arguments) (before : List Text) (after : List Sourced) (made : List ℕ) : Type 0 where
   pub earlier : Graph
   pub later : Graph

@@ -278,7 +278,7 @@ module _ {A E : Type 0} (result : Result A E) (old new : History) (p : Showing) 
   AnswersHistory _ = new ≡ old
 
 -- ---- the text
--- What is said where the ledger and the pages were these, and the profiles are these now. Nothing is said here of a request
+-- What is said if the ledger and the pages were these, and the profiles are these now. Nothing is said here of a request
 -- that may be rejected, of which the ledger tells more, nor of the pages that go for another.
 abbrev pub AnswersText : Ledger → Pages → History → List ℕ → Request → Type 0
 AnswersText ledger pages history text (asks.Close tenant) = text ≡ closed_line tenant.now (account_of tenant.now ledger)

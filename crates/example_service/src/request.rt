@@ -45,7 +45,7 @@ pub enum Request<'a> {
     Change,
 }
 
-/// Reads a line. It is None where the line asks for nothing that the service does.
+/// Reads a line. It is None if the line asks for nothing that the service does.
 pub fn read_request(line: &str) -> Option<Request<'_>> {
     let (word, rest) = line.split_once(' ').unwrap_or((line, ""));
     match word {

@@ -64,8 +64,8 @@ impl Service {
     /// Does what is asked for, and returns the text that says what comes of it. The only error is that memory runs out.
     ///
     /// The ledger changes as the request says, or the request is rejected and it stays as it is. The pages change only
-    /// where the request is one for a document or for them, and only `Bound` changes their bound. The profiles change
-    /// only where another one is asked for.
+    /// if the request is one for a document or for them, and only `Bound` changes their bound. The profiles change
+    /// only if another one is asked for.
     pub fn answer(&mut self, request: &Request<'_>) -> Result<String>
         ensures ledger { AnswersLedger result self.old.ledger self.new.ledger
             ⟦<Held as HasDocuments>⟧.documents request.now }
@@ -397,7 +397,7 @@ impl Service {
         }
     }
 
-    /// Replaces the page of a document that has changed, where it is kept. It says how many bytes the tenant has, and
+    /// Replaces the page of a document that has changed, if it is kept. It says how many bytes the tenant has, and
     /// which pages go for the new one.
     fn renew_page(&mut self, place: String, tenant: &str, key: u64, bytes: usize) -> Result<String>
         ensures ledger { self.new.ledger ≡ self.old.ledger }

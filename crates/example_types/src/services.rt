@@ -74,7 +74,7 @@ impl Allocative for Station {
 }
 
 impl Station {
-    /// The graph and the warnings of the station. It fails where memory runs out, or where a part's own visit
+    /// The graph and the warnings of the station. It fails if memory runs out, or if a part's own visit
     /// fails.
     pub fn profile(&self, alloc: Global) -> Result<FlameGraphOutput, Refusal>
         ensures { IfOk result (IsProfileOf (⟦<Station as Allocative>⟧.may_show self.now)) }
@@ -119,7 +119,7 @@ impl Sensors {
         mem::replace(&mut self.roots, none)
     }
 
-    /// The graph and the warnings of all sensors. It fails where memory runs out, or where a sensor's own
+    /// The graph and the warnings of all sensors. It fails if memory runs out, or if a sensor's own
     /// visit fails.
     pub fn profile(&self) -> Result<FlameGraphOutput, Refusal>
         ensures { IfOk result (IsProfileOf (each_shows ⟦<Named<Sensor> as Allocative>⟧.may_show self.now.roots.items)) }

@@ -1,7 +1,7 @@
 //! Runs the rows of standard input: worked examples of plain entries, as data.
 //!
 //! A row has roots in the notation of the model, and what they print, hold or are refused with. Each row is run by the
-//! public calls of `allocative`. The program names what differs, and fails where anything does.
+//! public calls of `allocative`. The program names what differs, and fails if anything does.
 #![tactic(auto)]
 
 mod checks;

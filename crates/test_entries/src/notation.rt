@@ -4,7 +4,7 @@ use allocative::{Identity, Key};
 use std::alloc::{AllocError, Global};
 use std::io::{self, ErrorKind};
 
-/// One entry. The deeper entries directly after it are inside it, or in its content where it is a pointer to a
+/// One entry. The deeper entries directly after it are inside it, or in its content if it is a pointer to a
 /// shared value.
 #[derive(Drop)]
 struct Entry {

@@ -50,7 +50,7 @@ impl Row {
         cut(self.0.split_once("\n-- ").unwrap_or((self.0, "")).0).1
     }
 
-    /// The lines of a section, and none where the row does not have it.
+    /// The lines of a section, and none if the row does not have it.
     pub(crate) fn section(self, heading: &str) -> &'static str {
         for section in self.0.split("\n-- ").skip(1) {
             let (first, lines) = cut(section);

@@ -54,7 +54,7 @@ fn text_of(alloc: Global, output: &FlameGraphOutput) -> Result<String, AllocErro
     Ok(text)
 }
 
-/// The text of an output's warnings, with a line more where the copy of it or what its paths tell is another one.
+/// The text of an output's warnings, with a line more if the copy of it or what its paths tell is another one.
 fn warnings_of(alloc: Global, output: &FlameGraphOutput) -> Result<String, Refusal> {
     let written = text_of(alloc, output)?;
     let mut copy = output.warnings()?;

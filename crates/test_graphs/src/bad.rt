@@ -70,7 +70,7 @@ enum Never {
     InSilence,
     /// Fails twice by hand, and returns what the second `refuse` returned.
     Twice,
-    /// Fails by hand, with `Open` where the content of a shared value is shown, and otherwise with `Memory`.
+    /// Fails by hand, with `Open` if the content of a shared value is shown, and otherwise with `Memory`.
     InContent,
     /// Shows a field by a closure that only returns an error.
     ByClosure,

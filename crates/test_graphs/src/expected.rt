@@ -49,14 +49,14 @@ pub(crate) fn is_text(text: &str, want: &str) -> Result<(), Fail> {
     Err(Fail::new(text))
 }
 
-/// Fails where an output has another text than this one, followed by its warnings.
+/// Fails if an output has another text than this one, followed by its warnings.
 pub(crate) fn tells(output: &FlameGraphOutput, want: &str) -> Result<(), Fail> {
     let mut text = output.flamegraph().write()?;
     text.push_str(output.warnings_text())?;
     is_text(text.as_str(), want)
 }
 
-/// Fails where one visit of a value has another text than this one, followed by its warnings.
+/// Fails if one visit of a value has another text than this one, followed by its warnings.
 pub(crate) fn shows(alloc: Global, root: &dyn Allocative, want: &str) -> Result<(), Fail> {
     let mut builder = FlameGraphBuilder::new(alloc)?;
     builder.visit_root(root)?;
@@ -74,12 +74,12 @@ pub(crate) fn is_answer(
     Err(Fail::new(format_args!("{answer:?}")))
 }
 
-/// Fails where the held bytes of a value are other ones.
+/// Fails if the held bytes of a value are other ones.
 pub(crate) fn holds(root: &dyn Allocative, want: Result<usize, Refusal>) -> Result<(), Fail> {
     is_answer(size_of_unique_allocated_data(root), want)
 }
 
-/// Fails where `visit_root` and then `finish` do not both return this error for a root.
+/// Fails if `visit_root` and then `finish` do not both return this error for a root.
 pub(crate) fn is_refused(alloc: Global, root: &dyn Allocative, want: Refusal) -> Result<(), Fail> {
     let mut builder = FlameGraphBuilder::new(alloc)?;
     let found = [builder.visit_root(root).err(), builder.finish().err()];

@@ -90,7 +90,7 @@ fn forget_content(root: &mut Visitor<'_>) -> Result<Told, Refusal> {
     Ok([None, None])
 }
 
-/// Forgets a root visitor, where asked with an entry made before.
+/// Forgets a root visitor, if asked with an entry made before.
 fn forget_root(builder: &mut FlameGraphBuilder, with_an_entry: bool) -> Result<Told, Refusal> {
     let mut root = builder.root_visitor()?;
     if with_an_entry {
@@ -139,7 +139,7 @@ fn answers(alloc: Global, act: Act) -> Result<(Told, [Option<Refusal>; 3]), Refu
     Ok((refusal?, ended))
 }
 
-/// Fails where both calls of an act were not told this, or where its builder does not end with that.
+/// Fails if both calls of an act were not told this, or if its builder does not end with that.
 fn ends(
     alloc: Global,
     act: Act,

@@ -1,4 +1,4 @@
-//! What no clause says: worked examples, printed texts, and what is left where memory runs out.
+//! What no clause says: worked examples, printed texts, and what is left if memory runs out.
 use crate::made_graphs::{children_of, own, with_children, with_paths};
 use allocative::{FlameGraph, IdArc, IdMaker, IdRc, Identity, Key, Refusal, push_path};
 use std::alloc::Global;

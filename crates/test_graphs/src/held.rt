@@ -208,7 +208,7 @@ fn entries_of_a_closure_are_held(rt: HostRuntime) -> Result<(), Fail> {
 
 /// The collector of held bytes returns no visitor for the content of a shared value. A closure has to leave its
 /// visitor where it got it, and no clause of `enter_shared` tells it so. So the closure ends the test, by a panic that
-/// comes only where there is no visitor.
+/// comes only if there is no visitor.
 #[test]
 #[should_panic(expected = "the content is left out")]
 fn no_content_is_shown_where_bytes_are_held(rt: HostRuntime) {

@@ -11,7 +11,7 @@ use allocative::{
 use std::alloc::Global;
 use std::test::Fail;
 
-/// Fails where two collections of bytes add up to another total, or to another text.
+/// Fails if two collections of bytes add up to another total, or to another text.
 fn adds_up(alloc: Global, left: &[u8], right: &[u8], total: usize, text: &str) -> Result<(), Fail> {
     let sum = profile_in_two(alloc, left, right)?;
     is_answer(Ok(sum.total_size()), Ok(total))?;

@@ -54,7 +54,7 @@ fn in_order(alloc: Global, keys: &[&'static str], order: Order) -> Result<Vec<Si
     Ok(sizes)
 }
 
-/// The lines of the children, where each was added `times` times.
+/// The lines of the children, if each was added `times` times.
 fn lines_of(alloc: Global, keys: &[&'static str], times: usize) -> Result<String, Fail> {
     let mut text = String::new(alloc);
     for (place, key) in keys.iter().enumerate() {

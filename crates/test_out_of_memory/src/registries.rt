@@ -152,7 +152,7 @@ fn with_counter(rt: &(impl Abort + AllocGlobal)) -> (Rc<Cell<u8>>, Counted) {
     (drops, value)
 }
 
-/// Asserts that a counted value is kept or, where the call that took it was refused, was dropped once.
+/// Asserts that a counted value is kept or, if the call that took it was refused, was dropped once.
 fn assert_kept_or_dropped<T>(rt: &impl Abort, drops: &Cell<u8>, taken: &Result<T, Refusal>) {
     match taken {
         Ok(_) => assert_eq!(rt; drops.get(), 0),

@@ -51,7 +51,7 @@ class Drawing:
         return self.chance.choice(kinds)
 
     def fields(self, count: int, name: str, is_named: bool, *how: bool) -> str:
-        """Fields in braces or parentheses, and nothing where there are none."""
+        """Fields in braces or parentheses, and nothing if there are none."""
         kinds = [self.field(name, *how) for _ in range(count)]
         if not kinds:
             return ""
