@@ -3,6 +3,8 @@ mod marks;
 mod names;
 mod ours;
 mod plain;
+mod resident;
+mod services;
 mod stack;
 mod theirs;
 mod values;
@@ -13,12 +15,14 @@ use std::fs;
 use std::thread;
 use std::time::{Duration, Instant};
 
+type Side = Box<dyn Fn(&Names) -> u64>;
+
 /// One workload on either side. Both answer the hash of the text that they wrote.
 struct Workload {
     name: String,
     steps: &'static [&'static str],
-    ours: Box<dyn Fn(&Names) -> u64>,
-    theirs: Box<dyn Fn(&Names) -> u64>,
+    ours: Side,
+    theirs: Side,
 }
 
 /// Seconds: for all rounds of a workload, and for a round that is not run again.
@@ -27,6 +31,9 @@ const LONG: f64 = 5.0;
 
 const HANDLED: &[&str] = &["build", "clone", "add", "write", "drop"];
 const COLLECTED: &[&str] = &["enter", "finish", "write", "drop"];
+
+/// The orders in which children come, by their numbers.
+const ORDERS: [(u32, &str); 3] = [(0, "rising"), (1, "falling"), (2, "mixed")];
 
 macro_rules! workload {
     ($name:expr, $steps:expr, $call:ident($($argument:expr),*)) => {
@@ -52,7 +59,7 @@ fn graphs() -> Vec<Workload> {
             cube(side)
         ));
     }
-    for (order, word) in [(0, "rising"), (1, "falling"), (2, "mixed")] {
+    for (order, word) in ORDERS {
         for count in [25_000usize, 50_000, 100_000] {
             all.push(workload!(
                 format!("{count} children, {word}"),
@@ -61,7 +68,7 @@ fn graphs() -> Vec<Workload> {
             ));
         }
     }
-    for (order, word) in [(0, "rising"), (1, "falling"), (2, "mixed")] {
+    for (order, word) in ORDERS {
         let name = format!("100000 children at once, {word}");
         all.push(workload!(name, &["build"], at_once(100_000, order)));
     }
@@ -73,7 +80,7 @@ fn graphs() -> Vec<Workload> {
 }
 
 fn collectors() -> Vec<Workload> {
-    vec![
+    let mut all = vec![
         workload!(
             "2,000,007 entries on 9 paths".into(),
             COLLECTED,
@@ -90,17 +97,12 @@ fn collectors() -> Vec<Workload> {
             COLLECTED,
             shared(100_000, 10_007)
         ),
-        workload!(
-            "25,000 entries in one, falling".into(),
-            COLLECTED,
-            wide_entries(25_000, 1)
-        ),
-        workload!(
-            "25,000 entries in one, mixed".into(),
-            COLLECTED,
-            wide_entries(25_000, 2)
-        ),
-    ]
+    ];
+    for (order, word) in ORDERS {
+        let name = format!("100,000 entries in one, {word}");
+        all.push(workload!(name, COLLECTED, wide_entries(100_000, order)));
+    }
+    all
 }
 
 fn values() -> Vec<Workload> {
@@ -134,7 +136,7 @@ struct Least {
     answer: u64,
 }
 
-fn run(side: &dyn Fn(&Names) -> u64, names: &Names, before: Option<Least>) -> Least {
+fn run(side: &Side, names: &Names, before: Option<Least>) -> Least {
     let answer = side(names);
     let steps = marks::take();
     let Some(before) = before else {
@@ -153,21 +155,22 @@ fn run(side: &dyn Fn(&Names) -> u64, names: &Names, before: Option<Least>) -> Le
     Least { steps, answer }
 }
 
-/// Runs both sides in turn, until the time for it is over: at least twice, or once if a round takes long.
-fn measure(workload: &Workload, names: &Names) -> (Least, Least) {
+/// Runs the sides in turn, until the time for it is over: at least twice, or once where a round takes long.
+fn measure<const SIDES: usize>(sides: [&Side; SIDES], names: &Names) -> [Least; SIDES] {
     let begun = Instant::now();
-    let (mut ours, mut theirs) = (None, None);
+    let mut all: [Option<Least>; SIDES] = [const { None }; SIDES];
     let mut rounds = 0.0;
     loop {
-        ours = Some(run(&workload.ours, names, ours));
-        theirs = Some(run(&workload.theirs, names, theirs));
+        for (side, least) in sides.iter().zip(&mut all) {
+            *least = Some(run(side, names, least.take()));
+        }
         rounds += 1.0;
         let spent = begun.elapsed().as_secs_f64();
         if spent > LONG || rounds > 1.0 && spent + spent / rounds > ENOUGH {
             break;
         }
     }
-    (ours.unwrap(), theirs.unwrap())
+    all.map(Option::unwrap)
 }
 
 fn print_row(workload: &Workload, ours: &Least, theirs: &Least) {
@@ -194,7 +197,7 @@ fn print_table(title: &str, workloads: &[Workload], names: &Names, only: Option<
         if only.is_some_and(|word| !workload.name.contains(word)) {
             continue;
         }
-        let (ours, theirs) = measure(workload, names);
+        let [ours, theirs] = measure([&workload.ours, &workload.theirs], names);
         assert_eq!(
             ours.answer, theirs.answer,
             "{}: both sides write the same text",
@@ -218,19 +221,30 @@ fn print_machine() {
     );
 }
 
-/// With the word `stack` what calls take of the stack; with another word only the workloads whose names have it.
+/// With the word `stack` what calls take of the stack, and with `resident` what containers take of memory; with another
+/// word only the workloads whose names have it. A container and a count make that one container.
 fn main() {
-    let only = env::args().nth(1);
+    let words: Vec<String> = env::args().skip(1).collect();
+    if let [_, container, count] = &words[..] {
+        return resident::print_row(container.parse().unwrap(), count.parse().unwrap());
+    }
+    let only = words.into_iter().next();
     print_machine();
     let names = Names::new(100_000);
-    if only.as_deref() == Some("stack") {
-        return stack::print_table(&names);
+    match only.as_deref() {
+        Some("stack") => return stack::print_table(&names),
+        Some("resident") => return resident::print_table(),
+        _ => {}
     }
     // A chain of 10,000 calls is deeper than the first thread's stack may be.
     let all = move || {
         print_table("Flame graphs:", &graphs(), &names, only.as_deref());
         print_table("Collectors:", &collectors(), &names, only.as_deref());
         print_table("Values:", &values(), &names, only.as_deref());
+        services::print_table(&names, only.as_deref());
+        if only.is_none() {
+            resident::print_table();
+        }
     };
     thread::Builder::new()
         .stack_size(64 << 20)

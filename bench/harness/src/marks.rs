@@ -1,5 +1,5 @@
 //! How much processor time the steps of a workload took.
-use crate::stack;
+use crate::{resident, stack};
 use std::sync::Mutex;
 use std::time::Duration;
 
@@ -37,6 +37,7 @@ fn time_run() -> Duration {
 pub extern "C" fn bench_mark(step: u32) {
     let now = time_run();
     stack::mark(step);
+    resident::mark(step);
     let (begun, least) = &mut *CLOCK.lock().unwrap();
     if let (Some(begun), Some(at)) = (*begun, step.checked_sub(1)) {
         let at = at as usize;

@@ -26,6 +26,7 @@ workloads! {
     deep = bench_deep(depth: usize);
     shared = bench_shared(pointers: usize, identities: usize);
     wide_entries = bench_wide_entries(count: usize, order: u32);
+    compare = bench_compare(side: usize);
 }
 
 macro_rules! values {
@@ -46,4 +47,7 @@ values! {
     lists = bench_lists(count: usize);
     links = bench_links(depth: usize);
     boxes = bench_boxes();
+    sizes = bench_sizes(measure: u32, kind: u32, count: usize);
+    admit = bench_admit(measure: u32, count: usize);
+    chains = bench_chains(depth: usize);
 }
