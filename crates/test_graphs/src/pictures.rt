@@ -120,11 +120,11 @@ fn collections_of_std_are_not_marked(rt: HostRuntime) -> Result<(), Refusal> {
     let text = picture(alloc, output.flamegraph(), &options)?;
     let parts = [
         "180 B (180 bytes) declared; 23 paths drawn, 0 too narrow even for zoom",
-        "<svg class=\"b warned\" x=\"97.7777%\" y=\"72\" width=\"2.2223%\" height=\"18\"><title>Short\n4 B (4 bytes), 2.22% of all\n",
+        "<svg class=\"b warned thin brief\" x=\"97.7777%\" y=\"72\" width=\"2.2223%\" height=\"18\"><title>Short\n4 B (4 bytes), 2.22% of all\n",
         "Incorrect size declaration for node `Short`, size of self: 1, size of inline children: 4</text>\n<script>",
     ];
     assert_parts(&rt, text.as_str(), &parts);
-    assert_eq!(rt; text.as_str().matches("class=\"b warned\"").count(), 1);
+    assert_eq!(rt; text.as_str().matches("class=\"b warned").count(), 1);
     assert_eq!(rt; text.as_str().matches("class=\"warn\"").count(), 1);
     Ok(())
 }
