@@ -1,13 +1,13 @@
 //! What a finished collector returns: a flame graph and its warnings.
-ghost use Rattle.std.specs.Prelude.{◌≡◌, ◌++◌, IfOk, OnOk, MatchResult, string_bytes, map};
-ghost use Rattle.allocative_collectors.specs.Warned.{warning_of, warning_lines};
+ghost use Rattle.std.specs.Prelude.{◌≡◌, ◌++◌, IfOk, OnOk, MatchResult, string_bytes, map, filter, not};
+ghost use Rattle.allocative_collectors.specs.Warned.{warning_of, warning_lines, is_std_entry};
 
 use allocative_graph::flamegraph::FlameGraph;
 use allocative_graph::refusal::Refusal;
 use std::alloc::{AllocError, Global};
 use std::marker::Model;
 
-/// A path that has a warning: it was never unique, and declares fewer bytes than the paths one key below it together.
+/// A path with a warning: it was never unique, and declares fewer bytes than the paths one key below it together.
 #[derive(Drop)]
 pub struct WarnedPath {
     /// The keys from the root on.
@@ -20,7 +20,19 @@ pub struct WarnedPath {
 
 impl WarnedPath {
     ghost use Rattle.allocative_graph.specs.Graph.{warning_text};
-    ghost use Rattle.allocative_collectors.specs.Warned.{warning_of};
+    ghost use Rattle.allocative_collectors.specs.Warned.{warning_of, is_std_data};
+
+    /// Whether the path is the entry `data` of a map or a set of std. Such a path has a warning as soon as its contents
+    /// exceed 8 bytes. It ends in `BTreeMap`, `BTreeSet`, `HashMap` or `HashSet`, and then `data`. The keys alone decide,
+    /// so a type of your own with one of these names counts too.
+    pub fn is_of_std(&self) -> bool
+        ensures { result ≡ is_std_data (warning_of self.now).path }
+    {
+        match self.path.as_slice() {
+            [.., collection, entry] => is_std_entry(collection, entry),
+            _ => false,
+        }
+    }
 
     /// Appends the warning of the path, without a line feed. The only error is that memory runs out, and then the text
     /// is as it was.
@@ -36,6 +48,17 @@ impl WarnedPath {
             "Incorrect size declaration for node `{path}`, size of self: {own}, size of inline children: {parts}"
         )?;
         text.push_str(warning.as_str())
+    }
+
+    /// A copy. The only error is that memory runs out.
+    fn copy(&self) -> Result<WarnedPath, AllocError>
+        ensures { IfOk result (λ copy. warning_of copy ≡ warning_of self.now) }
+    {
+        Ok(WarnedPath {
+            path: self.path.clone()?,
+            self_size: self.self_size,
+            children_size: self.children_size,
+        })
     }
 }
 
@@ -65,7 +88,7 @@ impl Model for FlameGraphOutput {
 }
 
 impl FlameGraphOutput {
-    ghost use Rattle.allocative_collectors.specs.Warned.{warning_of, warning_lines};
+    ghost use Rattle.allocative_collectors.specs.Warned.{warning_of, warning_lines, is_std_data};
 
     /// The graph, the paths that have a warning, and the text of the warnings, which is made from the paths. The only
     /// error is that memory runs out.
@@ -108,20 +131,44 @@ impl FlameGraphOutput {
         Ok(self.warnings.clone()?)
     }
 
-    /// The warnings' text: one line for each path that has a warning. It allocates nothing.
+    /// The warnings' text, with a line for each. The call allocates nothing.
     pub fn warnings_text(&self) -> &str
         ensures { result.now ≡ self.now.warnings }
     {
         self.warnings.as_str()
     }
 
-    /// The paths that have a warning, in the order of paths, which is that of the lines of the text. It allocates
-    /// nothing.
+    /// The paths with a warning, in the order of paths. It is the order of the text's lines. The call allocates nothing.
     pub fn warned_paths(&self) -> &[WarnedPath]
         ensures { map warning_of result.now ≡ self.now.warned }
     {
         self.warned.as_slice()
     }
+
+    /// Copies of all warned paths but those of std's maps and sets, in order. Left out are those for which `is_of_std` is
+    /// true. The only error is that memory runs out.
+    pub fn warned_paths_outside_std(&self) -> Result<Vec<WarnedPath>, AllocError>
+        ensures { IfOk result
+            (λ paths. map warning_of paths.items ≡ filter (λ w. not (is_std_data w.path)) self.now.warned) }
+    {
+        let warned = self.warned_paths();
+        let mut paths = Vec::new(*self.warned.allocator());
+        for one in warned {
+            if !one.is_of_std() {
+                paths.push(one.copy()?)?;
+            }
+        }
+        Ok(paths)
+    }
+}
+
+/// Whether two keys are the name of a map or a set of std and `data`.
+fn is_std_entry(collection: &str, entry: &str) -> bool
+    ensures { result ≡ is_std_entry collection.now entry.now }
+{
+    let is_tree = collection == "BTreeMap" || collection == "BTreeSet";
+    let is_table = collection == "HashMap" || collection == "HashSet";
+    entry == "data" && (is_tree || is_table)
 }
 
 /// The text of the warnings of some paths: a line for each, in their order.

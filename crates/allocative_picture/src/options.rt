@@ -8,8 +8,9 @@ use allocative_collectors::output::WarnedPath;
 pub struct Options<'a> {
     /// The title above the picture. It may be any text.
     pub title: &'a str,
-    /// The paths that have a warning, as `FlameGraphOutput::warned_paths` returns them. In the picture of a profile the
-    /// box of such a path has a red edge. Each path also has a line below the picture, with both its sizes.
+    /// The paths that have a warning, as `FlameGraphOutput::warned_paths` returns them, or without the filled maps and
+    /// sets of std, as `FlameGraphOutput::warned_paths_outside_std` does. In the picture of a profile the box of such a
+    /// path has a red edge. Each path also has a line below the picture, with both its sizes.
     pub warned: &'a [WarnedPath],
     /// The width of the narrowest box, in millionths of the width of the picture. A path has no box if its box would
     /// be narrower, or would have no width.

@@ -15,7 +15,7 @@ use allocative_graph::flamegraph::FlameGraph;
 use allocative_graph::refusal::Refusal;
 use std::alloc::{AllocError, Global};
 
-/// The picture of a flame graph, as the text of an SVG document.
+/// The picture of a flame graph, as an SVG document.
 ///
 /// The root is at the top, and each path is below its parent. A box is as wide as the bytes of its path and of all
 /// paths below it. The only error is that memory runs out.
@@ -30,7 +30,7 @@ pub fn picture(alloc: Global, graph: &FlameGraph, options: &Options<'_>) -> Resu
     Ok(draw_graph(alloc, subject, Marks::Warned, &warned, graph, options)?)
 }
 
-/// The picture of the change from one flame graph to another, as the text of an SVG document.
+/// The picture of the change from one flame graph to another, as an SVG document.
 ///
 /// It is the picture of their sum: a box is as wide as its bytes before and after together. It is red if bytes grew
 /// and blue if they shrank, and its colour is the fuller the greater the difference is relative to the sum.
@@ -93,8 +93,8 @@ fn draw_graph(
     draw_wide(alloc, subject, wide.as_slice(), paths, options)
 }
 
-/// The picture of some rows, as the text of an SVG document. The rows are expected in the order of paths, with the
-/// totals of the subject. Otherwise the boxes may not fit together.
+/// The picture of some rows, as an SVG document. The rows are expected in the order of paths, with the totals of the
+/// subject. Otherwise the boxes may not fit together.
 ///
 /// The only error is that memory runs out.
 pub fn draw(

@@ -1,4 +1,5 @@
 //! What no clause says: whole pictures, as a browser gets them.
+use crate::declared::collections_and_short;
 use crate::made_graphs::{own, with_children, with_paths};
 use allocative::Refusal;
 use allocative_collectors::output::WarnedPath;
@@ -103,6 +104,28 @@ fn warned_and_unused_paths_are_marked(rt: HostRuntime) -> Result<(), Refusal> {
     };
     let text = picture(alloc, &graph, &options)?;
     assert_picture(&rt, text.as_str(), &MARKED);
+    Ok(())
+}
+
+/// One of 23 paths is marked, and 4 bytes of 180 are its.
+#[test]
+fn collections_of_std_are_not_marked(rt: HostRuntime) -> Result<(), Refusal> {
+    let alloc = rt.alloc();
+    let output = collections_and_short(alloc)?;
+    let warned = output.warned_paths_outside_std()?;
+    let options = Options {
+        warned: warned.as_slice(),
+        ..Options::default()
+    };
+    let text = picture(alloc, output.flamegraph(), &options)?;
+    let parts = [
+        "180 B (180 bytes) declared; 23 paths drawn, 0 too narrow even for zoom",
+        "<svg class=\"b warned thin brief\" x=\"97.7777%\" y=\"72\" width=\"2.2223%\" height=\"18\"><title>Short\n4 B (4 bytes), 2.22% of all\n",
+        "Incorrect size declaration for node `Short`, size of self: 1, size of inline children: 4</text>\n<script>",
+    ];
+    assert_parts(&rt, text.as_str(), &parts);
+    assert_eq!(rt; text.as_str().matches("class=\"b warned").count(), 1);
+    assert_eq!(rt; text.as_str().matches("class=\"warn\"").count(), 1);
     Ok(())
 }
 
