@@ -155,7 +155,7 @@ fn run(side: &Side, names: &Names, before: Option<Least>) -> Least {
     Least { steps, answer }
 }
 
-/// Runs the sides in turn, until the time for it is over: at least twice, or once where a round takes long.
+/// Runs the sides in turn, until the time for it is over: at least twice, or once if a round takes long.
 fn measure<const SIDES: usize>(sides: [&Side; SIDES], names: &Names) -> [Least; SIDES] {
     let begun = Instant::now();
     let mut all: [Option<Least>; SIDES] = [const { None }; SIDES];
