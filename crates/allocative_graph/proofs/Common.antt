@@ -30,10 +30,10 @@ pub use Rattle.allocative_graph.specs.Meaning.{IsMeaning, IsWhole, Reached, cont
 pub use Rattle.allocative_graph.specs.Path.{Key, Path, is_one_below, is_same_path, key_cmp, path_cmp}
 pub use Rattle.allocative_graph.specs.Read.{AreStacks, IsCut, IsFault, IsNumber, IsRead, IsStack, IsWrong, Means, Stack, all_bytes, bytes_at, is_path_of, number_of, line_stack}
 pub use Rattle.allocative_graph.specs.Reads.{AreChildren, Figures, figures_behind, keys_of, node, rows_of, rows_of_child, under_rows}
-pub use Rattle.allocative_graph.specs.Representation.Children.{AddsUp, AddsUpInPart, AllAbove, AllBelow, InOrder, IsChildGap, IsFound, size_under, Added, Merged}
+pub use Rattle.allocative_graph.specs.Representation.Children.{AddsUp, AddsUpInPart, AllAbove, AllBelow, InOrder, IsChildGap, IsFound, size_under, Added, Merged, child_of_path}
 pub use Rattle.allocative_graph.specs.Representation.Node.{IsNode, weight}
 pub use Rattle.allocative_graph.specs.Representation.NodeRows.{both, entries-node, first, len-child, node_sorted, second}
-pub use Rattle.allocative_graph.specs.Representation.PathRows.{IsSumByPath, joined_on, line_from, lines_below, sum_of_rows, nested, one_stack, sum_of_stacks}
+pub use Rattle.allocative_graph.specs.Representation.PathRows.{IsSumByPath, joined_on, line_from, lines_below, sum_of_rows, graph_of_path, one_stack, sum_of_stacks}
 pub use Rattle.allocative_graph.specs.Sums.{Node, Sums, add, add_all, below, bytes_in, is_entered_in, is_unique_in, node_of, sums_of, together}
 pub use Rattle.allocative_graph.specs.declared.flamegraph.Child.{Child}
 pub use Rattle.allocative_graph.specs.declared.read.Line.{Line}

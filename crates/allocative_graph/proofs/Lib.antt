@@ -19,6 +19,7 @@ pub mod NodeSizes
 pub mod ChildOrder
 pub mod ChildSizes
 pub mod NodeAdded
+pub mod OnePath
 pub mod ChildRows
 pub mod ChildLookup
 pub mod OneMeaning

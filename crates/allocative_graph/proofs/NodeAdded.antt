@@ -6,9 +6,9 @@ use Rattle.allocative_graph.proofs.ChildMerged.{merged_last}
 use Rattle.allocative_graph.proofs.Basics.{on_test}
 use Rattle.allocative_graph.proofs.ChildLookup.{get-root, get-under, node_each, node_of_one}
 use Rattle.allocative_graph.proofs.ChildOrder.{one_child, first_tree}
-use Rattle.allocative_graph.proofs.ChildRows.{weight-append, weight-one}
+use Rattle.allocative_graph.proofs.ChildRows.{weight-one}
 use Rattle.allocative_graph.proofs.ChildSizes.{part_of_sum}
-use Rattle.allocative_graph.proofs.Graphs.{is_sum_of}
+use Rattle.allocative_graph.proofs.Graphs.{is_sum_of, total-sum_of, total-under}
 use Rattle.allocative_graph.proofs.NodeSizes.{total-node}
 
 -- If all children are trees, they have with each path below a key also the path with its last key left out.
@@ -74,19 +74,24 @@ module _ {n s : ℕ} {cs : List Child} {g : Graph} (view : node n cs ≡ g) (h :
   pub len_of_node : len g ≡ length (rows_of cs) + 1
   len_of_node = ap len (sym view) ∙ rows_of_node n cs h.children
 
--- ---- a child that comes after all others
-module _ {n s : ℕ} {cs : List Child} {g : Graph} (view : node n cs ≡ g) (h : IsNode cs s n) (c : Child) (t : IsTree c.graph) (last : ComesLast g c.key) where
-  pushed : Merged true cs (c ∷ []) (cs ++ c ∷ [])
-  pushed = merged_last cs c h.children t (each_child (λ l. key_cmp l c.key ≡ Less) cs h.children.trees
-      (λ l e. last l [] (subst (λ (x : Graph). contains_key x (l ∷ []) ≡ true) view (ap is_some (get-under n cs l [] h.children.sorted) ∙ e))))
+-- ---- one child merged into the children of a node with the graph g
+module _ {n s : ℕ} {cs es : List Child} {g : Graph} {c : Child} (view : node n cs ≡ g) (h : IsNode cs s n) (t : IsTree c.graph) (m : Merged true cs (c ∷ []) es) where
+  -- The node has the graph under the key of the child added.
+  pub sum_grown : node n es ≡ sum_of g (under c.key c.graph)
+  sum_grown = added_sum (added_under c view h t m) refl
 
-  pub node_pushed : total g + total c.graph < 2 ^ 64 → IsNode (cs ++ c ∷ []) (s + total c.graph) n
-  node_pushed fits =
-      let more = weight-append cs (c ∷ []) in
-      record { children = pushed.children; exact = omega (arith, more, weight-one c, h.exact); fits = omega (arith, total_of_node view h, fits, h.exact) }
+  -- What holds of each node holds of it with the bytes of the child.
+  pub node_grown : {added : ℕ} → added ≡ total c.graph → total g + total c.graph < 2 ^ 64 → IsNode es (s + added) n
+  node_grown is fits =
+      let own = total_of_node view h in
+      let all : n + weight es ≡ total g + total c.graph =
+      sym (total-node n es m.children.sorted) ∙ ap total sum_grown ∙ total-sum_of g (under c.key c.graph) ∙ ap (λ k. total g + k) (total-under c.key c.graph) in
+      record { children = m.children; exact = omega (arith, all, own, h.exact); fits = omega (arith, all, own, h.exact, fits) }
 
-  pub sum_pushed : node n (cs ++ c ∷ []) ≡ sum_of g (under c.key c.graph)
-  sum_pushed = added_sum (added_under c view h t pushed) refl
+-- A child that comes after all others is put at the end.
+pub pushed : {n s : ℕ} {cs : List Child} {g : Graph} (view : node n cs ≡ g) → IsNode cs s n → (c : Child) → IsTree c.graph → ComesLast g c.key → Merged true cs (c ∷ []) (cs ++ c ∷ [])
+pushed {n = n} {cs = cs} view h c t last = merged_last cs c h.children t (each_child (λ l. key_cmp l c.key ≡ Less) cs h.children.trees
+    (λ l e. last l [] (subst (λ (x : Graph). contains_key x (l ∷ []) ≡ true) view (ap is_some (get-under n cs l [] h.children.sorted) ∙ e))))
 
 -- ---- two nodes with the graphs g and h, whose children merge to es, also if equal lists are named
 module _ {g h : Graph} {m n s t : ℕ} {cs ds : List Child} (mine : node m cs ≡ g) (a : IsNode cs s m) (theirs : node n ds ≡ h) (b : IsNode ds t n) where

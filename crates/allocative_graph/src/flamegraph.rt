@@ -21,10 +21,12 @@ use std::collections::VecDeque;
 use std::marker::Model;
 use std::mem;
 
+mod at_path;
 mod in_order;
 mod many;
 mod reads;
 
+pub use at_path::add_at;
 pub use in_order::push_child;
 pub use reads::Row;
 

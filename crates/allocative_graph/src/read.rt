@@ -5,11 +5,9 @@ ghost use Rattle.std.specs.Str.Parse.{IsNumeral};
 ghost use Rattle.allocative_graph.specs.Graph.{default};
 ghost use Rattle.allocative_graph.specs.declared.read.ReadFault.TheVariants.{Memory};
 ghost use Rattle.allocative_graph.specs.Read.{line_stack, IsStack, IsWrong, Means, IsFault, IsRead, Exceeds, ReadsBack};
-ghost use Rattle.allocative_graph.specs.Representation.PathRows.{one_stack, sum_of_stacks};
+ghost use Rattle.allocative_graph.specs.Representation.PathRows.{sum_of_stacks};
 
-use crate::flamegraph::FlameGraph;
-use crate::key::Key;
-use crate::refusal::Refusal;
+use crate::flamegraph::{FlameGraph, add_at};
 use std::alloc::{AllocError, AllocFailed, Global};
 use thiserror::Error;
 
@@ -89,11 +87,7 @@ impl FlameGraph {
         }
         // Almost every key is then added behind those that are there. The result of a sum does not depend on it.
         lines.sort_unstable_by(|a: &Line, b: &Line| a.path.cmp(b.path));
-        // The sizes fit, so the only error is that memory runs out.
-        match add_up(alloc, lines.as_slice()) {
-            Ok(graph) => Ok(graph),
-            Err(_) => Err(ReadFault::Memory),
-        }
+        Ok(add_up(alloc, lines.as_slice())?)
     }
 }
 
@@ -104,24 +98,6 @@ struct Line {
     path: &'static str,
     // The bytes of the path alone.
     size: usize,
-}
-
-impl Line {
-    // The graph of the line alone.
-    #[tactic(auto, using(std::proofs::lemmas::List::nil_from_length))]
-    fn graph(&self, alloc: Global) -> Result<FlameGraph, Refusal>
-        ensures { IfOk result (λ graph. graph ≡ one_stack (line_stack self.now)) }
-    {
-        let mut graph = FlameGraph::default(alloc);
-        graph.add_self(self.size)?;
-        let mut keys: Vec<&'static str> = self.path.split(';').collect(alloc)?;
-        while let Some(key) = keys.pop() {
-            let mut parent = FlameGraph::with_capacity(alloc, 1)?;
-            parent.add_child(Key::new(key), graph)?;
-            graph = parent;
-        }
-        Ok(graph)
-    }
 }
 
 // Whether a text is one decimal digit or more, and nothing else.
@@ -188,14 +164,18 @@ fn total_of(lines: &[Line]) -> Option<usize>
     Some(sum)
 }
 
-// The sum of the graphs of some lines.
-#[tactic(auto, using(std::proofs::Common::take_all, crate::proofs::StackSums::line_more))]
-fn add_up(alloc: Global, lines: &[Line]) -> Result<FlameGraph, Refusal>
+// The sum of the graphs of some lines, whose bytes fit together.
+#[tactic(auto, using(std::proofs::Common::take_all))]
+fn add_up(alloc: Global, lines: &[Line]) -> Result<FlameGraph, AllocError>
+    requires { sum_by (λ l. l.size) lines.now < 2 ^ 64 }
     ensures { IfOk result (λ graph. graph ≡ sum_of_stacks default (map line_stack lines.now)) }
 {
     let mut graph = FlameGraph::default(alloc);
+    let mut keys: Vec<&'static str> = Vec::new(alloc);
     for line in lines {
-        graph.add(line.graph(alloc)?)?;
+        keys.clear();
+        keys.extend(line.path.split(';'))?;
+        add_at(&mut graph, keys.as_slice(), line.size)?;
     }
     Ok(graph)
 }

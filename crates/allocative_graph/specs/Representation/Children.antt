@@ -12,7 +12,7 @@ use Rattle.allocative_graph.specs.declared.flamegraph.Child.{Child}
 use Rattle.allocative_graph.specs.Path.{Key, Path, key_cmp}
 use Rattle.allocative_graph.specs.Reads.{keys_of, rows_of, AreChildren}
 use Rattle.allocative_graph.specs.Graph.{Graph, IsTree, total, IsPartOfSum}
-use Rattle.allocative_graph.specs.Representation.PathRows.{IsSumByPath}
+use Rattle.allocative_graph.specs.Representation.PathRows.{IsSumByPath, graph_of_path}
 use Rattle.allocative_graph.specs.Representation.Node.{weight}
 
 -- The size at the path p below the child with the key k, or None if there is no such path.
@@ -53,6 +53,10 @@ pub record IsChildGap (cs : List Child) (k : Key) (i : ℕ) : Type 0 where
   pub within : i ≤ length cs
   pub below : AllBelow (take i cs) k
   pub above : AllAbove (drop i cs) k
+
+-- The child that has the key k, n bytes at the path p below it, and nothing else.
+abbrev pub child_of_path : Key → Path → ℕ → Child
+child_of_path k p n = record { key = k; graph = graph_of_path p n }
 
 -- Which of two lists has the next child in the order of keys: the first (`Less`), the second (`Greater`), or both
 -- with one key (`Equal`).

@@ -1,4 +1,4 @@
--- Rows, which are paths with their sizes, the sum of two graphs path by path, and the graphs of stacks.
+-- Rows, which are paths with their sizes, the sum of two graphs path by path, and the graphs of paths and stacks.
 use Rattle.std.specs.Prelude.{◌≡◌, ℕ, ◌+◌, ◌||◌, ◌==◌, if◌then◌else◌, List, [], ◌∷◌, ◌++◌, flat_map, decimal, fold}
 use Rattle.std.specs.FinMap.{contains_key, entries}
 use Rattle.allocative_graph.specs.Path.{Path}
@@ -45,15 +45,15 @@ abbrev pub IsSumByPath : Graph → Graph → Graph → Type 0
 IsSumByPath g h r = (p : Path)
     → (size_at r p ≡ size_at g p + size_at h p) × (contains_key r p ≡ (contains_key g p || contains_key h p))
 
--- ---- the graphs of stacks, one added to another
--- The graph g with the keys of a path put before each of its paths, one after another from the last on.
-abbrev pub nested : Path → Graph → Graph
-nested [] g = g
-nested (k ∷ p) g = sum_of default (under k (nested p g))
+-- ---- the graphs of paths and of stacks
+-- The graph that has n bytes at a path, each prefix of the path, and nothing else.
+abbrev pub graph_of_path : Path → ℕ → Graph
+graph_of_path [] n = add_self n default
+graph_of_path (k ∷ p) n = under k (graph_of_path p n)
 
 -- The graph of one stack.
 abbrev pub one_stack : Stack → Graph
-one_stack s = nested s.path (add_self s.size default)
+one_stack s = graph_of_path s.path s.size
 
 -- The graph g with the graphs of some stacks added, one after another.
 abbrev pub sum_of_stacks : Graph → List Stack → Graph

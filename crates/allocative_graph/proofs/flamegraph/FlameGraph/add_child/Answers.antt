@@ -1,7 +1,7 @@
-use Rattle.std.proofs.Common.{◌≡◌, ℕ, ◌+◌, ◌^◌, ◌<◌, Bool, List, [], ◌∷◌, refl, arith}
+use Rattle.std.proofs.Common.{◌≡◌, ℕ, ◌+◌, ◌^◌, ◌<◌, Bool, List, [], ◌∷◌, arith}
 use Rattle.allocative_graph.proofs.Common.{Child, IsNode, Merged, total, weight}
 use Rattle.allocative_graph.proofs.ChildRows.{weight-one}
-use Rattle.allocative_graph.proofs.NodeAdded.{added_sum, added_under, total_of_node}
+use Rattle.allocative_graph.proofs.NodeAdded.{added_under, sum_grown, total_of_node}
 use Rattle.allocative_graph.proofs.flamegraph.FlameGraph.add_child.Goals as goal
 
 -- With one child merged into its children, a node is a node if the bytes fit.
@@ -23,5 +23,4 @@ invariant_of-self-2 c =
 
 pub returns-clause-sum : goal.returns-clause-sum
 returns-clause-sum c =
-    let child : Child = record { key = c.args.key; graph = c.args.child } in
-    added_sum (added_under child c.self.view_is c.self.invariant c.total_size.ensures.tree c.in_ok-put_child.ensures.merged) refl
+    sum_grown c.self.view_is c.self.invariant c.total_size.ensures.tree c.in_ok-put_child.ensures.merged
