@@ -1,12 +1,16 @@
 -- What a search among a node's children says of the sums.
-use Rattle.std.proofs.Common.{◌≡◌, ◌≢◌, ℕ, zero, suc, ◌<◌, false, List, [], ◌∷◌, ◌++◌, length, sym, ap, subst, ◌∙◌, arith, inl, inr, refl, append_assoc, map, set}
-use Rattle.allocative_collectors.proofs.Common.{Equal, Key, Path, key_cmp, path_at, IsEntered, Listed, root_sum, Shape, leaf, at, children_at, sums, keys_at, key_in, key_at, parent_at, IsChild, IsArena, IsKeyGap}
+use Rattle.std.proofs.Common.{◌≡◌, ◌≢◌, ℕ, zero, suc, ◌<◌, false, List, [], ◌∷◌, ◌++◌, length, sym, ap, subst, ◌∙◌}
+use Rattle.std.proofs.Common.{arith, inl, inr, refl, append_assoc, map, set}
+use Rattle.allocative_collectors.proofs.Common.{Equal, Key, Path, key_cmp, path_at, IsEntered, Listed, root_sum, Shape}
+use Rattle.allocative_collectors.proofs.Common.{leaf, at, children_at, sums, keys_at, key_in, key_at, parent_at}
+use Rattle.allocative_collectors.proofs.Common.{IsChild, IsArena, IsKeyGap}
 use Rattle.std.proofs.lemmas.List.{length-map, get_or-map, get_or_push, same_from_push}
 use Rattle.std.proofs.lemmas.Cmp.{tied_itself}
 use Rattle.std.proofs.lemmas.Bool.{cases_lt}
 use Rattle.allocative_collectors.proofs.Keys.{key_total}
 use Rattle.allocative_collectors.proofs.Entries.{put_nothing}
-use Rattle.allocative_collectors.proofs.Labels.{path_of, path_from-some, grow_same, grow_push, put_push, length_sums, not_nil, root_at, step, key_place, distinct}
+use Rattle.allocative_collectors.proofs.Labels.{path_of, path_from-some, grow_same, grow_push, put_push, length_sums}
+use Rattle.allocative_collectors.proofs.Labels.{not_nil, root_at, step, key_place, distinct}
 use Rattle.allocative_collectors.proofs.Grown.{grown, length_grown, with_children}
 use Rattle.std.specs.List.{insert}
 use Rattle.allocative_collectors.specs.Shapes.{sum_from}
@@ -14,7 +18,8 @@ use Rattle.allocative_collectors.specs.Shapes.{sum_from}
 -- at a gap no child has the key
 gap_none : (ks : List Key) (k : Key) (g : ℕ) → IsKeyGap ks k g → (j : ℕ) → j < length ks → key_in ks j ≡ k → ⊥
 gap_none ks k g gap j h e =
-    let tied : key_cmp (key_in ks j) k ≡ Equal = subst (λ (x : Key). key_cmp (key_in ks j) x ≡ Equal) e (tied_itself key_total (key_in ks j)) in
+    let tied : key_cmp (key_in ks j) k ≡ Equal =
+    subst (λ (x : Key). key_cmp (key_in ks j) x ≡ Equal) e (tied_itself key_total (key_in ks j)) in
     elim (cases_lt j g) [
       | inl lt ↦ let less = gap.smaller_before j lt in cc
       | inr ge ↦ let more = gap.greater_after j ge h in cc
@@ -30,7 +35,8 @@ module _ (ns : List Shape) (ok : IsArena ns) (p : ℕ) (hp : p < length ns) (k :
   pub was_entered : (i : ℕ) → IsChild ns p i → key_at ns i ≡ k → IsEntered (sums ns) (sums ns) p k 0 false i
   was_entered i c key =
       let inside : i < length (sums ns) = omega (arith, length_sums ns, c.in_range) in
-      let path : path_at (sums ns) i ≡ path_at (sums ns) p ++ k ∷ [] = step ns ok i c.not_root c.in_range ∙ (λ j. path_at (sums ns) (c.parent j) ++ key j ∷ []) in
+      let path : path_at (sums ns) i ≡ path_at (sums ns) p ++ k ∷ [] =
+      step ns ok i c.not_root c.in_range ∙ (λ j. path_at (sums ns) (c.parent j) ++ key j ∷ []) in
       record {
         sums = sym (put_nothing i _ (sums ns) inside);
         not_root = c.not_root;
@@ -40,7 +46,8 @@ module _ (ns : List Shape) (ok : IsArena ns) (p : ℕ) (hp : p < length ns) (k :
       }
 
   -- a node whose path is p's with the key is that child
-  pub child_of : (i : ℕ) → i < length ns → path_at (sums ns) i ≡ path_at (sums ns) p ++ k ∷ [] → IsChild ns p i × (key_at ns i ≡ k)
+  pub child_of : (i : ℕ) → i < length ns → path_at (sums ns) i ≡ path_at (sums ns) p ++ k ∷ [] →
+      IsChild ns p i × (key_at ns i ≡ k)
   child_of zero hi path = absurd (not_nil _ _ _ (sym path ∙ root_at ns))
   child_of (suc i) hi path =
       let parts = same_from_push _ _ _ _ (sym (step ns ok (suc i) (omega arith) hi) ∙ path) in
@@ -48,7 +55,8 @@ module _ (ns : List Shape) (ok : IsArena ns) (p : ℕ) (hp : p < length ns) (k :
       (record { not_root = omega arith; in_range = hi; parent = distinct ns ok (parent_at ns (suc i)) p (omega arith) hp parts.0 }, parts.1)
 
   -- a child of p has the key if a path begins with p's and the key
-  pub on_way : (n i : ℕ) → i < n → i < length ns → (q : Path) → path_at (sums ns) i ≡ path_at (sums ns) p ++ k ∷ q → (a : ℕ) × (a < length (keys_at ns p)) × (key_in (keys_at ns p) a ≡ k)
+  pub on_way : (n i : ℕ) → i < n → i < length ns → (q : Path) → path_at (sums ns) i ≡ path_at (sums ns) p ++ k ∷ q →
+      (a : ℕ) × (a < length (keys_at ns p)) × (key_in (keys_at ns p) a ≡ k)
   on_way zero i lt hi q e = absurd (omega arith)
   on_way (suc n) zero lt hi q e = absurd (not_nil _ _ _ (sym e ∙ root_at ns))
   on_way (suc n) (suc i) lt hi [] e =
@@ -58,8 +66,10 @@ module _ (ns : List Shape) (ok : IsArena ns) (p : ℕ) (hp : p < length ns) (k :
   on_way (suc n) (suc i) lt hi (x ∷ q) e =
       let up = ok.parents (suc i) (omega arith) hi in
       let l = last_of x q in
-      let split = ap (λ (y : Path). path_at (sums ns) p ++ k ∷ y) l.2 ∙ sym (append_assoc (path_at (sums ns) p) (k ∷ l.0) (l.1 ∷ [])) in
-      on_way n (parent_at ns (suc i)) (omega arith) (omega arith) l.0 (same_from_push _ _ _ _ (sym (step ns ok (suc i) (omega arith) hi) ∙ (e ∙ split))).0
+      let split = ap (λ (y : Path). path_at (sums ns) p ++ k ∷ y) l.2
+      ∙ sym (append_assoc (path_at (sums ns) p) (k ∷ l.0) (l.1 ∷ [])) in
+      on_way n (parent_at ns (suc i)) (omega arith) (omega arith) l.0
+      (same_from_push _ _ _ _ (sym (step ns ok (suc i) (omega arith) hi) ∙ (e ∙ split))).0
 
   module _ (g : ℕ) (gap : IsKeyGap (keys_at ns p) k g) where
     -- the path of a key in a gap was not entered before
@@ -76,13 +86,16 @@ module _ (ns : List Shape) (ok : IsArena ns) (p : ℕ) (hp : p < length ns) (k :
         let rest = set ns p (with_children (insert (children_at ns p) g (length ns)) (at ns p)) in
         let len = length_grown ns ok p hp k g gap in
         let all : sums (grown ns p k g) ≡ sums ns ++ record { path = Q; bytes = 0; is_unique = false } ∷ [] =
-        grow_push [] rest (leaf p k) ∙ (ap (λ (s : Listed). s ++ sum_from (map path_of s) (leaf p k) ∷ []) (grow_same [] ns p _ refl)
+        grow_push [] rest (leaf p k)
+        ∙ (ap (λ (s : Listed). s ++ sum_from (map path_of s) (leaf p k) ∷ []) (grow_same [] ns p _ refl)
         ∙ (ap (λ (x : Path). sums ns ++ record { path = x; bytes = 0; is_unique = false } ∷ []) (path_from-some (map path_of (sums ns)) p k (omega (arith, ok.rooted, length_sums ns, length-map (sums ns) path_of))
-        ∙ ap (λ (x : Path). x ++ k ∷ []) (get_or-map path_of (sums ns) p root_sum [] (omega (arith, length_sums ns)))))) in
+        ∙ ap (λ (x : Path). x ++ k ∷ []) (get_or-map path_of (sums ns) p root_sum [] (omega (arith, length_sums ns))))))
+        in
         record {
           sums = all ∙ sym (put_push (length ns) Q 0 false (sums ns) (sym (length_sums ns)));
           not_root = ok.rooted;
           within = omega (arith, length_sums (grown ns p k g));
-          path = ap (λ (s : Listed). path_at s (length ns)) all ∙ ap path_of (get_or_push (sums ns) _ root_sum (length ns) (length_sums ns));
+          path = ap (λ (s : Listed). path_at s (length ns)) all
+              ∙ ap path_of (get_or_push (sums ns) _ root_sum (length ns) (length_sums ns));
           sole = λ j h e. absurd (path_new j h e);
         }

@@ -1,5 +1,6 @@
 -- Numbers in chunks as one list: reads, a number that is put in, a chunk that is cut in two, and what a search finds.
-use Rattle.std.proofs.Common.{◌≡◌, ℕ, zero, suc, ◌+◌, ◌-◌, ◌<◌, ◌≤◌, List, [], ◌∷◌, ◌++◌, length, length-append, get_or, set, take, map, refl, sym, ap, subst₂, ◌∙◌, arith, inl, inr, append_assoc, append-nil}
+use Rattle.std.proofs.Common.{◌≡◌, ℕ, zero, suc, ◌+◌, ◌-◌, ◌<◌, ◌≤◌, List, [], ◌∷◌, ◌++◌, length, length-append, get_or}
+use Rattle.std.proofs.Common.{set, take, map, refl, sym, ap, subst₂, ◌∙◌, arith, inl, inr, append_assoc, append-nil}
 use Rattle.allocative_collectors.proofs.Common.{Less, Key, key_cmp, key_in, KeysRise, IsKeyGap}
 use Rattle.std.specs.List.{insert}
 use Rattle.std.proofs.lemmas.Bool.{cases_lt}
@@ -32,7 +33,8 @@ before_suc c cs i = length-append (numbers_in c) (flat (take i cs))
 pub before_more : (cs : List Chunk) (i : ℕ) → i < length cs → before cs (suc i) ≡ before cs i + length (chunk_at cs i)
 before_more [] i h = absurd (omega arith)
 before_more (c ∷ cs) zero h = omega (arith, before_suc c cs 0)
-before_more (c ∷ cs) (suc i) h = omega (arith, before_suc c cs (suc i), before_suc c cs i, before_more cs i (omega arith))
+before_more (c ∷ cs) (suc i) h = omega
+    (arith, before_suc c cs (suc i), before_suc c cs i, before_more cs i (omega arith))
 
 -- All numbers come before a place behind the last chunk.
 pub before_all : (cs : List Chunk) (i : ℕ) → length cs ≤ i → before cs i ≡ length (flat cs)
@@ -43,28 +45,34 @@ before_rises : (cs : List Chunk) (i j : ℕ) → i < j → j ≤ length cs → b
 before_rises [] i j lt h = absurd (omega arith)
 before_rises (c ∷ cs) i zero lt h = absurd (omega arith)
 before_rises (c ∷ cs) zero (suc j) lt h = omega (arith, before_suc c cs j)
-before_rises (c ∷ cs) (suc i) (suc j) lt h = omega (arith, before_suc c cs i, before_suc c cs j, before_rises cs i j (omega arith) (omega arith))
+before_rises (c ∷ cs) (suc i) (suc j) lt h =
+    omega (arith, before_suc c cs i, before_suc c cs j, before_rises cs i j (omega arith) (omega arith))
 
 -- No more numbers come before a chunk than there are in all.
 before_within : (cs : List Chunk) (i : ℕ) → before cs i ≤ length (flat cs)
 before_within [] zero = omega arith
 before_within [] (suc i) = omega arith
 before_within (c ∷ cs) zero = omega arith
-before_within (c ∷ cs) (suc i) = omega (arith, before_suc c cs i, length-append (numbers_in c) (flat cs), before_within cs i)
+before_within (c ∷ cs) (suc i) = omega
+    (arith, before_suc c cs i, length-append (numbers_in c) (flat cs), before_within cs i)
 
 -- number j of chunk i
-pub in_chunk : (cs : List Chunk) (i j : ℕ) (e : Chunk) → i < length cs → j < length (numbers_in (get_or cs i e)) → (before cs i + j < length (flat cs)) × (get_or (flat cs) (before cs i + j) 0 ≡ get_or (numbers_in (get_or cs i e)) j 0)
+pub in_chunk : (cs : List Chunk) (i j : ℕ) (e : Chunk) → i < length cs → j < length (numbers_in (get_or cs i e)) →
+    (before cs i + j < length (flat cs)) × (get_or (flat cs) (before cs i + j) 0
+    ≡ get_or (numbers_in (get_or cs i e)) j 0)
 in_chunk cs i j e h lt = (omega (arith, ap length (chunk_is cs i e h), before_more cs i h, before_within cs (suc i)), get_or-flat_map numbers_in cs i j e 0 h lt)
 
 -- ---- a number that is put in
 -- a chunk with the same numbers
-pub kept_in : (cs : List Chunk) (i : ℕ) (new : Chunk) → i < length cs → numbers_in new ≡ chunk_at cs i → flat (set cs i new) ≡ flat cs
+pub kept_in : (cs : List Chunk) (i : ℕ) (new : Chunk) → i < length cs → numbers_in new ≡ chunk_at cs i →
+    flat (set cs i new) ≡ flat cs
 kept_in [] i new h is = absurd (omega arith)
 kept_in (c ∷ cs) zero new h is = ap (λ (l : List ℕ). l ++ flat cs) is
 kept_in (c ∷ cs) (suc i) new h is = ap (λ (l : List ℕ). numbers_in c ++ l) (kept_in cs i new (omega arith) is)
 
 -- Putting a number at place j of chunk i puts it j places after the numbers before that chunk.
-pub put_in : (cs : List Chunk) (i j x : ℕ) (new : Chunk) → i < length cs → j ≤ length (chunk_at cs i) → numbers_in new ≡ insert (chunk_at cs i) j x → flat (set cs i new) ≡ insert (flat cs) (before cs i + j) x
+pub put_in : (cs : List Chunk) (i j x : ℕ) (new : Chunk) → i < length cs → j ≤ length (chunk_at cs i) →
+    numbers_in new ≡ insert (chunk_at cs i) j x → flat (set cs i new) ≡ insert (flat cs) (before cs i + j) x
 put_in [] i j x new h le is = absurd (omega arith)
 put_in (c ∷ cs) zero j x new h le is =
     let index : before (c ∷ cs) 0 + j ≡ j = omega arith in
@@ -73,23 +81,29 @@ put_in (c ∷ cs) (suc i) j x new h le is =
     let n = before (c ∷ cs) (suc i) + j in
     let rest : n - length (numbers_in c) ≡ before cs i + j = omega (arith, before_suc c cs i) in
     ap (λ (l : List ℕ). numbers_in c ++ l) (put_in cs i j x new (omega arith) le is)
-    ∙ sym (insert-append_right (numbers_in c) (flat cs) (length (numbers_in c)) n x refl (omega (arith, before_suc c cs i)) ∙ ap (λ (m : ℕ). numbers_in c ++ insert (flat cs) m x) rest)
+    ∙ sym (insert-append_right (numbers_in c) (flat cs) (length (numbers_in c)) n x refl
+    (omega (arith, before_suc c cs i)) ∙ ap (λ (m : ℕ). numbers_in c ++ insert (flat cs) m x) rest)
 
 -- behind the last chunk it is a chunk of its own
-pub put_behind : (cs : List Chunk) (i j x : ℕ) (new : Chunk) → length cs ≤ i → j ≤ length (chunk_at cs i) → numbers_in new ≡ x ∷ [] → flat (cs ++ new ∷ []) ≡ insert (flat cs) (before cs i + j) x
+pub put_behind : (cs : List Chunk) (i j x : ℕ) (new : Chunk) → length cs ≤ i → j ≤ length (chunk_at cs i) →
+    numbers_in new ≡ x ∷ [] → flat (cs ++ new ∷ []) ≡ insert (flat cs) (before cs i + j) x
 put_behind cs i j x new h le is =
     let none = ap length (no_chunk cs i h) in
     let place : before cs i + j ≡ length (flat cs) = omega (arith, before_all cs i h) in
     let zero_left : length (flat cs) - length (flat cs) ≡ 0 = omega arith in
     flat_map-append numbers_in cs (new ∷ []) ∙ ap (λ (l : List ℕ). flat cs ++ l) (append-nil (numbers_in new) ∙ is)
     ∙ sym (ap (λ (n : ℕ). insert (flat cs) n x) place ∙ (λ k. insert (sym (append-nil (flat cs)) k) (length (flat cs)) x)
-    ∙ insert-append_right (flat cs) [] (length (flat cs)) (length (flat cs)) x refl (omega arith) ∙ ap (λ (n : ℕ). flat cs ++ insert [] n x) zero_left)
+    ∙ insert-append_right (flat cs) [] (length (flat cs)) (length (flat cs)) x refl (omega arith)
+    ∙ ap (λ (n : ℕ). flat cs ++ insert [] n x) zero_left)
 
 -- a chunk that is cut in two
-pub cut_in : (cs : List Chunk) (i : ℕ) (lower upper : Chunk) → i < length cs → chunk_at cs i ≡ numbers_in lower ++ numbers_in upper → flat (insert (set cs i lower) (suc i) upper) ≡ flat cs
+pub cut_in : (cs : List Chunk) (i : ℕ) (lower upper : Chunk) → i < length cs →
+    chunk_at cs i ≡ numbers_in lower ++ numbers_in upper → flat (insert (set cs i lower) (suc i) upper) ≡ flat cs
 cut_in [] i lower upper h is = absurd (omega arith)
-cut_in (c ∷ cs) zero lower upper h is = sym (append_assoc (numbers_in lower) (numbers_in upper) (flat cs)) ∙ ap (λ (l : List ℕ). l ++ flat cs) (sym is)
-cut_in (c ∷ cs) (suc i) lower upper h is = ap (λ (l : List ℕ). numbers_in c ++ l) (cut_in cs i lower upper (omega arith) is)
+cut_in (c ∷ cs) zero lower upper h is = sym (append_assoc (numbers_in lower) (numbers_in upper) (flat cs))
+    ∙ ap (λ (l : List ℕ). l ++ flat cs) (sym is)
+cut_in (c ∷ cs) (suc i) lower upper h is =
+    ap (λ (l : List ℕ). numbers_in c ++ l) (cut_in cs i lower upper (omega arith) is)
 
 -- ---- keys
 -- If there is a number, there is a chunk.
@@ -106,7 +120,8 @@ module _ (K : ℕ → Key) (cs : List Chunk) (rise : KeysRise (map K (flat cs)))
   firsts = map (λ (c : Chunk). K c.first) cs
 
   -- the key of number j of chunk i
-  number_key : (i j : ℕ) (e : Chunk) → i < length cs → j < length (numbers_in (get_or cs i e)) → key_in keys (before cs i + j) ≡ K (get_or (numbers_in (get_or cs i e)) j 0)
+  number_key : (i j : ℕ) (e : Chunk) → i < length cs → j < length (numbers_in (get_or cs i e)) →
+      key_in keys (before cs i + j) ≡ K (get_or (numbers_in (get_or cs i e)) j 0)
   number_key i j e h lt =
       let there = in_chunk cs i j e h lt in
       get_or-map K (flat cs) (before cs i + j) 0 [] there.0 ∙ ap K there.1
@@ -114,16 +129,20 @@ module _ (K : ℕ → Key) (cs : List Chunk) (rise : KeysRise (map K (flat cs)))
   first_key : (i : ℕ) → i < length cs → key_in firsts i ≡ key_in keys (before cs i)
   first_key i h = by cs i h
     where
-      by : (cs : List Chunk) (i : ℕ) → i < length cs → key_in (map (λ (c : Chunk). K c.first) cs) i ≡ key_in (map K (flat cs)) (before cs i)
+      by : (cs : List Chunk) (i : ℕ) → i < length cs →
+          key_in (map (λ (c : Chunk). K c.first) cs) i ≡ key_in (map K (flat cs)) (before cs i)
       by [] i h = absurd (omega arith)
       by (c ∷ cs) zero h = refl
       by (c ∷ cs) (suc i) h =
           let n = before (c ∷ cs) (suc i) in
           let within : n < length (flat (c ∷ cs)) = omega (arith, before_rises (c ∷ cs) (suc i) (suc (suc i)) (omega arith) (omega arith), before_within (c ∷ cs) (suc (suc i))) in
-          let inner : before cs i < length (flat cs) = omega (arith, before_suc c cs i, length-append (numbers_in c) (flat cs)) in
+          let inner : before cs i < length (flat cs) =
+          omega (arith, before_suc c cs i, length-append (numbers_in c) (flat cs)) in
           let rest : n - length (numbers_in c) ≡ before cs i = omega (arith, before_suc c cs i) in
           by cs i (omega arith) ∙ get_or-map K (flat cs) (before cs i) 0 [] inner
-          ∙ ap K (ap (λ (m : ℕ). get_or (flat cs) m 0) (sym rest) ∙ sym (get_or-append_right (numbers_in c) (flat cs) (length (numbers_in c)) n 0 refl (omega (arith, before_suc c cs i))))
+          ∙ ap K (ap (λ (m : ℕ). get_or (flat cs) m 0) (sym rest)
+          ∙ sym (get_or-append_right (numbers_in c) (flat cs) (length (numbers_in c)) n 0 refl
+          (omega (arith, before_suc c cs i))))
           ∙ sym (get_or-map K (flat (c ∷ cs)) n 0 [] within)
 
   pub firsts_rise : KeysRise (map (λ (c : Chunk). K c.first) cs)
@@ -142,32 +161,44 @@ module _ (K : ℕ → Key) (cs : List Chunk) (rise : KeysRise (map K (flat cs)))
     pub rest_rises : KeysRise (map K (let c = get_or cs i e in c.rest.items))
     rest_rises a b lt hb =
         let count = length-map rest K in
-        let up : key_cmp (key_in keys (before cs i + suc a)) (key_in keys (before cs i + suc b)) ≡ Less = rise (before cs i + suc a) (before cs i + suc b) (omega arith) (omega (arith, length-map (flat cs) K, (in_chunk cs i (suc b) e h (omega arith)).0)) in
+        let up : key_cmp (key_in keys (before cs i + suc a)) (key_in keys (before cs i + suc b)) ≡ Less =
+        rise (before cs i + suc a) (before cs i + suc b) (omega arith)
+        (omega (arith, length-map (flat cs) K, (in_chunk cs i (suc b) e h (omega arith)).0)) in
         subst₂ (λ x y. key_cmp x y ≡ Less) (sym (rest_key a (omega arith))) (sym (rest_key b (omega arith))) up
 
     -- the gap among the numbers of a chunk is the gap among all
-    pub gap_in_chunk : (k : Key) (j : ℕ) → IsKeyGap (map (λ (c : Chunk). K c.first) cs) k (suc i) → IsKeyGap (map K (let c = get_or cs i e in c.rest.items)) k j → IsKeyGap (map K (flat cs)) k (before cs i + suc j)
+    pub gap_in_chunk : (k : Key) (j : ℕ) → IsKeyGap (map (λ (c : Chunk). K c.first) cs) k (suc i) →
+        IsKeyGap (map K (let c = get_or cs i e in c.rest.items)) k j →
+        IsKeyGap (map K (flat cs)) k (before cs i + suc j)
     gap_in_chunk k j firsts_gap rest_gap =
         let count = length-map rest K in
         let chunks = length-map cs (λ (c : Chunk). K c.first) in
         let all = length-map (flat cs) K in
-        let next : before cs (suc i) ≡ before cs i + suc (length rest) = omega (arith, before_more cs i h, ap length (chunk_is cs i e h)) in
+        let next : before cs (suc i) ≡ before cs i + suc (length rest) =
+        omega (arith, before_more cs i h, ap length (chunk_is cs i e h)) in
         let start = (in_chunk cs i 0 e h (omega arith)).0 in
-        let first_less : key_cmp (key_in keys (before cs i)) k ≡ Less = ap (λ (l : Key). key_cmp l k) (sym (first_key i h)) ∙ firsts_gap.smaller_before i (omega arith) in
+        let first_less : key_cmp (key_in keys (before cs i)) k ≡ Less =
+        ap (λ (l : Key). key_cmp l k) (sym (first_key i h)) ∙ firsts_gap.smaller_before i (omega arith) in
         record {
           in_range = omega (arith, rest_gap.in_range, before_within cs (suc i));
           smaller_before = λ a lt. elim (cases_lt a (before cs i + 1)) [
             | inl at_first ↦ smaller_up_to keys rise k (before cs i) (omega arith) first_less a (omega arith)
             | inr beyond ↦
                 let index : before cs i + suc (a - before cs i - 1) ≡ a = omega arith in
-                ap (λ (n : ℕ). key_cmp (key_in keys n) k) (sym index) ∙ ap (λ (l : Key). key_cmp l k) (sym (rest_key (a - before cs i - 1) (omega (arith, rest_gap.in_range)))) ∙ rest_gap.smaller_before (a - before cs i - 1) (omega arith)
+                ap (λ (n : ℕ). key_cmp (key_in keys n) k) (sym index)
+                ∙ ap (λ (l : Key). key_cmp l k) (sym (rest_key (a - before cs i - 1)
+                (omega (arith, rest_gap.in_range)))) ∙ rest_gap.smaller_before (a - before cs i - 1) (omega arith)
           ];
           greater_after = λ a le lt. elim (cases_lt a (before cs (suc i))) [
             | inl inside ↦
                 let index : before cs i + suc (a - before cs i - 1) ≡ a = omega arith in
-                ap (λ (n : ℕ). key_cmp (key_in keys n) k) (sym index) ∙ ap (λ (l : Key). key_cmp l k) (sym (rest_key (a - before cs i - 1) (omega arith))) ∙ rest_gap.greater_after (a - before cs i - 1) (omega arith) (omega arith)
+                ap (λ (n : ℕ). key_cmp (key_in keys n) k) (sym index)
+                ∙ ap (λ (l : Key). key_cmp l k) (sym (rest_key (a - before cs i - 1) (omega arith)))
+                ∙ rest_gap.greater_after (a - before cs i - 1) (omega arith) (omega arith)
             | inr beyond ↦ elim (cases_lt (suc i) (length cs)) [
-              | inl more ↦ greater_from keys rise k (before cs (suc i)) (ap (λ (l : Key). key_cmp l k) (sym (first_key (suc i) more)) ∙ firsts_gap.greater_after (suc i) (omega arith) (omega arith)) a beyond lt
+              | inl more ↦ greater_from keys rise k (before cs (suc i))
+                  (ap (λ (l : Key). key_cmp l k) (sym (first_key (suc i) more))
+                  ∙ firsts_gap.greater_after (suc i) (omega arith) (omega arith)) a beyond lt
               | inr last ↦ absurd (omega (arith, before_all cs (suc i) last))
             ]
           ];
@@ -180,5 +211,6 @@ module _ (K : ℕ → Key) (cs : List Chunk) (rise : KeysRise (map K (flat cs)))
     smaller_before = λ a lt. absurd (omega arith);
     greater_after = λ a le lt.
         let some = some_chunk cs (omega (arith, length-map (flat cs) K)) in
-        greater_from keys rise k 0 (ap (λ (l : Key). key_cmp l k) (sym (first_key 0 some)) ∙ gap.greater_after 0 (omega arith) (omega (arith, length-map cs (λ (c : Chunk). K c.first)))) a le lt;
+        greater_from keys rise k 0 (ap (λ (l : Key). key_cmp l k) (sym (first_key 0 some))
+        ∙ gap.greater_after 0 (omega arith) (omega (arith, length-map cs (λ (c : Chunk). K c.first)))) a le lt;
   }

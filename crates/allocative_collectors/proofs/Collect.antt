@@ -1,7 +1,9 @@
 -- The parts of a flame graph's collector after each step: an entry, a visitor that is entered or left, an identity
 -- that is met.
-use Rattle.std.proofs.Common.{◌≡◌, ℕ, pred, ◌+◌, ◌^◌, ◌<◌, Bool, true, false, cond, not, ◌||◌, ◌&&◌, ◌==◌, List, [], ◌∷◌, ◌++◌, map, reverse, length, refl, sym, ap, ◌∙◌, arith, length-append}
-use Rattle.allocative_collectors.proofs.Common.{contains, Key, Path, Live, go, leave_live, enter_live, Listed, path_at, map_of, live, IsPlaced}
+use Rattle.std.proofs.Common.{◌≡◌, ℕ, pred, ◌+◌, ◌^◌, ◌<◌, Bool, true, false, cond, not, ◌||◌, ◌&&◌, ◌==◌, List, []}
+use Rattle.std.proofs.Common.{◌∷◌, ◌++◌, map, reverse, length, refl, sym, ap, ◌∙◌, arith, length-append}
+use Rattle.allocative_collectors.proofs.Common.{contains, Key, Path, Live, go, leave_live, enter_live, Listed, path_at}
+use Rattle.allocative_collectors.proofs.Common.{map_of, live, IsPlaced}
 use Rattle.std.specs.List.{list_any}
 use Rattle.std.specs.FinSet.{from_list, insert, same_set, contains-from_list, contains-insert}
 use Rattle.std.proofs.lemmas.List.{map-append, reverse-append, length-map, length-reverse, nil_from_length}
@@ -34,13 +36,17 @@ one_more : (t b : Bool) → cond t true b ≡ (t || b)
 one_more t b = grind (arith, nat_tests)
 
 -- the set of the identities after one was inserted
-pub met_more : (old new : List Identity) (i : Identity) → ((q : Identity) → list_any (is_equal q) new ≡ cond (is_equal i q) true (list_any (is_equal q) old)) → from_list {R = identity_cmp} new ≡ insert (from_list old) i
+pub met_more : (old new : List Identity) (i : Identity) →
+    ((q : Identity) → list_any (is_equal q) new ≡ cond (is_equal i q) true (list_any (is_equal q) old)) →
+    from_list {R = identity_cmp} new ≡ insert (from_list old) i
 met_more old new i more = same_set identity_total identity_antisymmetric _ _ (λ q.
     sym (among new q) ∙ (more q ∙ (one_more (is_equal i q) (list_any (is_equal q) old)
-    ∙ ((λ k. (one_identity i q ∙ same_identity_turned i q) k || among old q k) ∙ sym (contains-insert identity_total (from_list old) i q)))))
+    ∙ ((λ k. (one_identity i q ∙ same_identity_turned i q) k || among old q k)
+    ∙ sym (contains-insert identity_total (from_list old) i q)))))
 
 -- If `new` says whether a list lacks i, the set of the list contains i exactly if `new` is false.
-pub met_is : (ks : List Identity) (i : Identity) (new : Bool) → new ≡ not (list_any (is_equal i) ks) → contains (from_list {R = identity_cmp} ks) i ≡ not new
+pub met_is : (ks : List Identity) (i : Identity) (new : Bool) → new ≡ not (list_any (is_equal i) ks) →
+    contains (from_list {R = identity_cmp} ks) i ≡ not new
 met_is ks i new e = sym (among ks i) ∙ grind arith
 
 -- ---- going down and back
@@ -50,7 +56,8 @@ outside_push [] k = refl
 outside_push (x ∷ p) k = ap (λ (l : List Path). map (λ (q : Path). x ∷ q) l ++ [] ∷ []) (outside_push p k)
 
 module _ (t : Listed) (met : List Identity) where
-  module _ (outer inner : ℕ) (before after : List ℕ) (rooted : Bool) (stack : back_at t inner after rooted ≡ path_at t outer ∷ back_at t outer before rooted) where
+  module _ (outer inner : ℕ) (before after : List ℕ) (rooted : Bool)
+      (stack : back_at t inner after rooted ≡ path_at t outer ∷ back_at t outer before rooted) where
     pub went : live t met inner after rooted ≡ go (path_at t inner) (live t met outer before rooted)
     went = λ i. record { sums = map_of t; met = from_list met; here = path_at t inner; back = stack i; open_visitors = length (stack i) }
 
@@ -64,26 +71,34 @@ module _ (t : Listed) (met : List Identity) where
     }
 
   -- a node and the one above it
-  pub one_up : (outer inner : ℕ) (places : List ℕ) (rooted : Bool) (k : Key) → path_at t inner ≡ path_at t outer ++ k ∷ [] → back_at t inner places rooted ≡ path_at t outer ∷ back_at t outer places rooted
+  pub one_up : (outer inner : ℕ) (places : List ℕ) (rooted : Bool) (k : Key) →
+      path_at t inner ≡ path_at t outer ++ k ∷ [] →
+      back_at t inner places rooted ≡ path_at t outer ∷ back_at t outer places rooted
   one_up outer inner places rooted k path =
       let rest = back_from (reverse (map (path_at t) places)) (to_root rooted) in
       ap (λ (q : Path). outside q ++ rest) path ∙ ap (λ (l : List Path). l ++ rest) (outside_push (path_at t outer) k)
 
-  pub at_root : (current : ℕ) → path_at t current ≡ [] → live t met current [] true ≡ go [] (live t met current [] false)
+  pub at_root : (current : ℕ) → path_at t current ≡ [] →
+      live t met current [] true ≡ go [] (live t met current [] false)
   at_root current root =
-      let stack : back_at t current [] true ≡ path_at t current ∷ back_at t current [] false = (λ i. outside (root i) ++ [] ∷ []) ∙ (λ i. sym root i ∷ outside (sym root i) ++ []) in
+      let stack : back_at t current [] true ≡ path_at t current ∷ back_at t current [] false =
+      (λ i. outside (root i) ++ [] ∷ []) ∙ (λ i. sym root i ∷ outside (sym root i) ++ []) in
       λ i. record { sums = map_of t; met = from_list met; here = root i; back = stack i; open_visitors = length (stack i) }
 
 -- a content that was met for the first time
-pub gone_in : (t : Listed) (met now : List Identity) (current : ℕ) (places : List ℕ) (rooted : Bool) (i : Identity) → path_at t 0 ≡ []
-    → from_list {R = identity_cmp} now ≡ insert (from_list met) i → live t now 0 (places ++ current ∷ []) rooted ≡ go [] (record (live t met current places rooted) { met = insert (from_list met) i })
+pub gone_in : (t : Listed) (met now : List Identity) (current : ℕ) (places : List ℕ) (rooted : Bool) (i : Identity) →
+    path_at t 0 ≡ []
+    → from_list {R = identity_cmp} now ≡ insert (from_list met) i →
+    live t now 0 (places ++ current ∷ []) rooted
+    ≡ go [] (record (live t met current places rooted) { met = insert (from_list met) i })
 gone_in t met now current places rooted i root one_new =
     went t now current 0 places (places ++ current ∷ []) rooted (rw (root, map-append (path_at t) places (current ∷ []), reverse-append (map (path_at t) places) (path_at t current ∷ [])) refl)
     ∙ (λ j. go (root j) (record (live t met current places rooted) { met = one_new j }))
 
 -- ---- no visitor is open
 -- If there is no path to go back to, the current one is the root, and no content and no root visitor is open.
-none_back : (p : Path) (ps : List Path) (rooted : Bool) → length (outside p ++ back_from ps (to_root rooted)) ≡ 0 → (p ≡ []) × (length ps ≡ 0) × (rooted ≡ false)
+none_back : (p : Path) (ps : List Path) (rooted : Bool) → length (outside p ++ back_from ps (to_root rooted)) ≡ 0 →
+    (p ≡ []) × (length ps ≡ 0) × (rooted ≡ false)
 none_back [] [] true e = absurd (omega arith)
 none_back [] [] false e = (refl, refl, refl)
 none_back [] (p ∷ ps) rooted e = absurd (omega arith)
@@ -101,22 +116,29 @@ module _ (t : Listed) (current : ℕ) (places : List ℕ) (rooted : Bool) where
       let out = none_back (path_at t current) (reverse (map (path_at t) places)) rooted none in
       record {
         root = out.0;
-        no_place = nil_from_length places (omega (arith, out.1, length-reverse (map (path_at t) places), length-map places (path_at t)));
+        no_place = nil_from_length places (omega
+            (arith, out.1, length-reverse (map (path_at t) places), length-map places (path_at t)));
         no_visitor = out.2;
       }
 
   pub nothing_back : IsOut t current places rooted → back_at t current places rooted ≡ []
   nothing_back o =
       ap (λ (q : Path). outside q ++ back_from (reverse (map (path_at t) places)) (to_root rooted)) o.root
-      ∙ (ap (λ (l : List ℕ). back_from (reverse (map (path_at t) l)) (to_root rooted)) o.no_place ∙ ap to_root o.no_visitor)
+      ∙ (ap (λ (l : List ℕ). back_from (reverse (map (path_at t) l)) (to_root rooted)) o.no_place
+      ∙ ap to_root o.no_visitor)
 
 -- ---- a whole step
 -- Adding an entry to the sums and going down to its path is the same as entering it.
-pub enter_is : (u : Bool) (k : Key) (n : ℕ) (c : Live) → go (c.here ++ k ∷ []) (record c { sums = bag.add c.sums (record { path = c.here ++ k ∷ []; size = n; mark = mark_of u }) }) ≡ enter_live u k n c
+pub enter_is : (u : Bool) (k : Key) (n : ℕ) (c : Live) →
+    go (c.here ++ k ∷ []) (record c {
+      sums = bag.add c.sums
+          (record { path = c.here ++ k ∷ []; size = n; mark = mark_of u });
+    }) ≡ enter_live u k n c
 enter_is true k n c = refl
 enter_is false k n c = refl
 
-module _ {t new : Listed} {current : ℕ} {places : List ℕ} {n : ℕ} (ok : IsPlaced t current places n) {k : Key} {size : ℕ} {u : Bool} {more node : ℕ} (entered : AddedAt t new current k size u n more node) where
+module _ {t new : Listed} {current : ℕ} {places : List ℕ} {n : ℕ} (ok : IsPlaced t current places n) {k : Key}
+    {size : ℕ} {u : Bool} {more node : ℕ} (entered : AddedAt t new current k size u n more node) where
   -- the entry in the bag
   abbrev one : Entry
   one = record { path = path_at t current ++ k ∷ []; size = size; mark = mark_of u }
@@ -137,7 +159,8 @@ module _ {t new : Listed} {current : ℕ} {places : List ℕ} {n : ℕ} (ok : Is
   fits_map = omega (arith, ok.entered_is, entered.fits)
 
   module _ (met : List Identity) (rooted : Bool) where
-    pub live_added : live new met current places rooted ≡ record (live t met current places rooted) { sums = bag.add (map_of t) one }
+    pub live_added : live new met current places rooted
+        ≡ record (live t met current places rooted) { sums = bag.add (map_of t) one }
     live_added = λ i. record {
       sums = map_of-entered entered.is ok.rooted i;
       met = from_list met;
@@ -147,10 +170,14 @@ module _ {t new : Listed} {current : ℕ} {places : List ℕ} {n : ℕ} (ok : Is
     }
       where
         back : back_at new current places rooted ≡ back_at t current places rooted
-        back = λ i. outside (path_entered entered.is current ok.here i) ++ back_from (reverse (map_same (path_at new) (path_at t) places (λ j h. path_entered entered.is _ (ok.back j h)) i)) (to_root rooted)
+        back = λ i. outside (path_entered entered.is current ok.here i)
+            ++ back_from (reverse (map_same (path_at new) (path_at t) places
+            (λ j h. path_entered entered.is _ (ok.back j h)) i)) (to_root rooted)
 
     pub gone_down : live new met node places rooted ≡ enter_live u k size (live t met current places rooted)
     gone_down =
-        went new met current node places places rooted (one_up new met current node places rooted k (entered.is.path ∙ ap (λ (q : Path). q ++ k ∷ []) (sym (path_entered entered.is current ok.here))))
+        went new met current node places places rooted
+        (one_up new met current node places rooted k
+        (entered.is.path ∙ ap (λ (q : Path). q ++ k ∷ []) (sym (path_entered entered.is current ok.here))))
         ∙ (λ i. go (entered.is.path i) (live_added i))
         ∙ enter_is u k size (live t met current places rooted)

@@ -1,6 +1,8 @@
 -- One more entry in the listed sums: what it leaves as it was, and what the map has at each place and after it.
-use Rattle.std.proofs.Common.{◌≡◌, ℕ, zero, suc, ◌+◌, ◌<◌, ◌≤◌, Bool, false, add-zero, zero-add, [], ◌∷◌, ◌++◌, length, refl, ap, ◌∙◌, arith, ◌≢◌, ◌-◌, true, cond, map, Option, Some, None, sym, sum_by}
-use Rattle.allocative_collectors.proofs.Common.{Key, Path, Sum, Listed, put, path_at, IsEntered, Sums, get, path_cmp, is_same_path, is_one_below, graph, sum_at, row, map_of, size_at_place}
+use Rattle.std.proofs.Common.{◌≡◌, ℕ, zero, suc, ◌+◌, ◌<◌, ◌≤◌, Bool, false, add-zero, zero-add, [], ◌∷◌, ◌++◌, length}
+use Rattle.std.proofs.Common.{refl, ap, ◌∙◌, arith, ◌≢◌, ◌-◌, true, cond, map, Option, Some, None, sym, sum_by}
+use Rattle.allocative_collectors.proofs.Common.{Key, Path, Sum, Listed, put, path_at, IsEntered, Sums, get, path_cmp}
+use Rattle.allocative_collectors.proofs.Common.{is_same_path, is_one_below, graph, sum_at, row, map_of, size_at_place}
 use Rattle.std.proofs.Math.Bool.{or-false}
 use Rattle.std.proofs.lemmas.List.Sums.{sum_by-cons}
 use Rattle.allocative_collectors.specs.Listed.{total, rows, raise}
@@ -21,12 +23,15 @@ use Rattle.allocative_collectors.proofs.Keys.{same_path-same, same_path-apart}
 
 -- One more entry adds its bytes to the total.
 total_put : (i : ℕ) (p : Path) (n : ℕ) (u : Bool) (s : Listed) → total (put i p n u s) ≡ total s + n
-total_put i p n u [] = omega (arith, sum_by-cons (λ (e : Sum). e.bytes) (record { path = p; bytes = n; is_unique = u }) [])
-total_put zero p n u (e ∷ s) = omega (arith, sum_by-cons (λ (s : Sum). s.bytes) e s, sum_by-cons (λ (s : Sum). s.bytes) (raise n u e) s)
+total_put i p n u [] = omega
+    (arith, sum_by-cons (λ (e : Sum). e.bytes) (record { path = p; bytes = n; is_unique = u }) [])
+total_put zero p n u (e ∷ s) = omega
+    (arith, sum_by-cons (λ (s : Sum). s.bytes) e s, sum_by-cons (λ (s : Sum). s.bytes) (raise n u e) s)
 total_put (suc i) p n u (e ∷ s) = omega (arith, total_put i p n u s, sum_by-cons (λ (s : Sum). s.bytes) e s, sum_by-cons (λ (s : Sum). s.bytes) e (put i p n u s))
 
 -- each path that was listed before keeps its place
-path_put : (i : ℕ) (p : Path) (n : ℕ) (u : Bool) (s : Listed) (j : ℕ) → j < length s → path_at (put i p n u s) j ≡ path_at s j
+path_put : (i : ℕ) (p : Path) (n : ℕ) (u : Bool) (s : Listed) (j : ℕ) → j < length s →
+    path_at (put i p n u s) j ≡ path_at s j
 path_put i p n u [] j h = absurd (omega arith)
 path_put zero p n u (e ∷ s) zero h = refl
 path_put zero p n u (e ∷ s) (suc j) h = refl
@@ -34,7 +39,8 @@ path_put (suc i) p n u (e ∷ s) zero h = refl
 path_put (suc i) p n u (e ∷ s) (suc j) h = path_put i p n u s j (omega arith)
 
 -- One more entry makes the list longer by one place or leaves its length.
-length_put : (i : ℕ) (p : Path) (n : ℕ) (u : Bool) (s : Listed) → (length s ≤ length (put i p n u s)) × (length (put i p n u s) ≤ length s + 1)
+length_put : (i : ℕ) (p : Path) (n : ℕ) (u : Bool) (s : Listed) →
+    (length s ≤ length (put i p n u s)) × (length (put i p n u s) ≤ length s + 1)
 length_put i p n u [] = (omega arith, omega arith)
 length_put zero p n u (e ∷ s) = (omega arith, omega arith)
 length_put (suc i) p n u (e ∷ s) = let more = length_put i p n u s in (omega (arith, more.0), omega (arith, more.1))
@@ -42,25 +48,29 @@ length_put (suc i) p n u (e ∷ s) = let more = length_put i p n u s in (omega (
 -- an entry of 0 bytes at a place that is there changes nothing
 pub put_nothing : (i : ℕ) (p : Path) (s : Listed) → i < length s → put i p 0 false s ≡ s
 put_nothing i p [] h = absurd (omega arith)
-put_nothing zero p (e ∷ s) h = λ k. record { path = e.path; bytes = add-zero e.bytes k; is_unique = or-false e.is_unique k } ∷ s
+put_nothing zero p (e ∷ s) h = λ k.
+    record { path = e.path; bytes = add-zero e.bytes k; is_unique = or-false e.is_unique k } ∷ s
 put_nothing (suc i) p (e ∷ s) h = ap (λ (t : Listed). e ∷ t) (put_nothing i p s (omega arith))
 
 -- an entry of 0 bytes before another one changes nothing
-put_put : (i : ℕ) (p : Path) (n : ℕ) (u : Bool) (s : Listed) → i ≤ length s → put i p n u (put i p 0 false s) ≡ put i p n u s
+put_put : (i : ℕ) (p : Path) (n : ℕ) (u : Bool) (s : Listed) → i ≤ length s →
+    put i p n u (put i p 0 false s) ≡ put i p n u s
 put_put zero p n u [] h = ap (λ (m : ℕ). record { path = p; bytes = m; is_unique = u } ∷ []) (zero-add n)
 put_put (suc i) p n u [] h = absurd (omega arith)
 put_put zero p n u (e ∷ s) h = ap (put zero p n u) (put_nothing zero p (e ∷ s) (omega arith))
 put_put (suc i) p n u (e ∷ s) h = ap (λ (t : Listed). e ∷ t) (put_put i p n u s (omega arith))
 
 -- an entry of 0 bytes, and then one at the place of the first
-pub entered_twice : (old mid new : Listed) (at : ℕ) (k : Key) (n : ℕ) (u : Bool) (i : ℕ) → IsEntered old mid at k 0 false i → new ≡ put i (path_at mid i) n u mid → IsEntered old new at k n u i
+pub entered_twice : (old mid new : Listed) (at : ℕ) (k : Key) (n : ℕ) (u : Bool) (i : ℕ) →
+    IsEntered old mid at k 0 false i → new ≡ put i (path_at mid i) n u mid → IsEntered old new at k n u i
 entered_twice old mid new at k n u i first second =
     let q : Path = path_at old at ++ k ∷ [] in
     let same = ap length first.sums in
     let le = length_put i q 0 false old in
     let more = length_put i (path_at mid i) n u mid in
     record {
-      sums = second ∙ (ap (λ (p : Path). put i p n u mid) first.path ∙ (ap (put i q n u) first.sums ∙ put_put i q n u old (omega (arith, le.1, first.within))));
+      sums = second ∙ (ap (λ (p : Path). put i p n u mid) first.path
+          ∙ (ap (put i q n u) first.sums ∙ put_put i q n u old (omega (arith, le.1, first.within))));
       not_root = first.not_root;
       within = let now = ap length second in omega (arith, more.0, first.within);
       path = ap (λ (s : Listed). path_at s i) second ∙ (path_put i (path_at mid i) n u mid i first.within ∙ first.path);
@@ -73,7 +83,8 @@ module _ {old new : Listed} {at : ℕ} {k : Key} {n : ℕ} {u : Bool} {i : ℕ} 
   total_entered = ap total entered.sums ∙ total_put i (path_at old at ++ k ∷ []) n u old
 
   pub length_entered : length old ≤ length new
-  length_entered = let longer = length_put i (path_at old at ++ k ∷ []) n u old in let same = ap length entered.sums in omega (arith, longer.0)
+  length_entered = let longer = length_put i (path_at old at ++ k ∷ []) n u old in let same = ap length entered.sums in
+      omega (arith, longer.0)
 
   -- a path keeps its place
   pub path_entered : (j : ℕ) → j < length old → path_at new j ≡ path_at old j
@@ -92,7 +103,11 @@ abbrev new_node : ℕ → Bool → Node
 new_node n u = record { bytes = n; is_unique = u }
 
 -- After an entry at the only place of p, a search finds it added at p, and finds no change at other paths.
-find-put : (i : ℕ) (p q : Path) (n : ℕ) (u : Bool) (s : Listed) → path_at (put i p n u s) i ≡ p → ((j : ℕ) → j < length s → path_at s j ≡ p → j ≡ i) → find path_cmp q (map row (put i p n u s)) ≡ cond (is_same_path q p) (Some (together (find path_cmp p (map row s)) (new_node n u))) (find path_cmp q (map row s))
+find-put : (i : ℕ) (p q : Path) (n : ℕ) (u : Bool) (s : Listed) → path_at (put i p n u s) i ≡ p →
+    ((j : ℕ) → j < length s → path_at s j ≡ p → j ≡ i) →
+    find path_cmp q (map row (put i p n u s))
+    ≡ cond (is_same_path q p) (Some (together (find path_cmp p (map row s)) (new_node n u)))
+    (find path_cmp q (map row s))
 find-put i p q n u [] is sole = refl
 find-put zero p q n u (e ∷ s) is sole =
     let warning_of : is_same_path q e.path ≡ is_same_path q p = ap (is_same_path q) is in
@@ -105,9 +120,11 @@ find-put (suc i) p q n u (e ∷ s) is sole =
     let apart : p ≢ e.path = λ w. (let same : 0 ≡ suc i = sole 0 (omega arith) (sym w) in omega arith) in
     let other : is_same_path p e.path ≡ false = same_path-apart p e.path apart in
     rw (other, find-put i p q n u s is (λ j h w. tail_apart j i (sole (suc j) (omega arith) w)))
-    (swapped (is_same_path q e.path) (is_same_path q p) _ _ _ (λ a b. apart (sym (same_path q p b) ∙ same_path q e.path a)))
+    (swapped (is_same_path q e.path) (is_same_path q p)
+    _ _ _ (λ a b. apart (sym (same_path q p b) ∙ same_path q e.path a)))
   where
-    swapped : (a b : Bool) (x y z : Option Node) → (a ≡ true → b ≡ true → ⊥) → cond a x (cond b y z) ≡ cond b y (cond a x z)
+    swapped : (a b : Bool) (x y z : Option Node) → (a ≡ true → b ≡ true → ⊥) →
+        cond a x (cond b y z) ≡ cond b y (cond a x z)
     swapped a b x y z apart = grind (arith, nat_tests)
 
 abbrev pub mark_of : Bool → Mark
@@ -119,20 +136,25 @@ mark_is true = refl
 mark_is false = refl
 
 -- an entry below the root is added to the map too
-pub map_of-entered : {old new : Listed} {at : ℕ} {k : Key} {n : ℕ} {u : Bool} {i : ℕ} → IsEntered old new at k n u i → 0 < length old
+pub map_of-entered : {old new : Listed} {at : ℕ} {k : Key} {n : ℕ} {u : Bool} {i : ℕ} → IsEntered old new at k n u i →
+    0 < length old
     → map_of new ≡ bag.add (map_of old) (record { path = path_at old at ++ k ∷ []; size = n; mark = mark_of u })
 map_of-entered {old} {at = at} {k = k} {n = n} {u = u} {i = i} entered some =
-    ap map_of entered.sums ∙ by old i entered.not_root some (ap (λ (s : Listed). path_at s i) (sym entered.sums) ∙ entered.path) entered.sole
+    ap map_of entered.sums ∙ by old i entered.not_root some
+    (ap (λ (s : Listed). path_at s i) (sym entered.sums) ∙ entered.path) entered.sole
   where
-    by : (s : Listed) (i : ℕ) → 0 < i → 0 < length s → path_at (put i (path_at old at ++ k ∷ []) n u s) i ≡ path_at old at ++ k ∷ []
+    by : (s : Listed) (i : ℕ) → 0 < i → 0 < length s →
+        path_at (put i (path_at old at ++ k ∷ []) n u s) i ≡ path_at old at ++ k ∷ []
         → ((j : ℕ) → j < length s → path_at s j ≡ path_at old at ++ k ∷ [] → j ≡ i)
-        → map_of (put i (path_at old at ++ k ∷ []) n u s) ≡ bag.add (map_of s) (record { path = path_at old at ++ k ∷ []; size = n; mark = mark_of u })
+        → map_of (put i (path_at old at ++ k ∷ []) n u s)
+        ≡ bag.add (map_of s) (record { path = path_at old at ++ k ∷ []; size = n; mark = mark_of u })
     by s zero pos some is sole = absurd (omega arith)
     by [] (suc i) pos some is sole = absurd (omega arith)
     by (r ∷ s) (suc i) pos some is sole =
         let p : Path = path_at old at ++ k ∷ [] in
         same_sums _ _ (λ q. get-from_entries path_total (map row (put i p n u s)) q ∙ (find-put i p q n u s is (λ j h w. tail_apart j i (sole (suc j) (omega arith) w))
-        ∙ (λ x. cond (is_same_path q p) (Some (together (sym (get-from_entries path_total (map row s) p) x) (new_node n (sym (mark_is u) x)))) (sym (get-from_entries path_total (map row s) q) x))
+        ∙ (λ x. cond (is_same_path q p) (Some (together (sym (get-from_entries path_total (map row s) p) x)
+        (new_node n (sym (mark_is u) x)))) (sym (get-from_entries path_total (map row s) q) x))
         ∙ sym (get-add (map_of (r ∷ s)) (record { path = p; size = n; mark = mark_of u }) q)))
 
 -- ---- the places of different paths
@@ -152,22 +174,29 @@ pub record IsListing (s : Listed) : Type 0 where
 -- If no place of a list has the path q, a search of its rows for q finds nothing.
 find_none : (q : Path) (s : Listed) → ((i : ℕ) → i < length s → path_at s i ≢ q) → find path_cmp q (map row s) ≡ None
 find_none q [] other = refl
-find_none q (e ∷ s) other = cond-false (is_same_path q e.path) _ _ (same_path-apart q e.path (λ w. other 0 (omega arith) (sym w))) ∙ find_none q s (λ i h. other (suc i) (omega arith))
+find_none q (e ∷ s) other = cond-false (is_same_path q e.path)
+    _ _ (same_path-apart q e.path (λ w. other 0 (omega arith) (sym w)))
+    ∙ find_none q s (λ i h. other (suc i) (omega arith))
 
 -- If all paths of a list differ, a search for the path of place i finds what was entered at place i.
-find_at : (s : Listed) → Distinct s → (i : ℕ) → i < length s → find path_cmp (path_at s i) (map row s) ≡ Some (row (sum_at s i)).1
+find_at : (s : Listed) → Distinct s → (i : ℕ) → i < length s →
+    find path_cmp (path_at s i) (map row s) ≡ Some (row (sum_at s i)).1
 find_at [] apart i h = absurd (omega arith)
 find_at (e ∷ s) apart zero h = cond-true (is_same_path e.path e.path) _ _ (same_path-same e.path e.path refl)
 find_at (e ∷ s) apart (suc i) h =
-    cond-false (is_same_path (path_at s i) e.path) _ _ (same_path-apart (path_at s i) e.path (λ w. (let same : suc i ≡ 0 = apart (suc i) 0 h (omega arith) w in omega arith)))
+    cond-false (is_same_path (path_at s i) e.path)
+    _ _ (same_path-apart (path_at s i) e.path
+    (λ w. (let same : suc i ≡ 0 = apart (suc i) 0 h (omega arith) w in omega arith)))
     ∙ find_at s (tail_distinct e s apart) i (omega arith)
 
 -- ---- what the map has
 -- At the path of each place but the root's, the map has what was entered there.
-pub get_at : (s : Listed) → IsListing s → (i : ℕ) → 0 < i → i < length s → get (map_of s) (path_at s i) ≡ Some (row (sum_at s i)).1
+pub get_at : (s : Listed) → IsListing s → (i : ℕ) → 0 < i → i < length s →
+    get (map_of s) (path_at s i) ≡ Some (row (sum_at s i)).1
 get_at [] ok i pos h = absurd (omega arith)
 get_at (r ∷ s) ok zero pos h = absurd (omega arith)
-get_at (r ∷ s) ok (suc i) pos h = get-map_of (r ∷ s) (path_at s i) ∙ find_at s (tail_distinct r s ok.apart) i (omega arith)
+get_at (r ∷ s) ok (suc i) pos h = get-map_of (r ∷ s) (path_at s i)
+    ∙ find_at s (tail_distinct r s ok.apart) i (omega arith)
 
 -- If no place but the root's has the path q, the map has nothing at q.
 pub get_none : (s : Listed) → (q : Path) → ((i : ℕ) → 0 < i → i < length s → path_at s i ≢ q) → get (map_of s) q ≡ None
@@ -185,29 +214,39 @@ graph_get m [] other = absurd (other refl)
 graph_get m (k ∷ q) other = get-graph m k q
 
 -- At the path of each place, the graph has the size of the place.
-pub graph_hit : (s : Listed) → IsListing s → (i : ℕ) → i < length s → get (graph (map_of s)) (path_at s i) ≡ Some (size_at_place s i)
+pub graph_hit : (s : Listed) → IsListing s → (i : ℕ) → i < length s →
+    get (graph (map_of s)) (path_at s i) ≡ Some (size_at_place s i)
 graph_hit s ok zero h =
     ap (get (graph (map_of s))) ok.root_path ∙ get-graph-root (map_of s)
-    ∙ ap (λ (n : ℕ). Some n) (sym (let e = sum_at s 0 in nothing_left e.is_unique e.bytes (bag.below (map_of s) e.path) ok.root_bytes))
+    ∙ ap (λ (n : ℕ). Some n) (sym (let e = sum_at s 0 in
+    nothing_left e.is_unique e.bytes (bag.below (map_of s) e.path) ok.root_bytes))
 graph_hit s ok (suc i) h =
     let p = path_at s (suc i) in
-    graph_get (map_of s) p (λ w. (let same = ok.apart (suc i) 0 h ok.rooted (w ∙ sym ok.root_path) in omega arith)) ∙ ap (option_map (remaining (map_of s) p)) (get_at s ok (suc i) (omega arith) h)
+    graph_get (map_of s) p (λ w. (let same = ok.apart (suc i) 0 h ok.rooted (w ∙ sym ok.root_path) in omega arith))
+    ∙ ap (option_map (remaining (map_of s) p)) (get_at s ok (suc i) (omega arith) h)
 
 -- If no place has the path q, the graph has nothing at q.
-pub graph_none : (s : Listed) → IsListing s → (q : Path) → ((i : ℕ) → i < length s → path_at s i ≢ q) → get (graph (map_of s)) q ≡ None
-graph_none s ok q other = graph_get (map_of s) q (λ w. other 0 ok.rooted (ok.root_path ∙ sym w)) ∙ ap (option_map (remaining (map_of s) q)) (get_none s q (λ i pos. other i))
+pub graph_none : (s : Listed) → IsListing s → (q : Path) → ((i : ℕ) → i < length s → path_at s i ≢ q) →
+    get (graph (map_of s)) q ≡ None
+graph_none s ok q other = graph_get (map_of s) q (λ w. other 0 ok.rooted (ok.root_path ∙ sym w))
+    ∙ ap (option_map (remaining (map_of s) q)) (get_none s q (λ i pos. other i))
 
 -- ---- sums over the map
 -- rows with different paths have the same bytes below p as their map
-below_rows : (s : Listed) → Distinct s → (p : Path) → bag.below (from_entries (map row s)) p ≡ sum_by (λ e. cond (is_one_below p e.path) e.bytes 0) s
+below_rows : (s : Listed) → Distinct s → (p : Path) →
+    bag.below (from_entries (map row s)) p ≡ sum_by (λ e. cond (is_one_below p e.path) e.bytes 0) s
 below_rows [] apart p = ap (sum_by (λ (e : Path × Node). cond (is_one_below p e.0) e.1.bytes 0)) entries-empty
 below_rows (e ∷ s) apart p =
     let entry : Entry = record { path = e.path; size = e.bytes; mark = mark_of e.is_unique } in
-    let none = get-from_entries path_total (map row s) e.path ∙ find_none e.path s (λ i h w. (let same : suc i ≡ 0 = apart (suc i) 0 (omega arith) (omega arith) w in omega arith)) in
+    let none = get-from_entries path_total (map row s) e.path
+    ∙ find_none e.path s (λ i h w. (let same : suc i ≡ 0 = apart (suc i) 0 (omega arith) (omega arith) w in
+    omega arith)) in
     let added : from_entries (map row (e ∷ s)) ≡ bag.add (from_entries (map row s)) entry =
-    λ j. insert (from_entries (map row s)) e.path (together (sym none j) (record { bytes = e.bytes; is_unique = sym (mark_is e.is_unique) j })) in
+    λ j. insert (from_entries (map row s)) e.path
+    (together (sym none j) (record { bytes = e.bytes; is_unique = sym (mark_is e.is_unique) j })) in
     let rest = below_rows s (tail_distinct e s apart) p in
-    ap (λ (m : Sums). bag.below m p) added ∙ (below-add (from_entries (map row s)) entry p ∙ omega (arith, sum_by-cons (λ (x : Sum). cond (is_one_below p x.path) x.bytes 0) e s))
+    ap (λ (m : Sums). bag.below m p) added ∙ (below-add (from_entries (map row s)) entry p
+    ∙ omega (arith, sum_by-cons (λ (x : Sum). cond (is_one_below p x.path) x.bytes 0) e s))
 
 -- The root is one key below no path.
 pub not_below_root : (p : Path) → is_one_below p [] ≡ false
@@ -215,8 +254,11 @@ not_below_root [] = refl
 not_below_root (k ∷ p) = refl
 
 -- the map and the list have the same bytes below p
-pub below_listed : (s : Listed) → IsListing s → (p : Path) → sum_by (λ e. cond (is_one_below p e.path) e.bytes 0) s ≡ bag.below (map_of s) p
+pub below_listed : (s : Listed) → IsListing s → (p : Path) →
+    sum_by (λ e. cond (is_one_below p e.path) e.bytes 0) s ≡ bag.below (map_of s) p
 below_listed [] ok p = absurd (omega (arith, ok.rooted))
 below_listed (r ∷ s) ok p =
-    let none : cond (is_one_below p r.path) r.bytes 0 ≡ 0 = ap (λ (q : Path). cond (is_one_below p q) r.bytes 0) ok.root_path ∙ ap (λ (b : Bool). cond b r.bytes 0) (not_below_root p) in
+    let none : cond (is_one_below p r.path) r.bytes 0 ≡ 0 =
+    ap (λ (q : Path). cond (is_one_below p q) r.bytes 0) ok.root_path
+    ∙ ap (λ (b : Bool). cond b r.bytes 0) (not_below_root p) in
     omega (arith, below_rows s (tail_distinct r s ok.apart) p, sum_by-cons (λ (e : Sum). cond (is_one_below p e.path) e.bytes 0) r s)

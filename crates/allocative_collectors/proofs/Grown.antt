@@ -1,12 +1,16 @@
 -- An arena with one more node, which has no entry yet.
-use Rattle.std.proofs.Common.{◌≡◌, ◌≢◌, ℕ, ◌+◌, ◌-◌, ◌<◌, ◌≤◌, List, [], ◌∷◌, ◌++◌, length, get_or, set, take, drop, refl, sym, ap, subst, ◌∙◌, arith, inl, inr, get_or-set_same, get_or-set_other, length-set}
-use Rattle.allocative_collectors.proofs.Common.{key_at, Less, ordering_reverse, Key, key_cmp, Shape, leaf, no_shape, at, children_at, keys_of, keys_at, key_in, parent_at, KeysRise, StandsIn, IsChild, IsArena, IsKeyGap}
+use Rattle.std.proofs.Common.{◌≡◌, ◌≢◌, ℕ, ◌+◌, ◌-◌, ◌<◌, ◌≤◌, List, [], ◌∷◌, ◌++◌, length, get_or, set, take, drop}
+use Rattle.std.proofs.Common.{refl, sym, ap, subst, ◌∙◌, arith, inl, inr, get_or-set_same, get_or-set_other, length-set}
+use Rattle.allocative_collectors.proofs.Common.{key_at, Less, ordering_reverse, Key, key_cmp, Shape, leaf, no_shape, at}
+use Rattle.allocative_collectors.proofs.Common.{children_at, keys_of, keys_at, key_in, parent_at, KeysRise, StandsIn}
+use Rattle.allocative_collectors.proofs.Common.{IsChild, IsArena, IsKeyGap}
 use Rattle.std.specs.List.{All, insert}
 use Rattle.std.proofs.lemmas.List.Elements.{All-append, All-cons, All-drop, All-take, All-weaker}
 use Rattle.std.proofs.lemmas.List.{length-map, get_or_append_left, get_or_push, length_push}
 use Rattle.std.proofs.lemmas.List.Edits.{length-insert, get_or-insert_below, get_or-insert_at}
 use Rattle.std.proofs.lemmas.Bool.{cases_order, cases_eq}
-use Rattle.allocative_collectors.proofs.Keys.{map_same, keys_of-insert, insert_above, stands_insert, touched, pushed, key_total}
+use Rattle.allocative_collectors.proofs.Keys.{map_same, keys_of-insert, insert_above, stands_insert, touched, pushed}
+use Rattle.allocative_collectors.proofs.Keys.{key_total}
 
 abbrev pub with_children : List ℕ → Shape → Shape
 with_children xs n = record n { children = xs }
@@ -20,18 +24,23 @@ rise_insert : (ks : List Key) (k : Key) (g : ℕ) → IsKeyGap ks k g → KeysRi
 rise_insert ks k g gap rise i j lt h =
     let len = length-insert ks g k gap.in_range in
     let within = gap.in_range in
-    let after : (j : ℕ) → g ≤ j → j < length ks → key_cmp k (key_in ks j) ≡ Less = λ j le h. key_total.antisymm k (key_in ks j) ∙ ap ordering_reverse (gap.greater_after j le h) in
+    let after : (j : ℕ) → g ≤ j → j < length ks → key_cmp k (key_in ks j) ≡ Less =
+    λ j le h. key_total.antisymm k (key_in ks j) ∙ ap ordering_reverse (gap.greater_after j le h) in
     elim (cases_order i g) [
-      | inl ei ↦ rw (ei, get_or-insert_at ks g k [] within, insert_above ks g k [] within j (omega arith)) (after (j - 1) (omega arith) (omega arith))
-      | inr (inr gt) ↦ rw (insert_above ks g k [] within i gt, insert_above ks g k [] within j (omega arith)) (rise (i - 1) (j - 1) (omega arith) (omega arith))
-      | inr (inl li) ↦ rw (get_or-insert_below ks g k [] i li within) (elim (cases_order j g) as (λ _. key_cmp (key_in ks i) (key_in (insert ks g k) j) ≡ Less) [
-        | inl ej ↦ rw (ej, get_or-insert_at ks g k [] within) (gap.smaller_before i li)
-        | inr (inl lj) ↦ rw (get_or-insert_below ks g k [] j lj within) (rise i j lt (omega arith))
-        | inr (inr gj) ↦ rw (insert_above ks g k [] within j gj) (rise i (j - 1) (omega arith) (omega arith))
-      ])
+      | inl ei ↦ rw (ei, get_or-insert_at ks g k [] within, insert_above ks g k [] within j (omega arith))
+          (after (j - 1) (omega arith) (omega arith))
+      | inr (inr gt) ↦ rw (insert_above ks g k [] within i gt, insert_above ks g k [] within j (omega arith))
+          (rise (i - 1) (j - 1) (omega arith) (omega arith))
+      | inr (inl li) ↦ rw (get_or-insert_below ks g k [] i li within)
+          (elim (cases_order j g) as (λ _. key_cmp (key_in ks i) (key_in (insert ks g k) j) ≡ Less) [
+            | inl ej ↦ rw (ej, get_or-insert_at ks g k [] within) (gap.smaller_before i li)
+            | inr (inl lj) ↦ rw (get_or-insert_below ks g k [] j lj within) (rise i j lt (omega arith))
+            | inr (inr gj) ↦ rw (insert_above ks g k [] within j gj) (rise i (j - 1) (omega arith) (omega arith))
+          ])
     ]
 
-module _ (ns : List Shape) (ok : IsArena ns) (p : ℕ) (hp : p < length ns) (k : Key) (g : ℕ) (gap : IsKeyGap (keys_at ns p) k g) where
+module _ (ns : List Shape) (ok : IsArena ns) (p : ℕ) (hp : p < length ns) (k : Key) (g : ℕ)
+    (gap : IsKeyGap (keys_at ns p) k g) where
   abbrev new : List Shape
   new = grown ns p k g
 
@@ -52,26 +61,32 @@ module _ (ns : List Shape) (ok : IsArena ns) (p : ℕ) (hp : p < length ns) (k :
 
   -- what does not depend on the children is unchanged
   before : {X : Type 0} (f : Shape → X) → f written ≡ f (at ns p) → (i : ℕ) → i < length ns → f (at new i) ≡ f (at ns i)
-  before f same i h = ap f (get_or_append_left rest _ no_shape i (omega (arith, length_rest))) ∙ touched f ns p written same i
+  before f same i h = ap f (get_or_append_left rest _ no_shape i (omega (arith, length_rest)))
+      ∙ touched f ns p written same i
 
   parent_before : (i : ℕ) → i < length ns → parent_at new i ≡ parent_at ns i
   parent_before = before (λ n. n.parent) refl
 
   children_other : (q : ℕ) → q ≢ p → children_at new q ≡ children_at ns q
-  children_other q ne = pushed (λ n. n.children) rest (leaf p k) refl q ∙ ap (λ (n : Shape). n.children) (get_or-set_other ns p q _ no_shape ne)
+  children_other q ne = pushed (λ n. n.children) rest (leaf p k) refl q
+      ∙ ap (λ (n : Shape). n.children) (get_or-set_other ns p q _ no_shape ne)
 
   children_parent : children_at new p ≡ insert (children_at ns p) g (length ns)
-  children_parent = ap (λ (n : Shape). n.children) (get_or_append_left rest _ no_shape p (omega (arith, length_rest)) ∙ get_or-set_same ns p written no_shape hp)
+  children_parent = ap (λ (n : Shape). n.children)
+      (get_or_append_left rest _ no_shape p (omega (arith, length_rest)) ∙ get_or-set_same ns p written no_shape hp)
 
   -- the keys of the children before
   keys_stood : (q : ℕ) → keys_of new (children_at ns q) ≡ keys_at ns q
-  keys_stood q = map_same (key_at new) (key_at ns) (children_at ns q) (λ j h. before (λ n. n.key) refl (get_or (children_at ns q) j 0) (ok.children q j 0 h).in_range)
+  keys_stood q = map_same (key_at new) (key_at ns) (children_at ns q)
+      (λ j h. before (λ n. n.key) refl (get_or (children_at ns q) j 0) (ok.children q j 0 h).in_range)
 
   keys_parent : keys_of new (insert (children_at ns p) g (length ns)) ≡ insert (keys_at ns p) g k
-  keys_parent = keys_of-insert new (children_at ns p) g (length ns) ∙ (λ i. insert (keys_stood p i) g (ap (λ (n : Shape). n.key) at_leaf i))
+  keys_parent = keys_of-insert new (children_at ns p) g (length ns)
+      ∙ (λ i. insert (keys_stood p i) g (ap (λ (n : Shape). n.key) at_leaf i))
 
   -- what holds of the new children of p and of the others as they were
-  by_parent : (P : ℕ → List ℕ → Type 0) → P p (insert (children_at ns p) g (length ns)) → ((q : ℕ) → q ≢ p → P q (children_at ns q)) → (q : ℕ) → P q (children_at new q)
+  by_parent : (P : ℕ → List ℕ → Type 0) → P p (insert (children_at ns p) g (length ns)) →
+      ((q : ℕ) → q ≢ p → P q (children_at ns q)) → (q : ℕ) → P q (children_at new q)
   by_parent P here others q = elim (cases_eq q p) [
     | inl e ↦ subst (λ (x : ℕ). P x (children_at new x)) (sym e) (subst (P p) (sym children_parent) here)
     | inr ne ↦ subst (P q) (sym (children_other q ne)) (others q ne)
@@ -86,7 +101,8 @@ module _ (ns : List Shape) (ok : IsArena ns) (p : ℕ) (hp : p < length ns) (k :
   stood : (q i : ℕ) → i ≢ length ns → IsChild new q i → StandsIn (children_at ns q) i
   stood q i ne c =
       let inside : i < length ns = omega (arith, length_grown, c.in_range) in
-      ok.listed q i (record { not_root = c.not_root; in_range = inside; parent = sym (parent_before i inside) ∙ c.parent })
+      ok.listed q i
+      (record { not_root = c.not_root; in_range = inside; parent = sym (parent_before i inside) ∙ c.parent })
 
   listed : (q i : ℕ) → IsChild new q i → StandsIn (children_at new q) i
   listed q i = by_parent (λ x xs. IsChild new x i → StandsIn xs i)
@@ -98,7 +114,8 @@ module _ (ns : List Shape) (ok : IsArena ns) (p : ℕ) (hp : p < length ns) (k :
         }
         | inr ne ↦ stands_insert (children_at ns p) g (length ns) i gap_within (stood p i ne c)
       ])
-      (λ q other c. stood q i (λ e. other (sym c.parent ∙ (ap (parent_at new) e ∙ ap (λ (n : Shape). n.parent) at_leaf))) c) q
+      (λ q other c. stood q i (λ e. other (sym c.parent
+      ∙ (ap (parent_at new) e ∙ ap (λ (n : Shape). n.parent) at_leaf))) c) q
 
   pub arena_grown : IsArena (grown ns p k g)
   arena_grown = record {
@@ -107,14 +124,18 @@ module _ (ns : List Shape) (ok : IsArena ns) (p : ℕ) (hp : p < length ns) (k :
     root_parent = parent_before 0 ok.rooted ∙ ok.root_parent;
     parents = λ i pos h. elim (cases_eq i (length ns)) [
       | inl e ↦ rw e (rw (ap (λ (n : Shape). n.parent) at_leaf) hp)
-      | inr ne ↦ let old : i < length ns = omega (arith, length_grown) in rw (parent_before i old) (ok.parents i pos old)
+      | inr ne ↦ let old : i < length ns = omega (arith, length_grown) in
+          rw (parent_before i old) (ok.parents i pos old)
     ];
     listed = listed;
     children = by_parent (λ q. All (IsChild new q))
         (let xs = children_at ns p in
         let old = All-weaker (IsChild ns p) (IsChild new p) (child_before p) xs (ok.children p) in
         let one : IsChild new p (length ns) = record { not_root = ok.rooted; in_range = omega (arith, length_grown); parent = ap (λ (n : Shape). n.parent) at_leaf } in
-        All-append (IsChild new p) (take g xs) (length ns ∷ drop g xs) (All-take (IsChild new p) g xs old) (All-cons (IsChild new p) (length ns) (drop g xs) one (All-drop (IsChild new p) g xs old)))
+        All-append (IsChild new p) (take g xs) (length ns ∷ drop g xs) (All-take (IsChild new p) g xs old)
+        (All-cons (IsChild new p) (length ns) (drop g xs) one (All-drop (IsChild new p) g xs old)))
         (λ q ne. All-weaker (IsChild ns q) (IsChild new q) (child_before q) (children_at ns q) (ok.children q));
-    rise = by_parent (λ q xs. KeysRise (keys_of new xs)) (subst KeysRise (sym keys_parent) (rise_insert (keys_at ns p) k g gap (ok.rise p))) (λ q ne. subst KeysRise (sym (keys_stood q)) (ok.rise q));
+    rise = by_parent (λ q xs. KeysRise (keys_of new xs))
+        (subst KeysRise (sym keys_parent) (rise_insert (keys_at ns p) k g gap (ok.rise p)))
+        (λ q ne. subst KeysRise (sym (keys_stood q)) (ok.rise q));
   }

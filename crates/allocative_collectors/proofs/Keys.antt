@@ -1,6 +1,8 @@
 -- Keys are in a total order, in which only equal ones tie; tests and equations of paths; the keys of numbered nodes.
-use Rattle.std.proofs.Common.{◌≡◌, true, false, ◌&&◌, refl, sym, subst, ℕ, zero, suc, set, inl, inr, ◌+◌, ◌-◌, ◌<◌, ◌≤◌, List, [], ◌∷◌, ◌++◌, length, map, get_or, drop, take, ◌∙◌, arith}
-use Rattle.allocative_collectors.proofs.Common.{Ordering, Less, Equal, Greater, is_eq, ordering_then, Key, Path, key_cmp, is_same_path, Shape, no_shape, at, key_at, keys_of, StandsIn}
+use Rattle.std.proofs.Common.{◌≡◌, true, false, ◌&&◌, refl, sym, subst, ℕ, zero, suc, set, inl, inr, ◌+◌, ◌-◌, ◌<◌, ◌≤◌}
+use Rattle.std.proofs.Common.{List, [], ◌∷◌, ◌++◌, length, map, get_or, drop, take, ◌∙◌, arith}
+use Rattle.allocative_collectors.proofs.Common.{Ordering, Less, Equal, Greater, is_eq, ordering_then, Key, Path}
+use Rattle.allocative_collectors.proofs.Common.{key_cmp, is_same_path, Shape, no_shape, at, key_at, keys_of, StandsIn}
 use Rattle.std.specs.Cmp.{IsTotalOrder}
 use Rattle.std.specs.FinMap.{nat_cmp-IsAntisymmetric, slice_cmp-IsAntisymmetric}
 use Rattle.std.proofs.lemmas.Cmp.{nat_cmp_total, lists_total, tied_itself}
@@ -40,19 +42,24 @@ tied Equal r = refl
 tied Greater r = refl
 
 -- two functions that agree at the numbers of a list
-pub map_same : {X : Type 0} (f g : ℕ → X) (xs : List ℕ) → ((j : ℕ) → j < length xs → f (get_or xs j 0) ≡ g (get_or xs j 0)) → map f xs ≡ map g xs
+pub map_same : {X : Type 0} (f g : ℕ → X) (xs : List ℕ) →
+    ((j : ℕ) → j < length xs → f (get_or xs j 0) ≡ g (get_or xs j 0)) → map f xs ≡ map g xs
 map_same f g [] same = refl
 map_same f g (x ∷ xs) same = λ i. same 0 (omega arith) i ∷ map_same f g xs (λ j h. same (suc j) (omega arith)) i
 
 -- If the number of a node is put at place g, the node's key is put at place g of the keys.
-pub keys_of-insert : (ns : List Shape) (xs : List ℕ) (g i : ℕ) → keys_of ns (insert xs g i) ≡ insert (keys_of ns xs) g (key_at ns i)
-keys_of-insert ns xs g i = map-append (key_at ns) (take g xs) (i ∷ drop g xs) ∙ (λ j. sym (take-map (key_at ns) g xs) j ++ key_at ns i ∷ sym (drop-map (key_at ns) g xs) j)
+pub keys_of-insert : (ns : List Shape) (xs : List ℕ) (g i : ℕ) →
+    keys_of ns (insert xs g i) ≡ insert (keys_of ns xs) g (key_at ns i)
+keys_of-insert ns xs g i = map-append (key_at ns) (take g xs) (i ∷ drop g xs)
+    ∙ (λ j. sym (take-map (key_at ns) g xs) j ++ key_at ns i ∷ sym (drop-map (key_at ns) g xs) j)
 
 -- an item after place g, where x was put
-pub insert_above : {X : Type 0} (xs : List X) (g : ℕ) (x d : X) → g ≤ length xs → (j : ℕ) → g < j → get_or (insert xs g x) j d ≡ get_or xs (j - 1) d
+pub insert_above : {X : Type 0} (xs : List X) (g : ℕ) (x d : X) → g ≤ length xs → (j : ℕ) → g < j →
+    get_or (insert xs g x) j d ≡ get_or xs (j - 1) d
 insert_above xs g x d within j h =
     let index : j - 1 + 1 ≡ j = omega arith in
-    subst (λ (q : ℕ). get_or (insert xs g x) q d ≡ get_or xs (j - 1) d) index (get_or-insert_above xs g x d (j - 1) (omega arith) within)
+    subst (λ (q : ℕ). get_or (insert xs g x) q d ≡ get_or xs (j - 1) d) index
+    (get_or-insert_above xs g x d (j - 1) (omega arith) within)
 
 -- a number keeps its standing when another one is put at place g
 pub stands_insert : (xs : List ℕ) (g n i : ℕ) → g ≤ length xs → StandsIn xs i → StandsIn (insert xs g n) i
@@ -64,7 +71,8 @@ stands_insert xs g n i within was =
     ]
 
 -- a write keeps what it does not change
-pub touched : {X : Type 0} (f : Shape → X) (ns : List Shape) (i : ℕ) (m : Shape) → f m ≡ f (at ns i) → (j : ℕ) → f (at (set ns i m) j) ≡ f (at ns j)
+pub touched : {X : Type 0} (f : Shape → X) (ns : List Shape) (i : ℕ) (m : Shape) → f m ≡ f (at ns i) → (j : ℕ) →
+    f (at (set ns i m) j) ≡ f (at ns j)
 touched f [] i m e j = refl
 touched f (n ∷ ns) zero m e zero = e
 touched f (n ∷ ns) zero m e (suc j) = refl
@@ -72,7 +80,8 @@ touched f (n ∷ ns) (suc i) m e zero = refl
 touched f (n ∷ ns) (suc i) m e (suc j) = touched f ns i m e j
 
 -- one more node keeps what a missing node has too
-pub pushed : {X : Type 0} (f : Shape → X) (ns : List Shape) (n : Shape) → f n ≡ f no_shape → (j : ℕ) → f (at (ns ++ n ∷ []) j) ≡ f (at ns j)
+pub pushed : {X : Type 0} (f : Shape → X) (ns : List Shape) (n : Shape) → f n ≡ f no_shape → (j : ℕ) →
+    f (at (ns ++ n ∷ []) j) ≡ f (at ns j)
 pushed f [] n e zero = e
 pushed f [] n e (suc j) = refl
 pushed f (m ∷ ns) n e zero = refl

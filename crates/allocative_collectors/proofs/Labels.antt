@@ -1,6 +1,9 @@
 -- The sums that an arena stands for, and what one more entry does to a list of sums.
-use Rattle.std.proofs.Common.{◌≡◌, ℕ, zero, suc, ◌+◌, ◌<◌, ◌||◌, Bool, List, [], ◌∷◌, ◌++◌, length, get_or, set, map, append_assoc, append-nil, sum_by, refl, sym, ap, ◌∙◌, arith, inl, inr}
-use Rattle.allocative_collectors.proofs.Common.{Key, Path, Sum, Listed, root_sum, put, path_at, Shape, at, sums, bytes_at, children_at, key_at, key_in, keys_at, parent_at, IsArena, IsChild, KeysRise}
+use Rattle.std.proofs.Common.{◌≡◌, ℕ, zero, suc, ◌+◌, ◌<◌, ◌||◌, Bool, List, [], ◌∷◌, ◌++◌, length, get_or, set, map}
+use Rattle.std.proofs.Common.{append_assoc, append-nil, sum_by, refl, sym, ap, ◌∙◌, arith, inl, inr}
+use Rattle.allocative_collectors.proofs.Common.{Key, Path, Sum, Listed, root_sum, put, path_at, Shape, at, sums}
+use Rattle.allocative_collectors.proofs.Common.{bytes_at, children_at, key_at, key_in, keys_at, parent_at, IsArena}
+use Rattle.allocative_collectors.proofs.Common.{IsChild, KeysRise}
 use Rattle.std.proofs.lemmas.List.{length-map, get_or_append_left, get_or-map, length_push, same_from_push}
 use Rattle.std.proofs.lemmas.List.Sums.{sum_by-cons}
 use Rattle.std.proofs.lemmas.Bool.{cases_order}
@@ -16,7 +19,8 @@ abbrev pub raise_shape : ℕ → Bool → Shape → Shape
 raise_shape n u m = record m { bytes = m.bytes + n; is_unique = m.is_unique || u }
 
 -- an entry at the place after the last is added at the end
-pub put_push : (i : ℕ) (q : Path) (n : ℕ) (u : Bool) (s : Listed) → i ≡ length s → put i q n u s ≡ s ++ record { path = q; bytes = n; is_unique = u } ∷ []
+pub put_push : (i : ℕ) (q : Path) (n : ℕ) (u : Bool) (s : Listed) → i ≡ length s →
+    put i q n u s ≡ s ++ record { path = q; bytes = n; is_unique = u } ∷ []
 put_push i q n u [] e = refl
 put_push zero q n u (x ∷ s) e = absurd (omega arith)
 put_push (suc i) q n u (x ∷ s) e = ap (λ (t : Listed). x ∷ t) (put_push i q n u s (omega arith))
@@ -37,43 +41,53 @@ path_from-some [] i k some = absurd (omega arith)
 path_from-some (p ∷ ps) i k some = refl
 
 -- the path of a node after the first comes from that of a node before it
-path-grow : (ps : List Path) (ns : List Shape) (j : ℕ) → j < length ns → 0 < length ps + j → parent_at ns j < length ps + j
+path-grow : (ps : List Path) (ns : List Shape) (j : ℕ) → j < length ns → 0 < length ps + j →
+    parent_at ns j < length ps + j
     → path_at (grow ps ns) j ≡ get_or (ps ++ map path_of (grow ps ns)) (parent_at ns j) [] ++ key_at ns j ∷ []
 path-grow ps [] j h some lt = absurd (omega arith)
-path-grow ps (n ∷ ns) zero h some lt = path_from-some ps n.parent n.key (omega arith) ∙ ap (λ (p : Path). p ++ n.key ∷ []) (sym (get_or_append_left ps _ [] n.parent (omega arith)))
+path-grow ps (n ∷ ns) zero h some lt = path_from-some ps n.parent n.key (omega arith)
+    ∙ ap (λ (p : Path). p ++ n.key ∷ []) (sym (get_or_append_left ps _ [] n.parent (omega arith)))
 path-grow ps (n ∷ ns) (suc j) h some lt =
     let p = path_of (sum_from ps n) in
     let len = length_push ps p in
-    path-grow (ps ++ p ∷ []) ns j (omega arith) (omega arith) (omega arith) ∙ ap (λ (l : List Path). get_or l (parent_at ns j) [] ++ key_at ns j ∷ []) (append_assoc ps (p ∷ []) _)
+    path-grow (ps ++ p ∷ []) ns j (omega arith) (omega arith) (omega arith)
+    ∙ ap (λ (l : List Path). get_or l (parent_at ns j) [] ++ key_at ns j ∷ []) (append_assoc ps (p ∷ []) _)
 
 -- a node's own figures
-pub figures-grow : (ps : List Path) (ns : List Shape) (j : ℕ) → (let e = get_or (grow ps ns) j root_sum in (e.bytes ≡ bytes_at ns j) × (e.is_unique ≡ unique_at ns j))
+pub figures-grow : (ps : List Path) (ns : List Shape) (j : ℕ) →
+    (let e = get_or (grow ps ns) j root_sum in (e.bytes ≡ bytes_at ns j) × (e.is_unique ≡ unique_at ns j))
 figures-grow ps [] j = (refl, refl)
 figures-grow ps (n ∷ ns) zero = (refl, refl)
 figures-grow ps (n ∷ ns) (suc j) = figures-grow (ps ++ path_of (sum_from ps n) ∷ []) ns j
 
 -- a node at the end adds its sum at the end
-pub grow_push : (ps : List Path) (ns : List Shape) (n : Shape) → grow ps (ns ++ n ∷ []) ≡ grow ps ns ++ sum_from (ps ++ map path_of (grow ps ns)) n ∷ []
+pub grow_push : (ps : List Path) (ns : List Shape) (n : Shape) →
+    grow ps (ns ++ n ∷ []) ≡ grow ps ns ++ sum_from (ps ++ map path_of (grow ps ns)) n ∷ []
 grow_push ps [] n = ap (λ (l : List Path). sum_from l n ∷ []) (sym (append-nil ps))
 grow_push ps (m ∷ ns) n =
     let p = path_of (sum_from ps m) in
-    ap (λ (t : Listed). sum_from ps m ∷ t) (grow_push (ps ++ p ∷ []) ns n ∙ ap (λ (l : List Path). grow (ps ++ p ∷ []) ns ++ sum_from l n ∷ []) (append_assoc ps (p ∷ []) _))
+    ap (λ (t : Listed). sum_from ps m ∷ t) (grow_push (ps ++ p ∷ []) ns n
+    ∙ ap (λ (l : List Path). grow (ps ++ p ∷ []) ns ++ sum_from l n ∷ []) (append_assoc ps (p ∷ []) _))
 
 -- an entry at a node is one at its place
-pub grow_raise : (ps : List Path) (ns : List Shape) (i : ℕ) (q : Path) (n : ℕ) (u : Bool) → i < length ns → grow ps (set ns i (raise_shape n u (at ns i))) ≡ put i q n u (grow ps ns)
+pub grow_raise : (ps : List Path) (ns : List Shape) (i : ℕ) (q : Path) (n : ℕ) (u : Bool) → i < length ns →
+    grow ps (set ns i (raise_shape n u (at ns i))) ≡ put i q n u (grow ps ns)
 grow_raise ps [] i q n u h = absurd (omega arith)
 grow_raise ps (m ∷ ns) zero q n u h = refl
-grow_raise ps (m ∷ ns) (suc i) q n u h = ap (λ (t : Listed). sum_from ps m ∷ t) (grow_raise (ps ++ path_of (sum_from ps m) ∷ []) ns i q n u (omega arith))
+grow_raise ps (m ∷ ns) (suc i) q n u h = ap (λ (t : Listed). sum_from ps m ∷ t)
+    (grow_raise (ps ++ path_of (sum_from ps m) ∷ []) ns i q n u (omega arith))
 
 -- what a node's sum depends on
 abbrev pub bare : Shape → Shape
 bare n = record n { children = [] }
 
 -- a write that keeps it keeps the sums
-pub grow_same : (ps : List Path) (ns : List Shape) (i : ℕ) (m : Shape) → bare m ≡ bare (at ns i) → grow ps (set ns i m) ≡ grow ps ns
+pub grow_same : (ps : List Path) (ns : List Shape) (i : ℕ) (m : Shape) → bare m ≡ bare (at ns i) →
+    grow ps (set ns i m) ≡ grow ps ns
 grow_same ps [] i m e = refl
 grow_same ps (n ∷ ns) zero m e = λ k. grow ps (e k ∷ ns)
-grow_same ps (n ∷ ns) (suc i) m e = ap (λ (t : Listed). sum_from ps n ∷ t) (grow_same (ps ++ path_of (sum_from ps n) ∷ []) ns i m e)
+grow_same ps (n ∷ ns) (suc i) m e = ap (λ (t : Listed). sum_from ps n ∷ t)
+    (grow_same (ps ++ path_of (sum_from ps n) ∷ []) ns i m e)
 
 -- The bytes of the sums of some nodes add up to the bytes of the nodes.
 pub total-grow : (ps : List Path) (ns : List Shape) → total (grow ps ns) ≡ sum_by (λ (n : Shape). n.bytes) ns
@@ -93,7 +107,8 @@ root_at [] = refl
 root_at (n ∷ ns) = refl
 
 -- a key is at one place
-one_place : (ks : List Key) → KeysRise ks → (a b : ℕ) → a < length ks → b < length ks → key_in ks a ≡ key_in ks b → a ≡ b
+one_place : (ks : List Key) → KeysRise ks → (a b : ℕ) → a < length ks → b < length ks → key_in ks a ≡ key_in ks b →
+    a ≡ b
 one_place ks rise a b ha hb same = elim (cases_order a b) [
   | inl e ↦ e
   | inr (inl lt) ↦ absurd (key_not_before _ _ same (rise a b lt hb))
@@ -107,13 +122,16 @@ not_nil (x ∷ p) k q e = cc
 
 module _ (ns : List Shape) (ok : IsArena ns) where
   -- the path of another node is its parent's with one more key
-  pub step : (i : ℕ) → 0 < i → i < length ns → path_at (sums ns) i ≡ path_at (sums ns) (parent_at ns i) ++ key_at ns i ∷ []
+  pub step : (i : ℕ) → 0 < i → i < length ns →
+      path_at (sums ns) i ≡ path_at (sums ns) (parent_at ns i) ++ key_at ns i ∷ []
   step i pos h =
       path-grow [] ns i h (omega arith) (omega (arith, ok.parents i pos h))
-      ∙ ap (λ (p : Path). p ++ key_at ns i ∷ []) (get_or-map path_of (sums ns) (parent_at ns i) root_sum [] (omega (arith, length_sums ns)))
+      ∙ ap (λ (p : Path). p ++ key_at ns i ∷ [])
+      (get_or-map path_of (sums ns) (parent_at ns i) root_sum [] (omega (arith, length_sums ns)))
 
   -- the key at a child's place
-  pub key_place : (p i : ℕ) (c : IsChild ns p i) → (let a = ok.listed p i c in (a.place < length (keys_at ns p)) × (key_in (keys_at ns p) a.place ≡ key_at ns i))
+  pub key_place : (p i : ℕ) (c : IsChild ns p i) →
+      (let a = ok.listed p i c in (a.place < length (keys_at ns p)) × (key_in (keys_at ns p) a.place ≡ key_at ns i))
   key_place p i c =
       let a = ok.listed p i c in
       (omega (arith, length-map (children_at ns p) (key_at ns), a.in_range), get_or-map (key_at ns) (children_at ns p) a.place 0 [] a.in_range ∙ ap (key_at ns) a.is)
@@ -126,17 +144,24 @@ module _ (ns : List Shape) (ok : IsArena ns) where
       let place = one_place (keys_at ns p) (ok.rise p) _ _ a.0 b.0 (a.1 ∙ (keys ∙ sym b.1)) in
       sym (ok.listed p i ci).is ∙ (ap (λ (q : ℕ). get_or (children_at ns p) q 0) place ∙ (ok.listed p j cj).is)
 
-  distinct_below : (n i j : ℕ) → i < n → i < length ns → j < length ns → path_at (sums ns) i ≡ path_at (sums ns) j → i ≡ j
+  distinct_below : (n i j : ℕ) → i < n → i < length ns → j < length ns → path_at (sums ns) i ≡ path_at (sums ns) j →
+      i ≡ j
   distinct_below zero i j lt hi hj e = absurd (omega arith)
   distinct_below (suc n) zero zero lt hi hj e = refl
-  distinct_below (suc n) zero (suc j) lt hi hj e = absurd (not_nil _ _ _ (sym (step (suc j) (omega arith) hj) ∙ (sym e ∙ root_at ns)))
-  distinct_below (suc n) (suc i) zero lt hi hj e = absurd (not_nil _ _ _ (sym (step (suc i) (omega arith) hi) ∙ (e ∙ root_at ns)))
+  distinct_below (suc n) zero (suc j) lt hi hj e =
+      absurd (not_nil _ _ _ (sym (step (suc j) (omega arith) hj) ∙ (sym e ∙ root_at ns)))
+  distinct_below (suc n) (suc i) zero lt hi hj e =
+      absurd (not_nil _ _ _ (sym (step (suc i) (omega arith) hi) ∙ (e ∙ root_at ns)))
   distinct_below (suc n) (suc i) (suc j) lt hi hj e =
       let pi = ok.parents (suc i) (omega arith) hi in
       let pj = ok.parents (suc j) (omega arith) hj in
       let parts = same_from_push _ _ _ _ (sym (step (suc i) (omega arith) hi) ∙ (e ∙ step (suc j) (omega arith) hj)) in
-      let parents : parent_at ns (suc i) ≡ parent_at ns (suc j) = distinct_below n (parent_at ns (suc i)) (parent_at ns (suc j)) (omega arith) (omega arith) (omega arith) parts.0 in
-      one_child (parent_at ns (suc j)) (suc i) (suc j) (record { not_root = omega arith; in_range = hi; parent = parents }) (record { not_root = omega arith; in_range = hj; parent = refl }) parts.1
+      let parents : parent_at ns (suc i) ≡ parent_at ns (suc j) =
+      distinct_below n (parent_at ns (suc i)) (parent_at ns (suc j)) (omega arith) (omega arith) (omega arith)
+      parts.0 in
+      one_child (parent_at ns (suc j)) (suc i) (suc j)
+      (record { not_root = omega arith; in_range = hi; parent = parents })
+      (record { not_root = omega arith; in_range = hj; parent = refl }) parts.1
 
   -- no two nodes have one path
   pub distinct : (i j : ℕ) → i < length ns → j < length ns → path_at (sums ns) i ≡ path_at (sums ns) j → i ≡ j

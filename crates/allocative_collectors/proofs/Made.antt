@@ -1,12 +1,20 @@
 -- What the walk of `make` has passed behind a node's path, child by child: the rows of the map, and the graph that it
 -- has made.
-use Rattle.std.proofs.Common.{◌≡◌, ◌≢◌, ℕ, zero, suc, ◌<◌, ◌≤◌, Bool, true, false, cond, T, ◌&&◌, ◌||◌, List, [], ◌∷◌, ◌++◌, length, Option, Some, None, refl, sym, ap, subst, ◌∙◌, arith, inl, inr, true≢false, append_assoc, ◌+◌, map, flat_map, get_or, unwrap_or, sum_by, append-nil, add-zero, zero-add}
-use Rattle.allocative_collectors.proofs.Common.{Ordering, Less, is_eq, is_lt, ordering_then, Key, Path, key_cmp, path_cmp, key_in, KeysRise, is_same_path, is_one_below, Sums, Graph, graph, sum_of, under, default, add_self, get, entries, shape, sums_of, IsTree, Listed, row, sum_at, path_at, map_of, below, entered, sums, children_at, keys_at, IsArena, Shape, size_at_place, ordering_reverse}
+use Rattle.std.proofs.Common.{◌≡◌, ◌≢◌, ℕ, zero, suc, ◌<◌, ◌≤◌, Bool, true, false, cond, T, ◌&&◌, ◌||◌, List, [], ◌∷◌}
+use Rattle.std.proofs.Common.{◌++◌, length, Option, Some, None, refl, sym, ap, subst, ◌∙◌, arith, inl, inr, true≢false}
+use Rattle.std.proofs.Common.{append_assoc, ◌+◌, map, flat_map, get_or, unwrap_or, sum_by, append-nil, add-zero}
+use Rattle.std.proofs.Common.{zero-add}
+use Rattle.allocative_collectors.proofs.Common.{Ordering, Less, is_eq, is_lt, ordering_then, Key, Path, key_cmp}
+use Rattle.allocative_collectors.proofs.Common.{path_cmp, key_in, KeysRise, is_same_path, is_one_below, Sums, Graph}
+use Rattle.allocative_collectors.proofs.Common.{graph, sum_of, under, default, add_self, get, entries, shape, sums_of}
+use Rattle.allocative_collectors.proofs.Common.{IsTree, Listed, row, sum_at, path_at, map_of, below, entered, sums}
+use Rattle.allocative_collectors.proofs.Common.{children_at, keys_at, IsArena, Shape, size_at_place, ordering_reverse}
 use Rattle.std.specs.FinMap.{FinMap, entries_sorted, find, get-entries, get-insert}
 use Rattle.std.specs.FinMap.Entries.{is_sorted, below_all, is_sorted-where_key, find-where_key, same_entries}
 use Rattle.std.specs.List.{filter}
 use Rattle.std.proofs.lemmas.Cmp.{tied_itself}
-use Rattle.std.proofs.lemmas.Bool.{and_parts, or_cases, or_left, or_right, cases_Bool, cases_eq, cond-true, cond-false, false_from_ne_true, cond_both}
+use Rattle.std.proofs.lemmas.Bool.{and_parts, or_cases, or_left, or_right, cases_Bool, cases_eq, cond-true, cond-false}
+use Rattle.std.proofs.lemmas.Bool.{false_from_ne_true, cond_both}
 use Rattle.std.proofs.Math.Bool.{and-true, and-or_distrib_left}
 use Rattle.allocative_graph.proofs.Basics.{path_total, path_antisymmetric, same_path, is_eq-Equal}
 use Rattle.allocative_collectors.specs.Finishing.{behind, MakesPart, MakesGraph, rows_behind, is_short}
@@ -19,7 +27,8 @@ use Rattle.allocative_graph.specs.Many.{ComesLast}
 use Rattle.allocative_graph.specs.Sums.{Node}
 use Rattle.allocative_graph.proofs.Listing.{entries-from_entries-sorted}
 use Rattle.allocative_graph.proofs.Merge.{get-sum_of}
-use Rattle.allocative_graph.proofs.Graphs.{sizes_together, get-under, get-under-root, get-default, total-sum_of, total-under, total-add_at}
+use Rattle.allocative_graph.proofs.Graphs.{sizes_together, get-under, get-under-root, get-default, total-sum_of}
+use Rattle.allocative_graph.proofs.Graphs.{total-under, total-add_at}
 use Rattle.std.specs.Option.{is_some}
 use Rattle.allocative_collectors.specs.declared.tree.Node as nodes
 use Rattle.allocative_collectors.proofs.Entries.{IsListing, graph_hit, graph_none, get_at, get_none, nothing_left}
@@ -53,7 +62,8 @@ among_at ks a (suc j) l h e = elim (cases_eq a j) [
 ]
 
 -- If keys rise, one of the first j keys comes before the key at any place from j on.
-among_before : (ks : List Key) → KeysRise ks → (i j : ℕ) (l : Key) → i < length ks → j ≤ i → among ks j l ≡ true → key_cmp l (key_in ks i) ≡ Less
+among_before : (ks : List Key) → KeysRise ks → (i j : ℕ) (l : Key) → i < length ks → j ≤ i → among ks j l ≡ true →
+    key_cmp l (key_in ks i) ≡ Less
 among_before ks rise i zero l hi le h = absurd (true≢false (sym h))
 among_before ks rise i (suc j) l hi le h = elim (or_cases (among ks j l) _ h) [
   | inl before ↦ among_before ks rise i j l hi (omega arith) before
@@ -67,12 +77,14 @@ begun ks j [] = true
 begun ks j (l ∷ q) = among ks j l
 
 -- a change of the test changes nothing if no path behind p is affected
-behind_same : {X : Type 0} (p : Path) (t u : Path → Bool) (f : Path → Option X) → ((r : Path) → cond (t r) (f (p ++ r)) None ≡ cond (u r) (f (p ++ r)) None) → (q : Path)
+behind_same : {X : Type 0} (p : Path) (t u : Path → Bool) (f : Path → Option X) →
+    ((r : Path) → cond (t r) (f (p ++ r)) None ≡ cond (u r) (f (p ++ r)) None) → (q : Path)
     → cond (behind p t q) (f q) None ≡ cond (behind p u q) (f q) None
 behind_same [] t u f same q = same q
 behind_same (k ∷ p) t u f same [] = refl
 behind_same (k ∷ p) t u f same (l ∷ q) = elim (cases_Bool (same_key l k)) [
-  | inl e ↦ rw e (subst (λ (x : Key). cond (behind p t q) (f (x ∷ q)) None ≡ cond (behind p u q) (f (x ∷ q)) None) (sym (same_key_is l k e)) (behind_same p t u (λ r. f (k ∷ r)) same q))
+  | inl e ↦ rw e (subst (λ (x : Key). cond (behind p t q) (f (x ∷ q)) None ≡ cond (behind p u q) (f (x ∷ q)) None)
+      (sym (same_key_is l k e)) (behind_same p t u (λ r. f (k ∷ r)) same q))
   | inr e ↦ rw e refl
 ]
 
@@ -81,23 +93,28 @@ behind_own : (p : Path) (ks : List Key) (q : Path) → behind p (begun ks 0) q �
 behind_own [] ks [] = refl
 behind_own [] ks (l ∷ q) = refl
 behind_own (k ∷ p) ks [] = refl
-behind_own (k ∷ p) ks (l ∷ q) = ap (λ (b : Bool). same_key l k && b) (behind_own p ks q) ∙ tied (key_cmp l k) (path_cmp q p)
+behind_own (k ∷ p) ks (l ∷ q) = ap (λ (b : Bool). same_key l k && b) (behind_own p ks q)
+    ∙ tied (key_cmp l k) (path_cmp q p)
 
 -- one child more
-behind_more : (p : Path) (ks : List Key) (j : ℕ) (q : Path) → behind p (begun ks (suc j)) q ≡ (behind p (begun ks j) q || behind (p ++ key_in ks j ∷ []) (λ r. true) q)
+behind_more : (p : Path) (ks : List Key) (j : ℕ) (q : Path) →
+    behind p (begun ks (suc j)) q ≡ (behind p (begun ks j) q || behind (p ++ key_in ks j ∷ []) (λ r. true) q)
 behind_more [] ks j [] = refl
 behind_more [] ks j (l ∷ q) = ap (λ (b : Bool). among ks j l || b) (sym (and-true (same_key l (key_in ks j))))
 behind_more (k ∷ p) ks j [] = refl
-behind_more (k ∷ p) ks j (l ∷ q) = ap (λ (b : Bool). same_key l k && b) (behind_more p ks j q) ∙ and-or_distrib_left (same_key l k) _ _
+behind_more (k ∷ p) ks j (l ∷ q) = ap (λ (b : Bool). same_key l k && b) (behind_more p ks j q)
+    ∙ and-or_distrib_left (same_key l k) _ _
 
 -- what was passed is before the next child
 module _ (ks : List Key) (rise : KeysRise ks) (j : ℕ) (hj : j < length ks) where
-  passed_before : (p a b : Path) → behind p (begun ks j) a ≡ true → behind (p ++ key_in ks j ∷ []) (λ r. true) b ≡ true → path_cmp a b ≡ Less
+  passed_before : (p a b : Path) → behind p (begun ks j) a ≡ true →
+      behind (p ++ key_in ks j ∷ []) (λ r. true) b ≡ true → path_cmp a b ≡ Less
   passed_before [] [] [] ha hb = absurd (true≢false (sym hb))
   passed_before [] [] (m ∷ b) ha hb = refl
   passed_before [] (l ∷ a) [] ha hb = absurd (true≢false (sym hb))
   passed_before [] (l ∷ a) (m ∷ b) ha hb =
-      rw (same_key_is m (key_in ks j) (and_parts _ _ hb).0) (ap (λ (o : Ordering). ordering_then o (path_cmp a b)) (among_before ks rise j j l hj (omega arith) ha))
+      rw (same_key_is m (key_in ks j) (and_parts _ _ hb).0)
+      (ap (λ (o : Ordering). ordering_then o (path_cmp a b)) (among_before ks rise j j l hj (omega arith) ha))
   passed_before (k ∷ p) [] b ha hb = absurd (true≢false (sym ha))
   passed_before (k ∷ p) (l ∷ a) [] ha hb = absurd (true≢false (sym hb))
   passed_before (k ∷ p) (l ∷ a) (m ∷ b) ha hb =
@@ -119,22 +136,30 @@ module _ {X : Type 0} where
   abbrev kept : (Path → Bool) → List (Path × X) → List (Path × X)
   kept t es = filter (λ e. t e.0) es
 
-  found_kept : (t : Path → Bool) (q : Path) (es : List (Path × X)) → find path_cmp q (kept t es) ≡ cond (t q) (find path_cmp q es) None
+  found_kept : (t : Path → Bool) (q : Path) (es : List (Path × X)) →
+      find path_cmp q (kept t es) ≡ cond (t q) (find path_cmp q es) None
   found_kept t q es = find-where_key path_cmp t q (λ x e. ap t (sym (path_antisymmetric q x e))) es
 
   -- the rows of a map that pass a test are those that are found
-  kept_are : (t : Path → Bool) (m : FinMap path_cmp X) (rs : List (Path × X)) → T (is_sorted path_cmp rs) → ((q : Path) → cond (t q) (get m q) None ≡ find path_cmp q rs) → kept t (entries m) ≡ rs
-  kept_are t m rs sorted found = same_entries path_cmp path_total path_antisymmetric (kept t (entries m)) rs (is_sorted-where_key path_cmp t (entries m) (entries_sorted m)) sorted
+  kept_are : (t : Path → Bool) (m : FinMap path_cmp X) (rs : List (Path × X)) → T (is_sorted path_cmp rs) →
+      ((q : Path) → cond (t q) (get m q) None ≡ find path_cmp q rs) → kept t (entries m) ≡ rs
+  kept_are t m rs sorted found = same_entries path_cmp path_total path_antisymmetric (kept t (entries m)) rs
+      (is_sorted-where_key path_cmp t (entries m) (entries_sorted m)) sorted
       (λ q. found_kept t q (entries m) ∙ (ap (λ (o : Option X). cond (t q) o None) (sym (get-entries m q)) ∙ found q))
 
-  none_kept : (t u : Path → Bool) (p : Path) (es : List (Path × X)) → ((a b : Path) → t a ≡ true → u b ≡ true → path_cmp a b ≡ Less) → u p ≡ true → T (below_all path_cmp p es) → kept t es ≡ []
+  none_kept : (t u : Path → Bool) (p : Path) (es : List (Path × X)) →
+      ((a b : Path) → t a ≡ true → u b ≡ true → path_cmp a b ≡ Less) → u p ≡ true → T (below_all path_cmp p es) →
+      kept t es ≡ []
   none_kept t u p [] before h below = refl
   none_kept t u p (e ∷ es) before h below =
       let parts = both_parts (is_lt (path_cmp p e.0)) _ below in
-      rw (false_from_ne_true (t e.0) (λ hit. not_before e.0 p (before e.0 p hit h) parts.0)) (none_kept t u p es before h parts.1)
+      rw (false_from_ne_true (t e.0) (λ hit. not_before e.0 p (before e.0 p hit h) parts.0))
+      (none_kept t u p es before h parts.1)
 
   -- rows that pass one of two tests, if those that pass the first are before those that pass the second
-  kept_both : (t u v : Path → Bool) → ((q : Path) → v q ≡ (t q || u q)) → ((a b : Path) → t a ≡ true → u b ≡ true → path_cmp a b ≡ Less) → (es : List (Path × X)) → T (is_sorted path_cmp es)
+  kept_both : (t u v : Path → Bool) → ((q : Path) → v q ≡ (t q || u q)) →
+      ((a b : Path) → t a ≡ true → u b ≡ true → path_cmp a b ≡ Less) → (es : List (Path × X)) →
+      T (is_sorted path_cmp es)
       → kept v es ≡ kept t es ++ kept u es
   kept_both t u v both before [] s = refl
   kept_both t u v both before (e ∷ es) s =
@@ -142,7 +167,8 @@ module _ {X : Type 0} where
       let rest = kept_both t u v both before es parts.1 in
       elim (cases_Bool (t e.0)) [
         | inl hit ↦
-            let other = false_from_ne_true (u e.0) (λ h. let less = before e.0 e.0 hit h in not_before e.0 e.0 less (subst (λ (o : Ordering). T (is_lt o)) (sym less) tt)) in
+            let other = false_from_ne_true (u e.0) (λ h. let less = before e.0 e.0 hit h in
+            not_before e.0 e.0 less (subst (λ (o : Ordering). T (is_lt o)) (sym less) tt)) in
             rw (both e.0, hit, other) (ap (λ (rs : List (Path × X)). e ∷ rs) rest)
         | inr miss ↦ elim (cases_Bool (u e.0)) [
           | inl found ↦ rw (both e.0, miss, found, rest, none_kept t u e.0 es before found parts.0) refl
@@ -152,24 +178,29 @@ module _ {X : Type 0} where
 
 -- ---- the rows of a map
 -- the rows behind p stay the same if the test passes other paths but no other of the map
-rows_same : {X : Type 0} (m : FinMap path_cmp X) (p : Path) (t u : Path → Bool) → ((r : Path) → cond (t r) (get m (p ++ r)) None ≡ cond (u r) (get m (p ++ r)) None)
+rows_same : {X : Type 0} (m : FinMap path_cmp X) (p : Path) (t u : Path → Bool) →
+    ((r : Path) → cond (t r) (get m (p ++ r)) None ≡ cond (u r) (get m (p ++ r)) None)
     → kept (behind p t) (entries m) ≡ kept (behind p u) (entries m)
-rows_same m p t u same = kept_are (behind p t) m (kept (behind p u) (entries m)) (is_sorted-where_key path_cmp (behind p u) (entries m) (entries_sorted m))
-    (λ q. behind_same p t u (get m) same q ∙ (ap (λ (o : Option _). cond (behind p u q) o None) (get-entries m q) ∙ sym (found_kept (behind p u) q (entries m))))
+rows_same m p t u same = kept_are (behind p t) m (kept (behind p u) (entries m))
+    (is_sorted-where_key path_cmp (behind p u) (entries m) (entries_sorted m))
+    (λ q. behind_same p t u (get m) same q ∙ (ap (λ (o : Option _). cond (behind p u q) o None) (get-entries m q)
+    ∙ sym (found_kept (behind p u) q (entries m))))
 
 -- before the first child there is the row of p itself
 module _ {X : Type 0} (m : FinMap path_cmp X) (p : Path) (ks : List Key) where
   rows_none : get m p ≡ None → kept (behind p (begun ks 0)) (entries m) ≡ []
-  rows_none w = kept_are (behind p (begun ks 0)) m [] tt (λ q. rw (behind_own p ks q) (elim (cases_Bool (is_same_path q p)) [
-    | inl e ↦ cond-true _ _ _ e ∙ (ap (get m) (same_path q p e) ∙ w)
-    | inr e ↦ cond-false _ _ _ e
-  ]))
+  rows_none w = kept_are (behind p (begun ks 0)) m [] tt
+      (λ q. rw (behind_own p ks q) (elim (cases_Bool (is_same_path q p)) [
+        | inl e ↦ cond-true _ _ _ e ∙ (ap (get m) (same_path q p e) ∙ w)
+        | inr e ↦ cond-false _ _ _ e
+      ]))
 
   rows_one : (x : X) → get m p ≡ Some x → kept (behind p (begun ks 0)) (entries m) ≡ (p, x) ∷ []
-  rows_one x w = kept_are (behind p (begun ks 0)) m ((p, x) ∷ []) tt (λ q. rw (behind_own p ks q) (elim (cases_Bool (is_same_path q p)) [
-    | inl e ↦ rw e (ap (get m) (same_path q p e) ∙ w)
-    | inr e ↦ rw e refl
-  ]))
+  rows_one x w = kept_are (behind p (begun ks 0)) m ((p, x) ∷ []) tt
+      (λ q. rw (behind_own p ks q) (elim (cases_Bool (is_same_path q p)) [
+        | inl e ↦ rw e (ap (get m) (same_path q p e) ∙ w)
+        | inr e ↦ rw e refl
+      ]))
 
 -- ---- sizes
 -- The graph that has only the root has a total of 0.
@@ -190,7 +221,8 @@ none_with None = refl
 none_with (Some n) = ap Some (zero-add n)
 
 -- sizes that pass one of two tests, but not both
-one_of : (a b : Bool) (x y : Option ℕ) → (b ≡ true → (a ≡ false) × (y ≡ x)) → sizes_together (cond a x None) (cond b y None) ≡ cond (a || b) x None
+one_of : (a b : Bool) (x y : Option ℕ) → (b ≡ true → (a ≡ false) × (y ≡ x)) →
+    sizes_together (cond a x None) (cond b y None) ≡ cond (a || b) x None
 one_of true true x y h = absurd (true≢false (h refl).0)
 one_of true false x y h = with_none x
 one_of false true x y h = none_with y ∙ (h refl).1
@@ -199,18 +231,21 @@ one_of false false x y h = refl
 -- the sizes that were found are within the bytes of all entries
 rows_fit : (s : Listed) (p : Path) (t : Path → Bool) → sum_by (size_in s) (rows_behind s p t) ≤ entered (map_of s)
 rows_fit s p t =
-    let both = sum_by-filter_both (λ (e : Path × Node). behind p t e.0) _ (λ e. refl) (size_in s) (entries (map_of s)) in
+    let both = sum_by-filter_both (λ (e : Path × Node). behind p t e.0) _ (λ e. refl) (size_in s) (entries (map_of s))
+    in
     let each = sum_by-le-sum_by (size_in s) (λ (e : Path × Node). e.1.bytes) (entries (map_of s))
     (λ e. cond_both e.1.is_unique e.1.bytes _ (λ (n : ℕ). n ≤ e.1.bytes) (λ _. omega arith) (λ _. omega arith)) in
     omega arith
 
 -- the bytes one key below a path are within those of all entries
 pub below_fits : (m : Sums) (p : Path) → below m p ≤ entered m
-below_fits m p = sum_by-le-sum_by (λ e. cond (is_one_below p e.0) e.1.bytes 0) (λ (e : Path × Node). e.1.bytes) (entries m)
+below_fits m p = sum_by-le-sum_by (λ e. cond (is_one_below p e.0) e.1.bytes 0) (λ (e : Path × Node). e.1.bytes)
+    (entries m)
     (λ e. cond_both (is_one_below p e.0) e.1.bytes 0 (λ (n : ℕ). n ≤ e.1.bytes) (λ _. omega arith) (λ _. omega arith))
 
 -- A graph of a part has at most the bytes of all entries.
-pub part_fits : {s : Listed} {p : Path} {t : Path → Bool} {w w' : List Warned} {g : Graph} → MakesPart s p t w w' g → total g ≤ entered (map_of s)
+pub part_fits : {s : Listed} {p : Path} {t : Path → Bool} {w w' : List Warned} {g : Graph} → MakesPart s p t w w' g →
+    total g ≤ entered (map_of s)
 part_fits {s} {p} {t} part = omega (arith, part.total_is, rows_fit s p t)
 
 abbrev pub warned_at : Listed → ℕ → List Warned
@@ -218,33 +253,40 @@ warned_at s i = warned (map_of s) (row (sum_at s i))
 
 module _ (s : Listed) (ok : IsListing s) where
   -- the row of a place has its size and its warning
-  own_row : (i : ℕ) → i < length s → (ks : List Key) → let rows = rows_behind s (path_at s i) (begun ks 0) in (sum_by (size_in s) rows ≡ size_at_place s i) × (flat_map (warned (map_of s)) rows ≡ warned_at s i)
+  own_row : (i : ℕ) → i < length s → (ks : List Key) → let rows = rows_behind s (path_at s i) (begun ks 0) in
+      (sum_by (size_in s) rows ≡ size_at_place s i) × (flat_map (warned (map_of s)) rows ≡ warned_at s i)
   own_row zero h ks =
       let e = sum_at s 0 in
       let none = get_none s (path_at s 0) (λ i pos hi w. (let same = ok.apart i 0 hi h w in omega arith)) in
       rw (rows_none (map_of s) (path_at s 0) ks none) (sym (nothing_left e.is_unique e.bytes _ ok.root_bytes), sym (ap (λ (p : Path). warned (map_of s) (p, (row e).1)) ok.root_path))
   own_row (suc i) h ks =
       let e = row (sum_at s (suc i)) in
-      rw (rows_one (map_of s) e.0 ks e.1 (get_at s ok (suc i) (omega arith) h)) (omega (arith, sum_by-cons (size_in s) e []), append-nil (warned (map_of s) e))
+      rw (rows_one (map_of s) e.0 ks e.1 (get_at s ok (suc i) (omega arith) h))
+      (omega (arith, sum_by-cons (size_in s) e []), append-nil (warned (map_of s) e))
 
   module _ (i : ℕ) (hi : i < length s) (ks : List Key) where
     pub own_fits : size_at_place s i ≤ entered (map_of s)
     own_fits = omega (arith, rows_fit s (path_at s i) (begun ks 0), (own_row i hi ks).0)
 
-    pub part_start : (w w' : List Warned) (g : Graph) → g ≡ add_self (size_at_place s i) default → w' ≡ w ++ warned_at s i → MakesPart s (path_at s i) (begun ks 0) w w' g
+    pub part_start : (w w' : List Warned) (g : Graph) → g ≡ add_self (size_at_place s i) default →
+        w' ≡ w ++ warned_at s i → MakesPart s (path_at s i) (begun ks 0) w w' g
     part_start w w' g is written = record {
       warned_are = written ∙ ap (λ (l : List Warned). w ++ l) (sym (own_row i hi ks).1);
       graph_is = graph_is;
-      total_is = ap total is ∙ omega (arith, total-add_at default ([], size_at_place s i), total-default, (own_row i hi ks).0);
+      total_is = ap total is ∙ omega
+          (arith, total-add_at default ([], size_at_place s i), total-default, (own_row i hi ks).0);
     }
       where
-        sizes : (q : Path) → get g q ≡ cond (is_same_path q []) (Some (size_at default [] + size_at_place s i)) (get default q)
-        sizes q = ap (λ (x : Graph). get x q) is ∙ get-insert path_total default [] (size_at default [] + size_at_place s i) q
+        sizes : (q : Path) → get g q ≡ cond (is_same_path q []) (Some (size_at default [] + size_at_place s i))
+            (get default q)
+        sizes q = ap (λ (x : Graph). get x q) is ∙ get-insert path_total default []
+            (size_at default [] + size_at_place s i) q
 
         graph_is : (q : Path) → get g q ≡ cond (begun ks 0 q) (get (graph (map_of s)) (path_at s i ++ q)) None
         graph_is [] =
             let nothing : size_at default [] ≡ 0 = ap (λ (o : Option ℕ). unwrap_or o 0) (get-default []) in
-            sizes [] ∙ (ap Some (omega arith) ∙ sym (ap (get (graph (map_of s))) (append-nil (path_at s i)) ∙ graph_hit s ok i hi))
+            sizes [] ∙ (ap Some (omega arith) ∙ sym (ap (get (graph (map_of s))) (append-nil (path_at s i))
+            ∙ graph_hit s ok i hi))
         graph_is (k ∷ r) = sizes (k ∷ r) ∙ get-default (k ∷ r)
 
     -- one child more
@@ -265,13 +307,16 @@ module _ (s : Listed) (ok : IsListing s) where
       next = rows_behind s (p ++ k ∷ []) (λ r. true)
 
       more : rows_behind s p (begun ks (suc j)) ≡ before ++ next
-      more = kept_both _ _ _ (behind_more p ks j) (passed_before ks rise j hj p) (entries (map_of s)) (entries_sorted (map_of s))
+      more = kept_both _ _ _ (behind_more p ks j) (passed_before ks rise j hj p) (entries (map_of s))
+          (entries_sorted (map_of s))
 
-      pub part_more : (c : ℕ) → path_at s c ≡ p ++ k ∷ [] → (w w' w'' : List Warned) (g h d : Graph) → MakesPart s p (begun ks j) w w' g → MakesGraph s c w' w'' d → h ≡ sum_of g (under k d)
+      pub part_more : (c : ℕ) → path_at s c ≡ p ++ k ∷ [] → (w w' w'' : List Warned) (g h d : Graph) →
+          MakesPart s p (begun ks j) w w' g → MakesGraph s c w' w'' d → h ≡ sum_of g (under k d)
           → MakesPart s p (begun ks (suc j)) w w'' h
       part_more c there w w' w'' g h d part made is = record {
         warned_are = child.warned_are ∙ (ap (λ (l : List Warned). l ++ flat_map f next) part.warned_are
-            ∙ (append_assoc w (flat_map f before) (flat_map f next) ∙ ap (λ (l : List Warned). w ++ l) (sym (ap (flat_map f) more ∙ flat_map-append f before next))));
+            ∙ (append_assoc w (flat_map f before) (flat_map f next)
+            ∙ ap (λ (l : List Warned). w ++ l) (sym (ap (flat_map f) more ∙ flat_map-append f before next))));
         graph_is = λ q. ap (λ (x : Graph). get x q) is ∙ (get-sum_of g (under k d) q ∙ by q);
         total_is = ap total is ∙ omega (arith, total-sum_of g (under k d), total-under k d, part.total_is, child.total_is, ap (sum_by (size_in s)) more, sum_by-append (size_in s) before next);
       }
@@ -279,30 +324,38 @@ module _ (s : Listed) (ok : IsListing s) where
           child : MakesPart s (p ++ k ∷ []) (λ r. true) w' w'' d
           child = subst (λ (q : Path). MakesPart s q (λ r. true) w' w'' d) there made
 
-          by : (q : Path) → sizes_together (get g q) (get (under k d) q) ≡ cond (begun ks (suc j) q) (get (graph (map_of s)) (p ++ q)) None
+          by : (q : Path) → sizes_together (get g q) (get (under k d) q)
+              ≡ cond (begun ks (suc j) q) (get (graph (map_of s)) (p ++ q)) None
           by [] =
               let own = part.graph_is [] ∙ (ap (get (graph (map_of s))) (append-nil p) ∙ graph_hit s ok i hi) in
-              (λ x. sizes_together (own x) (get-under-root k d x)) ∙ (ap Some (omega arith) ∙ (sym own ∙ part.graph_is []))
+              (λ x. sizes_together (own x) (get-under-root k d x))
+              ∙ (ap Some (omega arith) ∙ (sym own ∙ part.graph_is []))
           by (l ∷ r) =
               (λ x. sizes_together (part.graph_is (l ∷ r) x) (get-under k d l r x))
               ∙ one_of (among ks j l) (same_key l k) _ _ (λ e.
               let same = same_key_is l k e in (
-                false_from_ne_true (among ks j l) (λ earlier. key_not_before l k same (among_before ks rise j j l hj (omega arith) earlier)),
-                child.graph_is r ∙ ap (get (graph (map_of s))) (append_assoc p (k ∷ []) r ∙ ap (λ (x : Key). p ++ x ∷ r) (sym same)),
+                false_from_ne_true (among ks j l) (λ earlier. key_not_before l k same
+                    (among_before ks rise j j l hj (omega arith) earlier)),
+                child.graph_is r ∙ ap (get (graph (map_of s)))
+                    (append_assoc p (k ∷ []) r ∙ ap (λ (x : Key). p ++ x ∷ r) (sym same)),
               ))
 
 -- the next key comes after those of the graph so far
-pub comes_last : {s : Listed} {p : Path} {w w' : List Warned} {g : Graph} (ks : List Key) → KeysRise ks → (j : ℕ) → j < length ks → MakesPart s p (begun ks j) w w' g → ComesLast g (key_in ks j)
+pub comes_last : {s : Listed} {p : Path} {w w' : List Warned} {g : Graph} (ks : List Key) → KeysRise ks → (j : ℕ) →
+    j < length ks → MakesPart s p (begun ks j) w w' g → ComesLast g (key_in ks j)
 comes_last {s} {p} ks rise j hj part l q there = elim (cases_Bool (among ks j l)) [
   | inl e ↦ among_before ks rise j j l hj (omega arith) e
-  | inr e ↦ absurd (true≢false (sym there ∙ ap is_some (part.graph_is (l ∷ q) ∙ ap (λ (b : Bool). cond b (get (graph (map_of s)) (p ++ l ∷ q)) None) e)))
+  | inr e ↦ absurd (true≢false (sym there ∙ ap is_some
+      (part.graph_is (l ∷ q) ∙ ap (λ (b : Bool). cond b (get (graph (map_of s)) (p ++ l ∷ q)) None) e)))
 ]
 
 -- ---- at the nodes
 module _ (ns : List Shape) (ok : IsArena ns) (i : ℕ) (hi : i < length ns) where
   -- after the last child, nothing is left
-  passed_all : {X : Type 0} (f : Path → Option X) → ((q : Path) → ((a : ℕ) → a < length (sums ns) → path_at (sums ns) a ≢ q) → f q ≡ None) → (r : Path)
-      → cond (begun (keys_at ns i) (length (keys_at ns i)) r) (f (path_at (sums ns) i ++ r)) None ≡ f (path_at (sums ns) i ++ r)
+  passed_all : {X : Type 0} (f : Path → Option X) →
+      ((q : Path) → ((a : ℕ) → a < length (sums ns) → path_at (sums ns) a ≢ q) → f q ≡ None) → (r : Path)
+      → cond (begun (keys_at ns i) (length (keys_at ns i)) r) (f (path_at (sums ns) i ++ r)) None
+      ≡ f (path_at (sums ns) i ++ r)
   passed_all f none [] = refl
   passed_all f none (k ∷ r) = elim (cases_Bool (among (keys_at ns i) (length (keys_at ns i)) k)) [
     | inl e ↦ rw e refl
@@ -310,10 +363,13 @@ module _ (ns : List Shape) (ok : IsArena ns) (i : ℕ) (hi : i < length ns) wher
         true≢false (sym (among_at (keys_at ns i) way.0 _ k way.1 way.2) ∙ e))))
   ]
 
-  part_all : (w w' : List Warned) (g : Graph) → MakesPart (sums ns) (path_at (sums ns) i) (begun (keys_at ns i) (length (keys_at ns i))) w w' g → MakesGraph (sums ns) i w w' g
+  part_all : (w w' : List Warned) (g : Graph) →
+      MakesPart (sums ns) (path_at (sums ns) i) (begun (keys_at ns i) (length (keys_at ns i))) w w' g →
+      MakesGraph (sums ns) i w w' g
   part_all w w' g part =
       let m = map_of (sums ns) in
-      let same = rows_same m (path_at (sums ns) i) (begun (keys_at ns i) (length (keys_at ns i))) (λ r. true) (passed_all (get m) (λ q other. get_none (sums ns) q (λ a pos. other a))) in
+      let same = rows_same m (path_at (sums ns) i) (begun (keys_at ns i) (length (keys_at ns i))) (λ r. true)
+      (passed_all (get m) (λ q other. get_none (sums ns) q (λ a pos. other a))) in
       record {
         warned_are = part.warned_are ∙ ap (λ (rs : List (Path × Node)). w ++ flat_map (warned m) rs) same;
         graph_is = λ q. part.graph_is q ∙ passed_all (get (graph m)) (graph_none (sums ns) (listing ns ok)) q;
@@ -323,27 +379,34 @@ module _ (ns : List Shape) (ok : IsArena ns) (i : ℕ) (hi : i < length ns) wher
 module _ (items : List nodes.Node) (ok : IsTree items) {v : Listed} (view : sums_of items ≡ v) (p : ℕ) where
   -- a child of a node, in the sums, and its key
   pub child_read : (xs : List ℕ) → children_at (map shape items) p ≡ xs → (j : ℕ) → j < length xs
-      → let i = get_or xs j 0 in (p < i) × (i < length v) × (path_at v i ≡ path_at v p ++ key_in (keys_at (map shape items) p) j ∷ []) × ((d : nodes.Node) → (let m = get_or items i d in m.key ≡ key_in (keys_at (map shape items) p) j))
+      → let i = get_or xs j 0 in (p < i) × (i < length v)
+      × (path_at v i ≡ path_at v p ++ key_in (keys_at (map shape items) p) j ∷ [])
+      × ((d : nodes.Node) → (let m = get_or items i d in m.key ≡ key_in (keys_at (map shape items) p) j))
   child_read xs is j hj =
       let ns = map shape items in
       let c = child_seen items ok p xs is j hj in
       let lt = ok.arena.parents _ c.0.not_root c.0.in_range in
-      let path = step ns ok.arena _ c.0.not_root c.0.in_range ∙ (λ k. path_at (sums ns) (c.0.parent k) ++ sym c.2 k ∷ []) in
+      let path = step ns ok.arena _ c.0.not_root c.0.in_range
+      ∙ (λ k. path_at (sums ns) (c.0.parent k) ++ sym c.2 k ∷ []) in
       let same = ap length view in
       let key = key_in (keys_at ns p) j in
       (omega (arith, c.0.parent), omega (arith, c.1, length_nodes items), subst (λ (s : Listed). path_at s (get_or xs j 0) ≡ path_at s p ++ key ∷ []) view path, λ d. sym (c.2 ∙ c.3 d))
 
-  pub made_all : p < length v → (w w' : List Warned) (g : Graph) (j : ℕ) → j ≡ length (keys_at (map shape items) p) → MakesPart v (path_at v p) (begun (keys_at (map shape items) p) j) w w' g
+  pub made_all : p < length v → (w w' : List Warned) (g : Graph) (j : ℕ) → j ≡ length (keys_at (map shape items) p) →
+      MakesPart v (path_at v p) (begun (keys_at (map shape items) p) j) w w' g
       → MakesGraph v p w w' g
   made_all hp w w' g j whole part =
       let ks = keys_at (map shape items) p in
-      subst (λ (s : Listed). MakesGraph s p w w' g) view (part_all (map shape items) ok.arena p (in_shapes items p view hp) w w' g
-      (subst (λ (e : Listed × ℕ). MakesPart e.0 (path_at e.0 p) (begun ks e.1) w w' g) (λ x. (sym view x, whole x)) part))
+      subst (λ (s : Listed). MakesGraph s p w w' g) view
+      (part_all (map shape items) ok.arena p (in_shapes items p view hp) w w' g
+      (subst (λ (e : Listed × ℕ). MakesPart e.0 (path_at e.0 p) (begun ks e.1) w w' g) (λ x. (sym view x, whole x))
+      part))
 
 -- ---- warnings
 -- the warning of place i, if it has one
 abbrev pub own_warning : Listed → ℕ → List Warned
-own_warning s i = let e = sum_at s i in record { path = e.path; self_size = e.bytes; children_size = below (map_of s) e.path } ∷ []
+own_warning s i = let e = sum_at s i in
+    record { path = e.path; self_size = e.bytes; children_size = below (map_of s) e.path } ∷ []
 
 -- If place i has no warning, its warnings add nothing to a list.
 pub none_warned : (s : Listed) (i : ℕ) (w : List Warned) → false ≡ is_short s i → w ≡ w ++ warned_at s i

@@ -1,6 +1,11 @@
 -- What a read of a node says of the arena and the sums: the bytes of its children are those one key below its path.
-use Rattle.std.proofs.Common.{◌≡◌, ◌≢◌, ℕ, zero, suc, ◌<◌, Bool, false, not, ◌&&◌, List, [], ◌∷◌, ◌++◌, length, get_or, sum_by, refl, sym, ap, ◌∙◌, arith, inl, inr, cond, ltb, lt-ltb, ◌+◌, ◌≤◌, ◌||◌, map, set, subst, length-set, get_or-set_same, get_or-set_other}
-use Rattle.allocative_collectors.proofs.Common.{Key, Path, key_cmp, path_cmp, is_same_path, Sum, root_sum, sum_at, path_at, map_of, Shape, no_shape, at, sums, key_at, parent_at, bytes_at, IsArena, is_one_below, is_root, below, leaf, IsChild, keys_at, children_at, key_in, shape, sums_of, IsTree, Listed}
+use Rattle.std.proofs.Common.{◌≡◌, ◌≢◌, ℕ, zero, suc, ◌<◌, Bool, false, not, ◌&&◌, List, [], ◌∷◌, ◌++◌, length, get_or}
+use Rattle.std.proofs.Common.{sum_by, refl, sym, ap, ◌∙◌, arith, inl, inr, cond, ltb, lt-ltb, ◌+◌, ◌≤◌, ◌||◌, map, set}
+use Rattle.std.proofs.Common.{subst, length-set, get_or-set_same, get_or-set_other}
+use Rattle.allocative_collectors.proofs.Common.{Key, Path, key_cmp, path_cmp, is_same_path, Sum, root_sum, sum_at}
+use Rattle.allocative_collectors.proofs.Common.{path_at, map_of, Shape, no_shape, at, sums, key_at, parent_at, bytes_at}
+use Rattle.allocative_collectors.proofs.Common.{IsArena, is_one_below, is_root, below, leaf, IsChild, keys_at}
+use Rattle.allocative_collectors.proofs.Common.{children_at, key_in, shape, sums_of, IsTree, Listed}
 use Rattle.std.specs.Ordering.{eq_by_cmp}
 use Rattle.std.proofs.lemmas.Cmp.{eq_by_cmp_equiv}
 use Rattle.std.proofs.Math.Bool.{and-false}
@@ -18,7 +23,9 @@ use Rattle.allocative_collectors.proofs.Raised.{raised, bytes_le_total}
 use Rattle.allocative_collectors.proofs.Grown.{with_children, grown}
 
 -- two sums are equal if their terms are
-pub same_sum : {X Y : Type 0} (f : X → ℕ) (g : Y → ℕ) (d : X) (e : Y) (xs : List X) (ys : List Y) → length xs ≡ length ys → ((i : ℕ) → i < length xs → f (get_or xs i d) ≡ g (get_or ys i e)) → sum_by f xs ≡ sum_by g ys
+pub same_sum : {X Y : Type 0} (f : X → ℕ) (g : Y → ℕ) (d : X) (e : Y) (xs : List X) (ys : List Y) →
+    length xs ≡ length ys → ((i : ℕ) → i < length xs → f (get_or xs i d) ≡ g (get_or ys i e)) →
+    sum_by f xs ≡ sum_by g ys
 same_sum f g d e [] [] l same = refl
 same_sum f g d e [] (y ∷ ys) l same = absurd (omega arith)
 same_sum f g d e (x ∷ xs) [] l same = absurd (omega arith)
@@ -32,8 +39,10 @@ step_push : (p q : Path) (k : Key) → is_one_below p (q ++ k ∷ []) ≡ is_sam
 step_push [] [] k = refl
 step_push [] (l ∷ []) k = refl
 step_push [] (l ∷ m ∷ q) k = refl
-step_push (j ∷ p) [] k = ap (λ (b : Bool). eq_by_cmp key_cmp j k && b) (not_below_root p) ∙ and-false (eq_by_cmp key_cmp j k)
-step_push (j ∷ p) (l ∷ q) k = (λ i. (eq_by_cmp_equiv key_total).symm j l i && step_push p q k i) ∙ tied (key_cmp l j) (path_cmp q p)
+step_push (j ∷ p) [] k = ap (λ (b : Bool). eq_by_cmp key_cmp j k && b) (not_below_root p)
+    ∙ and-false (eq_by_cmp key_cmp j k)
+step_push (j ∷ p) (l ∷ q) k = (λ i. (eq_by_cmp_equiv key_total).symm j l i && step_push p q k i)
+    ∙ tied (key_cmp l j) (path_cmp q p)
 
 -- The sums of an arena are a listing: the root comes first and has no bytes, and all paths differ.
 pub listing : (ns : List Shape) → IsArena ns → IsListing (sums ns)
@@ -45,7 +54,8 @@ listing ns ok = record {
 }
 
 -- If no item of a list has a size, the sizes add up to 0.
-all_zero : {X : Type 0} (f : X → ℕ) (d : X) (ys : List X) → ((i : ℕ) → i < length ys → f (get_or ys i d) ≡ 0) → sum_by f ys ≡ 0
+all_zero : {X : Type 0} (f : X → ℕ) (d : X) (ys : List X) → ((i : ℕ) → i < length ys → f (get_or ys i d) ≡ 0) →
+    sum_by f ys ≡ 0
 all_zero f d [] none = refl
 all_zero f d (y ∷ ys) none =
     let first : f y ≡ 0 = none 0 (omega arith) in
@@ -55,23 +65,31 @@ abbrev Apart : List ℕ → Type 0
 Apart xs = (a b : ℕ) → a < b → b < length xs → get_or xs a 0 ≢ get_or xs b 0
 
 -- If the numbers differ, and only the items at them have sizes, these items have the whole sum.
-sum_at_numbers : {X : Type 0} (f : X → ℕ) (d : X) → f d ≡ 0 → (ys : List X) (xs : List ℕ) → ((a : ℕ) → a < length xs → get_or xs a 0 < length ys) → Apart xs
-    → ((i : ℕ) → i < length ys → ((a : ℕ) → a < length xs → get_or xs a 0 ≢ i) → f (get_or ys i d) ≡ 0) → sum_by (λ i. f (get_or ys i d)) xs ≡ sum_by f ys
-sum_at_numbers f d none ys [] within apart others = sym (all_zero f d ys (λ i h. others i h (λ a lt. absurd (omega arith))))
+sum_at_numbers : {X : Type 0} (f : X → ℕ) (d : X) → f d ≡ 0 → (ys : List X) (xs : List ℕ) →
+    ((a : ℕ) → a < length xs → get_or xs a 0 < length ys) → Apart xs
+    → ((i : ℕ) → i < length ys → ((a : ℕ) → a < length xs → get_or xs a 0 ≢ i) → f (get_or ys i d) ≡ 0) →
+    sum_by (λ i. f (get_or ys i d)) xs ≡ sum_by f ys
+sum_at_numbers f d none ys [] within apart others =
+    sym (all_zero f d ys (λ i h. others i h (λ a lt. absurd (omega arith))))
 sum_at_numbers f d none ys (x ∷ xs) within apart others =
     let hx : x < length ys = within 0 (omega arith) in
     let rest = set ys x d in
     let len = length-set ys x d in
-    let other : (a : ℕ) → a < length xs → get_or xs a 0 ≢ x = λ a h e. apart 0 (suc a) (omega arith) (omega arith) (sym e) in
-    let same = same_sum (λ i. f (get_or ys i d)) (λ i. f (get_or rest i d)) 0 0 xs xs refl (λ a h. ap f (sym (get_or-set_other ys x (get_or xs a 0) d d (other a h)))) in
-    let more = sum_at_numbers f d none rest xs (λ a h. let lt : get_or xs a 0 < length ys = within (suc a) (omega arith) in omega arith) (λ a b lt h. apart (suc a) (suc b) (omega arith) (omega arith))
+    let other : (a : ℕ) → a < length xs → get_or xs a 0 ≢ x =
+    λ a h e. apart 0 (suc a) (omega arith) (omega arith) (sym e) in
+    let same = same_sum (λ i. f (get_or ys i d)) (λ i. f (get_or rest i d)) 0 0 xs xs refl
+    (λ a h. ap f (sym (get_or-set_other ys x (get_or xs a 0) d d (other a h)))) in
+    let more = sum_at_numbers f d none rest xs
+    (λ a h. let lt : get_or xs a 0 < length ys = within (suc a) (omega arith) in omega arith)
+    (λ a b lt h. apart (suc a) (suc b) (omega arith) (omega arith))
     (λ i h absent. elim (cases_eq i x) [
       | inl e ↦ ap f (ap (λ (q : ℕ). get_or rest q d) e ∙ get_or-set_same ys x d d hx) ∙ none
       | inr ne ↦ ap f (get_or-set_other ys x i d d ne) ∙ others i (omega arith) (missing x xs i ne absent)
     ]) in
     omega (arith, sum_by-cons (λ i. f (get_or ys i d)) x xs, sum_by-set f ys x d d hx, none, same, more)
   where
-    missing : (x : ℕ) (xs : List ℕ) (i : ℕ) → i ≢ x → ((a : ℕ) → a < length xs → get_or xs a 0 ≢ i) → (a : ℕ) → a < length (x ∷ xs) → get_or (x ∷ xs) a 0 ≢ i
+    missing : (x : ℕ) (xs : List ℕ) (i : ℕ) → i ≢ x → ((a : ℕ) → a < length xs → get_or xs a 0 ≢ i) → (a : ℕ) →
+        a < length (x ∷ xs) → get_or (x ∷ xs) a 0 ≢ i
     missing x xs i ne absent zero h e = ne (sym e)
     missing x xs i ne absent (suc a) h e = absent a (omega arith) e
 
@@ -81,16 +99,21 @@ module _ (ns : List Shape) (ok : IsArena ns) (i : ℕ) (hi : i < length ns) wher
   part e = cond (is_one_below (path_at (sums ns) i) e.path) e.bytes 0
 
   -- a node other than the root has a part if its parent is i
-  part_is : (j : ℕ) → 0 < j → j < length ns → part (sum_at (sums ns) j) ≡ cond (is_same_path (path_at (sums ns) (parent_at ns j)) (path_at (sums ns) i)) (bytes_at ns j) 0
+  part_is : (j : ℕ) → 0 < j → j < length ns →
+      part (sum_at (sums ns) j) ≡ cond (is_same_path (path_at (sums ns) (parent_at ns j)) (path_at (sums ns) i))
+      (bytes_at ns j) 0
   part_is j pos h =
       (λ k. cond (is_one_below (path_at (sums ns) i) (step ns ok j pos h k)) ((figures-grow [] ns j).0 k) 0)
-      ∙ ap (λ (b : Bool). cond b (bytes_at ns j) 0) (step_push (path_at (sums ns) i) (path_at (sums ns) (parent_at ns j)) (key_at ns j))
+      ∙ ap (λ (b : Bool). cond b (bytes_at ns j) 0)
+      (step_push (path_at (sums ns) i) (path_at (sums ns) (parent_at ns j)) (key_at ns j))
 
   part_child : (j : ℕ) → IsChild ns i j → part (sum_at (sums ns) j) ≡ bytes_at ns j
-  part_child j c = part_is j c.not_root c.in_range ∙ cond-true _ _ _ (same_path-same _ _ (ap (path_at (sums ns)) c.parent))
+  part_child j c = part_is j c.not_root c.in_range
+      ∙ cond-true _ _ _ (same_path-same _ _ (ap (path_at (sums ns)) c.parent))
 
   part_other : (j : ℕ) → j < length ns → (IsChild ns i j → ⊥) → part (sum_at (sums ns) j) ≡ 0
-  part_other zero h not = ap (λ (b : Bool). cond b (sum_at (sums ns) 0).bytes 0) (ap (is_one_below (path_at (sums ns) i)) (root_at ns) ∙ not_below_root (path_at (sums ns) i))
+  part_other zero h not = ap (λ (b : Bool). cond b (sum_at (sums ns) 0).bytes 0)
+      (ap (is_one_below (path_at (sums ns) i)) (root_at ns) ∙ not_below_root (path_at (sums ns) i))
   part_other (suc j) h not =
       part_is (suc j) (omega arith) h
       ∙ cond-false _ _ _ (same_path-apart _ _ (λ s. not (record { not_root = omega arith; in_range = h; parent = distinct ns ok _ i (omega (arith, ok.parents (suc j) (omega arith) h)) hi s })))
@@ -98,7 +121,9 @@ module _ (ns : List Shape) (ok : IsArena ns) (i : ℕ) (hi : i < length ns) wher
   apart : Apart (children_at ns i)
   apart a b lt h e =
       let len = length-map (children_at ns i) (key_at ns) in
-      key_not_before _ _ (get_or-map (key_at ns) (children_at ns i) a 0 [] (omega arith) ∙ (ap (key_at ns) e ∙ sym (get_or-map (key_at ns) (children_at ns i) b 0 [] h))) (ok.rise i a b lt (omega arith))
+      key_not_before _ _ (get_or-map (key_at ns) (children_at ns i) a 0 [] (omega arith)
+      ∙ (ap (key_at ns) e ∙ sym (get_or-map (key_at ns) (children_at ns i) b 0 [] h)))
+      (ok.rise i a b lt (omega arith))
 
   pub below_is : sum_by (bytes_at ns) (children_at ns i) ≡ below (map_of (sums ns)) (path_at (sums ns) i)
   below_is =
@@ -106,7 +131,8 @@ module _ (ns : List Shape) (ok : IsArena ns) (i : ℕ) (hi : i < length ns) wher
       let child : (a : ℕ) → a < length xs → IsChild ns i (get_or xs a 0) = λ a h. ok.children i a 0 h in
       same_sum (bytes_at ns) (λ j. part (sum_at (sums ns) j)) 0 0 xs xs refl (λ a h. sym (part_child _ (child a h)))
       ∙ (sum_at_numbers part root_sum (ap (λ (b : Bool). cond b 0 0) (not_below_root (path_at (sums ns) i))) (sums ns) xs (λ a h. omega (arith, length_sums ns, (child a h).in_range)) apart
-      (λ j h absent. part_other j (omega (arith, length_sums ns)) (λ c. let s = ok.listed i j c in absent s.place s.in_range s.is))
+      (λ j h absent. part_other j (omega (arith, length_sums ns))
+      (λ c. let s = ok.listed i j c in absent s.place s.in_range s.is))
       ∙ below_listed (sums ns) (listing ns ok) (path_at (sums ns) i))
 
 -- A path with one more key is not the root.
@@ -117,7 +143,8 @@ is_root-push (l ∷ p) k = refl
 -- the root alone has the empty path
 pub has_key : (ns : List Shape) → IsArena ns → (i : ℕ) → i < length ns → not (is_root (path_at (sums ns) i)) ≡ ltb 0 i
 has_key ns ok zero h = ap (λ (p : Path). not (is_root p)) (root_at ns)
-has_key ns ok (suc j) h = ap (λ (p : Path). not (is_root p)) (step ns ok (suc j) (omega arith) h) ∙ (ap not (is_root-push _ (key_at ns (suc j))) ∙ sym (lt-ltb 0 (suc j) (omega arith)))
+has_key ns ok (suc j) h = ap (λ (p : Path). not (is_root p)) (step ns ok (suc j) (omega arith) h)
+    ∙ (ap not (is_root-push _ (key_at ns (suc j))) ∙ sym (lt-ltb 0 (suc j) (omega arith)))
 
 module _ (items : List Node) where
   pub length_nodes : length (sums_of items) ≡ length items
@@ -133,25 +160,35 @@ module _ (items : List Node) where
   pub shape_read : (i : ℕ) (n : Node) → i < length items → n ≡ get_or items i n → at (map shape items) i ≡ shape n
   shape_read i n h read = get_or-map shape items i n no_shape h ∙ ap shape (sym read)
 
-  pub children_read : (p : ℕ) (n : Node) → p < length items → n ≡ get_or items p n → children_at (map shape items) p ≡ numbers n.children
+  pub children_read : (p : ℕ) (n : Node) → p < length items → n ≡ get_or items p n →
+      children_at (map shape items) p ≡ numbers n.children
   children_read p n h read = ap (λ (s : Shape). s.children) (shape_read p n h read)
 
   -- the child at place j, and its key
-  pub child_seen : IsTree items → (p : ℕ) (xs : List ℕ) → children_at (map shape items) p ≡ xs → (j : ℕ) → j < length xs → let i = get_or xs j 0 in (IsChild (map shape items) p i) × (i < length items) × (key_in (keys_at (map shape items) p) j ≡ key_at (map shape items) i) × ((d : Node) → (let m = get_or items i d in key_at (map shape items) i ≡ m.key))
+  pub child_seen : IsTree items → (p : ℕ) (xs : List ℕ) → children_at (map shape items) p ≡ xs → (j : ℕ) →
+      j < length xs → let i = get_or xs j 0 in (IsChild (map shape items) p i) × (i < length items)
+      × (key_in (keys_at (map shape items) p) j ≡ key_at (map shape items) i)
+      × ((d : Node) → (let m = get_or items i d in key_at (map shape items) i ≡ m.key))
   child_seen ok p xs is j hj =
       let ns = map shape items in
       let inside : j < length (children_at ns p) = rw is hj in
       let child = ok.arena.children p j 0 inside in
-      let within : get_or (children_at ns p) j 0 < length items = omega (arith, child.in_range, length-map items shape) in
-      subst (λ (l : List ℕ). let i = get_or l j 0 in (IsChild ns p i) × (i < length items) × (key_in (keys_at ns p) j ≡ key_at ns i) × ((d : Node) → (let m = get_or items i d in key_at ns i ≡ m.key))) is
+      let within : get_or (children_at ns p) j 0 < length items =
+      omega (arith, child.in_range, length-map items shape) in
+      subst (λ (l : List ℕ). let i = get_or l j 0 in
+      (IsChild ns p i) × (i < length items) × (key_in (keys_at ns p) j ≡ key_at ns i)
+      × ((d : Node) → (let m = get_or items i d in key_at ns i ≡ m.key))) is
       (child, within, get_or-map (key_at ns) (children_at ns p) j 0 [] inside, λ d. ap (λ (s : Shape). s.key) (get_or-map shape items (get_or (children_at ns p) j 0) d no_shape within))
 
   -- a node replaced by one of the same shape
-  same_shapes : (i : ℕ) (n m : Node) → i < length items → n ≡ get_or items i n → shape m ≡ shape n → map shape (set items i m) ≡ map shape items
+  same_shapes : (i : ℕ) (n m : Node) → i < length items → n ≡ get_or items i n → shape m ≡ shape n →
+      map shape (set items i m) ≡ map shape items
   same_shapes i n m h read same =
-      map-set shape items i m ∙ (ap (set (map shape items) i) (same ∙ sym (shape_read i n h read)) ∙ set-get_or (map shape items) i no_shape)
+      map-set shape items i m ∙ (ap (set (map shape items) i) (same ∙ sym (shape_read i n h read))
+      ∙ set-get_or (map shape items) i no_shape)
 
-  pub same_view : {v : Listed} (i : ℕ) (n m : Node) → i < length items → n ≡ get_or items i n → shape m ≡ shape n → sums_of items ≡ v → sums_of (set items i m) ≡ v
+  pub same_view : {v : Listed} (i : ℕ) (n m : Node) → i < length items → n ≡ get_or items i n → shape m ≡ shape n →
+      sums_of items ≡ v → sums_of (set items i m) ≡ v
   same_view i n m h read same view = ap sums (same_shapes i n m h read same) ∙ view
 
   -- a tree whose nodes have the shapes of an arena
@@ -163,45 +200,59 @@ pub listing_of : (items : List Node) → IsTree items → {v : Listed} → sums_
 listing_of items ok view = subst IsListing view (listing (map shape items) ok.arena)
 
 -- If a node is replaced by one of the same shape, the nodes are still a tree.
-pub same_tree : (items : List Node) (i : ℕ) (n m : Node) → i < length items → n ≡ get_or items i n → shape m ≡ shape n → IsTree items → IsTree (set items i m)
+pub same_tree : (items : List Node) (i : ℕ) (n m : Node) → i < length items → n ≡ get_or items i n → shape m ≡ shape n →
+    IsTree items → IsTree (set items i m)
 same_tree items i n m h read same ok = tree_of (set items i m) (same_shapes items i n m h read same) ok.arena
 
 abbrev pub raise_node : ℕ → Bool → Node → Node
 raise_node size b n = record n { bytes = n.bytes + size; is_unique = b }
 
 -- an entry at the node i, which was read as n
-module _ (items : List Node) {v : Listed} (view : sums_of items ≡ v) (i : ℕ) (h : i < length v) (n : Node) (read : n ≡ get_or items i n) where
+module _ (items : List Node) {v : Listed} (view : sums_of items ≡ v) (i : ℕ) (h : i < length v) (n : Node)
+    (read : n ≡ get_or items i n) where
   is : at (map shape items) i ≡ shape n
   is = shape_read items i n (in_nodes items i view h) read
 
   pub bytes_fit : n.bytes ≤ total v
-  bytes_fit = let same = ap (λ (s : Shape). s.bytes) is in omega (arith, bytes_le_total (map shape items) i (in_shapes items i view h), ap total view)
+  bytes_fit = let same = ap (λ (s : Shape). s.bytes) is in
+      omega (arith, bytes_le_total (map shape items) i (in_shapes items i view h), ap total view)
 
   -- the write, seen as shapes
-  pub raised_nodes : (size : ℕ) (u b : Bool) → b ≡ (n.is_unique || u) → map shape (set items i (raise_node size b n)) ≡ raised (map shape items) i size u
+  pub raised_nodes : (size : ℕ) (u b : Bool) → b ≡ (n.is_unique || u) →
+      map shape (set items i (raise_node size b n)) ≡ raised (map shape items) i size u
   raised_nodes size u b mark =
       let one : shape (raise_node size b n) ≡ raise_shape size u (at (map shape items) i) = rw (mark, is) refl in
       map-set shape items i (raise_node size b n) ∙ ap (set (map shape items) i) one
 
 -- the two writes of a new node, seen as shapes
-pub grown_nodes : (items : List Node) (p : ℕ) → p < length items → (n : Node) → n ≡ get_or items p n → (k : Key) (g : ℕ) (m fresh : Node) → shape fresh ≡ leaf p k
-    → shape m ≡ with_children (insert (numbers n.children) g (length items)) (shape n) → map shape (set items p m ++ fresh ∷ []) ≡ grown (map shape items) p k g
+pub grown_nodes : (items : List Node) (p : ℕ) → p < length items → (n : Node) → n ≡ get_or items p n →
+    (k : Key) (g : ℕ) (m fresh : Node) → shape fresh ≡ leaf p k
+    → shape m ≡ with_children (insert (numbers n.children) g (length items)) (shape n) →
+    map shape (set items p m ++ fresh ∷ []) ≡ grown (map shape items) p k g
 grown_nodes items p hp n read k g m fresh fresh_is m_is =
     let is = shape_read items p n hp read in
-    let same = m_is ∙ (λ j. (let s = sym is j in with_children (insert s.children g (sym (length-map items shape) j)) s)) in
-    map_push shape (set items p m) fresh ∙ (λ j. (map-set shape items p m ∙ ap (set (map shape items) p) same) j ++ fresh_is j ∷ [])
+    let same = m_is ∙ (λ j. (let s = sym is j in
+    with_children (insert s.children g (sym (length-map items shape) j)) s)) in
+    map_push shape (set items p m) fresh ∙ (λ j. (map-set shape items p m ∙ ap (set (map shape items) p) same) j
+    ++ fresh_is j ∷ [])
 
 -- what the sums say of a node that was read
-pub figures_read : (items : List Node) (ok : IsTree items) (v : Listed) (view : sums_of items ≡ v) (i : ℕ) (h : i < length v) (n : Node) (read : n ≡ get_or items i n) → (let e = sum_at v i in (e.bytes ≡ n.bytes) × (e.is_unique ≡ n.is_unique) × (not (is_root e.path) ≡ ltb 0 i))
+pub figures_read : (items : List Node) (ok : IsTree items) (v : Listed) (view : sums_of items ≡ v) (i : ℕ)
+    (h : i < length v) (n : Node) (read : n ≡ get_or items i n) →
+    (let e = sum_at v i in (e.bytes ≡ n.bytes) × (e.is_unique ≡ n.is_unique) × (not (is_root e.path) ≡ ltb 0 i))
 figures_read items ok v view i h n read =
     let ns = map shape items in
     let is = shape_read items i n (in_nodes items i view h) read in
-    subst (λ (s : Listed). (let e = sum_at s i in (e.bytes ≡ n.bytes) × (e.is_unique ≡ n.is_unique) × (not (is_root e.path) ≡ ltb 0 i))) view (
+    subst (λ (s : Listed). (let e = sum_at s i in
+    (e.bytes ≡ n.bytes) × (e.is_unique ≡ n.is_unique) × (not (is_root e.path) ≡ ltb 0 i))) view (
       (figures-grow [] ns i).0 ∙ ap (λ (s : Shape). s.bytes) is,
       (figures-grow [] ns i).1 ∙ ap (λ (s : Shape). s.is_unique) is,
       has_key ns ok.arena i (in_shapes items i view h),
     )
 
 -- the bytes of the children of a node, read one by one
-pub below_read : (items : List Node) (ok : IsTree items) {v : Listed} (view : sums_of items ≡ v) (i : ℕ) → i < length v → sum_by (bytes_at (map shape items)) (children_at (map shape items) i) ≡ below (map_of v) (path_at v i)
-below_read items ok view i h = below_is (map shape items) ok.arena i (in_shapes items i view h) ∙ ap (λ (s : Listed). below (map_of s) (path_at s i)) view
+pub below_read : (items : List Node) (ok : IsTree items) {v : Listed} (view : sums_of items ≡ v) (i : ℕ) →
+    i < length v → sum_by (bytes_at (map shape items)) (children_at (map shape items) i)
+    ≡ below (map_of v) (path_at v i)
+below_read items ok view i h = below_is (map shape items) ok.arena i (in_shapes items i view h)
+    ∙ ap (λ (s : Listed). below (map_of s) (path_at s i)) view

@@ -1,6 +1,8 @@
 -- An arena after one more entry at a node.
-use Rattle.std.proofs.Common.{◌≡◌, ℕ, ◌<◌, ◌≤◌, Bool, List, [], length, get_or, set, refl, sym, ap, subst, ◌∙◌, arith, get_or-set_other, length-set}
-use Rattle.allocative_collectors.proofs.Common.{key_at, put, path_at, Shape, no_shape, at, sums, StandsIn, children_at, keys_of, keys_at, parent_at, bytes_at, KeysRise, IsChild, IsArena}
+use Rattle.std.proofs.Common.{◌≡◌, ℕ, ◌<◌, ◌≤◌, Bool, List, [], length, get_or, set, refl, sym, ap, subst, ◌∙◌, arith}
+use Rattle.std.proofs.Common.{get_or-set_other, length-set}
+use Rattle.allocative_collectors.proofs.Common.{key_at, put, path_at, Shape, no_shape, at, sums, StandsIn, children_at}
+use Rattle.allocative_collectors.proofs.Common.{keys_of, keys_at, parent_at, bytes_at, KeysRise, IsChild, IsArena}
 use Rattle.std.specs.List.{All}
 use Rattle.std.proofs.lemmas.List.Elements.{All-weaker}
 use Rattle.std.proofs.lemmas.List.Sums.{get_or-le-sum_by}
@@ -24,7 +26,8 @@ module _ (ns : List Shape) (ok : IsArena ns) (i : ℕ) (pos : 0 < i) (hi : i < l
   length_raised = length-set ns i (raise_shape n u (at ns i))
 
   -- what depends neither on the bytes nor on the mark is unchanged
-  as_before : {X : Type 0} (f : Shape → X) → ((m : Shape) → f (raise_shape n u m) ≡ f m) → (j : ℕ) → f (at new j) ≡ f (at ns j)
+  as_before : {X : Type 0} (f : Shape → X) → ((m : Shape) → f (raise_shape n u m) ≡ f m) → (j : ℕ) →
+      f (at new j) ≡ f (at ns j)
   as_before f same j = touched f ns i _ (same (at ns i)) j
 
   parent_before : (j : ℕ) → parent_at new j ≡ parent_at ns j
@@ -34,7 +37,9 @@ module _ (ns : List Shape) (ok : IsArena ns) (i : ℕ) (pos : 0 < i) (hi : i < l
   children_before = as_before (λ m. m.children) (λ m. refl)
 
   keys_before : (j : ℕ) → keys_at new j ≡ keys_at ns j
-  keys_before j = ap (keys_of new) (children_before j) ∙ map_same (key_at new) (key_at ns) (children_at ns j) (λ a h. as_before (λ m. m.key) (λ m. refl) (get_or (children_at ns j) a 0))
+  keys_before j = ap (keys_of new) (children_before j)
+      ∙ map_same (key_at new) (key_at ns) (children_at ns j)
+      (λ a h. as_before (λ m. m.key) (λ m. refl) (get_or (children_at ns j) a 0))
 
   pub arena_raised : IsArena (raised ns i n u)
   arena_raised = record {

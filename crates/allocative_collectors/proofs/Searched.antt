@@ -1,6 +1,8 @@
 -- What a comparison with one key says of the others, if keys rise, and what a binary search finds.
-use Rattle.std.proofs.Common.{◌≡◌, ℕ, zero, suc, true, refl, ◌+◌, ◌<◌, ◌≤◌, List, [], ◌∷◌, length, get_or, map, Result, Ok, Err, IfOk, IfErr, ap, subst₂, ◌∙◌, arith, inl, inr}
-use Rattle.allocative_collectors.proofs.Common.{Ordering, Less, Equal, Greater, is_lt, ordering_reverse, Key, key_cmp, key_in, KeysRise, IsKeyGap}
+use Rattle.std.proofs.Common.{◌≡◌, ℕ, zero, suc, true, refl, ◌+◌, ◌<◌, ◌≤◌, List, [], ◌∷◌, length, get_or, map, Result}
+use Rattle.std.proofs.Common.{Ok, Err, IfOk, IfErr, ap, subst₂, ◌∙◌, arith, inl, inr}
+use Rattle.allocative_collectors.proofs.Common.{Ordering, Less, Equal, Greater, is_lt, ordering_reverse, Key, key_cmp}
+use Rattle.allocative_collectors.proofs.Common.{key_in, KeysRise, IsKeyGap}
 use Rattle.std.specs.List.Sorted.{IsSearchInRange, IsBinarySearchResult, IsSortedBy}
 use Rattle.std.proofs.lemmas.Bool.{cases_eq}
 use Rattle.std.proofs.lemmas.List.{get_or-map, length-map}
@@ -14,18 +16,22 @@ less_from Equal e = cc
 less_from Greater e = cc
 
 module _ (ks : List Key) (rise : KeysRise ks) (k : Key) where
-  pub smaller_up_to : (m : ℕ) → m < length ks → key_cmp (key_in ks m) k ≡ Less → (j : ℕ) → j < m + 1 → key_cmp (key_in ks j) k ≡ Less
+  pub smaller_up_to : (m : ℕ) → m < length ks → key_cmp (key_in ks m) k ≡ Less → (j : ℕ) → j < m + 1 →
+      key_cmp (key_in ks j) k ≡ Less
   smaller_up_to m h less j lt = elim (cases_eq j m) [
     | inl e ↦ rw e less
     | inr ne ↦ key_total.trans (key_in ks j) (key_in ks m) k (rise j m (omega arith) h) less
   ]
 
-  pub greater_from : (m : ℕ) → key_cmp (key_in ks m) k ≡ Greater → (j : ℕ) → m ≤ j → j < length ks → key_cmp (key_in ks j) k ≡ Greater
+  pub greater_from : (m : ℕ) → key_cmp (key_in ks m) k ≡ Greater → (j : ℕ) → m ≤ j → j < length ks →
+      key_cmp (key_in ks j) k ≡ Greater
   greater_from m greater j le h = elim (cases_eq j m) [
     | inl e ↦ rw e greater
     | inr ne ↦
-        let before : key_cmp k (key_in ks m) ≡ Less = key_total.antisymm k (key_in ks m) ∙ ap ordering_reverse greater in
-        key_total.antisymm (key_in ks j) k ∙ ap ordering_reverse (key_total.trans k (key_in ks m) (key_in ks j) before (rise m j (omega arith) h))
+        let before : key_cmp k (key_in ks m) ≡ Less =
+        key_total.antisymm k (key_in ks m) ∙ ap ordering_reverse greater in
+        key_total.antisymm (key_in ks j) k ∙ ap ordering_reverse
+        (key_total.trans k (key_in ks m) (key_in ks j) before (rise m j (omega arith) h))
   ]
 
   -- all keys are smaller if the last one is
@@ -38,7 +44,8 @@ module _ (ks : List Key) (rise : KeysRise ks) (k : Key) where
 
 module _ {X : Type 0} (key : X → Key) where
   -- what holds of the key at a place
-  at_place : (P : Key → Type 0) (xs : List X) (i : ℕ) → i < length xs → ((d : X) → P (key (get_or xs i d))) → P (key_in (map key xs) i)
+  at_place : (P : Key → Type 0) (xs : List X) (i : ℕ) → i < length xs → ((d : X) → P (key (get_or xs i d))) →
+      P (key_in (map key xs) i)
   at_place P [] i h f = absurd (omega arith)
   at_place P (x ∷ xs) zero h f = f x
   at_place P (x ∷ xs) (suc i) h f = at_place P xs i (omega arith) f
@@ -47,12 +54,14 @@ module _ {X : Type 0} (key : X → Key) where
     sorted : IsSortedBy (λ (a b : X). is_lt (key_cmp (key a) (key b))) xs
     sorted i d low high =
         let count = length-map xs key in
-        let up = subst₂ (λ a b. key_cmp a b ≡ Less) (get_or-map key xs i d [] (omega arith)) (get_or-map key xs (i + 1) d [] (omega arith)) (rise i (i + 1) (omega arith) (omega arith)) in
+        let up = subst₂ (λ a b. key_cmp a b ≡ Less) (get_or-map key xs i d [] (omega arith))
+        (get_or-map key xs (i + 1) d [] (omega arith)) (rise i (i + 1) (omega arith) (omega arith)) in
         ap is_lt (key_total.antisymm (key (get_or xs (i + 1) d)) (key (get_or xs i d)) ∙ ap ordering_reverse up)
 
     pub searched : (r : Result ℕ ℕ) → IsSearchInRange r (length xs) → IsBinarySearchResult (λ x. key_cmp (key x) k) xs r
         → record { found : IfOk r (λ i. (i < length xs) × (key_in (map key xs) i ≡ k)); absent : IfErr r (IsKeyGap (map key xs) k) }
-    searched (Ok i) within equal = record { found = (within, at_place (λ l. l ≡ k) xs i within (λ d. key_same _ _ (equal d))); absent = tt }
+    searched (Ok i) within equal =
+        record { found = (within, at_place (λ l. l ≡ k) xs i within (λ d. key_same _ _ (equal d))); absent = tt }
     searched (Err i) within parted =
         let count = length-map xs key in
         let rises = searchable_from_sorted key_total key xs k sorted in
@@ -60,7 +69,9 @@ module _ {X : Type 0} (key : X → Key) where
           found = tt;
           absent = record {
             in_range = omega arith;
-            smaller_before = λ j h. at_place (λ l. key_cmp l k ≡ Less) xs j (omega arith) (λ d. (parted rises).0 j d (omega arith) h);
-            greater_after = λ j le h. at_place (λ l. key_cmp l k ≡ Greater) xs j (omega arith) (λ d. (parted rises).1 j d le (omega arith));
+            smaller_before = λ j h. at_place (λ l. key_cmp l k ≡ Less) xs j (omega arith)
+                (λ d. (parted rises).0 j d (omega arith) h);
+            greater_after = λ j le h. at_place (λ l. key_cmp l k ≡ Greater) xs j (omega arith)
+                (λ d. (parted rises).1 j d le (omega arith));
           };
         }

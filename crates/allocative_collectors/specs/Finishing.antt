@@ -1,5 +1,6 @@
 -- The graph of the sums and the paths that have a warning, place by place and path by path.
-use Rattle.std.specs.Prelude.{◌≡◌, ℕ, [], ◌∷◌, ◌++◌, List, Bool, true, false, cond, not, ◌&&◌, nat_lt, None, sum_by, flat_map}
+use Rattle.std.specs.Prelude.{◌≡◌, ℕ, [], ◌∷◌, ◌++◌, List, Bool, true, false, cond, not, ◌&&◌, nat_lt, None, sum_by}
+use Rattle.std.specs.Prelude.{flat_map}
 use Rattle.std.specs.List.{filter}
 use Rattle.std.specs.FinMap.{get, entries}
 use Rattle.std.specs.Ordering.{eq_by_cmp}
@@ -28,7 +29,8 @@ rows_behind s p test = filter (λ e. behind p test e.0) (entries (map_of s))
 
 -- g has what the graph has at p followed by any path that passes the test. Those of these paths that have a warning
 -- were appended to `found`.
-pub record MakesPart (s : Listed) (p : Path) (test : Path → Bool) (found found' : List Warned) (g : Graph) : Type 0 where
+pub record MakesPart (s : Listed) (p : Path) (test : Path → Bool) (found found' : List Warned) (g : Graph) : Type
+    0 where
   pub warned_are : found' ≡ found ++ flat_map (warned (map_of s)) (rows_behind s p test)
   pub graph_is : (q : Path) → get g q ≡ cond (test q) (get (graph (map_of s)) (p ++ q)) None
   pub total_is : total g ≡ sum_by (λ e. remaining (map_of s) e.0 e.1) (rows_behind s p test)

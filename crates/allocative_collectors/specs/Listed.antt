@@ -1,5 +1,6 @@
 -- The paths that were entered, in the order of their first entries, with what was entered at each.
-use Rattle.std.specs.Prelude.{◌≡◌, ℕ, ◌+◌, List, [], ◌∷◌, ◌++◌, Bool, false, ◌||◌, slice_index_or, sum_by, length, ◌<◌, map, zero, suc}
+use Rattle.std.specs.Prelude.{◌≡◌, ℕ, ◌+◌, List, [], ◌∷◌, ◌++◌, Bool, false, ◌||◌, slice_index_or, sum_by, length, ◌<◌}
+use Rattle.std.specs.Prelude.{map, zero, suc}
 use Rattle.std.specs.FinMap.{from_entries}
 use Rattle.allocative_graph.specs.Path.{Key, Path}
 use Rattle.allocative_graph.specs.Sums.{Sums, Node}

@@ -1,5 +1,6 @@
 -- A flame graph's collector as its parts: a tree, the identities met, and the places of its visitors.
-use Rattle.std.specs.Prelude.{◌≡◌, ℕ, ◌+◌, ◌<◌, ◌^◌, Bool, cond, [], ◌∷◌, ◌++◌, List, map, reverse, length, slice_index, ◌≤◌, ◌⊎◌}
+use Rattle.std.specs.Prelude.{◌≡◌, ℕ, ◌+◌, ◌<◌, ◌^◌, Bool, cond, [], ◌∷◌, ◌++◌, List, map, reverse, length, slice_index}
+use Rattle.std.specs.Prelude.{◌≤◌, ◌⊎◌}
 use Rattle.std.specs.FinSet.{from_list}
 use Rattle.allocative_graph.specs.declared.refusal.Refusal.{Refusal}
 use Rattle.allocative_graph.specs.declared.refusal.Refusal.TheVariants.{Memory, TooLarge}

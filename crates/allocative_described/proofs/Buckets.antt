@@ -20,7 +20,8 @@ bucket_count_same len m n p q =
     ]
 
 -- The size of an item and a length determine the size of the raw table.
-pub raw_table_size_same : (item : Option ℕ) (len : ℕ) (a b : Option ℕ) → IsRawTableSize item len a → IsRawTableSize item len b → a ≡ b
+pub raw_table_size_same : (item : Option ℕ) (len : ℕ) (a b : Option ℕ) → IsRawTableSize item len a →
+    IsRawTableSize item len b → a ≡ b
 raw_table_size_same item len a b p q =
     let same = bucket_count_same len p.buckets q.buckets p.serve q.serve in
     p.product ∙ ap (λ n. size_product (size_sum item (Some 1)) (checked n)) same ∙ sym q.product

@@ -1,5 +1,6 @@
 -- Least powers of two.
-use Rattle.std.proofs.Common.{◌≡◌, ℕ, zero, suc, Option, None, Some, MatchOption, ◌/◌, ◌^◌, ◌<◌, ◌≤◌, inl, inr, max, refl, arith}
+use Rattle.std.proofs.Common.{◌≡◌, ℕ, zero, suc, Option, None, Some, MatchOption, ◌/◌, ◌^◌, ◌<◌, ◌≤◌, inl, inr, max}
+use Rattle.std.proofs.Common.{refl, arith}
 use Rattle.std.proofs.lemmas.Bool.Decides.{nat_tests}
 use Rattle.std.proofs.Math.Nat.{pow-le-pow_right, pow-suc}
 use Rattle.std.proofs.lemmas.Bool.{cases_lt}
@@ -36,7 +37,8 @@ checked_same : (n : ℕ) → n < 2 ^ 64 → Some n ≡ checked n
 checked_same n fits = grind (arith, nat_tests)
 
 -- What std returns is the least power of two, for a number from 2 on.
-pub power_answered : (x : ℕ) (answer : Option ℕ) → 2 ≤ x → x < 2 ^ 64 → MatchOption answer (2 ^ 63 < x) (IsNextPowerOfTwo x) →
+pub power_answered : (x : ℕ) (answer : Option ℕ) → 2 ≤ x → x < 2 ^ 64 →
+    MatchOption answer (2 ^ 63 < x) (IsNextPowerOfTwo x) →
     ((n : ℕ) → answer ≡ Some n → n < 2 ^ 64) → (n : ℕ) × IsLeastPowerOfTwo x n × (answer ≡ checked n)
 power_answered x None many word above fits = (2 ^ 64, least_power x 63 above (omega arith), refl)
 power_answered x (Some n) many word found fits =

@@ -1,6 +1,9 @@
 -- Small facts about tests, lists, paths and identities.
-use Rattle.std.proofs.Common.{◌≡◌, Bool, true, false, ◌||◌, IsTrue, inl, inr, List, [], ◌∷◌, ◌++◌, map, refl, ◌∙◌, Ordering, Equal}
-use Rattle.allocative_graph.proofs.Common.{list_any, AllByRecursion, is_eq, nat_list_cmp_total, IsAntisymmetric, nat_cmp-IsAntisymmetric, slice_cmp-IsAntisymmetric, Path, path_cmp, is_same_path, Identity, identity_cmp, is_same_identity, list_any-append}
+use Rattle.std.proofs.Common.{◌≡◌, Bool, true, false, ◌||◌, IsTrue, inl, inr, List, [], ◌∷◌, ◌++◌, map, refl, ◌∙◌}
+use Rattle.std.proofs.Common.{Ordering, Equal}
+use Rattle.allocative_graph.proofs.Common.{list_any, AllByRecursion, is_eq, nat_list_cmp_total, IsAntisymmetric}
+use Rattle.allocative_graph.proofs.Common.{nat_cmp-IsAntisymmetric, slice_cmp-IsAntisymmetric, Path, path_cmp}
+use Rattle.allocative_graph.proofs.Common.{is_same_path, Identity, identity_cmp, is_same_identity, list_any-append}
 use Rattle.std.specs.Cmp.{IsTotalOrder, Equal-is}
 use Rattle.std.proofs.lemmas.List.Elements.{All-append, All-from_recursion, All-weaker, recursion_from_All}
 use Rattle.std.proofs.lemmas.Map.Lookups.{exact_pairs}
@@ -23,20 +26,25 @@ is_eq-Equal r = (Equal-is r).0
 
 -- ---- lists
 -- What holds of each item of two lists holds of each item of the lists one after another.
-pub each-append : {X : Type 0} (P : X → Type 0) (xs ys : List X) → AllByRecursion P xs → AllByRecursion P ys → AllByRecursion P (xs ++ ys)
-each-append P xs ys h g = recursion_from_All P (xs ++ ys) (All-append P xs ys (All-from_recursion P xs h) (All-from_recursion P ys g))
+pub each-append : {X : Type 0} (P : X → Type 0) (xs ys : List X) → AllByRecursion P xs → AllByRecursion P ys →
+    AllByRecursion P (xs ++ ys)
+each-append P xs ys h g = recursion_from_All P (xs ++ ys)
+    (All-append P xs ys (All-from_recursion P xs h) (All-from_recursion P ys g))
 
 -- What holds of each item of two lists one after another holds of each item of either.
-pub each-parts : {X : Type 0} (P : X → Type 0) (xs ys : List X) → AllByRecursion P (xs ++ ys) → AllByRecursion P xs × AllByRecursion P ys
+pub each-parts : {X : Type 0} (P : X → Type 0) (xs ys : List X) → AllByRecursion P (xs ++ ys) →
+    AllByRecursion P xs × AllByRecursion P ys
 each-parts P [] ys h = (tt, h)
 each-parts P (x ∷ xs) ys h = let rest = each-parts P xs ys h.1 in ((h.0, rest.0), rest.1)
 
 -- If P implies Q, and each item of a list has P, each item has Q.
-pub each-implies : {X : Type 0} (P Q : X → Type 0) → ((x : X) → P x → Q x) → (xs : List X) → AllByRecursion P xs → AllByRecursion Q xs
+pub each-implies : {X : Type 0} (P Q : X → Type 0) → ((x : X) → P x → Q x) → (xs : List X) → AllByRecursion P xs →
+    AllByRecursion Q xs
 each-implies P Q f xs h = recursion_from_All Q xs (All-weaker P Q f xs (All-from_recursion P xs h))
 
 -- If P holds of each item of a mapped list, it holds of what f makes of each item of the list.
-pub each-map : {X Y : Type 0} (P : Y → Type 0) (f : X → Y) (xs : List X) → AllByRecursion P (map f xs) → AllByRecursion (λ x. P (f x)) xs
+pub each-map : {X Y : Type 0} (P : Y → Type 0) (f : X → Y) (xs : List X) → AllByRecursion P (map f xs) →
+    AllByRecursion (λ x. P (f x)) xs
 each-map P f [] h = tt
 each-map P f (x ∷ xs) h = (h.0, each-map P f xs h.1)
 
@@ -71,12 +79,14 @@ same_path_itself p = (eq_by_cmp_equiv path_total).refl p
 
 -- The comparison of identities is a total order.
 pub identity_total : IsTotalOrder identity_cmp
-identity_total = then_total (on_total (λ (i : Identity). i.maker) nat_cmp_total) (on_total (λ (i : Identity). i.number) nat_cmp_total)
+identity_total = then_total (on_total (λ (i : Identity). i.maker) nat_cmp_total)
+    (on_total (λ (i : Identity). i.number) nat_cmp_total)
 
 -- Identities that compare as equal are equal.
 pub identity_antisymmetric : IsAntisymmetric identity_cmp
 identity_antisymmetric i j e =
-    let same = exact_pairs nat_cmp nat_cmp nat_cmp-IsAntisymmetric nat_cmp-IsAntisymmetric (i.maker, i.number) (j.maker, j.number) e in
+    let same = exact_pairs nat_cmp nat_cmp nat_cmp-IsAntisymmetric nat_cmp-IsAntisymmetric (i.maker, i.number)
+    (j.maker, j.number) e in
     λ k. record { maker = (same k).0; number = (same k).1 }
 
 -- If the test `is_same_identity` is true, the identities are equal.

@@ -1,6 +1,13 @@
 -- What a graph has at a path and below it, by the children of its root.
-use Rattle.std.proofs.Common.{sum_by, ◌&&◌, ◌≡◌, ℕ, zero, suc, ◌+◌, ◌<◌, true, false, cond, List, [], ◌∷◌, ◌++◌, Option, Some, None, IfNone, length, get_or, take, drop, refl, sym, ap, subst, subst₂, ◌∙◌, arith, add-zero, zero-add, take-append-drop}
-use Rattle.allocative_graph.proofs.Common.{is_some, unwrap_or, eq_by_cmp, is_eq, ordering_reverse, Less, nat_list_cmp_total, get, entries, len, len-entries, len-child, Child, Key, Path, key_cmp, Graph, IsTree, IsBehind, HasNothing, begins, total_at, node, IsNode, rows_of, rows_of_child, entries-node, size_under, InOrder, IsFound, IsChildGap, AllAbove, All-from_recursion, fold-map, map-append, sum_by-cons, tied_itself, keys_of}
+use Rattle.std.proofs.Common.{sum_by, ◌&&◌, ◌≡◌, ℕ, zero, suc, ◌+◌, ◌<◌, true, false, cond, List, [], ◌∷◌, ◌++◌, Option}
+use Rattle.std.proofs.Common.{Some, None, IfNone, length, get_or, take, drop, refl, sym, ap, subst, subst₂, ◌∙◌, arith}
+use Rattle.std.proofs.Common.{add-zero, zero-add, take-append-drop}
+use Rattle.allocative_graph.proofs.Common.{is_some, unwrap_or, eq_by_cmp, is_eq, ordering_reverse, Less}
+use Rattle.allocative_graph.proofs.Common.{nat_list_cmp_total, get, entries, len, len-entries, len-child, Child, Key}
+use Rattle.allocative_graph.proofs.Common.{Path, key_cmp, Graph, IsTree, IsBehind, HasNothing, begins, total_at, node}
+use Rattle.allocative_graph.proofs.Common.{IsNode, rows_of, rows_of_child, entries-node, size_under, InOrder, IsFound}
+use Rattle.allocative_graph.proofs.Common.{IsChildGap, AllAbove, All-from_recursion, fold-map, map-append, sum_by-cons}
+use Rattle.allocative_graph.proofs.Common.{tied_itself, keys_of}
 use Rattle.std.proofs.lemmas.List.Folds.{fold_stays, length-flat_map-take}
 use Rattle.std.proofs.lemmas.List.Sums.{sum_by-append}
 use Rattle.std.specs.List.Sorted.{IsStrictlySortedBy}
@@ -16,10 +23,12 @@ other_than l k h = ap is_eq (nat_list_cmp_total.antisymm k l ∙ ap ordering_rev
 gap-lacks : (cs : List Child) (i : ℕ) (k : Key) → IsChildGap cs k i → Lacks k cs
 gap-lacks cs i k g =
     subst (Lacks k) (take-append-drop i cs) (rw (map-append (λ (c : Child). c.key) (take i cs) (drop i cs))
-    (each-append _ (keys_of (take i cs)) (keys_of (drop i cs)) (each-implies _ _ (λ l. other_than l k) (keys_of (take i cs)) g.below) (lacks-above k (drop i cs) g.above)))
+    (each-append _ (keys_of (take i cs)) (keys_of (drop i cs))
+    (each-implies _ _ (λ l. other_than l k) (keys_of (take i cs)) g.below) (lacks-above k (drop i cs) g.above)))
 
 -- ---- what is read under a key: F passes over children with other keys, and reads the child with the key
-module _ {A : Type 0} (F : List Child → A) (one : Child → A) (k : Key) (past : (c : Child) (cs : List Child) → eq_by_cmp key_cmp k c.key ≡ false → F (c ∷ cs) ≡ F cs) where
+module _ {A : Type 0} (F : List Child → A) (one : Child → A) (k : Key)
+    (past : (c : Child) (cs : List Child) → eq_by_cmp key_cmp k c.key ≡ false → F (c ∷ cs) ≡ F cs) where
   -- If no child has the key, there is what there is without children.
   read-lacks : (cs : List Child) → Lacks k cs → F cs ≡ F []
   read-lacks [] h = refl
@@ -27,14 +36,18 @@ module _ {A : Type 0} (F : List Child → A) (one : Child → A) (k : Key) (past
 
   -- If the key was found, there is what its child has.
   read-found : ((c : Child) (cs : List Child) → eq_by_cmp key_cmp k c.key ≡ true → F cs ≡ F [] → F (c ∷ cs) ≡ one c)
-      → (cs : List Child) (i : ℕ) (d : Child) → InOrder cs → i < length cs → (get_or cs i d).key ≡ k → F cs ≡ one (get_or cs i d)
+      → (cs : List Child) (i : ℕ) (d : Child) → InOrder cs → i < length cs → (get_or cs i d).key ≡ k →
+      F cs ≡ one (get_or cs i d)
   unfolding IsStrictlySortedBy
   read-found here [] i d o w s = absurd (omega arith)
   read-found here (c ∷ cs) zero d o w s =
-      here c cs (subst (λ l. eq_by_cmp key_cmp k l ≡ true) (sym s) (ap is_eq (tied_itself nat_list_cmp_total k))) (read-lacks cs (lacks-above k cs (subst (λ l. AllAbove cs l) s o.0)))
+      here c cs (subst (λ l. eq_by_cmp key_cmp k l ≡ true) (sym s) (ap is_eq (tied_itself nat_list_cmp_total k)))
+      (read-lacks cs (lacks-above k cs (subst (λ l. AllAbove cs l) s o.0)))
   read-found here (c ∷ cs) (suc i) d o w s =
-      let above = All-from_recursion (λ (e : Child). key_cmp c.key e.key ≡ Less) cs (each-map (λ l. key_cmp c.key l ≡ Less) (λ (e : Child). e.key) cs o.0) i d (omega arith) in
-      past c cs (other_than c.key k (subst (λ l. key_cmp c.key l ≡ Less) s above)) ∙ read-found here cs i d o.1 (omega arith) s
+      let above = All-from_recursion (λ (e : Child). key_cmp c.key e.key ≡ Less) cs
+      (each-map (λ l. key_cmp c.key l ≡ Less) (λ (e : Child). e.key) cs o.0) i d (omega arith) in
+      past c cs (other_than c.key k (subst (λ l. key_cmp c.key l ≡ Less) s above))
+      ∙ read-found here cs i d o.1 (omega arith) s
 
 -- The sum of the sizes of the rows whose paths begin with q.
 abbrev whole_in : List (Path × ℕ) → Path → ℕ
@@ -42,18 +55,24 @@ whole_in rs q = sum_by (λ e. cond (begins q e.0) e.1 0) rs
 
 module _ (k : Key) (p : Path) where
   -- The sizes below a key that was found are those of its child.
-  size_under-found : (cs : List Child) (i : ℕ) (d : Child) → InOrder cs → i < length cs → (get_or cs i d).key ≡ k → size_under cs k p ≡ get (get_or cs i d).graph p
+  size_under-found : (cs : List Child) (i : ℕ) (d : Child) → InOrder cs → i < length cs → (get_or cs i d).key ≡ k →
+      size_under cs k p ≡ get (get_or cs i d).graph p
   size_under-found = read-found (λ cs. size_under cs k p) (λ c. get c.graph p) k
-      (λ c cs e. ap (λ b. cond b (get c.graph p) (size_under cs k p)) e) (λ c cs e none. ap (λ b. cond b (get c.graph p) (size_under cs k p)) e)
+      (λ c cs e. ap (λ b. cond b (get c.graph p) (size_under cs k p)) e)
+      (λ c cs e none. ap (λ b. cond b (get c.graph p) (size_under cs k p)) e)
 
   -- The bytes of one child more.
   whole-more : (c : Child) (cs : List Child)
-      → whole_in (rows_of (c ∷ cs)) (k ∷ p) ≡ sum_by (λ r. cond (eq_by_cmp key_cmp k c.key && begins p r.0) r.1 0) (entries c.graph) + whole_in (rows_of cs) (k ∷ p)
+      → whole_in (rows_of (c ∷ cs)) (k ∷ p) ≡ sum_by (λ r. cond (eq_by_cmp key_cmp k c.key && begins p r.0) r.1 0)
+      (entries c.graph) + whole_in (rows_of cs) (k ∷ p)
   whole-more c cs =
       sum_by-append (λ (e : Path × ℕ). cond (begins (k ∷ p) e.0) e.1 0) (rows_of_child c) (rows_of cs)
-      ∙ ap (λ n. n + whole_in (rows_of cs) (k ∷ p)) (fold-map (λ n (e : Path × ℕ). n + cond (begins (k ∷ p) e.0) e.1 0) (λ r. (c.key ∷ r.0, r.1)) 0 (entries c.graph))
+      ∙ ap (λ n. n + whole_in (rows_of cs) (k ∷ p))
+      (fold-map (λ n (e : Path × ℕ). n + cond (begins (k ∷ p) e.0) e.1 0) (λ r. (c.key ∷ r.0, r.1)) 0
+      (entries c.graph))
 
-  whole-past : (c : Child) (cs : List Child) → eq_by_cmp key_cmp k c.key ≡ false → whole_in (rows_of (c ∷ cs)) (k ∷ p) ≡ whole_in (rows_of cs) (k ∷ p)
+  whole-past : (c : Child) (cs : List Child) → eq_by_cmp key_cmp k c.key ≡ false →
+      whole_in (rows_of (c ∷ cs)) (k ∷ p) ≡ whole_in (rows_of cs) (k ∷ p)
   whole-past c cs e =
       rw (whole-more c cs, e, fold_stays (λ n (r : Path × ℕ). n + 0) 0 (λ r. refl) (entries c.graph)) (zero-add _)
 
@@ -62,17 +81,22 @@ module _ (k : Key) (p : Path) where
   whole-lacks = read-lacks (λ cs. whole_in (rows_of cs) (k ∷ p)) (λ c. whole_in (entries c.graph) p) k whole-past
 
   -- The bytes below a key that was found are those of its child.
-  whole-found : (cs : List Child) (i : ℕ) (d : Child) → InOrder cs → i < length cs → (get_or cs i d).key ≡ k → whole_in (rows_of cs) (k ∷ p) ≡ total_at (get_or cs i d).graph p
+  whole-found : (cs : List Child) (i : ℕ) (d : Child) → InOrder cs → i < length cs → (get_or cs i d).key ≡ k →
+      whole_in (rows_of cs) (k ∷ p) ≡ total_at (get_or cs i d).graph p
   whole-found = read-found (λ cs. whole_in (rows_of cs) (k ∷ p)) (λ c. whole_in (entries c.graph) p) k whole-past
-      (λ c cs e none. whole-more c cs ∙ (λ i. sum_by (λ r. cond (e i && begins p r.0) r.1 0) (entries c.graph) + none i) ∙ add-zero _)
+      (λ c cs e none. whole-more c cs ∙ (λ i. sum_by (λ r. cond (e i && begins p r.0) r.1 0) (entries c.graph) + none i)
+      ∙ add-zero _)
 
 -- The bytes of a node below a key are those of its children.
-whole-node : (n : ℕ) (cs : List Child) (k : Key) (p : Path) → InOrder cs → total_at (node n cs) (k ∷ p) ≡ whole_in (rows_of cs) (k ∷ p)
+whole-node : (n : ℕ) (cs : List Child) (k : Key) (p : Path) → InOrder cs →
+    total_at (node n cs) (k ∷ p) ≡ whole_in (rows_of cs) (k ∷ p)
 whole-node n cs k p o = omega (arith, ap (λ rs. whole_in rs (k ∷ p)) (entries-node n cs o), sum_by-cons (λ (e : Path × ℕ). cond (begins (k ∷ p) e.0) e.1 0) ([], n) (rows_of cs))
 
 -- The bytes at a path below a child's key, and below that path, are those of the child.
-pub total_at-child : (n : ℕ) (cs : List Child) (i : ℕ) (d : Child) (p : Path) → InOrder cs → i < length cs → total_at (node n cs) ((get_or cs i d).key ∷ p) ≡ total_at (get_or cs i d).graph p
-total_at-child n cs i d p o w = whole-node n cs (get_or cs i d).key p o ∙ whole-found (get_or cs i d).key p cs i d o w refl
+pub total_at-child : (n : ℕ) (cs : List Child) (i : ℕ) (d : Child) (p : Path) → InOrder cs → i < length cs →
+    total_at (node n cs) ((get_or cs i d).key ∷ p) ≡ total_at (get_or cs i d).graph p
+total_at-child n cs i d p o w = whole-node n cs (get_or cs i d).key p o
+    ∙ whole-found (get_or cs i d).key p cs i d o w refl
 
 -- ---- the graph at a path
 -- The graph at the root's path is the whole graph.
@@ -80,7 +104,8 @@ pub behind_root : (g : Graph) → IsTree g → IsBehind g [] g
 behind_root g t = record { there = t.root; sizes = λ q. refl; totals = λ q. refl; same_size = refl; same_total = refl }
 
 -- g is the graph of a node, and the path has the key k and then p.
-module _ {n s : ℕ} {cs ds : List Child} {g : Graph} {path : Path} {k : Key} {p : Path} (view : node n cs ≡ g) (h : IsNode cs s n) (same : ds ≡ cs) (is : path ≡ k ∷ p) where
+module _ {n s : ℕ} {cs ds : List Child} {g : Graph} {path : Path} {k : Key} {p : Path} (view : node n cs ≡ g)
+    (h : IsNode cs s n) (same : ds ≡ cs) (is : path ≡ k ∷ p) where
   in_order : InOrder ds
   in_order = subst InOrder (sym same) h.children.sorted
 
@@ -122,5 +147,6 @@ none_implies P Q f None h = f h
 none_implies P Q f (Some x) h = h
 
 -- A child has fewer paths than its node.
-pub smaller_child : (n : ℕ) (cs : List Child) (i : ℕ) (d : Child) → InOrder cs → i < length cs → len (get_or cs i d).graph < len (node n cs)
+pub smaller_child : (n : ℕ) (cs : List Child) (i : ℕ) (d : Child) → InOrder cs → i < length cs →
+    len (get_or cs i d).graph < len (node n cs)
 smaller_child n cs i d o h = omega (arith, ap length (entries-node n cs o), len-entries (node n cs), length-flat_map-take rows_of_child cs i d h, len-child (get_or cs i d))

@@ -1,7 +1,12 @@
 -- Children in the order of their keys: what the order says of the parts of a list, and what a search for a key finds.
-use Rattle.std.proofs.Common.{◌≡◌, ℕ, zero, suc, ◌<◌, List, [], ◌∷◌, ◌++◌, length, get_or, ap, subst₂, ◌∙◌, arith, ◌+◌, ◌-◌, ◌≤◌, take, drop, Result, Ok, Err, IfOk, IfErr, refl, sym, subst}
-use Rattle.allocative_graph.proofs.Common.{AllByRecursion, Less, Equal, Greater, ordering_reverse, nat_list_cmp_total, nat_cmp-IsAntisymmetric, slice_cmp-IsAntisymmetric, Child, Key, key_cmp, IsTree, AreChildren, InOrder, AllBelow, AllAbove, length-map, keys_of, is_lt, IsFound, IsChildGap}
-use Rattle.std.specs.List.Sorted.{IsStrictlySortedBy, IsSearchInRange, IsBinarySearchResult, IsNonDecreasingBy, IsSortedBy}
+use Rattle.std.proofs.Common.{◌≡◌, ℕ, zero, suc, ◌<◌, List, [], ◌∷◌, ◌++◌, length, get_or, ap, subst₂, ◌∙◌, arith, ◌+◌}
+use Rattle.std.proofs.Common.{◌-◌, ◌≤◌, take, drop, Result, Ok, Err, IfOk, IfErr, refl, sym, subst}
+use Rattle.allocative_graph.proofs.Common.{AllByRecursion, Less, Equal, Greater, ordering_reverse, nat_list_cmp_total}
+use Rattle.allocative_graph.proofs.Common.{nat_cmp-IsAntisymmetric, slice_cmp-IsAntisymmetric, Child, Key, key_cmp}
+use Rattle.allocative_graph.proofs.Common.{IsTree, AreChildren, InOrder, AllBelow, AllAbove, length-map, keys_of, is_lt}
+use Rattle.allocative_graph.proofs.Common.{IsFound, IsChildGap}
+use Rattle.std.specs.List.Sorted.{IsStrictlySortedBy, IsSearchInRange, IsBinarySearchResult, IsNonDecreasingBy}
+use Rattle.std.specs.List.Sorted.{IsSortedBy}
 use Rattle.std.proofs.lemmas.List.{get_or-map, drop_all, get_or_default}
 use Rattle.std.proofs.lemmas.Map.Keys.{Less-from_sorted}
 use Rattle.allocative_graph.proofs.Basics.{each-implies}
@@ -38,7 +43,8 @@ unfolding IsStrictlySortedBy
 no_children = record { sorted = tt; trees = tt }
 
 -- A child can be put before others if its key is below theirs and its graph is a tree.
-pub with_first : (c : Child) (cs : List Child) → AllAbove cs c.key → IsTree c.graph → AreChildren cs → AreChildren (c ∷ cs)
+pub with_first : (c : Child) (cs : List Child) → AllAbove cs c.key → IsTree c.graph → AreChildren cs →
+    AreChildren (c ∷ cs)
 unfolding IsStrictlySortedBy
 with_first c cs above t h = record { sorted = (above, h.sorted); trees = (t, h.trees) }
 
@@ -47,8 +53,10 @@ pub one_child : (c : Child) → IsTree c.graph → AreChildren (c ∷ [])
 one_child c t = with_first c [] tt t no_children
 
 -- A key below that of the first child is below those of all.
-pub above_all : (k : Key) (c : Child) (cs : List Child) → key_cmp k c.key ≡ Less → AreChildren (c ∷ cs) → AllAbove (c ∷ cs) k
-above_all k c cs less h = (less, each-implies _ _ (λ l q. nat_list_cmp_total.trans k c.key l less q) (keys_of cs) (first_below c cs h))
+pub above_all : (k : Key) (c : Child) (cs : List Child) → key_cmp k c.key ≡ Less → AreChildren (c ∷ cs) →
+    AllAbove (c ∷ cs) k
+above_all k c cs less h =
+    (less, each-implies _ _ (λ l q. nat_list_cmp_total.trans k c.key l less q) (keys_of cs) (first_below c cs h))
 
 -- ---- a child in the middle
 -- What holds of the keys of all children holds of the key of one in the middle.
@@ -58,13 +66,16 @@ all-at P (y ∷ a) b x h = all-at P a b x h.1
 
 -- ---- a search for a key
 -- If the key at each place before i is below k, the first i children are all below k.
-below_from : (cs : List Child) (i : ℕ) (k : Key) → i ≤ length cs → ((j : ℕ) (d : Child) → j < i → key_cmp (get_or cs j d).key k ≡ Less) → AllBelow (take i cs) k
+below_from : (cs : List Child) (i : ℕ) (k : Key) → i ≤ length cs →
+    ((j : ℕ) (d : Child) → j < i → key_cmp (get_or cs j d).key k ≡ Less) → AllBelow (take i cs) k
 below_from cs zero k within f = tt
 below_from [] (suc i) k within f = absurd (omega arith)
-below_from (c ∷ cs) (suc i) k within f = (f 0 c (omega arith), below_from cs i k (omega arith) (λ j d h. f (suc j) d (omega arith)))
+below_from (c ∷ cs) (suc i) k within f =
+    (f 0 c (omega arith), below_from cs i k (omega arith) (λ j d h. f (suc j) d (omega arith)))
 
 -- If the key at each place from i on is above k, the children from i on are all above k.
-above_from : (cs : List Child) (i : ℕ) (k : Key) → ((j : ℕ) (d : Child) → i ≤ j → j < length cs → key_cmp (get_or cs j d).key k ≡ Greater) → AllAbove (drop i cs) k
+above_from : (cs : List Child) (i : ℕ) (k : Key) →
+    ((j : ℕ) (d : Child) → i ≤ j → j < length cs → key_cmp (get_or cs j d).key k ≡ Greater) → AllAbove (drop i cs) k
 above_from [] zero k f = tt
 above_from [] (suc i) k f = tt
 above_from (c ∷ cs) zero k f = (key_turn c.key k (f 0 c (omega arith) (omega arith)), above_from cs zero k (λ j d a b. f (suc j) d (omega arith) (omega arith)))
@@ -80,15 +91,20 @@ module _ (cs : List Child) (o : InOrder cs) (k : Key) where
   sorted : IsSortedBy (λ (a b : Child). is_lt (key_cmp a.key b.key)) cs
   sorted i d low high =
       let keys : key_cmp (get_or (keys_of cs) i []) (get_or (keys_of cs) (i + 1) []) ≡ Less =
-      Less-from_sorted key_cmp (keys_of cs) i (i + 1) [] o (omega arith) (omega (arith, length-map {B = Key} cs (λ c. c.key))) in
-      let up = subst₂ (λ a b. key_cmp a b ≡ Less) (get_or-map (λ (c : Child). c.key) cs i d [] (omega arith)) (get_or-map (λ (c : Child). c.key) cs (i + 1) d [] (omega arith)) keys in
+      Less-from_sorted key_cmp (keys_of cs) i (i + 1) [] o (omega arith)
+      (omega (arith, length-map {B = Key} cs (λ c. c.key))) in
+      let up = subst₂ (λ a b. key_cmp a b ≡ Less) (get_or-map (λ (c : Child). c.key) cs i d [] (omega arith))
+      (get_or-map (λ (c : Child). c.key) cs (i + 1) d [] (omega arith)) keys in
       ap is_lt (nat_list_cmp_total.antisymm (get_or cs (i + 1) d).key (get_or cs i d).key ∙ ap ordering_reverse up)
 
   comparisons_rise : IsNonDecreasingBy (λ (c : Child). ordering_index (key_cmp c.key k)) cs
   comparisons_rise = searchable_from_sorted nat_list_cmp_total (λ (c : Child). c.key) cs k sorted
 
-  pub searched : (r : Result ℕ ℕ) → IsSearchInRange r (length cs) → IsBinarySearchResult (λ (c : Child). key_cmp c.key k) cs r → record { found : IfOk r (IsFound cs k); missing : IfErr r (IsChildGap cs k) }
-  searched (Ok i) in_range equal = record { found = record { within = in_range; same = λ d. key_same _ _ (equal d) }; missing = tt }
+  pub searched : (r : Result ℕ ℕ) → IsSearchInRange r (length cs) →
+      IsBinarySearchResult (λ (c : Child). key_cmp c.key k) cs r →
+      record { found : IfOk r (IsFound cs k); missing : IfErr r (IsChildGap cs k) }
+  searched (Ok i) in_range equal =
+      record { found = record { within = in_range; same = λ d. key_same _ _ (equal d) }; missing = tt }
   searched (Err i) in_range parted = record {
     found = tt;
     missing = record {
@@ -99,17 +115,21 @@ module _ (cs : List Child) (o : InOrder cs) (k : Key) where
   }
 
   -- A key above the last one is above all, and belongs at the end.
-  pub behind_last : (d : Child) → 0 < length cs → key_cmp (get_or cs (length cs - 1) d).key k ≡ Less → IsChildGap cs k (length cs)
+  pub behind_last : (d : Child) → 0 < length cs → key_cmp (get_or cs (length cs - 1) d).key k ≡ Less →
+      IsChildGap cs k (length cs)
   behind_last d some less =
       let last = length cs - 1 in
       let lower : (e : Child) → ordering_index (key_cmp (get_or cs last e).key k) ≡ 0 =
-      λ e. ap ordering_index (subst (λ (c : Child). key_cmp c.key k ≡ Less) (get_or_default cs last d e (omega arith)) less) in
+      λ e. ap ordering_index (subst (λ (c : Child). key_cmp c.key k ≡ Less) (get_or_default cs last d e (omega arith))
+      less) in
       record {
         within = omega arith;
-        below = below_from cs (length cs) k (omega arith) (λ j e h. first_index _ (omega (arith, comparisons_rise j last e (omega arith) (omega arith), lower e)));
+        below = below_from cs (length cs) k (omega arith)
+            (λ j e h. first_index _ (omega (arith, comparisons_rise j last e (omega arith) (omega arith), lower e)));
         above = subst (λ (s : List Child). AllAbove s k) (sym (drop_all (length cs) cs (omega arith))) tt;
       }
 
 -- The key of the last child is found at the end.
-pub at_last : (cs : List Child) (k : Key) (d : Child) → 0 < length cs → (get_or cs (length cs - 1) d).key ≡ k → IsFound cs k (length cs - 1)
+pub at_last : (cs : List Child) (k : Key) (d : Child) → 0 < length cs → (get_or cs (length cs - 1) d).key ≡ k →
+    IsFound cs k (length cs - 1)
 at_last cs k d some e = record { within = omega arith; same = λ x. ap (λ (c : Child). c.key) (get_or_default cs (length cs - 1) x d (omega arith)) ∙ e }

@@ -1,6 +1,8 @@
 -- The sizes below some children, added up.
-use Rattle.std.proofs.Common.{◌≡◌, ℕ, ◌+◌, ◌<◌, List, [], ◌∷◌, ◌++◌, length, take, get_or, refl, sym, ap, ◌∙◌, arith, add-zero, append-nil}
-use Rattle.allocative_graph.proofs.Common.{entries, Child, Key, Path, total, under_rows, rows_of, rows_of_child, sum_of_rows, weight, take_more, flat_map-append}
+use Rattle.std.proofs.Common.{◌≡◌, ℕ, ◌+◌, ◌<◌, List, [], ◌∷◌, ◌++◌, length, take, get_or, refl, sym, ap, ◌∙◌, arith}
+use Rattle.std.proofs.Common.{add-zero, append-nil}
+use Rattle.allocative_graph.proofs.Common.{entries, Child, Key, Path, total, under_rows, rows_of, rows_of_child}
+use Rattle.allocative_graph.proofs.Common.{sum_of_rows, weight, take_more, flat_map-append}
 use Rattle.allocative_graph.proofs.NodeSizes.{total-rows}
 
 -- The sizes of two lists of rows one after another add up.
@@ -15,7 +17,8 @@ sum-under k (r ∷ rs) = ap (λ n. r.1 + n) (sum-under k rs)
 
 -- One more child in front adds the total of its graph to the weight.
 pub weight-cons : (c : Child) (cs : List Child) → weight (c ∷ cs) ≡ total c.graph + weight cs
-weight-cons c cs = sum-append (rows_of_child c) (rows_of cs) ∙ ap (λ n. n + weight cs) (sum-under c.key (entries c.graph) ∙ sym (total-rows c.graph))
+weight-cons c cs = sum-append (rows_of_child c) (rows_of cs)
+    ∙ ap (λ n. n + weight cs) (sum-under c.key (entries c.graph) ∙ sym (total-rows c.graph))
 
 -- The weight of one child is the total of its graph.
 pub weight-one : (c : Child) → weight (c ∷ []) ≡ total c.graph
@@ -30,6 +33,8 @@ pub weight-split : (a b : List Child) (c : Child) → weight (a ++ c ∷ b) ≡ 
 weight-split a b c = weight-append a (c ∷ b) ∙ ap (λ n. weight a + n) (weight-cons c b)
 
 -- The rows of one child more.
-pub rows-more : (cs : List Child) (i : ℕ) (d : Child) → i < length cs → rows_of (take (i + 1) cs) ≡ rows_of (take i cs) ++ rows_of_child (get_or cs i d)
+pub rows-more : (cs : List Child) (i : ℕ) (d : Child) → i < length cs →
+    rows_of (take (i + 1) cs) ≡ rows_of (take i cs) ++ rows_of_child (get_or cs i d)
 rows-more cs i d w =
-    ap rows_of (take_more cs i d w) ∙ flat_map-append rows_of_child (take i cs) (get_or cs i d ∷ []) ∙ ap (λ r. rows_of (take i cs) ++ r) (append-nil (rows_of_child (get_or cs i d)))
+    ap rows_of (take_more cs i d w) ∙ flat_map-append rows_of_child (take i cs) (get_or cs i d ∷ [])
+    ∙ ap (λ r. rows_of (take i cs) ++ r) (append-nil (rows_of_child (get_or cs i d)))

@@ -1,6 +1,8 @@
 -- The sizes below a key that a child has, and below a key that no child has.
-use Rattle.std.proofs.Common.{◌≡◌, ℕ, inl, inr, true, false, cond, List, [], ◌∷◌, Option, None, refl, sym, ap, subst, ◌∙◌, arith}
-use Rattle.allocative_graph.proofs.Common.{is_some, AllByRecursion, eq_by_cmp, is_eq, get, Child, Key, Path, key_cmp, size_under, AddsUp, AddsUpInPart, AllAbove, keys_of}
+use Rattle.std.proofs.Common.{◌≡◌, ℕ, inl, inr, true, false, cond, List, [], ◌∷◌, Option, None, refl, sym, ap, subst}
+use Rattle.std.proofs.Common.{◌∙◌, arith}
+use Rattle.allocative_graph.proofs.Common.{is_some, AllByRecursion, eq_by_cmp, is_eq, get, Child, Key, Path, key_cmp}
+use Rattle.allocative_graph.proofs.Common.{size_under, AddsUp, AddsUpInPart, AllAbove, keys_of}
 use Rattle.std.specs.Cmp.{Equal-is}
 use Rattle.allocative_graph.proofs.Basics.{each-implies, or_left, or-false}
 use Rattle.allocative_graph.proofs.ChildOrder.{key_same}
@@ -19,8 +21,10 @@ size_under-lacks [] k p h = refl
 size_under-lacks (c ∷ cs) k p h = ap (λ b. cond b (get c.graph p) (size_under cs k p)) h.0 ∙ size_under-lacks cs k p h.1
 
 -- No size is below a key that is below the keys of all children.
-pub none_above : (k l : Key) (p : Path) (cs : List Child) → eq_by_cmp key_cmp k l ≡ true → AllAbove cs l → size_under cs k p ≡ None
-none_above k l p cs e h = size_under-lacks cs k p (subst (λ m. Lacks m cs) (sym (key_same k l ((Equal-is (key_cmp k l)).0 e))) (lacks-above l cs h))
+pub none_above : (k l : Key) (p : Path) (cs : List Child) → eq_by_cmp key_cmp k l ≡ true → AllAbove cs l →
+    size_under cs k p ≡ None
+none_above k l p cs e h = size_under-lacks cs k p
+    (subst (λ m. Lacks m cs) (sym (key_same k l ((Equal-is (key_cmp k l)).0 e))) (lacks-above l cs h))
 
 -- ---- sums of sizes
 -- A size and a missing one add up to the first.

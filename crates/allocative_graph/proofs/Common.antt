@@ -5,12 +5,16 @@ pub use Rattle.std.proofs.lemmas.Iterator.Splits.{YieldsList-from_str_split}
 pub use Rattle.std.proofs.lemmas.List.{length-map, map-append, map_push, nil_from_length, take_more}
 pub use Rattle.std.proofs.lemmas.List.Elements.{All-from_recursion}
 pub use Rattle.std.proofs.lemmas.List.Folds.{fold-map, list_any-append}
-pub use Rattle.std.proofs.lemmas.List.Sorted.{IsPermutation-refl, IsPermutation-sym, list_any-IsPermutation, sum_by-IsPermutation}
+pub use Rattle.std.proofs.lemmas.List.Sorted.{IsPermutation-refl, IsPermutation-sym, list_any-IsPermutation}
+pub use Rattle.std.proofs.lemmas.List.Sorted.{sum_by-IsPermutation}
 pub use Rattle.std.proofs.lemmas.List.Sums.{sum_by-cons}
 pub use lib.Chars.{codes}
 pub use Rattle.std.specs.Cmp.{tied_itself}
 pub use Rattle.std.specs.Cmp.Lexicographic.{nat_list_cmp_total, slice_cmp}
-pub use Rattle.std.specs.FinMap.{IsAntisymmetric, contains_key, empty, entries, entries-from_sorted, entries-insert, entries_sorted, from_entries, get, get-entries, get-from_entries, get-from_sorted, get-insert, insert, keys, len, len-entries, nat_cmp-IsAntisymmetric, same_entries_map, same_map, slice_cmp-IsAntisymmetric}
+pub use Rattle.std.specs.FinMap.{IsAntisymmetric, contains_key, empty, entries, entries-from_sorted, entries-insert}
+pub use Rattle.std.specs.FinMap.{entries_sorted, from_entries, get, get-entries, get-from_entries, get-from_sorted}
+pub use Rattle.std.specs.FinMap.{get-insert, insert, keys, len, len-entries, nat_cmp-IsAntisymmetric, same_entries_map}
+pub use Rattle.std.specs.FinMap.{same_map, slice_cmp-IsAntisymmetric}
 pub use Rattle.std.specs.FinMap.Entries.{below_all, find, is_sorted, put}
 pub use Rattle.std.specs.FinSet.{contains, contains-empty, contains-insert}
 pub use Rattle.std.specs.List.{AllByRecursion, list_any, slice_split}
@@ -22,19 +26,32 @@ pub use Rattle.std.specs.Str.Lines.{lines, lines_of_parts}
 pub use Rattle.std.specs.Vec.{vec_capacity}
 pub use Rattle.std.specs.declared.cmp.Ordering.TheVariants.{Equal, Greater, Less}
 pub use Rattle.allocative_graph.specs.Collector.{entries_at}
-pub use Rattle.allocative_graph.specs.Forest.{Again, AsInline, AsShared, AsUnique, Bag, Empty, Entry, First, Fits, Forest, Inline, Unique, all, content_entries, contents, followed_by, insert_all, met_after, own, own_behind, shown}
-pub use Rattle.allocative_graph.specs.Graph.{CanBeAdded, Graph, HasNothing, HasPlainKeys, HasWords, IsBehind, IsTree, Lacks, add_self, begins, default, graph, is_root, joined, remaining, size_at, sizes, sum_of, text, text_of_entries, total, total_at, under, warnings}
+pub use Rattle.allocative_graph.specs.Forest.{Again, AsInline, AsShared, AsUnique, Bag, Empty, Entry, First, Fits}
+pub use Rattle.allocative_graph.specs.Forest.{Forest, Inline, Unique, all, content_entries, contents, followed_by}
+pub use Rattle.allocative_graph.specs.Forest.{insert_all, met_after, own, own_behind, shown}
+pub use Rattle.allocative_graph.specs.Graph.{CanBeAdded, Graph, HasNothing, HasPlainKeys, HasWords, IsBehind, IsTree}
+pub use Rattle.allocative_graph.specs.Graph.{Lacks, add_self, begins, default, graph, is_root, joined, remaining}
+pub use Rattle.allocative_graph.specs.Graph.{size_at, sizes, sum_of, text, text_of_entries, total, total_at, under}
+pub use Rattle.allocative_graph.specs.Graph.{warnings}
 pub use Rattle.allocative_graph.specs.Identity.{Identities, Identity, identity_cmp, is_same_identity}
 pub use Rattle.allocative_graph.specs.Many.{sum_of_all, total_of}
-pub use Rattle.allocative_graph.specs.Meaning.{IsMeaning, IsWhole, Reached, content_of, has_mark, inside, is_among, is_mark_of, marked}
+pub use Rattle.allocative_graph.specs.Meaning.{IsMeaning, IsWhole, Reached, content_of, has_mark, inside, is_among}
+pub use Rattle.allocative_graph.specs.Meaning.{is_mark_of, marked}
 pub use Rattle.allocative_graph.specs.Path.{Key, Path, is_one_below, is_same_path, key_cmp, path_cmp}
-pub use Rattle.allocative_graph.specs.Read.{AreStacks, IsCut, IsFault, IsNumber, IsRead, IsStack, IsWrong, Means, Stack, all_bytes, bytes_at, is_path_of, number_of, line_stack}
-pub use Rattle.allocative_graph.specs.Reads.{AreChildren, Figures, figures_behind, keys_of, node, rows_of, rows_of_child, under_rows}
-pub use Rattle.allocative_graph.specs.Representation.Children.{AddsUp, AddsUpInPart, AllAbove, AllBelow, InOrder, IsChildGap, IsFound, size_under, Added, Merged, child_of_path}
+pub use Rattle.allocative_graph.specs.Read.{AreStacks, IsCut, IsFault, IsNumber, IsRead, IsStack, IsWrong, Means, Stack}
+pub use Rattle.allocative_graph.specs.Read.{all_bytes, bytes_at, is_path_of, number_of, line_stack}
+pub use Rattle.allocative_graph.specs.Reads.{AreChildren, Figures, figures_behind, keys_of, node, rows_of}
+pub use Rattle.allocative_graph.specs.Reads.{rows_of_child, under_rows}
+pub use Rattle.allocative_graph.specs.Representation.Children.{AddsUp, AddsUpInPart, AllAbove, AllBelow, InOrder}
+pub use Rattle.allocative_graph.specs.Representation.Children.{IsChildGap, IsFound, size_under, Added, Merged}
+pub use Rattle.allocative_graph.specs.Representation.Children.{child_of_path}
 pub use Rattle.allocative_graph.specs.Representation.Node.{IsNode, weight}
-pub use Rattle.allocative_graph.specs.Representation.NodeRows.{both, entries-node, first, len-child, node_sorted, second}
-pub use Rattle.allocative_graph.specs.Representation.PathRows.{IsSumByPath, joined_on, line_from, lines_below, sum_of_rows, graph_of_path, one_stack, sum_of_stacks}
-pub use Rattle.allocative_graph.specs.Sums.{Node, Sums, add, add_all, below, bytes_in, is_entered_in, is_unique_in, node_of, sums_of, together}
+pub use Rattle.allocative_graph.specs.Representation.NodeRows.{both, entries-node, first, len-child, node_sorted}
+pub use Rattle.allocative_graph.specs.Representation.NodeRows.{second}
+pub use Rattle.allocative_graph.specs.Representation.PathRows.{IsSumByPath, joined_on, line_from, lines_below}
+pub use Rattle.allocative_graph.specs.Representation.PathRows.{sum_of_rows, graph_of_path, one_stack, sum_of_stacks}
+pub use Rattle.allocative_graph.specs.Sums.{Node, Sums, add, add_all, below, bytes_in, is_entered_in, is_unique_in}
+pub use Rattle.allocative_graph.specs.Sums.{node_of, sums_of, together}
 pub use Rattle.allocative_graph.specs.declared.flamegraph.Child.{Child}
 pub use Rattle.allocative_graph.specs.declared.read.Line.{Line}
 pub use Rattle.allocative_graph.specs.declared.read.LineFault.{LineFault}

@@ -1,6 +1,9 @@
 -- One forest followed by another: their entries, their contents, and what they fit.
 use Rattle.std.proofs.Common.{◌≡◌, ◌↔◌, Bool, false, ◌||◌, List, [], ◌∷◌, ◌++◌, refl, ap, sym, ◌∙◌, append_assoc, arith}
-use Rattle.allocative_graph.proofs.Common.{AllByRecursion, Sums, add, add_all, contains, Path, Identities, Identity, Forest, Empty, Inline, Unique, First, Again, AsInline, AsUnique, AsShared, Bag, own_behind, contents, shown, followed_by, insert_all, met_after, Fits, entries_at, flat_map-append}
+use Rattle.allocative_graph.proofs.Common.{AllByRecursion, Sums, add, add_all, contains, Path, Identities, Identity}
+use Rattle.allocative_graph.proofs.Common.{Forest, Empty, Inline, Unique, First, Again, AsInline, AsUnique, AsShared}
+use Rattle.allocative_graph.proofs.Common.{Bag, own_behind, contents, shown, followed_by, insert_all, met_after, Fits}
+use Rattle.allocative_graph.proofs.Common.{entries_at, flat_map-append}
 use Rattle.std.specs.FinSet.{insert}
 use Rattle.allocative_graph.proofs.Basics.{or_left, each-parts}
 use Rattle.allocative_graph.proofs.Lookups.{add_all-same}
@@ -10,17 +13,29 @@ use Rattle.allocative_graph.proofs.Reach.{ids, met-append, contains-insert_all}
 -- The own entries of two forests one after another are those of the first, then those of the second.
 pub own-following : (p : Path) (f g : Forest) → own_behind p (followed_by f g) ≡ own_behind p f ++ own_behind p g
 own-following p Empty g = refl
-own-following p (Inline k n f after) g = λ i. record { path = p ++ k ∷ []; size = n; mark = AsInline } ∷ (ap (λ b. own_behind (p ++ k ∷ []) f ++ b) (own-following p after g) ∙ sym (append_assoc (own_behind (p ++ k ∷ []) f) (own_behind p after) (own_behind p g))) i
-own-following p (Unique k n f after) g = λ i. record { path = p ++ k ∷ []; size = n; mark = AsUnique } ∷ (ap (λ b. own_behind (p ++ k ∷ []) f ++ b) (own-following p after g) ∙ sym (append_assoc (own_behind (p ++ k ∷ []) f) (own_behind p after) (own_behind p g))) i
-own-following p (First k n j f after) g = λ i. record { path = p ++ k ∷ []; size = n; mark = AsShared j } ∷ own-following p after g i
-own-following p (Again k n j after) g = λ i. record { path = p ++ k ∷ []; size = n; mark = AsShared j } ∷ own-following p after g i
+own-following p (Inline k n f after) g = λ i. record { path = p ++ k ∷ []; size = n; mark = AsInline }
+    ∷ (ap (λ b. own_behind (p ++ k ∷ []) f ++ b) (own-following p after g)
+    ∙ sym (append_assoc (own_behind (p ++ k ∷ []) f) (own_behind p after) (own_behind p g))) i
+own-following p (Unique k n f after) g = λ i. record { path = p ++ k ∷ []; size = n; mark = AsUnique }
+    ∷ (ap (λ b. own_behind (p ++ k ∷ []) f ++ b) (own-following p after g)
+    ∙ sym (append_assoc (own_behind (p ++ k ∷ []) f) (own_behind p after) (own_behind p g))) i
+own-following p (First k n j f after) g =
+    λ i. record { path = p ++ k ∷ []; size = n; mark = AsShared j } ∷ own-following p after g i
+own-following p (Again k n j after) g = λ i. record { path = p ++ k ∷ []; size = n; mark = AsShared j } ∷ own-following
+    p after g i
 
 -- The contents of two forests one after another are those of the first, then those of the second.
 pub contents-following : (f g : Forest) → contents (followed_by f g) ≡ contents f ++ contents g
 contents-following Empty g = refl
-contents-following (Inline k n f after) g = ap (λ b. contents f ++ b) (contents-following after g) ∙ sym (append_assoc (contents f) (contents after) (contents g))
-contents-following (Unique k n f after) g = ap (λ b. contents f ++ b) (contents-following after g) ∙ sym (append_assoc (contents f) (contents after) (contents g))
-contents-following (First k n j f after) g = λ i. (j, own_behind [] f) ∷ (ap (λ b. contents f ++ b) (contents-following after g) ∙ sym (append_assoc (contents f) (contents after) (contents g))) i
+contents-following (Inline k n f after) g =
+    ap (λ b. contents f ++ b) (contents-following after g)
+    ∙ sym (append_assoc (contents f) (contents after) (contents g))
+contents-following (Unique k n f after) g =
+    ap (λ b. contents f ++ b) (contents-following after g)
+    ∙ sym (append_assoc (contents f) (contents after) (contents g))
+contents-following (First k n j f after) g =
+    λ i. (j, own_behind [] f) ∷ (ap (λ b. contents f ++ b) (contents-following after g)
+    ∙ sym (append_assoc (contents f) (contents after) (contents g))) i
 contents-following (Again k n j after) g = contents-following after g
 
 -- The identities met after two forests are those met after the first one and then the second.
@@ -28,15 +43,18 @@ pub met-following : (s : Identities) (f g : Forest) → met_after s (followed_by
 met-following s f g = rw (contents-following f g) (met-append s (contents f) (contents g))
 
 -- Two forests one after another change the sums as the first one does and then the second.
-pub entries_at-following : (s : Sums) (p : Path) (f g : Forest) → add_all s (entries_at p (followed_by f g)) ≡ add_all (add_all s (entries_at p f)) (entries_at p g)
+pub entries_at-following : (s : Sums) (p : Path) (f g : Forest) →
+    add_all s (entries_at p (followed_by f g)) ≡ add_all (add_all s (entries_at p f)) (entries_at p g)
 entries_at-following s p f g = add_all-same s (entries_at p (followed_by f g)) (entries_at p f ++ entries_at p g)
     (λ w. rw (own-following p f g, contents-following f g, flat_map-append (λ (c : Identity × Bag). c.1) (contents f) (contents g)) (simp sum_by-append (omega arith)))
     ∙ fold-append add s (entries_at p f) (entries_at p g)
 
 -- ---- fitting
 -- A step of `fits-following`: if it holds of the entries after an entry, it holds with that entry too.
-fits_inside : (s : Identities) (f after g : Forest) → Fits (met_after s f) (followed_by after g) ↔ (Fits (met_after s f) after × Fits (met_after (met_after s f) after) g)
-    → (Fits s f × Fits (met_after s f) (followed_by after g)) ↔ ((Fits s f × Fits (met_after s f) after) × Fits (insert_all s (ids (contents f ++ contents after))) g)
+fits_inside : (s : Identities) (f after g : Forest) →
+    Fits (met_after s f) (followed_by after g) ↔ (Fits (met_after s f) after × Fits (met_after (met_after s f) after) g)
+    → (Fits s f × Fits (met_after s f) (followed_by after g)) ↔
+    ((Fits s f × Fits (met_after s f) after) × Fits (insert_all s (ids (contents f ++ contents after))) g)
 fits_inside s f after g rest = rw (met-append s (contents f) (contents after))
     (λ w. let x = rest.0 w.1 in ((w.0, x.0), x.1), λ w. (w.0.0, rest.1 (w.0.1, w.1)))
 
@@ -46,9 +64,13 @@ fits-following s Empty g = (λ w. (tt, w), λ w. w.1)
 fits-following s (Inline k n f after) g = fits_inside s f after g (fits-following (met_after s f) after g)
 fits-following s (Unique k n f after) g = fits_inside s f after g (fits-following (met_after s f) after g)
 fits-following s (First k n j f after) g =
-    let both = fits_inside (insert s j) f after g (fits-following (met_after (insert s j) f) after g) in
-    (λ w. let x = both.0 (w.1, w.2) in ((w.0, x.0.0, x.0.1), x.1), λ w. let x = both.1 ((w.0.1, w.0.2), w.1) in (w.0.0, x.0, x.1))
-fits-following s (Again k n j after) g = let rest = fits-following s after g in (λ w. let x = rest.0 w.1 in ((w.0, x.0), x.1), λ w. (w.0.0, rest.1 (w.0.1, w.1)))
+    let both = fits_inside (insert s j) f after g (fits-following (met_after (insert s j) f) after g) in (
+      λ w. let x = both.0 (w.1, w.2) in ((w.0, x.0.0, x.0.1), x.1),
+      λ w. let x = both.1 ((w.0.1, w.0.2), w.1) in
+          (w.0.0, x.0, x.1),
+    )
+fits-following s (Again k n j after) g = let rest = fits-following s after g in
+    (λ w. let x = rest.0 w.1 in ((w.0, x.0), x.1), λ w. (w.0.0, rest.1 (w.0.1, w.1)))
 
 -- ---- a set with more identities, of which none is shown
 module _ (more : Identity → Bool) where
@@ -58,7 +80,8 @@ module _ (more : Identity → Bool) where
   more-insert_all : (s t : Identities) (is : List Identity) → HasMore s t → HasMore (insert_all s is) (insert_all t is)
   more-insert_all s t is h i = grind (arith, contains-insert_all s is i, contains-insert_all t is i, h i)
 
-  pub fits_more : (s t : Identities) (f : Forest) → HasMore s t → AllByRecursion (λ c. more c.0 ≡ false) (contents f) → Fits s f → Fits t f
+  pub fits_more : (s t : Identities) (f : Forest) → HasMore s t → AllByRecursion (λ c. more c.0 ≡ false) (contents f) →
+      Fits s f → Fits t f
   fits_more s t Empty h a w = tt
   fits_more s t (Inline k n f after) h a w =
       let xs = each-parts (λ c. more c.0 ≡ false) (contents f) (contents after) a in
@@ -69,6 +92,7 @@ module _ (more : Identity → Bool) where
   fits_more s t (First k n j f after) h a w =
       let xs = each-parts (λ c. more c.0 ≡ false) (contents f) (contents after) a.1 in
       let up = more-insert_all s t (j ∷ []) h in
-      let rest = fits_more (met_after (insert s j) f) (met_after (insert t j) f) after (more-insert_all (insert s j) (insert t j) (shown f) up) xs.1 w.2 in
+      let rest = fits_more (met_after (insert s j) f) (met_after (insert t j) f) after
+      (more-insert_all (insert s j) (insert t j) (shown f) up) xs.1 w.2 in
       (h j ∙ ap (λ c. c || more j) w.0 ∙ a.0, fits_more (insert s j) (insert t j) f up xs.0 w.1, rest)
   fits_more s t (Again k n j after) h a w = (h j ∙ or_left _ (more j) w.0, fits_more s t after h a w.1)

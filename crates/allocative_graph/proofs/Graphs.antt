@@ -1,6 +1,11 @@
 -- Graphs as maps: their sums, their totals, and graphs under a key.
-use Rattle.std.proofs.Common.{◌≡◌, ℕ, ◌+◌, Bool, cond, ◌||◌, T, IsTrue, List, [], ◌∷◌, ◌++◌, fold, Option, Some, None, is_some, ap, sym, ◌∙◌, arith, unwrap_or, sum_by}
-use Rattle.allocative_graph.proofs.Common.{eq_by_cmp, get, entries, get-entries, get-insert, get-from_entries, entries_sorted, contains_key, same_map, find, is_sorted, below_all, first, second, Key, Child, node, IsSumByPath, Path, key_cmp, path_cmp, is_same_path, Forest, all, Bag, is_entered_in, sums_of, Graph, graph, size_at, total_at, begins, total, sum_of, under, default, IsTree, sum_by-cons, insert}
+use Rattle.std.proofs.Common.{◌≡◌, ℕ, ◌+◌, Bool, cond, ◌||◌, T, IsTrue, List, [], ◌∷◌, ◌++◌, fold, Option, Some, None}
+use Rattle.std.proofs.Common.{is_some, ap, sym, ◌∙◌, arith, unwrap_or, sum_by}
+use Rattle.allocative_graph.proofs.Common.{eq_by_cmp, get, entries, get-entries, get-insert, get-from_entries}
+use Rattle.allocative_graph.proofs.Common.{entries_sorted, contains_key, same_map, find, is_sorted, below_all, first}
+use Rattle.allocative_graph.proofs.Common.{second, Key, Child, node, IsSumByPath, Path, key_cmp, path_cmp, is_same_path}
+use Rattle.allocative_graph.proofs.Common.{Forest, all, Bag, is_entered_in, sums_of, Graph, graph, size_at, total_at}
+use Rattle.allocative_graph.proofs.Common.{begins, total, sum_of, under, default, IsTree, sum_by-cons, insert}
 use Rattle.allocative_graph.proofs.Basics.{path_total, path_antisymmetric, same_path, or_comm}
 use Rattle.allocative_graph.proofs.Below.{find-below_all, weights-insert}
 use Rattle.allocative_graph.proofs.Merge.{get-sum_of, get-graph, get-graph-root}
@@ -15,8 +20,10 @@ abbrev pub add_at : Graph → Path × ℕ → Graph
 add_at g e = insert g e.0 (size_at g e.0 + e.1)
 
 -- A size added at a path counts in the total at that path and at each of its prefixes, and nowhere else.
-total_at-add_at : (q : Path) (g : Graph) (e : Path × ℕ) → total_at (add_at g e) q ≡ total_at g q + cond (begins q e.0) e.1 0
-total_at-add_at q g e = weights-insert path_total path_antisymmetric (λ p n. cond (begins q p) n 0) g e.0 (size_at g e.0 + e.1) (cond (begins q e.0) e.1 0) (grind arith)
+total_at-add_at : (q : Path) (g : Graph) (e : Path × ℕ) →
+    total_at (add_at g e) q ≡ total_at g q + cond (begins q e.0) e.1 0
+total_at-add_at q g e = weights-insert path_total path_antisymmetric (λ p n. cond (begins q p) n 0) g e.0
+    (size_at g e.0 + e.1) (cond (begins q e.0) e.1 0) (grind arith)
 
 -- The total is the bytes of the root and of all below it.
 pub total-add_at : (g : Graph) (e : Path × ℕ) → total (add_at g e) ≡ total g + e.1
@@ -26,7 +33,8 @@ abbrev add_list : Graph → List (Path × ℕ) → Graph
 add_list g es = fold add_at g es
 
 -- Each row added to a graph counts in the total at the path q exactly if its own path begins with q.
-total_at-add_list : (q : Path) (g : Graph) (es : List (Path × ℕ)) → total_at (add_list g es) q ≡ total_at g q + sum_by (λ r. cond (begins q r.0) r.1 0) es
+total_at-add_list : (q : Path) (g : Graph) (es : List (Path × ℕ)) →
+    total_at (add_list g es) q ≡ total_at g q + sum_by (λ r. cond (begins q r.0) r.1 0) es
 total_at-add_list q g [] = omega arith
 total_at-add_list q g (e ∷ es) = omega (arith, total_at-add_list q (add_at g e) es, total_at-add_at q g e, sum_by-cons (λ r. cond (begins q r.0) r.1 0) e es)
 
@@ -34,7 +42,8 @@ abbrev pub sizes_together : Option ℕ → Option ℕ → Option ℕ
 sizes_together x y = cond (is_some x || is_some y) (Some (unwrap_or x 0 + unwrap_or y 0)) None
 
 -- If rows in order are added to a graph, each path has the size that it had and the size of its row together.
-get-add_list : (g : Graph) (es : List (Path × ℕ)) → T (is_sorted path_cmp es) → (q : Path) → get (add_list g es) q ≡ sizes_together (get g q) (find path_cmp q es)
+get-add_list : (g : Graph) (es : List (Path × ℕ)) → T (is_sorted path_cmp es) → (q : Path) →
+    get (add_list g es) q ≡ sizes_together (get g q) (find path_cmp q es)
 get-add_list g [] h q = grind arith
 get-add_list g (e ∷ es) h q =
     let rest = get-add_list (add_at g e) es (second (below_all path_cmp e.0 es) _ h) q in
@@ -43,7 +52,9 @@ get-add_list g (e ∷ es) h q =
 
 -- The sum of two graphs is the first one with the entries of the second added one after another.
 sum_of-list : (g h : Graph) → sum_of g h ≡ add_list g (entries h)
-sum_of-list g h = same_map path_total path_antisymmetric _ _ (λ q. get-sum_of g h q ∙ sym (get-add_list g (entries h) (entries_sorted h) q ∙ ap (sizes_together (get g q)) (sym (get-entries h q))))
+sum_of-list g h = same_map path_total path_antisymmetric
+    _ _ (λ q. get-sum_of g h q ∙ sym (get-add_list g (entries h) (entries_sorted h) q
+    ∙ ap (sizes_together (get g q)) (sym (get-entries h q))))
 
 -- In the sum of two graphs, the bytes of a path and of all below it add up.
 pub total_at-sum_of : (g h : Graph) (q : Path) → total_at (sum_of g h) q ≡ total_at g q + total_at h q
@@ -67,16 +78,19 @@ pub has-sum_of : (g h : Graph) (p : Path) → contains_key (sum_of g h) p ≡ (c
 has-sum_of g h p = ap is_some (get-sum_of g h p) ∙ is_some-cond (contains_key g p || contains_key h p) _
 
 -- Graphs with the same sizes and the same paths are one.
-pub same_graph : (g h : Graph) → ((p : Path) → size_at g p ≡ size_at h p) → ((p : Path) → contains_key g p ≡ contains_key h p) → g ≡ h
+pub same_graph : (g h : Graph) → ((p : Path) → size_at g p ≡ size_at h p) →
+    ((p : Path) → contains_key g p ≡ contains_key h p) → g ≡ h
 same_graph g h sizes paths = same_map path_total path_antisymmetric g h (λ p. grind (arith, sizes p, paths p))
 
 -- A graph that has the sums path by path is the sum.
 pub is_sum_of : (g h r : Graph) → IsSumByPath g h r → r ≡ sum_of g h
-is_sum_of g h r s = same_graph r (sum_of g h) (λ p. (s p).0 ∙ sym (size_at-sum_of g h p)) (λ p. (s p).1 ∙ sym (has-sum_of g h p))
+is_sum_of g h r s = same_graph r (sum_of g h) (λ p. (s p).0 ∙ sym (size_at-sum_of g h p))
+    (λ p. (s p).1 ∙ sym (has-sum_of g h p))
 
 -- The order of two graphs does not change their sum.
 pub sum_of-commutes : (g h : Graph) → sum_of g h ≡ sum_of h g
-sum_of-commutes g h = is_sum_of h g (sum_of g h) (λ p. (omega (arith, size_at-sum_of g h p), has-sum_of g h p ∙ or_comm (contains_key g p) (contains_key h p)))
+sum_of-commutes g h = is_sum_of h g (sum_of g h)
+    (λ p. (omega (arith, size_at-sum_of g h p), has-sum_of g h p ∙ or_comm (contains_key g p) (contains_key h p)))
 
 -- Three graphs have the same sum whether the first two or the last two are added first.
 pub sum_of-associates : (g h k : Graph) → sum_of (sum_of g h) k ≡ sum_of g (sum_of h k)
@@ -93,7 +107,8 @@ size_at-default q = grind (arith, get-default q)
 
 -- Adding the default graph to a tree changes nothing.
 pub sum_of-default : (g : Graph) → IsTree g → sum_of g default ≡ g
-sum_of-default g t = sym (is_sum_of g default g (λ p. (omega (arith, size_at-default p), grind (arith, get-default p, same_path p [], t.root))))
+sum_of-default g t = sym (is_sum_of g default g
+    (λ p. (omega (arith, size_at-default p), grind (arith, get-default p, same_path p [], t.root))))
 
 -- ---- put under a key
 -- A graph under a key is a node with one child.
@@ -122,6 +137,8 @@ in_graph b k p = rw (get-graph (sums_of b) k p, get-sums_of b (k ∷ p)) (grind 
 pub graph-tree : (f : Forest) → IsTree (graph (sums_of (all f)))
 graph-tree f = record { root = ap is_some (get-graph-root (sums_of (all f))); closed = closed }
   where
-    closed : (p : Path) (k : Key) → IsTrue (contains_key (graph (sums_of (all f))) (p ++ k ∷ [])) → IsTrue (contains_key (graph (sums_of (all f))) p)
+    closed : (p : Path) (k : Key) → IsTrue (contains_key (graph (sums_of (all f))) (p ++ k ∷ [])) →
+        IsTrue (contains_key (graph (sums_of (all f))) p)
     closed [] k h = ap is_some (get-graph-root (sums_of (all f)))
-    closed (l ∷ p) k h = in_graph (all f) l p ∙ parent_entered f l p (below_entered (l ∷ p) k (all f) (sym (in_graph (all f) l (p ++ k ∷ [])) ∙ h))
+    closed (l ∷ p) k h = in_graph (all f) l p
+        ∙ parent_entered f l p (below_entered (l ∷ p) k (all f) (sym (in_graph (all f) l (p ++ k ∷ [])) ∙ h))

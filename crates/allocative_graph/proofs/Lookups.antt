@@ -1,6 +1,9 @@
 -- What a bag adds to the sums, path by path, whatever its order.
-use Rattle.std.proofs.Common.{◌≡◌, ℕ, ◌+◌, Bool, false, cond, [], ◌∷◌, Option, Some, None, refl, ap, sym, ◌∙◌, sum_by, arith, nat_lt}
-use Rattle.allocative_graph.proofs.Common.{get, get-insert, same_map, Path, path_cmp, is_same_path, Entry, Bag, Node, Sums, bytes_in, is_unique_in, is_entered_in, together, node_of, add, add_all, sums_of, sum_by-cons, list_any}
+use Rattle.std.proofs.Common.{◌≡◌, ℕ, ◌+◌, Bool, false, cond, [], ◌∷◌, Option, Some, None, refl, ap, sym, ◌∙◌, sum_by}
+use Rattle.std.proofs.Common.{arith, nat_lt}
+use Rattle.allocative_graph.proofs.Common.{get, get-insert, same_map, Path, path_cmp, is_same_path, Entry, Bag, Node}
+use Rattle.allocative_graph.proofs.Common.{Sums, bytes_in, is_unique_in, is_entered_in, together, node_of, add, add_all}
+use Rattle.allocative_graph.proofs.Common.{sums_of, sum_by-cons, list_any}
 use Rattle.std.proofs.lemmas.Bool.Decides.{nat_tests}
 use Rattle.std.specs.FinMap.{empty, get-empty}
 use Rattle.allocative_graph.specs.Sums.{is_unique_mark}
@@ -15,7 +18,8 @@ merge a None = a
 merge a (Some n) = Some (together a n)
 
 -- One entry more in a bag adds its bytes at its own path, and nothing at other paths.
-bytes-cons : (e : Entry) (b : Bag) (q : Path) → bytes_in (e ∷ b) q ≡ cond (is_same_path q e.path) e.size 0 + bytes_in b q
+bytes-cons : (e : Entry) (b : Bag) (q : Path) →
+    bytes_in (e ∷ b) q ≡ cond (is_same_path q e.path) e.size 0 + bytes_in b q
 bytes-cons e b q = sum_by-cons (λ e. cond (is_same_path q e.path) e.size 0) e b
 
 -- If a bag has no entry at a path, it has no bytes there.
@@ -32,7 +36,8 @@ abbrev node : ℕ → Bool → Node
 node n u = record { bytes = n; is_unique = u }
 
 -- An entry added to sums is joined to what its path had there. Other paths stay as they were.
-pub get-add : (s : Sums) (e : Entry) (q : Path) → get (add s e) q ≡ cond (is_same_path q e.path) (Some (together (get s e.path) (node_of e))) (get s q)
+pub get-add : (s : Sums) (e : Entry) (q : Path) →
+    get (add s e) q ≡ cond (is_same_path q e.path) (Some (together (get s e.path) (node_of e))) (get s q)
 get-add s e q = get-insert path_total s e.path _ q
 
 -- Sums with a bag added have at each path what they had there, together with what the bag has there.
@@ -64,8 +69,10 @@ any_same test b c h = any_counted test b ∙ ap (nat_lt 0) (h (λ e. cond (test 
 -- Two bags with the same sums have the same at each path.
 node_in-same : (b c : Bag) → SameSums b c → (q : Path) → node_in b q ≡ node_in c q
 node_in-same b c h q = λ i. cond (any_same (λ e. is_same_path q e.path) b c h i)
-    (Some (node (h (λ e. cond (is_same_path q e.path) e.size 0) i) (any_same (λ e. cond (is_same_path q e.path) (is_unique_mark e.mark) false) b c h i))) None
+    (Some (node (h (λ e. cond (is_same_path q e.path) e.size 0) i)
+    (any_same (λ e. cond (is_same_path q e.path) (is_unique_mark e.mark) false) b c h i))) None
 
 -- Two bags with the same sums, each added to the same sums, give one result.
 pub add_all-same : (s : Sums) (b c : Bag) → SameSums b c → add_all s b ≡ add_all s c
-add_all-same s b c h = same_sums _ _ (λ q. get-add_all s b q ∙ ap (merge (get s q)) (node_in-same b c h q) ∙ sym (get-add_all s c q))
+add_all-same s b c h = same_sums _ _ (λ q. get-add_all s b q ∙ ap (merge (get s q)) (node_in-same b c h q)
+    ∙ sym (get-add_all s c q))

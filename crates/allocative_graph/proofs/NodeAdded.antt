@@ -1,6 +1,11 @@
 -- Nodes are trees, and add up if their own sizes and their children do.
-use Rattle.std.proofs.Common.{◌≡◌, ℕ, ◌+◌, ◌<◌, ◌^◌, Bool, true, cond, List, [], ◌∷◌, ◌++◌, length, length-append, Some, refl, unwrap_or, sym, ap, subst, subst₂, ◌∙◌, arith}
-use Rattle.allocative_graph.proofs.Common.{AllByRecursion, is_some, eq_by_cmp, get, contains_key, entries, len, len-entries, Child, Key, Path, key_cmp, Graph, IsTree, size_at, sum_of, total, under, node, rows_of, rows_of_child, AreChildren, IsNode, weight, size_under, AddsUp, AddsUpInPart, Added, Merged, entries-node, len-child, is_eq, Less, keys_of, tied_itself, nat_list_cmp_total}
+use Rattle.std.proofs.Common.{◌≡◌, ℕ, ◌+◌, ◌<◌, ◌^◌, Bool, true, cond, List, [], ◌∷◌, ◌++◌, length, length-append, Some}
+use Rattle.std.proofs.Common.{refl, unwrap_or, sym, ap, subst, subst₂, ◌∙◌, arith}
+use Rattle.allocative_graph.proofs.Common.{AllByRecursion, is_some, eq_by_cmp, get, contains_key, entries, len}
+use Rattle.allocative_graph.proofs.Common.{len-entries, Child, Key, Path, key_cmp, Graph, IsTree, size_at, sum_of}
+use Rattle.allocative_graph.proofs.Common.{total, under, node, rows_of, rows_of_child, AreChildren, IsNode, weight}
+use Rattle.allocative_graph.proofs.Common.{size_under, AddsUp, AddsUpInPart, Added, Merged, entries-node, len-child}
+use Rattle.allocative_graph.proofs.Common.{is_eq, Less, keys_of, tied_itself, nat_list_cmp_total}
 use Rattle.allocative_graph.specs.Many.{ComesLast}
 use Rattle.allocative_graph.proofs.ChildMerged.{merged_last}
 use Rattle.allocative_graph.proofs.Basics.{on_test}
@@ -12,10 +17,12 @@ use Rattle.allocative_graph.proofs.Graphs.{is_sum_of, total-sum_of, total-under}
 use Rattle.allocative_graph.proofs.NodeSizes.{total-node}
 
 -- If all children are trees, they have with each path below a key also the path with its last key left out.
-has_parent : (cs : List Child) (l : Key) (p : Path) (k : Key) → AllByRecursion (λ (c : Child). IsTree c.graph) cs → is_some (size_under cs l (p ++ k ∷ [])) ≡ true → is_some (size_under cs l p) ≡ true
+has_parent : (cs : List Child) (l : Key) (p : Path) (k : Key) → AllByRecursion (λ (c : Child). IsTree c.graph) cs →
+    is_some (size_under cs l (p ++ k ∷ [])) ≡ true → is_some (size_under cs l p) ≡ true
 has_parent [] l p k h e = e
 has_parent (c ∷ cs) l p k h e =
-    on_test (λ b. is_some (cond b (get c.graph (p ++ k ∷ [])) (size_under cs l (p ++ k ∷ []))) ≡ true → is_some (cond b (get c.graph p) (size_under cs l p)) ≡ true) (eq_by_cmp key_cmp l c.key)
+    on_test (λ b. is_some (cond b (get c.graph (p ++ k ∷ [])) (size_under cs l (p ++ k ∷ []))) ≡ true →
+    is_some (cond b (get c.graph p) (size_under cs l p)) ≡ true) (eq_by_cmp key_cmp l c.key)
     (λ s. h.0.closed p k) (λ s. has_parent cs l p k h.1) e
 
 -- A node is a tree if its children are in the order of their keys and are trees.
@@ -24,15 +31,19 @@ node_tree n cs h = record { root = ap is_some (get-root n cs h.sorted); closed =
   where
     from : (p : Path) (k : Key) → contains_key (node n cs) (p ++ k ∷ []) ≡ true → contains_key (node n cs) p ≡ true
     from [] k e = ap is_some (get-root n cs h.sorted)
-    from (l ∷ p) k e = ap is_some (get-under n cs l p h.sorted) ∙ has_parent cs l p k h.trees (ap is_some (sym (get-under n cs l (p ++ k ∷ []) h.sorted)) ∙ e)
+    from (l ∷ p) k e = ap is_some (get-under n cs l p h.sorted)
+        ∙ has_parent cs l p k h.trees (ap is_some (sym (get-under n cs l (p ++ k ∷ []) h.sorted)) ∙ e)
 
 -- If the children of two nodes were merged and their own sizes added, the second graph was added to the first.
-pub added_node : (all : Bool) (m n : ℕ) (cs ds es : List Child) → AreChildren cs → AreChildren ds → Merged all cs ds es → Added all (node m cs) (node n ds) (node (m + n) es)
+pub added_node : (all : Bool) (m n : ℕ) (cs ds es : List Child) → AreChildren cs → AreChildren ds →
+    Merged all cs ds es → Added all (node m cs) (node n ds) (node (m + n) es)
 added_node all m n cs ds es a b h = record {
   tree = node_tree (m + n) es h.children;
-  part = node_each AddsUpInPart m n (m + n) cs ds es a.sorted b.sorted h.children.sorted (part_of_sum (Some m) (Some n) (Some (m + n)) (refl, refl)) h.part;
+  part = node_each AddsUpInPart m n (m + n) cs ds es a.sorted b.sorted h.children.sorted
+      (part_of_sum (Some m) (Some n) (Some (m + n)) (refl, refl)) h.part;
   sum = λ w. node_each AddsUp m n (m + n) cs ds es a.sorted b.sorted h.children.sorted (refl, refl) (h.sum w);
-  at_most = omega (arith, h.at_most, total-node m cs a.sorted, total-node n ds b.sorted, total-node (m + n) es h.children.sorted);
+  at_most = omega
+      (arith, h.at_most, total-node m cs a.sorted, total-node n ds b.sorted, total-node (m + n) es h.children.sorted);
 }
 
 -- If all was added, the result is the sum.
@@ -40,17 +51,23 @@ pub added_sum : {all : Bool} {g h r : Graph} → Added all g h r → all ≡ tru
 added_sum {g = g} {h = h} {r = r} added done = is_sum_of g h r (added.sum done)
 
 -- With one child merged into its children, a node has the graph under that child's key added.
-pub added_under : {all : Bool} {m s : ℕ} {cs es : List Child} {g : Graph} (c : Child) → node m cs ≡ g → IsNode cs s m → IsTree c.graph → Merged all cs (c ∷ []) es → Added all g (under c.key c.graph) (node m es)
+pub added_under : {all : Bool} {m s : ℕ} {cs es : List Child} {g : Graph} (c : Child) → node m cs ≡ g → IsNode cs s m →
+    IsTree c.graph → Merged all cs (c ∷ []) es → Added all g (under c.key c.graph) (node m es)
 added_under {all = all} {m = m} {cs = cs} {es = es} {g = g} c view a t h =
     let no_more : m + 0 ≡ m = omega arith in
-    subst (λ f. Added all f (under c.key c.graph) (node m es)) view (subst₂ (λ f n. Added all (node m cs) f (node n es)) (node_of_one c) no_more (added_node all m 0 cs (c ∷ []) es a.children (one_child c t) h))
+    subst (λ f. Added all f (under c.key c.graph) (node m es)) view
+    (subst₂ (λ f n. Added all (node m cs) f (node n es)) (node_of_one c) no_more
+    (added_node all m 0 cs (c ∷ []) es a.children (one_child c t) h))
 
 -- What holds of each key below the root of a node holds of the keys of its children.
-each_child : (P : Key → Type 0) (cs : List Child) → AllByRecursion (λ (c : Child). IsTree c.graph) cs → ((l : Key) → is_some (size_under cs l []) ≡ true → P l) → AllByRecursion P (keys_of cs)
+each_child : (P : Key → Type 0) (cs : List Child) → AllByRecursion (λ (c : Child). IsTree c.graph) cs →
+    ((l : Key) → is_some (size_under cs l []) ≡ true → P l) → AllByRecursion P (keys_of cs)
 each_child P [] t f = tt
 each_child P (c ∷ cs) t f = (
-  f c.key (subst (λ (b : Bool). is_some (cond b (get c.graph []) (size_under cs c.key [])) ≡ true) (sym (ap is_eq (tied_itself nat_list_cmp_total c.key))) t.0.root),
-  each_child P cs t.1 (λ l e. f l (on_test (λ b. is_some (cond b (get c.graph []) (size_under cs l [])) ≡ true) (eq_by_cmp key_cmp l c.key) (λ s. t.0.root) (λ s. e))),
+  f c.key (subst (λ (b : Bool). is_some (cond b (get c.graph []) (size_under cs c.key [])) ≡ true)
+      (sym (ap is_eq (tied_itself nat_list_cmp_total c.key))) t.0.root),
+  each_child P cs t.1 (λ l e. f l (on_test (λ b. is_some (cond b (get c.graph []) (size_under cs l [])) ≡ true)
+      (eq_by_cmp key_cmp l c.key) (λ s. t.0.root) (λ s. e))),
 )
 
 -- A node has one path more than its children have rows.
@@ -75,7 +92,8 @@ module _ {n s : ℕ} {cs : List Child} {g : Graph} (view : node n cs ≡ g) (h :
   len_of_node = ap len (sym view) ∙ rows_of_node n cs h.children
 
 -- ---- one child merged into the children of a node with the graph g
-module _ {n s : ℕ} {cs es : List Child} {g : Graph} {c : Child} (view : node n cs ≡ g) (h : IsNode cs s n) (t : IsTree c.graph) (m : Merged true cs (c ∷ []) es) where
+module _ {n s : ℕ} {cs es : List Child} {g : Graph} {c : Child} (view : node n cs ≡ g) (h : IsNode cs s n)
+    (t : IsTree c.graph) (m : Merged true cs (c ∷ []) es) where
   -- The node has the graph under the key of the child added.
   pub sum_grown : node n es ≡ sum_of g (under c.key c.graph)
   sum_grown = added_sum (added_under c view h t m) refl
@@ -85,28 +103,37 @@ module _ {n s : ℕ} {cs es : List Child} {g : Graph} {c : Child} (view : node n
   node_grown is fits =
       let own = total_of_node view h in
       let all : n + weight es ≡ total g + total c.graph =
-      sym (total-node n es m.children.sorted) ∙ ap total sum_grown ∙ total-sum_of g (under c.key c.graph) ∙ ap (λ k. total g + k) (total-under c.key c.graph) in
+      sym (total-node n es m.children.sorted) ∙ ap total sum_grown ∙ total-sum_of g (under c.key c.graph)
+      ∙ ap (λ k. total g + k) (total-under c.key c.graph) in
       record { children = m.children; exact = omega (arith, all, own, h.exact); fits = omega (arith, all, own, h.exact, fits) }
 
 -- A child that comes after all others is put at the end.
-pub pushed : {n s : ℕ} {cs : List Child} {g : Graph} (view : node n cs ≡ g) → IsNode cs s n → (c : Child) → IsTree c.graph → ComesLast g c.key → Merged true cs (c ∷ []) (cs ++ c ∷ [])
-pushed {n = n} {cs = cs} view h c t last = merged_last cs c h.children t (each_child (λ l. key_cmp l c.key ≡ Less) cs h.children.trees
-    (λ l e. last l [] (subst (λ (x : Graph). contains_key x (l ∷ []) ≡ true) view (ap is_some (get-under n cs l [] h.children.sorted) ∙ e))))
+pub pushed : {n s : ℕ} {cs : List Child} {g : Graph} (view : node n cs ≡ g) → IsNode cs s n → (c : Child) →
+    IsTree c.graph → ComesLast g c.key → Merged true cs (c ∷ []) (cs ++ c ∷ [])
+pushed {n = n} {cs = cs} view h c t last =
+    merged_last cs c h.children t (each_child (λ l. key_cmp l c.key ≡ Less) cs h.children.trees
+    (λ l e. last l [] (subst (λ (x : Graph). contains_key x (l ∷ []) ≡ true) view
+    (ap is_some (get-under n cs l [] h.children.sorted) ∙ e))))
 
 -- ---- two nodes with the graphs g and h, whose children merge to es, also if equal lists are named
-module _ {g h : Graph} {m n s t : ℕ} {cs ds : List Child} (mine : node m cs ≡ g) (a : IsNode cs s m) (theirs : node n ds ≡ h) (b : IsNode ds t n) where
+module _ {g h : Graph} {m n s t : ℕ} {cs ds : List Child} (mine : node m cs ≡ g) (a : IsNode cs s m)
+    (theirs : node n ds ≡ h) (b : IsNode ds t n) where
   pub total_of_both : total g + total h ≡ (m + n) + (weight cs + weight ds)
   total_of_both = omega (arith, total_of_node mine a, total_of_node theirs b)
 
-  pub merged_node : {all : Bool} {cs' ds' es : List Child} {size : ℕ} → cs' ≡ cs → ds' ≡ ds → total g + total h < 2 ^ 64 → Merged all cs' ds' es → size ≡ weight es → IsNode es size (m + n)
+  pub merged_node : {all : Bool} {cs' ds' es : List Child} {size : ℕ} → cs' ≡ cs → ds' ≡ ds →
+      total g + total h < 2 ^ 64 → Merged all cs' ds' es → size ≡ weight es → IsNode es size (m + n)
   merged_node e f fits k exact = record { children = k.children; exact = exact; fits = omega (arith, total_of_both, k.at_most, ap weight e, ap weight f, exact, fits) }
 
-  pub merged_graph : {all : Bool} {cs' ds' es : List Child} → cs' ≡ cs → ds' ≡ ds → Merged all cs' ds' es → Added all g h (node (m + n) es)
+  pub merged_graph : {all : Bool} {cs' ds' es : List Child} → cs' ≡ cs → ds' ≡ ds → Merged all cs' ds' es →
+      Added all g h (node (m + n) es)
   merged_graph {all = all} {es = es} e f k =
-      subst₂ (λ x y. Added all x y (node (m + n) es)) mine theirs (added_node all m n cs ds es a.children b.children (subst₂ (λ x y. Merged all x y es) e f k))
+      subst₂ (λ x y. Added all x y (node (m + n) es)) mine theirs
+      (added_node all m n cs ds es a.children b.children (subst₂ (λ x y. Merged all x y es) e f k))
 
   -- The second node has one child.
-  pub child_of_one : {c : Child} → c ∷ [] ≡ ds → total g + total h < 2 ^ 64 → (len c.graph < len h) × IsTree c.graph × (s + total c.graph < 2 ^ 64)
+  pub child_of_one : {c : Child} → c ∷ [] ≡ ds → total g + total h < 2 ^ 64 →
+      (len c.graph < len h) × IsTree c.graph × (s + total c.graph < 2 ^ 64)
   child_of_one {c = c} one fits = (
     omega (arith, len_of_node theirs b, ap (λ l. length (rows_of l)) one, length-append (rows_of_child c) [], len-child c),
     first_tree c [] (subst AreChildren (sym one) b.children),

@@ -11,5 +11,6 @@ use Rattle.allocative_graph.proofs.Lookups.{add_all-same}
 pub one_sums : (b : Bag) (T : Identity → Bag) (m n : Bag) → IsMeaning b T m → IsMeaning b T n → sums_of m ≡ sums_of n
 one_sums b T m n x y = add_all-same empty m n (λ w.
     let flat = same_flat x.identities y.identities x.once y.once
-    (λ k. both_ways _ _ (λ h. (y.reached k).1 ((x.reached k).0 h)) (λ h. (x.reached k).1 ((y.reached k).0 h))) T T (λ k h. IsPermutation-refl (T k)) w in
+    (λ k. both_ways _ _ (λ h. (y.reached k).1 ((x.reached k).0 h)) (λ h. (x.reached k).1 ((y.reached k).0 h))) T T
+    (λ k h. IsPermutation-refl (T k)) w in
     omega (arith, sum_by-IsPermutation w _ _ x.is, sum_by-IsPermutation w _ _ y.is, sum_by-append w b (flat_map T x.identities), sum_by-append w b (flat_map T y.identities), flat))

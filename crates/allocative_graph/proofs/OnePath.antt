@@ -1,6 +1,9 @@
 -- Bytes at one path: their graph, and what a node has after they are added.
-use Rattle.std.proofs.Common.{◌≡◌, ℕ, ◌+◌, ◌<◌, ◌≤◌, ◌^◌, true, List, [], ◌∷◌, ◌++◌, length, get_or, set, refl, sym, ap, subst, subst₂, ◌∙◌, arith, zero-add, add-zero}
-use Rattle.allocative_graph.proofs.Common.{insert, Child, Key, Path, Graph, IsTree, total, default, add_self, sum_of, node, AreChildren, IsNode, weight, Added, Merged, IsFound, get, graph_of_path, child_of_path, All-from_recursion}
+use Rattle.std.proofs.Common.{◌≡◌, ℕ, ◌+◌, ◌<◌, ◌≤◌, ◌^◌, true, List, [], ◌∷◌, ◌++◌, length, get_or, set, refl, sym, ap}
+use Rattle.std.proofs.Common.{subst, subst₂, ◌∙◌, arith, zero-add, add-zero}
+use Rattle.allocative_graph.proofs.Common.{insert, Child, Key, Path, Graph, IsTree, total, default, add_self, sum_of}
+use Rattle.allocative_graph.proofs.Common.{node, AreChildren, IsNode, weight, Added, Merged, IsFound, get}
+use Rattle.allocative_graph.proofs.Common.{graph_of_path, child_of_path, All-from_recursion}
 use Rattle.std.proofs.lemmas.List.{set-get_or}
 use Rattle.allocative_graph.proofs.ChildLookup.{node_of_one}
 use Rattle.allocative_graph.proofs.ChildMerged.{merged_same, put_at_found, weights_found, with_graph}
@@ -38,9 +41,11 @@ node_of_path k p n fits = record {
 }
 
 -- A node with bytes added to its own size has the graph of these bytes added.
-pub sum_raised : {n s : ℕ} {cs : List Child} {g : Graph} → node n cs ≡ g → IsNode cs s n → (m : ℕ) → node (n + m) cs ≡ sum_of g (add_self m default)
+pub sum_raised : {n s : ℕ} {cs : List Child} {g : Graph} → node n cs ≡ g → IsNode cs s n → (m : ℕ) →
+    node (n + m) cs ≡ sum_of g (add_self m default)
 sum_raised {n = n} {cs = cs} view h m =
-    subst₂ (λ x y. node (n + m) cs ≡ sum_of x y) view (node_leaf m) (added_sum (added_node true n m cs [] cs h.children no_children (merged_same cs h.children)) refl)
+    subst₂ (λ x y. node (n + m) cs ≡ sum_of x y) view (node_leaf m)
+    (added_sum (added_node true n m cs [] cs h.children no_children (merged_same cs h.children)) refl)
 
 -- The sum of two trees adds up.
 added_trees : (g h : Graph) → IsTree g → IsTree h → Added true g h (sum_of g h)
@@ -52,19 +57,23 @@ added_trees g h s t = record {
 }
 
 -- ---- n bytes at the path p below the child x, which was found by its key k
-module _ (k : Key) (p : Path) (n : ℕ) (x : Child) {cs ds : List Child} {i : ℕ} (same : ds ≡ cs) (found : IsFound ds k i) (there : x ≡ get_or cs i x) where
-  -- Where the bytes were added to the graph of x, they were merged into the children.
-  pub path_merged : {g : Graph} → AreChildren cs → g ≡ sum_of x.graph (graph_of_path p n) → Merged true cs (child_of_path k p n ∷ []) (set cs i (with_graph x g))
+module _ (k : Key) (p : Path) (n : ℕ) (x : Child) {cs ds : List Child} {i : ℕ} (same : ds ≡ cs) (found : IsFound ds k i)
+    (there : x ≡ get_or cs i x) where
+  -- If the bytes were added to the graph of x, they were merged into the children.
+  pub path_merged : {g : Graph} → AreChildren cs → g ≡ sum_of x.graph (graph_of_path p n) →
+      Merged true cs (child_of_path k p n ∷ []) (set cs i (with_graph x g))
   path_merged {g = g} h is =
       let c = child_of_path k p n in
       let within : i < length cs = (subst (λ (l : List Child). IsFound l k i) same found).within in
-      let tree : IsTree x.graph = subst (λ (y : Child). IsTree y.graph) (sym there) (All-from_recursion (λ (y : Child). IsTree y.graph) cs h.trees i x within) in
-      put_at_found c x g same found there h (subst (Added true x.graph c.graph) (sym is) (added_trees x.graph c.graph tree (tree-path p n)))
+      let tree : IsTree x.graph = subst (λ (y : Child). IsTree y.graph) (sym there)
+      (All-from_recursion (λ (y : Child). IsTree y.graph) cs h.trees i x within) in
+      put_at_found c x g same found there h (subst (Added true x.graph c.graph) (sym is)
+      (added_trees x.graph c.graph tree (tree-path p n)))
 
   -- x has at most the bytes of all children.
   pub fits_below : total x.graph ≤ weight cs
   fits_below = (weights_found (child_of_path k p n) x x.graph same found there).1
 
-  -- Where the graph of x did not change, the children did not.
+  -- If the graph of x did not change, the children did not change.
   pub nothing_merged : {g : Graph} → g ≡ x.graph → set cs i (with_graph x g) ≡ cs
   nothing_merged is = ap (λ (f : Graph). set cs i (with_graph x f)) is ∙ ap (set cs i) there ∙ set-get_or cs i x

@@ -1,9 +1,15 @@
 -- What forests own: it adds up, in any order, and is the total of a graph.
-use Rattle.std.proofs.Common.{◌≡◌, ℕ, ◌+◌, ◌-◌, ◌≤◌, ◌||◌, Bool, true, false, cond, IsTrue, List, [], ◌∷◌, ◌++◌, fold, map, inl, inr, Some, None, is_some, unwrap_or, refl, ap, sym, ◌∙◌, sum_by, arith}
-use Rattle.allocative_graph.proofs.Common.{sum_by-cons, map-append, AsInline, AsUnique, AsShared, Bag, get-insert, contains_key, Key, Path, is_same_path, is_one_below, Forest, Empty, Inline, Unique, First, Again, own, own_behind, followed_by, bytes_in, is_entered_in, is_unique_in, sums_of, below, Node, remaining, option_map, Graph, graph, default, size_at, total}
+use Rattle.std.proofs.Common.{◌≡◌, ℕ, ◌+◌, ◌-◌, ◌≤◌, ◌||◌, Bool, true, false, cond, IsTrue, List, [], ◌∷◌, ◌++◌, fold}
+use Rattle.std.proofs.Common.{map, inl, inr, Some, None, is_some, unwrap_or, refl, ap, sym, ◌∙◌, sum_by, arith}
+use Rattle.allocative_graph.proofs.Common.{sum_by-cons, map-append, AsInline, AsUnique, AsShared, Bag, get-insert}
+use Rattle.allocative_graph.proofs.Common.{contains_key, Key, Path, is_same_path, is_one_below, Forest, Empty, Inline}
+use Rattle.allocative_graph.proofs.Common.{Unique, First, Again, own, own_behind, followed_by, bytes_in, is_entered_in}
+use Rattle.allocative_graph.proofs.Common.{is_unique_in, sums_of, below, Node, remaining, option_map, Graph, graph}
+use Rattle.allocative_graph.proofs.Common.{default, size_at, total}
 use Rattle.std.proofs.lemmas.List.Sums.{sum_by-append}
 use Rattle.allocative_graph.specs.Forest.{Mark}
-use Rattle.allocative_graph.specs.Owned.{direct, owned, Owner, owners_behind, owns_all, EachAt, AreAlike, Reordered, exchanged, within, beside, in_turn}
+use Rattle.allocative_graph.specs.Owned.{direct, owned, Owner, owners_behind, owns_all, EachAt, AreAlike, Reordered}
+use Rattle.allocative_graph.specs.Owned.{exchanged, within, beside, in_turn}
 use Rattle.allocative_graph.proofs.Basics.{path_total, same_path, same_path_itself}
 use Rattle.allocative_graph.proofs.Closed.{one_below_child, one_below_self}
 use Rattle.allocative_graph.proofs.Below.{below_in, below-sums_of}
@@ -43,7 +49,8 @@ direct-reordered : (f g : Forest) → Reordered f g → direct f ≡ direct g
 direct-reordered _ _ (exchanged f g) = omega (arith, direct-following f g, direct-following g f)
 direct-reordered _ _ (within true k n r) = refl
 direct-reordered _ _ (within false k n r) = refl
-direct-reordered _ _ (beside {f} {g} h r) = omega (arith, direct-following f h, direct-following g h, direct-reordered f g r)
+direct-reordered _ _ (beside {f} {g} h r) =
+    omega (arith, direct-following f h, direct-following g h, direct-reordered f g r)
 direct-reordered _ _ (in_turn {f} {g} {h} r s) = direct-reordered f g r ∙ direct-reordered g h s
 
 -- A forest owns the same bytes in each order of its entries.
@@ -51,7 +58,8 @@ pub owned-reordered : (f g : Forest) → Reordered f g → owned f ≡ owned g
 owned-reordered _ _ (exchanged f g) = omega (arith, owned-following f g, owned-following g f)
 owned-reordered _ _ (within {f} {g} true k n r) = omega (arith, owned-reordered f g r)
 owned-reordered _ _ (within {f} {g} false k n r) = omega (arith, owned-reordered f g r, direct-reordered f g r)
-owned-reordered _ _ (beside {f} {g} h r) = omega (arith, owned-following f h, owned-following g h, owned-reordered f g r)
+owned-reordered _ _ (beside {f} {g} h r) =
+    omega (arith, owned-following f h, owned-following g h, owned-reordered f g r)
 owned-reordered _ _ (in_turn {f} {g} {h} r s) = owned-reordered f g r ∙ owned-reordered g h s
 
 -- ---- entry by entry
@@ -70,7 +78,8 @@ abbrev inside_at : Path → List Owner → ℕ
 inside_at q xs = at (λ x. x.inside) q xs
 
 -- One entry more adds its weight to the sum over the entries at its path, and to no other path's.
-at-cons : (w : Owner → ℕ) (q : Path) (x : Owner) (xs : List Owner) → at w q (x ∷ xs) ≡ cond (is_same_path q x.entry.path) (w x) 0 + at w q xs
+at-cons : (w : Owner → ℕ) (q : Path) (x : Owner) (xs : List Owner) →
+    at w q (x ∷ xs) ≡ cond (is_same_path q x.entry.path) (w x) 0 + at w q xs
 at-cons w q x xs = sum_by-cons (λ x. cond (is_same_path q x.entry.path) (w x) 0) x xs
 
 -- The entries of two lists, one after another, are those of the first and then those of the second.
@@ -80,13 +89,20 @@ entries-both xs ys b c d e = map-append (λ x. x.entry) xs ys ∙ (λ i. d i ++ 
 -- The entries that `owners_behind` lists are the own entries of the forest.
 own_entries : (p : Path) (f : Forest) → entries_of (owners_behind p f) ≡ own_behind p f
 own_entries p Empty = refl
-own_entries p (Inline k n f after) = ap (λ b. record { path = p ++ k ∷ []; size = n; mark = AsInline } ∷ b) (entries-both (owners_behind (p ++ k ∷ []) f) (owners_behind p after) _ _ (own_entries (p ++ k ∷ []) f) (own_entries p after))
-own_entries p (Unique k n f after) = ap (λ b. record { path = p ++ k ∷ []; size = n; mark = AsUnique } ∷ b) (entries-both (owners_behind (p ++ k ∷ []) f) (owners_behind p after) _ _ (own_entries (p ++ k ∷ []) f) (own_entries p after))
-own_entries p (First k n i f after) = ap (λ b. record { path = p ++ k ∷ []; size = n; mark = AsShared i } ∷ b) (own_entries p after)
-own_entries p (Again k n i after) = ap (λ b. record { path = p ++ k ∷ []; size = n; mark = AsShared i } ∷ b) (own_entries p after)
+own_entries p (Inline k n f after) = ap (λ b. record { path = p ++ k ∷ []; size = n; mark = AsInline } ∷ b)
+    (entries-both (owners_behind (p ++ k ∷ []) f) (owners_behind p after) _ _ (own_entries (p ++ k ∷ []) f)
+    (own_entries p after))
+own_entries p (Unique k n f after) = ap (λ b. record { path = p ++ k ∷ []; size = n; mark = AsUnique } ∷ b)
+    (entries-both (owners_behind (p ++ k ∷ []) f) (owners_behind p after) _ _ (own_entries (p ++ k ∷ []) f)
+    (own_entries p after))
+own_entries p (First k n i f after) = ap (λ b. record { path = p ++ k ∷ []; size = n; mark = AsShared i } ∷ b)
+    (own_entries p after)
+own_entries p (Again k n i after) = ap (λ b. record { path = p ++ k ∷ []; size = n; mark = AsShared i } ∷ b)
+    (own_entries p after)
 
 -- A sum over an entry, those inside it and those after it.
-sum-entry : (w : Owner → ℕ) (x : Owner) (xs ys : List Owner) → sum_by w (x ∷ (xs ++ ys)) ≡ w x + (sum_by w xs + sum_by w ys)
+sum-entry : (w : Owner → ℕ) (x : Owner) (xs ys : List Owner) →
+    sum_by w (x ∷ (xs ++ ys)) ≡ w x + (sum_by w xs + sum_by w ys)
 sum-entry w x xs ys = omega (arith, sum_by-cons w x (xs ++ ys), sum_by-append w xs ys)
 
 -- A forest owns the sum of what its own entries keep.
@@ -106,7 +122,8 @@ bool_same false false f g = refl
 
 -- The path r with one more key is one key below q exactly if q is r.
 one_below_is : (q r : Path) (k : Key) → is_one_below q (r ++ k ∷ []) ≡ is_same_path q r
-one_below_is q r k = bool_same _ _ (λ h. ap (is_same_path q) (sym (one_below_child q r k h)) ∙ same_path_itself q) (λ h. ap (λ p. is_one_below q (p ++ k ∷ [])) (sym (same_path q r h)) ∙ one_below_self q k)
+one_below_is q r k = bool_same _ _ (λ h. ap (is_same_path q) (sym (one_below_child q r k h)) ∙ same_path_itself q)
+    (λ h. ap (λ p. is_one_below q (p ++ k ∷ [])) (sym (same_path q r h)) ∙ one_below_self q k)
 
 -- A sum that counts only if a test passes is both numbers, each of which counts only if it passes.
 cond-plus : (b : Bool) (x y : ℕ) → cond b (x + y) 0 ≡ cond b x 0 + cond b y 0
@@ -117,16 +134,22 @@ cond-zero : (b : Bool) → cond {A = ℕ} b 0 0 ≡ 0
 cond-zero b = grind arith
 
 -- The bytes one key below q are those of an entry, if it is one key below q, and those of the bags after it.
-below-entry : (q p : Path) (k : Key) (n : ℕ) (m : Mark) (b c : Bag) → below_in (record { path = p ++ k ∷ []; size = n; mark = m } ∷ (b ++ c)) q ≡ cond (is_same_path q p) n 0 + (below_in b q + below_in c q)
+below-entry : (q p : Path) (k : Key) (n : ℕ) (m : Mark) (b c : Bag) →
+    below_in (record { path = p ++ k ∷ []; size = n; mark = m } ∷ (b ++ c)) q
+    ≡ cond (is_same_path q p) n 0 + (below_in b q + below_in c q)
 below-entry q p k n m b c = rw (← one_below_is q p k) (omega (arith, sum_by-cons (λ e. cond (is_one_below q e.path) e.size 0) (record { path = p ++ k ∷ []; size = n; mark = m }) (b ++ c), sum_by-append (λ e. cond (is_one_below q e.path) e.size 0) b c))
 
 -- The bytes directly inside entries at q are those inside one entry, if it is at q, and those in the lists after it.
-inside-entry : (q p : Path) (k : Key) (n : ℕ) (m : Mark) (i : ℕ) (xs ys : List Owner) → inside_at q (record { entry = record { path = p ++ k ∷ []; size = n; mark = m }; inside = i } ∷ (xs ++ ys)) ≡ cond (is_same_path q (p ++ k ∷ [])) i 0 + (inside_at q xs + inside_at q ys)
-inside-entry q p k n m i xs ys = sum-entry (λ x. cond (is_same_path q x.entry.path) x.inside 0) (record { entry = record { path = p ++ k ∷ []; size = n; mark = m }; inside = i }) xs ys
+inside-entry : (q p : Path) (k : Key) (n : ℕ) (m : Mark) (i : ℕ) (xs ys : List Owner) →
+    inside_at q (record { entry = record { path = p ++ k ∷ []; size = n; mark = m }; inside = i } ∷ (xs ++ ys))
+    ≡ cond (is_same_path q (p ++ k ∷ [])) i 0 + (inside_at q xs + inside_at q ys)
+inside-entry q p k n m i xs ys = sum-entry (λ x. cond (is_same_path q x.entry.path) x.inside 0)
+    (record { entry = record { path = p ++ k ∷ []; size = n; mark = m }; inside = i }) xs ys
 
 -- The bytes one key below q are those directly inside the entries at q; if q is the path before all of them, those at
 -- the top as well.
-below-inside : (q p : Path) (f : Forest) → below_in (own_behind p f) q ≡ inside_at q (owners_behind p f) + cond (is_same_path q p) (direct f) 0
+below-inside : (q p : Path) (f : Forest) →
+    below_in (own_behind p f) q ≡ inside_at q (owners_behind p f) + cond (is_same_path q p) (direct f) 0
 below-inside q p Empty = grind arith
 below-inside q p (Inline k n f after) = omega (arith, below-entry q p k n AsInline (own_behind (p ++ k ∷ []) f) (own_behind p after), inside-entry q p k n AsInline (direct f) (owners_behind (p ++ k ∷ []) f) (owners_behind p after), below-inside q (p ++ k ∷ []) f, below-inside q p after, cond-plus (is_same_path q p) n (direct after))
 below-inside q p (Unique k n f after) = omega (arith, below-entry q p k n AsUnique (own_behind (p ++ k ∷ []) f) (own_behind p after), inside-entry q p k n AsUnique (direct f) (owners_behind (p ++ k ∷ []) f) (owners_behind p after), below-inside q (p ++ k ∷ []) f, below-inside q p after, cond-plus (is_same_path q p) n (direct after))
@@ -135,23 +158,30 @@ below-inside q p (Again k n i after) = omega (arith, below-entry q p k n (AsShar
 
 -- ---- entries that are alike
 module _ (q : Path) where
-  bytes-cons : (x : Owner) (xs : List Owner) → bytes_in (entries_of (x ∷ xs)) q ≡ cond (is_same_path q x.entry.path) x.entry.size 0 + bytes_in (entries_of xs) q
+  bytes-cons : (x : Owner) (xs : List Owner) →
+      bytes_in (entries_of (x ∷ xs)) q ≡ cond (is_same_path q x.entry.path) x.entry.size 0 + bytes_in (entries_of xs) q
   bytes-cons x xs = sum_by-cons (λ e. cond (is_same_path q e.path) e.size 0) x.entry (entries_of xs)
 
-  each_unique : (xs : List Owner) → EachAt q (λ x. owns_all x ≡ true) xs → (at kept q xs ≡ bytes_in (entries_of xs) q) × (is_unique_in (entries_of xs) q ≡ is_entered_in (entries_of xs) q)
+  each_unique : (xs : List Owner) → EachAt q (λ x. owns_all x ≡ true) xs →
+      (at kept q xs ≡ bytes_in (entries_of xs) q) × (is_unique_in (entries_of xs) q ≡ is_entered_in (entries_of xs) q)
   each_unique [] h = (refl, refl)
-  each_unique (x ∷ xs) h = let r = each_unique xs h.1 in (grind (arith, h.0, r.0, at-cons kept q x xs, bytes-cons x xs), grind (arith, h.0, r.1))
+  each_unique (x ∷ xs) h = let r = each_unique xs h.1 in
+      (grind (arith, h.0, r.0, at-cons kept q x xs, bytes-cons x xs), grind (arith, h.0, r.1))
 
-  each_least : (xs : List Owner) → EachAt q (λ x. (owns_all x ≡ false) × (x.inside ≤ x.entry.size)) xs → (at kept q xs + inside_at q xs ≡ bytes_in (entries_of xs) q) × (is_unique_in (entries_of xs) q ≡ false)
+  each_least : (xs : List Owner) → EachAt q (λ x. (owns_all x ≡ false) × (x.inside ≤ x.entry.size)) xs →
+      (at kept q xs + inside_at q xs ≡ bytes_in (entries_of xs) q) × (is_unique_in (entries_of xs) q ≡ false)
   each_least [] h = (refl, refl)
   each_least (x ∷ xs) h = let r = each_least xs h.1 in (grind (arith, h.0, r.0, at-cons kept q x xs, at-cons (λ x. x.inside) q x xs, bytes-cons x xs), grind (arith, h.0, r.1))
 
-  each_most : (xs : List Owner) → EachAt q (λ x. (owns_all x ≡ false) × (x.entry.size ≤ x.inside)) xs → (at kept q xs ≡ 0) × (bytes_in (entries_of xs) q ≤ inside_at q xs) × (is_unique_in (entries_of xs) q ≡ false)
+  each_most : (xs : List Owner) → EachAt q (λ x. (owns_all x ≡ false) × (x.entry.size ≤ x.inside)) xs →
+      (at kept q xs ≡ 0) × (bytes_in (entries_of xs) q ≤ inside_at q xs) × (is_unique_in (entries_of xs) q ≡ false)
   each_most [] h = (refl, omega arith, refl)
   each_most (x ∷ xs) h = let r = each_most xs h.1 in (grind (arith, h.0, r.0, at-cons kept q x xs), grind (arith, h.0, r.1, at-cons (λ x. x.inside) q x xs, bytes-cons x xs), grind (arith, h.0, r.2))
 
   -- What the graph has at a path.
-  remains : (xs : List Owner) → AreAlike q xs → cond (is_entered_in (entries_of xs) q) (cond (is_unique_in (entries_of xs) q) (bytes_in (entries_of xs) q) (bytes_in (entries_of xs) q - inside_at q xs)) 0 ≡ at kept q xs
+  remains : (xs : List Owner) → AreAlike q xs →
+      cond (is_entered_in (entries_of xs) q) (cond (is_unique_in (entries_of xs) q) (bytes_in (entries_of xs) q)
+      (bytes_in (entries_of xs) q - inside_at q xs)) 0 ≡ at kept q xs
   remains xs (inl h) = let r = each_unique xs h in grind (arith, r.0, r.1, bytes_none (entries_of xs) q)
   remains xs (inr (inl h)) = let r = each_least xs h in grind (arith, r.0, r.1, bytes_none (entries_of xs) q)
   remains xs (inr (inr h)) = let r = each_most xs h in grind (arith, r.0, r.1, r.2, bytes_none (entries_of xs) q)
@@ -171,7 +201,8 @@ size-with_kept g [] q = omega arith
 size-with_kept g (x ∷ xs) q = grind (arith, size-with_kept (add_at g (x.entry.path, kept x)) xs q, get-insert path_total g x.entry.path (size_at g x.entry.path + kept x) q, same_path q x.entry.path, at-cons kept q x xs)
 
 -- A graph to which entries were added has its own paths and theirs.
-has-with_kept : (g : Graph) (xs : List Owner) (q : Path) → contains_key (with_kept g xs) q ≡ (contains_key g q || is_entered_in (entries_of xs) q)
+has-with_kept : (g : Graph) (xs : List Owner) (q : Path) →
+    contains_key (with_kept g xs) q ≡ (contains_key g q || is_entered_in (entries_of xs) q)
 has-with_kept g [] q = grind arith
 has-with_kept g (x ∷ xs) q = grind (arith, has-with_kept (add_at g (x.entry.path, kept x)) xs q, get-insert path_total g x.entry.path (size_at g x.entry.path + kept x) q)
 
@@ -181,7 +212,9 @@ not_root [] k = refl
 not_root (l ∷ p) k = refl
 
 -- An entry is never at the root, so it adds nothing to what is kept there.
-root-entry : (p : Path) (k : Key) (n i : ℕ) (m : Mark) (xs ys : List Owner) → at kept [] (record { entry = record { path = p ++ k ∷ []; size = n; mark = m }; inside = i } ∷ (xs ++ ys)) ≡ at kept [] xs + at kept [] ys
+root-entry : (p : Path) (k : Key) (n i : ℕ) (m : Mark) (xs ys : List Owner) →
+    at kept [] (record { entry = record { path = p ++ k ∷ []; size = n; mark = m }; inside = i } ∷ (xs ++ ys))
+    ≡ at kept [] xs + at kept [] ys
 root-entry p k n i m xs ys = grind (arith, not_root p k, sum-entry (λ x. cond (is_same_path [] x.entry.path) (kept x) 0) (record { entry = record { path = p ++ k ∷ []; size = n; mark = m }; inside = i }) xs ys)
 
 -- The entries of a forest keep nothing at the root.
@@ -189,20 +222,26 @@ root-keeps : (p : Path) (f : Forest) → at kept [] (owners_behind p f) ≡ 0
 root-keeps p Empty = refl
 root-keeps p (Inline k n f after) = omega (arith, root-entry p k n (direct f) AsInline (owners_behind (p ++ k ∷ []) f) (owners_behind p after), root-keeps (p ++ k ∷ []) f, root-keeps p after)
 root-keeps p (Unique k n f after) = omega (arith, root-entry p k n (direct f) AsUnique (owners_behind (p ++ k ∷ []) f) (owners_behind p after), root-keeps (p ++ k ∷ []) f, root-keeps p after)
-root-keeps p (First k n i f after) = omega (arith, root-entry p k n 0 (AsShared i) [] (owners_behind p after), root-keeps p after)
-root-keeps p (Again k n i after) = omega (arith, root-entry p k n 0 (AsShared i) [] (owners_behind p after), root-keeps p after)
+root-keeps p (First k n i f after) = omega
+    (arith, root-entry p k n 0 (AsShared i) [] (owners_behind p after), root-keeps p after)
+root-keeps p (Again k n i after) = omega
+    (arith, root-entry p k n 0 (AsShared i) [] (owners_behind p after), root-keeps p after)
 
 -- A path without entries has size 0. One with y bytes has all of them if it is unique, else those beyond b.
-size-found : (e u : Bool) (y b : ℕ) → unwrap_or (option_map (λ (n : Node). cond n.is_unique n.bytes (n.bytes - b)) (cond e (Some (record { bytes = y; is_unique = u })) None)) 0 ≡ cond e (cond u y (y - b)) 0
+size-found : (e u : Bool) (y b : ℕ) → unwrap_or
+    (option_map (λ (n : Node). cond n.is_unique n.bytes (n.bytes - b))
+    (cond e (Some (record { bytes = y; is_unique = u })) None)) 0 ≡ cond e (cond u y (y - b)) 0
 size-found true u y b = refl
 size-found false u y b = refl
 
 -- The sums of own entries have, one key below a path but the root, the bytes directly inside the entries at it.
-below-own : (k : Key) (p : Path) (f : Forest) → below (sums_of (entries_of (owners_behind [] f))) (k ∷ p) ≡ inside_at (k ∷ p) (owners_behind [] f)
+below-own : (k : Key) (p : Path) (f : Forest) →
+    below (sums_of (entries_of (owners_behind [] f))) (k ∷ p) ≡ inside_at (k ∷ p) (owners_behind [] f)
 below-own k p f = omega (arith, below-sums_of (entries_of (owners_behind [] f)) (k ∷ p), ap (λ b. below_in b (k ∷ p)) (own_entries [] f), below-inside (k ∷ p) [] f)
 
 -- If the entries at a path other than the root are alike, the graph of the own entries has there what they keep.
-size-own : (k : Key) (p : Path) (f : Forest) → AreAlike (k ∷ p) (owners_behind [] f) → size_at (graph (sums_of (entries_of (owners_behind [] f)))) (k ∷ p) ≡ at kept (k ∷ p) (owners_behind [] f)
+size-own : (k : Key) (p : Path) (f : Forest) → AreAlike (k ∷ p) (owners_behind [] f) →
+    size_at (graph (sums_of (entries_of (owners_behind [] f)))) (k ∷ p) ≡ at kept (k ∷ p) (owners_behind [] f)
 size-own k p f alike =
     let q = k ∷ p in
     let b = entries_of (owners_behind [] f) in
@@ -213,18 +252,26 @@ size-own k p f alike =
     ∙ remains q (owners_behind [] f) alike
 
 -- If the entries at each path are alike, the graph of the own entries has what they keep.
-pub owned-total : (f : Forest) → ((p : Path) → AreAlike p (owners_behind [] f)) → owned f ≡ total (graph (sums_of (own f)))
+pub owned-total : (f : Forest) → ((p : Path) → AreAlike p (owners_behind [] f)) →
+    owned f ≡ total (graph (sums_of (own f)))
 owned-total f alike =
     let xs = owners_behind [] f in
-    let same : graph (sums_of (entries_of xs)) ≡ with_kept default xs = same_graph (graph (sums_of (entries_of xs))) (with_kept default xs) sizes keys in
+    let same : graph (sums_of (entries_of xs)) ≡ with_kept default xs =
+    same_graph (graph (sums_of (entries_of xs))) (with_kept default xs) sizes keys in
     let total_is : total (graph (sums_of (entries_of xs))) ≡ total (with_kept default xs) = ap total same in
-    let own_is : total (graph (sums_of (entries_of xs))) ≡ total (graph (sums_of (own f))) = ap (λ (b : Bag). total (graph (sums_of b))) (own_entries [] f) in
+    let own_is : total (graph (sums_of (entries_of xs))) ≡ total (graph (sums_of (own f))) =
+    ap (λ (b : Bag). total (graph (sums_of b))) (own_entries [] f) in
     omega (arith, kept-sum [] f, total-with_kept default xs, total-default, total_is, own_is)
   where
-    sizes : (q : Path) → size_at (graph (sums_of (entries_of (owners_behind [] f)))) q ≡ size_at (with_kept default (owners_behind [] f)) q
-    sizes [] = ap (λ o. unwrap_or o 0) (get-graph-root (sums_of (entries_of (owners_behind [] f)))) ∙ sym (omega (arith, size-with_kept default (owners_behind [] f) [], size_at-default [], root-keeps [] f))
+    sizes : (q : Path) → size_at (graph (sums_of (entries_of (owners_behind [] f)))) q
+        ≡ size_at (with_kept default (owners_behind [] f)) q
+    sizes [] = ap (λ o. unwrap_or o 0) (get-graph-root (sums_of (entries_of (owners_behind [] f))))
+        ∙ sym (omega (arith, size-with_kept default (owners_behind [] f) [], size_at-default [], root-keeps [] f))
     sizes (k ∷ p) = omega (arith, size-own k p f (alike (k ∷ p)), size-with_kept default (owners_behind [] f) (k ∷ p), size_at-default (k ∷ p))
 
-    keys : (q : Path) → contains_key (graph (sums_of (entries_of (owners_behind [] f)))) q ≡ contains_key (with_kept default (owners_behind [] f)) q
-    keys [] = ap is_some (get-graph-root (sums_of (entries_of (owners_behind [] f)))) ∙ sym (grind (arith, has-with_kept default (owners_behind [] f) [], get-default []))
-    keys (k ∷ p) = in_graph (entries_of (owners_behind [] f)) k p ∙ sym (grind (arith, has-with_kept default (owners_behind [] f) (k ∷ p), get-default (k ∷ p)))
+    keys : (q : Path) → contains_key (graph (sums_of (entries_of (owners_behind [] f)))) q
+        ≡ contains_key (with_kept default (owners_behind [] f)) q
+    keys [] = ap is_some (get-graph-root (sums_of (entries_of (owners_behind [] f))))
+        ∙ sym (grind (arith, has-with_kept default (owners_behind [] f) [], get-default []))
+    keys (k ∷ p) = in_graph (entries_of (owners_behind [] f)) k p
+        ∙ sym (grind (arith, has-with_kept default (owners_behind [] f) (k ∷ p), get-default (k ∷ p)))

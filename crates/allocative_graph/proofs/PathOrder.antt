@@ -1,6 +1,8 @@
 -- The order of paths: a prefix comes first; otherwise the first keys that differ decide, by the bytes of their texts.
-use Rattle.std.proofs.Common.{◌≡◌, ◌↔◌, List, [], ◌∷◌, ◌++◌, refl, ap, sym, ◌∙◌, subst, true≢false, append-nil, Ordering, Less, Equal, Greater}
-use Rattle.allocative_graph.proofs.Common.{is_lt, ordering_then, slice_cmp, nat_list_cmp_total, IsAntisymmetric, Key, key_cmp}
+use Rattle.std.proofs.Common.{◌≡◌, ◌↔◌, List, [], ◌∷◌, ◌++◌, refl, ap, sym, ◌∙◌, subst, true≢false, append-nil}
+use Rattle.std.proofs.Common.{Ordering, Less, Equal, Greater}
+use Rattle.allocative_graph.proofs.Common.{is_lt, ordering_then, slice_cmp, nat_list_cmp_total, IsAntisymmetric, Key}
+use Rattle.allocative_graph.proofs.Common.{key_cmp}
 use Rattle.std.specs.Cmp.{tied_itself}
 use Rattle.allocative_graph.specs.Path.{ComesBefore, longer, parts}
 
@@ -15,7 +17,8 @@ module _ {X : Type 0} (R : X → X → Ordering) (same : IsAntisymmetric R) (its
   to_before (x ∷ p) [] h = absurd (true≢false (sym (ap is_lt h)))
   to_before (x ∷ p) (y ∷ q) h = by (R x y) refl h (to_before p q)
     where
-      by : (o : Ordering) → R x y ≡ o → ordering_then o (slice_cmp R p q) ≡ Less → (slice_cmp R p q ≡ Less → ComesBefore R p q) → ComesBefore R (x ∷ p) (y ∷ q)
+      by : (o : Ordering) → R x y ≡ o → ordering_then o (slice_cmp R p q) ≡ Less →
+          (slice_cmp R p q ≡ Less → ComesBefore R p q) → ComesBefore R (x ∷ p) (y ∷ q)
       by Less e g rest = parts [] x y p q refl refl e
       by Equal e g rest = subst (λ z. ComesBefore R (x ∷ p) (z ∷ q)) (same x y e) (before-cons x p q (rest g))
       by Greater e g rest = absurd (true≢false (sym (ap is_lt g)))
@@ -26,7 +29,8 @@ module _ {X : Type 0} (R : X → X → Ordering) (same : IsAntisymmetric R) (its
 
   from_before : (p q : List X) → ComesBefore R p q → slice_cmp R p q ≡ Less
   from_before p q (longer k r e) = (λ i. slice_cmp R (sym (append-nil p) i) (e i)) ∙ after_common p [] (k ∷ r)
-  from_before p q (parts c k l r s d e h) = (λ i. slice_cmp R (d i) (e i)) ∙ after_common c (k ∷ r) (l ∷ s) ∙ ap (λ o. ordering_then o (slice_cmp R r s)) h
+  from_before p q (parts c k l r s d e h) =
+      (λ i. slice_cmp R (d i) (e i)) ∙ after_common c (k ∷ r) (l ∷ s) ∙ ap (λ o. ordering_then o (slice_cmp R r s)) h
 
   pub order : (p q : List X) → (slice_cmp R p q ≡ Less) ↔ ComesBefore R p q
   order p q = (to_before p q, from_before p q)

@@ -1,8 +1,12 @@
 -- What a collector has after forests, entries and leaving.
-use Rattle.std.proofs.Common.{◌≡◌, ◌↔◌, ◌≤◌, suc, min, ℕ, ◌+◌, ◌-◌, Bool, true, false, cond, [], ◌∷◌, ◌++◌, refl, ap, arith, append-nil}
-use Rattle.allocative_graph.proofs.Common.{contains, Key, Identity, Forest, Empty, Inline, Unique, First, Again, own_behind, contents, followed_by}
+use Rattle.std.proofs.Common.{◌≡◌, ◌↔◌, ◌≤◌, suc, min, ℕ, ◌+◌, ◌-◌, Bool, true, false, cond, [], ◌∷◌, ◌++◌, refl, ap}
+use Rattle.std.proofs.Common.{arith, append-nil}
+use Rattle.allocative_graph.proofs.Common.{contains, Key, Identity, Forest, Empty, Inline, Unique, First, Again}
+use Rattle.allocative_graph.proofs.Common.{own_behind, contents, followed_by}
 use Rattle.allocative_graph.specs.Forest.{entry_of}
-use Rattle.allocative_graph.specs.Collector.{Live, Holding, Owning, Kind, OfGraph, OfHeld, OfOwned, plus_holding, plus_owning, count_owning, enter_first, held_bytes, plus, Takes, enter, leave, begin, is_graph, visitors, Outer, outer_of, IsClosed}
+use Rattle.allocative_graph.specs.Collector.{Live, Holding, Owning, Kind, OfGraph, OfHeld, OfOwned, plus_holding}
+use Rattle.allocative_graph.specs.Collector.{plus_owning, count_owning, enter_first, held_bytes, plus, Takes, enter}
+use Rattle.allocative_graph.specs.Collector.{leave, begin, is_graph, visitors, Outer, outer_of, IsClosed}
 use Rattle.allocative_graph.specs.Owned.{direct, owned}
 use Rattle.allocative_graph.proofs.Owned.{direct-following, owned-following, direct-owned}
 use Rattle.allocative_graph.specs.Held.{held, inline_bytes}
@@ -23,10 +27,12 @@ held_in-following u (Again k n j after) g = held_in-following u after g
 
 -- The empty forest changes nothing in the collector of held bytes.
 holding-nothing : (h : Holding) → plus_holding h Empty ≡ h
-holding-nothing h = let same : h.sum + (0 + cond h.is_in_unique 0 0) ≡ h.sum = grind arith in λ i. record h { sum = same i }
+holding-nothing h = let same : h.sum + (0 + cond h.is_in_unique 0 0) ≡ h.sum = grind arith in
+    λ i. record h { sum = same i }
 
 -- What an entry adds, and what is inside it, is what the entry with all inside it adds.
-inside_sum : (is_in_unique is_unique : Bool) (s n h b : ℕ) → (s + held_bytes is_in_unique is_unique n) + (h + cond is_unique b 0)
+inside_sum : (is_in_unique is_unique : Bool) (s n h b : ℕ) →
+    (s + held_bytes is_in_unique is_unique n) + (h + cond is_unique b 0)
     ≡ s + (cond is_unique (b + h + 0) (h + 0) + cond is_in_unique (cond is_unique 0 (n + 0)) 0)
 inside_sum v u s n h b = grind arith
 
@@ -43,7 +49,9 @@ owning-following : (o : Owning) (f g : Forest) → plus_owning o (followed_by f 
 owning-following o f g =
     let d = direct-following f g in
     let w = owned-following f g in
-    let sum : o.sum + (owned (followed_by f g) - min o.spare (direct (followed_by f g))) ≡ (o.sum + (owned f - min o.spare (direct f))) + (owned g - min (o.spare - direct f) (direct g)) = omega (arith, d, w, direct-owned f, direct-owned g) in
+    let sum : o.sum + (owned (followed_by f g) - min o.spare (direct (followed_by f g)))
+    ≡ (o.sum + (owned f - min o.spare (direct f))) + (owned g - min (o.spare - direct f) (direct g)) =
+    omega (arith, d, w, direct-owned f, direct-owned g) in
     let spare : o.spare - direct (followed_by f g) ≡ (o.spare - direct f) - direct g = omega (arith, d) in
     λ i. record o { sum = sum i; spare = spare i }
 
@@ -73,9 +81,12 @@ plus-nothing (OfOwned o) = ap OfOwned (owning-nothing o)
 
 -- A collector has after two forests in one what it has after the first and then the second.
 pub plus-following : (c : Kind) (f g : Forest) → plus c (followed_by f g) ≡ plus (plus c f) g
-plus-following (OfGraph c) f g = λ i. OfGraph (record c { sums = entries_at-following c.sums c.here f g i; met = met-following c.met f g i })
+plus-following (OfGraph c) f g = λ i. OfGraph
+    (record c { sums = entries_at-following c.sums c.here f g i; met = met-following c.met f g i })
 plus-following (OfHeld h) f g =
-    let both : h.sum + held_in h.is_in_unique (followed_by f g) ≡ (h.sum + held_in h.is_in_unique f) + held_in h.is_in_unique g = omega (arith, held_in-following h.is_in_unique f g) in
+    let both : h.sum + held_in h.is_in_unique (followed_by f g)
+    ≡ (h.sum + held_in h.is_in_unique f) + held_in h.is_in_unique g =
+    omega (arith, held_in-following h.is_in_unique f g) in
     λ i. OfHeld (record h { sum = both i })
 plus-following (OfOwned o) f g = ap OfOwned (owning-following o f g)
 
@@ -88,24 +99,30 @@ takes_nothing (OfOwned o) = tt
 -- A collector takes two forests in one exactly if it takes the first and, with that added, the second.
 pub takes_following : (c : Kind) (f g : Forest) → Takes c (followed_by f g) ↔ (Takes c f × Takes (plus c f) g)
 takes_following (OfGraph c) f g = fits-following c.met f g
-takes_following (OfHeld h) f g = rw (contents-following f g) (each-parts (λ c. ⊥) (contents f) (contents g), λ w. each-append (λ c. ⊥) (contents f) (contents g) w.0 w.1)
-takes_following (OfOwned o) f g = rw (contents-following f g) (each-parts (λ c. ⊥) (contents f) (contents g), λ w. each-append (λ c. ⊥) (contents f) (contents g) w.0 w.1)
+takes_following (OfHeld h) f g = rw (contents-following f g)
+    (each-parts (λ c. ⊥) (contents f) (contents g), λ w. each-append (λ c. ⊥) (contents f) (contents g) w.0 w.1)
+takes_following (OfOwned o) f g = rw (contents-following f g)
+    (each-parts (λ c. ⊥) (contents f) (contents g), λ w. each-append (λ c. ⊥) (contents f) (contents g) w.0 w.1)
 
 -- If a collector takes a forest and, with that added, another, it takes both in one.
 pub takes_both : (c : Kind) (f g : Forest) → Takes c f → Takes (plus c f) g → Takes c (followed_by f g)
 takes_both c f g v w = (takes_following c f g).1 (v, w)
 
 -- An entry with f inside it is entering, adding f and one step back.
-pub inside_entry : (u : Bool) (k : Key) (n : ℕ) (c : Kind) (f : Forest) → leave (outer_of n c) (plus (enter u k n c) f) ≡ plus c (entry_of u k n f)
+pub inside_entry : (u : Bool) (k : Key) (n : ℕ) (c : Kind) (f : Forest) →
+    leave (outer_of n c) (plus (enter u k n c) f) ≡ plus c (entry_of u k n f)
 inside_entry true k n (OfGraph c) f = rw (append-nil (own_behind (c.here ++ k ∷ []) f), append-nil (contents f))
 inside_entry false k n (OfGraph c) f = rw (append-nil (own_behind (c.here ++ k ∷ []) f), append-nil (contents f))
-inside_entry true k n (OfHeld h) f = λ i. OfHeld (record h { sum = inside_sum h.is_in_unique true h.sum n (held f) (inline_bytes f) i })
-inside_entry false k n (OfHeld h) f = λ i. OfHeld (record h { sum = inside_sum h.is_in_unique false h.sum n (held f) (inline_bytes f) i })
+inside_entry true k n (OfHeld h) f = λ i. OfHeld
+    (record h { sum = inside_sum h.is_in_unique true h.sum n (held f) (inline_bytes f) i })
+inside_entry false k n (OfHeld h) f = λ i. OfHeld
+    (record h { sum = inside_sum h.is_in_unique false h.sum n (held f) (inline_bytes f) i })
 inside_entry true k n (OfOwned o) f = λ i. OfOwned (record o { sum = owning_inside true o.sum o.spare n (owned f) (direct f) (direct-owned f) i; spare = spare_left o.spare n i })
 inside_entry false k n (OfOwned o) f = λ i. OfOwned (record o { sum = owning_inside false o.sum o.spare n (owned f) (direct f) (direct-owned f) i; spare = spare_left o.spare n i })
 
 -- A collector takes an entry with a forest inside it if, once the entry is entered, it takes that forest.
-pub takes_entry : (u : Bool) (k : Key) (n : ℕ) (c : Kind) (f : Forest) → Takes (enter u k n c) f → Takes c (entry_of u k n f)
+pub takes_entry : (u : Bool) (k : Key) (n : ℕ) (c : Kind) (f : Forest) → Takes (enter u k n c) f →
+    Takes c (entry_of u k n f)
 takes_entry true k n (OfGraph c) f w = (w, tt)
 takes_entry false k n (OfGraph c) f w = (w, tt)
 takes_entry true k n (OfHeld h) f w = each-append (λ c. ⊥) (contents f) [] w tt
@@ -114,11 +131,13 @@ takes_entry true k n (OfOwned o) f w = each-append (λ c. ⊥) (contents f) [] w
 takes_entry false k n (OfOwned o) f w = each-append (λ c. ⊥) (contents f) [] w tt
 
 -- The content of a shared entry starts at the root.
-pub inside_first : (k : Key) (n : ℕ) (j : Identity) (c : Live) (f : Forest) (outer : Outer) → leave outer (plus (OfGraph (enter_first k n j c)) f) ≡ plus (OfGraph c) (First k n j f Empty)
+pub inside_first : (k : Key) (n : ℕ) (j : Identity) (c : Live) (f : Forest) (outer : Outer) →
+    leave outer (plus (OfGraph (enter_first k n j c)) f) ≡ plus (OfGraph c) (First k n j f Empty)
 inside_first k n j c f outer = rw (append-nil (contents f))
 
 -- A flame graph's collector takes a shared entry with its content if the identity is new and the content fits.
-pub takes_shared : (k : Key) (n : ℕ) (j : Identity) (c : Live) (f : Forest) → contains c.met j ≡ false → Takes (OfGraph (enter_first k n j c)) f → Takes (OfGraph c) (First k n j f Empty)
+pub takes_shared : (k : Key) (n : ℕ) (j : Identity) (c : Live) (f : Forest) → contains c.met j ≡ false →
+    Takes (OfGraph (enter_first k n j c)) f → Takes (OfGraph c) (First k n j f Empty)
 takes_shared k n j c f new w = (new, w, tt)
 
 -- A shared entry without its content leaves a collector of held bytes as it is.
@@ -126,7 +145,8 @@ pub held_again : (k : Key) (n : ℕ) (j : Identity) (h : Holding) → plus (OfHe
 held_again k n j h = ap OfHeld (holding-nothing h)
 
 -- A shared entry without its content adds to a collector of owned bytes what it has beyond the spare ones.
-pub owned_again : (k : Key) (n : ℕ) (j : Identity) (o : Owning) → plus (OfOwned o) (Again k n j Empty) ≡ OfOwned (count_owning n o)
+pub owned_again : (k : Key) (n : ℕ) (j : Identity) (o : Owning) →
+    plus (OfOwned o) (Again k n j Empty) ≡ OfOwned (count_owning n o)
 owned_again k n j o = ap OfOwned (owning-again k n j o)
 
 -- ---- the count of visitors

@@ -1,6 +1,12 @@
 -- The graphs of stacks, path by path, and what they add up to in any order.
-use Rattle.std.proofs.Common.{◌≡◌, ℕ, ◌+◌, ◌^◌, ◌<◌, ◌||◌, ◌&&◌, Bool, true, false, cond, List, [], ◌∷◌, ◌++◌, map, take, Option, Some, None, is_some, refl, sym, ap, ◌∙◌, subst, true≢false, unwrap_or, sum_by, arith, zero-add}
-use Rattle.allocative_graph.proofs.Common.{list_any, IsPermutation, is_eq, get, contains_key, get-insert, Line, Key, Path, key_cmp, path_cmp, is_same_path, Graph, size_at, total, begins, is_root, default, sum_of, Means, IsRead, Stack, bytes_at, is_path_of, all_bytes, graph_of_path, one_stack, sum_of_stacks, map_push, fold-map, sum_by-IsPermutation}
+use Rattle.std.proofs.Common.{◌≡◌, ℕ, ◌+◌, ◌^◌, ◌<◌, ◌||◌, ◌&&◌, Bool, true, false, cond, List, [], ◌∷◌, ◌++◌, map}
+use Rattle.std.proofs.Common.{take, Option, Some, None, is_some, refl, sym, ap, ◌∙◌, subst, true≢false, unwrap_or}
+use Rattle.std.proofs.Common.{sum_by, arith, zero-add}
+use Rattle.allocative_graph.proofs.Common.{list_any, IsPermutation, is_eq, get, contains_key, get-insert, Line, Key}
+use Rattle.allocative_graph.proofs.Common.{Path, key_cmp, path_cmp, is_same_path, Graph, size_at, total, begins}
+use Rattle.allocative_graph.proofs.Common.{is_root, default, sum_of, Means, IsRead, Stack, bytes_at, is_path_of}
+use Rattle.allocative_graph.proofs.Common.{all_bytes, graph_of_path, one_stack, sum_of_stacks, map_push, fold-map}
+use Rattle.allocative_graph.proofs.Common.{sum_by-IsPermutation}
 use Rattle.std.specs.Option.{SomeIff}
 use Rattle.std.proofs.lemmas.List.Sums.{fold-append, sum_by_push, sum_by-take-le}
 use Rattle.std.proofs.lemmas.List.Sorted.{IsPermutation-map}
@@ -10,7 +16,8 @@ use Rattle.allocative_graph.proofs.ChildLookup.{tie}
 use Rattle.allocative_graph.proofs.PathOrder.{key_itself}
 use Rattle.allocative_graph.proofs.Graphs.{size_at-default, is_some-cond, get-default, get-under, get-under-root}
 use Rattle.allocative_graph.proofs.OnePath.{total-path}
-use Rattle.allocative_graph.proofs.Gathered.{size_at-added_up, has-added_up, total-added_up, added_up-permuted, total-default}
+use Rattle.allocative_graph.proofs.Gathered.{size_at-added_up, has-added_up, total-added_up, added_up-permuted}
+use Rattle.allocative_graph.proofs.Gathered.{total-default}
 
 -- ---- paths
 -- A path begins with itself.
@@ -33,15 +40,19 @@ abbrev one_at : Path → ℕ → Path → Option ℕ
 one_at ks n p = cond (is_root p || begins p ks) (Some (cond (is_same_path p ks) n 0)) None
 
 -- What a path has below a key is what the path with that key has.
-below_key : (k : Key) (ks : Path) (n : ℕ) (l : Key) (p : Path) → cond (is_eq (key_cmp l k)) (one_at ks n p) None ≡ one_at (k ∷ ks) n (l ∷ p)
+below_key : (k : Key) (ks : Path) (n : ℕ) (l : Key) (p : Path) →
+    cond (is_eq (key_cmp l k)) (one_at ks n p) None ≡ one_at (k ∷ ks) n (l ∷ p)
 below_key k ks n l p =
-    on_test (λ b. cond b (one_at ks n p) None ≡ cond (b && begins p ks) (Some (cond (b && is_same_path p ks) n 0)) None) (is_eq (key_cmp l k))
+    on_test (λ b. cond b (one_at ks n p) None ≡ cond (b && begins p ks) (Some (cond (b && is_same_path p ks) n 0)) None)
+    (is_eq (key_cmp l k))
     (λ e. ap (λ b. cond b (Some (cond (is_same_path p ks) n 0)) None) (root_begins p ks)) (λ e. refl)
-    ∙ ap (λ t. cond (is_eq (key_cmp l k) && begins p ks) (Some (cond t n 0)) None) (sym (tie (key_cmp l k) (path_cmp p ks)))
+    ∙ ap (λ t. cond (is_eq (key_cmp l k) && begins p ks) (Some (cond t n 0)) None)
+    (sym (tie (key_cmp l k) (path_cmp p ks)))
 
 -- What a path has in the graph of one path.
 get-path : (ks : Path) (n : ℕ) (p : Path) → get (graph_of_path ks n) p ≡ one_at ks n p
-get-path [] n [] = get-insert path_total default [] (size_at default [] + n) [] ∙ ap (λ m. Some (m + n)) (size_at-default []) ∙ ap Some (zero-add n)
+get-path [] n [] = get-insert path_total default [] (size_at default [] + n) []
+    ∙ ap (λ m. Some (m + n)) (size_at-default []) ∙ ap Some (zero-add n)
 get-path [] n (k ∷ p) = get-insert path_total default [] (size_at default [] + n) (k ∷ p) ∙ get-default (k ∷ p)
 get-path (k ∷ ks) n [] = get-under-root k (graph_of_path ks n)
 get-path (k ∷ ks) n (l ∷ p) = rw (get-under k (graph_of_path ks n) l p, get-path ks n p) (below_key k ks n l p)
@@ -49,18 +60,23 @@ get-path (k ∷ ks) n (l ∷ p) = rw (get-under k (graph_of_path ks n) l p, get-
 -- The graph of a path has its bytes at that path alone.
 pub size_at-path : (ks : Path) (n : ℕ) (p : Path) → size_at (graph_of_path ks n) p ≡ cond (is_same_path p ks) n 0
 size_at-path ks n p =
-    rw (get-path ks n p, root_begins p ks) (on_test (λ t. unwrap_or (cond (begins p ks) (Some (cond t n 0)) None) 0 ≡ cond t n 0) (is_same_path p ks)
-    (λ e. rw (same_begins p ks e)) (λ e. on_test (λ b. ◌≡◌ {A = ℕ} (unwrap_or (cond b (Some 0) None) 0) 0) (begins p ks) (λ t. refl) (λ t. refl)))
+    rw (get-path ks n p, root_begins p ks)
+    (on_test (λ t. unwrap_or (cond (begins p ks) (Some (cond t n 0)) None) 0 ≡ cond t n 0) (is_same_path p ks)
+    (λ e. rw (same_begins p ks e)) (λ e. on_test (λ b. ◌≡◌ {A = ℕ} (unwrap_or (cond b (Some 0) None) 0) 0) (begins p ks)
+    (λ t. refl) (λ t. refl)))
 
 -- The paths of the graph of a path are the root and the beginnings of the path.
 contains_key-path : (ks : Path) (n : ℕ) (p : Path) → contains_key (graph_of_path ks n) p ≡ (is_root p || begins p ks)
-contains_key-path ks n p = ap is_some (get-path ks n p) ∙ is_some-cond (is_root p || begins p ks) (cond (is_same_path p ks) n 0)
+contains_key-path ks n p = ap is_some (get-path ks n p)
+    ∙ is_some-cond (is_root p || begins p ks) (cond (is_same_path p ks) n 0)
 
 -- ---- some stacks
 -- The sum of some stacks has a path exactly if one of them begins with it.
 has-stacks : (ss : List Stack) (p : Path) → contains_key (sum_of_stacks default ss) p ≡ is_path_of ss p
-has-stacks ss [] = has-added_up one_stack default ss [] ∙ ap (λ o. is_some o || list_any (λ s. contains_key (one_stack s) []) ss) (get-default [])
-has-stacks ss (k ∷ p) = has-added_up one_stack default ss (k ∷ p) ∙ (λ i. is_some (get-default (k ∷ p) i) || list_any (λ s. contains_key-path s.path s.size (k ∷ p) i) ss)
+has-stacks ss [] = has-added_up one_stack default ss []
+    ∙ ap (λ o. is_some o || list_any (λ s. contains_key (one_stack s) []) ss) (get-default [])
+has-stacks ss (k ∷ p) = has-added_up one_stack default ss (k ∷ p)
+    ∙ (λ i. is_some (get-default (k ∷ p) i) || list_any (λ s. contains_key-path s.path s.size (k ∷ p) i) ss)
 
 -- Whether a path is there, and its size, determine what a graph has at the path.
 from_parts : (x : Option ℕ) (b : Bool) (n : ℕ) → is_some x ≡ b → unwrap_or x 0 ≡ n → x ≡ cond b (Some n) None
@@ -70,8 +86,10 @@ from_parts (Some m) b n s e = ap Some e ∙ ap (λ c. cond c (Some n) None) s
 -- The stacks one after another are their graph.
 graph-stacks : (ss : List Stack) → IsGraphOfStacks ss (sum_of_stacks default ss)
 graph-stacks ss p =
-    let each : sum_by (λ s. size_at (one_stack s) p) ss ≡ bytes_at ss p = λ i. sum_by (λ s. size_at-path s.path s.size p i) ss in
-    from_parts (get (sum_of_stacks default ss) p) (is_path_of ss p) (bytes_at ss p) (has-stacks ss p) (omega (arith, size_at-added_up one_stack default ss p, size_at-default p, each))
+    let each : sum_by (λ s. size_at (one_stack s) p) ss ≡ bytes_at ss p =
+    λ i. sum_by (λ s. size_at-path s.path s.size p i) ss in
+    from_parts (get (sum_of_stacks default ss) p) (is_path_of ss p) (bytes_at ss p) (has-stacks ss p)
+    (omega (arith, size_at-added_up one_stack default ss p, size_at-default p, each))
 
 -- The bytes of some stacks, added up.
 total-stacks : (ss : List Stack) → total (sum_of_stacks default ss) ≡ all_bytes ss
@@ -81,10 +99,12 @@ total-stacks ss =
 
 -- ---- lines in any order
 -- What lines add up to in another order is what their text is read as.
-pub is_read : (t : List ℕ) (ls sorted : List Line) (g : Graph) → Means t (map line_stack ls) → IsPermutation ls sorted → g ≡ sum_of_stacks default (map line_stack sorted) → IsRead t g
+pub is_read : (t : List ℕ) (ls sorted : List Line) (g : Graph) → Means t (map line_stack ls) → IsPermutation ls sorted →
+    g ≡ sum_of_stacks default (map line_stack sorted) → IsRead t g
 is_read t ls sorted g means moved e =
     let ss = map line_stack ls in
-    subst (IsRead t) (sym (e ∙ added_up-permuted one_stack default ss (map line_stack sorted) (IsPermutation-map line_stack ls sorted moved))) (record {
+    subst (IsRead t) (sym (e ∙ added_up-permuted one_stack default ss (map line_stack sorted)
+    (IsPermutation-map line_stack ls sorted moved))) (record {
       stacks = ss;
       means = means;
       graph = graph-stacks ss;
@@ -97,17 +117,22 @@ total-lines : (ls : List Line) → total (sum_of_stacks default (map line_stack 
 total-lines ls = omega (arith, total-stacks (map line_stack ls), fold-map (λ n (s : Stack). n + s.size) line_stack 0 ls)
 
 -- The bytes of the next line fit, where those of all lines do.
-pub line_fits : (ls : List Line) (i : ℕ) (l : Line) (g : Graph) → take (i + 1) ls ≡ take i ls ++ l ∷ [] → g ≡ sum_of_stacks default (map line_stack (take i ls)) → sum_by (λ l. l.size) ls < 2 ^ 64 → total g + l.size < 2 ^ 64
+pub line_fits : (ls : List Line) (i : ℕ) (l : Line) (g : Graph) → take (i + 1) ls ≡ take i ls ++ l ∷ [] →
+    g ≡ sum_of_stacks default (map line_stack (take i ls)) → sum_by (λ l. l.size) ls < 2 ^ 64 →
+    total g + l.size < 2 ^ 64
 line_fits ls i l g more is fits =
     let size : Line → ℕ = λ l. l.size in
     omega (arith, fits, ap total is, total-lines (take i ls), ap (sum_by size) more, sum_by_push size (take i ls) l, sum_by-take-le size ls (i + 1))
 
 -- One line more is added.
-pub line_more : (ls : List Line) (i : ℕ) (l : Line) (g h : Graph) → take (i + 1) ls ≡ take i ls ++ l ∷ [] → g ≡ sum_of_stacks default (map line_stack (take i ls)) → h ≡ sum_of g (one_stack (line_stack l))
+pub line_more : (ls : List Line) (i : ℕ) (l : Line) (g h : Graph) → take (i + 1) ls ≡ take i ls ++ l ∷ [] →
+    g ≡ sum_of_stacks default (map line_stack (take i ls)) → h ≡ sum_of g (one_stack (line_stack l))
     → h ≡ sum_of_stacks default (map line_stack (take (i + 1) ls))
 line_more ls i l g h more was is =
     is ∙ ap (λ (f : Graph). sum_of f (one_stack (line_stack l))) was
-    ∙ sym (ap (λ xs. sum_of_stacks default (map line_stack xs)) more ∙ ap (sum_of_stacks default) (map_push line_stack (take i ls) l) ∙ fold-append (λ h s. sum_of h (one_stack s)) default (map line_stack (take i ls)) (line_stack l ∷ []))
+    ∙ sym (ap (λ xs. sum_of_stacks default (map line_stack xs)) more
+    ∙ ap (sum_of_stacks default) (map_push line_stack (take i ls) l)
+    ∙ fold-append (λ h s. sum_of h (one_stack s)) default (map line_stack (take i ls)) (line_stack l ∷ []))
 
 -- If the bytes of lines were added up in vain, they exceed a word.
 pub sum_exceeds : (t : List ℕ) (ls given : List Line) (o : Option ℕ) → Means t (map line_stack ls) → given ≡ ls
@@ -117,8 +142,10 @@ sum_exceeds t ls given None means e h none =
 sum_exceeds t ls given (Some n) means e h none = absurd (true≢false none)
 
 -- Where the bytes of lines fit, they fit in any order.
-pub sum_fits : {ls given sorted taken : List Line} (o : Option ℕ) → given ≡ ls → IsPermutation ls sorted → taken ≡ sorted
-    → SomeIff o (sum_by (λ l. l.size) given < 2 ^ 64) (sum_by (λ l. l.size) given) → is_some o ≡ true → sum_by (λ l. l.size) taken < 2 ^ 64
+pub sum_fits : {ls given sorted taken : List Line} (o : Option ℕ) → given ≡ ls → IsPermutation ls sorted →
+    taken ≡ sorted
+    → SomeIff o (sum_by (λ l. l.size) given < 2 ^ 64) (sum_by (λ l. l.size) given) → is_some o ≡ true →
+    sum_by (λ l. l.size) taken < 2 ^ 64
 sum_fits None e moved f h some = absurd (true≢false (sym some))
 sum_fits {ls = ls} {sorted = sorted} (Some n) e moved f h some =
     let size : Line → ℕ = λ l. l.size in

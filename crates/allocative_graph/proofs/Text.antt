@@ -1,7 +1,12 @@
 -- A text determines the sizes: it splits into lines at the line feeds, a line at its last space, and a path at each
 -- `;`.
-use Rattle.std.proofs.Common.{◌≡◌, ◌≢◌, ℕ, zero, suc, ◌+◌, ◌^◌, ◌<◌, ◌≤◌, ◌/◌, ◌%◌, ◌==◌, Bool, false, cond, not, ◌||◌, T, IsTrue, List, [], ◌∷◌, ◌++◌, map, flat_map, filter, Some, refl, ap, sym, ◌∙◌, subst, arith, add-zero, zero-add, unwrap_or, append_assoc, decimal, sum_by, nat_lt, eqb-true, if◌then◌else◌}
-use Rattle.allocative_graph.proofs.Common.{AllByRecursion, entries, get-entries, entries_sorted, find, is_sorted, below_all, first, second, Key, Path, path_cmp, is_same_path, Graph, text_of_entries, joined, is_root, size_at, Lacks, sum_by-cons}
+use Rattle.std.proofs.Common.{◌≡◌, ◌≢◌, ℕ, zero, suc, ◌+◌, ◌^◌, ◌<◌, ◌≤◌, ◌/◌, ◌%◌, ◌==◌, Bool, false, cond, not, ◌||◌}
+use Rattle.std.proofs.Common.{T, IsTrue, List, [], ◌∷◌, ◌++◌, map, flat_map, filter, Some, refl, ap, sym, ◌∙◌, subst}
+use Rattle.std.proofs.Common.{arith, add-zero, zero-add, unwrap_or, append_assoc, decimal, sum_by, nat_lt, eqb-true}
+use Rattle.std.proofs.Common.{if◌then◌else◌}
+use Rattle.allocative_graph.proofs.Common.{AllByRecursion, entries, get-entries, entries_sorted, find, is_sorted}
+use Rattle.allocative_graph.proofs.Common.{below_all, first, second, Key, Path, path_cmp, is_same_path, Graph}
+use Rattle.allocative_graph.proofs.Common.{text_of_entries, joined, is_root, size_at, Lacks, sum_by-cons}
 use Rattle.std.specs.Fmt.{digits, digits_onto, digit_glyph}
 use Rattle.std.proofs.lemmas.Bool.{not-false, not-true}
 use Rattle.std.proofs.lemmas.List.Elements.{All-weaker, filter_passes}
@@ -29,16 +34,20 @@ high : (d : ℕ) → 48 ≤ digit_glyph false d
 high d = on_test (λ t. 48 ≤ (if t then 48 + d else 87 + d)) (nat_lt d 10) (λ e. omega arith) (λ e. omega arith)
 
 -- If all bytes of a list are at least 48, so are all once digits are written before them.
-high_digits : (k n : ℕ) (acc : List ℕ) → AllByRecursion (λ b. 48 ≤ b) acc → AllByRecursion (λ b. 48 ≤ b) (digits_onto k 10 false n acc)
+high_digits : (k n : ℕ) (acc : List ℕ) → AllByRecursion (λ b. 48 ≤ b) acc →
+    AllByRecursion (λ b. 48 ≤ b) (digits_onto k 10 false n acc)
 high_digits zero n acc h = h
 high_digits (suc k) n acc h =
-    on_test (λ t. AllByRecursion (λ b. 48 ≤ b) (if t then digit_glyph false (n % 10) ∷ acc else digits_onto k 10 false (n / 10) (digit_glyph false (n % 10) ∷ acc))) (n / 10 == 0)
+    on_test (λ t. AllByRecursion (λ b. 48 ≤ b)
+    (if t then digit_glyph false (n % 10) ∷ acc else digits_onto k 10 false (n / 10)
+    (digit_glyph false (n % 10) ∷ acc))) (n / 10 == 0)
     (λ e. (high (n % 10), h)) (λ e. high_digits k (n / 10) (digit_glyph false (n % 10) ∷ acc) (high (n % 10), h))
 
 -- The decimal of a number has no byte below 48, so neither a space nor a line feed.
 pub decimal_lacks : (c n : ℕ) → c < 48 → Lacks c (decimal n)
 unfolding digits
-decimal_lacks c n h = each-implies (λ b. 48 ≤ b) (λ b. b ≢ c) (λ b g e. omega (arith, h, g, e)) (decimal n) (high_digits 64 n [] tt)
+decimal_lacks c n h = each-implies (λ b. 48 ≤ b) (λ b. b ≢ c) (λ b g e. omega (arith, h, g, e)) (decimal n)
+    (high_digits 64 n [] tt)
 
 -- ---- paths
 abbrev pub Plain : Key → Type 0
@@ -66,7 +75,8 @@ body e = joined e.0 ++ 32 ∷ decimal e.1
 -- The text of some entries is the lines of those that are shown.
 pub shown_lines : (es : List Sized) → text_of_entries es ≡ flat_map full (filter is_shown es)
 shown_lines [] = refl
-shown_lines (e ∷ es) = on_test (λ t. cond t [] (full e) ++ text_of_entries es ≡ flat_map full (cond (not t) (e ∷ filter is_shown es) (filter is_shown es))) (is_root e.0 || (e.1 == 0))
+shown_lines (e ∷ es) = on_test (λ t. cond t [] (full e) ++ text_of_entries es
+    ≡ flat_map full (cond (not t) (e ∷ filter is_shown es) (filter is_shown es))) (is_root e.0 || (e.1 == 0))
     (λ h. shown_lines es) (λ h. ap (λ x. full e ++ x) (shown_lines es))
 
 -- The line of an entry is its keys and its size, and after these a line feed.
@@ -80,19 +90,22 @@ pub record Good (e : Sized) : Type 0 where
 
 -- If the keys of an entry are plain, its line has no line feed but the one at its end.
 pub body_lacks : (e : Sized) → AllByRecursion Plain e.0 → Lacks 10 (body e)
-body_lacks e h = each-append (λ b. b ≢ 10) (joined e.0) _ (joined_lacks e.0 h) ((λ g. omega (arith, g)), decimal_lacks 10 e.1 (omega arith))
+body_lacks e h = each-append (λ b. b ≢ 10) (joined e.0) _ (joined_lacks e.0 h)
+    ((λ g. omega (arith, g)), decimal_lacks 10 e.1 (omega arith))
 
 -- ---- the entries that have a line
 abbrev pub shown : Graph → List Sized
 shown g = filter is_shown (entries g)
 
 -- If the keys are plain and all sizes together fit a word, each entry that is shown is good.
-pub good_entries : (es : List Sized) → AllByRecursion (λ p. AllByRecursion Plain p) (map (λ e. e.0) es) → sum_by (λ e. e.1) es < 2 ^ 64 → AllByRecursion Good (filter is_shown es)
+pub good_entries : (es : List Sized) → AllByRecursion (λ p. AllByRecursion Plain p) (map (λ e. e.0) es) →
+    sum_by (λ e. e.1) es < 2 ^ 64 → AllByRecursion Good (filter is_shown es)
 good_entries [] a b = tt
 good_entries (e ∷ es) a b =
     let parts = sum_by-cons (λ e. e.1) e es in
     let rest = good_entries es a.1 (omega (arith, parts)) in
-    on_test (λ t. AllByRecursion Good (cond t (e ∷ filter is_shown es) (filter is_shown es))) (is_shown e) (λ h. (record { shows = h; plain = a.0; word = omega (arith, parts) }, rest)) (λ h. rest)
+    on_test (λ t. AllByRecursion Good (cond t (e ∷ filter is_shown es) (filter is_shown es))) (is_shown e)
+    (λ h. (record { shows = h; plain = a.0; word = omega (arith, parts) }, rest)) (λ h. rest)
 
 -- ---- a size is that of the line at its path
 -- The bytes of some entries at a path.
@@ -108,9 +121,11 @@ unseen (l ∷ q, n) k p h = zero_at (is_same_path (k ∷ p) (l ∷ q)) (eqb-true
     zero_at t e = grind arith
 
 -- If the items that fail a test have none, the sum over the other items is the sum over all.
-sum-filter : {X : Type 0} (t : X → Bool) (f : X → ℕ) → ((x : X) → t x ≡ false → f x ≡ 0) → (xs : List X) → sum_by f (filter t xs) ≡ sum_by f xs
+sum-filter : {X : Type 0} (t : X → Bool) (f : X → ℕ) → ((x : X) → t x ≡ false → f x ≡ 0) → (xs : List X) →
+    sum_by f (filter t xs) ≡ sum_by f xs
 sum-filter t f none xs =
-    let nothing = All-weaker _ (λ x. f x ≤ 0) (λ x h. omega (arith, none x (not-true (t x) h))) _ (filter_passes (λ x. not (t x)) xs) in
+    let nothing = All-weaker _ (λ x. f x ≤ 0) (λ x h. omega (arith, none x (not-true (t x) h)))
+    _ (filter_passes (λ x. not (t x)) xs) in
     omega (arith, sum_by-filter_both t (λ x. not (t x)) (λ x. refl) f xs, sum_by-le f 0 (filter (λ x. not (t x)) xs) nothing)
 
 -- The bytes of entries in order at a path are the size that is found there.
@@ -120,8 +135,11 @@ bytes-find q (e ∷ es) h =
     let rest = bytes-find q es (second (below_all path_cmp e.0 es) (is_sorted path_cmp es) h) in
     let above = first (below_all path_cmp e.0 es) (is_sorted path_cmp es) h in
     sum_by-cons (λ (x : Sized). cond (is_same_path q x.0) x.1 0) e es
-    ∙ on_test (λ t. cond t e.1 0 + bytes_in es q ≡ unwrap_or (cond t (Some e.1) (find path_cmp q es)) 0) (is_same_path q e.0)
-    (λ same. ap (λ n. e.1 + n) (rest ∙ ap (λ o. unwrap_or o 0) (find-below_all path_cmp q es (subst (λ (p : Path). T (below_all path_cmp p es)) (sym (same_path q e.0 same)) above))) ∙ add-zero e.1)
+    ∙ on_test (λ t. cond t e.1 0 + bytes_in es q ≡ unwrap_or (cond t (Some e.1) (find path_cmp q es)) 0)
+    (is_same_path q e.0)
+    (λ same. ap (λ n. e.1 + n) (rest ∙ ap (λ o. unwrap_or o 0)
+    (find-below_all path_cmp q es (subst (λ (p : Path). T (below_all path_cmp p es)) (sym (same_path q e.0 same))
+    above))) ∙ add-zero e.1)
     (λ apart. zero-add (bytes_in es q) ∙ rest)
 
 -- A size of a graph, but for the root's, is that of the lines.

@@ -5,7 +5,8 @@ use Rattle.std.specs.FinSet as set
 use Rattle.allocative_graph.specs.declared.refusal.Refusal.{Refusal}
 use Rattle.allocative_graph.specs.Path.{Key, Path}
 use Rattle.allocative_graph.specs.Identity.{Identity, Identities}
-use Rattle.allocative_graph.specs.Forest.{Forest, Empty, First, Again, Bag, entry_of, own_behind, content_entries, met_after, Fits}
+use Rattle.allocative_graph.specs.Forest.{Forest, Empty, First, Again, Bag, entry_of, own_behind, content_entries}
+use Rattle.allocative_graph.specs.Forest.{met_after, Fits}
 use Rattle.allocative_graph.specs.Sums.{Sums, add_all}
 use Rattle.allocative_graph.specs.Held.{held, inline_bytes, ShowsNoContent}
 use Rattle.allocative_graph.specs.Owned.{direct, owned}

@@ -1,5 +1,6 @@
 -- Flame graphs, their text, and the warnings.
-use Rattle.std.specs.Prelude.{◌≡◌, ◌≢◌, ℕ, ◌+◌, ◌-◌, ◌^◌, ◌<◌, ◌≤◌, ◌⊎◌, Bool, true, false, cond, not, ◌&&◌, ◌||◌, List, [], ◌∷◌, ◌++◌, map, flat_map, Some, sum_by, unwrap_or, decimal, nat_lt, ◌==◌, IsTrue}
+use Rattle.std.specs.Prelude.{◌≡◌, ◌≢◌, ℕ, ◌+◌, ◌-◌, ◌^◌, ◌<◌, ◌≤◌, ◌⊎◌, Bool, true, false, cond, not, ◌&&◌, ◌||◌, List}
+use Rattle.std.specs.Prelude.{[], ◌∷◌, ◌++◌, map, flat_map, Some, sum_by, unwrap_or, decimal, nat_lt, ◌==◌, IsTrue}
 use Rattle.std.specs.List.{AllByRecursion}
 use Rattle.std.specs.FinMap.{FinMap, get, insert, entries, from_entries, keys, contains_key}
 use Rattle.std.specs.Ordering.{eq_by_cmp}
@@ -133,7 +134,8 @@ warning_text w = codes "Incorrect size declaration for node `" ++ joined w.path 
 
 -- The line of the warning of a path, with its own bytes and those one key below it.
 abbrev pub warning_line : Path → ℕ → ℕ → List ℕ
-warning_line p bytes under = warning_text (record { path = p; self_size = bytes; children_size = under }) ++ newline ∷ []
+warning_line p bytes under = warning_text (record { path = p; self_size = bytes; children_size = under })
+    ++ newline ∷ []
 
 -- The warning of a path of the sums: there is one if the path is not the root, was never unique and has fewer bytes
 -- than one key below it.

@@ -11,8 +11,10 @@ use Rattle.allocative_graph.specs.Identity.{Identity}
 use Rattle.allocative_graph.specs.Forest.{Forest, Empty, First, Again, Bag, own, all, followed_by, entry_of}
 use Rattle.allocative_graph.specs.Meaning.{Reached, IsMeaning, ReachesExactly, content_of, IsWhole, Agree, ReachApart}
 use Rattle.allocative_graph.specs.Sums.{Sums, bytes_in, below_in, is_unique_in, is_entered_in, sums_of, below}
-use Rattle.allocative_graph.specs.Graph.{Graph, graph, remaining, total, under, default, IsTree, text, warnings, warned_paths, sum_of, size_at, CanBeAdded, HasPlainKeys, HasWords}
-use Rattle.allocative_graph.specs.Collector.{Live, Holding, Owning, Kind, OfGraph, OfHeld, OfOwned, plus, Takes, enter, enter_first, enter_again, count_owning, leave, Outer, outer_of}
+use Rattle.allocative_graph.specs.Graph.{Graph, graph, remaining, total, under, default, IsTree, text, warnings}
+use Rattle.allocative_graph.specs.Graph.{warned_paths, sum_of, size_at, CanBeAdded, HasPlainKeys, HasWords}
+use Rattle.allocative_graph.specs.Collector.{Live, Holding, Owning, Kind, OfGraph, OfHeld, OfOwned, plus, Takes, enter}
+use Rattle.allocative_graph.specs.Collector.{enter_first, enter_again, count_owning, leave, Outer, outer_of}
 use Rattle.allocative_graph.specs.Report.{exact_text, without_lines}
 use Rattle.allocative_graph.specs.Read.{IsRead, IsFault, Exceeds, CanBeRead}
 use Rattle.allocative_graph.specs.declared.read.LineFault.{LineFault}
@@ -61,7 +63,8 @@ ExactLaw = (g : Graph) → HasPlainKeys g → exact_text g ≡ without_lines (co
 pub record ReadLaw : Type 0 where
   pub same_sizes : (g h : Graph) → HasPlainKeys g → HasWords g → IsRead (text g) h → (k : Key) (p : Path)
       → size_at h (k ∷ p) ≡ size_at g (k ∷ p)
-  pub no_fault : (g : Graph) → HasPlainKeys g → HasWords g → CanBeRead g → (n : ℕ) (w : LineFault) → ¬ IsFault (text g) n w
+  pub no_fault : (g : Graph) → HasPlainKeys g → HasWords g → CanBeRead g → (n : ℕ) (w : LineFault) →
+      ¬ IsFault (text g) n w
   pub fits : (g : Graph) → HasPlainKeys g → HasWords g → ¬ Exceeds (text g)
 
 -- ---- of sums
@@ -90,8 +93,10 @@ pub record SharedLaw : Type 0 where
       → leave outer (plus (OfGraph (enter_first k n i c)) f) ≡ plus (OfGraph c) (First k n i f Empty)
   pub first_taken : (k : Key) (n : ℕ) (i : Identity) (c : Live) (f : Forest) → contains c.met i ≡ false
       → Takes (OfGraph (enter_first k n i c)) f → Takes (OfGraph c) (First k n i f Empty)
-  pub again : (k : Key) (n : ℕ) (i : Identity) (c : Live) → OfGraph (enter_again k n i c) ≡ plus (OfGraph c) (Again k n i Empty)
-  pub again_taken : (k : Key) (n : ℕ) (i : Identity) (c : Live) → contains c.met i ≡ true → Takes (OfGraph c) (Again k n i Empty)
+  pub again : (k : Key) (n : ℕ) (i : Identity) (c : Live) →
+      OfGraph (enter_again k n i c) ≡ plus (OfGraph c) (Again k n i Empty)
+  pub again_taken : (k : Key) (n : ℕ) (i : Identity) (c : Live) → contains c.met i ≡ true →
+      Takes (OfGraph c) (Again k n i Empty)
   pub held : (k : Key) (n : ℕ) (i : Identity) (h : Holding) → plus (OfHeld h) (Again k n i Empty) ≡ OfHeld h
   pub owned : (k : Key) (n : ℕ) (i : Identity) (o : Owning)
       → plus (OfOwned o) (Again k n i Empty) ≡ OfOwned (count_owning n o)

@@ -2,7 +2,8 @@
 use Rattle.std.specs.Prelude.{◌≡◌, ◌≤◌, ◌⊎◌, ◌-◌, ℕ, ◌+◌, Bool, true, false, List, [], ◌∷◌, ◌++◌, IsTrue}
 use Rattle.std.specs.List.{AllByRecursion}
 use Rattle.allocative_graph.specs.Path.{Key, Path, is_same_path}
-use Rattle.allocative_graph.specs.Forest.{Forest, Empty, Inline, Unique, First, Again, AsInline, AsUnique, AsShared, Entry, own, followed_by, entry_of}
+use Rattle.allocative_graph.specs.Forest.{Forest, Empty, Inline, Unique, First, Again, AsInline, AsUnique, AsShared}
+use Rattle.allocative_graph.specs.Forest.{Entry, own, followed_by, entry_of}
 use Rattle.allocative_graph.specs.Sums.{is_unique_mark, sums_of}
 use Rattle.allocative_graph.specs.Graph.{graph, total}
 
@@ -71,5 +72,6 @@ pub data Reordered : Forest → Forest → Type 0 where
 pub record OwnedLaw : Type 0 where
   pub adds_up : (f g : Forest) → owned (followed_by f g) ≡ owned f + owned g
   pub in_any_order : (f g : Forest) → Reordered f g → owned f ≡ owned g
-  pub is_total : (f : Forest) → ((p : Path) → AreAlike p (owners_behind [] f)) → owned f ≡ total (graph (sums_of (own f)))
+  pub is_total : (f : Forest) → ((p : Path) → AreAlike p (owners_behind [] f)) →
+      owned f ≡ total (graph (sums_of (own f)))
   pub at_least : (f : Forest) → direct f ≤ owned f

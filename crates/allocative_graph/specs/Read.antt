@@ -1,5 +1,6 @@
 -- What a text of collapsed stacks says, which line of it is none, and the graph that its lines add up to.
-use Rattle.std.specs.Prelude.{◌≡◌, ℕ, ◌+◌, ◌^◌, ◌<◌, ◌≤◌, ◌||◌, ◌==◌, Bool, not, cond, filter, List, [], ◌∷◌, ◌++◌, length, Some, None, sum_by}
+use Rattle.std.specs.Prelude.{◌≡◌, ℕ, ◌+◌, ◌^◌, ◌<◌, ◌≤◌, ◌||◌, ◌==◌, Bool, not, cond, filter, List, [], ◌∷◌, ◌++◌}
+use Rattle.std.specs.Prelude.{length, Some, None, sum_by}
 use Rattle.std.specs.Bool.{⊤}
 use Rattle.std.specs.List.{AllByRecursion, list_any, slice_split}
 use Rattle.std.specs.Str.Lines.{lines}
@@ -11,7 +12,8 @@ use Rattle.allocative_graph.specs.declared.read.LineFault.{LineFault}
 use Rattle.allocative_graph.specs.declared.read.LineFault.TheVariants.{NoSpace, NoPath, NoNumber, TooLarge, TooDeep}
 use Rattle.allocative_graph.specs.Path.{Key, Path, is_same_path}
 use Rattle.allocative_graph.specs.Format.{semicolon, space}
-use Rattle.allocative_graph.specs.Graph.{Graph, size_at, total, begins, is_root, joined, text, Lacks, HasPlainKeys, HasWords}
+use Rattle.allocative_graph.specs.Graph.{Graph, size_at, total, begins, is_root, joined, text, Lacks, HasPlainKeys}
+use Rattle.allocative_graph.specs.Graph.{HasWords}
 
 -- ---- lines
 -- A path with its bytes.

@@ -1,5 +1,6 @@
 -- What calls of a collector and of its visitors do, as relations between the collector before and after a call.
-use Rattle.std.specs.Prelude.{◌≡◌, ℕ, suc, ◌+◌, ◌-◌, ◌<◌, ◌≤◌, ◌^◌, ◌⊎◌, Bool, true, false, List, Option, None, Some, Result, Ok, Err}
+use Rattle.std.specs.Prelude.{◌≡◌, ℕ, suc, ◌+◌, ◌-◌, ◌<◌, ◌≤◌, ◌^◌, ◌⊎◌, Bool, true, false, List, Option, None, Some}
+use Rattle.std.specs.Prelude.{Result, Ok, Err}
 use Rattle.std.specs.FinSet.{contains}
 use Rattle.allocative_graph.specs.declared.refusal.Refusal.{Refusal}
 use Rattle.allocative_graph.specs.declared.refusal.Refusal.TheVariants.{Memory, TooLarge, Open}
@@ -9,7 +10,10 @@ use Rattle.allocative_graph.specs.Forest.{Forest, Bag, own, all, followed_by}
 use Rattle.allocative_graph.specs.Meaning.{IsWhole, IsMeaning, ReachesExactly, ReachApart, content_of}
 use Rattle.allocative_graph.specs.Sums.{Sums, entered, sums_of}
 use Rattle.allocative_graph.specs.Graph.{Graph, Warned, graph, warnings, warned_paths, sum_of, CanBeAdded}
-use Rattle.allocative_graph.specs.Collector.{Live, Holding, Owning, Kind, OfGraph, OfHeld, OfOwned, State, Failed, Going, held_bytes, enter, enter_first, enter_again, count_owning, plus, Takes, is_graph, visitors, Outer, outer_of, begin, close_entry, IsClosed, IsAtRoot}
+use Rattle.allocative_graph.specs.Collector.{Live, Holding, Owning, Kind, OfGraph, OfHeld, OfOwned, State, Failed}
+use Rattle.allocative_graph.specs.Collector.{Going, held_bytes, enter, enter_first, enter_again, count_owning, plus}
+use Rattle.allocative_graph.specs.Collector.{Takes, is_graph, visitors, Outer, outer_of, begin, close_entry, IsClosed}
+use Rattle.allocative_graph.specs.Collector.{IsAtRoot}
 use Rattle.allocative_graph.specs.Shows.{Showing}
 
 -- What visiting a value does to a collector, if p is what the value may show. A failed collector stays as it is.

@@ -68,7 +68,8 @@ pub record WorkedExamples : Type 0 where
   pub first_content_prints : Prints (first_content (codes "D") 10) (codes "A;ptr 16\nD 10\n") []
   pub first_content_turned_prints : Prints (first_content (codes "E") 20) (codes "A;ptr 16\nE 20\n") []
   pub short_of_children_prints : Prints (Inline (codes "a") 10 (Inline (codes "b") 13 Empty Empty) Empty)
-      (codes "a;b 13\n") (codes "Incorrect size declaration for node `a`, size of self: 10, size of inline children: 13\n")
+      (codes "a;b 13\n")
+      (codes "Incorrect size declaration for node `a`, size of self: 10, size of inline children: 13\n")
   pub inline_and_unique_prints : Prints (followed_by part_inline part_unique) (codes "n 16\nn;x 8\nn;y 3\n") []
   pub boxed_bytes_prints : Prints (Inline (codes "TestData") 24
       (Inline (codes "data") 16 (Inline (codes "Box") 16

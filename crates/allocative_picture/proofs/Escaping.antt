@@ -1,12 +1,14 @@
 -- The markup of a character has plain bytes only, and reads as that character.
-use Rattle.std.proofs.Common.{◌≡◌, ℕ, ◌≤◌, ◌&&◌, Bool, true, false, not, cond, List, [], ◌∷◌, ◌++◌, refl, arith, codes, nat_lt, ◌==◌, encode_utf8, flat_map}
+use Rattle.std.proofs.Common.{◌≡◌, ℕ, ◌≤◌, ◌&&◌, Bool, true, false, not, cond, List, [], ◌∷◌, ◌++◌, refl, arith, codes}
+use Rattle.std.proofs.Common.{nat_lt, ◌==◌, encode_utf8, flat_map}
 use Rattle.allocative_picture.proofs.Common.{escaped_char}
 use Rattle.std.proofs.lemmas.Bool.{and_parts, eqb-true, eqb-false}
 use Rattle.std.proofs.lemmas.Bool.Decides.{nat_tests}
 use Rattle.std.specs.List.{AllByRecursion, list_all}
 use Rattle.std.specs.Str.{chars}
 use Rattle.allocative_graph.proofs.Basics.{each-append}
-use Rattle.allocative_picture.specs.Escape.{is_unfit, IsPlain, Reads, end, ampersand, less, greater, quote, apostrophe, itself, EscapeLaws}
+use Rattle.allocative_picture.specs.Escape.{is_unfit, IsPlain, Reads, end, ampersand, less, greater, quote, apostrophe}
+use Rattle.allocative_picture.specs.Escape.{itself, EscapeLaws}
 
 -- What holds in both cases holds of a choice.
 by_cond : {X : Type 0} (P : X → Type 0) (b : Bool) (x y : X) → (b ≡ true → P x) → (b ≡ false → P y) → P (cond b x y)
@@ -61,19 +63,27 @@ legible_char c = cond (is_unfit c) (encode_utf8 65533) (encode_utf8 c)
 char : (c : ℕ) → IsMarkup (escaped_char c) (legible_char c)
 unfolding lib.Utf8.encode
 char c =
-    by_cond (λ x. IsMarkup x (legible_char c)) (c == 38) _ _ (λ e. rw (eqb-true c 38 e) (all_plain_by (codes "&amp;") refl, ampersand)) (λ e1.
-    by_cond (λ x. IsMarkup x (legible_char c)) (c == 60) _ _ (λ e. rw (eqb-true c 60 e) (all_plain_by (codes "&lt;") refl, less)) (λ e2.
-    by_cond (λ x. IsMarkup x (legible_char c)) (c == 62) _ _ (λ e. rw (eqb-true c 62 e) (all_plain_by (codes "&gt;") refl, greater)) (λ e3.
-    by_cond (λ x. IsMarkup x (legible_char c)) (c == 34) _ _ (λ e. rw (eqb-true c 34 e) (all_plain_by (codes "&quot;") refl, quote)) (λ e4.
-    by_cond (λ x. IsMarkup x (legible_char c)) (c == 39) _ _ (λ e. rw (eqb-true c 39 e) (all_plain_by (codes "&#39;") refl, apostrophe)) (λ e5.
-    by_cond (λ x. IsMarkup x x) (is_unfit c) _ _ (λ _. high (encode_utf8 65533) (omega arith, (omega arith, (omega arith, tt)))) (λ e.
+    by_cond (λ x. IsMarkup x (legible_char c)) (c == 38)
+    _ _ (λ e. rw (eqb-true c 38 e) (all_plain_by (codes "&amp;") refl, ampersand)) (λ e1.
+    by_cond (λ x. IsMarkup x (legible_char c)) (c == 60)
+    _ _ (λ e. rw (eqb-true c 60 e) (all_plain_by (codes "&lt;") refl, less)) (λ e2.
+    by_cond (λ x. IsMarkup x (legible_char c)) (c == 62)
+    _ _ (λ e. rw (eqb-true c 62 e) (all_plain_by (codes "&gt;") refl, greater)) (λ e3.
+    by_cond (λ x. IsMarkup x (legible_char c)) (c == 34)
+    _ _ (λ e. rw (eqb-true c 34 e) (all_plain_by (codes "&quot;") refl, quote)) (λ e4.
+    by_cond (λ x. IsMarkup x (legible_char c)) (c == 39)
+    _ _ (λ e. rw (eqb-true c 39 e) (all_plain_by (codes "&#39;") refl, apostrophe)) (λ e5.
+    by_cond (λ x. IsMarkup x x) (is_unfit c) _ _ (λ _. high (encode_utf8 65533)
+    (omega arith, (omega arith, (omega arith, tt)))) (λ e.
     by_cond (λ x. IsMarkup x x) (nat_lt c 128) _ _
     (λ _. ((plain_by c (rw (e2, e3, e4, e5, fit c e) refl), tt), λ m t r. itself c m t (eqb-false c 38 e1) (eqb-false c 60 e2) r))
     (λ _. high _ (by_cond High (nat_lt c 2048) _ _ (λ _. (omega arith, (omega arith, tt))) (λ _.
-    by_cond High (nat_lt c 65536) _ _ (λ _. (omega arith, (omega arith, (omega arith, tt)))) (λ _. (omega arith, (omega arith, (omega arith, (omega arith, tt))))))))))))))
+    by_cond High (nat_lt c 65536) _ _ (λ _. (omega arith, (omega arith, (omega arith, tt))))
+    (λ _. (omega arith, (omega arith, (omega arith, (omega arith, tt))))))))))))))
 
 -- The markup of some characters has plain bytes only, and reads as these characters.
-markup : (cs : List ℕ) → AllByRecursion IsPlain (flat_map escaped_char cs) × Reads (flat_map escaped_char cs) (flat_map legible_char cs)
+markup : (cs : List ℕ) → AllByRecursion IsPlain (flat_map escaped_char cs)
+    × Reads (flat_map escaped_char cs) (flat_map legible_char cs)
 markup [] = (tt, end)
 markup (c ∷ cs) = (each-append IsPlain (escaped_char c) (flat_map escaped_char cs) (char c).0 (markup cs).0, (char c).1 _ _ (markup cs).1)
 

@@ -1,6 +1,8 @@
 -- How boxes are placed relative to one another.
-use Rattle.std.proofs.Common.{◌≡◌, ℕ, zero, suc, ◌+◌, ◌*◌, ◌<◌, ◌≤◌, ◌&&◌, cond, List, [], ◌∷◌, ◌++◌, sum_by, refl, ap, ◌∙◌, arith}
-use Rattle.allocative_picture.proofs.Common.{Ordering, Less, Equal, Greater, is_eq, is_lt, ordering_then, ordering_reverse, entries, Path, key_cmp, path_cmp, total, before_in}
+use Rattle.std.proofs.Common.{◌≡◌, ℕ, zero, suc, ◌+◌, ◌*◌, ◌<◌, ◌≤◌, ◌&&◌, cond, List, [], ◌∷◌, ◌++◌, sum_by, refl, ap}
+use Rattle.std.proofs.Common.{◌∙◌, arith}
+use Rattle.allocative_picture.proofs.Common.{Ordering, Less, Equal, Greater, is_eq, is_lt, ordering_then}
+use Rattle.allocative_picture.proofs.Common.{ordering_reverse, entries, Path, key_cmp, path_cmp, total, before_in}
 use Rattle.std.proofs.Math.Nat.{mul-div_cancel_left, div-zero}
 use Rattle.std.proofs.lemmas.List.Sums.{sum_by-cons, sum_by-le-sum_by}
 use Rattle.std.specs.Cmp.Lexicographic.{nat_list_cmp_total}
@@ -50,13 +52,15 @@ once n [] [] = omega arith
 once n (l ∷ q) [] = omega arith
 once n [] (k ∷ p) = omega arith
 once n (l ∷ q) (k ∷ p) =
-    rw (below-cons n l k q p) (at_order (λ o. lower_by o n q p + below_by o n q p ≤ n) (key_cmp l k) (omega arith) (once n q p) (omega arith))
+    rw (below-cons n l k q p) (at_order (λ o. lower_by o n q p + below_by o n q p ≤ n) (key_cmp l k) (omega arith)
+    (once n q p) (omega arith))
 
 -- What comes before a path also comes before each longer path that begins with it.
 longer : (n : ℕ) (q p r : Path) → lower n q p ≤ lower n q (p ++ r)
 longer n q [] r = omega (arith, never_lower n q)
 longer n [] (k ∷ p) r = omega arith
-longer n (l ∷ q) (k ∷ p) r = at_order (λ o. lower_by o n q p ≤ lower_by o n q (p ++ r)) (key_cmp l k) (omega arith) (longer n q p r) (omega arith)
+longer n (l ∷ q) (k ∷ p) r = at_order (λ o. lower_by o n q p ≤ lower_by o n q (p ++ r)) (key_cmp l k) (omega arith)
+    (longer n q p r) (omega arith)
 
 -- What comes before a longer path or is below it comes before its beginning or is below that.
 inner : (n : ℕ) (q p r : Path) → lower n q (p ++ r) + below n q (p ++ r) ≤ lower n q p + below n q p
@@ -64,18 +68,22 @@ inner n q [] r = omega (arith, once n q r)
 inner n [] (k ∷ p) r = omega arith
 inner n (l ∷ q) (k ∷ p) r =
     rw (below-cons n l k q p, below-cons n l k q (p ++ r))
-    (at_order (λ o. lower_by o n q (p ++ r) + below_by o n q (p ++ r) ≤ lower_by o n q p + below_by o n q p) (key_cmp l k) (omega arith) (inner n q p r) (omega arith))
+    (at_order (λ o. lower_by o n q (p ++ r) + below_by o n q (p ++ r) ≤ lower_by o n q p + below_by o n q p)
+    (key_cmp l k) (omega arith) (inner n q p r) (omega arith))
 
 -- What comes before the path of a key or is below it comes before the path of each greater key.
-beside : (n : ℕ) (q p : Path) (k l : Key) → key_cmp k l ≡ Less → lower n q (p ++ k ∷ []) + below n q (p ++ k ∷ []) ≤ lower n q (p ++ l ∷ [])
+beside : (n : ℕ) (q p : Path) (k l : Key) → key_cmp k l ≡ Less →
+    lower n q (p ++ k ∷ []) + below n q (p ++ k ∷ []) ≤ lower n q (p ++ l ∷ [])
 beside n [] [] k l h = omega arith
 beside n (m ∷ q) [] k l h =
     rw (below-cons n m k q []) (at_order (λ o. key_cmp m k ≡ o → lower_by o n q [] + below_by o n q [] ≤ lower_by (key_cmp m l) n q []) (key_cmp m k)
-    (λ e. rw (nat_list_cmp_total.trans m k l e h) (omega arith)) (λ e. rw (nat_list_cmp_total.congr m k l e ∙ h) (omega (arith, never_lower n q))) (λ e. omega arith) refl)
+    (λ e. rw (nat_list_cmp_total.trans m k l e h) (omega arith))
+    (λ e. rw (nat_list_cmp_total.congr m k l e ∙ h) (omega (arith, never_lower n q))) (λ e. omega arith) refl)
 beside n [] (j ∷ p) k l h = omega arith
 beside n (m ∷ q) (j ∷ p) k l h =
     rw (below-cons n m j q (p ++ k ∷ []))
-    (at_order (λ o. lower_by o n q (p ++ k ∷ []) + below_by o n q (p ++ k ∷ []) ≤ lower_by o n q (p ++ l ∷ [])) (key_cmp m j) (omega arith) (beside n q p k l h) (omega arith))
+    (at_order (λ o. lower_by o n q (p ++ k ∷ []) + below_by o n q (p ++ k ∷ []) ≤ lower_by o n q (p ++ l ∷ []))
+    (key_cmp m j) (omega arith) (beside n q p k l h) (omega arith))
 
 -- ---- sums over entries
 abbrev lowers : Path → Path × ℕ → ℕ
@@ -103,7 +111,8 @@ edges-le (suc n) a b h = edge-le (suc n) a b (omega arith) h
 -- A box is within the box of its parent.
 pub is_inside : InsideLaw
 is_inside M g p k = record {
-  starts = edges-le (total g) _ _ (sum_by-le-sum_by (lowers p) (lowers (p ++ k ∷ [])) (entries g) (λ e. longer e.1 e.0 p (k ∷ [])));
+  starts = edges-le (total g) _ _ (sum_by-le-sum_by (lowers p) (lowers (p ++ k ∷ [])) (entries g)
+      (λ e. longer e.1 e.0 p (k ∷ [])));
   ends = edges-le (total g) _ _ (
       let le = sum_by-le-sum_by (reaches (p ++ k ∷ [])) (reaches p) (entries g) (λ e. inner e.1 e.0 p (k ∷ [])) in
       omega (arith, le, reached p (entries g), reached (p ++ k ∷ []) (entries g))
@@ -112,7 +121,9 @@ is_inside M g p k = record {
 
 -- Boxes with one parent are beside one another, in the order of their keys.
 pub is_apart : ApartLaw
-is_apart M g p k l h = edges-le (total g) _ _ (rw (reached (p ++ k ∷ []) (entries g)) (sum_by-le-sum_by (reaches (p ++ k ∷ [])) (lowers (p ++ l ∷ [])) (entries g) (λ e. beside e.1 e.0 p k l h)))
+is_apart M g p k l h = edges-le (total g)
+    _ _ (rw (reached (p ++ k ∷ []) (entries g))
+    (sum_by-le-sum_by (reaches (p ++ k ∷ [])) (lowers (p ++ l ∷ [])) (entries g) (λ e. beside e.1 e.0 p k l h)))
 
 -- No box extends past the right edge.
 pub is_within : WithinLaw

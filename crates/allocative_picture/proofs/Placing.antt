@@ -1,6 +1,9 @@
 -- The bytes before a path are the own bytes of the rows before its row.
-use Rattle.std.proofs.Common.{◌≡◌, ℕ, ◌+◌, cond, List, [], ◌∷◌, ◌++◌, map, sum_by, length, refl, sym, ap, subst, ◌∙◌, append_assoc, T, arith}
-use Rattle.allocative_picture.proofs.Common.{is_lt, ordering_reverse, Less, Greater, entries, entries_sorted, is_sorted, below_all, Path, path_cmp, Graph, total_at, Figures, Mark, before_in, row_of, rows_from}
+use Rattle.std.proofs.Common.{◌≡◌, ℕ, ◌+◌, cond, List, [], ◌∷◌, ◌++◌, map, sum_by, length, refl, sym, ap, subst, ◌∙◌}
+use Rattle.std.proofs.Common.{append_assoc, T, arith}
+use Rattle.allocative_picture.proofs.Common.{is_lt, ordering_reverse, Less, Greater, entries, entries_sorted, is_sorted}
+use Rattle.allocative_picture.proofs.Common.{below_all, Path, path_cmp, Graph, total_at, Figures, Mark, before_in}
+use Rattle.allocative_picture.proofs.Common.{row_of, rows_from}
 use Rattle.std.proofs.lemmas.List.Sums.{sum_by-cons, sum_by-append}
 use Rattle.std.specs.Cmp.{tied_itself}
 use Rattle.allocative_graph.specs.Reads.{figures}
@@ -14,11 +17,13 @@ abbrev Sizes : Type 0
 Sizes = List (Path × ℕ)
 
 -- A path that is less than all entries is less than the first one and than all others.
-pub less_than : (p : Path) (e : Path × ℕ) (es : Sizes) → T (below_all path_cmp p (e ∷ es)) → (path_cmp p e.0 ≡ Less) × T (below_all path_cmp p es)
+pub less_than : (p : Path) (e : Path × ℕ) (es : Sizes) → T (below_all path_cmp p (e ∷ es)) →
+    (path_cmp p e.0 ≡ Less) × T (below_all path_cmp p es)
 less_than p e es h = (is_lt-Less _ (first _ (below_all path_cmp p es) h), second (is_lt (path_cmp p e.0)) _ h)
 
 -- In a sorted list, the path of the first entry is less than all others, and these are sorted.
-pub in_order : (e : Path × ℕ) (es : Sizes) → T (is_sorted path_cmp (e ∷ es)) → T (below_all path_cmp e.0 es) × T (is_sorted path_cmp es)
+pub in_order : (e : Path × ℕ) (es : Sizes) → T (is_sorted path_cmp (e ∷ es)) →
+    T (below_all path_cmp e.0 es) × T (is_sorted path_cmp es)
 in_order e es h = (first _ (is_sorted path_cmp es) h, second (below_all path_cmp e.0 es) _ h)
 
 -- The bytes of some entries together.
@@ -26,7 +31,8 @@ abbrev pub bytes_of : Sizes → ℕ
 bytes_of es = sum_by (λ e. e.1) es
 
 -- The bytes before a path are those of the first entry, if it comes before, and of the others.
-before-cons : (p : Path) (e : Path × ℕ) (es : Sizes) → before_in (e ∷ es) p ≡ cond (is_lt (path_cmp e.0 p)) e.1 0 + before_in es p
+before-cons : (p : Path) (e : Path × ℕ) (es : Sizes) →
+    before_in (e ∷ es) p ≡ cond (is_lt (path_cmp e.0 p)) e.1 0 + before_in es p
 before-cons p e es = sum_by-cons (λ (x : Path × ℕ). cond (is_lt (path_cmp x.0 p)) x.1 0) e es
 
 -- No entry comes before a path that is less than all of them.
@@ -42,11 +48,14 @@ below-at p [] c e h = (less_than p e c h).0
 below-at p (x ∷ a) c e h = below-at p a c e (less_than p x (a ++ e ∷ c) h).1
 
 -- In a sorted list, the bytes before the path of an entry are those of the entries to its left.
-before-middle : (a c : Sizes) (e : Path × ℕ) → T (is_sorted path_cmp (a ++ e ∷ c)) → before_in (a ++ e ∷ c) e.0 ≡ bytes_of a
-before-middle [] c e h = before-cons e.0 e c ∙ (λ i. cond (is_lt (tied_itself path_total e.0 i)) e.1 0 + before-above e.0 c (in_order e c h).0 i)
+before-middle : (a c : Sizes) (e : Path × ℕ) → T (is_sorted path_cmp (a ++ e ∷ c)) →
+    before_in (a ++ e ∷ c) e.0 ≡ bytes_of a
+before-middle [] c e h = before-cons e.0 e c
+    ∙ (λ i. cond (is_lt (tied_itself path_total e.0 i)) e.1 0 + before-above e.0 c (in_order e c h).0 i)
 before-middle (x ∷ a) c e h =
     let parts = in_order x (a ++ e ∷ c) h in
-    before-cons e.0 x (a ++ e ∷ c) ∙ (λ i. cond (is_lt (below-at x.0 a c e parts.0 i)) x.1 0 + before-middle a c e parts.1 i) ∙ sym (sum_by-cons (λ (y : Path × ℕ). y.1) x a)
+    before-cons e.0 x (a ++ e ∷ c) ∙ (λ i. cond (is_lt (below-at x.0 a c e parts.0 i)) x.1 0 + before-middle a c e
+    parts.1 i) ∙ sym (sum_by-cons (λ (y : Path × ℕ). y.1) x a)
 
 -- The own bytes of some figures together.
 abbrev pub own_bytes : List Figures → ℕ
@@ -61,14 +70,19 @@ abbrev figure : Graph → Path × ℕ → Figures
 figure g e = record { path = e.0; self_size = e.1; total_size = total_at g e.0 }
 
 -- Each row of a graph begins at the bytes of the entries to its left.
-placed : (M : Path → Mark) (g : Graph) (a c : Sizes) → entries g ≡ a ++ c → rows_from M (bytes_of a) (map (figure g) c) ≡ map (row_of M g) c
+placed : (M : Path → Mark) (g : Graph) (a c : Sizes) → entries g ≡ a ++ c →
+    rows_from M (bytes_of a) (map (figure g) c) ≡ map (row_of M g) c
 placed M g a [] e = refl
 placed M g a (x ∷ c) e =
-    let sorted : T (is_sorted path_cmp (a ++ x ∷ c)) = subst (λ (es : Sizes). T (is_sorted path_cmp es)) e (entries_sorted g) in
-    let place : before_in (entries g) x.0 ≡ bytes_of a = ap (λ (es : Sizes). before_in es x.0) e ∙ before-middle a c x sorted in
+    let sorted : T (is_sorted path_cmp (a ++ x ∷ c)) =
+    subst (λ (es : Sizes). T (is_sorted path_cmp es)) e (entries_sorted g) in
+    let place : before_in (entries g) x.0 ≡ bytes_of a =
+    ap (λ (es : Sizes). before_in es x.0) e ∙ before-middle a c x sorted in
     let next : entries g ≡ (a ++ x ∷ []) ++ c = e ∙ sym (append_assoc a (x ∷ []) c) in
-    let more : bytes_of a + x.1 ≡ bytes_of (a ++ x ∷ []) = omega (arith, sum_by-append (λ (y : Path × ℕ). y.1) a (x ∷ []), sum_by-cons (λ (y : Path × ℕ). y.1) x []) in
-    let rest : rows_from M (bytes_of a + x.1) (map (figure g) c) ≡ map (row_of M g) c = ap (λ n. rows_from M n (map (figure g) c)) more ∙ placed M g (a ++ x ∷ []) c next in
+    let more : bytes_of a + x.1 ≡ bytes_of (a ++ x ∷ []) =
+    omega (arith, sum_by-append (λ (y : Path × ℕ). y.1) a (x ∷ []), sum_by-cons (λ (y : Path × ℕ). y.1) x []) in
+    let rest : rows_from M (bytes_of a + x.1) (map (figure g) c) ≡ map (row_of M g) c =
+    ap (λ n. rows_from M n (map (figure g) c)) more ∙ placed M g (a ++ x ∷ []) c next in
     λ i. record { depth = length x.0; key = (row_of M g x).key; own = x.1; whole = total_at g x.0; before = sym place i; mark = M x.0 } ∷ rest i
 
 -- The rows made from the figures of a graph are the rows of the graph.

@@ -1,5 +1,6 @@
 -- Paths that have a warning.
-use Rattle.std.proofs.Common.{◌≡◌, ℕ, ◌+◌, ◌==◌, Bool, true, false, cond, not, List, [], ◌∷◌, ◌++◌, refl, ap, ◌∙◌, arith, count_by}
+use Rattle.std.proofs.Common.{◌≡◌, ℕ, ◌+◌, ◌==◌, Bool, true, false, cond, not, List, [], ◌∷◌, ◌++◌, refl, ap, ◌∙◌}
+use Rattle.std.proofs.Common.{arith, count_by}
 use Rattle.allocative_picture.proofs.Common.{Path, is_same_path, Graph}
 use Rattle.std.specs.List.{list_any}
 use Rattle.std.proofs.lemmas.List.Sums.{sum_by-cons, sum_by_push}
@@ -18,11 +19,13 @@ abbrev pub warnings_at : List Warned → Path → ℕ
 warnings_at ws p = count_by (λ w. is_same_path p w.path) ws
 
 -- One more warning at the front counts at its path, and at no other.
-warnings_at-cons : (w : Warned) (ws : List Warned) (p : Path) → warnings_at (w ∷ ws) p ≡ cond (is_same_path p w.path) 1 0 + warnings_at ws p
+warnings_at-cons : (w : Warned) (ws : List Warned) (p : Path) →
+    warnings_at (w ∷ ws) p ≡ cond (is_same_path p w.path) 1 0 + warnings_at ws p
 warnings_at-cons w ws p = sum_by-cons (λ (v : Warned). cond (is_same_path p v.path) 1 0) w ws
 
 -- A byte more at the path of one warning more.
-pub warning_more : (ws : List Warned) (w : Warned) (g h : Graph) (p : Path) → size_at g p ≡ warnings_at ws p → h ≡ sum_of g (graph_of_path w.path 1) → size_at h p ≡ warnings_at (ws ++ w ∷ []) p
+pub warning_more : (ws : List Warned) (w : Warned) (g h : Graph) (p : Path) → size_at g p ≡ warnings_at ws p →
+    h ≡ sum_of g (graph_of_path w.path 1) → size_at h p ≡ warnings_at (ws ++ w ∷ []) p
 warning_more ws w g h p was is =
     omega (arith, ap (λ (f : Graph). size_at f p) is, size_at-sum_of g (graph_of_path w.path 1) p, size_at-path w.path 1 p, was, sum_by_push (λ (v : Warned). cond (is_same_path p v.path) 1 0) ws w)
 
@@ -41,6 +44,8 @@ chosen a true e = ap (λ c. cond c Plain mark.Warned) e
 chosen a false e = ap (λ c. cond c Plain mark.Warned) e
 
 -- The mark of a path with so many bytes as it has warnings is that of a path with a warning, or none.
-pub mark_counted : (ws : List Warned) (p : Path) (n : ℕ) → n ≡ warnings_at ws p → cond (n == 0) Plain mark.Warned ≡ warned_mark ws p
+pub mark_counted : (ws : List Warned) (p : Path) (n : ℕ) → n ≡ warnings_at ws p →
+    cond (n == 0) Plain mark.Warned ≡ warned_mark ws p
 unfolding is_warned
-mark_counted ws p n e = chosen (n == 0) (list_any (λ w. is_same_path w.path p) ws) (ap (λ m. m == 0) e ∙ none_counted ws p)
+mark_counted ws p n e = chosen (n == 0) (list_any (λ w. is_same_path w.path p) ws)
+    (ap (λ m. m == 0) e ∙ none_counted ws p)

@@ -1,5 +1,6 @@
 -- Text as markup: how each character is written.
-use Rattle.std.specs.Prelude.{◌≢◌, ℕ, ◌==◌, ◌||◌, ◌≤◌, Bool, cond, nat_lt, List, [], ◌∷◌, flat_map, ◌++◌, codes, encode_utf8}
+use Rattle.std.specs.Prelude.{◌≢◌, ℕ, ◌==◌, ◌||◌, ◌≤◌, Bool, cond, nat_lt, List, [], ◌∷◌, flat_map, ◌++◌, codes}
+use Rattle.std.specs.Prelude.{encode_utf8}
 use Rattle.std.specs.List.{AllByRecursion}
 use Rattle.std.specs.Str.{chars}
 

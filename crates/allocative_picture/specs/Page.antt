@@ -46,7 +46,8 @@ heading title s drawn paths =
 -- The line of a path's warning at a height.
 unfoldable pub warning_line : ℕ → Warned → List ℕ
 warning_line y w =
-    concat (codes "<text class=\"warn\" x=\"8\" y=\"" ∷ decimal y ∷ codes "\">" ∷ escaped (warning_text w) ∷ codes "</text>\n" ∷ [])
+    concat (codes "<text class=\"warn\" x=\"8\" y=\"" ∷ decimal y ∷ codes "\">" ∷ escaped (warning_text w) ∷ codes
+    "</text>\n" ∷ [])
 
 -- The lines of the warnings of some paths, one below the other, with the first at a height.
 abbrev pub warning_lines : ℕ → List Warned → List ℕ

@@ -20,7 +20,8 @@ bottom ws = 64 + 18 * levels ws
 unfoldable pub drawing_of : Subject → Options → List RowData → ℕ → List ℕ
 drawing_of s o ws n =
     opening (bottom ws + 8 + 16 * length o.warned.now) ++ heading o.title.now s (length ws) n ++ legend_of s
-    ++ flat_map (element (all_of s)) ws ++ warning_lines (bottom ws + 14) (map held.warning_of o.warned.now) ++ CLOSING.now
+    ++ flat_map (element (all_of s)) ws ++ warning_lines (bottom ws + 14) (map held.warning_of o.warned.now)
+    ++ CLOSING.now
 
 -- The picture of some rows, one for each path.
 abbrev pub drawing : Subject → Options → List RowData → List ℕ

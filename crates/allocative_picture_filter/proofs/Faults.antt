@@ -1,5 +1,6 @@
 -- Faults and their status.
-use Rattle.std.proofs.Common.{◌≡◌, inl, inr, ℕ, ◌^◌, ◌<◌, ◌≤◌, ◌==◌, ◌&&◌, Bool, true, false, IsTrue, List, [], ◌∷◌, Option, None, Some, Ok, Err, Result, refl, ap, arith, IfSome, IfErr, IsErrOf, IsErrAnd}
+use Rattle.std.proofs.Common.{◌≡◌, inl, inr, ℕ, ◌^◌, ◌<◌, ◌≤◌, ◌==◌, ◌&&◌, Bool, true, false, IsTrue, List, [], ◌∷◌}
+use Rattle.std.proofs.Common.{Option, None, Some, Ok, Err, Result, refl, ap, arith, IfSome, IfErr, IsErrOf, IsErrAnd}
 use Rattle.allocative_picture_filter.proofs.Common.{Graph, Fault, Text, Sourced, StopsAddingUp}
 use Rattle.allocative_graph.specs.declared.read.LineFault.TheVariants as line
 use Rattle.allocative_graph.specs.declared.refusal.Refusal as refusal
@@ -23,19 +24,23 @@ added-unwritten g (t ∷ ts) (inl (inr (read, is, h))) = h
 added-unwritten g (t ∷ ts) (inr (next, adds, h)) = added-unwritten next ts h
 
 -- A run is not stopped by a write before it writes.
-made-unwritten : (asked : words.Arguments) (before after : List Text) (known : List ℕ) → Stops asked before after known Writing → ⊥
+made-unwritten : (asked : words.Arguments) (before after : List Text) (known : List ℕ) →
+    Stops asked before after known Writing → ⊥
 made-unwritten asked before after known (inl h) = added-unwritten _ _ h
 made-unwritten asked before after known (inr (g, up, inl (inl h))) = added-unwritten _ _ h
 made-unwritten asked before after known (inr (g, up, inl (inr (h, files, b, e)))) = e
-made-unwritten asked before after known (inr (g, up, inr (inl (h, later, b, none, e)))) = absurd (omega (arith, ap status_of e))
+made-unwritten asked before after known (inr (g, up, inr (inl (h, later, b, none, e)))) =
+    absurd (omega (arith, ap status_of e))
 made-unwritten asked before after known (inr (g, up, inr (inr (h, later, joins)))) = joins
 
 -- What stops a run before it writes has another status than a failed write.
-pub stops-unwritten : (asked : words.Arguments) (before after : List Text) (known : List ℕ) (f : Fault) → Stops asked before after known f → status_of f ≡ 7 → ⊥
+pub stops-unwritten : (asked : words.Arguments) (before after : List Text) (known : List ℕ) (f : Fault) →
+    Stops asked before after known f → status_of f ≡ 7 → ⊥
 stops-unwritten asked before after known f h e = made-unwritten asked before after known (rw (is-writing f e) at h)
 
 -- Graphs are not joined for memory, or since their bytes exceed a word.
-pub stops-joining : {T : Type 0} (bytes : ℕ) (r : refusal.Refusal) → (IsErrOf {T = T} (Err r) refused.TooLarge → 2 ^ 64 ≤ bytes) → StopsJoining bytes (fault_of r)
+pub stops-joining : {T : Type 0} (bytes : ℕ) (r : refusal.Refusal) →
+    (IsErrOf {T = T} (Err r) refused.TooLarge → 2 ^ 64 ≤ bytes) → StopsJoining bytes (fault_of r)
 stops-joining bytes refused.Memory h = tt
 stops-joining bytes refused.TooLarge h = h refl
 stops-joining bytes refused.Open h = tt
@@ -46,7 +51,8 @@ of_each None f = tt
 of_each (Some a) f = f a
 
 -- What holds of a fault holds if the result is that fault.
-pub holds-of : {T : Type 0} (r : Result T Fault) (P : Fault → Type 0) (f : Fault) → IsErrAnd r (λ e. e ≡ f) → P f → IfErr r P
+pub holds-of : {T : Type 0} (r : Result T Fault) (P : Fault → Type 0) (f : Fault) → IsErrAnd r (λ e. e ≡ f) → P f →
+    IfErr r P
 holds-of (Ok x) P f is h = tt
 holds-of (Err e) P f is h = rw is h
 

@@ -1,32 +1,41 @@
 -- The graphs of some texts, one added after another, and what stops that.
-use Rattle.std.proofs.Common.{◌≡◌, ℕ, zero, suc, ◌+◌, ◌<◌, ◌==◌, ◌⊎◌, inl, inr, Bool, true, false, ◌&&◌, cond, List, [], ◌∷◌, ◌++◌, map, take, length, get_or, refl, sym, ap, subst, ◌∙◌, arith}
-use Rattle.allocative_picture_filter.proofs.Common.{Graph, default, total, Options, Fault, Memory, Text, Sourced, sourced, AddUp, StopsAddingUp}
+use Rattle.std.proofs.Common.{◌≡◌, ℕ, zero, suc, ◌+◌, ◌<◌, ◌==◌, ◌⊎◌, inl, inr, Bool, true, false, ◌&&◌, cond, List, []}
+use Rattle.std.proofs.Common.{◌∷◌, ◌++◌, map, take, length, get_or, refl, sym, ap, subst, ◌∙◌, arith}
+use Rattle.allocative_picture_filter.proofs.Common.{Graph, default, total, Options, Fault, Memory, Text, Sourced}
+use Rattle.allocative_picture_filter.proofs.Common.{sourced, AddUp, StopsAddingUp}
 use Rattle.std.proofs.lemmas.List.{map-append, take_more}
 use Rattle.allocative_picture_filter.specs.declared.arguments.Arguments.{Arguments}
 use Rattle.allocative_picture_filter.specs.declared.fault.Source.TheVariants.{Input}
 use Rattle.allocative_picture_filter.specs.Fault.{IsUnread}
 use Rattle.allocative_picture_filter.proofs.Faults.{has-bytes}
-use Rattle.allocative_picture_filter.specs.Run.{without_mark, Adds, AddUpOnto, StopsAdding, StopsProfile, IsMade, written_of}
+use Rattle.allocative_picture_filter.specs.Run.{without_mark, Adds, AddUpOnto, StopsAdding, StopsProfile, IsMade}
+use Rattle.allocative_picture_filter.specs.Run.{written_of}
 
 -- ---- one text after another
 -- One text more is added.
-pub add-push : (f : Graph) (ts : List Sourced) (t : Sourced) (g h : Graph) → AddUpOnto f ts g → Adds g t h → AddUpOnto f (ts ++ t ∷ []) h
+pub add-push : (f : Graph) (ts : List Sourced) (t : Sourced) (g h : Graph) → AddUpOnto f ts g → Adds g t h →
+    AddUpOnto f (ts ++ t ∷ []) h
 add-push f [] t g h up adds = (h, subst (λ (x : Graph). Adds x t h) up adds, refl)
 add-push f (s ∷ ts) t g h (next, first, up) adds = (next, first, add-push next ts t g h up adds)
 
 -- One text more of a list is added.
-pub add-more : (xs : List Text) (i : ℕ) (d : Text) (g h : Graph) → i < length xs → AddUp (map sourced (take i xs)) g → Adds g (sourced (get_or xs i d)) h
+pub add-more : (xs : List Text) (i : ℕ) (d : Text) (g h : Graph) → i < length xs → AddUp (map sourced (take i xs)) g →
+    Adds g (sourced (get_or xs i d)) h
     → AddUp (map sourced (take (i + 1) xs)) h
 add-more xs i d g h within up adds =
     let more : map sourced (take (i + 1) xs) ≡ map sourced (take i xs) ++ sourced (get_or xs i d) ∷ [] =
     ap (map sourced) (take_more xs i d within) ∙ map-append sourced (take i xs) (get_or xs i d ∷ []) in
-    subst (λ (ts : List Sourced). AddUp ts h) (sym more) (add-push default (map sourced (take i xs)) (sourced (get_or xs i d)) g h up adds)
+    subst (λ (ts : List Sourced). AddUp ts h) (sym more)
+    (add-push default (map sourced (take i xs)) (sourced (get_or xs i d)) g h up adds)
 
 -- What stops a text, once those before it are added, stops them all.
-pub stops-at : (b : Graph) (xs : List Text) (i : ℕ) (d : Text) (g : Graph) (f : Fault) → i < length xs → AddUpOnto b (map sourced (take i xs)) g → StopsAdding g (sourced (get_or xs i d)) f → StopsAddingUp b (map sourced xs) f
+pub stops-at : (b : Graph) (xs : List Text) (i : ℕ) (d : Text) (g : Graph) (f : Fault) → i < length xs →
+    AddUpOnto b (map sourced (take i xs)) g → StopsAdding g (sourced (get_or xs i d)) f →
+    StopsAddingUp b (map sourced xs) f
 stops-at b [] i d g f within up h = absurd (omega arith)
 stops-at b (y ∷ xs) zero d g f within up h = inl (subst (λ (x : Graph). StopsAdding x (sourced y) f) up h)
-stops-at b (y ∷ xs) (suc i) d g f within (next, adds, up) h = inr (next, adds, stops-at next xs i d g f (omega arith) up h)
+stops-at b (y ∷ xs) (suc i) d g f within (next, adds, up) h =
+    inr (next, adds, stops-at next xs i d g f (omega arith) up h)
 
 -- What stops the first texts stops them all.
 stops-before : (b : Graph) (ts us : List Sourced) (f : Fault) → StopsAddingUp b ts f → StopsAddingUp b (ts ++ us) f
@@ -35,29 +44,38 @@ stops-before b (t ∷ ts) us f (inl h) = inl h
 stops-before b (t ∷ ts) us f (inr (next, adds, h)) = inr (next, adds, stops-before next ts us f h)
 
 -- What stops a text behind others, once these are added, stops them all.
-stops-last : (b : Graph) (ts : List Sourced) (u : Sourced) (g : Graph) (f : Fault) → AddUpOnto b ts g → StopsAdding g u f → StopsAddingUp b (ts ++ u ∷ []) f
+stops-last : (b : Graph) (ts : List Sourced) (u : Sourced) (g : Graph) (f : Fault) → AddUpOnto b ts g →
+    StopsAdding g u f → StopsAddingUp b (ts ++ u ∷ []) f
 stops-last b [] u g f up h = inl (subst (λ (x : Graph). StopsAdding x u f) up h)
 stops-last b (t ∷ ts) u g f (next, adds, up) h = inr (next, adds, stops-last next ts u g f up h)
 
 -- ---- with the input and without
 -- What stops the files stops the profile.
-pub stops-files : (xs : List Text) (b : Bool) (known : List ℕ) (f : Fault) → StopsAddingUp default (map sourced xs) f → StopsProfile xs b known f
-stops-files xs b known f h = inl (stops-before default (map sourced xs) (cond b ((Input, without_mark known) ∷ []) []) f h)
+pub stops-files : (xs : List Text) (b : Bool) (known : List ℕ) (f : Fault) → StopsAddingUp default (map sourced xs) f →
+    StopsProfile xs b known f
+stops-files xs b known f h = inl (stops-before default (map sourced xs) (cond b ((Input, without_mark known) ∷ []) []) f
+    h)
 
 -- What stops the input, once the files are added, stops the profile.
-pub stops-input : (xs : List Text) (b : Bool) (known : List ℕ) (g : Graph) (f : Fault) → b ≡ true → AddUp (map sourced xs) g → StopsAdding g (Input, without_mark known) f → StopsProfile xs b known f
-stops-input xs b known g f e up h = rw e (inl (stops-last default (map sourced xs) (Input, without_mark known) g f up h))
+pub stops-input : (xs : List Text) (b : Bool) (known : List ℕ) (g : Graph) (f : Fault) → b ≡ true →
+    AddUp (map sourced xs) g → StopsAdding g (Input, without_mark known) f → StopsProfile xs b known f
+stops-input xs b known g f e up h = rw e (inl
+    (stops-last default (map sourced xs) (Input, without_mark known) g f up h))
 
 -- An input that is not read stops the profile.
-pub stops-unread : (xs : List Text) (b : Bool) (known : List ℕ) (g : Graph) (f : Fault) → b ≡ true → AddUp (map sourced xs) g → (f ≡ Memory) ⊎ IsUnread Input f → StopsProfile xs b known f
+pub stops-unread : (xs : List Text) (b : Bool) (known : List ℕ) (g : Graph) (f : Fault) → b ≡ true →
+    AddUp (map sourced xs) g → (f ≡ Memory) ⊎ IsUnread Input f → StopsProfile xs b known f
 stops-unread xs b known g f e up (inl m) = stops-input xs b known g f e up (inl (rw m tt))
 stops-unread xs b known g f e up (inr r) = inr (g, up, e, r)
 
 -- ---- what is written
 -- What is written of some graphs is what the arguments ask for.
-pub made-so : (asked : Arguments) (before : List Text) (after : List Sourced) (made : List ℕ) (g h : Graph) (o : Options)
+pub made-so : (asked : Arguments) (before : List Text) (after : List Sourced) (made : List ℕ) (g h : Graph)
+    (o : Options)
     → AddUp (map sourced before) g → o.warned.now ≡ [] → AddUp after h → (asked.not_empty && (total h == 0)) ≡ false
-    → made ≡ written_of asked.as_text (length before == 0) (record { title = asked.title; warned = o.warned; narrowest = asked.narrowest }) g h → IsMade asked before after made
+    → made ≡ written_of asked.as_text (length before == 0)
+    (record { title = asked.title; warned = o.warned; narrowest = asked.narrowest }) g h →
+    IsMade asked before after made
 made-so asked before after made g h o earlier warned later some is = record {
   earlier = g;
   later = h;

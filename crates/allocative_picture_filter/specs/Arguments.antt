@@ -1,10 +1,13 @@
 -- What the words of a command line ask for.
-use Rattle.std.specs.Prelude.{◌≡◌, ℕ, ◌^◌, ◌==◌, ◌⊎◌, ◌&&◌, ◌||◌, Bool, true, false, not, cond, List, [], ◌∷◌, ◌++◌, length, map, nat_lt, codes, Option, Some, None, Result, Ok, Err, String, string_bytes, bytes_eq}
+use Rattle.std.specs.Prelude.{◌≡◌, ℕ, ◌^◌, ◌==◌, ◌⊎◌, ◌&&◌, ◌||◌, Bool, true, false, not, cond, List, [], ◌∷◌, ◌++◌}
+use Rattle.std.specs.Prelude.{length, map, nat_lt, codes, Option, Some, None, Result, Ok, Err, String, string_bytes}
+use Rattle.std.specs.Prelude.{bytes_eq}
 use Rattle.std.specs.Str.{all_ascii_digits}
 use Rattle.std.specs.Str.Parse.{digits_value, starts_with_minus, without_leading_plus}
 use Rattle.std.specs.declared.alloc.Global.{Global}
 use Rattle.allocative_picture_filter.specs.declared.arguments.Arguments.{Arguments}
-use Rattle.allocative_picture_filter.specs.declared.arguments.Misuse.TheVariants.{Unknown, Repeated, Incomplete, Width, TextOfChange}
+use Rattle.allocative_picture_filter.specs.declared.arguments.Misuse.TheVariants.{Unknown, Repeated, Incomplete, Width}
+use Rattle.allocative_picture_filter.specs.declared.arguments.Misuse.TheVariants.{TextOfChange}
 use Rattle.allocative_picture_filter.specs.declared.fault.Fault.{Fault}
 use Rattle.allocative_picture_filter.specs.declared.fault.Fault.TheVariants.{Memory, Arguments as OfArguments}
 

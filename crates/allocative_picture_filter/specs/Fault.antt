@@ -4,7 +4,8 @@ use Rattle.allocative_graph.specs.declared.read.LineFault.TheVariants as line
 use Rattle.allocative_graph.specs.declared.refusal.Refusal as refusal
 use Rattle.allocative_graph.specs.declared.refusal.Refusal.TheVariants as refused
 use Rattle.allocative_picture_filter.specs.declared.fault.Fault.{Fault}
-use Rattle.allocative_picture_filter.specs.declared.fault.Fault.TheVariants.{Memory, Line, NotText, TooLarge, Arguments, Reading, Writing, Empty}
+use Rattle.allocative_picture_filter.specs.declared.fault.Fault.TheVariants.{Memory, Line, NotText, TooLarge, Arguments}
+use Rattle.allocative_picture_filter.specs.declared.fault.Fault.TheVariants.{Reading, Writing, Empty}
 use Rattle.allocative_picture_filter.specs.declared.fault.Source.{Source}
 
 -- The status of a fault.

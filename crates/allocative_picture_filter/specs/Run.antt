@@ -1,5 +1,6 @@
 -- What a run makes of its texts, and what stops it.
-use Rattle.std.specs.Prelude.{◌≡◌, ℕ, ◌+◌, ◌^◌, ◌<◌, ◌≤◌, ◌==◌, ◌⊎◌, ◌||◌, Bool, true, cond, List, [], ◌∷◌, ◌++◌, length, drop, map, nat_eq, IsUtf8, ⊤, IsTrue}
+use Rattle.std.specs.Prelude.{◌≡◌, ℕ, ◌+◌, ◌^◌, ◌<◌, ◌≤◌, ◌==◌, ◌⊎◌, ◌||◌, Bool, true, cond, List, [], ◌∷◌, ◌++◌}
+use Rattle.std.specs.Prelude.{length, drop, map, nat_eq, IsUtf8, ⊤, IsTrue}
 use Rattle.std.specs.List.{starts_with}
 use Rattle.allocative_graph.specs.Graph.{Graph, default, sum_of, text, total}
 use Rattle.allocative_graph.specs.Read.{IsRead, IsFault, Exceeds}

@@ -1,5 +1,6 @@
 -- What stays true while the least recently used entries are evicted.
-use Rattle.std.proofs.Common.{◌≡◌, ℕ, ◌+◌, ◌-◌, ◌<◌, ◌≤◌, Some, [], ◌∷◌, ◌++◌, length, take, sym, ap, ◌∙◌, subst, arith, append_assoc, All}
+use Rattle.std.proofs.Common.{◌≡◌, ℕ, ◌+◌, ◌-◌, ◌<◌, ◌≤◌, Some, [], ◌∷◌, ◌++◌, length, take, sym, ap, ◌∙◌, subst, arith}
+use Rattle.std.proofs.Common.{append_assoc, All}
 use Rattle.allocative_service.proofs.Common.{values_of, Kept, Entries, bytes_of, KeepsRecent}
 use Rattle.std.proofs.lemmas.List.{map-append}
 use Rattle.std.proofs.lemmas.List.Elements.{All-take}
@@ -17,10 +18,12 @@ bytes_of-cons {K} {V} e es = sum_by-cons (λ (k : Kept V). k.bytes) e.1 (values_
 bytes_of-push : {K V : Type 0} (us : Entries K V) (e : K × Kept V) → bytes_of (us ++ e ∷ []) ≡ bytes_of us + e.1.bytes
 bytes_of-push {K} {V} us e =
     let last = bytes_of-cons e [] in
-    rw (map-append (λ (e : K × Kept V). e.1) us (e ∷ [])) (sum_by-append (λ (k : Kept V). k.bytes) (values_of us) (e.1 ∷ []) ∙ omega (arith, last))
+    rw (map-append (λ (e : K × Kept V). e.1) us (e ∷ []))
+    (sum_by-append (λ (k : Kept V). k.bytes) (values_of us) (e.1 ∷ []) ∙ omega (arith, last))
 
 -- Entries that had to go beside another have to go from the room that it leaves.
-less_needed : {K V : Type 0} (room : ℕ) (k : K × Kept V) (others gone : Entries K V) → k.1.bytes ≤ room → IsNeeded room (k ∷ others) gone → IsNeeded (room - k.1.bytes) others gone
+less_needed : {K V : Type 0} (room : ℕ) (k : K × Kept V) (others gone : Entries K V) → k.1.bytes ≤ room →
+    IsNeeded room (k ∷ others) gone → IsNeeded (room - k.1.bytes) others gone
 less_needed room k others [] fits h = tt
 less_needed room k others (e ∷ more) fits h = omega (arith, fits, h, bytes_of-cons k others)
 
@@ -35,7 +38,8 @@ module _ {F K V : Type 0} (step : F → K → V → F → Type 0) (on_evict : F)
 
     -- Removing the last entry is one step of evicting, if there is no room for all.
     pub goes : (es : Entries K V) (f : F) (e : K × Kept V) → Evicts es f → room < bytes_of es → last_entry es ≡ Some e
-        → (bytes_of es - e.1.bytes ≡ bytes_of (take (length es - 1) es)) × ((g : F) → step f e.0 e.1.value g → Evicts (take (length es - 1) es) g)
+        → (bytes_of es - e.1.bytes ≡ bytes_of (take (length es - 1) es))
+        × ((g : F) → step f e.0 e.1.value g → Evicts (take (length es - 1) es) g)
     goes [] f e s more is = absurd cc
     goes (h ∷ rest) f e s more is =
         let cut = cut_end (h ∷ rest) (omega arith) in
@@ -56,8 +60,11 @@ module _ {F K V : Type 0} (step : F → K → V → F → Type 0) (on_evict : F)
         )
 
   -- If the first entry has room by itself, it stays, and the others are evicted as far as it leaves no room for them.
-  pub first_stays : (k : K × Kept V) (rest after : Entries K V) → k.1.bytes ≤ room → KeepsRecent step on_evict room (k ∷ rest) after → (others : Entries K V) × (after ≡ k ∷ others) × KeepsRecent step on_evict (room - k.1.bytes) rest others
-  first_stays k rest [] fits r = absurd (omega (arith, fits, subst (λ (l : Entries K V). IsNeeded room [] l) (sym r.parts) r.needed))
+  pub first_stays : (k : K × Kept V) (rest after : Entries K V) → k.1.bytes ≤ room →
+      KeepsRecent step on_evict room (k ∷ rest) after →
+      (others : Entries K V) × (after ≡ k ∷ others) × KeepsRecent step on_evict (room - k.1.bytes) rest others
+  first_stays k rest [] fits r = absurd (omega
+      (arith, fits, subst (λ (l : Entries K V). IsNeeded room [] l) (sym r.parts) r.needed))
   first_stays k rest (x ∷ others) fits r =
       let whole : k ∷ rest ≡ x ∷ (others ++ r.gone) = r.parts in
       let first : x ≡ k = cc in
@@ -66,8 +73,13 @@ module _ {F K V : Type 0} (step : F → K → V → F → Type 0) (on_evict : F)
       (others, ap (λ y. y ∷ others) first, record { gone = r.gone; parts = parts; needed = less_needed room k others r.gone fits needed; last = r.last; handed = r.handed })
 
 -- What holds of all entries holds of those that stay.
-pub All-recent : {F K V : Type 0} (step : F → K → V → F → Type 0) (on_evict : F) (room : ℕ) (P : Kept V → Type 0) (before after : Entries K V) → KeepsRecent step on_evict room before after → All P (values_of before) → All P (values_of after)
+pub All-recent : {F K V : Type 0} (step : F → K → V → F → Type 0) (on_evict : F) (room : ℕ) (P : Kept V → Type 0)
+    (before after : Entries K V) → KeepsRecent step on_evict room before after → All P (values_of before) →
+    All P (values_of after)
 All-recent {F} {K} {V} step on_evict room P before after recent h =
-    let parted : All P (values_of (after ++ recent.gone)) = subst (λ (l : Entries K V). All P (values_of l)) recent.parts h in
-    let split : values_of (after ++ recent.gone) ≡ values_of after ++ values_of recent.gone = map-append (λ (e : K × Kept V). e.1) after recent.gone in
-    subst (All P) (take-append_seam (values_of after) (values_of recent.gone)) (All-take P _ _ (subst (All P) split parted))
+    let parted : All P (values_of (after ++ recent.gone)) =
+    subst (λ (l : Entries K V). All P (values_of l)) recent.parts h in
+    let split : values_of (after ++ recent.gone) ≡ values_of after ++ values_of recent.gone =
+    map-append (λ (e : K × Kept V). e.1) after recent.gone in
+    subst (All P) (take-append_seam (values_of after) (values_of recent.gone))
+    (All-take P _ _ (subst (All P) split parted))

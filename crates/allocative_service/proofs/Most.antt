@@ -1,5 +1,7 @@
 -- Changes that are sorted by growth.
-use Rattle.std.proofs.Common.{◌≡◌, ℕ, ◌+◌, ◌-◌, ◌^◌, ◌<◌, ◌≤◌, List, [], ◌∷◌, ◌++◌, map, take, drop, length, get_or, min, sym, ap, ◌∙◌, arith, filter, All, AllPairs, take-append-drop, length-take, get_or-append-add, length-append}
+use Rattle.std.proofs.Common.{◌≡◌, ℕ, ◌+◌, ◌-◌, ◌^◌, ◌<◌, ◌≤◌, List, [], ◌∷◌, ◌++◌, map, take, drop, length, get_or}
+use Rattle.std.proofs.Common.{min, sym, ap, ◌∙◌, arith, filter, All, AllPairs, take-append-drop, length-take}
+use Rattle.std.proofs.Common.{get_or-append-add, length-append}
 use Rattle.allocative_service.proofs.Common.{Changed, change_data, is_grown}
 use Rattle.std.specs.List.Sorted.{IsPermutation, IsNonDecreasingBy}
 use Rattle.std.proofs.lemmas.List.{map-append, length-map, get_or-map, get_or_append_left, get_or_default}
@@ -8,26 +10,32 @@ use Rattle.allocative_service.specs.declared.history.changes.Change.{Change}
 use Rattle.allocative_service.specs.Changes.{GrewAsMuch, GrewMost, IsWord, growth, rank}
 
 -- What is sorted by rank is sorted by growth.
-pub falls : (xs : List Change) → All IsWord xs → IsNonDecreasingBy (λ d. rank (change_data d)) xs → AllPairs GrewAsMuch (map change_data xs)
+pub falls : (xs : List Change) → All IsWord xs → IsNonDecreasingBy (λ d. rank (change_data d)) xs →
+    AllPairs GrewAsMuch (map change_data xs)
 falls [] w h i j d before lt = absurd (omega arith)
 falls (x ∷ xs) w h i j d before lt =
     let short : j < length (x ∷ xs) = omega (arith, lt, length-map (x ∷ xs) change_data) in
     let low : i < length (x ∷ xs) = omega (arith, before, short) in
-    rw (get_or-map change_data (x ∷ xs) i x d low, get_or-map change_data (x ∷ xs) j x d short) (omega (arith, h i j x (omega arith) short, w i x low, w j x short))
+    rw (get_or-map change_data (x ∷ xs) i x d low, get_or-map change_data (x ∷ xs) j x d short)
+    (omega (arith, h i j x (omega arith) short, w i x low, w j x short))
 
 -- The first n changes of those that grew, sorted by growth, are those that grew most.
-pub grew_first : (n : ℕ) (cs : List Changed) (ps qs : List Change) → map change_data ps ≡ filter is_grown cs → IsPermutation ps qs → AllPairs GrewAsMuch (map change_data qs) → GrewMost n cs (map change_data (take n qs))
+pub grew_first : (n : ℕ) (cs : List Changed) (ps qs : List Change) → map change_data ps ≡ filter is_grown cs →
+    IsPermutation ps qs → AllPairs GrewAsMuch (map change_data qs) → GrewMost n cs (map change_data (take n qs))
 grew_first n cs ps qs is moved sorted =
     let top = map change_data (take n qs) in
     let left = map change_data (drop n qs) in
-    let parts : map change_data qs ≡ top ++ left = ap (map change_data) (sym (take-append-drop n qs)) ∙ map-append change_data (take n qs) (drop n qs) in
+    let parts : map change_data qs ≡ top ++ left =
+    ap (map change_data) (sym (take-append-drop n qs)) ∙ map-append change_data (take n qs) (drop n qs) in
     let fall : AllPairs GrewAsMuch (top ++ left) = rw (← parts) sorted in
     record {
       rest = left;
       chosen = rw (← is, ← parts) (IsPermutation-map change_data ps qs moved);
-      enough = length-map (take n qs) change_data ∙ length-take n qs ∙ ap (min n) (length_permutation ps qs moved ∙ sym (length-map ps change_data) ∙ ap length is);
+      enough = length-map (take n qs) change_data ∙ length-take n qs
+          ∙ ap (min n) (length_permutation ps qs moved ∙ sym (length-map ps change_data) ∙ ap length is);
       falling = λ i j d before short.
-          let h = rw (get_or_append_left top left d i (omega arith), get_or_append_left top left d j short) at (fall i j d before (omega (arith, short, length-append top left))) in
+          let h = rw (get_or_append_left top left d i (omega arith), get_or_append_left top left d j short)
+          at (fall i j d before (omega (arith, short, length-append top left))) in
           omega (arith, h);
       most = λ i d in_top j e in_rest.
           let h = rw (get_or_append_left top left d i in_top, get_or-append-add top left j d, get_or_default left j d e in_rest) at (fall i (length top + j) d (omega arith) (omega (arith, in_rest, length-append top left))) in

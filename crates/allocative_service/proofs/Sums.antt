@@ -11,15 +11,21 @@ use Rattle.std.proofs.lemmas.Map.Entries.{sum_by-insert_entry, sum_by-remove_ent
 use Rattle.allocative_service.specs.Holding.{sum_of}
 
 -- An insertion adds the bytes of the entry to the sum, and takes off those that it had.
-pub sum_of-insert_entry : (number bytes : ℕ) (entries : List (ℕ × ℕ)) → IsStrictlySortedBy nat_cmp (keys_of entries) → sum_of (insert_entry nat_cmp entries number bytes) + unwrap_or (lookup (is_at (nat_cmp number)) entries) 0 ≡ sum_of entries + bytes
-sum_of-insert_entry number bytes entries sorted = rw option_map_id at (sum_by-insert_entry (λ n. n) nat_cmp_total entries number bytes sorted)
+pub sum_of-insert_entry : (number bytes : ℕ) (entries : List (ℕ × ℕ)) → IsStrictlySortedBy nat_cmp (keys_of entries) →
+    sum_of (insert_entry nat_cmp entries number bytes) + unwrap_or (lookup (is_at (nat_cmp number)) entries) 0
+    ≡ sum_of entries + bytes
+sum_of-insert_entry number bytes entries sorted =
+    rw option_map_id at (sum_by-insert_entry (λ n. n) nat_cmp_total entries number bytes sorted)
 
 -- A removal takes the bytes of the entry off the sum.
-pub sum_of-remove_entry : (number : ℕ) (entries : List (ℕ × ℕ)) → sum_of (remove_entry (is_at (nat_cmp number)) entries) + unwrap_or (lookup (is_at (nat_cmp number)) entries) 0 ≡ sum_of entries
+pub sum_of-remove_entry : (number : ℕ) (entries : List (ℕ × ℕ)) →
+    sum_of (remove_entry (is_at (nat_cmp number)) entries) + unwrap_or (lookup (is_at (nat_cmp number)) entries) 0
+    ≡ sum_of entries
 sum_of-remove_entry number entries = rw option_map_id at (sum_by-remove_entry (λ n. n) (is_at (nat_cmp number)) entries)
 
 -- The bytes under a number are part of the sum.
-pub had_within : (number : ℕ) (entries : List (ℕ × ℕ)) → unwrap_or (lookup (is_at (nat_cmp number)) entries) 0 ≤ sum_of entries
+pub had_within : (number : ℕ) (entries : List (ℕ × ℕ)) →
+    unwrap_or (lookup (is_at (nat_cmp number)) entries) 0 ≤ sum_of entries
 had_within number entries = omega (arith, sum_of-remove_entry number entries)
 
 -- The lemmas on the sum of an account.

@@ -3,7 +3,10 @@ use Rattle.std.specs.Prelude.{◌≡◌, ◌⊎◌, ℕ, ◌+◌, ◌^◌, ◌<�
 use Rattle.allocative.specs.Refusal.{Refusal}
 use Rattle.allocative.specs.Shows.{Showing}
 use Rattle.allocative_service.specs.declared.ledger.rejection.Rejection.{Rejection}
-use Rattle.allocative_service.specs.declared.ledger.rejection.Rejection.TheVariants.{HasAccount, LedgerFull, NoAccount, NotKept, NotMeasured, NotThere, OverBudget, OverCredit, Taken, TooLarge}
+use Rattle.allocative_service.specs.declared.ledger.rejection.Rejection.TheVariants.{HasAccount, LedgerFull, NoAccount}
+use Rattle.allocative_service.specs.declared.ledger.rejection.Rejection.TheVariants.{NotKept, NotMeasured, NotThere}
+use Rattle.allocative_service.specs.declared.ledger.rejection.Rejection.TheVariants.{OverBudget, OverCredit, Taken}
+use Rattle.allocative_service.specs.declared.ledger.rejection.Rejection.TheVariants.{TooLarge}
 use Rattle.allocative_service.specs.declared.measure.Measure.{Measure}
 use Rattle.allocative_service.specs.Measured.{Declares, MayRefuseMeasure}
 use Rattle.allocative_service.specs.Holding.{Holding, sum_of, bytes_at}

@@ -1,7 +1,10 @@
 -- What a rejection says.
 use Rattle.std.specs.Prelude.{ℕ, List, ◌++◌, Option, Some, None, codes, decimal}
 use Rattle.allocative_service.specs.declared.ledger.rejection.Rejection.{Rejection}
-use Rattle.allocative_service.specs.declared.ledger.rejection.Rejection.TheVariants.{HasAccount, LedgerFull, NoAccount, NotKept, NotMeasured, NotThere, OverBudget, OverCredit, Taken, TooLarge}
+use Rattle.allocative_service.specs.declared.ledger.rejection.Rejection.TheVariants.{HasAccount, LedgerFull, NoAccount}
+use Rattle.allocative_service.specs.declared.ledger.rejection.Rejection.TheVariants.{NotKept, NotMeasured, NotThere}
+use Rattle.allocative_service.specs.declared.ledger.rejection.Rejection.TheVariants.{OverBudget, OverCredit, Taken}
+use Rattle.allocative_service.specs.declared.ledger.rejection.Rejection.TheVariants.{TooLarge}
 
 -- The text of a rejection. Nothing is said of what a refusal adds to it.
 abbrev pub told_as : Rejection → Option (List ℕ)

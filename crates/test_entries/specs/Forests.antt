@@ -15,4 +15,5 @@ entry_shows (Shared i) k n p = SharedWith k n i p
 -- Each entry, with what is inside it or in its content, and then the entries that follow it.
 abbrev pub forest_shows : Forest → Showing
 forest_shows Empty = Nothing
-forest_shows (Entry' kind k n p content q after) = Both (entry_shows kind k n (forest_shows content)) (forest_shows after)
+forest_shows (Entry' kind k n p content q after) =
+    Both (entry_shows kind k n (forest_shows content)) (forest_shows after)

@@ -1,6 +1,7 @@
 -- Lists of children, as maps from a key and the path below it to a size, and what adding graphs and merging children
 -- leave, also if memory runs out on the way.
-use Rattle.std.specs.Prelude.{◌≡◌, ℕ, ◌+◌, ◌<◌, ◌≤◌, ◌||◌, ◌⊎◌, true, cond, List, [], ◌∷◌, Option, Some, None, is_some, take, drop, length, slice_index_or, ◌&&◌, Bool}
+use Rattle.std.specs.Prelude.{◌≡◌, ℕ, ◌+◌, ◌<◌, ◌≤◌, ◌||◌, ◌⊎◌, true, cond, List, [], ◌∷◌, Option, Some, None, is_some}
+use Rattle.std.specs.Prelude.{take, drop, length, slice_index_or, ◌&&◌, Bool}
 use Rattle.std.specs.Option.{unwrap_or}
 use Rattle.std.specs.List.{AllByRecursion}
 use Rattle.std.specs.List.Sorted.{IsStrictlySortedBy}

@@ -26,7 +26,8 @@ warned_code =
 -- The code of a profile.
 abbrev pub profile_code : Coded Profile
 profile_code =
-    code_by (Graph × (List ℕ × List Warned)) (coded× (finmap.code path_code coded_ℕ) (coded× (coded_list coded_ℕ) (coded_list warned_code)))
+    code_by (Graph × (List ℕ × List Warned)) (coded× (finmap.code path_code coded_ℕ)
+    (coded× (coded_list coded_ℕ) (coded_list warned_code)))
     (λ o. (o.graph, (o.warnings, o.warned))) (λ p. record { graph = p.0; warnings = p.1.0; warned = p.1.1 }) (λ _. refl)
 
 -- The code of what was entered at a path.
@@ -43,7 +44,8 @@ identity_code = code_by (ℕ × ℕ) (coded× coded_ℕ coded_ℕ) (λ i. (i.mak
 abbrev pub live_code : Coded Live
 live_code =
     code_by (Sums × (Identities × (Path × (List Path × ℕ))))
-    (coded× (finmap.code path_code node_code) (coded× (set.code identity_code) (coded× path_code (coded× (coded_list path_code) coded_ℕ))))
+    (coded× (finmap.code path_code node_code)
+    (coded× (set.code identity_code) (coded× path_code (coded× (coded_list path_code) coded_ℕ))))
     (λ l. (l.sums, (l.met, (l.here, (l.back, l.open_visitors)))))
     (λ p. record { sums = p.0; met = p.1.0; here = p.1.1.0; back = p.1.1.1.0; open_visitors = p.1.1.1.1 }) (λ _. refl)
 

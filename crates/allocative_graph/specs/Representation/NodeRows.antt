@@ -49,7 +49,8 @@ below-under : (k : Key) (p : Path) (rs rest : List (Path × ℕ)) → T (below_a
     → T (below_all path_cmp (k ∷ p) rest) → T (below_all path_cmp (k ∷ p) (under_rows k rs ++ rest))
 below-under k p [] rest h g = g
 below-under k p (r ∷ rs) rest h g =
-    both _ _ (subst (λ o. T (is_lt (ordering_then o (path_cmp p r.0)))) (sym (tied_itself nat_list_cmp_total k)) (first _ _ h))
+    both _ _ (subst (λ o. T (is_lt (ordering_then o (path_cmp p r.0)))) (sym (tied_itself nat_list_cmp_total k))
+    (first _ _ h))
     (below-under k p rs rest (second _ _ h) g)
 
 -- Rows in order, with one key put before all and followed by rows that come after them, are in order.

@@ -12,7 +12,8 @@ within c = omega (arith, c.if-place-len.true, c.len.ensures)
 
 -- the numbers of the chunk that is read
 read : (c : After-index_mut) → chunk_at c.args.chunks.now.items c.args.place.chunk ≡ numbers_in c.index_mut.result.now
-read c = chunk_is c.args.chunks.now.items c.args.place.chunk c.index_mut.result.now (within c) ∙ ap numbers_in (sym c.index_mut.ensures.value)
+read c = chunk_is c.args.chunks.now.items c.args.place.chunk c.index_mut.result.now (within c)
+    ∙ ap numbers_in (sym c.index_mut.ensures.value)
 
 pub insert-requires : goal.insert-requires
 insert-requires c = omega (arith, c.requires, ap length (read (goal.at.insert-requires c).After-index_mut))
@@ -20,16 +21,20 @@ insert-requires c = omega (arith, c.requires, ap length (read (goal.at.insert-re
 pub returns-in_default-clause-err : goal.returns-in_default-clause-err
 returns-in_default-clause-err c =
     let here = (goal.at.returns-in_default-clause-err c).After-index_mut in
-    kept_in c.args.chunks.now.items c.args.place.chunk c.insert.new.self (within here) (c.in_default.ensures.err ∙ sym (read here))
+    kept_in c.args.chunks.now.items c.args.place.chunk c.insert.new.self (within here)
+    (c.in_default.ensures.err ∙ sym (read here))
 
 pub returns-in-Ok-clause-ok : goal.returns-in-Ok-clause-ok
 returns-in-Ok-clause-ok c =
     let here = (goal.at.returns-in-Ok-clause-ok c).After-index_mut in
     c.cut_at.ensures
-    ∙ put_in c.args.chunks.now.items c.args.place.chunk c.args.place.index c.args.number c.insert.new.self (within here) c.requires
+    ∙ put_in c.args.chunks.now.items c.args.place.chunk c.args.place.index c.args.number c.insert.new.self (within here)
+    c.requires
     (c.in-Ok.ensures.ok ∙ ap (λ (l : List ℕ). insert l c.args.place.index c.args.number) (sym (read here)))
 
 pub returns-in_ok-push-clause-ok : goal.returns-in_ok-push-clause-ok
 returns-in_ok-push-clause-ok c =
     ap flat c.in_ok-push.ensures.items
-    ∙ put_behind c.args.chunks.now.items c.args.place.chunk c.args.place.index c.args.number _ (omega (arith, c.if-place-len.false, c.len.ensures)) c.requires (ap (λ (l : List ℕ). c.args.number ∷ l) c.new-rest.ensures.items)
+    ∙ put_behind c.args.chunks.now.items c.args.place.chunk c.args.place.index c.args.number
+    _ (omega (arith, c.if-place-len.false, c.len.ensures)) c.requires
+    (ap (λ (l : List ℕ). c.args.number ∷ l) c.new-rest.ensures.items)

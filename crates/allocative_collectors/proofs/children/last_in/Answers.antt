@@ -12,7 +12,9 @@ is_last c = omega (arith, c.in_ok-chunk.ensures)
 
 -- its numbers
 read : (c : After-last) → length (chunk_at c.args.chunks.now c.in_ok-chunk.chunk) ≡ suc c.len-index.result
-read c = ap length (chunk_is c.args.chunks.now c.in_ok-chunk.chunk c.index-chunks-chunk.result (omega (arith, is_last c))) ∙ omega (arith, ap (λ (x : Chunk). length x.rest.items) c.index-chunks-chunk.is, c.len-index.ensures)
+read c = ap length (chunk_is c.args.chunks.now c.in_ok-chunk.chunk c.index-chunks-chunk.result
+    (omega (arith, is_last c))) ∙ omega
+    (arith, ap (λ (x : Chunk). length x.rest.items) c.index-chunks-chunk.is, c.len-index.ensures)
 
 pub returns-clause-place : goal.returns-clause-place
 returns-clause-place c = omega (arith, read (goal.at.returns-clause-place c).After-last)
@@ -25,10 +27,12 @@ returns-clause-last c =
     let more = before_more cs i (omega (arith, is_last here)) in
     let all = before_all cs (suc i) (omega (arith, is_last here)) in
     let there = in_chunk cs i c.len-index.result c.index-chunks-chunk.result (omega (arith, is_last here)) (omega (arith, read here, ap length (chunk_is cs i c.index-chunks-chunk.result (omega (arith, is_last here))))) in
-    let count : c.len-index.result ≡ length c.index-chunks-chunk.result.rest.items = omega (arith, c.len-index.ensures) in
+    let count : c.len-index.result ≡ length c.index-chunks-chunk.result.rest.items =
+    omega (arith, c.len-index.ensures) in
     let index : length (flat cs) - 1 ≡ before cs i + c.len-index.result = omega (arith, read here) in
     record {
       some = omega (arith, there.0);
-      is = ap (λ (n : ℕ). get_or (flat cs) n 0) index ∙ (there.1 ∙ sym (c.last.ensures ∙ (λ j. get_or (numbers_in (c.index-chunks-chunk.is j)) (sym count j) 0)));
+      is = ap (λ (n : ℕ). get_or (flat cs) n 0) index
+          ∙ (there.1 ∙ sym (c.last.ensures ∙ (λ j. get_or (numbers_in (c.index-chunks-chunk.is j)) (sym count j) 0)));
       behind = omega (arith, read here);
     }

@@ -12,5 +12,8 @@ returns-clause-absent c =
     let xs = numbers c.args.children.now in
     let last = c.in-Some.ensures.last in
     let less : key_cmp (key_in (map K xs) (length xs - 1)) c.args.key.now ≡ Less =
-    ap (λ (l : Key). key_cmp l c.args.key.now) (get_or-map K xs (length xs - 1) 0 [] (omega (arith, last.some)) ∙ ap K (last.is ∙ sym c.in-Some.last-is)) ∙ (sym c.compare.ensures ∙ less_from c.compare.result (sym c.is_lt.ensures ∙ c.if-is_lt.true)) in
-    gap_behind (map K xs) c.requires.rise c.args.key.now _ (length xs - 1) (last.behind ∙ sym (length-map xs K)) (omega (arith, last.some, last.behind)) less
+    ap (λ (l : Key). key_cmp l c.args.key.now)
+    (get_or-map K xs (length xs - 1) 0 [] (omega (arith, last.some)) ∙ ap K (last.is ∙ sym c.in-Some.last-is))
+    ∙ (sym c.compare.ensures ∙ less_from c.compare.result (sym c.is_lt.ensures ∙ c.if-is_lt.true)) in
+    gap_behind (map K xs) c.requires.rise c.args.key.now _ (length xs - 1) (last.behind ∙ sym (length-map xs K))
+    (omega (arith, last.some, last.behind)) less

@@ -1,29 +1,38 @@
 use Rattle.std.proofs.Common.{◌≡◌, ℕ, ◌+◌, rules, [], Some, refl, sym, ap, ◌∙◌, arith, is_ok}
 use Rattle.allocative_graph.proofs.Common.{Child, nil_from_length}
-use Rattle.allocative_graph.proofs.ChildMerged.{going_next, going_end, is_ok-and, merged_same, next_less, next_greater, next_equal, both_fit, rows_fit, front_is, one_of_length, put_at_found, weights_found, put_at_gap}
+use Rattle.allocative_graph.proofs.ChildMerged.{going_next, going_end, is_ok-and, merged_same, next_less, next_greater}
+use Rattle.allocative_graph.proofs.ChildMerged.{next_equal, both_fit, rows_fit, front_is, one_of_length, put_at_found}
+use Rattle.allocative_graph.proofs.ChildMerged.{weights_found, put_at_gap}
 use Rattle.allocative_graph.proofs.NodeAdded.{len_of_node, total_of_both, merged_node, merged_graph, child_of_one}
 use Rattle.allocative_graph.proofs.flamegraph.+merge.Goals as goal
 
 pub FlameGraph::merge-returns-in_default : goal.FlameGraph::merge-returns-in_default
 FlameGraph::merge-returns-in_default t c =
-    let none : [] ≡ c.other.inside.children.items = sym (nil_from_length _ (sym c.other.inside.children.ok.0 ∙ c.in_default.ensures.cases.0)) in
-    merged_graph c.self.view_is c.self.invariant c.other.view_is c.other.invariant refl none (merged_same _ c.self.invariant.children)
+    let none : [] ≡ c.other.inside.children.items =
+    sym (nil_from_length _ (sym c.other.inside.children.ok.0 ∙ c.in_default.ensures.cases.0)) in
+    merged_graph c.self.view_is c.self.invariant c.other.view_is c.other.invariant refl none
+    (merged_same _ c.self.invariant.children)
 
 pub FlameGraph::merge-put_child-requires : goal.FlameGraph::merge-put_child-requires
 FlameGraph::merge-put_child-requires t c =
-    let one = one_of_length _ c.pop.new.self.items c.in-Some.child c.in-Some.ensures.items (omega (arith, c.len.ensures, c.other.inside.children.ok.0, c.if-len-lt2.true)) in
+    let one = one_of_length _ c.pop.new.self.items c.in-Some.child c.in-Some.ensures.items
+    (omega (arith, c.len.ensures, c.other.inside.children.ok.0, c.if-len-lt2.true)) in
     let child = child_of_one c.self.view_is c.self.invariant c.other.view_is c.other.invariant (sym one) c.requires in
     (omega (arith, c.decreases, child.0), (c.self.invariant.children, (c.self.invariant.exact, (child.1, child.2))))
 
 pub FlameGraph::merge-returns-then-len-lt2 : goal.FlameGraph::merge-returns-then-len-lt2
 FlameGraph::merge-returns-then-len-lt2 t c =
-    let one = one_of_length _ c.pop.new.self.items c.in-Some.child c.in-Some.ensures.items (omega (arith, c.len.ensures, c.other.inside.children.ok.0, c.if-len-lt2.true)) in
-    merged_graph c.self.view_is c.self.invariant c.other.view_is c.other.invariant refl (sym one) c.put_child.ensures.merged
+    let one = one_of_length _ c.pop.new.self.items c.in-Some.child c.in-Some.ensures.items
+    (omega (arith, c.len.ensures, c.other.inside.children.ok.0, c.if-len-lt2.true)) in
+    merged_graph c.self.view_is c.self.invariant c.other.view_is c.other.invariant refl (sym one)
+    c.put_child.ensures.merged
 
 pub FlameGraph::merge-invariant_of-self-then-len-lt2 : goal.FlameGraph::merge-invariant_of-self-then-len-lt2
 FlameGraph::merge-invariant_of-self-then-len-lt2 t c =
-    let one = one_of_length _ c.pop.new.self.items c.in-Some.child c.in-Some.ensures.items (omega (arith, c.len.ensures, c.other.inside.children.ok.0, c.if-len-lt2.true)) in
-    merged_node c.self.view_is c.self.invariant c.other.view_is c.other.invariant refl (sym one) c.requires c.put_child.ensures.merged c.put_child.ensures.exact
+    let one = one_of_length _ c.pop.new.self.items c.in-Some.child c.in-Some.ensures.items
+    (omega (arith, c.len.ensures, c.other.inside.children.ok.0, c.if-len-lt2.true)) in
+    merged_node c.self.view_is c.self.invariant c.other.view_is c.other.invariant refl (sym one) c.requires
+    c.put_child.ensures.merged c.put_child.ensures.exact
 
 pub FlameGraph::merge-interleave-requires : goal.FlameGraph::merge-interleave-requires
 FlameGraph::merge-interleave-requires t c =
@@ -48,7 +57,8 @@ interleave-loop-child-preserved t c =
     c.in-Ok.ensures.capacity
 
 pub interleave-returns-clause-merged : goal.interleave-returns-clause-merged
-interleave-returns-clause-merged t c = let end = c.in_default.ensures.end in going_end c.loop-child.invariant end.0 end.1
+interleave-returns-clause-merged t c = let end = c.in_default.ensures.end in
+    going_end c.loop-child.invariant end.0 end.1
 
 pub take_next-merge-added-requires : goal.take_next-merge-added-requires
 take_next-merge-added-requires t c =
@@ -58,40 +68,49 @@ take_next-merge-added-requires t c =
 
 pub take_next-returns-in-Less-clause-next : goal.take_next-returns-in-Less-clause-next
 take_next-returns-in-Less-clause-next t c =
-    next_less (front_is c.pop_front.ensures.items c.unwrap.ensures) c.requires.mine c.requires.theirs (sym c.fronts.ensures ∙ c.in_ok-fronts.was ∙ ap Some c.in-Less.is)
+    next_less (front_is c.pop_front.ensures.items c.unwrap.ensures) c.requires.mine c.requires.theirs
+    (sym c.fronts.ensures ∙ c.in_ok-fronts.was ∙ ap Some c.in-Less.is)
 
 pub take_next-returns-in-Greater-clause-next : goal.take_next-returns-in-Greater-clause-next
 take_next-returns-in-Greater-clause-next t c =
-    next_greater (front_is c.pop_front-in-Greater.ensures.items c.unwrap-in-Greater.ensures) c.requires.mine c.requires.theirs (sym c.fronts.ensures ∙ c.in_ok-fronts.was ∙ ap Some c.in-Greater.is)
+    next_greater (front_is c.pop_front-in-Greater.ensures.items c.unwrap-in-Greater.ensures) c.requires.mine
+    c.requires.theirs (sym c.fronts.ensures ∙ c.in_ok-fronts.was ∙ ap Some c.in-Greater.is)
 
 pub take_next-returns-in-Equal-clause-next : goal.take_next-returns-in-Equal-clause-next
 take_next-returns-in-Equal-clause-next t c =
-    next_equal (front_is c.pop_front-in-Equal.ensures.items c.unwrap-child.ensures) (front_is c.pop_front-in-Equal-2.ensures.items c.unwrap-in-Equal.ensures)
-    c.requires.mine c.requires.theirs (sym c.fronts.ensures ∙ c.in_ok-fronts.was ∙ ap Some c.in-Equal.is) c.merge-added.ensures
+    next_equal (front_is c.pop_front-in-Equal.ensures.items c.unwrap-child.ensures)
+    (front_is c.pop_front-in-Equal-2.ensures.items c.unwrap-in-Equal.ensures)
+    c.requires.mine c.requires.theirs (sym c.fronts.ensures ∙ c.in_ok-fronts.was ∙ ap Some c.in-Equal.is)
+    c.merge-added.ensures
 
 pub put_child-merge-result-requires : goal.put_child-merge-result-requires
 put_child-merge-result-requires t c =
     let x : Child = c.index_mut-here.result.now in
-    let weights = weights_found c.args.child x x.graph c.deref.ensures.value c.in-Ok.ensures.found c.index_mut-here.ensures.value in
+    let weights = weights_found c.args.child x x.graph c.deref.ensures.value c.in-Ok.ensures.found
+    c.index_mut-here.ensures.value in
     (omega (arith, c.decreases), omega (arith, weights.1, c.requires.exact, c.requires.fits))
 
 pub put_child-overflow_sub-size : goal.put_child-overflow_sub-size
 put_child-overflow_sub-size t c =
     let x : Child = c.index_mut-here.result.now in
-    let weights = weights_found c.args.child x x.graph c.deref.ensures.value c.in-Ok.ensures.found c.index_mut-here.ensures.value in
+    let weights = weights_found c.args.child x x.graph c.deref.ensures.value c.in-Ok.ensures.found
+    c.index_mut-here.ensures.value in
     omega (arith, weights.1, c.requires.exact, c.total_size-before.ensures.total)
 
 pub put_child-returns-in-Ok-clause-merged : goal.put_child-returns-in-Ok-clause-merged
 put_child-returns-in-Ok-clause-merged t c =
-    put_at_found c.args.child c.index_mut-here.result.now _ c.deref.ensures.value c.in-Ok.ensures.found c.index_mut-here.ensures.value c.requires.children c.merge-result.ensures
+    put_at_found c.args.child c.index_mut-here.result.now _ c.deref.ensures.value c.in-Ok.ensures.found
+    c.index_mut-here.ensures.value c.requires.children c.merge-result.ensures
 
 pub put_child-returns-in-Ok-clause-exact : goal.put_child-returns-in-Ok-clause-exact
 put_child-returns-in-Ok-clause-exact t c =
     let x : Child = c.index_mut-here.result.now in
     let g = c.merge-result.new.self in
-    let weights = weights_found c.args.child x g c.deref.ensures.value c.in-Ok.ensures.found c.index_mut-here.ensures.value in
+    let weights = weights_found c.args.child x g c.deref.ensures.value c.in-Ok.ensures.found
+    c.index_mut-here.ensures.value in
     omega (arith, weights.0, weights.1, c.requires.exact, c.total_size-before.ensures.total, c.total_size.ensures.total)
 
 pub put_child-returns-in_ok-put_at-in-Err-clause-merged : goal.put_child-returns-in_ok-put_at-in-Err-clause-merged
 put_child-returns-in_ok-put_at-in-Err-clause-merged t c =
-    put_at_gap c.args.child c.deref.ensures.value c.in-Err.ensures.missing c.in_ok-put_at-in-Err.ensures.items c.requires.children c.requires.tree
+    put_at_gap c.args.child c.deref.ensures.value c.in-Err.ensures.missing c.in_ok-put_at-in-Err.ensures.items
+    c.requires.children c.requires.tree

@@ -21,4 +21,5 @@ decreases-interleave-loop-child l = length l.mine.items + length l.theirs.items
 
 -- What remains of both lists, merged and put after what was taken, is the merge of all.
 abbrev pub invariant-interleave-loop-child : goal.invariant-interleave-loop-child
-invariant-interleave-loop-child l = Going (is_ok l.result) l.fn.children.items l.fn.theirs.items l.children.items l.mine.items l.theirs.items l.size (vec_capacity l.children)
+invariant-interleave-loop-child l = Going (is_ok l.result) l.fn.children.items l.fn.theirs.items l.children.items
+    l.mine.items l.theirs.items l.size (vec_capacity l.children)

@@ -14,4 +14,5 @@ pub returns-in-Equal-clause-found : goal.returns-in-Equal-clause-found
 returns-in-Equal-clause-found c =
     let item = c.in-Some.ensures.item in
     let same = key_same c.in-Some.last.now.key c.args.key.now (sym c.cmp.ensures ∙ c.in-Equal.is) in
-    at_last c.args.children.now c.args.key.now c.in-Some.last.now item.3.0 (ap (λ (d : Child). d.key) (sym item.1) ∙ same)
+    at_last c.args.children.now c.args.key.now c.in-Some.last.now item.3.0
+    (ap (λ (d : Child). d.key) (sym item.1) ∙ same)

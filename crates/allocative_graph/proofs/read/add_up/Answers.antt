@@ -15,15 +15,24 @@ pub add_at-requires : goal.add_at-requires
 add_at-requires c =
     let lines = c.args.lines.now in
     let i = c.loop-line.line-index in
-    record { fits = line_fits lines i (get_or lines i no_line) c.loop-line.graph (take_more lines i no_line c.loop-line-test.true) c.loop-line.invariant c.requires }
+    record {
+      fits = line_fits lines i (get_or lines i no_line) c.loop-line.graph
+          (take_more lines i no_line c.loop-line-test.true) c.loop-line.invariant c.requires;
+    }
 
 pub loop-line-preserved : goal.loop-line-preserved
 loop-line-preserved c =
     let lines = c.args.lines.now in
     let i = c.loop-line.line-index in
     let line : Line = get_or lines i no_line in
-    let road = YieldsList-from_str_split 59 line.path.now (lit< tt) c.split.ensures.text c.split.ensures.has_more c.split.ensures.pattern in
-    let keys : texts c.extend.new.self.items ≡ keys_of line.path.now = fact_from_extend {E = Unit {0}} (λ (k : Bor (List ℕ)). k.now) (Ok c.in_ok-extend.field-0) c.in_ok-extend.ensures.ran
-    (λ it is. YieldsList-at is road) (λ xs all gives. ap texts (gives.0 ∙ ap (λ ks. ks ++ xs) c.clear.ensures.items) ∙ all) in
-    line_more lines i line c.loop-line.graph c.add_at.new.graph (take_more lines i no_line c.loop-line-test.true) c.loop-line.invariant
-    (c.in_ok-add_at.ensures.sum ∙ ap (λ (ks : Path). sum_of c.loop-line.graph (graph_of_path ks line.size)) (ap texts c.as_slice.ensures.value ∙ keys))
+    let road = YieldsList-from_str_split 59 line.path.now (lit< tt) c.split.ensures.text c.split.ensures.has_more
+    c.split.ensures.pattern in
+    let keys : texts c.extend.new.self.items ≡ keys_of line.path.now =
+    fact_from_extend {E = Unit {0}} (λ (k : Bor (List ℕ)). k.now) (Ok c.in_ok-extend.field-0)
+    c.in_ok-extend.ensures.ran
+    (λ it is. YieldsList-at is road) (λ xs all gives. ap texts (gives.0 ∙ ap (λ ks. ks ++ xs) c.clear.ensures.items)
+    ∙ all) in
+    line_more lines i line c.loop-line.graph c.add_at.new.graph (take_more lines i no_line c.loop-line-test.true)
+    c.loop-line.invariant
+    (c.in_ok-add_at.ensures.sum ∙ ap (λ (ks : Path). sum_of c.loop-line.graph (graph_of_path ks line.size))
+    (ap texts c.as_slice.ensures.value ∙ keys))

@@ -14,6 +14,7 @@ own = numerals_by_value _ (search rules)
 
 pub returns-then-not-is_empty : goal.returns-then-not-is_empty
 returns-then-not-is_empty c =
-    let all = all_from_yields_List is_ascii_digit _ _ c.all.result c.all.ensures.ran (YieldsList-from_slice c.args.text.now cc) (λ x b q k. search (rules, tests)) in
+    let all = all_from_yields_List is_ascii_digit _ _ c.all.result c.all.ensures.ran
+    (YieldsList-from_slice c.args.text.now cc) (λ x b q k. search (rules, tests)) in
     let some : 0 < length c.args.text.now = grind (arith, nat_tests) in
     (λ passes. (some, own.to _ (sym all ∙ passes)), λ digits. all ∙ own.from _ digits.1)

@@ -6,7 +6,8 @@ use Rattle.allocative_graph.proofs.ReadLines.{cut_of, no_path, not_zero, stack_o
 use Rattle.allocative_graph.proofs.read.read_line.Goals as goal
 
 pub returns-then-is_empty-clause-wrong : goal.returns-then-is_empty-clause-wrong
-returns-then-is_empty-clause-wrong c = no_path (cut_of (c.in-Some.path, c.in-Some.size) c.in-Some.ensures.cases) (sym c.is_empty.ensures ∙ c.if-is_empty.true)
+returns-then-is_empty-clause-wrong c = no_path (cut_of (c.in-Some.path, c.in-Some.size) c.in-Some.ensures.cases)
+    (sym c.is_empty.ensures ∙ c.if-is_empty.true)
 
 pub returns-then-not-is_numeral-clause-wrong : goal.returns-then-not-is_numeral-clause-wrong
 returns-then-not-is_numeral-clause-wrong c = (
@@ -31,11 +32,18 @@ returns-in_default-parse-clause-wrong c =
 pub returns-then-count-gt-LEVELS-clause-wrong : goal.returns-then-count-gt-LEVELS-clause-wrong
 returns-then-count-gt-LEVELS-clause-wrong c =
     let keys : c.count.result ≡ length (keys_of c.in-Some.path.now) =
-    count_from_yields_List c.split.result _ c.count.ensures.ran (YieldsList-from_str_split 59 c.in-Some.path.now (lit< tt) c.split.ensures.text c.split.ensures.has_more c.split.ensures.pattern) in
+    count_from_yields_List c.split.result _ c.count.ensures.ran
+    (YieldsList-from_str_split 59 c.in-Some.path.now (lit< tt) c.split.ensures.text c.split.ensures.has_more
+    c.split.ensures.pattern) in
     (c.in-Some.path.now, c.in-Some.size.now, cut_of (c.in-Some.path, c.in-Some.size) c.in-Some.ensures.cases, (rw (unsigned c.in-Some.size.now (c.is_numeral.ensures.0 c.if-not-is_numeral.false)) at c.in-Ok.ensures.value.0).0, omega (arith, keys))
 
 pub returns-clause-ok : goal.returns-clause-ok
 returns-clause-ok c =
     let keys : c.count.result ≡ length (keys_of c.in-Some.path.now) =
-    count_from_yields_List c.split.result _ c.count.ensures.ran (YieldsList-from_str_split 59 c.in-Some.path.now (lit< tt) c.split.ensures.text c.split.ensures.has_more c.split.ensures.pattern) in
-    stack_of (cut_of (c.in-Some.path, c.in-Some.size) c.in-Some.ensures.cases) (sym c.is_empty.ensures ∙ c.if-is_empty.false) (rw (unsigned c.in-Some.size.now (c.is_numeral.ensures.0 c.if-not-is_numeral.false)) at c.in-Ok.ensures.value.0) (omega (arith, keys))
+    count_from_yields_List c.split.result _ c.count.ensures.ran
+    (YieldsList-from_str_split 59 c.in-Some.path.now (lit< tt) c.split.ensures.text c.split.ensures.has_more
+    c.split.ensures.pattern) in
+    stack_of (cut_of (c.in-Some.path, c.in-Some.size) c.in-Some.ensures.cases)
+    (sym c.is_empty.ensures ∙ c.if-is_empty.false)
+    (rw (unsigned c.in-Some.size.now (c.is_numeral.ensures.0 c.if-not-is_numeral.false)) at c.in-Ok.ensures.value.0)
+    (omega (arith, keys))

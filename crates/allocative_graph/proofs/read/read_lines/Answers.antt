@@ -13,25 +13,33 @@ returns-in-Err-clause-line c = λ n w is.
     let number : c.saturating_add-number.result ≡ length xs + 1 = omega (arith, t.0, lines_fit c.args.text.now) in
     let told : c.saturating_add-number.result ≡ n = cc (is) in
     let said : c.in-Err.wrong ≡ w = cc (is) in
-    fault_at c.args.text.now xs c.in-Some.line n w c.loop-line.lines.items (YieldsList-so_far road xs _ c.loop-line.yielded_by) t c.loop-line.invariant.came (not_zero _ (sym c.is_empty.ensures ∙ c.if-is_empty.false)) (rw (← said) c.in-Err.ensures.wrong) (sym told ∙ number)
+    fault_at c.args.text.now xs c.in-Some.line n w c.loop-line.lines.items
+    (YieldsList-so_far road xs _ c.loop-line.yielded_by) t c.loop-line.invariant.came
+    (not_zero _ (sym c.is_empty.ensures ∙ c.if-is_empty.false)) (rw (← said) c.in-Err.ensures.wrong)
+    (sym told ∙ number)
 
 pub loop-line-preserved : goal.loop-line-preserved
 loop-line-preserved c =
-    let t = YieldsList-turn (YieldsList-from_lines c.args.text.now cc) c.loop-line.yielded _ c.loop-line.yielded_by _ _ c.in-Some.line c.in-Some.is c.next.ensures.steps in
+    let t = YieldsList-turn (YieldsList-from_lines c.args.text.now cc) c.loop-line.yielded _ c.loop-line.yielded_by
+    _ _ c.in-Some.line c.in-Some.is c.next.ensures.steps in
     record {
       number = omega (arith, t.0, lines_fit c.args.text.now, length_push c.loop-line.yielded c.in-Some.line);
-      came = read-more c.loop-line.yielded c.in-Some.line c.loop-line.lines.items c.push.new.self.items c.in-Ok.read c.loop-line.invariant.came c.in-Ok.ensures.ok (search rules);
+      came = read-more c.loop-line.yielded c.in-Some.line c.loop-line.lines.items c.push.new.self.items c.in-Ok.read
+          c.loop-line.invariant.came c.in-Ok.ensures.ok (search rules);
     }
 
 pub loop-line-preserved-then-is_empty : goal.loop-line-preserved-then-is_empty
 loop-line-preserved-then-is_empty c =
-    let t = YieldsList-turn (YieldsList-from_lines c.args.text.now cc) c.loop-line.yielded _ c.loop-line.yielded_by _ _ c.in-Some.line c.in-Some.is c.next.ensures.steps in
+    let t = YieldsList-turn (YieldsList-from_lines c.args.text.now cc) c.loop-line.yielded _ c.loop-line.yielded_by
+    _ _ c.in-Some.line c.in-Some.is c.next.ensures.steps in
     record {
       number = omega (arith, t.0, lines_fit c.args.text.now, length_push c.loop-line.yielded c.in-Some.line);
-      came = read-blank c.loop-line.yielded c.in-Some.line c.loop-line.lines.items c.loop-line.invariant.came (eqb-true _ 0 (sym c.is_empty.ensures ∙ c.if-is_empty.true));
+      came = read-blank c.loop-line.yielded c.in-Some.line c.loop-line.lines.items c.loop-line.invariant.came
+          (eqb-true _ 0 (sym c.is_empty.ensures ∙ c.if-is_empty.true));
     }
 
 pub returns-clause-ok : goal.returns-clause-ok
 returns-clause-ok c =
-    let t = YieldsList-end (YieldsList-from_lines c.args.text.now cc) c.loop-line.yielded _ c.loop-line.yielded_by _ _ c.in-None.is c.next.ensures.steps in
+    let t = YieldsList-end (YieldsList-from_lines c.args.text.now cc) c.loop-line.yielded _ c.loop-line.yielded_by
+    _ _ c.in-None.is c.next.ensures.steps in
     rw (← t.0) c.loop-line.invariant.came

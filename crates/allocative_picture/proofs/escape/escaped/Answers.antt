@@ -13,5 +13,6 @@ same_items (x ∷ xs) = ap (λ s. x ∷ s) (same_items xs)
 -- After the last character the markup of the whole text is made.
 pub returns : goal.returns
 returns c =
-    let t = YieldsList-end (YieldsList-from_chars c.args.text.now c.utf8.text cc) c.loop-c.yielded _ c.loop-c.yielded_by _ _ c.in-None.is c.next.ensures.steps in
+    let t = YieldsList-end (YieldsList-from_chars c.args.text.now c.utf8.text cc) c.loop-c.yielded _ c.loop-c.yielded_by
+    _ _ c.in-None.is c.next.ensures.steps in
     c.loop-c.invariant ∙ ap (λ xs. flat_map escaped_char xs) (sym (same_items c.loop-c.yielded) ∙ t.0)

@@ -5,4 +5,5 @@ use Rattle.allocative_picture.proofs.page.push_boxes.Given as goal
 
 -- The boxes of the rows so far have been appended.
 abbrev pub invariant-loop-row : goal.invariant-loop-row
-invariant-loop-row l = string_bytes l.text ≡ string_bytes l.initial.text ++ flat_map (element l.all) (map row_data (take l.row-index l.rows))
+invariant-loop-row l = string_bytes l.text ≡ string_bytes l.initial.text
+    ++ flat_map (element l.all) (map row_data (take l.row-index l.rows))

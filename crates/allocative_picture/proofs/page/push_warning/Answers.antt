@@ -5,5 +5,6 @@ use Rattle.allocative_picture.proofs.page.push_warning.Goals as goal
 pub returns : goal.returns
 unfolding warning_line
 returns c =
-    let line = rw (c.as_str.ensures.value, c.in_ok-push_warning.ensures, c.new-said.ensures.bytes) at c.in_ok-line.ensures in
+    let line = rw (c.as_str.ensures.value, c.in_ok-push_warning.ensures, c.new-said.ensures.bytes)
+    at c.in_ok-line.ensures in
     rw (← line) c.in_ok-write.ensures.bytes

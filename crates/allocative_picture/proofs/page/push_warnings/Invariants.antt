@@ -5,4 +5,5 @@ use Rattle.allocative_picture.proofs.page.push_warnings.Given as goal
 
 -- The warnings of the paths so far have been appended.
 abbrev pub invariant-loop-index : goal.invariant-loop-index
-invariant-loop-index l = string_bytes l.text ≡ string_bytes l.initial.text ++ warning_lines l.top (map held.warning_of (take l.index l.warned))
+invariant-loop-index l = string_bytes l.text ≡ string_bytes l.initial.text
+    ++ warning_lines l.top (map held.warning_of (take l.index l.warned))

@@ -5,4 +5,5 @@ use Rattle.allocative_picture.proofs.picture.draw.Given as goal
 
 -- Of the rows so far those that are wide enough are kept.
 abbrev pub invariant-loop-row : goal.invariant-loop-row
-invariant-loop-row l = map row_data l.wide.items ≡ filter (is_drawn l.options.narrowest (all_of l.subject)) (map row_data (take l.row-index l.rows))
+invariant-loop-row l = map row_data l.wide.items
+    ≡ filter (is_drawn l.options.narrowest (all_of l.subject)) (map row_data (take l.row-index l.rows))

@@ -15,6 +15,8 @@ returns c =
     let least = c.args.options.now.narrowest in
     let paths : c.push_rows.new.paths ≡ len g = omega (arith, c.in_ok-push_rows.ensures.paths) in
     let rows = ap (map row_data) c.as_slice.ensures.value ∙ c.in_ok-push_rows.ensures.rows
-    ∙ (λ i. map row_data (c.new-wide.ensures.items i) ++ filter (is_drawn least (c.all.ensures i)) (rows_from M 0 (figures_behind (texts (c.new-path.ensures.items i)) g)))
+    ∙ (λ i. map row_data (c.new-wide.ensures.items i)
+    ++ filter (is_drawn least (c.all.ensures i))
+    (rows_from M 0 (figures_behind (texts (c.new-path.ensures.items i)) g)))
     ∙ ap (filter (is_drawn least (all_of c.args.subject))) (rows_from-figures M g) in
     rw (← rows, length-rows_of M g, ← paths) c.draw_wide.ensures

@@ -1,5 +1,7 @@
-use Rattle.std.proofs.Common.{rules, ◌≡◌, refl, ◌+◌, ◌<◌, ◌++◌, [], ◌∷◌, List, map, arith, ap, sym, subst, append_assoc, append-nil, ◌∙◌, filter, length, take_all}
-use Rattle.allocative_picture.proofs.Common.{is_drawn, len, Child, Path, total, total_at, weight, RowData, row_data, rows_from, row_from}
+use Rattle.std.proofs.Common.{rules, ◌≡◌, refl, ◌+◌, ◌<◌, ◌++◌, [], ◌∷◌, List, map, arith, ap, sym, subst, append_assoc}
+use Rattle.std.proofs.Common.{append-nil, ◌∙◌, filter, length, take_all}
+use Rattle.allocative_picture.proofs.Common.{is_drawn, len, Child, Path, total, total_at, weight, RowData, row_data}
+use Rattle.allocative_picture.proofs.Common.{rows_from, row_from}
 use Rattle.std.proofs.lemmas.List.Elements.{filter-append}
 use Rattle.allocative_graph.proofs.NodeAdded.{rows_of_node}
 use Rattle.allocative_graph.specs.Graph.{size_at}
@@ -24,16 +26,19 @@ push_rows-requires t c =
     let cs = c.children-children.result.now in
     let i = c.loop-child.child-index in
     let d = c.child-item.result in
-    let small : len d.graph < len g = subst (λ (x : Child). len x.graph < len g) (sym c.child-item.is) (c.children-children.ensures.smaller i d (omega arith)) in
+    let small : len d.graph < len g = subst (λ (x : Child). len x.graph < len g) (sym c.child-item.is)
+    (c.children-children.ensures.smaller i d (omega arith)) in
     let M = mark_by c.args.shown.now.marks c.args.shown.now.other.now in
     let ks = texts c.args.path.now.items in
-    let pushed : c.push.new.self.items ≡ c.args.path.now.items ++ c.as_str.result ∷ [] = rw (c.in_ok-push.ensures.items, c.loop-child.invariant.path) refl in
+    let pushed : c.push.new.self.items ≡ c.args.path.now.items ++ c.as_str.result ∷ [] =
+    rw (c.in_ok-push.ensures.items, c.loop-child.invariant.path) refl in
     let behind_it = pushed_key _ _ c.as_str.result d.key pushed c.as_str.ensures in
     let falls = c.decreases in (
       omega (arith, small, falls),
       (
         omega (arith, ap total c.children-children.ensures.whole, total-node (size_at g []) cs c.children-children.ensures.children.sorted, c.self_size.ensures, c.requires.fits, c.loop-child.invariant.before, weight_more cs i d (omega arith) c.child-item.is, weight_within cs (i + 1)),
-        λ p. ap (λ (q : Path). M (q ++ p)) behind_it ∙ ap M (append_assoc ks (d.key ∷ []) p) ∙ c.requires.other (d.key ∷ p) ∙ c.below-below.ensures c.args.shown.now.marks p,
+        λ p. ap (λ (q : Path). M (q ++ p)) behind_it ∙ ap M (append_assoc ks (d.key ∷ []) p)
+            ∙ c.requires.other (d.key ∷ p) ∙ c.below-below.ensures c.args.shown.now.marks p,
       ),
     )
 
@@ -50,11 +55,14 @@ loop-child-preserved t c =
     let b = c.args.before.now + c.self_size.result in
     let wide = is_drawn c.args.shown.now.least c.args.shown.now.all in
     let start = map row_data c.push_wide.new.rows.items in
-    let pushed : c.push.new.self.items ≡ c.args.path.now.items ++ c.as_str.result ∷ [] = rw (c.in_ok-push.ensures.items, c.loop-child.invariant.path) refl in
+    let pushed : c.push.new.self.items ≡ c.args.path.now.items ++ c.as_str.result ∷ [] =
+    rw (c.in_ok-push.ensures.items, c.loop-child.invariant.path) refl in
     let behind_it = pushed_key _ _ c.as_str.result d.key pushed c.as_str.ensures in
-    let came = child_rows M b n g cs c.children-children.ensures.whole ks c.children-children.ensures.children.sorted i d (omega arith) c.child-item.is in
+    let came = child_rows M b n g cs c.children-children.ensures.whole ks c.children-children.ensures.children.sorted i
+    d (omega arith) c.child-item.is in
     record {
-      path = popped _ _ _ c.as_str.result _ c.pop.ensures.rest c.push_rows.new.path.ok.0 (c.in_ok-push_rows.ensures.path ∙ pushed);
+      path = popped _ _ _ c.as_str.result _ c.pop.ensures.rest c.push_rows.new.path.ok.0
+          (c.in_ok-push_rows.ensures.path ∙ pushed);
       before = omega (arith, c.in_ok-push_rows.ensures.before, c.loop-child.invariant.before, weight_more cs i d (omega arith) c.child-item.is);
       paths = omega (arith, c.in_ok-push_rows.ensures.paths, c.loop-child.invariant.paths, rows_more cs i d (omega arith) c.child-item.is);
       rows = rw (← came, filter-append, ← append_assoc, ← c.loop-child.invariant.rows, ← c.loop-child.invariant.before, ← behind_it) c.in_ok-push_rows.ensures.rows;
@@ -88,9 +96,14 @@ returns-clause-rows t c =
     let whole = node_rows M b n g cs c.children-children.ensures.whole ks c.children-children.ensures.children.sorted in
     let below : List RowData = rows_from M (b + n) (figured (total_at g) ks (rows_of cs)) in
     let mark : c.of-mark.result ≡ M ks = c.of-mark.ensures ∙ sym (c.requires.other []) ∙ ap M (append-nil ks) in
-    let row : row_data c.row_from-row.result ≡ root = c.row_from-row.ensures ∙ (λ j. row_from (λ _. mark j) b (record { path = texts (c.as_slice.ensures.value j); self_size = n; total_size = total g })) in
+    let row : row_data c.row_from-row.result ≡ root =
+    c.row_from-row.ensures ∙ (λ j. row_from (λ _. mark j) b
+    (record { path = texts (c.as_slice.ensures.value j); self_size = n; total_size = total g })) in
     c.loop-child.invariant.rows
-    ∙ (λ j. map row_data c.push_wide.new.rows.items ++ filter wide (rows_from M (b + c.self_size.ensures j) (figured (total_at g) ks (rows_of (take_all c.loop-child.child-index cs (omega arith) j)))))
-    ∙ ap (λ (rs : List RowData). rs ++ filter wide below) (c.in_ok-push_wide.ensures ∙ ap (λ (r : RowData). start ++ filter wide (r ∷ [])) row)
+    ∙ (λ j. map row_data c.push_wide.new.rows.items
+    ++ filter wide (rows_from M (b + c.self_size.ensures j)
+    (figured (total_at g) ks (rows_of (take_all c.loop-child.child-index cs (omega arith) j)))))
+    ∙ ap (λ (rs : List RowData). rs ++ filter wide below)
+    (c.in_ok-push_wide.ensures ∙ ap (λ (r : RowData). start ++ filter wide (r ∷ [])) row)
     ∙ append_assoc start (filter wide (root ∷ [])) (filter wide below)
     ∙ ap (λ (rs : List RowData). start ++ rs) (sym (filter-append wide (root ∷ []) below) ∙ ap (filter wide) whole)

@@ -16,5 +16,8 @@ invariant-loop-child l = record {
   before : l.before ≡ l.initial.before + weight (take l.child-index l.children);
   paths : l.paths ≡ l.initial.paths + length (rows_of (take l.child-index l.children));
   rows : map row_data l.rows.items ≡ map row_data l.initial.rows.items
-      ++ filter (is_drawn l.shown.least l.shown.all) (rows_from (mark_by l.shown.marks l.shown.other.now) l.initial.before (figured (total_at l.graph) (map (λ k. k.now) l.initial.path.items) (rows_of (take l.child-index l.children))));
+      ++ filter (is_drawn l.shown.least l.shown.all)
+      (rows_from (mark_by l.shown.marks l.shown.other.now) l.initial.before
+      (figured (total_at l.graph) (map (λ k. k.now) l.initial.path.items)
+      (rows_of (take l.child-index l.children))));
 }

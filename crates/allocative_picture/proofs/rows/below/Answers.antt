@@ -6,4 +6,6 @@ use Rattle.allocative_picture.proofs.rows.below.Goals as goal
 pub returns : goal.returns
 returns c = λ m p.
     let is : c.args.other ≡ Some c.in_ok-other.field-0 = search rules in
-    ap (λ o. mark_in m (option_copied o) (c.args.key.now ∷ p)) is ∙ rw (sym c.as_str.ensures) (marks_found c.in_ok-other.field-0.now c.as_str.result.now c.get.result c.get.ensures.found c.get.ensures.missing m p)
+    ap (λ o. mark_in m (option_copied o) (c.args.key.now ∷ p)) is
+    ∙ rw (sym c.as_str.ensures) (marks_found c.in_ok-other.field-0.now c.as_str.result.now c.get.result
+    c.get.ensures.found c.get.ensures.missing m p)

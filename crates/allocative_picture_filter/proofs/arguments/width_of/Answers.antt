@@ -9,4 +9,5 @@ returns-in-Ok-clause-ok c = parsed c.args.text.now c.in-Ok.width c.parse.result 
 
 -- A text that is not parsed is none.
 pub returns-in-Err-clause-err : goal.returns-in-Err-clause-err
-returns-in-Err-clause-err c = (unparsed c.args.text.now c.in-Err.field-0 c.parse.result c.in-Err.is c.parse.ensures.value.0, refl)
+returns-in-Err-clause-err c =
+    (unparsed c.args.text.now c.in-Err.field-0 c.parse.result c.in-Err.is c.parse.ensures.value.0, refl)

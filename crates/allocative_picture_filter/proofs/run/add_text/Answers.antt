@@ -19,7 +19,8 @@ returns-in_err-add-clause-stops c =
 pub returns-clause-ok : goal.returns-clause-ok
 returns-clause-ok c =
     let read = c.in_ok-graph_of.field-0 in
-    let added : 2 ^ 64 ≤ total c.args.graph.now + total read → ⊥ = λ exceeds. let refused = c.in_ok-add.ensures.too_large.1 exceeds in cc in record {
+    let added : 2 ^ 64 ≤ total c.args.graph.now + total read → ⊥ =
+    λ exceeds. let refused = c.in_ok-add.ensures.too_large.1 exceeds in cc in record {
       read = read;
       reads = c.in_ok-graph_of.ensures.ok;
       fits = omega (arith, added);

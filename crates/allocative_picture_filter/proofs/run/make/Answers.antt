@@ -8,12 +8,15 @@ use Rattle.allocative_picture_filter.proofs.run.make.Goals as goal
 -- What stops the earlier profile stops the run.
 pub returns-in_err-earlier-clause-stops : goal.returns-in_err-earlier-clause-stops
 returns-in_err-earlier-clause-stops g c =
-    holds-of c.from_residual.result _ _ c.from_residual.ensures.1 (of_each (g.R.Read.remaining c.args.input.now) (λ known. inl c.in_err-earlier.ensures.stops))
+    holds-of c.from_residual.result _ _ c.from_residual.ensures.1
+    (of_each (g.R.Read.remaining c.args.input.now) (λ known. inl c.in_err-earlier.ensures.stops))
 
 -- What stops the later profile stops the run, once the earlier one is made.
 pub returns-in_err-later-clause-stops : goal.returns-in_err-later-clause-stops
 returns-in_err-later-clause-stops g c =
-    holds-of c.from_residual-in_err-later.result _ _ c.from_residual-in_err-later.ensures.1 (IfSome_then (g.R.Read.remaining c.args.input.now) c.in_err-later.ensures.stops (λ known h. inr (c.in_ok-earlier.earlier, c.in_ok-earlier.ensures.ok, inl h)))
+    holds-of c.from_residual-in_err-later.result _ _ c.from_residual-in_err-later.ensures.1
+    (IfSome_then (g.R.Read.remaining c.args.input.now) c.in_err-later.ensures.stops
+    (λ known h. inr (c.in_ok-earlier.earlier, c.in_ok-earlier.ensures.ok, inl h)))
 
 -- Only memory stops the writing of the text.
 pub returns-in_err-write-clause-stops : goal.returns-in_err-write-clause-stops
@@ -32,8 +35,10 @@ returns-in_err-picture-clause-stops g c =
 -- Memory stops a picture of a change, or bytes that exceed a word together.
 pub returns-in_err-change_picture-clause-stops : goal.returns-in_err-change_picture-clause-stops
 returns-in_err-change_picture-clause-stops g c =
-    let joins = stops-joining (total c.in_ok-earlier.earlier + total c.in_ok-later.later) c.in_err-change_picture.field-0.0 c.in_err-change_picture.ensures.too_large.0 in
-    holds-of c.from_residual-in_err-change_picture.result _ _ c.from_residual-in_err-change_picture.ensures.1 (IfSome_then (g.R.Read.remaining c.args.input.now) c.in_ok-later.ensures.ok
+    let joins = stops-joining (total c.in_ok-earlier.earlier + total c.in_ok-later.later)
+    c.in_err-change_picture.field-0.0 c.in_err-change_picture.ensures.too_large.0 in
+    holds-of c.from_residual-in_err-change_picture.result _ _ c.from_residual-in_err-change_picture.ensures.1
+    (IfSome_then (g.R.Read.remaining c.args.input.now) c.in_ok-later.ensures.ok
     (λ known up. inr (c.in_ok-earlier.earlier, c.in_ok-earlier.ensures.ok, inr (inr (c.in_ok-later.later, up, rw (c.if-asked.false, sym c.is_empty.ensures ∙ c.if-is_empty.false) joins)))))
 
 -- The text of the later graph is made if the arguments ask for it.
@@ -59,6 +64,7 @@ returns-clause-ok g c =
 
 pub returns-then-is_refused-clause-stops : goal.returns-then-is_refused-clause-stops
 returns-then-is_refused-clause-stops g c =
-    let refused = is-empty c.args.asked.now.not_empty (total c.in_ok-later.later) (sym c.is_refused.ensures ∙ c.if-is_refused.true) in
+    let refused = is-empty c.args.asked.now.not_empty (total c.in_ok-later.later)
+    (sym c.is_refused.ensures ∙ c.if-is_refused.true) in
     IfSome_then (g.R.Read.remaining c.args.input.now) c.in_ok-later.ensures.ok
     (λ known up. inr (c.in_ok-earlier.earlier, c.in_ok-earlier.ensures.ok, inr (inl (c.in_ok-later.later, up, refused.0, refused.1, refl))))

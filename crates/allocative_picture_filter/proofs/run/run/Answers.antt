@@ -7,7 +7,8 @@ use Rattle.allocative_picture_filter.proofs.run.run.Goals as goal
 pub returns-clause-unwritten : goal.returns-clause-unwritten
 returns-clause-unwritten g c = λ seven.
     IfSome_then (g.R.Read.remaining c.args.input.now) c.in-Err.ensures.stops
-    (λ known h. absurd (stops-unwritten c.args.asked.now c.args.before.now c.args.after.now known c.in-Err.fault h (sym c.tell-in-Err.ensures ∙ seven)))
+    (λ known h. absurd (stops-unwritten c.args.asked.now c.args.before.now c.args.after.now known c.in-Err.fault h
+    (sym c.tell-in-Err.ensures ∙ seven)))
 
 -- The status is that of the fault that stops the run.
 pub returns-clause-stopped : goal.returns-clause-stopped

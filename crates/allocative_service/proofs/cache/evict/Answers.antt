@@ -7,7 +7,8 @@ use Rattle.allocative_service.proofs.cache.evict.Goals as goal
 -- One entry more is evicted.
 pub loop-left-preserved : goal.loop-left-preserved
 loop-left-preserved g c =
-    let step = goes _ _ _ _ _ _ (c.in-Some.key, c.in-Some.gone) c.loop-left.invariant.evicted (omega arith) (sym c.in-Some.ensures.value) in
+    let step = goes _ _ _ _ _ _ (c.in-Some.key, c.in-Some.gone) c.loop-left.invariant.evicted (omega arith)
+    (sym c.in-Some.ensures.value) in
     rw (c.in-Some.ensures.entries, c.saturating_sub-left.ensures) (record {
       callable = search of_calls;
       evicted = step.1 c.on_evict.new.self c.on_evict.ensures;
@@ -21,4 +22,5 @@ none_left es none = grind (arith, gets)
 
 -- If no entry is left, no bytes are.
 pub returns-in_default-clause-bytes : goal.returns-in_default-clause-bytes
-returns-in_default-clause-bytes g c = rw (c.in_default.ensures.entries, none_left _ (sym c.in_default.ensures.value)) refl
+returns-in_default-clause-bytes g c = rw (c.in_default.ensures.entries, none_left _ (sym c.in_default.ensures.value))
+    refl

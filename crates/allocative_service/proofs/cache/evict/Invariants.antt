@@ -8,7 +8,8 @@ use Rattle.allocative_service.proofs.cache.evict.Given as goal
 abbrev pub invariant-loop-left : goal.invariant-loop-left
 invariant-loop-left g l = record {
   callable : goal.F-IsAlwaysCallable g l.on_evict;
-  evicted : Evicts (λ f k v h. goal.F-step g f k v tt h) l.fn.on_evict l.room l.initial.entries.entries l.entries.entries l.on_evict;
+  evicted : Evicts (λ f k v h. goal.F-step g f k v tt h) l.fn.on_evict l.room l.initial.entries.entries
+      l.entries.entries l.on_evict;
   left : l.left ≡ bytes_of l.entries.entries;
   capacity : l.entries.cap ≡ l.initial.entries.cap;
 }

@@ -7,4 +7,5 @@ use Rattle.test_graphs.proofs.by_hand.stop.Goals as goal
 pub returns-in_err-enter_parts : goal.returns-in_err-enter_parts
 returns-in_err-enter_parts c =
     rw (same_err {e = c.in_err-enter_parts.field-0.0} _ c.from_residual-in_err-enter_parts.ensures.0 (search rules))
-    (entry_err {w = c.enter_parts.new.visitor.outer} c.in_ok-outer.ensures.entered refl c.in_err-enter_parts.ensures.shown (search rules))
+    (entry_err {w = c.enter_parts.new.visitor.outer} c.in_ok-outer.ensures.entered refl
+    c.in_err-enter_parts.ensures.shown (search rules))

@@ -7,7 +7,9 @@ use Rattle.allocative_collectors.proofs.graph_collector.GraphCollector.begin.Goa
 pub returns : goal.returns
 returns c =
     let i = c.self.inside in
-    let out = closed i.tree i.current i.places.items i.is_rooted (ap (λ (v : Live). v.open_visitors) c.self.view_is ∙ c.requires) in
+    let out = closed i.tree i.current i.places.items i.is_rooted
+    (ap (λ (v : Live). v.open_visitors) c.self.view_is ∙ c.requires) in
     (λ j. live i.tree i.met.keys i.current (out.no_place j) true)
     ∙ (at_root i.tree i.met.keys i.current out.root
-    ∙ ((λ j. go [] (live i.tree i.met.keys i.current (sym out.no_place j) (sym out.no_visitor j))) ∙ ap (go []) c.self.view_is))
+    ∙ ((λ j. go [] (live i.tree i.met.keys i.current (sym out.no_place j) (sym out.no_visitor j)))
+    ∙ ap (go []) c.self.view_is))

@@ -12,7 +12,8 @@ returns-in-Some-clause-closed c =
     let above = c.in-Some.ensures.above in
     let visitors = ap (λ (v : Live). v.open_visitors) c.self.view_is in (
       (λ is. absurd (true≢false (sym is))),
-      (λ none. let out = closed i.tree i.current i.places.items i.is_rooted (visitors ∙ none) in absurd (not_nil _ _ _ (sym above.path ∙ out.root))),
+      (λ none. let out = closed i.tree i.current i.places.items i.is_rooted (visitors ∙ none) in
+          absurd (not_nil _ _ _ (sym above.path ∙ out.root))),
     )
 
 pub returns-in-None-clause-closed : goal.returns-in-None-clause-closed
@@ -20,7 +21,8 @@ returns-in-None-clause-closed c =
     let i = c.self.inside in
     let visitors = ap (λ (v : Live). v.open_visitors) c.self.view_is in (
       (λ is. absurd (true≢false (sym is))),
-      (λ none. let out = closed i.tree i.current i.places.items i.is_rooted (visitors ∙ none) in sym out.no_visitor ∙ c.if-self.true),
+      (λ none. let out = closed i.tree i.current i.places.items i.is_rooted (visitors ∙ none) in
+          sym out.no_visitor ∙ c.if-self.true),
     )
 
 pub returns-in-None-2-clause-closed : goal.returns-in-None-2-clause-closed

@@ -8,5 +8,6 @@ pub returns-in-Some : goal.returns-in-Some
 returns-in-Some c =
     let i = c.self.inside in
     let above = c.in-Some.ensures.above in
-    came_back i.tree i.met.keys c.in-Some.parent i.current i.places.items i.places.items i.is_rooted (one_up i.tree i.met.keys c.in-Some.parent i.current i.places.items i.is_rooted above.key above.path)
+    came_back i.tree i.met.keys c.in-Some.parent i.current i.places.items i.places.items i.is_rooted
+    (one_up i.tree i.met.keys c.in-Some.parent i.current i.places.items i.is_rooted above.key above.path)
     ∙ ap leave_live c.self.view_is

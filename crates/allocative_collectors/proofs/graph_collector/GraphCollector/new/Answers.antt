@@ -9,4 +9,6 @@ root_alone : IsPlaced (root_sum ∷ []) 0 [] (2 ^ 63 - 1)
 root_alone = record { here = omega arith; back = λ j h. absurd (omega arith); entered_is = omega (arith, entered-empty); total_is = refl; rooted = omega arith; root_path = refl }
 
 pub invariant_of-result : goal.invariant_of-result
-invariant_of-result c = subst (λ (t : Listed). IsPlaced t 0 c.new-2.result.items (2 ^ 63 - 1)) (sym c.in_ok-tree.ensures) (subst (λ (l : List ℕ). IsPlaced (root_sum ∷ []) 0 l (2 ^ 63 - 1)) (sym c.new-2.ensures.items) root_alone)
+invariant_of-result c = subst (λ (t : Listed). IsPlaced t 0 c.new-2.result.items (2 ^ 63 - 1))
+    (sym c.in_ok-tree.ensures) (subst (λ (l : List ℕ). IsPlaced (root_sum ∷ []) 0 l (2 ^ 63 - 1))
+    (sym c.new-2.ensures.items) root_alone)

@@ -1,5 +1,6 @@
 -- The last two keys decide, if there are two.
-use Rattle.std.proofs.Common.{◌≡◌, ◌-◌, ◌<◌, ◌≤◌, ℕ, suc, false, List, [], ◌∷◌, map, length, get_or, Bor, refl, ap, ◌∙◌, arith}
+use Rattle.std.proofs.Common.{◌≡◌, ◌-◌, ◌<◌, ◌≤◌, ℕ, suc, false, List, [], ◌∷◌, map, length, get_or, Bor, refl, ap, ◌∙◌}
+use Rattle.std.proofs.Common.{arith}
 use Rattle.allocative_collectors.proofs.Common.{Key, is_std_data, is_std_entry}
 use Rattle.allocative_collectors.proofs.output.WarnedPath.is_of_std.Goals as goal
 
@@ -21,7 +22,8 @@ of_two f (a ∷ b ∷ c ∷ xs) d h =
     rw (i, j) (of_two f (b ∷ c ∷ xs) d (omega arith))
 
 pub returns-in_default : goal.returns-in_default
-returns-in_default c = of_one (λ k. k.now) c.args.self.now.path.items (omega (arith, ap length c.as_slice.ensures.value))
+returns-in_default c = of_one (λ k. k.now) c.args.self.now.path.items
+    (omega (arith, ap length c.as_slice.ensures.value))
 
 pub returns-in-len2-up : goal.returns-in-len2-up
 returns-in-len2-up c =

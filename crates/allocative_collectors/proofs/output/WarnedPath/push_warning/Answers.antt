@@ -8,6 +8,11 @@ use Rattle.allocative_collectors.proofs.output.WarnedPath.push_warning.Goals as 
 pub returns : goal.returns
 returns c =
     let w = warning_of c.args.self.now in
-    let path : c.as_str-path.result.now ≡ joined w.path = c.as_str-path.ensures.value ∙ c.in_ok-path.ensures.ok ∙ joined_by_semicolons c.deref.result.now ∙ search rules in
-    let whole : c.as_str.result.now ≡ warning_text w = rw (c.as_str.ensures.value, c.in_ok-warning.ensures.ok, path) (simp append_assoc) in
-    subst (λ (l : List ℕ). MatchResult c.push_str.result (λ _. string_bytes c.push_str.new.self ≡ string_bytes c.args.text.now ++ l) (λ _. string_bytes c.push_str.new.self ≡ string_bytes c.args.text.now)) whole (search rules)
+    let path : c.as_str-path.result.now ≡ joined w.path =
+    c.as_str-path.ensures.value ∙ c.in_ok-path.ensures.ok ∙ joined_by_semicolons c.deref.result.now
+    ∙ search rules in
+    let whole : c.as_str.result.now ≡ warning_text w =
+    rw (c.as_str.ensures.value, c.in_ok-warning.ensures.ok, path) (simp append_assoc) in
+    subst (λ (l : List ℕ). MatchResult c.push_str.result
+    (λ _. string_bytes c.push_str.new.self ≡ string_bytes c.args.text.now ++ l)
+    (λ _. string_bytes c.push_str.new.self ≡ string_bytes c.args.text.now)) whole (search rules)

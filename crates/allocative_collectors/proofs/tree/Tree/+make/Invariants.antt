@@ -11,5 +11,7 @@ decreases-make l = length l.self.now - l.at
 abbrev pub invariant-loop-child : goal.invariant-loop-child
 invariant-loop-child l = record {
   keys : l.keys.items ≡ l.fn.keys.items;
-  made : MakesPart l.self (path_at l.self l.at) (begun (keys_at (map shape l.self-inside.nodes.items) l.at) l.child-index) (map warning_of l.fn.warned.items) (map warning_of l.warned.items) l.graph;
+  made : MakesPart l.self (path_at l.self l.at)
+      (begun (keys_at (map shape l.self-inside.nodes.items) l.at) l.child-index) (map warning_of l.fn.warned.items)
+      (map warning_of l.warned.items) l.graph;
 }

@@ -1,6 +1,8 @@
 -- The walk from the root has all paths.
-use Rattle.std.proofs.Common.{arith, ◌≡◌, ◌<◌, ◌^◌, ℕ, true, List, ◌++◌, map, Bor, sym, ap, subst, ◌∙◌, flat_map, Bool, false, not, ◌&&◌, cond, [], ◌∷◌, refl, nat_lt, append-nil}
-use Rattle.allocative_collectors.proofs.Common.{get, Path, Graph, graph, map_of, warning_of, warning_lines, entries, newline, Sums, below, is_root, warning_text, Listed}
+use Rattle.std.proofs.Common.{arith, ◌≡◌, ◌<◌, ◌^◌, ℕ, true, List, ◌++◌, map, Bor, sym, ap, subst, ◌∙◌, flat_map, Bool}
+use Rattle.std.proofs.Common.{false, not, ◌&&◌, cond, [], ◌∷◌, refl, nat_lt, append-nil}
+use Rattle.allocative_collectors.proofs.Common.{get, Path, Graph, graph, map_of, warning_of, warning_lines, entries}
+use Rattle.allocative_collectors.proofs.Common.{newline, Sums, below, is_root, warning_text, Listed}
 use Rattle.std.specs.FinMap.{same_map}
 use Rattle.allocative_graph.specs.Graph.{total, warned, warning, warning_line, warnings, warned_paths}
 use Rattle.allocative_graph.proofs.Basics.{path_total, path_antisymmetric}
@@ -26,7 +28,8 @@ warned_walk s = ap (flat_map (warned (map_of s))) (all_kept (entries (map_of s))
 line_of : (s : Sums) (e : Path × Node) → warning_lines (warned s e) ≡ warning s e
 line_of s e = by (not (is_root e.0) && not e.1.is_unique && nat_lt e.1.bytes (below s e.0))
   where
-    by : (b : Bool) → warning_lines (cond b (record { path = e.0; self_size = e.1.bytes; children_size = below s e.0 } ∷ []) []) ≡ cond b (warning_line e.0 e.1.bytes (below s e.0)) []
+    by : (b : Bool) → warning_lines (cond b (record { path = e.0; self_size = e.1.bytes; children_size = below s e.0 }
+        ∷ []) []) ≡ cond b (warning_line e.0 e.1.bytes (below s e.0)) []
     by true = append-nil (warning_line e.0 e.1.bytes (below s e.0))
     by false = refl
 
@@ -46,7 +49,8 @@ make-requires-clause-within c = (listing_of c.self.inside.nodes.items c.self.inv
 
 pub make-requires-clause-keys : goal.make-requires-clause-keys
 make-requires-clause-keys c =
-    ap (map (λ (k : Bor (List ℕ)). k.now)) c.new-keys.ensures.items ∙ sym (listing_of c.self.inside.nodes.items c.self.invariant c.self.view_is).root_path
+    ap (map (λ (k : Bor (List ℕ)). k.now)) c.new-keys.ensures.items
+    ∙ sym (listing_of c.self.inside.nodes.items c.self.invariant c.self.view_is).root_path
 
 pub returns-clause-made : goal.returns-clause-made
 returns-clause-made c =
@@ -54,8 +58,10 @@ returns-clause-made c =
     let root = (listing_of c.self.inside.nodes.items c.self.invariant c.self.view_is).root_path in
     let made = c.in_ok-graph.ensures.made in
     let found : map warning_of c.make.new.warned.items ≡ warned_paths (map_of v) =
-    made.warned_are ∙ ((λ j. map warning_of (c.new-warned.ensures.items j) ++ flat_map (warned (map_of v)) (rows_behind v (root j) (λ q. true))) ∙ warned_walk v) in (
-      c.in_ok-new.ensures.graph ∙ same_map path_total path_antisymmetric c.in_ok-graph.graph (graph (map_of v)) (λ q. made.graph_is q ∙ ap (λ (p : Path). get (graph (map_of v)) (p ++ q)) root),
+    made.warned_are ∙ ((λ j. map warning_of (c.new-warned.ensures.items j)
+    ++ flat_map (warned (map_of v)) (rows_behind v (root j) (λ q. true))) ∙ warned_walk v) in (
+      c.in_ok-new.ensures.graph ∙ same_map path_total path_antisymmetric c.in_ok-graph.graph (graph (map_of v))
+          (λ q. made.graph_is q ∙ ap (λ (p : Path). get (graph (map_of v)) (p ++ q)) root),
       c.in_ok-new.ensures.warnings ∙ (ap warning_lines found ∙ lines-warned_paths (map_of v)),
       c.in_ok-new.ensures.warned ∙ found,
     )

@@ -8,7 +8,8 @@ use Rattle.allocative_collectors.proofs.tree.Tree.raise.Goals.{then-entered, els
 
 pub overflow_add-entered : goal.overflow_add-entered
 overflow_add-entered c =
-    let le = bytes_fit c.self.inside.nodes.items c.self.view_is c.args.node c.requires.within c.index_mut-entered.result.now c.index_mut-entered.ensures.value in
+    let le = bytes_fit c.self.inside.nodes.items c.self.view_is c.args.node c.requires.within
+    c.index_mut-entered.result.now c.index_mut-entered.ensures.value in
     omega arith
 
 -- A step of `raise`: the new mark says whether the node was unique before or the entry is.
@@ -19,16 +20,26 @@ mark c = elim c.if-entered.branch [
 ]
 
 -- the nodes after the write
-written : (c : Joined-entered) → map shape (set c.self.inside.nodes.items c.args.node (raise_node c.args.size c.if-entered.entered c.index_mut-entered.result.now)) ≡ raised (map shape c.self.inside.nodes.items) c.args.node c.args.size c.args.is_unique
-written c = raised_nodes c.self.inside.nodes.items c.self.view_is c.args.node c.requires.within c.index_mut-entered.result.now c.index_mut-entered.ensures.value c.args.size c.args.is_unique c.if-entered.entered (mark c)
+written : (c : Joined-entered) → map shape
+    (set c.self.inside.nodes.items c.args.node
+    (raise_node c.args.size c.if-entered.entered c.index_mut-entered.result.now))
+    ≡ raised (map shape c.self.inside.nodes.items) c.args.node c.args.size c.args.is_unique
+written c = raised_nodes c.self.inside.nodes.items c.self.view_is c.args.node c.requires.within
+    c.index_mut-entered.result.now c.index_mut-entered.ensures.value c.args.size c.args.is_unique c.if-entered.entered
+    (mark c)
 
 pub invariant_of-self : goal.invariant_of-self
 invariant_of-self c =
     let items = c.self.inside.nodes.items in
-    tree_of _ (written (goal.at.invariant_of-self c).Joined-entered) (arena_raised (map shape items) c.self.invariant.arena c.args.node c.requires.not_root (in_shapes items c.args.node c.self.view_is c.requires.within) c.args.size c.args.is_unique)
+    tree_of _ (written (goal.at.invariant_of-self c).Joined-entered)
+    (arena_raised (map shape items) c.self.invariant.arena c.args.node c.requires.not_root
+    (in_shapes items c.args.node c.self.view_is c.requires.within) c.args.size c.args.is_unique)
 
 pub returns : goal.returns
 returns c =
     let items = c.self.inside.nodes.items in
-    let entered = sums_raised (map shape items) c.self.invariant.arena c.args.node c.requires.not_root (in_shapes items c.args.node c.self.view_is c.requires.within) c.args.size c.args.is_unique in
-    ap sums (written (goal.at.returns c).Joined-entered) ∙ (entered ∙ ap (λ (s : Listed). put c.args.node (path_at s c.args.node) c.args.size c.args.is_unique s) c.self.view_is)
+    let entered = sums_raised (map shape items) c.self.invariant.arena c.args.node c.requires.not_root
+    (in_shapes items c.args.node c.self.view_is c.requires.within) c.args.size c.args.is_unique in
+    ap sums (written (goal.at.returns c).Joined-entered)
+    ∙ (entered ∙ ap (λ (s : Listed). put c.args.node (path_at s c.args.node) c.args.size c.args.is_unique s)
+    c.self.view_is)

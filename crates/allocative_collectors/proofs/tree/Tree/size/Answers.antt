@@ -6,10 +6,12 @@ use Rattle.allocative_collectors.proofs.tree.Tree.size.Goals as goal
 
 pub returns-then-node : goal.returns-then-node
 returns-then-node c =
-    let e = figures_read c.self.inside.nodes.items c.self.invariant c.args.self.now c.self.view_is c.args.at c.requires.within c.index-node.result.now c.index-node.ensures in
+    let e = figures_read c.self.inside.nodes.items c.self.invariant c.args.self.now c.self.view_is c.args.at
+    c.requires.within c.index-node.result.now c.index-node.ensures in
     grind (arith, common_steps, e, c.requires.below)
 
 pub returns-else-node : goal.returns-else-node
 returns-else-node c =
-    let e = figures_read c.self.inside.nodes.items c.self.invariant c.args.self.now c.self.view_is c.args.at c.requires.within c.index-node.result.now c.index-node.ensures in
+    let e = figures_read c.self.inside.nodes.items c.self.invariant c.args.self.now c.self.view_is c.args.at
+    c.requires.within c.index-node.result.now c.index-node.ensures in
     grind (arith, common_steps, e, c.requires.below)

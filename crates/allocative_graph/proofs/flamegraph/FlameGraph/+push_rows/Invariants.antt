@@ -7,4 +7,6 @@ use Rattle.allocative_graph.proofs.flamegraph.FlameGraph.+push_rows.Given as goa
 abbrev pub invariant-loop-child : goal.invariant-loop-child
 invariant-loop-child l =
     (l.path.items ≡ l.initial.path.items) ×
-    (map row_figures l.rows.items ≡ map row_figures l.initial.rows.items ++ figured (total_at l.fn.self) (map (λ k. k.now) l.initial.path.items) (rows_of (take l.child-index l.child-items)))
+    (map row_figures l.rows.items ≡ map row_figures l.initial.rows.items
+    ++ figured (total_at l.fn.self) (map (λ k. k.now) l.initial.path.items)
+    (rows_of (take l.child-index l.child-items)))

@@ -5,8 +5,10 @@ use Rattle.allocative_graph.proofs.NodeAdded.{added_under, sum_grown, total_of_n
 use Rattle.allocative_graph.proofs.flamegraph.FlameGraph.add_child.Goals as goal
 
 -- With one child merged into its children, a node is a node if the bytes fit.
-grown : {all : Bool} {cs es : List Child} {d : Child} {size n : ℕ} → Merged all cs (d ∷ []) es → size ≡ weight es → n + weight cs + total d.graph < 2 ^ 64 → IsNode es size n
-grown {d = d} m exact fits = record { children = m.children; exact = exact; fits = omega (arith, m.at_most, weight-one d, exact, fits) }
+grown : {all : Bool} {cs es : List Child} {d : Child} {size n : ℕ} → Merged all cs (d ∷ []) es → size ≡ weight es →
+    n + weight cs + total d.graph < 2 ^ 64 → IsNode es size n
+grown {d = d} m exact fits =
+    record { children = m.children; exact = exact; fits = omega (arith, m.at_most, weight-one d, exact, fits) }
 
 pub invariant_of-self : goal.invariant_of-self
 invariant_of-self c =

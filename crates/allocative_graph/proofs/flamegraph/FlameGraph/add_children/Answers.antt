@@ -6,7 +6,8 @@ use Rattle.allocative_graph.proofs.flamegraph.FlameGraph.add_children.Goals as g
 
 pub returns-clause-sum : goal.returns-clause-sum
 returns-clause-sum c =
-    let is = ap (sum_of c.args.self.now) c.in_ok-graph.ensures ∙ sum_of-all c.args.self.now c.args.children.items c.total_size.ensures.tree in
+    let is = ap (sum_of c.args.self.now) c.in_ok-graph.ensures
+    ∙ sum_of-all c.args.self.now c.args.children.items c.total_size.ensures.tree in
     subst (λ (g : Graph). OnOk c.add.result (c.add.new.self ≡ g)) is c.add.ensures.sum
 
 pub returns-clause-too_large : goal.returns-clause-too_large

@@ -8,4 +8,6 @@ returns-clause-children c = subst AreChildren (sym c.as_slice.ensures.value) c.s
 
 pub returns-clause-smaller : goal.returns-clause-smaller
 returns-clause-smaller c =
-    rw (c.as_slice.ensures.value, ← c.self.view_is) (λ i d h. smaller_child c.self.inside.node_size c.self.inside.children.items i d c.self.invariant.children.sorted h)
+    rw (c.as_slice.ensures.value, ← c.self.view_is)
+    (λ i d h. smaller_child c.self.inside.node_size c.self.inside.children.items i d
+    c.self.invariant.children.sorted h)

@@ -11,13 +11,17 @@ returns-then-is_none-clause-too_large c = λ e.
 
 pub add_up-requires : goal.add_up-requires
 add_up-requires c =
-    sum_fits c.total_of.result c.as_slice.ensures.value c.sort_unstable_by.ensures.permutation c.as_slice-2.ensures.value c.total_of.ensures (c.is_none.ensures ∙ ap not c.if-is_none.false)
+    sum_fits c.total_of.result c.as_slice.ensures.value c.sort_unstable_by.ensures.permutation
+    c.as_slice-2.ensures.value c.total_of.ensures (c.is_none.ensures ∙ ap not c.if-is_none.false)
 
 pub returns-clause-graph : goal.returns-clause-graph
 returns-clause-graph c =
-    is_read c.args.text.now c.in_ok-lines.lines.items c.sort_unstable_by.new.self.items c.in_ok-add_up.field-0 c.in_ok-lines.ensures.ok c.sort_unstable_by.ensures.permutation
-    (c.in_ok-add_up.ensures ∙ ap (λ (xs : List Line). sum_of_stacks default (map line_stack xs)) c.as_slice-2.ensures.value)
+    is_read c.args.text.now c.in_ok-lines.lines.items c.sort_unstable_by.new.self.items c.in_ok-add_up.field-0
+    c.in_ok-lines.ensures.ok c.sort_unstable_by.ensures.permutation
+    (c.in_ok-add_up.ensures ∙ ap (λ (xs : List Line). sum_of_stacks default (map line_stack xs))
+    c.as_slice-2.ensures.value)
 
 pub returns-clause-reads_back : goal.returns-clause-reads_back
 returns-clause-reads_back c = λ g plain fits e.
-    reads_back g c.in_ok-add_up.field-0 plain fits (subst (λ (t : List ℕ). IsRead t c.in_ok-add_up.field-0) e (returns-clause-graph c))
+    reads_back g c.in_ok-add_up.field-0 plain fits
+    (subst (λ (t : List ℕ). IsRead t c.in_ok-add_up.field-0) e (returns-clause-graph c))

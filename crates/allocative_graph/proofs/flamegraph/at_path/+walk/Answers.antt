@@ -1,7 +1,8 @@
 -- At the end of the path the bytes are added to the node; before it, to the child with the next key.
 use Rattle.std.proofs.Common.{sym, ap, ◌∙◌, arith}
 use Rattle.std.proofs.lemmas.Result.{on_ok_weaker, on_err_weaker}
-use Rattle.allocative_graph.proofs.Common.{Child, Key, Path, sum_of, under, graph_of_path, child_of_path, nil_from_length}
+use Rattle.allocative_graph.proofs.Common.{Child, Key, Path, sum_of, under, graph_of_path, child_of_path}
+use Rattle.allocative_graph.proofs.Common.{nil_from_length}
 use Rattle.allocative_graph.proofs.ChildMerged.{put_at_gap}
 use Rattle.allocative_graph.proofs.NodeAdded.{total_of_node, node_grown, sum_grown}
 use Rattle.allocative_graph.proofs.NodeText.{texts}
@@ -21,7 +22,8 @@ add_at-invariant_of-graph t c = record {
 pub add_at-returns-in_default-clause-sum : goal.add_at-returns-in_default-clause-sum
 add_at-returns-in_default-clause-sum t c =
     sum_raised c.graph.view_is c.graph.invariant c.args.size
-    ∙ ap (λ (p : Path). sum_of c.args.graph.now (graph_of_path p c.args.size)) (sym (ap texts (nil_from_length c.args.path.now c.in_default.ensures.cases)))
+    ∙ ap (λ (p : Path). sum_of c.args.graph.now (graph_of_path p c.args.size))
+    (sym (ap texts (nil_from_length c.args.path.now c.in_default.ensures.cases)))
 
 pub add_at-add_below-requires : goal.add_at-add_below-requires
 add_at-add_below-requires t c = (
@@ -30,44 +32,51 @@ add_at-add_below-requires t c = (
 )
 
 pub add_at-overflow_add-graph-2 : goal.add_at-overflow_add-graph-2
-add_at-overflow_add-graph-2 t c = omega (arith, total_of_node c.graph.view_is c.graph.invariant, c.graph.invariant.exact, c.requires.fits)
+add_at-overflow_add-graph-2 t c = omega
+    (arith, total_of_node c.graph.view_is c.graph.invariant, c.graph.invariant.exact, c.requires.fits)
 
 pub add_at-invariant_of-graph-2 : goal.add_at-invariant_of-graph-2
 add_at-invariant_of-graph-2 t c =
     let rest = texts c.in-Some.rest.now in
     let bytes = total-path rest c.args.size in
-    node_grown c.graph.view_is c.graph.invariant (tree-path rest c.args.size) c.in_ok-add_below.ensures.merged (sym bytes) (omega (arith, bytes, c.requires.fits))
+    node_grown c.graph.view_is c.graph.invariant (tree-path rest c.args.size) c.in_ok-add_below.ensures.merged
+    (sym bytes) (omega (arith, bytes, c.requires.fits))
 
 pub add_at-returns-clause-sum : goal.add_at-returns-clause-sum
 add_at-returns-clause-sum t c =
     let rest = texts c.in-Some.rest.now in
     sum_grown c.graph.view_is c.graph.invariant (tree-path rest c.args.size) c.in_ok-add_below.ensures.merged
     ∙ ap (λ (k : Key). sum_of c.args.graph.now (under k (graph_of_path rest c.args.size))) c.new.ensures
-    ∙ ap (λ (p : Path). sum_of c.args.graph.now (graph_of_path p c.args.size)) (sym (ap texts c.in-Some.ensures.cases.0))
+    ∙ ap (λ (p : Path). sum_of c.args.graph.now (graph_of_path p c.args.size))
+    (sym (ap texts c.in-Some.ensures.cases.0))
 
 pub add_below-add_at-requires : goal.add_below-add_at-requires
 add_below-add_at-requires t c =
     let x : Child = c.index_mut-here.result.now in
-    let below = fits_below c.args.key (texts c.args.rest.now) c.args.size x c.deref.ensures.value c.in-Ok.ensures.found c.index_mut-here.ensures.value in
+    let below = fits_below c.args.key (texts c.args.rest.now) c.args.size x c.deref.ensures.value c.in-Ok.ensures.found
+    c.index_mut-here.ensures.value in
     (omega (arith, c.decreases), omega (arith, below, c.requires.fits))
 
 pub add_below-returns-in-Ok-clause-merged : goal.add_below-returns-in-Ok-clause-merged
 add_below-returns-in-Ok-clause-merged t c =
     let x : Child = c.index_mut-here.result.now in
     on_ok_weaker c.add_at.result
-    (path_merged c.args.key (texts c.args.rest.now) c.args.size x c.deref.ensures.value c.in-Ok.ensures.found c.index_mut-here.ensures.value c.requires.children)
+    (path_merged c.args.key (texts c.args.rest.now) c.args.size x c.deref.ensures.value c.in-Ok.ensures.found
+    c.index_mut-here.ensures.value c.requires.children)
     c.add_at.ensures.sum
 
 pub add_below-returns-in-Ok-clause-unchanged : goal.add_below-returns-in-Ok-clause-unchanged
 add_below-returns-in-Ok-clause-unchanged t c =
     let x : Child = c.index_mut-here.result.now in
     on_err_weaker c.add_at.result
-    (nothing_merged c.args.key (texts c.args.rest.now) c.args.size x c.deref.ensures.value c.in-Ok.ensures.found c.index_mut-here.ensures.value)
+    (nothing_merged c.args.key (texts c.args.rest.now) c.args.size x c.deref.ensures.value c.in-Ok.ensures.found
+    c.index_mut-here.ensures.value)
     c.add_at.ensures.unchanged
 
 pub add_below-returns-in-Err-clause-merged : goal.add_below-returns-in-Err-clause-merged
 add_below-returns-in-Err-clause-merged t c =
     let path = texts c.args.rest.now in
     on_ok_weaker c.put_path.result
-    (λ put. put_at_gap (child_of_path c.args.key path c.args.size) c.deref.ensures.value c.in-Err.ensures.missing put c.requires.children (tree-path path c.args.size))
+    (λ put. put_at_gap (child_of_path c.args.key path c.args.size) c.deref.ensures.value c.in-Err.ensures.missing put
+    c.requires.children (tree-path path c.args.size))
     c.put_path.ensures.items

@@ -12,11 +12,14 @@ invariant_of-graph-2 c =
     let child : Child = record { key = c.args.key; graph = c.args.child } in
     let tree = c.total_size-added.ensures.tree in
     rw c.in_ok-push.ensures.items
-    (node_grown c.graph.view_is c.graph.invariant tree (pushed c.graph.view_is c.graph.invariant child tree c.requires.last) c.total_size-added.ensures.total c.requires.fits)
+    (node_grown c.graph.view_is c.graph.invariant tree
+    (pushed c.graph.view_is c.graph.invariant child tree c.requires.last) c.total_size-added.ensures.total
+    c.requires.fits)
 
 pub returns-clause-sum : goal.returns-clause-sum
 returns-clause-sum c =
     let child : Child = record { key = c.args.key; graph = c.args.child } in
     let tree = c.total_size-added.ensures.tree in
     ap (node c.graph.inside.node_size) c.in_ok-push.ensures.items
-    ∙ sum_grown c.graph.view_is c.graph.invariant tree (pushed c.graph.view_is c.graph.invariant child tree c.requires.last)
+    ∙ sum_grown c.graph.view_is c.graph.invariant tree
+    (pushed c.graph.view_is c.graph.invariant child tree c.requires.last)

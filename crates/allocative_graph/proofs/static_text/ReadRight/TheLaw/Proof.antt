@@ -24,4 +24,5 @@ shares =
     qed 𝓛 (‵ (fbor κ P) ∷ raw (lfts 𝓛 ts) ∷ []) ∵ updating ! $
     use2 𝓛 (later (‵ P ⊛ raw (wand 𝓤 (sem 𝓛 P) back))) (𝓛.more.bor_acc_by κ ts P sp) $ await ! tt $ split ! $
     use1 𝓛 (‵ P ⊛ ‵ P) (static_dup 𝓛 d.ptr d.items) $ split ! $ move ! (0 ∷ 2 ∷ []) $
-    use2 𝓛 (later (‵ (fbor κ P) ⊛ raw (lfts 𝓛 ts))) (apply∗ 𝓤 (sem 𝓛 P) back) $ await ! tt $ split ! $ keep ! (2 ∷ 1 ∷ []) $ now ! $ done !)
+    use2 𝓛 (later (‵ (fbor κ P) ⊛ raw (lfts 𝓛 ts))) (apply∗ 𝓤 (sem 𝓛 P) back) $ await ! tt $ split ! $
+    keep ! (2 ∷ 1 ∷ []) $ now ! $ done !)

@@ -19,4 +19,5 @@ returns-in-Ok-clause-ok g c =
 pub returns-in-Err-clause-refused : goal.returns-in-Err-clause-refused
 returns-in-Err-clause-refused g c =
     let t = taken _ c.in-Some.key c.in-Some.value c.in-Some.ensures.value in
-    rw (c.in-Err.ensures.returned.0, c.in-Err.ensures.returned.1) (t.0, t.1, rw t.2 (search rules), rw c.remove.ensures.others at c.in-Err.ensures.refused)
+    rw (c.in-Err.ensures.returned.0, c.in-Err.ensures.returned.1)
+    (t.0, t.1, rw t.2 (search rules), rw c.remove.ensures.others at c.in-Err.ensures.refused)

@@ -8,7 +8,10 @@ use Rattle.allocative_service.proofs.cache.BoundedCache.insert.Goals as goal
 pub returns-in-Ok-put-clause-ok : goal.returns-in-Ok-put-clause-ok
 returns-in-Ok-put-clause-ok g c =
     let old = bounded c.self.inside.entries.entries c.self.inside.bound c.self.inside.measure in
-    rw (← c.self.view_is) (insertion g.V.Described.size g.V.Allocative.may_show g.K.PartialEq.eq _ _ c.args.key c.args.value c.in-Ok.bytes old _ _ (rw (← c.self.view_is) at c.in-Ok.ensures.figure) (rw (← c.self.view_is) at c.in-Ok.ensures.fits) c.in-Ok-put.ensures.first c.evict-self-inside.ensures.recent (omega arith))
+    rw (← c.self.view_is) (insertion g.V.Described.size g.V.Allocative.may_show g.K.PartialEq.eq _ _ c.args.key
+    c.args.value c.in-Ok.bytes old _ _ (rw (← c.self.view_is) at c.in-Ok.ensures.figure)
+    (rw (← c.self.view_is) at c.in-Ok.ensures.fits) c.in-Ok-put.ensures.first c.evict-self-inside.ensures.recent
+    (omega arith))
 
 -- The cache is within its bound after an insertion.
 pub invariant_of-self : goal.invariant_of-self

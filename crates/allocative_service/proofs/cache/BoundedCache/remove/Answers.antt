@@ -8,7 +8,8 @@ use Rattle.allocative_service.proofs.cache.BoundedCache.remove.Goals as goal
 -- The cache is within its bound after a removal.
 pub invariant_of-self-2 : goal.invariant_of-self-2
 invariant_of-self-2 g c =
-    let s = bytes_of-taken (g.K.PartialEq.eq c.args.key.now) c.self.inside.entries.entries (c.in_ok-key.key, c.in_ok-key.kept) c.in_ok-key.ensures.value in
+    let s = bytes_of-taken (g.K.PartialEq.eq c.args.key.now) c.self.inside.entries.entries
+    (c.in_ok-key.key, c.in_ok-key.kept) c.in_ok-key.ensures.value in
     rw c.pop_entry.ensures.entries (c.self.invariant.0, omega (arith, s, c.self.invariant.1), without-bounded g.V.Described.size g.V.Allocative.may_show (g.K.PartialEq.eq c.args.key.now) (bounded c.self.inside.entries.entries c.self.inside.bound c.self.inside.measure) c.self.invariant.2)
 
 -- The values are within the bound after a removal.

@@ -9,5 +9,6 @@ returns-clause-taken g c =
     record {
       profile = c.in_ok-profile.profile;
       is_profile = c.in_ok-profile.ensures.profile;
-      kept = c.in_ok-keep.ensures.kept ∙ ap (λ (h : Graph). take old.most (h ∷ old.profiles.items)) c.into_flamegraph.ensures;
+      kept = c.in_ok-keep.ensures.kept ∙ ap (λ (h : Graph). take old.most (h ∷ old.profiles.items))
+          c.into_flamegraph.ensures;
     }

@@ -5,9 +5,11 @@ use Rattle.allocative_service.proofs.history.changes.by_growth.Goals as goal
 
 pub returns : goal.returns
 returns c =
-    let all : take c.loop-change.change-index c.args.changes.now ≡ c.args.changes.now = take_all c.loop-change.change-index c.args.changes.now (omega arith) in
+    let all : take c.loop-change.change-index c.args.changes.now ≡ c.args.changes.now =
+    take_all c.loop-change.change-index c.args.changes.now (omega arith) in
     let is = c.loop-change.invariant.copied ∙ ap (map change_data) all in
     record {
-      same = rw (← is) (IsPermutation-map change_data c.loop-change.list.items c.sort_by_growth.new.changes.items c.in_ok-sort_by_growth.ensures.same);
+      same = rw (← is) (IsPermutation-map change_data c.loop-change.list.items c.sort_by_growth.new.changes.items
+          c.in_ok-sort_by_growth.ensures.same);
       falling = c.in_ok-sort_by_growth.ensures.falling;
     }

@@ -7,5 +7,6 @@ use Rattle.allocative_service.proofs.history.changes.sort_by_growth.Goals as goa
 
 pub returns-clause-falling : goal.returns-clause-falling
 returns-clause-falling c =
-    let sorted = IsNonDecreasingBy-from_sort_by_key (λ d. rank (change_data d)) _ c.in_ok-sort_by_key.ensures.sorted (λ a r q k. search rules) in
+    let sorted = IsNonDecreasingBy-from_sort_by_key (λ d. rank (change_data d)) _ c.in_ok-sort_by_key.ensures.sorted
+    (λ a r q k. search rules) in
     falls _ (All-permutation IsWord _ _ c.in_ok-sort_by_key.ensures.permutation c.requires) sorted

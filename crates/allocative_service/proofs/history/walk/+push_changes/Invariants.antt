@@ -13,5 +13,6 @@ abbrev pub invariant-loop-child : goal.invariant-loop-child
 invariant-loop-child l = record {
   path : l.path.items ≡ l.initial.path.items;
   changes : map change_data l.changes.items ≡ map change_data l.initial.changes.items
-      ++ changes_behind (size_in (option_copied l.earlier)) (size_in (option_copied l.later)) (map (λ k. k.now) l.initial.path.items) (rows_of (take l.child-index l.children));
+      ++ changes_behind (size_in (option_copied l.earlier)) (size_in (option_copied l.later))
+      (map (λ k. k.now) l.initial.path.items) (rows_of (take l.child-index l.children));
 }

@@ -5,18 +5,22 @@ use Rattle.allocative_service.proofs.ledger.Ledger.check.Goals as goal
 
 pub overflow_sub-self : goal.overflow_sub-self
 overflow_sub-self c =
-    let part : c.args.had ≤ sum_of c.in_ok-account.account.now.entries = rw c.in_ok-account.ensures.found at c.requires in
+    let part : c.args.had ≤ sum_of c.in_ok-account.account.now.entries =
+    rw c.in_ok-account.ensures.found at c.requires in
     omega (arith, part, account_within c.args.tenant.now c.args.self.now.accounts c.in_ok-account.account.now c.in_ok-account.ensures.found, c.args.self.now.summed)
 
 pub overflow_add-total : goal.overflow_add-total
 overflow_add-total c =
-    let part : c.args.had ≤ sum_of c.in_ok-account.account.now.entries = rw c.in_ok-account.ensures.found at c.requires in
+    let part : c.args.had ≤ sum_of c.in_ok-account.account.now.entries =
+    rw c.in_ok-account.ensures.found at c.requires in
     omega (arith, part, account_within c.args.tenant.now c.args.self.now.accounts c.in_ok-account.account.now c.in_ok-account.ensures.found, c.args.self.now.summed, c.bytes.ensures.0, c.in-Some.ensures)
 
 pub returns-then-all-limit-clause-rejected : goal.returns-then-all-limit-clause-rejected
 returns-then-all-limit-clause-rejected c =
-    let part : c.args.had ≤ sum_of c.in_ok-account.account.now.entries = rw c.in_ok-account.ensures.found at c.requires in
-    let within = account_within c.args.tenant.now c.args.self.now.accounts c.in_ok-account.account.now c.in_ok-account.ensures.found in
+    let part : c.args.had ≤ sum_of c.in_ok-account.account.now.entries =
+    rw c.in_ok-account.ensures.found at c.requires in
+    let within = account_within c.args.tenant.now c.args.self.now.accounts c.in_ok-account.account.now
+    c.in_ok-account.ensures.found in
     rw c.in_ok-account.ensures.found (
       omega (arith, part, within, c.args.self.now.summed),
       refl,
@@ -26,6 +30,8 @@ returns-then-all-limit-clause-rejected c =
 
 pub returns-clause-all : goal.returns-clause-all
 returns-clause-all c =
-    let part : c.args.had ≤ sum_of c.in_ok-account.account.now.entries = rw c.in_ok-account.ensures.found at c.requires in
-    let within = account_within c.args.tenant.now c.args.self.now.accounts c.in_ok-account.account.now c.in_ok-account.ensures.found in
+    let part : c.args.had ≤ sum_of c.in_ok-account.account.now.entries =
+    rw c.in_ok-account.ensures.found at c.requires in
+    let within = account_within c.args.tenant.now c.args.self.now.accounts c.in_ok-account.account.now
+    c.in_ok-account.ensures.found in
     (omega (arith, part, within, c.args.self.now.summed), omega arith)

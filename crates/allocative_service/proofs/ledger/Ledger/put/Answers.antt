@@ -12,20 +12,26 @@ check-requires c = had_in_account c.args.number c.args.had (account_of c.args.te
 
 pub invariant_of-self-in-Break-branch-2 : goal.invariant_of-self-in-Break-branch-2
 invariant_of-self-in-Break-branch-2 c =
-    let w = written c.args.tenant.now _ _ c.args.self.now.accounts (c.get_mut.follows.lender c.put.new.self) c.in-Some.ensures.value (c.get_mut.follows.holds c.put.new.self) in
+    let w = written c.args.tenant.now _ _ c.args.self.now.accounts (c.get_mut.follows.lender c.put.new.self)
+    c.in-Some.ensures.value (c.get_mut.follows.holds c.put.new.self) in
     record { summed = omega (arith, w.all, ap (λ (h : Holding). sum_of h.entries) c.in_err-total.ensures.unchanged, c.args.self.now.summed); within = c.args.self.now.within; fits = c.args.self.now.fits }
 
 pub returns-in_err-total-clause-unchanged : goal.returns-in_err-total-clause-unchanged
 returns-in_err-total-clause-unchanged c =
-    let w = written c.args.tenant.now _ _ c.args.self.now.accounts (c.get_mut.follows.lender c.put.new.self) c.in-Some.ensures.value (c.get_mut.follows.holds c.put.new.self) in
-    on_err_weaker c.from_residual-in_err-total.result (λ is. (w.same is, (refl, refl))) (OnErr-always c.from_residual-in_err-total.result c.in_err-total.ensures.unchanged)
+    let w = written c.args.tenant.now _ _ c.args.self.now.accounts (c.get_mut.follows.lender c.put.new.self)
+    c.in-Some.ensures.value (c.get_mut.follows.holds c.put.new.self) in
+    on_err_weaker c.from_residual-in_err-total.result (λ is. (w.same is, (refl, refl)))
+    (OnErr-always c.from_residual-in_err-total.result c.in_err-total.ensures.unchanged)
 
 pub invariant_of-self-2 : goal.invariant_of-self-2
 invariant_of-self-2 c =
-    let w = written c.args.tenant.now _ _ c.args.self.now.accounts (c.get_mut.follows.lender c.put.new.self) c.in-Some.ensures.value (c.get_mut.follows.holds c.put.new.self) in
-    let had : c.args.had ≡ unwrap_or (bytes_at c.args.number c.in-Some.account.now) 0 = rw (sym c.in-Some.ensures.value) at c.requires in
+    let w = written c.args.tenant.now _ _ c.args.self.now.accounts (c.get_mut.follows.lender c.put.new.self)
+    c.in-Some.ensures.value (c.get_mut.follows.holds c.put.new.self) in
+    let had : c.args.had ≡ unwrap_or (bytes_at c.args.number c.in-Some.account.now) 0 =
+    rw (sym c.in-Some.ensures.value) at c.requires in
     record {
-      summed = omega (arith, w.all, c.in_ok-total.ensures.sum, c.in_ok-total.ensures.put.total_is, had, c.in_ok-all.ensures.all.0);
+      summed = omega
+          (arith, w.all, c.in_ok-total.ensures.sum, c.in_ok-total.ensures.put.total_is, had, c.in_ok-all.ensures.all.0);
       within = c.in_ok-all.ensures.all.1;
       fits = c.args.self.now.fits;
     }
@@ -34,14 +40,16 @@ pub returns-clause-put : goal.returns-clause-put
 returns-clause-put c =
     let before = c.in-Some.account.now in
     let value = c.in-Some.ensures.value in
-    let w = written c.args.tenant.now _ _ c.args.self.now.accounts (c.get_mut.follows.lender c.put.new.self) value (c.get_mut.follows.holds c.put.new.self) in
+    let w = written c.args.tenant.now _ _ c.args.self.now.accounts (c.get_mut.follows.lender c.put.new.self) value
+    (c.get_mut.follows.holds c.put.new.self) in
     let had : c.args.had ≡ unwrap_or (bytes_at c.args.number before) 0 = rw (sym value) at c.requires in
     let puts = c.in_ok-total.ensures.put in
     record {
       before = before;
       after = c.put.new.self;
       account = sym value;
-      puts = subst (λ o. Puts c.args.number c.args.bytes (option_and_then (bytes_at c.args.number) o) c.in_ok-total.total before c.put.new.self) value puts;
+      puts = subst (λ o. Puts c.args.number c.args.bytes (option_and_then (bytes_at c.args.number) o)
+          c.in_ok-total.total before c.put.new.self) value puts;
       change = in_ledger _ _ _ _ w.one (refl, refl);
       all_is = omega (arith, w.all, c.in_ok-total.ensures.sum, puts.total_is, had, c.requires);
     }

@@ -6,10 +6,12 @@ use Rattle.allocative_service.proofs.ledger.Ledger.reset_peak.Goals as goal
 
 pub invariant_of-self-2 : goal.invariant_of-self-2
 invariant_of-self-2 c =
-    let w = written c.args.tenant.now _ _ c.args.self.now.accounts (c.get_mut.follows.lender c.reset_peak.new.self) c.in_ok-account.ensures.value (c.get_mut.follows.holds c.reset_peak.new.self) in
+    let w = written c.args.tenant.now _ _ c.args.self.now.accounts (c.get_mut.follows.lender c.reset_peak.new.self)
+    c.in_ok-account.ensures.value (c.get_mut.follows.holds c.reset_peak.new.self) in
     record { summed = omega (arith, w.all, ap (λ (h : Holding). sum_of h.entries) c.reset_peak.ensures.reset, c.args.self.now.summed); within = c.args.self.now.within; fits = c.args.self.now.fits }
 
 pub returns-clause-reset : goal.returns-clause-reset
 returns-clause-reset c =
-    let w = written c.args.tenant.now _ _ c.args.self.now.accounts (c.get_mut.follows.lender c.reset_peak.new.self) c.in_ok-account.ensures.value (c.get_mut.follows.holds c.reset_peak.new.self) in
+    let w = written c.args.tenant.now _ _ c.args.self.now.accounts (c.get_mut.follows.lender c.reset_peak.new.self)
+    c.in_ok-account.ensures.value (c.get_mut.follows.holds c.reset_peak.new.self) in
     record { before = c.in_ok-account.account.now; account = sym c.in_ok-account.ensures.value; change = rw (← c.reset_peak.ensures.reset) (in_ledger _ _ _ _ w.one (refl, refl)) }

@@ -10,4 +10,6 @@ use Rattle.test_types.proofs.helpers.MapFieldsAllocative.visit.Goals as goal
 pub returns : goal.returns
 returns c =
     visited_as c.visit_generic_map_fields.ensures.entered
-    (means_inside refl (means_list (each_shows (pair_shows (Some 1) (λ _. Field (codes "u8") (Some 1) Nothing) (Some 1) (λ _. Field (codes "u8") (Some 1) Nothing))) (YieldsList-from_rest _ c.iter.ensures.rest)))
+    (means_inside refl (means_list (each_shows
+    (pair_shows (Some 1) (λ _. Field (codes "u8") (Some 1) Nothing) (Some 1)
+    (λ _. Field (codes "u8") (Some 1) Nothing))) (YieldsList-from_rest _ c.iter.ensures.rest)))

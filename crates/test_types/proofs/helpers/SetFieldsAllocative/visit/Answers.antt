@@ -10,4 +10,6 @@ use Rattle.test_types.proofs.helpers.SetFieldsAllocative.visit.Goals as goal
 pub returns : goal.returns
 returns c =
     visited_as c.visit_generic_set_fields.ensures.entered
-    (means_inside refl (means_list (each_shows (field_of (codes "key") (Some 1) (λ _. Field (codes "u8") (Some 1) Nothing))) (YieldsList-from_slice _ (c.iter.ensures.rest ∙ c.deref.ensures.value))))
+    (means_inside refl (means_list (each_shows
+    (field_of (codes "key") (Some 1) (λ _. Field (codes "u8") (Some 1) Nothing)))
+    (YieldsList-from_slice _ (c.iter.ensures.rest ∙ c.deref.ensures.value))))

@@ -11,7 +11,8 @@ returns c =
     record {
       same_reference = called.same_reference;
       same_outer = called.same_outer;
-      shown = with_shows _ _ (Inside (codes "x") 1 Nothing) (rw c.new.ensures at called.calls) (λ x y r h. search rules);
+      shown = with_shows _ _ (Inside (codes "x") 1 Nothing) (rw c.new.ensures at called.calls)
+          (λ x y r h. search rules);
       only_if_full = inexact;
       takes_effect = tt;
     }

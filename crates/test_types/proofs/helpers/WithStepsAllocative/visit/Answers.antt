@@ -12,7 +12,8 @@ returns c =
     record {
       same_reference = called.same_reference;
       same_outer = called.same_outer;
-      shown = with_shows _ _ (Both (Inside (codes "x") 1 Nothing) (Inside (codes "y") 2 Nothing)) (rw c.new.ensures at called.calls) (λ x y r h. search (rules, showing));
+      shown = with_shows _ _ (Both (Inside (codes "x") 1 Nothing) (Inside (codes "y") 2 Nothing))
+          (rw c.new.ensures at called.calls) (λ x y r h. search (rules, showing));
       only_if_full = inexact;
       takes_effect = tt;
     }
