@@ -2,7 +2,7 @@
 -- parameter, and what such a call passes on.
 pub use Rattle.std.proofs.Common.{◌≡◌, ℕ, List, [], ◌∷◌, refl, sym, ap, subst, MutBor, Bool, Result, Ok, Err, IfOk, IfErr, OnOk, OnErr, true, false, Option, None, Some, IfSome}
 pub use Rattle.std.proofs.raw_atomic.Walks.{proved, proved_at}
-pub use Rattle.std.proofs.mem.Facts.{says_two, says_three}
+pub use Rattle.std.proofs.mem.Facts.{says_two}
 pub use Rattle.std.proofs.alloc.Calls.{Goes-blank}
 pub use base.Logic.{id⊢, ent, sep, emp}
 pub use base.Fml.{ftrue, flft, Fml, GName, fres}
@@ -31,7 +31,7 @@ pub use Rattle.allocative_graph.proofs.refusal.Refusal.TheLaws.{the_row_laws as 
 pub use Rattle.std.proofs.option.Option.TheLaws.{the_row_laws as option_laws}
 pub use Rattle.std.proofs.result.Result.TheLaws.{the_row_laws as result_laws}
 pub use Rattle.allocative.proofs.visitor.Visitor.TheLaws.{the_row_laws as visitor_laws}
-pub use denote.Triple.Walked.{Stays, stay_dropped, Goes-dropped, Goes-spent_ref, ends_at, walk_of, Goes}
+pub use denote.Triple.Walked.{Stays, stay_dropped, Goes-dropped, Goes-spent_ref, ends_at, says, walk_of, Goes}
 pub use seplogic.Ra.Ura.{Ura}
 pub use types.Logic.{Logic, sem}
 use denote.Struct.Members.{Lone}

@@ -1,6 +1,6 @@
 -- How a loop over an iterator shows one more item, and what a whole run of it shows.
-use Rattle.std.proofs.Common.{Bool, false, true, ℕ, zero, suc, ◌+◌, ◌*◌, ◌<◌, ◌^◌, length, filter_map, cond, count_by, is_some, arith, ◌⊎◌, inl, inr, List, [], ◌∷◌, ◌++◌, map, ◌≡◌, Option, None, Some, Result, Ok, Err, refl, sym, ◌∙◌, ap, subst}
-use Rattle.allocative.proofs.Common.{Outer, Yields, Refusal, Key, Forest, Kind, State, close_entry, Showing, Nothing, Both, InsideAs, Inside, Field, each_shows, slice_shows, OpensEntry, checked, size_product, are_shown_each, bytes_shown, CountsRun, in_any_order, Visitor, IsDeclared, CanTake, FailsOnlyIfFull, with_state, Entered, Means, ClosesEntry}
+use Rattle.std.proofs.Common.{Bool, false, true, ℕ, zero, suc, codes, ◌+◌, ◌*◌, ◌<◌, ◌^◌, length, filter_map, cond, count_by, is_some, arith, ◌⊎◌, inl, inr, List, [], ◌∷◌, ◌++◌, map, ◌≡◌, Option, None, Some, Result, Ok, Err, refl, sym, ◌∙◌, ap, subst}
+use Rattle.allocative.proofs.Common.{Outer, Yields, Refusal, Key, Forest, Kind, State, Showing, Nothing, Both, InsideAs, Inside, Field, each_shows, slice_shows, OpensEntry, checked, size_product, are_shown_each, bytes_shown, CountsRun, in_any_order, Visitor, IsDeclared, CanTake, FailsOnlyIfFull, with_state, Entered, Means, ClosesEntry}
 use Rattle.std.proofs.lemmas.List.{map-append, length-map}
 use Rattle.std.proofs.lemmas.List.Sums.{sum_by-cons}
 use Rattle.std.proofs.lemmas.List.Elements.{All-nil, All-cons, All-head, All-tail}
@@ -13,8 +13,11 @@ use Rattle.std.specs.List.{All}
 use Rattle.slab.specs.Slab.{entries_from}
 use Rattle.allocative.specs.Runs.{RefusesAlong, RefusesCounted, CanCount, IsOfRun}
 use Rattle.allocative.proofs.Meaning.{entered_if, entered_as, exact_never, exact_same}
-use Rattle.allocative.proofs.Exact.{declared_nothing, declared_first, declared_second, declared_both, declared_append, each_append, each_one, entry_fits, only_if_full_as, only_if_full_within}
-use Rattle.allocative.proofs.Within.{entered_both, entered_passed}
+use Rattle.allocative.specs.Iterators.{EntersRun, EntersData}
+use Rattle.allocative.specs.Making.{MakesPlanOrGives, Done, first_refused, first_entered}
+use Rattle.allocative.proofs.Exact.{declared_nothing, declared_first, declared_second, declared_both, declared_append, each_append, each_one, entry_fits, inexact, only_if_full_as, only_if_full_within, only_if_full_not_within}
+use Rattle.allocative.proofs.Visits.{adds_inline, entry_err, close_cause, not_entered, not_entered_cause}
+use Rattle.allocative.proofs.Within.{entered_both, entered_passed, gives_within, gives_refused}
 use Rattle.allocative.proofs.Bodies.{plain_slice, each_slice, entry_declared, checked_fits, none_of_it}
 use Rattle.allocative.proofs.Showing.{adds_weaker}
 
@@ -78,6 +81,33 @@ along_refused steps {s = s} t {v} {p} {x} xs is g n f z = record {
 pub along_within : {S A B : Type 0} {u e : Bool} {steps : S → Option A → S → Type 0} {s : S} {v : A → B} {q : List B → Showing} {k : Key} {n : ℕ} {o : Outer} {a b : Visitor} {t d : State} {r : Result (Unit {0}) Refusal} →
     OpensEntry u k (Some n) a.collector.now (Ok o) t → RefusesAlong e steps s v q (with_state a t) b r → ClosesEntry o b.collector.now d → RefusesAlong e steps s v (λ ys. InsideAs u k n (q ys)) a (with_state b d) r
 along_within g h e = record { along = λ i ys y. only_if_full_within g (h.along i ys y) e }
+
+-- An entry is entered with what is entered inside it, once it is left.
+entered_within : {p : Showing} {k : Key} {n : ℕ} {o : Outer} {a b : Visitor} {t d : State} {r : Result (Unit {0}) Refusal} →
+    OpensEntry false k (Some n) a.collector.now (Ok o) t → Entered false p (with_state a t) b r → ClosesEntry o b.collector.now d → Entered false (Inside k n p) a (with_state b d) r
+entered_within {r = Ok u} g h l = record { same_reference = h.same_reference; same_outer = h.same_outer; shown = adds_inline g refl h.shown l refl; cause = tt; only_if_full = inexact }
+entered_within {r = Err e} g h l = record { same_reference = h.same_reference; same_outer = h.same_outer; shown = entry_err g refl h.shown l; cause = close_cause l h.cause; only_if_full = inexact }
+
+-- The entry `data` was refused.
+pub data_refused : {S A B : Type 0} {e : Bool} {steps : S → Option A → S → Type 0} {s : S} {v : A → B} {p : B → Showing} {a : Visitor} {t : State} {x : Refusal} {r : Result (Unit {0}) Refusal} →
+    r ≡ Err x → OpensEntry false (codes "data") (Some 8) a.collector.now (Err x) t → EntersData e steps s v p a (with_state a t) r
+data_refused is g = rw is (record {
+  entered = record { same_reference = refl; same_outer = refl; shown = not_entered g; cause = not_entered_cause g; only_if_full = inexact };
+  only_if_full = record { along = λ i ys y. only_if_full_not_within g };
+  first = first_refused g;
+  exact = gives_refused g;
+})
+
+-- The entry `data` was made, the items of a run were entered inside it, and it was left.
+pub data_entered : {S A B : Type 0} {e : Bool} {steps : S → Option A → S → Type 0} {s : S} {v : A → B} {p : B → Showing} {a b : Visitor} {o : Outer} {t d : State} {r : Result (Unit {0}) Refusal} →
+    OpensEntry false (codes "data") (Some 8) a.collector.now (Ok o) t → EntersRun steps s v (each_shows p) (with_state a t) b r → RefusesAlong e steps s v (each_shows p) (with_state a t) b r →
+    MakesPlanOrGives steps s Done (with_state a t) b r → ClosesEntry o b.collector.now d → EntersData e steps s v p a (with_state b d) r
+data_entered g h f m l = record {
+  entered = entered_within g h l;
+  only_if_full = along_within g f l;
+  first = first_entered g;
+  exact = gives_within g m l;
+}
 
 -- ---- for callers: when the run is known
 -- If every run gives the same list, what was entered of some run was entered of that list.

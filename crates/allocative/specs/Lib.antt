@@ -5,6 +5,7 @@ pub mod Levels
 pub mod Making
 pub mod Closures
 pub mod Runs
+pub mod Iterators
 pub mod Bodies
 pub mod StdShows
 pub mod JsonShows

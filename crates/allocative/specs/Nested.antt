@@ -1,5 +1,5 @@
 -- How a visitor ends after a nested visitor borrowed its collector.
-use Rattle.std.specs.Prelude.{◌≡◌, ℕ, [], Bool, true, false, Option, None, Some, Result, Ok, Err, IfErr, IfOk, IfSome, OnOk, ⊤}
+use Rattle.std.specs.Prelude.{◌≡◌, ℕ, [], Bool, true, Option, None, Some, Result, Ok, Err, IfErr, IfOk, IfSome, OnOk, ⊤}
 use Rattle.std.specs.Borrow.{Fml, GName, MutBor, Lends, follows_so, name_if_ok}
 use mathlib.Core.Option as maybe
 use mir.Syntax.{named}
@@ -8,7 +8,7 @@ use Rattle.allocative_graph.specs.Path.{Key}
 use Rattle.allocative_graph.specs.Identity.{Identity}
 use Rattle.allocative_graph.specs.Collector.{State, Outer, no_outer}
 use Rattle.allocative_graph.specs.Visits.{OpensEntry, OpensShared, RefusesEntry}
-use Rattle.allocative.specs.Shared.{answered}
+use Rattle.allocative.specs.Shared.{AnswersShared, answered}
 use Rattle.allocative.specs.declared.visitor.Visitor.{Visitor}
 use Rattle.allocative.specs.contracts.visitor.Visitor as visitor
 use Rattle.allocative.specs.contracts.visitor.collector.Collector as collector
@@ -39,13 +39,15 @@ LendsNested is_unique k size = LendsAs (OpensEntry is_unique k size)
 abbrev pub Nests : Bool → Key → Option ℕ → Visitor → Visitor → Type 0
 Nests is_unique k size s v = OpensEntry is_unique k size s.collector.now (Ok v.outer) v.collector.now
 
--- The visitor v is at the content of the shared value that was entered at s.
-abbrev pub NestsContent : Key → ℕ → Identity → Visitor → Visitor → Type 0
-NestsContent k n i s v = OpensShared k n i s.collector.now (Ok true) v.collector.now
-
--- Leaving the content of a shared value restores nothing.
-abbrev pub IsContents : Visitor → Type 0
-IsContents v = v.outer ≡ no_outer
+-- What entering a pointer of n bytes to the shared value i at s returns: a visitor, none, or an error.
+pub record EntersShared (k : Key) (n : ℕ) (i : Identity) (s : Visitor) (r : Result (Option Visitor) Refusal) : Type 0
+  where
+    -- Leaving the visitor restores nothing.
+    pub outer : IfOk r (λ o. IfSome o (λ v. v.outer ≡ no_outer))
+    -- The visitor is at the value's content.
+    pub entered : IfOk r (λ o. IfSome o (λ v. OpensShared k n i s.collector.now (Ok true) v.collector.now))
+    -- Which of the three comes.
+    pub answer : AnswersShared k n i s.collector.now (answered r)
 
 -- An entry of a declared size at s is refused with e.
 abbrev pub IsRefused : Bool → Option ℕ → Visitor → Refusal → Type 0

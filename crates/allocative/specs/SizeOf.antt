@@ -1,5 +1,5 @@
--- What `size_of_unique` and `size_of_owned` return, and why they are refused.
-use Rattle.std.specs.Prelude.{◌≡◌, ℕ, ◌+◌, ◌<◌, ◌≤◌, ◌^◌, ◌⊎◌, Bool, false, IsTrue, Option, Some, Result, Ok, Err}
+-- What the calls for held and owned bytes return, and why they are refused.
+use Rattle.std.specs.Prelude.{◌≡◌, ℕ, ◌+◌, ◌<◌, ◌≤◌, ◌^◌, ◌⊎◌, Bool, IsTrue, Option, Some, Result, Ok, Err}
 use Rattle.allocative_graph.specs.declared.refusal.Refusal.{Refusal}
 use Rattle.allocative_graph.specs.declared.refusal.Refusal.TheVariants.{TooLarge}
 use Rattle.allocative_graph.specs.Forest.{Forest}
@@ -11,6 +11,10 @@ use Rattle.allocative_graph.specs.Visits.{Settles}
 use Rattle.allocative.specs.Exact.{CanTake}
 use Rattle.allocative.specs.Closures.{AnswersSum}
 use Rattle.allocative.specs.Visited.{Effect, WasVisited}
+
+-- The bytes that a value holds, by some forest that p allows.
+abbrev pub IsSizeOfHeld : Showing → ℕ → Type 0
+IsSizeOfHeld p bytes = (f : Forest) × p f × ShowsNoContent f × (bytes ≡ held f)
 
 -- The bytes of a value: those that it holds, by some forest that p allows, and those of its own declared size.
 abbrev pub IsSizeOfUnique : Option ℕ → Showing → ℕ → Type 0

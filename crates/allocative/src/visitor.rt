@@ -1,12 +1,12 @@
 //! Visitors: places in a collector where values enter what they hold.
 #![tactic(auto, using(crate::proofs::Showing::showing))]
 
-ghost use Rattle.std.specs.Prelude.{◌≡◌, IfOk, IfErr, IfSome, Some, true, false};
+ghost use Rattle.std.specs.Prelude.{◌≡◌, IfOk, IfErr, Some, true, false};
 ghost use Rattle.allocative_graph.specs.Shows.{Inside, Nothing};
 ghost use Rattle.allocative.specs.Making.{MakesPlan, one};
-ghost use Rattle.allocative.specs.Visited.{Entered, WasVisited, Refused, Exits, collector_of};
-ghost use Rattle.allocative.specs.Nested.{LendsNested, LendsShared, Nests, NestsContent, IsContents, IsRefused};
-ghost use Rattle.allocative.specs.Shared.{AnswersShared, turned, answered};
+ghost use Rattle.allocative.specs.Visited.{Entered, WasVisited, Refused, Exits};
+ghost use Rattle.allocative.specs.Nested.{LendsNested, LendsShared, Nests, EntersShared, IsRefused};
+ghost use Rattle.allocative.specs.Shared.{turned};
 ghost use Rattle.std.specs.Borrow.{sem};
 
 pub mod by_hand;
@@ -134,9 +134,7 @@ impl Visitor<'_> {
         id: Identity,
     ) -> Result<Option<Visitor<'_>>, Refusal>
         ensures* lent { sem 𝓛 (LendsShared key size id self.entry result) }
-        ensures outer { IfOk result (λ o. IfSome o IsContents) }
-        ensures entered { IfOk result (λ o. IfSome o (NestsContent key size id self.old)) }
-        ensures answer { AnswersShared key size id (collector_of self.old) (answered result) }
+        ensures entered { EntersShared key size id self.old result }
     {
         turned_round(by_hand::enter_content(by_hand::collector_of(self), key, size, id))
     }
@@ -169,7 +167,7 @@ impl Visitor<'_> {
     /// What an object shows. This is the only call through the `dyn`, whose clauses callers cite. It is exact if the
     /// type of the object is.
     pub(crate) fn visit_object(&mut self, object: &dyn Allocative) -> Result<(), Refusal>
-        ensures entered { Entered (⟦<dyn Allocative as Allocative>⟧ object.now.0).is_exact
+        ensures entered { Entered (Allocative-dyn object.now).is_exact
             (may_show object.now) self.old self.new result }
         ensures visited { WasVisited (may_show object.now) (effect object.now)
             self.old.collector.now self.new.collector.now }

@@ -46,7 +46,8 @@ impl Model for FlameGraphBuilder {
 impl FlameGraphBuilder {
     /// An empty builder. The only error is that memory runs out.
     pub fn new(alloc: Global) -> Result<FlameGraphBuilder, Refusal>
-        ensures { MatchResult result (λ b. b ≡ Going (OfGraph no_entries)) (λ r. r ≡ Refusal.Memory) }
+        ensures { MatchResult result (λ b. b ≡ Going (OfGraph no_entries))
+            (λ r. r ≡ Refusal.Memory) }
     {
         Ok(FlameGraphBuilder {
             collector: Collector::graph(alloc)?,
@@ -87,7 +88,7 @@ impl FlameGraphBuilder {
     /// with `TooLarge` if not all that the root may show can be added.
     pub fn visit_root(&mut self, root: &dyn Allocative) -> Result<(), Refusal>
         ensures visits_root { VisitsRoot (may_show root.now) self.old result self.new }
-        ensures only_if_full { RootFailsOnlyIfFull (⟦<dyn Allocative as Allocative>⟧ root.now.0).is_exact
+        ensures only_if_full { RootFailsOnlyIfFull (Allocative-dyn root.now).is_exact
             (may_show root.now) self.old result self.new }
     {
         self.check()?;
@@ -98,7 +99,8 @@ impl FlameGraphBuilder {
     /// exact type is refused for, is as in `visit_root`.
     pub fn visit_value<T: Allocative>(&mut self, root: &T) -> Result<(), Refusal>
         ensures visits_root { VisitsRoot (T.may_show root.now) self.old result self.new }
-        ensures only_if_full { RootFailsOnlyIfFull T.is_exact (T.may_show root.now) self.old result self.new }
+        ensures only_if_full { RootFailsOnlyIfFull T.is_exact (T.may_show root.now)
+            self.old result self.new }
     {
         self.check()?;
         self.collector.visit_value(root)

@@ -16,8 +16,10 @@ impl FlameGraphBuilder {
     /// A builder that has not failed and has no open visitor refuses roots of an exact type only with `Memory`, or with
     /// `TooLarge` if not all that the roots may show together can be added.
     pub fn visit_values<T: Allocative>(&mut self, roots: &[T]) -> Result<(), Refusal>
-        ensures visits_root { VisitsRoot (each_shows T.may_show roots.now) self.old result self.new }
-        ensures only_if_full { RootFailsOnlyIfFull T.is_exact (each_shows T.may_show roots.now) self.old result self.new }
+        ensures visits_root { VisitsRoot (each_shows T.may_show roots.now)
+            self.old result self.new }
+        ensures only_if_full { RootFailsOnlyIfFull T.is_exact (each_shows T.may_show roots.now)
+            self.old result self.new }
     {
         self.check()?;
         for root in roots {

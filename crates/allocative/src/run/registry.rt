@@ -3,10 +3,9 @@
 
 ghost use Rattle.std.specs.Prelude.{◌≡◌, ◌++◌, ◌∷◌, [], MatchResult, IfOk, IfErr};
 ghost use Rattle.allocative_graph.specs.Shows.{each_shows};
-ghost use Rattle.allocative.specs.Roots.{roots_of};
+ghost use Rattle.allocative.specs.Roots.{roots_of, are_exact};
 ghost use Rattle.allocative_graph.specs.Visits.{VisitsRoot, IsProfileOf};
 ghost use Rattle.allocative.specs.Exact.{MayRefuseProfile, RootFailsOnlyIfFull};
-ghost use Rattle.std.specs.List.{list_all};
 
 use crate::{Allocative, FlameGraphBuilder, FlameGraphOutput, Refusal};
 use std::alloc::Global;
@@ -72,13 +71,10 @@ impl FlameGraphBuilder {
     /// If the types of all roots are exact, a builder that has not failed and has no open visitor refuses them only
     /// with `Memory`, or with `TooLarge` if not all that the roots may show together can be added.
     pub fn visit_global_roots(&mut self, registry: &Registry) -> Result<(), Refusal>
-        ensures visits_root { VisitsRoot
-            (each_shows (λ b. (⟦<dyn Allocative as Allocative>⟧ b.vtable).may_show b.value)
-            (roots_of registry.now)) self.old result self.new }
-        ensures only_if_full { RootFailsOnlyIfFull
-            (list_all (λ b. (⟦<dyn Allocative as Allocative>⟧ b.vtable).is_exact) (roots_of registry.now))
-            (each_shows (λ b. (⟦<dyn Allocative as Allocative>⟧ b.vtable).may_show b.value)
-            (roots_of registry.now)) self.old result self.new }
+        ensures visits_root { VisitsRoot (each_shows may_show (roots_of registry.now))
+            self.old result self.new }
+        ensures only_if_full { RootFailsOnlyIfFull (are_exact Allocative-box registry.now)
+            (each_shows may_show (roots_of registry.now)) self.old result self.new }
     {
         self.check()?;
         let roots = registry.roots();
@@ -98,12 +94,9 @@ impl FlameGraphBuilder {
 /// of all roots are exact, it is refused only with `Memory`, or with `TooLarge` if a flame graph cannot take all that
 /// the roots may show together.
 pub fn profile_roots(registry: &Registry) -> Result<FlameGraphOutput, Refusal>
-    ensures profile { IfOk result
-        (IsProfileOf
-        (each_shows (λ b. (⟦<dyn Allocative as Allocative>⟧ b.vtable).may_show b.value) (roots_of registry.now))) }
-    ensures refused { IfErr result
-        (MayRefuseProfile (list_all (λ b. (⟦<dyn Allocative as Allocative>⟧ b.vtable).is_exact) (roots_of registry.now))
-        (each_shows (λ b. (⟦<dyn Allocative as Allocative>⟧ b.vtable).may_show b.value) (roots_of registry.now))) }
+    ensures profile { IfOk result (IsProfileOf (each_shows may_show (roots_of registry.now))) }
+    ensures refused { IfErr result (MayRefuseProfile (are_exact Allocative-box registry.now)
+        (each_shows may_show (roots_of registry.now))) }
 {
     let mut builder = FlameGraphBuilder::new(*registry.roots.allocator())?;
     builder.visit_global_roots(registry)?;

@@ -1,10 +1,8 @@
 //! The bytes that values hold on the heap, and those that they own.
 
-ghost use Rattle.std.specs.Prelude.{◌≡◌, IfOk, IfErr};
-ghost use Rattle.allocative_graph.specs.Forest.{Forest};
-ghost use Rattle.allocative_graph.specs.Held.{held, ShowsNoContent};
+ghost use Rattle.std.specs.Prelude.{IfOk, IfErr};
 ghost use Rattle.allocative.specs.Closures.{KeepsVisitor, CalledAtRoot, AnswersSum};
-ghost use Rattle.allocative.specs.SizeOf.{IsSizeOfUnique, MayRefuseHeld, MayRefuseSize, AnswersSize, AnswersVisit, IsSizeOfOwned, MayRefuseOwned, AnswersOwned};
+ghost use Rattle.allocative.specs.SizeOf.{IsSizeOfHeld, IsSizeOfUnique, MayRefuseHeld, MayRefuseSize, AnswersSize, AnswersVisit, IsSizeOfOwned, MayRefuseOwned, AnswersOwned};
 
 use crate::visitor::collector::Collector;
 use crate::{Allocative, Described, Refusal, Visitor};
@@ -19,9 +17,9 @@ use crate::{Allocative, Described, Refusal, Visitor};
 /// An object of an exact type is refused with TooLarge alone: if what it may show asks for a declared size that is
 /// not there, or if some of what it may show does not fit.
 pub fn size_of_unique_allocated_data(root: &dyn Allocative) -> Result<usize, Refusal>
-    ensures held { IfOk result (λ s. (f : Forest) × may_show root.now f × ShowsNoContent f × (s ≡ held f)) }
+    ensures held { IfOk result (IsSizeOfHeld (may_show root.now)) }
     ensures refused { IfErr result
-        (MayRefuseHeld (⟦<dyn Allocative as Allocative>⟧ root.now.0).is_exact (may_show root.now)) }
+        (MayRefuseHeld (Allocative-dyn root.now).is_exact (may_show root.now)) }
     ensures answer { AnswersVisit (may_show root.now) (effect root.now) AnswersSum result }
 {
     let mut collector = Collector::held();

@@ -29,7 +29,8 @@ pub fn profile_in_two<T: Allocative + Described>(
     left: &[T],
     right: &[T],
 ) -> Result<FlameGraph, Refusal>
-    ensures sum { IfOk result (IsSumOfTwo (each_shows T.may_show left.now) (each_shows T.may_show right.now)) }
+    ensures sum { IfOk result
+        (IsSumOfTwo (each_shows T.may_show left.now) (each_shows T.may_show right.now)) }
     ensures refused { IfErr result
         (RefusesInTwo T.is_exact (each_shows T.may_show left.now) (each_shows T.may_show right.now)) }
 {

@@ -404,7 +404,7 @@ impl Collector {
     /// cause. A collector that is closed refuses an object of an exact type only if it must.
     pub(crate) fn visit_object(&mut self, root: &dyn Allocative) -> Result<(), Refusal>
         ensures visits_root { VisitsRoot (may_show root.now) self.old result self.new }
-        ensures only_if_full { RootFailsOnlyIfFull (⟦<dyn Allocative as Allocative>⟧ root.now.0).is_exact
+        ensures only_if_full { RootFailsOnlyIfFull (Allocative-dyn root.now).is_exact
             (may_show root.now) self.old result self.new }
         ensures visited { VisitsRootWithEffect (may_show root.now) (effect root.now)
             self.old self.new result }
@@ -418,7 +418,8 @@ impl Collector {
     /// Visits a value of a known type by a root visitor, with no trait object.
     pub(crate) fn visit_value<T: Allocative>(&mut self, root: &T) -> Result<(), Refusal>
         ensures visits_root { VisitsRoot (T.may_show root.now) self.old result self.new }
-        ensures only_if_full { RootFailsOnlyIfFull T.is_exact (T.may_show root.now) self.old result self.new }
+        ensures only_if_full { RootFailsOnlyIfFull T.is_exact (T.may_show root.now)
+            self.old result self.new }
         ensures visited { VisitsRootWithEffect (T.may_show root.now) (T.effect root.now)
             self.old self.new result }
     {

@@ -30,7 +30,8 @@ impl Visitor<'_> {
         size: Option<usize>,
         inside: P,
     ) -> Result<(), Refusal>
-        ensures entered { Entered P.is_exact (Field key size (P.may_show inside)) self.old self.new result }
+        ensures entered { Entered P.is_exact (Field key size (P.may_show inside))
+            self.old self.new result }
         ensures first { MakesFirst key size self.old self.new result }
     {
         let outer = self.collector.open_entry(key, size, false)?;
@@ -48,7 +49,8 @@ impl Visitor<'_> {
         name: Key,
         field: &T,
     ) -> Result<(), Refusal>
-        ensures entered { Entered T.is_exact (Field name T.size (T.may_show field.now)) self.old self.new result }
+        ensures entered { Entered T.is_exact (Field name T.size (T.may_show field.now))
+            self.old self.new result }
         ensures first { MakesFirst name T.size self.old self.new result }
     {
         self.visit_inside(name, T::size(), field)
@@ -90,15 +92,17 @@ impl Visitor<'_> {
 
     /// One inline entry `str` of the text's length in bytes. The errors are those of `enter`.
     pub fn visit_str(&mut self, text: &str) -> Result<(), Refusal>
-        ensures entered { Entered true (Inside (codes "str") (length text.now) Nothing) self.old self.new result }
-        ensures exact { MakesPlan (one (codes "str") (Some (length text.now))) self.old self.new result }
+        ensures entered { Entered true (Inside (codes "str") (length text.now) Nothing)
+            self.old self.new result }
+        ensures exact { MakesPlan (one (codes "str") (Some (length text.now)))
+            self.old self.new result }
     {
         self.visit_simple(Key::new("str"), text.len())
     }
 
     // One unique entry of a pointer, with what the object shows inside it.
     fn visit_object_pointer(&mut self, object: &dyn Allocative) -> Result<(), Refusal>
-        ensures { Entered (⟦<dyn Allocative as Allocative>⟧ object.now.0).is_exact
+        ensures { Entered (Allocative-dyn object.now).is_exact
             (InsideUnique (codes "ptr") 8 (may_show object.now)) self.old self.new result }
     {
         let outer = self.collector.open_entry(Key::new("ptr"), Some(8), true)?;
@@ -113,7 +117,7 @@ impl Visitor<'_> {
     /// A collector that has failed returns its first cause. The errors of each entry are those of `enter`; the
     /// object's own errors come after them. It is exact if the type of the object is.
     pub fn visit_boxed_object(&mut self, object: &dyn Allocative) -> Result<(), Refusal>
-        ensures entered { Entered (⟦<dyn Allocative as Allocative>⟧ object.now.0).is_exact
+        ensures entered { Entered (Allocative-dyn object.now).is_exact
             (Inside (codes "Box") 8 (InsideUnique (codes "ptr") 8 (may_show object.now))) self.old self.new result }
         ensures first { MakesFirst (codes "Box") (Some 8) self.old self.new result }
     {

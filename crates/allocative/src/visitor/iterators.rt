@@ -1,15 +1,16 @@
 //! What is entered of the items that an iterator gives: one loop, which `EnterItem` tells how to enter each.
 #![tactic(auto, using(crate::proofs::Showing::showing))]
 
-ghost use Rattle.std.specs.Prelude.{Bool, false, ◌&&◌, codes, Some};
+ghost use Rattle.std.specs.Prelude.{Bool, ◌&&◌, codes};
 ghost use Rattle.std.specs.Iterator.{IsFinite};
 ghost use Rattle.std.specs.Map.Iter.{deref, deref_pair};
 ghost use Rattle.allocative_graph.specs.Forest.{Forest};
-ghost use Rattle.allocative_graph.specs.Shows.{Inside, each_shows, slice_shows};
-ghost use Rattle.allocative.specs.Making.{MakesPlanOrGives, MakesFirst, Keeps, MakesPlanRun, Done, one};
+ghost use Rattle.allocative_graph.specs.Shows.{each_shows, slice_shows};
+ghost use Rattle.allocative.specs.Making.{MakesPlanOrGives, Keeps, MakesPlanRun, Done};
 ghost use Rattle.allocative.specs.Visited.{Entered};
 ghost use Rattle.allocative.specs.Bodies.{are_shown_each};
-ghost use Rattle.allocative.specs.Runs.{IsOfRun, RefusesAlong, RefusesCounted, CountsRun, field_of, pair_shows};
+ghost use Rattle.allocative.specs.Iterators.{EntersRun, EntersData};
+ghost use Rattle.allocative.specs.Runs.{RefusesAlong, RefusesCounted, CountsRun, field_of, pair_shows};
 
 use crate::visitor::slices::are_shown_each;
 use crate::{Allocative, Described, Key, Part, Refusal, Visitor};
@@ -115,10 +116,10 @@ impl Visitor<'_> {
     ) -> Result<(), Refusal>
         requires can { I.can_next items }
         requires ends { IsFinite (I.remaining items) }
-        ensures entered { Entered false
-            (IsOfRun I.next_gives items E.seen (each_shows (E.may_show how))) self.old self.new result }
-        ensures only_if_full { RefusesAlong E.is_exact
-            I.next_gives items E.seen (each_shows (E.may_show how)) self.old self.new result }
+        ensures entered { EntersRun I.next_gives items E.seen
+            (each_shows (E.may_show how)) self.old self.new result }
+        ensures only_if_full { RefusesAlong E.is_exact I.next_gives items E.seen
+            (each_shows (E.may_show how)) self.old self.new result }
         ensures kept { Keeps self.old self.new result }
         ensures exact { MakesPlanOrGives I.next_gives items Done self.old self.new result }
     {
@@ -142,9 +143,8 @@ impl Visitor<'_> {
     ) -> Result<(), Refusal>
         requires can { I.can_next items }
         requires ends { IsFinite (I.remaining items) }
-        ensures entered { Entered false
-            (IsOfRun I.next_gives items deref
-            (slice_shows T.name T.size T.needs_drop T.may_show)) self.old self.new result }
+        ensures entered { EntersRun I.next_gives items deref
+            (slice_shows T.name T.size T.needs_drop T.may_show) self.old self.new result }
         ensures only_if_full { RefusesCounted T.is_exact T.size I.next_gives items deref
             (slice_shows T.name T.size T.needs_drop T.may_show) self.old self.new result }
         ensures kept { Keeps self.old self.new result }
@@ -172,15 +172,8 @@ impl Visitor<'_> {
     >(&mut self, entries: I) -> Result<(), Refusal>
         requires can { I.can_next entries }
         requires ends { IsFinite (I.remaining entries) }
-        ensures entered { Entered false
-            (Inside (codes "data") 8
-            (IsOfRun I.next_gives entries deref_pair
-            (each_shows (pair_shows K.size K.may_show V.size V.may_show)))) self.old self.new result }
-        ensures only_if_full { RefusesAlong (K.is_exact && V.is_exact) I.next_gives entries deref_pair
-            (λ es. Inside (codes "data") 8
-            (each_shows (pair_shows K.size K.may_show V.size V.may_show) es)) self.old self.new result }
-        ensures first { MakesFirst (codes "data") (Some 8) self.old self.new result }
-        ensures exact { MakesPlanOrGives I.next_gives entries (one (codes "data") (Some 8)) self.old self.new result }
+        ensures { EntersData (K.is_exact && V.is_exact) I.next_gives entries deref_pair
+            (pair_shows K.size K.may_show V.size V.may_show) self.old self.new result }
     {
         let outer = self.collector.open_entry(Key::new("data"), Some(8), false)?;
         let answer = self.visit_run(KeyAndValue, entries);
@@ -197,15 +190,8 @@ impl Visitor<'_> {
     >(&mut self, entries: I) -> Result<(), Refusal>
         requires can { I.can_next entries }
         requires ends { IsFinite (I.remaining entries) }
-        ensures entered { Entered false
-            (Inside (codes "data") 8
-            (IsOfRun I.next_gives entries deref
-            (each_shows (field_of (codes "key") K.size K.may_show)))) self.old self.new result }
-        ensures only_if_full { RefusesAlong K.is_exact I.next_gives entries deref
-            (λ ks. Inside (codes "data") 8
-            (each_shows (field_of (codes "key") K.size K.may_show) ks)) self.old self.new result }
-        ensures first { MakesFirst (codes "data") (Some 8) self.old self.new result }
-        ensures exact { MakesPlanOrGives I.next_gives entries (one (codes "data") (Some 8)) self.old self.new result }
+        ensures { EntersData K.is_exact I.next_gives entries deref
+            (field_of (codes "key") K.size K.may_show) self.old self.new result }
     {
         let outer = self.collector.open_entry(Key::new("data"), Some(8), false)?;
         let answer = self.visit_run(FieldUnder(Key::new("key")), entries);

@@ -42,7 +42,8 @@ impl Visitor<'_> {
         name: Key,
         count: Option<usize>,
     ) -> Result<(), Refusal>
-        ensures entered { Entered true (Field name (size_product T.size count) Nothing) self.old self.new result }
+        ensures entered { Entered true (Field name (size_product T.size count) Nothing)
+            self.old self.new result }
         ensures exact { MakesPlan (one name (size_product T.size count)) self.old self.new result }
     {
         self.visit_sized(name, bytes_of::<T>(count))
@@ -51,7 +52,8 @@ impl Visitor<'_> {
     /// One inline entry of the bytes of `count` unused places. It is `TooLarge` if `bytes_of` returns
     /// `None`.
     pub(crate) fn visit_unused<T: Described>(&mut self, count: usize) -> Result<(), Refusal>
-        ensures entered { Entered true (bytes_shown (codes "unused_capacity") T.size count) self.old self.new result }
+        ensures entered { Entered true (bytes_shown (codes "unused_capacity") T.size count)
+            self.old self.new result }
         ensures exact { MakesPlan
             (one (codes "unused_capacity") (size_product T.size (Some count))) self.old self.new result }
     {
@@ -61,7 +63,8 @@ impl Visitor<'_> {
     /// What each item shows, in order.
     #[inline(always)]
     pub(crate) fn visit_each<T: Allocative>(&mut self, items: &[T]) -> Result<(), Refusal>
-        ensures entered { Entered T.is_exact (each_shows T.may_show items.now) self.old self.new result }
+        ensures entered { Entered T.is_exact (each_shows T.may_show items.now)
+            self.old self.new result }
         ensures kept { Keeps self.old self.new result }
         ensures exact { length items.now ≡ 0 → MakesPlan Done self.old self.new result }
     {
@@ -91,7 +94,8 @@ impl Visitor<'_> {
         &mut self,
         items: &[T],
     ) -> Result<(), Refusal>
-        ensures entered { Entered T.is_exact (data_shows T.size T.may_show items.now) self.old self.new result }
+        ensures entered { Entered T.is_exact (data_shows T.size T.may_show items.now)
+            self.old self.new result }
         ensures exact { length items.now ≡ 0 → MakesPlan Done self.old self.new result }
     {
         self.visit_run(FieldUnder(Key::new("data")), items.iter())
@@ -103,8 +107,10 @@ impl Visitor<'_> {
     /// A collector that has failed returns its first cause. The entry is `TooLarge` if the item has no size,
     /// even with no items, or if the bytes do not fit; its other errors are those of `enter`.
     pub fn visit_slice_of<T: Allocative + Described>(&mut self, items: &[T]) -> Result<(), Refusal>
-        ensures entered { Entered T.is_exact (slice_of T.name T.size T.may_show items.now) self.old self.new result }
-        ensures first { MakesFirst T.name (size_product T.size (Some (length items.now))) self.old self.new result }
+        ensures entered { Entered T.is_exact (slice_of T.name T.size T.may_show items.now)
+            self.old self.new result }
+        ensures first { MakesFirst T.name (size_product T.size (Some (length items.now)))
+            self.old self.new result }
         ensures exact { length items.now ≡ 0
             → MakesPlan (one T.name (size_product T.size (Some 0))) self.old self.new result }
     {
@@ -148,7 +154,8 @@ impl Visitor<'_> {
         requires { length items.now ≤ capacity }
         ensures entered { Entered T.is_exact
             (vec_body T.name T.size T.needs_drop T.may_show items.now capacity) self.old self.new result }
-        ensures first { MakesFirst (codes "capacity") (size_product T.size (Some capacity)) self.old self.new result }
+        ensures first { MakesFirst (codes "capacity") (size_product T.size (Some capacity))
+            self.old self.new result }
         ensures exact { VisitsNone T.needs_drop T.size items.now
             → MakesPlan (vec_plan T.name T.size T.needs_drop items.now capacity) self.old self.new result }
     {

@@ -1,8 +1,9 @@
 -- A hand-written proof of `enter_shared`: the collector is lent, a visitor of the content may hold it, and the result
 -- is converted.
-use Rattle.allocative.proofs.Lent.{visitor_row, collector_row, refusal_row, result_row, option_row, key_row, Lfts, RattleType, Lender, Nested, ℕ, key_laws, option_laws, refusal_laws, result_laws, visitor_laws, nest, one_value, at_values, ◌≡◌, List, [], ◌∷◌, refl, sym, ap, subst, MutBor, proved_at, says_three, rewrite, Goes-blank, id⊢, ftrue, flft, named, w64, Val, fact, tables, ‵, raw, ◌⊛◌, some, later, ◌$◌, ◌∵◌, !, qed, done, move, keep, drop, use1, use2, split, join, fsplit, fjoin, feq_i, feq_l, pick, await, suffices, frame, enter, addr, stop, no_more, and_then, returns, alloc_all, pass_all, free_all, look_at, get, through, sets, lands_as, usize, yes, no, shows, uint_vals, uint_Tells, MutRef, mut_vals, mut_Tells, plain, named_lft, nothing, heard, peeks, only, calls_at, Lasts, lasts, triple_of, framed, Stays, stay_dropped, Goes-dropped, Goes-spent_ref, ends_at, true, false, Ok, IfOk, IfErr, OnOk, OnErr, Option, None, Some, Result, Err, IfSome, name_if_ok, State, OpensShared, LendsCollector, EndsWith, EndsWithout, with_state, AnswersShared, told, turned, Refusal, Key, Identity, enters_first, Visitor, GName, follows_so, LendsPointed, OpensSharedAt, WpFn, Is, walk_of}
+use Rattle.allocative.proofs.Lent.{visitor_row, collector_row, refusal_row, result_row, option_row, key_row, Lfts, RattleType, Lender, Nested, ℕ, key_laws, option_laws, refusal_laws, result_laws, visitor_laws, nest, one_value, at_values, ◌≡◌, List, [], ◌∷◌, refl, sym, ap, subst, MutBor, proved_at, says, rewrite, Goes-blank, id⊢, ftrue, flft, named, w64, Val, fact, tables, ‵, raw, ◌⊛◌, some, later, ◌$◌, ◌∵◌, !, qed, done, move, keep, drop, use1, use2, split, join, fsplit, fjoin, feq_i, feq_l, pick, await, suffices, frame, enter, addr, stop, no_more, and_then, returns, alloc_all, pass_all, free_all, look_at, get, through, sets, lands_as, usize, yes, no, shows, uint_vals, uint_Tells, MutRef, mut_vals, mut_Tells, plain, named_lft, nothing, heard, peeks, only, calls_at, Lasts, lasts, triple_of, framed, Stays, stay_dropped, Goes-dropped, Goes-spent_ref, ends_at, true, false, Ok, IfOk, IfErr, OnOk, OnErr, Option, None, Some, Result, Err, IfSome, name_if_ok, State, OpensShared, LendsCollector, EndsWith, EndsWithout, with_state, AnswersShared, told, turned, Refusal, Key, Identity, enters_first, Visitor, GName, follows_so, LendsPointed, OpensSharedAt, WpFn, Is, walk_of}
 use mathlib.Core.Option as maybe
-use Rattle.allocative.specs.Nested.{IsContents, LendsShared, NestsContent, name_in}
+use Rattle.allocative.specs.Nested.{EntersShared, LendsShared, name_in}
+use Rattle.allocative_graph.specs.Collector.{no_outer}
 use Rattle.allocative.specs.Shared.{answered}
 use Rattle.allocative_graph.specs.contracts.shared.Identity as identity
 use Rattle.allocative_graph.proofs.shared.Identity.TheLaws.{the_row_laws as identity_laws}
@@ -151,8 +152,9 @@ enter_shared_spec 𝓤 𝓛 𝓜 𝓡 wired =
     -- [nothing of the parameters; the tokens; what self ends as; the result]
     move ! (0 ∷ 3 ∷ []) $ join ! $ move ! (1 ∷ 0 ∷ []) $ join ! $ frame ! $
     let entered = subst (λ (x : State). IfOk res (OpensSharedAt k n j x)) same content in
-    says_three ! (
-      shown_by (OpensSharedAt k n j s.now.collector.now) IsContents res out is_turned (λ v h. h.0) entered,
-      shown_by (OpensSharedAt k n j s.now.collector.now) (NestsContent k n j s.now) res out is_turned (λ v h. h.1) entered,
-      rw is_turned (answer_at k n j res s.now.collector.now entered (subst (λ (x : State). IfErr res (λ o. AnswersShared k n j x (told o))) same refused)),
-    ) $ done !))))))))))))))))))))
+    let shown : EntersShared k n j s.now out = record {
+      outer = shown_by (OpensSharedAt k n j s.now.collector.now) (λ v. v.outer ≡ no_outer) res out is_turned (λ v h. h.0) entered;
+      entered = shown_by (OpensSharedAt k n j s.now.collector.now) (λ v. OpensShared k n j s.now.collector.now (Ok true) v.collector.now) res out is_turned (λ v h. h.1) entered;
+      answer = rw is_turned (answer_at k n j res s.now.collector.now entered (subst (λ (x : State). IfErr res (λ o. AnswersShared k n j x (told o))) same refused));
+    } in
+    says ! shown $ done !))))))))))))))))))))

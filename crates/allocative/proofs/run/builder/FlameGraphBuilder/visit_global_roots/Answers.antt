@@ -11,7 +11,7 @@ loop-root-preserved g c =
     c.loop-root.invariant (rw c.as_ref.ensures.1 at c.in_ok-visit_root.ensures.visits_root) c.loop-root-test.true c.root-item.is
 
 pub returns-in_err-visit_root-clause-only_if_full : goal.returns-in_err-visit_root-clause-only_if_full
-returns-in_err-visit_root-clause-only_if_full g c = rw (← c.roots-roots.ensures)
+returns-in_err-visit_root-clause-only_if_full g c = rw c.roots-roots.ensures at
     (only_if_full_indexed _ _ (λ b. (goal.Allocative-dyn g (b.vtable, b.value)).may_show b.value) c.roots-roots.result.now c.loop-root.root-index c.root-item.result
     c.args.self.now c.loop-root.self c.visit_root.new.self tt
     (one_of_exact (λ b. (goal.Allocative-dyn g (b.vtable, b.value)).is_exact) c.roots-roots.result.now c.loop-root.root-index c.root-item.result c.loop-root-test.true c.root-item.is)
