@@ -1,32 +1,40 @@
 -- What a visit shows that takes the collector out of its visitor and enters by hand.
 use Rattle.std.proofs.Common.{◌≡◌, ℕ, suc, Bool, true, false, Some, Result, Ok, refl, ap, subst, arith}
-use Rattle.allocative.proofs.Common.{Refusal, Key, Identity, Live, Outer, State, Showing, Nothing, Both, Inside, InsideUnique, AddsForest, forgotten, OpensEntry, ClosesEntry, OpensShared, enters_first, Visitor, with_state, Visited, Entered}
+use Rattle.allocative.proofs.Common.{Refusal, Key, Identity, Live, Outer, State, Showing, Nothing, Both, Inside}
+use Rattle.allocative.proofs.Common.{InsideUnique, AddsForest, forgotten, OpensEntry, ClosesEntry, OpensShared}
+use Rattle.allocative.proofs.Common.{enters_first, Visitor, with_state, Visited, Entered}
 use Rattle.allocative.specs.Visited.{AnyEffect}
 use Rattle.allocative.proofs.Exact.{inexact}
 use Rattle.allocative.proofs.Visits.{adds_nothing, adds_both, adds_inline, adds_unique}
 
 -- What the collector was shown, the visit shows.
-pub shown_by_hand : {p : Showing} {a : Visitor} {s t : State} {r : Result (Unit {0}) Refusal} → s ≡ a.collector.now → AddsForest p s r t → Visited false p AnyEffect a (with_state a t) r
+pub shown_by_hand : {p : Showing} {a : Visitor} {s t : State} {r : Result (Unit {0}) Refusal} → s ≡ a.collector.now →
+    AddsForest p s r t → Visited false p AnyEffect a (with_state a t) r
 shown_by_hand {p} {t = t} {r = r} e h =
     let P : State → Type 0 = λ s. AddsForest p s r t in
     record { same_reference = refl; same_outer = refl; shown = subst P e h; only_if_full = inexact; takes_effect = tt }
 
 -- The same, if a part is entered afterwards.
-pub shown_before : {p q : Showing} {e : Bool} {a b : Visitor} {s t : State} {u : Unit {0}} {r : Result (Unit {0}) Refusal} → s ≡ a.collector.now → AddsForest p s (Ok u) t → Entered e q (with_state a t) b r → Visited false (Both p q) AnyEffect a b r
+pub shown_before : {p q : Showing} {e : Bool} {a b : Visitor} {s t : State} {u : Unit {0}}
+    {r : Result (Unit {0}) Refusal} → s ≡ a.collector.now → AddsForest p s (Ok u) t → Entered e q (with_state a t) b r →
+    Visited false (Both p q) AnyEffect a b r
 shown_before {p} {a = a} {t = t} {u = u} e h k =
     let P : State → Type 0 = λ s. AddsForest p s (Ok u) t in
     record { same_reference = k.same_reference; same_outer = k.same_outer; shown = adds_both (subst P e h) k.shown; only_if_full = inexact; takes_effect = tt }
 
 -- An entry with nothing inside it.
-pub inline_alone : {k : Key} {n : ℕ} {o q : Outer} {s t d : State} {x : Unit {0}} → OpensEntry false k (Some n) s (Ok o) t → ClosesEntry q t d → q ≡ o → AddsForest (Inside k n Nothing) s (Ok x) d
+pub inline_alone : {k : Key} {n : ℕ} {o q : Outer} {s t d : State} {x : Unit {0}} →
+    OpensEntry false k (Some n) s (Ok o) t → ClosesEntry q t d → q ≡ o → AddsForest (Inside k n Nothing) s (Ok x) d
 inline_alone g l e = adds_inline g refl (adds_nothing _ tt) l e
 
 -- Opening a unique entry and closing it at once shows a unique entry with nothing inside it.
-pub unique_alone : {k : Key} {n : ℕ} {o q : Outer} {s t d : State} {x : Unit {0}} → OpensEntry true k (Some n) s (Ok o) t → ClosesEntry q t d → q ≡ o → AddsForest (InsideUnique k n Nothing) s (Ok x) d
+pub unique_alone : {k : Key} {n : ℕ} {o q : Outer} {s t d : State} {x : Unit {0}} →
+    OpensEntry true k (Some n) s (Ok o) t → ClosesEntry q t d → q ≡ o → AddsForest (InsideUnique k n Nothing) s (Ok x) d
 unique_alone g l e = adds_unique g refl (adds_nothing _ tt) l e
 
 -- A shared value's content whose visitor is forgotten: more visitors are open than before.
-pub content_forgotten : {q : Showing} {k : Key} {n : ℕ} {i : Identity} {s t : State} {v : Unit {0}} → OpensShared k n i s (Ok true) t → AddsForest q s (Ok v) t
+pub content_forgotten : {q : Showing} {k : Key} {n : ℕ} {i : Identity} {s t : State} {v : Unit {0}} →
+    OpensShared k n i s (Ok true) t → AddsForest q s (Ok v) t
 content_forgotten (enters_first {c = c} {d = d} r h e) =
     let f : d.open_visitors ≡ suc c.open_visitors = ap (λ (x : Live). x.open_visitors) e in
     forgotten refl (omega (arith, f))

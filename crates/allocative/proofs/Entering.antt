@@ -1,5 +1,18 @@
 -- A call that enters: it lends the visitor's collector to a call of `by_hand`, and a nested visitor may hold it.
-use Rattle.allocative.proofs.Lent.{visitor_row, collector_row, refusal_row, result_row, key_row, Lender, Answer, key_laws, refusal_laws, result_laws, visitor_laws, nest, one_value, at_values, ◌≡◌, List, [], ◌∷◌, refl, ap, subst, MutBor, proved_at, says_two, Goes-blank, id⊢, ftrue, flft, named, Val, fact, tables, ‵, raw, ◌⊛◌, some, later, ◌$◌, ◌∵◌, !, qed, done, move, keep, drop, use1, use2, split, join, fsplit, fjoin, feq_i, feq_l, pick, await, suffices, frame, enter, addr, stop, no_more, and_then, returns, alloc_all, pass_all, free_all, look_at, get, through, sets, lands_as, yes, no, shows, MutRef, mut_vals, mut_Tells, plain, named_lft, nothing, heard, peeks, only, calls_at, Lasts, lasts, triple_of, framed, Stays, stay_dropped, Goes-spent_ref, ends_at, Result, Ok, Err, IfOk, IfErr, OnOk, OnErr, name_if_ok, Refusal, Key, State, Visitor, LendsCollector, with_state, Fml, RestsIfErr, follows_so, Ura, sep, emp, Logic, sem, Running, WpFn, Closed, Ty, Lifetime, erased, Fn, Callee, local, value_local, seq, assign, addr_of, deref, call, copy, place, return, Is, Typed, RattleType, RefMutOf, rest, layout, Laws, Ended, Clauses, closing, Meets, walk_of, Goes}
+use Rattle.allocative.proofs.Lent.{visitor_row, collector_row, refusal_row, result_row, key_row, Lender, Answer}
+use Rattle.allocative.proofs.Lent.{key_laws, refusal_laws, result_laws, visitor_laws, nest, one_value, at_values, ◌≡◌}
+use Rattle.allocative.proofs.Lent.{List, [], ◌∷◌, refl, ap, subst, MutBor, proved_at, says_two, Goes-blank, id⊢, ftrue}
+use Rattle.allocative.proofs.Lent.{flft, named, Val, fact, tables, ‵, raw, ◌⊛◌, some, later, ◌$◌, ◌∵◌, !, qed, done}
+use Rattle.allocative.proofs.Lent.{move, keep, drop, use1, use2, split, join, fsplit, fjoin, feq_i, feq_l, pick, await}
+use Rattle.allocative.proofs.Lent.{suffices, frame, enter, addr, stop, no_more, and_then, returns, alloc_all, pass_all}
+use Rattle.allocative.proofs.Lent.{free_all, look_at, get, through, sets, lands_as, yes, no, shows, MutRef, mut_vals}
+use Rattle.allocative.proofs.Lent.{mut_Tells, plain, named_lft, nothing, heard, peeks, only, calls_at, Lasts, lasts}
+use Rattle.allocative.proofs.Lent.{triple_of, framed, Stays, stay_dropped, Goes-spent_ref, ends_at, Result, Ok, Err}
+use Rattle.allocative.proofs.Lent.{IfOk, IfErr, OnOk, OnErr, name_if_ok, Refusal, Key, State, Visitor, LendsCollector}
+use Rattle.allocative.proofs.Lent.{with_state, Fml, RestsIfErr, follows_so, Ura, sep, emp, Logic, sem, Running, WpFn}
+use Rattle.allocative.proofs.Lent.{Closed, Ty, Lifetime, erased, Fn, Callee, local, value_local, seq, assign, addr_of}
+use Rattle.allocative.proofs.Lent.{deref, call, copy, place, return, Is, Typed, RattleType, RefMutOf, rest, layout}
+use Rattle.allocative.proofs.Lent.{Laws, Ended, Clauses, closing, Meets, walk_of, Goes}
 use mathlib.Core.List.{map}
 use Rattle.allocative_graph.specs.Collector as model
 use prog.Model.{Model}
@@ -12,7 +25,8 @@ abbrev At : Lifetime → RattleType
 At ℓ = visitor_row (record { mir = ℓ; lft = [] })
 
 -- How the lender ends, with a loan and without.
-ends_entered : (s : Visitor) (r : Result Visitor Refusal) (w z : State) → OnOk r (z ≡ w) → OnOk r (with_state s z ≡ with_state s w)
+ends_entered : (s : Visitor) (r : Result Visitor Refusal) (w z : State) → OnOk r (z ≡ w) →
+    OnOk r (with_state s z ≡ with_state s w)
 ends_entered s (Ok v) w z h = ap (with_state s) h
 ends_entered s (Err e) w z h = h
 
@@ -20,12 +34,14 @@ module _ (Step : State → Result model.Outer Refusal → State → Type 0) (s :
   abbrev EndsRefused : Result Visitor Refusal → Visitor → Type 0
   EndsRefused r v = IfErr r (λ e. Step s.collector.now (Err e) v.collector.now × (v ≡ with_state s v.collector.now))
 
-  ends_refused : (c : State) → c ≡ s.collector.now → (r : Result Visitor Refusal) (z : State) → OnErr r (IfErr r (λ e. Step c (Err e) z)) → EndsRefused r (with_state s z)
+  ends_refused : (c : State) → c ≡ s.collector.now → (r : Result Visitor Refusal) (z : State) →
+      OnErr r (IfErr r (λ e. Step c (Err e) z)) → EndsRefused r (with_state s z)
   ends_refused c i (Ok v) z h = h
   ends_refused c i (Err e) z h = let P : State → Type 0 = λ x. Step x (Err e) z in (subst P i h, refl)
 
 -- N is the type of the last parameter. In says what entering does, and No how it is refused.
-module _ (N : RattleType) (told : Laws N) (In : Key → N.Denot → State → Result model.Outer Refusal → State → Type 0) (No : Key → N.Denot → State → Refusal → Type 0) where
+module _ (N : RattleType) (told : Laws N) (In : Key → N.Denot → State → Result model.Outer Refusal → State → Type 0)
+    (No : Key → N.Denot → State → Refusal → Type 0) where
   -- The code, where h is the collector's call.
   abbrev function : Callee → Fn
   function h = record {
@@ -34,31 +50,43 @@ module _ (N : RattleType) (told : Laws N) (In : Key → N.Denot → State → Re
     ty_params = [];
     givens = 0;
     params = 3;
-    locals = map (λ T. local (layout T) value_local) (result_row (At (named 0)) refusal_row ∷ MutRef (named 0) [] (At (named 1)) ∷ key_row ∷ N ∷ MutRef erased [] collector_row ∷ MutRef erased [] (At erased) ∷ []);
-    body = seq (assign (place 5 []) (addr_of (place 1 (deref (layout (At erased)) ∷ [])))) (seq (call g.Key.name (copy (place 5 []) ∷ []) (place 4 []))
+    locals = map (λ T. local (layout T) value_local)
+        (result_row (At (named 0)) refusal_row ∷ MutRef (named 0) [] (At (named 1)) ∷ key_row ∷ N ∷ MutRef erased []
+        collector_row ∷ MutRef erased [] (At erased) ∷ []);
+    body = seq (assign (place 5 []) (addr_of (place 1 (deref (layout (At erased)) ∷ []))))
+        (seq (call g.Key.name (copy (place 5 []) ∷ []) (place 4 []))
         (seq (call h (copy (place 4 []) ∷ copy (place 2 []) ∷ copy (place 3 []) ∷ []) (place 0 [])) return));
   }
 
   -- The contract, and that of the collector's call.
   abbrev Outer : Ended
   Outer = record {
-    signature = record f.signature { params = RefMutOf (0 ∷ []) tt (plain Lender) (λ κs. tt) ∷ plain (λ κs. key_row) ∷ plain (λ κs. N) ∷ [] };
+    signature = record f.signature {
+      params =
+          RefMutOf (0 ∷ []) tt (plain Lender) (λ κs. tt) ∷ plain (λ κs. key_row) ∷ plain (λ κs. N) ∷ [];
+    };
     kept = (no, (yes, (yes, tt)));
   }
 
   abbrev Inner : Ended
   Inner = record {
-    signature = record i.signature { params = RefMutOf (0 ∷ []) tt (plain (λ κs. collector_row)) (λ κs. tt) ∷ plain (λ κs. key_row) ∷ plain (λ κs. N) ∷ [] };
+    signature = record i.signature {
+      params =
+          RefMutOf (0 ∷ []) tt (plain (λ κs. collector_row)) (λ κs. tt) ∷ plain (λ κs. key_row) ∷ plain (λ κs. N) ∷ [];
+    };
     kept = (no, (yes, (yes, tt)));
   }
 
   abbrev NestsBy : Key → N.Denot → MutBor Visitor → Result Visitor Refusal → Fml
   NestsBy k n s r =
-      follows_so (visitor_row (record { mir = named 1; lft = [] })) collector_row s.ghost_name (name_if_ok (λ v. v.collector.ghost_name) r)
-      (λ w v. OnOk r (v ≡ with_state s.now w)) (λ v. IfErr r (λ e. In k n s.now.collector.now (Err e) v.collector.now × (v ≡ with_state s.now v.collector.now)))
+      follows_so (visitor_row (record { mir = named 1; lft = [] })) collector_row s.ghost_name
+      (name_if_ok (λ v. v.collector.ghost_name) r)
+      (λ w v. OnOk r (v ≡ with_state s.now w)) (λ v. IfErr r
+      (λ e. In k n s.now.collector.now (Err e) v.collector.now × (v ≡ with_state s.now v.collector.now)))
 
   abbrev LendsBy : Key → N.Denot → MutBor State → Result Visitor Refusal → Fml
-  LendsBy k n s r = RestsIfErr collector_row s (λ v. v.collector.ghost_name) r (λ t. IfErr r (λ e. In k n s.now (Err e) t))
+  LendsBy k n s r = RestsIfErr collector_row s (λ v. v.collector.ghost_name) r
+      (λ t. IfErr r (λ e. In k n s.now (Err e) t))
 
   abbrev outer : {M : Type 1} {𝓤 : Ura M} → Logic 𝓤 → Clauses 𝓤 Outer
   outer {𝓤 = 𝓤} 𝓛 κs a = record {
@@ -82,7 +110,8 @@ module _ (N : RattleType) (told : Laws N) (In : Key → N.Denot → State → Re
   abbrev stayed : Stays Outer.signature.params Outer.kept
   stayed = (stay_dropped _ no, (stay_dropped _ yes, (stay_dropped _ yes, tt)))
 
-  pub enters : {M : Type 1} (𝓤 : Ura M) (𝓛 : Logic 𝓤) (𝓜 : Model 𝓤 𝓛.H) (𝓡 : Running 𝓤 𝓛.H 𝓜) → Goes 𝓛 2 (plain (λ κs. N)) yes (stay_dropped (plain (λ κs. N)) yes) → {name h : Callee} →
+  pub enters : {M : Type 1} (𝓤 : Ura M) (𝓛 : Logic 𝓤) (𝓜 : Model 𝓤 𝓛.H) (𝓡 : Running 𝓤 𝓛.H 𝓜) →
+      Goes 𝓛 2 (plain (λ κs. N)) yes (stay_dropped (plain (λ κs. N)) yes) → {name h : Callee} →
       Closed 𝓤 𝓛.H (tables 𝓤 𝓛.H 𝓜 𝓡 𝓡.env).C (tables 𝓤 𝓛.H 𝓜 𝓡 𝓡.env).Λ name (function h) →
       Meets 𝓛 g.signature ((tables 𝓤 𝓛.H 𝓜 𝓡 𝓡.env).C g.Key.name) (g.spec 𝓛 𝓜.mem 𝓡.returns) →
       Meets 𝓛 Inner.signature ((tables 𝓤 𝓛.H 𝓜 𝓡 𝓡.env).C h) (closing 𝓛 Inner (inner 𝓛)) →
@@ -96,15 +125,19 @@ module _ (N : RattleType) (told : Laws N) (In : Key → N.Denot → State → Re
       let κ = κs.0 in let q = qs.0 in let s = a.0 in let k = a.1.0 in let n = a.1.1.0 in
       let kv = one_value y₀.0.4.1.0 (key_laws.single k y₀.0.4.1.0 are.1.0) in
       let nv = one_value y₀.0.4.1.1.0 (told.single n y₀.0.4.1.1.0 are.1.1.0) in
-      let e : y₀.0.4 ≡ (mut_vals s, (kv.0 ∷ [], (nv.0 ∷ [], tt))) = λ i. (mut_Tells (named 0) κ (Lender κs) s y₀.0.4.0 are.0 i, (kv.1 i, (nv.1 i, tt))) in
+      let e : y₀.0.4 ≡ (mut_vals s, (kv.0 ∷ [], (nv.0 ∷ [], tt))) =
+      λ i. (mut_Tells (named 0) κ (Lender κs) s y₀.0.4.0 are.0 i, (kv.1 i, (nv.1 i, tt))) in
       let kis = subst (λ (us : List Val). Is key_row k us) kv.1 are.1.0 in
       let ktyped = ((key_laws.lawful 𝓛).typed k (kv.0 ∷ []) kis).0 in
       let nis = subst (λ (us : List Val). Is N n us) nv.1 are.1.1.0 in
-      let ntyped = (subst (λ (τs : List Ty). Typed τs (nv.0 ∷ [])) told.one ((told.lawful 𝓛).typed n (nv.0 ∷ []) nis)).0 in
+      let ntyped = (subst (λ (τs : List Ty). Typed τs (nv.0 ∷ [])) told.one ((told.lawful 𝓛).typed n (nv.0 ∷ []) nis)).0
+      in
       at_values 𝓛 Outer stayed c (WpFn 𝓤 𝓛.H 𝓣.C 𝓣.Λ (function h)) y₀ (mut_vals s, (kv.0 ∷ [], (nv.0 ∷ [], tt))) e (
-      let y : (walk_of 𝓛 Outer stayed c).Ghost = ((κs, qs, bounds, a, (mut_vals s, (kv.0 ∷ [], (nv.0 ∷ [], tt)))), tt) in
+      let y : (walk_of 𝓛 Outer stayed c).Ghost =
+      ((κs, qs, bounds, a, (mut_vals s, (kv.0 ∷ [], (nv.0 ∷ [], tt)))), tt) in
       let Self = ‵ ((MutRef (named 0) κ (Lender κs)).own_val s (mut_vals s)) in
-      qed 𝓛 (((‵ (flft κ q) ⊛ ‵ (flft κs.1.0 qs.1.0) ⊛ ‵ ftrue) ⊛ Self ⊛ ‵ (key_row.own_val k (kv.0 ∷ [])) ⊛ ‵ (N.own_val n (nv.0 ∷ [])) ⊛ ‵ ftrue) ∷ ‵ ftrue ∷ []) ∵
+      qed 𝓛 (((‵ (flft κ q) ⊛ ‵ (flft κs.1.0 qs.1.0) ⊛ ‵ ftrue) ⊛ Self ⊛ ‵ (key_row.own_val k (kv.0 ∷ [])) ⊛ ‵
+      (N.own_val n (nv.0 ∷ [])) ⊛ ‵ ftrue) ∷ ‵ ftrue ∷ []) ∵
       split ! $ move ! (1 ∷ []) $ split ! $ keep ! (0 ∷ 1 ∷ 2 ∷ []) $
       enter ! _ _ _ _ _ $ alloc_all ! (λ l. pass_all ! refl ((tt, tt), (ktyped, (ntyped, tt))) $
       sets ! (addr ! (through ! refl (stop !))) refl (tt, tt) $
@@ -112,13 +145,15 @@ module _ (N : RattleType) (told : Laws N) (In : Key → N.Denot → State → Re
       let fm = framed 𝓤 𝓛.H 𝓜 𝓣 in
       let G = triple_of 𝓛 g.signature (g.spec 𝓛 𝓜.mem 𝓡.returns) in
       let x : G.Ghost = ((κs, qs, bounds, (s, tt), (mut_vals s, tt)), tt) in
-      nothing ! $ move ! (1 ∷ 0 ∷ []) $ join ! $ move ! (2 ∷ 0 ∷ []) $ join ! $ nothing ! $ move ! (1 ∷ 0 ∷ []) $ use2 𝓛 (raw (G.pre x)) (id⊢ 𝓤 _) $
+      nothing ! $ move ! (1 ∷ 0 ∷ []) $ join ! $ move ! (2 ∷ 0 ∷ []) $ join ! $ nothing ! $ move ! (1 ∷ 0 ∷ []) $
+      use2 𝓛 (raw (G.pre x)) (id⊢ 𝓤 _) $
       calls_at ! fm G lent x
       (and_then ! (get ! refl) (no_more !)) (λ v.
       let Tokens = ‵ (flft κ q) ⊛ ‵ (flft κs.1.0 qs.1.0) ⊛ ‵ ftrue in
       let Part = MutRef (named 0) κ collector_row in
       use1 𝓛 (later (some (λ (r : MutBor State). (Tokens ⊛ ‵ (Part.own_val r (v ∷ []))) ⊛
-      some (λ (ws : Lasts g.ended κs (s, tt)). ‵ (lasts g.ended κs (s, tt) ws) ⊛ ‵ (LendsCollector s r) ⊛ raw (fact 𝓤 (r.now ≡ s.now.collector.now)))))) (id⊢ 𝓤 _) $
+      some (λ (ws : Lasts g.ended κs (s, tt)). ‵ (lasts g.ended κs (s, tt) ws) ⊛ ‵ (LendsCollector s r) ⊛ raw
+      (fact 𝓤 (r.now ≡ s.now.collector.now)))))) (id⊢ 𝓤 _) $
       await ! tt $ pick ! (λ r. split ! $ split ! $ move ! (2 ∷ []) $ pick ! (λ ws. split ! $ drop ! $ split ! $ move ! (1 ∷ []) $ heard ! _ (λ same.
       -- [what self ends as; the tokens; the part lent; the key and the size]
       move ! (2 ∷ []) $ fsplit ! $ feq_l ! (λ is. feq_i ! (List _) (mut_vals r) (mut_vals r) refl $ fjoin ! $
@@ -126,27 +161,33 @@ module _ (N : RattleType) (told : Laws N) (In : Key → N.Denot → State → Re
       -- [the part lent; what self ends as; the tokens; the key and the size]
       let H = triple_of 𝓛 Inner.signature (closing 𝓛 Inner (inner 𝓛)) in
       let z : H.Ghost = (((κ, tt), (q, tt), tt, (r, (k, (n, tt))), (mut_vals r, (kv.0 ∷ [], (nv.0 ∷ [], tt)))), tt) in
-      move ! (0 ∷ 3 ∷ []) $ join ! $ move ! (2 ∷ []) $ split ! $ nothing ! $ move ! (1 ∷ 0 ∷ []) $ join ! $ move ! (0 ∷ 2 ∷ []) $ join ! $
+      move ! (0 ∷ 3 ∷ []) $ join ! $ move ! (2 ∷ []) $ split ! $ nothing ! $ move ! (1 ∷ 0 ∷ []) $ join ! $
+      move ! (0 ∷ 2 ∷ []) $ join ! $
       nothing ! $ move ! (1 ∷ 0 ∷ []) $ use2 𝓛 (raw (H.pre z)) (id⊢ 𝓤 _) $
       -- [what the call asks; the other tokens; what self ends as]
       calls_at ! fm H met z
       (and_then ! (get ! refl) (and_then ! (get ! refl) (and_then ! (get ! refl) (no_more !)))) (λ u.
       use1 𝓛 (later (some (λ (res : Result Visitor Refusal). ((‵ (flft κ q) ⊛ ‵ ftrue) ⊛ ‵ ((Answer κs).own_val res (u ∷ []))) ⊛
       some (λ (vs : Lasts Inner (κ, tt) z.0.3). ‵ (lasts Inner (κ, tt) z.0.3 vs) ⊛ ‵ (LendsBy k n r res) ⊛
-      raw (fact 𝓤 (IfOk res (λ w. w.collector.ghost_name ≡ r.ghost_name))) ⊛ raw (fact 𝓤 (IfOk res (λ w. In k n r.now (Ok w.outer) w.collector.now))) ⊛
+      raw (fact 𝓤 (IfOk res (λ w. w.collector.ghost_name ≡ r.ghost_name))) ⊛ raw
+      (fact 𝓤 (IfOk res (λ w. In k n r.now (Ok w.outer) w.collector.now))) ⊛
       raw (fact 𝓤 (IfErr res (No k n r.now))))))) (id⊢ 𝓤 _) $
       await ! tt $ pick ! (λ res. split ! $ split ! $ move ! (2 ∷ []) $ pick ! (λ vs. split ! $ drop ! $ split ! $
       move ! (1 ∷ []) $ split ! $ heard ! _ (λ _. split ! $ heard ! _ (λ entered. heard ! _ (λ refused.
       -- [what the part ends as; the token; the result; the other tokens; what self ends as]
       move ! (4 ∷ 0 ∷ []) $ use2 𝓛 (‵ (NestsBy k n s res))
       (nest 𝓛 (visitor_row (record { mir = named 1; lft = [] })) collector_row (with_state s.now) s.ghost_name r.ghost_name
-      (λ w x'. OnOk res (x' ≡ w)) (λ x'. OnErr res (IfErr res (λ w. In k n r.now (Err w) x'))) (λ w x'. OnOk res (x' ≡ with_state s.now w)) (EndsRefused (In k n) s.now res) (ends_entered s.now res) (ends_refused (In k n) s.now r.now same res)
+      (λ w x'. OnOk res (x' ≡ w)) (λ x'. OnErr res (IfErr res (λ w. In k n r.now (Err w) x')))
+      (λ w x'. OnOk res (x' ≡ with_state s.now w)) (EndsRefused (In k n) s.now res) (ends_entered s.now res)
+      (ends_refused (In k n) s.now r.now same res)
       (name_if_ok (λ w. w.collector.ghost_name) res)) $
       move ! (2 ∷ []) $ peeks ! (Answer κs) _ (shows 𝓛 (Answer κs)) res (u ∷ []) (λ told.
-      let good = (((result_laws _ _ (visitor_laws (named_lft 2 0 tt κs)) refusal_laws).lawful 𝓛).typed res (u ∷ []) told).0 in
+      let good = (((result_laws _ _ (visitor_laws (named_lft 2 0 tt κs)) refusal_laws).lawful 𝓛).typed res (u ∷ [])
+      told).0 in
       lands_as ! refl refl good $ returns ! (look_at ! 0 refl) $ free_all ! refl $
       -- [the result; what self ends as; the token; the other tokens]
       suffices ! _ (ends_at 𝓛 Outer stayed c y u res (tt, (tt, (rest (N.exit yes) n, tt))) (tt, (tt, (tt, tt)))) $
-      move ! (2 ∷ []) $ split ! $ move ! (0 ∷ 4 ∷ []) $ join ! $ move ! (1 ∷ []) $ nothing ! $ fjoin ! $ nothing ! $ fjoin ! $ nothing ! $ fjoin ! $
+      move ! (2 ∷ []) $ split ! $ move ! (0 ∷ 4 ∷ []) $ join ! $ move ! (1 ∷ []) $ nothing ! $ fjoin ! $ nothing ! $
+      fjoin ! $ nothing ! $ fjoin ! $
       move ! (0 ∷ 2 ∷ []) $ join ! $ move ! (1 ∷ 0 ∷ []) $ join ! $ frame ! $
       says_two ! (subst (λ (x : State). IfOk res (λ w. In k n x (Ok w.outer) w.collector.now)) same entered, subst (λ (x : State). IfErr res (No k n x)) same refused) $ done !)))))))))))))))

@@ -1,6 +1,16 @@
 -- How visits that refuse only if they must compose: one after another, inside an entry, and as a shared content.
-use Rattle.std.proofs.Common.{◌≡◌, ℕ, ◌+◌, ◌<◌, ◌^◌, Bool, true, false, ◌&&◌, IsTrue, cond, List, [], ◌∷◌, ◌++◌, flat_map, Option, Some, None, inl, inr, Result, Ok, Err, refl, sym, ◌∙◌, ap, subst, arith, ◌-◌}
-use Rattle.allocative.proofs.Common.{Outer, Refusal, Memory, TooLarge, Key, Identity, Forest, Empty, First, Again, followed_by, entry_of, add_all, held, Live, Kind, OfGraph, OfHeld, State, Failed, Going, plus, enter, enter_first, Takes, is_graph, outer_of, leave, close_entry, failed_with, Showing, Nothing, Both, InsideAs, Inside, InsideUnique, sized, Field, SharedWith, each_shows, HasFailed, OpensEntry, stays_failed, is_refused, is_entered, OpensShared, stays_shared, is_refused_shared, goes_past, enters_first, enters_again, all_bytes, HasRoomFor, ShowsContents, IsDeclared, CanTake, MayRefuse, FailsOnlyIfFull, has_added, has_refused, ClosesEntry, OfOwned, is_too_large_shared, counts}
+use Rattle.std.proofs.Common.{◌≡◌, ℕ, ◌+◌, ◌<◌, ◌^◌, Bool, true, false, ◌&&◌, IsTrue, cond, List, [], ◌∷◌, ◌++◌}
+use Rattle.std.proofs.Common.{flat_map, Option, Some, None, inl, inr, Result, Ok, Err, refl, sym, ◌∙◌, ap, subst, arith}
+use Rattle.std.proofs.Common.{◌-◌}
+use Rattle.allocative.proofs.Common.{Outer, Refusal, Memory, TooLarge, Key, Identity, Forest, Empty, First, Again}
+use Rattle.allocative.proofs.Common.{followed_by, entry_of, add_all, held, Live, Kind, OfGraph, OfHeld, State, Failed}
+use Rattle.allocative.proofs.Common.{Going, plus, enter, enter_first, Takes, is_graph, outer_of, leave, close_entry}
+use Rattle.allocative.proofs.Common.{failed_with, Showing, Nothing, Both, InsideAs, Inside, InsideUnique, sized, Field}
+use Rattle.allocative.proofs.Common.{SharedWith, each_shows, HasFailed, OpensEntry, stays_failed, is_refused}
+use Rattle.allocative.proofs.Common.{is_entered, OpensShared, stays_shared, is_refused_shared, goes_past, enters_first}
+use Rattle.allocative.proofs.Common.{enters_again, all_bytes, HasRoomFor, ShowsContents, IsDeclared, CanTake, MayRefuse}
+use Rattle.allocative.proofs.Common.{FailsOnlyIfFull, has_added, has_refused, ClosesEntry, OfOwned, is_too_large_shared}
+use Rattle.allocative.proofs.Common.{counts}
 use Rattle.std.proofs.lemmas.Bool.{false≢true, and_parts}
 use Rattle.std.proofs.lemmas.Grind.{flat_map-append}
 use Rattle.allocative_graph.specs.declared.refusal.Refusal.TheVariants.{Open}
@@ -12,7 +22,9 @@ use Rattle.allocative_graph.specs.Collector.{Owning, entries_at, plus_live}
 use Rattle.allocative_graph.specs.Visits.{HasRoom, Refuses}
 use Rattle.allocative_graph.proofs.Below.{entered-add}
 use Rattle.allocative_graph.proofs.Following.{own-following, contents-following}
-use Rattle.allocative_graph.proofs.Plus.{plus-nothing, plus-following, takes_nothing, takes_both, inside_entry, takes_entry, inside_first, takes_shared, held_again, owned_again, is_graph-plus, is_graph-enter}
+use Rattle.allocative_graph.proofs.Plus.{plus-nothing, plus-following, takes_nothing, takes_both, inside_entry}
+use Rattle.allocative_graph.proofs.Plus.{takes_entry, inside_first, takes_shared, held_again, owned_again}
+use Rattle.allocative_graph.proofs.Plus.{is_graph-plus, is_graph-enter}
 use Rattle.allocative.specs.Exact.{FitsWords, had_failed}
 
 -- ---- the bytes of all entries
@@ -31,20 +43,26 @@ bag-append [] b = omega arith
 bag-append (e ∷ a) b = omega (arith, bag-append a b)
 
 -- The bytes of the contents of two forests, listed one after the other, add up.
-contents-append : (f g : Forest) → bag_bytes (flat_map (λ c. c.1) (contents f ++ contents g)) ≡ bag_bytes (content_entries f) + bag_bytes (content_entries g)
-contents-append f g = ap bag_bytes (flat_map-append (λ c. c.1) (contents f) (contents g)) ∙ bag-append (content_entries f) (content_entries g)
+contents-append : (f g : Forest) → bag_bytes (flat_map (λ c. c.1) (contents f ++ contents g))
+    ≡ bag_bytes (content_entries f) + bag_bytes (content_entries g)
+contents-append f g = ap bag_bytes (flat_map-append (λ c. c.1) (contents f) (contents g))
+    ∙ bag-append (content_entries f) (content_entries g)
 
 -- The bytes of a forest's own entries, behind any path, and those of its contents are all its bytes.
 bytes_of_all : (p : Path) (f : Forest) → bag_bytes (own_behind p f) + bag_bytes (content_entries f) ≡ all_bytes f
 bytes_of_all p Empty = refl
-bytes_of_all p (Inline k n inside after) = omega (arith, bag-append, contents-append inside after, bytes_of_all (p ++ k ∷ []) inside, bytes_of_all p after)
-bytes_of_all p (Unique k n inside after) = omega (arith, bag-append, contents-append inside after, bytes_of_all (p ++ k ∷ []) inside, bytes_of_all p after)
-bytes_of_all p (First k n i inside after) = omega (arith, bag-append, contents-append inside after, bytes_of_all [] inside, bytes_of_all p after)
+bytes_of_all p (Inline k n inside after) =
+    omega (arith, bag-append, contents-append inside after, bytes_of_all (p ++ k ∷ []) inside, bytes_of_all p after)
+bytes_of_all p (Unique k n inside after) =
+    omega (arith, bag-append, contents-append inside after, bytes_of_all (p ++ k ∷ []) inside, bytes_of_all p after)
+bytes_of_all p (First k n i inside after) =
+    omega (arith, bag-append, contents-append inside after, bytes_of_all [] inside, bytes_of_all p after)
 bytes_of_all p (Again k n i after) = omega (arith, bytes_of_all p after)
 
 -- A forest that is added to the collector of a flame graph adds all its bytes to those entered.
 pub entered-plus : (c : Live) (f : Forest) → entered (plus_live c f).sums ≡ entered c.sums + all_bytes f
-entered-plus c f = entered-add_all c.sums (entries_at c.here f) ∙ ap (λ n. entered c.sums + n) (bag-append (own_behind c.here f) (content_entries f) ∙ bytes_of_all c.here f)
+entered-plus c f = entered-add_all c.sums (entries_at c.here f)
+    ∙ ap (λ n. entered c.sums + n) (bag-append (own_behind c.here f) (content_entries f) ∙ bytes_of_all c.here f)
 
 -- All bytes of two forests one after the other add up.
 all_bytes-following : (f g : Forest) → all_bytes (followed_by f g) ≡ all_bytes f + all_bytes g
@@ -69,13 +87,16 @@ sum_in (OfOwned o) = o.sum
 
 -- What is added first has room, and what comes after it has room then.
 room_apart : (b : Kind) (f g : Forest) → HasRoomFor b (followed_by f g) → HasRoomFor b f × HasRoomFor (plus b f) g
-room_apart (OfGraph c) f g h = (omega (arith, h, all_bytes-following f g), omega (arith, h, all_bytes-following f g, entered-plus c f))
+room_apart (OfGraph c) f g h =
+    (omega (arith, h, all_bytes-following f g), omega (arith, h, all_bytes-following f g, entered-plus c f))
 room_apart (OfHeld d) f g (h, l) =
-    let h' : sum_in (plus (plus (OfHeld d) f) g) < 2 ^ 64 = subst (λ (n : ℕ). n < 2 ^ 64) (ap sum_in (plus-following (OfHeld d) f g)) h in
+    let h' : sum_in (plus (plus (OfHeld d) f) g) < 2 ^ 64 =
+    subst (λ (n : ℕ). n < 2 ^ 64) (ap sum_in (plus-following (OfHeld d) f g)) h in
     let w = words_both d.open_visitors f g l in
     ((omega (arith, h'), w.0), (h', w.1))
 room_apart (OfOwned d) f g (h, l) =
-    let h' : sum_in (plus (plus (OfOwned d) f) g) < 2 ^ 64 = subst (λ (n : ℕ). n < 2 ^ 64) (ap sum_in (plus-following (OfOwned d) f g)) h in
+    let h' : sum_in (plus (plus (OfOwned d) f) g) < 2 ^ 64 =
+    subst (λ (n : ℕ). n < 2 ^ 64) (ap sum_in (plus-following (OfOwned d) f g)) h in
     let w = words_both d.open_visitors f g l in
     ((omega (arith, h'), w.0), (h', w.1))
 
@@ -85,16 +106,21 @@ inline_room true m s n x h = omega (arith, h)
 inline_room false m s n x h = omega (arith, h)
 
 -- For owned bytes: if an entry with its inside fits, there is room to open it, and then for its inside.
-owned_within : (u : Bool) (k : Key) (n : ℕ) (d : Owning) (f : Forest) → sum_in (plus (OfOwned d) (entry_of u k n f)) < 2 ^ 64 → FitsWords d.open_visitors (entry_of u k n f) → HasRoom u n (OfOwned d) × HasRoomFor (enter u k n (OfOwned d)) f
+owned_within : (u : Bool) (k : Key) (n : ℕ) (d : Owning) (f : Forest) →
+    sum_in (plus (OfOwned d) (entry_of u k n f)) < 2 ^ 64 → FitsWords d.open_visitors (entry_of u k n f) →
+    HasRoom u n (OfOwned d) × HasRoomFor (enter u k n (OfOwned d)) f
 owned_within true k n d f h l =
-    let h' : sum_in (plus (enter true k n (OfOwned d)) f) < 2 ^ 64 = subst (λ (m : ℕ). m < 2 ^ 64) (sym (ap sum_in (inside_entry true k n (OfOwned d) f))) h in
+    let h' : sum_in (plus (enter true k n (OfOwned d)) f) < 2 ^ 64 =
+    subst (λ (m : ℕ). m < 2 ^ 64) (sym (ap sum_in (inside_entry true k n (OfOwned d) f))) h in
     ((omega (arith, h'), l.1), (h', l.2))
 owned_within false k n d f h l =
-    let h' : sum_in (plus (enter false k n (OfOwned d)) f) < 2 ^ 64 = subst (λ (m : ℕ). m < 2 ^ 64) (sym (ap sum_in (inside_entry false k n (OfOwned d) f))) h in
+    let h' : sum_in (plus (enter false k n (OfOwned d)) f) < 2 ^ 64 =
+    subst (λ (m : ℕ). m < 2 ^ 64) (sym (ap sum_in (inside_entry false k n (OfOwned d) f))) h in
     ((omega (arith, h'), l.1), (h', l.2))
 
 -- An entry has room, and so has then what is inside it.
-room_within : (u : Bool) (k : Key) (n : ℕ) (b : Kind) (f : Forest) → HasRoomFor b (entry_of u k n f) → HasRoom u n b × HasRoomFor (enter u k n b) f
+room_within : (u : Bool) (k : Key) (n : ℕ) (b : Kind) (f : Forest) → HasRoomFor b (entry_of u k n f) →
+    HasRoom u n b × HasRoomFor (enter u k n b) f
 room_within true k n (OfGraph c) f h = (omega (arith, h), omega (arith, h, entered-plus c (Unique k n Empty Empty)))
 room_within false k n (OfGraph c) f h = (omega (arith, h), omega (arith, h, entered-plus c (Inline k n Empty Empty)))
 room_within true k n (OfHeld d) f (h, l) =
@@ -166,11 +192,14 @@ can_first b (d, room) =
 
 -- A collector that can take p and then q can take q once a forest of p is added.
 pub can_second : {p q : Showing} (b : Kind) (f : Forest) → p f → CanTake b (Both p q) → CanTake (plus b f) q
-can_second b f x (d, room) = (declared_second d, λ g y. (room_apart b f g (room (followed_by f g) (f, g, x, y, refl))).1)
+can_second b f x (d, room) =
+    (declared_second d, λ g y. (room_apart b f g (room (followed_by f g) (f, g, x, y, refl))).1)
 
 -- A collector that can take an entry with p inside it can take p once the entry is opened.
-can_inside : {p : Showing} (u : Bool) (k : Key) (n : ℕ) (b : Kind) → CanTake b (InsideAs u k n p) → CanTake (enter u k n b) p
-can_inside u k n b (d, room) = (declared_inside u k n d, λ f x. (room_within u k n b f (room (entry_of u k n f) (f, x, refl))).1)
+can_inside : {p : Showing} (u : Bool) (k : Key) (n : ℕ) (b : Kind) → CanTake b (InsideAs u k n p) →
+    CanTake (enter u k n b) p
+can_inside u k n b (d, room) =
+    (declared_inside u k n d, λ f x. (room_within u k n b f (room (entry_of u k n f) (f, x, refl))).1)
 
 -- A collector that can take an entry with p inside it has room for the entry.
 can_entry : {p : Showing} (u : Bool) (k : Key) (n : ℕ) (b : Kind) → CanTake b (InsideAs u k n p) → HasRoom u n b
@@ -179,36 +208,52 @@ can_entry u k n b (d, room) =
     (room_within u k n b r.0 (room (entry_of u k n r.0) (r.0, r.1, refl))).0
 
 -- If the collector of a flame graph can take a shared entry, it can take the content once the entry is opened.
-can_content : {p : Showing} (k : Key) (n : ℕ) (i : Identity) (c : Live) → CanTake (OfGraph c) (SharedWith k n i p) → CanTake (OfGraph (enter_first k n i c)) p
-can_content k n i c (d, room) = (declared_content k n i d, λ f x. let h = room (First k n i f Empty) (inl (f, x, refl)) in omega (arith, h, entered-plus c (First k n i Empty Empty)))
+can_content : {p : Showing} (k : Key) (n : ℕ) (i : Identity) (c : Live) → CanTake (OfGraph c) (SharedWith k n i p) →
+    CanTake (OfGraph (enter_first k n i c)) p
+can_content k n i c (d, room) = (
+  declared_content k n i d,
+  λ f x. let h = room (First k n i f Empty) (inl (f, x, refl)) in
+      omega (arith, h, entered-plus c (First k n i Empty Empty)),
+)
 
 -- If the collector of a flame graph can take a shared entry, the pointer's bytes exceed no bound.
-can_pointer : {p : Showing} (k : Key) (n : ℕ) (i : Identity) (c : Live) → CanTake (OfGraph c) (SharedWith k n i p) → entered c.sums + n < 2 ^ 63
+can_pointer : {p : Showing} (k : Key) (n : ℕ) (i : Identity) (c : Live) → CanTake (OfGraph c) (SharedWith k n i p) →
+    entered c.sums + n < 2 ^ 63
 can_pointer k n i c (d, room) = let h = room (Again k n i Empty) (inr refl) in omega (arith, h)
 
 -- If the collector of owned bytes can take a shared entry, its sum with the pointer fits a word.
-can_count : {p : Showing} (k : Key) (n : ℕ) (i : Identity) (o : Owning) → CanTake (OfOwned o) (SharedWith k n i p) → o.sum + (n - o.spare) < 2 ^ 64
+can_count : {p : Showing} (k : Key) (n : ℕ) (i : Identity) (o : Owning) → CanTake (OfOwned o) (SharedWith k n i p) →
+    o.sum + (n - o.spare) < 2 ^ 64
 can_count k n i o (d, room) = let h = (room (Again k n i Empty) (inr refl)).0 in omega (arith, h)
 
 -- ---- why a visit may be refused
 -- If b takes p whenever c takes q, and both or neither make a graph, what may refuse p at b may refuse q at c.
-pub may_refuse : {p q : Showing} (b c : Kind) → (CanTake c q → CanTake b p) → is_graph c ≡ is_graph b → (e : Refusal) → MayRefuse p b e → MayRefuse q c e
+pub may_refuse : {p q : Showing} (b c : Kind) → (CanTake c q → CanTake b p) → is_graph c ≡ is_graph b → (e : Refusal) →
+    MayRefuse p b e → MayRefuse q c e
 may_refuse b c up same Memory m = same ∙ m
 may_refuse b c up same TooLarge m = λ x. m (up x)
 may_refuse b c up same Open m = m
 
 -- If a collector refuses an entry with e, a visit that shows the entry may be refused with e.
-entry_refuses : (p : Showing) (u : Bool) (k : Key) (n : ℕ) (b : Kind) (e : Refusal) → Refuses u n b e → MayRefuse (InsideAs u k n p) b e
-entry_refuses p u k n (OfGraph c) e (inl (i, h)) = subst (MayRefuse (InsideAs u k n p) (OfGraph c)) (sym i) (λ w. omega (arith, h, can_entry u k n (OfGraph c) w))
+entry_refuses : (p : Showing) (u : Bool) (k : Key) (n : ℕ) (b : Kind) (e : Refusal) → Refuses u n b e →
+    MayRefuse (InsideAs u k n p) b e
+entry_refuses p u k n (OfGraph c) e (inl (i, h)) =
+    subst (MayRefuse (InsideAs u k n p) (OfGraph c)) (sym i) (λ w. omega (arith, h, can_entry u k n (OfGraph c) w))
 entry_refuses p u k n (OfGraph c) e (inr (i, h)) = subst (MayRefuse (InsideAs u k n p) (OfGraph c)) (sym i) refl
-entry_refuses p u k n (OfHeld d) e (i, inl h) = subst (MayRefuse (InsideAs u k n p) (OfHeld d)) (sym i) (λ w. omega (arith, h, (can_entry u k n (OfHeld d) w).0))
-entry_refuses p u k n (OfHeld d) e (i, inr h) = subst (MayRefuse (InsideAs u k n p) (OfHeld d)) (sym i) (λ w. omega (arith, h, (can_entry u k n (OfHeld d) w).1))
-entry_refuses p u k n (OfOwned d) e (i, inl h) = subst (MayRefuse (InsideAs u k n p) (OfOwned d)) (sym i) (λ w. omega (arith, h, (can_entry u k n (OfOwned d) w).0))
-entry_refuses p u k n (OfOwned d) e (i, inr h) = subst (MayRefuse (InsideAs u k n p) (OfOwned d)) (sym i) (λ w. omega (arith, h, (can_entry u k n (OfOwned d) w).1))
+entry_refuses p u k n (OfHeld d) e (i, inl h) =
+    subst (MayRefuse (InsideAs u k n p) (OfHeld d)) (sym i) (λ w. omega (arith, h, (can_entry u k n (OfHeld d) w).0))
+entry_refuses p u k n (OfHeld d) e (i, inr h) =
+    subst (MayRefuse (InsideAs u k n p) (OfHeld d)) (sym i) (λ w. omega (arith, h, (can_entry u k n (OfHeld d) w).1))
+entry_refuses p u k n (OfOwned d) e (i, inl h) =
+    subst (MayRefuse (InsideAs u k n p) (OfOwned d)) (sym i) (λ w. omega (arith, h, (can_entry u k n (OfOwned d) w).0))
+entry_refuses p u k n (OfOwned d) e (i, inr h) =
+    subst (MayRefuse (InsideAs u k n p) (OfOwned d)) (sym i) (λ w. omega (arith, h, (can_entry u k n (OfOwned d) w).1))
 
 -- If the collector of a flame graph refuses a pointer with e, a visit that shows it may be refused with e.
-pointer_refuses : (p : Showing) (k : Key) (n : ℕ) (i : Identity) (c : Live) (e : Refusal) → Refuses false n (OfGraph c) e → MayRefuse (SharedWith k n i p) (OfGraph c) e
-pointer_refuses p k n i c e (inl (j, h)) = subst (MayRefuse (SharedWith k n i p) (OfGraph c)) (sym j) (λ w. omega (arith, h, can_pointer k n i c w))
+pointer_refuses : (p : Showing) (k : Key) (n : ℕ) (i : Identity) (c : Live) (e : Refusal) →
+    Refuses false n (OfGraph c) e → MayRefuse (SharedWith k n i p) (OfGraph c) e
+pointer_refuses p k n i c e (inl (j, h)) =
+    subst (MayRefuse (SharedWith k n i p) (OfGraph c)) (sym j) (λ w. omega (arith, h, can_pointer k n i c w))
 pointer_refuses p k n i c e (inr (j, h)) = subst (MayRefuse (SharedWith k n i p) (OfGraph c)) (sym j) refl
 
 -- ---- visits
@@ -218,25 +263,33 @@ only_if_full_nothing (Failed r) u = had_failed
 only_if_full_nothing (Going b) u = has_added Empty refl (takes_nothing b) (sym (plus-nothing b))
 
 -- What fails as p only if full does so as q, if p allows no more than q, and is declared if q can be added.
-pub only_if_full_as : {p q : Showing} {a b : State} {r : Result Unit Refusal} → ((f : Forest) → p f → q f) → ((k : Kind) → CanTake k q → IsDeclared p) → FailsOnlyIfFull p a r b → FailsOnlyIfFull q a r b
+pub only_if_full_as : {p q : Showing} {a b : State} {r : Result Unit Refusal} → ((f : Forest) → p f → q f) →
+    ((k : Kind) → CanTake k q → IsDeclared p) → FailsOnlyIfFull p a r b → FailsOnlyIfFull q a r b
 only_if_full_as up down had_failed = had_failed
 only_if_full_as up down (has_added f x t e) = has_added f (up f x) t e
-only_if_full_as up down (has_refused {b = b} {e = e} m) = has_refused (may_refuse b b (λ w. (down b w, λ f x. w.1 f (up f x))) refl e m)
+only_if_full_as up down (has_refused {b = b} {e = e} m) =
+    has_refused (may_refuse b b (λ w. (down b w, λ f x. w.1 f (up f x))) refl e m)
 
 -- What fails as p only if full does so as q, if q allows all that p allows, and p is declared when q is.
-pub only_if_full_weaker : {p q : Showing} {a b : State} {r : Result Unit Refusal} → ((f : Forest) → p f → q f) → (IsDeclared q → IsDeclared p) → FailsOnlyIfFull p a r b → FailsOnlyIfFull q a r b
+pub only_if_full_weaker : {p q : Showing} {a b : State} {r : Result Unit Refusal} → ((f : Forest) → p f → q f) →
+    (IsDeclared q → IsDeclared p) → FailsOnlyIfFull p a r b → FailsOnlyIfFull q a r b
 only_if_full_weaker up down = only_if_full_as up (λ k w. down w.0)
 
 -- The bytes of an entry that can be added fit a word.
 pub entry_fits : {p : Showing} (u : Bool) (k : Key) (n : ℕ) (b : Kind) → CanTake b (InsideAs u k n p) → n < 2 ^ 64
 entry_fits u k n (OfGraph c) w = omega (arith, can_entry u k n (OfGraph c) w)
-entry_fits true k n (OfHeld d) w = let r = declared_inside true k n w.0 in (w.1 (entry_of true k n r.0) (r.0, r.1, refl)).1.0
-entry_fits false k n (OfHeld d) w = let r = declared_inside false k n w.0 in (w.1 (entry_of false k n r.0) (r.0, r.1, refl)).1.0
-entry_fits true k n (OfOwned d) w = let r = declared_inside true k n w.0 in (w.1 (entry_of true k n r.0) (r.0, r.1, refl)).1.0
-entry_fits false k n (OfOwned d) w = let r = declared_inside false k n w.0 in (w.1 (entry_of false k n r.0) (r.0, r.1, refl)).1.0
+entry_fits true k n (OfHeld d) w = let r = declared_inside true k n w.0 in
+    (w.1 (entry_of true k n r.0) (r.0, r.1, refl)).1.0
+entry_fits false k n (OfHeld d) w = let r = declared_inside false k n w.0 in
+    (w.1 (entry_of false k n r.0) (r.0, r.1, refl)).1.0
+entry_fits true k n (OfOwned d) w = let r = declared_inside true k n w.0 in
+    (w.1 (entry_of true k n r.0) (r.0, r.1, refl)).1.0
+entry_fits false k n (OfOwned d) w = let r = declared_inside false k n w.0 in
+    (w.1 (entry_of false k n r.0) (r.0, r.1, refl)).1.0
 
 -- A visit of p that returns Ok, followed by one of q, fails only if full, if each of the two does.
-pub only_if_full_both : {p q : Showing} {a b c : State} {u : Unit} {r : Result Unit Refusal} → FailsOnlyIfFull p a (Ok u) b → FailsOnlyIfFull q b r c → FailsOnlyIfFull (Both p q) a r c
+pub only_if_full_both : {p q : Showing} {a b c : State} {u : Unit} {r : Result Unit Refusal} →
+    FailsOnlyIfFull p a (Ok u) b → FailsOnlyIfFull q b r c → FailsOnlyIfFull (Both p q) a r c
 only_if_full_both had_failed s = had_failed
 only_if_full_both (has_added {b = b} f x t e) (has_added {c = c} g y s k) =
     let s' : Takes (plus b f) g = subst (λ (z : Kind). Takes z g) e s in
@@ -246,41 +299,50 @@ only_if_full_both {q = q} (has_added {b = b} f x t e) (has_refused {e = r} m) =
     has_refused (may_refuse (plus b f) b (can_second b f x) (sym (is_graph-plus b f)) r m')
 
 -- If a visit of p returns Err and fails only if full, it fails only if full as a visit of p and then q.
-pub only_if_full_first : {p q : Showing} {a b : State} {e : Refusal} → FailsOnlyIfFull p a (Err e) b → FailsOnlyIfFull (Both p q) a (Err e) b
+pub only_if_full_first : {p q : Showing} {a b : State} {e : Refusal} → FailsOnlyIfFull p a (Err e) b →
+    FailsOnlyIfFull (Both p q) a (Err e) b
 only_if_full_first had_failed = had_failed
 only_if_full_first (has_refused {b = b} {e = e} m) = has_refused (may_refuse b b (can_first b) refl e m)
 
 -- If an entry was opened, and the visit inside it fails only if full, so does the visit of the entry.
-pub only_if_full_within : {u : Bool} {p : Showing} {k : Key} {n : ℕ} {o : Outer} {s t c d : State} {r : Result Unit Refusal} →
-    OpensEntry u k (Some n) s (Ok o) t → FailsOnlyIfFull p t r c → ClosesEntry o c d → FailsOnlyIfFull (InsideAs u k n p) s r d
+pub only_if_full_within : {u : Bool} {p : Showing} {k : Key} {n : ℕ} {o : Outer} {s t c d : State}
+    {r : Result Unit Refusal} →
+    OpensEntry u k (Some n) s (Ok o) t → FailsOnlyIfFull p t r c → ClosesEntry o c d →
+    FailsOnlyIfFull (InsideAs u k n p) s r d
 only_if_full_within {u} {p} {k} {n} (is_entered {b = b} h f e) (has_added {c = c} g x t i) l =
     let t' : Takes (enter u k n b) g = subst (λ (z : Kind). Takes z g) e t in
-    rw (l.closes, f) (has_added {c = leave (outer_of n b) c} (entry_of u k n g) (g, x, refl) (takes_entry u k n b g t') (cc (inside_entry u k n b g)))
+    rw (l.closes, f) (has_added {c = leave (outer_of n b) c} (entry_of u k n g) (g, x, refl) (takes_entry u k n b g t')
+    (cc (inside_entry u k n b g)))
 only_if_full_within {u} {p} {k} {n} (is_entered {b = b} h f e) (has_refused {e = r} m) l =
     let m' : MayRefuse p (enter u k n b) r = subst (λ (z : Kind). MayRefuse p z r) e m in
     rw l.closes (has_refused (may_refuse (enter u k n b) b (can_inside u k n b) (sym (is_graph-enter u k n b)) r m'))
 
 -- If opening an entry is refused, the visit that shows the entry fails only if full.
-pub only_if_full_not_within : {u : Bool} {p : Showing} {k : Key} {n : ℕ} {s t : State} {e : Refusal} → OpensEntry u k (Some n) s (Err e) t → FailsOnlyIfFull (InsideAs u k n p) s (Err e) t
+pub only_if_full_not_within : {u : Bool} {p : Showing} {k : Key} {n : ℕ} {s t : State} {e : Refusal} →
+    OpensEntry u k (Some n) s (Err e) t → FailsOnlyIfFull (InsideAs u k n p) s (Err e) t
 only_if_full_not_within stays_failed = had_failed
 only_if_full_not_within {u} {k = k} {n = n} (is_refused {b = b} {e = e} h) = has_refused (entry_refuses _ u k n b e h)
 
 -- If a visit fails only if full inside an inline entry that is opened and closed, so does the visit of the entry.
 pub only_if_full_inside : {p : Showing} {k : Key} {n : ℕ} {o : Outer} {s t c d : State} {r : Result Unit Refusal} →
-    OpensEntry false k (Some n) s (Ok o) t → FailsOnlyIfFull p t r c → ClosesEntry o c d → FailsOnlyIfFull (Inside k n p) s r d
+    OpensEntry false k (Some n) s (Ok o) t → FailsOnlyIfFull p t r c → ClosesEntry o c d →
+    FailsOnlyIfFull (Inside k n p) s r d
 only_if_full_inside = only_if_full_within
 
 -- If a visit fails only if full inside a unique entry that is opened and closed, so does the visit of the entry.
 pub only_if_full_unique : {p : Showing} {k : Key} {n : ℕ} {o : Outer} {s t c d : State} {r : Result Unit Refusal} →
-    OpensEntry true k (Some n) s (Ok o) t → FailsOnlyIfFull p t r c → ClosesEntry o c d → FailsOnlyIfFull (InsideUnique k n p) s r d
+    OpensEntry true k (Some n) s (Ok o) t → FailsOnlyIfFull p t r c → ClosesEntry o c d →
+    FailsOnlyIfFull (InsideUnique k n p) s r d
 only_if_full_unique = only_if_full_within
 
 -- If opening an inline entry is refused, the visit that shows the entry fails only if full.
-pub only_if_full_not_inside : {p : Showing} {k : Key} {n : ℕ} {s t : State} {e : Refusal} → OpensEntry false k (Some n) s (Err e) t → FailsOnlyIfFull (Inside k n p) s (Err e) t
+pub only_if_full_not_inside : {p : Showing} {k : Key} {n : ℕ} {s t : State} {e : Refusal} →
+    OpensEntry false k (Some n) s (Err e) t → FailsOnlyIfFull (Inside k n p) s (Err e) t
 only_if_full_not_inside = only_if_full_not_within
 
 -- If opening a unique entry is refused, the visit that shows the entry fails only if full.
-pub only_if_full_not_unique : {p : Showing} {k : Key} {n : ℕ} {s t : State} {e : Refusal} → OpensEntry true k (Some n) s (Err e) t → FailsOnlyIfFull (InsideUnique k n p) s (Err e) t
+pub only_if_full_not_unique : {p : Showing} {k : Key} {n : ℕ} {s t : State} {e : Refusal} →
+    OpensEntry true k (Some n) s (Err e) t → FailsOnlyIfFull (InsideUnique k n p) s (Err e) t
 only_if_full_not_unique = only_if_full_not_within
 
 -- If a field with a size is declared, so is the inline entry of that size.
@@ -292,16 +354,20 @@ not_declared : {k : Key} {p : Showing} → IsDeclared (Field k None p) → ⊥
 not_declared (f, x, s) = elim x [ ]
 
 -- If a visit fails only if full inside a field that is opened and closed, so does the visit of the field.
-pub only_if_full_field : {p : Showing} {k : Key} {y : Option ℕ} {o : Outer} {s t c d : State} {r : Result Unit Refusal} →
+pub only_if_full_field : {p : Showing} {k : Key} {y : Option ℕ} {o : Outer} {s t c d : State}
+    {r : Result Unit Refusal} →
     OpensEntry false k y s (Ok o) t → FailsOnlyIfFull p t r c → ClosesEntry o c d → FailsOnlyIfFull (Field k y p) s r d
 only_if_full_field {y = None} g h e = elim g [ ]
 only_if_full_field {y = Some n} g h e = only_if_full_weaker (λ f x. sized x) in_sized (only_if_full_within g h e)
 
 -- If opening a field is refused, with or without a size, the visit of the field fails only if full.
-pub only_if_full_not_field : {p : Showing} {k : Key} {y : Option ℕ} {s t : State} {e : Refusal} → OpensEntry false k y s (Err e) t → FailsOnlyIfFull (Field k y p) s (Err e) t
+pub only_if_full_not_field : {p : Showing} {k : Key} {y : Option ℕ} {s t : State} {e : Refusal} →
+    OpensEntry false k y s (Err e) t → FailsOnlyIfFull (Field k y p) s (Err e) t
 only_if_full_not_field stays_failed = had_failed
-only_if_full_not_field {p} {k} {y = None} (is_refused {b = b} i) = has_refused (subst (MayRefuse (Field k None p) b) (sym i) (λ w. not_declared w.0))
-only_if_full_not_field {k = k} {y = Some n} (is_refused h) = only_if_full_weaker (λ f x. sized x) in_sized (only_if_full_not_within {u = false} {k = k} (is_refused h))
+only_if_full_not_field {p} {k} {y = None} (is_refused {b = b} i) =
+    has_refused (subst (MayRefuse (Field k None p) b) (sym i) (λ w. not_declared w.0))
+only_if_full_not_field {k = k} {y = Some n} (is_refused h) =
+    only_if_full_weaker (λ f x. sized x) in_sized (only_if_full_not_within {u = false} {k = k} (is_refused h))
 
 -- If both of two visits have to be exact, the first has to be.
 pub first_exact : (d e : Bool) → IsTrue (d && e) → IsTrue d
@@ -329,13 +395,15 @@ followed_by_assoc (First k n j i a) g h = ap (First k n j i) (followed_by_assoc 
 followed_by_assoc (Again k n j a) g h = ap (Again k n j) (followed_by_assoc a g h)
 
 -- A forest of the items of one list, followed by one of another list, is a forest of both lists joined.
-pub each_append : {T : Type 0} (p : T → Showing) (xs ys : List T) (f : Forest) → Both (each_shows p xs) (each_shows p ys) f → each_shows p (xs ++ ys) f
+pub each_append : {T : Type 0} (p : T → Showing) (xs ys : List T) (f : Forest) →
+    Both (each_shows p xs) (each_shows p ys) f → each_shows p (xs ++ ys) f
 each_append p [] ys f (g, h, none, rest, e) = subst (each_shows p ys) (sym (e ∙ rw none refl)) rest
 each_append p (x ∷ xs) ys f (g, h, (g1, g2, first, more, e1), rest, e) =
     (g1, followed_by g2 h, first, each_append p xs ys (followed_by g2 h) (g2, h, more, rest, refl), e ∙ rw e1 (followed_by_assoc g1 g2 h))
 
 -- If the items of two lists joined are declared, so are those of one list followed by those of the other.
-pub declared_append : {T : Type 0} (p : T → Showing) (xs ys : List T) → IsDeclared (each_shows p (xs ++ ys)) → IsDeclared (Both (each_shows p xs) (each_shows p ys))
+pub declared_append : {T : Type 0} (p : T → Showing) (xs ys : List T) → IsDeclared (each_shows p (xs ++ ys)) →
+    IsDeclared (Both (each_shows p xs) (each_shows p ys))
 declared_append p [] ys d = declared_both declared_nothing d
 declared_append p (x ∷ xs) ys d =
     let r = declared_append p xs ys (declared_second d) in
@@ -347,30 +415,43 @@ each_one p x f h = (f, Empty, h, refl, sym (followed_by-empty f))
 
 -- ---- a shared entry
 -- If a visit fails only if full at a new content that is opened and closed, so does the visit of the shared entry.
-pub only_if_full_content : {p : Showing} {k : Key} {n : ℕ} {i : Identity} {is_first : Bool} (o : Outer) {s t c d : State} {r : Result Unit Refusal} →
-    OpensShared k n i s (Ok is_first) t → is_first ≡ true → FailsOnlyIfFull p t r c → ClosesEntry o c d → FailsOnlyIfFull (SharedWith k n i p) s r d
+pub only_if_full_content : {p : Showing} {k : Key} {n : ℕ} {i : Identity} {is_first : Bool} (o : Outer)
+    {s t c d : State} {r : Result Unit Refusal} →
+    OpensShared k n i s (Ok is_first) t → is_first ≡ true → FailsOnlyIfFull p t r c → ClosesEntry o c d →
+    FailsOnlyIfFull (SharedWith k n i p) s r d
 only_if_full_content {p} {k} {n} {i} o g is h l = inner (rw is at g) h l
   where
-    inner : {s t c d : State} {r : Result Unit Refusal} → OpensShared k n i s (Ok true) t → FailsOnlyIfFull p t r c → ClosesEntry o c d → FailsOnlyIfFull (SharedWith k n i p) s r d
+    inner : {s t c d : State} {r : Result Unit Refusal} → OpensShared k n i s (Ok true) t → FailsOnlyIfFull p t r c →
+        ClosesEntry o c d → FailsOnlyIfFull (SharedWith k n i p) s r d
     inner (enters_first {c = b} room new e) (has_added {c = c} f x t j) m =
         let t' : Takes (OfGraph (enter_first k n i b)) f = subst (λ (z : Live). Takes (OfGraph z) f) e t in
-        rw m.closes (has_added {b = OfGraph b} {c = leave o c} (First k n i f Empty) (inl (f, x, refl)) (takes_shared k n i b f new t') (cc (inside_first k n i b f o)))
+        rw m.closes (has_added {b = OfGraph b} {c = leave o c} (First k n i f Empty) (inl (f, x, refl))
+        (takes_shared k n i b f new t') (cc (inside_first k n i b f o)))
     inner (enters_first {c = b} room new e) (has_refused {e = r} w) m =
         let w' : MayRefuse p (OfGraph (enter_first k n i b)) r = subst (λ (z : Live). MayRefuse p (OfGraph z) r) e w in
-        rw m.closes (has_refused (may_refuse (OfGraph (enter_first k n i b)) (OfGraph b) (can_content k n i b) refl r w'))
+        rw m.closes (has_refused (may_refuse (OfGraph (enter_first k n i b)) (OfGraph b) (can_content k n i b) refl r
+        w'))
 
 -- If the content of an opened shared entry is not to be shown, a visit that returns Ok then fails only if full.
-pub only_if_full_again : {p : Showing} {k : Key} {n : ℕ} {i : Identity} {is_first : Bool} {s t : State} {x : Unit} → OpensShared k n i s (Ok is_first) t → is_first ≡ false → FailsOnlyIfFull (SharedWith k n i p) s (Ok x) t
-only_if_full_again {k = k} {n = n} {i = i} (goes_past {h = h}) is = has_added (Again k n i Empty) (inr refl) tt (sym (held_again k n i h))
-only_if_full_again {k = k} {n = n} {i = i} (counts {o = o} r e) is = has_added (Again k n i Empty) (inr refl) tt (ap OfOwned e ∙ sym (owned_again k n i o))
-only_if_full_again {k = k} {n = n} {i = i} (enters_again {c = c} r h e) is = has_added (Again k n i Empty) (inr refl) (h, tt) (ap OfGraph e)
+pub only_if_full_again : {p : Showing} {k : Key} {n : ℕ} {i : Identity} {is_first : Bool} {s t : State} {x : Unit} →
+    OpensShared k n i s (Ok is_first) t → is_first ≡ false → FailsOnlyIfFull (SharedWith k n i p) s (Ok x) t
+only_if_full_again {k = k} {n = n} {i = i} (goes_past {h = h}) is =
+    has_added (Again k n i Empty) (inr refl) tt (sym (held_again k n i h))
+only_if_full_again {k = k} {n = n} {i = i} (counts {o = o} r e) is =
+    has_added (Again k n i Empty) (inr refl) tt (ap OfOwned e ∙ sym (owned_again k n i o))
+only_if_full_again {k = k} {n = n} {i = i} (enters_again {c = c} r h e) is =
+    has_added (Again k n i Empty) (inr refl) (h, tt) (ap OfGraph e)
 only_if_full_again (enters_first r h e) is = absurd (false≢true (sym is))
 
 -- If opening a shared entry is refused, the visit that shows the entry fails only if full.
-pub only_if_full_not_shared : {p : Showing} {k : Key} {n : ℕ} {i : Identity} {s t : State} {e : Refusal} → OpensShared k n i s (Err e) t → FailsOnlyIfFull (SharedWith k n i p) s (Err e) t
+pub only_if_full_not_shared : {p : Showing} {k : Key} {n : ℕ} {i : Identity} {s t : State} {e : Refusal} →
+    OpensShared k n i s (Err e) t → FailsOnlyIfFull (SharedWith k n i p) s (Err e) t
 only_if_full_not_shared stays_shared = had_failed
-only_if_full_not_shared {k = k} {n = n} {i = i} (is_refused_shared {c = c} {e = e} h) = has_refused (pointer_refuses _ k n i c e h)
-only_if_full_not_shared {p} {k} {n} {i} (is_too_large_shared {o = o} {e = e} j h) = has_refused (subst (MayRefuse (SharedWith k n i p) (OfOwned o)) (sym j) (λ w. omega (arith, h, can_count k n i o w)))
+only_if_full_not_shared {k = k} {n = n} {i = i} (is_refused_shared {c = c} {e = e} h) =
+    has_refused (pointer_refuses _ k n i c e h)
+only_if_full_not_shared {p} {k} {n} {i} (is_too_large_shared {o = o} {e = e} j h) =
+    has_refused (subst (MayRefuse (SharedWith k n i p) (OfOwned o)) (sym j)
+    (λ w. omega (arith, h, can_count k n i o w)))
 
 -- Of a visit that is not exact nothing is asked.
 pub inexact : {p : Showing} {a b : State} {r : Result Unit Refusal} → IsTrue false → FailsOnlyIfFull p a r b
@@ -378,14 +459,16 @@ inexact h = absurd (false≢true h)
 
 -- ---- errors that are returned by hand
 -- A visit that is refused, followed by refusing with the same error.
-pub only_if_full_refused : {p : Showing} {a b : State} {y : Refusal} (c : State) (x : Refusal) → FailsOnlyIfFull p a (Err y) b → c ≡ failed_with y b → HasFailed c x → FailsOnlyIfFull p a (Err x) c
+pub only_if_full_refused : {p : Showing} {a b : State} {y : Refusal} (c : State) (x : Refusal) →
+    FailsOnlyIfFull p a (Err y) b → c ≡ failed_with y b → HasFailed c x → FailsOnlyIfFull p a (Err x) c
 only_if_full_refused c x had_failed e h = had_failed
 only_if_full_refused {p} c x (has_refused {b = b} {e = y} m) e h =
     let i : y ≡ x = cc in
     rw h (has_refused (subst (MayRefuse p b) i m))
 
 -- What is declared nowhere may be refused as TooLarge.
-pub only_if_full_undeclared : {p : Showing} (a b : State) (e : Refusal) → (IsDeclared p → ⊥) → b ≡ failed_with TooLarge a → HasFailed b e → FailsOnlyIfFull p a (Err e) b
+pub only_if_full_undeclared : {p : Showing} (a b : State) (e : Refusal) → (IsDeclared p → ⊥) →
+    b ≡ failed_with TooLarge a → HasFailed b e → FailsOnlyIfFull p a (Err e) b
 only_if_full_undeclared (Failed q) b e n i h = had_failed
 only_if_full_undeclared {p} (Going k) b e n i h =
     let j : TooLarge ≡ e = cc in

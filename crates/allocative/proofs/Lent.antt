@@ -1,17 +1,20 @@
 -- What the hand-written proofs of calls that lend a collector cite: the steps of a walk, the one machine value of a
 -- parameter, and what such a call passes on.
-pub use Rattle.std.proofs.Common.{◌≡◌, ℕ, List, [], ◌∷◌, refl, sym, ap, subst, MutBor, Bool, Result, Ok, Err, IfOk, IfErr, OnOk, OnErr, true, false, Option, None, Some, IfSome}
+pub use Rattle.std.proofs.Common.{◌≡◌, ℕ, List, [], ◌∷◌, refl, sym, ap, subst, MutBor, Bool, Result, Ok, Err, IfOk}
+pub use Rattle.std.proofs.Common.{IfErr, OnOk, OnErr, true, false, Option, None, Some, IfSome}
 pub use Rattle.std.proofs.raw_atomic.Walks.{proved, proved_at}
 pub use Rattle.std.proofs.mem.Facts.{says_two}
 pub use Rattle.std.proofs.alloc.Calls.{Goes-blank}
 pub use base.Logic.{id⊢, ent, sep, emp}
 pub use base.Fml.{ftrue, flft, Fml, GName, fres}
-pub use mir.Syntax.{named, w64, Ty, Lifetime, erased, Fn, Callee, local, value_local, seq, assign, addr_of, deref, call, copy, place, return, Args, Dict, a_type, dcons, dnil}
+pub use mir.Syntax.{named, w64, Ty, Lifetime, erased, Fn, Callee, local, value_local, seq, assign, addr_of, deref, call}
+pub use mir.Syntax.{copy, place, return, Args, Dict, a_type, dcons, dnil}
 pub use mir.Val.{Val}
 pub use contract.Lifetimes.{Lfts}
 pub use contract.Monad.{fact, Fun, fact_i}
 pub use contract.Running.{tables, Running}
-pub use types.Kit.{‵, raw, ◌⊛◌, some, later, ◌$◌, ◌∵◌, !, qed, done, move, keep, drop, use1, use2, split, join, fsplit, fjoin, feq_i, feq_l, pick, await, rewrite, suffices, frame, fpick, fpack, use0, use3}
+pub use types.Kit.{‵, raw, ◌⊛◌, some, later, ◌$◌, ◌∵◌, !, qed, done, move, keep, drop, use1, use2, split, join, fsplit}
+pub use types.Kit.{fjoin, feq_i, feq_l, pick, await, rewrite, suffices, frame, fpick, fpack, use0, use3}
 pub use types.Run.{enter, addr, stop, no_more, and_then, returns}
 pub use types.ByLocal.{alloc_all, pass_all, free_all, look_at, get, through, sets, lands_as}
 pub use denote.Builtin.{usize, RefMutOf, RefOf}
@@ -41,7 +44,10 @@ pub use denote.Param.Laws.{Laws, of_field}
 use denote.Param.Shared.{copy_shared}
 use denote.Struct.Field.{usize-field}
 use denote.Struct.Laws.{usize-laws, usize-copy}
-pub use Rattle.allocative.proofs.Common.{name_if_ok, Refusal, Key, State, Visitor, LendsCollector, with_state, OpensRoot, Settles, as_graph, OpensShared, EndsWith, EndsWithout, AnswersShared, told, turned, Identity, enters_first, LendsNested, Nests, IsRefused, OpensEntry, RefusesEntry, Failed}
+pub use Rattle.allocative.proofs.Common.{name_if_ok, Refusal, Key, State, Visitor, LendsCollector, with_state}
+pub use Rattle.allocative.proofs.Common.{OpensRoot, Settles, as_graph, OpensShared, EndsWith, EndsWithout}
+pub use Rattle.allocative.proofs.Common.{AnswersShared, told, turned, Identity, enters_first, LendsNested, Nests}
+pub use Rattle.allocative.proofs.Common.{IsRefused, OpensEntry, RefusesEntry, Failed}
 pub use Rattle.std.specs.Borrow.{RestsIfErr}
 pub use prog.Wp.{WpFn, Closed}
 pub use denote.Param.{layout, bounded, param}
@@ -86,13 +92,17 @@ one_value (v ∷ []) h = (v, refl)
 one_value (v ∷ u ∷ us) h = absurd h
 
 -- A walk at the parameters' machine values written out is a walk at those passed.
-pub at_values : {M : Type 1} {𝓤 : Ura M} (𝓛 : Logic 𝓤) (T : Ended) (hs : Stays T.signature.params T.kept) (c : Clauses 𝓤 T) (run : Fun 𝓤)
+pub at_values : {M : Type 1} {𝓤 : Ura M} (𝓛 : Logic 𝓤) (T : Ended) (hs : Stays T.signature.params T.kept)
+    (c : Clauses 𝓤 T) (run : Fun 𝓤)
     (y : (walk_of 𝓛 T hs c).Ghost) (us : Vals T.signature y.0.0) → y.0.4 ≡ us →
-    ent 𝓤 ((walk_of 𝓛 T hs c).pre ((y.0.0, y.0.1, y.0.2, y.0.3, us), y.1)) (run ((walk_of 𝓛 T hs c).args ((y.0.0, y.0.1, y.0.2, y.0.3, us), y.1)) ((walk_of 𝓛 T hs c).post ((y.0.0, y.0.1, y.0.2, y.0.3, us), y.1))) →
+    ent 𝓤 ((walk_of 𝓛 T hs c).pre ((y.0.0, y.0.1, y.0.2, y.0.3, us), y.1))
+    (run ((walk_of 𝓛 T hs c).args ((y.0.0, y.0.1, y.0.2, y.0.3, us), y.1))
+    ((walk_of 𝓛 T hs c).post ((y.0.0, y.0.1, y.0.2, y.0.3, us), y.1))) →
     ent 𝓤 ((walk_of 𝓛 T hs c).pre y) (run ((walk_of 𝓛 T hs c).args y) ((walk_of 𝓛 T hs c).post y))
 at_values {𝓤 = 𝓤} 𝓛 T hs c run y us e h =
     subst (λ (ws : Vals T.signature y.0.0). ent 𝓤 ((walk_of 𝓛 T hs c).pre ((y.0.0, y.0.1, y.0.2, y.0.3, ws), y.1))
-    (run ((walk_of 𝓛 T hs c).args ((y.0.0, y.0.1, y.0.2, y.0.3, ws), y.1)) ((walk_of 𝓛 T hs c).post ((y.0.0, y.0.1, y.0.2, y.0.3, ws), y.1)))) (sym e) h
+    (run ((walk_of 𝓛 T hs c).args ((y.0.0, y.0.1, y.0.2, y.0.3, ws), y.1))
+    ((walk_of 𝓛 T hs c).post ((y.0.0, y.0.1, y.0.2, y.0.3, ws), y.1)))) (sym e) h
 
 -- How a lender ends whose part is lent further by a call that may return it. The whole is V and ends as F of its
 -- part, which is C. P and P₀ say how the part ends, with a loan and without; Q and Q₀ follow for the whole.
@@ -105,7 +115,8 @@ module _ {M : Type 1} {𝓤 : Ura M} (𝓛 : Logic 𝓤) (V C : RattleType) (F :
   abbrev Whole : maybe.Option GName → Both → Fml
   Whole m s = follows_by V.Denot C.Denot V.coded.code C.coded.code γ m s.0.0 s.0.1
 
-  pub nest : (m : maybe.Option GName) → ent 𝓤 (sep 𝓤 (sem 𝓛 (follows V C γ γ' F)) (sem 𝓛 (follows_so C C γ' m P P₀))) (sem 𝓛 (follows_so V C γ m Q Q₀))
+  pub nest : (m : maybe.Option GName) → ent 𝓤 (sep 𝓤 (sem 𝓛 (follows V C γ γ' F)) (sem 𝓛 (follows_so C C γ' m P P₀)))
+      (sem 𝓛 (follows_so V C γ m Q Q₀))
   unfolding such_by follows_by
   nest maybe.none =
       qed 𝓛 (‵ (follows V C γ γ' F) ∷ ‵ (follows_so C C γ' maybe.none P P₀) ∷ []) ∵ move ! (1 ∷ []) $ fpick ! (λ s.

@@ -1,9 +1,13 @@
 -- How the showing of a value follows from the part that enters it, word by word.
 use Rattle.std.proofs.Common.{◌≡◌, ℕ, Bool, true, false, ◌&&◌, Option, Some, None, Result, inl, inr, Ok, Err, refl}
-use Rattle.allocative.proofs.Common.{Refusal, TooLarge, Key, Identity, Forest, Showing, Nothing, Both, InsideAs, Inside, InsideUnique, Field, IsField, sized, SharedWith, IsDeclared, Visitor, Visited, Entered, Means, OnlyIf}
+use Rattle.allocative.proofs.Common.{Refusal, TooLarge, Key, Identity, Forest, Showing, Nothing, Both, InsideAs, Inside}
+use Rattle.allocative.proofs.Common.{InsideUnique, Field, IsField, sized, SharedWith, IsDeclared, Visitor, Visited}
+use Rattle.allocative.proofs.Common.{Entered, Means, OnlyIf}
 use Rattle.std.proofs.lemmas.Bool.{false≢true, and_parts, and_from}
 use Rattle.allocative.specs.Visited.{AnyEffect, Refused}
-use Rattle.allocative.proofs.Exact.{declared_first, declared_second, declared_both, declared_inside, declared_entry, declared_content, declared_shared, only_if_full_nothing, only_if_full_weaker, only_if_full_undeclared, inexact}
+use Rattle.allocative.proofs.Exact.{declared_first, declared_second, declared_both, declared_inside, declared_entry}
+use Rattle.allocative.proofs.Exact.{declared_content, declared_shared, only_if_full_nothing, only_if_full_weaker}
+use Rattle.allocative.proofs.Exact.{only_if_full_undeclared, inexact}
 use Rattle.allocative.proofs.Visits.{adds_weaker, adds_nothing, adds_refused}
 
 -- ---- which visits are exact
@@ -45,34 +49,41 @@ pub means_either : {x : Bool} {p q : Showing} → ((f : Forest) → p f → q f)
 means_either up down = record { means = up; declared = λ h d. (d.0, down d.0 d.1, d.2) }
 
 -- If p means q, an entry with p inside it means the same entry with q inside it.
-inside_as : (u : Bool) (k : Key) (n : ℕ) {x : Bool} {p q : Showing} → Means x p q → Means x (InsideAs u k n p) (InsideAs u k n q)
+inside_as : (u : Bool) (k : Key) (n : ℕ) {x : Bool} {p q : Showing} → Means x p q →
+    Means x (InsideAs u k n p) (InsideAs u k n q)
 inside_as u k n m = record {
   means = λ f a. (a.0, m.means a.0 a.1, a.2);
   declared = λ h d. declared_entry u k n (m.declared h (declared_inside u k n d));
 }
 
 -- If p means q, an inline entry with p inside it means the inline entry of an equal key with q inside it.
-pub means_inside : {x : Bool} {k j : Key} {n : ℕ} {p q : Showing} → k ≡ j → Means x p q → Means x (Inside k n p) (Inside j n q)
+pub means_inside : {x : Bool} {k j : Key} {n : ℕ} {p q : Showing} → k ≡ j → Means x p q →
+    Means x (Inside k n p) (Inside j n q)
 means_inside {j = j} {n = n} e m = rw e (inside_as false j n m)
 
 -- If p means q, a unique entry with p inside it means the unique entry of an equal key with q inside it.
-pub means_unique : {x : Bool} {k j : Key} {n : ℕ} {p q : Showing} → k ≡ j → Means x p q → Means x (InsideUnique k n p) (InsideUnique j n q)
+pub means_unique : {x : Bool} {k j : Key} {n : ℕ} {p q : Showing} → k ≡ j → Means x p q →
+    Means x (InsideUnique k n p) (InsideUnique j n q)
 means_unique {j = j} {n = n} e m = rw e (inside_as true j n m)
 
 -- If p means q, each forest of a field with p inside it is a forest of the same field with q inside it.
-in_field : (k : Key) (y : Option ℕ) {x : Bool} {p q : Showing} → Means x p q → (f : Forest) → IsField k p y f → IsField k q y f
+in_field : (k : Key) (y : Option ℕ) {x : Bool} {p q : Showing} → Means x p q → (f : Forest) → IsField k p y f →
+    IsField k q y f
 in_field k y m f (sized {n} a) = sized ((inside_as false k n m).means f a)
 
 -- If p is declared whenever q is, a field with p inside it is declared whenever the field with q is.
-field_declared : (k : Key) (y : Option ℕ) {p q : Showing} → (IsDeclared q → IsDeclared p) → IsDeclared (Field k y q) → IsDeclared (Field k y p)
+field_declared : (k : Key) (y : Option ℕ) {p q : Showing} → (IsDeclared q → IsDeclared p) → IsDeclared (Field k y q) →
+    IsDeclared (Field k y p)
 field_declared k (Some n) up (f, sized a, s) =
     let d = declared_entry false k n (up (declared_inside false k n (f, a, s))) in
     (d.0, sized d.1, d.2)
 field_declared k None up (f, a, s) = elim a [ ]
 
 -- If p means q, a field with p inside it means the field of equal key and size with q inside it.
-pub means_field : {x : Bool} {k j : Key} {y z : Option ℕ} {p q : Showing} → k ≡ j → y ≡ z → Means x p q → Means x (Field k y p) (Field j z q)
-means_field {j = j} {z = z} e h m = rw (e, h) (record { means = λ f a. in_field j z m f a; declared = λ i d. field_declared j z (m.declared i) d })
+pub means_field : {x : Bool} {k j : Key} {y z : Option ℕ} {p q : Showing} → k ≡ j → y ≡ z → Means x p q →
+    Means x (Field k y p) (Field j z q)
+means_field {j = j} {z = z} e h m = rw (e, h)
+    (record { means = λ f a. in_field j z m f a; declared = λ i d. field_declared j z (m.declared i) d })
 
 -- If p means q and r means s, then p followed by r means q followed by s.
 pub means_both : {x : Bool} {p q r s : Showing} → Means x p q → Means x r s → Means x (Both p r) (Both q s)
@@ -82,19 +93,22 @@ means_both m l = record {
 }
 
 -- If p means q, each forest of a shared entry of p is a forest of the same shared entry of q.
-shared_as : (k : Key) (n : ℕ) (i : Identity) {x : Bool} {p q : Showing} → Means x p q → (f : Forest) → SharedWith k n i p f → SharedWith k n i q f
+shared_as : (k : Key) (n : ℕ) (i : Identity) {x : Bool} {p q : Showing} → Means x p q → (f : Forest) →
+    SharedWith k n i p f → SharedWith k n i q f
 shared_as k n i m f (inl (g, a, e)) = inl (g, m.means g a, e)
 shared_as k n i m f (inr e) = inr e
 
 -- If p means q, a shared entry of p means the shared entry of q with an equal key and identity.
-pub means_shared : {x : Bool} {k j : Key} {n : ℕ} {i l : Identity} {p q : Showing} → k ≡ j → i ≡ l → Means x p q → Means x (SharedWith k n i p) (SharedWith j n l q)
+pub means_shared : {x : Bool} {k j : Key} {n : ℕ} {i l : Identity} {p q : Showing} → k ≡ j → i ≡ l → Means x p q →
+    Means x (SharedWith k n i p) (SharedWith j n l q)
 means_shared {j = j} {n = n} {l = l} e h m = rw (e, h) (record {
   means = λ f a. shared_as j n l m f a;
   declared = λ i d. declared_shared j n l (m.declared i (declared_content j n l d));
 })
 
 -- What was entered as p was entered as q, if p means q and q is exact only if p is.
-pub entered_if : {d e : Bool} {p q : Showing} {a b : Visitor} {r : Result (Unit {0}) Refusal} → Entered e p a b r → OnlyIf d e → Means d p q → Entered d q a b r
+pub entered_if : {d e : Bool} {p q : Showing} {a b : Visitor} {r : Result (Unit {0}) Refusal} → Entered e p a b r →
+    OnlyIf d e → Means d p q → Entered d q a b r
 entered_if h o m = record {
   same_reference = h.same_reference;
   same_outer = h.same_outer;
@@ -104,33 +118,40 @@ entered_if h o m = record {
 }
 
 -- If p means q, what was entered as p was entered as q, and it is just as exact.
-pub entered_as : {d : Bool} {p q : Showing} {a b : Visitor} {r : Result (Unit {0}) Refusal} → Entered d p a b r → Means d p q → Entered d q a b r
+pub entered_as : {d : Bool} {p q : Showing} {a b : Visitor} {r : Result (Unit {0}) Refusal} → Entered d p a b r →
+    Means d p q → Entered d q a b r
 entered_as h m = entered_if h exact_same m
 
 -- An entry of a size that is there is an inline entry.
-pub entered_inline : {d : Bool} {k : Key} {n : ℕ} {p : Showing} {a b : Visitor} {r : Result (Unit {0}) Refusal} → Entered d (Field k (Some n) p) a b r → Entered d (Inside k n p) a b r
+pub entered_inline : {d : Bool} {k : Key} {n : ℕ} {p : Showing} {a b : Visitor} {r : Result (Unit {0}) Refusal} →
+    Entered d (Field k (Some n) p) a b r → Entered d (Inside k n p) a b r
 entered_inline h = entered_as h (means_either (λ f x. elim x [ sized y ↦ y ]) (λ f x. sized x))
 
 -- What was entered need not be exact.
-pub entered_loosely : {e : Bool} {p : Showing} {a b : Visitor} {r : Result (Unit {0}) Refusal} → Entered e p a b r → Entered false p a b r
+pub entered_loosely : {e : Bool} {p : Showing} {a b : Visitor} {r : Result (Unit {0}) Refusal} → Entered e p a b r →
+    Entered false p a b r
 entered_loosely h = entered_if h exact_never means_same
 
 -- A part that was entered is the visit of a value, exact if the part is.
-pub visited_as : {d : Bool} {p q : Showing} {a b : Visitor} {r : Result (Unit {0}) Refusal} → Entered d p a b r → Means d p q → Visited d q AnyEffect a b r
+pub visited_as : {d : Bool} {p q : Showing} {a b : Visitor} {r : Result (Unit {0}) Refusal} → Entered d p a b r →
+    Means d p q → Visited d q AnyEffect a b r
 visited_as h m =
     let w = entered_as h m in
     record { same_reference = w.same_reference; same_outer = w.same_outer; shown = w.shown; only_if_full = w.only_if_full; takes_effect = tt }
 
 -- An exact part is the visit of a value that need not be. Search needs the two flags as they are.
-pub visited_of_exact : {p q : Showing} {a b : Visitor} {r : Result (Unit {0}) Refusal} → Entered true p a b r → Means false p q → Visited false q AnyEffect a b r
+pub visited_of_exact : {p q : Showing} {a b : Visitor} {r : Result (Unit {0}) Refusal} → Entered true p a b r →
+    Means false p q → Visited false q AnyEffect a b r
 visited_of_exact h m = visited_as (entered_loosely h) m
 
 -- A part that was entered is the visit of a value that is exact only if the part is.
-pub visited_if : {d e : Bool} {p q : Showing} {a b : Visitor} {r : Result (Unit {0}) Refusal} → Entered e p a b r → OnlyIf d e → Means d p q → Visited d q AnyEffect a b r
+pub visited_if : {d e : Bool} {p q : Showing} {a b : Visitor} {r : Result (Unit {0}) Refusal} → Entered e p a b r →
+    OnlyIf d e → Means d p q → Visited d q AnyEffect a b r
 visited_if h o m = visited_as (entered_if h o means_same) m
 
 -- Entering a part that shows exactly p is a visit that shows p.
-pub visited : {x : Bool} {p : Showing} {a b : Visitor} {r : Result (Unit {0}) Refusal} → Entered x p a b r → Visited x p AnyEffect a b r
+pub visited : {x : Bool} {p : Showing} {a b : Visitor} {r : Result (Unit {0}) Refusal} → Entered x p a b r →
+    Visited x p AnyEffect a b r
 visited h = record { same_reference = h.same_reference; same_outer = h.same_outer; shown = h.shown; only_if_full = h.only_if_full; takes_effect = tt }
 
 -- A call that enters nothing and returns Ok has shown nothing.
@@ -143,7 +164,8 @@ pub entered_refused : {p : Showing} {q e : Refusal} {a b : Visitor} → Refused 
 entered_refused {q = q} {e = e} h = record { same_reference = h.same_reference; same_outer = h.same_outer; shown = adds_refused _ e q _ h.after; cause = h.is_cause; only_if_full = inexact }
 
 -- A part that is declared nowhere is refused as TooLarge.
-pub undeclared_refused : {x : Bool} {p : Showing} {e : Refusal} {a b : Visitor} → (IsDeclared p → ⊥) → Refused TooLarge a b e → Entered x p a b (Err e)
+pub undeclared_refused : {x : Bool} {p : Showing} {e : Refusal} {a b : Visitor} → (IsDeclared p → ⊥) →
+    Refused TooLarge a b e → Entered x p a b (Err e)
 undeclared_refused {e = e} {a = a} {b = b} n h = record {
   same_reference = h.same_reference;
   same_outer = h.same_outer;

@@ -1,6 +1,11 @@
 -- What the collector's own calls do, by what they find: the collector had failed, or it was going.
-use Rattle.std.proofs.Common.{◌≡◌, ℕ, ◌+◌, ◌-◌, ◌<◌, ◌≤◌, ◌^◌, Bool, true, false, None, Some, Option, Result, Ok, Err, refl}
-use Rattle.allocative.proofs.Common.{Outer, Refusal, TooLarge, Key, Identity, Live, Kind, OfGraph, OfHeld, OfOwned, count_owning, State, Failed, Going, OpensEntry, stays_failed, is_refused, is_entered, RefusesSized, OpensShared, stays_shared, is_refused_shared, goes_past, is_too_large_shared, counts, enters_first, enters_again, HasEntered, HasMade, Done, one, Makes, made_none, made, entry_refused}
+use Rattle.std.proofs.Common.{◌≡◌, ℕ, ◌+◌, ◌-◌, ◌<◌, ◌≤◌, ◌^◌, Bool, true, false, None, Some, Option, Result, Ok, Err}
+use Rattle.std.proofs.Common.{refl}
+use Rattle.allocative.proofs.Common.{Outer, Refusal, TooLarge, Key, Identity, Live, Kind, OfGraph, OfHeld, OfOwned}
+use Rattle.allocative.proofs.Common.{count_owning, State, Failed, Going, OpensEntry, stays_failed, is_refused}
+use Rattle.allocative.proofs.Common.{is_entered, RefusesSized, OpensShared, stays_shared, is_refused_shared, goes_past}
+use Rattle.allocative.proofs.Common.{is_too_large_shared, counts, enters_first, enters_again, HasEntered, HasMade, Done}
+use Rattle.allocative.proofs.Common.{one, Makes, made_none, made, entry_refused}
 use Rattle.allocative_collectors.specs.Meets.{MeetsAs}
 use Rattle.allocative_graph.specs.Collector.{Holding, Owning}
 use Rattle.allocative_graph.specs.Sums.{entered}
@@ -10,31 +15,38 @@ use Rattle.allocative.proofs.Visits.{refuses_entry}
 
 -- ---- opening an entry
 -- Opening an entry in a failed collector returns its cause and leaves it as it is.
-pub opens_failed : {u : Bool} {k : Key} {y : Option ℕ} {s t : State} {r : Refusal} → s ≡ Failed r → t ≡ Failed r → OpensEntry u k y s (Err r) t
+pub opens_failed : {u : Bool} {k : Key} {y : Option ℕ} {s t : State} {r : Refusal} → s ≡ Failed r → t ≡ Failed r →
+    OpensEntry u k y s (Err r) t
 opens_failed i j = rw (i, j) stays_failed
 
 -- Opening an entry may return an error that `RefusesSized` allows if the collector fails with that error.
-pub opens_refused : {u : Bool} {k : Key} {y : Option ℕ} (b : Kind) {s t : State} {e : Refusal} → s ≡ Going b → RefusesSized u y b e → t ≡ Failed e → OpensEntry u k y s (Err e) t
+pub opens_refused : {u : Bool} {k : Key} {y : Option ℕ} (b : Kind) {s t : State} {e : Refusal} → s ≡ Going b →
+    RefusesSized u y b e → t ≡ Failed e → OpensEntry u k y s (Err e) t
 opens_refused b i h j = rw (i, j) (is_refused h)
 
 -- Opening an entry that has room adds it, with a visitor at it, and returns what closing it restores.
-pub opens_entered : {u : Bool} {k : Key} (y : Option ℕ) (b c : Kind) {o : Outer} {s t : State} → s ≡ Going b → HasEntered u k y b o c → t ≡ Going c → OpensEntry u k y s (Ok o) t
+pub opens_entered : {u : Bool} {k : Key} (y : Option ℕ) (b c : Kind) {o : Outer} {s t : State} → s ≡ Going b →
+    HasEntered u k y b o c → t ≡ Going c → OpensEntry u k y s (Ok o) t
 opens_entered None b c i h j = absurd h
 opens_entered (Some n) b c i h j = rw (i, j) (is_entered h.0 h.1 h.2)
 
 -- ---- making an entry
 -- Making an entry in a failed collector returns its cause and leaves it as it is.
-pub makes_failed_entry : {k : Key} {y : Option ℕ} {s t : State} {r : Refusal} → s ≡ Failed r → t ≡ Failed r → Makes (one k y) s (Err r) t
+pub makes_failed_entry : {k : Key} {y : Option ℕ} {s t : State} {r : Refusal} → s ≡ Failed r → t ≡ Failed r →
+    Makes (one k y) s (Err r) t
 makes_failed_entry i j = rw (i, j) had_failed
 
 -- Making an entry may return an error that `RefusesSized` allows if the collector fails with that error.
-pub makes_refused_entry : {k : Key} {y : Option ℕ} (b : Kind) {s t : State} {e : Refusal} → s ≡ Going b → RefusesSized false y b e → t ≡ Failed e → Makes (one k y) s (Err e) t
+pub makes_refused_entry : {k : Key} {y : Option ℕ} (b : Kind) {s t : State} {e : Refusal} → s ≡ Going b →
+    RefusesSized false y b e → t ≡ Failed e → Makes (one k y) s (Err e) t
 makes_refused_entry b i h j = entry_refused (opens_refused b i h j)
 
 -- Making an entry that has room adds it, closes it, and returns Ok.
-pub makes_one : {k : Key} (y : Option ℕ) (b c : Kind) {u : Unit} {s t : State} → s ≡ Going b → HasMade k y b c → t ≡ Going c → Makes (one k y) s (Ok u) t
+pub makes_one : {k : Key} (y : Option ℕ) (b c : Kind) {u : Unit} {s t : State} → s ≡ Going b → HasMade k y b c →
+    t ≡ Going c → Makes (one k y) s (Ok u) t
 makes_one None b c i h j = absurd h
-makes_one (Some n) b c i h j = rw (i, j, h.1) (made (is_entered h.0 refl refl) (made_none {u = tt}) (record { closes = refl }) made_none)
+makes_one (Some n) b c i h j = rw (i, j, h.1)
+    (made (is_entered h.0 refl refl) (made_none {u = tt}) (record { closes = refl }) made_none)
 
 -- ---- no entry
 -- Making no entry in a failed collector returns its cause and leaves it as it is.
@@ -47,27 +59,34 @@ none_made b i = rw i made_none
 
 -- ---- opening a shared entry
 -- Opening a shared entry in a failed collector returns its cause and leaves it as it is.
-pub shared_failed : {k : Key} {n : ℕ} {i : Identity} {s t : State} {r : Refusal} → s ≡ Failed r → t ≡ Failed r → OpensShared k n i s (Err r) t
+pub shared_failed : {k : Key} {n : ℕ} {i : Identity} {s t : State} {r : Refusal} → s ≡ Failed r → t ≡ Failed r →
+    OpensShared k n i s (Err r) t
 shared_failed i j = rw (i, j) stays_shared
 
 -- Opening a shared entry leaves a collector of held bytes as it is, and no content is shown.
-pub shared_held : {k : Key} {n : ℕ} {i : Identity} (h : Holding) {s t : State} → s ≡ Going (OfHeld h) → t ≡ Going (OfHeld h) → OpensShared k n i s (Ok false) t
+pub shared_held : {k : Key} {n : ℕ} {i : Identity} (h : Holding) {s t : State} → s ≡ Going (OfHeld h) →
+    t ≡ Going (OfHeld h) → OpensShared k n i s (Ok false) t
 shared_held h i j = rw (i, j) goes_past
 
 -- A collector of owned bytes counts a shared pointer if the sum fits a word, and no content is shown.
-pub shared_counted : {k : Key} {n : ℕ} {i : Identity} (o : Owning) {s t : State} → s ≡ Going (OfOwned o) → o.sum + (n - o.spare) < 2 ^ 64 → t ≡ Going (OfOwned (count_owning n o)) → OpensShared k n i s (Ok false) t
+pub shared_counted : {k : Key} {n : ℕ} {i : Identity} (o : Owning) {s t : State} → s ≡ Going (OfOwned o) →
+    o.sum + (n - o.spare) < 2 ^ 64 → t ≡ Going (OfOwned (count_owning n o)) → OpensShared k n i s (Ok false) t
 shared_counted o i r j = rw (i, j) (counts r refl)
 
 -- A collector of owned bytes refuses a shared pointer with TooLarge if the sum does not fit a word.
-pub shared_too_large : {k : Key} {n : ℕ} {i : Identity} (o : Owning) {s t : State} {e : Refusal} → s ≡ Going (OfOwned o) → e ≡ TooLarge → 2 ^ 64 ≤ o.sum + (n - o.spare) → t ≡ Failed e → OpensShared k n i s (Err e) t
+pub shared_too_large : {k : Key} {n : ℕ} {i : Identity} (o : Owning) {s t : State} {e : Refusal} →
+    s ≡ Going (OfOwned o) → e ≡ TooLarge → 2 ^ 64 ≤ o.sum + (n - o.spare) → t ≡ Failed e → OpensShared k n i s (Err e) t
 shared_too_large o i e r j = rw (i, j) (is_too_large_shared e r)
 
 -- A flame graph's collector refuses a shared entry as it refuses an inline entry of as many bytes.
-pub shared_refused : {k : Key} {n : ℕ} {i : Identity} (c : Live) {s t : State} {e : Refusal} → s ≡ Going (OfGraph c) → Refuses false n (OfGraph c) e → t ≡ Failed e → OpensShared k n i s (Err e) t
+pub shared_refused : {k : Key} {n : ℕ} {i : Identity} (c : Live) {s t : State} {e : Refusal} → s ≡ Going (OfGraph c) →
+    Refuses false n (OfGraph c) e → t ≡ Failed e → OpensShared k n i s (Err e) t
 shared_refused c i h j = rw (i, j) (is_refused_shared h)
 
 -- A flame graph's collector shows the content of a shared entry that has room exactly if its identity is new.
-pub shared_met : {k : Key} {n : ℕ} {i : Identity} (c d : Live) (is_first : Bool) {s t : State} → s ≡ Going (OfGraph c) → entered c.sums + n < 2 ^ 63 → MeetsAs k n i c is_first d → t ≡ Going (OfGraph d) → OpensShared k n i s (Ok is_first) t
+pub shared_met : {k : Key} {n : ℕ} {i : Identity} (c d : Live) (is_first : Bool) {s t : State} → s ≡ Going (OfGraph c) →
+    entered c.sums + n < 2 ^ 63 → MeetsAs k n i c is_first d → t ≡ Going (OfGraph d) →
+    OpensShared k n i s (Ok is_first) t
 shared_met c d true i r m j = rw (i, j) (enters_first r m.0 m.1)
 shared_met c d false i r m j = rw (i, j) (enters_again r m.0 m.1)
 

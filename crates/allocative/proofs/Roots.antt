@@ -1,6 +1,13 @@
 -- What a visit by a root visitor amounts to.
-use Rattle.std.proofs.Common.{◌≡◌, ℕ, suc, min, ◌+◌, ◌-◌, ◌<◌, ◌≤◌, ◌^◌, inl, inr, Option, Some, None, List, length, take, get_or, Bool, IsTrue, Result, Ok, Err, IsErr, refl, ap, sym, subst, ◌∙◌, arith, IfOk}
-use Rattle.allocative.proofs.Common.{Outer, Refusal, TooLarge, Forest, followed_by, add_all, held, ShowsNoContent, Kind, OfGraph, OfHeld, OfOwned, State, Failed, Going, leave, plus, Takes, visitors, is_graph, begin, outer_of, close_entry, nothing_held, nothing_owned, Showing, Both, each_shows, AddsForest, refused, hidden, forgotten, OpensRoot, Settles, VisitsRoot, Profile, IsProfileOf, IsHeldSum, MayRefuse, FailsOnlyIfFull, has_added, has_refused, RootFailsOnlyIfFull, ClosesEntry}
+use Rattle.std.proofs.Common.{◌≡◌, ℕ, suc, min, ◌+◌, ◌-◌, ◌<◌, ◌≤◌, ◌^◌, inl, inr, Option, Some, None, List, length}
+use Rattle.std.proofs.Common.{take, get_or, Bool, IsTrue, Result, Ok, Err, IsErr, refl, ap, sym, subst, ◌∙◌, arith}
+use Rattle.std.proofs.Common.{IfOk}
+use Rattle.allocative.proofs.Common.{Outer, Refusal, TooLarge, Forest, followed_by, add_all, held, ShowsNoContent, Kind}
+use Rattle.allocative.proofs.Common.{OfGraph, OfHeld, OfOwned, State, Failed, Going, leave, plus, Takes, visitors}
+use Rattle.allocative.proofs.Common.{is_graph, begin, outer_of, close_entry, nothing_held, nothing_owned, Showing, Both}
+use Rattle.allocative.proofs.Common.{each_shows, AddsForest, refused, hidden, forgotten, OpensRoot, Settles, VisitsRoot}
+use Rattle.allocative.proofs.Common.{Profile, IsProfileOf, IsHeldSum, MayRefuse, FailsOnlyIfFull, has_added}
+use Rattle.allocative.proofs.Common.{has_refused, RootFailsOnlyIfFull, ClosesEntry}
 use Rattle.allocative.specs.SizeOf.{AnswersSize, AnswersVisit, AnswersVisitOf, AnswersOwned, IsSizeOfOwned}
 use Rattle.allocative.specs.Closures.{AnswersSum}
 use Rattle.allocative.proofs.Within.{err_or, same_err}
@@ -12,7 +19,8 @@ use Rattle.allocative_graph.specs.Graph.{Graph, graph, warnings, warned_paths, s
 use Rattle.allocative_graph.specs.Collector.{entries_at, IsClosed, IsAtRoot, no_entries, no_outer}
 use Rattle.allocative_graph.specs.Owned.{direct, owned}
 use Rattle.allocative_graph.specs.Visits.{added, Ends, IsProfile, IsSumOfTwo}
-use Rattle.allocative_graph.proofs.Plus.{plus-following, takes_both, visitors-leave, closed-visitors, closed-plus, is_graph-plus, is_graph-leave, is_graph-begin}
+use Rattle.allocative_graph.proofs.Plus.{plus-following, takes_both, visitors-leave, closed-visitors, closed-plus}
+use Rattle.allocative_graph.proofs.Plus.{is_graph-plus, is_graph-leave, is_graph-begin}
 use Rattle.allocative.proofs.Showing.{each_and_one}
 use Rattle.allocative_graph.proofs.Reach.{all_is_meaning, reaches_exactly}
 use Rattle.allocative_graph.proofs.OneMeaning.{one_sums}
@@ -27,7 +35,8 @@ visitors-begin (OfOwned k) h = ap suc h.0
 
 -- The entries of a root visitor, and its end.
 out_of_begin : (b : Kind) (f : Forest) → IsAtRoot b → leave (outer_of 0 b) (plus (begin b) f) ≡ plus b f
-out_of_begin (OfGraph c) f h = λ i. OfGraph (record c { sums = add_all c.sums (entries_at (sym h.0 i) f); met = met_after c.met f })
+out_of_begin (OfGraph c) f h = λ i. OfGraph
+    (record c { sums = add_all c.sums (entries_at (sym h.0 i) f); met = met_after c.met f })
 out_of_begin (OfHeld k) f h = refl
 out_of_begin (OfOwned k) f h =
     let spare : k.spare - 0 ≡ k.spare - direct f = omega (arith, h) in
@@ -40,10 +49,13 @@ takes_begin (OfHeld k) f t = t
 takes_begin (OfOwned k) f t = t
 
 -- A step of `visits_root`: adding at the root visitor, and then leaving it, is a visit of a root.
-visits_going : {p : Showing} (b e : Kind) {c : State} {r : Result Unit Refusal} (q : Result Unit Refusal) → IsClosed b → IsAtRoot b → e ≡ begin b → AddsForest p (Going e) r c → Settles (close_entry (outer_of 0 b) c) q → VisitsRoot p (Going b) q (close_entry (outer_of 0 b) c)
+visits_going : {p : Showing} (b e : Kind) {c : State} {r : Result Unit Refusal} (q : Result Unit Refusal) → IsClosed b →
+    IsAtRoot b → e ≡ begin b → AddsForest p (Going e) r c → Settles (close_entry (outer_of 0 b) c) q →
+    VisitsRoot p (Going b) q (close_entry (outer_of 0 b) c)
 visits_going b e q h here i refused k = rw k (h, refl)
 visits_going b e q h here i hidden k = rw k (h, refl)
-visits_going b e (Err x) h here i (forgotten {c = c} j l) k = (k.0, k.1, (λ n. absurd (n h)), is_graph-leave (outer_of 0 b) c ∙ j ∙ ap is_graph i ∙ is_graph-begin b)
+visits_going b e (Err x) h here i (forgotten {c = c} j l) k =
+    (k.0, k.1, (λ n. absurd (n h)), is_graph-leave (outer_of 0 b) c ∙ j ∙ ap is_graph i ∙ is_graph-begin b)
 visits_going b e (Ok u) h here i (forgotten {c = c} j l) k =
     let d : visitors e ≡ 1 = ap visitors i ∙ visitors-begin b h in
     let z : visitors (leave (outer_of 0 b) c) ≡ 0 = closed-visitors (leave (outer_of 0 b) c) k in
@@ -55,7 +67,9 @@ visits_going b e (Ok u) h here i (added {c = c} f p t g) k =
     (k, f, p, takes_begin b f t', cc (out_of_begin b f here))
 
 -- A root visitor that was opened, what was shown there, leaving, and the result are a run.
-pub visits_root : (s : State) (q : Result Unit Refusal) {p : Showing} {t a c d : State} {o w : Outer} {r : Result Unit Refusal} → OpensRoot s (Ok o) t → a ≡ t → AddsForest p a r c → ClosesEntry w c d → w ≡ o → Settles d q → VisitsRoot p s q d
+pub visits_root : (s : State) (q : Result Unit Refusal) {p : Showing} {t a c d : State} {o w : Outer}
+    {r : Result Unit Refusal} → OpensRoot s (Ok o) t → a ≡ t → AddsForest p a r c → ClosesEntry w c d → w ≡ o →
+    Settles d q → VisitsRoot p s q d
 visits_root (Failed x) q h i v l e k = absurd h
 visits_root (Going b) q {p} {c = c} {r = r} h i v l e k =
     let d = l.closes ∙ ap (λ (o : Outer). close_entry o c) (e ∙ h.2) in
@@ -64,7 +78,9 @@ visits_root (Going b) q {p} {c = c} {r = r} h i v l e k =
     rw d (visits_going b (begin b) q h.0 h.1 refl v' k')
 
 -- An exact visit that was opened by a root visitor leaves its collector closed, or failed with what it returned.
-only_if_full_going : {p : Showing} (b e : Kind) {c : State} {r : Result Unit Refusal} (q : Refusal) → IsClosed b → IsAtRoot b → e ≡ begin b → FailsOnlyIfFull p (Going e) r c → Settles (close_entry (outer_of 0 b) c) (Err q) → (close_entry (outer_of 0 b) c ≡ Failed q) × MayRefuse p (begin b) q
+only_if_full_going : {p : Showing} (b e : Kind) {c : State} {r : Result Unit Refusal} (q : Refusal) → IsClosed b →
+    IsAtRoot b → e ≡ begin b → FailsOnlyIfFull p (Going e) r c → Settles (close_entry (outer_of 0 b) c) (Err q) →
+    (close_entry (outer_of 0 b) c ≡ Failed q) × MayRefuse p (begin b) q
 only_if_full_going {p} b e q h here i (has_added {c = c} f x t g) k =
     let same : leave (outer_of 0 b) c ≡ plus b f = cc (out_of_begin b f here) in
     absurd (k.1 (subst IsClosed (sym same) (closed-plus b f h)))
@@ -73,17 +89,21 @@ only_if_full_going {p} b e q h here i (has_refused {e = y} m) k =
     (ap Failed (sym is), subst (MayRefuse p (begin b)) (sym is) (subst (λ (z : Kind). MayRefuse p z y) i m))
 
 -- A root visitor that was opened, an exact visit there, leaving, and the result refuse only if they must.
-pub root_only_if_full : (s : State) (q : Result Unit Refusal) {x : Bool} {p : Showing} {t a c d : State} {o w : Outer} {r : Result Unit Refusal} → OpensRoot s (Ok o) t → a ≡ t → (IsTrue x → FailsOnlyIfFull p a r c) → ClosesEntry w c d → w ≡ o → Settles d q → RootFailsOnlyIfFull x p s q d
+pub root_only_if_full : (s : State) (q : Result Unit Refusal) {x : Bool} {p : Showing} {t a c d : State} {o w : Outer}
+    {r : Result Unit Refusal} → OpensRoot s (Ok o) t → a ≡ t → (IsTrue x → FailsOnlyIfFull p a r c) →
+    ClosesEntry w c d → w ≡ o → Settles d q → RootFailsOnlyIfFull x p s q d
 root_only_if_full (Failed z) q h i v l e k = tt
 root_only_if_full (Going b) (Ok u) h i v l e k = tt
 root_only_if_full (Going b) (Err z) {p} {c = c} {d = d} {r = r} h i v l e k = λ exact closed.
     let g : d ≡ close_entry (outer_of 0 b) c = l.closes ∙ ap (λ (o : Outer). close_entry o c) (e ∙ h.2) in
-    let v' : FailsOnlyIfFull p (Going (begin b)) r c = subst (λ (y : State). FailsOnlyIfFull p y r c) (i ∙ h.3) (v exact) in
+    let v' : FailsOnlyIfFull p (Going (begin b)) r c =
+    subst (λ (y : State). FailsOnlyIfFull p y r c) (i ∙ h.3) (v exact) in
     let k' : Settles (close_entry (outer_of 0 b) c) (Err z) = rw g at k in
     rw g (only_if_full_going b (begin b) z closed h.1 refl v' k')
 
 -- The sum of a run of held bytes.
-pub held_by_visit : (p : Showing) (s t : State) (u : Unit) (n : ℕ) → s ≡ Going (OfHeld nothing_held) → VisitsRoot p s (Ok u) t → IsHeldSum t n → (f : Forest) × p f × ShowsNoContent f × (n ≡ held f)
+pub held_by_visit : (p : Showing) (s t : State) (u : Unit) (n : ℕ) → s ≡ Going (OfHeld nothing_held) →
+    VisitsRoot p s (Ok u) t → IsHeldSum t n → (f : Forest) × p f × ShowsNoContent f × (n ≡ held f)
 held_by_visit p (Failed r) t u n e h k = absurd (cc)
 held_by_visit p (Going b) (Failed r) u n e h k = absurd h
 held_by_visit p (Going b) (Going c) u n e (z, f, a, t, g) k =
@@ -94,7 +114,8 @@ held_by_visit p (Going b) (Going c) u n e (z, f, a, t, g) k =
     (f, a, t', omega (arith, k'))
 
 -- The sum of a run of owned bytes.
-pub owned_by_visit : (p : Showing) (s t : State) (u : Unit) (n : ℕ) → s ≡ Going (OfOwned nothing_owned) → VisitsRoot p s (Ok u) t → IsHeldSum t n → IsSizeOfOwned p n
+pub owned_by_visit : (p : Showing) (s t : State) (u : Unit) (n : ℕ) → s ≡ Going (OfOwned nothing_owned) →
+    VisitsRoot p s (Ok u) t → IsHeldSum t n → IsSizeOfOwned p n
 owned_by_visit p (Failed r) t u n e h k = absurd (cc)
 owned_by_visit p (Going b) (Failed r) u n e h k = absurd h
 owned_by_visit p (Going b) (Going c) u n e (z, f, a, t, g) k =
@@ -105,60 +126,77 @@ owned_by_visit p (Going b) (Going c) u n e (z, f, a, t, g) k =
     (f, a, t', omega (arith, k'))
 
 -- What is answered of the bytes that a visit left, from a collector to which nothing was added.
-visit_answered_of : (z : Kind) {p : Showing} {effect : Effect} (answers : State → Result ℕ Refusal → Type 0) {s t : State} {q : Result Unit Refusal} {r : Result ℕ Refusal} →
-    IsClosed z → outer_of 0 z ≡ no_outer → VisitsRootWithEffect p effect s t q → s ≡ Going z → (Settles t q → answers t r) → AnswersVisitOf z p effect answers r
+visit_answered_of : (z : Kind) {p : Showing} {effect : Effect} (answers : State → Result ℕ Refusal → Type 0)
+    {s t : State} {q : Result Unit Refusal} {r : Result ℕ Refusal} →
+    IsClosed z → outer_of 0 z ≡ no_outer → VisitsRootWithEffect p effect s t q → s ≡ Going z →
+    (Settles t q → answers t r) → AnswersVisitOf z p effect answers r
 visit_answered_of z answers closed none (not_begun x b) is up = absurd ((rw is at b).1 closed)
 visit_answered_of z {p} {effect} answers {r = r} closed none (root_visited {o = o} {a = a} {c = c} b v l e k) is up =
     let b' : OpensRoot (Going z) (Ok o) a = rw is at b in
     record {
       after = c;
       visited = subst (λ (x : State). WasVisited p effect x c) b'.3 v;
-      answer = subst (λ (x : State). answers x r) (l.closes ∙ ap (λ (w : Outer). close_entry w c) (e ∙ b'.2 ∙ none)) (up k);
+      answer = subst (λ (x : State). answers x r) (l.closes ∙ ap (λ (w : Outer). close_entry w c) (e ∙ b'.2 ∙ none))
+          (up k);
     }
 
 -- After a visit at an empty collector of held bytes, the result is what is answered of that collector.
-visit_answered : {p : Showing} {effect : Effect} (answers : State → Result ℕ Refusal → Type 0) {s t : State} {q : Result Unit Refusal} {r : Result ℕ Refusal} →
-    VisitsRootWithEffect p effect s t q → s ≡ Going (OfHeld nothing_held) → (Settles t q → answers t r) → AnswersVisit p effect answers r
+visit_answered : {p : Showing} {effect : Effect} (answers : State → Result ℕ Refusal → Type 0) {s t : State}
+    {q : Result Unit Refusal} {r : Result ℕ Refusal} →
+    VisitsRootWithEffect p effect s t q → s ≡ Going (OfHeld nothing_held) → (Settles t q → answers t r) →
+    AnswersVisit p effect answers r
 visit_answered answers = visit_answered_of (OfHeld nothing_held) answers refl refl
 
 -- If a visit at an empty collector of owned bytes returns Ok, their sum is the answer.
 pub owned_answered : {p : Showing} {effect : Effect} {s t : State} {u : Unit} {n : ℕ} →
-    VisitsRootWithEffect p effect s t (Ok u) → s ≡ Going (OfOwned nothing_owned) → IsHeldSum t n → AnswersOwned p effect (Ok n)
+    VisitsRootWithEffect p effect s t (Ok u) → s ≡ Going (OfOwned nothing_owned) → IsHeldSum t n →
+    AnswersOwned p effect (Ok n)
 owned_answered v is h = visit_answered_of (OfOwned nothing_owned) AnswersSum (refl, refl) refl v is (λ k. (k, h))
 
 -- If a visit at an empty collector of owned bytes returns an error, that error is the answer.
 pub owned_refused : {p : Showing} {effect : Effect} {s t : State} {e : Refusal} {r : Result ℕ Refusal} →
-    VisitsRootWithEffect p effect s t (Err e) → s ≡ Going (OfOwned nothing_owned) → IsErr r → e ≡ err_or e r → AnswersOwned p effect r
-owned_refused v is h i = rw (same_err _ h i) (visit_answered_of (OfOwned nothing_owned) AnswersSum (refl, refl) refl v is (λ k. k))
+    VisitsRootWithEffect p effect s t (Err e) → s ≡ Going (OfOwned nothing_owned) → IsErr r → e ≡ err_or e r →
+    AnswersOwned p effect r
+owned_refused v is h i = rw (same_err _ h i)
+    (visit_answered_of (OfOwned nothing_owned) AnswersSum (refl, refl) refl v is (λ k. k))
 
 -- If a visit at an empty collector of held bytes returns Ok, their sum is the answer.
 pub held_answered : {p : Showing} {effect : Effect} {s t : State} {u : Unit} {n : ℕ} →
-    VisitsRootWithEffect p effect s t (Ok u) → s ≡ Going (OfHeld nothing_held) → IsHeldSum t n → AnswersVisit p effect AnswersSum (Ok n)
+    VisitsRootWithEffect p effect s t (Ok u) → s ≡ Going (OfHeld nothing_held) → IsHeldSum t n →
+    AnswersVisit p effect AnswersSum (Ok n)
 held_answered v is h = visit_answered AnswersSum v is (λ k. (k, h))
 
 -- If a visit at an empty collector of held bytes returns an error, that error is the answer.
 pub held_refused : {p : Showing} {effect : Effect} {s t : State} {e : Refusal} {r : Result ℕ Refusal} →
-    VisitsRootWithEffect p effect s t (Err e) → s ≡ Going (OfHeld nothing_held) → IsErr r → e ≡ err_or e r → AnswersVisit p effect AnswersSum r
+    VisitsRootWithEffect p effect s t (Err e) → s ≡ Going (OfHeld nothing_held) → IsErr r → e ≡ err_or e r →
+    AnswersVisit p effect AnswersSum r
 held_refused v is h i = rw (same_err _ h i) (visit_answered AnswersSum v is (λ k. k))
 
 -- If the visit returns Ok, the size is the sum of the held bytes and the declared size.
 pub size_answered : {p : Showing} {effect : Effect} {size : Option ℕ} {s t : State} {u : Unit} (n : ℕ) {own m : ℕ} →
-    VisitsRootWithEffect p effect s t (Ok u) → s ≡ Going (OfHeld nothing_held) → IsHeldSum t n → size ≡ Some own → m ≡ n + own → AnswersVisit p effect (AnswersSize size) (Ok m)
-size_answered {size = size} n {own = own} v is h y e = visit_answered (AnswersSize size) v is (λ k. (n, own, (k, h), y, e))
+    VisitsRootWithEffect p effect s t (Ok u) → s ≡ Going (OfHeld nothing_held) → IsHeldSum t n → size ≡ Some own →
+    m ≡ n + own → AnswersVisit p effect (AnswersSize size) (Ok m)
+size_answered {size = size} n {own = own} v is h y e =
+    visit_answered (AnswersSize size) v is (λ k. (n, own, (k, h), y, e))
 
 -- If the visit returns an error, the size is refused with that error.
-pub size_refused : {p : Showing} {effect : Effect} {size : Option ℕ} {s t : State} {e : Refusal} {r : Result ℕ Refusal} →
-    VisitsRootWithEffect p effect s t (Err e) → s ≡ Going (OfHeld nothing_held) → IsErr r → e ≡ err_or e r → AnswersVisit p effect (AnswersSize size) r
+pub size_refused : {p : Showing} {effect : Effect} {size : Option ℕ} {s t : State} {e : Refusal}
+    {r : Result ℕ Refusal} →
+    VisitsRootWithEffect p effect s t (Err e) → s ≡ Going (OfHeld nothing_held) → IsErr r → e ≡ err_or e r →
+    AnswersVisit p effect (AnswersSize size) r
 size_refused {size = size} v is h i = rw (same_err _ h i) (visit_answered (AnswersSize size) v is (λ k. inl k))
 
 -- If the visit returns Ok and there is no declared size, the size is refused with TooLarge.
 pub size_not_there : {p : Showing} {effect : Effect} {size : Option ℕ} {s t : State} {u : Unit} (n : ℕ) →
-    VisitsRootWithEffect p effect s t (Ok u) → s ≡ Going (OfHeld nothing_held) → IsHeldSum t n → size ≡ None → AnswersVisit p effect (AnswersSize size) (Err TooLarge)
-size_not_there {size = size} n v is h y = visit_answered (AnswersSize size) v is (λ k. inr (n, (k, h), refl, λ own z. absurd (cc)))
+    VisitsRootWithEffect p effect s t (Ok u) → s ≡ Going (OfHeld nothing_held) → IsHeldSum t n → size ≡ None →
+    AnswersVisit p effect (AnswersSize size) (Err TooLarge)
+size_not_there {size = size} n v is h y =
+    visit_answered (AnswersSize size) v is (λ k. inr (n, (k, h), refl, λ own z. absurd (cc)))
 
 -- If held bytes and declared size together do not fit a word, the size is refused with TooLarge.
 pub size_too_large : {p : Showing} {effect : Effect} {size : Option ℕ} {s t : State} {u : Unit} (n : ℕ) {own : ℕ} →
-    VisitsRootWithEffect p effect s t (Ok u) → s ≡ Going (OfHeld nothing_held) → IsHeldSum t n → size ≡ Some own → 2 ^ 64 ≤ n + own → AnswersVisit p effect (AnswersSize size) (Err TooLarge)
+    VisitsRootWithEffect p effect s t (Ok u) → s ≡ Going (OfHeld nothing_held) → IsHeldSum t n → size ≡ Some own →
+    2 ^ 64 ≤ n + own → AnswersVisit p effect (AnswersSize size) (Err TooLarge)
 size_too_large {size = size} n {own = own} v is h y l = visit_answered (AnswersSize size) v is (λ k. inr (
   n,
   (k, h),
@@ -169,7 +207,8 @@ size_too_large {size = size} n {own = own} v is h y l = visit_answered (AnswersS
 ))
 
 -- Two runs are one of all that r allows, if r allows what both show.
-visits_joined : {p q r : Showing} (s m t : State) (u v w : Unit) → ((f : Forest) → Both p q f → r f) → VisitsRoot p s (Ok u) m → VisitsRoot q m (Ok v) t → VisitsRoot r s (Ok w) t
+visits_joined : {p q r : Showing} (s m t : State) (u v w : Unit) → ((f : Forest) → Both p q f → r f) →
+    VisitsRoot p s (Ok u) m → VisitsRoot q m (Ok v) t → VisitsRoot r s (Ok w) t
 visits_joined (Failed x) m t u v w up g h = absurd (cc)
 visits_joined (Going b) (Failed x) t u v w up g h = absurd g
 visits_joined (Going b) (Going c) (Failed x) u v w up g h = h
@@ -179,14 +218,16 @@ visits_joined (Going b) (Going c) (Going d) u v w up (z, f, a, t, k) (y, g, b', 
 
 -- One step of a loop runs one more root, and a root that is refused ends it.
 pub visits_one_more : {T : Type 0} (p : T → Showing) (xs : List T) (i : ℕ) (x : T) (s m t : State) (u v w : Unit) →
-    VisitsRoot (each_shows p (take i xs)) s (Ok u) m → VisitsRoot (p x) m (Ok v) t → i < length xs → x ≡ get_or xs i x → VisitsRoot (each_shows p (take (i + 1) xs)) s (Ok w) t
+    VisitsRoot (each_shows p (take i xs)) s (Ok u) m → VisitsRoot (p x) m (Ok v) t → i < length xs → x ≡ get_or xs i x →
+    VisitsRoot (each_shows p (take (i + 1) xs)) s (Ok w) t
 visits_one_more p xs i x s m t u v w f g h e =
     let e' = take_more xs i x h in
     rw (e', ← e) (visits_joined s m t u v w (each_and_one p (take i xs) x) f g)
 
 -- ---- a whole run
 -- If p is visited in an empty collector that ends with a profile, a whole showing of p has that profile.
-pub profile_ended : (p : Showing) (s t : State) (u : Unit) (r : Result Profile Refusal) → VisitsRoot p s (Ok u) t → s ≡ Going (OfGraph no_entries) → Ends IsProfile t r → IfOk r (IsProfileOf p)
+pub profile_ended : (p : Showing) (s t : State) (u : Unit) (r : Result Profile Refusal) → VisitsRoot p s (Ok u) t →
+    s ≡ Going (OfGraph no_entries) → Ends IsProfile t r → IfOk r (IsProfileOf p)
 profile_ended p (Failed x) t u r h e k = absurd (cc)
 profile_ended p (Going b) (Failed x) u r h e k = absurd h
 profile_ended p (Going b) (Going c) u (Err x) h e k = tt
@@ -194,7 +235,8 @@ profile_ended p (Going b) (Going c) u (Ok o) (z, f, a, t, g) e k =
     let i : b ≡ OfGraph no_entries = cc in
     let w : Fits no_entries.met f = subst (λ (x : Kind). Takes x f) i t in
     let g' : c ≡ plus (OfGraph no_entries) f = rw i at g in
-    let k' : Ends IsProfile (Going (plus (OfGraph no_entries) f)) (Ok o) = subst (λ (x : Kind). Ends IsProfile (Going x) (Ok o)) g' k in
+    let k' : Ends IsProfile (Going (plus (OfGraph no_entries) f)) (Ok o) =
+    subst (λ (x : Kind). Ends IsProfile (Going x) (Ok o)) g' k in
     let is = all_is_meaning f w in
     record {
       shown = f;
@@ -208,9 +250,11 @@ profile_ended p (Going b) (Going c) u (Ok o) (z, f, a, t, g) e k =
     }
 
 -- The sum of the graphs of two profiles is the sum of the graphs of two whole showings, of p and of q.
-pub sum_of_profiles : (p q : Showing) (o o' : Profile) (m : Graph) → IsProfileOf p o → IsProfileOf q o' → m ≡ sum_of o.graph o'.graph → IsSumOfTwo p q m
+pub sum_of_profiles : (p q : Showing) (o o' : Profile) (m : Graph) → IsProfileOf p o → IsProfileOf q o' →
+    m ≡ sum_of o.graph o'.graph → IsSumOfTwo p q m
 sum_of_profiles p q o o' m a b e =
-    let is : m ≡ sum_of (graph (sums_of (all a.shown))) (graph (sums_of (all b.shown))) = e ∙ (λ i. sum_of (a.graph_is (all a.shown) a.meaning i) (b.graph_is (all b.shown) b.meaning i)) in
+    let is : m ≡ sum_of (graph (sums_of (all a.shown))) (graph (sums_of (all b.shown))) =
+    e ∙ (λ i. sum_of (a.graph_is (all a.shown) a.meaning i) (b.graph_is (all b.shown) b.meaning i)) in
     record {
       left = a.shown;
       right = b.shown;
@@ -219,7 +263,8 @@ sum_of_profiles p q o o' m a b e =
       left_whole = a.whole;
       right_whole = b.whole;
       is = is;
-      is_one = λ apart can. (whole_following a.shown b.shown a.whole b.whole apart, is ∙ graphs_add a.shown b.shown can);
+      is_one = λ apart can.
+          (whole_following a.shown b.shown a.whole b.whole apart, is ∙ graphs_add a.shown b.shown can);
     }
 
 -- The rules for visits of roots.

@@ -1,10 +1,21 @@
 -- How visits compose: one after another, and inside an entry.
-use Rattle.std.proofs.Common.{Bool, true, false, inl, inr, Option, ◌≡◌, ℕ, suc, List, [], ◌∷◌, ◌++◌, Result, Ok, Err, refl, sym, ◌∙◌, IsErr, ap, subst, arith, Some, None}
-use Rattle.allocative.proofs.Common.{Outer, Refusal, Key, Identity, Forest, Empty, First, Again, followed_by, entry_of, Live, Kind, OfGraph, State, Failed, Going, enter, enter_first, plus, Takes, is_graph, visitors, outer_of, failed_with, close_entry, Showing, Nothing, Both, InsideAs, Inside, InsideUnique, Field, sized, SharedWith, each_shows, AddsForest, already, refused, hidden, forgotten, HasFailed, OpensEntry, stays_failed, is_refused, is_entered, OpensShared, stays_shared, is_refused_shared, goes_past, enters_first, enters_again, RefusesEntry, ClosesEntry, OfOwned, is_too_large_shared, counts}
+use Rattle.std.proofs.Common.{Bool, true, false, inl, inr, Option, ◌≡◌, ℕ, suc, List, [], ◌∷◌, ◌++◌, Result, Ok, Err}
+use Rattle.std.proofs.Common.{refl, sym, ◌∙◌, IsErr, ap, subst, arith, Some, None}
+use Rattle.allocative.proofs.Common.{Outer, Refusal, Key, Identity, Forest, Empty, First, Again, followed_by, entry_of}
+use Rattle.allocative.proofs.Common.{Live, Kind, OfGraph, State, Failed, Going, enter, enter_first, plus, Takes}
+use Rattle.allocative.proofs.Common.{is_graph, visitors, outer_of, failed_with, close_entry, Showing, Nothing, Both}
+use Rattle.allocative.proofs.Common.{InsideAs, Inside, InsideUnique, Field, sized, SharedWith, each_shows, AddsForest}
+use Rattle.allocative.proofs.Common.{already, refused, hidden, forgotten, HasFailed, OpensEntry, stays_failed}
+use Rattle.allocative.proofs.Common.{is_refused, is_entered, OpensShared, stays_shared, is_refused_shared, goes_past}
+use Rattle.allocative.proofs.Common.{enters_first, enters_again, RefusesEntry, ClosesEntry, OfOwned}
+use Rattle.allocative.proofs.Common.{is_too_large_shared, counts}
 use Rattle.std.proofs.lemmas.Bool.{false≢true}
 use Rattle.std.specs.FinSet.{contains}
 use Rattle.allocative_graph.specs.Visits.{added}
-use Rattle.allocative_graph.proofs.Plus.{plus-nothing, plus-following, takes_nothing, takes_both, inside_entry, takes_entry, inside_first, takes_shared, held_again, owned_again, visitors-plus, visitors-enter, visitors-leave, is_graph-plus, is_graph-enter, is_graph-leave}
+use Rattle.allocative_graph.proofs.Plus.{plus-nothing, plus-following, takes_nothing, takes_both, inside_entry}
+use Rattle.allocative_graph.proofs.Plus.{takes_entry, inside_first, takes_shared, held_again, owned_again}
+use Rattle.allocative_graph.proofs.Plus.{visitors-plus, visitors-enter, visitors-leave, is_graph-plus, is_graph-enter}
+use Rattle.allocative_graph.proofs.Plus.{is_graph-leave}
 use Rattle.allocative.proofs.Exact.{each_append, each_one}
 
 -- ---- one after another
@@ -14,7 +25,8 @@ adds_nothing (Failed r) u = already
 adds_nothing (Going b) u = added Empty refl (takes_nothing b) (sym (plus-nothing b))
 
 -- If q allows all that p allows, a visit that shows p shows q.
-pub adds_weaker : {p q : Showing} {a b : State} {r : Result Unit Refusal} → ((f : Forest) → p f → q f) → AddsForest p a r b → AddsForest q a r b
+pub adds_weaker : {p q : Showing} {a b : State} {r : Result Unit Refusal} → ((f : Forest) → p f → q f) →
+    AddsForest p a r b → AddsForest q a r b
 adds_weaker up already = already
 adds_weaker up refused = refused
 adds_weaker up hidden = hidden
@@ -30,17 +42,20 @@ same_visitors : (b c : Kind) (f : Forest) → c ≡ plus b f → visitors c ≡ 
 same_visitors b c f e = ap visitors e ∙ visitors-plus b f
 
 -- If a visit that shows p returns Ok and a visit that shows q follows, both together show p followed by q.
-pub adds_both : {p q : Showing} {a b c : State} {u : Unit} {r : Result Unit Refusal} → AddsForest p a (Ok u) b → AddsForest q b r c → AddsForest (Both p q) a r c
+pub adds_both : {p q : Showing} {a b c : State} {u : Unit} {r : Result Unit Refusal} → AddsForest p a (Ok u) b →
+    AddsForest q b r c → AddsForest (Both p q) a r c
 adds_both already already = already
 adds_both {r = Ok v} hidden already = hidden
 adds_both {r = Err e} hidden already = refused
 adds_both (forgotten i h) refused = refused
 adds_both (forgotten i h) hidden = hidden
 adds_both (forgotten i h) (forgotten j k) = forgotten (j ∙ i) (omega arith)
-adds_both (forgotten i h) (added g p t e) = let d = same_visitors _ _ g e in forgotten (same_graph _ _ g e ∙ i) (omega (arith, d))
+adds_both (forgotten i h) (added g p t e) = let d = same_visitors _ _ g e in
+    forgotten (same_graph _ _ g e ∙ i) (omega (arith, d))
 adds_both (added f p t e) refused = refused
 adds_both (added f p t e) hidden = hidden
-adds_both (added f p t e) (forgotten j k) = let d = same_visitors _ _ f e in forgotten (j ∙ same_graph _ _ f e) (omega (arith, d))
+adds_both (added f p t e) (forgotten j k) = let d = same_visitors _ _ f e in
+    forgotten (j ∙ same_graph _ _ f e) (omega (arith, d))
 adds_both (added {b = b} f p t e) (added {c = c} g q s k) =
     let s' : Takes (plus b f) g = subst (λ (x : Kind). Takes x g) e s in
     added (followed_by f g) (f, g, p, q, refl) (takes_both b f g t s') (cc (plus-following b f g))
@@ -51,12 +66,14 @@ adds_err already = already
 adds_err refused = refused
 
 -- If a visit returns Ok and the next one returns an error, both together are a failed visit of any showing.
-pub adds_both_err : {p q r : Showing} {a b c : State} {u : Unit} {x : Refusal} → AddsForest p a (Ok u) b → AddsForest q b (Err x) c → AddsForest r a (Err x) c
+pub adds_both_err : {p q r : Showing} {a b c : State} {u : Unit} {x : Refusal} → AddsForest p a (Ok u) b →
+    AddsForest q b (Err x) c → AddsForest r a (Err x) c
 adds_both_err s t = adds_err (adds_both s t)
 
 -- ---- inside an entry
 -- An entry, a visit inside it that returns Ok, and leaving show the entry with the visit's forest inside it.
-out_of : {p : Showing} (u : Bool) (k : Key) (n : ℕ) (b d : Kind) → d ≡ enter u k n b → {c : State} {v : Unit} (w : Unit) →
+out_of : {p : Showing} (u : Bool) (k : Key) (n : ℕ) (b d : Kind) → d ≡ enter u k n b →
+    {c : State} {v : Unit} (w : Unit) →
     AddsForest p (Going d) (Ok v) c → AddsForest (InsideAs u k n p) (Going b) (Ok w) (close_entry (outer_of n b) c)
 out_of u k n b d i w hidden = hidden
 out_of u k n b d i w (forgotten {c = c} j h) =
@@ -70,31 +87,37 @@ out_of u k n b d i w (added {c = c} f q t e) =
 -- An entry shows what is shown inside it, from the opening, the visit and the closing, if the closing restores what
 -- the opening returned.
 pub adds_entry : {u : Bool} {p : Showing} {k : Key} {n : ℕ} {o q : Outer} {s t a c d : State} {v x : Unit} →
-    OpensEntry u k (Some n) s (Ok o) t → a ≡ t → AddsForest p a (Ok v) c → ClosesEntry q c d → q ≡ o → AddsForest (InsideAs u k n p) s (Ok x) d
+    OpensEntry u k (Some n) s (Ok o) t → a ≡ t → AddsForest p a (Ok v) c → ClosesEntry q c d → q ≡ o →
+    AddsForest (InsideAs u k n p) s (Ok x) d
 adds_entry {u} {p} {k} {n} {c = c} {v = v} {x = x} (is_entered {b = b} {c = d} r f e) i s l q =
     let s' : AddsForest p (Going d) (Ok v) c = subst (λ (z : State). AddsForest p z (Ok v) c) i s in
     rw (l.closes, q, f) (out_of u k n b d e x s')
 
 -- An inline entry shows what is shown inside it, if it is opened, the visit returns Ok, and it is closed.
 pub adds_inline : {p : Showing} {k : Key} {n : ℕ} {o q : Outer} {s t a c d : State} {v x : Unit} →
-    OpensEntry false k (Some n) s (Ok o) t → a ≡ t → AddsForest p a (Ok v) c → ClosesEntry q c d → q ≡ o → AddsForest (Inside k n p) s (Ok x) d
+    OpensEntry false k (Some n) s (Ok o) t → a ≡ t → AddsForest p a (Ok v) c → ClosesEntry q c d → q ≡ o →
+    AddsForest (Inside k n p) s (Ok x) d
 adds_inline = adds_entry
 
 -- A unique entry shows what is shown inside it, if it is opened, the visit returns Ok, and it is closed.
 pub adds_unique : {p : Showing} {k : Key} {n : ℕ} {o q : Outer} {s t a c d : State} {v x : Unit} →
-    OpensEntry true k (Some n) s (Ok o) t → a ≡ t → AddsForest p a (Ok v) c → ClosesEntry q c d → q ≡ o → AddsForest (InsideUnique k n p) s (Ok x) d
+    OpensEntry true k (Some n) s (Ok o) t → a ≡ t → AddsForest p a (Ok v) c → ClosesEntry q c d → q ≡ o →
+    AddsForest (InsideUnique k n p) s (Ok x) d
 adds_unique = adds_entry
 
 -- A field shows what is shown inside it, if it is opened, the visit returns Ok, and it is closed.
 pub adds_field : {p : Showing} {k : Key} {y : Option ℕ} {o q : Outer} {s t a c d : State} {v x : Unit} →
-    OpensEntry false k y s (Ok o) t → a ≡ t → AddsForest p a (Ok v) c → ClosesEntry q c d → q ≡ o → AddsForest (Field k y p) s (Ok x) d
+    OpensEntry false k y s (Ok o) t → a ≡ t → AddsForest p a (Ok v) c → ClosesEntry q c d → q ≡ o →
+    AddsForest (Field k y p) s (Ok x) d
 adds_field {y = None} g i s l q = elim g [ ]
 adds_field {y = Some n} g i s l q = adds_weaker (λ f h. sized h) (adds_entry g i s l q)
 
 -- ---- a shared entry
 -- A step of `adds_shared`: a shared entry with a new identity shows what was shown as its content.
-out_of_first : {p : Showing} (k : Key) (n : ℕ) (i : Identity) (b d : Live) → contains b.met i ≡ false → d ≡ enter_first k n i b → {c : State} {v : Unit} (o : Outer) (w : Unit) →
-    AddsForest p (Going (OfGraph d)) (Ok v) c → AddsForest (SharedWith k n i p) (Going (OfGraph b)) (Ok w) (close_entry o c)
+out_of_first : {p : Showing} (k : Key) (n : ℕ) (i : Identity) (b d : Live) → contains b.met i ≡ false →
+    d ≡ enter_first k n i b → {c : State} {v : Unit} (o : Outer) (w : Unit) →
+    AddsForest p (Going (OfGraph d)) (Ok v) c →
+    AddsForest (SharedWith k n i p) (Going (OfGraph b)) (Ok w) (close_entry o c)
 out_of_first k n i b d h e o w hidden = hidden
 out_of_first k n i b d h e o w (forgotten {c = c} j m) =
     let f : d.open_visitors ≡ suc b.open_visitors = ap (λ (x : Live). x.open_visitors) e in
@@ -106,90 +129,111 @@ out_of_first k n i b d h e o w (added {c = c} f q t m) =
 
 -- A shared entry with a new identity shows its content, if the content's visit returns Ok and it is closed.
 pub adds_shared : {p : Showing} {k : Key} {n : ℕ} {i : Identity} {q : Outer} {s t a c d : State} {v x : Unit} →
-    OpensShared k n i s (Ok true) t → a ≡ t → AddsForest p a (Ok v) c → ClosesEntry q c d → AddsForest (SharedWith k n i p) s (Ok x) d
+    OpensShared k n i s (Ok true) t → a ≡ t → AddsForest p a (Ok v) c → ClosesEntry q c d →
+    AddsForest (SharedWith k n i p) s (Ok x) d
 adds_shared {p} {k} {n} {i} {q} {c = c} {v = v} {x = x} (enters_first {c = b} {d = d} r h e) z s g =
     let s' : AddsForest p (Going (OfGraph d)) (Ok v) c = subst (λ (y : State). AddsForest p y (Ok v) c) z s in
     rw g.closes (out_of_first k n i b d h e q x s')
 
 -- A shared entry with its content, with the result of entering as it was tested.
-pub adds_content : {p : Showing} {k : Key} {n : ℕ} {i : Identity} {q : Outer} {is_first : Bool} {s t a c d : State} {v x : Unit} →
-    OpensShared k n i s (Ok is_first) t → is_first ≡ true → a ≡ t → AddsForest p a (Ok v) c → ClosesEntry q c d → AddsForest (SharedWith k n i p) s (Ok x) d
+pub adds_content : {p : Showing} {k : Key} {n : ℕ} {i : Identity} {q : Outer} {is_first : Bool} {s t a c d : State}
+    {v x : Unit} →
+    OpensShared k n i s (Ok is_first) t → is_first ≡ true → a ≡ t → AddsForest p a (Ok v) c → ClosesEntry q c d →
+    AddsForest (SharedWith k n i p) s (Ok x) d
 adds_content g is z s l = adds_shared (rw is at g) z s l
 
 -- If a shared entry is opened and its content is not to be shown, the pointer alone is shown.
-pub adds_again : {p : Showing} {k : Key} {n : ℕ} {i : Identity} {is_first : Bool} {s t : State} {x : Unit} → OpensShared k n i s (Ok is_first) t → is_first ≡ false → AddsForest (SharedWith k n i p) s (Ok x) t
-adds_again {k = k} {n = n} {i = i} (goes_past {h = h}) is = added (Again k n i Empty) (inr refl) tt (sym (held_again k n i h))
-adds_again {k = k} {n = n} {i = i} (counts {o = o} r e) is = added (Again k n i Empty) (inr refl) tt (ap OfOwned e ∙ sym (owned_again k n i o))
-adds_again {k = k} {n = n} {i = i} (enters_again {c = c} r h e) is = added (Again k n i Empty) (inr refl) (h, tt) (ap OfGraph e)
+pub adds_again : {p : Showing} {k : Key} {n : ℕ} {i : Identity} {is_first : Bool} {s t : State} {x : Unit} →
+    OpensShared k n i s (Ok is_first) t → is_first ≡ false → AddsForest (SharedWith k n i p) s (Ok x) t
+adds_again {k = k} {n = n} {i = i} (goes_past {h = h}) is =
+    added (Again k n i Empty) (inr refl) tt (sym (held_again k n i h))
+adds_again {k = k} {n = n} {i = i} (counts {o = o} r e) is =
+    added (Again k n i Empty) (inr refl) tt (ap OfOwned e ∙ sym (owned_again k n i o))
+adds_again {k = k} {n = n} {i = i} (enters_again {c = c} r h e) is =
+    added (Again k n i Empty) (inr refl) (h, tt) (ap OfGraph e)
 adds_again (enters_first r h e) is = absurd (false≢true (sym is))
 
 -- ---- a visit inside an entry that returns Err
 -- If a visit inside an entry returns an error and the entry is closed, the visit around it may return an error.
-inside_failed : {p q : Showing} {b d : Kind} (o : Outer) {c : State} {y x : Refusal} → AddsForest p (Going d) (Err y) c → AddsForest q (Going b) (Err x) (close_entry o c)
+inside_failed : {p q : Showing} {b d : Kind} (o : Outer) {c : State} {y x : Refusal} →
+    AddsForest p (Going d) (Err y) c → AddsForest q (Going b) (Err x) (close_entry o c)
 inside_failed o refused = refused
 
 -- An entry in which a visit returns Err.
 pub entry_err : {u : Bool} {p q : Showing} {k : Key} {y : Option ℕ} {o w : Outer} {s t a c d : State} {z x : Refusal} →
     OpensEntry u k y s (Ok o) t → a ≡ t → AddsForest p a (Err z) c → ClosesEntry w c d → AddsForest q s (Err x) d
-entry_err {p = p} {w = w} {c = c} {z = y} (is_entered {c = d} r f e) i s l = rw l.closes (inside_failed w (subst (λ (z : State). AddsForest p z (Err y) c) i s))
+entry_err {p = p} {w = w} {c = c} {z = y} (is_entered {c = d} r f e) i s l =
+    rw l.closes (inside_failed w (subst (λ (z : State). AddsForest p z (Err y) c) i s))
 
 -- If the visit of a shared content returns an error and the entry is closed, the visit around it may too.
 pub shared_err : {p q : Showing} {k : Key} {n : ℕ} {i : Identity} {w : Outer} {s t a c d : State} {z x : Refusal} →
     OpensShared k n i s (Ok true) t → a ≡ t → AddsForest p a (Err z) c → ClosesEntry w c d → AddsForest q s (Err x) d
-shared_err {p = p} {w = w} {c = c} {z = y} (enters_first {d = d} r f e) i s l = rw l.closes (inside_failed w (subst (λ (z : State). AddsForest p z (Err y) c) i s))
+shared_err {p = p} {w = w} {c = c} {z = y} (enters_first {d = d} r f e) i s l =
+    rw l.closes (inside_failed w (subst (λ (z : State). AddsForest p z (Err y) c) i s))
 
 -- ---- refusals
 -- A result that is some Err.
-pub any_err : {p : Showing} {s t : State} {e : Refusal} (r : Result Unit Refusal) → IsErr r → AddsForest p s (Err e) t → AddsForest p s r t
+pub any_err : {p : Showing} {s t : State} {e : Refusal} (r : Result Unit Refusal) → IsErr r → AddsForest p s (Err e) t →
+    AddsForest p s r t
 any_err (Ok u) h w = absurd (false≢true h)
 any_err (Err x) h already = already
 any_err (Err x) h refused = refused
 
 -- An entry that is refused shows nothing more.
-pub not_entered : {u : Bool} {q : Showing} {k : Key} {y : Option ℕ} {s t : State} {e : Refusal} → OpensEntry u k y s (Err e) t → AddsForest q s (Err e) t
+pub not_entered : {u : Bool} {q : Showing} {k : Key} {y : Option ℕ} {s t : State} {e : Refusal} →
+    OpensEntry u k y s (Err e) t → AddsForest q s (Err e) t
 not_entered stays_failed = already
 not_entered (is_refused r) = refused
 
 -- After an entry that is refused, the collector has failed with the cause.
-pub not_entered_cause : {u : Bool} {k : Key} {y : Option ℕ} {s t : State} {e : Refusal} → OpensEntry u k y s (Err e) t → HasFailed t e
+pub not_entered_cause : {u : Bool} {k : Key} {y : Option ℕ} {s t : State} {e : Refusal} → OpensEntry u k y s (Err e) t →
+    HasFailed t e
 not_entered_cause stays_failed = refl
 not_entered_cause (is_refused r) = refl
 
 -- A shared entry that is refused shows nothing more.
-pub not_shared : {q : Showing} {k : Key} {n : ℕ} {i : Identity} {s t : State} {e : Refusal} → OpensShared k n i s (Err e) t → AddsForest q s (Err e) t
+pub not_shared : {q : Showing} {k : Key} {n : ℕ} {i : Identity} {s t : State} {e : Refusal} →
+    OpensShared k n i s (Err e) t → AddsForest q s (Err e) t
 not_shared stays_shared = already
 not_shared (is_refused_shared r) = refused
 not_shared (is_too_large_shared i r) = refused
 
 -- An error that is returned by hand.
-pub adds_refused : {q : Showing} (s : State) (e x : Refusal) (t : State) → t ≡ failed_with x s → AddsForest q s (Err e) t
+pub adds_refused : {q : Showing} (s : State) (e x : Refusal) (t : State) → t ≡ failed_with x s →
+    AddsForest q s (Err e) t
 adds_refused (Failed r) e x t i = rw i already
 adds_refused (Going b) e x t i = rw i refused
 
 -- A visit that returns Err, followed by refusing with that error.
-pub adds_refused_err : {p : Showing} {a b c : State} {y x : Refusal} (r : Refusal) → AddsForest p a (Err y) b → c ≡ failed_with r b → AddsForest p a (Err x) c
+pub adds_refused_err : {p : Showing} {a b c : State} {y x : Refusal} (r : Refusal) → AddsForest p a (Err y) b →
+    c ≡ failed_with r b → AddsForest p a (Err x) c
 adds_refused_err r already e = rw e already
 adds_refused_err r refused e = rw e refused
 
 -- A visit that was refused and returns Ok has hidden an error.
-pub adds_hidden : {p q : Showing} {a b : State} {e : Refusal} {u : Unit} → AddsForest p a (Err e) b → AddsForest q a (Ok u) b
+pub adds_hidden : {p q : Showing} {a b : State} {e : Refusal} {u : Unit} → AddsForest p a (Err e) b →
+    AddsForest q a (Ok u) b
 adds_hidden already = already
 adds_hidden refused = hidden
 
 -- A visit that opens an entry, never closes it, and returns Ok, has forgotten a visitor.
-pub adds_forgotten : {u : Bool} {q : Showing} {k : Key} {y : Option ℕ} {o : Outer} {s t : State} {v : Unit} → OpensEntry u k y s (Ok o) t → AddsForest q s (Ok v) t
-adds_forgotten {u} {k = k} (is_entered {n = n} {b = b} r f e) = let d = ap visitors e ∙ visitors-enter u k n b in forgotten (ap is_graph e ∙ is_graph-enter u k n b) (omega (arith, d))
+pub adds_forgotten : {u : Bool} {q : Showing} {k : Key} {y : Option ℕ} {o : Outer} {s t : State} {v : Unit} →
+    OpensEntry u k y s (Ok o) t → AddsForest q s (Ok v) t
+adds_forgotten {u} {k = k} (is_entered {n = n} {b = b} r f e) = let d = ap visitors e ∙ visitors-enter u k n b in
+    forgotten (ap is_graph e ∙ is_graph-enter u k n b) (omega (arith, d))
 
 -- Closing an entry keeps the cause.
 pub close_cause : {o : Outer} {c d : State} {e : Refusal} → ClosesEntry o c d → HasFailed c e → HasFailed d e
 close_cause {o = o} l h = l.closes ∙ ap (close_entry o) h
 
 -- What a refused entry returns.
-pub refuses_entry : {u : Bool} {k : Key} {y : Option ℕ} {s t : State} {e : Refusal} → OpensEntry u k y s (Err e) t → RefusesEntry u y s e
+pub refuses_entry : {u : Bool} {k : Key} {y : Option ℕ} {s t : State} {e : Refusal} → OpensEntry u k y s (Err e) t →
+    RefusesEntry u y s e
 refuses_entry stays_failed = refl
 refuses_entry (is_refused r) = r
 
 -- ---- loops
 -- A forest of items followed by one of another item is a forest of the items with that one at the end.
-pub each_and_one : {T : Type 0} (p : T → Showing) (xs : List T) (x : T) (f : Forest) → Both (each_shows p xs) (p x) f → each_shows p (xs ++ x ∷ []) f
+pub each_and_one : {T : Type 0} (p : T → Showing) (xs : List T) (x : T) (f : Forest) → Both (each_shows p xs) (p x) f →
+    each_shows p (xs ++ x ∷ []) f
 each_and_one p xs x f (g, h, all, here, e) = each_append p xs (x ∷ []) f (g, h, all, each_one p x h here, e)

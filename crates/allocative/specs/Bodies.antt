@@ -3,7 +3,8 @@ use Rattle.std.specs.Prelude.{◌≡◌, ◌⊎◌, ℕ, ◌+◌, ◌-◌, ◌<�
 use Rattle.allocative_described.specs.Sizes.{size_product}
 use Rattle.allocative_graph.specs.Path.{Key}
 use Rattle.allocative_graph.specs.Forest.{Forest, Empty}
-use Rattle.allocative_graph.specs.Shows.{Showing, Nothing, Both, Inside, InsideUnique, Field, is_shown_each, each_shows, slice_shows}
+use Rattle.allocative_graph.specs.Shows.{Showing, Nothing, Both, Inside, InsideUnique, Field, is_shown_each, each_shows}
+use Rattle.allocative_graph.specs.Shows.{slice_shows}
 use Rattle.allocative_described.specs.RawTable.{IsRawTableSize}
 use Rattle.allocative.specs.Runs.{field_of}
 

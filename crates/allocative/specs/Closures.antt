@@ -39,7 +39,8 @@ module _ {F : Type 0}
   -- had failed before, and the visitor is left.
   pub data CallsInside (k : Key) (n : ℕ) (s : State) (t : State) : Result (Unit {0}) Refusal → Type 0 where
     not_called : {e : Refusal} → OpensEntry false k (Some n) s (Err e) t → CallsInside k n s t (Err e)
-    called : {o : Outer} {w : State} {u : Unit} (x y : Visitor) → OpensEntry false k (Some n) s (Ok o) w → x.collector.now ≡ w
+    called : {o : Outer} {w : State} {u : Unit} (x y : Visitor) → OpensEntry false k (Some n) s (Ok o) w →
+        x.collector.now ≡ w
         → FnOnceReturnsAtMut g f x (Ok tt) y → ClosesEntry y.outer y.collector.now t → y.outer ≡ o
         → CallsInside k n s t (Ok u)
     refused_inside : {o q : Outer} {w : State} {e : Refusal} (x y : Visitor) (z : State) (cause : Refusal)

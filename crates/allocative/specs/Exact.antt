@@ -4,7 +4,8 @@ use Rattle.allocative_graph.specs.declared.refusal.Refusal.{Refusal}
 use Rattle.allocative_graph.specs.declared.refusal.Refusal.TheVariants.{Memory, TooLarge, Open}
 use Rattle.allocative_graph.specs.Forest.{Forest, Empty, Inline, Unique, First, Again}
 use Rattle.allocative_graph.specs.Sums.{entered}
-use Rattle.allocative_graph.specs.Collector.{Kind, OfGraph, OfHeld, OfOwned, State, Failed, Going, plus, plus_holding, plus_owning, Takes, is_graph, begin, IsClosed, no_entries}
+use Rattle.allocative_graph.specs.Collector.{Kind, OfGraph, OfHeld, OfOwned, State, Failed, Going, plus, plus_holding}
+use Rattle.allocative_graph.specs.Collector.{plus_owning, Takes, is_graph, begin, IsClosed, no_entries}
 use Rattle.allocative_graph.specs.Shows.{Showing}
 
 -- The bytes of all entries of f, with those of its contents.

@@ -3,7 +3,8 @@ use Rattle.std.specs.Prelude.{◌≡◌, ℕ, Bool, false, Option, None, Some}
 use Rattle.allocative_graph.specs.declared.refusal.Refusal.{Refusal}
 use Rattle.allocative_graph.specs.Collector as model
 use Rattle.allocative_graph.specs.Path.{Key}
-use Rattle.allocative_graph.specs.Collector.{OfGraph, OfHeld, State, Failed, Going, Outer, outer_of, enter, leave, OfOwned}
+use Rattle.allocative_graph.specs.Collector.{OfGraph, OfHeld, State, Failed, Going, Outer, outer_of, enter, leave}
+use Rattle.allocative_graph.specs.Collector.{OfOwned}
 use Rattle.allocative_graph.specs.Visits.{HasRoom}
 use Rattle.allocative.specs.declared.visitor.collector.Kind.{Kind}
 use Rattle.allocative.specs.declared.visitor.collector.Kind.TheVariants.{Graph, Held, Owned}

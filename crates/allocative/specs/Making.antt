@@ -29,7 +29,9 @@ followed_by_plan (Entry k size inside after) q = Entry k size inside (followed_b
 pub data Makes : Plan → State → Result Unit Refusal → State → Type 0 where
   had_failed : {p : Plan} {r : Refusal} → Makes p (Failed r) (Err r) (Failed r)
   made_none : {b : Kind} {u : Unit} → Makes Done (Going b) (Ok u) (Going b)
-  made : {k : Key} {size : Option ℕ} {inside after : Plan} {s t c d z : State} {o : Outer} {v : Unit} {r : Result Unit Refusal} → OpensEntry false k size s (Ok o) t → Makes inside t (Ok v) c → ClosesEntry o c d → Makes after d r z → Makes (Entry k size inside after) s r z
+  made : {k : Key} {size : Option ℕ} {inside after : Plan} {s t c d z : State} {o : Outer} {v : Unit}
+      {r : Result Unit Refusal} → OpensEntry false k size s (Ok o) t → Makes inside t (Ok v) c → ClosesEntry o c d →
+      Makes after d r z → Makes (Entry k size inside after) s r z
   entry_refused : {k : Key} {size : Option ℕ} {inside after : Plan} {s t : State} {e : Refusal}
       → OpensEntry false k size s (Err e) t → Makes (Entry k size inside after) s (Err e) t
   inside_refused : {k : Key} {size : Option ℕ} {inside after : Plan} {s t c : State} {o : Outer} {e : Refusal}

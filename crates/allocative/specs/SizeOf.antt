@@ -5,7 +5,8 @@ use Rattle.allocative_graph.specs.declared.refusal.Refusal.TheVariants.{TooLarge
 use Rattle.allocative_graph.specs.Forest.{Forest}
 use Rattle.allocative_graph.specs.Held.{held, ShowsNoContent}
 use Rattle.allocative_graph.specs.Owned.{owned}
-use Rattle.allocative_graph.specs.Collector.{Kind, State, Going, OfHeld, OfOwned, begin, close_entry, no_outer, nothing_held, nothing_owned}
+use Rattle.allocative_graph.specs.Collector.{Kind, State, Going, OfHeld, OfOwned, begin, close_entry, no_outer}
+use Rattle.allocative_graph.specs.Collector.{nothing_held, nothing_owned}
 use Rattle.allocative_graph.specs.Shows.{Showing}
 use Rattle.allocative_graph.specs.Visits.{Settles}
 use Rattle.allocative.specs.Exact.{CanTake}

@@ -72,7 +72,9 @@ pub record OnlyIf (is_exact is_exact' : Bool) : Type 0 where
 
 -- A visit of this effect by a root visitor, which shows p: no root visitor could be opened; or it was opened, the
 -- visit was made there, the visitor was left, and the answer is what the collector settles.
-pub data VisitsRootWithEffect (p : Showing) (effect : Effect) (s t : State) (r : Result (Unit {0}) Refusal) : Type 0 where
+pub data VisitsRootWithEffect (p : Showing) (effect : Effect) (s t : State) (r : Result (Unit {0}) Refusal) : Type
+    0 where
   not_begun : (e : Refusal) → Settles s (Err e) → VisitsRootWithEffect p effect s t r
-  root_visited : {o w : Outer} {a c : State} → OpensRoot s (Ok o) a → WasVisited p effect a c → ClosesEntry w c t → w ≡ o
+  root_visited : {o w : Outer} {a c : State} → OpensRoot s (Ok o) a → WasVisited p effect a c → ClosesEntry w c t →
+      w ≡ o
       → Settles t r → VisitsRootWithEffect p effect s t r

@@ -8,7 +8,11 @@ use Rattle.allocative_service.specs.declared.ledger.Ledger.{Ledger}
 use Rattle.example_service.specs.Answers.{Pages, PutsPageIf, TakesPage}
 
 -- An insertion takes a page, or is refused and changes nothing.
-pub takes : {A E F : Type 0} (size : Option ℕ) (may_show : String Global → Forest → Type 0) (step : F → String Global → String Global → F → Type 0) (on_evict : F) (old new : Pages) (place page : String Global) (r : Result A E) → OnOk r (Inserts size may_show string_eq step on_evict place page old new) → OnErr r (new ≡ old) → TakesPage place old new
+pub takes : {A E F : Type 0} (size : Option ℕ) (may_show : String Global → Forest → Type 0)
+    (step : F → String Global → String Global → F → Type 0) (on_evict : F) (old new : Pages)
+    (place page : String Global) (r : Result A E) →
+    OnOk r (Inserts size may_show string_eq step on_evict place page old new) → OnErr r (new ≡ old) →
+    TakesPage place old new
 takes size may_show step on_evict old new place page (Ok had) i u = inr (record {
   page = kept page i.bytes;
   others = i.others;
@@ -20,6 +24,8 @@ takes size may_show step on_evict old new place page (Ok had) i u = inr (record 
 takes size may_show step on_evict old new place page (Err e) i u = inl u
 
 -- Where P gives Q, what is done to the pages if P is done to the ledger is done if Q is.
-pub puts_page : {A E P Q : Type 0} (result : Result A E) (old new : Pages) (before after : Ledger) (tenant : List ℕ) (key : ℕ) → (P → Q) → PutsPageIf result old new before after P tenant key → PutsPageIf result old new before after Q tenant key
+pub puts_page : {A E P Q : Type 0} (result : Result A E) (old new : Pages) (before after : Ledger) (tenant : List ℕ)
+    (key : ℕ) → (P → Q) → PutsPageIf result old new before after P tenant key →
+    PutsPageIf result old new before after Q tenant key
 puts_page result old new before after tenant key f (inl same) = inl same
 puts_page result old new before after tenant key f (inr put) = inr (f put.0, put.1)

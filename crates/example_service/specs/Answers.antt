@@ -1,22 +1,28 @@
 -- What a request does to the ledger, to the pages and to the profiles of the service, and what is said of it.
-use Rattle.std.specs.Prelude.{◌≡◌, ◌⊎◌, ℕ, ◌+◌, ◌-◌, Bool, true, List, [], ◌∷◌, ◌++◌, ◌==◌, Option, Some, None, option_map, Result, Ok, Err, IfOk, OnOk, IsErr, MatchOption, MatchResult, String, string_bytes, string_eq, length, codes, decimal, ⊤}
+use Rattle.std.specs.Prelude.{◌≡◌, ◌⊎◌, ℕ, ◌+◌, ◌-◌, Bool, true, List, [], ◌∷◌, ◌++◌, ◌==◌, Option, Some, None}
+use Rattle.std.specs.Prelude.{option_map, Result, Ok, Err, IfOk, OnOk, IsErr, MatchOption, MatchResult, String}
+use Rattle.std.specs.Prelude.{string_bytes, string_eq, length, codes, decimal, ⊤}
 use Rattle.std.specs.Global.{Global}
 use Rattle.std.specs.List.{slice_split}
 use Rattle.std.specs.Map.{keys_of, remove_entry}
 use Rattle.std.specs.Str.Parse.{ParsesUnsigned}
 use Rattle.allocative.specs.Shows.{Showing}
-use Rattle.allocative_service.specs.Accounts.{account_of, accounts_of, entry_of, limit_of, measure_of, total_of, ChangesAccount, Enters, IsUnchanged, MapsAccount, RejectsPut, Releases}
-use Rattle.allocative_service.specs.Entries.{Bounded, Entries, IsNeeded, bounded, stored_key, used, with_entries, without}
+use Rattle.allocative_service.specs.Accounts.{account_of, accounts_of, entry_of, limit_of, measure_of, total_of}
+use Rattle.allocative_service.specs.Accounts.{ChangesAccount, Enters, IsUnchanged, MapsAccount, RejectsPut, Releases}
+use Rattle.allocative_service.specs.Entries.{Bounded, Entries, IsNeeded, bounded, stored_key, used, with_entries}
+use Rattle.allocative_service.specs.Entries.{without}
 use Rattle.allocative_service.specs.History.{TakesProfile, most_of, profiles_of, two_of}
 use Rattle.allocative_service.specs.Holding.{Holding, new_holding, with_limit, with_peak_reset, with_soft_limit}
 use Rattle.allocative_service.specs.Measured.{Declares}
-use Rattle.allocative_service.specs.Rejected.{IsLedgerFull, RejectsChange, RejectsCredit, RejectsIn, RejectsLimit, RejectsMeasured, RejectsNew, RejectsOpening}
+use Rattle.allocative_service.specs.Rejected.{IsLedgerFull, RejectsChange, RejectsCredit, RejectsIn, RejectsLimit}
+use Rattle.allocative_service.specs.Rejected.{RejectsMeasured, RejectsNew, RejectsOpening}
 use Rattle.allocative_service.specs.declared.cache.Kept.{Kept}
 use Rattle.allocative_service.specs.declared.history.History.{History}
 use Rattle.allocative_service.specs.declared.ledger.Ledger.{Ledger}
 use Rattle.allocative_service.specs.declared.ledger.rejection.Rejection.{Rejection}
 use Rattle.allocative_service.specs.declared.ledger.rejection.Rejection.TheVariants.{NoAccount}
-use Rattle.example_service.specs.Lines.{BeginsWith, IsChangePicture, IsMost, IsPicture, IsReport, IsToldAs, bill_of, closed_line, entered_line, list_of, peak_line, profiles_line, released_line}
+use Rattle.example_service.specs.Lines.{BeginsWith, IsChangePicture, IsMost, IsPicture, IsReport, IsToldAs, bill_of}
+use Rattle.example_service.specs.Lines.{closed_line, entered_line, list_of, peak_line, profiles_line, released_line}
 use Rattle.example_service.specs.declared.documents.Note.{Note}
 use Rattle.example_service.specs.declared.documents.Order.{Order}
 use Rattle.example_service.specs.declared.request.Draft.{Draft}
@@ -78,7 +84,8 @@ OpensAccount tenant limit old new = (account_of tenant old ≡ None)
 
 -- The tenant has no account any more. Where it had none, the ledger is unchanged.
 abbrev pub ClosesAccount : List ℕ → Ledger → Ledger → Type 0
-ClosesAccount tenant old new = ((account_of tenant old ≡ None) × IsUnchanged old new) ⊎ ChangesAccount tenant None old new
+ClosesAccount tenant old new = ((account_of tenant old ≡ None) × IsUnchanged old new)
+    ⊎ ChangesAccount tenant None old new
 
 -- The most bytes of a tenant are those that it has. If it has no account, the ledger is unchanged.
 abbrev pub ResetsPeak : List ℕ → Ledger → Ledger → Type 0

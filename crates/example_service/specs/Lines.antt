@@ -1,5 +1,6 @@
 -- What the service says.
-use Rattle.std.specs.Prelude.{◌≡◌, ℕ, List, ◌++◌, Option, Some, None, IfSome, MatchOption, String, string_bytes, length, flat_map, nat_lt, if◌then◌else◌, codes, decimal}
+use Rattle.std.specs.Prelude.{◌≡◌, ℕ, List, ◌++◌, Option, Some, None, IfSome, MatchOption, String, string_bytes, length}
+use Rattle.std.specs.Prelude.{flat_map, nat_lt, if◌then◌else◌, codes, decimal}
 use Rattle.std.specs.Global.{Global}
 use Rattle.allocative.specs.Graph.{Graph}
 use Rattle.allocative.specs.Refusal.TheVariants.{Memory}

@@ -7,4 +7,6 @@ pub returns-clause-answer : goal.returns-clause-answer
 returns-clause-answer g c = owned_answered c.in_ok-visit_value.ensures.visited c.owned-collector.ensures c.sum.ensures
 
 pub returns-in_err-visit_value-clause-answer : goal.returns-in_err-visit_value-clause-answer
-returns-in_err-visit_value-clause-answer g c = owned_refused c.in_err-visit_value.ensures.visited c.owned-collector.ensures c.from_residual.ensures.0 (search rules)
+returns-in_err-visit_value-clause-answer g c =
+    owned_refused c.in_err-visit_value.ensures.visited c.owned-collector.ensures c.from_residual.ensures.0
+    (search rules)

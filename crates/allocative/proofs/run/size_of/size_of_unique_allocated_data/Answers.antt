@@ -7,4 +7,5 @@ pub returns-clause-answer : goal.returns-clause-answer
 returns-clause-answer g c = held_answered c.in_ok-visit_object.ensures.visited c.held-collector.ensures c.sum.ensures
 
 pub returns-in_err-visit_object-clause-answer : goal.returns-in_err-visit_object-clause-answer
-returns-in_err-visit_object-clause-answer g c = held_refused c.in_err-visit_object.ensures.visited c.held-collector.ensures c.from_residual.ensures.0 (search rules)
+returns-in_err-visit_object-clause-answer g c =
+    held_refused c.in_err-visit_object.ensures.visited c.held-collector.ensures c.from_residual.ensures.0 (search rules)

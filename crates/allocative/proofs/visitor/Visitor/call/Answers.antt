@@ -6,7 +6,8 @@ pub returns-in-Err : goal.returns-in-Err
 returns-in-Err g c =
     let p : FnOnceReturnsAtMut g.F.FnOnce c.args.enter c.args.self.now c.enter.result c.enter.new.arg2 =
     record { shown = _; shows = refl; left = _; met = c.enter.ensures; leaves = refl } in
-    let q : FnOnceReturnsAtMut g.F.FnOnce c.args.enter c.args.self.now (Err c.in-Err.refusal) c.enter.new.arg2 = rw c.in-Err.is at p in
+    let q : FnOnceReturnsAtMut g.F.FnOnce c.args.enter c.args.self.now (Err c.in-Err.refusal) c.enter.new.arg2 =
+    rw c.in-Err.is at p in
     let kept = c.requires.keeps _ _ _ p in record {
       told = Err c.in-Err.refusal;
       after = c.enter.new.arg2;
@@ -20,7 +21,8 @@ pub returns-in_default : goal.returns-in_default
 returns-in_default g c =
     let p : FnOnceReturnsAtMut g.F.FnOnce c.args.enter c.args.self.now c.enter.result c.enter.new.arg2 =
     record { shown = _; shows = refl; left = _; met = c.enter.ensures; leaves = refl } in
-    let q : FnOnceReturnsAtMut g.F.FnOnce c.args.enter c.args.self.now (Ok tt) c.enter.new.arg2 = rw c.in_default.is at p in
+    let q : FnOnceReturnsAtMut g.F.FnOnce c.args.enter c.args.self.now (Ok tt) c.enter.new.arg2 =
+    rw c.in_default.is at p in
     let kept = c.requires.keeps _ _ _ p in record {
       told = Ok tt;
       after = c.enter.new.arg2;

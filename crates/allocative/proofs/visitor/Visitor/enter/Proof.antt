@@ -1,6 +1,7 @@
 -- `enter` lends the collector on.
 use Rattle.allocative.proofs.Entering.{enters}
-use Rattle.allocative.proofs.Lent.{number_laws, Goes-dropped, refl, plain, usize, yes, false, Some, OpensEntry, RefusesEntry}
+use Rattle.allocative.proofs.Lent.{number_laws, Goes-dropped, refl, plain, usize, yes, false, Some, OpensEntry}
+use Rattle.allocative.proofs.Lent.{RefusesEntry}
 use Rattle.allocative.proofs.visitor.Visitor.enter.Statement.{statement}
 use Rattle.allocative.proofs.visitor.Visitor.enter.Code as code
 use Rattle.allocative.proofs.visitor.by_hand.collector_of.Met as g
@@ -9,6 +10,7 @@ use Rattle.allocative.proofs.visitor.by_hand.enter.Met as h
 -- The code of `enter` meets its contract.
 pub enter_spec : {M : Type 1} → statement M
 enter_spec 𝓤 𝓛 𝓜 𝓡 wired =
-    enters usize number_laws (λ k n. OpensEntry false k (Some n)) (λ k n s. RefusesEntry false (Some n) s) 𝓤 𝓛 𝓜 𝓡 (Goes-dropped 𝓛 2 (plain (λ _. usize)) yes (λ κs x w. refl))
+    enters usize number_laws (λ k n. OpensEntry false k (Some n)) (λ k n s. RefusesEntry false (Some n) s) 𝓤 𝓛 𝓜 𝓡
+    (Goes-dropped 𝓛 2 (plain (λ _. usize)) yes (λ κs x w. refl))
     (code.unfolded 𝓤 𝓛.H 𝓜 𝓡 wired) (g.met 𝓤 𝓛 𝓜 𝓡 (code.calls-allocative::visitor::by_hand::collector_of 𝓡.env wired))
     (h.met 𝓤 𝓛 𝓜 𝓡 (code.calls-allocative::visitor::by_hand::enter 𝓡.env wired))

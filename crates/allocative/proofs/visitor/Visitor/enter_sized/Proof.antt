@@ -9,6 +9,7 @@ use Rattle.allocative.proofs.visitor.collector.Collector.enter_sized.Met as h
 -- The code of `enter_sized` meets its contract.
 pub enter_sized_spec : {M : Type 1} → statement M
 enter_sized_spec 𝓤 𝓛 𝓜 𝓡 wired =
-    enters Size size_laws (OpensEntry false) (λ k n s. RefusesEntry false n s) 𝓤 𝓛 𝓜 𝓡 (Goes-blank 𝓛 2 (plain (λ _. Size)) yes (λ κs x w. tt))
+    enters Size size_laws (OpensEntry false) (λ k n s. RefusesEntry false n s) 𝓤 𝓛 𝓜 𝓡
+    (Goes-blank 𝓛 2 (plain (λ _. Size)) yes (λ κs x w. tt))
     (code.unfolded 𝓤 𝓛.H 𝓜 𝓡 wired) (g.met 𝓤 𝓛 𝓜 𝓡 (code.calls-allocative::visitor::by_hand::collector_of 𝓡.env wired))
     (h.met 𝓤 𝓛 𝓜 𝓡 (code.calls-allocative::visitor::collector::Collector::enter_sized 𝓡.env wired))

@@ -5,9 +5,11 @@ use Rattle.allocative.proofs.visitor.Visitor.visit_generic_set_fields.Goals as g
 
 pub returns-in_err-outer : goal.returns-in_err-outer
 returns-in_err-outer g c =
-    data_refused (same_err {e = c.in_err-outer.field-0.0} _ c.from_residual.ensures.0 (search rules)) (rw c.new.ensures at c.in_err-outer.ensures.opens)
+    data_refused (same_err {e = c.in_err-outer.field-0.0} _ c.from_residual.ensures.0 (search rules))
+    (rw c.new.ensures at c.in_err-outer.ensures.opens)
 
 pub returns : goal.returns
 returns g c =
     let run = rw c.new-2.ensures at c.visit_run-answer.ensures in
-    data_entered (rw c.new.ensures at c.in_ok-outer.ensures.opens) run.entered run.only_if_full run.exact c.close_entry.ensures
+    data_entered (rw c.new.ensures at c.in_ok-outer.ensures.opens) run.entered run.only_if_full run.exact
+    c.close_entry.ensures

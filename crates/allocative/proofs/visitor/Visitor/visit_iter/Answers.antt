@@ -6,11 +6,13 @@ use Rattle.allocative.proofs.visitor.Visitor.visit_iter.Goals as goal
 
 pub returns-then-are_shown_each-clause-entered : goal.returns-then-are_shown_each-clause-entered
 returns-then-are_shown_each-clause-entered g c =
-    items_run deref g.T.Described.name g.T.Described.size g.T.Described.needs_drop g.T.Allocative.may_show (search rules) c.visit_run.ensures.entered
+    items_run deref g.T.Described.name g.T.Described.size g.T.Described.needs_drop g.T.Allocative.may_show
+    (search rules) c.visit_run.ensures.entered
 
 pub returns-clause-entered : goal.returns-clause-entered
 returns-clause-entered g c =
-    plain_run {e = true} deref g.T.Described.name g.T.Described.size c.count_of-count.result g.T.Described.needs_drop g.T.Allocative.may_show (search rules) c.count_of-count.ensures (search rules)
+    plain_run {e = true} deref g.T.Described.name g.T.Described.size c.count_of-count.result g.T.Described.needs_drop
+    g.T.Allocative.may_show (search rules) c.count_of-count.ensures (search rules)
 
 pub returns-then-are_shown_each-clause-exact : goal.returns-then-are_shown_each-clause-exact
 returns-then-are_shown_each-clause-exact g c =
@@ -20,8 +22,11 @@ returns-then-are_shown_each-clause-exact g c =
 pub returns-clause-exact : goal.returns-clause-exact
 returns-clause-exact g c =
     let e : are_shown_each g.T.Described.needs_drop g.T.Described.size ≡ false = search rules in
-    rw (e, MakesPlanRun) (c.count_of-count.result, c.count_of-count.ensures, rw c.for_type_name.ensures at c.visit_counted.ensures.exact)
+    rw (e, MakesPlanRun)
+    (c.count_of-count.result, c.count_of-count.ensures, rw c.for_type_name.ensures at c.visit_counted.ensures.exact)
 
 pub returns-clause-only_if_full : goal.returns-clause-only_if_full
 returns-clause-only_if_full g c =
-    counted_plain deref g.T.Described.name g.T.Described.size c.count_of-count.result g.T.Described.needs_drop g.T.Allocative.may_show (search rules) c.count_of-count.ensures (rw c.for_type_name.ensures at c.visit_counted.ensures.entered)
+    counted_plain deref g.T.Described.name g.T.Described.size c.count_of-count.result g.T.Described.needs_drop
+    g.T.Allocative.may_show (search rules) c.count_of-count.ensures
+    (rw c.for_type_name.ensures at c.visit_counted.ensures.entered)

@@ -7,7 +7,8 @@ use Rattle.allocative.proofs.visitor.Visitor.visit_run.Goals as goal
 
 pub loop-item-preserved : goal.loop-item-preserved
 loop-item-preserved g c = (
-  entered_next g.E.EnterItem.seen (g.E.EnterItem.may_show c.args.how) c.loop-item.yielded c.in-Some.item c.loop-item.invariant.0 c.in_ok-enter_item.ensures,
+  entered_next g.E.EnterItem.seen (g.E.EnterItem.may_show c.args.how) c.loop-item.yielded c.in-Some.item
+      c.loop-item.invariant.0 c.in_ok-enter_item.ensures,
   run_gives _ c.loop-item.item-iterator c.loop-item.yielded c.loop-item.yielded_by c.in-Some.ensures.steps,
 )
 
@@ -17,19 +18,25 @@ returns-in_err-go_on-clause-only_if_full g c = record { along = λ i ys y. only_
 pub returns-in_err-enter_item-clause-only_if_full : goal.returns-in_err-enter_item-clause-only_if_full
 returns-in_err-enter_item-clause-only_if_full g c =
     let l = c.loop-item in
-    let is = same_err {e = c.in_err-enter_item.field-0.0} _ c.from_residual-in_err-enter_item.ensures.0 (search rules) in
-    rw (← c.into_iter-item-iterator.ensures.into_iter_gives) (along_refused _ l.item-iterator l.yielded is l.yielded_by c.in-Some.ensures.steps l.invariant.0 c.in_err-enter_item.ensures)
+    let is = same_err {e = c.in_err-enter_item.field-0.0} _ c.from_residual-in_err-enter_item.ensures.0 (search rules)
+    in
+    rw (← c.into_iter-item-iterator.ensures.into_iter_gives)
+    (along_refused _ l.item-iterator l.yielded is l.yielded_by c.in-Some.ensures.steps l.invariant.0
+    c.in_err-enter_item.ensures)
 
 pub returns-in_err-enter_item-clause-exact : goal.returns-in_err-enter_item-clause-exact
 returns-in_err-enter_item-clause-exact g c =
-    rw (← c.into_iter-item-iterator.ensures.into_iter_gives) (run_gives _ c.loop-item.item-iterator c.loop-item.yielded c.loop-item.yielded_by c.in-Some.ensures.steps)
+    rw (← c.into_iter-item-iterator.ensures.into_iter_gives)
+    (run_gives _ c.loop-item.item-iterator c.loop-item.yielded c.loop-item.yielded_by c.in-Some.ensures.steps)
 
 pub returns : goal.returns
 returns g c =
     let l = c.loop-item in
     rw (← c.into_iter-item-iterator.ensures.into_iter_gives) (record {
-      entered = entered_run l.yielded (c.next.new.self, (l.item-iterator, l.yielded_by, c.in-None.ensures.steps)) l.invariant.0;
-      only_if_full = along_run l.yielded (c.next.new.self, (l.item-iterator, l.yielded_by, c.in-None.ensures.steps)) l.invariant.0;
+      entered = entered_run l.yielded (c.next.new.self, (l.item-iterator, l.yielded_by, c.in-None.ensures.steps))
+          l.invariant.0;
+      only_if_full = along_run l.yielded (c.next.new.self, (l.item-iterator, l.yielded_by, c.in-None.ensures.steps))
+          l.invariant.0;
       kept = kept_after c.in_ok-go_on.ensures;
       exact = l.invariant.1;
     })

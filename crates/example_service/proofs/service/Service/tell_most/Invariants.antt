@@ -5,4 +5,5 @@ use Rattle.example_service.proofs.service.Service.tell_most.Given as goal
 
 -- The lines of the changes so far are written.
 abbrev pub invariant-loop-change : goal.invariant-loop-change
-invariant-loop-change l = string_bytes l.text ≡ flat_map growth_line (map change_data (take l.change-index l.change-items))
+invariant-loop-change l = string_bytes l.text
+    ≡ flat_map growth_line (map change_data (take l.change-index l.change-items))

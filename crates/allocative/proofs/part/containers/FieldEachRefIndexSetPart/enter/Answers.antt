@@ -4,4 +4,5 @@ use Rattle.allocative.proofs.Runs.{entered_list}
 use Rattle.allocative.proofs.part.containers.FieldEachRefIndexSetPart.enter.Goals as goal
 
 pub returns : goal.returns
-returns g c = entered_list (YieldsList-from_rest _ c.iter.ensures.rest) (rw c.into_key.ensures at c.visit_run.ensures.entered) (rw c.into_key.ensures at c.visit_run.ensures.only_if_full)
+returns g c = entered_list (YieldsList-from_rest _ c.iter.ensures.rest)
+    (rw c.into_key.ensures at c.visit_run.ensures.entered) (rw c.into_key.ensures at c.visit_run.ensures.only_if_full)

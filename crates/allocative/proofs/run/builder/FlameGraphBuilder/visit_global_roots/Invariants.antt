@@ -5,4 +5,5 @@ use Rattle.allocative.proofs.run.builder.FlameGraphBuilder.visit_global_roots.Gi
 
 abbrev pub invariant-loop-root : goal.invariant-loop-root
 invariant-loop-root g l =
-    VisitsRoot (each_shows (λ b. (goal.Allocative-dyn g (b.vtable, b.value)).may_show b.value) (take l.root-index l.roots)) l.initial.self (Ok tt) l.self
+    VisitsRoot (each_shows (λ b. (goal.Allocative-dyn g (b.vtable, b.value)).may_show b.value)
+    (take l.root-index l.roots)) l.initial.self (Ok tt) l.self

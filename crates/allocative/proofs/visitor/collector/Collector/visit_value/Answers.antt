@@ -5,13 +5,18 @@ use Rattle.allocative.proofs.Roots.{visits_root, root_only_if_full}
 use Rattle.allocative.proofs.visitor.collector.Collector.visit_value.Goals as goal
 
 pub returns-clause-visits_root : goal.returns-clause-visits_root
-returns-clause-visits_root g c = visits_root _ _ c.in_ok-visitor.ensures.begun refl c.visit_value-told.ensures.entered.shown (search rules) c.visit_value-told.ensures.entered.same_outer c.check.ensures
+returns-clause-visits_root g c = visits_root _ _ c.in_ok-visitor.ensures.begun refl
+    c.visit_value-told.ensures.entered.shown (search rules) c.visit_value-told.ensures.entered.same_outer
+    c.check.ensures
 
 pub returns-clause-only_if_full : goal.returns-clause-only_if_full
-returns-clause-only_if_full g c = root_only_if_full _ _ c.in_ok-visitor.ensures.begun refl c.visit_value-told.ensures.entered.only_if_full (search rules) c.visit_value-told.ensures.entered.same_outer c.check.ensures
+returns-clause-only_if_full g c = root_only_if_full _ _ c.in_ok-visitor.ensures.begun refl
+    c.visit_value-told.ensures.entered.only_if_full (search rules) c.visit_value-told.ensures.entered.same_outer
+    c.check.ensures
 
 pub returns-clause-visited : goal.returns-clause-visited
-returns-clause-visited g c = root_visited c.in_ok-visitor.ensures.begun c.visit_value-told.ensures.visited (search rules) c.visit_value-told.ensures.entered.same_outer c.check.ensures
+returns-clause-visited g c = root_visited c.in_ok-visitor.ensures.begun c.visit_value-told.ensures.visited
+    (search rules) c.visit_value-told.ensures.entered.same_outer c.check.ensures
 
 pub returns-in_err-visitor-clause-visited : goal.returns-in_err-visitor-clause-visited
 returns-in_err-visitor-clause-visited g c = not_begun _ c.in_err-visitor.ensures.refused

@@ -32,7 +32,8 @@ returns-in-Array t c =
     let e : out-Value c.args.self.now ≡ Value-F.Array items = search (rules, the_lemmas) in
     let n : c.len.result ≡ length items.items = search rules in
     visited_as c.enter-in-Array.ensures
-    (means_recursive (rw e (means_inside refl (means_inside refl (means_field refl refl (means_buffer refl n (search rules) means_same))))))
+    (means_recursive (rw e (means_inside refl
+    (means_inside refl (means_field refl refl (means_buffer refl n (search rules) means_same))))))
 
 pub returns-in-Object : goal.returns-in-Object
 returns-in-Object t c =

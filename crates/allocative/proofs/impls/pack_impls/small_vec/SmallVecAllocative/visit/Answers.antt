@@ -6,8 +6,10 @@ use Rattle.allocative.proofs.impls.pack_impls.small_vec.SmallVecAllocative.visit
 
 pub returns-then-spilled : goal.returns-then-spilled
 returns-then-spilled g c =
-    visited_as c.enter.ensures (means_field refl refl (means_spilled (search rules) (search rules) (rw c.as_slice.ensures means_same)))
+    visited_as c.enter.ensures (means_field refl refl
+    (means_spilled (search rules) (search rules) (rw c.as_slice.ensures means_same)))
 
 pub returns-else-spilled : goal.returns-else-spilled
 returns-else-spilled g c =
-    visited_as c.enter-else-spilled.ensures (means_field refl refl (means_inline (search rules) (rw c.as_slice.ensures means_same)))
+    visited_as c.enter-else-spilled.ensures (means_field refl refl
+    (means_inline (search rules) (rw c.as_slice.ensures means_same)))
