@@ -82,3 +82,6 @@ stops_fields known input Memory e h = read_so known input (λ bytes. RefusesFiel
 stops_fields known input NotJson e h = read_so known input (λ bytes. RefusesFields bytes NotJson) e h
 stops_fields known input TooLarge e h = read_so known input (λ bytes. RefusesFields bytes TooLarge) e h
 stops_fields known input f e h = absurd h
+
+-- The lemmas by which a run ends.
+pub ruleset ending = (some_text, refused_fields, stops_reading)

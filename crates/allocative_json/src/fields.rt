@@ -104,6 +104,7 @@ fn graph_of_document(alloc: Global, document: &'static Value) -> Result<FlameGra
 ///
 /// It returns `Fault::NotJson` if `serde_json` refuses the input for a reason other than memory, `Fault::TooLarge` only
 /// if the bytes of the document exceed `usize::MAX`, and otherwise `Fault::Memory`, which an empty input never causes.
+#[tactic(auto, using(crate::proofs::FieldsLemmas::ending))]
 pub fn fields_json(alloc: Global, input: &[u8]) -> Result<String, Fault>
     ensures ok { IfOk result (λ made. AreFields input.now (string_bytes made)) }
     ensures err { IfErr result (RefusesFields input.now) }

@@ -9,6 +9,7 @@ use std::alloc::Global;
 use std::io::{Read, Write};
 
 // Reads the input, and makes the text of its fields.
+#[tactic(auto, using(crate::proofs::FieldsLemmas::ending))]
 fn make_fields<R: Read>(alloc: Global, input: &mut R) -> Result<String, Fault>
     ensures ok { IfOk result
         (λ made. IfSome (R.remaining input.old) (λ known. AreFields known (string_bytes made))) }
