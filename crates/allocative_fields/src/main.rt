@@ -1,5 +1,5 @@
-//! Reads a JSON document from standard input, and writes to standard output how many bytes each of its fields declares, in
-//! the form that `flamegraph.pl` reads.
+//! Reads a JSON document from standard input, and writes to standard output how many bytes each of its fields declares,
+//! in the form that `flamegraph.pl` reads.
 #![tactic(auto)]
 
 use allocative_json::{Fault, run_fields, tell};

@@ -3,7 +3,7 @@ use Rattle.std.proofs.Common.{◌≡◌, ℕ, ◌+◌, ◌^◌, ◌<◌, ◌≤�
 use Rattle.allocative_json.proofs.Common.{view, Value}
 use Rattle.std.proofs.lemmas.List.Folds.{fold-map}
 use Rattle.std.proofs.lemmas.List.Sums.{sum_by_more_le}
-use Rattle.allocative_graph.specs.Graph.{Graph, default, add_self, sum_of, under, total}
+use Rattle.allocative_graph.specs.Graph.{Graph, default, add_self, under, total}
 use Rattle.allocative_graph.specs.Many.{sum_of_all}
 use Rattle.allocative_graph.specs.declared.flamegraph.Child.{Child}
 use Rattle.allocative_graph.specs.declared.refusal.Refusal.{Refusal}

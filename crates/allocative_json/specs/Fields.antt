@@ -1,5 +1,5 @@
--- The fields of a JSON document: a graph with the bytes that the values at each path declare, and what a run writes of it.
-use Rattle.std.specs.Prelude.{◌≡◌, ℕ, ◌+◌, ◌-◌, ◌*◌, ◌^◌, ◌<◌, ◌≤◌, ◌==◌, ⊤, cond, List, ◌++◌, map, flat_map, length, Option, IfSome, Result, MatchResult, codes, encode_utf8, String, string_bytes, string_capacity, vec_capacity}
+-- The fields of a JSON document: a graph with the bytes that the values at each path declare, and what a run writes.
+use Rattle.std.specs.Prelude.{◌≡◌, ℕ, ◌+◌, ◌-◌, ◌*◌, ◌^◌, ◌<◌, ◌≤◌, ◌==◌, ⊤, cond, List, map, flat_map, length, Option, IfSome, Result, MatchResult, codes, encode_utf8, String, string_bytes, string_capacity, vec_capacity}
 use Rattle.std.specs.Str.{chars}
 use Rattle.std.specs.Io.KnownBytes.{Appends}
 use Rattle.std.specs.declared.alloc.Global.{Global}
@@ -57,7 +57,8 @@ fields_step Value-F.Null = bytes_alone 32
 fields_step (Value-F.Bool b) = bytes_alone 32
 fields_step (Value-F.Number n) = bytes_alone 32
 fields_step (Value-F.String s) = bytes_alone (32 + string_capacity s)
-fields_step (Value-F.Array v) = sum_of_all (bytes_alone (array_bytes (length v.items) (vec_capacity v))) (map item_below v.items)
+fields_step (Value-F.Array v) =
+    sum_of_all (bytes_alone (array_bytes (length v.items) (vec_capacity v))) (map item_below v.items)
 fields_step (Value-F.Object m) = sum_of_all (bytes_alone 32) (map member_below m.entries)
 
 -- The graph of a value: at each path the bytes that the values there declare.
@@ -128,8 +129,8 @@ pub record CutsOffFields (known output output' errors errors' : Option (List ℕ
   pub begun : AppendsBeginning output output' made
   pub told : AppendsBeginning errors errors' (line_of program Writing)
 
--- The status is that of a fault that may end the run before anything is written, and a beginning of its line follows what
--- the errors held.
+-- The status is that of a fault that may end the run before anything is written, and a beginning of its line follows
+-- what the errors held.
 pub record EndsFieldsIn (known errors errors' : Option (List ℕ)) (status : ℕ) : Type 0 where
   pub cause : Fault
   pub is_status : status ≡ status_of cause

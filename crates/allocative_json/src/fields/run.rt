@@ -22,8 +22,8 @@ fn make_fields<R: Read>(alloc: Global, input: &mut R) -> Result<String, Fault>
 /// Runs the whole program and returns its status.
 ///
 /// The text is made before anything is written. With status 0 it is on the output, and with status 7 a beginning of it.
-/// With any other status nothing is written to the output. With every status but 0 the line of the fault is written to the
-/// errors, or a beginning of it if that fails, and the status is that of the fault.
+/// With any other status nothing is written to the output. With every status but 0 the line of the fault is written to
+/// the errors, or a beginning of it if that fails, and the status is that of the fault.
 pub fn run_fields<R: Read, W: Write, E: Write>(
     alloc: Global,
     input: &mut R,

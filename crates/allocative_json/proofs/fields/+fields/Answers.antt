@@ -1,11 +1,11 @@
 -- What refuses an item, a member, or adding one, refuses the whole graph.
-use Rattle.std.proofs.Common.{◌≡◌, ◌+◌, ◌≤◌, List, length, map, take, ap, subst, sym, ◌∙◌, arith}
+use Rattle.std.proofs.Common.{◌≡◌, ◌+◌, length, map, take, ap, ◌∙◌, arith}
 use Rattle.std.specs.Prelude.{string_capacity, vec_capacity}
 use Rattle.std.proofs.lemmas.Iterator.Consumers.{YieldsList-end, YieldsList-from_rest, YieldsList-turn}
-use Rattle.allocative_graph.specs.Graph.{Graph, total}
+use Rattle.allocative_graph.specs.Graph.{total}
 use Rattle.allocative_graph.specs.Many.{sum_of_all, total_of}
 use Rattle.allocative_graph.proofs.Gathered.{total-all}
-use Rattle.allocative_json.specs.Fields.{bytes_alone, array_bytes, item_of, member_below, member_of, fields_of, Makes}
+use Rattle.allocative_json.specs.Fields.{bytes_alone, array_bytes, item_of, member_below, member_of, fields_of}
 use Rattle.allocative_json.proofs.FieldsLemmas.{passed_on, refused_more, refused_sum, start_within, more_within, total-add_self}
 use Rattle.allocative_json.proofs.fields.+fields.Goals as goal
 
