@@ -1,6 +1,7 @@
 pub mod Common
 pub mod NumbersLemmas
 pub mod Reports
+pub mod FieldsLemmas
 pub mod LinesLemmas
 pub mod Writes
 pub mod WordsLemmas

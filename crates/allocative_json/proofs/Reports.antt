@@ -21,7 +21,7 @@ use Rattle.allocative_json.specs.declared.fault.Fault.TheVariants as fault
 use Rattle.allocative_json.specs.declared.printed.Report.{Report}
 use Rattle.allocative_json.specs.declared.words.Words.{Words}
 use Rattle.allocative_json.specs.Profile.{AreTexts, IsReportOf, IsRightReport, RefusesRoots, RefusesReport}
-use Rattle.allocative_json.specs.Roots.{IsWholeDocument, AreRoots}
+use Rattle.allocative_json.specs.Roots.{IsDocument, IsWholeDocument, AreRoots}
 use Rattle.allocative_json.specs.Run.{IsReportFor, MayEndRun}
 use Rattle.allocative_json.specs.Words.{Asks}
 
@@ -55,9 +55,13 @@ unfolding serde_json_on_literals
 nothing_read d e = cc
 
 -- The text of a document is not empty.
+pub some_text : (input : List ℕ) (d : Data) → IsDocument input d → 0 < length input
+some_text [] d h = absurd (nothing_read d h.is_read)
+some_text (b ∷ bs) d h = omega arith
+
+-- Nor is that of a document whose numbers are whole.
 pub some_input : (input : List ℕ) (d : Data) → IsWholeDocument input d → 0 < length input
-some_input [] d h = absurd (nothing_read d h.document.is_read)
-some_input (b ∷ bs) d h = omega arith
+some_input input d h = some_text input d h.document
 
 -- A fault of the roots is one of their input.
 refused_roots : (input : List ℕ) (index : Bool) (v : Value) (n : Option (BTreeSet ℤ)) (f : Fault) → AreRoots input index (view v) n → RefusesRoots (roots_show v n) f → RefusesReport input index f
@@ -124,7 +128,7 @@ report_for texts known input asked r w a e = IfOk-weaker r _ _ (λ made h. recor
 
 -- ---- refusals of a run
 -- What holds of the input holds of the known bytes.
-read_so : (known : Option (List ℕ)) (input : List ℕ) (P : List ℕ → Type 0) → IfSome known (λ bytes. input ≡ bytes) → P input → IfSome known P
+pub read_so : (known : Option (List ℕ)) (input : List ℕ) (P : List ℕ → Type 0) → IfSome known (λ bytes. input ≡ bytes) → P input → IfSome known P
 read_so None input P e h = tt
 read_so (Some bytes) input P e h = subst P e h
 

@@ -27,9 +27,9 @@ message_of Reading = codes "cannot read input"
 message_of Writing = codes "cannot write output"
 message_of Open = codes "a visitor was forgotten"
 
--- The line of a fault on standard error: the name of the program, the message, and a line feed.
-abbrev pub line_of : Fault → List ℕ
-line_of f = codes "allocative-json: " ++ message_of f ++ codes "\n"
+-- The line of a fault on standard error: its start, which names the program, the message, and a line feed.
+abbrev pub line_of : List ℕ → Fault → List ℕ
+line_of start f = start ++ (message_of f ++ codes "\n")
 
 -- The fault of a refusal: the one with its name.
 abbrev pub fault_of : Refusal → Fault

@@ -1,4 +1,5 @@
 pub mod Fault
+pub mod Fields
 pub mod Lines
 pub mod Numbers
 pub mod Profile

@@ -1,5 +1,5 @@
 -- What a whole run does.
-use Rattle.std.specs.Prelude.{◌≡◌, ℕ, ◌<◌, ⊤, ◌⊎◌, List, ◌++◌, length, Option, IfSome, string_bytes}
+use Rattle.std.specs.Prelude.{◌≡◌, ℕ, ◌<◌, ⊤, ◌⊎◌, List, ◌++◌, length, Option, IfSome, codes, string_bytes}
 use Rattle.std.specs.Io.KnownBytes.{Appends}
 use Rattle.allocative_json.specs.declared.fault.Fault.{Fault}
 use Rattle.allocative_json.specs.declared.fault.Fault.TheVariants.{Memory, Reading, Writing, Open}
@@ -54,7 +54,7 @@ pub record EndsCutOff (texts : List Word) (known output output' errors errors' :
   pub report : IsReportFor texts known made
   pub warned : Option (List ℕ)
   pub begun : IsBegun output output' errors warned made
-  pub told : AppendsBeginning warned errors' (line_of Writing)
+  pub told : AppendsBeginning warned errors' (line_of (codes "allocative-json: ") Writing)
 
 -- The faults that reading the input may return: Memory only if the input is not empty; or Reading.
 abbrev pub StopsReading : Option (List ℕ) → Fault → Type 0
@@ -84,4 +84,4 @@ pub record EndsIn (texts : List Word) (known errors errors' : Option (List ℕ))
   pub cause : Fault
   pub is_status : status ≡ status_of cause
   pub refuses : MayEndRun texts known cause
-  pub told : AppendsBeginning errors errors' (line_of cause)
+  pub told : AppendsBeginning errors errors' (line_of (codes "allocative-json: ") cause)

@@ -1,8 +1,9 @@
-//! Profiles of JSON documents: the calls of the program `allocative-json`, and the program itself over any reader and
-//! two writers.
+//! Profiles and fields of JSON documents: the calls of the programs `allocative-json` and `allocative-fields`, and the
+//! programs themselves over any reader and two writers.
 #![tactic(auto)]
 
 pub mod fault;
+pub mod fields;
 pub mod printed;
 pub mod profile;
 pub mod roots;
@@ -11,6 +12,7 @@ pub mod texts;
 pub mod words;
 
 pub use crate::fault::Fault;
+pub use crate::fields::{fields_json, run_fields};
 pub use crate::printed::Report;
 pub use crate::profile::profile_json;
 pub use crate::roots::read_roots;

@@ -1,4 +1,4 @@
-//! The whole program, over any reader and two writers.
+//! The program `allocative-json`, over any reader and two writers.
 ghost use Rattle.std.specs.Prelude.{◌≡◌, ◌≢◌, OnOk, IfOk, IfErr, IfSome};
 ghost use Rattle.std.specs.Io.KnownBytes.{Appends};
 ghost use Rattle.allocative_json.specs.Fault.{status_of, line_of};
@@ -15,9 +15,9 @@ use std::alloc::Global;
 use std::io::{self, ErrorKind, Read, Write};
 use std::mem;
 
-// Reads to the end of the input. It returns `Fault::Reading` if a read fails, and `Fault::Memory` if memory
-// runs out, which an empty input never causes. An interrupted read is repeated.
-fn read_input<R: Read>(alloc: Global, input: &mut R) -> Result<Vec<u8>, Fault>
+/// Reads to the end of the input. It returns `Fault::Reading` if a read fails, and `Fault::Memory` if memory
+/// runs out, which an empty input never causes. An interrupted read is repeated.
+pub(crate) fn read_input<R: Read>(alloc: Global, input: &mut R) -> Result<Vec<u8>, Fault>
     ensures ok { IfOk result
         (λ bytes. IfSome (R.remaining input.old) (λ known. bytes.items ≡ known)) }
     ensures err { IfErr result (StopsReading (R.remaining input.old)) }
@@ -35,9 +35,9 @@ fn read_input<R: Read>(alloc: Global, input: &mut R) -> Result<Vec<u8>, Fault>
     Err(Fault::Reading)
 }
 
-// Writes and flushes the whole text. If a write fails, a beginning of it is written. An interrupted write is repeated.
+/// Writes and flushes the whole text. If a write fails, a beginning of it is written. An interrupted write is repeated.
 #[tactic(auto, using(crate::proofs::Writes::writing))]
-fn write_text<W: Write>(output: &mut W, text: &str) -> io::Result<()>
+pub(crate) fn write_text<W: Write>(output: &mut W, text: &str) -> io::Result<()>
     ensures whole { OnOk result (Appends (W.contents output.old) (W.contents output.new) text.now) }
     ensures beginning { AppendsBeginning (W.contents output.old) (W.contents output.new) text.now }
 {
@@ -57,22 +57,22 @@ fn write_text<W: Write>(output: &mut W, text: &str) -> io::Result<()>
 }
 
 // Writes the line of a fault.
-fn write_line<E: Write>(errors: &mut E, fault: Fault) -> io::Result<()>
-    ensures { AppendsBeginning (E.contents errors.old) (E.contents errors.new) (line_of fault) }
+fn write_line<E: Write>(errors: &mut E, start: &str, fault: Fault) -> io::Result<()>
+    ensures { AppendsBeginning (E.contents errors.old) (E.contents errors.new) (line_of start.now fault) }
 {
-    write_text(errors, "allocative-json: ")?;
+    write_text(errors, start)?;
     write_text(errors, fault.message())?;
     write_text(errors, "\n")
 }
 
 /// Writes the line of the fault and returns its status, even if the line cannot be written. No more than a beginning of
-/// the line is written then.
-pub fn tell<E: Write>(errors: &mut E, fault: Fault) -> u8
+/// the line is written then. The line begins with `start`: the name of the program, a colon and a space.
+pub fn tell<E: Write>(errors: &mut E, start: &str, fault: Fault) -> u8
     ensures status { result ≡ status_of fault }
     ensures line { AppendsBeginning (E.contents errors.old) (E.contents errors.new)
-        (line_of fault) }
+        (line_of start.now fault) }
 {
-    let _is_told = write_line(errors, fault);
+    let _is_told = write_line(errors, start, fault);
     fault.status()
 }
 
@@ -147,8 +147,8 @@ pub fn run_json<R: Read, W: Write, E: Write>(
     match make_report(alloc, words, input) {
         Ok(report) => match write_report(&report, output, errors) {
             Ok(()) => 0,
-            Err(_) => tell(errors, Fault::Writing),
+            Err(_) => tell(errors, "allocative-json: ", Fault::Writing),
         },
-        Err(fault) => tell(errors, fault),
+        Err(fault) => tell(errors, "allocative-json: ", fault),
     }
 }

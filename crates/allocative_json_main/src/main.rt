@@ -30,7 +30,7 @@ fn main(rt: HostRuntime) -> ExitCode {
             &mut output,
             &mut errors,
         ),
-        Err(fault) => tell(&mut errors, fault),
+        Err(fault) => tell(&mut errors, "allocative-json: ", fault),
     };
     ExitCode::from(status)
 }
