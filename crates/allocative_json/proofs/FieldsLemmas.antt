@@ -1,5 +1,6 @@
 -- The graphs of fields: their totals, why they are refused, and what a run makes of them.
-use Rattle.std.proofs.Common.{◌≡◌, ℕ, ◌+◌, ◌^◌, ◌<◌, ◌≤◌, List, [], length, get_or, take, map, Option, IfSome, Result, Ok, Err, IfErr, IsErrAnd, MatchResult, refl, sym, ap, subst, arith, codes}
+use Rattle.std.proofs.Common.{◌≡◌, ℕ, ◌+◌, ◌^◌, ◌<◌, ◌≤◌, List, [], length, get_or, take, map, Option, IfSome, Result}
+use Rattle.std.proofs.Common.{Ok, Err, IfErr, IsErrAnd, MatchResult, refl, sym, ap, subst, arith, codes}
 use Rattle.allocative_json.proofs.Common.{view, Value}
 use Rattle.std.proofs.lemmas.List.Folds.{fold-map}
 use Rattle.std.proofs.lemmas.List.Sums.{sum_by_more_le}
@@ -15,7 +16,8 @@ use Rattle.allocative_json.specs.declared.fault.Fault.TheVariants.{Memory, NotJs
 use Rattle.allocative_json.specs.Fault.{fault_of}
 use Rattle.allocative_json.specs.Roots.{IsDocument}
 use Rattle.allocative_json.specs.Run.{StopsReading}
-use Rattle.allocative_json.specs.Fields.{bytes_alone, fields_of, document_fields, RefusesGraph, RefusesFields, StopsFields}
+use Rattle.allocative_json.specs.Fields.{bytes_alone, fields_of, document_fields, RefusesGraph, RefusesFields}
+use Rattle.allocative_json.specs.Fields.{StopsFields}
 use Rattle.allocative_json.proofs.Reports.{some_text, read_so}
 
 -- ---- totals
@@ -33,7 +35,8 @@ pub start_within : (start : Graph) (cs : List Child) → total start ≤ total (
 start_within start cs = omega (arith, total-all start cs)
 
 -- The bytes of the children so far and of the next one are within those of all.
-pub more_within : {X : Type 0} (f : X → Child) (start : Graph) (xs : List X) (i : ℕ) (x : X) → i < length xs → x ≡ get_or xs i x
+pub more_within : {X : Type 0} (f : X → Child) (start : Graph) (xs : List X) (i : ℕ) (x : X) → i < length xs →
+    x ≡ get_or xs i x
     → total (sum_of_all start (map f (take i xs))) + total (f x).graph ≤ total (sum_of_all start (map f xs))
 more_within {X} f start xs i x within here =
     let bytes : X → ℕ = λ y. total (f y).graph in
@@ -48,23 +51,30 @@ refused_more g h refused.TooLarge within e = omega (arith, e)
 refused_more g h refused.Open within e = absurd e
 
 -- A sum of graphs is refused.
-pub refused_sum : {T : Type 0} (r : Refusal) (h : Graph) (bytes : ℕ) → (◌≡◌ {A = Result T Refusal} (Err r) (Err refused.TooLarge) → 2 ^ 64 ≤ bytes) → (◌≡◌ {A = Result T Refusal} (Err r) (Err refused.Open) → ⊥) → bytes ≤ total h → RefusesGraph h r
+pub refused_sum : {T : Type 0} (r : Refusal) (h : Graph) (bytes : ℕ) →
+    (◌≡◌ {A = Result T Refusal} (Err r) (Err refused.TooLarge) → 2 ^ 64 ≤ bytes) →
+    (◌≡◌ {A = Result T Refusal} (Err r) (Err refused.Open) → ⊥) → bytes ≤ total h → RefusesGraph h r
 refused_sum refused.Memory h bytes large never within = tt
 refused_sum refused.TooLarge h bytes large never within = omega (arith, large refl)
 refused_sum refused.Open h bytes large never within = absurd (never refl)
 
 -- More bytes of a root are refused.
-pub refused_self : {T : Type 0} (r : Refusal) (h : Graph) (bytes : ℕ) → (◌≡◌ {A = Result T Refusal} (Err r) (Err refused.TooLarge) → 2 ^ 64 ≤ bytes) → r ≡ refused.TooLarge → bytes ≤ total h → RefusesGraph h r
+pub refused_self : {T : Type 0} (r : Refusal) (h : Graph) (bytes : ℕ) →
+    (◌≡◌ {A = Result T Refusal} (Err r) (Err refused.TooLarge) → 2 ^ 64 ≤ bytes) → r ≡ refused.TooLarge →
+    bytes ≤ total h → RefusesGraph h r
 refused_self r h bytes large is within = subst (RefusesGraph h) (sym is) (omega (arith, large (ap Err is)))
 
 -- A refusal is passed on.
-pub passed_on : {T : Type 0} (y : T) (g : Graph) (x : Result T Refusal) (r : Refusal) → IsErrAnd x (λ q. q ≡ r) → RefusesGraph g r → MatchResult x (λ made. made ≡ y) (RefusesGraph g)
+pub passed_on : {T : Type 0} (y : T) (g : Graph) (x : Result T Refusal) (r : Refusal) → IsErrAnd x (λ q. q ≡ r) →
+    RefusesGraph g r → MatchResult x (λ made. made ≡ y) (RefusesGraph g)
 passed_on y g (Ok z) r is h = absurd is
 passed_on y g (Err q) r is h = subst (RefusesGraph g) (sym is) h
 
 -- ---- a run
 -- Where a graph of a document is refused, there is no text of its fields.
-pub refused_fields : {T : Type 0} (input : List ℕ) (v : Value) (refusal : Refusal) (r : Result T Fault) → IsDocument input (view v) → IsErrAnd r (λ f. f ≡ fault_of refusal) → RefusesGraph (document_fields v) refusal → IfErr r (RefusesFields input)
+pub refused_fields : {T : Type 0} (input : List ℕ) (v : Value) (refusal : Refusal) (r : Result T Fault) →
+    IsDocument input (view v) → IsErrAnd r (λ f. f ≡ fault_of refusal) → RefusesGraph (document_fields v) refusal →
+    IfErr r (RefusesFields input)
 refused_fields input v refusal (Ok x) d e h = tt
 refused_fields input v refused.Memory (Err f) d e h = subst (RefusesFields input) (sym e) (some_text input (view v) d)
 refused_fields input v refused.TooLarge (Err f) d e h = subst (RefusesFields input) (sym e) (v, d, h)
@@ -77,7 +87,8 @@ stops_reading known Reading h = tt
 stops_reading known f h = absurd h
 
 -- A fault of the text of the input that was read ends a run.
-pub stops_fields : (known : Option (List ℕ)) (input : List ℕ) (f : Fault) → IfSome known (λ bytes. input ≡ bytes) → RefusesFields input f → StopsFields known f
+pub stops_fields : (known : Option (List ℕ)) (input : List ℕ) (f : Fault) → IfSome known (λ bytes. input ≡ bytes) →
+    RefusesFields input f → StopsFields known f
 stops_fields known input Memory e h = read_so known input (λ bytes. RefusesFields bytes Memory) e h
 stops_fields known input NotJson e h = read_so known input (λ bytes. RefusesFields bytes NotJson) e h
 stops_fields known input TooLarge e h = read_so known input (λ bytes. RefusesFields bytes TooLarge) e h

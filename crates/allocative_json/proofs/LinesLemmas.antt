@@ -1,5 +1,7 @@
 -- The lines of a text, and the last key of a line, as `split_once` and `rsplit_once` find them.
-use Rattle.std.proofs.Common.{◌≡◌, ◌≢◌, ℕ, suc, ◌+◌, ◌<◌, ◌≤◌, ◌==◌, Bool, true, false, cond, List, [], ◌∷◌, ◌++◌, length, get_or, take, drop, Option, None, Some, refl, ap, sym, ◌∙◌, arith, append_assoc, append-nil, eq-eqb, Bor, MatchOption, ne_eqb, take-append-drop}
+use Rattle.std.proofs.Common.{◌≡◌, ◌≢◌, ℕ, suc, ◌+◌, ◌<◌, ◌≤◌, ◌==◌, Bool, true, false, cond, List, [], ◌∷◌, ◌++◌}
+use Rattle.std.proofs.Common.{length, get_or, take, drop, Option, None, Some, refl, ap, sym, ◌∙◌, arith, append_assoc}
+use Rattle.std.proofs.Common.{append-nil, eq-eqb, Bor, MatchOption, ne_eqb, take-append-drop}
 use Rattle.allocative_json.proofs.Common.{after_last, kept_lines}
 use Rattle.std.specs.Str.Pattern.{RFindsChar}
 use Rattle.std.proofs.lemmas.Str.Pattern.{NoCharPasses-char, drop_at_char, IsSplitOnceResult, split_parts}
@@ -33,7 +35,8 @@ before_read c best acc (b ∷ x) d h =
 -- Without c all bytes follow.
 after_lacking : (c : ℕ) (acc a : List ℕ) → Lacks c a → after_last c acc a ≡ acc ++ a
 after_lacking c acc [] h = sym (append-nil acc)
-after_lacking c acc (b ∷ a) h = rw (ne_eqb b c h.0) (after_lacking c (acc ++ b ∷ []) a h.1 ∙ append_assoc acc (b ∷ []) a)
+after_lacking c acc (b ∷ a) h = rw (ne_eqb b c h.0)
+    (after_lacking c (acc ++ b ∷ []) a h.1 ∙ append_assoc acc (b ∷ []) a)
 
 -- The text after the last c is read.
 after_read : (c : ℕ) (acc x d : List ℕ) → Lacks c d → after_last c acc (x ++ c ∷ d) ≡ d
@@ -43,7 +46,8 @@ after_read c acc (b ∷ x) d h = same_cond (b == c) _ _ _ (after_read c [] x d h
 -- What `rsplit_once` returns at an ASCII character.
 abbrev pub IsRsplit : ℕ → List ℕ → Option (Bor (List ℕ) × Bor (List ℕ)) → Type 0
 IsRsplit c bs r = MatchOption r (RFindsChar c bs None)
-    (λ x. (i : ℕ) × (j : ℕ) × RFindsChar c bs (Some (i, j)) × (x.0.now ≡ take i bs) × (x.1.now ≡ drop j bs) × (i ≤ j) × (length x.0.now ≡ i) × (length x.1.now + j ≡ length bs))
+    (λ x. (i : ℕ) × (j : ℕ) × RFindsChar c bs (Some (i, j)) × (x.0.now ≡ take i bs) × (x.1.now ≡ drop j bs) × (i ≤ j)
+    × (length x.0.now ≡ i) × (length x.1.now + j ≡ length bs))
 
 -- The two parts of a split, of which the second lacks c.
 rsplit_parts : (c : ℕ) (bs : List ℕ) (r : Option (Bor (List ℕ) × Bor (List ℕ))) → IsRsplit c bs r → c < 128
@@ -56,8 +60,10 @@ rsplit_parts c bs (Some x) (i, j, finds, front, back, ordered, one, other) low =
 
 -- The text before the last c, and that after it, in one line.
 pub rsplit_read : (c : ℕ) (bs : List ℕ) (r : Option (Bor (List ℕ) × Bor (List ℕ))) → IsRsplit c bs r → c < 128
-    → MatchOption r ((before_last c [] [] bs ≡ []) × (after_last c [] bs ≡ bs)) (λ x. (before_last c [] [] bs ≡ x.0.now) × (after_last c [] bs ≡ x.1.now))
-rsplit_read c bs None h low = (none_before c [] [] bs (rsplit_parts c bs None h low), after_lacking c [] bs (rsplit_parts c bs None h low))
+    → MatchOption r ((before_last c [] [] bs ≡ []) × (after_last c [] bs ≡ bs))
+    (λ x. (before_last c [] [] bs ≡ x.0.now) × (after_last c [] bs ≡ x.1.now))
+rsplit_read c bs None h low =
+    (none_before c [] [] bs (rsplit_parts c bs None h low), after_lacking c [] bs (rsplit_parts c bs None h low))
 rsplit_read c bs (Some x) h low =
     let p = rsplit_parts c bs (Some x) h low in
     (ap (before_last c [] []) p.0 ∙ before_read c [] [] x.0.now x.1.now p.1, ap (after_last c []) p.0 ∙ after_read c [] x.0.now x.1.now p.1)
@@ -66,7 +72,8 @@ rsplit_read c bs (Some x) h low =
 -- The first line ends at the first line feed.
 line_read : (acc a rest : List ℕ) → Lacks 10 a → lines_from acc (a ++ 10 ∷ rest) ≡ (acc ++ a) ∷ lines_from [] rest
 line_read acc [] rest h = rw (append-nil acc) refl
-line_read acc (b ∷ a) rest h = rw (ne_eqb b 10 h.0) (line_read (acc ++ b ∷ []) a rest h.1 ∙ ap (λ l. l ∷ lines_from [] rest) (append_assoc acc (b ∷ []) a))
+line_read acc (b ∷ a) rest h = rw (ne_eqb b 10 h.0)
+    (line_read (acc ++ b ∷ []) a rest h.1 ∙ ap (λ l. l ∷ lines_from [] rest) (append_assoc acc (b ∷ []) a))
 
 -- Bytes without a line feed are no line.
 no_line : (acc a : List ℕ) → Lacks 10 a → lines_from acc a ≡ []
@@ -74,15 +81,18 @@ no_line acc [] h = refl
 no_line acc (b ∷ a) h = rw (ne_eqb b 10 h.0) (no_line (acc ++ b ∷ []) a h.1)
 
 -- One line was cut off, and kept or dropped.
-pub line_more : (all rest kept more : List ℕ) (line after : Bor (List ℕ)) → IsSplitOnceResult 10 rest (Some (line, after))
+pub line_more : (all rest kept more : List ℕ) (line after : Bor (List ℕ)) →
+    IsSplitOnceResult 10 rest (Some (line, after))
     → kept ++ kept_lines rest ≡ all → more ≡ kept ++ kept_line line.now → more ++ kept_lines after.now ≡ all
 line_more all rest kept more line after cut h e =
     let parts = split_parts 10 rest (Some (line, after)) cut (omega arith) in
-    let lines : lines_from [] rest ≡ line.now ∷ lines_from [] after.now = ap (lines_from []) parts.0 ∙ line_read [] line.now after.now (lacks_from 10 line.now parts.1) in
+    let lines : lines_from [] rest ≡ line.now ∷ lines_from [] after.now =
+    ap (lines_from []) parts.0 ∙ line_read [] line.now after.now (lacks_from 10 line.now parts.1) in
     rw (e, append_assoc) (rw lines at h)
 
 -- No line is left.
 pub line_none : (all rest kept : List ℕ) → IsSplitOnceResult 10 rest None → kept ++ kept_lines rest ≡ all → kept ≡ all
 line_none all rest kept cut h =
-    let none : lines_from [] rest ≡ [] = no_line [] rest (lacks_from 10 rest (split_parts 10 rest None cut (omega arith))) in
+    let none : lines_from [] rest ≡ [] = no_line [] rest
+    (lacks_from 10 rest (split_parts 10 rest None cut (omega arith))) in
     sym (append-nil kept) ∙ rw none at h

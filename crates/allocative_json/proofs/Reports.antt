@@ -1,5 +1,6 @@
 -- How reports of roots are reports of an input, and how their errors are those of a run.
-use Rattle.std.proofs.Common.{◌≡◌, ℕ, ◌<◌, ℤ, length, arith, Bool, true, List, [], ◌∷◌, Option, None, Some, Result, Ok, Err, IfOk, IfErr, IsErrAnd, IfSome, MatchResult, refl, ap, ◌∙◌, sym, subst}
+use Rattle.std.proofs.Common.{◌≡◌, ℕ, ◌<◌, ℤ, length, arith, Bool, true, List, [], ◌∷◌, Option, None, Some, Result, Ok}
+use Rattle.std.proofs.Common.{Err, IfOk, IfErr, IsErrAnd, IfSome, MatchResult, refl, ap, ◌∙◌, sym, subst}
 use Rattle.allocative_json.proofs.Common.{BTreeSet, view, Value, Showing, roots_show, Word, AreWords}
 use Rattle.std.specs.List.{list_all}
 use Rattle.std.proofs.lemmas.Result.{IfOk-weaker, IfErr-weaker}
@@ -33,7 +34,8 @@ report_made p exact o (Ok made) h t = record { output = o; is_profile = h; texts
 report_made p exact o (Err f) h t = tt
 
 -- Making the texts fails only when memory runs out.
-pub refused_texts : (p : Showing) (exact : Bool) (o : Profile) (r : Result Report Fault) → MatchResult r (AreTexts exact o) (λ f. f ≡ Memory) → IfErr r (RefusesRoots p)
+pub refused_texts : (p : Showing) (exact : Bool) (o : Profile) (r : Result Report Fault) →
+    MatchResult r (AreTexts exact o) (λ f. f ≡ Memory) → IfErr r (RefusesRoots p)
 refused_texts p exact o (Ok made) m = tt
 refused_texts p exact o (Err f) m = subst (RefusesRoots p) (sym m) tt
 
@@ -44,7 +46,8 @@ refused_so p refused.TooLarge h = h refl
 refused_so p refused.Open h = absurd (h refl)
 
 -- A profile was refused.
-pub refused_profile : {T : Type 0} (p : Showing) (refusal : Refusal) (r : Result T Fault) → IsErrAnd r (λ f. f ≡ fault_of refusal) → MayRefuseProfile true p refusal → IfErr r (RefusesRoots p)
+pub refused_profile : {T : Type 0} (p : Showing) (refusal : Refusal) (r : Result T Fault) →
+    IsErrAnd r (λ f. f ≡ fault_of refusal) → MayRefuseProfile true p refusal → IfErr r (RefusesRoots p)
 refused_profile p refusal (Ok x) e h = tt
 refused_profile p refusal (Err f) e h = subst (RefusesRoots p) (sym e) (refused_so p refusal h)
 
@@ -64,13 +67,16 @@ pub some_input : (input : List ℕ) (d : Data) → IsWholeDocument input d → 0
 some_input input d h = some_text input d h.document
 
 -- A fault of the roots is one of their input.
-refused_roots : (input : List ℕ) (index : Bool) (v : Value) (n : Option (BTreeSet ℤ)) (f : Fault) → AreRoots input index (view v) n → RefusesRoots (roots_show v n) f → RefusesReport input index f
+refused_roots : (input : List ℕ) (index : Bool) (v : Value) (n : Option (BTreeSet ℤ)) (f : Fault) →
+    AreRoots input index (view v) n → RefusesRoots (roots_show v n) f → RefusesReport input index f
 refused_roots input index v n Memory h r = some_input input (view v) h.document
 refused_roots input index v n TooLarge h r = (v, n, h, r)
 refused_roots input index v n f h r = absurd r
 
 -- A report of the roots of the input was refused.
-pub refused_report : {T : Type 0} (input : List ℕ) (index : Bool) (v : Value) (n : Option (BTreeSet ℤ)) (r : Result T Fault) → AreRoots input index (view v) n → IfErr r (RefusesRoots (roots_show v n)) → IfErr r (RefusesReport input index)
+pub refused_report : {T : Type 0} (input : List ℕ) (index : Bool) (v : Value) (n : Option (BTreeSet ℤ))
+    (r : Result T Fault) → AreRoots input index (view v) n → IfErr r (RefusesRoots (roots_show v n)) →
+    IfErr r (RefusesReport input index)
 refused_report input index v n r h = IfErr-weaker r _ _ (λ f. refused_roots input index v n f h)
 
 -- ---- boxed roots
@@ -89,7 +95,8 @@ profile_weaker p q o up h = record {
 
 -- What a list of two shows is what both show.
 two_shown : {T : Type 0} (p : T → Showing) (a b : T) (f : Forest) → each_shows p (a ∷ b ∷ []) f → Both (p a) (p b) f
-two_shown p a b f (g, h, here, (k, none, there, empty, e), d) = (g, k, here, there, d ∙ ap (followed_by g) (e ∙ ap (followed_by k) empty ∙ followed_by-empty k))
+two_shown p a b f (g, h, here, (k, none, there, empty, e), d) =
+    (g, k, here, there, d ∙ ap (followed_by g) (e ∙ ap (followed_by k) empty ∙ followed_by-empty k))
 
 -- What two show is what the list of both shows.
 both_shown : {T : Type 0} (p : T → Showing) (a b : T) (f : Forest) → Both (p a) (p b) f → each_shows p (a ∷ b ∷ []) f
@@ -104,36 +111,47 @@ module _ {T : Type 0} (shows : T → Showing × Bool) (roots : List T) (x : Resu
   abbrev IsProfiled : Type 0
   IsProfiled = IsProfiledAs (list_all (λ y. (shows y).1) roots) (each_shows (λ y. (shows y).0) roots)
 
-  pub two_profiled : (a b : T) (q r : Showing) → roots ≡ a ∷ b ∷ [] → shows a ≡ (q, true) → shows b ≡ (r, true) → IsProfiled → IsProfiledAs true (Both q r)
+  pub two_profiled : (a b : T) (q r : Showing) → roots ≡ a ∷ b ∷ [] → shows a ≡ (q, true) → shows b ≡ (r, true) →
+      IsProfiled → IsProfiledAs true (Both q r)
   two_profiled a b q r is first last h =
       let p : T → Showing = λ y. (shows y).0 in
       let k : Kind = begin (OfGraph no_entries) in
-      let can : CanTake k (Both (p a) (p b)) → CanTake k (each_shows p (a ∷ b ∷ [])) = λ w. ((w.0.0, both_shown p a b w.0.0 w.0.1, w.0.2), λ f y. w.1 f (two_shown p a b f y)) in
+      let can : CanTake k (Both (p a) (p b)) → CanTake k (each_shows p (a ∷ b ∷ [])) =
+      λ w. ((w.0.0, both_shown p a b w.0.0 w.0.1, w.0.2), λ f y. w.1 f (two_shown p a b f y)) in
       let exact = ap (λ (y : Showing × Bool). y.1) first in
       let other = ap (λ (y : Showing × Bool). y.1) last in
       rw (← ap (λ (y : Showing × Bool). y.0) first, ← ap (λ (y : Showing × Bool). y.0) last) (record {
-        profile = IfOk-weaker x _ _ (λ o g. profile_weaker (each_shows p (a ∷ b ∷ [])) (Both (p a) (p b)) o (two_shown p a b) g) (rw is at h.profile);
+        profile = IfOk-weaker x _ _ (λ o g. profile_weaker (each_shows p (a ∷ b ∷ [])) (Both (p a) (p b)) o
+            (two_shown p a b) g) (rw is at h.profile);
         refused = IfErr-weaker x _ _ (λ e g _. may_refuse k k can refl e (g refl)) (rw (is, exact, other) at h.refused);
       })
 
-  pub one_profiled : (a : T) (q : Showing) → roots ≡ a ∷ [] → shows a ≡ (q, true) → IsProfiled → IsProfiledAs true (Both q Nothing)
+  pub one_profiled : (a : T) (q : Showing) → roots ≡ a ∷ [] → shows a ≡ (q, true) → IsProfiled →
+      IsProfiledAs true (Both q Nothing)
   one_profiled a q is first h =
       let exact = ap (λ (y : Showing × Bool). y.1) first in
-      rw (← ap (λ (y : Showing × Bool). y.0) first) (record { profile = rw is at h.profile; refused = rw (is, exact) at h.refused })
+      rw (← ap (λ (y : Showing × Bool). y.0) first)
+      (record { profile = rw is at h.profile; refused = rw (is, exact) at h.refused })
 
 -- ---- reports of a run
 -- A right report of the input that was read is one for the reader's bytes.
-pub report_for : (texts : List Word) (known : Option (List ℕ)) (input : List ℕ) (asked : Words) (r : Result Report Fault) → AreWords texts → Asks texts asked → IfSome known (λ bytes. input ≡ bytes) → IfOk r (IsRightReport input asked.index asked.exact) → IfOk r (IsReportFor texts known)
-report_for texts known input asked r w a e = IfOk-weaker r _ _ (λ made h. record { words = w; asked = asked; asks = a; input = input; is_read = e; right = h })
+pub report_for : (texts : List Word) (known : Option (List ℕ)) (input : List ℕ) (asked : Words)
+    (r : Result Report Fault) → AreWords texts → Asks texts asked → IfSome known (λ bytes. input ≡ bytes) →
+    IfOk r (IsRightReport input asked.index asked.exact) → IfOk r (IsReportFor texts known)
+report_for texts known input asked r w a e =
+    IfOk-weaker r _ _ (λ made h. record { words = w; asked = asked; asks = a; input = input; is_read = e; right = h })
 
 -- ---- refusals of a run
 -- What holds of the input holds of the known bytes.
-pub read_so : (known : Option (List ℕ)) (input : List ℕ) (P : List ℕ → Type 0) → IfSome known (λ bytes. input ≡ bytes) → P input → IfSome known P
+pub read_so : (known : Option (List ℕ)) (input : List ℕ) (P : List ℕ → Type 0) → IfSome known (λ bytes. input ≡ bytes) →
+    P input → IfSome known P
 read_so None input P e h = tt
 read_so (Some bytes) input P e h = subst P e h
 
 -- A fault of the report may end the run.
-refused_run : (texts : List Word) (known : Option (List ℕ)) (input : List ℕ) (asked : Words) (f : Fault) → AreWords texts → Asks texts asked → IfSome known (λ bytes. input ≡ bytes) → RefusesReport input asked.index f → MayEndRun texts known f
+refused_run : (texts : List Word) (known : Option (List ℕ)) (input : List ℕ) (asked : Words) (f : Fault) →
+    AreWords texts → Asks texts asked → IfSome known (λ bytes. input ≡ bytes) → RefusesReport input asked.index f →
+    MayEndRun texts known f
 refused_run texts known input asked fault.Words w a e h = absurd h.3
 refused_run texts known input asked Reading w a e h = absurd h.3
 refused_run texts known input asked Writing w a e h = absurd h.3
@@ -141,7 +159,9 @@ refused_run texts known input asked Open w a e h = absurd h.3
 refused_run texts known input asked f w a e h = record { words = w; asked = asked; asks = a; refuses = read_so known input (λ bytes. RefusesReport bytes asked.index f) e h }
 
 -- A fault of making the report of the input that was read may end the run.
-pub refuses_run : {T : Type 0} (texts : List Word) (known : Option (List ℕ)) (input : List ℕ) (asked : Words) (r : Result T Fault) → AreWords texts → Asks texts asked → IfSome known (λ bytes. input ≡ bytes) → IfErr r (RefusesReport input asked.index) → IfErr r (MayEndRun texts known)
+pub refuses_run : {T : Type 0} (texts : List Word) (known : Option (List ℕ)) (input : List ℕ) (asked : Words)
+    (r : Result T Fault) → AreWords texts → Asks texts asked → IfSome known (λ bytes. input ≡ bytes) →
+    IfErr r (RefusesReport input asked.index) → IfErr r (MayEndRun texts known)
 refuses_run texts known input asked r w a e = IfErr-weaker r _ _ (λ f h. refused_run texts known input asked f w a e h)
 
 -- The lemmas by which a profile and its errors are those of a report.

@@ -1,5 +1,7 @@
 -- The fields of a JSON document: a graph with the bytes that the values at each path declare, and what a run writes.
-use Rattle.std.specs.Prelude.{◌≡◌, ℕ, ◌+◌, ◌-◌, ◌*◌, ◌^◌, ◌<◌, ◌≤◌, ◌==◌, ⊤, cond, List, map, flat_map, length, Option, IfSome, Result, MatchResult, codes, encode_utf8, String, string_bytes, string_capacity, vec_capacity}
+use Rattle.std.specs.Prelude.{◌≡◌, ℕ, ◌+◌, ◌-◌, ◌*◌, ◌^◌, ◌<◌, ◌≤◌, ◌==◌, ⊤, cond, List, map, flat_map, length, Option}
+use Rattle.std.specs.Prelude.{IfSome, Result, MatchResult, codes, encode_utf8, String, string_bytes, string_capacity}
+use Rattle.std.specs.Prelude.{vec_capacity}
 use Rattle.std.specs.Str.{chars}
 use Rattle.std.specs.Io.KnownBytes.{Appends}
 use Rattle.std.specs.declared.alloc.Global.{Global}

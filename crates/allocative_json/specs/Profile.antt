@@ -33,7 +33,8 @@ roots_show v n = Both (stored_value v) (optional_shows index_shows n)
 -- The texts of a profile: that of its graph, which with `exact` is without the lines that `exact` drops, and that of its
 -- warnings.
 abbrev pub AreTexts : Bool → Profile → Report → Type 0
-AreTexts exact o made = (string_bytes made.profile ≡ asked_text exact (text o.graph)) × (string_bytes made.warnings ≡ o.warnings)
+AreTexts exact o made = (string_bytes made.profile ≡ asked_text exact (text o.graph))
+    × (string_bytes made.warnings ≡ o.warnings)
 
 -- The texts are those of some profile of what p allows.
 pub record IsReportOf (p : Showing) (exact : Bool) (made : Report) : Type 0 where

@@ -39,7 +39,8 @@ pub record IsWritten (output output' errors errors' : Option (List ℕ)) (made :
 abbrev pub IsBegun : Option (List ℕ) → Option (List ℕ) → Option (List ℕ) → Option (List ℕ) → Report → Type 0
 IsBegun output output' errors errors' made =
     (AppendsBeginning output output' (string_bytes made.profile) × (errors' ≡ errors))
-    ⊎ (Appends output output' (string_bytes made.profile) × AppendsBeginning errors errors' (string_bytes made.warnings))
+    ⊎ (Appends output output' (string_bytes made.profile)
+    × AppendsBeginning errors errors' (string_bytes made.warnings))
 
 -- A report is right for what is read, and follows what the two writers held.
 pub record EndsWell (texts : List Word) (known output output' errors errors' : Option (List ℕ)) : Type 0 where

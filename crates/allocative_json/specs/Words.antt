@@ -1,5 +1,6 @@
 -- The words of a command line.
-use Rattle.std.specs.Prelude.{◌≡◌, ◌≢◌, ℕ, List, codes, IsTrue, ◌↔◌, ◌⊎◌, All, AllPairs, Contains, map, String, string_bytes}
+use Rattle.std.specs.Prelude.{◌≡◌, ◌≢◌, ℕ, List, codes, IsTrue, ◌↔◌, ◌⊎◌, All, AllPairs, Contains, map, String}
+use Rattle.std.specs.Prelude.{string_bytes}
 use Rattle.std.specs.declared.alloc.Global.{Global}
 use Rattle.allocative_json.specs.declared.words.Words.{Words}
 

@@ -8,7 +8,8 @@ use Rattle.allocative_json.proofs.fields.+fields.Given as goal
 -- The graph has the items before this one.
 abbrev pub invariant-graph_of_items-loop-item : goal.invariant-graph_of_items-loop-item
 invariant-graph_of_items-loop-item l =
-    l.graph ≡ sum_of_all (bytes_alone (array_bytes (length l.item-items) (vec_capacity l.fn.items))) (map item_of (take l.item-index l.item-items))
+    l.graph ≡ sum_of_all (bytes_alone (array_bytes (length l.item-items) (vec_capacity l.fn.items)))
+    (map item_of (take l.item-index l.item-items))
 
 -- The children are the members so far.
 abbrev pub invariant-graph_of_members-loop-name : goal.invariant-graph_of_members-loop-name

@@ -8,4 +8,6 @@ pub returns-in_err-add_self : goal.returns-in_err-add_self
 returns-in_err-add_self c =
     let all = (member_below (c.args.name.now, c.args.value)).graph in
     passed_on _ all c.from_residual.result c.in_err-add_self.field-0.0 c.from_residual.ensures.1
-    (refused_self c.in_err-add_self.field-0.0 all _ c.in_err-add_self.ensures.too_large.0 c.in_err-add_self.ensures.no_other (omega (arith, total-add_self (24 + string_capacity c.args.name.now) c.args.value)))
+    (refused_self c.in_err-add_self.field-0.0 all _ c.in_err-add_self.ensures.too_large.0
+    c.in_err-add_self.ensures.no_other (omega
+    (arith, total-add_self (24 + string_capacity c.args.name.now) c.args.value)))

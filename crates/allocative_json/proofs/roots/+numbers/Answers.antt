@@ -10,7 +10,8 @@ use Rattle.allocative_json.proofs.roots.+numbers.Goals as goal
 pub add_items-loop-item-preserved : goal.add_items-loop-item-preserved
 add_items-loop-item-preserved t c = record {
   keys = rw (take_more _ _ c.item-item.result c.loop-item-test.true, ← c.item-item.is)
-      (AddsKeys-more _ _ _ _ _ _ (items_have-snoc _ c.item-item.result) c.loop-item.invariant.keys c.in_ok-add_numbers.ensures.keys);
+      (AddsKeys-more _ _ _ _ _ _ (items_have-snoc _ c.item-item.result) c.loop-item.invariant.keys
+      c.in_ok-add_numbers.ensures.keys);
   ordered = λ h. c.add_numbers.ensures.ordered (c.loop-item.invariant.ordered h);
 }
 
@@ -18,13 +19,16 @@ add_items-loop-item-preserved t c = record {
 pub add_members-loop-key-preserved : goal.add_members-loop-key-preserved
 add_members-loop-key-preserved t c = record {
   keys = rw map-append
-      (AddsKeys-more _ _ _ _ _ _ (members_have-snoc (map deref_pair c.loop-key.yielded) c.in-Some._key.now c.in-Some.member.now) c.loop-key.invariant.keys c.in_ok-add_numbers.ensures.keys);
+      (AddsKeys-more _ _ _ _ _ _ (members_have-snoc (map deref_pair c.loop-key.yielded) c.in-Some._key.now
+      c.in-Some.member.now) c.loop-key.invariant.keys c.in_ok-add_numbers.ensures.keys);
   ordered = λ h. c.add_numbers.ensures.ordered (c.loop-key.invariant.ordered h);
 }
 
 -- After the last member the set has the numbers of all.
 pub add_members-returns-clause-keys : goal.add_members-returns-clause-keys
 add_members-returns-clause-keys t c =
-    let e = items_from_drains c.loop-key.yielded (c.loop-key._key-iterator, c.loop-key.yielded_by, λ _. (c.next.new.self, c.in-None.ensures.steps)) (YieldsList-from_rest _ (c.into_iter-key-iterator.ensures.into_iter_gives ∙ c.iter-key-items.ensures.rest)) in
+    let e = items_from_drains c.loop-key.yielded
+    (c.loop-key._key-iterator, c.loop-key.yielded_by, λ _. (c.next.new.self, c.in-None.ensures.steps))
+    (YieldsList-from_rest _ (c.into_iter-key-iterator.ensures.into_iter_gives ∙ c.iter-key-items.ensures.rest)) in
     let Q : List _ → Type 0 = λ ms. AddsKeys (members_have (members_view ms)) c.args.set.now c.loop-key.set in
     subst Q e c.loop-key.invariant.keys

@@ -1,5 +1,6 @@
 use Rattle.std.proofs.Common.{map, take}
-use Rattle.allocative_json.proofs.Common.{deref_pair, int_cmp, items_view, members_view, AddsKeys, items_have, members_have}
+use Rattle.allocative_json.proofs.Common.{deref_pair, int_cmp, items_view, members_view, AddsKeys, items_have}
+use Rattle.allocative_json.proofs.Common.{members_have}
 use Rattle.std.specs.BTreeSet.{IsOrdered}
 use Rattle.allocative_json.proofs.roots.+numbers.Given as goal
 

@@ -6,11 +6,15 @@ use Rattle.allocative_json.proofs.run.make_report.Goals as goal
 -- The error is a fault of the input that was read.
 pub returns-clause-err : goal.returns-clause-err
 returns-clause-err g c =
-    let is_read : IfSome (g.R.Read.remaining c.args.input.now) (λ known. c.as_slice.result.now ≡ known) = rw c.as_slice.ensures.value c.in_ok-bytes.ensures.ok in
-    refuses_run (words_of c.args.words.now) _ c.as_slice.result.now c.in_ok-asked.asked c.profile_as_asked.result c.in_ok-asked.ensures.0 c.in_ok-asked.ensures.1 is_read c.profile_as_asked.ensures.err
+    let is_read : IfSome (g.R.Read.remaining c.args.input.now) (λ known. c.as_slice.result.now ≡ known) =
+    rw c.as_slice.ensures.value c.in_ok-bytes.ensures.ok in
+    refuses_run (words_of c.args.words.now) _ c.as_slice.result.now c.in_ok-asked.asked c.profile_as_asked.result
+    c.in_ok-asked.ensures.0 c.in_ok-asked.ensures.1 is_read c.profile_as_asked.ensures.err
 
 -- The report is right for the input that was read.
 pub returns-clause-ok : goal.returns-clause-ok
 returns-clause-ok g c =
-    let is_read : IfSome (g.R.Read.remaining c.args.input.now) (λ known. c.as_slice.result.now ≡ known) = rw c.as_slice.ensures.value c.in_ok-bytes.ensures.ok in
-    report_for (words_of c.args.words.now) _ c.as_slice.result.now c.in_ok-asked.asked c.profile_as_asked.result c.in_ok-asked.ensures.0 c.in_ok-asked.ensures.1 is_read c.profile_as_asked.ensures.ok
+    let is_read : IfSome (g.R.Read.remaining c.args.input.now) (λ known. c.as_slice.result.now ≡ known) =
+    rw c.as_slice.ensures.value c.in_ok-bytes.ensures.ok in
+    report_for (words_of c.args.words.now) _ c.as_slice.result.now c.in_ok-asked.asked c.profile_as_asked.result
+    c.in_ok-asked.ensures.0 c.in_ok-asked.ensures.1 is_read c.profile_as_asked.ensures.ok

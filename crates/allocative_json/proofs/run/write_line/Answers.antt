@@ -17,4 +17,5 @@ returns-in_err-write_text-2 g c =
 pub returns : goal.returns
 returns g c =
     begins_second _ _ _ c.args.start.now _ c.in_ok-write_text.ensures.whole
-    (begins_second _ _ _ (message_of c.args.fault) _ (rw c.message.ensures at c.in_ok-write_text-2.ensures.whole) c.write_text-3.ensures.beginning)
+    (begins_second _ _ _ (message_of c.args.fault) _ (rw c.message.ensures at c.in_ok-write_text-2.ensures.whole)
+    c.write_text-3.ensures.beginning)

@@ -9,13 +9,17 @@ use Rattle.allocative_json.proofs.fields.run.make_fields.Goals as goal
 pub returns-clause-err : goal.returns-clause-err
 returns-clause-err g c =
     let input = c.as_slice.result.now in
-    let is_read : IfSome (g.R.Read.remaining c.args.input.now) (λ known. input ≡ known) = rw c.as_slice.ensures.value c.in_ok-bytes.ensures.ok in
-    IfErr-weaker c.fields_json.result (RefusesFields input) (StopsFields (g.R.Read.remaining c.args.input.now)) (λ f h. stops_fields _ input f is_read h) c.fields_json.ensures.err
+    let is_read : IfSome (g.R.Read.remaining c.args.input.now) (λ known. input ≡ known) =
+    rw c.as_slice.ensures.value c.in_ok-bytes.ensures.ok in
+    IfErr-weaker c.fields_json.result (RefusesFields input) (StopsFields (g.R.Read.remaining c.args.input.now))
+    (λ f h. stops_fields _ input f is_read h) c.fields_json.ensures.err
 
 -- The text is that of the fields of the input that was read.
 pub returns-clause-ok : goal.returns-clause-ok
 returns-clause-ok g c =
     let input = c.as_slice.result.now in
-    let is_read : IfSome (g.R.Read.remaining c.args.input.now) (λ known. input ≡ known) = rw c.as_slice.ensures.value c.in_ok-bytes.ensures.ok in
-    IfOk-weaker c.fields_json.result (λ made. AreFields input (string_bytes made)) (λ made. IfSome (g.R.Read.remaining c.args.input.now) (λ known. AreFields known (string_bytes made)))
+    let is_read : IfSome (g.R.Read.remaining c.args.input.now) (λ known. input ≡ known) =
+    rw c.as_slice.ensures.value c.in_ok-bytes.ensures.ok in
+    IfOk-weaker c.fields_json.result (λ made. AreFields input (string_bytes made))
+    (λ made. IfSome (g.R.Read.remaining c.args.input.now) (λ known. AreFields known (string_bytes made)))
     (λ made h. read_so _ input (λ known. AreFields known (string_bytes made)) is_read h) c.fields_json.ensures.ok
