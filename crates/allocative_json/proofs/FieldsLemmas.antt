@@ -21,12 +21,15 @@ use Rattle.allocative_json.specs.Fields.{StopsFields}
 use Rattle.allocative_json.proofs.Reports.{some_text, read_so}
 
 -- ---- totals
+-- The total of a graph whose root alone has bytes is these bytes.
 pub total-bytes_alone : (n : ℕ) → total (bytes_alone n) ≡ n
 total-bytes_alone n = omega (arith, total-add_at default ([], n), total-default)
 
+-- Bytes added to the root add to the total.
 pub total-add_self : (n : ℕ) (g : Graph) → total (add_self n g) ≡ total g + n
 total-add_self n g = total-add_at g ([], n)
 
+-- The total of a document is that of its fields.
 pub total-document : (v : Value) → total (document_fields v) ≡ total (fields_of v)
 total-document v = omega (arith, total-sum_of default (under (codes "$") (fields_of v)), total-default, total-under (codes "$") (fields_of v))
 
@@ -71,7 +74,7 @@ passed_on y g (Ok z) r is h = absurd is
 passed_on y g (Err q) r is h = subst (RefusesGraph g) (sym is) h
 
 -- ---- a run
--- Where a graph of a document is refused, there is no text of its fields.
+-- If a graph of a document is refused, there is no text of its fields.
 pub refused_fields : {T : Type 0} (input : List ℕ) (v : Value) (refusal : Refusal) (r : Result T Fault) →
     IsDocument input (view v) → IsErrAnd r (λ f. f ≡ fault_of refusal) → RefusesGraph (document_fields v) refusal →
     IfErr r (RefusesFields input)

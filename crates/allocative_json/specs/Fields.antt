@@ -96,8 +96,8 @@ pub record AreFields (input made : List ℕ) : Type 0 where
   pub is_read : IsDocument input (view document)
   pub is_text : made ≡ text (document_fields document)
 
--- Why there is no text of the fields of an input: Memory only where the input is not empty; NotJson only where it is no
--- document; TooLarge only where it is one whose bytes exceed a word; and no other.
+-- Why there is no text of the fields of an input: Memory only if the input is not empty; NotJson only if it is no
+-- document; TooLarge only if it is one whose bytes exceed a word; and no other.
 abbrev pub RefusesFields : List ℕ → Fault → Type 0
 RefusesFields input Memory = 0 < length input
 RefusesFields input NotJson = (d : Data) → ¬ IsDocument input d

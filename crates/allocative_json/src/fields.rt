@@ -34,7 +34,7 @@ fn array_alone(alloc: Global, items: &Vec<Value>) -> Result<FlameGraph, Refusal>
     }
 }
 
-// A member of this name, where the graph is that of its value.
+// A member of this name, whose value has this graph.
 fn member_of(alloc: Global, name: &'static String, value: FlameGraph) -> Result<Child, Refusal>
     ensures { MatchResult result (λ child. child ≡ member_below (name.now, value))
         (RefusesGraph (member_below (name.now, value)).graph) }
@@ -45,6 +45,7 @@ fn member_of(alloc: Global, name: &'static String, value: FlameGraph) -> Result<
     Ok(Child { key, graph })
 }
 
+// The fields of a value.
 #[cycle(fields)]
 fn graph_of(alloc: Global, value: &'static Value) -> Result<FlameGraph, Refusal>
     ensures { Makes (fields_of value.now) result }
@@ -57,6 +58,7 @@ fn graph_of(alloc: Global, value: &'static Value) -> Result<FlameGraph, Refusal>
     }
 }
 
+// The fields of an array: all items together under `[]`.
 #[cycle(fields)]
 fn graph_of_items(alloc: Global, items: &'static Vec<Value>) -> Result<FlameGraph, Refusal>
     ensures { Makes (sum_of_all (bytes_alone (array_bytes (length items.now.items) (vec_capacity items.now)))
@@ -69,6 +71,7 @@ fn graph_of_items(alloc: Global, items: &'static Vec<Value>) -> Result<FlameGrap
     Ok(graph)
 }
 
+// The fields of an object: each member under its name.
 #[cycle(fields)]
 fn graph_of_members(
     alloc: Global,
