@@ -24,8 +24,7 @@ returns-in-Text t c =
 
 pub returns-in-Pair : goal.returns-in-Pair
 returns-in-Pair t c =
-    let e : out-Json c.args.self.now ≡ Json-F.Pair c.in-Pair.a c.in-Pair.b c.in-Pair.c c.in-Pair.d c.in-Pair.e =
-    search (rules, the_lemmas) in
+    let e : out-Json c.args.self.now ≡ Json-F.Pair c.in-Pair.a c.in-Pair.b c.in-Pair.c c.in-Pair.d c.in-Pair.e = search (rules, the_lemmas) in
     visited_as c.enter-in-Pair.ensures (means_recursive (rw e (search (rules, parts))))
 
 pub returns-in-List : goal.returns-in-List
