@@ -31,8 +31,8 @@ use Rattle.example_service.specs.declared.request.Request.{Request}
 use Rattle.example_service.specs.declared.request.Request.TheVariants as asks
 
 -- ---- the ledger
--- Why a document is not entered for the tenant: as a new one, or in place of that which the key has. It is of a type with
--- this declared size, which may be exact, and may show what p allows.
+-- Why a document is not entered for the tenant: as a new one, or in place of that which the key has. It is of a type
+-- with this declared size, which may be exact, and may show what p allows.
 abbrev pub RejectsDocument : List ℕ → ℕ → Ledger → Bool → Option ℕ → Showing → Rejection → Type 0
 RejectsDocument tenant key old is_exact size p r = MatchOption (entry_of tenant key old)
     (RejectsIn (RejectsNew key (RejectsMeasured (measure_of old) is_exact size p (RejectsPut old 0)))
@@ -40,8 +40,8 @@ RejectsDocument tenant key old is_exact size p r = MatchOption (entry_of tenant 
     (λ _. RejectsIn (RejectsChange key (λ had. RejectsMeasured (measure_of old) is_exact size p (RejectsPut old had)))
     (account_of tenant old) r)
 
--- The bytes that a document declares are entered for the tenant under the key, in place of those that it had. All bytes of
--- the tenant are `total`. The document is of a type with this declared size, and may show what p allows.
+-- The bytes that a document declares are entered for the tenant under the key, in place of those that it had. All bytes
+-- of the tenant are `total`. The document is of a type with this declared size, and may show what p allows.
 abbrev pub EntersDocument : List ℕ → ℕ → Option ℕ → Showing → ℕ → Ledger → Ledger → Type 0
 EntersDocument tenant key size p total old new = (bytes : ℕ) × (had : Option ℕ)
     × Declares (measure_of old) size p bytes × Enters tenant key bytes had total old new
@@ -98,8 +98,8 @@ ReleasesDocument tenant key old new = ((entry_of tenant key old ≡ None) × IsU
     ⊎ ((bytes : ℕ) × Releases tenant key bytes old new)
 
 module _ {E : Type 0} (result : Result (String Global) E) (old new : Ledger) where
-  -- The request is rejected, as P says, and the ledger is unchanged. The text tells the rejection. Where memory runs out, an
-  -- error is returned.
+  -- The request is rejected, as P says, and the ledger is unchanged. The text tells the rejection. Where memory runs
+  -- out, an error is returned.
   abbrev pub IsRejected : (Rejection → Type 0) → Type 0
   IsRejected P =
       (r : Rejection) × P r × IfOk result (λ text. IsToldAs r (string_bytes text)) × IsUnchanged old new
@@ -193,8 +193,8 @@ Pages = Bounded (String Global) (String Global)
 abbrev pub IsPlace : List ℕ → ℕ → String Global → Type 0
 IsPlace tenant key place = string_bytes place ≡ tenant ++ (codes "/" ++ decimal key)
 
--- A page is inserted under a place as the most recently used one. Of the others the most recently used stay, and no fewer
--- than have room beside it.
+-- A page is inserted under a place as the most recently used one. Of the others the most recently used stay, and no
+-- fewer than have room beside it.
 pub record InsertsPage (place : String Global) (old new : Pages) : Type 0 where
   pub page : Kept (String Global)
   pub others : Entries (String Global) (String Global)
@@ -213,8 +213,8 @@ SetsBound bytes old new = (gone : Entries (String Global) (String Global)) × (o
     × IsNeeded bytes new.entries gone × (new ≡ bounded new.entries bytes old.measure)
 
 module _ {A E : Type 0} (result : Result A E) (old new : Pages) where
-  -- The pages change for the place of a document as P says. Where memory runs out before that, they are unchanged and an
-  -- error is returned.
+  -- The pages change for the place of a document as P says. If memory runs out before that, they are unchanged and
+  -- an error is returned.
   abbrev pub ChangesAt : List ℕ → ℕ → (String Global → Type 0) → Type 0
   ChangesAt tenant key P = (IsErr result × (new ≡ old)) ⊎ ((place : String Global) × IsPlace tenant key place × P place)
 
@@ -285,8 +285,8 @@ module _ {A E : Type 0} (result : Result A E) (old new : History) (p : Showing) 
   AnswersHistory _ = new ≡ old
 
 -- ---- the text
--- What is said if the ledger and the pages were these, and the profiles are these now. Nothing is said here of a request
--- that may be rejected, of which the ledger tells more, nor of the pages that go for another.
+-- What is said if the ledger and the pages were these, and the profiles are these now. Nothing is said here of a
+-- request that may be rejected, of which the ledger tells more, nor of the pages that go for another.
 abbrev pub AnswersText : Ledger → Pages → History → List ℕ → Request → Type 0
 AnswersText ledger pages history text (asks.Close tenant) = text ≡ closed_line tenant.now (account_of tenant.now ledger)
 AnswersText ledger pages history text (asks.Drop tenant key) =

@@ -1,10 +1,18 @@
 //! A service that keeps documents of its tenants, within a limit for each, and says what it holds.
-ghost use Rattle.std.specs.Prelude.{◌≡◌, ◌++◌, [], MatchOption, IfErr, IfOk, OnErr, OnOk, codes, is_some, length, option_map, string_bytes, string_eq};
+ghost use Rattle.std.specs.Prelude.{◌≡◌, ◌++◌, [], MatchOption, IfErr, IfOk, OnErr, OnOk, codes, is_some, length};
+ghost use Rattle.std.specs.Prelude.{option_map, string_bytes, string_eq};
 ghost use Rattle.allocative_service.specs.Accounts.{IsUnchanged, account_of, entry_of};
 ghost use Rattle.allocative_service.specs.Entries.{with_entries, without};
 ghost use Rattle.allocative_service.specs.History.{profiles_of, two_of};
-ghost use Rattle.example_service.specs.Answers.{AnswersAttach, AnswersCharge, AnswersCredit, AnswersHistory, AnswersLedger, AnswersLimit, AnswersOpen, AnswersPages, AnswersSoft, AnswersText, AnswersWhole, ClosesAccount, EntersDocument, IsPlace, LosesPage, LosesPagesOf, PutsDocument, PutsDraft, PutsPage, PutsPageOf, RejectsDocument, ReleasesDocument, ResetsPeak, SetsBound, TakesOrFails, TakesPage, UsesPage};
-ghost use Rattle.example_service.specs.Lines.{BeginsWith, IsChangePicture, IsMost, IsPicture, IsReport, IsToldAs, account_line, account_lines, bill_of, closed_line, entered_line, list_of, over_mark, peak_line, profiles_line, released_line};
+ghost use Rattle.example_service.specs.Answers.{AnswersAttach, AnswersCharge, AnswersCredit, AnswersHistory};
+ghost use Rattle.example_service.specs.Answers.{AnswersLedger, AnswersLimit, AnswersOpen, AnswersPages, AnswersSoft};
+ghost use Rattle.example_service.specs.Answers.{AnswersText, AnswersWhole, ClosesAccount, EntersDocument, IsPlace};
+ghost use Rattle.example_service.specs.Answers.{LosesPage, LosesPagesOf, PutsDocument, PutsDraft, PutsPage, PutsPageOf};
+ghost use Rattle.example_service.specs.Answers.{RejectsDocument, ReleasesDocument, ResetsPeak, SetsBound, TakesOrFails};
+ghost use Rattle.example_service.specs.Answers.{TakesPage, UsesPage};
+ghost use Rattle.example_service.specs.Lines.{BeginsWith, IsChangePicture, IsMost, IsPicture, IsReport, IsToldAs};
+ghost use Rattle.example_service.specs.Lines.{account_line, account_lines, bill_of, closed_line, entered_line, list_of};
+ghost use Rattle.example_service.specs.Lines.{over_mark, peak_line, profiles_line, released_line};
 
 use crate::documents::{Document, HasDocuments, Held, Note, Order};
 use crate::request::{Draft, Request};
