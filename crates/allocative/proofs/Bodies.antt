@@ -1,7 +1,7 @@
 -- Lemmas for the helpers of slices, and for the parts of buffers and tables.
 use Rattle.std.proofs.Common.{codes, if◌then◌else◌, Bool, true, false, length, List, Option, None, Some, ◌≡◌, ℕ, ◌+◌}
 use Rattle.std.proofs.Common.{◌-◌, ◌*◌, ◌<◌, ◌^◌, Result, inl, inr, ◌∙◌, ap, arith}
-use Rattle.allocative.proofs.Common.{checked, Refusal, Key, Forest, Kind, Showing, Nothing, Both, Inside, InsideUnique}
+use Rattle.allocative.proofs.Common.{checked, Refusal, Key, Forest, Kind, Showing, Nothing, Both, Inside, Unique}
 use Rattle.allocative.proofs.Common.{Field, IsField, sized, each_shows, slice_shows, are_shown_each, bytes_shown}
 use Rattle.allocative.proofs.Common.{without_size, without_room, with_room, buffer_shows, table_shows, IsDeclared}
 use Rattle.allocative.proofs.Common.{CanTake, Visitor, Entered, Means}
@@ -119,7 +119,7 @@ no_buffer e (f, with_room i y z x, s) = cc
 -- ---- texts
 -- The entries of a text's pointer, capacity, bytes and unused bytes mean what the text shows of its buffer.
 pub means_text : {x : Bool} {n l m c u : ℕ} → n ≡ l → m ≡ c → u ≡ c - l →
-    Means x (InsideUnique (codes "ptr") 8 (Inside (codes "capacity") m
+    Means x (Unique (codes "ptr") 8 (Inside (codes "capacity") m
     (Both (Inside (codes "u8") n Nothing) (Inside (codes "unused_capacity") u Nothing)))) (text_shows l c)
 means_text i j k = rw (i, j, k) (means_either (λ f x. is_text x) (λ f x. elim x [ is_text y ↦ y ]))
 
@@ -130,11 +130,11 @@ means_no_table e = record { means = λ f h. inl (e, h); declared = λ i d. decla
 
 -- The table of some items is declared only with its one size.
 in_table : {n : ℕ} {bytes : Option ℕ} → 0 < n → IsRawTableSize (Some 8) n bytes → (f : Forest) → table_shows n f →
-    InsideUnique (codes "raw_table") 8 (Field (codes "alloc") bytes Nothing) f
+    Unique (codes "raw_table") 8 (Field (codes "alloc") bytes Nothing) f
 in_table h is f (inl (none, x)) = absurd (omega (arith, h, none))
 in_table {n} {bytes} h is f (inr (some, (b, of, x))) = rw (raw_table_size_same (Some 8) n b bytes of is) at x
 
 -- If there are items, a unique entry with an entry of the table's bytes inside it means their hash table.
 pub means_some_table : {x : Bool} {n : ℕ} {bytes : Option ℕ} → 0 < n → IsRawTableSize (Some 8) n bytes →
-    Means x (InsideUnique (codes "raw_table") 8 (Field (codes "alloc") bytes Nothing)) (table_shows n)
+    Means x (Unique (codes "raw_table") 8 (Field (codes "alloc") bytes Nothing)) (table_shows n)
 means_some_table {bytes = bytes} h is = means_either (λ f x. inr (h, (bytes, is, x))) (in_table h is)

@@ -1,7 +1,7 @@
 -- What a visit shows that takes the collector out of its visitor and enters by hand.
 use Rattle.std.proofs.Common.{◌≡◌, ℕ, suc, Bool, true, false, Some, Result, Ok, refl, ap, subst, arith}
 use Rattle.allocative.proofs.Common.{Refusal, Key, Identity, Live, Outer, State, Showing, Nothing, Both, Inside}
-use Rattle.allocative.proofs.Common.{InsideUnique, AddsForest, forgotten, OpensEntry, ClosesEntry, OpensShared}
+use Rattle.allocative.proofs.Common.{Unique, AddsForest, forgotten, OpensEntry, ClosesEntry, OpensShared}
 use Rattle.allocative.proofs.Common.{enters_first, Visitor, with_state, Visited, Entered}
 use Rattle.allocative.specs.Visited.{AnyEffect}
 use Rattle.allocative.proofs.Exact.{inexact}
@@ -29,7 +29,7 @@ inline_alone g l e = adds_inline g refl (adds_nothing _ tt) l e
 
 -- Opening a unique entry and closing it at once shows a unique entry with nothing inside it.
 pub unique_alone : {k : Key} {n : ℕ} {o q : Outer} {s t d : State} {x : Unit {0}} →
-    OpensEntry true k (Some n) s (Ok o) t → ClosesEntry q t d → q ≡ o → AddsForest (InsideUnique k n Nothing) s (Ok x) d
+    OpensEntry true k (Some n) s (Ok o) t → ClosesEntry q t d → q ≡ o → AddsForest (Unique k n Nothing) s (Ok x) d
 unique_alone g l e = adds_unique g refl (adds_nothing _ tt) l e
 
 -- A shared value's content whose visitor is forgotten: more visitors are open than before.

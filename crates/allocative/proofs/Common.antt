@@ -12,7 +12,7 @@ pub use Rattle.allocative_graph.specs.Forest.{Again, Empty, First, Forest, entry
 pub use Rattle.allocative_graph.specs.Held.{ShowsNoContent, held}
 pub use Rattle.allocative_graph.specs.Identity.{Identity}
 pub use Rattle.allocative_graph.specs.Path.{Key}
-pub use Rattle.allocative_graph.specs.Shows.{Both, Field, Inside, InsideAs, InsideUnique, IsField, Nothing, SharedWith}
+pub use Rattle.allocative_graph.specs.Shows.{Both, Field, Inside, InsideAs, Unique, IsField, Nothing, Shared}
 pub use Rattle.allocative_graph.specs.Shows.{Showing, each_shows, sized, slice_shows}
 pub use Rattle.allocative_graph.specs.Sums.{add_all}
 pub use Rattle.allocative_graph.specs.Visits.{RefusesEntry, OpensRoot, OpensEntry, OpensShared, HasFailed, IsProfileOf}

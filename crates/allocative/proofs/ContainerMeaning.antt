@@ -1,6 +1,6 @@
 -- How the showing of a container follows from its parts.
 use Rattle.std.proofs.Common.{codes, ◌≡◌, ℕ, ◌-◌, Bool, true, false, List, ◌++◌, Option, None, Some, refl, subst}
-use Rattle.allocative.proofs.Common.{Key, Forest, Showing, Nothing, Both, InsideUnique, each_shows, slice_shows}
+use Rattle.allocative.proofs.Common.{Key, Forest, Showing, Nothing, Both, Unique, each_shows, slice_shows}
 use Rattle.allocative.proofs.Common.{without_size, without_room, with_room, buffer_shows, bytes_shown, table_shows}
 use Rattle.allocative.proofs.Common.{IsDeclared, Means}
 use Rattle.std.proofs.lemmas.Bool.{false≢true}
@@ -15,7 +15,7 @@ use Rattle.allocative.proofs.Meaning.{means_same, means_both, means_unique, mean
 -- ---- buffers
 -- An entry with p and something else inside it means one with q and the other, if p means q.
 in_entry : {x : Bool} (k : Key) {p q r : Showing} → Means x p q →
-    Means x (InsideUnique k 8 (Both p r)) (InsideUnique k 8 (Both q r))
+    Means x (Unique k 8 (Both p r)) (Unique k 8 (Both q r))
 in_entry k m = means_unique refl (means_both m means_same)
 
 -- If each forest of a buffer's entry with p is one with q, each forest of the buffer with p is one with q.
@@ -73,7 +73,7 @@ means_both_cut {name = name} {size = size} {needs_drop = needs_drop} {p = p} xs 
 -- ---- containers in order of insertion
 -- The data of a container is its entry.
 pub means_data_entry : {x : Bool} {size : Option ℕ} {p : Showing} {u : ℕ} →
-    Means x (InsideUnique (codes "data") 8 (Both p (bytes_shown (codes "unused_capacity") size u)))
+    Means x (Unique (codes "data") 8 (Both p (bytes_shown (codes "unused_capacity") size u)))
     (index_data_shows size p u)
 means_data_entry = means_either (λ f x. is_index_data x) (λ f x. elim x [ is_index_data y ↦ y ])
 
@@ -92,7 +92,7 @@ means_table e = rw e means_same
 -- If a small vector has spilled, a pointer to what means its items' data means the inside of its entry.
 pub means_spilled : {T : Type 0} {x : Bool} {n : ℕ} {y : Option ℕ} {p : T → Showing} {v : SmallVec T} {k : Key}
     {q : Showing} → IsSpilled n v → k ≡ codes "ptr" → Means x q (data_shows y p v.items) →
-    Means x (InsideUnique k 8 q) (small_vec_inside n y p v)
+    Means x (Unique k 8 q) (small_vec_inside n y p v)
 means_spilled is e m = means_then (means_unique e m)
     (means_either (λ f x. is_spilled is x) (λ f x. elim x
     [ lies_inline not y ↦ absurd (not is) | is_spilled so y ↦ y ]))
@@ -110,5 +110,5 @@ means_not_set = record { means = λ f x. is_not_set x; declared = λ i d. absurd
 
 -- A pointer to some value means the inside of a cell that is set once, in a visit that is not exact.
 pub means_set : {T : Type 0} {p : T → Showing} (x : T) {k : Key} → k ≡ codes "ptr" →
-    Means false (InsideUnique k 8 (p x)) (once_inside p)
+    Means false (Unique k 8 (p x)) (once_inside p)
 means_set x e = rw e (record { means = λ f h. is_set x h; declared = λ i d. absurd (false≢true i) })

@@ -5,8 +5,8 @@ use Rattle.std.proofs.Common.{◌-◌}
 use Rattle.allocative.proofs.Common.{Outer, Refusal, Memory, TooLarge, Key, Identity, Forest, Empty, First, Again}
 use Rattle.allocative.proofs.Common.{followed_by, entry_of, add_all, held, Live, Kind, OfGraph, OfHeld, State, Failed}
 use Rattle.allocative.proofs.Common.{Going, plus, enter, enter_first, Takes, is_graph, outer_of, leave, close_entry}
-use Rattle.allocative.proofs.Common.{failed_with, Showing, Nothing, Both, InsideAs, Inside, InsideUnique, sized, Field}
-use Rattle.allocative.proofs.Common.{SharedWith, each_shows, HasFailed, OpensEntry, stays_failed, is_refused}
+use Rattle.allocative.proofs.Common.{failed_with, Showing, Nothing, Both, InsideAs, Inside, sized, Field}
+use Rattle.allocative.proofs.Common.{Shared, each_shows, HasFailed, OpensEntry, stays_failed, is_refused}
 use Rattle.allocative.proofs.Common.{is_entered, OpensShared, stays_shared, is_refused_shared, goes_past, enters_first}
 use Rattle.allocative.proofs.Common.{enters_again, all_bytes, HasRoomFor, ShowsContents, IsDeclared, CanTake, MayRefuse}
 use Rattle.allocative.proofs.Common.{FailsOnlyIfFull, has_added, has_refused, ClosesEntry, OfOwned, is_too_large_shared}
@@ -175,12 +175,12 @@ declared_entry true k n (f, x, s) = (entry_of true k n f, (f, x, refl), (s, tt))
 declared_entry false k n (f, x, s) = (entry_of false k n f, (f, x, refl), (s, tt))
 
 -- If a shared entry with p as its content is declared, p is.
-pub declared_content : (k : Key) (n : ℕ) (i : Identity) {p : Showing} → IsDeclared (SharedWith k n i p) → IsDeclared p
+pub declared_content : (k : Key) (n : ℕ) (i : Identity) {p : Showing} → IsDeclared (Shared k n i p) → IsDeclared p
 declared_content k n i (f, inl (g, x, e), s) = (g, x, (subst ShowsContents e s).0)
 declared_content k n i (f, inr e, s) = absurd (subst ShowsContents e s)
 
 -- If p is declared, so is a shared entry with p as its content.
-pub declared_shared : (k : Key) (n : ℕ) (i : Identity) {p : Showing} → IsDeclared p → IsDeclared (SharedWith k n i p)
+pub declared_shared : (k : Key) (n : ℕ) (i : Identity) {p : Showing} → IsDeclared p → IsDeclared (Shared k n i p)
 declared_shared k n i (g, x, s) = (First k n i g Empty, inl (g, x, refl), (s, tt))
 
 -- ---- what can be added
@@ -208,7 +208,7 @@ can_entry u k n b (d, room) =
     (room_within u k n b r.0 (room (entry_of u k n r.0) (r.0, r.1, refl))).0
 
 -- If the collector of a flame graph can take a shared entry, it can take the content once the entry is opened.
-can_content : {p : Showing} (k : Key) (n : ℕ) (i : Identity) (c : Live) → CanTake (OfGraph c) (SharedWith k n i p) →
+can_content : {p : Showing} (k : Key) (n : ℕ) (i : Identity) (c : Live) → CanTake (OfGraph c) (Shared k n i p) →
     CanTake (OfGraph (enter_first k n i c)) p
 can_content k n i c (d, room) = (
   declared_content k n i d,
@@ -217,12 +217,12 @@ can_content k n i c (d, room) = (
 )
 
 -- If the collector of a flame graph can take a shared entry, the pointer's bytes exceed no bound.
-can_pointer : {p : Showing} (k : Key) (n : ℕ) (i : Identity) (c : Live) → CanTake (OfGraph c) (SharedWith k n i p) →
+can_pointer : {p : Showing} (k : Key) (n : ℕ) (i : Identity) (c : Live) → CanTake (OfGraph c) (Shared k n i p) →
     entered c.sums + n < 2 ^ 63
 can_pointer k n i c (d, room) = let h = room (Again k n i Empty) (inr refl) in omega (arith, h)
 
 -- If the collector of owned bytes can take a shared entry, its sum with the pointer fits a word.
-can_count : {p : Showing} (k : Key) (n : ℕ) (i : Identity) (o : Owning) → CanTake (OfOwned o) (SharedWith k n i p) →
+can_count : {p : Showing} (k : Key) (n : ℕ) (i : Identity) (o : Owning) → CanTake (OfOwned o) (Shared k n i p) →
     o.sum + (n - o.spare) < 2 ^ 64
 can_count k n i o (d, room) = let h = (room (Again k n i Empty) (inr refl)).0 in omega (arith, h)
 
@@ -251,10 +251,10 @@ entry_refuses p u k n (OfOwned d) e (i, inr h) =
 
 -- If the collector of a flame graph refuses a pointer with e, a visit that shows it may be refused with e.
 pointer_refuses : (p : Showing) (k : Key) (n : ℕ) (i : Identity) (c : Live) (e : Refusal) →
-    Refuses false n (OfGraph c) e → MayRefuse (SharedWith k n i p) (OfGraph c) e
+    Refuses false n (OfGraph c) e → MayRefuse (Shared k n i p) (OfGraph c) e
 pointer_refuses p k n i c e (inl (j, h)) =
-    subst (MayRefuse (SharedWith k n i p) (OfGraph c)) (sym j) (λ w. omega (arith, h, can_pointer k n i c w))
-pointer_refuses p k n i c e (inr (j, h)) = subst (MayRefuse (SharedWith k n i p) (OfGraph c)) (sym j) refl
+    subst (MayRefuse (Shared k n i p) (OfGraph c)) (sym j) (λ w. omega (arith, h, can_pointer k n i c w))
+pointer_refuses p k n i c e (inr (j, h)) = subst (MayRefuse (Shared k n i p) (OfGraph c)) (sym j) refl
 
 -- ---- visits
 -- A visit that shows nothing, changes nothing and returns Ok fails only if full.
@@ -332,7 +332,7 @@ only_if_full_inside = only_if_full_within
 -- If a visit fails only if full inside a unique entry that is opened and closed, so does the visit of the entry.
 pub only_if_full_unique : {p : Showing} {k : Key} {n : ℕ} {o : Outer} {s t c d : State} {r : Result Unit Refusal} →
     OpensEntry true k (Some n) s (Ok o) t → FailsOnlyIfFull p t r c → ClosesEntry o c d →
-    FailsOnlyIfFull (InsideUnique k n p) s r d
+    FailsOnlyIfFull (InsideAs true k n p) s r d
 only_if_full_unique = only_if_full_within
 
 -- If opening an inline entry is refused, the visit that shows the entry fails only if full.
@@ -342,7 +342,7 @@ only_if_full_not_inside = only_if_full_not_within
 
 -- If opening a unique entry is refused, the visit that shows the entry fails only if full.
 pub only_if_full_not_unique : {p : Showing} {k : Key} {n : ℕ} {s t : State} {e : Refusal} →
-    OpensEntry true k (Some n) s (Err e) t → FailsOnlyIfFull (InsideUnique k n p) s (Err e) t
+    OpensEntry true k (Some n) s (Err e) t → FailsOnlyIfFull (InsideAs true k n p) s (Err e) t
 only_if_full_not_unique = only_if_full_not_within
 
 -- If a field with a size is declared, so is the inline entry of that size.
@@ -418,11 +418,11 @@ each_one p x f h = (f, Empty, h, refl, sym (followed_by-empty f))
 pub only_if_full_content : {p : Showing} {k : Key} {n : ℕ} {i : Identity} {is_first : Bool} (o : Outer)
     {s t c d : State} {r : Result Unit Refusal} →
     OpensShared k n i s (Ok is_first) t → is_first ≡ true → FailsOnlyIfFull p t r c → ClosesEntry o c d →
-    FailsOnlyIfFull (SharedWith k n i p) s r d
+    FailsOnlyIfFull (Shared k n i p) s r d
 only_if_full_content {p} {k} {n} {i} o g is h l = inner (rw is at g) h l
   where
     inner : {s t c d : State} {r : Result Unit Refusal} → OpensShared k n i s (Ok true) t → FailsOnlyIfFull p t r c →
-        ClosesEntry o c d → FailsOnlyIfFull (SharedWith k n i p) s r d
+        ClosesEntry o c d → FailsOnlyIfFull (Shared k n i p) s r d
     inner (enters_first {c = b} room new e) (has_added {c = c} f x t j) m =
         let t' : Takes (OfGraph (enter_first k n i b)) f = subst (λ (z : Live). Takes (OfGraph z) f) e t in
         rw m.closes (has_added {b = OfGraph b} {c = leave o c} (First k n i f Empty) (inl (f, x, refl))
@@ -434,7 +434,7 @@ only_if_full_content {p} {k} {n} {i} o g is h l = inner (rw is at g) h l
 
 -- If the content of an opened shared entry is not to be shown, a visit that returns Ok then fails only if full.
 pub only_if_full_again : {p : Showing} {k : Key} {n : ℕ} {i : Identity} {is_first : Bool} {s t : State} {x : Unit} →
-    OpensShared k n i s (Ok is_first) t → is_first ≡ false → FailsOnlyIfFull (SharedWith k n i p) s (Ok x) t
+    OpensShared k n i s (Ok is_first) t → is_first ≡ false → FailsOnlyIfFull (Shared k n i p) s (Ok x) t
 only_if_full_again {k = k} {n = n} {i = i} (goes_past {h = h}) is =
     has_added (Again k n i Empty) (inr refl) tt (sym (held_again k n i h))
 only_if_full_again {k = k} {n = n} {i = i} (counts {o = o} r e) is =
@@ -445,12 +445,12 @@ only_if_full_again (enters_first r h e) is = absurd (false≢true (sym is))
 
 -- If opening a shared entry is refused, the visit that shows the entry fails only if full.
 pub only_if_full_not_shared : {p : Showing} {k : Key} {n : ℕ} {i : Identity} {s t : State} {e : Refusal} →
-    OpensShared k n i s (Err e) t → FailsOnlyIfFull (SharedWith k n i p) s (Err e) t
+    OpensShared k n i s (Err e) t → FailsOnlyIfFull (Shared k n i p) s (Err e) t
 only_if_full_not_shared stays_shared = had_failed
 only_if_full_not_shared {k = k} {n = n} {i = i} (is_refused_shared {c = c} {e = e} h) =
     has_refused (pointer_refuses _ k n i c e h)
 only_if_full_not_shared {p} {k} {n} {i} (is_too_large_shared {o = o} {e = e} j h) =
-    has_refused (subst (MayRefuse (SharedWith k n i p) (OfOwned o)) (sym j)
+    has_refused (subst (MayRefuse (Shared k n i p) (OfOwned o)) (sym j)
     (λ w. omega (arith, h, can_count k n i o w)))
 
 -- Of a visit that is not exact nothing is asked.

@@ -1,7 +1,7 @@
 -- How the showing of a value follows from the part that enters it, word by word.
 use Rattle.std.proofs.Common.{◌≡◌, ℕ, Bool, true, false, ◌&&◌, Option, Some, None, Result, inl, inr, Ok, Err, refl}
 use Rattle.allocative.proofs.Common.{Refusal, TooLarge, Key, Identity, Forest, Showing, Nothing, Both, InsideAs, Inside}
-use Rattle.allocative.proofs.Common.{InsideUnique, Field, IsField, sized, SharedWith, IsDeclared, Visitor, Visited}
+use Rattle.allocative.proofs.Common.{Unique, Field, IsField, sized, Shared, IsDeclared, Visitor, Visited}
 use Rattle.allocative.proofs.Common.{Entered, Means, OnlyIf}
 use Rattle.std.proofs.lemmas.Bool.{false≢true, and_parts, and_from}
 use Rattle.allocative.specs.Visited.{AnyEffect, Refused}
@@ -63,7 +63,7 @@ means_inside {j = j} {n = n} e m = rw e (inside_as false j n m)
 
 -- If p means q, a unique entry with p inside it means the unique entry of an equal key with q inside it.
 pub means_unique : {x : Bool} {k j : Key} {n : ℕ} {p q : Showing} → k ≡ j → Means x p q →
-    Means x (InsideUnique k n p) (InsideUnique j n q)
+    Means x (Unique k n p) (Unique j n q)
 means_unique {j = j} {n = n} e m = rw e (inside_as true j n m)
 
 -- If p means q, each forest of a field with p inside it is a forest of the same field with q inside it.
@@ -94,13 +94,13 @@ means_both m l = record {
 
 -- If p means q, each forest of a shared entry of p is a forest of the same shared entry of q.
 shared_as : (k : Key) (n : ℕ) (i : Identity) {x : Bool} {p q : Showing} → Means x p q → (f : Forest) →
-    SharedWith k n i p f → SharedWith k n i q f
+    Shared k n i p f → Shared k n i q f
 shared_as k n i m f (inl (g, a, e)) = inl (g, m.means g a, e)
 shared_as k n i m f (inr e) = inr e
 
 -- If p means q, a shared entry of p means the shared entry of q with an equal key and identity.
 pub means_shared : {x : Bool} {k j : Key} {n : ℕ} {i l : Identity} {p q : Showing} → k ≡ j → i ≡ l → Means x p q →
-    Means x (SharedWith k n i p) (SharedWith j n l q)
+    Means x (Shared k n i p) (Shared j n l q)
 means_shared {j = j} {n = n} {l = l} e h m = rw (e, h) (record {
   means = λ f a. shared_as j n l m f a;
   declared = λ i d. declared_shared j n l (m.declared i (declared_content j n l d));

@@ -4,7 +4,7 @@ use Rattle.std.proofs.Common.{refl, sym, ◌∙◌, IsErr, ap, subst, arith, Som
 use Rattle.allocative.proofs.Common.{Outer, Refusal, Key, Identity, Forest, Empty, First, Again, followed_by, entry_of}
 use Rattle.allocative.proofs.Common.{Live, Kind, OfGraph, State, Failed, Going, enter, enter_first, plus, Takes}
 use Rattle.allocative.proofs.Common.{is_graph, visitors, outer_of, failed_with, close_entry, Showing, Nothing, Both}
-use Rattle.allocative.proofs.Common.{InsideAs, Inside, InsideUnique, Field, sized, SharedWith, each_shows, AddsForest}
+use Rattle.allocative.proofs.Common.{InsideAs, Inside, Unique, Field, sized, Shared, each_shows, AddsForest}
 use Rattle.allocative.proofs.Common.{already, refused, hidden, forgotten, HasFailed, OpensEntry, stays_failed}
 use Rattle.allocative.proofs.Common.{is_refused, is_entered, OpensShared, stays_shared, is_refused_shared, goes_past}
 use Rattle.allocative.proofs.Common.{enters_first, enters_again, RefusesEntry, ClosesEntry, OfOwned}
@@ -102,7 +102,7 @@ adds_inline = adds_entry
 -- A unique entry shows what is shown inside it, if it is opened, the visit returns Ok, and it is closed.
 pub adds_unique : {p : Showing} {k : Key} {n : ℕ} {o q : Outer} {s t a c d : State} {v x : Unit} →
     OpensEntry true k (Some n) s (Ok o) t → a ≡ t → AddsForest p a (Ok v) c → ClosesEntry q c d → q ≡ o →
-    AddsForest (InsideUnique k n p) s (Ok x) d
+    AddsForest (Unique k n p) s (Ok x) d
 adds_unique = adds_entry
 
 -- A field shows what is shown inside it, if it is opened, the visit returns Ok, and it is closed.
@@ -117,7 +117,7 @@ adds_field {y = Some n} g i s l q = adds_weaker (λ f h. sized h) (adds_entry g 
 out_of_first : {p : Showing} (k : Key) (n : ℕ) (i : Identity) (b d : Live) → contains b.met i ≡ false →
     d ≡ enter_first k n i b → {c : State} {v : Unit} (o : Outer) (w : Unit) →
     AddsForest p (Going (OfGraph d)) (Ok v) c →
-    AddsForest (SharedWith k n i p) (Going (OfGraph b)) (Ok w) (close_entry o c)
+    AddsForest (Shared k n i p) (Going (OfGraph b)) (Ok w) (close_entry o c)
 out_of_first k n i b d h e o w hidden = hidden
 out_of_first k n i b d h e o w (forgotten {c = c} j m) =
     let f : d.open_visitors ≡ suc b.open_visitors = ap (λ (x : Live). x.open_visitors) e in
@@ -130,7 +130,7 @@ out_of_first k n i b d h e o w (added {c = c} f q t m) =
 -- A shared entry with a new identity shows its content, if the content's visit returns Ok and it is closed.
 pub adds_shared : {p : Showing} {k : Key} {n : ℕ} {i : Identity} {q : Outer} {s t a c d : State} {v x : Unit} →
     OpensShared k n i s (Ok true) t → a ≡ t → AddsForest p a (Ok v) c → ClosesEntry q c d →
-    AddsForest (SharedWith k n i p) s (Ok x) d
+    AddsForest (Shared k n i p) s (Ok x) d
 adds_shared {p} {k} {n} {i} {q} {c = c} {v = v} {x = x} (enters_first {c = b} {d = d} r h e) z s g =
     let s' : AddsForest p (Going (OfGraph d)) (Ok v) c = subst (λ (y : State). AddsForest p y (Ok v) c) z s in
     rw g.closes (out_of_first k n i b d h e q x s')
@@ -139,12 +139,12 @@ adds_shared {p} {k} {n} {i} {q} {c = c} {v = v} {x = x} (enters_first {c = b} {d
 pub adds_content : {p : Showing} {k : Key} {n : ℕ} {i : Identity} {q : Outer} {is_first : Bool} {s t a c d : State}
     {v x : Unit} →
     OpensShared k n i s (Ok is_first) t → is_first ≡ true → a ≡ t → AddsForest p a (Ok v) c → ClosesEntry q c d →
-    AddsForest (SharedWith k n i p) s (Ok x) d
+    AddsForest (Shared k n i p) s (Ok x) d
 adds_content g is z s l = adds_shared (rw is at g) z s l
 
 -- If a shared entry is opened and its content is not to be shown, the pointer alone is shown.
 pub adds_again : {p : Showing} {k : Key} {n : ℕ} {i : Identity} {is_first : Bool} {s t : State} {x : Unit} →
-    OpensShared k n i s (Ok is_first) t → is_first ≡ false → AddsForest (SharedWith k n i p) s (Ok x) t
+    OpensShared k n i s (Ok is_first) t → is_first ≡ false → AddsForest (Shared k n i p) s (Ok x) t
 adds_again {k = k} {n = n} {i = i} (goes_past {h = h}) is =
     added (Again k n i Empty) (inr refl) tt (sym (held_again k n i h))
 adds_again {k = k} {n = n} {i = i} (counts {o = o} r e) is =

@@ -3,7 +3,7 @@
 use Rattle.std.proofs.Common.{◌≡◌, ℕ, ◌+◌, ◌<◌, Bool, true, false, List, ◌∷◌, ◌++◌, take, drop, length, get_or, Option}
 use Rattle.std.proofs.Common.{Some, Result, Ok, Err, IsErr, refl, sym, ◌∙◌, ap, subst, take-append-drop}
 use Rattle.allocative.proofs.Common.{Outer, Refusal, Key, Identity, State, Failed, Going, close_entry, Showing, Nothing}
-use Rattle.allocative.proofs.Common.{Both, Inside, Field, sized, SharedWith, already, OpensEntry, OpensShared, Plan}
+use Rattle.allocative.proofs.Common.{Both, Inside, Field, sized, Shared, already, OpensEntry, OpensShared, Plan}
 use Rattle.allocative.proofs.Common.{Done, Entry, Makes, made_none, made, entry_refused, inside_refused, makes, gives}
 use Rattle.allocative.proofs.Common.{one, Visitor, with_state, FailsOnlyIfFull, Entered, OnlyIf, ClosesEntry}
 use Rattle.std.proofs.lemmas.Bool.{false≢true}
@@ -111,7 +111,7 @@ any_unit (refuses.has_added f x t e) = refuses.has_added f x t e
 pub content_added : {p : Showing} {k : Key} {n : ℕ} {i : Identity} {q : Outer} {is_first : Bool} {s t a c d : State}
     {v x : Unit} →
     OpensShared k n i s (Ok is_first) t → is_first ≡ true → a ≡ t → FailsOnlyIfFull p a (Ok v) c → ClosesEntry q c d →
-    FailsOnlyIfFull (SharedWith k n i p) s (Ok x) d
+    FailsOnlyIfFull (Shared k n i p) s (Ok x) d
 content_added {p} {q = q} {c = c} {v = v} g is z h l =
     any_unit (only_if_full_content q g is (subst (λ (y : State). FailsOnlyIfFull p y (Ok v) c) z h) l)
 
@@ -119,6 +119,6 @@ content_added {p} {q = q} {c = c} {v = v} g is z h l =
 pub content_refused : {p : Showing} {k : Key} {n : ℕ} {i : Identity} {q : Outer} {is_first : Bool} {s t a c d : State}
     {e : Refusal} →
     OpensShared k n i s (Ok is_first) t → is_first ≡ true → a ≡ t → FailsOnlyIfFull p a (Err e) c → ClosesEntry q c d →
-    FailsOnlyIfFull (SharedWith k n i p) s (Err e) d
+    FailsOnlyIfFull (Shared k n i p) s (Err e) d
 content_refused {p} {q = q} {c = c} {e = e} g first z h l =
     only_if_full_content q g first (subst (λ (y : State). FailsOnlyIfFull p y (Err e) c) z h) l

@@ -3,7 +3,7 @@ use Rattle.std.specs.Prelude.{◌≡◌, ◌⊎◌, ℕ, ◌+◌, ◌-◌, ◌<�
 use Rattle.allocative_described.specs.Sizes.{size_product}
 use Rattle.allocative_graph.specs.Path.{Key}
 use Rattle.allocative_graph.specs.Forest.{Forest, Empty}
-use Rattle.allocative_graph.specs.Shows.{Showing, Nothing, Both, Inside, InsideUnique, Field, is_shown_each, each_shows}
+use Rattle.allocative_graph.specs.Shows.{Showing, Nothing, Both, Inside, Unique, Field, is_shown_each, each_shows}
 use Rattle.allocative_graph.specs.Shows.{slice_shows}
 use Rattle.allocative_described.specs.RawTable.{IsRawTableSize}
 use Rattle.allocative.specs.Runs.{field_of}
@@ -28,7 +28,7 @@ vec_body name size needs_drop p xs n =
 -- A buffer on the heap, where p is what its items show: a unique entry of a pointer's bytes, with the items and an
 -- entry of the bytes of the unused places inside it.
 abbrev pub buffer_entry : Option ℕ → Showing → ℕ → Showing
-buffer_entry size p unused = InsideUnique (codes "ptr") 8 (Both p (bytes_shown (codes "unused_capacity") size unused))
+buffer_entry size p unused = Unique (codes "ptr") 8 (Both p (bytes_shown (codes "unused_capacity") size unused))
 
 -- What a container shows of the buffer of its n items of a declared size, with room for `capacity` items: no entry if
 -- the items have size 0, or if there is neither an item nor room for one; otherwise a buffer, whose unused places are
@@ -51,7 +51,7 @@ pub data cut_shows {T : Type 0} (name : Key) (size : Option ℕ) (needs_drop : B
 -- inside it an entry of the capacity, and inside that one of the text's bytes and one of the bytes that are left.
 pub data text_shows (n capacity : ℕ) : Forest → Type 0 where
   is_text : {f : Forest}
-      → InsideUnique (codes "ptr") 8 (Inside (codes "capacity") capacity
+      → Unique (codes "ptr") 8 (Inside (codes "capacity") capacity
       (Both (Inside (codes "u8") n Nothing) (Inside (codes "unused_capacity") (capacity - n) Nothing))) f
       → text_shows n capacity f
 
@@ -71,4 +71,4 @@ table_shows n f =
     ((n ≡ 0) × Nothing f)
     ⊎ ((0 < n)
     × ((bytes : Option ℕ) × IsRawTableSize (Some 8) n bytes
-    × InsideUnique (codes "raw_table") 8 (Field (codes "alloc") bytes Nothing) f))
+    × Unique (codes "raw_table") 8 (Field (codes "alloc") bytes Nothing) f))

@@ -3,7 +3,7 @@ use Rattle.std.specs.Prelude.{List, Some, codes, length, String, string_bytes, s
 use Rattle.std.specs.declared.alloc.Global.{Global}
 use Rattle.serde_json.specs.declared.value.Value.{Value, out-Value}
 use Rattle.serde_json.specs.declared.value.Value.TheOpen.{Value-F}
-use Rattle.allocative_graph.specs.Shows.{Showing, Nothing, Inside, InsideUnique, Field, each_shows}
+use Rattle.allocative_graph.specs.Shows.{Showing, Nothing, Inside, Unique, Field, each_shows}
 use Rattle.allocative.specs.Bodies.{text_shows}
 use Rattle.allocative.specs.Levels.{Level, plain, child, inside, unique, each, vec_of, pair_of, recursive}
 use Rattle.allocative.specs.Runs.{pair_shows}
@@ -42,4 +42,4 @@ stored_members p es = each_shows (pair_shows (Some 24) stored_string (Some 32) p
 
 -- What an object's map shows.
 abbrev pub stored_map : List (String Global × Value) → Showing
-stored_map es = Inside (codes "Map") 24 (InsideUnique (codes "data") 8 (stored_members stored_value es))
+stored_map es = Inside (codes "Map") 24 (Unique (codes "data") 8 (stored_members stored_value es))

@@ -3,7 +3,7 @@ use Rattle.std.specs.Prelude.{ℕ, zero, suc, List, length, Option, Some, codes,
 use Rattle.std.specs.Global.{Vec}
 use Rattle.allocative_graph.specs.Path.{Key}
 use Rattle.allocative_graph.specs.Forest.{Forest}
-use Rattle.allocative_graph.specs.Shows.{Showing, Both, Inside, InsideUnique, Field, each_shows}
+use Rattle.allocative_graph.specs.Shows.{Showing, Both, Inside, Unique, Field, each_shows}
 use Rattle.allocative.specs.Bodies.{buffer_shows}
 use Rattle.allocative.specs.StdShows.{option_inside, in_any_order}
 
@@ -27,7 +27,7 @@ level_shows p (plain s) = s
 level_shows p (child x) = p x
 level_shows p (both a b) = Both (level_shows p a) (level_shows p b)
 level_shows p (inside k n a) = Inside k n (level_shows p a)
-level_shows p (unique k n a) = InsideUnique k n (level_shows p a)
+level_shows p (unique k n a) = Unique k n (level_shows p a)
 level_shows p (field k size a) = Field k size (level_shows p a)
 level_shows p (buffer size a n capacity) = buffer_shows size (level_shows p a) n capacity
 level_shows p (optional size w o) = option_inside size (λ x. level_shows p (w x)) o

@@ -6,7 +6,7 @@ use Rattle.smallvec.specs.SmallVec.{SmallVec, IsSpilled}
 use Rattle.slab.specs.Slab.{Slab, values, slab_len}
 use Rattle.allocative_graph.specs.Path.{Key}
 use Rattle.allocative_graph.specs.Forest.{Forest}
-use Rattle.allocative_graph.specs.Shows.{Showing, Nothing, Both, InsideUnique, Field, each_shows, slice_shows}
+use Rattle.allocative_graph.specs.Shows.{Showing, Nothing, Both, Unique, Field, each_shows, slice_shows}
 use Rattle.allocative.specs.Bodies.{bytes_shown, buffer_shows, data_shows, table_shows}
 use Rattle.allocative.specs.Runs.{field_of, pair_shows}
 
@@ -19,14 +19,14 @@ either_inside s p t q (Right y) = Field (codes "Right") t (q y)
 -- What is inside the own entry of a cell that is set once: nothing, or a pointer to some value.
 pub data once_inside {T : Type 0} (p : T → Showing) : Forest → Type 0 where
   is_not_set : {f : Forest} → Nothing f → once_inside p f
-  is_set : (x : T) {f : Forest} → InsideUnique (codes "ptr") 8 (p x) f → once_inside p f
+  is_set : (x : T) {f : Forest} → Unique (codes "ptr") 8 (p x) f → once_inside p f
 
 -- What is inside the own entry of a small vector with n places of its own and items of a declared size: a field
 -- `data` for each item, inside a pointer if the items are in an allocation.
 pub data small_vec_inside {T : Type 0} (n : ℕ) (size : Option ℕ) (p : T → Showing) (v : SmallVec T) : Forest → Type 0
   where
     lies_inline : {f : Forest} → ¬ IsSpilled n v → data_shows size p v.items f → small_vec_inside n size p v f
-    is_spilled : {f : Forest} → IsSpilled n v → InsideUnique (codes "ptr") 8 (data_shows size p v.items) f
+    is_spilled : {f : Forest} → IsSpilled n v → Unique (codes "ptr") 8 (data_shows size p v.items) f
         → small_vec_inside n size p v f
 
 -- What is inside the own entry of a slab with items of a declared name and size: the buffer of its values, in the
@@ -39,7 +39,7 @@ slab_inside name size needs_drop p s =
 -- unused places for items of a declared size.
 pub data index_data_shows (size : Option ℕ) (p : Showing) (unused : ℕ) : Forest → Type 0 where
   is_index_data : {f : Forest}
-      → InsideUnique (codes "data") 8 (Both p (bytes_shown (codes "unused_capacity") size unused)) f
+      → Unique (codes "data") 8 (Both p (bytes_shown (codes "unused_capacity") size unused)) f
       → index_data_shows size p unused f
 
 -- What is inside the own entry of an `IndexMap` with keys, values and pairs of declared sizes, and so many unused

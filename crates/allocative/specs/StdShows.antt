@@ -3,7 +3,7 @@ use Rattle.std.specs.Prelude.{ℕ, List, Option, None, Some, Result, Ok, Err, Is
 use Rattle.allocative_described.specs.Sizes.{shared_inner_size}
 use Rattle.allocative_graph.specs.Path.{Key}
 use Rattle.allocative_graph.specs.Identity.{Identity}
-use Rattle.allocative_graph.specs.Shows.{Showing, Nothing, Field, SharedWith, each_shows}
+use Rattle.allocative_graph.specs.Shows.{Showing, Nothing, Field, Shared, each_shows}
 
 -- One inline entry of a declared name and size, with nothing inside it.
 abbrev pub Leaf : Key → ℕ → Showing
@@ -27,4 +27,4 @@ in_any_order {T} p xs f = (ys : List T) × IsPermutation xs ys × each_shows p y
 -- or it has no content.
 abbrev pub shared_inside : Key → Identity → Option ℕ → ℕ → Showing → Showing
 shared_inside inner_name id size align p =
-    SharedWith (codes "ptr") 8 id (Field inner_name (shared_inner_size size align) p)
+    Shared (codes "ptr") 8 id (Field inner_name (shared_inner_size size align) p)

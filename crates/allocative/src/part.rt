@@ -143,7 +143,7 @@ impl<'a, T: Described, P: Part> Part for Whole<'a, T, P> {
 
     #[inline(always)]
     fn enter(self, visitor: &mut Visitor<'_>) -> Result<(), Refusal> {
-        Declared(T::name(), T::size(), self.1).enter(visitor)
+        visitor.visit_inside(Key::for_type_name::<T>(), T::size(), self.1)
     }
 }
 
@@ -157,7 +157,7 @@ impl<'a, T: Described, P: Part> Part for Whole<'a, T, P> {
 pub struct Unique<K, P>(pub K, pub usize, pub P);
 
 impl<K: IntoKey, P: Part> Part for Unique<K, P> {
-    ghost may_show = { λ e. shows.InsideUnique (K.key e.0) e.1 (P.may_show e.2) };
+    ghost may_show = { λ e. shows.Unique (K.key e.0) e.1 (P.may_show e.2) };
 
     ghost is_exact = { P.is_exact };
 
@@ -190,7 +190,7 @@ impl<'a, K: IntoKey, T: Allocative + Described> Part for Field<K, &'a T> {
 
     #[inline(always)]
     fn enter(self, visitor: &mut Visitor<'_>) -> Result<(), Refusal> {
-        Declared(self.0, T::size(), self.1).enter(visitor)
+        visitor.visit_inside(self.0.into_key(), T::size(), self.1)
     }
 }
 
@@ -220,7 +220,7 @@ pub struct Shared<P> {
 }
 
 impl<P: Part> Part for Shared<P> {
-    ghost may_show = { λ s. shows.SharedWith s.key s.size s.identity (P.may_show s.content) };
+    ghost may_show = { λ s. shows.Shared s.key s.size s.identity (P.may_show s.content) };
 
     ghost is_exact = { P.is_exact };
 

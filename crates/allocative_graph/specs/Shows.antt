@@ -26,8 +26,8 @@ abbrev pub Inside : Key → ℕ → Showing → Showing
 Inside = InsideAs false
 
 -- One unique entry, with a forest of p inside it.
-abbrev pub InsideUnique : Key → ℕ → Showing → Showing
-InsideUnique = InsideAs true
+abbrev pub Unique : Key → ℕ → Showing → Showing
+Unique = InsideAs true
 
 -- One inline entry of a declared size, with a forest of p inside it. If there is no size, there is no forest.
 pub data IsField (k : Key) (p : Showing) : Option ℕ → Forest → Type 0 where
@@ -39,8 +39,8 @@ Field k size p = IsField k p size
 
 -- A shared entry, with a forest of p as its content or without a content. The identities met decide which of the two
 -- fits.
-abbrev pub SharedWith : Key → ℕ → Identity → Showing → Showing
-SharedWith k n i p f = ((g : Forest) × p g × (f ≡ First k n i g Empty)) ⊎ (f ≡ Again k n i Empty)
+abbrev pub Shared : Key → ℕ → Identity → Showing → Showing
+Shared k n i p f = ((g : Forest) × p g × (f ≡ First k n i g Empty)) ⊎ (f ≡ Again k n i Empty)
 
 -- The forests of some items, one after another.
 abbrev pub each_shows : {T : Type 0} → (T → Showing) → List T → Showing

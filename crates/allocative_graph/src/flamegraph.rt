@@ -204,9 +204,11 @@ impl FlameGraph {
         }
     }
 
-    // Adds another graph when the totals are known to fit.
+    // Adds another graph when the totals are known to fit. It is inlined, so that a level of the walk takes less of the
+    // stack.
     #[cycle(merge)]
     #[tactic(auto, using(crate::proofs::NodeAdded::total_of_both, crate::proofs::NodeAdded::merged_node))]
+    #[inline(always)]
     fn merge(&mut self, other: FlameGraph) -> Result<(), AllocError>
         requires { total self.old + total other < 2 ^ 64 }
         ensures { Added (is_ok result) self.old other self.new }

@@ -2,7 +2,7 @@
 #![tactic(auto, using(allocative::proofs::Parts::parts))]
 
 ghost use Rattle.std.specs.Prelude.{codes, Some};
-ghost use Rattle.allocative.specs.Shows.{Inside, Field, Both, SharedWith};
+ghost use Rattle.allocative.specs.Shows.{Inside, Field, Both, Shared};
 
 use allocative::{
     Allocative, Described, Field, IdRc, Identity, Inside, Key, Part, Refusal, Shared, Visitor,
@@ -37,7 +37,7 @@ pub struct PageLink<T: Drop> {
 
 impl<T: Allocative + Described> Allocative for PageLink<T> {
     ghost may_show = { λ l. Inside (codes "PageLink") 16
-        (SharedWith (codes "page") 8 (record { maker = 0; number = l.number })
+        (Shared (codes "page") 8 (record { maker = 0; number = l.number })
         (Field (codes "Page") T.size (T.may_show l.page.value))) };
 
     fn visit(&self, visitor: &mut Visitor<'_>) -> Result<(), Refusal> {

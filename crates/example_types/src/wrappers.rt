@@ -2,7 +2,7 @@
 #![tactic(auto, using(allocative::proofs::Parts::parts))]
 
 ghost use Rattle.std.specs.Prelude.{codes, Some};
-ghost use Rattle.allocative.specs.Shows.{Nothing, Inside, InsideUnique, Field, Both};
+ghost use Rattle.allocative.specs.Shows.{Nothing, Inside, Unique, Field, Both};
 
 use allocative::{Allocative, Field, Inside, Part, Refusal, Unique, Visitor};
 use std::path::PathBuf;
@@ -27,7 +27,7 @@ pub struct Block {
 
 impl Allocative for Block {
     ghost may_show = { λ b. Inside (codes "Block") 8
-        (InsideUnique (codes "ptr") 8 (Inside (codes "head") 16
+        (Unique (codes "ptr") 8 (Inside (codes "head") 16
         (Inside (codes "counts") 8 (⟦<u64 as Allocative>⟧.may_show b.count)))) };
 
     fn visit(&self, visitor: &mut Visitor<'_>) -> Result<(), Refusal> {

@@ -1,7 +1,7 @@
 -- What the entries of a row show.
 use Rattle.std.specs.Prelude.{ℕ}
 use Rattle.allocative.specs.Path.{Key}
-use Rattle.allocative.specs.Shows.{Showing, Nothing, Both, Inside as inside, InsideUnique, SharedWith}
+use Rattle.allocative.specs.Shows.{Showing, Nothing, Both, Inside as inside, Unique as unique, Shared as shared}
 use Rattle.test_entries.specs.declared.forest.Forest.{Forest, Empty, Entry'}
 use Rattle.test_entries.specs.declared.forest.Kind.{Kind}
 use Rattle.test_entries.specs.declared.forest.Kind.TheVariants.{Inline, Unique, Shared}
@@ -9,8 +9,8 @@ use Rattle.test_entries.specs.declared.forest.Kind.TheVariants.{Inline, Unique, 
 -- One entry, where p is what the entries inside it or in its content show.
 abbrev pub entry_shows : Kind → Key → ℕ → Showing → Showing
 entry_shows Inline k n p = inside k n p
-entry_shows Unique k n p = InsideUnique k n p
-entry_shows (Shared i) k n p = SharedWith k n i p
+entry_shows Unique k n p = unique k n p
+entry_shows (Shared i) k n p = shared k n i p
 
 -- Each entry, with what is inside it or in its content, and then the entries that follow it.
 abbrev pub forest_shows : Forest → Showing

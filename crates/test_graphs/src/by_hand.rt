@@ -36,7 +36,7 @@ impl Allocative for ForgetsNested {
 
 /// Enters a pointer to the shared value 1, and forgets the visitor of its content.
 fn forget_content(collector: &mut Collector) -> Result<(), Refusal>
-    ensures { AddsForest (shows.SharedWith (codes "p") 8 (record { maker = 0; number = 1 }) shows.Nothing)
+    ensures { AddsForest (shows.Shared (codes "p") 8 (record { maker = 0; number = 1 }) shows.Nothing)
         collector.old result collector.new }
 {
     match enter_content(collector, Key::new("p"), 8, Identity::from(1)) {
@@ -55,7 +55,7 @@ struct ForgetsContent;
 
 impl Allocative for ForgetsContent {
     ghost may_show = { λ _.
-        shows.SharedWith (codes "p") 8 (record { maker = 0; number = 1 }) shows.Nothing };
+        shows.Shared (codes "p") 8 (record { maker = 0; number = 1 }) shows.Nothing };
 
     fn visit(&self, visitor: &mut Visitor<'_>) -> Result<(), Refusal> {
         forget_content(collector_of(visitor))
@@ -96,7 +96,7 @@ fn enter_parts(visitor: &mut Visitor<'_>, room: usize) -> Result<(), Refusal>
 
 /// Enters `unique p 0 {x room, b 1}`. Where `b` does not fit, the visitor of `p` is held as the error comes.
 fn stop(collector: &mut Collector, room: usize) -> Result<(), Refusal>
-    ensures { AddsForest (shows.InsideUnique (codes "p") 0
+    ensures { AddsForest (shows.Unique (codes "p") 0
         (shows.Both (shows.Inside (codes "x") room shows.Nothing) (shows.Inside (codes "b") 1 shows.Nothing)))
         collector.old result collector.new }
 {
@@ -113,7 +113,7 @@ struct StopsByHand {
 }
 
 impl Allocative for StopsByHand {
-    ghost may_show = { λ s. shows.InsideUnique (codes "p") 0
+    ghost may_show = { λ s. shows.Unique (codes "p") 0
         (shows.Both (shows.Inside (codes "x") s.room shows.Nothing) (shows.Inside (codes "b") 1 shows.Nothing)) };
 
     fn visit(&self, visitor: &mut Visitor<'_>) -> Result<(), Refusal> {

@@ -56,7 +56,7 @@ impl<T> Described for BoxedSlice<T> {
 
 impl<T: Allocative + Described> Allocative for BoxedSlice<T> {
     ghost may_show = { λ b. shows.Inside (codes "Box") 16
-        (shows.InsideUnique (codes "ptr") 16 (slice_of T.name T.size T.may_show b.0.items)) };
+        (shows.Unique (codes "ptr") 16 (slice_of T.name T.size T.may_show b.0.items)) };
 
     fn visit(&self, visitor: &mut Visitor<'_>) -> Result<(), Refusal> {
         Inside("Box", 16, Unique("ptr", 16, SliceOf(&self.0))).enter(visitor)

@@ -36,7 +36,7 @@ struct Uneven;
 impl Allocative for Uneven {
     ghost may_show = { λ _. shows.Both
         (shows.Inside (codes "a") 10 (shows.Both
-        (shows.InsideUnique (codes "p") 4 (shows.Inside (codes "b") 6 shows.Nothing))
+        (shows.Unique (codes "p") 4 (shows.Inside (codes "b") 6 shows.Nothing))
         (shows.Inside (codes "c") 3 shows.Nothing)))
         (shows.Inside (codes "d") 2 shows.Nothing) };
 

@@ -122,7 +122,7 @@ struct Boxed(u8);
 
 impl Allocative for Boxed {
     ghost may_show = { λ _. shows.Inside (codes "Box") 8
-        (shows.InsideUnique (codes "ptr") 8 (shows.Field (codes "u8") (Some 1) shows.Nothing)) };
+        (shows.Unique (codes "ptr") 8 (shows.Field (codes "u8") (Some 1) shows.Nothing)) };
 
     fn visit(&self, visitor: &mut Visitor<'_>) -> Result<(), Refusal> {
         visitor.visit_boxed_object(&self.0)
@@ -202,7 +202,7 @@ impl<'a> Part for FullBody<'a> {
 struct Body(Vec<u8>);
 
 impl Allocative for Body {
-    ghost may_show = { λ s. shows.InsideUnique (codes "ptr") 8
+    ghost may_show = { λ s. shows.Unique (codes "ptr") 8
         (vec_body (codes "u8") (Some 1) false (λ _. shows.Field (codes "u8") (Some 1) shows.Nothing) s.0.items
         (length s.0.items)) };
 

@@ -272,12 +272,7 @@ impl Collector {
     pub(crate) fn begin(&mut self) -> Result<Outer, Refusal>
         ensures { OpensRoot self.old result self.new }
     {
-        if let Some(cause) = self.failed {
-            return Err(cause);
-        }
-        if !self.kind.is_closed() {
-            return Err(Refusal::Open);
-        }
+        self.check()?;
         Ok(self.kind.begin())
     }
 

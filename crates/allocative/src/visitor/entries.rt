@@ -2,7 +2,7 @@
 #![tactic(auto, using(crate::proofs::Showing::showing))]
 
 ghost use Rattle.std.specs.Prelude.{true, codes, length, Some};
-ghost use Rattle.allocative_graph.specs.Shows.{Inside, InsideUnique, Field, Nothing};
+ghost use Rattle.allocative_graph.specs.Shows.{Inside, Unique, Field, Nothing};
 ghost use Rattle.allocative.specs.Making.{MakesPlan, MakesFirst, one};
 ghost use Rattle.allocative.specs.Visited.{Entered};
 ghost use Rattle.allocative.specs.Closures.{KeepsVisitor, CalledAt, CalledInside};
@@ -103,7 +103,7 @@ impl Visitor<'_> {
     // One unique entry of a pointer, with what the object shows inside it.
     fn visit_object_pointer(&mut self, object: &dyn Allocative) -> Result<(), Refusal>
         ensures { Entered (Allocative-dyn object.now).is_exact
-            (InsideUnique (codes "ptr") 8 (may_show object.now)) self.old self.new result }
+            (Unique (codes "ptr") 8 (may_show object.now)) self.old self.new result }
     {
         let outer = self.collector.open_entry(Key::new("ptr"), Some(8), true)?;
         let answer = self.visit_object(object);
@@ -118,7 +118,7 @@ impl Visitor<'_> {
     /// object's own errors come after them. It is exact if the type of the object is.
     pub fn visit_boxed_object(&mut self, object: &dyn Allocative) -> Result<(), Refusal>
         ensures entered { Entered (Allocative-dyn object.now).is_exact
-            (Inside (codes "Box") 8 (InsideUnique (codes "ptr") 8 (may_show object.now))) self.old self.new result }
+            (Inside (codes "Box") 8 (Unique (codes "ptr") 8 (may_show object.now))) self.old self.new result }
         ensures first { MakesFirst (codes "Box") (Some 8) self.old self.new result }
     {
         let outer = self.collector.open_entry(Key::new("Box"), Some(8), false)?;

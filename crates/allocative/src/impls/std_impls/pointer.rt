@@ -7,7 +7,7 @@ use crate::{Allocative, Part, Refusal, Unique, Visitor, Whole};
 
 impl<T: Allocative> Allocative for Box<T> {
     ghost may_show = { λ b. shows.Field (codes "Box") (Some 8)
-        (shows.InsideUnique (codes "ptr") 8 (T.may_show b.value)) };
+        (shows.Unique (codes "ptr") 8 (T.may_show b.value)) };
 
     ghost is_exact = { T.is_exact };
 
