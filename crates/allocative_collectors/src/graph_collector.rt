@@ -1,11 +1,9 @@
 //! The state of a flame graph's collector: the arena of paths, the identities met, and where its visitors are.
-ghost use Rattle.std.specs.Prelude.{◌≡◌, ◌+◌, ◌^◌, ◌<◌, [], false, length, IfOk, IfErr, OnOk, OnErr, IsTrue, ◌↔◌};
+ghost use Rattle.std.specs.Prelude.{◌≡◌, ◌+◌, ◌^◌, ◌<◌, [], false, IfOk, IfErr, OnOk, OnErr, IsTrue, ◌↔◌};
 ghost use Rattle.allocative_graph.specs.Sums.{entered};
 ghost use Rattle.allocative_graph.specs.Collector.{OfGraph, no_entries, enter_live, leave_live, go, IsClosed, IsAtRoot};
 ghost use Rattle.allocative_graph.specs.Graph.{total as graph_total};
 ghost use Rattle.allocative_graph.specs.Visits.{Refuses, IsProfile};
-ghost use Rattle.allocative_collectors.specs.Listed.{total};
-ghost use Rattle.allocative_collectors.specs.Places.{AddedAt, TellsWhy};
 ghost use Rattle.allocative_collectors.specs.Meets.{MeetsAs};
 
 use crate::output::FlameGraphOutput;
@@ -79,7 +77,9 @@ impl GraphCollector {
         ensures kept { OnErr result (self.new ≡ self.old) }
     {
         let at = self.current;
-        self.current = add(&mut self.tree, &mut self.room, at, key, size, is_unique)?;
+        self.current = self
+            .tree
+            .enter(&mut self.room, at, key, size, is_unique)?;
         Ok(())
     }
 
@@ -95,7 +95,7 @@ impl GraphCollector {
         ensures kept { OnErr result (self.new ≡ self.old) }
     {
         let at = self.current;
-        add(&mut self.tree, &mut self.room, at, key, size, false)?;
+        self.tree.enter(&mut self.room, at, key, size, false)?;
         Ok(())
     }
 
@@ -172,29 +172,4 @@ impl GraphCollector {
     {
         self.tree.finish()
     }
-}
-
-// One more entry under the node `at`, if `room` has its bytes, which are taken from it. It returns the entry's node.
-// The bound is tested before memory is allocated.
-#[inline(always)]
-fn add(
-    tree: &mut Tree,
-    room: &mut usize,
-    at: usize,
-    key: &Key,
-    size: usize,
-    is_unique: bool,
-) -> Result<usize, Refusal>
-    requires within { at < length tree.old }
-    requires count { total tree.old + room.old + 1 ≡ 2 ^ 63 }
-    ensures ok { IfOk result (AddedAt tree.old tree.new at key.now size is_unique room.old room.new) }
-    ensures err { IfErr result (TellsWhy room.old size) }
-    ensures kept { OnErr result ((tree.new ≡ tree.old) × (room.new ≡ room.old)) }
-{
-    if size > *room {
-        return Err(Refusal::TooLarge);
-    }
-    let node = tree.enter(at, key, size, is_unique)?;
-    *room -= size;
-    Ok(node)
 }

@@ -6,6 +6,7 @@ ghost use Rattle.allocative_graph.specs.Sums.{entered, below as bytes_below};
 ghost use Rattle.allocative_graph.specs.Path.{key_cmp};
 ghost use Rattle.allocative_graph.specs.Visits.{IsProfile};
 ghost use Rattle.allocative_collectors.specs.Listed.{root_sum, put, total, path_at, map_of, IsEntered, IsAbove};
+ghost use Rattle.allocative_collectors.specs.Places.{AddedAt, TellsWhy};
 ghost use Rattle.allocative_collectors.specs.Finishing.{size_at_place, is_short, MakesGraph, MakesGraphAlone};
 ghost use Rattle.allocative_collectors.specs.Shapes.{leaf, bytes_at, keys_of, key_at, KeysRise, HasKey, IsKeyGap};
 ghost use Rattle.allocative_collectors.specs.Chunked.{numbers, flat, IsPlace, IsPlaceIn, place_in, flat_place};
@@ -88,23 +89,31 @@ impl Tree {
         Ok(Tree { alloc, nodes })
     }
 
-    /// Enters `size` bytes under the key at the node `at`, and returns the node of that path.
+    /// Enters `size` bytes under the key at the node `at`, if `room` has them, and takes them from it. It returns the node
+    /// of that path.
     ///
-    /// It fails if memory runs out, or if there would be more than 2^32 - 1 paths beside the root.
+    /// It fails with `TooLarge` if the room has fewer bytes, which is tested before memory is allocated. Otherwise it fails
+    /// only with `Memory`: if memory runs out, or if there would be more than 2^32 - 1 paths beside the root.
     #[inline(always)]
     pub(crate) fn enter(
         &mut self,
+        room: &mut usize,
         at: usize,
         key: &Key,
         size: usize,
         is_unique: bool,
-    ) -> Result<usize, AllocError>
+    ) -> Result<usize, Refusal>
         requires within { at < length self.old }
-        requires fits { total self.old + size < 2 ^ 63 }
-        ensures entered { IfOk result (IsEntered self.old self.new at key.now size is_unique) }
-        ensures err { OnErr result (self.new ≡ self.old) }
+        requires count { total self.old + room.old + 1 ≡ 2 ^ 63 }
+        ensures entered { IfOk result (AddedAt self.old self.new at key.now size is_unique room.old room.new) }
+        ensures err { IfErr result (TellsWhy room.old size) }
+        ensures kept { OnErr result ((self.new ≡ self.old) × (room.new ≡ room.old)) }
     {
+        if size > *room {
+            return Err(Refusal::TooLarge);
+        }
         let node = self.child(at, key)?;
+        *room -= size;
         self.raise(node, size, is_unique);
         Ok(node)
     }

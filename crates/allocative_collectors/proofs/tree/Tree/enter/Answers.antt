@@ -8,7 +8,11 @@ raise-requires-clause-not_root c = c.in_ok-node.ensures.entered.not_root
 
 pub raise-requires-clause-fits : goal.raise-requires-clause-fits
 raise-requires-clause-fits c =
-    omega (arith, c.requires.fits, total_entered c.in_ok-node.ensures.entered)
+    omega (arith, c.requires.count, total_entered c.in_ok-node.ensures.entered)
 
 pub returns-clause-entered : goal.returns-clause-entered
-returns-clause-entered c = entered_twice _ _ _ _ _ _ _ _ c.in_ok-node.ensures.entered c.raise.ensures
+returns-clause-entered c = record {
+  fits = omega arith;
+  count = omega arith;
+  is = entered_twice _ _ _ _ _ _ _ _ c.in_ok-node.ensures.entered c.raise.ensures;
+}
