@@ -77,9 +77,7 @@ impl GraphCollector {
         ensures kept { OnErr result (self.new ≡ self.old) }
     {
         let at = self.current;
-        self.current = self
-            .tree
-            .enter(&mut self.room, at, key, size, is_unique)?;
+        self.current = self.tree.enter(&mut self.room, at, key, size, is_unique)?;
         Ok(())
     }
 

@@ -114,7 +114,9 @@ impl Tree {
         }
         let node = self.child(at, key)?;
         *room -= size;
-        self.raise(node, size, is_unique);
+        let entered = &mut self.nodes[node];
+        entered.bytes += size;
+        entered.is_unique = entered.is_unique || is_unique;
         Ok(node)
     }
 
@@ -304,19 +306,6 @@ impl Tree {
                 Ok(node)
             }
         }
-    }
-
-    /// Enters `size` bytes at a node other than the root.
-    #[inline(always)]
-    fn raise(&mut self, node: usize, size: usize, is_unique: bool)
-        requires not_root { 0 < node }
-        requires within { node < length self.old }
-        requires fits { total self.old + size < 2 ^ 63 }
-        ensures { self.new ≡ put node (path_at self.old node) size is_unique self.old }
-    {
-        let entered = &mut self.nodes[node];
-        entered.bytes += size;
-        entered.is_unique = entered.is_unique || is_unique;
     }
 }
 
