@@ -272,7 +272,12 @@ impl Collector {
     pub(crate) fn begin(&mut self) -> Result<Outer, Refusal>
         ensures { OpensRoot self.old result self.new }
     {
-        self.check()?;
+        if let Some(cause) = self.failed {
+            return Err(cause);
+        }
+        if !self.kind.is_closed() {
+            return Err(Refusal::Open);
+        }
         Ok(self.kind.begin())
     }
 
