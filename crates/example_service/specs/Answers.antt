@@ -44,7 +44,7 @@ RejectsDocument tenant key old is_exact size p r = MatchOption (entry_of tenant 
 -- of the tenant are `total`. The document is of a type with this declared size, and may show what p allows.
 abbrev pub EntersDocument : List ℕ → ℕ → Option ℕ → Showing → ℕ → Ledger → Ledger → Type 0
 EntersDocument tenant key size p total old new = (bytes : ℕ) × (had : Option ℕ)
-    × Declares (measure_of old) size p bytes × Enters tenant key bytes had total old new
+    × Declares (measure_of old) size p bytes × Enters tenant key bytes had old new total
 
 -- The note has the tenant's name, the key and the text, in strings of any capacity.
 abbrev pub IsNote : List ℕ → ℕ → List ℕ → Note → Type 0
@@ -95,7 +95,7 @@ ResetsPeak tenant old new =
 -- The bytes under the key are gone. If there were none, the ledger is unchanged.
 abbrev pub ReleasesDocument : List ℕ → ℕ → Ledger → Ledger → Type 0
 ReleasesDocument tenant key old new = ((entry_of tenant key old ≡ None) × IsUnchanged old new)
-    ⊎ ((bytes : ℕ) × Releases tenant key bytes old new)
+    ⊎ ((bytes : ℕ) × Releases tenant key old new bytes)
 
 module _ {E : Type 0} (result : Result (String Global) E) (old new : Ledger) where
   -- The request is rejected, as P says, and the ledger is unchanged. The text tells the rejection. Where memory runs
@@ -131,7 +131,7 @@ module _ {E : Type 0} (result : Result (String Global) E) (old new : Ledger) whe
 
   -- The text is the line of all bytes of the tenant, after its entry under the key has these bytes in place of `had`.
   abbrev pub TellsEntry : List ℕ → ℕ → ℕ → Option ℕ → Type 0
-  TellsEntry tenant key bytes had = (total : ℕ) × Enters tenant key bytes had total old new
+  TellsEntry tenant key bytes had = (total : ℕ) × Enters tenant key bytes had old new total
       × IfOk result (λ text. string_bytes text ≡ entered_line tenant total)
 
   -- An entry of so many bytes is added, or that is rejected.
