@@ -116,7 +116,8 @@ impl fmt::Display for Figure<'_> {
 
 /// Appends the beginning of a row's box.
 fn push_frame(all: u128, row: &Row<'_>, text: &mut String) -> Result<(), AllocError>
-    ensures { OnOk result (string_bytes text.new ≡ string_bytes text.old ++ frame all (row_data row.now)) }
+    ensures { OnOk result
+        (string_bytes text.new ≡ string_bytes text.old ++ frame all (row_data row.now)) }
 {
     let units = width(all, row);
     let (class, fit) = (Class(*row), fit(units, row.key.len()));
@@ -139,7 +140,8 @@ pub(crate) fn push_element(
     row: &Row<'_>,
     text: &mut String,
 ) -> Result<(), AllocError>
-    ensures { OnOk result (string_bytes text.new ≡ string_bytes text.old ++ element all (row_data row.now)) }
+    ensures { OnOk result
+        (string_bytes text.new ≡ string_bytes text.old ++ element all (row_data row.now)) }
 {
     push_frame(all, row, text)?;
     let key = escaped(alloc, row.key)?;

@@ -139,7 +139,8 @@ fn push_warning(
     warned: &WarnedPath,
     text: &mut String,
 ) -> Result<(), AllocError>
-    ensures { OnOk result (string_bytes text.new ≡ string_bytes text.old ++ warning_line y (held.warning_of warned.now)) }
+    ensures { OnOk result (string_bytes text.new ≡ string_bytes text.old
+        ++ warning_line y (held.warning_of warned.now)) }
 {
     let mut said = String::new(alloc);
     warned.push_warning(&mut said)?;

@@ -43,8 +43,10 @@ pub fn change_picture(
     after: &FlameGraph,
     options: &Options<'_>,
 ) -> Result<String, Refusal>
-    ensures text { IfOk result (λ made. string_bytes made ≡ change_drawing options.now before.now after.now) }
-    ensures too_large { IsErrOf result Refusal.TooLarge ↔ (2 ^ 64 ≤ total before.now + total after.now) }
+    ensures text { IfOk result
+        (λ made. string_bytes made ≡ change_drawing options.now before.now after.now) }
+    ensures too_large { IsErrOf result Refusal.TooLarge
+        ↔ (2 ^ 64 ≤ total before.now + total after.now) }
     ensures never_open { ¬ (IsErrOf result Refusal.Open) }
 {
     let subject = Subject::Change {
@@ -103,7 +105,8 @@ pub fn draw(
     rows: &[Row<'_>],
     options: &Options<'_>,
 ) -> Result<String, AllocError>
-    ensures { IfOk result (λ made. string_bytes made ≡ drawing subject options.now (map row_data rows.now)) }
+    ensures { IfOk result
+        (λ made. string_bytes made ≡ drawing subject options.now (map row_data rows.now)) }
 {
     let mut wide = Vec::new(alloc);
     for row in rows {
@@ -120,7 +123,8 @@ fn draw_wide(
     paths: usize,
     options: &Options<'_>,
 ) -> Result<String, AllocError>
-    ensures { IfOk result (λ made. string_bytes made ≡ drawing_of subject options.now (map row_data rows.now) paths) }
+    ensures { IfOk result (λ made.
+        string_bytes made ≡ drawing_of subject options.now (map row_data rows.now) paths) }
 {
     let bottom = 64 + 18 * levels(rows);
     let height = bottom + 8 + 16 * options.warned.len() as u128;
