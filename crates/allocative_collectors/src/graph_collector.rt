@@ -187,7 +187,8 @@ fn add(
 ) -> Result<usize, Refusal>
     requires within { at < length tree.old }
     requires count { total tree.old + room.old + 1 ≡ 2 ^ 63 }
-    ensures ok { IfOk result (AddedAt tree.old tree.new at key.now size is_unique room.old room.new) }
+    ensures ok { IfOk result
+        (AddedAt tree.old tree.new at key.now size is_unique room.old room.new) }
     ensures err { IfErr result (TellsWhy room.old size) }
     ensures kept { OnErr result ((tree.new ≡ tree.old) × (room.new ≡ room.old)) }
 {
