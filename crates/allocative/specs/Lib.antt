@@ -23,6 +23,7 @@ pub mod InTwo
 pub use Rattle.allocative_described.specs.Sizes
 pub use Rattle.allocative_described.specs.RawTable
 pub use Rattle.allocative_graph.specs.Path
+pub use Rattle.allocative_graph.specs.Format
 pub use Rattle.allocative_graph.specs.Identity
 pub use Rattle.allocative_graph.specs.Forest
 pub use Rattle.allocative_graph.specs.Meaning

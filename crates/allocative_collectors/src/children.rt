@@ -54,7 +54,8 @@ impl Children {
     /// The last number, and the place behind it.
     pub(crate) fn last(&self) -> Option<(u32, Place)>
         ensures place { IfSome result (λ end. IsPlace self.now end.1) }
-        ensures last { IfSome result (λ end. IsLast (numbers self.now) end.0 (flat_place self.now end.1)) }
+        ensures last { IfSome result
+            (λ end. IsLast (numbers self.now) end.0 (flat_place self.now end.1)) }
     {
         match self {
             Children::Few(list) => {
@@ -86,7 +87,8 @@ impl Children {
     /// Puts a number at a place. The only error is that memory runs out, and then the numbers are as they were.
     pub(crate) fn insert(&mut self, place: Place, number: u32) -> Result<(), AllocError>
         requires { IsPlace self.old place }
-        ensures ok { OnOk result (numbers self.new ≡ insert (numbers self.old) (flat_place self.old place) number) }
+        ensures ok { OnOk result
+            (numbers self.new ≡ insert (numbers self.old) (flat_place self.old place) number) }
         ensures err { OnErr result (numbers self.new ≡ numbers self.old) }
     {
         match self {
@@ -131,7 +133,8 @@ impl Chunk {
     // Takes the upper half of the numbers away. The only error is that memory runs out, and then nothing changes.
     fn cut(&mut self) -> Result<Chunk, AllocError>
         requires { 0 < length self.old.rest.items }
-        ensures ok { IfOk result (λ upper. numbers_in self.old ≡ numbers_in self.new ++ numbers_in upper) }
+        ensures ok { IfOk result
+            (λ upper. numbers_in self.old ≡ numbers_in self.new ++ numbers_in upper) }
         ensures err { OnErr result (numbers_in self.new ≡ numbers_in self.old) }
     {
         let half = self.rest.len() / 2;
@@ -144,7 +147,8 @@ impl Chunk {
 // The last number of the chunks, and the place behind it.
 fn last_in(chunks: &[Chunk]) -> Option<(u32, Place)>
     ensures place { IfSome result (λ end. IsPlaceIn chunks.now end.1) }
-    ensures last { IfSome result (λ end. IsLast (flat chunks.now) end.0 (place_in chunks.now end.1)) }
+    ensures last { IfSome result
+        (λ end. IsLast (flat chunks.now) end.0 (place_in chunks.now end.1)) }
 {
     let chunk = chunks.len().checked_sub(1)?;
     let end = &chunks[chunk];
@@ -154,7 +158,8 @@ fn last_in(chunks: &[Chunk]) -> Option<(u32, Place)>
 
 // A list as one chunk.
 fn one_chunk(alloc: Global, list: &[u32]) -> Result<Vec<Chunk>, AllocError>
-    ensures { IfOk result (λ chunks. (flat chunks.items ≡ list.now) × (chunk_at chunks.items 0 ≡ list.now)) }
+    ensures { IfOk result
+        (λ chunks. (flat chunks.items ≡ list.now) × (chunk_at chunks.items 0 ≡ list.now)) }
 {
     let mut chunks = Vec::with_capacity(alloc, 2)?;
     if let Some((first, rest)) = list.split_first() {

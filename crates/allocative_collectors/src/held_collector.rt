@@ -51,8 +51,7 @@ impl HeldCollector {
         }
     }
 
-    /// One more entry of `size` bytes, unique or inline, and a visitor at it. It returns what `leave`
-    /// restores.
+    /// One more entry of `size` bytes, unique or inline, and a visitor at it. It returns what `leave` restores.
     ///
     /// The bytes are held if an inline entry is directly in a unique one. It returns `TooLarge` exactly if the
     /// sum or the number of visitors would exceed `usize::MAX`, and then nothing is changed.

@@ -98,7 +98,8 @@ impl FlameGraphOutput {
         warned: Vec<WarnedPath>,
     ) -> Result<FlameGraphOutput, AllocError>
         ensures graph { IfOk result (λ o. o.graph ≡ flamegraph) }
-        ensures warnings { IfOk result (λ o. o.warnings ≡ warning_lines (map warning_of warned.items)) }
+        ensures warnings { IfOk result
+            (λ o. o.warnings ≡ warning_lines (map warning_of warned.items)) }
         ensures warned { IfOk result (λ o. o.warned ≡ map warning_of warned.items) }
     {
         let warnings = warning_lines(alloc, warned.as_slice())?;
@@ -126,7 +127,8 @@ impl FlameGraphOutput {
 
     /// A copy of the warnings' text. The only error is that memory runs out.
     pub fn warnings(&self) -> Result<String, Refusal>
-        ensures { MatchResult result (λ copy. string_bytes copy ≡ self.now.warnings) (λ r. r ≡ Refusal.Memory) }
+        ensures { MatchResult result
+            (λ copy. string_bytes copy ≡ self.now.warnings) (λ r. r ≡ Refusal.Memory) }
     {
         Ok(self.warnings.clone()?)
     }

@@ -59,7 +59,8 @@ impl OwnedCollector {
     pub fn count(&mut self, size: usize) -> Result<(), Refusal>
         ensures ok { OnOk result ((self.old.sum + (size - self.old.spare) < 2 ^ 64)
             × (self.new ≡ count_owning size self.old)) }
-        ensures err { IfErr result (λ e. (e ≡ TooLarge) × (2 ^ 64 ≤ self.old.sum + (size - self.old.spare))) }
+        ensures err { IfErr result
+            (λ e. (e ≡ TooLarge) × (2 ^ 64 ≤ self.old.sum + (size - self.old.spare))) }
         ensures kept { OnErr result (self.new ≡ self.old) }
     {
         let beyond = size.saturating_sub(self.spare);

@@ -3,7 +3,7 @@ ghost use Rattle.std.specs.Prelude.{◌≡◌, ◌+◌, ◌^◌, ◌<◌, ◌≤
 ghost use Rattle.std.specs.List.{All};
 ghost use Rattle.allocative_graph.specs.Graph.{total as graph_total};
 ghost use Rattle.allocative_graph.specs.Sums.{entered, below as bytes_below};
-ghost use Rattle.allocative_graph.specs.Path.{key_cmp};
+ghost use Rattle.allocative_graph.specs.Path.{key_cmp, texts};
 ghost use Rattle.allocative_graph.specs.Visits.{IsProfile};
 ghost use Rattle.allocative_collectors.specs.Listed.{root_sum, put, total, path_at, map_of, IsEntered, IsAbove};
 ghost use Rattle.allocative_collectors.specs.Places.{AddedAt, TellsWhy};
@@ -159,9 +159,10 @@ impl Tree {
     ) -> Result<FlameGraph, Refusal>
         requires within { at < length self.now }
         requires fits { entered (map_of self.now) < 2 ^ 63 }
-        requires keys { map (λ k. k.now) keys.old.items ≡ path_at self.now at }
+        requires keys { texts keys.old.items ≡ path_at self.now at }
         ensures keys { OnOk result (keys.new.items ≡ keys.old.items) }
-        ensures made { IfOk result (MakesGraph self.now at (map warning_of warned.old.items) (map warning_of warned.new.items)) }
+        ensures made { IfOk result (MakesGraph self.now at
+            (map warning_of warned.old.items) (map warning_of warned.new.items)) }
         ensures err { IfErr result (λ e. e ≡ Refusal.Memory) }
     {
         if let Some(leaf) = self.leaf(at) {
@@ -359,7 +360,8 @@ fn find_in_list(nodes: &[Node], list: &[u32], key: &Key) -> Result<u32, usize>
 {
     match list.binary_search_by(
         |number: &u32| -> Ordering
-            ensures { result ≡ key_cmp (key_at (map shape nodes.entry.now) number.entry.now) key.entry.now }
+            ensures { result
+                ≡ key_cmp (key_at (map shape nodes.entry.now) number.entry.now) key.entry.now }
         { compare(nodes, *number, key) },
     ) {
         Ok(place) => Ok(list[place]),
@@ -377,7 +379,8 @@ fn find_in_chunks(nodes: &[Node], chunks: &[Chunk], key: &Key) -> Result<u32, Pl
 {
     let after = match chunks.binary_search_by(
         |chunk: &Chunk| -> Ordering
-            ensures { result ≡ key_cmp (key_at (map shape nodes.entry.now) chunk.entry.now.first) key.entry.now }
+            ensures { result
+                ≡ key_cmp (key_at (map shape nodes.entry.now) chunk.entry.now.first) key.entry.now }
         { compare(nodes, chunk.first, key) },
     ) {
         Ok(chunk) => return Ok(chunks[chunk].first),
@@ -419,7 +422,7 @@ fn push_warned(
     warned: &mut Vec<WarnedPath>,
 ) -> Result<(), AllocError>
     ensures { OnOk result (map warning_of warned.new.items ≡ map warning_of warned.old.items
-        ++ record { path = map (λ k. k.now) keys.now; self_size = bytes; children_size = below } ∷ []) }
+        ++ record { path = texts keys.now; self_size = bytes; children_size = below } ∷ []) }
 {
     let path = Vec::from_slice(*warned.allocator(), keys)?;
     warned.push(WarnedPath {

@@ -1,17 +1,14 @@
 -- What the walk of `write` has written so far.
-use Rattle.std.proofs.Common.{◌≡◌, ◌≢◌, ℕ, ◌+◌, ◌<◌, Bool, List, [], ◌∷◌, ◌++◌, map, take, length, get_or, Bor, cond}
+use Rattle.std.proofs.Common.{◌≡◌, ◌≢◌, ℕ, ◌+◌, ◌<◌, Bool, List, [], ◌∷◌, ◌++◌, take, length, get_or, Bor, cond}
 use Rattle.std.proofs.Common.{refl, sym, ap, ◌∙◌, append_assoc, arith, ◌-◌, length-append, append-nil, ne_eqb}
 use Rattle.allocative_graph.proofs.Common.{Graph, IsNode, node, Child, Key, Path, under_rows, rows_of, rows_of_child}
 use Rattle.allocative_graph.proofs.Common.{joined, joined_on, line_from, lines_below, entries, flat_map-append}
 use Rattle.std.specs.List.{join_by}
 use Rattle.std.proofs.Math.Seq.{take-append_seam}
+pub use Rattle.allocative_graph.specs.Path.{texts}
 use Rattle.allocative_graph.specs.Representation.PathRows.{size_text, lines_from, line_below}
 use Rattle.allocative_graph.proofs.ChildRows.{rows-more}
 use Rattle.allocative_graph.proofs.NodeAdded.{entries_of_node}
-
--- The texts of the keys.
-abbrev pub texts : List (Bor (List ℕ)) → List (List ℕ)
-texts ks = map (λ k. k.now) ks
 
 -- A path with a first key is that key and, after a `;` each, the others.
 pub joined-keys : (k : Key) (ks : Path) → joined (k ∷ ks) ≡ k ++ joined_on ks

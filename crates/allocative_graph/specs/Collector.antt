@@ -99,8 +99,7 @@ enter_again k n i c = plus_live c (Again k n i Empty)
 abbrev pub plus_holding : Holding → Forest → Holding
 plus_holding h f = record h { sum = h.sum + (held f + cond h.is_in_unique (inline_bytes f) 0) }
 
--- The bytes that an entry of n bytes adds: all of them if it is inline and directly in a unique entry, otherwise
--- none.
+-- The bytes that an entry of n bytes adds: all of them if it is inline and directly in a unique entry, otherwise none.
 abbrev pub held_bytes : Bool → Bool → ℕ → ℕ
 held_bytes is_in_unique is_unique n = cond is_in_unique (cond is_unique 0 n) 0
 

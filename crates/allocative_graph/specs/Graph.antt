@@ -21,6 +21,10 @@ size_at g p = unwrap_or (get g p) 0
 abbrev pub total : Graph → ℕ
 total g = sum_by (λ e. e.1) (entries g)
 
+-- The bytes of both graphs together exceed a word.
+abbrev pub ExceedWord : Graph → Graph → Type 0
+ExceedWord g h = 2 ^ 64 ≤ total g + total h
+
 -- Whether the first path is a prefix of the second one or equal to it.
 abbrev pub begins : Path → Path → Bool
 begins [] q = true

@@ -1,5 +1,6 @@
 -- Keys and paths, and their orders.
-use Rattle.std.specs.Prelude.{◌≡◌, ℕ, Bool, true, false, ◌&&◌, List, [], ◌∷◌, ◌++◌}
+use Rattle.std.specs.Prelude.{◌≡◌, ℕ, Bool, true, false, ◌&&◌, List, [], ◌∷◌, ◌++◌, map}
+use Rattle.std.specs.Borrow.{Bor}
 use Rattle.std.specs.declared.cmp.Ordering.TheVariants.{Less}
 use Rattle.std.specs.declared.cmp.Ordering.{Ordering}
 use Rattle.std.specs.Ordering.{nat_cmp, eq_by_cmp}
@@ -12,6 +13,10 @@ Key = List ℕ
 -- A path is the keys from the root on; the root's own path is empty.
 abbrev pub Path : Type 0
 Path = List Key
+
+-- The path whose keys are these texts of code.
+abbrev pub texts : List (Bor (List ℕ)) → Path
+texts ks = map (λ k. k.now) ks
 
 -- Keys are ordered by their bytes.
 abbrev pub key_cmp : Key → Key → Ordering

@@ -1,6 +1,6 @@
 -- What a text of collapsed stacks says, which line of it is none, and the graph that its lines add up to.
 use Rattle.std.specs.Prelude.{◌≡◌, ℕ, ◌+◌, ◌^◌, ◌<◌, ◌≤◌, ◌||◌, ◌==◌, Bool, not, cond, filter, List, [], ◌∷◌, ◌++◌}
-use Rattle.std.specs.Prelude.{length, Some, None, sum_by}
+use Rattle.std.specs.Prelude.{length, Some, None, sum_by, Result, IsErrOf}
 use Rattle.std.specs.Bool.{⊤}
 use Rattle.std.specs.List.{AllByRecursion, list_any, slice_split}
 use Rattle.std.specs.Str.Lines.{lines}
@@ -10,6 +10,8 @@ use Rattle.allocative_graph.specs.declared.read.TheConstants.{LEVELS}
 use Rattle.allocative_graph.specs.declared.read.Line.{Line}
 use Rattle.allocative_graph.specs.declared.read.LineFault.{LineFault}
 use Rattle.allocative_graph.specs.declared.read.LineFault.TheVariants.{NoSpace, NoPath, NoNumber, TooLarge, TooDeep}
+use Rattle.allocative_graph.specs.declared.read.ReadFault.{ReadFault}
+use Rattle.allocative_graph.specs.declared.read.ReadFault.TheVariants as faults
 use Rattle.allocative_graph.specs.Path.{Key, Path, is_same_path}
 use Rattle.allocative_graph.specs.Format.{semicolon, space}
 use Rattle.allocative_graph.specs.Graph.{Graph, size_at, total, begins, is_root, joined, text, Lacks, HasPlainKeys}
@@ -90,6 +92,10 @@ pub record IsFault (t : List ℕ) (number : ℕ) (w : LineFault) : Type 0 where
   pub some : 0 < length line
   pub wrong : IsWrong w line
   pub none : (s : Stack) → ¬ IsStack line s
+
+-- If a line is told as wrong, it is the first one of the text that is, and this is wrong with it.
+abbrev pub TellsFault : {A : Type 0} → List ℕ → Result A ReadFault → Type 0
+TellsFault t r = (n : ℕ) (w : LineFault) → IsErrOf r (faults.Line n w) → IsFault t n w
 
 -- ---- the graph
 -- The bytes of the stacks with the path p.

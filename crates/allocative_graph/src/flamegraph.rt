@@ -1,11 +1,11 @@
 //! Flame graphs: maps from paths of keys to sizes.
-ghost use Rattle.std.specs.Prelude.{◌≡◌, ◌+◌, ◌^◌, ◌<◌, ◌≤◌, ◌↔◌, ◌++◌, [], ◌∷◌, IfOk, IfErr, IfSome, IfNone, OnOk, OnErr, IsErrOf, MatchResult, string_bytes, map, length, is_ok};
+ghost use Rattle.std.specs.Prelude.{◌≡◌, ◌+◌, ◌^◌, ◌<◌, ◌≤◌, ◌↔◌, ◌++◌, [], ◌∷◌, IfOk, IfErr, IfSome, IfNone, OnOk, OnErr, IsErrOf, MatchResult, string_bytes, length, is_ok};
 ghost use Rattle.std.specs.Bool.{OnFalse};
 ghost use Rattle.std.specs.List.{insert};
 ghost use Rattle.std.specs.FinMap as map;
-ghost use Rattle.allocative_graph.specs.Path.{key_cmp};
-ghost use Rattle.allocative_graph.specs.Format.{semicolon};
-ghost use Rattle.allocative_graph.specs.Graph.{add_self, total, text, default, sum_of, under, joined, IsTree, IsPartOfSum};
+ghost use Rattle.allocative_graph.specs.Path.{key_cmp, texts};
+ghost use Rattle.allocative_graph.specs.Format.{semicolon, AppendsText, ReturnsText};
+ghost use Rattle.allocative_graph.specs.Graph.{add_self, total, text, default, sum_of, under, joined, ExceedWord, IsTree, IsPartOfSum};
 ghost use Rattle.allocative_graph.specs.Representation.PathRows.{size_text, lines_from, lines_below, HasRootAlone};
 ghost use Rattle.allocative_graph.specs.Reads.{AreChildren};
 ghost use Rattle.allocative_graph.specs.Representation.Node.{weight};
@@ -149,7 +149,7 @@ impl FlameGraph {
     #[tactic(auto, using(crate::proofs::NodeAdded::added_sum))]
     pub fn add(&mut self, other: FlameGraph) -> Result<(), Refusal>
         ensures sum { OnOk result (self.new ≡ sum_of self.old other) }
-        ensures too_large { IsErrOf result Refusal.TooLarge ↔ (2 ^ 64 ≤ total self.old + total other) }
+        ensures too_large { IsErrOf result Refusal.TooLarge ↔ ExceedWord self.old other }
         ensures unchanged { IsErrOf result Refusal.TooLarge → self.new ≡ self.old }
         ensures part { IsErrOf result Refusal.Memory → IsPartOfSum self.old other self.new }
         ensures never_open { ¬ (IsErrOf result Refusal.Open) }
@@ -170,9 +170,10 @@ impl FlameGraph {
     #[tactic(auto, using(crate::proofs::NodeAdded::total_of_node))]
     pub fn add_child(&mut self, key: Key, child: FlameGraph) -> Result<(), Refusal>
         ensures sum { OnOk result (self.new ≡ sum_of self.old (under key child)) }
-        ensures too_large { IsErrOf result Refusal.TooLarge ↔ (2 ^ 64 ≤ total self.old + total child) }
+        ensures too_large { IsErrOf result Refusal.TooLarge ↔ ExceedWord self.old child }
         ensures unchanged { IsErrOf result Refusal.TooLarge → self.new ≡ self.old }
-        ensures part { IsErrOf result Refusal.Memory → IsPartOfSum self.old (under key child) self.new }
+        ensures part { IsErrOf result Refusal.Memory
+            → IsPartOfSum self.old (under key child) self.new }
         ensures never_open { ¬ (IsErrOf result Refusal.Open) }
     {
         if child.total_size() > usize::MAX - self.total_size() {
@@ -235,7 +236,7 @@ impl FlameGraph {
     ///
     /// It returns an error only when memory runs out.
     pub fn write(&self) -> Result<String, Refusal>
-        ensures text { IfOk result (λ made. string_bytes made ≡ text self.now) }
+        ensures text { ReturnsText result (text self.now) }
         ensures memory { IfErr result (λ r. r ≡ Refusal.Memory) }
     {
         let alloc = *self.children.allocator();
@@ -248,9 +249,8 @@ impl FlameGraph {
     // Appends the lines of all paths but the root, each after the given start of a line.
     fn write_below(&self, start: &mut String, text: &mut String) -> Result<(), AllocError>
         ensures start { OnOk result (string_bytes start.new ≡ string_bytes start.old) }
-        ensures text { OnOk result
-            (string_bytes text.new
-            ≡ string_bytes text.old ++ lines_below (string_bytes start.old) (map.entries self.now)) }
+        ensures text { OnOk result (AppendsText text.old text.new
+            (lines_below (string_bytes start.old) (map.entries self.now))) }
     {
         let length = start.len();
         for child in &self.children {
@@ -312,7 +312,7 @@ impl Clone for FlameGraph {
 
 // Appends a path, and then the size that ends its line.
 fn push_line(path: &str, size: usize, text: &mut String) -> Result<(), AllocError>
-    ensures { OnOk result (string_bytes text.new ≡ string_bytes text.old ++ (path.now ++ size_text size)) }
+    ensures { OnOk result (AppendsText text.old text.new (path.now ++ size_text size)) }
 {
     let mut digits = Buffer::new();
     text.push_str(path)?;
@@ -327,7 +327,7 @@ fn push_line(path: &str, size: usize, text: &mut String) -> Result<(), AllocErro
 #[tactic(auto, using(crate::proofs::NodeText::joined_by_semicolons))]
 pub fn push_path(keys: &[&str], text: &mut String) -> Result<(), AllocError>
     ensures { MatchResult result
-        (λ _. string_bytes text.new ≡ string_bytes text.old ++ joined (map (λ k. k.now) keys.now))
+        (λ _. AppendsText text.old text.new (joined (texts keys.now)))
         (λ _. string_bytes text.new ≡ string_bytes text.old) }
 {
     let path = keys.join(*text.allocator(), ";")?;

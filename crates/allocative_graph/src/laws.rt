@@ -65,8 +65,7 @@ pub fn graph_sums_law()
     ensures { GraphSumsLaw }
 {}
 
-/// The graph of some sums has the root with 0 and exactly the paths of the sums, each with what remains of its
-/// bytes.
+/// The graph of some sums has the root with 0 and exactly the paths of the sums, each with what remains of its bytes.
 pub fn graph_law()
     ensures { GraphLaw }
 {}

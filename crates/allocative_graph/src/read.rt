@@ -1,10 +1,10 @@
 //! Reading the text of a flame graph: collapsed stacks, of this library or of any other profiler.
-ghost use Rattle.std.specs.Prelude.{◌≡◌, ◌^◌, ◌<◌, ◌↔◌, ℕ, IsTrue, IfOk, IfErr, IsErrOf, map, sum_by};
+ghost use Rattle.std.specs.Prelude.{◌≡◌, ◌^◌, ◌<◌, ◌↔◌, IsTrue, IfOk, IfErr, IsErrOf, map, sum_by};
 ghost use Rattle.std.specs.Option.{SomeIff};
 ghost use Rattle.std.specs.Str.Parse.{IsNumeral};
 ghost use Rattle.allocative_graph.specs.Graph.{default};
 ghost use Rattle.allocative_graph.specs.declared.read.ReadFault.TheVariants.{Memory};
-ghost use Rattle.allocative_graph.specs.Read.{line_stack, IsStack, IsWrong, Means, IsFault, IsRead, Exceeds, ReadsBack};
+ghost use Rattle.allocative_graph.specs.Read.{line_stack, IsStack, IsWrong, Means, IsRead, Exceeds, ReadsBack, TellsFault};
 ghost use Rattle.allocative_graph.specs.Representation.PathRows.{sum_of_stacks};
 
 use crate::flamegraph::{FlameGraph, add_at};
@@ -77,7 +77,7 @@ impl FlameGraph {
     /// the bytes of all lines together exceed `usize::MAX`. The only other error is that memory runs out.
     pub fn read(alloc: Global, text: &'static str) -> Result<FlameGraph, ReadFault>
         ensures graph { IfOk result (λ graph. IsRead text.now graph) }
-        ensures line { (n : ℕ) (w : LineFault) → IsErrOf result (ReadFault.Line n w) → IsFault text.now n w }
+        ensures line { TellsFault text.now result }
         ensures too_large { IsErrOf result ReadFault.TooLarge → Exceeds text.now }
         ensures reads_back { IfOk result (λ graph. ReadsBack text.now graph) }
     {
@@ -134,7 +134,7 @@ fn read_line(line: &'static str) -> Result<Line, LineFault>
 // Reads the lines of a text up to the first that is none. Blank lines are counted, and passed over.
 fn read_lines(alloc: Global, text: &'static str) -> Result<Vec<Line>, ReadFault>
     ensures ok { IfOk result (λ lines. Means text.now (map line_stack lines.items)) }
-    ensures line { (n : ℕ) (w : LineFault) → IsErrOf result (ReadFault.Line n w) → IsFault text.now n w }
+    ensures line { TellsFault text.now result }
     ensures fits { ¬ (IsErrOf result ReadFault.TooLarge) }
 {
     let mut lines = Vec::new(alloc);
@@ -155,7 +155,8 @@ fn read_lines(alloc: Global, text: &'static str) -> Result<Vec<Line>, ReadFault>
 // The bytes of all lines together, or `None` if they do not fit.
 #[tactic(auto, using(std::proofs::Common::take_all))]
 fn total_of(lines: &[Line]) -> Option<usize>
-    ensures { SomeIff result (sum_by (λ l. l.size) lines.now < 2 ^ 64) (sum_by (λ l. l.size) lines.now) }
+    ensures { SomeIff result
+        (sum_by (λ l. l.size) lines.now < 2 ^ 64) (sum_by (λ l. l.size) lines.now) }
 {
     let mut sum: usize = 0;
     for line in lines {

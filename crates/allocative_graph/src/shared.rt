@@ -13,8 +13,7 @@ pub use rc::IdRc;
 
 /// Tells shared values apart: two values with one identity count as one.
 ///
-/// It has a maker and a number. The maker, a `u64`, separates the identities of one `IdMaker` from those of
-/// another.
+/// It has a maker and a number. The maker, a `u64`, separates the identities of one `IdMaker` from those of another.
 #[derive(Clone, Copy, PartialEq, Eq, PartialOrd, Ord, Hash, Debug)]
 pub struct Identity {
     maker: u64,
@@ -109,8 +108,10 @@ impl IdMaker {
     /// The next identity: each has the number of the one before plus 1. Once the number `u64::MAX` was given,
     /// it always returns `None`.
     pub fn fresh(&mut self) -> Option<Identity>
-        ensures identity { result ≡ option_map (λ n. record { maker = self.old.maker; number = n }) self.old.next }
-        ensures next { self.new ≡ record self.old { next = option_and_then number_after self.old.next } }
+        ensures identity { result
+            ≡ option_map (λ n. record { maker = self.old.maker; number = n }) self.old.next }
+        ensures next { self.new
+            ≡ record self.old { next = option_and_then number_after self.old.next } }
     {
         let number = self.next?;
         self.next = number.checked_add(1);

@@ -25,7 +25,8 @@ fn bytes_alone(alloc: Global, size: usize) -> Result<FlameGraph, Refusal>
 
 // The bytes of an array without those of its items: 32 for itself, and 32 for each unused place.
 fn array_alone(alloc: Global, items: &Vec<Value>) -> Result<FlameGraph, Refusal>
-    ensures { Makes (bytes_alone (array_bytes (length items.now.items) (vec_capacity items.now))) result }
+    ensures { Makes
+        (bytes_alone (array_bytes (length items.now.items) (vec_capacity items.now))) result }
 {
     let places = 1 + (items.capacity() - items.len());
     match places.checked_mul(32) {
@@ -61,7 +62,8 @@ fn graph_of(alloc: Global, value: &'static Value) -> Result<FlameGraph, Refusal>
 // The fields of an array: all items together under `[]`.
 #[cycle(fields)]
 fn graph_of_items(alloc: Global, items: &'static Vec<Value>) -> Result<FlameGraph, Refusal>
-    ensures { Makes (sum_of_all (bytes_alone (array_bytes (length items.now.items) (vec_capacity items.now)))
+    ensures { Makes (sum_of_all
+        (bytes_alone (array_bytes (length items.now.items) (vec_capacity items.now)))
         (map item_of items.now.items)) result }
 {
     let mut graph = array_alone(alloc, items)?;

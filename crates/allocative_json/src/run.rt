@@ -58,7 +58,8 @@ pub(crate) fn write_text<W: Write>(output: &mut W, text: &str) -> io::Result<()>
 
 // Writes the line of a fault.
 fn write_line<E: Write>(errors: &mut E, start: &str, fault: Fault) -> io::Result<()>
-    ensures { AppendsBeginning (E.contents errors.old) (E.contents errors.new) (line_of start.now fault) }
+    ensures { AppendsBeginning (E.contents errors.old) (E.contents errors.new)
+        (line_of start.now fault) }
 {
     write_text(errors, start)?;
     write_text(errors, fault.message())?;

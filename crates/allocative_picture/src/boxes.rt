@@ -1,5 +1,6 @@
 //! The boxes of rows.
-ghost use Rattle.std.specs.Prelude.{◌≡◌, ◌+◌, ◌*◌, ◌^◌, ◌<◌, ◌++◌, Some, OnOk, string_bytes};
+ghost use Rattle.std.specs.Prelude.{◌≡◌, ◌+◌, ◌*◌, ◌^◌, ◌<◌, Some, OnOk};
+ghost use Rattle.allocative_graph.specs.Format.{AppendsText};
 ghost use Rattle.allocative_picture.specs.Rows.{row_data};
 ghost use Rattle.allocative_picture.specs.Boxes.{edge, left, width, is_drawn, figure_text, declared_text, title_text, frame, element};
 
@@ -116,7 +117,7 @@ impl fmt::Display for Figure<'_> {
 
 /// Appends the beginning of a row's box.
 fn push_frame(all: u128, row: &Row<'_>, text: &mut String) -> Result<(), AllocError>
-    ensures { OnOk result (string_bytes text.new ≡ string_bytes text.old ++ frame all (row_data row.now)) }
+    ensures { OnOk result (AppendsText text.old text.new (frame all (row_data row.now))) }
 {
     let units = width(all, row);
     let (class, fit) = (Class(*row), fit(units, row.key.len()));
@@ -139,7 +140,7 @@ pub(crate) fn push_element(
     row: &Row<'_>,
     text: &mut String,
 ) -> Result<(), AllocError>
-    ensures { OnOk result (string_bytes text.new ≡ string_bytes text.old ++ element all (row_data row.now)) }
+    ensures { OnOk result (AppendsText text.old text.new (element all (row_data row.now))) }
 {
     push_frame(all, row, text)?;
     let key = escaped(alloc, row.key)?;

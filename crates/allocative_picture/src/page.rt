@@ -1,5 +1,6 @@
 //! The parts of a picture around its boxes.
-ghost use Rattle.std.specs.Prelude.{◌≡◌, ◌++◌, ◌+◌, ◌*◌, ◌^◌, ◌<◌, ◌≤◌, Some, OnOk, string_bytes, map, flat_map};
+ghost use Rattle.std.specs.Prelude.{◌≡◌, ◌+◌, ◌*◌, ◌^◌, ◌<◌, ◌≤◌, Some, OnOk, map, flat_map};
+ghost use Rattle.allocative_graph.specs.Format.{AppendsText};
 ghost use Rattle.allocative_collectors.specs.Warned as held;
 ghost use Rattle.allocative_picture.specs.Rows.{row_data};
 ghost use Rattle.allocative_picture.specs.Boxes.{element};
@@ -84,7 +85,7 @@ pub(crate) fn levels(rows: &[Row<'_>]) -> u128
 /// Appends the beginning of a picture, with the style. Its height is in pixels.
 #[tactic(auto, unfolding(crate::specs::Page::opening))]
 pub(crate) fn push_opening(height: u128, text: &mut String) -> Result<(), AllocError>
-    ensures { OnOk result (string_bytes text.new ≡ string_bytes text.old ++ opening height) }
+    ensures { OnOk result (AppendsText text.old text.new (opening height)) }
 {
     write!(
         text,
@@ -103,8 +104,7 @@ pub(crate) fn push_heading(
     paths: usize,
     text: &mut String,
 ) -> Result<(), AllocError>
-    ensures { OnOk result
-        (string_bytes text.new ≡ string_bytes text.old ++ heading title.now subject drawn paths) }
+    ensures { OnOk result (AppendsText text.old text.new (heading title.now subject drawn paths)) }
 {
     let title = escaped(alloc, title)?;
     let narrow = paths.saturating_sub(drawn);
@@ -124,7 +124,7 @@ pub(crate) fn push_boxes(
     text: &mut String,
 ) -> Result<(), AllocError>
     ensures { OnOk result
-        (string_bytes text.new ≡ string_bytes text.old ++ flat_map (element all) (map row_data rows.now)) }
+        (AppendsText text.old text.new (flat_map (element all) (map row_data rows.now))) }
 {
     for row in rows {
         push_element(alloc, all, row, text)?;
@@ -139,7 +139,8 @@ fn push_warning(
     warned: &WarnedPath,
     text: &mut String,
 ) -> Result<(), AllocError>
-    ensures { OnOk result (string_bytes text.new ≡ string_bytes text.old ++ warning_line y (held.warning_of warned.now)) }
+    ensures { OnOk result
+        (AppendsText text.old text.new (warning_line y (held.warning_of warned.now))) }
 {
     let mut said = String::new(alloc);
     warned.push_warning(&mut said)?;
@@ -159,8 +160,8 @@ pub(crate) fn push_warnings(
     text: &mut String,
 ) -> Result<(), AllocError>
     requires { top < 2 ^ 80 }
-    ensures { OnOk result (string_bytes text.new ≡ string_bytes text.old
-        ++ warning_lines top (map held.warning_of warned.now)) }
+    ensures { OnOk result
+        (AppendsText text.old text.new (warning_lines top (map held.warning_of warned.now))) }
 {
     for (index, one) in warned.iter().enumerate() {
         push_warning(alloc, top + 16 * index as u128, one, text)?;

@@ -1,6 +1,7 @@
 //! The pictures of profiles and of changes.
-ghost use Rattle.std.specs.Prelude.{◌≡◌, ◌+◌, ◌^◌, ◌≤◌, ◌↔◌, IfOk, IfErr, IsErrOf, string_bytes, map};
-ghost use Rattle.allocative_graph.specs.Graph.{total};
+ghost use Rattle.std.specs.Prelude.{◌≡◌, ◌↔◌, IfErr, IsErrOf, map};
+ghost use Rattle.allocative_graph.specs.Format.{ReturnsText};
+ghost use Rattle.allocative_graph.specs.Graph.{ExceedWord};
 ghost use Rattle.allocative_picture.specs.Rows.{row_data, rows_of};
 ghost use Rattle.allocative_picture.specs.Marks.{mark_by};
 ghost use Rattle.allocative_picture.specs.Picture.{drawing, drawing_of, profile_drawing, change_drawing};
@@ -20,7 +21,7 @@ use std::alloc::{AllocError, Global};
 /// The root is at the top, and each path is below its parent. A box is as wide as the bytes of its path and of all
 /// paths below it. The only error is that memory runs out.
 pub fn picture(alloc: Global, graph: &FlameGraph, options: &Options<'_>) -> Result<String, Refusal>
-    ensures text { IfOk result (λ made. string_bytes made ≡ profile_drawing options.now graph.now) }
+    ensures text { ReturnsText result (profile_drawing options.now graph.now) }
     ensures memory { IfErr result (λ r. r ≡ Refusal.Memory) }
 {
     let subject = Subject::Profile {
@@ -43,8 +44,8 @@ pub fn change_picture(
     after: &FlameGraph,
     options: &Options<'_>,
 ) -> Result<String, Refusal>
-    ensures text { IfOk result (λ made. string_bytes made ≡ change_drawing options.now before.now after.now) }
-    ensures too_large { IsErrOf result Refusal.TooLarge ↔ (2 ^ 64 ≤ total before.now + total after.now) }
+    ensures text { ReturnsText result (change_drawing options.now before.now after.now) }
+    ensures too_large { IsErrOf result Refusal.TooLarge ↔ ExceedWord before.now after.now }
     ensures never_open { ¬ (IsErrOf result Refusal.Open) }
 {
     let subject = Subject::Change {
@@ -68,8 +69,8 @@ fn draw_graph(
     graph: &FlameGraph,
     options: &Options<'_>,
 ) -> Result<String, AllocError>
-    ensures { IfOk result
-        (λ made. string_bytes made ≡ drawing subject options.now (rows_of (mark_by marks other.now) graph.now)) }
+    ensures { ReturnsText result
+        (drawing subject options.now (rows_of (mark_by marks other.now) graph.now)) }
 {
     let shown = Shown {
         marks,
@@ -103,7 +104,7 @@ pub fn draw(
     rows: &[Row<'_>],
     options: &Options<'_>,
 ) -> Result<String, AllocError>
-    ensures { IfOk result (λ made. string_bytes made ≡ drawing subject options.now (map row_data rows.now)) }
+    ensures { ReturnsText result (drawing subject options.now (map row_data rows.now)) }
 {
     let mut wide = Vec::new(alloc);
     for row in rows {
@@ -120,7 +121,7 @@ fn draw_wide(
     paths: usize,
     options: &Options<'_>,
 ) -> Result<String, AllocError>
-    ensures { IfOk result (λ made. string_bytes made ≡ drawing_of subject options.now (map row_data rows.now) paths) }
+    ensures { ReturnsText result (drawing_of subject options.now (map row_data rows.now) paths) }
 {
     let bottom = 64 + 18 * levels(rows);
     let height = bottom + 8 + 16 * options.warned.len() as u128;

@@ -119,11 +119,10 @@ pub(crate) fn push_rows(
     ensures path { OnOk result (path.new.items ≡ path.old.items) }
     ensures before { OnOk result (before.new ≡ before.old + total graph.now) }
     ensures paths { OnOk result (paths.new ≡ paths.old + len graph.now) }
-    ensures rows { OnOk result
-        (map row_data rows.new.items
-        ≡ map row_data rows.old.items
+    ensures rows { OnOk result (map row_data rows.new.items ≡ map row_data rows.old.items
         ++ filter (is_drawn shown.now.least shown.now.all)
-        (rows_from (mark_by shown.now.marks shown.now.other.now) before.old (figures_behind (map (λ k. k.now) path.old.items) graph.now))) }
+        (rows_from (mark_by shown.now.marks shown.now.other.now) before.old
+        (figures_behind (map (λ k. k.now) path.old.items) graph.now))) }
 {
     let children = graph.children();
     let mark = shown.marks.of(other);

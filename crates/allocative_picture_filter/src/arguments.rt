@@ -61,8 +61,10 @@ impl fmt::Display for Misuse<'_> {
 
 // The argument that follows an option.
 fn value_of<'a>(option: &'a str, next: Option<&'a String>) -> Result<&'a str, Fault<'a>>
-    ensures ok { IfOk result (λ value. option_map (λ text. string_bytes text.now) next.entry ≡ Some value.now) }
-    ensures err { IfErr result (λ f. (next.entry ≡ None) × (f ≡ Fault.Arguments (Misuse.Incomplete option.entry))) }
+    ensures ok { IfOk result
+        (λ value. option_map (λ text. string_bytes text.now) next.entry ≡ Some value.now) }
+    ensures err { IfErr result
+        (λ f. (next.entry ≡ None) × (f ≡ Fault.Arguments (Misuse.Incomplete option.entry))) }
 {
     match next {
         Some(value) => Ok(value.as_str()),

@@ -170,8 +170,7 @@ fn make<'a, R: Read>(
     after: &[Text<'a>],
     input: &mut R,
 ) -> Result<String, Fault<'a>>
-    ensures ok { IfOk result
-        (λ made. IfSome (R.remaining input.old)
+    ensures ok { IfOk result (λ made. IfSome (R.remaining input.old)
         (λ known. IsMade asked.now before.now (later_texts after.now asked.now.reads_input known) (string_bytes made))) }
     ensures stops { IfErr result
         (λ f. IfSome (R.remaining input.old) (λ known. Stops asked.now before.now after.now known f)) }
@@ -217,12 +216,10 @@ pub fn run<'a, R: Read, W: Write, E: Write>(
     output: &mut W,
     errors: &mut E,
 ) -> u8
-    ensures made { result ≡ 0
-        → IfSome (R.remaining input.old)
+    ensures made { result ≡ 0 → IfSome (R.remaining input.old)
         (λ known. (made : List ℕ) × IsMade asked.now before.now (later_texts after.now asked.now.reads_input known) made
         × Appends (W.contents output.old) (W.contents output.new) made) }
-    ensures unwritten { result ≡ 7
-        → IfSome (R.remaining input.old)
+    ensures unwritten { result ≡ 7 → IfSome (R.remaining input.old)
         (λ known. (made : List ℕ) × IsMade asked.now before.now (later_texts after.now asked.now.reads_input known) made) }
     ensures stopped { result ≢ 0 → result ≢ 7
         → IfSome (R.remaining input.old) (λ known. IsStopped asked.now before.now after.now known result) }

@@ -57,17 +57,17 @@ pub record MapsAccount (tenant : List ℕ) (f : Holding → Holding) (old new : 
 
 -- In the tenant's account, the number now has these bytes in place of `had`, and all bytes of that account together
 -- are `total`.
-pub record Enters (tenant : List ℕ) (number bytes : ℕ) (had : Option ℕ) (total : ℕ) (old new : Ledger) : Type 0 where
+pub record Enters (tenant : List ℕ) (number bytes : ℕ) (had : Option ℕ) (old new : Ledger) (total : ℕ) : Type 0 where
   pub before : Holding
   pub after : Holding
   pub account : account_of tenant old ≡ Some before
-  pub puts : Puts number bytes had total before after
+  pub puts : Puts number bytes had before after total
   pub change : ChangesAccount tenant (Some after) old new
   pub all_is : total_of new + unwrap_or had 0 ≡ total_of old + bytes
 
 -- The number had these bytes in the tenant's account, and its entry is gone. The sum of the account, and that of all
 -- accounts, is less by exactly these bytes.
-pub record Releases (tenant : List ℕ) (number bytes : ℕ) (old new : Ledger) : Type 0 where
+pub record Releases (tenant : List ℕ) (number : ℕ) (old new : Ledger) (bytes : ℕ) : Type 0 where
   pub before : Holding
   pub account : account_of tenant old ≡ Some before
   pub had_bytes : bytes_at number before ≡ Some bytes
@@ -75,9 +75,8 @@ pub record Releases (tenant : List ℕ) (number bytes : ℕ) (old new : Ledger) 
   pub change : ChangesAccount tenant (Some (without number before)) old new
   pub all_is : total_of new + bytes ≡ total_of old
 
--- Replacing the `had` bytes of one entry of this account by `bytes` is rejected. The new sum of all accounts exceeds
--- a word, or the account rejects it, or its new sum is within its limit and that of all accounts exceeds the
--- ledger's.
+-- Replacing the `had` bytes of one entry of this account by `bytes` is rejected. The new sum of all accounts exceeds a
+-- word, or the account rejects it, or its new sum is within its limit and that of all accounts exceeds the ledger's.
 abbrev pub RejectsPut : Ledger → ℕ → ℕ → Holding → Rejection → Type 0
 RejectsPut l had bytes h TooLarge = 2 ^ 64 + had ≤ total_of l + bytes
 RejectsPut l had bytes h (LedgerFull b n) = (b + had ≡ total_of l + bytes) × (n ≡ limit_of l) × (limit_of l < b)

@@ -19,6 +19,10 @@ pub record Changed : Type 0 where
 abbrev pub change_data : Change → Changed
 change_data c = record { path = map (λ k. k.now) c.path.items; earlier = c.earlier; later = c.later }
 
+-- What the changes of a list say.
+abbrev pub data_of : List Change → List Changed
+data_of cs = map change_data cs
+
 -- The change of a path from g to h. There is none if its bytes are the same in both.
 abbrev pub change_of : Graph → Graph → Path → List Changed
 change_of g h p =

@@ -33,6 +33,10 @@ bytes_of es = sum_by (λ k. k.bytes) (values_of es)
 abbrev pub value_at : {K V : Type 0} → (K → Bool) → Entries K V → Option V
 value_at test es = option_map (λ k. k.value) (lookup test es)
 
+-- The key that passes the test, with its value.
+abbrev pub entry_at : {K V : Type 0} → (K → Bool) → Entries K V → Option (K × V)
+entry_at test es = option_map (λ e. (e.0, e.1.value)) (lookup_entry test es)
+
 -- The key that the list stores for this one: an equal key that is there already, or the key itself.
 abbrev pub stored_key : {K V : Type 0} → (K → K → Bool) → K → Entries K V → K
 stored_key eq key es = option_map_or (λ e. e.0) (lookup_entry (eq key) es) key

@@ -57,7 +57,7 @@ IsSummed bytes h = (bytes ≡ sum_of h.entries) × (bytes ≤ h.limit) × (bytes
 
 -- The number now has these bytes in place of `had`. All bytes of the account together are `total`, which is within
 -- its limit.
-pub record Puts (number bytes : ℕ) (had : Option ℕ) (total : ℕ) (old new : Holding) : Type 0 where
+pub record Puts (number bytes : ℕ) (had : Option ℕ) (old new : Holding) (total : ℕ) : Type 0 where
   pub had_bytes : bytes_at number old ≡ had
   pub is : new ≡ with_bytes number bytes total old
   pub total_is : total + unwrap_or had 0 ≡ sum_of old.entries + bytes

@@ -1,11 +1,11 @@
 //! A cache bounded by declared bytes. Contracts see it as its `entries`, the most recently used first, its `bound` and
 //! its `measure`.
-ghost use Rattle.std.specs.Prelude.{◌≡◌, ◌+◌, ◌-◌, ◌^◌, ◌≤◌, Some, [], ◌∷◌, length, OnOk, OnErr, IfOk, IfErr, IfNone, MatchBool, Err, None, option_copied, ◌↔◌, IsTrue, is_some, option_map};
+ghost use Rattle.std.specs.Prelude.{◌≡◌, ◌+◌, ◌-◌, ◌^◌, ◌≤◌, Some, [], ◌∷◌, length, OnOk, OnErr, IfOk, IfErr, IfNone, MatchBool, Err, None, option_copied, ◌↔◌, IsTrue, is_some};
 ghost use Rattle.std.specs.Borrow.{sem};
 ghost use Rattle.std.specs.List.{IsDistinct};
 ghost use Rattle.std.specs.Map.{lookup_entry, remove_entry, keys_of};
 ghost use Rattle.std.specs.Map.Iter.{ShowsInOrder, deref_pair};
-ghost use Rattle.allocative_service.specs.Entries.{bytes_of, KeepsRecent, bounded, with_entries, IsBounded, Inserts, Changes, IsFigure, RefusesInsert, RefusesChange, stored_key, value_at, used, without, ends_as, step_of, ChangesTo};
+ghost use Rattle.allocative_service.specs.Entries.{bytes_of, KeepsRecent, bounded, with_entries, IsBounded, Inserts, Changes, IsFigure, RefusesInsert, RefusesChange, stored_key, entry_at, value_at, used, without, ends_as, step_of, ChangesTo};
 
 pub mod error;
 
@@ -61,8 +61,8 @@ fn put<K: Eq + Hash + Drop, V: Drop>(
     ensures first { OnOk result (entries.new.entries
         ≡ (stored_key K.eq key entries.old.entries, kept) ∷ remove_entry (K.eq key) entries.old.entries) }
     ensures had { IfOk result (λ had. had.0 ≡ value_at (K.eq key) entries.old.entries) }
-    ensures bytes { IfOk result (λ had. bytes_of (remove_entry (K.eq key) entries.old.entries) + had.1
-        ≡ bytes_of entries.old.entries) }
+    ensures bytes { IfOk result (λ had.
+        bytes_of (remove_entry (K.eq key) entries.old.entries) + had.1 ≡ bytes_of entries.old.entries) }
     ensures capacity { entries.new.cap ≡ entries.old.cap }
     ensures returned { IfErr result (λ failed. failed.value ≡ (key, kept)) }
     ensures err { OnErr result (entries.new ≡ entries.old) }
@@ -86,7 +86,8 @@ fn evict<K: Eq + Hash, V: Drop, F: FnMut(K, V)>(
 ) -> usize
     requires callable { F.IsAlwaysCallable on_evict }
     requires bytes { bytes ≡ bytes_of entries.old.entries }
-    ensures recent { KeepsRecent (step_of F.step) on_evict room entries.old.entries entries.new.entries }
+    ensures recent { KeepsRecent (step_of F.step)
+        on_evict room entries.old.entries entries.new.entries }
     ensures bytes { result ≡ bytes_of entries.new.entries }
     ensures fits { result ≤ room }
     ensures capacity { entries.new.cap ≡ entries.old.cap }
@@ -177,7 +178,7 @@ impl<K: Eq + Hash + Drop, V: Allocative + Described> BoundedCache<K, V> {
     /// Removes the key and returns it with its value. If there is no such key, it returns None and nothing changes.
     #[tactic(auto, using(crate::proofs::Using::removing))]
     pub fn remove(&mut self, key: &K) -> Option<(K, V)>
-        ensures value { result ≡ option_map (λ e. (e.0, e.1.value)) (lookup_entry (K.eq key.now) self.old.entries) }
+        ensures value { result ≡ entry_at (K.eq key.now) self.old.entries }
         ensures others { self.new ≡ without (K.eq key.now) self.old }
         ensures unchanged { IfNone result (self.new ≡ self.old) }
         ensures bounded { IsBounded V.size V.may_show self.new }
@@ -199,7 +200,8 @@ impl<K: Eq + Hash + Drop, V: Allocative + Described> BoundedCache<K, V> {
     /// `on_evict` with its key, the least recently used first.
     pub fn set_bound<F: FnMut(K, V)>(&mut self, bound: usize, on_evict: F)
         requires { F.IsAlwaysCallable on_evict }
-        ensures recent { KeepsRecent (step_of F.step) on_evict bound self.old.entries self.new.entries }
+        ensures recent { KeepsRecent (step_of F.step)
+            on_evict bound self.old.entries self.new.entries }
         ensures set { self.new ≡ bounded self.new.entries bound self.old.measure }
         ensures bounded { IsBounded V.size V.may_show self.new }
     {

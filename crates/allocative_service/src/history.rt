@@ -1,9 +1,9 @@
 //! The last profiles of a service.
-ghost use Rattle.std.specs.Prelude.{◌≡◌, ◌+◌, ◌^◌, ◌≤◌, ◌↔◌, [], OnOk, OnErr, IfOk, IfErr, IsErrOf, IsSomeAnd, length, map, option_map};
+ghost use Rattle.std.specs.Prelude.{◌≡◌, ◌+◌, ◌^◌, ◌≤◌, ◌↔◌, [], OnOk, OnErr, IfOk, IfErr, IsErrOf, IsSomeAnd, length, option_map};
 ghost use Rattle.std.specs.Map.Iter.{deref_pair};
 ghost use Rattle.allocative.specs.Exact.{MayRefuseProfile};
 ghost use Rattle.allocative.specs.Graph.{total};
-ghost use Rattle.allocative_service.specs.Changes.{change_data, changes_of};
+ghost use Rattle.allocative_service.specs.Changes.{data_of, changes_of};
 ghost use Rattle.allocative_service.specs.History.{profiles_of, most_of, two_of, Keeps, TakesProfile, GrewMostBetween};
 
 pub mod changes;
@@ -89,7 +89,7 @@ impl History {
         earlier: usize,
         later: usize,
     ) -> Result<Option<Vec<Change>>, Refusal>
-        ensures changes { IfOk result (λ found. option_map (λ changes. map change_data changes.items) found
+        ensures changes { IfOk result (λ found. option_map (λ changes. data_of changes.items) found
             ≡ option_map (λ pair. changes_of pair.0 pair.1) (two_of self.now earlier later)) }
         ensures too_large { IsErrOf result Refusal.TooLarge
             ↔ IsSomeAnd (two_of self.now earlier later) (λ pair. 2 ^ 64 ≤ total pair.0 + total pair.1) }
@@ -106,7 +106,7 @@ impl History {
     /// It is None if there are fewer than two profiles. The errors are those of `between`.
     pub fn grew_most(&self, alloc: Global, count: usize) -> Result<Option<Vec<Change>>, Refusal>
         ensures grew { IfOk result (λ top. GrewMostBetween count (two_of self.now 1 0)
-            (option_map (λ changes. map change_data changes.items) top)) }
+            (option_map (λ changes. data_of changes.items) top)) }
         ensures too_large { IsErrOf result Refusal.TooLarge
             ↔ IsSomeAnd (two_of self.now 1 0) (λ pair. 2 ^ 64 ≤ total pair.0 + total pair.1) }
         ensures never_open { ¬ (IsErrOf result Refusal.Open) }

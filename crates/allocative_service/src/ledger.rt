@@ -125,8 +125,10 @@ impl Ledger {
     /// The error is `NoAccount` exactly if the tenant has no account, and otherwise `OverBudget` exactly if the bytes
     /// of all its entries exceed the new limit. After an error all accounts are unchanged.
     pub fn set_budget(&mut self, tenant: &str, budget: Budget) -> Result<(), Rejection>
-        ensures set { OnOk result (MapsAccount tenant.now (with_limit budget.limit) self.old self.new) }
-        ensures rejected { IfErr result (RejectsIn (RejectsLimit budget.limit) (account_of tenant.now self.old)) }
+        ensures set { OnOk result
+            (MapsAccount tenant.now (with_limit budget.limit) self.old self.new) }
+        ensures rejected { IfErr result
+            (RejectsIn (RejectsLimit budget.limit) (account_of tenant.now self.old)) }
         ensures unchanged { OnErr result (IsUnchanged self.old self.new) }
     {
         let Some(account) = self.accounts.get_mut(tenant) else {
@@ -138,7 +140,8 @@ impl Ledger {
     /// Replaces the soft limit of a tenant, which refuses nothing: `is_over` says if the tenant has more bytes. It
     /// returns None if the tenant has no account, and then nothing changes.
     pub fn set_soft_limit(&mut self, tenant: &str, bytes: usize) -> Option<()>
-        ensures set { OnSome result (MapsAccount tenant.now (with_soft_limit bytes) self.old self.new) }
+        ensures set { OnSome result
+            (MapsAccount tenant.now (with_soft_limit bytes) self.old self.new) }
         ensures none { IfNone result (account_of tenant.now self.old ≡ None) }
         ensures unchanged { IfNone result (IsUnchanged self.old self.new) }
     {
@@ -214,7 +217,7 @@ impl Ledger {
     ) -> Result<usize, Rejection>
         ensures admitted { IfOk result
             (λ total. (bytes : ℕ) × Declares (measure_of self.old) T.size (T.may_show value.now) bytes
-            × Enters tenant.now number bytes None total self.old self.new) }
+            × Enters tenant.now number bytes None self.old self.new total) }
         ensures rejected { IfErr result (RejectsIn
             (RejectsNew number (RejectsMeasured (measure_of self.old) T.is_exact T.size (T.may_show value.now)
             (RejectsPut self.old 0))) (account_of tenant.now self.old)) }
@@ -238,7 +241,7 @@ impl Ledger {
     ) -> Result<usize, Rejection>
         ensures measured { IfOk result
             (λ total. (bytes : ℕ) × (had : ℕ) × Declares (measure_of self.old) T.size (T.may_show value.now) bytes
-            × Enters tenant.now number bytes (Some had) total self.old self.new) }
+            × Enters tenant.now number bytes (Some had) self.old self.new total) }
         ensures rejected { IfErr result (RejectsIn
             (RejectsChange number (λ had. RejectsMeasured (measure_of self.old) T.is_exact T.size (T.may_show value.now)
             (RejectsPut self.old had))) (account_of tenant.now self.old)) }
@@ -253,7 +256,7 @@ impl Ledger {
     /// measured. It returns the bytes of all entries of the tenant. The errors are those of `admit` but `NotMeasured`.
     /// After an error all accounts are unchanged.
     pub fn record(&mut self, tenant: &str, number: u64, bytes: usize) -> Result<usize, Rejection>
-        ensures recorded { IfOk result (λ total. Enters tenant.now number bytes None total self.old self.new) }
+        ensures recorded { IfOk result (Enters tenant.now number bytes None self.old self.new) }
         ensures rejected { IfErr result
             (RejectsIn (RejectsNew number (RejectsPut self.old 0 bytes)) (account_of tenant.now self.old)) }
         ensures unchanged { OnErr result (IsUnchanged self.old self.new) }
@@ -267,7 +270,7 @@ impl Ledger {
     /// `NotMeasured`. After an error all accounts are unchanged.
     pub fn charge(&mut self, tenant: &str, number: u64, more: usize) -> Result<usize, Rejection>
         ensures charged { IfOk result
-            (λ total. (had : ℕ) × Enters tenant.now number (had + more) (Some had) total self.old self.new) }
+            (λ total. (had : ℕ) × Enters tenant.now number (had + more) (Some had) self.old self.new total) }
         ensures rejected { IfErr result
             (RejectsIn (RejectsChange number (λ had. RejectsPut self.old had (had + more)))
             (account_of tenant.now self.old)) }
@@ -288,7 +291,7 @@ impl Ledger {
     /// all accounts are unchanged.
     pub fn credit(&mut self, tenant: &str, number: u64, less: usize) -> Result<usize, Rejection>
         ensures credited { IfOk result (λ total. (had : ℕ) × (bytes : ℕ) × (bytes + less ≡ had)
-            × Enters tenant.now number bytes (Some had) total self.old self.new) }
+            × Enters tenant.now number bytes (Some had) self.old self.new total) }
         ensures rejected { IfErr result
             (RejectsIn (RejectsChange number (RejectsCredit less)) (account_of tenant.now self.old)) }
         ensures unchanged { OnErr result (IsUnchanged self.old self.new) }
@@ -304,7 +307,7 @@ impl Ledger {
     /// None and nothing changes.
     pub fn release(&mut self, tenant: &str, number: u64) -> Option<usize>
         ensures value { result ≡ entry_of tenant.now number self.old }
-        ensures released { IfSome result (λ bytes. Releases tenant.now number bytes self.old self.new) }
+        ensures released { IfSome result (Releases tenant.now number self.old self.new) }
         ensures unchanged { IfNone result (IsUnchanged self.old self.new) }
     {
         let account = self.accounts.get_mut(tenant)?;
@@ -335,9 +338,10 @@ impl Ledger {
         bytes: usize,
     ) -> Result<usize, Rejection>
         requires { had ≡ unwrap_or (entry_of tenant.now number self.old) 0 }
-        ensures put { IfOk result (λ total.
-            Enters tenant.now number bytes (entry_of tenant.now number self.old) total self.old self.new) }
-        ensures rejected { IfErr result (RejectsIn (RejectsPut self.old had bytes) (account_of tenant.now self.old)) }
+        ensures put { IfOk result
+            (Enters tenant.now number bytes (entry_of tenant.now number self.old) self.old self.new) }
+        ensures rejected { IfErr result
+            (RejectsIn (RejectsPut self.old had bytes) (account_of tenant.now self.old)) }
         ensures unchanged { OnErr result (IsUnchanged self.old self.new) }
     {
         let all = self.check(tenant, had, bytes)?;
@@ -354,8 +358,10 @@ impl Ledger {
     /// if those of the tenant exceed its limit, and otherwise `LedgerFull` if they exceed the limit of the ledger.
     fn check(&self, tenant: &str, had: usize, bytes: usize) -> Result<usize, Rejection>
         requires { IfSome (account_of tenant.now self.now) (λ h. had ≤ sum_of h.entries) }
-        ensures all { IfOk result (λ all. (all + had ≡ total_of self.now + bytes) × (all ≤ limit_of self.now)) }
-        ensures rejected { IfErr result (RejectsIn (RejectsPut self.now had bytes) (account_of tenant.now self.now)) }
+        ensures all { IfOk result
+            (λ all. (all + had ≡ total_of self.now + bytes) × (all ≤ limit_of self.now)) }
+        ensures rejected { IfErr result
+            (RejectsIn (RejectsPut self.now had bytes) (account_of tenant.now self.now)) }
     {
         let account = self.account(tenant)?;
         let Some(all) = (self.bytes - had).checked_add(bytes) else {

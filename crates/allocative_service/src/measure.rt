@@ -29,7 +29,8 @@ impl Measure {
         value: &T,
     ) -> Result<usize, Refusal>
         ensures measured { IfOk result (Declares self T.size (T.may_show value.now)) }
-        ensures refused { IfErr result (MayRefuseMeasure self T.is_exact T.size (T.may_show value.now)) }
+        ensures refused { IfErr result
+            (MayRefuseMeasure self T.is_exact T.size (T.may_show value.now)) }
     {
         match self {
             Measure::Owned => size_of_owned(value),

@@ -1,6 +1,6 @@
 -- What a request does to the ledger, to the pages and to the profiles of the service, and what is said of it.
 use Rattle.std.specs.Prelude.{◌≡◌, ◌⊎◌, ℕ, ◌+◌, ◌-◌, Bool, true, List, [], ◌∷◌, ◌++◌, ◌==◌, Option, Some, None}
-use Rattle.std.specs.Prelude.{option_map, Result, Ok, Err, IfOk, OnOk, IsErr, MatchOption, MatchResult, String}
+use Rattle.std.specs.Prelude.{option_map, Result, Ok, Err, OnOk, IsErr, MatchOption, MatchResult, String}
 use Rattle.std.specs.Prelude.{string_bytes, string_eq, length, codes, decimal, ⊤}
 use Rattle.std.specs.Global.{Global}
 use Rattle.std.specs.List.{slice_split}
@@ -21,8 +21,9 @@ use Rattle.allocative_service.specs.declared.history.History.{History}
 use Rattle.allocative_service.specs.declared.ledger.Ledger.{Ledger}
 use Rattle.allocative_service.specs.declared.ledger.rejection.Rejection.{Rejection}
 use Rattle.allocative_service.specs.declared.ledger.rejection.Rejection.TheVariants.{NoAccount}
-use Rattle.example_service.specs.Lines.{BeginsWith, IsChangePicture, IsMost, IsPicture, IsReport, IsToldAs, bill_of}
-use Rattle.example_service.specs.Lines.{closed_line, entered_line, list_of, peak_line, profiles_line, released_line}
+use Rattle.example_service.specs.Lines.{BeginsWith, IfText, IsChangePicture, IsMost, IsPicture, IsReport, IsToldAs}
+use Rattle.example_service.specs.Lines.{ReturnsText, bill_of, closed_line, entered_line, list_of, peak_line}
+use Rattle.example_service.specs.Lines.{profiles_line, released_line}
 use Rattle.example_service.specs.declared.documents.Note.{Note}
 use Rattle.example_service.specs.declared.documents.Order.{Order}
 use Rattle.example_service.specs.declared.request.Draft.{Draft}
@@ -44,7 +45,7 @@ RejectsDocument tenant key old is_exact size p r = MatchOption (entry_of tenant 
 -- of the tenant are `total`. The document is of a type with this declared size, and may show what p allows.
 abbrev pub EntersDocument : List ℕ → ℕ → Option ℕ → Showing → ℕ → Ledger → Ledger → Type 0
 EntersDocument tenant key size p total old new = (bytes : ℕ) × (had : Option ℕ)
-    × Declares (measure_of old) size p bytes × Enters tenant key bytes had total old new
+    × Declares (measure_of old) size p bytes × Enters tenant key bytes had old new total
 
 -- The note has the tenant's name, the key and the text, in strings of any capacity.
 abbrev pub IsNote : List ℕ → ℕ → List ℕ → Note → Type 0
@@ -95,18 +96,17 @@ ResetsPeak tenant old new =
 -- The bytes under the key are gone. If there were none, the ledger is unchanged.
 abbrev pub ReleasesDocument : List ℕ → ℕ → Ledger → Ledger → Type 0
 ReleasesDocument tenant key old new = ((entry_of tenant key old ≡ None) × IsUnchanged old new)
-    ⊎ ((bytes : ℕ) × Releases tenant key bytes old new)
+    ⊎ ((bytes : ℕ) × Releases tenant key old new bytes)
 
 module _ {E : Type 0} (result : Result (String Global) E) (old new : Ledger) where
   -- The request is rejected, as P says, and the ledger is unchanged. The text tells the rejection. Where memory runs
   -- out, an error is returned.
   abbrev pub IsRejected : (Rejection → Type 0) → Type 0
-  IsRejected P =
-      (r : Rejection) × P r × IfOk result (λ text. IsToldAs r (string_bytes text)) × IsUnchanged old new
+  IsRejected P = (r : Rejection) × P r × IfText result (IsToldAs r) × IsUnchanged old new
 
   -- Nothing is said.
   abbrev pub IsSilent : Type 0
-  IsSilent = IfOk result (λ text. string_bytes text ≡ [])
+  IsSilent = ReturnsText result []
 
   -- An account is opened, or that is rejected.
   abbrev pub AnswersOpen : List ℕ → ℕ → Type 0
@@ -131,8 +131,8 @@ module _ {E : Type 0} (result : Result (String Global) E) (old new : Ledger) whe
 
   -- The text is the line of all bytes of the tenant, after its entry under the key has these bytes in place of `had`.
   abbrev pub TellsEntry : List ℕ → ℕ → ℕ → Option ℕ → Type 0
-  TellsEntry tenant key bytes had = (total : ℕ) × Enters tenant key bytes had total old new
-      × IfOk result (λ text. string_bytes text ≡ entered_line tenant total)
+  TellsEntry tenant key bytes had = (total : ℕ) × Enters tenant key bytes had old new total
+      × ReturnsText result (entered_line tenant total)
 
   -- An entry of so many bytes is added, or that is rejected.
   abbrev pub AnswersAttach : List ℕ → ℕ → ℕ → Type 0
@@ -158,7 +158,7 @@ module _ {E : Type 0} (result : Result (String Global) E) (old new : Ledger) whe
   PutsDocument tenant key is_exact size p = (IsErr result × IsUnchanged old new)
       ⊎ (IsRejected (RejectsDocument tenant key old is_exact size p)
       ⊎ ((total : ℕ) × EntersDocument tenant key size p total old new
-      × IfOk result (λ text. BeginsWith (entered_line tenant total) (string_bytes text))))
+      × IfText result (BeginsWith (entered_line tenant total))))
 
   -- A document is made of the draft and entered, or that is rejected. If memory runs out before that, the ledger is
   -- unchanged and an error is returned.

@@ -1,5 +1,5 @@
 //! A service that keeps documents of its tenants, within a limit for each, and says what it holds.
-ghost use Rattle.std.specs.Prelude.{◌≡◌, ◌++◌, [], MatchOption, IfErr, IfOk, OnErr, OnOk, codes, is_some, length};
+ghost use Rattle.std.specs.Prelude.{◌≡◌, [], MatchOption, IfErr, IfOk, OnErr, OnOk, codes, is_some, length};
 ghost use Rattle.std.specs.Prelude.{option_map, string_bytes, string_eq};
 ghost use Rattle.allocative_service.specs.Accounts.{IsUnchanged, account_of, entry_of};
 ghost use Rattle.allocative_service.specs.Entries.{with_entries, without};
@@ -10,9 +10,10 @@ ghost use Rattle.example_service.specs.Answers.{AnswersText, AnswersWhole, Close
 ghost use Rattle.example_service.specs.Answers.{LosesPage, LosesPagesOf, PutsDocument, PutsDraft, PutsPage, PutsPageOf};
 ghost use Rattle.example_service.specs.Answers.{RejectsDocument, ReleasesDocument, ResetsPeak, SetsBound, TakesOrFails};
 ghost use Rattle.example_service.specs.Answers.{TakesPage, UsesPage};
-ghost use Rattle.example_service.specs.Lines.{BeginsWith, IsChangePicture, IsMost, IsPicture, IsReport, IsToldAs};
-ghost use Rattle.example_service.specs.Lines.{account_line, account_lines, bill_of, closed_line, entered_line, list_of};
-ghost use Rattle.example_service.specs.Lines.{over_mark, peak_line, profiles_line, released_line};
+ghost use Rattle.example_service.specs.Lines.{AppendsText, BeginsWith, IfText, IsChangePicture, IsMost, IsPicture};
+ghost use Rattle.example_service.specs.Lines.{IsReport, IsToldAs, ReturnsText, account_line, account_lines, bill_of};
+ghost use Rattle.example_service.specs.Lines.{closed_line, entered_line, list_of, over_mark, peak_line, profiles_line};
+ghost use Rattle.example_service.specs.Lines.{released_line};
 
 use crate::documents::{Document, HasDocuments, Held, Note, Order};
 use crate::request::{Draft, Request};
@@ -77,12 +78,12 @@ impl Service {
     pub fn answer(&mut self, request: &Request<'_>) -> Result<String>
         ensures ledger { AnswersLedger result self.old.ledger self.new.ledger
             ⟦<Held as HasDocuments>⟧.documents request.now }
-        ensures pages { AnswersPages result self.old.pages self.new.pages self.old.ledger self.new.ledger
-            ⟦<Held as HasDocuments>⟧.documents request.now }
+        ensures pages { AnswersPages result self.old.pages self.new.pages
+            self.old.ledger self.new.ledger ⟦<Held as HasDocuments>⟧.documents request.now }
         ensures history { AnswersHistory result self.old.history self.new.history
             (⟦<Held as Allocative>⟧.may_show self.old.held) request.now }
-        ensures text { IfOk result (λ text. AnswersText self.old.ledger self.old.pages self.new.history
-            (string_bytes text) request.now) }
+        ensures text { IfText result (λ text.
+            AnswersText self.old.ledger self.old.pages self.new.history text request.now) }
     {
         match *request {
             Request::Open(tenant, limit) => self.open(tenant, limit),
@@ -198,9 +199,8 @@ impl Service {
         ensures ledger { ResetsPeak tenant.now self.old.ledger self.new.ledger }
         ensures pages { self.new.pages ≡ self.old.pages }
         ensures history { self.new.history ≡ self.old.history }
-        ensures text { IfOk result
-            (λ text. string_bytes text
-            ≡ peak_line tenant.now (option_map (λ h. h.peak) (account_of tenant.now self.old.ledger))) }
+        ensures text { ReturnsText result (peak_line tenant.now
+            (option_map (λ h. h.peak) (account_of tenant.now self.old.ledger))) }
     {
         let peak = self.ledger.reset_peak(tenant);
         Ok(tell_peak(self.alloc, tenant, peak)?)
@@ -210,7 +210,8 @@ impl Service {
     fn put(&mut self, tenant: &str, key: u64, draft: Draft<'_>) -> Result<String>
         ensures ledger { PutsDraft result self.old.ledger self.new.ledger
             ⟦<Held as HasDocuments>⟧.documents tenant.now key draft.entry }
-        ensures pages { PutsPage result self.old.pages self.new.pages self.old.ledger self.new.ledger
+        ensures pages { PutsPage result self.old.pages self.new.pages
+            self.old.ledger self.new.ledger
             ⟦<Held as HasDocuments>⟧.documents tenant.now key draft.entry }
         ensures history { self.new.history ≡ self.old.history }
     {
@@ -230,8 +231,8 @@ impl Service {
     fn put_document<D: Document>(&mut self, tenant: &str, key: u64, document: D) -> Result<String>
         ensures ledger { PutsDocument result self.old.ledger self.new.ledger
             tenant.now key D.is_exact D.size (D.may_show document) }
-        ensures pages { PutsPageOf result self.old.pages self.new.pages self.old.ledger self.new.ledger
-            tenant.now key D.size (D.may_show document) }
+        ensures pages { PutsPageOf result self.old.pages self.new.pages
+            self.old.ledger self.new.ledger tenant.now key D.size (D.may_show document) }
         ensures history { self.new.history ≡ self.old.history }
     {
         let place = self.place_of(tenant, key)?;
@@ -304,8 +305,8 @@ impl Service {
         ensures ledger { ReleasesDocument tenant.now key self.old.ledger self.new.ledger }
         ensures pages { LosesPage result self.old.pages self.new.pages tenant.now key }
         ensures history { self.new.history ≡ self.old.history }
-        ensures text { IfOk result (λ text. string_bytes text
-            ≡ released_line tenant.now key (entry_of tenant.now key self.old.ledger)) }
+        ensures text { ReturnsText result
+            (released_line tenant.now key (entry_of tenant.now key self.old.ledger)) }
     {
         let bytes = self.ledger.release(tenant, key);
         let text = tell_released(self.alloc, tenant, key, bytes)?;
@@ -316,11 +317,12 @@ impl Service {
     /// Closes the account of a tenant, and drops its documents.
     fn close(&mut self, tenant: &str) -> Result<String>
         ensures ledger { ClosesAccount tenant.now self.old.ledger self.new.ledger }
-        ensures pages { MatchOption (account_of tenant.now self.old.ledger) (self.new.pages ≡ self.old.pages)
+        ensures pages { MatchOption (account_of tenant.now self.old.ledger)
+            (self.new.pages ≡ self.old.pages)
             (LosesPagesOf result self.old.pages self.new.pages tenant.now) }
         ensures history { self.new.history ≡ self.old.history }
-        ensures text { IfOk result
-            (λ text. string_bytes text ≡ closed_line tenant.now (account_of tenant.now self.old.ledger)) }
+        ensures text { ReturnsText result
+            (closed_line tenant.now (account_of tenant.now self.old.ledger)) }
     {
         let Some(account) = self.ledger.close(tenant) else {
             return tell(self.alloc, Rejection::NoAccount);
@@ -411,7 +413,7 @@ impl Service {
         ensures ledger { self.new.ledger ≡ self.old.ledger }
         ensures pages { TakesPage place (without (string_eq place) self.old.pages) self.new.pages }
         ensures history { self.new.history ≡ self.old.history }
-        ensures text { IfOk result (λ text. BeginsWith (entered_line tenant.now bytes) (string_bytes text)) }
+        ensures text { IfText result (BeginsWith (entered_line tenant.now bytes)) }
     {
         let had = self.pages.remove(&place);
         let mut text = tell_entered(self.alloc, tenant, bytes)?;
@@ -455,7 +457,7 @@ impl Service {
 
     /// The pages that are kept, the most recently used first, and their bytes.
     fn list_pages(&self) -> Result<String>
-        ensures { IfOk result (λ text. string_bytes text ≡ list_of self.now.pages) }
+        ensures { ReturnsText result (list_of self.now.pages) }
     {
         let mut text = String::new(self.alloc);
         for (place, page) in self.pages.iter() {
@@ -468,7 +470,7 @@ impl Service {
 
     /// What is billed to each tenant, and all of it together.
     fn bill(&self) -> Result<String>
-        ensures { IfOk result (λ text. string_bytes text ≡ bill_of self.now.ledger) }
+        ensures { ReturnsText result (bill_of self.now.ledger) }
     {
         let mut text = String::new(self.alloc);
         for (tenant, account) in self.ledger.accounts() {
@@ -484,8 +486,7 @@ impl Service {
         ensures pages { self.new.pages ≡ self.old.pages }
         ensures history { TakesOrFails result self.old.history self.new.history
             (⟦<Held as Allocative>⟧.may_show self.old.held) }
-        ensures text { IfOk result
-            (λ text. string_bytes text ≡ profiles_line (length (profiles_of self.new.history))) }
+        ensures text { ReturnsText result (profiles_line (length (profiles_of self.new.history))) }
     {
         self.history.take_profile(self.alloc, &self.held)?;
         Ok(format!(in self.alloc; "profiles: {}\n", self.history.len())?)
@@ -493,7 +494,7 @@ impl Service {
 
     /// What changed since the last profile but one.
     fn report(&self) -> Result<String>
-        ensures { IfOk result (λ text. IsReport (two_of self.now.history 1 0) (string_bytes text)) }
+        ensures { IfText result (IsReport (two_of self.now.history 1 0)) }
     {
         match self.history.between(self.alloc, 1, 0)? {
             Some(changes) => Ok(report(self.alloc, changes.as_slice())?),
@@ -503,7 +504,7 @@ impl Service {
 
     /// By how much the paths grew that grew most between the last two profiles.
     fn tell_most(&self, count: usize) -> Result<String>
-        ensures { IfOk result (λ text. IsMost count (two_of self.now.history 1 0) (string_bytes text)) }
+        ensures { IfText result (IsMost count (two_of self.now.history 1 0)) }
     {
         let Some(top) = self.history.grew_most(self.alloc, count)? else {
             return too_few(self.alloc);
@@ -517,7 +518,7 @@ impl Service {
 
     /// The picture of the last profile, a text that a browser shows.
     fn draw(&self) -> Result<String>
-        ensures { IfOk result (λ text. IsPicture (two_of self.now.history 0 0) (string_bytes text)) }
+        ensures { IfText result (IsPicture (two_of self.now.history 0 0)) }
     {
         let Some((_last, last)) = self.history.pair(0, 0) else {
             return Ok(String::from_str(self.alloc, "there is no profile\n")?);
@@ -531,7 +532,7 @@ impl Service {
 
     /// The picture of what changed since the last profile but one.
     fn draw_change(&self) -> Result<String>
-        ensures { IfOk result (λ text. IsChangePicture (two_of self.now.history 1 0) (string_bytes text)) }
+        ensures { IfText result (IsChangePicture (two_of self.now.history 1 0)) }
     {
         let Some((earlier, last)) = self.history.pair(1, 0) else {
             return too_few(self.alloc);
@@ -546,7 +547,7 @@ impl Service {
 
 /// Says why something is not admitted. Where memory runs out, that is the error.
 fn tell(alloc: Global, rejection: Rejection) -> Result<String>
-    ensures { IfOk result (λ text. IsToldAs rejection (string_bytes text)) }
+    ensures { IfText result (IsToldAs rejection) }
 {
     match rejection {
         Rejection::NotKept | Rejection::NotMeasured(Refusal::Memory) => Err(rejection.into()),
@@ -556,7 +557,7 @@ fn tell(alloc: Global, rejection: Rejection) -> Result<String>
 
 /// Says how many bytes a tenant has.
 fn tell_entered(alloc: Global, tenant: &str, bytes: usize) -> Result<String, AllocError>
-    ensures { IfOk result (λ text. string_bytes text ≡ entered_line tenant.now bytes) }
+    ensures { ReturnsText result (entered_line tenant.now bytes) }
 {
     format!(in alloc; "{tenant} has {bytes} bytes\n")
 }
@@ -571,7 +572,7 @@ fn tell_page(alloc: Global, error: CacheError) -> Result<String> {
 
 /// Says how many bytes a tenant had at most, or that it has no account.
 fn tell_peak(alloc: Global, tenant: &str, peak: Option<usize>) -> Result<String, AllocError>
-    ensures { IfOk result (λ text. string_bytes text ≡ peak_line tenant.now peak) }
+    ensures { ReturnsText result (peak_line tenant.now peak) }
 {
     match peak {
         Some(peak) => format!(in alloc; "{tenant} had at most {peak} bytes\n"),
@@ -586,7 +587,7 @@ fn tell_released(
     key: u64,
     bytes: Option<usize>,
 ) -> Result<String, AllocError>
-    ensures { IfOk result (λ text. string_bytes text ≡ released_line tenant.now key bytes) }
+    ensures { ReturnsText result (released_line tenant.now key bytes) }
 {
     match bytes {
         Some(bytes) => format!(in alloc; "{tenant} gives {bytes} bytes back\n"),
@@ -596,7 +597,7 @@ fn tell_released(
 
 /// Says that there are fewer than two profiles.
 fn too_few(alloc: Global) -> Result<String>
-    ensures { IfOk result (λ text. string_bytes text ≡ codes "there are fewer than two profiles\n") }
+    ensures { ReturnsText result (codes "there are fewer than two profiles\n") }
 {
     Ok(String::from_str(alloc, "there are fewer than two profiles\n")?)
 }
@@ -615,8 +616,7 @@ fn over_mark(account: &Account) -> &'static str
 /// Appends the first line of an account's bill: its bytes, its limit, the most bytes that it had and whether it is over
 /// its soft limit.
 fn push_account_line(tenant: &str, account: &Account, text: &mut String) -> Result<(), AllocError>
-    ensures { OnOk result (string_bytes text.new
-        ≡ string_bytes text.old ++ account_line tenant.now account.now) }
+    ensures { OnOk result (AppendsText text.old text.new (account_line tenant.now account.now)) }
 {
     let (bytes, limit) = (account.bytes(), account.limit());
     let (peak, mark) = (account.peak(), over_mark(account));
@@ -629,8 +629,7 @@ fn push_account_line(tenant: &str, account: &Account, text: &mut String) -> Resu
 
 /// Appends the bill of an account: its first line, and the bytes of each document.
 fn push_account(tenant: &str, account: &Account, text: &mut String) -> Result<(), AllocError>
-    ensures { OnOk result (string_bytes text.new
-        ≡ string_bytes text.old ++ account_lines tenant.now account.now) }
+    ensures { OnOk result (AppendsText text.old text.new (account_lines tenant.now account.now)) }
 {
     push_account_line(tenant, account, text)?;
     for (key, bytes) in account.entries() {

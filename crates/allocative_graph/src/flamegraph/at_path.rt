@@ -1,6 +1,7 @@
 //! Adding bytes at one path.
-ghost use Rattle.std.specs.Prelude.{◌≡◌, ◌+◌, ◌^◌, ◌<◌, ◌≤◌, [], ◌∷◌, IfOk, OnOk, OnErr, true, map, length};
+ghost use Rattle.std.specs.Prelude.{◌≡◌, ◌+◌, ◌^◌, ◌<◌, ◌≤◌, [], ◌∷◌, IfOk, OnOk, OnErr, true, length};
 ghost use Rattle.std.specs.List.{insert};
+ghost use Rattle.allocative_graph.specs.Path.{texts};
 ghost use Rattle.allocative_graph.specs.Graph.{total, sum_of};
 ghost use Rattle.allocative_graph.specs.Reads.{AreChildren};
 ghost use Rattle.allocative_graph.specs.Representation.Node.{weight};
@@ -18,7 +19,7 @@ use std::alloc::{AllocError, Global};
 #[cycle(walk)]
 pub fn add_at(graph: &mut FlameGraph, path: &[&'static str], size: usize) -> Result<(), AllocError>
     requires fits { total graph.old + size < 2 ^ 64 }
-    ensures sum { OnOk result (graph.new ≡ sum_of graph.old (graph_of_path (map (λ k. k.now) path.now) size)) }
+    ensures sum { OnOk result (graph.new ≡ sum_of graph.old (graph_of_path (texts path.now) size)) }
     ensures unchanged { OnErr result (graph.new ≡ graph.old) }
 {
     let Some((key, rest)) = path.split_first() else {
@@ -42,7 +43,7 @@ fn add_below(
     requires children { AreChildren children.old.items }
     requires fits { weight children.old.items + size < 2 ^ 64 }
     ensures merged { OnOk result
-        (Merged true children.old.items (child_of_path key (map (λ k. k.now) rest.now) size ∷ []) children.new.items) }
+        (Merged true children.old.items (child_of_path key (texts rest.now) size ∷ []) children.new.items) }
     ensures unchanged { OnErr result (children.new.items ≡ children.old.items) }
 {
     match place_of(children, &key) {
@@ -65,7 +66,7 @@ fn put_path(
 ) -> Result<(), AllocError>
     requires { at ≤ length children.old.items }
     ensures items { OnOk result
-        (children.new.items ≡ insert children.old.items at (child_of_path key (map (λ k. k.now) rest.now) size)) }
+        (children.new.items ≡ insert children.old.items at (child_of_path key (texts rest.now) size)) }
     ensures unchanged { OnErr result (children.new.items ≡ children.old.items) }
 {
     let graph = graph_of_path(*children.allocator(), rest, size)?;
@@ -78,7 +79,7 @@ fn graph_of_path(
     path: &[&'static str],
     size: usize,
 ) -> Result<FlameGraph, AllocError>
-    ensures { IfOk result (λ graph. graph ≡ graph_of_path (map (λ k. k.now) path.now) size) }
+    ensures { IfOk result (λ graph. graph ≡ graph_of_path (texts path.now) size) }
 {
     let mut graph = FlameGraph {
         children: Vec::new(alloc),

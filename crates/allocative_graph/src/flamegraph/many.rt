@@ -18,7 +18,8 @@ impl FlameGraph {
     /// and there is no path that the sum does not have. After an error the children are dropped.
     pub fn add_children(&mut self, children: Vec<Child>) -> Result<(), Refusal>
         ensures sum { OnOk result (self.new ≡ sum_of_all self.old children.items) }
-        ensures too_large { IsErrOf result Refusal.TooLarge ↔ (2 ^ 64 ≤ total self.old + total_of children.items) }
+        ensures too_large { IsErrOf result Refusal.TooLarge
+            ↔ (2 ^ 64 ≤ total self.old + total_of children.items) }
         ensures unchanged { IsErrOf result Refusal.TooLarge → self.new ≡ self.old }
         ensures part { IsErrOf result Refusal.Memory
             → IsPartOfSum self.old (sum_of_all default children.items) self.new }
@@ -48,8 +49,7 @@ fn total_size_of(children: &[Child]) -> Option<usize>
     Some(sum)
 }
 
-// A graph that has only the children. They are added in the order of their keys, so that each is put at the
-// end.
+// A graph that has only the children. They are added in the order of their keys, so that each is put at the end.
 #[tactic(auto, using(std::proofs::lemmas::List::nil_from_length, crate::proofs::Gathered::all_permuted))]
 fn gather(alloc: Global, children: Vec<Child>) -> Result<FlameGraph, AllocError>
     requires { total_of children.items < 2 ^ 64 }

@@ -1,5 +1,6 @@
 //! Reading a flame graph: its children, the graph at a path, and the rows of all paths.
 ghost use Rattle.std.specs.Prelude.{◌≡◌, ◌++◌, [], IfOk, IfErr, IfSome, IfNone, OnOk, map};
+ghost use Rattle.allocative_graph.specs.Path.{texts};
 ghost use Rattle.allocative_graph.specs.Graph.{size_at, total_at, IsBehind, HasNothing};
 ghost use Rattle.allocative_graph.specs.Reads.{AllSmaller, row_figures, figures, figures_behind, node, AreChildren};
 
@@ -38,11 +39,10 @@ impl FlameGraph {
         self.children.as_slice()
     }
 
-    /// The graph at a path, whose root is that path. It returns `None` exactly if the graph has no such
-    /// path.
+    /// The graph at a path, whose root is that path. It returns `None` exactly if the graph has no such path.
     pub fn get(&self, path: &[&str]) -> Option<&FlameGraph>
-        ensures found { IfSome result (λ found. IsBehind self.now (map (λ k. k.now) path.now) found.now) }
-        ensures missing { IfNone result (HasNothing self.now (map (λ k. k.now) path.now)) }
+        ensures found { IfSome result (λ found. IsBehind self.now (texts path.now) found.now) }
+        ensures missing { IfNone result (HasNothing self.now (texts path.now)) }
     {
         let children = self.children.as_slice();
         let Some((key, rest)) = path.split_first() else {
@@ -56,14 +56,14 @@ impl FlameGraph {
 
     /// The size at a path, in bytes; 0 if the graph has no such path.
     pub fn size_at(&self, path: &[&str]) -> usize
-        ensures { result ≡ size_at self.now (map (λ k. k.now) path.now) }
+        ensures { result ≡ size_at self.now (texts path.now) }
     {
         self.get(path).map_or(0, FlameGraph::self_size)
     }
 
     /// The bytes of a path and of all paths below it; 0 if the graph has no such path.
     pub fn total_at(&self, path: &[&str]) -> usize
-        ensures { result ≡ total_at self.now (map (λ k. k.now) path.now) }
+        ensures { result ≡ total_at self.now (texts path.now) }
     {
         self.get(path).map_or(0, FlameGraph::total_size)
     }
@@ -86,9 +86,8 @@ impl FlameGraph {
     // Appends the rows of all paths, each after the given keys.
     fn push_rows(&self, path: &mut Vec<&'static str>, rows: &mut Vec<Row>) -> Result<(), AllocError>
         ensures path { OnOk result (path.new.items ≡ path.old.items) }
-        ensures rows { OnOk result
-            (map row_figures rows.new.items
-            ≡ map row_figures rows.old.items ++ figures_behind (map (λ k. k.now) path.old.items) self.now) }
+        ensures rows { OnOk result (map row_figures rows.new.items
+            ≡ map row_figures rows.old.items ++ figures_behind (texts path.old.items) self.now) }
     {
         rows.push(Row {
             path: path.clone()?,

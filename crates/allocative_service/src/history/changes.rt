@@ -1,7 +1,7 @@
 //! The differences between two profiles, path by path.
-ghost use Rattle.std.specs.Prelude.{◌≡◌, ◌+◌, ◌-◌, ◌^◌, ◌≤◌, ◌↔◌, All, AllPairs, IfOk, IsErrOf, IsPermutation, OnOk, map};
+ghost use Rattle.std.specs.Prelude.{◌≡◌, ◌+◌, ◌-◌, ◌^◌, ◌≤◌, ◌↔◌, All, AllPairs, IfOk, IsErrOf, IsPermutation, OnOk};
 ghost use Rattle.allocative.specs.Graph.{total};
-ghost use Rattle.allocative_service.specs.Changes.{change_data, is_kind, growth, rank, shrinkage, changes_of, GrewAsMuch, GrewMost, HasEach, IsByGrowth, IsWord};
+ghost use Rattle.allocative_service.specs.Changes.{change_data, data_of, is_kind, growth, rank, shrinkage, changes_of, GrewAsMuch, GrewMost, HasEach, IsByGrowth, IsWord};
 
 use crate::history::walk::changes_of;
 use allocative::{FlameGraph, Refusal};
@@ -81,9 +81,11 @@ pub fn compare(
     earlier: &FlameGraph,
     later: &FlameGraph,
 ) -> Result<Vec<Change>, Refusal>
-    ensures each { IfOk result (λ changes. HasEach earlier.now later.now (map change_data changes.items)) }
-    ensures ordered { IfOk result (λ changes. map change_data changes.items ≡ changes_of earlier.now later.now) }
-    ensures too_large { IsErrOf result Refusal.TooLarge ↔ (2 ^ 64 ≤ total earlier.now + total later.now) }
+    ensures each { IfOk result (λ changes. HasEach earlier.now later.now (data_of changes.items)) }
+    ensures ordered { IfOk result
+        (λ changes. data_of changes.items ≡ changes_of earlier.now later.now) }
+    ensures too_large { IsErrOf result Refusal.TooLarge
+        ↔ (2 ^ 64 ≤ total earlier.now + total later.now) }
     ensures never_open { ¬ (IsErrOf result Refusal.Open) }
 {
     if later.total_size() > usize::MAX - earlier.total_size() {
@@ -97,7 +99,7 @@ pub fn compare(
 /// The changes of the paths that grew most, up to a count, the greatest growth first. A path that had no bytes before
 /// counts as grown. The only error is that memory runs out.
 pub fn grew_most(alloc: Global, changes: &[Change], count: usize) -> Result<Vec<Change>, AllocError>
-    ensures { IfOk result (λ top. GrewMost count (map change_data changes.now) (map change_data top.items)) }
+    ensures { IfOk result (λ top. GrewMost count (data_of changes.now) (data_of top.items)) }
 {
     let mut grown = Vec::new(alloc);
     for change in changes {
@@ -112,7 +114,7 @@ pub fn grew_most(alloc: Global, changes: &[Change], count: usize) -> Result<Vec<
 
 /// The changes, the greatest growth first and the greatest shrinkage last. The only error is that memory runs out.
 pub fn by_growth(alloc: Global, changes: &[Change]) -> Result<Vec<Change>, AllocError>
-    ensures { IfOk result (λ list. IsByGrowth (map change_data changes.now) (map change_data list.items)) }
+    ensures { IfOk result (λ list. IsByGrowth (data_of changes.now) (data_of list.items)) }
 {
     let mut list = Vec::new(alloc);
     for change in changes {
@@ -126,7 +128,7 @@ pub fn by_growth(alloc: Global, changes: &[Change]) -> Result<Vec<Change>, Alloc
 fn sort_by_growth(changes: &mut Vec<Change>) -> Result<(), AllocError>
     requires { All IsWord changes.old.items }
     ensures same { OnOk result (IsPermutation changes.old.items changes.new.items) }
-    ensures falling { OnOk result (AllPairs GrewAsMuch (map change_data changes.new.items)) }
+    ensures falling { OnOk result (AllPairs GrewAsMuch (data_of changes.new.items)) }
 {
     changes.sort_by_key(
         |change: &Change| -> u128

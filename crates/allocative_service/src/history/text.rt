@@ -1,6 +1,6 @@
 //! Changes as text.
-ghost use Rattle.std.specs.Prelude.{◌≡◌, ◌++◌, OnOk, IfOk, map, string_bytes};
-ghost use Rattle.allocative_service.specs.Changes.{change_data, line_of, total_line, Reports};
+ghost use Rattle.std.specs.Prelude.{◌≡◌, ◌++◌, OnOk, IfOk, string_bytes};
+ghost use Rattle.allocative_service.specs.Changes.{change_data, data_of, line_of, total_line, Reports};
 
 use crate::history::changes::{Change, by_growth};
 use allocative::push_path;
@@ -10,7 +10,7 @@ use std::alloc::{AllocError, Global};
 /// change has a line `earlier -> later path`, the greatest growth first and the greatest shrinkage last. The only error
 /// is that memory runs out.
 pub fn report(alloc: Global, changes: &[Change]) -> Result<String, AllocError>
-    ensures { IfOk result (λ text. Reports (map change_data changes.now) (string_bytes text)) }
+    ensures { IfOk result (λ text. Reports (data_of changes.now) (string_bytes text)) }
 {
     let mut text = String::new(alloc);
     push_total(changes, &mut text)?;
@@ -23,7 +23,8 @@ pub fn report(alloc: Global, changes: &[Change]) -> Result<String, AllocError>
 
 /// Appends by how many bytes all changes together grew and shrank.
 fn push_total(changes: &[Change], text: &mut String) -> Result<(), AllocError>
-    ensures { OnOk result (string_bytes text.new ≡ string_bytes text.old ++ total_line (map change_data changes.now)) }
+    ensures { OnOk result
+        (string_bytes text.new ≡ string_bytes text.old ++ total_line (data_of changes.now)) }
 {
     let mut more = 0u128;
     let mut less = 0u128;
@@ -36,7 +37,8 @@ fn push_total(changes: &[Change], text: &mut String) -> Result<(), AllocError>
 
 /// Appends the line of a change.
 fn push_line(change: &Change, text: &mut String) -> Result<(), AllocError>
-    ensures { OnOk result (string_bytes text.new ≡ string_bytes text.old ++ line_of (change_data change.now)) }
+    ensures { OnOk result
+        (string_bytes text.new ≡ string_bytes text.old ++ line_of (change_data change.now)) }
 {
     let (earlier, later) = (change.earlier, change.later);
     write!(text, "{earlier} -> {later} ")?;

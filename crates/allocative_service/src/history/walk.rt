@@ -3,7 +3,7 @@ ghost use Rattle.std.specs.Prelude.{◌≡◌, ◌++◌, ◌==◌, [], ◌∷◌
 ghost use Rattle.std.specs.FinMap.{entries};
 ghost use Rattle.allocative.specs.Path.{Path};
 ghost use Rattle.allocative.specs.Graph.{size_at};
-ghost use Rattle.allocative_service.specs.Changes.{change_data, Changed};
+ghost use Rattle.allocative_service.specs.Changes.{data_of};
 ghost use Rattle.allocative_service.specs.Walk.{size_in, changes_behind};
 
 use crate::history::changes::Change;
@@ -17,7 +17,7 @@ pub(crate) fn changes_of(
     earlier: &FlameGraph,
     later: &FlameGraph,
 ) -> Result<Vec<Change>, AllocError>
-    ensures { IfOk result (λ changes. map change_data changes.items
+    ensures { IfOk result (λ changes. data_of changes.items
         ≡ changes_behind (size_at earlier.now) (size_at later.now) [] (entries both.now)) }
 {
     let mut path: Vec<&'static str> = Vec::new(alloc);
@@ -28,7 +28,8 @@ pub(crate) fn changes_of(
 
 // What a profile has at a key and below it.
 fn below<'a>(profile: Option<&'a FlameGraph>, key: &str) -> Option<&'a FlameGraph>
-    ensures { (p : Path) → size_in (option_copied profile.entry) (key.now ∷ p) ≡ size_in (option_copied result) p }
+    ensures { (p : Path)
+        → size_in (option_copied profile.entry) (key.now ∷ p) ≡ size_in (option_copied result) p }
 {
     profile?.get(&[key])
 }
@@ -47,8 +48,8 @@ fn push_change(
     later: usize,
     changes: &mut Vec<Change>,
 ) -> Result<(), AllocError>
-    ensures { OnOk result (map change_data changes.new.items
-        ≡ map change_data changes.old.items ++ cond (earlier == later) []
+    ensures { OnOk result (data_of changes.new.items
+        ≡ data_of changes.old.items ++ cond (earlier == later) []
         (record { path = map (λ k. k.now) path.now.items; earlier = earlier; later = later } ∷ [])) }
 {
     if earlier == later {
@@ -72,8 +73,7 @@ fn push_changes(
     changes: &mut Vec<Change>,
 ) -> Result<(), AllocError>
     ensures path { OnOk result (path.new.items ≡ path.old.items) }
-    ensures changes { OnOk result (map change_data changes.new.items
-        ≡ map change_data changes.old.items
+    ensures changes { OnOk result (data_of changes.new.items ≡ data_of changes.old.items
         ++ changes_behind (size_in (option_copied earlier.entry)) (size_in (option_copied later.entry))
         (map (λ k. k.now) path.old.items) (entries both.now)) }
 {

@@ -132,7 +132,8 @@ impl Account {
     /// Checks that the number has no entry. The error is `Taken` exactly if it has one.
     pub fn check_free(&self, number: u64) -> Result<(), Rejection>
         ensures free { OnOk result (bytes_at number self.now ≡ None) }
-        ensures taken { IfErr result (λ r. (r ≡ Rejection.Taken number) × IsSome (bytes_at number self.now)) }
+        ensures taken { IfErr result
+            (λ r. (r ≡ Rejection.Taken number) × IsSome (bytes_at number self.now)) }
     {
         if self.entries.contains_key(&number) {
             return Err(Rejection::Taken { number });
@@ -143,7 +144,8 @@ impl Account {
     /// The bytes of the entry under the number. The error is `NotThere` exactly if it has none.
     pub fn entry(&self, number: u64) -> Result<usize, Rejection>
         ensures found { IfOk result (λ bytes. bytes_at number self.now ≡ Some bytes) }
-        ensures missing { IfErr result (λ r. (r ≡ Rejection.NotThere number) × (bytes_at number self.now ≡ None)) }
+        ensures missing { IfErr result
+            (λ r. (r ≡ Rejection.NotThere number) × (bytes_at number self.now ≡ None)) }
         ensures within { sum_of self.now.entries ≤ self.now.limit }
     {
         match self.entries.get(&number) {
@@ -162,7 +164,7 @@ impl Account {
     ///
     /// After an error the account is unchanged.
     pub fn enter(&mut self, number: u64, bytes: usize) -> Result<usize, Rejection>
-        ensures entered { IfOk result (λ total. Puts number bytes None total self.old self.new) }
+        ensures entered { IfOk result (Puts number bytes None self.old self.new) }
         ensures rejected { IfErr result (RejectsNew number (RejectsBytes 0 bytes) self.old) }
         ensures unchanged { OnErr result (self.new ≡ self.old) }
     {
@@ -175,8 +177,10 @@ impl Account {
     /// The error is `NotThere` if the number has no entry, and otherwise `TooLarge`, `OverBudget` or `NotKept` as for
     /// `enter`. After an error the account is unchanged.
     pub fn change(&mut self, number: u64, bytes: usize) -> Result<usize, Rejection>
-        ensures changed { IfOk result (λ total. (had : ℕ) × Puts number bytes (Some had) total self.old self.new) }
-        ensures rejected { IfErr result (RejectsChange number (λ had. RejectsBytes had bytes) self.old) }
+        ensures changed { IfOk result
+            (λ total. (had : ℕ) × Puts number bytes (Some had) self.old self.new total) }
+        ensures rejected { IfErr result
+            (RejectsChange number (λ had. RejectsBytes had bytes) self.old) }
         ensures unchanged { OnErr result (self.new ≡ self.old) }
     {
         let had = self.entry(number)?;
@@ -187,7 +191,7 @@ impl Account {
     #[tactic(auto, using(crate::proofs::Sums::sums))]
     pub(crate) fn put(&mut self, number: u64, had: usize, bytes: usize) -> Result<usize, Rejection>
         requires { had ≡ unwrap_or (bytes_at number self.old) 0 }
-        ensures put { IfOk result (λ total. Puts number bytes (bytes_at number self.old) total self.old self.new) }
+        ensures put { IfOk result (Puts number bytes (bytes_at number self.old) self.old self.new) }
         ensures sum { IfOk result (λ total. sum_of self.new.entries ≡ total) }
         ensures rejected { IfErr result (RejectsBytes had bytes self.old) }
         ensures unchanged { OnErr result (self.new ≡ self.old) }

@@ -49,7 +49,7 @@ returns-clause-put c =
       after = c.put.new.self;
       account = sym value;
       puts = subst (λ o. Puts c.args.number c.args.bytes (option_and_then (bytes_at c.args.number) o)
-          c.in_ok-total.total before c.put.new.self) value puts;
+          before c.put.new.self c.in_ok-total.total) value puts;
       change = in_ledger _ _ _ _ w.one (refl, refl);
       all_is = omega (arith, w.all, c.in_ok-total.ensures.sum, puts.total_is, had, c.requires);
     }
