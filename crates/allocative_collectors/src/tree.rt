@@ -89,11 +89,11 @@ impl Tree {
         Ok(Tree { alloc, nodes })
     }
 
-    /// Enters `size` bytes under the key at the node `at`, if `room` has them, and takes them from it. It returns the node
-    /// of that path.
+    /// Enters `size` bytes under the key at the node `at`, if `room` has them, and takes them from it. It returns the
+    /// node of that path.
     ///
-    /// It fails with `TooLarge` if the room has fewer bytes, which is tested before memory is allocated. Otherwise it fails
-    /// only with `Memory`: if memory runs out, or if there would be more than 2^32 - 1 paths beside the root.
+    /// It fails with `TooLarge` if the room has fewer bytes, which is tested before memory is allocated. Otherwise it
+    /// fails only with `Memory`: if memory runs out, or if there would be more than 2^32 - 1 paths beside the root.
     #[inline(always)]
     pub(crate) fn enter(
         &mut self,
@@ -105,7 +105,8 @@ impl Tree {
     ) -> Result<usize, Refusal>
         requires within { at < length self.old }
         requires count { total self.old + room.old + 1 ≡ 2 ^ 63 }
-        ensures entered { IfOk result (AddedAt self.old self.new at key.now size is_unique room.old room.new) }
+        ensures entered { IfOk result
+            (AddedAt self.old self.new at key.now size is_unique room.old room.new) }
         ensures err { IfErr result (TellsWhy room.old size) }
         ensures kept { OnErr result ((self.new ≡ self.old) × (room.new ≡ room.old)) }
     {

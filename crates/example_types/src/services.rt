@@ -122,7 +122,8 @@ impl Sensors {
     /// The graph and the warnings of all sensors. It fails if memory runs out, or if a sensor's own
     /// visit fails.
     pub fn profile(&self) -> Result<FlameGraphOutput, Refusal>
-        ensures { IfOk result (IsProfileOf (each_shows ⟦<Named<Sensor> as Allocative>⟧.may_show self.now.roots.items)) }
+        ensures { IfOk result
+            (IsProfileOf (each_shows ⟦<Named<Sensor> as Allocative>⟧.may_show self.now.roots.items)) }
     {
         profile_values(*self.roots.allocator(), &self.roots)
     }

@@ -36,7 +36,8 @@ impl Allocative for ForgetsNested {
 
 /// Enters a pointer to the shared value 1, and forgets the visitor of its content.
 fn forget_content(collector: &mut Collector) -> Result<(), Refusal>
-    ensures { AddsForest (shows.Shared (codes "p") 8 (record { maker = 0; number = 1 }) shows.Nothing)
+    ensures { AddsForest
+        (shows.Shared (codes "p") 8 (record { maker = 0; number = 1 }) shows.Nothing)
         collector.old result collector.new }
 {
     match enter_content(collector, Key::new("p"), 8, Identity::from(1)) {
@@ -77,7 +78,8 @@ impl Allocative for ForgetsFirst {
 
 /// Enters `b 1`.
 fn enter_last(collector: &mut Collector) -> Result<(), Refusal>
-    ensures { AddsForest (shows.Inside (codes "b") 1 shows.Nothing) collector.old result collector.new }
+    ensures { AddsForest (shows.Inside (codes "b") 1 shows.Nothing)
+        collector.old result collector.new }
 {
     let inner = enter(collector, Key::new("b"), 1)?;
     inner.exit();
@@ -123,7 +125,8 @@ impl Allocative for StopsByHand {
 
 /// Visits a value inside the entry `T 0`.
 fn visit_inside<T: Allocative>(collector: &mut Collector, part: &T) -> Result<(), Refusal>
-    ensures { AddsForest (shows.Inside (codes "T") 0 (T.may_show part.now)) collector.old result collector.new }
+    ensures { AddsForest (shows.Inside (codes "T") 0 (T.may_show part.now))
+        collector.old result collector.new }
 {
     let mut outer = enter(collector, Key::new("T"), 0)?;
     part.enter(&mut outer)?;

@@ -30,8 +30,8 @@ fn escaped(alloc: Global, name: &str) -> Result<String, AllocError>
     Ok(made)
 }
 
-// The key of a member of this name. If nothing of the name is escaped, the key has the name itself, and the copy that was
-// compared with it is dropped.
+// The key of a member of this name. If nothing of the name is escaped, the key has the name itself, and the copy that
+// was compared with it is dropped.
 pub(super) fn key_of(alloc: Global, name: &'static str) -> Result<Key, AllocError>
     ensures { IfOk result (λ key. key ≡ escaped name.now) }
 {
