@@ -1,8 +1,8 @@
 //! The last profiles of a service.
-ghost use Rattle.std.specs.Prelude.{◌≡◌, ◌+◌, ◌^◌, ◌≤◌, ◌↔◌, [], OnOk, OnErr, IfOk, IfErr, IsErrOf, IsSomeAnd, length, option_map};
+ghost use Rattle.std.specs.Prelude.{◌≡◌, ◌↔◌, [], OnOk, OnErr, IfOk, IfErr, IsErrOf, IsSomeAnd, length, option_map};
 ghost use Rattle.std.specs.Map.Iter.{deref_pair};
 ghost use Rattle.allocative.specs.Exact.{MayRefuseProfile};
-ghost use Rattle.allocative.specs.Graph.{total};
+ghost use Rattle.allocative.specs.Graph.{ExceedWord};
 ghost use Rattle.allocative_service.specs.Changes.{data_of, changes_of};
 ghost use Rattle.allocative_service.specs.History.{profiles_of, most_of, two_of, Keeps, TakesProfile, GrewMostBetween};
 
@@ -92,7 +92,7 @@ impl History {
         ensures changes { IfOk result (λ found. option_map (λ changes. data_of changes.items) found
             ≡ option_map (λ pair. changes_of pair.0 pair.1) (two_of self.now earlier later)) }
         ensures too_large { IsErrOf result Refusal.TooLarge
-            ↔ IsSomeAnd (two_of self.now earlier later) (λ pair. 2 ^ 64 ≤ total pair.0 + total pair.1) }
+            ↔ IsSomeAnd (two_of self.now earlier later) (λ pair. ExceedWord pair.0 pair.1) }
         ensures never_open { ¬ (IsErrOf result Refusal.Open) }
     {
         let Some((earlier, later)) = self.pair(earlier, later) else {
@@ -108,7 +108,7 @@ impl History {
         ensures grew { IfOk result (λ top. GrewMostBetween count (two_of self.now 1 0)
             (option_map (λ changes. data_of changes.items) top)) }
         ensures too_large { IsErrOf result Refusal.TooLarge
-            ↔ IsSomeAnd (two_of self.now 1 0) (λ pair. 2 ^ 64 ≤ total pair.0 + total pair.1) }
+            ↔ IsSomeAnd (two_of self.now 1 0) (λ pair. ExceedWord pair.0 pair.1) }
         ensures never_open { ¬ (IsErrOf result Refusal.Open) }
     {
         let Some(changes) = self.between(alloc, 1, 0)? else {

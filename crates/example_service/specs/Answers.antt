@@ -6,6 +6,7 @@ use Rattle.std.specs.Global.{Global}
 use Rattle.std.specs.List.{slice_split}
 use Rattle.std.specs.Map.{keys_of, remove_entry}
 use Rattle.std.specs.Str.Parse.{ParsesUnsigned}
+use Rattle.allocative.specs.Format.{IfText, ReturnsText}
 use Rattle.allocative.specs.Shows.{Showing}
 use Rattle.allocative_service.specs.Accounts.{account_of, accounts_of, entry_of, limit_of, measure_of, total_of}
 use Rattle.allocative_service.specs.Accounts.{ChangesAccount, Enters, IsUnchanged, MapsAccount, RejectsPut, Releases}
@@ -21,9 +22,8 @@ use Rattle.allocative_service.specs.declared.history.History.{History}
 use Rattle.allocative_service.specs.declared.ledger.Ledger.{Ledger}
 use Rattle.allocative_service.specs.declared.ledger.rejection.Rejection.{Rejection}
 use Rattle.allocative_service.specs.declared.ledger.rejection.Rejection.TheVariants.{NoAccount}
-use Rattle.example_service.specs.Lines.{BeginsWith, IfText, IsChangePicture, IsMost, IsPicture, IsReport, IsToldAs}
-use Rattle.example_service.specs.Lines.{ReturnsText, bill_of, closed_line, entered_line, list_of, peak_line}
-use Rattle.example_service.specs.Lines.{profiles_line, released_line}
+use Rattle.example_service.specs.Lines.{BeginsWith, IsChangePicture, IsMost, IsPicture, IsReport, IsToldAs, bill_of}
+use Rattle.example_service.specs.Lines.{closed_line, entered_line, list_of, peak_line, profiles_line, released_line}
 use Rattle.example_service.specs.declared.documents.Note.{Note}
 use Rattle.example_service.specs.declared.documents.Order.{Order}
 use Rattle.example_service.specs.declared.request.Draft.{Draft}

@@ -1,6 +1,6 @@
 -- What the service says.
 use Rattle.std.specs.Prelude.{◌≡◌, ℕ, List, ◌++◌, Option, Some, None, IfSome, MatchOption, String, string_bytes, length}
-use Rattle.std.specs.Prelude.{flat_map, nat_lt, if◌then◌else◌, codes, decimal, Result, IfOk}
+use Rattle.std.specs.Prelude.{flat_map, nat_lt, if◌then◌else◌, codes, decimal}
 use Rattle.std.specs.Global.{Global}
 use Rattle.allocative.specs.Graph.{Graph}
 use Rattle.allocative.specs.Refusal.TheVariants.{Memory}
@@ -15,18 +15,6 @@ use Rattle.allocative_service.specs.declared.cache.Kept.{Kept}
 use Rattle.allocative_service.specs.declared.ledger.Ledger.{Ledger}
 use Rattle.allocative_service.specs.declared.ledger.rejection.Rejection.{Rejection}
 use Rattle.allocative_service.specs.declared.ledger.rejection.Rejection.TheVariants.{NotKept, NotMeasured}
-
--- The new text is the old one with these bytes at its end.
-abbrev pub AppendsText : String Global → String Global → List ℕ → Type 0
-AppendsText old new bytes = string_bytes new ≡ string_bytes old ++ bytes
-
--- If a text is returned, P holds of its bytes.
-abbrev pub IfText : {E : Type 0} → Result (String Global) E → (List ℕ → Type 0) → Type 0
-IfText r P = IfOk r (λ text. P (string_bytes text))
-
--- If a text is returned, it has these bytes.
-abbrev pub ReturnsText : {E : Type 0} → Result (String Global) E → List ℕ → Type 0
-ReturnsText r bytes = IfText r (λ text. text ≡ bytes)
 
 -- The text is the line of the rejection, which does not say that memory ran out.
 abbrev pub IsToldAs : Rejection → List ℕ → Type 0

@@ -1,6 +1,7 @@
 //! A service that keeps documents of its tenants, within a limit for each, and says what it holds.
 ghost use Rattle.std.specs.Prelude.{◌≡◌, [], MatchOption, IfErr, IfOk, OnErr, OnOk, codes, is_some, length};
 ghost use Rattle.std.specs.Prelude.{option_map, string_bytes, string_eq};
+ghost use Rattle.allocative.specs.Format.{AppendsText, IfText, ReturnsText};
 ghost use Rattle.allocative_service.specs.Accounts.{IsUnchanged, account_of, entry_of};
 ghost use Rattle.allocative_service.specs.Entries.{with_entries, without};
 ghost use Rattle.allocative_service.specs.History.{profiles_of, two_of};
@@ -10,10 +11,9 @@ ghost use Rattle.example_service.specs.Answers.{AnswersText, AnswersWhole, Close
 ghost use Rattle.example_service.specs.Answers.{LosesPage, LosesPagesOf, PutsDocument, PutsDraft, PutsPage, PutsPageOf};
 ghost use Rattle.example_service.specs.Answers.{RejectsDocument, ReleasesDocument, ResetsPeak, SetsBound, TakesOrFails};
 ghost use Rattle.example_service.specs.Answers.{TakesPage, UsesPage};
-ghost use Rattle.example_service.specs.Lines.{AppendsText, BeginsWith, IfText, IsChangePicture, IsMost, IsPicture};
-ghost use Rattle.example_service.specs.Lines.{IsReport, IsToldAs, ReturnsText, account_line, account_lines, bill_of};
-ghost use Rattle.example_service.specs.Lines.{closed_line, entered_line, list_of, over_mark, peak_line, profiles_line};
-ghost use Rattle.example_service.specs.Lines.{released_line};
+ghost use Rattle.example_service.specs.Lines.{BeginsWith, IsChangePicture, IsMost, IsPicture, IsReport, IsToldAs};
+ghost use Rattle.example_service.specs.Lines.{account_line, account_lines, bill_of, closed_line, entered_line, list_of};
+ghost use Rattle.example_service.specs.Lines.{over_mark, peak_line, profiles_line, released_line};
 
 use crate::documents::{Document, HasDocuments, Held, Note, Order};
 use crate::request::{Draft, Request};

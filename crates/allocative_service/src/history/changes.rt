@@ -1,6 +1,6 @@
 //! The differences between two profiles, path by path.
-ghost use Rattle.std.specs.Prelude.{◌≡◌, ◌+◌, ◌-◌, ◌^◌, ◌≤◌, ◌↔◌, All, AllPairs, IfOk, IsErrOf, IsPermutation, OnOk};
-ghost use Rattle.allocative.specs.Graph.{total};
+ghost use Rattle.std.specs.Prelude.{◌≡◌, ◌+◌, ◌-◌, ◌↔◌, All, AllPairs, IfOk, IsErrOf, IsPermutation, OnOk};
+ghost use Rattle.allocative.specs.Graph.{ExceedWord};
 ghost use Rattle.allocative_service.specs.Changes.{change_data, data_of, is_kind, growth, rank, shrinkage, changes_of, GrewAsMuch, GrewMost, HasEach, IsByGrowth, IsWord};
 
 use crate::history::walk::changes_of;
@@ -84,8 +84,7 @@ pub fn compare(
     ensures each { IfOk result (λ changes. HasEach earlier.now later.now (data_of changes.items)) }
     ensures ordered { IfOk result
         (λ changes. data_of changes.items ≡ changes_of earlier.now later.now) }
-    ensures too_large { IsErrOf result Refusal.TooLarge
-        ↔ (2 ^ 64 ≤ total earlier.now + total later.now) }
+    ensures too_large { IsErrOf result Refusal.TooLarge ↔ ExceedWord earlier.now later.now }
     ensures never_open { ¬ (IsErrOf result Refusal.Open) }
 {
     if later.total_size() > usize::MAX - earlier.total_size() {

@@ -1,5 +1,6 @@
 //! Changes as text.
-ghost use Rattle.std.specs.Prelude.{◌≡◌, ◌++◌, OnOk, IfOk, string_bytes};
+ghost use Rattle.std.specs.Prelude.{OnOk};
+ghost use Rattle.allocative.specs.Format.{AppendsText, IfText};
 ghost use Rattle.allocative_service.specs.Changes.{change_data, data_of, line_of, total_line, Reports};
 
 use crate::history::changes::{Change, by_growth};
@@ -10,7 +11,7 @@ use std::alloc::{AllocError, Global};
 /// change has a line `earlier -> later path`, the greatest growth first and the greatest shrinkage last. The only error
 /// is that memory runs out.
 pub fn report(alloc: Global, changes: &[Change]) -> Result<String, AllocError>
-    ensures { IfOk result (λ text. Reports (data_of changes.now) (string_bytes text)) }
+    ensures { IfText result (Reports (data_of changes.now)) }
 {
     let mut text = String::new(alloc);
     push_total(changes, &mut text)?;
@@ -23,8 +24,7 @@ pub fn report(alloc: Global, changes: &[Change]) -> Result<String, AllocError>
 
 /// Appends by how many bytes all changes together grew and shrank.
 fn push_total(changes: &[Change], text: &mut String) -> Result<(), AllocError>
-    ensures { OnOk result
-        (string_bytes text.new ≡ string_bytes text.old ++ total_line (data_of changes.now)) }
+    ensures { OnOk result (AppendsText text.old text.new (total_line (data_of changes.now))) }
 {
     let mut more = 0u128;
     let mut less = 0u128;
@@ -37,8 +37,7 @@ fn push_total(changes: &[Change], text: &mut String) -> Result<(), AllocError>
 
 /// Appends the line of a change.
 fn push_line(change: &Change, text: &mut String) -> Result<(), AllocError>
-    ensures { OnOk result
-        (string_bytes text.new ≡ string_bytes text.old ++ line_of (change_data change.now)) }
+    ensures { OnOk result (AppendsText text.old text.new (line_of (change_data change.now))) }
 {
     let (earlier, later) = (change.earlier, change.later);
     write!(text, "{earlier} -> {later} ")?;
