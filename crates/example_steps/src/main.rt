@@ -1,14 +1,12 @@
-//! The short programs of the pages: a first profile, its heaviest paths, the children of one path, and a budget.
+//! The short programs of the pages: a first profile, its heaviest paths, the children of one path, and budgets.
 #![tactic(auto)]
 
-#[cfg(test)]
-mod drops;
+mod budget;
 mod services;
-#[cfg(test)]
-mod shared_catalogue;
 
 use allocative::{FlameGraph, FlameGraphOutput, profile_value, push_path};
 use anyhow::Result;
+use budget::serve;
 use services::{print_budget, print_cache, print_ledger};
 use std::alloc::Global;
 use std::cmp::Reverse;
@@ -52,5 +50,6 @@ fn main(rt: HostRuntime) -> Result<()> {
     print_children(&rt, profile.flamegraph(), &["Vec", "ptr"])?;
     print_budget(&rt, rt.alloc())?;
     print_ledger(&rt, rt.alloc())?;
-    print_cache(&rt, rt.alloc())
+    print_cache(&rt, rt.alloc())?;
+    serve(&rt, rt.alloc())
 }

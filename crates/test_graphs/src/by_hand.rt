@@ -123,31 +123,6 @@ impl Allocative for StopsByHand {
     }
 }
 
-/// Visits a value inside the entry `T 0`.
-fn visit_inside<T: Allocative>(collector: &mut Collector, part: &T) -> Result<(), Refusal>
-    ensures { AddsForest (shows.Inside (codes "T") 0 (T.may_show part.now))
-        collector.old result collector.new }
-{
-    let mut outer = enter(collector, Key::new("T"), 0)?;
-    part.enter(&mut outer)?;
-    outer.exit();
-    Ok(())
-}
-
-/// Shows `StopsByHand` inside an entry of its own. Where `b` does not fit, two visitors are held as the error comes.
-#[derive(Drop)]
-struct StopsInsideByHand {
-    part: StopsByHand,
-}
-
-impl Allocative for StopsInsideByHand {
-    ghost may_show = { λ s. shows.Inside (codes "T") 0 (⟦<StopsByHand as Allocative>⟧.may_show s.part) };
-
-    fn visit(&self, visitor: &mut Visitor<'_>) -> Result<(), Refusal> {
-        visit_inside(collector_of(visitor), &self.part)
-    }
-}
-
 #[test]
 fn a_visit_that_forgets_leaves_its_builder_open(rt: HostRuntime) -> Result<(), Fail> {
     is_refused(rt.alloc(), &ForgetsNested, Refusal::Open)?;
@@ -168,9 +143,6 @@ const MOST: usize = isize::MAX as usize;
 fn a_visit_stops_while_its_visitors_are_held(rt: HostRuntime) -> Result<(), Fail> {
     let part = StopsByHand { room: MOST };
     is_refused(rt.alloc(), &part, Refusal::TooLarge)?;
-    is_refused(rt.alloc(), &StopsInsideByHand { part }, Refusal::TooLarge)?;
-    let part = StopsByHand { room: usize::MAX };
-    holds(&StopsInsideByHand { part }, Err(Refusal::TooLarge))?;
-    let part = StopsByHand { room: 4 };
-    holds(&StopsInsideByHand { part }, Ok(5))
+    holds(&StopsByHand { room: usize::MAX }, Err(Refusal::TooLarge))?;
+    holds(&StopsByHand { room: 4 }, Ok(5))
 }

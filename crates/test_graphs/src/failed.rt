@@ -2,7 +2,7 @@
 use crate::expected::Unsized;
 use allocative::{FlameGraphBuilder, Identity, Key, Refusal, Visitor};
 use std::alloc::Global;
-use std::mem::{ManuallyDrop, forget};
+use std::mem::forget;
 use std::test::Fail;
 
 const MOST: usize = isize::MAX as usize;
@@ -11,14 +11,9 @@ const MOST: usize = isize::MAX as usize;
 #[derive(Clone, Copy)]
 enum Act {
     PassTheBound,
-    PassTheBoundByEntries,
     EnterUnsized,
     RefuseTwice,
-    RefuseByClosure,
-    ForgetAndEnterUnsized,
     ForgetRoot,
-    ForgetRootWithAnEntry,
-    ForgetNested,
     ForgetBelow,
     ForgetContent,
 }
@@ -31,14 +26,6 @@ fn pass_the_bound(root: &mut Visitor<'_>) -> Result<Told, Refusal> {
     root.visit_simple(Key::new("a"), MOST)?;
     let past = root.visit_simple(Key::new("b"), 1).err();
     let after = root.visit_simple(Key::new("c"), 0).err();
-    Ok([past, after])
-}
-
-/// Enters a byte past the bound, and a unique entry of 0 bytes after it, where both may have parts.
-fn pass_the_bound_by_entries(root: &mut Visitor<'_>) -> Result<Told, Refusal> {
-    root.visit_simple(Key::new("a"), MOST)?;
-    let past = root.enter(Key::new("b"), 1).err();
-    let after = root.enter_unique(Key::new("c"), 0).err();
     Ok([past, after])
 }
 
@@ -56,26 +43,6 @@ fn refuse_twice(root: &mut Visitor<'_>) -> Told {
     [Some(first), Some(second)]
 }
 
-/// Enters by a closure that returns an error, and then an entry.
-fn refuse_by_closure(root: &mut Visitor<'_>) -> Told {
-    let refusal = root.visit_field_with(Key::new("f"), 4, |_inner| Err(Refusal::Open));
-    let after = root.visit_simple(Key::new("a"), 1);
-    [refusal.err(), after.err()]
-}
-
-/// Forgets a nested visitor, and then enters values without a size.
-fn forget_and_enter_unsized(root: &mut Visitor<'_>) -> Result<Told, Refusal> {
-    forget(root.enter(Key::new("a"), 1)?);
-    let first = root.visit_simple_sized::<Unsized>().err();
-    let second = root.visit_simple_sized::<Unsized>().err();
-    Ok([first, second])
-}
-
-fn forget_nested(root: &mut Visitor<'_>) -> Result<Told, Refusal> {
-    let _forgotten = ManuallyDrop::new(root.enter(Key::new("a"), 10)?);
-    Ok([None, None])
-}
-
 /// Forgets a visitor, and leaves the one outside it.
 fn forget_below(root: &mut Visitor<'_>) -> Result<Told, Refusal> {
     let mut outer = root.enter(Key::new("a"), 8)?;
@@ -90,13 +57,9 @@ fn forget_content(root: &mut Visitor<'_>) -> Result<Told, Refusal> {
     Ok([None, None])
 }
 
-/// Forgets a root visitor, if asked with an entry made before.
-fn forget_root(builder: &mut FlameGraphBuilder, with_an_entry: bool) -> Result<Told, Refusal> {
-    let mut root = builder.root_visitor()?;
-    if with_an_entry {
-        root.visit_simple(Key::new("a"), 10)?;
-    }
-    forget(root);
+/// Forgets a root visitor.
+fn forget_root(builder: &mut FlameGraphBuilder) -> Result<Told, Refusal> {
+    forget(builder.root_visitor()?);
     Ok([None, None])
 }
 
@@ -105,21 +68,16 @@ fn act_at_root(builder: &mut FlameGraphBuilder, act: Act) -> Result<Told, Refusa
     let mut root = builder.root_visitor()?;
     match act {
         Act::PassTheBound => pass_the_bound(&mut root),
-        Act::PassTheBoundByEntries => pass_the_bound_by_entries(&mut root),
         Act::EnterUnsized => Ok(enter_unsized(&mut root)),
         Act::RefuseTwice => Ok(refuse_twice(&mut root)),
-        Act::RefuseByClosure => Ok(refuse_by_closure(&mut root)),
-        Act::ForgetAndEnterUnsized => forget_and_enter_unsized(&mut root),
-        Act::ForgetBelow => forget_below(&mut root),
         Act::ForgetContent => forget_content(&mut root),
-        _ => forget_nested(&mut root),
+        _ => forget_below(&mut root),
     }
 }
 
 fn act_on(builder: &mut FlameGraphBuilder, act: Act) -> Result<Told, Refusal> {
     match act {
-        Act::ForgetRoot => forget_root(builder, false),
-        Act::ForgetRootWithAnEntry => forget_root(builder, true),
+        Act::ForgetRoot => forget_root(builder),
         _ => act_at_root(builder, act),
     }
 }
@@ -159,14 +117,9 @@ fn a_builder_returns_its_first_cause_for_good(rt: HostRuntime) -> Result<(), Fai
     let open = Some(Refusal::Open);
     for (act, refusal, ended) in [
         (Act::PassTheBound, large, large),
-        (Act::PassTheBoundByEntries, large, large),
         (Act::EnterUnsized, large, large),
         (Act::RefuseTwice, large, large),
-        (Act::RefuseByClosure, open, open),
-        (Act::ForgetAndEnterUnsized, large, large),
         (Act::ForgetRoot, None, open),
-        (Act::ForgetRootWithAnEntry, None, open),
-        (Act::ForgetNested, None, open),
         (Act::ForgetBelow, None, open),
         (Act::ForgetContent, None, open),
     ] {

@@ -1,8 +1,7 @@
 //! What no clause says: worked examples, printed texts, and what is left if memory runs out.
-use crate::made_graphs::{children_of, own, with_children, with_paths};
+use crate::made_graphs::{Size, children_of, own, with_children, with_paths};
 use allocative::{FlameGraph, IdArc, IdMaker, IdRc, Identity, Key, Refusal, push_path};
 use std::alloc::Global;
-use std::hash::{DefaultHasher, Hash, Hasher};
 use std::process::Abort;
 
 // Asserts the text of a graph and its total.
@@ -22,54 +21,52 @@ fn the_root_has_no_line(rt: HostRuntime) -> Result<(), Refusal> {
     assert_graph(&rt, &own(rt.alloc(), 5)?, "", 5)
 }
 
-#[test]
-fn children_of_one_key_add_up(rt: HostRuntime) -> Result<(), Refusal> {
-    let graph = with_children(rt.alloc(), &[("a", 3), ("a", 4)])?;
-    assert_graph(&rt, &graph, "a 7\n", 7)
+// A graph: its children, the paths of two graphs that are added to it, and the lines and the total of its copy.
+struct Row(
+    &'static [Size],
+    &'static [Size],
+    &'static [Size],
+    &'static str,
+    usize,
+);
+
+const ROWS: [Row; 6] = [
+    Row(&[("a", 3), ("a", 4)], &[], &[], "a 7\n", 7),
+    Row(&[], &[("b", 1), ("a;c", 2)], &[], "a;c 2\nb 1\n", 3),
+    // Keys decide, and not joined texts.
+    Row(
+        &[],
+        &[("a!", 2), ("a;x", 1), ("a", 2)],
+        &[],
+        "a 2\na;x 1\na! 2\n",
+        5,
+    ),
+    Row(
+        &[],
+        &[("c", 2), ("a;x", 1)],
+        &[("b", 8), ("d", 16), ("a;x", 4)],
+        "a;x 5\nb 8\nc 2\nd 16\n",
+        31,
+    ),
+    // A key with a semicolon looks like a path.
+    Row(&[("a;b", 1)], &[], &[], "a;b 1\n", 1),
+    Row(&[], &[("a;b", 1)], &[], "a;b 1\n", 1),
+];
+
+// The copy of the graph of a row.
+fn copy_of(alloc: Global, row: &Row) -> Result<FlameGraph, Refusal> {
+    let mut graph = with_children(alloc, row.0)?;
+    graph.add(with_paths(alloc, row.1)?)?;
+    graph.add(with_paths(alloc, row.2)?)?;
+    Ok(graph.clone()?)
 }
 
 #[test]
-fn lines_stand_in_the_order_of_keys(rt: HostRuntime) -> Result<(), Refusal> {
-    let graph = with_paths(rt.alloc(), &[("b", 1), ("a;c", 2)])?;
-    assert_graph(&rt, &graph, "a;c 2\nb 1\n", 3)
-}
-
-#[test]
-fn a_copy_has_the_same_lines(rt: HostRuntime) -> Result<(), Refusal> {
-    let graph = with_paths(rt.alloc(), &[("b", 1), ("a;c", 2)])?;
-    assert_graph(&rt, &graph.clone()?, "a;c 2\nb 1\n", 3)
-}
-
-#[test]
-fn keys_and_not_joined_texts_decide(rt: HostRuntime) -> Result<(), Refusal> {
-    let graph = with_paths(rt.alloc(), &[("a!", 2), ("a;x", 1), ("a", 2)])?;
-    assert_graph(&rt, &graph, "a 2\na;x 1\na! 2\n", 5)
-}
-
-#[test]
-fn an_empty_graph_takes_all_of_another(rt: HostRuntime) -> Result<(), Refusal> {
-    let mut graph = FlameGraph::default(rt.alloc());
-    graph.add(with_children(rt.alloc(), &[("x", 10)])?)?;
-    assert_graph(&rt, &graph, "x 10\n", 10)
-}
-
-#[test]
-fn graphs_add_up_path_by_path(rt: HostRuntime) -> Result<(), Refusal> {
-    let mut left = with_paths(rt.alloc(), &[("c", 2), ("a;x", 1)])?;
-    left.add(with_paths(rt.alloc(), &[("b", 8), ("d", 16), ("a;x", 4)])?)?;
-    assert_graph(&rt, &left, "a;x 5\nb 8\nc 2\nd 16\n", 31)
-}
-
-#[test]
-fn a_key_with_a_semicolon_looks_like_a_path(rt: HostRuntime) -> Result<(), Refusal> {
-    let graph = with_children(rt.alloc(), &[("a;b", 1)])?;
-    assert_graph(&rt, &graph, "a;b 1\n", 1)
-}
-
-#[test]
-fn a_path_looks_like_a_key_with_a_semicolon(rt: HostRuntime) -> Result<(), Refusal> {
-    let graph = with_paths(rt.alloc(), &[("a;b", 1)])?;
-    assert_graph(&rt, &graph, "a;b 1\n", 1)
+fn graphs_have_their_lines(rt: HostRuntime) -> Result<(), Refusal> {
+    for row in &ROWS {
+        assert_graph(&rt, &copy_of(rt.alloc(), row)?, row.3, row.4)?;
+    }
+    Ok(())
 }
 
 #[test]
@@ -82,34 +79,6 @@ fn a_total_past_the_bound_is_refused(rt: HostRuntime) -> Result<(), Refusal> {
     let by_a_graph = graph.add(with_children(rt.alloc(), &[("a", 1)])?);
     assert_eq!(rt; by_a_graph, Err(Refusal::TooLarge));
     assert_graph(&rt, &graph, "", usize::MAX)
-}
-
-// The total of the graph `a 1`, `b 2` to which some of `b 3`, `c 4` was added, by its text.
-fn total_of(text: &str) -> usize {
-    match text {
-        "a 1\nb 2\n" => 3,
-        "a 1\nb 5\n" => 6,
-        "a 1\nb 2\nc 4\n" => 7,
-        "a 1\nb 5\nc 4\n" => 10,
-        _ => 0,
-    }
-}
-
-// With enough memory the result is the sum. Where one growth is refused, each size is the old one or that of
-// the sum.
-#[test]
-fn after_memory_each_size_is_old_or_summed(rt: HostRuntime) -> Result<(), Refusal> {
-    let mut graph = with_children(rt.alloc(), &[("a", 1), ("b", 2)])?;
-    let answer = graph.add(with_children(rt.alloc(), &[("b", 3), ("c", 4)])?);
-    match answer {
-        Ok(()) => assert_graph(&rt, &graph, "a 1\nb 5\nc 4\n", 10),
-        Err(refusal) => {
-            assert_eq!(rt; refusal, Refusal::Memory);
-            let text = graph.write()?;
-            assert_eq!(rt; graph.total_size(), total_of(text.as_str()));
-            Ok(())
-        }
-    }
 }
 
 // The root with 1, `a` with 2, `a;x` with 4 and `b` with 8.
@@ -171,35 +140,9 @@ fn many_children_are_added_at_once(rt: HostRuntime) -> Result<(), Refusal> {
 }
 
 #[test]
-fn many_children_past_the_bound_are_refused(rt: HostRuntime) -> Result<(), Refusal> {
-    let mut graph = own(rt.alloc(), 1)?;
-    for size in [usize::MAX, usize::MAX - 1] {
-        let answer = graph.add_children(children_of(rt.alloc(), &[("a", size), ("b", 1)])?);
-        assert_eq!(rt; answer, Err(Refusal::TooLarge));
-        assert_graph(&rt, &graph, "", 1)?;
-    }
-    Ok(())
-}
-
-#[test]
-fn a_path_is_joined_by_semicolons(rt: HostRuntime) -> Result<(), Refusal> {
-    let mut text = String::new(rt.alloc());
-    push_path(&["a", "b", "c"], &mut text)?;
-    assert_eq!(rt; text.as_str(), "a;b;c");
-    Ok(())
-}
-
-#[test]
 fn hashes_are_fnv(rt: HostRuntime) {
     assert_eq!(rt; Key::hash_of(""), 0xcbf2_9ce4_8422_2325);
     assert_eq!(rt; Key::hash_of("a"), 0xaf63_dc4c_8601_ec8c);
-}
-
-// The hash that a hasher gives a key.
-fn hashed(key: &Key) -> u64 {
-    let mut hasher = DefaultHasher::new();
-    key.hash(&mut hasher);
-    hasher.finish()
 }
 
 #[test]
@@ -223,14 +166,10 @@ fn identities_have_a_maker_and_a_number(rt: HostRuntime) {
 }
 
 #[test]
-fn a_maker_counts_from_zero(rt: HostRuntime) {
+fn a_maker_counts_up_to_the_greatest_number(rt: HostRuntime) {
     let mut maker = IdMaker::new(5);
     assert_eq!(rt; maker.fresh(), Some(Identity::new(5, 0)));
     assert_eq!(rt; maker.fresh(), Some(Identity::new(5, 1)));
-}
-
-#[test]
-fn a_maker_ends_after_the_greatest_number(rt: HostRuntime) {
     let mut last = IdMaker::starting_at(0, u64::MAX);
     let made = [last.fresh(), last.fresh(), last.fresh()];
     assert_eq!(rt; made, [Some(Identity::new(0, u64::MAX)), None, None]);

@@ -10,6 +10,8 @@ mod by_hand;
 #[cfg(test)]
 mod declared;
 #[cfg(test)]
+mod drops;
+#[cfg(test)]
 mod expected;
 #[cfg(test)]
 mod failed;
@@ -20,15 +22,13 @@ mod held;
 #[cfg(test)]
 mod made_graphs;
 #[cfg(test)]
-mod own_types;
-#[cfg(test)]
 mod owned;
 #[cfg(test)]
 mod pictures;
 #[cfg(test)]
 mod reads;
 #[cfg(test)]
-mod session;
+mod shared_catalogue;
 #[cfg(test)]
 mod two;
 #[cfg(test)]

@@ -50,23 +50,3 @@ impl Allocative for Uneven {
 fn each_entry_keeps_what_is_not_inside_it(_rt: HostRuntime) -> Result<(), Fail> {
     is_answer(size_of_owned(&Uneven), Ok(18))
 }
-
-/// Shows `a` of the greatest size and `b 1` in it, and then `c 1`: the sum does not fit because of `c`.
-#[derive(Drop)]
-struct TooMuch;
-
-impl Allocative for TooMuch {
-    ghost may_show = { λ _. shows.Both
-        (shows.Inside (codes "a") 18446744073709551615 (shows.Inside (codes "b") 1 shows.Nothing))
-        (shows.Inside (codes "c") 1 shows.Nothing) };
-
-    fn visit(&self, visitor: &mut Visitor<'_>) -> Result<(), Refusal> {
-        let first = Inside("a", usize::MAX, Inside("b", 1, ()));
-        (first, Inside("c", 1, ())).enter(visitor)
-    }
-}
-
-#[test]
-fn a_sum_past_a_word_is_too_large(_rt: HostRuntime) -> Result<(), Fail> {
-    is_answer(size_of_owned(&TooMuch), Err(Refusal::TooLarge))
-}

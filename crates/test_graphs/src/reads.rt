@@ -21,51 +21,35 @@ fn assert_refused(rt: &(impl Abort + AllocGlobal), text: &'static str, wanted: R
 }
 
 #[test]
-fn equal_paths_add_up_in_any_order(rt: HostRuntime) {
-    assert_read(&rt, "b;c 2\na 1\nb;c 3\nb 4\n", "a 1\nb 4\nb;c 5\n");
-}
-
-#[test]
-fn a_line_may_end_with_a_carriage_return_or_the_text(rt: HostRuntime) {
-    assert_read(&rt, "a 1\r\nb 2", "a 1\nb 2\n");
-}
-
-#[test]
-fn keys_may_be_empty_or_have_spaces(rt: HostRuntime) {
-    assert_read(&rt, "a b;;c d 7\n", "a b;;c d 7\n");
-}
-
-#[test]
-fn blank_lines_are_passed_over(rt: HostRuntime) {
-    assert_read(&rt, "\na 1\r\n\r\nb 2\n\n", "a 1\nb 2\n");
-}
-
-#[test]
-fn an_empty_text_is_a_root(rt: HostRuntime) {
-    assert_read(&rt, "", "");
+fn texts_are_read(rt: HostRuntime) {
+    for (text, wanted) in [
+        // Equal paths add up in any order.
+        ("b;c 2\na 1\nb;c 3\nb 4\n", "a 1\nb 4\nb;c 5\n"),
+        // A line may end with a carriage return or with the text.
+        ("a 1\r\nb 2", "a 1\nb 2\n"),
+        // Keys may be empty or have spaces.
+        ("a b;;c d 7\n", "a b;;c d 7\n"),
+        // Blank lines are passed over.
+        ("\na 1\r\n\r\nb 2\n\n", "a 1\nb 2\n"),
+        ("", ""),
+        ("a 18446744073709551615\nb 0\n", "a 18446744073709551615\n"),
+    ] {
+        assert_read(&rt, text, wanted);
+    }
 }
 
 #[test]
 fn the_first_line_that_is_none_is_named(rt: HostRuntime) {
-    assert_refused(&rt, "a 1\nb\nc\n", ReadFault::Line(2, LineFault::NoSpace));
-    assert_refused(&rt, "a 1\n\nc\n", ReadFault::Line(3, LineFault::NoSpace));
-    assert_refused(&rt, " 1\n", ReadFault::Line(1, LineFault::NoPath));
-    assert_refused(&rt, "a 1\na -1\n", ReadFault::Line(2, LineFault::NoNumber));
-    assert_refused(
-        &rt,
-        "a 18446744073709551616\n",
-        ReadFault::Line(1, LineFault::TooLarge),
-    );
-    assert_refused(&rt, "a +1\n", ReadFault::Line(1, LineFault::NoNumber));
-}
-
-#[test]
-fn bytes_beyond_a_word_are_refused(rt: HostRuntime) {
-    assert_read(
-        &rt,
-        "a 18446744073709551615\nb 0\n",
-        "a 18446744073709551615\n",
-    );
+    for (text, line, wrong) in [
+        ("a 1\nb\nc\n", 2, LineFault::NoSpace),
+        ("a 1\n\nc\n", 3, LineFault::NoSpace),
+        (" 1\n", 1, LineFault::NoPath),
+        ("a 1\na -1\n", 2, LineFault::NoNumber),
+        ("a 18446744073709551616\n", 1, LineFault::TooLarge),
+        ("a +1\n", 1, LineFault::NoNumber),
+    ] {
+        assert_refused(&rt, text, ReadFault::Line(line, wrong));
+    }
     assert_refused(&rt, "a 18446744073709551615\nb 1\n", ReadFault::TooLarge);
 }
 

@@ -301,12 +301,6 @@ fn a_slice_by_itself(rt: HostRuntime) -> Result<(), Fail> {
 }
 
 #[test]
-fn a_body(rt: HostRuntime) -> Result<(), Fail> {
-    let items = vec![in rt.alloc(); 1u8, 2, 3]?;
-    expect_text(&rt, &Body(items), "ptr 8\nptr;capacity;u8 3\n")
-}
-
-#[test]
 fn a_full_buffer_holds_its_bytes(rt: HostRuntime) -> Result<(), Fail> {
     let buffer = Body([1u8, 2, 3].to_vec(rt.alloc())?);
     assert_eq!(rt; size_of_unique_allocated_data(&buffer)?, 3);

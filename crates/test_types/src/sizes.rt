@@ -116,108 +116,129 @@ fn is<T: Described>(name: &str, size: usize, align: usize, needs_drop: bool) -> 
 
 #[test]
 fn whole_numbers(rt: HostRuntime) {
-    assert!(rt; is::<u8>("u8", 1, 1, false));
-    assert!(rt; is::<u16>("u16", 2, 2, false));
-    assert!(rt; is::<u32>("u32", 4, 4, false));
-    assert!(rt; is::<u64>("u64", 8, 8, false));
-    assert!(rt; is::<u128>("u128", 16, 16, false));
-    assert!(rt; is::<usize>("usize", 8, 8, false));
-    assert!(rt; is::<i8>("i8", 1, 1, false));
-    assert!(rt; is::<i16>("i16", 2, 2, false));
-    assert!(rt; is::<i32>("i32", 4, 4, false));
-    assert!(rt; is::<i64>("i64", 8, 8, false));
-    assert!(rt; is::<i128>("i128", 16, 16, false));
-    assert!(rt; is::<isize>("isize", 8, 8, false));
-    assert!(rt; is::<bool>("bool", 1, 1, false));
+    let are_right = [
+        is::<u8>("u8", 1, 1, false),
+        is::<u16>("u16", 2, 2, false),
+        is::<u32>("u32", 4, 4, false),
+        is::<u64>("u64", 8, 8, false),
+        is::<u128>("u128", 16, 16, false),
+        is::<usize>("usize", 8, 8, false),
+        is::<i8>("i8", 1, 1, false),
+        is::<i16>("i16", 2, 2, false),
+        is::<i32>("i32", 4, 4, false),
+        is::<i64>("i64", 8, 8, false),
+        is::<i128>("i128", 16, 16, false),
+        is::<isize>("isize", 8, 8, false),
+        is::<bool>("bool", 1, 1, false),
+    ];
+    assert_eq!(rt; are_right, [true; 13]);
 }
 
 #[test]
 fn fractions_and_letters(rt: HostRuntime) {
-    assert!(rt; is::<f32>("f32", 4, 4, false));
-    assert!(rt; is::<f64>("f64", 8, 8, false));
-    assert!(rt; is::<char>("char", 4, 4, false));
+    let are_right = [
+        is::<f32>("f32", 4, 4, false),
+        is::<f64>("f64", 8, 8, false),
+        is::<char>("char", 4, 4, false),
+    ];
+    assert_eq!(rt; are_right, [true; 3]);
 }
 
 #[test]
 fn numbers_that_are_not_zero(rt: HostRuntime) {
-    assert!(rt; is::<NonZeroU8>("NonZeroU8", 1, 1, false));
-    assert!(rt; is::<NonZeroU16>("NonZeroU16", 2, 2, false));
-    assert!(rt; is::<NonZeroU32>("NonZeroU32", 4, 4, false));
-    assert!(rt; is::<NonZeroU64>("NonZeroU64", 8, 8, false));
-    assert!(rt; is::<NonZeroUsize>("NonZeroUsize", 8, 8, false));
-    assert!(rt; is::<NonZeroI8>("NonZeroI8", 1, 1, false));
-    assert!(rt; is::<NonZeroI16>("NonZeroI16", 2, 2, false));
-    assert!(rt; is::<NonZeroI32>("NonZeroI32", 4, 4, false));
-    assert!(rt; is::<NonZeroI64>("NonZeroI64", 8, 8, false));
-    assert!(rt; is::<NonZeroIsize>("NonZeroIsize", 8, 8, false));
+    let are_right = [
+        is::<NonZeroU8>("NonZeroU8", 1, 1, false),
+        is::<NonZeroU16>("NonZeroU16", 2, 2, false),
+        is::<NonZeroU32>("NonZeroU32", 4, 4, false),
+        is::<NonZeroU64>("NonZeroU64", 8, 8, false),
+        is::<NonZeroUsize>("NonZeroUsize", 8, 8, false),
+        is::<NonZeroI8>("NonZeroI8", 1, 1, false),
+        is::<NonZeroI16>("NonZeroI16", 2, 2, false),
+        is::<NonZeroI32>("NonZeroI32", 4, 4, false),
+        is::<NonZeroI64>("NonZeroI64", 8, 8, false),
+        is::<NonZeroIsize>("NonZeroIsize", 8, 8, false),
+    ];
+    assert_eq!(rt; are_right, [true; 10]);
 }
 
 #[test]
 fn atomics(rt: HostRuntime) {
-    assert!(rt; is::<AtomicU8>("AtomicU8", 1, 1, false));
-    assert!(rt; is::<AtomicU16>("AtomicU16", 2, 2, false));
-    assert!(rt; is::<AtomicU32>("AtomicU32", 4, 4, false));
-    assert!(rt; is::<AtomicU64>("AtomicU64", 8, 8, false));
-    assert!(rt; is::<AtomicUsize>("AtomicUsize", 8, 8, false));
-    assert!(rt; is::<AtomicI8>("AtomicI8", 1, 1, false));
-    assert!(rt; is::<AtomicI16>("AtomicI16", 2, 2, false));
-    assert!(rt; is::<AtomicI32>("AtomicI32", 4, 4, false));
-    assert!(rt; is::<AtomicI64>("AtomicI64", 8, 8, false));
-    assert!(rt; is::<AtomicIsize>("AtomicIsize", 8, 8, false));
-    assert!(rt; is::<AtomicBool>("AtomicBool", 1, 1, false));
+    let are_right = [
+        is::<AtomicU8>("AtomicU8", 1, 1, false),
+        is::<AtomicU16>("AtomicU16", 2, 2, false),
+        is::<AtomicU32>("AtomicU32", 4, 4, false),
+        is::<AtomicU64>("AtomicU64", 8, 8, false),
+        is::<AtomicUsize>("AtomicUsize", 8, 8, false),
+        is::<AtomicI8>("AtomicI8", 1, 1, false),
+        is::<AtomicI16>("AtomicI16", 2, 2, false),
+        is::<AtomicI32>("AtomicI32", 4, 4, false),
+        is::<AtomicI64>("AtomicI64", 8, 8, false),
+        is::<AtomicIsize>("AtomicIsize", 8, 8, false),
+        is::<AtomicBool>("AtomicBool", 1, 1, false),
+    ];
+    assert_eq!(rt; are_right, [true; 11]);
 }
 
 #[test]
 fn types_of_std(rt: HostRuntime) {
-    assert!(rt; is::<&'static u128>("&", 8, 8, false));
-    assert!(rt; is::<Box<u128>>("Box", 8, 8, true));
-    assert!(rt; is::<Vec<u128>>("Vec", 24, 8, true));
-    assert!(rt; is::<String>("String", 24, 8, true));
-    assert!(rt; is::<VecDeque<u128>>("VecDeque", 32, 8, true));
-    assert!(rt; is::<BTreeMap<u128, u8>>("BTreeMap", 24, 8, true));
-    assert!(rt; is::<BTreeSet<u128>>("BTreeSet", 24, 8, true));
-    assert!(rt; is::<HashMap<u64, u8>>("HashMap", 48, 8, true));
-    assert!(rt; is::<HashSet<u64>>("HashSet", 48, 8, true));
-    assert!(rt; is::<IpAddr>("IpAddr", 17, 1, false));
-    assert!(rt; is::<Ipv4Addr>("Ipv4Addr", 4, 1, false));
-    assert!(rt; is::<Ipv6Addr>("Ipv6Addr", 16, 1, false));
-    assert!(rt; is::<Duration>("Duration", 16, 8, false));
-    assert!(rt; is::<Instant>("Instant", 16, 8, false));
-    assert!(rt; is::<SystemTime>("SystemTime", 16, 8, false));
-    assert!(rt; is::<()>("()", 0, 1, false));
-    assert!(rt; is::<PhantomData<String>>("PhantomData", 0, 1, false));
-    assert!(rt; is::<Infallible>("Infallible", 0, 1, false));
+    let are_right = [
+        is::<&'static u128>("&", 8, 8, false),
+        is::<Box<u128>>("Box", 8, 8, true),
+        is::<Vec<u128>>("Vec", 24, 8, true),
+        is::<String>("String", 24, 8, true),
+        is::<VecDeque<u128>>("VecDeque", 32, 8, true),
+        is::<BTreeMap<u128, u8>>("BTreeMap", 24, 8, true),
+        is::<BTreeSet<u128>>("BTreeSet", 24, 8, true),
+        is::<HashMap<u64, u8>>("HashMap", 48, 8, true),
+        is::<HashSet<u64>>("HashSet", 48, 8, true),
+        is::<IpAddr>("IpAddr", 17, 1, false),
+        is::<Ipv4Addr>("Ipv4Addr", 4, 1, false),
+        is::<Ipv6Addr>("Ipv6Addr", 16, 1, false),
+        is::<Duration>("Duration", 16, 8, false),
+        is::<Instant>("Instant", 16, 8, false),
+        is::<SystemTime>("SystemTime", 16, 8, false),
+        is::<()>("()", 0, 1, false),
+        is::<PhantomData<String>>("PhantomData", 0, 1, false),
+        is::<Infallible>("Infallible", 0, 1, false),
+    ];
+    assert_eq!(rt; are_right, [true; 18]);
 }
 
 #[test]
 fn composed_types(rt: HostRuntime) {
-    assert!(rt; is::<(u16,)>("tuple1", 2, 2, false));
-    assert!(rt; is::<(u8, u32)>("tuple2", 8, 4, false));
-    assert!(rt; is::<(u32, String, u8)>("tuple3", 32, 8, true));
-    assert!(rt; is::<(u8, u16, u8, u8)>("tuple4", 6, 2, false));
-    assert!(rt; is::<(u8, u8, u8, u8, Box<u8>)>("tuple5", 16, 8, true));
-    assert!(rt; is::<Option<u32>>("Option", 8, 4, false));
-    assert!(rt; is::<Option<Box<u8>>>("Option", 16, 8, true));
-    assert!(rt; is::<Result<u8, u16>>("Result", 4, 2, false));
-    assert!(rt; is::<Result<u8, String>>("Result", 32, 8, true));
-    assert!(rt; is::<[u16; 3]>("array", 6, 2, false));
-    assert!(rt; is::<[String; 2]>("array", 48, 8, true));
-    assert!(rt; is::<ManuallyDrop<String>>("ManuallyDrop", 24, 8, false));
+    let are_right = [
+        is::<(u16,)>("tuple1", 2, 2, false),
+        is::<(u8, u32)>("tuple2", 8, 4, false),
+        is::<(u32, String, u8)>("tuple3", 32, 8, true),
+        is::<(u8, u16, u8, u8)>("tuple4", 6, 2, false),
+        is::<(u8, u8, u8, u8, Box<u8>)>("tuple5", 16, 8, true),
+        is::<Option<u32>>("Option", 8, 4, false),
+        is::<Option<Box<u8>>>("Option", 16, 8, true),
+        is::<Result<u8, u16>>("Result", 4, 2, false),
+        is::<Result<u8, String>>("Result", 32, 8, true),
+        is::<[u16; 3]>("array", 6, 2, false),
+        is::<[String; 2]>("array", 48, 8, true),
+        is::<ManuallyDrop<String>>("ManuallyDrop", 24, 8, false),
+    ];
+    assert_eq!(rt; are_right, [true; 12]);
 }
 
 #[test]
 fn types_of_other_crates(rt: HostRuntime) {
-    assert!(rt; is::<Either<u8, u64>>("Either", 16, 8, false));
-    assert!(rt; is::<Either<Box<u8>, u8>>("Either", 16, 8, true));
-    assert!(rt; is::<SmallVec<u64, 2>>("SmallVec", 24, 8, true));
-    assert!(rt; is::<SmallVec<u128, 2>>("SmallVec", 48, 16, true));
-    assert!(rt; is::<OnceBox<u128>>("OnceBox", 8, 8, true));
-    assert!(rt; is::<IndexMap<u64, u8>>("IndexMap", 72, 8, true));
-    assert!(rt; is::<IndexSet<u64>>("IndexSet", 72, 8, true));
-    assert!(rt; is::<Slab<u128>>("Slab", 40, 8, true));
-    assert!(rt; is::<Value>("Value", 32, 8, true));
-    assert!(rt; is::<Number>("Number", 16, 8, false));
-    assert!(rt; is::<anyhow::Error>("anyhow::Error", 8, 8, true));
+    let are_right = [
+        is::<Either<u8, u64>>("Either", 16, 8, false),
+        is::<Either<Box<u8>, u8>>("Either", 16, 8, true),
+        is::<SmallVec<u64, 2>>("SmallVec", 24, 8, true),
+        is::<SmallVec<u128, 2>>("SmallVec", 48, 16, true),
+        is::<OnceBox<u128>>("OnceBox", 8, 8, true),
+        is::<IndexMap<u64, u8>>("IndexMap", 72, 8, true),
+        is::<IndexSet<u64>>("IndexSet", 72, 8, true),
+        is::<Slab<u128>>("Slab", 40, 8, true),
+        is::<Value>("Value", 32, 8, true),
+        is::<Number>("Number", 16, 8, false),
+        is::<anyhow::Error>("anyhow::Error", 8, 8, true),
+    ];
+    assert_eq!(rt; are_right, [true; 11]);
 }
 
 // An enum: no field, a text, or two numbers.
@@ -225,35 +246,44 @@ type ThreeVariants = Record<(u8, Or<(), Or<(String, ()), (u32, (u32, ()))>>)>;
 
 #[test]
 fn fields_of_a_type(rt: HostRuntime) {
-    assert!(rt; is::<Record<()>>("Record", 0, 1, false));
-    assert!(rt; is::<Record<(u8, (u16, (u8, ())))>>("Record", 4, 2, false));
-    assert!(rt; is::<Record<(u64, (String, (bool, ())))>>("Record", 40, 8, true));
-    assert!(rt; is::<Record<And<(u8, (u16, ())), (u8, ())>>>("Record", 4, 2, false));
-    assert!(rt; is::<Record<And<(), (String, (bool, ()))>>>("Record", 32, 8, true));
-    assert!(rt; is::<Record<(u8, Or<(u16, ()), (u32, ())>)>>("Record", 8, 4, false));
-    assert!(rt; is::<ThreeVariants>("Record", 32, 8, true));
+    let are_right = [
+        is::<Record<()>>("Record", 0, 1, false),
+        is::<Record<(u8, (u16, (u8, ())))>>("Record", 4, 2, false),
+        is::<Record<(u64, (String, (bool, ())))>>("Record", 40, 8, true),
+        is::<Record<And<(u8, (u16, ())), (u8, ())>>>("Record", 4, 2, false),
+        is::<Record<And<(), (String, (bool, ()))>>>("Record", 32, 8, true),
+        is::<Record<(u8, Or<(u16, ()), (u32, ())>)>>("Record", 8, 4, false),
+        is::<ThreeVariants>("Record", 32, 8, true),
+    ];
+    assert_eq!(rt; are_right, [true; 7]);
 }
 
 #[test]
 fn sizes_that_do_not_fit(rt: HostRuntime) {
-    assert_eq!(rt; Option::<Huge>::size(), None);
-    assert_eq!(rt; <(Huge, u8)>::size(), None);
-    assert_eq!(rt; <Record<(Huge, (u8, ()))>>::size(), None);
-    assert_eq!(rt; <Record<And<(Huge, ()), (u8, ())>>>::size(), None);
-    assert_eq!(rt; <Record<Or<(Huge, (u8, ())), ()>>>::size(), None);
-    assert_eq!(rt; <[Huge; 2]>::size(), None);
+    let sizes = [
+        Option::<Huge>::size(),
+        <(Huge, u8)>::size(),
+        <Record<(Huge, (u8, ()))>>::size(),
+        <Record<And<(Huge, ()), (u8, ())>>>::size(),
+        <Record<Or<(Huge, (u8, ())), ()>>>::size(),
+        <[Huge; 2]>::size(),
+        Result::<Huge, u8>::size(),
+        SmallVec::<Huge, 2>::size(),
+        ManuallyDrop::<[Huge; 2]>::size(),
+        shared_inner_size::<Huge>(),
+    ];
+    assert_eq!(rt; sizes, [None; 10]);
     assert_eq!(rt; <[Huge; 1]>::size(), Some(usize::MAX));
-    assert_eq!(rt; Result::<Huge, u8>::size(), None);
-    assert_eq!(rt; SmallVec::<Huge, 2>::size(), None);
-    assert_eq!(rt; ManuallyDrop::<[Huge; 2]>::size(), None);
-    assert_eq!(rt; shared_inner_size::<Huge>(), None);
 }
 
 #[test]
 fn sizes_behind_a_shared_pointer(rt: HostRuntime) {
-    assert_eq!(rt; shared_inner_size::<u8>(), Some(24));
-    assert_eq!(rt; shared_inner_size::<u64>(), Some(24));
-    assert_eq!(rt; shared_inner_size::<CacheLine>(), Some(128));
+    let sizes = [
+        shared_inner_size::<u8>(),
+        shared_inner_size::<u64>(),
+        shared_inner_size::<CacheLine>(),
+    ];
+    assert_eq!(rt; sizes, [Some(24), Some(24), Some(128)]);
 }
 
 #[test]
@@ -266,8 +296,11 @@ fn raw_tables(rt: HostRuntime) {
         );
     }
     let half = 9223372036854775808;
-    assert_eq!(rt; raw_table_alloc_size_for_len::<u64>(half), None);
-    assert_eq!(rt; raw_table_alloc_size_for_len::<()>(half), Some(half));
-    assert_eq!(rt; raw_table_alloc_size_for_len::<()>(half + 1), None);
-    assert_eq!(rt; raw_table_alloc_size_for_len::<Huge>(1), None);
+    let sizes = [
+        raw_table_alloc_size_for_len::<u64>(half),
+        raw_table_alloc_size_for_len::<()>(half),
+        raw_table_alloc_size_for_len::<()>(half + 1),
+        raw_table_alloc_size_for_len::<Huge>(1),
+    ];
+    assert_eq!(rt; sizes, [None, Some(half), None, None]);
 }

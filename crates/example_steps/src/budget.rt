@@ -1,6 +1,4 @@
 //! Keeps a note within a budget, shows it by a page that is kept, and says how much it grew.
-#![tactic(auto)]
-
 use allocative_service::cache::BoundedCache;
 use allocative_service::history::{History, report};
 use allocative_service::ledger::{Budget, Ledger};
@@ -8,7 +6,8 @@ use allocative_service::measure::Measure;
 use anyhow::Result;
 use std::alloc::Global;
 
-fn serve(rt: &impl Print, alloc: Global) -> Result<()> {
+/// Prints the bytes of a note before and after it has grown, and those of its pages.
+pub(crate) fn serve(rt: &impl Print, alloc: Global) -> Result<()> {
     let mut ledger = Ledger::new(alloc, Measure::Shown);
     let mut history = History::new(alloc, 2);
     let mut note = String::from_str(alloc, "twelve bytes")?;
@@ -38,9 +37,4 @@ fn keep_pages(rt: &impl Print, alloc: Global) -> Result<()> {
     }
     println!(rt; "{} pages of {} bytes", pages.len(), pages.bytes())?;
     Ok(())
-}
-
-fn main(rt: HostRuntime) -> Result<()> {
-    let alloc = rt.alloc();
-    serve(&rt, alloc)
 }
