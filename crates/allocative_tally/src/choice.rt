@@ -9,21 +9,21 @@ use allocative::{Described, Refusal, Visitor};
 
 /// Options, counted.
 #[derive(Drop)]
-pub struct OptionTally<T: Tallied> {
+pub struct OptionTally<S> {
     own: Sum,
     some: Sum,
-    value: T::Tally,
+    value: S,
 }
 
-impl<T: Tallied> Tally for OptionTally<T> {
+impl<S: Tally> Tally for OptionTally<S> {
     ghost shape = { λ t. EntryAt Wide (codes "Option") t.own
-        (EntryAt Wide (codes "Some") t.some (T.Tally.shape t.value)) };
+        (EntryAt Wide (codes "Some") t.some (S.shape t.value)) };
 
     fn none() -> Self {
         OptionTally {
             own: Sum::none(),
             some: Sum::none(),
-            value: T::Tally::none(),
+            value: S::none(),
         }
     }
 
@@ -34,9 +34,9 @@ impl<T: Tallied> Tally for OptionTally<T> {
 }
 
 impl<T: Tallied> Tallied for Option<T> {
-    type Tally = OptionTally<T>;
+    type Tally = OptionTally<T::Tally>;
 
-    fn tally(&self, tally: &mut OptionTally<T>) -> Result<(), Refusal> {
+    fn tally(&self, tally: &mut OptionTally<T::Tally>) -> Result<(), Refusal> {
         let Some(size) = <Option<T>>::size() else {
             return Err(Refusal::TooLarge);
         };

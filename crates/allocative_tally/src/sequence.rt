@@ -10,25 +10,28 @@ ghost use Rattle.allocative_tally.specs.Tallies.{Tallies};
 use crate::counted::count_each;
 use crate::tally::{Entries, InlineSum, Sum, Tallied, Tally, UniqueSum};
 use allocative::{Described, Refusal, Visitor};
+use std::marker::PhantomData;
 
 /// Buffers of vectors, counted.
 #[derive(Drop)]
-pub struct BufferTally<T: Tallied> {
+pub struct BufferTally<T, S> {
     pub(crate) pointer: Sum,
     pub(crate) slice: Sum,
     pub(crate) unused: Sum,
-    pub(crate) item: T::Tally,
+    pub(crate) item: S,
+    pub(crate) name: PhantomData<T>,
 }
 
-impl<T: Tallied> Tally for BufferTally<T> {
-    ghost shape = { λ t. buffer_shape t.pointer (slice_shape T.name t.slice (T.Tally.shape t.item)) t.unused };
+impl<T: Described, S: Tally> Tally for BufferTally<T, S> {
+    ghost shape = { λ t. buffer_shape t.pointer (slice_shape T.name t.slice (S.shape t.item)) t.unused };
 
     fn none() -> Self {
         BufferTally {
             pointer: Sum::none(),
             slice: Sum::none(),
             unused: Sum::none(),
-            item: T::Tally::none(),
+            item: S::none(),
+            name: PhantomData,
         }
     }
 
@@ -41,13 +44,13 @@ impl<T: Tallied> Tally for BufferTally<T> {
 
 /// Vectors, counted.
 #[derive(Drop)]
-pub struct VecTally<T: Tallied> {
+pub struct VecTally<T, S> {
     own: Sum,
-    buffer: BufferTally<T>,
+    buffer: BufferTally<T, S>,
 }
 
-impl<T: Tallied> Tally for VecTally<T> {
-    ghost shape = { λ t. EntryAt Wide (codes "Vec") t.own (⟦<BufferTally<T> as Tally>⟧.shape t.buffer) };
+impl<T: Described, S: Tally> Tally for VecTally<T, S> {
+    ghost shape = { λ t. EntryAt Wide (codes "Vec") t.own (⟦<BufferTally<T, S> as Tally>⟧.shape t.buffer) };
 
     fn none() -> Self {
         VecTally {
@@ -103,12 +106,12 @@ pub fn count_unused(sum: &mut Sum, size: usize, count: usize) -> Result<(), Refu
 }
 
 /// Counts the buffer of a vector.
-pub fn count_buffer<T: Tallied>(items: &Vec<T>, tally: &mut BufferTally<T>) -> Result<(), Refusal>
+pub fn count_buffer<T: Tallied>(items: &Vec<T>, tally: &mut BufferTally<T, T::Tally>) -> Result<(), Refusal>
     ensures { IfOk result (λ _. Tallies (Some 8)
         (buffer_shows T.size (slice_shows T.name T.size T.needs_drop T.may_show items.now.items)
         (length items.now.items) (vec_capacity items.now))
-        (⟦<BufferTally<T> as Tally>⟧.shape tally.old)
-        (⟦<BufferTally<T> as Tally>⟧.shape tally.new)) }
+        (⟦<BufferTally<T, T::Tally> as Tally>⟧.shape tally.old)
+        (⟦<BufferTally<T, T::Tally> as Tally>⟧.shape tally.new)) }
 {
     let Some(size) = T::size() else {
         return Err(Refusal::TooLarge);
@@ -128,9 +131,9 @@ pub fn count_buffer<T: Tallied>(items: &Vec<T>, tally: &mut BufferTally<T>) -> R
 }
 
 impl<T: Tallied> Tallied for Vec<T> {
-    type Tally = VecTally<T>;
+    type Tally = VecTally<T, T::Tally>;
 
-    fn tally(&self, tally: &mut VecTally<T>) -> Result<(), Refusal> {
+    fn tally(&self, tally: &mut VecTally<T, T::Tally>) -> Result<(), Refusal> {
         tally.own.add(24)?;
         count_buffer(self, &mut tally.buffer)?;
         Ok(())

@@ -9,26 +9,26 @@ use allocative::{Described, Refusal, Visitor};
 
 /// Pairs, counted.
 #[derive(Drop)]
-pub struct Tuple2Tally<A: Tallied, B: Tallied> {
+pub struct Tuple2Tally<P, Q> {
     own: Sum,
     first: Sum,
     second: Sum,
-    first_value: A::Tally,
-    second_value: B::Tally,
+    first_value: P,
+    second_value: Q,
 }
 
-impl<A: Tallied, B: Tallied> Tally for Tuple2Tally<A, B> {
+impl<P: Tally, Q: Tally> Tally for Tuple2Tally<P, Q> {
     ghost shape = { λ t. EntryAt Wide (codes "tuple2") t.own
-        (Beside (EntryAt Wide (codes "0") t.first (A.Tally.shape t.first_value))
-        (EntryAt Wide (codes "1") t.second (B.Tally.shape t.second_value))) };
+        (Beside (EntryAt Wide (codes "0") t.first (P.shape t.first_value))
+        (EntryAt Wide (codes "1") t.second (Q.shape t.second_value))) };
 
     fn none() -> Self {
         Tuple2Tally {
             own: Sum::none(),
             first: Sum::none(),
             second: Sum::none(),
-            first_value: A::Tally::none(),
-            second_value: B::Tally::none(),
+            first_value: P::none(),
+            second_value: Q::none(),
         }
     }
 
@@ -40,9 +40,9 @@ impl<A: Tallied, B: Tallied> Tally for Tuple2Tally<A, B> {
 }
 
 impl<A: Tallied, B: Tallied> Tallied for (A, B) {
-    type Tally = Tuple2Tally<A, B>;
+    type Tally = Tuple2Tally<A::Tally, B::Tally>;
 
-    fn tally(&self, tally: &mut Tuple2Tally<A, B>) -> Result<(), Refusal> {
+    fn tally(&self, tally: &mut Tuple2Tally<A::Tally, B::Tally>) -> Result<(), Refusal> {
         let Some(size) = <(A, B)>::size() else {
             return Err(Refusal::TooLarge);
         };

@@ -3,11 +3,14 @@
 use allocative::{Part, Refusal, Visitor};
 use allocative_tally::counted::Counted;
 
-fn enter_rows(rows: &Vec<(u64, Option<Vec<String>>)>, visitor: &mut Visitor<'_>) -> Result<(), Refusal> {
+fn enter_deep(
+    rows: &Vec<Vec<Vec<(u64, Option<(u64, Vec<(u64, Option<String>)>)>)>>>,
+    visitor: &mut Visitor<'_>,
+) -> Result<(), Refusal> {
     Counted(rows).enter(visitor)
 }
 
 #[test]
-fn rows_are_entered() {
-    let _ = enter_rows;
+fn deep_rows_are_entered() {
+    let _ = enter_deep;
 }
