@@ -86,17 +86,25 @@ tallies_both {m} {n} {s = s} {u = u} a b = record {
 
 -- A value was counted into the first of two shapes.
 pub tallies_first : {w : Option ℕ} {p : Showing} {s t : Shape} (u : Shape) → Tallies w p s t →
-    Tallies None p (Beside s u) (Beside t u)
-tallies_first {p = p} u c =
-    tallies_as (λ h (a, b, x, e, i). subst p (sym (i ∙ ap (followed_by a) e ∙ followed_by-empty a)) x)
-      (tallies_loosely (tallies_both {q = Nothing} c (tallies_none {w = None} refl)))
+    Tallies w p (Beside s u) (Beside t u)
+unfolding tallies_both tallies_none
+tallies_first {p = p} {s} {t} u c =
+    let all = tallies_both {q = Nothing} c (tallies_none {w = None} {s = u} refl) in
+    record {
+      counted = c.counted;
+      allowed = c.allowed;
+      within = c.within;
+      merged = λ r. subst (λ (h : Forest). Merged (followed_by (forest_of (Beside s u)) h) (forest_of (Beside t u)) × Holds (Beside t u))
+          (followed_by-empty c.counted) (all.merged r);
+    }
 
 -- A value was counted into the second of two shapes.
 pub tallies_second : {w : Option ℕ} {p : Showing} {s t : Shape} (u : Shape) → Tallies w p s t →
-    Tallies None p (Beside u s) (Beside u t)
+    Tallies w p (Beside u s) (Beside u t)
+unfolding tallies_both tallies_none
 tallies_second {p = p} u c =
-    tallies_as (λ h (a, b, e, x, i). subst p (sym (i ∙ ap (λ z. followed_by z b) e)) x)
-      (tallies_loosely (tallies_both {p = Nothing} (tallies_none {w = None} refl) c))
+    let all = tallies_both {p = Nothing} (tallies_none {w = None} {s = u} refl) c in
+    record { counted = c.counted; allowed = c.allowed; within = c.within; merged = all.merged }
 
 -- Entries of one kind keep what they own when they are merged.
 keeps_owned : (x : Width) (m n : ℕ) (f h : Forest) → Keeps x m f → Keeps x n h → KeepsOwned (is_unique x) m n f h

@@ -1,19 +1,21 @@
 -- What was entered as the merged forest was entered as the forests that it merges.
 use Rattle.std.proofs.Common.{◌≡◌, ℕ, ◌+◌, ◌-◌, min, Bool, true, false, cond, Result, Ok, refl, sym, ap, subst, ◌∙◌, arith}
-use Rattle.std.proofs.Common.{append-nil}
+use Rattle.std.proofs.Common.{append-nil, List, [], ◌∷◌, ◌++◌, length, get_or, take, drop}
+use Rattle.std.proofs.lemmas.List.{take-append-drop}
 use Rattle.allocative.proofs.Common.{Refusal, Key, Forest, Empty, followed_by, entry_of, add_all, Live, Kind, OfGraph}
 use Rattle.allocative.proofs.Common.{OfHeld, OfOwned, State, plus, Showing, Nothing, Both, InsideAs, AddsForest, already}
 use Rattle.allocative.proofs.Common.{refused, hidden, forgotten, CanTake, HasRoomFor, IsDeclared, FailsOnlyIfFull}
-use Rattle.allocative.proofs.Common.{ShowsContents, has_added, has_refused, Entered, Means}
+use Rattle.allocative.proofs.Common.{ShowsContents, each_shows, has_added, has_refused, Entered, Means}
 use Rattle.allocative_graph.specs.Forest.{own_behind, met_after, Inline, Unique, First, Again}
 use Rattle.allocative_graph.specs.Collector.{Holding, Owning, plus_live, plus_holding, plus_owning, entries_at}
 use Rattle.allocative_graph.specs.Path.{Path}
 use Rattle.allocative_graph.specs.Visits.{added}
 use Rattle.allocative_graph.specs.Identity.{Identities}
 use Rattle.allocative.specs.Exact.{had_failed}
-use Rattle.allocative.proofs.Meaning.{entered_as, entered_none}
+use Rattle.allocative.proofs.Meaning.{entered_as, entered_none, means_same}
 use Rattle.std.proofs.lemmas.Bool.{false≢true}
-use Rattle.allocative.proofs.Exact.{may_refuse, declared_entry, declared_both}
+use Rattle.allocative.proofs.Exact.{may_refuse, declared_entry, declared_both, declared_first, declared_append}
+use Rattle.allocative.proofs.Exact.{each_append, each_one}
 use Rattle.allocative_tally.specs.Merged.{IsPlain, Merged}
 use Rattle.allocative_tally.specs.Shapes.{Width, is_unique, Shape, NoEntry, Beside, EntryAt, forest_of, IsNothing}
 use Rattle.allocative_tally.specs.Shapes.{entry_counted, shape_shows, is_shape}
@@ -198,3 +200,25 @@ enters_shape h m = record { entered = entered_as h m }
 pub enters_none : (x : Width) {k : Key} {sum : Sum} {s : Shape} (a : _) → sum.is_there ≡ false →
     EntersShape (EntryAt x k sum s) a a (Ok tt)
 enters_none x a b = record { entered = entered_none a (means_not_there x b) }
+
+-- ---- items, one by one
+-- No item shows nothing.
+pub each_none : {T : Type 0} {e : Bool} (p : T → Showing) (xs : List T) → length xs ≡ 0 →
+    Means e Nothing (each_shows p xs)
+each_none p [] h = means_same
+each_none p (x ∷ xs) h = absurd (omega (arith, h))
+
+-- One item shows what it shows.
+pub each_single : {T : Type 0} {e : Bool} (p : T → Showing) (xs : List T) (x : T) → length xs ≡ 1 → x ≡ get_or xs 0 x →
+    Means e (p x) (each_shows p xs)
+each_single p [] x h i = absurd (omega (arith, h))
+each_single {e = e} p (y ∷ []) x h i = subst (λ z. Means e (p z) (each_shows p (y ∷ []))) (sym i)
+    (record { means = each_one p y; declared = λ j d. declared_first d })
+each_single p (y ∷ z ∷ ys) x h i = absurd (omega (arith, h))
+
+-- The items of the front and then those of the back are all items.
+pub each_halves : {T : Type 0} {e : Bool} (p : T → Showing) (xs front back : List T) (n : ℕ) → front ≡ take n xs →
+    back ≡ drop n xs → Means e (Both (each_shows p front) (each_shows p back)) (each_shows p xs)
+each_halves {e = e} p xs front back n f b = subst (λ ys. Means e (Both (each_shows p front) (each_shows p back)) (each_shows p ys))
+    ((λ i. f i ++ b i) ∙ take-append-drop n xs)
+    (record { means = each_append p front back; declared = λ j d. declared_append p front back d })

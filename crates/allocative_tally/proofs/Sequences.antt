@@ -1,15 +1,16 @@
 -- How slices and buffers are counted.
-use Rattle.std.proofs.Common.{◌≡◌, ◌≤◌, ◌<◌, ◌+◌, ◌-◌, ◌*◌, ◌^◌, ℕ, true, false, Bool, codes, Option, Some, None, List}
+use Rattle.std.proofs.Common.{◌≡◌, ◌≤◌, ◌<◌, ◌+◌, ◌-◌, ◌*◌, ◌^◌, ℕ, true, false, Bool, codes, Option, Some, None, List, ◌++◌}
 use Rattle.std.proofs.Common.{length, refl, sym, ap, subst, ◌∙◌, arith}
 use Rattle.allocative_graph.specs.Shows.{is_shown_each}
 use Rattle.allocative.proofs.Common.{Key, Showing, Nothing, Both, Inside, InsideUnique, Field, each_shows, slice_shows}
 use Rattle.allocative.proofs.Common.{bytes_shown, buffer_shows, checked, with_room, without_room, without_size}
+use Rattle.allocative.specs.Bodies.{cut_shows, is_cut}
 use Rattle.allocative.proofs.Bodies.{checked_fits}
 use Rattle.allocative_tally.specs.Shapes.{Shape, Unique, Wide, NoEntry, Beside, EntryAt, slice_shape, buffer_shape}
 use Rattle.allocative_tally.specs.Tallies.{Tallies, AddsEntry}
 use Rattle.allocative_tally.specs.declared.tally.Sum.{Sum}
 use Rattle.allocative_tally.proofs.Counting.{counted_field, counted_inline, counted_unique, counted_leaf, tallies_both}
-use Rattle.allocative_tally.proofs.Counting.{tallies_first, tallies_second}
+use Rattle.allocative_tally.proofs.Counting.{tallies_first, tallies_second, tallies_then}
 use Rattle.allocative_tally.proofs.Counting.{tallies_none, tallies_as, tallies_loosely, fits_bytes}
 
 -- A slice of items that are not shown one by one is one entry.
@@ -17,7 +18,7 @@ pub slice_one : {T : Type 0} (name : Key) (s m : ℕ) (needs_drop : Bool) (p : T
     {item : Shape} → is_shown_each needs_drop s ≡ false → m ≡ s * length xs → AddsEntry m a a' →
     Tallies None (slice_shows name (Some s) needs_drop p xs) (slice_shape name a item) (slice_shape name a' item)
 slice_one name s m needs_drop p xs {item = item} e i more =
-    tallies_as (λ h x. rw (e, slice_shows) (rw i at x)) (tallies_first item (counted_leaf more))
+    tallies_as (λ h x. rw (e, slice_shows) (rw i at x)) (tallies_loosely (tallies_first item (counted_leaf more)))
 
 -- A slice of items that are shown one by one is what each item shows.
 pub slice_each : {T : Type 0} (name : Key) (s : ℕ) (needs_drop : Bool) (p : T → Showing) (xs : List T) {a : Sum}
@@ -25,6 +26,12 @@ pub slice_each : {T : Type 0} (name : Key) (s : ℕ) (needs_drop : Bool) (p : T 
     Tallies None (slice_shows name (Some s) needs_drop p xs) (slice_shape name a item) (slice_shape name a item')
 slice_each name s needs_drop p xs {a = a} e c =
     tallies_as (λ h x. rw (e, slice_shows) x) (tallies_second (EntryAt Wide name a NoEntry) c)
+
+-- A list in two slices is the first slice and then the second.
+pub cut_counted : {T : Type 0} (name : Key) (size : Option ℕ) (needs_drop : Bool) (p : T → Showing) (xs ys zs : List T)
+    {s t u : Shape} → xs ++ ys ≡ zs → Tallies None (slice_shows name size needs_drop p xs) s t →
+    Tallies None (slice_shows name size needs_drop p ys) t u → Tallies None (cut_shows name size needs_drop p zs) s u
+cut_counted name size needs_drop p xs ys zs e a b = tallies_as (λ h x. is_cut xs ys e x) (tallies_then a b)
 
 -- Unused places are one entry.
 pub room_counted : (k : Key) (s n m : ℕ) {old new : Sum} → m ≡ s * n → AddsEntry m old new →
@@ -47,7 +54,7 @@ no_room_counted e none no_room = tallies_none (without_room (sym e) none no_room
 pub buffer_counted : {b n capacity : ℕ} {p : Showing} {a a' u u' : Sum} {s s' : Shape} → 0 < b → 0 < n + capacity →
     AddsEntry 8 a a' → Tallies None p s s' →
     Tallies None (bytes_shown (codes "unused_capacity") (Some b) (capacity - n))
-      (EntryAt Wide (codes "unused_capacity") u NoEntry) (EntryAt Wide (codes "unused_capacity") u' NoEntry) →
+    (EntryAt Wide (codes "unused_capacity") u NoEntry) (EntryAt Wide (codes "unused_capacity") u' NoEntry) →
     Tallies (Some 8) (buffer_shows (Some b) p n capacity) (buffer_shape a s u) (buffer_shape a' s' u')
 buffer_counted some room pointer items unused =
     tallies_as (λ h x. with_room refl some room x) (counted_unique pointer (tallies_both items unused))

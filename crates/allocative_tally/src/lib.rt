@@ -4,6 +4,8 @@
 pub mod choice;
 pub mod counted;
 pub mod number;
+pub mod pointer;
+pub mod profile;
 pub mod sequence;
 pub mod tally;
 pub mod text;

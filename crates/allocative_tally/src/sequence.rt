@@ -1,15 +1,17 @@
-//! Vectors.
+//! Vectors and deques.
 #![tactic(auto, using(crate::proofs::Rules::sequences))]
 
 ghost use Rattle.std.specs.Prelude.{◌≡◌, codes, IfOk, None, Some, length, vec_capacity};
+ghost use Rattle.std.specs.VecDeque.{deque_capacity};
 ghost use Rattle.allocative_graph.specs.Shows.{slice_shows, is_shown_each};
-ghost use Rattle.allocative.specs.Bodies.{bytes_shown, buffer_shows};
+ghost use Rattle.allocative.specs.Bodies.{bytes_shown, buffer_shows, cut_shows};
 ghost use Rattle.allocative_tally.specs.Shapes.{Wide, EntryAt, Beside, NoEntry, buffer_shape, slice_shape};
 ghost use Rattle.allocative_tally.specs.Tallies.{Tallies};
 
 use crate::counted::count_each;
 use crate::tally::{Entries, InlineSum, Sum, Tallied, Tally, UniqueSum};
 use allocative::{Described, Refusal, Visitor};
+use std::collections::VecDeque;
 use std::marker::PhantomData;
 
 /// Buffers of vectors, counted.
@@ -106,7 +108,10 @@ pub fn count_unused(sum: &mut Sum, size: usize, count: usize) -> Result<(), Refu
 }
 
 /// Counts the buffer of a vector.
-pub fn count_buffer<T: Tallied>(items: &Vec<T>, tally: &mut BufferTally<T, T::Tally>) -> Result<(), Refusal>
+pub fn count_buffer<T: Tallied>(
+    items: &Vec<T>,
+    tally: &mut BufferTally<T, T::Tally>,
+) -> Result<(), Refusal>
     ensures { IfOk result (λ _. Tallies (Some 8)
         (buffer_shows T.size (slice_shows T.name T.size T.needs_drop T.may_show items.now.items)
         (length items.now.items) (vec_capacity items.now))
@@ -136,6 +141,68 @@ impl<T: Tallied> Tallied for Vec<T> {
     fn tally(&self, tally: &mut VecTally<T, T::Tally>) -> Result<(), Refusal> {
         tally.own.add(24)?;
         count_buffer(self, &mut tally.buffer)?;
+        Ok(())
+    }
+}
+
+/// Deques, counted.
+#[derive(Drop)]
+pub struct VecDequeTally<T, S> {
+    own: Sum,
+    buffer: BufferTally<T, S>,
+}
+
+impl<T: Described, S: Tally> Tally for VecDequeTally<T, S> {
+    ghost shape = { λ t. EntryAt Wide (codes "VecDeque") t.own (⟦<BufferTally<T, S> as Tally>⟧.shape t.buffer) };
+
+    fn none() -> Self {
+        VecDequeTally {
+            own: Sum::none(),
+            buffer: BufferTally::none(),
+        }
+    }
+
+    fn enter(&self, visitor: &mut Visitor<'_>) -> Result<(), Refusal> {
+        InlineSum("VecDeque", self.own, &self.buffer).enter(visitor)
+    }
+}
+
+/// Counts the buffer of a deque.
+pub fn count_ring<T: Tallied>(
+    ring: &VecDeque<T>,
+    tally: &mut BufferTally<T, T::Tally>,
+) -> Result<(), Refusal>
+    ensures { IfOk result (λ _. Tallies (Some 8)
+        (buffer_shows T.size (cut_shows T.name T.size T.needs_drop T.may_show ring.now.items)
+        (length ring.now.items) (deque_capacity ring.now))
+        (⟦<BufferTally<T, T::Tally> as Tally>⟧.shape tally.old)
+        (⟦<BufferTally<T, T::Tally> as Tally>⟧.shape tally.new)) }
+{
+    let Some(size) = T::size() else {
+        return Err(Refusal::TooLarge);
+    };
+    if size == 0 {
+        return Ok(());
+    }
+    let count = ring.len();
+    let capacity = ring.capacity();
+    if count == 0 && capacity == 0 {
+        return Ok(());
+    }
+    let (front, back) = ring.as_slices();
+    tally.pointer.add(8)?;
+    count_slice(front, size, &mut tally.slice, &mut tally.item)?;
+    count_slice(back, size, &mut tally.slice, &mut tally.item)?;
+    count_unused(&mut tally.unused, size, capacity.saturating_sub(count))?;
+    Ok(())
+}
+
+impl<T: Tallied> Tallied for VecDeque<T> {
+    type Tally = VecDequeTally<T, T::Tally>;
+
+    fn tally(&self, tally: &mut VecDequeTally<T, T::Tally>) -> Result<(), Refusal> {
+        tally.own.add(32)?;
+        count_ring(self, &mut tally.buffer)?;
         Ok(())
     }
 }
