@@ -35,6 +35,12 @@ pub tallies_as : {w : Option ℕ} {p q : Showing} {s t : Shape} → ((h : Forest
     Tallies w q s t
 tallies_as up t = record { counted = t.counted; allowed = up t.counted t.allowed; within = t.within; merged = t.merged }
 
+-- What was counted is within a bound of all that is allowed.
+pub tallies_within : {w : Option ℕ} {p : Showing} {s t : Shape} (n : ℕ) → ((f : Forest) → p f → direct f ≤ n) →
+    Tallies w p s t → Tallies (Some n) p s t
+tallies_within n least t =
+    record { counted = t.counted; allowed = t.allowed; within = least t.counted t.allowed; merged = t.merged }
+
 -- What was counted need have no bound.
 pub tallies_loosely : {w : Option ℕ} {p : Showing} {s t : Shape} → Tallies w p s t → Tallies None p s t
 tallies_loosely t = record { counted = t.counted; allowed = t.allowed; within = tt; merged = t.merged }

@@ -5,4 +5,5 @@ pub mod Counting
 pub mod Sizes
 pub mod Values
 pub mod Sequences
+pub mod Maps
 pub mod Rules

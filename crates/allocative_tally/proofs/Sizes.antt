@@ -13,6 +13,14 @@ HasRoom v w = (d : ℕ) → IsWithin d w → IsWithin d v
 pub room_then : (u v w : Option ℕ) → HasRoom u v → HasRoom v w → HasRoom u w
 room_then u v w a b d h = a d (b d h)
 
+-- A size that is checked and there is the size itself.
+pub checked_is : (m n : ℕ) → checked m ≡ Some n → m ≡ n
+checked_is m n e = by_test (nat_lt m (2 ^ 64)) e
+  where
+    by_test : (b : Bool) → (if b then Some m else None) ≡ Some n → m ≡ n
+    by_test true i = cc
+    by_test false i = cc
+
 -- A size that is checked is the size or none.
 room_checked : (m d : ℕ) → d ≤ m → IsWithin d (checked m)
 room_checked m d h = by_test (nat_lt m (2 ^ 64))

@@ -1,5 +1,5 @@
 -- What counting a value does to what was counted before.
-use Rattle.std.specs.Prelude.{◌≡◌, ◌≤◌, ◌<◌, ◌+◌, ◌^◌, ℕ, true, Option, None, Some, Result, ⊤}
+use Rattle.std.specs.Prelude.{◌≡◌, ◌≤◌, ◌<◌, ◌+◌, ◌^◌, ℕ, Bool, true, false, ◌*◌, Option, None, Some, Result, ⊤}
 use Rattle.allocative_graph.specs.Path.{Key}
 use Rattle.allocative_graph.specs.Forest.{Forest, followed_by}
 use Rattle.allocative_graph.specs.Owned.{direct}
@@ -37,3 +37,10 @@ pub record AddsEntry (n : ℕ) (old new : Sum) : Type 0 where
 -- The shape was entered, exactly.
 pub record EntersShape (s : Shape) (old new : Visitor) (r : Result (Unit {0}) Refusal) : Type 0 where
   pub entered : Entered true (shape_shows s) old new r
+
+-- Whether n items of a declared size have at most 8 bytes. If there is no size, nothing is said.
+pub record FitsData (size : Option ℕ) (n : ℕ) (fits : Bool) : Type 0 where
+  pub item : ℕ
+  pub is_size : size ≡ Some item
+  pub if_fits : fits ≡ true → item * n ≤ 8
+  pub if_more : fits ≡ false → 8 ≤ item * n
