@@ -9,7 +9,7 @@ use Rattle.allocative_described.specs.Sizes.{checked, size_sum}
 use Rattle.allocative_graph.specs.Forest.{followed_by}
 use Rattle.allocative_graph.specs.Owned.{direct}
 use Rattle.allocative_graph.proofs.Owned.{direct-following}
-use Rattle.allocative.specs.Runs.{IsOfRun, pair_shows}
+use Rattle.allocative.specs.Runs.{IsOfRun, field_of, pair_shows}
 use Rattle.allocative.specs.StdShows.{in_any_order}
 use Rattle.allocative.proofs.Common.{Key, Forest, Showing, Nothing, Both, Inside, Field, sized, each_shows}
 use Rattle.allocative_tally.specs.Shapes.{Shape, Wide, Narrow, NoEntry, Beside, EntryAt}
@@ -42,6 +42,15 @@ sized_direct (Some m) None n p q es f e x = cc
 sized_direct (Some m) (Some k) n p q es f e x =
     pairs_direct m k p q es f x ∙ ap (λ s. s * length es) (checked_is (m + k) n e)
 
+-- Keys have the bytes of their size each.
+pub keys_direct : {K : Type 0} (w : Option ℕ) (n : ℕ) (k : Key) (p : K → Showing) (xs : List K) (f : Forest) →
+    w ≡ Some n → each_shows (field_of k w p) xs f → direct f ≡ n * length xs
+keys_direct None n k p xs f e x = cc
+keys_direct (Some m) n k p [] f e x = ap direct x ∙ omega arith
+keys_direct (Some m) n k p (y ∷ ys) f e (g, h, x, z, j) =
+    let same : m ≡ n = cc in
+    omega (arith, ap direct j ∙ direct-following g h, field_direct k m (p y) g x, same, keys_direct (Some m) n k p ys h e z)
+
 -- ---- counting
 -- The items of a run are those that every run gives.
 pub of_run : {S A B : Type 0} {steps : S → Option A → S → Type 0} {s : S} {v : A → B} {q : List B → Showing}
@@ -64,38 +73,40 @@ data_as : (k : Key) (n : ℕ) {p q : Showing} → ((f : Forest) → p f → q f)
     Field k (Some n) (Inside (codes "data") 8 p) h → Field k (Some n) (Inside (codes "data") 8 q) h
 data_as k n up h (sized (g, (f, x, e), i)) = sized (g, (f, up f x, e), i)
 
--- A map whose pairs have at most 8 bytes was counted, with what a run of its pairs showed.
-pub small_counted : {K V : Type 0} (v w : Option ℕ) (p : K → Showing) (q : V → Showing) (es : List (K × V)) (m n : ℕ)
-    {k : Key} {u r : Showing} {a a' d d' : Sum} {s s' t : Shape} → ((f : Forest) → r f → each_shows (pair_shows v p w q) es f) →
-    ((f : Forest) → each_shows (pair_shows v p w q) es f → u f) → FitsData (size_sum v w) m true → m ≡ length es → 8 ≤ n →
-    AddsEntry n a a' → AddsEntry 8 d d' → Tallies None r s s' →
+-- ---- the entry `data`
+-- Each forest of a list of items has so many bytes at its top.
+abbrev pub HasBytes : {T : Type 0} → (T → Showing) → List T → ℕ → Type 0
+HasBytes p xs n = (f : Forest) → each_shows p xs f → direct f ≡ n
+
+-- Items that have at most 8 bytes were counted, with what a run of them showed.
+pub small_counted : {T : Type 0} (p : T → Showing) (xs : List T) (m n : ℕ) {size : Option ℕ} {k : Key} {u r : Showing}
+    {a a' d d' : Sum} {s s' t : Shape} → ((f : Forest) → r f → each_shows p xs f) →
+    ((f : Forest) → each_shows p xs f → u f) → (fits : FitsData size m true) → m ≡ length xs →
+    HasBytes p xs (fits.item * length xs) → 8 ≤ n → AddsEntry n a a' → AddsEntry 8 d d' → Tallies None r s s' →
     Tallies (Some n) (Field k (Some n) (Inside (codes "data") 8 u))
     (EntryAt Wide k a (Beside (EntryAt Wide (codes "data") d s) t))
     (EntryAt Wide k a' (Beside (EntryAt Wide (codes "data") d' s') t))
-small_counted v w p q es m n {k} {t = t} in_run up fits same room own inner pairs =
-    let least : (f : Forest) → each_shows (pair_shows v p w q) es f → direct f ≤ 8 =
-        λ f x. omega (arith, sized_direct v w fits.item p q es f fits.is_size x, fits.if_fits refl, ap (λ z. fits.item * z) same) in
+small_counted p xs m n {k = k} {t = t} in_run up fits same bytes room own inner items =
+    let least : (f : Forest) → each_shows p xs f → direct f ≤ 8 =
+        λ f x. omega (arith, bytes f x, fits.if_fits refl, ap (λ z. fits.item * z) same) in
     tallies_as (data_as k n up) (counted_field refl (counted_inline own
-      (tallies_first t (counted_inline inner (tallies_within 8 least (tallies_as in_run pairs)) (fits_bytes (omega arith))))
+      (tallies_first t (counted_inline inner (tallies_within 8 least (tallies_as in_run items)) (fits_bytes (omega arith))))
       (fits_bytes room)))
 
--- A map whose pairs have at least 8 bytes was counted, with what a run of its pairs showed.
-pub large_counted : {K V : Type 0} (v w : Option ℕ) (p : K → Showing) (q : V → Showing) (es : List (K × V)) (m n : ℕ)
-    {k : Key} {u r : Showing} {a a' d d' : Sum} {s s' t : Shape} → ((f : Forest) → r f → each_shows (pair_shows v p w q) es f) →
-    ((f : Forest) → each_shows (pair_shows v p w q) es f → u f) → FitsData (size_sum v w) m false → m ≡ length es → 8 ≤ n →
-    AddsEntry n a a' → AddsEntry 8 d d' → Tallies None r s s' →
+-- Items that have at least 8 bytes were counted, with what a run of them showed.
+pub large_counted : {T : Type 0} (p : T → Showing) (xs : List T) (m n : ℕ) {size : Option ℕ} {k : Key} {u r : Showing}
+    {a a' d d' : Sum} {s s' t : Shape} → ((f : Forest) → r f → each_shows p xs f) →
+    ((f : Forest) → each_shows p xs f → u f) → (fits : FitsData size m false) → m ≡ length xs →
+    HasBytes p xs (fits.item * length xs) → 8 ≤ n → AddsEntry n a a' → AddsEntry 8 d d' → Tallies None r s s' →
     Tallies (Some n) (Field k (Some n) (Inside (codes "data") 8 u))
     (EntryAt Wide k a (Beside t (EntryAt Narrow (codes "data") d s)))
     (EntryAt Wide k a' (Beside t (EntryAt Narrow (codes "data") d' s')))
-large_counted v w p q es m n {k} {t = t} in_run up fits same room own inner pairs =
-    let least : (f : Forest) → each_shows (pair_shows v p w q) es f → 8 ≤ direct f =
-        λ f x. omega (arith, sized_direct v w fits.item p q es f fits.is_size x, fits.if_more refl, ap (λ z. fits.item * z) same) in
+large_counted p xs m n {k = k} {t = t} in_run up fits same bytes room own inner items =
+    let least : (f : Forest) → each_shows p xs f → 8 ≤ direct f =
+        λ f x. omega (arith, bytes f x, fits.if_more refl, ap (λ z. fits.item * z) same) in
     tallies_as (data_as k n up) (counted_field refl (counted_inline own
-      (tallies_second t (counted_narrow inner (tallies_as in_run pairs) least)) (fits_bytes room)))
+      (tallies_second t (counted_narrow inner (tallies_as in_run items) least)) (fits_bytes room)))
 
 -- The pairs in their own order are the pairs in some order.
 pub own_order : {T : Type 0} (p : T → Showing) (xs : List T) (f : Forest) → each_shows p xs f → in_any_order p xs f
 own_order p xs f x = (xs, IsPermutation-refl xs, x)
-
--- The rules for code that counts maps.
-pub ruleset maps = (tallies_none, small_counted, large_counted)

@@ -8,6 +8,7 @@ pub mod number;
 pub mod pointer;
 pub mod profile;
 pub mod sequence;
+pub mod set;
 pub mod tally;
 pub mod text;
 pub mod tuple;

@@ -1,5 +1,5 @@
 //! Maps, which show the fields `key` and `value` for each pair, inside an inline entry `data` of 8 bytes.
-#![tactic(auto, using(crate::proofs::Maps::maps))]
+#![tactic(auto)]
 
 ghost use Rattle.std.specs.Prelude.{◌≡◌, ◌≤◌, ◌<◌, ◌*◌, true, false, codes, IfOk, None, Some};
 ghost use Rattle.std.specs.Iterator.{IsFinite};
