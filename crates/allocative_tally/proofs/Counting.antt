@@ -1,0 +1,255 @@
+-- How what was counted composes as what is shown does.
+use Rattle.std.proofs.Common.{◌≡◌, ◌≤◌, ◌<◌, ◌+◌, ◌-◌, ◌^◌, ℕ, Bool, true, false, List, [], ◌∷◌, ◌++◌, Option, Some, None}
+use Rattle.std.proofs.Common.{Result, Ok, Err, IfOk, refl, sym, ap, subst, ◌∙◌, arith}
+use Rattle.std.proofs.lemmas.Bool.{false≢true}
+use Rattle.allocative.proofs.Common.{Refusal, Key, Forest, Empty, followed_by, entry_of, Showing, Nothing, Both}
+use Rattle.allocative.proofs.Common.{InsideAs, Inside, InsideUnique, Field, sized, each_shows}
+use Rattle.allocative_graph.specs.Owned.{direct}
+use Rattle.allocative_graph.proofs.Owned.{direct-following}
+use Rattle.allocative.proofs.Exact.{followed_by-empty, followed_by_assoc, each_append, each_one}
+use Rattle.allocative_tally.specs.Merged.{IsPlain, Merged}
+use Rattle.allocative_tally.specs.Shapes.{Width, Unique, Wide, Narrow, is_unique, Keeps, Shape}
+use Rattle.allocative_tally.specs.Shapes.{NoEntry, Beside, EntryAt, forest_of, Holds, IsRight, entry_counted}
+use Rattle.allocative_tally.specs.Tallies.{Tallies, IsWithin, AddsEntry}
+use Rattle.allocative_tally.specs.declared.tally.Sum.{Sum}
+use Rattle.allocative_tally.proofs.Unshared.{plain_parts, plain_inside, plain_entry}
+use Rattle.allocative_tally.proofs.Merging.{merged_same, merged_then, merged_both, merged_crossed, merged_entry}
+use Rattle.allocative_tally.proofs.Merging.{merged_inside, KeepsOwned}
+
+-- No bytes are within any bound.
+zero_within : (w : Option ℕ) → IsWithin 0 w
+zero_within None = tt
+zero_within (Some s) = omega arith
+
+-- Nothing more was counted.
+pub tallies_none : {w : Option ℕ} {p : Showing} {s : Shape} → p Empty → Tallies w p s s
+tallies_none {w} {s = s} x = record {
+  counted = Empty;
+  allowed = x;
+  within = zero_within w;
+  merged = λ r. (rw (followed_by-empty (forest_of s)) (merged_same (forest_of s) r.0), r.1);
+}
+
+-- What was counted as p was counted as q, if each forest of p is one of q.
+pub tallies_as : {w : Option ℕ} {p q : Showing} {s t : Shape} → ((h : Forest) → p h → q h) → Tallies w p s t →
+    Tallies w q s t
+tallies_as up t = record { counted = t.counted; allowed = up t.counted t.allowed; within = t.within; merged = t.merged }
+
+-- What was counted is within a bound of all that is allowed.
+pub tallies_within : {w : Option ℕ} {p : Showing} {s t : Shape} (n : ℕ) → ((f : Forest) → p f → direct f ≤ n) →
+    Tallies w p s t → Tallies (Some n) p s t
+tallies_within n least t =
+    record { counted = t.counted; allowed = t.allowed; within = least t.counted t.allowed; merged = t.merged }
+
+-- What was counted need have no bound.
+pub tallies_loosely : {w : Option ℕ} {p : Showing} {s t : Shape} → Tallies w p s t → Tallies None p s t
+tallies_loosely t = record { counted = t.counted; allowed = t.allowed; within = tt; merged = t.merged }
+
+-- One value and then another were counted into one tally.
+pub tallies_then : {w v : Option ℕ} {p q : Showing} {s t u : Shape} → Tallies w p s t → Tallies v q t u →
+    Tallies None (Both p q) s u
+tallies_then {s = s} {t = t} {u = u} a b = record {
+  counted = followed_by a.counted b.counted;
+  allowed = (a.counted, b.counted, a.allowed, b.allowed, refl);
+  within = tt;
+  merged = λ r.
+      let m = a.merged r in
+      let l = b.merged (m.0.plain_merged, m.1) in
+      let more = plain_parts (forest_of t) b.counted l.0.plain in
+      let all = merged_then (merged_both m.0 (merged_same b.counted more.1)) l.0 in
+      (subst (λ (h : Forest). Merged h (forest_of u)) (followed_by_assoc (forest_of s) a.counted b.counted) all, l.1);
+}
+
+-- The bound of two values, one after another.
+abbrev pub both_bounds : Option ℕ → Option ℕ → Option ℕ
+both_bounds None n = None
+both_bounds (Some m) None = None
+both_bounds (Some m) (Some n) = Some (m + n)
+
+-- Two forests are within the bounds of both if each is within its own.
+both_within : (m n : Option ℕ) (f g : Forest) → IsWithin (direct f) m → IsWithin (direct g) n →
+    IsWithin (direct (followed_by f g)) (both_bounds m n)
+both_within None n f g h l = tt
+both_within (Some m) None f g h l = tt
+both_within (Some m) (Some n) f g h l = omega (arith, h, l, direct-following f g)
+
+-- Two values were counted, each into a tally of its own.
+pub tallies_both : {m n : Option ℕ} {p q : Showing} {s t u v : Shape} → Tallies m p s t → Tallies n q u v →
+    Tallies (both_bounds m n) (Both p q) (Beside s u) (Beside t v)
+tallies_both {m} {n} {s = s} {u = u} a b = record {
+  counted = followed_by a.counted b.counted;
+  allowed = (a.counted, b.counted, a.allowed, b.allowed, refl);
+  within = both_within m n a.counted b.counted a.within b.within;
+  merged = λ r.
+      let old = plain_parts (forest_of s) (forest_of u) r.0 in
+      let m = a.merged (old.0, r.1.0) in
+      let l = b.merged (old.1, r.1.1) in
+      let x = plain_parts (forest_of s) a.counted m.0.plain in
+      let y = plain_parts (forest_of u) b.counted l.0.plain in
+      let crossed = merged_crossed (forest_of s) (forest_of u) a.counted b.counted x.0 y.0 x.1 y.1 in
+      (merged_then crossed (merged_both m.0 l.0), (m.1, l.1));
+}
+
+-- A value was counted into the first of two shapes.
+pub tallies_first : {w : Option ℕ} {p : Showing} {s t : Shape} (u : Shape) → Tallies w p s t →
+    Tallies w p (Beside s u) (Beside t u)
+unfolding tallies_both tallies_none
+tallies_first {p = p} {s} {t} u c =
+    let all = tallies_both {q = Nothing} c (tallies_none {w = None} {s = u} refl) in
+    record {
+      counted = c.counted;
+      allowed = c.allowed;
+      within = c.within;
+      merged = λ r. subst (λ (h : Forest). Merged (followed_by (forest_of (Beside s u)) h) (forest_of (Beside t u)) × Holds (Beside t u))
+          (followed_by-empty c.counted) (all.merged r);
+    }
+
+-- A value was counted into the second of two shapes.
+pub tallies_second : {w : Option ℕ} {p : Showing} {s t : Shape} (u : Shape) → Tallies w p s t →
+    Tallies w p (Beside u s) (Beside u t)
+unfolding tallies_both tallies_none
+tallies_second {p = p} u c =
+    let all = tallies_both {p = Nothing} (tallies_none {w = None} {s = u} refl) c in
+    record { counted = c.counted; allowed = c.allowed; within = c.within; merged = all.merged }
+
+-- Entries of one kind keep what they own when they are merged.
+keeps_owned : (x : Width) (m n : ℕ) (f h : Forest) → Keeps x m f → Keeps x n h → KeepsOwned (is_unique x) m n f h
+keeps_owned Unique m n f h a b e = absurd (false≢true (sym e))
+keeps_owned Wide m n f h a b e = omega (arith, a, b)
+keeps_owned Narrow m n f h a b e = omega (arith, a, b)
+
+-- The kind depends on the bytes directly inside alone.
+keeps_same : (x : Width) (n : ℕ) (f g : Forest) → direct f ≡ direct g → Keeps x n f → Keeps x n g
+keeps_same Unique n f g e a = tt
+keeps_same Wide n f g e a = omega (arith, a, e)
+keeps_same Narrow n f g e a = omega (arith, a, e)
+
+-- The merged entry is of the same kind.
+keeps_both : (x : Width) (m n : ℕ) (f h g : Forest) → Keeps x m f → Keeps x n h → direct f + direct h ≡ direct g →
+    Keeps x (m + n) g
+keeps_both Unique m n f h g a b e = tt
+keeps_both Wide m n f h g a b e = omega (arith, a, b, e)
+keeps_both Narrow m n f h g a b e = omega (arith, a, b, e)
+
+-- If what is inside two entries was merged, so are the entries.
+entries_merged : (u : Bool) (k : Key) (m n : ℕ) (f h g : Forest) → m + n < 2 ^ 64 → KeepsOwned u m n f h →
+    Merged (followed_by f h) g →
+    Merged (followed_by (entry_of u k m f) (entry_of u k n h)) (entry_of u k (m + n) g)
+entries_merged u k m n f h g room keeps t =
+    let x = plain_parts f h t.plain in
+    merged_then (merged_entry u k m n f h x.0 x.1 room keeps) (merged_inside u k (m + n) t)
+
+-- An entry has at most its own bytes at its top.
+direct_entry : (u : Bool) (k : Key) (n : ℕ) (f : Forest) → direct (entry_of u k n f) ≤ n
+direct_entry true k n f = omega arith
+direct_entry false k n f = omega arith
+
+-- Whatever a bound allows fits an entry of n bytes.
+pub record FitsEntry (w : Option ℕ) (n : ℕ) : Type 0 where
+  pub fits : (d : ℕ) → IsWithin d w → d ≤ n
+
+-- An entry of n bytes is of its kind, with whatever is inside it.
+abbrev pub IsOfKind : Width → Option ℕ → Showing → ℕ → Type 0
+IsOfKind Unique w p n = Unit {0}
+IsOfKind Wide w p n = FitsEntry w n
+IsOfKind Narrow w p n = (f : Forest) → p f → n ≤ direct f
+
+-- The entry that was counted is of its kind.
+counted_keeps : {w : Option ℕ} {p : Showing} (x : Width) (n : ℕ) {s t : Shape} → IsOfKind x w p n →
+    (c : Tallies w p s t) → Keeps x n c.counted
+counted_keeps Unique n i c = tt
+counted_keeps Wide n i c = i.fits (direct c.counted) c.within
+counted_keeps Narrow n i c = i c.counted c.allowed
+
+-- One more entry was counted, with what is inside it.
+pub tallies_entry : {w : Option ℕ} {p : Showing} (x : Width) (k : Key) (n : ℕ) {old new : Sum} {s t : Shape} →
+    AddsEntry n old new → IsOfKind x w p n → Tallies w p s t →
+    Tallies (Some n) (InsideAs (is_unique x) k n p) (EntryAt x k old s) (EntryAt x k new t)
+tallies_entry {w} {p} x k n {old} {new} {s} {t} more kind c = record {
+  counted = entry_of (is_unique x) k n c.counted;
+  allowed = (c.counted, c.allowed, refl);
+  within = direct_entry (is_unique x) k n c.counted;
+  merged = λ r. rw (more.is_there, more.bytes) (one_more old.is_there r);
+}
+  where
+    keeps : Keeps x n c.counted
+    keeps = counted_keeps x n kind c
+
+    one_more : (b : Bool) → IsPlain (entry_counted b (is_unique x) k old.bytes (forest_of s)) ×
+        (Holds s × (b ≡ false → (old.bytes ≡ 0) × (forest_of s ≡ Empty)) × Keeps x old.bytes (forest_of s)) →
+        Merged (followed_by (entry_counted b (is_unique x) k old.bytes (forest_of s)) (entry_of (is_unique x) k n c.counted))
+        (entry_of (is_unique x) k (old.bytes + n) (forest_of t))
+        × (Holds t × (true ≡ false → (old.bytes + n ≡ 0) × (forest_of t ≡ Empty))
+        × Keeps x (old.bytes + n) (forest_of t))
+    one_more true (plain, (holds, none, kept)) =
+        let m = c.merged (plain_inside (is_unique x) k old.bytes (forest_of s) plain, holds) in (
+          entries_merged (is_unique x) k old.bytes n (forest_of s) c.counted (forest_of t) more.fits
+              (keeps_owned x old.bytes n (forest_of s) c.counted kept keeps) m.0,
+          (
+            m.1,
+            (λ e. absurd (false≢true (sym e))),
+            keeps_both x old.bytes n (forest_of s) c.counted (forest_of t) kept keeps
+                (sym (direct-following (forest_of s) c.counted) ∙ m.0.same_direct),
+          ),
+        )
+    one_more false (plain, (holds, none, kept)) =
+        let nothing = none refl in
+        let m = c.merged (subst IsPlain (sym nothing.1) tt, holds) in
+        let same : Merged c.counted (forest_of t) =
+        subst (λ (h : Forest). Merged (followed_by h c.counted) (forest_of t)) nothing.1 m.0 in
+        let bytes : old.bytes + n ≡ n = omega (arith, nothing.0) in (
+          rw bytes (merged_inside (is_unique x) k n same),
+          (
+            m.1,
+            (λ e. absurd (false≢true (sym e))),
+            rw bytes (keeps_same x n c.counted (forest_of t) same.same_direct keeps),
+          ),
+        )
+
+-- ---- in the words of the code
+-- One more inline entry was counted, with what is inside it.
+pub counted_inline : {w : Option ℕ} {p : Showing} {k : Key} {n : ℕ} {old new : Sum} {s t : Shape} →
+    AddsEntry n old new → Tallies w p s t → FitsEntry w n →
+    Tallies (Some n) (Inside k n p) (EntryAt Wide k old s) (EntryAt Wide k new t)
+counted_inline {k = k} {n = n} more c fits = tallies_entry Wide k n more fits c
+
+-- One more unique entry was counted, with what is inside it.
+pub counted_unique : {w : Option ℕ} {p : Showing} {k : Key} {n : ℕ} {old new : Sum} {s t : Shape} →
+    AddsEntry n old new → Tallies w p s t →
+    Tallies (Some n) (InsideUnique k n p) (EntryAt Unique k old s) (EntryAt Unique k new t)
+counted_unique {k = k} {n = n} more c = tallies_entry Unique k n more tt c
+
+-- One more inline entry was counted, which has at most the bytes directly inside it.
+pub counted_narrow : {w : Option ℕ} {p : Showing} {k : Key} {n : ℕ} {old new : Sum} {s t : Shape} →
+    AddsEntry n old new → Tallies w p s t → ((f : Forest) → p f → n ≤ direct f) →
+    Tallies (Some n) (Inside k n p) (EntryAt Narrow k old s) (EntryAt Narrow k new t)
+counted_narrow {k = k} {n = n} more c least = tallies_entry Narrow k n more least c
+
+-- One more inline entry with nothing inside it was counted.
+pub counted_leaf : {k : Key} {n : ℕ} {old new : Sum} → AddsEntry n old new →
+    Tallies (Some n) (Inside k n Nothing) (EntryAt Wide k old NoEntry) (EntryAt Wide k new NoEntry)
+counted_leaf more = counted_inline more (tallies_none {w = Some 0} refl) (record { fits = λ d h. omega (arith, h) })
+
+-- An entry of a declared size was counted.
+pub counted_field : {k : Key} {size : Option ℕ} {n : ℕ} {p : Showing} {s t : Shape} → size ≡ Some n →
+    Tallies (Some n) (Inside k n p) s t → Tallies size (Field k size p) s t
+counted_field {k = k} {p = p} {s} {t} e c = rw e (tallies_as (λ h x. sized x) c)
+
+-- A value inside an entry fits it, if the entry has the value's size.
+pub fits_size : {size : Option ℕ} {n : ℕ} → size ≡ Some n → FitsEntry size n
+fits_size e = record { fits = λ d h. subst (IsWithin d) e h }
+
+-- What a number of bytes allows fits an entry of as many or more.
+pub fits_bytes : {m n : ℕ} → m ≤ n → FitsEntry (Some m) n
+fits_bytes h = record { fits = λ d i. omega (arith, h, i) }
+
+-- One more item was counted.
+pub tallies_more : {T : Type 0} {w : Option ℕ} (p : T → Showing) (xs : List T) (x : T) {s t u : Shape} →
+    Tallies None (each_shows p xs) s t → Tallies w (p x) t u → Tallies None (each_shows p (xs ++ x ∷ [])) s u
+tallies_more p xs x a b =
+    tallies_as (λ h (y, z, v, w, e). each_append p xs (x ∷ []) h (y, z, v, each_one p x z w, e)) (tallies_then a b)
+
+-- What follows after Ok follows from what is known after Ok.
+pub if_ok : {T : Type 0} {P Q : T → Type 0} (r : Result T Refusal) → ((x : T) → P x → Q x) → IfOk r P → IfOk r Q
+if_ok (Ok u) f h = f u h
+if_ok (Err e) f h = tt

@@ -1,0 +1,224 @@
+-- What was entered as the merged forest was entered as the forests that it merges.
+use Rattle.std.proofs.Common.{◌≡◌, ℕ, ◌+◌, ◌-◌, min, Bool, true, false, cond, Result, Ok, refl, sym, ap, subst, ◌∙◌, arith}
+use Rattle.std.proofs.Common.{append-nil, List, [], ◌∷◌, ◌++◌, length, get_or, take, drop}
+use Rattle.std.proofs.lemmas.List.{take-append-drop}
+use Rattle.allocative.proofs.Common.{Refusal, Key, Forest, Empty, followed_by, entry_of, add_all, Live, Kind, OfGraph}
+use Rattle.allocative.proofs.Common.{OfHeld, OfOwned, State, plus, Showing, Nothing, Both, InsideAs, AddsForest, already}
+use Rattle.allocative.proofs.Common.{refused, hidden, forgotten, CanTake, HasRoomFor, IsDeclared, FailsOnlyIfFull}
+use Rattle.allocative.proofs.Common.{ShowsContents, each_shows, has_added, has_refused, Entered, Means}
+use Rattle.allocative_graph.specs.Forest.{own_behind, met_after, Inline, Unique, First, Again}
+use Rattle.allocative_graph.specs.Collector.{Holding, Owning, plus_live, plus_holding, plus_owning, entries_at}
+use Rattle.allocative_graph.specs.Path.{Path}
+use Rattle.allocative_graph.specs.Visits.{added}
+use Rattle.allocative_graph.specs.Identity.{Identities}
+use Rattle.allocative.specs.Exact.{had_failed}
+use Rattle.allocative.proofs.Meaning.{entered_as, entered_none, means_same}
+use Rattle.std.proofs.lemmas.Bool.{false≢true}
+use Rattle.allocative.proofs.Exact.{may_refuse, declared_entry, declared_both, declared_first, declared_append}
+use Rattle.allocative.proofs.Exact.{each_append, each_one}
+use Rattle.allocative_tally.specs.Merged.{IsPlain, Merged}
+use Rattle.allocative_tally.specs.Shapes.{Width, is_unique, Shape, NoEntry, Beside, EntryAt, forest_of, IsNothing}
+use Rattle.allocative_tally.specs.Shapes.{entry_counted, shape_shows, is_shape}
+use Rattle.allocative_tally.specs.Tallies.{Tallies, EntersShape}
+use Rattle.allocative_tally.specs.declared.tally.Sum.{Sum}
+use Rattle.allocative_tally.proofs.Unshared.{plain_contents, plain_taken, plain_shows}
+
+-- ---- no collector tells the two apart
+-- A forest without shared entries adds its own entries alone.
+own_added : (p : Path) (f : Forest) → IsPlain f → entries_at p f ≡ own_behind p f
+own_added p f h = rw (plain_contents f h) (append-nil (own_behind p f))
+
+-- A forest without shared entries meets no identity.
+same_met : (s : Identities) (f : Forest) → IsPlain f → met_after s f ≡ s
+same_met s f h = rw (plain_contents f h) refl
+
+-- A flame graph is the same after either forest.
+same_live : (c : Live) (f g : Forest) → Merged f g → plus_live c f ≡ plus_live c g
+same_live c f g m =
+    let sums = ap (add_all c.sums) (own_added c.here f m.plain) ∙ m.same_sums c.sums c.here
+    ∙ sym (ap (add_all c.sums) (own_added c.here g m.plain_merged)) in
+    let met = same_met c.met f m.plain ∙ sym (same_met c.met g m.plain_merged) in
+    λ i. record c { sums = sums i; met = met i }
+
+-- Held bytes are the same after either forest.
+same_holding : (h : Holding) (f g : Forest) → Merged f g → plus_holding h f ≡ plus_holding h g
+same_holding h f g m = λ i. record h { sum = h.sum + (m.same_held i + cond h.is_in_unique (m.same_inline i) 0) }
+
+-- Owned bytes are the same after either forest.
+same_owning : (o : Owning) (f g : Forest) → Merged f g → plus_owning o f ≡ plus_owning o g
+same_owning o f g m = λ i. record o {
+  sum = o.sum + (m.same_owned i - min o.spare (m.same_direct i));
+  spare = o.spare - m.same_direct i;
+}
+
+-- Each collector is the same after either forest.
+same_plus : (c : Kind) (f g : Forest) → Merged f g → plus c f ≡ plus c g
+same_plus (OfGraph c) f g m = ap OfGraph (same_live c f g m)
+same_plus (OfHeld h) f g m = ap OfHeld (same_holding h f g m)
+same_plus (OfOwned o) f g m = ap OfOwned (same_owning o f g m)
+
+-- If a forest exceeds no bound of a collector, the merged one exceeds none.
+room_merged : (b : Kind) (f g : Forest) → Merged f g → HasRoomFor b f → HasRoomFor b g
+room_merged (OfGraph c) f g m h = omega (arith, m.same_bytes)
+room_merged (OfHeld d) f g m h = (
+  omega (arith, h.0, m.same_held, m.same_inline, ap (λ x. x.sum) (same_holding d f g m)),
+  m.fits d.open_visitors h.1,
+)
+room_merged (OfOwned o) f g m h =
+    (omega (arith, h.0, ap (λ x. x.sum) (same_owning o f g m)), m.fits o.open_visitors h.1)
+
+-- ---- entering
+-- p allows a forest that the shape merges.
+pub record Counts (p : Showing) (t : Shape) : Type 0 where
+  pub one : Forest
+  pub allowed : p one
+  pub merged : Merged one (forest_of t)
+
+-- A shape shows its own forest.
+shown_itself : (t : Shape) → shape_shows t (forest_of t)
+shown_itself t = is_shape refl
+
+-- A shape shows no other forest.
+shown_alone : {t : Shape} {h : Forest} → shape_shows t h → h ≡ forest_of t
+shown_alone (is_shape e) = e
+
+-- A collector that can take p can take what was counted.
+can_take : {p : Showing} {t : Shape} (b : Kind) → Counts p t → CanTake b p → CanTake b (shape_shows t)
+can_take {t = t} b w (d, room) = (
+  (forest_of t, shown_itself t, plain_shows (forest_of t) w.merged.plain_merged),
+  λ h x. subst (HasRoomFor b) (sym (shown_alone x)) (room_merged b w.one (forest_of t) w.merged (room w.one w.allowed)),
+)
+
+-- A collector with what was counted is the collector with the forest that p allows.
+after : {p : Showing} {t : Shape} (b : Kind) (h : Forest) → (w : Counts p t) → shape_shows t h → plus b h ≡ plus b w.one
+after {t = t} b h w x = ap (plus b) (shown_alone x) ∙ sym (same_plus b w.one (forest_of t) w.merged)
+
+-- What was shown as the shape was shown as p.
+shows_counted : {p : Showing} {t : Shape} {a b : State} {r : Result Unit Refusal} → Counts p t →
+    AddsForest (shape_shows t) a r b → AddsForest p a r b
+shows_counted w already = already
+shows_counted w refused = refused
+shows_counted w hidden = hidden
+shows_counted w (forgotten e h) = forgotten e h
+shows_counted w (added {b = b} h x t e) =
+    added w.one w.allowed (plain_taken b w.one w.merged.plain) (e ∙ after b h w x)
+
+-- What refuses the shape only if it must refuses p only if it must.
+full_counted : {p : Showing} {t : Shape} {a b : State} {r : Result Unit Refusal} → Counts p t →
+    FailsOnlyIfFull (shape_shows t) a r b → FailsOnlyIfFull p a r b
+full_counted w had_failed = had_failed
+full_counted w (has_added {b = b} h x t e) =
+    has_added w.one w.allowed (plain_taken b w.one w.merged.plain) (e ∙ after b h w x)
+full_counted w (has_refused {b = b} {e = e} m) = has_refused (may_refuse b b (can_take b w) refl e m)
+
+-- Entering what was counted is entering p, exactly.
+pub entered_counted : {x : Bool} {p : Showing} {t : Shape} {a b : _} {r : Result (Unit {0}) Refusal} →
+    Counts p t → Entered true (shape_shows t) a b r → Entered x p a b r
+entered_counted w h = record {
+  same_reference = h.same_reference;
+  same_outer = h.same_outer;
+  shown = shows_counted w h.shown;
+  cause = h.cause;
+  only_if_full = λ i. full_counted w (h.only_if_full refl);
+}
+
+-- What was counted, from nothing.
+pub counts : {w : _} {p : Showing} {s t : Shape} → IsNothing s → Tallies w p s t → Counts p t
+counts {s = s} {t = t} none c =
+    let m = (c.merged (subst IsPlain (sym none.0) tt, none.1)).0 in
+    record {
+      one = c.counted;
+      allowed = c.allowed;
+      merged = subst (λ (h : Forest). Merged (followed_by h c.counted) (forest_of t)) none.0 m;
+    }
+
+-- ---- what a tally enters
+-- A forest that is shown with all contents is shown so inside each entry.
+contents_inside : (u : Bool) (k : Key) (n : ℕ) (f : Forest) → ShowsContents (entry_of u k n f) → ShowsContents f
+contents_inside true k n f h = h.0
+contents_inside false k n f h = h.0
+
+-- If two forests show all contents one after another, each does.
+contents_parts : (f g : Forest) → ShowsContents (followed_by f g) → ShowsContents f × ShowsContents g
+contents_parts Empty g h = (tt, h)
+contents_parts (Inline k n f after) g h = let r = contents_parts after g h.1 in ((h.0, r.0), r.1)
+contents_parts (Unique k n f after) g h = let r = contents_parts after g h.1 in ((h.0, r.0), r.1)
+contents_parts (First k n i f after) g h = let r = contents_parts after g h.1 in ((h.0, r.0), r.1)
+contents_parts (Again k n i after) g h = absurd h
+
+-- The entry of a sum that is there is an entry.
+entry_there : (u : Bool) (k : Key) (n : ℕ) (b : Bool) (f : Forest) → b ≡ true →
+    entry_counted b u k n f ≡ entry_of u k n f
+entry_there u k n true f e = refl
+entry_there u k n false f e = absurd (false≢true e)
+
+-- The entry of a sum that is not there is no entry.
+entry_not_there : (u : Bool) (k : Key) (n : ℕ) (b : Bool) (f : Forest) → b ≡ false →
+    entry_counted b u k n f ≡ Empty
+entry_not_there u k n true f e = absurd (false≢true (sym e))
+entry_not_there u k n false f e = refl
+
+-- Two shapes are shown, one after another.
+pub means_beside : {s t : Shape} → Means true (Both (shape_shows s) (shape_shows t)) (shape_shows (Beside s t))
+means_beside {s} {t} = record {
+  means = λ h (a, b, y, z, e). is_shape (e ∙ (λ i. followed_by (shown_alone y i) (shown_alone z i)));
+  declared = λ i (h, e, c).
+      let r = contents_parts (forest_of s) (forest_of t) (subst ShowsContents (shown_alone e) c) in
+      declared_both (forest_of s, shown_itself s, r.0) (forest_of t, shown_itself t, r.1);
+}
+
+-- No part means no entry.
+pub means_no_entry : Means true Nothing (shape_shows NoEntry)
+means_no_entry = record { means = λ h a. is_shape a; declared = λ i (h, a, c). (h, shown_alone a, c) }
+
+-- The entry of a sum that is there is an entry, with the shape inside it.
+pub means_there : (x : Width) {k : Key} {sum : Sum} {s : Shape} → sum.is_there ≡ true →
+    Means true (InsideAs (is_unique x) k sum.bytes (shape_shows s)) (shape_shows (EntryAt x k sum s))
+means_there x {k} {sum} {s} b =
+    let e = entry_there (is_unique x) k sum.bytes sum.is_there (forest_of s) b in
+    record {
+      means = λ h (g, a, i). is_shape (i ∙ ap (entry_of (is_unique x) k sum.bytes) (shown_alone a) ∙ sym e);
+      declared = λ j (h, a, c).
+          let whole = subst ShowsContents (shown_alone a ∙ e) c in
+          let inner = contents_inside (is_unique x) k sum.bytes (forest_of s) whole in
+          declared_entry (is_unique x) k sum.bytes (forest_of s, shown_itself s, inner);
+    }
+
+-- The entry of a sum that is not there is no entry.
+pub means_not_there : (x : Width) {k : Key} {sum : Sum} {s : Shape} → sum.is_there ≡ false →
+    Means true Nothing (shape_shows (EntryAt x k sum s))
+means_not_there x {k} {sum} {s} b =
+    let e = entry_not_there (is_unique x) k sum.bytes sum.is_there (forest_of s) b in
+    record { means = λ h a. is_shape (a ∙ sym e); declared = λ j d. (Empty, refl, tt) }
+
+-- What was entered as a part was entered as the shape that it means.
+pub enters_shape : {p : Showing} {s : Shape} {a b : _} {r : Result (Unit {0}) Refusal} → Entered true p a b r →
+    Means true p (shape_shows s) → EntersShape s a b r
+enters_shape h m = record { entered = entered_as h m }
+
+-- A call that enters nothing and returns Ok has entered the entry of a sum that is not there.
+pub enters_none : (x : Width) {k : Key} {sum : Sum} {s : Shape} (a : _) → sum.is_there ≡ false →
+    EntersShape (EntryAt x k sum s) a a (Ok tt)
+enters_none x a b = record { entered = entered_none a (means_not_there x b) }
+
+-- ---- items, one by one
+-- No item shows nothing.
+pub each_none : {T : Type 0} {e : Bool} (p : T → Showing) (xs : List T) → length xs ≡ 0 →
+    Means e Nothing (each_shows p xs)
+each_none p [] h = means_same
+each_none p (x ∷ xs) h = absurd (omega (arith, h))
+
+-- One item shows what it shows.
+pub each_single : {T : Type 0} {e : Bool} (p : T → Showing) (xs : List T) (x : T) → length xs ≡ 1 → x ≡ get_or xs 0 x →
+    Means e (p x) (each_shows p xs)
+each_single p [] x h i = absurd (omega (arith, h))
+each_single {e = e} p (y ∷ []) x h i = subst (λ z. Means e (p z) (each_shows p (y ∷ []))) (sym i)
+    (record { means = each_one p y; declared = λ j d. declared_first d })
+each_single p (y ∷ z ∷ ys) x h i = absurd (omega (arith, h))
+
+-- The items of the front and then those of the back are all items.
+pub each_halves : {T : Type 0} {e : Bool} (p : T → Showing) (xs front back : List T) (n : ℕ) → front ≡ take n xs →
+    back ≡ drop n xs → Means e (Both (each_shows p front) (each_shows p back)) (each_shows p xs)
+each_halves {e = e} p xs front back n f b = subst (λ ys. Means e (Both (each_shows p front) (each_shows p back)) (each_shows p ys))
+    ((λ i. f i ++ b i) ∙ take-append-drop n xs)
+    (record { means = each_append p front back; declared = λ j d. declared_append p front back d })

@@ -1,0 +1,220 @@
+-- How merged forests compose.
+use Rattle.std.proofs.Common.{◌≡◌, ◌≤◌, ℕ, suc, ◌+◌, ◌-◌, ◌<◌, ◌^◌, Bool, true, false, cond, List, [], ◌∷◌, ◌++◌}
+use Rattle.std.proofs.Common.{refl, sym, ap, subst, ◌∙◌, arith, append-nil}
+use Rattle.allocative.proofs.Common.{Key, Forest, Empty, First, Again, followed_by, entry_of, add_all, held, all_bytes}
+use Rattle.std.proofs.lemmas.List.Sums.{fold-append, sum_by-append}
+use Rattle.allocative_graph.specs.Path.{Path}
+use Rattle.allocative_graph.specs.Forest.{Inline, Unique, Entry, Bag, Mark, AsInline, AsUnique, own_behind}
+use Rattle.allocative_graph.specs.Sums.{Sums, add}
+use Rattle.allocative_graph.specs.Held.{inline_bytes}
+use Rattle.allocative_graph.specs.Owned.{direct, owned}
+use Rattle.allocative_graph.proofs.Basics.{same_path_itself}
+use Rattle.allocative_graph.proofs.Lookups.{add_all-same, get-add, same_sums}
+use Rattle.allocative_graph.proofs.Following.{own-following}
+use Rattle.allocative_graph.proofs.Owned.{direct-following, owned-following}
+use Rattle.allocative.specs.Exact.{FitsWords}
+use Rattle.allocative.proofs.Exact.{followed_by_assoc}
+use Rattle.allocative_tally.specs.Merged.{IsPlain, Merged}
+use Rattle.allocative_tally.proofs.Unshared.{plain_both, plain_entry}
+
+pub merged_same : (f : Forest) → IsPlain f → Merged f f
+merged_same f h = record {
+  plain = h;
+  plain_merged = h;
+  same_sums = λ s p. refl;
+  same_inline = refl;
+  same_held = refl;
+  same_direct = refl;
+  same_owned = refl;
+  same_bytes = refl;
+  fits = λ o w. w;
+}
+
+pub merged_then : {f g h : Forest} → Merged f g → Merged g h → Merged f h
+merged_then m l = record {
+  plain = m.plain;
+  plain_merged = l.plain_merged;
+  same_sums = λ s p. m.same_sums s p ∙ l.same_sums s p;
+  same_inline = m.same_inline ∙ l.same_inline;
+  same_held = m.same_held ∙ l.same_held;
+  same_direct = m.same_direct ∙ l.same_direct;
+  same_owned = m.same_owned ∙ l.same_owned;
+  same_bytes = m.same_bytes ∙ l.same_bytes;
+  fits = λ o w. l.fits o (m.fits o w);
+}
+
+-- ---- one forest after another
+sums_both : (s : Sums) (p : Path) (f g : Forest) → add_all s (own_behind p (followed_by f g)) ≡ add_all (add_all s (own_behind p f)) (own_behind p g)
+sums_both s p f g = ap (add_all s) (own-following p f g) ∙ fold-append add s (own_behind p f) (own_behind p g)
+
+inline_both : (f g : Forest) → inline_bytes (followed_by f g) ≡ inline_bytes f + inline_bytes g
+inline_both Empty g = omega arith
+inline_both (Inline k n f after) g = omega (arith, inline_both after g)
+inline_both (Unique k n f after) g = inline_both after g
+inline_both (First k n j f after) g = inline_both after g
+inline_both (Again k n j after) g = inline_both after g
+
+held_both : (f g : Forest) → held (followed_by f g) ≡ held f + held g
+held_both Empty g = omega arith
+held_both (Inline k n f after) g = omega (arith, held_both after g)
+held_both (Unique k n f after) g = omega (arith, held_both after g)
+held_both (First k n j f after) g = held_both after g
+held_both (Again k n j after) g = held_both after g
+
+bytes_both : (f g : Forest) → all_bytes (followed_by f g) ≡ all_bytes f + all_bytes g
+bytes_both Empty g = omega arith
+bytes_both (Inline k n f after) g = omega (arith, bytes_both after g)
+bytes_both (Unique k n f after) g = omega (arith, bytes_both after g)
+bytes_both (First k n j f after) g = omega (arith, bytes_both after g)
+bytes_both (Again k n j after) g = omega (arith, bytes_both after g)
+
+words_apart : (o : ℕ) (f g : Forest) → FitsWords o (followed_by f g) → FitsWords o f × FitsWords o g
+words_apart o Empty g h = (tt, h)
+words_apart o (Inline k n f after) g h = let r = words_apart o after g h.3 in ((h.0, h.1, h.2, r.0), r.1)
+words_apart o (Unique k n f after) g h = let r = words_apart o after g h.3 in ((h.0, h.1, h.2, r.0), r.1)
+words_apart o (First k n i f after) g h = words_apart o after g h
+words_apart o (Again k n i after) g h = words_apart o after g h
+
+words_both : (o : ℕ) (f g : Forest) → FitsWords o f → FitsWords o g → FitsWords o (followed_by f g)
+words_both o Empty g h l = l
+words_both o (Inline k n f after) g h l = (h.0, h.1, h.2, words_both o after g h.3 l)
+words_both o (Unique k n f after) g h l = (h.0, h.1, h.2, words_both o after g h.3 l)
+words_both o (First k n i f after) g h l = words_both o after g h l
+words_both o (Again k n i after) g h l = words_both o after g h l
+
+pub merged_both : {f g h k : Forest} → Merged f g → Merged h k → Merged (followed_by f h) (followed_by g k)
+merged_both {f} {g} {h} {k} m l = record {
+  plain = plain_both f h m.plain l.plain;
+  plain_merged = plain_both g k m.plain_merged l.plain_merged;
+  same_sums = λ s p. sums_both s p f h ∙ ap (λ t. add_all t (own_behind p h)) (m.same_sums s p) ∙ l.same_sums _ p ∙ sym (sums_both s p g k);
+  same_inline = omega (arith, inline_both f h, inline_both g k, m.same_inline, l.same_inline);
+  same_held = omega (arith, held_both f h, held_both g k, m.same_held, l.same_held);
+  same_direct = omega (arith, direct-following f h, direct-following g k, m.same_direct, l.same_direct);
+  same_owned = omega (arith, owned-following f h, owned-following g k, m.same_owned, l.same_owned);
+  same_bytes = omega (arith, bytes_both f h, bytes_both g k, m.same_bytes, l.same_bytes);
+  fits = λ o w. let r = words_apart o f h w in words_both o g k (m.fits o r.0) (l.fits o r.1);
+}
+
+-- ---- in any order
+abbrev swapped : List Entry → List Entry → Type 0
+swapped a b = (s : Sums) → add_all s (a ++ b) ≡ add_all s (b ++ a)
+
+swaps : (a b : Bag) → swapped a b
+swaps a b s = add_all-same s (a ++ b) (b ++ a) (λ w. simp sum_by-append (omega arith))
+
+pub merged_swapped : (f g : Forest) → IsPlain f → IsPlain g → Merged (followed_by f g) (followed_by g f)
+merged_swapped f g h l = record {
+  plain = plain_both f g h l;
+  plain_merged = plain_both g f l h;
+  same_sums = λ s p. ap (add_all s) (own-following p f g) ∙ swaps (own_behind p f) (own_behind p g) s ∙ sym (ap (add_all s) (own-following p g f));
+  same_inline = omega (arith, inline_both f g, inline_both g f);
+  same_held = omega (arith, held_both f g, held_both g f);
+  same_direct = omega (arith, direct-following f g, direct-following g f);
+  same_owned = omega (arith, owned-following f g, owned-following g f);
+  same_bytes = omega (arith, bytes_both f g, bytes_both g f);
+  fits = λ o w. let r = words_apart o f g w in words_both o g f r.1 r.0;
+}
+
+-- Two forests after two others, each beside its own.
+pub merged_crossed : (f g h k : Forest) → IsPlain f → IsPlain g → IsPlain h → IsPlain k →
+    Merged (followed_by (followed_by f g) (followed_by h k)) (followed_by (followed_by f h) (followed_by g k))
+merged_crossed f g h k x y z w =
+    let middle = merged_both (merged_same f x) (merged_both (merged_swapped g h y z) (merged_same k w)) in
+    let e = followed_by_assoc f g (followed_by h k) ∙ ap (followed_by f) (sym (followed_by_assoc g h k)) in
+    let i = ap (followed_by f) (followed_by_assoc h g k) ∙ sym (followed_by_assoc f h (followed_by g k)) in
+    subst (λ (t : Forest). Merged t (followed_by (followed_by f h) (followed_by g k))) (sym e)
+    (subst (λ (t : Forest). Merged (followed_by f (followed_by (followed_by g h) k)) t) i middle)
+
+-- ---- entries
+abbrev mark_of : Bool → Mark
+mark_of u = cond u AsUnique AsInline
+
+abbrev entry_at : Bool → Path → Key → ℕ → Entry
+entry_at u p k n = record { path = p ++ k ∷ []; size = n; mark = mark_of u }
+
+own_entry : (u : Bool) (p : Path) (k : Key) (n : ℕ) (f : Forest) → own_behind p (entry_of u k n f) ≡ entry_at u p k n ∷ own_behind (p ++ k ∷ []) f
+own_entry true p k n f = ap (λ b. entry_at true p k n ∷ b) (append-nil (own_behind (p ++ k ∷ []) f))
+own_entry false p k n f = ap (λ b. entry_at false p k n ∷ b) (append-nil (own_behind (p ++ k ∷ []) f))
+
+-- Two entries of one place and one mark are one entry of the bytes of both.
+one_entry : (s : Sums) (u : Bool) (p : Path) (k : Key) (n m : ℕ) → add (add s (entry_at u p k n)) (entry_at u p k m) ≡ add s (entry_at u p k (n + m))
+one_entry s u p k n m = same_sums _ _ (λ q. grind (arith, get-add (add s (entry_at u p k n)) (entry_at u p k m) q, get-add s (entry_at u p k n) q, get-add s (entry_at u p k n) (p ++ k ∷ []), get-add s (entry_at u p k (n + m)) q, same_path_itself (p ++ k ∷ [])))
+
+inline_entry : (u : Bool) (k : Key) (n m : ℕ) (f g : Forest) → inline_bytes (followed_by (entry_of u k n f) (entry_of u k m g)) ≡ inline_bytes (entry_of u k (n + m) (followed_by f g))
+inline_entry true k n m f g = refl
+inline_entry false k n m f g = omega arith
+
+held_entry : (u : Bool) (k : Key) (n m : ℕ) (f g : Forest) → held (followed_by (entry_of u k n f) (entry_of u k m g)) ≡ held (entry_of u k (n + m) (followed_by f g))
+held_entry true k n m f g = omega (arith, inline_both f g, held_both f g)
+held_entry false k n m f g = omega (arith, held_both f g)
+
+bytes_entry : (u : Bool) (k : Key) (n m : ℕ) (f g : Forest) → all_bytes (followed_by (entry_of u k n f) (entry_of u k m g)) ≡ all_bytes (entry_of u k (n + m) (followed_by f g))
+bytes_entry true k n m f g = omega (arith, bytes_both f g)
+bytes_entry false k n m f g = omega (arith, bytes_both f g)
+
+direct_entry : (u : Bool) (k : Key) (n m : ℕ) (f g : Forest) → direct (followed_by (entry_of u k n f) (entry_of u k m g)) ≡ direct (entry_of u k (n + m) (followed_by f g))
+direct_entry true k n m f g = omega arith
+direct_entry false k n m f g = omega arith
+
+-- Two inline entries own as much as the merged one if both or neither have bytes beyond those directly inside.
+abbrev pub KeepsOwned : Bool → ℕ → ℕ → Forest → Forest → Type 0
+KeepsOwned u n m f g = u ≡ false → (n - direct f) + (m - direct g) ≡ (n + m) - (direct f + direct g)
+
+owned_entry : (u : Bool) (k : Key) (n m : ℕ) (f g : Forest) → KeepsOwned u n m f g → owned (followed_by (entry_of u k n f) (entry_of u k m g)) ≡ owned (entry_of u k (n + m) (followed_by f g))
+owned_entry true k n m f g e = omega (arith, owned-following f g)
+owned_entry false k n m f g e = omega (arith, owned-following f g, direct-following f g, e refl)
+
+fits_entry : (u : Bool) (k : Key) (n m : ℕ) (f g : Forest) (o : ℕ) → n + m < 2 ^ 64 → FitsWords o (followed_by (entry_of u k n f) (entry_of u k m g)) → FitsWords o (entry_of u k (n + m) (followed_by f g))
+fits_entry true k n m f g o room w = (room, w.1, words_both (suc o) f g w.2 w.3.2, tt)
+fits_entry false k n m f g o room w = (room, w.1, words_both (suc o) f g w.2 w.3.2, tt)
+
+pub merged_entry : (u : Bool) (k : Key) (n m : ℕ) (f g : Forest) → IsPlain f → IsPlain g → n + m < 2 ^ 64 →
+    KeepsOwned u n m f g → Merged (followed_by (entry_of u k n f) (entry_of u k m g)) (entry_of u k (n + m) (followed_by f g))
+merged_entry u k n m f g x y room keeps = record {
+  plain = plain_both (entry_of u k n f) (entry_of u k m g) (plain_entry u k n f x) (plain_entry u k m g y);
+  plain_merged = plain_entry u k (n + m) (followed_by f g) (plain_both f g x y);
+  same_sums = λ s p. sums_entry s p;
+  same_inline = inline_entry u k n m f g;
+  same_held = held_entry u k n m f g;
+  same_direct = direct_entry u k n m f g;
+  same_owned = owned_entry u k n m f g keeps;
+  same_bytes = bytes_entry u k n m f g;
+  fits = λ o w. fits_entry u k n m f g o room w;
+}
+  where
+    sums_entry : (s : Sums) (p : Path) → add_all s (own_behind p (followed_by (entry_of u k n f) (entry_of u k m g))) ≡ add_all s (own_behind p (entry_of u k (n + m) (followed_by f g)))
+    sums_entry s p =
+        let e = entry_at u p k n in
+        let d = entry_at u p k m in
+        let q = p ++ k ∷ [] in
+        sums_both s p (entry_of u k n f) (entry_of u k m g)
+        ∙ ap (λ b. add_all (add_all s b) (own_behind p (entry_of u k m g))) (own_entry u p k n f)
+        ∙ ap (add_all (add_all (add s e) (own_behind q f))) (own_entry u p k m g)
+        ∙ ap (λ t. add_all t (own_behind q g)) (sym (fold-append add (add s e) (own_behind q f) (d ∷ [])) ∙ swaps (own_behind q f) (d ∷ []) (add s e) ∙ ap (λ t. add_all t (own_behind q f)) (one_entry s u p k n m))
+        ∙ sym (sums_both (add s (entry_at u p k (n + m))) q f g)
+        ∙ sym (ap (add_all s) (own_entry u p k (n + m) (followed_by f g)))
+
+-- The same entry with what merges its inside.
+pub merged_inside : (u : Bool) (k : Key) (n : ℕ) {f g : Forest} → Merged f g → Merged (entry_of u k n f) (entry_of u k n g)
+merged_inside true k n {f} {g} m = record {
+  plain = (m.plain, tt);
+  plain_merged = (m.plain_merged, tt);
+  same_sums = λ s p. ap (add_all s) (own_entry true p k n f) ∙ m.same_sums (add s (entry_at true p k n)) (p ++ k ∷ []) ∙ sym (ap (add_all s) (own_entry true p k n g));
+  same_inline = refl;
+  same_held = omega (arith, m.same_held, m.same_inline);
+  same_direct = refl;
+  same_owned = omega (arith, m.same_owned, m.same_direct);
+  same_bytes = omega (arith, m.same_bytes);
+  fits = λ o w. (w.0, w.1, m.fits (suc o) w.2, tt);
+}
+merged_inside false k n {f} {g} m = record {
+  plain = (m.plain, tt);
+  plain_merged = (m.plain_merged, tt);
+  same_sums = λ s p. ap (add_all s) (own_entry false p k n f) ∙ m.same_sums (add s (entry_at false p k n)) (p ++ k ∷ []) ∙ sym (ap (add_all s) (own_entry false p k n g));
+  same_inline = refl;
+  same_held = omega (arith, m.same_held, m.same_inline);
+  same_direct = refl;
+  same_owned = omega (arith, m.same_owned, m.same_direct);
+  same_bytes = omega (arith, m.same_bytes);
+  fits = λ o w. (w.0, w.1, m.fits (suc o) w.2, tt);
+}

@@ -1,0 +1,120 @@
+//! Parts of values that are counted first.
+#![tactic(auto, using(crate::proofs::Rules::counting))]
+
+ghost use Rattle.std.specs.Prelude.{IfOk, None};
+ghost use Rattle.allocative_graph.specs.Shows.{each_shows};
+ghost use Rattle.allocative.specs.Visited.{Entered};
+ghost use Rattle.allocative_tally.specs.Tallies.{Tallies};
+
+use crate::tally::{Tallied, Tally};
+use allocative::{Allocative, Each, Part, Refusal, Visitor};
+
+/// Counts what each item shows.
+pub fn count_each<T: Tallied>(items: &[T], tally: &mut T::Tally) -> Result<(), Refusal>
+    ensures { IfOk result (λ _. Tallies None (each_shows T.may_show items.now)
+        (T.Tally.shape tally.old) (T.Tally.shape tally.new)) }
+{
+    for item in items {
+        item.tally(tally)?;
+    }
+    Ok(())
+}
+
+/// What a value shows, counted first and entered once.
+///
+/// Each path is entered once, with the bytes of all its entries. If a count exceeds a word or a size is missing, the
+/// value is entered as `&value` enters it.
+#[derive(Drop)]
+pub struct Counted<'a, T>(pub &'a T);
+
+impl<'a, T: Tallied> Part for Counted<'a, T> {
+    ghost may_show = { λ s. T.may_show s.0.now };
+
+    ghost is_exact = { T.is_exact };
+
+    fn enter(self, visitor: &mut Visitor<'_>) -> Result<(), Refusal> {
+        let mut tally = T::Tally::none();
+        match self.0.tally(&mut tally) {
+            Ok(()) => tally.enter(visitor),
+            Err(_) => self.0.enter(visitor),
+        }
+    }
+}
+
+/// A value that is counted first wherever it is visited.
+#[derive(Drop)]
+pub struct CountedValue<'a, T>(pub &'a T);
+
+impl<'a, T: Tallied> Allocative for CountedValue<'a, T> {
+    ghost may_show = { λ s. T.may_show s.0.now };
+
+    ghost is_exact = { T.is_exact };
+
+    fn visit(&self, visitor: &mut Visitor<'_>) -> Result<(), Refusal> {
+        Counted(self.0).enter(visitor)
+    }
+}
+
+/// What each item shows, as `Each` enters it, counted first.
+#[derive(Drop)]
+pub struct CountedEach<V>(pub V);
+
+impl<'a, T: Tallied> Part for CountedEach<&'a Vec<T>> {
+    ghost may_show = { λ s. each_shows T.may_show s.0.now.items };
+
+    ghost is_exact = { T.is_exact };
+
+    fn enter(self, visitor: &mut Visitor<'_>) -> Result<(), Refusal> {
+        let mut tally = T::Tally::none();
+        match count_each(self.0, &mut tally) {
+            Ok(()) => tally.enter(visitor),
+            Err(_) => Each(self.0).enter(visitor),
+        }
+    }
+}
+
+impl<'a, T: Tallied> Part for CountedEach<&'a [T]> {
+    ghost may_show = { λ s. each_shows T.may_show s.0.now };
+
+    ghost is_exact = { T.is_exact };
+
+    fn enter(self, visitor: &mut Visitor<'_>) -> Result<(), Refusal> {
+        let mut tally = T::Tally::none();
+        match count_each(self.0, &mut tally) {
+            Ok(()) => tally.enter(visitor),
+            Err(_) => enter_each(self.0, visitor),
+        }
+    }
+}
+
+// What each item shows, one by one. It halves the slice, so its stack does not grow with the number of items.
+fn enter_each<T: Allocative>(items: &[T], visitor: &mut Visitor<'_>) -> Result<(), Refusal>
+    ensures { Entered T.is_exact (each_shows T.may_show items.now) visitor.old visitor.new result }
+{
+    let count = items.len();
+    if count == 0 {
+        return Ok(());
+    }
+    if count == 1 {
+        return items[0].enter(visitor);
+    }
+    let (front, back) = items.split_at(count / 2);
+    match enter_each(front, visitor) {
+        Ok(()) => enter_each(back, visitor),
+        Err(refusal) => Err(refusal),
+    }
+}
+
+/// Roots of one type that are counted first, all in one tally, wherever they are visited.
+#[derive(Drop)]
+pub struct CountedRoots<'a, T>(pub &'a [T]);
+
+impl<'a, T: Tallied> Allocative for CountedRoots<'a, T> {
+    ghost may_show = { λ s. each_shows T.may_show s.0.now };
+
+    ghost is_exact = { T.is_exact };
+
+    fn visit(&self, visitor: &mut Visitor<'_>) -> Result<(), Refusal> {
+        CountedEach(self.0).enter(visitor)
+    }
+}

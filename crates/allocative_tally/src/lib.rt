@@ -1,0 +1,14 @@
+//! Counts first what many values show, and enters it once.
+#![tactic(auto)]
+
+pub mod choice;
+pub mod counted;
+pub mod map;
+pub mod number;
+pub mod pointer;
+pub mod profile;
+pub mod sequence;
+pub mod set;
+pub mod tally;
+pub mod text;
+pub mod tuple;

@@ -1,0 +1,333 @@
+//! Numbers, times and addresses, which show one entry each.
+#![tactic(auto, using(crate::proofs::Rules::counting))]
+
+ghost use Rattle.allocative_tally.specs.Shapes.{Wide, EntryAt, NoEntry};
+
+use crate::tally::{Entries, InlineSum, Sum, Tallied, Tally};
+use allocative::{Described, Refusal, Visitor};
+use std::marker::PhantomData;
+use std::net::{IpAddr, Ipv4Addr, Ipv6Addr};
+use std::num::{
+    NonZeroI8, NonZeroI16, NonZeroI32, NonZeroI64, NonZeroIsize, NonZeroU8, NonZeroU16, NonZeroU32,
+    NonZeroU64, NonZeroUsize,
+};
+use std::time::{Duration, Instant, SystemTime};
+
+/// Values that show one entry of their type's name, counted.
+#[derive(Drop)]
+pub struct NumberTally<T> {
+    own: Sum,
+    value: PhantomData<T>,
+}
+
+impl<T: Described> Tally for NumberTally<T> {
+    ghost shape = { λ t. EntryAt Wide T.name t.own NoEntry };
+
+    fn none() -> Self {
+        NumberTally {
+            own: Sum::none(),
+            value: PhantomData,
+        }
+    }
+
+    fn enter(&self, visitor: &mut Visitor<'_>) -> Result<(), Refusal> {
+        InlineSum(T::name(), self.own, ()).enter(visitor)
+    }
+}
+
+impl Tallied for u8 {
+    type Tally = NumberTally<u8>;
+
+    fn tally(&self, tally: &mut NumberTally<u8>) -> Result<(), Refusal> {
+        tally.own.add(1)?;
+        Ok(())
+    }
+}
+
+impl Tallied for u16 {
+    type Tally = NumberTally<u16>;
+
+    fn tally(&self, tally: &mut NumberTally<u16>) -> Result<(), Refusal> {
+        tally.own.add(2)?;
+        Ok(())
+    }
+}
+
+impl Tallied for u32 {
+    type Tally = NumberTally<u32>;
+
+    fn tally(&self, tally: &mut NumberTally<u32>) -> Result<(), Refusal> {
+        tally.own.add(4)?;
+        Ok(())
+    }
+}
+
+impl Tallied for u64 {
+    type Tally = NumberTally<u64>;
+
+    fn tally(&self, tally: &mut NumberTally<u64>) -> Result<(), Refusal> {
+        tally.own.add(8)?;
+        Ok(())
+    }
+}
+
+impl Tallied for u128 {
+    type Tally = NumberTally<u128>;
+
+    fn tally(&self, tally: &mut NumberTally<u128>) -> Result<(), Refusal> {
+        tally.own.add(16)?;
+        Ok(())
+    }
+}
+
+impl Tallied for usize {
+    type Tally = NumberTally<usize>;
+
+    fn tally(&self, tally: &mut NumberTally<usize>) -> Result<(), Refusal> {
+        tally.own.add(8)?;
+        Ok(())
+    }
+}
+
+impl Tallied for i8 {
+    type Tally = NumberTally<i8>;
+
+    fn tally(&self, tally: &mut NumberTally<i8>) -> Result<(), Refusal> {
+        tally.own.add(1)?;
+        Ok(())
+    }
+}
+
+impl Tallied for i16 {
+    type Tally = NumberTally<i16>;
+
+    fn tally(&self, tally: &mut NumberTally<i16>) -> Result<(), Refusal> {
+        tally.own.add(2)?;
+        Ok(())
+    }
+}
+
+impl Tallied for i32 {
+    type Tally = NumberTally<i32>;
+
+    fn tally(&self, tally: &mut NumberTally<i32>) -> Result<(), Refusal> {
+        tally.own.add(4)?;
+        Ok(())
+    }
+}
+
+impl Tallied for i64 {
+    type Tally = NumberTally<i64>;
+
+    fn tally(&self, tally: &mut NumberTally<i64>) -> Result<(), Refusal> {
+        tally.own.add(8)?;
+        Ok(())
+    }
+}
+
+impl Tallied for i128 {
+    type Tally = NumberTally<i128>;
+
+    fn tally(&self, tally: &mut NumberTally<i128>) -> Result<(), Refusal> {
+        tally.own.add(16)?;
+        Ok(())
+    }
+}
+
+impl Tallied for isize {
+    type Tally = NumberTally<isize>;
+
+    fn tally(&self, tally: &mut NumberTally<isize>) -> Result<(), Refusal> {
+        tally.own.add(8)?;
+        Ok(())
+    }
+}
+
+impl Tallied for f32 {
+    type Tally = NumberTally<f32>;
+
+    fn tally(&self, tally: &mut NumberTally<f32>) -> Result<(), Refusal> {
+        tally.own.add(4)?;
+        Ok(())
+    }
+}
+
+impl Tallied for f64 {
+    type Tally = NumberTally<f64>;
+
+    fn tally(&self, tally: &mut NumberTally<f64>) -> Result<(), Refusal> {
+        tally.own.add(8)?;
+        Ok(())
+    }
+}
+
+impl Tallied for char {
+    type Tally = NumberTally<char>;
+
+    fn tally(&self, tally: &mut NumberTally<char>) -> Result<(), Refusal> {
+        tally.own.add(4)?;
+        Ok(())
+    }
+}
+
+impl Tallied for bool {
+    type Tally = NumberTally<bool>;
+
+    fn tally(&self, tally: &mut NumberTally<bool>) -> Result<(), Refusal> {
+        tally.own.add(1)?;
+        Ok(())
+    }
+}
+
+impl Tallied for () {
+    type Tally = NumberTally<()>;
+
+    fn tally(&self, tally: &mut NumberTally<()>) -> Result<(), Refusal> {
+        tally.own.add(0)?;
+        Ok(())
+    }
+}
+
+impl Tallied for NonZeroU8 {
+    type Tally = NumberTally<NonZeroU8>;
+
+    fn tally(&self, tally: &mut NumberTally<NonZeroU8>) -> Result<(), Refusal> {
+        tally.own.add(1)?;
+        Ok(())
+    }
+}
+
+impl Tallied for NonZeroU16 {
+    type Tally = NumberTally<NonZeroU16>;
+
+    fn tally(&self, tally: &mut NumberTally<NonZeroU16>) -> Result<(), Refusal> {
+        tally.own.add(2)?;
+        Ok(())
+    }
+}
+
+impl Tallied for NonZeroU32 {
+    type Tally = NumberTally<NonZeroU32>;
+
+    fn tally(&self, tally: &mut NumberTally<NonZeroU32>) -> Result<(), Refusal> {
+        tally.own.add(4)?;
+        Ok(())
+    }
+}
+
+impl Tallied for NonZeroU64 {
+    type Tally = NumberTally<NonZeroU64>;
+
+    fn tally(&self, tally: &mut NumberTally<NonZeroU64>) -> Result<(), Refusal> {
+        tally.own.add(8)?;
+        Ok(())
+    }
+}
+
+impl Tallied for NonZeroUsize {
+    type Tally = NumberTally<NonZeroUsize>;
+
+    fn tally(&self, tally: &mut NumberTally<NonZeroUsize>) -> Result<(), Refusal> {
+        tally.own.add(8)?;
+        Ok(())
+    }
+}
+
+impl Tallied for NonZeroI8 {
+    type Tally = NumberTally<NonZeroI8>;
+
+    fn tally(&self, tally: &mut NumberTally<NonZeroI8>) -> Result<(), Refusal> {
+        tally.own.add(1)?;
+        Ok(())
+    }
+}
+
+impl Tallied for NonZeroI16 {
+    type Tally = NumberTally<NonZeroI16>;
+
+    fn tally(&self, tally: &mut NumberTally<NonZeroI16>) -> Result<(), Refusal> {
+        tally.own.add(2)?;
+        Ok(())
+    }
+}
+
+impl Tallied for NonZeroI32 {
+    type Tally = NumberTally<NonZeroI32>;
+
+    fn tally(&self, tally: &mut NumberTally<NonZeroI32>) -> Result<(), Refusal> {
+        tally.own.add(4)?;
+        Ok(())
+    }
+}
+
+impl Tallied for NonZeroI64 {
+    type Tally = NumberTally<NonZeroI64>;
+
+    fn tally(&self, tally: &mut NumberTally<NonZeroI64>) -> Result<(), Refusal> {
+        tally.own.add(8)?;
+        Ok(())
+    }
+}
+
+impl Tallied for NonZeroIsize {
+    type Tally = NumberTally<NonZeroIsize>;
+
+    fn tally(&self, tally: &mut NumberTally<NonZeroIsize>) -> Result<(), Refusal> {
+        tally.own.add(8)?;
+        Ok(())
+    }
+}
+
+impl Tallied for Instant {
+    type Tally = NumberTally<Instant>;
+
+    fn tally(&self, tally: &mut NumberTally<Instant>) -> Result<(), Refusal> {
+        tally.own.add(16)?;
+        Ok(())
+    }
+}
+
+impl Tallied for SystemTime {
+    type Tally = NumberTally<SystemTime>;
+
+    fn tally(&self, tally: &mut NumberTally<SystemTime>) -> Result<(), Refusal> {
+        tally.own.add(16)?;
+        Ok(())
+    }
+}
+
+impl Tallied for Duration {
+    type Tally = NumberTally<Duration>;
+
+    fn tally(&self, tally: &mut NumberTally<Duration>) -> Result<(), Refusal> {
+        tally.own.add(16)?;
+        Ok(())
+    }
+}
+
+impl Tallied for IpAddr {
+    type Tally = NumberTally<IpAddr>;
+
+    fn tally(&self, tally: &mut NumberTally<IpAddr>) -> Result<(), Refusal> {
+        tally.own.add(17)?;
+        Ok(())
+    }
+}
+
+impl Tallied for Ipv4Addr {
+    type Tally = NumberTally<Ipv4Addr>;
+
+    fn tally(&self, tally: &mut NumberTally<Ipv4Addr>) -> Result<(), Refusal> {
+        tally.own.add(4)?;
+        Ok(())
+    }
+}
+
+impl Tallied for Ipv6Addr {
+    type Tally = NumberTally<Ipv6Addr>;
+
+    fn tally(&self, tally: &mut NumberTally<Ipv6Addr>) -> Result<(), Refusal> {
+        tally.own.add(16)?;
+        Ok(())
+    }
+}

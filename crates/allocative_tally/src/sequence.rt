@@ -1,0 +1,208 @@
+//! Vectors and deques.
+#![tactic(auto, using(crate::proofs::Rules::sequences))]
+
+ghost use Rattle.std.specs.Prelude.{◌≡◌, codes, IfOk, None, Some, length, vec_capacity};
+ghost use Rattle.std.specs.VecDeque.{deque_capacity};
+ghost use Rattle.allocative_graph.specs.Shows.{slice_shows, is_shown_each};
+ghost use Rattle.allocative.specs.Bodies.{bytes_shown, buffer_shows, cut_shows};
+ghost use Rattle.allocative_tally.specs.Shapes.{Wide, EntryAt, Beside, NoEntry, buffer_shape, slice_shape};
+ghost use Rattle.allocative_tally.specs.Tallies.{Tallies};
+
+use crate::counted::count_each;
+use crate::tally::{Entries, InlineSum, Sum, Tallied, Tally, UniqueSum};
+use allocative::{Described, Refusal, Visitor};
+use std::collections::VecDeque;
+use std::marker::PhantomData;
+
+/// Buffers of vectors, counted.
+#[derive(Drop)]
+pub struct BufferTally<T, S> {
+    pub(crate) pointer: Sum,
+    pub(crate) slice: Sum,
+    pub(crate) unused: Sum,
+    pub(crate) item: S,
+    pub(crate) name: PhantomData<T>,
+}
+
+impl<T: Described, S: Tally> Tally for BufferTally<T, S> {
+    ghost shape = { λ t. buffer_shape t.pointer (slice_shape T.name t.slice (S.shape t.item)) t.unused };
+
+    fn none() -> Self {
+        BufferTally {
+            pointer: Sum::none(),
+            slice: Sum::none(),
+            unused: Sum::none(),
+            item: S::none(),
+            name: PhantomData,
+        }
+    }
+
+    fn enter(&self, visitor: &mut Visitor<'_>) -> Result<(), Refusal> {
+        let slice = InlineSum(T::name(), self.slice, ());
+        let unused = InlineSum("unused_capacity", self.unused, ());
+        UniqueSum("ptr", self.pointer, ((slice, &self.item), unused)).enter(visitor)
+    }
+}
+
+/// Vectors, counted.
+#[derive(Drop)]
+pub struct VecTally<T, S> {
+    own: Sum,
+    buffer: BufferTally<T, S>,
+}
+
+impl<T: Described, S: Tally> Tally for VecTally<T, S> {
+    ghost shape = { λ t. EntryAt Wide (codes "Vec") t.own (⟦<BufferTally<T, S> as Tally>⟧.shape t.buffer) };
+
+    fn none() -> Self {
+        VecTally {
+            own: Sum::none(),
+            buffer: BufferTally::none(),
+        }
+    }
+
+    fn enter(&self, visitor: &mut Visitor<'_>) -> Result<(), Refusal> {
+        InlineSum("Vec", self.own, &self.buffer).enter(visitor)
+    }
+}
+
+// Whether items of a declared size are shown one by one.
+fn are_shown_each<T: Described>(size: usize) -> bool
+    ensures { result ≡ is_shown_each T.needs_drop size }
+{
+    T::needs_drop() && size != 0
+}
+
+/// Counts the items of a slice, whose declared size is `size`.
+pub fn count_slice<T: Tallied>(
+    items: &[T],
+    size: usize,
+    sum: &mut Sum,
+    tally: &mut T::Tally,
+) -> Result<(), Refusal>
+    ensures { IfOk result (λ _. Tallies None (slice_shows T.name (Some size) T.needs_drop T.may_show items.now)
+        (slice_shape T.name sum.old (T.Tally.shape tally.old)) (slice_shape T.name sum.new (T.Tally.shape tally.new))) }
+{
+    if are_shown_each::<T>(size) {
+        count_each(items, tally)?;
+        return Ok(());
+    }
+    let Some(bytes) = size.checked_mul(items.len()) else {
+        return Err(Refusal::TooLarge);
+    };
+    sum.add(bytes)?;
+    Ok(())
+}
+
+/// Counts unused places.
+pub fn count_unused(sum: &mut Sum, size: usize, count: usize) -> Result<(), Refusal>
+    ensures { IfOk result (λ _. Tallies None (bytes_shown (codes "unused_capacity") (Some size) count)
+        (EntryAt Wide (codes "unused_capacity") sum.old NoEntry)
+        (EntryAt Wide (codes "unused_capacity") sum.new NoEntry)) }
+{
+    let Some(bytes) = size.checked_mul(count) else {
+        return Err(Refusal::TooLarge);
+    };
+    sum.add(bytes)?;
+    Ok(())
+}
+
+/// Counts the buffer of a vector.
+pub fn count_buffer<T: Tallied>(
+    items: &Vec<T>,
+    tally: &mut BufferTally<T, T::Tally>,
+) -> Result<(), Refusal>
+    ensures { IfOk result (λ _. Tallies (Some 8)
+        (buffer_shows T.size (slice_shows T.name T.size T.needs_drop T.may_show items.now.items)
+        (length items.now.items) (vec_capacity items.now))
+        (⟦<BufferTally<T, T::Tally> as Tally>⟧.shape tally.old)
+        (⟦<BufferTally<T, T::Tally> as Tally>⟧.shape tally.new)) }
+{
+    let Some(size) = T::size() else {
+        return Err(Refusal::TooLarge);
+    };
+    if size == 0 {
+        return Ok(());
+    }
+    let count = items.len();
+    let capacity = items.capacity();
+    if count == 0 && capacity == 0 {
+        return Ok(());
+    }
+    tally.pointer.add(8)?;
+    count_slice(items.as_slice(), size, &mut tally.slice, &mut tally.item)?;
+    count_unused(&mut tally.unused, size, capacity.saturating_sub(count))?;
+    Ok(())
+}
+
+impl<T: Tallied> Tallied for Vec<T> {
+    type Tally = VecTally<T, T::Tally>;
+
+    fn tally(&self, tally: &mut VecTally<T, T::Tally>) -> Result<(), Refusal> {
+        tally.own.add(24)?;
+        count_buffer(self, &mut tally.buffer)?;
+        Ok(())
+    }
+}
+
+/// Deques, counted.
+#[derive(Drop)]
+pub struct VecDequeTally<T, S> {
+    own: Sum,
+    buffer: BufferTally<T, S>,
+}
+
+impl<T: Described, S: Tally> Tally for VecDequeTally<T, S> {
+    ghost shape = { λ t. EntryAt Wide (codes "VecDeque") t.own (⟦<BufferTally<T, S> as Tally>⟧.shape t.buffer) };
+
+    fn none() -> Self {
+        VecDequeTally {
+            own: Sum::none(),
+            buffer: BufferTally::none(),
+        }
+    }
+
+    fn enter(&self, visitor: &mut Visitor<'_>) -> Result<(), Refusal> {
+        InlineSum("VecDeque", self.own, &self.buffer).enter(visitor)
+    }
+}
+
+/// Counts the buffer of a deque.
+pub fn count_ring<T: Tallied>(
+    ring: &VecDeque<T>,
+    tally: &mut BufferTally<T, T::Tally>,
+) -> Result<(), Refusal>
+    ensures { IfOk result (λ _. Tallies (Some 8)
+        (buffer_shows T.size (cut_shows T.name T.size T.needs_drop T.may_show ring.now.items)
+        (length ring.now.items) (deque_capacity ring.now))
+        (⟦<BufferTally<T, T::Tally> as Tally>⟧.shape tally.old)
+        (⟦<BufferTally<T, T::Tally> as Tally>⟧.shape tally.new)) }
+{
+    let Some(size) = T::size() else {
+        return Err(Refusal::TooLarge);
+    };
+    if size == 0 {
+        return Ok(());
+    }
+    let count = ring.len();
+    let capacity = ring.capacity();
+    if count == 0 && capacity == 0 {
+        return Ok(());
+    }
+    let (front, back) = ring.as_slices();
+    tally.pointer.add(8)?;
+    count_slice(front, size, &mut tally.slice, &mut tally.item)?;
+    count_slice(back, size, &mut tally.slice, &mut tally.item)?;
+    count_unused(&mut tally.unused, size, capacity.saturating_sub(count))?;
+    Ok(())
+}
+
+impl<T: Tallied> Tallied for VecDeque<T> {
+    type Tally = VecDequeTally<T, T::Tally>;
+
+    fn tally(&self, tally: &mut VecDequeTally<T, T::Tally>) -> Result<(), Refusal> {
+        tally.own.add(32)?;
+        count_ring(self, &mut tally.buffer)?;
+        Ok(())
+    }
+}

@@ -1,0 +1,181 @@
+//! The traits of what counts, and of what can be counted.
+#![tactic(auto)]
+
+ghost use Rattle.std.specs.Prelude.{◌≡◌, true, false, IfOk, IfErr};
+ghost use Rattle.allocative_tally.specs.Shapes.{Shape, NoEntry, Beside, EntryAt, Wide, Narrow, Unique as unique_width, IsNothing, shape_shows};
+ghost use Rattle.allocative_tally.specs.Tallies.{Tallies, TalliesField, AddsEntry, EntersShape};
+
+use allocative::{Allocative, Described, Inside, IntoKey, Part, Refusal, Unique, Visitor};
+
+/// Counters of many values of one shape. They show one forest, that of all the values, merged.
+pub trait Tally: Drop {
+    ghost shape: { Self → Shape };
+
+    /// Nothing counted.
+    fn none() -> Self
+        ensures { IsNothing (shape result) };
+
+    /// Enters what was counted, each path once.
+    fn enter(&self, visitor: &mut Visitor<'_>) -> Result<(), Refusal>
+        ensures { EntersShape (shape self.now) visitor.old visitor.new result };
+}
+
+/// A value whose entries can be counted.
+pub trait Tallied: Allocative + Described {
+    type Tally: Tally;
+
+    /// Counts what the value shows.
+    ///
+    /// After `Err` the tally is of no use: a count exceeds a word, or a size is missing.
+    fn tally(&self, tally: &mut Self::Tally) -> Result<(), Refusal>
+        ensures { IfOk result (λ _. Tallies Self.size (Self.may_show self.now)
+            (Self.Tally.shape tally.old) (Self.Tally.shape tally.new)) };
+}
+
+/// The bytes of the entries of one place, and whether there is one.
+#[derive(Clone, Copy)]
+pub struct Sum {
+    pub(crate) is_there: bool,
+    pub(crate) bytes: usize,
+}
+
+impl Sum {
+    /// No entry.
+    pub fn none() -> Sum
+        ensures there { result.is_there ≡ false }
+        ensures bytes { result.bytes ≡ 0 }
+    {
+        Sum {
+            is_there: false,
+            bytes: 0,
+        }
+    }
+
+    /// Adds one entry of some bytes. If they do not fit a word, it returns `TooLarge`.
+    #[inline(always)]
+    pub fn add(&mut self, size: usize) -> Result<(), Refusal>
+        ensures { IfOk result (λ _. AddsEntry size self.old self.new) }
+    {
+        let Some(bytes) = self.bytes.checked_add(size) else {
+            return Err(Refusal::TooLarge);
+        };
+        self.bytes = bytes;
+        self.is_there = true;
+        Ok(())
+    }
+}
+
+/// What a tally shows, made of sums.
+///
+/// A reference `&tally` is what the tally shows, `()` is no entry, and a tuple is its parts in order.
+pub trait Entries: Drop {
+    ghost shape: { Self → Shape };
+
+    /// Enters each path once.
+    fn enter(self, visitor: &mut Visitor<'_>) -> Result<(), Refusal>
+        ensures { EntersShape (shape self) visitor.old visitor.new result };
+}
+
+/// The part of an `Allocative` that enters these entries.
+#[derive(Drop)]
+pub struct Shown<P>(pub P);
+
+impl<P: Entries> Part for Shown<P> {
+    ghost may_show = { λ s. shape_shows (P.shape s.0) };
+
+    ghost is_exact = { true };
+
+    fn enter(self, visitor: &mut Visitor<'_>) -> Result<(), Refusal> {
+        self.0.enter(visitor)
+    }
+}
+
+impl Entries for () {
+    ghost shape = { λ _. NoEntry };
+
+    fn enter(self, visitor: &mut Visitor<'_>) -> Result<(), Refusal> {
+        Part::enter((), visitor)
+    }
+}
+
+impl<'a, S: Tally> Entries for &'a S {
+    ghost shape = { λ s. S.shape s.now };
+
+    fn enter(self, visitor: &mut Visitor<'_>) -> Result<(), Refusal> {
+        Tally::enter(self, visitor)
+    }
+}
+
+impl<P: Entries, Q: Entries> Entries for (P, Q) {
+    ghost shape = { λ e. Beside (P.shape e.0) (Q.shape e.1) };
+
+    fn enter(self, visitor: &mut Visitor<'_>) -> Result<(), Refusal> {
+        let (first, second) = self;
+        Part::enter((Shown(first), Shown(second)), visitor)
+    }
+}
+
+/// The inline entry of a sum, with entries inside it; no entry if none was counted.
+#[derive(Drop)]
+pub struct InlineSum<K, P>(pub K, pub Sum, pub P);
+
+impl<K: IntoKey, P: Entries> Entries for InlineSum<K, P> {
+    ghost shape = { λ e. EntryAt Wide (K.key e.0) e.1 (P.shape e.2) };
+
+    fn enter(self, visitor: &mut Visitor<'_>) -> Result<(), Refusal> {
+        if !self.1.is_there {
+            return Ok(());
+        }
+        Inside(self.0, self.1.bytes, Shown(self.2)).enter(visitor)
+    }
+}
+
+/// The unique entry of a sum, with entries inside it; no entry if none was counted.
+#[derive(Drop)]
+pub struct UniqueSum<K, P>(pub K, pub Sum, pub P);
+
+impl<K: IntoKey, P: Entries> Entries for UniqueSum<K, P> {
+    ghost shape = { λ e. EntryAt unique_width (K.key e.0) e.1 (P.shape e.2) };
+
+    fn enter(self, visitor: &mut Visitor<'_>) -> Result<(), Refusal> {
+        if !self.1.is_there {
+            return Ok(());
+        }
+        Unique(self.0, self.1.bytes, Shown(self.2)).enter(visitor)
+    }
+}
+
+/// The inline entry of a sum that has at most the bytes directly inside it, with entries inside it; no entry if none was
+/// counted.
+#[derive(Drop)]
+pub struct NarrowSum<K, P>(pub K, pub Sum, pub P);
+
+impl<K: IntoKey, P: Entries> Entries for NarrowSum<K, P> {
+    ghost shape = { λ e. EntryAt Narrow (K.key e.0) e.1 (P.shape e.2) };
+
+    fn enter(self, visitor: &mut Visitor<'_>) -> Result<(), Refusal> {
+        if !self.1.is_there {
+            return Ok(());
+        }
+        Inside(self.0, self.1.bytes, Shown(self.2)).enter(visitor)
+    }
+}
+
+/// Counts one more field of a declared size, with what its value shows inside it. If the size is missing, it returns
+/// `TooLarge`.
+#[inline(always)]
+pub fn count_field<T: Tallied>(
+    sum: &mut Sum,
+    tally: &mut T::Tally,
+    value: &T,
+) -> Result<(), Refusal>
+    ensures { IfOk result (λ _. TalliesField T.size (T.may_show value.now) sum.old (T.Tally.shape tally.old)
+        sum.new (T.Tally.shape tally.new)) }
+{
+    let Some(size) = T::size() else {
+        return Err(Refusal::TooLarge);
+    };
+    sum.add(size)?;
+    value.tally(tally)?;
+    Ok(())
+}

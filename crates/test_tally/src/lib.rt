@@ -1,0 +1,5 @@
+//! Tests of counted profiles.
+#![tactic(auto)]
+
+#[cfg(test)]
+mod rows;
