@@ -3,7 +3,7 @@ use Rattle.std.proofs.Common.{◌≡◌, ◌≤◌, ◌<◌, ◌+◌, ◌-◌, �
 use Rattle.std.proofs.Common.{Result, Ok, Err, IfOk, refl, sym, ap, subst, ◌∙◌, arith}
 use Rattle.std.proofs.lemmas.Bool.{false≢true}
 use Rattle.allocative.proofs.Common.{Refusal, Key, Forest, Empty, followed_by, entry_of, Showing, Nothing, Both}
-use Rattle.allocative.proofs.Common.{InsideAs, Inside, InsideUnique, Field, sized, each_shows}
+use Rattle.allocative.proofs.Common.{InsideAs, Inside, Field, sized, each_shows}
 use Rattle.allocative_graph.specs.Owned.{direct}
 use Rattle.allocative_graph.proofs.Owned.{direct-following}
 use Rattle.allocative.proofs.Exact.{followed_by-empty, followed_by_assoc, each_append, each_one}
@@ -216,7 +216,7 @@ counted_inline {k = k} {n = n} more c fits = tallies_entry Wide k n more fits c
 -- One more unique entry was counted, with what is inside it.
 pub counted_unique : {w : Option ℕ} {p : Showing} {k : Key} {n : ℕ} {old new : Sum} {s t : Shape} →
     AddsEntry n old new → Tallies w p s t →
-    Tallies (Some n) (InsideUnique k n p) (EntryAt Unique k old s) (EntryAt Unique k new t)
+    Tallies (Some n) (InsideAs true k n p) (EntryAt Unique k old s) (EntryAt Unique k new t)
 counted_unique {k = k} {n = n} more c = tallies_entry Unique k n more tt c
 
 -- One more inline entry was counted, which has at most the bytes directly inside it.

@@ -2,7 +2,7 @@
 use Rattle.std.proofs.Common.{◌≡◌, ◌≤◌, ◌<◌, ◌+◌, ◌-◌, ◌*◌, ◌^◌, ℕ, true, false, Bool, codes, Option, Some, None, List, ◌++◌}
 use Rattle.std.proofs.Common.{length, refl, sym, ap, subst, ◌∙◌, arith}
 use Rattle.allocative_graph.specs.Shows.{is_shown_each}
-use Rattle.allocative.proofs.Common.{Key, Showing, Nothing, Both, Inside, InsideUnique, Field, each_shows, slice_shows}
+use Rattle.allocative.proofs.Common.{Key, Showing, Nothing, Both, Inside, Field, each_shows, slice_shows}
 use Rattle.allocative.proofs.Common.{bytes_shown, buffer_shows, checked, with_room, without_room, without_size}
 use Rattle.allocative.specs.Bodies.{cut_shows, is_cut}
 use Rattle.allocative.proofs.Bodies.{checked_fits}

@@ -2,7 +2,7 @@
 use Rattle.std.proofs.Common.{◌≡◌, ◌≤◌, ◌<◌, ◌+◌, ◌-◌, ◌*◌, ◌^◌, ℕ, true, false, codes, Option, Some, None, refl, sym, arith}
 use Rattle.std.proofs.Common.{length, string_bytes, string_capacity}
 use Rattle.allocative_described.specs.Sizes.{size_sum, size_max, size_up}
-use Rattle.allocative.proofs.Common.{Key, Showing, Nothing, Both, Inside, InsideUnique, Field}
+use Rattle.allocative.proofs.Common.{Key, Showing, Nothing, Both, InsideAs, Inside, Field}
 use Rattle.allocative.specs.Bodies.{text_shows, is_text}
 use Rattle.allocative_tally.specs.Shapes.{Shape, Unique, Wide, NoEntry, Beside, EntryAt}
 use Rattle.allocative_tally.specs.Tallies.{Tallies, TalliesField, AddsEntry}
@@ -76,7 +76,7 @@ second_counted v w align n {i = i} {j} {b = b} {s = s} e own value =
 
 -- A box is its own entry, with a unique entry inside it, which has what the value shows.
 pub box_counted : {w : Option ℕ} {p : Showing} {a a' b b' : Sum} {s s' : Shape} → AddsEntry 8 a a' → AddsEntry 8 b b' →
-    Tallies w p s s' → Tallies (Some 8) (Field (codes "Box") (Some 8) (InsideUnique (codes "ptr") 8 p))
+    Tallies w p s s' → Tallies (Some 8) (Field (codes "Box") (Some 8) (InsideAs true (codes "ptr") 8 p))
     (EntryAt Wide (codes "Box") a (EntryAt Unique (codes "ptr") b s))
     (EntryAt Wide (codes "Box") a' (EntryAt Unique (codes "ptr") b' s'))
 box_counted own pointer value =
